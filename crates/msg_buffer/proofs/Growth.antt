@@ -1,8 +1,8 @@
 -- Histories only grow, and messages outlive one update.
-use Rattle.std.proofs.Common.{◌≡◌, ℕ, suc, ◌+◌, ◌≤◌, Bool, true, false, List, [], ◌++◌, length, refl, sym, ap, ◌∙◌, arith, inl, inr, append-nil, length-append}
+use Rattle.std.proofs.Common.{suc, ◌+◌, ◌≤◌, List, [], length, refl, sym, ◌∙◌, arith, inl, inr, append-nil, length-append}
 use Rattle.std.proofs.lemmas.Bool.{cases_Bool}
 use Rattle.std.proofs.lemmas.Bool.Decides.{nat_tests}
-use Rattle.msg_buffer.specs.History.{History, IsSound, GoesOn, OnlyGrows, OutliveOneUpdate, count, has_room, stamped, write, update, clear}
+use Rattle.msg_buffer.specs.History.{History, IsSound, GoesOn, OnlyGrows, OutliveOneUpdate, count, has_room, stamped, write, update}
 use Rattle.msg_buffer.proofs.Histories.{kept_after_update, length-stamped, none_current_after_update, stamps-append, stamps_later}
 
 module _ {M : Type 0} where

@@ -1,10 +1,10 @@
 -- How histories grow and age.
-use Rattle.std.proofs.Common.{◌≡◌, ℕ, suc, ◌+◌, ◌-◌, ◌≤◌, ◌<◌, Bool, true, false, List, [], ◌∷◌, ◌++◌, length, map, filter, drop, refl, ap, arith, sym, ◌∙◌}
+use Rattle.std.proofs.Common.{◌≡◌, ℕ, suc, ◌+◌, ◌≤◌, ◌<◌, Bool, true, false, List, [], ◌∷◌, ◌++◌, length, map, filter, drop, refl, ap, arith}
 use Rattle.std.specs.Prelude.{not}
 use Rattle.std.specs.List.{enumerate_from}
 use Rattle.std.proofs.lemmas.Bool.Decides.{nat_tests}
 use Rattle.msg_buffer.specs.declared.instance.Instance.{Instance}
-use Rattle.msg_buffer.specs.History.{Entry, History, instance_of, is_present, is_current, HasRisingStamps, stamped, update, clear}
+use Rattle.msg_buffer.specs.History.{Entry, History, instance_of, is_present, is_current, HasRisingStamps, stamped, update}
 use Rattle.msg_buffer.specs.Kept.{numbered}
 
 module _ {M : Type 0} where

@@ -1,15 +1,14 @@
 -- Which entries are present: those from the oldest on.
-use Rattle.std.proofs.Common.{◌≡◌, ℕ, zero, suc, ◌+◌, ◌-◌, ◌<◌, ◌≤◌, Bool, true, false, List, [], ◌∷◌, length, map, drop, refl, sym, ap, subst, ◌∙◌, arith, inl, inr, Option, Some, None}
-use Rattle.std.specs.Prelude.{slice_get, option_map, nat_le, IsTrue}
+use Rattle.std.proofs.Common.{◌≡◌, ℕ, zero, suc, ◌+◌, ◌-◌, ◌<◌, ◌≤◌, true, false, List, [], ◌∷◌, map, drop, refl, sym, ◌∙◌, arith, inl, inr, Option, Some, None}
+use Rattle.std.specs.Prelude.{slice_get, option_map, nat_le}
 use Rattle.std.specs.List.{enumerate_from}
 use Rattle.std.proofs.lemmas.Bool.{cases_Bool, false≢true}
 use Rattle.std.proofs.lemmas.Bool.Decides.{nat_tests}
-use Rattle.std.proofs.lemmas.Option.{slice_get_cases, slice_get_within, same_Some}
-use Rattle.msg_buffer.specs.declared.instance.Instance.{Instance}
+use Rattle.std.proofs.lemmas.Option.{slice_get_cases, same_Some}
 use Rattle.msg_buffer.specs.History.{Entry, History, IsSound, IsPresent, count, get, instance_of, instances, is_present, oldest, HasRisingStamps}
 use Rattle.msg_buffer.specs.Kept.{Kept, get_from, kept_instances, message_of}
 use Rattle.msg_buffer.specs.StandsFor.{StandsFor}
-use Rattle.msg_buffer.proofs.Histories.{all_present, dropped, dropped_and_kept, present_is_suffix, present_means}
+use Rattle.msg_buffer.proofs.Histories.{all_present, dropped, present_is_suffix, present_means}
 use Rattle.msg_buffer.proofs.Numbers.{slice_get-drop}
 
 module _ {M : Type 0} where

@@ -1,10 +1,10 @@
 -- Reads and clears fit one behind the other.
-use Rattle.std.proofs.Common.{◌≡◌, ℕ, ◌+◌, ◌-◌, ◌<◌, ◌≤◌, List, [], ◌∷◌, length, take, drop, zero, suc, refl, sym, ap, ◌∙◌, arith, Option, Some, None}
+use Rattle.std.proofs.Common.{◌≡◌, ℕ, ◌-◌, ◌≤◌, List, [], ◌∷◌, length, take, zero, suc, refl, sym, ap, arith, Option, Some, None}
 use Rattle.std.proofs.lemmas.List.{length-take}
 use Rattle.std.proofs.Math.Seq.{take-length}
 use Rattle.msg_buffer.specs.declared.instance.Instance.{Instance}
-use Rattle.msg_buffer.specs.History.{History, IsSound, count, instances, oldest}
-use Rattle.msg_buffer.specs.Reader.{Stretch, first, next_place, unread, at_most, given, read, pass_over}
+use Rattle.msg_buffer.specs.History.{History, IsSound, count, oldest}
+use Rattle.msg_buffer.specs.Reader.{first, unread, at_most, given}
 use Rattle.msg_buffer.specs.Tiling.{Fits, ReadsFit, ClearsFit}
 use Rattle.msg_buffer.proofs.Standing.{oldest_and_present}
 use Rattle.msg_buffer.proofs.Presence.{is_there, not_present}

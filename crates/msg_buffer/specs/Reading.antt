@@ -1,10 +1,10 @@
 -- The iterator of a read, and what each call of `next` does to it.
-use Rattle.std.specs.Prelude.{◌≡◌, ℕ, ◌+◌, ◌-◌, ◌≤◌, max, List, [], ◌∷◌, ◌++◌, length, map, drop, Option, MatchOption}
+use Rattle.std.specs.Prelude.{◌≡◌, ℕ, ◌+◌, ◌-◌, List, [], ◌∷◌, ◌++◌, length, map, drop, Option, MatchOption}
 use Rattle.std.specs.Borrow.{Bor, GName}
 use Rattle.msg_buffer.specs.declared.instance.Instance.{Instance}
 use Rattle.msg_buffer.specs.declared.instance.MessageId.{MessageId}
 use Rattle.msg_buffer.specs.declared.iter.MessageIter.{MessageIter}
-use Rattle.msg_buffer.specs.Kept.{Kept, kept_instances}
+use Rattle.msg_buffer.specs.Kept.{kept_instances}
 
 -- an item, as the instance that it shows
 abbrev pub shown : {M : Type 0} → MessageId × Bor M → Instance M
@@ -13,7 +13,7 @@ shown item = record { id = item.0; message = item.1.now }
 module _ {M A : Type 0} where
   -- the place of the cursor that it moves
   abbrev pub iter_place : MessageIter M A → ℕ
-  iter_place it = it.cursor.now.place
+  iter_place it = it.cursor.now
 
   -- the reference to that cursor
   abbrev pub iter_cursor : MessageIter M A → GName
@@ -34,10 +34,11 @@ module _ {M A : Type 0} where
     pub place : iter_place new ≡ iter_place old + 1
     pub continues : Continues old new
 
-  -- nothing was left, and nothing changed
+  -- nothing was left, and the place stays
   pub record Ends (old new : MessageIter M A) : Type 0 where
     pub rest : iter_rest old ≡ []
-    pub same : new ≡ old
+    pub place : iter_place new ≡ iter_place old
+    pub continues : Continues old new
 
   -- what a call of `next` does
   abbrev pub IterSteps : MessageIter M A → Option (MessageId × Bor M) → MessageIter M A → Type 0

@@ -1,6 +1,6 @@
 -- How the reads and clears of one reader tile its history: nothing is gone past twice, and nothing is left out but what was
 -- missed.
-use Rattle.std.specs.Prelude.{◌≡◌, ℕ, ◌+◌, ◌≤◌, ◌<◌, List, [], ◌∷◌, length, take, drop, Option}
+use Rattle.std.specs.Prelude.{◌≡◌, ℕ, ◌+◌, ◌≤◌, ◌<◌, List, [], ◌∷◌, take, drop, Option}
 use Rattle.msg_buffer.specs.History.{History, IsPresent, IsSound, count, instances}
 use Rattle.msg_buffer.specs.Reader.{Stretch, next_place, given, read, pass_over}
 

@@ -12,7 +12,7 @@ pub struct MessageIter<'a, M, A: Allocator = Global> {
     pub(crate) cursor: &'a mut MessageCursor,
     pub(crate) messages: &'a Messages<M, A>,
     // The cursor is past the dropped messages.
-    ghost past_dropped: { messages.now.oldest ≤ cursor.now.place },
+    ghost past_dropped: { messages.now.oldest ≤ cursor.now },
 }
 
 impl<'a, M, A: Allocator> Iterator for MessageIter<'a, M, A> {
@@ -28,18 +28,18 @@ impl<'a, M, A: Allocator> Iterator for MessageIter<'a, M, A> {
 
     fn next(&mut self) -> Option<(MessageId, &'a M)> {
         let messages: &'a Messages<M, A> = self.messages;
-        let place = self.cursor.place;
+        let place = self.cursor.place();
         if place >= messages.count() {
             return None;
         }
         let instance = messages.find(place)?;
-        self.cursor.place = place + 1;
+        self.cursor.go_past_one();
         Some((instance.id, &instance.message))
     }
 }
 
 impl<'a, M, A: Allocator> ExactSizeIterator for MessageIter<'a, M, A> {
     fn len(&self) -> usize {
-        self.messages.count().saturating_sub(self.cursor.place) as usize
+        self.messages.count().saturating_sub(self.cursor.place()) as usize
     }
 }

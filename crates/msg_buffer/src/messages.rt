@@ -131,14 +131,14 @@ impl<M, A: Allocator> Messages<M, A> {
 
     /// A cursor that was given nothing: it reads all that is kept.
     pub fn get_cursor(&self) -> MessageCursor
-        ensures place { result.place ≡ 0 }
+        ensures place { result ≡ 0 }
     {
         MessageCursor::new(0)
     }
 
     /// A cursor that reads what is written from now on.
     pub fn get_cursor_current(&self) -> MessageCursor
-        ensures meaning { (h : History M) → StandsFor self.now h → result.place ≡ count h }
+        ensures meaning { (h : History M) → StandsFor self.now h → result ≡ count h }
     {
         MessageCursor::new(self.count)
     }

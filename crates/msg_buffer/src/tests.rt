@@ -199,7 +199,9 @@ fn a_walk_left_early(rt: HostRuntime) -> Result<(), Fail> {
     }
     assert_eq!(rt; cursor.place(), 2);
     assert_eq!(rt; cursor.read(&buffer).len(), 2);
-    assert_eq!(rt; cursor.read(&buffer).count(), 2);
+    for (_, word) in cursor.read(&buffer) {
+        assert!(rt; word.as_str() != "east");
+    }
     assert_eq!(rt; cursor.place(), 4);
     Ok(())
 }
