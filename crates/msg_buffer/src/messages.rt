@@ -237,12 +237,12 @@ impl<M: Drop, A: Allocator + Copy> Messages<M, A> {
             → StandsFor self.new (clear h)) }
         ensures err { OnErr result (self.new ≡ self.old) }
     {
-        let older = &mut self.older.instances;
-        older.append(&mut self.newer.instances)?;
-        let alloc = *older.allocator();
-        let drained = replace(older, Vec::new(alloc));
-        self.older.restart(self.count);
-        self.newer.restart(self.count);
+        let older = &mut self.older;
+        older.instances.append(&mut self.newer.instances)?;
+        let alloc = *older.instances.allocator();
+        let drained = replace(&mut older.instances, Vec::new(alloc));
+        older.start = self.count;
+        self.newer.start = self.count;
         Ok(drained)
     }
 }
