@@ -1,0 +1,125 @@
+-- The law of a board, which holds between any two atomic steps, and what each step does.
+--
+-- A board of n jobs has n slots and n + 1 words. Slot k has job k at first, and its result at last.
+-- Word k is 0 while job k waits in its slot, 1 while a pass has drawn it, and 2 once its result is in.
+-- The further word stays 0: it is there so that a board of no jobs has a word too.
+-- A pass has a view of the board, which only its own steps change. The law speaks of all views at once:
+-- what one view says is thereby kept from every other.
+use Rattle.std.specs.Prelude.{◌≡◌, ◌≢◌, ℕ, zero, suc, ◌+◌, ◌-◌, ◌<◌, ◌≤◌, List, [], ◌∷◌, ◌++◌, length, slice_index, sum_by, count_by, Option, Some, None}
+use mathlib.Core.Option.{some, none}
+use mathlib.Core.Option as maybe
+use lib.ListN.{get_elem?}
+use Rattle.atomic_table.specs.Table.{State, Me, Step}
+use Rattle.msg_board.specs.declared.law.Slot.{Slot}
+use Rattle.msg_board.specs.declared.law.Slot.TheVariants.{Job, Done}
+use Rattle.msg_board.specs.declared.law.View.{View}
+use Rattle.msg_board.specs.Counts.{times, is_held}
+
+-- how many passes hold the number of a word: nobody at 0, one at 1, nobody at 2
+abbrev pub holders_at : ℕ → ℕ
+holders_at zero = 0
+holders_at (suc zero) = 1
+holders_at (suc (suc more)) = 0
+
+-- how often the number of a word was drawn: never at 0, once from then on
+abbrev pub draws_at : ℕ → ℕ
+draws_at zero = 0
+draws_at (suc more) = 1
+
+module _ {J D : Type 0} where
+  -- What the word w says of the slot of job j. A slot that is `some none` is out with a seat,
+  -- and one that is `some (some x)` has x at home
+  pub record IsSlotOf (lawful : J → D → Type 0) (j : J) (w : ℕ) (slot : maybe.Option (maybe.Option (Slot J D))) : Type 0 where
+    -- at 0 the job is at home
+    pub waiting : w ≡ 0 → slot ≡ some (some (Job j))
+    -- at 1 the slot is out
+    pub out : w ≡ 1 → slot ≡ some none
+    -- at 2 a lawful result of the job is at home
+    pub done : w ≡ 2 → (d : D) × (slot ≡ some (some (Done d))) × lawful j d
+
+module _ {J : Type 0} where
+  -- What a view says, of the board's jobs and words. A view of weight 0 is spent, and says nothing
+  pub record IsViewOf (jobs : List J) (words : List ℕ) (v : View J) : Type 0 where
+    -- it has the board's jobs
+    pub same_jobs : 0 < v.weight → v.jobs ≡ jobs
+    -- it has tried no more words than there are jobs
+    pub within : 0 < v.weight → v.next ≤ length jobs
+    -- no word that it has tried is 0
+    pub tried : 0 < v.weight → (k : ℕ) → k < v.next → slice_index words k ≢ 0
+    -- a spent view has drawn nothing and holds nothing
+    pub spent_drawn : v.weight ≡ 0 → v.drawn ≡ []
+    pub spent_held : v.weight ≡ 0 → v.held ≡ None
+
+module _ {J D : Type 0} where
+  -- The law, of a board of these jobs that was made with this number of passes
+  pub record Holds (lawful : J → D → Type 0) (jobs : List J) (passes : ℕ) (s : State (Slot J D) (View J)) : Type 0 where
+    -- there are a word for each job and one further word, and a slot for each job
+    pub words : length s.words ≡ length jobs + 1
+    pub slots : length s.homes ≡ length jobs
+    -- each word is 0, 1 or 2
+    pub at_most_two : (k : ℕ) → slice_index s.words k ≤ 2
+    -- the further word is 0
+    pub further : slice_index s.words (length jobs) ≡ 0
+    -- each slot has what its word says
+    pub each_slot : (k : ℕ) (j : J) → get_elem? jobs k ≡ some j
+      → IsSlotOf lawful j (slice_index s.words k) (get_elem? s.homes k)
+    -- each view says what is so
+    pub each_view : (by : ℕ) (v : View J) → get_elem? s.views by ≡ some v → IsViewOf jobs s.words v
+    -- while word k is 1 just one view holds k, and else none does
+    pub held : (k : ℕ) → count_by (λ v. is_held k v.held) s.views ≡ holders_at (slice_index s.words k)
+    -- once word k has left 0, k stands once in the drawn lists of all views together, and before not at all
+    pub drawn : (k : ℕ) → sum_by (λ v. times k v.drawn) s.views ≡ draws_at (slice_index s.words k)
+    -- the views' weights add up to the number of passes
+    pub weights : sum_by (λ v. v.weight) s.views ≡ passes
+
+-- The views that the steps make
+
+module _ {J : Type 0} where
+  abbrev pub view : List J → ℕ → ℕ → List ℕ → Option ℕ → View J
+  view jobs weight next drawn held = record { jobs = jobs; weight = weight; next = next; drawn = drawn; held = held }
+
+  -- the first seat's, as the table is made: it stands for all passes, and has tried nothing
+  abbrev pub whole : List J → ℕ → View J
+  whole jobs passes = view jobs passes 0 [] None
+
+  -- what the first seat keeps as it gives one pass away
+  abbrev pub without_one : View J → View J
+  without_one v = record v { weight = v.weight - 1 }
+
+  -- and what it gives away: a view of the same jobs that stands for one pass
+  abbrev pub one_of : View J → View J
+  one_of v = whole v.jobs 1
+
+  -- a pass found its next word above 0
+  abbrev pub tried : View J → View J
+  tried v = record v { next = v.next + 1 }
+
+  -- a pass found word k, its next, at 0
+  abbrev pub taken : ℕ → View J → View J
+  taken k v = record v { next = k + 1; drawn = v.drawn ++ k ∷ []; held = Some k }
+
+  -- a pass handed in what it held
+  abbrev pub freed : View J → View J
+  freed v = record v { held = None }
+
+  -- a seat took in the view w
+  abbrev pub united : View J → View J → View J
+  united v w = record v { weight = v.weight + w.weight; drawn = v.drawn ++ w.drawn }
+
+  -- what is left of a view that another seat took in
+  abbrev pub spent : View J
+  spent = whole [] 0
+
+-- The steps of a pass: the seat m before, the number `found` in the word, and the seat after
+
+module _ {J D : Type 0} where
+  -- `fetch_max` with 1 on the pass's next word. Where it finds 0 the pass draws that number and has its slot
+  -- out, with the job in it. Else it has only tried the word
+  abbrev pub Drawing : Step (Slot J D) → Me (Slot J D) (View J) → ℕ → Me (Slot J D) (View J) → Type 0
+  Drawing step m found after = (step.word ≡ m.0.next)
+      × (found ≡ 0 → (j : J) × (get_elem? m.0.jobs step.word ≡ some j) × (after ≡ (taken step.word m.0, (step.word, Job j) ∷ [])))
+      × (found ≢ 0 → after ≡ (tried m.0, []))
+
+  -- a store of 2, which gives the slot back
+  abbrev pub HandingIn : Step (Slot J D) → Me (Slot J D) (View J) → ℕ → Me (Slot J D) (View J) → Type 0
+  HandingIn step m stored after = after ≡ (freed m.0, [])

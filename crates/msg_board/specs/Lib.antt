@@ -1,0 +1,7 @@
+pub mod Board
+pub mod Counts
+pub mod Gathered
+pub mod Law
+pub mod Pass
+pub mod Seats
+pub mod Sound

@@ -1,0 +1,281 @@
+//! The board: its jobs, and how its passes draw them.
+ghost use Rattle.std.specs.Prelude.{◌≡◌, ◌+◌, ◌<◌, ◌≤◌, ℕ, [], ◌∷◌, length, map, flat_map, All, IfOk, IfSome, IfNone, IsNone, IsTrue, MatchOption, None, Some, true, false, slice_get, vec_capacity};
+ghost use Rattle.std.specs.Slots.{slots_items, slots_len, IsFull};
+ghost use mathlib.Core.Option.{some};
+ghost use lib.ListN.{get_elem?};
+ghost use Rattle.msg_board.specs.declared.law.Slot.TheVariants.{Empty, Job, Done};
+ghost use Rattle.msg_board.specs.Counts.{HoldsEachOnce};
+ghost use Rattle.msg_board.specs.Law.{whole};
+ghost use Rattle.msg_board.specs.Pass.{Drew, DrewNone, HandedIn, handed_in};
+
+use crate::NoMemory;
+use crate::law::{Deal, Divide, Draw, HandIn, Law, Slot, Unite, View};
+use crate::pass::Pass;
+use crate::work::Work;
+use atomic_table::{Closed, Seat, Shared, Table};
+use std::alloc::{Allocator, Global};
+use std::snapshot::Snapshot;
+
+/// Jobs that several workers draw, each with a pass of its own.
+#[derive(Drop)]
+pub struct Board<W: Work, A: Allocator = Global> {
+    table: Table<Slot<W::Job, W::Done>, View<W::Job>, Deal<W::Job, A>, Law<W>, A>,
+    ghost words: { table.shared.table_id.words ≡ table.shared.table_id.slots + 1 },
+    ghost slots: { table.shared.table_id.slots ≡ length table.shared.key.jobs.value.items },
+    ghost some_pass: { 0 < table.shared.key.passes },
+}
+
+impl<W: Work, A: Allocator + Copy> Board<W, A> {
+    ghost use Rattle.msg_board.specs.Board.{jobs_of, passes_of, IsOf, IsNew, HasEnded, IsLawfulOutcome};
+    ghost use Rattle.msg_board.specs.Gathered.{IsGathered};
+
+    /// A board with these jobs, and its passes. The jobs are dropped where there is no memory.
+    pub fn new(
+        alloc: A,
+        jobs: Vec<W::Job, A>,
+        passes: u32,
+    ) -> Result<(Board<W, A>, Vec<Pass<W::Job, W::Done>, A>), NoMemory>
+        requires jobs { length jobs.items ≤ 256 }
+        requires passes { (0 < passes) × (passes ≤ 64) }
+        ensures jobs { IfOk result (λ made. jobs_of made.0 ≡ jobs.items) }
+        ensures passes { IfOk result (λ made. passes_of made.0 ≡ passes) }
+        ensures as_many { IfOk result (λ made. length made.1.items ≡ passes) }
+        ensures fresh { IfOk result (λ made. All (IsNew made.0) made.1.items) }
+    {
+        let deal = Deal {
+            jobs: Snapshot::of(&jobs),
+            passes: passes as u64,
+        };
+        let words = Vec::from_elem(alloc, 0u64, jobs.len() + 1)?;
+        let slots = slots_of(alloc, jobs)?;
+        let Ok((table, seat)) = Table::new(alloc, words.as_slice(), slots, &deal) else {
+            return Err(NoMemory);
+        };
+        let board = Board { table };
+        let passes = board.divide(alloc, seat, passes)?;
+        Ok((board, passes))
+    }
+
+    /// Draws the next job that nobody has drawn. None says that there is none left to draw.
+    pub fn draw(&self, pass: &mut Pass<W::Job, W::Done>) -> Option<(usize, W::Job)>
+        requires own { IsOf self.now pass.old }
+        requires idle { pass.old.holding ≡ None }
+        ensures own { IsOf self.now pass.new }
+        ensures some { IfSome result (λ r. Drew (jobs_of self.now) pass.old pass.new r.0 r.1) }
+        ensures none { IfNone result (DrewNone (jobs_of self.now) pass.old pass.new) }
+
+        // A finished pass draws None and takes no step.
+        ensures finished_draws_none { pass.old.finished ≡ true → IsNone result }
+        ensures finished_stays { pass.old.finished ≡ true → pass.new ≡ pass.old }
+    {
+        let count = self.table.slot_count();
+        while pass.next < count {
+            let k = pass.next;
+            if let Some(job) = self.try_next(pass) {
+                return Some((k, job));
+            }
+        }
+        pass.finished = true;
+        None
+    }
+
+    /// Hands in the result of job k, which the pass holds.
+    pub fn hand_in(&self, pass: &mut Pass<W::Job, W::Done>, k: usize, done: W::Done)
+        requires own { IsOf self.now pass.old }
+        requires holds { pass.old.holding ≡ Some k }
+        requires lawful { (job : W.Job) → slice_get (jobs_of self.now) k ≡ Some job → W.lawful job done }
+        ensures own { IsOf self.now pass.new }
+        ensures handed_in { HandedIn pass.old pass.new k }
+    {
+        put_in(&self.table.shared, &mut pass.seat, k, done);
+        self.table.shared.store::<HandIn>(&mut pass.seat, k, 2);
+        pass.held = None;
+    }
+
+    /// The results, in the order of the jobs. They are dropped where there is no memory.
+    pub fn close(
+        self,
+        alloc: A,
+        passes: Vec<Pass<W::Job, W::Done>, A>,
+    ) -> Result<Vec<W::Done, A>, NoMemory>
+        requires all { length passes.items ≡ passes_of self }
+        requires ended { All (HasEnded self) passes.items }
+        ensures lawful { IfOk result (λ results. IsLawfulOutcome W.lawful (jobs_of self) results.items) }
+
+        // Also where there was no memory for the list of results.
+        ensures drawn { HoldsEachOnce (length (jobs_of self)) (flat_map (λ p. p.drawn) passes.items) }
+        ensures handed_in { HoldsEachOnce (length (jobs_of self)) (flat_map handed_in passes.items) }
+    {
+        let seat = self.gather(passes);
+        let Board { table } = self;
+        results_of(alloc, table.close_with(seat))
+    }
+
+    // As many passes as the seat stands for.
+    fn divide(
+        &self,
+        alloc: A,
+        mut seat: Seat<Slot<W::Job, W::Done>, View<W::Job>>,
+        passes: u32,
+    ) -> Result<Vec<Pass<W::Job, W::Done>, A>, NoMemory>
+        requires table { seat.table_id ≡ self.now.table.shared.table_id }
+        requires view { seat.me ≡ (whole (jobs_of self.now) passes, []) }
+        requires some_pass { 0 < passes }
+        ensures as_many { IfOk result (λ all. length all.items ≡ passes) }
+        ensures fresh { IfOk result (λ all. All (IsNew self.now) all.items) }
+    {
+        let mut all = Vec::new(alloc);
+        let mut left = passes;
+        while left > 1 {
+            let one = self.table.shared.split_seat::<Divide>(&mut seat);
+            all.push(Pass::new(one))?;
+            left -= 1;
+        }
+        all.push(Pass::new(seat))?;
+        Ok(all)
+    }
+
+    // Tries the pass's next number: one `fetch_max` on its word.
+    fn try_next(&self, pass: &mut Pass<W::Job, W::Done>) -> Option<W::Job>
+        requires own { IsOf self.now pass.old }
+        requires idle { pass.old.holding ≡ None }
+        requires more { pass.old.tried < length (jobs_of self.now) }
+        ensures own { IsOf self.now pass.new }
+        ensures some { IfSome result (λ job. Drew (jobs_of self.now) pass.old pass.new pass.old.tried job) }
+        ensures none { IfNone result (pass.new ≡ record pass.old { tried = pass.old.tried + 1 }) }
+    {
+        let k = pass.next;
+        let found = self.table.shared.fetch_max::<Draw>(&mut pass.seat, k, 1);
+        pass.next = k + 1;
+        if found == 0 {
+            let job = take_out(&self.table.shared, &mut pass.seat, k);
+            pass.held = Some(k);
+            Some(job)
+        } else {
+            None
+        }
+    }
+
+    // One seat, which stands for all passes.
+    fn gather(
+        &self,
+        mut passes: Vec<Pass<W::Job, W::Done>, A>,
+    ) -> Seat<Slot<W::Job, W::Done>, View<W::Job>>
+        requires some_pass { 0 < length passes.items }
+        requires ended { All (HasEnded self.now) passes.items }
+        ensures { IsGathered self.now passes.items result }
+    {
+        let Some(first) = passes.pop() else {
+            unreachable!()
+        };
+        let mut seat = first.into_seat();
+        while let Some(pass) = passes.pop() {
+            let other = pass.into_seat();
+            self.table.shared.join_seat::<Unite>(&mut seat, other);
+        }
+        seat
+    }
+}
+
+// The job leaves its slot.
+fn take_out<W: Work, A: Allocator>(
+    shared: &Shared<Slot<W::Job, W::Done>, View<W::Job>, Deal<W::Job, A>, Law<W>>,
+    seat: &mut Seat<Slot<W::Job, W::Done>, View<W::Job>>,
+    k: usize,
+) -> W::Job
+    requires table { seat.old.table_id ≡ shared.now.table_id }
+    requires job { (j : W.Job) × (seat.old.me.1 ≡ (k, Job j) ∷ []) }
+    ensures table { seat.new.table_id ≡ seat.old.table_id }
+    ensures was { seat.old.me.1 ≡ (k, Job result) ∷ [] }
+    ensures now { seat.new.me ≡ (seat.old.me.0, (k, Empty) ∷ []) }
+{
+    match shared.exchange(seat, k, Slot::Empty) {
+        Slot::Job(job) => job,
+        _ => unreachable!(),
+    }
+}
+
+// The result enters the slot.
+fn put_in<W: Work, A: Allocator>(
+    shared: &Shared<Slot<W::Job, W::Done>, View<W::Job>, Deal<W::Job, A>, Law<W>>,
+    seat: &mut Seat<Slot<W::Job, W::Done>, View<W::Job>>,
+    k: usize,
+    done: W::Done,
+)
+    requires table { seat.old.table_id ≡ shared.now.table_id }
+    requires empty { seat.old.me.1 ≡ (k, Empty) ∷ [] }
+    ensures table { seat.new.table_id ≡ seat.old.table_id }
+    ensures id { seat.new.id ≡ seat.old.id }
+    ensures now { seat.new.me ≡ (seat.old.me.0, (k, Done done) ∷ []) }
+{
+    drop(shared.exchange(seat, k, Slot::Done(done)));
+}
+
+// The slots of a new board.
+fn slots_of<J: Drop, D: Drop, A: Allocator + Copy>(
+    alloc: A,
+    jobs: Vec<J, A>,
+) -> Result<Vec<Slot<J, D>, A>, NoMemory>
+    ensures { IfOk result (λ slots. slots.items ≡ map Job jobs.items) }
+{
+    let mut slots = Vec::new(alloc);
+    for job in jobs {
+        slots.push(Slot::Job(job))?;
+    }
+    Ok(slots)
+}
+
+// The results of a closed board.
+fn results_of<J: Drop, D: Drop, A: Allocator + Copy>(
+    alloc: A,
+    closed: Closed<Slot<J, D>, A>,
+) -> Result<Vec<D, A>, NoMemory>
+    requires full { IsFull closed.slots }
+    requires done { (k : ℕ) → k < slots_len closed.slots → (d : D) × (get_elem? (slots_items closed.slots) k ≡ some (Done d)) }
+    ensures len { IfOk result (λ results. length results.items ≡ slots_len closed.slots) }
+    ensures items { IfOk result (λ results. (k : ℕ) (d : D) → slice_get results.items k ≡ Some d → get_elem? (slots_items closed.slots) k ≡ some (Done d)) }
+{
+    match Vec::with_capacity(alloc, closed.slot_count()) {
+        Ok(results) => Ok(take_results(closed, results)),
+        Err(no_memory) => {
+            drop_slots(closed);
+            Err(no_memory)
+        }
+    }
+}
+
+// Moves the results out of the slots.
+fn take_results<J: Drop, D: Drop, A: Allocator>(
+    mut closed: Closed<Slot<J, D>, A>,
+    mut results: Vec<D, A>,
+) -> Vec<D, A>
+    requires empty { results.items ≡ [] }
+    requires room { slots_len closed.slots ≤ vec_capacity results }
+    requires full { IsFull closed.slots }
+    requires done { (k : ℕ) → k < slots_len closed.slots → (d : D) × (get_elem? (slots_items closed.slots) k ≡ some (Done d)) }
+    ensures len { length result.items ≡ slots_len closed.slots }
+    ensures items { (k : ℕ) (d : D) → slice_get result.items k ≡ Some d → get_elem? (slots_items closed.slots) k ≡ some (Done d) }
+{
+    let mut i = 0;
+    while i < closed.slot_count() {
+        match closed.take(i) {
+            Slot::Done(done) => results.push_reserved(done),
+            _ => unreachable!(),
+        }
+        i += 1;
+    }
+    closed.free();
+    results
+}
+
+// Drops what the slots have.
+fn drop_slots<J: Drop, D: Drop, A: Allocator>(mut closed: Closed<Slot<J, D>, A>)
+    requires full { IsFull closed.slots }
+{
+    let mut i = 0;
+    while i < closed.slot_count() {
+        drop(closed.take(i));
+        i += 1;
+    }
+    closed.free();
+}
