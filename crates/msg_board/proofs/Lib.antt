@@ -1,3 +1,4 @@
 mod Lists
 mod Sums
 mod Steps
+mod Passing
