@@ -13,6 +13,7 @@ use Rattle.msg_board.specs.declared.pass.Pass.TheInside.{Inside}
 use Rattle.msg_board.specs.declared.board.Board.{Board}
 use Rattle.msg_board.specs.Board.{jobs_of, HasEnded}
 use Rattle.msg_board.specs.Counts.{times, is_held}
+use Rattle.msg_board.specs.Gathered.{IsGathered}
 use Rattle.msg_board.specs.Law.{taken, tried, freed, united}
 use Rattle.msg_board.specs.Pass.{PassState, handed_in, Drew, HandedIn}
 use Rattle.msg_board.specs.Seats.{carried, IsSeatOf}
@@ -163,6 +164,10 @@ pub held_within : {J D : Type 0} (p : Inside J D) (k : ℕ) → IsSound p → p.
 held_within p k sound has = let last = sound.order.last k has in
     let l : k < p.next = (All-split_last (λ n. n < p.next) last.0 k (subst (All (λ n. n < p.next)) last.1 sound.order.below)).1 in let within = sound.order.within in omega arith
 
+-- a pass that has a number left to try isn't finished
+pub unfinished_more : {J D : Type 0} (p : Inside J D) (q : PassState J) → IsSound p → state_of p ≡ q → q.tried < length q.jobs → q.finished ≡ false
+unfinished_more p q sound is more = not_true q.finished (λ done. absurd (omega (arith, sound.order.all_tried (ap (λ q. q.finished) is ∙ done), ap (λ q. q.tried) is, ap (λ q. length q.jobs) is)))
+
 -- passes that have ended have handed in all that they drew
 pub all_handed_in : {J : Type 0} (ps : List (PassState J)) → All (λ p. p.holding ≡ None) ps → flat_map handed_in ps ≡ flat_map (λ p. p.drawn) ps
 all_handed_in [] all = refl
@@ -212,3 +217,13 @@ module _ {W A J D : Type 0} where
         drawn = λ k. omega (arith, before.drawn k, ap (λ (m : Me (Slot J D) (View J)). times k m.0.drawn) now, times-append k seat.me.0.drawn other.me.0.drawn, ap (times k) of.drawn, times_more k qs ps p is);
         ended = parts.0;
       }
+
+  -- until there are none left
+  pub gathered : (b : Board W A J D) (all ps : List (PassState J)) (seat : Seat (Slot J D) (View J)) → Gathering b all ps seat → ps ≡ [] → IsGathered b all seat
+  gathered b all ps seat done none = record {
+    table = done.table;
+    weight = omega (arith, done.count, ap (λ (l : List (PassState J)). length l) none);
+    next = done.next;
+    held = done.held;
+    drawn = λ k. omega (arith, done.drawn k, ap (λ (l : List (PassState J)). times k (flat_map (λ p. p.drawn) l)) none);
+  }

@@ -165,7 +165,7 @@ module _ {J D : Type 0} (lawful : J → D → Type 0) (jobs : List J) (passes : 
   divides id v many s r at =
       let old = r.each_view id v at in let vs : List (View J) = set s.views id (without_one v) in
       let both : (g : View J → ℕ) → sum_by g (vs ++ one_of v ∷ []) + g v ≡ sum_by g s.views + g (without_one v) + g (one_of v)
-          = λ g. omega (arith, sum_by-append g vs (one_of v ∷ []), sum_by-set g s.views id v (without_one v) at) in
+      = λ g. omega (arith, sum_by-append g vs (one_of v ∷ []), sum_by-set g s.views id v (without_one v) at) in
       record {
         words = r.words;
         slots = r.slots;
@@ -200,7 +200,7 @@ module _ {J D : Type 0} (lawful : J → D → Type 0) (jobs : List J) (passes : 
   unites id v other w live free s r at apart them =
       let old = r.each_view id v at in let vs : List (View J) = set s.views id (united v w) in
       let both : (g : View J → ℕ) → sum_by g (set vs other spent) + g w + g v ≡ sum_by g s.views + g (united v w) + g spent
-          = λ g. omega (arith, sum_by-set g s.views id v (united v w) at, sum_by-set g vs other w spent them) in
+      = λ g. omega (arith, sum_by-set g s.views id v (united v w) at, sum_by-set g vs other w spent them) in
       record {
         words = r.words;
         slots = r.slots;

@@ -7,7 +7,6 @@ use mathlib.Core.Option.{some, some-injective, some-ne-none}
 use lib.ListN.{get_elem?}
 use Rattle.msg_board.specs.Counts.{times, is_held}
 
-
 module _ {A : Type 0} (g : A → ℕ) where
   -- the sum after one element has changed
   pub sum_by-set : (l : List A) (j : ℕ) (v w : A) → get_elem? l j ≡ some v → sum_by g (set l j w) + g v ≡ sum_by g l + g w

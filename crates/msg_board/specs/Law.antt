@@ -62,7 +62,7 @@ module _ {J D : Type 0} where
     pub further : slice_index s.words (length jobs) ≡ 0
     -- each slot has what its word says
     pub each_slot : (k : ℕ) (j : J) → get_elem? jobs k ≡ some j
-      → IsSlotOf lawful j (slice_index s.words k) (get_elem? s.homes k)
+        → IsSlotOf lawful j (slice_index s.words k) (get_elem? s.homes k)
     -- each view says what is so
     pub each_view : (by : ℕ) (v : View J) → get_elem? s.views by ≡ some v → IsViewOf jobs s.words v
     -- while word k is 1 just one view holds k, and else none does

@@ -1,4 +1,5 @@
 pub mod Board
+pub mod Closed
 pub mod Counts
 pub mod Gathered
 pub mod Law

@@ -25,7 +25,7 @@ module _ {J : Type 0} where
     pub below : All (λ n. n < p.tried) p.drawn
     -- what it holds is what it drew last, above all else that it drew
     pub last : (k : ℕ) → p.holding ≡ Some k
-      → (earlier : List ℕ) × (p.drawn ≡ earlier ++ k ∷ []) × All (λ n. n < k) earlier
+        → (earlier : List ℕ) × (p.drawn ≡ earlier ++ k ∷ []) × All (λ n. n < k) earlier
 
 module _ {J D : Type 0} where
   pub record IsSound (p : Inside J D) : Type 0 where

@@ -6,6 +6,7 @@ ghost use lib.ListN.{get_elem?};
 ghost use Rattle.msg_board.specs.declared.law.Slot.TheVariants.{Empty, Job, Done};
 ghost use Rattle.msg_board.specs.Counts.{HoldsEachOnce};
 ghost use Rattle.msg_board.specs.Law.{whole};
+ghost use Rattle.msg_board.specs.Closed.{HasDone, AreIn};
 ghost use Rattle.msg_board.specs.Pass.{Drew, DrewNone, HandedIn, handed_in};
 
 use crate::NoMemory;
@@ -143,6 +144,7 @@ impl<W: Work, A: Allocator + Copy> Board<W, A> {
         ensures own { IsOf self.now pass.new }
         ensures some { IfSome result (λ job. Drew (jobs_of self.now) pass.old pass.new pass.old.tried job) }
         ensures none { IfNone result (pass.new ≡ record pass.old { tried = pass.old.tried + 1 }) }
+        ensures unfinished { pass.old.finished ≡ false }
     {
         let k = pass.next;
         let found = self.table.shared.fetch_max::<Draw>(&mut pass.seat, k, 1);
@@ -231,9 +233,8 @@ fn results_of<J: Drop, D: Drop, A: Allocator + Copy>(
     closed: Closed<Slot<J, D>, A>,
 ) -> Result<Vec<D, A>, NoMemory>
     requires full { IsFull closed.slots }
-    requires done { (k : ℕ) → k < slots_len closed.slots → (d : D) × (get_elem? (slots_items closed.slots) k ≡ some (Done d)) }
-    ensures len { IfOk result (λ results. length results.items ≡ slots_len closed.slots) }
-    ensures items { IfOk result (λ results. (k : ℕ) (d : D) → slice_get results.items k ≡ Some d → get_elem? (slots_items closed.slots) k ≡ some (Done d)) }
+    requires done { HasDone (slots_len closed.slots) (slots_items closed.slots) }
+    ensures { IfOk result (λ results. AreIn (slots_len closed.slots) (slots_items closed.slots) results.items) }
 {
     match Vec::with_capacity(alloc, closed.slot_count()) {
         Ok(results) => Ok(take_results(closed, results)),
@@ -252,9 +253,8 @@ fn take_results<J: Drop, D: Drop, A: Allocator>(
     requires empty { results.items ≡ [] }
     requires room { slots_len closed.slots ≤ vec_capacity results }
     requires full { IsFull closed.slots }
-    requires done { (k : ℕ) → k < slots_len closed.slots → (d : D) × (get_elem? (slots_items closed.slots) k ≡ some (Done d)) }
-    ensures len { length result.items ≡ slots_len closed.slots }
-    ensures items { (k : ℕ) (d : D) → slice_get result.items k ≡ Some d → get_elem? (slots_items closed.slots) k ≡ some (Done d) }
+    requires done { HasDone (slots_len closed.slots) (slots_items closed.slots) }
+    ensures { AreIn (slots_len closed.slots) (slots_items closed.slots) result.items }
 {
     let mut i = 0;
     while i < closed.slot_count() {

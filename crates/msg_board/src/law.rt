@@ -41,8 +41,7 @@ pub struct Law<W> {
 }
 
 impl<W: Work, A: Allocator> TableRule<Slot<W::Job, W::Done>, View<W::Job>, Deal<W::Job, A>>
-    for Law<W>
-{
+    for Law<W> {
     ghost use Rattle.msg_board.specs.Law.{Holds, whole};
 
     ghost holds = { λ deal. Holds W.lawful deal.jobs.value.items deal.passes };

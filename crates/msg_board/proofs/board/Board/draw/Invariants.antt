@@ -1,4 +1,4 @@
-use Rattle.std.proofs.Common.{◌≡◌, ◌-◌, ◌≤◌, None, length}
+use Rattle.std.proofs.Common.{◌≡◌, ◌-◌, ◌≤◌, None, length, true}
 use Rattle.msg_board.specs.Board.{jobs_of, IsOf}
 use Rattle.msg_board.proofs.board.Board.draw.Given as goal
 
@@ -8,6 +8,7 @@ invariant-loop-pass g l = record {
   idle : l.pass.holding ≡ None;
   same : l.pass.drawn ≡ l.fn.pass.drawn;
   later : l.fn.pass.tried ≤ l.pass.tried;
+  finished : l.fn.pass.finished ≡ true → l.pass ≡ l.fn.pass;
 }
 
 abbrev pub decreases-loop-pass : goal.decreases-loop-pass
