@@ -6,3 +6,4 @@ pub mod Law
 pub mod Pass
 pub mod Seats
 pub mod Sound
+pub mod Tests

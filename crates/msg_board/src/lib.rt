@@ -13,6 +13,8 @@
 mod board;
 mod law;
 mod pass;
+#[cfg(test)]
+mod tests;
 mod work;
 
 pub use board::Board;
