@@ -86,10 +86,7 @@ impl<'a, T: Tool> Runs for Tools<'a, T> {
 }
 
 // Draws until None.
-fn work<W: Runs>(
-    board: &Board<W>,
-    mut pass: Pass<W::Job, W::Done>,
-) -> Pass<W::Job, W::Done>
+fn work<W: Runs>(board: &Board<W>, mut pass: Pass<W::Job, W::Done>) -> Pass<W::Job, W::Done>
     requires own { IsOf board.now pass }
     requires idle { pass.holding ≡ None }
     ensures { HasEnded board.now result }

@@ -24,11 +24,7 @@ fn work(board: &Board<AddOne>, mut pass: Pass<u64, u64>) -> Pass<u64, u64>
 }
 
 // Two threads, each with a pass of its own.
-fn run_two<R: Threads + Sync>(
-    rt: &R,
-    alloc: Global,
-    jobs: Vec<u64>,
-) -> Result<Vec<u64>, NoMemory>
+fn run_two<R: Threads + Sync>(rt: &R, alloc: Global, jobs: Vec<u64>) -> Result<Vec<u64>, NoMemory>
     requires few { length jobs.items ≤ 256 }
     requires small { AreSmall jobs.items }
 {
