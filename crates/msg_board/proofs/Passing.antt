@@ -1,6 +1,6 @@
 -- From what a step tells of a seat to what a clause says of the pass.
 use Rattle.std.specs.List.{All, filter, flat_map}
-use Rattle.std.proofs.Common.{Bool, true, false, not, cond, ◌≡◌, ◌≢◌, ◌==◌, ℕ, ◌+◌, ◌<◌, ◌≤◌, List, [], ◌∷◌, ◌++◌, length, sym, refl, ap, ◌∙◌, subst, arith, Option, Some, None, length-append, append-nil, eq-eqb, ne_eqb}
+use Rattle.std.proofs.Common.{Bool, true, false, not, cond, ◌≡◌, ℕ, ◌+◌, ◌<◌, List, [], ◌∷◌, ◌++◌, length, sym, refl, ap, ◌∙◌, subst, arith, Option, Some, None, length-append, append-nil, eq-eqb, ne_eqb}
 use Rattle.std.proofs.lemmas.List.Elements.{All-head, All-tail, All-push, All-weaker, filter-append}
 use mathlib.Core.Option.{some}
 use lib.ListN.{get_elem?}
@@ -13,10 +13,10 @@ use Rattle.msg_board.specs.declared.pass.Pass.TheInside.{Inside}
 use Rattle.msg_board.specs.declared.board.Board.{Board}
 use Rattle.msg_board.specs.Board.{jobs_of, HasEnded}
 use Rattle.msg_board.specs.Counts.{times, is_held}
-use Rattle.msg_board.specs.Gathered.{IsGathered}
-use Rattle.msg_board.specs.Law.{taken, tried, freed, united}
+use Rattle.msg_board.specs.Closing.{IsGathered}
+use Rattle.msg_board.specs.Law.{taken, freed, united}
 use Rattle.msg_board.specs.Pass.{PassState, handed_in, Drew, HandedIn}
-use Rattle.msg_board.specs.Seats.{carried, IsSeatOf}
+use Rattle.msg_board.specs.Seats.{IsSeatOf}
 use Rattle.msg_board.specs.Sound.{state_of, IsSound}
 use Rattle.msg_board.proofs.Lists.{got, All-split_last}
 use Rattle.msg_board.proofs.Sums.{times-append, flat_map_push}

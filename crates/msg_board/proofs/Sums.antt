@@ -1,11 +1,10 @@
 -- Sums and counts over lists that change at one place.
-use Rattle.std.specs.List.{All, sum_by, flat_map, filter}
-use Rattle.std.proofs.Common.{Bool, true, false, not, Option, Some, None, ◌≡◌, ◌≢◌, ℕ, zero, suc, ◌+◌, ◌<◌, ◌≤◌, List, [], ◌∷◌, ◌++◌, length, set, sym, refl, ap, ◌∙◌, arith, cond, eq-eqb, ne_eqb, ◌==◌, append-nil, append_assoc}
+use Rattle.std.specs.List.{sum_by, flat_map}
+use Rattle.std.proofs.Common.{Bool, ◌≡◌, ◌≢◌, ℕ, zero, suc, ◌+◌, ◌≤◌, List, [], ◌∷◌, ◌++◌, set, sym, refl, ap, ◌∙◌, arith, cond, eq-eqb, ne_eqb, ◌==◌, append-nil, append_assoc}
 use Rattle.std.proofs.lemmas.List.Sums.{sum_by-cons, sum_by-append}
-use Rattle.std.proofs.lemmas.List.Elements.{All-head, All-tail, filter-append}
 use mathlib.Core.Option.{some, some-injective, some-ne-none}
 use lib.ListN.{get_elem?}
-use Rattle.msg_board.specs.Counts.{times, is_held}
+use Rattle.msg_board.specs.Counts.{times}
 
 module _ {A : Type 0} (g : A → ℕ) where
   -- the sum after one element has changed

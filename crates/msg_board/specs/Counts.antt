@@ -5,7 +5,7 @@ use Rattle.std.specs.Prelude.{◌≡◌, ℕ, ◌<◌, ◌≤◌, ◌==◌, Bool
 abbrev pub times : ℕ → List ℕ → ℕ
 times k numbers = count_by (λ n. n == k) numbers
 
--- whether the number that is held is k
+-- whether it is k that is held
 abbrev pub is_held : ℕ → Option ℕ → Bool
 is_held k None = false
 is_held k (Some n) = n == k

@@ -1,7 +1,6 @@
 pub mod Board
-pub mod Closed
+pub mod Closing
 pub mod Counts
-pub mod Gathered
 pub mod Law
 pub mod Pass
 pub mod Seats

@@ -1,12 +1,13 @@
 -- A pass as its holder sees it, and what a draw and a hand-in do to it.
-use Rattle.std.specs.Prelude.{◌≡◌, ℕ, ◌+◌, ◌<◌, ◌≤◌, List, [], ◌∷◌, ◌++◌, length, slice_get, filter, not, All, Option, Some, None, Bool, true, false}
+use Rattle.std.specs.Prelude.{◌≡◌, ℕ, ◌+◌, ◌<◌, ◌≤◌, List, ◌∷◌, [], ◌++◌, length, slice_get, filter, not, All}
+use Rattle.std.specs.Prelude.{Option, Some, None, Bool, true, false}
 use Rattle.atomic_table.specs.Seated.{TableId}
 use Rattle.msg_board.specs.Counts.{is_held}
 
 pub record PassState (J : Type 0) : Type 0 where
-  -- which board's words and slots it steps on
+  -- whose words and slots it steps on
   pub table : TableId
-  -- the jobs of that board
+  -- the jobs of its board
   pub jobs : List J
   -- how many numbers it has tried: 0, 1, 2 and so on, each once
   pub tried : ℕ
@@ -18,21 +19,22 @@ pub record PassState (J : Type 0) : Type 0 where
   pub finished : Bool
 
 module _ {J : Type 0} where
-  -- the numbers that it has handed in: those drawn, but the one that it holds
+  -- the numbers that it has handed in: those that it drew, but the one that it holds
   abbrev pub handed_in : PassState J → List ℕ
   handed_in p = filter (λ k. not (is_held k p.holding)) p.drawn
 
-  -- the pass drew the number k, and with it the job that was put there
+  -- the pass drew the number k, and with it this job
   pub record Drew (jobs : List J) (old new : PassState J) (k : ℕ) (job : J) : Type 0 where
-    -- the job is job k of the board
+    -- the job is the one that was put there
     pub job_there : slice_get jobs k ≡ Some job
     pub within : k < length jobs
-    -- k is above all that it drew before, and none that it tried before
+    -- k is above all that it drew before, and not below what it had left to try
     pub above : All (λ n. n < k) old.drawn
     pub untried : old.tried ≤ k
     -- k joins its list, and it holds k
     pub drawn : new.drawn ≡ old.drawn ++ k ∷ []
     pub holding : new.holding ≡ Some k
+    -- it has tried k now, and isn't finished
     pub tried : new.tried ≡ k + 1
     pub unfinished : new.finished ≡ false
 

@@ -1,19 +1,16 @@
 //! The board: its jobs, and how its passes draw them.
-ghost use Rattle.std.specs.Prelude.{◌≡◌, ◌+◌, ◌<◌, ◌≤◌, ℕ, [], ◌∷◌, length, map, flat_map, All, IfOk, IfSome, IfNone, IsNone, IsTrue, MatchOption, None, Some, true, false, slice_get, vec_capacity};
-ghost use Rattle.std.specs.Slots.{slots_items, slots_len, IsFull};
-ghost use mathlib.Core.Option.{some};
-ghost use lib.ListN.{get_elem?};
-ghost use Rattle.msg_board.specs.declared.law.Slot.TheVariants.{Empty, Job, Done};
+ghost use Rattle.std.specs.Prelude.{◌≡◌, ◌+◌, ◌<◌, ◌≤◌, [], length, flat_map, All};
+ghost use Rattle.std.specs.Prelude.{IfOk, IfSome, IfNone, IsNone, IsTrue, None, Some, false, slice_get};
 ghost use Rattle.msg_board.specs.Counts.{HoldsEachOnce};
 ghost use Rattle.msg_board.specs.Law.{whole};
-ghost use Rattle.msg_board.specs.Closed.{HasDone, AreIn};
 ghost use Rattle.msg_board.specs.Pass.{Drew, DrewNone, HandedIn, handed_in};
 
 use crate::NoMemory;
 use crate::law::{Deal, Divide, Draw, HandIn, Law, Slot, Unite, View};
 use crate::pass::Pass;
+use crate::slots::{put_in, results_of, slots_of, take_out};
 use crate::work::Work;
-use atomic_table::{Closed, Seat, Shared, Table};
+use atomic_table::{Seat, Table};
 use std::alloc::{Allocator, Global};
 use std::snapshot::Snapshot;
 
@@ -27,8 +24,7 @@ pub struct Board<W: Work, A: Allocator = Global> {
 }
 
 impl<W: Work, A: Allocator + Copy> Board<W, A> {
-    ghost use Rattle.msg_board.specs.Board.{jobs_of, passes_of, IsOf, IsNew, HasEnded, IsLawfulOutcome};
-    ghost use Rattle.msg_board.specs.Gathered.{IsGathered};
+    ghost use Rattle.msg_board.specs.Board.{jobs_of, passes_of, IsNew};
 
     /// A board with these jobs, and its passes. The jobs are dropped where there is no memory.
     pub fn new(
@@ -57,17 +53,46 @@ impl<W: Work, A: Allocator + Copy> Board<W, A> {
         Ok((board, passes))
     }
 
+    // As many passes as the seat stands for.
+    fn divide(
+        &self,
+        alloc: A,
+        mut seat: Seat<Slot<W::Job, W::Done>, View<W::Job>>,
+        passes: u32,
+    ) -> Result<Vec<Pass<W::Job, W::Done>, A>, NoMemory>
+        requires table { seat.table_id ≡ self.now.table.shared.table_id }
+        requires view { seat.me ≡ (whole (jobs_of self.now) passes, []) }
+        requires some_pass { 0 < passes }
+        ensures as_many { IfOk result (λ all. length all.items ≡ passes) }
+        ensures fresh { IfOk result (λ all. All (IsNew self.now) all.items) }
+    {
+        let mut all = Vec::new(alloc);
+        let mut left = passes;
+        while left > 1 {
+            let one = self.table.shared.split_seat::<Divide>(&mut seat);
+            all.push(Pass::new(one))?;
+            left -= 1;
+        }
+        all.push(Pass::new(seat))?;
+        Ok(all)
+    }
+}
+
+impl<W: Work, A: Allocator> Board<W, A> {
+    ghost use Rattle.msg_board.specs.Board.{jobs_of, passes_of, IsOf, HasEnded, IsLawfulOutcome};
+    ghost use Rattle.msg_board.specs.Closing.{IsGathered};
+
     /// Draws the next job that nobody has drawn. None says that there is none left to draw.
     pub fn draw(&self, pass: &mut Pass<W::Job, W::Done>) -> Option<(usize, W::Job)>
         requires own { IsOf self.now pass.old }
         requires idle { pass.old.holding ≡ None }
         ensures own { IsOf self.now pass.new }
-        ensures some { IfSome result (λ r. Drew (jobs_of self.now) pass.old pass.new r.0 r.1) }
+        ensures some { IfSome result (λ drawn. Drew (jobs_of self.now) pass.old pass.new drawn.0 drawn.1) }
         ensures none { IfNone result (DrewNone (jobs_of self.now) pass.old pass.new) }
 
         // A finished pass draws None and takes no step.
-        ensures finished_draws_none { pass.old.finished ≡ true → IsNone result }
-        ensures finished_stays { pass.old.finished ≡ true → pass.new ≡ pass.old }
+        ensures finished_draws_none { IsTrue pass.old.finished → IsNone result }
+        ensures finished_stays { IsTrue pass.old.finished → pass.new ≡ pass.old }
     {
         let count = self.table.slot_count();
         while pass.next < count {
@@ -103,37 +128,14 @@ impl<W: Work, A: Allocator + Copy> Board<W, A> {
         requires ended { All (HasEnded self) passes.items }
         ensures lawful { IfOk result (λ results. IsLawfulOutcome W.lawful (jobs_of self) results.items) }
 
-        // Also where there was no memory for the list of results.
-        ensures drawn { HoldsEachOnce (length (jobs_of self)) (flat_map (λ p. p.drawn) passes.items) }
-        ensures handed_in { HoldsEachOnce (length (jobs_of self)) (flat_map handed_in passes.items) }
+        // The passes together drew each number once, and handed each in once, also where there is
+        // no memory for the list of results.
+        ensures drawn_once { HoldsEachOnce (length (jobs_of self)) (flat_map (λ pass. pass.drawn) passes.items) }
+        ensures handed_in_once { HoldsEachOnce (length (jobs_of self)) (flat_map handed_in passes.items) }
     {
         let seat = self.gather(passes);
         let Board { table } = self;
         results_of(alloc, table.close_with(seat))
-    }
-
-    // As many passes as the seat stands for.
-    fn divide(
-        &self,
-        alloc: A,
-        mut seat: Seat<Slot<W::Job, W::Done>, View<W::Job>>,
-        passes: u32,
-    ) -> Result<Vec<Pass<W::Job, W::Done>, A>, NoMemory>
-        requires table { seat.table_id ≡ self.now.table.shared.table_id }
-        requires view { seat.me ≡ (whole (jobs_of self.now) passes, []) }
-        requires some_pass { 0 < passes }
-        ensures as_many { IfOk result (λ all. length all.items ≡ passes) }
-        ensures fresh { IfOk result (λ all. All (IsNew self.now) all.items) }
-    {
-        let mut all = Vec::new(alloc);
-        let mut left = passes;
-        while left > 1 {
-            let one = self.table.shared.split_seat::<Divide>(&mut seat);
-            all.push(Pass::new(one))?;
-            left -= 1;
-        }
-        all.push(Pass::new(seat))?;
-        Ok(all)
     }
 
     // Tries the pass's next number: one `fetch_max` on its word.
@@ -177,105 +179,4 @@ impl<W: Work, A: Allocator + Copy> Board<W, A> {
         }
         seat
     }
-}
-
-// The job leaves its slot.
-fn take_out<W: Work, A: Allocator>(
-    shared: &Shared<Slot<W::Job, W::Done>, View<W::Job>, Deal<W::Job, A>, Law<W>>,
-    seat: &mut Seat<Slot<W::Job, W::Done>, View<W::Job>>,
-    k: usize,
-) -> W::Job
-    requires table { seat.old.table_id ≡ shared.now.table_id }
-    requires job { (j : W.Job) × (seat.old.me.1 ≡ (k, Job j) ∷ []) }
-    ensures table { seat.new.table_id ≡ seat.old.table_id }
-    ensures was { seat.old.me.1 ≡ (k, Job result) ∷ [] }
-    ensures now { seat.new.me ≡ (seat.old.me.0, (k, Empty) ∷ []) }
-{
-    match shared.exchange(seat, k, Slot::Empty) {
-        Slot::Job(job) => job,
-        _ => unreachable!(),
-    }
-}
-
-// The result enters the slot.
-fn put_in<W: Work, A: Allocator>(
-    shared: &Shared<Slot<W::Job, W::Done>, View<W::Job>, Deal<W::Job, A>, Law<W>>,
-    seat: &mut Seat<Slot<W::Job, W::Done>, View<W::Job>>,
-    k: usize,
-    done: W::Done,
-)
-    requires table { seat.old.table_id ≡ shared.now.table_id }
-    requires empty { seat.old.me.1 ≡ (k, Empty) ∷ [] }
-    ensures table { seat.new.table_id ≡ seat.old.table_id }
-    ensures id { seat.new.id ≡ seat.old.id }
-    ensures now { seat.new.me ≡ (seat.old.me.0, (k, Done done) ∷ []) }
-{
-    drop(shared.exchange(seat, k, Slot::Done(done)));
-}
-
-// The slots of a new board.
-fn slots_of<J: Drop, D: Drop, A: Allocator + Copy>(
-    alloc: A,
-    jobs: Vec<J, A>,
-) -> Result<Vec<Slot<J, D>, A>, NoMemory>
-    ensures { IfOk result (λ slots. slots.items ≡ map Job jobs.items) }
-{
-    let mut slots = Vec::new(alloc);
-    for job in jobs {
-        slots.push(Slot::Job(job))?;
-    }
-    Ok(slots)
-}
-
-// The results of a closed board.
-fn results_of<J: Drop, D: Drop, A: Allocator + Copy>(
-    alloc: A,
-    closed: Closed<Slot<J, D>, A>,
-) -> Result<Vec<D, A>, NoMemory>
-    requires full { IsFull closed.slots }
-    requires done { HasDone (slots_len closed.slots) (slots_items closed.slots) }
-    ensures { IfOk result (λ results. AreIn (slots_len closed.slots) (slots_items closed.slots) results.items) }
-{
-    match Vec::with_capacity(alloc, closed.slot_count()) {
-        Ok(results) => Ok(take_results(closed, results)),
-        Err(no_memory) => {
-            drop_slots(closed);
-            Err(no_memory)
-        }
-    }
-}
-
-// Moves the results out of the slots.
-fn take_results<J: Drop, D: Drop, A: Allocator>(
-    mut closed: Closed<Slot<J, D>, A>,
-    mut results: Vec<D, A>,
-) -> Vec<D, A>
-    requires empty { results.items ≡ [] }
-    requires room { slots_len closed.slots ≤ vec_capacity results }
-    requires full { IsFull closed.slots }
-    requires done { HasDone (slots_len closed.slots) (slots_items closed.slots) }
-    ensures { AreIn (slots_len closed.slots) (slots_items closed.slots) result.items }
-{
-    let mut i = 0;
-    while i < closed.slot_count() {
-        match closed.take(i) {
-            Slot::Done(done) => results.push_reserved(done),
-            _ => unreachable!(),
-        }
-        i += 1;
-    }
-    closed.free();
-    results
-}
-
-// Drops what the slots have.
-fn drop_slots<J: Drop, D: Drop, A: Allocator>(mut closed: Closed<Slot<J, D>, A>)
-    requires full { IsFull closed.slots }
-{
-    let mut i = 0;
-    while i < closed.slot_count() {
-        drop(closed.take(i));
-        i += 1;
-    }
-    closed.free();
 }

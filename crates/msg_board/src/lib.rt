@@ -13,6 +13,7 @@
 mod board;
 mod law;
 mod pass;
+mod slots;
 #[cfg(test)]
 mod tests;
 mod work;

@@ -1,10 +1,9 @@
-use Rattle.std.proofs.Common.{◌≡◌, sym, ap, ◌∙◌, arith, subst, length, None}
-use Rattle.std.specs.List.{flat_map}
+use Rattle.std.proofs.Common.{◌≡◌, sym, ◌∙◌, arith, subst, length, None}
 use Rattle.std.proofs.lemmas.List.Elements.{All-weaker}
 use Rattle.std.proofs.lemmas.Result.{IfOk-weaker}
 use mathlib.Core.Option.{some-injective}
 use Rattle.msg_board.specs.Board.{jobs_of, passes_of, HasEnded}
-use Rattle.msg_board.specs.Counts.{HoldsEachOnce, times}
+use Rattle.msg_board.specs.Counts.{HoldsEachOnce}
 use Rattle.msg_board.proofs.Lists.{there, get_there}
 use Rattle.msg_board.proofs.Steps.{closes}
 use Rattle.msg_board.proofs.Passing.{done_same, all_handed_in}
@@ -24,14 +23,14 @@ returns-clause-lawful g c = let b = c.args.self in let seat = c.gather-seat.ensu
           subst (g.W.Work.lawful j) (done_same t.0 d (some-injective _ _ (sym t.1 ∙ taken.each k d gives))) t.2;
     }) c.results_of.ensures
 
-pub returns-clause-drawn : goal.returns-clause-drawn
-returns-clause-drawn g c = let b = c.args.self in let seat = c.gather-seat.ensures in
+pub returns-clause-drawn_once : goal.returns-clause-drawn_once
+returns-clause-drawn_once g c = let b = c.args.self in let seat = c.gather-seat.ensures in
     let closed = closes g.W.Work.lawful (jobs_of b) (passes_of b) _ _ _ _ c.close_with.ensures.values.2 (seat.weight ∙ c.requires.all) b.some_pass seat.next seat.held in
     record {
       once = λ k near. sym (seat.drawn k) ∙ closed.1.once k near;
       no_other = λ k far. sym (seat.drawn k) ∙ closed.1.no_other k far;
     }
 
-pub returns-clause-handed_in : goal.returns-clause-handed_in
-returns-clause-handed_in g c = let b = c.args.self in
-    subst (HoldsEachOnce (length (jobs_of b))) (sym (all_handed_in c.args.passes.items (All-weaker (HasEnded b) (λ p. p.holding ≡ None) (λ p ended. ended.idle) _ c.requires.ended))) (returns-clause-drawn g c)
+pub returns-clause-handed_in_once : goal.returns-clause-handed_in_once
+returns-clause-handed_in_once g c = let b = c.args.self in
+    subst (HoldsEachOnce (length (jobs_of b))) (sym (all_handed_in c.args.passes.items (All-weaker (HasEnded b) (λ p. p.holding ≡ None) (λ p ended. ended.idle) _ c.requires.ended))) (returns-clause-drawn_once g c)

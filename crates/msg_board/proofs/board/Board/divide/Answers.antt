@@ -1,7 +1,4 @@
-use Rattle.std.proofs.Common.{ap, ◌∙◌, ◌∷◌, arith, [], length, length-append}
-use Rattle.std.proofs.lemmas.List.Elements.{All-push, All-same}
-use Rattle.msg_board.specs.Board.{jobs_of, IsNew}
-use Rattle.msg_board.specs.Law.{whole, one_of, without_one}
+use Rattle.std.proofs.Common.{ap, arith}
 use Rattle.msg_board.proofs.Steps.{divides}
 use Rattle.msg_board.proofs.board.Board.divide.Goals as goal
 

@@ -1,7 +1,7 @@
 use Rattle.std.proofs.Common.{ap, sym, ◌∙◌, ◌∷◌}
 use Rattle.atomic_table.specs.Table.{rest}
 use Rattle.msg_board.specs.declared.law.Slot.TheVariants.{Job}
-use Rattle.msg_board.proofs.board.take_out.Goals as goal
+use Rattle.msg_board.proofs.slots.take_out.Goals as goal
 
 pub exchange-requires : goal.exchange-requires
 exchange-requires g c = let out = c.requires.job in

@@ -1,7 +1,7 @@
 use Rattle.std.proofs.Common.{◌≡◌, ℕ, ◌-◌, ◌<◌, false, get_or}
 use Rattle.std.specs.Slots.{slots_filled, slots_len}
 use Rattle.std.specs.Slots.Ownership.{Filled}
-use Rattle.msg_board.proofs.board.drop_slots.Given as goal
+use Rattle.msg_board.proofs.slots.drop_slots.Given as goal
 
 abbrev pub invariant-loop-i : goal.invariant-loop-i
 invariant-loop-i g l = record {

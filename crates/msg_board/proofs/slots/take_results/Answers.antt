@@ -7,7 +7,7 @@ use Rattle.std.specs.Prelude.{slice_get}
 use Rattle.std.specs.Slots.{slots_items, slots_filled}
 use Rattle.msg_board.specs.declared.law.Slot.TheVariants.{Done}
 use Rattle.msg_board.proofs.Lists.{set_false, get_snoc}
-use Rattle.msg_board.proofs.board.take_results.Goals as goal
+use Rattle.msg_board.proofs.slots.take_results.Goals as goal
 
 pub unreachable-requires : goal.unreachable-requires
 unreachable-requires g c = let inv = c.loop-i.invariant in let is = c.slot_count.ensures in let test = c.loop-i-test.true in let long = inv.same_len in
