@@ -1,8 +1,8 @@
 -- The law of a board, which holds between any two atomic steps, and what each step does.
 --
 -- A board of n jobs has n slots and n + 1 words. Slot k has job k at first, and its result at last.
--- Word k is 0 while job k waits in its slot, 1 while a pass has drawn it and not handed it in, and 2
--- once its result is in. The further word stays 0: it is there so that a board of no jobs has a word.
+-- Word k is 0 while job k waits in its slot, 1 while a pass has drawn it and not handed it in, and
+-- 2 once its result is in. The further word stays 0: by it a board of no jobs has a word too.
 --
 -- A pass has a view of the board, which only its own steps change. The law speaks of all views at
 -- once, so that what one of them says of a number is denied to every other.
@@ -35,7 +35,8 @@ Home S = maybe.Option (maybe.Option S)
 module _ {J D : Type 0} where
   -- What the word w says of the slot of job j: `some (some x)` is a slot with x at home, and
   -- `some none` one that is out with the seat of a pass, which alone reaches what is in it
-  pub record IsSlotOf (lawful : J → D → Type 0) (j : J) (w : ℕ) (slot : Home (Slot J D)) : Type 0 where
+  pub record IsSlotOf (lawful : J → D → Type 0) (j : J) (w : ℕ) (slot : Home (Slot J D))
+      : Type 0 where
     -- at 0 the job is at home
     pub waiting : w ≡ 0 → slot ≡ some (some (Job j))
     -- at 1 the slot is out
@@ -74,7 +75,8 @@ module _ {J D : Type 0} (lawful : J → D → Type 0) where
     -- while word k is 1 just one view holds k, and else none does
     pub held : (k : ℕ)
         → count_by (λ v. is_held k v.held) s.views ≡ holders_at (slice_index s.words k)
-    -- once word k has left 0, k stands once in the drawn lists of all views together; before, not at all
+    -- in the drawn lists of all views together k stands once, once word k has left 0, and before
+    -- not at all
     pub drawn : (k : ℕ)
         → sum_by (λ v. times k v.drawn) s.views ≡ draws_at (slice_index s.words k)
     -- the views' weights add up to the number of passes
@@ -122,12 +124,16 @@ abbrev Standing : Type 0 → Type 0 → Type 0
 Standing J D = Me (Slot J D) (View J)
 
 module _ {J D : Type 0} where
-  -- `fetch_max` with 1 on the pass's next word. Where it finds 0, the pass draws that number, and the
-  -- slot is out with it, with the job in it. Else the pass has only tried the word
+  -- the pass draws the number k: the slot is out with it, with job k in it
+  abbrev pub DrawsJob : ℕ → Standing J D → Standing J D → Type 0
+  DrawsJob k before after = (j : J) × (get_elem? before.0.jobs k ≡ some j)
+      × (after ≡ (taken k before.0, (k, Job j) ∷ []))
+
+  -- `fetch_max` with 1 on the pass's next word. Where it finds 0, the pass draws that number,
+  -- and else it has only tried the word
   abbrev pub Drawing : Step (Slot J D) → Standing J D → ℕ → Standing J D → Type 0
   Drawing step before found after = (step.word ≡ before.0.next)
-      × (found ≡ 0 → (j : J) × (get_elem? before.0.jobs step.word ≡ some j)
-      × (after ≡ (taken step.word before.0, (step.word, Job j) ∷ [])))
+      × (found ≡ 0 → DrawsJob step.word before after)
       × (found ≢ 0 → after ≡ (tried before.0, []))
 
   -- a store of 2, which gives the slot back

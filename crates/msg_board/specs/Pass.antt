@@ -1,6 +1,6 @@
 -- A pass as its holder sees it, and what a draw and a hand-in do to it.
-use Rattle.std.specs.Prelude.{◌≡◌, ℕ, ◌+◌, ◌<◌, ◌≤◌, List, ◌∷◌, [], ◌++◌, length, slice_get, filter, not, All}
-use Rattle.std.specs.Prelude.{Option, Some, None, Bool, true, false}
+use Rattle.std.specs.Prelude.{◌≡◌, ℕ, ◌+◌, ◌<◌, ◌≤◌, List, ◌∷◌, [], ◌++◌, length, slice_get, filter, flat_map, not}
+use Rattle.std.specs.Prelude.{All, Option, Some, None, Bool, true, false}
 use Rattle.atomic_table.specs.Seated.{TableId}
 use Rattle.msg_board.specs.Counts.{is_held}
 
@@ -22,6 +22,13 @@ module _ {J : Type 0} where
   -- the numbers that it has handed in: those that it drew, but the one that it holds
   abbrev pub handed_in : PassState J → List ℕ
   handed_in p = filter (λ k. not (is_held k p.holding)) p.drawn
+
+  -- the numbers that these passes have drawn, and handed in, one pass after the other
+  abbrev pub drawn_by : List (PassState J) → List ℕ
+  drawn_by ps = flat_map (λ p. p.drawn) ps
+
+  abbrev pub handed_in_by : List (PassState J) → List ℕ
+  handed_in_by ps = flat_map handed_in ps
 
   -- the pass drew the number k, and with it this job
   pub record Drew (jobs : List J) (old new : PassState J) (k : ℕ) (job : J) : Type 0 where

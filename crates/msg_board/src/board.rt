@@ -1,9 +1,9 @@
 //! The board: its jobs, and how its passes draw them.
-ghost use Rattle.std.specs.Prelude.{◌≡◌, ◌+◌, ◌<◌, ◌≤◌, [], length, flat_map, All};
-ghost use Rattle.std.specs.Prelude.{IfOk, IfSome, IfNone, IsNone, IsTrue, None, Some, false, slice_get};
+ghost use Rattle.std.specs.Prelude.{◌≡◌, ◌+◌, ◌<◌, ◌≤◌, [], length, slice_get, All, false};
+ghost use Rattle.std.specs.Prelude.{IfOk, IfSome, IfNone, IsNone, IsTrue, None, Some};
 ghost use Rattle.msg_board.specs.Counts.{HoldsEachOnce};
 ghost use Rattle.msg_board.specs.Law.{whole};
-ghost use Rattle.msg_board.specs.Pass.{Drew, DrewNone, HandedIn, handed_in};
+ghost use Rattle.msg_board.specs.Pass.{Drew, DrewNone, HandedIn, drawn_by, handed_in_by};
 
 use crate::NoMemory;
 use crate::law::{Deal, Divide, Draw, HandIn, Law, Slot, Unite, View};
@@ -82,12 +82,12 @@ impl<W: Work, A: Allocator> Board<W, A> {
     ghost use Rattle.msg_board.specs.Board.{jobs_of, passes_of, IsOf, HasEnded, IsLawfulOutcome};
     ghost use Rattle.msg_board.specs.Closing.{IsGathered};
 
-    /// Draws the next job that nobody has drawn. None says that there is none left to draw.
+    /// Draws the next job that nobody has drawn, with its number. None says that there is none left.
     pub fn draw(&self, pass: &mut Pass<W::Job, W::Done>) -> Option<(usize, W::Job)>
         requires own { IsOf self.now pass.old }
         requires idle { pass.old.holding ≡ None }
         ensures own { IsOf self.now pass.new }
-        ensures some { IfSome result (λ drawn. Drew (jobs_of self.now) pass.old pass.new drawn.0 drawn.1) }
+        ensures some { IfSome result (λ r. Drew (jobs_of self.now) pass.old pass.new r.0 r.1) }
         ensures none { IfNone result (DrewNone (jobs_of self.now) pass.old pass.new) }
 
         // A finished pass draws None and takes no step.
@@ -109,7 +109,8 @@ impl<W: Work, A: Allocator> Board<W, A> {
     pub fn hand_in(&self, pass: &mut Pass<W::Job, W::Done>, k: usize, done: W::Done)
         requires own { IsOf self.now pass.old }
         requires holds { pass.old.holding ≡ Some k }
-        requires lawful { (job : W.Job) → slice_get (jobs_of self.now) k ≡ Some job → W.lawful job done }
+        requires lawful { (job : W.Job) → slice_get (jobs_of self.now) k ≡ Some job
+            → W.lawful job done }
         ensures own { IsOf self.now pass.new }
         ensures handed_in { HandedIn pass.old pass.new k }
     {
@@ -126,12 +127,12 @@ impl<W: Work, A: Allocator> Board<W, A> {
     ) -> Result<Vec<W::Done, A>, NoMemory>
         requires all { length passes.items ≡ passes_of self }
         requires ended { All (HasEnded self) passes.items }
-        ensures lawful { IfOk result (λ results. IsLawfulOutcome W.lawful (jobs_of self) results.items) }
+        ensures lawful { IfOk result
+            (λ results. IsLawfulOutcome W.lawful (jobs_of self) results.items) }
 
-        // The passes together drew each number once, and handed each in once, also where there is
-        // no memory for the list of results.
-        ensures drawn_once { HoldsEachOnce (length (jobs_of self)) (flat_map (λ pass. pass.drawn) passes.items) }
-        ensures handed_in_once { HoldsEachOnce (length (jobs_of self)) (flat_map handed_in passes.items) }
+        // Also where there is no memory for the list of results.
+        ensures drawn_once { HoldsEachOnce (length (jobs_of self)) (drawn_by passes.items) }
+        ensures handed_in_once { HoldsEachOnce (length (jobs_of self)) (handed_in_by passes.items) }
     {
         let seat = self.gather(passes);
         let Board { table } = self;
@@ -144,7 +145,8 @@ impl<W: Work, A: Allocator> Board<W, A> {
         requires idle { pass.old.holding ≡ None }
         requires more { pass.old.tried < length (jobs_of self.now) }
         ensures own { IsOf self.now pass.new }
-        ensures some { IfSome result (λ job. Drew (jobs_of self.now) pass.old pass.new pass.old.tried job) }
+        ensures some { IfSome result
+            (λ job. Drew (jobs_of self.now) pass.old pass.new pass.old.tried job) }
         ensures none { IfNone result (pass.new ≡ record pass.old { tried = pass.old.tried + 1 }) }
         ensures unfinished { pass.old.finished ≡ false }
     {
