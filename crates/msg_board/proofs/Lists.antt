@@ -1,11 +1,12 @@
 -- Elements of lists, as the table names them (`get_elem?`) and as clauses do (`slice_get`).
 use Rattle.std.specs.Prelude.{slice_get}
 use Rattle.std.specs.List.{All}
-use Rattle.std.proofs.Common.{Bool, false, ◌⊎◌, inl, inr, ⊎_elim, Option, Some, None, ◌≡◌, ◌≢◌, ℕ, zero, suc, ◌<◌, ◌≤◌, List, [], ◌∷◌, ◌++◌, length, get_or, set, replicate, sym, refl, ap, subst, arith, get_or-set_other, get_or-set_same, length-append}
+use Rattle.std.proofs.Common.{Bool, false, ◌∙◌, ◌+◌, ◌⊎◌, inl, inr, ⊎_elim, Option, Some, None, ◌≡◌, ◌≢◌, ℕ, zero, suc, ◌<◌, ◌≤◌, List, [], ◌∷◌, ◌++◌, length, get_or, set, replicate, sym, refl, ap, subst, arith, get_or-set_other, get_or-set_same, length-append}
 use Rattle.std.proofs.Math.ListN.{get_or-append}
 use Rattle.std.proofs.Math.Seq.{get_or-append_seam}
 use mathlib.Core.Logic.{dite}
 use mathlib.Core.Option.{some, some-injective, some-ne-none}
+use mathlib.Core.Option as maybe
 use native.Mathlib.Decide.{ℕ_discrete}
 use lib.ListN.{get_elem?}
 
@@ -26,6 +27,10 @@ pub zero_at : (n k : ℕ) → (let zeros : List ℕ = replicate n 0 in get_or ze
 zero_at zero k = refl
 zero_at (suc n) zero = refl
 zero_at (suc n) (suc k) = zero_at n k
+
+-- a place has one value
+pub one_value : {A : Type 0} (place : maybe.Option A) (a b : A) → place ≡ some a → place ≡ some b → a ≡ b
+one_value place a b is also = some-injective a b (sym is ∙ also)
 
 -- within a list there is an element
 pub there : {A : Type 0} (l : List A) (i : ℕ) → i < length l → (a : A) × (get_elem? l i ≡ some a)
@@ -52,7 +57,7 @@ get_there {A = A} (x ∷ xs) zero a e = ap (λ (o : Option A). some (elim o as (
 get_there (x ∷ xs) (suc i) a e = get_there xs i a e
 
 -- an element of a list with one more at its end is an old one or that one
-pub get_snoc : {A : Type 0} (l : List A) (a b : A) (k : ℕ) → slice_get (l ++ a ∷ []) k ≡ Some b → (slice_get l k ≡ Some b) ⊎ ((k ≡ length l) × (a ≡ b))
+get_snoc : {A : Type 0} (l : List A) (a b : A) (k : ℕ) → slice_get (l ++ a ∷ []) k ≡ Some b → (slice_get l k ≡ Some b) ⊎ ((k ≡ length l) × (a ≡ b))
 get_snoc {A = A} [] a b zero e = inr (refl, ap (λ (o : Option A). elim o as (λ _. A) [ Some y ↦ y | None ↦ a ]) e)
 get_snoc [] a b (suc k) e = absurd (cc)
 get_snoc (x ∷ xs) a b zero e = inl e
@@ -65,8 +70,19 @@ All-split_last P xs x all = (
   subst P (get_or-append_seam xs x [] x) (all (length xs) x (omega (arith, length-append xs (x ∷ [])))),
 )
 
+-- a fact of each place holds after a push, if it holds of what was pushed
+pub each_pushed : {A : Type 0} (P : ℕ → A → Type 0) (l now : List A) (a : A) (n : ℕ) → now ≡ l ++ a ∷ [] → length l ≡ n → P n a
+    → ((k : ℕ) (b : A) → slice_get l k ≡ Some b → P k b) → (k : ℕ) (b : A) → slice_get now k ≡ Some b → P k b
+each_pushed P l now a n is long last others k b at = ⊎_elim (λ t. others k b t)
+    (λ t. subst (P k) t.1 (subst (λ (m : ℕ). P m a) (sym (t.0 ∙ long)) last)) (get_snoc l a b k (ap (λ m. slice_get m k) (sym is) ∙ at))
+
 -- a place that was set to false is false, also past the end
-pub set_false : (l : List Bool) (i : ℕ) → get_or (set l i false) i false ≡ false
+set_false : (l : List Bool) (i : ℕ) → get_or (set l i false) i false ≡ false
 set_false [] i = refl
 set_false (x ∷ xs) zero = refl
 set_false (x ∷ xs) (suc i) = set_false xs i
+
+-- where the places below i are false, and place i is set to false, so are those below i + 1
+pub false_below : (l now : List Bool) (i : ℕ) → now ≡ set l i false → ((k : ℕ) → k < i → get_or l k false ≡ false) → (k : ℕ) → k < i + 1 → get_or now k false ≡ false
+false_below l now i is below k h = ap (λ m. get_or m k false) is ∙ dite (ℕ_discrete k i) (λ e. ap (λ n. get_or (set l i false) n false) e ∙ set_false l i)
+    (λ ne. get_or-set_other l i k false false ne ∙ below k (omega arith))

@@ -7,13 +7,13 @@ use mathlib.Core.Option.{none, some, some-injective, some-ne-none}
 use mathlib.Core.Option as maybe
 use native.Mathlib.Decide.{ℕ_discrete}
 use lib.ListN.{get_elem?, length-map}
-use Rattle.atomic_table.specs.Table.{State, Me, step, Act, keeps, takes, gives, Valid, carried_after, stepped, Allows, Splits, Joins, Final, Seen, opening}
+use Rattle.atomic_table.specs.Table.{State, Me, Step, step, Act, keeps, takes, gives, Valid, carried_after, stepped, Allows, Splits, Joins, Final, Seen, opening}
 use Rattle.atomic_table.proofs.Lists.{at_set, set_here, set_else, at_snoc, at_map}
 use Rattle.msg_board.specs.declared.law.Slot.{Slot}
 use Rattle.msg_board.specs.declared.law.Slot.TheVariants.{Job, Done}
 use Rattle.msg_board.specs.declared.law.View.{View}
 use Rattle.msg_board.specs.Counts.{times, is_held, HoldsEachOnce}
-use Rattle.msg_board.specs.Law.{holders_at, draws_at, whole, without_one, one_of, united, spent, tried, taken, freed, IsViewOf, IsSlotOf, Holds, Drawing, HandingIn}
+use Rattle.msg_board.specs.Law.{holders_at, draws_at, whole, without_one, one_of, united, spent, tried, taken, freed, IsViewOf, IsSlotOf, Holds, DrawsJob, Drawing, HandingIn}
 use Rattle.msg_board.proofs.Lists.{by_place, there, inside_of, past}
 use Rattle.msg_board.proofs.Sums.{sum_by-set, term_le, terms_le, sole, one_if, one_at, none_at, times-append, times_push}
 
@@ -77,42 +77,65 @@ module _ {J D : Type 0} (lawful : J → D → Type 0) (jobs : List J) (passes : 
     spent_held = λ z. absurd (omega arith);
   }
 
+  -- a draw is allowed where word i becomes n
+  abbrev Draws : St → M → ℕ → ℕ → ℕ → ℕ → Type 0
+  Draws s me slots id i n = (w : View J) × (a : Act (Slot J D)) × Valid s.homes me.1 a × Lawful (stepped s i n id me.1 w a)
+      × Drawing (step slots i 1 0 none) me (get_or s.words i 0) (w, carried_after me.1 a)
+
+  -- A view that holds nothing tries word i, its next
+  module _ (s : St) (r : Lawful s) (id i : ℕ) (v : View J) (at : get_elem? s.views id ≡ some v) (live : 0 < v.weight) (free : v.held ≡ None) (is : v.next ≡ i) (inside : i < length jobs) where
+    near : i < length s.words
+    near = let wide = r.words in omega arith
+
+    -- it finds 0, and takes the job out
+    finds_zero : get_or s.words i 0 ≡ 0 → Lawful record { words = set s.words i 1; homes = set s.homes i none; views = set s.views id (taken i v) }
+    finds_zero zero_there = let long = r.slots in moved s r i 1 id v (taken i v) (set s.homes i none) inside at (omega arith) (λ _. (λ e. omega arith)) (length-set s.homes i none)
+        (λ k ne. set_else s.homes i k none ne)
+        (λ j' is'. record { waiting = λ e. absurd (omega arith); out = λ _. set_here s.homes i none (omega arith); done = λ e. absurd (omega arith) })
+        (tried_more s.words i 1 v (taken i v) (r.each_view id v at) live near inside is (λ e. omega arith) refl refl refl)
+        (by_place s.words i 1 (λ k y. holds_one k (taken i v) + holders_at (get_or s.words k 0) ≡ holds_one k v + holders_at y) near
+        (omega (arith, ap (λ o. one_if (is_held i o)) free, ap holders_at zero_there, one_at i i refl))
+        (λ k ne. omega (arith, ap (λ o. one_if (is_held k o)) free, none_at k i (λ e. ne (sym e)))))
+        (by_place s.words i 1 (λ k y. times k (taken i v).drawn + draws_at (get_or s.words k 0) ≡ times k v.drawn + draws_at y) near
+        (omega (arith, times_push i v.drawn i, ap draws_at zero_there, one_at i i refl))
+        (λ k ne. omega (arith, times_push k v.drawn i, none_at k i (λ e. ne (sym e)))))
+        refl
+
+    -- it finds another number, and leaves it there
+    finds_more : get_or s.words i 0 ≢ 0 → Lawful record { words = set s.words i (get_or s.words i 0); homes = s.homes; views = set s.views id (tried v) }
+    finds_more more = let x = get_or s.words i 0 in moved s r i x id v (tried v) s.homes inside at (r.at_most_two i) (λ _. more) refl (λ k ne. refl)
+        (λ j' is'. r.each_slot i j' is')
+        (tried_more s.words i x v (tried v) (r.each_view id v at) live near inside is more refl refl (ap (λ n. n + 1) is))
+        (by_place s.words i x (λ k y. holds_one k v + holders_at (get_or s.words k 0) ≡ holds_one k v + holders_at y) near refl (λ k ne. refl))
+        (by_place s.words i x (λ k y. times k v.drawn + draws_at (get_or s.words k 0) ≡ times k v.drawn + draws_at y) near refl (λ k ne. refl))
+        refl
+
+  -- what the step tells, where it finds 0 and where it doesn't
+  tells_drawn : (st : Step (Slot J D)) (before after : M) (found : ℕ) → st.word ≡ before.0.next → found ≡ 0 → DrawsJob st.word before after → Drawing st before found after
+  tells_drawn st before after found is hit drawn = (is, (λ _. drawn), λ miss. absurd (miss hit))
+
+  tells_tried : (st : Step (Slot J D)) (before after : M) (found : ℕ) → st.word ≡ before.0.next → found ≢ 0 → after ≡ (tried before.0, []) → Drawing st before found after
+  tells_tried st before after found is miss so = (is, (λ hit. absurd (miss hit)), λ _. so)
+
   -- a draw: `fetch_max` with 1 on the view's next word
   pub draws : (slots id : ℕ) (me : M) (i : ℕ) → me.1 ≡ [] → 0 < me.0.weight → me.0.held ≡ None → me.0.next ≡ i → i < slots
       → Allows Lawful slots id me i (λ n. max n 1) (Drawing (step slots i 1 0 none) me)
-  draws slots id me i empty live free is inside s r deep at small =
-      let x : ℕ = get_or s.words i 0 in let v : View J = me.0 in let d = r.slots in let wd = r.words in
-      let inside' : i < length jobs = omega arith in let near : i < length s.words = omega arith in
-      let knows = r.each_view id v at in let found = there jobs i inside' in let j : J = found.0 in let slot = r.each_slot i j found.1 in
-      let Goal : ℕ → Type 0 = λ n. (w : View J) × (a : Act (Slot J D)) × Valid s.homes me.1 a × Lawful (stepped s i n id me.1 w a) × Drawing (step slots i 1 0 none) me x (w, carried_after me.1 a) in
-      dite (ℕ_discrete x 0)
-      (λ hit. subst Goal (sym (fetched_new x hit)) (
-        taken i v,
-        takes i (Job j),
-        slot.waiting hit,
-        moved s r i 1 id v (taken i v) (set s.homes i none) inside' at (omega arith) (λ _. (λ e. omega arith)) (length-set s.homes i none) (λ k ne. set_else s.homes i k none ne)
-            (λ j' is'. record { waiting = λ e. absurd (omega arith); out = λ _. set_here s.homes i none (omega arith); done = λ e. absurd (omega arith) })
-            (tried_more s.words i 1 v (taken i v) knows live near inside' is (λ e. omega arith) refl refl refl)
-            (by_place s.words i 1 (λ k y. holds_one k (taken i v) + holders_at (get_or s.words k 0) ≡ holds_one k v + holders_at y) near
-            (omega (arith, ap (λ o. one_if (is_held i o)) free, ap holders_at hit, one_at i i refl))
-            (λ k ne. omega (arith, ap (λ o. one_if (is_held k o)) free, none_at k i (λ e. ne (sym e)))))
-            (by_place s.words i 1 (λ k y. times k (taken i v).drawn + draws_at (get_or s.words k 0) ≡ times k v.drawn + draws_at y) near
-            (omega (arith, times_push i v.drawn i, ap draws_at hit, one_at i i refl))
-            (λ k ne. omega (arith, times_push k v.drawn i, none_at k i (λ e. ne (sym e)))))
-            refl,
-        (sym is, (λ _. (j, ap (λ (l : List J). get_elem? l i) (knows.same_jobs live) ∙ found.1, ap (λ (c : List (ℕ × Slot J D)). (taken i v, (i, Job j) ∷ c)) empty)), λ ne. absurd (ne hit)),
+  draws slots id me i empty live free is within s r deep at small =
+      let inside : i < length jobs = omega (arith, r.slots) in let there_is = there jobs i inside in let own = ap (λ (l : List J). get_elem? l i) ((r.each_view id me.0 at).same_jobs live) ∙ there_is.1 in
+      dite (ℕ_discrete (get_or s.words i 0) 0)
+      (λ hit. subst (Draws s me slots id i) (sym (fetched_new (get_or s.words i 0) hit)) (
+        taken i me.0,
+        takes i (Job there_is.0),
+        (r.each_slot i there_is.0 there_is.1).waiting hit,
+        finds_zero s r id i me.0 at live free is inside hit,
+        tells_drawn (step slots i 1 0 none) me _ _ (sym is) hit (there_is.0, own, ap (λ (c : List (ℕ × Slot J D)). (taken i me.0, (i, Job there_is.0) ∷ c)) empty),
       ))
-      (λ miss. subst Goal (sym (fetched_old x miss)) (
-        tried v,
+      (λ miss. subst (Draws s me slots id i) (sym (fetched_old (get_or s.words i 0) miss)) (
+        tried me.0,
         keeps,
         tt,
-        moved s r i x id v (tried v) s.homes inside' at (r.at_most_two i) (λ _. miss) refl (λ k ne. refl)
-            (λ j' is'. r.each_slot i j' is')
-            (tried_more s.words i x v (tried v) knows live near inside' is miss refl refl (ap (λ n. n + 1) is))
-            (by_place s.words i x (λ k y. holds_one k v + holders_at (get_or s.words k 0) ≡ holds_one k v + holders_at y) near refl (λ k ne. refl))
-            (by_place s.words i x (λ k y. times k v.drawn + draws_at (get_or s.words k 0) ≡ times k v.drawn + draws_at y) near refl (λ k ne. refl))
-            refl,
-        (sym is, (λ hit. absurd (miss hit)), λ _. ap (λ (c : List (ℕ × Slot J D)). (tried v, c)) empty),
+        finds_more s r id i me.0 at live free is inside miss,
+        tells_tried (step slots i 1 0 none) me _ _ (sym is) miss (ap (λ (c : List (ℕ × Slot J D)). (tried me.0, c)) empty),
       ))
 
   -- a word whose number is held is 1
@@ -255,8 +278,8 @@ module _ {J D : Type 0} (lawful : J → D → Type 0) (jobs : List J) (passes : 
   }
 
   -- each slot has a lawful result of its job
-  abbrev Outcome : List (Slot J D) → Type 0
-  Outcome xs = (length xs ≡ length jobs) × ((k : ℕ) (j : J) → get_elem? jobs k ≡ some j → (d : D) × (get_elem? xs k ≡ some (Done d)) × lawful j d)
+  abbrev AllDone : List (Slot J D) → Type 0
+  AllDone xs = (length xs ≡ length jobs) × ((k : ℕ) (j : J) → get_elem? jobs k ≡ some j → (d : D) × (get_elem? xs k ≡ some (Done d)) × lawful j d)
 
   word_two : (w : ℕ) → w ≤ 2 → w ≢ 0 → w ≢ 1 → w ≡ 2
   word_two w h a b = omega arith
@@ -267,7 +290,7 @@ module _ {J D : Type 0} (lawful : J → D → Type 0) (jobs : List J) (passes : 
 
   -- the last seat stands for all passes, has tried every word and holds nothing: every result is in, and it drew each number once
   pub closes : (id : ℕ) (v : View J) (ws : List ℕ) (xs : List (Slot J D)) → Final (Seen Lawful id v) ws xs → v.weight ≡ passes → 0 < passes → v.next ≡ length jobs → v.held ≡ None
-      → Outcome xs × HoldsEachOnce (length jobs) v.drawn
+      → AllDone xs × HoldsEachOnce (length jobs) v.drawn
   closes id v ws xs f all some-pass done free =
       let s = f.0 in let r = f.1.0 in let at = f.1.1 in let live : 0 < v.weight = omega arith in let knows = r.each_view id v at in
       let others : (k : ℕ) (u : View J) → k ≢ id → get_elem? s.views k ≡ some u → u.weight ≡ 0 = λ k u ne there. omega (arith, terms_le (λ u. u.weight) s.views id k v u ne at there, r.weights) in

@@ -1,10 +1,9 @@
 use Rattle.std.proofs.Common.{◌≡◌, sym, ◌∙◌, arith, subst, length, None}
 use Rattle.std.proofs.lemmas.List.Elements.{All-weaker}
 use Rattle.std.proofs.lemmas.Result.{IfOk-weaker}
-use mathlib.Core.Option.{some-injective}
 use Rattle.msg_board.specs.Board.{jobs_of, passes_of, HasEnded}
 use Rattle.msg_board.specs.Counts.{HoldsEachOnce}
-use Rattle.msg_board.proofs.Lists.{there, get_there}
+use Rattle.msg_board.proofs.Lists.{there, get_there, one_value}
 use Rattle.msg_board.proofs.Steps.{closes}
 use Rattle.msg_board.proofs.Passing.{done_same, all_handed_in}
 use Rattle.msg_board.proofs.board.Board.close.Goals as goal
@@ -20,7 +19,7 @@ returns-clause-lawful g c = let b = c.args.self in let seat = c.gather-seat.ensu
     IfOk-weaker c.results_of.result _ _ (λ results taken. record {
       as_many = taken.as_many ∙ (counts ∙ slots);
       each = λ k j d at gives. let t = closed.0.1 k j (get_there (jobs_of b) k j at) in
-          subst (g.W.Work.lawful j) (done_same t.0 d (some-injective _ _ (sym t.1 ∙ taken.each k d gives))) t.2;
+          subst (g.W.Work.lawful j) (done_same t.0 d (one_value _ _ _ t.1 (taken.each k d gives))) t.2;
     }) c.results_of.ensures
 
 pub returns-clause-drawn_once : goal.returns-clause-drawn_once
