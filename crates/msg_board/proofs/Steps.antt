@@ -5,7 +5,7 @@ use Rattle.std.proofs.lemmas.List.Sums.{sum_by-append}
 use mathlib.Core.Logic.{dite}
 use mathlib.Core.Option.{none, some, some-injective, some-ne-none}
 use mathlib.Core.Option as maybe
-use native.Mathlib.Decide.{ℕ_discrete}
+use native.Mathlib.Decide.{ℕ_discrete, dec_le}
 use lib.ListN.{get_elem?, length-map}
 use Rattle.atomic_table.specs.Table.{State, Me, Step, step, Act, keeps, takes, gives, Valid, carried_after, stepped, Allows, Splits, Joins, Final, Seen, opening}
 use Rattle.atomic_table.proofs.Lists.{at_set, set_here, set_else, at_snoc, at_map}
@@ -13,7 +13,7 @@ use Rattle.msg_board.specs.declared.law.Slot.{Slot}
 use Rattle.msg_board.specs.declared.law.Slot.TheVariants.{Job, Done}
 use Rattle.msg_board.specs.declared.law.View.{View}
 use Rattle.msg_board.specs.Counts.{times, is_held, HoldsEachOnce}
-use Rattle.msg_board.specs.Law.{holders_at, draws_at, whole, without_one, one_of, united, spent, tried, taken, freed, IsViewOf, IsSlotOf, Holds, DrawsJob, Drawing, HandingIn}
+use Rattle.msg_board.specs.Law.{holders_at, draws_at, whole, without_one, one_of, united, spent, tried, taken, freed, IsViewOf, IsSlotOf, Holds, IsHeldAlone, DrawsJob, Drawing, HandingIn}
 use Rattle.msg_board.proofs.Lists.{by_place, there, inside_of, past}
 use Rattle.msg_board.proofs.Sums.{sum_by-set, term_le, terms_le, sole, one_if, one_at, none_at, times-append, times_push}
 
@@ -143,6 +143,27 @@ module _ {J D : Type 0} (lawful : J → D → Type 0) (jobs : List J) (passes : 
   held_is_one zero h = absurd (omega arith)
   held_is_one (suc zero) h = refl
   held_is_one (suc (suc w)) h = absurd (omega arith)
+
+  -- a number that a view holds is held by no other, and its slot is out
+  pub held_alone : (s : St) (k : ℕ) → Lawful s → IsHeldAlone s k
+  held_alone s k r = let one : (by : ℕ) (v : View J) → get_elem? s.views by ≡ some v → v.held ≡ Some k → get_or s.words k 0 ≡ 1 = λ by v at has.
+      held_is_one (get_or s.words k 0) (omega (arith, term_le (holds_one k) s.views by v at, r.held k, ap (λ o. one_if (is_held k o)) has, one_at k k refl)) in
+      record {
+        by_one = λ by other v w at there_is has also. dite (ℕ_discrete by other) (λ same. same) (λ apart. absurd (omega (
+          arith,
+          terms_le (holds_one k) s.views by other v w (λ e. apart (sym e)) at there_is,
+          r.held k,
+          ap holders_at (one by v at has),
+          ap (λ o. one_if (is_held k o)) has,
+          ap (λ o. one_if (is_held k o)) also,
+          one_at k k refl,
+        )));
+        slot_out = λ by v at has. let is_one = one by v at has in let wide = r.words in
+            let inside : k < length jobs = dite (dec_le (length jobs) k)
+            (λ far. absurd (dite (ℕ_discrete k (length jobs)) (λ e. omega (arith, r.further, ap (λ (n : ℕ). get_or s.words n 0) e)) (λ ne. omega (arith, past s.words k (omega arith)))))
+            (λ near. omega arith) in
+            let job = there jobs k inside in (r.each_slot k job.0 job.1).out is_one;
+      }
 
   -- a hand-in: a store of 2 on the word of the number that is held
   hands_in : (slots id : ℕ) (v : View J) (k : ℕ) (j : J) (d : D) → 0 < v.weight → v.held ≡ Some k → get_elem? v.jobs k ≡ some j → lawful j d

@@ -82,6 +82,15 @@ module _ {J D : Type 0} (lawful : J → D → Type 0) where
     -- the views' weights add up to the number of passes
     pub weights : sum_by (λ v. v.weight) s.views ≡ passes
 
+module _ {J D : Type 0} where
+  -- What follows for a number k that a view holds: no other view holds it, and its slot is out.
+  -- So while a pass holds a number, nobody else reaches the job or the result in its slot
+  pub record IsHeldAlone (s : State (Slot J D) (View J)) (k : ℕ) : Type 0 where
+    pub by_one : (by other : ℕ) (v w : View J) → get_elem? s.views by ≡ some v
+        → get_elem? s.views other ≡ some w → v.held ≡ Some k → w.held ≡ Some k → by ≡ other
+    pub slot_out : (by : ℕ) (v : View J) → get_elem? s.views by ≡ some v → v.held ≡ Some k
+        → get_elem? s.homes k ≡ some none
+
 -- The views that the steps make
 
 module _ {J : Type 0} where

@@ -11,6 +11,7 @@
 #![tactic(auto)]
 
 mod board;
+mod exclusion;
 mod law;
 mod pass;
 mod slots;
