@@ -66,7 +66,7 @@ impl<W: Work, A: Allocator + Copy> Board<W, A> {
         ensures as_many { IfOk result (λ all. length all.items ≡ passes) }
         ensures fresh { IfOk result (λ all. All (IsNew self.now) all.items) }
     {
-        let mut all = Vec::new(alloc);
+        let mut all = Vec::with_capacity(alloc, passes as usize)?;
         let mut left = passes;
         while left > 1 {
             let one = self.table.shared.split_seat::<Divide>(&mut seat);

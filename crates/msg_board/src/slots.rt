@@ -17,7 +17,7 @@ pub(crate) fn slots_of<J: Drop, D: Drop, A: Allocator>(
 ) -> Result<Vec<Slot<J, D>, A>, NoMemory>
     ensures { IfOk result (λ slots. slots.items ≡ map Job jobs.items) }
 {
-    let mut slots = Vec::new(alloc);
+    let mut slots = Vec::with_capacity(alloc, jobs.len())?;
     for job in jobs {
         slots.push(Slot::Job(job))?;
     }
