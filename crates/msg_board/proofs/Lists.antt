@@ -11,7 +11,8 @@ use native.Mathlib.Decide.{ℕ_discrete}
 use lib.ListN.{get_elem?}
 
 -- a fact of each place holds after one word has changed, if it holds of the new word and held of the others
-pub by_place : (ws : List ℕ) (i n : ℕ) (P : ℕ → ℕ → Type 0) → i < length ws → P i n → ((k : ℕ) → k ≢ i → P k (get_or ws k 0)) → (k : ℕ) → P k (get_or (set ws i n) k 0)
+pub by_place : (ws : List ℕ) (i n : ℕ) (P : ℕ → ℕ → Type 0) → i < length ws → P i n
+    → ((k : ℕ) → k ≢ i → P k (get_or ws k 0)) → (k : ℕ) → P k (get_or (set ws i n) k 0)
 by_place ws i n P inside here others k = dite (ℕ_discrete k i)
     (λ e. subst (λ (x : ℕ). P x (get_or (set ws i n) x 0)) (sym e) (subst (P i) (sym (get_or-set_same ws i n 0 inside)) here))
     (λ ne. subst (P k) (sym (get_or-set_other ws i k n 0 ne)) (others k ne))
@@ -57,7 +58,8 @@ get_there {A = A} (x ∷ xs) zero a e = ap (λ (o : Option A). some (elim o as (
 get_there (x ∷ xs) (suc i) a e = get_there xs i a e
 
 -- an element of a list with one more at its end is an old one or that one
-get_snoc : {A : Type 0} (l : List A) (a b : A) (k : ℕ) → slice_get (l ++ a ∷ []) k ≡ Some b → (slice_get l k ≡ Some b) ⊎ ((k ≡ length l) × (a ≡ b))
+get_snoc : {A : Type 0} (l : List A) (a b : A) (k : ℕ) → slice_get (l ++ a ∷ []) k ≡ Some b
+    → (slice_get l k ≡ Some b) ⊎ ((k ≡ length l) × (a ≡ b))
 get_snoc {A = A} [] a b zero e = inr (refl, ap (λ (o : Option A). elim o as (λ _. A) [ Some y ↦ y | None ↦ a ]) e)
 get_snoc [] a b (suc k) e = absurd (cc)
 get_snoc (x ∷ xs) a b zero e = inl e
@@ -71,7 +73,8 @@ All-split_last P xs x all = (
 )
 
 -- a fact of each place holds after a push, if it holds of what was pushed
-pub each_pushed : {A : Type 0} (P : ℕ → A → Type 0) (l now : List A) (a : A) (n : ℕ) → now ≡ l ++ a ∷ [] → length l ≡ n → P n a
+pub each_pushed : {A : Type 0} (P : ℕ → A → Type 0) (l now : List A) (a : A) (n : ℕ) → now ≡ l ++ a ∷ []
+    → length l ≡ n → P n a
     → ((k : ℕ) (b : A) → slice_get l k ≡ Some b → P k b) → (k : ℕ) (b : A) → slice_get now k ≡ Some b → P k b
 each_pushed P l now a n is long last others k b at = ⊎_elim (λ t. others k b t)
     (λ t. subst (P k) t.1 (subst (λ (m : ℕ). P m a) (sym (t.0 ∙ long)) last)) (get_snoc l a b k (ap (λ m. slice_get m k) (sym is) ∙ at))
@@ -83,6 +86,7 @@ set_false (x ∷ xs) zero = refl
 set_false (x ∷ xs) (suc i) = set_false xs i
 
 -- where the places below i are false, and place i is set to false, so are those below i + 1
-pub false_below : (l now : List Bool) (i : ℕ) → now ≡ set l i false → ((k : ℕ) → k < i → get_or l k false ≡ false) → (k : ℕ) → k < i + 1 → get_or now k false ≡ false
+pub false_below : (l now : List Bool) (i : ℕ) → now ≡ set l i false
+    → ((k : ℕ) → k < i → get_or l k false ≡ false) → (k : ℕ) → k < i + 1 → get_or now k false ≡ false
 false_below l now i is below k h = ap (λ m. get_or m k false) is ∙ dite (ℕ_discrete k i) (λ e. ap (λ n. get_or (set l i false) n false) e ∙ set_false l i)
     (λ ne. get_or-set_other l i k false false ne ∙ below k (omega arith))

@@ -34,7 +34,8 @@ filter_all p [] all = refl
 filter_all p (x ∷ xs) all = ap (λ b. cond b (x ∷ filter p xs) (filter p xs)) (All-head (λ x. p x ≡ true) x xs all) ∙ ap (λ l. x ∷ l) (filter_all p xs (All-tail (λ x. p x ≡ true) x xs all))
 
 -- what was handed in and then the number that is held is what was drawn
-handed_in_and_held : (earlier : List ℕ) (k : ℕ) → All (λ n. n < k) earlier → earlier ++ k ∷ [] ≡ filter (λ n. not (is_held n (Some k))) (earlier ++ k ∷ []) ++ k ∷ []
+handed_in_and_held : (earlier : List ℕ) (k : ℕ) → All (λ n. n < k) earlier
+    → earlier ++ k ∷ [] ≡ filter (λ n. not (is_held n (Some k))) (earlier ++ k ∷ []) ++ k ∷ []
 handed_in_and_held earlier k below = let other : ℕ → Bool = λ n. not (is_held n (Some k)) in
     let kept : filter other earlier ≡ earlier = filter_all other earlier (All-weaker (λ n. n < k) (λ n. other n ≡ true) (λ n l. ap not (ne_eqb k n (λ e. omega arith))) earlier below) in
     let gone : filter other (k ∷ []) ≡ [] = ap (λ b. cond (not b) (k ∷ []) []) (eq-eqb k k refl) in
@@ -60,7 +61,9 @@ module _ {J D : Type 0} where
   job_or d (x ∷ xs) = elim (x.1) as (λ _. J) [ Empty ↦ d | Job j ↦ j | Done e ↦ d ]
 
   -- equal jobs lie in equal slots that are out
-  pub job_same : (k : ℕ) (i j : J) → (let xs : List (ℕ × Slot J D) = (k, Job i) ∷ [] in let ys : List (ℕ × Slot J D) = (k, Job j) ∷ [] in xs ≡ ys) → i ≡ j
+  pub job_same : (k : ℕ) (i j : J)
+      → (let xs : List (ℕ × Slot J D) = (k, Job i) ∷ [] in let ys : List (ℕ × Slot J D) = (k, Job j) ∷ [] in xs ≡ ys)
+      → i ≡ j
   unfolding job_or
   job_same k i j e = ap (job_or i) e
 
@@ -96,7 +99,8 @@ module _ {J D : Type 0} where
     }
 
     -- and this is what it drew
-    drew_from : (jobs : List J) (job : J) → p.seat.me.0.jobs ≡ jobs → p.next < length jobs → get_elem? p.seat.me.0.jobs p.next ≡ some j → drawn.me.1 ≡ (p.next, Job job) ∷ []
+    drew_from : (jobs : List J) (job : J) → p.seat.me.0.jobs ≡ jobs → p.next < length jobs
+        → get_elem? p.seat.me.0.jobs p.next ≡ some j → drawn.me.1 ≡ (p.next, Job job) ∷ []
         → Drew jobs (state_of p) (state_of drew_pass) p.next job
     drew_from jobs job own more at was = let order = sound.order in
         let same : job ≡ j = job_same p.next job j (sym was ∙ ap (λ (m : Me (Slot J D) (View J)). m.1) told) in record {
@@ -110,7 +114,8 @@ module _ {J D : Type 0} where
           unfinished = not_true p.finished (λ done. absurd (omega (arith, order.all_tried done, ap (λ (l : List J). length l) own)));
         }
 
-    pub drew_said : (before : PassState J) (jobs : List J) (job : J) → state_of p ≡ before → before.jobs ≡ jobs → before.tried < length jobs → get_elem? p.seat.me.0.jobs p.next ≡ some j
+    pub drew_said : (before : PassState J) (jobs : List J) (job : J) → state_of p ≡ before → before.jobs ≡ jobs
+        → before.tried < length jobs → get_elem? p.seat.me.0.jobs p.next ≡ some j
         → drawn.me.1 ≡ (p.next, Job job) ∷ [] → Drew jobs before (state_of drew_pass) before.tried job
     drew_said before jobs job is own more at was = subst (λ (q : PassState J). Drew jobs q (state_of drew_pass) q.tried job) is
         (drew_from jobs job (ap (λ (q : PassState J). q.jobs) is ∙ own) (omega (arith, ap (λ (q : PassState J). q.tried) is)) at was)
@@ -156,20 +161,25 @@ module _ {J D : Type 0} where
           finished = refl;
         }
 
-    pub handed_said : (before : PassState J) → state_of p ≡ before → before.holding ≡ Some k → HandedIn before (state_of handed_pass) k
+    pub handed_said : (before : PassState J) → state_of p ≡ before → before.holding ≡ Some k
+        → HandedIn before (state_of handed_pass) k
     handed_said before is has = subst (λ (q : PassState J). HandedIn q (state_of handed_pass) k) is (handed_from (ap (λ (q : PassState J). q.holding) is ∙ has))
 
 -- a pass holds a number below the number of jobs
-pub held_within : {J D : Type 0} (p : Inside J D) (k : ℕ) → IsSound p → p.held ≡ Some k → k < length p.seat.me.0.jobs
+pub held_within : {J D : Type 0} (p : Inside J D) (k : ℕ) → IsSound p → p.held ≡ Some k
+    → k < length p.seat.me.0.jobs
 held_within p k sound has = let last = sound.order.last k has in
-    let l : k < p.next = (All-split_last (λ n. n < p.next) last.0 k (subst (All (λ n. n < p.next)) last.1 sound.order.below)).1 in let within = sound.order.within in omega arith
+    let l : k < p.next = (All-split_last (λ n. n < p.next) last.0 k (subst (All (λ n. n < p.next)) last.1 sound.order.below)).1 in
+    let within = sound.order.within in omega arith
 
 -- a pass that has a number left to try isn't finished
-pub unfinished_more : {J D : Type 0} (p : Inside J D) (q : PassState J) → IsSound p → state_of p ≡ q → q.tried < length q.jobs → q.finished ≡ false
+pub unfinished_more : {J D : Type 0} (p : Inside J D) (q : PassState J) → IsSound p → state_of p ≡ q
+    → q.tried < length q.jobs → q.finished ≡ false
 unfinished_more p q sound is more = not_true q.finished (λ done. absurd (omega (arith, sound.order.all_tried (ap (λ q. q.finished) is ∙ done), ap (λ q. q.tried) is, ap (λ q. length q.jobs) is)))
 
 -- passes that have ended have handed in all that they drew
-pub all_handed_in : {J : Type 0} (ps : List (PassState J)) → All (λ p. p.holding ≡ None) ps → flat_map handed_in ps ≡ flat_map (λ p. p.drawn) ps
+pub all_handed_in : {J : Type 0} (ps : List (PassState J)) → All (λ p. p.holding ≡ None) ps
+    → flat_map handed_in ps ≡ flat_map (λ p. p.drawn) ps
 all_handed_in [] all = refl
 all_handed_in {J = J} (p ∷ ps) all = let idle : PassState J → Type 0 = λ p. p.holding ≡ None in
     ap (λ l. l ++ flat_map handed_in ps) (handed_in-idle p (All-head idle p ps all)) ∙ ap (λ l. p.drawn ++ l) (all_handed_in ps (All-tail idle p ps all))
@@ -188,26 +198,32 @@ module _ {W A J D : Type 0} where
     pub live : 0 < seat.me.0.weight
     pub next : seat.me.0.next ≡ length (jobs_of b)
     pub held : seat.me.0.held ≡ None
-    pub drawn : (k : ℕ) → times k seat.me.0.drawn + times k (flat_map (λ p. p.drawn) ps) ≡ times k (flat_map (λ p. p.drawn) all)
+    pub drawn : (k : ℕ)
+        → times k seat.me.0.drawn + times k (flat_map (λ p. p.drawn) ps) ≡ times k (flat_map (λ p. p.drawn) all)
     pub ended : All (HasEnded b) ps
 
   -- the last pass's seat comes first
-  pub gathers_first : (b : Board W A J D) (all ps : List (PassState J)) (p : PassState J) (seat : Seat (Slot J D) (View J)) → All (HasEnded b) all → all ≡ ps ++ p ∷ []
+  pub gathers_first : (b : Board W A J D) (all ps : List (PassState J)) (p : PassState J) (seat : Seat (Slot J D) (View J))
+      → All (HasEnded b) all → all ≡ ps ++ p ∷ []
       → IsSeatOf p seat → (p.finished ≡ true → p.tried ≡ length p.jobs) → Gathering b all ps seat
-  gathers_first b all ps p seat every is of all_tried = let parts = All-split_last (HasEnded b) ps p (subst (All (HasEnded b)) is every) in let weight = of.weight in record {
-    table = of.table ∙ parts.1.own.table;
-    count = omega (arith, ap (λ (l : List (PassState J)). length l) is, length-append ps (p ∷ []));
-    live = omega arith;
-    next = of.next ∙ (all_tried parts.1.finished ∙ ap (λ (l : List J). length l) parts.1.own.jobs);
-    held = of.held ∙ parts.1.idle;
-    drawn = λ k. omega (arith, ap (times k) of.drawn, times_more k all ps p is);
-    ended = parts.0;
-  }
+  gathers_first b all ps p seat every is of all_tried = let parts = All-split_last (HasEnded b) ps p (subst (All (HasEnded b)) is every) in
+      let weight = of.weight in record {
+        table = of.table ∙ parts.1.own.table;
+        count = omega (arith, ap (λ (l : List (PassState J)). length l) is, length-append ps (p ∷ []));
+        live = omega arith;
+        next = of.next ∙ (all_tried parts.1.finished ∙ ap (λ (l : List J). length l) parts.1.own.jobs);
+        held = of.held ∙ parts.1.idle;
+        drawn = λ k. omega (arith, ap (times k) of.drawn, times_more k all ps p is);
+        ended = parts.0;
+      }
 
   -- and takes in the others, one by one
-  pub gathers : (b : Board W A J D) (all qs ps : List (PassState J)) (p : PassState J) (seat other next : Seat (Slot J D) (View J)) → Gathering b all qs seat → qs ≡ ps ++ p ∷ [] → IsSeatOf p other
-      → next.table_id ≡ seat.table_id → next.me ≡ (united seat.me.0 other.me.0, seat.me.1) → Gathering b all ps next
-  gathers b all qs ps p seat other next before is of here now = let parts = All-split_last (HasEnded b) ps p (subst (All (HasEnded b)) is before.ended) in let weight = of.weight in let live = before.live in
+  pub gathers : (b : Board W A J D) (all qs ps : List (PassState J)) (p : PassState J) (seat other next : Seat (Slot J D) (View J))
+      → Gathering b all qs seat → qs ≡ ps ++ p ∷ [] → IsSeatOf p other
+      → next.table_id ≡ seat.table_id → next.me ≡ (united seat.me.0 other.me.0, seat.me.1)
+      → Gathering b all ps next
+  gathers b all qs ps p seat other next before is of here now = let parts = All-split_last (HasEnded b) ps p (subst (All (HasEnded b)) is before.ended) in
+      let weight = of.weight in let live = before.live in
       let sum : next.me.0.weight ≡ seat.me.0.weight + other.me.0.weight = ap (λ (m : Me (Slot J D) (View J)). m.0.weight) now in record {
         table = here ∙ before.table;
         count = omega (arith, before.count, ap (λ (l : List (PassState J)). length l) is, length-append ps (p ∷ []));
@@ -219,7 +235,8 @@ module _ {W A J D : Type 0} where
       }
 
   -- until there are none left
-  pub gathered : (b : Board W A J D) (all ps : List (PassState J)) (seat : Seat (Slot J D) (View J)) → Gathering b all ps seat → ps ≡ [] → IsGathered b all seat
+  pub gathered : (b : Board W A J D) (all ps : List (PassState J)) (seat : Seat (Slot J D) (View J))
+      → Gathering b all ps seat → ps ≡ [] → IsGathered b all seat
   gathered b all ps seat done none = record {
     table = done.table;
     weight = omega (arith, done.count, ap (λ (l : List (PassState J)). length l) none);

@@ -32,9 +32,12 @@ module _ {J D : Type 0} (lawful : J → D → Type 0) (jobs : List J) (passes : 
   holds_one k v = one_if (is_held k v.held)
 
   -- the law is kept where word i becomes n, view v becomes w, and no slot but i changes
-  moved : (s : St) (r : Lawful s) (i n id : ℕ) (v w : View J) (homes : List (maybe.Option (Slot J D))) → i < length jobs → get_elem? s.views id ≡ some v
-      → n ≤ 2 → (get_or s.words i 0 ≢ 0 → n ≢ 0) → length homes ≡ length s.homes → ((k : ℕ) → k ≢ i → get_elem? homes k ≡ get_elem? s.homes k)
-      → ((j : J) → get_elem? jobs i ≡ some j → IsSlotOf lawful j n (get_elem? homes i)) → IsViewOf jobs (set s.words i n) w
+  moved : (s : St) (r : Lawful s) (i n id : ℕ) (v w : View J) (homes : List (maybe.Option (Slot J D)))
+      → i < length jobs → get_elem? s.views id ≡ some v
+      → n ≤ 2 → (get_or s.words i 0 ≢ 0 → n ≢ 0) → length homes ≡ length s.homes
+      → ((k : ℕ) → k ≢ i → get_elem? homes k ≡ get_elem? s.homes k)
+      → ((j : J) → get_elem? jobs i ≡ some j → IsSlotOf lawful j n (get_elem? homes i))
+      → IsViewOf jobs (set s.words i n) w
       → ((k : ℕ) → holds_one k w + holders_at (get_or s.words k 0) ≡ holds_one k v + holders_at (get_or (set s.words i n) k 0))
       → ((k : ℕ) → times k w.drawn + draws_at (get_or s.words k 0) ≡ times k v.drawn + draws_at (get_or (set s.words i n) k 0))
       → w.weight ≡ v.weight → Lawful record { words = set s.words i n; homes = homes; views = set s.views id w }
@@ -67,7 +70,8 @@ module _ {J D : Type 0} (lawful : J → D → Type 0) (jobs : List J) (passes : 
   fetched_old x n = omega arith
 
   -- a view that has tried one word more is right once that word i is above 0
-  tried_more : (ws : List ℕ) (i n : ℕ) (v w : View J) → IsViewOf jobs ws v → 0 < v.weight → i < length ws → i < length jobs → v.next ≡ i → n ≢ 0 → w.jobs ≡ v.jobs → w.weight ≡ v.weight → w.next ≡ i + 1
+  tried_more : (ws : List ℕ) (i n : ℕ) (v w : View J) → IsViewOf jobs ws v → 0 < v.weight → i < length ws
+      → i < length jobs → v.next ≡ i → n ≢ 0 → w.jobs ≡ v.jobs → w.weight ≡ v.weight → w.next ≡ i + 1
       → IsViewOf jobs (set ws i n) w
   tried_more ws i n v w old live near inside is rises same_jobs weigh next = record {
     same_jobs = λ _. same_jobs ∙ old.same_jobs live;
@@ -88,7 +92,8 @@ module _ {J D : Type 0} (lawful : J → D → Type 0) (jobs : List J) (passes : 
     near = let wide = r.words in omega arith
 
     -- it finds 0, and takes the job out
-    finds_zero : get_or s.words i 0 ≡ 0 → Lawful record { words = set s.words i 1; homes = set s.homes i none; views = set s.views id (taken i v) }
+    finds_zero : get_or s.words i 0 ≡ 0
+        → Lawful record { words = set s.words i 1; homes = set s.homes i none; views = set s.views id (taken i v) }
     finds_zero zero_there = let long = r.slots in moved s r i 1 id v (taken i v) (set s.homes i none) inside at (omega arith) (λ _. (λ e. omega arith)) (length-set s.homes i none)
         (λ k ne. set_else s.homes i k none ne)
         (λ j' is'. record { waiting = λ e. absurd (omega arith); out = λ _. set_here s.homes i none (omega arith); done = λ e. absurd (omega arith) })
@@ -102,7 +107,8 @@ module _ {J D : Type 0} (lawful : J → D → Type 0) (jobs : List J) (passes : 
         refl
 
     -- it finds another number, and leaves it there
-    finds_more : get_or s.words i 0 ≢ 0 → Lawful record { words = set s.words i (get_or s.words i 0); homes = s.homes; views = set s.views id (tried v) }
+    finds_more : get_or s.words i 0 ≢ 0
+        → Lawful record { words = set s.words i (get_or s.words i 0); homes = s.homes; views = set s.views id (tried v) }
     finds_more more = let x = get_or s.words i 0 in moved s r i x id v (tried v) s.homes inside at (r.at_most_two i) (λ _. more) refl (λ k ne. refl)
         (λ j' is'. r.each_slot i j' is')
         (tried_more s.words i x v (tried v) (r.each_view id v at) live near inside is more refl refl (ap (λ n. n + 1) is))
@@ -111,17 +117,21 @@ module _ {J D : Type 0} (lawful : J → D → Type 0) (jobs : List J) (passes : 
         refl
 
   -- what the step tells, where it finds 0 and where it doesn't
-  tells_drawn : (st : Step (Slot J D)) (before after : M) (found : ℕ) → st.word ≡ before.0.next → found ≡ 0 → DrawsJob st.word before after → Drawing st before found after
+  tells_drawn : (st : Step (Slot J D)) (before after : M) (found : ℕ) → st.word ≡ before.0.next → found ≡ 0
+      → DrawsJob st.word before after → Drawing st before found after
   tells_drawn st before after found is hit drawn = (is, (λ _. drawn), λ miss. absurd (miss hit))
 
-  tells_tried : (st : Step (Slot J D)) (before after : M) (found : ℕ) → st.word ≡ before.0.next → found ≢ 0 → after ≡ (tried before.0, []) → Drawing st before found after
+  tells_tried : (st : Step (Slot J D)) (before after : M) (found : ℕ) → st.word ≡ before.0.next → found ≢ 0
+      → after ≡ (tried before.0, []) → Drawing st before found after
   tells_tried st before after found is miss so = (is, (λ hit. absurd (miss hit)), λ _. so)
 
   -- a draw: `fetch_max` with 1 on the view's next word
-  pub draws : (slots id : ℕ) (me : M) (i : ℕ) → me.1 ≡ [] → 0 < me.0.weight → me.0.held ≡ None → me.0.next ≡ i → i < slots
+  pub draws : (slots id : ℕ) (me : M) (i : ℕ) → me.1 ≡ [] → 0 < me.0.weight → me.0.held ≡ None → me.0.next ≡ i
+      → i < slots
       → Allows Lawful slots id me i (λ n. max n 1) (Drawing (step slots i 1 0 none) me)
   draws slots id me i empty live free is within s r deep at small =
-      let inside : i < length jobs = omega (arith, r.slots) in let there_is = there jobs i inside in let own = ap (λ (l : List J). get_elem? l i) ((r.each_view id me.0 at).same_jobs live) ∙ there_is.1 in
+      let inside : i < length jobs = omega (arith, r.slots) in let there_is = there jobs i inside in
+      let own = ap (λ (l : List J). get_elem? l i) ((r.each_view id me.0 at).same_jobs live) ∙ there_is.1 in
       dite (ℕ_discrete (get_or s.words i 0) 0)
       (λ hit. subst (Draws s me slots id i) (sym (fetched_new (get_or s.words i 0) hit)) (
         taken i me.0,
@@ -166,10 +176,12 @@ module _ {J D : Type 0} (lawful : J → D → Type 0) (jobs : List J) (passes : 
       }
 
   -- a hand-in: a store of 2 on the word of the number that is held
-  hands_in : (slots id : ℕ) (v : View J) (k : ℕ) (j : J) (d : D) → 0 < v.weight → v.held ≡ Some k → get_elem? v.jobs k ≡ some j → lawful j d
+  hands_in : (slots id : ℕ) (v : View J) (k : ℕ) (j : J) (d : D) → 0 < v.weight → v.held ≡ Some k
+      → get_elem? v.jobs k ≡ some j → lawful j d
       → Allows Lawful slots id (v, (k, Done d) ∷ []) k (λ _. 2) (λ _. HandingIn (step slots k 2 0 none) (v, (k, Done d) ∷ []) 2)
   hands_in slots id v k j d live has is fair s r deep at small =
-      let knows = r.each_view id v at in let is' : get_elem? jobs k ≡ some j = ap (λ (l : List J). get_elem? l k) (sym (knows.same_jobs live)) ∙ is in
+      let knows = r.each_view id v at in
+      let is' : get_elem? jobs k ≡ some j = ap (λ (l : List J). get_elem? l k) (sym (knows.same_jobs live)) ∙ is in
       let inside = inside_of jobs k j is' in let wide = r.words in let long = r.slots in
       let near : k < length s.words = omega arith in
       let one : get_or s.words k 0 ≡ 1 = held_is_one (get_or s.words k 0) (omega (arith, term_le (holds_one k) s.views id v at, r.held k, ap (λ o. one_if (is_held k o)) has, one_at k k refl)) in (
@@ -200,7 +212,8 @@ module _ {J D : Type 0} (lawful : J → D → Type 0) (jobs : List J) (passes : 
       )
 
   -- the same, for a seat that is known by an equation
-  pub hands_in_at : (slots id : ℕ) (m : M) (v : View J) (k : ℕ) (j : J) (d : D) → m ≡ (v, (k, Done d) ∷ []) → 0 < v.weight → v.held ≡ Some k → get_elem? v.jobs k ≡ some j → lawful j d
+  pub hands_in_at : (slots id : ℕ) (m : M) (v : View J) (k : ℕ) (j : J) (d : D) → m ≡ (v, (k, Done d) ∷ [])
+      → 0 < v.weight → v.held ≡ Some k → get_elem? v.jobs k ≡ some j → lawful j d
       → Allows Lawful slots id m k (λ _. 2) (λ _. HandingIn (step slots k 2 0 none) m 2)
   hands_in_at slots id m v k j d e live has is fair = subst (λ (x : M). Allows Lawful slots id x k (λ _. 2) (λ _. HandingIn (step slots k 2 0 none) x 2)) (sym e) (hands_in slots id v k j d live has is fair)
 
@@ -240,7 +253,8 @@ module _ {J D : Type 0} (lawful : J → D → Type 0) (jobs : List J) (passes : 
       }
 
   -- a seat takes in another, which holds nothing
-  pub unites : (id : ℕ) (v : View J) (other : ℕ) (w : View J) → 0 < v.weight → w.held ≡ None → Joins Lawful id v other w (united v w) spent
+  pub unites : (id : ℕ) (v : View J) (other : ℕ) (w : View J) → 0 < v.weight → w.held ≡ None
+      → Joins Lawful id v other w (united v w) spent
   unites id v other w live free s r at apart them =
       let old = r.each_view id v at in let vs : List (View J) = set s.views id (united v w) in
       let both : (g : View J → ℕ) → sum_by g (set vs other spent) + g w + g v ≡ sum_by g s.views + g (united v w) + g spent
@@ -275,7 +289,9 @@ module _ {J D : Type 0} (lawful : J → D → Type 0) (jobs : List J) (passes : 
       }
 
   -- the table at the start, with words of 0 and the jobs in its slots
-  pub starts : (ws : List ℕ) (xs : List (Slot J D)) → length ws ≡ length jobs + 1 → ((k : ℕ) → get_or ws k 0 ≡ 0) → xs ≡ map Job jobs → 0 < passes → Lawful (opening ws xs (whole jobs passes))
+  pub starts : (ws : List ℕ) (xs : List (Slot J D)) → length ws ≡ length jobs + 1
+      → ((k : ℕ) → get_or ws k 0 ≡ 0) → xs ≡ map Job jobs → 0 < passes
+      → Lawful (opening ws xs (whole jobs passes))
   starts ws xs wide zeros is some-pass = record {
     words = wide;
     slots = length-map xs some ∙ (ap length is ∙ length-map jobs Job);
@@ -310,10 +326,12 @@ module _ {J D : Type 0} (lawful : J → D → Type 0) (jobs : List J) (passes : 
   drawn_once (suc w) n = refl
 
   -- the last seat stands for all passes, has tried every word and holds nothing: every result is in, and it drew each number once
-  pub closes : (id : ℕ) (v : View J) (ws : List ℕ) (xs : List (Slot J D)) → Final (Seen Lawful id v) ws xs → v.weight ≡ passes → 0 < passes → v.next ≡ length jobs → v.held ≡ None
+  pub closes : (id : ℕ) (v : View J) (ws : List ℕ) (xs : List (Slot J D)) → Final (Seen Lawful id v) ws xs
+      → v.weight ≡ passes → 0 < passes → v.next ≡ length jobs → v.held ≡ None
       → AllDone xs × HoldsEachOnce (length jobs) v.drawn
   closes id v ws xs f all some-pass done free =
-      let s = f.0 in let r = f.1.0 in let at = f.1.1 in let live : 0 < v.weight = omega arith in let knows = r.each_view id v at in
+      let s = f.0 in let r = f.1.0 in let at = f.1.1 in let live : 0 < v.weight = omega arith in
+      let knows = r.each_view id v at in
       let others : (k : ℕ) (u : View J) → k ≢ id → get_elem? s.views k ≡ some u → u.weight ≡ 0 = λ k u ne there. omega (arith, terms_le (λ u. u.weight) s.views id k v u ne at there, r.weights) in
       let drawn_at : (k : ℕ) → times k v.drawn ≡ draws_at (get_or s.words k 0) = λ k.
       sym (sole (λ u. times k u.drawn) s.views id v at (λ i u ne there. ap (times k) ((r.each_view i u there).spent_drawn (others i u ne there)))) ∙ r.drawn k in
@@ -322,7 +340,8 @@ module _ {J D : Type 0} (lawful : J → D → Type 0) (jobs : List J) (passes : 
       let deep = r.slots in let wide = r.words in let long = f.3 in (
         (
           omega arith,
-          λ k j is. let inside = inside_of jobs k j is in let ended = (r.each_slot k j is).done (word_two (get_or s.words k 0) (r.at_most_two k) (knows.tried live k (omega arith)) (λ e. omega (arith, out_at k, ap holders_at e))) in
+          λ k j is. let inside = inside_of jobs k j is in
+              let ended = (r.each_slot k j is).done (word_two (get_or s.words k 0) (r.at_most_two k) (knows.tried live k (omega arith)) (λ e. omega (arith, out_at k, ap holders_at e))) in
               (ended.0, f.4 k (Done ended.0) ended.1, ended.2),
         ),
         record {

@@ -8,7 +8,8 @@ use Rattle.msg_board.specs.Counts.{times}
 
 module _ {A : Type 0} (g : A → ℕ) where
   -- the sum after one element has changed
-  pub sum_by-set : (l : List A) (j : ℕ) (v w : A) → get_elem? l j ≡ some v → sum_by g (set l j w) + g v ≡ sum_by g l + g w
+  pub sum_by-set : (l : List A) (j : ℕ) (v w : A) → get_elem? l j ≡ some v
+      → sum_by g (set l j w) + g v ≡ sum_by g l + g w
   sum_by-set [] j v w e = absurd (some-ne-none v (sym e))
   sum_by-set (x ∷ xs) zero v w e = omega (arith, ap g (some-injective x v e), sum_by-cons g x xs, sum_by-cons g w xs)
   sum_by-set (x ∷ xs) (suc j) v w e = omega (arith, sum_by-set xs j v w e, sum_by-cons g x xs, sum_by-cons g x (set xs j w))
@@ -20,7 +21,8 @@ module _ {A : Type 0} (g : A → ℕ) where
   term_le (x ∷ xs) (suc j) v e = omega (arith, term_le xs j v e, sum_by-cons g x xs)
 
   -- nor are two terms together
-  pub terms_le : (l : List A) (j k : ℕ) (v u : A) → k ≢ j → get_elem? l j ≡ some v → get_elem? l k ≡ some u → g v + g u ≤ sum_by g l
+  pub terms_le : (l : List A) (j k : ℕ) (v u : A) → k ≢ j → get_elem? l j ≡ some v → get_elem? l k ≡ some u
+      → g v + g u ≤ sum_by g l
   terms_le [] j k v u n e d = absurd (some-ne-none v (sym e))
   terms_le (x ∷ xs) zero zero v u n e d = absurd (n refl)
   terms_le (x ∷ xs) zero (suc k) v u n e d = omega (arith, ap g (some-injective x v e), term_le xs k u d, sum_by-cons g x xs)
@@ -33,7 +35,8 @@ module _ {A : Type 0} (g : A → ℕ) where
   sum_by-zeros (x ∷ xs) z = omega (arith, z 0 x refl, sum_by-zeros xs (λ k u e. z (suc k) u e), sum_by-cons g x xs)
 
   -- where every other term is 0, the sum is one term
-  pub sole : (l : List A) (j : ℕ) (v : A) → get_elem? l j ≡ some v → ((k : ℕ) (u : A) → k ≢ j → get_elem? l k ≡ some u → g u ≡ 0) → sum_by g l ≡ g v
+  pub sole : (l : List A) (j : ℕ) (v : A) → get_elem? l j ≡ some v
+      → ((k : ℕ) (u : A) → k ≢ j → get_elem? l k ≡ some u → g u ≡ 0) → sum_by g l ≡ g v
   sole [] j v e z = absurd (some-ne-none v (sym e))
   sole (x ∷ xs) zero v e z = omega (arith, ap g (some-injective x v e), sum_by-zeros xs (λ k u d. z (suc k) u (λ h. omega arith) d), sum_by-cons g x xs)
   sole (x ∷ xs) (suc j) v e z = omega (arith, z 0 x (λ h. omega arith) refl, sole xs j v e (λ k u n d. z (suc k) u (λ h. n (omega arith)) d), sum_by-cons g x xs)
@@ -58,6 +61,7 @@ pub times_push : (k : ℕ) (xs : List ℕ) (n : ℕ) → times k (xs ++ n ∷ []
 times_push k xs n = omega (arith, times-append k xs (n ∷ []))
 
 -- the lists of all but the last, and then the last
-pub flat_map_push : {X : Type 0} (f : X → List ℕ) (xs : List X) (x : X) → flat_map f (xs ++ x ∷ []) ≡ flat_map f xs ++ f x
+pub flat_map_push : {X : Type 0} (f : X → List ℕ) (xs : List X) (x : X)
+    → flat_map f (xs ++ x ∷ []) ≡ flat_map f xs ++ f x
 flat_map_push f [] x = append-nil (f x)
 flat_map_push f (y ∷ ys) x = ap (λ l. f y ++ l) (flat_map_push f ys x) ∙ sym (append_assoc (f y) (flat_map f ys) (f x))

@@ -7,12 +7,14 @@ use Rattle.msg_board.proofs.Lists.{one_value, each_pushed, false_below}
 use Rattle.msg_board.proofs.slots.take_results.Goals as goal
 
 pub unreachable-requires : goal.unreachable-requires
-unreachable-requires g c = let inv = c.loop-i.invariant in let is = c.slot_count.ensures in let test = c.loop-i-test.true in let long = inv.same_len in
+unreachable-requires g c = let inv = c.loop-i.invariant in let is = c.slot_count.ensures in
+    let test = c.loop-i-test.true in let long = inv.same_len in
     let t = c.requires.done c.loop-i.i (omega arith) in
     c.in_default.not-Done t.0 (one_value _ _ _ c.take.ensures.value (ap (λ l. get_elem? l c.loop-i.i) inv.same_items ∙ t.1))
 
 pub loop-i-preserved : goal.loop-i-preserved
-loop-i-preserved g c = let inv = c.loop-i.invariant in let is = c.slot_count.ensures in let test = c.loop-i-test.true in let long = inv.same_len in
+loop-i-preserved g c = let inv = c.loop-i.invariant in let is = c.slot_count.ensures in
+    let test = c.loop-i-test.true in let long = inv.same_len in
     let took = c.take.ensures.others in let pushed = c.push_reserved.ensures.items in let counted = inv.count in
     record {
       within = omega arith;

@@ -16,7 +16,8 @@ invariant-loop-i g l = record {
   taken : (k : ℕ) → k < l.i → get_or (slots_filled l.closed.slots) k false ≡ false;
   count : length l.results.items ≡ l.i;
   room : slots_len l.fn.closed.slots ≤ vec_capacity l.results;
-  items : (k : ℕ) (d : _) → slice_get l.results.items k ≡ Some d → get_elem? (slots_items l.fn.closed.slots) k ≡ some (Done d);
+  items : (k : ℕ) (d : _) → slice_get l.results.items k ≡ Some d
+      → get_elem? (slots_items l.fn.closed.slots) k ≡ some (Done d);
 }
 
 abbrev pub decreases-loop-i : goal.decreases-loop-i

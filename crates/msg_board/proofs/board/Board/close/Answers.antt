@@ -9,12 +9,14 @@ use Rattle.msg_board.proofs.Passing.{done_same, all_handed_in}
 use Rattle.msg_board.proofs.board.Board.close.Goals as goal
 
 pub results_of-requires-clause-done : goal.results_of-requires-clause-done
-results_of-requires-clause-done g c = let b = c.args.self in let seat = c.gather-seat.ensures in let counts = c.close_with.ensures.counts.1 in let slots = b.slots in
+results_of-requires-clause-done g c = let b = c.args.self in let seat = c.gather-seat.ensures in
+    let counts = c.close_with.ensures.counts.1 in let slots = b.slots in
     let closed = closes g.W.Work.lawful (jobs_of b) (passes_of b) _ _ _ _ c.close_with.ensures.values.2 (seat.weight ∙ c.requires.all) b.some_pass seat.next seat.held in
     λ k h. let j = there (jobs_of b) k (omega arith) in let t = closed.0.1 k j.0 j.1 in (t.0, t.1)
 
 pub returns-clause-lawful : goal.returns-clause-lawful
-returns-clause-lawful g c = let b = c.args.self in let seat = c.gather-seat.ensures in let counts = c.close_with.ensures.counts.1 in let slots = b.slots in
+returns-clause-lawful g c = let b = c.args.self in let seat = c.gather-seat.ensures in
+    let counts = c.close_with.ensures.counts.1 in let slots = b.slots in
     let closed = closes g.W.Work.lawful (jobs_of b) (passes_of b) _ _ _ _ c.close_with.ensures.values.2 (seat.weight ∙ c.requires.all) b.some_pass seat.next seat.held in
     IfOk-weaker c.results_of.result _ _ (λ results taken. record {
       as_many = taken.as_many ∙ (counts ∙ slots);

@@ -11,7 +11,8 @@ pub loop-pass-init : goal.loop-pass-init
 loop-pass-init g c = gathers_first c.args.self.now _ _ c.in-Some.first _ c.requires.ended c.in-Some.ensures.items c.into_seat-seat.ensures.seat c.into_seat-seat.ensures.all_tried
 
 pub join_seat-requires : goal.join_seat-requires
-join_seat-requires g c = let inv = c.loop-pass.invariant in let b = c.args.self.now in let of = c.into_seat-other.ensures.seat in let words = b.words in
+join_seat-requires g c = let inv = c.loop-pass.invariant in let b = c.args.self.now in
+    let of = c.into_seat-other.ensures.seat in let words = b.words in
     let parts = All-split_last (HasEnded b) _ _ (subst (All (HasEnded b)) c.in-Some-pop.ensures.items inv.ended) in (
       inv.table,
       of.table ∙ parts.1.own.table,

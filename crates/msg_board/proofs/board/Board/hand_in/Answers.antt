@@ -7,8 +7,10 @@ use Rattle.msg_board.proofs.Passing.{handed_sound, handed_said, held_within}
 use Rattle.msg_board.proofs.board.Board.hand_in.Goals as goal
 
 pub store-requires : goal.store-requires
-store-requires g c = let b = c.args.self.now in let seat = c.pass.invariant.seat in let is = c.pass.view_is in let words = b.words in let slots = b.slots in let jobs = jobs_of b in
-    let has = ap (λ p. p.holding) is ∙ c.requires.holds in let own = ap (λ p. p.jobs) is ∙ c.requires.own.jobs in
+store-requires g c = let b = c.args.self.now in let seat = c.pass.invariant.seat in let is = c.pass.view_is in
+    let words = b.words in let slots = b.slots in let jobs = jobs_of b in
+    let has = ap (λ p. p.holding) is ∙ c.requires.holds in
+    let own = ap (λ p. p.jobs) is ∙ c.requires.own.jobs in
     let inside : c.args.k < length jobs = omega (arith, held_within c.pass.inside c.args.k c.pass.invariant has, ap (λ l. length l) own) in
     let t = there jobs c.args.k inside in (
       c.put_in.ensures.table ∙ (ap (λ p. p.table) is ∙ c.requires.own.table),

@@ -6,15 +6,19 @@ use Rattle.msg_board.proofs.Passing.{drew_sound, drew_said, unfinished_more}
 use Rattle.msg_board.proofs.board.Board.try_next.Goals as goal
 
 pub fetch_max-found-requires : goal.fetch_max-found-requires
-fetch_max-found-requires g c = let b = c.args.self.now in let seat = c.pass.invariant.seat in let is = c.pass.view_is in
-    let idle = ap (λ p. p.holding) is ∙ c.requires.idle in let more = c.requires.more in let tried = ap (λ p. p.tried) is in let words = b.words in let slots = b.slots in (
+fetch_max-found-requires g c = let b = c.args.self.now in let seat = c.pass.invariant.seat in
+    let is = c.pass.view_is in
+    let idle = ap (λ p. p.holding) is ∙ c.requires.idle in let more = c.requires.more in
+    let tried = ap (λ p. p.tried) is in let words = b.words in let slots = b.slots in (
       ap (λ p. p.table) is ∙ c.requires.own.table,
       omega arith,
       draws g.W.Work.lawful _ _ _ _ _ c.pass.inside.next (seat.out ∙ ap carried idle) (omega (arith, seat.weight)) (seat.held ∙ idle) seat.next (omega arith),
     )
 
 pub invariant_of-pass : goal.invariant_of-pass
-invariant_of-pass g c = let is = c.pass.view_is in let told = c.fetch_max-found.ensures.2.1 c.if-found-eq0.true in let more = c.requires.more in let tried = ap (λ p. p.tried) is in
+invariant_of-pass g c = let is = c.pass.view_is in
+    let told = c.fetch_max-found.ensures.2.1 c.if-found-eq0.true in let more = c.requires.more in
+    let tried = ap (λ p. p.tried) is in
     drew_sound c.pass.inside c.fetch_max-found.new.seat c.take_out-job.new.seat told.0 c.pass.invariant told.2 c.take_out-job.ensures.now
     (omega (arith, ap (λ p. length p.jobs) is, ap (λ l. length l) c.requires.own.jobs))
 
