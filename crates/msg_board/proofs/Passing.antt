@@ -21,10 +21,12 @@ use Rattle.msg_board.specs.Sound.{state_of, IsSound}
 use Rattle.msg_board.proofs.Lists.{got, All-split_last}
 use Rattle.msg_board.proofs.Sums.{times-append, flat_map_push}
 
+-- a truth value that isn't true is false
 not_true : (b : Bool) → (b ≡ true → ⊥) → b ≡ false
 not_true true = λ no. absurd (no refl)
 not_true false = λ _. refl
 
+-- equal options have equal numbers
 some_same : (m n : ℕ) → Some m ≡ Some n → m ≡ n
 some_same m n e = ap (λ (o : Option ℕ). elim o as (λ _. ℕ) [ Some y ↦ y | None ↦ 0 ]) e
 
@@ -46,6 +48,7 @@ pub handed_in-idle : {J : Type 0} (p : PassState J) → p.holding ≡ None → h
 handed_in-idle p idle = ap (λ o. filter (λ k. not (is_held k o)) p.drawn) idle ∙ filter_all (λ _. true) p.drawn (λ k d l. refl)
 
 module _ {J D : Type 0} where
+  -- the result in a slot, or another
   done_or : D → Slot J D → D
   done_or d (Done e) = e
   done_or d (Job j) = d
@@ -56,6 +59,7 @@ module _ {J D : Type 0} where
   unfolding done_or
   done_same d e h = ap (done_or d) h
 
+  -- the job in the first slot, or another
   job_or : J → List (ℕ × Slot J D) → J
   job_or d [] = d
   job_or d (x ∷ xs) = elim (x.1) as (λ _. J) [ Empty ↦ d | Job j ↦ j | Done e ↦ d ]
@@ -70,9 +74,11 @@ module _ {J D : Type 0} where
   -- A pass drew its next number: `drawn` is its seat after the step, and `seat` after it took the job out of the slot
   module _ (p : Inside J D) (drawn seat : Seat (Slot J D) (View J)) (j : J) (sound : IsSound p) (told : drawn.me ≡ (taken p.next p.seat.me.0, (p.next, Job j) ∷ []))
       (took : seat.me ≡ (drawn.me.0, (p.next, Empty) ∷ [])) where
+    -- its view is the one that the step gave
     drew_view : seat.me.0 ≡ taken p.next p.seat.me.0
     drew_view = ap (λ (m : Me (Slot J D) (View J)). m.0) took ∙ ap (λ (m : Me (Slot J D) (View J)). m.0) told
 
+    -- its fields
     abbrev drew_pass : Inside J D
     drew_pass = record { seat = seat; next = p.next + 1; held = Some p.next; finished = p.finished }
 
@@ -114,6 +120,7 @@ module _ {J D : Type 0} where
           unfinished = not_true p.finished (λ done. absurd (omega (arith, order.all_tried done, ap (λ (l : List J). length l) own)));
         }
 
+    -- the same, of the state that callers see
     pub drew_said : (before : PassState J) (jobs : List J) (job : J) → state_of p ≡ before → before.jobs ≡ jobs
         → before.tried < length jobs → get_elem? p.seat.me.0.jobs p.next ≡ some j
         → drawn.me.1 ≡ (p.next, Job job) ∷ [] → Drew jobs before (state_of drew_pass) before.tried job
@@ -122,9 +129,11 @@ module _ {J D : Type 0} where
 
   -- A pass handed in what it held: `full` is its seat after it put the result into the slot, and `seat` after the step
   module _ (p : Inside J D) (full seat : Seat (Slot J D) (View J)) (k : ℕ) (d : D) (sound : IsSound p) (put : full.me ≡ (p.seat.me.0, (k, Done d) ∷ [])) (told : seat.me ≡ (freed full.me.0, [])) where
+    -- its view is the one that the step gave
     handed_view : seat.me.0 ≡ freed p.seat.me.0
     handed_view = ap (λ (m : Me (Slot J D) (View J)). m.0) told ∙ ap (λ (m : Me (Slot J D) (View J)). freed m.0) put
 
+    -- its fields
     abbrev handed_pass : Inside J D
     handed_pass = record { seat = seat; next = p.next; held = None; finished = p.finished }
 
@@ -161,6 +170,7 @@ module _ {J D : Type 0} where
           finished = refl;
         }
 
+    -- the same, of the state that callers see
     pub handed_said : (before : PassState J) → state_of p ≡ before → before.holding ≡ Some k
         → HandedIn before (state_of handed_pass) k
     handed_said before is has = subst (λ (q : PassState J). HandedIn q (state_of handed_pass) k) is (handed_from (ap (λ (q : PassState J). q.holding) is ∙ has))

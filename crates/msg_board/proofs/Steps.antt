@@ -18,6 +18,7 @@ use Rattle.msg_board.proofs.Lists.{by_place, there, inside_of, past}
 use Rattle.msg_board.proofs.Sums.{sum_by-set, term_le, terms_le, sole, one_if, one_at, none_at, times-append, times_push}
 
 module _ {J D : Type 0} (lawful : J → D → Type 0) (jobs : List J) (passes : ℕ) where
+  -- states of the table, seats, and the law
   abbrev St : Type 0
   St = State (Slot J D) (View J)
 
@@ -63,6 +64,7 @@ module _ {J D : Type 0} (lawful : J → D → Type 0) (jobs : List J) (passes : 
         weights = omega (arith, sum_by-set (λ u. u.weight) s.views id v w at, r.weights);
       }
 
+  -- `fetch_max` with 1 makes 0 a 1, and leaves all else
   fetched_new : (x : ℕ) → x ≡ 0 → max x 1 ≡ 1
   fetched_new x e = omega arith
 
@@ -88,6 +90,7 @@ module _ {J D : Type 0} (lawful : J → D → Type 0) (jobs : List J) (passes : 
 
   -- A view that holds nothing tries word i, its next
   module _ (s : St) (r : Lawful s) (id i : ℕ) (v : View J) (at : get_elem? s.views id ≡ some v) (live : 0 < v.weight) (free : v.held ≡ None) (is : v.next ≡ i) (inside : i < length jobs) where
+    -- word i is there
     near : i < length s.words
     near = let wide = r.words in omega arith
 
@@ -318,9 +321,11 @@ module _ {J D : Type 0} (lawful : J → D → Type 0) (jobs : List J) (passes : 
   abbrev AllDone : List (Slot J D) → Type 0
   AllDone xs = (length xs ≡ length jobs) × ((k : ℕ) (j : J) → get_elem? jobs k ≡ some j → (d : D) × (get_elem? xs k ≡ some (Done d)) × lawful j d)
 
+  -- a word that is neither 0 nor 1 is 2
   word_two : (w : ℕ) → w ≤ 2 → w ≢ 0 → w ≢ 1 → w ≡ 2
   word_two w h a b = omega arith
 
+  -- a word above 0 was drawn once
   drawn_once : (w : ℕ) → w ≢ 0 → draws_at w ≡ 1
   drawn_once zero n = absurd (n refl)
   drawn_once (suc w) n = refl

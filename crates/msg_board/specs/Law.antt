@@ -126,9 +126,9 @@ module _ {J : Type 0} where
   abbrev pub spent : View J
   spent = whole [] 0
 
--- The steps of a pass, between its seat before and its seat after. A seat is a view and the slots
--- that are out with it
+-- The steps of a pass, between its seat before and its seat after
 
+-- a seat, as a step sees it: its view, and the slots that are out with it
 abbrev Standing : Type 0 → Type 0 → Type 0
 Standing J D = Me (Slot J D) (View J)
 

@@ -17,6 +17,7 @@ module _ {J D : Type 0} where
   }
 
 module _ {J : Type 0} where
+  -- the numbers of a pass have to do with one another
   pub record IsInOrder (p : PassState J) : Type 0 where
     -- it has tried no more numbers than there are jobs, and all of them once it is finished
     pub within : p.tried ≤ length p.jobs
