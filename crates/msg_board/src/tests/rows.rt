@@ -50,14 +50,16 @@ fn two_passes_draw_by_turns(rt: HostRuntime) -> Result<(), Fail> {
 
 #[test]
 fn no_jobs_and_one_pass(rt: HostRuntime) -> Result<(), Fail> {
-    let (board, mut passes) = Board::<AddOne>::new(rt.alloc(), Vec::new(rt.alloc()), 1)?;
+    // Over another allocator than `Global`.
+    let heap = rt.alloc();
+    let (board, mut passes) = Board::<AddOne, &Global>::new(&heap, Vec::new(&heap), 1)?;
     let Some(mut pass) = passes.pop() else {
         panic!(rt; "a pass")
     };
     let drawn = board.draw(&mut pass);
     assert!(rt; drawn.is_none());
     passes.push(pass)?;
-    let results = board.close(rt.alloc(), passes)?;
+    let results = board.close(&heap, passes)?;
     assert!(rt; results.is_empty());
     Ok(())
 }
