@@ -222,7 +222,7 @@ module _ {W A J D : Type 0} where
         count = omega (arith, ap (λ (l : List (PassState J)). length l) is, length-append ps (p ∷ []));
         live = omega arith;
         next = of.next ∙ (all_tried parts.1.finished ∙ ap (λ (l : List J). length l) parts.1.own.jobs);
-        held = of.held ∙ parts.1.idle;
+        held = of.held ∙ parts.1.holding;
         drawn = λ k. omega (arith, ap (times k) of.drawn, times_more k all ps p is);
         ended = parts.0;
       }

@@ -20,15 +20,20 @@ module _ {W A J D : Type 0} where
   -- the pass is one of this board's, and has done nothing yet
   pub record IsNew (b : Board W A J D) (p : PassState J) : Type 0 where
     pub own : IsOf b p
-    pub untried : p.tried ≡ 0
-    pub nothing : p.drawn ≡ []
-    pub idle : p.holding ≡ None
+    pub tried : p.tried ≡ 0
+    pub drawn : p.drawn ≡ []
+    pub holding : p.holding ≡ None
     pub unfinished : p.finished ≡ false
+
+  -- the pass is one of this board's, and holds nothing, so that it may draw
+  pub record IsIdle (b : Board W A J D) (p : PassState J) : Type 0 where
+    pub own : IsOf b p
+    pub holding : p.holding ≡ None
 
   -- the pass is one of this board's, holds nothing and is finished
   pub record HasEnded (b : Board W A J D) (p : PassState J) : Type 0 where
     pub own : IsOf b p
-    pub idle : p.holding ≡ None
+    pub holding : p.holding ≡ None
     pub finished : p.finished ≡ true
 
 module _ {J D : Type 0} where

@@ -79,13 +79,13 @@ impl<W: Work, A: Allocator + Copy> Board<W, A> {
 }
 
 impl<W: Work, A: Allocator> Board<W, A> {
-    ghost use Rattle.msg_board.specs.Board.{jobs_of, passes_of, IsOf, HasEnded, IsLawfulOutcome};
+    ghost use Rattle.msg_board.specs.Board.{jobs_of, passes_of, IsOf, IsIdle, HasEnded};
+    ghost use Rattle.msg_board.specs.Board.{IsLawfulOutcome};
     ghost use Rattle.msg_board.specs.Closing.{IsGathered};
 
     /// Draws the next job that nobody has drawn, with its number. None says that there is none left.
     pub fn draw(&self, pass: &mut Pass<W::Job, W::Done>) -> Option<(usize, W::Job)>
-        requires own { IsOf self.now pass.old }
-        requires idle { pass.old.holding ≡ None }
+        requires idle { IsIdle self.now pass.old }
         ensures own { IsOf self.now pass.new }
         ensures some { IfSome result (λ r. Drew (jobs_of self.now) pass.old pass.new r.0 r.1) }
         ensures none { IfNone result (DrewNone (jobs_of self.now) pass.old pass.new) }
@@ -141,8 +141,7 @@ impl<W: Work, A: Allocator> Board<W, A> {
 
     // Tries the pass's next number: one `fetch_max` on its word.
     fn try_next(&self, pass: &mut Pass<W::Job, W::Done>) -> Option<W::Job>
-        requires own { IsOf self.now pass.old }
-        requires idle { pass.old.holding ≡ None }
+        requires idle { IsIdle self.now pass.old }
         requires more { pass.old.tried < length (jobs_of self.now) }
         ensures own { IsOf self.now pass.new }
         ensures some { IfSome result

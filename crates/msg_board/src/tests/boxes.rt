@@ -1,6 +1,6 @@
 //! Jobs that hold a boxed object and a shared reference to a number.
-ghost use Rattle.std.specs.Prelude.{◌≡◌, ◌+◌, ◌/◌, ◌≤◌, ℕ, length, IfOk, None};
-ghost use Rattle.msg_board.specs.Board.{IsOf, HasEnded};
+ghost use Rattle.std.specs.Prelude.{◌≡◌, ◌+◌, ◌/◌, ◌≤◌, ℕ, length, IfOk};
+ghost use Rattle.msg_board.specs.Board.{IsIdle, HasEnded};
 
 use crate::{Board, NoMemory, Pass, Work};
 use std::alloc::Global;
@@ -87,8 +87,7 @@ impl<'a, T: Tool> Runs for Tools<'a, T> {
 
 // Draws until None.
 fn work<W: Runs>(board: &Board<W>, mut pass: Pass<W::Job, W::Done>) -> Pass<W::Job, W::Done>
-    requires own { IsOf board.now pass }
-    requires idle { pass.holding ≡ None }
+    requires { IsIdle board.now pass }
     ensures { HasEnded board.now result }
 {
     while let Some((k, job)) = board.draw(&mut pass) {
@@ -108,7 +107,7 @@ fn run_jobs<R: Threads + Sync, W: Runs + Send>(
     let (board, passes) = Board::<W>::new(alloc, jobs, 2)?;
     let shared = &board;
     let each = |pass: Pass<W::Job, W::Done>| -> Pass<W::Job, W::Done>
-        requires { IsOf shared.now pass × (pass.holding ≡ None) }
+        requires { IsIdle shared.now pass }
         ensures { HasEnded shared.entry.now result }
     { work(shared, pass) };
     let ended = thread::map_vec(rt, passes, &each)?;

@@ -1,6 +1,6 @@
 //! Boards whose passes draw in threads of their own, until None.
-ghost use Rattle.std.specs.Prelude.{◌≡◌, ◌<◌, ◌≤◌, ℕ, length, IfOk, None, Some, slice_get};
-ghost use Rattle.msg_board.specs.Board.{jobs_of, IsOf, HasEnded};
+ghost use Rattle.std.specs.Prelude.{◌≡◌, ◌<◌, ◌≤◌, ℕ, length, IfOk, Some, slice_get};
+ghost use Rattle.msg_board.specs.Board.{jobs_of, IsIdle, HasEnded};
 ghost use Rattle.msg_board.specs.Tests.{AreSmall};
 
 use super::AddOne;
@@ -12,8 +12,7 @@ use std::thread::Threads;
 
 // Draws until None.
 fn work(board: &Board<AddOne>, mut pass: Pass<u64, u64>) -> Pass<u64, u64>
-    requires own { IsOf board.now pass }
-    requires idle { pass.holding ≡ None }
+    requires idle { IsIdle board.now pass }
     requires small { AreSmall (jobs_of board.now) }
     ensures { HasEnded board.now result }
 {
@@ -39,11 +38,11 @@ fn run_two<R: Threads + Sync>(rt: &R, alloc: Global, jobs: Vec<u64>) -> Result<V
     let (a, b) = thread::join(
         rt,
         move || -> Pass<u64, u64>
-            requires { IsOf shared.now a × (a.holding ≡ None) × AreSmall (jobs_of shared.now) }
+            requires { IsIdle shared.now a × AreSmall (jobs_of shared.now) }
             ensures { HasEnded shared.entry.now result }
         { work(shared, a) },
         move || -> Pass<u64, u64>
-            requires { IsOf shared.now b × (b.holding ≡ None) × AreSmall (jobs_of shared.now) }
+            requires { IsIdle shared.now b × AreSmall (jobs_of shared.now) }
             ensures { HasEnded shared.entry.now result }
         { work(shared, b) },
     );
@@ -69,7 +68,7 @@ fn run_many<R: Threads + Sync>(
         rt,
         passes,
         &|pass: Pass<u64, u64>| -> Pass<u64, u64>
-            requires { IsOf shared.now pass × (pass.holding ≡ None) × AreSmall (jobs_of shared.now) }
+            requires { IsIdle shared.now pass × AreSmall (jobs_of shared.now) }
             ensures { HasEnded shared.entry.now result }
         { work(shared, pass) },
     )?;

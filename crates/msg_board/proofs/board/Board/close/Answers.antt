@@ -34,4 +34,4 @@ returns-clause-drawn_once g c = let b = c.args.self in let seat = c.gather-seat.
 
 pub returns-clause-handed_in_once : goal.returns-clause-handed_in_once
 returns-clause-handed_in_once g c = let b = c.args.self in
-    subst (HoldsEachOnce (length (jobs_of b))) (sym (all_handed_in c.args.passes.items (All-weaker (HasEnded b) (λ p. p.holding ≡ None) (λ p ended. ended.idle) _ c.requires.ended))) (returns-clause-drawn_once g c)
+    subst (HoldsEachOnce (length (jobs_of b))) (sym (all_handed_in c.args.passes.items (All-weaker (HasEnded b) (λ p. p.holding ≡ None) (λ p ended. ended.holding) _ c.requires.ended))) (returns-clause-drawn_once g c)

@@ -1,11 +1,10 @@
-use Rattle.std.proofs.Common.{◌≡◌, ◌-◌, ◌≤◌, None, length, true}
-use Rattle.msg_board.specs.Board.{jobs_of, IsOf}
+use Rattle.std.proofs.Common.{◌≡◌, ◌-◌, ◌≤◌, length, true}
+use Rattle.msg_board.specs.Board.{jobs_of, IsIdle}
 use Rattle.msg_board.proofs.board.Board.draw.Given as goal
 
 abbrev pub invariant-loop-pass : goal.invariant-loop-pass
 invariant-loop-pass g l = record {
-  own : IsOf l.self l.pass;
-  idle : l.pass.holding ≡ None;
+  idle : IsIdle l.self l.pass;
   same : l.pass.drawn ≡ l.fn.pass.drawn;
   later : l.fn.pass.tried ≤ l.pass.tried;
   finished : l.fn.pass.finished ≡ true → l.pass ≡ l.fn.pass;

@@ -16,9 +16,9 @@ join_seat-requires g c = let inv = c.loop-pass.invariant in let b = c.args.self.
     let parts = All-split_last (HasEnded b) _ _ (subst (All (HasEnded b)) c.in-Some-pop.ensures.items inv.ended) in (
       inv.table,
       of.table ∙ parts.1.own.table,
-      of.out ∙ ap carried parts.1.idle,
+      of.out ∙ ap carried parts.1.holding,
       omega arith,
-      unites g.W.Work.lawful _ _ _ _ _ _ inv.live (of.held ∙ parts.1.idle),
+      unites g.W.Work.lawful _ _ _ _ _ _ inv.live (of.held ∙ parts.1.holding),
     )
 
 pub loop-pass-preserved : goal.loop-pass-preserved

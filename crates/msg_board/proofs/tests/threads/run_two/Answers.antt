@@ -11,4 +11,4 @@ join-a-requires-after_bounds g c κs within = let b = c.in_ok-board.board in let
     let last = All-split_last (IsNew b) _ _ (subst (All (IsNew b)) c.in-Some.ensures.items made.fresh) in
     let first = All-split_last (IsNew b) _ _ (subst (All (IsNew b)) c.in-Some-pop.ensures.items last.0) in
     let small = subst AreSmall (sym made.jobs) c.requires.small in
-    ((first.1.own, first.1.idle, small), (last.1.own, last.1.idle, small))
+    ((record { own = first.1.own; holding = first.1.holding }, small), (record { own = last.1.own; holding = last.1.holding }, small))
