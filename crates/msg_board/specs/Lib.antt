@@ -5,4 +5,3 @@ pub mod Law
 pub mod Pass
 pub mod Seats
 pub mod Sound
-pub mod Tests

@@ -4,6 +4,7 @@ use Rattle.std.specs.Prelude.{All, Option, Some, None, Bool, true, false}
 use Rattle.atomic_table.specs.Seated.{TableId}
 use Rattle.msg_board.specs.Counts.{is_held}
 
+-- what a pass has done so far
 pub record PassState (J : Type 0) : Type 0 where
   -- whose words and slots it steps on
   pub table : TableId

@@ -14,7 +14,8 @@ use atomic_table::{Seat, Table};
 use std::alloc::{Allocator, Global};
 use std::snapshot::Snapshot;
 
-/// Jobs that several workers draw, each with a pass of its own.
+/// Jobs that several workers draw, each with a pass of its own. A job's number is its place in the
+/// list that `new` was given.
 #[derive(Drop)]
 pub struct Board<W: Work, A: Allocator = Global> {
     table: Table<Slot<W::Job, W::Done>, View<W::Job>, Deal<W::Job, A>, Law<W>, A>,
@@ -26,7 +27,7 @@ pub struct Board<W: Work, A: Allocator = Global> {
 impl<W: Work, A: Allocator + Copy> Board<W, A> {
     ghost use Rattle.msg_board.specs.Board.{jobs_of, passes_of, IsNew};
 
-    /// A board with these jobs, and its passes. The jobs are dropped where there is no memory.
+    /// A board with these jobs, and its passes. Where there is no memory, the jobs are dropped.
     pub fn new(
         alloc: A,
         jobs: Vec<W::Job, A>,
@@ -83,7 +84,8 @@ impl<W: Work, A: Allocator> Board<W, A> {
     ghost use Rattle.msg_board.specs.Board.{IsLawfulOutcome};
     ghost use Rattle.msg_board.specs.Closing.{IsGathered};
 
-    /// Draws the next job that nobody has drawn, with its number. None says that there is none left.
+    /// Draws a job that nobody has drawn, with its number; None where there is none left to try.
+    /// It takes one atomic step for each number that it tries, and waits for nobody.
     pub fn draw(&self, pass: &mut Pass<W::Job, W::Done>) -> Option<(usize, W::Job)>
         requires idle { IsIdle self.now pass.old }
         ensures own { IsOf self.now pass.new }
@@ -105,7 +107,7 @@ impl<W: Work, A: Allocator> Board<W, A> {
         None
     }
 
-    /// Hands in the result of job k, which the pass holds.
+    /// Hands in the result of job k, which the pass holds, by one atomic step.
     pub fn hand_in(&self, pass: &mut Pass<W::Job, W::Done>, k: usize, done: W::Done)
         requires own { IsOf self.now pass.old }
         requires holds { pass.old.holding ≡ Some k }
@@ -119,7 +121,8 @@ impl<W: Work, A: Allocator> Board<W, A> {
         pass.held = None;
     }
 
-    /// The results, in the order of the jobs. They are dropped where there is no memory.
+    /// The results, in the order of the jobs. The passes may come in any order. Where there is no
+    /// memory, the results are dropped.
     pub fn close(
         self,
         alloc: A,

@@ -37,7 +37,7 @@ impl<J, D> Pass<J, D> {
         self.held
     }
 
-    /// Whether it drew None, after which it will draw nothing else.
+    /// Whether it drew None, after which it draws nothing else.
     pub fn is_finished(&self) -> bool
         ensures says { result ≡ self.now.finished }
         ensures all_tried { IsTrue result → self.now.tried ≡ length self.now.jobs }

@@ -1,7 +1,6 @@
 //! Boards whose passes draw in threads of their own, until None.
-ghost use Rattle.std.specs.Prelude.{◌≡◌, ◌<◌, ◌≤◌, ℕ, length, IfOk, Some, slice_get};
+ghost use Rattle.std.specs.Prelude.{◌≡◌, ◌<◌, ◌≤◌, length, IfOk, All};
 ghost use Rattle.msg_board.specs.Board.{jobs_of, IsIdle, HasEnded};
-ghost use Rattle.msg_board.specs.Tests.{AreSmall};
 
 use super::AddOne;
 use crate::{Board, NoMemory, Pass};
@@ -13,7 +12,7 @@ use std::thread::Threads;
 // Draws until None.
 fn work(board: &Board<AddOne>, mut pass: Pass<u64, u64>) -> Pass<u64, u64>
     requires idle { IsIdle board.now pass }
-    requires small { AreSmall (jobs_of board.now) }
+    requires small { All (λ j. j < 1000) (jobs_of board.now) }
     ensures { HasEnded board.now result }
 {
     while let Some((k, job)) = board.draw(&mut pass) {
@@ -25,7 +24,7 @@ fn work(board: &Board<AddOne>, mut pass: Pass<u64, u64>) -> Pass<u64, u64>
 // Two threads, each with a pass of its own.
 fn run_two<R: Threads + Sync>(rt: &R, alloc: Global, jobs: Vec<u64>) -> Result<Vec<u64>, NoMemory>
     requires few { length jobs.items ≤ 256 }
-    requires small { AreSmall jobs.items }
+    requires small { All (λ j. j < 1000) jobs.items }
 {
     let (board, mut passes) = Board::<AddOne>::new(alloc, jobs, 2)?;
     let Some(b) = passes.pop() else {
@@ -38,11 +37,11 @@ fn run_two<R: Threads + Sync>(rt: &R, alloc: Global, jobs: Vec<u64>) -> Result<V
     let (a, b) = thread::join(
         rt,
         move || -> Pass<u64, u64>
-            requires { IsIdle shared.now a × AreSmall (jobs_of shared.now) }
+            requires { IsIdle shared.now a × All (λ j. j < 1000) (jobs_of shared.now) }
             ensures { HasEnded shared.entry.now result }
         { work(shared, a) },
         move || -> Pass<u64, u64>
-            requires { IsIdle shared.now b × AreSmall (jobs_of shared.now) }
+            requires { IsIdle shared.now b × All (λ j. j < 1000) (jobs_of shared.now) }
             ensures { HasEnded shared.entry.now result }
         { work(shared, b) },
     );
@@ -60,7 +59,7 @@ fn run_many<R: Threads + Sync>(
 ) -> Result<Vec<u64>, NoMemory>
     requires few { length jobs.items ≤ 256 }
     requires passes { (0 < passes) × (passes ≤ 64) }
-    requires small { AreSmall jobs.items }
+    requires small { All (λ j. j < 1000) jobs.items }
 {
     let (board, passes) = Board::<AddOne>::new(alloc, jobs, passes)?;
     let shared = &board;
@@ -68,7 +67,7 @@ fn run_many<R: Threads + Sync>(
         rt,
         passes,
         &|pass: Pass<u64, u64>| -> Pass<u64, u64>
-            requires { IsIdle shared.now pass × AreSmall (jobs_of shared.now) }
+            requires { IsIdle shared.now pass × All (λ j. j < 1000) (jobs_of shared.now) }
             ensures { HasEnded shared.entry.now result }
         { work(shared, pass) },
     )?;
@@ -79,7 +78,7 @@ fn run_many<R: Threads + Sync>(
 fn numbers(alloc: Global, n: u64) -> Result<Vec<u64>, NoMemory>
     requires { n ≤ 256 }
     ensures len { IfOk result (λ v. length v.items ≡ n) }
-    ensures small { IfOk result (λ v. AreSmall v.items) }
+    ensures small { IfOk result (λ v. All (λ j. j < 1000) v.items) }
 {
     let mut all = Vec::new(alloc);
     for i in 0..n {
