@@ -1,2 +1,5 @@
 pub mod Access
 pub mod Masks
+pub mod Parts
+pub mod Slots
+pub mod World

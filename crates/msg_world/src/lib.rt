@@ -2,12 +2,23 @@
 #![tactic(auto)]
 
 mod access;
+mod counts;
+mod marks;
 mod masks;
+mod record;
 mod res_no;
+mod slots;
+mod taken;
 #[cfg(test)]
 mod tests;
 mod type_no;
+mod world;
 
 pub use access::Access;
+pub use counts::Counts;
+pub use msg_buffer::NoMemory;
+pub use record::{HOST, Record};
 pub use res_no::ResNo;
+pub use taken::Taken;
 pub use type_no::TypeNo;
+pub use world::World;

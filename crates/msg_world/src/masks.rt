@@ -1,7 +1,7 @@
 // Masks of 64 bits, one for each number below 64.
 ghost use Rattle.std.specs.Prelude.{◌≡◌, ◌==◌, ◌||◌, ◌&&◌, not, ℕ, ◌<◌, ◌↔◌, IsTrue};
 ghost use Rattle.msg_world.specs.Access.{has_bit};
-ghost use Rattle.msg_world.specs.Masks.{ShareBit, Collide, IsBelow};
+ghost use Rattle.msg_world.specs.Masks.{ShareBit, Collide, IsBelow, IsWithin};
 
 pub fn has(mask: u64, k: u32) -> bool
     requires { k < 64 }
@@ -45,4 +45,10 @@ pub fn is_below(mask: u64, n: u32) -> bool
     ensures { IsTrue result ↔ IsBelow mask n }
 {
     n >= 64 || mask >> n == 0
+}
+
+pub fn is_within(mask: u64, other: u64) -> bool
+    ensures { IsTrue result ↔ IsWithin mask other }
+{
+    mask & !other == 0
 }

@@ -1,0 +1,71 @@
+-- What is at home in a world, or was moved out of it, and what it stands for.
+use Rattle.std.specs.Prelude.{◌≡◌, ℕ, ℤ, ◌<◌, Bool, Option, None, Some, IsSome, IfSome, is_some, IsTrue, List, length, slice_index_or, if◌then◌else◌}
+use Rattle.msg_buffer.specs.Kept.{Kept}
+use Rattle.msg_buffer.specs.StandsFor.{StandsFor}
+use Rattle.msg_world.specs.declared.record.Record.{Record}
+use Rattle.msg_world.specs.declared.marks.Marks.{Marks}
+use Rattle.msg_world.specs.declared.access.Access.{Access}
+use Rattle.msg_world.specs.Access.{Part, OfType, OfResource, Registry, uses, writes}
+use Rattle.msg_world.specs.World.{WorldState, Content, content}
+
+-- A slot for each type, for each resource, and for the registry's marks: empty where that part is elsewhere.
+pub record Parts : Type 0 where
+  pub types : List (Option (Kept Record))
+  pub resources : List (Option ℤ)
+  pub marks : Option Marks
+
+-- what the code keeps of a part
+abbrev pub Stuff : Part → Type 0
+Stuff (OfType t) = Kept Record
+Stuff (OfResource r) = ℤ
+Stuff Registry = Marks
+
+-- what is there of a part; nothing of a part that the world hasn't got
+abbrev pub slot : (p : Part) → Parts → Option (Stuff p)
+slot (OfType t) w = slice_index_or w.types t None
+slot (OfResource r) w = slice_index_or w.resources r None
+slot Registry w = w.marks
+
+-- the world has this part, at home or elsewhere
+abbrev pub Has : Parts → Part → Type 0
+Has w (OfType t) = t < length w.types
+Has w (OfResource r) = r < length w.resources
+Has w Registry = Unit {0}
+
+-- the same parts in number
+pub record SameSize (old new : Parts) : Type 0 where
+  pub types : length new.types ≡ length old.types
+  pub resources : length new.resources ≡ length old.resources
+
+-- the same parts are there
+pub record SameShape (old new : Parts) : Type 0 where
+  pub size : SameSize old new
+  pub there : (p : Part) → is_some (slot p new) ≡ is_some (slot p old)
+
+-- everything is home
+abbrev pub IsWhole : Parts → Type 0
+IsWhole w = (p : Part) → Has w p → IsSome (slot p w)
+
+-- everything that an access uses is home
+abbrev pub IsHome : Access → Parts → Type 0
+IsHome a w = (p : Part) → IsTrue (uses a p) → IsSome (slot p w)
+
+-- what is kept of a part stands for it
+abbrev pub StuffStands : (p : Part) → Stuff p → Content p → Type 0
+StuffStands (OfType t) k h = StandsFor k h
+StuffStands (OfResource r) y z = y ≡ z
+StuffStands Registry m n = m ≡ n
+
+-- whatever is there stands for that part of a world
+abbrev pub PartsStand : Parts → WorldState → Type 0
+PartsStand w s = (p : Part) → IfSome (slot p w) (λ k. StuffStands p k (content p s))
+
+-- A loan's parts are apart from a world's: they are as many, and what is in the loan is out of the world.
+pub record IsApart (loan world : Parts) : Type 0 where
+  pub size : SameSize world loan
+  pub out : (p : Part) → IsSome (slot p loan) → slot p world ≡ None
+
+-- the first that holds something
+abbrev pub over : {X : Type 0} → Option X → Option X → Option X
+over None y = y
+over (Some x) y = Some x
