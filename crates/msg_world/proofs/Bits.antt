@@ -2,12 +2,12 @@
 use Rattle.std.proofs.Common.{◌≡◌, ◌≢◌, ℕ, zero, suc, ◌+◌, ◌*◌, ◌-◌, ◌/◌, ◌^◌, ◌%◌, ◌<◌, ◌≤◌, min, max, Bool, true, false, not, ◌&&◌, ◌||◌, inl, inr, refl, ap, sym, ◌∙◌, arith, w64}
 use Rattle.std.specs.Prelude.{◌==◌, ◌↔◌, IsTrue, bit_and, bit_or}
 use Rattle.std.specs.Int.{bit_at, bit_not, trailing_zeros}
-use Rattle.std.proofs.lemmas.Bool.{cases_lt, cases_eq, eqb-true, eq-eqb, ne_eqb, eqb-false, not-true, false≢true}
+use Rattle.std.proofs.lemmas.Bool.{cases_Bool, and_from, and_parts, cases_lt, cases_eq, eqb-true, eq-eqb, ne_eqb, eqb-false, not-true, false≢true}
 use Rattle.std.proofs.lemmas.Nat.{and_le_l, shr-shr}
 use Rattle.std.proofs.Math.Nat.{div-le_self}
 use Rattle.std.proofs.lemmas.Nat.Bits.{bit_at_and, bit_at_or, bit_at_not, bit_at_above, bit_at-zero, bit_at-lt, bit_at_set_same, bit_at_set_other, bit_at_clear_same, bit_at_clear_other, bit_at-trailing_zeros}
 use Rattle.msg_world.specs.Access.{has_bit}
-use Rattle.msg_world.specs.Masks.{ShareBit, IsBelow}
+use Rattle.msg_world.specs.Masks.{ShareBit, IsBelow, IsWithin}
 
 or_test : (x y : ℕ) → x < 2 → y < 2 → (max x y == 1) ≡ ((x == 1) || (y == 1))
 or_test zero zero h k = refl
@@ -105,5 +105,22 @@ shr-is_below mask n fits = (
         let bit = some_bit (mask / 2 ^ n) (omega arith) ne in
         let past : n + bit.0 < n = below (n + bit.0) (sym (ap (λ m. m % 2 == 1) (shr-shr mask n bit.0)) ∙ bit.1.1) in
         absurd (omega arith)
+  ],
+)
+
+-- a mask without the bits of another is 0 where it has no other bits
+pub zero-is_within : (mask other rest : ℕ) → rest < 2 ^ 64 → ((k : ℕ) → has_bit rest k ≡ (has_bit mask k && not (has_bit other k)))
+    → IsTrue (rest == 0) ↔ IsWithin mask other
+zero-is_within mask other rest fits bits = (
+  λ t k bit. elim (cases_Bool (has_bit other k)) [
+    | inl has ↦ has
+    | inr hasnt ↦ absurd (false≢true (sym (has_bit-zero k) ∙ ap (λ n. has_bit n k) (sym (eqb-true rest 0 t)) ∙ bits k ∙ and_from (has_bit mask k) (not (has_bit other k)) bit (ap not hasnt)))
+  ],
+  λ within. elim (cases_eq rest 0) [
+    | inl e ↦ eq-eqb rest 0 e
+    | inr ne ↦
+        let bit = some_bit rest fits ne in
+        let both = and_parts (has_bit mask bit.0) (not (has_bit other bit.0)) (sym (bits bit.0) ∙ bit.1.1) in
+        absurd (false≢true (ap not (sym (within bit.0 both.0)) ∙ both.1))
   ],
 )

@@ -64,8 +64,3 @@ PartsStand w s = (p : Part) → IfSome (slot p w) (λ k. StuffStands p k (conten
 pub record IsApart (loan world : Parts) : Type 0 where
   pub size : SameSize world loan
   pub out : (p : Part) → IsSome (slot p loan) → slot p world ≡ None
-
--- the first that holds something
-abbrev pub over : {X : Type 0} → Option X → Option X → Option X
-over None y = y
-over (Some x) y = Some x

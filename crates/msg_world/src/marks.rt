@@ -1,3 +1,5 @@
+ghost use Rattle.std.specs.Prelude.{◌≡◌, ◌&&◌, ◌||◌, not, false};
+
 /// What the registry keeps of signals.
 #[derive(Clone, Copy, Debug, PartialEq, Eq)]
 pub(crate) struct Marks {
@@ -5,4 +7,32 @@ pub(crate) struct Marks {
     pub(crate) held: bool,
     /// A signal was given, and not spent on an update yet.
     pub(crate) pending: bool,
+}
+
+impl Marks {
+    pub(crate) fn is_waiting(self) -> bool
+        ensures waiting { result ≡ (self.held && not self.pending) }
+    {
+        self.held && !self.pending
+    }
+
+    /// After an update.
+    pub(crate) fn spent(self) -> Marks
+        ensures spent { result ≡ record self { pending = false } }
+    {
+        Marks {
+            pending: false,
+            ..self
+        }
+    }
+
+    /// After a signal.
+    pub(crate) fn signalled(self) -> Marks
+        ensures signalled { result ≡ record self { pending = self.pending || self.held } }
+    {
+        Marks {
+            pending: self.pending || self.held,
+            ..self
+        }
+    }
 }

@@ -50,5 +50,5 @@ pub fn is_below(mask: u64, n: u32) -> bool
 pub fn is_within(mask: u64, other: u64) -> bool
     ensures { IsTrue result ↔ IsWithin mask other }
 {
-    mask & !other == 0
+    without(mask, other) == 0
 }

@@ -1,17 +1,13 @@
 // Slots that hold something or are empty, and moving what they hold.
 ghost use Rattle.std.specs.Prelude.{◌≡◌, ℕ, ◌<◌, ◌≤◌, None, IfOk, replicate, is_some, slice_set, vec_len, if◌then◌else◌};
-ghost use Rattle.std.specs.Option.{option_copied};
+ghost use Rattle.std.specs.Option.{option_copied, option_or};
 ghost use Rattle.msg_world.specs.Access.{has_bit};
-ghost use Rattle.msg_world.specs.Parts.{over};
 ghost use Rattle.msg_world.specs.Slots.{at};
 
 use crate::masks;
 use std::alloc::{AllocError, Global};
 
-pub(crate) fn empty_slots<T: Drop>(
-    alloc: Global,
-    n: usize,
-) -> Result<Vec<Option<T>>, AllocError>
+pub(crate) fn empty_slots<T: Drop>(alloc: Global, n: usize) -> Result<Vec<Option<T>>, AllocError>
     ensures empty { IfOk result (λ v. v.items ≡ replicate n None) }
 {
     let mut slots = Vec::new(alloc);
@@ -80,7 +76,7 @@ pub(crate) fn move_slots<T: Drop>(from: &mut Vec<Option<T>>, to: &mut Vec<Option
 pub(crate) fn return_slots<T: Drop>(from: &mut Vec<Option<T>>, home: &mut Vec<Option<T>>)
     requires as_many { vec_len from.old ≡ vec_len home.old }
     ensures joined { (k : ℕ)
-        → at home.new.items k ≡ over (at from.old.items k) (at home.old.items k) }
+        → at home.new.items k ≡ option_or (at from.old.items k) (at home.old.items k) }
     ensures home_len { vec_len home.new ≡ vec_len home.old }
 {
     for k in 0..home.len() {

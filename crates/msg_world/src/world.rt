@@ -1,21 +1,20 @@
-ghost use Rattle.std.specs.Prelude.{◌≡◌, ℕ, ◌+◌, ◌<◌, ◌≤◌, ◌↔◌, [], ◌∷◌, length, slice_index, slice_get, Some, None, IfOk, IfErr, OnOk, OnErr, IsTrue, IsSome, IsSomeAnd, map, if◌then◌else◌};
-ghost use Rattle.std.specs.Option.{option_copied};
-ghost use Rattle.msg_buffer.specs.History.{History, count, empty, write};
+ghost use Rattle.std.specs.Prelude.{◌≡◌, ℕ, ◌+◌, ◌<◌, ◌≤◌, ◌↔◌, [], ◌∷◌, length, slice_index, slice_get, is_some, Some, None, IfOk, IfErr, OnOk, OnErr, IsTrue, IsSome, IsSomeAnd, map, if◌then◌else◌};
+ghost use Rattle.std.specs.Option.{option_copied, option_or};
+ghost use Rattle.msg_buffer.specs.History.{History, count, empty, update, write};
 ghost use Rattle.msg_buffer.specs.Refusals.{IsSpent, message_refused};
 ghost use Rattle.msg_buffer.specs.StandsFor.{StandsFor};
 ghost use Rattle.msg_world.specs.Access.{Part, OfType, OfResource, Registry, writes};
-ghost use Rattle.msg_world.specs.Parts.{IsApart, IsHome, IsWhole, PartsStand, SameShape, SameSize, over, slot};
-ghost use Rattle.msg_world.specs.Slots.{AllUpdated, at};
+ghost use Rattle.msg_world.specs.Parts.{IsApart, IsHome, IsWhole, PartsStand, SameShape, SameSize, slot};
+ghost use Rattle.msg_world.specs.Slots.{AllUpdated, BufferStands, at};
 ghost use Rattle.msg_world.specs.World.{WorldState, by, held, new_world, updated, with_history};
 
 use crate::access::Access;
 use crate::counts::Counts;
 use crate::marks::Marks;
-use crate::masks;
 use crate::record::{HOST, Record};
 use crate::slots::{empty_slots, filled, move_slots, return_slots, slot_ref};
 use crate::taken::Taken;
-use crate::{ResNo, TypeNo};
+use crate::{ResNo, TypeNo, masks};
 use msg_buffer::{MessageId, Messages, NoMemory, WriteRefusal};
 use std::alloc::Global;
 use std::marker::Model;
@@ -66,15 +65,57 @@ fn new_resources(alloc: Global, values: &[i64]) -> Result<Vec<Option<i64>>, NoMe
     Ok(resources)
 }
 
+/// Updates a buffer, if there is one.
+fn update_slot(slot: &mut Option<Messages<Record>>)
+    ensures there { is_some slot.new ≡ is_some slot.old }
+    ensures updated { (h : History Record) → BufferStands slot.old h
+        → BufferStands slot.new (update h) }
+{
+    if let Some(messages) = slot {
+        messages.update();
+    }
+}
+
 /// Updates every buffer that is there.
-fn update_each(types: &mut Vec<Option<Messages<Record>>>)
-    ensures updated { AllUpdated types.old.items types.new.items }
+fn update_each(types: &mut [Option<Messages<Record>>])
+    ensures updated { AllUpdated types.old types.new }
 {
     for slot in types.iter_mut() {
-        if let Some(messages) = slot {
-            messages.update();
-        }
+        update_slot(slot);
     }
+}
+
+/// How many messages were ever written to a buffer; 0 where there is none.
+fn count_of(slot: &Option<Messages<Record>>) -> u64
+    ensures count { IsSome slot.now → (h : History Record) → BufferStands slot.now h
+        → result ≡ count h }
+{
+    match slot {
+        Some(messages) => messages.count(),
+        None => 0,
+    }
+}
+
+/// The counts of all buffers.
+fn counts_of(types: &[Option<Messages<Record>>]) -> Counts
+    requires few { length types.now ≤ 64 }
+    ensures types { length result ≡ length types.now }
+    ensures counts { (t : ℕ) → IsSome (at types.now t) → (h : History Record)
+        → BufferStands (at types.now t) h → slice_get result t ≡ Some (count h) }
+{
+    let mut counts = Counts::none();
+    for slot in types {
+        counts.push(count_of(slot));
+    }
+    counts
+}
+
+/// Takes the marks out, if they are lent.
+fn take_marks(marks: &mut Option<Marks>, lent: bool) -> Option<Marks>
+    ensures taken { result ≡ (if lent then marks.old else None) }
+    ensures left { marks.new ≡ (if lent then None else marks.old) }
+{
+    if lent { marks.take() } else { None }
 }
 
 impl World {
@@ -109,14 +150,11 @@ impl World {
         let Some(marks) = self.marks else {
             return;
         };
-        if marks.held && !marks.pending {
+        if marks.is_waiting() {
             return;
         }
         update_each(&mut self.types);
-        self.marks = Some(Marks {
-            pending: false,
-            ..marks
-        });
+        self.marks = Some(marks.spent());
     }
 
     /// Holds the world: its updates wait for a signal from now on. A signal that wasn't spent is lost.
@@ -136,7 +174,7 @@ impl World {
         requires home { IsSome (slot (OfType t) self.old) }
         ensures meaning { OnOk result ((s : WorldState) → PartsStand self.old s
             → PartsStand self.new
-                (with_history s t (write (by HOST value ∷ []) (s.histories t)))) }
+            (with_history s t (write (by HOST value ∷ []) (s.histories t)))) }
         ensures number { IfOk result (λ id. (s : WorldState) → PartsStand self.old s
             → id.0 ≡ count (s.histories t)) }
         ensures room { OnOk result ((s : WorldState) → PartsStand self.old s
@@ -165,14 +203,7 @@ impl World {
         ensures meaning { (s : WorldState) → PartsStand self.now s → (t : ℕ)
             → t < length self.now.types → slice_get result t ≡ Some (count (s.histories t)) }
     {
-        let mut counts = Counts::none();
-        for slot in &self.types {
-            counts.push(match slot {
-                Some(messages) => messages.count(),
-                None => 0,
-            });
-        }
-        counts
+        counts_of(&self.types)
     }
 
     /// The messages of a type; None where there is no such type, or it is out.
@@ -195,9 +226,10 @@ impl World {
     {
         let types = masks::either(access.read_types, access.write_types);
         let resources = masks::either(access.read_res, access.write_res);
-        masks::is_within(types, filled(&self.types))
-            && masks::is_within(resources, filled(&self.resources))
-            && (!access.registry || self.marks.is_some())
+        let types_home = masks::is_within(types, filled(&self.types));
+        let resources_home = masks::is_within(resources, filled(&self.resources));
+        let marks_home = !access.registry | self.marks.is_some();
+        types_home & resources_home & marks_home
     }
 
     /// Moves out what the access writes. What it only reads stays, to be read by others too.
@@ -216,11 +248,7 @@ impl World {
         let mut resources = empty_slots(alloc, self.resources.len())?;
         move_slots(&mut self.types, &mut types, access.write_types);
         move_slots(&mut self.resources, &mut resources, access.write_res);
-        let marks = if access.registry {
-            self.marks.take()
-        } else {
-            None
-        };
+        let marks = take_marks(&mut self.marks, access.registry);
         Ok(Taken {
             types,
             resources,
@@ -231,7 +259,7 @@ impl World {
     /// Moves home what was moved out. It takes no memory.
     pub fn take_back(&mut self, taken: Taken)
         requires apart { IsApart taken self.old }
-        ensures joined { (p : Part) → slot p self.new ≡ over (slot p taken) (slot p self.old) }
+        ensures joined { (p : Part) → slot p self.new ≡ option_or (slot p taken) (slot p self.old) }
         ensures size { SameSize self.old self.new }
     {
         let Taken {
