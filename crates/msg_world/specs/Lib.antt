@@ -1,4 +1,5 @@
 pub mod Access
+pub mod Lending
 pub mod Masks
 pub mod Parts
 pub mod Slots
