@@ -1,5 +1,6 @@
 pub mod Access
 pub mod Lending
+pub mod Loan
 pub mod Masks
 pub mod Parts
 pub mod Slots

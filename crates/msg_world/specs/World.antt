@@ -50,8 +50,11 @@ abbrev pub updated : WorldState → WorldState
 updated s = if waits s then s else record s { histories = λ t. update (s.histories t); marks = record s.marks { pending = false } }
 
 -- A signal makes a held world pending. It changes nothing where the world isn't held.
+abbrev pub signalled_marks : Marks → Marks
+signalled_marks m = record m { pending = m.pending || m.held }
+
 abbrev pub signalled : WorldState → WorldState
-signalled s = record s { marks = record s.marks { pending = s.marks.pending || s.marks.held } }
+signalled s = record s { marks = signalled_marks s.marks }
 
 -- held, and waiting
 abbrev pub held : WorldState → WorldState

@@ -3,6 +3,7 @@
 
 mod access;
 mod counts;
+mod lent;
 mod marks;
 mod masks;
 mod record;
@@ -16,6 +17,7 @@ mod world;
 
 pub use access::Access;
 pub use counts::Counts;
+pub use lent::Lent;
 pub use msg_buffer::NoMemory;
 pub use record::{HOST, Record};
 pub use res_no::ResNo;

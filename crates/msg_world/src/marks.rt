@@ -1,4 +1,4 @@
-ghost use Rattle.std.specs.Prelude.{◌≡◌, ◌&&◌, ◌||◌, not, false};
+ghost use Rattle.std.specs.Prelude.{◌≡◌, ◌&&◌, not, false};
 
 /// What the registry keeps of signals.
 #[derive(Clone, Copy, Debug, PartialEq, Eq)]
@@ -10,6 +10,8 @@ pub(crate) struct Marks {
 }
 
 impl Marks {
+    ghost use Rattle.msg_world.specs.World.{signalled_marks};
+
     pub(crate) fn is_waiting(self) -> bool
         ensures waiting { result ≡ (self.held && not self.pending) }
     {
@@ -28,7 +30,7 @@ impl Marks {
 
     /// After a signal.
     pub(crate) fn signalled(self) -> Marks
-        ensures signalled { result ≡ record self { pending = self.pending || self.held } }
+        ensures signalled { result ≡ signalled_marks self }
     {
         Marks {
             pending: self.pending || self.held,

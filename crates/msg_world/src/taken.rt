@@ -25,11 +25,12 @@ impl Model for Taken {
 impl Taken {
     ghost use Rattle.std.specs.Borrow.{sem};
     ghost use Rattle.std.specs.Option.{option_copied, option_copied_mut};
-    ghost use Rattle.std.specs.Prelude.{◌≡◌};
-    ghost use Rattle.msg_world.specs.Access.{OfType, OfResource};
+    ghost use Rattle.std.specs.Prelude.{◌≡◌, is_some, option_map};
+    ghost use Rattle.msg_world.specs.Access.{OfType, OfResource, Registry};
     ghost use Rattle.msg_world.specs.Lending.{LendsMessages, LendsValue};
     ghost use Rattle.msg_world.specs.Parts.{slot};
     ghost use Rattle.msg_world.specs.Slots.{at};
+    ghost use Rattle.msg_world.specs.World.{signalled_marks};
 
     /// What is there of a type.
     pub(crate) fn messages(&self, t: TypeNo) -> Option<&Messages<Record>>
@@ -63,5 +64,18 @@ impl Taken {
             Some(slot) => slot.as_mut(),
             None => None,
         }
+    }
+
+    /// Marks a signal, where the registry is there; says whether it is.
+    pub(crate) fn signal(&mut self) -> bool
+        ensures answer { result ≡ is_some (slot Registry self.old) }
+        ensures marks { self.new ≡ record self.old {
+            marks = option_map signalled_marks self.old.marks } }
+    {
+        let Some(marks) = self.marks else {
+            return false;
+        };
+        self.marks = Some(marks.signalled());
+        true
     }
 }
