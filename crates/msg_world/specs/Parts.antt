@@ -1,5 +1,6 @@
 -- What is at home in a world, or was moved out of it, and what it stands for.
 use Rattle.std.specs.Prelude.{◌≡◌, ℕ, ℤ, ◌<◌, Bool, Option, None, Some, IsSome, IfSome, is_some, IsTrue, List, length, slice_index_or, if◌then◌else◌}
+use Rattle.std.specs.Option.{option_or}
 use Rattle.msg_buffer.specs.Kept.{Kept}
 use Rattle.msg_buffer.specs.StandsFor.{StandsFor}
 use Rattle.msg_world.specs.declared.record.Record.{Record}
@@ -60,7 +61,19 @@ StuffStands Registry m n = m ≡ n
 abbrev pub PartsStand : Parts → WorldState → Type 0
 PartsStand w s = (p : Part) → IfSome (slot p w) (λ k. StuffStands p k (content p s))
 
--- A loan's parts are apart from a world's: they are as many, and what is in the loan is out of the world.
-pub record IsApart (loan world : Parts) : Type 0 where
-  pub size : SameSize world loan
-  pub out : (p : Part) → IsSome (slot p loan) → slot p world ≡ None
+-- Parts are apart from a world: they are as many, and what is there of them is out of the world.
+pub record IsApart (taken world : Parts) : Type 0 where
+  pub size : SameSize world taken
+  pub out : (p : Part) → IsSome (slot p taken) → slot p world ≡ None
+
+-- What an access writes was moved out of a world, and all else stayed.
+pub record LendsOut (a : Access) (old left taken : Parts) : Type 0 where
+  pub moved : (p : Part) → slot p taken ≡ (if writes a p then slot p old else None)
+  pub stayed : (p : Part) → slot p left ≡ (if writes a p then None else slot p old)
+  pub taken_size : SameSize old taken
+  pub left_size : SameSize old left
+
+-- What was moved out is in the world again, and all else as it was.
+pub record TakesBack (taken old new : Parts) : Type 0 where
+  pub joined : (p : Part) → slot p new ≡ option_or (slot p taken) (slot p old)
+  pub size : SameSize old new

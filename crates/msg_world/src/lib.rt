@@ -3,6 +3,7 @@
 
 mod access;
 mod counts;
+mod laws;
 mod lent;
 mod marks;
 mod masks;
@@ -17,6 +18,7 @@ mod world;
 
 pub use access::Access;
 pub use counts::Counts;
+pub use laws::{lent_parts_are_a_loan, loans_stand_side_by_side, written_parts_come_home};
 pub use lent::Lent;
 pub use msg_buffer::NoMemory;
 pub use record::{HOST, Record};

@@ -70,7 +70,8 @@ impl Taken {
     pub(crate) fn signal(&mut self) -> bool
         ensures answer { result ≡ is_some (slot Registry self.old) }
         ensures marks { self.new ≡ record self.old {
-            marks = option_map signalled_marks self.old.marks } }
+          marks = option_map signalled_marks self.old.marks;
+        } }
     {
         let Some(marks) = self.marks else {
             return false;

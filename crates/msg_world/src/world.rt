@@ -1,10 +1,10 @@
 ghost use Rattle.std.specs.Prelude.{◌≡◌, ℕ, ◌+◌, ◌<◌, ◌≤◌, ◌↔◌, [], ◌∷◌, length, slice_index, slice_get, is_some, Some, None, IfOk, IfErr, OnOk, OnErr, IsTrue, IsSome, IsSomeAnd, map, if◌then◌else◌};
-ghost use Rattle.std.specs.Option.{option_copied, option_or};
+ghost use Rattle.std.specs.Option.{option_copied};
 ghost use Rattle.msg_buffer.specs.History.{History, count, empty, update, write};
 ghost use Rattle.msg_buffer.specs.Refusals.{IsSpent, message_refused};
 ghost use Rattle.msg_buffer.specs.StandsFor.{StandsFor};
 ghost use Rattle.msg_world.specs.Access.{Part, OfType, OfResource, Registry, writes};
-ghost use Rattle.msg_world.specs.Parts.{IsApart, IsHome, IsWhole, PartsStand, SameShape, SameSize, slot};
+ghost use Rattle.msg_world.specs.Parts.{IsApart, IsHome, IsWhole, LendsOut, PartsStand, TakesBack, SameShape, SameSize, slot};
 ghost use Rattle.msg_world.specs.Slots.{AllUpdated, BufferStands, at};
 ghost use Rattle.msg_world.specs.World.{WorldState, by, held, new_world, updated, with_history};
 
@@ -235,12 +235,7 @@ impl World {
     /// Moves out what the access writes. What it only reads stays, to be read by others too.
     pub fn lend_out(&mut self, access: &Access) -> Result<Taken, NoMemory>
         requires home { IsHome access.now self.old }
-        ensures taken { IfOk result (λ t. (p : Part)
-            → slot p t ≡ (if writes access.now p then slot p self.old else None)) }
-        ensures left { OnOk result ((p : Part)
-            → slot p self.new ≡ (if writes access.now p then None else slot p self.old)) }
-        ensures taken_size { IfOk result (λ t. SameSize self.old t) }
-        ensures left_size { OnOk result (SameSize self.old self.new) }
+        ensures lent { IfOk result (λ taken. LendsOut access.now self.old self.new taken) }
         ensures err { OnErr result (self.new ≡ self.old) }
     {
         let alloc = *self.types.allocator();
@@ -259,8 +254,7 @@ impl World {
     /// Moves home what was moved out. It takes no memory.
     pub fn take_back(&mut self, taken: Taken)
         requires apart { IsApart taken self.old }
-        ensures joined { (p : Part) → slot p self.new ≡ option_or (slot p taken) (slot p self.old) }
-        ensures size { SameSize self.old self.new }
+        ensures home { TakesBack taken self.old self.new }
     {
         let Taken {
             mut types,

@@ -1,0 +1,5 @@
+use Rattle.msg_world.proofs.Loans.{home_merges}
+use Rattle.msg_world.proofs.laws.written_parts_come_home.Goals as goal
+
+pub returns : goal.returns
+returns c = record { law = home_merges }
