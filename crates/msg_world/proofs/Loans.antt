@@ -1,17 +1,25 @@
 -- What loans stand for.
-use Rattle.std.proofs.Common.{◌≡◌, Bool, true, false, refl, sym, ap, subst, ◌∙◌, inl, inr, Option, Some, None}
-use Rattle.std.specs.Prelude.{IfSome, IsSome, IsTrue, is_some, option_map, if◌then◌else◌}
+use Rattle.std.proofs.Common.{◌≡◌, ℕ, ◌<◌, length, Bool, true, false, refl, sym, ap, subst, ◌∙◌, inl, inr, Option, Some, None}
+use Rattle.std.specs.Prelude.{ℤ, IfSome, IsSome, IsTrue, is_some, option_map, if◌then◌else◌}
 use Rattle.std.specs.Option.{option_or}
-use Rattle.std.proofs.lemmas.Bool.{and_from, cases_Bool, or_left, or_right}
+use Rattle.std.proofs.lemmas.Bool.{and_from, cases_Bool, cases_eq, cases_lt, eq-eqb, ne_eqb, false≢true, or_left, or_right}
+use Rattle.std.proofs.Math.ListN.{length-set}
+use Rattle.std.proofs.lemmas.List.{get_or-set_same, get_or-set_other, get_or_past}
+use Rattle.msg_buffer.specs.History.{History}
+use Rattle.msg_buffer.specs.Kept.{Kept}
+use Rattle.msg_buffer.specs.StandsFor.{StandsFor}
+use Rattle.msg_world.specs.declared.record.Record.{Record}
+use Rattle.msg_world.specs.Lending.{with_type, with_value}
+use Rattle.msg_world.proofs.Worlds.{type_shape}
 use Rattle.std.proofs.lemmas.Option.{none-some}
 use Rattle.msg_world.specs.declared.access.Access.{Access}
 use Rattle.msg_world.specs.declared.lent.Lent.{Lent}
 use Rattle.msg_world.specs.declared.marks.Marks.{Marks}
 use Rattle.msg_world.specs.Access.{Part, OfType, OfResource, Registry, reads, uses, writes}
-use Rattle.msg_world.specs.Loan.{IsLoanOf, LoanStands, SameLoan, shown, taken_of}
-use Rattle.msg_world.specs.LoanLaws.{HomeMerges, LentIsLoan, LoanStays}
-use Rattle.msg_world.specs.Parts.{IsHome, LendsOut, Parts, SameShape, Stuff, StuffStands, slot}
-use Rattle.msg_world.specs.World.{Content, WorldState, content, merge, signalled, signalled_marks}
+use Rattle.msg_world.specs.Loan.{IsLoanOf, LoanStands, SameLoan, shown, taken_of, with_messages, with_resource, writable}
+use Rattle.msg_world.specs.LoanLaws.{HomeMerges, LentIsLoan, LoanStays, MayComeHome, StaysApart, ValuesStand, WritesStand}
+use Rattle.msg_world.specs.Parts.{IsApart, IsHome, LendsOut, Parts, SameShape, TakesBack, Stuff, StuffStands, slot}
+use Rattle.msg_world.specs.World.{Content, WorldState, content, merge, signalled, signalled_marks, with_history, with_value_of}
 
 same_marks : (m : Option Marks) (n : Marks) → IfSome m (λ k. k ≡ n) → IfSome (option_map signalled_marks m) (λ k. k ≡ signalled_marks n)
 same_marks None n is = tt
@@ -40,6 +48,70 @@ signal_stands l s lent stand Registry =
     let P : Bool → Type 0 = λ b. IfSome (if b then option_map signalled_marks l.taken.marks else None) (λ k. k ≡ signalled_marks s.marks) in
     let Q : Bool → Type 0 = λ b. IfSome (if b then l.taken.marks else None) (λ k. k ≡ s.marks) in
     subst P (sym lent) (same_marks l.taken.marks s.marks (subst Q lent (stand Registry)))
+
+-- ---- writing
+
+type_there : (w : Parts) (t : ℕ) → IsSome (slot (OfType t) w) → t < length w.types
+type_there w t there = elim (cases_lt t (length w.types)) [
+  | inl lt ↦ lt
+  | inr past ↦ absurd (false≢true (sym (ap is_some (get_or_past w.types t None past)) ∙ there))
+]
+
+value_there : (w : Parts) (r : ℕ) → IsSome (slot (OfResource r) w) → r < length w.resources
+value_there w r there = elim (cases_lt r (length w.resources)) [
+  | inl lt ↦ lt
+  | inr past ↦ absurd (false≢true (sym (ap is_some (get_or_past w.resources r None past)) ∙ there))
+]
+
+-- what may be written is written by the access, and there
+is_written : (p : Part) (l : Lent) → IsSome (writable p l) → IsTrue (writes l.access p) × IsSome (slot p l.taken)
+is_written p l there = elim (cases_Bool (writes l.access p)) [
+  | inl is ↦ (is, rw is at there)
+  | inr isnt ↦ absurd (false≢true (rw isnt at there))
+]
+
+pub writes_are : WritesStand
+writes_are l t k there =
+    let written = is_written (OfType t) l there in
+    let lt = type_there l.taken t written.1 in (
+      record { access = refl; world = refl; shape = type_shape l.taken t k lt written.1 },
+      λ s h here stand. stands s h here stand written.0 lt,
+    )
+  where
+    stands : (s : WorldState) (h : History Record) → StandsFor k h → LoanStands l s → IsTrue (writes l.access (OfType t)) → t < length l.taken.types → LoanStands (with_messages l t k) (with_history s t h)
+    stands s h here stand written lt (OfType u) = elim (cases_eq u t) [
+      | inl e ↦ rw (e, written, get_or-set_same l.taken.types t (Some k) None lt, eq-eqb t t refl) here
+      | inr ne ↦ rw (get_or-set_other l.taken.types t u (Some k) None ne, ne_eqb u t ne) (stand (OfType u))
+    ]
+    stands s h here stand written lt (OfResource r) = stand (OfResource r)
+    stands s h here stand written lt Registry = stand Registry
+
+value_shape : (w : Parts) (r : ℕ) (z : ℤ) → r < length w.resources → IsSome (slot (OfResource r) w) → SameShape w (with_value w r z)
+value_shape w r z lt there = record { size = record { types = refl; resources = length-set w.resources r (Some z) }; there = same }
+  where
+    same : (p : Part) → is_some (slot p (with_value w r z)) ≡ is_some (slot p w)
+    same (OfType t) = refl
+    same (OfResource q) = elim (cases_eq q r) [
+      | inl e ↦ rw (e, get_or-set_same w.resources r (Some z) None lt) (sym there)
+      | inr ne ↦ ap is_some (get_or-set_other w.resources r q (Some z) None ne)
+    ]
+    same Registry = refl
+
+pub values_are_written : ValuesStand
+values_are_written l r z there =
+    let written = is_written (OfResource r) l there in
+    let lt = value_there l.taken r written.1 in (
+      record { access = refl; world = refl; shape = value_shape l.taken r z lt written.1 },
+      λ s stand. stands s stand written.0 lt,
+    )
+  where
+    stands : (s : WorldState) → LoanStands l s → IsTrue (writes l.access (OfResource r)) → r < length l.taken.resources → LoanStands (with_resource l r z) (with_value_of s r z)
+    stands s stand written lt (OfType t) = stand (OfType t)
+    stands s stand written lt (OfResource q) = elim (cases_eq q r) [
+      | inl e ↦ rw (e, written, get_or-set_same l.taken.resources r (Some z) None lt, eq-eqb r r refl) refl
+      | inr ne ↦ rw (get_or-set_other l.taken.resources r q (Some z) None ne, ne_eqb q r ne) (stand (OfResource q))
+    ]
+    stands s stand written lt Registry = stand Registry
 
 -- ---- lending out
 
@@ -84,6 +156,24 @@ loan_stays a b world taken left others apart loan lends = record {
 }
 
 -- ---- coming home
+
+taken_is_out : (a : Access) (old left taken later : Parts) → LendsOut a old left taken → SameShape taken later → (p : Part) → IsSome (slot p later) → slot p left ≡ None
+taken_is_out a old left taken later lends same p there = elim (cases_Bool (writes a p)) [
+  | inl is ↦ lends.stayed p ∙ rw is refl
+  | inr isnt ↦ absurd (false≢true (sym (ap is_some (lends.moved p) ∙ rw isnt refl) ∙ sym (same.there p) ∙ there))
+]
+
+pub may_come_home : MayComeHome
+may_come_home a old left taken later lends same = record {
+  size = record { types = same.size.types ∙ lends.taken_size.types ∙ sym lends.left_size.types; resources = same.size.resources ∙ lends.taken_size.resources ∙ sym lends.left_size.resources };
+  out = taken_is_out a old left taken later lends same;
+}
+
+pub stays_apart : StaysApart
+stays_apart taken others world home apart back none = record {
+  size = record { types = apart.size.types ∙ sym back.size.types; resources = apart.size.resources ∙ sym back.size.resources };
+  out = λ p there. back.joined p ∙ rw (none p there, apart.out p there) refl;
+}
 
 content_merged : (a : Access) (mine s : WorldState) (p : Part) → content p (merge a mine s) ≡ (if writes a p then content p mine else content p s)
 content_merged a mine s (OfType t) = refl

@@ -51,10 +51,16 @@ pub record IsLoanOf (a : Access) (world taken : Parts) : Type 0 where
 
 -- ---- how the references that it gives out write back
 
+abbrev pub with_messages : Lent → ℕ → Kept Record → Lent
+with_messages l t k = record l { taken = with_type l.taken t k }
+
+abbrev pub with_resource : Lent → ℕ → ℤ → Lent
+with_resource l r z = record l { taken = with_value l.taken r z }
+
 -- the loan ends with this type's messages as they were left
 abbrev pub LendsWriter : MutBor Lent → ℕ → Option (MutBor (Kept Record)) → Fml
-LendsWriter l t given = LendsIf (lent_row (record { mir = named 0; lft = [] })) messages_row l given (λ k. record l.now { taken = with_type l.now.taken t k }) l.now
+LendsWriter l t given = LendsIf (lent_row (record { mir = named 0; lft = [] })) messages_row l given (with_messages l.now t) l.now
 
 -- the loan ends with this resource as it was left
 abbrev pub LendsResource : MutBor Lent → ℕ → Option (MutBor ℤ) → Fml
-LendsResource l r given = LendsIf (lent_row (record { mir = named 0; lft = [] })) i64 l given (λ z. record l.now { taken = with_value l.now.taken r z }) l.now
+LendsResource l r given = LendsIf (lent_row (record { mir = named 0; lft = [] })) i64 l given (with_resource l.now r) l.now

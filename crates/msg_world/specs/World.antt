@@ -38,8 +38,8 @@ by writer value = record { writer = writer; value = value }
 abbrev pub with_history : WorldState → ℕ → History Record → WorldState
 with_history s t h = record s { histories = λ u. if u == t then h else s.histories u }
 
-abbrev pub with_resource : WorldState → ℕ → ℤ → WorldState
-with_resource s r z = record s { resources = λ q. if q == r then z else s.resources q }
+abbrev pub with_value_of : WorldState → ℕ → ℤ → WorldState
+with_value_of s r z = record s { resources = λ q. if q == r then z else s.resources q }
 
 -- a held world waits until a signal is given
 abbrev pub waits : WorldState → Bool

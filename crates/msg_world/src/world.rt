@@ -266,3 +266,6 @@ impl World {
         self.marks = marks.or(self.marks);
     }
 }
+
+#[cfg(test)]
+mod tests;

@@ -1,0 +1,121 @@
+// Worked examples of lending, posts and held updates, and each public call once with ample memory.
+ghost use Rattle.msg_world.specs.Loan.{SameLoan};
+
+use crate::{Access, HOST, Lent, Record, ResNo, TypeNo, World};
+use crate::{lent_parts_are_a_loan, lent_parts_may_come_home, writes_stand, loans_stand_side_by_side, written_parts_come_home};
+use msg_buffer::{MessageId, WriteRefusal};
+use std::process::Abort;
+use std::test::Fail;
+
+fn type_no(rt: &impl Abort, number: u32) -> TypeNo {
+    match TypeNo::new(number) {
+        Some(t) => t,
+        None => panic!(rt; "no type has this number"),
+    }
+}
+
+fn res_no(rt: &impl Abort, number: u32) -> ResNo {
+    match ResNo::new(number) {
+        Some(r) => r,
+        None => panic!(rt; "no resource has this number"),
+    }
+}
+
+/// Writes a message where its type is lent for writing; says what number it got.
+fn write(lent: &mut Lent, t: TypeNo, record: Record) -> Option<MessageId>
+    ensures same { SameLoan lent.old lent.new }
+{
+    writes_stand();
+    match lent.writer(t) {
+        Some(messages) => messages.write(record).ok(),
+        None => None,
+    }
+}
+
+#[test]
+fn lending(rt: HostRuntime) -> Result<(), Fail> {
+    let (t, r) = (type_no(&rt, 0), res_no(&rt, 0));
+    let mut world = World::new(rt.alloc(), &[4], &[7])?;
+    let access = Access::none().with_write_type(t).with_read_res(r);
+    assert!(rt; world.is_home(&access));
+    lent_parts_are_a_loan();
+    let taken = world.lend_out(&access)?;
+    assert!(rt; !world.is_home(&access));
+    assert!(rt; world.messages(t).is_none());
+    let mut lent = Lent::open(&world, &access, taken);
+    let record = Record {
+        writer: 3,
+        value: 9,
+    };
+    assert_eq!(rt; write(&mut lent, t, record), Some(MessageId(0)));
+    lent_parts_may_come_home();
+    let taken = lent.into_taken();
+    world.take_back(taken);
+    match world.messages(t) {
+        Some(messages) => assert_eq!(rt; messages.get(MessageId(0)).copied(), Some(record)),
+        None => panic!(rt; "type 0 is home"),
+    }
+    assert!(rt; world.is_home(&access));
+    assert_eq!(rt; world.resource(r), Some(7));
+    Ok(())
+}
+
+#[test]
+fn a_loan_shows_what_its_access_uses(rt: HostRuntime) -> Result<(), Fail> {
+    let (t, u, r) = (type_no(&rt, 0), type_no(&rt, 1), res_no(&rt, 0));
+    let mut world = World::new(rt.alloc(), &[4, 4], &[7])?;
+    let access = Access::none().with_write_type(t).with_read_res(r);
+    assert!(rt; world.is_home(&access));
+    lent_parts_are_a_loan();
+    let taken = world.lend_out(&access)?;
+    let mut lent = Lent::open(&world, &access, taken);
+    assert!(rt; lent.reader(t).is_some());
+    assert!(rt; lent.reader(u).is_none());
+    assert_eq!(rt; lent.res(r), Some(7));
+    assert!(rt; lent.writer(t).is_some());
+    assert!(rt; lent.writer(u).is_none());
+    assert!(rt; lent.res_mut(r).is_none());
+    assert!(rt; !lent.signal());
+    Ok(())
+}
+
+#[test]
+fn what_is_out_is_not_home(rt: HostRuntime) -> Result<(), Fail> {
+    let (t, u) = (type_no(&rt, 0), type_no(&rt, 1));
+    let mut world = World::new(rt.alloc(), &[4, 4], &[])?;
+    let access = Access::none().with_write_type(t);
+    assert!(rt; world.is_home(&access));
+    let _taken = world.lend_out(&access)?;
+    assert!(rt; !world.is_home(&Access::none().with_read_type(t)));
+    assert!(rt; world.is_home(&Access::none().with_read_type(u)));
+    assert!(rt; world.messages(t).is_none());
+    assert!(rt; world.messages(u).is_some());
+    Ok(())
+}
+
+#[test]
+fn an_empty_world(rt: HostRuntime) -> Result<(), Fail> {
+    let world = World::new(rt.alloc(), &[], &[])?;
+    assert!(rt; world.is_home(&Access::none()));
+    assert!(rt; !world.is_home(&Access::none().with_read_type(type_no(&rt, 0))));
+    assert_eq!(rt; world.resource(res_no(&rt, 0)), None);
+    assert_eq!(rt; world.counts().of(type_no(&rt, 0)), None);
+    Ok(())
+}
+
+#[test]
+fn posts(rt: HostRuntime) -> Result<(), Fail> {
+    let (t, u) = (type_no(&rt, 0), type_no(&rt, 1));
+    let mut world = World::new(rt.alloc(), &[0, 2], &[])?;
+    assert!(rt; world.messages(t).is_some());
+    match world.post(t, 5) {
+        Err(WriteRefusal::NumbersSpent(record)) => {
+            assert_eq!(rt; record.writer, HOST);
+            assert_eq!(rt; record.value, 5);
+        }
+        _other => assert!(rt; false),
+    }
+    assert!(rt; world.messages(u).is_some());
+    assert_eq!(rt; world.post(u, 6).ok(), Some(MessageId(0)));
+    Ok(())
+}
