@@ -17,7 +17,7 @@ use Rattle.msg_world.specs.declared.lent.Lent.{Lent}
 use Rattle.msg_world.specs.declared.marks.Marks.{Marks}
 use Rattle.msg_world.specs.Access.{Part, OfType, OfResource, Registry, reads, uses, writes}
 use Rattle.msg_world.specs.Loan.{IsLoanOf, LoanStands, SameLoan, shown, taken_of, with_messages, with_resource, writable}
-use Rattle.msg_world.specs.LoanLaws.{HomeMerges, LentIsLoan, LoanStays, MayComeHome, StaysApart, ValuesStand, WritesStand}
+use Rattle.msg_world.specs.LoanLaws.{HomeAgain, HomeMerges, LentIsLoan, LoanStays, MayComeHome, StaysApart, ValuesStand, WritesStand}
 use Rattle.msg_world.specs.Parts.{IsApart, IsHome, LendsOut, Parts, SameShape, TakesBack, Stuff, StuffStands, slot}
 use Rattle.msg_world.specs.World.{Content, WorldState, content, merge, signalled, signalled_marks, with_history, with_value_of}
 
@@ -196,3 +196,16 @@ home_merges a taken world home mine s none out back here there p =
     let Q : Content p → Type 0 = λ x. IfSome (slot p home) (λ k. StuffStands p k x) in
     subst Q (sym (content_merged a mine s p))
     (subst P (sym (back.joined p)) (merged_slot p (writes a p) (slot p taken) (slot p world) mine s (none p) (out p) (here p) (there p)))
+
+home_slot : (b : Bool) {X : Type 0} (old left taken later home : Option X) → taken ≡ (if b then old else None) → left ≡ (if b then None else old)
+    → is_some later ≡ is_some taken → home ≡ option_or later left → is_some home ≡ is_some old
+home_slot true old left taken None home moved stayed same back = ap is_some back ∙ ap is_some stayed ∙ same ∙ ap is_some moved
+home_slot true old left taken (Some x) home moved stayed same back = ap is_some back ∙ same ∙ ap is_some moved
+home_slot false old left taken None home moved stayed same back = ap is_some back ∙ ap is_some stayed
+home_slot false old left taken (Some x) home moved stayed same back = absurd (false≢true (sym (ap is_some moved) ∙ sym same))
+
+pub home_again : HomeAgain
+home_again a old left taken later home lends same back = record {
+  size = record { types = back.size.types ∙ lends.left_size.types; resources = back.size.resources ∙ lends.left_size.resources };
+  there = λ p. home_slot (writes a p) (slot p old) (slot p left) (slot p taken) (slot p later) (slot p home) (lends.moved p) (lends.stayed p) (same.there p) (back.joined p);
+}

@@ -46,3 +46,8 @@ abbrev pub HomeMerges : Type 0
 HomeMerges = (a : Access) (taken world home : Parts) (mine s : WorldState)
     → ((p : Part) → writes a p ≡ false → slot p taken ≡ None) → ((p : Part) → IsTrue (writes a p) → slot p world ≡ None)
     → TakesBack taken world home → PartsStand taken mine → PartsStand world s → PartsStand home (merge a mine s)
+
+-- Everything that was home is home again.
+abbrev pub HomeAgain : Type 0
+HomeAgain = (a : Access) (old left taken later home : Parts) → LendsOut a old left taken → SameShape taken later → TakesBack later left home
+    → SameShape old home

@@ -1,5 +1,5 @@
 // Laws: facts that hold of every loan, and need no code.
-ghost use Rattle.msg_world.specs.LoanLaws.{HomeMerges, LentIsLoan, LoanStays, MayComeHome, StaysApart, ValuesStand, WritesStand};
+ghost use Rattle.msg_world.specs.LoanLaws.{HomeAgain, HomeMerges, LentIsLoan, LoanStays, MayComeHome, StaysApart, ValuesStand, WritesStand};
 
 /// What `World::lend_out` moved out may be opened for its access, and stands for what it stood for.
 pub fn lent_parts_are_a_loan()
@@ -11,8 +11,7 @@ pub fn lent_parts_are_a_loan()
 pub fn writes_stand()
     ensures messages { WritesStand }
     ensures values { ValuesStand }
-{
-}
+{}
 
 /// Loans whose accesses don't conflict stand side by side.
 pub fn loans_stand_side_by_side()
@@ -23,10 +22,10 @@ pub fn loans_stand_side_by_side()
 pub fn lent_parts_may_come_home()
     ensures alone { MayComeHome }
     ensures behind_others { StaysApart }
-{
-}
+{}
 
 /// What `World::take_back` makes of a world is that world with the written parts as they came back.
 pub fn written_parts_come_home()
-    ensures law { HomeMerges }
+    ensures meaning { HomeMerges }
+    ensures shape { HomeAgain }
 {}

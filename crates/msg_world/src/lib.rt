@@ -18,7 +18,10 @@ mod world;
 
 pub use access::Access;
 pub use counts::Counts;
-pub use laws::{lent_parts_are_a_loan, lent_parts_may_come_home, loans_stand_side_by_side, writes_stand, written_parts_come_home};
+pub use laws::{
+    lent_parts_are_a_loan, lent_parts_may_come_home, loans_stand_side_by_side, writes_stand,
+    written_parts_come_home,
+};
 pub use lent::Lent;
 pub use msg_buffer::NoMemory;
 pub use record::{HOST, Record};

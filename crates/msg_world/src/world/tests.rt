@@ -1,9 +1,13 @@
 // Worked examples of lending, posts and held updates, and each public call once with ample memory.
+ghost use Rattle.std.specs.Prelude.{OnOk};
 ghost use Rattle.msg_world.specs.Loan.{SameLoan};
+ghost use Rattle.msg_world.specs.Parts.{IsWhole, SameShape};
 
-use crate::{Access, HOST, Lent, Record, ResNo, TypeNo, World};
-use crate::{lent_parts_are_a_loan, lent_parts_may_come_home, writes_stand, loans_stand_side_by_side, written_parts_come_home};
-use msg_buffer::{MessageId, WriteRefusal};
+use crate::{
+    Access, HOST, Lent, Record, ResNo, TypeNo, World, lent_parts_are_a_loan,
+    lent_parts_may_come_home, loans_stand_side_by_side, writes_stand, written_parts_come_home,
+};
+use msg_buffer::{MessageId, NoMemory, WriteRefusal};
 use std::process::Abort;
 use std::test::Fail;
 
@@ -117,5 +121,70 @@ fn posts(rt: HostRuntime) -> Result<(), Fail> {
     }
     assert!(rt; world.messages(u).is_some());
     assert_eq!(rt; world.post(u, 6).ok(), Some(MessageId(0)));
+    Ok(())
+}
+
+/// Lends the registry to a job that signals twice, and takes it back.
+fn signal_twice(world: &mut World) -> Result<bool, NoMemory>
+    requires whole { IsWhole world.old }
+    ensures shape { OnOk result (SameShape world.old world.new) }
+{
+    let access = Access::none().with_registry();
+    lent_parts_are_a_loan();
+    let taken = world.lend_out(&access)?;
+    let mut lent = Lent::open(world, &access, taken);
+    let first = lent.signal();
+    let second = lent.signal();
+    lent_parts_may_come_home();
+    written_parts_come_home();
+    let taken = lent.into_taken();
+    world.take_back(taken);
+    Ok(first && second)
+}
+
+/// How many messages the first type keeps.
+fn kept(rt: &impl Abort, world: &World) -> u64 {
+    match world.messages(type_no(rt, 0)) {
+        Some(messages) => messages.len(),
+        None => panic!(rt; "type 0 is home"),
+    }
+}
+
+#[test]
+fn held_updates(rt: HostRuntime) -> Result<(), Fail> {
+    let t = type_no(&rt, 0);
+    let mut world = World::new(rt.alloc(), &[9], &[])?;
+    world.set_held();
+    assert!(rt; world.messages(t).is_some());
+    assert!(rt; world.post(t, 1).is_ok());
+    world.update_all();
+    world.update_all();
+    assert_eq!(rt; kept(&rt, &world), 1);
+    assert!(rt; signal_twice(&mut world)?);
+    world.update_all();
+    world.update_all();
+    assert_eq!(rt; kept(&rt, &world), 1, "two signals are one update");
+    assert!(rt; signal_twice(&mut world)?);
+    world.set_held();
+    world.update_all();
+    assert_eq!(rt; kept(&rt, &world), 1, "a signal that wasn't spent is lost");
+    assert!(rt; signal_twice(&mut world)?);
+    world.update_all();
+    assert_eq!(rt; kept(&rt, &world), 0);
+    assert_eq!(rt; world.counts().of(t), Some(1));
+    Ok(())
+}
+
+#[test]
+fn a_world_that_is_not_held(rt: HostRuntime) -> Result<(), Fail> {
+    let t = type_no(&rt, 0);
+    let mut world = World::new(rt.alloc(), &[9], &[])?;
+    assert!(rt; world.messages(t).is_some());
+    assert!(rt; world.post(t, 1).is_ok());
+    world.update_all();
+    assert!(rt; signal_twice(&mut world)?);
+    assert_eq!(rt; kept(&rt, &world), 1);
+    world.update_all();
+    assert_eq!(rt; kept(&rt, &world), 0);
     Ok(())
 }
