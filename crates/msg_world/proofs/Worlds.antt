@@ -1,6 +1,6 @@
 -- What a world stands for after each change, part by part.
 use Rattle.std.proofs.Common.{◌≡◌, ℕ, zero, suc, ◌<◌, ◌≤◌, Bool, true, false, List, [], ◌∷◌, length, map, refl, sym, ap, subst, ◌∙◌, arith, inl, inr, Option, Some, None, Result, Ok, Err, get_or}
-use Rattle.std.specs.Prelude.{ℤ, pos, IfErr, IfOk, OnOk, ◌&&◌, ◌||◌, ◌↔◌, not, IfSome, IsSome, IsSomeAnd, IsTrue, is_some, ◌==◌, slice_index, slice_index_or, slice_set, if◌then◌else◌}
+use Rattle.std.specs.Prelude.{ℤ, pos, IfErr, IfOk, OnOk, ◌&&◌, ◌||◌, ◌↔◌, not, IfSome, IsSome, IsSomeAnd, IsTrue, is_some, unwrap_or, ◌==◌, slice_index, slice_index_or, slice_set, if◌then◌else◌}
 use Rattle.std.specs.Option.{option_or}
 use Rattle.std.proofs.Math.ListN.{length-set}
 use Rattle.std.proofs.lemmas.Bool.{and_from, and_parts, cases_Bool, cases_eq, cases_lt, false≢true, or_cases, or_left, or_right, eq-eqb, ne_eqb}
@@ -118,10 +118,14 @@ module _ (limits : List ℕ) (values : List ℤ) (types : List (Option (Kept Rec
 
 -- ---- a post
 
+-- what is read at a slot
+pub item_at : {X : Type 0} (xs : List (Option X)) (i : ℕ) (o : Option X) → i < length xs → o ≡ get_or xs i o → at xs i ≡ o
+item_at xs i o lt read = same_Some (at xs i) o (sym (slice_get-get_or xs i None lt) ∙ slice_get-get_or xs i o lt ∙ ap Some (sym read))
+
 -- what is read at a slot that isn't empty
 pub found_at : {X : Type 0} (xs : List (Option X)) (i : ℕ) (o : Option X) → IsSome (at xs i) → o ≡ get_or xs i o → (at xs i ≡ o) × (i < length xs)
 found_at xs i o there read = elim (cases_lt i (length xs)) [
-  | inl lt ↦ (same_Some (at xs i) o (sym (slice_get-get_or xs i None lt) ∙ slice_get-get_or xs i o lt ∙ ap Some (sym read)), lt)
+  | inl lt ↦ (item_at xs i o lt read, lt)
   | inr past ↦ absurd (false≢true (sym (ap is_some (get_or_past xs i None past)) ∙ there))
 ]
 
@@ -218,3 +222,27 @@ home_by_masks a w types resources types_there resources_there types_home resourc
       | inl is ↦ or_right (not a.registry) marks_there (m ∙ home Registry is)
       | inr isnt ↦ or_left (not a.registry) marks_there (ap not isnt)
     ]
+
+-- ---- what a world stands for
+
+some_value : {X : Type 0} (o : Option X) (d : X) → IfSome o (λ y. y ≡ unwrap_or o d)
+some_value None d = tt
+some_value (Some x) d = refl
+
+-- Parts stand for some world where each of their buffers stands for some history.
+pub world_stands : (w : Parts) → ((t : ℕ) → t < length w.types → (h : History Record) × BufferStands (at w.types t) h) → (s : WorldState) × PartsStand w s
+world_stands w each = (record { histories = λ t. (chosen t).0; resources = λ r. unwrap_or (at w.resources r) (pos 0); marks = unwrap_or w.marks none }, stand)
+  where
+    none : Marks
+    none = record { held = false; pending = false }
+
+    chosen : (t : ℕ) → (h : History Record) × BufferStands (at w.types t) h
+    chosen t = elim (cases_lt t (length w.types)) [
+      | inl lt ↦ each t lt
+      | inr past ↦ (empty 0, none_stands (at w.types t) _ (get_or_past w.types t None past))
+    ]
+
+    stand : PartsStand w (record { histories = λ t. (chosen t).0; resources = λ r. unwrap_or (at w.resources r) (pos 0); marks = unwrap_or w.marks none })
+    stand (OfType t) = (chosen t).1
+    stand (OfResource r) = some_value (at w.resources r) (pos 0)
+    stand Registry = some_value w.marks none

@@ -1,4 +1,4 @@
-// Laws: facts that hold of every loan, and need no code.
+//! Laws: facts that hold of every loan, and need no code.
 ghost use Rattle.msg_world.specs.LoanLaws.{HomeAgain, HomeMerges, LentIsLoan, LoanStays, MayComeHome, StaysApart, ValuesStand, WritesStand};
 
 /// What `World::lend_out` moved out may be opened for its access, and stands for what it stood for.

@@ -1,9 +1,13 @@
-//! The world that systems work on: what of it a job reads and writes.
+//! The world that systems share, and the parts of it that are lent to a job.
+//!
+//! `World` has the messages of each type, the value of each resource and the registry of signals. An
+//! `Access` says what a job reads and writes. `World::lend_out` moves out what it writes, `Lent` shows
+//! that and what it only reads, and `World::take_back` moves it home: so jobs need no lock.
 #![tactic(auto)]
 
 mod access;
 mod counts;
-mod laws;
+pub mod laws;
 mod lent;
 mod marks;
 mod masks;
@@ -18,10 +22,6 @@ mod world;
 
 pub use access::Access;
 pub use counts::Counts;
-pub use laws::{
-    lent_parts_are_a_loan, lent_parts_may_come_home, loans_stand_side_by_side, writes_stand,
-    written_parts_come_home,
-};
 pub use lent::Lent;
 pub use msg_buffer::NoMemory;
 pub use record::{HOST, Record};

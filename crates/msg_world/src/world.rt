@@ -110,6 +110,25 @@ fn counts_of(types: &[Option<Messages<Record>>]) -> Counts
     counts
 }
 
+/// A law: a buffer, if there is one, stands for some history.
+fn slot_stands(slot: &Option<Messages<Record>>)
+    ensures history { (h : History Record) × BufferStands slot.now h }
+{
+    if let Some(messages) = slot {
+        messages.stands_for_some();
+    }
+}
+
+/// A law: each buffer stands for some history.
+fn each_stands(types: &[Option<Messages<Record>>])
+    ensures histories { (t : ℕ) → t < length types.now
+        → (h : History Record) × BufferStands (at types.now t) h }
+{
+    for slot in types {
+        slot_stands(slot);
+    }
+}
+
 /// Takes the marks out, if they are lent.
 fn take_marks(marks: &mut Option<Marks>, lent: bool) -> Option<Marks>
     ensures taken { result ≡ (if lent then marks.old else None) }
@@ -139,6 +158,13 @@ impl World {
             resources,
             marks,
         })
+    }
+
+    /// A law: a world stands for some state.
+    pub fn stands_for_some(&self)
+        ensures state { (s : WorldState) × PartsStand self.now s }
+    {
+        each_stands(&self.types);
     }
 
     /// The update at the beginning of a frame: every type, or none where a held world waits.

@@ -3,9 +3,14 @@ ghost use Rattle.std.specs.Prelude.{OnOk};
 ghost use Rattle.msg_world.specs.Loan.{SameLoan};
 ghost use Rattle.msg_world.specs.Parts.{IsWhole, SameShape};
 
+use crate::laws::{
+    lent_parts_are_a_loan, lent_parts_may_come_home, loans_stand_side_by_side, writes_stand,
+    written_parts_come_home,
+};
 use crate::{
-    Access, HOST, Lent, Record, ResNo, TypeNo, World, lent_parts_are_a_loan,
-    lent_parts_may_come_home, loans_stand_side_by_side, writes_stand, written_parts_come_home,
+    Access, Access, HOST, HOST, Lent, Lent, Record, Record, ResNo, ResNo, TypeNo, TypeNo, World,
+    World, lent_parts_are_a_loan, lent_parts_may_come_home, loans_stand_side_by_side, writes_stand,
+    written_parts_come_home,
 };
 use msg_buffer::{MessageId, NoMemory, WriteRefusal};
 use std::process::Abort;
@@ -100,6 +105,8 @@ fn what_is_out_is_not_home(rt: HostRuntime) -> Result<(), Fail> {
 #[test]
 fn an_empty_world(rt: HostRuntime) -> Result<(), Fail> {
     let world = World::new(rt.alloc(), &[], &[])?;
+    world.stands_for_some();
+    loans_stand_side_by_side();
     assert!(rt; world.is_home(&Access::none()));
     assert!(rt; !world.is_home(&Access::none().with_read_type(type_no(&rt, 0))));
     assert_eq!(rt; world.resource(res_no(&rt, 0)), None);
