@@ -6,19 +6,18 @@ use Rattle.std.proofs.lemmas.Bool.{and_from, cases_Bool, cases_eq, cases_lt, eq-
 use Rattle.std.proofs.Math.ListN.{length-set}
 use Rattle.std.proofs.lemmas.List.{get_or-set_same, get_or-set_other, get_or_past}
 use Rattle.msg_buffer.specs.History.{History}
-use Rattle.msg_buffer.specs.Kept.{Kept}
 use Rattle.msg_buffer.specs.StandsFor.{StandsFor}
 use Rattle.msg_world.specs.declared.record.Record.{Record}
-use Rattle.msg_world.specs.Lending.{with_type, with_value}
+use Rattle.msg_world.specs.Lending.{with_value}
 use Rattle.msg_world.proofs.Worlds.{type_shape}
 use Rattle.std.proofs.lemmas.Option.{none-some}
 use Rattle.msg_world.specs.declared.access.Access.{Access}
 use Rattle.msg_world.specs.declared.lent.Lent.{Lent}
 use Rattle.msg_world.specs.declared.marks.Marks.{Marks}
 use Rattle.msg_world.specs.Access.{Part, OfType, OfResource, Registry, reads, uses, writes}
-use Rattle.msg_world.specs.Loan.{IsLoanOf, LoanStands, SameLoan, shown, taken_of, with_messages, with_resource, writable}
+use Rattle.msg_world.specs.Loan.{LoanStands, with_messages, with_resource, writable}
 use Rattle.msg_world.specs.LoanLaws.{HomeAgain, HomeMerges, LentIsLoan, LoanStays, MayComeHome, StaysApart, ValuesStand, WritesStand}
-use Rattle.msg_world.specs.Parts.{IsApart, IsHome, LendsOut, Parts, SameShape, TakesBack, Stuff, StuffStands, slot}
+use Rattle.msg_world.specs.Parts.{IsHome, LendsOut, Parts, SameShape, Stuff, StuffStands, slot}
 use Rattle.msg_world.specs.World.{Content, WorldState, content, merge, signalled, signalled_marks, with_history, with_value_of}
 
 same_marks : (m : Option Marks) (n : Marks) → IfSome m (λ k. k ≡ n) → IfSome (option_map signalled_marks m) (λ k. k ≡ signalled_marks n)

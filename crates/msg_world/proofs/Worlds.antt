@@ -1,6 +1,6 @@
 -- What a world stands for after each change, part by part.
-use Rattle.std.proofs.Common.{◌≡◌, ℕ, zero, suc, ◌<◌, ◌≤◌, Bool, true, false, List, [], ◌∷◌, length, map, refl, sym, ap, subst, ◌∙◌, arith, inl, inr, Option, Some, None, Result, Ok, Err, get_or}
-use Rattle.std.specs.Prelude.{ℤ, pos, IfErr, IfOk, OnOk, ◌&&◌, ◌||◌, ◌↔◌, not, IfSome, IsSome, IsSomeAnd, IsTrue, is_some, unwrap_or, ◌==◌, slice_index, slice_index_or, slice_set, if◌then◌else◌}
+use Rattle.std.proofs.Common.{◌≡◌, ℕ, zero, suc, ◌<◌, Bool, true, false, List, [], ◌∷◌, length, map, refl, sym, ap, subst, ◌∙◌, arith, inl, inr, Option, Some, None, Result, Ok, Err, get_or}
+use Rattle.std.specs.Prelude.{ℤ, pos, IfErr, IfOk, OnOk, ◌&&◌, ◌||◌, ◌↔◌, not, IfSome, IsSome, IsSomeAnd, IsTrue, is_some, unwrap_or, slice_index, slice_index_or, slice_set, if◌then◌else◌}
 use Rattle.std.specs.Option.{option_or}
 use Rattle.std.proofs.Math.ListN.{length-set}
 use Rattle.std.proofs.lemmas.Bool.{and_from, and_parts, cases_Bool, cases_eq, cases_lt, false≢true, or_cases, or_left, or_right, eq-eqb, ne_eqb}
@@ -14,9 +14,9 @@ use Rattle.msg_world.specs.declared.record.Record.{Record}
 use Rattle.msg_world.specs.declared.marks.Marks.{Marks}
 use Rattle.msg_world.specs.Access.{Part, OfType, OfResource, Registry, has_bit, uses, writes}
 use Rattle.msg_world.specs.Masks.{IsWithin}
-use Rattle.msg_world.specs.Parts.{Parts, IsHome, IsWhole, PartsStand, SameShape, SameSize, StuffStands, slot}
+use Rattle.msg_world.specs.Parts.{Parts, IsHome, IsWhole, PartsStand, SameShape, slot}
 use Rattle.msg_world.specs.Slots.{AllUpdated, BufferStands, at}
-use Rattle.msg_world.specs.World.{WorldState, content, new_world, updated, waits, with_history}
+use Rattle.msg_world.specs.World.{WorldState, new_world, updated, waits, with_history}
 
 -- a world and parts of which the marks were set
 pub marks_stand : (w : Parts) (s : WorldState) (m n : Marks) → m ≡ n → PartsStand w s → PartsStand (record w { marks = Some m }) (record s { marks = n })

@@ -1,5 +1,5 @@
 -- What a loan shows of a world: what its access only reads by the world itself, and what it writes by parts of its own.
-use Rattle.std.specs.Prelude.{◌≡◌, ℕ, ℤ, Bool, Option, None, Some, IsSome, IfSome, IsTrue, is_some, false, List, [], if◌then◌else◌}
+use Rattle.std.specs.Prelude.{◌≡◌, ℕ, ℤ, Option, None, IsSome, IfSome, IsTrue, is_some, false, [], if◌then◌else◌}
 use mir.Syntax.{named}
 use Rattle.std.specs.Borrow.{LendsIf, MutBor, Fml, i64}
 use Rattle.msg_buffer.specs.Kept.{Kept}
@@ -7,10 +7,10 @@ use Rattle.msg_world.specs.declared.access.Access.{Access}
 use Rattle.msg_world.specs.declared.record.Record.{Record}
 use Rattle.msg_world.specs.declared.lent.Lent.{Lent}
 use Rattle.msg_world.specs.contracts.lent.Lent.{the_row as lent_row}
-use Rattle.msg_world.specs.Access.{Part, OfType, OfResource, Registry, reads, writes, uses}
+use Rattle.msg_world.specs.Access.{Part, reads, writes, uses}
 use Rattle.msg_world.specs.Lending.{messages_row, with_type, with_value}
 use Rattle.msg_world.specs.Parts.{Parts, SameShape, SameSize, Stuff, StuffStands, slot}
-use Rattle.msg_world.specs.World.{WorldState, content, signalled}
+use Rattle.msg_world.specs.World.{WorldState, content}
 
 -- the access that it was made for
 abbrev pub access_of : Lent → Access

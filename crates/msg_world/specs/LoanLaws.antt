@@ -1,5 +1,5 @@
 -- What holds of parts that are lent and taken back, one after the other or side by side.
-use Rattle.std.specs.Prelude.{◌≡◌, ℕ, ℤ, false, None, Option, IsSome, IsTrue}
+use Rattle.std.specs.Prelude.{◌≡◌, ℕ, ℤ, false, None, IsSome, IsTrue}
 use Rattle.msg_buffer.specs.History.{History}
 use Rattle.msg_buffer.specs.Kept.{Kept}
 use Rattle.msg_buffer.specs.StandsFor.{StandsFor}

@@ -1,5 +1,5 @@
 -- What is at home in a world, or was moved out of it, and what it stands for.
-use Rattle.std.specs.Prelude.{◌≡◌, ℕ, ℤ, ◌<◌, Bool, Option, None, Some, IsSome, IfSome, is_some, IsTrue, List, length, slice_index_or, if◌then◌else◌}
+use Rattle.std.specs.Prelude.{◌≡◌, ℤ, ◌<◌, Option, None, IsSome, IfSome, is_some, IsTrue, List, length, slice_index_or, if◌then◌else◌}
 use Rattle.std.specs.Option.{option_or}
 use Rattle.msg_buffer.specs.Kept.{Kept}
 use Rattle.msg_buffer.specs.StandsFor.{StandsFor}

@@ -1,6 +1,6 @@
 -- What the private functions on lists of slots say. No public contract cites these.
-use Rattle.std.specs.Prelude.{◌≡◌, ℕ, Bool, Option, None, Some, IfSome, is_some, List, length, slice_index, slice_index_or}
-use Rattle.msg_buffer.specs.History.{History, empty, update}
+use Rattle.std.specs.Prelude.{◌≡◌, ℕ, Option, None, IfSome, is_some, List, length, slice_index_or}
+use Rattle.msg_buffer.specs.History.{History, update}
 use Rattle.msg_buffer.specs.Kept.{Kept}
 use Rattle.msg_buffer.specs.StandsFor.{StandsFor}
 use Rattle.msg_world.specs.declared.record.Record.{Record}

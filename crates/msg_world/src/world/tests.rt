@@ -4,9 +4,8 @@ ghost use Rattle.msg_world.specs.Loan.{SameLoan};
 ghost use Rattle.msg_world.specs.Parts.{IsWhole, SameShape};
 
 use crate::laws::{
-    lent_parts_are_a_loan, lent_parts_are_a_loan, lent_parts_may_come_home,
-    lent_parts_may_come_home, loans_stand_side_by_side, loans_stand_side_by_side, writes_stand,
-    writes_stand, written_parts_come_home, written_parts_come_home,
+    lent_parts_are_a_loan, lent_parts_may_come_home, loans_stand_side_by_side, writes_stand,
+    written_parts_come_home,
 };
 use crate::{Access, HOST, Lent, Record, ResNo, TypeNo, World};
 use msg_buffer::{MessageId, NoMemory, WriteRefusal};

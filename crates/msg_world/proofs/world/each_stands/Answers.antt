@@ -1,4 +1,4 @@
-use Rattle.std.proofs.Common.{sym, ◌∙◌, subst, inl, inr, arith, ℕ, Option, ◌<◌}
+use Rattle.std.proofs.Common.{inl, inr, arith, Option}
 use Rattle.std.proofs.lemmas.Bool.{cases_eq}
 use Rattle.msg_buffer.specs.History.{History}
 use Rattle.msg_buffer.specs.Kept.{Kept}

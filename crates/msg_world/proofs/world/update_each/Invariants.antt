@@ -1,4 +1,4 @@
-use Rattle.std.proofs.Common.{◌≡◌, ℕ, ◌<◌, ◌≤◌, length}
+use Rattle.std.proofs.Common.{◌≡◌, ℕ, ◌<◌, ◌≤◌}
 use Rattle.std.specs.Prelude.{is_some}
 use Rattle.msg_buffer.specs.History.{History, update}
 use Rattle.msg_world.specs.declared.record.Record.{Record}

@@ -1,5 +1,5 @@
 use Rattle.std.proofs.Common.{refl, sym, subst}
-use Rattle.msg_world.specs.Loan.{LoanStands, SameLoan}
+use Rattle.msg_world.specs.Loan.{LoanStands}
 use Rattle.msg_world.specs.Parts.{Parts, SameShape}
 use Rattle.msg_world.specs.World.{signalled}
 use Rattle.msg_world.proofs.Loans.{signal_stands, with_signal_shape}

@@ -1,6 +1,5 @@
-use Rattle.std.proofs.Common.{◌≡◌, ◌||◌, ◌&&◌, Bool, not, true, ap, subst, sym, ◌∙◌}
-use Rattle.std.specs.Prelude.{IsTrue, IsSome, is_some, ◌↔◌}
-use Rattle.std.proofs.lemmas.Bool.{and_from, and_parts}
+use Rattle.std.proofs.Common.{◌||◌, ◌&&◌, not, subst}
+use Rattle.std.specs.Prelude.{IsTrue, ◌↔◌}
 use Rattle.msg_world.specs.Parts.{Parts, IsHome}
 use Rattle.msg_world.proofs.Worlds.{home_by_masks}
 use Rattle.msg_world.proofs.world.World.is_home.Goals as goal

@@ -1,7 +1,3 @@
-use Rattle.std.proofs.Common.{sym, subst}
-use Rattle.std.specs.Prelude.{ℤ, List, Option}
-use Rattle.msg_world.specs.Parts.{Parts, IsWhole, PartsStand}
-use Rattle.msg_world.specs.World.{new_world}
 use Rattle.msg_world.proofs.Worlds.{new_stands, new_whole}
 use Rattle.msg_world.proofs.world.World.new.Goals as goal
 

@@ -1,19 +1,14 @@
-use Rattle.std.proofs.Common.{rules, ◌≡◌, ◌+◌, ◌<◌, ◌≤◌, ◌∷◌, [], sym, subst, ap, ◌∙◌, Some, ℕ, length}
+use Rattle.std.proofs.Common.{rules, ◌∷◌, [], sym, subst, Some}
 use mir.Val.{SFits}
 use mir.Syntax.{w64}
 use Rattle.std.proofs.lemmas.Int.{to_z-of_z}
-use Rattle.std.specs.Prelude.{ℤ, IsSome, ◌↔◌, slice_set}
-use Rattle.msg_buffer.specs.History.{count, write}
-use Rattle.msg_buffer.specs.Refusals.{IsSpent}
+use Rattle.std.specs.Prelude.{ℤ, IsSome, slice_set}
+use Rattle.msg_buffer.specs.History.{write}
 use Rattle.msg_buffer.specs.StandsFor.{StandsFor}
-use Rattle.msg_buffer.specs.declared.instance.MessageId.{MessageId}
-use Rattle.msg_buffer.specs.declared.refusals.WriteRefusal.{WriteRefusal}
-use Rattle.msg_world.specs.declared.record.Record.{Record}
 use Rattle.msg_world.specs.declared.record.TheConstants.{HOST}
 use Rattle.msg_world.specs.Access.{OfType}
 use Rattle.msg_world.specs.Parts.{Parts, PartsStand, SameShape, slot}
-use Rattle.msg_world.specs.Slots.{at}
-use Rattle.msg_world.specs.World.{WorldState, by, with_history}
+use Rattle.msg_world.specs.World.{by}
 use Rattle.msg_world.proofs.Worlds.{buffer_stands, found_at, if_err, if_ok, on_ok, type_shape, type_stands}
 use Rattle.msg_world.proofs.world.World.post.Goals as goal
 

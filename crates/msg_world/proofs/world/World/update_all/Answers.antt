@@ -1,4 +1,4 @@
-use Rattle.std.proofs.Common.{◌≡◌, sym, subst, ap, ◌∙◌, Some, List, Option, length, arith}
+use Rattle.std.proofs.Common.{sym, subst, ap, ◌∙◌, Some, List, Option, arith}
 use Rattle.std.specs.Prelude.{IsSome}
 use Rattle.std.specs.Vec.{with_items}
 use Rattle.std.proofs.lemmas.Bool.{false≢true}
