@@ -1,4 +1,5 @@
--- What a loan shows of a world: what its access only reads by the world itself, and what it writes by parts of its own.
+-- What a loan shows of a world: what its access only reads by the world itself, and what it writes by
+-- parts of its own.
 use Rattle.std.specs.Prelude.{◌≡◌, ℕ, ℤ, Option, None, IsSome, IfSome, IsTrue, is_some, false, [], if◌then◌else◌}
 use mir.Syntax.{named}
 use Rattle.std.specs.Borrow.{LendsIf, MutBor, Fml, i64}
@@ -43,7 +44,8 @@ pub record SameLoan (old new : Lent) : Type 0 where
   pub world : new.world ≡ old.world
   pub shape : SameShape old.taken new.taken
 
--- What was moved out fits an access and a world: it is what the access writes, and what the access only reads is home.
+-- What was moved out fits an access and a world: it is what the access writes, and what the access only
+-- reads is home.
 pub record IsLoanOf (a : Access) (world taken : Parts) : Type 0 where
   pub size : SameSize world taken
   pub written : (p : Part) → is_some (slot p taken) ≡ writes a p
@@ -59,8 +61,10 @@ with_resource l r z = record l { taken = with_value l.taken r z }
 
 -- the loan ends with this type's messages as they were left
 abbrev pub LendsWriter : MutBor Lent → ℕ → Option (MutBor (Kept Record)) → Fml
-LendsWriter l t given = LendsIf (lent_row (record { mir = named 0; lft = [] })) messages_row l given (with_messages l.now t) l.now
+LendsWriter l t given =
+    LendsIf (lent_row (record { mir = named 0; lft = [] })) messages_row l given (with_messages l.now t) l.now
 
 -- the loan ends with this resource as it was left
 abbrev pub LendsResource : MutBor Lent → ℕ → Option (MutBor ℤ) → Fml
-LendsResource l r given = LendsIf (lent_row (record { mir = named 0; lft = [] })) i64 l given (with_resource l.now r) l.now
+LendsResource l r given =
+    LendsIf (lent_row (record { mir = named 0; lft = [] })) i64 l given (with_resource l.now r) l.now

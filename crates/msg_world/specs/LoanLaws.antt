@@ -11,16 +11,20 @@ use Rattle.msg_world.specs.Loan.{IsLoanOf, LoanStands, SameLoan, with_messages, 
 use Rattle.msg_world.specs.Parts.{IsApart, IsHome, LendsOut, Parts, PartsStand, SameShape, TakesBack, slot}
 use Rattle.msg_world.specs.World.{WorldState, merge, with_history, with_value_of}
 
--- What was moved out is a loan of its access, and the world and the loan still stand for what the world stood for.
+-- What was moved out is a loan of its access, and the world and the loan still stand for what the world
+-- stood for.
 abbrev pub LentIsLoan : Type 0
 LentIsLoan = (a : Access) (old left taken : Parts) → IsHome a old → LendsOut a old left taken
-    → IsLoanOf a left taken × ((s : WorldState) → PartsStand old s → PartsStand left s × PartsStand taken s)
+    → IsLoanOf a left taken
+    × ((s : WorldState) → PartsStand old s → PartsStand left s × PartsStand taken s)
 
--- What is written through a loan leaves it the same loan, and it stands for the world in which that was written.
+-- What is written through a loan leaves it the same loan, and it stands for the world in which that was
+-- written.
 abbrev pub WritesStand : Type 0
 WritesStand = (l : Lent) (t : ℕ) (k : Kept Record) → IsSome (writable (OfType t) l)
     → SameLoan l (with_messages l t k)
-    × ((s : WorldState) (h : History Record) → StandsFor k h → LoanStands l s → LoanStands (with_messages l t k) (with_history s t h))
+    × ((s : WorldState) (h : History Record) → StandsFor k h → LoanStands l s
+    → LoanStands (with_messages l t k) (with_history s t h))
 
 abbrev pub ValuesStand : Type 0
 ValuesStand = (l : Lent) (r : ℕ) (z : ℤ) → IsSome (writable (OfResource r) l)
@@ -29,12 +33,13 @@ ValuesStand = (l : Lent) (r : ℕ) (z : ℤ) → IsSome (writable (OfResource r)
 
 -- A loan stays one while parts are moved out of its world for an access that doesn't conflict with its own.
 abbrev pub LoanStays : Type 0
-LoanStays = (a b : Access) (world taken left others : Parts) → ¬ Conflict a b → IsLoanOf a world taken → LendsOut b world left others
-    → IsLoanOf a left taken
+LoanStays = (a b : Access) (world taken left others : Parts)
+    → ¬ Conflict a b → IsLoanOf a world taken → LendsOut b world left others → IsLoanOf a left taken
 
 -- What was moved out may be taken back, whatever was written to it.
 abbrev pub MayComeHome : Type 0
-MayComeHome = (a : Access) (old left taken later : Parts) → LendsOut a old left taken → SameShape taken later → IsApart later left
+MayComeHome = (a : Access) (old left taken later : Parts)
+    → LendsOut a old left taken → SameShape taken later → IsApart later left
 
 -- It still may when other parts have come home before it.
 abbrev pub StaysApart : Type 0
@@ -44,10 +49,12 @@ StaysApart = (taken others world home : Parts) → IsApart taken world → Takes
 -- Parts that an access wrote come home: the world then has them as they come, and all else as it was.
 abbrev pub HomeMerges : Type 0
 HomeMerges = (a : Access) (taken world home : Parts) (mine s : WorldState)
-    → ((p : Part) → writes a p ≡ false → slot p taken ≡ None) → ((p : Part) → IsTrue (writes a p) → slot p world ≡ None)
-    → TakesBack taken world home → PartsStand taken mine → PartsStand world s → PartsStand home (merge a mine s)
+    → ((p : Part) → writes a p ≡ false → slot p taken ≡ None)
+    → ((p : Part) → IsTrue (writes a p) → slot p world ≡ None)
+    → TakesBack taken world home → PartsStand taken mine → PartsStand world s
+    → PartsStand home (merge a mine s)
 
 -- Everything that was home is home again.
 abbrev pub HomeAgain : Type 0
-HomeAgain = (a : Access) (old left taken later home : Parts) → LendsOut a old left taken → SameShape taken later → TakesBack later left home
-    → SameShape old home
+HomeAgain = (a : Access) (old left taken later home : Parts)
+    → LendsOut a old left taken → SameShape taken later → TakesBack later left home → SameShape old home

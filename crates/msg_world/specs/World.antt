@@ -1,4 +1,5 @@
--- The world that systems share: the history of each message type, the value of each resource, and the registry of signals.
+-- The world that systems share: the history of each message type, the value of each resource, and the
+-- registry of signals.
 use Rattle.std.specs.Prelude.{ℕ, ℤ, pos, Bool, true, false, not, ◌&&◌, ◌||◌, ◌==◌, List, slice_index, slice_index_or, if◌then◌else◌}
 use Rattle.msg_buffer.specs.History.{History, empty, update}
 use Rattle.msg_world.specs.declared.record.Record.{Record}
@@ -6,7 +7,8 @@ use Rattle.msg_world.specs.declared.marks.Marks.{Marks}
 use Rattle.msg_world.specs.declared.access.Access.{Access}
 use Rattle.msg_world.specs.Access.{Part, OfType, OfResource, Registry, writes}
 
--- Types and resources go by their numbers. A world that is held updates its types only where a signal is pending.
+-- Types and resources go by their numbers. A world that is held updates its types only where a signal is
+-- pending.
 pub record WorldState : Type 0 where
   pub histories : ℕ → History Record
   pub resources : ℕ → ℤ
@@ -47,7 +49,9 @@ waits s = s.marks.held && not s.marks.pending
 
 -- The frame's update: every type is updated, and a signal is spent. A world that waits stays as it is.
 abbrev pub updated : WorldState → WorldState
-updated s = if waits s then s else record s { histories = λ t. update (s.histories t); marks = record s.marks { pending = false } }
+updated s =
+    if waits s then s
+    else record s { histories = λ t. update (s.histories t); marks = record s.marks { pending = false } }
 
 -- A signal makes a held world pending. It changes nothing where the world isn't held.
 abbrev pub signalled_marks : Marks → Marks
