@@ -1,2 +1,2 @@
-mod Bits
-mod Parts
+pub mod Bits
+pub mod Parts

@@ -1,0 +1,10 @@
+mod Words
+mod Lists
+mod Chains
+mod PathTest
+mod Settling
+mod Rows
+mod Peeling
+mod Standing
+mod Viewing
+mod Accepting

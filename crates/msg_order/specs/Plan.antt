@@ -1,0 +1,38 @@
+-- What a plan says, and when there is none.
+use Rattle.std.specs.Prelude.{◌≡◌, ℕ, Bool, List, All, AllPairs, IsTrue, ◌↔◌, ⊤}
+use Rattle.std.specs.List.{concat}
+use Rattle.msg_world.specs.declared.access.Access.{Access}
+use Rattle.msg_world.specs.Access.{Conflict}
+use Rattle.msg_order.specs.declared.rule.Rule.{Rule}
+use Rattle.msg_order.specs.declared.plan_refusal.PlanRefusal.{PlanRefusal}
+use Rattle.msg_order.specs.declared.plan_refusal.PlanRefusal.TheVariants.{Cycle, NoMemory}
+use Rattle.msg_order.specs.Graph.{Graph, IsEdge, Path, IsLowestOnCycle}
+use Rattle.msg_order.specs.Order.{has_joined, access_of, IsSettledOrder, AreBatches, IsLawfulOrder}
+
+-- What callers see of a plan: which systems have joined, each pair of systems of which the first
+-- precedes the second, and the batches.
+pub record PlanView : Type 0 where
+  pub joined : List Bool
+  pub precedes : Graph
+  pub batches : List (List ℕ)
+
+-- no two systems of the batch conflict
+abbrev pub NoneConflict : List Access → List ℕ → Type 0
+NoneConflict accesses batch = AllPairs (λ i j. ¬ Conflict (access_of accesses i) (access_of accesses j)) batch
+
+-- The plan is that of the settled order of the joined systems: it has the paths of the order, and its
+-- batches, which run one after the other keep the order and in which no two systems conflict.
+pub record IsPlanOf (accesses : List Access) (rules : List Rule) (joined : List Bool) (plan : PlanView) : Type 0 where
+  pub order : Graph
+  pub settled : IsSettledOrder accesses rules joined order
+  pub systems : plan.joined ≡ joined
+  pub among : (i j : ℕ) → IsEdge order i j → IsTrue (has_joined joined i) × IsTrue (has_joined joined j)
+  pub paths : (i j : ℕ) → IsEdge plan.precedes i j ↔ Path order i j
+  pub classes : AreBatches order joined plan.batches
+  pub apart : All (NoneConflict accesses) plan.batches
+  pub in_turn : IsLawfulOrder order joined (concat plan.batches)
+
+-- a refusal for a cycle names the lowest system on one
+abbrev pub RefusesFor : Graph → PlanRefusal → Type 0
+RefusesFor rules (Cycle s) = IsLowestOnCycle rules s
+RefusesFor rules NoMemory = ⊤
