@@ -8,3 +8,4 @@ mod Peeling
 mod Standing
 mod Viewing
 mod Accepting
+mod Uniqueness

@@ -1,6 +1,7 @@
 //! In which order systems run: rules, the settled order, and batches that may run side by side.
 #![tactic(auto)]
 
+pub mod laws;
 mod levels;
 mod paths;
 mod plan;
