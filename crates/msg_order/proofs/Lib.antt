@@ -9,3 +9,4 @@ mod Standing
 mod Viewing
 mod Accepting
 mod Uniqueness
+mod Existence

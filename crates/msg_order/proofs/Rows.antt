@@ -10,8 +10,8 @@ use Rattle.msg_order.specs.declared.rule.Rule.{Rule}
 use Rattle.msg_order.specs.declared.system_set.SystemSet.{SystemSet}
 use Rattle.msg_order.specs.SystemSet.{has, meets, no_set}
 use Rattle.msg_order.specs.Graph.{Graph, IsEdge, IsAcyclic, IsLowestOnCycle}
-use Rattle.msg_order.specs.Order.{has_joined, rules_among, AreInConflict, Settles, pairs}
-use Rattle.msg_order.specs.Paths.{path, set_at, comes_before, ArePaths, IsAmong}
+use Rattle.msg_order.specs.Order.{has_joined, rules_among, AreInConflict, Settles, pairs, IsAmong}
+use Rattle.msg_order.specs.Paths.{path, set_at, comes_before, ArePaths}
 use Rattle.msg_order.proofs.Words.{has-no_set, meets-found, meets-true}
 use Rattle.msg_order.proofs.Lists.{Contains-head, Contains-tail, Contains-cases, filter-Contains, not_in_none}
 use Rattle.msg_order.proofs.PathTest.{path_trans, to_Path, no_Path, no_path, same_test, same_paths}

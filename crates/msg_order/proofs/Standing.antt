@@ -12,9 +12,8 @@ use Rattle.std.proofs.lemmas.Option.{slice_get-get_or, slice_get_within, get_or_
 use Rattle.msg_world.specs.declared.access.Access.{Access}
 use Rattle.msg_order.specs.declared.rule.Rule.{Rule}
 use Rattle.msg_order.specs.Graph.{Graph, IsChain, Path}
-use Rattle.msg_order.specs.Order.{rules_among, AreInConflict, Settles, pairs, batch_at, AreBatches, StandsBefore, IsLawfulOrder}
+use Rattle.msg_order.specs.Order.{rules_among, AreInConflict, Settles, pairs, batch_at, AreBatches, StandsBefore, IsLawfulOrder, IsAmong}
 use Rattle.msg_order.specs.Plan.{NoneConflict}
-use Rattle.msg_order.specs.Paths.{IsAmong}
 use Rattle.msg_order.proofs.Lists.{concat-Contains, Contains-concat, not_in_none}
 use Rattle.msg_order.proofs.Chains.{number_once, number_rises, edge_is_path}
 use Rattle.msg_order.proofs.Settling.{settles_covers, Contains-pairs}

@@ -8,9 +8,9 @@ use Rattle.std.proofs.lemmas.List.FromFn.{get_or-map-range_with_len, length-map-
 use Rattle.msg_order.specs.declared.system_set.SystemSet.{SystemSet}
 use Rattle.msg_order.specs.SystemSet.{has}
 use Rattle.msg_order.specs.Graph.{Graph, IsEdge, Path}
-use Rattle.msg_order.specs.Order.{has_joined, IsLawfulOrder}
+use Rattle.msg_order.specs.Order.{has_joined, IsLawfulOrder, IsAmong}
 use Rattle.msg_order.specs.Plan.{PlanView, IsPlanOf}
-use Rattle.msg_order.specs.Paths.{comes_before, ArePaths, AreKept, IsSetOf, IsAmong, square, view_of}
+use Rattle.msg_order.specs.Paths.{comes_before, ArePaths, AreKept, IsSetOf, square, view_of}
 use Rattle.msg_order.proofs.Lists.{filter-Contains, Contains-filter, Contains-flat_map, Contains-map, Contains-range}
 use Rattle.msg_order.proofs.Chains.{first_edge, last_edge, edge_is_path}
 use Rattle.msg_order.proofs.PathTest.{to_Path}
@@ -43,6 +43,13 @@ joined-view before joined batches kept i =
           get_or_past (map (has joined) (range_with_len 0 n)) i false past
           ∙ sym (false_from_ne_true (has joined i) (λ t. let w : i < n = kept.within i t in absurd (omega arith)))
     ]
+
+-- the same of a view that they are known to give
+pub edges_of : (v : PlanView) (before : List SystemSet) (joined : SystemSet) (batches : List (List ℕ)) → view_of before joined batches ≡ v → AreKept before joined → (i j : ℕ) → IsEdge v.precedes i j ↔ (comes_before before i j ≡ true)
+edges_of v before joined batches is kept i j = subst (λ w. IsEdge w.precedes i j ↔ (comes_before before i j ≡ true)) is (precedes-view before joined batches kept i j)
+
+pub joined_of : (v : PlanView) (before : List SystemSet) (joined : SystemSet) (batches : List (List ℕ)) → view_of before joined batches ≡ v → AreKept before joined → (i : ℕ) → has_joined v.joined i ≡ has joined i
+joined_of v before joined batches is kept i = subst (λ w. has_joined w.joined i ≡ has joined i) is (joined-view before joined batches kept i)
 
 -- a list from its elements
 list_is : (f : ℕ → Bool) (xs : List Bool) (a : ℕ) → ((i : ℕ) → i < length xs → f (a + i) ≡ get_or xs i false) → map f (range_with_len a (length xs)) ≡ xs

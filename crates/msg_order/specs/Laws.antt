@@ -4,7 +4,7 @@ use Rattle.msg_world.specs.declared.access.Access.{Access}
 use Rattle.msg_world.specs.Access.{Conflict}
 use Rattle.msg_order.specs.declared.rule.Rule.{Rule}
 use Rattle.msg_order.specs.Graph.{Graph, Path, IsAcyclic, IsBatchNumber}
-use Rattle.msg_order.specs.Order.{has_joined, access_of, rules_among, IsSettledOrder, AreBatches, StandsBefore, IsLawfulOrder}
+use Rattle.msg_order.specs.Order.{has_joined, access_of, rules_among, IsAmong, IsSettledOrder, AreBatches, StandsBefore, IsLawfulOrder}
 
 -- Rules that make no cycle among some systems make none among fewer of them.
 abbrev pub FewerSystemsMakeNoCycle : Type 0
@@ -24,10 +24,20 @@ ConflictingSystemsAreOrdered = (accesses : List Access) (rules : List Rule) (joi
     → (i j : ℕ) → i ≢ j → IsTrue (has_joined joined i) → IsTrue (has_joined joined j)
     → Conflict (access_of accesses i) (access_of accesses j) → Path order i j ⊎ Path order j i
 
+-- There is a settled order, whatever the rules.
+abbrev pub SettledOrderExists : Type 0
+SettledOrderExists = (accesses : List Access) (rules : List Rule) (joined : List Bool)
+    → (order : Graph) × IsSettledOrder accesses rules joined order
+
 -- There is one settled order.
 abbrev pub SettledOrderIsUnique : Type 0
 SettledOrderIsUnique = (accesses : List Access) (rules : List Rule) (joined : List Bool) (g h : Graph)
     → IsSettledOrder accesses rules joined g → IsSettledOrder accesses rules joined h → g ≡ h
+
+-- Where no path leads back, there is a list of batches.
+abbrev pub BatchesExist : Type 0
+BatchesExist = (order : Graph) (joined : List Bool)
+    → IsAmong joined order → IsAcyclic order → (batches : List (List ℕ)) × AreBatches order joined batches
 
 -- There is one list of batches.
 abbrev pub BatchesAreUnique : Type 0

@@ -15,10 +15,18 @@ has_joined joined i = slice_index_or joined i false
 abbrev pub access_of : List Access → ℕ → Access
 access_of accesses i = slice_index_or accesses i no_access
 
+-- the rules name systems below n
+abbrev pub NameSystemsBelow : ℕ → List Rule → Type 0
+NameSystemsBelow n rules = All (λ rule. (rule.earlier < n) × (rule.later < n)) rules
+
 -- the rules among the joined systems
 abbrev pub rules_among : List Bool → List Rule → Graph
 rules_among joined rules =
     filter (λ e. has_joined joined e.0 && has_joined joined e.1) (map (λ rule. (rule.earlier, rule.later)) rules)
+
+-- each edge leads from one joined system to another
+abbrev pub IsAmong : List Bool → Graph → Type 0
+IsAmong joined g = (i j : ℕ) → IsEdge g i j → IsTrue (has_joined joined i) × IsTrue (has_joined joined j)
 
 -- systems i and j have joined, and their accesses conflict
 pub record AreInConflict (accesses : List Access) (joined : List Bool) (i j : ℕ) : Type 0 where

@@ -1,11 +1,12 @@
 -- Paths as the sets of the code keep them: before each system those that precede it. No public contract
 -- cites these; that they are the paths of the definitions is proved.
-use Rattle.std.specs.Prelude.{◌≡◌, ℕ, ◌≤◌, ◌<◌, Bool, true, false, not, ◌&&◌, ◌||◌, ◌==◌, List, [], ◌∷◌, map, length, filter, flat_map, slice_index_or, IsTrue}
+use Rattle.std.specs.Prelude.{◌≡◌, ℕ, ◌≤◌, ◌<◌, Bool, true, false, not, ◌&&◌, ◌||◌, ◌==◌, List, [], ◌∷◌, map, length, filter, flat_map, slice_index_or}
 use Rattle.std.specs.List.{range_with_len}
+use Rattle.msg_world.specs.declared.access.Access.{Access}
 use Rattle.msg_order.specs.declared.system_set.SystemSet.{SystemSet}
 use Rattle.msg_order.specs.SystemSet.{has, meets, no_set}
-use Rattle.msg_order.specs.Graph.{Graph, IsEdge}
-use Rattle.msg_order.specs.Order.{has_joined}
+use Rattle.msg_order.specs.Graph.{Graph}
+use Rattle.msg_order.specs.Order.{has_joined, AreInConflict, Settles, pairs}
 use Rattle.msg_order.specs.Plan.{PlanView}
 
 -- a path leads from i to j: without the first edge, or to its begin and on from its end
@@ -25,13 +26,14 @@ comes_before before i j = has (set_at before j) i
 abbrev pub ArePaths : Graph → List SystemSet → Type 0
 ArePaths g before = (i j : ℕ) → comes_before before i j ≡ path g i j
 
+-- the sets are the paths of what g becomes as the pairs are taken
+abbrev pub AreSettled : List Access → List Bool → Graph → List SystemSet → Type 0
+AreSettled accesses joined g before = (h : Graph)
+    × (ArePaths h before × Settles (AreInConflict accesses joined) g (pairs (length accesses)) h)
+
 -- the set is that of the joined systems
 abbrev pub IsSetOf : List Bool → SystemSet → Type 0
 IsSetOf joined set = (i : ℕ) → has set i ≡ has_joined joined i
-
--- each edge leads from a joined system to one
-abbrev pub IsAmong : List Bool → Graph → Type 0
-IsAmong joined g = (i j : ℕ) → IsEdge g i j → IsTrue (has_joined joined i) × IsTrue (has_joined joined j)
 
 -- it is left, and none that is left is before it
 abbrev pub is_ready : List SystemSet → SystemSet → ℕ → Bool

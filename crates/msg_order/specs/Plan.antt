@@ -1,5 +1,5 @@
 -- What a plan says, and when there is none.
-use Rattle.std.specs.Prelude.{◌≡◌, ℕ, Bool, List, All, AllPairs, IsTrue, ◌↔◌, ⊤}
+use Rattle.std.specs.Prelude.{◌≡◌, ℕ, Bool, List, All, AllPairs, ◌↔◌, ⊤}
 use Rattle.std.specs.List.{concat}
 use Rattle.msg_world.specs.declared.access.Access.{Access}
 use Rattle.msg_world.specs.Access.{Conflict}
@@ -7,7 +7,7 @@ use Rattle.msg_order.specs.declared.rule.Rule.{Rule}
 use Rattle.msg_order.specs.declared.plan_refusal.PlanRefusal.{PlanRefusal}
 use Rattle.msg_order.specs.declared.plan_refusal.PlanRefusal.TheVariants.{Cycle, NoMemory}
 use Rattle.msg_order.specs.Graph.{Graph, IsEdge, Path, IsLowestOnCycle}
-use Rattle.msg_order.specs.Order.{has_joined, access_of, IsSettledOrder, AreBatches, IsLawfulOrder}
+use Rattle.msg_order.specs.Order.{access_of, IsAmong, IsSettledOrder, AreBatches, IsLawfulOrder}
 
 -- What callers see of a plan: which systems have joined, each pair of systems of which the first
 -- precedes the second, and the batches.
@@ -26,7 +26,7 @@ pub record IsPlanOf (accesses : List Access) (rules : List Rule) (joined : List 
   pub order : Graph
   pub settled : IsSettledOrder accesses rules joined order
   pub systems : plan.joined ≡ joined
-  pub among : (i j : ℕ) → IsEdge order i j → IsTrue (has_joined joined i) × IsTrue (has_joined joined j)
+  pub among : IsAmong joined order
   pub paths : (i j : ℕ) → IsEdge plan.precedes i j ↔ Path order i j
   pub classes : AreBatches order joined plan.batches
   pub apart : All (NoneConflict accesses) plan.batches

@@ -1,5 +1,5 @@
 //! Laws of the settled order, for proofs: a call of one puts it among the facts that are known there.
-ghost use Rattle.msg_order.specs.Laws.{FewerSystemsMakeNoCycle, SettlingMakesNoCycle, ConflictingSystemsAreOrdered, SettledOrderIsUnique, BatchesAreUnique, BatchNumbersRise, LawfulOrdersKeepPaths};
+ghost use Rattle.msg_order.specs.Laws.{FewerSystemsMakeNoCycle, SettlingMakesNoCycle, ConflictingSystemsAreOrdered, SettledOrderExists, SettledOrderIsUnique, BatchesExist, BatchesAreUnique, BatchNumbersRise, LawfulOrdersKeepPaths};
 
 /// Rules that make no cycle among some systems make none among fewer of them. So a plan over systems
 /// that have joined can't be refused for a cycle where the rules of all systems have none.
@@ -17,9 +17,19 @@ pub fn conflicting_systems_are_ordered()
     ensures { ConflictingSystemsAreOrdered }
 {}
 
+/// There is a settled order, whatever the rules.
+pub fn settled_order_exists()
+    ensures { SettledOrderExists }
+{}
+
 /// Accesses, rules and joined systems have one settled order.
 pub fn settled_order_is_unique()
     ensures { SettledOrderIsUnique }
+{}
+
+/// Edges among joined systems that make no cycle have a list of batches.
+pub fn batches_exist()
+    ensures { BatchesExist }
 {}
 
 /// A settled order has one list of batches.

@@ -2,8 +2,8 @@
 ghost use Rattle.std.specs.Prelude.{◌≡◌, ◌&&◌, ℕ, ◌<◌, ◌≤◌, Bool, List, true, length, map, filter, IfOk};
 ghost use Rattle.std.specs.List.{range_with_len};
 ghost use Rattle.msg_order.specs.Graph.{Graph, IsAcyclic};
-ghost use Rattle.msg_order.specs.Order.{AreBatches};
-ghost use Rattle.msg_order.specs.Paths.{ArePaths, IsAmong, IsSetOf, is_ready, set_at};
+ghost use Rattle.msg_order.specs.Order.{AreBatches, IsAmong};
+ghost use Rattle.msg_order.specs.Paths.{ArePaths, IsSetOf, is_ready, set_at};
 ghost use Rattle.msg_order.specs.SystemSet.{has, meets};
 
 use crate::system_set::SystemSet;
@@ -17,8 +17,10 @@ fn take_level<A: Allocator + Copy>(
 ) -> Result<(Vec<u32, A>, SystemSet), AllocError>
     requires few { length before.now ≤ 256 }
     requires within { (k : ℕ) → has left.now k ≡ true → k < length before.now }
-    ensures ready { IfOk result (λ r. r.0.items ≡ filter (is_ready before.now left.now) (range_with_len 0 (length before.now))) }
-    ensures next { IfOk result (λ r. (i : ℕ) → has r.1 i ≡ (has left.now i && meets (set_at before.now i) left.now)) }
+    ensures ready { IfOk result (λ r.
+        r.0.items ≡ filter (is_ready before.now left.now) (range_with_len 0 (length before.now))) }
+    ensures next { IfOk result (λ r.
+        (i : ℕ) → has r.1 i ≡ (has left.now i && meets (set_at before.now i) left.now)) }
 {
     let mut batch = Vec::new(alloc);
     let mut next = SystemSet::empty();

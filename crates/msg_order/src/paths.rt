@@ -1,8 +1,8 @@
 // The paths of a growing graph: before each system those from which a path leads to it.
-ghost use Rattle.std.specs.Prelude.{◌≡◌, ◌==◌, ◌||◌, ◌&&◌, ℕ, ◌<◌, ◌≤◌, ◌↔◌, [], true, false, length, All, IsTrue, IsFalse, MatchOption};
+ghost use Rattle.std.specs.Prelude.{◌≡◌, ◌==◌, ◌||◌, ◌&&◌, ℕ, ◌<◌, ◌≤◌, ◌↔◌, [], true, false, length, IsTrue, IsFalse, MatchOption};
 ghost use Rattle.msg_order.specs.Graph.{Graph, IsAcyclic, IsLowestOnCycle};
-ghost use Rattle.msg_order.specs.Order.{AreInConflict, Settles, pairs, rules_among};
-ghost use Rattle.msg_order.specs.Paths.{ArePaths, comes_before, set_at};
+ghost use Rattle.msg_order.specs.Order.{AreInConflict, NameSystemsBelow, rules_among};
+ghost use Rattle.msg_order.specs.Paths.{ArePaths, AreSettled, comes_before, set_at};
 ghost use Rattle.msg_order.specs.SystemSet.{has, meets};
 
 use crate::Rule;
@@ -43,7 +43,7 @@ fn only(system: usize) -> SystemSet
 fn add_rules(before: &mut [SystemSet], rules: &[Rule], joined: &[bool])
     requires few { length before.old ≤ 256 }
     requires one_each { length joined.now ≡ length before.old }
-    requires in_range { All (λ rule. (rule.earlier < length before.old) × (rule.later < length before.old)) rules.now }
+    requires in_range { NameSystemsBelow (length before.old) rules.now }
     requires none_yet { ArePaths [] before.old }
     ensures { ArePaths (rules_among joined.now rules.now) before.new }
 {
@@ -89,9 +89,7 @@ fn settle_pairs(before: &mut [SystemSet], accesses: &[Access], joined: &[bool])
     requires few { length before.old ≤ 256 }
     requires one_each { length joined.now ≡ length before.old }
     requires all { length accesses.now ≡ length before.old }
-    ensures { (g : Graph)
-        → ArePaths g before.old
-        → (h : Graph) × (ArePaths h before.new × Settles (AreInConflict accesses.now joined.now) g (pairs (length accesses.now)) h) }
+    ensures { (g : Graph) → ArePaths g before.old → AreSettled accesses.now joined.now g before.new }
 {
     for i in 0..before.len() {
         let later = later_conflicts(accesses, joined, i, &before[i]);
@@ -102,7 +100,8 @@ fn settle_pairs(before: &mut [SystemSet], accesses: &[Access], joined: &[bool])
 fn lowest_on_cycle(before: &[SystemSet]) -> Option<u32>
     requires few { length before.now ≤ 256 }
     ensures { MatchOption result ((s : ℕ) → comes_before before.now s s ≡ false)
-        (λ s. (comes_before before.now s s ≡ true) × ((r : ℕ) → r < s → comes_before before.now r r ≡ false)) }
+        (λ s. (comes_before before.now s s ≡ true)
+        × ((r : ℕ) → r < s → comes_before before.now r r ≡ false)) }
 {
     for s in 0..before.len() {
         if before[s].contains(s) {
@@ -122,14 +121,12 @@ pub fn settle(
     requires few { length before.old ≤ 256 }
     requires one_each { length joined.now ≡ length before.old }
     requires all { length accesses.now ≡ length before.old }
-    requires in_range { All (λ rule. (rule.earlier < length before.old) × (rule.later < length before.old)) rules.now }
+    requires in_range { NameSystemsBelow (length before.old) rules.now }
     requires none_yet { ArePaths [] before.old }
-    ensures { MatchOption result
-        (IsAcyclic (rules_among joined.now rules.now)
-        × ((h : Graph)
-        × (ArePaths h before.new
-        × Settles (AreInConflict accesses.now joined.now) (rules_among joined.now rules.now) (pairs (length accesses.now)) h)))
-        (λ s. IsLowestOnCycle (rules_among joined.now rules.now) s) }
+    ensures { let among : Graph = rules_among joined.now rules.now in
+        MatchOption result
+        (IsAcyclic among × AreSettled accesses.now joined.now among before.new)
+        (IsLowestOnCycle among) }
 {
     add_rules(before, rules, joined);
     if let Some(s) = lowest_on_cycle(before) {

@@ -51,9 +51,9 @@ fn set_of(joined: &[bool]) -> SystemSet
 }
 
 impl<A: Allocator + Copy> Plan<A> {
-    ghost use Rattle.std.specs.Prelude.{IfErr, OnOk, All};
+    ghost use Rattle.std.specs.Prelude.{IfErr, OnOk};
     ghost use Rattle.msg_order.specs.Graph.{IsAcyclic};
-    ghost use Rattle.msg_order.specs.Order.{rules_among};
+    ghost use Rattle.msg_order.specs.Order.{NameSystemsBelow, rules_among};
     ghost use Rattle.msg_order.specs.Plan.{IsPlanOf, RefusesFor};
 
     /// Settles the order of the joined systems, given by their accesses and by rules, and parts them
@@ -74,7 +74,7 @@ impl<A: Allocator + Copy> Plan<A> {
     ) -> Result<Self, PlanRefusal>
         requires few { length accesses.now ≤ 256 }
         requires one_each { length joined.now ≡ length accesses.now }
-        requires in_range { All (λ rule. (rule.earlier < length accesses.now) × (rule.later < length accesses.now)) rules.now }
+        requires in_range { NameSystemsBelow (length accesses.now) rules.now }
 
         ensures plan { IfOk result (IsPlanOf accesses.now rules.now joined.now) }
         ensures acyclic { OnOk result (IsAcyclic (rules_among joined.now rules.now)) }
@@ -125,8 +125,10 @@ impl<A: Allocator> Plan<A> {
 
     /// Whether the order has each joined system once, and keeps the settled order.
     pub fn accepts(&self, order: &[u32]) -> bool
-        ensures lawful { IsTrue result ↔ IsLawfulOrder self.now.precedes self.now.joined order.now }
-        ensures settled { (accesses : List AccessView) (rules : List RuleView) (joined : List Bool)
+        ensures keeps_what_precedes { IsTrue result ↔ IsLawfulOrder self.now.precedes self.now.joined order.now }
+
+        // Where this is the plan of some systems, the order is lawful for the order that they settled in.
+        ensures lawful { (accesses : List AccessView) (rules : List RuleView) (joined : List Bool)
             (plan : IsPlanOf accesses rules joined self.now)
             → IsTrue result ↔ IsLawfulOrder plan.order joined order.now }
     {

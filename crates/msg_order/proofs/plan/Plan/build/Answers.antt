@@ -3,8 +3,8 @@ use Rattle.std.specs.Vec.{with_items}
 use Rattle.std.proofs.lemmas.List.{with_items_is}
 use Rattle.msg_order.specs.declared.system_set.SystemSet.{SystemSet}
 use Rattle.msg_order.specs.Graph.{Graph, IsAcyclic}
-use Rattle.msg_order.specs.Order.{AreBatches}
-use Rattle.msg_order.specs.Paths.{ArePaths, IsAmong, AreKept}
+use Rattle.msg_order.specs.Order.{AreBatches, IsAmong}
+use Rattle.msg_order.specs.Paths.{ArePaths, AreKept}
 use Rattle.msg_order.proofs.PathTest.{from_Path, to_Path}
 use Rattle.msg_order.proofs.Rows.{settled_joins, settled_free}
 use Rattle.msg_order.proofs.Standing.{in_turn, none_conflict}
