@@ -24,7 +24,7 @@ abbrev pub rules_among : List Bool → List Rule → Graph
 rules_among joined rules =
     filter (λ e. has_joined joined e.0 && has_joined joined e.1) (map (λ rule. (rule.earlier, rule.later)) rules)
 
--- each edge leads from one joined system to another
+-- each edge leads from a joined system to a joined system
 abbrev pub IsAmong : List Bool → Graph → Type 0
 IsAmong joined g = (i j : ℕ) → IsEdge g i j → IsTrue (has_joined joined i) × IsTrue (has_joined joined j)
 

@@ -11,7 +11,7 @@ use std::alloc::{AllocError, Allocator, Global};
 use std::marker::Model;
 
 /// In which order systems run: batches one after the other, and the systems of a batch side by side.
-#[derive(Drop)]
+#[derive(Debug, Drop)]
 pub struct Plan<A: Allocator = Global> {
     before: Vec<SystemSet, A>,
     batches: Vec<Vec<u32, A>, A>,

@@ -4,10 +4,10 @@ ghost use Rattle.std.specs.Prelude.{◌≡◌};
 use std::alloc::AllocError;
 use thiserror::Error;
 
-/// Why there is no plan.
+/// Why there is no plan: the rules lead from this system back to it, and from no lower one, or memory
+/// ran out.
 #[derive(Debug, Drop, Error)]
 pub enum PlanRefusal {
-    /// The rules lead from this system back to it, and from no lower one.
     #[error("the rules go round in a circle through system {0}")]
     Cycle(u32),
     #[error("out of memory")]
