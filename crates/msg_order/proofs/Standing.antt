@@ -1,8 +1,7 @@
 -- Places in an order, and the batches one after the other.
 use Rattle.std.proofs.Common.{◌≡◌, ◌≢◌, ℕ, zero, suc, ◌+◌, ◌-◌, ◌<◌, inl, inr, Bool, List, [], ◌∷◌, ◌++◌, length, get_or, Some, ap, sym, subst, ◌∙◌, arith, length-append}
-use Rattle.std.specs.Prelude.{Contains, All, AllPairs}
+use Rattle.std.specs.Prelude.{IsTrue, Contains, All, AllPairs}
 use Rattle.std.specs.List.{concat}
-use Rattle.std.specs.List.Sorted.{IsStrictlyIncreasing}
 use Rattle.std.proofs.lemmas.Bool.{cases_lt, cases_order}
 use Rattle.std.proofs.lemmas.Grind.{get_or_default_zero}
 use Rattle.std.proofs.lemmas.List.{get_or_append_left, get_or-append-add}
@@ -11,8 +10,8 @@ use Rattle.std.proofs.lemmas.List.Kept.{AllPairs-from_increasing}
 use Rattle.std.proofs.lemmas.Option.{slice_get-get_or, slice_get_within, get_or_from_slice_get}
 use Rattle.msg_world.specs.declared.access.Access.{Access}
 use Rattle.msg_order.specs.declared.rule.Rule.{Rule}
-use Rattle.msg_order.specs.Graph.{Graph, IsChain, Path}
-use Rattle.msg_order.specs.Order.{rules_among, AreInConflict, Settles, pairs, batch_at, AreBatches, StandsBefore, IsLawfulOrder, IsAmong}
+use Rattle.msg_order.specs.Graph.{IsBatchNumber, Graph, IsChain, Path}
+use Rattle.msg_order.specs.Order.{has_joined, rules_among, AreInConflict, Settles, pairs, batch_at, AreBatches, StandsBefore, IsLawfulOrder, IsAmong, RunsBefore, IsTurnOrder}
 use Rattle.msg_order.specs.Plan.{NoneConflict}
 use Rattle.msg_order.proofs.Lists.{concat-Contains, Contains-concat, not_in_none}
 use Rattle.msg_order.proofs.Chains.{number_once, number_rises, edge_is_path}
@@ -91,49 +90,76 @@ stands_by_batch (xs ∷ bs) a zero i j lt h k = absurd (omega arith)
 stands_by_batch (xs ∷ bs) zero (suc b) i j lt h k = stands_across xs (concat bs) i j h (Contains-concat bs b j k)
 stands_by_batch (xs ∷ bs) (suc a) (suc b) i j lt h k = stands_in_next xs (concat bs) i j (stands_by_batch bs a b i j (omega arith) h k)
 
-once_append : (xs ys : List ℕ) → AllPairs (λ i j. i ≢ j) xs → AllPairs (λ i j. i ≢ j) ys → ((i : ℕ) → Contains xs i → Contains ys i → ⊥) → AllPairs (λ i j. i ≢ j) (xs ++ ys)
-once_append xs ys f h apart a b d lt l e =
+pairs_append : (R : ℕ → ℕ → Type 0) (xs ys : List ℕ) → AllPairs R xs → AllPairs R ys → ((i j : ℕ) → Contains xs i → Contains ys j → R i j) → AllPairs R (xs ++ ys)
+pairs_append R xs ys f h across a b d lt l =
     let sum : length (xs ++ ys) ≡ length xs + length ys = length-append xs ys in
     elim (cases_lt b (length xs)) [
-      | inl in_b ↦ f a b d lt in_b (sym (get_or_append_left xs ys d a (omega arith)) ∙ e ∙ get_or_append_left xs ys d b in_b)
+      | inl in_b ↦ rw (get_or_append_left xs ys d a (omega arith), get_or_append_left xs ys d b in_b) (f a b d lt in_b)
       | inr past_b ↦
           let b' : ℕ = b - length xs in
           let is_b : length xs + b' ≡ b = omega arith in
           let at_b : get_or (xs ++ ys) b d ≡ get_or ys b' d = ap (λ k. get_or (xs ++ ys) k d) (sym is_b) ∙ get_or-append-add xs ys b' d in
           elim (cases_lt a (length xs)) [
-            | inl in_a ↦
-                let at_a : get_or (xs ++ ys) a d ≡ get_or xs a d = get_or_append_left xs ys d a in_a in
-                apart (get_or xs a d) (Contains-get_or xs a d in_a) (subst (Contains ys) (sym at_b ∙ sym e ∙ at_a) (Contains-get_or ys b' d (omega arith)))
+            | inl in_a ↦ rw (get_or_append_left xs ys d a in_a, at_b) (across (get_or xs a d) (get_or ys b' d) (Contains-get_or xs a d in_a) (Contains-get_or ys b' d (omega arith)))
             | inr past_a ↦
                 let a' : ℕ = a - length xs in
                 let is_a : length xs + a' ≡ a = omega arith in
                 let at_a : get_or (xs ++ ys) a d ≡ get_or ys a' d = ap (λ k. get_or (xs ++ ys) k d) (sym is_a) ∙ get_or-append-add xs ys a' d in
-                h a' b' d (omega arith) (omega arith) (sym at_a ∙ e ∙ at_b)
+                rw (at_a, at_b) (h a' b' d (omega arith) (omega arith))
           ]
     ]
 
-pub once_by_batch : (bs : List (List ℕ)) → All IsStrictlyIncreasing bs → ((a b i : ℕ) → Contains (batch_at bs a) i → Contains (batch_at bs b) i → a ≡ b) → AllPairs (λ i j. i ≢ j) (concat bs)
-once_by_batch [] f h = λ a b d lt l. absurd (omega arith)
-once_by_batch (xs ∷ bs) f h =
-    let rising = AllPairs-from_increasing xs (All-head IsStrictlyIncreasing xs bs f) in
-    once_append xs (concat bs) (λ a b d lt l e. let r : get_or xs a d < get_or xs b d = rising a b d lt l in omega arith)
-    (once_by_batch bs (All-tail IsStrictlyIncreasing xs bs f) (λ a b i p q. let e : suc a ≡ suc b = h (suc a) (suc b) i p q in omega arith))
-    (λ i p q. let r = concat-Contains bs i q in let e : 0 ≡ suc r.0 = h 0 (suc r.0) i p r.1 in absurd (omega arith))
+-- what holds within each batch, and of an earlier one and a later one
+pairs_by_batch : (R : ℕ → ℕ → Type 0) (bs : List (List ℕ)) → All (AllPairs R) bs → ((a b i j : ℕ) → a < b → Contains (batch_at bs a) i → Contains (batch_at bs b) j → R i j) → AllPairs R (concat bs)
+pairs_by_batch R [] f h = λ a b d lt l. absurd (omega arith)
+pairs_by_batch R (xs ∷ bs) f h = pairs_append R xs (concat bs) (All-head (AllPairs R) xs bs f)
+    (pairs_by_batch R bs (All-tail (AllPairs R) xs bs f) (λ a b i j lt p q. h (suc a) (suc b) i j (omega arith) p q))
+    (λ i j p q. let r = concat-Contains bs j q in h 0 (suc r.0) i j (omega arith) p r.1)
 
--- the batches one after the other keep the order
-pub in_turn : (g : Graph) (joined : List Bool) (bs : List (List ℕ)) → IsAmong joined g → AreBatches g joined bs → IsLawfulOrder g joined (concat bs)
-in_turn g joined bs among h = record {
+-- the batches one after the other are in order of batch number, and then of addition
+pub in_turn_order : (g : Graph) (joined : List Bool) (bs : List (List ℕ)) → AreBatches g joined bs → IsTurnOrder g joined (concat bs)
+in_turn_order g joined bs h = record {
   of_joined = λ i. (
     λ c. let r = concat-Contains bs i c in ((h.of_number r.0 i).0 r.1).0,
     λ e. let n = h.all i e in Contains-concat bs n.0 i ((h.of_number n.0 i).1 (e, n.1)),
   );
-  once = once_by_batch bs h.by_addition (λ a b i p q. number_once g i a b ((h.of_number a i).0 p).1 ((h.of_number b i).0 q).1);
-  kept = λ i j e.
-      let both = among i j e in
-      let m = h.all i both.0 in
-      let n = h.all j both.1 in
-      stands_by_batch bs m.0 n.0 i j (number_rises g i j m.0 n.0 (edge_is_path g i j e) m.1 n.1) ((h.of_number m.0 i).1 (both.0, m.1)) ((h.of_number n.0 j).1 (both.1, n.1));
+  in_order = pairs_by_batch (RunsBefore g) bs
+      (All-from_get_or (AllPairs (RunsBefore g)) bs [] (λ b l x y d lt in_ m n at_m at_n.
+      let batch : List ℕ = batch_at bs b in
+      let i : ℕ = get_or batch x d in
+      let j : ℕ = get_or batch y d in
+      let is_m : b ≡ m = number_once g i b m ((h.of_number b i).0 (Contains-get_or batch x d (omega arith))).1 at_m in
+      let is_n : b ≡ n = number_once g j b n ((h.of_number b j).0 (Contains-get_or batch y d in_)).1 at_n in
+      inr (sym is_m ∙ is_n, AllPairs-from_increasing batch (h.by_addition b [] l) x y d lt in_)))
+      (λ a b i j lt p q m n at_m at_n.
+      let is_m : a ≡ m = number_once g i a m ((h.of_number a i).0 p).1 at_m in
+      let is_n : b ≡ n = number_once g j b n ((h.of_number b j).0 q).1 at_n in
+      inl (omega arith));
 }
+
+-- none runs before itself, where each has a number
+pub runs_once : (g : Graph) (joined : List Bool) (order : List ℕ) → ((i : ℕ) → IsTrue (has_joined joined i) → (n : ℕ) × IsBatchNumber g i n) → IsTurnOrder g joined order → AllPairs (λ i j. i ≢ j) order
+runs_once g joined order numbers t a b d lt l e =
+    let i : ℕ = get_or order a d in
+    let n = numbers i ((t.of_joined i).0 (Contains-get_or order a d (omega arith))) in
+    elim (t.in_order a b d lt l n.0 n.0 n.1 (subst (λ k. IsBatchNumber g k n.0) e n.1)) [
+      | inl x ↦ omega arith
+      | inr x ↦ let below : i < get_or order b d = x.1 in omega arith
+    ]
+
+-- they keep the order
+pub in_turn : (g : Graph) (joined : List Bool) (bs : List (List ℕ)) → IsAmong joined g → AreBatches g joined bs → IsLawfulOrder g joined (concat bs)
+in_turn g joined bs among h =
+    let t : IsTurnOrder g joined (concat bs) = in_turn_order g joined bs h in
+    record {
+      of_joined = t.of_joined;
+      once = runs_once g joined (concat bs) h.all t;
+      kept = λ i j e.
+          let both = among i j e in
+          let m = h.all i both.0 in
+          let n = h.all j both.1 in
+          stands_by_batch bs m.0 n.0 i j (number_rises g i j m.0 n.0 (edge_is_path g i j e) m.1 n.1) ((h.of_number m.0 i).1 (both.0, m.1)) ((h.of_number n.0 j).1 (both.1, n.1));
+    }
 
 -- no two systems of a batch conflict
 pub none_conflict : (accesses : List Access) (rules : List Rule) (joined : List Bool) (g : Graph) (bs : List (List ℕ)) → length joined ≡ length accesses

@@ -47,38 +47,42 @@ conflicts_ordered accesses rules joined order len settled i j ne at_i at_j confl
 pub settled_once : SettledOrderIsUnique
 settled_once accesses rules joined g h a b = settles_once (AreInConflict accesses joined) (pairs (length accesses)) (rules_among joined rules) g h a b
 
--- rising lists with the same elements
-below_head : (x : ℕ) (xs : List ℕ) → AllPairs (λ a b. a < b) (x ∷ xs) → (i : ℕ) → Contains xs i → x < i
-below_head x xs r i c = subst (λ k. x < k) c.2 (r 0 (suc c.0) i (omega arith) (omega (arith, c.1)))
+-- Lists of the same elements, in an order that holds one way only, are one list.
+ahead : (R : ℕ → ℕ → Type 0) (x : ℕ) (xs : List ℕ) → AllPairs R (x ∷ xs) → (i : ℕ) → Contains xs i → R x i
+ahead R x xs r i c = subst (R x) c.2 (r 0 (suc c.0) i (omega arith) (omega (arith, c.1)))
 
-rising_tail : (x : ℕ) (xs : List ℕ) → AllPairs (λ a b. a < b) (x ∷ xs) → AllPairs (λ a b. a < b) xs
-rising_tail x xs r a b d lt l = r (suc a) (suc b) d (omega arith) (omega arith)
+tail_pairs : (R : ℕ → ℕ → Type 0) (x : ℕ) (xs : List ℕ) → AllPairs R (x ∷ xs) → AllPairs R xs
+tail_pairs R x xs r a b d lt l = r (suc a) (suc b) d (omega arith) (omega arith)
 
-same_rising : (xs ys : List ℕ) → AllPairs (λ a b. a < b) xs → AllPairs (λ a b. a < b) ys → ((i : ℕ) → Contains xs i → Contains ys i) → ((i : ℕ) → Contains ys i → Contains xs i) → xs ≡ ys
-same_rising [] [] r s f h = refl
-same_rising [] (y ∷ ys) r s f h = absurd (not_in_none y (h y (Contains-head y ys)))
-same_rising (x ∷ xs) [] r s f h = absurd (not_in_none x (f x (Contains-head x xs)))
-same_rising (x ∷ xs) (y ∷ ys) r s f h =
-    let first : x ≡ y = elim (Contains-cases y ys x (f x (Contains-head x xs))) [
+pub same_ordered : (R : ℕ → ℕ → Type 0) (xs ys : List ℕ) → ((i j : ℕ) → Contains xs i → Contains xs j → R i j → R j i → ⊥) → AllPairs R xs → AllPairs R ys
+    → ((i : ℕ) → Contains xs i → Contains ys i) → ((i : ℕ) → Contains ys i → Contains xs i) → xs ≡ ys
+same_ordered R [] [] one_way r s f h = refl
+same_ordered R [] (y ∷ ys) one_way r s f h = absurd (not_in_none y (h y (Contains-head y ys)))
+same_ordered R (x ∷ xs) [] one_way r s f h = absurd (not_in_none x (f x (Contains-head x xs)))
+same_ordered R (x ∷ xs) (y ∷ ys) one_way r s f h =
+    let x_in : Contains (x ∷ xs) x = Contains-head x xs in
+    let y_in : Contains (x ∷ xs) y = h y (Contains-head y ys) in
+    let once : R x x → ⊥ = λ e. one_way x x x_in x_in e e in
+    let first : x ≡ y = elim (Contains-cases y ys x (f x x_in)) [
       | inl e ↦ sym e
-      | inr c ↦ elim (Contains-cases x xs y (h y (Contains-head y ys))) [
+      | inr c ↦ elim (Contains-cases x xs y y_in) [
         | inl e ↦ e
-        | inr d ↦
-            let below : y < x = below_head y ys s x c in
-            let above : x < y = below_head x xs r y d in
-            absurd (omega arith)
+        | inr d ↦ absurd (one_way x y x_in y_in (ahead R x xs r y d) (ahead R y ys s x c))
       ]
     ] in
-    let rest : xs ≡ ys = same_rising xs ys (rising_tail x xs r) (rising_tail y ys s)
+    let rest : xs ≡ ys = same_ordered R xs ys (λ i j p q. one_way i j (Contains-tail x xs i p) (Contains-tail x xs j q)) (tail_pairs R x xs r) (tail_pairs R y ys s)
     (λ i c. elim (Contains-cases y ys i (f i (Contains-tail x xs i c))) [
-      | inl e ↦ let below : x < i = below_head x xs r i c in absurd (omega arith)
+      | inl e ↦ absurd (once (subst (R x) (sym e ∙ sym first) (ahead R x xs r i c)))
       | inr d ↦ d
     ])
     (λ i c. elim (Contains-cases x xs i (h i (Contains-tail y ys i c))) [
-      | inl e ↦ let below : y < i = below_head y ys s i c in absurd (omega arith)
+      | inl e ↦ absurd (once (subst (λ k. R k x) (sym first) (subst (R y) (sym e) (ahead R y ys s i c))))
       | inr d ↦ d
     ]) in
     ap (λ k. k ∷ xs) first ∙ ap (λ ks. y ∷ ks) rest
+
+pub same_rising : (xs ys : List ℕ) → AllPairs (λ a b. a < b) xs → AllPairs (λ a b. a < b) ys → ((i : ℕ) → Contains xs i → Contains ys i) → ((i : ℕ) → Contains ys i → Contains xs i) → xs ≡ ys
+same_rising xs ys r s f h = same_ordered (λ a b. a < b) xs ys (λ i j p q a b. omega arith) r s f h
 
 -- lists with the same element at each place
 same_at : (bs cs : List (List ℕ)) → length bs ≡ length cs → ((b : ℕ) → b < length bs → batch_at bs b ≡ batch_at cs b) → bs ≡ cs

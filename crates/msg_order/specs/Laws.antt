@@ -4,7 +4,7 @@ use Rattle.msg_world.specs.declared.access.Access.{Access}
 use Rattle.msg_world.specs.Access.{Conflict}
 use Rattle.msg_order.specs.declared.rule.Rule.{Rule}
 use Rattle.msg_order.specs.Graph.{Graph, Path, IsAcyclic, IsBatchNumber}
-use Rattle.msg_order.specs.Order.{has_joined, access_of, rules_among, IsAmong, IsSettledOrder, AreBatches, StandsBefore, IsLawfulOrder}
+use Rattle.msg_order.specs.Order.{has_joined, access_of, rules_among, IsAmong, IsSettledOrder, AreBatches, IsTurnOrder, StandsBefore, IsLawfulOrder}
 
 -- Rules that make no cycle among some systems make none among fewer of them.
 abbrev pub FewerSystemsMakeNoCycle : Type 0
@@ -43,6 +43,12 @@ BatchesExist = (order : Graph) (joined : List Bool)
 abbrev pub BatchesAreUnique : Type 0
 BatchesAreUnique = (order : Graph) (joined : List Bool) (bs cs : List (List ℕ))
     → AreBatches order joined bs → AreBatches order joined cs → bs ≡ cs
+
+-- Where no path leads back, there is one turn order.
+abbrev pub TurnOrderIsUnique : Type 0
+TurnOrderIsUnique = (order : Graph) (joined : List Bool) (xs ys : List ℕ)
+    → IsAmong joined order → IsAcyclic order
+    → IsTurnOrder order joined xs → IsTurnOrder order joined ys → xs ≡ ys
 
 -- A system has one batch number, and the batch numbers rise along a path.
 abbrev pub BatchNumbersRise : Type 0

@@ -66,6 +66,15 @@ pub record AreBatches (g : Graph) (joined : List Bool) (batches : List (List ℕ
   pub filled : All (λ batch. 0 < length batch) batches
   pub by_addition : All IsStrictlyIncreasing batches
 
+-- the batch number of i is lower than that of j, or they have one number and i was added first
+abbrev pub RunsBefore : Graph → ℕ → ℕ → Type 0
+RunsBefore g i j = (m n : ℕ) → IsBatchNumber g i m → IsBatchNumber g j n → (m < n) ⊎ ((m ≡ n) × (i < j))
+
+-- the joined systems by batch number, and then by addition
+pub record IsTurnOrder (g : Graph) (joined : List Bool) (order : List ℕ) : Type 0 where
+  pub of_joined : (i : ℕ) → Contains order i ↔ IsTrue (has_joined joined i)
+  pub in_order : AllPairs (RunsBefore g) order
+
 -- i stands before j in the list
 pub record StandsBefore (order : List ℕ) (i j : ℕ) : Type 0 where
   pub earlier : ℕ

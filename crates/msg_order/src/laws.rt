@@ -1,5 +1,5 @@
 //! Laws of the settled order, for proofs: a call of one puts it among the facts that are known there.
-ghost use Rattle.msg_order.specs.Laws.{FewerSystemsMakeNoCycle, SettlingMakesNoCycle, ConflictingSystemsAreOrdered, SettledOrderExists, SettledOrderIsUnique, BatchesExist, BatchesAreUnique, BatchNumbersRise, LawfulOrdersKeepPaths};
+ghost use Rattle.msg_order.specs.Laws.{FewerSystemsMakeNoCycle, SettlingMakesNoCycle, ConflictingSystemsAreOrdered, SettledOrderExists, SettledOrderIsUnique, BatchesExist, BatchesAreUnique, TurnOrderIsUnique, BatchNumbersRise, LawfulOrdersKeepPaths};
 
 /// Rules that make no cycle among some systems make none among fewer of them. So a plan over systems
 /// that have joined can't be refused for a cycle where the rules of all systems have none.
@@ -35,6 +35,11 @@ pub fn batches_exist()
 /// A settled order has one list of batches.
 pub fn batches_are_unique()
     ensures { BatchesAreUnique }
+{}
+
+/// Edges among joined systems that make no cycle have one turn order.
+pub fn turn_order_is_unique()
+    ensures { TurnOrderIsUnique }
 {}
 
 /// A system has one batch number, and the batch numbers rise along a path.

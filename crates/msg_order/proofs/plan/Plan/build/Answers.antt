@@ -7,7 +7,7 @@ use Rattle.msg_order.specs.Order.{AreBatches, IsAmong}
 use Rattle.msg_order.specs.Paths.{ArePaths, AreKept}
 use Rattle.msg_order.proofs.PathTest.{from_Path, to_Path}
 use Rattle.msg_order.proofs.Rows.{settled_joins, settled_free}
-use Rattle.msg_order.proofs.Standing.{in_turn, none_conflict}
+use Rattle.msg_order.proofs.Standing.{in_turn, in_turn_order, none_conflict}
 use Rattle.msg_order.proofs.Viewing.{precedes-view, systems-view, sets_kept}
 use Rattle.msg_order.proofs.plan.Plan.build.Goals as goal
 
@@ -51,5 +51,6 @@ returns-clause-plan _g c =
           (λ e. to_Path order i j (sym at ∙ edges.0 e), λ p. edges.1 (at ∙ from_Path order i j p));
       classes = classes;
       apart = none_conflict accesses rules joined order batches c.requires.one_each settled classes;
-      in_turn = in_turn order joined batches among classes;
+      turns = in_turn_order order joined batches classes;
+      lawful = in_turn order joined batches among classes;
     }
