@@ -14,13 +14,14 @@ FewerSystemsMakeNoCycle = (rules : List Rule) (joined fewer : List Bool)
 
 -- Where the rules make no cycle, the settled order has none.
 abbrev pub SettlingMakesNoCycle : Type 0
-SettlingMakesNoCycle = (accesses : List Access) (rules : List Rule) (joined : List Bool) (order : Graph)
-    → IsSettledOrder accesses rules joined order → IsAcyclic (rules_among joined rules) → IsAcyclic order
+SettlingMakesNoCycle = (accesses : List Access) (rules : List Rule) (joined : List Bool)
+    → (order : Graph) → IsSettledOrder accesses rules joined order
+    → IsAcyclic (rules_among joined rules) → IsAcyclic order
 
 -- The settled order leads from one of two joined systems in conflict to the other.
 abbrev pub ConflictingSystemsAreOrdered : Type 0
-ConflictingSystemsAreOrdered = (accesses : List Access) (rules : List Rule) (joined : List Bool) (order : Graph)
-    → length joined ≡ length accesses → IsSettledOrder accesses rules joined order
+ConflictingSystemsAreOrdered = (accesses : List Access) (rules : List Rule) (joined : List Bool)
+    → (order : Graph) → length joined ≡ length accesses → IsSettledOrder accesses rules joined order
     → (i j : ℕ) → i ≢ j → IsTrue (has_joined joined i) → IsTrue (has_joined joined j)
     → Conflict (access_of accesses i) (access_of accesses j) → Path order i j ⊎ Path order j i
 
@@ -37,7 +38,8 @@ SettledOrderIsUnique = (accesses : List Access) (rules : List Rule) (joined : Li
 -- Where no path leads back, there is a list of batches.
 abbrev pub BatchesExist : Type 0
 BatchesExist = (order : Graph) (joined : List Bool)
-    → IsAmong joined order → IsAcyclic order → (batches : List (List ℕ)) × AreBatches order joined batches
+    → IsAmong joined order → IsAcyclic order
+    → (batches : List (List ℕ)) × AreBatches order joined batches
 
 -- There is one list of batches.
 abbrev pub BatchesAreUnique : Type 0

@@ -22,11 +22,13 @@ NameSystemsBelow n rules = All (λ rule. (rule.earlier < n) × (rule.later < n))
 -- the rules among the joined systems
 abbrev pub rules_among : List Bool → List Rule → Graph
 rules_among joined rules =
-    filter (λ e. has_joined joined e.0 && has_joined joined e.1) (map (λ rule. (rule.earlier, rule.later)) rules)
+    filter (λ e. has_joined joined e.0 && has_joined joined e.1)
+    (map (λ rule. (rule.earlier, rule.later)) rules)
 
 -- each edge leads from a joined system to a joined system
 abbrev pub IsAmong : List Bool → Graph → Type 0
-IsAmong joined g = (i j : ℕ) → IsEdge g i j → IsTrue (has_joined joined i) × IsTrue (has_joined joined j)
+IsAmong joined g = (i j : ℕ) → IsEdge g i j
+    → IsTrue (has_joined joined i) × IsTrue (has_joined joined j)
 
 -- systems i and j have joined, and their accesses conflict
 pub record AreInConflict (accesses : List Access) (joined : List Bool) (i j : ℕ) : Type 0 where
@@ -68,7 +70,8 @@ pub record AreBatches (g : Graph) (joined : List Bool) (batches : List (List ℕ
 
 -- the batch number of i is lower than that of j, or they have one number and i was added first
 abbrev pub RunsBefore : Graph → ℕ → ℕ → Type 0
-RunsBefore g i j = (m n : ℕ) → IsBatchNumber g i m → IsBatchNumber g j n → (m < n) ⊎ ((m ≡ n) × (i < j))
+RunsBefore g i j = (m n : ℕ) → IsBatchNumber g i m → IsBatchNumber g j n
+    → (m < n) ⊎ ((m ≡ n) × (i < j))
 
 -- the joined systems by batch number, and then by addition
 pub record IsTurnOrder (g : Graph) (joined : List Bool) (order : List ℕ) : Type 0 where

@@ -43,7 +43,8 @@ is_ready before left i = has left i && not (meets (set_at before i) left)
 pub record AreKept (before : List SystemSet) (joined : SystemSet) : Type 0 where
   pub few : length before ≤ 256
   pub within : (i : ℕ) → has joined i ≡ true → i < length before
-  pub among : (i j : ℕ) → comes_before before i j ≡ true → (has joined i ≡ true) × (has joined j ≡ true)
+  pub among : (i j : ℕ) → comes_before before i j ≡ true
+      → (has joined i ≡ true) × (has joined j ≡ true)
 
 -- all pairs of numbers below n
 abbrev pub square : ℕ → List (ℕ × ℕ)

@@ -125,9 +125,10 @@ impl<A: Allocator> Plan<A> {
 
     /// Whether the order has each joined system once, and keeps the settled order.
     pub fn accepts(&self, order: &[u32]) -> bool
-        ensures keeps_what_precedes { IsTrue result ↔ IsLawfulOrder self.now.precedes self.now.joined order.now }
+        ensures keeps_what_precedes { IsTrue result
+            ↔ IsLawfulOrder self.now.precedes self.now.joined order.now }
 
-        // Where this is the plan of some systems, the order is lawful for the order that they settled in.
+        // Where this is the plan of some systems, the order is lawful for their settled order.
         ensures lawful { (accesses : List AccessView) (rules : List RuleView) (joined : List Bool)
             (plan : IsPlanOf accesses rules joined self.now)
             → IsTrue result ↔ IsLawfulOrder plan.order joined order.now }
