@@ -1,13 +1,16 @@
-// A library with one function.
+//! In which order systems run: rules, the settled order, and batches that may run side by side.
 #![tactic(auto)]
 
-ghost use Rattle.std.specs.Prelude.{◌≡◌};
-ghost use Rattle.msg_order.specs.Echo.{echo_of};
+pub mod laws;
+mod levels;
+mod paths;
+mod plan;
+mod plan_refusal;
+mod rule;
+mod system_set;
+#[cfg(test)]
+mod tests;
 
-// The `ensures` clause is the contract: what `echo` returns is `echo_of` of its argument, a definition
-// in `specs/Echo.antt`, which a caller's clause can cite too.
-pub fn echo(x: usize) -> usize
-    ensures { result ≡ echo_of x }
-{
-    x
-}
+pub use plan::Plan;
+pub use plan_refusal::PlanRefusal;
+pub use rule::Rule;

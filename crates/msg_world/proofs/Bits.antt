@@ -1,11 +1,11 @@
 -- Bits of masks, as tests.
 use Rattle.std.proofs.Common.{◌≡◌, ◌≢◌, ℕ, zero, suc, ◌+◌, ◌*◌, ◌-◌, ◌/◌, ◌^◌, ◌%◌, ◌<◌, ◌≤◌, min, max, Bool, true, false, not, ◌&&◌, ◌||◌, inl, inr, refl, ap, sym, ◌∙◌, arith, w64}
-use Rattle.std.specs.Prelude.{◌==◌, ◌↔◌, IsTrue, bit_and, bit_or}
+use Rattle.std.specs.Prelude.{◌==◌, ◌↔◌, IsTrue, bit_and, bit_or, ◌⊎◌}
 use Rattle.std.specs.Int.{bit_at, bit_not, trailing_zeros}
 use Rattle.std.proofs.lemmas.Bool.{cases_Bool, and_from, and_parts, cases_lt, cases_eq, eqb-true, eq-eqb, ne_eqb, eqb-false, not-true, false≢true}
 use Rattle.std.proofs.lemmas.Nat.{and_le_l, shr-shr}
 use Rattle.std.proofs.Math.Nat.{div-le_self}
-use Rattle.std.proofs.lemmas.Nat.Bits.{bit_at_and, bit_at_or, bit_at_not, bit_at_above, bit_at-zero, bit_at-lt, bit_at_set_same, bit_at_set_other, bit_at_clear_same, bit_at_clear_other, bit_at-trailing_zeros}
+use Rattle.std.proofs.lemmas.Nat.Bits.{bit_at_lowest, bit_at-suc, bit_at_and, bit_at_or, bit_at_not, bit_at_above, bit_at-zero, bit_at-lt, bit_at_set_same, bit_at_set_other, bit_at_clear_same, bit_at_clear_other, bit_at-trailing_zeros}
 use Rattle.msg_world.specs.Access.{has_bit}
 use Rattle.msg_world.specs.Masks.{ShareBit, IsBelow, IsWithin}
 
@@ -124,3 +124,19 @@ zero-is_within mask other rest fits bits = (
         absurd (false≢true (ap not (sym (within bit.0 both.0)) ∙ both.1))
   ],
 )
+
+-- whatever its size
+some_bit_of : (fuel n : ℕ) → n ≤ fuel → n ≢ 0 → (k : ℕ) × IsTrue (has_bit n k)
+some_bit_of zero n h ne = let e : n ≡ 0 = omega arith in absurd (ne e)
+some_bit_of (suc fuel) n h ne = elim (cases_eq (n % 2) 1) [
+  | inl e ↦ (0, eq-eqb (bit_at n 0) 1 (bit_at_lowest n ∙ e))
+  | inr o ↦
+      let r = some_bit_of fuel (n / 2) (omega arith) (omega arith) in
+      (suc r.0, ap (λ b. b == 1) (bit_at-suc n r.0) ∙ r.1)
+]
+
+pub decide_share : (a b : ℕ) → ShareBit a b ⊎ (ShareBit a b → ⊥)
+decide_share a b = elim (cases_eq (bit_and a b) 0) [
+  | inl e ↦ inr (λ s. false≢true (sym (has_bit-zero s.0) ∙ ap (λ n. has_bit n s.0) (sym e) ∙ has_bit-and a b s.0 ∙ s.1))
+  | inr ne ↦ let r = some_bit_of (bit_and a b) (bit_and a b) (omega arith) ne in inl (r.0, sym (has_bit-and a b r.0) ∙ r.1)
+]

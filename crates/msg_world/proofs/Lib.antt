@@ -1,4 +1,4 @@
-mod Bits
+pub mod Bits
 mod Loans
-mod Parts
+pub mod Parts
 mod Worlds

@@ -48,3 +48,7 @@ IsClash a = (p : Part) × IsTrue (reads a p && writes a p)
 pub record Fits (types resources : ℕ) (a : Access) : Type 0 where
   pub types_below : (t : ℕ) → IsTrue (uses a (OfType t)) → t < types
   pub resources_below : (r : ℕ) → IsTrue (uses a (OfResource r)) → r < resources
+
+-- the access that uses nothing
+abbrev pub no_access : Access
+no_access = record { read_types = 0; write_types = 0; read_res = 0; write_res = 0; registry = false }

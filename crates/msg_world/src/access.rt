@@ -6,7 +6,7 @@ use crate::{ResNo, TypeNo, masks};
 /// whether it signals to the registry.
 ///
 /// Two jobs may run side by side where their accesses don't conflict.
-#[derive(Clone, Copy, Debug, PartialEq, Eq)]
+#[derive(Clone, Copy, Debug, Default, PartialEq, Eq)]
 pub struct Access {
     pub read_types: u64,
     pub write_types: u64,

@@ -40,6 +40,7 @@ fn parts_are_added_one_by_one(rt: HostRuntime) {
         registry: true,
     };
     assert_eq!(rt; access, want);
+    assert_eq!(rt; Access::default(), Access::none());
     assert!(rt; access.reads_type(t) && !access.reads_type(u));
     assert!(rt; access.writes_type(u) && !access.writes_type(t));
     assert!(rt; access.reads_res(r) && !access.reads_res(s));

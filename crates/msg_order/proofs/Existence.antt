@@ -1,0 +1,120 @@
+-- That there is a settled order, and a list of its batches, for all systems whose rules make no cycle.
+use Rattle.std.proofs.Common.{◌≡◌, ℕ, zero, suc, ◌<◌, ◌≤◌, ◌⊎◌, inl, inr, Bool, true, not, ◌&&◌, List, [], ◌∷◌, ◌++◌, length, refl, sym, ◌∙◌, arith}
+use Rattle.std.specs.Prelude.{IsTrue, filter}
+use Rattle.std.specs.List.{range_with_len}
+use Rattle.std.proofs.lemmas.Bool.{cases_Bool, cases_eq, and_parts, and_from, false≢true}
+use Rattle.msg_world.specs.declared.access.Access.{Access}
+use Rattle.msg_world.proofs.Parts.{decide_conflict}
+use Rattle.msg_order.specs.Graph.{Graph, IsAcyclic, IsBatchNumber}
+use Rattle.msg_order.specs.Order.{has_joined, access_of, rules_among, AreInConflict, GainsEdge, Settles, pairs, AreBatches, RunsBefore}
+use Rattle.msg_order.specs.Paths.{path}
+use Rattle.msg_order.specs.SystemSet.{any_below}
+use Rattle.msg_order.specs.Laws.{SettledOrderExists, BatchesExist, TurnOrderIsUnique}
+use Rattle.msg_order.proofs.Words.{any_below-found, any_below-true}
+use Rattle.msg_order.proofs.PathTest.{no_Path, to_Path}
+use Rattle.msg_order.proofs.Peeling.{TellsBlocked, LeadAmong, ArePeeled, peeled_first, peeled_next, peeled_all, peeled_done, count_left, left_falls}
+use Rattle.msg_order.proofs.Rows.{joined_in}
+use Rattle.msg_order.proofs.Uniqueness.{same_ordered}
+
+-- either of the two
+abbrev Decided : Type 0 → Type 0
+Decided P = P ⊎ (P → ⊥)
+
+decide_pair : (accesses : List Access) (joined : List Bool) (i j : ℕ) → Decided (AreInConflict accesses joined i j)
+decide_pair accesses joined i j = elim (cases_Bool (has_joined joined i)) [
+  | inr e ↦ inr (λ c. false≢true (sym e ∙ c.first_joined))
+  | inl a ↦ elim (cases_Bool (has_joined joined j)) [
+    | inr e ↦ inr (λ c. false≢true (sym e ∙ c.second_joined))
+    | inl b ↦ elim (decide_conflict (access_of accesses i) (access_of accesses j)) [
+      | inl c ↦ inl (record { first_joined = a; second_joined = b; conflict = c })
+      | inr n ↦ inr (λ c. n c.conflict)
+    ]
+  ]
+]
+
+decide_edge : (C : ℕ → ℕ → Type 0) → ((i j : ℕ) → Decided (C i j)) → (g : Graph) (i j : ℕ) → Decided (GainsEdge C g i j)
+decide_edge C d g i j = elim (d i j) [
+  | inr n ↦ inr (λ e. n e.0)
+  | inl c ↦ elim (cases_Bool (path g j i)) [
+    | inl t ↦ inr (λ e. e.1 (to_Path g j i t))
+    | inr f ↦ inl (c, no_Path g j i f)
+  ]
+]
+
+settles_some : (C : ℕ → ℕ → Type 0) → ((i j : ℕ) → Decided (C i j)) → (ps g : Graph) → (h : Graph) × Settles C g ps h
+settles_some C d [] g = (g, refl)
+settles_some C d (p ∷ ps) g = elim (decide_edge C d g p.0 p.1) [
+  | inl e ↦ let r = settles_some C d ps (p ∷ g) in (r.0, inl (e, r.1))
+  | inr n ↦ let r = settles_some C d ps g in (r.0, inr (n, r.1))
+]
+
+pub settled_some : SettledOrderExists
+settled_some accesses rules joined = settles_some (AreInConflict accesses joined) (decide_pair accesses joined) (pairs (length accesses)) (rules_among joined rules)
+
+-- one of those left has a path to it
+abbrev blocked : Graph → (ℕ → Bool) → ℕ → ℕ → Bool
+blocked g left n i = any_below (λ k. path g k i && left k) n
+
+tells : (g : Graph) (left : ℕ → Bool) (n : ℕ) → ((k : ℕ) → left k ≡ true → k < n) → TellsBlocked g left (blocked g left n)
+tells g left n within = record {
+  found = λ i k p l. any_below-found (λ k. path g k i && left k) k n (within k l) (and_from (path g k i) (left k) p l);
+  by = λ i b. let f = any_below-true (λ k. path g k i && left k) n b in (f.0, and_parts (path g f.0 i) (left f.0) f.1.1);
+}
+
+-- What comes next: all batches, or one more and fewer left.
+record MorePeeled (g : Graph) (joined : List Bool) (left : ℕ → Bool) : Type 0 where
+  next : ℕ → Bool
+  batches : List (List ℕ)
+  peeled : ArePeeled g (has_joined joined) next batches
+  fewer : count_left next (length joined) < count_left left (length joined)
+
+peel_more : (g : Graph) (joined : List Bool) → IsAcyclic g → LeadAmong g (has_joined joined) → (left : ℕ → Bool) (bs : List (List ℕ)) → ArePeeled g (has_joined joined) left bs
+    → ((cs : List (List ℕ)) × AreBatches g joined cs) ⊎ MorePeeled g joined left
+peel_more g joined free lead left bs h =
+    let n : ℕ = length joined in
+    let start : ℕ → Bool = has_joined joined in
+    let within : (i : ℕ) → start i ≡ true → i < n = joined_in joined in
+    let stops : ℕ → Bool = blocked g left n in
+    let next : ℕ → Bool = λ i. left i && stops i in
+    let t : TellsBlocked g left stops = tells g left n (λ k l. within k ((h.left_is k).0 l).0) in
+    let batch : List ℕ = filter (λ i. left i && not (stops i)) (range_with_len 0 n) in
+    elim (cases_eq (length batch) 0) [
+      | inl none ↦ inl (bs, peeled_done g joined start left bs (λ i. refl) h (peeled_all g start left stops n batch (length bs) free within t h.left_is refl none))
+      | inr some ↦ inr (record {
+        next = next;
+        batches = bs ++ batch ∷ [];
+        peeled = peeled_next g start left stops next n bs batch lead within t h refl (omega arith) (λ i. refl);
+        fewer = left_falls left stops next n batch refl (omega arith) (λ i. refl);
+      })
+    ]
+
+peels : (g : Graph) (joined : List Bool) → IsAcyclic g → LeadAmong g (has_joined joined) → (steps : ℕ) (left : ℕ → Bool) (bs : List (List ℕ)) → ArePeeled g (has_joined joined) left bs
+    → count_left left (length joined) ≤ steps → (cs : List (List ℕ)) × AreBatches g joined cs
+peels g joined free lead zero left bs h few = elim (peel_more g joined free lead left bs h) [
+  | inl r ↦ r
+  | inr m ↦ let fewer = m.fewer in absurd (omega arith)
+]
+peels g joined free lead (suc steps) left bs h few = elim (peel_more g joined free lead left bs h) [
+  | inl r ↦ r
+  | inr m ↦ let fewer = m.fewer in peels g joined free lead steps m.next m.batches m.peeled (omega arith)
+]
+
+pub batches_some : BatchesExist
+batches_some g joined among free =
+    peels g joined free among (count_left (has_joined joined) (length joined)) (has_joined joined) [] (peeled_first g (has_joined joined)) (omega arith)
+
+-- a turn order holds one way only, since each joined system has one number
+pub turns_once : TurnOrderIsUnique
+turns_once g joined xs ys among free r s =
+    let numbers : (i : ℕ) → IsTrue (has_joined joined i) → (n : ℕ) × IsBatchNumber g i n = (batches_some g joined among free).1.all in
+    same_ordered (RunsBefore g) xs ys
+    (λ i j p q a b.
+    let m = numbers i ((r.of_joined i).0 p) in
+    let n = numbers j ((r.of_joined j).0 q) in
+    elim (a m.0 n.0 m.1 n.1) [
+      | inl x ↦ elim (b n.0 m.0 n.1 m.1) [ inl y ↦ omega arith | inr y ↦ omega (arith, y.0) ]
+      | inr x ↦ elim (b n.0 m.0 n.1 m.1) [ inl y ↦ omega (arith, x.0) | inr y ↦ omega (arith, x.1, y.1) ]
+    ])
+    r.in_order s.in_order
+    (λ i c. (s.of_joined i).1 ((r.of_joined i).0 c))
+    (λ i c. (r.of_joined i).1 ((s.of_joined i).0 c))

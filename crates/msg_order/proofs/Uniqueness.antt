@@ -1,0 +1,123 @@
+-- That there is one settled order and one list of batches, and what holds of each.
+use Rattle.std.proofs.Common.{◌≡◌, ℕ, suc, ◌<◌, ◌≤◌, inl, inr, Bool, ◌&&◌, List, [], ◌∷◌, length, map, get_or, refl, ap, sym, subst, ◌∙◌, arith}
+use Rattle.std.specs.Prelude.{Contains, AllPairs}
+use Rattle.std.proofs.lemmas.Bool.{cases_lt, cases_order, and_parts, and_from}
+use Rattle.std.proofs.lemmas.List.Elements.{Contains-get_or}
+use Rattle.std.proofs.lemmas.List.Kept.{AllPairs-from_increasing}
+use Rattle.msg_world.specs.declared.access.Access.{Access}
+use Rattle.msg_world.specs.Access.{Conflict}
+use Rattle.msg_order.specs.declared.rule.Rule.{Rule}
+use Rattle.msg_order.specs.Graph.{Graph, IsBatchNumber}
+use Rattle.msg_order.specs.Order.{has_joined, access_of, rules_among, AreInConflict, pairs, batch_at, AreBatches}
+use Rattle.msg_order.specs.Laws.{FewerSystemsMakeNoCycle, SettlingMakesNoCycle, ConflictingSystemsAreOrdered, SettledOrderIsUnique, BatchesAreUnique, BatchNumbersRise, LawfulOrdersKeepPaths}
+use Rattle.msg_order.proofs.Lists.{Contains-head, Contains-tail, Contains-cases, not_in_none, filter-Contains, Contains-filter}
+use Rattle.msg_order.proofs.Chains.{path_grows, number_once, number_rises}
+use Rattle.msg_order.proofs.Settling.{settles_once, settles_covers, Contains-pairs}
+use Rattle.msg_order.proofs.Rows.{joined_in, settled_free}
+use Rattle.msg_order.proofs.Standing.{kept_along}
+
+pub fewer_make_none : FewerSystemsMakeNoCycle
+fewer_make_none rules joined fewer among free i p = free i (path_grows (rules_among fewer rules) (rules_among joined rules) (λ a b e.
+    let all : Graph = map (λ (r : Rule). (r.earlier, r.later)) rules in
+    let q = filter-Contains (λ (e : ℕ × ℕ). has_joined fewer e.0 && has_joined fewer e.1) all (a, b) e in
+    let both = and_parts (has_joined fewer a) (has_joined fewer b) q.1 in
+    Contains-filter (λ (e : ℕ × ℕ). has_joined joined e.0 && has_joined joined e.1) all (a, b) q.0 (and_from (has_joined joined a) (has_joined joined b) (among a both.0) (among b both.1))) i i p)
+
+pub settling_makes_none : SettlingMakesNoCycle
+settling_makes_none accesses rules joined order settled free = settled_free accesses rules joined order settled free
+
+conflict_sym : (a b : Access) → Conflict a b → Conflict b a
+conflict_sym a b c = (c.0, elim c.1 [ inl x ↦ inr x | inr x ↦ inl x ])
+
+pub conflicts_ordered : ConflictingSystemsAreOrdered
+conflicts_ordered accesses rules joined order len settled i j ne at_i at_j conflict =
+    let C : ℕ → ℕ → Type 0 = AreInConflict accesses joined in
+    let in_i : i < length joined = joined_in joined i at_i in
+    let in_j : j < length joined = joined_in joined j at_j in
+    elim (cases_order i j) [
+      | inl e ↦ absurd (ne e)
+      | inr o ↦ elim o [
+        | inl l ↦ settles_covers C (pairs (length accesses)) (rules_among joined rules) order settled i j (Contains-pairs (length accesses) i j l (omega arith))
+            (record { first_joined = at_i; second_joined = at_j; conflict = conflict })
+        | inr l ↦ elim (settles_covers C (pairs (length accesses)) (rules_among joined rules) order settled j i (Contains-pairs (length accesses) j i l (omega arith))
+            (record { first_joined = at_j; second_joined = at_i; conflict = conflict_sym (access_of accesses i) (access_of accesses j) conflict })) [ inl p ↦ inr p | inr p ↦ inl p ]
+      ]
+    ]
+
+pub settled_once : SettledOrderIsUnique
+settled_once accesses rules joined g h a b = settles_once (AreInConflict accesses joined) (pairs (length accesses)) (rules_among joined rules) g h a b
+
+-- Lists of the same elements, in an order that holds one way only, are one list.
+ahead : (R : ℕ → ℕ → Type 0) (x : ℕ) (xs : List ℕ) → AllPairs R (x ∷ xs) → (i : ℕ) → Contains xs i → R x i
+ahead R x xs r i c = subst (R x) c.2 (r 0 (suc c.0) i (omega arith) (omega (arith, c.1)))
+
+tail_pairs : (R : ℕ → ℕ → Type 0) (x : ℕ) (xs : List ℕ) → AllPairs R (x ∷ xs) → AllPairs R xs
+tail_pairs R x xs r a b d lt l = r (suc a) (suc b) d (omega arith) (omega arith)
+
+pub same_ordered : (R : ℕ → ℕ → Type 0) (xs ys : List ℕ) → ((i j : ℕ) → Contains xs i → Contains xs j → R i j → R j i → ⊥) → AllPairs R xs → AllPairs R ys
+    → ((i : ℕ) → Contains xs i → Contains ys i) → ((i : ℕ) → Contains ys i → Contains xs i) → xs ≡ ys
+same_ordered R [] [] one_way r s f h = refl
+same_ordered R [] (y ∷ ys) one_way r s f h = absurd (not_in_none y (h y (Contains-head y ys)))
+same_ordered R (x ∷ xs) [] one_way r s f h = absurd (not_in_none x (f x (Contains-head x xs)))
+same_ordered R (x ∷ xs) (y ∷ ys) one_way r s f h =
+    let x_in : Contains (x ∷ xs) x = Contains-head x xs in
+    let y_in : Contains (x ∷ xs) y = h y (Contains-head y ys) in
+    let once : R x x → ⊥ = λ e. one_way x x x_in x_in e e in
+    let first : x ≡ y = elim (Contains-cases y ys x (f x x_in)) [
+      | inl e ↦ sym e
+      | inr c ↦ elim (Contains-cases x xs y y_in) [
+        | inl e ↦ e
+        | inr d ↦ absurd (one_way x y x_in y_in (ahead R x xs r y d) (ahead R y ys s x c))
+      ]
+    ] in
+    let rest : xs ≡ ys = same_ordered R xs ys (λ i j p q. one_way i j (Contains-tail x xs i p) (Contains-tail x xs j q)) (tail_pairs R x xs r) (tail_pairs R y ys s)
+    (λ i c. elim (Contains-cases y ys i (f i (Contains-tail x xs i c))) [
+      | inl e ↦ absurd (once (subst (R x) (sym e ∙ sym first) (ahead R x xs r i c)))
+      | inr d ↦ d
+    ])
+    (λ i c. elim (Contains-cases x xs i (h i (Contains-tail y ys i c))) [
+      | inl e ↦ absurd (once (subst (λ k. R k x) (sym first) (subst (R y) (sym e) (ahead R y ys s i c))))
+      | inr d ↦ d
+    ]) in
+    ap (λ k. k ∷ xs) first ∙ ap (λ ks. y ∷ ks) rest
+
+pub same_rising : (xs ys : List ℕ) → AllPairs (λ a b. a < b) xs → AllPairs (λ a b. a < b) ys → ((i : ℕ) → Contains xs i → Contains ys i) → ((i : ℕ) → Contains ys i → Contains xs i) → xs ≡ ys
+same_rising xs ys r s f h = same_ordered (λ a b. a < b) xs ys (λ i j p q a b. omega arith) r s f h
+
+-- lists with the same element at each place
+same_at : (bs cs : List (List ℕ)) → length bs ≡ length cs → ((b : ℕ) → b < length bs → batch_at bs b ≡ batch_at cs b) → bs ≡ cs
+same_at [] [] e f = refl
+same_at [] (c ∷ cs) e f = absurd (omega arith)
+same_at (b ∷ bs) [] e f = absurd (omega arith)
+same_at (b ∷ bs) (c ∷ cs) e f = ap (λ k. k ∷ bs) (f 0 (omega arith)) ∙ ap (λ ks. c ∷ ks) (same_at bs cs (omega arith) (λ k l. f (suc k) (omega arith)))
+
+no_longer : (g : Graph) (joined : List Bool) (bs cs : List (List ℕ)) → AreBatches g joined bs → AreBatches g joined cs → length bs ≤ length cs
+no_longer g joined bs cs h k = elim (cases_lt (length cs) (length bs)) [
+  | inr l ↦ l
+  | inl l ↦
+      let b : ℕ = length cs in
+      let some : 0 < length (batch_at bs b) = h.filled b [] l in
+      let i : ℕ = get_or (batch_at bs b) 0 0 in
+      let at = (k.of_number b i).1 ((h.of_number b i).0 (Contains-get_or (batch_at bs b) 0 0 some)) in
+      absurd (not_in_none i (subst (λ xs. Contains xs i) (past cs) at))
+]
+  where
+    past : (cs : List (List ℕ)) → batch_at cs (length cs) ≡ []
+    past [] = refl
+    past (c ∷ cs) = past cs
+
+pub batches_once : BatchesAreUnique
+batches_once g joined bs cs h k =
+    let one : length bs ≤ length cs = no_longer g joined bs cs h k in
+    let other : length cs ≤ length bs = no_longer g joined cs bs k h in
+    same_at bs cs (omega arith) (λ b l. same_rising (batch_at bs b) (batch_at cs b)
+    (AllPairs-from_increasing (batch_at bs b) (h.by_addition b [] l))
+    (AllPairs-from_increasing (batch_at cs b) (k.by_addition b [] (omega arith)))
+    (λ i c. (k.of_number b i).1 ((h.of_number b i).0 c))
+    (λ i c. (h.of_number b i).1 ((k.of_number b i).0 c)))
+
+pub numbers_rise : BatchNumbersRise
+numbers_rise g i j m n a b = (λ e. number_once g j m n (subst (λ k. IsBatchNumber g k m) e a) b, λ p. number_rises g i j m n p a b)
+
+pub orders_keep_paths : LawfulOrdersKeepPaths
+orders_keep_paths g joined order w = kept_along g joined order w

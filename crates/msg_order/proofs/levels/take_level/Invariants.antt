@@ -1,0 +1,13 @@
+use Rattle.std.proofs.Common.{◌≡◌, ℕ, ◌<◌, ◌≤◌, false, ◌&&◌}
+use Rattle.std.specs.Prelude.{filter}
+use Rattle.std.specs.List.{range_with_len}
+use Rattle.msg_order.specs.SystemSet.{has, meets}
+use Rattle.msg_order.specs.Paths.{set_at, is_ready}
+use Rattle.msg_order.proofs.levels.take_level.Given as goal
+
+abbrev pub invariant-loop-i : goal.invariant-loop-i
+invariant-loop-i _g l = record {
+  batch : l.batch.items ≡ filter (is_ready l.before l.left) (range_with_len 0 l.i);
+  next : (k : ℕ) → k < l.i → has l.next k ≡ (has l.left k && meets (set_at l.before k) l.left);
+  above : (k : ℕ) → l.i ≤ k → has l.next k ≡ false;
+}

@@ -1,0 +1,9 @@
+use Rattle.std.proofs.Common.{length}
+use Rattle.msg_order.specs.Graph.{Graph}
+use Rattle.msg_order.specs.Order.{AreInConflict}
+use Rattle.msg_order.specs.Paths.{ArePaths}
+use Rattle.msg_order.proofs.Rows.{IsOnWay}
+use Rattle.msg_order.proofs.paths.settle_pairs.Given as goal
+
+abbrev pub invariant-loop-i : goal.invariant-loop-i
+invariant-loop-i l = (g : Graph) → ArePaths g l.fn.before → IsOnWay (AreInConflict l.accesses l.joined) g (length l.accesses) l.i l.before

@@ -1,0 +1,63 @@
+-- Laws of the settled order. Each is the contract of a function of the same name in src/laws.rt.
+use Rattle.std.specs.Prelude.{◌≡◌, ◌≢◌, ◌<◌, ℕ, Bool, List, length, IsTrue, ◌⊎◌}
+use Rattle.msg_world.specs.declared.access.Access.{Access}
+use Rattle.msg_world.specs.Access.{Conflict}
+use Rattle.msg_order.specs.declared.rule.Rule.{Rule}
+use Rattle.msg_order.specs.Graph.{Graph, Path, IsAcyclic, IsBatchNumber}
+use Rattle.msg_order.specs.Order.{has_joined, access_of, rules_among, IsAmong, IsSettledOrder, AreBatches, IsTurnOrder, StandsBefore, IsLawfulOrder}
+
+-- Rules that make no cycle among some systems make none among fewer of them.
+abbrev pub FewerSystemsMakeNoCycle : Type 0
+FewerSystemsMakeNoCycle = (rules : List Rule) (joined fewer : List Bool)
+    → ((i : ℕ) → IsTrue (has_joined fewer i) → IsTrue (has_joined joined i))
+    → IsAcyclic (rules_among joined rules) → IsAcyclic (rules_among fewer rules)
+
+-- Where the rules make no cycle, the settled order has none.
+abbrev pub SettlingMakesNoCycle : Type 0
+SettlingMakesNoCycle = (accesses : List Access) (rules : List Rule) (joined : List Bool)
+    → (order : Graph) → IsSettledOrder accesses rules joined order
+    → IsAcyclic (rules_among joined rules) → IsAcyclic order
+
+-- The settled order leads from one of two joined systems in conflict to the other.
+abbrev pub ConflictingSystemsAreOrdered : Type 0
+ConflictingSystemsAreOrdered = (accesses : List Access) (rules : List Rule) (joined : List Bool)
+    → (order : Graph) → length joined ≡ length accesses → IsSettledOrder accesses rules joined order
+    → (i j : ℕ) → i ≢ j → IsTrue (has_joined joined i) → IsTrue (has_joined joined j)
+    → Conflict (access_of accesses i) (access_of accesses j) → Path order i j ⊎ Path order j i
+
+-- There is a settled order, whatever the rules.
+abbrev pub SettledOrderExists : Type 0
+SettledOrderExists = (accesses : List Access) (rules : List Rule) (joined : List Bool)
+    → (order : Graph) × IsSettledOrder accesses rules joined order
+
+-- There is one settled order.
+abbrev pub SettledOrderIsUnique : Type 0
+SettledOrderIsUnique = (accesses : List Access) (rules : List Rule) (joined : List Bool) (g h : Graph)
+    → IsSettledOrder accesses rules joined g → IsSettledOrder accesses rules joined h → g ≡ h
+
+-- Where no path leads back, there is a list of batches.
+abbrev pub BatchesExist : Type 0
+BatchesExist = (order : Graph) (joined : List Bool)
+    → IsAmong joined order → IsAcyclic order
+    → (batches : List (List ℕ)) × AreBatches order joined batches
+
+-- There is one list of batches.
+abbrev pub BatchesAreUnique : Type 0
+BatchesAreUnique = (order : Graph) (joined : List Bool) (bs cs : List (List ℕ))
+    → AreBatches order joined bs → AreBatches order joined cs → bs ≡ cs
+
+-- Where no path leads back, there is one turn order.
+abbrev pub TurnOrderIsUnique : Type 0
+TurnOrderIsUnique = (order : Graph) (joined : List Bool) (xs ys : List ℕ)
+    → IsAmong joined order → IsAcyclic order
+    → IsTurnOrder order joined xs → IsTurnOrder order joined ys → xs ≡ ys
+
+-- A system has one batch number, and the batch numbers rise along a path.
+abbrev pub BatchNumbersRise : Type 0
+BatchNumbersRise = (order : Graph) (i j m n : ℕ) → IsBatchNumber order i m → IsBatchNumber order j n
+    → (i ≡ j → m ≡ n) × (Path order i j → m < n)
+
+-- A lawful order keeps the paths, not the edges alone.
+abbrev pub LawfulOrdersKeepPaths : Type 0
+LawfulOrdersKeepPaths = (order : Graph) (joined : List Bool) (xs : List ℕ)
+    → IsLawfulOrder order joined xs → (i j : ℕ) → Path order i j → StandsBefore xs i j

@@ -1,0 +1,93 @@
+-- The settled order of systems, its batches and its lawful orders.
+use Rattle.std.specs.Prelude.{◌≡◌, ◌≢◌, ℕ, ◌+◌, ◌-◌, ◌<◌, Bool, false, ◌&&◌, List, [], ◌∷◌, map, length, filter, flat_map, All, AllPairs, Contains, Some, slice_get, slice_index_or, IsTrue, ◌⊎◌, ◌↔◌}
+use Rattle.std.specs.List.{range_with_len}
+use Rattle.std.specs.List.Sorted.{IsStrictlyIncreasing}
+use Rattle.msg_world.specs.declared.access.Access.{Access}
+use Rattle.msg_world.specs.Access.{Conflict, no_access}
+use Rattle.msg_order.specs.declared.rule.Rule.{Rule}
+use Rattle.msg_order.specs.Graph.{Graph, IsEdge, Path, IsBatchNumber}
+
+-- whether system i has joined
+abbrev pub has_joined : List Bool → ℕ → Bool
+has_joined joined i = slice_index_or joined i false
+
+-- the access of system i, which uses nothing where there is no such system
+abbrev pub access_of : List Access → ℕ → Access
+access_of accesses i = slice_index_or accesses i no_access
+
+-- the rules name systems below n
+abbrev pub NameSystemsBelow : ℕ → List Rule → Type 0
+NameSystemsBelow n rules = All (λ rule. (rule.earlier < n) × (rule.later < n)) rules
+
+-- the rules among the joined systems
+abbrev pub rules_among : List Bool → List Rule → Graph
+rules_among joined rules =
+    filter (λ e. has_joined joined e.0 && has_joined joined e.1)
+    (map (λ rule. (rule.earlier, rule.later)) rules)
+
+-- each edge leads from a joined system to a joined system
+abbrev pub IsAmong : List Bool → Graph → Type 0
+IsAmong joined g = (i j : ℕ) → IsEdge g i j
+    → IsTrue (has_joined joined i) × IsTrue (has_joined joined j)
+
+-- systems i and j have joined, and their accesses conflict
+pub record AreInConflict (accesses : List Access) (joined : List Bool) (i j : ℕ) : Type 0 where
+  pub first_joined : IsTrue (has_joined joined i)
+  pub second_joined : IsTrue (has_joined joined j)
+  pub conflict : Conflict (access_of accesses i) (access_of accesses j)
+
+-- the pairs of numbers below n, the lower one first, taken by the first and then by the second
+abbrev pub pairs : ℕ → List (ℕ × ℕ)
+pairs n = flat_map (λ i. map (λ j. (i, j)) (range_with_len (i + 1) (n - (i + 1)))) (range_with_len 0 n)
+
+-- g gains the edge from i to j: they are in conflict, and no path of g leads from j to i
+abbrev pub GainsEdge : (ℕ → ℕ → Type 0) → Graph → ℕ → ℕ → Type 0
+GainsEdge InConflict g i j = InConflict i j × ¬ Path g j i
+
+-- h is what becomes of g as each of these pairs is taken in turn
+abbrev pub Settles : (ℕ → ℕ → Type 0) → Graph → List (ℕ × ℕ) → Graph → Type 0
+Settles InConflict g [] h = g ≡ h
+Settles InConflict g (p ∷ ps) h =
+    (GainsEdge InConflict g p.0 p.1 × Settles InConflict (p ∷ g) ps h)
+    ⊎ (¬ GainsEdge InConflict g p.0 p.1 × Settles InConflict g ps h)
+
+-- the settled order begins as the rules among the joined systems, and then the pairs are taken
+abbrev pub IsSettledOrder : List Access → List Rule → List Bool → Graph → Type 0
+IsSettledOrder accesses rules joined g =
+    Settles (AreInConflict accesses joined) (rules_among joined rules) (pairs (length accesses)) g
+
+-- batch b, which is empty past the last one
+abbrev pub batch_at : List (List ℕ) → ℕ → List ℕ
+batch_at batches b = slice_index_or batches b []
+
+-- The joined systems by batch number, in order of number; each batch lists its own by addition.
+pub record AreBatches (g : Graph) (joined : List Bool) (batches : List (List ℕ)) : Type 0 where
+  pub of_number : (b i : ℕ)
+      → Contains (batch_at batches b) i ↔ (IsTrue (has_joined joined i) × IsBatchNumber g i b)
+  pub all : (i : ℕ) → IsTrue (has_joined joined i) → (b : ℕ) × IsBatchNumber g i b
+  pub filled : All (λ batch. 0 < length batch) batches
+  pub by_addition : All IsStrictlyIncreasing batches
+
+-- the batch number of i is lower than that of j, or they have one number and i was added first
+abbrev pub RunsBefore : Graph → ℕ → ℕ → Type 0
+RunsBefore g i j = (m n : ℕ) → IsBatchNumber g i m → IsBatchNumber g j n
+    → (m < n) ⊎ ((m ≡ n) × (i < j))
+
+-- the joined systems by batch number, and then by addition
+pub record IsTurnOrder (g : Graph) (joined : List Bool) (order : List ℕ) : Type 0 where
+  pub of_joined : (i : ℕ) → Contains order i ↔ IsTrue (has_joined joined i)
+  pub in_order : AllPairs (RunsBefore g) order
+
+-- i stands before j in the list
+pub record StandsBefore (order : List ℕ) (i j : ℕ) : Type 0 where
+  pub earlier : ℕ
+  pub later : ℕ
+  pub in_order : earlier < later
+  pub first : slice_get order earlier ≡ Some i
+  pub second : slice_get order later ≡ Some j
+
+-- a list of all joined systems, each once, in which i stands before j for each edge from i to j
+pub record IsLawfulOrder (g : Graph) (joined : List Bool) (order : List ℕ) : Type 0 where
+  pub of_joined : (i : ℕ) → Contains order i ↔ IsTrue (has_joined joined i)
+  pub once : AllPairs (λ i j. i ≢ j) order
+  pub kept : (i j : ℕ) → IsEdge g i j → StandsBefore order i j

@@ -1,0 +1,42 @@
+-- What a plan says, and when there is none.
+use Rattle.std.specs.Prelude.{◌≡◌, ℕ, Bool, List, All, AllPairs, ◌↔◌, ⊤}
+use Rattle.std.specs.List.{concat}
+use Rattle.msg_world.specs.declared.access.Access.{Access}
+use Rattle.msg_world.specs.Access.{Conflict}
+use Rattle.msg_order.specs.declared.rule.Rule.{Rule}
+use Rattle.msg_order.specs.declared.plan_refusal.PlanRefusal.{PlanRefusal}
+use Rattle.msg_order.specs.declared.plan_refusal.PlanRefusal.TheVariants.{Cycle, NoMemory}
+use Rattle.msg_order.specs.Graph.{Graph, IsEdge, Path, IsLowestOnCycle}
+use Rattle.msg_order.specs.Order.{access_of, IsAmong, IsSettledOrder, AreBatches, IsTurnOrder, IsLawfulOrder}
+
+-- What callers see of a plan: which systems have joined, each pair of systems of which the first
+-- precedes the second, and the batches.
+pub record PlanView : Type 0 where
+  pub joined : List Bool
+  pub precedes : Graph
+  pub batches : List (List ℕ)
+
+-- no two systems of the batch conflict
+abbrev pub NoneConflict : List Access → List ℕ → Type 0
+NoneConflict accesses batch =
+    AllPairs (λ i j. ¬ Conflict (access_of accesses i) (access_of accesses j)) batch
+
+-- The plan is that of the settled order of the joined systems: it has the paths of the order, and the
+-- classes by batch number, in which no two systems conflict. The batches one after the other are the
+-- turn order, which is lawful.
+pub record IsPlanOf (accesses : List Access) (rules : List Rule) (joined : List Bool)
+    (plan : PlanView) : Type 0 where
+  pub order : Graph
+  pub settled : IsSettledOrder accesses rules joined order
+  pub systems : plan.joined ≡ joined
+  pub among : IsAmong joined order
+  pub paths : (i j : ℕ) → IsEdge plan.precedes i j ↔ Path order i j
+  pub classes : AreBatches order joined plan.batches
+  pub apart : All (NoneConflict accesses) plan.batches
+  pub turns : IsTurnOrder order joined (concat plan.batches)
+  pub lawful : IsLawfulOrder order joined (concat plan.batches)
+
+-- a refusal for a cycle names the lowest system on one
+abbrev pub RefusesFor : Graph → PlanRefusal → Type 0
+RefusesFor rules (Cycle s) = IsLowestOnCycle rules s
+RefusesFor rules NoMemory = ⊤

@@ -1,0 +1,61 @@
+// Batches, taken level by level from the systems that are left.
+ghost use Rattle.std.specs.Prelude.{◌≡◌, ◌&&◌, ℕ, ◌<◌, ◌≤◌, Bool, List, true, length, map, filter, IfOk};
+ghost use Rattle.std.specs.List.{range_with_len};
+ghost use Rattle.msg_order.specs.Graph.{Graph, IsAcyclic};
+ghost use Rattle.msg_order.specs.Order.{AreBatches, IsAmong};
+ghost use Rattle.msg_order.specs.Paths.{ArePaths, IsSetOf, is_ready, set_at};
+ghost use Rattle.msg_order.specs.SystemSet.{has, meets};
+
+use crate::system_set::SystemSet;
+use std::alloc::{AllocError, Allocator};
+
+/// The systems that are left with none before them, and those that are left after these.
+fn take_level<A: Allocator + Copy>(
+    alloc: A,
+    before: &[SystemSet],
+    left: &SystemSet,
+) -> Result<(Vec<u32, A>, SystemSet), AllocError>
+    requires few { length before.now ≤ 256 }
+    requires within { (k : ℕ) → has left.now k ≡ true → k < length before.now }
+    ensures ready { IfOk result (λ r.
+        r.0.items ≡ filter (is_ready before.now left.now) (range_with_len 0 (length before.now))) }
+    ensures next { IfOk result (λ r.
+        (i : ℕ) → has r.1 i ≡ (has left.now i && meets (set_at before.now i) left.now)) }
+{
+    let mut batch = Vec::new(alloc);
+    let mut next = SystemSet::empty();
+    for i in 0..before.len() {
+        if left.contains(i) {
+            if before[i].meets(left) {
+                next.insert(i);
+            } else {
+                batch.push(i as u32)?;
+            }
+        }
+    }
+    Ok((batch, next))
+}
+
+/// The batches of the joined systems.
+pub fn batches_of<A: Allocator + Copy>(
+    alloc: A,
+    before: &[SystemSet],
+    joined: &SystemSet,
+) -> Result<Vec<Vec<u32, A>, A>, AllocError>
+    requires few { length before.now ≤ 256 }
+    requires within { (k : ℕ) → has joined.now k ≡ true → k < length before.now }
+    ensures { IfOk result (λ batches. (g : Graph) (systems : List Bool)
+        → ArePaths g before.now → IsSetOf systems joined.now → IsAmong systems g → IsAcyclic g
+        → AreBatches g systems (map (λ batch. batch.items) batches.items)) }
+{
+    let mut batches = Vec::new(alloc);
+    let mut left = *joined;
+    'levels: loop {
+        let (batch, next) = take_level(alloc, before, &left)?;
+        if batch.is_empty() {
+            return Ok(batches);
+        }
+        batches.push(batch)?;
+        left = next;
+    }
+}

@@ -1,0 +1,137 @@
+// The paths of a growing graph: before each system those from which a path leads to it.
+ghost use Rattle.std.specs.Prelude.{◌≡◌, ◌==◌, ◌||◌, ◌&&◌, ℕ, ◌<◌, ◌≤◌, ◌↔◌, [], true, false, length, IsTrue, IsFalse, MatchOption};
+ghost use Rattle.msg_order.specs.Graph.{Graph, IsAcyclic, IsLowestOnCycle};
+ghost use Rattle.msg_order.specs.Order.{AreInConflict, NameSystemsBelow, rules_among};
+ghost use Rattle.msg_order.specs.Paths.{ArePaths, AreSettled, comes_before, set_at};
+ghost use Rattle.msg_order.specs.SystemSet.{has, meets};
+
+use crate::Rule;
+use crate::system_set::SystemSet;
+use msg_world::Access;
+
+/// Adds the edges from one system to each of these.
+pub fn add_edges(before: &mut [SystemSet], from: usize, to: &SystemSet)
+    requires few { length before.old ≤ 256 }
+    requires is_system { from < length before.old }
+    requires within { (k : ℕ) → has to.now k ≡ true → k < length before.old }
+    ensures { (i j : ℕ)
+        → comes_before before.new i j
+        ≡ (comes_before before.old i j
+        || ((i == from || comes_before before.old i from)
+        && (has to.now j || meets (set_at before.old j) to.now))) }
+{
+    let mut earlier = before[from];
+    earlier.insert(from);
+    for j in 0..before.len() {
+        if to.contains(j) || before[j].meets(to) {
+            let set = &mut before[j];
+            set.union_with(&earlier);
+        }
+    }
+}
+
+fn only(system: usize) -> SystemSet
+    requires { system < 256 }
+    ensures { (k : ℕ) → has result k ≡ (k == system) }
+{
+    let mut set = SystemSet::empty();
+    set.insert(system);
+    set
+}
+
+/// Adds the rules among the joined systems as edges, where there is no path already.
+fn add_rules(before: &mut [SystemSet], rules: &[Rule], joined: &[bool])
+    requires few { length before.old ≤ 256 }
+    requires one_each { length joined.now ≡ length before.old }
+    requires in_range { NameSystemsBelow (length before.old) rules.now }
+    requires none_yet { ArePaths [] before.old }
+    ensures { ArePaths (rules_among joined.now rules.now) before.new }
+{
+    for rule in rules {
+        let earlier = rule.earlier as usize;
+        let later = rule.later as usize;
+        if joined[earlier] && joined[later] && !before[later].contains(earlier) {
+            add_edges(before, earlier, &only(later));
+        }
+    }
+}
+
+fn are_in_conflict(accesses: &[Access], joined: &[bool], i: usize, j: usize) -> bool
+    requires one_each { length joined.now ≡ length accesses.now }
+    requires first { i < length accesses.now }
+    requires second { j < length accesses.now }
+    ensures { IsTrue result ↔ AreInConflict accesses.now joined.now i j }
+{
+    joined[i] && joined[j] && accesses[i].conflicts(&accesses[j])
+}
+
+/// The later systems that system i conflicts with, but for those that stand before it.
+fn later_conflicts(accesses: &[Access], joined: &[bool], i: usize, before: &SystemSet) -> SystemSet
+    requires few { length accesses.now ≤ 256 }
+    requires one_each { length joined.now ≡ length accesses.now }
+    requires is_system { i < length accesses.now }
+    ensures { (j : ℕ)
+        → IsTrue (has result j)
+        ↔ ((i < j) × (AreInConflict accesses.now joined.now i j × IsFalse (has before.now j))) }
+{
+    let mut later = SystemSet::empty();
+    for j in i + 1..accesses.len() {
+        if are_in_conflict(accesses, joined, i, j) && !before.contains(j) {
+            later.insert(j);
+        }
+    }
+    later
+}
+
+/// Takes the pairs of systems in conflict. What becomes of the pairs (i, j) is known before any of them
+/// adds an edge: an edge from i makes no new path to i.
+fn settle_pairs(before: &mut [SystemSet], accesses: &[Access], joined: &[bool])
+    requires few { length before.old ≤ 256 }
+    requires one_each { length joined.now ≡ length before.old }
+    requires all { length accesses.now ≡ length before.old }
+    ensures { (g : Graph) → ArePaths g before.old → AreSettled accesses.now joined.now g before.new }
+{
+    for i in 0..before.len() {
+        let later = later_conflicts(accesses, joined, i, &before[i]);
+        add_edges(before, i, &later);
+    }
+}
+
+fn lowest_on_cycle(before: &[SystemSet]) -> Option<u32>
+    requires few { length before.now ≤ 256 }
+    ensures { MatchOption result ((s : ℕ) → comes_before before.now s s ≡ false)
+        (λ s. (comes_before before.now s s ≡ true)
+        × ((r : ℕ) → r < s → comes_before before.now r r ≡ false)) }
+{
+    for s in 0..before.len() {
+        if before[s].contains(s) {
+            return Some(s as u32);
+        }
+    }
+    None
+}
+
+/// Settles the order of the joined systems, or gives the lowest system on a cycle of rules.
+pub fn settle(
+    before: &mut [SystemSet],
+    accesses: &[Access],
+    rules: &[Rule],
+    joined: &[bool],
+) -> Option<u32>
+    requires few { length before.old ≤ 256 }
+    requires one_each { length joined.now ≡ length before.old }
+    requires all { length accesses.now ≡ length before.old }
+    requires in_range { NameSystemsBelow (length before.old) rules.now }
+    requires none_yet { ArePaths [] before.old }
+    ensures { let among : Graph = rules_among joined.now rules.now in
+        MatchOption result
+        (IsAcyclic among × AreSettled accesses.now joined.now among before.new)
+        (IsLowestOnCycle among) }
+{
+    add_rules(before, rules, joined);
+    if let Some(s) = lowest_on_cycle(before) {
+        return Some(s);
+    }
+    settle_pairs(before, accesses, joined);
+    None
+}

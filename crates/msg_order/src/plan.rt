@@ -1,0 +1,149 @@
+ghost use Rattle.std.specs.Prelude.{◌≡◌, ◌<◌, ◌≤◌, [], length, map, IfOk};
+ghost use Rattle.msg_order.specs.Plan.{PlanView};
+ghost use Rattle.msg_order.specs.Paths.{AreKept, ArePaths, IsSetOf, view_of};
+
+use crate::levels::batches_of;
+use crate::paths::settle;
+use crate::system_set::SystemSet;
+use crate::{PlanRefusal, Rule};
+use msg_world::Access;
+use std::alloc::{AllocError, Allocator, Global};
+use std::marker::Model;
+
+/// In which order systems run: batches one after the other, and the systems of a batch side by side.
+#[derive(Debug, Drop)]
+pub struct Plan<A: Allocator = Global> {
+    before: Vec<SystemSet, A>,
+    batches: Vec<Vec<u32, A>, A>,
+    joined: SystemSet,
+}
+
+impl<A: Allocator> Model for Plan<A> {
+    ghost Value = { PlanView };
+
+    ghost view = { λ p. view_of p.before.items p.joined (map (λ batch. batch.items) p.batches.items) };
+
+    ghost invariant = { λ p. AreKept p.before.items p.joined };
+}
+
+fn no_paths<A: Allocator>(alloc: A, systems: usize) -> Result<Vec<SystemSet, A>, AllocError>
+    ensures len { IfOk result (λ before. length before.items ≡ systems) }
+    ensures none_yet { IfOk result (λ before. ArePaths [] before.items) }
+{
+    let mut before = Vec::new(alloc);
+    for _system in 0..systems {
+        before.push(SystemSet::empty())?;
+    }
+    Ok(before)
+}
+
+fn set_of(joined: &[bool]) -> SystemSet
+    requires { length joined.now ≤ 256 }
+    ensures { IsSetOf joined.now result }
+{
+    let mut set = SystemSet::empty();
+    for i in 0..joined.len() {
+        if joined[i] {
+            set.insert(i);
+        }
+    }
+    set
+}
+
+impl<A: Allocator + Copy> Plan<A> {
+    ghost use Rattle.std.specs.Prelude.{IfErr, OnOk};
+    ghost use Rattle.msg_order.specs.Graph.{IsAcyclic};
+    ghost use Rattle.msg_order.specs.Order.{NameSystemsBelow, rules_among};
+    ghost use Rattle.msg_order.specs.Plan.{IsPlanOf, RefusesFor};
+
+    /// Settles the order of the joined systems, given by their accesses and by rules, and parts them
+    /// into batches.
+    ///
+    /// Conflicting systems run by order of addition where the rules, and the pairs that were settled
+    /// before, leave that open. A rule or a conflict with a system that hasn't joined has no effect.
+    ///
+    /// # Errors
+    ///
+    /// `Cycle` with the lowest joined system from which the rules among joined systems lead back to it,
+    /// and `NoMemory`.
+    pub fn build(
+        alloc: A,
+        accesses: &[Access],
+        rules: &[Rule],
+        joined: &[bool],
+    ) -> Result<Self, PlanRefusal>
+        requires few { length accesses.now ≤ 256 }
+        requires one_each { length joined.now ≡ length accesses.now }
+        requires in_range { NameSystemsBelow (length accesses.now) rules.now }
+
+        ensures plan { IfOk result (IsPlanOf accesses.now rules.now joined.now) }
+        ensures acyclic { OnOk result (IsAcyclic (rules_among joined.now rules.now)) }
+        ensures refusal { IfErr result (RefusesFor (rules_among joined.now rules.now)) }
+    {
+        let mut before = no_paths(alloc, accesses.len())?;
+        if let Some(s) = settle(&mut before, accesses, rules, joined) {
+            return Err(PlanRefusal::Cycle(s));
+        }
+        let joined = set_of(joined);
+        let batches = batches_of(alloc, &before, &joined)?;
+        Ok(Plan {
+            before,
+            batches,
+            joined,
+        })
+    }
+}
+
+impl<A: Allocator> Plan<A> {
+    ghost use Rattle.std.specs.Prelude.{List, Bool, IsTrue, ◌↔◌};
+    ghost use Rattle.msg_world.specs.declared.access.Access.{Access as AccessView};
+    ghost use Rattle.msg_order.specs.declared.rule.Rule.{Rule as RuleView};
+    ghost use Rattle.msg_order.specs.Graph.{IsEdge};
+    ghost use Rattle.msg_order.specs.Order.{IsLawfulOrder};
+    ghost use Rattle.msg_order.specs.Plan.{IsPlanOf};
+
+    /// The systems batch by batch, each batch by order of addition. All systems of a batch end before
+    /// the next batch begins.
+    pub fn batches(&self) -> &[Vec<u32, A>]
+        ensures { map (λ batch. batch.items) result.now ≡ self.now.batches }
+    {
+        &self.batches
+    }
+
+    /// Whether `later` must wait for `earlier`: a path of the settled order leads there. False for a
+    /// number that is no joined system's.
+    pub fn precedes(&self, earlier: u32, later: u32) -> bool
+        ensures { IsTrue result ↔ IsEdge self.now.precedes earlier later }
+    {
+        let earlier = earlier as usize;
+        let later = later as usize;
+        if earlier >= self.before.len() || later >= self.before.len() {
+            return false;
+        }
+        self.before[later].contains(earlier)
+    }
+
+    /// Whether the order has each joined system once, and keeps the settled order.
+    pub fn accepts(&self, order: &[u32]) -> bool
+        ensures keeps_what_precedes { IsTrue result
+            ↔ IsLawfulOrder self.now.precedes self.now.joined order.now }
+
+        // Where this is the plan of some systems, the order is lawful for their settled order.
+        ensures lawful { (accesses : List AccessView) (rules : List RuleView) (joined : List Bool)
+            (plan : IsPlanOf accesses rules joined self.now)
+            → IsTrue result ↔ IsLawfulOrder plan.order joined order.now }
+    {
+        let mut left = self.joined;
+        for &system in order {
+            let system = system as usize;
+            if system >= self.before.len()
+                || !left.contains(system)
+                || self.before[system].meets(&left)
+            {
+                return false;
+            }
+            left.remove(system);
+        }
+        left.is_empty()
+    }
+}

@@ -1,0 +1,64 @@
+ghost use Rattle.std.specs.Prelude.{◌≡◌, ◌==◌, ◌||◌, ◌&&◌, not, ℕ, ◌<◌, ◌↔◌, false, IsTrue};
+
+/// A set of systems, by their numbers below 256.
+#[derive(Clone, Copy, Debug)]
+pub struct SystemSet {
+    words: [u64; 4],
+}
+
+impl SystemSet {
+    ghost use Rattle.msg_order.specs.SystemSet.{has, meets};
+
+    pub fn empty() -> Self
+        ensures { (k : ℕ) → has result k ≡ false }
+    {
+        SystemSet { words: [0; 4] }
+    }
+
+    pub fn contains(&self, k: usize) -> bool
+        requires { k < 256 }
+        ensures { result ≡ has self.now k }
+    {
+        (self.words[k / 64] >> (k % 64)) & 1 == 1
+    }
+
+    pub fn insert(&mut self, k: usize)
+        requires { k < 256 }
+        ensures { (j : ℕ) → has self.new j ≡ (j == k || has self.old j) }
+    {
+        self.words[k / 64] |= 1u64 << (k % 64);
+    }
+
+    pub fn remove(&mut self, k: usize)
+        requires { k < 256 }
+        ensures { (j : ℕ) → has self.new j ≡ (not (j == k) && has self.old j) }
+    {
+        self.words[k / 64] &= !(1u64 << (k % 64));
+    }
+
+    pub fn union_with(&mut self, other: &SystemSet)
+        ensures { (j : ℕ) → has self.new j ≡ (has self.old j || has other.now j) }
+    {
+        for i in 0..4 {
+            self.words[i] |= other.words[i];
+        }
+    }
+
+    /// Whether a system is in both.
+    pub fn meets(&self, other: &SystemSet) -> bool
+        ensures { result ≡ meets self.now other.now }
+    {
+        for i in 0..4 {
+            if self.words[i] & other.words[i] != 0 {
+                return true;
+            }
+        }
+        false
+    }
+
+    pub fn is_empty(&self) -> bool
+        ensures { IsTrue result ↔ ((k : ℕ) → has self.now k ≡ false) }
+    {
+        !self.meets(self)
+    }
+}
