@@ -1,0 +1,3 @@
+pub mod Getters
+pub mod Puts
+pub mod Whole

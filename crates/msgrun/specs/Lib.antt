@@ -1,0 +1,5 @@
+pub mod Asked
+pub mod CommandLine
+pub mod Faults
+pub mod Inputs
+pub mod Sinks
