@@ -1,3 +1,5 @@
 pub mod Getters
 pub mod Puts
+pub mod Shapes
+pub mod Walks
 pub mod Whole

@@ -1,5 +1,11 @@
 pub mod Asked
+pub mod Check
+pub mod Checks
 pub mod CommandLine
+pub mod Cursors
+pub mod Denotes
 pub mod Faults
 pub mod Inputs
+pub mod Json
 pub mod Sinks
+pub mod Walk

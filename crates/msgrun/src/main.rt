@@ -1,6 +1,8 @@
 //! Runs a calls file: the calls of one message buffer, answered line by line.
 #![tactic(auto)]
 
+mod call;
+mod calls;
 #[cfg(test)]
 mod fakes;
 mod fault;
@@ -10,6 +12,7 @@ mod refusal;
 mod report_fault;
 mod sink;
 mod std_sink;
+mod values;
 mod words;
 
 use std::io;
