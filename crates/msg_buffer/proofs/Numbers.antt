@@ -1,0 +1,62 @@
+-- Lists whose elements have consecutive numbers.
+use Rattle.std.proofs.Common.{◌≡◌, ℕ, suc, zero, ◌+◌, ◌-◌, ◌<◌, ◌≤◌, List, [], ◌∷◌, ◌++◌, length, map, drop, refl, ap, arith, ◌∙◌}
+use Rattle.std.specs.Prelude.{slice_get}
+use Rattle.std.specs.List.{enumerate_from}
+use Rattle.std.proofs.lemmas.Bool.Decides.{nat_tests}
+use Rattle.std.proofs.lemmas.List.{length-map, map-append}
+use Rattle.msg_buffer.specs.declared.instance.Instance.{Instance}
+use Rattle.msg_buffer.specs.History.{Entry, History, instance_of, instances, count}
+use Rattle.msg_buffer.specs.Kept.{message_of, numbered, HasNumbersFrom, get_from}
+
+pub slice_get-append_right : {X : Type 0} (xs ys : List X) (i : ℕ) → slice_get (xs ++ ys) (length xs + i) ≡ slice_get ys i
+slice_get-append_right [] ys i = grind arith
+slice_get-append_right (x ∷ xs) ys i = grind (arith, slice_get-append_right xs ys i)
+
+pub slice_get-append_left : {X : Type 0} (xs ys : List X) (i : ℕ) → i < length xs → slice_get (xs ++ ys) i ≡ slice_get xs i
+slice_get-append_left [] ys i below = absurd (omega arith)
+slice_get-append_left (x ∷ xs) ys zero below = refl
+slice_get-append_left (x ∷ xs) ys (suc i) below = slice_get-append_left xs ys i (omega arith)
+
+pub slice_get-drop : {X : Type 0} (n : ℕ) (xs : List X) (i : ℕ) → slice_get (drop n xs) i ≡ slice_get xs (n + i)
+slice_get-drop zero xs i = grind arith
+slice_get-drop (suc n) [] i = grind arith
+slice_get-drop (suc n) (x ∷ xs) i = grind (arith, slice_get-drop n xs i)
+
+-- what stands under a number in the first of two lists that follow each other, or in the second
+pub get_from-append_left : {X : Type 0} (start : ℕ) (xs ys : List X) (n : ℕ) → n < start + length xs → get_from start (xs ++ ys) n ≡ get_from start xs n
+get_from-append_left start xs ys n below = grind (arith, nat_tests, slice_get-append_left xs ys (n - start))
+
+pub get_from-append_right : {X : Type 0} (start : ℕ) (xs ys : List X) (n : ℕ) → start + length xs ≤ n → get_from start (xs ++ ys) n ≡ get_from (start + length xs) ys n
+get_from-append_right start xs ys n above =
+    let i = n - (start + length xs) in
+    let here : n - start ≡ length xs + i = omega arith in
+    grind (arith, nat_tests, slice_get-append_right xs ys i)
+
+module _ {M : Type 0} where
+  pub length-numbered : (n : ℕ) (xs : List M) → length (numbered n xs) ≡ length xs
+  length-numbered n [] = refl
+  length-numbered n (x ∷ xs) = ap suc (length-numbered (n + 1) xs)
+
+  pub numbered-append : (n : ℕ) (xs ys : List M) → numbered n (xs ++ ys) ≡ numbered n xs ++ numbered (n + length xs) ys
+  numbered-append n [] ys = grind arith
+  numbered-append n (x ∷ xs) ys = grind (arith, numbered-append (n + 1) xs ys)
+
+  pub messages-numbered : (n : ℕ) (xs : List M) → map message_of (numbered n xs) ≡ xs
+  messages-numbered n [] = refl
+  messages-numbered n (x ∷ xs) = ap (λ ys. x ∷ ys) (messages-numbered (n + 1) xs)
+
+  -- more messages, numbered on
+  pub numbers-append : (n k : ℕ) (xs : List (Instance M)) (ms : List M) → HasNumbersFrom n xs → k ≡ n + length xs → HasNumbersFrom n (xs ++ numbered k ms)
+  numbers-append n k xs ms has at =
+      let long = length-map xs message_of in
+      let seam : k ≡ n + length (map message_of xs) = omega arith in
+      rw (map-append message_of xs (numbered k ms), messages-numbered k ms, numbered-append n (map message_of xs) ms, ← seam, ← has) refl
+
+  -- a history's instances are its messages, numbered
+  pub instances-numbered : (n : ℕ) (es : List (Entry M)) → map instance_of (enumerate_from n es) ≡ numbered n (map (λ e. e.message) es)
+  instances-numbered n [] = refl
+  instances-numbered n (e ∷ es) = ap (λ xs. record { id = record { 0 = n }; message = e.message } ∷ xs) (instances-numbered (n + 1) es)
+
+  pub length-instances : (h : History M) → length (instances h) ≡ count h
+  length-instances h =
+      ap length (instances-numbered 0 h.entries) ∙ length-numbered 0 (map (λ e. e.message) h.entries) ∙ length-map h.entries (λ e. e.message)

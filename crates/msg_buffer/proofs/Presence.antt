@@ -1,0 +1,108 @@
+-- Which entries are present: those from the oldest on.
+use Rattle.std.proofs.Common.{◌≡◌, ℕ, zero, suc, ◌+◌, ◌-◌, ◌<◌, ◌≤◌, true, false, List, [], ◌∷◌, map, drop, refl, sym, ◌∙◌, arith, inl, inr, Option, Some, None}
+use Rattle.std.specs.Prelude.{slice_get, option_map, nat_le}
+use Rattle.std.specs.List.{enumerate_from}
+use Rattle.std.proofs.lemmas.Bool.{cases_Bool, false≢true}
+use Rattle.std.proofs.lemmas.Bool.Decides.{nat_tests}
+use Rattle.std.proofs.lemmas.Option.{slice_get_cases, same_Some}
+use Rattle.msg_buffer.specs.History.{Entry, History, IsSound, IsPresent, count, get, instance_of, instances, is_present, oldest, HasRisingStamps}
+use Rattle.msg_buffer.specs.Kept.{Kept, get_from, kept_instances, message_of}
+use Rattle.msg_buffer.specs.StandsFor.{StandsFor}
+use Rattle.msg_buffer.proofs.Histories.{all_present, dropped, present_is_suffix, present_means}
+use Rattle.msg_buffer.proofs.Numbers.{slice_get-drop}
+
+module _ {M : Type 0} where
+  none_dropped : (h : History M) (n : ℕ) (e : Entry M) (es : List (Entry M)) → is_present h (n, e) ≡ true → HasRisingStamps e.stamp es h.updates
+      → dropped (is_present h) n (e ∷ es) ≡ 0
+  none_dropped h n e es is rise =
+      let means = present_means h n e is in
+      rw is (all_present h (n + 1) e.stamp es (omega (arith, means.0)) means.1 rise).1
+
+  dropped_are_gone : (h : History M) (n low : ℕ) (es : List (Entry M)) (k : ℕ) (e : Entry M) → HasRisingStamps low es h.updates
+      → k < dropped (is_present h) n es → slice_get es k ≡ Some e → is_present h (n + k, e) ≡ false
+  dropped_are_gone h n low [] k e rise below at = absurd (omega arith)
+  dropped_are_gone h n low (d ∷ es) zero e rise below at = elim (cases_Bool (is_present h (n, d))) [
+    | inl is ↦ let none : dropped (is_present h) n (d ∷ es) ≡ 0 = none_dropped h n d es is rise.1 in absurd (omega arith)
+    | inr is ↦ rw (← same_Some d e at) (let same : n + 0 ≡ n = omega arith in rw same is)
+  ]
+  dropped_are_gone h n low (d ∷ es) (suc k) e rise below at = elim (cases_Bool (is_present h (n, d))) [
+    | inl is ↦ let none : dropped (is_present h) n (d ∷ es) ≡ 0 = none_dropped h n d es is rise.1 in absurd (omega arith)
+    | inr is ↦
+        let here : dropped (is_present h) n (d ∷ es) ≡ suc (dropped (is_present h) (n + 1) es) = rw is refl in
+        let same : n + suc k ≡ n + 1 + k = omega arith in
+        rw same (dropped_are_gone h (n + 1) d.stamp es k e rise.1 (omega arith) at)
+  ]
+
+  others_are_present : (h : History M) (n low : ℕ) (es : List (Entry M)) (k : ℕ) (e : Entry M) → HasRisingStamps low es h.updates
+      → dropped (is_present h) n es ≤ k → slice_get es k ≡ Some e → is_present h (n + k, e) ≡ true
+  others_are_present h n low [] k e rise above at = absurd (cc)
+  others_are_present h n low (d ∷ es) zero e rise above at = elim (cases_Bool (is_present h (n, d))) [
+    | inl is ↦ rw (← same_Some d e at) (let same : n + 0 ≡ n = omega arith in rw same is)
+    | inr is ↦ let here : dropped (is_present h) n (d ∷ es) ≡ suc (dropped (is_present h) (n + 1) es) = rw is refl in absurd (omega arith)
+  ]
+  others_are_present h n low (d ∷ es) (suc k) e rise above at =
+      let same : n + suc k ≡ n + 1 + k = omega arith in
+      elim (cases_Bool (is_present h (n, d))) [
+        | inl is ↦
+            let means = present_means h n d is in
+            let none = (all_present h (n + 1) d.stamp es (omega (arith, means.0)) means.1 rise.1).1 in
+            rw same (others_are_present h (n + 1) d.stamp es k e rise.1 (omega (arith, none)) at)
+        | inr is ↦
+            let here : dropped (is_present h) n (d ∷ es) ≡ suc (dropped (is_present h) (n + 1) es) = rw is refl in
+            rw same (others_are_present h (n + 1) d.stamp es k e rise.1 (omega arith) at)
+      ]
+
+  pub gone_below_oldest : (h : History M) (k : ℕ) (e : Entry M) → IsSound h → k < oldest h → slice_get h.entries k ≡ Some e → is_present h (k, e) ≡ false
+  gone_below_oldest h k e sound below at =
+      let same : 0 + k ≡ k = omega arith in
+      rw (← same) (dropped_are_gone h 0 0 h.entries k e sound.stamps below at)
+
+  pub present_from_oldest : (h : History M) (k : ℕ) (e : Entry M) → IsSound h → oldest h ≤ k → slice_get h.entries k ≡ Some e → is_present h (k, e) ≡ true
+  present_from_oldest h k e sound above at =
+      let same : 0 + k ≡ k = omega arith in
+      rw (← same) (others_are_present h 0 0 h.entries k e sound.stamps above at)
+
+  pub not_present : (h : History M) (k : ℕ) → IsSound h → k < oldest h → ¬ IsPresent h k
+  not_present h k sound below p = false≢true (sym (gone_below_oldest h k p.0 sound below p.1) ∙ p.2)
+
+  pub is_there : (h : History M) (k : ℕ) → IsSound h → oldest h ≤ k → k < count h → IsPresent h k
+  is_there h k sound above below = elim (slice_get_cases h.entries k).1 [
+    | inl found ↦ (found.0, found.2, present_from_oldest h k found.0 sound above found.2)
+    | inr past ↦ absurd (omega (arith, past.0))
+  ]
+
+  -- ---- the message of a number
+
+  slice_get-instances : (n : ℕ) (es : List (Entry M)) (k : ℕ) → slice_get (map instance_of (enumerate_from n es)) k ≡ option_map (λ e. instance_of (n + k, e)) (slice_get es k)
+  slice_get-instances n [] k = refl
+  slice_get-instances n (e ∷ es) zero = let same : n + 0 ≡ n = omega arith in rw same refl
+  slice_get-instances n (e ∷ es) (suc k) = let same : n + suc k ≡ n + 1 + k = omega arith in rw same (slice_get-instances (n + 1) es k)
+
+  -- the kept messages are the last ones
+  pub kept_stands : (k : Kept M) (h : History M) → StandsFor k h → kept_instances k ≡ drop (oldest h) (instances h)
+  kept_stands k h s = s.present ∙ sym (present_is_suffix h 0 0 h.entries s.sound.stamps)
+
+  found_in_history : (h : History M) (n : ℕ) (e : Option (Entry M)) → slice_get h.entries n ≡ e → IsSound h
+      → option_map message_of (get_from (oldest h) (drop (oldest h) (instances h)) n) ≡ get h n
+  found_in_history h n e is sound = elim (cases_Bool (nat_le (oldest h) n)) [
+    | inl above ↦
+        let le : oldest h ≤ n = grind (arith, nat_tests) in
+        let at : oldest h + (n - oldest h) ≡ n = omega arith in
+        let same : 0 + n ≡ n = omega arith in
+        rw (above, slice_get-drop (oldest h) (instances h) (n - oldest h), at, slice_get-instances 0 h.entries n, same) (by_entry e is le)
+    | inr below ↦
+        let lt : n < oldest h = grind (arith, nat_tests) in
+        rw below (sym (gone e is lt))
+  ]
+    where
+      by_entry : (e : Option (Entry M)) → slice_get h.entries n ≡ e → oldest h ≤ n
+          → option_map message_of (option_map (λ x. instance_of (n, x)) (slice_get h.entries n)) ≡ get h n
+      by_entry None at le = rw at refl
+      by_entry (Some x) at le = rw at (rw (present_from_oldest h n x sound le at) refl)
+
+      gone : (e : Option (Entry M)) → slice_get h.entries n ≡ e → n < oldest h → get h n ≡ None
+      gone None at lt = rw at refl
+      gone (Some x) at lt = rw at (rw (gone_below_oldest h n x sound lt at) refl)
+
+  pub get_stands : (k : Kept M) (h : History M) (n : ℕ) → StandsFor k h → option_map message_of (get_from k.oldest (kept_instances k) n) ≡ get h n
+  get_stands k h n s = rw (s.oldest, kept_stands k h s) (found_in_history h n (slice_get h.entries n) refl s.sound)

@@ -1,0 +1,48 @@
+-- Reads and clears fit one behind the other.
+use Rattle.std.proofs.Common.{◌≡◌, ℕ, ◌-◌, ◌≤◌, List, [], ◌∷◌, length, take, zero, suc, refl, sym, ap, arith, Option, Some, None}
+use Rattle.std.proofs.lemmas.List.{length-take}
+use Rattle.std.proofs.Math.Seq.{take-length}
+use Rattle.msg_buffer.specs.declared.instance.Instance.{Instance}
+use Rattle.msg_buffer.specs.History.{History, IsSound, count, oldest}
+use Rattle.msg_buffer.specs.Reader.{first, unread, at_most, given}
+use Rattle.msg_buffer.specs.Tiling.{Fits, ReadsFit, ClearsFit}
+use Rattle.msg_buffer.proofs.Standing.{oldest_and_present}
+use Rattle.msg_buffer.proofs.Presence.{is_there, not_present}
+use Rattle.msg_buffer.proofs.Unread.{length-unread}
+
+module _ {M : Type 0} where
+  length-at_most : (limit : Option ℕ) (xs : List (Instance M)) → length (at_most limit xs) ≤ length xs
+  length-at_most None xs = omega arith
+  length-at_most (Some k) xs = rw (length-take k xs) (omega arith)
+
+  take-length-take : (k : ℕ) (xs : List (Instance M)) → take k xs ≡ take (length (take k xs)) xs
+  take-length-take zero xs = refl
+  take-length-take (suc k) [] = refl
+  take-length-take (suc k) (x ∷ xs) = ap (λ ys. x ∷ ys) (take-length-take k xs)
+
+  take-at_most : (limit : Option ℕ) (xs : List (Instance M)) → at_most limit xs ≡ take (length (at_most limit xs)) xs
+  take-at_most None xs = sym (take-length xs)
+  take-at_most (Some k) xs = take-length-take k xs
+
+  -- a stretch of so many of the unread messages
+  fits : (h : History M) (place n : ℕ) → IsSound h → n ≤ length (unread h place) → Fits h place (record { missed = oldest h - place; first = first h place; number = n })
+  fits h place n sound le =
+      let long = length-unread h place in record {
+        first = omega arith;
+        missed = λ k from below. not_present h k sound (omega arith);
+        passed = λ k from below. is_there h k sound (omega arith) (omega arith);
+      }
+
+  oldest_at_most : (h : History M) → oldest h ≤ count h
+  oldest_at_most h = omega (arith, oldest_and_present h)
+
+  pub reads_fit : ReadsFit M
+  reads_fit h place limit sound =
+      let le = length-at_most limit (unread h place) in
+      let long = length-unread h place in let old = oldest_at_most h in
+      (fits h place (length (given h place limit)) sound le, take-at_most limit (unread h place), λ within. omega arith)
+
+  pub clears_fit : ClearsFit M
+  clears_fit h place sound =
+      let long = length-unread h place in let old = oldest_at_most h in
+      (fits h place (length (unread h place)) sound (omega arith), λ within. omega arith)

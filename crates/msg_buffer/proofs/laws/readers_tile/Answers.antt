@@ -1,0 +1,8 @@
+use Rattle.msg_buffer.proofs.Tiles.{reads_fit, clears_fit}
+use Rattle.msg_buffer.proofs.laws.readers_tile.Goals as goal
+
+pub returns-clause-reads : goal.returns-clause-reads
+returns-clause-reads g c = reads_fit
+
+pub returns-clause-clears : goal.returns-clause-clears
+returns-clause-clears g c = clears_fit

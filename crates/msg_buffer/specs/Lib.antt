@@ -1,0 +1,7 @@
+pub mod History
+pub mod Kept
+pub mod Reader
+pub mod Reading
+pub mod Refusals
+pub mod StandsFor
+pub mod Tiling

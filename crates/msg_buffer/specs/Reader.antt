@@ -1,0 +1,44 @@
+-- A reader of a history stands at a place: the number of the first message that it wasn't given yet.
+use Rattle.std.specs.Prelude.{ℕ, ◌+◌, ◌-◌, max, List, length, take, drop, Option, Some, None}
+use Rattle.msg_buffer.specs.declared.instance.Instance.{Instance}
+use Rattle.msg_buffer.specs.History.{History, instances, oldest}
+
+-- What one read or clear goes past: some messages that it missed, and then `number` of them from `first` on.
+pub record Stretch : Type 0 where
+  pub missed : ℕ
+  pub first : ℕ
+  pub number : ℕ
+
+-- the place after it
+abbrev pub next_place : Stretch → ℕ
+next_place s = s.first + s.number
+
+module _ {M : Type 0} where
+  -- how many messages from the place on aren't present any more
+  abbrev pub missed : History M → ℕ → ℕ
+  missed h place = oldest h - place
+
+  -- the number that the next read begins at
+  abbrev pub first : History M → ℕ → ℕ
+  first h place = max place (oldest h)
+
+  -- the messages that a reader at this place wasn't given yet and still can be
+  abbrev pub unread : History M → ℕ → List (Instance M)
+  unread h place = drop (first h place) (instances h)
+
+  -- the first `limit` of them, or all where there is no limit
+  abbrev pub at_most : Option ℕ → List (Instance M) → List (Instance M)
+  at_most None xs = xs
+  at_most (Some limit) xs = take limit xs
+
+  -- what a read gives
+  abbrev pub given : History M → ℕ → Option ℕ → List (Instance M)
+  given h place limit = at_most limit (unread h place)
+
+  -- what a read goes past: what it gives
+  abbrev pub read : History M → ℕ → Option ℕ → Stretch
+  read h place limit = record { missed = missed h place; first = first h place; number = length (given h place limit) }
+
+  -- what a clear goes past: all that is unread
+  abbrev pub pass_over : History M → ℕ → Stretch
+  pass_over h place = record { missed = missed h place; first = first h place; number = length (unread h place) }

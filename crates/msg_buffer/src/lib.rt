@@ -1,0 +1,24 @@
+//! The double-buffered messages of Bevy's `Messages<M>`: numbers, halves, cursors.
+//!
+//! A buffer is what is left of a history, a list of messages that only grows: a message is
+//! present until the second update after it was written.
+#![tactic(auto)]
+
+mod batch;
+mod cursor;
+mod instance;
+mod iter;
+mod laws;
+mod messages;
+mod refusals;
+mod sequence;
+
+pub use cursor::MessageCursor;
+pub use instance::{Instance, MessageId, Written};
+pub use iter::MessageIter;
+pub use laws::{histories_only_grow, messages_outlive_one_update, readers_tile};
+pub use messages::Messages;
+pub use refusals::{BatchRefusal, NoMemory, WriteRefusal};
+
+#[cfg(test)]
+mod tests;

@@ -1,0 +1,216 @@
+// Worked examples with their expected answers, and each public call once with ample memory.
+use crate::{
+    BatchRefusal, Instance, MessageCursor, MessageId, Messages, WriteRefusal, Written,
+    histories_only_grow, messages_outlive_one_update, readers_tile,
+};
+use std::alloc::{AllocError, Global};
+use std::test::Fail;
+
+/// The numbers and values of at most `limit` unread messages.
+fn read(
+    alloc: Global,
+    cursor: &mut MessageCursor,
+    messages: &Messages<i64>,
+    limit: usize,
+) -> Result<Vec<(u64, i64)>, AllocError> {
+    let mut items = Vec::new(alloc);
+    let mut unread = cursor.read(messages);
+    for _ in 0..limit {
+        let Some((id, value)) = unread.next() else {
+            break;
+        };
+        items.push((id.0, *value))?;
+    }
+    Ok(items)
+}
+
+fn shown(alloc: Global, instances: &[Instance<i64>]) -> Result<Vec<(u64, i64)>, AllocError> {
+    let mut items = Vec::new(alloc);
+    for instance in instances {
+        items.push((instance.id.0, instance.message))?;
+    }
+    Ok(items)
+}
+
+#[test]
+fn two_updates_drop(rt: HostRuntime) -> Result<(), Fail> {
+    let mut buffer: Messages<i64> = Messages::new(rt.alloc(), 10);
+    let mut cursor = buffer.get_cursor();
+    assert_eq!(rt; buffer.write(7).ok(), Some(MessageId(0)));
+    let items = read(rt.alloc(), &mut cursor, &buffer, 9)?;
+    assert_eq!(rt; items.as_slice(), [(0, 7)].as_slice());
+    assert_eq!(rt; buffer.write(8).ok(), Some(MessageId(1)));
+    buffer.update();
+    buffer.update();
+    assert_eq!(rt; cursor.missed(&buffer), 1);
+    assert!(rt; read(rt.alloc(), &mut cursor, &buffer, 9)?.is_empty());
+    assert_eq!(rt; buffer.write(9).ok(), Some(MessageId(2)));
+    assert_eq!(rt; cursor.missed(&buffer), 0);
+    let items = read(rt.alloc(), &mut cursor, &buffer, 9)?;
+    assert_eq!(rt; items.as_slice(), [(2, 9)].as_slice());
+    Ok(())
+}
+
+#[test]
+fn items_left_unread(rt: HostRuntime) -> Result<(), Fail> {
+    let mut buffer: Messages<i64> = Messages::new(rt.alloc(), 10);
+    let mut cursor = buffer.get_cursor();
+    let batch = Vec::from_slice(rt.alloc(), &[1, 2, 3, 4, 5])?;
+    let written = buffer.write_batch(batch);
+    assert_eq!(rt; written.ok(), Some(Written { first: 0, n: 5 }));
+    let items = read(rt.alloc(), &mut cursor, &buffer, 2)?;
+    assert_eq!(rt; items.as_slice(), [(0, 1), (1, 2)].as_slice());
+    buffer.update();
+    assert_eq!(rt; cursor.len(&buffer), 3);
+    let items = read(rt.alloc(), &mut cursor, &buffer, 9)?;
+    assert_eq!(rt; items.as_slice(), [(2, 3), (3, 4), (4, 5)].as_slice());
+    assert!(rt; cursor.is_empty(&buffer));
+    Ok(())
+}
+
+#[test]
+fn clear_past_dropped(rt: HostRuntime) -> Result<(), Fail> {
+    let mut buffer: Messages<i64> = Messages::new(rt.alloc(), 10);
+    let mut cursor = buffer.get_cursor();
+    assert!(rt; buffer.write(1).is_ok());
+    buffer.update();
+    assert!(rt; buffer.write(2).is_ok());
+    buffer.update();
+    assert_eq!(rt; cursor.missed(&buffer), 1);
+    assert_eq!(rt; cursor.len(&buffer), 1);
+    cursor.clear(&buffer);
+    assert_eq!(rt; cursor.place(), 2);
+    assert!(rt; read(rt.alloc(), &mut cursor, &buffer, 9)?.is_empty());
+    Ok(())
+}
+
+#[test]
+fn last_number(rt: HostRuntime) -> Result<(), Fail> {
+    let mut buffer: Messages<i64> = Messages::new(rt.alloc(), 2);
+    let batch = Vec::from_slice(rt.alloc(), &[1, 2, 3])?;
+    match buffer.write_batch(batch) {
+        Err(BatchRefusal::NumbersSpent(batch)) => assert_eq!(rt;
+            batch.as_slice(),
+            [1, 2, 3].as_slice()
+        ),
+        _other => assert!(rt; false),
+    }
+    assert!(rt; buffer.write(4).is_ok());
+    assert!(rt; buffer.write(5).is_ok());
+    assert!(rt; matches!(buffer.write(6), Err(WriteRefusal::NumbersSpent(6))));
+    let none = buffer.write_batch(Vec::new(rt.alloc()));
+    assert_eq!(rt; none.ok(), Some(Written { first: 2, n: 0 }));
+    assert_eq!(rt; buffer.get(MessageId(u64::MAX)), None);
+    Ok(())
+}
+
+#[test]
+fn cursors_and_queries(rt: HostRuntime) -> Result<(), Fail> {
+    let mut buffer: Messages<i64> = Messages::new(rt.alloc(), 10);
+    assert!(rt; buffer.is_empty());
+    assert!(rt; buffer.write(1).is_ok());
+    buffer.update();
+    buffer.update();
+    let from_zero = MessageCursor::default();
+    let current = buffer.get_cursor_current();
+    assert_eq!(rt; from_zero.place(), 0);
+    assert_eq!(rt; current.place(), 1);
+    assert_eq!(rt; from_zero.missed(&buffer), 1);
+    assert_eq!(rt; current.missed(&buffer), 0);
+    assert!(rt; buffer.write(2).is_ok());
+    assert_eq!(rt; buffer.get(MessageId(0)), None);
+    assert_eq!(rt; buffer.get(MessageId(1)).copied(), Some(2));
+    assert_eq!(rt; buffer.get(MessageId(2)), None);
+    let written = shown(rt.alloc(), buffer.current())?;
+    assert_eq!(rt; written.as_slice(), [(1, 2)].as_slice());
+    assert_eq!(rt; buffer.oldest(), 1);
+    assert_eq!(rt; buffer.count(), 2);
+    assert_eq!(rt; buffer.len(), 1);
+    buffer.update();
+    assert!(rt; buffer.current().is_empty());
+    assert_eq!(rt; buffer.len(), 1);
+    Ok(())
+}
+
+#[test]
+fn cursor_past_the_count(rt: HostRuntime) -> Result<(), Fail> {
+    let mut buffer: Messages<i64> = Messages::new(rt.alloc(), 10);
+    for value in 0..3 {
+        assert!(rt; buffer.write(value).is_ok());
+    }
+    let mut cursor = buffer.get_cursor_current();
+    let fresh: Messages<i64> = Messages::new(rt.alloc(), 10);
+    assert_eq!(rt; cursor.missed(&fresh), 0);
+    assert_eq!(rt; cursor.len(&fresh), 0);
+    assert!(rt; read(rt.alloc(), &mut cursor, &fresh, 9)?.is_empty());
+    assert_eq!(rt; cursor.place(), 3);
+    cursor.clear(&fresh);
+    assert_eq!(rt; cursor.place(), 0);
+    Ok(())
+}
+
+#[test]
+fn drain_both_halves(rt: HostRuntime) -> Result<(), Fail> {
+    let mut buffer: Messages<i64> = Messages::new(rt.alloc(), 10);
+    let mut cursor = buffer.get_cursor();
+    assert!(rt; buffer.write(1).is_ok());
+    buffer.update();
+    assert!(rt; buffer.write(2).is_ok());
+    let drained = buffer.drain()?;
+    let drained = shown(rt.alloc(), drained.as_slice())?;
+    assert_eq!(rt; drained.as_slice(), [(0, 1), (1, 2)].as_slice());
+    assert_eq!(rt; cursor.missed(&buffer), 2);
+    assert!(rt; read(rt.alloc(), &mut cursor, &buffer, 9)?.is_empty());
+    assert_eq!(rt; buffer.write(3).ok(), Some(MessageId(2)));
+    let items = read(rt.alloc(), &mut cursor, &buffer, 9)?;
+    assert_eq!(rt; items.as_slice(), [(2, 3)].as_slice());
+    Ok(())
+}
+
+#[test]
+fn cleared_buffer(rt: HostRuntime) -> Result<(), Fail> {
+    let mut buffer: Messages<i64> = Messages::new(rt.alloc(), 3);
+    let mut cursor = buffer.get_cursor();
+    assert!(rt; buffer.write(1).is_ok());
+    buffer.clear();
+    assert_eq!(rt; buffer.oldest(), 1);
+    assert!(rt; buffer.is_empty());
+    assert_eq!(rt; cursor.missed(&buffer), 1);
+    cursor.clear(&buffer);
+    assert!(rt; buffer.drain()?.is_empty());
+    assert_eq!(rt; buffer.write(2).ok(), Some(MessageId(1)));
+    let items = read(rt.alloc(), &mut cursor, &buffer, 9)?;
+    assert_eq!(rt; items.as_slice(), [(1, 2)].as_slice());
+    Ok(())
+}
+
+#[test]
+fn a_walk_left_early(rt: HostRuntime) -> Result<(), Fail> {
+    let mut buffer: Messages<String> = Messages::new(rt.alloc(), 10);
+    for word in ["north", "east", "south", "west"] {
+        assert!(rt; buffer.write(word.to_string(rt.alloc())?).is_ok());
+    }
+    let mut cursor = buffer.get_cursor();
+    for (id, word) in cursor.read(&buffer) {
+        if word.as_str() == "east" {
+            assert_eq!(rt; id, MessageId(1));
+            break;
+        }
+    }
+    assert_eq!(rt; cursor.place(), 2);
+    assert_eq!(rt; cursor.read(&buffer).len(), 2);
+    for (_, word) in cursor.read(&buffer) {
+        assert!(rt; word.as_str() != "east");
+    }
+    assert_eq!(rt; cursor.place(), 4);
+    Ok(())
+}
+
+#[test]
+fn laws_hold_of_numbers(rt: HostRuntime) {
+    let buffer: Messages<i64> = Messages::new(rt.alloc(), 1);
+    buffer.stands_for_some();
+    histories_only_grow::<i64>();
+    messages_outlive_one_update::<i64>();
+    readers_tile::<i64>();
+}
