@@ -1,5 +1,7 @@
 pub mod Getters
+pub mod Lines
 pub mod Puts
+pub mod Running
 pub mod Shapes
 pub mod Walks
 pub mod Whole

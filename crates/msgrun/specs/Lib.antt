@@ -1,4 +1,5 @@
 pub mod Asked
+pub mod CallsText
 pub mod Check
 pub mod Checks
 pub mod CommandLine
@@ -7,5 +8,6 @@ pub mod Denotes
 pub mod Faults
 pub mod Inputs
 pub mod Json
+pub mod Running
 pub mod Sinks
 pub mod Walk

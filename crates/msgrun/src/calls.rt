@@ -4,9 +4,13 @@ ghost use Rattle.msgrun.specs.Cursors.{cursors_exist};
 use crate::call::Call;
 use std::marker::Model;
 
+mod answer;
 mod read;
+mod run;
+mod text;
 
 pub use read::read_calls;
+pub use run::run_calls;
 
 /// A buffer's limit, and the calls to be made on it. Each call's cursor is made by the calls before it; cursor 0 is there from the beginning.
 #[derive(Debug, Drop)]
