@@ -1,6 +1,6 @@
 -- The calls of a file, one after another.
-use Rattle.std.proofs.Common.{◌≡◌, ℕ, ◌+◌, ◌<◌, ◌≤◌, List, [], ◌∷◌, ◌++◌, length, get_or, drop, refl, ap, ◌∙◌, sym, append_assoc, append-nil, Option, Some, None, Bool, true, false, arith, subst}
-use Rattle.std.specs.Prelude.{ℤ, ◌&&◌, slice_set}
+use Rattle.std.proofs.Common.{◌≡◌, ℕ, ◌+◌, ◌<◌, ◌≤◌, List, [], ◌++◌, length, get_or, drop, refl, ap, ◌∙◌, sym, append_assoc, append-nil, Option, Some, None, Bool, true, false, arith, subst}
+use Rattle.std.specs.Prelude.{ℤ, ◌&&◌}
 use Rattle.std.proofs.lemmas.List.{drop_more, drop_all}
 use Rattle.std.proofs.lemmas.Grind.{common_steps}
 use Rattle.std.specs.Io.KnownBytes.{Appends}
@@ -72,7 +72,7 @@ OnTheWay_more before now now' m m' cs cs' calls i d all way lt state prints =
     let s = way.state in
     let are' = state s way.are_in in
     let made : length cs' ≡ length cs + made_by call =
-        ap length are'.places ∙ length-places_after call s ∙ ap (λ l. length l + made_by call) (sym way.are_in.places) in
+    ap length are'.places ∙ length-places_after call s ∙ ap (λ l. length l + made_by call) (sym way.are_in.places) in
     let rest = drop (i + 1) calls in record {
       state = after call s;
       printed = way.printed ++ line call s;
@@ -94,8 +94,8 @@ OnTheWay_fails before now now' m cs calls i d all way lt prints =
     let s = way.state in
     let rest = text_of (drop (i + 1) calls) (after call s) in
     let parts : all ≡ (way.printed ++ line call s) ++ rest =
-        sym way.whole ∙ ap (λ cs. way.printed ++ text_of cs s) (drop_more calls i d lt)
-        ∙ sym (append_assoc way.printed (line call s) rest) in
+    sym way.whole ∙ ap (λ cs. way.printed ++ text_of cs s) (drop_more calls i d lt)
+    ∙ sym (append_assoc way.printed (line call s) rest) in
     AppendsPrefix_after before now now' way.printed (line call s) rest all parts way.taken (prints s way.are_in)
 
 -- after the last call all is printed

@@ -1,5 +1,5 @@
 -- The text that a calls file prints: a line for each call, over one history and the places of its cursors.
-use Rattle.std.specs.Prelude.{ℕ, ◌+◌, ℤ, List, [], ◌∷◌, ◌++◌, length, slice_index, slice_set, Option, Some, None, codes, decimal, if◌then◌else◌}
+use Rattle.std.specs.Prelude.{ℕ, ℤ, List, [], ◌∷◌, ◌++◌, length, slice_index, slice_set, Option, Some, None, codes, decimal, if◌then◌else◌}
 use Rattle.std.specs.Fmt.{signed_decimal}
 use Rattle.msg_buffer.specs.History.{History, clear, count, current, empty, get, has_room, oldest, present, update, write}
 use Rattle.msg_buffer.specs.Reader.{given, missed, next_place, read, unread}

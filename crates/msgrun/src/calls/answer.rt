@@ -11,7 +11,9 @@ ghost use Rattle.msgrun.specs.Running.{AreIn};
 use crate::call::Call;
 use crate::calls::text::{add_found, add_items, add_number};
 use crate::values::Values;
-use msg_buffer::{BatchRefusal, Instance, MessageCursor, MessageId, Messages, NoMemory, WriteRefusal};
+use msg_buffer::{
+    BatchRefusal, Instance, MessageCursor, MessageId, Messages, NoMemory, WriteRefusal,
+};
 use std::alloc::Global;
 
 /// Makes a call, and adds its line to the text.
@@ -23,14 +25,10 @@ pub fn answer(
     text: &mut Vec<u8>,
 ) -> Result<(), NoMemory>
     requires { has_cursor (length cursors.old.items) call.now ≡ true }
-    ensures line {
-        OnOk result ((s : State) → AreIn messages.old cursors.old.items s
-        → text.new.items ≡ text.old.items ++ line call.now s)
-    }
-    ensures state {
-        OnOk result ((s : State) → AreIn messages.old cursors.old.items s
-        → AreIn messages.new cursors.new.items (after call.now s))
-    }
+    ensures line { OnOk result ((s : State) → AreIn messages.old cursors.old.items s
+        → text.new.items ≡ text.old.items ++ line call.now s) }
+    ensures state { OnOk result ((s : State) → AreIn messages.old cursors.old.items s
+        → AreIn messages.new cursors.new.items (after call.now s)) }
 {
     match call {
         Call::Write(value) => write(*value, messages, text),
@@ -75,9 +73,7 @@ pub fn answer(
 
 /// A line of a head and a number.
 fn add_count(text: &mut Vec<u8>, head: &[u8], number: u64) -> Result<(), NoMemory>
-    ensures {
-        OnOk result (text.new.items ≡ text.old.items ++ (head.now ++ decimal number ++ codes "\n"))
-    }
+    ensures { OnOk result (text.new.items ≡ text.old.items ++ (head.now ++ decimal number ++ codes "\n")) }
 {
     text.extend_from_slice(head)?;
     add_number(text, number)?;
@@ -86,10 +82,8 @@ fn add_count(text: &mut Vec<u8>, head: &[u8], number: u64) -> Result<(), NoMemor
 
 /// A line of a head, a cursor and a number.
 fn add_cursor(text: &mut Vec<u8>, head: &[u8], cursor: u32, number: u64) -> Result<(), NoMemory>
-    ensures {
-        OnOk result (text.new.items
-        ≡ text.old.items ++ (head.now ++ decimal cursor ++ codes " " ++ decimal number ++ codes "\n"))
-    }
+    ensures { OnOk result (text.new.items
+        ≡ text.old.items ++ (head.now ++ decimal cursor ++ codes " " ++ decimal number ++ codes "\n")) }
 {
     text.extend_from_slice(head)?;
     add_number(text, u64::from(cursor))?;
@@ -100,9 +94,7 @@ fn add_cursor(text: &mut Vec<u8>, head: &[u8], cursor: u32, number: u64) -> Resu
 
 /// A line of a head and items.
 fn add_list(text: &mut Vec<u8>, head: &[u8], items: &[Instance<i64>]) -> Result<(), NoMemory>
-    ensures {
-        OnOk result (text.new.items ≡ text.old.items ++ (head.now ++ items_text items.now ++ codes "\n"))
-    }
+    ensures { OnOk result (text.new.items ≡ text.old.items ++ (head.now ++ items_text items.now ++ codes "\n")) }
 {
     text.extend_from_slice(head)?;
     add_items(text, items)?;
@@ -111,10 +103,8 @@ fn add_list(text: &mut Vec<u8>, head: &[u8], items: &[Instance<i64>]) -> Result<
 
 /// A line of a write that gave these numbers.
 fn add_written(text: &mut Vec<u8>, head: &[u8], first: u64, number: u64) -> Result<(), NoMemory>
-    ensures {
-        OnOk result (text.new.items
-        ≡ text.old.items ++ (head.now ++ (decimal first ++ codes "+" ++ decimal number) ++ codes "\n"))
-    }
+    ensures { OnOk result (text.new.items
+        ≡ text.old.items ++ (head.now ++ (decimal first ++ codes "+" ++ decimal number) ++ codes "\n")) }
 {
     text.extend_from_slice(head)?;
     add_number(text, first)?;
@@ -124,14 +114,10 @@ fn add_written(text: &mut Vec<u8>, head: &[u8], first: u64, number: u64) -> Resu
 }
 
 fn write(value: i64, messages: &mut Messages<i64>, text: &mut Vec<u8>) -> Result<(), NoMemory>
-    ensures line {
-        OnOk result ((h : History ℤ) → StandsFor messages.old h
-        → text.new.items ≡ text.old.items ++ (codes "write " ++ written_text h 1 ++ codes "\n"))
-    }
-    ensures state {
-        OnOk result ((h : History ℤ) → StandsFor messages.old h
-        → StandsFor messages.new (write (value ∷ []) h))
-    }
+    ensures line { OnOk result ((h : History ℤ) → StandsFor messages.old h
+        → text.new.items ≡ text.old.items ++ (codes "write " ++ written_text h 1 ++ codes "\n")) }
+    ensures state { OnOk result ((h : History ℤ) → StandsFor messages.old h
+        → StandsFor messages.new (write (value ∷ []) h)) }
 {
     match messages.write(value) {
         Ok(id) => add_written(text, b"write ", id.0, 1),
@@ -146,15 +132,11 @@ fn write_batch(
     messages: &mut Messages<i64>,
     text: &mut Vec<u8>,
 ) -> Result<(), NoMemory>
-    ensures line {
-        OnOk result ((h : History ℤ) → StandsFor messages.old h
+    ensures line { OnOk result ((h : History ℤ) → StandsFor messages.old h
         → text.new.items
-            ≡ text.old.items ++ (codes "batch " ++ written_text h (length values.now) ++ codes "\n"))
-    }
-    ensures state {
-        OnOk result ((h : History ℤ) → StandsFor messages.old h
-        → StandsFor messages.new (write values.now h))
-    }
+        ≡ text.old.items ++ (codes "batch " ++ written_text h (length values.now) ++ codes "\n")) }
+    ensures state { OnOk result ((h : History ℤ) → StandsFor messages.old h
+        → StandsFor messages.new (write values.now h)) }
 {
     let batch = values.as_slice().to_vec(alloc)?;
     match messages.write_batch(batch) {
@@ -165,11 +147,9 @@ fn write_batch(
 }
 
 fn get(number: u64, messages: &Messages<i64>, text: &mut Vec<u8>) -> Result<(), NoMemory>
-    ensures {
-        OnOk result ((h : History ℤ) → StandsFor messages.now h
+    ensures { OnOk result ((h : History ℤ) → StandsFor messages.now h
         → text.new.items
-            ≡ text.old.items ++ (codes "get " ++ decimal number ++ codes " " ++ value_text (get h number) ++ codes "\n"))
-    }
+        ≡ text.old.items ++ (codes "get " ++ decimal number ++ codes " " ++ value_text (get h number) ++ codes "\n")) }
 {
     text.extend_from_slice(b"get ")?;
     add_number(text, number)?;
@@ -184,11 +164,9 @@ fn make(
     cursors: &mut Vec<MessageCursor>,
     text: &mut Vec<u8>,
 ) -> Result<(), NoMemory>
-    ensures line {
-        OnOk result (text.new.items
+    ensures line { OnOk result (text.new.items
         ≡ text.old.items ++ (codes "cursor " ++ decimal (length cursors.old.items)
-            ++ codes " place " ++ decimal cursor ++ codes "\n"))
-    }
+        ++ codes " place " ++ decimal cursor ++ codes "\n")) }
     ensures made { OnOk result (cursors.new.items ≡ cursors.old.items ++ cursor ∷ []) }
 {
     text.extend_from_slice(b"cursor ")?;
@@ -209,14 +187,10 @@ fn read(
     text: &mut Vec<u8>,
 ) -> Result<(), NoMemory>
     requires { number < length cursors.old.items }
-    ensures line {
-        OnOk result ((s : State) → AreIn messages.now cursors.old.items s
-        → text.new.items ≡ text.old.items ++ line (Call.Read number limit) s)
-    }
-    ensures state {
-        OnOk result ((s : State) → AreIn messages.now cursors.old.items s
-        → AreIn messages.now cursors.new.items (after (Call.Read number limit) s))
-    }
+    ensures line { OnOk result ((s : State) → AreIn messages.now cursors.old.items s
+        → text.new.items ≡ text.old.items ++ line (Call.Read number limit) s) }
+    ensures state { OnOk result ((s : State) → AreIn messages.now cursors.old.items s
+        → AreIn messages.now cursors.new.items (after (Call.Read number limit) s)) }
 {
     let mut cursor = cursors[number as usize];
     let missed = cursor.missed(messages);
@@ -232,11 +206,9 @@ fn add_read(
     missed: u64,
     items: &[Instance<i64>],
 ) -> Result<(), NoMemory>
-    ensures {
-        OnOk result (text.new.items
+    ensures { OnOk result (text.new.items
         ≡ text.old.items ++ (codes "read " ++ decimal number ++ codes " missed " ++ decimal missed
-            ++ codes ": " ++ items_text items.now ++ codes "\n"))
-    }
+        ++ codes ": " ++ items_text items.now ++ codes "\n")) }
 {
     text.extend_from_slice(b"read ")?;
     add_number(text, u64::from(number))?;
@@ -254,14 +226,10 @@ fn take(
     limit: Option<u32>,
     messages: &Messages<i64>,
 ) -> Result<Vec<Instance<i64>>, NoMemory>
-    ensures items {
-        IfOk result (λ v. (h : History ℤ) → StandsFor messages.now h
-        → v.items ≡ given h cursor.old limit)
-    }
-    ensures place {
-        OnOk result ((h : History ℤ) → StandsFor messages.now h
-        → cursor.new ≡ next_place (read h cursor.old limit))
-    }
+    ensures items { IfOk result (λ v. (h : History ℤ) → StandsFor messages.now h
+        → v.items ≡ given h cursor.old limit) }
+    ensures place { OnOk result ((h : History ℤ) → StandsFor messages.now h
+        → cursor.new ≡ next_place (read h cursor.old limit)) }
 {
     let number = number_taken(limit, cursor.len(messages));
     let mut items = Vec::new(alloc);
@@ -291,14 +259,10 @@ fn clear(
     text: &mut Vec<u8>,
 ) -> Result<(), NoMemory>
     requires { number < length cursors.old.items }
-    ensures line {
-        OnOk result ((s : State) → AreIn messages.now cursors.old.items s
-        → text.new.items ≡ text.old.items ++ line (Call.Clear number) s)
-    }
-    ensures state {
-        OnOk result ((s : State) → AreIn messages.now cursors.old.items s
-        → AreIn messages.now cursors.new.items (after (Call.Clear number) s))
-    }
+    ensures line { OnOk result ((s : State) → AreIn messages.now cursors.old.items s
+        → text.new.items ≡ text.old.items ++ line (Call.Clear number) s) }
+    ensures state { OnOk result ((s : State) → AreIn messages.now cursors.old.items s
+        → AreIn messages.now cursors.new.items (after (Call.Clear number) s)) }
 {
     let mut cursor = cursors[number as usize];
     text.extend_from_slice(b"clear ")?;

@@ -1,9 +1,4 @@
-use Rattle.std.proofs.Common.{◌∙◌, sym, subst, List, ℕ}
-use Rattle.std.specs.Io.KnownBytes.{Appends}
-use Rattle.msgrun.specs.CallsText.{State, after, line}
-use Rattle.msgrun.specs.Running.{AreIn}
-use Rattle.msgrun.specs.Sinks.{AppendsPrefix}
-use Rattle.msgrun.specs.declared.call.Call.{Call}
+use Rattle.std.proofs.Common.{◌∙◌}
 use Rattle.msgrun.proofs.Puts.{on_err}
 use Rattle.msgrun.proofs.Running.{OnTheWay_fails, OnTheWay_more}
 use Rattle.msgrun.proofs.calls.run.run_calls.Goals as goal
@@ -25,7 +20,7 @@ loop-call-preserved g c =
     let state = c.in_ok-run_call.ensures.state in
     let prints = c.in_ok-run_call.ensures.ok in (
       OnTheWay_more _ _ _ _ _ _ _ calls i call _ c.loop-call.invariant.0 c.loop-call-test.true
-      (λ s are. rw (← c.call-item.is) (state s are))
-      (λ s are. rw (← c.call-item.is) (prints s are)),
+          (λ s are. rw (← c.call-item.is) (state s are))
+          (λ s are. rw (← c.call-item.is) (prints s are)),
       c.in_ok-run_call.ensures.quiet ∙ c.loop-call.invariant.1,
     )
