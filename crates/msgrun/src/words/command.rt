@@ -23,7 +23,9 @@ fn buffer_command<'a>(alloc: Global) -> Result<Command<'a>, AllocError>
     ensures app { IfOk result (λ c. app_of c ≡ buffer_app) }
     ensures local { IfOk result (λ c. (fields_of c).has_globals ≡ false) }
 {
-    Command::new(alloc, "buffer").arg(file_arg(alloc))
+    Command::new(alloc, "buffer")
+        .about("Answers the calls file FILE")
+        .arg(file_arg(alloc))
 }
 
 fn command<'a>(alloc: Global) -> Result<Command<'a>, AllocError>
@@ -32,6 +34,7 @@ fn command<'a>(alloc: Global) -> Result<Command<'a>, AllocError>
 {
     let buffer = buffer_command(alloc)?;
     Command::new(alloc, "msgrun")
+        .about("Answers a calls file, by itself that of standard input")
         .no_binary_name(true)
         .subcommand(buffer)
 }
