@@ -1,5 +1,6 @@
 -- Puts one after another.
-use Rattle.std.proofs.Common.{◌≡◌, ◌≢◌, ℕ, ◌-◌, List, [], ◌∷◌, ◌++◌, length, take, drop, refl, ap, ◌∙◌, sym, append_assoc, append-nil, Result, Ok, Err, Option, OnErr, arith}
+use Rattle.std.proofs.Common.{◌≡◌, ◌≢◌, ℕ, ◌+◌, ◌-◌, List, [], ◌∷◌, ◌++◌, length, take, drop, refl, ap, ◌∙◌, sym, append_assoc, append-nil, Result, Ok, Err, Option, OnErr, arith}
+use Rattle.std.proofs.Math.Seq.{take-add}
 use Rattle.std.proofs.lemmas.List.{take-append-drop}
 use Rattle.std.proofs.lemmas.Grind.{common_steps}
 use Rattle.std.specs.Io.KnownBytes.{Appends, Keeps}
@@ -12,9 +13,20 @@ pub failures_after_some : (E : Type 0) (k n : ℕ) (xs : List ℕ) → n ≢ 0
 failures_after_some E k n [] h = refl
 failures_after_some E k n (x ∷ xs) h = grind (arith, h)
 
+-- and leaves the failures where they were
+pub failures_kept : (E : Type 0) (before old new n : ℕ) (xs : List ℕ) → new ≡ failures_after {E = E} old (Ok n) xs
+    → n ≢ 0 → old ≡ before → new ≡ before
+failures_kept E before old new n xs counts some kept = counts ∙ failures_after_some E old n xs some ∙ kept
+
 -- what is left of a piece, as a range of it
 pub rest_whole : (d : ℕ) (p : List ℕ) → take (length p - d) (drop d p) ≡ drop d p
 rest_whole d p = grind (arith, common_steps)
+
+-- more of a piece was taken
+pub Appends_more : (a b c : Option (List ℕ)) (p : List ℕ) (d n : ℕ) → Appends a b (take d p)
+    → Appends b c (take n (take (length p - d) (drop d p))) → Appends a c (take (d + n) p)
+Appends_more a b c p d n before now =
+    rw (take-add d n p, ← rest_whole d p) (Appends-trans a b c (take d p) _ before now)
 
 -- what came before, and a front of what comes next, is a front of all
 pub AppendsPrefix_after : (a b c : Option (List ℕ)) (x y z text : List ℕ) → text ≡ (x ++ y) ++ z

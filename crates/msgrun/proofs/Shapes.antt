@@ -12,7 +12,7 @@ use Rattle.serde_json.specs.View.{view, items_view, members_view}
 use Rattle.serde_json.specs.declared.value.Value.{Value}
 use Rattle.msgrun.specs.Check.{Check, first_refusal}
 use Rattle.msgrun.specs.Checks.{a_value, batch_checks, call_checks, calls_checks, checks_in, checks_of, checks_with, is_known, limit_checks, list_checks}
-use Rattle.msgrun.specs.Denotes.{call_in, call_of, call_with, file_of}
+use Rattle.msgrun.specs.Denotes.{call_in, call_of, call_with, file_of, values_of}
 use Rattle.msgrun.specs.Json.{list_of, elements, keys, keys_of, all_some, is_number, natural, whole, value_at}
 use Rattle.msgrun.specs.declared.call.Call.{Call}
 use Rattle.msgrun.specs.declared.refusal.Refusal.{Refusal}
@@ -146,7 +146,7 @@ batch_short d xs e all short =
     rw (are, ← e, list_all-map is_number view xs, all, length-map, under) refl
 
 pub batch_denotes : (d : Data) (xs : List Value) (values : List ℤ) → Some (items_view xs) ≡ as_array d
-    → map whole (map view xs) ≡ map (λ v. Some v) values → all_some (map whole (elements d)) ≡ Some values
+    → map whole (map view xs) ≡ map (λ v. Some v) values → values_of d ≡ Some values
 batch_denotes d xs values e are =
     ap (λ ds. all_some (map whole ds)) (elements_are d xs e) ∙ ap all_some are ∙ all_some-map values
 

@@ -1,4 +1,5 @@
--- The text that a calls file prints: a line for each call, over one history and the places of its cursors.
+-- The text that a calls file prints: a line for each call, over one history and the places of its
+-- cursors.
 use Rattle.std.specs.Prelude.{ℕ, ℤ, List, [], ◌∷◌, ◌++◌, length, slice_index, slice_set, Option, Some, None, codes, decimal, if◌then◌else◌}
 use Rattle.std.specs.Fmt.{signed_decimal}
 use Rattle.msg_buffer.specs.History.{History, clear, count, current, empty, get, has_room, oldest, present, update, write}
@@ -54,7 +55,8 @@ value_text (Some value) = signed_decimal value
 
 -- the line of a new cursor at this place
 abbrev pub cursor_line : State → ℕ → Text
-cursor_line s at = codes "cursor " ++ decimal (length s.places) ++ codes " place " ++ decimal at ++ codes "\n"
+cursor_line s at =
+    codes "cursor " ++ decimal (length s.places) ++ codes " place " ++ decimal at ++ codes "\n"
 
 -- ---- the line of a call
 
@@ -66,15 +68,18 @@ line (Read c limit) s =
     codes "read " ++ decimal c ++ codes " missed " ++ decimal (missed s.history (place s c))
     ++ codes ": " ++ items_text (given s.history (place s c) limit) ++ codes "\n"
 line (Missed c) s =
-    codes "missed " ++ decimal c ++ codes " " ++ decimal (missed s.history (place s c)) ++ codes "\n"
+    codes "missed " ++ decimal c ++ codes " " ++ decimal (missed s.history (place s c))
+    ++ codes "\n"
 line (Len c) s =
-    codes "len " ++ decimal c ++ codes " " ++ decimal (length (unread s.history (place s c))) ++ codes "\n"
+    codes "len " ++ decimal c ++ codes " " ++ decimal (length (unread s.history (place s c)))
+    ++ codes "\n"
 line (Clear c) s =
     codes "clear " ++ decimal c ++ codes " missed " ++ decimal (missed s.history (place s c))
     ++ codes " cleared " ++ decimal (length (unread s.history (place s c))) ++ codes "\n"
 line Cursor s = cursor_line s 0
 line CursorCurrent s = cursor_line s (count s.history)
-line (Get n) s = codes "get " ++ decimal n ++ codes " " ++ value_text (get s.history n) ++ codes "\n"
+line (Get n) s =
+    codes "get " ++ decimal n ++ codes " " ++ value_text (get s.history n) ++ codes "\n"
 line Current s = codes "current: " ++ items_text (current s.history) ++ codes "\n"
 line Oldest s = codes "oldest " ++ decimal (oldest s.history) ++ codes "\n"
 line Count s = codes "count " ++ decimal (count s.history) ++ codes "\n"

@@ -53,33 +53,34 @@ room_for_cursor made = needs (nat_lt made 64) TooMany
 abbrev pub no_call : Check
 no_call = needs false Shape
 
--- ---- calls, where so many cursors were made before: the shape of the whole, then the parts from left to right
+-- ---- calls, where so many cursors were made before: the shape of the whole, and then the parts
+-- from left to right
 
 -- a head alone
 abbrev pub bare_checks : ℕ → Text → List Check
 bare_checks made head =
     if bytes_eq head (codes "update") then []
-    else (if bytes_eq head (codes "cursor") then room_for_cursor made ∷ []
-    else (if bytes_eq head (codes "cursor_current") then room_for_cursor made ∷ []
-    else (if bytes_eq head (codes "current") then []
-    else (if bytes_eq head (codes "oldest") then []
-    else (if bytes_eq head (codes "count") then []
-    else (if bytes_eq head (codes "total") then []
-    else (if bytes_eq head (codes "drain") then []
-    else (if bytes_eq head (codes "clear_all") then []
-    else no_call ∷ []))))))))
+    else if bytes_eq head (codes "cursor") then room_for_cursor made ∷ []
+    else if bytes_eq head (codes "cursor_current") then room_for_cursor made ∷ []
+    else if bytes_eq head (codes "current") then []
+    else if bytes_eq head (codes "oldest") then []
+    else if bytes_eq head (codes "count") then []
+    else if bytes_eq head (codes "total") then []
+    else if bytes_eq head (codes "drain") then []
+    else if bytes_eq head (codes "clear_all") then []
+    else no_call ∷ []
 
 -- a head and one part
 abbrev pub checks_with_one : ℕ → Text → Data → List Check
 checks_with_one made head d =
     if bytes_eq head (codes "write") then a_number d ∷ a_value d ∷ []
-    else (if bytes_eq head (codes "batch") then batch_checks d
-    else (if bytes_eq head (codes "read") then a_number d ∷ a_cursor made d ∷ []
-    else (if bytes_eq head (codes "missed") then a_number d ∷ a_cursor made d ∷ []
-    else (if bytes_eq head (codes "len") then a_number d ∷ a_cursor made d ∷ []
-    else (if bytes_eq head (codes "clear") then a_number d ∷ a_cursor made d ∷ []
-    else (if bytes_eq head (codes "get") then a_number d ∷ a_message_number d ∷ []
-    else no_call ∷ []))))))
+    else if bytes_eq head (codes "batch") then batch_checks d
+    else if bytes_eq head (codes "read") then a_number d ∷ a_cursor made d ∷ []
+    else if bytes_eq head (codes "missed") then a_number d ∷ a_cursor made d ∷ []
+    else if bytes_eq head (codes "len") then a_number d ∷ a_cursor made d ∷ []
+    else if bytes_eq head (codes "clear") then a_number d ∷ a_cursor made d ∷ []
+    else if bytes_eq head (codes "get") then a_number d ∷ a_message_number d ∷ []
+    else no_call ∷ []
 
 -- a head and two parts
 abbrev pub checks_with_two : ℕ → Text → Data → Data → List Check

@@ -25,4 +25,5 @@ has_cursor made _ = true
 -- each call works on a cursor that was there before it
 abbrev pub cursors_exist : ℕ → List Call → Bool
 cursors_exist made [] = true
-cursors_exist made (call ∷ calls) = has_cursor made call && cursors_exist (made + made_by call) calls
+cursors_exist made (call ∷ calls) =
+    has_cursor made call && cursors_exist (made + made_by call) calls

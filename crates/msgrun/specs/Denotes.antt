@@ -1,5 +1,5 @@
 -- What a JSON value denotes as a calls file: a line for each head.
-use Rattle.std.specs.Prelude.{List, [], ◌∷◌, map, Option, Some, None, option_map, option_and_then, codes, if◌then◌else◌}
+use Rattle.std.specs.Prelude.{ℤ, List, [], ◌∷◌, map, Option, Some, None, option_map, option_and_then, codes, if◌then◌else◌}
 use Rattle.std.specs.Str.{bytes_eq}
 use Rattle.serde_json.specs.Data.{Data, string, array}
 use Rattle.msgrun.specs.Json.{Text, list_of, elements, value_at, whole, natural, all_some}
@@ -11,27 +11,31 @@ use Rattle.msgrun.specs.declared.call.Call.TheVariants.{Write, Batch, Update, Re
 abbrev pub bare_call : Text → Option Call
 bare_call head =
     if bytes_eq head (codes "update") then Some Update
-    else (if bytes_eq head (codes "cursor") then Some Cursor
-    else (if bytes_eq head (codes "cursor_current") then Some CursorCurrent
-    else (if bytes_eq head (codes "current") then Some Current
-    else (if bytes_eq head (codes "oldest") then Some Oldest
-    else (if bytes_eq head (codes "count") then Some Count
-    else (if bytes_eq head (codes "total") then Some Total
-    else (if bytes_eq head (codes "drain") then Some Drain
-    else (if bytes_eq head (codes "clear_all") then Some ClearAll
-    else None))))))))
+    else if bytes_eq head (codes "cursor") then Some Cursor
+    else if bytes_eq head (codes "cursor_current") then Some CursorCurrent
+    else if bytes_eq head (codes "current") then Some Current
+    else if bytes_eq head (codes "oldest") then Some Oldest
+    else if bytes_eq head (codes "count") then Some Count
+    else if bytes_eq head (codes "total") then Some Total
+    else if bytes_eq head (codes "drain") then Some Drain
+    else if bytes_eq head (codes "clear_all") then Some ClearAll
+    else None
+
+-- the values of a batch
+abbrev pub values_of : Data → Option (List ℤ)
+values_of d = all_some (map whole (elements d))
 
 -- a head and one part
 abbrev pub call_with_one : Text → Data → Option Call
 call_with_one head d =
     if bytes_eq head (codes "write") then option_map (λ v. Write v) (whole d)
-    else (if bytes_eq head (codes "batch") then option_map (λ vs. Batch vs) (all_some (map whole (elements d)))
-    else (if bytes_eq head (codes "read") then option_map (λ c. Read c None) (natural d)
-    else (if bytes_eq head (codes "missed") then option_map (λ c. Missed c) (natural d)
-    else (if bytes_eq head (codes "len") then option_map (λ c. Len c) (natural d)
-    else (if bytes_eq head (codes "clear") then option_map (λ c. Clear c) (natural d)
-    else (if bytes_eq head (codes "get") then option_map (λ n. Get n) (natural d)
-    else None))))))
+    else if bytes_eq head (codes "batch") then option_map (λ vs. Batch vs) (values_of d)
+    else if bytes_eq head (codes "read") then option_map (λ c. Read c None) (natural d)
+    else if bytes_eq head (codes "missed") then option_map (λ c. Missed c) (natural d)
+    else if bytes_eq head (codes "len") then option_map (λ c. Len c) (natural d)
+    else if bytes_eq head (codes "clear") then option_map (λ c. Clear c) (natural d)
+    else if bytes_eq head (codes "get") then option_map (λ n. Get n) (natural d)
+    else None
 
 -- a head and two parts
 abbrev pub call_with_two : Text → Data → Data → Option Call

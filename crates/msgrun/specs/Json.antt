@@ -17,6 +17,7 @@ list_of (item d ds) = d ∷ list_of ds
 abbrev pub elements : Data → List Data
 elements d = unwrap_or (option_map list_of (as_array d)) []
 
+-- the keys in order
 abbrev pub keys_of : Members → List Text
 keys_of no_members = []
 keys_of (member key d ms) = key ∷ keys_of ms
@@ -42,10 +43,12 @@ is_number d = is_some (as_number d)
 abbrev pub whole : Data → Option ℤ
 whole d = option_and_then as_i64 (as_number d)
 
+-- a whole number that isn't negative
 abbrev pub natural_of : ℤ → Option ℕ
 natural_of (pos n) = Some n
 natural_of (negsuc n) = None
 
+-- a number, where it is below an end
 abbrev pub only_below : ℕ → ℕ → Option ℕ
 only_below end n = if nat_lt n end then Some n else None
 

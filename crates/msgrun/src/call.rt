@@ -1,6 +1,7 @@
 use crate::values::Values;
 
-/// One call on a buffer of `i64` and its cursors. A cursor is named by its number, from 0 in the order of their making.
+/// One call on a buffer of `i64` and its cursors. A cursor is named by its number, from 0 on in the
+/// order of their making.
 #[derive(Debug, Drop)]
 pub enum Call {
     Write(i64),

@@ -12,7 +12,8 @@ mod text;
 pub use read::read_calls;
 pub use run::run_calls;
 
-/// A buffer's limit, and the calls to be made on it. Each call's cursor is made by the calls before it; cursor 0 is there from the beginning.
+/// A buffer's limit, and the calls to be made on it. The cursor of each call is made by the calls
+/// before it; cursor 0 is there from the beginning.
 #[derive(Debug, Drop)]
 pub struct Calls {
     limit: u32,

@@ -4,7 +4,8 @@ ghost use Rattle.std.specs.Prelude.{None};
 use crate::memory_sink::MemorySink;
 use crate::sink::{PutFault, Sink};
 
-/// Takes at most so many bytes at each put and so many in all, and then fails, by an error or by taking 0.
+/// Takes at most so many bytes at each put and so many in all, and then fails, by an error or by
+/// taking 0.
 #[derive(Drop)]
 pub struct Narrow {
     pub taken: MemorySink,

@@ -8,7 +8,8 @@ use thiserror::Error;
 /// How many bytes an input may have.
 pub const MAX_BYTES: usize = 4_194_304;
 
-/// How many reads are made. Each but the last gives a byte, so that an input within the limit never meets this one.
+/// How many reads are made. Each but the last gives a byte, so that an input within the limit of
+/// bytes never meets this one.
 pub const MAX_READS: u32 = 8_000_000;
 
 /// Why an input wasn't read.

@@ -56,7 +56,7 @@ fn words_given<R: AllocGlobal + Env>(rt: &R) -> Result<Vec<String>, WordFault> {
     }
 }
 
-/// The answers to a calls file, or where none is named to that of standard input, on standard output.
+/// Answers a calls file, or where none is named that of standard input, on standard output.
 fn answer_calls<R: AllocGlobal + Files + Input + Print>(
     rt: &R,
     file: Option<String>,

@@ -55,9 +55,11 @@ impl Sink for MemorySink {
 
     fn put(&mut self, piece: &[u8]) -> Result<usize, PutFault>
         ensures bound { IfOk result (λ n. n ≤ length piece.now) }
-        ensures bytes { WriteAppends (Some self.old.contents) (Some self.new.contents) result piece.now }
+        ensures bytes { WriteAppends (Some self.old.contents) (Some self.new.contents)
+            result piece.now }
         ensures counts { self.new.failures ≡ failures_after self.old.failures result piece.now }
-        ensures takes { length self.old.contents < ROOM → result ≡ Ok (min (length piece.now) (ROOM - length self.old.contents)) }
+        ensures takes { length self.old.contents < ROOM
+            → result ≡ Ok (min (length piece.now) (ROOM - length self.old.contents)) }
     {
         if piece.is_empty() {
             return Ok(0);

@@ -24,7 +24,8 @@ pub trait Sink {
 pub fn put_all<S: Sink>(sink: &mut S, piece: &[u8]) -> Result<(), PutFault>
     ensures ok { OnOk result (Appends (S.contents sink.old) (S.contents sink.new) piece.now) }
     ensures quiet { OnOk result (S.failures sink.new ≡ S.failures sink.old) }
-    ensures prefix { OnErr result (AppendsPrefix (S.contents sink.old) (S.contents sink.new) piece.now) }
+    ensures prefix { OnErr result
+        (AppendsPrefix (S.contents sink.old) (S.contents sink.new) piece.now) }
     ensures failed { OnErr result (S.failures sink.new ≡ one_more (S.failures sink.old)) }
 {
     let mut done = 0usize;

@@ -73,7 +73,8 @@ pub fn answer(
 
 /// A line of a head and a number.
 fn add_count(text: &mut Vec<u8>, head: &[u8], number: u64) -> Result<(), NoMemory>
-    ensures { OnOk result (text.new.items ≡ text.old.items ++ (head.now ++ decimal number ++ codes "\n")) }
+    ensures { OnOk result (text.new.items ≡ text.old.items
+        ++ (head.now ++ decimal number ++ codes "\n")) }
 {
     text.extend_from_slice(head)?;
     add_number(text, number)?;
@@ -82,8 +83,8 @@ fn add_count(text: &mut Vec<u8>, head: &[u8], number: u64) -> Result<(), NoMemor
 
 /// A line of a head, a cursor and a number.
 fn add_cursor(text: &mut Vec<u8>, head: &[u8], cursor: u32, number: u64) -> Result<(), NoMemory>
-    ensures { OnOk result (text.new.items
-        ≡ text.old.items ++ (head.now ++ decimal cursor ++ codes " " ++ decimal number ++ codes "\n")) }
+    ensures { OnOk result (text.new.items ≡ text.old.items
+        ++ (head.now ++ decimal cursor ++ codes " " ++ decimal number ++ codes "\n")) }
 {
     text.extend_from_slice(head)?;
     add_number(text, u64::from(cursor))?;
@@ -94,7 +95,8 @@ fn add_cursor(text: &mut Vec<u8>, head: &[u8], cursor: u32, number: u64) -> Resu
 
 /// A line of a head and items.
 fn add_list(text: &mut Vec<u8>, head: &[u8], items: &[Instance<i64>]) -> Result<(), NoMemory>
-    ensures { OnOk result (text.new.items ≡ text.old.items ++ (head.now ++ items_text items.now ++ codes "\n")) }
+    ensures { OnOk result (text.new.items ≡ text.old.items
+        ++ (head.now ++ items_text items.now ++ codes "\n")) }
 {
     text.extend_from_slice(head)?;
     add_items(text, items)?;
@@ -103,8 +105,8 @@ fn add_list(text: &mut Vec<u8>, head: &[u8], items: &[Instance<i64>]) -> Result<
 
 /// A line of a write that gave these numbers.
 fn add_written(text: &mut Vec<u8>, head: &[u8], first: u64, number: u64) -> Result<(), NoMemory>
-    ensures { OnOk result (text.new.items
-        ≡ text.old.items ++ (head.now ++ (decimal first ++ codes "+" ++ decimal number) ++ codes "\n")) }
+    ensures { OnOk result (text.new.items ≡ text.old.items
+        ++ (head.now ++ (decimal first ++ codes "+" ++ decimal number) ++ codes "\n")) }
 {
     text.extend_from_slice(head)?;
     add_number(text, first)?;
@@ -148,8 +150,9 @@ fn write_batch(
 
 fn get(number: u64, messages: &Messages<i64>, text: &mut Vec<u8>) -> Result<(), NoMemory>
     ensures { OnOk result ((h : History ℤ) → StandsFor messages.now h
-        → text.new.items
-        ≡ text.old.items ++ (codes "get " ++ decimal number ++ codes " " ++ value_text (get h number) ++ codes "\n")) }
+        → text.new.items ≡ text.old.items
+        ++ (codes "get " ++ decimal number ++ codes " " ++ value_text (get h number)
+        ++ codes "\n")) }
 {
     text.extend_from_slice(b"get ")?;
     add_number(text, number)?;

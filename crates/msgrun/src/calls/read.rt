@@ -21,7 +21,8 @@ pub fn read_calls(alloc: Global, bytes: &[u8]) -> Result<Calls, Refusal>
     ensures ok { IfOk result (λ file. (d : Data) × IsJsonOf bytes.now d
         × (first_refusal (checks_of d) ≡ None) × (file_of d ≡ Some file)) }
     ensures not_json { result ≡ Err Refusal.NotJson → IsUtf8 bytes.now → read bytes.now ≡ None }
-    ensures refused { IfErr result (λ refusal. refusal ≢ Refusal.NotJson → refusal ≢ Refusal.NoMemory
+    ensures refused { IfErr result (λ refusal.
+        refusal ≢ Refusal.NotJson → refusal ≢ Refusal.NoMemory
         → (d : Data) × IsJsonOf bytes.now d × (first_refusal (checks_of d) ≡ Some refusal)) }
 {
     match Value::from_slice(alloc, bytes) {

@@ -16,13 +16,15 @@ use std::alloc::Global;
 
 /// Makes the calls of a file on a new buffer, and puts the line of each into the sink.
 pub fn run_calls<S: Sink>(alloc: Global, calls: &Calls, sink: &mut S) -> Result<(), ReportFault>
-    ensures ok { OnOk result (Appends (S.contents sink.old) (S.contents sink.new) (calls_text calls.now)) }
+    ensures ok { OnOk result
+        (Appends (S.contents sink.old) (S.contents sink.new) (calls_text calls.now)) }
     ensures quiet { OnOk result (S.failures sink.new ≡ S.failures sink.old) }
     ensures prefix { OnErr result
         (AppendsPrefix (S.contents sink.old) (S.contents sink.new) (calls_text calls.now)) }
 
     // The sink failed where the fault is `Write`, and not where it is `NoMemory`.
-    ensures write { result ≡ Err ReportFault.Write → S.failures sink.new ≡ one_more (S.failures sink.old) }
+    ensures write { result ≡ Err ReportFault.Write
+        → S.failures sink.new ≡ one_more (S.failures sink.old) }
     ensures memory { result ≡ Err ReportFault.NoMemory → S.failures sink.new ≡ S.failures sink.old }
 {
     let mut messages = Messages::new(alloc, u64::from(calls.limit()));
@@ -54,7 +56,8 @@ fn run_call<S: Sink>(
     ensures quiet { OnOk result (S.failures sink.new ≡ S.failures sink.old) }
     ensures prefix { OnErr result ((s : State) → AreIn messages.old cursors.old.items s
         → AppendsPrefix (S.contents sink.old) (S.contents sink.new) (line call.now s)) }
-    ensures write { result ≡ Err ReportFault.Write → S.failures sink.new ≡ one_more (S.failures sink.old) }
+    ensures write { result ≡ Err ReportFault.Write
+        → S.failures sink.new ≡ one_more (S.failures sink.old) }
     ensures memory { result ≡ Err ReportFault.NoMemory → S.failures sink.new ≡ S.failures sink.old }
 {
     text.clear();

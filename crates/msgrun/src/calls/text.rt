@@ -21,7 +21,8 @@ pub fn add_value(text: &mut Vec<u8>, value: i64) -> Result<(), NoMemory>
 
 /// A message's value, or `none`.
 pub fn add_found(text: &mut Vec<u8>, value: Option<&i64>) -> Result<(), NoMemory>
-    ensures { OnOk result (text.new.items ≡ text.old.items ++ value_text (option_copied value.entry)) }
+    ensures { OnOk result
+        (text.new.items ≡ text.old.items ++ value_text (option_copied value.entry)) }
 {
     match value {
         Some(value) => add_value(text, *value),

@@ -9,7 +9,7 @@ use std::alloc::Global;
 use std::process::Abort;
 use std::test::Fail;
 
-/// The fault prints this line and gives this status, which a sink that fails at once doesn't change.
+/// The fault prints this line and gives this status, which a sink that fails doesn't change.
 fn expect_line(rt: &impl Abort, fault: MainFault, line: &str, status: u8) {
     let mut sink = MemorySink::new();
     assert_eq!(rt; print_fault(&fault, &mut sink), status);

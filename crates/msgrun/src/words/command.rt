@@ -1,9 +1,9 @@
 // The command line, as `clap` is told of it.
-ghost use Rattle.std.specs.Prelude.{◌≡◌, ◌∷◌, [], IfOk, IfErr, false, true, map, string_bytes};
+ghost use Rattle.std.specs.Prelude.{◌≡◌, [], IfOk, IfErr, OnOk, false, true};
 ghost use Rattle.clap.specs.Words.{app_of, rule_of, fault_of, takes, subcommand_of, subcommand_rows_of, kind_of};
 ghost use Rattle.clap.specs.declared.Command.{out-Command as fields_of};
 ghost use Rattle.clap.specs.declared.error.ErrorKind.TheVariants.{OutOfMemory};
-ghost use Rattle.msgrun.specs.CommandLine.{file_rule, buffer_app, msgrun_app};
+ghost use Rattle.msgrun.specs.CommandLine.{file_rule, buffer_app, msgrun_app, texts_of};
 
 use crate::words::WordFault;
 use clap::error::ErrorKind;
@@ -54,9 +54,10 @@ fn fault(alloc: Global, error: clap::Error) -> WordFault
 
 /// What `clap` reads of the words.
 pub(crate) fn matches<'a>(alloc: Global, words: &'a [String]) -> Result<ArgMatches<'a>, WordFault>
-    ensures rows { IfOk result (λ m. subcommand_rows_of m ≡ subcommand_of msgrun_app (map string_bytes words.entry.now)) }
-    ensures accepted { IfOk result (λ m. fault_of msgrun_app (map string_bytes words.entry.now) ≡ []) }
-    ensures refused { IfErr result (λ e. takes msgrun_app (map string_bytes words.entry.now) ≡ true
+    ensures rows { IfOk result (λ m.
+        subcommand_rows_of m ≡ subcommand_of msgrun_app (texts_of words.entry.now)) }
+    ensures accepted { OnOk result (fault_of msgrun_app (texts_of words.entry.now) ≡ []) }
+    ensures refused { IfErr result (λ e. takes msgrun_app (texts_of words.entry.now) ≡ true
         → e ≡ WordFault.NoMemory) }
 {
     let Ok(command) = command(alloc) else {

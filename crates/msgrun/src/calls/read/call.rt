@@ -4,8 +4,8 @@ ghost use Rattle.std.specs.List.{list_all};
 ghost use Rattle.serde_json.specs.View.{view};
 ghost use Rattle.msgrun.specs.Check.{first_refusal};
 ghost use Rattle.msgrun.specs.Checks.{a_value, bare_checks, batch_checks, call_checks, checks_with, checks_with_one, checks_with_two};
-ghost use Rattle.msgrun.specs.Denotes.{bare_call, call_of, call_with, call_with_one, call_with_two};
-ghost use Rattle.msgrun.specs.Json.{all_some, elements, is_number, whole};
+ghost use Rattle.msgrun.specs.Denotes.{bare_call, call_of, call_with, call_with_one, call_with_two, values_of};
+ghost use Rattle.msgrun.specs.Json.{is_number, whole};
 ghost use Rattle.msgrun.specs.Walk.{Agrees, FitsCursors};
 
 use crate::call::Call;
@@ -85,7 +85,8 @@ fn room_for_cursor(made: u32) -> Result<(), Refusal>
 }
 
 fn read_with_one(alloc: Global, made: u32, head: &str, part: &Value) -> Result<Call, Refusal>
-    ensures is { Agrees (checks_with_one made head.now (view part.now)) (call_with_one head.now (view part.now)) result }
+    ensures is { Agrees (checks_with_one made head.now (view part.now))
+        (call_with_one head.now (view part.now)) result }
     ensures fits { IfOk result (FitsCursors made) }
 {
     match head {
@@ -114,7 +115,8 @@ fn read_with_two(made: u32, head: &str, part: &Value, other: &Value) -> Result<C
 
 /// The values of a batch.
 fn read_values(alloc: Global, part: &Value) -> Result<Values, Refusal>
-    ensures { Agrees (batch_checks (view part.now)) (all_some (map whole (elements (view part.now)))) result }
+    ensures { Agrees (batch_checks (view part.now))
+        (values_of (view part.now)) result }
 {
     let Some(items) = part.as_array() else {
         return Err(Refusal::Shape);

@@ -33,7 +33,8 @@ fn whole_number(n: &Number) -> Result<i64, Refusal>
 
 /// A number from 0 on.
 fn natural_number(n: &Number) -> Result<u64, Refusal>
-    ensures { MatchResult result (λ k. option_and_then natural_of (as_i64 (number_view n.now)) ≡ Some k)
+    ensures { MatchResult result
+        (λ k. option_and_then natural_of (as_i64 (number_view n.now)) ≡ Some k)
         (λ e. (e ≡ Refusal.BadNumber)
         × (option_and_then natural_of (as_i64 (number_view n.now)) ≡ None)) }
 {
@@ -47,7 +48,8 @@ fn natural_number(n: &Number) -> Result<u64, Refusal>
 /// A number from 0 to below an end.
 fn small_number(n: &Number, end: u32) -> Result<u32, Refusal>
     ensures small { IfOk result (λ k. k < end) }
-    ensures is { MatchResult result (λ k. option_and_then natural_of (as_i64 (number_view n.now)) ≡ Some k)
+    ensures is { MatchResult result
+        (λ k. option_and_then natural_of (as_i64 (number_view n.now)) ≡ Some k)
         (λ e. (e ≡ Refusal.BadNumber)
         × (option_and_then (only_below end)
         (option_and_then natural_of (as_i64 (number_view n.now))) ≡ None)) }
@@ -61,7 +63,8 @@ fn small_number(n: &Number, end: u32) -> Result<u32, Refusal>
 
 /// A value of a message.
 pub fn value(part: &Value) -> Result<i64, Refusal>
-    ensures { Agrees (a_number (view part.now) ∷ a_value (view part.now) ∷ []) (whole (view part.now)) result }
+    ensures { Agrees (a_number (view part.now) ∷ a_value (view part.now) ∷ [])
+        (whole (view part.now)) result }
 {
     whole_number(number(part)?)
 }
@@ -69,14 +72,16 @@ pub fn value(part: &Value) -> Result<i64, Refusal>
 /// The number of a cursor that was made.
 pub fn cursor(made: u32, part: &Value) -> Result<u32, Refusal>
     ensures small { IfOk result (λ c. c < made) }
-    ensures is { Agrees (a_number (view part.now) ∷ a_cursor made (view part.now) ∷ []) (natural (view part.now)) result }
+    ensures is { Agrees (a_number (view part.now) ∷ a_cursor made (view part.now) ∷ [])
+        (natural (view part.now)) result }
 {
     small_number(number(part)?, made)
 }
 
 /// The number of a message.
 pub fn message_number(part: &Value) -> Result<u64, Refusal>
-    ensures { Agrees (a_number (view part.now) ∷ a_message_number (view part.now) ∷ []) (natural (view part.now)) result }
+    ensures { Agrees (a_number (view part.now) ∷ a_message_number (view part.now) ∷ [])
+        (natural (view part.now)) result }
 {
     natural_number(number(part)?)
 }

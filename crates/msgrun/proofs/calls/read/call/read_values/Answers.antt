@@ -2,7 +2,7 @@ use Rattle.std.proofs.Common.{◌∙◌, ap, sym, Some, Err, map}
 use Rattle.std.proofs.lemmas.Result.{err_from_is_err_and}
 use Rattle.serde_json.specs.View.{view, items_view}
 use Rattle.msgrun.specs.Checks.{batch_checks}
-use Rattle.msgrun.specs.Json.{all_some, elements, whole}
+use Rattle.msgrun.specs.Denotes.{values_of}
 use Rattle.msgrun.proofs.Shapes.{batch_no_numbers, batch_long, batch_short, batch_denotes, Agrees_err}
 use Rattle.msgrun.proofs.calls.read.call.read_values.Goals as goal
 
@@ -23,7 +23,7 @@ returns-in_err-whole_numbers c =
     let refused = c.in_err-whole_numbers.ensures.refused in
     let d = view c.args.part.now in
     let short = batch_short d c.as_slice-items.result.now list (sym c.if-not-are_numbers.ensures) c.if-items-gt-MAX_VALUES.false in
-    Agrees_err (batch_checks d) (all_some (map whole (elements d))) c.in_err-whole_numbers.field-0.0 c.from_residual.result (passed.1 ∙ ap (λ e. Err e) passed.2) (refused.0, λ m. short ∙ refused.1 m)
+    Agrees_err (batch_checks d) (values_of d) c.in_err-whole_numbers.field-0.0 c.from_residual.result (passed.1 ∙ ap (λ e. Err e) passed.2) (refused.0, λ m. short ∙ refused.1 m)
 
 pub returns : goal.returns
 returns c =
