@@ -1,10 +1,8 @@
 -- What the getters of clap's matches say, in rows, and what holds of the whole command.
-use Rattle.std.proofs.Common.{◌≡◌, Some, None, refl, sym, ◌∙◌, true}
-use Rattle.clap.specs.Words.{Text, first_of, first_value, found_of, rows_of, is_simple, is_simple_and_free}
-use Rattle.clap.proofs.OnLiterals.{clap_on_literals}
+use Rattle.std.proofs.Common.{◌≡◌, Some, None, sym, ◌∙◌}
+use Rattle.clap.specs.Words.{Text, first_of, first_value, found_of, rows_of}
 use Rattle.clap.specs.declared.ArgMatches.{ArgMatches}
 use Rattle.clap.proofs.WalkLemmas.{first_value-rows}
-use Rattle.msgrun.specs.CommandLine.{msgrun_app}
 
 -- a value that a getter finds is the row's
 pub first_value_rows : (m : ArgMatches) (id : Text) (t : Text) → Some t ≡ first_value (found_of m) id
@@ -15,12 +13,3 @@ first_value_rows m id t e = sym (first_value-rows (found_of m) id) ∙ sym e
 pub no_value_rows : (m : ArgMatches) (id : Text) → None ≡ first_value (found_of m) id
     → first_of id (rows_of (found_of m)) ≡ None
 no_value_rows m id e = sym (first_value-rows (found_of m) id) ∙ sym e
-
--- clap's clauses speak of the command
-pub msgrun_is_simple : is_simple msgrun_app ≡ true
-unfolding clap_on_literals
-msgrun_is_simple = refl
-
-pub msgrun_is_free : is_simple_and_free msgrun_app ≡ true
-unfolding clap_on_literals
-msgrun_is_free = refl

@@ -1,13 +1,13 @@
 -- The calls of a file, one after another.
-use Rattle.std.proofs.Common.{◌≡◌, ℕ, ◌+◌, ◌<◌, ◌≤◌, List, [], ◌++◌, length, get_or, drop, refl, ap, ◌∙◌, sym, append_assoc, append-nil, Option, Some, None, Bool, true, false, arith, subst}
+use Rattle.std.proofs.Common.{◌≡◌, ℕ, ◌+◌, ◌<◌, List, [], ◌++◌, length, get_or, drop, refl, ap, ◌∙◌, sym, append_assoc, append-nil, Option, Some, None, Bool, true, false, arith}
 use Rattle.std.specs.Prelude.{ℤ, ◌&&◌}
-use Rattle.std.proofs.lemmas.List.{drop_more, drop_all}
+use Rattle.std.proofs.lemmas.List.{drop_more}
 use Rattle.std.proofs.lemmas.Grind.{common_steps}
 use Rattle.std.specs.Io.KnownBytes.{Appends}
 use Rattle.std.proofs.KnownBytes.{Appends-trans}
 use Rattle.msg_buffer.specs.Kept.{Kept}
 use Rattle.msgrun.specs.CallsText.{State, after, line, text_of}
-use Rattle.msgrun.specs.Cursors.{cursors_exist, has_cursor, made_by}
+use Rattle.msgrun.specs.Cursors.{cursors_exist, made_by}
 use Rattle.msgrun.specs.Running.{AreIn}
 use Rattle.msgrun.specs.Sinks.{AppendsPrefix}
 use Rattle.msgrun.specs.declared.call.Call.{Call}
@@ -15,7 +15,8 @@ use Rattle.msgrun.specs.declared.call.Call.TheVariants.{Write, Batch, Update, Re
 use Rattle.msgrun.proofs.Puts.{AppendsPrefix_after}
 
 -- a call makes as many places as it makes cursors
-pub length-places_after : (call : Call) (s : State) → length (after call s).places ≡ length s.places + made_by call
+pub length-places_after : (call : Call) (s : State)
+    → length (after call s).places ≡ length s.places + made_by call
 length-places_after (Write value) s = omega arith
 length-places_after (Batch values) s = omega arith
 length-places_after Update s = omega arith
@@ -42,11 +43,9 @@ pub Appends_none : (known : Option (List ℕ)) → Appends known known []
 Appends_none None = tt
 Appends_none (Some xs) = sym (append-nil xs)
 
-pub AppendsPrefix_none : (known : Option (List ℕ)) (text : List ℕ) → AppendsPrefix known known text
-AppendsPrefix_none known text = ([], text, refl, Appends_none known)
-
 -- what was printed, and what the calls that are left print, is all of it
-pub record OnTheWay (before now : Option (List ℕ)) (messages : Kept ℤ) (cursors : List ℕ) (rest : List Call) (all : List ℕ) : Type 0 where
+pub record OnTheWay (before now : Option (List ℕ)) (messages : Kept ℤ) (cursors : List ℕ)
+    (rest : List Call) (all : List ℕ) : Type 0 where
   pub state : State
   pub printed : List ℕ
   pub are_in : AreIn messages cursors state
@@ -54,15 +53,9 @@ pub record OnTheWay (before now : Option (List ℕ)) (messages : Kept ℤ) (curs
   pub whole : printed ++ text_of rest state ≡ all
   pub exist : cursors_exist (length cursors) rest ≡ true
 
--- the next call's cursor exists
-pub next_has_cursor : (before now : Option (List ℕ)) (m : Kept ℤ) (cs : List ℕ) (calls : List Call) (i : ℕ) (d : Call) (all : List ℕ)
-    → OnTheWay before now m cs (drop i calls) all → i < length calls
-    → has_cursor (length cs) (get_or calls i d) ≡ true
-next_has_cursor before now m cs calls i d all way lt =
-    (both _ _ (ap (cursors_exist (length cs)) (sym (drop_more calls i d lt)) ∙ way.exist)).0
-
 -- one call more
-pub OnTheWay_more : (before now now' : Option (List ℕ)) (m m' : Kept ℤ) (cs cs' : List ℕ) (calls : List Call) (i : ℕ) (d : Call) (all : List ℕ)
+pub OnTheWay_more : (before now now' : Option (List ℕ)) (m m' : Kept ℤ) (cs cs' : List ℕ)
+    (calls : List Call) (i : ℕ) (d : Call) (all : List ℕ)
     → OnTheWay before now m cs (drop i calls) all → i < length calls
     → ((s : State) → AreIn m cs s → AreIn m' cs' (after (get_or calls i d) s))
     → ((s : State) → AreIn m cs s → Appends now now' (line (get_or calls i d) s))
@@ -72,7 +65,8 @@ OnTheWay_more before now now' m m' cs cs' calls i d all way lt state prints =
     let s = way.state in
     let are' = state s way.are_in in
     let made : length cs' ≡ length cs + made_by call =
-    ap length are'.places ∙ length-places_after call s ∙ ap (λ l. length l + made_by call) (sym way.are_in.places) in
+    ap length are'.places ∙ length-places_after call s
+    ∙ ap (λ l. length l + made_by call) (sym way.are_in.places) in
     let rest = drop (i + 1) calls in record {
       state = after call s;
       printed = way.printed ++ line call s;
@@ -85,7 +79,8 @@ OnTheWay_more before now now' m m' cs cs' calls i d all way lt state prints =
     }
 
 -- a call that fails leaves a front of the whole text
-pub OnTheWay_fails : (before now now' : Option (List ℕ)) (m : Kept ℤ) (cs : List ℕ) (calls : List Call) (i : ℕ) (d : Call) (all : List ℕ)
+pub OnTheWay_fails : (before now now' : Option (List ℕ)) (m : Kept ℤ) (cs : List ℕ)
+    (calls : List Call) (i : ℕ) (d : Call) (all : List ℕ)
     → OnTheWay before now m cs (drop i calls) all → i < length calls
     → ((s : State) → AreIn m cs s → AppendsPrefix now now' (line (get_or calls i d) s))
     → AppendsPrefix before now' all
@@ -96,12 +91,5 @@ OnTheWay_fails before now now' m cs calls i d all way lt prints =
     let parts : all ≡ (way.printed ++ line call s) ++ rest =
     sym way.whole ∙ ap (λ cs. way.printed ++ text_of cs s) (drop_more calls i d lt)
     ∙ sym (append_assoc way.printed (line call s) rest) in
-    AppendsPrefix_after before now now' way.printed (line call s) rest all parts way.taken (prints s way.are_in)
-
--- after the last call all is printed
-pub OnTheWay_end : (before now : Option (List ℕ)) (m : Kept ℤ) (cs : List ℕ) (calls : List Call) (i : ℕ) (all : List ℕ)
-    → OnTheWay before now m cs (drop i calls) all → length calls ≤ i → Appends before now all
-OnTheWay_end before now m cs calls i all way le =
-    subst (Appends before now)
-    (sym (append-nil way.printed) ∙ ap (λ cs. way.printed ++ text_of cs way.state) (sym (drop_all i calls le)) ∙ way.whole)
-    way.taken
+    AppendsPrefix_after before now now' way.printed (line call s) rest all
+    parts way.taken (prints s way.are_in)

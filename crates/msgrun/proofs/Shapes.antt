@@ -61,15 +61,6 @@ string_is (string t) s e = cc
 string_is (array es) s e = cc
 string_is (object ms) s e = cc
 
--- no list is no call
-pub call_no_list : (made : ℕ) (d : Data) → None ≡ as_array d → first_refusal (call_checks made d) ≡ Some Shape
-call_no_list made null e = refl
-call_no_list made (boolean b) e = refl
-call_no_list made (number n) e = refl
-call_no_list made (string s) e = refl
-call_no_list made (array es) e = cc
-call_no_list made (object ms) e = refl
-
 -- a list is seen by its elements
 pub call_list : (made : ℕ) (d : Data) (xs : List Value) → Some (items_view xs) ≡ as_array d
     → call_checks made d ≡ checks_in made (map view xs)
@@ -80,21 +71,6 @@ pub call_list_denotes : (d : Data) (xs : List Value) → Some (items_view xs) �
     → call_of d ≡ call_in (map view xs)
 call_list_denotes d xs e =
     ap call_of (array_is d (items_view xs) e) ∙ ap call_in (list_of-items_of (map view xs))
-
--- a first element that is no text is no head
-no_head : (made : ℕ) (d : Data) (ds : List Data) → None ≡ as_str d
-    → first_refusal (checks_in made (d ∷ ds)) ≡ Some Shape
-no_head made null ds e = refl
-no_head made (boolean b) ds e = refl
-no_head made (number n) ds e = refl
-no_head made (string s) ds e = cc
-no_head made (array es) ds e = refl
-no_head made (object ms) ds e = refl
-
-pub call_no_head : (made : ℕ) (xs : List Value) (v : Value) → 1 ≤ length xs → v ≡ get_or xs 0 v → None ≡ as_str (view v)
-    → first_refusal (checks_in made (map view xs)) ≡ Some Shape
-call_no_head made [] v lt is none = absurd (omega (arith, lt))
-call_no_head made (x ∷ xs) v lt is none = no_head made (view x) (map view xs) (none ∙ ap (λ y. as_str (view y)) is)
 
 -- a text at the head, and the rest
 pub call_head : (made : ℕ) (xs : List Value) (v : Value) (head : List ℕ) → 1 ≤ length xs → v ≡ get_or xs 0 v
@@ -112,14 +88,6 @@ call_head_denotes [] v head lt is text = absurd (omega (arith, lt))
 call_head_denotes (x ∷ xs) v head lt is text =
     ap (λ d. call_in (d ∷ map view xs)) (string_is (view x) head (text ∙ ap (λ y. as_str (view y)) is))
     ∙ ap (λ ps. call_with head (map view ps)) (sym (range_to_end 1 (x ∷ xs)))
-
--- three parts and more are no call
-pub call_many : (made : ℕ) (head : List ℕ) (ps : List Value) → 3 ≤ length ps
-    → first_refusal (checks_with made head (map view ps)) ≡ Some Shape
-call_many made head [] le = absurd (omega (arith, le))
-call_many made head (p ∷ []) le = absurd (omega (arith, le))
-call_many made head (p ∷ q ∷ []) le = absurd (omega (arith, le))
-call_many made head (p ∷ q ∷ r ∷ ps) le = refl
 
 -- ---- a batch
 

@@ -1,5 +1,5 @@
 -- One step of a walk over a list of JSON values.
-use Rattle.std.proofs.Common.{◌≡◌, ℕ, ◌+◌, ◌≤◌, ◌<◌, List, [], ◌∷◌, ◌++◌, length, get_or, drop, refl, sym, ap, ◌∙◌, append_assoc, append-nil, arith, Some, None, Bool, true, false, map, string_bytes, String}
+use Rattle.std.proofs.Common.{◌≡◌, ℕ, ◌+◌, ◌≤◌, ◌<◌, List, [], ◌∷◌, ◌++◌, length, get_or, drop, refl, sym, ap, ◌∙◌, append_assoc, append-nil, Some, None, Bool, true, false, map, string_bytes, String}
 use Rattle.std.proofs.lemmas.List.{map-append, drop_more, drop_all}
 use Rattle.std.specs.List.{list_all}
 use Rattle.std.specs.Prelude.{ℤ, ◌&&◌, if◌then◌else◌}
@@ -14,19 +14,21 @@ use Rattle.msgrun.specs.Denotes.{call_of}
 use Rattle.msgrun.specs.Json.{list_of, keys_of, all_some, whole}
 use Rattle.msgrun.specs.declared.call.Call.{Call}
 use Rattle.msgrun.specs.declared.refusal.Refusal.{Refusal}
-use Rattle.msgrun.specs.declared.refusal.Refusal.TheVariants.{BadNumber}
 
 -- ---- lists in serde_json's form, and in ours
 
+-- serde_json's items are the list that they were made of
 pub list_of-items_of : (ds : List Data) → list_of (items_of ds) ≡ ds
 list_of-items_of [] = refl
 list_of-items_of (d ∷ ds) = ap (λ l. d ∷ l) (list_of-items_of ds)
 
+-- a test of each key
 pub list_all-keys : (p : List ℕ → Bool) (ms : List (String Global × Value))
     → list_all p (keys_of (members_view ms)) ≡ list_all (λ m. p (string_bytes m.0)) ms
 list_all-keys p [] = refl
 list_all-keys p (m ∷ ms) = ap (λ b. p (string_bytes m.0) && b) (list_all-keys p ms)
 
+-- where each has a value, all have
 pub all_some-map : {A : Type 0} (xs : List A) → all_some (map (λ x. Some x) xs) ≡ Some xs
 all_some-map [] = refl
 all_some-map (x ∷ xs) = rw (all_some-map xs) refl
@@ -38,7 +40,9 @@ pub first_refusal-passed : (cs ds : List Check) → first_refusal cs ≡ None
     → first_refusal (cs ++ ds) ≡ first_refusal ds
 first_refusal-passed [] ds h = refl
 first_refusal-passed (c ∷ cs) ds h =
-    elim c.passes as (λ b. (if b then first_refusal cs else Some c.refusal) ≡ None → (if b then first_refusal (cs ++ ds) else Some c.refusal) ≡ first_refusal ds) [
+    elim c.passes as (λ b.
+    (if b then first_refusal cs else Some c.refusal) ≡ None
+    → (if b then first_refusal (cs ++ ds) else Some c.refusal) ≡ first_refusal ds) [
       | true ↦ λ h. first_refusal-passed cs ds h
       | false ↦ λ h. cc
     ] h
@@ -48,7 +52,9 @@ pub first_refusal-stands : (cs ds : List Check) (r : Refusal) → first_refusal 
     → first_refusal (cs ++ ds) ≡ Some r
 first_refusal-stands [] ds r h = cc
 first_refusal-stands (c ∷ cs) ds r h =
-    elim c.passes as (λ b. (if b then first_refusal cs else Some c.refusal) ≡ Some r → (if b then first_refusal (cs ++ ds) else Some c.refusal) ≡ Some r) [
+    elim c.passes as (λ b.
+    (if b then first_refusal cs else Some c.refusal) ≡ Some r
+    → (if b then first_refusal (cs ++ ds) else Some c.refusal) ≡ Some r) [
       | true ↦ λ h. first_refusal-stands cs ds r h
       | false ↦ λ h. h
     ] h
@@ -57,49 +63,21 @@ first_refusal-stands (c ∷ cs) ds r h =
 
 -- the values so far passed their checks, and those from i on are left
 pub record ValuesLeft (items : List Value) (i : ℕ) (values : List ℤ) : Type 0 where
-  pub passed : first_refusal (map a_value (map view items)) ≡ first_refusal (map a_value (map view (drop i items)))
-  pub denoted : map whole (map view items) ≡ map (λ v. Some v) values ++ map whole (map view (drop i items))
-
-pub ValuesLeft-start : (items : List Value) → ValuesLeft items 0 []
-ValuesLeft-start items = record { passed = refl; denoted = refl }
-
-pub ValuesLeft-more : (items : List Value) (i : ℕ) (d : Value) (values : List ℤ) (z : ℤ)
-    → ValuesLeft items i values → i < length items → whole (view (get_or items i d)) ≡ Some z
-    → ValuesLeft items (i + 1) (values ++ z ∷ [])
-ValuesLeft-more items i d values z left lt is = record {
-  passed = left.passed ∙ ap (λ l. first_refusal (map a_value (map view l))) (drop_more items i d lt) ∙ rw is refl;
-  denoted = left.denoted ∙ ap (λ l. map (λ v. Some v) values ++ map whole (map view l)) (drop_more items i d lt)
-      ∙ ap (λ o. map (λ v. Some v) values ++ (o ∷ map whole (map view (drop (i + 1) items)))) is
-      ∙ sym (append_assoc (map (λ v. Some v) values) (Some z ∷ []) (map whole (map view (drop (i + 1) items))))
-      ∙ ap (λ l. l ++ map whole (map view (drop (i + 1) items))) (sym (map-append (λ v. Some v) values (z ∷ [])));
-}
-
-pub ValuesLeft-bad : (items : List Value) (i : ℕ) (d : Value) (values : List ℤ)
-    → ValuesLeft items i values → i < length items → whole (view (get_or items i d)) ≡ None
-    → first_refusal (map a_value (map view items)) ≡ Some BadNumber
-ValuesLeft-bad items i d values left lt is =
-    left.passed ∙ ap (λ l. first_refusal (map a_value (map view l))) (drop_more items i d lt) ∙ rw is refl
-
-pub ValuesLeft-end : (items : List Value) (i : ℕ) (values : List ℤ)
-    → ValuesLeft items i values → length items ≤ i
-    → (first_refusal (map a_value (map view items)) ≡ None)
-    × (map whole (map view items) ≡ map (λ v. Some v) values)
-ValuesLeft-end items i values left le = (
-  left.passed ∙ ap (λ l. first_refusal (map a_value (map view l))) (drop_all i items le),
-  left.denoted ∙ ap (λ l. map (λ v. Some v) values ++ map whole (map view l)) (drop_all i items le) ∙ append-nil _,
-)
+  pub passed : first_refusal (map a_value (map view items))
+      ≡ first_refusal (map a_value (map view (drop i items)))
+  pub denoted : map whole (map view items)
+      ≡ map (λ v. Some v) values ++ map whole (map view (drop i items))
 
 -- ---- the calls of a file
 
 -- the calls so far passed their checks, and those from i on are left
 pub record CallsLeft (items : List Value) (i : ℕ) (calls : List Call) (made : ℕ) : Type 0 where
-  pub passed : first_refusal (calls_checks 1 (map view items)) ≡ first_refusal (calls_checks made (map view (drop i items)))
-  pub denoted : map call_of (map view items) ≡ map (λ c. Some c) calls ++ map call_of (map view (drop i items))
+  pub passed : first_refusal (calls_checks 1 (map view items))
+      ≡ first_refusal (calls_checks made (map view (drop i items)))
+  pub denoted : map call_of (map view items)
+      ≡ map (λ c. Some c) calls ++ map call_of (map view (drop i items))
   pub cursors : (rest : List Call) → cursors_exist 1 (calls ++ rest) ≡ cursors_exist made rest
   pub room : made ≤ 64
-
-pub CallsLeft-start : (items : List Value) → CallsLeft items 0 [] 1
-CallsLeft-start items = record { passed = refl; denoted = refl; cursors = λ rest. refl; room = omega arith }
 
 pub CallsLeft-more : (items : List Value) (i : ℕ) (d : Value) (calls : List Call) (made : ℕ) (call : Call)
     → CallsLeft items i calls made → i < length items

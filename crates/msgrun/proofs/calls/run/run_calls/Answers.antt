@@ -10,7 +10,8 @@ returns-in_err-run_call-clause-prefix g c =
     let call = c.call-item.result in
     let prints = c.in_err-run_call.ensures.prefix in
     on_err _ c.from_residual.result _
-    (OnTheWay_fails _ _ _ _ _ calls i call _ c.loop-call.invariant.0 c.loop-call-test.true (λ s are. rw (← c.call-item.is) (prints s are)))
+    (OnTheWay_fails _ _ _ _ _ calls i call _ c.loop-call.invariant.0 c.loop-call-test.true
+    (λ s are. rw (← c.call-item.is) (prints s are)))
 
 pub loop-call-preserved : goal.loop-call-preserved
 loop-call-preserved g c =

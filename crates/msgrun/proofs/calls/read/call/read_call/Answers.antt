@@ -9,6 +9,8 @@ returns-clause-is c =
     let d = view c.args.value.now in
     let xs = c.as_slice.result.now in
     Agrees_along _ _ _ _ _
-    (call_list c.args.made d xs list ∙ call_head c.args.made xs c.first-item.result _ c.in-len1-up.len_at_least c.first-item.is c.in-Some-as_str.ensures)
-    (call_list_denotes d xs list ∙ call_head_denotes xs c.first-item.result _ c.in-len1-up.len_at_least c.first-item.is c.in-Some-as_str.ensures)
+    (call_list c.args.made d xs list
+    ∙ call_head c.args.made xs c.first-item.result _ c.in-len1-up.len_at_least c.first-item.is c.in-Some-as_str.ensures)
+    (call_list_denotes d xs list
+    ∙ call_head_denotes xs c.first-item.result _ c.in-len1-up.len_at_least c.first-item.is c.in-Some-as_str.ensures)
     c.read_parts.ensures.is

@@ -18,7 +18,8 @@ returns-in_err-call-clause-refused c =
     let e = c.in_err-call.field-0.0 in
     IfErr_at c.from_residual.result e _ (passed.1 ∙ ap (λ f. Err f) passed.2) (
       refused.0,
-      λ m. CallsLeft-bad c.args.items.now c.loop-item.item-index value c.loop-item.calls.items c.loop-item.made e left c.loop-item-test.true
+      λ m. CallsLeft-bad c.args.items.now c.loop-item.item-index value c.loop-item.calls.items
+          c.loop-item.made e left c.loop-item-test.true
           (ap (λ v. first_refusal (call_checks c.loop-item.made (view v))) (sym c.item-item.is) ∙ refused.1 m),
     )
 
@@ -30,12 +31,15 @@ loop-item-preserved c =
     let made = c.loop-item.made in
     let is = c.in_ok-call.ensures.is in
     let fits = c.in_ok-call.ensures.fits in
-    let pushed = c.push.ensures.items ∙ ap (λ b. if b then calls ++ call ∷ [] else calls) c.if-is_err.ensures.negation in
-    rw (pushed, c.cursors_made-made.ensures) (CallsLeft-more c.args.items.now c.loop-item.item-index value calls made call c.loop-item.invariant c.loop-item-test.true
+    let pushed = c.push.ensures.items
+    ∙ ap (λ b. if b then calls ++ call ∷ [] else calls) c.if-is_err.ensures.negation in
+    rw (pushed, c.cursors_made-made.ensures) (CallsLeft-more c.args.items.now
+    c.loop-item.item-index value calls made call c.loop-item.invariant c.loop-item-test.true
     (ap (λ v. first_refusal (call_checks made (view v))) (sym c.item-item.is) ∙ is.0)
     (ap (λ v. call_of (view v)) (sym c.item-item.is) ∙ is.1)
     fits.0 (fits.1 c.loop-item.invariant.room))
 
 pub returns-clause-exist : goal.returns-clause-exist
 returns-clause-exist c =
-    (CallsLeft-end c.args.items.now c.loop-item.item-index c.loop-item.calls.items c.loop-item.made c.loop-item.invariant c.loop-item-test.false).2
+    (CallsLeft-end c.args.items.now c.loop-item.item-index c.loop-item.calls.items c.loop-item.made
+    c.loop-item.invariant c.loop-item-test.false).2

@@ -13,10 +13,13 @@ pub returns-clause-is : goal.returns-clause-is
 returns-clause-is c =
     let list = ap (λ xs. Some (items_view xs)) c.as_slice-items.ensures.value ∙ c.in-Some.ensures in
     let short = list_short (view c.args.value.now) c.as_slice-items.result.now list c.if-items-gt-MAX_CALLS.false in
-    IfOk-weaker c.read_items.result _ _ (λ v is. (short ∙ is.0, list_denotes (view c.args.value.now) c.as_slice-items.result.now _ list is.1)) c.read_items.ensures.is
+    IfOk-weaker c.read_items.result _ _
+    (λ v is. (short ∙ is.0, list_denotes (view c.args.value.now) c.as_slice-items.result.now _ list is.1))
+    c.read_items.ensures.is
 
 pub returns-clause-refused : goal.returns-clause-refused
 returns-clause-refused c =
     let list = ap (λ xs. Some (items_view xs)) c.as_slice-items.ensures.value ∙ c.in-Some.ensures in
     let short = list_short (view c.args.value.now) c.as_slice-items.result.now list c.if-items-gt-MAX_CALLS.false in
-    IfErr-weaker c.read_items.result _ _ (λ e refused. (refused.0, λ m. short ∙ refused.1 m)) c.read_items.ensures.refused
+    IfErr-weaker c.read_items.result _ _ (λ e refused. (refused.0, λ m. short ∙ refused.1 m))
+    c.read_items.ensures.refused
