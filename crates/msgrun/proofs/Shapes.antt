@@ -12,7 +12,7 @@ use Rattle.serde_json.specs.View.{view, items_view, members_view}
 use Rattle.serde_json.specs.declared.value.Value.{Value}
 use Rattle.msgrun.specs.Check.{Check, first_refusal}
 use Rattle.msgrun.specs.Checks.{a_value, batch_checks, call_checks, calls_checks, checks_in, checks_of, checks_with, is_known, limit_checks, list_checks}
-use Rattle.msgrun.specs.Denotes.{call_in, call_of, call_with, file_of, values_of}
+use Rattle.msgrun.specs.Denotes.{call_in, call_of, calls_of, call_with, file_of, values_of}
 use Rattle.msgrun.specs.Json.{list_of, elements, keys, keys_of, all_some, is_number, natural, whole, value_at}
 use Rattle.msgrun.specs.declared.call.Call.{Call}
 use Rattle.msgrun.specs.declared.refusal.Refusal.{Refusal}
@@ -135,7 +135,7 @@ list_short d xs e short =
     rw (are, ← e, length-map, under) refl
 
 pub list_denotes : (d : Data) (xs : List Value) (calls : List Call) → Some (items_view xs) ≡ as_array d
-    → map call_of (map view xs) ≡ map (λ c. Some c) calls → all_some (map call_of (elements d)) ≡ Some calls
+    → map call_of (map view xs) ≡ map (λ c. Some c) calls → calls_of d ≡ Some calls
 list_denotes d xs calls e are =
     ap (λ ds. all_some (map call_of ds)) (elements_are d xs e) ∙ ap all_some are ∙ all_some-map calls
 
@@ -177,7 +177,7 @@ value_at_is d v key e = ap (λ o. unwrap_or o null) (sym e)
 -- the file, from its limit and its calls
 pub file_denotes : (d l c : Data) (limit : ℕ) (calls : List Call)
     → Some l ≡ get (codes "limit") d → Some c ≡ get (codes "calls") d
-    → natural l ≡ Some limit → all_some (map call_of (elements c)) ≡ Some calls
+    → natural l ≡ Some limit → calls_of c ≡ Some calls
     → file_of d ≡ Some (record { limit = limit; calls = calls })
 file_denotes d l c limit calls e f n cs =
     let at_limit = value_at_is d l (codes "limit") e in

@@ -96,11 +96,12 @@ checks_with made head (d ∷ []) = checks_with_one made head d
 checks_with made head (d ∷ e ∷ []) = checks_with_two made head d e
 checks_with made head (d ∷ e ∷ f ∷ rest) = no_call ∷ []
 
+-- a list that begins with its head
 abbrev pub checks_in : ℕ → List Data → List Check
 checks_in made (string head ∷ parts) = checks_with made head parts
 checks_in made _ = no_call ∷ []
 
--- a call is a list that begins with its head
+-- the checks of one call
 abbrev pub call_checks : ℕ → Data → List Check
 call_checks made (array parts) = checks_in made (list_of parts)
 call_checks made _ = no_call ∷ []
@@ -116,6 +117,7 @@ calls_checks made (d ∷ ds) = call_checks made d ++ calls_checks (made + cursor
 
 -- ---- the file
 
+-- the keys that there are
 abbrev pub is_known : Text → Bool
 is_known key = bytes_eq key (codes "limit") || bytes_eq key (codes "calls")
 

@@ -1,5 +1,5 @@
 -- What a JSON value denotes as a calls file: a line for each head.
-use Rattle.std.specs.Prelude.{ℤ, List, [], ◌∷◌, map, Option, Some, None, option_map, option_and_then, codes, if◌then◌else◌}
+use Rattle.std.specs.Prelude.{ℕ, ℤ, List, [], ◌∷◌, map, Option, Some, None, option_map, option_and_then, codes, if◌then◌else◌}
 use Rattle.std.specs.Str.{bytes_eq}
 use Rattle.serde_json.specs.Data.{Data, string, array}
 use Rattle.msgrun.specs.Json.{Text, list_of, elements, value_at, whole, natural, all_some}
@@ -51,19 +51,26 @@ call_with head (d ∷ []) = call_with_one head d
 call_with head (d ∷ e ∷ []) = call_with_two head d e
 call_with head (d ∷ e ∷ f ∷ rest) = None
 
+-- a list that begins with its head
 abbrev pub call_in : List Data → Option Call
 call_in (string head ∷ parts) = call_with head parts
 call_in _ = None
 
--- a call is a list that begins with its head
+-- the call that a value denotes
 abbrev pub call_of : Data → Option Call
 call_of (array parts) = call_in (list_of parts)
 call_of _ = None
 
+-- the calls of a list, where each of its elements is one
+abbrev pub calls_of : Data → Option (List Call)
+calls_of d = all_some (map call_of (elements d))
+
+-- the file of this limit and these calls
+abbrev pub file_with : Option ℕ → Option (List Call) → Option CallsFile
+file_with (Some limit) (Some calls) = Some (record { limit = limit; calls = calls })
+file_with (Some limit) None = None
+file_with None calls = None
+
 -- a file is an object with a limit and a list of calls
 abbrev pub file_of : Data → Option CallsFile
-file_of d =
-    option_and_then (λ limit.
-    option_map (λ calls. record { limit = limit; calls = calls })
-    (all_some (map call_of (elements (value_at (codes "calls") d)))))
-    (natural (value_at (codes "limit") d))
+file_of d = file_with (natural (value_at (codes "limit") d)) (calls_of (value_at (codes "calls") d))

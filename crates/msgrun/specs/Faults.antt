@@ -11,18 +11,19 @@ use Rattle.msgrun.specs.declared.report_fault.ReportFault.TheVariants as report
 use Rattle.msgrun.specs.declared.fault.MainFault.{MainFault}
 use Rattle.msgrun.specs.declared.fault.MainFault.TheVariants.{Words, Input, Refused, Report}
 
--- help is no fault: it has no line
+-- the line of refused words; help is no fault, and has none
 abbrev pub words_line : WordFault → List ℕ
 words_line word.Bad = codes "msgrun: bad command line\n"
 words_line (word.Help text) = []
 words_line word.NoMemory = codes "msgrun: want of memory\n"
 
+-- the line of an input that wasn't read
 abbrev pub input_line : InputFault → List ℕ
 input_line input.Failed = codes "msgrun: cannot read input\n"
 input_line input.TooLarge = codes "msgrun: input too large\n"
 input_line input.NoMemory = codes "msgrun: want of memory\n"
 
--- the refusal's number and name
+-- the line of a refused file: the refusal's number and name
 abbrev pub refusal_line : Refusal → List ℕ
 refusal_line refusal.NotJson = codes "msgrun: refused 1 NotJson\n"
 refusal_line refusal.Shape = codes "msgrun: refused 2 Shape\n"
@@ -31,6 +32,7 @@ refusal_line refusal.BadNumber = codes "msgrun: refused 6 BadNumber\n"
 refusal_line refusal.TooMany = codes "msgrun: refused 7 TooMany\n"
 refusal_line refusal.NoMemory = codes "msgrun: want of memory\n"
 
+-- the line of answers that weren't printed to their end
 abbrev pub report_line : ReportFault → List ℕ
 report_line report.Write = codes "msgrun: write fault\n"
 report_line report.NoMemory = codes "msgrun: want of memory\n"

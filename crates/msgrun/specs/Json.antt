@@ -30,6 +30,7 @@ keys d = unwrap_or (option_map keys_of (as_object d)) []
 abbrev pub value_at : Text → Data → Data
 value_at key d = unwrap_or (get key d) null
 
+-- the kind of a value
 abbrev pub is_object : Data → Bool
 is_object d = is_some (as_object d)
 

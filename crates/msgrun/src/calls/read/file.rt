@@ -5,8 +5,7 @@ ghost use Rattle.serde_json.specs.View.{view};
 ghost use Rattle.msgrun.specs.Check.{first_refusal};
 ghost use Rattle.msgrun.specs.Checks.{calls_checks, checks_of, is_known, list_checks};
 ghost use Rattle.msgrun.specs.Cursors.{cursors_exist, made_by};
-ghost use Rattle.msgrun.specs.Denotes.{call_of, file_of};
-ghost use Rattle.msgrun.specs.Json.{all_some, elements};
+ghost use Rattle.msgrun.specs.Denotes.{call_of, calls_of, file_of};
 ghost use Rattle.msgrun.specs.Walk.{Agrees};
 
 use crate::call::Call;
@@ -54,7 +53,7 @@ fn is_known(key: &str) -> bool
 
 fn read_list(alloc: Global, value: &Value) -> Result<Vec<Call>, Refusal>
     ensures is { IfOk result (λ v. (first_refusal (list_checks (view value.now)) ≡ None)
-        × (all_some (map call_of (elements (view value.now))) ≡ Some v.items)) }
+        × (calls_of (view value.now) ≡ Some v.items)) }
     ensures refused { IfErr result (λ e. (e ≢ Refusal.NotJson)
         × (e ≢ Refusal.NoMemory → first_refusal (list_checks (view value.now)) ≡ Some e)) }
     ensures exist { IfOk result (λ v. cursors_exist 1 v.items ≡ true) }
