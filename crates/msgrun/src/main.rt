@@ -3,6 +3,9 @@
 //! `msgrun buffer FILE` answers a file, and `msgrun` alone standard input.
 #![tactic(auto)]
 
+ghost use Rattle.std.specs.Prelude.{◌≡◌};
+ghost use Rattle.msgrun.specs.Faults.{status_of};
+
 mod call;
 mod calls;
 #[cfg(test)]
@@ -82,7 +85,9 @@ fn bytes_of<R: AllocGlobal + Files + Input>(
 }
 
 /// Prints help where the words ask for it, else the fault's line, and gives the status.
-fn end<O: Print, E: Print>(output: &O, errors: &E, fault: &MainFault) -> u8 {
+fn end<O: Print, E: Print>(output: &O, errors: &E, fault: &MainFault) -> u8
+    ensures { result ≡ status_of fault.now }
+{
     if let MainFault::Words(WordFault::Help(text)) = fault {
         let _ = put_all(&mut StdSink::new(io::writer(output)), text.as_bytes());
     }

@@ -195,3 +195,27 @@ fn limits(rt: HostRuntime) -> Result<(), Fail> {
     expect_refusal(&rt, rt.alloc(), text.as_str(), Refusal::TooMany);
     Ok(())
 }
+
+#[test]
+fn cut_files(rt: HostRuntime) {
+    let whole = b"{\"limit\":10,\"calls\":[[\"write\",7],[\"read\",0]]}";
+    assert!(rt; read_calls(rt.alloc(), whole).is_ok());
+    for n in 0..whole.len() {
+        let cut = read_calls(rt.alloc(), &whole[..n]);
+        assert_eq!(rt; cut.err(), Some(Refusal::NotJson), "at {n}");
+    }
+}
+
+#[test]
+fn deep_files(rt: HostRuntime) -> Result<(), Fail> {
+    for (depth, want) in [(100, Refusal::Shape), (200, Refusal::NotJson)] {
+        let mut text = String::new(rt.alloc());
+        for bracket in ["[", "]"] {
+            for _ in 0..depth {
+                text.push_str(bracket)?;
+            }
+        }
+        expect_refusal(&rt, rt.alloc(), text.as_str(), want);
+    }
+    Ok(())
+}
