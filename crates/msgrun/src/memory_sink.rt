@@ -1,4 +1,4 @@
-ghost use Rattle.std.specs.Prelude.{◌≡◌, ◌-◌, ◌<◌, ◌≤◌, Some, [], IfOk, length, min};
+ghost use Rattle.std.specs.Prelude.{◌≡◌, ◌-◌, ◌<◌, ◌≤◌, Some, [], IfOk, IsErr, length, min};
 ghost use Rattle.std.specs.Io.KnownBytes.{WriteAppends};
 ghost use Rattle.msgrun.specs.Sinks.{failures_after};
 
@@ -60,6 +60,7 @@ impl Sink for MemorySink {
         ensures counts { self.new.failures ≡ failures_after self.old.failures result piece.now }
         ensures takes { length self.old.contents < ROOM
             → result ≡ Ok (min (length piece.now) (ROOM - length self.old.contents)) }
+        ensures full { length self.old.contents ≡ ROOM → 0 < length piece.now → IsErr result }
     {
         if piece.is_empty() {
             return Ok(0);
