@@ -2,8 +2,11 @@ ghost use Rattle.std.specs.Prelude.{◌≡◌, ◌≤◌, List, ℕ, Option, OnO
 ghost use Rattle.std.specs.Io.KnownBytes.{WriteAppends, Appends};
 ghost use Rattle.msgrun.specs.Sinks.{failures_after, one_more, AppendsPrefix};
 
+use thiserror::Error;
+
 /// A put that took nothing.
-#[derive(Clone, Copy, Debug, PartialEq, Eq)]
+#[derive(Clone, Copy, Debug, PartialEq, Eq, Error)]
+#[error("the sink failed")]
 pub struct PutFault;
 
 /// Where bytes go. `Ok(n)` says that the first n bytes were taken, an error that none was.
