@@ -1,4 +1,4 @@
-// Laws: facts that hold of every history, and need no code.
+//! Laws: facts that hold of every history, and need no code.
 ghost use Rattle.msg_buffer.specs.History.{OnlyGrows, OutliveOneUpdate};
 ghost use Rattle.msg_buffer.specs.Tiling.{ClearsFit, ReadsFit};
 

@@ -8,7 +8,7 @@ mod batch;
 mod cursor;
 mod instance;
 mod iter;
-mod laws;
+pub mod laws;
 mod messages;
 mod refusals;
 mod sequence;
@@ -16,7 +16,6 @@ mod sequence;
 pub use cursor::MessageCursor;
 pub use instance::{Instance, MessageId, Written};
 pub use iter::MessageIter;
-pub use laws::{histories_only_grow, messages_outlive_one_update, readers_tile};
 pub use messages::Messages;
 pub use refusals::{BatchRefusal, NoMemory, WriteRefusal};
 

@@ -1,8 +1,6 @@
 // Worked examples with their expected answers, and each public call once with ample memory.
-use crate::{
-    BatchRefusal, Instance, MessageCursor, MessageId, Messages, WriteRefusal, Written,
-    histories_only_grow, messages_outlive_one_update, readers_tile,
-};
+use crate::laws::{histories_only_grow, messages_outlive_one_update, readers_tile};
+use crate::{BatchRefusal, Instance, MessageCursor, MessageId, Messages, WriteRefusal, Written};
 use std::alloc::{AllocError, Global};
 use std::test::Fail;
 

@@ -1,0 +1,4 @@
+mod Lists
+mod Sums
+mod Steps
+mod Passing

@@ -1,0 +1,28 @@
+use Rattle.std.proofs.Common.{rules, ap, ◌∙◌, arith, subst}
+use Rattle.std.specs.List.{All}
+use Rattle.msg_board.specs.Board.{HasEnded}
+use Rattle.msg_board.specs.Seats.{carried}
+use Rattle.msg_board.proofs.Lists.{All-split_last}
+use Rattle.msg_board.proofs.Steps.{unites}
+use Rattle.msg_board.proofs.Passing.{gathers_first, gathers, gathered}
+use Rattle.msg_board.proofs.board.Board.gather.Goals as goal
+
+pub loop-pass-init : goal.loop-pass-init
+loop-pass-init g c = gathers_first c.args.self.now _ _ c.in-Some.first _ c.requires.ended c.in-Some.ensures.items c.into_seat-seat.ensures.seat c.into_seat-seat.ensures.all_tried
+
+pub join_seat-requires : goal.join_seat-requires
+join_seat-requires g c = let inv = c.loop-pass.invariant in let b = c.args.self.now in
+    let of = c.into_seat-other.ensures.seat in let words = b.words in
+    let parts = All-split_last (HasEnded b) _ _ (subst (All (HasEnded b)) c.in-Some-pop.ensures.items inv.ended) in (
+      inv.table,
+      of.table ∙ parts.1.own.table,
+      of.out ∙ ap carried parts.1.holding,
+      omega arith,
+      unites g.W.Work.lawful _ _ _ _ _ _ inv.live (of.held ∙ parts.1.holding),
+    )
+
+pub loop-pass-preserved : goal.loop-pass-preserved
+loop-pass-preserved g c = gathers c.args.self.now _ _ _ c.in-Some-pop.pass _ _ _ c.loop-pass.invariant c.in-Some-pop.ensures.items c.into_seat-other.ensures.seat c.join_seat.ensures.0 c.join_seat.ensures.2
+
+pub returns : goal.returns
+returns g c = gathered c.args.self.now _ _ _ c.loop-pass.invariant (search rules)

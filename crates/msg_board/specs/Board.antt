@@ -1,0 +1,45 @@
+-- What a clause says of a board and of its passes.
+use Rattle.std.specs.Prelude.{◌≡◌, ℕ, List, [], length, slice_get, Some, None, true, false}
+use Rattle.msg_board.specs.declared.board.Board.{Board}
+use Rattle.msg_board.specs.Pass.{PassState}
+
+module _ {W A J D : Type 0} where
+  -- the jobs, in the order in which they were given
+  abbrev pub jobs_of : Board W A J D → List J
+  jobs_of b = b.table.shared.key.jobs.value.items
+
+  -- how many passes were made
+  abbrev pub passes_of : Board W A J D → ℕ
+  passes_of b = b.table.shared.key.passes
+
+  -- the pass is one of this board's
+  pub record IsOf (b : Board W A J D) (p : PassState J) : Type 0 where
+    pub table : p.table ≡ b.table.shared.table_id
+    pub jobs : p.jobs ≡ jobs_of b
+
+  -- the pass is one of this board's, and has done nothing yet
+  pub record IsNew (b : Board W A J D) (p : PassState J) : Type 0 where
+    pub own : IsOf b p
+    pub tried : p.tried ≡ 0
+    pub drawn : p.drawn ≡ []
+    pub holding : p.holding ≡ None
+    pub unfinished : p.finished ≡ false
+
+  -- the pass is one of this board's, and holds nothing, so that it may draw
+  pub record IsIdle (b : Board W A J D) (p : PassState J) : Type 0 where
+    pub own : IsOf b p
+    pub holding : p.holding ≡ None
+
+  -- the pass is one of this board's, holds nothing and is finished
+  pub record HasEnded (b : Board W A J D) (p : PassState J) : Type 0 where
+    pub own : IsOf b p
+    pub holding : p.holding ≡ None
+    pub finished : p.finished ≡ true
+
+module _ {J D : Type 0} where
+  -- a lawful outcome of the jobs: as many results, and result k is a lawful one of job k
+  pub record IsLawfulOutcome (lawful : J → D → Type 0) (jobs : List J) (results : List D)
+      : Type 0 where
+    pub as_many : length results ≡ length jobs
+    pub each : (k : ℕ) (j : J) (d : D) → slice_get jobs k ≡ Some j → slice_get results k ≡ Some d
+        → lawful j d

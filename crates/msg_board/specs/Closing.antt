@@ -1,0 +1,32 @@
+-- What is known as a board is closed. Private functions' contracts cite it, and no public one does.
+use Rattle.std.specs.Prelude.{◌≡◌, ℕ, ◌<◌, List, length, slice_get, Some, None}
+use mathlib.Core.Option.{some}
+use lib.ListN.{get_elem?}
+use Rattle.atomic_table.specs.declared.shared.Seat.{Seat}
+use Rattle.msg_board.specs.declared.board.Board.{Board}
+use Rattle.msg_board.specs.declared.law.Slot.{Slot}
+use Rattle.msg_board.specs.declared.law.Slot.TheVariants.{Done}
+use Rattle.msg_board.specs.declared.law.View.{View}
+use Rattle.msg_board.specs.Board.{jobs_of}
+use Rattle.msg_board.specs.Counts.{times}
+use Rattle.msg_board.specs.Pass.{PassState, drawn_by}
+
+module _ {W A J D : Type 0} where
+  -- the seat has the views of all these passes, each of which had ended
+  pub record IsGathered (b : Board W A J D) (ps : List (PassState J))
+      (seat : Seat (Slot J D) (View J)) : Type 0 where
+    pub table : seat.table_id ≡ b.table.shared.table_id
+    pub weight : seat.me.0.weight ≡ length ps
+    pub next : seat.me.0.next ≡ length (jobs_of b)
+    pub held : seat.me.0.held ≡ None
+    pub drawn : (k : ℕ) → times k seat.me.0.drawn ≡ times k (drawn_by ps)
+
+module _ {J D : Type 0} where
+  -- each of the n slots has a result
+  abbrev pub HasDone : ℕ → List (Slot J D) → Type 0
+  HasDone n slots = (k : ℕ) → k < n → (d : D) × (get_elem? slots k ≡ some (Done d))
+
+  -- the results are those of the n slots, in order
+  pub record AreResultsIn (n : ℕ) (slots : List (Slot J D)) (results : List D) : Type 0 where
+    pub as_many : length results ≡ n
+    pub each : (k : ℕ) (d : D) → slice_get results k ≡ Some d → get_elem? slots k ≡ some (Done d)

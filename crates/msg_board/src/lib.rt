@@ -1,0 +1,25 @@
+//! A board of jobs for workers that share it: each job is drawn once, and each gets one lawful
+//! result, whichever way the workers' atomic steps fall between one another.
+//!
+//! `Board::new` puts up to 256 jobs on a board and gives 1 to 64 passes. A worker with a pass draws
+//! jobs by `draw` and hands their results in by `hand_in`, until it draws None. Neither call takes
+//! memory, and neither waits for another worker. `close` takes the board and all its passes, and
+//! gives the results in the order of the jobs.
+//!
+//! `specs/Law.antt` has the law of the board: what its words and slots, and what its passes know,
+//! have to do with one another between any two steps.
+#![tactic(auto)]
+
+mod board;
+mod exclusion;
+mod law;
+mod pass;
+mod slots;
+#[cfg(test)]
+mod tests;
+mod work;
+
+pub use board::Board;
+pub use pass::Pass;
+pub use std::alloc::AllocError as NoMemory;
+pub use work::Work;

@@ -1,0 +1,11 @@
+//! What a board's jobs and results are.
+
+/// A kind of work: its jobs, and what each of them may give.
+pub trait Work {
+    type Job: Send + Drop;
+
+    type Done: Send + Drop;
+
+    // The second is a lawful result of the first.
+    ghost lawful: { Self.Job → Self.Done → Type 0 };
+}
