@@ -3,5 +3,6 @@ pub mod Lines
 pub mod Puts
 pub mod Running
 pub mod Shapes
+pub mod Taken
 pub mod Walks
 pub mod Whole

@@ -12,8 +12,8 @@ use std::alloc::Global;
 pub fn parse_words(alloc: Global, words: &[String]) -> Result<Action, WordFault>
     ensures accepted { OnOk result (fault_of msgrun_app (texts_of words.now) ≡ []) }
     ensures action { IfOk result (λ a. asked (texts_of words.now) ≡ Some (request_of a)) }
-    ensures refused { IfErr result (λ e. takes msgrun_app (texts_of words.now) ≡ true
-        → (e ≡ WordFault.NoMemory) ⊎ (asked (texts_of words.now) ≡ None)) }
+    ensures refused { IfErr result (λ fault. takes msgrun_app (texts_of words.now) ≡ true
+        → fault ≡ WordFault.NoMemory) }
 {
     let matches = matches(alloc, words)?;
     action_of(alloc, &matches)
