@@ -1,5 +1,5 @@
 // The parts of a line, made in memory.
-ghost use Rattle.std.specs.Prelude.{◌≡◌, ◌++◌, OnOk, codes, decimal};
+ghost use Rattle.std.specs.Prelude.{◌≡◌, ◌++◌, OnOk, decimal};
 ghost use Rattle.std.specs.Fmt.{signed_decimal};
 ghost use Rattle.msgrun.specs.CallsText.{item_text, items_text, more_items, value_text};
 ghost use Rattle.std.specs.Option.{option_copied};

@@ -1,4 +1,4 @@
-ghost use Rattle.std.specs.Prelude.{◌≡◌, ◌⊎◌, ◌∷◌, [], Some, None, true, IfOk, IfErr, OnOk, codes, string_bytes};
+ghost use Rattle.std.specs.Prelude.{◌≡◌, ◌⊎◌, [], Some, None, true, IfOk, IfErr, OnOk, codes, string_bytes};
 ghost use Rattle.clap.specs.Words.{fault_of, takes, first_of, rows_of, found_of, subcommand_rows_of};
 ghost use Rattle.msgrun.specs.CommandLine.{msgrun_app, texts_of};
 ghost use Rattle.msgrun.specs.Asked.{request_of, asked, asked_by};

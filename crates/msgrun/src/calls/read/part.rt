@@ -2,7 +2,7 @@
 ghost use Rattle.std.specs.Prelude.{◌≡◌, ◌<◌, ◌∷◌, [], Some, None, IfOk, MatchResult, option_map, option_and_then};
 ghost use Rattle.serde_json.specs.Find.{as_number, as_i64};
 ghost use Rattle.serde_json.specs.View.{view, number_view};
-ghost use Rattle.msgrun.specs.Json.{whole, natural, natural_of, number_below, number_up_to, only_below};
+ghost use Rattle.msgrun.specs.Json.{whole, natural, natural_of, only_below};
 ghost use Rattle.msgrun.specs.Checks.{a_number, a_value, a_cursor, a_read_limit, a_message_number, limit_checks};
 ghost use Rattle.msgrun.specs.Walk.{Agrees};
 
