@@ -17,9 +17,11 @@ use Rattle.msgrun.specs.CommandLine.{buffer_app, msgrun_app}
 abbrev help : Rule
 help = with_index 1 (filled help_rule)
 
+-- help, where a test holds
 abbrev only_if : Bool → Option Rule
 only_if b = cond b (Some help) None
 
+-- no test helps where the second fails
 and_false : (a : Bool) → (a && false) ≡ false
 and_false true = refl
 and_false false = refl
@@ -29,12 +31,16 @@ help_fails : (c : List Rule) (h : Held) → react_passes c false help [] h ≡ f
 unfolding clap_on_literals
 help_fails c h = and_false (settle_passes c false h)
 
-long_fails : (c : List Rule) (b : Bool) (v : Option Text) (h : Held) → long_passes c false (only_if b) v h ≡ false
+-- no long flag passes
+long_fails : (c : List Rule) (b : Bool) (v : Option Text) (h : Held)
+    → long_passes c false (only_if b) v h ≡ false
 unfolding clap_on_literals
 long_fails c true v h = ap (λ x. not (is_some v) && x) (help_fails c h) ∙ and_false (not (is_some v))
 long_fails c false v h = refl
 
-short_fails : (c : List Rule) (b : Bool) (rest : Text) (h : Held) (next : Held → Bool) → short_passes c false (only_if b) rest h next ≡ false
+-- and no short one
+short_fails : (c : List Rule) (b : Bool) (rest : Text) (h : Held) (next : Held → Bool)
+    → short_passes c false (only_if b) rest h next ≡ false
 unfolding clap_on_literals
 short_fails c true rest h next = rw (help_fails c h) refl
 short_fails c false rest h next = refl
@@ -65,6 +71,7 @@ flags_value c only p flags (suc k) passes =
           ∙ short_fails c (has_short help x) rest (holds p) (flags_pass c false k rest 0)) ∙ h in cc
     ] passes
 
+-- nor does any bundle in a word
 short_value : (c : List Rule) → OnlyHelp c → (p : Option (Text × List Text)) (word : Text) (flags : Option Text)
     → option_map_or (λ f. bundle_passes c false f (holds p)) flags true ≡ true
     → short_or_plain c idle word flags (holds p) ≡ (holds p, value)
@@ -73,7 +80,8 @@ short_value c only p word (Some flags) passes =
     ap (λ met. after_flag c idle word met.0 met.1) (flags_value c only p flags (length flags) passes)
 
 -- a word that passes and is no subcommand and no `--` is a value
-flag_value : (c : List Rule) → OnlyHelp c → (p : Option (Text × List Text)) (word : Text) (named : Option (Text × Option Text))
+flag_value : (c : List Rule) → OnlyHelp c → (p : Option (Text × List Text)) (word : Text)
+    (named : Option (Text × Option Text))
     → flag_word_passes c false named word (holds p) ≡ true
     → long_or_other c idle word named (holds p) ≡ (holds p, value)
 flag_value c only p word None passes = short_value c only p word (short_of word) passes
@@ -90,17 +98,20 @@ stands p position past =
     record { held = holds p; waiting = idle; position = position; is_trailing = past; stopped = None }
 
 -- a word that passes is `--`, or a value of a positional that there is
-data Turn (s : Shape) (names : Names) (p : Option (Text × List Text)) (position : ℕ) (word : Text) (after : Walk) : Type 0 where
+data Turn (s : Shape) (names : Names) (p : Option (Text × List Text)) (position : ℕ) (word : Text)
+    (after : Walk) : Type 0 where
   dashes : after ≡ stands p position true → Turn s names p position word after
   valued : after ≡ to_positional s.rules (arg_by_index s.rules position) word (stands p position false) (holds p)
       → step_passes s position (holds p) value ≡ true → Turn s names p position word after
   trailed : after ≡ to_positional s.rules (arg_by_index s.rules position) word (stands p position true) (holds p)
       → step_passes s position (holds p) value ≡ true → Turn s names p position word after
 
+-- both tests hold
 both : (a b : Bool) → (a && b) ≡ true → (a ≡ true) × (b ≡ true)
 both true b h = (refl, h)
 both false b h = cc
 
+-- a word that is no subcommand
 other_turn : (s : Shape) (names : Names) → OnlyHelp s.rules → s.args_override_self ≡ false
     → (p : Option (Text × List Text)) (position : ℕ) (word : Text) (name : Option Text) → name ≡ None
     → (other_passes s name word (holds p)
@@ -127,6 +138,7 @@ other_turn s names only again p position word None none passes =
           (ap (λ m. step_passes s position m.0 m.1) (sym met) ∙ parts.1)
     ] passes
 
+-- and any word, also after `--`
 turn : (s : Shape) (names : Names) → OnlyHelp s.rules → s.args_override_self ≡ false
     → (p : Option (Text × List Text)) (position : ℕ) (past : Bool) (word : Text)
     → subcommand_met names idle word ≡ None
@@ -171,6 +183,7 @@ data Ends (h : Held) : Type 0 where
   none : h ≡ holds None → Ends h
   one : (file : Text) → h ≡ holds (file_waits file) → Ends h
 
+-- from nothing held
 ends : (words : List Text) (past : Bool) → walk_passes buffer [] (stands None 1 past) words ≡ true
     → Ends (fold (walked buffer.rules []) (stands None 1 past) words).held
 unfolding clap_on_literals walk_passes
@@ -196,7 +209,8 @@ unfolding clap_on_literals
 file_given words passes =
     let parts = both (walk_passes buffer [] (stands None 1 false) words) _ passes in
     let end = (fold (walked buffer.rules []) (stands None 1 false) words).held in
-    let checked = both (list_all default_passes buffer.rules) _ (both (settle_passes buffer.rules false end) _ parts.1).1 in
+    let settled = both (settle_passes buffer.rules false end) _ parts.1 in
+    let checked = both (list_all default_passes buffer.rules) _ settled.1 in
     elim (ends words false parts.0) [
       | none is ↦
           let bad : false ≡ true = ap (λ h. is_valid buffer (finished buffer.rules h) false) (sym is) ∙ checked.1 in cc
@@ -221,7 +235,10 @@ data Met (o : Option Text) : Type 0 where
   a_help : o ≡ Some (codes "help") → Met o
   nothing : o ≡ None → Met o
 
-met_either : (a b : Bool) → Met (option_map (λ (x : Text × List Text). x.0) (cond a (Some (codes "buffer", [])) (cond b (Some (codes "help", [])) None)))
+-- by two tests of the word
+met_either : (a b : Bool)
+    → Met (option_map (λ (x : Text × List Text). x.0)
+    (cond a (Some (codes "buffer", [])) (cond b (Some (codes "help", [])) None)))
 met_either true b = a_buffer refl
 met_either false true = a_help refl
 met_either false false = nothing refl
@@ -261,13 +278,15 @@ asks_for_input : (words : List Text) → stop_after top.rules names words ≡ No
 unfolding clap_on_literals
 asks_for_input words stop = ap (λ o. is_some (asked_by (entered (built msgrun_app) o))) stop
 
+-- the first word decides
 first_asks : (word : Text) (rest : List Text) → Met (subcommand_met names idle word)
     → entered_passes (built msgrun_app) (stop_after top.rules names (word ∷ rest)) ≡ true
     → walk_passes top names (stands None 1 false) (word ∷ rest) ≡ true
     → is_some (asked (word ∷ rest)) ≡ true
 unfolding clap_on_literals walk_passes
 first_asks word rest (a_buffer is) enters passes =
-    let step = ap (λ o. after_step top.rules word (stands None 1 false) (subcommand_or_other top.rules o idle 1 word (holds None)).0
+    let step = ap (λ o. after_step top.rules word (stands None 1 false)
+    (subcommand_or_other top.rules o idle 1 word (holds None)).0
     (subcommand_or_other top.rules o idle 1 word (holds None)).1) is in
     let stop : stop_after top.rules names (word ∷ rest) ≡ Some (codes "buffer", rest) =
     ap (λ w. (fold (walked top.rules names) w rest).stopped) step
@@ -284,7 +303,8 @@ first_asks word rest (nothing is) enters passes =
     elim (turn top names top_help refl None 1 false word is parts.0) [
       | dashes after ↦
           let rest_passes = ap (λ w. walk_passes top names w rest) (sym after) ∙ parts.1 in
-          asks_for_input (word ∷ rest) (ap (λ w. (fold (walked top.rules names) w rest).stopped) after ∙ past_dashes rest rest_passes)
+          asks_for_input (word ∷ rest)
+          (ap (λ w. (fold (walked top.rules names) w rest).stopped) after ∙ past_dashes rest rest_passes)
       | valued after step ↦ cc
       | trailed after step ↦ cc
     ]
