@@ -1,5 +1,5 @@
--- The history of a message type: one list of all messages ever written, which only grows. Nothing is taken out of it, and
--- nothing moves: which messages are still present is decided by their age.
+-- The history of a message type: one list of all messages ever written, which only grows. Nothing is
+-- taken out of it, and nothing moves: which messages are still present is decided by their age.
 use Rattle.std.specs.Prelude.{◌≡◌, ℕ, suc, ◌+◌, ◌≤◌, Bool, ◌&&◌, not, nat_le, ◌==◌, IsTrue, List, [], ◌∷◌, ◌++◌, length, map, filter, slice_get, Option, Some, None, option_and_then, if◌then◌else◌}
 use Rattle.std.specs.List.{enumerate_from}
 use Rattle.msg_buffer.specs.declared.instance.Instance.{Instance}
@@ -56,7 +56,8 @@ module _ {M : Type 0} where
   abbrev pub current : History M → List (Instance M)
   current h = map instance_of (filter (is_current h) (numbered_entries h))
 
-  -- how many entries aren't present; since these are a prefix, this is the number of the oldest message that is
+  -- how many entries aren't present; since these are a prefix, this is the number of the oldest message
+  -- that is
   abbrev pub oldest : History M → ℕ
   oldest h = length (filter (λ x. not (is_present h x)) (numbered_entries h))
 
@@ -99,7 +100,8 @@ pub record IsSound {M : Type 0} (h : History M) : Type 0 where
   pub floor : h.floor ≤ count h
   pub within_limit : count h ≤ h.limit
 
--- A history goes on as a later one: all that was written stays in its place, and only what is present changes.
+-- A history goes on as a later one: all that was written stays in its place, and only what is present
+-- changes.
 pub record GoesOn {M : Type 0} (old new : History M) : Type 0 where
   pub more : List (Entry M)
   pub entries : new.entries ≡ old.entries ++ more
@@ -111,8 +113,11 @@ pub record GoesOn {M : Type 0} (old new : History M) : Type 0 where
 module _ (M : Type 0) where
   -- A list of messages only grows, by every change that there is.
   abbrev pub OnlyGrows : Type 0
-  OnlyGrows = (h : History M) → IsSound h → ((ms : List M) → GoesOn h (write ms h)) × GoesOn h (update h) × GoesOn h (clear h)
+  OnlyGrows = (h : History M) → IsSound h
+      → ((ms : List M) → GoesOn h (write ms h)) × GoesOn h (update h) × GoesOn h (clear h)
 
-  -- What was written since the last update is all that is present after one more, and nothing is present after two.
+  -- What was written since the last update is all that is present after one more, and nothing is
+  -- present after two.
   abbrev pub OutliveOneUpdate : Type 0
-  OutliveOneUpdate = (h : History M) → IsSound h → (present (update h) ≡ current h) × (present (update (update h)) ≡ [])
+  OutliveOneUpdate = (h : History M) → IsSound h
+      → (present (update h) ≡ current h) × (present (update (update h)) ≡ [])

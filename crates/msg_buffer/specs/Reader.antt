@@ -37,8 +37,16 @@ module _ {M : Type 0} where
 
   -- what a read goes past: what it gives
   abbrev pub read : History M → ℕ → Option ℕ → Stretch
-  read h place limit = record { missed = missed h place; first = first h place; number = length (given h place limit) }
+  read h place limit = record {
+    missed = missed h place;
+    first = first h place;
+    number = length (given h place limit);
+  }
 
   -- what a clear goes past: all that is unread
   abbrev pub pass_over : History M → ℕ → Stretch
-  pass_over h place = record { missed = missed h place; first = first h place; number = length (unread h place) }
+  pass_over h place = record {
+    missed = missed h place;
+    first = first h place;
+    number = length (unread h place);
+  }

@@ -45,7 +45,8 @@ module _ {M A : Type 0} where
   IterSteps old item new = MatchOption item (Ends old new) (λ x. Gives old x new)
 
 -- An iterator that was `start` is now `now`. In between it gave these, as `view` shows them, and left none out.
-pub record HasGiven {M A X : Type 0} (view : Instance M → X) (start now : MessageIter M A) (taken : List X) : Type 0 where
+pub record HasGiven {M A X : Type 0} (view : Instance M → X) (start now : MessageIter M A) (taken : List X)
+    : Type 0 where
   pub given : map view (iter_rest start) ≡ taken ++ map view (iter_rest now)
   pub place : iter_place now ≡ iter_place start + length taken
   pub continues : Continues start now

@@ -1,5 +1,5 @@
--- How the reads and clears of one reader tile its history: nothing is gone past twice, and nothing is left out but what was
--- missed.
+-- How the reads and clears of one reader tile its history: nothing is gone past twice, and nothing is
+-- left out but what was missed.
 use Rattle.std.specs.Prelude.{◌≡◌, ℕ, ◌+◌, ◌≤◌, ◌<◌, List, [], ◌∷◌, take, drop, Option}
 use Rattle.msg_buffer.specs.History.{History, IsPresent, IsSound, count, instances}
 use Rattle.msg_buffer.specs.Reader.{Stretch, next_place, given, read, pass_over}
@@ -23,7 +23,8 @@ module _ (M : Type 0) where
   abbrev pub ReadsFit : Type 0
   ReadsFit = (h : History M) (place : ℕ) (limit : Option ℕ) → IsSound h
       → Fits h place (read h place limit)
-      × (given h place limit ≡ take (read h place limit).number (drop (read h place limit).first (instances h)))
+      × (given h place limit
+      ≡ take (read h place limit).number (drop (read h place limit).first (instances h)))
       × (place ≤ count h → next_place (read h place limit) ≤ count h)
 
   -- Each clear fits, and ends at the count.

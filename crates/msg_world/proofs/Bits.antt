@@ -1,0 +1,126 @@
+-- Bits of masks, as tests.
+use Rattle.std.proofs.Common.{◌≡◌, ◌≢◌, ℕ, zero, suc, ◌+◌, ◌*◌, ◌-◌, ◌/◌, ◌^◌, ◌%◌, ◌<◌, ◌≤◌, min, max, Bool, true, false, not, ◌&&◌, ◌||◌, inl, inr, refl, ap, sym, ◌∙◌, arith, w64}
+use Rattle.std.specs.Prelude.{◌==◌, ◌↔◌, IsTrue, bit_and, bit_or}
+use Rattle.std.specs.Int.{bit_at, bit_not, trailing_zeros}
+use Rattle.std.proofs.lemmas.Bool.{cases_Bool, and_from, and_parts, cases_lt, cases_eq, eqb-true, eq-eqb, ne_eqb, eqb-false, not-true, false≢true}
+use Rattle.std.proofs.lemmas.Nat.{and_le_l, shr-shr}
+use Rattle.std.proofs.Math.Nat.{div-le_self}
+use Rattle.std.proofs.lemmas.Nat.Bits.{bit_at_and, bit_at_or, bit_at_not, bit_at_above, bit_at-zero, bit_at-lt, bit_at_set_same, bit_at_set_other, bit_at_clear_same, bit_at_clear_other, bit_at-trailing_zeros}
+use Rattle.msg_world.specs.Access.{has_bit}
+use Rattle.msg_world.specs.Masks.{ShareBit, IsBelow, IsWithin}
+
+or_test : (x y : ℕ) → x < 2 → y < 2 → (max x y == 1) ≡ ((x == 1) || (y == 1))
+or_test zero zero h k = refl
+or_test zero (suc zero) h k = refl
+or_test (suc zero) zero h k = refl
+or_test (suc zero) (suc zero) h k = refl
+or_test zero (suc (suc y)) h k = absurd (omega arith)
+or_test (suc zero) (suc (suc y)) h k = absurd (omega arith)
+or_test (suc (suc x)) y h k = absurd (omega arith)
+
+and_test : (x y : ℕ) → x < 2 → y < 2 → (min x y == 1) ≡ ((x == 1) && (y == 1))
+and_test zero zero h k = refl
+and_test zero (suc zero) h k = refl
+and_test (suc zero) zero h k = refl
+and_test (suc zero) (suc zero) h k = refl
+and_test zero (suc (suc y)) h k = absurd (omega arith)
+and_test (suc zero) (suc (suc y)) h k = absurd (omega arith)
+and_test (suc (suc x)) y h k = absurd (omega arith)
+
+not_test : (y : ℕ) → y < 2 → (1 - y == 1) ≡ not (y == 1)
+not_test zero h = refl
+not_test (suc zero) h = refl
+not_test (suc (suc y)) h = absurd (omega arith)
+
+pub has_bit-zero : (k : ℕ) → has_bit 0 k ≡ false
+has_bit-zero k = ap (λ n. n == 1) (bit_at-zero k)
+
+pub has_bit-or : (a b k : ℕ) → has_bit (bit_or a b) k ≡ (has_bit a k || has_bit b k)
+has_bit-or a b k = ap (λ n. n == 1) (bit_at_or a b k) ∙ or_test (bit_at a k) (bit_at b k) (bit_at-lt a k) (bit_at-lt b k)
+
+pub has_bit-and : (a b k : ℕ) → has_bit (bit_and a b) k ≡ (has_bit a k && has_bit b k)
+has_bit-and a b k = ap (λ n. n == 1) (bit_at_and a b k) ∙ and_test (bit_at a k) (bit_at b k) (bit_at-lt a k) (bit_at-lt b k)
+
+-- a mask of 64 bits has none from 64 on
+pub has_bit-above : (a k : ℕ) → a < 2 ^ 64 → 64 ≤ k → has_bit a k ≡ false
+has_bit-above a k h l = ap (λ n. n == 1) (bit_at_above a 64 k h l)
+
+and_false : (b : Bool) → false ≡ (b && false)
+and_false true = refl
+and_false false = refl
+
+pub has_bit-clear : (a b k : ℕ) → a < 2 ^ 64 → b < 2 ^ 64 → has_bit (bit_and a (bit_not w64 b)) k ≡ (has_bit a k && not (has_bit b k))
+has_bit-clear a b k la lb = has_bit-and a (bit_not w64 b) k ∙ elim (cases_lt k 64) [
+  | inl l ↦ ap (λ x. has_bit a k && x) (ap (λ n. n == 1) (bit_at_not w64 b k lb l) ∙ not_test (bit_at b k) (bit_at-lt b k))
+  | inr l ↦ ap (λ x. x && has_bit (bit_not w64 b) k) (has_bit-above a k la l) ∙ ap (λ x. x && not (has_bit b k)) (sym (has_bit-above a k la l))
+]
+
+-- `mask | (1 << k)`
+pub has_bit-set : (mask k j : ℕ) → k < 64 → has_bit (bit_or mask (1 * 2 ^ k % 2 ^ 64)) j ≡ (j == k || has_bit mask j)
+has_bit-set mask k j h = elim (cases_eq j k) [
+  | inl e ↦ rw (e, eq-eqb k k refl) (ap (λ n. n == 1) (bit_at_set_same w64 mask k h))
+  | inr ne ↦ rw (ne_eqb j k ne) (ap (λ n. n == 1) (bit_at_set_other w64 mask k h j ne))
+]
+
+-- `mask & !(1 << k)`
+pub has_bit-unset : (mask k j : ℕ) → k < 64 → j < 64 → has_bit (bit_and mask (bit_not w64 (1 * 2 ^ k % 2 ^ 64))) j ≡ (not (j == k) && has_bit mask j)
+has_bit-unset mask k j h l = elim (cases_eq j k) [
+  | inl e ↦ rw (e, eq-eqb k k refl) (ap (λ n. n == 1) (bit_at_clear_same w64 mask k h))
+  | inr ne ↦ rw (ne_eqb j k ne) (ap (λ n. n == 1) (bit_at_clear_other w64 mask k h j l ne))
+]
+
+-- a mask that isn't 0 has a bit
+pub some_bit : (n : ℕ) → n < 2 ^ 64 → n ≢ 0 → (k : ℕ) × ((k < 64) × IsTrue (has_bit n k))
+some_bit n fits ne =
+    let bit = bit_at-trailing_zeros w64 n (omega arith) fits in
+    (trailing_zeros w64 n, (bit.0, eq-eqb (bit_at n (trailing_zeros w64 n)) 1 bit.1))
+
+-- the test `a & b != 0`
+pub share_bit-and : (a b : ℕ) → a < 2 ^ 64 → IsTrue (not (bit_and a b == 0)) ↔ ShareBit a b
+share_bit-and a b fits =
+    let le : bit_and a b ≤ a = and_le_l a b in (
+      λ t. let bit = some_bit (bit_and a b) (omega arith) (eqb-false (bit_and a b) 0 (not-true (bit_and a b == 0) t)) in
+          (bit.0, sym (has_bit-and a b bit.0) ∙ bit.1.1),
+      λ s. elim (cases_eq (bit_and a b) 0) [
+        | inl e ↦ absurd (false≢true (sym (has_bit-zero s.0) ∙ ap (λ n. has_bit n s.0) (sym e) ∙ has_bit-and a b s.0 ∙ s.1))
+        | inr ne ↦ ap not (ne_eqb (bit_and a b) 0 ne)
+      ],
+    )
+
+-- the test `mask >> n == 0`
+pub shr-is_below : (mask n : ℕ) → mask < 2 ^ 64 → IsTrue (mask / 2 ^ n == 0) ↔ IsBelow mask n
+shr-is_below mask n fits = (
+  λ t k bit. elim (cases_lt k n) [
+    | inl l ↦ l
+    | inr l ↦
+        let k' : ℕ = k - n in
+        let is : n + k' ≡ k = omega arith in
+        let gone : mask / 2 ^ n ≡ 0 = eqb-true (mask / 2 ^ n) 0 t in
+        absurd (false≢true (sym (has_bit-zero k') ∙ ap (λ m. has_bit m k') (sym gone) ∙ ap (λ m. m % 2 == 1) (shr-shr mask n k') ∙ ap (has_bit mask) is ∙ bit))
+  ],
+  λ below. elim (cases_eq (mask / 2 ^ n) 0) [
+    | inl e ↦ eq-eqb (mask / 2 ^ n) 0 e
+    | inr ne ↦
+        let le : mask / 2 ^ n ≤ mask = div-le_self mask (2 ^ n) in
+        let bit = some_bit (mask / 2 ^ n) (omega arith) ne in
+        let past : n + bit.0 < n = below (n + bit.0) (sym (ap (λ m. m % 2 == 1) (shr-shr mask n bit.0)) ∙ bit.1.1) in
+        absurd (omega arith)
+  ],
+)
+
+-- a mask without the bits of another is 0 where it has no other bits
+pub zero-is_within : (mask other rest : ℕ) → rest < 2 ^ 64 → ((k : ℕ) → has_bit rest k ≡ (has_bit mask k && not (has_bit other k)))
+    → IsTrue (rest == 0) ↔ IsWithin mask other
+zero-is_within mask other rest fits bits = (
+  λ t k bit. elim (cases_Bool (has_bit other k)) [
+    | inl has ↦ has
+    | inr hasnt ↦ absurd (false≢true (sym (has_bit-zero k) ∙ ap (λ n. has_bit n k) (sym (eqb-true rest 0 t)) ∙ bits k ∙ and_from (has_bit mask k) (not (has_bit other k)) bit (ap not hasnt)))
+  ],
+  λ within. elim (cases_eq rest 0) [
+    | inl e ↦ eq-eqb rest 0 e
+    | inr ne ↦
+        let bit = some_bit rest fits ne in
+        let both = and_parts (has_bit mask bit.0) (not (has_bit other bit.0)) (sym (bits bit.0) ∙ bit.1.1) in
+        absurd (false≢true (ap not (sym (within bit.0 both.0)) ∙ both.1))
+  ],
+)

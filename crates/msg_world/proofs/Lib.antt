@@ -1,0 +1,4 @@
+mod Bits
+mod Loans
+mod Parts
+mod Worlds

@@ -1,0 +1,210 @@
+-- What loans stand for.
+use Rattle.std.proofs.Common.{◌≡◌, ℕ, ◌<◌, length, Bool, true, false, refl, sym, ap, subst, ◌∙◌, inl, inr, Option, Some, None}
+use Rattle.std.specs.Prelude.{ℤ, IfSome, IsSome, IsTrue, is_some, option_map, if◌then◌else◌}
+use Rattle.std.specs.Option.{option_or}
+use Rattle.std.proofs.lemmas.Bool.{and_from, cases_Bool, cases_eq, cases_lt, eq-eqb, ne_eqb, false≢true, or_left, or_right}
+use Rattle.std.proofs.Math.ListN.{length-set}
+use Rattle.std.proofs.lemmas.List.{get_or-set_same, get_or-set_other, get_or_past}
+use Rattle.msg_buffer.specs.History.{History}
+use Rattle.msg_buffer.specs.StandsFor.{StandsFor}
+use Rattle.msg_world.specs.declared.record.Record.{Record}
+use Rattle.msg_world.specs.Lending.{with_value}
+use Rattle.msg_world.proofs.Worlds.{type_shape}
+use Rattle.std.proofs.lemmas.Option.{none-some}
+use Rattle.msg_world.specs.declared.access.Access.{Access}
+use Rattle.msg_world.specs.declared.lent.Lent.{Lent}
+use Rattle.msg_world.specs.declared.marks.Marks.{Marks}
+use Rattle.msg_world.specs.Access.{Part, OfType, OfResource, Registry, reads, uses, writes}
+use Rattle.msg_world.specs.Loan.{LoanStands, with_messages, with_resource, writable}
+use Rattle.msg_world.specs.LoanLaws.{HomeAgain, HomeMerges, LentIsLoan, LoanStays, MayComeHome, StaysApart, ValuesStand, WritesStand}
+use Rattle.msg_world.specs.Parts.{IsHome, LendsOut, Parts, SameShape, Stuff, StuffStands, slot}
+use Rattle.msg_world.specs.World.{Content, WorldState, content, merge, signalled, signalled_marks, with_history, with_value_of}
+
+same_marks : (m : Option Marks) (n : Marks) → IfSome m (λ k. k ≡ n) → IfSome (option_map signalled_marks m) (λ k. k ≡ signalled_marks n)
+same_marks None n is = tt
+same_marks (Some m) n is = ap signalled_marks is
+
+still_some : (m : Option Marks) → is_some (option_map signalled_marks m) ≡ is_some m
+still_some None = refl
+still_some (Some m) = refl
+
+abbrev pub with_signal : Parts → Parts
+with_signal w = record w { marks = option_map signalled_marks w.marks }
+
+pub with_signal_shape : (w : Parts) → SameShape w (with_signal w)
+with_signal_shape w = record { size = record { types = refl; resources = refl }; there = there }
+  where
+    there : (p : Part) → is_some (slot p (with_signal w)) ≡ is_some (slot p w)
+    there (OfType t) = refl
+    there (OfResource r) = refl
+    there Registry = still_some w.marks
+
+-- a loan of the registry, after a signal
+pub signal_stands : (l : Lent) (s : WorldState) → l.access.registry ≡ true → LoanStands l s → LoanStands (record l { taken = with_signal l.taken }) (signalled s)
+signal_stands l s lent stand (OfType t) = stand (OfType t)
+signal_stands l s lent stand (OfResource r) = stand (OfResource r)
+signal_stands l s lent stand Registry =
+    let P : Bool → Type 0 = λ b. IfSome (if b then option_map signalled_marks l.taken.marks else None) (λ k. k ≡ signalled_marks s.marks) in
+    let Q : Bool → Type 0 = λ b. IfSome (if b then l.taken.marks else None) (λ k. k ≡ s.marks) in
+    subst P (sym lent) (same_marks l.taken.marks s.marks (subst Q lent (stand Registry)))
+
+-- ---- writing
+
+type_there : (w : Parts) (t : ℕ) → IsSome (slot (OfType t) w) → t < length w.types
+type_there w t there = elim (cases_lt t (length w.types)) [
+  | inl lt ↦ lt
+  | inr past ↦ absurd (false≢true (sym (ap is_some (get_or_past w.types t None past)) ∙ there))
+]
+
+value_there : (w : Parts) (r : ℕ) → IsSome (slot (OfResource r) w) → r < length w.resources
+value_there w r there = elim (cases_lt r (length w.resources)) [
+  | inl lt ↦ lt
+  | inr past ↦ absurd (false≢true (sym (ap is_some (get_or_past w.resources r None past)) ∙ there))
+]
+
+-- what may be written is written by the access, and there
+is_written : (p : Part) (l : Lent) → IsSome (writable p l) → IsTrue (writes l.access p) × IsSome (slot p l.taken)
+is_written p l there = elim (cases_Bool (writes l.access p)) [
+  | inl is ↦ (is, rw is at there)
+  | inr isnt ↦ absurd (false≢true (rw isnt at there))
+]
+
+pub writes_are : WritesStand
+writes_are l t k there =
+    let written = is_written (OfType t) l there in
+    let lt = type_there l.taken t written.1 in (
+      record { access = refl; world = refl; shape = type_shape l.taken t k lt written.1 },
+      λ s h here stand. stands s h here stand written.0 lt,
+    )
+  where
+    stands : (s : WorldState) (h : History Record) → StandsFor k h → LoanStands l s → IsTrue (writes l.access (OfType t)) → t < length l.taken.types → LoanStands (with_messages l t k) (with_history s t h)
+    stands s h here stand written lt (OfType u) = elim (cases_eq u t) [
+      | inl e ↦ rw (e, written, get_or-set_same l.taken.types t (Some k) None lt, eq-eqb t t refl) here
+      | inr ne ↦ rw (get_or-set_other l.taken.types t u (Some k) None ne, ne_eqb u t ne) (stand (OfType u))
+    ]
+    stands s h here stand written lt (OfResource r) = stand (OfResource r)
+    stands s h here stand written lt Registry = stand Registry
+
+value_shape : (w : Parts) (r : ℕ) (z : ℤ) → r < length w.resources → IsSome (slot (OfResource r) w) → SameShape w (with_value w r z)
+value_shape w r z lt there = record { size = record { types = refl; resources = length-set w.resources r (Some z) }; there = same }
+  where
+    same : (p : Part) → is_some (slot p (with_value w r z)) ≡ is_some (slot p w)
+    same (OfType t) = refl
+    same (OfResource q) = elim (cases_eq q r) [
+      | inl e ↦ rw (e, get_or-set_same w.resources r (Some z) None lt) (sym there)
+      | inr ne ↦ ap is_some (get_or-set_other w.resources r q (Some z) None ne)
+    ]
+    same Registry = refl
+
+pub values_are_written : ValuesStand
+values_are_written l r z there =
+    let written = is_written (OfResource r) l there in
+    let lt = value_there l.taken r written.1 in (
+      record { access = refl; world = refl; shape = value_shape l.taken r z lt written.1 },
+      λ s stand. stands s stand written.0 lt,
+    )
+  where
+    stands : (s : WorldState) → LoanStands l s → IsTrue (writes l.access (OfResource r)) → r < length l.taken.resources → LoanStands (with_resource l r z) (with_value_of s r z)
+    stands s stand written lt (OfType t) = stand (OfType t)
+    stands s stand written lt (OfResource q) = elim (cases_eq q r) [
+      | inl e ↦ rw (e, written, get_or-set_same l.taken.resources r (Some z) None lt, eq-eqb r r refl) refl
+      | inr ne ↦ rw (get_or-set_other l.taken.resources r q (Some z) None ne, ne_eqb q r ne) (stand (OfResource q))
+    ]
+    stands s stand written lt Registry = stand Registry
+
+-- ---- lending out
+
+lent_written : (a : Access) (old left taken : Parts) → IsHome a old → LendsOut a old left taken → (p : Part) → is_some (slot p taken) ≡ writes a p
+lent_written a old left taken home lends p = elim (cases_Bool (writes a p)) [
+  | inl is ↦ ap is_some (lends.moved p) ∙ rw is (home p (or_right (reads a p) (writes a p) is))
+  | inr isnt ↦ ap is_some (lends.moved p) ∙ rw isnt refl
+]
+
+lent_read : (a : Access) (old left taken : Parts) → IsHome a old → LendsOut a old left taken → (p : Part) → IsTrue (reads a p) → writes a p ≡ false → IsSome (slot p left)
+lent_read a old left taken home lends p read isnt = ap is_some (lends.stayed p) ∙ rw isnt (home p (or_left (reads a p) (writes a p) read))
+
+-- what is one of two slots, or nothing, stands where they do
+chosen_stands : (p : Part) (s : WorldState) (b : Bool) (o : Option (Stuff p)) → IfSome o (λ k. StuffStands p k (content p s))
+    → IfSome (if b then o else None) (λ k. StuffStands p k (content p s)) × IfSome (if b then None else o) (λ k. StuffStands p k (content p s))
+chosen_stands p s true o stands = (stands, tt)
+chosen_stands p s false o stands = (tt, stands)
+
+pub lent_is_loan : LentIsLoan
+lent_is_loan a old left taken home lends = (
+  record {
+    size = record { types = lends.taken_size.types ∙ sym lends.left_size.types; resources = lends.taken_size.resources ∙ sym lends.left_size.resources };
+    written = lent_written a old left taken home lends;
+    read = lent_read a old left taken home lends;
+  },
+  λ s stand. (
+    λ p. let P : Option (Stuff p) → Type 0 = λ o. IfSome o (λ k. StuffStands p k (content p s)) in subst P (sym (lends.stayed p)) (chosen_stands p s (writes a p) (slot p old) (stand p)).1,
+    λ p. let P : Option (Stuff p) → Type 0 = λ o. IfSome o (λ k. StuffStands p k (content p s)) in subst P (sym (lends.moved p)) (chosen_stands p s (writes a p) (slot p old) (stand p)).0,
+  ),
+)
+
+-- ---- side by side
+
+pub loan_stays : LoanStays
+loan_stays a b world taken left others apart loan lends = record {
+  size = record { types = loan.size.types ∙ sym lends.left_size.types; resources = loan.size.resources ∙ sym lends.left_size.resources };
+  written = loan.written;
+  read = λ p read isnt. elim (cases_Bool (writes b p)) [
+    | inl is ↦ absurd (apart (p, inr (and_from (writes b p) (uses a p) is (or_left (reads a p) (writes a p) read))))
+    | inr free ↦ ap is_some (lends.stayed p) ∙ rw free (loan.read p read isnt)
+  ];
+}
+
+-- ---- coming home
+
+taken_is_out : (a : Access) (old left taken later : Parts) → LendsOut a old left taken → SameShape taken later → (p : Part) → IsSome (slot p later) → slot p left ≡ None
+taken_is_out a old left taken later lends same p there = elim (cases_Bool (writes a p)) [
+  | inl is ↦ lends.stayed p ∙ rw is refl
+  | inr isnt ↦ absurd (false≢true (sym (ap is_some (lends.moved p) ∙ rw isnt refl) ∙ sym (same.there p) ∙ there))
+]
+
+pub may_come_home : MayComeHome
+may_come_home a old left taken later lends same = record {
+  size = record { types = same.size.types ∙ lends.taken_size.types ∙ sym lends.left_size.types; resources = same.size.resources ∙ lends.taken_size.resources ∙ sym lends.left_size.resources };
+  out = taken_is_out a old left taken later lends same;
+}
+
+pub stays_apart : StaysApart
+stays_apart taken others world home apart back none = record {
+  size = record { types = apart.size.types ∙ sym back.size.types; resources = apart.size.resources ∙ sym back.size.resources };
+  out = λ p there. back.joined p ∙ rw (none p there, apart.out p there) refl;
+}
+
+content_merged : (a : Access) (mine s : WorldState) (p : Part) → content p (merge a mine s) ≡ (if writes a p then content p mine else content p s)
+content_merged a mine s (OfType t) = refl
+content_merged a mine s (OfResource r) = refl
+content_merged a mine s Registry = refl
+
+merged_slot : (p : Part) (b : Bool) (x y : Option (Stuff p)) (mine s : WorldState) → (b ≡ false → x ≡ None) → (b ≡ true → y ≡ None)
+    → IfSome x (λ k. StuffStands p k (content p mine)) → IfSome y (λ k. StuffStands p k (content p s))
+    → IfSome (option_or x y) (λ k. StuffStands p k (if b then content p mine else content p s))
+merged_slot p true (Some x) y mine s none out here there = here
+merged_slot p true None None mine s none out here there = tt
+merged_slot p true None (Some y) mine s none out here there = absurd (none-some y (sym (out refl)))
+merged_slot p false None None mine s none out here there = tt
+merged_slot p false None (Some y) mine s none out here there = there
+merged_slot p false (Some x) y mine s none out here there = absurd (none-some x (sym (none refl)))
+
+pub home_merges : HomeMerges
+home_merges a taken world home mine s none out back here there p =
+    let P : Option (Stuff p) → Type 0 = λ o. IfSome o (λ k. StuffStands p k (if writes a p then content p mine else content p s)) in
+    let Q : Content p → Type 0 = λ x. IfSome (slot p home) (λ k. StuffStands p k x) in
+    subst Q (sym (content_merged a mine s p))
+    (subst P (sym (back.joined p)) (merged_slot p (writes a p) (slot p taken) (slot p world) mine s (none p) (out p) (here p) (there p)))
+
+home_slot : (b : Bool) {X : Type 0} (old left taken later home : Option X) → taken ≡ (if b then old else None) → left ≡ (if b then None else old)
+    → is_some later ≡ is_some taken → home ≡ option_or later left → is_some home ≡ is_some old
+home_slot true old left taken None home moved stayed same back = ap is_some back ∙ ap is_some stayed ∙ same ∙ ap is_some moved
+home_slot true old left taken (Some x) home moved stayed same back = ap is_some back ∙ same ∙ ap is_some moved
+home_slot false old left taken None home moved stayed same back = ap is_some back ∙ ap is_some stayed
+home_slot false old left taken (Some x) home moved stayed same back = absurd (false≢true (sym (ap is_some moved) ∙ sym same))
+
+pub home_again : HomeAgain
+home_again a old left taken later home lends same back = record {
+  size = record { types = back.size.types ∙ lends.left_size.types; resources = back.size.resources ∙ lends.left_size.resources };
+  there = λ p. home_slot (writes a p) (slot p old) (slot p left) (slot p taken) (slot p later) (slot p home) (lends.moved p) (lends.stayed p) (same.there p) (back.joined p);
+}

@@ -1,0 +1,5 @@
+use Rattle.msg_world.proofs.Loans.{loan_stays}
+use Rattle.msg_world.proofs.laws.loans_stand_side_by_side.Goals as goal
+
+pub returns : goal.returns
+returns c = record { law = loan_stays }

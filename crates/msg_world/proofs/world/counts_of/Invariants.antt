@@ -1,0 +1,12 @@
+use Rattle.std.proofs.Common.{◌≡◌, ℕ, ◌<◌, length, Some}
+use Rattle.std.specs.Prelude.{IsSome, slice_get}
+use Rattle.msg_buffer.specs.History.{History, count}
+use Rattle.msg_world.specs.declared.record.Record.{Record}
+use Rattle.msg_world.specs.Slots.{BufferStands, at}
+use Rattle.msg_world.proofs.world.counts_of.Given as goal
+
+abbrev pub invariant-loop-slot : goal.invariant-loop-slot
+invariant-loop-slot l = record {
+  types : length l.counts ≡ l.slot-index;
+  counts : (t : ℕ) → t < l.slot-index → IsSome (at l.types t) → (h : History Record) → BufferStands (at l.types t) h → slice_get l.counts t ≡ Some (count h);
+}

@@ -1,0 +1,12 @@
+use Rattle.std.proofs.Common.{◌≡◌, ℕ, ◌<◌, length}
+use Rattle.std.specs.Prelude.{IsSomeAnd, slice_index}
+use Rattle.msg_buffer.specs.History.{empty}
+use Rattle.msg_buffer.specs.StandsFor.{StandsFor}
+use Rattle.msg_world.specs.Slots.{at}
+use Rattle.msg_world.proofs.world.new_types.Given as goal
+
+abbrev pub invariant-loop-limit : goal.invariant-loop-limit
+invariant-loop-limit l = record {
+  as_many : length l.types.items ≡ l.limit-index;
+  empty : (t : ℕ) → t < l.limit-index → IsSomeAnd (at l.types.items t) (λ k. StandsFor k (empty (slice_index l.limits t)));
+}

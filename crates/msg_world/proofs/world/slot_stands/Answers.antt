@@ -1,0 +1,10 @@
+use Rattle.std.specs.Prelude.{pos}
+use Rattle.msg_buffer.specs.History.{empty}
+use Rattle.msg_world.specs.World.{by}
+use Rattle.msg_world.proofs.world.slot_stands.Goals as goal
+
+pub returns-in-Some : goal.returns-in-Some
+returns-in-Some c = record { history = rw c.in-Some.is (c.stands_for_some.ensures.history (by 0 (pos 0))) }
+
+pub returns-in_default : goal.returns-in_default
+returns-in_default c = record { history = rw c.in_default.is (empty 0, tt) }

@@ -1,0 +1,13 @@
+use Rattle.std.proofs.Common.{◌≡◌, ℕ, ◌<◌, ◌≤◌}
+use Rattle.std.specs.Prelude.{is_some}
+use Rattle.msg_buffer.specs.History.{History, update}
+use Rattle.msg_world.specs.declared.record.Record.{Record}
+use Rattle.msg_world.specs.Slots.{BufferStands, at}
+use Rattle.msg_world.proofs.world.update_each.Given as goal
+
+abbrev pub invariant-loop-slot : goal.invariant-loop-slot
+invariant-loop-slot l = record {
+  there : (t : ℕ) → is_some (at l.types t) ≡ is_some (at l.initial.types t);
+  updated : (t : ℕ) → t < l.slot-index → (h : History Record) → BufferStands (at l.initial.types t) h → BufferStands (at l.types t) (update h);
+  rest : (t : ℕ) → l.slot-index ≤ t → at l.types t ≡ at l.initial.types t;
+}

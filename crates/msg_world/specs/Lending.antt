@@ -1,0 +1,30 @@
+-- How the references that a loan gives out write back to it.
+use Rattle.std.specs.Prelude.{ℕ, ℤ, Option, Some, slice_set}
+use Rattle.std.specs.Borrow.{LendsIf, MutBor, Fml, RattleType, i64}
+use Rattle.std.specs.contracts.alloc.Global.{the_row as global_row}
+use Rattle.std.specs.contracts.impls.GlobalAllocator.TheImpl.{ghosts}
+use Rattle.msg_buffer.specs.contracts.messages.Messages.{the_row as messages_of}
+use Rattle.msg_buffer.specs.Kept.{Kept}
+use Rattle.msg_world.specs.declared.record.Record.{Record}
+use Rattle.msg_world.specs.contracts.record.Record.{the_row as record_row}
+use Rattle.msg_world.specs.contracts.taken.Taken.{the_row as taken_row}
+use Rattle.msg_world.specs.Parts.{Parts}
+
+-- a buffer of records, as the logic names that type
+abbrev pub messages_row : RattleType
+messages_row = messages_of record_row global_row ghosts
+
+-- parts of which a type's messages, or a resource, were changed
+abbrev pub with_type : Parts → ℕ → Kept Record → Parts
+with_type w t k = record w { types = slice_set w.types t (Some k) }
+
+abbrev pub with_value : Parts → ℕ → ℤ → Parts
+with_value w r z = record w { resources = slice_set w.resources r (Some z) }
+
+-- the parts end with this type's messages as they were left
+abbrev pub LendsMessages : MutBor Parts → ℕ → Option (MutBor (Kept Record)) → Fml
+LendsMessages w t given = LendsIf taken_row messages_row w given (with_type w.now t) w.now
+
+-- the parts end with this resource as it was left
+abbrev pub LendsValue : MutBor Parts → ℕ → Option (MutBor ℤ) → Fml
+LendsValue w r given = LendsIf taken_row i64 w given (with_value w.now r) w.now

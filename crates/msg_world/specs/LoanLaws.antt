@@ -1,0 +1,60 @@
+-- What holds of parts that are lent and taken back, one after the other or side by side.
+use Rattle.std.specs.Prelude.{◌≡◌, ℕ, ℤ, false, None, IsSome, IsTrue}
+use Rattle.msg_buffer.specs.History.{History}
+use Rattle.msg_buffer.specs.Kept.{Kept}
+use Rattle.msg_buffer.specs.StandsFor.{StandsFor}
+use Rattle.msg_world.specs.declared.access.Access.{Access}
+use Rattle.msg_world.specs.declared.lent.Lent.{Lent}
+use Rattle.msg_world.specs.declared.record.Record.{Record}
+use Rattle.msg_world.specs.Access.{Part, OfType, OfResource, Conflict, writes}
+use Rattle.msg_world.specs.Loan.{IsLoanOf, LoanStands, SameLoan, with_messages, with_resource, writable}
+use Rattle.msg_world.specs.Parts.{IsApart, IsHome, LendsOut, Parts, PartsStand, SameShape, TakesBack, slot}
+use Rattle.msg_world.specs.World.{WorldState, merge, with_history, with_value_of}
+
+-- What was moved out is a loan of its access, and the world and the loan still stand for what the world
+-- stood for.
+abbrev pub LentIsLoan : Type 0
+LentIsLoan = (a : Access) (old left taken : Parts) → IsHome a old → LendsOut a old left taken
+    → IsLoanOf a left taken
+    × ((s : WorldState) → PartsStand old s → PartsStand left s × PartsStand taken s)
+
+-- What is written through a loan leaves it the same loan, and it stands for the world in which that was
+-- written.
+abbrev pub WritesStand : Type 0
+WritesStand = (l : Lent) (t : ℕ) (k : Kept Record) → IsSome (writable (OfType t) l)
+    → SameLoan l (with_messages l t k)
+    × ((s : WorldState) (h : History Record) → StandsFor k h → LoanStands l s
+    → LoanStands (with_messages l t k) (with_history s t h))
+
+abbrev pub ValuesStand : Type 0
+ValuesStand = (l : Lent) (r : ℕ) (z : ℤ) → IsSome (writable (OfResource r) l)
+    → SameLoan l (with_resource l r z)
+    × ((s : WorldState) → LoanStands l s → LoanStands (with_resource l r z) (with_value_of s r z))
+
+-- A loan stays one while parts are moved out of its world for an access that doesn't conflict with its own.
+abbrev pub LoanStays : Type 0
+LoanStays = (a b : Access) (world taken left others : Parts)
+    → ¬ Conflict a b → IsLoanOf a world taken → LendsOut b world left others → IsLoanOf a left taken
+
+-- What was moved out may be taken back, whatever was written to it.
+abbrev pub MayComeHome : Type 0
+MayComeHome = (a : Access) (old left taken later : Parts)
+    → LendsOut a old left taken → SameShape taken later → IsApart later left
+
+-- It still may when other parts have come home before it.
+abbrev pub StaysApart : Type 0
+StaysApart = (taken others world home : Parts) → IsApart taken world → TakesBack others world home
+    → ((p : Part) → IsSome (slot p taken) → slot p others ≡ None) → IsApart taken home
+
+-- Parts that an access wrote come home: the world then has them as they come, and all else as it was.
+abbrev pub HomeMerges : Type 0
+HomeMerges = (a : Access) (taken world home : Parts) (mine s : WorldState)
+    → ((p : Part) → writes a p ≡ false → slot p taken ≡ None)
+    → ((p : Part) → IsTrue (writes a p) → slot p world ≡ None)
+    → TakesBack taken world home → PartsStand taken mine → PartsStand world s
+    → PartsStand home (merge a mine s)
+
+-- Everything that was home is home again.
+abbrev pub HomeAgain : Type 0
+HomeAgain = (a : Access) (old left taken later home : Parts)
+    → LendsOut a old left taken → SameShape taken later → TakesBack later left home → SameShape old home

@@ -1,0 +1,20 @@
+-- What the private functions on lists of slots say. No public contract cites these.
+use Rattle.std.specs.Prelude.{◌≡◌, ℕ, Option, None, IfSome, is_some, List, length, slice_index_or}
+use Rattle.msg_buffer.specs.History.{History, update}
+use Rattle.msg_buffer.specs.Kept.{Kept}
+use Rattle.msg_buffer.specs.StandsFor.{StandsFor}
+use Rattle.msg_world.specs.declared.record.Record.{Record}
+
+-- what slot k holds: nothing past the end
+abbrev pub at : {X : Type 0} → List (Option X) → ℕ → Option X
+at xs k = slice_index_or xs k None
+
+-- the buffer in a slot stands for a history, where there is one
+abbrev pub BufferStands : Option (Kept Record) → History Record → Type 0
+BufferStands b h = IfSome b (λ k. StandsFor k h)
+
+-- each buffer was updated, and slots that were empty are
+pub record AllUpdated (old new : List (Option (Kept Record))) : Type 0 where
+  pub length : length new ≡ length old
+  pub there : (t : ℕ) → is_some (at new t) ≡ is_some (at old t)
+  pub updated : (t : ℕ) (h : History Record) → BufferStands (at old t) h → BufferStands (at new t) (update h)

@@ -1,0 +1,73 @@
+-- The world that systems share: the history of each message type, the value of each resource, and the
+-- registry of signals.
+use Rattle.std.specs.Prelude.{ℕ, ℤ, pos, Bool, true, false, not, ◌&&◌, ◌||◌, ◌==◌, List, slice_index, slice_index_or, if◌then◌else◌}
+use Rattle.msg_buffer.specs.History.{History, empty, update}
+use Rattle.msg_world.specs.declared.record.Record.{Record}
+use Rattle.msg_world.specs.declared.marks.Marks.{Marks}
+use Rattle.msg_world.specs.declared.access.Access.{Access}
+use Rattle.msg_world.specs.Access.{Part, OfType, OfResource, Registry, writes}
+
+-- Types and resources go by their numbers. A world that is held updates its types only where a signal is
+-- pending.
+pub record WorldState : Type 0 where
+  pub histories : ℕ → History Record
+  pub resources : ℕ → ℤ
+  pub marks : Marks
+
+-- what a part of the world is
+abbrev pub Content : Part → Type 0
+Content (OfType t) = History Record
+Content (OfResource r) = ℤ
+Content Registry = Marks
+
+abbrev pub content : (p : Part) → WorldState → Content p
+content (OfType t) s = s.histories t
+content (OfResource r) s = s.resources r
+content Registry s = s.marks
+
+-- nothing was written, and no world is held at first
+abbrev pub new_world : List ℕ → List ℤ → WorldState
+new_world limits resources = record {
+  histories = λ t. empty (slice_index limits t);
+  resources = λ r. slice_index_or resources r (pos 0);
+  marks = record { held = false; pending = false };
+}
+
+-- a message of this writer
+abbrev pub by : ℕ → ℤ → Record
+by writer value = record { writer = writer; value = value }
+
+abbrev pub with_history : WorldState → ℕ → History Record → WorldState
+with_history s t h = record s { histories = λ u. if u == t then h else s.histories u }
+
+abbrev pub with_value_of : WorldState → ℕ → ℤ → WorldState
+with_value_of s r z = record s { resources = λ q. if q == r then z else s.resources q }
+
+-- a held world waits until a signal is given
+abbrev pub waits : WorldState → Bool
+waits s = s.marks.held && not s.marks.pending
+
+-- The frame's update: every type is updated, and a signal is spent. A world that waits stays as it is.
+abbrev pub updated : WorldState → WorldState
+updated s =
+    if waits s then s
+    else record s { histories = λ t. update (s.histories t); marks = record s.marks { pending = false } }
+
+-- A signal makes a held world pending. It changes nothing where the world isn't held.
+abbrev pub signalled_marks : Marks → Marks
+signalled_marks m = record m { pending = m.pending || m.held }
+
+abbrev pub signalled : WorldState → WorldState
+signalled s = record s { marks = signalled_marks s.marks }
+
+-- held, and waiting
+abbrev pub held : WorldState → WorldState
+held s = record s { marks = record { held = true; pending = false } }
+
+-- The parts that an access writes as they are in one world, and all else as it is in another.
+abbrev pub merge : Access → WorldState → WorldState → WorldState
+merge a mine others = record {
+  histories = λ t. if writes a (OfType t) then mine.histories t else others.histories t;
+  resources = λ r. if writes a (OfResource r) then mine.resources r else others.resources r;
+  marks = if writes a Registry then mine.marks else others.marks;
+}

@@ -1,0 +1,164 @@
+ghost use Rattle.std.specs.Prelude.{◌≡◌, ◌||◌, ◌&&◌, not, ℕ, ◌↔◌, true, false, IsTrue};
+
+use crate::{ResNo, TypeNo, masks};
+
+/// What a job reads and writes: a bit for each message type and each resource, by its number, and
+/// whether it signals to the registry.
+///
+/// Two jobs may run side by side where their accesses don't conflict.
+#[derive(Clone, Copy, Debug, PartialEq, Eq)]
+pub struct Access {
+    pub read_types: u64,
+    pub write_types: u64,
+    pub read_res: u64,
+    pub write_res: u64,
+    pub registry: bool,
+}
+
+impl Access {
+    ghost use Rattle.msg_world.specs.Access.{Part, OfType, OfResource, Registry, reads, writes, uses, same_part, Conflict, IsClash, Fits};
+
+    /// The access that uses nothing.
+    pub fn none() -> Self
+        ensures { (p : Part) → uses result p ≡ false }
+    {
+        Access {
+            read_types: 0,
+            write_types: 0,
+            read_res: 0,
+            write_res: 0,
+            registry: false,
+        }
+    }
+
+    pub fn with_read_type(self, t: TypeNo) -> Self
+        ensures reads { (p : Part) → reads result p ≡ (same_part p (OfType t) || reads self p) }
+        ensures writes { (p : Part) → writes result p ≡ writes self p }
+    {
+        Access {
+            read_types: masks::with_bit(self.read_types, t.number()),
+            ..self
+        }
+    }
+
+    pub fn with_write_type(self, t: TypeNo) -> Self
+        ensures reads { (p : Part) → reads result p ≡ reads self p }
+        ensures writes { (p : Part) → writes result p ≡ (same_part p (OfType t) || writes self p) }
+    {
+        Access {
+            write_types: masks::with_bit(self.write_types, t.number()),
+            ..self
+        }
+    }
+
+    pub fn with_read_res(self, r: ResNo) -> Self
+        ensures reads { (p : Part) → reads result p ≡ (same_part p (OfResource r) || reads self p) }
+        ensures writes { (p : Part) → writes result p ≡ writes self p }
+    {
+        Access {
+            read_res: masks::with_bit(self.read_res, r.number()),
+            ..self
+        }
+    }
+
+    pub fn with_write_res(self, r: ResNo) -> Self
+        ensures reads { (p : Part) → reads result p ≡ reads self p }
+        ensures writes { (p : Part) → writes result p ≡ (same_part p (OfResource r) || writes self p) }
+    {
+        Access {
+            write_res: masks::with_bit(self.write_res, r.number()),
+            ..self
+        }
+    }
+
+    pub fn with_registry(self) -> Self
+        ensures reads { (p : Part) → reads result p ≡ reads self p }
+        ensures writes { (p : Part) → writes result p ≡ (same_part p Registry || writes self p) }
+    {
+        Access {
+            registry: true,
+            ..self
+        }
+    }
+
+    pub fn reads_type(&self, t: TypeNo) -> bool
+        ensures { result ≡ reads self.now (OfType t) }
+    {
+        masks::has(self.read_types, t.number())
+    }
+
+    pub fn writes_type(&self, t: TypeNo) -> bool
+        ensures { result ≡ writes self.now (OfType t) }
+    {
+        masks::has(self.write_types, t.number())
+    }
+
+    pub fn reads_res(&self, r: ResNo) -> bool
+        ensures { result ≡ reads self.now (OfResource r) }
+    {
+        masks::has(self.read_res, r.number())
+    }
+
+    pub fn writes_res(&self, r: ResNo) -> bool
+        ensures { result ≡ writes self.now (OfResource r) }
+    {
+        masks::has(self.write_res, r.number())
+    }
+
+    /// Whether one of them writes a part that the other uses, so that their jobs can't run side by side.
+    pub fn conflicts(&self, other: &Access) -> bool
+        ensures { IsTrue result ↔ Conflict self.now other.now }
+    {
+        let types = masks::collide(
+            self.read_types,
+            self.write_types,
+            other.read_types,
+            other.write_types,
+        );
+        let resources = masks::collide(
+            self.read_res,
+            self.write_res,
+            other.read_res,
+            other.write_res,
+        );
+        let registry = self.registry & other.registry;
+        types | resources | registry
+    }
+
+    /// The access of a job that does the work of both: what either writes is written, and no longer
+    /// listed as read.
+    pub fn union(&self, other: &Access) -> Access
+        ensures writes { (p : Part) → writes result p ≡ (writes self.now p || writes other.now p) }
+        ensures reads { (p : Part)
+            → reads result p ≡ ((reads self.now p || reads other.now p) && not (writes result p)) }
+    {
+        let write_types = masks::either(self.write_types, other.write_types);
+        let write_res = masks::either(self.write_res, other.write_res);
+        Access {
+            read_types: masks::without(
+                masks::either(self.read_types, other.read_types),
+                write_types,
+            ),
+            write_types,
+            read_res: masks::without(masks::either(self.read_res, other.read_res), write_res),
+            write_res,
+            registry: self.registry || other.registry,
+        }
+    }
+
+    /// Whether something is both read and written, which one system may not do.
+    pub fn is_clash(&self) -> bool
+        ensures { IsTrue result ↔ IsClash self.now }
+    {
+        masks::share_bit(self.read_types, self.write_types)
+            || masks::share_bit(self.read_res, self.write_res)
+    }
+
+    /// Whether a world of so many types and resources has all that is used.
+    pub fn fits(&self, types: u32, resources: u32) -> bool
+        ensures { IsTrue result ↔ Fits types resources self.now }
+    {
+        masks::is_below(self.read_types | self.write_types, types)
+            && masks::is_below(self.read_res | self.write_res, resources)
+    }
+}

@@ -1,0 +1,54 @@
+ghost use Rattle.std.specs.Prelude.{◌≡◌, ◌<◌, ◌++◌, ◌∷◌, [], length, slice_get};
+
+use crate::TypeNo;
+use std::marker::Model;
+
+/// How many messages of each type were ever written.
+#[derive(Drop)]
+pub struct Counts {
+    counts: [u64; 64],
+    types: usize,
+}
+
+impl Model for Counts {
+    ghost use Rattle.std.specs.Prelude.{ℕ, ◌≤◌, List, take};
+
+    ghost Value = { List ℕ };
+
+    ghost view = { λ c. take c.types c.counts };
+
+    ghost invariant = { λ c. c.types ≤ 64 };
+}
+
+impl Counts {
+    /// Of no types.
+    pub(crate) fn none() -> Counts
+        ensures none { length result ≡ 0 }
+    {
+        Counts {
+            counts: [0; 64],
+            types: 0,
+        }
+    }
+
+    /// Of one type more.
+    pub(crate) fn push(&mut self, count: u64)
+        requires room { length self.old < 64 }
+        ensures pushed { self.new ≡ self.old ++ count ∷ [] }
+    {
+        self.counts[self.types] = count;
+        self.types += 1;
+    }
+
+    /// How many of this type; None where there is no such type.
+    pub fn of(&self, t: TypeNo) -> Option<u64>
+        ensures count { result ≡ slice_get self.now t }
+    {
+        let k = t.number() as usize;
+        if k < self.types {
+            Some(self.counts[k])
+        } else {
+            None
+        }
+    }
+}

@@ -1,0 +1,31 @@
+//! Laws: facts that hold of every loan, and need no code.
+ghost use Rattle.msg_world.specs.LoanLaws.{HomeAgain, HomeMerges, LentIsLoan, LoanStays, MayComeHome, StaysApart, ValuesStand, WritesStand};
+
+/// What `World::lend_out` moved out may be opened for its access, and stands for what it stood for.
+pub fn lent_parts_are_a_loan()
+    ensures law { LentIsLoan }
+{}
+
+/// What is written by `Lent::writer` and `Lent::res_mut` is written in the world that the loan stands
+/// for, and leaves it the same loan.
+pub fn writes_stand()
+    ensures messages { WritesStand }
+    ensures values { ValuesStand }
+{}
+
+/// Loans whose accesses don't conflict stand side by side.
+pub fn loans_stand_side_by_side()
+    ensures law { LoanStays }
+{}
+
+/// What was moved out may be taken back after any use of it, also behind others.
+pub fn lent_parts_may_come_home()
+    ensures alone { MayComeHome }
+    ensures behind_others { StaysApart }
+{}
+
+/// What `World::take_back` makes of a world is that world with the written parts as they came back.
+pub fn written_parts_come_home()
+    ensures meaning { HomeMerges }
+    ensures shape { HomeAgain }
+{}

@@ -1,0 +1,118 @@
+use crate::access::Access;
+use crate::record::Record;
+use crate::taken::Taken;
+use crate::world::World;
+use crate::{ResNo, TypeNo};
+use msg_buffer::Messages;
+
+/// What one job works on: what its access only reads it sees in the world, beside others; what its
+/// access writes it owns, until it gives that back.
+#[derive(Drop)]
+pub struct Lent<'a> {
+    world: &'a World,
+    access: Access,
+    taken: Taken,
+}
+
+impl<'a> Lent<'a> {
+    ghost use Rattle.std.specs.Prelude.{◌≡◌, IsTrue, is_some, not};
+    ghost use Rattle.std.specs.Borrow.{sem};
+    ghost use Rattle.std.specs.Option.{option_copied, option_copied_mut};
+    ghost use Rattle.msg_world.specs.Access.{OfResource, OfType, Registry};
+    ghost use Rattle.msg_world.specs.Loan.{IsComplete, IsLoanOf, LendsResource, LendsWriter, LoanStands, SameLoan, access_of, shown, taken_of, writable};
+    ghost use Rattle.msg_world.specs.Parts.{PartsStand};
+    ghost use Rattle.msg_world.specs.World.{WorldState, signalled};
+
+    /// Opens the loan of what was moved out of the world for this access.
+    pub fn open(world: &'a World, access: &Access, taken: Taken) -> Lent<'a>
+        requires loan { IsLoanOf access.now world.now taken }
+        ensures access { access_of result ≡ access.now }
+        ensures taken { taken_of result ≡ taken }
+        ensures complete { IsComplete result }
+        ensures meaning { (s : WorldState) → PartsStand world.now s → PartsStand taken s
+            → LoanStands result s }
+    {
+        Lent {
+            world,
+            access: *access,
+            taken,
+        }
+    }
+
+    /// The messages of a type that is lent, for reading or for writing.
+    pub fn reader(&self, t: TypeNo) -> Option<&Messages<Record>>
+        ensures shown { option_copied result ≡ shown (OfType t) self.now }
+    {
+        if self.access.writes_type(t) {
+            self.taken.messages(t)
+        } else if self.access.reads_type(t) {
+            self.world.messages(t)
+        } else {
+            None
+        }
+    }
+
+    /// The value of a resource that is lent, for reading or for writing.
+    pub fn res(&self, r: ResNo) -> Option<i64>
+        ensures shown { result ≡ shown (OfResource r) self.now }
+    {
+        if self.access.writes_res(r) {
+            self.taken.value(r)
+        } else if self.access.reads_res(r) {
+            self.world.resource(r)
+        } else {
+            None
+        }
+    }
+
+    /// Asks for an update of a held world. It is false, and changes nothing, where the registry isn't
+    /// lent.
+    pub fn signal(&mut self) -> bool
+        ensures answer { result ≡ is_some (writable Registry self.old) }
+        ensures signalled { IsTrue result → (s : WorldState) → LoanStands self.old s
+            → LoanStands self.new (signalled s) }
+        ensures same { SameLoan self.old self.new }
+        ensures refused { IsTrue (not result) → self.new ≡ self.old }
+    {
+        if !self.access.registry {
+            return false;
+        }
+        self.taken.signal()
+    }
+
+    /// The messages of a type that is lent for writing.
+    pub fn writer(&mut self, t: TypeNo) -> Option<&mut Messages<Record>>
+        ensures* writes_back { sem 𝓛 (LendsWriter self.entry t result) }
+        ensures writable { option_copied_mut result ≡ writable (OfType t) self.old }
+    {
+        if self.access.writes_type(t) {
+            self.taken.messages_mut(t.number() as usize)
+        } else {
+            None
+        }
+    }
+
+    /// The value of a resource that is lent for writing.
+    pub fn res_mut(&mut self, r: ResNo) -> Option<&mut i64>
+        ensures* writes_back { sem 𝓛 (LendsResource self.entry r result) }
+        ensures writable { option_copied_mut result ≡ writable (OfResource r) self.old }
+    {
+        if self.access.writes_res(r) {
+            self.taken.value_mut(r.number() as usize)
+        } else {
+            None
+        }
+    }
+
+    /// Ends the loan, and gives back what it owned.
+    pub fn into_taken(self) -> Taken
+        ensures taken { result ≡ taken_of self.entry }
+    {
+        let Lent {
+            world: _,
+            access: _,
+            taken,
+        } = self;
+        taken
+    }
+}

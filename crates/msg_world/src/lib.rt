@@ -1,0 +1,31 @@
+//! The world that systems share, and the parts of it that are lent to a job.
+//!
+//! `World` has the messages of each type, the value of each resource and the registry of signals. An
+//! `Access` says what a job reads and writes. `World::lend_out` moves out what it writes, `Lent` shows
+//! that and what it only reads, and `World::take_back` moves it home: so jobs need no lock.
+#![tactic(auto)]
+
+mod access;
+mod counts;
+pub mod laws;
+mod lent;
+mod marks;
+mod masks;
+mod record;
+mod res_no;
+mod slots;
+mod taken;
+#[cfg(test)]
+mod tests;
+mod type_no;
+mod world;
+
+pub use access::Access;
+pub use counts::Counts;
+pub use lent::Lent;
+pub use msg_buffer::NoMemory;
+pub use record::{HOST, Record};
+pub use res_no::ResNo;
+pub use taken::Taken;
+pub use type_no::TypeNo;
+pub use world::World;

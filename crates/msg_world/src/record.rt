@@ -1,0 +1,9 @@
+/// The writer of messages that the host posts. Systems write as their number in order of addition.
+pub const HOST: u32 = 256;
+
+/// A message of a world: a value, and who wrote it.
+#[derive(Clone, Copy, Debug, PartialEq, Eq)]
+pub struct Record {
+    pub writer: u32,
+    pub value: i64,
+}

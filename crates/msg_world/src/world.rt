@@ -1,0 +1,297 @@
+ghost use Rattle.std.specs.Prelude.{◌≡◌, ℕ, ◌+◌, ◌<◌, ◌≤◌, ◌↔◌, [], ◌∷◌, length, slice_index, slice_get, is_some, Some, None, IfOk, IfErr, OnOk, OnErr, IsTrue, IsSome, IsSomeAnd, map, if◌then◌else◌};
+ghost use Rattle.std.specs.Option.{option_copied};
+ghost use Rattle.msg_buffer.specs.History.{History, count, empty, update, write};
+ghost use Rattle.msg_buffer.specs.Refusals.{IsSpent, message_refused};
+ghost use Rattle.msg_buffer.specs.StandsFor.{StandsFor};
+ghost use Rattle.msg_world.specs.Access.{Part, OfType, OfResource, Registry, writes};
+ghost use Rattle.msg_world.specs.Parts.{IsApart, IsHome, IsWhole, LendsOut, PartsStand, TakesBack, SameShape, SameSize, slot};
+ghost use Rattle.msg_world.specs.Slots.{AllUpdated, BufferStands, at};
+ghost use Rattle.msg_world.specs.World.{WorldState, by, held, new_world, updated, with_history};
+
+use crate::access::Access;
+use crate::counts::Counts;
+use crate::marks::Marks;
+use crate::record::{HOST, Record};
+use crate::slots::{empty_slots, filled, move_slots, return_slots, slot_ref};
+use crate::taken::Taken;
+use crate::{ResNo, TypeNo, masks};
+use msg_buffer::{MessageId, Messages, NoMemory, WriteRefusal};
+use std::alloc::Global;
+use std::marker::Model;
+
+/// What systems share: the messages of each type, the value of each resource, and the registry of
+/// signals. Parts of it may be out on loan.
+///
+/// Updates of a held world wait for a signal, which they spend.
+#[derive(Drop)]
+pub struct World {
+    types: Vec<Option<Messages<Record>>>,
+    resources: Vec<Option<i64>>,
+    marks: Option<Marks>,
+}
+
+impl Model for World {
+    ghost use Rattle.std.specs.Prelude.{◌≤◌, length};
+    ghost use Rattle.msg_world.specs.Parts.{Parts};
+
+    ghost Value = { Parts };
+
+    ghost view = { λ w. record { types = w.types.items; resources = w.resources.items; marks = w.marks } };
+
+    ghost invariant = { λ w. (length w.types.items ≤ 64) × (length w.resources.items ≤ 64) };
+}
+
+/// A buffer for each limit.
+fn new_types(alloc: Global, limits: &[u64]) -> Result<Vec<Option<Messages<Record>>>, NoMemory>
+    ensures as_many { IfOk result (λ v. length v.items ≡ length limits.now) }
+    ensures empty { IfOk result (λ v. (t : ℕ) → t < length limits.now
+        → IsSomeAnd (at v.items t) (λ k. StandsFor k (empty (slice_index limits.now t)))) }
+{
+    let mut types = Vec::new(alloc);
+    for limit in limits {
+        types.push(Some(Messages::new(alloc, *limit)))?;
+    }
+    Ok(types)
+}
+
+/// A slot for each value.
+fn new_resources(alloc: Global, values: &[i64]) -> Result<Vec<Option<i64>>, NoMemory>
+    ensures values { IfOk result (λ v. v.items ≡ map (λ z. Some z) values.now) }
+{
+    let mut resources = Vec::new(alloc);
+    for value in values {
+        resources.push(Some(*value))?;
+    }
+    Ok(resources)
+}
+
+/// Updates a buffer, if there is one.
+fn update_slot(slot: &mut Option<Messages<Record>>)
+    ensures there { is_some slot.new ≡ is_some slot.old }
+    ensures updated { (h : History Record) → BufferStands slot.old h
+        → BufferStands slot.new (update h) }
+{
+    if let Some(messages) = slot {
+        messages.update();
+    }
+}
+
+/// Updates every buffer that is there.
+fn update_each(types: &mut [Option<Messages<Record>>])
+    ensures updated { AllUpdated types.old types.new }
+{
+    for slot in types.iter_mut() {
+        update_slot(slot);
+    }
+}
+
+/// How many messages were ever written to a buffer; 0 where there is none.
+fn count_of(slot: &Option<Messages<Record>>) -> u64
+    ensures count { IsSome slot.now → (h : History Record) → BufferStands slot.now h
+        → result ≡ count h }
+{
+    match slot {
+        Some(messages) => messages.count(),
+        None => 0,
+    }
+}
+
+/// The counts of all buffers.
+fn counts_of(types: &[Option<Messages<Record>>]) -> Counts
+    requires few { length types.now ≤ 64 }
+    ensures types { length result ≡ length types.now }
+    ensures counts { (t : ℕ) → IsSome (at types.now t) → (h : History Record)
+        → BufferStands (at types.now t) h → slice_get result t ≡ Some (count h) }
+{
+    let mut counts = Counts::none();
+    for slot in types {
+        counts.push(count_of(slot));
+    }
+    counts
+}
+
+/// A law: a buffer, if there is one, stands for some history.
+fn slot_stands(slot: &Option<Messages<Record>>)
+    ensures history { (h : History Record) × BufferStands slot.now h }
+{
+    if let Some(messages) = slot {
+        messages.stands_for_some();
+    }
+}
+
+/// A law: each buffer stands for some history.
+fn each_stands(types: &[Option<Messages<Record>>])
+    ensures histories { (t : ℕ) → t < length types.now
+        → (h : History Record) × BufferStands (at types.now t) h }
+{
+    for slot in types {
+        slot_stands(slot);
+    }
+}
+
+/// Takes the marks out, if they are lent.
+fn take_marks(marks: &mut Option<Marks>, lent: bool) -> Option<Marks>
+    ensures taken { result ≡ (if lent then marks.old else None) }
+    ensures left { marks.new ≡ (if lent then None else marks.old) }
+{
+    if lent { marks.take() } else { None }
+}
+
+impl World {
+    /// A world that isn't held, with a message type for each limit and a resource for each value.
+    pub fn new(alloc: Global, limits: &[u64], resources: &[i64]) -> Result<World, NoMemory>
+        requires types { length limits.now ≤ 64 }
+        requires resources { length resources.now ≤ 64 }
+        ensures meaning { IfOk result (λ w. PartsStand w (new_world limits.now resources.now)) }
+        ensures whole { IfOk result IsWhole }
+        ensures types { IfOk result (λ w. length w.types ≡ length limits.now) }
+        ensures resources { IfOk result (λ w. length w.resources ≡ length resources.now) }
+    {
+        let types = new_types(alloc, limits)?;
+        let resources = new_resources(alloc, resources)?;
+        let marks = Some(Marks {
+            held: false,
+            pending: false,
+        });
+        Ok(World {
+            types,
+            resources,
+            marks,
+        })
+    }
+
+    /// A law: a world stands for some state.
+    pub fn stands_for_some(&self)
+        ensures state { (s : WorldState) × PartsStand self.now s }
+    {
+        each_stands(&self.types);
+    }
+
+    /// The update at the beginning of a frame: every type, or none where a held world waits.
+    pub fn update_all(&mut self)
+        requires whole { IsWhole self.old }
+        ensures meaning { (s : WorldState) → PartsStand self.old s → PartsStand self.new (updated s) }
+        ensures shape { SameShape self.old self.new }
+    {
+        let Some(marks) = self.marks else {
+            return;
+        };
+        if marks.is_waiting() {
+            return;
+        }
+        update_each(&mut self.types);
+        self.marks = Some(marks.spent());
+    }
+
+    /// Holds the world: its updates wait for a signal from now on. A signal that wasn't spent is lost.
+    pub fn set_held(&mut self)
+        requires whole { IsWhole self.old }
+        ensures meaning { (s : WorldState) → PartsStand self.old s → PartsStand self.new (held s) }
+        ensures shape { SameShape self.old self.new }
+    {
+        self.marks = Some(Marks {
+            held: true,
+            pending: false,
+        });
+    }
+
+    /// Writes one message of the host.
+    pub fn post(&mut self, t: TypeNo, value: i64) -> Result<MessageId, WriteRefusal<Record>>
+        requires home { IsSome (slot (OfType t) self.old) }
+        ensures meaning { OnOk result ((s : WorldState) → PartsStand self.old s
+            → PartsStand self.new
+            (with_history s t (write (by HOST value ∷ []) (s.histories t)))) }
+        ensures number { IfOk result (λ id. (s : WorldState) → PartsStand self.old s
+            → id.0 ≡ count (s.histories t)) }
+        ensures room { OnOk result ((s : WorldState) → PartsStand self.old s
+            → count (s.histories t) + 1 ≤ (s.histories t).limit) }
+        ensures spent { IfErr result (λ e. (s : WorldState) → PartsStand self.old s
+            → (IsSpent e ↔ ((s.histories t).limit < count (s.histories t) + 1))) }
+        ensures shape { SameShape self.old self.new }
+        ensures err { OnErr result (self.new ≡ self.old) }
+        ensures handed_back { IfErr result (λ e. message_refused e ≡ by HOST value) }
+    {
+        let slot = &mut self.types[t.number() as usize];
+        let record = Record {
+            writer: HOST,
+            value,
+        };
+        match slot {
+            Some(messages) => messages.write(record),
+            None => unreachable!(),
+        }
+    }
+
+    /// How many messages of each type were ever written.
+    pub fn counts(&self) -> Counts
+        requires whole { IsWhole self.now }
+        ensures types { length result ≡ length self.now.types }
+        ensures meaning { (s : WorldState) → PartsStand self.now s → (t : ℕ)
+            → t < length self.now.types → slice_get result t ≡ Some (count (s.histories t)) }
+    {
+        counts_of(&self.types)
+    }
+
+    /// The messages of a type; None where there is no such type, or it is out.
+    pub fn messages(&self, t: TypeNo) -> Option<&Messages<Record>>
+        ensures home { option_copied result ≡ slot (OfType t) self.now }
+    {
+        slot_ref(&self.types, t.number() as usize)
+    }
+
+    /// The value of a resource; None where there is no such resource, or it is out.
+    pub fn resource(&self, r: ResNo) -> Option<i64>
+        ensures home { result ≡ slot (OfResource r) self.now }
+    {
+        slot_ref(&self.resources, r.number() as usize).copied()
+    }
+
+    /// Whether all that the access uses is in this world, and at home.
+    pub fn is_home(&self, access: &Access) -> bool
+        ensures home { IsTrue result ↔ IsHome access.now self.now }
+    {
+        let types = masks::either(access.read_types, access.write_types);
+        let resources = masks::either(access.read_res, access.write_res);
+        let types_home = masks::is_within(types, filled(&self.types));
+        let resources_home = masks::is_within(resources, filled(&self.resources));
+        let marks_home = !access.registry | self.marks.is_some();
+        types_home & resources_home & marks_home
+    }
+
+    /// Moves out what the access writes. What it only reads stays, to be read by others too.
+    pub fn lend_out(&mut self, access: &Access) -> Result<Taken, NoMemory>
+        requires home { IsHome access.now self.old }
+        ensures lent { IfOk result (λ taken. LendsOut access.now self.old self.new taken) }
+        ensures err { OnErr result (self.new ≡ self.old) }
+    {
+        let alloc = *self.types.allocator();
+        let mut types = empty_slots(alloc, self.types.len())?;
+        let mut resources = empty_slots(alloc, self.resources.len())?;
+        move_slots(&mut self.types, &mut types, access.write_types);
+        move_slots(&mut self.resources, &mut resources, access.write_res);
+        let marks = take_marks(&mut self.marks, access.registry);
+        Ok(Taken {
+            types,
+            resources,
+            marks,
+        })
+    }
+
+    /// Moves home what was moved out. It takes no memory.
+    pub fn take_back(&mut self, taken: Taken)
+        requires apart { IsApart taken self.old }
+        ensures home { TakesBack taken self.old self.new }
+    {
+        let Taken {
+            mut types,
+            mut resources,
+            marks,
+        } = taken;
+        return_slots(&mut types, &mut self.types);
+        return_slots(&mut resources, &mut self.resources);
+        self.marks = marks.or(self.marks);
+    }
+}
+
+#[cfg(test)]
+mod tests;
