@@ -1,0 +1,19 @@
+use Rattle.std.proofs.Common.{◌≡◌, ◌∙◌, ap, sym, inl, inr, true, false}
+use Rattle.std.specs.Prelude.{is_some}
+use Rattle.std.proofs.lemmas.Result.{IfErr-weaker}
+use Rattle.msgrun.specs.Asked.{asked_by}
+use Rattle.msgrun.specs.CommandLine.{texts_of}
+use Rattle.msgrun.proofs.Taken.{takes_asks}
+use Rattle.msgrun.proofs.words.parse.parse_words.Goals as goal
+
+-- words that clap takes ask for something, so that only want of memory is left
+pub returns-clause-refused : goal.returns-clause-refused
+returns-clause-refused c =
+    IfErr-weaker c.action_of.result _ _
+    (λ fault refused taken. elim refused [
+      | inl is ↦ is
+      | inr none ↦
+          let rows = c.in_ok-matches.ensures.rows in
+          let bad : false ≡ true = sym (ap is_some none) ∙ ap (λ o. is_some (asked_by o)) rows
+          ∙ takes_asks (texts_of c.args.words.now) taken in cc
+    ]) c.action_of.ensures.refused

@@ -1,0 +1,61 @@
+-- The line that each fault of the program prints, and the status that it ends with.
+use Rattle.std.specs.Prelude.{ℕ, List, [], codes}
+use Rattle.msgrun.specs.declared.words.WordFault.{WordFault}
+use Rattle.msgrun.specs.declared.words.WordFault.TheVariants as word
+use Rattle.msgrun.specs.declared.input.InputFault.{InputFault}
+use Rattle.msgrun.specs.declared.input.InputFault.TheVariants as input
+use Rattle.msgrun.specs.declared.refusal.Refusal.{Refusal}
+use Rattle.msgrun.specs.declared.refusal.Refusal.TheVariants as refusal
+use Rattle.msgrun.specs.declared.report_fault.ReportFault.{ReportFault}
+use Rattle.msgrun.specs.declared.report_fault.ReportFault.TheVariants as report
+use Rattle.msgrun.specs.declared.fault.MainFault.{MainFault}
+use Rattle.msgrun.specs.declared.fault.MainFault.TheVariants.{Words, Input, Refused, Report}
+
+-- the line of refused words; help is no fault, and has none
+abbrev pub words_line : WordFault → List ℕ
+words_line word.Bad = codes "msgrun: bad command line\n"
+words_line (word.Help text) = []
+words_line word.NoMemory = codes "msgrun: want of memory\n"
+
+-- the line of an input that wasn't read
+abbrev pub input_line : InputFault → List ℕ
+input_line input.Failed = codes "msgrun: cannot read input\n"
+input_line input.TooLarge = codes "msgrun: input too large\n"
+input_line input.NoMemory = codes "msgrun: want of memory\n"
+
+-- the line of a refused file: the refusal's number and name
+abbrev pub refusal_line : Refusal → List ℕ
+refusal_line refusal.NotJson = codes "msgrun: refused 1 NotJson\n"
+refusal_line refusal.Shape = codes "msgrun: refused 2 Shape\n"
+refusal_line refusal.UnknownKey = codes "msgrun: refused 3 UnknownKey\n"
+refusal_line refusal.BadNumber = codes "msgrun: refused 6 BadNumber\n"
+refusal_line refusal.TooMany = codes "msgrun: refused 7 TooMany\n"
+refusal_line refusal.NoMemory = codes "msgrun: want of memory\n"
+
+-- the line of answers that weren't printed to their end
+abbrev pub report_line : ReportFault → List ℕ
+report_line report.Write = codes "msgrun: write fault\n"
+report_line report.NoMemory = codes "msgrun: want of memory\n"
+
+-- the line of a fault
+abbrev pub line_of : MainFault → List ℕ
+line_of (Words fault) = words_line fault
+line_of (Input fault) = input_line fault
+line_of (Refused refused) = refusal_line refused
+line_of (Report fault) = report_line fault
+
+-- 2 for a refused command line or file, 1 for a fault while running, reading or writing
+abbrev pub status_of : MainFault → ℕ
+status_of (Words word.Bad) = 2
+status_of (Words (word.Help text)) = 0
+status_of (Words word.NoMemory) = 1
+status_of (Input input.Failed) = 1
+status_of (Input input.TooLarge) = 2
+status_of (Input input.NoMemory) = 1
+status_of (Refused refusal.NotJson) = 2
+status_of (Refused refusal.Shape) = 2
+status_of (Refused refusal.UnknownKey) = 2
+status_of (Refused refusal.BadNumber) = 2
+status_of (Refused refusal.TooMany) = 2
+status_of (Refused refusal.NoMemory) = 1
+status_of (Report fault) = 1

@@ -1,0 +1,34 @@
+-- What sinks show, what a put does to them, and what a text in several puts leaves.
+use Rattle.std.specs.Prelude.{◌≡◌, ◌⊎◌, ℕ, ◌+◌, ◌-◌, ◌^◌, min, ◌==◌, if◌then◌else◌, List, [], ◌∷◌, ◌++◌, Option, Result, Ok, Err}
+use Rattle.std.specs.Io.KnownBytes.{Appends}
+
+-- a sink in memory: the bytes that it took, and how often it failed
+pub record InMemory : Type 0 where
+  pub contents : List ℕ
+  pub failures : ℕ
+
+-- a sink over a writer, and how often it failed
+pub record OverWriter (W : Type 0) : Type 0 where
+  pub writer : W
+  pub failures : ℕ
+
+-- one failure more, up to the greatest value of a u64
+abbrev pub one_more : ℕ → ℕ
+one_more n = min (n + 1) (2 ^ 64 - 1)
+
+-- the failures after a put of this piece: an error is one, and so is 0 for a piece that isn't empty
+abbrev pub failures_after : {E : Type 0} → ℕ → Result ℕ E → List ℕ → ℕ
+failures_after n (Err e) piece = one_more n
+failures_after n (Ok k) [] = n
+failures_after n (Ok k) (x ∷ xs) = if k == 0 then one_more n else n
+
+-- known bytes grow by a front of a text
+abbrev pub AppendsPrefix : Option (List ℕ) → Option (List ℕ) → List ℕ → Type 0
+AppendsPrefix old new text =
+    (front : List ℕ) × (rest : List ℕ) × (text ≡ front ++ rest) × Appends old new front
+
+-- the text was taken whole and without a failure, or a front of it and then a put failed
+abbrev pub TakesUnlessFailed : Option (List ℕ) → Option (List ℕ) → ℕ → ℕ → List ℕ → Type 0
+TakesUnlessFailed old new failures failures' text =
+    (Appends old new text × (failures' ≡ failures))
+    ⊎ (AppendsPrefix old new text × (failures' ≡ one_more failures))

@@ -1,0 +1,62 @@
+// The parts of a line, made in memory.
+ghost use Rattle.std.specs.Prelude.{◌≡◌, ◌++◌, OnOk, decimal};
+ghost use Rattle.std.specs.Fmt.{signed_decimal};
+ghost use Rattle.msgrun.specs.CallsText.{item_text, items_text, more_items, value_text};
+ghost use Rattle.std.specs.Option.{option_copied};
+
+use itoa::Buffer;
+use msg_buffer::{Instance, NoMemory};
+
+pub fn add_number(text: &mut Vec<u8>, number: u64) -> Result<(), NoMemory>
+    ensures { OnOk result (text.new.items ≡ text.old.items ++ decimal number) }
+{
+    text.extend_from_slice(Buffer::new().format(number).as_bytes())
+}
+
+pub fn add_value(text: &mut Vec<u8>, value: i64) -> Result<(), NoMemory>
+    ensures { OnOk result (text.new.items ≡ text.old.items ++ signed_decimal value) }
+{
+    text.extend_from_slice(Buffer::new().format(value).as_bytes())
+}
+
+/// A message's value, or `none`.
+pub fn add_found(text: &mut Vec<u8>, value: Option<&i64>) -> Result<(), NoMemory>
+    ensures { OnOk result
+        (text.new.items ≡ text.old.items ++ value_text (option_copied value.entry)) }
+{
+    match value {
+        Some(value) => add_value(text, *value),
+        None => text.extend_from_slice(b"none"),
+    }
+}
+
+fn add_item(text: &mut Vec<u8>, item: &Instance<i64>) -> Result<(), NoMemory>
+    ensures { OnOk result (text.new.items ≡ text.old.items ++ item_text item.now) }
+{
+    add_number(text, item.id.0)?;
+    text.extend_from_slice(b"=")?;
+    add_value(text, item.message)
+}
+
+/// The items with a space between two, or `none`.
+pub fn add_items(text: &mut Vec<u8>, items: &[Instance<i64>]) -> Result<(), NoMemory>
+    ensures { OnOk result (text.new.items ≡ text.old.items ++ items_text items.now) }
+{
+    match items {
+        [] => text.extend_from_slice(b"none"),
+        [first, rest @ ..] => {
+            add_item(text, first)?;
+            add_more(text, rest)
+        }
+    }
+}
+
+fn add_more(text: &mut Vec<u8>, items: &[Instance<i64>]) -> Result<(), NoMemory>
+    ensures { OnOk result (text.new.items ≡ text.old.items ++ more_items items.now) }
+{
+    for item in items {
+        text.extend_from_slice(b" ")?;
+        add_item(text, item)?;
+    }
+    Ok(())
+}

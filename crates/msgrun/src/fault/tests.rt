@@ -1,0 +1,64 @@
+use crate::fakes::Narrow;
+use crate::fault::{MainFault, print_fault};
+use crate::input::InputFault;
+use crate::memory_sink::MemorySink;
+use crate::refusal::Refusal;
+use crate::report_fault::ReportFault;
+use crate::words::WordFault;
+use std::alloc::Global;
+use std::process::Abort;
+use std::test::Fail;
+
+/// The fault prints this line and gives this status, which a sink that fails doesn't change.
+fn expect_line(rt: &impl Abort, fault: MainFault, line: &str, status: u8) {
+    let mut sink = MemorySink::new();
+    assert_eq!(rt; print_fault(&fault, &mut sink), status);
+    assert_eq!(rt; sink.bytes(), line.as_bytes());
+    let mut broken = Narrow::new(1, 0, false);
+    assert_eq!(rt; print_fault(&fault, &mut broken), status);
+    assert!(rt; broken.taken.bytes().is_empty());
+    let mut narrow = Narrow::new(2, 9, true);
+    assert_eq!(rt; print_fault(&fault, &mut narrow), status);
+    assert_eq!(rt; narrow.taken.bytes(), &line.as_bytes()[..line.len().min(9)]);
+}
+
+fn help(alloc: Global) -> Result<MainFault, Fail> {
+    Ok(MainFault::Words(WordFault::Help("help".to_string(alloc)?)))
+}
+
+#[test]
+fn lines(rt: HostRuntime) -> Result<(), Fail> {
+    let words = MainFault::Words;
+    expect_line(&rt, words(WordFault::Bad), "msgrun: bad command line\n", 2);
+    expect_line(&rt, help(rt.alloc())?, "", 0);
+    expect_line(
+        &rt,
+        words(WordFault::NoMemory),
+        "msgrun: want of memory\n",
+        1,
+    );
+    for (fault, line, status) in [
+        (InputFault::Failed, "msgrun: cannot read input\n", 1),
+        (InputFault::TooLarge, "msgrun: input too large\n", 2),
+        (InputFault::NoMemory, "msgrun: want of memory\n", 1),
+    ] {
+        expect_line(&rt, MainFault::Input(fault), line, status);
+    }
+    for (refusal, line, status) in [
+        (Refusal::NotJson, "msgrun: refused 1 NotJson\n", 2),
+        (Refusal::Shape, "msgrun: refused 2 Shape\n", 2),
+        (Refusal::UnknownKey, "msgrun: refused 3 UnknownKey\n", 2),
+        (Refusal::BadNumber, "msgrun: refused 6 BadNumber\n", 2),
+        (Refusal::TooMany, "msgrun: refused 7 TooMany\n", 2),
+        (Refusal::NoMemory, "msgrun: want of memory\n", 1),
+    ] {
+        expect_line(&rt, MainFault::Refused(refusal), line, status);
+    }
+    for (fault, line) in [
+        (ReportFault::Write, "msgrun: write fault\n"),
+        (ReportFault::NoMemory, "msgrun: want of memory\n"),
+    ] {
+        expect_line(&rt, MainFault::Report(fault), line, 1);
+    }
+    Ok(())
+}

@@ -1,0 +1,95 @@
+//! Answers a calls file: the calls of one message buffer and its cursors, a line for each.
+//!
+//! `msgrun buffer FILE` answers a file, and `msgrun` alone standard input.
+#![tactic(auto)]
+
+ghost use Rattle.std.specs.Prelude.{◌≡◌};
+ghost use Rattle.msgrun.specs.Faults.{status_of};
+
+mod call;
+mod calls;
+#[cfg(test)]
+mod fakes;
+mod fault;
+mod input;
+mod memory_sink;
+mod refusal;
+mod report_fault;
+mod sink;
+mod std_sink;
+mod values;
+mod words;
+
+use calls::{read_calls, run_calls};
+use fault::{MainFault, print_fault};
+use input::{InputFault, read_all};
+use sink::put_all;
+use std::env::Env;
+use std::fs::Files;
+use std::io::{ErrorKind, Input, Print};
+use std::process::ExitCode;
+use std::{env, fs, io};
+use std_sink::StdSink;
+use words::{Action, WordFault, parse_words};
+
+fn main(rt: HostRuntime) -> ExitCode {
+    match run(&rt) {
+        Ok(()) => ExitCode::SUCCESS,
+        Err(fault) => ExitCode::from(end(&rt.stdout(), &rt.stderr(), &fault)),
+    }
+}
+
+/// What the words ask for, done.
+fn run<R: AllocGlobal + Env + Files + Input + Print>(rt: &R) -> Result<(), MainFault> {
+    let words = words_given(rt).map_err(MainFault::Words)?;
+    match parse_words(rt.alloc(), words.as_slice()).map_err(MainFault::Words)? {
+        Action::Buffer(file) => answer_calls(rt, file),
+    }
+}
+
+/// The words of the command line, without the program's own name.
+fn words_given<R: AllocGlobal + Env>(rt: &R) -> Result<Vec<String>, WordFault> {
+    match env::args(rt) {
+        Ok(words) => words
+            .skip(1)
+            .collect(rt.alloc())
+            .map_err(|_| WordFault::NoMemory),
+        Err(error) if error.kind() == ErrorKind::OutOfMemory => Err(WordFault::NoMemory),
+        Err(_) => Err(WordFault::Bad),
+    }
+}
+
+/// Answers a calls file, or where none is named that of standard input, on standard output.
+fn answer_calls<R: AllocGlobal + Files + Input + Print>(
+    rt: &R,
+    file: Option<String>,
+) -> Result<(), MainFault> {
+    let bytes = bytes_of(rt, file).map_err(MainFault::Input)?;
+    let calls = read_calls(rt.alloc(), bytes.as_slice()).map_err(MainFault::Refused)?;
+    let mut output = StdSink::new(io::writer(rt));
+    run_calls(rt.alloc(), &calls, &mut output).map_err(MainFault::Report)
+}
+
+/// All bytes of a file, or of standard input.
+fn bytes_of<R: AllocGlobal + Files + Input>(
+    rt: &R,
+    file: Option<String>,
+) -> Result<Vec<u8>, InputFault> {
+    match file {
+        None => read_all(rt.alloc(), &mut rt.reader()),
+        Some(path) => match fs::open(rt, path) {
+            Ok(mut input) => read_all(rt.alloc(), &mut input),
+            Err(_) => Err(InputFault::Failed),
+        },
+    }
+}
+
+/// Prints help where the words ask for it, else the fault's line, and gives the status.
+fn end<O: Print, E: Print>(output: &O, errors: &E, fault: &MainFault) -> u8
+    ensures { result ≡ status_of fault.now }
+{
+    if let MainFault::Words(WordFault::Help(text)) = fault {
+        let _ = put_all(&mut StdSink::new(io::writer(output)), text.as_bytes());
+    }
+    print_fault(fault, &mut StdSink::new(io::writer(errors)))
+}

@@ -1,0 +1,27 @@
+use thiserror::Error;
+
+mod command;
+mod parse;
+#[cfg(test)]
+mod tests;
+
+pub use parse::parse_words;
+
+/// What the words of the command line ask for.
+#[derive(Debug, Drop)]
+pub enum Action {
+    /// Answer the calls file of this name, or where there is none that of standard input.
+    Buffer(Option<String>),
+}
+
+/// Why the words ask for nothing.
+#[derive(Debug, Drop, Error)]
+pub enum WordFault {
+    #[error("bad command line")]
+    Bad,
+    /// The words ask for help, and this is its text.
+    #[error("{0}")]
+    Help(String),
+    #[error("want of memory")]
+    NoMemory,
+}

@@ -1,0 +1,52 @@
+ghost use Rattle.std.specs.Prelude.{◌≡◌, ◌⊎◌, [], Some, None, true, IfOk, IfErr, OnOk, codes, string_bytes};
+ghost use Rattle.clap.specs.Words.{fault_of, takes, first_of, rows_of, found_of, subcommand_rows_of};
+ghost use Rattle.msgrun.specs.CommandLine.{msgrun_app, texts_of};
+ghost use Rattle.msgrun.specs.Asked.{request_of, asked, asked_by};
+
+use crate::words::command::matches;
+use crate::words::{Action, WordFault};
+use clap::ArgMatches;
+use std::alloc::Global;
+
+/// The action that the words ask for. They don't include the program's own name.
+pub fn parse_words(alloc: Global, words: &[String]) -> Result<Action, WordFault>
+    ensures accepted { OnOk result (fault_of msgrun_app (texts_of words.now) ≡ []) }
+    ensures action { IfOk result (λ a. asked (texts_of words.now) ≡ Some (request_of a)) }
+    ensures refused { IfErr result (λ fault. takes msgrun_app (texts_of words.now) ≡ true
+        → fault ≡ WordFault.NoMemory) }
+{
+    let matches = matches(alloc, words)?;
+    action_of(alloc, &matches)
+}
+
+fn action_of(alloc: Global, matches: &ArgMatches<'_>) -> Result<Action, WordFault>
+    ensures action { IfOk result (λ action.
+        asked_by (subcommand_rows_of matches.now) ≡ Some (request_of action)) }
+    ensures refused { IfErr result (λ fault.
+        (fault ≡ WordFault.NoMemory) ⊎ (asked_by (subcommand_rows_of matches.now) ≡ None)) }
+{
+    let Some((name, inner)) = matches.subcommand() else {
+        return Ok(Action::Buffer(None));
+    };
+    if name == "buffer" {
+        let file = file_of(alloc, inner)?;
+        return Ok(Action::Buffer(Some(file)));
+    }
+    Err(WordFault::Bad)
+}
+
+#[tactic(auto, using(crate::proofs::Getters::first_value_rows, crate::proofs::Getters::no_value_rows))]
+fn file_of(alloc: Global, inner: &ArgMatches<'_>) -> Result<String, WordFault>
+    ensures text { IfOk result (λ file.
+        first_of (codes "FILE") (rows_of (found_of inner.now)) ≡ Some (string_bytes file)) }
+    ensures refused { IfErr result (λ e. (e ≡ WordFault.NoMemory)
+        ⊎ (first_of (codes "FILE") (rows_of (found_of inner.now)) ≡ None)) }
+{
+    match inner.get_str("FILE") {
+        None => Err(WordFault::Bad),
+        Some(file) => match String::from_str(alloc, file) {
+            Ok(file) => Ok(file),
+            Err(_) => Err(WordFault::NoMemory),
+        },
+    }
+}
