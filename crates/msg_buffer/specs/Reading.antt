@@ -4,7 +4,7 @@ use Rattle.std.specs.Borrow.{Bor, GName}
 use Rattle.msg_buffer.specs.declared.instance.Instance.{Instance}
 use Rattle.msg_buffer.specs.declared.instance.MessageId.{MessageId}
 use Rattle.msg_buffer.specs.declared.iter.MessageIter.{MessageIter}
-use Rattle.msg_buffer.specs.Kept.{kept_instances}
+use Rattle.msg_buffer.specs.Kept.{Kept, kept_instances}
 
 -- an item, as the instance that it shows
 abbrev pub shown : {M : Type 0} → MessageId × Bor M → Instance M
@@ -19,6 +19,10 @@ module _ {M A : Type 0} where
   abbrev pub iter_cursor : MessageIter M A → GName
   iter_cursor it = it.cursor.ghost_name
 
+  -- the buffer that it reads
+  abbrev pub iter_messages : MessageIter M A → Bor (Kept M)
+  iter_messages it = it.messages
+
   -- the messages still to come: those kept from the place on
   abbrev pub iter_rest : MessageIter M A → List (Instance M)
   iter_rest it = drop (iter_place it - it.messages.now.oldest) (kept_instances it.messages.now)
@@ -26,7 +30,7 @@ module _ {M A : Type 0} where
   -- it still reads the same buffer for the same cursor
   pub record Continues (old new : MessageIter M A) : Type 0 where
     pub cursor : iter_cursor new ≡ iter_cursor old
-    pub messages : new.messages ≡ old.messages
+    pub messages : iter_messages new ≡ iter_messages old
 
   -- it gave the first message of what was left, and moved the place by one
   pub record Gives (old : MessageIter M A) (item : MessageId × Bor M) (new : MessageIter M A) : Type 0 where

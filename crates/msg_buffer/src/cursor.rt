@@ -27,7 +27,7 @@ impl Model for MessageCursor {
 }
 
 impl MessageCursor {
-    ghost use Rattle.msg_buffer.specs.Reading.{iter_cursor, iter_place, iter_rest};
+    ghost use Rattle.msg_buffer.specs.Reading.{iter_cursor, iter_messages, iter_place, iter_rest};
 
     pub(crate) fn new(place: u64) -> MessageCursor
         ensures place { result ≡ place }
@@ -94,7 +94,7 @@ impl MessageCursor {
 
         // The iterator moves this cursor, over these messages.
         ensures cursor { iter_cursor result ≡ self.entry.ghost_name }
-        ensures messages { result.messages ≡ messages.entry }
+        ensures messages { iter_messages result ≡ messages.entry }
     {
         self.place = self.place.max(messages.oldest());
         MessageIter {
