@@ -1,11 +1,12 @@
 -- Reads and clears fit one behind the other.
 use Rattle.std.proofs.Common.{◌≡◌, ℕ, ◌-◌, ◌≤◌, List, [], ◌∷◌, length, take, zero, suc, refl, sym, ap, arith, Option, Some, None}
 use Rattle.std.proofs.lemmas.List.{length-take}
+use Rattle.std.proofs.lemmas.List.Elements.{All-head, All-tail}
 use Rattle.std.proofs.Math.Seq.{take-length}
 use Rattle.msg_buffer.specs.declared.instance.Instance.{Instance}
 use Rattle.msg_buffer.specs.History.{History, IsSound, count, oldest}
-use Rattle.msg_buffer.specs.Reader.{first, unread, at_most, given}
-use Rattle.msg_buffer.specs.Tiling.{Fits, ReadsFit, ClearsFit}
+use Rattle.msg_buffer.specs.Reader.{first, unread, at_most, given, next_place}
+use Rattle.msg_buffer.specs.Tiling.{Fits, Pass, ReadsFit, ClearsFit, RunsTile, reads, clears, stretch_of}
 use Rattle.msg_buffer.proofs.Standing.{oldest_and_present}
 use Rattle.msg_buffer.proofs.Presence.{is_there, not_present}
 use Rattle.msg_buffer.proofs.Unread.{length-unread}
@@ -46,3 +47,14 @@ module _ {M : Type 0} where
   clears_fit h place sound =
       let long = length-unread h place in let old = oldest_at_most h in
       (fits h place (length (unread h place)) sound (omega arith), λ within. omega arith)
+
+  one_fits : (h : History M) (place : ℕ) (pass : Pass) → IsSound h → Fits h place (stretch_of h place pass)
+  one_fits h place (reads limit) sound = (reads_fit h place limit sound).0
+  one_fits h place clears sound = (clears_fit h place sound).0
+
+  pub runs_tile : RunsTile M
+  runs_tile place [] sound = refl
+  runs_tile place ((h, pass) ∷ xs) sound = (
+    one_fits h place pass (All-head (λ x. IsSound x.0) (h, pass) xs sound),
+    runs_tile (next_place (stretch_of h place pass)) xs (All-tail (λ x. IsSound x.0) (h, pass) xs sound),
+  )

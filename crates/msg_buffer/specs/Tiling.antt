@@ -1,6 +1,6 @@
 -- How the reads and clears of one reader tile its history: nothing is gone past twice, and nothing is
 -- left out but what was missed.
-use Rattle.std.specs.Prelude.{◌≡◌, ℕ, ◌+◌, ◌≤◌, ◌<◌, List, [], ◌∷◌, take, drop, Option}
+use Rattle.std.specs.Prelude.{◌≡◌, ℕ, ◌+◌, ◌≤◌, ◌<◌, List, [], ◌∷◌, take, drop, All, Option}
 use Rattle.msg_buffer.specs.History.{History, IsPresent, IsSound, count, instances}
 use Rattle.msg_buffer.specs.Reader.{Stretch, next_place, given, read, pass_over}
 
@@ -18,6 +18,27 @@ abbrev pub Tile : {M : Type 0} → ℕ → List (History M × Stretch) → ℕ �
 Tile from [] to = from ≡ to
 Tile from (x ∷ xs) to = Fits x.0 from x.1 × Tile (next_place x.1) xs to
 
+-- what a reader does at a moment: it reads, with or without a limit, or it clears
+pub data Pass : Type 0 where
+  reads : Option ℕ → Pass
+  clears : Pass
+
+-- the stretch that it goes past
+abbrev pub stretch_of : {M : Type 0} → History M → ℕ → Pass → Stretch
+stretch_of h place (reads limit) = read h place limit
+stretch_of h place clears = pass_over h place
+
+-- the stretches of one reader from a place on, each with the history of its moment
+abbrev pub stretches : {M : Type 0} → ℕ → List (History M × Pass) → List (History M × Stretch)
+stretches place [] = []
+stretches place (x ∷ xs) =
+    (x.0, stretch_of x.0 place x.1) ∷ stretches (next_place (stretch_of x.0 place x.1)) xs
+
+-- where they lead
+abbrev pub ends_at : {M : Type 0} → ℕ → List (History M × Pass) → ℕ
+ends_at place [] = place
+ends_at place (x ∷ xs) = ends_at (next_place (stretch_of x.0 place x.1)) xs
+
 module _ (M : Type 0) where
   -- Each read fits, gives the very messages that it goes past, and ends no further than the count.
   abbrev pub ReadsFit : Type 0
@@ -31,3 +52,8 @@ module _ (M : Type 0) where
   abbrev pub ClearsFit : Type 0
   ClearsFit = (h : History M) (place : ℕ) → IsSound h
       → Fits h place (pass_over h place) × (place ≤ count h → next_place (pass_over h place) ≡ count h)
+
+  -- All reads and clears of one reader tile, whatever was written, updated or cleared in between.
+  abbrev pub RunsTile : Type 0
+  RunsTile = (place : ℕ) (moments : List (History M × Pass)) → All (λ x. IsSound x.0) moments
+      → Tile place (stretches place moments) (ends_at place moments)

@@ -1,6 +1,6 @@
 //! Laws: facts that hold of every history, and need no code.
 ghost use Rattle.msg_buffer.specs.History.{OnlyGrows, OutliveOneUpdate};
-ghost use Rattle.msg_buffer.specs.Tiling.{ClearsFit, ReadsFit};
+ghost use Rattle.msg_buffer.specs.Tiling.{ClearsFit, ReadsFit, RunsTile};
 
 /// No change takes anything out of a history or moves it.
 pub fn histories_only_grow<M>()
@@ -12,8 +12,9 @@ pub fn messages_outlive_one_update<M>()
     ensures outlive { OutliveOneUpdate M }
 {}
 
-/// The reads and clears of one reader fit one behind the other.
+/// The reads and clears of one reader tile its history: each fits the place that the one before it led to.
 pub fn readers_tile<M>()
     ensures reads { ReadsFit M }
     ensures clears { ClearsFit M }
+    ensures runs { RunsTile M }
 {}

@@ -12,7 +12,7 @@ pub enum WriteRefusal<M> {
     #[error("no number is left")]
     NumbersSpent(M),
     /// The buffer could not grow.
-    #[error("no memory is left")]
+    #[error("want of memory")]
     NoMemory(M),
 }
 
@@ -23,6 +23,6 @@ pub enum BatchRefusal<M, A: Allocator = Global> {
     #[error("too few numbers are left")]
     NumbersSpent(Vec<M, A>),
     /// The buffer could not grow.
-    #[error("no memory is left")]
+    #[error("want of memory")]
     NoMemory(Vec<M, A>),
 }

@@ -185,6 +185,7 @@ fn cleared_buffer(rt: HostRuntime) -> Result<(), Fail> {
 #[test]
 fn a_walk_left_early(rt: HostRuntime) -> Result<(), Fail> {
     let mut buffer: Messages<String> = Messages::new(rt.alloc(), 10);
+    buffer.stands_for_some();
     for word in ["north", "east", "south", "west"] {
         assert!(rt; buffer.write(word.to_string(rt.alloc())?).is_ok());
     }
@@ -195,6 +196,9 @@ fn a_walk_left_early(rt: HostRuntime) -> Result<(), Fail> {
             break;
         }
     }
+    histories_only_grow::<String>();
+    messages_outlive_one_update::<String>();
+    readers_tile::<String>();
     assert_eq!(rt; cursor.place(), 2);
     assert_eq!(rt; cursor.read(&buffer).len(), 2);
     for (_, word) in cursor.read(&buffer) {
@@ -205,10 +209,14 @@ fn a_walk_left_early(rt: HostRuntime) -> Result<(), Fail> {
 }
 
 #[test]
-fn laws_hold_of_numbers(rt: HostRuntime) {
-    let buffer: Messages<i64> = Messages::new(rt.alloc(), 1);
-    buffer.stands_for_some();
-    histories_only_grow::<i64>();
-    messages_outlive_one_update::<i64>();
-    readers_tile::<i64>();
+fn refusals_say_why(rt: HostRuntime) -> Result<(), Fail> {
+    let spent: WriteRefusal<i64> = WriteRefusal::NumbersSpent(1);
+    let refused: WriteRefusal<i64> = WriteRefusal::NoMemory(1);
+    assert_eq!(rt; format!(in rt.alloc(); "{spent}")?.as_str(), "no number is left");
+    assert_eq!(rt; format!(in rt.alloc(); "{refused}")?.as_str(), "want of memory");
+    let spent: BatchRefusal<i64> = BatchRefusal::NumbersSpent(Vec::new(rt.alloc()));
+    let refused: BatchRefusal<i64> = BatchRefusal::NoMemory(Vec::new(rt.alloc()));
+    assert_eq!(rt; format!(in rt.alloc(); "{spent}")?.as_str(), "too few numbers are left");
+    assert_eq!(rt; format!(in rt.alloc(); "{refused}")?.as_str(), "want of memory");
+    Ok(())
 }

@@ -1,5 +1,5 @@
 -- What loans stand for.
-use Rattle.std.proofs.Common.{◌≡◌, ℕ, ◌<◌, length, Bool, true, false, refl, sym, ap, subst, ◌∙◌, inl, inr, Option, Some, None}
+use Rattle.std.proofs.Common.{◌≡◌, ◌||◌, ℕ, ◌<◌, length, Bool, true, false, refl, sym, ap, subst, ◌∙◌, inl, inr, Option, Some, None}
 use Rattle.std.specs.Prelude.{ℤ, IfSome, IsSome, IsTrue, is_some, option_map, if◌then◌else◌}
 use Rattle.std.specs.Option.{option_or}
 use Rattle.std.proofs.lemmas.Bool.{and_from, cases_Bool, cases_eq, cases_lt, eq-eqb, ne_eqb, false≢true, or_left, or_right}
@@ -16,7 +16,7 @@ use Rattle.msg_world.specs.declared.lent.Lent.{Lent}
 use Rattle.msg_world.specs.declared.marks.Marks.{Marks}
 use Rattle.msg_world.specs.Access.{Part, OfType, OfResource, Registry, reads, uses, writes}
 use Rattle.msg_world.specs.Loan.{LoanStands, with_messages, with_resource, writable}
-use Rattle.msg_world.specs.LoanLaws.{HomeAgain, HomeMerges, LentIsLoan, LoanStays, MayComeHome, StaysApart, ValuesStand, WritesStand}
+use Rattle.msg_world.specs.LoanLaws.{HomeAgain, HomeMerges, HomeWhereEither, LentIsLoan, LoanStays, MayComeHome, OthersStayHome, StaysApart, ValuesStand, WritesStand}
 use Rattle.msg_world.specs.Parts.{IsHome, LendsOut, Parts, SameShape, Stuff, StuffStands, slot}
 use Rattle.msg_world.specs.World.{Content, WorldState, content, merge, signalled, signalled_marks, with_history, with_value_of}
 
@@ -154,6 +154,12 @@ loan_stays a b world taken left others apart loan lends = record {
   ];
 }
 
+pub others_stay_home : OthersStayHome
+others_stay_home a b old left taken apart home lends p used = elim (cases_Bool (writes a p)) [
+  | inl is ↦ absurd (apart (p, inl (and_from (writes a p) (uses b p) is used)))
+  | inr free ↦ ap is_some (lends.stayed p) ∙ rw free (home p used)
+]
+
 -- ---- coming home
 
 taken_is_out : (a : Access) (old left taken later : Parts) → LendsOut a old left taken → SameShape taken later → (p : Part) → IsSome (slot p later) → slot p left ≡ None
@@ -202,6 +208,13 @@ home_slot true old left taken None home moved stayed same back = ap is_some back
 home_slot true old left taken (Some x) home moved stayed same back = ap is_some back ∙ same ∙ ap is_some moved
 home_slot false old left taken None home moved stayed same back = ap is_some back ∙ ap is_some stayed
 home_slot false old left taken (Some x) home moved stayed same back = absurd (false≢true (sym (ap is_some moved) ∙ sym same))
+
+either_slot : {X : Type 0} (x y : Option X) → is_some (option_or x y) ≡ (is_some x || is_some y)
+either_slot None y = refl
+either_slot (Some x) y = refl
+
+pub home_where_either : HomeWhereEither
+home_where_either taken world home back p = ap is_some (back.joined p) ∙ either_slot (slot p taken) (slot p world)
 
 pub home_again : HomeAgain
 home_again a old left taken later home lends same back = record {

@@ -1,5 +1,5 @@
 -- What holds of parts that are lent and taken back, one after the other or side by side.
-use Rattle.std.specs.Prelude.{◌≡◌, ℕ, ℤ, false, None, IsSome, IsTrue}
+use Rattle.std.specs.Prelude.{◌≡◌, ◌||◌, ℕ, ℤ, false, None, IsSome, IsTrue, is_some}
 use Rattle.msg_buffer.specs.History.{History}
 use Rattle.msg_buffer.specs.Kept.{Kept}
 use Rattle.msg_buffer.specs.StandsFor.{StandsFor}
@@ -36,6 +36,11 @@ abbrev pub LoanStays : Type 0
 LoanStays = (a b : Access) (world taken left others : Parts)
     → ¬ Conflict a b → IsLoanOf a world taken → LendsOut b world left others → IsLoanOf a left taken
 
+-- What an access needs at home stays there while parts are moved out for one that doesn't conflict with it.
+abbrev pub OthersStayHome : Type 0
+OthersStayHome = (a b : Access) (old left taken : Parts)
+    → ¬ Conflict a b → IsHome b old → LendsOut a old left taken → IsHome b left
+
 -- What was moved out may be taken back, whatever was written to it.
 abbrev pub MayComeHome : Type 0
 MayComeHome = (a : Access) (old left taken later : Parts)
@@ -53,6 +58,11 @@ HomeMerges = (a : Access) (taken world home : Parts) (mine s : WorldState)
     → ((p : Part) → IsTrue (writes a p) → slot p world ≡ None)
     → TakesBack taken world home → PartsStand taken mine → PartsStand world s
     → PartsStand home (merge a mine s)
+
+-- A part is home where it was before, and where it came home: so loans may end in any order.
+abbrev pub HomeWhereEither : Type 0
+HomeWhereEither = (taken world home : Parts) → TakesBack taken world home
+    → (p : Part) → is_some (slot p home) ≡ (is_some (slot p taken) || is_some (slot p world))
 
 -- Everything that was home is home again.
 abbrev pub HomeAgain : Type 0

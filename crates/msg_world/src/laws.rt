@@ -1,9 +1,9 @@
 //! Laws: facts that hold of every loan, and need no code.
-ghost use Rattle.msg_world.specs.LoanLaws.{HomeAgain, HomeMerges, LentIsLoan, LoanStays, MayComeHome, StaysApart, ValuesStand, WritesStand};
+ghost use Rattle.msg_world.specs.LoanLaws.{HomeAgain, HomeMerges, HomeWhereEither, LentIsLoan, LoanStays, MayComeHome, OthersStayHome, StaysApart, ValuesStand, WritesStand};
 
 /// What `World::lend_out` moved out may be opened for its access, and stands for what it stood for.
 pub fn lent_parts_are_a_loan()
-    ensures law { LentIsLoan }
+    ensures loan { LentIsLoan }
 {}
 
 /// What is written by `Lent::writer` and `Lent::res_mut` is written in the world that the loan stands
@@ -15,7 +15,8 @@ pub fn writes_stand()
 
 /// Loans whose accesses don't conflict stand side by side.
 pub fn loans_stand_side_by_side()
-    ensures law { LoanStays }
+    ensures loan { LoanStays }
+    ensures home { OthersStayHome }
 {}
 
 /// What was moved out may be taken back after any use of it, also behind others.
@@ -28,4 +29,5 @@ pub fn lent_parts_may_come_home()
 pub fn written_parts_come_home()
     ensures meaning { HomeMerges }
     ensures shape { HomeAgain }
+    ensures either { HomeWhereEither }
 {}

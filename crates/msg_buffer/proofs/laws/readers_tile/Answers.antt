@@ -1,4 +1,4 @@
-use Rattle.msg_buffer.proofs.Tiles.{reads_fit, clears_fit}
+use Rattle.msg_buffer.proofs.Tiles.{reads_fit, clears_fit, runs_tile}
 use Rattle.msg_buffer.proofs.laws.readers_tile.Goals as goal
 
 pub returns-clause-reads : goal.returns-clause-reads
@@ -6,3 +6,6 @@ returns-clause-reads g c = reads_fit
 
 pub returns-clause-clears : goal.returns-clause-clears
 returns-clause-clears g c = clears_fit
+
+pub returns-clause-runs : goal.returns-clause-runs
+returns-clause-runs g c = runs_tile
