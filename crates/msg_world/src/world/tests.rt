@@ -37,6 +37,21 @@ fn write(lent: &mut Lent, t: TypeNo, record: Record) -> Option<MessageId>
     }
 }
 
+/// Writes a value where its resource is lent for writing; says what was there.
+fn set(lent: &mut Lent, r: ResNo, value: i64) -> Option<i64>
+    ensures same { SameLoan lent.old lent.new }
+{
+    writes_stand();
+    match lent.res_mut(r) {
+        Some(place) => {
+            let old = *place;
+            *place = value;
+            Some(old)
+        }
+        None => None,
+    }
+}
+
 #[test]
 fn lending(rt: HostRuntime) -> Result<(), Fail> {
     let (t, r) = (type_no(&rt, 0), res_no(&rt, 0));
@@ -60,15 +75,15 @@ fn lending(rt: HostRuntime) -> Result<(), Fail> {
         Some(messages) => assert_eq!(rt; messages.get(MessageId(0)).copied(), Some(record)),
         None => panic!(rt; "type 0 is home"),
     }
-    assert!(rt; world.is_home(&access));
     assert_eq!(rt; world.resource(r), Some(7));
+    assert_eq!(rt; world.post(t, 5).ok(), Some(MessageId(1)));
     Ok(())
 }
 
 #[test]
 fn a_loan_shows_what_its_access_uses(rt: HostRuntime) -> Result<(), Fail> {
     let (t, u, r) = (type_no(&rt, 0), type_no(&rt, 1), res_no(&rt, 0));
-    let mut world = World::new(rt.alloc(), &[4, 4], &[7])?;
+    let mut world = World::new(rt.alloc(), &[4], &[7])?;
     let access = Access::none().with_write_type(t).with_read_res(r);
     assert!(rt; world.is_home(&access));
     lent_parts_are_a_loan();
@@ -81,6 +96,30 @@ fn a_loan_shows_what_its_access_uses(rt: HostRuntime) -> Result<(), Fail> {
     assert!(rt; lent.writer(u).is_none());
     assert!(rt; lent.res_mut(r).is_none());
     assert!(rt; !lent.signal());
+    Ok(())
+}
+
+#[test]
+fn a_written_resource_comes_home(rt: HostRuntime) -> Result<(), Fail> {
+    let (r, q) = (res_no(&rt, 0), res_no(&rt, 1));
+    let mut world = World::new(rt.alloc(), &[], &[7, 70])?;
+    let access = Access::none().with_write_res(r).with_registry();
+    assert!(rt; world.is_home(&access));
+    lent_parts_are_a_loan();
+    let taken = world.lend_out(&access)?;
+    assert!(rt; !world.is_home(&Access::none().with_registry()));
+    assert!(rt; world.is_home(&Access::none().with_read_res(q)));
+    assert_eq!(rt; world.resource(r), None);
+    let mut lent = Lent::open(&world, &access, taken);
+    assert_eq!(rt; set(&mut lent, r, 8), Some(7));
+    assert_eq!(rt; lent.res(r), Some(8));
+    assert_eq!(rt; set(&mut lent, q, 71), None);
+    lent_parts_may_come_home();
+    let taken = lent.into_taken();
+    world.take_back(taken);
+    assert!(rt; world.is_home(&access));
+    assert_eq!(rt; world.resource(r), Some(8));
+    assert_eq!(rt; world.resource(q), Some(70));
     Ok(())
 }
 
