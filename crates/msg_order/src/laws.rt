@@ -4,50 +4,50 @@ ghost use Rattle.msg_order.specs.Laws.{FewerSystemsMakeNoCycle, SettlingMakesNoC
 /// Rules that make no cycle among some systems make none among fewer of them. So a plan over systems
 /// that have joined can't be refused for a cycle where the rules of all systems have none.
 pub fn fewer_systems_make_no_cycle()
-    ensures { FewerSystemsMakeNoCycle }
+    ensures law { FewerSystemsMakeNoCycle }
 {}
 
 /// Where the rules make no cycle, the settled order has none.
 pub fn settling_makes_no_cycle()
-    ensures { SettlingMakesNoCycle }
+    ensures law { SettlingMakesNoCycle }
 {}
 
 /// Of two joined systems in conflict, the settled order leads from one to the other.
 pub fn conflicting_systems_are_ordered()
-    ensures { ConflictingSystemsAreOrdered }
+    ensures law { ConflictingSystemsAreOrdered }
 {}
 
 /// There is a settled order, whatever the rules.
 pub fn settled_order_exists()
-    ensures { SettledOrderExists }
+    ensures law { SettledOrderExists }
 {}
 
 /// Accesses, rules and joined systems have one settled order.
 pub fn settled_order_is_unique()
-    ensures { SettledOrderIsUnique }
+    ensures law { SettledOrderIsUnique }
 {}
 
 /// Edges among joined systems that make no cycle have a list of batches.
 pub fn batches_exist()
-    ensures { BatchesExist }
+    ensures law { BatchesExist }
 {}
 
 /// A settled order has one list of batches.
 pub fn batches_are_unique()
-    ensures { BatchesAreUnique }
+    ensures law { BatchesAreUnique }
 {}
 
 /// Edges among joined systems that make no cycle have one turn order.
 pub fn turn_order_is_unique()
-    ensures { TurnOrderIsUnique }
+    ensures law { TurnOrderIsUnique }
 {}
 
 /// A system has one batch number, and the batch numbers rise along a path.
 pub fn batch_numbers_rise()
-    ensures { BatchNumbersRise }
+    ensures law { BatchNumbersRise }
 {}
 
 /// A lawful order keeps the paths, not the edges alone.
 pub fn lawful_orders_keep_paths()
-    ensures { LawfulOrdersKeepPaths }
+    ensures law { LawfulOrdersKeepPaths }
 {}

@@ -105,7 +105,7 @@ impl<A: Allocator> Plan<A> {
     /// The systems batch by batch, each batch by order of addition. All systems of a batch end before
     /// the next batch begins.
     pub fn batches(&self) -> &[Vec<u32, A>]
-        ensures { map (λ batch. batch.items) result.now ≡ self.now.batches }
+        ensures items { map (λ batch. batch.items) result.now ≡ self.now.batches }
     {
         &self.batches
     }
@@ -113,7 +113,7 @@ impl<A: Allocator> Plan<A> {
     /// Whether `later` must wait for `earlier`: a path of the settled order leads there. False for a
     /// number that is no joined system's.
     pub fn precedes(&self, earlier: u32, later: u32) -> bool
-        ensures { IsTrue result ↔ IsEdge self.now.precedes earlier later }
+        ensures edge { IsTrue result ↔ IsEdge self.now.precedes earlier later }
     {
         let earlier = earlier as usize;
         let later = later as usize;

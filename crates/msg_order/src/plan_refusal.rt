@@ -10,7 +10,7 @@ use thiserror::Error;
 pub enum PlanRefusal {
     #[error("the rules go round in a circle through system {0}")]
     Cycle(u32),
-    #[error("out of memory")]
+    #[error("want of memory")]
     NoMemory,
 }
 

@@ -2,4 +2,4 @@ use Rattle.msg_order.proofs.Uniqueness.{settling_makes_none}
 use Rattle.msg_order.proofs.laws.settling_makes_no_cycle.Goals as goal
 
 pub returns : goal.returns
-returns c = settling_makes_none
+returns c = record { law = settling_makes_none }
