@@ -20,7 +20,7 @@ impl Access {
 
     /// The access that uses nothing.
     pub fn none() -> Self
-        ensures { (p : Part) → uses result p ≡ false }
+        ensures nothing { (p : Part) → uses result p ≡ false }
     {
         Access {
             read_types: 0,
@@ -82,32 +82,32 @@ impl Access {
     }
 
     pub fn reads_type(&self, t: TypeNo) -> bool
-        ensures { result ≡ reads self.now (OfType t) }
+        ensures read { result ≡ reads self.now (OfType t) }
     {
         masks::has(self.read_types, t.number())
     }
 
     pub fn writes_type(&self, t: TypeNo) -> bool
-        ensures { result ≡ writes self.now (OfType t) }
+        ensures written { result ≡ writes self.now (OfType t) }
     {
         masks::has(self.write_types, t.number())
     }
 
     pub fn reads_res(&self, r: ResNo) -> bool
-        ensures { result ≡ reads self.now (OfResource r) }
+        ensures read { result ≡ reads self.now (OfResource r) }
     {
         masks::has(self.read_res, r.number())
     }
 
     pub fn writes_res(&self, r: ResNo) -> bool
-        ensures { result ≡ writes self.now (OfResource r) }
+        ensures written { result ≡ writes self.now (OfResource r) }
     {
         masks::has(self.write_res, r.number())
     }
 
     /// Whether one of them writes a part that the other uses, so that their jobs can't run side by side.
     pub fn conflicts(&self, other: &Access) -> bool
-        ensures { IsTrue result ↔ Conflict self.now other.now }
+        ensures conflict { IsTrue result ↔ Conflict self.now other.now }
     {
         let types = masks::collide(
             self.read_types,
@@ -148,7 +148,7 @@ impl Access {
 
     /// Whether something is both read and written, which one system may not do.
     pub fn is_clash(&self) -> bool
-        ensures { IsTrue result ↔ IsClash self.now }
+        ensures clash { IsTrue result ↔ IsClash self.now }
     {
         masks::share_bit(self.read_types, self.write_types)
             || masks::share_bit(self.read_res, self.write_res)
@@ -156,7 +156,7 @@ impl Access {
 
     /// Whether a world of so many types and resources has all that is used.
     pub fn fits(&self, types: u32, resources: u32) -> bool
-        ensures { IsTrue result ↔ Fits types resources self.now }
+        ensures fit { IsTrue result ↔ Fits types resources self.now }
     {
         masks::is_below(self.read_types | self.write_types, types)
             && masks::is_below(self.read_res | self.write_res, resources)
