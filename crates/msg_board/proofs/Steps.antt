@@ -120,13 +120,13 @@ module _ {J D : Type 0} (lawful : J → D → Type 0) (jobs : List J) (passes : 
         refl
 
   -- what the step tells, where it finds 0 and where it doesn't
-  tells_drawn : (st : Step (Slot J D)) (before after : M) (found : ℕ) → st.word ≡ before.0.next → found ≡ 0
-      → DrawsJob st.word before after → Drawing st before found after
-  tells_drawn st before after found is hit drawn = (is, (λ _. drawn), λ miss. absurd (miss hit))
+  tells_drawn : (st : Step (Slot J D)) (before after : M) (found : ℕ) → st.word ≡ before.0.next → st.first ≡ 1
+      → found ≡ 0 → DrawsJob st.word before after → Drawing st before found after
+  tells_drawn st before after found is one hit drawn = record { word = is; operand = one; found_zero = λ _. drawn; found_more = λ miss. absurd (miss hit) }
 
-  tells_tried : (st : Step (Slot J D)) (before after : M) (found : ℕ) → st.word ≡ before.0.next → found ≢ 0
-      → after ≡ (tried before.0, []) → Drawing st before found after
-  tells_tried st before after found is miss so = (is, (λ hit. absurd (miss hit)), λ _. so)
+  tells_tried : (st : Step (Slot J D)) (before after : M) (found : ℕ) → st.word ≡ before.0.next → st.first ≡ 1
+      → found ≢ 0 → after ≡ (tried before.0, []) → Drawing st before found after
+  tells_tried st before after found is one miss so = record { word = is; operand = one; found_zero = λ hit. absurd (miss hit); found_more = λ _. so }
 
   -- a draw: `fetch_max` with 1 on the view's next word
   pub draws : (slots id : ℕ) (me : M) (i : ℕ) → me.1 ≡ [] → 0 < me.0.weight → me.0.held ≡ None → me.0.next ≡ i
@@ -141,14 +141,14 @@ module _ {J D : Type 0} (lawful : J → D → Type 0) (jobs : List J) (passes : 
         takes i (Job there_is.0),
         (r.each_slot i there_is.0 there_is.1).waiting hit,
         finds_zero s r id i me.0 at live free is inside hit,
-        tells_drawn (step slots i 1 0 none) me _ _ (sym is) hit (there_is.0, own, ap (λ (c : List (ℕ × Slot J D)). (taken i me.0, (i, Job there_is.0) ∷ c)) empty),
+        tells_drawn (step slots i 1 0 none) me _ _ (sym is) refl hit (there_is.0, own, ap (λ (c : List (ℕ × Slot J D)). (taken i me.0, (i, Job there_is.0) ∷ c)) empty),
       ))
       (λ miss. subst (Draws s me slots id i) (sym (fetched_old (get_or s.words i 0) miss)) (
         tried me.0,
         keeps,
         tt,
         finds_more s r id i me.0 at live free is inside miss,
-        tells_tried (step slots i 1 0 none) me _ _ (sym is) miss (ap (λ (c : List (ℕ × Slot J D)). (tried me.0, c)) empty),
+        tells_tried (step slots i 1 0 none) me _ _ (sym is) refl miss (ap (λ (c : List (ℕ × Slot J D)). (tried me.0, c)) empty),
       ))
 
   -- a word whose number is held is 1
@@ -211,7 +211,7 @@ module _ {J D : Type 0} (lawful : J → D → Type 0) (jobs : List J) (passes : 
             (omega (arith, ap draws_at one))
             (λ i ne. refl))
             refl,
-        refl,
+        record { word = has; operand = (refl, refl); result = (d, refl); given_back = refl },
       )
 
   -- the same, for a seat that is known by an equation

@@ -34,7 +34,7 @@ Home S = maybe.Option (maybe.Option S)
 
 module _ {J D : Type 0} where
   -- What the word w says of the slot of job j: `some (some x)` is a slot with x at home, and
-  -- `some none` one that is out with the seat of a pass, which alone reaches what is in it
+  -- `some none` one that is out. A table lets one seat alone reach what is in a slot that is out
   pub record IsSlotOf (lawful : J → D → Type 0) (j : J) (w : ℕ) (slot : Home (Slot J D))
       : Type 0 where
     -- at 0 the job is at home
@@ -83,8 +83,9 @@ module _ {J D : Type 0} (lawful : J → D → Type 0) where
     pub weights : sum_by (λ v. v.weight) s.views ≡ passes
 
 module _ {J D : Type 0} where
-  -- What follows for a number k that a view holds: no other view holds it, and its slot is out.
-  -- So while a pass holds a number, nobody else reaches the job or the result in its slot
+  -- What follows for a number k that a view holds: no other view holds it, and its slot isn't at
+  -- home. A state of the table doesn't say with whom it is out. `DrawsJob` and `HandingIn` do: with
+  -- the pass's own seat, after the step that draws k and before the one that hands it in
   pub record IsHeldAlone (s : State (Slot J D) (View J)) (k : ℕ) : Type 0 where
     pub by_one : (by other : ℕ) (v w : View J) → get_elem? s.views by ≡ some v
         → get_elem? s.views other ≡ some w → v.held ≡ Some k → w.held ≡ Some k → by ≡ other
@@ -138,13 +139,21 @@ module _ {J D : Type 0} where
   DrawsJob k before after = (j : J) × (get_elem? before.0.jobs k ≡ some j)
       × (after ≡ (taken k before.0, (k, Job j) ∷ []))
 
-  -- `fetch_max` with 1 on the pass's next word. Where it finds 0, the pass draws that number,
-  -- and else it has only tried the word
-  abbrev pub Drawing : Step (Slot J D) → Standing J D → ℕ → Standing J D → Type 0
-  Drawing step before found after = (step.word ≡ before.0.next)
-      × (found ≡ 0 → DrawsJob step.word before after)
-      × (found ≢ 0 → after ≡ (tried before.0, []))
+  -- A step with the operand 1 on the pass's next word. Where it finds 0, the pass draws that
+  -- number, and else it has only tried the word. A step doesn't say which kind it is: that it is a
+  -- `fetch_max` the code of `draw` says
+  pub record Drawing (step : Step (Slot J D)) (before : Standing J D) (found : ℕ)
+      (after : Standing J D) : Type 0 where
+    pub word : step.word ≡ before.0.next
+    pub operand : step.first ≡ 1
+    pub found_zero : found ≡ 0 → DrawsJob step.word before after
+    pub found_more : found ≢ 0 → after ≡ (tried before.0, [])
 
-  -- a store of 2, which gives the slot back
-  abbrev pub HandingIn : Step (Slot J D) → Standing J D → ℕ → Standing J D → Type 0
-  HandingIn step before stored after = after ≡ (freed before.0, [])
+  -- A store of 2 on the word of the number that the pass holds, whose slot is out with it and has
+  -- a result in it. The pass holds nothing then, and the slot has gone home
+  pub record HandingIn (step : Step (Slot J D)) (before : Standing J D) (stored : ℕ)
+      (after : Standing J D) : Type 0 where
+    pub word : before.0.held ≡ Some step.word
+    pub operand : (step.first ≡ 2) × (stored ≡ 2)
+    pub result : (d : D) × (before.1 ≡ (step.word, Done d) ∷ [])
+    pub given_back : after ≡ (freed before.0, [])

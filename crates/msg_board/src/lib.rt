@@ -11,8 +11,8 @@
 #![tactic(auto)]
 
 mod board;
-mod exclusion;
 mod law;
+pub mod laws;
 mod pass;
 mod slots;
 #[cfg(test)]

@@ -32,7 +32,7 @@ impl<J, D> Model for Pass<J, D> {
 impl<J, D> Pass<J, D> {
     /// The number that was drawn and not yet handed in.
     pub fn holding(&self) -> Option<usize>
-        ensures { result ≡ self.now.holding }
+        ensures held { result ≡ self.now.holding }
     {
         self.held
     }

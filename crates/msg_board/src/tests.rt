@@ -2,8 +2,8 @@
 ghost use Rattle.std.specs.Prelude.{◌≡◌, ◌+◌};
 
 mod boxes;
-mod rows;
 mod threads;
+mod turns;
 
 use crate::Work;
 

@@ -20,8 +20,8 @@ store-requires g c = let b = c.args.self.now in let seat = c.pass.invariant.seat
     )
 
 pub invariant_of-pass : goal.invariant_of-pass
-invariant_of-pass g c = handed_sound c.pass.inside c.put_in.new.seat c.store.new.seat c.args.k c.args.done c.pass.invariant c.put_in.ensures.now c.store.ensures.2
+invariant_of-pass g c = handed_sound c.pass.inside c.put_in.new.seat c.store.new.seat c.args.k c.args.done c.pass.invariant c.put_in.ensures.now c.store.ensures.2.given_back
 
 pub returns-clause-handed_in : goal.returns-clause-handed_in
-returns-clause-handed_in g c = handed_said c.pass.inside c.put_in.new.seat c.store.new.seat c.args.k c.args.done c.pass.invariant c.put_in.ensures.now c.store.ensures.2
+returns-clause-handed_in g c = handed_said c.pass.inside c.put_in.new.seat c.store.new.seat c.args.k c.args.done c.pass.invariant c.put_in.ensures.now c.store.ensures.2.given_back
     c.args.pass.now c.pass.view_is c.requires.holds

@@ -1,4 +1,4 @@
-//! What the law of a board says to everyone but the holder of a number.
+//! Laws: facts that hold of every board, and need no code.
 ghost use Rattle.std.specs.Prelude.{ℕ, List};
 ghost use Rattle.atomic_table.specs.Table.{State};
 ghost use Rattle.msg_board.specs.declared.law.Slot.{Slot};
@@ -7,8 +7,10 @@ ghost use Rattle.msg_board.specs.Law.{Holds, IsHeldAlone};
 
 use crate::work::Work;
 
-// A law, with no code: in every state of every board, each number is held alone.
-fn each_number_is_held_alone<W: Work>()
-    ensures { (jobs : List W.Job) (passes : ℕ) (s : State (Slot W.Job W.Done) (View W.Job)) (k : ℕ)
+/// In every state of every board, no two views hold one number, and the slot of a number that is
+/// held isn't at home.
+pub fn each_number_is_held_alone<W: Work>()
+    ensures alone { (jobs : List W.Job) (passes : ℕ)
+        → (s : State (Slot W.Job W.Done) (View W.Job)) → (k : ℕ)
         → Holds W.lawful jobs passes s → IsHeldAlone s k }
 {}

@@ -1,6 +1,7 @@
 //! Boards whose draws follow one another in a known order.
 use super::AddOne;
 use crate::Board;
+use crate::laws::each_number_is_held_alone;
 use std::alloc::Global;
 use std::test::Fail;
 
@@ -23,6 +24,9 @@ fn two_passes_draw_by_turns(rt: HostRuntime) -> Result<(), Fail> {
     assert_eq!(rt; held, Some(0));
     let drawn = board.draw(&mut b);
     assert_eq!(rt; drawn, Some((1, 20)));
+    each_number_is_held_alone::<AddOne>();
+    let held = (a.holding(), b.holding());
+    assert_eq!(rt; held, (Some(0), Some(1)));
     board.hand_in(&mut a, 0, 11);
     let held = a.holding();
     assert_eq!(rt; held, None);
