@@ -1,0 +1,22 @@
+//! What systems do to a world: ops, programs, conditions, and the interface of boxed systems.
+#![tactic(auto)]
+
+mod condition;
+mod op;
+mod ops;
+mod program;
+mod records;
+mod reply;
+mod start;
+mod values;
+
+pub use condition::{Condition, Probe};
+pub use msg_buffer::NoMemory;
+pub use msg_world::Access;
+pub use op::Op;
+pub use ops::Ops;
+pub use program::Program;
+pub use records::Records;
+pub use reply::{Reply, Took};
+pub use start::Start;
+pub use values::Values;
