@@ -1,1 +1,4 @@
 mod Accesses
+mod Copies
+mod Lendings
+mod OpsDone

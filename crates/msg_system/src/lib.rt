@@ -2,12 +2,15 @@
 #![tactic(auto)]
 
 mod condition;
+mod lending;
 mod op;
 mod ops;
 mod program;
+mod reading;
 mod records;
 mod reply;
 mod start;
+mod steps;
 mod values;
 
 pub use condition::{Condition, Probe};

@@ -19,27 +19,14 @@ pub enum Reply {
     Len(u64),
     Missed(u64),
     /// The cursor missed some messages, and went past `n` from the number `first` on.
-    Cleared {
-        missed: u64,
-        first: u64,
-        n: u64,
-    },
+    Cleared { missed: u64, first: u64, n: u64 },
     /// What was read, and the numbers that it got; None where too few were left.
-    Forwarded {
-        took: Took,
-        wrote: Option<Written>,
-    },
+    Forwarded { took: Took, wrote: Option<Written> },
     /// What was read, and the resource's value after it.
-    Summed {
-        took: Took,
-        value: i64,
-    },
+    Summed { took: Took, value: i64 },
     /// A resource's value after the op.
     Value(i64),
     /// The messages that were dropped, from the number `first` on.
-    Drained {
-        first: u64,
-        items: Records,
-    },
+    Drained { first: u64, items: Records },
     Signalled,
 }

@@ -1,6 +1,8 @@
-ghost use Rattle.std.specs.Prelude.{◌≡◌, List, ℤ, IfOk};
+ghost use Rattle.std.specs.Prelude.{◌≡◌, List, ℤ, IfOk, map};
+ghost use Rattle.msg_world.specs.World.{by};
 
 use msg_buffer::NoMemory;
+use msg_world::Record;
 use std::alloc::Global;
 use std::marker::Model;
 
@@ -43,5 +45,19 @@ impl Values {
     {
         let items = self.items.as_slice().to_vec(alloc)?;
         Ok(Values { items })
+    }
+
+    /// Messages of this writer with these values.
+    pub(crate) fn written_by(&self, alloc: Global, writer: u32) -> Result<Vec<Record>, NoMemory>
+        ensures written { IfOk result (λ v. v.items ≡ map (by writer) self.now) }
+    {
+        let mut records = Vec::new(alloc);
+        for value in &self.items {
+            records.push(Record {
+                writer,
+                value: *value,
+            })?;
+        }
+        Ok(records)
     }
 }

@@ -6,5 +6,5 @@ use Rattle.msg_system.proofs.program.Program.access.Given as goal
 abbrev pub invariant-loop-op : goal.invariant-loop-op
 invariant-loop-op l = record {
   reads : (p : Part) → reads l.access p ≡ some_op_reads (take l.op-index l.op-items) p;
-  writes : (p : Part) → writes l.access p ≡ some_op_writes (take l.op-index l.op-items) p
+  writes : (p : Part) → writes l.access p ≡ some_op_writes (take l.op-index l.op-items) p;
 }
