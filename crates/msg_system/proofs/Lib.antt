@@ -1,4 +1,7 @@
 mod Accesses
+mod Asking
 mod Copies
 mod Lendings
 mod OpsDone
+mod Runs
+mod Starts

@@ -1,3 +1,5 @@
+pub mod Conditions
 pub mod Needs
 pub mod OpRuns
 pub mod Programs
+pub mod Systems
