@@ -5,3 +5,4 @@ mod Lendings
 mod OpsDone
 mod Runs
 mod Starts
+mod Uses

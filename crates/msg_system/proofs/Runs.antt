@@ -17,7 +17,7 @@ use Rattle.msg_system.specs.declared.start.Start.{Start}
 use Rattle.msg_system.specs.Needs.{Needs, is_part, is_resource, op_needs, op_parts, program_needs, some_op_reads, some_op_writes}
 use Rattle.msg_system.specs.OpRuns.{IsAfterOp, IsAfterProgram, OpRan, ProgramRan, one_place, places_of}
 use Rattle.msg_system.specs.Programs.{AfterOp, AfterProgram, after_op, after_program, with_place}
-use Rattle.msg_system.specs.Systems.{Covers, Ran, WrittenStand, only}
+use Rattle.msg_system.specs.Systems.{Covers, Ran, WrittenIsAll, WrittenStand, only}
 use Rattle.msg_system.proofs.Lendings.{can_be_shown}
 
 pub same_part_refl : (p : Part) → same_part p p ≡ true
@@ -191,3 +191,9 @@ only_covers_written op l p covers is = covers_written op l p (covers_op (op ∷ 
 
 pub one_place_at : (t place : ℕ) → one_place t place t ≡ place
 one_place_at t place = rw (eq-eqb t t refl) refl
+
+pub written_is_all : WrittenIsAll
+written_is_all l taken s none stands p = elim (cases_Bool (writes l.access p)) [
+  | inl is ↦ stands p is
+  | inr isnt ↦ rw (none p isnt) tt
+]

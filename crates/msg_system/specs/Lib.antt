@@ -1,4 +1,5 @@
 pub mod Conditions
+pub mod Footprints
 pub mod Needs
 pub mod OpRuns
 pub mod Programs

@@ -3,6 +3,7 @@
 
 mod condition;
 mod guard;
+mod laws;
 mod lending;
 mod op;
 mod ops;
@@ -20,6 +21,7 @@ mod values;
 
 pub use condition::{Condition, Probe};
 pub use guard::Guard;
+pub use laws::{nothing_else_is_used, what_is_given_back_stands};
 pub use msg_buffer::NoMemory;
 pub use msg_world::Access;
 pub use op::Op;
