@@ -6,3 +6,4 @@ mod OpsDone
 mod Runs
 mod Starts
 mod Uses
+mod Turns

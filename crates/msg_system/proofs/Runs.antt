@@ -17,7 +17,7 @@ use Rattle.msg_system.specs.declared.start.Start.{Start}
 use Rattle.msg_system.specs.Needs.{Needs, is_part, is_resource, op_needs, op_parts, program_needs, some_op_reads, some_op_writes}
 use Rattle.msg_system.specs.OpRuns.{IsAfterOp, IsAfterProgram, OpRan, ProgramRan, one_place, places_of}
 use Rattle.msg_system.specs.Programs.{AfterOp, AfterProgram, after_op, after_program, with_place}
-use Rattle.msg_system.specs.Systems.{Covers, Ran, WrittenIsAll, WrittenStand, only}
+use Rattle.msg_system.specs.Systems.{CompleteCovers, Covers, Ran, WrittenIsAll, WrittenStand, only}
 use Rattle.msg_system.proofs.Lendings.{can_be_shown}
 
 pub same_part_refl : (p : Part) → same_part p p ≡ true
@@ -135,9 +135,9 @@ pub op_more : (ops : List Op) (i : ℕ) (op : Op) (w : ℕ) (ps qs rs : ℕ → 
 op_more ops i op w ps qs rs s l m before after r lt is far ran =
     let e : AfterProgram = after_program (take i ops) w ps s in
     let here : IsAfterOp (after_op op w e.places e.state) rs m r =
-        subst (λ (places : ℕ → ℕ). IsAfterOp (after_op op w places e.state) rs m r) far.same_places (ran e.state far.stands) in
+    subst (λ (places : ℕ → ℕ). IsAfterOp (after_op op w places e.state) rs m r) far.same_places (ran e.state far.stands) in
     let longer : after_program (take (i + 1) ops) w ps s ≡ and_then e (after_op op w e.places e.state) =
-        ap (λ xs. after_program xs w ps s) (take_more ops i op lt ∙ ap (λ x. take i ops ++ x ∷ []) (sym is)) ∙ after_program-snoc (take i ops) op w ps s in
+    ap (λ xs. after_program xs w ps s) (take_more ops i op lt ∙ ap (λ x. take i ops ++ x ∷ []) (sym is)) ∙ after_program-snoc (take i ops) op w ps s in
     subst (λ (x : AfterProgram). IsAfterProgram x rs m before (after ++ r ∷ [])) (sym longer) (record {
       same_places = here.same_places;
       stands = here.stands;
@@ -197,3 +197,9 @@ written_is_all l taken s none stands p = elim (cases_Bool (writes l.access p)) [
   | inl is ↦ stands p is
   | inr isnt ↦ rw (none p isnt) tt
 ]
+
+pub complete_covers : CompleteCovers
+complete_covers n l complete reads_in writes_in = record {
+  reads = λ p h. complete.shows p ∙ reads_in p h;
+  writes = λ p h. complete.writes p ∙ writes_in p h;
+}

@@ -46,7 +46,7 @@ module _ (ops : List Op) (i : ℕ) (op : Op) (start : Start) (counts old new : L
       → AreStarted (take (i + 1) ops) start counts old (slice_set new k place)
   started_more k u place read k_is within place_is t =
       let more : some_op_reads (take (i + 1) ops) (OfType t) ≡ (some_op_reads (take i ops) (OfType t) || (t == u)) =
-          one_more t ∙ ap (λ b. some_op_reads (take i ops) (OfType t) || b) (part_of_type (op_parts op).read u t read) in
+      one_more t ∙ ap (λ b. some_op_reads (take i ops) (OfType t) || b) (part_of_type (op_parts op).read u t read) in
       elim (cases_eq t u) [
         | inl e ↦ rw (more, k_is, e, get_or-set_same new u place 0 within, eq-eqb u u refl, or_true (some_op_reads (take i ops) (OfType u))) place_is
         | inr ne ↦ rw (more, k_is, get_or-set_other new u t place 0 ne, ne_eqb t u ne, or_false (some_op_reads (take i ops) (OfType t))) (far t)
@@ -55,5 +55,5 @@ module _ (ops : List Op) (i : ℕ) (op : Op) (start : Start) (counts old new : L
   pub started_same : type_read op ≡ None → AreStarted (take (i + 1) ops) start counts old new
   started_same read t =
       let more : some_op_reads (take (i + 1) ops) (OfType t) ≡ some_op_reads (take i ops) (OfType t) =
-          one_more t ∙ ap (λ b. some_op_reads (take i ops) (OfType t) || b) (no_part_of_type (op_parts op).read t read) ∙ or_false (some_op_reads (take i ops) (OfType t)) in
+      one_more t ∙ ap (λ b. some_op_reads (take i ops) (OfType t) || b) (no_part_of_type (op_parts op).read t read) ∙ or_false (some_op_reads (take i ops) (OfType t)) in
       rw more (far t)

@@ -1,8 +1,8 @@
 -- What a system means, how it starts, and what a run of it does.
 use Rattle.std.specs.Prelude.{◌≡◌, ℕ, ◌++◌, false, None, IfSome, IsSome, IsTrue, List, [], ◌∷◌, slice_get, unwrap_or, if◌then◌else◌}
 use Rattle.msg_world.specs.declared.lent.Lent.{Lent}
-use Rattle.msg_world.specs.Access.{Part, OfType, writes}
-use Rattle.msg_world.specs.Loan.{LoanStands, access_of, shown, writable}
+use Rattle.msg_world.specs.Access.{Part, OfType, uses, writes}
+use Rattle.msg_world.specs.Loan.{IsComplete, LoanStands, access_of, shown, writable}
 use Rattle.msg_world.specs.Parts.{Parts, PartsStand, StuffStands, slot}
 use Rattle.msg_world.specs.World.{WorldState, content}
 use Rattle.msg_system.specs.declared.op.Op.{Op}
@@ -66,3 +66,8 @@ pub record Ran (old new : Meaning) (lent : Lent) (taken : Parts) (before after :
 abbrev pub WrittenIsAll : Type 0
 WrittenIsAll = (l : Lent) (taken : Parts) (s : WorldState) → ((p : Part) → writes (access_of l) p ≡ false → slot p taken ≡ None)
     → WrittenStand l taken s → PartsStand taken s
+
+-- A loan that has all that its access uses covers what is within that access.
+abbrev pub CompleteCovers : Type 0
+CompleteCovers = (n : Needs) (l : Lent) → IsComplete l → ((p : Part) → IsTrue (n.reads p) → IsTrue (uses (access_of l) p))
+    → ((p : Part) → IsTrue (n.writes p) → IsTrue (writes (access_of l) p)) → Covers n l

@@ -1,6 +1,6 @@
 // Laws: facts that hold of every op, program, condition and job, and need no code.
 ghost use Rattle.msg_system.specs.Footprints.{ConditionFootprint, JobFootprint, OpFootprint, ProgramFootprint};
-ghost use Rattle.msg_system.specs.Systems.{WrittenIsAll};
+ghost use Rattle.msg_system.specs.Systems.{CompleteCovers, WrittenIsAll};
 
 /// What is done depends on no part but those that are needed, and changes no part but those that are
 /// written.
@@ -15,4 +15,9 @@ pub fn nothing_else_is_used()
 /// access writes.
 pub fn what_is_given_back_stands()
     ensures law { WrittenIsAll }
+{}
+
+/// A loan that `Lent::open` makes for an access covers each program whose own access is within it.
+pub fn open_loans_cover()
+    ensures law { CompleteCovers }
 {}

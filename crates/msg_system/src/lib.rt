@@ -21,7 +21,7 @@ mod values;
 
 pub use condition::{Condition, Probe};
 pub use guard::Guard;
-pub use laws::{nothing_else_is_used, what_is_given_back_stands};
+pub use laws::{nothing_else_is_used, open_loans_cover, what_is_given_back_stands};
 pub use msg_buffer::NoMemory;
 pub use msg_world::Access;
 pub use op::Op;
@@ -35,3 +35,6 @@ pub use start::Start;
 pub use system::System;
 pub use tally::Tally;
 pub use values::Values;
+
+#[cfg(test)]
+mod tests;

@@ -80,7 +80,7 @@ pub(crate) fn start_cursor(start: Start, counts: &Counts, t: TypeNo) -> MessageC
 fn start_cursors(ops: &[Op], start: Start, counts: &Counts, cursors: &mut [MessageCursor; 64])
     ensures started { (t : ℕ) → places_of cursors.new t
         ≡ (if some_op_reads ops.now (OfType t) then start_place start counts.now t
-          else places_of cursors.old t) }
+        else places_of cursors.old t) }
 {
     for op in ops {
         if let Some(t) = op.read_type() {
@@ -131,7 +131,12 @@ impl System for Scripted {
 
     fn start(&mut self, counts: &Counts) {
         let start = self.program.start;
-        start_cursors(self.program.ops.as_slice(), start, counts, &mut self.cursors);
+        start_cursors(
+            self.program.ops.as_slice(),
+            start,
+            counts,
+            &mut self.cursors,
+        );
     }
 
     fn run(&mut self, alloc: Global, lent: Lent, out: &mut Vec<Reply>) -> Result<Taken, NoMemory> {

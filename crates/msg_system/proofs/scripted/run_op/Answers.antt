@@ -67,19 +67,19 @@ pub returns-in-Signal-clause-ran : goal.returns-in-Signal-clause-ran
 returns-in-Signal-clause-ran c = rw c.in-Signal.is (c.signal.ensures.ran c.args.writer (places_of c.args.cursors.now))
 
 pub returns-in-Write-clause-ran : goal.returns-in-Write-clause-ran
-returns-in-Write-clause-ran c = 
+returns-in-Write-clause-ran c =
     let fits : SFits w64 c.in-Write.value = search rules in
     rw c.in-Write.is (if_ok c.write.result _ _ (λ reply ran.
     subst (λ v. OpRan (Write c.in-Write.t v) c.args.writer (places_of c.args.cursors.now) (places_of c.args.cursors.now) c.args.lent.now c.write.new.lent reply) (to_z-of_z w64 c.in-Write.value fits) (ran (places_of c.args.cursors.now))) c.write.ensures.ran)
 
 pub returns-in-Set-clause-ran : goal.returns-in-Set-clause-ran
-returns-in-Set-clause-ran c = 
+returns-in-Set-clause-ran c =
     let fits : SFits w64 c.in-Set.value = search rules in
     rw c.in-Set.is (subst (λ v. OpRan (Set c.in-Set.r v) c.args.writer (places_of c.args.cursors.now) (places_of c.args.cursors.now) c.args.lent.now c.set.new.lent c.set.result)
     (to_z-of_z w64 c.in-Set.value fits) (c.set.ensures.ran c.args.writer (places_of c.args.cursors.now)))
 
 pub returns-in-Add-clause-ran : goal.returns-in-Add-clause-ran
-returns-in-Add-clause-ran c = 
+returns-in-Add-clause-ran c =
     let fits : SFits w64 c.in-Add.value = search rules in
     rw c.in-Add.is (subst (λ v. OpRan (Add c.in-Add.r v) c.args.writer (places_of c.args.cursors.now) (places_of c.args.cursors.now) c.args.lent.now c.add.new.lent c.add.result)
     (to_z-of_z w64 c.in-Add.value fits) (c.add.ensures.ran c.args.writer (places_of c.args.cursors.now)))

@@ -9,5 +9,5 @@ abbrev pub invariant-loop-op : goal.invariant-loop-op
 invariant-loop-op l = record {
   so_far : (s : WorldState) → LoanStands l.initial.lent s
       → IsAfterProgram (after_program (take l.op-index l.ops) l.writer (places_of l.initial.cursors) s) (places_of l.cursors) l.lent l.initial.out.items l.out.items;
-  same : SameLoan l.initial.lent l.lent
+  same : SameLoan l.initial.lent l.lent;
 }

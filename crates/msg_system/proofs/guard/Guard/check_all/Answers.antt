@@ -11,8 +11,10 @@ check-all-requires c =
     let xs = c.args.guards.now in let ys = c.loop-guard.guards in let i = c.loop-guard.guard-index in let d = c.guard-item.result in
     let lx : i < length xs = omega arith in
     let ly : i < length ys = omega arith in
-    record { covers = subst (λ (a : Asked). Covers (condition_needs a.condition) c.args.lent.now) (sym (not_reached xs ys i c.loop-guard.invariant.rest lx ly d))
-      (c.requires.covers i d lx) }
+    record {
+      covers = subst (λ (a : Asked). Covers (condition_needs a.condition) c.args.lent.now) (sym (not_reached xs ys i c.loop-guard.invariant.rest lx ly d))
+          (c.requires.covers i d lx);
+    }
 
 pub loop-guard-preserved : goal.loop-guard-preserved
 loop-guard-preserved c =
@@ -26,5 +28,5 @@ loop-guard-preserved c =
           ∙ ap (λ b. all_hold (take i xs) s && b) (c.check-all.ensures.answer s stands ∙ ap (λ (a : Asked). answer a s) here) ∙ sym (all_hold_more xs i d s lx);
       moved = λ s stands. moved_later xs ys i inv.rest lx ly (after_asking s) c.check-all.new.self d (inv.moved s stands)
           (c.check-all.ensures.moved s stands ∙ ap (after_asking s) here);
-      rest = rest_later xs ys i inv.rest lx ly c.check-all.new.self
+      rest = rest_later xs ys i inv.rest lx ly c.check-all.new.self;
     }

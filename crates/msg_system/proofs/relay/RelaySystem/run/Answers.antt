@@ -15,7 +15,7 @@ pub returns-clause-ran : goal.returns-clause-ran
 returns-clause-ran c =
     let s = c.args.self.now in
     let ran = subst (λ places. OpRan (Forward s.from s.to) s.writer (one_place s.from s.cursor) places c.args.lent c.forward.new.lent c.in_ok-forward.field-0)
-        (one_place_moved s.from s.cursor c.forward.new.cursor)
-        (c.in_ok-forward.ensures.ran (one_place s.from s.cursor) (one_place_at s.from s.cursor)) in
+    (one_place_moved s.from s.cursor c.forward.new.cursor)
+    (c.in_ok-forward.ensures.ran (one_place s.from s.cursor) (one_place_at s.from s.cursor)) in
     rw c.in_ok-push.ensures.items (ran_only (Forward s.from s.to) s.start s.writer (one_place s.from s.cursor) (one_place s.from c.forward.new.cursor) c.args.lent c.forward.new.lent
     c.into_taken.result c.args.out.now.items c.in_ok-forward.field-0 ran c.in_ok-forward.ensures.same c.into_taken.ensures.taken)

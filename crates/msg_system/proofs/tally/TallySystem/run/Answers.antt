@@ -15,7 +15,7 @@ pub returns-clause-ran : goal.returns-clause-ran
 returns-clause-ran c =
     let s = c.args.self.now in
     let ran = subst (λ places. OpRan (Sum s.from s.to) s.writer (one_place s.from s.cursor) places c.args.lent c.sum.new.lent c.in_ok-sum.field-0)
-        (one_place_moved s.from s.cursor c.sum.new.cursor)
-        (c.in_ok-sum.ensures.ran s.writer (one_place s.from s.cursor) (one_place_at s.from s.cursor)) in
+    (one_place_moved s.from s.cursor c.sum.new.cursor)
+    (c.in_ok-sum.ensures.ran s.writer (one_place s.from s.cursor) (one_place_at s.from s.cursor)) in
     rw c.in_ok-push.ensures.items (ran_only (Sum s.from s.to) s.start s.writer (one_place s.from s.cursor) (one_place s.from c.sum.new.cursor) c.args.lent c.sum.new.lent
     c.into_taken.result c.args.out.now.items c.in_ok-sum.field-0 ran c.in_ok-sum.ensures.same c.into_taken.ensures.taken)
