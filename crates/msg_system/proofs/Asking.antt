@@ -1,5 +1,5 @@
 -- Conditions asked one after the other.
-use Rattle.std.proofs.Common.{◌≡◌, ℕ, ◌+◌, ◌<◌, ◌++◌, Bool, true, false, ◌&&◌, List, [], ◌∷◌, length, map, take, drop, get_or, set, refl, sym, ap, ◌∙◌, arith}
+use Rattle.std.proofs.Common.{◌≡◌, ℕ, zero, suc, ◌+◌, ◌<◌, ◌++◌, Bool, true, false, ◌&&◌, List, [], ◌∷◌, length, map, take, drop, get_or, set, refl, sym, ap, ◌∙◌, arith}
 use Rattle.std.proofs.lemmas.List.{drop-set-lt, drop_more, map-append, take_more, take_more_set}
 use Rattle.std.proofs.lemmas.Grind.{drop_more_same}
 use Rattle.msg_world.specs.World.{WorldState}
@@ -33,3 +33,13 @@ module _ {X : Type 0} (xs ys : List X) (i : ℕ) (rest : drop i ys ≡ drop i xs
   pub moved_later : (f : X → X) (y d : X) → take i ys ≡ map f (take i xs) → y ≡ f (get_or xs i d) → take (i + 1) (set ys i y) ≡ map f (take (i + 1) xs)
   moved_later f y d moved is = take_more_set ys i y ly ∙ ap (λ zs. zs ++ y ∷ []) moved ∙ ap (λ z. map f (take i xs) ++ z ∷ []) is
       ∙ sym (ap (map f) (take_more xs i d lx) ∙ map-append f (take i xs) (get_or xs i d ∷ []))
+
+get_or-map : {X Y : Type 0} (f : X → Y) (zs : List X) (k : ℕ) (d : X) → get_or (map f zs) k (f d) ≡ f (get_or zs k d)
+get_or-map f [] k d = refl
+get_or-map f (z ∷ zs) zero d = refl
+get_or-map f (z ∷ zs) (suc k) d = get_or-map f zs k d
+
+-- the same of what is seen of it
+pub seen_here : {X Y : Type 0} (f : X → Y) (xs ys : List X) (i : ℕ) (d : X) → i < length xs → i < length ys → drop i ys ≡ drop i xs
+    → get_or (map f xs) i (f d) ≡ f (get_or ys i d)
+seen_here f xs ys i d lx ly rest = get_or-map f xs i d ∙ ap f (sym (not_reached xs ys i rest lx ly d))

@@ -7,3 +7,4 @@ mod Runs
 mod Starts
 mod Uses
 mod Turns
+mod Jobs

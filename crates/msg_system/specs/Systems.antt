@@ -1,16 +1,17 @@
 -- What a system means, how it starts, and what a run of it does.
-use Rattle.std.specs.Prelude.{◌≡◌, ℕ, ◌++◌, false, None, IfSome, IsSome, IsTrue, List, [], ◌∷◌, slice_get, unwrap_or, if◌then◌else◌}
+use Rattle.std.specs.Prelude.{All, ◌≡◌, ℕ, ◌++◌, false, None, IfSome, IsSome, IsTrue, List, [], ◌∷◌, slice_get, unwrap_or, if◌then◌else◌}
 use Rattle.msg_world.specs.declared.lent.Lent.{Lent}
 use Rattle.msg_world.specs.Access.{Part, OfType, uses, writes}
 use Rattle.msg_world.specs.Loan.{IsComplete, LoanStands, access_of, shown, writable}
 use Rattle.msg_world.specs.Parts.{Parts, PartsStand, StuffStands, slot}
 use Rattle.msg_world.specs.World.{WorldState, content}
+use Rattle.msg_system.specs.declared.condition.Condition.{Condition}
 use Rattle.msg_system.specs.declared.op.Op.{Op}
 use Rattle.msg_system.specs.declared.program.Program.{Program}
 use Rattle.msg_system.specs.declared.reply.Reply.{Reply}
 use Rattle.msg_system.specs.declared.start.Start.{Start}
 use Rattle.msg_system.specs.declared.start.Start.TheVariants.{Zero, Current}
-use Rattle.msg_system.specs.Needs.{Needs, some_op_reads}
+use Rattle.msg_system.specs.Needs.{IsAccessOf, Needs, condition_needs, job_needs, program_needs, some_op_reads}
 use Rattle.msg_system.specs.Programs.{AfterProgram, after_program}
 
 -- A system is its program, the number that it writes as, and its place in each type.
@@ -71,3 +72,8 @@ WrittenIsAll = (l : Lent) (taken : Parts) (s : WorldState) → ((p : Part) → w
 abbrev pub CompleteCovers : Type 0
 CompleteCovers = (n : Needs) (l : Lent) → IsComplete l → ((p : Part) → IsTrue (n.reads p) → IsTrue (uses (access_of l) p))
     → ((p : Part) → IsTrue (n.writes p) → IsTrue (writes (access_of l) p)) → Covers n l
+
+-- A loan that has all that a job needs covers its program and each of its conditions.
+abbrev pub JobsCover : Type 0
+JobsCover = (ops : List Op) (cs : List Condition) (l : Lent) → IsComplete l → IsAccessOf (job_needs ops cs) (access_of l)
+    → Covers (program_needs ops) l × All (λ c. Covers (condition_needs c) l) cs

@@ -83,11 +83,13 @@ impl Guard {
 
     /// Whether all conditions hold. Each of them is asked, whatever the others answer.
     pub fn check_all(guards: &mut [Guard], lent: &Lent) -> bool
-        requires covers { All (λ g. Covers (condition_needs g.condition) lent.now) guards.old }
+        requires covers { All (λ c. Covers (condition_needs c) lent.now)
+            (map (λ g. g.condition) guards.old) }
         ensures answer { (s : WorldState) → LoanStands lent.now s
             → result ≡ all_hold guards.old s }
         ensures moved { (s : WorldState) → LoanStands lent.now s
             → guards.new ≡ map (after_asking s) guards.old }
+        ensures same { map (λ g. g.condition) guards.new ≡ map (λ g. g.condition) guards.old }
     {
         let mut all = true;
         for guard in guards.iter_mut() {

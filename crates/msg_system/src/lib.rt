@@ -3,6 +3,7 @@
 
 mod condition;
 mod guard;
+mod job;
 mod laws;
 mod lending;
 mod op;
@@ -21,6 +22,7 @@ mod values;
 
 pub use condition::{Condition, Probe};
 pub use guard::Guard;
+pub use job::job_access;
 pub use laws::{nothing_else_is_used, open_loans_cover, what_is_given_back_stands};
 pub use msg_buffer::NoMemory;
 pub use msg_world::Access;

@@ -16,6 +16,8 @@ use msg_world::{
 };
 use std::alloc::Global;
 
+mod asking;
+mod kinds;
 mod rows;
 
 fn access_of(system: &Box<dyn System>) -> Access

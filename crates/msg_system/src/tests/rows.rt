@@ -1,30 +1,33 @@
 // Worked rows.
+ghost use Rattle.msg_world.specs.Parts.{SameShape};
+
 use super::run_turn;
 use crate::{
-    Condition, Guard, NoMemory, Op, Ops, Probe, Program, Relay, Reply, Scripted, Start, System,
-    Tally, Took, Values,
+    NoMemory, Op, Ops, Program, Relay, Reply, Scripted, Start, System, Tally, Took, Values,
 };
 use msg_buffer::Written;
-use msg_world::{Access, Lent, Record, ResNo, TypeNo, World, lent_parts_are_a_loan};
+use msg_world::{Record, ResNo, TypeNo, World};
 use std::alloc::Global;
 use std::process::Abort;
 use std::test::Fail;
 
-fn type_no(rt: &impl Abort, number: u32) -> TypeNo {
+pub fn type_no(rt: &impl Abort, number: u32) -> TypeNo {
     match TypeNo::new(number) {
         Some(t) => t,
         None => panic!(rt; "no type has this number"),
     }
 }
 
-fn res_no(rt: &impl Abort, number: u32) -> ResNo {
+pub fn res_no(rt: &impl Abort, number: u32) -> ResNo {
     match ResNo::new(number) {
         Some(r) => r,
         None => panic!(rt; "no resource has this number"),
     }
 }
 
-fn post(rt: &impl Abort, world: &mut World, t: TypeNo, value: i64) {
+pub fn post(rt: &impl Abort, world: &mut World, t: TypeNo, value: i64)
+    ensures shape { SameShape world.old world.new }
+{
     assert!(rt; world.messages(t).is_some());
     assert!(rt; world.post(t, value).is_ok());
 }
@@ -51,7 +54,7 @@ fn only(rt: &impl Abort, replies: Vec<Reply>) -> Reply {
     }
 }
 
-fn is_took(rt: &impl Abort, took: &Took, missed: u64, first: u64, values: &[i64]) {
+pub fn is_took(rt: &impl Abort, took: &Took, missed: u64, first: u64, values: &[i64]) {
     assert_eq!(rt; took.missed, missed);
     assert_eq!(rt; took.first, first);
     let items = took.items.as_slice();
@@ -122,7 +125,7 @@ fn saturation(rt: HostRuntime) -> Result<(), Fail> {
 }
 
 /// A program of one op.
-fn program(alloc: Global, op: Op, start: Start) -> Result<Program, NoMemory> {
+pub fn program(alloc: Global, op: Op, start: Start) -> Result<Program, NoMemory> {
     let mut ops = Vec::new(alloc);
     ops.push(op)?;
     Ok(Program {
