@@ -29,7 +29,8 @@ impl Model for MessageCursor {
 impl MessageCursor {
     ghost use Rattle.msg_buffer.specs.Reading.{iter_cursor, iter_messages, iter_place, iter_rest};
 
-    pub(crate) fn new(place: u64) -> MessageCursor
+    /// A cursor at a place of the caller's choice.
+    pub fn new(place: u64) -> MessageCursor
         ensures place { result ≡ place }
     {
         MessageCursor { place }

@@ -1,0 +1,56 @@
+-- What is read from a loan, and written through it.
+use Rattle.std.proofs.Common.{◌≡◌, ℕ, ◌+◌, ◌++◌, ◌≤◌, ◌<◌, Bool, true, false, List, length, Option, Some, None, refl, sym, ap, subst, ◌∙◌, arith, inl, inr}
+use Rattle.std.specs.Prelude.{ℤ, IfSome, IsSome, if◌then◌else◌}
+use Rattle.std.proofs.lemmas.Bool.{cases_Bool, false≢true}
+use Rattle.std.proofs.lemmas.Bool.Decides.{nat_tests}
+use Rattle.msg_buffer.specs.declared.instance.Written.{Written}
+use Rattle.msg_buffer.specs.History.{History, count, has_room, write, stamped}
+use Rattle.msg_buffer.specs.Kept.{Kept}
+use Rattle.msg_buffer.specs.StandsFor.{StandsFor}
+use Rattle.msg_world.specs.declared.lent.Lent.{Lent}
+use Rattle.msg_world.specs.declared.record.Record.{Record}
+use Rattle.msg_world.specs.Access.{Part, OfType, OfResource, writes}
+use Rattle.msg_world.specs.Loan.{LoanStands, shown, writable}
+use Rattle.msg_world.specs.World.{WorldState}
+use Rattle.msg_system.specs.Programs.{numbers_for}
+
+-- what may be written is shown
+pub writable_is_shown : (p : Part) (l : Lent) → IsSome (writable p l) → shown p l ≡ writable p l
+writable_is_shown p l there = elim (cases_Bool (writes l.access p)) [
+  | inl is ↦ rw is refl
+  | inr isnt ↦ absurd (false≢true (rw isnt at there))
+]
+
+pub can_be_shown : (p : Part) (l : Lent) → IsSome (writable p l) → IsSome (shown p l)
+can_be_shown p l there = rw (writable_is_shown p l there) there
+
+pub messages_stand : (l : Lent) (s : WorldState) (t : ℕ) (k : Kept Record) → Some k ≡ shown (OfType t) l → LoanStands l s → StandsFor k (s.histories t)
+messages_stand l s t k is stand = let P : Option (Kept Record) → Type 0 = λ o. IfSome o (λ x. StandsFor x (s.histories t)) in subst P (sym is) (stand (OfType t))
+
+pub value_stands : (l : Lent) (s : WorldState) (r : ℕ) (z : ℤ) → Some z ≡ shown (OfResource r) l → LoanStands l s → z ≡ s.resources r
+value_stands l s r z is stand = let P : Option ℤ → Type 0 = λ o. IfSome o (λ x. x ≡ s.resources r) in subst P (sym is) (stand (OfResource r))
+
+pub written_messages_stand : (l : Lent) (s : WorldState) (t : ℕ) (k : Kept Record) → IsSome (writable (OfType t) l) → Some k ≡ writable (OfType t) l → LoanStands l s
+    → StandsFor k (s.histories t)
+written_messages_stand l s t k there is stand = messages_stand l s t k (is ∙ sym (writable_is_shown (OfType t) l there)) stand
+
+module _ (h : History Record) (n : ℕ) where
+  room_true : count h + n ≤ h.limit → has_room h n ≡ true
+  room_true room = grind (arith, nat_tests)
+
+  room_false : h.limit < count h + n → has_room h n ≡ false
+  room_false spent = grind (arith, nat_tests)
+
+  -- the numbers of a write that fits
+  pub numbers_fit : (w : Written) → count h + n ≤ h.limit → w.first ≡ count h → w.n ≡ n → Some w ≡ numbers_for h n
+  numbers_fit w room first number = rw (room_true room, ← first, ← number) refl
+
+  -- and of one that doesn't
+  pub numbers_spent : h.limit < count h + n → None ≡ numbers_for h n
+  numbers_spent spent = rw (room_false spent) refl
+
+-- a write that doesn't fit changes nothing
+pub spent_stands : (h : History Record) (ms : List Record) (k : Kept Record) → h.limit < count h + length ms → StandsFor k h → StandsFor k (write ms h)
+spent_stands h ms k spent stands =
+    let P : Bool → Type 0 = λ b. StandsFor k (if b then record h { entries = h.entries ++ stamped h.updates ms } else h) in
+    subst P (sym (room_false h (length ms) spent)) stands

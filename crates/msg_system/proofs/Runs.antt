@@ -1,0 +1,205 @@
+-- Runs of ops and of programs, from one op to the next.
+use Rattle.std.proofs.Common.{◌≡◌, ℕ, zero, suc, ◌+◌, ◌<◌, ◌++◌, Bool, true, false, not, ◌&&◌, List, [], ◌∷◌, length, Option, Some, None, Result, Ok, Err, take, get_or, refl, sym, ap, subst, ◌∙◌, arith, inl, inr, append_assoc}
+use Rattle.std.specs.Prelude.{◌==◌, IfOk, IfSome, IsSome, IsTrue, is_some, slice_index, slice_set, if◌then◌else◌}
+use Rattle.std.proofs.lemmas.Bool.{cases_Bool, cases_eq, eq-eqb, ne_eqb}
+use Rattle.std.proofs.lemmas.List.{get_or-set_same, get_or-set_other, take_more}
+use Rattle.std.proofs.lemmas.List.Folds.{list_any_at}
+use Rattle.msg_world.specs.declared.access.Access.{Access}
+use Rattle.msg_world.specs.declared.lent.Lent.{Lent}
+use Rattle.msg_world.specs.Access.{Part, OfType, OfResource, Registry, reads, same_part, writes}
+use Rattle.msg_world.specs.Loan.{LoanStands, SameLoan, shown, taken_of, writable}
+use Rattle.msg_world.specs.Parts.{Parts, StuffStands, slot}
+use Rattle.msg_world.specs.World.{WorldState, content}
+use Rattle.msg_system.specs.declared.op.Op.{Op}
+use Rattle.msg_system.specs.declared.program.Program.{Program}
+use Rattle.msg_system.specs.declared.reply.Reply.{Reply}
+use Rattle.msg_system.specs.declared.start.Start.{Start}
+use Rattle.msg_system.specs.Needs.{Needs, is_part, is_resource, op_needs, op_parts, program_needs, some_op_reads, some_op_writes}
+use Rattle.msg_system.specs.OpRuns.{IsAfterOp, IsAfterProgram, OpRan, ProgramRan, one_place, places_of}
+use Rattle.msg_system.specs.Programs.{AfterOp, AfterProgram, after_op, after_program, with_place}
+use Rattle.msg_system.specs.Systems.{CompleteCovers, Covers, Ran, WrittenIsAll, WrittenStand, only}
+use Rattle.msg_system.proofs.Lendings.{can_be_shown}
+
+pub same_part_refl : (p : Part) → same_part p p ≡ true
+same_part_refl (OfType t) = eq-eqb t t refl
+same_part_refl (OfResource r) = eq-eqb r r refl
+same_part_refl Registry = refl
+
+-- a loan that covers an op shows what the op reads
+pub covers_read : (op : Op) (l : Lent) (p : Part) → Covers (op_needs op) l → (op_parts op).read ≡ Some p → IsSome (shown p l)
+covers_read op l p covers is = covers.reads p (ap (λ q. is_part q p) is ∙ same_part_refl p)
+
+-- and lets be written what it writes
+pub covers_written : (op : Op) (l : Lent) (p : Part) → Covers (op_needs op) l → (op_parts op).written ≡ Some p → IsSome (writable p l)
+covers_written op l p covers is = covers.writes p (ap (λ q. is_part q p) is ∙ same_part_refl p)
+
+-- the places after one cursor was moved
+pub cursor_set : (cursors : List ℕ) (t place : ℕ) → t < length cursors → places_of (slice_set cursors t place) ≡ with_place (places_of cursors) t place
+cursor_set cursors t place lt = λ k u. at u k
+  where
+    at : (u : ℕ) → places_of (slice_set cursors t place) u ≡ with_place (places_of cursors) t place u
+    at u = elim (cases_eq u t) [
+      | inl e ↦ rw (e, get_or-set_same cursors t place 0 lt, eq-eqb t t refl) refl
+      | inr ne ↦ rw (get_or-set_other cursors t u place 0 ne, ne_eqb u t ne) refl
+    ]
+
+pub if_ok : {T E : Type 0} (r : Result T E) (P Q : T → Type 0) → ((x : T) → P x → Q x) → IfOk r P → IfOk r Q
+if_ok (Ok x) P Q f h = f x h
+if_ok (Err e) P Q f h = tt
+
+-- an element within a list, whatever stands for one outside
+get_or_default : (xs : List ℕ) (i a b : ℕ) → i < length xs → get_or xs i a ≡ get_or xs i b
+get_or_default [] i a b lt = absurd (omega arith)
+get_or_default (x ∷ xs) zero a b lt = refl
+get_or_default (x ∷ xs) (suc i) a b lt = get_or_default xs i a b (omega arith)
+
+-- an op of one cursor, among the cursors of all types
+pub ran_at : (op : Op) (w : ℕ) (cursors : List ℕ) (t k d new : ℕ) (l m : Lent) (r : Reply) → length cursors ≡ 64 → k ≡ t → t < 64
+    → ((places : ℕ → ℕ) → places t ≡ get_or cursors k d → OpRan op w places (with_place places t new) l m r)
+    → OpRan op w (places_of cursors) (places_of (slice_set cursors k new)) l m r
+ran_at op w cursors t k d new l m r long is lt ran =
+    let within : t < length cursors = omega (arith, long, lt) in
+    let at : places_of cursors t ≡ get_or cursors k d = rw is (get_or_default cursors t 0 d within) in
+    rw is (subst (λ (places : ℕ → ℕ). OpRan op w (places_of cursors) places l m r) (sym (cursor_set cursors t new within)) (ran (places_of cursors) at))
+
+-- the same reading op without another place
+pub answered_at : (op : Op) (w : ℕ) (cursors : List ℕ) (t k d : ℕ) (l m : Lent) (r : Reply) → length cursors ≡ 64 → k ≡ t → t < 64
+    → ((places : ℕ → ℕ) → places t ≡ get_or cursors k d → OpRan op w places places l m r)
+    → OpRan op w (places_of cursors) (places_of cursors) l m r
+answered_at op w cursors t k d l m r long is lt ran =
+    let within : t < length cursors = omega (arith, long, lt) in
+    ran (places_of cursors) (rw is (get_or_default cursors t 0 d within))
+
+-- ---- a loan that covers, after a change of what it lets be written
+
+still_there : {X : Type 0} (b : Bool) (x y z : Option X) → is_some x ≡ is_some y → is_some (if b then x else z) ≡ is_some (if b then y else z)
+still_there true x y z same = same
+still_there false x y z same = refl
+
+pub shown_later : (p : Part) (l m : Lent) → SameLoan l m → is_some (shown p m) ≡ is_some (shown p l)
+shown_later p l m same = rw (same.access, same.world)
+    (still_there (writes l.access p) (slot p m.taken) (slot p l.taken) (if reads l.access p then slot p l.world.now else None) (same.shape.there p))
+
+pub writable_later : (p : Part) (l m : Lent) → SameLoan l m → is_some (writable p m) ≡ is_some (writable p l)
+writable_later p l m same = rw same.access (still_there (writes l.access p) (slot p m.taken) (slot p l.taken) None (same.shape.there p))
+
+pub covers_later : (n : Needs) (l m : Lent) → SameLoan l m → Covers n l → Covers n m
+covers_later n l m same covers = record {
+  reads = λ p h. shown_later p l m same ∙ covers.reads p h;
+  writes = λ p h. writable_later p l m same ∙ covers.writes p h;
+}
+
+pub same_loan_trans : (l m n : Lent) → SameLoan l m → SameLoan m n → SameLoan l n
+same_loan_trans l m n a b = record {
+  access = b.access ∙ a.access;
+  world = b.world ∙ a.world;
+  shape = record {
+    size = record { types = b.shape.size.types ∙ a.shape.size.types; resources = b.shape.size.resources ∙ a.shape.size.resources };
+    there = λ p. b.shape.there p ∙ a.shape.there p;
+  };
+}
+
+pub same_loan : (l : Lent) → SameLoan l l
+same_loan l = record { access = refl; world = refl; shape = record { size = record { types = refl; resources = refl }; there = λ p. refl } }
+
+-- a loan that covers a program covers each op of it
+pub covers_op : (ops : List Op) (i : ℕ) (op : Op) (l : Lent) → i < length ops → op ≡ get_or ops i op → Covers (program_needs ops) l → Covers (op_needs op) l
+covers_op ops i op l lt is covers = record {
+  reads = λ p h. elim (cases_Bool (some_op_writes ops p)) [
+    | inl w ↦ can_be_shown p l (covers.writes p w)
+    | inr isnt ↦ covers.reads p (only_read (some_op_reads ops p) (is_resource p) (some_op_writes ops p)
+        (list_any_at (λ o. (op_needs o).reads p) ops i op lt (ap (λ o. (op_needs o).reads p) (sym is) ∙ h)) isnt)
+  ];
+  writes = λ p h. covers.writes p (list_any_at (λ o. (op_needs o).writes p) ops i op lt (ap (λ o. (op_needs o).writes p) (sym is) ∙ h));
+}
+  where
+    only_read : (r k w : Bool) → r ≡ true → w ≡ false → (r && not (k && w)) ≡ true
+    only_read r true w read isnt = rw (read, isnt) refl
+    only_read r false w read isnt = rw read refl
+
+-- ---- one op more
+
+abbrev pub and_then : AfterProgram → AfterOp → AfterProgram
+and_then r e = record { places = e.places; state = e.state; replies = r.replies ++ e.reply ∷ [] }
+
+after_program-snoc : (ops : List Op) (op : Op) (w : ℕ) (ps : ℕ → ℕ) (s : WorldState)
+    → after_program (ops ++ op ∷ []) w ps s ≡ and_then (after_program ops w ps s) (after_op op w (after_program ops w ps s).places (after_program ops w ps s).state)
+after_program-snoc [] op w ps s = refl
+after_program-snoc (x ∷ ops) op w ps s =
+    let here : AfterOp = after_op x w ps s in
+    ap (λ (e : AfterProgram). record { places = e.places; state = e.state; replies = here.reply ∷ e.replies }) (after_program-snoc ops op w here.places here.state)
+
+pub op_more : (ops : List Op) (i : ℕ) (op : Op) (w : ℕ) (ps qs rs : ℕ → ℕ) (s : WorldState) (l m : Lent) (before after : List Reply) (r : Reply)
+    → i < length ops → op ≡ get_or ops i op → IsAfterProgram (after_program (take i ops) w ps s) qs l before after
+    → OpRan op w qs rs l m r → IsAfterProgram (after_program (take (i + 1) ops) w ps s) rs m before (after ++ r ∷ [])
+op_more ops i op w ps qs rs s l m before after r lt is far ran =
+    let e : AfterProgram = after_program (take i ops) w ps s in
+    let here : IsAfterOp (after_op op w e.places e.state) rs m r =
+    subst (λ (places : ℕ → ℕ). IsAfterOp (after_op op w places e.state) rs m r) far.same_places (ran e.state far.stands) in
+    let longer : after_program (take (i + 1) ops) w ps s ≡ and_then e (after_op op w e.places e.state) =
+    ap (λ xs. after_program xs w ps s) (take_more ops i op lt ∙ ap (λ x. take i ops ++ x ∷ []) (sym is)) ∙ after_program-snoc (take i ops) op w ps s in
+    subst (λ (x : AfterProgram). IsAfterProgram x rs m before (after ++ r ∷ [])) (sym longer) (record {
+      same_places = here.same_places;
+      stands = here.stands;
+      same_replies = ap (λ xs. xs ++ r ∷ []) far.same_replies ∙ append_assoc before e.replies (r ∷ []) ∙ ap (λ x. before ++ (e.replies ++ x ∷ [])) here.same_reply;
+    })
+
+-- ---- a run of a system
+
+-- what a loan's access writes, as the loan ends, stands for what the loan stands for
+pub written_stand : (l m : Lent) (taken : Parts) (s : WorldState) → SameLoan l m → taken ≡ taken_of m → LoanStands m s → WrittenStand l taken s
+written_stand l m taken s same is stands p written =
+    let P : Parts → Type 0 = λ w. IfSome (slot p w) (λ k. StuffStands p k (content p s)) in
+    let Q : Bool → Type 0 = λ b. IfSome (if b then slot p m.taken else if reads m.access p then slot p m.world.now else None) (λ k. StuffStands p k (content p s)) in
+    subst P (sym is) (subst Q (ap (λ (a : Access). writes a p) same.access ∙ written) (stands p))
+
+-- a system whose program is one op
+pub ran_only : (op : Op) (start : Start) (w : ℕ) (ps qs : ℕ → ℕ) (l m : Lent) (taken : Parts) (before : List Reply) (r : Reply)
+    → OpRan op w ps qs l m r → SameLoan l m → taken ≡ taken_of m
+    → Ran (record { program = only op start; writer = w; places = ps }) (record { program = only op start; writer = w; places = qs }) l taken before (before ++ r ∷ [])
+ran_only op start w ps qs l m taken before r ran same is = record {
+  state = λ s stands. written_stand l m taken (after_op op w ps s).state same is (ran s stands).stands;
+  replies = λ s stands. ap (λ x. before ++ x ∷ []) (ran s stands).same_reply;
+  places = λ s stands. (ran s stands).same_places;
+  program = refl;
+  writer = refl;
+}
+
+pub ran_program : (program : Program) (w : ℕ) (ps qs : ℕ → ℕ) (l m : Lent) (taken : Parts) (before after : List Reply)
+    → ProgramRan program.ops w ps qs l m before after → SameLoan l m → taken ≡ taken_of m
+    → Ran (record { program = program; writer = w; places = ps }) (record { program = program; writer = w; places = qs }) l taken before after
+ran_program program w ps qs l m taken before after ran same is = record {
+  state = λ s stands. written_stand l m taken (after_program program.ops w ps s).state same is (ran s stands).stands;
+  replies = λ s stands. (ran s stands).same_replies;
+  places = λ s stands. (ran s stands).same_places;
+  program = refl;
+  writer = refl;
+}
+
+pub one_place_moved : (t old new : ℕ) → with_place (one_place t old) t new ≡ one_place t new
+one_place_moved t old new = λ k u. at (u == t) k
+  where
+    at : (b : Bool) → (if b then new else if b then old else 0) ≡ (if b then new else 0)
+    at true = refl
+    at false = refl
+
+pub only_covers_read : (op : Op) (l : Lent) (p : Part) → Covers (program_needs (op ∷ [])) l → (op_parts op).read ≡ Some p → IsSome (shown p l)
+only_covers_read op l p covers is = covers_read op l p (covers_op (op ∷ []) 0 op l (omega arith) refl covers) is
+
+pub only_covers_written : (op : Op) (l : Lent) (p : Part) → Covers (program_needs (op ∷ [])) l → (op_parts op).written ≡ Some p → IsSome (writable p l)
+only_covers_written op l p covers is = covers_written op l p (covers_op (op ∷ []) 0 op l (omega arith) refl covers) is
+
+pub one_place_at : (t place : ℕ) → one_place t place t ≡ place
+one_place_at t place = rw (eq-eqb t t refl) refl
+
+pub written_is_all : WrittenIsAll
+written_is_all l taken s none stands p = elim (cases_Bool (writes l.access p)) [
+  | inl is ↦ stands p is
+  | inr isnt ↦ rw (none p isnt) tt
+]
+
+pub complete_covers : CompleteCovers
+complete_covers n l complete reads_in writes_in = record {
+  reads = λ p h. complete.shows p ∙ reads_in p h;
+  writes = λ p h. complete.writes p ∙ writes_in p h;
+}

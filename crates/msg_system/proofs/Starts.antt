@@ -1,0 +1,59 @@
+-- Where the cursors of a program start.
+use Rattle.std.proofs.Common.{◌≡◌, ℕ, ◌+◌, ◌<◌, Bool, true, false, ◌||◌, List, length, Option, Some, None, take, get_or, refl, sym, ap, ◌∙◌, arith, inl, inr}
+use Rattle.std.specs.Prelude.{◌==◌, option_and_then, slice_set, if◌then◌else◌}
+use Rattle.std.proofs.lemmas.Bool.{cases_eq, eq-eqb, ne_eqb}
+use Rattle.std.proofs.lemmas.Option.{none-some, same_Some}
+use Rattle.std.proofs.lemmas.List.{get_or-set_same, get_or-set_other}
+use Rattle.std.proofs.lemmas.List.Folds.{list_any_more}
+use Rattle.msg_world.specs.Access.{Part, OfType, OfResource, Registry}
+use Rattle.msg_system.specs.declared.op.Op.{Op}
+use Rattle.msg_system.specs.declared.start.Start.{Start}
+use Rattle.msg_system.specs.Needs.{is_part, op_needs, op_parts, some_op_reads, type_of, type_read}
+use Rattle.msg_system.specs.OpRuns.{places_of}
+use Rattle.msg_system.specs.Systems.{start_place}
+
+part_of_type : (q : Option Part) (t u : ℕ) → option_and_then type_of q ≡ Some t → is_part q (OfType u) ≡ (u == t)
+part_of_type None t u is = absurd (none-some t is)
+part_of_type (Some (OfType v)) t u is = ap (λ n. u == n) (same_Some v t is)
+part_of_type (Some (OfResource r)) t u is = absurd (none-some t is)
+part_of_type (Some Registry) t u is = absurd (none-some t is)
+
+no_part_of_type : (q : Option Part) (u : ℕ) → option_and_then type_of q ≡ None → is_part q (OfType u) ≡ false
+no_part_of_type None u is = refl
+no_part_of_type (Some (OfType v)) u is = absurd (none-some v (sym is))
+no_part_of_type (Some (OfResource r)) u is = refl
+no_part_of_type (Some Registry) u is = refl
+
+or_false : (b : Bool) → (b || false) ≡ b
+or_false true = refl
+or_false false = refl
+
+or_true : (b : Bool) → (b || true) ≡ true
+or_true true = refl
+or_true false = refl
+
+-- the places of the cursors, after those of the types that some ops read were started
+abbrev pub AreStarted : List Op → Start → List ℕ → List ℕ → List ℕ → Type 0
+AreStarted ops start counts old new = (t : ℕ) → places_of new t ≡ (if some_op_reads ops (OfType t) then start_place start counts t else places_of old t)
+
+module _ (ops : List Op) (i : ℕ) (op : Op) (start : Start) (counts old new : List ℕ) (lt : i < length ops) (is : op ≡ get_or ops i op)
+    (far : AreStarted (take i ops) start counts old new) where
+  one_more : (t : ℕ) → some_op_reads (take (i + 1) ops) (OfType t) ≡ (some_op_reads (take i ops) (OfType t) || (op_needs op).reads (OfType t))
+  one_more t = list_any_more (λ o. (op_needs o).reads (OfType t)) ops i op lt
+      ∙ ap (λ (o : Op). some_op_reads (take i ops) (OfType t) || (op_needs o).reads (OfType t)) (sym is)
+
+  pub started_more : (k u place : ℕ) → type_read op ≡ Some u → k ≡ u → u < length new → place ≡ start_place start counts u
+      → AreStarted (take (i + 1) ops) start counts old (slice_set new k place)
+  started_more k u place read k_is within place_is t =
+      let more : some_op_reads (take (i + 1) ops) (OfType t) ≡ (some_op_reads (take i ops) (OfType t) || (t == u)) =
+      one_more t ∙ ap (λ b. some_op_reads (take i ops) (OfType t) || b) (part_of_type (op_parts op).read u t read) in
+      elim (cases_eq t u) [
+        | inl e ↦ rw (more, k_is, e, get_or-set_same new u place 0 within, eq-eqb u u refl, or_true (some_op_reads (take i ops) (OfType u))) place_is
+        | inr ne ↦ rw (more, k_is, get_or-set_other new u t place 0 ne, ne_eqb t u ne, or_false (some_op_reads (take i ops) (OfType t))) (far t)
+      ]
+
+  pub started_same : type_read op ≡ None → AreStarted (take (i + 1) ops) start counts old new
+  started_same read t =
+      let more : some_op_reads (take (i + 1) ops) (OfType t) ≡ some_op_reads (take i ops) (OfType t) =
+      one_more t ∙ ap (λ b. some_op_reads (take i ops) (OfType t) || b) (no_part_of_type (op_parts op).read t read) ∙ or_false (some_op_reads (take i ops) (OfType t)) in
+      rw more (far t)

@@ -1,0 +1,14 @@
+use Rattle.msg_system.proofs.Uses.{condition_footprint, job_footprint, op_footprint, program_footprint}
+use Rattle.msg_system.proofs.laws.nothing_else_is_used.Goals as goal
+
+pub returns-clause-ops : goal.returns-clause-ops
+returns-clause-ops c = op_footprint
+
+pub returns-clause-programs : goal.returns-clause-programs
+returns-clause-programs c = program_footprint
+
+pub returns-clause-conditions : goal.returns-clause-conditions
+returns-clause-conditions c = condition_footprint
+
+pub returns-clause-jobs : goal.returns-clause-jobs
+returns-clause-jobs c = job_footprint

@@ -1,0 +1,19 @@
+use Rattle.std.proofs.Common.{rules, ◌≡◌, List, length, take, arith, ap, ◌∙◌, subst, sym}
+use Rattle.std.proofs.Math.Seq.{take-length}
+use Rattle.msg_world.specs.Access.{Part, reads, writes}
+use Rattle.msg_system.specs.declared.op.Op.{Op}
+use Rattle.msg_system.specs.Needs.{some_op_reads, some_op_writes}
+use Rattle.msg_system.proofs.Accesses.{program_access}
+use Rattle.msg_system.proofs.program.Program.access.Goals as goal
+
+pub returns : goal.returns
+returns c =
+    let ops : List Op = c.args.self.now.ops in
+    let whole : take c.loop-op.op-index c.as_slice-op-items.result.now ≡ ops =
+    ap (λ n. take n c.as_slice-op-items.result.now) (omega arith) ∙ take-length c.as_slice-op-items.result.now ∙ c.as_slice-op-items.ensures.items in
+    let inv = c.loop-op.invariant in
+    record {
+      needs = program_access ops c.loop-op.access c.none.result c.union-settled.result c.none.ensures
+          (λ p. inv.reads p ∙ ap (λ xs. some_op_reads xs p) whole) (λ p. inv.writes p ∙ ap (λ xs. some_op_writes xs p) whole)
+          c.union-settled.ensures.reads c.union-settled.ensures.writes;
+    }

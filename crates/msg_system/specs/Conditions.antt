@@ -1,0 +1,72 @@
+-- What a condition answers, and a job: all its conditions, and then its program or nothing.
+use Rattle.std.specs.Prelude.{◌≡◌, ℕ, zero, suc, Bool, true, not, ◌&&◌, nat_lt, List, [], ◌∷◌, length, map, Option, None, Some, if◌then◌else◌}
+use Rattle.std.specs.Ordering.{int_eq}
+use Rattle.msg_buffer.specs.History.{count}
+use Rattle.msg_buffer.specs.Reader.{unread}
+use Rattle.msg_world.specs.World.{WorldState}
+use Rattle.msg_system.specs.declared.condition.Condition.{Condition}
+use Rattle.msg_system.specs.declared.condition.Probe.{Probe}
+use Rattle.msg_system.specs.declared.condition.Probe.TheVariants.{OnMessage, ResourceEquals}
+use Rattle.msg_system.specs.declared.reply.Reply.{Reply}
+use Rattle.msg_system.specs.declared.start.Start.{Start}
+use Rattle.msg_system.specs.Systems.{Meaning, after_turn, start_place, turn}
+
+-- A condition with the place of its own cursor.
+pub record Asked : Type 0 where
+  pub condition : Condition
+  pub place : ℕ
+
+abbrev pub new_asked : Condition → Asked
+new_asked c = record { condition = c; place = 0 }
+
+-- a probe of a type looks whether something is unread from its place
+abbrev pub found : Probe → ℕ → WorldState → Bool
+found (OnMessage t) place s = nat_lt 0 (length (unread (s.histories t) place))
+found (ResourceEquals r v) place s = int_eq (s.resources r) v
+
+-- and goes past all of it
+abbrev pub place_after : Probe → ℕ → WorldState → ℕ
+place_after (OnMessage t) place s = count (s.histories t)
+place_after (ResourceEquals r v) place s = place
+
+abbrev pub inverted : ℕ → Bool → Bool
+inverted zero b = b
+inverted (suc n) b = not (inverted n b)
+
+abbrev pub answer : Asked → WorldState → Bool
+answer a s = inverted a.condition.nots (found a.condition.probe a.place s)
+
+abbrev pub after_asking : WorldState → Asked → Asked
+after_asking s a = record a { place = place_after a.condition.probe a.place s }
+
+-- all conditions hold
+abbrev pub all_hold : List Asked → WorldState → Bool
+all_hold [] s = true
+all_hold (a ∷ rest) s = answer a s && all_hold rest s
+
+-- where the cursor of a probe starts
+abbrev pub probe_start : Probe → Start → List ℕ → ℕ → ℕ
+probe_start (OnMessage t) start counts place = start_place start counts t
+probe_start (ResourceEquals r v) start counts place = place
+
+abbrev pub asked_started : Start → List ℕ → Asked → Asked
+asked_started start counts a = record a { place = probe_start a.condition.probe start counts a.place }
+
+-- A job is a system and its conditions.
+pub record Job : Type 0 where
+  pub system : Meaning
+  pub conditions : List Asked
+
+-- What a job leaves, and what its program answered: nothing, where the job was skipped.
+pub record AfterJob : Type 0 where
+  pub job : Job
+  pub state : WorldState
+  pub replies : Option (List Reply)
+
+-- Every condition is asked, whatever the others answer. The program runs where all hold.
+abbrev pub after_job : Job → WorldState → AfterJob
+after_job j s =
+    let asked : List Asked = map (after_asking s) j.conditions in
+    if all_hold j.conditions s then
+    record { job = record { system = after_turn j.system s; conditions = asked }; state = (turn j.system s).state; replies = Some (turn j.system s).replies }
+    else record { job = record { system = j.system; conditions = asked }; state = s; replies = None }

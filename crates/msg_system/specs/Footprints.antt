@@ -1,0 +1,54 @@
+-- What ops, programs, conditions and jobs depend on, and what they change: no more than they need.
+use Rattle.std.specs.Prelude.{◌≡◌, ℕ, Bool, false, IsTrue, List, Option, map}
+use Rattle.msg_world.specs.Access.{Part}
+use Rattle.msg_world.specs.World.{WorldState, content}
+use Rattle.msg_system.specs.declared.condition.Condition.{Condition}
+use Rattle.msg_system.specs.declared.op.Op.{Op}
+use Rattle.msg_system.specs.declared.reply.Reply.{Reply}
+use Rattle.msg_system.specs.Conditions.{AfterJob, Asked, Job, after_asking, after_job, answer}
+use Rattle.msg_system.specs.Needs.{Needs, condition_needs, job_needs, needs_any, op_needs, program_needs}
+use Rattle.msg_system.specs.Programs.{AfterOp, AfterProgram, after_op, after_program}
+
+-- the worlds are the same in each of these parts
+abbrev pub Agree : (Part → Bool) → WorldState → WorldState → Type 0
+Agree m s t = (p : Part) → IsTrue (m p) → content p s ≡ content p t
+
+-- the parts that are needed are among these
+abbrev pub IsWithin : Needs → (Part → Bool) → Type 0
+IsWithin n m = (p : Part) → IsTrue (needs_any n p) → IsTrue (m p)
+
+-- What is done to a world changes only the parts that are written. Take any parts, among them those that are needed: on two
+-- worlds that agree there it gives the same, and the worlds that it leaves agree there.
+pub record HasFootprint {X Y : Type 0} (n : Needs) (state : X → WorldState) (given : X → Y) (f : WorldState → X) : Type 0 where
+  pub kept : (s : WorldState) (p : Part) → n.writes p ≡ false → content p (state (f s)) ≡ content p s
+  pub same : (m : Part → Bool) (s t : WorldState) → IsWithin n m → Agree m s t → given (f s) ≡ given (f t)
+  pub alike : (m : Part → Bool) (s t : WorldState) → IsWithin n m → Agree m s t → Agree m (state (f s)) (state (f t))
+
+-- what each gives, beside the world
+abbrev pub given_by_op : AfterOp → (ℕ → ℕ) × Reply
+given_by_op e = (e.places, e.reply)
+
+abbrev pub given_by_program : AfterProgram → (ℕ → ℕ) × List Reply
+given_by_program e = (e.places, e.replies)
+
+abbrev pub given_by_job : AfterJob → Job × Option (List Reply)
+given_by_job e = (e.job, e.replies)
+
+abbrev pub OpFootprint : Type 0
+OpFootprint = (op : Op) (w : ℕ) (places : ℕ → ℕ) → HasFootprint (op_needs op) (λ (e : AfterOp). e.state) given_by_op (after_op op w places)
+
+abbrev pub ProgramFootprint : Type 0
+ProgramFootprint = (ops : List Op) (w : ℕ) (places : ℕ → ℕ)
+    → HasFootprint (program_needs ops) (λ (e : AfterProgram). e.state) given_by_program (after_program ops w places)
+
+-- a condition changes nothing of the world
+abbrev pub ConditionFootprint : Type 0
+ConditionFootprint = (a : Asked) (m : Part → Bool) (s t : WorldState) → IsWithin (condition_needs a.condition) m → Agree m s t
+    → (answer a s ≡ answer a t) × (after_asking s a ≡ after_asking t a)
+
+-- the conditions of a job, without their places
+abbrev pub conditions_of : Job → List Condition
+conditions_of j = map (λ a. a.condition) j.conditions
+
+abbrev pub JobFootprint : Type 0
+JobFootprint = (j : Job) → HasFootprint (job_needs j.system.program.ops (conditions_of j)) (λ (e : AfterJob). e.state) given_by_job (after_job j)

@@ -1,0 +1,112 @@
+-- What ops, programs, conditions and jobs read and write, part by part.
+use Rattle.std.specs.Prelude.{◌≡◌, ℕ, Bool, true, false, not, ◌&&◌, ◌||◌, Option, Some, None, List, [], ◌∷◌, option_and_then, slice_get}
+use Rattle.std.specs.List.{list_any}
+use Rattle.msg_world.specs.declared.access.Access.{Access}
+use Rattle.msg_world.specs.Access.{Part, OfType, OfResource, Registry, reads, same_part, writes}
+use Rattle.msg_system.specs.declared.op.Op.{Op}
+use Rattle.msg_system.specs.declared.op.Op.TheVariants.{Write, Batch, Read, Len, Missed, Clear, Forward, Sum, Get, Set, Add, Drain, Signal}
+use Rattle.msg_system.specs.declared.condition.Condition.{Condition}
+use Rattle.msg_system.specs.declared.condition.Probe.{Probe}
+use Rattle.msg_system.specs.declared.condition.Probe.TheVariants.{OnMessage, ResourceEquals}
+
+-- An op reads one part at most, and writes one part at most.
+pub record OpParts : Type 0 where
+  pub read : Option Part
+  pub written : Option Part
+
+abbrev pub reading : Part → OpParts
+reading p = record { read = Some p; written = None }
+
+abbrev pub writing : Part → OpParts
+writing p = record { read = None; written = Some p }
+
+abbrev pub reading_and_writing : Part → Part → OpParts
+reading_and_writing p q = record { read = Some p; written = Some q }
+
+abbrev pub op_parts : Op → OpParts
+op_parts (Write t v) = writing (OfType t)
+op_parts (Batch t vs) = writing (OfType t)
+op_parts (Read t limit) = reading (OfType t)
+op_parts (Len t) = reading (OfType t)
+op_parts (Missed t) = reading (OfType t)
+op_parts (Clear t) = reading (OfType t)
+op_parts (Forward t u) = reading_and_writing (OfType t) (OfType u)
+op_parts (Sum t r) = reading_and_writing (OfType t) (OfResource r)
+op_parts (Get r) = reading (OfResource r)
+op_parts (Set r v) = writing (OfResource r)
+op_parts (Add r v) = writing (OfResource r)
+op_parts (Drain t) = writing (OfType t)
+op_parts Signal = writing Registry
+
+-- the type, where the part is one
+abbrev pub type_of : Part → Option ℕ
+type_of (OfType t) = Some t
+type_of (OfResource r) = None
+type_of Registry = None
+
+-- the type that an op reads
+abbrev pub type_read : Op → Option ℕ
+type_read op = option_and_then type_of (op_parts op).read
+
+-- the type that op k of a program reads; none where there is no such op
+abbrev pub type_read_by : List Op → ℕ → Option ℕ
+type_read_by ops k = option_and_then type_read (slice_get ops k)
+
+-- Which parts are read, and which are written.
+pub record Needs : Type 0 where
+  pub reads : Part → Bool
+  pub writes : Part → Bool
+
+-- the part is read or written
+abbrev pub needs_any : Needs → Part → Bool
+needs_any n p = n.reads p || n.writes p
+
+abbrev pub is_part : Option Part → Part → Bool
+is_part None p = false
+is_part (Some q) p = same_part p q
+
+abbrev pub op_needs : Op → Needs
+op_needs op = record { reads = is_part (op_parts op).read; writes = is_part (op_parts op).written }
+
+-- an op of the list reads, or writes, the part
+abbrev pub some_op_reads : List Op → Part → Bool
+some_op_reads ops p = list_any (λ op. (op_needs op).reads p) ops
+
+abbrev pub some_op_writes : List Op → Part → Bool
+some_op_writes ops p = list_any (λ op. (op_needs op).writes p) ops
+
+abbrev pub is_resource : Part → Bool
+is_resource (OfType t) = false
+is_resource (OfResource r) = true
+is_resource Registry = false
+
+-- A program writes what an op of it writes, and reads what an op of it reads. A resource that is also written isn't listed as
+-- read: it is used once, for writing. A type that is both read and written stays both: that is the clash.
+abbrev pub program_needs : List Op → Needs
+program_needs ops = record {
+  reads = λ p. some_op_reads ops p && not (is_resource p && some_op_writes ops p);
+  writes = some_op_writes ops;
+}
+
+abbrev pub probe_part : Probe → Part
+probe_part (OnMessage t) = OfType t
+probe_part (ResourceEquals r v) = OfResource r
+
+abbrev pub condition_needs : Condition → Needs
+condition_needs c = record { reads = λ p. same_part p (probe_part c.probe); writes = λ p. false }
+
+-- one of the conditions reads the part
+abbrev pub some_condition_reads : List Condition → Part → Bool
+some_condition_reads cs p = list_any (λ c. (condition_needs c).reads p) cs
+
+-- A job needs what its program and its conditions need. What its program writes isn't listed as read.
+abbrev pub job_needs : List Op → List Condition → Needs
+job_needs ops cs = record {
+  reads = λ p. ((program_needs ops).reads p || some_condition_reads cs p) && not (some_op_writes ops p);
+  writes = some_op_writes ops;
+}
+
+-- the access has exactly these parts
+pub record IsAccessOf (n : Needs) (a : Access) : Type 0 where
+  pub reads : (p : Part) → reads a p ≡ n.reads p
+  pub writes : (p : Part) → writes a p ≡ n.writes p

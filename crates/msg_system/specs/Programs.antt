@@ -1,0 +1,123 @@
+-- What an op does to the places of its system and to the world, and what it answers; and a program, its ops in order.
+use Rattle.std.specs.Prelude.{◌≡◌, ℕ, ℤ, ◌+ℤ◌, ◌==◌, Bool, Option, None, Some, List, [], ◌∷◌, fold, length, map, if◌then◌else◌}
+use Rattle.std.specs.Int.{saturate_signed, w64}
+use Rattle.msg_buffer.specs.declared.instance.Instance.{Instance}
+use Rattle.msg_buffer.specs.declared.instance.Written.{Written}
+use Rattle.msg_buffer.specs.History.{History, clear, count, has_room, oldest, present, write}
+use Rattle.msg_buffer.specs.Kept.{message_of}
+use Rattle.msg_buffer.specs.Reader.{Stretch, first, given, missed, next_place, pass_over, read, unread}
+use Rattle.msg_world.specs.declared.record.Record.{Record}
+use Rattle.msg_world.specs.World.{WorldState, by, signalled, with_history, with_value_of}
+use Rattle.msg_system.specs.declared.op.Op.{Op}
+use Rattle.msg_system.specs.declared.op.Op.TheVariants.{Write, Batch, Read, Len, Missed, Clear, Forward, Sum, Get, Set, Add, Drain, Signal}
+use Rattle.msg_system.specs.declared.reply.Reply.{Reply}
+use Rattle.msg_system.specs.declared.reply.Reply.TheVariants as reply
+use Rattle.msg_system.specs.declared.reply.Took.{Took}
+
+-- What an op leaves, and what it answers. A system has a place in each type, by the type's number.
+pub record AfterOp : Type 0 where
+  pub places : ℕ → ℕ
+  pub state : WorldState
+  pub reply : Reply
+
+-- the places, with another one in this type
+abbrev pub with_place : (ℕ → ℕ) → ℕ → ℕ → ℕ → ℕ
+with_place places t place = λ u. if u == t then place else places u
+
+-- what a read from a place takes: what was missed, the first number, and the messages
+abbrev pub took : History Record → ℕ → Option ℕ → Took
+took h place limit = record { missed = missed h place; first = first h place; items = map message_of (given h place limit) }
+
+-- the place after it
+abbrev pub place_after_read : History Record → ℕ → Option ℕ → ℕ
+place_after_read h place limit = next_place (read h place limit)
+
+-- what a clear says that it goes past
+abbrev pub cleared : Stretch → Reply
+cleared s = reply.Cleared s.missed s.first s.number
+
+-- the numbers that so many messages get; none where too few are left
+abbrev pub numbers_for : History Record → ℕ → Option Written
+numbers_for h n = if has_room h n then Some (record { first = count h; n = n }) else None
+
+-- what a write answers
+abbrev pub write_reply : Option Written → Reply
+write_reply None = reply.Spent
+write_reply (Some numbers) = reply.Wrote numbers
+
+-- messages of this writer with the values of others
+abbrev pub again_by : ℕ → List Record → List Record
+again_by writer ms = map (λ m. by writer m.value) ms
+
+-- the sum, held within the range of `i64`
+abbrev pub plus : ℤ → ℤ → ℤ
+plus x y = saturate_signed w64 (x +ℤ y)
+
+-- the values of the messages added one by one, held within the range at each step
+abbrev pub sum_onto : ℤ → List Record → ℤ
+sum_onto z ms = fold (λ x m. plus x m.value) z ms
+
+-- an op that only answers
+abbrev pub answers : Reply → (ℕ → ℕ) → WorldState → AfterOp
+answers r places s = record { places = places; state = s; reply = r }
+
+-- an op that writes these messages
+abbrev pub writes_all : ℕ → List Record → (ℕ → ℕ) → WorldState → AfterOp
+writes_all t ms places s = record {
+  places = places;
+  state = with_history s t (write ms (s.histories t));
+  reply = write_reply (numbers_for (s.histories t) (length ms));
+}
+
+-- an op that gives a resource this value
+abbrev pub sets_to : ℕ → ℤ → (ℕ → ℕ) → WorldState → AfterOp
+sets_to r z places s = record { places = places; state = with_value_of s r z; reply = reply.Value z }
+
+-- One op of the system that writes as `w`.
+abbrev pub after_op : Op → ℕ → (ℕ → ℕ) → WorldState → AfterOp
+after_op (Write t v) w ps s = writes_all t (by w v ∷ []) ps s
+after_op (Batch t vs) w ps s = writes_all t (map (by w) vs) ps s
+after_op (Read t limit) w ps s =
+    answers (reply.Read (took (s.histories t) (ps t) limit)) (with_place ps t (place_after_read (s.histories t) (ps t) limit)) s
+after_op (Len t) w ps s = answers (reply.Len (length (unread (s.histories t) (ps t)))) ps s
+after_op (Missed t) w ps s = answers (reply.Missed (missed (s.histories t) (ps t))) ps s
+after_op (Clear t) w ps s = answers (cleared (pass_over (s.histories t) (ps t))) (with_place ps t (count (s.histories t))) s
+after_op (Forward t u) w ps s =
+    let taken : Took = took (s.histories t) (ps t) None in
+    let ms : List Record = again_by w taken.items in
+    record {
+      places = with_place ps t (place_after_read (s.histories t) (ps t) None);
+      state = with_history s u (write ms (s.histories u));
+      reply = reply.Forwarded taken (numbers_for (s.histories u) (length ms));
+    }
+after_op (Sum t r) w ps s =
+    let taken : Took = took (s.histories t) (ps t) None in
+    let z : ℤ = sum_onto (s.resources r) taken.items in
+    record {
+      places = with_place ps t (place_after_read (s.histories t) (ps t) None);
+      state = with_value_of s r z;
+      reply = reply.Summed taken z;
+    }
+after_op (Get r) w ps s = answers (reply.Value (s.resources r)) ps s
+after_op (Set r v) w ps s = sets_to r v ps s
+after_op (Add r v) w ps s = sets_to r (plus (s.resources r) v) ps s
+after_op (Drain t) w ps s = record {
+  places = ps;
+  state = with_history s t (clear (s.histories t));
+  reply = reply.Drained (oldest (s.histories t)) (map message_of (present (s.histories t)));
+}
+after_op Signal w ps s = record { places = ps; state = signalled s; reply = reply.Signalled }
+
+-- What a program leaves, and what its ops answer, one reply each.
+pub record AfterProgram : Type 0 where
+  pub places : ℕ → ℕ
+  pub state : WorldState
+  pub replies : List Reply
+
+-- the ops one after the other
+abbrev pub after_program : List Op → ℕ → (ℕ → ℕ) → WorldState → AfterProgram
+after_program [] w ps s = record { places = ps; state = s; replies = [] }
+after_program (op ∷ ops) w ps s =
+    let here : AfterOp = after_op op w ps s in
+    let rest : AfterProgram = after_program ops w here.places here.state in
+    record { places = rest.places; state = rest.state; replies = here.reply ∷ rest.replies }

@@ -1,0 +1,18 @@
+// The access of a job.
+ghost use Rattle.std.specs.Prelude.{List};
+ghost use Rattle.msg_system.specs.declared.op.Op.{Op};
+ghost use Rattle.msg_system.specs.Needs.{IsAccessOf, job_needs, program_needs};
+
+use crate::{Access, Condition};
+
+/// The access of a job: the union of its program's and its conditions'.
+pub fn job_access(program: &Access, conditions: &[Condition]) -> Access
+    ensures needs { (ops : List Op) → IsAccessOf (program_needs ops) program.now
+        → IsAccessOf (job_needs ops conditions.now) result }
+{
+    let mut access = program.union(&Access::none());
+    for condition in conditions {
+        access = access.union(&condition.access());
+    }
+    access
+}

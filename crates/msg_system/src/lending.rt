@@ -1,0 +1,165 @@
+// What ops do to the parts that are lent to them.
+ghost use Rattle.std.specs.Prelude.{◌≡◌, ℕ, [], ◌∷◌, IfOk, OnOk, IsSome, length, map};
+ghost use Rattle.msg_buffer.specs.History.{clear, oldest, present, write};
+ghost use Rattle.msg_buffer.specs.Kept.{message_of};
+ghost use Rattle.msg_buffer.specs.StandsFor.{StandsFor};
+ghost use Rattle.msg_world.specs.Access.{OfResource, OfType};
+ghost use Rattle.msg_world.specs.Loan.{LoanStands, SameLoan, shown, writable};
+ghost use Rattle.msg_world.specs.World.{WorldState, with_history, with_value_of};
+ghost use Rattle.msg_system.specs.Programs.{again_by, numbers_for, sum_onto};
+
+use crate::{NoMemory, Records};
+use msg_buffer::{BatchRefusal, Instance, Messages, WriteRefusal, Written};
+use msg_world::{Lent, Record, ResNo, TypeNo, writes_stand};
+use std::alloc::Global;
+
+/// The messages of a type that is lent.
+pub(crate) fn messages_of<'a>(lent: &'a Lent<'_>, t: TypeNo) -> &'a Messages<Record>
+    requires lent { IsSome (shown (OfType t) lent.now) }
+    ensures stands { (s : WorldState) → LoanStands lent.now s
+        → StandsFor result.now (s.histories t) }
+{
+    match lent.reader(t) {
+        Some(messages) => messages,
+        None => unreachable!(),
+    }
+}
+
+/// The value of a resource that is lent.
+pub(crate) fn value_of(lent: &Lent, r: ResNo) -> i64
+    requires lent { IsSome (shown (OfResource r) lent.now) }
+    ensures value { (s : WorldState) → LoanStands lent.now s → result ≡ s.resources r }
+{
+    match lent.res(r) {
+        Some(value) => value,
+        None => unreachable!(),
+    }
+}
+
+/// Writes one message, or none where no number is left.
+pub(crate) fn write_one(
+    lent: &mut Lent,
+    t: TypeNo,
+    message: Record,
+) -> Result<Option<Written>, NoMemory>
+    requires lent { IsSome (writable (OfType t) lent.old) }
+    ensures numbers { IfOk result (λ numbers. (s : WorldState) → LoanStands lent.old s
+        → numbers ≡ numbers_for (s.histories t) 1) }
+    ensures written { OnOk result ((s : WorldState) → LoanStands lent.old s
+        → LoanStands lent.new (with_history s t (write (message ∷ []) (s.histories t)))) }
+    ensures same { OnOk result (SameLoan lent.old lent.new) }
+{
+    writes_stand();
+    match lent.writer(t) {
+        None => unreachable!(),
+        Some(messages) => match messages.write(message) {
+            Ok(id) => Ok(Some(Written { first: id.0, n: 1 })),
+            Err(WriteRefusal::NumbersSpent(_)) => Ok(None),
+            Err(WriteRefusal::NoMemory(_)) => Err(NoMemory),
+        },
+    }
+}
+
+/// Writes all messages, or none where too few numbers are left.
+pub(crate) fn write_all(
+    lent: &mut Lent,
+    t: TypeNo,
+    records: Vec<Record>,
+) -> Result<Option<Written>, NoMemory>
+    requires lent { IsSome (writable (OfType t) lent.old) }
+    ensures numbers { IfOk result (λ numbers. (s : WorldState) → LoanStands lent.old s
+        → numbers ≡ numbers_for (s.histories t) (length records.items)) }
+    ensures written { OnOk result ((s : WorldState) → LoanStands lent.old s
+        → LoanStands lent.new (with_history s t (write records.items (s.histories t)))) }
+    ensures same { OnOk result (SameLoan lent.old lent.new) }
+{
+    writes_stand();
+    match lent.writer(t) {
+        None => unreachable!(),
+        Some(messages) => match messages.write_batch(records) {
+            Ok(written) => Ok(Some(written)),
+            Err(BatchRefusal::NumbersSpent(_)) => Ok(None),
+            Err(BatchRefusal::NoMemory(_)) => Err(NoMemory),
+        },
+    }
+}
+
+/// Drops all messages of a type; gives them, and the number of the first.
+pub(crate) fn drain_all(
+    alloc: Global,
+    lent: &mut Lent,
+    t: TypeNo,
+) -> Result<(u64, Records), NoMemory>
+    requires lent { IsSome (writable (OfType t) lent.old) }
+    ensures first { IfOk result (λ d. (s : WorldState) → LoanStands lent.old s
+        → d.0 ≡ oldest (s.histories t)) }
+    ensures items { IfOk result (λ d. (s : WorldState) → LoanStands lent.old s
+        → d.1 ≡ map message_of (present (s.histories t))) }
+    ensures dropped { OnOk result ((s : WorldState) → LoanStands lent.old s
+        → LoanStands lent.new (with_history s t (clear (s.histories t)))) }
+    ensures same { OnOk result (SameLoan lent.old lent.new) }
+{
+    writes_stand();
+    match lent.writer(t) {
+        None => unreachable!(),
+        Some(messages) => {
+            let first = messages.oldest();
+            let drained = messages.drain()?;
+            Ok((first, without_numbers(alloc, &drained)?))
+        }
+    }
+}
+
+/// The messages alone.
+fn without_numbers(alloc: Global, instances: &[Instance<Record>]) -> Result<Records, NoMemory>
+    ensures items { IfOk result (λ records. records ≡ map message_of instances.now) }
+{
+    let mut records = Vec::new(alloc);
+    for instance in instances {
+        records.push(instance.message)?;
+    }
+    Ok(Records::from_vec(records))
+}
+
+/// Gives a resource another value.
+pub(crate) fn set_value(lent: &mut Lent, r: ResNo, value: i64)
+    requires lent { IsSome (writable (OfResource r) lent.old) }
+    ensures written { (s : WorldState) → LoanStands lent.old s
+        → LoanStands lent.new (with_value_of s r value) }
+    ensures same { SameLoan lent.old lent.new }
+{
+    writes_stand();
+    match lent.res_mut(r) {
+        None => unreachable!(),
+        Some(kept) => *kept = value,
+    }
+}
+
+/// The values added one by one.
+pub(crate) fn added_up(start: i64, records: &[Record]) -> i64
+    ensures sum { result ≡ sum_onto start records.now }
+{
+    let mut sum = start;
+    for record in records {
+        sum = sum.saturating_add(record.value);
+    }
+    sum
+}
+
+/// Messages of this writer with the same values.
+pub(crate) fn rewritten(
+    alloc: Global,
+    records: &[Record],
+    writer: u32,
+) -> Result<Vec<Record>, NoMemory>
+    ensures again { IfOk result (λ v. v.items ≡ again_by writer records.now) }
+{
+    let mut again = Vec::new(alloc);
+    for record in records {
+        again.push(Record {
+            writer,
+            value: record.value,
+        })?;
+    }
+    Ok(again)
+}

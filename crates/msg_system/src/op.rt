@@ -1,0 +1,97 @@
+ghost use Rattle.std.specs.Prelude.{◌≡◌, ◌||◌, IfOk};
+ghost use Rattle.msg_world.specs.Access.{Part, reads, writes};
+
+use crate::{Access, Values};
+use msg_buffer::NoMemory;
+use msg_world::{ResNo, TypeNo};
+use std::alloc::Global;
+
+/// One step of a program. All reading ops of one type in a program share one place.
+#[derive(Debug, Drop)]
+pub enum Op {
+    /// Writes one message.
+    Write(TypeNo, i64),
+    /// Writes all values, or none.
+    Batch(TypeNo, Values),
+    /// Reads at most so many unread messages, or all.
+    Read(TypeNo, Option<u64>),
+    /// How many messages are unread.
+    Len(TypeNo),
+    /// How many messages were missed.
+    Missed(TypeNo),
+    /// Goes past all messages.
+    Clear(TypeNo),
+    /// Reads all unread messages of the first type, and writes their values to the second as one batch.
+    Forward(TypeNo, TypeNo),
+    /// Reads all unread messages, and adds their values to a resource, each held within `i64`.
+    Sum(TypeNo, ResNo),
+    Get(ResNo),
+    Set(ResNo, i64),
+    /// Adds to a resource, held within `i64`.
+    Add(ResNo, i64),
+    /// Drops all messages, and answers with them.
+    Drain(TypeNo),
+    /// Asks for an update of a held world.
+    Signal,
+}
+
+impl Op {
+    ghost use Rattle.msg_system.specs.Needs.{op_needs, type_read};
+
+    /// The type that it reads.
+    pub fn read_type(&self) -> Option<TypeNo>
+        ensures type_read { result ≡ type_read self.now }
+    {
+        match self {
+            Op::Read(t, _) => Some(*t),
+            Op::Len(t) => Some(*t),
+            Op::Missed(t) => Some(*t),
+            Op::Clear(t) => Some(*t),
+            Op::Forward(t, _) => Some(*t),
+            Op::Sum(t, _) => Some(*t),
+            _ => None,
+        }
+    }
+
+    /// An access with what this op uses beside.
+    pub(crate) fn added_to(&self, access: Access) -> Access
+        ensures reads { (p : Part) → reads result p ≡ ((op_needs self.now).reads p || reads access p) }
+        ensures writes { (p : Part) → writes result p ≡ ((op_needs self.now).writes p || writes access p) }
+    {
+        match self {
+            Op::Write(t, _) => access.with_write_type(*t),
+            Op::Batch(t, _) => access.with_write_type(*t),
+            Op::Read(t, _) => access.with_read_type(*t),
+            Op::Len(t) => access.with_read_type(*t),
+            Op::Missed(t) => access.with_read_type(*t),
+            Op::Clear(t) => access.with_read_type(*t),
+            Op::Forward(t, u) => access.with_read_type(*t).with_write_type(*u),
+            Op::Sum(t, r) => access.with_read_type(*t).with_write_res(*r),
+            Op::Get(r) => access.with_read_res(*r),
+            Op::Set(r, _) => access.with_write_res(*r),
+            Op::Add(r, _) => access.with_write_res(*r),
+            Op::Drain(t) => access.with_write_type(*t),
+            Op::Signal => access.with_registry(),
+        }
+    }
+
+    pub fn copy(&self, alloc: Global) -> Result<Op, NoMemory>
+        ensures equal { IfOk result (λ op. op ≡ self.now) }
+    {
+        Ok(match self {
+            Op::Write(t, value) => Op::Write(*t, *value),
+            Op::Batch(t, values) => Op::Batch(*t, values.copy(alloc)?),
+            Op::Read(t, limit) => Op::Read(*t, *limit),
+            Op::Len(t) => Op::Len(*t),
+            Op::Missed(t) => Op::Missed(*t),
+            Op::Clear(t) => Op::Clear(*t),
+            Op::Forward(t, u) => Op::Forward(*t, *u),
+            Op::Sum(t, r) => Op::Sum(*t, *r),
+            Op::Get(r) => Op::Get(*r),
+            Op::Set(r, value) => Op::Set(*r, *value),
+            Op::Add(r, value) => Op::Add(*r, *value),
+            Op::Drain(t) => Op::Drain(*t),
+            Op::Signal => Op::Signal,
+        })
+    }
+}

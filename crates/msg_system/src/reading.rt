@@ -1,0 +1,60 @@
+// Reading what is unread of a type.
+ghost use Rattle.std.specs.Prelude.{◌≡◌, ◌+◌, IfOk, OnOk, length, map};
+ghost use Rattle.msg_buffer.specs.History.{History};
+ghost use Rattle.msg_buffer.specs.Kept.{message_of};
+ghost use Rattle.msg_buffer.specs.Reader.{first, given};
+ghost use Rattle.msg_buffer.specs.StandsFor.{StandsFor};
+ghost use Rattle.msg_world.specs.declared.record.Record.{Record};
+ghost use Rattle.msg_system.specs.Programs.{place_after_read, took};
+
+use crate::{NoMemory, Records, Took};
+use msg_buffer::{MessageCursor, Messages};
+use msg_world::Record;
+use std::alloc::Global;
+
+/// Copies at most `limit` unread messages, or all, and moves the cursor past them.
+fn copy_unread(
+    alloc: Global,
+    messages: &Messages<Record>,
+    cursor: &mut MessageCursor,
+    limit: Option<u64>,
+) -> Result<Vec<Record>, NoMemory>
+    ensures items { IfOk result (λ v. (h : History Record) → StandsFor messages.now h
+        → v.items ≡ map message_of (given h cursor.old limit)) }
+    ensures place { IfOk result (λ v. (h : History Record) → StandsFor messages.now h
+        → cursor.new ≡ first h cursor.old + length v.items) }
+{
+    let unread = cursor.len(messages);
+    let most = limit.unwrap_or(unread).min(unread);
+    let mut items = Vec::new(alloc);
+    let mut rest = cursor.read(messages);
+    for _copied in 0..most {
+        let Some((_id, record)) = rest.next() else {
+            break;
+        };
+        items.push(*record)?;
+    }
+    Ok(items)
+}
+
+/// Reads at most `limit` unread messages, or all.
+pub(crate) fn read_unread(
+    alloc: Global,
+    messages: &Messages<Record>,
+    cursor: &mut MessageCursor,
+    limit: Option<u64>,
+) -> Result<Took, NoMemory>
+    ensures took { IfOk result (λ k. (h : History Record) → StandsFor messages.now h
+        → k ≡ took h cursor.old limit) }
+    ensures place { OnOk result ((h : History Record) → StandsFor messages.now h
+        → cursor.new ≡ place_after_read h cursor.old limit) }
+{
+    let missed = cursor.missed(messages);
+    let first = cursor.place().max(messages.oldest());
+    let items = copy_unread(alloc, messages, cursor, limit)?;
+    Ok(Took {
+        missed,
+        first,
+        items: Records::from_vec(items),
+    })
+}

@@ -1,0 +1,32 @@
+use crate::Records;
+use msg_buffer::Written;
+
+/// What a read took: the messages from the number `first` on, and how many it had missed.
+#[derive(Debug, Drop)]
+pub struct Took {
+    pub missed: u64,
+    pub first: u64,
+    pub items: Records,
+}
+
+/// What an op answers.
+#[derive(Debug, Drop)]
+pub enum Reply {
+    Wrote(Written),
+    /// A write that was refused whole: too few numbers are left.
+    Spent,
+    Read(Took),
+    Len(u64),
+    Missed(u64),
+    /// The cursor missed some messages, and went past `n` from the number `first` on.
+    Cleared { missed: u64, first: u64, n: u64 },
+    /// What was read, and the numbers that it got; None where too few were left.
+    Forwarded { took: Took, wrote: Option<Written> },
+    /// What was read, and the resource's value after it.
+    Summed { took: Took, value: i64 },
+    /// A resource's value after the op.
+    Value(i64),
+    /// The messages that were dropped, from the number `first` on.
+    Drained { first: u64, items: Records },
+    Signalled,
+}
