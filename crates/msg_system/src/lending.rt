@@ -10,7 +10,8 @@ ghost use Rattle.msg_system.specs.Programs.{again_by, numbers_for, sum_onto};
 
 use crate::{NoMemory, Records};
 use msg_buffer::{BatchRefusal, Instance, Messages, WriteRefusal, Written};
-use msg_world::{Lent, Record, ResNo, TypeNo, writes_stand};
+use msg_world::laws::writes_stand;
+use msg_world::{Lent, Record, ResNo, TypeNo};
 use std::alloc::Global;
 
 /// The messages of a type that is lent.

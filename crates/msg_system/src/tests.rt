@@ -11,9 +11,8 @@ use crate::{
     Access, NoMemory, Reply, System, nothing_else_is_used, open_loans_cover,
     what_is_given_back_stands,
 };
-use msg_world::{
-    Lent, Taken, World, lent_parts_are_a_loan, lent_parts_may_come_home, written_parts_come_home,
-};
+use msg_world::laws::{lent_parts_are_a_loan, lent_parts_may_come_home, written_parts_come_home};
+use msg_world::{Lent, Taken, World};
 use std::alloc::Global;
 
 mod asking;

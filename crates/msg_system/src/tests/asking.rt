@@ -9,9 +9,8 @@ use crate::{
     Access, Condition, Guard, NoMemory, Op, Probe, Scripted, Start, System, job_access,
     open_loans_cover,
 };
-use msg_world::{
-    Lent, World, lent_parts_are_a_loan, lent_parts_may_come_home, written_parts_come_home,
-};
+use msg_world::laws::{lent_parts_are_a_loan, lent_parts_may_come_home, written_parts_come_home};
+use msg_world::{Lent, World};
 use std::test::Fail;
 
 /// Asks one condition, on a loan of what it reads.

@@ -3,7 +3,7 @@ use Rattle.msg_system.proofs.Jobs.{condition_more, no_conditions}
 use Rattle.msg_system.proofs.job.job_access.Goals as goal
 
 pub loop-condition-init : goal.loop-condition-init
-loop-condition-init c = λ ops of. no_conditions ops c.args.program.now c.none.result c.union-access.result c.none.ensures (c.union-access.ensures.writes, c.union-access.ensures.reads) of
+loop-condition-init c = λ ops of. no_conditions ops c.args.program.now c.none.result c.union-access.result c.none.ensures.nothing (c.union-access.ensures.writes, c.union-access.ensures.reads) of
 
 pub loop-condition-preserved : goal.loop-condition-preserved
 loop-condition-preserved c = λ ops of.

@@ -12,7 +12,7 @@ returns-clause-state g c is s stands =
     let l = c.open-lent.result in
     let back = c.in_ok-back.back in
     let lends = c.in_ok-taken.ensures.lent in
-    let lent = c.lent_parts_are_a_loan.ensures.law a c.args.world.now c.lend_out.new.self c.in_ok-taken.taken (c.is_home.ensures.home.0 c.if-not-is_home.false) lends in
+    let lent = c.lent_parts_are_a_loan.ensures.loan a c.args.world.now c.lend_out.new.self c.in_ok-taken.taken (c.is_home.ensures.home.0 c.if-not-is_home.false) lends in
     let both = lent.1 s stands in
     let P : Parts → Type 0 = λ w. SameShape w back in
     turn_comes_home m a l.access c.args.world.now c.lend_out.new.self c.in_ok-taken.taken back c.take_back.new.self s c.access_of-access.ensures.needs c.open-lent.ensures.access

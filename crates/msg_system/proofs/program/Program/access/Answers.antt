@@ -13,7 +13,7 @@ returns c =
     ap (λ n. take n c.as_slice-op-items.result.now) (omega arith) ∙ take-length c.as_slice-op-items.result.now ∙ c.as_slice-op-items.ensures.items in
     let inv = c.loop-op.invariant in
     record {
-      needs = program_access ops c.loop-op.access c.none.result c.union-settled.result c.none.ensures
+      needs = program_access ops c.loop-op.access c.none.result c.union-settled.result c.none.ensures.nothing
           (λ p. inv.reads p ∙ ap (λ xs. some_op_reads xs p) whole) (λ p. inv.writes p ∙ ap (λ xs. some_op_writes xs p) whole)
           c.union-settled.ensures.reads c.union-settled.ensures.writes;
     }
