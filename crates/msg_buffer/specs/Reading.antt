@@ -1,5 +1,5 @@
 -- The iterator of a read, and what each call of `next` does to it.
-use Rattle.std.specs.Prelude.{◌≡◌, ℕ, ◌+◌, ◌-◌, List, [], ◌∷◌, ◌++◌, length, map, drop, Option, MatchOption}
+use Rattle.std.specs.Prelude.{◌≡◌, ℕ, ◌+◌, ◌-◌, List, [], ◌∷◌, ◌++◌, length, drop, Option, MatchOption}
 use Rattle.std.specs.Borrow.{Bor, GName}
 use Rattle.msg_buffer.specs.declared.instance.Instance.{Instance}
 use Rattle.msg_buffer.specs.declared.instance.MessageId.{MessageId}
@@ -48,9 +48,8 @@ module _ {M A : Type 0} where
   abbrev pub IterSteps : MessageIter M A → Option (MessageId × Bor M) → MessageIter M A → Type 0
   IterSteps old item new = MatchOption item (Ends old new) (λ x. Gives old x new)
 
--- An iterator that was `start` is now `now`. In between it gave these, as `view` shows them, and left none out.
-pub record HasGiven {M A X : Type 0} (view : Instance M → X) (start now : MessageIter M A) (taken : List X)
-    : Type 0 where
-  pub given : map view (iter_rest start) ≡ taken ++ map view (iter_rest now)
+-- An iterator that was `start` is now `now`. In between it gave these, and left none out.
+pub record HasGiven {M A : Type 0} (start now : MessageIter M A) (taken : List (Instance M)) : Type 0 where
+  pub given : iter_rest start ≡ taken ++ iter_rest now
   pub place : iter_place now ≡ iter_place start + length taken
   pub continues : Continues start now

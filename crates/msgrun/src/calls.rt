@@ -41,7 +41,7 @@ impl Calls {
 
     /// The greatest number of messages that may ever be written.
     pub fn limit(&self) -> u32
-        ensures { result ≡ self.now.limit }
+        ensures limit { result ≡ self.now.limit }
     {
         self.limit
     }

@@ -79,6 +79,7 @@ fn bytes_of<R: AllocGlobal + Files + Input>(
         None => read_all(rt.alloc(), &mut rt.reader()),
         Some(path) => match fs::open(rt, path) {
             Ok(mut input) => read_all(rt.alloc(), &mut input),
+            Err(error) if error.kind() == ErrorKind::OutOfMemory => Err(InputFault::NoMemory),
             Err(_) => Err(InputFault::Failed),
         },
     }

@@ -42,7 +42,7 @@ impl MemorySink {
 
     /// The bytes that were taken.
     pub fn bytes(&self) -> &[u8]
-        ensures { result.now ≡ self.now.contents }
+        ensures bytes { result.now ≡ self.now.contents }
     {
         &self.bytes[..self.len]
     }

@@ -18,13 +18,13 @@ impl Model for Values {
 
 impl Values {
     pub fn from_vec(items: Vec<i64>) -> Values
-        ensures { result ≡ items.items }
+        ensures values { result ≡ items.items }
     {
         Values { items }
     }
 
     pub fn as_slice(&self) -> &[i64]
-        ensures { result.now ≡ self.now }
+        ensures values { result.now ≡ self.now }
     {
         self.items.as_slice()
     }

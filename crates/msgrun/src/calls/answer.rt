@@ -1,8 +1,7 @@
 // One call on a buffer and its cursors, and its line.
-ghost use Rattle.std.specs.Prelude.{◌≡◌, ◌<◌, ℤ, ◌++◌, ◌∷◌, [], OnOk, IfOk, codes, decimal, length, min, true};
-ghost use Rattle.std.specs.Option.{option_map_or};
+ghost use Rattle.std.specs.Prelude.{◌≡◌, ◌<◌, ℤ, ◌++◌, ◌∷◌, [], None, OnOk, IfOk, Some, codes, decimal, length, true};
 ghost use Rattle.msg_buffer.specs.History.{History, get, write};
-ghost use Rattle.msg_buffer.specs.Reader.{given, next_place, read};
+ghost use Rattle.msg_buffer.specs.Reader.{given, next_place, read, unread};
 ghost use Rattle.msg_buffer.specs.StandsFor.{StandsFor};
 ghost use Rattle.msgrun.specs.CallsText.{State, after, items_text, line, value_text, written_text};
 ghost use Rattle.msgrun.specs.Cursors.{has_cursor};
@@ -234,7 +233,44 @@ fn take(
     ensures place { OnOk result ((h : History ℤ) → StandsFor messages.now h
         → cursor.new ≡ next_place (read h cursor.old limit)) }
 {
-    let number = number_taken(limit, cursor.len(messages));
+    match limit {
+        None => take_all(alloc, cursor, messages),
+        Some(most) => take_first(alloc, cursor, most, messages),
+    }
+}
+
+/// Takes all unread messages.
+fn take_all(
+    alloc: Global,
+    cursor: &mut MessageCursor,
+    messages: &Messages<i64>,
+) -> Result<Vec<Instance<i64>>, NoMemory>
+    ensures items { IfOk result (λ v. (h : History ℤ) → StandsFor messages.now h
+        → v.items ≡ unread h cursor.old) }
+    ensures place { OnOk result ((h : History ℤ) → StandsFor messages.now h
+        → cursor.new ≡ next_place (read h cursor.old None)) }
+{
+    let mut items = Vec::new(alloc);
+    for (id, message) in cursor.read(messages) {
+        let message = *message;
+        items.push(Instance { id, message })?;
+    }
+    Ok(items)
+}
+
+/// Takes the first unread messages: `most` of them, or all where there are fewer.
+fn take_first(
+    alloc: Global,
+    cursor: &mut MessageCursor,
+    most: u32,
+    messages: &Messages<i64>,
+) -> Result<Vec<Instance<i64>>, NoMemory>
+    ensures items { IfOk result (λ v. (h : History ℤ) → StandsFor messages.now h
+        → v.items ≡ given h cursor.old (Some most)) }
+    ensures place { OnOk result ((h : History ℤ) → StandsFor messages.now h
+        → cursor.new ≡ next_place (read h cursor.old (Some most))) }
+{
+    let number = u64::from(most).min(cursor.len(messages));
     let mut items = Vec::new(alloc);
     let mut unread = cursor.read(messages);
     for _ in 0..number {
@@ -245,13 +281,6 @@ fn take(
         items.push(Instance { id, message })?;
     }
     Ok(items)
-}
-
-/// How many of the unread messages a read takes.
-fn number_taken(limit: Option<u32>, unread: u64) -> u64
-    ensures { result ≡ option_map_or (λ most. min most unread) limit unread }
-{
-    limit.map_or(unread, |most| u64::from(most).min(unread))
 }
 
 /// Goes past all that is unread.

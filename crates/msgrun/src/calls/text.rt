@@ -8,20 +8,20 @@ use itoa::Buffer;
 use msg_buffer::{Instance, NoMemory};
 
 pub fn add_number(text: &mut Vec<u8>, number: u64) -> Result<(), NoMemory>
-    ensures { OnOk result (text.new.items ≡ text.old.items ++ decimal number) }
+    ensures appends { OnOk result (text.new.items ≡ text.old.items ++ decimal number) }
 {
     text.extend_from_slice(Buffer::new().format(number).as_bytes())
 }
 
 pub fn add_value(text: &mut Vec<u8>, value: i64) -> Result<(), NoMemory>
-    ensures { OnOk result (text.new.items ≡ text.old.items ++ signed_decimal value) }
+    ensures appends { OnOk result (text.new.items ≡ text.old.items ++ signed_decimal value) }
 {
     text.extend_from_slice(Buffer::new().format(value).as_bytes())
 }
 
 /// A message's value, or `none`.
 pub fn add_found(text: &mut Vec<u8>, value: Option<&i64>) -> Result<(), NoMemory>
-    ensures { OnOk result
+    ensures appends { OnOk result
         (text.new.items ≡ text.old.items ++ value_text (option_copied value.entry)) }
 {
     match value {
@@ -40,7 +40,7 @@ fn add_item(text: &mut Vec<u8>, item: &Instance<i64>) -> Result<(), NoMemory>
 
 /// The items with a space between two, or `none`.
 pub fn add_items(text: &mut Vec<u8>, items: &[Instance<i64>]) -> Result<(), NoMemory>
-    ensures { OnOk result (text.new.items ≡ text.old.items ++ items_text items.now) }
+    ensures appends { OnOk result (text.new.items ≡ text.old.items ++ items_text items.now) }
 {
     match items {
         [] => text.extend_from_slice(b"none"),

@@ -4,6 +4,7 @@ use crate::input::InputFault;
 use crate::memory_sink::MemorySink;
 use crate::refusal::Refusal;
 use crate::report_fault::ReportFault;
+use crate::sink::PutFault;
 use crate::words::WordFault;
 use std::alloc::Global;
 use std::process::Abort;
@@ -60,5 +61,59 @@ fn lines(rt: HostRuntime) -> Result<(), Fail> {
     ] {
         expect_line(&rt, MainFault::Report(fault), line, 1);
     }
+    Ok(())
+}
+
+/// The fault shows itself as this text, and `MainFault` around it as that one.
+fn expect_text(
+    rt: &(impl Abort + AllocGlobal),
+    text: String,
+    want: &str,
+    fault: MainFault,
+    around: &str,
+) -> Result<(), Fail> {
+    assert_eq!(rt; text.as_str(), want);
+    assert_eq!(rt; format!(in rt.alloc(); "{fault}")?.as_str(), around);
+    Ok(())
+}
+
+#[test]
+fn texts(rt: HostRuntime) -> Result<(), Fail> {
+    let alloc = rt.alloc();
+    for (refusal, want, around) in [
+        (Refusal::NotJson, "1 NotJson", "refused 1 NotJson"),
+        (Refusal::Shape, "2 Shape", "refused 2 Shape"),
+        (Refusal::UnknownKey, "3 UnknownKey", "refused 3 UnknownKey"),
+        (Refusal::BadNumber, "6 BadNumber", "refused 6 BadNumber"),
+        (Refusal::TooMany, "7 TooMany", "refused 7 TooMany"),
+        (Refusal::NoMemory, "11 NoMemory", "refused 11 NoMemory"),
+    ] {
+        let text = format!(in alloc; "{refusal}")?;
+        expect_text(&rt, text, want, MainFault::Refused(refusal), around)?;
+    }
+    for (fault, want) in [
+        (InputFault::Failed, "cannot read input"),
+        (InputFault::TooLarge, "input too large"),
+        (InputFault::NoMemory, "want of memory"),
+    ] {
+        let text = format!(in alloc; "{fault}")?;
+        expect_text(&rt, text, want, MainFault::Input(fault), want)?;
+    }
+    for (fault, want) in [
+        (ReportFault::Write, "write fault"),
+        (ReportFault::NoMemory, "want of memory"),
+    ] {
+        let text = format!(in alloc; "{fault}")?;
+        expect_text(&rt, text, want, MainFault::Report(fault), want)?;
+    }
+    for (fault, want) in [
+        (WordFault::Bad, "bad command line"),
+        (WordFault::NoMemory, "want of memory"),
+    ] {
+        let text = format!(in alloc; "{fault}")?;
+        expect_text(&rt, text, want, MainFault::Words(fault), want)?;
+    }
+    let text = format!(in alloc; "{}", PutFault)?;
+    assert_eq!(rt; text.as_str(), "the sink failed");
     Ok(())
 }

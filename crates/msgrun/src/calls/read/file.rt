@@ -20,7 +20,7 @@ const MAX_CALLS: usize = 10_000;
 
 /// The file that a JSON value denotes.
 pub fn read_file(alloc: Global, value: &Value) -> Result<Calls, Refusal>
-    ensures { Agrees (checks_of (view value.now)) (file_of (view value.now)) result }
+    ensures agrees { Agrees (checks_of (view value.now)) (file_of (view value.now)) result }
 {
     let Some(members) = value.as_object() else {
         return Err(Refusal::Shape);

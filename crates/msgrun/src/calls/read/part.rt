@@ -63,7 +63,7 @@ fn small_number(n: &Number, end: u32) -> Result<u32, Refusal>
 
 /// A value of a message.
 pub fn value(part: &Value) -> Result<i64, Refusal>
-    ensures { Agrees (a_number (view part.now) ∷ a_value (view part.now) ∷ [])
+    ensures agrees { Agrees (a_number (view part.now) ∷ a_value (view part.now) ∷ [])
         (whole (view part.now)) result }
 {
     whole_number(number(part)?)
@@ -80,7 +80,7 @@ pub fn cursor(made: u32, part: &Value) -> Result<u32, Refusal>
 
 /// The number of a message.
 pub fn message_number(part: &Value) -> Result<u64, Refusal>
-    ensures { Agrees (a_number (view part.now) ∷ a_message_number (view part.now) ∷ [])
+    ensures agrees { Agrees (a_number (view part.now) ∷ a_message_number (view part.now) ∷ [])
         (natural (view part.now)) result }
 {
     natural_number(number(part)?)
@@ -104,7 +104,7 @@ pub fn cursor_and_limit(made: u32, part: &Value, limit: &Value) -> Result<(u32, 
 
 /// The limit of a buffer.
 pub fn buffer_limit(value: &Value) -> Result<u32, Refusal>
-    ensures { Agrees (limit_checks (view value.now)) (natural (view value.now)) result }
+    ensures agrees { Agrees (limit_checks (view value.now)) (natural (view value.now)) result }
 {
     small_number(number(value)?, MOST + 1)
 }
