@@ -212,11 +212,23 @@ fn a_walk_left_early(rt: HostRuntime) -> Result<(), Fail> {
 fn refusals_say_why(rt: HostRuntime) -> Result<(), Fail> {
     let spent: WriteRefusal<i64> = WriteRefusal::NumbersSpent(1);
     let refused: WriteRefusal<i64> = WriteRefusal::NoMemory(1);
-    assert_eq!(rt; format!(in rt.alloc(); "{spent}")?.as_str(), "no number is left");
-    assert_eq!(rt; format!(in rt.alloc(); "{refused}")?.as_str(), "want of memory");
+    assert_eq!(rt;
+        format!(in rt.alloc(); "{spent}")?.as_str(),
+        "no number is left"
+    );
+    assert_eq!(rt;
+        format!(in rt.alloc(); "{refused}")?.as_str(),
+        "want of memory"
+    );
     let spent: BatchRefusal<i64> = BatchRefusal::NumbersSpent(Vec::new(rt.alloc()));
     let refused: BatchRefusal<i64> = BatchRefusal::NoMemory(Vec::new(rt.alloc()));
-    assert_eq!(rt; format!(in rt.alloc(); "{spent}")?.as_str(), "too few numbers are left");
-    assert_eq!(rt; format!(in rt.alloc(); "{refused}")?.as_str(), "want of memory");
+    assert_eq!(rt;
+        format!(in rt.alloc(); "{spent}")?.as_str(),
+        "too few numbers are left"
+    );
+    assert_eq!(rt;
+        format!(in rt.alloc(); "{refused}")?.as_str(),
+        "want of memory"
+    );
     Ok(())
 }

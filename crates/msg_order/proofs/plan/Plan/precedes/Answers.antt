@@ -12,17 +12,19 @@ returns-then-earlier-len _g c =
     let before = c.self.inside.before.items in
     let i : ℕ = c.args.earlier in
     let j : ℕ = c.args.later in
-    let edges = edges_of c.args.self.now before c.self.inside.joined (map (λ b. b.items) c.self.inside.batches.items) c.self.view_is c.self.invariant i j in record { edge = (
-      λ t. absurd (false≢true t),
-      λ e.
-          let both = c.self.invariant.among i j (edges.0 e) in
-          let in_i : i < length before = c.self.invariant.within i both.0 in
-          let in_j : j < length before = c.self.invariant.within j both.1 in
-          absurd (elim c.then-earlier-len.branch [
-            | then-earlier-len-via-then-earlier-len w ↦ omega arith
-            | then-earlier-len-via-else-earlier-len+then-later-len w ↦ omega arith
-          ]),
-    ) }
+    let edges = edges_of c.args.self.now before c.self.inside.joined (map (λ b. b.items) c.self.inside.batches.items) c.self.view_is c.self.invariant i j in record {
+      edge = (
+        λ t. absurd (false≢true t),
+        λ e.
+            let both = c.self.invariant.among i j (edges.0 e) in
+            let in_i : i < length before = c.self.invariant.within i both.0 in
+            let in_j : j < length before = c.self.invariant.within j both.1 in
+            absurd (elim c.then-earlier-len.branch [
+              | then-earlier-len-via-then-earlier-len w ↦ omega arith
+              | then-earlier-len-via-else-earlier-len+then-later-len w ↦ omega arith
+            ]),
+      );
+    }
 
 pub returns : goal.returns
 returns _g c =
@@ -30,7 +32,9 @@ returns _g c =
     let i : ℕ = c.args.earlier in
     let j : ℕ = c.args.later in
     let edges = edges_of c.args.self.now before c.self.inside.joined (map (λ b. b.items) c.self.inside.batches.items) c.self.view_is c.self.invariant i j in
-    let is : c.contains.result ≡ comes_before before i j = c.contains.ensures ∙ ap (λ s. has s i) (get_or_read before j _ (omega arith) c.index.ensures no_set) in record { edge = (
-      λ t. edges.1 (sym is ∙ t),
-      λ e. is ∙ edges.0 e,
-    ) }
+    let is : c.contains.result ≡ comes_before before i j = c.contains.ensures ∙ ap (λ s. has s i) (get_or_read before j _ (omega arith) c.index.ensures no_set) in record {
+      edge = (
+        λ t. edges.1 (sym is ∙ t),
+        λ e. is ∙ edges.0 e,
+      );
+    }

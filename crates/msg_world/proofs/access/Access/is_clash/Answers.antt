@@ -8,10 +8,12 @@ pub returns-then-share_bit : goal.returns-then-share_bit
 returns-then-share_bit c = record { clash = (λ t. let b = c.share_bit.ensures.0 t in (OfType b.0, b.1), λ _. c.if-share_bit.true) }
 
 pub returns-else-share_bit : goal.returns-else-share_bit
-returns-else-share_bit c = record { clash = (
-  λ t. let b = c.share_bit-else-share_bit.ensures.0 t in (OfResource b.0, b.1),
-  λ clash. elim (is_clash-masks c.args.self.now clash) [
-    | inl x ↦ absurd (false≢true (sym c.if-share_bit.false ∙ c.share_bit.ensures.1 x))
-    | inr x ↦ c.share_bit-else-share_bit.ensures.1 x
-  ],
-) }
+returns-else-share_bit c = record {
+  clash = (
+    λ t. let b = c.share_bit-else-share_bit.ensures.0 t in (OfResource b.0, b.1),
+    λ clash. elim (is_clash-masks c.args.self.now clash) [
+      | inl x ↦ absurd (false≢true (sym c.if-share_bit.false ∙ c.share_bit.ensures.1 x))
+      | inr x ↦ c.share_bit-else-share_bit.ensures.1 x
+    ],
+  );
+}
