@@ -1,20 +1,17 @@
 -- Conditions asked one after the other.
 use Rattle.std.proofs.Common.{◌≡◌, ℕ, zero, suc, ◌+◌, ◌<◌, ◌++◌, Bool, true, false, ◌&&◌, List, [], ◌∷◌, length, map, take, drop, get_or, set, refl, sym, ap, ◌∙◌, arith}
+use Rattle.std.proofs.Math.Bool.{and-true}
 use Rattle.std.proofs.lemmas.List.{drop-set-lt, drop_more, map-append, take_more, take_more_set}
 use Rattle.std.proofs.lemmas.Grind.{drop_more_same}
 use Rattle.msg_world.specs.World.{WorldState}
 use Rattle.msg_system.specs.Conditions.{Asked, all_hold, answer}
-
-and_true : (b : Bool) → (b && true) ≡ b
-and_true true = refl
-and_true false = refl
 
 and_assoc : (a b c : Bool) → (a && (b && c)) ≡ ((a && b) && c)
 and_assoc true b c = refl
 and_assoc false b c = refl
 
 all_hold-snoc : (xs : List Asked) (x : Asked) (s : WorldState) → all_hold (xs ++ x ∷ []) s ≡ (all_hold xs s && answer x s)
-all_hold-snoc [] x s = and_true (answer x s)
+all_hold-snoc [] x s = and-true (answer x s)
 all_hold-snoc (y ∷ xs) x s = ap (λ b. answer y s && b) (all_hold-snoc xs x s) ∙ and_assoc (answer y s) (all_hold xs s) (answer x s)
 
 -- one condition more

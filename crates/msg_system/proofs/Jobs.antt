@@ -1,39 +1,23 @@
 -- The access of a job, from its program's and its conditions'.
-use Rattle.std.proofs.Common.{◌≡◌, ℕ, zero, suc, ◌+◌, ◌<◌, Bool, true, false, not, ◌&&◌, ◌||◌, List, [], ◌∷◌, length, take, get_or, refl, sym, ap, ◌∙◌, arith, inl, inr}
-use Rattle.std.specs.Prelude.{All, IsTrue}
-use Rattle.std.proofs.lemmas.Bool.{false≢true, or_left, or_right}
+use Rattle.std.proofs.Common.{◌≡◌, ℕ, ◌+◌, ◌<◌, Bool, true, false, not, ◌&&◌, ◌||◌, List, [], length, take, get_or, refl, sym, ap, ◌∙◌}
+use Rattle.std.specs.Prelude.{IsTrue}
+use Rattle.std.proofs.Math.Bool.{and-false, or-false}
+use Rattle.std.proofs.lemmas.Bool.{false≢true, or_parts, or_right}
 use Rattle.std.proofs.lemmas.List.Folds.{list_any_at, list_any_more}
 use Rattle.msg_world.specs.declared.access.Access.{Access}
-use Rattle.msg_world.specs.declared.lent.Lent.{Lent}
 use Rattle.msg_world.specs.Access.{Part, reads, uses, writes}
-use Rattle.msg_world.specs.Loan.{IsComplete, access_of}
+use Rattle.msg_world.specs.Loan.{access_of}
 use Rattle.msg_system.specs.declared.condition.Condition.{Condition}
 use Rattle.msg_system.specs.declared.op.Op.{Op}
-use Rattle.msg_system.specs.Needs.{IsAccessOf, condition_needs, is_resource, job_needs, program_needs, some_condition_reads, some_op_reads, some_op_writes}
-use Rattle.msg_system.specs.Systems.{Covers, JobsCover}
+use Rattle.msg_system.specs.Needs.{IsAccessOf, condition_needs, job_needs, program_needs, some_condition_reads, some_op_writes}
+use Rattle.msg_system.specs.Systems.{JobsCover}
 use Rattle.msg_system.proofs.Runs.{complete_covers}
 
-or_false : (b : Bool) → (b || false) ≡ b
-or_false true = refl
-or_false false = refl
-
+-- what is read with one condition more: what is written isn't listed
 one_more : (x c r w : Bool) → ((((x || c) && not w) || r) && not (w || false)) ≡ ((x || (c || r)) && not w)
-one_more true true r true = bool_step ((true && not true) || r)
-  where
-    bool_step : (b : Bool) → (b && false) ≡ false
-    bool_step true = refl
-    bool_step false = refl
-one_more true false r true = bool_step ((true && not true) || r)
-  where
-    bool_step : (b : Bool) → (b && false) ≡ false
-    bool_step true = refl
-    bool_step false = refl
+one_more x c r true = and-false (((x || c) && not true) || r) ∙ sym (and-false (x || (c || r)))
 one_more true c r false = refl
-one_more false true true true = refl
-one_more false true false true = refl
 one_more false true r false = refl
-one_more false false true true = refl
-one_more false false false true = refl
 one_more false false true false = refl
 one_more false false false false = refl
 
@@ -41,23 +25,16 @@ one_more false false false false = refl
 abbrev pub IsUnion : Access → Access → Access → Type 0
 IsUnion a b u = ((p : Part) → writes u p ≡ (writes a p || writes b p)) × ((p : Part) → reads u p ≡ ((reads a p || reads b p) && not (writes u p)))
 
-neither : (a : Access) (p : Part) → uses a p ≡ false → (reads a p ≡ false) × (writes a p ≡ false)
-neither a p h = split (reads a p) (writes a p) h
-  where
-    split : (r w : Bool) → (r || w) ≡ false → (r ≡ false) × (w ≡ false)
-    split true w h = absurd (false≢true (sym h))
-    split false w h = (refl, h)
-
 -- a program without conditions
 pub no_conditions : (ops : List Op) (a none u : Access) → ((p : Part) → uses none p ≡ false) → IsUnion a none u → IsAccessOf (program_needs ops) a → IsAccessOf (job_needs ops []) u
 no_conditions ops a none u nothing union of = record {
-  reads = λ p. union.1 p ∙ ap (λ w. (reads a p || reads none p) && not w) (written p) ∙ ap (λ r. (reads a p || r) && not (some_op_writes ops p)) (neither none p (nothing p)).0
+  reads = λ p. union.1 p ∙ ap (λ w. (reads a p || reads none p) && not w) (written p) ∙ ap (λ r. (reads a p || r) && not (some_op_writes ops p)) (or_parts (reads none p) (writes none p) (nothing p)).0
       ∙ ap (λ r. (r || false) && not (some_op_writes ops p)) (of.reads p);
   writes = written;
 }
   where
     written : (p : Part) → writes u p ≡ some_op_writes ops p
-    written p = union.0 p ∙ ap (λ w. writes a p || w) (neither none p (nothing p)).1 ∙ or_false (writes a p) ∙ of.writes p
+    written p = union.0 p ∙ ap (λ w. writes a p || w) (or_parts (reads none p) (writes none p) (nothing p)).1 ∙ or-false (writes a p) ∙ of.writes p
 
 -- one condition more
 pub condition_more : (ops : List Op) (cs : List Condition) (i : ℕ) (c : Condition) (a b u : Access) → i < length cs → c ≡ get_or cs i c
@@ -68,7 +45,7 @@ condition_more ops cs i c a b u lt is of one union = record { reads = read; writ
     both p = union.0 p ∙ ap (λ w. w || writes b p) (of.writes p) ∙ ap (λ w. some_op_writes ops p || w) (one.writes p)
 
     written : (p : Part) → writes u p ≡ some_op_writes ops p
-    written p = both p ∙ or_false (some_op_writes ops p)
+    written p = both p ∙ or-false (some_op_writes ops p)
 
     longer : (p : Part) → some_condition_reads (take (i + 1) cs) p ≡ (some_condition_reads (take i cs) p || (condition_needs c).reads p)
     longer p = list_any_more (λ (x : Condition). (condition_needs x).reads p) cs i c lt

@@ -1,10 +1,10 @@
 mod Accesses
-mod Asking
 mod Copies
 mod Lendings
 mod OpsDone
 mod Runs
 mod Starts
+mod Asking
+mod Jobs
 mod Uses
 mod Turns
-mod Jobs

@@ -1,6 +1,7 @@
 -- Where the cursors of a program start.
-use Rattle.std.proofs.Common.{◌≡◌, ℕ, ◌+◌, ◌<◌, Bool, true, false, ◌||◌, List, length, Option, Some, None, take, get_or, refl, sym, ap, ◌∙◌, arith, inl, inr}
+use Rattle.std.proofs.Common.{◌≡◌, ℕ, ◌+◌, ◌<◌, false, ◌||◌, List, length, Option, Some, None, take, get_or, refl, sym, ap, ◌∙◌, inl, inr}
 use Rattle.std.specs.Prelude.{◌==◌, option_and_then, slice_set, if◌then◌else◌}
+use Rattle.std.proofs.Math.Bool.{or-false, or-true}
 use Rattle.std.proofs.lemmas.Bool.{cases_eq, eq-eqb, ne_eqb}
 use Rattle.std.proofs.lemmas.Option.{none-some, same_Some}
 use Rattle.std.proofs.lemmas.List.{get_or-set_same, get_or-set_other}
@@ -24,14 +25,6 @@ no_part_of_type (Some (OfType v)) u is = absurd (none-some v (sym is))
 no_part_of_type (Some (OfResource r)) u is = refl
 no_part_of_type (Some Registry) u is = refl
 
-or_false : (b : Bool) → (b || false) ≡ b
-or_false true = refl
-or_false false = refl
-
-or_true : (b : Bool) → (b || true) ≡ true
-or_true true = refl
-or_true false = refl
-
 -- the places of the cursors, after those of the types that some ops read were started
 abbrev pub AreStarted : List Op → Start → List ℕ → List ℕ → List ℕ → Type 0
 AreStarted ops start counts old new = (t : ℕ) → places_of new t ≡ (if some_op_reads ops (OfType t) then start_place start counts t else places_of old t)
@@ -48,12 +41,12 @@ module _ (ops : List Op) (i : ℕ) (op : Op) (start : Start) (counts old new : L
       let more : some_op_reads (take (i + 1) ops) (OfType t) ≡ (some_op_reads (take i ops) (OfType t) || (t == u)) =
       one_more t ∙ ap (λ b. some_op_reads (take i ops) (OfType t) || b) (part_of_type (op_parts op).read u t read) in
       elim (cases_eq t u) [
-        | inl e ↦ rw (more, k_is, e, get_or-set_same new u place 0 within, eq-eqb u u refl, or_true (some_op_reads (take i ops) (OfType u))) place_is
-        | inr ne ↦ rw (more, k_is, get_or-set_other new u t place 0 ne, ne_eqb t u ne, or_false (some_op_reads (take i ops) (OfType t))) (far t)
+        | inl e ↦ rw (more, k_is, e, get_or-set_same new u place 0 within, eq-eqb u u refl, or-true (some_op_reads (take i ops) (OfType u))) place_is
+        | inr ne ↦ rw (more, k_is, get_or-set_other new u t place 0 ne, ne_eqb t u ne, or-false (some_op_reads (take i ops) (OfType t))) (far t)
       ]
 
   pub started_same : type_read op ≡ None → AreStarted (take (i + 1) ops) start counts old new
   started_same read t =
       let more : some_op_reads (take (i + 1) ops) (OfType t) ≡ some_op_reads (take i ops) (OfType t) =
-      one_more t ∙ ap (λ b. some_op_reads (take i ops) (OfType t) || b) (no_part_of_type (op_parts op).read t read) ∙ or_false (some_op_reads (take i ops) (OfType t)) in
+      one_more t ∙ ap (λ b. some_op_reads (take i ops) (OfType t) || b) (no_part_of_type (op_parts op).read t read) ∙ or-false (some_op_reads (take i ops) (OfType t)) in
       rw more (far t)

@@ -1,12 +1,12 @@
 -- Ops, programs, conditions and jobs use no more than they need.
-use Rattle.std.proofs.Common.{◌≡◌, ℕ, Bool, true, false, not, ◌&&◌, ◌||◌, List, [], ◌∷◌, length, map, None, Some, refl, sym, ap, ◌∙◌, inl, inr}
-use Rattle.std.specs.Prelude.{◌==◌, ℤ, IsTrue, nat_lt, Option, if◌then◌else◌}
+use Rattle.std.proofs.Common.{◌≡◌, ℕ, Bool, true, false, not, ◌&&◌, ◌||◌, List, [], ◌∷◌, length, map, None, Some, refl, sym, ap, ◌∙◌}
+use Rattle.std.specs.Prelude.{◌==◌, ℤ, IsTrue, nat_lt, if◌then◌else◌}
 use Rattle.std.specs.Ordering.{int_eq}
-use Rattle.std.proofs.lemmas.Bool.{cases_Bool, false≢true, or_left, or_right}
+use Rattle.std.proofs.Math.Bool.{or-false}
+use Rattle.std.proofs.lemmas.Bool.{false≢true, or_left, or_parts, or_right}
 use Rattle.msg_buffer.specs.History.{History, clear, count, oldest, present, write}
 use Rattle.msg_buffer.specs.Kept.{message_of}
 use Rattle.msg_buffer.specs.Reader.{missed, pass_over, unread}
-use Rattle.msg_world.specs.declared.marks.Marks.{Marks}
 use Rattle.msg_world.specs.declared.record.Record.{Record}
 use Rattle.msg_world.specs.Access.{Part, OfType, OfResource, Registry, same_part}
 use Rattle.msg_world.specs.World.{WorldState, by, content, signalled, signalled_marks, with_history, with_value_of}
@@ -17,11 +17,10 @@ use Rattle.msg_system.specs.declared.op.Op.{Op}
 use Rattle.msg_system.specs.declared.op.Op.TheVariants.{Write, Batch, Read, Len, Missed, Clear, Forward, Sum, Get, Set, Add, Drain, Signal}
 use Rattle.msg_system.specs.declared.reply.Reply.{Reply}
 use Rattle.msg_system.specs.declared.reply.Reply.TheVariants as reply
-use Rattle.msg_system.specs.declared.reply.Took.{Took}
-use Rattle.msg_system.specs.Conditions.{AfterJob, Asked, Job, after_asking, after_job, all_hold, answer, found, inverted, place_after}
+use Rattle.msg_system.specs.Conditions.{AfterJob, Asked, Job, after_asking, all_hold, answer, found, inverted, place_after}
 use Rattle.msg_system.specs.Footprints.{Agree, ConditionFootprint, IsWithin, JobFootprint, OpFootprint, ProgramFootprint, conditions_of, given_by_job, given_by_op, given_by_program}
-use Rattle.msg_system.specs.Needs.{Needs, condition_needs, is_part, is_resource, job_needs, needs_any, op_needs, op_parts, probe_part, program_needs, some_condition_reads, some_op_reads, some_op_writes}
-use Rattle.msg_system.specs.Programs.{AfterOp, AfterProgram, after_op, after_program, again_by, cleared, numbers_for, place_after_read, plus, sum_onto, took, with_place, write_reply}
+use Rattle.msg_system.specs.Needs.{condition_needs, is_part, is_resource, job_needs, op_needs, op_parts, probe_part, program_needs, some_condition_reads, some_op_reads, some_op_writes}
+use Rattle.msg_system.specs.Programs.{AfterOp, after_op, after_program, again_by, cleared, numbers_for, place_after_read, plus, sum_onto, took, with_place, write_reply}
 use Rattle.msg_system.specs.Systems.{Meaning, after_turn, turn}
 use Rattle.msg_system.proofs.Runs.{same_part_refl}
 
@@ -154,10 +153,6 @@ either_later false b true d h = refl
 either_later false true false d h = refl
 either_later false false false d h = h
 
-both_false : (a b : Bool) → (a || b) ≡ false → (a ≡ false) × (b ≡ false)
-both_false true b h = absurd (false≢true (sym h))
-both_false false b h = (refl, h)
-
 -- the parts that some ops use are among these
 abbrev AllIn : List Op → (Part → Bool) → Type 0
 AllIn ops m = (p : Part) → IsTrue (some_op_reads ops p || some_op_writes ops p) → IsTrue (m p)
@@ -175,7 +170,7 @@ program_kept : (ops : List Op) (w : ℕ) (ps : ℕ → ℕ) (s : WorldState) (p 
 program_kept [] w ps s p h = refl
 program_kept (op ∷ ops) w ps s p h =
     let e : AfterOp = after_op op w ps s in
-    let none = both_false ((op_needs op).writes p) (some_op_writes ops p) h in
+    let none = or_parts ((op_needs op).writes p) (some_op_writes ops p) h in
     program_kept ops w e.places e.state p none.1 ∙ op_kept op w ps s p none.0
 
 program_same : (ops : List Op) (w : ℕ) (ps : ℕ → ℕ) (m : Part → Bool) (s t : WorldState) → AllIn ops m → Agree m s t
@@ -234,13 +229,9 @@ condition_footprint a m s t within agree = (answer_same m s t agree a within, as
 abbrev AllAskedIn : List Asked → (Part → Bool) → Type 0
 AllAskedIn asked m = (p : Part) → IsTrue (some_condition_reads (map (λ a. a.condition) asked) p) → IsTrue (m p)
 
-or_false : (b : Bool) → (b || false) ≡ b
-or_false true = refl
-or_false false = refl
-
 first_asked_in : (a : Asked) (asked : List Asked) (m : Part → Bool) → AllAskedIn (a ∷ asked) m → IsWithin (condition_needs a.condition) m
 first_asked_in a asked m within p h =
-    within p (or_left ((condition_needs a.condition).reads p) (some_condition_reads (map (λ a. a.condition) asked) p) (sym (or_false ((condition_needs a.condition).reads p)) ∙ h))
+    within p (or_left ((condition_needs a.condition).reads p) (some_condition_reads (map (λ a. a.condition) asked) p) (sym (or-false ((condition_needs a.condition).reads p)) ∙ h))
 
 rest_asked_in : (a : Asked) (asked : List Asked) (m : Part → Bool) → AllAskedIn (a ∷ asked) m → AllAskedIn asked m
 rest_asked_in a asked m within p h = within p (or_right ((condition_needs a.condition).reads p) (some_condition_reads (map (λ a. a.condition) asked) p) h)

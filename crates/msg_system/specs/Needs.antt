@@ -1,5 +1,5 @@
 -- What ops, programs, conditions and jobs read and write, part by part.
-use Rattle.std.specs.Prelude.{◌≡◌, ℕ, Bool, true, false, not, ◌&&◌, ◌||◌, Option, Some, None, List, [], ◌∷◌, option_and_then, slice_get}
+use Rattle.std.specs.Prelude.{◌≡◌, ℕ, Bool, true, false, not, ◌&&◌, ◌||◌, Option, Some, None, List, option_and_then, slice_get}
 use Rattle.std.specs.List.{list_any}
 use Rattle.msg_world.specs.declared.access.Access.{Access}
 use Rattle.msg_world.specs.Access.{Part, OfType, OfResource, Registry, reads, same_part, writes}

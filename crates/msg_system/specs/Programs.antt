@@ -1,7 +1,6 @@
 -- What an op does to the places of its system and to the world, and what it answers; and a program, its ops in order.
-use Rattle.std.specs.Prelude.{◌≡◌, ℕ, ℤ, ◌+ℤ◌, ◌==◌, Bool, Option, None, Some, List, [], ◌∷◌, fold, length, map, if◌then◌else◌}
+use Rattle.std.specs.Prelude.{ℕ, ℤ, ◌+ℤ◌, ◌==◌, Option, None, Some, List, [], ◌∷◌, fold, length, map, if◌then◌else◌}
 use Rattle.std.specs.Int.{saturate_signed, w64}
-use Rattle.msg_buffer.specs.declared.instance.Instance.{Instance}
 use Rattle.msg_buffer.specs.declared.instance.Written.{Written}
 use Rattle.msg_buffer.specs.History.{History, clear, count, has_room, oldest, present, write}
 use Rattle.msg_buffer.specs.Kept.{message_of}

@@ -21,7 +21,8 @@ pub enum Op {
     Missed(TypeNo),
     /// Goes past all messages.
     Clear(TypeNo),
-    /// Reads all unread messages of the first type, and writes their values to the second as one batch.
+    /// Reads all unread messages of the first type, and writes their values to the second as one
+    /// batch. Where that is refused for the limit, what was read stays read.
     Forward(TypeNo, TypeNo),
     /// Reads all unread messages, and adds their values to a resource, each held within `i64`.
     Sum(TypeNo, ResNo),
@@ -55,8 +56,10 @@ impl Op {
 
     /// An access with what this op uses beside.
     pub(crate) fn added_to(&self, access: Access) -> Access
-        ensures reads { (p : Part) → reads result p ≡ ((op_needs self.now).reads p || reads access p) }
-        ensures writes { (p : Part) → writes result p ≡ ((op_needs self.now).writes p || writes access p) }
+        ensures reads { (p : Part)
+            → reads result p ≡ ((op_needs self.now).reads p || reads access p) }
+        ensures writes { (p : Part)
+            → writes result p ≡ ((op_needs self.now).writes p || writes access p) }
     {
         match self {
             Op::Write(t, _) => access.with_write_type(*t),

@@ -22,7 +22,8 @@ impl Relay {
 
     /// It has read nothing yet. It writes as the number `writer`.
     pub fn new(from: TypeNo, to: TypeNo, start: Start, writer: u32) -> Relay
-        ensures new { ⟦<Relay as System>⟧.meaning result ≡ new_system (only (Forward from to) start) writer }
+        ensures new { ⟦<Relay as System>⟧.meaning result
+            ≡ new_system (only (Forward from to) start) writer }
     {
         Relay {
             from,

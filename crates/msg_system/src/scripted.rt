@@ -115,7 +115,11 @@ impl Scripted {
 }
 
 impl System for Scripted {
-    ghost meaning = { λ s. record { program = s.program; writer = s.writer; places = places_of s.cursors } };
+    ghost meaning = { λ s. record {
+      program = s.program;
+      writer = s.writer;
+      places = places_of s.cursors;
+    } };
 
     fn access(&self) -> Access {
         self.program.access()

@@ -3,8 +3,8 @@ use crate::{Access, NoMemory, Reply, Start};
 use msg_world::{Counts, Lent, Taken, TypeNo};
 use std::alloc::Global;
 
-/// A system, which an engine may keep in a box. It means a program of at most 64 ops, the number that
-/// it writes as, and its place in each type; see `Meaning`.
+/// A system, which an engine may keep in a box. It means a program of at most 64 ops, the number
+/// that it writes as, and its place in each type.
 pub trait System: Send + Drop {
     ghost use Rattle.std.specs.Prelude.{◌≡◌, ◌≤◌, IfOk, length};
     ghost use Rattle.msg_world.specs.Loan.{taken_of};
@@ -12,6 +12,7 @@ pub trait System: Send + Drop {
     ghost use Rattle.msg_system.specs.Needs.{IsAccessOf, program_needs, type_read_by};
     ghost use Rattle.msg_system.specs.Systems.{Covers, Meaning, Ran, started};
 
+    // Its program, its number and its places. Nothing but the places ever changes.
     ghost meaning: { Self → Meaning };
 
     /// What its program reads and writes.
@@ -19,7 +20,8 @@ pub trait System: Send + Drop {
         ensures needs { IsAccessOf (program_needs (meaning self.now).program.ops) result }
         ensures few { length (meaning self.now).program.ops ≤ 64 };
 
-    /// The type that this op of its program reads; None where it reads none, or there is no such op.
+    /// The type that this op of its program reads; None where it reads none, or there is no such
+    /// op.
     fn read_type(&self, op: u32) -> Option<TypeNo>
         ensures type_read { result ≡ type_read_by (meaning self.now).program.ops op };
 

@@ -22,7 +22,8 @@ impl Tally {
 
     /// It has read nothing yet. It writes as the number `writer`.
     pub fn new(from: TypeNo, to: ResNo, start: Start, writer: u32) -> Tally
-        ensures new { ⟦<Tally as System>⟧.meaning result ≡ new_system (only (Sum from to) start) writer }
+        ensures new { ⟦<Tally as System>⟧.meaning result
+            ≡ new_system (only (Sum from to) start) writer }
     {
         Tally {
             from,

@@ -1,4 +1,4 @@
-// Worked examples of ops, boxed systems and conditions, and each public call once with ample memory.
+// Worked examples of ops, boxed systems and conditions; each public call once with ample memory.
 ghost use Rattle.std.specs.Prelude.{◌≡◌, ◌++◌, IfOk, IsTrue, map};
 ghost use Rattle.msg_world.specs.Loan.{taken_of};
 ghost use Rattle.msg_world.specs.Parts.{PartsStand, SameShape};

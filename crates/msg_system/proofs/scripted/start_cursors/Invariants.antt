@@ -1,4 +1,4 @@
-use Rattle.std.proofs.Common.{◌≡◌, ℕ, take, length}
+use Rattle.std.proofs.Common.{◌≡◌, ℕ, take}
 use Rattle.std.specs.Prelude.{if◌then◌else◌}
 use Rattle.msg_world.specs.Access.{OfType}
 use Rattle.msg_system.specs.Needs.{some_op_reads}

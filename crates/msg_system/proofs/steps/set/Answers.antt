@@ -1,4 +1,4 @@
-use Rattle.std.proofs.Common.{rules, to_z, of_z, refl}
+use Rattle.std.proofs.Common.{rules, to_z, of_z}
 use mir.Val.{SFits}
 use mir.Syntax.{w64}
 use Rattle.std.proofs.lemmas.Int.{to_z-of_z}

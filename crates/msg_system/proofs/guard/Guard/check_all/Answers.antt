@@ -1,5 +1,5 @@
-use Rattle.std.proofs.Common.{◌≡◌, ◌<◌, ◌&&◌, ap, arith, length, sym, ◌∙◌, subst, take, map}
-use Rattle.std.proofs.Math.Seq.{map-set_same, take-length}
+use Rattle.std.proofs.Common.{◌<◌, ◌&&◌, ap, arith, length, sym, ◌∙◌, subst, take}
+use Rattle.std.proofs.Math.Seq.{map-set_same}
 use Rattle.std.proofs.lemmas.List.{length-map}
 use Rattle.msg_system.specs.declared.condition.Condition.{Condition}
 use Rattle.msg_system.specs.Conditions.{Asked, after_asking, all_hold, answer}

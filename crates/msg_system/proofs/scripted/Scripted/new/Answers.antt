@@ -1,4 +1,4 @@
-use Rattle.std.proofs.Common.{◌≡◌, ℕ, zero, suc, List, replicate, get_or, refl}
+use Rattle.std.proofs.Common.{◌≡◌, ℕ, zero, suc, replicate, get_or, refl}
 use Rattle.msg_system.proofs.scripted.Scripted.new.Goals as goal
 
 -- a list of nothing but zeros

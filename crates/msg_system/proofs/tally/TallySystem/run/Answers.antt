@@ -1,6 +1,6 @@
 use Rattle.std.proofs.Common.{refl, subst}
 use Rattle.msg_world.specs.Access.{OfResource, OfType}
-use Rattle.msg_system.specs.declared.op.Op.TheVariants.{Forward, Sum}
+use Rattle.msg_system.specs.declared.op.Op.TheVariants.{Sum}
 use Rattle.msg_system.specs.OpRuns.{OpRan, one_place}
 use Rattle.msg_system.proofs.Runs.{one_place_at, one_place_moved, only_covers_read, only_covers_written, ran_only}
 use Rattle.msg_system.proofs.tally.TallySystem.run.Goals as goal
