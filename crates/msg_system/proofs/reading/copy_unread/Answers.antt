@@ -13,7 +13,7 @@ returns-clause-items c h s =
     let u = unread h c.args.cursor.now in
     let xs = c.loop-copied.items.items in
     let inv = c.loop-copied.invariant in
-    let split : map message_of u ≡ xs ++ map message_of (iter_rest c.loop-copied.rest) = ap (map message_of) (sym (c.read-rest.ensures.unread h s)) ∙ inv.given.given in
+    let split : map message_of u ≡ xs ++ map message_of (iter_rest c.loop-copied.rest) = ap (map message_of) (sym (c.read-rest.ensures.unread h s)) ∙ inv.given in
     let long : c.len-unread.result ≡ length u = c.len-unread.ensures.meaning h s in
     let most : c.min-most.result ≡ min (unwrap_or c.args.limit (length u)) (length u) =
     c.min-most.ensures ∙ ap (λ n. min n c.len-unread.result) c.unwrap_or.ensures ∙ ap (λ n. min (unwrap_or c.args.limit n) n) long in

@@ -1,10 +1,12 @@
-use Rattle.std.proofs.Common.{◌≡◌, length}
+use Rattle.std.proofs.Common.{◌≡◌, ◌++◌, ◌+◌, length, map}
 use Rattle.msg_buffer.specs.Kept.{message_of}
-use Rattle.msg_buffer.specs.Reading.{HasGiven}
+use Rattle.msg_buffer.specs.Reading.{Continues, iter_place, iter_rest}
 use Rattle.msg_system.proofs.reading.copy_unread.Given as goal
 
 abbrev pub invariant-loop-copied : goal.invariant-loop-copied
 invariant-loop-copied l = record {
-  given : HasGiven message_of l.initial.rest l.rest l.items.items;
+  given : map message_of (iter_rest l.initial.rest) ≡ l.items.items ++ map message_of (iter_rest l.rest);
+  place : iter_place l.rest ≡ iter_place l.initial.rest + length l.items.items;
+  continues : Continues l.initial.rest l.rest;
   as_many : length l.items.items ≡ l._copied;
 }
