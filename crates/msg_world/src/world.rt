@@ -222,10 +222,19 @@ impl World {
         }
     }
 
+    /// How many message types it has, at home or out.
+    pub fn types(&self) -> usize
+        ensures types { result ≡ length self.now.types }
+        ensures few { result ≤ 64 }
+    {
+        self.types.len()
+    }
+
     /// How many messages of each type were ever written.
     pub fn counts(&self) -> Counts
         requires whole { IsWhole self.now }
         ensures types { length result ≡ length self.now.types }
+        ensures few { length result ≤ 64 }
         ensures meaning { (s : WorldState) → PartsStand self.now s → (t : ℕ)
             → t < length self.now.types → slice_get result t ≡ Some (count (s.histories t)) }
     {

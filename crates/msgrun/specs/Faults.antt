@@ -4,10 +4,10 @@ use Rattle.msgrun.specs.declared.words.WordFault.{WordFault}
 use Rattle.msgrun.specs.declared.words.WordFault.TheVariants as word
 use Rattle.msgrun.specs.declared.input.InputFault.{InputFault}
 use Rattle.msgrun.specs.declared.input.InputFault.TheVariants as input
-use Rattle.msgrun.specs.declared.refusal.Refusal.{Refusal}
-use Rattle.msgrun.specs.declared.refusal.Refusal.TheVariants as refusal
-use Rattle.msgrun.specs.declared.report_fault.ReportFault.{ReportFault}
-use Rattle.msgrun.specs.declared.report_fault.ReportFault.TheVariants as report
+use Rattle.msg_scenario.specs.declared.refusal.Refusal.{Refusal}
+use Rattle.msg_scenario.specs.declared.refusal.Refusal.TheVariants as refusal
+use Rattle.msg_scenario.specs.declared.report_fault.ReportFault.{ReportFault}
+use Rattle.msg_scenario.specs.declared.report_fault.ReportFault.TheVariants as report
 use Rattle.msgrun.specs.declared.fault.MainFault.{MainFault}
 use Rattle.msgrun.specs.declared.fault.MainFault.TheVariants.{Words, Input, Refused, Report}
 
@@ -28,8 +28,13 @@ abbrev pub refusal_line : Refusal → List ℕ
 refusal_line refusal.NotJson = codes "msgrun: refused 1 NotJson\n"
 refusal_line refusal.Shape = codes "msgrun: refused 2 Shape\n"
 refusal_line refusal.UnknownKey = codes "msgrun: refused 3 UnknownKey\n"
+refusal_line refusal.BadName = codes "msgrun: refused 4 BadName\n"
+refusal_line refusal.TwiceNamed = codes "msgrun: refused 5 TwiceNamed\n"
 refusal_line refusal.BadNumber = codes "msgrun: refused 6 BadNumber\n"
 refusal_line refusal.TooMany = codes "msgrun: refused 7 TooMany\n"
+refusal_line refusal.UnknownName = codes "msgrun: refused 8 UnknownName\n"
+refusal_line (refusal.Clash system) = codes "msgrun: refused 9 Clash\n"
+refusal_line (refusal.Cycle system) = codes "msgrun: refused 10 Cycle\n"
 refusal_line refusal.NoMemory = codes "msgrun: want of memory\n"
 
 -- the line of answers that weren't printed to their end
@@ -55,7 +60,12 @@ status_of (Input input.NoMemory) = 1
 status_of (Refused refusal.NotJson) = 2
 status_of (Refused refusal.Shape) = 2
 status_of (Refused refusal.UnknownKey) = 2
+status_of (Refused refusal.BadName) = 2
+status_of (Refused refusal.TwiceNamed) = 2
 status_of (Refused refusal.BadNumber) = 2
 status_of (Refused refusal.TooMany) = 2
+status_of (Refused refusal.UnknownName) = 2
+status_of (Refused (refusal.Clash system)) = 2
+status_of (Refused (refusal.Cycle system)) = 2
 status_of (Refused refusal.NoMemory) = 1
 status_of (Report fault) = 1

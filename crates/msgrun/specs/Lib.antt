@@ -1,13 +1,4 @@
 pub mod Asked
-pub mod CallsText
-pub mod Check
-pub mod Checks
 pub mod CommandLine
-pub mod Cursors
-pub mod Denotes
 pub mod Faults
 pub mod Inputs
-pub mod Json
-pub mod Running
-pub mod Sinks
-pub mod Walk

@@ -1,7 +1,6 @@
 use crate::input::InputFault;
-use crate::refusal::Refusal;
-use crate::report_fault::ReportFault;
 use crate::words::WordFault;
+use msg_scenario::{Refusal, ReportFault};
 use thiserror::Error;
 
 mod print;

@@ -6,30 +6,18 @@
 ghost use Rattle.std.specs.Prelude.{◌≡◌};
 ghost use Rattle.msgrun.specs.Faults.{status_of};
 
-mod call;
-mod calls;
-#[cfg(test)]
-mod fakes;
 mod fault;
 mod input;
-mod memory_sink;
-mod refusal;
-mod report_fault;
-mod sink;
-mod std_sink;
-mod values;
 mod words;
 
-use calls::{read_calls, run_calls};
 use fault::{MainFault, print_fault};
 use input::{InputFault, read_all};
-use sink::put_all;
+use msg_scenario::{StdSink, put_all, read_calls, run_calls};
 use std::env::Env;
 use std::fs::Files;
 use std::io::{ErrorKind, Input, Print};
 use std::process::ExitCode;
 use std::{env, fs, io};
-use std_sink::StdSink;
 use words::{Action, WordFault, parse_words};
 
 fn main(rt: HostRuntime) -> ExitCode {

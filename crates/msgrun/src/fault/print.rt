@@ -1,13 +1,11 @@
 ghost use Rattle.std.specs.Prelude.{◌≡◌};
-ghost use Rattle.msgrun.specs.Sinks.{TakesUnlessFailed};
+ghost use Rattle.msg_scenario.specs.Sinks.{TakesUnlessFailed};
 ghost use Rattle.msgrun.specs.Faults.{line_of, words_line, input_line, refusal_line, report_line, status_of};
 
 use crate::fault::MainFault;
 use crate::input::InputFault;
-use crate::refusal::Refusal;
-use crate::report_fault::ReportFault;
-use crate::sink::{Sink, put_all};
 use crate::words::WordFault;
+use msg_scenario::{Refusal, ReportFault, Sink, put_all};
 
 /// Writes the fault's line, and gives the status that the program ends with. It takes no memory.
 pub fn print_fault<S: Sink>(fault: &MainFault, sink: &mut S) -> u8
@@ -57,8 +55,13 @@ fn refusal_line(refusal: Refusal) -> &'static [u8]
         Refusal::NotJson => b"msgrun: refused 1 NotJson\n",
         Refusal::Shape => b"msgrun: refused 2 Shape\n",
         Refusal::UnknownKey => b"msgrun: refused 3 UnknownKey\n",
+        Refusal::BadName => b"msgrun: refused 4 BadName\n",
+        Refusal::TwiceNamed => b"msgrun: refused 5 TwiceNamed\n",
         Refusal::BadNumber => b"msgrun: refused 6 BadNumber\n",
         Refusal::TooMany => b"msgrun: refused 7 TooMany\n",
+        Refusal::UnknownName => b"msgrun: refused 8 UnknownName\n",
+        Refusal::Clash(_) => b"msgrun: refused 9 Clash\n",
+        Refusal::Cycle(_) => b"msgrun: refused 10 Cycle\n",
         Refusal::NoMemory => b"msgrun: want of memory\n",
     }
 }

@@ -1,26 +1,55 @@
-use crate::fakes::Narrow;
+ghost use Rattle.std.specs.Prelude.{None};
+
 use crate::fault::{MainFault, print_fault};
 use crate::input::InputFault;
-use crate::memory_sink::MemorySink;
-use crate::refusal::Refusal;
-use crate::report_fault::ReportFault;
-use crate::sink::PutFault;
 use crate::words::WordFault;
+use msg_scenario::{MemorySink, PutFault, Refusal, ReportFault, Sink};
 use std::alloc::Global;
 use std::process::Abort;
 use std::test::Fail;
+
+/// Takes two bytes at each put and so many in all, and then fails.
+#[derive(Drop)]
+struct Narrow {
+    taken: MemorySink,
+    left: usize,
+    failed: u64,
+}
+
+impl Sink for Narrow {
+    ghost contents = { λ _. None };
+
+    ghost failures = { λ s. s.failed };
+
+    fn put(&mut self, piece: &[u8]) -> Result<usize, PutFault> {
+        let n = piece.len().min(2).min(self.left);
+        let put = self.taken.put(&piece[..n]);
+        if n == piece.len() || n > 0 && put == Ok(n) {
+            self.left -= n;
+            return Ok(n);
+        }
+        self.failed = self.failed.saturating_add(1);
+        Err(PutFault)
+    }
+}
 
 /// The fault prints this line and gives this status, which a sink that fails doesn't change.
 fn expect_line(rt: &impl Abort, fault: MainFault, line: &str, status: u8) {
     let mut sink = MemorySink::new();
     assert_eq!(rt; print_fault(&fault, &mut sink), status);
     assert_eq!(rt; sink.bytes(), line.as_bytes());
-    let mut broken = Narrow::new(1, 0, false);
-    assert_eq!(rt; print_fault(&fault, &mut broken), status);
-    assert!(rt; broken.taken.bytes().is_empty());
-    let mut narrow = Narrow::new(2, 9, true);
-    assert_eq!(rt; print_fault(&fault, &mut narrow), status);
-    assert_eq!(rt; narrow.taken.bytes(), &line.as_bytes()[..line.len().min(9)]);
+    for left in [0, 9] {
+        let mut narrow = Narrow {
+            taken: MemorySink::new(),
+            left,
+            failed: 0,
+        };
+        assert_eq!(rt; print_fault(&fault, &mut narrow), status);
+        assert_eq!(rt;
+            narrow.taken.bytes(),
+            &line.as_bytes()[..line.len().min(left)]
+        );
+    }
 }
 
 fn help(alloc: Global) -> Result<MainFault, Fail> {
@@ -49,8 +78,13 @@ fn lines(rt: HostRuntime) -> Result<(), Fail> {
         (Refusal::NotJson, "msgrun: refused 1 NotJson\n", 2),
         (Refusal::Shape, "msgrun: refused 2 Shape\n", 2),
         (Refusal::UnknownKey, "msgrun: refused 3 UnknownKey\n", 2),
+        (Refusal::BadName, "msgrun: refused 4 BadName\n", 2),
+        (Refusal::TwiceNamed, "msgrun: refused 5 TwiceNamed\n", 2),
         (Refusal::BadNumber, "msgrun: refused 6 BadNumber\n", 2),
         (Refusal::TooMany, "msgrun: refused 7 TooMany\n", 2),
+        (Refusal::UnknownName, "msgrun: refused 8 UnknownName\n", 2),
+        (Refusal::Clash(3), "msgrun: refused 9 Clash\n", 2),
+        (Refusal::Cycle(3), "msgrun: refused 10 Cycle\n", 2),
         (Refusal::NoMemory, "msgrun: want of memory\n", 1),
     ] {
         expect_line(&rt, MainFault::Refused(refusal), line, status);
@@ -84,8 +118,17 @@ fn texts(rt: HostRuntime) -> Result<(), Fail> {
         (Refusal::NotJson, "1 NotJson", "refused 1 NotJson"),
         (Refusal::Shape, "2 Shape", "refused 2 Shape"),
         (Refusal::UnknownKey, "3 UnknownKey", "refused 3 UnknownKey"),
+        (Refusal::BadName, "4 BadName", "refused 4 BadName"),
+        (Refusal::TwiceNamed, "5 TwiceNamed", "refused 5 TwiceNamed"),
         (Refusal::BadNumber, "6 BadNumber", "refused 6 BadNumber"),
         (Refusal::TooMany, "7 TooMany", "refused 7 TooMany"),
+        (
+            Refusal::UnknownName,
+            "8 UnknownName",
+            "refused 8 UnknownName",
+        ),
+        (Refusal::Clash(3), "9 Clash(3)", "refused 9 Clash(3)"),
+        (Refusal::Cycle(3), "10 Cycle(3)", "refused 10 Cycle(3)"),
         (Refusal::NoMemory, "11 NoMemory", "refused 11 NoMemory"),
     ] {
         let text = format!(in alloc; "{refusal}")?;

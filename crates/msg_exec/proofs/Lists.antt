@@ -1,0 +1,77 @@
+-- What holds of each element of a list, and of each pair, and what stands where.
+use Rattle.std.proofs.Common.{◌≡◌, ℕ, zero, suc, ◌<◌, ◌+◌, ◌⊎◌, inl, inr, List, [], ◌∷◌, ◌++◌, length, get_or, refl, ap, subst, arith, length-append, get_or-append-add}
+use Rattle.std.specs.Prelude.{All, AllPairs, Contains}
+use Rattle.std.proofs.lemmas.List.{get_or_append_left}
+use Rattle.std.proofs.lemmas.List.Elements.{All-cons, All-head, All-tail}
+use Rattle.std.proofs.lemmas.List.Kept.{AllPairs-cons}
+
+module _ {X : Type 0} where
+  pub pairs_head : (R : X → X → Type 0) (x : X) (xs : List X) → AllPairs R (x ∷ xs) → All (R x) xs
+  pairs_head R x xs r k d lt = r 0 (suc k) d (omega arith) (omega arith)
+
+  pub pairs_tail : (R : X → X → Type 0) (x : X) (xs : List X) → AllPairs R (x ∷ xs) → AllPairs R xs
+  pairs_tail R x xs r i j d lt l = r (suc i) (suc j) d (omega arith) (omega arith)
+
+  -- ---- of two lists one after the other
+
+  pub all_left : (P : X → Type 0) (xs ys : List X) → All P (xs ++ ys) → All P xs
+  all_left P xs ys h k d lt = subst P (get_or_append_left xs ys d k lt) (h k d (omega (arith, length-append xs ys)))
+
+  pub all_right : (P : X → Type 0) (xs ys : List X) → All P (xs ++ ys) → All P ys
+  all_right P xs ys h k d lt = subst P (get_or-append-add xs ys k d) (h (length xs + k) d (omega (arith, length-append xs ys)))
+
+  pub pairs_left : (R : X → X → Type 0) (xs ys : List X) → AllPairs R (xs ++ ys) → AllPairs R xs
+  pairs_left R [] ys r = λ i j d lt l. absurd (omega arith)
+  pairs_left R (x ∷ xs) ys r = AllPairs-cons R x xs (all_left (R x) xs ys (pairs_head R x (xs ++ ys) r)) (pairs_left R xs ys (pairs_tail R x (xs ++ ys) r))
+
+  pub pairs_right : (R : X → X → Type 0) (xs ys : List X) → AllPairs R (xs ++ ys) → AllPairs R ys
+  pairs_right R [] ys r = r
+  pairs_right R (x ∷ xs) ys r = pairs_right R xs ys (pairs_tail R x (xs ++ ys) r)
+
+  -- ---- of a list without an element in the middle
+
+  pub all_middle : (P : X → Type 0) (xs : List X) (y : X) (ys : List X) → All P (xs ++ y ∷ ys) → P y × All P (xs ++ ys)
+  all_middle P [] y ys h = (All-head P y ys h, All-tail P y ys h)
+  all_middle P (x ∷ xs) y ys h =
+      let r = all_middle P xs y ys (All-tail P x (xs ++ y ∷ ys) h) in
+      (r.0, All-cons P x (xs ++ ys) (All-head P x (xs ++ y ∷ ys) h) r.1)
+
+  pub pairs_middle : (R : X → X → Type 0) (xs : List X) (y : X) (ys : List X) → AllPairs R (xs ++ y ∷ ys) → All (λ x. R x y) xs × AllPairs R (xs ++ ys)
+  pairs_middle R [] y ys h = (λ k d lt. absurd (omega arith), pairs_tail R y ys h)
+  pairs_middle R (x ∷ xs) y ys h =
+      let r = pairs_middle R xs y ys (pairs_tail R x (xs ++ y ∷ ys) h) in
+      let e = all_middle (R x) xs y ys (pairs_head R x (xs ++ y ∷ ys) h) in
+      (All-cons (λ z. R z y) x xs e.0 r.0, AllPairs-cons R x (xs ++ ys) e.1 r.1)
+
+  -- ---- what stands in a list
+
+  pub Contains-first : (x : X) (xs : List X) → Contains (x ∷ xs) x
+  Contains-first x xs = (0, omega arith, refl)
+
+  pub Contains-later : (x : X) (xs : List X) (y : X) → Contains xs y → Contains (x ∷ xs) y
+  Contains-later x xs y h = (suc h.0, omega (arith, h.1), h.2)
+
+  at_place : (x : X) (xs : List X) (y : X) (k : ℕ) → k < length (x ∷ xs) → get_or (x ∷ xs) k y ≡ y → (x ≡ y) ⊎ Contains xs y
+  at_place x xs y zero h e = inl e
+  at_place x xs y (suc k) h e = inr (k, omega arith, e)
+
+  pub Contains-either : (x : X) (xs : List X) (y : X) → Contains (x ∷ xs) y → (x ≡ y) ⊎ Contains xs y
+  Contains-either x xs y h = at_place x xs y h.0 h.1 h.2
+
+  pub Contains-none : (y : X) → Contains {X = X} [] y → ⊥
+  Contains-none y h = absurd (omega (arith, h.1))
+
+  -- a list cut where an element stands
+  pub record Cut (xs : List X) (x : X) : Type 0 where
+    pub before : List X
+    pub rest : List X
+    pub is : xs ≡ before ++ x ∷ rest
+
+  pub cut : (xs : List X) (x : X) → Contains xs x → Cut xs x
+  cut [] x h = absurd (Contains-none x h)
+  cut (y ∷ ys) x h = elim (Contains-either y ys x h) [
+    | inl e ↦ record { before = []; rest = ys; is = ap (λ z. z ∷ ys) e }
+    | inr later ↦
+        let c : Cut ys x = cut ys x later in
+        record { before = y ∷ c.before; rest = c.rest; is = ap (λ zs. y ∷ zs) c.is }
+  ]

@@ -1,0 +1,10 @@
+use Rattle.std.proofs.Common.{◌≡◌, ◌++◌}
+use Rattle.msg_exec.specs.Cores.{CoreStands}
+use Rattle.msg_exec.specs.State.{State}
+use Rattle.msg_exec.proofs.Telling.{accounts_below}
+use Rattle.msg_exec.proofs.accounts.add_accounts.Given as goal
+
+abbrev pub invariant-loop-t : goal.invariant-loop-t
+invariant-loop-t g l = record {
+  so_far : (s : State) → CoreStands g.S.System.meaning l.core s → l.accounts.items ≡ l.initial.accounts.items ++ accounts_below s l.i l.t;
+}

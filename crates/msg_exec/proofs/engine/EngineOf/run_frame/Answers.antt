@@ -1,0 +1,14 @@
+use Rattle.std.proofs.Common.{refl, inr, arith}
+use Rattle.msg_exec.proofs.Engines.{core_taken, frame_run, stood_for}
+use Rattle.msg_exec.proofs.engine.EngineOf.run_frame.Goals as goal
+
+pub returns-clause-ran : goal.returns-clause-ran
+returns-clause-ran g c s stands =
+    let core = core_taken g.S.System.meaning c.args.self.now c.take.result c.in-Some.core s c.take.ensures.value c.in-Some.is stands in
+    frame_run g.S.System.meaning c.args.self.now _ c.in-Ok.core c.args.frame.now s c.in-Ok.log stands.frames refl (omega (arith, c.saturating_add-self.ensures)) (c.in-Ok.ensures.ran s core stands.frames)
+
+pub returns-clause-engine : goal.returns-clause-engine
+returns-clause-engine g c =
+    let was = stood_for g.S.System.meaning c.args.self.now c.take.result c.in-Some.core c.take.ensures.value c.in-Some.is c.requires.engine in
+    let ran = returns-clause-ran g c was.0 was.1 in
+    inr (ran.state, ran.stands)

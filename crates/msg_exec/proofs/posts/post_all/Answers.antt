@@ -1,0 +1,39 @@
+use Rattle.std.proofs.Common.{◌≡◌, ℕ, ℤ, ◌+◌, List, ◌<◌, length, sym, ap, subst, ◌∙◌, arith, take, rules, ◌∷◌, []}
+use Rattle.std.proofs.Math.Seq.{take-length}
+use mir.Val.{SFits}
+use mir.Syntax.{w64}
+use Rattle.std.proofs.lemmas.Int.{to_z-of_z}
+use Rattle.msg_buffer.specs.History.{write}
+use Rattle.msg_world.specs.declared.record.TheConstants.{HOST}
+use Rattle.msg_world.specs.Access.{OfType}
+use Rattle.msg_world.specs.Parts.{PartsStand}
+use Rattle.msg_world.specs.World.{WorldState, by, with_history}
+use Rattle.msg_system.specs.declared.reply.Reply.{Reply}
+use Rattle.msg_exec.proofs.Posting.{HasPosted, one_post_more}
+use Rattle.msg_exec.proofs.posts.post_all.Goals as goal
+
+pub post-requires : goal.post-requires
+post-requires c =
+    let p : ℕ × ℤ = c.loop-t-item.result in
+    let below : p.0 < length c.args.world.now.types = subst (λ (q : ℕ × ℤ). q.0 < length c.args.world.now.types) (sym c.loop-t-item.is) (c.requires.types c.loop-t.t-index p c.loop-t-test.true) in
+    record { home = c.loop-t.invariant.shape.there (OfType p.0) ∙ c.requires.whole (OfType p.0) below }
+
+pub loop-t-preserved : goal.loop-t-preserved
+loop-t-preserved c =
+    let p : ℕ × ℤ = c.loop-t-item.result in
+    let posted = c.in_ok-post.ensures in
+    let old = c.loop-t.invariant.shape in
+    let fits : SFits w64 p.1 = search rules in
+    let R : ℤ → Type 0 = λ z. (w : WorldState) → PartsStand c.loop-t.world w → PartsStand c.post.new.world (with_history w p.0 (write (by HOST z ∷ []) (w.histories p.0))) in
+    record {
+      so_far = λ w stands. subst (λ (rs : List Reply). HasPosted (take (c.loop-t.t-index + 1) c.args.posts.now) w c.post.new.world rs) (sym c.in_ok-push.ensures.items)
+          (one_post_more c.args.posts.now c.loop-t.t-index p w c.loop-t.world c.post.new.world c.loop-t.replies.items c.in_ok-post.field-0 c.loop-t-test.true c.loop-t-item.is
+          (c.loop-t.invariant.so_far w stands) (subst R (to_z-of_z w64 p.1 fits) posted.state) posted.reply);
+      shape = record { size = record { types = posted.shape.size.types ∙ old.size.types; resources = posted.shape.size.resources ∙ old.size.resources }; there = λ q. posted.shape.there q ∙ old.there q };
+    }
+
+pub returns-clause-state : goal.returns-clause-state
+returns-clause-state c w stands =
+    let end : c.loop-t.t-index ≡ length c.args.posts.now = omega arith in
+    let whole : take c.loop-t.t-index c.args.posts.now ≡ c.args.posts.now = ap (λ k. take k c.args.posts.now) end ∙ take-length c.args.posts.now in
+    (subst (λ xs. HasPosted xs w c.loop-t.world c.loop-t.replies.items) whole (c.loop-t.invariant.so_far w stands)).0

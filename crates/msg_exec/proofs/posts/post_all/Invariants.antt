@@ -1,0 +1,11 @@
+use Rattle.std.proofs.Common.{take}
+use Rattle.msg_world.specs.Parts.{PartsStand, SameShape}
+use Rattle.msg_world.specs.World.{WorldState}
+use Rattle.msg_exec.proofs.Posting.{HasPosted}
+use Rattle.msg_exec.proofs.posts.post_all.Given as goal
+
+abbrev pub invariant-loop-t : goal.invariant-loop-t
+invariant-loop-t l = record {
+  so_far : (w : WorldState) → PartsStand l.initial.world w → HasPosted (take l.t-index l.posts) w l.world l.replies.items;
+  shape : SameShape l.initial.world l.world;
+}

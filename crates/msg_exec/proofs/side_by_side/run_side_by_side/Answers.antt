@@ -1,0 +1,15 @@
+use Rattle.std.proofs.lemmas.Result.{IfOk-weaker}
+use Rattle.msg_exec.specs.Jobs.{MayRun}
+use Rattle.msg_exec.proofs.SharedWorld.{all_are_done, each_may}
+use Rattle.msg_exec.proofs.side_by_side.run_side_by_side.Goals as goal
+
+pub run_jobs-requires-clause-may : goal.run_jobs-requires-clause-may
+run_jobs-requires-clause-may g c κs within =
+    each_may (MayRun g.S.System.meaning) (λ b. b.job) (λ b. b.world.now) c.args.world.now _ c.args.jobs.items c.in_ok-jobs.ensures.jobs c.in_ok-jobs.ensures.world c.requires.may
+
+pub returns : goal.returns
+returns g c = record {
+  done = IfOk-weaker c.all_done.result _ _
+      (λ done ok. all_are_done g.S.System.meaning (λ b. b.job) (λ b. b.world.now) c.args.world.now c.in_ok-jobs.jobs.items c.args.jobs.items _ done.items c.in_ok-jobs.ensures.jobs c.in_ok-jobs.ensures.world c.in_ok-results.ensures.lawful ok)
+      c.all_done.ensures.done;
+}

@@ -1,0 +1,65 @@
+-- When an engine stands for a state, and what its calls do.
+use Rattle.std.specs.Prelude.{◌≡◌, ◌⊎◌, ℕ, ◌<◌, ◌++◌, All, List, length, take, Option, option_map, IsNone, IsSomeAnd, IfSome}
+use Rattle.msg_world.specs.Parts.{Parts}
+use Rattle.msg_system.specs.Systems.{Meaning}
+use Rattle.msg_exec.specs.declared.engine.EngineOf.{EngineOf}
+use Rattle.msg_exec.specs.declared.frame.Frame.{Frame}
+use Rattle.msg_exec.specs.declared.log.Log.{Log}
+use Rattle.msg_exec.specs.Cores.{CoreStands, frame_count}
+use Rattle.msg_exec.specs.Frames.{IsFrame, IsRun}
+use Rattle.msg_exec.specs.State.{State}
+use Rattle.msg_exec.specs.Tiling.{AllTiled}
+
+module _ {S : Type 0} where
+  -- a frame ended for want of memory: nothing of the engine is left
+  abbrev pub IsSpoiled : EngineOf S → Type 0
+  IsSpoiled e = IsNone e.core
+
+  -- how many frames it says that were run
+  abbrev pub frames_of : EngineOf S → ℕ
+  frames_of e = e.frames
+
+  -- its world; none where it is spoiled
+  abbrev pub world_of : EngineOf S → Option Parts
+  world_of e = option_map (λ c. c.stage.world) e.core
+
+  -- each post is to a type of its world
+  abbrev pub PostsFit : EngineOf S → Frame → Type 0
+  PostsFit e frame = IfSome e.core (λ c. All (λ p. p.0 < length c.stage.world.types) frame.posts)
+
+module _ {S : Type 0} (meaning : S → Meaning) where
+  -- Part by part, the engine is what the state says.
+  pub record StandsFor (e : EngineOf S) (s : State) : Type 0 where
+    pub core : IsSomeAnd e.core (λ c. CoreStands meaning c s)
+    pub frames : frames_of e ≡ frame_count s
+
+  -- An engine as `new` makes it, and as its calls leave it: it stands for a state, or it is spoiled.
+  abbrev pub IsEngine : EngineOf S → Type 0
+  IsEngine e = IsSpoiled e ⊎ ((s : State) × StandsFor e s)
+
+  -- From the state s the engine ran a frame: the log is the frame's on one thread, and the engine stands for the state
+  -- that it leaves.
+  pub record HasRunFrame (frame : Frame) (s : State) (log : Log) (e : EngineOf S) : Type 0 where
+    pub state : State
+    pub is_frame : IsFrame frame s log state
+    pub stands : StandsFor e state
+
+  -- From the state s the engine ran frames one after the other: their logs were appended, the engine stands for the state
+  -- that they leave, and what each reader was given tiles.
+  pub record HasRunFrames (frames : List Frame) (s : State) (before after : List Log) (e : EngineOf S) : Type 0 where
+    pub logs : List Log
+    pub state : State
+    pub appended : after ≡ before ++ logs
+    pub is_run : IsRun frames s logs state
+    pub stands : StandsFor e state
+    pub tiled : AllTiled frames logs s state
+
+  -- From the state s the engine ran some of the frames, the first ones, and then there was no memory: the logs of those
+  -- were appended, and it counted those.
+  pub record HasRunSome (frames : List Frame) (s : State) (before after : List Log) (e : EngineOf S) : Type 0 where
+    pub logs : List Log
+    pub state : State
+    pub appended : after ≡ before ++ logs
+    pub is_run : IsRun (take (length logs) frames) s logs state
+    pub counted : frames_of e ≡ frame_count state
+    pub spoiled : IsSpoiled e

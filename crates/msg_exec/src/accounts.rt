@@ -1,0 +1,124 @@
+// What readers were given, for callers.
+ghost use Rattle.std.specs.Prelude.{◌≡◌, ◌<◌, ◌≤◌, ◌++◌, ◌^◌, ℕ, IfSome, OnOk, IfOk, IsSome, length};
+ghost use Rattle.msg_buffer.specs.History.{History, count};
+ghost use Rattle.msg_buffer.specs.StandsFor.{StandsFor as BufferStandsFor};
+ghost use Rattle.msg_world.specs.declared.record.Record.{Record};
+ghost use Rattle.msg_world.specs.Access.{OfType};
+ghost use Rattle.msg_world.specs.Parts.{slot};
+ghost use Rattle.msg_exec.specs.Accounts.{account_of, accounts_of, accounts_of_system};
+ghost use Rattle.msg_exec.specs.Cores.{CoreStands};
+ghost use Rattle.msg_exec.specs.Keeping.{kept};
+ghost use Rattle.msg_exec.specs.State.{State};
+
+use crate::engine_core::Core;
+use crate::{Account, EngineOf, NoMemory, RunFault, Totals};
+use msg_system::System;
+use msg_world::{TypeNo, World};
+use std::alloc::Global;
+
+/// A law: no type has more messages than its count can tell.
+fn count_is_told(world: &World, t: TypeNo)
+    ensures told { IfSome (slot (OfType t) world.now)
+        (λ k. (h : History Record) → BufferStandsFor k h → count h < 2 ^ 64) }
+{
+    if let Some(messages) = world.messages(t) {
+        messages.count();
+    }
+}
+
+/// The account of a reader with these totals.
+fn account<S: System>(core: &Core<S>, system: u32, of_type: TypeNo, totals: &Totals) -> Account
+    ensures account { (s : State) → CoreStands S.meaning core.now s → of_type < s.types
+        → totals.now ≡ kept ((s.members system).totals of_type)
+        → result ≡ account_of s system of_type }
+{
+    count_is_told(&core.stage.world, of_type);
+    let Totals {
+        start,
+        got,
+        missed,
+        cleared,
+    } = *totals;
+    let place = start
+        .unwrap_or(0)
+        .saturating_add(got)
+        .saturating_add(missed)
+        .saturating_add(cleared);
+    Account {
+        system,
+        of_type,
+        start,
+        got,
+        missed,
+        cleared,
+        place,
+    }
+}
+
+/// Appends the accounts of system i.
+fn add_accounts<S: System>(
+    core: &Core<S>,
+    i: usize,
+    accounts: &mut Vec<Account>,
+) -> Result<(), NoMemory>
+    requires there { i < length core.now.stage.actors.items }
+    ensures added { OnOk result ((s : State) → CoreStands S.meaning core.now s
+        → accounts.new.items ≡ accounts.old.items ++ accounts_of_system s i) }
+{
+    let (Some(actor), Some(totals)) = (&core.stage.actors[i], core.stage.totals.get(i)) else {
+        return Ok(());
+    };
+    let Ok(system) = u32::try_from(i) else {
+        return Ok(());
+    };
+    let access = actor.system.access();
+    for t in 0..core.stage.world.types() {
+        let (Some(of_type), Some(of_it)) = (TypeNo::new(t as u32), totals.get(t)) else {
+            return Ok(());
+        };
+        if access.reads_type(of_type) {
+            accounts.push(account(core, system, of_type, of_it))?;
+        }
+    }
+    Ok(())
+}
+
+/// The accounts of all systems.
+fn accounts_in<S: System>(alloc: Global, core: &Core<S>) -> Result<Vec<Account>, NoMemory>
+    ensures accounts { IfOk result (λ v. (s : State) → CoreStands S.meaning core.now s
+        → v.items ≡ accounts_of s) }
+{
+    let mut accounts = Vec::new(alloc);
+    for i in 0..core.stage.actors.len() {
+        add_accounts(core, i, &mut accounts)?;
+    }
+    Ok(accounts)
+}
+
+impl<S: System> EngineOf<S> {
+    ghost use Rattle.std.specs.Prelude.{◌↔◌, All, Err};
+    ghost use Rattle.msg_exec.specs.declared.refusals.RunFault.TheVariants.{Spoiled};
+    ghost use Rattle.msg_exec.specs.Accounts.{AddsUp};
+    ghost use Rattle.msg_exec.specs.Engines.{IsEngine, IsSpoiled, StandsFor};
+
+    /// What each reader was given: for each system, by number, and each type that its program reads,
+    /// by number.
+    ///
+    /// # Errors
+    ///
+    /// `Spoiled`, and `NoMemory`.
+    pub fn accounts(&self) -> Result<Vec<Account>, RunFault>
+        ensures accounts { IfOk result (λ v. (s : State) → StandsFor S.meaning self.now s
+            → v.items ≡ accounts_of s) }
+        ensures add_up { IfOk result (λ v. IsEngine S.meaning self.now → All AddsUp v.items) }
+        ensures spoiled { (result ≡ Err Spoiled) ↔ IsSpoiled self.now }
+    {
+        let Some(core) = &self.core else {
+            return Err(RunFault::Spoiled);
+        };
+        match accounts_in(self.alloc, core) {
+            Ok(accounts) => Ok(accounts),
+            Err(NoMemory) => Err(RunFault::NoMemory),
+        }
+    }
+}

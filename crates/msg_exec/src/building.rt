@@ -1,0 +1,131 @@
+// The parts of a new engine.
+ghost use Rattle.std.specs.Prelude.{◌≡◌, ◌<◌, ◌≤◌, ◌↔◌, ℕ, IfOk, IfErr, OnOk, IsTrue, IsSomeAnd, Some, length, map, slice_get};
+ghost use Rattle.msg_order.specs.Graph.{IsAcyclic};
+ghost use Rattle.msg_order.specs.Order.{NameSystemsBelow};
+ghost use Rattle.msg_system.specs.Conditions.{new_asked};
+ghost use Rattle.msg_system.specs.Needs.{IsAccessOf, program_needs};
+ghost use Rattle.msg_exec.specs.Building.{AreNoTotals, EachIs, HasClash, IsAccessAt, IsActorAt, RefusesForClash, RefusesForCycle, all_rules, new_job};
+ghost use Rattle.msg_exec.specs.Entries.{no_totals};
+ghost use Rattle.msg_exec.specs.Jobs.{job_state};
+ghost use Rattle.msg_exec.specs.Keeping.{totals_at};
+
+use crate::job::Actor;
+use crate::{BuildRefusal, NoMemory, Place, Totals};
+use msg_order::{Plan, PlanRefusal, Rule};
+use msg_system::{Condition, Guard, System, job_access};
+use msg_world::Access;
+use std::alloc::Global;
+
+/// Its program's access, and whether that is a clash.
+fn own_access<S: System>(system: &S) -> (Access, bool)
+    ensures access { IsAccessOf (program_needs (S.meaning system.now).program.ops) result.0 }
+    ensures clash { IsTrue result.1 ↔ HasClash (S.meaning system.now) }
+    ensures few_ops { length (S.meaning system.now).program.ops ≤ 64 }
+{
+    let own = system.access();
+    let clash = own.is_clash();
+    (own, clash)
+}
+
+/// The access of each system's job, unless a system's own access is a clash.
+pub(crate) fn accesses_of<S: System>(
+    alloc: Global,
+    systems: &[S],
+    places: &[Place],
+) -> Result<Vec<Access>, BuildRefusal>
+    requires few { length systems.now ≤ 256 }
+    requires one_place_each { length places.now ≡ length systems.now }
+    ensures as_many { IfOk result (λ v. length v.items ≡ length systems.now) }
+    ensures accesses { IfOk result (λ v. EachIs (IsAccessAt S.meaning systems.now places.now) v.items) }
+    ensures clash { IfErr result (RefusesForClash S.meaning systems.now) }
+{
+    let mut accesses = Vec::new(alloc);
+    for i in 0..systems.len() {
+        let (own, clash) = own_access(&systems[i]);
+        if clash {
+            return Err(BuildRefusal::Clash(i as u32));
+        }
+        let access = job_access(&own, places[i].conditions.as_slice());
+        let Ok(()) = accesses.push(access) else {
+            return Err(BuildRefusal::NoMemory);
+        };
+    }
+    Ok(accesses)
+}
+
+/// The frame with which each system joins.
+pub(crate) fn joins_of(alloc: Global, places: &[Place]) -> Result<Vec<u32>, NoMemory>
+    ensures joins { IfOk result (λ v. v.items ≡ map (λ place. place.join) places.now) }
+{
+    let mut joins = Vec::new(alloc);
+    for place in places {
+        joins.push(place.join)?;
+    }
+    Ok(joins)
+}
+
+/// Conditions that were asked nothing yet.
+fn guards_of(alloc: Global, conditions: &[Condition]) -> Result<Vec<Guard>, NoMemory>
+    ensures guards { IfOk result (λ v. v.items ≡ map new_asked conditions.now) }
+{
+    let mut guards = Vec::new(alloc);
+    for condition in conditions {
+        guards.push(Guard::new(*condition))?;
+    }
+    Ok(guards)
+}
+
+/// Each system with the conditions of its place.
+pub(crate) fn actors_of<S: System>(
+    alloc: Global,
+    systems: Vec<S>,
+    places: &[Place],
+) -> Result<Vec<Option<Actor<S>>>, NoMemory>
+    requires one_place_each { length places.now ≡ length systems.items }
+    ensures as_many { IfOk result (λ v. length v.items ≡ length systems.items) }
+    ensures actors { IfOk result (λ v. EachIs (IsActorAt S.meaning systems.items places.now) v.items) }
+{
+    let mut actors = Vec::new(alloc);
+    for system in systems {
+        let guards = guards_of(alloc, places[actors.len()].conditions.as_slice())?;
+        actors.push(Some(Actor { system, guards }))?;
+    }
+    Ok(actors)
+}
+
+/// For each system the totals of readers that haven't joined, one for each type.
+pub(crate) fn totals_of(
+    alloc: Global,
+    systems: usize,
+    types: usize,
+) -> Result<Vec<Vec<Totals>>, NoMemory>
+    ensures as_many { IfOk result (λ v. length v.items ≡ systems) }
+    ensures totals { IfOk result (λ v. EachIs (λ i w. AreNoTotals types w.items) v.items) }
+{
+    let mut totals = Vec::new(alloc);
+    for _system in 0..systems {
+        totals.push(Vec::from_elem(alloc, Totals::none(), types)?)?;
+    }
+    Ok(totals)
+}
+
+/// Refuses rules that make a cycle among all systems.
+pub(crate) fn check_rules(
+    alloc: Global,
+    accesses: &[Access],
+    rules: &[Rule],
+) -> Result<(), BuildRefusal>
+    requires few { length accesses.now ≤ 256 }
+    requires in_range { NameSystemsBelow (length accesses.now) rules.now }
+    ensures acyclic { OnOk result (IsAcyclic (all_rules (length accesses.now) rules.now)) }
+    ensures cycle { IfErr result (RefusesForCycle (length accesses.now) rules.now) }
+{
+    let Ok(all) = Vec::from_elem(alloc, true, accesses.len()) else {
+        return Err(BuildRefusal::NoMemory);
+    };
+    match Plan::build(alloc, accesses, rules, &all) {
+        Ok(_plan) => Ok(()),
+        Err(PlanRefusal::Cycle(system)) => Err(BuildRefusal::Cycle(system)),
+        Err(PlanRefusal::NoMemory) => Err(BuildRefusal::NoMemory),
+    }
+}

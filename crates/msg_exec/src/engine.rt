@@ -1,0 +1,199 @@
+use crate::building::{accesses_of, actors_of, check_rules, joins_of, totals_of};
+use crate::engine_core::{Core, plan_by, run_one};
+use crate::joining::join_those;
+use crate::reader_laws::{first_states_are_sound, readers_tile};
+use crate::stage::Stage;
+use crate::{BuildRefusal, Frame, Gate, Log, Place, RunFault, Workers};
+use msg_order::Rule;
+use msg_order::laws::fewer_systems_make_no_cycle;
+use msg_system::System;
+use msg_world::World;
+use std::alloc::Global;
+use std::thread::Threads;
+
+/// Systems over one world, which run frame by frame.
+///
+/// After want of memory in a frame the engine is spoiled: every later frame call answers so.
+#[derive(Drop)]
+pub struct EngineOf<S> {
+    pub(crate) alloc: Global,
+    pub(crate) core: Option<Core<S>>,
+    pub(crate) frames: u32,
+}
+
+/// An engine of boxed systems.
+pub type Engine = EngineOf<Box<dyn System>>;
+
+impl<S: System> EngineOf<S> {
+    ghost use Rattle.std.specs.Prelude.{◌≡◌, ◌-◌, ◌^◌, ◌+◌, ◌↔◌, All, min, IfOk, OnOk, Err, Ok};
+    ghost use Rattle.std.specs.Option.{option_copied};
+    ghost use Rattle.msg_exec.specs.declared.refusals.RunFault.TheVariants.{Spoiled, NoMemory};
+    ghost use Rattle.std.specs.Prelude.{◌≤◌, IfErr, length, map};
+    ghost use Rattle.msg_world.specs.Parts.{IsWhole, PartsStand};
+    ghost use Rattle.msg_world.specs.World.{WorldState};
+    ghost use Rattle.msg_order.specs.Graph.{IsAcyclic};
+    ghost use Rattle.msg_order.specs.Order.{NameSystemsBelow};
+    ghost use Rattle.msg_exec.specs.Building.{EachIs, HasClash, MayBeAdded, RefusesFor, all_rules};
+    ghost use Rattle.msg_exec.specs.Frames.{first_state};
+    ghost use Rattle.msg_exec.specs.Engines.{HasRunFrame, HasRunFrames, HasRunSome, IsEngine, IsSpoiled, PostsFit, StandsFor, frames_of, world_of};
+    ghost use Rattle.msg_exec.specs.State.{State};
+
+    /// An engine with no frame run. The systems go by number, in order of addition, and each has its
+    /// place; those of join 1 have joined, and start at 0 or at the counts of this moment.
+    ///
+    /// # Errors
+    ///
+    /// `Clash` with the lowest system that reads and writes one type; else `Cycle` with the lowest
+    /// system from which the rules lead back to it; and `NoMemory`. The world and the systems are
+    /// dropped then.
+    pub fn new(
+        alloc: Global,
+        world: World,
+        systems: Vec<S>,
+        places: Vec<Place>,
+        rules: Vec<Rule>,
+    ) -> Result<EngineOf<S>, BuildRefusal>
+        requires whole { IsWhole world }
+        requires few { length systems.items ≤ 256 }
+        requires one_place_each { length places.items ≡ length systems.items }
+        requires in_range { NameSystemsBelow (length systems.items) rules.items }
+        requires each { EachIs (MayBeAdded S.meaning world places.items) systems.items }
+        ensures meaning { IfOk result (λ e. (w : WorldState) → PartsStand world w
+            → StandsFor S.meaning e
+            (first_state (map S.meaning systems.items) places.items rules.items (length world.types) w)) }
+        ensures engine { IfOk result (IsEngine S.meaning) }
+        ensures no_clash { OnOk result (EachIs (λ i x. ¬ HasClash (S.meaning x)) systems.items) }
+        ensures no_cycle { OnOk result (IsAcyclic (all_rules (length systems.items) rules.items)) }
+        ensures refusal { IfErr result (RefusesFor S.meaning systems.items rules.items) }
+    {
+        first_states_are_sound();
+        fewer_systems_make_no_cycle();
+        world.stands_for_some();
+        let accesses = accesses_of(alloc, &systems, &places)?;
+        if let Err(refusal) = check_rules(alloc, &accesses, &rules) {
+            return Err(refusal);
+        }
+        let joins = joins_of(alloc, &places)?;
+        let plan = plan_by(alloc, &accesses, &rules, &joins, 1)?;
+        let totals = totals_of(alloc, systems.len(), world.types())?;
+        let actors = actors_of(alloc, systems, &places)?;
+        let mut stage = Stage {
+            world,
+            actors,
+            accesses,
+            totals,
+        };
+        join_those(&mut stage, &joins, 1);
+        let core = Core {
+            stage,
+            joins,
+            rules,
+            plan,
+        };
+        Ok(EngineOf {
+            alloc,
+            core: Some(core),
+            frames: 0,
+        })
+    }
+
+    /// Runs one frame: those that join do so, the types are updated, the host's posts are written, and
+    /// all that have joined take their turns.
+    ///
+    /// # Errors
+    ///
+    /// `Spoiled`, and then nothing has changed; `NoMemory`, and then the engine is spoiled.
+    pub fn run_frame<R: Threads + Sync, G: Gate>(
+        &mut self,
+        rt: &R,
+        frame: &Frame,
+        workers: Workers,
+        gate: &G,
+    ) -> Result<Log, RunFault>
+        requires engine { IsEngine S.meaning self.old }
+        requires posts { PostsFit self.old frame.now }
+
+        // Whatever the workers and the gate: the log is that of one thread.
+        ensures ran { IfOk result (λ log. (s : State) → StandsFor S.meaning self.old s
+            → HasRunFrame S.meaning frame.now s log self.new) }
+        ensures counted { OnOk result
+            (frames_of self.new ≡ min (frames_of self.old + 1) (2 ^ 32 - 1)) }
+        ensures spoiled { (result ≡ Err Spoiled) ↔ IsSpoiled self.old }
+        ensures unchanged { result ≡ Err Spoiled → self.new ≡ self.old }
+        ensures no_memory { result ≡ Err NoMemory → IsSpoiled self.new }
+        ensures not_counted { result ≡ Err NoMemory → frames_of self.new ≡ frames_of self.old }
+        ensures engine { IsEngine S.meaning self.new }
+    {
+        let Some(core) = self.core.take() else {
+            return Err(RunFault::Spoiled);
+        };
+        let Ok((core, log)) = run_one(rt, self.alloc, core, self.frames, frame, workers, gate)
+        else {
+            return Err(RunFault::NoMemory);
+        };
+        self.core = Some(core);
+        self.frames = self.frames.saturating_add(1);
+        Ok(log)
+    }
+
+    /// Runs frames one after the other, and appends the log of each whole one.
+    ///
+    /// # Errors
+    ///
+    /// As for `run_frame`. After `NoMemory` the logs of the frames that were run before stand in `out`.
+    pub fn run_frames<R: Threads + Sync, G: Gate>(
+        &mut self,
+        rt: &R,
+        frames: &[Frame],
+        workers: Workers,
+        gate: &G,
+        out: &mut Vec<Log>,
+    ) -> Result<(), RunFault>
+        requires engine { IsEngine S.meaning self.old }
+        requires posts { All (PostsFit self.old) frames.now }
+
+        // Whatever the workers and the gate: the logs are those of one thread over lists of messages
+        // that only grow, and each reader's reads and clears tile.
+        ensures ran { OnOk result ((s : State) → StandsFor S.meaning self.old s
+            → HasRunFrames S.meaning frames.now s out.old.items out.new.items self.new) }
+        ensures spoiled { (result ≡ Err Spoiled) ↔ IsSpoiled self.old }
+        ensures unchanged { result ≡ Err Spoiled → self.new ≡ self.old }
+        ensures nothing_appended { result ≡ Err Spoiled → out.new ≡ out.old }
+        ensures no_memory { result ≡ Err NoMemory → (s : State) → StandsFor S.meaning self.old s
+            → HasRunSome S.meaning frames.now s out.old.items out.new.items self.new }
+        ensures engine { IsEngine S.meaning self.new }
+    {
+        readers_tile();
+        if self.core.is_none() {
+            return Err(RunFault::Spoiled);
+        }
+        for frame in frames {
+            if out.reserve(1).is_err() {
+                self.core = None;
+                return Err(RunFault::NoMemory);
+            }
+            let log = self.run_frame(rt, frame, workers, gate)?;
+            let Ok(()) = out.push(log) else {
+                unreachable!()
+            };
+        }
+        Ok(())
+    }
+
+    /// Its world; None where it is spoiled.
+    pub fn world(&self) -> Option<&World>
+        ensures world { option_copied result ≡ world_of self.now }
+    {
+        match &self.core {
+            Some(core) => Some(&core.stage.world),
+            None => None,
+        }
+    }
+
+    /// How many whole frames were run. It stays at the greatest number.
+    pub fn frames_run(&self) -> u32
+        ensures frames { result ≡ frames_of self.now }
+    {
+        self.frames
+    }
+}

@@ -1,0 +1,9 @@
+use crate::Items;
+use msg_system::{Condition, Reply};
+use msg_world::TypeNo;
+
+/// What the host posts as a frame begins: values, each to a type.
+#[derive(Debug, Drop)]
+pub struct Frame {
+    pub posts: Items<(TypeNo, i64)>,
+}

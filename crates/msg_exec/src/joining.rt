@@ -1,0 +1,107 @@
+// Systems join.
+ghost use Rattle.std.specs.Prelude.{◌≡◌, ◌<◌, ◌≤◌, ℕ, length, map, IfSome, IsSomeAnd};
+ghost use Rattle.msg_system.specs.Conditions.{asked_started};
+ghost use Rattle.msg_system.specs.Systems.{start_place};
+ghost use Rattle.msg_exec.specs.Entries.{totals_from};
+ghost use Rattle.msg_exec.specs.Frames.{job_begun, with_joining};
+ghost use Rattle.msg_exec.specs.Jobs.{job_state};
+ghost use Rattle.msg_exec.specs.Keeping.{first_place, totals_at};
+ghost use Rattle.msg_exec.specs.Stages.{AreJoins, HaveReadNothing, StageStands};
+ghost use Rattle.msg_exec.specs.State.{State};
+
+use crate::Totals;
+use crate::job::Actor;
+use crate::stage::Stage;
+use msg_system::{Guard, Start, System};
+use msg_world::{Counts, TypeNo};
+
+/// Sets the cursors of conditions to where they start.
+fn start_guards(guards: &mut [Guard], counts: &Counts, start: Start)
+    ensures started { guards.new ≡ map (asked_started start counts.now) guards.old }
+{
+    for guard in guards.iter_mut() {
+        guard.start(counts, start);
+    }
+}
+
+/// Sets its cursors and those of its conditions to where they start.
+fn start<S: System>(actor: &mut Actor<S>, counts: &Counts)
+    ensures begun { job_state S.meaning actor.new ≡ job_begun counts.now (job_state S.meaning actor.old) }
+{
+    let start = actor.system.begins();
+    actor.system.start(counts);
+    start_guards(&mut actor.guards, counts, start);
+}
+
+/// Where a cursor of a type starts.
+fn place_of(start: Start, counts: &Counts, t: TypeNo) -> u64
+    ensures place { result ≡ start_place start counts.now t }
+{
+    match start {
+        Start::Zero => 0,
+        Start::Current => counts.of(t).unwrap_or(0),
+    }
+}
+
+/// Where a system that was given nothing starts in the type of this number.
+fn first_place<S: System>(system: &S, counts: &Counts, t: usize) -> u64
+    requires type_number { t < 64 }
+    ensures place { result ≡ first_place (S.meaning system.now).program counts.now t }
+{
+    let Some(t) = TypeNo::new(t as u32) else {
+        unreachable!()
+    };
+    if system.access().reads_type(t) {
+        place_of(system.begins(), counts, t)
+    } else {
+        0
+    }
+}
+
+/// Opens the accounts of a system where its cursors start.
+fn open<S: System>(system: &S, counts: &Counts, totals: &mut [Totals])
+    requires few { length totals.old ≤ 64 }
+    ensures as_many { length totals.new ≡ length totals.old }
+    ensures opened { (t : ℕ) → t < length totals.old → totals_at totals.new t
+        ≡ totals_from (first_place (S.meaning system.now).program counts.now t) }
+{
+    for t in 0..totals.len() {
+        totals[t] = Totals {
+            start: Some(first_place(system, counts, t)),
+            ..Totals::none()
+        };
+    }
+}
+
+/// Starts a system, and opens its accounts.
+fn begin<S: System>(slot: &mut Option<Actor<S>>, counts: &Counts, totals: &mut [Totals])
+    requires few { length totals.old ≤ 64 }
+    ensures as_many { length totals.new ≡ length totals.old }
+    ensures begun { IfSome slot.old (λ a. IsSomeAnd slot.new
+        (λ b. job_state S.meaning b ≡ job_begun counts.now (job_state S.meaning a))) }
+    ensures opened { IfSome slot.old (λ a. (t : ℕ) → t < length totals.old → totals_at totals.new t
+        ≡ totals_from (first_place (S.meaning a.system).program counts.now t)) }
+{
+    if let Some(actor) = slot {
+        start(actor, counts);
+        open(&actor.system, counts, totals);
+    }
+}
+
+/// Those that join with this frame do so.
+pub(crate) fn join_those<S: System>(stage: &mut Stage<S>, joins: &[u32], frame: u32)
+    requires stands { (s : State) × (StageStands S.meaning stage.old s × AreJoins joins.now s
+        × HaveReadNothing frame s) }
+    ensures joined { (s : State) → StageStands S.meaning stage.old s → AreJoins joins.now s
+        → HaveReadNothing frame s → StageStands S.meaning stage.new (with_joining frame s) }
+    ensures accesses { stage.new.accesses ≡ stage.old.accesses }
+    ensures world { stage.new.world ≡ stage.old.world }
+{
+    let counts = stage.world.counts();
+    for i in 0..joins.len() {
+        if joins[i] != frame {
+            continue;
+        }
+        begin(&mut stage.actors[i], &counts, &mut stage.totals[i]);
+    }
+}

@@ -1,0 +1,116 @@
+//! Laws: facts that hold of all systems' turns and of frames. A call of one puts it among the facts that are known there.
+ghost use Rattle.msg_exec.specs.TurnLaws.{
+  BatchesRunSideBySide,
+  FramesAgreeInLawfulOrders,
+  FramesAreUnique,
+  FramesKeepPrograms,
+  FramesRunByBatches,
+  LawfulOrdersAgree,
+  ListsOnlyGrow,
+  RunsAreUnique,
+  SameSystemsHaveSameAccesses,
+  SystemsHaveOneOrder,
+  TurnsKeepPrograms,
+  TurnsOfOthersCommute,
+};
+
+use msg_buffer::laws::histories_only_grow;
+use msg_order::laws::{
+    batch_numbers_rise, batches_exist, conflicting_systems_are_ordered, lawful_orders_keep_paths,
+    settled_order_is_unique, settling_makes_no_cycle, turn_order_is_unique,
+};
+use msg_system::nothing_else_is_used;
+use msg_world::Record;
+
+/// Turns keep the systems: their programs, conditions and rules. Only places, accounts and the world change.
+pub fn turns_keep_programs()
+    ensures law { TurnsKeepPrograms }
+{}
+
+/// Frames keep the systems too.
+pub fn frames_keep_programs()
+    ensures law { FramesKeepPrograms }
+{}
+
+/// The same systems have the same accesses, and after as many frames the same of them have joined.
+pub fn same_systems_have_same_accesses()
+    ensures law { SameSystemsHaveSameAccesses }
+{}
+
+/// Of two systems whose accesses don't conflict, the turn of one doesn't change what comes of the
+/// other's, and it doesn't matter which is first.
+pub fn turns_of_others_commute()
+    ensures law { TurnsOfOthersCommute }
+{
+    nothing_else_is_used();
+}
+
+/// Systems of which no two conflict may take their turns side by side: each runs on what was there
+/// at the start, and what it wrote comes home after it. The log and what is left are those of one
+/// turn after the other.
+pub fn batches_run_side_by_side()
+    ensures law { BatchesRunSideBySide }
+{
+    nothing_else_is_used();
+}
+
+/// Batch after batch, each side by side, gives what one turn after the other gives.
+pub fn frames_run_by_batches()
+    ensures law { FramesRunByBatches }
+{
+    nothing_else_is_used();
+}
+
+/// Two lawful orders of the same turns leave the same state, and each system's turn comes out alike.
+pub fn lawful_orders_agree()
+    ensures law { LawfulOrdersAgree }
+{
+    nothing_else_is_used();
+    conflicting_systems_are_ordered();
+    lawful_orders_keep_paths();
+}
+
+/// Systems have one settled order: it doesn't matter how their accesses are written.
+pub fn systems_have_one_order()
+    ensures law { SystemsHaveOneOrder }
+{
+    settled_order_is_unique();
+}
+
+/// A frame has one log, and leaves one state.
+pub fn frames_are_unique()
+    ensures law { FramesAreUnique }
+{
+    settled_order_is_unique();
+    settling_makes_no_cycle();
+    turn_order_is_unique();
+}
+
+/// Frames one after the other have one list of logs, and leave one state.
+pub fn runs_are_unique()
+    ensures law { RunsAreUnique }
+{
+    settled_order_is_unique();
+    settling_makes_no_cycle();
+    turn_order_is_unique();
+}
+
+/// In any lawful order a frame leaves the same state, and each system's turn comes out alike.
+pub fn frames_agree_in_lawful_orders()
+    ensures law { FramesAgreeInLawfulOrders }
+{
+    nothing_else_is_used();
+    conflicting_systems_are_ordered();
+    lawful_orders_keep_paths();
+    settled_order_is_unique();
+    settling_makes_no_cycle();
+    batch_numbers_rise();
+    batches_exist();
+}
+
+/// Over a run each type's list of messages only grows.
+pub fn lists_only_grow()
+    ensures law { ListsOnlyGrow }
+{
+    histories_only_grow::<Record>();
+}

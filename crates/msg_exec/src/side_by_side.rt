@@ -1,0 +1,134 @@
+// The jobs of a batch, side by side on one world.
+ghost use Rattle.std.specs.Prelude.{◌≡◌, ◌≤◌, IfOk, Ok, length, map};
+ghost use Rattle.msg_exec.specs.Jobs.{AreDone, IsResult, MayRun};
+ghost use Rattle.msg_exec.specs.Work.{EachMay};
+
+use crate::crew::run_jobs;
+use crate::job::{Actor, Done, Job};
+use crate::runs::Runs;
+use crate::{Gate, Items, NoMemory, Outcome, Workers};
+use msg_board::Work;
+use msg_system::{Guard, System, open_loans_cover, what_is_given_back_stands};
+use msg_world::{Lent, World};
+use std::alloc::Global;
+use std::marker::PhantomData;
+use std::thread::Threads;
+
+/// A job, and the world that it was lent from.
+#[derive(Drop)]
+pub struct BatchJob<'a, S> {
+    pub job: Job<S>,
+    pub world: &'a World,
+}
+
+/// The work of a batch: what its jobs give is what they mean on the world as it stands while they
+/// are out, or the word that memory was refused.
+pub struct Batch<'a, S> {
+    jobs: PhantomData<(&'a World, S)>,
+}
+
+impl<'a, S: System> Work for Batch<'a, S> {
+    type Job = BatchJob<'a, S>;
+
+    type Done = Result<Done<S>, NoMemory>;
+
+    ghost lawful = { λ j r. IsResult S.meaning j.world.now j.job r };
+}
+
+impl<'a, S: System> Runs for Batch<'a, S> {
+    ghost may = { λ j. MayRun S.meaning j.world.now j.job };
+
+    ghost system_of = { λ j. j.job.number };
+
+    fn number(job: &BatchJob<'a, S>) -> u32 {
+        job.job.number
+    }
+
+    fn run(alloc: Global, job: BatchJob<'a, S>) -> Result<Done<S>, NoMemory> {
+        open_loans_cover();
+        what_is_given_back_stands();
+        let BatchJob { job, world } = job;
+        let Job {
+            number,
+            actor,
+            access,
+            taken,
+        } = job;
+        let Actor {
+            mut system,
+            mut guards,
+        } = actor;
+        let lent = Lent::open(world, &access, taken);
+        if !Guard::check_all(&mut guards, &lent) {
+            let taken = lent.into_taken();
+            let actor = Actor { system, guards };
+            let outcome = Outcome::Skipped;
+            return Ok(Done {
+                number,
+                actor,
+                taken,
+                outcome,
+            });
+        }
+        let mut replies = Vec::new(alloc);
+        let taken = system.run(alloc, lent, &mut replies)?;
+        let actor = Actor { system, guards };
+        let outcome = Outcome::Ran(Items::from_vec(replies));
+        Ok(Done {
+            number,
+            actor,
+            taken,
+            outcome,
+        })
+    }
+}
+
+/// The jobs, each with the world.
+fn with_world<'a, S: System>(
+    alloc: Global,
+    world: &'a World,
+    jobs: Vec<Job<S>>,
+) -> Result<Vec<BatchJob<'a, S>>, NoMemory>
+    ensures jobs { IfOk result (λ all. map (λ j. j.job) all.items ≡ jobs.items) }
+    ensures world { IfOk result
+        (λ all. map (λ j. j.world.now) all.items ≡ map (λ j. world.now) all.items) }
+{
+    let mut all = Vec::with_capacity(alloc, jobs.len())?;
+    for job in jobs {
+        all.push(BatchJob { job, world })?;
+    }
+    Ok(all)
+}
+
+/// What the jobs gave; `NoMemory` where memory was refused to any of them.
+fn all_done<S: System>(
+    alloc: Global,
+    results: Vec<Result<Done<S>, NoMemory>>,
+) -> Result<Vec<Done<S>>, NoMemory>
+    ensures done { IfOk result (λ all. results.items ≡ map Ok all.items) }
+{
+    let mut all = Vec::with_capacity(alloc, results.len())?;
+    for result in results {
+        all.push(result?)?;
+    }
+    Ok(all)
+}
+
+/// Runs the jobs on the world that they were lent from. Where memory is refused to one, the others
+/// are still run.
+pub(crate) fn run_side_by_side<R: Threads + Sync, S: System, G: Gate>(
+    rt: &R,
+    alloc: Global,
+    world: &World,
+    gate: &G,
+    workers: Workers,
+    jobs: Vec<Job<S>>,
+) -> Result<Vec<Done<S>>, NoMemory>
+    requires few { length jobs.items ≤ 256 }
+    requires may { EachMay (MayRun S.meaning world.now) jobs.items }
+    ensures done { IfOk result (λ done. AreDone S.meaning world.now jobs.items done.items) }
+{
+    let jobs = with_world(alloc, world, jobs)?;
+    let results = run_jobs::<R, Batch<S>, G>(rt, alloc, gate, workers, jobs)?;
+    all_done(alloc, results)
+}

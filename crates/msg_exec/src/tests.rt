@@ -1,0 +1,9 @@
+// Engine runs of boxed systems, whose replies and accounts are compared with those of worked cases; each
+// public call once with ample memory.
+mod cases;
+mod engines;
+mod play;
+mod refused;
+mod roles;
+mod text;
+mod workers;

@@ -1,0 +1,44 @@
+// Where systems of a new engine start, and how many workers there may be.
+use super::play::play;
+use super::roles::{Case, frames, script, script_from, type_no};
+use crate::Workers;
+use msg_system::{Op, Start};
+use msg_world::World;
+use std::test::Fail;
+
+#[test]
+fn starts_in_a_world_with_a_message(rt: HostRuntime) -> Result<(), Fail> {
+    let alloc = rt.alloc();
+    let t = type_no(&rt, 0);
+    let mut world = World::new(alloc, &[10], &[])?;
+    assert!(rt; world.messages(t).is_some());
+    assert!(rt; world.post(t, 5).is_ok());
+    let case = Case {
+        world,
+        roles: vec![in alloc;
+            script(alloc, vec![in alloc; Op::Read(t, None)]?),
+            script_from(alloc, 1, Start::Current, vec![in alloc; Op::Read(t, None)]?),
+        ]?,
+        rules: Vec::new(alloc),
+        frames: frames(&rt, alloc, 1, &[])?,
+    };
+    play(
+        &rt,
+        alloc,
+        case,
+        &[
+            "frame",
+            "0 read missed 0: 0=5@host",
+            "1 read missed 0: none",
+            "reader 0 0 start 0 got 1 missed 0 cleared 0 place 1",
+            "reader 1 0 start 1 got 0 missed 0 cleared 0 place 1",
+        ],
+    )
+}
+
+#[test]
+fn workers(rt: HostRuntime) {
+    for (number, is_there) in [(0, false), (1, true), (64, true), (65, false)] {
+        assert_eq!(rt; Workers::new(number).is_some(), is_there, "{number}");
+    }
+}

@@ -1,0 +1,17 @@
+pub mod Clashes
+pub mod Conditions
+pub mod Files
+pub mod Lines
+pub mod Lists
+pub mod Named
+pub mod Ops
+pub mod Parts
+pub mod Puts
+pub mod ReportFrames
+pub mod ReportLines
+pub mod Running
+pub mod Shapes
+pub mod Sound
+pub mod Spaces
+pub mod Systems
+pub mod Walks

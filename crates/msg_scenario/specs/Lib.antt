@@ -1,0 +1,14 @@
+pub mod CallsText
+pub mod Check
+pub mod Checks
+pub mod Cursors
+pub mod Denotes
+pub mod Json
+pub mod ReportText
+pub mod Running
+pub mod Sinks
+pub mod Walk
+pub mod Names
+pub mod ScenarioDenotes
+pub mod ScenarioChecks
+pub mod Reading

@@ -1,0 +1,83 @@
+// Parts of a report, made in memory and put into a sink.
+ghost use Rattle.std.specs.Prelude.{◌≡◌, ◌⊎◌, Err, IfErr, OnOk, OnErr};
+ghost use Rattle.std.specs.Io.KnownBytes.{Appends};
+ghost use Rattle.msg_scenario.specs.ReportText.{accounts_text, frame_text};
+ghost use Rattle.msg_scenario.specs.Sinks.{AppendsPrefix, one_more};
+
+use crate::Scenario;
+use crate::report::accounts::add_accounts;
+use crate::report::frame::add_frame;
+use crate::report_fault::ReportFault;
+use crate::sink::{Sink, put_all};
+use msg_exec::{Account, Frame, Log};
+
+/// Puts the text of a frame that had this log; it is made in `text` first.
+pub fn put_frame<S: Sink>(
+    scenario: &Scenario,
+    number: u64,
+    frame: &Frame,
+    log: &Log,
+    text: &mut Vec<u8>,
+    sink: &mut S,
+) -> Result<(), ReportFault>
+    ensures ok { OnOk result (Appends (S.contents sink.old) (S.contents sink.new)
+        (frame_text scenario.now number frame.now log.now)) }
+    ensures quiet { OnOk result (S.failures sink.new ≡ S.failures sink.old) }
+    ensures prefix { OnErr result (AppendsPrefix (S.contents sink.old) (S.contents sink.new)
+        (frame_text scenario.now number frame.now log.now)) }
+
+    // The sink failed where the fault is `Write`, and was given nothing where it is `NoMemory`.
+    ensures write { result ≡ Err ReportFault.Write
+        → S.failures sink.new ≡ one_more (S.failures sink.old) }
+    ensures memory { result ≡ Err ReportFault.NoMemory → sink.new ≡ sink.old }
+    ensures faults { IfErr result
+        (λ fault. (fault ≡ ReportFault.Write) ⊎ (fault ≡ ReportFault.NoMemory)) }
+{
+    text.clear();
+    if add_frame(text, scenario, number, frame, log).is_err() {
+        return Err(ReportFault::NoMemory);
+    }
+    put_text(text.as_slice(), sink)
+}
+
+/// Puts a line for each reader; they are made in `text` first.
+pub fn put_accounts<S: Sink>(
+    scenario: &Scenario,
+    accounts: &[Account],
+    text: &mut Vec<u8>,
+    sink: &mut S,
+) -> Result<(), ReportFault>
+    ensures ok { OnOk result (Appends (S.contents sink.old) (S.contents sink.new)
+        (accounts_text scenario.now accounts.now)) }
+    ensures quiet { OnOk result (S.failures sink.new ≡ S.failures sink.old) }
+    ensures prefix { OnErr result (AppendsPrefix (S.contents sink.old) (S.contents sink.new)
+        (accounts_text scenario.now accounts.now)) }
+
+    // The sink failed where the fault is `Write`, and was given nothing where it is `NoMemory`.
+    ensures write { result ≡ Err ReportFault.Write
+        → S.failures sink.new ≡ one_more (S.failures sink.old) }
+    ensures memory { result ≡ Err ReportFault.NoMemory → sink.new ≡ sink.old }
+    ensures faults { IfErr result
+        (λ fault. (fault ≡ ReportFault.Write) ⊎ (fault ≡ ReportFault.NoMemory)) }
+{
+    text.clear();
+    if add_accounts(text, scenario, accounts).is_err() {
+        return Err(ReportFault::NoMemory);
+    }
+    put_text(text.as_slice(), sink)
+}
+
+/// Puts a text that is made.
+fn put_text<S: Sink>(text: &[u8], sink: &mut S) -> Result<(), ReportFault>
+    ensures ok { OnOk result (Appends (S.contents sink.old) (S.contents sink.new) text.now) }
+    ensures quiet { OnOk result (S.failures sink.new ≡ S.failures sink.old) }
+    ensures prefix { OnErr result
+        (AppendsPrefix (S.contents sink.old) (S.contents sink.new) text.now) }
+    ensures write { OnErr result (S.failures sink.new ≡ one_more (S.failures sink.old)) }
+    ensures only_write { IfErr result (λ fault. fault ≡ ReportFault.Write) }
+{
+    match put_all(sink, text) {
+        Ok(()) => Ok(()),
+        Err(_) => Err(ReportFault::Write),
+    }
+}

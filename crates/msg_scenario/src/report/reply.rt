@@ -1,0 +1,136 @@
+// A reply at the end of a text.
+ghost use Rattle.std.specs.Prelude.{◌≡◌, ◌+◌, ◌++◌, List, OnOk, codes, decimal};
+ghost use Rattle.msg_scenario.specs.ReportText.{item_text, items_text, more_items, numbers_text, reply_text, took_text, written_text};
+
+use crate::Scenario;
+use crate::numerals::{add_number, add_value, add_wide};
+use crate::report::names::add_writer;
+use msg_buffer::{NoMemory, Written};
+use msg_system::{Reply, Took};
+use msg_world::Record;
+
+/// What an op was answered, as that follows the op on its line.
+pub fn add_reply(text: &mut Vec<u8>, scenario: &Scenario, reply: &Reply) -> Result<(), NoMemory>
+    ensures appends { OnOk result
+        (text.new.items ≡ text.old.items ++ reply_text scenario.now reply.now) }
+{
+    match reply {
+        Reply::Wrote(numbers) => {
+            text.extend_from_slice(b" ")?;
+            add_numbers(text, *numbers)
+        }
+        Reply::Spent => text.extend_from_slice(b" spent"),
+        Reply::Read(took) => add_took(text, scenario, took),
+        Reply::Len(n) => add_count(text, b" ", *n),
+        Reply::Missed(n) => add_count(text, b" ", *n),
+        Reply::Cleared { missed, n, .. } => {
+            add_count(text, b" missed ", *missed)?;
+            add_count(text, b" cleared ", *n)
+        }
+        Reply::Forwarded { took, wrote } => {
+            add_took(text, scenario, took)?;
+            text.extend_from_slice(b"; ")?;
+            add_written(text, *wrote)
+        }
+        Reply::Summed { took, value } => {
+            add_took(text, scenario, took)?;
+            text.extend_from_slice(b"; ")?;
+            add_value(text, *value)
+        }
+        Reply::Value(value) => {
+            text.extend_from_slice(b" ")?;
+            add_value(text, *value)
+        }
+        Reply::Drained { first, items } => {
+            text.extend_from_slice(b": ")?;
+            add_items(text, scenario, *first, items.as_slice())
+        }
+        Reply::Signalled => Ok(()),
+    }
+}
+
+/// A number after a head.
+pub fn add_count(text: &mut Vec<u8>, head: &[u8], n: u64) -> Result<(), NoMemory>
+    ensures appends { OnOk result (text.new.items ≡ text.old.items ++ (head.now ++ decimal n)) }
+{
+    text.extend_from_slice(head)?;
+    add_number(text, n)
+}
+
+fn add_numbers(text: &mut Vec<u8>, numbers: Written) -> Result<(), NoMemory>
+    ensures { OnOk result (text.new.items ≡ text.old.items ++ numbers_text numbers) }
+{
+    add_number(text, numbers.first)?;
+    add_count(text, b"+", numbers.n)
+}
+
+fn add_written(text: &mut Vec<u8>, wrote: Option<Written>) -> Result<(), NoMemory>
+    ensures { OnOk result (text.new.items ≡ text.old.items ++ written_text wrote) }
+{
+    match wrote {
+        Some(numbers) => add_numbers(text, numbers),
+        None => text.extend_from_slice(b"spent"),
+    }
+}
+
+fn add_took(text: &mut Vec<u8>, scenario: &Scenario, took: &Took) -> Result<(), NoMemory>
+    ensures { OnOk result
+        (text.new.items ≡ text.old.items ++ (codes " " ++ took_text scenario.now took.now)) }
+{
+    add_count(text, b" missed ", took.missed)?;
+    text.extend_from_slice(b": ")?;
+    add_items(text, scenario, took.first, took.items.as_slice())
+}
+
+/// Messages numbered from `first` on, with a space between two, or `none`.
+fn add_items(
+    text: &mut Vec<u8>,
+    scenario: &Scenario,
+    first: u64,
+    items: &[Record],
+) -> Result<(), NoMemory>
+    ensures { OnOk result
+        (text.new.items ≡ text.old.items ++ items_text scenario.now first items.now) }
+{
+    match items {
+        [] => text.extend_from_slice(b"none"),
+        [item, rest @ ..] => {
+            add_item(text, scenario, u128::from(first), *item)?;
+            add_more(text, scenario, first, rest)
+        }
+    }
+}
+
+/// The messages after the one of this number.
+fn add_more(
+    text: &mut Vec<u8>,
+    scenario: &Scenario,
+    before: u64,
+    items: &[Record],
+) -> Result<(), NoMemory>
+    ensures { OnOk result
+        (text.new.items ≡ text.old.items ++ more_items scenario.now (before + 1) items.now) }
+{
+    let first = u128::from(before) + 1;
+    for (k, item) in items.iter().enumerate() {
+        text.extend_from_slice(b" ")?;
+        add_item(text, scenario, first + k as u128, *item)?;
+    }
+    Ok(())
+}
+
+fn add_item(
+    text: &mut Vec<u8>,
+    scenario: &Scenario,
+    number: u128,
+    item: Record,
+) -> Result<(), NoMemory>
+    ensures { OnOk result
+        (text.new.items ≡ text.old.items ++ item_text scenario.now number item) }
+{
+    add_wide(text, number)?;
+    text.extend_from_slice(b"=")?;
+    add_value(text, item.value)?;
+    text.extend_from_slice(b"@")?;
+    add_writer(text, scenario, item.writer)
+}

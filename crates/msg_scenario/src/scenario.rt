@@ -1,0 +1,34 @@
+use crate::{Kind, Name};
+use msg_exec::{Frame, Items, Place};
+use msg_order::Rule;
+use msg_system::Program;
+
+mod read;
+#[cfg(test)]
+mod tests;
+
+pub use read::read_scenario;
+
+/// One system of a scenario.
+#[derive(Debug, Drop)]
+pub struct SystemSpec {
+    pub name: Name,
+    pub kind: Kind,
+    pub program: Program,
+    pub place: Place,
+}
+
+/// A world, the systems over it, and the frames to be run. Types, resources and systems are numbered by
+/// their place here.
+#[derive(Debug, Drop)]
+pub struct Scenario {
+    /// Each message type's name, and the greatest number of messages that may ever be written.
+    pub types: Items<(Name, u64)>,
+    /// Each resource's name, and its value at first.
+    pub resources: Items<(Name, i64)>,
+    /// Whether types are updated only in frames after a signal.
+    pub held: bool,
+    pub systems: Items<SystemSpec>,
+    pub rules: Items<Rule>,
+    pub frames: Items<Frame>,
+}
