@@ -4,11 +4,12 @@ pub mod Checks
 pub mod Cursors
 pub mod Denotes
 pub mod Json
+pub mod Names
+pub mod Reading
 pub mod ReportText
+pub mod Runnable
 pub mod Running
+pub mod ScenarioChecks
+pub mod ScenarioDenotes
 pub mod Sinks
 pub mod Walk
-pub mod Names
-pub mod ScenarioDenotes
-pub mod ScenarioChecks
-pub mod Reading

@@ -69,8 +69,11 @@ fn types(rt: HostRuntime) -> Result<(), Fail> {
         "{{\"types\":[[\"{short}\",1000000]],\"systems\":[],\"frames\":[]}}"
     )?;
     let scenario = accepted(&rt, text.as_str());
-    assert_eq!(rt; scenario.types.as_slice()[0].0.as_str(), short.as_str());
-    assert_eq!(rt; scenario.types.as_slice()[0].1, 1_000_000);
+    let [(name, limit)] = scenario.types.as_slice() else {
+        panic!(rt; "one type is declared");
+    };
+    assert_eq!(rt; name.as_str(), short.as_str());
+    assert_eq!(rt; *limit, 1_000_000);
     Ok(())
 }
 
@@ -131,7 +134,10 @@ fn files(rt: HostRuntime) -> Result<(), Fail> {
     let same =
         "{\"types\":[[\"hit\",1]],\"resources\":[[\"hit\",-5]],\"systems\":[],\"frames\":[[],[]]}";
     let scenario = accepted(&rt, same);
-    assert_eq!(rt; scenario.resources.as_slice()[0].1, -5);
+    let [(_, value)] = scenario.resources.as_slice() else {
+        panic!(rt; "one resource is declared");
+    };
+    assert_eq!(rt; *value, -5);
     assert_eq!(rt; scenario.frames.as_slice().len(), 2);
     assert!(rt; !scenario.held);
     Ok(())
