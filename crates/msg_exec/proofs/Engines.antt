@@ -1,5 +1,5 @@
 -- An engine is what its core is.
-use Rattle.std.proofs.Common.{◌≡◌, ℕ, ℤ, ◌+◌, ◌-◌, ◌^◌, ◌<◌, List, [], ◌∷◌, ◌++◌, length, take, get_or, append_assoc, Option, Some, None, min, refl, sym, ap, subst, ◌∙◌, arith, inl, inr}
+use Rattle.std.proofs.Common.{◌≡◌, ℕ, ℤ, suc, ◌+◌, ◌-◌, ◌^◌, ◌<◌, List, [], ◌∷◌, ◌++◌, length, take, get_or, append_assoc, Option, Some, None, min, refl, sym, ap, subst, ◌∙◌, arith, inl, inr}
 use Rattle.std.specs.Prelude.{All, IfSome, IsNone, IsSome, IsSomeAnd}
 use Rattle.std.proofs.Math.Seq.{take-length}
 use Rattle.std.proofs.lemmas.List.{length-append, take_more}
@@ -9,8 +9,8 @@ use Rattle.msg_exec.specs.declared.engine.EngineOf.{EngineOf}
 use Rattle.msg_exec.specs.declared.engine_core.Core.{Core}
 use Rattle.msg_exec.specs.declared.frame.Frame.{Frame}
 use Rattle.msg_exec.specs.declared.log.Log.{Log}
-use Rattle.msg_exec.specs.Cores.{CoreStands, RanFrame, frame_count}
-use Rattle.msg_exec.specs.Engines.{HasRunFrame, HasRunFrames, HasRunSome, IsEngine, IsSpoiled, PostsFit, StandsFor, frames_of}
+use Rattle.msg_exec.specs.Cores.{CoreStands, RanFrame, ReplayedFrame, frame_count}
+use Rattle.msg_exec.specs.Engines.{HasReplayed, HasRunFrame, HasRunFrames, HasRunSome, IsEngine, IsSpoiled, PostsFit, StandsFor, frames_of}
 use Rattle.msg_exec.specs.Frames.{IsFrame, IsRun, systems_in}
 use Rattle.msg_exec.specs.ReaderLaws.{ReadersTile}
 use Rattle.msg_exec.specs.Soundness.{IsSoundState}
@@ -23,15 +23,27 @@ module _ {S : Type 0} (meaning : S → Meaning) where
   core_taken e r c s value is stands = subst (λ o. IsSomeAnd o (λ x. CoreStands meaning x s)) (sym value ∙ is) stands.core
 
   -- and the engine with the core after a frame stands for the state after it
+  stands_after : (e f : EngineOf S) (c : Core S) (s u : State) → frames_of e ≡ frame_count s → f.core ≡ Some c
+      → frames_of f ≡ min (frames_of e + 1) (2 ^ 32 - 1) → CoreStands meaning c u → u.frames ≡ suc s.frames → StandsFor meaning f u
+  stands_after e f c s u old core counted stands more = record {
+    core = subst (λ o. IsSomeAnd o (λ x. CoreStands meaning x u)) (sym core) stands;
+    frames = omega (arith, old, counted, more);
+  }
+
   pub frame_run : (e f : EngineOf S) (c : Core S) (frame : Frame) (s : State) (log : Log) → frames_of e ≡ frame_count s → f.core ≡ Some c
       → frames_of f ≡ min (frames_of e + 1) (2 ^ 32 - 1) → RanFrame meaning frame s log c → HasRunFrame meaning frame s log f
   frame_run e f c frame s log old core counted ran = record {
     state = ran.state;
     is_frame = ran.is_frame;
-    stands = record {
-      core = subst (λ o. IsSomeAnd o (λ x. CoreStands meaning x ran.state)) (sym core) ran.stands;
-      frames = (let more = ran.frames in omega (arith, old, counted, more));
-    };
+    stands = stands_after e f c s ran.state old core counted ran.stands ran.frames;
+  }
+
+  pub replayed : (e f : EngineOf S) (c : Core S) (frame : Frame) (order : List ℕ) (s : State) (log : Log) → frames_of e ≡ frame_count s → f.core ≡ Some c
+      → frames_of f ≡ min (frames_of e + 1) (2 ^ 32 - 1) → ReplayedFrame meaning frame order s log c → HasReplayed meaning frame order s log f
+  replayed e f c frame order s log old core counted ran = record {
+    state = ran.state;
+    is_replay = ran.is_replay;
+    stands = stands_after e f c s ran.state old core counted ran.stands ran.frames;
   }
 
   -- it was an engine, and wasn't spoiled

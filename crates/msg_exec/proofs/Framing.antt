@@ -6,20 +6,22 @@ use Rattle.std.specs.List.{concat, range_with_len}
 use Rattle.std.proofs.lemmas.Bool.{cases_Bool, eqb-true, eqb-false, leb-false, leb-true, le-leb, lt-leb, ne_eqb}
 use Rattle.std.proofs.lemmas.Option.{slice_get-get_or}
 use Rattle.std.proofs.lemmas.Simd.{map-map}
+use Rattle.msg_world.specs.declared.access.Access.{Access}
 use Rattle.msg_world.specs.Parts.{Parts, PartsStand, SameShape}
 use Rattle.msg_world.specs.World.{WorldState, updated}
 use Rattle.msg_order.specs.Graph.{Graph}
 use Rattle.msg_order.specs.Order.{AreBatches, IsTurnOrder, NameSystemsBelow, batch_at}
-use Rattle.msg_order.specs.Plan.{IsPlanOf}
+use Rattle.msg_order.specs.Plan.{IsPlanOf, PlanView}
 use Rattle.msg_order.specs.declared.rule.Rule.{Rule}
+use Rattle.msg_system.specs.declared.reply.Reply.{Reply}
 use Rattle.msg_system.specs.Systems.{Meaning}
 use Rattle.msg_exec.specs.declared.engine_core.Core.{Core}
 use Rattle.msg_exec.specs.declared.frame.Frame.{Frame}
 use Rattle.msg_exec.specs.declared.log.Log.{Log}
 use Rattle.msg_exec.specs.declared.log.Turn.{Turn}
 use Rattle.msg_exec.specs.declared.stage.Stage.{Stage}
-use Rattle.msg_exec.specs.Cores.{CoreStands, HasBegunFrame, RanFrame, Schedule, counted}
-use Rattle.msg_exec.specs.Frames.{IsFrame, IsTurnOrderOf, after_turn_of, after_turns_of, before_turns, begun, counts, frame_in, joining, post_replies, systems_in, with_joining}
+use Rattle.msg_exec.specs.Cores.{CoreStands, HasBegunFrame, HasOpened, NobodyJoins, PlansNext, RanFrame, Schedule, counted}
+use Rattle.msg_exec.specs.Frames.{IsFrame, IsTurnOrderOf, after_turn_of, after_turns_of, before_turns, begun, counts, frame_in, joining, post_replies, posted, systems_in, with_joining}
 use Rattle.msg_exec.specs.ReaderLaws.{FrameStaysSound}
 use Rattle.msg_exec.specs.Soundness.{IsSoundState}
 use Rattle.msg_exec.specs.Stages.{AreJoins, HaveReadNothing, StageStands}
@@ -85,10 +87,6 @@ one_more j (suc f) (inl waits) = ap (λ n. nat_le j n) (later (suc f)) ∙ beyon
         above : (j f : ℕ) → f < j → j ≢ suc f → suc f < j
         above j f lt waits = elim (cases_Bool (j == suc f)) [ inl is ↦ absurd (waits (eqb-true j (suc f) is)) | inr isnt ↦ (let other = eqb-false j (suc f) isnt in omega (arith, lt, other)) ]
 
--- nobody joins with the next frame
-abbrev pub NobodyJoins : State → Type 0
-NobodyJoins s = (i : ℕ) → i < s.systems → ((s.members i).join ≢ suc s.frames) ⊎ (s.frames ≡ 0)
-
 pub nobody_more : (s : State) → NobodyJoins s → joined (counted (joining s)) ≡ joined s
 nobody_more s none =
     let same = joining_keeps s in
@@ -119,17 +117,23 @@ none_begins meaning c s stands none = record {
 pub about_to_join : (s : State) → IsSoundState s → 0 < s.frames → HaveReadNothing (suc s.frames) s
 about_to_join s sound some i t joins = (sound.waiting i t (ap (λ j. nat_le j (max 1 s.frames)) joins ∙ lt-leb (suc s.frames) (max 1 s.frames) (omega (arith, some)))).0
 
+-- the plan of those that will have joined by the next frame
+pub plan_next : {S : Type 0} (meaning : S → Meaning) (c : Core S) (s : State) (next : ℕ) (plan : PlanView) → Schedule meaning c s → next ≡ suc s.frames
+    → IsPlanOf c.stage.accesses.items c.rules.items (map (λ j. nat_le j next) c.joins.items) plan → PlansNext c s plan
+plan_next meaning c s next plan has is plans =
+    let now : State = counted (joining s) in
+    let later : Schedule meaning c (joining s) = schedule_along meaning c s (joining s) (joining_keeps s) has in
+    let are : AreJoins c.joins.items now = record { as_many = later.joins.as_many; each = later.joins.each } in
+    let at : max 1 now.frames ≡ next = omega (arith, is, joining_makes_no_frame s) in
+    subst (λ (rs : List Rule). IsPlanOf c.stage.accesses.items rs (joined now) plan) has.rules
+    (subst (λ bs. IsPlanOf c.stage.accesses.items c.rules.items bs plan) (joined_by_frame c.joins.items now next are at) plans)
+
 -- those that join with it do so
 pub those_begin : {S : Type 0} (meaning : S → Meaning) (c d : Core S) (s : State) (next : ℕ) → CoreStands meaning c s → 0 < s.frames → next ≡ suc s.frames
-    → StageStands meaning d.stage (with_joining next s) → d.joins ≡ c.joins → d.rules ≡ c.rules
-    → IsPlanOf d.stage.accesses.items c.rules.items (map (λ j. nat_le j next) c.joins.items) d.plan → HasBegunFrame meaning d s
-those_begin meaning c d s next stands some is stage joins rules plan =
+    → StageStands meaning d.stage (with_joining next s) → d.joins ≡ c.joins → d.rules ≡ c.rules → d.stage.accesses ≡ c.stage.accesses → PlansNext c s d.plan → HasBegunFrame meaning d s
+those_begin meaning c d s next stands some is stage joins rules accesses plan =
     let begins : joining s ≡ with_joining next s = rw (ne_eqb s.frames 0 (λ none. absurd (omega (arith, some, none)))) (ap (λ k. with_joining k s) (sym is)) in
     let has : Schedule meaning c (joining s) = schedule_along meaning c s (joining s) (joining_keeps s) stands.schedule in
-    let js : List ℕ = c.joins.items in
-    let now : State = counted (joining s) in
-    let are : AreJoins js now = record { as_many = has.joins.as_many; each = has.joins.each } in
-    let at : max 1 now.frames ≡ next = omega (arith, is, joining_makes_no_frame s) in
     record {
       stage = subst (StageStands meaning d.stage) (sym begins) stage;
       schedule = record {
@@ -140,10 +144,27 @@ those_begin meaning c d s next stands some is stage joins rules plan =
         named = has.named;
         no_cycle = has.no_cycle;
       };
-      plan = subst (λ rs. IsPlanOf d.stage.accesses.items rs (joined now) d.plan) has.rules (subst (λ bs. IsPlanOf d.stage.accesses.items c.rules.items bs d.plan) (joined_by_frame js now next are at) plan);
+      plan = subst (λ (rs : List Rule). IsPlanOf d.stage.accesses.items rs (joined (counted (joining s))) d.plan) (sym (joining_keeps s).rules)
+          (subst (λ (v : Vec Access). IsPlanOf v.items s.rules (joined (counted (joining s))) d.plan) (sym accesses) plan);
     }
 
 -- ---- the turns of a frame
+
+systems_logged : (order : List ℕ) (s : State) → map (λ (t : Turn). t.system) (after_turns_of order s).turns ≡ order
+systems_logged [] s = refl
+systems_logged (i ∷ is) s = ap (λ rest. i ∷ rest) (systems_logged is (after_turn_of i s))
+
+joining_world : (s : State) → (joining s).world ≡ s.world
+joining_world s = elim (cases_Bool (s.frames == 0)) [ inl first ↦ rw first refl | inr later ↦ rw later refl ]
+
+-- the log of a frame in an order: the answers to its posts, and the turns
+pub logged_in : (frame : Frame) (order : List ℕ) (s : State) (log : Log) (replies : List Reply) → log.posts ≡ replies → replies ≡ post_replies frame.posts (updated s.world)
+    → log.turns ≡ (after_turns_of order (before_turns frame.posts s)).turns → log ≡ (frame_in order frame s).log
+logged_in frame order s log replies has answered turns = λ k. record { posts = (has ∙ answered) k; turns = turns k }
+
+-- the log has them in that order
+pub in_that_order : (frame : Frame) (order : List ℕ) (s : State) (log : Log) → log ≡ (frame_in order frame s).log → systems_in log ≡ order
+in_that_order frame order s log told = ap systems_in told ∙ systems_logged order (before_turns frame.posts s)
 
 module _ {S : Type 0} (meaning : S → Meaning) where
   -- another world of the same parts
@@ -166,22 +187,32 @@ module _ {S : Type 0} (meaning : S → Meaning) where
       let at : batch_at (map (λ (b : Vec ℕ). b.items) batches) k ≡ batch = get_or-map (λ (b : Vec ℕ). b.items) batches k d [] lt in
       joined_below u (get_or batch j e) ((classes.of_number k (get_or batch j e)).0 (subst (λ xs. Contains xs (get_or batch j e)) (sym at) (Contains-get_or batch j e below))).0
 
-  systems_logged : (order : List ℕ) (s : State) → map (λ (t : Turn). t.system) (after_turns_of order s).turns ≡ order
-  systems_logged [] s = refl
-  systems_logged (i ∷ is) s = ap (λ rest. i ∷ rest) (systems_logged is (after_turn_of i s))
+  -- the updates and the posts leave the rest of the core
+  pub opened : (b d : Core S) (s : State) (frame : Frame) (replies : List Reply) → HasBegunFrame meaning b s → SameShape b.stage.world d.stage.world
+      → PartsStand d.stage.world (posted frame.posts (updated (joining s).world)) → replies ≡ post_replies frame.posts (updated (joining s).world)
+      → d ≡ record b { stage = record b.stage { world = d.stage.world } } → HasOpened meaning frame s d replies
+  opened b d s frame replies has shape world posts only =
+      let parts : Parts = d.stage.world in
+      subst (λ (c : Core S). HasOpened meaning frame s c replies) (sym only) (record {
+        stage = world_stands b.stage (joining s) parts _ (suc (joining s).frames) has.stage shape world;
+        schedule = record {
+          joins = record { as_many = has.schedule.joins.as_many; each = has.schedule.joins.each };
+          rules = has.schedule.rules;
+          few = has.schedule.few;
+          early = has.schedule.early;
+          named = has.schedule.named;
+          no_cycle = has.schedule.no_cycle;
+        };
+        plan = has.plan;
+        posts = posts ∙ ap (λ w. post_replies frame.posts (updated w)) (joining_world s);
+      })
 
-  joining_world : (s : State) → (joining s).world ≡ s.world
-  joining_world s = elim (cases_Bool (s.frames == 0)) [ inl first ↦ rw first refl | inr later ↦ rw later refl ]
-
-  pub frame_ran : (b d : Core S) (s : State) (frame : Frame) (log : Log) (order : List ℕ) → order ≡ concat b.plan.batches → HasBegunFrame meaning b s → IsSoundState s → FrameStaysSound
-      → StageStands meaning d.stage (after_turns_of order (before_turns frame.posts s)).state → log.turns ≡ (after_turns_of order (before_turns frame.posts s)).turns
-      → log.posts ≡ post_replies frame.posts (updated (joining s).world)
-      → d.joins ≡ b.joins → d.rules ≡ b.rules → d.plan ≡ b.plan → d.stage.accesses.items ≡ b.stage.accesses.items → RanFrame meaning frame s log d
-  frame_ran b d s frame log order is has sound stays stage turns posts joins rules plan accesses =
+  -- one turn after the other, batch by batch, is a frame
+  pub is_frame_by : (b : Core S) (s : State) (frame : Frame) (log : Log) (order : List ℕ) (replies : List Reply) → order ≡ concat b.plan.batches → HasOpened meaning frame s b replies
+      → log ≡ (frame_in order frame s).log → IsFrame frame s log (after_turns_of order (before_turns frame.posts s)).state
+  is_frame_by b s frame log order replies is has told =
       let bt : State = before_turns frame.posts s in
-      let u : State = (after_turns_of order bt).state in
-      let taken : systems_in log ≡ order = ap (map (λ (t : Turn). t.system)) turns ∙ systems_logged order bt in
-      let same : SameSystems bt u = turns_keep_systems order bt in
+      let taken : systems_in log ≡ order = in_that_order frame order s log told in
       let in_order : IsTurnOrderOf bt order = record {
         settled = has.plan.order;
         is_order = record {
@@ -191,21 +222,21 @@ module _ {S : Type 0} (meaning : S → Meaning) where
         };
         in_order = subst (IsTurnOrder has.plan.order (joined bt)) (sym is) has.plan.turns;
       } in
-      let told : log ≡ (frame_in order frame s).log = λ k. record { posts = (posts ∙ ap (λ w. post_replies frame.posts (updated w)) (joining_world s)) k; turns = turns k } in
-      let ran : IsFrame frame s log u = record {
+      record {
         in_order = subst (IsTurnOrderOf bt) (sym taken) in_order;
         tells = told ∙ ap (λ is. (frame_in is frame s).log) (sym taken);
         leaves = ap (λ is. (frame_in is frame s).state) (sym taken);
-      } in
-      let schedule : Schedule meaning b bt = record {
-        joins = record { as_many = has.schedule.joins.as_many; each = has.schedule.joins.each };
-        rules = has.schedule.rules;
-        few = has.schedule.few;
-        early = has.schedule.early;
-        named = has.schedule.named;
-        no_cycle = has.schedule.no_cycle;
-      } in
-      let later : Schedule meaning b u = schedule_along meaning b bt u same schedule in
+      }
+
+  pub frame_ran : (b d : Core S) (s : State) (frame : Frame) (log : Log) (order : List ℕ) (replies : List Reply) → order ≡ concat b.plan.batches → HasOpened meaning frame s b replies
+      → IsSoundState s → FrameStaysSound → StageStands meaning d.stage (after_turns_of order (before_turns frame.posts s)).state → log ≡ (frame_in order frame s).log
+      → d.joins ≡ b.joins → d.rules ≡ b.rules → d.plan ≡ b.plan → d.stage.accesses.items ≡ b.stage.accesses.items → RanFrame meaning frame s log d
+  frame_ran b d s frame log order replies is has sound stays stage told joins rules plan accesses =
+      let bt : State = before_turns frame.posts s in
+      let u : State = (after_turns_of order bt).state in
+      let same : SameSystems bt u = turns_keep_systems order bt in
+      let ran : IsFrame frame s log u = is_frame_by b s frame log order replies is has told in
+      let later : Schedule meaning b u = schedule_along meaning b bt u same has.schedule in
       record {
         state = u;
         is_frame = ran;

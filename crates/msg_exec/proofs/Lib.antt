@@ -32,6 +32,7 @@ mod ReadingRows
 mod InPlace
 mod Arriving
 mod Framing
+mod Replays
 mod Engines
 mod Making
 mod Founding

@@ -7,6 +7,7 @@ use Rattle.msg_exec.specs.declared.frame.Frame.{Frame}
 use Rattle.msg_exec.specs.declared.log.Log.{Log}
 use Rattle.msg_exec.specs.Cores.{CoreStands, frame_count}
 use Rattle.msg_exec.specs.Frames.{IsFrame, IsRun}
+use Rattle.msg_exec.specs.Replays.{IsReplay}
 use Rattle.msg_exec.specs.State.{State}
 use Rattle.msg_exec.specs.Tiling.{AllTiled}
 
@@ -42,6 +43,13 @@ module _ {S : Type 0} (meaning : S → Meaning) where
   pub record HasRunFrame (frame : Frame) (s : State) (log : Log) (e : EngineOf S) : Type 0 where
     pub state : State
     pub is_frame : IsFrame frame s log state
+    pub stands : StandsFor e state
+
+  -- From the state s the engine replayed a frame in this order: the log is a replay's, and the engine stands for the
+  -- state that the frame leaves.
+  pub record HasReplayed (frame : Frame) (order : List ℕ) (s : State) (log : Log) (e : EngineOf S) : Type 0 where
+    pub state : State
+    pub is_replay : IsReplay frame order s log state
     pub stands : StandsFor e state
 
   -- From the state s the engine ran frames one after the other: their logs were appended, the engine stands for the state

@@ -1,6 +1,7 @@
 pub mod Entries
 pub mod State
 pub mod Frames
+pub mod Replays
 pub mod Tiling
 pub mod Soundness
 pub mod Jobs

@@ -97,7 +97,7 @@ fn accounts_in<S: System>(alloc: Global, core: &Core<S>) -> Result<Vec<Account>,
 
 impl<S: System> EngineOf<S> {
     ghost use Rattle.std.specs.Prelude.{◌↔◌, All, Err};
-    ghost use Rattle.msg_exec.specs.declared.refusals.RunFault.TheVariants.{Spoiled};
+    ghost use Rattle.msg_exec.specs.declared.refusals.RunFault.TheVariants.{BadOrder, Spoiled};
     ghost use Rattle.msg_exec.specs.Accounts.{AddsUp};
     ghost use Rattle.msg_exec.specs.Engines.{IsEngine, IsSpoiled, StandsFor};
 
@@ -112,6 +112,7 @@ impl<S: System> EngineOf<S> {
             → v.items ≡ accounts_of s) }
         ensures add_up { IfOk result (λ v. IsEngine S.meaning self.now → All AddsUp v.items) }
         ensures spoiled { (result ≡ Err Spoiled) ↔ IsSpoiled self.now }
+        ensures no_bad_order { ¬ (result ≡ Err BadOrder) }
     {
         let Some(core) = &self.core else {
             return Err(RunFault::Spoiled);

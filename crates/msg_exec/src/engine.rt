@@ -2,6 +2,7 @@ use crate::building::{accesses_of, actors_of, check_rules, joins_of, totals_of};
 use crate::engine_core::{Core, plan_by, run_one};
 use crate::joining::join_those;
 use crate::reader_laws::{first_states_are_sound, readers_tile};
+use crate::replay::{accepts_next, replay_one};
 use crate::stage::Stage;
 use crate::{BuildRefusal, Frame, Gate, Log, Place, RunFault, Workers};
 use msg_order::Rule;
@@ -27,15 +28,16 @@ pub type Engine = EngineOf<Box<dyn System>>;
 impl<S: System> EngineOf<S> {
     ghost use Rattle.std.specs.Prelude.{◌≡◌, ◌-◌, ◌^◌, ◌+◌, ◌↔◌, All, min, IfOk, OnOk, Err, Ok};
     ghost use Rattle.std.specs.Option.{option_copied};
-    ghost use Rattle.msg_exec.specs.declared.refusals.RunFault.TheVariants.{Spoiled, NoMemory};
-    ghost use Rattle.std.specs.Prelude.{◌≤◌, IfErr, length, map};
+    ghost use Rattle.msg_exec.specs.declared.refusals.RunFault.TheVariants.{BadOrder, NoMemory, Spoiled};
+    ghost use Rattle.std.specs.Prelude.{◌≤◌, IfErr, Some, length, map};
     ghost use Rattle.msg_world.specs.Parts.{IsWhole, PartsStand};
     ghost use Rattle.msg_world.specs.World.{WorldState};
     ghost use Rattle.msg_order.specs.Graph.{IsAcyclic};
     ghost use Rattle.msg_order.specs.Order.{NameSystemsBelow};
     ghost use Rattle.msg_exec.specs.Building.{EachIs, HasClash, MayBeAdded, RefusesFor, all_rules};
     ghost use Rattle.msg_exec.specs.Frames.{first_state};
-    ghost use Rattle.msg_exec.specs.Engines.{HasRunFrame, HasRunFrames, HasRunSome, IsEngine, IsSpoiled, PostsFit, StandsFor, frames_of, world_of};
+    ghost use Rattle.msg_exec.specs.Engines.{HasReplayed, HasRunFrame, HasRunFrames, HasRunSome, IsEngine, IsSpoiled, PostsFit, StandsFor, frames_of, world_of};
+    ghost use Rattle.msg_exec.specs.Replays.{IsLawfulFor};
     ghost use Rattle.msg_exec.specs.State.{State};
 
     /// An engine with no frame run. The systems go by number, in order of addition, and each has its
@@ -97,6 +99,15 @@ impl<S: System> EngineOf<S> {
         })
     }
 
+    /// Takes its core back after a frame, and counts the frame.
+    fn end_frame(&mut self, core: Core<S>)
+        ensures core { self.new.core ≡ Some core }
+        ensures counted { frames_of self.new ≡ min (frames_of self.old + 1) (2 ^ 32 - 1) }
+    {
+        self.core = Some(core);
+        self.frames = self.frames.saturating_add(1);
+    }
+
     /// Runs one frame: those that join do so, the types are updated, the host's posts are written, and
     /// all that have joined take their turns.
     ///
@@ -122,6 +133,7 @@ impl<S: System> EngineOf<S> {
         ensures unchanged { result ≡ Err Spoiled → self.new ≡ self.old }
         ensures no_memory { result ≡ Err NoMemory → IsSpoiled self.new }
         ensures not_counted { result ≡ Err NoMemory → frames_of self.new ≡ frames_of self.old }
+        ensures no_bad_order { ¬ (result ≡ Err BadOrder) }
         ensures engine { IsEngine S.meaning self.new }
     {
         let Some(core) = self.core.take() else {
@@ -131,8 +143,7 @@ impl<S: System> EngineOf<S> {
         else {
             return Err(RunFault::NoMemory);
         };
-        self.core = Some(core);
-        self.frames = self.frames.saturating_add(1);
+        self.end_frame(core);
         Ok(log)
     }
 
@@ -161,6 +172,7 @@ impl<S: System> EngineOf<S> {
         ensures nothing_appended { result ≡ Err Spoiled → out.new ≡ out.old }
         ensures no_memory { result ≡ Err NoMemory → (s : State) → StandsFor S.meaning self.old s
             → HasRunSome S.meaning frames.now s out.old.items out.new.items self.new }
+        ensures no_bad_order { ¬ (result ≡ Err BadOrder) }
         ensures engine { IsEngine S.meaning self.new }
     {
         readers_tile();
@@ -178,6 +190,50 @@ impl<S: System> EngineOf<S> {
             };
         }
         Ok(())
+    }
+
+    /// Runs one frame on the calling thread, in an order that the caller gives; the log has the turns in
+    /// that order. It counts like any other frame.
+    ///
+    /// # Errors
+    ///
+    /// `Spoiled`; `BadOrder` where the order isn't lawful for those that will have joined by this frame:
+    /// each of them once, and each after those that the settled order puts before it. Then nothing
+    /// has changed: nobody has joined. `NoMemory`, and then the engine is spoiled.
+    pub fn replay_frame(&mut self, frame: &Frame, order: &[u32]) -> Result<Log, RunFault>
+        requires engine { IsEngine S.meaning self.old }
+        requires posts { PostsFit self.old frame.now }
+
+        // The order is lawful; the log has the frame's posts and each system's turn as it came out in the
+        // frame, and the engine stands for the state that the frame leaves.
+        ensures replayed { IfOk result (λ log. (s : State) → StandsFor S.meaning self.old s
+            → HasReplayed S.meaning frame.now order.now s log self.new) }
+        ensures counted { OnOk result
+            (frames_of self.new ≡ min (frames_of self.old + 1) (2 ^ 32 - 1)) }
+        ensures bad_order { (s : State) → StandsFor S.meaning self.old s → ¬ (result ≡ Err NoMemory)
+            → (result ≡ Err BadOrder) ↔ (¬ IsLawfulFor frame.now s order.now) }
+        ensures nothing_done { result ≡ Err BadOrder → self.new ≡ self.old }
+        ensures spoiled { (result ≡ Err Spoiled) ↔ IsSpoiled self.old }
+        ensures unchanged { result ≡ Err Spoiled → self.new ≡ self.old }
+        ensures no_memory { result ≡ Err NoMemory → IsSpoiled self.new }
+        ensures not_counted { result ≡ Err NoMemory → frames_of self.new ≡ frames_of self.old }
+        ensures engine { IsEngine S.meaning self.new }
+    {
+        let Some(core) = self.core.take() else {
+            return Err(RunFault::Spoiled);
+        };
+        let Ok(is_lawful) = accepts_next(self.alloc, &core, self.frames, order) else {
+            return Err(RunFault::NoMemory);
+        };
+        if !is_lawful {
+            self.core = Some(core);
+            return Err(RunFault::BadOrder);
+        }
+        let Ok((core, log)) = replay_one(self.alloc, core, self.frames, frame, order) else {
+            return Err(RunFault::NoMemory);
+        };
+        self.end_frame(core);
+        Ok(log)
     }
 
     /// Its world; None where it is spoiled.

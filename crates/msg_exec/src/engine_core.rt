@@ -3,7 +3,7 @@ ghost use Rattle.std.specs.Prelude.{◌≡◌, ◌<◌, ◌≤◌, All, IfOk, Li
 ghost use Rattle.msg_order.specs.Graph.{IsAcyclic};
 ghost use Rattle.msg_order.specs.Order.{NameSystemsBelow, rules_among};
 ghost use Rattle.msg_order.specs.Plan.{IsPlanOf};
-ghost use Rattle.msg_exec.specs.Cores.{CoreStands, HasBegunFrame, RanFrame, frame_count};
+ghost use Rattle.msg_exec.specs.Cores.{CoreStands, HasBegunFrame, HasOpened, IsNextPlan, RanFrame, frame_count};
 ghost use Rattle.msg_exec.specs.State.{State};
 
 use crate::batch::run_batches;
@@ -13,7 +13,7 @@ use crate::reader_laws::states_stay_sound;
 use crate::stage::Stage;
 use crate::{Frame, Gate, Items, Log, NoMemory, Workers};
 use msg_order::{Plan, PlanRefusal, Rule};
-use msg_system::System;
+use msg_system::{Reply, System};
 use msg_world::Access;
 use std::alloc::Global;
 use std::thread::Threads;
@@ -63,6 +63,30 @@ pub(crate) fn plan_by(
     }
 }
 
+/// The number of the next frame and its plan, where some join with it. Where nobody does there is none,
+/// and the plan stays.
+pub(crate) fn next_plan<S: System>(
+    alloc: Global,
+    core: &Core<S>,
+    frames: u32,
+) -> Result<Option<(u32, Plan)>, NoMemory>
+    requires stands { (s : State) × (CoreStands S.meaning core.now s × (frames ≡ frame_count s)) }
+    ensures plan { IfOk result (λ next. (s : State) → CoreStands S.meaning core.now s
+        → frames ≡ frame_count s → IsNextPlan core.now s next) }
+{
+    let Some(next) = frames.checked_add(1) else {
+        return Ok(None);
+    };
+    if frames == 0 {
+        return Ok(None);
+    }
+    if !core.joins.contains(&next) {
+        return Ok(None);
+    }
+    let plan = plan_by(alloc, &core.stage.accesses, &core.rules, &core.joins, next)?;
+    Ok(Some((next, plan)))
+}
+
 /// Those that join with the next frame do so.
 fn begin<S: System>(alloc: Global, core: Core<S>, frames: u32) -> Result<Core<S>, NoMemory>
     requires stands { (s : State) × (CoreStands S.meaning core s × (frames ≡ frame_count s)) }
@@ -71,18 +95,31 @@ fn begin<S: System>(alloc: Global, core: Core<S>, frames: u32) -> Result<Core<S>
     ensures types { IfOk result (λ begun. begun.stage.world ≡ core.stage.world) }
 {
     let mut core = core;
-    let Some(next) = frames.checked_add(1) else {
+    let Some((next, plan)) = next_plan(alloc, &core, frames)? else {
         return Ok(core);
     };
-    if frames == 0 {
-        return Ok(core);
-    }
-    if !core.joins.contains(&next) {
-        return Ok(core);
-    }
     join_those(&mut core.stage, &core.joins, next);
-    core.plan = plan_by(alloc, &core.stage.accesses, &core.rules, &core.joins, next)?;
+    core.plan = plan;
     Ok(core)
+}
+
+/// Opens the next frame: those that join do so, the types are updated, and the host's posts are
+/// written. Gives what they were answered.
+pub(crate) fn open<S: System>(
+    alloc: Global,
+    core: Core<S>,
+    frames: u32,
+    frame: &Frame,
+) -> Result<(Core<S>, Vec<Reply>), NoMemory>
+    requires stands { (s : State) × (CoreStands S.meaning core s × (frames ≡ frame_count s)) }
+    requires posts { All (λ p. p.0 < length core.stage.world.types) frame.now.posts }
+    ensures opened { IfOk result (λ r. (s : State) → CoreStands S.meaning core s
+        → frames ≡ frame_count s → HasOpened S.meaning frame.now s r.0 r.1.items) }
+{
+    let mut core = begin(alloc, core, frames)?;
+    core.stage.world.update_all();
+    let replies = post_all(alloc, &mut core.stage.world, frame.posts.as_slice())?;
+    Ok((core, replies))
 }
 
 /// Runs one frame, where so many were run before it.
@@ -101,9 +138,7 @@ pub(crate) fn run_one<R: Threads + Sync, S: System, G: Gate>(
         → frames ≡ frame_count s → RanFrame S.meaning frame.now s r.1 r.0) }
 {
     states_stay_sound();
-    let mut core = begin(alloc, core, frames)?;
-    core.stage.world.update_all();
-    let posts = post_all(alloc, &mut core.stage.world, frame.posts.as_slice())?;
+    let (mut core, posts) = open(alloc, core, frames, frame)?;
     let batches = core.plan.batches();
     let turns = run_batches(rt, alloc, &mut core.stage, batches, workers, gate)?;
     let log = Log {

@@ -19,6 +19,7 @@ mod place;
 mod posts;
 pub mod reader_laws;
 mod refusals;
+mod replay;
 mod runs;
 mod side_by_side;
 mod stage;

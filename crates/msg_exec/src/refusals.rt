@@ -32,6 +32,9 @@ pub enum RunFault {
     /// A frame ended for want of memory before.
     #[error("the engine is spoiled")]
     Spoiled,
+    /// A frame was to be replayed in an order that isn't lawful for it.
+    #[error("the order isn't lawful")]
+    BadOrder,
     #[error("want of memory")]
     NoMemory,
 }

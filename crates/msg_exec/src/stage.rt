@@ -7,7 +7,7 @@ ghost use Rattle.msg_exec.specs.State.{State};
 use crate::job::{Actor, Done, Job, run_job};
 use crate::laws::batches_run_side_by_side;
 use crate::totals::enter;
-use crate::{Gate, NoMemory, Totals, Turn};
+use crate::{NoMemory, Totals, Turn};
 use msg_system::System;
 use msg_world::laws::written_parts_come_home;
 use msg_world::{Access, World};
@@ -78,11 +78,10 @@ impl<S: System> Stage<S> {
 }
 
 /// One system's turn.
-pub(crate) fn run_turn<S: System, G: Gate>(
+pub(crate) fn run_turn<S: System>(
     alloc: Global,
     stage: &mut Stage<S>,
     number: u32,
-    gate: &G,
 ) -> Result<Turn, NoMemory>
     requires stands { (s : State) × (StageStands S.meaning stage.old s × (number < s.systems)) }
     ensures state { IfOk result (λ turn. (s : State) → StageStands S.meaning stage.old s
@@ -94,7 +93,6 @@ pub(crate) fn run_turn<S: System, G: Gate>(
     batches_run_side_by_side();
     written_parts_come_home();
     let job = stage.lend_out(number)?;
-    gate.pass(0, number);
     let done = run_job(alloc, &stage.world, job)?;
     Ok(stage.take_back(done))
 }

@@ -1,0 +1,81 @@
+// One frame in a given order, on the calling thread.
+ghost use Rattle.std.specs.Prelude.{◌≡◌, ◌<◌, ◌↔◌, All, IfOk, IsTrue, OnOk, length};
+ghost use Rattle.msg_exec.specs.declared.frame.Frame.{Frame as FrameView};
+ghost use Rattle.msg_exec.specs.Cores.{CoreStands, ReplayedFrame, frame_count};
+ghost use Rattle.msg_exec.specs.Frames.{after_turns_of};
+ghost use Rattle.msg_exec.specs.Replays.{IsLawfulFor};
+ghost use Rattle.msg_exec.specs.Stages.{StageStands};
+ghost use Rattle.msg_exec.specs.State.{State};
+
+use crate::engine_core::{Core, next_plan, open};
+use crate::laws::{frames_agree_in_lawful_orders, systems_have_one_order};
+use crate::reader_laws::states_stay_sound;
+use crate::stage::{Stage, run_turn};
+use crate::{Frame, Items, Log, NoMemory, Turn};
+use msg_system::System;
+use std::alloc::Global;
+
+/// Whether the order is lawful for the next frame, with those that will join in it.
+pub(crate) fn accepts_next<S: System>(
+    alloc: Global,
+    core: &Core<S>,
+    frames: u32,
+    order: &[u32],
+) -> Result<bool, NoMemory>
+    requires stands { (s : State) × (CoreStands S.meaning core.now s × (frames ≡ frame_count s)) }
+    ensures lawful { IfOk result (λ accepts. (s : State) → CoreStands S.meaning core.now s
+        → frames ≡ frame_count s
+        → (frame : FrameView) → IsTrue accepts ↔ IsLawfulFor frame s order.now) }
+{
+    systems_have_one_order();
+    match next_plan(alloc, core, frames)? {
+        Some((_, plan)) => Ok(plan.accepts(order)),
+        None => Ok(core.plan.accepts(order)),
+    }
+}
+
+/// Runs the turns of these systems one after the other.
+fn run_turns<S: System>(
+    alloc: Global,
+    stage: &mut Stage<S>,
+    order: &[u32],
+) -> Result<Vec<Turn>, NoMemory>
+    requires stands { (s : State) × (StageStands S.meaning stage.old s × All (λ i. i < s.systems) order.now) }
+    ensures state { IfOk result (λ turns. (s : State) → StageStands S.meaning stage.old s
+        → StageStands S.meaning stage.new (after_turns_of order.now s).state) }
+    ensures turns { IfOk result (λ turns. (s : State) → StageStands S.meaning stage.old s
+        → turns.items ≡ (after_turns_of order.now s).turns) }
+    ensures accesses { OnOk result (stage.new.accesses.items ≡ stage.old.accesses.items) }
+{
+    let mut turns = Vec::with_capacity(alloc, order.len())?;
+    for &system in order {
+        turns.push(run_turn(alloc, stage, system)?)?;
+    }
+    Ok(turns)
+}
+
+/// Runs one frame in an order that is lawful for it, where so many were run before it.
+pub(crate) fn replay_one<S: System>(
+    alloc: Global,
+    core: Core<S>,
+    frames: u32,
+    frame: &Frame,
+    order: &[u32],
+) -> Result<(Core<S>, Log), NoMemory>
+    requires stands { (s : State) × (CoreStands S.meaning core s × (frames ≡ frame_count s)) }
+    requires posts { All (λ p. p.0 < length core.stage.world.types) frame.now.posts }
+    requires lawful { (s : State) → CoreStands S.meaning core s → frames ≡ frame_count s
+        → IsLawfulFor frame.now s order.now }
+    ensures replayed { IfOk result (λ r. (s : State) → CoreStands S.meaning core s
+        → frames ≡ frame_count s → ReplayedFrame S.meaning frame.now order.now s r.1 r.0) }
+{
+    states_stay_sound();
+    frames_agree_in_lawful_orders();
+    let (mut core, posts) = open(alloc, core, frames, frame)?;
+    let turns = run_turns(alloc, &mut core.stage, order)?;
+    let log = Log {
+        posts: Items::from_vec(posts),
+        turns: Items::from_vec(turns),
+    };
+    Ok((core, log))
+}
