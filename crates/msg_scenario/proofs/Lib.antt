@@ -9,6 +9,7 @@ pub mod Parts
 pub mod Puts
 pub mod ReportFrames
 pub mod ReportLines
+pub mod Reporting
 pub mod Running
 pub mod Shapes
 pub mod Sound

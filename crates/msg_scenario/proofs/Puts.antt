@@ -1,5 +1,5 @@
 -- Puts one after another.
-use Rattle.std.proofs.Common.{◌≡◌, ◌≢◌, ℕ, ◌+◌, ◌-◌, List, [], ◌∷◌, ◌++◌, length, take, drop, refl, ap, ◌∙◌, sym, append_assoc, append-nil, Result, Ok, Err, Option, OnErr, arith}
+use Rattle.std.proofs.Common.{◌≡◌, ◌≢◌, ℕ, ◌+◌, ◌-◌, List, [], ◌∷◌, ◌++◌, length, take, drop, refl, ap, ◌∙◌, sym, append_assoc, append-nil, Result, Ok, Err, Option, OnOk, OnErr, arith}
 use Rattle.std.proofs.Math.Seq.{take-add}
 use Rattle.std.proofs.lemmas.List.{take-append-drop}
 use Rattle.std.proofs.lemmas.Grind.{common_steps}
@@ -60,3 +60,17 @@ AppendsPrefix_zero a b c p xs d n e h k = (
 pub on_err : (E : Type 0) {T : Type 0} (r : Result T E) (P : Type 0) → P → OnErr r P
 on_err E (Ok x) P p = tt
 on_err E (Err e) P p = p
+
+-- what follows from a fact of an answer holds of it too
+pub on_ok_then : {E T : Type 0} (r : Result T E) (P Q : Type 0) → (P → Q) → OnOk r P → OnOk r Q
+on_ok_then (Ok x) P Q f p = f p
+on_ok_then (Err e) P Q f p = tt
+
+pub on_err_then : {E T : Type 0} (r : Result T E) (P Q : Type 0) → (P → Q) → OnErr r P → OnErr r Q
+on_err_then (Ok x) P Q f p = tt
+on_err_then (Err e) P Q f p = f p
+
+-- the fact of an error, where it is one
+pub of_err : {E T : Type 0} (r : Result T E) (e : E) (P : Type 0) → r ≡ Err e → OnErr r P → P
+of_err (Ok x) e P is p = cc
+of_err (Err e) f P is p = p

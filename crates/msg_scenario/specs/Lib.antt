@@ -7,6 +7,7 @@ pub mod Json
 pub mod Names
 pub mod Reading
 pub mod ReportText
+pub mod Reported
 pub mod Runnable
 pub mod Running
 pub mod ScenarioChecks

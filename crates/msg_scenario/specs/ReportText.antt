@@ -1,6 +1,6 @@
 -- The text that a scenario prints: frame by frame what the host's posts and the systems' ops were answered,
 -- and at the end what each reader got.
-use Rattle.std.specs.Prelude.{ℕ, ℤ, ◌+◌, ◌==◌, List, [], ◌∷◌, ◌++◌, Option, Some, None, slice_get, zip, flat_map, codes, decimal, if◌then◌else◌}
+use Rattle.std.specs.Prelude.{ℕ, ℤ, ◌+◌, ◌==◌, List, [], ◌∷◌, ◌++◌, Option, Some, None, length, slice_get, zip, flat_map, codes, decimal, if◌then◌else◌}
 use Rattle.std.specs.Fmt.{signed_decimal}
 use Rattle.std.specs.List.{enumerate_from}
 use Rattle.std.specs.Option.{option_map_or}
@@ -168,3 +168,8 @@ frames_text s number frames logs =
 -- the text of a scenario whose frames had these logs, and whose readers had these accounts at the end
 abbrev pub report_text : Scenario → List Log → List Account → Text
 report_text s logs accounts = frames_text s 1 s.frames logs ++ accounts_text s accounts
+
+-- the text of the frames that had these logs; and the readers' lines too, where these are all frames
+abbrev pub text_so_far : Scenario → List Log → List Account → Text
+text_so_far s logs accounts =
+    if length logs == length s.frames then report_text s logs accounts else frames_text s 1 s.frames logs

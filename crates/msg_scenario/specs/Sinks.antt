@@ -27,6 +27,10 @@ abbrev pub AppendsPrefix : Option (List ℕ) → Option (List ℕ) → List ℕ 
 AppendsPrefix old new text =
     (front : List ℕ) × (rest : List ℕ) × (text ≡ front ++ rest) × Appends old new front
 
+-- known bytes grow by a text, and maybe by more after it
+abbrev pub AppendsAtLeast : Option (List ℕ) → Option (List ℕ) → List ℕ → Type 0
+AppendsAtLeast old new text = (more : List ℕ) × Appends old new (text ++ more)
+
 -- the text was taken whole and without a failure, or a front of it and then a put failed
 abbrev pub TakesUnlessFailed : Option (List ℕ) → Option (List ℕ) → ℕ → ℕ → List ℕ → Type 0
 TakesUnlessFailed old new failures failures' text =

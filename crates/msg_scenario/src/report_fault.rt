@@ -1,8 +1,12 @@
+use msg_exec::RunFault;
 use thiserror::Error;
 
 /// Why the answers weren't printed to their end.
 #[derive(Clone, Copy, Debug, PartialEq, Eq, Error)]
 pub enum ReportFault {
+    /// A frame, or what the readers were given, couldn't be made.
+    #[error("run fault: {0}")]
+    Run(RunFault),
     /// The sink failed.
     #[error("write fault")]
     Write,

@@ -1,6 +1,6 @@
 use Rattle.msg_scenario.specs.ReportText.{post_line}
 use Rattle.msg_scenario.proofs.ReportLines.{no_pair_left}
-use Rattle.msg_scenario.proofs.report.frame.add_posts.Goals as goal
+use Rattle.msg_scenario.proofs.reports.frame.add_posts.Goals as goal
 
 pub returns : goal.returns
 returns c =

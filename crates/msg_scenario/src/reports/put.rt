@@ -5,9 +5,9 @@ ghost use Rattle.msg_scenario.specs.ReportText.{accounts_text, frame_text};
 ghost use Rattle.msg_scenario.specs.Sinks.{AppendsPrefix, one_more};
 
 use crate::Scenario;
-use crate::report::accounts::add_accounts;
-use crate::report::frame::add_frame;
 use crate::report_fault::ReportFault;
+use crate::reports::accounts::add_accounts;
+use crate::reports::frame::add_frame;
 use crate::sink::{Sink, put_all};
 use msg_exec::{Account, Frame, Log};
 

@@ -1,7 +1,7 @@
 use Rattle.std.proofs.Common.{◌≡◌, ◌++◌}
 use Rattle.msg_scenario.specs.ReportText.{post_line, posts_text}
 use Rattle.msg_scenario.proofs.ReportLines.{pieces_left}
-use Rattle.msg_scenario.proofs.report.frame.add_posts.Given as goal
+use Rattle.msg_scenario.proofs.reports.frame.add_posts.Given as goal
 
 abbrev pub invariant-loop-t : goal.invariant-loop-t
 invariant-loop-t l =

@@ -4,7 +4,7 @@ ghost use Rattle.msg_scenario.specs.ReportText.{item_text, items_text, more_item
 
 use crate::Scenario;
 use crate::numerals::{add_number, add_value, add_wide};
-use crate::report::names::add_writer;
+use crate::reports::names::add_writer;
 use msg_buffer::{NoMemory, Written};
 use msg_system::{Reply, Took};
 use msg_world::Record;

@@ -4,8 +4,8 @@ use self::parts::{
 use crate::Scenario;
 use crate::fakes::Narrow;
 use crate::memory_sink::MemorySink;
-use crate::report::{put_accounts, put_frame};
 use crate::report_fault::ReportFault;
+use crate::reports::put::{put_accounts, put_frame};
 use msg_buffer::{NoMemory, Written};
 use msg_exec::{Account, Frame, Items, Log, Outcome, Turn};
 use msg_system::{Op, Reply, Values};

@@ -3,8 +3,8 @@ ghost use Rattle.std.specs.Prelude.{◌≡◌, ◌++◌, OnOk};
 ghost use Rattle.msg_scenario.specs.ReportText.{account_line, accounts_text, standing_text};
 
 use crate::Scenario;
-use crate::report::names::{add_system, add_type};
-use crate::report::reply::add_count;
+use crate::reports::names::{add_system, add_type};
+use crate::reports::reply::add_count;
 use msg_buffer::NoMemory;
 use msg_exec::Account;
 

@@ -3,7 +3,7 @@ ghost use Rattle.std.specs.Prelude.{◌≡◌, ◌++◌, OnOk, codes};
 ghost use Rattle.msg_scenario.specs.ReportText.{op_text, resource_name, type_name};
 
 use crate::Scenario;
-use crate::report::names::{add_resource, add_type};
+use crate::reports::names::{add_resource, add_type};
 use msg_buffer::NoMemory;
 use msg_system::Op;
 use msg_world::{ResNo, TypeNo};

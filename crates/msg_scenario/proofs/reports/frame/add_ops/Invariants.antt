@@ -1,7 +1,7 @@
 use Rattle.std.proofs.Common.{◌≡◌, ◌++◌}
 use Rattle.msg_scenario.specs.ReportText.{op_line, ops_text}
 use Rattle.msg_scenario.proofs.ReportLines.{pieces_left}
-use Rattle.msg_scenario.proofs.report.frame.add_ops.Given as goal
+use Rattle.msg_scenario.proofs.reports.frame.add_ops.Given as goal
 
 abbrev pub invariant-loop-op : goal.invariant-loop-op
 invariant-loop-op l =

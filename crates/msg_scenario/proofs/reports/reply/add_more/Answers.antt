@@ -1,7 +1,7 @@
 use Rattle.std.proofs.Common.{◌+◌, arith}
 use Rattle.msg_scenario.specs.ReportText.{next_item}
 use Rattle.msg_scenario.proofs.ReportLines.{numbered_all, numbered_more, spaced}
-use Rattle.msg_scenario.proofs.report.reply.add_more.Goals as goal
+use Rattle.msg_scenario.proofs.reports.reply.add_more.Goals as goal
 
 pub loop-k-preserved : goal.loop-k-preserved
 loop-k-preserved c =

@@ -5,8 +5,9 @@ mod names;
 mod op;
 mod put;
 mod reply;
+mod run;
 
-pub use put::{put_accounts, put_frame};
+pub use run::report;
 
 #[cfg(test)]
 mod tests;

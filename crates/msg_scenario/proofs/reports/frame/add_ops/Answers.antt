@@ -1,6 +1,6 @@
 use Rattle.msg_scenario.specs.ReportText.{op_line}
 use Rattle.msg_scenario.proofs.ReportLines.{no_pair_left}
-use Rattle.msg_scenario.proofs.report.frame.add_ops.Goals as goal
+use Rattle.msg_scenario.proofs.reports.frame.add_ops.Goals as goal
 
 pub returns : goal.returns
 returns c =

@@ -1,7 +1,7 @@
 use Rattle.std.proofs.Common.{◌≡◌, ◌++◌, take}
 use Rattle.std.specs.Prelude.{flat_map}
 use Rattle.msg_scenario.specs.ReportText.{turn_text}
-use Rattle.msg_scenario.proofs.report.frame.add_turns.Given as goal
+use Rattle.msg_scenario.proofs.reports.frame.add_turns.Given as goal
 
 abbrev pub invariant-loop-turn : goal.invariant-loop-turn
 invariant-loop-turn l =

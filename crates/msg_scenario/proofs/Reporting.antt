@@ -1,0 +1,306 @@
+-- The frames of a scenario, run one after another, and what the sink took of their text.
+use Rattle.std.proofs.Common.{◌≡◌, ℕ, zero, suc, ◌+◌, ◌-◌, ◌^◌, ◌<◌, List, [], ◌∷◌, ◌++◌, length, get_or, take, refl, sym, ap, subst, ◌∙◌, append_assoc, append-nil, min, Option, Some, None, Result, Err, true, false, arith, inl, inr, eq-eqb}
+use Rattle.std.specs.Prelude.{All, IfSome, IsNone, IsSomeAnd, ◌==◌, ℤ, if◌then◌else◌}
+use Rattle.std.proofs.Math.Seq.{take-append_seam, take-length}
+use Rattle.std.proofs.lemmas.List.{length-append, take_more}
+use Rattle.std.specs.Io.KnownBytes.{Appends}
+use Rattle.std.proofs.KnownBytes.{Appends-nil, Appends-trans}
+use Rattle.msg_system.specs.Systems.{Meaning}
+use Rattle.msg_exec.specs.Accounts.{accounts_of}
+use Rattle.msg_exec.specs.Cores.{CoreStands}
+use Rattle.msg_exec.specs.Engines.{HasRunFrame, IsSpoiled, PostsFit, StandsFor, frames_of}
+use Rattle.msg_exec.specs.Frames.{IsFrame, IsRun, systems_in}
+use Rattle.msg_exec.specs.State.{State}
+use Rattle.msg_exec.specs.TurnLaws.{FrameKeeps, FramesKeepPrograms}
+use Rattle.msg_exec.specs.declared.account.Account.{Account}
+use Rattle.msg_exec.specs.declared.engine.EngineOf.{EngineOf}
+use Rattle.msg_exec.specs.declared.engine_core.Core.{Core}
+use Rattle.msg_exec.specs.declared.frame.Frame.{Frame}
+use Rattle.msg_exec.specs.declared.log.Log.{Log}
+use Rattle.msg_exec.specs.declared.refusals.RunFault.{RunFault}
+use Rattle.msg_exec.specs.declared.refusals.RunFault.TheVariants.{NoMemory, Spoiled}
+use Rattle.msg_scenario.specs.Json.{Text}
+use Rattle.msg_scenario.specs.ReportText.{accounts_text, frame_text, frames_text, report_text, text_so_far}
+use Rattle.msg_scenario.specs.Reported.{HasPrinted, HasReported, HasRunOut, HasStopped}
+use Rattle.msg_scenario.specs.Runnable.{PostsAreToTypes, state_of}
+use Rattle.msg_scenario.specs.Sinks.{AppendsPrefix}
+use Rattle.msg_scenario.specs.declared.scenario.Scenario.{Scenario}
+use Rattle.msg_scenario.proofs.Puts.{AppendsPrefix_after}
+use Rattle.msg_scenario.proofs.ReportFrames.{frames_text-none, frames_text_more}
+
+-- ---- texts
+
+-- the text so far begins with that of the frames
+text_so_far_parts : (s : Scenario) (logs : List Log) (accounts : List Account)
+    → (rest : Text) × (text_so_far s logs accounts ≡ frames_text s 1 s.frames logs ++ rest)
+text_so_far_parts s logs accounts =
+    elim (length logs == length s.frames) as (λ b. (rest : Text)
+    × ((if b then report_text s logs accounts else frames_text s 1 s.frames logs) ≡ frames_text s 1 s.frames logs ++ rest)) [
+      | true ↦ (accounts_text s accounts, refl)
+      | false ↦ ([], sym (append-nil (frames_text s 1 s.frames logs)))
+    ]
+
+-- where all frames were run it is the whole report
+text_so_far_whole : (s : Scenario) (logs : List Log) (accounts : List Account) → length logs ≡ length s.frames
+    → text_so_far s logs accounts ≡ report_text s logs accounts
+text_so_far_whole s logs accounts all =
+    ap (λ b. if b then report_text s logs accounts else frames_text s 1 s.frames logs) (eq-eqb (length logs) (length s.frames) all)
+
+-- the text of frames begins with that of the first of them
+frames_text_front : (s : Scenario) (number n : ℕ) (frames : List Frame) (logs : List Log)
+    → (rest : Text) × (frames_text s number frames logs ≡ frames_text s number frames (take n logs) ++ rest)
+frames_text_front s number n [] logs = ([], refl)
+frames_text_front s number zero (frame ∷ frames) logs = (frames_text s number (frame ∷ frames) logs, refl)
+frames_text_front s number (suc n) (frame ∷ frames) [] = ([], refl)
+frames_text_front s number (suc n) (frame ∷ frames) (log ∷ logs) =
+    let here = frame_text s number frame log in
+    let more = frames_text_front s (number + 1) n frames logs in
+    (more.0, ap (λ l. here ++ l) more.1 ∙ sym (append_assoc here (frames_text s (number + 1) frames (take n logs)) more.0))
+
+-- ---- runs
+
+-- one frame more
+run_more : (frames : List Frame) (frame : Frame) (s : State) (logs : List Log) (log : Log) (m u : State)
+    → IsRun frames s logs m → IsFrame frame m log u → IsRun (frames ++ frame ∷ []) s (logs ++ log ∷ []) u
+run_more [] frame s [] log m u none one = (u, subst (λ x. IsFrame frame x log u) none one, refl)
+run_more [] frame s (l ∷ logs) log m u none one = absurd none
+run_more (f ∷ frames) frame s [] log m u none one = absurd none
+run_more (f ∷ frames) frame s (l ∷ logs) log m u some one =
+    (some.0, some.1, run_more frames frame some.0 logs log m u some.2 one)
+
+module _ {X : Type 0} (meaning : X → Meaning) where
+  fits : (o : Option (Core X)) (u : State) (posts : List (ℕ × ℤ)) → IsSomeAnd o (λ c. CoreStands meaning c u)
+      → All (λ p. p.0 < u.types) posts → IfSome o (λ c. All (λ p. p.0 < length c.stage.world.types) posts)
+  fits (Some c) u posts stands fit = subst (λ n. All (λ p. p.0 < n) posts) (sym stands.stage.types) fit
+  fits None u posts stands fit = absurd stands
+
+  no_core : (o : Option (Core X)) (u : State) → IsSomeAnd o (λ c. CoreStands meaning c u) → IsNone o → ⊥
+  no_core (Some c) u stands none = cc
+  no_core None u stands none = absurd stands
+
+  -- what stands for a state isn't spoiled
+  pub not_spoiled : (e : EngineOf X) (u : State) → StandsFor meaning e u → ¬ IsSpoiled e
+  not_spoiled e u stands spoiled = no_core e.core u stands.core spoiled
+
+  module _ (s : Scenario) where
+    -- after the first k frames
+    pub record ReportSoFar (k : ℕ) (before now : Option (List ℕ)) (e : EngineOf X) : Type 0 where
+      pub logs : List Log
+      pub state : State
+      pub as_many : length logs ≡ k
+      pub is_run : IsRun (take k s.frames) (state_of s) logs state
+      pub frames : state.frames ≡ k
+      pub types : state.types ≡ length s.types
+      pub printed : Appends before now (frames_text s 1 s.frames logs)
+      pub stands : StandsFor meaning e state
+
+    pub report_begun : (known : Option (List ℕ)) (e : EngineOf X) → StandsFor meaning e (state_of s)
+        → ReportSoFar 0 known known e
+    report_begun known e stands = record {
+      logs = [];
+      state = state_of s;
+      as_many = refl;
+      is_run = refl;
+      frames = refl;
+      types = refl;
+      printed = subst (Appends known known) (sym (frames_text-none s 1 s.frames)) (Appends-nil known);
+      stands = stands;
+    }
+
+    pub posts_fit : (k : ℕ) (before now : Option (List ℕ)) (e : EngineOf X) (frame : Frame)
+        → ReportSoFar k before now e → PostsAreToTypes s frame → PostsFit e frame
+    posts_fit k before now e frame far fit =
+        fits e.core far.state frame.posts far.stands.core (subst (λ n. All (λ p. p.0 < n) frame.posts) (sym far.types) fit)
+
+    -- ---- a frame
+
+    -- the frame after the first k was run, and its text isn't put yet
+    pub record JustRun (k : ℕ) (before now : Option (List ℕ)) (frame : Frame) (log : Log) (e : EngineOf X) : Type 0 where
+      pub earlier : List Log
+      pub state : State
+      pub as_many : length earlier ≡ k
+      pub is_run : IsRun (take (k + 1) s.frames) (state_of s) (earlier ++ log ∷ []) state
+      pub frames : state.frames ≡ k + 1
+      pub types : state.types ≡ length s.types
+      pub printed : Appends before now (frames_text s 1 s.frames earlier)
+      pub next : frames_text s 1 s.frames (earlier ++ log ∷ [])
+          ≡ frames_text s 1 s.frames earlier ++ frame_text s (k + 1) frame log
+      pub stands : StandsFor meaning e state
+
+    pub just_run : FramesKeepPrograms → (k : ℕ) (before now : Option (List ℕ)) (e f : EngineOf X) (frame : Frame) (log : Log)
+        → ReportSoFar k before now e → k < length s.frames → frame ≡ get_or s.frames k frame
+        → ((u : State) → StandsFor meaning e u → HasRunFrame meaning frame u log f) → JustRun k before now frame log f
+    just_run keep k before now e f frame log far lt is ran =
+        let one = ran far.state far.stands in
+        let kept : FrameKeeps (systems_in log) frame far.state = keep (systems_in log) frame far.state in
+        let longer : take (k + 1) s.frames ≡ take k s.frames ++ frame ∷ [] =
+        take_more s.frames k frame lt ∙ ap (λ x. take k s.frames ++ x ∷ []) (sym is) in
+        let many = far.as_many in
+        let there : length far.logs < length s.frames = omega (arith, lt, many) in
+        let at : get_or s.frames (length far.logs) frame ≡ frame = ap (λ n. get_or s.frames n frame) many ∙ sym is in
+        let number : 1 + length far.logs ≡ k + 1 = omega (arith, many) in
+        let suc_is : suc k ≡ k + 1 = omega arith in
+        record {
+          earlier = far.logs;
+          state = one.state;
+          as_many = many;
+          is_run = subst (λ fs. IsRun fs (state_of s) (far.logs ++ log ∷ []) one.state) (sym longer)
+              (run_more (take k s.frames) frame (state_of s) far.logs log far.state one.state far.is_run one.is_frame);
+          frames = ap (λ (u : State). u.frames) one.is_frame.leaves ∙ kept.counted ∙ ap suc far.frames ∙ suc_is;
+          types = ap (λ (u : State). u.types) one.is_frame.leaves ∙ kept.after.types ∙ far.types;
+          printed = far.printed;
+          next = frames_text_more s 1 s.frames far.logs log frame there
+              ∙ ap (λ x. frames_text s 1 s.frames far.logs ++ frame_text s (1 + length far.logs) x log) at
+              ∙ ap (λ n. frames_text s 1 s.frames far.logs ++ frame_text s n frame log) number;
+          stands = one.stands;
+        }
+
+    module _ (k : ℕ) (before now after : Option (List ℕ)) (frame : Frame) (log : Log) (e : EngineOf X) (number : ℕ)
+        (just : JustRun k before now frame log e) (is : number ≡ k + 1) where
+      -- its text was put
+      pub frame_put : Appends now after (frame_text s number frame log) → ReportSoFar (k + 1) before after e
+      frame_put puts =
+          let sum = length-append just.earlier (log ∷ []) in
+          let many = just.as_many in
+          record {
+            logs = just.earlier ++ log ∷ [];
+            state = just.state;
+            as_many = omega (arith, sum, many);
+            is_run = just.is_run;
+            frames = just.frames;
+            types = just.types;
+            printed = subst (Appends before after) (sym just.next)
+                (Appends-trans before now after (frames_text s 1 s.frames just.earlier) (frame_text s (k + 1) frame log)
+                just.printed (subst (λ n. Appends now after (frame_text s n frame log)) is puts));
+            stands = just.stands;
+          }
+
+      -- its text was put in part
+      pub frame_stopped : AppendsPrefix now after (frame_text s number frame log) → HasStopped meaning s before after e
+      frame_stopped puts =
+          let logs : List Log = just.earlier ++ log ∷ [] in
+          let first = frames_text s 1 s.frames just.earlier in
+          let here = frame_text s (k + 1) frame log in
+          let rest = text_so_far_parts s (just.earlier ++ log ∷ []) (accounts_of just.state) in
+          let part : AppendsPrefix now after here = subst (λ n. AppendsPrefix now after (frame_text s n frame log)) is puts in
+          let sum = length-append just.earlier (log ∷ []) in
+          let many = just.as_many in
+          let length_is : length (just.earlier ++ log ∷ []) ≡ k + 1 = omega (arith, sum, many) in
+          let one_less : length (just.earlier ++ log ∷ []) - 1 ≡ length just.earlier = omega (arith, sum) in
+          let earlier : take (length (just.earlier ++ log ∷ []) - 1) (just.earlier ++ log ∷ []) ≡ just.earlier =
+          ap (λ n. take n (just.earlier ++ log ∷ [])) one_less ∙ take-append_seam just.earlier (log ∷ []) in
+          record {
+            logs = just.earlier ++ log ∷ [];
+            state = just.state;
+            is_run = subst (λ n. IsRun (take n s.frames) (state_of s) (just.earlier ++ log ∷ []) just.state) (sym length_is) just.is_run;
+            stands = just.stands;
+            counted = just.stands.frames ∙ ap (λ n. min n (2 ^ 32 - 1)) (just.frames ∙ sym length_is);
+            printed = AppendsPrefix_after before now after first here rest.0 _
+                (rest.1 ∙ ap (λ l. l ++ rest.0) just.next) just.printed part;
+            earlier = (
+              part.0,
+              subst (λ l. Appends before after (frames_text s 1 s.frames l ++ part.0)) (sym earlier)
+                  (Appends-trans before now after first part.0 just.printed part.3),
+            );
+          }
+
+    -- ---- no memory
+
+    pub run_out : (k : ℕ) (before now : Option (List ℕ)) (e f : EngineOf X) → ReportSoFar k before now e → k < length s.frames
+        → frames_of f ≡ frames_of e → IsSpoiled f → HasRunOut meaning s before now f
+    run_out k before now e f far lt counted spoiled =
+        let many = far.as_many in
+        record {
+          logs = far.logs;
+          state = far.state;
+          is_run = subst (λ n. IsRun (take n s.frames) (state_of s) far.logs far.state) (sym many) far.is_run;
+          printed = far.printed;
+          counted = counted ∙ far.stands.frames ∙ ap (λ n. min n (2 ^ 32 - 1)) (far.frames ∙ sym many);
+          left = inl (spoiled, omega (arith, lt, many));
+        }
+
+    -- a frame answers nothing else, as the engine wasn't spoiled
+    pub no_memory_for_frame : (k : ℕ) (before now : Option (List ℕ)) (e f : EngineOf X) (r : Result Log RunFault) (fault : RunFault)
+        → ReportSoFar k before now e → k < length s.frames → r ≡ Err fault → (r ≡ Err Spoiled → IsSpoiled e)
+        → (r ≡ Err NoMemory → IsSpoiled f) → (r ≡ Err NoMemory → frames_of f ≡ frames_of e) → HasRunOut meaning s before now f
+    no_memory_for_frame k before now e f r Spoiled far lt is spoiled out counted =
+        absurd (not_spoiled e far.state far.stands (spoiled is))
+    no_memory_for_frame k before now e f r NoMemory far lt is spoiled out counted =
+        run_out k before now e f far lt (counted is) (out is)
+
+    pub accounts_out : (k : ℕ) (before now : Option (List ℕ)) (e : EngineOf X) → ReportSoFar k before now e
+        → k ≡ length s.frames → HasRunOut meaning s before now e
+    accounts_out k before now e far all =
+        let many = far.as_many in
+        record {
+          logs = far.logs;
+          state = far.state;
+          is_run = subst (λ n. IsRun (take n s.frames) (state_of s) far.logs far.state) (sym many) far.is_run;
+          printed = far.printed;
+          counted = far.stands.frames ∙ ap (λ n. min n (2 ^ 32 - 1)) (far.frames ∙ sym many);
+          left = inr (far.stands, many ∙ all);
+        }
+
+    -- ---- the readers
+
+    module _ (k : ℕ) (before now after : Option (List ℕ)) (e : EngineOf X) (accounts : List Account)
+        (far : ReportSoFar k before now e) (all : k ≡ length s.frames)
+        (are : (u : State) → StandsFor meaning e u → accounts ≡ accounts_of u) where
+      -- their lines were put
+      pub readers_put : Appends now after (accounts_text s accounts) → HasReported meaning s before after e
+      readers_put puts = record {
+        logs = far.logs;
+        state = far.state;
+        is_run = subst (λ fs. IsRun fs (state_of s) far.logs far.state) (ap (λ n. take n s.frames) all ∙ take-length s.frames) far.is_run;
+        printed = Appends-trans before now after (frames_text s 1 s.frames far.logs) (accounts_text s (accounts_of far.state))
+            far.printed (subst (λ l. Appends now after (accounts_text s l)) (are far.state far.stands) puts);
+        stands = far.stands;
+      }
+
+      -- their lines were put in part
+      pub readers_stopped : AppendsPrefix now after (accounts_text s accounts) → HasStopped meaning s before after e
+      readers_stopped puts =
+          let many = far.as_many in
+          let first = frames_text s 1 s.frames far.logs in
+          let lines = accounts_text s (accounts_of far.state) in
+          let part : AppendsPrefix now after (accounts_text s (accounts_of far.state)) =
+          subst (λ l. AppendsPrefix now after (accounts_text s l)) (are far.state far.stands) puts in
+          let front = frames_text_front s 1 (length far.logs - 1) s.frames far.logs in
+          let earlier = frames_text s 1 s.frames (take (length far.logs - 1) far.logs) in
+          record {
+            logs = far.logs;
+            state = far.state;
+            is_run = subst (λ n. IsRun (take n s.frames) (state_of s) far.logs far.state) (sym many) far.is_run;
+            stands = far.stands;
+            counted = far.stands.frames ∙ ap (λ n. min n (2 ^ 32 - 1)) (far.frames ∙ sym many);
+            printed = AppendsPrefix_after before now after first lines [] _
+                (text_so_far_whole s far.logs (accounts_of far.state) (many ∙ all) ∙ sym (append-nil (first ++ lines)))
+                far.printed part;
+            earlier = (
+              front.0 ++ part.0,
+              subst (Appends before after)
+                  (ap (λ l. l ++ part.0) front.1 ∙ append_assoc earlier front.0 part.0)
+                  (Appends-trans before now after first part.0 far.printed part.3),
+            );
+          }
+
+    -- ---- in either case a front of the text so far was put
+
+    pub stopped_printed : (before after : Option (List ℕ)) (e : EngineOf X) → HasStopped meaning s before after e
+        → HasPrinted s before after
+    stopped_printed before after e stopped = record {
+      logs = stopped.logs;
+      state = stopped.state;
+      is_run = stopped.is_run;
+      printed = stopped.printed;
+    }
+
+    pub out_printed : (before after : Option (List ℕ)) (e : EngineOf X) → HasRunOut meaning s before after e
+        → HasPrinted s before after
+    out_printed before after e out =
+        let rest = text_so_far_parts s out.logs (accounts_of out.state) in record {
+          logs = out.logs;
+          state = out.state;
+          is_run = out.is_run;
+          printed = (frames_text s 1 s.frames out.logs, rest.0, rest.1, out.printed);
+        }

@@ -1,0 +1,56 @@
+-- What a report leaves: which frames were run, what the sink took, and what the engine stands for.
+use Rattle.std.specs.Prelude.{◌≡◌, ◌⊎◌, ℕ, ◌<◌, ◌-◌, ◌^◌, min, List, ◌++◌, length, take, Option}
+use Rattle.std.specs.Io.KnownBytes.{Appends}
+use Rattle.msg_system.specs.Systems.{Meaning}
+use Rattle.msg_exec.specs.Accounts.{accounts_of}
+use Rattle.msg_exec.specs.Engines.{IsSpoiled, StandsFor, frames_of}
+use Rattle.msg_exec.specs.Frames.{IsRun}
+use Rattle.msg_exec.specs.State.{State}
+use Rattle.msg_exec.specs.declared.engine.EngineOf.{EngineOf}
+use Rattle.msg_exec.specs.declared.log.Log.{Log}
+use Rattle.msg_scenario.specs.ReportText.{frames_text, report_text, text_so_far}
+use Rattle.msg_scenario.specs.Runnable.{state_of}
+use Rattle.msg_scenario.specs.Sinks.{AppendsAtLeast, AppendsPrefix}
+use Rattle.msg_scenario.specs.declared.scenario.Scenario.{Scenario}
+
+-- the first frames of a scenario, as many as there are logs, have these logs and leave this state
+abbrev pub HasRunFirst : Scenario → List Log → State → Type 0
+HasRunFirst s logs state = IsRun (take (length logs) s.frames) (state_of s) logs state
+
+-- The sink took a front of the text of the frames that were run.
+pub record HasPrinted (s : Scenario) (before after : Option (List ℕ)) : Type 0 where
+  pub logs : List Log
+  pub state : State
+  pub is_run : HasRunFirst s logs state
+  pub printed : AppendsPrefix before after (text_so_far s logs (accounts_of state))
+
+module _ {X : Type 0} (meaning : X → Meaning) (s : Scenario) where
+  -- All frames were run, and the sink took the whole report.
+  pub record HasReported (before after : Option (List ℕ)) (e : EngineOf X) : Type 0 where
+    pub logs : List Log
+    pub state : State
+    pub is_run : IsRun s.frames (state_of s) logs state
+    pub printed : Appends before after (report_text s logs (accounts_of state))
+    pub stands : StandsFor meaning e state
+
+  -- The report ended after a whole frame, the last one that was run: the engine stands for the state after it. The
+  -- sink took all of the text of the frames before that one, and a front of what follows.
+  pub record HasStopped (before after : Option (List ℕ)) (e : EngineOf X) : Type 0 where
+    pub logs : List Log
+    pub state : State
+    pub is_run : HasRunFirst s logs state
+    pub stands : StandsFor meaning e state
+    pub counted : frames_of e ≡ min (length logs) (2 ^ 32 - 1)
+    pub printed : AppendsPrefix before after (text_so_far s logs (accounts_of state))
+    pub earlier : AppendsAtLeast before after (frames_text s 1 s.frames (take (length logs - 1) logs))
+
+  -- There was no memory for a frame or for the accounts: the sink took exactly the text of the frames that were run,
+  -- and that the engine counts. In a frame the engine is spoiled by it, and in the accounts it isn't.
+  pub record HasRunOut (before after : Option (List ℕ)) (e : EngineOf X) : Type 0 where
+    pub logs : List Log
+    pub state : State
+    pub is_run : HasRunFirst s logs state
+    pub printed : Appends before after (frames_text s 1 s.frames logs)
+    pub counted : frames_of e ≡ min (length logs) (2 ^ 32 - 1)
+    pub left : (IsSpoiled e × (length logs < length s.frames))
+        ⊎ (StandsFor meaning e state × (length logs ≡ length s.frames))

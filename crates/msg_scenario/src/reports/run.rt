@@ -1,0 +1,70 @@
+// The report of a scenario: frame by frame, and then the readers.
+ghost use Rattle.std.specs.Prelude.{◌≡◌, ◌≢◌, ◌⊎◌, All, Err, OnOk, OnErr, IfErr};
+ghost use Rattle.msg_exec.specs.Engines.{StandsFor};
+ghost use Rattle.msg_exec.specs.declared.refusals.RunFault.TheVariants.{NoMemory, Spoiled};
+ghost use Rattle.msg_scenario.specs.Reported.{HasPrinted, HasReported, HasRunOut, HasStopped};
+ghost use Rattle.msg_scenario.specs.Runnable.{PostsAreToTypes, state_of};
+ghost use Rattle.msg_scenario.specs.Sinks.{one_more};
+
+use crate::Scenario;
+use crate::report_fault::ReportFault;
+use crate::reports::put::{put_accounts, put_frame};
+use crate::sink::Sink;
+use msg_exec::laws::frames_keep_programs;
+use msg_exec::{EngineOf, Gate, Workers};
+use msg_system::System;
+use std::alloc::Global;
+use std::thread::Threads;
+
+/// Runs the frames of a scenario, and puts the text of each before it runs the next; and then a line
+/// for each reader. The engine is one of the scenario, which has run no frame.
+///
+/// # Errors
+///
+/// `Run` where a frame or the accounts had no memory, `Write` where the sink failed, and `NoMemory`
+/// where a text had none.
+pub fn report<R: Threads + Sync, X: System, S: Sink, G: Gate>(
+    rt: &R,
+    alloc: Global,
+    engine: &mut EngineOf<X>,
+    scenario: &Scenario,
+    workers: Workers,
+    gate: &G,
+    sink: &mut S,
+) -> Result<(), ReportFault>
+    requires engine { StandsFor X.meaning engine.old (state_of scenario.now) }
+    requires posts { All (PostsAreToTypes scenario.now) scenario.now.frames }
+
+    // Whatever the workers and the gate: the text is that of one thread.
+    ensures ok { OnOk result (HasReported X.meaning scenario.now
+        (S.contents sink.old) (S.contents sink.new) engine.new) }
+    ensures prefix { OnErr result
+        (HasPrinted scenario.now (S.contents sink.old) (S.contents sink.new)) }
+    ensures run { result ≡ Err (ReportFault.Run NoMemory) → HasRunOut X.meaning scenario.now
+        (S.contents sink.old) (S.contents sink.new) engine.new }
+    ensures not_spoiled { result ≢ Err (ReportFault.Run Spoiled) }
+
+    // After a whole frame, and not in the middle of one.
+    ensures stopped { (result ≡ Err ReportFault.Write) ⊎ (result ≡ Err ReportFault.NoMemory)
+        → HasStopped X.meaning scenario.now
+        (S.contents sink.old) (S.contents sink.new) engine.new }
+    ensures write { result ≡ Err ReportFault.Write
+        → S.failures sink.new ≡ one_more (S.failures sink.old) }
+    ensures quiet { result ≢ Err ReportFault.Write → S.failures sink.new ≡ S.failures sink.old }
+{
+    frames_keep_programs();
+    let mut text = Vec::new(alloc);
+    let mut number = 0u64;
+    for frame in scenario.frames.as_slice() {
+        let log = match engine.run_frame(rt, frame, workers, gate) {
+            Ok(log) => log,
+            Err(fault) => return Err(ReportFault::Run(fault)),
+        };
+        number += 1;
+        put_frame(scenario, number, frame, &log, &mut text, sink)?;
+    }
+    match engine.accounts() {
+        Ok(accounts) => put_accounts(scenario, accounts.as_slice(), &mut text, sink),
+        Err(fault) => Err(ReportFault::Run(fault)),
+    }
+}
