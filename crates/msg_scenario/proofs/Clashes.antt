@@ -1,5 +1,6 @@
 -- Programs that read and write one type.
 use Rattle.std.proofs.Common.{◌≡◌, ℕ, ◌+◌, ◌≤◌, ◌<◌, List, [], ◌∷◌, length, get_or, drop, refl, sym, ap, ◌∙◌, Option, Some, None, Bool, true, false, not, arith, inl, inr}
+use Rattle.std.proofs.lemmas.Bool.{false≢true}
 use Rattle.std.proofs.lemmas.List.{drop_more, drop_all}
 use Rattle.std.specs.List.{list_any}
 use Rattle.std.specs.Option.{option_map_or}
@@ -8,6 +9,7 @@ use Rattle.msg_world.specs.Access.{Part, OfType, OfResource, Registry, IsClash, 
 use Rattle.msg_world.specs.declared.access.Access.{Access}
 use Rattle.msg_system.specs.Needs.{IsAccessOf, is_part, op_parts, program_needs, some_op_reads, some_op_writes, type_of, type_read}
 use Rattle.msg_system.specs.declared.op.Op.{Op}
+use Rattle.msg_system.specs.declared.op.Op.TheVariants.{Write, Batch, Read, Len, Missed, Clear, Forward, Sum, Get, Set, Add, Drain, Signal}
 use Rattle.msg_scenario.specs.Check.{first_refusal}
 use Rattle.msg_scenario.specs.ScenarioChecks.{clash_checks, reads_and_writes_a_type}
 use Rattle.msg_scenario.specs.declared.scenario.SystemSpec.{SystemSpec}
@@ -41,7 +43,7 @@ ClashesLeft-end systems s left end =
 
 -- ---- one program
 
-either : (a b : Bool) → a || b ≡ true → (a ≡ true) ⊎ (b ≡ true)
+pub either : (a b : Bool) → a || b ≡ true → (a ≡ true) ⊎ (b ≡ true)
 either true b h = inl refl
 either false b h = inr h
 
@@ -93,7 +95,7 @@ clash_in all (op ∷ ops) h =
           (found.0, right_true (is_part (op_parts op).read (OfType found.0)) _ found.1, found.2)
     ]
 
-both_true : (a b : Bool) → a && b ≡ true → (a ≡ true) × (b ≡ true)
+pub both_true : (a b : Bool) → a && b ≡ true → (a ≡ true) × (b ≡ true)
 both_true true true h = (refl, refl)
 both_true true false h = cc
 both_true false b h = cc
@@ -103,16 +105,42 @@ not_its_own true true h e = cc
 not_its_own true false h e = cc
 not_its_own false b h e = cc
 
--- an access that clashes is that of a program which reads and writes one type
+-- nothing reads the registry
+not_read : (op : Op) → is_part (op_parts op).read Registry ≡ false
+not_read (Write t v) = refl
+not_read (Batch t vs) = refl
+not_read (Read t limit) = refl
+not_read (Len t) = refl
+not_read (Missed t) = refl
+not_read (Clear t) = refl
+not_read (Forward t u) = refl
+not_read (Sum t r) = refl
+not_read (Get r) = refl
+not_read (Set r v) = refl
+not_read (Add r v) = refl
+not_read (Drain t) = refl
+not_read Signal = refl
+
+none_reads : (ops : List Op) → (program_needs ops).reads Registry ≡ true → ⊥
+none_reads [] h = cc
+none_reads (op ∷ ops) h =
+    elim (either (is_part (op_parts op).read Registry) (some_op_reads ops Registry) (both_true _ true h).0) [
+      | inl here ↦ absurd (false≢true (sym (not_read op) ∙ here))
+      | inr later ↦ none_reads ops (rw later refl)
+    ]
+
+-- a program that needs a part both for reading and for writing reads and writes one type
+pub needs_clash : (ops : List Op) (p : Part) → (program_needs ops).reads p ≡ true → (program_needs ops).writes p ≡ true
+    → reads_and_writes_a_type ops ≡ true
+needs_clash ops (OfType t) r w = clash_of ops ops t (both_true (some_op_reads ops (OfType t)) true r).0 w
+needs_clash ops (OfResource n) r w =
+    absurd (not_its_own (some_op_reads ops (OfResource n)) (some_op_writes ops (OfResource n)) r w)
+needs_clash ops Registry r w = absurd (none_reads ops r)
+
+-- an access that clashes is that of such a program
 part_clash : (ops : List Op) (a : Access) (p : Part) → IsAccessOf (program_needs ops) a
     → reads a p ≡ true → writes a p ≡ true → reads_and_writes_a_type ops ≡ true
-part_clash ops a (OfType t) is r w =
-    clash_of ops ops t (both_true (some_op_reads ops (OfType t)) true (sym (is.reads (OfType t)) ∙ r)).0
-    (sym (is.writes (OfType t)) ∙ w)
-part_clash ops a (OfResource n) is r w =
-    absurd (not_its_own (some_op_reads ops (OfResource n)) (some_op_writes ops (OfResource n))
-    (sym (is.reads (OfResource n)) ∙ r) (sym (is.writes (OfResource n)) ∙ w))
-part_clash ops a Registry is r w = cc
+part_clash ops a p is r w = needs_clash ops p (sym (is.reads p) ∙ r) (sym (is.writes p) ∙ w)
 
 pub is_clash_of : (ops : List Op) (a : Access) (b : Bool) → IsAccessOf (program_needs ops) a → (IsTrue b ↔ IsClash a)
     → b ≡ reads_and_writes_a_type ops

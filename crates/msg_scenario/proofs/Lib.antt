@@ -1,6 +1,7 @@
 pub mod Clashes
 pub mod Conditions
 pub mod Files
+pub mod Fitting
 pub mod Lines
 pub mod Lists
 pub mod Named
@@ -15,4 +16,5 @@ pub mod Shapes
 pub mod Sound
 pub mod Spaces
 pub mod Systems
+pub mod There
 pub mod Walks

@@ -1,13 +1,13 @@
 -- What is known of a scenario that was read.
-use Rattle.std.proofs.Common.{◌≡◌, ℕ, ◌+◌, ◌≤◌, ◌<◌, List, [], ◌∷◌, ◌++◌, length, refl, sym, ap, ◌∙◌, Option, Some, None, Bool, true, false, arith, map, subst}
+use Rattle.std.proofs.Common.{◌≡◌, ℕ, get_or, ◌+◌, ◌≤◌, ◌<◌, List, [], ◌∷◌, ◌++◌, length, refl, sym, ap, ◌∙◌, Option, Some, None, Bool, true, false, arith, map, subst}
 use Rattle.std.proofs.lemmas.Grind.{common_steps}
 use Rattle.std.proofs.lemmas.List.Elements.{All-cons, All-head, All-tail}
 use Rattle.std.proofs.lemmas.List.Quantifiers.{position-Some}
-use Rattle.std.specs.Prelude.{replicate, unwrap_or, if◌then◌else◌, nat_le, nat_lt, option_and_then, option_map}
+use Rattle.std.specs.Prelude.{All, replicate, unwrap_or, if◌then◌else◌, nat_le, nat_lt, option_and_then, option_map}
 use Rattle.std.specs.Str.{bytes_eq}
 use Rattle.serde_json.specs.Data.{Data}
 use Rattle.msg_order.specs.Order.{NameSystemsBelow, has_joined, rules_among}
-use Rattle.msg_order.specs.Graph.{Graph, IsLowestOnCycle}
+use Rattle.msg_order.specs.Graph.{Graph, IsAcyclic, IsLowestOnCycle}
 use Rattle.msg_order.specs.Plan.{RefusesFor}
 use Rattle.msg_order.specs.declared.plan_refusal.PlanRefusal.{PlanRefusal}
 use Rattle.msg_order.specs.declared.plan_refusal.PlanRefusal.TheVariants.{Cycle as PlanCycle}
@@ -16,109 +16,65 @@ use Rattle.msg_scenario.specs.Check.{Check, first_refusal, needs}
 use Rattle.msg_scenario.specs.Json.{Text, all_some, elements, is_list, only_below}
 use Rattle.msg_scenario.specs.Names.{Declared, place_of, system_number}
 use Rattle.serde_json.specs.Find.{as_bool}
-use Rattle.msg_scenario.specs.Reading.{IsWithinLimits, edges_of}
+use Rattle.msg_scenario.specs.Reading.{edges_of}
+use Rattle.msg_scenario.specs.Runnable.{IsRunnable, PostsAreToTypes}
 use Rattle.msg_scenario.specs.ScenarioChecks.{checks_in_turn, clash_checks, names_checks, resource_checks, root_object, scenario_checks, section_checks, system_checks, type_checks}
 use Rattle.msg_scenario.specs.declared.scenario.Scenario.{Scenario}
 use Rattle.msg_scenario.specs.declared.scenario.SystemSpec.{SystemSpec}
+use Rattle.msg_scenario.proofs.Fitting.{NamesOf, SystemFits, frames_fit, no_part_clashes, none_clash, systems_fit}
+use Rattle.msg_scenario.proofs.There.{below_there, both_pass, both_there, each_all, in_turn_length, map_there, passed_length, then_there, two_there}
 use Rattle.msg_scenario.proofs.Walks.{first_refusal-passed}
 use Rattle.msg_scenario.proofs.Files.{from_held, from_resources, from_rules, from_systems, from_types, held_check}
 use Rattle.msg_scenario.specs.ScenarioDenotes.{all_names, both, each_in_turn, each_of, frame_of, frames_in, held_in, no_names, of_two, part_names, resource_of, resources_in, rule_of, rules_in, rules_of, scenario_of, system_of, systems_in, systems_of, text, type_names, type_of, types_in, with_all, with_resource, with_system, with_type}
 use Rattle.msg_scenario.specs.declared.refusal.Refusal.{Refusal}
 use Rattle.msg_scenario.specs.declared.refusal.Refusal.TheVariants.{Shape, TooMany}
 
--- ---- options that are there
+-- ---- names
 
-some_same : {A : Type 0} {a b : A} → Some a ≡ Some b → a ≡ b
-some_same {A} {a} {b} e = ap (λ o. elim o as (λ x. A) [ None ↦ a | Some y ↦ y ]) e
+-- names of one kind stay where those of another are declared
+names_keep : (part : Declared → List Text) (with_one : Declared → Data → Declared)
+    → ((names : Declared) (d : Data) → part (with_one names d) ≡ part names)
+    → (names : Declared) (ds : List Data) → part (with_all with_one names ds) ≡ part names
+names_keep part with_one keeps names [] = refl
+names_keep part with_one keeps names (d ∷ ds) =
+    names_keep part with_one keeps (with_one names d) ds ∙ keeps names d
 
-both_there : {A B C : Type 0} (f : A → B → C) (o : Option A) (p : Option B) (c : C) → both f o p ≡ Some c
-    → (a : A) × (b : B) × (o ≡ Some a) × (p ≡ Some b) × (f a b ≡ c)
-both_there f None p c h = cc
-both_there f (Some a) None c h = cc
-both_there f (Some a) (Some b) c h = (a, b, refl, refl, some_same h)
-
-map_there : {A B : Type 0} (f : A → B) (o : Option A) (b : B) → option_map f o ≡ Some b
-    → (a : A) × (o ≡ Some a) × (f a ≡ b)
-map_there f None b h = cc
-map_there f (Some a) b h = (a, refl, some_same h)
-
-some_there : {A : Type 0} (o : Option A) (os : List (Option A)) (xs : List A) → all_some (o ∷ os) ≡ Some xs
-    → (a : A) × (rest : List A) × (o ≡ Some a) × (all_some os ≡ Some rest) × (a ∷ rest ≡ xs)
-some_there None os xs h = cc
-some_there (Some a) os xs h = let there = map_there (λ rest. a ∷ rest) (all_some os) xs h in
-    (a, there.0, refl, there.1, there.2)
-
--- ---- lengths
-
-module _ {A : Type 0} (f : Declared → Data → Option A) (with_one : Declared → Data → Declared) where
-  -- each element denotes one thing
-  pub in_turn_length : (names : Declared) (ds : List Data) (xs : List A) → each_in_turn f with_one names ds ≡ Some xs
-      → length xs ≡ length ds
-  in_turn_length names [] xs h = ap length (sym (some_same h))
-  in_turn_length names (d ∷ ds) xs h =
-      let there = both_there (λ a rest. a ∷ rest) (f names d) (each_in_turn f with_one (with_one names d) ds) xs h in
-      let rest = in_turn_length (with_one names d) ds there.1 there.3 in
-      ap length (sym there.4) ∙ grind (arith, common_steps, rest)
-
--- a list that passed its checks is short enough
-within : (b q : Bool) (o : Option Refusal)
-    → (if b then (if q then o else Some TooMany) else Some Shape) ≡ None → q ≡ true
-within false q o h = cc
-within true false o h = cc
-within true true o h = refl
-
-pub passed_length : (d : Data) (most : ℕ) (checks : List Check)
-    → first_refusal (needs (is_list d) Shape ∷ needs (nat_le (length (elements d)) most) TooMany ∷ checks) ≡ None
-    → length (elements d) ≤ most
-passed_length d most checks h =
-    let few : nat_le (length (elements d)) most ≡ true
-    = within (is_list d) (nat_le (length (elements d)) most) (first_refusal checks) h in
-    grind (arith, few)
-
--- ---- the names of systems
-
-systems_after : (names : Declared) (ds : List Data)
-    → length (with_all with_system names ds).systems ≡ length names.systems + length ds
-systems_after names [] = omega arith
-systems_after names (d ∷ ds) =
-    let more = systems_after (with_system names d) ds in grind (arith, common_steps, more)
-
-types_keep : (names : Declared) (ds : List Data) → (with_all with_type names ds).systems ≡ names.systems
-types_keep names [] = refl
-types_keep names (d ∷ ds) = types_keep (with_type names d) ds
-
-resources_keep : (names : Declared) (ds : List Data) → (with_all with_resource names ds).systems ≡ names.systems
-resources_keep names [] = refl
-resources_keep names (d ∷ ds) = resources_keep (with_resource names d) ds
+-- and those of this kind are as many more
+names_grow : (part : Declared → List Text) (with_one : Declared → Data → Declared)
+    → ((names : Declared) (d : Data) → length (part (with_one names d)) ≡ length (part names) + 1)
+    → (names : Declared) (ds : List Data) → length (part (with_all with_one names ds)) ≡ length (part names) + length ds
+names_grow part with_one grows names [] = omega arith
+names_grow part with_one grows names (d ∷ ds) =
+    let here = grows names d in
+    let more = names_grow part with_one grows (with_one names d) ds in grind (arith, common_steps, here, more)
 
 -- there are as many names of systems as systems
 pub as_many_systems : (d : Data) → length (all_names d).systems ≡ length (elements (systems_in d))
 as_many_systems d =
     let none : (part_names d).systems ≡ [] =
-    resources_keep (type_names d) (elements (resources_in d)) ∙ types_keep _ (elements (types_in d)) in
-    systems_after (part_names d) (elements (systems_in d))
+    names_keep (λ n. n.systems) with_resource (λ n e. refl) (type_names d) (elements (resources_in d))
+    ∙ names_keep (λ n. n.systems) with_type (λ n e. refl) no_names (elements (types_in d)) in
+    names_grow (λ n. n.systems) with_system (λ n e. grind (arith, common_steps)) (part_names d) (elements (systems_in d))
     ∙ ap (λ l. length l + length (elements (systems_in d))) none ∙ omega arith
 
--- ---- rules
+-- as many names of types as types, and of resources as resources
+pub as_many_types : (d : Data) → length (part_names d).types ≡ length (elements (types_in d))
+as_many_types d =
+    ap length (names_keep (λ n. n.types) with_resource (λ n e. refl) (type_names d) (elements (resources_in d)))
+    ∙ names_grow (λ n. n.types) with_type (λ n e. grind (arith, common_steps)) no_names (elements (types_in d)) ∙ omega arith
 
-below_there : (o : Option ℕ) (end n : ℕ) → option_and_then (only_below end) o ≡ Some n → o ≡ Some n
-below_there None end n h = cc
-below_there (Some k) end n h =
-    elim (nat_lt k end) as (λ b. (if b then Some k else None) ≡ Some n → Some k ≡ Some n) [
-      | true ↦ λ e. e
-      | false ↦ λ e. cc
-    ] h
+pub as_many_resources : (d : Data) → length (part_names d).resources ≡ length (elements (resources_in d))
+as_many_resources d =
+    let none : (type_names d).resources ≡ [] =
+    names_keep (λ n. n.resources) with_type (λ n e. refl) no_names (elements (types_in d)) in
+    names_grow (λ n. n.resources) with_resource (λ n e. grind (arith, common_steps)) (type_names d) (elements (resources_in d))
+    ∙ ap (λ l. length l + length (elements (resources_in d))) none ∙ omega arith
+
+-- ---- rules
 
 system_below : (names : Declared) (name : Text) (n : ℕ) → system_number names name ≡ Some n → n < length names.systems
 system_below names name n h =
     (position-Some (bytes_eq name) names.systems n [] (below_there (place_of names.systems name) 256 n h)).0
-
-two_there : {A : Type 0} (f : Data → Data → Option A) (ds : List Data) (a : A) → of_two f ds ≡ Some a
-    → (x : Data) × (y : Data) × (f x y ≡ Some a)
-two_there f [] a h = cc
-two_there f (x ∷ []) a h = cc
-two_there f (x ∷ y ∷ []) a h = (x, y, h)
-two_there f (x ∷ y ∷ z ∷ rest) a h = cc
 
 rule_below : (names : Declared) (d : Data) (rule : Rule) → rule_of names d ≡ Some rule
     → (rule.earlier < length names.systems) × (rule.later < length names.systems)
@@ -131,40 +87,24 @@ rule_below names d rule h =
     let second = system_below names (text two.1) there.1 there.3 in
     rw (← there.4) (first, second)
 
-each_below : (names : Declared) (ds : List Data) (rules : List Rule) → all_some (map (rule_of names) ds) ≡ Some rules
-    → NameSystemsBelow (length names.systems) rules
-each_below names [] rules h = rw (← some_same h) (λ k d lt. absurd (omega (arith, lt)))
-each_below names (d ∷ ds) rules h =
-    let there = some_there (rule_of names d) (map (rule_of names) ds) rules h in
-    rw (← there.4) (All-cons (λ r. (r.earlier < length names.systems) × (r.later < length names.systems)) there.0 there.1 (rule_below names d there.0 there.2) (each_below names ds there.1 there.3))
-
 pub rules_below : (names : Declared) (d : Data) (rules : List Rule) → each_of (rule_of names) d ≡ Some rules
     → NameSystemsBelow (length names.systems) rules
-rules_below names d rules h = each_below names (elements d) rules h
+rules_below names d rules h =
+    each_all (rule_of names) (λ r. (r.earlier < length names.systems) × (r.later < length names.systems)) (rule_below names)
+    (elements d) rules h
 
 -- ---- the whole
 
-then_there : {A B : Type 0} (f : A → Option B) (o : Option A) (b : B) → option_and_then f o ≡ Some b
-    → (a : A) × (o ≡ Some a) × (f a ≡ Some b)
-then_there f None b h = cc
-then_there f (Some a) b h = (a, refl, h)
-
--- checks that all pass pass in part
-pub both_pass : (cs ds : List Check) → first_refusal (cs ++ ds) ≡ None
-    → (first_refusal cs ≡ None) × (first_refusal ds ≡ None)
-both_pass [] ds h = (refl, h)
-both_pass (c ∷ cs) ds h =
-    elim c.passes as (λ b. (if b then first_refusal (cs ++ ds) else Some c.refusal) ≡ None
-    → ((if b then first_refusal cs else Some c.refusal) ≡ None) × (first_refusal ds ≡ None)) [
-      | true ↦ λ e. both_pass cs ds e
-      | false ↦ λ e. cc
-    ] h
-
--- the systems and the rules of a scenario that was read
+-- what holds of a scenario whose sections passed their checks
 pub record IsWhole (d : Data) (s : Scenario) : Type 0 where
   pub systems : systems_of d ≡ Some s.systems
   pub rules : rules_of d ≡ Some s.rules
-  pub limits : IsWithinLimits s
+  pub few_types : length s.types ≤ 64
+  pub few_resources : length s.resources ≤ 64
+  pub few_systems : length s.systems ≤ 256
+  pub systems_fit : All (SystemFits s) s.systems
+  pub rules_in_range : NameSystemsBelow (length s.systems) s.rules
+  pub posts : All (PostsAreToTypes s) s.frames
 
 pub whole_of : (d : Data) (s : Scenario) → first_refusal (section_checks d) ≡ None → scenario_of d ≡ Some s → IsWhole d s
 whole_of d s passes denotes =
@@ -187,23 +127,35 @@ whole_of d s passes denotes =
     let few = passed_length (systems_in d) 256
     (checks_in_turn system_checks with_system (part_names d) (elements (systems_in d))) on_systems in
     let types = t.1 ∙ ap (λ x. Some x.types) f.2 in
-    let as_many_types = in_turn_length (λ names. type_of) with_type no_names (elements (types_in d)) s.types types in
+    let types_denoted = in_turn_length (λ names. type_of) with_type no_names (elements (types_in d)) s.types types in
     let few_types = passed_length (types_in d) 64
     (checks_in_turn type_checks with_type no_names (elements (types_in d))) after_types.0 in
     let resources = r.1 ∙ ap (λ x. Some x.resources) f.2 in
-    let as_many_resources = in_turn_length (λ names. resource_of) with_resource (type_names d)
+    let resources_denoted = in_turn_length (λ names. resource_of) with_resource (type_names d)
     (elements (resources_in d)) s.resources resources in
     let few_resources = passed_length (resources_in d) 64
     (checks_in_turn resource_checks with_resource (type_names d) (elements (resources_in d))) after_resources.0 in
-    let named : length (all_names d).systems ≡ length s.systems = as_many_systems d ∙ sym as_many in record {
+    let named : length (all_names d).systems ≡ length s.systems = as_many_systems d ∙ sym as_many in
+    let parts : NamesOf s (part_names d) = record {
+      types = as_many_types d ∙ sym types_denoted;
+      resources = as_many_resources d ∙ sym resources_denoted;
+    } in
+    let all : NamesOf s (all_names d) = record {
+      types = ap length (names_keep (λ n. n.types) with_system (λ n e. refl) (part_names d) (elements (systems_in d))) ∙ parts.types;
+      resources = ap length (names_keep (λ n. n.resources) with_system (λ n e. refl) (part_names d) (elements (systems_in d))) ∙ parts.resources;
+    } in
+    let frames : each_of (frame_of (all_names d)) (frames_in d) ≡ Some s.frames = f.1 ∙ ap (λ x. Some x.frames) f.2 in
+    record {
       systems = systems;
       rules = rules;
-      limits = record {
-        few_types = omega (arith, few_types, as_many_types);
-        few_resources = omega (arith, few_resources, as_many_resources);
-        few_systems = omega (arith, few, as_many);
-        rules_in_range = rw (← named) (rules_below (all_names d) (rules_in d) s.rules rules);
-      };
+      few_types = omega (arith, few_types, types_denoted);
+      few_resources = omega (arith, few_resources, resources_denoted);
+      few_systems = omega (arith, few, as_many);
+      systems_fit = systems_fit s (part_names d) (elements (systems_in d)) s.systems parts
+          (both_pass (needs (is_list (systems_in d)) Shape ∷ needs (nat_le (length (elements (systems_in d))) 256) TooMany ∷ [])
+          (checks_in_turn system_checks with_system (part_names d) (elements (systems_in d))) on_systems).1 systems;
+      rules_in_range = rw (← named) (rules_below (all_names d) (rules_in d) s.rules rules);
+      posts = frames_fit s (all_names d) all (frames_in d) s.frames frames;
     }
 
 -- rules among systems that have all joined are all the rules
@@ -232,3 +184,22 @@ sections_then d s systems passes denotes are =
     first_refusal-passed (section_checks d) (clash_checks 0 (unwrap_or (systems_of d) [])) passes
     ∙ ap (λ o. first_refusal (clash_checks 0 (unwrap_or o []))) (whole_of d s passes denotes).systems
     ∙ ap (λ l. first_refusal (clash_checks 0 l)) (sym are)
+
+-- and it is one that may be run, where no program clashes and the rules make no cycle
+pub runnable_of : (d : Data) (s : Scenario) → IsWhole d s → first_refusal (clash_checks 0 s.systems) ≡ None
+    → IsAcyclic (edges_of s.rules) → IsRunnable s
+runnable_of d s whole none acyclic = record {
+  few_types = whole.few_types;
+  few_resources = whole.few_resources;
+  few_systems = whole.few_systems;
+  systems = λ k x lt. record {
+    few_ops = (whole.systems_fit k x lt).few_ops;
+    fit_kind = (whole.systems_fit k x lt).fit_kind;
+    fits = (whole.systems_fit k x lt).fits;
+    no_clash = no_part_clashes (get_or s.systems k x).program.ops (none_clash 0 s.systems none k x lt);
+    joins = (whole.systems_fit k x lt).joins;
+  };
+  rules_in_range = whole.rules_in_range;
+  acyclic = subst IsAcyclic (sym (rules_among_all (length s.systems) s.rules whole.rules_in_range)) acyclic;
+  posts = whole.posts;
+}

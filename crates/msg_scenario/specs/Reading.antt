@@ -1,8 +1,7 @@
 -- What a scenario file is read as, and what it is refused for.
-use Rattle.std.specs.Prelude.{◌≡◌, ◌≤◌, ◌⊎◌, ℕ, List, [], length, map, Some, None, unwrap_or}
+use Rattle.std.specs.Prelude.{◌≡◌, ◌⊎◌, ℕ, List, [], map, Some, None, unwrap_or}
 use Rattle.serde_json.specs.Data.{Data}
 use Rattle.msg_order.specs.Graph.{Graph, IsAcyclic, IsLowestOnCycle}
-use Rattle.msg_order.specs.Order.{NameSystemsBelow}
 use Rattle.msg_order.specs.declared.rule.Rule.{Rule}
 use Rattle.msg_scenario.specs.Check.{first_refusal}
 use Rattle.msg_scenario.specs.ScenarioChecks.{scenario_checks}
@@ -20,14 +19,6 @@ pub record IsReadAs (d : Data) (scenario : Scenario) : Type 0 where
   pub passes : first_refusal (scenario_checks d) ≡ None
   pub denotes : scenario_of d ≡ Some scenario
   pub acyclic : IsAcyclic (edges_of scenario.rules)
-
--- There are at most as many types, resources and systems as a world and its order have room for, and
--- the rules name systems that are there.
-pub record IsWithinLimits (scenario : Scenario) : Type 0 where
-  pub few_types : length scenario.types ≤ 64
-  pub few_resources : length scenario.resources ≤ 64
-  pub few_systems : length scenario.systems ≤ 256
-  pub rules_in_range : NameSystemsBelow (length scenario.systems) scenario.rules
 
 -- a value that passes all checks has rules that make a cycle, and this is the lowest system on one
 pub record IsCyclic (d : Data) (refusal : Refusal) : Type 0 where

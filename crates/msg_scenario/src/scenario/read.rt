@@ -4,7 +4,8 @@ ghost use Rattle.serde_json.specs.Data.{Data};
 ghost use Rattle.serde_json.specs.Read.{read};
 ghost use Rattle.serde_json.specs.View.{view};
 ghost use Rattle.msg_scenario.specs.Json.{IsJsonOf};
-ghost use Rattle.msg_scenario.specs.Reading.{IsReadAs, IsRefusedFor, IsWithinLimits};
+ghost use Rattle.msg_scenario.specs.Reading.{IsReadAs, IsRefusedFor};
+ghost use Rattle.msg_scenario.specs.Runnable.{IsRunnable};
 
 use crate::{Refusal, Scenario};
 use serde_json::{Category, Value};
@@ -29,7 +30,7 @@ mod system;
 pub fn read_scenario(alloc: Global, bytes: &[u8]) -> Result<Scenario, Refusal>
     ensures ok { IfOk result (λ scenario.
         (d : Data) × IsJsonOf bytes.now d × IsReadAs d scenario) }
-    ensures limits { IfOk result IsWithinLimits }
+    ensures runnable { IfOk result IsRunnable }
     ensures not_json { result ≡ Err Refusal.NotJson → IsUtf8 bytes.now → read bytes.now ≡ None }
     ensures refused { IfErr result (λ refusal.
         refusal ≢ Refusal.NotJson → refusal ≢ Refusal.NoMemory
@@ -50,7 +51,7 @@ pub fn read_scenario(alloc: Global, bytes: &[u8]) -> Result<Scenario, Refusal>
 /// The scenario that a JSON value denotes.
 fn read_value(alloc: Global, value: &Value) -> Result<Scenario, Refusal>
     ensures ok { IfOk result (IsReadAs (view value.now)) }
-    ensures limits { IfOk result IsWithinLimits }
+    ensures runnable { IfOk result IsRunnable }
     ensures refused { IfErr result (λ e. (e ≢ Refusal.NotJson)
         × (e ≢ Refusal.NoMemory → IsRefusedFor (view value.now) e)) }
 {

@@ -1,14 +1,15 @@
-use Rattle.std.proofs.Common.{◌∙◌, ◌≤◌, ap, sym, subst, length, Err, [], inl, inr}
+use Rattle.std.proofs.Common.{◌≡◌, ◌∙◌, ◌≤◌, None, ap, sym, subst, length, Err, [], inl, inr}
 use Rattle.std.specs.Prelude.{unwrap_or}
 use Rattle.std.proofs.lemmas.Result.{err_from_is_err_and}
 use Rattle.serde_json.specs.View.{view}
 use Rattle.msg_order.specs.Graph.{IsAcyclic, IsLowestOnCycle}
 use Rattle.msg_order.specs.Order.{NameSystemsBelow}
+use Rattle.msg_scenario.specs.Check.{first_refusal}
 use Rattle.msg_scenario.specs.Reading.{edges_of}
 use Rattle.msg_scenario.specs.ScenarioChecks.{clash_checks, section_checks}
 use Rattle.msg_scenario.specs.ScenarioDenotes.{systems_of}
 use Rattle.msg_scenario.proofs.Shapes.{IfErr_at}
-use Rattle.msg_scenario.proofs.Sound.{whole_of, sections_then}
+use Rattle.msg_scenario.proofs.Sound.{runnable_of, sections_then, whole_of}
 use Rattle.msg_scenario.proofs.Walks.{first_refusal-stands}
 use Rattle.msg_scenario.proofs.scenario.read.read_value.Goals as goal
 
@@ -28,7 +29,7 @@ pub check_clashes-requires : goal.check_clashes-requires
 check_clashes-requires c =
     let agrees = c.in_ok-scenario.ensures.agrees in
     let whole = whole_of (view c.args.value.now) c.in_ok-scenario.scenario agrees.0 agrees.1 in
-    record { few = subst (λ l. length l ≤ 256) (sym c.as_slice.ensures.items) whole.limits.few_systems }
+    record { few = subst (λ l. length l ≤ 256) (sym c.as_slice.ensures.items) whole.few_systems }
 
 pub returns-in_err-check_clashes-clause-refused : goal.returns-in_err-check_clashes-clause-refused
 returns-in_err-check_clashes-clause-refused c =
@@ -48,7 +49,7 @@ pub check_cycles-requires-clause-few : goal.check_cycles-requires-clause-few
 check_cycles-requires-clause-few c =
     let agrees = c.in_ok-scenario.ensures.agrees in
     let whole = whole_of (view c.args.value.now) c.in_ok-scenario.scenario agrees.0 agrees.1 in
-    subst (λ l. length l ≤ 256) (sym c.as_slice-systems.ensures.items) whole.limits.few_systems
+    subst (λ l. length l ≤ 256) (sym c.as_slice-systems.ensures.items) whole.few_systems
 
 pub check_cycles-requires-clause-in_range : goal.check_cycles-requires-clause-in_range
 check_cycles-requires-clause-in_range c =
@@ -56,7 +57,7 @@ check_cycles-requires-clause-in_range c =
     let s = c.in_ok-scenario.scenario in
     let whole = whole_of (view c.args.value.now) s agrees.0 agrees.1 in
     subst (λ l. NameSystemsBelow (length l) c.as_slice-2.result.now) (sym c.as_slice-systems.ensures.items)
-    (subst (λ l. NameSystemsBelow (length s.systems) l) (sym c.as_slice-2.ensures.items) whole.limits.rules_in_range)
+    (subst (λ l. NameSystemsBelow (length s.systems) l) (sym c.as_slice-2.ensures.items) whole.rules_in_range)
 
 pub returns-in_err-check_cycles-clause-refused : goal.returns-in_err-check_cycles-clause-refused
 returns-in_err-check_cycles-clause-refused c =
@@ -91,7 +92,11 @@ returns-clause-ok c =
       acyclic = subst (λ l. IsAcyclic (edges_of l)) c.as_slice-2.ensures.items c.in_ok-check_cycles.ensures.acyclic;
     }
 
-pub returns-clause-limits : goal.returns-clause-limits
-returns-clause-limits c =
+pub returns-clause-runnable : goal.returns-clause-runnable
+returns-clause-runnable c =
+    let d = view c.args.value.now in
+    let s = c.in_ok-scenario.scenario in
     let agrees = c.in_ok-scenario.ensures.agrees in
-    (whole_of (view c.args.value.now) c.in_ok-scenario.scenario agrees.0 agrees.1).limits
+    runnable_of d s (whole_of d s agrees.0 agrees.1)
+    (subst (λ systems. first_refusal (clash_checks 0 systems) ≡ None) c.as_slice.ensures.items c.in_ok-check_clashes.ensures.passed)
+    (subst (λ rules. IsAcyclic (edges_of rules)) c.as_slice-2.ensures.items c.in_ok-check_cycles.ensures.acyclic)
