@@ -18,7 +18,7 @@ use Rattle.msg_exec.specs.declared.engine_core.Core.{Core}
 use Rattle.msg_exec.specs.declared.frame.Frame.{Frame}
 use Rattle.msg_exec.specs.declared.log.Log.{Log}
 use Rattle.msg_exec.specs.declared.refusals.RunFault.{RunFault}
-use Rattle.msg_exec.specs.declared.refusals.RunFault.TheVariants.{NoMemory, Spoiled}
+use Rattle.msg_exec.specs.declared.refusals.RunFault.TheVariants.{BadOrder, NoMemory, Spoiled}
 use Rattle.msg_scenario.specs.Json.{Text}
 use Rattle.msg_scenario.specs.ReportText.{accounts_text, frame_text, frames_text, report_text, text_so_far}
 use Rattle.msg_scenario.specs.Reported.{HasPrinted, HasReported, HasRunOut, HasStopped}
@@ -222,10 +222,11 @@ module _ {X : Type 0} (meaning : X → Meaning) where
     -- a frame answers nothing else, as the engine wasn't spoiled
     pub no_memory_for_frame : (k : ℕ) (before now : Option (List ℕ)) (e f : EngineOf X) (r : Result Log RunFault) (fault : RunFault)
         → ReportSoFar k before now e → k < length s.frames → r ≡ Err fault → (r ≡ Err Spoiled → IsSpoiled e)
-        → (r ≡ Err NoMemory → IsSpoiled f) → (r ≡ Err NoMemory → frames_of f ≡ frames_of e) → HasRunOut meaning s before now f
-    no_memory_for_frame k before now e f r Spoiled far lt is spoiled out counted =
+        → ¬ (r ≡ Err BadOrder) → (r ≡ Err NoMemory → IsSpoiled f) → (r ≡ Err NoMemory → frames_of f ≡ frames_of e) → HasRunOut meaning s before now f
+    no_memory_for_frame k before now e f r Spoiled far lt is spoiled in_order out counted =
         absurd (not_spoiled e far.state far.stands (spoiled is))
-    no_memory_for_frame k before now e f r NoMemory far lt is spoiled out counted =
+    no_memory_for_frame k before now e f r BadOrder far lt is spoiled in_order out counted = absurd (in_order is)
+    no_memory_for_frame k before now e f r NoMemory far lt is spoiled in_order out counted =
         run_out k before now e f far lt (counted is) (out is)
 
     pub accounts_out : (k : ℕ) (before now : Option (List ℕ)) (e : EngineOf X) → ReportSoFar k before now e

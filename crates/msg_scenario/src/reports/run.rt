@@ -1,7 +1,7 @@
 // The report of a scenario: frame by frame, and then the readers.
 ghost use Rattle.std.specs.Prelude.{◌≡◌, ◌≢◌, ◌⊎◌, All, Err, OnOk, OnErr, IfErr};
 ghost use Rattle.msg_exec.specs.Engines.{StandsFor};
-ghost use Rattle.msg_exec.specs.declared.refusals.RunFault.TheVariants.{NoMemory, Spoiled};
+ghost use Rattle.msg_exec.specs.declared.refusals.RunFault.TheVariants.{BadOrder, NoMemory, Spoiled};
 ghost use Rattle.msg_scenario.specs.Reported.{HasPrinted, HasReported, HasRunOut, HasStopped};
 ghost use Rattle.msg_scenario.specs.Runnable.{PostsAreToTypes, state_of};
 ghost use Rattle.msg_scenario.specs.Sinks.{one_more};
@@ -43,6 +43,7 @@ pub fn report<R: Threads + Sync, X: System, S: Sink, G: Gate>(
     ensures run { result ≡ Err (ReportFault.Run NoMemory) → HasRunOut X.meaning scenario.now
         (S.contents sink.old) (S.contents sink.new) engine.new }
     ensures not_spoiled { result ≢ Err (ReportFault.Run Spoiled) }
+    ensures no_bad_order { result ≢ Err (ReportFault.Run BadOrder) }
 
     // After a whole frame, and not in the middle of one.
     ensures stopped { (result ≡ Err ReportFault.Write) ⊎ (result ≡ Err ReportFault.NoMemory)

@@ -37,7 +37,7 @@ returns-in-Err-clause-run g c same =
     no_memory_for_frame g.X.System.meaning c.args.scenario.now c.loop-frame.frame-index _ _ c.loop-frame.engine c.run_frame.new.self
     c.run_frame.result c.in-Err.fault c.loop-frame.invariant.so_far
     (below c.args.scenario.now.frames c.as_slice-frame-items.result.now c.loop-frame.frame-index c.as_slice-frame-items.ensures.items c.loop-frame-test.true)
-    c.in-Err.is (λ e. c.run_frame.ensures.spoiled.0 e) c.run_frame.ensures.no_memory c.run_frame.ensures.not_counted
+    c.in-Err.is (λ e. c.run_frame.ensures.spoiled.0 e) c.run_frame.ensures.no_bad_order c.run_frame.ensures.no_memory c.run_frame.ensures.not_counted
 
 pub returns-in-Err-clause-prefix : goal.returns-in-Err-clause-prefix
 returns-in-Err-clause-prefix g c =
@@ -45,7 +45,7 @@ returns-in-Err-clause-prefix g c =
     (no_memory_for_frame g.X.System.meaning c.args.scenario.now c.loop-frame.frame-index _ _ c.loop-frame.engine c.run_frame.new.self
     c.run_frame.result c.in-Err.fault c.loop-frame.invariant.so_far
     (below c.args.scenario.now.frames c.as_slice-frame-items.result.now c.loop-frame.frame-index c.as_slice-frame-items.ensures.items c.loop-frame-test.true)
-    c.in-Err.is (λ e. c.run_frame.ensures.spoiled.0 e) c.run_frame.ensures.no_memory c.run_frame.ensures.not_counted)
+    c.in-Err.is (λ e. c.run_frame.ensures.spoiled.0 e) c.run_frame.ensures.no_bad_order c.run_frame.ensures.no_memory c.run_frame.ensures.not_counted)
 
 pub loop-frame-preserved : goal.loop-frame-preserved
 loop-frame-preserved g c =
