@@ -1,6 +1,7 @@
--- Words that clap takes ask for something: `buffer` has its FILE, and nothing else is entered.
-use Rattle.std.proofs.Common.{◌≡◌, ℕ, zero, suc, length, List, [], ◌∷◌, ◌++◌, refl, sym, ap, ◌∙◌, Option, Some, None, Bool, true, false, codes, append_assoc, append-nil, subst}
-use Rattle.std.specs.Prelude.{option_map, fold, if◌then◌else◌, encode_utf8, drop, is_some, ◌&&◌, ◌||◌, cond, slice_get, not}
+-- Words that clap takes ask for something, or for a run on what is no number of workers: `buffer` has its FILE, `run` its FILE
+-- and a number, and nothing else is entered.
+use Rattle.std.proofs.Common.{◌≡◌, ◌⊎◌, inl, inr, ℕ, zero, suc, length, List, [], ◌∷◌, ◌++◌, refl, sym, ap, ◌∙◌, Option, Some, None, Bool, true, false, codes, append_assoc, append-nil, subst}
+use Rattle.std.specs.Prelude.{option_map, fold, if◌then◌else◌, encode_utf8, drop, is_some, ◌&&◌, ◌||◌, cond, slice_get, not, option_and_then}
 use Rattle.std.specs.Str.{bytes_eq, chars}
 use Rattle.std.specs.List.{list_all}
 use Rattle.std.specs.Option.{option_map_or}
@@ -10,7 +11,8 @@ use Rattle.clap.specs.Simple.{entered, built, built_leaf, names_of, help_rule, w
 use Rattle.clap.specs.Walk.{stop_after, finished, first_of, nothing_held, rows_after, after_step, subcommand_or_other, trailing, Held, Names, Walk, plain, value, idle, has_long, has_short, arg_by_long, arg_by_short, arg_by_index, bundle_step, subcommand_met, to_positional, walked, bundle_met, short_or_plain, long_or_other, after_flag}
 use Rattle.clap.specs.Takes.{entered_passes, level_passes, is_valid, default_passes, other_passes, walk_passes, bundle_step_passes, turn_passes, step_passes, long_passes, short_passes, react_passes, settle_passes, flags_pass, bundle_passes, flag_word_passes}
 use Rattle.clap.proofs.OnLiterals.{clap_on_literals}
-use Rattle.msgrun.specs.Asked.{asked, asked_by, buffer as buffer_of}
+use Rattle.msgrun.specs.Asked.{IsRunOnNone, asked, asked_by, buffer as buffer_of, run_asked, workers_asked, workers_in}
+use Rattle.msgrun.proofs.Rows.{run_given, run_shape}
 use Rattle.msgrun.specs.CommandLine.{buffer_app, msgrun_app}
 
 -- the flag that each command has
@@ -229,23 +231,26 @@ top_help : OnlyHelp top.rules
 unfolding clap_on_literals
 top_help = record { long = λ name. refl; short = λ x. refl }
 
--- a word names `buffer`, `help` or nothing
+-- a word names `buffer`, `run`, `help` or nothing
 data Met (o : Option Text) : Type 0 where
   a_buffer : o ≡ Some (codes "buffer") → Met o
+  a_run : o ≡ Some (codes "run") → Met o
   a_help : o ≡ Some (codes "help") → Met o
   nothing : o ≡ None → Met o
 
--- by two tests of the word
-met_either : (a b : Bool)
+-- by three tests of the word
+met_one : (a b c : Bool)
     → Met (option_map (λ (x : Text × List Text). x.0)
-    (cond a (Some (codes "buffer", [])) (cond b (Some (codes "help", [])) None)))
-met_either true b = a_buffer refl
-met_either false true = a_help refl
-met_either false false = nothing refl
+    (cond a (Some (codes "buffer", [])) (cond b (Some (codes "run", [])) (cond c (Some (codes "help", [])) None))))
+met_one true b c = a_buffer refl
+met_one false true c = a_run refl
+met_one false false true = a_help refl
+met_one false false false = nothing refl
 
 met : (word : Text) → Met (subcommand_met names idle word)
 unfolding clap_on_literals
-met word = met_either (bytes_eq (codes "buffer") word || false) (bytes_eq (codes "help") word || false)
+met word =
+    met_one (bytes_eq (codes "buffer") word || false) (bytes_eq (codes "run") word || false) (bytes_eq (codes "help") word || false)
 
 -- a walk that has stopped keeps the words that follow
 stops : (c : List Rule) (ns : Names) (w : Walk) (name : Text) (before rest : List Text)
@@ -273,6 +278,31 @@ asks_for_file words rest stop passes =
     ap (λ o. is_some (asked_by (entered (built msgrun_app) o))) stop
     ∙ ap (λ o. is_some (option_map (λ f. buffer_of (Some f)) o)) file.1
 
+-- words ask for something, or for a run on what is no number of workers
+abbrev Asks : List Text → Type 0
+Asks words = (is_some (asked words) ≡ true) ⊎ IsRunOnNone words
+
+-- words that stop at `run` have its FILE and say something of workers
+asks_for_run : (words rest : List Text)
+    → stop_after top.rules names words ≡ Some (codes "run", rest)
+    → entered_passes (built msgrun_app) (Some (codes "run", rest)) ≡ true
+    → Asks words
+unfolding clap_on_literals
+asks_for_run words rest stop passes =
+    let given = run_given rest passes in
+    let rows = rows_after run_shape.rules [] rest in
+    let file = given.0.0 in
+    let text = given.1.0 in
+    let sub : entered (built msgrun_app) (stop_after top.rules names words) ≡ Some (codes "run", rows) =
+    ap (entered (built msgrun_app)) stop in
+    elim (workers_in text) as (λ o. workers_in text ≡ o → Asks words) [
+      | Some n ↦ λ is. inl (ap (λ o. is_some (asked_by o)) sub
+          ∙ ap (λ o. is_some (run_asked o (workers_asked rows))) given.0.1
+          ∙ ap (λ o. is_some (run_asked (Some file) (option_and_then workers_in o))) given.1.1
+          ∙ ap (λ o. is_some (run_asked (Some file) o)) is)
+      | None ↦ λ is. inr (rows, text, sub, given.1.1, is)
+    ] refl
+
 -- words that stop nowhere ask for standard input
 asks_for_input : (words : List Text) → stop_after top.rules names words ≡ None → is_some (asked words) ≡ true
 unfolding clap_on_literals
@@ -282,7 +312,7 @@ asks_for_input words stop = ap (λ o. is_some (asked_by (entered (built msgrun_a
 first_asks : (word : Text) (rest : List Text) → Met (subcommand_met names idle word)
     → entered_passes (built msgrun_app) (stop_after top.rules names (word ∷ rest)) ≡ true
     → walk_passes top names (stands None 1 false) (word ∷ rest) ≡ true
-    → is_some (asked (word ∷ rest)) ≡ true
+    → Asks (word ∷ rest)
 unfolding clap_on_literals walk_passes
 first_asks word rest (a_buffer is) enters passes =
     let step = ap (λ o. after_step top.rules word (stands None 1 false)
@@ -291,7 +321,15 @@ first_asks word rest (a_buffer is) enters passes =
     let stop : stop_after top.rules names (word ∷ rest) ≡ Some (codes "buffer", rest) =
     ap (λ w. (fold (walked top.rules names) w rest).stopped) step
     ∙ stops top.rules names (stands None 1 false) (codes "buffer") [] rest in
-    asks_for_file (word ∷ rest) rest stop (ap (λ o. entered_passes (built msgrun_app) o) (sym stop) ∙ enters)
+    inl (asks_for_file (word ∷ rest) rest stop (ap (λ o. entered_passes (built msgrun_app) o) (sym stop) ∙ enters))
+first_asks word rest (a_run is) enters passes =
+    let step = ap (λ o. after_step top.rules word (stands None 1 false)
+    (subcommand_or_other top.rules o idle 1 word (holds None)).0
+    (subcommand_or_other top.rules o idle 1 word (holds None)).1) is in
+    let stop : stop_after top.rules names (word ∷ rest) ≡ Some (codes "run", rest) =
+    ap (λ w. (fold (walked top.rules names) w rest).stopped) step
+    ∙ stops top.rules names (stands None 1 false) (codes "run") [] rest in
+    asks_for_run (word ∷ rest) rest stop (ap (λ o. entered_passes (built msgrun_app) o) (sym stop) ∙ enters)
 first_asks word rest (a_help is) enters passes =
     let turns = (both (turn_passes top names (stands None 1 false) word) _ passes).0 in
     let bad : false ≡ true =
@@ -303,16 +341,16 @@ first_asks word rest (nothing is) enters passes =
     elim (turn top names top_help refl None 1 false word is parts.0) [
       | dashes after ↦
           let rest_passes = ap (λ w. walk_passes top names w rest) (sym after) ∙ parts.1 in
-          asks_for_input (word ∷ rest)
-          (ap (λ w. (fold (walked top.rules names) w rest).stopped) after ∙ past_dashes rest rest_passes)
+          inl (asks_for_input (word ∷ rest)
+          (ap (λ w. (fold (walked top.rules names) w rest).stopped) after ∙ past_dashes rest rest_passes))
       | valued after step ↦ cc
       | trailed after step ↦ cc
     ]
 
--- words that clap takes ask for something
-pub takes_asks : (words : List Text) → takes msgrun_app words ≡ true → is_some (asked words) ≡ true
+-- what words that clap takes ask for
+pub takes_asks : (words : List Text) → takes msgrun_app words ≡ true → Asks words
 unfolding clap_on_literals
-takes_asks [] passes = refl
+takes_asks [] passes = inl refl
 takes_asks (word ∷ rest) passes =
     let parts = both (entered_passes (built msgrun_app) (stop_after top.rules names (word ∷ rest))) _ passes in
     let walks = both (walk_passes top names (stands None 1 false) (word ∷ rest)) _ parts.1 in

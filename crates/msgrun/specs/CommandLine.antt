@@ -1,5 +1,5 @@
--- The command line: `msgrun`, or `msgrun buffer FILE`.
-use Rattle.std.specs.Prelude.{Some, List, String, codes, map, string_bytes, true}
+-- The command line: `msgrun`, `msgrun buffer FILE`, or `msgrun run FILE --workers N`.
+use Rattle.std.specs.Prelude.{Some, List, [], ◌∷◌, String, codes, map, string_bytes, true}
 use Rattle.std.specs.declared.alloc.Global.{Global}
 use Rattle.clap.specs.Words.{App, Rule, Text, new_app, new_rule, with_rule, with_subcommand}
 use Rattle.clap.specs.declared.builder.ArgAction.TheVariants.{Set}
@@ -8,9 +8,22 @@ use Rattle.clap.specs.declared.builder.ArgAction.TheVariants.{Set}
 abbrev pub file_rule : Rule
 file_rule = record (new_rule (codes "FILE")) { required = true; action = Some Set }
 
+-- --workers N, which is 1 where it doesn't stand there
+abbrev pub workers_rule : Rule
+workers_rule = record (new_rule (codes "workers")) {
+  long = Some (codes "workers");
+  action = Some Set;
+  value_names = 1;
+  defaults = codes "1" ∷ [];
+}
+
 -- buffer FILE
 abbrev pub buffer_app : App
 buffer_app = with_rule (new_app (codes "buffer")) file_rule
+
+-- run FILE --workers N
+abbrev pub run_app : App
+run_app = with_rule (with_rule (new_app (codes "run")) file_rule) workers_rule
 
 -- a command whose words don't begin with the program's own name
 abbrev pub bare_app : App
@@ -21,6 +34,6 @@ bare_app =
 abbrev pub texts_of : List (String Global) → List Text
 texts_of words = map string_bytes words
 
--- the whole command: nothing, or the subcommand
+-- the whole command: nothing, or one of the subcommands
 abbrev pub msgrun_app : App
-msgrun_app = with_subcommand bare_app buffer_app.top
+msgrun_app = with_subcommand (with_subcommand bare_app buffer_app.top) run_app.top

@@ -6,10 +6,12 @@ use Rattle.msgrun.specs.declared.input.InputFault.{InputFault}
 use Rattle.msgrun.specs.declared.input.InputFault.TheVariants as input
 use Rattle.msg_scenario.specs.declared.refusal.Refusal.{Refusal}
 use Rattle.msg_scenario.specs.declared.refusal.Refusal.TheVariants as refusal
+use Rattle.msg_exec.specs.declared.refusals.RunFault.{RunFault}
+use Rattle.msg_exec.specs.declared.refusals.RunFault.TheVariants as run
 use Rattle.msg_scenario.specs.declared.report_fault.ReportFault.{ReportFault}
 use Rattle.msg_scenario.specs.declared.report_fault.ReportFault.TheVariants as report
 use Rattle.msgrun.specs.declared.fault.MainFault.{MainFault}
-use Rattle.msgrun.specs.declared.fault.MainFault.TheVariants.{Words, Input, Refused, Report}
+use Rattle.msgrun.specs.declared.fault.MainFault.TheVariants.{Words, Input, Refused, Built, Report}
 
 -- the line of refused words; help is no fault, and has none
 abbrev pub words_line : WordFault → List ℕ
@@ -37,8 +39,14 @@ refusal_line (refusal.Clash system) = codes "msgrun: refused 9 Clash\n"
 refusal_line (refusal.Cycle system) = codes "msgrun: refused 10 Cycle\n"
 refusal_line refusal.NoMemory = codes "msgrun: want of memory\n"
 
+-- the line of a frame, or of accounts, that couldn't be had: the fault's number and name
+abbrev pub run_line : RunFault → List ℕ
+run_line run.Spoiled = codes "msgrun: run fault 1 Spoiled\n"
+run_line run.NoMemory = codes "msgrun: run fault 3 NoMemory\n"
+
 -- the line of answers that weren't printed to their end
 abbrev pub report_line : ReportFault → List ℕ
+report_line (report.Run fault) = run_line fault
 report_line report.Write = codes "msgrun: write fault\n"
 report_line report.NoMemory = codes "msgrun: want of memory\n"
 
@@ -47,6 +55,7 @@ abbrev pub line_of : MainFault → List ℕ
 line_of (Words fault) = words_line fault
 line_of (Input fault) = input_line fault
 line_of (Refused refused) = refusal_line refused
+line_of Built = codes "msgrun: want of memory\n"
 line_of (Report fault) = report_line fault
 
 -- 2 for a refused command line or file, 1 for a fault while running, reading or writing
@@ -68,4 +77,5 @@ status_of (Refused refusal.UnknownName) = 2
 status_of (Refused (refusal.Clash system)) = 2
 status_of (Refused (refusal.Cycle system)) = 2
 status_of (Refused refusal.NoMemory) = 1
+status_of Built = 1
 status_of (Report fault) = 1

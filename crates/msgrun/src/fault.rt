@@ -1,5 +1,8 @@
+ghost use Rattle.std.specs.Prelude.{◌≡◌};
+
 use crate::input::InputFault;
 use crate::words::WordFault;
+use msg_exec::NoMemory;
 use msg_scenario::{Refusal, ReportFault};
 use thiserror::Error;
 
@@ -18,6 +21,19 @@ pub enum MainFault {
     Input(InputFault),
     #[error("refused {0}")]
     Refused(Refusal),
+    /// No engine was made of a scenario, for want of memory.
+    #[error("want of memory")]
+    Built,
     #[error("{0}")]
     Report(ReportFault),
+}
+
+impl From<NoMemory> for MainFault {
+    ghost use Rattle.msgrun.specs.declared.fault.MainFault.TheVariants.{Built as NoEngine};
+
+    ghost from_gives = { λ _ fault. fault ≡ NoEngine };
+
+    fn from(_error: NoMemory) -> Self {
+        MainFault::Built
+    }
 }

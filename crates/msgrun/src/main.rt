@@ -1,22 +1,29 @@
-//! Answers a calls file: the calls of one message buffer and its cursors, a line for each.
+//! Runs a scenario file, and reports what its systems were answered and what each reader got, missed
+//! and cleared; or answers a calls file: the calls of one message buffer and its cursors, a line for each.
 //!
-//! `msgrun buffer FILE` answers a file, and `msgrun` alone standard input.
+//! `msgrun run FILE --workers N` runs a scenario, `msgrun buffer FILE` answers calls, and `msgrun`
+//! alone those of standard input.
 #![tactic(auto)]
 
-ghost use Rattle.std.specs.Prelude.{◌≡◌};
+ghost use Rattle.std.specs.Prelude.{◌≡◌, ◌<◌, ◌≤◌};
 ghost use Rattle.msgrun.specs.Faults.{status_of};
 
+mod building;
 mod fault;
 mod input;
+mod scene;
 mod words;
 
 use fault::{MainFault, print_fault};
 use input::{InputFault, read_all};
-use msg_scenario::{StdSink, put_all, read_calls, run_calls};
+use msg_exec::Workers;
+use msg_scenario::{StdSink, put_all, read_calls, read_scenario, run_calls};
+use scene::run_scenario;
 use std::env::Env;
 use std::fs::Files;
 use std::io::{ErrorKind, Input, Print};
 use std::process::ExitCode;
+use std::thread::Threads;
 use std::{env, fs, io};
 use words::{Action, WordFault, parse_words};
 
@@ -28,10 +35,13 @@ fn main(rt: HostRuntime) -> ExitCode {
 }
 
 /// What the words ask for, done.
-fn run<R: AllocGlobal + Env + Files + Input + Print>(rt: &R) -> Result<(), MainFault> {
+fn run<R: AllocGlobal + Env + Files + Input + Print + Sync + Threads>(
+    rt: &R,
+) -> Result<(), MainFault> {
     let words = words_given(rt).map_err(MainFault::Words)?;
     match parse_words(rt.alloc(), words.as_slice()).map_err(MainFault::Words)? {
         Action::Buffer(file) => answer_calls(rt, file),
+        Action::Run { file, workers } => answer_scenario(rt, file, workers),
     }
 }
 
@@ -56,6 +66,24 @@ fn answer_calls<R: AllocGlobal + Files + Input + Print>(
     let calls = read_calls(rt.alloc(), bytes.as_slice()).map_err(MainFault::Refused)?;
     let mut output = StdSink::new(io::writer(rt));
     run_calls(rt.alloc(), &calls, &mut output).map_err(MainFault::Report)
+}
+
+/// Runs a scenario file on 1 to 64 workers, and reports on standard output.
+fn answer_scenario<R: AllocGlobal + Files + Input + Print + Sync + Threads>(
+    rt: &R,
+    file: String,
+    workers: u32,
+) -> Result<(), MainFault>
+    requires some { 0 < workers }
+    requires at_most { workers ≤ 64 }
+{
+    let Some(workers) = Workers::new(workers) else {
+        unreachable!()
+    };
+    let bytes = bytes_of(rt, Some(file)).map_err(MainFault::Input)?;
+    let scenario = read_scenario(rt.alloc(), bytes.as_slice()).map_err(MainFault::Refused)?;
+    let mut output = StdSink::new(io::writer(rt));
+    run_scenario(rt, rt.alloc(), &scenario, workers, &mut output)
 }
 
 /// All bytes of a file, or of standard input.

@@ -1,6 +1,7 @@
 use thiserror::Error;
 
 mod command;
+mod help;
 mod parse;
 #[cfg(test)]
 mod tests;
@@ -12,6 +13,8 @@ pub use parse::parse_words;
 pub enum Action {
     /// Answer the calls file of this name, or where there is none that of standard input.
     Buffer(Option<String>),
+    /// Run the scenario file of this name on 1 to 64 workers.
+    Run { file: String, workers: u32 },
 }
 
 /// Why the words ask for nothing.

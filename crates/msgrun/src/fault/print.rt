@@ -1,10 +1,11 @@
 ghost use Rattle.std.specs.Prelude.{◌≡◌};
 ghost use Rattle.msg_scenario.specs.Sinks.{TakesUnlessFailed};
-ghost use Rattle.msgrun.specs.Faults.{line_of, words_line, input_line, refusal_line, report_line, status_of};
+ghost use Rattle.msgrun.specs.Faults.{line_of, words_line, input_line, refusal_line, run_line, report_line, status_of};
 
 use crate::fault::MainFault;
 use crate::input::InputFault;
 use crate::words::WordFault;
+use msg_exec::RunFault;
 use msg_scenario::{Refusal, ReportFault, Sink, put_all};
 
 /// Writes the fault's line, and gives the status that the program ends with. It takes no memory.
@@ -24,6 +25,7 @@ fn line_of(fault: &MainFault) -> &'static [u8]
         MainFault::Words(fault) => words_line(fault),
         MainFault::Input(fault) => input_line(*fault),
         MainFault::Refused(refusal) => refusal_line(*refusal),
+        MainFault::Built => b"msgrun: want of memory\n",
         MainFault::Report(fault) => report_line(*fault),
     }
 }
@@ -66,10 +68,20 @@ fn refusal_line(refusal: Refusal) -> &'static [u8]
     }
 }
 
+fn run_line(fault: RunFault) -> &'static [u8]
+    ensures { result.now ≡ run_line fault }
+{
+    match fault {
+        RunFault::Spoiled => b"msgrun: run fault 1 Spoiled\n",
+        RunFault::NoMemory => b"msgrun: run fault 3 NoMemory\n",
+    }
+}
+
 fn report_line(fault: ReportFault) -> &'static [u8]
     ensures { result.now ≡ report_line fault }
 {
     match fault {
+        ReportFault::Run(fault) => run_line(fault),
         ReportFault::Write => b"msgrun: write fault\n",
         ReportFault::NoMemory => b"msgrun: want of memory\n",
     }
@@ -87,6 +99,7 @@ fn status_of(fault: &MainFault) -> u8
         MainFault::Input(InputFault::NoMemory) => 1,
         MainFault::Refused(Refusal::NoMemory) => 1,
         MainFault::Refused(_) => 2,
+        MainFault::Built => 1,
         MainFault::Report(_) => 1,
     }
 }

@@ -3,29 +3,62 @@ ghost use Rattle.std.specs.Prelude.{◌≡◌, [], IfOk, IfErr, OnOk, false, tru
 ghost use Rattle.clap.specs.Words.{app_of, rule_of, fault_of, takes, subcommand_of, subcommand_rows_of, kind_of};
 ghost use Rattle.clap.specs.declared.Command.{out-Command as fields_of};
 ghost use Rattle.clap.specs.declared.error.ErrorKind.TheVariants.{OutOfMemory};
-ghost use Rattle.msgrun.specs.CommandLine.{file_rule, buffer_app, msgrun_app, texts_of};
+ghost use Rattle.msgrun.specs.CommandLine.{file_rule, workers_rule, buffer_app, run_app, msgrun_app, texts_of};
 
-use crate::words::WordFault;
+use crate::words::{WordFault, help};
 use clap::error::ErrorKind;
 use clap::{Arg, ArgAction, ArgMatches, Command};
 use std::alloc::{AllocError, Global};
 
-fn file_arg<'a>(alloc: Global) -> Arg<'a>
+fn file_arg<'a>(alloc: Global, what: &'a str) -> Arg<'a>
     ensures rule { rule_of result ≡ file_rule }
     ensures local { result.global ≡ false }
 {
     Arg::new(alloc, "FILE")
+        .help(what)
         .required(true)
         .action(ArgAction::Set)
+}
+
+fn workers_arg<'a>(alloc: Global) -> Arg<'a>
+    ensures rule { rule_of result ≡ workers_rule }
+    ensures local { result.global ≡ false }
+{
+    Arg::new(alloc, "workers")
+        .long("workers")
+        .value_name("N")
+        .help("How many workers run the systems, from 1 to 64")
+        .action(ArgAction::Set)
+        .default_value("1")
+}
+
+/// A command that tells this: what it does, and at the end of its help more of it.
+fn told<'a>(command: Command<'a>, about: &'a str, more: &'a str) -> Command<'a>
+    ensures app { app_of result ≡ app_of command.entry }
+    ensures local { (fields_of result).has_globals ≡ (fields_of command.entry).has_globals }
+{
+    command.about(about).after_help(more)
 }
 
 fn buffer_command<'a>(alloc: Global) -> Result<Command<'a>, AllocError>
     ensures app { IfOk result (λ c. app_of c ≡ buffer_app) }
     ensures local { IfOk result (λ c. (fields_of c).has_globals ≡ false) }
 {
-    Command::new(alloc, "buffer")
-        .about("Answers the calls file FILE")
-        .arg(file_arg(alloc))
+    let command = Command::new(alloc, "buffer").arg(file_arg(alloc, "The calls file"))?;
+    Ok(told(command, "Answers the calls file FILE", help::BUFFER))
+}
+
+fn run_command<'a>(alloc: Global) -> Result<Command<'a>, AllocError>
+    ensures app { IfOk result (λ c. app_of c ≡ run_app) }
+    ensures local { IfOk result (λ c. (fields_of c).has_globals ≡ false) }
+{
+    let one = Command::new(alloc, "run").arg(file_arg(alloc, "The scenario file"))?;
+    let command = one.arg(workers_arg(alloc))?;
+    Ok(told(
+        command,
+        "Runs the scenario file FILE, and reports",
+        help::RUN,
+    ))
 }
 
 fn command<'a>(alloc: Global) -> Result<Command<'a>, AllocError>
@@ -33,10 +66,15 @@ fn command<'a>(alloc: Global) -> Result<Command<'a>, AllocError>
     ensures local { IfOk result (λ c. (fields_of c).has_globals ≡ false) }
 {
     let buffer = buffer_command(alloc)?;
-    Command::new(alloc, "msgrun")
-        .about("Answers a calls file, by itself that of standard input")
-        .no_binary_name(true)
-        .subcommand(buffer)
+    let run = run_command(alloc)?;
+    let bare = Command::new(alloc, "msgrun").no_binary_name(true);
+    let told = told(
+        bare,
+        "Runs scenarios of message systems, and answers calls of a message buffer",
+        help::PROGRAM,
+    );
+    let one = told.subcommand(buffer)?;
+    one.subcommand(run)
 }
 
 fn fault(alloc: Global, error: clap::Error) -> WordFault

@@ -6,14 +6,17 @@ use Rattle.msgrun.specs.CommandLine.{texts_of}
 use Rattle.msgrun.proofs.Taken.{takes_asks}
 use Rattle.msgrun.proofs.words.parse.parse_words.Goals as goal
 
--- words that clap takes ask for something, so that only want of memory is left
+-- words that clap takes ask for something, or for a run on what is no number of workers, so that else only want of memory
+-- is left
 pub returns-clause-refused : goal.returns-clause-refused
 returns-clause-refused c =
     IfErr-weaker c.action_of.result _ _
     (λ fault refused taken. elim refused [
-      | inl is ↦ is
-      | inr none ↦
-          let rows = c.in_ok-matches.ensures.rows in
-          let bad : false ≡ true = sym (ap is_some none) ∙ ap (λ o. is_some (asked_by o)) rows
-          ∙ takes_asks (texts_of c.args.words.now) taken in cc
+      | inl is ↦ inl is
+      | inr none ↦ elim (takes_asks (texts_of c.args.words.now) taken) [
+        | inl some ↦
+            let rows = c.in_ok-matches.ensures.rows in
+            let bad : false ≡ true = sym (ap is_some none) ∙ ap (λ o. is_some (asked_by o)) rows ∙ some in cc
+        | inr on_none ↦ inr on_none
+      ]
     ]) c.action_of.ensures.refused

@@ -1,0 +1,145 @@
+-- The systems of an engine that is made of a scenario.
+use Rattle.std.proofs.Common.{◌≡◌, ◌⊎◌, ℕ, zero, suc, ◌+◌, ◌<◌, ◌≤◌, List, [], ◌∷◌, ◌++◌, get_or, length, map, zero-add, None, Some, refl, sym, ap, subst, ◌∙◌, inl, inr, arith}
+use Rattle.std.specs.Prelude.{Bool, ℤ, if◌then◌else◌, IsTrue, Option, option_map, slice_get, unwrap_or, ◌&&◌}
+use Rattle.std.specs.List.{All, enumerate_from}
+use Rattle.std.proofs.lemmas.List.Elements.{All-get_or}
+use Rattle.std.proofs.lemmas.Option.{get_or_from_slice_get, none-some, slice_get_cases, slice_get_read, slice_get_within, slice_get-map}
+use Rattle.msg_world.specs.Access.{OfResource, OfType, Part, Registry}
+use Rattle.msg_world.specs.Parts.{Has, Parts, PartsStand}
+use Rattle.msg_world.specs.World.{WorldState, held, new_world}
+use Rattle.msg_order.specs.declared.rule.Rule.{Rule}
+use Rattle.msg_exec.specs.Frames.{first_state}
+use Rattle.msg_system.specs.Needs.{job_needs, needs_any, program_needs}
+use Rattle.msg_system.specs.Systems.{Meaning, new_system}
+use Rattle.msg_order.specs.Graph.{IsAcyclic, IsLowestOnCycle}
+use Rattle.msg_exec.specs.declared.place.Place.{Place}
+use Rattle.msg_exec.specs.Building.{EachIs, HasClash, IsLowestClash, MayBeAdded, all_rules}
+use Rattle.msg_scenario.specs.declared.scenario.Scenario.{Scenario}
+use Rattle.msg_scenario.specs.declared.scenario.SystemSpec.{SystemSpec}
+use Rattle.msg_scenario.specs.Runnable.{HasPart, IsRunnable, IsRunnableSystem, first_world, places_of, state_of, systems_of}
+use Rattle.msgrun.specs.Making.{IsSystemAt}
+
+abbrev IsValueOf : {X : Type 0} → X → Option X → Type 0
+IsValueOf x None = Unit {0}
+IsValueOf x (Some y) = x ≡ y
+
+some_same : {X : Type 0} (x y : X) → Some x ≡ Some y → x ≡ y
+some_same x y is = subst (IsValueOf x) is refl
+
+-- what holds of all of a list holds of what is found in it
+all_at : {X : Type 0} (P : X → Type 0) (xs : List X) (i : ℕ) (x : X) → All P xs → slice_get xs i ≡ Some x → P x
+all_at P xs i x all there =
+    subst P (get_or_from_slice_get xs i x x there) (All-get_or P xs i x (slice_get_within xs i x there) all)
+
+-- lists of one length have something at the same places
+there_too : {X Y : Type 0} (xs : List X) (ys : List Y) (i : ℕ) (x : X) → length xs ≡ length ys
+    → slice_get xs i ≡ Some x → (y : Y) × (slice_get ys i ≡ Some y)
+there_too xs ys i x same there =
+    let lt = slice_get_within xs i x there in
+    elim (slice_get_cases ys i).1 [
+      | inl found ↦ (found.0, found.2)
+      | inr past ↦ absurd (let late = past.0 in omega (arith, lt, same, late))
+    ]
+
+-- the world of a scenario, before it is held
+abbrev unheld : Scenario → WorldState
+unheld s = new_world (map (λ named. named.1) s.types) (map (λ named. named.1) s.resources)
+
+pub stands_unheld : (s : Scenario) (w : Parts) (limits : List ℕ) (values : List ℤ) → limits ≡ map (λ named. named.1) s.types
+    → values ≡ map (λ named. named.1) s.resources → PartsStand w (new_world limits values) → PartsStand w (unheld s)
+stands_unheld s w limits values types resources stands =
+    subst (λ ls. PartsStand w (new_world ls (map (λ named. named.1) s.resources))) types
+    (subst (λ vs. PartsStand w (new_world limits vs)) resources stands)
+
+-- the first world is that, held or not
+pub stands_held : (s : Scenario) (w : Parts) (b : Bool) → s.held ≡ b → PartsStand w (if b then held (unheld s) else unheld s)
+    → PartsStand w (first_world s)
+stands_held s w b is stands = subst (λ k. PartsStand w (if k then held (unheld s) else unheld s)) (sym is) stands
+
+-- the state of its parts is the scenario's
+pub same_state : (s : Scenario) (systems : List Meaning) (places : List Place) (rules : List Rule) (types : ℕ)
+    → systems ≡ systems_of s → places ≡ places_of s → rules ≡ s.rules → types ≡ length s.types
+    → first_state systems places rules types (first_world s) ≡ state_of s
+same_state s systems places rules types a b c d =
+    ap (λ x. first_state x places rules types (first_world s)) a
+    ∙ ap (λ x. first_state (systems_of s) x rules types (first_world s)) b
+    ∙ ap (λ x. first_state (systems_of s) (places_of s) x types (first_world s)) c
+    ∙ ap (λ x. first_state (systems_of s) (places_of s) s.rules x (first_world s)) d
+
+-- the world of a scenario has the scenario's parts
+has_part : (s : Scenario) (w : Parts) (p : Part) → length w.types ≡ length s.types → length w.resources ≡ length s.resources
+    → HasPart s p → Has w p
+has_part s w (OfType t) types resources has = subst (λ n. t < n) (sym types) has
+has_part s w (OfResource r) types resources has = subst (λ n. r < n) (sym resources) has
+has_part s w Registry types resources has = has
+
+-- what was read at a place is there
+pub found_at : {X : Type 0} (xs : List X) (n i : ℕ) (x : X) → n ≡ i → i < length xs → x ≡ get_or xs i x → slice_get xs n ≡ Some x
+found_at xs n i x same lt is = subst (λ k. slice_get xs k ≡ Some x) (sym same) (slice_get_read xs (length xs) i x refl lt is)
+
+module _ {S : Type 0} (m : S → Meaning) where
+  -- the system of the spec at a place is the one at that place
+  pub is_system_at : (specs : List SystemSpec) (n : ℕ) (x : S) (spec : SystemSpec) → slice_get specs n ≡ Some spec
+      → m x ≡ new_system spec.program n → IsSystemAt m specs n x
+  is_system_at specs n x spec there is other found =
+      subst (λ (y : SystemSpec). m x ≡ new_system y.program n) (some_same spec other (sym there ∙ found)) is
+
+  -- systems that are each the one at its place are all of them
+  all_from : (specs : List SystemSpec) (xs : List S) (n : ℕ) → length xs ≡ length specs
+      → ((i j : ℕ) (x : S) (spec : SystemSpec) → n + i ≡ j → slice_get xs i ≡ Some x → slice_get specs i ≡ Some spec
+      → m x ≡ new_system spec.program j)
+      → map m xs ≡ map (λ x. new_system x.1.program x.0) (enumerate_from n specs)
+  all_from [] [] n same each = refl
+  all_from [] (x ∷ xs) n same each = cc
+  all_from (spec ∷ specs) [] n same each = cc
+  all_from (spec ∷ specs) (x ∷ xs) n same each =
+      let rest = all_from specs xs (n + 1) (omega (arith, same))
+      (λ i j y t is here there. each (suc i) j y t (omega (arith, is)) here there) in
+      let first : m x ≡ new_system spec.program n = each 0 n x spec (omega arith) refl refl in
+      ap (λ y. y ∷ map m xs) first
+      ∙ ap (λ l. new_system spec.program n ∷ l) rest
+
+  pub all_made : (s : Scenario) (xs : List S) → length xs ≡ length s.systems → EachIs (IsSystemAt m s.systems) xs
+      → map m xs ≡ systems_of s
+  all_made s xs same each =
+      all_from s.systems xs 0 same
+      (λ i j x spec is here there. subst (λ k. m x ≡ new_system spec.program k) (sym (zero-add i) ∙ is) (each i x here spec there))
+
+  -- each may be added
+  pub may_add : (s : Scenario) (w : Parts) (xs : List S) → IsRunnable s → length w.types ≡ length s.types
+      → length w.resources ≡ length s.resources → length xs ≡ length s.systems → EachIs (IsSystemAt m s.systems) xs
+      → EachIs (MayBeAdded m w (places_of s)) xs
+  may_add s w xs runnable types resources same each i x here =
+      let found = there_too xs s.systems i x same here in
+      let spec = found.0 in
+      let is : m x ≡ new_system spec.program i = each i x here spec found.1 in
+      let program = ap (λ y. y.program) is in
+      let fine : IsRunnableSystem s spec = all_at (IsRunnableSystem s) s.systems i spec runnable.systems found.1 in
+      let placed : (place : Place) → slice_get (places_of s) i ≡ Some place → spec.place ≡ place =
+      λ place sp. some_same _ _ (sym (slice_get-map (λ (y : SystemSpec). y.place) s.systems i ∙ ap (option_map (λ y. y.place)) found.1) ∙ sp) in
+      record {
+        new = is ∙ ap (λ q. new_system q i) (sym program);
+        fits = λ place sp p needed. has_part s w p types resources
+            (fine.fits p (subst (λ (y : Place). IsTrue (needs_any (job_needs spec.program.ops y.conditions) p)) (sym (placed place sp))
+            (subst (λ q. IsTrue (needs_any (job_needs q.ops place.conditions) p)) program needed)));
+        joins = λ place sp. subst (λ (y : Place). (1 ≤ y.join) × (y.join ≤ 10000)) (placed place sp) fine.joins;
+      }
+
+  -- none reads and writes one part
+  pub no_clash : (s : Scenario) (xs : List S) (i : ℕ) → IsRunnable s → length xs ≡ length s.systems
+      → EachIs (IsSystemAt m s.systems) xs → IsLowestClash m xs i → ⊥
+  no_clash s xs i runnable same each lowest =
+      let x = lowest.system in
+      let found = there_too xs s.systems i x same lowest.is in
+      let spec = found.0 in
+      let program = ap (λ y. y.program) (each i x lowest.is spec found.1) in
+      let fine : IsRunnableSystem s spec = all_at (IsRunnableSystem s) s.systems i spec runnable.systems found.1 in
+      fine.no_clash lowest.clash.0
+      (subst (λ q. IsTrue ((program_needs q.ops).reads lowest.clash.0 && (program_needs q.ops).writes lowest.clash.0)) program lowest.clash.1)
+
+-- no system is on a cycle of rules
+pub no_cycle : (s : Scenario) (rules : List Rule) (n i : ℕ) → IsRunnable s → rules ≡ s.rules → n ≡ length s.systems
+    → IsLowestOnCycle (all_rules n rules) i → ⊥
+no_cycle s rules n i runnable same many lowest =
+    subst (λ k. IsAcyclic (all_rules k rules)) (sym many)
+    (subst (λ r. IsAcyclic (all_rules (length s.systems) r)) (sym same) runnable.acyclic) i lowest.on_cycle

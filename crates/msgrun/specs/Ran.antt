@@ -1,0 +1,17 @@
+-- What a run of a scenario leaves in a sink.
+use Rattle.std.specs.Prelude.{◌≡◌, ◌⊎◌, ℕ, List, Option}
+use Rattle.std.specs.Io.KnownBytes.{Appends}
+use Rattle.msg_exec.specs.Accounts.{accounts_of}
+use Rattle.msg_exec.specs.Frames.{IsRun}
+use Rattle.msg_exec.specs.State.{State}
+use Rattle.msg_exec.specs.declared.log.Log.{Log}
+use Rattle.msg_scenario.specs.ReportText.{report_text}
+use Rattle.msg_scenario.specs.Runnable.{state_of}
+use Rattle.msg_scenario.specs.declared.scenario.Scenario.{Scenario}
+
+-- All frames were run, and the sink took the report of the scenario, and no more.
+pub record IsReported (s : Scenario) (before after : Option (List ℕ)) : Type 0 where
+  pub logs : List Log
+  pub state : State
+  pub is_run : IsRun s.frames (state_of s) logs state
+  pub printed : Appends before after (report_text s logs (accounts_of state))
