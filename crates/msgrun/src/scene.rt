@@ -16,6 +16,9 @@ use msg_system::System;
 use std::alloc::Global;
 use std::thread::Threads;
 
+#[cfg(test)]
+mod tests;
+
 /// Puts each system of a scenario into a box of its kind, runs the frames, and puts the report into
 /// the sink, each frame's text before the next frame is run.
 pub fn run_scenario<R: Threads + Sync, S: Sink>(

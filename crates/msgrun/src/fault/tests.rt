@@ -3,6 +3,7 @@ ghost use Rattle.std.specs.Prelude.{None};
 use crate::fault::{MainFault, print_fault};
 use crate::input::InputFault;
 use crate::words::WordFault;
+use msg_exec::RunFault;
 use msg_scenario::{MemorySink, PutFault, Refusal, ReportFault, Sink};
 use std::alloc::Global;
 use std::process::Abort;
@@ -89,7 +90,16 @@ fn lines(rt: HostRuntime) -> Result<(), Fail> {
     ] {
         expect_line(&rt, MainFault::Refused(refusal), line, status);
     }
+    expect_line(&rt, MainFault::Built, "msgrun: want of memory\n", 1);
     for (fault, line) in [
+        (
+            ReportFault::Run(RunFault::Spoiled),
+            "msgrun: run fault 1 Spoiled\n",
+        ),
+        (
+            ReportFault::Run(RunFault::NoMemory),
+            "msgrun: run fault 3 NoMemory\n",
+        ),
         (ReportFault::Write, "msgrun: write fault\n"),
         (ReportFault::NoMemory, "msgrun: want of memory\n"),
     ] {
@@ -142,7 +152,17 @@ fn texts(rt: HostRuntime) -> Result<(), Fail> {
         let text = format!(in alloc; "{fault}")?;
         expect_text(&rt, text, want, MainFault::Input(fault), want)?;
     }
+    let text = format!(in alloc; "{}", MainFault::Built)?;
+    assert_eq!(rt; text.as_str(), "want of memory");
     for (fault, want) in [
+        (
+            ReportFault::Run(RunFault::Spoiled),
+            "run fault: the engine is spoiled",
+        ),
+        (
+            ReportFault::Run(RunFault::NoMemory),
+            "run fault: want of memory",
+        ),
         (ReportFault::Write, "write fault"),
         (ReportFault::NoMemory, "want of memory"),
     ] {

@@ -62,12 +62,12 @@ fn help(rt: HostRuntime) -> Result<(), Fail> {
         ("help", ["msgrun [COMMAND]", "buffer", "docs/FORMATS.md"]),
         (
             "buffer --help",
-            ["msgrun buffer <FILE>", "[\"read\",0,2]", "docs/FORMATS.md"],
+            ["buffer <FILE>", "[\"read\",0,2]", "docs/FORMATS.md"],
         ),
         (
             "help buffer",
             [
-                "msgrun buffer <FILE>",
+                "buffer <FILE>",
                 "read 0 missed 0: 0=7 1=8\n",
                 "docs/FORMATS.md",
             ],
