@@ -4,6 +4,7 @@ pub mod Files
 pub mod Fitting
 pub mod Lines
 pub mod Lists
+pub mod Making
 pub mod Named
 pub mod Ops
 pub mod Parts

@@ -14,7 +14,9 @@ use std::alloc::Global;
 use std::process::Abort;
 use std::test::Fail;
 
+mod engines;
 mod parts;
+mod runs;
 
 fn expect_frame(
     rt: &impl Abort,

@@ -1,0 +1,130 @@
+// Whole reports: of a reader and a writer, over two frames.
+use super::engines::engine_of;
+use crate::fakes::Narrow;
+use crate::memory_sink::MemorySink;
+use crate::report_fault::ReportFault;
+use crate::reports::report;
+use crate::{Sink, read_scenario};
+use msg_exec::{NoGate, RunFault, Workers};
+use std::alloc::Global;
+use std::process::Abort;
+use std::test::Fail;
+use std::thread::Threads;
+
+const LAG: &str = "{\"types\":[[\"hit\",10]],\"systems\":[\
+    {\"name\":\"r\",\"ops\":[[\"read\",\"hit\"]]},\
+    {\"name\":\"w\",\"ops\":[[\"write\",\"hit\",5]]}],\
+    \"rules\":[[\"r\",\"w\"]],\"frames\":[[],[]]}";
+
+const FIRST_FRAME: &str = "\
+    frame 1\n\
+    r read hit missed 0: none\n\
+    w write hit 0+1\n";
+
+const WHOLE: &str = "\
+    frame 1\n\
+    r read hit missed 0: none\n\
+    w write hit 0+1\n\
+    frame 2\n\
+    r read hit missed 0: 0=5@w\n\
+    w write hit 1+1\n\
+    reader r hit start 0 got 1 missed 0 cleared 0 place 1\n";
+
+/// What a report of the text came to, and how many frames the engine counts then.
+#[derive(Drop)]
+struct Outcome {
+    put: Result<(), ReportFault>,
+    frames: u32,
+    is_spoiled: bool,
+}
+
+fn run<R: Threads + Sync + Abort, S: Sink>(
+    rt: &R,
+    alloc: Global,
+    text: &str,
+    workers: u32,
+    runs: u32,
+    sink: &mut S,
+) -> Outcome {
+    let Ok(scenario) = read_scenario(alloc, text.as_bytes()) else {
+        panic!(rt; "a scenario")
+    };
+    let Ok(mut engine) = engine_of(alloc, &scenario, runs) else {
+        panic!(rt; "an engine")
+    };
+    let Some(workers) = Workers::new(workers) else {
+        panic!(rt; "from 1 to 64 workers")
+    };
+    let put = report(rt, alloc, &mut engine, &scenario, workers, &NoGate, sink);
+    Outcome {
+        put,
+        frames: engine.frames_run(),
+        is_spoiled: engine.world().is_none(),
+    }
+}
+
+#[test]
+fn one_frames_lag(rt: HostRuntime) {
+    for workers in [1, 2, 64] {
+        let mut sink = MemorySink::new();
+        let came = run(&rt, rt.alloc(), LAG, workers, 2, &mut sink);
+        assert_eq!(rt; came.put, Ok(()), "{workers}");
+        assert_eq!(rt; came.frames, 2, "{workers}");
+        assert!(rt; sink.bytes() == WHOLE.as_bytes(), "{workers}");
+    }
+}
+
+#[test]
+fn no_frames(rt: HostRuntime) {
+    let text = "{\"types\":[[\"hit\",10]],\"systems\":[\
+        {\"name\":\"r\",\"ops\":[[\"read\",\"hit\"]]}],\"frames\":[]}";
+    let mut sink = MemorySink::new();
+    let came = run(&rt, rt.alloc(), text, 1, 0, &mut sink);
+    assert_eq!(rt; came.put, Ok(()));
+    assert_eq!(rt; came.frames, 0);
+    let want = "reader r hit start 0 got 0 missed 0 cleared 0 place 0\n";
+    assert!(rt; sink.bytes() == want.as_bytes());
+}
+
+#[test]
+fn sinks_that_take_little(rt: HostRuntime) {
+    for at_once in [1, 7] {
+        let mut sink = Narrow::new(at_once, WHOLE.len(), false);
+        let came = run(&rt, rt.alloc(), LAG, 2, 2, &mut sink);
+        assert_eq!(rt; came.put, Ok(()), "{at_once}");
+        assert_eq!(rt; sink.failures(), 0, "{at_once}");
+        assert!(rt; sink.taken.bytes() == WHOLE.as_bytes(), "{at_once}");
+    }
+}
+
+/// A sink that fails after so many bytes has these, and later frames weren't run.
+#[test]
+fn sinks_that_fail(rt: HostRuntime) {
+    assert_eq!(rt; WHOLE.len(), 155);
+    assert_eq!(rt; FIRST_FRAME.len(), 50);
+    for left in 0..WHOLE.len() {
+        let mut sink = Narrow::new(1000, left, left % 2 == 0);
+        let came = run(&rt, rt.alloc(), LAG, 1, 2, &mut sink);
+        assert_eq!(rt; came.put, Err(ReportFault::Write), "{left}");
+        assert_eq!(rt; sink.failures(), 1, "{left}");
+        assert!(rt; sink.taken.bytes() == &WHOLE.as_bytes()[..left], "{left}");
+        assert_eq!(rt; came.frames, if left < 50 { 1 } else { 2 }, "{left}");
+        assert!(rt; !came.is_spoiled, "{left}");
+    }
+}
+
+#[test]
+fn systems_without_memory(rt: HostRuntime) {
+    for (runs, want) in [(0, ""), (1, FIRST_FRAME)] {
+        let mut sink = MemorySink::new();
+        let came = run(&rt, rt.alloc(), LAG, 2, runs, &mut sink);
+        assert_eq!(rt;
+            came.put,
+            Err(ReportFault::Run(RunFault::NoMemory)),
+            "{runs}"
+        );
+        assert_eq!(rt; came.frames, runs, "{runs}");
+        assert!(rt; came.is_spoiled, "{runs}");
+        assert!(rt; sink.bytes() == want.as_bytes(), "{runs}");
+    }
+}
