@@ -68,6 +68,7 @@ fn command<'a>(alloc: Global) -> Result<Command<'a>, AllocError>
     let buffer = buffer_command(alloc)?;
     let run = run_command(alloc)?;
     let bare = Command::new(alloc, "msgrun").no_binary_name(true);
+    let bare = bare.bin_name("msgrun")?;
     let told = told(
         bare,
         "Runs scenarios of message systems, and answers calls of a message buffer",

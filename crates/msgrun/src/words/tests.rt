@@ -62,12 +62,12 @@ fn help(rt: HostRuntime) -> Result<(), Fail> {
         ("help", ["msgrun [COMMAND]", "buffer", "docs/FORMATS.md"]),
         (
             "buffer --help",
-            ["buffer <FILE>", "[\"read\",0,2]", "docs/FORMATS.md"],
+            ["msgrun buffer <FILE>", "[\"read\",0,2]", "docs/FORMATS.md"],
         ),
         (
             "help buffer",
             [
-                "buffer <FILE>",
+                "msgrun buffer <FILE>",
                 "read 0 missed 0: 0=7 1=8\n",
                 "docs/FORMATS.md",
             ],
