@@ -42,6 +42,7 @@ refusal_line refusal.NoMemory = codes "msgrun: want of memory\n"
 -- the line of a frame, or of accounts, that couldn't be had: the fault's number and name
 abbrev pub run_line : RunFault → List ℕ
 run_line run.Spoiled = codes "msgrun: run fault 1 Spoiled\n"
+run_line run.BadOrder = codes "msgrun: run fault 2 BadOrder\n"
 run_line run.NoMemory = codes "msgrun: run fault 3 NoMemory\n"
 
 -- the line of answers that weren't printed to their end

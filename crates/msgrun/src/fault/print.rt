@@ -73,6 +73,7 @@ fn run_line(fault: RunFault) -> &'static [u8]
 {
     match fault {
         RunFault::Spoiled => b"msgrun: run fault 1 Spoiled\n",
+        RunFault::BadOrder => b"msgrun: run fault 2 BadOrder\n",
         RunFault::NoMemory => b"msgrun: run fault 3 NoMemory\n",
     }
 }

@@ -97,6 +97,10 @@ fn lines(rt: HostRuntime) -> Result<(), Fail> {
             "msgrun: run fault 1 Spoiled\n",
         ),
         (
+            ReportFault::Run(RunFault::BadOrder),
+            "msgrun: run fault 2 BadOrder\n",
+        ),
+        (
             ReportFault::Run(RunFault::NoMemory),
             "msgrun: run fault 3 NoMemory\n",
         ),
