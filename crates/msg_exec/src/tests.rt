@@ -4,6 +4,7 @@ mod cases;
 mod engines;
 mod play;
 mod refused;
+mod replay;
 mod roles;
 mod text;
 mod workers;

@@ -1,9 +1,23 @@
-// Logs and accounts as text, a line for each turn's reply.
+// Logs, accounts and worlds as text, a line for each turn's reply, each account and each type.
 use crate::{Account, Log, Outcome};
-use msg_buffer::Written;
+use msg_buffer::{MessageId, Written};
 use msg_system::{Reply, Took};
-use msg_world::{HOST, Record};
+use msg_world::{HOST, Record, TypeNo, World};
 use std::alloc::{AllocError, Global};
+
+fn tell_record(
+    alloc: Global,
+    text: &mut String,
+    number: u64,
+    record: &Record,
+) -> Result<(), AllocError> {
+    let Record { writer, value } = *record;
+    if writer == HOST {
+        text.push_str(format!(in alloc; " {number}={value}@host")?.as_str())
+    } else {
+        text.push_str(format!(in alloc; " {number}={value}@{writer}")?.as_str())
+    }
+}
 
 /// The messages from a number on.
 fn tell_records(
@@ -16,13 +30,7 @@ fn tell_records(
         text.push_str(" none")?;
     }
     for k in 0..records.len() {
-        let number = first.saturating_add(k as u64);
-        let Record { writer, value } = records[k];
-        if writer == HOST {
-            text.push_str(format!(in alloc; " {number}={value}@host")?.as_str())?;
-        } else {
-            text.push_str(format!(in alloc; " {number}={value}@{writer}")?.as_str())?;
-        }
+        tell_record(alloc, text, first.saturating_add(k as u64), &records[k])?;
     }
     Ok(())
 }
@@ -139,6 +147,27 @@ pub fn tell_accounts(
 ) -> Result<(), AllocError> {
     for account in accounts {
         tell_account(alloc, text, account)?;
+    }
+    Ok(())
+}
+
+/// The messages of each type that are there.
+pub fn tell_world(alloc: Global, text: &mut String, world: &World) -> Result<(), AllocError> {
+    for k in 0..world.types() {
+        let Some(t) = TypeNo::new(k as u32) else {
+            continue;
+        };
+        let Some(messages) = world.messages(t) else {
+            continue;
+        };
+        let (oldest, count) = (messages.oldest(), messages.count());
+        text.push_str(format!(in alloc; "type {k} oldest {oldest} count {count}:")?.as_str())?;
+        for number in oldest..count {
+            if let Some(record) = messages.get(MessageId(number)) {
+                tell_record(alloc, text, number, record)?;
+            }
+        }
+        text.push_str("\n")?;
     }
     Ok(())
 }

@@ -1,8 +1,8 @@
-use Rattle.std.proofs.Common.{◌≡◌, ℕ, zero, suc, ◌<◌, ◌||◌, List, [], ◌∷◌, Option, None, length, sym, ap, subst, ◌∙◌, arith}
+use Rattle.std.proofs.Common.{ℕ, zero, suc, ◌<◌, ◌||◌, List, [], ◌∷◌, Option, None, length, ap, subst, ◌∙◌, arith}
 use Rattle.std.specs.Prelude.{IsSome, IsTrue, slice_index_or}
 use Rattle.std.proofs.lemmas.Bool.{false≢true}
 use Rattle.msg_world.specs.declared.access.Access.{Access}
-use Rattle.msg_world.specs.Access.{OfResource, OfType, Part, Registry, reads, uses, writes}
+use Rattle.msg_world.specs.Access.{OfResource, OfType, Part, Registry, uses, writes}
 use Rattle.msg_world.specs.Parts.{Has, Parts, slot}
 use Rattle.msg_system.specs.Needs.{IsAccessOf, Needs, job_needs, needs_any}
 use Rattle.msg_exec.proofs.tests.play.fits.Goals as goal
