@@ -5,7 +5,7 @@ ghost use Rattle.msg_exec.specs.Engines.{IsEngine};
 use super::play::{add, all_posts_fit, posts_fit, start, workers};
 use super::roles::{frames, program, type_no};
 use super::text::{tell_accounts, tell_log, tell_world};
-use crate::{Engine, EngineOf, Frame, Items, NoGate, Place};
+use crate::{EngineOf, Frame, Items, NoGate, Place};
 use msg_system::{Access, NoMemory, Op, Reply, Scripted, Start, System};
 use msg_world::{Counts, Lent, Taken, TypeNo, World};
 use std::alloc::Global;
@@ -49,7 +49,7 @@ impl System for Noting {
     }
 }
 
-/// An engine of noting boxes, each with one op, over a world of one type. Box i notes i + 1.
+/// An engine of noting scripts, each with one op, over a world of one type. System i notes i + 1.
 fn engine_of(
     rt: &impl Abort,
     alloc: Global,
@@ -57,10 +57,10 @@ fn engine_of(
     join: u32,
     roles: Vec<(Op, Start)>,
     noted: &Arc<AtomicU64>,
-) -> Result<Engine, Fail>
-    ensures engine { IfOk result (IsEngine ⟦<Box<dyn System> as System>⟧.meaning) }
+) -> Result<EngineOf<Noting>, Fail>
+    ensures engine { IfOk result (IsEngine ⟦<Noting as System>⟧.meaning) }
 {
-    let mut systems: Vec<Box<dyn System>> = Vec::new(alloc);
+    let mut systems = Vec::new(alloc);
     let mut places = Vec::new(alloc);
     for (op, start_at) in roles {
         assert!(rt; systems.len() < 256);
@@ -72,7 +72,7 @@ fn engine_of(
             digit: writer as u64 + 1,
             noted: Arc::try_clone(noted)?,
         };
-        add(&mut systems, Box::new(alloc, noting)?)?;
+        add(&mut systems, noting)?;
         places.push(Place {
             conditions: Items::from_vec(Vec::new(alloc)),
             join,
@@ -117,8 +117,8 @@ fn writer_and_readers(
     rt: &impl Abort,
     alloc: Global,
     noted: &Arc<AtomicU64>,
-) -> Result<Engine, Fail>
-    ensures engine { IfOk result (IsEngine ⟦<Box<dyn System> as System>⟧.meaning) }
+) -> Result<EngineOf<Noting>, Fail>
+    ensures engine { IfOk result (IsEngine ⟦<Noting as System>⟧.meaning) }
 {
     let t = type_no(rt, 0);
     let roles = vec![in alloc;

@@ -1,7 +1,8 @@
 use Rattle.std.proofs.Common.{◌≡◌}
 use Rattle.msg_system.specs.Systems.{new_system}
 use Rattle.msg_exec.specs.Building.{EachIs}
+use Rattle.msg_exec.specs.contracts.tests.replay.NotingSystem.TheImpl.{meaning-value}
 use Rattle.msg_exec.proofs.tests.replay.engine_of.Given as goal
 
 abbrev pub invariant-loop-op : goal.invariant-loop-op
-invariant-loop-op g l = EachIs (λ i x. (g.dyn-1.0.entry x.vtable).1.meaning x.value ≡ new_system ((g.dyn-1.0.entry x.vtable).1.meaning x.value).program i) l.systems.items
+invariant-loop-op g l = EachIs (λ i x. meaning-value.it x ≡ new_system (meaning-value.it x).program i) l.systems.items
