@@ -2,6 +2,7 @@
 // public call once with ample memory.
 mod cases;
 mod engines;
+mod frames;
 mod play;
 mod refused;
 mod replay;

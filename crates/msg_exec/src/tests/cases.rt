@@ -1,20 +1,20 @@
 // The worked cases.
 use super::play::play;
 use super::roles::{
-    Case, Kind, frames, on, plain, res_no, script, script_from, script_if, type_no,
+    Case, Kind, frames, on, on_ground, on_held_ground, plain, res_no, script, script_from,
+    script_if, type_no,
 };
 use msg_order::Rule;
 use msg_system::{Op, Probe, Start, Values};
-use msg_world::World;
 use std::test::Fail;
 
 #[test]
 fn no_frames(rt: HostRuntime) -> Result<(), Fail> {
     let alloc = rt.alloc();
     let t = type_no(&rt, 0);
-    let world = World::new(alloc, &[10], &[])?;
+    let ground = on_ground(alloc, &[10], &[])?;
     let case = Case {
-        world,
+        ground,
         roles: vec![in alloc; script(alloc, vec![in alloc; Op::Read(t, None)]?)]?,
         rules: Vec::new(alloc),
         frames: frames(&rt, alloc, 0, &[])?,
@@ -31,9 +31,9 @@ fn no_frames(rt: HostRuntime) -> Result<(), Fail> {
 fn one_frames_lag(rt: HostRuntime) -> Result<(), Fail> {
     let alloc = rt.alloc();
     let t = type_no(&rt, 0);
-    let world = World::new(alloc, &[10], &[])?;
+    let ground = on_ground(alloc, &[10], &[])?;
     let case = Case {
-        world,
+        ground,
         roles: vec![in alloc;
             script(alloc, vec![in alloc; Op::Read(t, None)]?),
             script(alloc, vec![in alloc; Op::Write(t, 5)]?),
@@ -62,9 +62,9 @@ fn exactly_two_updates(rt: HostRuntime) -> Result<(), Fail> {
     let alloc = rt.alloc();
     let t = type_no(&rt, 0);
     let r = res_no(&rt, 0);
-    let world = World::new(alloc, &[10], &[0])?;
+    let ground = on_ground(alloc, &[10], &[0])?;
     let case = Case {
-        world,
+        ground,
         roles: vec![in alloc;
             script(alloc, vec![in alloc; Op::Add(r, 1)]?),
             script_if(
@@ -105,9 +105,9 @@ fn read_of_none(rt: HostRuntime) -> Result<(), Fail> {
     let alloc = rt.alloc();
     let t = type_no(&rt, 0);
     let r = res_no(&rt, 0);
-    let world = World::new(alloc, &[10], &[0])?;
+    let ground = on_ground(alloc, &[10], &[0])?;
     let case = Case {
-        world,
+        ground,
         roles: vec![in alloc;
             script(alloc, vec![in alloc; Op::Add(r, 1)]?),
             script_if(
@@ -148,9 +148,9 @@ fn read_of_none(rt: HostRuntime) -> Result<(), Fail> {
 fn host_and_two_writers(rt: HostRuntime) -> Result<(), Fail> {
     let alloc = rt.alloc();
     let t = type_no(&rt, 0);
-    let world = World::new(alloc, &[20], &[])?;
+    let ground = on_ground(alloc, &[20], &[])?;
     let case = Case {
-        world,
+        ground,
         roles: vec![in alloc;
             script(alloc, vec![in alloc; Op::Write(t, 1)]?),
             script(
@@ -186,9 +186,9 @@ fn host_and_two_writers(rt: HostRuntime) -> Result<(), Fail> {
 fn contradictory_order(rt: HostRuntime) -> Result<(), Fail> {
     let alloc = rt.alloc();
     let (t0, t1) = (type_no(&rt, 0), type_no(&rt, 1));
-    let world = World::new(alloc, &[10, 10], &[])?;
+    let ground = on_ground(alloc, &[10, 10], &[])?;
     let case = Case {
-        world,
+        ground,
         roles: vec![in alloc;
             script(alloc, vec![in alloc; Op::Write(t0, 1)]?),
             script(alloc, vec![in alloc; Op::Write(t1, 2)]?),
@@ -218,9 +218,9 @@ fn contradictory_order(rt: HostRuntime) -> Result<(), Fail> {
 fn clash_or_condition(rt: HostRuntime) -> Result<(), Fail> {
     let alloc = rt.alloc();
     let t = type_no(&rt, 0);
-    let world = World::new(alloc, &[9], &[])?;
+    let ground = on_ground(alloc, &[9], &[])?;
     let case = Case {
-        world,
+        ground,
         roles: vec![in alloc;
             script_if(
                 vec![in alloc; on(0, Probe::OnMessage(t))]?,
@@ -251,9 +251,9 @@ fn all_conditions(rt: HostRuntime) -> Result<(), Fail> {
     let alloc = rt.alloc();
     let t = type_no(&rt, 0);
     let r = res_no(&rt, 0);
-    let world = World::new(alloc, &[9], &[0])?;
+    let ground = on_ground(alloc, &[9], &[0])?;
     let case = Case {
-        world,
+        ground,
         roles: vec![in alloc;
             script_if(
                 vec![in alloc;
@@ -293,9 +293,9 @@ fn saturation(rt: HostRuntime) -> Result<(), Fail> {
     let alloc = rt.alloc();
     let t = type_no(&rt, 0);
     let r = res_no(&rt, 0);
-    let world = World::new(alloc, &[9], &[9223372036854775807])?;
+    let ground = on_ground(alloc, &[9], &[9223372036854775807])?;
     let case = Case {
-        world,
+        ground,
         roles: vec![in alloc; plain(alloc, Kind::Tally(t, r))]?,
         rules: Vec::new(alloc),
         frames: frames(&rt, alloc, 1, &[(1, 0, 1), (1, 0, -5)])?,
@@ -318,9 +318,9 @@ fn saturation(rt: HostRuntime) -> Result<(), Fail> {
 fn forward_at_the_limit(rt: HostRuntime) -> Result<(), Fail> {
     let alloc = rt.alloc();
     let (t0, t1) = (type_no(&rt, 0), type_no(&rt, 1));
-    let world = World::new(alloc, &[10, 1], &[])?;
+    let ground = on_ground(alloc, &[10, 1], &[])?;
     let case = Case {
-        world,
+        ground,
         roles: vec![in alloc;
             plain(alloc, Kind::Relay(t0, t1)),
             script(alloc, vec![in alloc; Op::Read(t1, None)]?),
@@ -352,9 +352,9 @@ fn forward_at_the_limit(rt: HostRuntime) -> Result<(), Fail> {
 fn late_systems(rt: HostRuntime) -> Result<(), Fail> {
     let alloc = rt.alloc();
     let t = type_no(&rt, 0);
-    let world = World::new(alloc, &[10], &[])?;
+    let ground = on_ground(alloc, &[10], &[])?;
     let case = Case {
-        world,
+        ground,
         roles: vec![in alloc;
             script_from(alloc, 3, Start::Zero, vec![in alloc; Op::Read(t, None)]?),
             script_from(alloc, 3, Start::Current, vec![in alloc; Op::Read(t, None)]?),
@@ -385,9 +385,9 @@ fn late_systems(rt: HostRuntime) -> Result<(), Fail> {
 fn late_systems_waiting(rt: HostRuntime) -> Result<(), Fail> {
     let alloc = rt.alloc();
     let t = type_no(&rt, 0);
-    let world = World::new(alloc, &[10], &[])?;
+    let ground = on_ground(alloc, &[10], &[])?;
     let case = Case {
-        world,
+        ground,
         roles: vec![in alloc;
             script_from(alloc, 3, Start::Zero, vec![in alloc; Op::Read(t, None)]?),
             script_from(alloc, 3, Start::Current, vec![in alloc; Op::Read(t, None)]?),
@@ -415,10 +415,9 @@ fn held_updates(rt: HostRuntime) -> Result<(), Fail> {
     let alloc = rt.alloc();
     let t = type_no(&rt, 0);
     let r = res_no(&rt, 0);
-    let mut world = World::new(alloc, &[10], &[0])?;
-    world.set_held();
+    let ground = on_held_ground(alloc, &[10], &[0])?;
     let case = Case {
-        world,
+        ground,
         roles: vec![in alloc;
             script(alloc, vec![in alloc; Op::Add(r, 1)]?),
             script_if(
@@ -461,10 +460,9 @@ fn held_updates(rt: HostRuntime) -> Result<(), Fail> {
 fn several_signals(rt: HostRuntime) -> Result<(), Fail> {
     let alloc = rt.alloc();
     let t = type_no(&rt, 0);
-    let mut world = World::new(alloc, &[10], &[])?;
-    world.set_held();
+    let ground = on_held_ground(alloc, &[10], &[])?;
     let case = Case {
-        world,
+        ground,
         roles: vec![in alloc;
             script(alloc, vec![in alloc; Op::Signal, Op::Signal]?),
             script(alloc, vec![in alloc; Op::Signal]?),
@@ -503,9 +501,9 @@ fn several_signals(rt: HostRuntime) -> Result<(), Fail> {
 fn drain_between_readers(rt: HostRuntime) -> Result<(), Fail> {
     let alloc = rt.alloc();
     let t = type_no(&rt, 0);
-    let world = World::new(alloc, &[10], &[])?;
+    let ground = on_ground(alloc, &[10], &[])?;
     let case = Case {
-        world,
+        ground,
         roles: vec![in alloc;
             script(alloc, vec![in alloc; Op::Read(t, Some(1))]?),
             script(alloc, vec![in alloc; Op::Drain(t)]?),

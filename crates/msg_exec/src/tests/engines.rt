@@ -1,20 +1,18 @@
 // Where systems of a new engine start, and how many workers there may be.
 use super::play::play;
-use super::roles::{Case, frames, script, script_from, type_no};
+use super::roles::{Case, frames, on_ground, script, script_from, type_no};
 use crate::Workers;
 use msg_system::{Op, Start};
-use msg_world::World;
 use std::test::Fail;
 
 #[test]
 fn starts_in_a_world_with_a_message(rt: HostRuntime) -> Result<(), Fail> {
     let alloc = rt.alloc();
     let t = type_no(&rt, 0);
-    let mut world = World::new(alloc, &[10], &[])?;
-    assert!(rt; world.messages(t).is_some());
-    assert!(rt; world.post(t, 5).is_ok());
+    let mut ground = on_ground(alloc, &[10], &[])?;
+    ground.message = Some((t, 5));
     let case = Case {
-        world,
+        ground,
         roles: vec![in alloc;
             script(alloc, vec![in alloc; Op::Read(t, None)]?),
             script_from(alloc, 1, Start::Current, vec![in alloc; Op::Read(t, None)]?),

@@ -8,7 +8,7 @@ ghost use Rattle.msg_system.specs.Systems.{new_system};
 ghost use Rattle.msg_exec.specs.Building.{EachIs, MayBeAdded};
 ghost use Rattle.msg_exec.specs.Engines.{IsEngine, PostsFit};
 
-use super::roles::{Case, Kind, Role};
+use super::roles::{Case, Ground, Kind};
 use super::text::{tell_accounts, tell_log};
 use crate::{BuildRefusal, EngineOf, Frame, Items, NoGate, NoMemory, Place, Workers};
 use msg_order::Rule;
@@ -114,19 +114,20 @@ pub fn all_posts_fit<S: System>(engine: &EngineOf<S>, frames: &[Frame]) -> bool
     true
 }
 
-/// Runs the frames, and tells their logs and the accounts after them.
+/// Runs the frames on so many workers, and tells their logs and the accounts after them.
 fn run<R: Threads + Sync + Abort, S: System>(
     rt: &R,
     alloc: Global,
     engine: &mut EngineOf<S>,
     frames: &[Frame],
+    number: u32,
 ) -> Result<String, Fail>
     requires engine { IsEngine S.meaning engine.old }
 {
     let mut text = String::new(alloc);
     let mut logs = Vec::new(alloc);
     assert!(rt; all_posts_fit(engine, frames));
-    engine.run_frames(rt, frames, workers(rt, 1), &NoGate, &mut logs)?;
+    engine.run_frames(rt, frames, workers(rt, number), &NoGate, &mut logs)?;
     for log in &logs {
         tell_log(alloc, &mut text, log)?;
     }
@@ -149,76 +150,85 @@ pub fn add<S: System>(systems: &mut Vec<S>, system: S) -> Result<(), NoMemory>
     Ok(())
 }
 
-/// What is told of a case, or why there is no engine.
-fn told<R: Threads + Sync + Abort>(rt: &R, alloc: Global, case: Case) -> Result<String, Fail>
-    requires whole { IsWhole case.world }
+/// The world of a case.
+fn world_of(rt: &impl Abort, alloc: Global, ground: &Ground) -> Result<World, NoMemory>
+    ensures whole { IfOk result IsWhole }
 {
-    let Case {
-        world,
-        roles,
-        rules,
-        frames,
-    } = case;
+    assert!(rt; ground.limits.len() <= 64);
+    assert!(rt; ground.values.len() <= 64);
+    let mut world = World::new(alloc, &ground.limits, &ground.values)?;
+    if ground.held {
+        world.set_held();
+    }
+    if let Some((t, value)) = ground.message {
+        assert!(rt; world.messages(t).is_some());
+        assert!(rt; world.post(t, value).is_ok());
+    }
+    Ok(world)
+}
+
+/// What is told of a case on so many workers, or why there is no engine.
+fn told<R: Threads + Sync + Abort>(
+    rt: &R,
+    alloc: Global,
+    case: &Case,
+    number: u32,
+) -> Result<String, Fail> {
     let mut systems: Vec<Box<dyn System>> = Vec::new(alloc);
     let mut places = Vec::new(alloc);
-    for role in roles {
+    for role in &case.roles {
         assert!(rt; systems.len() < 256);
         let writer = systems.len() as u32;
-        let Role {
-            kind,
-            conditions,
-            join,
-        } = role;
-        match kind {
+        match &role.kind {
             Kind::Script(program) => {
                 assert!(rt; program.ops.as_slice().len() <= 64);
-                add(
-                    &mut systems,
-                    Box::new(alloc, Scripted::new(program, writer))?,
-                )?;
+                let script = Scripted::new(program.copy(alloc)?, writer);
+                add(&mut systems, Box::new(alloc, script)?)?;
             }
             Kind::Relay(t, u) => {
                 add(
                     &mut systems,
-                    Box::new(alloc, Relay::new(t, u, Start::Zero, writer))?,
+                    Box::new(alloc, Relay::new(*t, *u, Start::Zero, writer))?,
                 )?;
             }
             Kind::Tally(t, r) => {
                 add(
                     &mut systems,
-                    Box::new(alloc, Tally::new(t, r, Start::Zero, writer))?,
+                    Box::new(alloc, Tally::new(*t, *r, Start::Zero, writer))?,
                 )?;
             }
         }
         places.push(Place {
-            conditions: Items::from_vec(conditions),
-            join,
+            conditions: Items::from_vec(Vec::from_slice(alloc, &role.conditions)?),
+            join: role.join,
         })?;
     }
+    let world = world_of(rt, alloc, &case.ground)?;
+    let rules = Vec::from_slice(alloc, &case.rules)?;
     match start(rt, alloc, world, systems, places, rules) {
         Ok(engine) => {
             let mut engine = engine;
-            run(rt, alloc, &mut engine, &frames)
+            run(rt, alloc, &mut engine, &case.frames, number)
         }
         Err(refusal) => Ok(format!(in alloc; "{refusal:?}\n")?),
     }
 }
 
-/// Plays a case, of which these lines are told.
+/// Plays a case on 1, 2, 7 and 64 workers; each time these lines are told.
 pub fn play<R: Threads + Sync + Abort>(
     rt: &R,
     alloc: Global,
     case: Case,
     expected: &[&str],
-) -> Result<(), Fail>
-    requires whole { IsWhole case.world }
-{
+) -> Result<(), Fail> {
     let mut text = String::new(alloc);
     for line in expected {
         text.push_str(line)?;
         text.push_str("\n")?;
     }
-    let told = told(rt, alloc, case)?;
-    assert_eq!(rt; told.as_str(), text.as_str());
+    for number in [1, 2, 7, 64] {
+        let told = told(rt, alloc, &case, number)?;
+        assert_eq!(rt; told.as_str(), text.as_str(), "on {number} workers");
+    }
     Ok(())
 }

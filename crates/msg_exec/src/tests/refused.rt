@@ -1,6 +1,6 @@
 // Engines that there aren't, and one that is spoiled.
 use super::play::{add, all_posts_fit, play, posts_fit, start, workers};
-use super::roles::{Case, Role, frames, program, script, type_no};
+use super::roles::{Case, Role, frames, on_ground, program, script, type_no};
 use crate::{Items, NoGate, Place, RunFault};
 use msg_order::Rule;
 use msg_system::{Access, NoMemory, Op, Reply, Scripted, Start, System};
@@ -19,7 +19,7 @@ fn refuses<R: Threads + Sync + Abort>(
     expected: &str,
 ) -> Result<(), Fail> {
     let case = Case {
-        world: World::new(alloc, &[10], &[])?,
+        ground: on_ground(alloc, &[10], &[])?,
         roles,
         rules: Vec::from_slice(alloc, rules)?,
         frames: Vec::new(alloc),

@@ -2,7 +2,7 @@
 use crate::{Frame, Items};
 use msg_order::Rule;
 use msg_system::{Condition, Op, Ops, Probe, Program, Start};
-use msg_world::{ResNo, TypeNo, World};
+use msg_world::{ResNo, TypeNo};
 use std::alloc::{AllocError, Global};
 use std::process::Abort;
 
@@ -22,10 +22,20 @@ pub struct Role {
     pub join: u32,
 }
 
+/// The world of a case: the limit of each type, the value of each resource, whether it is held, and a
+/// message that is there before the engine.
+#[derive(Drop)]
+pub struct Ground {
+    pub limits: Vec<u64>,
+    pub values: Vec<i64>,
+    pub held: bool,
+    pub message: Option<(TypeNo, i64)>,
+}
+
 /// What is played.
 #[derive(Drop)]
 pub struct Case {
-    pub world: World,
+    pub ground: Ground,
     pub roles: Vec<Role>,
     pub rules: Vec<Rule>,
     pub frames: Vec<Frame>,
@@ -43,6 +53,23 @@ pub fn res_no(rt: &impl Abort, number: u32) -> ResNo {
         Some(r) => r,
         None => panic!(rt; "no resource has this number"),
     }
+}
+
+/// A world of these types and resources.
+pub fn on_ground(alloc: Global, limits: &[u64], values: &[i64]) -> Result<Ground, AllocError> {
+    Ok(Ground {
+        limits: Vec::from_slice(alloc, limits)?,
+        values: Vec::from_slice(alloc, values)?,
+        held: false,
+        message: None,
+    })
+}
+
+/// The same, whose types are updated only after a signal.
+pub fn on_held_ground(alloc: Global, limits: &[u64], values: &[i64]) -> Result<Ground, AllocError> {
+    let mut ground = on_ground(alloc, limits, values)?;
+    ground.held = true;
+    Ok(ground)
 }
 
 pub fn program(ops: Vec<Op>, start: Start) -> Program {

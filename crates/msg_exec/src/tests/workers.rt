@@ -38,7 +38,7 @@ impl Runs for Echo {
 /// Holds one system until the gate was called for enough others, and sees whether a worker's number
 /// is in use twice, or isn't one of two.
 #[derive(Drop)]
-struct HoldGate {
+pub struct HoldGate {
     held: u32,
     awaited: u64,
     came: AtomicU64,
@@ -48,7 +48,7 @@ struct HoldGate {
 }
 
 impl HoldGate {
-    fn new(held: u32, awaited: u64) -> HoldGate {
+    pub fn new(held: u32, awaited: u64) -> HoldGate {
         HoldGate {
             held,
             awaited,
@@ -57,6 +57,18 @@ impl HoldGate {
             busy: [AtomicU64::new(0), AtomicU64::new(0)],
             clashes: AtomicU64::new(0),
         }
+    }
+
+    /// The others came, and no worker's number was in use twice.
+    pub fn expect_met(&self, rt: &impl Abort) {
+        let held = self.held;
+        assert_eq!(rt; self.limits_met.load(Ordering::SeqCst), 0, "{held} held");
+        assert_eq!(rt; self.clashes.load(Ordering::SeqCst), 0, "{held} held");
+        assert_eq!(rt;
+            self.came.load(Ordering::SeqCst),
+            self.awaited,
+            "{held} held"
+        );
     }
 
     fn hold(&self) {
