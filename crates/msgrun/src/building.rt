@@ -114,7 +114,7 @@ pub(crate) fn tally_of(spec: &SystemSpec, writer: u32) -> Tally
     Tally::new(*from, *to, spec.program.start, writer)
 }
 
-/// Adds the system of the spec that is next.
+/// Adds the system of the spec that is next. The specs are there for the contract alone.
 #[tactic(auto, using(crate::proofs::Systems::is_system_at))]
 pub(crate) fn add<S: System>(
     specs: &[SystemSpec],
@@ -134,8 +134,8 @@ pub(crate) fn add<S: System>(
     Ok(())
 }
 
-/// The engine of a scenario, of its systems. Its rules make no cycle and no system reads and writes one type, so
-/// that there is one unless there is no memory.
+/// The engine of a scenario, of its systems. Its rules make no cycle, and no system reads and writes
+/// one type, so that there is one unless there is no memory.
 pub(crate) fn engine_of<S: System>(
     alloc: Global,
     scenario: &Scenario,
