@@ -27,7 +27,7 @@ fn starts_in_a_world_with_a_message(rt: HostRuntime) -> Result<(), Fail> {
         &[
             "frame",
             "0 read missed 0: 0=5@host",
-            "1 read missed 0: none",
+            "1 read missed 0: none from 1",
             "reader 0 0 start 0 got 1 missed 0 cleared 0 place 1",
             "reader 1 0 start 1 got 0 missed 0 cleared 0 place 1",
         ],

@@ -2,15 +2,18 @@
 ghost use Rattle.std.specs.Prelude.{◌≡◌, IfOk};
 ghost use Rattle.msg_exec.specs.Engines.{IsEngine};
 
-use super::play::{add, posts_fit, start, workers};
+use super::play::{add, all_posts_fit, posts_fit, start, workers};
+use super::replay::{engine_of, note};
 use super::roles::{frames, program, type_no};
 use super::text::tell_log;
 use super::workers::HoldGate;
-use crate::{EngineOf, Items, Place};
+use crate::{EngineOf, Gate, Items, Place};
 use msg_system::{Op, Scripted, Start, System};
 use msg_world::World;
 use std::alloc::Global;
 use std::process::Abort;
+use std::sync::Arc;
+use std::sync::atomic::{AtomicU64, Ordering};
 use std::test::Fail;
 
 /// An engine of so many readers of one type.
@@ -57,5 +60,54 @@ fn readers_of_one_type_run_side_by_side(rt: HostRuntime) -> Result<(), Fail> {
         }
         assert_eq!(rt; text.as_str(), want.as_str());
     }
+    Ok(())
+}
+
+#[test]
+fn a_list_of_frames_is_run_side_by_side_too(rt: HostRuntime) -> Result<(), Fail> {
+    let alloc = rt.alloc();
+    let frames = frames(&rt, alloc, 1, &[(1, 0, 5)])?;
+    for held in 0..3 {
+        let gate = HoldGate::new(held, 2);
+        let mut engine = readers(&rt, alloc, 3)?;
+        let mut logs = Vec::new(alloc);
+        assert!(rt; all_posts_fit(&engine, &frames));
+        engine.run_frames(&rt, &frames, workers(&rt, 2), &gate, &mut logs)?;
+        gate.expect_met(&rt);
+        assert_eq!(rt; logs.len(), 1);
+    }
+    Ok(())
+}
+
+/// Notes a 9 as it is called.
+#[derive(Clone, Copy)]
+struct NotingGate<'a> {
+    noted: &'a AtomicU64,
+}
+
+impl Gate for NotingGate<'_> {
+    fn pass(&self, _worker: u32, _system: u32) {
+        note(self.noted, 9);
+    }
+}
+
+#[test]
+fn the_gate_is_called_before_the_system_runs(rt: HostRuntime) -> Result<(), Fail> {
+    let alloc = rt.alloc();
+    let t = type_no(&rt, 0);
+    let noted = Arc::new(alloc, AtomicU64::new(0))?;
+    let roles = vec![in alloc;
+        (Op::Read(t, None), Start::Zero),
+        (Op::Write(t, 1), Start::Zero),
+    ]?;
+    let mut engine = engine_of(&rt, alloc, 10, 1, roles, &noted)?;
+    let frames = frames(&rt, alloc, 1, &[])?;
+    let [frame] = frames.as_slice() else {
+        panic!(rt; "one frame")
+    };
+    assert!(rt; posts_fit(&engine, frame));
+    let gate = NotingGate { noted: &noted };
+    engine.run_frame(&rt, frame, workers(&rt, 2), &gate)?;
+    assert_eq!(rt; noted.load(Ordering::SeqCst), 9192);
     Ok(())
 }

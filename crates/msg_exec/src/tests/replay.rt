@@ -14,9 +14,16 @@ use std::sync::Arc;
 use std::sync::atomic::{AtomicU64, Ordering};
 use std::test::Fail;
 
-/// A script that notes its turn: the shared number gains its digit at the end.
+/// A digit is noted at the end of a shared number.
+pub fn note(noted: &AtomicU64, digit: u64) {
+    let before = noted.load(Ordering::SeqCst);
+    let after = before.wrapping_mul(10).wrapping_add(digit);
+    noted.store(after, Ordering::SeqCst);
+}
+
+/// A script that notes its turn.
 #[derive(Drop)]
-struct Noting {
+pub struct Noting {
     script: Scripted,
     digit: u64,
     noted: Arc<AtomicU64>,
@@ -42,15 +49,13 @@ impl System for Noting {
     }
 
     fn run(&mut self, alloc: Global, lent: Lent, out: &mut Vec<Reply>) -> Result<Taken, NoMemory> {
-        let before = self.noted.load(Ordering::SeqCst);
-        let after = before.wrapping_mul(10).wrapping_add(self.digit);
-        self.noted.store(after, Ordering::SeqCst);
+        note(&self.noted, self.digit);
         self.script.run(alloc, lent, out)
     }
 }
 
 /// An engine of noting scripts, each with one op, over a world of one type. System i notes i + 1.
-fn engine_of(
+pub fn engine_of(
     rt: &impl Abort,
     alloc: Global,
     limit: u64,

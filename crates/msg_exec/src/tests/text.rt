@@ -37,7 +37,11 @@ fn tell_records(
 
 fn tell_took(alloc: Global, text: &mut String, took: &Took) -> Result<(), AllocError> {
     text.push_str(format!(in alloc; " missed {}:", took.missed)?.as_str())?;
-    tell_records(alloc, text, took.first, took.items.as_slice())
+    tell_records(alloc, text, took.first, took.items.as_slice())?;
+    if took.items.as_slice().is_empty() && took.first > 0 {
+        text.push_str(format!(in alloc; " from {}", took.first)?.as_str())?;
+    }
+    Ok(())
 }
 
 fn tell_written(alloc: Global, text: &mut String, wrote: &Written) -> Result<(), AllocError> {
