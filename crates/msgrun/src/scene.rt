@@ -1,5 +1,5 @@
 // A scenario, run to its end.
-ghost use Rattle.std.specs.Prelude.{◌≡◌, ◌≢◌, Err, IfOk, OnOk, OnErr, length};
+ghost use Rattle.std.specs.Prelude.{◌≡◌, ◌≢◌, ◌⊎◌, Err, IfErr, IfOk, OnOk, OnErr, length};
 ghost use Rattle.std.specs.Box.{box_value};
 ghost use Rattle.msg_exec.specs.Building.{EachIs};
 ghost use Rattle.msg_scenario.specs.Reported.{HasPrinted};
@@ -39,6 +39,9 @@ pub fn run_scenario<R: Threads + Sync, S: Sink>(
         → S.failures sink.new ≡ one_more (S.failures sink.old) }
     ensures quiet { result ≢ Err (MainFault.Report ReportFault.Write)
         → S.failures sink.new ≡ S.failures sink.old }
+    ensures faults { IfErr result (λ fault.
+        (fault ≡ MainFault.Built) ⊎ ((of : ReportFault) × (fault ≡ MainFault.Report of))) }
+    ensures built { result ≡ Err MainFault.Built → sink.new ≡ sink.old }
 {
     let mut systems: Vec<Box<dyn System>> = Vec::new(alloc);
     let specs = scenario.systems.as_slice();
@@ -96,6 +99,9 @@ fn report_on<R: Threads + Sync, X: System, S: Sink>(
         → S.failures sink.new ≡ one_more (S.failures sink.old) }
     ensures quiet { result ≢ Err (MainFault.Report ReportFault.Write)
         → S.failures sink.new ≡ S.failures sink.old }
+    ensures faults { IfErr result (λ fault.
+        (fault ≡ MainFault.Built) ⊎ ((of : ReportFault) × (fault ≡ MainFault.Report of))) }
+    ensures built { result ≡ Err MainFault.Built → sink.new ≡ sink.old }
 {
     let mut engine = match engine_of(alloc, scenario, systems) {
         Ok(engine) => engine,

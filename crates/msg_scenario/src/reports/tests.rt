@@ -259,7 +259,7 @@ fn late_systems(rt: HostRuntime) -> Result<(), Fail> {
     Ok(())
 }
 
-/// The second frame of row one_frames_lag.
+/// The second frame of a reader before a writer.
 fn second_frame(rt: &impl Abort, alloc: Global) -> Result<Log, NoMemory> {
     let read = Reply::Read(took(rt, alloc, 0, 0, &[record(1, 5)]));
     let mut turns = Vec::new(alloc);

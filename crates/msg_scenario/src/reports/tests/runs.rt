@@ -5,9 +5,10 @@ use crate::memory_sink::MemorySink;
 use crate::report_fault::ReportFault;
 use crate::reports::report;
 use crate::{Sink, read_scenario};
-use msg_exec::{NoGate, RunFault, Workers};
+use msg_exec::{Gate, NoGate, RunFault, Workers};
 use std::alloc::Global;
 use std::process::Abort;
+use std::sync::atomic::{AtomicU64, Ordering};
 use std::test::Fail;
 use std::thread::Threads;
 
@@ -46,6 +47,19 @@ fn run<R: Threads + Sync + Abort, S: Sink>(
     runs: u32,
     sink: &mut S,
 ) -> Outcome {
+    run_past(rt, alloc, text, workers, runs, &NoGate, sink)
+}
+
+/// The same past a gate.
+fn run_past<R: Threads + Sync + Abort, S: Sink, G: Gate>(
+    rt: &R,
+    alloc: Global,
+    text: &str,
+    workers: u32,
+    runs: u32,
+    gate: &G,
+    sink: &mut S,
+) -> Outcome {
     let Ok(scenario) = read_scenario(alloc, text.as_bytes()) else {
         panic!(rt; "a scenario")
     };
@@ -55,7 +69,7 @@ fn run<R: Threads + Sync + Abort, S: Sink>(
     let Some(workers) = Workers::new(workers) else {
         panic!(rt; "from 1 to 64 workers")
     };
-    let put = report(rt, alloc, &mut engine, &scenario, workers, &NoGate, sink);
+    let put = report(rt, alloc, &mut engine, &scenario, workers, gate, sink);
     Outcome {
         put,
         frames: engine.frames_run(),
@@ -65,7 +79,7 @@ fn run<R: Threads + Sync + Abort, S: Sink>(
 
 #[test]
 fn one_frames_lag(rt: HostRuntime) {
-    for workers in [1, 2, 64] {
+    for workers in [1, 2, 7, 64] {
         let mut sink = MemorySink::new();
         let came = run(&rt, rt.alloc(), LAG, workers, 2, &mut sink);
         assert_eq!(rt; came.put, Ok(()), "{workers}");
@@ -127,4 +141,42 @@ fn systems_without_memory(rt: HostRuntime) {
         assert!(rt; came.is_spoiled, "{runs}");
         assert!(rt; sink.bytes() == want.as_bytes(), "{runs}");
     }
+}
+
+/// Holds system 0 until it was called for another.
+#[derive(Drop)]
+struct HoldGate {
+    came: AtomicU64,
+    limits_met: AtomicU64,
+}
+
+impl Gate for HoldGate {
+    fn pass(&self, _worker: u32, system: u32) {
+        if system != 0 {
+            self.came.fetch_add(1, Ordering::SeqCst);
+            return;
+        }
+        for _ in 0..50_000_000u64 {
+            if self.came.load(Ordering::SeqCst) > 0 {
+                return;
+            }
+        }
+        self.limits_met.fetch_add(1, Ordering::SeqCst);
+    }
+}
+
+#[test]
+fn readers_run_side_by_side(rt: HostRuntime) {
+    let text = "{\"types\":[[\"hit\",10]],\"systems\":[\
+        {\"name\":\"a\",\"ops\":[[\"len\",\"hit\"]]},\
+        {\"name\":\"b\",\"ops\":[[\"len\",\"hit\"]]}],\"frames\":[[[\"hit\",5]]]}";
+    let gate = HoldGate {
+        came: AtomicU64::new(0),
+        limits_met: AtomicU64::new(0),
+    };
+    let mut sink = MemorySink::new();
+    let came = run_past(&rt, rt.alloc(), text, 2, 2, &gate, &mut sink);
+    assert_eq!(rt; came.put, Ok(()));
+    assert_eq!(rt; gate.came.load(Ordering::SeqCst), 1);
+    assert_eq!(rt; gate.limits_met.load(Ordering::SeqCst), 0);
 }
