@@ -95,10 +95,13 @@ impl System for Failing {
     }
 }
 
-#[test]
-fn spoiled(rt: HostRuntime) -> Result<(), Fail> {
-    let alloc = rt.alloc();
-    let (read, one) = (Op::Read(type_no(&rt, 0), None), workers(&rt, 1));
+/// The second frame has no memory, on so many workers; the engine is spoiled by it.
+fn expect_spoiled<R: Threads + Sync + Abort>(
+    rt: &R,
+    alloc: Global,
+    number: u32,
+) -> Result<(), Fail> {
+    let (read, some) = (Op::Read(type_no(rt, 0), None), workers(rt, number));
     let world = World::new(alloc, &[10], &[])?;
     let program = program(vec![in alloc; read]?, Start::Zero);
     let mut systems: Vec<Box<dyn System>> = Vec::new(alloc);
@@ -114,24 +117,32 @@ fn spoiled(rt: HostRuntime) -> Result<(), Fail> {
             join: 1,
         },
     ]?;
-    let mut engine = start(&rt, alloc, world, systems, places, Vec::new(alloc))?;
-    let frames = frames(&rt, alloc, 1, &[(1, 0, 5)])?;
+    let mut engine = start(rt, alloc, world, systems, places, Vec::new(alloc))?;
+    let frames = frames(rt, alloc, 1, &[(1, 0, 5)])?;
     assert!(rt; frames.len() == 1);
     assert!(rt; posts_fit(&engine, &frames[0]));
-    assert!(rt; engine.run_frame(&rt, &frames[0], one, &NoGate).is_ok());
+    assert!(rt; engine.run_frame(rt, &frames[0], some, &NoGate).is_ok());
     assert!(rt; posts_fit(&engine, &frames[0]));
-    let second = engine.run_frame(&rt, &frames[0], one, &NoGate);
+    let second = engine.run_frame(rt, &frames[0], some, &NoGate);
     assert!(rt; matches!(second, Err(RunFault::NoMemory)));
     assert!(rt; posts_fit(&engine, &frames[0]));
-    let third = engine.run_frame(&rt, &frames[0], one, &NoGate);
+    let third = engine.run_frame(rt, &frames[0], some, &NoGate);
     assert!(rt; matches!(third, Err(RunFault::Spoiled)));
     let mut logs = Vec::new(alloc);
     assert!(rt; all_posts_fit(&engine, &frames));
-    let fourth = engine.run_frames(&rt, &frames, one, &NoGate, &mut logs);
+    let fourth = engine.run_frames(rt, &frames, some, &NoGate, &mut logs);
     assert_eq!(rt; fourth, Err(RunFault::Spoiled));
     assert!(rt; logs.is_empty());
     assert!(rt; matches!(engine.accounts(), Err(RunFault::Spoiled)));
     assert!(rt; engine.world().is_none());
     assert_eq!(rt; engine.frames_run(), 1);
+    Ok(())
+}
+
+#[test]
+fn spoiled(rt: HostRuntime) -> Result<(), Fail> {
+    for number in [1, 2, 7, 64] {
+        expect_spoiled(&rt, rt.alloc(), number)?;
+    }
     Ok(())
 }
