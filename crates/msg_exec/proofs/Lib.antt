@@ -1,3 +1,4 @@
+mod Drawing
 mod Doing
 mod Seats
 mod SharedWorld
@@ -29,6 +30,7 @@ mod Fates
 mod Given
 mod Running
 mod ReadingRows
+mod SettledRows
 mod InPlace
 mod Arriving
 mod Framing

@@ -1,11 +1,12 @@
--- Worked runs: systems, frames with the order of their turns, and the logs that come of them, by computation.
-use Rattle.std.specs.Prelude.{◌≡◌, ℕ, suc, ℤ, pos, negsuc, List, [], ◌∷◌, map, Some, None, refl}
+-- Worked runs: systems, frames with the order of their turns, and the logs that come of them, by computation. Of each of
+-- them it is proved that it is a run (`IsRunOf`), since its turns are in the settled order.
+use Rattle.std.specs.Prelude.{◌≡◌, ℕ, suc, ℤ, pos, negsuc, List, [], ◌∷◌, ◌++◌, map, Some, None, refl}
 use Rattle.msg_world.specs.declared.record.Record.{Record}
 use Rattle.msg_world.specs.World.{by, held, new_world}
 use Rattle.msg_system.specs.declared.condition.Condition.{Condition}
 use Rattle.msg_system.specs.declared.condition.Probe.TheVariants.{OnMessage, ResourceEquals}
 use Rattle.msg_system.specs.declared.op.Op.{Op}
-use Rattle.msg_system.specs.declared.op.Op.TheVariants.{Write, Batch, Read, Len, Forward, Sum, Set, Add, Signal}
+use Rattle.msg_system.specs.declared.op.Op.TheVariants.{Write, Batch, Read, Len, Missed, Forward, Sum, Set, Add, Drain, Signal}
 use Rattle.msg_system.specs.declared.program.Program.{Program}
 use Rattle.msg_system.specs.declared.reply.Reply.{Reply}
 use Rattle.msg_system.specs.declared.reply.Reply.TheVariants as reply
@@ -19,17 +20,21 @@ use Rattle.msg_exec.specs.declared.log.Turn.{Turn}
 use Rattle.msg_exec.specs.declared.place.Place.{Place}
 use Rattle.msg_exec.specs.declared.totals.Totals.{Totals}
 use Rattle.msg_exec.specs.Entries.{no_totals}
-use Rattle.msg_exec.specs.Frames.{AfterFrame, first_state, frame_in}
+use Rattle.msg_exec.specs.Frames.{AfterFrame, IsRun, first_state, frame_in}
 use Rattle.msg_exec.specs.State.{State}
 
 -- ---- how the rows are written
 
 -- frames one after the other, each with what the host posts and the order of its turns
+abbrev pub Played : Type 0
+Played = List (List (ℕ × ℤ) × List ℕ)
+
+-- what they leave, and their logs
 pub record Run : Type 0 where
   pub state : State
   pub logs : List Log
 
-abbrev pub run : List (List (ℕ × ℤ) × List ℕ) → State → Run
+abbrev pub run : Played → State → Run
 run [] s = record { state = s; logs = [] }
 run (frame ∷ frames) s =
     let here : AfterFrame = frame_in frame.1 (record { posts = frame.0 }) s in
@@ -37,8 +42,12 @@ run (frame ∷ frames) s =
     record { state = rest.state; logs = here.log ∷ rest.logs }
 
 -- in each frame the turns are in this order
-abbrev pub run_by : List ℕ → List (List (ℕ × ℤ)) → State → Run
-run_by order posts s = run (map (λ ps. (ps, order)) posts) s
+abbrev pub played_by : List ℕ → List (List (ℕ × ℤ)) → Played
+played_by order posts = map (λ ps. (ps, order)) posts
+
+-- these frames are a run, as the definition says
+abbrev pub IsRunOf : Played → State → Type 0
+IsRunOf frames s = IsRun (map (λ f. record { posts = f.0 }) frames) s (run frames s).logs (run frames s).state
 
 -- one post, to type 0
 abbrev pub post : ℤ → List (ℕ × ℤ)
@@ -97,14 +106,28 @@ totals_of s i t = (s.members i).totals t
 abbrev pub gave : ℕ → ℕ → ℕ → Totals
 gave start got missed = record { start = Some start; got = got; missed = missed; cleared = 0 }
 
+-- ---- no frames: nothing is logged, and the reader stands at its start
+
+abbrev pub alone : State
+alone = first_state (numbered 0 (program (Read 0 None ∷ []) ∷ [])) (always ∷ []) [] 1 (new_world (10 ∷ []) [])
+
+pub no_frames : (run [] alone).logs ≡ []
+no_frames = refl
+
+pub no_frames_gave : totals_of (run [] alone).state 0 0 ≡ gave 0 0 0
+no_frames_gave = refl
+
 -- ---- a reader that runs before the writer gets its message a frame later
 
 abbrev pub lag : State
 lag = first_state (numbered 0 (program (Read 0 None ∷ []) ∷ program (Write 0 (pos 5) ∷ []) ∷ [])) (always ∷ always ∷ [])
     (record { earlier = 0; later = 1 } ∷ []) 1 (new_world (10 ∷ []) (pos 0 ∷ []))
 
+abbrev pub lag_frames : Played
+lag_frames = played_by (0 ∷ 1 ∷ []) ([] ∷ [] ∷ [])
+
 abbrev pub lag_run : Run
-lag_run = run_by (0 ∷ 1 ∷ []) ([] ∷ [] ∷ []) lag
+lag_run = run lag_frames lag
 
 pub one_frames_lag : lag_run.logs
     ≡ told [] (did 0 (read_of 0 0 []) ∷ did 1 (wrote 0 1) ∷ [])
@@ -120,8 +143,11 @@ abbrev pub fourth : List Op → State
 fourth ops = first_state (numbered 0 (program (Add 0 (pos 1) ∷ []) ∷ program ops ∷ []))
     (always ∷ asking (equals 0 (pos 4) ∷ []) ∷ []) [] 1 (new_world (10 ∷ []) (pos 0 ∷ []))
 
+abbrev pub fourth_frames : Played
+fourth_frames = played_by (0 ∷ 1 ∷ []) (post (pos 10) ∷ post (pos 20) ∷ post (pos 30) ∷ [] ∷ [])
+
 abbrev pub fourth_run : List Op → Run
-fourth_run ops = run_by (0 ∷ 1 ∷ []) (post (pos 10) ∷ post (pos 20) ∷ post (pos 30) ∷ [] ∷ []) (fourth ops)
+fourth_run ops = run fourth_frames (fourth ops)
 
 pub exactly_two_updates : (fourth_run (Read 0 None ∷ [])).logs
     ≡ told (wrote 0 1 ∷ []) (did 0 (reply.Value (pos 1)) ∷ skipped 1 ∷ [])
@@ -157,7 +183,10 @@ writers = first_state
 abbrev pub of_three : ℤ → List Record
 of_three value = by HOST value ∷ by 0 (pos 1) ∷ by 1 (pos 2) ∷ by 1 (pos 3) ∷ []
 
-pub host_and_two_writers : (run_by (0 ∷ 1 ∷ 2 ∷ []) (post (pos 9) ∷ post (pos 8) ∷ []) writers).logs
+abbrev pub writers_frames : Played
+writers_frames = played_by (0 ∷ 1 ∷ 2 ∷ []) (post (pos 9) ∷ post (pos 8) ∷ [])
+
+pub host_and_two_writers : (run writers_frames writers).logs
     ≡ told (wrote 0 1 ∷ []) (did 0 (wrote 1 1) ∷ did 1 (wrote 2 2) ∷ did 2 (read_of 0 0 (of_three (pos 9))) ∷ [])
     ∷ told (wrote 4 1 ∷ []) (did 0 (wrote 5 1) ∷ did 1 (wrote 6 2) ∷ did 2 (read_of 0 4 (of_three (pos 8))) ∷ []) ∷ []
 host_and_two_writers = refl
@@ -178,7 +207,10 @@ abbrev pub contrary_turns : List Turn
 contrary_turns =
     did 2 (read_of 0 0 []) ∷ did 0 (wrote 0 1) ∷ did 3 (read_of 0 0 (by 0 (pos 1) ∷ [])) ∷ did 1 (wrote 0 1) ∷ []
 
-pub contradictory_order : (run_by (2 ∷ 0 ∷ 3 ∷ 1 ∷ []) ([] ∷ []) contrary).logs ≡ told [] contrary_turns ∷ []
+abbrev pub contrary_frames : Played
+contrary_frames = played_by (2 ∷ 0 ∷ 3 ∷ 1 ∷ []) ([] ∷ [])
+
+pub contradictory_order : (run contrary_frames contrary).logs ≡ told [] contrary_turns ∷ []
 contradictory_order = refl
 
 -- ---- a system that asks for messages of the type that it writes
@@ -187,7 +219,10 @@ abbrev pub echo : State
 echo = first_state (numbered 0 (program (Write 0 (pos 1) ∷ []) ∷ [])) (asking (on_message 0 ∷ []) ∷ []) [] 1
     (new_world (9 ∷ []) [])
 
-pub own_message_asked : (run_by (0 ∷ []) ([] ∷ post (pos 5) ∷ [] ∷ []) echo).logs
+abbrev pub echo_frames : Played
+echo_frames = played_by (0 ∷ []) ([] ∷ post (pos 5) ∷ [] ∷ [])
+
+pub own_message_asked : (run echo_frames echo).logs
     ≡ told [] (skipped 0 ∷ []) ∷ told (wrote 0 1 ∷ []) (did 0 (wrote 1 1) ∷ []) ∷ told [] (did 0 (wrote 2 1) ∷ []) ∷ []
 own_message_asked = refl
 
@@ -197,7 +232,10 @@ abbrev pub two_conditions : State
 two_conditions = first_state (numbered 0 (program (Len 0 ∷ []) ∷ program (Set 0 (pos 1) ∷ []) ∷ []))
     (asking (equals 0 (pos 1) ∷ on_message 0 ∷ []) ∷ always ∷ []) [] 1 (new_world (9 ∷ []) (pos 0 ∷ []))
 
-pub all_conditions : (run_by (0 ∷ 1 ∷ []) (post (pos 1) ∷ [] ∷ post (pos 2) ∷ []) two_conditions).logs
+abbrev pub conditions_frames : Played
+conditions_frames = played_by (0 ∷ 1 ∷ []) (post (pos 1) ∷ [] ∷ post (pos 2) ∷ [])
+
+pub all_conditions : (run conditions_frames two_conditions).logs
     ≡ told (wrote 0 1 ∷ []) (skipped 0 ∷ did 1 (reply.Value (pos 1)) ∷ [])
     ∷ told [] (skipped 0 ∷ did 1 (reply.Value (pos 1)) ∷ [])
     ∷ told (wrote 1 1 ∷ []) (did 0 (reply.Len 1) ∷ did 1 (reply.Value (pos 1)) ∷ []) ∷ []
@@ -212,7 +250,10 @@ tally = first_state (numbered 0 (program (Sum 0 0 ∷ []) ∷ [])) (always ∷ [
 abbrev pub added : Took
 added = record { missed = 0; first = 0; items = by HOST (pos 1) ∷ by HOST (negsuc 4) ∷ [] }
 
-pub saturation : (run_by (0 ∷ []) (((0, pos 1) ∷ (0, negsuc 4) ∷ []) ∷ []) tally).logs
+abbrev pub tally_frames : Played
+tally_frames = played_by (0 ∷ []) (((0, pos 1) ∷ (0, negsuc 4) ∷ []) ∷ [])
+
+pub saturation : (run tally_frames tally).logs
     ≡ told (wrote 0 1 ∷ wrote 1 1 ∷ []) (did 0 (reply.Summed added (pos 9223372036854775802)) ∷ []) ∷ []
 saturation = refl
 
@@ -222,8 +263,14 @@ abbrev pub late : State
 late = first_state (numbered 0 (program (Read 0 None ∷ []) ∷ record { ops = Read 0 None ∷ []; start = Current } ∷ []))
     (from_frame 3 ∷ from_frame 3 ∷ []) [] 1 (new_world (10 ∷ []) (pos 0 ∷ []))
 
+abbrev pub early_frames : Played
+early_frames = played_by [] (post (pos 1) ∷ post (pos 2) ∷ [])
+
+abbrev pub late_frames : Played
+late_frames = early_frames ++ played_by (0 ∷ 1 ∷ []) (post (pos 3) ∷ [])
+
 abbrev pub late_run : Run
-late_run = run ((post (pos 1), []) ∷ (post (pos 2), []) ∷ (post (pos 3), 0 ∷ 1 ∷ []) ∷ []) late
+late_run = run late_frames late
 
 pub late_systems : late_run.logs
     ≡ told (wrote 0 1 ∷ []) [] ∷ told (wrote 1 1 ∷ []) []
@@ -235,7 +282,7 @@ late_systems = refl
 pub late_systems_gave : (totals_of late_run.state 0 0 ≡ gave 0 2 1) × (totals_of late_run.state 1 0 ≡ gave 2 1 0)
 late_systems_gave = (refl, refl)
 
-pub late_systems_wait : totals_of (run ((post (pos 1), []) ∷ (post (pos 2), []) ∷ []) late).state 0 0 ≡ no_totals
+pub late_systems_wait : totals_of (run early_frames late).state 0 0 ≡ no_totals
 late_systems_wait = refl
 
 -- ---- a held world is updated only in the frame after a signal
@@ -244,12 +291,59 @@ abbrev pub gated : State
 gated = first_state (numbered 0 (program (Add 0 (pos 1) ∷ []) ∷ program (Signal ∷ []) ∷ program (Len 0 ∷ []) ∷ []))
     (always ∷ asking (differs 0 (pos 1) ∷ []) ∷ always ∷ []) [] 1 (held (new_world (10 ∷ []) (pos 0 ∷ [])))
 
-pub held_updates : (run_by (0 ∷ 2 ∷ 1 ∷ []) (post (pos 1) ∷ [] ∷ [] ∷ [] ∷ []) gated).logs
+abbrev pub gated_frames : Played
+gated_frames = played_by (0 ∷ 2 ∷ 1 ∷ []) (post (pos 1) ∷ [] ∷ [] ∷ [] ∷ [])
+
+pub held_updates : (run gated_frames gated).logs
     ≡ told (wrote 0 1 ∷ []) (did 0 (reply.Value (pos 1)) ∷ did 2 (reply.Len 1) ∷ skipped 1 ∷ [])
     ∷ told [] (did 0 (reply.Value (pos 2)) ∷ did 2 (reply.Len 1) ∷ did 1 reply.Signalled ∷ [])
     ∷ told [] (did 0 (reply.Value (pos 3)) ∷ did 2 (reply.Len 1) ∷ did 1 reply.Signalled ∷ [])
     ∷ told [] (did 0 (reply.Value (pos 4)) ∷ did 2 (reply.Len 0) ∷ did 1 reply.Signalled ∷ []) ∷ []
 held_updates = refl
+
+-- ---- several signals of a frame are one: the next frame updates once
+
+abbrev pub signallers : State
+signallers = first_state
+    (numbered 0 (program (Signal ∷ Signal ∷ []) ∷ program (Signal ∷ []) ∷ program (Missed 0 ∷ []) ∷ []))
+    (always ∷ always ∷ always ∷ []) [] 1 (held (new_world (10 ∷ []) []))
+
+abbrev pub signallers_frames : Played
+signallers_frames = played_by (0 ∷ 2 ∷ 1 ∷ []) (post (pos 1) ∷ [] ∷ [] ∷ [])
+
+-- the turns of a frame, in which so many messages were missed
+abbrev pub signalled : ℕ → List Turn
+signalled missed =
+    ran 0 (reply.Signalled ∷ reply.Signalled ∷ []) ∷ did 2 (reply.Missed missed) ∷ did 1 reply.Signalled ∷ []
+
+pub several_signals : (run signallers_frames signallers).logs
+    ≡ told (wrote 0 1 ∷ []) (signalled 0) ∷ told [] (signalled 0) ∷ told [] (signalled 1) ∷ []
+several_signals = refl
+
+-- ---- what is drained between two readers is missed by each that hadn't read it
+
+abbrev pub drained : State
+drained = first_state
+    (numbered 0 (program (Read 0 (Some 1) ∷ []) ∷ program (Drain 0 ∷ []) ∷ program (Read 0 None ∷ []) ∷ []))
+    (always ∷ always ∷ always ∷ []) [] 1 (new_world (10 ∷ []) [])
+
+abbrev pub drained_frames : Played
+drained_frames = played_by (0 ∷ 1 ∷ 2 ∷ []) (((0, pos 1) ∷ (0, pos 2) ∷ []) ∷ post (pos 3) ∷ [])
+
+pub drain_between_readers : (run drained_frames drained).logs
+    ≡ told (wrote 0 1 ∷ wrote 1 1 ∷ []) (
+    did 0 (read_of 0 0 (by HOST (pos 1) ∷ [])) ∷
+    did 1 (reply.Drained 0 (by HOST (pos 1) ∷ by HOST (pos 2) ∷ [])) ∷
+    did 2 (read_of 2 2 []) ∷ [])
+    ∷ told (wrote 2 1 ∷ []) (
+    did 0 (read_of 1 2 (by HOST (pos 3) ∷ [])) ∷
+    did 1 (reply.Drained 2 (by HOST (pos 3) ∷ [])) ∷
+    did 2 (read_of 1 3 []) ∷ []) ∷ []
+drain_between_readers = refl
+
+pub drain_between_readers_gave : (totals_of (run drained_frames drained).state 0 0 ≡ gave 0 2 1)
+    × (totals_of (run drained_frames drained).state 2 0 ≡ gave 0 0 3)
+drain_between_readers_gave = (refl, refl)
 
 -- ---- what a refused forward read stays read
 
@@ -260,8 +354,11 @@ relay = first_state (numbered 0 (program (Forward 0 1 ∷ []) ∷ program (Read 
 abbrev pub took_from : ℕ → List Record → Took
 took_from first items = record { missed = 0; first = first; items = items }
 
+abbrev pub relay_frames : Played
+relay_frames = played_by (0 ∷ 1 ∷ []) (((0, pos 1) ∷ (0, pos 2) ∷ []) ∷ post (pos 3) ∷ [])
+
 abbrev pub relay_run : Run
-relay_run = run_by (0 ∷ 1 ∷ []) (((0, pos 1) ∷ (0, pos 2) ∷ []) ∷ post (pos 3) ∷ []) relay
+relay_run = run relay_frames relay
 
 pub forward_at_the_limit : relay_run.logs
     ≡ told (wrote 0 1 ∷ wrote 1 1 ∷ []) (

@@ -1,7 +1,7 @@
 // What a worker does: it draws jobs from a board, runs them, and hands in what they gave.
 ghost use Rattle.std.specs.Prelude.{◌≡◌, ℕ};
 ghost use Rattle.msg_board.specs.Board.{HasEnded, IsIdle, jobs_of};
-ghost use Rattle.msg_exec.specs.Work.{EachMay};
+ghost use Rattle.msg_exec.specs.Work.{EachMay, EachNewIs};
 
 use crate::Gate;
 use msg_board::{Board, Pass, Work};
@@ -35,6 +35,8 @@ pub fn work<W: Runs, G: Gate>(
     requires idle { IsIdle board.now pass.old }
     requires may { EachMay W.may (jobs_of board.now) }
     ensures ended { HasEnded board.now pass.new }
+    ensures told { EachNewIs (λ job. G.told gate.now worker (W.system_of job)) (jobs_of board.now)
+        pass.old.drawn pass.new.drawn }
 {
     while let Some((k, job)) = board.draw(pass) {
         gate.pass(worker, W::number(&job));

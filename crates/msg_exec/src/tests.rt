@@ -4,6 +4,7 @@ mod cases;
 mod engines;
 mod frames;
 mod play;
+mod refusals;
 mod refused;
 mod replay;
 mod roles;

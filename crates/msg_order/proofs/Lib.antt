@@ -10,3 +10,4 @@ mod Viewing
 mod Accepting
 mod Uniqueness
 mod Existence
+pub mod Computing

@@ -11,6 +11,8 @@ mod name;
 mod numbers;
 mod numerals;
 mod refusal;
+#[cfg(test)]
+mod refusals;
 mod report_fault;
 mod reports;
 mod scenario;

@@ -10,4 +10,4 @@ mod run;
 pub use run::report;
 
 #[cfg(test)]
-mod tests;
+pub mod tests;

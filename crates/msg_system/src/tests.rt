@@ -17,6 +17,7 @@ use std::alloc::Global;
 
 mod asking;
 mod kinds;
+mod refusals;
 mod rows;
 
 fn access_of(system: &Box<dyn System>) -> Access

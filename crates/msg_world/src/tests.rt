@@ -1,3 +1,5 @@
+mod refusals;
+
 use super::*;
 
 fn of_types(read_types: u64, write_types: u64) -> Access {

@@ -11,6 +11,8 @@ ghost use Rattle.msgrun.specs.Faults.{status_of};
 mod building;
 mod fault;
 mod input;
+#[cfg(test)]
+mod refusals;
 mod scene;
 mod words;
 

@@ -4,7 +4,7 @@ mod command;
 mod help;
 mod parse;
 #[cfg(test)]
-mod tests;
+pub mod tests;
 
 pub use parse::parse_words;
 

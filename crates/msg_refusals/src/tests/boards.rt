@@ -1,21 +1,37 @@
 //! A board that can't be made drops the jobs; one that can't be closed drops the results.
-ghost use Rattle.std.specs.Prelude.{◌≡◌, ◌+◌};
+ghost use Rattle.std.specs.Prelude.{◌≡◌, ◌+◌, IfOk, length};
 
 use crate::Refusing;
 use msg_board::{Board, Work};
-use std::alloc::Global;
+use std::alloc::{AllocError, Global};
 use std::process::Abort;
+use std::sync::atomic::{AtomicU64, Ordering};
 use std::test::Fail;
 
+/// A number that counts when it is dropped.
+struct Counted<'a> {
+    value: u64,
+    dropped: &'a AtomicU64,
+}
+
+impl<'a> Drop for Counted<'a> {
+    fn drop(self) {
+        let Self { value: _, dropped } = self;
+        dropped.fetch_add(1, Ordering::SeqCst);
+    }
+}
+
 /// The one lawful result of a job is its successor.
-struct AddOne;
+struct AddOne<'a> {
+    job: Counted<'a>,
+}
 
-impl Work for AddOne {
-    type Job = u64;
+impl<'a> Work for AddOne<'a> {
+    type Job = Counted<'a>;
 
-    type Done = u64;
+    type Done = Counted<'a>;
 
-    ghost lawful = { λ j d. d ≡ j + 1 };
+    ghost lawful = { λ j d. d.value ≡ j.value + 1 };
 }
 
 /// Where the memory for three jobs over two passes ran out.
@@ -27,11 +43,45 @@ enum End {
     Ample,
 }
 
-fn worked_board_over(rt: &impl Abort, heap: &Refusing<Global>) -> Result<End, Fail> {
-    let Ok(jobs) = Vec::from_slice(heap, &[10u64, 20, 30]) else {
+/// Three jobs, each counted as it is dropped.
+fn three_jobs<'a, 'h>(
+    heap: &'h Refusing<Global>,
+    dropped: &'a AtomicU64,
+) -> Result<Vec<Counted<'a>, &'h Refusing<Global>>, AllocError>
+    ensures { IfOk result (λ jobs. length jobs.items ≡ 3) }
+{
+    let mut jobs = Vec::with_capacity(heap, 3)?;
+    jobs.push(Counted { value: 10, dropped })?;
+    jobs.push(Counted { value: 20, dropped })?;
+    jobs.push(Counted { value: 30, dropped })?;
+    Ok(jobs)
+}
+
+/// The successor of a drawn job, which is dropped.
+fn finish<'a>(rt: &impl Abort, job: Counted<'a>, value: u64, dropped: &'a AtomicU64) -> Counted<'a>
+    ensures { result.value ≡ job.entry.value + 1 }
+{
+    assert_eq!(rt; job.value, value);
+    assert!(rt; value < 100);
+    Counted {
+        value: value + 1,
+        dropped,
+    }
+}
+
+/// Works off a board of three jobs. The counts are of the dropped jobs and of the dropped results.
+fn worked_board_over(
+    rt: &impl Abort,
+    heap: &Refusing<Global>,
+    jobs_dropped: &AtomicU64,
+    results_dropped: &AtomicU64,
+) -> Result<End, Fail> {
+    let Ok(jobs) = three_jobs(heap, jobs_dropped) else {
         return Ok(End::NoJobs);
     };
-    let Ok((board, mut passes)) = Board::<AddOne, &Refusing<Global>>::new(heap, jobs, 2) else {
+    let made = Board::<AddOne, &Refusing<Global>>::new(heap, jobs, 2);
+    let Ok((board, mut passes)) = made else {
+        assert_eq!(rt; jobs_dropped.load(Ordering::SeqCst), 3);
         return Ok(End::NoBoard);
     };
     let Some(mut b) = passes.pop() else {
@@ -40,25 +90,32 @@ fn worked_board_over(rt: &impl Abort, heap: &Refusing<Global>) -> Result<End, Fa
     let Some(mut a) = passes.pop() else {
         panic!(rt; "a first pass")
     };
-    let drawn = board.draw(&mut a);
-    assert_eq!(rt; drawn, Some((0, 10)));
-    let drawn = board.draw(&mut b);
-    assert_eq!(rt; drawn, Some((1, 20)));
-    board.hand_in(&mut a, 0, 11);
-    let drawn = board.draw(&mut a);
-    assert_eq!(rt; drawn, Some((2, 30)));
-    board.hand_in(&mut a, 2, 31);
-    let drawn = board.draw(&mut a);
-    assert!(rt; drawn.is_none());
-    board.hand_in(&mut b, 1, 21);
-    let drawn = board.draw(&mut b);
-    assert!(rt; drawn.is_none());
+    let first = board.draw(&mut a);
+    let second = board.draw(&mut b);
+    let (Some((0, first)), Some((1, second))) = (first, second) else {
+        panic!(rt; "the first job and the second")
+    };
+    let first = finish(rt, first, 10, results_dropped);
+    let second = finish(rt, second, 20, results_dropped);
+    board.hand_in(&mut a, 0, first);
+    let Some((2, job)) = board.draw(&mut a) else {
+        panic!(rt; "the third job")
+    };
+    board.hand_in(&mut a, 2, finish(rt, job, 30, results_dropped));
+    assert!(rt; board.draw(&mut a).is_none());
+    board.hand_in(&mut b, 1, second);
+    assert!(rt; board.draw(&mut b).is_none());
     passes.push(a)?;
     passes.push(b)?;
+    assert_eq!(rt; results_dropped.load(Ordering::SeqCst), 0);
     let Ok(results) = board.close(heap, passes) else {
+        assert_eq!(rt; results_dropped.load(Ordering::SeqCst), 3);
         return Ok(End::NoResults);
     };
-    assert_eq!(rt; results.as_slice(), [11, 21, 31].as_slice());
+    let [first, second, third] = results.as_slice() else {
+        panic!(rt; "three results")
+    };
+    assert_eq!(rt; (first.value, second.value, third.value), (11, 21, 31));
     Ok(End::Ample)
 }
 
@@ -67,7 +124,8 @@ fn worked_board(rt: HostRuntime) -> Result<(), Fail> {
     let mut ends = Vec::new(rt.alloc());
     for number in 1..100 {
         let heap = Refusing::new(rt.alloc(), number);
-        let end = worked_board_over(&rt, &heap)?;
+        let (jobs, results) = (AtomicU64::new(0), AtomicU64::new(0));
+        let end = worked_board_over(&rt, &heap, &jobs, &results)?;
         assert_eq!(rt; end == End::Ample, !heap.has_refused());
         ends.push(end)?;
         if end == End::Ample {

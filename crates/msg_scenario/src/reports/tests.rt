@@ -14,7 +14,7 @@ use std::alloc::Global;
 use std::process::Abort;
 use std::test::Fail;
 
-mod engines;
+pub mod engines;
 mod parts;
 mod runs;
 

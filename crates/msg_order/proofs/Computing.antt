@@ -1,0 +1,240 @@
+-- The settled order and the turns in it by tests alone, for worked rows.
+use Rattle.std.proofs.Common.{◌≡◌, ℕ, zero, suc, ◌<◌, ◌⊎◌, inl, inr, Bool, true, cond, not, max, ◌&&◌, ◌||◌, List, [], ◌∷◌, ◌++◌, map, length, refl, sym, subst, ◌∙◌, arith}
+use Rattle.std.specs.Prelude.{◌==◌, ◌↔◌, nat_lt, IsTrue, Contains, AllPairs}
+use Rattle.std.specs.List.{range_with_len, list_all, list_any}
+use Rattle.std.proofs.lemmas.Bool.{cases_Bool, cases_lt, and_parts, and_from, or_cases, or_left, or_right, not-true, false≢true, eqb-true, ltb-true}
+use Rattle.std.proofs.lemmas.List.Elements.{Contains-append_left, Contains-append_right}
+use Rattle.std.proofs.lemmas.List.Kept.{AllPairs-cons}
+use Rattle.std.proofs.lemmas.List.Sums.{AllPass-from_list_all}
+use Rattle.msg_world.specs.declared.access.Access.{Access}
+use Rattle.msg_world.specs.Access.{Part, OfType, OfResource, Registry, writes, uses, Conflict, Fits}
+use Rattle.msg_order.specs.declared.rule.Rule.{Rule}
+use Rattle.msg_order.specs.Graph.{Graph, IsEdge, IsBatchNumber}
+use Rattle.msg_order.specs.Order.{has_joined, access_of, rules_among, AreInConflict, Settles, IsSettledOrder, pairs, RunsBefore, IsTurnOrder}
+use Rattle.msg_order.specs.Paths.{path}
+use Rattle.msg_order.proofs.Lists.{Contains-head, Contains-tail, Contains-cases, not_in_none, Contains-map, Contains-range}
+use Rattle.msg_order.proofs.Chains.{Ends, ends_number, number_once}
+use Rattle.msg_order.proofs.PathTest.{no_Path, to_Path}
+use Rattle.msg_order.proofs.Rows.{joined_in}
+
+any_of : {X : Type 0} (test : X → Bool) (xs : List X) (x : X) → Contains xs x → test x ≡ true → list_any test xs ≡ true
+any_of test [] x h t = absurd (not_in_none x h)
+any_of test (y ∷ ys) x h t = elim (Contains-cases y ys x h) [
+  | inl s ↦ or_left (test y) (list_any test ys) (subst (λ z. test z ≡ true) (sym s) t)
+  | inr m ↦ or_right (test y) (list_any test ys) (any_of test ys x m t)
+]
+
+found_any : {X : Type 0} (test : X → Bool) (xs : List X) → list_any test xs ≡ true → (x : X) × (Contains xs x × (test x ≡ true))
+found_any test [] h = absurd (false≢true h)
+found_any test (y ∷ ys) h = elim (or_cases (test y) (list_any test ys) h) [
+  | inl t ↦ (y, (Contains-head y ys, t))
+  | inr m ↦ let f = found_any test ys m in (f.0, (Contains-tail y ys f.0 f.1.0, f.1.1))
+]
+
+each_of : {X : Type 0} (test : X → Bool) (xs : List X) (x : X) → list_all test xs ≡ true → Contains xs x → test x ≡ true
+each_of test [] x all h = absurd (not_in_none x h)
+each_of test (y ∷ ys) x all h =
+    let both = and_parts (test y) (list_all test ys) all in
+    elim (Contains-cases y ys x h) [ inl s ↦ subst (λ z. test z ≡ true) s both.0 | inr m ↦ each_of test ys x both.1 m ]
+
+pub each_below : (test : ℕ → Bool) (n i : ℕ) → list_all test (range_with_len 0 n) ≡ true → i < n → test i ≡ true
+each_below test n i all lt = each_of test (range_with_len 0 n) i all (Contains-range 0 n i (omega arith) (omega (arith, lt)))
+
+-- ---- conflicts
+
+-- the parts of a world of so many types and as many resources
+abbrev pub parts_below : ℕ → List Part
+parts_below n = Registry ∷ (map OfType (range_with_len 0 n) ++ map OfResource (range_with_len 0 n))
+
+abbrev pub meet_at : Access → Access → Part → Bool
+meet_at a b p = (writes a p && uses b p) || (writes b p && uses a p)
+
+abbrev pub conflict_below : ℕ → Access → Access → Bool
+conflict_below n a b = list_any (meet_at a b) (parts_below n)
+
+-- a used part is one of them
+used_is_below : (n : ℕ) (a : Access) → Fits n n a → (p : Part) → uses a p ≡ true → Contains (parts_below n) p
+used_is_below n a fits Registry u = Contains-head Registry (map OfType (range_with_len 0 n) ++ map OfResource (range_with_len 0 n))
+used_is_below n a fits (OfType t) u =
+    let below : t < n = fits.types_below t u in
+    let types : List Part = map OfType (range_with_len 0 n) in
+    let resources : List Part = map OfResource (range_with_len 0 n) in
+    Contains-tail Registry (types ++ resources) (OfType t)
+    (Contains-append_left types resources (OfType t) (Contains-map OfType (range_with_len 0 n) t (Contains-range 0 n t (omega arith) (omega arith))))
+used_is_below n a fits (OfResource r) u =
+    let below : r < n = fits.resources_below r u in
+    let types : List Part = map OfType (range_with_len 0 n) in
+    let resources : List Part = map OfResource (range_with_len 0 n) in
+    Contains-tail Registry (types ++ resources) (OfResource r)
+    (Contains-append_right types resources (OfResource r) (Contains-map OfResource (range_with_len 0 n) r (Contains-range 0 n r (omega arith) (omega arith))))
+
+conflict_is : (n : ℕ) (a b : Access) → Fits n n a → Fits n n b → IsTrue (conflict_below n a b) ↔ Conflict a b
+conflict_is n a b fits_a fits_b = (
+  λ t. let f = found_any (meet_at a b) (parts_below n) t in (f.0, or_cases (writes a f.0 && uses b f.0) (writes b f.0 && uses a f.0) f.1.1),
+  λ c.
+      let p : Part = c.0 in
+      elim c.1 [
+        | inl x ↦ any_of (meet_at a b) (parts_below n) p (used_is_below n b fits_b p (and_parts (writes a p) (uses b p) x).1)
+            (or_left (writes a p && uses b p) (writes b p && uses a p) x)
+        | inr x ↦ any_of (meet_at a b) (parts_below n) p (used_is_below n a fits_a p (and_parts (writes b p) (uses a p) x).1)
+            (or_right (writes a p && uses b p) (writes b p && uses a p) x)
+      ],
+)
+
+-- ---- the settled order
+
+abbrev pub are_in_conflict : ℕ → List Access → List Bool → ℕ → ℕ → Bool
+are_in_conflict n accesses joined i j =
+    (has_joined joined i && has_joined joined j) && conflict_below n (access_of accesses i) (access_of accesses j)
+
+abbrev pub settle : (ℕ → ℕ → Bool) → Graph → Graph → Graph
+settle test [] g = g
+settle test (p ∷ ps) g = cond (test p.0 p.1 && not (path g p.1 p.0)) (settle test ps (p ∷ g)) (settle test ps g)
+
+settle_is : (C : ℕ → ℕ → Type 0) (test : ℕ → ℕ → Bool) → ((i j : ℕ) → IsTrue (test i j) ↔ C i j) → (ps g : Graph) → Settles C g ps (settle test ps g)
+settle_is C test is [] g = refl
+settle_is C test is (p ∷ ps) g = elim (cases_Bool (test p.0 p.1)) [
+  | inr f ↦ rw f (inr (λ e. false≢true (sym f ∙ (is p.0 p.1).1 e.0), settle_is C test is ps g))
+  | inl t ↦ elim (cases_Bool (path g p.1 p.0)) [
+    | inl back ↦ rw (t, back) (inr (λ e. e.1 (to_Path g p.1 p.0 back), settle_is C test is ps g))
+    | inr none ↦ rw (t, none) (inl (((is p.0 p.1).0 t, no_Path g p.1 p.0 none), settle_is C test is ps (p ∷ g)))
+  ]
+]
+
+are_in_conflict_is : (n : ℕ) (accesses : List Access) (joined : List Bool) → ((i : ℕ) → Fits n n (access_of accesses i)) → (i j : ℕ)
+    → IsTrue (are_in_conflict n accesses joined i j) ↔ AreInConflict accesses joined i j
+are_in_conflict_is n accesses joined fit i j =
+    let a : Access = access_of accesses i in
+    let b : Access = access_of accesses j in
+    let same = conflict_is n a b (fit i) (fit j) in (
+      λ t.
+          let both = and_parts (has_joined joined i && has_joined joined j) (conflict_below n a b) t in
+          let who = and_parts (has_joined joined i) (has_joined joined j) both.0 in
+          record { first_joined = who.0; second_joined = who.1; conflict = same.0 both.1 },
+      λ c. and_from (has_joined joined i && has_joined joined j) (conflict_below n a b)
+          (and_from (has_joined joined i) (has_joined joined j) c.first_joined c.second_joined) (same.1 c.conflict),
+    )
+
+-- ---- batch numbers
+
+-- one more than the greatest value of those with an edge to j, and 0 where there is none
+abbrev pub above_all : (ℕ → ℕ) → Graph → ℕ → ℕ
+above_all value [] j = 0
+above_all value (e ∷ g) j = cond (e.1 == j) (max (suc (value e.0)) (above_all value g j)) (above_all value g j)
+
+-- the length of the longest chain of at most n edges that ends in j
+abbrev pub longest : Graph → ℕ → ℕ → ℕ
+longest g zero j = 0
+longest g (suc n) j = above_all (longest g n) g j
+
+-- the numbers rise along each edge
+abbrev pub rise_in : Graph → (ℕ → ℕ) → Bool
+rise_in g number = list_all (λ e. nat_lt (number e.0) (number e.1)) g
+
+greater_of : (a b : ℕ) → (max a b ≡ a) ⊎ (max a b ≡ b)
+greater_of a b = elim (cases_lt a b) [ inl l ↦ inr (omega arith) | inr l ↦ inl (omega arith) ]
+
+above_ends : (g : Graph) (value : ℕ → ℕ) → ((i : ℕ) → Ends g (value i) i) → (h : Graph) → ((i j : ℕ) → IsEdge h i j → IsEdge g i j) → (j : ℕ) → Ends g (above_all value h j) j
+above_ends g value ends [] within j = tt
+above_ends g value ends (e ∷ h) within j =
+    let rest : Ends g (above_all value h j) j = above_ends g value ends h (λ a b x. within a b (Contains-tail e h (a, b) x)) j in
+    elim (cases_Bool (e.1 == j)) [
+      | inr f ↦ rw f rest
+      | inl t ↦
+          let edge : IsEdge g e.0 j = subst (IsEdge g e.0) (eqb-true e.1 j t) (within e.0 e.1 (Contains-head e h)) in
+          rw t (elim (greater_of (suc (value e.0)) (above_all value h j)) [
+            | inl is ↦ subst (λ k. Ends g k j) (sym is) (e.0, (ends e.0, edge))
+            | inr is ↦ subst (λ k. Ends g k j) (sym is) rest
+          ])
+    ]
+
+longest_ends : (g : Graph) (n j : ℕ) → Ends g (longest g n j) j
+longest_ends g zero j = tt
+longest_ends g (suc n) j = above_ends g (longest g n) (longest_ends g n) g (λ a b e. e) j
+
+rises_to : (g : Graph) (number : ℕ → ℕ) → rise_in g number ≡ true → (i j : ℕ) → IsEdge g i j → number i < number j
+rises_to g number rises i j e = ltb-true (number i) (number j) (each_of (λ (x : ℕ × ℕ). nat_lt (number x.0) (number x.1)) g (i, j) rises e)
+
+rise_bound : (g : Graph) (number : ℕ → ℕ) → rise_in g number ≡ true → (m j : ℕ) → Ends g (suc m) j → m < number j
+rise_bound g number rises zero j e = let up : number e.0 < number j = rises_to g number rises e.0 j e.1.1 in omega arith
+rise_bound g number rises (suc m) j e =
+    let up : number e.0 < number j = rises_to g number rises e.0 j e.1.1 in
+    let most : m < number e.0 = rise_bound g number rises m e.0 e.1.0 in
+    omega arith
+
+number_is : (g : Graph) (n : ℕ) → rise_in g (longest g n) ≡ true → (j : ℕ) → IsBatchNumber g j (longest g n j)
+number_is g n rises j = ends_number g j (longest g n j) (longest_ends g n j)
+    (λ e. let l : longest g n j < longest g n j = rise_bound g (longest g n) rises (longest g n j) j e in omega arith)
+
+-- ---- turns
+
+abbrev pub runs_before : (ℕ → ℕ) → ℕ → ℕ → Bool
+runs_before number i j = nat_lt (number i) (number j) || ((number i == number j) && nat_lt i j)
+
+abbrev pub are_in_turn : (ℕ → ℕ) → List ℕ → Bool
+are_in_turn number [] = true
+are_in_turn number (i ∷ is) = list_all (runs_before number i) is && are_in_turn number is
+
+-- each that has joined is in the list
+abbrev pub none_is_left : List Bool → List ℕ → Bool
+none_is_left joined order = list_all (λ i. not (has_joined joined i) || list_any (λ k. k == i) order) (range_with_len 0 (length joined))
+
+abbrev pub settled_by_test : ℕ → List Access → List Rule → List Bool → Graph
+settled_by_test n accesses rules joined = settle (are_in_conflict n accesses joined) (pairs (length accesses)) (rules_among joined rules)
+
+-- the list is the turn order in the settled one
+abbrev pub is_turn_order : ℕ → List Access → List Rule → List Bool → List ℕ → Bool
+is_turn_order n accesses rules joined order =
+    let g : Graph = settled_by_test n accesses rules joined in
+    let number : ℕ → ℕ = longest g (length accesses) in
+    (rise_in g number && are_in_turn number order) && (list_all (has_joined joined) order && none_is_left joined order)
+
+before_is : (g : Graph) (number : ℕ → ℕ) → ((j : ℕ) → IsBatchNumber g j (number j)) → (i j : ℕ) → runs_before number i j ≡ true → RunsBefore g i j
+before_is g number is i j t m n a b =
+    let same_m : m ≡ number i = number_once g i m (number i) a (is i) in
+    let same_n : n ≡ number j = number_once g j n (number j) b (is j) in
+    elim (or_cases (nat_lt (number i) (number j)) ((number i == number j) && nat_lt i j) t) [
+      | inl l ↦ let lt : number i < number j = ltb-true (number i) (number j) l in inl (omega arith)
+      | inr x ↦
+          let both = and_parts (number i == number j) (nat_lt i j) x in
+          inr (same_m ∙ eqb-true (number i) (number j) both.0 ∙ sym same_n, ltb-true i j both.1)
+    ]
+
+turns_are : (g : Graph) (number : ℕ → ℕ) → ((j : ℕ) → IsBatchNumber g j (number j)) → (order : List ℕ) → are_in_turn number order ≡ true → AllPairs (RunsBefore g) order
+turns_are g number is [] t = λ i j d l m. absurd (omega arith)
+turns_are g number is (i ∷ order) t =
+    let both = and_parts (list_all (runs_before number i) order) (are_in_turn number order) t in
+    AllPairs-cons (RunsBefore g) i order
+    (λ k d l. before_is g number is i _ (AllPass-from_list_all (runs_before number i) order both.0 k d l))
+    (turns_are g number is order both.1)
+
+-- What the test shows.
+pub record IsInTurn (accesses : List Access) (rules : List Rule) (joined : List Bool) (order : List ℕ) : Type 0 where
+  pub settled : Graph
+  pub is_settled : IsSettledOrder accesses rules joined settled
+  pub in_order : IsTurnOrder settled joined order
+
+pub in_turn_by_test : (n : ℕ) (accesses : List Access) (rules : List Rule) (joined : List Bool) (order : List ℕ) → ((i : ℕ) → Fits n n (access_of accesses i))
+    → is_turn_order n accesses rules joined order ≡ true → IsInTurn accesses rules joined order
+in_turn_by_test n accesses rules joined order fit t =
+    let g : Graph = settled_by_test n accesses rules joined in
+    let number : ℕ → ℕ = longest g (length accesses) in
+    let parts = and_parts (rise_in g number && are_in_turn number order) (list_all (has_joined joined) order && none_is_left joined order) t in
+    let first = and_parts (rise_in g number) (are_in_turn number order) parts.0 in
+    let second = and_parts (list_all (has_joined joined) order) (none_is_left joined order) parts.1 in
+    record {
+      settled = g;
+      is_settled = settle_is (AreInConflict accesses joined) (are_in_conflict n accesses joined) (are_in_conflict_is n accesses joined fit) (pairs (length accesses)) (rules_among joined rules);
+      in_order = record {
+        of_joined = λ i. (
+          λ h. each_of (has_joined joined) order i second.0 h,
+          λ h.
+              elim (or_cases (not (has_joined joined i)) (list_any (λ k. k == i) order)
+              (each_below (λ j. not (has_joined joined j) || list_any (λ k. k == j) order) (length joined) i second.1 (joined_in joined i h))) [
+                | inl f ↦ absurd (false≢true (sym (not-true (has_joined joined i) f) ∙ h))
+                | inr t ↦ let f = found_any (λ k. k == i) order t in subst (Contains order) (eqb-true f.0 i f.1.1) f.1.0
+              ],
+        );
+        in_order = turns_are g number (number_is g (length accesses) first.0) order first.1;
+      };
+    }
