@@ -110,11 +110,11 @@ module _ (s : Scenario) where
 module _ (s : Scenario) (names : Declared) (of : NamesOf s names) where
   has_type : (name : Text) (t : ℕ) → type_number names name ≡ Some t → t < length s.types
   has_type name t h =
-      subst (λ n. t < n) of.types (position-Some (bytes_eq name) names.types t [] (below_there (names_of.place_of names.types name) 64 t h)).0
+      subst (λ n. t < n) of.types (position-Some (bytes_eq name) names.types t [] (below_there (names_of.position_of names.types name) 64 t h)).0
 
   has_resource : (name : Text) (r : ℕ) → resource_number names name ≡ Some r → r < length s.resources
   has_resource name r h =
-      subst (λ n. r < n) of.resources (position-Some (bytes_eq name) names.resources r [] (below_there (names_of.place_of names.resources name) 64 r h)).0
+      subst (λ n. r < n) of.resources (position-Some (bytes_eq name) names.resources r [] (below_there (names_of.position_of names.resources name) 64 r h)).0
 
   -- an op that works on one type, on one resource, on a type with a value, and so on
   on_type : (f : ℕ → Op) → ((t : ℕ) → t < length s.types → OpFits s (f t)) → (d : Data) (op : Op)

@@ -14,7 +14,7 @@ use Rattle.msg_order.specs.declared.plan_refusal.PlanRefusal.TheVariants.{Cycle 
 use Rattle.msg_order.specs.declared.rule.Rule.{Rule}
 use Rattle.msg_scenario.specs.Check.{Check, first_refusal, needs}
 use Rattle.msg_scenario.specs.Json.{Text, all_some, elements, is_list, only_below}
-use Rattle.msg_scenario.specs.Names.{Declared, place_of, system_number}
+use Rattle.msg_scenario.specs.Names.{Declared, position_of, system_number}
 use Rattle.serde_json.specs.Find.{as_bool}
 use Rattle.msg_scenario.specs.Reading.{edges_of}
 use Rattle.msg_scenario.specs.Runnable.{IsRunnable, PostsAreToTypes}
@@ -74,7 +74,7 @@ as_many_resources d =
 
 system_below : (names : Declared) (name : Text) (n : ℕ) → system_number names name ≡ Some n → n < length names.systems
 system_below names name n h =
-    (position-Some (bytes_eq name) names.systems n [] (below_there (place_of names.systems name) 256 n h)).0
+    (position-Some (bytes_eq name) names.systems n [] (below_there (position_of names.systems name) 256 n h)).0
 
 rule_below : (names : Declared) (d : Data) (rule : Rule) → rule_of names d ≡ Some rule
     → (rule.earlier < length names.systems) × (rule.later < length names.systems)

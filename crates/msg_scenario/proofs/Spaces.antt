@@ -8,7 +8,7 @@ use Rattle.std.specs.Str.{bytes_eq}
 use Rattle.std.specs.declared.alloc.Global.{Global}
 use Rattle.indexmap.specs.IndexSet.{insert_key}
 use Rattle.msg_scenario.specs.Json.{Text}
-use Rattle.msg_scenario.specs.Names.{place_of}
+use Rattle.msg_scenario.specs.Names.{position_of}
 
 module _ {A B : Type 0} (p : B → Bool) (f : A → B) where
   position_or_len-map : (xs : List A) → position_or_len p (map f xs) ≡ position_or_len (λ x. p (f x)) xs
@@ -38,7 +38,7 @@ module _ {A : Type 0} (p : A → Bool) where
       ]) none
 
 insert-own : (keys : List (String Global)) (key : String Global)
-    → place_of (map string_bytes keys) (string_bytes key) ≡ None
+    → position_of (map string_bytes keys) (string_bytes key) ≡ None
     → map string_bytes (insert_key (λ a b. bytes_eq (string_bytes a) (string_bytes b)) keys key)
     ≡ map string_bytes keys ++ string_bytes key ∷ []
 insert-own keys key new =
@@ -48,11 +48,11 @@ insert-own keys key new =
 
 -- a text that isn't there yet goes last
 pub insert-new : (keys : List (String Global)) (key : String Global) (name : Text) → string_bytes key ≡ name
-    → place_of (map string_bytes keys) name ≡ None
+    → position_of (map string_bytes keys) name ≡ None
     → map string_bytes (insert_key (λ a b. bytes_eq (string_bytes a) (string_bytes b)) keys key)
     ≡ map string_bytes keys ++ name ∷ []
 insert-new keys key name is new =
-    insert-own keys key (ap (place_of (map string_bytes keys)) is ∙ new)
+    insert-own keys key (ap (position_of (map string_bytes keys)) is ∙ new)
     ∙ ap (λ t. map string_bytes keys ++ t ∷ []) is
 
 -- what holds of no error holds

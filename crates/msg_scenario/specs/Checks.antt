@@ -37,9 +37,9 @@ batch_checks d = a_list_of_numbers d ∷ few_values d ∷ map a_value (elements 
 abbrev pub a_cursor : ℕ → Data → Check
 a_cursor made d = needs (is_some (number_below made d)) BadNumber
 
--- how many messages a read takes at most
-abbrev pub a_read_limit : Data → Check
-a_read_limit d = needs (is_some (number_up_to 1000000 d)) BadNumber
+-- a limit: of a read, or of a type
+abbrev pub a_limit : Data → Check
+a_limit d = needs (is_some (number_up_to 1000000 d)) BadNumber
 
 -- the number of a message
 abbrev pub a_message_number : Data → Check
@@ -86,7 +86,7 @@ checks_with_one made head d =
 abbrev pub checks_with_two : ℕ → Text → Data → Data → List Check
 checks_with_two made head d e =
     if bytes_eq head (codes "read")
-    then a_number d ∷ a_number e ∷ a_cursor made d ∷ a_read_limit e ∷ []
+    then a_number d ∷ a_number e ∷ a_cursor made d ∷ a_limit e ∷ []
     else no_call ∷ []
 
 -- a head, and what stands after it

@@ -20,16 +20,16 @@ pub record Declared : Type 0 where
   pub resources : List Text
   pub systems : List Text
 
--- the place of a name among others
-abbrev pub place_of : List Text → Text → Option ℕ
-place_of names name = position (bytes_eq name) names
+-- where a name stands among others, from 0
+abbrev pub position_of : List Text → Text → Option ℕ
+position_of names name = position (bytes_eq name) names
 
 -- the number of a type, of a resource and of a system; there are at most 64, 64 and 256
 abbrev pub type_number : Declared → Text → Option ℕ
-type_number names name = option_and_then (only_below 64) (place_of names.types name)
+type_number names name = option_and_then (only_below 64) (position_of names.types name)
 
 abbrev pub resource_number : Declared → Text → Option ℕ
-resource_number names name = option_and_then (only_below 64) (place_of names.resources name)
+resource_number names name = option_and_then (only_below 64) (position_of names.resources name)
 
 abbrev pub system_number : Declared → Text → Option ℕ
-system_number names name = option_and_then (only_below 256) (place_of names.systems name)
+system_number names name = option_and_then (only_below 256) (position_of names.systems name)

@@ -11,8 +11,8 @@ use Rattle.msg_system.specs.declared.op.Op.{Op}
 use Rattle.msg_system.specs.declared.op.Op.TheVariants.{Forward, Sum}
 use Rattle.msg_scenario.specs.Json.{Text, elements, keys, value_at, is_object, is_list, is_number, number_up_to}
 use Rattle.msg_scenario.specs.Check.{Check, needs}
-use Rattle.msg_scenario.specs.Checks.{a_value, a_read_limit, few_values}
-use Rattle.msg_scenario.specs.Names.{Declared, is_name, place_of, type_number, resource_number, system_number}
+use Rattle.msg_scenario.specs.Checks.{a_value, a_limit, few_values}
+use Rattle.msg_scenario.specs.Names.{Declared, is_name, position_of, type_number, resource_number, system_number}
 use Rattle.msg_scenario.specs.ScenarioDenotes.{text, inside_nots, nots_round, kind_of, kind_in, conditions_in, join_in, start_of, start_in, ops_of, with_type, with_resource, with_system, no_names, types_in, resources_in, held_in, systems_in, rules_in, frames_in, type_names, part_names, all_names, systems_of}
 use Rattle.msg_scenario.specs.declared.kind.Kind.{Kind}
 use Rattle.msg_scenario.specs.declared.kind.Kind.TheVariants.{Script, Relay, Tally}
@@ -70,7 +70,7 @@ names_checks most checks with_one names d =
 -- a good name, which isn't among those before
 abbrev pub new_name : List Text → Text → List Check
 new_name before name =
-    needs (is_name name) BadName ∷ needs (not (is_some (place_of before name))) TwiceNamed ∷ []
+    needs (is_name name) BadName ∷ needs (not (is_some (position_of before name))) TwiceNamed ∷ []
 
 abbrev pub a_type : Declared → Data → Check
 a_type names d = needs (is_some (type_number names (text d))) UnknownName
@@ -87,7 +87,7 @@ abbrev pub type_checks : Declared → Data → List Check
 type_checks names d =
     for_two (λ name limit.
     needs (is_text name && is_number limit) Shape
-    ∷ (new_name names.types (text name) ++ a_read_limit limit ∷ []))
+    ∷ (new_name names.types (text name) ++ a_limit limit ∷ []))
     (elements d)
 
 abbrev pub resource_checks : Declared → Data → List Check
@@ -120,7 +120,7 @@ op_checks_with_two names head d e =
     then needs (is_text d && is_list_of_numbers e) Shape ∷ a_type names d
     ∷ few_values e ∷ map a_value (elements e)
     else if bytes_eq head (codes "read")
-    then needs (is_text d && is_number e) Shape ∷ a_type names d ∷ a_read_limit e ∷ []
+    then needs (is_text d && is_number e) Shape ∷ a_type names d ∷ a_limit e ∷ []
     else if bytes_eq head (codes "forward")
     then needs (is_text d && is_text e) Shape ∷ a_type names d ∷ a_type names e ∷ []
     else if bytes_eq head (codes "sum")

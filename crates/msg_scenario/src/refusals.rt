@@ -5,10 +5,11 @@ ghost use Rattle.std.specs.Prelude.{◌≡◌, Ok, IfOk};
 use crate::memory_sink::MemorySink;
 use crate::report_fault::ReportFault;
 use crate::reports::report;
-use crate::reports::tests::engines::engine_of;
+use crate::reports::tests::engines::{Sparing, engine_of};
 use crate::{Call, Refusal, Scenario, read_calls, read_scenario, run_calls};
-use msg_exec::{BuildRefusal, NoGate, RunFault, Workers};
+use msg_exec::{BuildRefusal, EngineOf, NoGate, RunFault, Workers};
 use msg_order::Rule;
+use msg_system::{Op, Probe};
 use std::alloc::AllocError;
 use std::io::Print;
 use std::process::Abort;
@@ -93,6 +94,7 @@ fn calls(rt: HostRuntime) -> Result<(), Fail> {
         }
         Err(ReportFault::NoMemory) => {
             assert!(rt; ANSWERS.as_bytes().starts_with(sink.bytes()));
+            assert!(rt; sink.bytes().len() < ANSWERS.len());
             println!(rt; "refused")?;
         }
         Err(fault) => panic!(rt; "{fault}"),
@@ -110,11 +112,18 @@ fn expect_scenario(rt: &impl Abort, scenario: &Scenario) {
         panic!(rt; "{:?}", scenario.systems)
     };
     assert!(rt; r.name.as_str() == "r");
-    assert_eq!(rt; r.place.conditions.as_slice().len(), 1);
-    assert_eq!(rt; r.program.ops.as_slice().len(), 1);
+    let [condition] = r.place.conditions.as_slice() else {
+        panic!(rt; "{:?}", r.place.conditions)
+    };
+    assert_eq!(rt; condition.nots, 0);
+    assert!(rt; matches!(condition.probe, Probe::OnMessage(_)));
+    assert!(rt; matches!(r.program.ops.as_slice(), [Op::Read(_, None)]));
     assert!(rt; w.name.as_str() == "w");
-    assert_eq!(rt; w.place.conditions.as_slice().len(), 0);
-    assert_eq!(rt; w.program.ops.as_slice().len(), 1);
+    assert!(rt; w.place.conditions.as_slice().is_empty());
+    let [Op::Write(_, written)] = w.program.ops.as_slice() else {
+        panic!(rt; "{:?}", w.program.ops)
+    };
+    assert_eq!(rt; *written, 5);
     assert_eq!(rt; scenario.rules.as_slice(), [Rule::before(0, 1)].as_slice());
     let [frame] = scenario.frames.as_slice() else {
         panic!(rt; "{:?}", scenario.frames)
@@ -154,7 +163,7 @@ fn expect_report<R: Abort + AllocGlobal + Print + Sync + Threads>(
         panic!(rt; "from 1 to 64 workers")
     };
     let mut sink = MemorySink::new();
-    match report(
+    let put = report(
         rt,
         alloc,
         &mut engine,
@@ -162,20 +171,32 @@ fn expect_report<R: Abort + AllocGlobal + Print + Sync + Threads>(
         workers,
         &NoGate,
         &mut sink,
-    ) {
+    );
+    expect_put(rt, put, &engine, sink.bytes())
+}
+
+/// What the sink took, and where the engine stands: after a refused frame at its end, after a refused text
+/// behind it.
+fn expect_put<R: Abort + Print>(
+    rt: &R,
+    put: Result<(), ReportFault>,
+    engine: &EngineOf<Sparing>,
+    bytes: &[u8],
+) -> Result<(), Fail> {
+    match put {
         Ok(()) => {
-            assert!(rt; sink.bytes() == REPORT.as_bytes());
+            assert!(rt; bytes == REPORT.as_bytes());
             println!(rt; "ample")?;
         }
         Err(ReportFault::Run(RunFault::NoMemory)) => {
             let frames = if engine.frames_run() == 0 { "" } else { FRAME };
-            assert!(rt; sink.bytes() == frames.as_bytes());
+            assert!(rt; bytes == frames.as_bytes());
             assert_eq!(rt; engine.world().is_none(), frames.is_empty());
             println!(rt; "refused")?;
         }
         Err(ReportFault::NoMemory) => {
             assert_eq!(rt; engine.frames_run(), 1);
-            assert!(rt; sink.bytes().is_empty() || sink.bytes() == FRAME.as_bytes());
+            assert!(rt; bytes.is_empty() || bytes == FRAME.as_bytes());
             println!(rt; "refused")?;
         }
         Err(fault) => panic!(rt; "{fault}"),

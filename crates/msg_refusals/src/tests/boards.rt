@@ -69,6 +69,14 @@ fn finish<'a>(rt: &impl Abort, job: Counted<'a>, value: u64, dropped: &'a Atomic
     }
 }
 
+/// What the three jobs came to.
+fn expect_successors(rt: &impl Abort, results: &[Counted]) {
+    let [first, second, third] = results else {
+        panic!(rt; "three results")
+    };
+    assert_eq!(rt; (first.value, second.value, third.value), (11, 21, 31));
+}
+
 /// Works off a board of three jobs. The counts are of the dropped jobs and of the dropped results.
 fn worked_board_over(
     rt: &impl Abort,
@@ -84,11 +92,8 @@ fn worked_board_over(
         assert_eq!(rt; jobs_dropped.load(Ordering::SeqCst), 3);
         return Ok(End::NoBoard);
     };
-    let Some(mut b) = passes.pop() else {
-        panic!(rt; "a second pass")
-    };
-    let Some(mut a) = passes.pop() else {
-        panic!(rt; "a first pass")
+    let (Some(mut b), Some(mut a)) = (passes.pop(), passes.pop()) else {
+        panic!(rt; "two passes")
     };
     let first = board.draw(&mut a);
     let second = board.draw(&mut b);
@@ -112,10 +117,7 @@ fn worked_board_over(
         assert_eq!(rt; results_dropped.load(Ordering::SeqCst), 3);
         return Ok(End::NoResults);
     };
-    let [first, second, third] = results.as_slice() else {
-        panic!(rt; "three results")
-    };
-    assert_eq!(rt; (first.value, second.value, third.value), (11, 21, 31));
+    expect_successors(rt, results.as_slice());
     Ok(End::Ample)
 }
 

@@ -91,6 +91,20 @@ fn set(rt: &impl Abort, lent: &mut Lent, r: ResNo, value: i64)
 }
 
 #[test]
+fn no_world(rt: HostRuntime) -> Result<(), Fail> {
+    let (t, r) = first_parts(&rt);
+    match World::new(rt.alloc(), &[4], &[7]) {
+        Ok(world) => {
+            expect_messages(&rt, &world, t, &[]);
+            assert_eq!(rt; world.resource(r), Some(7));
+            println!(rt; "ample")?;
+        }
+        Err(NoMemory) => println!(rt; "refused")?,
+    }
+    Ok(())
+}
+
+#[test]
 fn a_refused_loan(rt: HostRuntime) -> Result<(), Fail> {
     let (t, r) = first_parts(&rt);
     let mut world = World::new(rt.alloc(), &[4], &[7])?;

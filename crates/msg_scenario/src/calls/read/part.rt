@@ -3,7 +3,7 @@ ghost use Rattle.std.specs.Prelude.{◌≡◌, ◌<◌, ◌∷◌, [], Some, Non
 ghost use Rattle.serde_json.specs.Find.{as_number, as_i64};
 ghost use Rattle.serde_json.specs.View.{view, number_view};
 ghost use Rattle.msg_scenario.specs.Json.{whole, natural, natural_of, only_below};
-ghost use Rattle.msg_scenario.specs.Checks.{a_number, a_value, a_cursor, a_read_limit, a_message_number, limit_checks};
+ghost use Rattle.msg_scenario.specs.Checks.{a_number, a_value, a_cursor, a_limit, a_message_number, limit_checks};
 ghost use Rattle.msg_scenario.specs.Walk.{Agrees};
 
 use crate::numbers::{natural_number, number, small_number, whole_number};
@@ -42,7 +42,7 @@ pub fn cursor_and_limit(made: u32, part: &Value, limit: &Value) -> Result<(u32, 
     ensures small { IfOk result (λ p. p.0 < made) }
     ensures is { Agrees
         (a_number (view part.now) ∷ a_number (view limit.now)
-        ∷ a_cursor made (view part.now) ∷ a_read_limit (view limit.now) ∷ [])
+        ∷ a_cursor made (view part.now) ∷ a_limit (view limit.now) ∷ [])
         (option_and_then (λ c. option_map (λ k. record { 0 = c; 1 = k }) (natural (view limit.now)))
         (natural (view part.now)))
         result }

@@ -2,7 +2,7 @@
 ghost use Rattle.std.specs.Prelude.{◌≡◌, ◌∷◌, ◌++◌, ◌&&◌, [], OnOk, option_map};
 ghost use Rattle.serde_json.specs.View.{view};
 ghost use Rattle.msg_scenario.specs.Check.{needs};
-ghost use Rattle.msg_scenario.specs.Checks.{a_read_limit, a_value};
+ghost use Rattle.msg_scenario.specs.Checks.{a_limit, a_value};
 ghost use Rattle.msg_scenario.specs.Json.{is_number, natural, whole};
 ghost use Rattle.msg_scenario.specs.ScenarioChecks.{is_text, new_name, resource_checks, type_checks};
 ghost use Rattle.msg_scenario.specs.ScenarioDenotes.{resource_of, text, type_of, with_resource, with_type};
@@ -45,7 +45,7 @@ fn read_type(
 ) -> Result<(Name, u64), Refusal>
     ensures agrees { Agrees
         (needs (is_text (view name.now) && is_number (view limit.now)) Shape
-        ∷ (new_name names.old.types (text (view name.now)) ++ a_read_limit (view limit.now) ∷ []))
+        ∷ (new_name names.old.types (text (view name.now)) ++ a_limit (view limit.now) ∷ []))
         (option_map (λ n. (text (view name.now), n)) (natural (view limit.now)))
         result }
     ensures declares { OnOk result (names.new

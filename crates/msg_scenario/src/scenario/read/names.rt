@@ -1,7 +1,7 @@
 // The names that a file declares.
 ghost use Rattle.std.specs.Prelude.{◌≡◌, ◌∷◌, ◌++◌, [], Some, None, IsOk, OnOk, MatchResult};
 ghost use Rattle.std.specs.List.{list_all};
-ghost use Rattle.msg_scenario.specs.Names.{is_name, is_name_character, place_of, type_number, resource_number, system_number};
+ghost use Rattle.msg_scenario.specs.Names.{is_name, is_name_character, position_of, type_number, resource_number, system_number};
 ghost use Rattle.msg_scenario.specs.ScenarioChecks.{new_name};
 ghost use Rattle.msg_scenario.specs.ScenarioDenotes.{no_names};
 ghost use Rattle.msg_scenario.specs.Walk.{Agrees};
@@ -66,7 +66,7 @@ impl NameSpace {
 
     /// The place of a name.
     fn place(&self, name: &str) -> Option<usize>
-        ensures place { result ≡ place_of self.now name.now }
+        ensures place { result ≡ position_of self.now name.now }
     {
         self.names.get_index_of(name)
     }

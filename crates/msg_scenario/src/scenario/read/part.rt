@@ -4,7 +4,7 @@ ghost use Rattle.serde_json.specs.Data.{Data};
 ghost use Rattle.serde_json.specs.Find.{as_number, as_str};
 ghost use Rattle.serde_json.specs.View.{view, number_view};
 ghost use Rattle.msg_scenario.specs.Check.{Check, first_refusal, needs};
-ghost use Rattle.msg_scenario.specs.Checks.{a_read_limit, a_value};
+ghost use Rattle.msg_scenario.specs.Checks.{a_limit, a_value};
 ghost use Rattle.msg_scenario.specs.Json.{Text, elements, is_number, natural, whole};
 ghost use Rattle.msg_scenario.specs.Names.{resource_number, type_number};
 ghost use Rattle.msg_scenario.specs.ScenarioChecks.{a_resource, a_type, for_headed, for_two, is_text, wrong_shape};
@@ -125,7 +125,7 @@ pub fn type_and_limit(
     ensures agrees { Agrees
         (needs (is_text (view of_type.now) && is_number (view limit.now)) Shape
         ∷ a_type names.now (view of_type.now)
-        ∷ a_read_limit (view limit.now)
+        ∷ a_limit (view limit.now)
         ∷ [])
         (both (λ a b. (a, b)) (type_number names.now (text (view of_type.now)))
         (natural (view limit.now)))
