@@ -15,8 +15,6 @@ mod law;
 pub mod laws;
 mod pass;
 mod slots;
-#[cfg(test)]
-mod tests;
 mod work;
 
 pub use board::Board;

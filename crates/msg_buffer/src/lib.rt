@@ -18,6 +18,3 @@ pub use instance::{Instance, MessageId, Written};
 pub use iter::MessageIter;
 pub use messages::Messages;
 pub use refusals::{BatchRefusal, NoMemory, WriteRefusal};
-
-#[cfg(test)]
-mod tests;

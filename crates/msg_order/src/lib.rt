@@ -8,8 +8,6 @@ mod plan;
 mod plan_refusal;
 mod rule;
 mod system_set;
-#[cfg(test)]
-mod tests;
 
 pub use plan::Plan;
 pub use plan_refusal::PlanRefusal;

@@ -7,4 +7,3 @@ mod Starts
 mod Asking
 mod Jobs
 mod Uses
-mod Turns

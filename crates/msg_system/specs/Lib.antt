@@ -4,4 +4,3 @@ pub mod Needs
 pub mod OpRuns
 pub mod Programs
 pub mod Systems
-pub mod Turns

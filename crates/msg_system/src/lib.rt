@@ -37,6 +37,3 @@ pub use start::Start;
 pub use system::System;
 pub use tally::Tally;
 pub use values::Values;
-
-#[cfg(test)]
-mod tests;

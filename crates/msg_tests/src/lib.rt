@@ -3,8 +3,24 @@
 #![tactic(auto)]
 
 #[cfg(test)]
+mod accesses;
+#[cfg(test)]
+mod boards;
+#[cfg(test)]
+mod buffers;
+#[cfg(test)]
+mod command;
+#[cfg(test)]
 mod engines;
 #[cfg(test)]
 mod numbers;
 #[cfg(test)]
+mod outcome;
+#[cfg(test)]
+mod plans;
+#[cfg(test)]
 mod scenarios;
+#[cfg(test)]
+mod systems;
+#[cfg(test)]
+mod worlds;

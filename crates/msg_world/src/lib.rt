@@ -15,8 +15,6 @@ mod record;
 mod res_no;
 mod slots;
 mod taken;
-#[cfg(test)]
-mod tests;
 mod type_no;
 mod world;
 

@@ -301,6 +301,3 @@ impl World {
         self.marks = marks.or(self.marks);
     }
 }
-
-#[cfg(test)]
-mod tests;

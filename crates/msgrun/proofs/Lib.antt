@@ -1,7 +1,2 @@
-pub mod Getters
-pub mod Numerals
 pub mod Printed
-pub mod Rows
 pub mod Systems
-pub mod Taken
-pub mod Whole

@@ -1,9 +1,9 @@
 -- The line that each fault of the program prints, and the status that it ends with.
 use Rattle.std.specs.Prelude.{ℕ, List, [], codes}
-use Rattle.msgrun.specs.declared.words.WordFault.{WordFault}
-use Rattle.msgrun.specs.declared.words.WordFault.TheVariants as word
-use Rattle.msgrun.specs.declared.input.InputFault.{InputFault}
-use Rattle.msgrun.specs.declared.input.InputFault.TheVariants as input
+use Rattle.msg_command.specs.declared.words.WordFault.{WordFault}
+use Rattle.msg_command.specs.declared.words.WordFault.TheVariants as word
+use Rattle.msg_command.specs.declared.input.InputFault.{InputFault}
+use Rattle.msg_command.specs.declared.input.InputFault.TheVariants as input
 use Rattle.msg_scenario.specs.declared.refusal.Refusal.{Refusal}
 use Rattle.msg_scenario.specs.declared.refusal.Refusal.TheVariants as refusal
 use Rattle.msg_exec.specs.declared.refusals.RunFault.{RunFault}

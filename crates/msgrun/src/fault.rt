@@ -1,7 +1,6 @@
 ghost use Rattle.std.specs.Prelude.{◌≡◌};
 
-use crate::input::InputFault;
-use crate::words::WordFault;
+use msg_command::{InputFault, WordFault};
 use msg_exec::NoMemory;
 use msg_scenario::{Refusal, ReportFault};
 use thiserror::Error;

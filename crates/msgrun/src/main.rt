@@ -10,14 +10,10 @@ ghost use Rattle.msgrun.specs.Faults.{status_of};
 
 mod building;
 mod fault;
-mod input;
-#[cfg(test)]
-mod refusals;
 mod scene;
-mod words;
 
 use fault::{MainFault, print_fault};
-use input::{InputFault, read_all};
+use msg_command::{Action, InputFault, WordFault, parse_words, read_all};
 use msg_exec::Workers;
 use msg_scenario::{StdSink, put_all, read_calls, read_scenario, run_calls};
 use scene::run_scenario;
@@ -27,7 +23,6 @@ use std::io::{ErrorKind, Input, Print};
 use std::process::ExitCode;
 use std::thread::Threads;
 use std::{env, fs, io};
-use words::{Action, WordFault, parse_words};
 
 fn main(rt: HostRuntime) -> ExitCode {
     match run(&rt) {

@@ -3,8 +3,7 @@ ghost use Rattle.msg_scenario.specs.Sinks.{TakesUnlessFailed};
 ghost use Rattle.msgrun.specs.Faults.{line_of, words_line, input_line, refusal_line, run_line, report_line, status_of};
 
 use crate::fault::MainFault;
-use crate::input::InputFault;
-use crate::words::WordFault;
+use msg_command::{InputFault, WordFault};
 use msg_exec::RunFault;
 use msg_scenario::{Refusal, ReportFault, Sink, put_all};
 

@@ -1,0 +1,5 @@
+pub mod Whole
+pub mod Getters
+pub mod Numerals
+pub mod Rows
+pub mod Taken

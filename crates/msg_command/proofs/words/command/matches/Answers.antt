@@ -1,0 +1,10 @@
+use Rattle.std.proofs.Common.{◌∙◌, ap}
+use Rattle.clap.specs.Words.{App, takes}
+use Rattle.msg_command.specs.CommandLine.{texts_of}
+use Rattle.msg_command.proofs.words.command.matches.Goals as goal
+
+-- where clap takes the words, its only error is want of memory
+pub returns-in-Err-clause-refused : goal.returns-in-Err-clause-refused
+returns-in-Err-clause-refused c = λ taken.
+    let words = texts_of c.args.words.now in
+    c.fault.ensures.memory (c.in-Err.ensures.passes (ap (λ (a : App). takes a words) c.in-Ok.ensures.app ∙ taken))

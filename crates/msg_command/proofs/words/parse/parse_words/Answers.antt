@@ -1,0 +1,22 @@
+use Rattle.std.proofs.Common.{◌≡◌, ◌∙◌, ap, sym, inl, inr, true, false}
+use Rattle.std.specs.Prelude.{is_some}
+use Rattle.std.proofs.lemmas.Result.{IfErr-weaker}
+use Rattle.msg_command.specs.Asked.{asked_by}
+use Rattle.msg_command.specs.CommandLine.{texts_of}
+use Rattle.msg_command.proofs.Taken.{takes_asks}
+use Rattle.msg_command.proofs.words.parse.parse_words.Goals as goal
+
+-- words that clap takes ask for something, or for a run on what is no number of workers, so that else only want of memory
+-- is left
+pub returns-clause-refused : goal.returns-clause-refused
+returns-clause-refused c =
+    IfErr-weaker c.action_of.result _ _
+    (λ fault refused taken. elim refused [
+      | inl is ↦ inl is
+      | inr none ↦ elim (takes_asks (texts_of c.args.words.now) taken) [
+        | inl some ↦
+            let rows = c.in_ok-matches.ensures.rows in
+            let bad : false ≡ true = sym (ap is_some none) ∙ ap (λ o. is_some (asked_by o)) rows ∙ some in cc
+        | inr on_none ↦ inr on_none
+      ]
+    ]) c.action_of.ensures.refused

@@ -1,0 +1,28 @@
+use thiserror::Error;
+
+mod command;
+mod help;
+mod parse;
+
+pub use parse::parse_words;
+
+/// What the words of the command line ask for.
+#[derive(Debug, Drop)]
+pub enum Action {
+    /// Answer the calls file of this name, or where there is none that of standard input.
+    Buffer(Option<String>),
+    /// Run the scenario file of this name on 1 to 64 workers.
+    Run { file: String, workers: u32 },
+}
+
+/// Why the words ask for nothing.
+#[derive(Debug, Drop, Error)]
+pub enum WordFault {
+    #[error("bad command line")]
+    Bad,
+    /// The words ask for help, and this is its text.
+    #[error("{0}")]
+    Help(String),
+    #[error("want of memory")]
+    NoMemory,
+}

@@ -1,0 +1,109 @@
+// The command line, as `clap` is told of it.
+ghost use Rattle.std.specs.Prelude.{◌≡◌, [], IfOk, IfErr, OnOk, false, true};
+ghost use Rattle.clap.specs.Words.{app_of, rule_of, fault_of, takes, subcommand_of, subcommand_rows_of, kind_of};
+ghost use Rattle.clap.specs.declared.Command.{out-Command as fields_of};
+ghost use Rattle.clap.specs.declared.error.ErrorKind.TheVariants.{OutOfMemory};
+ghost use Rattle.msg_command.specs.CommandLine.{file_rule, workers_rule, buffer_app, run_app, msgrun_app, texts_of};
+
+use crate::words::{WordFault, help};
+use clap::error::ErrorKind;
+use clap::{Arg, ArgAction, ArgMatches, Command};
+use std::alloc::{AllocError, Global};
+
+fn file_arg<'a>(alloc: Global, what: &'a str) -> Arg<'a>
+    ensures rule { rule_of result ≡ file_rule }
+    ensures local { result.global ≡ false }
+{
+    Arg::new(alloc, "FILE")
+        .help(what)
+        .required(true)
+        .action(ArgAction::Set)
+}
+
+fn workers_arg<'a>(alloc: Global) -> Arg<'a>
+    ensures rule { rule_of result ≡ workers_rule }
+    ensures local { result.global ≡ false }
+{
+    Arg::new(alloc, "workers")
+        .long("workers")
+        .value_name("N")
+        .help("How many workers run the systems, from 1 to 64")
+        .action(ArgAction::Set)
+        .default_value("1")
+}
+
+/// A command that tells this: what it does, and at the end of its help more of it.
+fn told<'a>(command: Command<'a>, about: &'a str, more: &'a str) -> Command<'a>
+    ensures app { app_of result ≡ app_of command.entry }
+    ensures local { (fields_of result).has_globals ≡ (fields_of command.entry).has_globals }
+{
+    command.about(about).after_help(more)
+}
+
+fn buffer_command<'a>(alloc: Global) -> Result<Command<'a>, AllocError>
+    ensures app { IfOk result (λ c. app_of c ≡ buffer_app) }
+    ensures local { IfOk result (λ c. (fields_of c).has_globals ≡ false) }
+{
+    let command = Command::new(alloc, "buffer").arg(file_arg(alloc, "The calls file"))?;
+    Ok(told(command, "Answers the calls file FILE", help::BUFFER))
+}
+
+fn run_command<'a>(alloc: Global) -> Result<Command<'a>, AllocError>
+    ensures app { IfOk result (λ c. app_of c ≡ run_app) }
+    ensures local { IfOk result (λ c. (fields_of c).has_globals ≡ false) }
+{
+    let one = Command::new(alloc, "run").arg(file_arg(alloc, "The scenario file"))?;
+    let command = one.arg(workers_arg(alloc))?;
+    Ok(told(
+        command,
+        "Runs the scenario file FILE, and reports",
+        help::RUN,
+    ))
+}
+
+fn command<'a>(alloc: Global) -> Result<Command<'a>, AllocError>
+    ensures app { IfOk result (λ c. app_of c ≡ msgrun_app) }
+    ensures local { IfOk result (λ c. (fields_of c).has_globals ≡ false) }
+{
+    let buffer = buffer_command(alloc)?;
+    let run = run_command(alloc)?;
+    let bare = Command::new(alloc, "msgrun").no_binary_name(true);
+    let bare = bare.bin_name("msgrun")?;
+    let told = told(
+        bare,
+        "Runs scenarios of message systems, and answers calls of a message buffer",
+        help::PROGRAM,
+    );
+    let one = told.subcommand(buffer)?;
+    one.subcommand(run)
+}
+
+fn fault(alloc: Global, error: clap::Error) -> WordFault
+    ensures memory { kind_of error ≡ OutOfMemory → result ≡ WordFault.NoMemory }
+{
+    match error.kind() {
+        ErrorKind::OutOfMemory => WordFault::NoMemory,
+        ErrorKind::DisplayHelp => match format!(in alloc; "{error}") {
+            Ok(text) => WordFault::Help(text),
+            Err(_) => WordFault::NoMemory,
+        },
+        _ => WordFault::Bad,
+    }
+}
+
+/// What `clap` reads of the words.
+pub(crate) fn matches<'a>(alloc: Global, words: &'a [String]) -> Result<ArgMatches<'a>, WordFault>
+    ensures rows { IfOk result (λ m.
+        subcommand_rows_of m ≡ subcommand_of msgrun_app (texts_of words.entry.now)) }
+    ensures accepted { OnOk result (fault_of msgrun_app (texts_of words.entry.now) ≡ []) }
+    ensures refused { IfErr result (λ e. takes msgrun_app (texts_of words.entry.now) ≡ true
+        → e ≡ WordFault.NoMemory) }
+{
+    let Ok(command) = command(alloc) else {
+        return Err(WordFault::NoMemory);
+    };
+    match command.try_get_matches_from(words) {
+        Ok(matches) => Ok(matches),
+        Err(error) => Err(fault(alloc, error)),
+    }
+}

@@ -1,0 +1,91 @@
+ghost use Rattle.std.specs.Prelude.{◌≡◌, ◌<◌, ◌≤◌, ◌⊎◌, [], IfSome, Some, None, true, IfOk, IfErr, OnOk, codes, string_bytes};
+ghost use Rattle.clap.specs.Words.{fault_of, takes, first_of, rows_of, found_of, subcommand_rows_of};
+ghost use Rattle.msg_command.specs.CommandLine.{msgrun_app, texts_of};
+ghost use Rattle.msg_command.specs.Asked.{IsInRange, IsRunOnNone, request_of, asked, asked_by, workers_asked, workers_in};
+
+use crate::words::command::matches;
+use crate::words::{Action, WordFault};
+use clap::ArgMatches;
+use std::alloc::Global;
+
+/// The action that the words ask for. They don't include the program's own name.
+pub fn parse_words(alloc: Global, words: &[String]) -> Result<Action, WordFault>
+    ensures accepted { OnOk result (fault_of msgrun_app (texts_of words.now) ≡ []) }
+    ensures action { IfOk result (λ a. asked (texts_of words.now) ≡ Some (request_of a)) }
+    ensures workers { IfOk result IsInRange }
+    ensures refused { IfErr result (λ fault. takes msgrun_app (texts_of words.now) ≡ true
+        → (fault ≡ WordFault.NoMemory) ⊎ IsRunOnNone (texts_of words.now)) }
+{
+    let matches = matches(alloc, words)?;
+    action_of(alloc, &matches)
+}
+
+fn action_of(alloc: Global, matches: &ArgMatches<'_>) -> Result<Action, WordFault>
+    ensures action { IfOk result (λ action.
+        asked_by (subcommand_rows_of matches.now) ≡ Some (request_of action)) }
+    ensures workers { IfOk result IsInRange }
+    ensures refused { IfErr result (λ fault.
+        (fault ≡ WordFault.NoMemory) ⊎ (asked_by (subcommand_rows_of matches.now) ≡ None)) }
+{
+    let Some((name, inner)) = matches.subcommand() else {
+        return Ok(Action::Buffer(None));
+    };
+    if name == "buffer" {
+        let file = file_of(alloc, inner)?;
+        return Ok(Action::Buffer(Some(file)));
+    }
+    if name == "run" {
+        let file = file_of(alloc, inner)?;
+        let workers = workers_of(inner)?;
+        return Ok(Action::Run { file, workers });
+    }
+    Err(WordFault::Bad)
+}
+
+#[tactic(auto, using(crate::proofs::Getters::first_value_rows, crate::proofs::Getters::no_value_rows))]
+fn file_of(alloc: Global, inner: &ArgMatches<'_>) -> Result<String, WordFault>
+    ensures text { IfOk result (λ file.
+        first_of (codes "FILE") (rows_of (found_of inner.now)) ≡ Some (string_bytes file)) }
+    ensures refused { IfErr result (λ e. (e ≡ WordFault.NoMemory)
+        ⊎ (first_of (codes "FILE") (rows_of (found_of inner.now)) ≡ None)) }
+{
+    match inner.get_str("FILE") {
+        None => Err(WordFault::Bad),
+        Some(file) => match String::from_str(alloc, file) {
+            Ok(file) => Ok(file),
+            Err(_) => Err(WordFault::NoMemory),
+        },
+    }
+}
+
+#[tactic(auto, using(crate::proofs::Getters::first_value_rows, crate::proofs::Getters::no_value_rows))]
+fn workers_of(inner: &ArgMatches<'_>) -> Result<u32, WordFault>
+    ensures number { IfOk result (λ n. workers_asked (rows_of (found_of inner.now)) ≡ Some n) }
+    ensures some { IfOk result (λ n. 0 < n) }
+    ensures at_most { IfOk result (λ n. n ≤ 64) }
+    ensures refused { IfErr result (λ e. workers_asked (rows_of (found_of inner.now)) ≡ None) }
+{
+    let Some(text) = inner.get_str("workers") else {
+        return Err(WordFault::Bad);
+    };
+    let Some(number) = workers_in(text) else {
+        return Err(WordFault::Bad);
+    };
+    Ok(number)
+}
+
+/// The number of workers that a text asks for.
+fn workers_in(text: &str) -> Option<u32>
+    ensures number { result ≡ workers_in text.now }
+    ensures some { IfSome result (λ n. 0 < n) }
+    ensures at_most { IfSome result (λ n. n ≤ 64) }
+{
+    let Ok(number) = text.parse::<u32>() else {
+        return None;
+    };
+    if 1 <= number && number <= 64 {
+        Some(number)
+    } else {
+        None
+    }
+}

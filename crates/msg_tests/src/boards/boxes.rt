@@ -1,0 +1,148 @@
+// Jobs that hold a boxed object and a shared reference to a number.
+ghost use Rattle.std.specs.Prelude.{◌≡◌, ◌+◌, ◌/◌, ◌≤◌, ℕ, length, IfOk};
+ghost use Rattle.msg_board.specs.Board.{IsIdle, HasEnded};
+
+use msg_board::{Board, NoMemory, Pass, Work};
+use std::alloc::Global;
+use std::marker::PhantomData;
+use std::test::Fail;
+use std::thread;
+use std::thread::Threads;
+
+trait Tool: Send + Drop {
+    ghost gain: { Self → ℕ → ℕ };
+
+    fn apply(&self, x: u64) -> u64
+        ensures { result ≡ gain self.now x };
+}
+
+#[derive(Drop)]
+struct Half;
+
+impl Tool for Half {
+    ghost gain = { λ _ x. x / 2 };
+
+    fn apply(&self, x: u64) -> u64 {
+        x / 2
+    }
+}
+
+#[derive(Drop)]
+struct Constant(u64);
+
+impl Tool for Constant {
+    ghost gain = { λ it _. it.0 };
+
+    fn apply(&self, _x: u64) -> u64 {
+        self.0
+    }
+}
+
+impl Tool for Box<dyn Tool> {
+    ghost gain = { λ b. (Tool-box b).gain b.value };
+
+    fn apply(&self, x: u64) -> u64 {
+        (**self).apply(x)
+    }
+}
+
+#[derive(Drop)]
+struct ToolJob<'a, T> {
+    tool: T,
+    base: &'a u64,
+}
+
+#[derive(Drop)]
+struct ToolDone<T> {
+    tool: T,
+    value: u64,
+}
+
+/// The tools' work: each is applied to the number.
+struct Tools<'a, T> {
+    marker: PhantomData<(&'a u64, T)>,
+}
+
+impl<'a, T: Tool> Work for Tools<'a, T> {
+    type Job = ToolJob<'a, T>;
+
+    type Done = ToolDone<T>;
+
+    ghost lawful = { λ j d. d.value ≡ T.gain j.tool j.base.now };
+}
+
+/// Work that a thread knows how to do.
+trait Runs: Work {
+    fn run(job: Self::Job) -> Self::Done
+        ensures { Self.lawful job result };
+}
+
+impl<'a, T: Tool> Runs for Tools<'a, T> {
+    fn run(job: ToolJob<'a, T>) -> ToolDone<T> {
+        let ToolJob { tool, base } = job;
+        let value = tool.apply(*base);
+        ToolDone { tool, value }
+    }
+}
+
+// Draws until None.
+fn work<W: Runs>(board: &Board<W>, mut pass: Pass<W::Job, W::Done>) -> Pass<W::Job, W::Done>
+    requires { IsIdle board.now pass }
+    ensures { HasEnded board.now result }
+{
+    while let Some((k, job)) = board.draw(&mut pass) {
+        board.hand_in(&mut pass, k, W::run(job));
+    }
+    pass
+}
+
+// Two passes, each in a thread of its own.
+fn run_jobs<R: Threads + Sync, W: Runs + Send>(
+    rt: &R,
+    alloc: Global,
+    jobs: Vec<W::Job>,
+) -> Result<Vec<W::Done>, NoMemory>
+    requires { length jobs.items ≤ 256 }
+{
+    let (board, passes) = Board::<W>::new(alloc, jobs, 2)?;
+    let shared = &board;
+    let each = |pass: Pass<W::Job, W::Done>| -> Pass<W::Job, W::Done>
+        requires { IsIdle shared.now pass }
+        ensures { HasEnded shared.entry.now result }
+    { work(shared, pass) };
+    let ended = thread::map_vec(rt, passes, &each)?;
+    board.close(alloc, ended)
+}
+
+// What each tool gives of the number.
+fn values<R: Threads + Sync, T: Tool>(
+    rt: &R,
+    alloc: Global,
+    base: &u64,
+    tools: Vec<T>,
+) -> Result<Vec<u64>, NoMemory>
+    requires { length tools.items ≤ 256 }
+{
+    let mut jobs = Vec::new(alloc);
+    for tool in tools {
+        jobs.push(ToolJob { tool, base })?;
+    }
+    let mut values = Vec::new(alloc);
+    for done in run_jobs::<R, Tools<T>>(rt, alloc, jobs)? {
+        values.push(done.value)?;
+    }
+    Ok(values)
+}
+
+#[test]
+fn boxes_of_two_kinds(rt: HostRuntime) -> Result<(), Fail> {
+    let mut tools: Vec<Box<dyn Tool>> = Vec::new(rt.alloc());
+    tools.push(Box::new(rt.alloc(), Half)?)?;
+    tools.push(Box::new(rt.alloc(), Constant(7))?)?;
+    tools.push(Box::new(rt.alloc(), Half)?)?;
+    let base = 20u64;
+    assert!(rt; tools.len() == 3);
+    let values = values(&rt, rt.alloc(), &base, tools)?;
+    assert_eq!(rt; values.as_slice(), [10, 7, 10].as_slice());
+    Ok(())
+}

@@ -1,0 +1,115 @@
+// A board that can't be made drops the jobs; one that can't be closed drops the results.
+ghost use Rattle.std.specs.Prelude.{◌≡◌, ◌+◌, IfOk, length};
+
+use crate::outcome::tell;
+use msg_board::{Board, Work};
+use std::alloc::{AllocError, Global};
+use std::process::Abort;
+use std::sync::atomic::{AtomicU64, Ordering};
+use std::test::Fail;
+
+/// A number that counts when it is dropped.
+struct Counted<'a> {
+    value: u64,
+    dropped: &'a AtomicU64,
+}
+
+impl<'a> Drop for Counted<'a> {
+    fn drop(self) {
+        let Self { value: _, dropped } = self;
+        dropped.fetch_add(1, Ordering::SeqCst);
+    }
+}
+
+/// The one lawful result of a job is its successor.
+struct AddOne<'a> {
+    job: Counted<'a>,
+}
+
+impl<'a> Work for AddOne<'a> {
+    type Job = Counted<'a>;
+
+    type Done = Counted<'a>;
+
+    ghost lawful = { λ j d. d.value ≡ j.value + 1 };
+}
+
+/// Three jobs, each counted as it is dropped.
+fn three_jobs<'a>(alloc: Global, dropped: &'a AtomicU64) -> Result<Vec<Counted<'a>>, AllocError>
+    ensures { IfOk result (λ jobs. length jobs.items ≡ 3) }
+{
+    let mut jobs = Vec::with_capacity(alloc, 3)?;
+    jobs.push(Counted { value: 10, dropped })?;
+    jobs.push(Counted { value: 20, dropped })?;
+    jobs.push(Counted { value: 30, dropped })?;
+    Ok(jobs)
+}
+
+/// The successor of a drawn job, which is dropped.
+fn finish<'a>(rt: &impl Abort, job: Counted<'a>, value: u64, dropped: &'a AtomicU64) -> Counted<'a>
+    ensures { result.value ≡ job.entry.value + 1 }
+{
+    assert_eq!(rt; job.value, value);
+    assert!(rt; value < 100);
+    Counted {
+        value: value + 1,
+        dropped,
+    }
+}
+
+/// What the three jobs came to.
+fn expect_successors(rt: &impl Abort, results: &[Counted]) {
+    let [first, second, third] = results else {
+        panic!(rt; "three results")
+    };
+    assert_eq!(rt; (first.value, second.value, third.value), (11, 21, 31));
+}
+
+/// Works off a board of three jobs, and says whether there was no memory for the board or for its results. The
+/// counts are of the dropped jobs and of the dropped results.
+fn is_refused(
+    rt: &impl Abort,
+    alloc: Global,
+    jobs_dropped: &AtomicU64,
+    results_dropped: &AtomicU64,
+) -> Result<bool, AllocError> {
+    let jobs = three_jobs(alloc, jobs_dropped)?;
+    let Ok((board, mut passes)) = Board::<AddOne>::new(alloc, jobs, 2) else {
+        assert_eq!(rt; jobs_dropped.load(Ordering::SeqCst), 3);
+        return Ok(true);
+    };
+    let (Some(mut b), Some(mut a)) = (passes.pop(), passes.pop()) else {
+        panic!(rt; "two passes")
+    };
+    let first = board.draw(&mut a);
+    let second = board.draw(&mut b);
+    let (Some((0, first)), Some((1, second))) = (first, second) else {
+        panic!(rt; "the first job and the second")
+    };
+    let first = finish(rt, first, 10, results_dropped);
+    let second = finish(rt, second, 20, results_dropped);
+    board.hand_in(&mut a, 0, first);
+    let Some((2, job)) = board.draw(&mut a) else {
+        panic!(rt; "the third job")
+    };
+    board.hand_in(&mut a, 2, finish(rt, job, 30, results_dropped));
+    assert!(rt; board.draw(&mut a).is_none());
+    board.hand_in(&mut b, 1, second);
+    assert!(rt; board.draw(&mut b).is_none());
+    passes.push(a)?;
+    passes.push(b)?;
+    assert_eq!(rt; results_dropped.load(Ordering::SeqCst), 0);
+    let Ok(results) = board.close(alloc, passes) else {
+        assert_eq!(rt; results_dropped.load(Ordering::SeqCst), 3);
+        return Ok(true);
+    };
+    expect_successors(rt, results.as_slice());
+    Ok(false)
+}
+
+#[test]
+fn worked_board(rt: HostRuntime) -> Result<(), Fail> {
+    let (jobs, results) = (AtomicU64::new(0), AtomicU64::new(0));
+    let is_refused = is_refused(&rt, rt.alloc(), &jobs, &results)?;
+    tell(&rt, is_refused)
+}

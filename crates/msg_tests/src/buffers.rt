@@ -1,0 +1,151 @@
+// Buffers: what calls files can't show, and the texts of refusals.
+mod out_of_memory;
+
+use msg_buffer::laws::{histories_only_grow, messages_outlive_one_update, readers_tile};
+use msg_buffer::{
+    BatchRefusal, Instance, MessageCursor, MessageId, Messages, WriteRefusal, Written,
+};
+use std::alloc::{AllocError, Global};
+use std::test::Fail;
+
+/// The numbers and values of at most `limit` unread messages.
+fn read(
+    alloc: Global,
+    cursor: &mut MessageCursor,
+    messages: &Messages<i64>,
+    limit: usize,
+) -> Result<Vec<(u64, i64)>, AllocError> {
+    let mut items = Vec::new(alloc);
+    let mut unread = cursor.read(messages);
+    for _ in 0..limit {
+        let Some((id, value)) = unread.next() else {
+            break;
+        };
+        items.push((id.0, *value))?;
+    }
+    Ok(items)
+}
+
+fn shown(alloc: Global, instances: &[Instance<i64>]) -> Result<Vec<(u64, i64)>, AllocError> {
+    let mut items = Vec::new(alloc);
+    for instance in instances {
+        items.push((instance.id.0, instance.message))?;
+    }
+    Ok(items)
+}
+
+#[test]
+fn last_number(rt: HostRuntime) -> Result<(), Fail> {
+    let mut buffer: Messages<i64> = Messages::new(rt.alloc(), 2);
+    let batch = Vec::from_slice(rt.alloc(), &[1, 2, 3])?;
+    match buffer.write_batch(batch) {
+        Err(BatchRefusal::NumbersSpent(batch)) => assert_eq!(rt;
+            batch.as_slice(),
+            [1, 2, 3].as_slice()
+        ),
+        _other => assert!(rt; false),
+    }
+    assert!(rt; buffer.write(4).is_ok());
+    assert!(rt; buffer.write(5).is_ok());
+    assert!(rt; matches!(buffer.write(6), Err(WriteRefusal::NumbersSpent(6))));
+    let none = buffer.write_batch(Vec::new(rt.alloc()));
+    assert_eq!(rt; none.ok(), Some(Written { first: 2, n: 0 }));
+    assert_eq!(rt; buffer.get(MessageId(u64::MAX)), None);
+    Ok(())
+}
+
+#[test]
+fn cursors_and_queries(rt: HostRuntime) -> Result<(), Fail> {
+    let mut buffer: Messages<i64> = Messages::new(rt.alloc(), 10);
+    assert!(rt; buffer.is_empty());
+    assert!(rt; buffer.write(1).is_ok());
+    buffer.update();
+    buffer.update();
+    let from_zero = MessageCursor::default();
+    let current = buffer.get_cursor_current();
+    assert_eq!(rt; from_zero.place(), 0);
+    assert_eq!(rt; current.place(), 1);
+    assert_eq!(rt; from_zero.missed(&buffer), 1);
+    assert_eq!(rt; current.missed(&buffer), 0);
+    assert!(rt; buffer.write(2).is_ok());
+    assert_eq!(rt; buffer.get(MessageId(0)), None);
+    assert_eq!(rt; buffer.get(MessageId(1)).copied(), Some(2));
+    assert_eq!(rt; buffer.get(MessageId(2)), None);
+    let written = shown(rt.alloc(), buffer.current())?;
+    assert_eq!(rt; written.as_slice(), [(1, 2)].as_slice());
+    assert_eq!(rt; buffer.oldest(), 1);
+    assert_eq!(rt; buffer.count(), 2);
+    assert_eq!(rt; buffer.len(), 1);
+    buffer.update();
+    assert!(rt; buffer.current().is_empty());
+    assert_eq!(rt; buffer.len(), 1);
+    Ok(())
+}
+
+#[test]
+fn cursor_past_the_count(rt: HostRuntime) -> Result<(), Fail> {
+    let mut buffer: Messages<i64> = Messages::new(rt.alloc(), 10);
+    for value in 0..3 {
+        assert!(rt; buffer.write(value).is_ok());
+    }
+    let mut cursor = buffer.get_cursor_current();
+    let fresh: Messages<i64> = Messages::new(rt.alloc(), 10);
+    assert_eq!(rt; cursor.missed(&fresh), 0);
+    assert_eq!(rt; cursor.len(&fresh), 0);
+    assert!(rt; read(rt.alloc(), &mut cursor, &fresh, 9)?.is_empty());
+    assert_eq!(rt; cursor.place(), 3);
+    cursor.clear(&fresh);
+    assert_eq!(rt; cursor.place(), 0);
+    Ok(())
+}
+
+#[test]
+fn a_walk_left_early(rt: HostRuntime) -> Result<(), Fail> {
+    let mut buffer: Messages<String> = Messages::new(rt.alloc(), 10);
+    buffer.stands_for_some();
+    for word in ["north", "east", "south", "west"] {
+        assert!(rt; buffer.write(word.to_string(rt.alloc())?).is_ok());
+    }
+    let mut cursor = buffer.get_cursor();
+    for (id, word) in cursor.read(&buffer) {
+        if word.as_str() == "east" {
+            assert_eq!(rt; id, MessageId(1));
+            break;
+        }
+    }
+    histories_only_grow::<String>();
+    messages_outlive_one_update::<String>();
+    readers_tile::<String>();
+    assert_eq!(rt; cursor.place(), 2);
+    assert_eq!(rt; cursor.read(&buffer).len(), 2);
+    for (_, word) in cursor.read(&buffer) {
+        assert!(rt; word.as_str() != "east");
+    }
+    assert_eq!(rt; cursor.place(), 4);
+    Ok(())
+}
+
+#[test]
+fn refusals_say_why(rt: HostRuntime) -> Result<(), Fail> {
+    let spent: WriteRefusal<i64> = WriteRefusal::NumbersSpent(1);
+    let refused: WriteRefusal<i64> = WriteRefusal::NoMemory(1);
+    assert_eq!(rt;
+        format!(in rt.alloc(); "{spent}")?.as_str(),
+        "no number is left"
+    );
+    assert_eq!(rt;
+        format!(in rt.alloc(); "{refused}")?.as_str(),
+        "want of memory"
+    );
+    let spent: BatchRefusal<i64> = BatchRefusal::NumbersSpent(Vec::new(rt.alloc()));
+    let refused: BatchRefusal<i64> = BatchRefusal::NoMemory(Vec::new(rt.alloc()));
+    assert_eq!(rt;
+        format!(in rt.alloc(); "{spent}")?.as_str(),
+        "too few numbers are left"
+    );
+    assert_eq!(rt;
+        format!(in rt.alloc(); "{refused}")?.as_str(),
+        "want of memory"
+    );
+    Ok(())
+}

@@ -1,0 +1,84 @@
+// Readers that give a few bytes at each read, that fail, and one that never ends.
+use msg_command::{InputFault, MAX_BYTES, read_all};
+use std::io;
+use std::io::{Error, ErrorKind, Read};
+use std::test::Fail;
+
+/// Gives so many bytes of 7, a few at each read, and then an error or the end.
+#[derive(Drop)]
+struct Drips {
+    left: usize,
+    at_once: usize,
+    fails: bool,
+}
+
+impl Read for Drips {
+    fn read(&mut self, buf: &mut [u8]) -> io::Result<usize> {
+        if self.left == 0 && self.fails {
+            return Err(Error::from(ErrorKind::Other));
+        }
+        let n = self.left.min(self.at_once).min(buf.len());
+        for byte in buf[..n].iter_mut() {
+            *byte = 7;
+        }
+        self.left -= n;
+        Ok(n)
+    }
+}
+
+/// Gives one byte at each read, and never ends.
+#[derive(Drop)]
+struct Endless;
+
+impl Read for Endless {
+    fn read(&mut self, buf: &mut [u8]) -> io::Result<usize> {
+        match buf {
+            [] => Ok(0),
+            [first, ..] => {
+                *first = 7;
+                Ok(1)
+            }
+        }
+    }
+}
+
+#[test]
+fn whole_inputs(rt: HostRuntime) -> Result<(), Fail> {
+    for (left, at_once) in [(0, 1), (5, 2), (MAX_BYTES, 1), (MAX_BYTES, 4096)] {
+        let mut input = Drips {
+            left,
+            at_once,
+            fails: false,
+        };
+        let all = read_all(rt.alloc(), &mut input)?;
+        assert_eq!(rt; all.len(), left);
+        assert!(rt; all.iter().all(|byte| *byte == 7));
+    }
+    let mut text = b"{\"limit\":1}".as_slice();
+    let all = read_all(rt.alloc(), &mut text)?;
+    let want = b"{\"limit\":1}";
+    assert_eq!(rt; all.as_slice(), want.as_slice());
+    Ok(())
+}
+
+#[test]
+fn faults(rt: HostRuntime) {
+    for (left, at_once, fails, want) in [
+        (3, 1, true, InputFault::Failed),
+        (0, 1, true, InputFault::Failed),
+        (MAX_BYTES, 4096, true, InputFault::Failed),
+        (MAX_BYTES + 1, 1, false, InputFault::TooLarge),
+        (MAX_BYTES + 1, 4096, true, InputFault::TooLarge),
+    ] {
+        let mut input = Drips {
+            left,
+            at_once,
+            fails,
+        };
+        assert_eq!(rt; read_all(rt.alloc(), &mut input).err(), Some(want));
+    }
+    assert_eq!(rt;
+        read_all(rt.alloc(), &mut Endless).err(),
+        Some(InputFault::TooLarge)
+    );
+}

@@ -1,0 +1,136 @@
+// Plans of worked rules and accesses.
+mod out_of_memory;
+
+use msg_order::{Plan, PlanRefusal, Rule};
+use msg_world::Access;
+use std::alloc::AllocError;
+
+pub fn uses(read_types: u64, write_types: u64) -> Access {
+    Access {
+        read_types,
+        write_types,
+        ..Access::none()
+    }
+}
+
+pub fn has_batches(plan: &Plan, want: &[&[u32]]) -> bool {
+    let batches = plan.batches();
+    if batches.len() != want.len() {
+        return false;
+    }
+    for (batch, want) in batches.iter().zip(want) {
+        if batch.as_slice() != *want {
+            return false;
+        }
+    }
+    true
+}
+
+#[test]
+fn no_systems(rt: HostRuntime) {
+    let Ok(plan) = Plan::build(rt.alloc(), &[], &[], &[]) else {
+        panic!(rt; "no plan");
+    };
+    assert!(rt; has_batches(&plan, &[]));
+    assert!(rt; plan.accepts(&[]));
+    assert!(rt; !plan.accepts(&[0]));
+    assert!(rt; !plan.precedes(0, 0));
+}
+
+#[test]
+fn readers_run_side_by_side(rt: HostRuntime) {
+    let accesses = [uses(0, 1), uses(1, 0), uses(1, 0), uses(0, 1)];
+    let Ok(plan) = Plan::build(rt.alloc(), &accesses, &[], &[true; 4]) else {
+        panic!(rt; "no plan");
+    };
+    assert!(rt; has_batches(&plan, &[&[0], &[1, 2], &[3]]));
+    assert!(rt; plan.precedes(0, 3));
+    assert!(rt; !plan.precedes(1, 2));
+}
+
+#[test]
+fn a_settled_pair_leaves_the_next_no_choice(rt: HostRuntime) {
+    let rules = [Rule::before(2, 0)];
+    let Ok(plan) = Plan::build(rt.alloc(), &[uses(0, 1); 3], &rules, &[true; 3]) else {
+        panic!(rt; "no plan");
+    };
+    assert!(rt; has_batches(&plan, &[&[2], &[0], &[1]]));
+    assert!(rt; plan.precedes(2, 1));
+}
+
+#[test]
+fn rules_against_the_order_of_addition(rt: HostRuntime) {
+    let accesses = [uses(0, 1), uses(0, 2), uses(2, 0), uses(1, 0)];
+    let rules = [Rule::before(3, 1), Rule::after(0, 2)];
+    assert_eq!(rt; rules[1], Rule::before(2, 0));
+    let Ok(plan) = Plan::build(rt.alloc(), &accesses, &rules, &[true; 4]) else {
+        panic!(rt; "no plan");
+    };
+    assert!(rt; has_batches(&plan, &[&[2], &[0], &[3], &[1]]));
+    assert!(rt; plan.precedes(2, 1));
+    assert!(rt; !plan.precedes(1, 2));
+    assert!(rt; !plan.precedes(2, 300));
+    assert!(rt; plan.accepts(&[2, 0, 3, 1]));
+    assert!(rt; !plan.accepts(&[0, 2, 3, 1]));
+    assert!(rt; !plan.accepts(&[2, 0, 3]));
+    assert!(rt; !plan.accepts(&[2, 0, 3, 1, 1]));
+    assert!(rt; !plan.accepts(&[2, 0, 3, 300]));
+}
+
+#[test]
+fn a_cycle_of_rules_names_its_lowest_system(rt: HostRuntime) -> Result<(), AllocError> {
+    let idle = [Access::none(); 2];
+    let around = [Rule::before(0, 1), Rule::before(1, 0)];
+    let around = Plan::build(rt.alloc(), &idle, &around, &[true; 2]);
+    assert!(rt; matches!(&around, Err(PlanRefusal::Cycle(0))));
+    let own = Plan::build(rt.alloc(), &idle, &[Rule::before(1, 1)], &[true; 2]);
+    assert!(rt; matches!(&own, Err(PlanRefusal::Cycle(1))));
+    let Err(refusal) = own else {
+        panic!(rt; "a system can't run before itself");
+    };
+    let text = format!(in rt.alloc(); "{refusal}")?;
+    assert_eq!(rt;
+        text.as_str(),
+        "the rules go round in a circle through system 1"
+    );
+    Ok(())
+}
+
+#[test]
+fn what_has_not_joined_has_no_effect(rt: HostRuntime) {
+    let idle = [Access::none(); 3];
+    let chain = [Rule::before(0, 1), Rule::before(1, 2)];
+    let own = [Rule::before(1, 1)];
+    let early = [true, false, true];
+    let Ok(plan) = Plan::build(rt.alloc(), &idle, &chain, &early) else {
+        panic!(rt; "no plan");
+    };
+    assert!(rt; has_batches(&plan, &[&[0, 2]]));
+    assert!(rt; !plan.precedes(0, 2));
+    assert!(rt; !plan.precedes(0, 1));
+    let Ok(plan) = Plan::build(rt.alloc(), &idle, &chain, &[true; 3]) else {
+        panic!(rt; "no plan");
+    };
+    assert!(rt; has_batches(&plan, &[&[0], &[1], &[2]]));
+    assert!(rt; plan.precedes(0, 2));
+    let Ok(plan) = Plan::build(rt.alloc(), &idle, &own, &early) else {
+        panic!(rt; "no plan");
+    };
+    assert!(rt; has_batches(&plan, &[&[0, 2]]));
+    let all = Plan::build(rt.alloc(), &idle, &own, &[true; 3]);
+    assert!(rt; matches!(&all, Err(PlanRefusal::Cycle(1))));
+}
+
+#[test]
+fn many_systems(rt: HostRuntime) {
+    let Ok(apart) = Plan::build(rt.alloc(), &[uses(0, 1); 256], &[], &[true; 256]) else {
+        panic!(rt; "no plan");
+    };
+    assert_eq!(rt; apart.batches().len(), 256);
+    assert!(rt; apart.precedes(0, 255));
+    let Ok(together) = Plan::build(rt.alloc(), &[uses(1, 0); 256], &[], &[true; 256]) else {
+        panic!(rt; "no plan");
+    };
+    assert_eq!(rt; together.batches().len(), 1);
+    assert!(rt; !together.precedes(0, 255));
+}

@@ -1,9 +1,0 @@
-use Rattle.std.proofs.Common.{◌≤◌, vec_len}
-use Rattle.std.specs.Io.KnownBytes.{Consumes}
-use Rattle.msgrun.specs.declared.input.TheConstants.{MAX_BYTES}
-use Rattle.msgrun.proofs.input.read_all.Given as goal
-
-abbrev pub invariant-loop : goal.invariant-loop
-invariant-loop g l =
-    Consumes (g.R.Read.remaining l.initial.input) (g.R.Read.remaining l.input) l.all.items
-    × (vec_len l.all ≤ MAX_BYTES)
