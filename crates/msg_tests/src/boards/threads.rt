@@ -21,35 +21,6 @@ fn work(board: &Board<AddOne>, mut pass: Pass<u64, u64>) -> Pass<u64, u64>
     pass
 }
 
-// Two threads, each with a pass of its own.
-fn run_two<R: Threads + Sync>(rt: &R, alloc: Global, jobs: Vec<u64>) -> Result<Vec<u64>, NoMemory>
-    requires few { length jobs.items ≤ 256 }
-    requires small { All (λ j. j < 1000) jobs.items }
-{
-    let (board, mut passes) = Board::<AddOne>::new(alloc, jobs, 2)?;
-    let Some(b) = passes.pop() else {
-        unreachable!()
-    };
-    let Some(a) = passes.pop() else {
-        unreachable!()
-    };
-    let shared = &board;
-    let (a, b) = thread::join(
-        rt,
-        move || -> Pass<u64, u64>
-            requires { IsIdle shared.now a × All (λ j. j < 1000) (jobs_of shared.now) }
-            ensures { HasEnded shared.entry.now result }
-        { work(shared, a) },
-        move || -> Pass<u64, u64>
-            requires { IsIdle shared.now b × All (λ j. j < 1000) (jobs_of shared.now) }
-            ensures { HasEnded shared.entry.now result }
-        { work(shared, b) },
-    );
-    passes.push(a)?;
-    passes.push(b)?;
-    board.close(alloc, passes)
-}
-
 // As many threads as passes.
 fn run_many<R: Threads + Sync>(
     rt: &R,
@@ -95,7 +66,7 @@ fn are_successors(results: &[u64], n: usize) -> bool {
 #[test]
 fn two_threads_draw_a_hundred_jobs(rt: HostRuntime) -> Result<(), Fail> {
     let jobs = numbers(rt.alloc(), 100)?;
-    let results = run_two(&rt, rt.alloc(), jobs)?;
+    let results = run_many(&rt, rt.alloc(), jobs, 2)?;
     assert!(rt; are_successors(results.as_slice(), 100));
     Ok(())
 }

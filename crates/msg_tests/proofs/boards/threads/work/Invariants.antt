@@ -1,6 +1,6 @@
 use Rattle.std.proofs.Common.{◌-◌, length}
 use Rattle.msg_board.specs.Board.{jobs_of, IsIdle}
-use Rattle.msg_board.proofs.tests.threads.work.Given as goal
+use Rattle.msg_tests.proofs.boards.threads.work.Given as goal
 
 abbrev pub invariant-loop-k : goal.invariant-loop-k
 invariant-loop-k l = IsIdle l.board l.pass

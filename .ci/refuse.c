@@ -1,0 +1,54 @@
+// Refuses one request for memory of the program that loads this library: the one whose number the variable REFUSED
+// gives, counted from 1. Only requests of the program's own code count, and none of the C library. Where the request
+// is made, the file that REFUSED_MARK names is made too.
+#define _GNU_SOURCE
+#include <fcntl.h>
+#include <link.h>
+#include <stdatomic.h>
+#include <stdlib.h>
+#include <unistd.h>
+
+static atomic_long made;
+static long refused;
+static const char *mark;
+static char *first, *last;
+
+// The first program is the one that was started: its code lies from `first` to `last`.
+static int find_code(struct dl_phdr_info *program, size_t size, void *data) {
+    (void)size;
+    (void)data;
+    for (int i = 0; i < program->dlpi_phnum; i++) {
+        const ElfW(Phdr) *part = &program->dlpi_phdr[i];
+        if (part->p_type == PT_LOAD && (part->p_flags & PF_X)) {
+            first = (char *)program->dlpi_addr + part->p_vaddr;
+            last = first + part->p_memsz;
+        }
+    }
+    return 1;
+}
+
+__attribute__((constructor)) static void begin(void) {
+    const char *number = getenv("REFUSED");
+    refused = number ? atol(number) : 0;
+    mark = getenv("REFUSED_MARK");
+    dl_iterate_phdr(find_code, NULL);
+}
+
+static int is_refused(char *caller) {
+    if (caller < first || last <= caller || atomic_fetch_add(&made, 1) + 1 != refused)
+        return 0;
+    if (mark)
+        close(open(mark, O_CREAT | O_WRONLY, 0600));
+    return 1;
+}
+
+extern void *__libc_malloc(size_t);
+extern void *__libc_realloc(void *, size_t);
+
+void *malloc(size_t size) {
+    return is_refused(__builtin_return_address(0)) ? NULL : __libc_malloc(size);
+}
+
+void *realloc(void *old, size_t size) {
+    return is_refused(__builtin_return_address(0)) ? NULL : __libc_realloc(old, size);
+}
