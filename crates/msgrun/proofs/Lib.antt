@@ -2,6 +2,5 @@ pub mod Getters
 pub mod Numerals
 pub mod Printed
 pub mod Rows
-pub mod Systems
 pub mod Taken
 pub mod Whole

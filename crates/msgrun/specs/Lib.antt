@@ -2,5 +2,4 @@ pub mod Asked
 pub mod CommandLine
 pub mod Faults
 pub mod Inputs
-pub mod Making
 pub mod Ran
