@@ -4,6 +4,7 @@ pub mod Checks
 pub mod Cursors
 pub mod Denotes
 pub mod Json
+pub mod Making
 pub mod Names
 pub mod Reading
 pub mod ReportText

@@ -54,6 +54,3 @@ impl Calls {
         self.calls.as_slice()
     }
 }
-
-#[cfg(test)]
-mod tests;

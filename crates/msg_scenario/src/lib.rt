@@ -1,24 +1,22 @@
 //! Files of calls and of scenarios: reading them, and printing their answers.
 #![tactic(auto)]
 
+mod building;
 mod call;
 mod calls;
-#[cfg(test)]
-mod fakes;
 mod kind;
 mod memory_sink;
 mod name;
 mod numbers;
 mod numerals;
 mod refusal;
-#[cfg(test)]
-mod refusals;
 mod report_fault;
 mod reports;
 mod scenario;
 mod sink;
 mod std_sink;
 
+pub use building::engine_of;
 pub use call::Call;
 pub use calls::{Calls, read_calls, run_calls};
 pub use kind::Kind;

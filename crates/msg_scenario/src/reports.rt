@@ -8,6 +8,3 @@ mod reply;
 mod run;
 
 pub use run::report;
-
-#[cfg(test)]
-pub mod tests;

@@ -4,8 +4,6 @@ use msg_order::Rule;
 use msg_system::Program;
 
 mod read;
-#[cfg(test)]
-mod tests;
 
 pub use read::read_scenario;
 

@@ -42,6 +42,3 @@ pub fn put_all<S: Sink>(sink: &mut S, piece: &[u8]) -> Result<(), PutFault>
     }
     Ok(())
 }
-
-#[cfg(test)]
-mod tests;

@@ -5,19 +5,16 @@ ghost use Rattle.msg_exec.specs.Building.{EachIs};
 ghost use Rattle.msg_scenario.specs.Reported.{HasPrinted};
 ghost use Rattle.msg_scenario.specs.Runnable.{IsRunnable};
 ghost use Rattle.msg_scenario.specs.Sinks.{one_more};
-ghost use Rattle.msgrun.specs.Making.{IsSystemAt};
+ghost use Rattle.msg_scenario.specs.Making.{IsSystemAt};
 ghost use Rattle.msgrun.specs.Ran.{IsReported};
 
-use crate::building::{add, engine_of, relay_of, scripted_of, tally_of};
+use crate::building::{add, relay_of, scripted_of, tally_of};
 use crate::fault::MainFault;
 use msg_exec::{NoGate, NoMemory, Workers};
-use msg_scenario::{Kind, ReportFault, Scenario, Sink, report};
+use msg_scenario::{Kind, ReportFault, Scenario, Sink, engine_of, report};
 use msg_system::System;
 use std::alloc::Global;
 use std::thread::Threads;
-
-#[cfg(test)]
-mod tests;
 
 /// Puts each system of a scenario into a box of its kind, runs the frames, and puts the report into
 /// the sink, each frame's text before the next frame is run.

@@ -69,6 +69,3 @@ fn run_call<S: Sink>(
         Err(_) => Err(ReportFault::Write),
     }
 }
-
-#[cfg(test)]
-mod tests;

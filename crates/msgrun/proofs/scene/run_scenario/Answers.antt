@@ -1,5 +1,5 @@
 use Rattle.msgrun.proofs.Printed.{none_after}
-use Rattle.msgrun.proofs.Systems.{found_at}
+use Rattle.msg_scenario.proofs.Making.{found_at}
 use Rattle.msgrun.proofs.scene.run_scenario.Goals as goal
 
 pub returns-in_err-system-in-Script-clause-prefix : goal.returns-in_err-system-in-Script-clause-prefix

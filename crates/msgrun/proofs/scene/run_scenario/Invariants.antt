@@ -1,6 +1,6 @@
 use Rattle.std.proofs.Common.{◌≡◌, length}
 use Rattle.msg_exec.specs.Building.{EachIs}
-use Rattle.msgrun.specs.Making.{IsSystemAt}
+use Rattle.msg_scenario.specs.Making.{IsSystemAt}
 use Rattle.msgrun.proofs.scene.run_scenario.OwnLists.{own-1}
 use Rattle.msgrun.proofs.scene.run_scenario.Given as goal
 

@@ -1,0 +1,19 @@
+use Rattle.std.proofs.Common.{◌∙◌, false, subst, sym, true}
+use Rattle.msg_world.specs.Parts.{PartsStand}
+use Rattle.msg_scenario.specs.Runnable.{first_world}
+use Rattle.msg_scenario.proofs.Making.{stands_held, stands_unheld}
+use Rattle.msg_scenario.proofs.building.world_of.Goals as goal
+use Rattle.msg_scenario.proofs.building.world_of.Goals.{then-scenario, else-scenario}
+
+pub returns-clause-meaning : goal.returns-clause-meaning
+returns-clause-meaning c =
+    let s = c.args.scenario.now in
+    let made = stands_unheld s c.in_ok-world.world c.deref.result.now c.deref-2.result.now
+    (c.deref.ensures.value ∙ c.in_ok-limits.ensures.limits) (c.deref-2.ensures.value ∙ c.in_ok-values.ensures.values)
+    c.in_ok-world.ensures.meaning in
+    elim c.if-scenario.branch [
+      | then-scenario w ↦ subst (λ x. PartsStand x (first_world s)) (sym w.world-is)
+          (stands_held s _ true w.if-scenario.true (w.set_held.ensures.meaning _ made))
+      | else-scenario w ↦ subst (λ x. PartsStand x (first_world s)) (sym w.world-is)
+          (stands_held s _ false w.if-scenario.false made)
+    ]

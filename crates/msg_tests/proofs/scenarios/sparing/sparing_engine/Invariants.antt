@@ -1,0 +1,11 @@
+use Rattle.std.proofs.Common.{◌≡◌, length}
+use Rattle.msg_exec.specs.Building.{EachIs}
+use Rattle.msg_scenario.specs.Making.{IsSystemAt}
+use Rattle.msg_tests.specs.contracts.scenarios.sparing.SparingSystem.TheImpl.{meaning-value}
+use Rattle.msg_tests.proofs.scenarios.sparing.sparing_engine.Given as goal
+
+abbrev pub invariant-loop-spec : goal.invariant-loop-spec
+invariant-loop-spec l = record {
+  as_many : length l.systems.items ≡ l.spec-index;
+  each : EachIs (IsSystemAt meaning-value.it l.specs) l.systems.items;
+}

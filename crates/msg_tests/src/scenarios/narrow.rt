@@ -1,0 +1,61 @@
+// A sink that takes little, or fails.
+ghost use Rattle.std.specs.Prelude.{None};
+
+use msg_scenario::{MemorySink, PutFault, Sink};
+
+/// Takes at most so many bytes at each put and so many in all, and then fails, by an error or by
+/// taking 0.
+#[derive(Drop)]
+pub struct Narrow {
+    taken: MemorySink,
+    at_once: usize,
+    left: usize,
+    answers_zero: bool,
+    failed: u64,
+}
+
+impl Narrow {
+    pub fn new(at_once: usize, left: usize, answers_zero: bool) -> Narrow {
+        Narrow {
+            taken: MemorySink::new(),
+            at_once,
+            left,
+            answers_zero,
+            failed: 0,
+        }
+    }
+
+    /// The bytes that were taken.
+    pub fn taken(&self) -> &[u8] {
+        self.taken.bytes()
+    }
+
+    /// How often a put failed.
+    pub fn failures(&self) -> u64 {
+        self.failed
+    }
+}
+
+impl Sink for Narrow {
+    ghost contents = { λ _. None };
+
+    ghost failures = { λ s. s.failed };
+
+    fn put(&mut self, piece: &[u8]) -> Result<usize, PutFault> {
+        if piece.is_empty() {
+            return Ok(0);
+        }
+        let n = piece.len().min(self.at_once).min(self.left);
+        let put = self.taken.put(&piece[..n]);
+        if n > 0 && put == Ok(n) {
+            self.left -= n;
+            return Ok(n);
+        }
+        self.failed = self.failed.saturating_add(1);
+        if self.answers_zero {
+            Ok(0)
+        } else {
+            Err(PutFault)
+        }
+    }
+}

@@ -1,0 +1,101 @@
+// Scripts that may come to want of memory, and the engine of a scenario over them.
+ghost use Rattle.std.specs.Prelude.{◌≡◌, ◌≤◌, ◌+◌, Some, IfOk, OnOk, length, slice_get};
+ghost use Rattle.msg_system.specs.Systems.{new_system};
+ghost use Rattle.msg_exec.specs.Building.{EachIs};
+ghost use Rattle.msg_exec.specs.Engines.{StandsFor};
+ghost use Rattle.msg_scenario.specs.Making.{IsSystemAt};
+ghost use Rattle.msg_scenario.specs.Runnable.{IsRunnable, state_of};
+
+use msg_exec::EngineOf;
+use msg_scenario::{Scenario, SystemSpec, engine_of};
+use msg_system::{Access, NoMemory, Reply, Scripted, Start, System};
+use msg_world::{Counts, Lent, Taken, TypeNo};
+use std::alloc::Global;
+
+/// A script that has memory for so many runs.
+#[derive(Drop)]
+pub struct Sparing {
+    script: Scripted,
+    runs: u32,
+}
+
+impl Sparing {
+    fn new(spec: &SystemSpec, alloc: Global, writer: u32, runs: u32) -> Result<Sparing, NoMemory>
+        requires few { length spec.now.program.ops ≤ 64 }
+        ensures new { IfOk result (λ s. ⟦<Sparing as System>⟧.meaning s
+            ≡ new_system spec.now.program writer) }
+    {
+        let script = Scripted::new(spec.program.copy(alloc)?, writer);
+        Ok(Sparing { script, runs })
+    }
+}
+
+impl System for Sparing {
+    ghost meaning = { λ s. ⟦<Scripted as System>⟧.meaning s.script };
+
+    fn access(&self) -> Access {
+        self.script.access()
+    }
+
+    fn read_type(&self, op: u32) -> Option<TypeNo> {
+        self.script.read_type(op)
+    }
+
+    fn begins(&self) -> Start {
+        self.script.begins()
+    }
+
+    fn start(&mut self, counts: &Counts) {
+        self.script.start(counts);
+    }
+
+    fn run(&mut self, alloc: Global, lent: Lent, out: &mut Vec<Reply>) -> Result<Taken, NoMemory> {
+        if self.runs == 0 {
+            return Err(NoMemory);
+        }
+        self.runs -= 1;
+        self.script.run(alloc, lent, out)
+    }
+}
+
+/// Adds the system of the spec that is next. The specs are there for the contract alone.
+#[tactic(auto, using(msg_scenario::proofs::Making::is_system_at))]
+fn add(
+    specs: &[SystemSpec],
+    spec: &SystemSpec,
+    systems: &mut Vec<Sparing>,
+    system: Sparing,
+) -> Result<(), NoMemory>
+    requires so_far { EachIs (IsSystemAt ⟦<Sparing as System>⟧.meaning specs.now) systems.old.items }
+    requires next { slice_get specs.now (length systems.old.items) ≡ Some spec.now }
+    requires its { ⟦<Sparing as System>⟧.meaning system
+        ≡ new_system spec.now.program (length systems.old.items) }
+    ensures so_far { OnOk result
+        (EachIs (IsSystemAt ⟦<Sparing as System>⟧.meaning specs.now) systems.new.items) }
+    ensures one_more { OnOk result (length systems.new.items ≡ length systems.old.items + 1) }
+{
+    let _ = specs;
+    let _ = spec;
+    systems.push(system)?;
+    Ok(())
+}
+
+/// An engine of the scenario; each of its systems has memory for so many runs.
+pub fn sparing_engine(
+    alloc: Global,
+    scenario: &Scenario,
+    runs: u32,
+) -> Result<EngineOf<Sparing>, NoMemory>
+    requires runnable { IsRunnable scenario.now }
+    ensures stands { IfOk result (λ e.
+        StandsFor ⟦<Sparing as System>⟧.meaning e (state_of scenario.now)) }
+{
+    let mut systems = Vec::new(alloc);
+    let specs = scenario.systems.as_slice();
+    for spec in specs {
+        let writer = systems.len() as u32;
+        let system = Sparing::new(spec, alloc, writer, runs)?;
+        add(specs, spec, &mut systems, system)?;
+    }
+    engine_of(alloc, scenario, systems)
+}
