@@ -18,9 +18,6 @@ module _ {X : Type 0} where
     | inr last ↦ subst (λ k. Q k x) (sym last.0) (subst (Q (length xs)) last.1 here)
   ]
 
-  pub none_yet : (P : ℕ → X → Type 0) → EachIs P []
-  none_yet P i x is = absurd (none-some x is)
-
 -- the item that was read is the one that is there
 pub read_is : {X : Type 0} (xs : List X) (i : ℕ) (r x : X) → i < length xs → r ≡ get_or xs i r → slice_get xs i ≡ Some x → r ≡ x
 read_is xs i r x lt is there = is ∙ get_or_from_slice_get xs i x r there

@@ -23,8 +23,6 @@ mod replay;
 mod runs;
 mod side_by_side;
 mod stage;
-#[cfg(test)]
-mod tests;
 mod totals;
 mod workers;
 

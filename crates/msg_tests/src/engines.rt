@@ -1,1 +1,12 @@
-// Tests of engines.
+// Tests of engines: that their calls succeed, how many threads run a batch, what stands after want of memory, and
+// that a frame is meant as it is defined.
+mod cases;
+mod expecting;
+mod frames;
+mod gates;
+mod making;
+mod new_engines;
+mod noting;
+mod out_of_memory;
+mod replay;
+mod spoiled;

@@ -1,8 +1,0 @@
-use Rattle.std.proofs.Common.{◌≡◌}
-use Rattle.msg_system.specs.Systems.{new_system}
-use Rattle.msg_exec.specs.Building.{EachIs}
-use Rattle.msg_exec.specs.contracts.tests.replay.NotingSystem.TheImpl.{meaning-value}
-use Rattle.msg_exec.proofs.tests.replay.engine_of.Given as goal
-
-abbrev pub invariant-loop-op : goal.invariant-loop-op
-invariant-loop-op g l = EachIs (λ i x. meaning-value.it x ≡ new_system (meaning-value.it x).program i) l.systems.items

@@ -1,0 +1,85 @@
+// Where systems of a new engine start, engines that there aren't, and how many workers there may be.
+use super::expecting::{expect_log, posted, read};
+use super::making::{add, engine_of, places, quiet, run_frame, script, scripts, start};
+use crate::numbers::type_no;
+use msg_exec::{BuildRefusal, NoGate, Workers};
+use msg_order::Rule;
+use msg_system::{Op, Start};
+use msg_world::World;
+use std::alloc::Global;
+use std::process::Abort;
+use std::test::Fail;
+use std::thread::Threads;
+
+/// The first read of a system that starts here, in a world that had a message before the engine was made.
+fn expect_first_read<R: Threads + Sync + Abort>(
+    rt: &R,
+    alloc: Global,
+    start_at: Start,
+) -> Result<(), Fail> {
+    let t = type_no(rt, 0);
+    let mut world = World::new(alloc, &[10], &[])?;
+    assert!(rt; world.messages(t).is_some());
+    assert!(rt; world.post(t, 5).is_ok());
+    let systems = scripts(rt, alloc, &[Op::Read(t, None)], start_at)?;
+    let mut engine = start(
+        rt,
+        alloc,
+        world,
+        systems,
+        places(alloc, 1, 1)?,
+        Vec::new(alloc),
+    )?;
+    let log = run_frame(rt, &mut engine, &quiet(alloc), 1, &NoGate)?;
+    match start_at {
+        Start::Zero => expect_log(rt, &log, &[], &[read(0, 0, &[posted(5)])]),
+        Start::Current => expect_log(rt, &log, &[], &[read(0, 1, &[])]),
+    }
+    Ok(())
+}
+
+#[test]
+fn starts_in_a_world_with_a_message(rt: HostRuntime) -> Result<(), Fail> {
+    expect_first_read(&rt, rt.alloc(), Start::Zero)?;
+    expect_first_read(&rt, rt.alloc(), Start::Current)
+}
+
+#[test]
+fn cycles(rt: HostRuntime) -> Result<(), Fail> {
+    let (alloc, t) = (rt.alloc(), type_no(&rt, 0));
+    let ops = [Op::Read(t, None), Op::Read(t, None)];
+    let there_and_back = [Rule::before(0, 1), Rule::before(1, 0)];
+    let refused = engine_of(&rt, alloc, &[10], &ops, &there_and_back)?;
+    assert!(rt; matches!(refused, Err(BuildRefusal::Cycle(0))));
+    let refused = engine_of(&rt, alloc, &[10], &ops, &[Rule::before(1, 1)])?;
+    assert!(rt; matches!(refused, Err(BuildRefusal::Cycle(1))));
+    Ok(())
+}
+
+#[test]
+fn clash_before_cycle(rt: HostRuntime) -> Result<(), Fail> {
+    let (alloc, t) = (rt.alloc(), type_no(&rt, 0));
+    let itself = vec![in alloc; Rule::before(0, 0)]?;
+    let ops = vec![in alloc; Op::Read(t, None), Op::Write(t, 1)]?;
+    let mut systems = Vec::new(alloc);
+    add(&mut systems, script(&rt, ops, Start::Zero, 0))?;
+    let world = World::new(alloc, &[10], &[])?;
+    let refused = start(&rt, alloc, world, systems, places(alloc, 1, 1)?, itself);
+    assert!(rt; matches!(refused, Err(BuildRefusal::Clash(0))));
+    let refused = engine_of(
+        &rt,
+        alloc,
+        &[10],
+        &[Op::Read(t, None)],
+        &[Rule::before(0, 0)],
+    )?;
+    assert!(rt; matches!(refused, Err(BuildRefusal::Cycle(0))));
+    Ok(())
+}
+
+#[test]
+fn workers(rt: HostRuntime) {
+    for (number, is_there) in [(0, false), (1, true), (64, true), (65, false)] {
+        assert_eq!(rt; Workers::new(number).is_some(), is_there, "{number}");
+    }
+}

@@ -1,0 +1,101 @@
+// An engine that is spoiled.
+ghost use Rattle.msg_exec.specs.Engines.{IsEngine};
+
+use super::making::{add, places, quiet, replay, run_frame, run_frames, script, start};
+use crate::numbers::type_no;
+use msg_exec::{Engine, EngineOf, NoGate, RunFault};
+use msg_system::{Access, NoMemory, Op, Reply, Scripted, Start, System};
+use msg_world::{Counts, Lent, Taken, TypeNo, World};
+use std::alloc::Global;
+use std::process::Abort;
+use std::test::Fail;
+use std::thread::Threads;
+
+/// A script that has no memory from its second run on.
+#[derive(Drop)]
+struct Failing {
+    script: Scripted,
+    has_run: bool,
+}
+
+impl System for Failing {
+    ghost meaning = { λ s. ⟦<Scripted as System>⟧.meaning s.script };
+
+    fn access(&self) -> Access {
+        self.script.access()
+    }
+
+    fn read_type(&self, op: u32) -> Option<TypeNo> {
+        self.script.read_type(op)
+    }
+
+    fn begins(&self) -> Start {
+        self.script.begins()
+    }
+
+    fn start(&mut self, counts: &Counts) {
+        self.script.start(counts);
+    }
+
+    fn run(&mut self, alloc: Global, lent: Lent, out: &mut Vec<Reply>) -> Result<Taken, NoMemory> {
+        if self.has_run {
+            return Err(NoMemory);
+        }
+        self.has_run = true;
+        self.script.run(alloc, lent, out)
+    }
+}
+
+/// Every call answers so of an engine that is spoiled after so many frames.
+pub fn expect_spoiled<R: Threads + Sync + Abort, S: System>(
+    rt: &R,
+    alloc: Global,
+    engine: &mut EngineOf<S>,
+    frames_run: u32,
+)
+    requires engine { IsEngine S.meaning engine.old }
+{
+    let frames = [quiet(alloc)];
+    let log = run_frame(rt, engine, &frames[0], 1, &NoGate);
+    assert!(rt; matches!(log, Err(RunFault::Spoiled)));
+    let mut logs = Vec::new(alloc);
+    let ran = run_frames(rt, engine, &frames, 1, &NoGate, &mut logs);
+    assert_eq!(rt; ran, Err(RunFault::Spoiled));
+    assert!(rt; logs.is_empty());
+    let log = replay(rt, engine, &frames[0], &[0, 1]);
+    assert!(rt; matches!(log, Err(RunFault::Spoiled)));
+    assert!(rt; matches!(engine.accounts(), Err(RunFault::Spoiled)));
+    assert!(rt; engine.world().is_none());
+    assert_eq!(rt; engine.frames_run(), frames_run);
+}
+
+/// An engine of one failing reader.
+fn failing_engine(rt: &impl Abort, alloc: Global) -> Result<Engine, Fail>
+    ensures engine { IfOk result (IsEngine ⟦<Box<dyn System> as System>⟧.meaning) }
+{
+    let ops = vec![in alloc; Op::Read(type_no(rt, 0), None)]?;
+    let failing = Failing {
+        script: script(rt, ops, Start::Zero, 0),
+        has_run: false,
+    };
+    let mut systems: Vec<Box<dyn System>> = Vec::new(alloc);
+    add(&mut systems, Box::new(alloc, failing)?)?;
+    let world = World::new(alloc, &[10], &[])?;
+    let places = places(alloc, 1, 1)?;
+    Ok(start(rt, alloc, world, systems, places, Vec::new(alloc))?)
+}
+
+/// The second frame has no memory, on so many workers; the engine is spoiled by it.
+#[test]
+fn spoiled(rt: HostRuntime) -> Result<(), Fail> {
+    let frame = quiet(rt.alloc());
+    for number in [1, 2, 7, 64] {
+        let mut engine = failing_engine(&rt, rt.alloc())?;
+        let first = run_frame(&rt, &mut engine, &frame, number, &NoGate);
+        assert!(rt; first.is_ok(), "{number}");
+        let second = run_frame(&rt, &mut engine, &frame, number, &NoGate);
+        assert!(rt; matches!(second, Err(RunFault::NoMemory)), "{number}");
+        expect_spoiled(&rt, rt.alloc(), &mut engine, 1);
+    }
+    Ok(())
+}
