@@ -28,7 +28,7 @@ pub type Engine = EngineOf<Box<dyn System>>;
 impl<S: System> EngineOf<S> {
     ghost use Rattle.std.specs.Prelude.{◌≡◌, ◌-◌, ◌^◌, ◌+◌, ◌↔◌, All, min, IfOk, OnOk, Err, Ok};
     ghost use Rattle.std.specs.Option.{option_copied};
-    ghost use Rattle.msg_exec.specs.declared.refusals.RunFault.TheVariants.{BadOrder, NoMemory, Spoiled};
+    ghost use Rattle.msg_system.specs.declared.run_fault.RunFault.TheVariants.{BadOrder, NoMemory, Spoiled};
     ghost use Rattle.std.specs.Prelude.{◌≤◌, IfErr, Some, length, map};
     ghost use Rattle.msg_world.specs.Parts.{IsWhole, PartsStand};
     ghost use Rattle.msg_world.specs.World.{WorldState};

@@ -25,16 +25,3 @@ impl From<NoMemory> for BuildRefusal {
         BuildRefusal::NoMemory
     }
 }
-
-/// Why a frame wasn't run, or why there are no accounts.
-#[derive(Clone, Copy, Debug, PartialEq, Eq, Error)]
-pub enum RunFault {
-    /// A frame ended for want of memory before.
-    #[error("the engine is spoiled")]
-    Spoiled,
-    /// A frame was to be replayed in an order that isn't lawful for it.
-    #[error("the order isn't lawful")]
-    BadOrder,
-    #[error("want of memory")]
-    NoMemory,
-}

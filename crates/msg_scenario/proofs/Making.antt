@@ -14,11 +14,11 @@ use Rattle.msg_system.specs.Systems.{Meaning, new_system}
 use Rattle.msg_order.specs.Graph.{IsAcyclic, IsLowestOnCycle}
 use Rattle.msg_exec.specs.declared.place.Place.{Place}
 use Rattle.msg_exec.specs.Building.{EachIs, HasClash, IsLowestClash, MayBeAdded, all_rules}
-use Rattle.msg_scenario.specs.declared.scenario.Scenario.{Scenario}
-use Rattle.msg_scenario.specs.declared.scenario.SystemSpec.{SystemSpec}
-use Rattle.msg_scenario.specs.Runnable.{HasPart, IsRunnable, IsRunnableSystem, first_world, places_of, state_of, systems_of}
+use Rattle.msg_reading.specs.declared.scenario.Scenario.{Scenario}
+use Rattle.msg_reading.specs.declared.scenario.SystemSpec.{SystemSpec}
+use Rattle.msg_reading.specs.Runnable.{HasPart, IsRunnable, IsRunnableSystem, first_world, places_of, state_of, systems_of}
 use Rattle.msg_scenario.specs.Making.{IsSystemAt}
-use Rattle.msg_scenario.proofs.There.{some_same}
+use Rattle.msg_reading.proofs.There.{some_same}
 
 -- what holds of all of a list holds of what is found in it
 all_at : {X : Type 0} (P : X → Type 0) (xs : List X) (i : ℕ) (x : X) → All P xs → slice_get xs i ≡ Some x → P x

@@ -3,7 +3,7 @@ use Rattle.std.proofs.Common.{◌≡◌, ℕ, ◌+◌, ◌<◌, List, [], ◌∷
 use Rattle.msg_exec.specs.declared.frame.Frame.{Frame}
 use Rattle.msg_exec.specs.declared.log.Log.{Log}
 use Rattle.msg_scenario.specs.ReportText.{frame_text, frames_text}
-use Rattle.msg_scenario.specs.declared.scenario.Scenario.{Scenario}
+use Rattle.msg_reading.specs.declared.scenario.Scenario.{Scenario}
 
 -- before any frame nothing is printed
 pub frames_text-none : (s : Scenario) (number : ℕ) (frames : List Frame) → frames_text s number frames [] ≡ []

@@ -17,15 +17,15 @@ use Rattle.msg_exec.specs.declared.engine.EngineOf.{EngineOf}
 use Rattle.msg_exec.specs.declared.engine_core.Core.{Core}
 use Rattle.msg_exec.specs.declared.frame.Frame.{Frame}
 use Rattle.msg_exec.specs.declared.log.Log.{Log}
-use Rattle.msg_exec.specs.declared.refusals.RunFault.{RunFault}
-use Rattle.msg_exec.specs.declared.refusals.RunFault.TheVariants.{BadOrder, NoMemory, Spoiled}
-use Rattle.msg_scenario.specs.Json.{Text}
+use Rattle.msg_system.specs.declared.run_fault.RunFault.{RunFault}
+use Rattle.msg_system.specs.declared.run_fault.RunFault.TheVariants.{BadOrder, NoMemory, Spoiled}
+use Rattle.msg_files.specs.Json.{Text}
 use Rattle.msg_scenario.specs.ReportText.{accounts_text, frame_text, frames_text, report_text, text_so_far}
 use Rattle.msg_scenario.specs.Reported.{HasPrinted, HasReported, HasRunOut, HasStopped}
-use Rattle.msg_scenario.specs.Runnable.{PostsAreToTypes, state_of}
-use Rattle.msg_scenario.specs.Sinks.{AppendsPrefix}
-use Rattle.msg_scenario.specs.declared.scenario.Scenario.{Scenario}
-use Rattle.msg_scenario.proofs.Puts.{AppendsPrefix_after}
+use Rattle.msg_reading.specs.Runnable.{PostsAreToTypes, state_of}
+use Rattle.msg_files.specs.Sinks.{AppendsPrefix}
+use Rattle.msg_reading.specs.declared.scenario.Scenario.{Scenario}
+use Rattle.msg_files.proofs.Puts.{AppendsPrefix_after}
 use Rattle.msg_scenario.proofs.ReportFrames.{frames_text-none, frames_text_more}
 
 -- ---- texts

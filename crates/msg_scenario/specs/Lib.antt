@@ -1,17 +1,3 @@
-pub mod CallsText
-pub mod Check
-pub mod Checks
-pub mod Cursors
-pub mod Denotes
-pub mod Json
 pub mod Making
-pub mod Names
-pub mod Reading
 pub mod ReportText
 pub mod Reported
-pub mod Runnable
-pub mod Running
-pub mod ScenarioChecks
-pub mod ScenarioDenotes
-pub mod Sinks
-pub mod Walk

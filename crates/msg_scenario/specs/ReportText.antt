@@ -18,9 +18,9 @@ use Rattle.msg_exec.specs.declared.log.Log.{Log}
 use Rattle.msg_exec.specs.declared.log.Turn.{Turn}
 use Rattle.msg_exec.specs.declared.log.Outcome.{Outcome}
 use Rattle.msg_exec.specs.declared.log.Outcome.TheVariants.{Skipped, Ran}
-use Rattle.msg_scenario.specs.Json.{Text}
-use Rattle.msg_scenario.specs.declared.scenario.Scenario.{Scenario}
-use Rattle.msg_scenario.specs.declared.scenario.SystemSpec.{SystemSpec}
+use Rattle.msg_files.specs.Json.{Text}
+use Rattle.msg_reading.specs.declared.scenario.Scenario.{Scenario}
+use Rattle.msg_reading.specs.declared.scenario.SystemSpec.{SystemSpec}
 
 -- ---- names; a number that nothing has goes without one
 

@@ -9,9 +9,9 @@ use Rattle.msg_exec.specs.State.{State}
 use Rattle.msg_exec.specs.declared.engine.EngineOf.{EngineOf}
 use Rattle.msg_exec.specs.declared.log.Log.{Log}
 use Rattle.msg_scenario.specs.ReportText.{frames_text, report_text, text_so_far}
-use Rattle.msg_scenario.specs.Runnable.{state_of}
-use Rattle.msg_scenario.specs.Sinks.{AppendsAtLeast, AppendsPrefix}
-use Rattle.msg_scenario.specs.declared.scenario.Scenario.{Scenario}
+use Rattle.msg_reading.specs.Runnable.{state_of}
+use Rattle.msg_files.specs.Sinks.{AppendsAtLeast, AppendsPrefix}
+use Rattle.msg_reading.specs.declared.scenario.Scenario.{Scenario}
 
 -- the first frames of a scenario, as many as there are logs, have these logs and leave this state
 abbrev pub HasRunFirst : Scenario → List Log → State → Type 0

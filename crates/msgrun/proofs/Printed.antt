@@ -3,10 +3,10 @@ use Rattle.std.proofs.Common.{◌≡◌, ℕ, List, [], Option, Some, None, appe
 use Rattle.std.specs.Prelude.{Err, Ok, OnErr, Result}
 use Rattle.std.specs.Io.KnownBytes.{Appends}
 use Rattle.msg_exec.specs.Accounts.{accounts_of}
-use Rattle.msg_scenario.specs.declared.scenario.Scenario.{Scenario}
+use Rattle.msg_reading.specs.declared.scenario.Scenario.{Scenario}
 use Rattle.msg_scenario.specs.ReportText.{text_so_far}
 use Rattle.msg_scenario.specs.Reported.{HasPrinted}
-use Rattle.msg_scenario.specs.Runnable.{state_of}
+use Rattle.msg_reading.specs.Runnable.{state_of}
 
 nothing_appended : (known : Option (List ℕ)) → Appends known known []
 nothing_appended None = tt

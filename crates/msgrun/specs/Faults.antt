@@ -4,12 +4,12 @@ use Rattle.msg_command.specs.declared.words.WordFault.{WordFault}
 use Rattle.msg_command.specs.declared.words.WordFault.TheVariants as word
 use Rattle.msg_command.specs.declared.input.InputFault.{InputFault}
 use Rattle.msg_command.specs.declared.input.InputFault.TheVariants as input
-use Rattle.msg_scenario.specs.declared.refusal.Refusal.{Refusal}
-use Rattle.msg_scenario.specs.declared.refusal.Refusal.TheVariants as refusal
-use Rattle.msg_exec.specs.declared.refusals.RunFault.{RunFault}
-use Rattle.msg_exec.specs.declared.refusals.RunFault.TheVariants as run
-use Rattle.msg_scenario.specs.declared.report_fault.ReportFault.{ReportFault}
-use Rattle.msg_scenario.specs.declared.report_fault.ReportFault.TheVariants as report
+use Rattle.msg_files.specs.declared.refusal.Refusal.{Refusal}
+use Rattle.msg_files.specs.declared.refusal.Refusal.TheVariants as refusal
+use Rattle.msg_system.specs.declared.run_fault.RunFault.{RunFault}
+use Rattle.msg_system.specs.declared.run_fault.RunFault.TheVariants as run
+use Rattle.msg_files.specs.declared.report_fault.ReportFault.{ReportFault}
+use Rattle.msg_files.specs.declared.report_fault.ReportFault.TheVariants as report
 use Rattle.msgrun.specs.declared.fault.MainFault.{MainFault}
 use Rattle.msgrun.specs.declared.fault.MainFault.TheVariants.{Words, Input, Refused, Built, Report}
 

@@ -6,8 +6,8 @@ use Rattle.msg_exec.specs.Frames.{IsRun}
 use Rattle.msg_exec.specs.State.{State}
 use Rattle.msg_exec.specs.declared.log.Log.{Log}
 use Rattle.msg_scenario.specs.ReportText.{report_text}
-use Rattle.msg_scenario.specs.Runnable.{state_of}
-use Rattle.msg_scenario.specs.declared.scenario.Scenario.{Scenario}
+use Rattle.msg_reading.specs.Runnable.{state_of}
+use Rattle.msg_reading.specs.declared.scenario.Scenario.{Scenario}
 
 -- All frames were run, and the sink took the report of the scenario, and no more.
 pub record IsReported (s : Scenario) (before after : Option (List ℕ)) : Type 0 where

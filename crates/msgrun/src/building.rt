@@ -3,7 +3,7 @@ ghost use Rattle.std.specs.Prelude.{◌≡◌, ◌≤◌, ◌+◌, Some, IfOk, O
 ghost use Rattle.msg_system.specs.Systems.{new_system};
 ghost use Rattle.msg_exec.specs.Building.{EachIs};
 ghost use Rattle.msg_scenario.specs.Making.{IsSystemAt};
-ghost use Rattle.msg_scenario.specs.Runnable.{FitKind};
+ghost use Rattle.msg_reading.specs.Runnable.{FitKind};
 
 use msg_exec::NoMemory;
 use msg_scenario::{Kind, SystemSpec};

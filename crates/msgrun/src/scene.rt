@@ -3,8 +3,8 @@ ghost use Rattle.std.specs.Prelude.{◌≡◌, ◌≢◌, ◌⊎◌, Err, IfErr,
 ghost use Rattle.std.specs.Box.{box_value};
 ghost use Rattle.msg_exec.specs.Building.{EachIs};
 ghost use Rattle.msg_scenario.specs.Reported.{HasPrinted};
-ghost use Rattle.msg_scenario.specs.Runnable.{IsRunnable};
-ghost use Rattle.msg_scenario.specs.Sinks.{one_more};
+ghost use Rattle.msg_reading.specs.Runnable.{IsRunnable};
+ghost use Rattle.msg_files.specs.Sinks.{one_more};
 ghost use Rattle.msg_scenario.specs.Making.{IsSystemAt};
 ghost use Rattle.msgrun.specs.Ran.{IsReported};
 

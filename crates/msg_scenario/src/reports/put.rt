@@ -2,13 +2,13 @@
 ghost use Rattle.std.specs.Prelude.{◌≡◌, ◌⊎◌, Err, IfErr, OnOk, OnErr};
 ghost use Rattle.std.specs.Io.KnownBytes.{Appends};
 ghost use Rattle.msg_scenario.specs.ReportText.{accounts_text, frame_text};
-ghost use Rattle.msg_scenario.specs.Sinks.{AppendsPrefix, one_more};
+ghost use Rattle.msg_files.specs.Sinks.{AppendsPrefix, one_more};
 
 use crate::Scenario;
-use crate::report_fault::ReportFault;
+use msg_files::ReportFault;
 use crate::reports::accounts::add_accounts;
 use crate::reports::frame::add_frame;
-use crate::sink::{Sink, put_all};
+use msg_files::{Sink, put_all};
 use msg_exec::{Account, Frame, Log};
 
 /// Puts the text of a frame that had this log; it is made in `text` first.

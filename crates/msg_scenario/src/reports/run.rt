@@ -1,15 +1,15 @@
 // The report of a scenario: frame by frame, and then the readers.
 ghost use Rattle.std.specs.Prelude.{◌≡◌, ◌≢◌, ◌⊎◌, All, Err, OnOk, OnErr, IfErr};
 ghost use Rattle.msg_exec.specs.Engines.{StandsFor};
-ghost use Rattle.msg_exec.specs.declared.refusals.RunFault.TheVariants.{BadOrder, NoMemory, Spoiled};
+ghost use Rattle.msg_system.specs.declared.run_fault.RunFault.TheVariants.{BadOrder, NoMemory, Spoiled};
 ghost use Rattle.msg_scenario.specs.Reported.{HasPrinted, HasReported, HasRunOut, HasStopped};
-ghost use Rattle.msg_scenario.specs.Runnable.{PostsAreToTypes, state_of};
-ghost use Rattle.msg_scenario.specs.Sinks.{one_more};
+ghost use Rattle.msg_reading.specs.Runnable.{PostsAreToTypes, state_of};
+ghost use Rattle.msg_files.specs.Sinks.{one_more};
 
 use crate::Scenario;
-use crate::report_fault::ReportFault;
+use msg_files::ReportFault;
 use crate::reports::put::{put_accounts, put_frame};
-use crate::sink::Sink;
+use msg_files::Sink;
 use msg_exec::laws::frames_keep_programs;
 use msg_exec::{EngineOf, Gate, Workers};
 use msg_system::System;

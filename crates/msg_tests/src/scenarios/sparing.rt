@@ -4,7 +4,7 @@ ghost use Rattle.msg_system.specs.Systems.{new_system};
 ghost use Rattle.msg_exec.specs.Building.{EachIs};
 ghost use Rattle.msg_exec.specs.Engines.{StandsFor};
 ghost use Rattle.msg_scenario.specs.Making.{IsSystemAt};
-ghost use Rattle.msg_scenario.specs.Runnable.{IsRunnable, state_of};
+ghost use Rattle.msg_reading.specs.Runnable.{IsRunnable, state_of};
 
 use msg_exec::EngineOf;
 use msg_scenario::{Scenario, SystemSpec, engine_of};

@@ -1,5 +1,5 @@
 ghost use Rattle.std.specs.Prelude.{◌≡◌};
-ghost use Rattle.msg_scenario.specs.Sinks.{TakesUnlessFailed};
+ghost use Rattle.msg_files.specs.Sinks.{TakesUnlessFailed};
 ghost use Rattle.msgrun.specs.Faults.{line_of, words_line, input_line, refusal_line, run_line, report_line, status_of};
 
 use crate::fault::MainFault;

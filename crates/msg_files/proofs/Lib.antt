@@ -1,0 +1,5 @@
+pub mod Walks
+pub mod Shapes
+pub mod Lines
+pub mod Puts
+pub mod Running

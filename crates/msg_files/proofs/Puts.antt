@@ -1,0 +1,76 @@
+-- Puts one after another.
+use Rattle.std.proofs.Common.{◌≡◌, ◌≢◌, ℕ, ◌+◌, ◌-◌, List, [], ◌∷◌, ◌++◌, length, take, drop, refl, ap, ◌∙◌, sym, append_assoc, append-nil, Result, Ok, Err, Option, OnOk, OnErr, arith}
+use Rattle.std.proofs.Math.Seq.{take-add}
+use Rattle.std.proofs.lemmas.List.{take-append-drop}
+use Rattle.std.proofs.lemmas.Grind.{common_steps}
+use Rattle.std.specs.Io.KnownBytes.{Appends, Keeps}
+use Rattle.std.proofs.KnownBytes.{Appends-trans, Appends-kept}
+use Rattle.msg_files.specs.Sinks.{failures_after, AppendsPrefix}
+
+-- a put that took something is no failure
+pub failures_after_some : (E : Type 0) (k n : ℕ) (xs : List ℕ) → n ≢ 0
+    → failures_after {E = E} k (Ok n) xs ≡ k
+failures_after_some E k n [] h = refl
+failures_after_some E k n (x ∷ xs) h = grind (arith, h)
+
+-- and leaves the failures where they were
+pub failures_kept : (E : Type 0) (before old new n : ℕ) (xs : List ℕ) → new ≡ failures_after {E = E} old (Ok n) xs
+    → n ≢ 0 → old ≡ before → new ≡ before
+failures_kept E before old new n xs counts some kept = counts ∙ failures_after_some E old n xs some ∙ kept
+
+-- what is left of a piece, as a range of it
+pub rest_whole : (d : ℕ) (p : List ℕ) → take (length p - d) (drop d p) ≡ drop d p
+rest_whole d p = grind (arith, common_steps)
+
+-- more of a piece was taken
+pub Appends_more : (a b c : Option (List ℕ)) (p : List ℕ) (d n : ℕ) → Appends a b (take d p)
+    → Appends b c (take n (take (length p - d) (drop d p))) → Appends a c (take (d + n) p)
+Appends_more a b c p d n before now =
+    rw (take-add d n p, ← rest_whole d p) (Appends-trans a b c (take d p) _ before now)
+
+-- what came before, and a front of what comes next, is a front of all
+pub AppendsPrefix_after : (a b c : Option (List ℕ)) (x y z text : List ℕ) → text ≡ (x ++ y) ++ z
+    → Appends a b x → AppendsPrefix b c y → AppendsPrefix a c text
+AppendsPrefix_after a b c x y z text e p q = (
+  x ++ q.0,
+  q.1 ++ z,
+  e ∙ ap (λ l. (x ++ l) ++ z) q.2 ∙ ap (λ l. l ++ z) (sym (append_assoc x q.0 q.1))
+      ∙ append_assoc (x ++ q.0) q.1 z,
+  Appends-trans a b c x q.0 p q.3,
+)
+
+-- a put that failed leaves the front that was there
+pub AppendsPrefix_kept : (a b c : Option (List ℕ)) (p : List ℕ) (d : ℕ)
+    → Appends a b (take d p) → Keeps b c → AppendsPrefix a c p
+AppendsPrefix_kept a b c p d h k =
+    (take d p, drop d p, sym (take-append-drop d p), Appends-kept a b c (take d p) h k)
+
+-- and so does a put that took nothing
+pub AppendsPrefix_zero : (a b c : Option (List ℕ)) (p xs : List ℕ) (d n : ℕ) → n ≡ 0
+    → Appends a b (take d p) → Appends b c (take n xs) → AppendsPrefix a c p
+AppendsPrefix_zero a b c p xs d n e h k = (
+  take d p ++ take n xs,
+  drop d p,
+  sym (take-append-drop d p)
+      ∙ ap (λ l. l ++ drop d p) (sym (append-nil (take d p)) ∙ ap (λ j. take d p ++ take j xs) (sym e)),
+  Appends-trans a b c (take d p) (take n xs) h k,
+)
+
+-- what holds anyway holds of an error
+pub on_err : (E : Type 0) {T : Type 0} (r : Result T E) (P : Type 0) → P → OnErr r P
+on_err E (Ok x) P p = tt
+on_err E (Err e) P p = p
+
+-- what follows from a fact of an answer holds of it too
+pub on_ok_then : {E T : Type 0} (r : Result T E) (P Q : Type 0) → (P → Q) → OnOk r P → OnOk r Q
+on_ok_then (Ok x) P Q f p = f p
+on_ok_then (Err e) P Q f p = tt
+
+pub on_err_then : {E T : Type 0} (r : Result T E) (P Q : Type 0) → (P → Q) → OnErr r P → OnErr r Q
+on_err_then (Ok x) P Q f p = tt
+on_err_then (Err e) P Q f p = f p
+
+-- the fact of an error, where it is one
+pub of_err : {E T : Type 0} (r : Result T E) (e : E) (P : Type 0) → r ≡ Err e → OnErr r P → P
+of_err (Ok x) e P is p = cc
+of_err (Err e) f P is p = p

@@ -1,0 +1,122 @@
+-- The text that a calls file prints: a line for each call, over one history and the places of its
+-- cursors.
+use Rattle.std.specs.Prelude.{ℕ, ℤ, List, [], ◌∷◌, ◌++◌, length, slice_index, slice_set, Option, Some, None, codes, decimal, if◌then◌else◌}
+use Rattle.std.specs.Fmt.{signed_decimal}
+use Rattle.msg_buffer.specs.History.{History, clear, count, current, empty, get, has_room, oldest, present, update, write}
+use Rattle.msg_buffer.specs.Reader.{given, missed, next_place, read, unread}
+use Rattle.msg_buffer.specs.declared.Instance.{Instance}
+use Rattle.msg_files.specs.Json.{Text}
+use Rattle.msg_files.specs.Cursors.{CallsFile}
+use Rattle.msg_files.specs.declared.call.Call.{Call}
+use Rattle.msg_files.specs.declared.call.Call.TheVariants.{Write, Batch, Update, Read, Missed, Len, Clear, Cursor, CursorCurrent, Get, Current, Oldest, Count, Total, Drain, ClearAll}
+
+-- a history, and the place of each cursor in the order of their making
+pub record State : Type 0 where
+  pub history : History ℤ
+  pub places : List ℕ
+
+-- the place of a cursor
+abbrev pub place : State → ℕ → ℕ
+place s cursor = slice_index s.places cursor
+
+-- with a cursor at another place
+abbrev pub moved : State → ℕ → ℕ → State
+moved s cursor to = record s { places = slice_set s.places cursor to }
+
+-- with one cursor more
+abbrev pub with_cursor : State → ℕ → State
+with_cursor s at = record s { places = s.places ++ at ∷ [] }
+
+-- ---- parts of a line
+
+-- NUMBER=VALUE
+abbrev pub item_text : Instance ℤ → Text
+item_text x = decimal x.id.0 ++ codes "=" ++ signed_decimal x.message
+
+-- each item with a space in front
+abbrev pub more_items : List (Instance ℤ) → Text
+more_items [] = []
+more_items (x ∷ xs) = codes " " ++ item_text x ++ more_items xs
+
+-- the items with a space between two, or `none`
+abbrev pub items_text : List (Instance ℤ) → Text
+items_text [] = codes "none"
+items_text (x ∷ xs) = item_text x ++ more_items xs
+
+-- FIRST+NUMBER of so many messages, or `spent` where there is no room for them
+abbrev pub written_text : History ℤ → ℕ → Text
+written_text h number =
+    if has_room h number then decimal (count h) ++ codes "+" ++ decimal number else codes "spent"
+
+-- a message's value, or `none`
+abbrev pub value_text : Option ℤ → Text
+value_text None = codes "none"
+value_text (Some value) = signed_decimal value
+
+-- the line of a new cursor at this place
+abbrev pub cursor_line : State → ℕ → Text
+cursor_line s at =
+    codes "cursor " ++ decimal (length s.places) ++ codes " place " ++ decimal at ++ codes "\n"
+
+-- ---- the line of a call
+
+abbrev pub line : Call → State → Text
+line (Write value) s = codes "write " ++ written_text s.history 1 ++ codes "\n"
+line (Batch values) s = codes "batch " ++ written_text s.history (length values) ++ codes "\n"
+line Update s = codes "update\n"
+line (Read c limit) s =
+    codes "read " ++ decimal c ++ codes " missed " ++ decimal (missed s.history (place s c))
+    ++ codes ": " ++ items_text (given s.history (place s c) limit) ++ codes "\n"
+line (Missed c) s =
+    codes "missed " ++ decimal c ++ codes " " ++ decimal (missed s.history (place s c))
+    ++ codes "\n"
+line (Len c) s =
+    codes "len " ++ decimal c ++ codes " " ++ decimal (length (unread s.history (place s c)))
+    ++ codes "\n"
+line (Clear c) s =
+    codes "clear " ++ decimal c ++ codes " missed " ++ decimal (missed s.history (place s c))
+    ++ codes " cleared " ++ decimal (length (unread s.history (place s c))) ++ codes "\n"
+line Cursor s = cursor_line s 0
+line CursorCurrent s = cursor_line s (count s.history)
+line (Get n) s =
+    codes "get " ++ decimal n ++ codes " " ++ value_text (get s.history n) ++ codes "\n"
+line Current s = codes "current: " ++ items_text (current s.history) ++ codes "\n"
+line Oldest s = codes "oldest " ++ decimal (oldest s.history) ++ codes "\n"
+line Count s = codes "count " ++ decimal (count s.history) ++ codes "\n"
+line Total s = codes "total " ++ decimal (length (present s.history)) ++ codes "\n"
+line Drain s = codes "drain: " ++ items_text (present s.history) ++ codes "\n"
+line ClearAll s = codes "clear_all\n"
+
+-- the state after a call
+abbrev pub after : Call → State → State
+after (Write value) s = record s { history = write (value ∷ []) s.history }
+after (Batch values) s = record s { history = write values s.history }
+after Update s = record s { history = update s.history }
+after (Read c limit) s = moved s c (next_place (read s.history (place s c) limit))
+after (Missed c) s = s
+after (Len c) s = s
+after (Clear c) s = moved s c (count s.history)
+after Cursor s = with_cursor s 0
+after CursorCurrent s = with_cursor s (count s.history)
+after (Get n) s = s
+after Current s = s
+after Oldest s = s
+after Count s = s
+after Total s = s
+after Drain s = record s { history = clear s.history }
+after ClearAll s = record s { history = clear s.history }
+
+-- ---- the text of a file
+
+-- the lines of calls, one after another
+abbrev pub text_of : List Call → State → Text
+text_of [] s = []
+text_of (call ∷ calls) s = line call s ++ text_of calls (after call s)
+
+-- nothing was written, and cursor 0 is at place 0
+abbrev pub start : ℕ → State
+start limit = record { history = empty limit; places = 0 ∷ [] }
+
+-- the text of a calls file
+abbrev pub calls_text : CallsFile → Text
+calls_text file = text_of file.calls (start file.limit)

@@ -1,0 +1,148 @@
+-- The checks of a calls file in reading order, each with the refusal that it gives where it fails.
+use Rattle.std.specs.Prelude.{ℕ, ◌+◌, ◌||◌, ◌&&◌, nat_lt, nat_le, Bool, false, List, [], ◌∷◌, ◌++◌, length, map, is_some, codes, if◌then◌else◌}
+use Rattle.std.specs.List.{list_all}
+use Rattle.std.specs.Option.{option_map_or}
+use Rattle.std.specs.Str.{bytes_eq}
+use Rattle.serde_json.specs.Data.{Data, string, array}
+use Rattle.serde_json.specs.Find.{get}
+use Rattle.msg_files.specs.Json.{Text, list_of, elements, keys, value_at, is_object, is_list, is_number, whole, natural, number_below, number_up_to}
+use Rattle.msg_files.specs.Check.{Check, needs}
+use Rattle.msg_files.specs.Cursors.{made_by}
+use Rattle.msg_files.specs.Denotes.{call_of}
+use Rattle.msg_files.specs.declared.refusal.Refusal.TheVariants.{Shape, UnknownKey, BadNumber, TooMany}
+
+-- ---- parts of a call
+
+-- a JSON number
+abbrev pub a_number : Data → Check
+a_number d = needs (is_number d) Shape
+
+-- a list of JSON numbers
+abbrev pub a_list_of_numbers : Data → Check
+a_list_of_numbers d = needs (is_list d && list_all is_number (elements d)) Shape
+
+-- a value: any whole number of an i64
+abbrev pub a_value : Data → Check
+a_value d = needs (is_some (whole d)) BadNumber
+
+-- at most 1,024 values
+abbrev pub few_values : Data → Check
+few_values d = needs (nat_le (length (elements d)) 1024) TooMany
+
+-- the values of a batch
+abbrev pub batch_checks : Data → List Check
+batch_checks d = a_list_of_numbers d ∷ few_values d ∷ map a_value (elements d)
+
+-- one of the cursors that were made before
+abbrev pub a_cursor : ℕ → Data → Check
+a_cursor made d = needs (is_some (number_below made d)) BadNumber
+
+-- a limit: of a read, or of a type
+abbrev pub a_limit : Data → Check
+a_limit d = needs (is_some (number_up_to 1000000 d)) BadNumber
+
+-- the number of a message
+abbrev pub a_message_number : Data → Check
+a_message_number d = needs (is_some (natural d)) BadNumber
+
+-- no more than 64 cursors
+abbrev pub room_for_cursor : ℕ → Check
+room_for_cursor made = needs (nat_lt made 64) TooMany
+
+-- what is no call
+abbrev pub no_call : Check
+no_call = needs false Shape
+
+-- ---- calls, where so many cursors were made before: the shape of the whole, and then the parts
+-- from left to right
+
+-- a head alone
+abbrev pub bare_checks : ℕ → Text → List Check
+bare_checks made head =
+    if bytes_eq head (codes "update") then []
+    else if bytes_eq head (codes "cursor") then room_for_cursor made ∷ []
+    else if bytes_eq head (codes "cursor_current") then room_for_cursor made ∷ []
+    else if bytes_eq head (codes "current") then []
+    else if bytes_eq head (codes "oldest") then []
+    else if bytes_eq head (codes "count") then []
+    else if bytes_eq head (codes "total") then []
+    else if bytes_eq head (codes "drain") then []
+    else if bytes_eq head (codes "clear_all") then []
+    else no_call ∷ []
+
+-- a head and one part
+abbrev pub checks_with_one : ℕ → Text → Data → List Check
+checks_with_one made head d =
+    if bytes_eq head (codes "write") then a_number d ∷ a_value d ∷ []
+    else if bytes_eq head (codes "batch") then batch_checks d
+    else if bytes_eq head (codes "read") then a_number d ∷ a_cursor made d ∷ []
+    else if bytes_eq head (codes "missed") then a_number d ∷ a_cursor made d ∷ []
+    else if bytes_eq head (codes "len") then a_number d ∷ a_cursor made d ∷ []
+    else if bytes_eq head (codes "clear") then a_number d ∷ a_cursor made d ∷ []
+    else if bytes_eq head (codes "get") then a_number d ∷ a_message_number d ∷ []
+    else no_call ∷ []
+
+-- a head and two parts
+abbrev pub checks_with_two : ℕ → Text → Data → Data → List Check
+checks_with_two made head d e =
+    if bytes_eq head (codes "read")
+    then a_number d ∷ a_number e ∷ a_cursor made d ∷ a_limit e ∷ []
+    else no_call ∷ []
+
+-- a head, and what stands after it
+abbrev pub checks_with : ℕ → Text → List Data → List Check
+checks_with made head [] = bare_checks made head
+checks_with made head (d ∷ []) = checks_with_one made head d
+checks_with made head (d ∷ e ∷ []) = checks_with_two made head d e
+checks_with made head (d ∷ e ∷ f ∷ rest) = no_call ∷ []
+
+-- a list that begins with its head
+abbrev pub checks_in : ℕ → List Data → List Check
+checks_in made (string head ∷ parts) = checks_with made head parts
+checks_in made _ = no_call ∷ []
+
+-- the checks of one call
+abbrev pub call_checks : ℕ → Data → List Check
+call_checks made (array parts) = checks_in made (list_of parts)
+call_checks made _ = no_call ∷ []
+
+-- how many cursors the call makes that a value denotes
+abbrev pub cursors_in : Data → ℕ
+cursors_in d = option_map_or made_by (call_of d) 0
+
+-- the calls in order
+abbrev pub calls_checks : ℕ → List Data → List Check
+calls_checks made [] = []
+calls_checks made (d ∷ ds) = call_checks made d ++ calls_checks (made + cursors_in d) ds
+
+-- ---- the file
+
+-- the keys that there are
+abbrev pub is_known : Text → Bool
+is_known key = bytes_eq key (codes "limit") || bytes_eq key (codes "calls")
+
+-- an object with the keys `limit` and `calls`, and no others
+abbrev pub root_checks : Data → List Check
+root_checks d =
+    needs (is_object d) Shape
+    ∷ needs (list_all is_known (keys d)) UnknownKey
+    ∷ needs (is_some (get (codes "limit") d)) Shape
+    ∷ needs (is_some (get (codes "calls") d)) Shape
+    ∷ []
+
+-- a number from 0 to 1,000,000
+abbrev pub limit_checks : Data → List Check
+limit_checks d = a_number d ∷ needs (is_some (number_up_to 1000000 d)) BadNumber ∷ []
+
+-- a list of at most 10,000 calls, before which cursor 0 is there
+abbrev pub list_checks : Data → List Check
+list_checks d =
+    needs (is_list d) Shape
+    ∷ needs (nat_le (length (elements d)) 10000) TooMany
+    ∷ calls_checks 1 (elements d)
+
+-- all checks of a file
+abbrev pub checks_of : Data → List Check
+checks_of d =
+    root_checks d
+    ++ (limit_checks (value_at (codes "limit") d) ++ list_checks (value_at (codes "calls") d))

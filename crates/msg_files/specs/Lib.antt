@@ -1,0 +1,9 @@
+pub mod Json
+pub mod Sinks
+pub mod Check
+pub mod Cursors
+pub mod Checks
+pub mod Denotes
+pub mod CallsText
+pub mod Walk
+pub mod Running

@@ -1,0 +1,16 @@
+-- What the private functions of the reader promise: no public contract cites this file.
+use Rattle.std.specs.Prelude.{◌≡◌, ◌≢◌, ◌≤◌, ◌+◌, ℕ, true, List, Option, Some, None, Result, Ok, Err}
+use Rattle.msg_files.specs.Check.{Check, first_refusal}
+use Rattle.msg_files.specs.Cursors.{made_by, has_cursor}
+use Rattle.msg_files.specs.declared.call.Call.{Call}
+use Rattle.msg_files.specs.declared.refusal.Refusal.{Refusal}
+use Rattle.msg_files.specs.declared.refusal.Refusal.TheVariants.{NotJson, NoMemory}
+
+-- an answer agrees with the checks, and with what is denoted
+abbrev pub Agrees : {A : Type 0} → List Check → Option A → Result A Refusal → Type 0
+Agrees checks denoted (Ok a) = (first_refusal checks ≡ None) × (denoted ≡ Some a)
+Agrees checks denoted (Err e) = (e ≢ NotJson) × (e ≢ NoMemory → first_refusal checks ≡ Some e)
+
+-- the call works on one of the cursors that were made, and makes none past the 64th
+abbrev pub FitsCursors : ℕ → Call → Type 0
+FitsCursors made call = (has_cursor made call ≡ true) × (made ≤ 64 → made + made_by call ≤ 64)

@@ -1,0 +1,310 @@
+// One call on a buffer and its cursors, and its line.
+ghost use Rattle.std.specs.Prelude.{◌≡◌, ◌<◌, ℤ, ◌++◌, ◌∷◌, [], None, OnOk, IfOk, Some, codes, decimal, length, true};
+ghost use Rattle.msg_buffer.specs.History.{History, get, write};
+ghost use Rattle.msg_buffer.specs.Reader.{given, next_place, read, unread};
+ghost use Rattle.msg_buffer.specs.StandsFor.{StandsFor};
+ghost use Rattle.msg_files.specs.CallsText.{State, after, items_text, line, value_text, written_text};
+ghost use Rattle.msg_files.specs.Cursors.{has_cursor};
+ghost use Rattle.msg_files.specs.Running.{AreIn};
+
+use crate::call::Call;
+use crate::calls::text::{add_found, add_items};
+use crate::numerals::add_number;
+use msg_buffer::{
+    BatchRefusal, Instance, MessageCursor, MessageId, Messages, NoMemory, WriteRefusal,
+};
+use msg_system::Values;
+use std::alloc::Global;
+
+/// Makes a call, and adds its line to the text.
+pub fn answer(
+    alloc: Global,
+    call: &Call,
+    messages: &mut Messages<i64>,
+    cursors: &mut Vec<MessageCursor>,
+    text: &mut Vec<u8>,
+) -> Result<(), NoMemory>
+    requires { has_cursor (length cursors.old.items) call.now ≡ true }
+    ensures line { OnOk result ((s : State) → AreIn messages.old cursors.old.items s
+        → text.new.items ≡ text.old.items ++ line call.now s) }
+    ensures state { OnOk result ((s : State) → AreIn messages.old cursors.old.items s
+        → AreIn messages.new cursors.new.items (after call.now s)) }
+{
+    match call {
+        Call::Write(value) => write(*value, messages, text),
+        Call::Batch(values) => write_batch(alloc, values, messages, text),
+        Call::Update => {
+            messages.update();
+            text.extend_from_slice(b"update\n")
+        }
+        Call::Read(cursor, limit) => read(alloc, *cursor, *limit, messages, cursors, text),
+        Call::Missed(cursor) => {
+            let missed = cursors[*cursor as usize].missed(messages);
+            add_cursor(text, b"missed ", *cursor, missed)
+        }
+        Call::Len(cursor) => {
+            let unread = cursors[*cursor as usize].len(messages);
+            add_cursor(text, b"len ", *cursor, unread)
+        }
+        Call::Clear(cursor) => clear(*cursor, messages, cursors, text),
+        Call::Cursor => {
+            let cursor = messages.get_cursor();
+            make(cursor, cursors, text)
+        }
+        Call::CursorCurrent => {
+            let cursor = messages.get_cursor_current();
+            make(cursor, cursors, text)
+        }
+        Call::Get(number) => get(*number, messages, text),
+        Call::Current => add_list(text, b"current: ", messages.current()),
+        Call::Oldest => add_count(text, b"oldest ", messages.oldest()),
+        Call::Count => add_count(text, b"count ", messages.count()),
+        Call::Total => add_count(text, b"total ", messages.len()),
+        Call::Drain => {
+            let items = messages.drain()?;
+            add_list(text, b"drain: ", items.as_slice())
+        }
+        Call::ClearAll => {
+            messages.clear();
+            text.extend_from_slice(b"clear_all\n")
+        }
+    }
+}
+
+/// A line of a head and a number.
+fn add_count(text: &mut Vec<u8>, head: &[u8], number: u64) -> Result<(), NoMemory>
+    ensures { OnOk result (text.new.items ≡ text.old.items
+        ++ (head.now ++ decimal number ++ codes "\n")) }
+{
+    text.extend_from_slice(head)?;
+    add_number(text, number)?;
+    text.extend_from_slice(b"\n")
+}
+
+/// A line of a head, a cursor and a number.
+fn add_cursor(text: &mut Vec<u8>, head: &[u8], cursor: u32, number: u64) -> Result<(), NoMemory>
+    ensures { OnOk result (text.new.items ≡ text.old.items
+        ++ (head.now ++ decimal cursor ++ codes " " ++ decimal number ++ codes "\n")) }
+{
+    text.extend_from_slice(head)?;
+    add_number(text, u64::from(cursor))?;
+    text.extend_from_slice(b" ")?;
+    add_number(text, number)?;
+    text.extend_from_slice(b"\n")
+}
+
+/// A line of a head and items.
+fn add_list(text: &mut Vec<u8>, head: &[u8], items: &[Instance<i64>]) -> Result<(), NoMemory>
+    ensures { OnOk result (text.new.items ≡ text.old.items
+        ++ (head.now ++ items_text items.now ++ codes "\n")) }
+{
+    text.extend_from_slice(head)?;
+    add_items(text, items)?;
+    text.extend_from_slice(b"\n")
+}
+
+/// A line of a write that gave these numbers.
+fn add_written(text: &mut Vec<u8>, head: &[u8], first: u64, number: u64) -> Result<(), NoMemory>
+    ensures { OnOk result (text.new.items ≡ text.old.items
+        ++ (head.now ++ (decimal first ++ codes "+" ++ decimal number) ++ codes "\n")) }
+{
+    text.extend_from_slice(head)?;
+    add_number(text, first)?;
+    text.extend_from_slice(b"+")?;
+    add_number(text, number)?;
+    text.extend_from_slice(b"\n")
+}
+
+fn write(value: i64, messages: &mut Messages<i64>, text: &mut Vec<u8>) -> Result<(), NoMemory>
+    ensures line { OnOk result ((h : History ℤ) → StandsFor messages.old h
+        → text.new.items ≡ text.old.items ++ (codes "write " ++ written_text h 1 ++ codes "\n")) }
+    ensures state { OnOk result ((h : History ℤ) → StandsFor messages.old h
+        → StandsFor messages.new (write (value ∷ []) h)) }
+{
+    match messages.write(value) {
+        Ok(id) => add_written(text, b"write ", id.0, 1),
+        Err(WriteRefusal::NumbersSpent(_)) => text.extend_from_slice(b"write spent\n"),
+        Err(WriteRefusal::NoMemory(_)) => Err(NoMemory),
+    }
+}
+
+fn write_batch(
+    alloc: Global,
+    values: &Values,
+    messages: &mut Messages<i64>,
+    text: &mut Vec<u8>,
+) -> Result<(), NoMemory>
+    ensures line { OnOk result ((h : History ℤ) → StandsFor messages.old h
+        → text.new.items
+        ≡ text.old.items ++ (codes "batch " ++ written_text h (length values.now) ++ codes "\n")) }
+    ensures state { OnOk result ((h : History ℤ) → StandsFor messages.old h
+        → StandsFor messages.new (write values.now h)) }
+{
+    let batch = values.as_slice().to_vec(alloc)?;
+    match messages.write_batch(batch) {
+        Ok(written) => add_written(text, b"batch ", written.first, written.n),
+        Err(BatchRefusal::NumbersSpent(_)) => text.extend_from_slice(b"batch spent\n"),
+        Err(BatchRefusal::NoMemory(_)) => Err(NoMemory),
+    }
+}
+
+fn get(number: u64, messages: &Messages<i64>, text: &mut Vec<u8>) -> Result<(), NoMemory>
+    ensures { OnOk result ((h : History ℤ) → StandsFor messages.now h
+        → text.new.items ≡ text.old.items
+        ++ (codes "get " ++ decimal number ++ codes " " ++ value_text (get h number)
+        ++ codes "\n")) }
+{
+    text.extend_from_slice(b"get ")?;
+    add_number(text, number)?;
+    text.extend_from_slice(b" ")?;
+    add_found(text, messages.get(MessageId(number)))?;
+    text.extend_from_slice(b"\n")
+}
+
+/// One cursor more.
+fn make(
+    cursor: MessageCursor,
+    cursors: &mut Vec<MessageCursor>,
+    text: &mut Vec<u8>,
+) -> Result<(), NoMemory>
+    ensures line { OnOk result (text.new.items
+        ≡ text.old.items ++ (codes "cursor " ++ decimal (length cursors.old.items)
+        ++ codes " place " ++ decimal cursor ++ codes "\n")) }
+    ensures made { OnOk result (cursors.new.items ≡ cursors.old.items ++ cursor ∷ []) }
+{
+    text.extend_from_slice(b"cursor ")?;
+    add_number(text, cursors.len() as u64)?;
+    text.extend_from_slice(b" place ")?;
+    add_number(text, cursor.place())?;
+    cursors.push(cursor)?;
+    text.extend_from_slice(b"\n")
+}
+
+/// Reads by a cursor.
+fn read(
+    alloc: Global,
+    number: u32,
+    limit: Option<u32>,
+    messages: &Messages<i64>,
+    cursors: &mut Vec<MessageCursor>,
+    text: &mut Vec<u8>,
+) -> Result<(), NoMemory>
+    requires { number < length cursors.old.items }
+    ensures line { OnOk result ((s : State) → AreIn messages.now cursors.old.items s
+        → text.new.items ≡ text.old.items ++ line (Call.Read number limit) s) }
+    ensures state { OnOk result ((s : State) → AreIn messages.now cursors.old.items s
+        → AreIn messages.now cursors.new.items (after (Call.Read number limit) s)) }
+{
+    let mut cursor = cursors[number as usize];
+    let missed = cursor.missed(messages);
+    let items = take(alloc, &mut cursor, limit, messages)?;
+    cursors[number as usize] = cursor;
+    add_read(text, number, missed, items.as_slice())
+}
+
+/// The line of a read.
+fn add_read(
+    text: &mut Vec<u8>,
+    number: u32,
+    missed: u64,
+    items: &[Instance<i64>],
+) -> Result<(), NoMemory>
+    ensures { OnOk result (text.new.items
+        ≡ text.old.items ++ (codes "read " ++ decimal number ++ codes " missed " ++ decimal missed
+        ++ codes ": " ++ items_text items.now ++ codes "\n")) }
+{
+    text.extend_from_slice(b"read ")?;
+    add_number(text, u64::from(number))?;
+    text.extend_from_slice(b" missed ")?;
+    add_number(text, missed)?;
+    text.extend_from_slice(b": ")?;
+    add_items(text, items)?;
+    text.extend_from_slice(b"\n")
+}
+
+/// Takes the unread messages, or the first of them where there is a limit.
+fn take(
+    alloc: Global,
+    cursor: &mut MessageCursor,
+    limit: Option<u32>,
+    messages: &Messages<i64>,
+) -> Result<Vec<Instance<i64>>, NoMemory>
+    ensures items { IfOk result (λ v. (h : History ℤ) → StandsFor messages.now h
+        → v.items ≡ given h cursor.old limit) }
+    ensures place { OnOk result ((h : History ℤ) → StandsFor messages.now h
+        → cursor.new ≡ next_place (read h cursor.old limit)) }
+{
+    match limit {
+        None => take_all(alloc, cursor, messages),
+        Some(most) => take_first(alloc, cursor, most, messages),
+    }
+}
+
+/// Takes all unread messages.
+fn take_all(
+    alloc: Global,
+    cursor: &mut MessageCursor,
+    messages: &Messages<i64>,
+) -> Result<Vec<Instance<i64>>, NoMemory>
+    ensures items { IfOk result (λ v. (h : History ℤ) → StandsFor messages.now h
+        → v.items ≡ unread h cursor.old) }
+    ensures place { OnOk result ((h : History ℤ) → StandsFor messages.now h
+        → cursor.new ≡ next_place (read h cursor.old None)) }
+{
+    let mut items = Vec::new(alloc);
+    for (id, message) in cursor.read(messages) {
+        let message = *message;
+        items.push(Instance { id, message })?;
+    }
+    Ok(items)
+}
+
+/// Takes the first unread messages: `most` of them, or all where there are fewer.
+fn take_first(
+    alloc: Global,
+    cursor: &mut MessageCursor,
+    most: u32,
+    messages: &Messages<i64>,
+) -> Result<Vec<Instance<i64>>, NoMemory>
+    ensures items { IfOk result (λ v. (h : History ℤ) → StandsFor messages.now h
+        → v.items ≡ given h cursor.old (Some most)) }
+    ensures place { OnOk result ((h : History ℤ) → StandsFor messages.now h
+        → cursor.new ≡ next_place (read h cursor.old (Some most))) }
+{
+    let number = u64::from(most).min(cursor.len(messages));
+    let mut items = Vec::new(alloc);
+    let mut unread = cursor.read(messages);
+    for _ in 0..number {
+        let Some((id, message)) = unread.next() else {
+            break;
+        };
+        let message = *message;
+        items.push(Instance { id, message })?;
+    }
+    Ok(items)
+}
+
+/// Goes past all that is unread.
+fn clear(
+    number: u32,
+    messages: &Messages<i64>,
+    cursors: &mut Vec<MessageCursor>,
+    text: &mut Vec<u8>,
+) -> Result<(), NoMemory>
+    requires { number < length cursors.old.items }
+    ensures line { OnOk result ((s : State) → AreIn messages.now cursors.old.items s
+        → text.new.items ≡ text.old.items ++ line (Call.Clear number) s) }
+    ensures state { OnOk result ((s : State) → AreIn messages.now cursors.old.items s
+        → AreIn messages.now cursors.new.items (after (Call.Clear number) s)) }
+{
+    let mut cursor = cursors[number as usize];
+    text.extend_from_slice(b"clear ")?;
+    add_number(text, u64::from(number))?;
+    text.extend_from_slice(b" missed ")?;
+    add_number(text, cursor.missed(messages))?;
+    text.extend_from_slice(b" cleared ")?;
+    add_number(text, cursor.len(messages))?;
+    cursor.clear(messages);
+    cursors[number as usize] = cursor;
+    text.extend_from_slice(b"\n")
+}

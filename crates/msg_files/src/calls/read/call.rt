@@ -1,0 +1,133 @@
+// One call of a file, by its head and the number of parts that follow it.
+ghost use Rattle.std.specs.Prelude.{◌≡◌, ◌≢◌, ◌<◌, ◌≤◌, Some, None, IfOk, IfErr, MatchResult, map};
+ghost use Rattle.std.specs.List.{list_all};
+ghost use Rattle.serde_json.specs.View.{view};
+ghost use Rattle.msg_files.specs.Check.{first_refusal};
+ghost use Rattle.msg_files.specs.Checks.{a_value, bare_checks, batch_checks, call_checks, checks_with, checks_with_one, checks_with_two};
+ghost use Rattle.msg_files.specs.Denotes.{bare_call, call_of, call_with, call_with_one, call_with_two, values_of};
+ghost use Rattle.msg_files.specs.Json.{is_number, whole};
+ghost use Rattle.msg_files.specs.Walk.{Agrees, FitsCursors};
+
+use crate::call::Call;
+use crate::calls::read::part;
+use crate::numbers::{are_numbers, whole_numbers};
+use crate::refusal::Refusal;
+use msg_system::Values;
+use serde_json::Value;
+use std::alloc::Global;
+
+const MAX_CURSORS: u32 = 64;
+
+const MAX_VALUES: usize = 1024;
+
+/// A call, where so many cursors were made before.
+pub fn read_call(alloc: Global, made: u32, value: &Value) -> Result<Call, Refusal>
+    ensures is { Agrees (call_checks made (view value.now)) (call_of (view value.now)) result }
+    ensures fits { IfOk result (FitsCursors made) }
+{
+    let Some(items) = value.as_array() else {
+        return Err(Refusal::Shape);
+    };
+    let [first, parts @ ..] = items.as_slice() else {
+        return Err(Refusal::Shape);
+    };
+    let Some(head) = first.as_str() else {
+        return Err(Refusal::Shape);
+    };
+    read_parts(alloc, made, head, parts)
+}
+
+fn read_parts(alloc: Global, made: u32, head: &str, parts: &[Value]) -> Result<Call, Refusal>
+    ensures is { Agrees (checks_with made head.now (map view parts.now))
+        (call_with head.now (map view parts.now)) result }
+    ensures fits { IfOk result (FitsCursors made) }
+{
+    match parts {
+        [] => read_bare(made, head),
+        [part] => read_with_one(alloc, made, head, part),
+        [part, other] => read_with_two(made, head, part, other),
+        [_, _, _, ..] => Err(Refusal::Shape),
+    }
+}
+
+fn read_bare(made: u32, head: &str) -> Result<Call, Refusal>
+    ensures is { Agrees (bare_checks made head.now) (bare_call head.now) result }
+    ensures fits { IfOk result (FitsCursors made) }
+{
+    match head {
+        "update" => Ok(Call::Update),
+        "cursor" => {
+            room_for_cursor(made)?;
+            Ok(Call::Cursor)
+        }
+        "cursor_current" => {
+            room_for_cursor(made)?;
+            Ok(Call::CursorCurrent)
+        }
+        "current" => Ok(Call::Current),
+        "oldest" => Ok(Call::Oldest),
+        "count" => Ok(Call::Count),
+        "total" => Ok(Call::Total),
+        "drain" => Ok(Call::Drain),
+        "clear_all" => Ok(Call::ClearAll),
+        _ => Err(Refusal::Shape),
+    }
+}
+
+/// Whether one cursor more may be made.
+fn room_for_cursor(made: u32) -> Result<(), Refusal>
+    ensures { MatchResult result (λ _. made < 64) (λ e. (e ≡ Refusal.TooMany) × (64 ≤ made)) }
+{
+    if made < MAX_CURSORS {
+        Ok(())
+    } else {
+        Err(Refusal::TooMany)
+    }
+}
+
+fn read_with_one(alloc: Global, made: u32, head: &str, part: &Value) -> Result<Call, Refusal>
+    ensures is { Agrees (checks_with_one made head.now (view part.now))
+        (call_with_one head.now (view part.now)) result }
+    ensures fits { IfOk result (FitsCursors made) }
+{
+    match head {
+        "write" => Ok(Call::Write(part::value(part)?)),
+        "batch" => Ok(Call::Batch(read_values(alloc, part)?)),
+        "read" => Ok(Call::Read(part::cursor(made, part)?, None)),
+        "missed" => Ok(Call::Missed(part::cursor(made, part)?)),
+        "len" => Ok(Call::Len(part::cursor(made, part)?)),
+        "clear" => Ok(Call::Clear(part::cursor(made, part)?)),
+        "get" => Ok(Call::Get(part::message_number(part)?)),
+        _ => Err(Refusal::Shape),
+    }
+}
+
+fn read_with_two(made: u32, head: &str, part: &Value, other: &Value) -> Result<Call, Refusal>
+    ensures is { Agrees (checks_with_two made head.now (view part.now) (view other.now))
+        (call_with_two head.now (view part.now) (view other.now)) result }
+    ensures fits { IfOk result (FitsCursors made) }
+{
+    if head != "read" {
+        return Err(Refusal::Shape);
+    }
+    let (cursor, limit) = part::cursor_and_limit(made, part, other)?;
+    Ok(Call::Read(cursor, Some(limit)))
+}
+
+/// The values of a batch.
+fn read_values(alloc: Global, part: &Value) -> Result<Values, Refusal>
+    ensures { Agrees (batch_checks (view part.now))
+        (values_of (view part.now)) result }
+{
+    let Some(items) = part.as_array() else {
+        return Err(Refusal::Shape);
+    };
+    let items = items.as_slice();
+    if !are_numbers(items) {
+        return Err(Refusal::Shape);
+    }
+    if items.len() > MAX_VALUES {
+        return Err(Refusal::TooMany);
+    }
+    Ok(Values::from_vec(whole_numbers(alloc, items)?))
+}

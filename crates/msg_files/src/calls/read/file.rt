@@ -1,0 +1,98 @@
+// The whole file.
+ghost use Rattle.std.specs.Prelude.{◌≡◌, ◌≢◌, Some, None, true, IfOk, IfErr, map, string_bytes};
+ghost use Rattle.std.specs.List.{list_all};
+ghost use Rattle.serde_json.specs.View.{view};
+ghost use Rattle.msg_files.specs.Check.{first_refusal};
+ghost use Rattle.msg_files.specs.Checks.{calls_checks, checks_of, is_known, list_checks};
+ghost use Rattle.msg_files.specs.Cursors.{cursors_exist, made_by};
+ghost use Rattle.msg_files.specs.Denotes.{call_of, calls_of, file_of};
+ghost use Rattle.msg_files.specs.Walk.{Agrees};
+
+use crate::call::Call;
+use crate::calls::Calls;
+use crate::calls::read::call::read_call;
+use crate::calls::read::part::buffer_limit;
+use crate::refusal::Refusal;
+use serde_json::{Map, Value};
+use std::alloc::Global;
+
+const MAX_CALLS: usize = 10_000;
+
+/// The file that a JSON value denotes.
+pub fn read_file(alloc: Global, value: &Value) -> Result<Calls, Refusal>
+    ensures agrees { Agrees (checks_of (view value.now)) (file_of (view value.now)) result }
+{
+    let Some(members) = value.as_object() else {
+        return Err(Refusal::Shape);
+    };
+    if !are_known(members) {
+        return Err(Refusal::UnknownKey);
+    }
+    let Some(limit) = value.get("limit") else {
+        return Err(Refusal::Shape);
+    };
+    let Some(list) = value.get("calls") else {
+        return Err(Refusal::Shape);
+    };
+    let limit = buffer_limit(limit)?;
+    let calls = read_list(alloc, list)?;
+    Ok(Calls::new(limit, calls))
+}
+
+fn are_known(members: &Map<String, Value>) -> bool
+    ensures { result ≡ list_all (λ m. is_known (string_bytes m.0)) members.now.entries }
+{
+    members.iter().all(|(key, _)| is_known(key.as_str()))
+}
+
+fn is_known(key: &str) -> bool
+    ensures { result ≡ is_known key.now }
+{
+    key == "limit" || key == "calls"
+}
+
+fn read_list(alloc: Global, value: &Value) -> Result<Vec<Call>, Refusal>
+    ensures is { IfOk result (λ v. (first_refusal (list_checks (view value.now)) ≡ None)
+        × (calls_of (view value.now) ≡ Some v.items)) }
+    ensures refused { IfErr result (λ e. (e ≢ Refusal.NotJson)
+        × (e ≢ Refusal.NoMemory → first_refusal (list_checks (view value.now)) ≡ Some e)) }
+    ensures exist { IfOk result (λ v. cursors_exist 1 v.items ≡ true) }
+{
+    let Some(items) = value.as_array() else {
+        return Err(Refusal::Shape);
+    };
+    let items = items.as_slice();
+    if items.len() > MAX_CALLS {
+        return Err(Refusal::TooMany);
+    }
+    read_items(alloc, items)
+}
+
+fn read_items(alloc: Global, items: &[Value]) -> Result<Vec<Call>, Refusal>
+    ensures is { IfOk result (λ v. (first_refusal (calls_checks 1 (map view items.now)) ≡ None)
+        × (map call_of (map view items.now) ≡ map Some v.items)) }
+    ensures refused { IfErr result (λ e. (e ≢ Refusal.NotJson)
+        × (e ≢ Refusal.NoMemory → first_refusal (calls_checks 1 (map view items.now)) ≡ Some e)) }
+    ensures exist { IfOk result (λ v. cursors_exist 1 v.items ≡ true) }
+{
+    let mut calls = Vec::new(alloc);
+    let mut made = 1;
+    for item in items {
+        let call = read_call(alloc, made, item)?;
+        made += cursors_made(&call);
+        if calls.push(call).is_err() {
+            return Err(Refusal::NoMemory);
+        }
+    }
+    Ok(calls)
+}
+
+/// How many cursors a call makes.
+fn cursors_made(call: &Call) -> u32
+    ensures { result ≡ made_by call.now }
+{
+    match call {
+        Call::Cursor | Call::CursorCurrent => 1,
+        _ => 0,
+    }
+}

@@ -1,0 +1,21 @@
+//! Calls files: reading them, making their calls, and putting the answers into a sink; and what scenario files are read
+//! and reported with: the refusals of files, numbers of JSON values, texts of numbers, sinks.
+#![tactic(auto)]
+
+mod call;
+mod calls;
+mod memory_sink;
+pub mod numbers;
+pub mod numerals;
+mod refusal;
+mod report_fault;
+mod sink;
+mod std_sink;
+
+pub use call::Call;
+pub use calls::{Calls, read_calls, run_calls};
+pub use memory_sink::{MemorySink, ROOM};
+pub use refusal::Refusal;
+pub use report_fault::ReportFault;
+pub use sink::{PutFault, Sink, put_all};
+pub use std_sink::StdSink;

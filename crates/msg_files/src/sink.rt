@@ -1,0 +1,44 @@
+ghost use Rattle.std.specs.Prelude.{◌≡◌, ◌≤◌, List, ℕ, Option, OnOk, OnErr, IfOk, length};
+ghost use Rattle.std.specs.Io.KnownBytes.{WriteAppends, Appends};
+ghost use Rattle.msg_files.specs.Sinks.{failures_after, one_more, AppendsPrefix};
+
+use thiserror::Error;
+
+/// A put that took nothing.
+#[derive(Clone, Copy, Debug, PartialEq, Eq, Error)]
+#[error("the sink failed")]
+pub struct PutFault;
+
+/// Where bytes go. `Ok(n)` says that the first n bytes were taken, an error that none was.
+pub trait Sink {
+    /// The bytes taken so far, where the sink tells them.
+    ghost contents: { Self → Option (List ℕ) };
+
+    /// How often a put failed; it stays at the greatest value.
+    ghost failures: { Self → ℕ };
+
+    fn put(&mut self, piece: &[u8]) -> Result<usize, PutFault>
+        ensures bound { IfOk result (λ n. n ≤ length piece.now) }
+        ensures bytes { WriteAppends (contents self.old) (contents self.new) result piece.now }
+        ensures counts { failures self.new ≡ failures_after (failures self.old) result piece.now };
+}
+
+/// Puts the whole piece, in as many puts as the sink wants.
+pub fn put_all<S: Sink>(sink: &mut S, piece: &[u8]) -> Result<(), PutFault>
+    ensures ok { OnOk result (Appends (S.contents sink.old) (S.contents sink.new) piece.now) }
+    ensures quiet { OnOk result (S.failures sink.new ≡ S.failures sink.old) }
+    ensures prefix { OnErr result
+        (AppendsPrefix (S.contents sink.old) (S.contents sink.new) piece.now) }
+    ensures failed { OnErr result (S.failures sink.new ≡ one_more (S.failures sink.old)) }
+{
+    let mut done = 0usize;
+    while done < piece.len() {
+        let rest = &piece[done..];
+        let n = sink.put(rest)?;
+        if n == 0 {
+            return Err(PutFault);
+        }
+        done += n;
+    }
+    Ok(())
+}

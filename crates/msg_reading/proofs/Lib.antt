@@ -1,0 +1,12 @@
+pub mod Parts
+pub mod Lists
+pub mod Named
+pub mod Spaces
+pub mod Ops
+pub mod Conditions
+pub mod Systems
+pub mod Files
+pub mod Clashes
+pub mod There
+pub mod Fitting
+pub mod Sound

@@ -1,0 +1,82 @@
+-- One step of a walk over elements that declare names.
+use Rattle.std.proofs.Common.{◌≡◌, ℕ, ◌+◌, ◌≤◌, ◌<◌, List, [], ◌∷◌, ◌++◌, length, get_or, drop, refl, sym, ap, ◌∙◌, append_assoc, append-nil, Option, Some, None, map}
+use Rattle.std.proofs.lemmas.List.{drop_more, drop_all}
+use Rattle.std.specs.Prelude.{option_map}
+use Rattle.serde_json.specs.Data.{Data}
+use Rattle.serde_json.specs.View.{view}
+use Rattle.serde_json.specs.declared.value.Value.{Value}
+use Rattle.msg_files.specs.Check.{Check, first_refusal}
+use Rattle.msg_reading.specs.Names.{Declared}
+use Rattle.msg_reading.specs.ScenarioChecks.{checks_in_turn}
+use Rattle.msg_reading.specs.ScenarioDenotes.{both, each_in_turn, with_all}
+use Rattle.msg_files.specs.declared.refusal.Refusal.{Refusal}
+use Rattle.msg_files.proofs.Walks.{first_refusal-passed, first_refusal-stands}
+
+module _ {A : Type 0} (checks : Declared → Data → List Check) (denotes : Declared → Data → Option A)
+    (with_one : Declared → Data → Declared) (first : Declared) (items : List Value) where
+  -- the elements so far passed their checks and declared these names, and those from i on are left
+  pub record NamedLeft (i : ℕ) (names : Declared) (read : List A) : Type 0 where
+    pub passed : first_refusal (checks_in_turn checks with_one first (map view items))
+        ≡ first_refusal (checks_in_turn checks with_one names (map view (drop i items)))
+    pub denoted : each_in_turn denotes with_one first (map view items)
+        ≡ option_map (λ rest. read ++ rest) (each_in_turn denotes with_one names (map view (drop i items)))
+    pub declared : with_all with_one first (map view items) ≡ with_all with_one names (map view (drop i items))
+
+  nothing_before : (o : Option (List A)) → o ≡ option_map (λ rest. [] ++ rest) o
+  nothing_before None = refl
+  nothing_before (Some rest) = refl
+
+  pub NamedLeft-start : NamedLeft 0 first []
+  NamedLeft-start = record {
+    passed = refl;
+    denoted = nothing_before (each_in_turn denotes with_one first (map view items));
+    declared = refl;
+  }
+
+  one_more_before : (read : List A) (a : A) (o : Option (List A))
+      → option_map (λ rest. read ++ rest) (option_map (λ rest. a ∷ rest) o)
+      ≡ option_map (λ rest. (read ++ a ∷ []) ++ rest) o
+  one_more_before read a None = refl
+  one_more_before read a (Some rest) = ap (λ l. Some l) (sym (append_assoc read (a ∷ []) rest))
+
+  pub NamedLeft-more : (i : ℕ) (d : Value) (names : Declared) (read : List A) (a : A)
+      → NamedLeft i names read → i < length items
+      → first_refusal (checks names (view (get_or items i d))) ≡ None
+      → denotes names (view (get_or items i d)) ≡ Some a
+      → NamedLeft (i + 1) (with_one names (view (get_or items i d))) (read ++ a ∷ [])
+  NamedLeft-more i d names read a left lt passes is =
+      let rest = map view (drop (i + 1) items) in
+      let here = view (get_or items i d) in
+      let after = with_one names here in record {
+        passed = left.passed
+            ∙ ap (λ l. first_refusal (checks_in_turn checks with_one names (map view l))) (drop_more items i d lt)
+            ∙ first_refusal-passed (checks names here) (checks_in_turn checks with_one after rest) passes;
+        denoted = left.denoted
+            ∙ ap (λ l. option_map (λ r. read ++ r) (each_in_turn denotes with_one names (map view l))) (drop_more items i d lt)
+            ∙ ap (λ o. option_map (λ r. read ++ r) (both (λ b r. b ∷ r) o (each_in_turn denotes with_one after rest))) is
+            ∙ one_more_before read a (each_in_turn denotes with_one after rest);
+        declared = left.declared ∙ ap (λ l. with_all with_one names (map view l)) (drop_more items i d lt);
+      }
+
+  pub NamedLeft-bad : (i : ℕ) (d : Value) (names : Declared) (read : List A) (e : Refusal)
+      → NamedLeft i names read → i < length items
+      → first_refusal (checks names (view (get_or items i d))) ≡ Some e
+      → first_refusal (checks_in_turn checks with_one first (map view items)) ≡ Some e
+  NamedLeft-bad i d names read e left lt bad =
+      let here = view (get_or items i d) in
+      left.passed
+      ∙ ap (λ l. first_refusal (checks_in_turn checks with_one names (map view l))) (drop_more items i d lt)
+      ∙ first_refusal-stands (checks names here)
+      (checks_in_turn checks with_one (with_one names here) (map view (drop (i + 1) items))) e bad
+
+  pub NamedLeft-end : (i : ℕ) (names : Declared) (read : List A) → NamedLeft i names read → length items ≤ i
+      → (first_refusal (checks_in_turn checks with_one first (map view items)) ≡ None)
+      × (each_in_turn denotes with_one first (map view items) ≡ Some read)
+      × (with_all with_one first (map view items) ≡ names)
+  NamedLeft-end i names read left end =
+      let all : drop i items ≡ [] = drop_all i items end in (
+        left.passed ∙ ap (λ l. first_refusal (checks_in_turn checks with_one names (map view l))) all,
+        left.denoted ∙ ap (λ l. option_map (λ r. read ++ r) (each_in_turn denotes with_one names (map view l))) all
+            ∙ ap (λ l. Some l) (append-nil read),
+        left.declared ∙ ap (λ l. with_all with_one names (map view l)) all,
+      )

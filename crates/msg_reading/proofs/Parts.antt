@@ -1,0 +1,135 @@
+-- Lists of a scenario file by their parts.
+use Rattle.std.proofs.Common.{◌≡◌, ℕ, ◌≤◌, ◌<◌, List, [], ◌∷◌, ◌++◌, length, get_or, take, drop, refl, sym, ap, ◌∙◌, arith, Option, Some, None, map, ◌-◌, Result, Ok, Err, ◌≢◌, String, string_bytes}
+use Rattle.std.specs.List.{list_all}
+use Rattle.std.specs.declared.alloc.Global.{Global}
+use Rattle.std.specs.Prelude.{Bool, unwrap_or, option_map, is_some, ◌&&◌}
+use Rattle.serde_json.specs.Data.{Data}
+use Rattle.serde_json.specs.Find.{as_array, as_object, as_str}
+use Rattle.serde_json.specs.View.{view, items_view, members_view}
+use Rattle.serde_json.specs.declared.value.Value.{Value}
+use Rattle.msg_files.specs.Check.{Check, first_refusal, needs}
+use Rattle.msg_files.specs.Json.{Text, elements, keys, keys_of, list_of}
+use Rattle.msg_reading.specs.ScenarioChecks.{for_headed, for_two, is_text, wrong_shape}
+use Rattle.msg_reading.specs.ScenarioDenotes.{both, of_headed, of_two, text}
+use Rattle.msg_files.specs.Walk.{Agrees}
+use Rattle.msg_files.specs.declared.refusal.Refusal.{Refusal}
+use Rattle.msg_files.specs.declared.refusal.Refusal.TheVariants.{NoMemory, NotJson, Shape, UnknownName}
+use Rattle.msg_files.proofs.Shapes.{elements_are, range_to_end}
+use Rattle.msg_files.proofs.Walks.{first_refusal-passed, first_refusal-stands, list_all-keys}
+
+-- ---- lists of one, of two and of more items
+
+module _ {A : Type 0} where
+  pub one_of : (xs : List A) (v : A) → 1 ≤ length xs → length xs < 2 → v ≡ get_or xs 0 v → xs ≡ v ∷ []
+  one_of [] v least below is = absurd (omega (arith, least))
+  one_of (x ∷ []) v least below is = ap (λ y. y ∷ []) (sym is)
+  one_of (x ∷ y ∷ rest) v least below is = absurd (omega (arith, below))
+
+  pub two_of : (xs : List A) (v w : A) → 2 ≤ length xs → length xs < 3 → v ≡ get_or xs 0 v → w ≡ get_or xs 1 w
+      → xs ≡ v ∷ w ∷ []
+  two_of [] v w least below is is' = absurd (omega (arith, least))
+  two_of (x ∷ []) v w least below is is' = absurd (omega (arith, least))
+  two_of (x ∷ y ∷ []) v w least below is is' = ap (λ z. z ∷ y ∷ []) (sym is) ∙ ap (λ z. v ∷ z ∷ []) (sym is')
+  two_of (x ∷ y ∷ z ∷ rest) v w least below is is' = absurd (omega (arith, below))
+
+  pub three_of : (xs : List A) → 3 ≤ length xs → (a : A) × (b : A) × (c : A) × (rest : List A) × (xs ≡ a ∷ b ∷ c ∷ rest)
+  three_of [] least = absurd (omega (arith, least))
+  three_of (x ∷ []) least = absurd (omega (arith, least))
+  three_of (x ∷ y ∷ []) least = absurd (omega (arith, least))
+  three_of (x ∷ y ∷ z ∷ rest) least = (x, y, z, rest, refl)
+
+-- a list is its first item and the range of the others
+pub first_and_rest : (d : Data) (xs : List Value) (v : Value) → Some (items_view xs) ≡ as_array d → 1 ≤ length xs
+    → v ≡ get_or xs 0 v → elements d ≡ view v ∷ map view (take (length xs - 1) (drop 1 xs))
+first_and_rest d [] v list least is = absurd (omega (arith, least))
+first_and_rest d (x ∷ xs) v list least is =
+    elements_are d (x ∷ xs) list ∙ ap (λ y. view y ∷ map view xs) (sym is)
+    ∙ ap (λ ys. view v ∷ map view ys) (sym (range_to_end 1 (x ∷ xs)))
+
+-- a list that hasn't two items
+pub not_two : (f : Data → Data → List Check) (xs : List Value) → length xs ≢ 2 → for_two f (map view xs) ≡ wrong_shape
+not_two f [] other = refl
+not_two f (x ∷ []) other = refl
+not_two f (x ∷ y ∷ []) other = absurd (other refl)
+not_two f (x ∷ y ∷ z ∷ rest) other = refl
+
+-- the two items of a list
+pub both_items : (d : Data) (xs : List Value) (v w : Value) → Some (items_view xs) ≡ as_array d → length xs ≡ 2
+    → v ≡ get_or xs 0 v → w ≡ get_or xs 1 w → elements d ≡ view v ∷ view w ∷ []
+both_items d xs v w list two is is' =
+    elements_are d xs list ∙ ap (map view) (two_of xs v w (omega (arith, two)) (omega (arith, two)) is is')
+
+-- ---- values that are no lists have no elements
+
+pub no_elements : (d : Data) → None ≡ as_array d → elements d ≡ []
+no_elements d none = ap (λ o. unwrap_or (option_map list_of o) []) (sym none)
+
+pub no_list_of_two : (f : Data → Data → List Check) (d : Data) → None ≡ as_array d → for_two f (elements d) ≡ wrong_shape
+no_list_of_two f d none = ap (for_two f) (no_elements d none)
+
+-- ---- what agrees with equal checks
+
+pub Agrees_by : {A : Type 0} (cs ds : List Check) (o p : Option A) (r : Result A Refusal)
+    → first_refusal cs ≡ first_refusal ds → o ≡ p → Agrees ds p r → Agrees cs o r
+Agrees_by cs ds o p (Ok a) e f h = (e ∙ h.0, f ∙ h.1)
+Agrees_by cs ds o p (Err x) e f h = (h.0, λ m. e ∙ h.1 m)
+
+pub two_checked : (f : Data → Data → List Check) (d a b : Data) → elements d ≡ a ∷ b ∷ []
+    → first_refusal (for_two f (elements d)) ≡ first_refusal (f a b)
+two_checked f d a b is = ap (λ ds. first_refusal (for_two f ds)) is
+
+pub two_denoted : {A : Type 0} (f : Data → Data → Option A) (d a b : Data) → elements d ≡ a ∷ b ∷ []
+    → of_two f (elements d) ≡ f a b
+two_denoted f d a b is = ap (of_two f) is
+
+pub headed_checked : (f : Text → List Data → List Check) (d head : Data) (ps : List Data) (name : Text)
+    → as_str head ≡ Some name → elements d ≡ head ∷ ps
+    → first_refusal (for_headed f (elements d)) ≡ first_refusal (f name ps)
+headed_checked f d head ps name is are = ap (λ ds. first_refusal (for_headed f ds)) are ∙ rw is refl
+
+pub headed_denoted : {A : Type 0} (f : Text → List Data → Option A) (d head : Data) (ps : List Data) (name : Text)
+    → as_str head ≡ Some name → elements d ≡ head ∷ ps → of_headed f (elements d) ≡ f name ps
+headed_denoted f d head ps name is are = ap (of_headed f) are ∙ rw is refl
+
+-- the second name isn't declared
+pub last_unknown : (d e : Data) (x y : Text) (f g : Text → Option ℕ) (n : ℕ)
+    → as_str d ≡ Some x → as_str e ≡ Some y → f x ≡ Some n → g y ≡ None
+    → first_refusal
+    (needs (is_text d && is_text e) Shape ∷ needs (is_some (f (text d))) UnknownName
+    ∷ needs (is_some (g (text e))) UnknownName ∷ []) ≡ Some UnknownName
+last_unknown d e x y f g n is is' first second = rw (is, is', first, second) refl
+
+-- ---- checks one after another, where one of them fails
+
+-- a refusal, of which nothing is known where it is for memory
+abbrev pub Refuses : List Check → Refusal → Type 0
+Refuses cs e = (e ≢ NotJson) × (e ≢ NoMemory → first_refusal cs ≡ Some e)
+
+pub stops : (cs ds : List Check) (e : Refusal) → Refuses cs e → Refuses (cs ++ ds) e
+stops cs ds e h = (h.0, λ m. first_refusal-stands cs ds e (h.1 m))
+
+pub goes_on : (cs ds : List Check) (e : Refusal) → first_refusal cs ≡ None → Refuses ds e → Refuses (cs ++ ds) e
+goes_on cs ds e passed h = (h.0, λ m. first_refusal-passed cs ds passed ∙ h.1 m)
+
+pub refuses_by : (cs ds : List Check) (e : Refusal) → first_refusal cs ≡ first_refusal ds → Refuses ds e → Refuses cs e
+refuses_by cs ds e same h = (h.0, λ m. same ∙ h.1 m)
+
+-- a wrong shape is no want of memory
+pub is_shape : (cs : List Check) → first_refusal cs ≡ Some Shape → Refuses cs Shape
+is_shape cs is = (λ same. cc, λ _. is)
+
+pub refuses_as : (cs : List Check) (e f : Refusal) → e ≡ f → Refuses cs f → Refuses cs e
+refuses_as cs e f is h = rw is h
+
+-- ---- the keys of an object
+
+pub known_keys : (p : Text → Bool) (d : Data) (ms : List (String Global × Value)) → Some (members_view ms) ≡ as_object d
+    → list_all p (keys d) ≡ list_all (λ m. p (string_bytes m.0)) ms
+known_keys p d ms is =
+    ap (λ o. list_all p (unwrap_or (option_map keys_of o) [])) (sym is) ∙ list_all-keys p ms
+
+-- ---- both of two
+
+pub both_denoted : {A B C : Type 0} (f : A → B → C) {o : Option A} {p : Option B} {a : A} {b : B}
+    → o ≡ Some a → p ≡ Some b → both f o p ≡ Some (f a b)
+both_denoted f {o} {p} {a} {b} is is' = ap (λ x. both f x p) is ∙ ap (λ x. both f (Some a) x) is'

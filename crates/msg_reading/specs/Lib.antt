@@ -1,0 +1,5 @@
+pub mod Names
+pub mod ScenarioChecks
+pub mod ScenarioDenotes
+pub mod Reading
+pub mod Runnable

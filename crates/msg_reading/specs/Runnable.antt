@@ -1,0 +1,76 @@
+-- The state that an engine of a scenario begins in, and what every scenario that was read keeps to.
+use Rattle.std.specs.Prelude.{◌≡◌, ◌≤◌, ◌<◌, ◌&&◌, ℕ, ⊤, IsTrue, All, List, [], ◌∷◌, length, map, if◌then◌else◌}
+use Rattle.std.specs.List.{enumerate_from}
+use Rattle.msg_world.specs.Access.{Part, OfType, OfResource, Registry}
+use Rattle.msg_world.specs.World.{WorldState, held, new_world}
+use Rattle.msg_order.specs.Graph.{IsAcyclic}
+use Rattle.msg_order.specs.Order.{NameSystemsBelow}
+use Rattle.msg_system.specs.Needs.{job_needs, needs_any, program_needs}
+use Rattle.msg_system.specs.Systems.{Meaning, new_system}
+use Rattle.msg_system.specs.declared.op.Op.{Op}
+use Rattle.msg_system.specs.declared.op.Op.TheVariants.{Forward, Sum}
+use Rattle.msg_exec.specs.Building.{all_rules}
+use Rattle.msg_exec.specs.Frames.{first_state}
+use Rattle.msg_exec.specs.State.{State}
+use Rattle.msg_exec.specs.declared.frame.Frame.{Frame}
+use Rattle.msg_exec.specs.declared.place.Place.{Place}
+use Rattle.msg_reading.specs.declared.kind.Kind.{Kind}
+use Rattle.msg_reading.specs.declared.kind.Kind.TheVariants.{Script, Relay, Tally}
+use Rattle.msg_reading.specs.declared.scenario.Scenario.{Scenario}
+use Rattle.msg_reading.specs.declared.scenario.SystemSpec.{SystemSpec}
+
+-- ---- the first state
+
+-- the world before the first frame
+abbrev pub first_world : Scenario → WorldState
+first_world s =
+    let world = new_world (map (λ named. named.1) s.types) (map (λ named. named.1) s.resources) in
+    if s.held then held world else world
+
+-- the systems, which were given nothing yet; each writes as its number
+abbrev pub systems_of : Scenario → List Meaning
+systems_of s = map (λ x. new_system x.1.program x.0) (enumerate_from 0 s.systems)
+
+-- where each stands among the others
+abbrev pub places_of : Scenario → List Place
+places_of s = map (λ x. x.place) s.systems
+
+-- no frame was run, and those of join 1 have joined
+abbrev pub state_of : Scenario → State
+state_of s = first_state (systems_of s) (places_of s) s.rules (length s.types) (first_world s)
+
+-- ---- what may be run
+
+-- its world has this part
+abbrev pub HasPart : Scenario → Part → Type 0
+HasPart s (OfType t) = t < length s.types
+HasPart s (OfResource r) = r < length s.resources
+HasPart s Registry = Unit {0}
+
+-- these are ops for a box of this kind
+abbrev pub FitKind : Kind → List Op → Type 0
+FitKind Script ops = ⊤
+FitKind Relay ops = (from : ℕ) × (to : ℕ) × (ops ≡ Forward from to ∷ [])
+FitKind Tally ops = (from : ℕ) × (to : ℕ) × (ops ≡ Sum from to ∷ [])
+
+-- a system of the scenario can be made, and added to an engine over the scenario's world
+pub record IsRunnableSystem (s : Scenario) (x : SystemSpec) : Type 0 where
+  pub few_ops : length x.program.ops ≤ 64
+  pub fit_kind : FitKind x.kind x.program.ops
+  pub fits : (p : Part) → IsTrue (needs_any (job_needs x.program.ops x.place.conditions) p) → HasPart s p
+  pub no_clash : (p : Part) → ¬ IsTrue ((program_needs x.program.ops).reads p && (program_needs x.program.ops).writes p)
+  pub joins : (1 ≤ x.place.join) × (x.place.join ≤ 10000)
+
+-- each post of a frame is to a type that there is
+abbrev pub PostsAreToTypes : Scenario → Frame → Type 0
+PostsAreToTypes s frame = All (λ p. p.0 < length s.types) frame.posts
+
+-- An engine can be made of the scenario, and all its frames can be run.
+pub record IsRunnable (s : Scenario) : Type 0 where
+  pub few_types : length s.types ≤ 64
+  pub few_resources : length s.resources ≤ 64
+  pub few_systems : length s.systems ≤ 256
+  pub systems : All (IsRunnableSystem s) s.systems
+  pub rules_in_range : NameSystemsBelow (length s.systems) s.rules
+  pub acyclic : IsAcyclic (all_rules (length s.systems) s.rules)
+  pub posts : All (PostsAreToTypes s) s.frames

@@ -1,0 +1,283 @@
+-- The checks of a scenario file in reading order, each with the refusal that it gives where it fails.
+use Rattle.std.specs.Prelude.{ℕ, ◌+◌, ◌||◌, ◌&&◌, not, nat_le, Bool, true, false, List, [], ◌∷◌, ◌++◌, length, map, flat_map, is_some, unwrap_or, codes, if◌then◌else◌}
+use Rattle.std.specs.List.{list_all, list_any}
+use Rattle.std.specs.Option.{option_map_or}
+use Rattle.std.specs.Str.{bytes_eq}
+use Rattle.serde_json.specs.Data.{Data}
+use Rattle.serde_json.specs.Find.{get, as_str, as_bool}
+use Rattle.msg_world.specs.Access.{OfType}
+use Rattle.msg_system.specs.Needs.{some_op_writes, type_read}
+use Rattle.msg_system.specs.declared.op.Op.{Op}
+use Rattle.msg_system.specs.declared.op.Op.TheVariants.{Forward, Sum}
+use Rattle.msg_files.specs.Json.{Text, elements, keys, value_at, is_object, is_list, is_number, number_up_to}
+use Rattle.msg_files.specs.Check.{Check, needs}
+use Rattle.msg_files.specs.Checks.{a_value, a_limit, few_values}
+use Rattle.msg_reading.specs.Names.{Declared, is_name, position_of, type_number, resource_number, system_number}
+use Rattle.msg_reading.specs.ScenarioDenotes.{text, inside_nots, nots_round, kind_of, kind_in, conditions_in, join_in, start_of, start_in, ops_of, with_type, with_resource, with_system, no_names, types_in, resources_in, held_in, systems_in, rules_in, frames_in, type_names, part_names, all_names, systems_of}
+use Rattle.msg_reading.specs.declared.kind.Kind.{Kind}
+use Rattle.msg_reading.specs.declared.kind.Kind.TheVariants.{Script, Relay, Tally}
+use Rattle.msg_reading.specs.declared.scenario.SystemSpec.{SystemSpec}
+use Rattle.msg_files.specs.declared.refusal.Refusal.TheVariants.{Shape, UnknownKey, BadName, TwiceNamed, BadNumber, TooMany, UnknownName, Clash}
+
+-- ---- parts of values
+
+abbrev pub is_text : Data → Bool
+is_text d = is_some (as_str d)
+
+abbrev pub is_list_of_numbers : Data → Bool
+is_list_of_numbers d = is_list d && list_all is_number (elements d)
+
+-- what has another shape than is wanted
+abbrev pub wrong_shape : List Check
+wrong_shape = needs false Shape ∷ []
+
+-- a list of two elements
+abbrev pub for_two : (Data → Data → List Check) → List Data → List Check
+for_two f [] = wrong_shape
+for_two f (a ∷ []) = wrong_shape
+for_two f (a ∷ b ∷ []) = f a b
+for_two f (a ∷ b ∷ c ∷ rest) = wrong_shape
+
+-- a list that begins with a text, its head
+abbrev pub for_headed : (Text → List Data → List Check) → List Data → List Check
+for_headed f [] = wrong_shape
+for_headed f (head ∷ parts) = needs (is_text head) Shape ∷ f (text head) parts
+
+-- a list of at most so many elements, and each of them in order
+abbrev pub list_checks : ℕ → (Data → List Check) → Data → List Check
+list_checks most checks d =
+    needs (is_list d) Shape
+    ∷ needs (nat_le (length (elements d)) most) TooMany
+    ∷ flat_map checks (elements d)
+
+-- each element in order, where the names of those before it are declared
+abbrev pub checks_in_turn : (Declared → Data → List Check) → (Declared → Data → Declared)
+    → Declared → List Data → List Check
+checks_in_turn checks with_one names [] = []
+checks_in_turn checks with_one names (d ∷ ds) =
+    checks names d ++ checks_in_turn checks with_one (with_one names d) ds
+
+-- a list of at most so many elements that declare names, and each of them in order
+abbrev pub names_checks : ℕ → (Declared → Data → List Check) → (Declared → Data → Declared)
+    → Declared → Data → List Check
+names_checks most checks with_one names d =
+    needs (is_list d) Shape
+    ∷ needs (nat_le (length (elements d)) most) TooMany
+    ∷ checks_in_turn checks with_one names (elements d)
+
+-- ---- names
+
+-- a good name, which isn't among those before
+abbrev pub new_name : List Text → Text → List Check
+new_name before name =
+    needs (is_name name) BadName ∷ needs (not (is_some (position_of before name))) TwiceNamed ∷ []
+
+abbrev pub a_type : Declared → Data → Check
+a_type names d = needs (is_some (type_number names (text d))) UnknownName
+
+abbrev pub a_resource : Declared → Data → Check
+a_resource names d = needs (is_some (resource_number names (text d))) UnknownName
+
+abbrev pub a_system : Declared → Data → Check
+a_system names d = needs (is_some (system_number names (text d))) UnknownName
+
+-- ---- types and resources
+
+abbrev pub type_checks : Declared → Data → List Check
+type_checks names d =
+    for_two (λ name limit.
+    needs (is_text name && is_number limit) Shape
+    ∷ (new_name names.types (text name) ++ a_limit limit ∷ []))
+    (elements d)
+
+abbrev pub resource_checks : Declared → Data → List Check
+resource_checks names d =
+    for_two (λ name value.
+    needs (is_text name && is_number value) Shape
+    ∷ (new_name names.resources (text name) ++ a_value value ∷ []))
+    (elements d)
+
+-- ---- ops: the shape of the whole, and then the parts from left to right
+
+abbrev pub bare_op_checks : Text → List Check
+bare_op_checks head = if bytes_eq head (codes "signal") then [] else wrong_shape
+
+abbrev pub op_checks_with_one : Declared → Text → Data → List Check
+op_checks_with_one names head d =
+    if bytes_eq head (codes "read") then needs (is_text d) Shape ∷ a_type names d ∷ []
+    else if bytes_eq head (codes "len") then needs (is_text d) Shape ∷ a_type names d ∷ []
+    else if bytes_eq head (codes "missed") then needs (is_text d) Shape ∷ a_type names d ∷ []
+    else if bytes_eq head (codes "clear") then needs (is_text d) Shape ∷ a_type names d ∷ []
+    else if bytes_eq head (codes "get") then needs (is_text d) Shape ∷ a_resource names d ∷ []
+    else if bytes_eq head (codes "drain") then needs (is_text d) Shape ∷ a_type names d ∷ []
+    else wrong_shape
+
+abbrev pub op_checks_with_two : Declared → Text → Data → Data → List Check
+op_checks_with_two names head d e =
+    if bytes_eq head (codes "write")
+    then needs (is_text d && is_number e) Shape ∷ a_type names d ∷ a_value e ∷ []
+    else if bytes_eq head (codes "batch")
+    then needs (is_text d && is_list_of_numbers e) Shape ∷ a_type names d
+    ∷ few_values e ∷ map a_value (elements e)
+    else if bytes_eq head (codes "read")
+    then needs (is_text d && is_number e) Shape ∷ a_type names d ∷ a_limit e ∷ []
+    else if bytes_eq head (codes "forward")
+    then needs (is_text d && is_text e) Shape ∷ a_type names d ∷ a_type names e ∷ []
+    else if bytes_eq head (codes "sum")
+    then needs (is_text d && is_text e) Shape ∷ a_type names d ∷ a_resource names e ∷ []
+    else if bytes_eq head (codes "set")
+    then needs (is_text d && is_number e) Shape ∷ a_resource names d ∷ a_value e ∷ []
+    else if bytes_eq head (codes "add")
+    then needs (is_text d && is_number e) Shape ∷ a_resource names d ∷ a_value e ∷ []
+    else wrong_shape
+
+abbrev pub op_checks_with : Declared → Text → List Data → List Check
+op_checks_with names head [] = bare_op_checks head
+op_checks_with names head (d ∷ []) = op_checks_with_one names head d
+op_checks_with names head (d ∷ e ∷ []) = op_checks_with_two names head d e
+op_checks_with names head (d ∷ e ∷ f ∷ rest) = wrong_shape
+
+abbrev pub op_checks : Declared → Data → List Check
+op_checks names d = for_headed (op_checks_with names) (elements d)
+
+-- ---- conditions: the shape of the whole, the number of `not`s, and then the parts
+
+-- a probe of this head and these parts, round which there are so many `not`s
+abbrev pub probe_checks : Declared → ℕ → Text → List Data → List Check
+probe_checks names nots head [] = wrong_shape
+probe_checks names nots head (d ∷ []) =
+    needs (bytes_eq head (codes "on_message") && is_text d) Shape
+    ∷ needs (nat_le nots 16) TooMany
+    ∷ a_type names d
+    ∷ []
+probe_checks names nots head (d ∷ e ∷ []) =
+    needs (bytes_eq head (codes "resource_equals") && (is_text d && is_number e)) Shape
+    ∷ needs (nat_le nots 16) TooMany
+    ∷ a_resource names d
+    ∷ a_value e
+    ∷ []
+probe_checks names nots head (d ∷ e ∷ f ∷ rest) = wrong_shape
+
+abbrev pub condition_checks : Declared → Data → List Check
+condition_checks names d =
+    for_headed (probe_checks names (nots_round 128 d)) (elements (inside_nots 128 d))
+
+-- ---- systems
+
+abbrev pub is_system_key : Text → Bool
+is_system_key key =
+    bytes_eq key (codes "name") || bytes_eq key (codes "kind") || bytes_eq key (codes "ops")
+    || bytes_eq key (codes "if") || bytes_eq key (codes "join") || bytes_eq key (codes "start")
+
+-- an object with a name and ops, and with no other keys than those of systems
+abbrev pub system_object : Data → List Check
+system_object d =
+    needs (is_object d) Shape
+    ∷ needs (list_all is_system_key (keys d)) UnknownKey
+    ∷ needs (is_some (get (codes "name") d)) Shape
+    ∷ needs (is_some (get (codes "ops") d)) Shape
+    ∷ []
+
+-- a relay's program is one `forward`, a tally's one `sum`, a script's anything
+abbrev pub fits_kind : Kind → List Op → Bool
+fits_kind Script ops = true
+fits_kind Relay (Forward t u ∷ []) = true
+fits_kind Tally (Sum t r ∷ []) = true
+fits_kind _ _ = false
+
+-- the ops that were read fit the kind
+abbrev pub of_its_kind : Declared → Data → Bool
+of_its_kind names d =
+    option_map_or (λ kind. option_map_or (fits_kind kind) (ops_of names d) false)
+    (kind_of (kind_in d)) false
+
+abbrev pub name_checks : Declared → Data → List Check
+name_checks names d = needs (is_text d) Shape ∷ new_name names.systems (text d)
+
+-- from 1 to 10,000
+abbrev pub join_checks : Data → List Check
+join_checks d =
+    needs (is_number d) Shape
+    ∷ needs (option_map_or (nat_le 1) (number_up_to 10000 d) false) BadNumber
+    ∷ []
+
+-- the conditions, and the frame to join with
+abbrev pub place_checks : Declared → Data → List Check
+place_checks names d = list_checks 8 (condition_checks names) (conditions_in d) ++ join_checks (join_in d)
+
+-- the ops, and that they fit the kind
+abbrev pub ops_checks : Declared → Data → List Check
+ops_checks names d =
+    list_checks 64 (op_checks names) (value_at (codes "ops") d) ++ needs (of_its_kind names d) Shape ∷ []
+
+-- the kind, and all that follows it
+abbrev pub program_checks : Declared → Data → List Check
+program_checks names d =
+    needs (is_some (kind_of (kind_in d))) Shape
+    ∷ (ops_checks names d
+    ++ (place_checks names d
+    ++ needs (is_some (start_of (start_in d))) Shape ∷ []))
+
+abbrev pub system_checks : Declared → Data → List Check
+system_checks names d =
+    system_object d ++ (name_checks names (value_at (codes "name") d) ++ program_checks names d)
+
+-- ---- rules and frames
+
+abbrev pub rule_checks : Declared → Data → List Check
+rule_checks names d =
+    for_two (λ earlier later.
+    needs (is_text earlier && is_text later) Shape ∷ a_system names earlier ∷ a_system names later ∷ [])
+    (elements d)
+
+abbrev pub post_checks : Declared → Data → List Check
+post_checks names d =
+    for_two (λ name value.
+    needs (is_text name && is_number value) Shape ∷ a_type names name ∷ a_value value ∷ [])
+    (elements d)
+
+abbrev pub frame_checks : Declared → Data → List Check
+frame_checks names d = list_checks 1024 (post_checks names) d
+
+-- ---- the file
+
+abbrev pub is_root_key : Text → Bool
+is_root_key key =
+    bytes_eq key (codes "types") || bytes_eq key (codes "resources") || bytes_eq key (codes "held")
+    || bytes_eq key (codes "systems") || bytes_eq key (codes "rules") || bytes_eq key (codes "frames")
+
+-- an object with types, systems and frames, and with no other keys than those of scenarios
+abbrev pub root_object : Data → List Check
+root_object d =
+    needs (is_object d) Shape
+    ∷ needs (list_all is_root_key (keys d)) UnknownKey
+    ∷ needs (is_some (get (codes "types") d)) Shape
+    ∷ needs (is_some (get (codes "systems") d)) Shape
+    ∷ needs (is_some (get (codes "frames") d)) Shape
+    ∷ []
+
+-- an op of the program reads a type, and an op of it writes that type
+abbrev pub reads_and_writes_a_type : List Op → Bool
+reads_and_writes_a_type ops =
+    list_any (λ op. option_map_or (λ t. some_op_writes ops (OfType t)) (type_read op) false) ops
+
+-- the systems from number s on
+abbrev pub clash_checks : ℕ → List SystemSpec → List Check
+clash_checks s [] = []
+clash_checks s (system ∷ systems) =
+    needs (not (reads_and_writes_a_type system.program.ops)) (Clash s) ∷ clash_checks (s + 1) systems
+
+-- the sections of a file
+abbrev pub section_checks : Data → List Check
+section_checks d =
+    root_object d
+    ++ (names_checks 64 type_checks with_type no_names (types_in d)
+    ++ (names_checks 64 resource_checks with_resource (type_names d) (resources_in d)
+    ++ (needs (is_some (as_bool (held_in d))) Shape
+    ∷ (names_checks 256 system_checks with_system (part_names d) (systems_in d)
+    ++ (list_checks 1024 (rule_checks (all_names d)) (rules_in d)
+    ++ list_checks 10000 (frame_checks (all_names d)) (frames_in d))))))
+
+-- all checks of a file, but that its rules make no cycle
+abbrev pub scenario_checks : Data → List Check
+scenario_checks d = section_checks d ++ clash_checks 0 (unwrap_or (systems_of d) [])

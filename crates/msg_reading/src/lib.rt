@@ -1,0 +1,11 @@
+//! Scenario files: what they denote, and which of them are refused.
+#![tactic(auto)]
+
+mod kind;
+mod name;
+mod scenario;
+
+pub use kind::Kind;
+pub use msg_files::Refusal;
+pub use name::Name;
+pub use scenario::{Scenario, SystemSpec, read_scenario};

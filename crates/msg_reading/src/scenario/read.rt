@@ -1,0 +1,63 @@
+// A scenario from the bytes of a JSON text.
+ghost use Rattle.std.specs.Prelude.{◌≡◌, ◌≢◌, None, Some, Err, IfOk, IfErr, IsUtf8};
+ghost use Rattle.serde_json.specs.Data.{Data};
+ghost use Rattle.serde_json.specs.Read.{read};
+ghost use Rattle.serde_json.specs.View.{view};
+ghost use Rattle.msg_files.specs.Json.{IsJsonOf};
+ghost use Rattle.msg_reading.specs.Reading.{IsReadAs, IsRefusedFor};
+ghost use Rattle.msg_reading.specs.Runnable.{IsRunnable};
+
+use crate::{Refusal, Scenario};
+use serde_json::{Category, Value};
+use std::alloc::Global;
+
+mod clash;
+mod condition;
+mod cycle;
+mod declared;
+mod file;
+mod frame;
+mod list;
+mod named;
+mod names;
+mod op;
+mod part;
+mod place;
+mod rule;
+mod system;
+
+/// The scenario that the bytes are a JSON text of, or the first refusal in reading order.
+pub fn read_scenario(alloc: Global, bytes: &[u8]) -> Result<Scenario, Refusal>
+    ensures ok { IfOk result (λ scenario.
+        (d : Data) × IsJsonOf bytes.now d × IsReadAs d scenario) }
+    ensures runnable { IfOk result IsRunnable }
+    ensures not_json { result ≡ Err Refusal.NotJson → IsUtf8 bytes.now → read bytes.now ≡ None }
+    ensures refused { IfErr result (λ refusal.
+        refusal ≢ Refusal.NotJson → refusal ≢ Refusal.NoMemory
+        → (d : Data) × IsJsonOf bytes.now d × IsRefusedFor d refusal) }
+{
+    match Value::from_slice(alloc, bytes) {
+        Ok(value) => read_value(alloc, &value),
+        Err(error) => {
+            if error.classify() == Category::Memory {
+                Err(Refusal::NoMemory)
+            } else {
+                Err(Refusal::NotJson)
+            }
+        }
+    }
+}
+
+/// The scenario that a JSON value denotes.
+fn read_value(alloc: Global, value: &Value) -> Result<Scenario, Refusal>
+    ensures ok { IfOk result (IsReadAs (view value.now)) }
+    ensures runnable { IfOk result IsRunnable }
+    ensures refused { IfErr result (λ e. (e ≢ Refusal.NotJson)
+        × (e ≢ Refusal.NoMemory → IsRefusedFor (view value.now) e)) }
+{
+    let scenario = file::read_sections(alloc, value)?;
+    clash::check_clashes(scenario.systems.as_slice())?;
+    let systems = scenario.systems.as_slice().len();
+    cycle::check_cycles(alloc, systems, scenario.rules.as_slice())?;
+    Ok(scenario)
+}

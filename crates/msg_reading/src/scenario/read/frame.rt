@@ -1,0 +1,36 @@
+// One frame: a list of posts, each a type and a value.
+ghost use Rattle.msg_reading.specs.ScenarioChecks.{frame_checks, post_checks};
+ghost use Rattle.msg_reading.specs.ScenarioDenotes.{frame_of, post_of};
+
+use crate::Refusal;
+use crate::scenario::read::list::{Element, read_list};
+use crate::scenario::read::names::Declarations;
+use crate::scenario::read::part::{two, type_and_value};
+use msg_exec::Frame;
+use msg_world::TypeNo;
+use serde_json::Value;
+use std::alloc::Global;
+
+const MAX_POSTS: usize = 1024;
+
+impl Element for Frame {
+    ghost checks = { frame_checks };
+
+    ghost denotes = { frame_of };
+
+    fn read(alloc: Global, names: &Declarations, value: &Value) -> Result<Frame, Refusal> {
+        let posts = read_list(alloc, names, value, MAX_POSTS)?;
+        Ok(Frame { posts })
+    }
+}
+
+impl Element for (TypeNo, i64) {
+    ghost checks = { post_checks };
+
+    ghost denotes = { post_of };
+
+    fn read(_alloc: Global, names: &Declarations, value: &Value) -> Result<(TypeNo, i64), Refusal> {
+        let (of_type, value) = two(value)?;
+        type_and_value(names, of_type, value)
+    }
+}

@@ -1,0 +1,81 @@
+// Lists whose elements declare names.
+ghost use Rattle.std.specs.Prelude.{◌≡◌, ◌≢◌, List, Option, None, Some, IfOk, IfErr, OnOk, map};
+ghost use Rattle.serde_json.specs.Data.{Data};
+ghost use Rattle.serde_json.specs.View.{view};
+ghost use Rattle.msg_files.specs.Check.{Check, first_refusal};
+ghost use Rattle.msg_files.specs.Json.{elements};
+ghost use Rattle.msg_reading.specs.Names.{Declared};
+ghost use Rattle.msg_reading.specs.ScenarioChecks.{checks_in_turn, names_checks};
+ghost use Rattle.msg_reading.specs.ScenarioDenotes.{each_in_turn, with_all};
+ghost use Rattle.msg_files.specs.Walk.{Agrees};
+
+use crate::Refusal;
+use crate::scenario::read::names::Declarations;
+use msg_exec::Items;
+use serde_json::Value;
+use std::alloc::Global;
+
+/// What declares a name, and stands in a list.
+pub trait Declaration: Sized + Drop {
+    /// Its checks, in reading order, where the names before it are declared.
+    ghost checks: { Declared → Data → List Check };
+
+    /// What a value denotes.
+    ghost denotes: { Declared → Data → Option Self };
+
+    /// The names, with its own.
+    ghost with_one: { Declared → Data → Declared };
+
+    fn read(alloc: Global, names: &mut Declarations, value: &Value) -> Result<Self, Refusal>
+        ensures agrees { Agrees (checks names.old (view value.now))
+            (denotes names.old (view value.now)) result }
+        ensures declares { OnOk result (names.new ≡ with_one names.old (view value.now)) };
+}
+
+/// The elements of a list that isn't longer than `most`, and their names declared.
+pub fn read_names<T: Declaration>(
+    alloc: Global,
+    names: &mut Declarations,
+    list: &Value,
+    most: usize,
+) -> Result<Items<T>, Refusal>
+    ensures agrees { Agrees (names_checks most T.checks T.with_one names.old (view list.now))
+        (each_in_turn T.denotes T.with_one names.old (elements (view list.now))) result }
+    ensures declares { OnOk result
+        (names.new ≡ with_all T.with_one names.old (elements (view list.now))) }
+{
+    let Some(items) = list.as_array() else {
+        return Err(Refusal::Shape);
+    };
+    let items = items.as_slice();
+    if items.len() > most {
+        return Err(Refusal::TooMany);
+    }
+    let read = read_named_items(alloc, names, items)?;
+    Ok(Items::from_vec(read))
+}
+
+fn read_named_items<T: Declaration>(
+    alloc: Global,
+    names: &mut Declarations,
+    items: &[Value],
+) -> Result<Vec<T>, Refusal>
+    ensures is { IfOk result (λ v.
+        (first_refusal (checks_in_turn T.checks T.with_one names.old (map view items.now)) ≡ None)
+        × (each_in_turn T.denotes T.with_one names.old (map view items.now) ≡ Some v.items)) }
+    ensures refused { IfErr result (λ e. (e ≢ Refusal.NotJson)
+        × (e ≢ Refusal.NoMemory
+        → first_refusal (checks_in_turn T.checks T.with_one names.old (map view items.now))
+        ≡ Some e)) }
+    ensures declares { OnOk result
+        (names.new ≡ with_all T.with_one names.old (map view items.now)) }
+{
+    let mut read = Vec::new(alloc);
+    for item in items {
+        let element = T::read(alloc, names, item)?;
+        if read.push(element).is_err() {
+            return Err(Refusal::NoMemory);
+        }
+    }
+    Ok(read)
+}

@@ -1,0 +1,185 @@
+// The names that a file declares.
+ghost use Rattle.std.specs.Prelude.{◌≡◌, ◌∷◌, ◌++◌, [], Some, None, IsOk, OnOk, MatchResult};
+ghost use Rattle.std.specs.List.{list_all};
+ghost use Rattle.msg_reading.specs.Names.{is_name, is_name_character, position_of, type_number, resource_number, system_number};
+ghost use Rattle.msg_reading.specs.ScenarioChecks.{new_name};
+ghost use Rattle.msg_reading.specs.ScenarioDenotes.{no_names};
+ghost use Rattle.msg_files.specs.Walk.{Agrees};
+
+use crate::{Name, Refusal};
+use indexmap::IndexSet;
+use msg_world::{ResNo, TypeNo};
+use std::alloc::Global;
+use std::marker::Model;
+
+const MAX_NAME: usize = 32;
+
+const MAX_TYPES: usize = 64;
+
+const MAX_RESOURCES: usize = 64;
+
+const MAX_SYSTEMS: usize = 256;
+
+/// Whether it is a good name.
+fn is_name(name: &str) -> bool
+    ensures { result ≡ is_name name.now }
+{
+    let bytes = name.as_bytes();
+    1 <= bytes.len() && bytes.len() <= MAX_NAME && are_name_characters(bytes) && name != "host"
+}
+
+fn are_name_characters(bytes: &[u8]) -> bool
+    ensures { result ≡ list_all is_name_character bytes.now }
+{
+    bytes.iter().all(|byte| is_name_character(*byte))
+}
+
+fn is_name_character(byte: u8) -> bool
+    ensures { result ≡ is_name_character byte }
+{
+    97 <= byte && byte <= 122 || 48 <= byte && byte <= 57 || byte == 95
+}
+
+/// Names in order, each once. Contracts see it as their list.
+#[derive(Drop)]
+pub struct NameSpace {
+    names: IndexSet<String>,
+}
+
+impl Model for NameSpace {
+    ghost use Rattle.std.specs.Prelude.{List, map, string_bytes};
+    ghost use Rattle.msg_files.specs.Json.{Text};
+
+    ghost Value = { List Text };
+
+    ghost view = { λ s. map string_bytes s.names.keys };
+}
+
+impl NameSpace {
+    fn new(alloc: Global) -> NameSpace
+        ensures empty { result ≡ [] }
+    {
+        NameSpace {
+            names: IndexSet::new(alloc),
+        }
+    }
+
+    /// The place of a name.
+    fn place(&self, name: &str) -> Option<usize>
+        ensures place { result ≡ position_of self.now name.now }
+    {
+        self.names.get_index_of(name)
+    }
+
+    /// A new name, which goes last.
+    fn declare(&mut self, alloc: Global, name: &str) -> Result<Name, Refusal>
+        ensures agrees { Agrees (new_name self.old name.now) (Some name.now) result }
+        ensures declares { OnOk result (self.new ≡ self.old ++ name.now ∷ []) }
+    {
+        if !is_name(name) {
+            return Err(Refusal::BadName);
+        }
+        if self.place(name).is_some() {
+            return Err(Refusal::TwiceNamed);
+        }
+        let (Ok(key), Ok(text)) = (name.to_string(alloc), name.to_string(alloc)) else {
+            return Err(Refusal::NoMemory);
+        };
+        if self.names.insert(key).is_err() {
+            return Err(Refusal::NoMemory);
+        }
+        Ok(Name::from_text(text))
+    }
+}
+
+/// The names that are declared so far, of three kinds.
+#[derive(Drop)]
+pub struct Declarations {
+    types: NameSpace,
+    resources: NameSpace,
+    systems: NameSpace,
+}
+
+impl Model for Declarations {
+    ghost use Rattle.msg_reading.specs.Names.{Declared};
+
+    ghost Value = { Declared };
+
+    ghost view = { λ d.
+        record { types = d.types; resources = d.resources; systems = d.systems } };
+}
+
+impl Declarations {
+    pub fn new(alloc: Global) -> Declarations
+        ensures empty { result ≡ no_names }
+    {
+        Declarations {
+            types: NameSpace::new(alloc),
+            resources: NameSpace::new(alloc),
+            systems: NameSpace::new(alloc),
+        }
+    }
+
+    /// The type of this name.
+    pub fn type_no(&self, name: &str) -> Result<TypeNo, Refusal>
+        ensures found { MatchResult result (λ t. type_number self.now name.now ≡ Some t)
+            (λ e. (e ≡ Refusal.UnknownName) × (type_number self.now name.now ≡ None)) }
+    {
+        let Some(place) = self.types.place(name) else {
+            return Err(Refusal::UnknownName);
+        };
+        if place >= MAX_TYPES {
+            return Err(Refusal::UnknownName);
+        }
+        TypeNo::new(place as u32).ok_or(Refusal::UnknownName)
+    }
+
+    /// The resource of this name.
+    pub fn res_no(&self, name: &str) -> Result<ResNo, Refusal>
+        ensures found { MatchResult result (λ r. resource_number self.now name.now ≡ Some r)
+            (λ e. (e ≡ Refusal.UnknownName) × (resource_number self.now name.now ≡ None)) }
+    {
+        let Some(place) = self.resources.place(name) else {
+            return Err(Refusal::UnknownName);
+        };
+        if place >= MAX_RESOURCES {
+            return Err(Refusal::UnknownName);
+        }
+        ResNo::new(place as u32).ok_or(Refusal::UnknownName)
+    }
+
+    /// The number of the system of this name.
+    pub fn system_no(&self, name: &str) -> Result<u32, Refusal>
+        ensures found { MatchResult result (λ s. system_number self.now name.now ≡ Some s)
+            (λ e. (e ≡ Refusal.UnknownName) × (system_number self.now name.now ≡ None)) }
+    {
+        match self.systems.place(name) {
+            Some(place) if place < MAX_SYSTEMS => Ok(place as u32),
+            _ => Err(Refusal::UnknownName),
+        }
+    }
+
+    pub fn declare_type(&mut self, alloc: Global, name: &str) -> Result<Name, Refusal>
+        ensures agrees { Agrees (new_name self.old.types name.now) (Some name.now) result }
+        ensures declares { OnOk result
+            (self.new ≡ record self.old { types = self.old.types ++ name.now ∷ [] }) }
+    {
+        self.types.declare(alloc, name)
+    }
+
+    pub fn declare_resource(&mut self, alloc: Global, name: &str) -> Result<Name, Refusal>
+        ensures agrees { Agrees (new_name self.old.resources name.now) (Some name.now) result }
+        ensures declares { OnOk result
+            (self.new ≡ record self.old { resources = self.old.resources ++ name.now ∷ [] }) }
+    {
+        self.resources.declare(alloc, name)
+    }
+
+    pub fn declare_system(&mut self, alloc: Global, name: &str) -> Result<Name, Refusal>
+        ensures agrees { Agrees (new_name self.old.systems name.now) (Some name.now) result }
+        ensures declares { OnOk result
+            (self.new ≡ record self.old { systems = self.old.systems ++ name.now ∷ [] }) }
+    {
+        self.systems.declare(alloc, name)
+    }
+}

@@ -1,0 +1,173 @@
+// One op, by its head and the number of parts that follow it.
+ghost use Rattle.std.specs.Prelude.{◌≡◌, ◌∷◌, ◌&&◌, Some, MatchResult, length, map, nat_le, true, false};
+ghost use Rattle.serde_json.specs.Find.{as_array, as_str};
+ghost use Rattle.serde_json.specs.View.{items_view, view};
+ghost use Rattle.msg_system.specs.declared.op.Op.TheVariants.{Batch};
+ghost use Rattle.msg_files.specs.Check.{needs};
+ghost use Rattle.msg_files.specs.Checks.{a_value, few_values};
+ghost use Rattle.msg_files.specs.Denotes.{values_of};
+ghost use Rattle.msg_files.specs.Json.{all_some, elements, whole};
+ghost use Rattle.msg_reading.specs.Names.{type_number};
+ghost use Rattle.msg_reading.specs.ScenarioChecks.{a_type, bare_op_checks, is_list_of_numbers, is_text, op_checks, op_checks_with, op_checks_with_one, op_checks_with_two};
+ghost use Rattle.msg_reading.specs.ScenarioDenotes.{bare_op, both, op_of, op_with, op_with_one, op_with_two, text};
+ghost use Rattle.msg_files.specs.Walk.{Agrees};
+ghost use Rattle.msg_files.specs.declared.refusal.Refusal.TheVariants.{Shape, TooMany};
+
+use crate::Refusal;
+use msg_files::numbers::{are_numbers, whole_numbers};
+use crate::scenario::read::list::Element;
+use crate::scenario::read::names::Declarations;
+use crate::scenario::read::part::{
+    head_and_parts, resource_and_value, text, two_types, type_and_limit, type_and_resource,
+    type_and_value,
+};
+use msg_system::{Op, Values};
+use serde_json::Value;
+use std::alloc::Global;
+
+const MAX_VALUES: usize = 1024;
+
+impl Element for Op {
+    ghost checks = { op_checks };
+
+    ghost denotes = { op_of };
+
+    fn read(alloc: Global, names: &Declarations, value: &Value) -> Result<Op, Refusal> {
+        let (head, parts) = head_and_parts(value)?;
+        read_parts(alloc, names, head, parts)
+    }
+}
+
+fn read_parts(
+    alloc: Global,
+    names: &Declarations,
+    head: &str,
+    parts: &[Value],
+) -> Result<Op, Refusal>
+    ensures agrees { Agrees (op_checks_with names.now head.now (map view parts.now))
+        (op_with names.now head.now (map view parts.now)) result }
+{
+    match parts {
+        [] => read_bare(head),
+        [part] => read_with_one(names, head, part),
+        [part, other] => read_with_two(alloc, names, head, part, other),
+        [_, _, _, ..] => Err(Refusal::Shape),
+    }
+}
+
+fn read_bare(head: &str) -> Result<Op, Refusal>
+    ensures agrees { Agrees (bare_op_checks head.now) (bare_op head.now) result }
+{
+    match head {
+        "signal" => Ok(Op::Signal),
+        _ => Err(Refusal::Shape),
+    }
+}
+
+fn read_with_one(names: &Declarations, head: &str, part: &Value) -> Result<Op, Refusal>
+    ensures agrees { Agrees (op_checks_with_one names.now head.now (view part.now))
+        (op_with_one names.now head.now (view part.now)) result }
+{
+    match head {
+        "read" => Ok(Op::Read(names.type_no(text(part)?)?, None)),
+        "len" => Ok(Op::Len(names.type_no(text(part)?)?)),
+        "missed" => Ok(Op::Missed(names.type_no(text(part)?)?)),
+        "clear" => Ok(Op::Clear(names.type_no(text(part)?)?)),
+        "get" => Ok(Op::Get(names.res_no(text(part)?)?)),
+        "drain" => Ok(Op::Drain(names.type_no(text(part)?)?)),
+        _ => Err(Refusal::Shape),
+    }
+}
+
+fn read_with_two(
+    alloc: Global,
+    names: &Declarations,
+    head: &str,
+    part: &Value,
+    other: &Value,
+) -> Result<Op, Refusal>
+    ensures agrees { Agrees (op_checks_with_two names.now head.now (view part.now) (view other.now))
+        (op_with_two names.now head.now (view part.now) (view other.now)) result }
+{
+    match head {
+        "write" => {
+            let (of_type, value) = type_and_value(names, part, other)?;
+            Ok(Op::Write(of_type, value))
+        }
+        "batch" => read_batch(alloc, names, part, other),
+        "read" => {
+            let (of_type, limit) = type_and_limit(names, part, other)?;
+            Ok(Op::Read(of_type, Some(u64::from(limit))))
+        }
+        "forward" => {
+            let (from, to) = two_types(names, part, other)?;
+            Ok(Op::Forward(from, to))
+        }
+        "sum" => {
+            let (of_type, resource) = type_and_resource(names, part, other)?;
+            Ok(Op::Sum(of_type, resource))
+        }
+        "set" => {
+            let (resource, value) = resource_and_value(names, part, other)?;
+            Ok(Op::Set(resource, value))
+        }
+        "add" => {
+            let (resource, value) = resource_and_value(names, part, other)?;
+            Ok(Op::Add(resource, value))
+        }
+        _ => Err(Refusal::Shape),
+    }
+}
+
+fn read_batch(
+    alloc: Global,
+    names: &Declarations,
+    part: &Value,
+    other: &Value,
+) -> Result<Op, Refusal>
+    ensures agrees { Agrees
+        (needs (is_text (view part.now) && is_list_of_numbers (view other.now)) Shape
+        ∷ a_type names.now (view part.now)
+        ∷ few_values (view other.now)
+        ∷ map a_value (elements (view other.now)))
+        (both (λ t vs. Batch t vs) (type_number names.now (text (view part.now)))
+        (values_of (view other.now)))
+        result }
+{
+    let (name, items) = text_and_numbers(part, other)?;
+    let of_type = names.type_no(name)?;
+    Ok(Op::Batch(of_type, read_values(alloc, items)?))
+}
+
+fn text_and_numbers<'a>(
+    part: &'a Value,
+    other: &'a Value,
+) -> Result<(&'a str, &'a [Value]), Refusal>
+    ensures are { MatchResult result
+        (λ p. (as_str (view part.now) ≡ Some p.0.now)
+        × (is_list_of_numbers (view other.now) ≡ true)
+        × (as_array (view other.now) ≡ Some (items_view p.1.now)))
+        (λ e. (e ≡ Refusal.Shape)
+        × ((is_text (view part.now) && is_list_of_numbers (view other.now)) ≡ false)) }
+{
+    let (Some(name), Some(items)) = (part.as_str(), other.as_array()) else {
+        return Err(Refusal::Shape);
+    };
+    let items = items.as_slice();
+    if !are_numbers(items) {
+        return Err(Refusal::Shape);
+    }
+    Ok((name, items))
+}
+
+/// The values of a batch.
+fn read_values(alloc: Global, items: &[Value]) -> Result<Values, Refusal>
+    ensures agrees { Agrees
+        (needs (nat_le (length items.now) 1024) TooMany ∷ map a_value (map view items.now))
+        (all_some (map whole (map view items.now))) result }
+{
+    if items.len() > MAX_VALUES {
+        return Err(Refusal::TooMany);
+    }
+    Ok(Values::from_vec(whole_numbers(alloc, items)?))
+}

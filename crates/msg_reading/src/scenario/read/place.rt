@@ -1,0 +1,82 @@
+// A system's place among the others, and where its cursors start.
+ghost use Rattle.std.specs.Prelude.{◌≡◌, None, Some, MatchResult};
+ghost use Rattle.serde_json.specs.View.{view};
+ghost use Rattle.msg_files.specs.Json.{natural};
+ghost use Rattle.msg_reading.specs.ScenarioChecks.{condition_checks, join_checks, list_checks, place_checks};
+ghost use Rattle.msg_reading.specs.ScenarioDenotes.{condition_of, conditions_in, each_of, join_in, place_of, start_in, start_of};
+ghost use Rattle.msg_files.specs.Walk.{Agrees};
+
+use crate::Refusal;
+use msg_files::numbers::{number, small_number};
+use crate::scenario::read::list::read_list_if_there;
+use crate::scenario::read::names::Declarations;
+use msg_exec::{Items, Place};
+use msg_system::{Condition, Start};
+use serde_json::Value;
+use std::alloc::Global;
+
+const MAX_CONDITIONS: usize = 8;
+
+const LAST_JOIN: u32 = 10_000;
+
+pub fn read_place(alloc: Global, names: &Declarations, system: &Value) -> Result<Place, Refusal>
+    ensures agrees { Agrees (place_checks names.now (view system.now))
+        (place_of names.now (view system.now)) result }
+{
+    let conditions = read_conditions(alloc, names, system)?;
+    let join = read_join(system)?;
+    Ok(Place { conditions, join })
+}
+
+fn read_conditions(
+    alloc: Global,
+    names: &Declarations,
+    system: &Value,
+) -> Result<Items<Condition>, Refusal>
+    ensures agrees { Agrees
+        (list_checks 8 (condition_checks names.now) (conditions_in (view system.now)))
+        (each_of (condition_of names.now) (conditions_in (view system.now))) result }
+{
+    read_list_if_there(alloc, names, system.get("if"), MAX_CONDITIONS)
+}
+
+fn read_join(system: &Value) -> Result<u32, Refusal>
+    ensures agrees { Agrees (join_checks (join_in (view system.now)))
+        (natural (join_in (view system.now))) result }
+{
+    match system.get("join") {
+        Some(join) => join_of(join),
+        None => Ok(1),
+    }
+}
+
+fn join_of(join: &Value) -> Result<u32, Refusal>
+    ensures agrees { Agrees (join_checks (view join.now)) (natural (view join.now)) result }
+{
+    let join = small_number(number(join)?, LAST_JOIN + 1)?;
+    if join == 0 {
+        return Err(Refusal::BadNumber);
+    }
+    Ok(join)
+}
+
+pub fn read_start(system: &Value) -> Result<Start, Refusal>
+    ensures is { MatchResult result (λ s. start_of (start_in (view system.now)) ≡ Some s)
+        (λ e. (e ≡ Refusal.Shape) × (start_of (start_in (view system.now)) ≡ None)) }
+{
+    match system.get("start") {
+        Some(start) => start_named(start),
+        None => Ok(Start::Zero),
+    }
+}
+
+fn start_named(start: &Value) -> Result<Start, Refusal>
+    ensures is { MatchResult result (λ s. start_of (view start.now) ≡ Some s)
+        (λ e. (e ≡ Refusal.Shape) × (start_of (view start.now) ≡ None)) }
+{
+    match start.as_str() {
+        Some("zero") => Ok(Start::Zero),
+        Some("current") => Ok(Start::Current),
+        _ => Err(Refusal::Shape),
+    }
+}

@@ -1,0 +1,161 @@
+// One system.
+ghost use Rattle.std.specs.Prelude.{◌≡◌, ◌≢◌, ◌∷◌, ◌++◌, [], None, Some, IfOk, IfErr, MatchResult, OnOk, codes, false, string_bytes};
+ghost use Rattle.std.specs.List.{list_all};
+ghost use Rattle.std.specs.Option.{option_map_or};
+ghost use Rattle.serde_json.specs.View.{view};
+ghost use Rattle.msg_files.specs.Check.{first_refusal, needs};
+ghost use Rattle.msg_files.specs.Json.{value_at};
+ghost use Rattle.msg_reading.specs.ScenarioChecks.{fits_kind, is_system_key, list_checks, name_checks, op_checks, program_checks, system_checks, system_object};
+ghost use Rattle.msg_reading.specs.ScenarioDenotes.{each_of, kind_in, kind_of, op_of, ops_of, place_of, start_in, start_of, system_of, text, with_system};
+ghost use Rattle.msg_files.specs.Walk.{Agrees};
+ghost use Rattle.msg_files.specs.declared.refusal.Refusal.TheVariants.{Shape};
+
+use crate::scenario::read::list::read_list;
+use crate::scenario::read::named::Declaration;
+use crate::scenario::read::names::Declarations;
+use crate::scenario::read::part::text;
+use crate::scenario::read::place::{read_place, read_start};
+use crate::{Kind, Name, Refusal, SystemSpec};
+use msg_exec::Place;
+use msg_system::{Op, Ops, Program};
+use serde_json::{Map, Value};
+use std::alloc::Global;
+
+const MAX_OPS: usize = 64;
+
+impl Declaration for SystemSpec {
+    ghost checks = { system_checks };
+
+    ghost denotes = { system_of };
+
+    ghost with_one = { with_system };
+
+    fn read(alloc: Global, names: &mut Declarations, value: &Value) -> Result<SystemSpec, Refusal> {
+        let (name, ops) = needed(value)?;
+        let name = read_name(alloc, names, name)?;
+        let (kind, program, place) = read_program(alloc, names, value, ops)?;
+        Ok(SystemSpec {
+            name,
+            kind,
+            program,
+            place,
+        })
+    }
+}
+
+/// All of a system but its name.
+fn read_program(
+    alloc: Global,
+    names: &Declarations,
+    system: &Value,
+    ops: &Value,
+) -> Result<(Kind, Program, Place), Refusal>
+    requires { value_at (codes "ops") (view system.now) ≡ view ops.now }
+    ensures is { IfOk result (λ p. (first_refusal (program_checks names.now (view system.now)) ≡ None)
+        × (kind_of (kind_in (view system.now)) ≡ Some p.0)
+        × (ops_of names.now (view system.now) ≡ Some p.1.ops)
+        × (place_of names.now (view system.now) ≡ Some p.2)
+        × (start_of (start_in (view system.now)) ≡ Some p.1.start)) }
+    ensures refused { IfErr result (λ e. (e ≢ Refusal.NotJson)
+        × (e ≢ Refusal.NoMemory
+        → first_refusal (program_checks names.now (view system.now)) ≡ Some e)) }
+{
+    let kind = read_kind(system)?;
+    let ops = read_ops(alloc, names, kind, ops)?;
+    let place = read_place(alloc, names, system)?;
+    let start = read_start(system)?;
+    Ok((kind, Program { ops, start }, place))
+}
+
+/// The name and the ops of a system, whose keys are known.
+fn needed(system: &Value) -> Result<(&Value, &Value), Refusal>
+    ensures found { IfOk result (λ p. (first_refusal (system_object (view system.now)) ≡ None)
+        × (value_at (codes "name") (view system.now) ≡ view p.0.now)
+        × (value_at (codes "ops") (view system.now) ≡ view p.1.now)) }
+    ensures refused { IfErr result (λ e. (e ≢ Refusal.NotJson)
+        × (first_refusal (system_object (view system.now)) ≡ Some e)) }
+{
+    let Some(members) = system.as_object() else {
+        return Err(Refusal::Shape);
+    };
+    if !are_known(members) {
+        return Err(Refusal::UnknownKey);
+    }
+    let Some(name) = system.get("name") else {
+        return Err(Refusal::Shape);
+    };
+    let Some(ops) = system.get("ops") else {
+        return Err(Refusal::Shape);
+    };
+    Ok((name, ops))
+}
+
+fn are_known(members: &Map<String, Value>) -> bool
+    ensures { result ≡ list_all (λ m. is_system_key (string_bytes m.0)) members.now.entries }
+{
+    members.iter().all(|(key, _)| is_known(key.as_str()))
+}
+
+fn is_known(key: &str) -> bool
+    ensures { result ≡ is_system_key key.now }
+{
+    key == "name" || key == "kind" || key == "ops" || key == "if" || key == "join" || key == "start"
+}
+
+fn read_name(alloc: Global, names: &mut Declarations, name: &Value) -> Result<Name, Refusal>
+    ensures agrees { Agrees (name_checks names.old (view name.now))
+        (Some (text (view name.now))) result }
+    ensures declares { OnOk result (names.new
+        ≡ record names.old { systems = names.old.systems ++ text (view name.now) ∷ [] }) }
+{
+    let name = text(name)?;
+    names.declare_system(alloc, name)
+}
+
+fn read_kind(system: &Value) -> Result<Kind, Refusal>
+    ensures is { MatchResult result (λ k. kind_of (kind_in (view system.now)) ≡ Some k)
+        (λ e. (e ≡ Refusal.Shape) × (kind_of (kind_in (view system.now)) ≡ None)) }
+{
+    match system.get("kind") {
+        Some(kind) => kind_named(kind),
+        None => Ok(Kind::Script),
+    }
+}
+
+fn kind_named(kind: &Value) -> Result<Kind, Refusal>
+    ensures is { MatchResult result (λ k. kind_of (view kind.now) ≡ Some k)
+        (λ e. (e ≡ Refusal.Shape) × (kind_of (view kind.now) ≡ None)) }
+{
+    match kind.as_str() {
+        Some("script") => Ok(Kind::Script),
+        Some("relay") => Ok(Kind::Relay),
+        Some("tally") => Ok(Kind::Tally),
+        _ => Err(Refusal::Shape),
+    }
+}
+
+/// The ops of a system of this kind.
+fn read_ops(alloc: Global, names: &Declarations, kind: Kind, ops: &Value) -> Result<Ops, Refusal>
+    ensures agrees { Agrees
+        (list_checks 64 (op_checks names.now) (view ops.now)
+        ++ needs (option_map_or (fits_kind kind) (each_of (op_of names.now) (view ops.now)) false) Shape
+        ∷ [])
+        (each_of (op_of names.now) (view ops.now)) result }
+{
+    let ops = read_list(alloc, names, ops, MAX_OPS)?.into_vec();
+    if !fits(kind, ops.as_slice()) {
+        return Err(Refusal::Shape);
+    }
+    Ok(Ops::from_vec(ops))
+}
+
+/// A relay's program is one `forward`, a tally's one `sum`.
+fn fits(kind: Kind, ops: &[Op]) -> bool
+    ensures { result ≡ fits_kind kind ops.now }
+{
+    match kind {
+        Kind::Script => true,
+        Kind::Relay => matches!(ops, [Op::Forward(_, _)]),
+        Kind::Tally => matches!(ops, [Op::Sum(_, _)]),
+    }
+}

@@ -1,5 +1,0 @@
-use Rattle.msg_scenario.proofs.Walks.{CallsLeft}
-use Rattle.msg_scenario.proofs.calls.read.file.read_items.Given as goal
-
-abbrev pub invariant-loop-item : goal.invariant-loop-item
-invariant-loop-item l = CallsLeft l.items l.item-index l.calls.items l.made
