@@ -1,3 +1,4 @@
 pub mod CommandLine
 pub mod Asked
 pub mod Inputs
+pub mod Faults

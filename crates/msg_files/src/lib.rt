@@ -15,6 +15,8 @@ mod std_sink;
 pub use call::Call;
 pub use calls::{Calls, read_calls, run_calls};
 pub use memory_sink::{MemorySink, ROOM};
+pub use msg_buffer::NoMemory;
+pub use msg_system::RunFault;
 pub use refusal::Refusal;
 pub use report_fault::ReportFault;
 pub use sink::{PutFault, Sink, put_all};

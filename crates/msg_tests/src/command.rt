@@ -1,4 +1,4 @@
-// Command lines, and the reading of a whole input.
+// Command lines, the reading of a whole input, and the lines of faults.
+mod faults;
 mod inputs;
-mod out_of_memory;
 mod words;

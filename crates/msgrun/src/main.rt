@@ -6,14 +6,14 @@
 #![tactic(auto)]
 
 ghost use Rattle.std.specs.Prelude.{◌≡◌, ◌<◌, ◌≤◌};
-ghost use Rattle.msgrun.specs.Faults.{status_of};
+ghost use Rattle.msg_command.specs.Faults.{status_of};
 
 mod building;
-mod fault;
 mod scene;
 
-use fault::{MainFault, print_fault};
-use msg_command::{Action, InputFault, WordFault, parse_words, read_all};
+use msg_command::{
+    Action, InputFault, MainFault, WordFault, parse_words, print_fault, read_all,
+};
 use msg_exec::Workers;
 use msg_scenario::{StdSink, put_all, read_calls, read_scenario, run_calls};
 use scene::run_scenario;

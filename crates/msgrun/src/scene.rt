@@ -9,7 +9,7 @@ ghost use Rattle.msg_scenario.specs.Making.{IsSystemAt};
 ghost use Rattle.msgrun.specs.Ran.{IsReported};
 
 use crate::building::{add, relay_of, scripted_of, tally_of};
-use crate::fault::MainFault;
+use msg_command::MainFault;
 use msg_exec::{NoGate, NoMemory, Workers};
 use msg_scenario::{Kind, ReportFault, Scenario, Sink, engine_of, report};
 use msg_system::System;

@@ -71,17 +71,6 @@ fn worked_files(rt: HostRuntime) {
     }
 }
 
-#[test]
-fn wide_batches(rt: HostRuntime) -> Result<(), Fail> {
-    let mut file = r#"{"limit":1024,"calls":[["batch",[7"#.to_string(rt.alloc())?;
-    for _ in 1..1024 {
-        file.push_str(",7")?;
-    }
-    file.push_str("]]]}")?;
-    expect_text(&rt, rt.alloc(), file.as_str(), "batch 0+1024\n");
-    Ok(())
-}
-
 /// A sink that fails after so many bytes has these; a sink that takes little has all.
 #[test]
 fn sinks_that_fail(rt: HostRuntime) {

@@ -1,13 +1,10 @@
 ghost use Rattle.std.specs.Prelude.{◌≡◌};
 
-use msg_command::{InputFault, WordFault};
-use msg_exec::NoMemory;
-use msg_scenario::{Refusal, ReportFault};
+use crate::{InputFault, WordFault};
+use msg_files::{NoMemory, Refusal, ReportFault};
 use thiserror::Error;
 
 mod print;
-#[cfg(test)]
-mod tests;
 
 pub use print::print_fault;
 
@@ -28,7 +25,7 @@ pub enum MainFault {
 }
 
 impl From<NoMemory> for MainFault {
-    ghost use Rattle.msgrun.specs.declared.fault.MainFault.TheVariants.{Built as NoEngine};
+    ghost use Rattle.msg_command.specs.declared.fault.MainFault.TheVariants.{Built as NoEngine};
 
     ghost from_gives = { λ _ fault. fault ≡ NoEngine };
 

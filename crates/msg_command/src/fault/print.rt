@@ -1,11 +1,10 @@
 ghost use Rattle.std.specs.Prelude.{◌≡◌};
 ghost use Rattle.msg_files.specs.Sinks.{TakesUnlessFailed};
-ghost use Rattle.msgrun.specs.Faults.{line_of, words_line, input_line, refusal_line, run_line, report_line, status_of};
+ghost use Rattle.msg_command.specs.Faults.{line_of, words_line, input_line, refusal_line, run_line, report_line, status_of};
 
 use crate::fault::MainFault;
-use msg_command::{InputFault, WordFault};
-use msg_exec::RunFault;
-use msg_scenario::{Refusal, ReportFault, Sink, put_all};
+use crate::{InputFault, WordFault};
+use msg_files::{Refusal, ReportFault, RunFault, Sink, put_all};
 
 /// Writes the fault's line, and gives the status that the program ends with. It takes no memory.
 pub fn print_fault<S: Sink>(fault: &MainFault, sink: &mut S) -> u8

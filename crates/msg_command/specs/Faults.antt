@@ -10,8 +10,8 @@ use Rattle.msg_system.specs.declared.run_fault.RunFault.{RunFault}
 use Rattle.msg_system.specs.declared.run_fault.RunFault.TheVariants as run
 use Rattle.msg_files.specs.declared.report_fault.ReportFault.{ReportFault}
 use Rattle.msg_files.specs.declared.report_fault.ReportFault.TheVariants as report
-use Rattle.msgrun.specs.declared.fault.MainFault.{MainFault}
-use Rattle.msgrun.specs.declared.fault.MainFault.TheVariants.{Words, Input, Refused, Built, Report}
+use Rattle.msg_command.specs.declared.fault.MainFault.{MainFault}
+use Rattle.msg_command.specs.declared.fault.MainFault.TheVariants.{Words, Input, Refused, Built, Report}
 
 -- the line of refused words; help is no fault, and has none
 abbrev pub words_line : WordFault → List ℕ
