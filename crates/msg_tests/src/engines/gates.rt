@@ -4,8 +4,8 @@ use msg_exec::Gate;
 use std::process::Abort;
 use std::sync::atomic::{AtomicU64, Ordering};
 
-/// Holds some of three systems until so many calls came, and sees whether a worker's number is in use
-/// twice, or isn't below the number of workers.
+/// Holds some of three systems until so many calls came, and sees whether a worker's number is in
+/// use twice, or isn't below the number of workers.
 #[derive(Drop)]
 pub struct HoldGate {
     workers: u32,
@@ -31,26 +31,17 @@ impl HoldGate {
         }
     }
 
-    /// So many calls came and no more, each that was held saw them, and no worker's number was in use
-    /// twice.
+    /// So many calls came and no more, each that was held saw them, and no worker's number was in
+    /// use twice.
     pub fn expect_met(&self, rt: &impl Abort) {
+        let limits_met = self.limits_met.load(Ordering::SeqCst);
+        let clashes = self.clashes.load(Ordering::SeqCst);
+        let came = self.came.load(Ordering::SeqCst);
+        let held = self.held;
         assert_eq!(rt;
-            self.limits_met.load(Ordering::SeqCst),
-            0,
-            "{:?} held",
-            self.held
-        );
-        assert_eq!(rt;
-            self.clashes.load(Ordering::SeqCst),
-            0,
-            "{:?} held",
-            self.held
-        );
-        assert_eq!(rt;
-            self.came.load(Ordering::SeqCst),
-            self.awaited,
-            "{:?} held",
-            self.held
+            (limits_met, clashes, came),
+            (0, 0, self.awaited),
+            "{held:?} held"
         );
     }
 

@@ -171,7 +171,7 @@ pub fn quiet(alloc: Global) -> Frame {
 }
 
 /// Whether its posts are to types of the engine's world.
-pub fn posts_fit<S: System>(engine: &EngineOf<S>, frame: &Frame) -> bool
+fn posts_fit<S: System>(engine: &EngineOf<S>, frame: &Frame) -> bool
     ensures fit { IsTrue result → PostsFit engine.now frame.now }
 {
     let Some(world) = engine.world() else {

@@ -1,4 +1,4 @@
-// Where systems of a new engine start, engines that there aren't, and how many workers there may be.
+// Where systems of a new engine start, engines that there are not, and numbers of workers.
 use super::expecting::{expect_log, posted, read};
 use super::making::{add, engine_of, places, quiet, run_frame, script, scripts, start};
 use crate::numbers::type_no;
@@ -11,7 +11,8 @@ use std::process::Abort;
 use std::test::Fail;
 use std::thread::Threads;
 
-/// The first read of a system that starts here, in a world that had a message before the engine was made.
+/// The first read of a system that starts here, in a world that had a message before the engine
+/// was made.
 fn expect_first_read<R: Threads + Sync + Abort>(
     rt: &R,
     alloc: Global,

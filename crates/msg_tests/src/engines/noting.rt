@@ -52,8 +52,8 @@ impl System for Noting {
     }
 }
 
-/// An engine of noting scripts that join with this frame, each with one op, over a world of one type.
-/// System i notes i + 1.
+/// An engine of noting scripts that join with this frame, each with one op, over a world of one
+/// type. System i notes i + 1.
 pub fn noting_engine(
     rt: &impl Abort,
     alloc: Global,

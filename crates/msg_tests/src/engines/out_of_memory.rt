@@ -1,5 +1,5 @@
-// What refused requests for ordinary memory leave of engines. Each test prints `refused` where the call that
-// it tests answered want of memory, and `ample` where it gave its whole answer.
+// What refused requests for ordinary memory leave of engines. Each test prints `refused` where
+// the call that it tests answered want of memory, and `ample` where it gave its whole answer.
 ghost use Rattle.std.specs.Prelude.{IfOk, IfSome};
 ghost use Rattle.msg_exec.specs.Engines.{IsEngine};
 
@@ -90,11 +90,13 @@ fn is_run_refused<R: Threads + Sync + Abort>(
     let frames = [quiet(alloc), quiet(alloc)];
     let mut logs = Vec::new(alloc);
     let ran = run_frames(rt, &mut engine, &frames, number, &NoGate, &mut logs);
+    let whole = engine.frames_run();
+    assert_eq!(rt; logs.len(), whole as usize);
     for (frame, log) in logs.iter().enumerate() {
         expect_lag(rt, log, frame as u32);
     }
-    assert!(rt; ran.is_err() || logs.len() == 2);
-    Ok(is_refused(rt, alloc, &mut engine, logs.len() as u32, ran))
+    assert!(rt; ran.is_err() || whole == 2);
+    Ok(is_refused(rt, alloc, &mut engine, whole, ran))
 }
 
 #[test]
@@ -111,8 +113,9 @@ fn frames_on_two_workers(rt: HostRuntime) -> Result<(), Fail> {
     Ok(())
 }
 
-/// Runs a frame in which two readers are side by side, each on a worker of its own; says whether it was
-/// refused. A thread that can't be made is no refusal: its worker is called on another thread.
+/// Runs a frame in which two readers are side by side, each on a worker of its own; says whether
+/// it was refused. A thread that can't be made is no refusal: its worker is called on another
+/// thread.
 fn is_batch_refused<R: Threads + Sync + Abort>(rt: &R, alloc: Global) -> Result<bool, NoMemory> {
     let (t, five) = (type_no(rt, 0), [posted(5)]);
     let ops = [Op::Read(t, None), Op::Read(t, None)];
@@ -151,7 +154,8 @@ fn replay_one(
     Ok(())
 }
 
-/// Replays two frames of the lagging engine, up to the first fault, and counts those that were replayed.
+/// Replays two frames of the lagging engine, up to the first fault, and counts those that were
+/// replayed.
 fn replay_two(
     rt: &impl Abort,
     alloc: Global,

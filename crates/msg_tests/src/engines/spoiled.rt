@@ -1,9 +1,10 @@
 // An engine that is spoiled.
+ghost use Rattle.std.specs.Prelude.{IfOk};
 ghost use Rattle.msg_exec.specs.Engines.{IsEngine};
 
 use super::making::{add, places, quiet, replay, run_frame, run_frames, script, start};
 use crate::numbers::type_no;
-use msg_exec::{Engine, EngineOf, NoGate, RunFault};
+use msg_exec::{EngineOf, NoGate, RunFault};
 use msg_system::{Access, NoMemory, Op, Reply, Scripted, Start, System};
 use msg_world::{Counts, Lent, Taken, TypeNo, World};
 use std::alloc::Global;
@@ -70,16 +71,16 @@ pub fn expect_spoiled<R: Threads + Sync + Abort, S: System>(
 }
 
 /// An engine of one failing reader.
-fn failing_engine(rt: &impl Abort, alloc: Global) -> Result<Engine, Fail>
-    ensures engine { IfOk result (IsEngine ⟦<Box<dyn System> as System>⟧.meaning) }
+fn failing_engine(rt: &impl Abort, alloc: Global) -> Result<EngineOf<Failing>, Fail>
+    ensures engine { IfOk result (IsEngine ⟦<Failing as System>⟧.meaning) }
 {
     let ops = vec![in alloc; Op::Read(type_no(rt, 0), None)]?;
     let failing = Failing {
         script: script(rt, ops, Start::Zero, 0),
         has_run: false,
     };
-    let mut systems: Vec<Box<dyn System>> = Vec::new(alloc);
-    add(&mut systems, Box::new(alloc, failing)?)?;
+    let mut systems = Vec::new(alloc);
+    add(&mut systems, failing)?;
     let world = World::new(alloc, &[10], &[])?;
     let places = places(alloc, 1, 1)?;
     Ok(start(rt, alloc, world, systems, places, Vec::new(alloc))?)
