@@ -1,9 +1,9 @@
 -- The systems of an engine that is made of a scenario.
-use Rattle.std.proofs.Common.{◌≡◌, ◌⊎◌, ℕ, zero, suc, ◌+◌, ◌<◌, ◌≤◌, List, [], ◌∷◌, ◌++◌, get_or, length, map, zero-add, None, Some, refl, sym, ap, subst, ◌∙◌, inl, inr, arith}
-use Rattle.std.specs.Prelude.{Bool, ℤ, if◌then◌else◌, IsTrue, Option, option_map, slice_get, unwrap_or, ◌&&◌}
+use Rattle.std.proofs.Common.{◌≡◌, ℕ, suc, ◌+◌, ◌<◌, ◌≤◌, List, [], ◌∷◌, length, map, zero-add, Some, refl, sym, ap, subst, ◌∙◌, inl, inr, arith}
+use Rattle.std.specs.Prelude.{Bool, ℤ, if◌then◌else◌, IsTrue, option_map, slice_get, ◌&&◌}
 use Rattle.std.specs.List.{All, enumerate_from}
 use Rattle.std.proofs.lemmas.List.Elements.{All-get_or}
-use Rattle.std.proofs.lemmas.Option.{get_or_from_slice_get, none-some, slice_get_cases, slice_get_read, slice_get_within, slice_get-map}
+use Rattle.std.proofs.lemmas.Option.{get_or_from_slice_get, slice_get_cases, slice_get_within, slice_get-map}
 use Rattle.msg_world.specs.Access.{OfResource, OfType, Part, Registry}
 use Rattle.msg_world.specs.Parts.{Has, Parts, PartsStand}
 use Rattle.msg_world.specs.World.{WorldState, held, new_world}
@@ -13,7 +13,7 @@ use Rattle.msg_system.specs.Needs.{job_needs, needs_any, program_needs}
 use Rattle.msg_system.specs.Systems.{Meaning, new_system}
 use Rattle.msg_order.specs.Graph.{IsAcyclic, IsLowestOnCycle}
 use Rattle.msg_exec.specs.declared.place.Place.{Place}
-use Rattle.msg_exec.specs.Building.{EachIs, HasClash, IsLowestClash, MayBeAdded, all_rules}
+use Rattle.msg_exec.specs.Building.{EachIs, IsLowestClash, MayBeAdded, all_rules}
 use Rattle.msg_reading.specs.declared.scenario.Scenario.{Scenario}
 use Rattle.msg_reading.specs.declared.scenario.SystemSpec.{SystemSpec}
 use Rattle.msg_reading.specs.Runnable.{HasPart, IsRunnable, IsRunnableSystem, first_world, places_of, state_of, systems_of}
@@ -66,10 +66,6 @@ has_part : (s : Scenario) (w : Parts) (p : Part) → length w.types ≡ length s
 has_part s w (OfType t) types resources has = subst (λ n. t < n) (sym types) has
 has_part s w (OfResource r) types resources has = subst (λ n. r < n) (sym resources) has
 has_part s w Registry types resources has = has
-
--- what was read at a place is there
-pub found_at : {X : Type 0} (xs : List X) (n i : ℕ) (x : X) → n ≡ i → i < length xs → x ≡ get_or xs i x → slice_get xs n ≡ Some x
-found_at xs n i x same lt is = subst (λ k. slice_get xs k ≡ Some x) (sym same) (slice_get_read xs (length xs) i x refl lt is)
 
 module _ {S : Type 0} (m : S → Meaning) where
   -- the system of the spec at a place is the one at that place

@@ -1,4 +1,4 @@
-use Rattle.std.proofs.Common.{◌∙◌, length, subst, sym}
+use Rattle.std.proofs.Common.{length, subst, sym}
 use Rattle.msg_exec.specs.Building.{EachIs, MayBeAdded, RefusesFor}
 use Rattle.msg_exec.specs.Engines.{StandsFor}
 use Rattle.msg_reading.specs.Runnable.{first_world}

@@ -1,5 +1,4 @@
 use Rattle.msgrun.proofs.Printed.{none_after}
-use Rattle.msg_scenario.proofs.Making.{found_at}
 use Rattle.msgrun.proofs.scene.run_scenario.Goals as goal
 
 pub returns-in_err-system-in-Script-clause-prefix : goal.returns-in_err-system-in-Script-clause-prefix
