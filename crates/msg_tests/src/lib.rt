@@ -1,4 +1,4 @@
-//! Tests of the crates below, by their public contracts alone. They show what no clause says: that calls succeed
+//! Tests of engines and of the crates below them, by public contracts alone. They show what no clause says: that calls succeed
 //! while memory is there, what follows where it isn't, texts, threads, and that the definitions are meant as they are.
 #![tactic(auto)]
 
@@ -9,8 +9,6 @@ mod boards;
 #[cfg(test)]
 mod buffers;
 #[cfg(test)]
-mod command;
-#[cfg(test)]
 mod engines;
 #[cfg(test)]
 mod numbers;
@@ -18,8 +16,6 @@ mod numbers;
 mod outcome;
 #[cfg(test)]
 mod plans;
-#[cfg(test)]
-mod scenarios;
 #[cfg(test)]
 mod systems;
 #[cfg(test)]

@@ -7,6 +7,7 @@ use super::expecting::{by, expect_log, posted, read, wrote};
 use super::making::{engine_of, frame_of, quiet, replay, run_frame, run_frames};
 use super::spoiled::expect_spoiled;
 use crate::numbers::type_no;
+use crate::outcome::tell;
 use msg_exec::{Account, BuildRefusal, EngineOf, Log, NoGate, NoMemory, RunFault};
 use msg_order::Rule;
 use msg_system::{Op, Scripted, System};
@@ -14,10 +15,6 @@ use std::alloc::Global;
 use std::process::Abort;
 use std::test::Fail;
 use std::thread::Threads;
-
-fn word(is_refused: bool) -> &'static str {
-    if is_refused { "refused" } else { "ample" }
-}
 
 /// An engine; None where there was no memory for the engine itself.
 fn made(
@@ -102,15 +99,13 @@ fn is_run_refused<R: Threads + Sync + Abort>(
 #[test]
 fn frames_on_one_worker(rt: HostRuntime) -> Result<(), Fail> {
     let is_refused = is_run_refused(&rt, rt.alloc(), 1)?;
-    println!(rt; "{}", word(is_refused))?;
-    Ok(())
+    tell(&rt, is_refused)
 }
 
 #[test]
 fn frames_on_two_workers(rt: HostRuntime) -> Result<(), Fail> {
     let is_refused = is_run_refused(&rt, rt.alloc(), 2)?;
-    println!(rt; "{}", word(is_refused))?;
-    Ok(())
+    tell(&rt, is_refused)
 }
 
 /// Runs a frame in which two readers are side by side, each on a worker of its own; says whether
@@ -135,8 +130,7 @@ fn is_batch_refused<R: Threads + Sync + Abort>(rt: &R, alloc: Global) -> Result<
 #[test]
 fn a_batch_on_two_workers(rt: HostRuntime) -> Result<(), Fail> {
     let is_refused = is_batch_refused(&rt, rt.alloc())?;
-    println!(rt; "{}", word(is_refused))?;
-    Ok(())
+    tell(&rt, is_refused)
 }
 
 /// Replays the frame of this number, from 0, of the lagging engine.
@@ -178,8 +172,7 @@ fn a_replayed_frame(rt: HostRuntime) -> Result<(), Fail> {
     let mut replayed = 0;
     let came = replay_two(&rt, rt.alloc(), &mut engine, &mut replayed);
     let is_refused = is_refused(&rt, rt.alloc(), &mut engine, replayed, came);
-    println!(rt; "{}", word(is_refused))?;
-    Ok(())
+    tell(&rt, is_refused)
 }
 
 #[test]
@@ -193,8 +186,7 @@ fn no_engine(rt: HostRuntime) -> Result<(), Fail> {
     ];
     let rules = [Rule::before(3, 1), Rule::before(2, 0)];
     let Some(mut engine) = made(&rt, alloc, &[10, 10], &ops, &rules)? else {
-        println!(rt; "refused")?;
-        return Ok(());
+        return tell(&rt, true);
     };
     let (frame, one) = (quiet(alloc), [by(0, 1)]);
     let as_added = replay(&rt, &mut engine, &frame, &[0, 1, 2, 3]);
@@ -206,8 +198,7 @@ fn no_engine(rt: HostRuntime) -> Result<(), Fail> {
     };
     let steps = [read(2, 0, &[]), wrote(0, 0), read(3, 0, &one), wrote(1, 0)];
     expect_log(&rt, &log, &[], &steps);
-    println!(rt; "ample")?;
-    Ok(())
+    tell(&rt, false)
 }
 
 /// What the reader of the lagging engine was given in two frames.
@@ -243,6 +234,5 @@ fn accounts_after_frames(rt: HostRuntime) -> Result<(), Fail> {
     expect_given(&rt, &accounts);
     assert_eq!(rt; engine.frames_run(), 2);
     assert!(rt; engine.world().is_some());
-    println!(rt; "{}", word(is_refused))?;
-    Ok(())
+    tell(&rt, is_refused)
 }

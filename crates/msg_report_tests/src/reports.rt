@@ -1,7 +1,6 @@
 // Whole reports: sinks that fail, systems without memory, and readers side by side.
-use crate::numbers::workers;
-use crate::scenarios::narrow::Narrow;
-use crate::scenarios::sparing::sparing_engine;
+use crate::narrow::Narrow;
+use crate::sparing::{sparing_engine, workers};
 use msg_exec::{Gate, NoGate, RunFault};
 use msg_scenario::{MemorySink, ReportFault, Sink, read_scenario, report};
 use std::process::Abort;

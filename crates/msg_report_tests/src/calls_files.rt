@@ -1,5 +1,5 @@
 // What a calls file denotes, and which are refused.
-use crate::scenarios::texts::joined;
+use crate::texts::joined;
 use msg_scenario::{Calls, Refusal, read_calls};
 use std::alloc::Global;
 use std::process::Abort;

@@ -1,5 +1,5 @@
 // The text that a calls file is answered with.
-use crate::scenarios::narrow::Narrow;
+use crate::narrow::Narrow;
 use msg_scenario::{Calls, MemorySink, ReportFault, read_calls, run_calls};
 use std::alloc::Global;
 use std::process::Abort;

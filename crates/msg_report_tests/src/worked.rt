@@ -1,5 +1,5 @@
 // The worked scenarios: each file with its report, on 1, 2, 7 and 64 workers.
-use crate::scenarios::reports::report_of;
+use crate::reports::report_of;
 use msg_exec::NoGate;
 use msg_scenario::MemorySink;
 use std::alloc::Global;

@@ -6,11 +6,19 @@ ghost use Rattle.msg_exec.specs.Engines.{StandsFor};
 ghost use Rattle.msg_scenario.specs.Making.{IsSystemAt};
 ghost use Rattle.msg_reading.specs.Runnable.{IsRunnable, state_of};
 
-use msg_exec::EngineOf;
+use msg_exec::{EngineOf, Workers};
 use msg_scenario::{Scenario, SystemSpec, engine_of};
 use msg_system::{Access, NoMemory, Reply, Scripted, Start, System};
 use msg_world::{Counts, Lent, Taken, TypeNo};
 use std::alloc::Global;
+use std::process::Abort;
+
+pub fn workers(rt: &impl Abort, number: u32) -> Workers {
+    match Workers::new(number) {
+        Some(workers) => workers,
+        None => panic!(rt; "from 1 to 64 workers"),
+    }
+}
 
 /// A script that has memory for so many runs.
 #[derive(Drop)]

@@ -1,5 +1,5 @@
 // What a scenario file denotes, and which are refused.
-use crate::scenarios::texts::joined;
+use crate::texts::joined;
 use msg_scenario::{Refusal, Scenario, read_scenario};
 use std::process::Abort;
 use std::test::Fail;

@@ -1,0 +1,21 @@
+//! Tests of files, reports and command lines, by public contracts alone.
+#![tactic(auto)]
+
+#[cfg(test)]
+mod calls;
+#[cfg(test)]
+mod calls_files;
+#[cfg(test)]
+mod command;
+#[cfg(test)]
+mod narrow;
+#[cfg(test)]
+mod reports;
+#[cfg(test)]
+mod scenario_files;
+#[cfg(test)]
+mod sparing;
+#[cfg(test)]
+mod texts;
+#[cfg(test)]
+mod worked;
