@@ -1,7 +1,7 @@
 use Rattle.std.proofs.Common.{◌≡◌, length}
 use Rattle.msg_exec.specs.Building.{EachIs}
 use Rattle.msg_scenario.specs.Making.{IsSystemAt}
-use Rattle.msg_tests.specs.contracts.scenarios.sparing.SparingSystem.TheImpl.{meaning-value}
+use Rattle.msg_report_tests.specs.contracts.sparing.SparingSystem.TheImpl.{meaning-value}
 use Rattle.msg_report_tests.proofs.sparing.sparing_engine.Given as goal
 
 abbrev pub invariant-loop-spec : goal.invariant-loop-spec
