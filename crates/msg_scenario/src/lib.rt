@@ -7,8 +7,8 @@ mod reports;
 
 pub use building::engine_of;
 pub use msg_files::{
-    Call, Calls, MemorySink, PutFault, ROOM, Refusal, ReportFault, Sink, StdSink, put_all, read_calls,
-    run_calls,
+    Call, Calls, MemorySink, PutFault, ROOM, Refusal, ReportFault, Sink, StdSink, put_all,
+    read_calls, run_calls,
 };
 pub use msg_reading::{Kind, Name, Scenario, SystemSpec, read_scenario};
 pub use reports::report;

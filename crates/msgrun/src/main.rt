@@ -11,9 +11,7 @@ ghost use Rattle.msg_command.specs.Faults.{status_of};
 mod building;
 mod scene;
 
-use msg_command::{
-    Action, InputFault, MainFault, WordFault, parse_words, print_fault, read_all,
-};
+use msg_command::{Action, InputFault, MainFault, WordFault, parse_words, print_fault, read_all};
 use msg_exec::Workers;
 use msg_scenario::{StdSink, put_all, read_calls, read_scenario, run_calls};
 use scene::run_scenario;

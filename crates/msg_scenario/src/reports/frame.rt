@@ -2,13 +2,13 @@
 ghost use Rattle.std.specs.Prelude.{◌≡◌, ◌++◌, OnOk, codes, flat_map};
 ghost use Rattle.msg_scenario.specs.ReportText.{frame_text, op_line, ops_text, outcome_text, post_line, posts_text, turn_text};
 
-use msg_files::numerals::add_number;
 use crate::reports::names::{add_name, add_type};
 use crate::reports::op::add_op;
 use crate::reports::reply::add_reply;
 use crate::{Name, Scenario, SystemSpec};
 use msg_buffer::NoMemory;
 use msg_exec::{Frame, Log, Outcome, Turn};
+use msg_files::numerals::add_number;
 use msg_system::{Op, Reply};
 use msg_world::TypeNo;
 

@@ -5,11 +5,10 @@ ghost use Rattle.msg_scenario.specs.ReportText.{accounts_text, frame_text};
 ghost use Rattle.msg_files.specs.Sinks.{AppendsPrefix, one_more};
 
 use crate::Scenario;
-use msg_files::ReportFault;
 use crate::reports::accounts::add_accounts;
 use crate::reports::frame::add_frame;
-use msg_files::{Sink, put_all};
 use msg_exec::{Account, Frame, Log};
+use msg_files::{ReportFault, Sink, put_all};
 
 /// Puts the text of a frame that had this log; it is made in `text` first.
 pub fn put_frame<S: Sink>(

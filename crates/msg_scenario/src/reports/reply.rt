@@ -3,9 +3,9 @@ ghost use Rattle.std.specs.Prelude.{◌≡◌, ◌+◌, ◌++◌, List, OnOk, co
 ghost use Rattle.msg_scenario.specs.ReportText.{item_text, items_text, more_items, numbers_text, reply_text, took_text, written_text};
 
 use crate::Scenario;
-use msg_files::numerals::{add_number, add_value, add_wide};
 use crate::reports::names::add_writer;
 use msg_buffer::{NoMemory, Written};
+use msg_files::numerals::{add_number, add_value, add_wide};
 use msg_system::{Reply, Took};
 use msg_world::Record;
 

@@ -7,11 +7,10 @@ ghost use Rattle.msg_reading.specs.Runnable.{PostsAreToTypes, state_of};
 ghost use Rattle.msg_files.specs.Sinks.{one_more};
 
 use crate::Scenario;
-use msg_files::ReportFault;
 use crate::reports::put::{put_accounts, put_frame};
-use msg_files::Sink;
 use msg_exec::laws::frames_keep_programs;
 use msg_exec::{EngineOf, Gate, Workers};
+use msg_files::{ReportFault, Sink};
 use msg_system::System;
 use std::alloc::Global;
 use std::thread::Threads;

@@ -6,10 +6,10 @@ ghost use Rattle.msg_reading.specs.ScenarioDenotes.{condition_of, in_not, in_not
 ghost use Rattle.msg_files.specs.Walk.{Agrees};
 
 use crate::Refusal;
-use msg_files::numbers::whole_number;
 use crate::scenario::read::list::Element;
 use crate::scenario::read::names::Declarations;
 use crate::scenario::read::part::{head_and_parts, text, text_and_number};
+use msg_files::numbers::whole_number;
 use msg_system::{Condition, Probe};
 use serde_json::Value;
 use std::alloc::Global;

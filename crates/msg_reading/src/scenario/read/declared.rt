@@ -9,11 +9,11 @@ ghost use Rattle.msg_reading.specs.ScenarioDenotes.{resource_of, text, type_of, 
 ghost use Rattle.msg_files.specs.Walk.{Agrees};
 ghost use Rattle.msg_files.specs.declared.refusal.Refusal.TheVariants.{Shape};
 
-use msg_files::numbers::{small_number, whole_number};
 use crate::scenario::read::named::Declaration;
 use crate::scenario::read::names::Declarations;
 use crate::scenario::read::part::{text_and_number, two};
 use crate::{Name, Refusal};
+use msg_files::numbers::{small_number, whole_number};
 use serde_json::Value;
 use std::alloc::Global;
 

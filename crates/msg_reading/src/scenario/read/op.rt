@@ -14,13 +14,13 @@ ghost use Rattle.msg_files.specs.Walk.{Agrees};
 ghost use Rattle.msg_files.specs.declared.refusal.Refusal.TheVariants.{Shape, TooMany};
 
 use crate::Refusal;
-use msg_files::numbers::{are_numbers, whole_numbers};
 use crate::scenario::read::list::Element;
 use crate::scenario::read::names::Declarations;
 use crate::scenario::read::part::{
     head_and_parts, resource_and_value, text, two_types, type_and_limit, type_and_resource,
     type_and_value,
 };
+use msg_files::numbers::{are_numbers, whole_numbers};
 use msg_system::{Op, Values};
 use serde_json::Value;
 use std::alloc::Global;

@@ -13,8 +13,8 @@ ghost use Rattle.msg_files.specs.Walk.{Agrees};
 ghost use Rattle.msg_files.specs.declared.refusal.Refusal.TheVariants.{Shape};
 
 use crate::Refusal;
-use msg_files::numbers::{small_number, whole_number};
 use crate::scenario::read::names::Declarations;
+use msg_files::numbers::{small_number, whole_number};
 use msg_world::{ResNo, TypeNo};
 use serde_json::{Number, Value};
 

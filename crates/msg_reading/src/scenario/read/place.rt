@@ -7,10 +7,10 @@ ghost use Rattle.msg_reading.specs.ScenarioDenotes.{condition_of, conditions_in,
 ghost use Rattle.msg_files.specs.Walk.{Agrees};
 
 use crate::Refusal;
-use msg_files::numbers::{number, small_number};
 use crate::scenario::read::list::read_list_if_there;
 use crate::scenario::read::names::Declarations;
 use msg_exec::{Items, Place};
+use msg_files::numbers::{number, small_number};
 use msg_system::{Condition, Start};
 use serde_json::Value;
 use std::alloc::Global;
