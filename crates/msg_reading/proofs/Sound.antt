@@ -1,9 +1,9 @@
 -- What is known of a scenario that was read.
-use Rattle.std.proofs.Common.{◌≡◌, ℕ, get_or, ◌+◌, ◌≤◌, ◌<◌, List, [], ◌∷◌, ◌++◌, length, refl, sym, ap, ◌∙◌, Option, Some, None, Bool, true, false, arith, map, subst}
+use Rattle.std.proofs.Common.{◌≡◌, ℕ, get_or, ◌+◌, ◌≤◌, ◌<◌, List, [], ◌∷◌, ◌++◌, length, refl, sym, ap, ◌∙◌, Some, None, true, arith, subst}
 use Rattle.std.proofs.lemmas.Grind.{common_steps}
-use Rattle.std.proofs.lemmas.List.Elements.{All-cons, All-head, All-tail}
+use Rattle.std.proofs.lemmas.List.Elements.{All-head, All-tail}
 use Rattle.std.proofs.lemmas.List.Quantifiers.{position-Some}
-use Rattle.std.specs.Prelude.{All, replicate, unwrap_or, if◌then◌else◌, nat_le, nat_lt, option_and_then, option_map}
+use Rattle.std.specs.Prelude.{All, replicate, unwrap_or, is_some, nat_le}
 use Rattle.std.specs.Str.{bytes_eq}
 use Rattle.serde_json.specs.Data.{Data}
 use Rattle.msg_order.specs.Order.{NameSystemsBelow, has_joined, rules_among}
@@ -13,20 +13,18 @@ use Rattle.msg_order.specs.declared.plan_refusal.PlanRefusal.{PlanRefusal}
 use Rattle.msg_order.specs.declared.plan_refusal.PlanRefusal.TheVariants.{Cycle as PlanCycle}
 use Rattle.msg_order.specs.declared.rule.Rule.{Rule}
 use Rattle.msg_files.specs.Check.{Check, first_refusal, needs}
-use Rattle.msg_files.specs.Json.{Text, all_some, elements, is_list, only_below}
+use Rattle.msg_files.specs.Json.{Text, elements, is_list}
 use Rattle.msg_reading.specs.Names.{Declared, position_of, system_number}
 use Rattle.serde_json.specs.Find.{as_bool}
 use Rattle.msg_reading.specs.Reading.{edges_of}
 use Rattle.msg_reading.specs.Runnable.{IsRunnable, PostsAreToTypes}
-use Rattle.msg_reading.specs.ScenarioChecks.{checks_in_turn, clash_checks, names_checks, resource_checks, root_object, scenario_checks, section_checks, system_checks, type_checks}
+use Rattle.msg_reading.specs.ScenarioChecks.{checks_in_turn, clash_checks, frame_checks, list_checks, names_checks, resource_checks, root_object, rule_checks, scenario_checks, section_checks, system_checks, type_checks}
 use Rattle.msg_reading.specs.declared.scenario.Scenario.{Scenario}
 use Rattle.msg_reading.specs.declared.scenario.SystemSpec.{SystemSpec}
 use Rattle.msg_reading.proofs.Fitting.{NamesOf, SystemFits, frames_fit, no_part_clashes, none_clash, systems_fit}
 use Rattle.msg_reading.proofs.There.{below_there, both_pass, both_there, each_all, in_turn_length, map_there, passed_length, then_there, two_there}
 use Rattle.msg_files.proofs.Walks.{first_refusal-passed}
-use Rattle.msg_reading.proofs.Files.{from_held, from_resources, from_rules, from_systems, from_types, held_check}
-use Rattle.msg_reading.specs.ScenarioDenotes.{all_names, both, each_in_turn, each_of, frame_of, frames_in, held_in, no_names, of_two, part_names, resource_of, resources_in, rule_of, rules_in, rules_of, scenario_of, system_of, systems_in, systems_of, text, type_names, type_of, types_in, with_all, with_resource, with_system, with_type}
-use Rattle.msg_files.specs.declared.refusal.Refusal.{Refusal}
+use Rattle.msg_reading.specs.ScenarioDenotes.{all_names, both, each_in_turn, each_of, frame_of, frames_in, held_in, no_names, part_names, resource_of, resources_in, rule_of, rules_in, rules_of, scenario_of, system_of, systems_in, systems_of, text, type_names, type_of, types_in, with_all, with_resource, with_system, with_type}
 use Rattle.msg_files.specs.declared.refusal.Refusal.TheVariants.{Shape, TooMany}
 
 -- ---- names
@@ -94,6 +92,28 @@ rules_below names d rules h =
     (elements d) rules h
 
 -- ---- the whole
+
+-- the checks of a file from each section on
+module _ (d : Data) where
+  abbrev from_rules : List Check
+  from_rules =
+      list_checks 1024 (rule_checks (all_names d)) (rules_in d)
+      ++ list_checks 10000 (frame_checks (all_names d)) (frames_in d)
+
+  abbrev from_systems : List Check
+  from_systems = names_checks 256 system_checks with_system (part_names d) (systems_in d) ++ from_rules
+
+  abbrev held_check : List Check
+  held_check = needs (is_some (as_bool (held_in d))) Shape ∷ []
+
+  abbrev from_held : List Check
+  from_held = held_check ++ from_systems
+
+  abbrev from_resources : List Check
+  from_resources = names_checks 64 resource_checks with_resource (type_names d) (resources_in d) ++ from_held
+
+  abbrev from_types : List Check
+  from_types = names_checks 64 type_checks with_type no_names (types_in d) ++ from_resources
 
 -- what holds of a scenario whose sections passed their checks
 pub record IsWhole (d : Data) (s : Scenario) : Type 0 where

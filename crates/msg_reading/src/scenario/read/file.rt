@@ -8,13 +8,14 @@ ghost use Rattle.msg_files.specs.Json.{elements, value_at};
 ghost use Rattle.msg_reading.specs.Names.{Declared};
 ghost use Rattle.msg_reading.specs.ScenarioChecks.{is_root_key, list_checks, names_checks, resource_checks, root_object, rule_checks, section_checks};
 ghost use Rattle.msg_reading.specs.ScenarioDenotes.{each_in_turn, each_of, frames_in, held_in, resource_of, resources_in, rule_of, rules_in, scenario_of, systems_in, types_in, with_all, with_resource};
+ghost use Rattle.msg_reading.specs.Sections.{schedule_checks, schedule_of, world_checks, world_names, world_of};
 ghost use Rattle.msg_files.specs.Walk.{Agrees};
 
 use crate::scenario::read::list::{read_list, read_list_if_there};
 use crate::scenario::read::named::read_names;
 use crate::scenario::read::names::Declarations;
-use crate::{Name, Refusal, Scenario};
-use msg_exec::Items;
+use crate::{Name, Refusal, Scenario, SystemSpec};
+use msg_exec::{Frame, Items};
 use msg_order::Rule;
 use serde_json::{Map, Value};
 use std::alloc::Global;
@@ -35,22 +36,78 @@ struct Sections<'a> {
     frames: &'a Value,
 }
 
+/// What the world of a scenario is made of.
+#[derive(Drop)]
+struct WorldSections {
+    types: Items<(Name, u64)>,
+    resources: Items<(Name, i64)>,
+    held: bool,
+}
+
+/// What runs in the world.
+#[derive(Drop)]
+struct ScheduleSections {
+    systems: Items<SystemSpec>,
+    rules: Items<Rule>,
+    frames: Items<Frame>,
+}
+
 /// The sections of a file one after another.
 pub fn read_sections(alloc: Global, value: &Value) -> Result<Scenario, Refusal>
     ensures agrees { Agrees (section_checks (view value.now)) (scenario_of (view value.now)) result }
 {
     let needed = needed(value)?;
     let mut names = Declarations::new(alloc);
-    let types = read_names(alloc, &mut names, needed.types, MAX_PARTS)?;
-    let resources = read_resources(alloc, &mut names, value)?;
-    let held = read_held(value)?;
-    let systems = read_names(alloc, &mut names, needed.systems, MAX_SYSTEMS)?;
-    let rules = read_rules(alloc, &names, value)?;
-    let frames = read_list(alloc, &names, needed.frames, MAX_FRAMES)?;
+    let world = read_world(alloc, &mut names, needed.types, value)?;
+    let schedule = read_schedule(alloc, &mut names, needed.systems, needed.frames, value)?;
     Ok(Scenario {
+        types: world.types,
+        resources: world.resources,
+        held: world.held,
+        systems: schedule.systems,
+        rules: schedule.rules,
+        frames: schedule.frames,
+    })
+}
+
+/// The sections of the world: the types that are given, and what else stands in the file.
+fn read_world(
+    alloc: Global,
+    names: &mut Declarations,
+    types: &Value,
+    file: &Value,
+) -> Result<WorldSections, Refusal>
+    ensures agrees { Agrees (world_checks names.old (view types.now) (view file.now))
+        (world_of names.old (view types.now) (view file.now)) result }
+    ensures declares { OnOk result (names.new
+        ≡ world_names names.old (view types.now) (view file.now)) }
+{
+    let types = read_names(alloc, names, types, MAX_PARTS)?;
+    let resources = read_resources(alloc, names, file)?;
+    let held = read_held(file)?;
+    Ok(WorldSections {
         types,
         resources,
         held,
+    })
+}
+
+/// The sections of what runs, where the names of the world are declared.
+fn read_schedule(
+    alloc: Global,
+    names: &mut Declarations,
+    systems: &Value,
+    frames: &Value,
+    file: &Value,
+) -> Result<ScheduleSections, Refusal>
+    ensures agrees { Agrees
+        (schedule_checks names.old (view systems.now) (view frames.now) (view file.now))
+        (schedule_of names.old (view systems.now) (view frames.now) (view file.now)) result }
+{
+    let systems = read_names(alloc, names, systems, MAX_SYSTEMS)?;
+    let rules = read_rules(alloc, names, file)?;
+    let frames = read_list(alloc, names, frames, MAX_FRAMES)?;
+    Ok(ScheduleSections {
         systems,
         rules,
         frames,
