@@ -6,7 +6,7 @@ use Rattle.std.proofs.Math.Seq.{take-length}
 use Rattle.msg_buffer.specs.declared.instance.Instance.{Instance}
 use Rattle.msg_buffer.specs.History.{History, IsSound, count, oldest}
 use Rattle.msg_buffer.specs.Reader.{first, unread, at_most, given, next_place}
-use Rattle.msg_buffer.specs.Tiling.{Fits, Pass, ReadsFit, ClearsFit, RunsTile, reads, clears, stretch_of}
+use Rattle.msg_buffer.specs.Tiling.{Fits, Pass, ReadsFit, ReadsUpTo, ClearsFit, RunsTile, reads, clears, stretch_of}
 use Rattle.msg_buffer.proofs.Standing.{oldest_and_present}
 use Rattle.msg_buffer.proofs.Presence.{is_there, not_present}
 use Rattle.msg_buffer.proofs.Unread.{length-unread}
@@ -42,6 +42,9 @@ module _ {M : Type 0} where
       let le = length-at_most limit (unread h place) in
       let long = length-unread h place in let old = oldest_at_most h in
       (fits h place (length (given h place limit)) sound le, take-at_most limit (unread h place), λ within. omega arith)
+
+  pub reads_up_to : ReadsUpTo M
+  reads_up_to h place = (refl, λ limit. length-take limit (unread h place))
 
   pub clears_fit : ClearsFit M
   clears_fit h place sound =

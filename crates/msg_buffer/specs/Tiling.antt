@@ -1,8 +1,8 @@
 -- How the reads and clears of one reader tile its history: nothing is gone past twice, and nothing is
 -- left out but what was missed.
-use Rattle.std.specs.Prelude.{◌≡◌, ℕ, ◌+◌, ◌≤◌, ◌<◌, List, [], ◌∷◌, take, drop, All, Option}
+use Rattle.std.specs.Prelude.{◌≡◌, ℕ, ◌+◌, ◌≤◌, ◌<◌, min, List, [], ◌∷◌, length, take, drop, All, Option, Some, None}
 use Rattle.msg_buffer.specs.History.{History, IsPresent, IsSound, count, instances}
-use Rattle.msg_buffer.specs.Reader.{Stretch, next_place, given, read, pass_over}
+use Rattle.msg_buffer.specs.Reader.{Stretch, next_place, given, read, pass_over, unread}
 
 -- A stretch fits a reader's place in the history of that moment.
 pub record Fits {M : Type 0} (h : History M) (place : ℕ) (s : Stretch) : Type 0 where
@@ -47,6 +47,12 @@ module _ (M : Type 0) where
       × (given h place limit
       ≡ take (read h place limit).number (drop (read h place limit).first (instances h)))
       × (place ≤ count h → next_place (read h place limit) ≤ count h)
+
+  -- A read goes past all that is unread, or past as many messages as its limit where these are fewer.
+  abbrev pub ReadsUpTo : Type 0
+  ReadsUpTo = (h : History M) (place : ℕ)
+      → ((read h place None).number ≡ length (unread h place))
+      × ((limit : ℕ) → (read h place (Some limit)).number ≡ min limit (length (unread h place)))
 
   -- Each clear fits, and ends at the count.
   abbrev pub ClearsFit : Type 0

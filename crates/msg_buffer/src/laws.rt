@@ -1,6 +1,13 @@
-//! Laws: facts that hold of every history, and need no code.
-ghost use Rattle.msg_buffer.specs.History.{OnlyGrows, OutliveOneUpdate};
-ghost use Rattle.msg_buffer.specs.Tiling.{ClearsFit, ReadsFit, RunsTile};
+//! Laws: facts that hold of every history, and of every read that is left.
+ghost use Rattle.std.specs.Prelude.{◌≡◌, Some};
+ghost use Rattle.msg_buffer.specs.History.{History, OnlyGrows, OutliveOneUpdate};
+ghost use Rattle.msg_buffer.specs.Reader.{next_place, read};
+ghost use Rattle.msg_buffer.specs.StandsFor.{StandsFor};
+ghost use Rattle.msg_buffer.specs.Tiling.{ClearsFit, ReadsFit, ReadsUpTo, RunsTile};
+
+use crate::cursor::MessageCursor;
+use crate::messages::Messages;
+use std::alloc::Allocator;
 
 /// No change takes anything out of a history or moves it.
 pub fn histories_only_grow<M>()
@@ -15,6 +22,25 @@ pub fn messages_outlive_one_update<M>()
 /// The reads and clears of one reader tile its history: each fits the place that the one before it led to.
 pub fn readers_tile<M>()
     ensures reads { ReadsFit M }
+    ensures up_to { ReadsUpTo M }
     ensures clears { ClearsFit M }
     ensures runs { RunsTile M }
 {}
+
+/// A read that is left after so many messages, or at its end, is a read with that limit: what it
+/// didn't give stays unread.
+pub fn reads_may_be_left<M, A: Allocator>(
+    cursor: &mut MessageCursor,
+    messages: &Messages<M, A>,
+    taken: u64,
+)
+    ensures place { (h : History M) → StandsFor messages.now h
+        → cursor.new ≡ next_place (read h cursor.old (Some taken)) }
+{
+    let mut unread = cursor.read(messages);
+    for _ in 0..taken {
+        if unread.next().is_none() {
+            break;
+        }
+    }
+}

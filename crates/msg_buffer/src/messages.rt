@@ -133,7 +133,7 @@ impl<M, A: Allocator> Messages<M, A> {
     pub fn get_cursor(&self) -> MessageCursor
         ensures place { result ≡ 0 }
     {
-        MessageCursor::new(0)
+        MessageCursor::default()
     }
 
     /// A cursor that reads what is written from now on.
