@@ -236,6 +236,10 @@ impl<M: Drop, A: Allocator + Copy> Messages<M, A> {
         ensures meaning { OnOk result ((h : History M) → StandsFor self.old h
             → StandsFor self.new (clear h)) }
         ensures err { OnErr result (self.new ≡ self.old) }
+
+        // Where nothing is kept it asks for no memory.
+        ensures refused { OnErr result ((h : History M) → StandsFor self.old h
+            → 0 < length (present h)) }
     {
         let older = &mut self.older;
         older.instances.append(&mut self.newer.instances)?;

@@ -16,8 +16,8 @@ use Rattle.msg_world.specs.declared.lent.Lent.{Lent}
 use Rattle.msg_world.specs.declared.marks.Marks.{Marks}
 use Rattle.msg_world.specs.Access.{Part, OfType, OfResource, Registry, reads, uses, writes}
 use Rattle.msg_world.specs.Loan.{LoanStands, with_messages, with_resource, writable}
-use Rattle.msg_world.specs.LoanLaws.{HomeAgain, HomeMerges, HomeWhereEither, LentIsLoan, LoanStays, MayComeHome, OthersStayHome, StaysApart, ValuesStand, WritesStand}
-use Rattle.msg_world.specs.Parts.{IsHome, LendsOut, Parts, SameShape, Stuff, StuffStands, slot}
+use Rattle.msg_world.specs.LoanLaws.{HomeAgain, HomeMerges, HomeWhereEither, LentIsLoan, LoanEnds, LoanStays, MayComeHome, OthersStayHome, OwnedStands, OwnsWhatItWrites, StaysApart, StaysComplete, ValuesStand, WritesStand}
+use Rattle.msg_world.specs.Parts.{IsHome, LendsOut, Parts, PartsStand, SameShape, Stuff, StuffStands, slot}
 use Rattle.msg_world.specs.World.{Content, WorldState, content, merge, signalled, signalled_marks, with_history, with_value_of}
 
 same_marks : (m : Option Marks) (n : Marks) → IfSome m (λ k. k ≡ n) → IfSome (option_map signalled_marks m) (λ k. k ≡ signalled_marks n)
@@ -221,3 +221,72 @@ home_again a old left taken later home lends same back = record {
   size = record { types = back.size.types ∙ lends.left_size.types; resources = back.size.resources ∙ lends.left_size.resources };
   there = λ p. home_slot (writes a p) (slot p old) (slot p left) (slot p taken) (slot p later) (slot p home) (lends.moved p) (lends.stayed p) (same.there p) (back.joined p);
 }
+
+-- ---- a loan from its beginning to its end
+
+no_slot : {X : Type 0} (o : Option X) → is_some o ≡ false → o ≡ None
+no_slot None isnt = refl
+no_slot (Some x) isnt = absurd (false≢true (sym isnt))
+
+-- what is shown of a part stands, where its own slot and the world's do
+shown_stands : (p : Part) (w r : Bool) (x y : Option (Stuff p)) (mine s : WorldState)
+    → IfSome x (λ k. StuffStands p k (content p mine)) → IfSome y (λ k. StuffStands p k (content p s))
+    → IfSome (if w then x else if r then y else None) (λ k. StuffStands p k (if w then content p mine else content p s))
+shown_stands p true r x y mine s here there = here
+shown_stands p false true x y mine s here there = there
+shown_stands p false false x y mine s here there = tt
+
+pub loan_stands : (l : Lent) (mine s : WorldState) → PartsStand l.taken mine → PartsStand l.world.now s → LoanStands l (merge l.access mine s)
+loan_stands l mine s here there p =
+    let a = l.access in
+    let Q : Content p → Type 0 = λ x. IfSome (if writes a p then slot p l.taken else if reads a p then slot p l.world.now else None) (λ k. StuffStands p k x) in
+    subst Q (sym (content_merged a mine s p)) (shown_stands p (writes a p) (reads a p) (slot p l.taken) (slot p l.world.now) mine s (here p) (there p))
+
+owned_part : (p : Part) (w r : Bool) (x y : Option (Stuff p)) (s : WorldState)
+    → IfSome (if w then x else if r then y else None) (λ k. StuffStands p k (content p s)) → (w ≡ false → x ≡ None)
+    → IfSome x (λ k. StuffStands p k (content p s))
+owned_part p true r x y s is none = is
+owned_part p false r x y s is none = let P : Option (Stuff p) → Type 0 = λ o. IfSome o (λ k. StuffStands p k (content p s)) in subst P (sym (none refl)) tt
+
+owned_where_written : (l : Lent) (s : WorldState) → ((p : Part) → writes l.access p ≡ false → slot p l.taken ≡ None) → LoanStands l s → PartsStand l.taken s
+owned_where_written l s none stand p = owned_part p (writes l.access p) (reads l.access p) (slot p l.taken) (slot p l.world.now) s (stand p) (none p)
+
+pub owned_stands : OwnedStands
+owned_stands l world s loan stand = owned_where_written l s (λ p isnt. no_slot (slot p l.taken) (loan.written p ∙ isnt)) stand
+
+pub owns_what_it_writes : OwnsWhatItWrites
+owns_what_it_writes a world taken later loan same = (
+  record {
+    size = record { types = same.size.types ∙ loan.size.types; resources = same.size.resources ∙ loan.size.resources };
+    written = λ p. same.there p ∙ loan.written p;
+    read = loan.read;
+  },
+  λ p isnt. no_slot (slot p later) (same.there p ∙ (loan.written p ∙ isnt)),
+)
+
+same_choice : {X : Type 0} (b : Bool) (x x' z : Option X) → is_some x' ≡ is_some x → is_some (if b then x' else z) ≡ is_some (if b then x else z)
+same_choice true x x' z same = same
+same_choice false x x' z same = refl
+
+pub stays_complete : StaysComplete
+stays_complete old new same complete = record {
+  shows = λ p. rw (same.access, same.world)
+      (same_choice (writes old.access p) (slot p old.taken) (slot p new.taken) (if reads old.access p then slot p old.world.now else None) (same.shape.there p) ∙ complete.shows p);
+  writes = λ p. rw same.access (same_choice (writes old.access p) (slot p old.taken) (slot p new.taken) None (same.shape.there p) ∙ complete.writes p);
+}
+
+pub loan_ends : LoanEnds
+loan_ends a old left taken begun ended lends of owns same =
+    let shape : SameShape taken ended.taken = subst (λ (w : Parts). SameShape w ended.taken) owns same.shape in
+    let none : (p : Part) → writes a p ≡ false → slot p ended.taken ≡ None =
+    λ p isnt. no_slot (slot p ended.taken) (shape.there p ∙ (ap is_some (lends.moved p) ∙ rw isnt refl)) in
+    let same_access : ended.access ≡ a = same.access ∙ of in (
+      may_come_home a old left taken ended.taken lends shape,
+      λ home back. (
+        home_again a old left taken ended.taken home lends shape back,
+        λ s mine before after. home_merges a ended.taken left home mine s none (λ p is. lends.stayed p ∙ rw is refl) back
+            (owned_where_written ended mine (λ p isnt. none p (sym (ap (λ (b : Access). writes b p) same_access) ∙ isnt)) after)
+            (λ p. let P : Option (Stuff p) → Type 0 = λ o. IfSome o (λ k. StuffStands p k (content p s)) in
+            subst P (sym (lends.stayed p)) (chosen_stands p s (writes a p) (slot p old) (before p)).1),
+      ),
+    )

@@ -7,7 +7,7 @@ use Rattle.msg_world.specs.declared.access.Access.{Access}
 use Rattle.msg_world.specs.declared.lent.Lent.{Lent}
 use Rattle.msg_world.specs.declared.record.Record.{Record}
 use Rattle.msg_world.specs.Access.{Part, OfType, OfResource, Conflict, writes}
-use Rattle.msg_world.specs.Loan.{IsLoanOf, LoanStands, SameLoan, with_messages, with_resource, writable}
+use Rattle.msg_world.specs.Loan.{IsComplete, IsLoanOf, LoanStands, SameLoan, access_of, taken_of, with_messages, with_resource, writable}
 use Rattle.msg_world.specs.Parts.{IsApart, IsHome, LendsOut, Parts, PartsStand, SameShape, TakesBack, slot}
 use Rattle.msg_world.specs.World.{WorldState, merge, with_history, with_value_of}
 
@@ -68,3 +68,28 @@ HomeWhereEither = (taken world home : Parts) → TakesBack taken world home
 abbrev pub HomeAgain : Type 0
 HomeAgain = (a : Access) (old left taken later home : Parts)
     → LendsOut a old left taken → SameShape taken later → TakesBack later left home → SameShape old home
+
+-- A loan from its beginning to its end: what an access writes was moved out and opened, and used in any way. What the
+-- loan owns then may be taken back; everything that was home is home again, and the world stands for the one
+-- before, with what the access writes as the loan left it.
+abbrev pub LoanEnds : Type 0
+LoanEnds = (a : Access) (old left taken : Parts) (begun ended : Lent)
+    → LendsOut a old left taken → access_of begun ≡ a → taken_of begun ≡ taken → SameLoan begun ended
+    → IsApart (taken_of ended) left
+    × ((home : Parts) → TakesBack (taken_of ended) left home
+    → SameShape old home
+    × ((s mine : WorldState) → PartsStand old s → LoanStands ended mine → PartsStand home (merge a mine s)))
+
+-- In any use a loan still shows all that its access uses, and lets all be written that its access writes.
+abbrev pub StaysComplete : Type 0
+StaysComplete = (old new : Lent) → SameLoan old new → IsComplete old → IsComplete new
+
+-- It owns what its access writes and nothing else, in any use.
+abbrev pub OwnsWhatItWrites : Type 0
+OwnsWhatItWrites = (a : Access) (world taken later : Parts) → IsLoanOf a world taken → SameShape taken later
+    → IsLoanOf a world later × ((p : Part) → writes a p ≡ false → slot p later ≡ None)
+
+-- What it owns stands for the world that the loan stands for.
+abbrev pub OwnedStands : Type 0
+OwnedStands = (l : Lent) (world : Parts) (s : WorldState) → IsLoanOf (access_of l) world (taken_of l)
+    → LoanStands l s → PartsStand (taken_of l) s

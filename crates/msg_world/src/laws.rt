@@ -1,5 +1,8 @@
 //! Laws: facts that hold of every loan, and need no code.
-ghost use Rattle.msg_world.specs.LoanLaws.{HomeAgain, HomeMerges, HomeWhereEither, LentIsLoan, LoanStays, MayComeHome, OthersStayHome, StaysApart, ValuesStand, WritesStand};
+ghost use Rattle.std.specs.Prelude.{◌≡◌};
+ghost use Rattle.msg_world.specs.LoanLaws.{HomeAgain, HomeMerges, HomeWhereEither, LentIsLoan, LoanEnds, LoanStays, MayComeHome, OthersStayHome, OwnedStands, OwnsWhatItWrites, StaysApart, StaysComplete, ValuesStand, WritesStand};
+
+use crate::record::HOST;
 
 /// What `World::lend_out` moved out may be opened for its access, and stands for what it stood for.
 pub fn lent_parts_are_a_loan()
@@ -30,4 +33,18 @@ pub fn written_parts_come_home()
     ensures meaning { HomeMerges }
     ensures shape { HomeAgain }
     ensures either { HomeWhereEither }
+{}
+
+/// A loan that is opened, used in any way and taken back leaves the world with what it wrote, and
+/// all else as it was.
+pub fn loans_end()
+    ensures ends { LoanEnds }
+    ensures complete { StaysComplete }
+    ensures owns { OwnsWhatItWrites }
+    ensures owned { OwnedStands }
+{}
+
+/// The host writes as a number past those of 256 systems, which begin at 0.
+pub fn host_comes_after_systems()
+    ensures host { HOST ≡ 256 }
 {}

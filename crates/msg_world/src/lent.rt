@@ -39,6 +39,14 @@ impl<'a> Lent<'a> {
         }
     }
 
+    /// A law: a loan stands for some state.
+    pub fn stands_for_some(&self)
+        ensures state { (s : WorldState) × LoanStands self.now s }
+    {
+        self.world.stands_for_some();
+        self.taken.stands_for_some();
+    }
+
     /// The messages of a type that is lent, for reading or for writing.
     pub fn reader(&self, t: TypeNo) -> Option<&Messages<Record>>
         ensures shown { option_copied result ≡ shown (OfType t) self.now }

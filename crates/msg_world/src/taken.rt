@@ -1,6 +1,7 @@
 use crate::marks::Marks;
 use crate::record::Record;
 use crate::slots::slot_ref;
+use crate::world::each_stands;
 use crate::{ResNo, TypeNo};
 use msg_buffer::Messages;
 use std::marker::Model;
@@ -28,9 +29,16 @@ impl Taken {
     ghost use Rattle.std.specs.Prelude.{◌≡◌, is_some, option_map};
     ghost use Rattle.msg_world.specs.Access.{OfType, OfResource, Registry};
     ghost use Rattle.msg_world.specs.Lending.{LendsMessages, LendsValue};
-    ghost use Rattle.msg_world.specs.Parts.{slot};
+    ghost use Rattle.msg_world.specs.Parts.{PartsStand, slot};
     ghost use Rattle.msg_world.specs.Slots.{at};
-    ghost use Rattle.msg_world.specs.World.{signalled_marks};
+    ghost use Rattle.msg_world.specs.World.{WorldState, signalled_marks};
+
+    /// A law: what was moved out stands for some state.
+    pub(crate) fn stands_for_some(&self)
+        ensures state { (s : WorldState) × PartsStand self.now s }
+    {
+        each_stands(&self.types);
+    }
 
     /// What is there of a type.
     pub(crate) fn messages(&self, t: TypeNo) -> Option<&Messages<Record>>

@@ -120,7 +120,7 @@ fn slot_stands(slot: &Option<Messages<Record>>)
 }
 
 /// A law: each buffer stands for some history.
-fn each_stands(types: &[Option<Messages<Record>>])
+pub(crate) fn each_stands(types: &[Option<Messages<Record>>])
     ensures histories { (t : ℕ) → t < length types.now
         → (h : History Record) × BufferStands (at types.now t) h }
 {
