@@ -10,8 +10,7 @@ use Rattle.msg_board.specs.declared.law.Slot.{Slot}
 use Rattle.msg_board.specs.declared.law.Slot.TheVariants.{Empty, Job, Done}
 use Rattle.msg_board.specs.declared.law.View.{View}
 use Rattle.msg_board.specs.declared.pass.Pass.TheInside.{Inside}
-use Rattle.msg_board.specs.declared.board.Board.{Board}
-use Rattle.msg_board.specs.Board.{jobs_of, HasEnded}
+use Rattle.msg_board.specs.Board.{BoardView, jobs_of, HasEnded}
 use Rattle.msg_board.specs.Counts.{times, is_held}
 use Rattle.msg_board.specs.Closing.{IsGathered}
 use Rattle.msg_board.specs.Law.{taken, freed, united}
@@ -200,10 +199,10 @@ times_more : {J : Type 0} (k : ℕ) (qs ps : List (PassState J)) (p : PassState 
 times_more {J = J} k qs ps p is = let drawn : PassState J → List ℕ = λ p. p.drawn in
     ap (λ l. times k (flat_map drawn l)) is ∙ (ap (times k) (flat_map_push drawn ps p) ∙ times-append k (flat_map drawn ps) p.drawn)
 
-module _ {W A J D : Type 0} where
+module _ {J D : Type 0} where
   -- the seat has the views of all passes but ps
-  pub record Gathering (b : Board W A J D) (all ps : List (PassState J)) (seat : Seat (Slot J D) (View J)) : Type 0 where
-    pub table : seat.table_id ≡ b.table.shared.table_id
+  pub record Gathering (b : BoardView J) (all ps : List (PassState J)) (seat : Seat (Slot J D) (View J)) : Type 0 where
+    pub table : seat.table_id ≡ b.table
     pub count : seat.me.0.weight + length ps ≡ length all
     pub live : 0 < seat.me.0.weight
     pub next : seat.me.0.next ≡ length (jobs_of b)
@@ -213,7 +212,7 @@ module _ {W A J D : Type 0} where
     pub ended : All (HasEnded b) ps
 
   -- the last pass's seat comes first
-  pub gathers_first : (b : Board W A J D) (all ps : List (PassState J)) (p : PassState J) (seat : Seat (Slot J D) (View J))
+  pub gathers_first : (b : BoardView J) (all ps : List (PassState J)) (p : PassState J) (seat : Seat (Slot J D) (View J))
       → All (HasEnded b) all → all ≡ ps ++ p ∷ []
       → IsSeatOf p seat → (p.finished ≡ true → p.tried ≡ length p.jobs) → Gathering b all ps seat
   gathers_first b all ps p seat every is of all_tried = let parts = All-split_last (HasEnded b) ps p (subst (All (HasEnded b)) is every) in
@@ -228,7 +227,7 @@ module _ {W A J D : Type 0} where
       }
 
   -- and takes in the others, one by one
-  pub gathers : (b : Board W A J D) (all qs ps : List (PassState J)) (p : PassState J) (seat other next : Seat (Slot J D) (View J))
+  pub gathers : (b : BoardView J) (all qs ps : List (PassState J)) (p : PassState J) (seat other next : Seat (Slot J D) (View J))
       → Gathering b all qs seat → qs ≡ ps ++ p ∷ [] → IsSeatOf p other
       → next.table_id ≡ seat.table_id → next.me ≡ (united seat.me.0 other.me.0, seat.me.1)
       → Gathering b all ps next
@@ -245,7 +244,7 @@ module _ {W A J D : Type 0} where
       }
 
   -- until there are none left
-  pub gathered : (b : Board W A J D) (all ps : List (PassState J)) (seat : Seat (Slot J D) (View J))
+  pub gathered : (b : BoardView J) (all ps : List (PassState J)) (seat : Seat (Slot J D) (View J))
       → Gathering b all ps seat → ps ≡ [] → IsGathered b all seat
   gathered b all ps seat done none = record {
     table = done.table;

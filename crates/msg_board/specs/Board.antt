@@ -1,24 +1,31 @@
 -- What a clause says of a board and of its passes.
 use Rattle.std.specs.Prelude.{◌≡◌, ℕ, List, [], length, slice_get, Some, None, true, false}
-use Rattle.msg_board.specs.declared.board.Board.{Board}
+use Rattle.atomic_table.specs.Seated.{TableId}
 use Rattle.msg_board.specs.Pass.{PassState}
 
-module _ {W A J D : Type 0} where
+-- a board as its callers see it
+pub record BoardView (J : Type 0) : Type 0 where
+  -- its words and slots, by which it knows its passes
+  pub table : TableId
   -- the jobs, in the order in which they were given
-  abbrev pub jobs_of : Board W A J D → List J
-  jobs_of b = b.table.shared.key.jobs.value.items
-
+  pub jobs : List J
   -- how many passes were made
-  abbrev pub passes_of : Board W A J D → ℕ
-  passes_of b = b.table.shared.key.passes
+  pub passes : ℕ
+
+module _ {J : Type 0} where
+  abbrev pub jobs_of : BoardView J → List J
+  jobs_of b = b.jobs
+
+  abbrev pub passes_of : BoardView J → ℕ
+  passes_of b = b.passes
 
   -- the pass is one of this board's
-  pub record IsOf (b : Board W A J D) (p : PassState J) : Type 0 where
-    pub table : p.table ≡ b.table.shared.table_id
+  pub record IsOf (b : BoardView J) (p : PassState J) : Type 0 where
+    pub table : p.table ≡ b.table
     pub jobs : p.jobs ≡ jobs_of b
 
   -- the pass is one of this board's, and has done nothing yet
-  pub record IsNew (b : Board W A J D) (p : PassState J) : Type 0 where
+  pub record IsNew (b : BoardView J) (p : PassState J) : Type 0 where
     pub own : IsOf b p
     pub tried : p.tried ≡ 0
     pub drawn : p.drawn ≡ []
@@ -26,12 +33,12 @@ module _ {W A J D : Type 0} where
     pub unfinished : p.finished ≡ false
 
   -- the pass is one of this board's, and holds nothing, so that it may draw
-  pub record IsIdle (b : Board W A J D) (p : PassState J) : Type 0 where
+  pub record IsIdle (b : BoardView J) (p : PassState J) : Type 0 where
     pub own : IsOf b p
     pub holding : p.holding ≡ None
 
   -- the pass is one of this board's, holds nothing and is finished
-  pub record HasEnded (b : Board W A J D) (p : PassState J) : Type 0 where
+  pub record HasEnded (b : BoardView J) (p : PassState J) : Type 0 where
     pub own : IsOf b p
     pub holding : p.holding ≡ None
     pub finished : p.finished ≡ true

@@ -3,19 +3,18 @@ use Rattle.std.specs.Prelude.{◌≡◌, ℕ, ◌<◌, List, length, slice_get, 
 use mathlib.Core.Option.{some}
 use lib.ListN.{get_elem?}
 use Rattle.atomic_table.specs.declared.shared.Seat.{Seat}
-use Rattle.msg_board.specs.declared.board.Board.{Board}
 use Rattle.msg_board.specs.declared.law.Slot.{Slot}
 use Rattle.msg_board.specs.declared.law.Slot.TheVariants.{Done}
 use Rattle.msg_board.specs.declared.law.View.{View}
-use Rattle.msg_board.specs.Board.{jobs_of}
+use Rattle.msg_board.specs.Board.{BoardView, jobs_of}
 use Rattle.msg_board.specs.Counts.{times}
 use Rattle.msg_board.specs.Pass.{PassState, drawn_by}
 
-module _ {W A J D : Type 0} where
+module _ {J D : Type 0} where
   -- the seat has the views of all these passes, each of which had ended
-  pub record IsGathered (b : Board W A J D) (ps : List (PassState J))
+  pub record IsGathered (b : BoardView J) (ps : List (PassState J))
       (seat : Seat (Slot J D) (View J)) : Type 0 where
-    pub table : seat.table_id ≡ b.table.shared.table_id
+    pub table : seat.table_id ≡ b.table
     pub weight : seat.me.0.weight ≡ length ps
     pub next : seat.me.0.next ≡ length (jobs_of b)
     pub held : seat.me.0.held ≡ None

@@ -1,6 +1,8 @@
--- What each pass keeps by itself: the invariant of its model. No public contract cites it.
-use Rattle.std.specs.Prelude.{◌≡◌, ℕ, ◌<◌, ◌≤◌, List, [], ◌∷◌, ◌++◌, length, All, Some, true}
+-- What each board and each pass keeps by itself: the invariant of its model. No public contract cites it.
+use Rattle.std.specs.Prelude.{◌≡◌, ℕ, ◌+◌, ◌<◌, ◌≤◌, List, [], ◌∷◌, ◌++◌, length, All, Some, true}
 use Rattle.msg_board.specs.declared.pass.Pass.TheInside.{Inside}
+use Rattle.msg_board.specs.declared.board.Board.TheInside as board
+use Rattle.msg_board.specs.Board.{BoardView}
 use Rattle.msg_board.specs.Pass.{PassState}
 use Rattle.msg_board.specs.Seats.{IsSeatOf}
 
@@ -33,3 +35,18 @@ module _ {J D : Type 0} where
   pub record IsSound (p : Inside J D) : Type 0 where
     pub seat : IsSeatOf (state_of p) p.seat
     pub order : IsInOrder (state_of p)
+
+module _ {W A J D : Type 0} where
+  -- the board that callers see
+  abbrev pub board_of : board.Inside W A J D → BoardView J
+  board_of b = record {
+    table = b.table.shared.table_id;
+    jobs = b.table.shared.key.jobs.value.items;
+    passes = b.table.shared.key.passes;
+  }
+
+  -- its table has a slot for each job, and a word more; and some pass was made
+  pub record IsBoard (b : board.Inside W A J D) : Type 0 where
+    pub words : b.table.shared.table_id.words ≡ b.table.shared.table_id.slots + 1
+    pub slots : b.table.shared.table_id.slots ≡ length b.table.shared.key.jobs.value.items
+    pub some_pass : 0 < b.table.shared.key.passes

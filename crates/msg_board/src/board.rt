@@ -12,16 +12,25 @@ use crate::slots::{put_in, results_of, slots_of, take_out};
 use crate::work::Work;
 use atomic_table::{Seat, Table};
 use std::alloc::{Allocator, Global};
+use std::marker::Model;
 use std::snapshot::Snapshot;
 
 /// Jobs that several workers draw, each with a pass of its own. A job's number is its place in the
-/// list that `new` was given.
+/// list that `new` was given. Clauses see it as a `BoardView`.
 #[derive(Drop)]
 pub struct Board<W: Work, A: Allocator = Global> {
     table: Table<Slot<W::Job, W::Done>, View<W::Job>, Deal<W::Job, A>, Law<W>, A>,
-    ghost words: { table.shared.table_id.words ≡ table.shared.table_id.slots + 1 },
-    ghost slots: { table.shared.table_id.slots ≡ length table.shared.key.jobs.value.items },
-    ghost some_pass: { 0 < table.shared.key.passes },
+}
+
+impl<W: Work, A: Allocator> Model for Board<W, A> {
+    ghost use Rattle.msg_board.specs.Board.{BoardView};
+    ghost use Rattle.msg_board.specs.Sound.{IsBoard, board_of};
+
+    ghost Value = { BoardView W.Job };
+
+    ghost view = { board_of };
+
+    ghost invariant = { IsBoard };
 }
 
 impl<W: Work, A: Allocator + Copy> Board<W, A> {
@@ -61,7 +70,7 @@ impl<W: Work, A: Allocator + Copy> Board<W, A> {
         mut seat: Seat<Slot<W::Job, W::Done>, View<W::Job>>,
         passes: u32,
     ) -> Result<Vec<Pass<W::Job, W::Done>, A>, NoMemory>
-        requires table { seat.table_id ≡ self.now.table.shared.table_id }
+        requires table { seat.table_id ≡ self.now.table }
         requires view { seat.me ≡ (whole (jobs_of self.now) passes, []) }
         requires some_pass { 0 < passes }
         ensures as_many { IfOk result (λ all. length all.items ≡ passes) }
@@ -85,7 +94,8 @@ impl<W: Work, A: Allocator> Board<W, A> {
     ghost use Rattle.msg_board.specs.Closing.{IsGathered};
 
     /// Draws a job that nobody has drawn, with its number; None where there is none left to try.
-    /// It takes one atomic step for each number that it tries, and waits for nobody.
+    /// It takes one atomic step for each number that it tries. Nothing in it can wait without a
+    /// bound for what another pass does.
     pub fn draw(&self, pass: &mut Pass<W::Job, W::Done>) -> Option<(usize, W::Job)>
         requires idle { IsIdle self.now pass.old }
         ensures own { IsOf self.now pass.new }

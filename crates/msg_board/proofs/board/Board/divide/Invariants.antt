@@ -6,7 +6,7 @@ use Rattle.msg_board.proofs.board.Board.divide.Given as goal
 
 abbrev pub invariant-loop-left : goal.invariant-loop-left
 invariant-loop-left g l = record {
-  table : l.seat.table_id ≡ l.self.table.shared.table_id;
+  table : l.seat.table_id ≡ l.self.table;
   view : l.seat.me ≡ (whole (jobs_of l.self) l.left, []);
   some_left : 0 < l.left;
   count : length l.all.items + l.left ≡ l.fn.passes;

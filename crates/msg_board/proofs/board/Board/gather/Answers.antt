@@ -1,4 +1,4 @@
-use Rattle.std.proofs.Common.{rules, ap, ◌∙◌, arith, subst}
+use Rattle.std.proofs.Common.{rules, ap, sym, ◌∙◌, arith, subst}
 use Rattle.std.specs.List.{All}
 use Rattle.msg_board.specs.Board.{HasEnded}
 use Rattle.msg_board.specs.Seats.{carried}
@@ -12,10 +12,10 @@ loop-pass-init g c = gathers_first c.args.self.now _ _ c.in-Some.first _ c.requi
 
 pub join_seat-requires : goal.join_seat-requires
 join_seat-requires g c = let inv = c.loop-pass.invariant in let b = c.args.self.now in
-    let of = c.into_seat-other.ensures.seat in let words = b.words in
+    let of = c.into_seat-other.ensures.seat in let words = c.self.invariant.words in let table = sym (ap (λ v. v.table) c.self.view_is) in
     let parts = All-split_last (HasEnded b) _ _ (subst (All (HasEnded b)) c.in-Some-pop.ensures.items inv.ended) in (
-      inv.table,
-      of.table ∙ parts.1.own.table,
+      inv.table ∙ table,
+      of.table ∙ (parts.1.own.table ∙ table),
       of.out ∙ ap carried parts.1.holding,
       omega arith,
       unites g.W.Work.lawful _ _ _ _ _ _ inv.live (of.held ∙ parts.1.holding),

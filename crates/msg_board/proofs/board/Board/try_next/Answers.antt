@@ -1,4 +1,4 @@
-use Rattle.std.proofs.Common.{ap, ◌∙◌, arith, length}
+use Rattle.std.proofs.Common.{ap, sym, ◌∙◌, arith, length}
 use Rattle.msg_board.specs.Board.{jobs_of}
 use Rattle.msg_board.specs.Seats.{carried}
 use Rattle.msg_board.proofs.Steps.{draws}
@@ -9,8 +9,9 @@ pub fetch_max-found-requires : goal.fetch_max-found-requires
 fetch_max-found-requires g c = let b = c.args.self.now in let seat = c.pass.invariant.seat in
     let is = c.pass.view_is in
     let idle = ap (λ p. p.holding) is ∙ c.requires.idle.holding in let more = c.requires.more in
-    let tried = ap (λ p. p.tried) is in let words = b.words in let slots = b.slots in (
-      ap (λ p. p.table) is ∙ c.requires.idle.own.table,
+    let tried = ap (λ p. p.tried) is in let words = c.self.invariant.words in let slots = c.self.invariant.slots in
+    let here = c.self.view_is in let long = ap (λ v. length v.jobs) here in (
+      ap (λ p. p.table) is ∙ c.requires.idle.own.table ∙ sym (ap (λ v. v.table) here),
       omega arith,
       draws g.W.Work.lawful _ _ _ _ _ c.pass.inside.next (seat.out ∙ ap carried idle) (omega (arith, seat.weight)) (seat.held ∙ idle) seat.next (omega arith),
     )
