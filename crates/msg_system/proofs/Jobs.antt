@@ -9,7 +9,7 @@ use Rattle.msg_world.specs.Access.{Part, reads, uses, writes}
 use Rattle.msg_world.specs.Loan.{access_of}
 use Rattle.msg_system.specs.declared.condition.Condition.{Condition}
 use Rattle.msg_system.specs.declared.op.Op.{Op}
-use Rattle.msg_system.specs.Needs.{IsAccessOf, condition_needs, job_needs, program_needs, some_condition_reads, some_op_writes}
+use Rattle.msg_system.specs.Needs.{IsAccessOf, Needs, condition_needs, job_needs, needs_of, program_needs, some_condition_reads, some_op_writes, with_conditions}
 use Rattle.msg_system.specs.Systems.{JobsCover}
 use Rattle.msg_system.proofs.Runs.{complete_covers}
 
@@ -25,37 +25,44 @@ one_more false false false false = refl
 abbrev pub IsUnion : Access → Access → Access → Type 0
 IsUnion a b u = ((p : Part) → writes u p ≡ (writes a p || writes b p)) × ((p : Part) → reads u p ≡ ((reads a p || reads b p) && not (writes u p)))
 
--- a program without conditions
-pub no_conditions : (ops : List Op) (a none u : Access) → ((p : Part) → uses none p ≡ false) → IsUnion a none u → IsAccessOf (program_needs ops) a → IsAccessOf (job_needs ops []) u
-no_conditions ops a none u nothing union of = record {
-  reads = λ p. union.1 p ∙ ap (λ w. (reads a p || reads none p) && not w) (written p) ∙ ap (λ r. (reads a p || r) && not (some_op_writes ops p)) (or_parts (reads none p) (writes none p) (nothing p)).0
-      ∙ ap (λ r. (r || false) && not (some_op_writes ops p)) (of.reads p);
+-- without conditions
+pub no_conditions : (n : Needs) (a none u : Access) → ((p : Part) → uses none p ≡ false) → IsUnion a none u → IsAccessOf n a → IsAccessOf (with_conditions n []) u
+no_conditions n a none u nothing union of = record {
+  reads = λ p. union.1 p ∙ ap (λ w. (reads a p || reads none p) && not w) (written p) ∙ ap (λ r. (reads a p || r) && not (n.writes p)) (or_parts (reads none p) (writes none p) (nothing p)).0
+      ∙ ap (λ r. (r || false) && not (n.writes p)) (of.reads p);
   writes = written;
 }
   where
-    written : (p : Part) → writes u p ≡ some_op_writes ops p
+    written : (p : Part) → writes u p ≡ n.writes p
     written p = union.0 p ∙ ap (λ w. writes a p || w) (or_parts (reads none p) (writes none p) (nothing p)).1 ∙ or-false (writes a p) ∙ of.writes p
 
 -- one condition more
-pub condition_more : (ops : List Op) (cs : List Condition) (i : ℕ) (c : Condition) (a b u : Access) → i < length cs → c ≡ get_or cs i c
-    → IsAccessOf (job_needs ops (take i cs)) a → IsAccessOf (condition_needs c) b → IsUnion a b u → IsAccessOf (job_needs ops (take (i + 1) cs)) u
-condition_more ops cs i c a b u lt is of one union = record { reads = read; writes = written }
+pub condition_more : (n : Needs) (cs : List Condition) (i : ℕ) (c : Condition) (a b u : Access) → i < length cs → c ≡ get_or cs i c
+    → IsAccessOf (with_conditions n (take i cs)) a → IsAccessOf (condition_needs c) b → IsUnion a b u → IsAccessOf (with_conditions n (take (i + 1) cs)) u
+condition_more n cs i c a b u lt is of one union = record { reads = read; writes = written }
   where
-    both : (p : Part) → writes u p ≡ (some_op_writes ops p || false)
-    both p = union.0 p ∙ ap (λ w. w || writes b p) (of.writes p) ∙ ap (λ w. some_op_writes ops p || w) (one.writes p)
+    both : (p : Part) → writes u p ≡ (n.writes p || false)
+    both p = union.0 p ∙ ap (λ w. w || writes b p) (of.writes p) ∙ ap (λ w. n.writes p || w) (one.writes p)
 
-    written : (p : Part) → writes u p ≡ some_op_writes ops p
-    written p = both p ∙ or-false (some_op_writes ops p)
+    written : (p : Part) → writes u p ≡ n.writes p
+    written p = both p ∙ or-false (n.writes p)
 
     longer : (p : Part) → some_condition_reads (take (i + 1) cs) p ≡ (some_condition_reads (take i cs) p || (condition_needs c).reads p)
     longer p = list_any_more (λ (x : Condition). (condition_needs x).reads p) cs i c lt
         ∙ ap (λ (x : Condition). some_condition_reads (take i cs) p || (condition_needs x).reads p) (sym is)
 
-    read : (p : Part) → reads u p ≡ (job_needs ops (take (i + 1) cs)).reads p
-    read p = let x = (program_needs ops).reads p in let k = some_condition_reads (take i cs) p in let w = some_op_writes ops p in
+    read : (p : Part) → reads u p ≡ (with_conditions n (take (i + 1) cs)).reads p
+    read p = let x = n.reads p in let k = some_condition_reads (take i cs) p in let w = n.writes p in
         union.1 p ∙ ap (λ v. (reads a p || reads b p) && not v) (both p) ∙ ap (λ r. (r || reads b p) && not (w || false)) (of.reads p)
         ∙ ap (λ r. (((x || k) && not w) || r) && not (w || false)) (one.reads p) ∙ one_more x k ((condition_needs c).reads p) w
         ∙ ap (λ r. (x || r) && not w) (sym (longer p))
+
+-- what is said of an access's own parts is said of the needs that it is the access of
+pub access_along : (n : Needs) (cs : List Condition) (a u : Access) → IsAccessOf n a → IsAccessOf (with_conditions (needs_of a) cs) u → IsAccessOf (with_conditions n cs) u
+access_along n cs a u of own = record {
+  reads = λ p. own.reads p ∙ ap (λ r. (r || some_condition_reads cs p) && not (writes a p)) (of.reads p) ∙ ap (λ w. (n.reads p || some_condition_reads cs p) && not w) (of.writes p);
+  writes = λ p. own.writes p ∙ of.writes p;
+}
 
 -- ---- what a job needs is what its program and its conditions need
 

@@ -1,7 +1,7 @@
 -- What is read from a loan, and written through it.
 use Rattle.std.proofs.Common.{◌≡◌, ℕ, ◌+◌, ◌++◌, ◌≤◌, ◌<◌, Bool, true, false, List, length, Option, Some, None, refl, sym, subst, ◌∙◌, arith, inl, inr}
-use Rattle.std.specs.Prelude.{ℤ, IfSome, IsSome, if◌then◌else◌}
-use Rattle.std.proofs.lemmas.Bool.{cases_Bool, false≢true}
+use Rattle.std.specs.Prelude.{ℤ, Result, Ok, Err, IfSome, IsSome, OnErr, if◌then◌else◌}
+use Rattle.std.proofs.lemmas.Bool.{cases_Bool, cases_lt, false≢true}
 use Rattle.std.proofs.lemmas.Bool.Decides.{nat_tests}
 use Rattle.msg_buffer.specs.declared.instance.Written.{Written}
 use Rattle.msg_buffer.specs.History.{History, count, has_room, write, stamped}
@@ -48,6 +48,18 @@ module _ (h : History Record) (n : ℕ) where
   -- and of one that doesn't
   pub numbers_spent : h.limit < count h + n → None ≡ numbers_for h n
   numbers_spent spent = rw (room_false spent) refl
+
+  -- where they aren't spent, there are numbers
+  pub numbers_left : ¬ (h.limit < count h + n) → IsSome (numbers_for h n)
+  numbers_left not_spent = elim (cases_lt h.limit (count h + n)) [
+    | inl spent ↦ absurd (not_spent spent)
+    | inr room ↦ rw (room_true room) refl
+  ]
+
+-- what holds in any case holds after a refusal
+pub on_err : {T E : Type 0} (r : Result T E) (P : Type 0) → P → OnErr r P
+on_err (Ok x) P holds = tt
+on_err (Err e) P holds = holds
 
 -- a write that doesn't fit changes nothing
 pub spent_stands : (h : History Record) (ms : List Record) (k : Kept Record) → h.limit < count h + length ms → StandsFor k h → StandsFor k (write ms h)

@@ -2,7 +2,7 @@
 use Rattle.std.proofs.Common.{◌≡◌, ℕ, zero, suc, ◌+◌, ◌<◌, ◌++◌, Bool, true, false, not, ◌&&◌, List, [], ◌∷◌, length, Option, Some, None, Result, Ok, Err, take, get_or, refl, sym, ap, subst, ◌∙◌, arith, inl, inr, append_assoc}
 use Rattle.std.specs.Prelude.{◌==◌, IfOk, IfSome, IsSome, is_some, slice_set, if◌then◌else◌}
 use Rattle.std.proofs.lemmas.Bool.{cases_Bool, cases_eq, eq-eqb, ne_eqb}
-use Rattle.std.proofs.lemmas.List.{get_or-set_same, get_or-set_other, take_more}
+use Rattle.std.proofs.lemmas.List.{get_or-set_same, get_or-set_other, length-append, take_more}
 use Rattle.std.proofs.lemmas.List.Folds.{list_any_at}
 use Rattle.msg_world.specs.declared.access.Access.{Access}
 use Rattle.msg_world.specs.declared.lent.Lent.{Lent}
@@ -15,7 +15,7 @@ use Rattle.msg_system.specs.declared.program.Program.{Program}
 use Rattle.msg_system.specs.declared.reply.Reply.{Reply}
 use Rattle.msg_system.specs.declared.start.Start.{Start}
 use Rattle.msg_system.specs.Needs.{Needs, is_part, is_resource, op_needs, op_parts, program_needs, some_op_reads, some_op_writes}
-use Rattle.msg_system.specs.OpRuns.{IsAfterOp, IsAfterProgram, OpRan, ProgramRan, one_place, places_of}
+use Rattle.msg_system.specs.OpRuns.{HasReplies, IsAfterOp, IsAfterProgram, OpRan, ProgramRan, one_place, places_of}
 use Rattle.msg_system.specs.Programs.{AfterOp, AfterProgram, after_op, after_program, with_place}
 use Rattle.msg_system.specs.Systems.{CompleteCovers, Covers, Ran, WrittenIsAll, WrittenStand, only}
 use Rattle.msg_system.proofs.Lendings.{can_be_shown}
@@ -163,18 +163,28 @@ ran_only op start w ps qs l m taken before r ran same is = record {
   places = λ s stands. (ran s stands).same_places;
   program = refl;
   writer = refl;
+  one_each = (r ∷ [], refl, refl);
 }
 
 pub ran_program : (program : Program) (w : ℕ) (ps qs : ℕ → ℕ) (l m : Lent) (taken : Parts) (before after : List Reply)
-    → ProgramRan program.ops w ps qs l m before after → SameLoan l m → taken ≡ taken_of m
+    → ProgramRan program.ops w ps qs l m before after → HasReplies before after (length program.ops) → SameLoan l m → taken ≡ taken_of m
     → Ran (record { program = program; writer = w; places = ps }) (record { program = program; writer = w; places = qs }) l taken before after
-ran_program program w ps qs l m taken before after ran same is = record {
+ran_program program w ps qs l m taken before after ran replies same is = record {
   state = λ s stands. written_stand l m taken (after_program program.ops w ps s).state same is (ran s stands).stands;
   replies = λ s stands. (ran s stands).same_replies;
   places = λ s stands. (ran s stands).same_places;
   program = refl;
   writer = refl;
+  one_each = replies;
 }
+
+-- one reply more
+pub one_reply_more : (before after : List Reply) (n : ℕ) (r : Reply) → HasReplies before after n → HasReplies before (after ++ r ∷ []) (n + 1)
+one_reply_more before after n r has = (
+  has.0 ++ r ∷ [],
+  ap (λ xs. xs ++ r ∷ []) has.1 ∙ append_assoc before has.0 (r ∷ []),
+  length-append has.0 (r ∷ []) ∙ ap (λ k. k + 1) has.2,
+)
 
 pub one_place_moved : (t old new : ℕ) → with_place (one_place t old) t new ≡ one_place t new
 one_place_moved t old new = λ k u. at (u == t) k

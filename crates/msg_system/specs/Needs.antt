@@ -99,12 +99,20 @@ condition_needs c = record { reads = λ p. same_part p (probe_part c.probe); wri
 abbrev pub some_condition_reads : List Condition → Part → Bool
 some_condition_reads cs p = list_any (λ c. (condition_needs c).reads p) cs
 
--- A job needs what its program and its conditions need. What its program writes isn't listed as read.
-abbrev pub job_needs : List Op → List Condition → Needs
-job_needs ops cs = record {
-  reads = λ p. ((program_needs ops).reads p || some_condition_reads cs p) && not (some_op_writes ops p);
-  writes = some_op_writes ops;
+-- What is needed together with conditions: they write nothing, and what is written isn't listed as read.
+abbrev pub with_conditions : Needs → List Condition → Needs
+with_conditions n cs = record {
+  reads = λ p. (n.reads p || some_condition_reads cs p) && not (n.writes p);
+  writes = n.writes;
 }
+
+-- A job needs what its program and its conditions need.
+abbrev pub job_needs : List Op → List Condition → Needs
+job_needs ops cs = with_conditions (program_needs ops) cs
+
+-- what an access reads and writes
+abbrev pub needs_of : Access → Needs
+needs_of a = record { reads = reads a; writes = writes a }
 
 -- the access has exactly these parts
 pub record IsAccessOf (n : Needs) (a : Access) : Type 0 where

@@ -1,5 +1,5 @@
 -- What the private functions of ops say. No public contract cites these.
-use Rattle.std.specs.Prelude.{◌≡◌, ℕ, ◌++◌, List, slice_index}
+use Rattle.std.specs.Prelude.{◌≡◌, ℕ, ◌++◌, List, length, slice_index}
 use Rattle.msg_world.specs.declared.lent.Lent.{Lent}
 use Rattle.msg_world.specs.Loan.{LoanStands}
 use Rattle.msg_world.specs.World.{WorldState}
@@ -35,3 +35,7 @@ pub record IsAfterProgram (after : AfterProgram) (places : ℕ → ℕ) (lent : 
 abbrev pub ProgramRan : List Op → ℕ → (ℕ → ℕ) → (ℕ → ℕ) → Lent → Lent → List Reply → List Reply → Type 0
 ProgramRan ops writer old_places new_places old new before answers =
     (s : WorldState) → LoanStands old s → IsAfterProgram (after_program ops writer old_places s) new_places new before answers
+
+-- so many replies were appended
+abbrev pub HasReplies : List Reply → List Reply → ℕ → Type 0
+HasReplies before answers n = (more : List Reply) × (answers ≡ before ++ more) × (length more ≡ n)

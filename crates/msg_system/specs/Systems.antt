@@ -1,5 +1,5 @@
 -- What a system means, how it starts, and what a run of it does.
-use Rattle.std.specs.Prelude.{All, ◌≡◌, ℕ, ◌++◌, false, None, IfSome, IsSome, IsTrue, List, [], ◌∷◌, slice_get, unwrap_or, if◌then◌else◌}
+use Rattle.std.specs.Prelude.{All, ◌≡◌, ℕ, ◌++◌, false, None, IfSome, IsSome, IsTrue, List, [], ◌∷◌, length, slice_get, unwrap_or, if◌then◌else◌}
 use Rattle.msg_world.specs.declared.lent.Lent.{Lent}
 use Rattle.msg_world.specs.Access.{Part, OfType, uses, writes}
 use Rattle.msg_world.specs.Loan.{IsComplete, LoanStands, access_of, shown, writable}
@@ -62,6 +62,8 @@ pub record Ran (old new : Meaning) (lent : Lent) (taken : Parts) (before after :
   pub places : (s : WorldState) → LoanStands lent s → new.places ≡ (turn old s).places
   pub program : new.program ≡ old.program
   pub writer : new.writer ≡ old.writer
+  -- whatever the loan stands for: the replies are appended, one for each op
+  pub one_each : (more : List Reply) × (after ≡ before ++ more) × (length more ≡ length old.program.ops)
 
 -- Where nothing else is given back, that is all that is given back.
 abbrev pub WrittenIsAll : Type 0

@@ -1,5 +1,5 @@
 // What ops do to the parts that are lent to them.
-ghost use Rattle.std.specs.Prelude.{◌≡◌, ℕ, [], ◌∷◌, IfOk, OnOk, IsSome, length, map};
+ghost use Rattle.std.specs.Prelude.{◌≡◌, ◌<◌, ℕ, [], ◌∷◌, IfOk, OnErr, OnOk, IsSome, length, map};
 ghost use Rattle.msg_buffer.specs.History.{clear, oldest, present, write};
 ghost use Rattle.msg_buffer.specs.Kept.{message_of};
 ghost use Rattle.msg_buffer.specs.StandsFor.{StandsFor};
@@ -49,6 +49,10 @@ pub(crate) fn write_one(
     ensures written { OnOk result ((s : WorldState) → LoanStands lent.old s
         → LoanStands lent.new (with_history s t (write (message ∷ []) (s.histories t)))) }
     ensures same { OnOk result (SameLoan lent.old lent.new) }
+
+    // Memory is refused only where a number was left.
+    ensures refused { OnErr result ((s : WorldState) → LoanStands lent.old s
+        → IsSome (numbers_for (s.histories t) 1)) }
 {
     writes_stand();
     match lent.writer(t) {
@@ -73,6 +77,11 @@ pub(crate) fn write_all(
     ensures written { OnOk result ((s : WorldState) → LoanStands lent.old s
         → LoanStands lent.new (with_history s t (write records.items (s.histories t)))) }
     ensures same { OnOk result (SameLoan lent.old lent.new) }
+
+    // Memory is refused only where there is something to write, and numbers enough were left.
+    ensures some { OnErr result (0 < length records.items) }
+    ensures refused { OnErr result ((s : WorldState) → LoanStands lent.old s
+        → IsSome (numbers_for (s.histories t) (length records.items))) }
 {
     writes_stand();
     match lent.writer(t) {
@@ -99,6 +108,10 @@ pub(crate) fn drain_all(
     ensures dropped { OnOk result ((s : WorldState) → LoanStands lent.old s
         → LoanStands lent.new (with_history s t (clear (s.histories t)))) }
     ensures same { OnOk result (SameLoan lent.old lent.new) }
+
+    // Where nothing is there it asks for no memory.
+    ensures refused { OnErr result ((s : WorldState) → LoanStands lent.old s
+        → 0 < length (present (s.histories t))) }
 {
     writes_stand();
     match lent.writer(t) {
@@ -114,6 +127,7 @@ pub(crate) fn drain_all(
 /// The messages alone.
 fn without_numbers(alloc: Global, instances: &[Instance<Record>]) -> Result<Records, NoMemory>
     ensures items { IfOk result (λ records. records ≡ map message_of instances.now) }
+    ensures refused { OnErr result (0 < length instances.now) }
 {
     let mut records = Vec::new(alloc);
     for instance in instances {

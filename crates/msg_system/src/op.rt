@@ -1,4 +1,4 @@
-ghost use Rattle.std.specs.Prelude.{◌≡◌, ◌||◌, IfOk};
+ghost use Rattle.std.specs.Prelude.{◌≡◌, ◌||◌, ℕ, ℤ, List, IfOk, OnErr};
 ghost use Rattle.msg_world.specs.Access.{Part, reads, writes};
 
 use crate::{Access, Values};
@@ -78,8 +78,11 @@ impl Op {
         }
     }
 
+    /// An equal op. Only the values of a batch take memory.
     pub fn copy(&self, alloc: Global) -> Result<Op, NoMemory>
         ensures equal { IfOk result (λ op. op ≡ self.now) }
+        ensures refused { OnErr result
+            ((t : ℕ) × (values : List ℤ) × (self.now ≡ Op.Batch t values)) }
     {
         Ok(match self {
             Op::Write(t, value) => Op::Write(*t, *value),

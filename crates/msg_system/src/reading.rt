@@ -1,5 +1,5 @@
 // Reading what is unread of a type.
-ghost use Rattle.std.specs.Prelude.{◌≡◌, ◌+◌, IfOk, OnOk, length, map};
+ghost use Rattle.std.specs.Prelude.{◌≡◌, ◌+◌, ◌<◌, IfOk, OnErr, OnOk, length, map};
 ghost use Rattle.msg_buffer.specs.History.{History};
 ghost use Rattle.msg_buffer.specs.Kept.{message_of};
 ghost use Rattle.msg_buffer.specs.Reader.{first, given};
@@ -23,16 +23,20 @@ fn copy_unread(
         → v.items ≡ map message_of (given h cursor.old limit)) }
     ensures place { IfOk result (λ v. (h : History Record) → StandsFor messages.now h
         → cursor.new ≡ first h cursor.old + length v.items) }
+
+    // Where nothing is given it asks for no memory.
+    ensures refused { OnErr result ((h : History Record) → StandsFor messages.now h
+        → 0 < length (given h cursor.old limit)) }
 {
     let unread = cursor.len(messages);
     let most = limit.unwrap_or(unread).min(unread);
-    let mut items = Vec::new(alloc);
+    let mut items = Vec::with_capacity(alloc, most as usize)?;
     let mut rest = cursor.read(messages);
     for _copied in 0..most {
         let Some((_id, record)) = rest.next() else {
             break;
         };
-        items.push(*record)?;
+        items.push_reserved(*record);
     }
     Ok(items)
 }
@@ -48,6 +52,8 @@ pub(crate) fn read_unread(
         → k ≡ took h cursor.old limit) }
     ensures place { OnOk result ((h : History Record) → StandsFor messages.now h
         → cursor.new ≡ place_after_read h cursor.old limit) }
+    ensures refused { OnErr result ((h : History Record) → StandsFor messages.now h
+        → 0 < length (given h cursor.old limit)) }
 {
     let missed = cursor.missed(messages);
     let first = cursor.place().max(messages.oldest());

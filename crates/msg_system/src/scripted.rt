@@ -3,7 +3,7 @@ ghost use Rattle.std.specs.Prelude.{◌≡◌, ℕ, ◌≤◌, IfOk, OnOk, lengt
 ghost use Rattle.msg_world.specs.Access.{OfType};
 ghost use Rattle.msg_world.specs.Loan.{SameLoan};
 ghost use Rattle.msg_system.specs.Needs.{op_needs, program_needs, some_op_reads};
-ghost use Rattle.msg_system.specs.OpRuns.{OpRan, ProgramRan, places_of};
+ghost use Rattle.msg_system.specs.OpRuns.{HasReplies, OpRan, ProgramRan, places_of};
 ghost use Rattle.msg_system.specs.Systems.{Covers, start_place};
 
 use crate::{Access, NoMemory, Op, Program, Reply, Start, System, steps};
@@ -58,6 +58,7 @@ fn run_ops(
     requires covers { Covers (program_needs ops.now) lent.old }
     ensures ran { OnOk result (ProgramRan ops.now writer (places_of cursors.old)
         (places_of cursors.new) lent.old lent.new out.old.items out.new.items) }
+    ensures replies { OnOk result (HasReplies out.old.items out.new.items (length ops.now)) }
     ensures same { OnOk result (SameLoan lent.old lent.new) }
 {
     for op in ops {

@@ -1,9 +1,11 @@
 // What each op does to the loan of its system, and to its system's cursor.
-ghost use Rattle.std.specs.Prelude.{◌≡◌, ℕ, IfOk, IsSome, OnOk};
+ghost use Rattle.std.specs.Prelude.{◌≡◌, ◌<◌, ℕ, IfOk, IsSome, OnErr, OnOk, length};
+ghost use Rattle.msg_buffer.specs.History.{present};
 ghost use Rattle.msg_world.specs.Access.{OfResource, OfType, Registry};
-ghost use Rattle.msg_world.specs.Loan.{SameLoan, shown, writable};
+ghost use Rattle.msg_world.specs.Loan.{LoanStands, SameLoan, shown, writable};
+ghost use Rattle.msg_world.specs.World.{WorldState};
 ghost use Rattle.msg_system.specs.declared.op.Op.TheVariants.{Write, Batch, Read, Len, Missed, Clear, Forward, Sum, Get, Set, Add, Drain, Signal};
-ghost use Rattle.msg_system.specs.Programs.{with_place, write_reply};
+ghost use Rattle.msg_system.specs.Programs.{numbers_for, with_place, write_reply};
 ghost use Rattle.msg_system.specs.OpRuns.{OpRan};
 
 use crate::lending::{
@@ -29,6 +31,8 @@ pub(crate) fn write(lent: &mut Lent, writer: u32, t: TypeNo, value: i64) -> Resu
     ensures ran { IfOk result (λ reply. (places : ℕ → ℕ)
         → OpRan (Write t value) writer places places lent.old lent.new reply) }
     ensures same { OnOk result (SameLoan lent.old lent.new) }
+    ensures refused { OnErr result ((s : WorldState) → LoanStands lent.old s
+        → IsSome (numbers_for (s.histories t) 1)) }
 {
     let numbers = write_one(lent, t, Record { writer, value })?;
     Ok(wrote_or_spent(numbers))
@@ -170,6 +174,8 @@ pub(crate) fn drain(alloc: Global, lent: &mut Lent, t: TypeNo) -> Result<Reply, 
     ensures ran { IfOk result (λ reply. (writer : ℕ) (places : ℕ → ℕ)
         → OpRan (Drain t) writer places places lent.old lent.new reply) }
     ensures same { OnOk result (SameLoan lent.old lent.new) }
+    ensures refused { OnErr result ((s : WorldState) → LoanStands lent.old s
+        → 0 < length (present (s.histories t))) }
 {
     let (first, items) = drain_all(alloc, lent, t)?;
     Ok(Reply::Drained { first, items })

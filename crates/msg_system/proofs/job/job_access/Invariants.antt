@@ -1,7 +1,6 @@
-use Rattle.std.proofs.Common.{List, take}
-use Rattle.msg_system.specs.declared.op.Op.{Op}
-use Rattle.msg_system.specs.Needs.{IsAccessOf, job_needs, program_needs}
+use Rattle.std.proofs.Common.{take}
+use Rattle.msg_system.specs.Needs.{IsAccessOf, needs_of, with_conditions}
 use Rattle.msg_system.proofs.job.job_access.Given as goal
 
 abbrev pub invariant-loop-condition : goal.invariant-loop-condition
-invariant-loop-condition l = (ops : List Op) → IsAccessOf (program_needs ops) l.program → IsAccessOf (job_needs ops (take l.condition-index l.conditions)) l.access
+invariant-loop-condition l = IsAccessOf (with_conditions (needs_of l.program) (take l.condition-index l.conditions)) l.access

@@ -1,4 +1,4 @@
-use Rattle.std.proofs.Common.{◌≡◌, ◌++◌, ◌+◌, length, map}
+use Rattle.std.proofs.Common.{◌≡◌, ◌++◌, ◌+◌, ◌≤◌, length, map, vec_capacity}
 use Rattle.msg_buffer.specs.Kept.{message_of}
 use Rattle.msg_buffer.specs.Reading.{Continues, iter_place, iter_rest}
 use Rattle.msg_system.proofs.reading.copy_unread.Given as goal
@@ -9,4 +9,5 @@ invariant-loop-copied l = record {
   place : iter_place l.rest ≡ iter_place l.initial.rest + length l.items.items;
   continues : Continues l.initial.rest l.rest;
   as_many : length l.items.items ≡ l._copied;
+  room : l.most ≤ vec_capacity l.items;
 }

@@ -1,6 +1,9 @@
-use Rattle.std.proofs.Common.{◌<◌, arith, length}
-use Rattle.msg_system.specs.OpRuns.{places_of}
-use Rattle.msg_system.proofs.Runs.{covers_later, covers_op, op_more, same_loan_trans}
+use Rattle.std.proofs.Common.{◌<◌, List, arith, length, subst}
+use Rattle.std.proofs.lemmas.List.{take_all}
+use Rattle.msg_system.specs.declared.op.Op.{Op}
+use Rattle.msg_system.specs.OpRuns.{IsAfterProgram, places_of}
+use Rattle.msg_system.specs.Programs.{after_program}
+use Rattle.msg_system.proofs.Runs.{covers_later, covers_op, one_reply_more, op_more, same_loan_trans}
 use Rattle.msg_system.specs.Needs.{op_needs}
 use Rattle.msg_system.proofs.scripted.run_ops.Goals as goal
 
@@ -20,5 +23,13 @@ loop-op-preserved c =
       so_far = λ s stands. rw c.in_ok-push.ensures.items (op_more c.args.ops.now c.loop-op.op-index c.op-item.result c.args.writer (places_of c.args.cursors.now)
           (places_of c.loop-op.cursors) (places_of c.run_op.new.cursors) s c.loop-op.lent c.run_op.new.lent c.args.out.now.items c.loop-op.out.items c.in_ok-run_op.field-0
           lt c.op-item.is (inv.so_far s stands) c.in_ok-run_op.ensures.ran);
+      replies = rw c.in_ok-push.ensures.items (one_reply_more c.args.out.now.items c.loop-op.out.items c.loop-op.op-index c.in_ok-run_op.field-0 inv.replies);
       same = same_loan_trans c.args.lent.now c.loop-op.lent c.run_op.new.lent inv.same c.in_ok-run_op.ensures.same;
     }
+
+pub returns-clause-ran : goal.returns-clause-ran
+returns-clause-ran c s stands =
+    let test = c.loop-op-test.false in
+    let whole = take_all c.loop-op.op-index c.args.ops.now (omega arith) in
+    subst (λ (ops : List Op). IsAfterProgram (after_program ops c.args.writer (places_of c.args.cursors.now) s) (places_of c.loop-op.cursors) c.loop-op.lent
+    c.args.out.now.items c.loop-op.out.items) whole (c.loop-op.invariant.so_far s stands)

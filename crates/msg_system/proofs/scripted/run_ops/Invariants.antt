@@ -1,7 +1,7 @@
 use Rattle.std.proofs.Common.{take}
 use Rattle.msg_world.specs.Loan.{LoanStands, SameLoan}
 use Rattle.msg_world.specs.World.{WorldState}
-use Rattle.msg_system.specs.OpRuns.{IsAfterProgram, places_of}
+use Rattle.msg_system.specs.OpRuns.{HasReplies, IsAfterProgram, places_of}
 use Rattle.msg_system.specs.Programs.{after_program}
 use Rattle.msg_system.proofs.scripted.run_ops.Given as goal
 
@@ -9,5 +9,6 @@ abbrev pub invariant-loop-op : goal.invariant-loop-op
 invariant-loop-op l = record {
   so_far : (s : WorldState) → LoanStands l.initial.lent s
       → IsAfterProgram (after_program (take l.op-index l.ops) l.writer (places_of l.initial.cursors) s) (places_of l.cursors) l.lent l.initial.out.items l.out.items;
+  replies : HasReplies l.initial.out.items l.out.items l.op-index;
   same : SameLoan l.initial.lent l.lent;
 }
