@@ -8,6 +8,8 @@ mod calls_files;
 #[cfg(test)]
 mod command;
 #[cfg(test)]
+mod limits;
+#[cfg(test)]
 mod narrow;
 #[cfg(test)]
 mod reports;

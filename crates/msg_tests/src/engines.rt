@@ -4,6 +4,7 @@ mod cases;
 mod expecting;
 mod frames;
 mod gates;
+mod great_limits;
 mod making;
 mod new_engines;
 mod noting;

@@ -1,0 +1,40 @@
+// The greatest numbers that types, limits and reads may have.
+use super::expecting::{by, expect_log, posted, read, wrote};
+use super::making::{engine_of, frame_of, quiet, run_frame};
+use crate::numbers::type_no;
+use msg_exec::NoGate;
+use msg_system::Op;
+use std::test::Fail;
+
+/// A read asks for room for what is unread, however great its limit is.
+#[test]
+fn a_read_of_the_greatest_limit(rt: HostRuntime) -> Result<(), Fail> {
+    let (alloc, t) = (rt.alloc(), type_no(&rt, 0));
+    let ops = [
+        Op::Read(t, Some(u64::MAX)),
+        Op::Read(t, Some(0)),
+        Op::Read(t, Some(1)),
+    ];
+    let frame = frame_of(alloc, &[(t, 5), (t, 6)])?;
+    let mut engine = engine_of(&rt, alloc, &[u64::MAX], &ops, &[])??;
+    let log = run_frame(&rt, &mut engine, &frame, 1, &NoGate)?;
+    let both = [posted(5), posted(6)];
+    let steps = [read(0, 0, &both), read(1, 0, &[]), read(2, 0, &both[..1])];
+    expect_log(&rt, &log, &[0, 1], &steps);
+    let log = run_frame(&rt, &mut engine, &quiet(alloc), 1, &NoGate)?;
+    let steps = [read(0, 2, &[]), read(1, 0, &[]), read(2, 1, &both[1..])];
+    expect_log(&rt, &log, &[], &steps);
+    Ok(())
+}
+
+/// A world of 64 types, of which the last one is written and read.
+#[test]
+fn the_last_of_64_types(rt: HostRuntime) -> Result<(), Fail> {
+    let (alloc, t) = (rt.alloc(), type_no(&rt, 63));
+    let ops = [Op::Write(t, 5), Op::Read(t, None)];
+    let mut engine = engine_of(&rt, alloc, &[1; 64], &ops, &[])??;
+    let log = run_frame(&rt, &mut engine, &quiet(alloc), 2, &NoGate)?;
+    let written = [by(0, 5)];
+    expect_log(&rt, &log, &[], &[wrote(0, 0), read(1, 0, &written)]);
+    Ok(())
+}

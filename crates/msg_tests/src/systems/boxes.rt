@@ -1,0 +1,123 @@
+// Boxed systems of the three kinds, each run on a loan of its own.
+use crate::numbers::{res_no, type_no};
+use msg_system::{
+    NoMemory, Op, Ops, Program, Relay, Reply, Scripted, Start, System, Tally, Values,
+    open_loans_cover,
+};
+use msg_world::laws::{lent_parts_are_a_loan, lent_parts_may_come_home};
+use msg_world::{Lent, World};
+use std::alloc::Global;
+use std::process::Abort;
+use std::test::Fail;
+
+/// Runs a system once, on a loan of what it uses.
+fn run_once<S: System>(
+    rt: &impl Abort,
+    alloc: Global,
+    world: &mut World,
+    system: &mut S,
+    out: &mut Vec<Reply>,
+) -> Result<(), NoMemory> {
+    let access = system.access();
+    assert!(rt; world.is_home(&access));
+    lent_parts_are_a_loan();
+    let taken = world.lend_out(&access)?;
+    let lent = Lent::open(world, &access, taken);
+    open_loans_cover();
+    let taken = system.run(alloc, lent, out)?;
+    lent_parts_may_come_home();
+    world.take_back(taken);
+    Ok(())
+}
+
+const REPLIES: &str = "[Wrote(Written { first: 0, n: 1 }), Wrote(Written { first: 1, n: 1 }), \
+     Forwarded { took: Took { missed: 0, first: 0, items: Records { items: [\
+     Record { writer: 0, value: 5 }, Record { writer: 0, value: 6 }] } }, \
+     wrote: Some(Written { first: 0, n: 2 }) }, \
+     Summed { took: Took { missed: 0, first: 0, items: Records { items: [\
+     Record { writer: 1, value: 5 }, Record { writer: 1, value: 6 }] } }, value: 18 }]";
+
+#[test]
+fn a_list_of_three_boxes(rt: HostRuntime) -> Result<(), Fail> {
+    let alloc = rt.alloc();
+    let (t, u, r) = (type_no(&rt, 0), type_no(&rt, 1), res_no(&rt, 0));
+    let script = Scripted::new(
+        Program {
+            ops: Ops::from_vec(vec![in alloc; Op::Write(t, 5), Op::Write(t, 6)]?),
+            start: Start::Zero,
+        },
+        0,
+    );
+    let relay = Relay::new(t, u, Start::Zero, 1);
+    let tally = Tally::new(u, r, Start::Zero, 2);
+    let mut boxes: Vec<Box<dyn System>> = Vec::with_capacity(alloc, 3)?;
+    boxes.push(Box::new(alloc, script)?)?;
+    boxes.push(Box::new(alloc, relay)?)?;
+    boxes.push(Box::new(alloc, tally)?)?;
+    let mut world = World::new(alloc, &[9, 9], &[7])?;
+    let mut replies = Vec::new(alloc);
+    for system in boxes.iter_mut() {
+        run_once(&rt, alloc, &mut world, system, &mut replies)?;
+    }
+    assert_eq!(rt; format!(in alloc; "{replies:?}")?.as_str(), REPLIES);
+    assert_eq!(rt; world.resource(r), Some(18));
+    Ok(())
+}
+
+const DRAINED: &str = "[Wrote(Written { first: 0, n: 1 }), Wrote(Written { first: 1, n: 1 }), \
+     Drained { first: 0, items: Records { items: [Record { writer: 4, value: 5 }, \
+     Record { writer: 4, value: -6 }] } }, Drained { first: 2, items: Records { items: [] } }]";
+
+#[test]
+fn a_drain_answers_with_all_messages(rt: HostRuntime) -> Result<(), Fail> {
+    let (alloc, t) = (rt.alloc(), type_no(&rt, 0));
+    let ops = vec![in alloc;
+        Op::Write(t, 5),
+        Op::Write(t, -6),
+        Op::Drain(t),
+        Op::Drain(t),
+    ]?;
+    let program = Program {
+        ops: Ops::from_vec(ops),
+        start: Start::Zero,
+    };
+    assert!(rt; program.ops.as_slice().len() <= 64);
+    let mut script = Scripted::new(program, 4);
+    let mut world = World::new(alloc, &[9], &[])?;
+    let mut replies = Vec::new(alloc);
+    run_once(&rt, alloc, &mut world, &mut script, &mut replies)?;
+    assert_eq!(rt; format!(in alloc; "{replies:?}")?.as_str(), DRAINED);
+    Ok(())
+}
+
+/// Each op, copied.
+#[test]
+fn copies_of_every_op(rt: HostRuntime) -> Result<(), Fail> {
+    let alloc = rt.alloc();
+    let (t, u, r) = (type_no(&rt, 0), type_no(&rt, 1), res_no(&rt, 0));
+    let values = Values::from_vec(vec![in alloc; 2, 3]?);
+    let ops = [
+        Op::Write(t, -5),
+        Op::Batch(t, values),
+        Op::Read(t, Some(u64::MAX)),
+        Op::Read(t, None),
+        Op::Len(t),
+        Op::Missed(t),
+        Op::Clear(t),
+        Op::Forward(t, u),
+        Op::Sum(t, r),
+        Op::Get(r),
+        Op::Set(r, 1),
+        Op::Add(r, 2),
+        Op::Drain(u),
+        Op::Signal,
+    ];
+    for op in &ops {
+        let copied = op.copy(alloc)?;
+        assert_eq!(rt;
+            format!(in alloc; "{copied:?}")?.as_str(),
+            format!(in alloc; "{op:?}")?.as_str()
+        );
+    }
+    Ok(())
+}
