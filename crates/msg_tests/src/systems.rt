@@ -1,6 +1,4 @@
 // The three kinds of systems, and programs.
-mod out_of_memory;
-
 use crate::numbers::{res_no, type_no};
 use msg_system::{
     Access, Op, Ops, Program, Records, Relay, Scripted, Start, System, Tally, Values,

@@ -1,6 +1,4 @@
 // Lending, posts and held updates of worlds.
-mod out_of_memory;
-
 ghost use Rattle.std.specs.Prelude.{OnOk};
 ghost use Rattle.msg_world.specs.Loan.{SameLoan};
 ghost use Rattle.msg_world.specs.Parts.{IsWhole, SameShape};
