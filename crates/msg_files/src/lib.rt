@@ -4,6 +4,7 @@
 
 mod call;
 mod calls;
+mod limits;
 mod memory_sink;
 pub mod numbers;
 pub mod numerals;
@@ -14,6 +15,7 @@ mod std_sink;
 
 pub use call::Call;
 pub use calls::{Calls, read_calls, run_calls};
+pub use limits::{MAX_LIMIT, MAX_VALUES};
 pub use memory_sink::{MemorySink, ROOM};
 pub use msg_buffer::NoMemory;
 pub use msg_system::RunFault;

@@ -2,6 +2,7 @@
 #![tactic(auto)]
 
 mod kind;
+mod limits;
 mod name;
 mod scenario;
 

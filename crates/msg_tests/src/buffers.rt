@@ -1,39 +1,9 @@
 // Buffers: what calls files can't show, and the texts of refusals.
 mod left_reads;
-mod out_of_memory;
 
 use msg_buffer::laws::{histories_only_grow, messages_outlive_one_update, readers_tile};
-use msg_buffer::{
-    BatchRefusal, Instance, MessageCursor, MessageId, Messages, WriteRefusal, Written,
-};
-use std::alloc::{AllocError, Global};
+use msg_buffer::{BatchRefusal, MessageCursor, MessageId, Messages, WriteRefusal, Written};
 use std::test::Fail;
-
-/// The numbers and values of at most `limit` unread messages.
-fn read(
-    alloc: Global,
-    cursor: &mut MessageCursor,
-    messages: &Messages<i64>,
-    limit: usize,
-) -> Result<Vec<(u64, i64)>, AllocError> {
-    let mut items = Vec::new(alloc);
-    let mut unread = cursor.read(messages);
-    for _ in 0..limit {
-        let Some((id, value)) = unread.next() else {
-            break;
-        };
-        items.push((id.0, *value))?;
-    }
-    Ok(items)
-}
-
-fn shown(alloc: Global, instances: &[Instance<i64>]) -> Result<Vec<(u64, i64)>, AllocError> {
-    let mut items = Vec::new(alloc);
-    for instance in instances {
-        items.push((instance.id.0, instance.message))?;
-    }
-    Ok(items)
-}
 
 #[test]
 fn last_number(rt: HostRuntime) -> Result<(), Fail> {
@@ -72,8 +42,10 @@ fn cursors_and_queries(rt: HostRuntime) -> Result<(), Fail> {
     assert_eq!(rt; buffer.get(MessageId(0)), None);
     assert_eq!(rt; buffer.get(MessageId(1)).copied(), Some(2));
     assert_eq!(rt; buffer.get(MessageId(2)), None);
-    let written = shown(rt.alloc(), buffer.current())?;
-    assert_eq!(rt; written.as_slice(), [(1, 2)].as_slice());
+    let [written] = buffer.current() else {
+        panic!(rt; "one message is new")
+    };
+    assert_eq!(rt; (written.id, written.message), (MessageId(1), 2));
     assert_eq!(rt; buffer.oldest(), 1);
     assert_eq!(rt; buffer.count(), 2);
     assert_eq!(rt; buffer.len(), 1);
@@ -93,7 +65,7 @@ fn cursor_past_the_count(rt: HostRuntime) -> Result<(), Fail> {
     let fresh: Messages<i64> = Messages::new(rt.alloc(), 10);
     assert_eq!(rt; cursor.missed(&fresh), 0);
     assert_eq!(rt; cursor.len(&fresh), 0);
-    assert!(rt; read(rt.alloc(), &mut cursor, &fresh, 9)?.is_empty());
+    assert!(rt; cursor.read(&fresh).next().is_none());
     assert_eq!(rt; cursor.place(), 3);
     cursor.clear(&fresh);
     assert_eq!(rt; cursor.place(), 0);
@@ -130,23 +102,11 @@ fn a_walk_left_early(rt: HostRuntime) -> Result<(), Fail> {
 fn refusals_say_why(rt: HostRuntime) -> Result<(), Fail> {
     let spent: WriteRefusal<i64> = WriteRefusal::NumbersSpent(1);
     let refused: WriteRefusal<i64> = WriteRefusal::NoMemory(1);
-    assert_eq!(rt;
-        format!(in rt.alloc(); "{spent}")?.as_str(),
-        "no number is left"
-    );
-    assert_eq!(rt;
-        format!(in rt.alloc(); "{refused}")?.as_str(),
-        "want of memory"
-    );
+    let texts = format!(in rt.alloc(); "{spent}, {refused}")?;
+    assert_eq!(rt; texts.as_str(), "no number is left, want of memory");
     let spent: BatchRefusal<i64> = BatchRefusal::NumbersSpent(Vec::new(rt.alloc()));
     let refused: BatchRefusal<i64> = BatchRefusal::NoMemory(Vec::new(rt.alloc()));
-    assert_eq!(rt;
-        format!(in rt.alloc(); "{spent}")?.as_str(),
-        "too few numbers are left"
-    );
-    assert_eq!(rt;
-        format!(in rt.alloc(); "{refused}")?.as_str(),
-        "want of memory"
-    );
+    let texts = format!(in rt.alloc(); "{spent}, {refused}")?;
+    assert_eq!(rt; texts.as_str(), "too few numbers are left, want of memory");
     Ok(())
 }

@@ -1,11 +1,9 @@
 // Plans of worked rules and accesses.
-mod out_of_memory;
-
 use msg_order::{Plan, PlanRefusal, Rule};
 use msg_world::Access;
 use std::alloc::AllocError;
 
-pub fn uses(read_types: u64, write_types: u64) -> Access {
+fn uses(read_types: u64, write_types: u64) -> Access {
     Access {
         read_types,
         write_types,
@@ -13,7 +11,7 @@ pub fn uses(read_types: u64, write_types: u64) -> Access {
     }
 }
 
-pub fn has_batches(plan: &Plan, want: &[&[u32]]) -> bool {
+fn has_batches(plan: &Plan, want: &[&[u32]]) -> bool {
     let batches = plan.batches();
     if batches.len() != want.len() {
         return false;

@@ -1,6 +1,5 @@
 // The three kinds of systems, and programs.
 mod boxes;
-mod out_of_memory;
 
 use crate::numbers::{res_no, type_no};
 use msg_system::{

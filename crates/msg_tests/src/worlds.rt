@@ -1,6 +1,5 @@
 // Lending, posts and held updates of worlds.
 mod loans;
-mod out_of_memory;
 
 ghost use Rattle.std.specs.Prelude.{OnOk};
 ghost use Rattle.msg_world.specs.Loan.{SameLoan};

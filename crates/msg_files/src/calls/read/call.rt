@@ -10,15 +10,12 @@ ghost use Rattle.msg_files.specs.Walk.{Agrees, FitsCursors};
 
 use crate::call::Call;
 use crate::calls::read::part;
+use crate::limits::{MAX_CURSORS, MAX_VALUES};
 use crate::numbers::{are_numbers, whole_numbers};
 use crate::refusal::Refusal;
 use msg_system::Values;
 use serde_json::Value;
 use std::alloc::Global;
-
-const MAX_CURSORS: u32 = 64;
-
-const MAX_VALUES: usize = 1024;
 
 /// A call, where so many cursors were made before.
 pub fn read_call(alloc: Global, made: u32, value: &Value) -> Result<Call, Refusal>

@@ -12,11 +12,10 @@ use crate::call::Call;
 use crate::calls::Calls;
 use crate::calls::read::call::read_call;
 use crate::calls::read::part::buffer_limit;
+use crate::limits::MAX_CALLS;
 use crate::refusal::Refusal;
 use serde_json::{Map, Value};
 use std::alloc::Global;
-
-const MAX_CALLS: usize = 10_000;
 
 /// The file that a JSON value denotes.
 pub fn read_file(alloc: Global, value: &Value) -> Result<Calls, Refusal>

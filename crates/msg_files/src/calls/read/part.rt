@@ -6,11 +6,10 @@ ghost use Rattle.msg_files.specs.Json.{whole, natural, natural_of, only_below};
 ghost use Rattle.msg_files.specs.Checks.{a_number, a_value, a_cursor, a_limit, a_message_number, limit_checks};
 ghost use Rattle.msg_files.specs.Walk.{Agrees};
 
+use crate::limits::MAX_LIMIT;
 use crate::numbers::{natural_number, number, small_number, whole_number};
 use crate::refusal::Refusal;
 use serde_json::Value;
-
-const MOST: u32 = 1_000_000;
 
 /// A value of a message.
 pub fn value(part: &Value) -> Result<i64, Refusal>
@@ -50,12 +49,12 @@ pub fn cursor_and_limit(made: u32, part: &Value, limit: &Value) -> Result<(u32, 
     let part = number(part)?;
     let limit = number(limit)?;
     let cursor = small_number(part, made)?;
-    Ok((cursor, small_number(limit, MOST + 1)?))
+    Ok((cursor, small_number(limit, MAX_LIMIT + 1)?))
 }
 
 /// The limit of a buffer.
 pub fn buffer_limit(value: &Value) -> Result<u32, Refusal>
     ensures agrees { Agrees (limit_checks (view value.now)) (natural (view value.now)) result }
 {
-    small_number(number(value)?, MOST + 1)
+    small_number(number(value)?, MAX_LIMIT + 1)
 }

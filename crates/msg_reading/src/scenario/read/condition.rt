@@ -6,6 +6,7 @@ ghost use Rattle.msg_reading.specs.ScenarioDenotes.{condition_of, in_not, in_not
 ghost use Rattle.msg_files.specs.Walk.{Agrees};
 
 use crate::Refusal;
+use crate::limits::{MAX_NOTS, MOST_NESTED};
 use crate::scenario::read::list::Element;
 use crate::scenario::read::names::Declarations;
 use crate::scenario::read::part::{head_and_parts, text, text_and_number};
@@ -13,12 +14,6 @@ use msg_files::numbers::whole_number;
 use msg_system::{Condition, Probe};
 use serde_json::Value;
 use std::alloc::Global;
-
-/// The greatest number of `not`s round a probe.
-const MAX_NOTS: u8 = 16;
-
-/// No JSON text that is read nests as deep.
-const MOST_NESTED: u8 = 128;
 
 impl Element for Condition {
     ghost checks = { condition_checks };

@@ -13,12 +13,10 @@ use crate::scenario::read::named::Declaration;
 use crate::scenario::read::names::Declarations;
 use crate::scenario::read::part::{text_and_number, two};
 use crate::{Name, Refusal};
+use msg_files::MAX_LIMIT;
 use msg_files::numbers::{small_number, whole_number};
 use serde_json::Value;
 use std::alloc::Global;
-
-/// The greatest number of messages that a type may be held to.
-const MOST: u32 = 1_000_000;
 
 impl Declaration for (Name, u64) {
     ghost checks = { type_checks };
@@ -53,7 +51,7 @@ fn read_type(
 {
     let (name, limit) = text_and_number(name, limit)?;
     let name = names.declare_type(alloc, name)?;
-    let limit = small_number(limit, MOST + 1)?;
+    let limit = small_number(limit, MAX_LIMIT + 1)?;
     Ok((name, u64::from(limit)))
 }
 

@@ -11,6 +11,7 @@ ghost use Rattle.msg_reading.specs.ScenarioDenotes.{each_in_turn, each_of, frame
 ghost use Rattle.msg_reading.specs.Sections.{schedule_checks, schedule_of, world_checks, world_names, world_of};
 ghost use Rattle.msg_files.specs.Walk.{Agrees};
 
+use crate::limits::{MAX_FRAMES, MAX_RESOURCES, MAX_RULES, MAX_SYSTEMS, MAX_TYPES};
 use crate::scenario::read::list::{read_list, read_list_if_there};
 use crate::scenario::read::named::read_names;
 use crate::scenario::read::names::Declarations;
@@ -19,14 +20,6 @@ use msg_exec::{Frame, Items};
 use msg_order::Rule;
 use serde_json::{Map, Value};
 use std::alloc::Global;
-
-const MAX_PARTS: usize = 64;
-
-const MAX_SYSTEMS: usize = 256;
-
-const MAX_RULES: usize = 1024;
-
-const MAX_FRAMES: usize = 10_000;
 
 /// The sections that a file needs.
 #[derive(Clone, Copy)]
@@ -82,7 +75,7 @@ fn read_world(
     ensures declares { OnOk result (names.new
         ≡ world_names names.old (view types.now) (view file.now)) }
 {
-    let types = read_names(alloc, names, types, MAX_PARTS)?;
+    let types = read_names(alloc, names, types, MAX_TYPES)?;
     let resources = read_resources(alloc, names, file)?;
     let held = read_held(file)?;
     Ok(WorldSections {
@@ -175,7 +168,7 @@ fn read_resources(
         ≡ with_all with_resource names.old (elements (resources_in (view file.now)))) }
 {
     match file.get("resources") {
-        Some(list) => read_names(alloc, names, list, MAX_PARTS),
+        Some(list) => read_names(alloc, names, list, MAX_RESOURCES),
         None => Ok(Items::from_vec(Vec::new(alloc))),
     }
 }

@@ -3,6 +3,7 @@ ghost use Rattle.msg_reading.specs.ScenarioChecks.{frame_checks, post_checks};
 ghost use Rattle.msg_reading.specs.ScenarioDenotes.{frame_of, post_of};
 
 use crate::Refusal;
+use crate::limits::MAX_POSTS;
 use crate::scenario::read::list::{Element, read_list};
 use crate::scenario::read::names::Declarations;
 use crate::scenario::read::part::{two, type_and_value};
@@ -10,8 +11,6 @@ use msg_exec::Frame;
 use msg_world::TypeNo;
 use serde_json::Value;
 use std::alloc::Global;
-
-const MAX_POSTS: usize = 1024;
 
 impl Element for Frame {
     ghost checks = { frame_checks };

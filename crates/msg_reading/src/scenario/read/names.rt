@@ -6,19 +6,12 @@ ghost use Rattle.msg_reading.specs.ScenarioChecks.{new_name};
 ghost use Rattle.msg_reading.specs.ScenarioDenotes.{no_names};
 ghost use Rattle.msg_files.specs.Walk.{Agrees};
 
+use crate::limits::{MAX_NAME, MAX_RESOURCES, MAX_SYSTEMS, MAX_TYPES};
 use crate::{Name, Refusal};
 use indexmap::IndexSet;
 use msg_world::{ResNo, TypeNo};
 use std::alloc::Global;
 use std::marker::Model;
-
-const MAX_NAME: usize = 32;
-
-const MAX_TYPES: usize = 64;
-
-const MAX_RESOURCES: usize = 64;
-
-const MAX_SYSTEMS: usize = 256;
 
 /// Whether it is a good name.
 fn is_name(name: &str) -> bool

@@ -20,12 +20,11 @@ use crate::scenario::read::part::{
     head_and_parts, resource_and_value, text, two_types, type_and_limit, type_and_resource,
     type_and_value,
 };
+use msg_files::MAX_VALUES;
 use msg_files::numbers::{are_numbers, whole_numbers};
 use msg_system::{Op, Values};
 use serde_json::Value;
 use std::alloc::Global;
-
-const MAX_VALUES: usize = 1024;
 
 impl Element for Op {
     ghost checks = { op_checks };

@@ -14,6 +14,7 @@ ghost use Rattle.msg_files.specs.declared.refusal.Refusal.TheVariants.{Shape};
 
 use crate::Refusal;
 use crate::scenario::read::names::Declarations;
+use msg_files::MAX_LIMIT;
 use msg_files::numbers::{small_number, whole_number};
 use msg_world::{ResNo, TypeNo};
 use serde_json::{Number, Value};
@@ -55,9 +56,6 @@ pub fn head_and_parts(value: &Value) -> Result<(&str, &[Value]), Refusal>
         None => Err(Refusal::Shape),
     }
 }
-
-/// The greatest number of messages that a type or a read may be held to.
-const MOST: u32 = 1_000_000;
 
 pub fn text(part: &Value) -> Result<&str, Refusal>
     ensures is { MatchResult result (λ t. as_str (view part.now) ≡ Some t.now)
@@ -132,7 +130,7 @@ pub fn type_and_limit(
         result }
 {
     let (name, limit) = text_and_number(of_type, limit)?;
-    Ok((names.type_no(name)?, small_number(limit, MOST + 1)?))
+    Ok((names.type_no(name)?, small_number(limit, MAX_LIMIT + 1)?))
 }
 
 /// Two declared types.

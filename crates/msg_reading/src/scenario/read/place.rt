@@ -7,6 +7,7 @@ ghost use Rattle.msg_reading.specs.ScenarioDenotes.{condition_of, conditions_in,
 ghost use Rattle.msg_files.specs.Walk.{Agrees};
 
 use crate::Refusal;
+use crate::limits::{LAST_JOIN, MAX_CONDITIONS};
 use crate::scenario::read::list::read_list_if_there;
 use crate::scenario::read::names::Declarations;
 use msg_exec::{Items, Place};
@@ -14,10 +15,6 @@ use msg_files::numbers::{number, small_number};
 use msg_system::{Condition, Start};
 use serde_json::Value;
 use std::alloc::Global;
-
-const MAX_CONDITIONS: usize = 8;
-
-const LAST_JOIN: u32 = 10_000;
 
 pub fn read_place(alloc: Global, names: &Declarations, system: &Value) -> Result<Place, Refusal>
     ensures agrees { Agrees (place_checks names.now (view system.now))

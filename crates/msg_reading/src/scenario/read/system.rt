@@ -10,6 +10,7 @@ ghost use Rattle.msg_reading.specs.ScenarioDenotes.{each_of, kind_in, kind_of, o
 ghost use Rattle.msg_files.specs.Walk.{Agrees};
 ghost use Rattle.msg_files.specs.declared.refusal.Refusal.TheVariants.{Shape};
 
+use crate::limits::MAX_OPS;
 use crate::scenario::read::list::read_list;
 use crate::scenario::read::named::Declaration;
 use crate::scenario::read::names::Declarations;
@@ -20,8 +21,6 @@ use msg_exec::Place;
 use msg_system::{Op, Ops, Program};
 use serde_json::{Map, Value};
 use std::alloc::Global;
-
-const MAX_OPS: usize = 64;
 
 impl Declaration for SystemSpec {
     ghost checks = { system_checks };
