@@ -11,7 +11,8 @@ use Rattle.msg_exec.specs.declared.frame.Frame.{Frame}
 use Rattle.msg_exec.specs.declared.log.Log.{Log}
 use Rattle.msg_exec.specs.Cores.{CoreStands, RanFrame, ReplayedFrame, frame_count}
 use Rattle.msg_exec.specs.Engines.{HasReplayed, HasRunFrame, HasRunFrames, HasRunSome, IsEngine, IsSpoiled, PostsFit, StandsFor, frames_of}
-use Rattle.msg_exec.specs.Frames.{IsFrame, IsRun, systems_in}
+use Rattle.msg_exec.specs.Frames.{AreAccessesOf, IsFrame, IsRun, systems_in}
+use Rattle.msg_exec.specs.TurnLaws.{HasOneRun, RunsAreUnique, RunsExist}
 use Rattle.msg_exec.specs.ReaderLaws.{ReadersTile}
 use Rattle.msg_exec.specs.Soundness.{IsSoundState}
 use Rattle.msg_exec.proofs.Keeping.{frame_keeps}
@@ -31,11 +32,12 @@ module _ {S : Type 0} (meaning : S → Meaning) where
   }
 
   pub frame_run : (e f : EngineOf S) (c : Core S) (frame : Frame) (s : State) (log : Log) → frames_of e ≡ frame_count s → f.core ≡ Some c
-      → frames_of f ≡ min (frames_of e + 1) (2 ^ 32 - 1) → RanFrame meaning frame s log c → HasRunFrame meaning frame s log f
-  frame_run e f c frame s log old core counted ran = record {
+      → frames_of f ≡ min (frames_of e + 1) (2 ^ 32 - 1) → ReadersTile → IsSoundState s → RanFrame meaning frame s log c → HasRunFrame meaning frame s log f
+  frame_run e f c frame s log old core counted tile sound ran = record {
     state = ran.state;
     is_frame = ran.is_frame;
     stands = stands_after e f c s ran.state old core counted ran.stands ran.frames;
+    tiled = tile (frame ∷ []) s (log ∷ []) ran.state sound (ran.state, ran.is_frame, refl);
   }
 
   pub replayed : (e f : EngineOf S) (c : Core S) (frame : Frame) (order : List ℕ) (s : State) (log : Log) → frames_of e ≡ frame_count s → f.core ≡ Some c
@@ -118,6 +120,16 @@ module _ {S : Type 0} (meaning : S → Meaning) where
     counted = counted ∙ far.stands.frames;
     spoiled = spoiled;
   }
+
+  one_run_of : RunsExist → RunsAreUnique → (o : Option (Core S)) (s : State) → IsSomeAnd o (λ c. CoreStands meaning c s) → (frames : List Frame) → HasOneRun frames s
+  one_run_of exist unique None s stands frames = absurd stands
+  one_run_of exist unique (Some c) s stands frames =
+      let are : AreAccessesOf s c.stage.accesses.items = record { each = stands.stage.accesses; of_needs = λ i lt. (stands.stage.members i lt).access } in
+      let some = exist frames s c.stage.accesses.items stands.schedule.no_cycle are in
+      record { logs = some.0; state = some.1; is_run = some.2; only = λ others u other. unique frames s u some.1 others some.0 other some.2 }
+
+  pub has_one_run : RunsExist → RunsAreUnique → (e : EngineOf S) (s : State) → StandsFor meaning e s → (frames : List Frame) → HasOneRun frames s
+  has_one_run exist unique e s stands frames = one_run_of exist unique e.core s stands.core frames
 
   fit_of : (o : Option (Core S)) (s : State) (ps : List (ℕ × ℤ)) → IsSomeAnd o (λ c. CoreStands meaning c s) → IfSome o (λ c. All (λ p. p.0 < length c.stage.world.types) ps) → All (λ p. p.0 < s.types) ps
   fit_of (Some c) s ps stands fit = subst (λ n. All (λ p. p.0 < n) ps) stands.stage.types fit

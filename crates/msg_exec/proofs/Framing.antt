@@ -166,6 +166,17 @@ logged_in frame order s log replies has answered turns = λ k. record { posts = 
 pub in_that_order : (frame : Frame) (order : List ℕ) (s : State) (log : Log) → log ≡ (frame_in order frame s).log → systems_in log ≡ order
 in_that_order frame order s log told = ap systems_in told ∙ systems_logged order (before_turns frame.posts s)
 
+-- the turns in their order are a frame
+pub frame_in_order : (frame : Frame) (s : State) (log : Log) (order : List ℕ) → IsTurnOrderOf (before_turns frame.posts s) order → log ≡ (frame_in order frame s).log
+    → IsFrame frame s log (frame_in order frame s).state
+frame_in_order frame s log order in_order told =
+    let taken : systems_in log ≡ order = in_that_order frame order s log told in
+    record {
+      in_order = subst (IsTurnOrderOf (before_turns frame.posts s)) (sym taken) in_order;
+      tells = told ∙ ap (λ is. (frame_in is frame s).log) (sym taken);
+      leaves = ap (λ is. (frame_in is frame s).state) (sym taken);
+    }
+
 module _ {S : Type 0} (meaning : S → Meaning) where
   -- another world of the same parts
   pub world_stands : (g : Stage S) (s : State) (parts : Parts) (w : WorldState) (frames : ℕ) → StageStands meaning g s → SameShape g.world parts → PartsStand parts w
@@ -212,8 +223,7 @@ module _ {S : Type 0} (meaning : S → Meaning) where
       → log ≡ (frame_in order frame s).log → IsFrame frame s log (after_turns_of order (before_turns frame.posts s)).state
   is_frame_by b s frame log order replies is has told =
       let bt : State = before_turns frame.posts s in
-      let taken : systems_in log ≡ order = in_that_order frame order s log told in
-      let in_order : IsTurnOrderOf bt order = record {
+      frame_in_order frame s log order (record {
         settled = has.plan.order;
         is_order = record {
           accesses = b.stage.accesses.items;
@@ -221,12 +231,7 @@ module _ {S : Type 0} (meaning : S → Meaning) where
           is_settled = has.plan.settled;
         };
         in_order = subst (IsTurnOrder has.plan.order (joined bt)) (sym is) has.plan.turns;
-      } in
-      record {
-        in_order = subst (IsTurnOrderOf bt) (sym taken) in_order;
-        tells = told ∙ ap (λ is. (frame_in is frame s).log) (sym taken);
-        leaves = ap (λ is. (frame_in is frame s).state) (sym taken);
-      }
+      }) told
 
   pub frame_ran : (b d : Core S) (s : State) (frame : Frame) (log : Log) (order : List ℕ) (replies : List Reply) → order ≡ concat b.plan.batches → HasOpened meaning frame s b replies
       → IsSoundState s → FrameStaysSound → StageStands meaning d.stage (after_turns_of order (before_turns frame.posts s)).state → log ≡ (frame_in order frame s).log

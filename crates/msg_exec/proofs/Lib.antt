@@ -1,6 +1,7 @@
 mod Drawing
 mod Doing
 mod Seats
+mod Told
 mod SharedWorld
 mod Entering
 mod Staging
@@ -34,7 +35,9 @@ mod SettledRows
 mod InPlace
 mod Arriving
 mod Framing
+mod Existing
 mod Replays
+mod Retelling
 mod Engines
 mod Making
 mod Founding

@@ -10,12 +10,9 @@ use Rattle.msg_order.specs.declared.rule.Rule.{Rule}
 use Rattle.msg_order.specs.Graph.{Graph, IsAcyclic}
 use Rattle.msg_order.specs.Laws.{SettledOrderIsUnique, SettlingMakesNoCycle, TurnOrderIsUnique}
 use Rattle.msg_order.specs.Order.{AreInConflict, IsAmong, IsSettledOrder, IsTurnOrder, Settles, access_of, has_joined, pairs, rules_among}
-use Rattle.msg_exec.specs.declared.frame.Frame.{Frame}
-use Rattle.msg_exec.specs.declared.log.Log.{Log}
-use Rattle.msg_exec.specs.Frames.{AreAccessesOf, IsFrame, IsOrderOf, IsRun, IsTurnOrderOf, before_turns, frame_in, systems_in}
+use Rattle.msg_exec.specs.Frames.{AreAccessesOf, IsOrderOf, IsRun, IsTurnOrderOf, before_turns, frame_in, systems_in}
 use Rattle.msg_exec.specs.State.{State, has_begun, joined}
 use Rattle.msg_exec.specs.TurnLaws.{FramesAreUnique, NoCycle, RunsAreUnique, SameSystems, SystemsHaveOneOrder}
-use Rattle.msg_exec.proofs.Keeping.{before_keeps, frame_keeps}
 use Rattle.msg_exec.proofs.Lists.{Contains-either}
 use Rattle.msg_exec.proofs.Reordering.{joined_below}
 
@@ -93,31 +90,26 @@ order_is_among s g o = settles_among o.accesses (joined s) (pairs (length o.acce
 pub order_has_no_cycle : SettlingMakesNoCycle → (s : State) (g : Graph) → NoCycle s → IsOrderOf s g → IsAcyclic g
 order_has_no_cycle acyclic s g none o = acyclic o.accesses s.rules (joined s) g o.is_settled (none (joined s) (length-map-range_with_len (has_begun s) 0 s.systems))
 
-module _ (one : SettledOrderIsUnique) (acyclic : SettlingMakesNoCycle) (turns : TurnOrderIsUnique) where
-  pub one_turn_order : (s : State) (xs ys : List ℕ) → NoCycle s → IsTurnOrderOf s xs → IsTurnOrderOf s ys → xs ≡ ys
-  one_turn_order s xs ys none x y =
+module _ (one : SettledOrderIsUnique) (turns : TurnOrderIsUnique) where
+  pub one_turn_order : (s : State) (xs ys : List ℕ) → IsTurnOrderOf s xs → IsTurnOrderOf s ys → xs ≡ ys
+  one_turn_order s xs ys x y =
       let same : y.settled ≡ x.settled = one_order one s y.settled x.settled y.is_order x.is_order in
-      turns x.settled (joined s) xs ys (order_is_among s x.settled x.is_order) (order_has_no_cycle acyclic s x.settled none x.is_order)
-      x.in_order (subst (λ g. IsTurnOrder g (joined s) ys) same y.in_order)
+      turns x.settled (joined s) xs ys x.in_order (subst (λ g. IsTurnOrder g (joined s) ys) same y.in_order)
 
   pub one_frame : FramesAreUnique
-  one_frame frame s u v log other none x y =
-      let order : systems_in log ≡ systems_in other = one_turn_order (before_turns frame.posts s) (systems_in log) (systems_in other)
-      (no_cycle_stays s (before_turns frame.posts s) (before_keeps frame.posts s) none) x.in_order y.in_order in (
+  one_frame frame s u v log other x y =
+      let order : systems_in log ≡ systems_in other = one_turn_order (before_turns frame.posts s) (systems_in log) (systems_in other) x.in_order y.in_order in (
         x.tells ∙ ap (λ xs. (frame_in xs frame s).log) order ∙ sym y.tells,
         x.leaves ∙ ap (λ xs. (frame_in xs frame s).state) order ∙ sym y.leaves,
       )
 
-  frame_no_cycle : (frame : Frame) (s u : State) (log : Log) → NoCycle s → IsFrame frame s log u → NoCycle u
-  frame_no_cycle frame s u log none x = subst NoCycle (sym x.leaves) (no_cycle_stays s (frame_in (systems_in log) frame s).state (frame_keeps (systems_in log) frame s) none)
-
   pub one_run : RunsAreUnique
-  one_run [] s u v [] [] none x y = (refl, x ∙ sym y)
-  one_run [] s u v [] (other ∷ others) none x y = absurd y
-  one_run [] s u v (log ∷ logs) others none x y = absurd x
-  one_run (frame ∷ frames) s u v [] others none x y = absurd x
-  one_run (frame ∷ frames) s u v (log ∷ logs) [] none x y = absurd y
-  one_run (frame ∷ frames) s u v (log ∷ logs) (other ∷ others) none x y =
-      let here = one_frame frame s x.0 y.0 log other none x.1 y.1 in
-      let rest = one_run frames x.0 u v logs others (frame_no_cycle frame s x.0 log none x.1) x.2 (subst (λ m. IsRun frames m others v) (sym here.1) y.2) in
+  one_run [] s u v [] [] x y = (refl, x ∙ sym y)
+  one_run [] s u v [] (other ∷ others) x y = absurd y
+  one_run [] s u v (log ∷ logs) others x y = absurd x
+  one_run (frame ∷ frames) s u v [] others x y = absurd x
+  one_run (frame ∷ frames) s u v (log ∷ logs) [] x y = absurd y
+  one_run (frame ∷ frames) s u v (log ∷ logs) (other ∷ others) x y =
+      let here = one_frame frame s x.0 y.0 log other x.1 y.1 in
+      let rest = one_run frames x.0 u v logs others x.2 (subst (λ m. IsRun frames m others v) (sym here.1) y.2) in
       (ap (λ l. l ∷ logs) here.0 ∙ ap (λ ls. other ∷ ls) rest.0, rest.1)

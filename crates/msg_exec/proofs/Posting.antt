@@ -1,5 +1,6 @@
 -- Posts one after the other.
-use Rattle.std.proofs.Common.{◌≡◌, ℕ, ℤ, ◌+◌, ◌<◌, List, [], ◌∷◌, ◌++◌, length, take, get_or, refl, sym, ap, subst, ◌∙◌}
+use Rattle.std.proofs.Common.{◌≡◌, ℕ, ℤ, ◌+◌, ◌<◌, List, [], ◌∷◌, ◌++◌, length, take, get_or, Result, Ok, Err, refl, sym, ap, subst, ◌∙◌}
+use Rattle.std.specs.Prelude.{OnErr}
 use Rattle.std.proofs.lemmas.List.{take_more}
 use Rattle.msg_buffer.specs.History.{write}
 use Rattle.msg_world.specs.declared.record.TheConstants.{HOST}
@@ -8,6 +9,10 @@ use Rattle.msg_world.specs.World.{WorldState, by, with_history}
 use Rattle.msg_system.specs.declared.reply.Reply.{Reply}
 use Rattle.msg_system.specs.Programs.{numbers_for, write_reply}
 use Rattle.msg_exec.specs.Frames.{post_replies, posted}
+
+pub if_refused : {T E P : Type 0} (r : Result T E) → P → OnErr r P
+if_refused (Ok x) p = tt
+if_refused (Err e) p = p
 
 -- what holds after some posts
 abbrev pub HasPosted : List (ℕ × ℤ) → WorldState → Parts → List Reply → Type 0

@@ -68,7 +68,7 @@ module _ {S : Type 0} (meaning : S → Meaning) where
       let turns : List ℕ = concat b.plan.batches in
       let settled : Log = (frame_in turns frame s).log in
       let own = is_frame_by meaning b s frame settled turns replies refl has refl in
-      let alike = agree frame s _ settled lawful.settled order stands.schedule.no_cycle own lawful.is_order lawful.lawful in
+      let alike = agree frame s _ settled lawful.settled order own lawful.is_order lawful.lawful in
       let ran : RanFrame meaning frame s settled d = frame_ran meaning b d s frame settled turns replies refl has stands.sound stays
       (subst (StageStands meaning d.stage) alike.0 stage) refl joins rules plan accesses in
       record {

@@ -16,11 +16,11 @@ use Rattle.msg_system.specs.declared.condition.Condition.{Condition}
 use Rattle.msg_system.specs.Footprints.{conditions_of}
 use Rattle.msg_system.specs.Needs.{Needs, IsAccessOf, is_part, job_needs, op_parts, probe_part, some_op_reads, some_condition_reads, program_needs}
 use Rattle.msg_exec.specs.declared.frame.Frame.{Frame}
-use Rattle.msg_exec.specs.Frames.{AfterFrame, IsTurnOrderOf, before_turns, frame_in, needs_of, systems_in}
+use Rattle.msg_exec.specs.Frames.{AfterFrame, IsTurnOrderOf, before_turns, frame_in, needs_of}
 use Rattle.msg_exec.specs.State.{State, joined}
 use Rattle.msg_system.specs.declared.op.Op.TheVariants.{Read}
 use Rattle.msg_exec.specs.Rows.{Played, IsRunOf, alone, lag, lag_frames, fourth, fourth_frames, writers, writers_frames, contrary, contrary_frames, echo, echo_frames, two_conditions, conditions_frames, tally, tally_frames, late, late_frames, early_frames, gated, gated_frames, signallers, signallers_frames, drained, drained_frames, relay, relay_frames}
-use Rattle.msg_exec.proofs.Framing.{in_that_order}
+use Rattle.msg_exec.proofs.Framing.{frame_in_order}
 
 -- ---- accesses, computed
 
@@ -217,14 +217,9 @@ is_run [] s t = refl
 is_run (f ∷ fs) s t =
     let both = and_parts (are_turns_of (before_turns f.0 s) f.1) (are_in_order fs (frame_in f.1 (record { posts = f.0 }) s).state) t in
     let frame : Frame = record { posts = f.0 } in
-    let here : AfterFrame = frame_in f.1 frame s in
-    let taken : systems_in here.log ≡ f.1 = in_that_order frame f.1 s here.log refl in (
+    let here : AfterFrame = frame_in f.1 frame s in (
       here.state,
-      record {
-        in_order = subst (IsTurnOrderOf (before_turns f.0 s)) (sym taken) (turns_of (before_turns f.0 s) f.1 both.0);
-        tells = ap (λ order. (frame_in order frame s).log) (sym taken);
-        leaves = ap (λ order. (frame_in order frame s).state) (sym taken);
-      },
+      frame_in_order frame s here.log f.1 (turns_of (before_turns f.0 s) f.1 both.0) refl,
       is_run fs here.state both.1,
     )
 

@@ -1,5 +1,5 @@
 -- When an engine stands for a state, and what its calls do.
-use Rattle.std.specs.Prelude.{◌≡◌, ◌⊎◌, ℕ, ◌<◌, ◌++◌, All, List, length, take, Option, option_map, IsNone, IsSomeAnd, IfSome}
+use Rattle.std.specs.Prelude.{◌≡◌, ◌⊎◌, ℕ, ◌<◌, [], ◌∷◌, ◌++◌, All, List, length, take, Option, option_map, IsNone, IsSomeAnd, IfSome}
 use Rattle.msg_world.specs.Parts.{Parts}
 use Rattle.msg_system.specs.Systems.{Meaning}
 use Rattle.msg_exec.specs.declared.engine.EngineOf.{EngineOf}
@@ -38,12 +38,13 @@ module _ {S : Type 0} (meaning : S → Meaning) where
   abbrev pub IsEngine : EngineOf S → Type 0
   IsEngine e = IsSpoiled e ⊎ ((s : State) × StandsFor e s)
 
-  -- From the state s the engine ran a frame: the log is the frame's on one thread, and the engine stands for the state
-  -- that it leaves.
+  -- From the state s the engine ran a frame: the log is the frame's on one thread, the engine stands for the state that it
+  -- leaves, and what each reader was given tiles.
   pub record HasRunFrame (frame : Frame) (s : State) (log : Log) (e : EngineOf S) : Type 0 where
     pub state : State
     pub is_frame : IsFrame frame s log state
     pub stands : StandsFor e state
+    pub tiled : AllTiled (frame ∷ []) (log ∷ []) s state
 
   -- From the state s the engine replayed a frame in this order: the log is a replay's, and the engine stands for the
   -- state that the frame leaves.

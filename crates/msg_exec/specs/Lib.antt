@@ -2,6 +2,7 @@ pub mod Entries
 pub mod State
 pub mod Frames
 pub mod Replays
+pub mod Posts
 pub mod Tiling
 pub mod Soundness
 pub mod Jobs

@@ -1,8 +1,9 @@
 -- What holds of readers over every run.
-use Rattle.std.specs.Prelude.{◌≡◌, ℕ, ◌<◌, ◌≤◌, List, All, EachIndex, if◌then◌else◌, IsTrue, IsFalse, slice_index_or}
+use Rattle.std.specs.Prelude.{◌≡◌, ℕ, ◌<◌, ◌≤◌, List, [], ◌∷◌, All, EachIndex, if◌then◌else◌, IsTrue, IsFalse, slice_index_or}
 use Rattle.msg_buffer.specs.History.{IsSound}
 use Rattle.msg_order.specs.declared.rule.Rule.{Rule}
 use Rattle.msg_world.specs.World.{WorldState}
+use Rattle.msg_system.specs.declared.op.Op.{Op}
 use Rattle.msg_system.specs.declared.program.Program.{Program}
 use Rattle.msg_system.specs.Systems.{Meaning, new_system}
 use Rattle.msg_exec.specs.declared.frame.Frame.{Frame}
@@ -11,6 +12,7 @@ use Rattle.msg_exec.specs.declared.place.Place.{Place}
 use Rattle.msg_exec.specs.declared.totals.Totals.{Totals}
 use Rattle.msg_exec.specs.Entries.{no_totals, totals_from, with_entries}
 use Rattle.msg_exec.specs.Frames.{IsFrame, IsRun, first_state, nobody}
+use Rattle.msg_exec.specs.Replays.{IsMixedRun, IsReplay}
 use Rattle.msg_exec.specs.Soundness.{IsBalanced, IsSoundState}
 use Rattle.msg_exec.specs.State.{State, has_begun}
 use Rattle.msg_exec.specs.Tiling.{AllTiled, found_at, log_entries, moments, place_of}
@@ -41,6 +43,26 @@ FirstIsSound = (systems : List Meaning) (places : List Place) (rules : List Rule
 abbrev pub ReadersTile : Type 0
 ReadersTile = (frames : List Frame) (s : State) (logs : List Log) (u : State) → IsSoundState s
     → IsRun frames s logs u → AllTiled frames logs s u
+
+-- ---- replays
+
+-- A replay tells of each reader what the frame tells.
+abbrev pub ReplaysTellTheSame : Type 0
+ReplaysTellTheSame = (frame : Frame) (order : List ℕ) (s : State) (log : Log) (u : State)
+    (replay : IsReplay frame order s log u) (i t : ℕ) (ops : List Op)
+    → log_entries i t ops (log ∷ []) ≡ log_entries i t ops (replay.settled ∷ [])
+
+-- The logs tell of each reader what the run of the same frames tells, and that tiles.
+pub record TellsATiledRun (frames : List Frame) (s : State) (logs : List Log) (u : State) : Type 0 where
+  pub settled : List Log
+  pub is_run : IsRun frames s settled u
+  pub alike : (i t : ℕ) (ops : List Op) → log_entries i t ops logs ≡ log_entries i t ops settled
+  pub tiled : AllTiled frames settled s u
+
+-- So it is with frames of which some are replayed.
+abbrev pub ReplaysTile : Type 0
+ReplaysTile = (frames : List Frame) (s : State) (logs : List Log) (u : State) → IsSoundState s
+    → IsMixedRun frames s logs u → TellsATiledRun frames s logs u
 
 -- ---- accounts
 

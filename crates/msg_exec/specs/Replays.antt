@@ -1,5 +1,5 @@
 -- A frame in another order than the settled one.
-use Rattle.std.specs.Prelude.{◌≡◌, ℕ, List, IsPermutation}
+use Rattle.std.specs.Prelude.{◌≡◌, ◌⊎◌, ℕ, List, [], ◌∷◌, IsPermutation}
 use Rattle.msg_order.specs.Graph.{Graph}
 use Rattle.msg_order.specs.Order.{IsLawfulOrder}
 use Rattle.msg_exec.specs.declared.frame.Frame.{Frame}
@@ -24,3 +24,11 @@ pub record IsReplay (frame : Frame) (order : List ℕ) (s : State) (log : Log) (
   pub posts : log.posts ≡ settled.posts
   pub turns : IsPermutation log.turns settled.turns
   pub in_order : systems_in log ≡ order
+
+-- Frames one after the other, each run or replayed in some order, have these logs, and leave the state u.
+abbrev pub IsMixedRun : List Frame → State → List Log → State → Type 0
+IsMixedRun [] s [] u = u ≡ s
+IsMixedRun [] s (log ∷ logs) u = ⊥
+IsMixedRun (frame ∷ frames) s [] u = ⊥
+IsMixedRun (frame ∷ frames) s (log ∷ logs) u =
+    (m : State) × (IsFrame frame s log m ⊎ ((order : List ℕ) × IsReplay frame order s log m)) × IsMixedRun frames m logs u

@@ -111,27 +111,44 @@ LawfulOrdersAgree = (s : State) (accesses : List Access) (settled : Graph) (a b 
 
 -- ---- one run
 
--- whichever systems have joined, the rules make no cycle among them
-abbrev pub NoCycle : State → Type 0
-NoCycle s = (joined : List Bool) → length joined ≡ s.systems → IsAcyclic (rules_among joined s.rules)
-
 -- The systems have one settled order, whatever accesses are written for what they need.
 abbrev pub SystemsHaveOneOrder : Type 0
 SystemsHaveOneOrder = (s : State) (g h : Graph) → IsOrderOf s g → IsOrderOf s h → g ≡ h
 
--- Where the rules make no cycle, a frame has one log, and leaves one state.
+-- A frame has one log, and leaves one state.
 abbrev pub FramesAreUnique : Type 0
-FramesAreUnique = (frame : Frame) (s u v : State) (log other : Log) → NoCycle s
+FramesAreUnique = (frame : Frame) (s u v : State) (log other : Log)
     → IsFrame frame s log u → IsFrame frame s other v → (log ≡ other) × (u ≡ v)
 
 -- And so it is with frames one after the other.
 abbrev pub RunsAreUnique : Type 0
-RunsAreUnique = (frames : List Frame) (s u v : State) (logs others : List Log) → NoCycle s
+RunsAreUnique = (frames : List Frame) (s u v : State) (logs others : List Log)
     → IsRun frames s logs u → IsRun frames s others v → (logs ≡ others) × (u ≡ v)
+
+-- whichever systems have joined, the rules make no cycle among them
+abbrev pub NoCycle : State → Type 0
+NoCycle s = (joined : List Bool) → length joined ≡ s.systems → IsAcyclic (rules_among joined s.rules)
+
+-- Where the rules make no cycle, and each system has an access for what it needs, there is a frame.
+abbrev pub FramesExist : Type 0
+FramesExist = (frame : Frame) (s : State) (accesses : List Access) → NoCycle s → AreAccessesOf s accesses
+    → (log : Log) × (u : State) × IsFrame frame s log u
+
+-- And so it is with frames one after the other.
+abbrev pub RunsExist : Type 0
+RunsExist = (frames : List Frame) (s : State) (accesses : List Access) → NoCycle s → AreAccessesOf s accesses
+    → (logs : List Log) × (u : State) × IsRun frames s logs u
+
+-- These frames have one run from the state s, and no other.
+pub record HasOneRun (frames : List Frame) (s : State) : Type 0 where
+  pub logs : List Log
+  pub state : State
+  pub is_run : IsRun frames s logs state
+  pub only : (others : List Log) (u : State) → IsRun frames s others u → (others ≡ logs) × (u ≡ state)
 
 -- In any lawful order a frame's turns come out alike, and it leaves the same state.
 abbrev pub FramesAgreeInLawfulOrders : Type 0
-FramesAgreeInLawfulOrders = (frame : Frame) (s u : State) (log : Log) (settled : Graph) (order : List ℕ) → NoCycle s
+FramesAgreeInLawfulOrders = (frame : Frame) (s u : State) (log : Log) (settled : Graph) (order : List ℕ)
     → IsFrame frame s log u → IsOrderOf (before_turns frame.posts s) settled
     → IsLawfulOrder settled (joined (before_turns frame.posts s)) order
     → ((frame_in order frame s).state ≡ u)

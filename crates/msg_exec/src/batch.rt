@@ -5,6 +5,8 @@ ghost use Rattle.msg_exec.specs.Frames.{after_turns_of};
 ghost use Rattle.msg_order.specs.Plan.{NoneConflict};
 ghost use Rattle.msg_exec.specs.Stages.{AreOut, StageStands};
 ghost use Rattle.msg_exec.specs.State.{State};
+ghost use Rattle.msg_exec.specs.Work.{IsTold};
+ghost use Rattle.msg_exec.specs.Workers.{number_of};
 
 use crate::job::Job;
 use crate::laws::batches_run_side_by_side;
@@ -53,6 +55,7 @@ fn run_batch<R: Threads + Sync, S: System, G: Gate>(
     ensures turns { OnOk result ((s : State) → StageStands S.meaning stage.old s
         → turns.new.items ≡ turns.old.items ++ (after_turns_of batch.now s).turns) }
     ensures accesses { OnOk result (stage.new.accesses.items ≡ stage.old.accesses.items) }
+    ensures told { OnOk result (All (IsTold (G.told gate.now) (number_of workers)) batch.now) }
 {
     batches_run_side_by_side();
     written_parts_come_home();
@@ -83,6 +86,8 @@ pub(crate) fn run_batches<R: Threads + Sync, S: System, G: Gate>(
     ensures turns { IfOk result (λ turns. (s : State) → StageStands S.meaning stage.old s
         → turns.items ≡ (after_turns_of (concat (map (λ batch. batch.items) batches.now)) s).turns) }
     ensures accesses { OnOk result (stage.new.accesses.items ≡ stage.old.accesses.items) }
+    ensures told { OnOk result (All (IsTold (G.told gate.now) (number_of workers))
+        (concat (map (λ batch. batch.items) batches.now))) }
 {
     let mut turns = Vec::new(alloc);
     for batch in batches {

@@ -1,6 +1,7 @@
 use crate::building::{accesses_of, actors_of, check_rules, joins_of, totals_of};
 use crate::engine_core::{Core, plan_by, run_one};
 use crate::joining::join_those;
+use crate::laws::{runs_are_unique, runs_exist};
 use crate::reader_laws::{first_states_are_sound, readers_tile};
 use crate::replay::{accepts_next, replay_one};
 use crate::stage::Stage;
@@ -29,16 +30,21 @@ impl<S: System> EngineOf<S> {
     ghost use Rattle.std.specs.Prelude.{◌≡◌, ◌-◌, ◌^◌, ◌+◌, ◌↔◌, All, min, IfOk, OnOk, Err, Ok};
     ghost use Rattle.std.specs.Option.{option_copied};
     ghost use Rattle.msg_system.specs.declared.run_fault.RunFault.TheVariants.{BadOrder, NoMemory, Spoiled};
-    ghost use Rattle.std.specs.Prelude.{◌≤◌, IfErr, Some, length, map};
+    ghost use Rattle.std.specs.Prelude.{◌≤◌, IfErr, IfSome, IsNone, List, Some, length, map};
     ghost use Rattle.msg_world.specs.Parts.{IsWhole, PartsStand};
     ghost use Rattle.msg_world.specs.World.{WorldState};
     ghost use Rattle.msg_order.specs.Graph.{IsAcyclic};
     ghost use Rattle.msg_order.specs.Order.{NameSystemsBelow};
     ghost use Rattle.msg_exec.specs.Building.{EachIs, HasClash, MayBeAdded, RefusesFor, all_rules};
-    ghost use Rattle.msg_exec.specs.Frames.{first_state};
+    ghost use Rattle.msg_exec.specs.Cores.{frame_count};
+    ghost use Rattle.msg_exec.specs.Frames.{first_state, systems_in};
     ghost use Rattle.msg_exec.specs.Engines.{HasReplayed, HasRunFrame, HasRunFrames, HasRunSome, IsEngine, IsSpoiled, PostsFit, StandsFor, frames_of, world_of};
     ghost use Rattle.msg_exec.specs.Replays.{IsLawfulFor};
     ghost use Rattle.msg_exec.specs.State.{State};
+    ghost use Rattle.msg_exec.specs.TurnLaws.{HasOneRun};
+    ghost use Rattle.msg_exec.specs.declared.frame.Frame.{Frame as FrameView};
+    ghost use Rattle.msg_exec.specs.Work.{IsTold};
+    ghost use Rattle.msg_exec.specs.Workers.{number_of};
 
     /// An engine with no frame run. The systems go by number, in order of addition, and each has its
     /// place; those of join 1 have joined, and start at 0 or at the counts of this moment.
@@ -64,6 +70,7 @@ impl<S: System> EngineOf<S> {
             → StandsFor S.meaning e
             (first_state (map S.meaning systems.items) places.items rules.items (length world.types) w)) }
         ensures engine { IfOk result (IsEngine S.meaning) }
+        ensures fresh { IfOk result (λ e. ¬ IsSpoiled e) }
         ensures no_clash { OnOk result (EachIs (λ i x. ¬ HasClash (S.meaning x)) systems.items) }
         ensures no_cycle { OnOk result (IsAcyclic (all_rules (length systems.items) rules.items)) }
         ensures refusal { IfErr result (RefusesFor S.meaning systems.items rules.items) }
@@ -124,9 +131,14 @@ impl<S: System> EngineOf<S> {
         requires engine { IsEngine S.meaning self.old }
         requires posts { PostsFit self.old frame.now }
 
-        // Whatever the workers and the gate: the log is that of one thread.
+        // Whatever the workers and the gate: the log is that of one thread, and each reader's reads and
+        // clears tile.
         ensures ran { IfOk result (λ log. (s : State) → StandsFor S.meaning self.old s
             → HasRunFrame S.meaning frame.now s log self.new) }
+
+        // Before each turn one of the workers called the gate for its system.
+        ensures told { IfOk result (λ log. All (IsTold (G.told gate.now) (number_of workers))
+            (systems_in log)) }
         ensures counted { OnOk result
             (frames_of self.new ≡ min (frames_of self.old + 1) (2 ^ 32 - 1)) }
         ensures spoiled { (result ≡ Err Spoiled) ↔ IsSpoiled self.old }
@@ -136,6 +148,7 @@ impl<S: System> EngineOf<S> {
         ensures no_bad_order { ¬ (result ≡ Err BadOrder) }
         ensures engine { IsEngine S.meaning self.new }
     {
+        readers_tile();
         let Some(core) = self.core.take() else {
             return Err(RunFault::Spoiled);
         };
@@ -236,9 +249,21 @@ impl<S: System> EngineOf<S> {
         Ok(log)
     }
 
+    /// A law: from each state that it stands for, any frames have exactly one run.
+    pub fn has_one_run(&self)
+        ensures run { (s : State) → StandsFor S.meaning self.now s → (frames : List FrameView)
+            → HasOneRun frames s }
+    {
+        runs_exist();
+        runs_are_unique();
+    }
+
     /// Its world; None where it is spoiled.
     pub fn world(&self) -> Option<&World>
         ensures world { option_copied result ≡ world_of self.now }
+        ensures spoiled { IsNone result ↔ IsSpoiled self.now }
+        ensures meaning { (s : State) → StandsFor S.meaning self.now s
+            → IfSome result (λ w. PartsStand w.now s.world) }
     {
         match &self.core {
             Some(core) => Some(&core.stage.world),
@@ -249,6 +274,7 @@ impl<S: System> EngineOf<S> {
     /// How many whole frames were run. It stays at the greatest number.
     pub fn frames_run(&self) -> u32
         ensures frames { result ≡ frames_of self.now }
+        ensures meaning { (s : State) → StandsFor S.meaning self.now s → result ≡ frame_count s }
     {
         self.frames
     }

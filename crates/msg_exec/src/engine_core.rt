@@ -4,7 +4,10 @@ ghost use Rattle.msg_order.specs.Graph.{IsAcyclic};
 ghost use Rattle.msg_order.specs.Order.{NameSystemsBelow, rules_among};
 ghost use Rattle.msg_order.specs.Plan.{IsPlanOf};
 ghost use Rattle.msg_exec.specs.Cores.{CoreStands, HasBegunFrame, HasOpened, IsNextPlan, RanFrame, frame_count};
+ghost use Rattle.msg_exec.specs.Frames.{systems_in};
 ghost use Rattle.msg_exec.specs.State.{State};
+ghost use Rattle.msg_exec.specs.Work.{IsTold};
+ghost use Rattle.msg_exec.specs.Workers.{number_of};
 
 use crate::batch::run_batches;
 use crate::joining::join_those;
@@ -118,7 +121,9 @@ pub(crate) fn open<S: System>(
 {
     let mut core = begin(alloc, core, frames)?;
     core.stage.world.update_all();
-    let replies = post_all(alloc, &mut core.stage.world, frame.posts.as_slice())?;
+    let posts = frame.posts.as_slice();
+    let mut replies = Vec::with_capacity(alloc, posts.len())?;
+    post_all(&mut core.stage.world, posts, &mut replies)?;
     Ok((core, replies))
 }
 
@@ -136,6 +141,8 @@ pub(crate) fn run_one<R: Threads + Sync, S: System, G: Gate>(
     requires posts { All (λ p. p.0 < length core.stage.world.types) frame.now.posts }
     ensures ran { IfOk result (λ r. (s : State) → CoreStands S.meaning core s
         → frames ≡ frame_count s → RanFrame S.meaning frame.now s r.1 r.0) }
+    ensures told { IfOk result (λ r. All (IsTold (G.told gate.now) (number_of workers))
+        (systems_in r.1)) }
 {
     states_stay_sound();
     let (mut core, posts) = open(alloc, core, frames, frame)?;

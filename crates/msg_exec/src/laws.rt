@@ -3,11 +3,13 @@ ghost use Rattle.msg_exec.specs.TurnLaws.{
   BatchesRunSideBySide,
   FramesAgreeInLawfulOrders,
   FramesAreUnique,
+  FramesExist,
   FramesKeepPrograms,
   FramesRunByBatches,
   LawfulOrdersAgree,
   ListsOnlyGrow,
   RunsAreUnique,
+  RunsExist,
   SameSystemsHaveSameAccesses,
   SystemsHaveOneOrder,
   TurnsKeepPrograms,
@@ -16,8 +18,9 @@ ghost use Rattle.msg_exec.specs.TurnLaws.{
 
 use msg_buffer::laws::histories_only_grow;
 use msg_order::laws::{
-    batch_numbers_rise, batches_exist, conflicting_systems_are_ordered, lawful_orders_keep_paths,
-    settled_order_is_unique, settling_makes_no_cycle, turn_order_is_unique,
+    conflicting_systems_are_ordered, lawful_orders_keep_paths, settled_order_exists,
+    settled_order_is_unique, settling_makes_no_cycle, turn_order_exists, turn_order_is_lawful,
+    turn_order_is_unique,
 };
 use msg_system::nothing_else_is_used;
 use msg_world::Record;
@@ -82,7 +85,6 @@ pub fn frames_are_unique()
     ensures law { FramesAreUnique }
 {
     settled_order_is_unique();
-    settling_makes_no_cycle();
     turn_order_is_unique();
 }
 
@@ -91,8 +93,18 @@ pub fn runs_are_unique()
     ensures law { RunsAreUnique }
 {
     settled_order_is_unique();
-    settling_makes_no_cycle();
     turn_order_is_unique();
+}
+
+/// Where the rules make no cycle, there is a frame, and a run of any frames. So with `runs_are_unique`
+/// there is exactly one.
+pub fn runs_exist()
+    ensures frame { FramesExist }
+    ensures run { RunsExist }
+{
+    settled_order_exists();
+    settling_makes_no_cycle();
+    turn_order_exists();
 }
 
 /// In any lawful order a frame leaves the same state, and each system's turn comes out alike.
@@ -103,9 +115,7 @@ pub fn frames_agree_in_lawful_orders()
     conflicting_systems_are_ordered();
     lawful_orders_keep_paths();
     settled_order_is_unique();
-    settling_makes_no_cycle();
-    batch_numbers_rise();
-    batches_exist();
+    turn_order_is_lawful();
 }
 
 /// Over a run each type's list of messages only grows.

@@ -1,5 +1,5 @@
 // What the host posts.
-ghost use Rattle.std.specs.Prelude.{◌≡◌, ◌<◌, ◌∷◌, [], All, IfOk, IsSome, OnOk, length};
+ghost use Rattle.std.specs.Prelude.{◌≡◌, ◌<◌, ◌≤◌, ◌∷◌, [], All, IfOk, IsSome, OnErr, OnOk, length, vec_capacity};
 ghost use Rattle.msg_buffer.specs.History.{write};
 ghost use Rattle.msg_world.specs.declared.record.TheConstants.{HOST};
 ghost use Rattle.msg_world.specs.Access.{OfType};
@@ -7,12 +7,12 @@ ghost use Rattle.msg_world.specs.Parts.{IsWhole, PartsStand, SameShape, slot};
 ghost use Rattle.msg_world.specs.World.{WorldState, by, with_history};
 ghost use Rattle.msg_system.specs.Programs.{numbers_for, write_reply};
 ghost use Rattle.msg_exec.specs.Frames.{post_replies, posted};
+ghost use Rattle.msg_exec.specs.Posts.{HasRoom, SomeFindsRoom};
 
 use crate::NoMemory;
 use msg_buffer::{WriteRefusal, Written};
 use msg_system::Reply;
 use msg_world::{TypeNo, World};
-use std::alloc::Global;
 
 /// Writes one post, and says what it was answered.
 fn post(world: &mut World, t: TypeNo, value: i64) -> Result<Reply, NoMemory>
@@ -21,6 +21,8 @@ fn post(world: &mut World, t: TypeNo, value: i64) -> Result<Reply, NoMemory>
         → PartsStand world.new (with_history w t (write (by HOST value ∷ []) (w.histories t)))) }
     ensures reply { IfOk result (λ reply. (w : WorldState) → PartsStand world.old w
         → reply ≡ write_reply (numbers_for (w.histories t) 1)) }
+    ensures no_memory { OnErr result ((w : WorldState) → PartsStand world.old w
+        → HasRoom (w.histories t)) }
     ensures shape { SameShape world.old world.new }
 {
     match world.post(t, value) {
@@ -30,23 +32,29 @@ fn post(world: &mut World, t: TypeNo, value: i64) -> Result<Reply, NoMemory>
     }
 }
 
-/// Writes the posts in order, and says what they were answered.
+/// Writes the posts in order, and says what they were answered, where there is room for the answers.
 pub(crate) fn post_all(
-    alloc: Global,
     world: &mut World,
     posts: &[(TypeNo, i64)],
-) -> Result<Vec<Reply>, NoMemory>
+    replies: &mut Vec<Reply>,
+) -> Result<(), NoMemory>
     requires whole { IsWhole world.old }
     requires types { All (λ p. p.0 < length world.old.types) posts.now }
+    requires none_yet { replies.old.items ≡ [] }
+    requires room { length posts.now ≤ vec_capacity replies.old }
     ensures state { OnOk result ((w : WorldState) → PartsStand world.old w
         → PartsStand world.new (posted posts.now w)) }
-    ensures replies { IfOk result (λ replies. (w : WorldState) → PartsStand world.old w
-        → replies.items ≡ post_replies posts.now w) }
+    ensures replies { OnOk result ((w : WorldState) → PartsStand world.old w
+        → replies.new.items ≡ post_replies posts.now w) }
     ensures shape { OnOk result (SameShape world.old world.new) }
+    ensures no_memory { OnErr result ((w : WorldState) → PartsStand world.old w
+        → SomeFindsRoom posts.now w) }
 {
-    let mut replies = Vec::new(alloc);
     for (t, value) in posts {
-        replies.push(post(world, *t, *value)?)?;
+        let reply = post(world, *t, *value)?;
+        let Ok(()) = replies.push(reply) else {
+            unreachable!()
+        };
     }
-    Ok(replies)
+    Ok(())
 }

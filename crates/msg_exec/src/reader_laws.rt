@@ -1,8 +1,9 @@
 //! Laws of readers: facts that hold of every run of frames.
 ghost use Rattle.msg_exec.specs.BufferLaws.{BufferLaws};
-ghost use Rattle.msg_exec.specs.ReaderLaws.{AccountsAddUp, AccountsBalance, EachWriterInOrder, EveryMessageIsGivenOnce, FirstIsSound, FrameStaysSound, NoneBeforeJoining, ReadersTile, RunStaysSound};
+ghost use Rattle.msg_exec.specs.ReaderLaws.{AccountsAddUp, AccountsBalance, EachWriterInOrder, EveryMessageIsGivenOnce, FirstIsSound, FrameStaysSound, NoneBeforeJoining, ReadersTile, ReplaysTellTheSame, ReplaysTile, RunStaysSound};
 
 use msg_buffer::laws::{histories_only_grow, readers_tile as buffer_readers_tile};
+use msg_order::laws::turn_order_is_lawful;
 use msg_world::Record;
 
 /// What the laws of buffers say of the world's types.
@@ -32,6 +33,16 @@ pub fn readers_tile()
     ensures law { ReadersTile }
 {
     buffer_laws();
+}
+
+/// What the log of a replay tells of a reader is what the frame tells. So frames of which some are
+/// replayed tell of each reader what the run of the same frames tells, and that tiles.
+pub fn replays_tile()
+    ensures replay { ReplaysTellTheSame }
+    ensures law { ReplaysTile }
+{
+    readers_tile();
+    turn_order_is_lawful();
 }
 
 /// A reader's totals are those that a run found it with and what the logs tell of it since, and they

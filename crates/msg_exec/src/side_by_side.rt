@@ -1,7 +1,8 @@
 // The jobs of a batch, side by side on one world.
-ghost use Rattle.std.specs.Prelude.{◌≡◌, ◌≤◌, IfOk, Ok, length, map};
+ghost use Rattle.std.specs.Prelude.{◌≡◌, ◌≤◌, All, IfOk, Ok, OnOk, length, map};
 ghost use Rattle.msg_exec.specs.Jobs.{AreDone, IsResult, MayRun};
-ghost use Rattle.msg_exec.specs.Work.{EachMay};
+ghost use Rattle.msg_exec.specs.Work.{EachMay, IsTold};
+ghost use Rattle.msg_exec.specs.Workers.{number_of};
 
 use crate::crew::run_jobs;
 use crate::job::{Actor, Done, Job};
@@ -127,6 +128,8 @@ pub(crate) fn run_side_by_side<R: Threads + Sync, S: System, G: Gate>(
     requires few { length jobs.items ≤ 256 }
     requires may { EachMay (MayRun S.meaning world.now) jobs.items }
     ensures done { IfOk result (λ done. AreDone S.meaning world.now jobs.items done.items) }
+    ensures told { OnOk result
+        (All (λ job. IsTold (G.told gate.now) (number_of workers) job.number) jobs.items) }
 {
     let jobs = with_world(alloc, world, jobs)?;
     let results = run_jobs::<R, Batch<S>, G>(rt, alloc, gate, workers, jobs)?;

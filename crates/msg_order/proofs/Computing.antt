@@ -235,6 +235,7 @@ in_turn_by_test n accesses rules joined order fit t =
                 | inr t ↦ let f = found_any (λ k. k == i) order t in subst (Contains order) (eqb-true f.0 i f.1.1) f.1.0
               ],
         );
+        all = λ i h. (number i, number_is g (length accesses) first.0 i);
         in_order = turns_are g number (number_is g (length accesses) first.0) order first.1;
       };
     }

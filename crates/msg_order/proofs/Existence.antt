@@ -1,19 +1,20 @@
 -- That there is a settled order, and a list of its batches, for all systems whose rules make no cycle.
 use Rattle.std.proofs.Common.{◌≡◌, ℕ, zero, suc, ◌<◌, ◌≤◌, ◌⊎◌, inl, inr, Bool, true, not, ◌&&◌, List, [], ◌∷◌, ◌++◌, length, refl, sym, ◌∙◌, arith}
-use Rattle.std.specs.Prelude.{IsTrue, filter}
-use Rattle.std.specs.List.{range_with_len}
+use Rattle.std.specs.Prelude.{filter}
+use Rattle.std.specs.List.{concat, range_with_len}
 use Rattle.std.proofs.lemmas.Bool.{cases_Bool, cases_eq, and_parts, and_from, false≢true}
 use Rattle.msg_world.specs.declared.access.Access.{Access}
 use Rattle.msg_world.proofs.Parts.{decide_conflict}
-use Rattle.msg_order.specs.Graph.{Graph, IsAcyclic, IsBatchNumber}
+use Rattle.msg_order.specs.Graph.{Graph, IsAcyclic}
 use Rattle.msg_order.specs.Order.{has_joined, access_of, rules_among, AreInConflict, GainsEdge, Settles, pairs, AreBatches, RunsBefore}
 use Rattle.msg_order.specs.Paths.{path}
 use Rattle.msg_order.specs.SystemSet.{any_below}
-use Rattle.msg_order.specs.Laws.{SettledOrderExists, BatchesExist, TurnOrderIsUnique}
+use Rattle.msg_order.specs.Laws.{SettledOrderExists, BatchesExist, TurnOrderExists, TurnOrderIsUnique}
 use Rattle.msg_order.proofs.Words.{any_below-found, any_below-true}
 use Rattle.msg_order.proofs.PathTest.{no_Path, to_Path}
 use Rattle.msg_order.proofs.Peeling.{TellsBlocked, LeadAmong, ArePeeled, peeled_first, peeled_next, peeled_all, peeled_done, count_left, left_falls}
 use Rattle.msg_order.proofs.Rows.{joined_in}
+use Rattle.msg_order.proofs.Standing.{in_turn_order}
 use Rattle.msg_order.proofs.Uniqueness.{same_ordered}
 
 -- either of the two
@@ -103,14 +104,16 @@ pub batches_some : BatchesExist
 batches_some g joined among free =
     peels g joined free among (count_left (has_joined joined) (length joined)) (has_joined joined) [] (peeled_first g (has_joined joined)) (omega arith)
 
+pub turns_some : TurnOrderExists
+turns_some g joined among free = let bs = batches_some g joined among free in (concat bs.0, in_turn_order g joined bs.0 bs.1)
+
 -- a turn order holds one way only, since each joined system has one number
 pub turns_once : TurnOrderIsUnique
-turns_once g joined xs ys among free r s =
-    let numbers : (i : ℕ) → IsTrue (has_joined joined i) → (n : ℕ) × IsBatchNumber g i n = (batches_some g joined among free).1.all in
+turns_once g joined xs ys r s =
     same_ordered (RunsBefore g) xs ys
     (λ i j p q a b.
-    let m = numbers i ((r.of_joined i).0 p) in
-    let n = numbers j ((r.of_joined j).0 q) in
+    let m = r.all i ((r.of_joined i).0 p) in
+    let n = r.all j ((r.of_joined j).0 q) in
     elim (a m.0 n.0 m.1 n.1) [
       | inl x ↦ elim (b n.0 m.0 n.1 m.1) [ inl y ↦ omega arith | inr y ↦ omega (arith, y.0) ]
       | inr x ↦ elim (b n.0 m.0 n.1 m.1) [ inl y ↦ omega (arith, x.0) | inr y ↦ omega (arith, x.1, y.1) ]

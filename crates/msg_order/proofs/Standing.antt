@@ -1,6 +1,6 @@
 -- Places in an order, and the batches one after the other.
-use Rattle.std.proofs.Common.{◌≡◌, ◌≢◌, ℕ, zero, suc, ◌+◌, ◌-◌, ◌<◌, inl, inr, Bool, List, [], ◌∷◌, ◌++◌, length, get_or, Some, ap, sym, subst, ◌∙◌, arith, length-append}
-use Rattle.std.specs.Prelude.{IsTrue, Contains, All, AllPairs}
+use Rattle.std.proofs.Common.{◌≡◌, ◌≢◌, ℕ, suc, ◌+◌, ◌-◌, ◌<◌, inl, inr, Bool, List, [], ◌∷◌, ◌++◌, length, get_or, Some, ap, sym, subst, ◌∙◌, arith, length-append}
+use Rattle.std.specs.Prelude.{Contains, All, AllPairs}
 use Rattle.std.specs.List.{concat}
 use Rattle.std.proofs.lemmas.Bool.{cases_lt, cases_order}
 use Rattle.std.proofs.lemmas.Grind.{get_or_default_zero}
@@ -11,9 +11,10 @@ use Rattle.std.proofs.lemmas.Option.{slice_get-get_or, slice_get_within, get_or_
 use Rattle.msg_world.specs.declared.access.Access.{Access}
 use Rattle.msg_order.specs.declared.rule.Rule.{Rule}
 use Rattle.msg_order.specs.Graph.{IsBatchNumber, Graph, IsChain, Path}
-use Rattle.msg_order.specs.Order.{has_joined, rules_among, AreInConflict, Settles, pairs, batch_at, AreBatches, StandsBefore, IsLawfulOrder, IsAmong, RunsBefore, IsTurnOrder}
+use Rattle.msg_order.specs.Order.{rules_among, AreInConflict, Settles, pairs, batch_at, AreBatches, StandsBefore, IsLawfulOrder, RunsBefore, IsTurnOrder}
 use Rattle.msg_order.specs.Plan.{NoneConflict}
-use Rattle.msg_order.proofs.Lists.{concat-Contains, Contains-concat, not_in_none}
+use Rattle.msg_order.specs.Laws.{TurnOrderIsLawful}
+use Rattle.msg_order.proofs.Lists.{concat-Contains, Contains-concat}
 use Rattle.msg_order.proofs.Chains.{number_once, number_rises, edge_is_path}
 use Rattle.msg_order.proofs.Settling.{settles_covers, Contains-pairs}
 use Rattle.msg_order.proofs.Rows.{joined_in}
@@ -71,25 +72,6 @@ kept_along g joined order w i j p = along i p.0 p.1
     along i (k ∷ more) c = stands_along order i j k w.once (w.kept i k c.0) (along k more c.1)
 
 -- Lists one after the other.
-stands_in_next : (xs ys : List ℕ) (i j : ℕ) → StandsBefore ys i j → StandsBefore (xs ++ ys) i j
-stands_in_next xs ys i j s =
-    let p = places_of ys i j s in
-    stands (xs ++ ys) i j (length xs + s.earlier) (length xs + s.later) (omega (arith, p.in_order)) (omega (arith, length-append xs ys, p.below))
-    (get_or-append-add xs ys s.earlier 0 ∙ p.first) (get_or-append-add xs ys s.later 0 ∙ p.second)
-
-stands_across : (xs ys : List ℕ) (i j : ℕ) → Contains xs i → Contains ys j → StandsBefore (xs ++ ys) i j
-stands_across xs ys i j h k =
-    let a = place_of xs i h in
-    let b = place_of ys j k in
-    stands (xs ++ ys) i j a.0 (length xs + b.0) (omega (arith, a.1.0)) (omega (arith, length-append xs ys, b.1.0))
-    (get_or_append_left xs ys 0 a.0 a.1.0 ∙ a.1.1) (get_or-append-add xs ys b.0 0 ∙ b.1.1)
-
-pub stands_by_batch : (bs : List (List ℕ)) (a b i j : ℕ) → a < b → Contains (batch_at bs a) i → Contains (batch_at bs b) j → StandsBefore (concat bs) i j
-stands_by_batch [] a b i j lt h k = absurd (not_in_none i h)
-stands_by_batch (xs ∷ bs) a zero i j lt h k = absurd (omega arith)
-stands_by_batch (xs ∷ bs) zero (suc b) i j lt h k = stands_across xs (concat bs) i j h (Contains-concat bs b j k)
-stands_by_batch (xs ∷ bs) (suc a) (suc b) i j lt h k = stands_in_next xs (concat bs) i j (stands_by_batch bs a b i j (omega arith) h k)
-
 pairs_append : (R : ℕ → ℕ → Type 0) (xs ys : List ℕ) → AllPairs R xs → AllPairs R ys → ((i j : ℕ) → Contains xs i → Contains ys j → R i j) → AllPairs R (xs ++ ys)
 pairs_append R xs ys f h across a b d lt l =
     let sum : length (xs ++ ys) ≡ length xs + length ys = length-append xs ys in
@@ -123,6 +105,7 @@ in_turn_order g joined bs h = record {
     λ c. let r = concat-Contains bs i c in ((h.of_number r.0 i).0 r.1).0,
     λ e. let n = h.all i e in Contains-concat bs n.0 i ((h.of_number n.0 i).1 (e, n.1)),
   );
+  all = h.all;
   in_order = pairs_by_batch (RunsBefore g) bs
       (All-from_get_or (AllPairs (RunsBefore g)) bs [] (λ b l x y d lt in_ m n at_m at_n.
       let batch : List ℕ = batch_at bs b in
@@ -137,29 +120,42 @@ in_turn_order g joined bs h = record {
       inl (omega arith));
 }
 
--- none runs before itself, where each has a number
-pub runs_once : (g : Graph) (joined : List Bool) (order : List ℕ) → ((i : ℕ) → IsTrue (has_joined joined i) → (n : ℕ) × IsBatchNumber g i n) → IsTurnOrder g joined order → AllPairs (λ i j. i ≢ j) order
-runs_once g joined order numbers t a b d lt l e =
+-- none runs before itself
+runs_once : (g : Graph) (joined : List Bool) (order : List ℕ) → IsTurnOrder g joined order → AllPairs (λ i j. i ≢ j) order
+runs_once g joined order t a b d lt l e =
     let i : ℕ = get_or order a d in
-    let n = numbers i ((t.of_joined i).0 (Contains-get_or order a d (omega arith))) in
+    let n = t.all i ((t.of_joined i).0 (Contains-get_or order a d (omega arith))) in
     elim (t.in_order a b d lt l n.0 n.0 n.1 (subst (λ k. IsBatchNumber g k n.0) e n.1)) [
       | inl x ↦ omega arith
       | inr x ↦ let below : i < get_or order b d = x.1 in omega arith
     ]
 
--- they keep the order
-pub in_turn : (g : Graph) (joined : List Bool) (bs : List (List ℕ)) → IsAmong joined g → AreBatches g joined bs → IsLawfulOrder g joined (concat bs)
-in_turn g joined bs among h =
-    let t : IsTurnOrder g joined (concat bs) = in_turn_order g joined bs h in
-    record {
-      of_joined = t.of_joined;
-      once = runs_once g joined (concat bs) h.all t;
-      kept = λ i j e.
-          let both = among i j e in
-          let m = h.all i both.0 in
-          let n = h.all j both.1 in
-          stands_by_batch bs m.0 n.0 i j (number_rises g i j m.0 n.0 (edge_is_path g i j e) m.1 n.1) ((h.of_number m.0 i).1 (both.0, m.1)) ((h.of_number n.0 j).1 (both.1, n.1));
-    }
+-- it keeps the order
+pub in_lawful_order : TurnOrderIsLawful
+in_lawful_order g joined order among t = record {
+  of_joined = t.of_joined;
+  once = runs_once g joined order t;
+  kept = λ i j e.
+      let both = among i j e in
+      let m = t.all i both.0 in
+      let n = t.all j both.1 in
+      let rise : m.0 < n.0 = number_rises g i j m.0 n.0 (edge_is_path g i j e) m.1 n.1 in
+      let a = place_of order i ((t.of_joined i).1 both.0) in
+      let b = place_of order j ((t.of_joined j).1 both.1) in
+      let first : a.0 < b.0 = elim (cases_order a.0 b.0) [
+        | inl same ↦
+            let is : i ≡ j = sym a.1.1 ∙ ap (λ k. get_or order k 0) same ∙ b.1.1 in
+            let one : m.0 ≡ n.0 = number_once g j m.0 n.0 (subst (λ k. IsBatchNumber g k m.0) is m.1) n.1 in
+            absurd (omega arith)
+        | inr o ↦ elim o [
+          | inl lt ↦ lt
+          | inr gt ↦
+              let back : RunsBefore g j i = subst (RunsBefore g j) a.1.1 (subst (λ k. RunsBefore g k (get_or order a.0 0)) b.1.1 (t.in_order b.0 a.0 0 gt a.1.0)) in
+              elim (back n.0 m.0 n.1 m.1) [ inl x ↦ absurd (omega arith) | inr x ↦ let one : n.0 ≡ m.0 = x.0 in absurd (omega arith) ]
+        ]
+      ] in
+      stands order i j a.0 b.0 first b.1.0 a.1.1 b.1.1;
+}
 
 -- no two systems of a batch conflict
 pub none_conflict : (accesses : List Access) (rules : List Rule) (joined : List Bool) (g : Graph) (bs : List (List ℕ)) → length joined ≡ length accesses

@@ -46,11 +46,20 @@ abbrev pub BatchesAreUnique : Type 0
 BatchesAreUnique = (order : Graph) (joined : List Bool) (bs cs : List (List ℕ))
     → AreBatches order joined bs → AreBatches order joined cs → bs ≡ cs
 
--- Where no path leads back, there is one turn order.
+-- Where no path leads back, there is a turn order.
+abbrev pub TurnOrderExists : Type 0
+TurnOrderExists = (order : Graph) (joined : List Bool) → IsAmong joined order → IsAcyclic order
+    → (xs : List ℕ) × IsTurnOrder order joined xs
+
+-- There is one turn order.
 abbrev pub TurnOrderIsUnique : Type 0
 TurnOrderIsUnique = (order : Graph) (joined : List Bool) (xs ys : List ℕ)
-    → IsAmong joined order → IsAcyclic order
     → IsTurnOrder order joined xs → IsTurnOrder order joined ys → xs ≡ ys
+
+-- A turn order keeps the order: it is a lawful one.
+abbrev pub TurnOrderIsLawful : Type 0
+TurnOrderIsLawful = (order : Graph) (joined : List Bool) (xs : List ℕ)
+    → IsAmong joined order → IsTurnOrder order joined xs → IsLawfulOrder order joined xs
 
 -- A system has one batch number, and the batch numbers rise along a path.
 abbrev pub BatchNumbersRise : Type 0

@@ -73,9 +73,10 @@ abbrev pub RunsBefore : Graph → ℕ → ℕ → Type 0
 RunsBefore g i j = (m n : ℕ) → IsBatchNumber g i m → IsBatchNumber g j n
     → (m < n) ⊎ ((m ≡ n) × (i < j))
 
--- the joined systems by batch number, and then by addition
+-- the joined systems, of which each has a batch number, by that number, and then by addition
 pub record IsTurnOrder (g : Graph) (joined : List Bool) (order : List ℕ) : Type 0 where
   pub of_joined : (i : ℕ) → Contains order i ↔ IsTrue (has_joined joined i)
+  pub all : (i : ℕ) → IsTrue (has_joined joined i) → (n : ℕ) × IsBatchNumber g i n
   pub in_order : AllPairs (RunsBefore g) order
 
 -- i stands before j in the list

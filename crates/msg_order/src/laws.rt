@@ -1,5 +1,5 @@
 //! Laws of the settled order, for proofs: a call of one puts it among the facts that are known there.
-ghost use Rattle.msg_order.specs.Laws.{FewerSystemsMakeNoCycle, SettlingMakesNoCycle, ConflictingSystemsAreOrdered, SettledOrderExists, SettledOrderIsUnique, BatchesExist, BatchesAreUnique, TurnOrderIsUnique, BatchNumbersRise, LawfulOrdersKeepPaths};
+ghost use Rattle.msg_order.specs.Laws.{FewerSystemsMakeNoCycle, SettlingMakesNoCycle, ConflictingSystemsAreOrdered, SettledOrderExists, SettledOrderIsUnique, BatchesExist, BatchesAreUnique, TurnOrderExists, TurnOrderIsUnique, TurnOrderIsLawful, BatchNumbersRise, LawfulOrdersKeepPaths};
 
 /// Rules that make no cycle among some systems make none among fewer of them. So a plan over systems
 /// that have joined can't be refused for a cycle where the rules of all systems have none.
@@ -37,9 +37,19 @@ pub fn batches_are_unique()
     ensures law { BatchesAreUnique }
 {}
 
-/// Edges among joined systems that make no cycle have one turn order.
+/// Edges among joined systems that make no cycle have a turn order.
+pub fn turn_order_exists()
+    ensures law { TurnOrderExists }
+{}
+
+/// Joined systems have one turn order.
 pub fn turn_order_is_unique()
     ensures law { TurnOrderIsUnique }
+{}
+
+/// A turn order is a lawful order.
+pub fn turn_order_is_lawful()
+    ensures law { TurnOrderIsLawful }
 {}
 
 /// A system has one batch number, and the batch numbers rise along a path.

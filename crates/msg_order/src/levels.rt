@@ -1,5 +1,5 @@
 // Batches, taken level by level from the systems that are left.
-ghost use Rattle.std.specs.Prelude.{◌≡◌, ◌&&◌, ℕ, ◌<◌, ◌≤◌, Bool, List, true, length, map, filter, IfOk};
+ghost use Rattle.std.specs.Prelude.{◌≡◌, ◌&&◌, ℕ, ◌<◌, ◌≤◌, Bool, List, true, length, map, filter, IfOk, OnErr};
 ghost use Rattle.std.specs.List.{range_with_len};
 ghost use Rattle.msg_order.specs.Graph.{Graph, IsAcyclic};
 ghost use Rattle.msg_order.specs.Order.{AreBatches, IsAmong};
@@ -21,6 +21,7 @@ fn take_level<A: Allocator + Copy>(
         r.0.items ≡ filter (is_ready before.now left.now) (range_with_len 0 (length before.now))) }
     ensures next { IfOk result (λ r.
         (i : ℕ) → has r.1 i ≡ (has left.now i && meets (set_at before.now i) left.now)) }
+    ensures asked { OnErr result (0 < length before.now) }
 {
     let mut batch = Vec::new(alloc);
     let mut next = SystemSet::empty();
@@ -44,9 +45,10 @@ pub fn batches_of<A: Allocator + Copy>(
 ) -> Result<Vec<Vec<u32, A>, A>, AllocError>
     requires few { length before.now ≤ 256 }
     requires within { (k : ℕ) → has joined.now k ≡ true → k < length before.now }
-    ensures { IfOk result (λ batches. (g : Graph) (systems : List Bool)
+    ensures batches { IfOk result (λ batches. (g : Graph) (systems : List Bool)
         → ArePaths g before.now → IsSetOf systems joined.now → IsAmong systems g → IsAcyclic g
         → AreBatches g systems (map (λ batch. batch.items) batches.items)) }
+    ensures asked { OnErr result (0 < length before.now) }
 {
     let mut batches = Vec::new(alloc);
     let mut left = *joined;

@@ -1,5 +1,8 @@
-ghost use Rattle.std.specs.Prelude.{◌≡◌, ◌<◌, ◌≤◌, [], length, map, IfOk};
-ghost use Rattle.msg_order.specs.Plan.{PlanView};
+ghost use Rattle.std.specs.Prelude.{◌≡◌, ◌<◌, ◌≤◌, [], length, map, Err, IfErr, IfOk, OnErr, OnOk};
+ghost use Rattle.msg_order.specs.declared.plan_refusal.PlanRefusal.TheVariants.{NoMemory};
+ghost use Rattle.msg_order.specs.Graph.{IsAcyclic};
+ghost use Rattle.msg_order.specs.Order.{NameSystemsBelow, rules_among};
+ghost use Rattle.msg_order.specs.Plan.{IsPlanOf, PlanView, RefusesFor};
 ghost use Rattle.msg_order.specs.Paths.{AreKept, ArePaths, IsSetOf, view_of};
 
 use crate::levels::batches_of;
@@ -29,6 +32,7 @@ impl<A: Allocator> Model for Plan<A> {
 fn no_paths<A: Allocator>(alloc: A, systems: usize) -> Result<Vec<SystemSet, A>, AllocError>
     ensures len { IfOk result (λ before. length before.items ≡ systems) }
     ensures none_yet { IfOk result (λ before. ArePaths [] before.items) }
+    ensures asked { OnErr result (0 < systems) }
 {
     let mut before = Vec::new(alloc);
     for _system in 0..systems {
@@ -50,12 +54,38 @@ fn set_of(joined: &[bool]) -> SystemSet
     set
 }
 
-impl<A: Allocator + Copy> Plan<A> {
-    ghost use Rattle.std.specs.Prelude.{IfErr, OnOk};
-    ghost use Rattle.msg_order.specs.Graph.{IsAcyclic};
-    ghost use Rattle.msg_order.specs.Order.{NameSystemsBelow, rules_among};
-    ghost use Rattle.msg_order.specs.Plan.{IsPlanOf, RefusesFor};
+/// The plan, over sets that have no path yet.
+fn plan_over<A: Allocator + Copy>(
+    alloc: A,
+    mut before: Vec<SystemSet, A>,
+    accesses: &[Access],
+    rules: &[Rule],
+    joined: &[bool],
+) -> Result<Plan<A>, PlanRefusal>
+    requires few { length accesses.now ≤ 256 }
+    requires one_each { length joined.now ≡ length accesses.now }
+    requires in_range { NameSystemsBelow (length accesses.now) rules.now }
+    requires as_many { length before.items ≡ length accesses.now }
+    requires none_yet { ArePaths [] before.items }
+    ensures plan { IfOk result (IsPlanOf accesses.now rules.now joined.now) }
+    ensures acyclic { OnOk result (IsAcyclic (rules_among joined.now rules.now)) }
+    ensures refusal { IfErr result (RefusesFor (rules_among joined.now rules.now)) }
+    ensures no_memory { result ≡ Err NoMemory
+        → IsAcyclic (rules_among joined.now rules.now) × (0 < length accesses.now) }
+{
+    if let Some(s) = settle(&mut before, accesses, rules, joined) {
+        return Err(PlanRefusal::Cycle(s));
+    }
+    let joined = set_of(joined);
+    let batches = batches_of(alloc, &before, &joined)?;
+    Ok(Plan {
+        before,
+        batches,
+        joined,
+    })
+}
 
+impl<A: Allocator + Copy> Plan<A> {
     /// Settles the order of the joined systems, given by their accesses and by rules, and parts them
     /// into batches.
     ///
@@ -79,18 +109,12 @@ impl<A: Allocator + Copy> Plan<A> {
         ensures plan { IfOk result (IsPlanOf accesses.now rules.now joined.now) }
         ensures acyclic { OnOk result (IsAcyclic (rules_among joined.now rules.now)) }
         ensures refusal { IfErr result (RefusesFor (rules_among joined.now rules.now)) }
+
+        // A plan of no systems takes no memory.
+        ensures no_memory { result ≡ Err NoMemory → 0 < length accesses.now }
     {
-        let mut before = no_paths(alloc, accesses.len())?;
-        if let Some(s) = settle(&mut before, accesses, rules, joined) {
-            return Err(PlanRefusal::Cycle(s));
-        }
-        let joined = set_of(joined);
-        let batches = batches_of(alloc, &before, &joined)?;
-        Ok(Plan {
-            before,
-            batches,
-            joined,
-        })
+        let before = no_paths(alloc, accesses.len())?;
+        plan_over(alloc, before, accesses, rules, joined)
     }
 }
 

@@ -3,6 +3,9 @@ use Rattle.std.proofs.lemmas.List.{nil_from_length}
 use Rattle.std.proofs.lemmas.Slice.Zip.{AllZip-long}
 use Rattle.msg_exec.specs.Stages.{IsOut}
 use Rattle.msg_exec.specs.State.{State}
+use Rattle.msg_exec.specs.Work.{IsTold}
+use Rattle.msg_exec.specs.Workers.{number_of}
+use Rattle.msg_exec.proofs.Told.{of_batch}
 use Rattle.msg_exec.proofs.Batches.{no_more_than}
 use Rattle.msg_exec.proofs.ComingHome.{ComingHome, all_came, begin_home, below_alike, next_comes, next_may_come}
 use Rattle.msg_exec.proofs.GoingOut.{all_may_run}
@@ -73,3 +76,7 @@ returns-clause-turns g c s stands =
 
 pub returns-clause-accesses : goal.returns-clause-accesses
 returns-clause-accesses g c = (c.loop-done.invariant c.requires.stands.0 c.requires.stands.1.0).half.accesses
+
+pub returns-clause-told : goal.returns-clause-told
+returns-clause-told g c = of_batch (IsTold (g.G.Gate.told c.args.gate.now) (number_of c.args.workers)) c.args.stage.now c.args.batch.now c.in_ok-jobs.jobs.items
+    c.in_ok-jobs.ensures.out.each c.in_ok-all.ensures.told

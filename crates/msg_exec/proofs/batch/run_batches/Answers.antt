@@ -1,5 +1,8 @@
 use Rattle.std.proofs.Common.{◌≡◌, ◌≢◌, ℕ, ◌<◌, ◌≤◌, ◌++◌, [], get_or, ap, sym, ◌∙◌, subst, arith, take, map, length}
 use Rattle.std.proofs.lemmas.List.{length-map}
+use Rattle.std.proofs.lemmas.List.Elements.{All-append}
+use Rattle.msg_exec.specs.Work.{IsTold}
+use Rattle.msg_exec.specs.Workers.{number_of}
 use Rattle.msg_order.specs.Plan.{NoneConflict}
 use Rattle.msg_exec.proofs.Batches.{its_systems, pairs_of_one}
 use Rattle.std.specs.Prelude.{All, AllPairs}
@@ -50,6 +53,9 @@ loop-batch-preserved g c =
     let read = c.deref.ensures.value in
     record {
       accesses = ran.accesses ∙ c.loop-batch.invariant.accesses;
+      told = subst (All (IsTold (g.G.Gate.told c.args.gate.now) (number_of c.args.workers))) (sym (one_batch_more batches k c.batch-item.result c.loop-batch-test.true c.batch-item.is))
+          (All-append (IsTold (g.G.Gate.told c.args.gate.now) (number_of c.args.workers)) (systems_of (take k batches)) c.batch-item.result.items c.loop-batch.invariant.told
+          (subst (All (IsTold (g.G.Gate.told c.args.gate.now) (number_of c.args.workers))) read ran.told));
       turned = λ s stands.
           subst (λ xs. HasTurned g.S.System.meaning xs s c.run_batch.new.stage [] c.run_batch.new.turns.items) (sym (one_batch_more batches k c.batch-item.result c.loop-batch-test.true c.batch-item.is))
           (turned_more g.S.System.meaning (systems_of (take k batches)) c.batch-item.result.items s c.loop-batch.stage c.run_batch.new.stage [] c.loop-batch.turns.items c.run_batch.new.turns.items
@@ -69,3 +75,9 @@ returns-clause-turns g c s stands =
     let n : c.loop-batch.batch-index ≡ length c.args.batches.now = omega arith in
     (subst (λ xs. HasTurned g.S.System.meaning (systems_of xs) s c.loop-batch.stage [] c.loop-batch.turns.items) (ap (λ k. take k c.args.batches.now) n ∙ take-length c.args.batches.now)
     (c.loop-batch.invariant.turned s stands)).1
+
+pub returns-clause-told : goal.returns-clause-told
+returns-clause-told g c =
+    let n : c.loop-batch.batch-index ≡ length c.args.batches.now = omega arith in
+    subst (λ xs. All (IsTold (g.G.Gate.told c.args.gate.now) (number_of c.args.workers)) (systems_of xs)) (ap (λ k. take k c.args.batches.now) n ∙ take-length c.args.batches.now)
+    c.loop-batch.invariant.told

@@ -6,7 +6,9 @@ use Rattle.msg_order.specs.Order.{AreBatches}
 use Rattle.msg_order.specs.Plan.{NoneConflict}
 use Rattle.msg_exec.specs.Frames.{before_turns}
 use Rattle.msg_exec.specs.State.{State, joined}
-use Rattle.msg_exec.proofs.Framing.{batches_below, frame_ran, logged_in}
+use Rattle.msg_exec.specs.Work.{IsTold}
+use Rattle.msg_exec.specs.Workers.{number_of}
+use Rattle.msg_exec.proofs.Framing.{batches_below, frame_ran, in_that_order, logged_in}
 use Rattle.msg_exec.proofs.engine_core.run_one.Goals as goal
 
 pub run_batches-requires-clause-stands : goal.run_batches-requires-clause-stands
@@ -47,4 +49,12 @@ returns g c = record {
       c.states_stay_sound.ensures.frame (c.in_ok-turns.ensures.state bt has.stage)
       (logged_in c.args.frame.now order s _ c.in_ok-core.posts.items c.from_vec.ensures.items has.posts (c.from_vec-2.ensures.items ∙ c.in_ok-turns.ensures.turns bt has.stage))
       refl refl refl c.in_ok-turns.ensures.accesses;
+  told =
+      let s : State = c.requires.stands.0 in
+      let has = c.in_ok-core.ensures.opened s c.requires.stands.1.0 c.requires.stands.1.1 in
+      let bt : State = before_turns c.args.frame.now.posts s in
+      let order : List ℕ = concat (map (λ (batch : Vec ℕ). batch.items) c.batches-batches.result.now) in
+      subst (All (IsTold (g.G.Gate.told c.args.gate.now) (number_of c.args.workers)))
+      (sym (in_that_order c.args.frame.now order s _ (logged_in c.args.frame.now order s _ c.in_ok-core.posts.items c.from_vec.ensures.items has.posts (c.from_vec-2.ensures.items ∙ c.in_ok-turns.ensures.turns bt has.stage))))
+      c.in_ok-turns.ensures.told;
 }

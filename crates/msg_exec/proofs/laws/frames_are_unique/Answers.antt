@@ -2,4 +2,4 @@ use Rattle.msg_exec.proofs.OneRun.{one_frame}
 use Rattle.msg_exec.proofs.laws.frames_are_unique.Goals as goal
 
 pub returns : goal.returns
-returns c = record { law = one_frame c.settled_order_is_unique.ensures.law c.settling_makes_no_cycle.ensures.law c.turn_order_is_unique.ensures.law }
+returns c = record { law = one_frame c.settled_order_is_unique.ensures.law c.turn_order_is_unique.ensures.law }

@@ -1,4 +1,4 @@
-use Rattle.std.proofs.Common.{◌≡◌, ℕ, ℤ, ◌+◌, List, ◌<◌, length, sym, ap, subst, ◌∙◌, arith, take, rules, ◌∷◌, []}
+use Rattle.std.proofs.Common.{◌≡◌, ℕ, ℤ, ◌+◌, List, ◌<◌, length, sym, ap, subst, ◌∙◌, arith, take, rules, ◌++◌, ◌∷◌, [], Some, length-append}
 use Rattle.std.proofs.Math.Seq.{take-length}
 use mir.Val.{SFits}
 use mir.Syntax.{w64}
@@ -9,7 +9,9 @@ use Rattle.msg_world.specs.Access.{OfType}
 use Rattle.msg_world.specs.Parts.{PartsStand}
 use Rattle.msg_world.specs.World.{WorldState, by, with_history}
 use Rattle.msg_system.specs.declared.reply.Reply.{Reply}
-use Rattle.msg_exec.proofs.Posting.{HasPosted, one_post_more}
+use Rattle.std.proofs.lemmas.Option.{slice_get-get_or}
+use Rattle.msg_exec.specs.Frames.{posted}
+use Rattle.msg_exec.proofs.Posting.{HasPosted, if_refused, one_post_more}
 use Rattle.msg_exec.proofs.posts.post_all.Goals as goal
 
 pub post-requires : goal.post-requires
@@ -21,16 +23,32 @@ post-requires c =
 pub loop-t-preserved : goal.loop-t-preserved
 loop-t-preserved c =
     let p : ℕ × ℤ = c.loop-t-item.result in
-    let posted = c.in_ok-post.ensures in
+    let did = c.in_ok-reply.ensures in
     let old = c.loop-t.invariant.shape in
     let fits : SFits w64 p.1 = search rules in
     let R : ℤ → Type 0 = λ z. (w : WorldState) → PartsStand c.loop-t.world w → PartsStand c.post.new.world (with_history w p.0 (write (by HOST z ∷ []) (w.histories p.0))) in
+    let pushed : c.push.new.self.items ≡ c.loop-t.replies.items ++ c.in_ok-reply.reply ∷ [] = c.in-Ok.ensures.items in
     record {
-      so_far = λ w stands. subst (λ (rs : List Reply). HasPosted (take (c.loop-t.t-index + 1) c.args.posts.now) w c.post.new.world rs) (sym c.in_ok-push.ensures.items)
-          (one_post_more c.args.posts.now c.loop-t.t-index p w c.loop-t.world c.post.new.world c.loop-t.replies.items c.in_ok-post.field-0 c.loop-t-test.true c.loop-t-item.is
-          (c.loop-t.invariant.so_far w stands) (subst R (to_z-of_z w64 p.1 fits) posted.state) posted.reply);
-      shape = record { size = record { types = posted.shape.size.types ∙ old.size.types; resources = posted.shape.size.resources ∙ old.size.resources }; there = λ q. posted.shape.there q ∙ old.there q };
+      so_far = λ w stands. subst (λ (rs : List Reply). HasPosted (take (c.loop-t.t-index + 1) c.args.posts.now) w c.post.new.world rs) (sym pushed)
+          (one_post_more c.args.posts.now c.loop-t.t-index p w c.loop-t.world c.post.new.world c.loop-t.replies.items c.in_ok-reply.reply c.loop-t-test.true c.loop-t-item.is
+          (c.loop-t.invariant.so_far w stands) (subst R (to_z-of_z w64 p.1 fits) did.state) did.reply);
+      shape = record { size = record { types = did.shape.size.types ∙ old.size.types; resources = did.shape.size.resources ∙ old.size.resources }; there = λ q. did.shape.there q ∙ old.there q };
+      as_many = omega (arith, ap length pushed, length-append c.loop-t.replies.items (c.in_ok-reply.reply ∷ []), c.loop-t.invariant.as_many);
+      room = omega (arith, c.loop-t.invariant.room, c.in-Ok.ensures.capacity);
     }
+
+pub returns-in_err-reply-clause-no_memory : goal.returns-in_err-reply-clause-no_memory
+returns-in_err-reply-clause-no_memory c =
+    let k : ℕ = c.loop-t.t-index in
+    let p : ℕ × ℤ = c.loop-t-item.result in
+    if_refused c.from_residual.result (λ w stands. (
+      k,
+      record {
+        post = p;
+        is_post = slice_get-get_or c.args.posts.now k p c.loop-t-test.true ∙ ap Some (sym c.loop-t-item.is);
+        room = c.in_err-reply.ensures.no_memory (posted (take k c.args.posts.now) w) (c.loop-t.invariant.so_far w stands).0;
+      },
+    ))
 
 pub returns-clause-state : goal.returns-clause-state
 returns-clause-state c w stands =

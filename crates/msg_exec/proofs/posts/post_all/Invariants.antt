@@ -1,4 +1,4 @@
-use Rattle.std.proofs.Common.{take}
+use Rattle.std.proofs.Common.{◌≡◌, ◌≤◌, take, length, vec_capacity}
 use Rattle.msg_world.specs.Parts.{PartsStand, SameShape}
 use Rattle.msg_world.specs.World.{WorldState}
 use Rattle.msg_exec.proofs.Posting.{HasPosted}
@@ -8,4 +8,6 @@ abbrev pub invariant-loop-t : goal.invariant-loop-t
 invariant-loop-t l = record {
   so_far : (w : WorldState) → PartsStand l.initial.world w → HasPosted (take l.t-index l.posts) w l.world l.replies.items;
   shape : SameShape l.initial.world l.world;
+  as_many : length l.replies.items ≡ l.t-index;
+  room : length l.posts ≤ vec_capacity l.replies;
 }

@@ -12,8 +12,8 @@ levels-init _g c = record {
   peeled = λ g h a. rw c.new-batches.ensures.items (peeled_first g (has c.args.joined.now));
 }
 
-pub returns-then-is_empty : goal.returns-then-is_empty
-returns-then-is_empty _g c = λ g systems h set among free.
+pub returns-then-is_empty-clause-batches : goal.returns-then-is_empty-clause-batches
+returns-then-is_empty-clause-batches _g c = λ g systems h set among free.
     let empty : vec_len c.in_ok-batch.batch ≡ 0 = eqb-true (vec_len c.in_ok-batch.batch) 0 (sym c.is_empty.ensures ∙ c.if-is_empty.true) in
     let start : ℕ → Bool = has c.args.joined.now in
     let lead : LeadAmong g start = λ i j e. let q = among i j e in (set i ∙ q.0, set j ∙ q.1) in
