@@ -10,8 +10,7 @@ use Rattle.std.proofs.lemmas.List.FromFn.{get_or-range_with_len, length-range_wi
 use Rattle.std.proofs.lemmas.List.Sums.{sum_by-append}
 use Rattle.std.proofs.lemmas.Bool.{cases_lt}
 use Rattle.std.proofs.lemmas.Option.{get_or_from_slice_get, slice_get_within}
-use Rattle.msg_board.specs.declared.board.Board.{Board}
-use Rattle.msg_board.specs.Board.{IsNew}
+use Rattle.msg_board.specs.Board.{BoardView, IsNew}
 use Rattle.msg_board.specs.Counts.{HoldsEachOnce, times}
 use Rattle.msg_board.specs.Pass.{PassState, drawn_by}
 use Rattle.msg_exec.specs.declared.crew.Seat.{Seat}
@@ -81,9 +80,9 @@ module _ {X Y : Type 0} (f : X → Y) where
   mapped_at xs ys k x y is at =
       ap (λ zs. get_or zs k y) (sym is) ∙ get_or-map f xs k x y (slice_get_within xs k x at) ∙ ap f (get_or_from_slice_get xs k x x at)
 
-module _ {W A J D : Type 0} where
+module _ {J : Type 0} where
   -- each pass has the number of its worker, where the seats go by number and their passes are new
-  pub by_number : (b : Board W A J D) (Such : ℕ → J → Type 0) (jobs : List J) (seats : List (Seat (PassState J))) (passes ended : List (PassState J)) (n : ℕ)
+  pub by_number : (b : BoardView J) (Such : ℕ → J → Type 0) (jobs : List J) (seats : List (Seat (PassState J))) (passes ended : List (PassState J)) (n : ℕ)
       → map (λ (s : Seat (PassState J)). s.pass) seats ≡ passes → map (λ (s : Seat (PassState J)). s.worker) seats ≡ range_with_len 0 n
       → All (IsNew b) passes → length ended ≡ length seats
       → ((k : ℕ) (seat : Seat (PassState J)) (p : PassState J) → slice_get seats k ≡ Some seat → slice_get ended k ≡ Some p → EachNewIs (Such seat.worker) jobs seat.pass.drawn p.drawn)
@@ -121,8 +120,8 @@ one_pass_more {P} seats more seat passes is same =
     ap (map (λ (s : Seat P). s.pass)) is ∙ map-append (λ (s : Seat P). s.pass) seats (seat ∷ []) ∙ ap (λ ps. ps ++ seat.pass ∷ []) same
 
 -- a single pass is that of worker 0
-module _ {W A J D : Type 0} where
-  pub only_worker : (b : Board W A J D) (Such : ℕ → J → Type 0) (jobs : List J) (passes : List (PassState J)) (old new : PassState J) → length passes ≡ 1 → All (IsNew b) passes
+module _ {J : Type 0} where
+  pub only_worker : (b : BoardView J) (Such : ℕ → J → Type 0) (jobs : List J) (passes : List (PassState J)) (old new : PassState J) → length passes ≡ 1 → All (IsNew b) passes
       → old ≡ get_or passes 0 old → EachNewIs (Such 0) jobs old.drawn new.drawn → EachByItsWorker Such jobs (slice_set passes 0 new)
   only_worker b Such jobs [] old new one fresh was told = absurd (omega (arith, one))
   only_worker b Such jobs (q ∷ (r ∷ rs)) old new one fresh was told = absurd (omega (arith, one))
