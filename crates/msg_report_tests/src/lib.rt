@@ -8,11 +8,15 @@ mod calls_files;
 #[cfg(test)]
 mod command;
 #[cfg(test)]
+mod limits;
+#[cfg(test)]
 mod narrow;
 #[cfg(test)]
 mod reports;
 #[cfg(test)]
 mod scenario_files;
+#[cfg(test)]
+mod scenes;
 #[cfg(test)]
 mod sparing;
 #[cfg(test)]
