@@ -3,3 +3,4 @@ pub mod Getters
 pub mod Numerals
 pub mod Rows
 pub mod Taken
+pub mod Told

@@ -1,13 +1,17 @@
 -- What the words of the command line ask for.
-use Rattle.std.specs.Prelude.{◌≡◌, ℕ, ◌<◌, ◌≤◌, ◌&&◌, Bool, List, length, Option, Some, None, option_map, option_and_then, codes, string_bytes, nat_le, nat_lt, if◌then◌else◌}
+use Rattle.std.specs.Prelude.{◌≡◌, ◌≢◌, ◌⊎◌, ℕ, [], ◌<◌, ◌≤◌, ◌&&◌, Bool, List, length, Option, Some, None, option_map, option_and_then, codes, string_bytes, nat_le, nat_lt, if◌then◌else◌}
 use Rattle.std.specs.Char.{digit_value}
 use Rattle.std.specs.List.{list_all}
 use Rattle.std.specs.Str.{bytes_eq}
 use Rattle.std.specs.Str.Parse.{digits_value, without_leading_plus}
-use Rattle.clap.specs.Words.{Row, Text, first_of, subcommand_of}
+use Rattle.clap.specs.Words.{IsAmong, Kinds, Row, Text, first_of, subcommand_of}
+use Rattle.clap.specs.declared.error.ErrorKind.{ErrorKind}
+use Rattle.clap.specs.declared.error.ErrorKind.TheVariants as kind
 use Rattle.msg_command.specs.CommandLine.{msgrun_app}
 use Rattle.msg_command.specs.declared.words.Action.{Action}
 use Rattle.msg_command.specs.declared.words.Action.TheVariants.{Buffer, Run}
+use Rattle.msg_command.specs.declared.words.WordFault.{WordFault}
+use Rattle.msg_command.specs.declared.words.WordFault.TheVariants as word
 
 -- a request: to answer the calls file of a name, or of standard input; or to run the scenario file of a name on so many
 -- workers
@@ -58,6 +62,13 @@ asked words = asked_by (subcommand_of msgrun_app words)
 abbrev pub IsRunOnNone : List Text → Type 0
 IsRunOnNone words = (rows : List Row) × (text : Text) × (subcommand_of msgrun_app words ≡ Some (codes "run", rows))
     × (first_of (codes "workers") rows ≡ Some text) × (workers_in text ≡ None)
+
+-- Why words are refused in which clap finds these kinds of errors: for help where it finds that help is asked for; as bad
+-- words where it finds nothing, or something else; and for want of memory at any words.
+abbrev pub IsToldOf : Kinds → WordFault → Type 0
+IsToldOf kinds (word.Help text) = IsAmong kind.DisplayHelp kinds
+IsToldOf kinds word.Bad = (kinds ≡ []) ⊎ ((k : ErrorKind) × IsAmong k kinds × (k ≢ kind.DisplayHelp))
+IsToldOf kinds word.NoMemory = Unit {0}
 
 -- a run is on 1 to 64 workers
 abbrev pub IsInRange : Action → Type 0

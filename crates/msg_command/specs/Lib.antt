@@ -2,3 +2,4 @@ pub mod CommandLine
 pub mod Asked
 pub mod Inputs
 pub mod Faults
+pub mod Telling

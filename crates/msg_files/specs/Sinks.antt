@@ -1,5 +1,5 @@
 -- What sinks show, what a put does to them, and what a text in several puts leaves.
-use Rattle.std.specs.Prelude.{◌≡◌, ◌⊎◌, ℕ, ◌+◌, ◌-◌, ◌^◌, min, ◌==◌, if◌then◌else◌, List, [], ◌∷◌, ◌++◌, Option, Result, Ok, Err}
+use Rattle.std.specs.Prelude.{◌≡◌, ◌⊎◌, ℕ, ◌+◌, ◌-◌, ◌^◌, min, ◌==◌, if◌then◌else◌, List, [], ◌∷◌, ◌++◌, Option, Result, Ok, Err, IsErr}
 use Rattle.std.specs.Io.KnownBytes.{Appends}
 
 -- a sink in memory: the bytes that it took, and how often it failed
@@ -21,6 +21,11 @@ abbrev pub failures_after : {E : Type 0} → ℕ → Result ℕ E → List ℕ �
 failures_after n (Err e) piece = one_more n
 failures_after n (Ok k) [] = n
 failures_after n (Ok k) (x ∷ xs) = if k == 0 then one_more n else n
+
+-- a sink's answer that tells the answer of a writer: its number, or that it failed
+abbrev pub IsToldAs : {E F : Type 0} → Result ℕ E → Result ℕ F → Type 0
+IsToldAs (Ok n) told = told ≡ Ok n
+IsToldAs (Err e) told = IsErr told
 
 -- known bytes grow by a front of a text
 abbrev pub AppendsPrefix : Option (List ℕ) → Option (List ℕ) → List ℕ → Type 0

@@ -1,4 +1,7 @@
-ghost use Rattle.std.specs.Prelude.{◌≡◌};
+ghost use Rattle.std.specs.Prelude.{◌≡◌, ◌≤◌, ℕ, Result, IfOk, length};
+ghost use Rattle.std.specs.Io.KnownBytes.{WriteAppends};
+ghost use Rattle.std.specs.declared.io.Error.{Error};
+ghost use Rattle.msg_files.specs.Sinks.{IsToldAs, failures_after};
 
 use crate::sink::{PutFault, Sink};
 use std::io::Write;
@@ -34,7 +37,17 @@ impl<W: Write> Sink for StdSink<W> {
 
     ghost failures = { λ s. s.failures };
 
-    fn put(&mut self, piece: &[u8]) -> Result<usize, PutFault> {
+    fn put(&mut self, piece: &[u8]) -> Result<usize, PutFault>
+        ensures bound { IfOk result (λ n. n ≤ length piece.now) }
+        ensures bytes { WriteAppends (W.contents self.old.writer) (W.contents self.new.writer)
+            result piece.now }
+        ensures counts { self.new.failures ≡ failures_after self.old.failures result piece.now }
+
+        // The answer is the writer's: the number that it took, and `PutFault` for any error.
+        ensures answer { (told : Result ℕ Error) × IsToldAs told result
+            × WriteAppends (W.contents self.old.writer) (W.contents self.new.writer)
+            told piece.now }
+    {
         match self.writer.write(piece) {
             Ok(n) => {
                 if n == 0 && !piece.is_empty() {

@@ -16,6 +16,8 @@ mod reports;
 #[cfg(test)]
 mod scenario_files;
 #[cfg(test)]
+mod scenes;
+#[cfg(test)]
 mod sparing;
 #[cfg(test)]
 mod texts;

@@ -7,7 +7,21 @@ use std::test::Fail;
 /// stands behind it, and how a file of that length is refused.
 type List<'a> = (&'a str, &'a str, usize, &'a str, Option<Refusal>);
 
-const LISTS: [List<'static>; 7] = [
+const LISTS: [List<'static>; 9] = [
+    (
+        r#"{"types":[0"#,
+        ",0",
+        64,
+        r#"],"systems":[],"frames":[]}"#,
+        Some(Refusal::Shape),
+    ),
+    (
+        r#"{"types":[],"systems":[0"#,
+        ",0",
+        256,
+        r#"],"frames":[]}"#,
+        Some(Refusal::Shape),
+    ),
     (
         r#"{"types":[],"resources":[0"#,
         ",0",

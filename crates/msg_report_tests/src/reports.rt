@@ -102,9 +102,18 @@ fn systems_without_memory(rt: HostRuntime) {
 
 /// Holds system 0 until it was called for another.
 #[derive(Drop)]
-struct HoldGate {
-    came: AtomicU64,
-    limits_met: AtomicU64,
+pub struct HoldGate {
+    pub came: AtomicU64,
+    pub limits_met: AtomicU64,
+}
+
+impl HoldGate {
+    pub fn new() -> HoldGate {
+        HoldGate {
+            came: AtomicU64::new(0),
+            limits_met: AtomicU64::new(0),
+        }
+    }
 }
 
 impl Gate for HoldGate {
@@ -126,10 +135,7 @@ impl Gate for HoldGate {
 fn readers_run_side_by_side(rt: HostRuntime) {
     let file =
         r#"{"types":[["hit",10]],"systems":[{"name":"a","ops":[["len","hit"]]},{"name":"b","ops":[["len","hit"]]}],"frames":[[["hit",5]]]}"#;
-    let gate = HoldGate {
-        came: AtomicU64::new(0),
-        limits_met: AtomicU64::new(0),
-    };
+    let gate = HoldGate::new();
     let mut sink = MemorySink::new();
     let came = report_of(&rt, file, 2, 2, &gate, &mut sink);
     assert_eq!(rt; came.put, Ok(()));

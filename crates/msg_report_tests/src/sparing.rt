@@ -88,6 +88,27 @@ fn add(
     Ok(())
 }
 
+/// The systems of the scenario; each of them has memory for so many runs.
+pub fn sparing_systems(
+    alloc: Global,
+    scenario: &Scenario,
+    runs: u32,
+) -> Result<Vec<Sparing>, NoMemory>
+    requires runnable { IsRunnable scenario.now }
+    ensures as_many { IfOk result (λ v. length v.items ≡ length scenario.now.systems) }
+    ensures each { IfOk result (λ v.
+        EachIs (IsSystemAt ⟦<Sparing as System>⟧.meaning scenario.now.systems) v.items) }
+{
+    let mut systems = Vec::new(alloc);
+    let specs = scenario.systems.as_slice();
+    for spec in specs {
+        let writer = systems.len() as u32;
+        let system = Sparing::new(spec, alloc, writer, runs)?;
+        add(specs, spec, &mut systems, system)?;
+    }
+    Ok(systems)
+}
+
 /// An engine of the scenario; each of its systems has memory for so many runs.
 pub fn sparing_engine(
     alloc: Global,
@@ -98,12 +119,5 @@ pub fn sparing_engine(
     ensures stands { IfOk result (λ e.
         StandsFor ⟦<Sparing as System>⟧.meaning e (state_of scenario.now)) }
 {
-    let mut systems = Vec::new(alloc);
-    let specs = scenario.systems.as_slice();
-    for spec in specs {
-        let writer = systems.len() as u32;
-        let system = Sparing::new(spec, alloc, writer, runs)?;
-        add(specs, spec, &mut systems, system)?;
-    }
-    engine_of(alloc, scenario, systems)
+    engine_of(alloc, scenario, sparing_systems(alloc, scenario, runs)?)
 }

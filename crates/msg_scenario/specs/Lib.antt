@@ -1,3 +1,4 @@
 pub mod Making
 pub mod ReportText
 pub mod Reported
+pub mod Ran

@@ -1,5 +1,5 @@
 -- What a report leaves: which frames were run, what the sink took, and what the engine stands for.
-use Rattle.std.specs.Prelude.{◌≡◌, ◌⊎◌, ℕ, ◌<◌, ◌-◌, ◌^◌, min, List, ◌++◌, length, take, Option}
+use Rattle.std.specs.Prelude.{◌≡◌, ◌⊎◌, ℕ, ◌<◌, ◌-◌, ◌^◌, min, List, length, take, Option}
 use Rattle.std.specs.Io.KnownBytes.{Appends}
 use Rattle.msg_system.specs.Systems.{Meaning}
 use Rattle.msg_exec.specs.Accounts.{accounts_of}

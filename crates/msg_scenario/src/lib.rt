@@ -4,6 +4,7 @@
 
 mod building;
 mod reports;
+mod scene;
 
 pub use building::engine_of;
 pub use msg_files::{
@@ -12,3 +13,4 @@ pub use msg_files::{
 };
 pub use msg_reading::{Kind, Name, Scenario, SystemSpec, read_scenario};
 pub use reports::report;
+pub use scene::run_scenario;

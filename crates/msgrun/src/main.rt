@@ -6,7 +6,7 @@
 #![tactic(auto)]
 
 ghost use Rattle.std.specs.Prelude.{◌≡◌, ◌<◌, ◌≤◌};
-ghost use Rattle.msg_command.specs.Faults.{status_of};
+ghost use Rattle.msgrun.specs.Ended.{status_after};
 
 mod building;
 mod scene;
@@ -14,7 +14,7 @@ mod scene;
 use msg_command::{Action, InputFault, MainFault, WordFault, parse_words, print_fault, read_all};
 use msg_exec::Workers;
 use msg_scenario::{StdSink, put_all, read_calls, read_scenario, run_calls};
-use scene::run_scenario;
+use scene::{run_in_boxes, told};
 use std::env::Env;
 use std::fs::Files;
 use std::io::{ErrorKind, Input, Print};
@@ -23,10 +23,8 @@ use std::thread::Threads;
 use std::{env, fs, io};
 
 fn main(rt: HostRuntime) -> ExitCode {
-    match run(&rt) {
-        Ok(()) => ExitCode::SUCCESS,
-        Err(fault) => ExitCode::from(end(&rt.stdout(), &rt.stderr(), &fault)),
-    }
+    let ended = run(&rt);
+    ExitCode::from(end(&rt.stdout(), &rt.stderr(), &ended))
 }
 
 /// What the words ask for, done.
@@ -78,7 +76,7 @@ fn answer_scenario<R: AllocGlobal + Files + Input + Print + Sync + Threads>(
     let bytes = bytes_of(rt, Some(file)).map_err(MainFault::Input)?;
     let scenario = read_scenario(rt.alloc(), bytes.as_slice()).map_err(MainFault::Refused)?;
     let mut output = StdSink::new(io::writer(rt));
-    run_scenario(rt, rt.alloc(), &scenario, workers, &mut output)
+    told(run_in_boxes(rt, rt.alloc(), &scenario, workers, &mut output))
 }
 
 /// All bytes of a file, or of standard input.
@@ -96,10 +94,13 @@ fn bytes_of<R: AllocGlobal + Files + Input>(
     }
 }
 
-/// Prints help where the words ask for it, else the fault's line, and gives the status.
-fn end<O: Print, E: Print>(output: &O, errors: &E, fault: &MainFault) -> u8
-    ensures { result ≡ status_of fault.now }
+/// Prints help where the words ask for it, else the line of the fault that ended it, and gives the status.
+fn end<O: Print, E: Print>(output: &O, errors: &E, ended: &Result<(), MainFault>) -> u8
+    ensures status { result ≡ status_after ended.now }
 {
+    let Err(fault) = ended else {
+        return 0;
+    };
     if let MainFault::Words(WordFault::Help(text)) = fault {
         let _ = put_all(&mut StdSink::new(io::writer(output)), text.as_bytes());
     }

@@ -1,44 +1,51 @@
-// A scenario, run to its end.
-ghost use Rattle.std.specs.Prelude.{◌≡◌, ◌≢◌, ◌⊎◌, Err, IfErr, IfOk, OnOk, OnErr, length};
+// A scenario, run to its end by systems in boxes.
+ghost use Rattle.std.specs.Prelude.{◌≡◌, ◌≢◌, ◌⊎◌, Ok, Err, IfOk, OnErr, OnOk};
 ghost use Rattle.std.specs.Box.{box_value};
-ghost use Rattle.msg_exec.specs.Building.{EachIs};
-ghost use Rattle.msg_scenario.specs.Reported.{HasPrinted};
-ghost use Rattle.msg_reading.specs.Runnable.{IsRunnable};
+ghost use Rattle.msg_system.specs.declared.run_fault.RunFault.TheVariants.{BadOrder, NoMemory as NoRoom, Spoiled};
 ghost use Rattle.msg_files.specs.Sinks.{one_more};
-ghost use Rattle.msg_scenario.specs.Making.{IsSystemAt};
-ghost use Rattle.msgrun.specs.Ran.{IsReported};
+ghost use Rattle.msg_reading.specs.Runnable.{IsRunnable};
+ghost use Rattle.msg_scenario.specs.Ran.{IsReported};
+ghost use Rattle.msg_scenario.specs.Reported.{HasPrinted};
+ghost use Rattle.msgrun.specs.Ended.{PrintedFrames, PrintedSome, main_fault};
 
 use crate::building::{add, relay_of, scripted_of, tally_of};
 use msg_command::MainFault;
 use msg_exec::{NoGate, NoMemory, Workers};
-use msg_scenario::{Kind, ReportFault, Scenario, Sink, engine_of, report};
+use msg_scenario::{Kind, ReportFault, Scenario, Sink, run_scenario};
 use msg_system::System;
 use std::alloc::Global;
 use std::thread::Threads;
 
-/// Puts each system of a scenario into a box of its kind, runs the frames, and puts the report into
-/// the sink, each frame's text before the next frame is run.
-pub fn run_scenario<R: Threads + Sync, S: Sink>(
+/// Puts each system of a scenario into a box of its kind, and runs the scenario by these.
+///
+/// # Errors
+///
+/// `NoMemory` where there was no engine. What the report came to, a fault of it too, is within `Ok`.
+pub(crate) fn run_in_boxes<R: Threads + Sync, S: Sink>(
     rt: &R,
     alloc: Global,
     scenario: &Scenario,
     workers: Workers,
     sink: &mut S,
-) -> Result<(), MainFault>
+) -> Result<Result<(), ReportFault>, NoMemory>
     requires runnable { IsRunnable scenario.now }
 
     // Whatever the workers: the text is that of one thread.
-    ensures ok { OnOk result
-        (IsReported scenario.now (S.contents sink.old) (S.contents sink.new)) }
-    ensures prefix { OnErr result
-        (HasPrinted scenario.now (S.contents sink.old) (S.contents sink.new)) }
-    ensures write { result ≡ Err (MainFault.Report ReportFault.Write)
+    ensures ok { IfOk result (λ reported. OnOk reported
+        (IsReported scenario.now (S.contents sink.old) (S.contents sink.new))) }
+    ensures prefix { IfOk result (λ reported. OnErr reported
+        (HasPrinted scenario.now (S.contents sink.old) (S.contents sink.new))) }
+    ensures no_engine { OnErr result (sink.new ≡ sink.old) }
+    ensures run { result ≡ Ok (Err (ReportFault.Run NoRoom))
+        → PrintedFrames scenario.now (S.contents sink.old) (S.contents sink.new) }
+    ensures not_spoiled { result ≢ Ok (Err (ReportFault.Run Spoiled)) }
+    ensures no_bad_order { result ≢ Ok (Err (ReportFault.Run BadOrder)) }
+    ensures stopped { (result ≡ Ok (Err ReportFault.Write)) ⊎ (result ≡ Ok (Err ReportFault.NoMemory))
+        → PrintedSome scenario.now (S.contents sink.old) (S.contents sink.new) }
+    ensures write { result ≡ Ok (Err ReportFault.Write)
         → S.failures sink.new ≡ one_more (S.failures sink.old) }
-    ensures quiet { result ≢ Err (MainFault.Report ReportFault.Write)
+    ensures quiet { result ≢ Ok (Err ReportFault.Write)
         → S.failures sink.new ≡ S.failures sink.old }
-    ensures faults { IfErr result (λ fault.
-        (fault ≡ MainFault.Built) ⊎ ((of : ReportFault) × (fault ≡ MainFault.Report of))) }
-    ensures built { result ≡ Err MainFault.Built → sink.new ≡ sink.old }
 {
     let mut systems: Vec<Box<dyn System>> = Vec::new(alloc);
     let specs = scenario.systems.as_slice();
@@ -67,7 +74,7 @@ pub fn run_scenario<R: Threads + Sync, S: Sink>(
             }
         }
     }
-    report_on(rt, alloc, scenario, systems, workers, sink)
+    run_scenario(rt, alloc, scenario, systems, workers, &NoGate, sink)
 }
 
 fn boxed<T: Drop>(alloc: Global, value: T) -> Result<Box<T>, NoMemory>
@@ -76,36 +83,13 @@ fn boxed<T: Drop>(alloc: Global, value: T) -> Result<Box<T>, NoMemory>
     Ok(Box::new(alloc, value)?)
 }
 
-/// The report of a scenario, by an engine of these systems.
-fn report_on<R: Threads + Sync, X: System, S: Sink>(
-    rt: &R,
-    alloc: Global,
-    scenario: &Scenario,
-    systems: Vec<X>,
-    workers: Workers,
-    sink: &mut S,
-) -> Result<(), MainFault>
-    requires runnable { IsRunnable scenario.now }
-    requires as_many { length systems.items ≡ length scenario.now.systems }
-    requires each { EachIs (IsSystemAt X.meaning scenario.now.systems) systems.items }
-    ensures ok { OnOk result
-        (IsReported scenario.now (S.contents sink.old) (S.contents sink.new)) }
-    ensures prefix { OnErr result
-        (HasPrinted scenario.now (S.contents sink.old) (S.contents sink.new)) }
-    ensures write { result ≡ Err (MainFault.Report ReportFault.Write)
-        → S.failures sink.new ≡ one_more (S.failures sink.old) }
-    ensures quiet { result ≢ Err (MainFault.Report ReportFault.Write)
-        → S.failures sink.new ≡ S.failures sink.old }
-    ensures faults { IfErr result (λ fault.
-        (fault ≡ MainFault.Built) ⊎ ((of : ReportFault) × (fault ≡ MainFault.Report of))) }
-    ensures built { result ≡ Err MainFault.Built → sink.new ≡ sink.old }
+/// What a run comes to, as the fault that ends the program.
+pub(crate) fn told(came: Result<Result<(), ReportFault>, NoMemory>) -> Result<(), MainFault>
+    ensures fault { result ≡ main_fault came }
 {
-    let mut engine = match engine_of(alloc, scenario, systems) {
-        Ok(engine) => engine,
-        Err(_) => return Err(MainFault::Built),
-    };
-    match report(rt, alloc, &mut engine, scenario, workers, &NoGate, sink) {
-        Ok(()) => Ok(()),
-        Err(fault) => Err(MainFault::Report(fault)),
+    match came {
+        Ok(Ok(())) => Ok(()),
+        Ok(Err(fault)) => Err(MainFault::Report(fault)),
+        Err(NoMemory) => Err(MainFault::Built),
     }
 }

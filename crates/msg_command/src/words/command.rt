@@ -1,8 +1,10 @@
 // The command line, as `clap` is told of it.
-ghost use Rattle.std.specs.Prelude.{◌≡◌, [], IfOk, IfErr, OnOk, false, true};
+ghost use Rattle.std.specs.Prelude.{◌≡◌, ◌≢◌, [], IfOk, IfErr, OnOk, false, true};
 ghost use Rattle.clap.specs.Words.{app_of, rule_of, fault_of, takes, subcommand_of, subcommand_rows_of, kind_of};
 ghost use Rattle.clap.specs.declared.Command.{out-Command as fields_of};
-ghost use Rattle.clap.specs.declared.error.ErrorKind.TheVariants.{OutOfMemory};
+ghost use Rattle.clap.specs.declared.error.ErrorKind.TheVariants.{DisplayHelp, OutOfMemory};
+ghost use Rattle.msg_command.specs.Asked.{IsToldOf};
+ghost use Rattle.msg_command.specs.Telling.{IsHelp};
 ghost use Rattle.msg_command.specs.CommandLine.{file_rule, workers_rule, buffer_app, run_app, msgrun_app, texts_of};
 
 use crate::words::{WordFault, help};
@@ -80,6 +82,8 @@ fn command<'a>(alloc: Global) -> Result<Command<'a>, AllocError>
 
 fn fault(alloc: Global, error: clap::Error) -> WordFault
     ensures memory { kind_of error ≡ OutOfMemory → result ≡ WordFault.NoMemory }
+    ensures help { IsHelp result → kind_of error ≡ DisplayHelp }
+    ensures bad { result ≡ WordFault.Bad → kind_of error ≢ DisplayHelp }
 {
     match error.kind() {
         ErrorKind::OutOfMemory => WordFault::NoMemory,
@@ -98,6 +102,7 @@ pub(crate) fn matches<'a>(alloc: Global, words: &'a [String]) -> Result<ArgMatch
     ensures accepted { OnOk result (fault_of msgrun_app (texts_of words.entry.now) ≡ []) }
     ensures refused { IfErr result (λ e. takes msgrun_app (texts_of words.entry.now) ≡ true
         → e ≡ WordFault.NoMemory) }
+    ensures told { IfErr result (IsToldOf (fault_of msgrun_app (texts_of words.entry.now))) }
 {
     let Ok(command) = command(alloc) else {
         return Err(WordFault::NoMemory);

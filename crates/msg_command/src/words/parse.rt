@@ -1,7 +1,7 @@
 ghost use Rattle.std.specs.Prelude.{◌≡◌, ◌<◌, ◌≤◌, ◌⊎◌, [], IfSome, Some, None, true, IfOk, IfErr, OnOk, codes, string_bytes};
 ghost use Rattle.clap.specs.Words.{fault_of, takes, first_of, rows_of, found_of, subcommand_rows_of};
 ghost use Rattle.msg_command.specs.CommandLine.{msgrun_app, texts_of};
-ghost use Rattle.msg_command.specs.Asked.{IsInRange, IsRunOnNone, request_of, asked, asked_by, workers_asked, workers_in};
+ghost use Rattle.msg_command.specs.Asked.{IsInRange, IsRunOnNone, IsToldOf, request_of, asked, asked_by, workers_asked, workers_in};
 
 use crate::words::command::matches;
 use crate::words::{Action, WordFault};
@@ -14,7 +14,11 @@ pub fn parse_words(alloc: Global, words: &[String]) -> Result<Action, WordFault>
     ensures action { IfOk result (λ a. asked (texts_of words.now) ≡ Some (request_of a)) }
     ensures workers { IfOk result IsInRange }
     ensures refused { IfErr result (λ fault. takes msgrun_app (texts_of words.now) ≡ true
-        → (fault ≡ WordFault.NoMemory) ⊎ IsRunOnNone (texts_of words.now)) }
+        → (fault ≡ WordFault.NoMemory)
+        ⊎ ((fault ≡ WordFault.Bad) × IsRunOnNone (texts_of words.now))) }
+
+    // Where `clap` refuses the words, the fault is the one that it finds in them.
+    ensures told { IfErr result (IsToldOf (fault_of msgrun_app (texts_of words.now))) }
 {
     let matches = matches(alloc, words)?;
     action_of(alloc, &matches)
@@ -25,7 +29,8 @@ fn action_of(alloc: Global, matches: &ArgMatches<'_>) -> Result<Action, WordFaul
         asked_by (subcommand_rows_of matches.now) ≡ Some (request_of action)) }
     ensures workers { IfOk result IsInRange }
     ensures refused { IfErr result (λ fault.
-        (fault ≡ WordFault.NoMemory) ⊎ (asked_by (subcommand_rows_of matches.now) ≡ None)) }
+        (fault ≡ WordFault.NoMemory)
+        ⊎ ((fault ≡ WordFault.Bad) × (asked_by (subcommand_rows_of matches.now) ≡ None))) }
 {
     let Some((name, inner)) = matches.subcommand() else {
         return Ok(Action::Buffer(None));
@@ -47,7 +52,8 @@ fn file_of(alloc: Global, inner: &ArgMatches<'_>) -> Result<String, WordFault>
     ensures text { IfOk result (λ file.
         first_of (codes "FILE") (rows_of (found_of inner.now)) ≡ Some (string_bytes file)) }
     ensures refused { IfErr result (λ e. (e ≡ WordFault.NoMemory)
-        ⊎ (first_of (codes "FILE") (rows_of (found_of inner.now)) ≡ None)) }
+        ⊎ ((e ≡ WordFault.Bad)
+        × (first_of (codes "FILE") (rows_of (found_of inner.now)) ≡ None))) }
 {
     match inner.get_str("FILE") {
         None => Err(WordFault::Bad),
@@ -63,7 +69,8 @@ fn workers_of(inner: &ArgMatches<'_>) -> Result<u32, WordFault>
     ensures number { IfOk result (λ n. workers_asked (rows_of (found_of inner.now)) ≡ Some n) }
     ensures some { IfOk result (λ n. 0 < n) }
     ensures at_most { IfOk result (λ n. n ≤ 64) }
-    ensures refused { IfErr result (λ e. workers_asked (rows_of (found_of inner.now)) ≡ None) }
+    ensures refused { IfErr result (λ e. (e ≡ WordFault.Bad)
+        × (workers_asked (rows_of (found_of inner.now)) ≡ None)) }
 {
     let Some(text) = inner.get_str("workers") else {
         return Err(WordFault::Bad);

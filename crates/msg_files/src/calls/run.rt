@@ -1,5 +1,5 @@
 // Calls made one after another, each line printed before the next call.
-ghost use Rattle.std.specs.Prelude.{◌≡◌, Err, OnOk, OnErr, length, true};
+ghost use Rattle.std.specs.Prelude.{◌≡◌, ◌⊎◌, Err, IfErr, OnOk, OnErr, length, true};
 ghost use Rattle.std.specs.Io.KnownBytes.{Appends};
 ghost use Rattle.msg_files.specs.CallsText.{State, after, calls_text, line};
 ghost use Rattle.msg_files.specs.Cursors.{has_cursor};
@@ -26,6 +26,8 @@ pub fn run_calls<S: Sink>(alloc: Global, calls: &Calls, sink: &mut S) -> Result<
     ensures write { result ≡ Err ReportFault.Write
         → S.failures sink.new ≡ one_more (S.failures sink.old) }
     ensures memory { result ≡ Err ReportFault.NoMemory → S.failures sink.new ≡ S.failures sink.old }
+    ensures faults { IfErr result
+        (λ fault. (fault ≡ ReportFault.Write) ⊎ (fault ≡ ReportFault.NoMemory)) }
 {
     let mut messages = Messages::new(alloc, u64::from(calls.limit()));
     let mut cursors = Vec::new(alloc);
@@ -59,6 +61,8 @@ fn run_call<S: Sink>(
     ensures write { result ≡ Err ReportFault.Write
         → S.failures sink.new ≡ one_more (S.failures sink.old) }
     ensures memory { result ≡ Err ReportFault.NoMemory → S.failures sink.new ≡ S.failures sink.old }
+    ensures faults { IfErr result
+        (λ fault. (fault ≡ ReportFault.Write) ⊎ (fault ≡ ReportFault.NoMemory)) }
 {
     text.clear();
     if answer(alloc, call, messages, cursors, text).is_err() {

@@ -1,8 +1,9 @@
-use Rattle.std.proofs.Common.{◌≡◌, ◌∙◌, ap, sym, inl, inr, true, false}
+use Rattle.std.proofs.Common.{◌≡◌, ◌∙◌, ap, sym, inl, inr, subst, true, false}
 use Rattle.std.specs.Prelude.{is_some}
 use Rattle.std.proofs.lemmas.Result.{IfErr-weaker}
-use Rattle.msg_command.specs.Asked.{asked_by}
-use Rattle.msg_command.specs.CommandLine.{texts_of}
+use Rattle.clap.specs.Words.{fault_of}
+use Rattle.msg_command.specs.Asked.{IsToldOf, asked_by}
+use Rattle.msg_command.specs.CommandLine.{msgrun_app, texts_of}
 use Rattle.msg_command.proofs.Taken.{takes_asks}
 use Rattle.msg_command.proofs.words.parse.parse_words.Goals as goal
 
@@ -13,10 +14,20 @@ returns-clause-refused c =
     IfErr-weaker c.action_of.result _ _
     (λ fault refused taken. elim refused [
       | inl is ↦ inl is
-      | inr none ↦ elim (takes_asks (texts_of c.args.words.now) taken) [
+      | inr bad ↦ elim (takes_asks (texts_of c.args.words.now) taken) [
         | inl some ↦
             let rows = c.in_ok-matches.ensures.rows in
-            let bad : false ≡ true = sym (ap is_some none) ∙ ap (λ o. is_some (asked_by o)) rows ∙ some in cc
-        | inr on_none ↦ inr on_none
+            let bad : false ≡ true = sym (ap is_some bad.1) ∙ ap (λ o. is_some (asked_by o)) rows ∙ some in cc
+        | inr on_none ↦ inr (bad.0, on_none)
       ]
+    ]) c.action_of.ensures.refused
+
+-- and clap found nothing in them
+pub returns-clause-told : goal.returns-clause-told
+returns-clause-told c =
+    let kinds = fault_of msgrun_app (texts_of c.args.words.now) in
+    IfErr-weaker c.action_of.result _ _
+    (λ fault refused. elim refused [
+      | inl is ↦ subst (IsToldOf kinds) (sym is) tt
+      | inr bad ↦ subst (IsToldOf kinds) (sym bad.0) (inl c.in_ok-matches.ensures.accepted)
     ]) c.action_of.ensures.refused

@@ -1,4 +1,4 @@
-use Rattle.std.proofs.Common.{◌∙◌, ap, codes, sym}
+use Rattle.std.proofs.Common.{◌∙◌, ap, codes, refl, sym}
 use Rattle.std.specs.Prelude.{option_and_then}
 use Rattle.msg_command.specs.Asked.{workers_in}
 use Rattle.msg_command.proofs.Getters.{first_value_rows}
@@ -10,6 +10,8 @@ returns-clause-number c =
     ∙ sym c.in-Some-workers_in.ensures.number
 
 pub returns-in_default-workers_in-clause-refused : goal.returns-in_default-workers_in-clause-refused
-returns-in_default-workers_in-clause-refused c =
-    ap (option_and_then workers_in) (first_value_rows c.args.inner.now (codes "workers") c.in-Some.text.now c.in-Some.ensures)
-    ∙ sym c.workers_in.ensures.number ∙ c.in_default-workers_in.is
+returns-in_default-workers_in-clause-refused c = (
+  refl,
+  ap (option_and_then workers_in) (first_value_rows c.args.inner.now (codes "workers") c.in-Some.text.now c.in-Some.ensures)
+      ∙ sym c.workers_in.ensures.number ∙ c.in_default-workers_in.is,
+)

@@ -2,7 +2,7 @@ use Rattle.std.proofs.Common.{◌≡◌, length}
 use Rattle.msg_exec.specs.Building.{EachIs}
 use Rattle.msg_scenario.specs.Making.{IsSystemAt}
 use Rattle.msg_report_tests.specs.contracts.sparing.SparingSystem.TheImpl.{meaning-value}
-use Rattle.msg_report_tests.proofs.sparing.sparing_engine.Given as goal
+use Rattle.msg_report_tests.proofs.sparing.sparing_systems.Given as goal
 
 abbrev pub invariant-loop-spec : goal.invariant-loop-spec
 invariant-loop-spec l = record {

@@ -1,0 +1,32 @@
+-- How what clap finds in words is told.
+use Rattle.std.proofs.Common.{◌≡◌, ◌≢◌, ◌⊎◌, inl, inr, refl, ap, subst, ◌∙◌, List, true}
+use Rattle.clap.specs.Words.{App, HasKind, IsAmong, Kinds, Text, fault_of, is_simple_and_free}
+use Rattle.clap.specs.declared.error.Error.{Error}
+use Rattle.clap.proofs.OnLiterals.{clap_on_literals}
+use Rattle.msg_command.specs.CommandLine.{msgrun_app}
+use Rattle.clap.specs.declared.error.ErrorKind.{ErrorKind}
+use Rattle.clap.specs.declared.error.ErrorKind.TheVariants as kind
+use Rattle.msg_command.specs.Asked.{IsToldOf}
+use Rattle.msg_command.specs.Telling.{IsHelp}
+use Rattle.msg_command.specs.declared.words.WordFault.{WordFault}
+use Rattle.msg_command.specs.declared.words.WordFault.TheVariants as word
+
+-- an error of one of these kinds, or of want of memory, is told as such
+pub told_of : (k : ErrorKind) (kinds : Kinds) (fault : WordFault) → (k ≡ kind.OutOfMemory → fault ≡ word.NoMemory)
+    → (IsHelp fault → k ≡ kind.DisplayHelp) → (fault ≡ word.Bad → k ≢ kind.DisplayHelp)
+    → (k ≡ kind.OutOfMemory) ⊎ IsAmong k kinds → IsToldOf kinds fault
+told_of k kinds word.NoMemory memory help bad found = tt
+told_of k kinds (word.Help text) memory help bad (inl none) = let no = memory none in cc
+told_of k kinds (word.Help text) memory help bad (inr among) = subst (λ x. IsAmong x kinds) (help tt) among
+told_of k kinds word.Bad memory help bad (inl none) = let no = memory none in cc
+told_of k kinds word.Bad memory help bad (inr among) = inr (k, among, bad refl)
+
+-- of this command clap says which errors may come
+plain : is_simple_and_free msgrun_app ≡ true
+unfolding clap_on_literals
+plain = refl
+
+pub found_in : (app : App) (words : List Text) (e : Error) → app ≡ msgrun_app
+    → (is_simple_and_free app ≡ true → HasKind (fault_of app words) e) → HasKind (fault_of msgrun_app words) e
+found_in app words e is kinds =
+    subst (λ a. HasKind (fault_of a words) e) is (kinds (ap is_simple_and_free is ∙ plain))
