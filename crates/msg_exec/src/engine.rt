@@ -136,7 +136,7 @@ impl<S: System> EngineOf<S> {
         ensures ran { IfOk result (λ log. (s : State) → StandsFor S.meaning self.old s
             → HasRunFrame S.meaning frame.now s log self.new) }
 
-        // Before each turn one of the workers called the gate for its system.
+        // For each turn one of the workers called the gate, with its own number and the system's.
         ensures told { IfOk result (λ log. All (IsTold (G.told gate.now) (number_of workers))
             (systems_in log)) }
         ensures counted { OnOk result

@@ -27,7 +27,8 @@ fn take_level<A: Allocator + Copy>(
     let mut next = SystemSet::empty();
     for i in 0..before.len() {
         if left.contains(i) {
-            if before[i].meets(left) {
+            let is_blocked = before[i].meets(left);
+            if is_blocked {
                 next.insert(i);
             } else {
                 batch.push(i as u32)?;

@@ -197,6 +197,7 @@ module _ {X : Type 0} (meaning : X → Meaning) where
             counted = just.stands.frames ∙ ap (λ n. min n (2 ^ 32 - 1)) (just.frames ∙ sym length_is);
             printed = AppendsPrefix_after before now after first here rest.0 _
                 (rest.1 ∙ ap (λ l. l ++ rest.0) just.next) just.printed part;
+            last = inl (AppendsPrefix_after before now after first here [] _ (just.next ∙ sym (append-nil (first ++ here))) just.printed part);
             earlier = (
               part.0,
               subst (λ l. Appends before after (frames_text s 1 s.frames l ++ part.0)) (sym earlier)
@@ -277,6 +278,7 @@ module _ {X : Type 0} (meaning : X → Meaning) where
             printed = AppendsPrefix_after before now after first lines [] _
                 (text_so_far_whole s far.logs (accounts_of far.state) (many ∙ all) ∙ sym (append-nil (first ++ lines)))
                 far.printed part;
+            last = inr (many ∙ all, (part.0, Appends-trans before now after first part.0 far.printed part.3));
             earlier = (
               front.0 ++ part.0,
               subst (Appends before after)

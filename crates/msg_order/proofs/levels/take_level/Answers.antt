@@ -5,7 +5,7 @@ use Rattle.msg_order.specs.Paths.{set_at, is_ready}
 use Rattle.msg_order.proofs.Lists.{filter_takes, filter_passes}
 use Rattle.msg_order.proofs.Words.{told_with, told_without, empty_with}
 use Rattle.msg_order.proofs.levels.take_level.Goals as goal
-use Rattle.msg_order.proofs.levels.take_level.Goals.{then-contains+then-meets, then-contains+else-meets+in_ok-push, else-contains}
+use Rattle.msg_order.proofs.levels.take_level.Goals.{then-contains+then-is_blocked, then-contains+else-is_blocked+in_ok-push, else-contains}
 
 pub loop-i-preserved : goal.loop-i-preserved
 loop-i-preserved _g c =
@@ -16,17 +16,17 @@ loop-i-preserved _g c =
     let next : ℕ → Bool = λ k. left k && blocked k in
     let old = c.loop-i.invariant in
     elim c.if-contains.branch [
-      | then-contains+then-meets w ↦
+      | then-contains+then-is_blocked w ↦
           let l : left i ≡ true = sym c.contains.ensures ∙ w.if-contains.true in
-          let b : blocked i ≡ true = sym w.meets.ensures ∙ w.if-meets.true in
+          let b : blocked i ≡ true = sym w.meets-is_blocked.ensures ∙ w.if-is_blocked.true in
           record {
             batch = rw w.batch-is (filter_passes ready i c.loop-i.batch.items old.batch (and_right (left i) (not (blocked i)) (not_from_true (blocked i) b)));
             next = rw w.next-is (told_with (has c.loop-i.next) (has w.insert.new.self) next i w.insert.ensures old.next (and_from (left i) (blocked i) l b));
             above = rw w.next-is (empty_with (has c.loop-i.next) (has w.insert.new.self) i w.insert.ensures old.above);
           }
-      | then-contains+else-meets+in_ok-push w ↦
+      | then-contains+else-is_blocked+in_ok-push w ↦
           let l : left i ≡ true = sym c.contains.ensures ∙ w.if-contains.true in
-          let b : blocked i ≡ false = sym w.meets.ensures ∙ w.if-meets.false in
+          let b : blocked i ≡ false = sym w.meets-is_blocked.ensures ∙ w.if-is_blocked.false in
           record {
             batch = rw (w.batch-is, w.in_ok-push.ensures.items) (filter_takes ready i c.loop-i.batch.items old.batch (and_from (left i) (not (blocked i)) l (not_from_false (blocked i) b)));
             next = rw w.next-is (told_without (has c.loop-i.next) next i old.next old.above (and_right (left i) (blocked i) b));
