@@ -9,7 +9,7 @@ use crate::{Access, Condition};
 pub fn job_access(program: &Access, conditions: &[Condition]) -> Access
     ensures union { IsAccessOf (with_conditions (needs_of program.now) conditions.now) result }
 
-    // So it is what a job of these needs, where `program` is what its program needs.
+    // So it is what a job with these ops needs, where `program` is what the ops need.
     ensures needs { (ops : List Op) → IsAccessOf (program_needs ops) program.now
         → IsAccessOf (job_needs ops conditions.now) result }
 {
