@@ -46,18 +46,6 @@ fn starts_in_a_world_with_a_message(rt: HostRuntime) -> Result<(), Fail> {
 }
 
 #[test]
-fn cycles(rt: HostRuntime) -> Result<(), Fail> {
-    let (alloc, t) = (rt.alloc(), type_no(&rt, 0));
-    let ops = [Op::Read(t, None), Op::Read(t, None)];
-    let there_and_back = [Rule::before(0, 1), Rule::before(1, 0)];
-    let refused = engine_of(&rt, alloc, &[10], &ops, &there_and_back)?;
-    assert!(rt; matches!(refused, Err(BuildRefusal::Cycle(0))));
-    let refused = engine_of(&rt, alloc, &[10], &ops, &[Rule::before(1, 1)])?;
-    assert!(rt; matches!(refused, Err(BuildRefusal::Cycle(1))));
-    Ok(())
-}
-
-#[test]
 fn clash_before_cycle(rt: HostRuntime) -> Result<(), Fail> {
     let (alloc, t) = (rt.alloc(), type_no(&rt, 0));
     let itself = vec![in alloc; Rule::before(0, 0)]?;
