@@ -19,7 +19,8 @@ pub fn messages_outlive_one_update<M>()
     ensures outlive { OutliveOneUpdate M }
 {}
 
-/// The reads and clears of one reader tile its history: each fits the place that the one before it led to.
+/// The reads and clears of one reader tile its history: each fits the place that the one before it
+/// led to.
 pub fn readers_tile<M>()
     ensures reads { ReadsFit M }
     ensures up_to { ReadsUpTo M }

@@ -1,7 +1,7 @@
 use msg_world::TypeNo;
 
-/// What a reader, a system and a type that its program reads, was given since it joined. The start and
-/// the three sums add up to its place.
+/// What a reader, a system and a type that its program reads, was given since it joined. The start
+/// and the three sums add up to its place.
 #[derive(Clone, Copy, Debug, PartialEq, Eq)]
 pub struct Account {
     pub system: u32,

@@ -101,8 +101,8 @@ impl<S: System> EngineOf<S> {
     ghost use Rattle.msg_exec.specs.Accounts.{AddsUp};
     ghost use Rattle.msg_exec.specs.Engines.{IsEngine, IsSpoiled, StandsFor};
 
-    /// What each reader was given: for each system, by number, and each type that its program reads,
-    /// by number.
+    /// What each reader was given: for each system, by number, and each type that its program
+    /// reads, by number.
     ///
     /// # Errors
     ///

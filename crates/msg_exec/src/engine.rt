@@ -46,8 +46,8 @@ impl<S: System> EngineOf<S> {
     ghost use Rattle.msg_exec.specs.Work.{IsTold};
     ghost use Rattle.msg_exec.specs.Workers.{number_of};
 
-    /// An engine with no frame run. The systems go by number, in order of addition, and each has its
-    /// place; those of join 1 have joined, and start at 0 or at the counts of this moment.
+    /// An engine with no frame run. The systems go by number, in order of addition, and each has
+    /// its place; those of join 1 have joined, and start at 0 or at the counts of this moment.
     ///
     /// # Errors
     ///
@@ -115,8 +115,8 @@ impl<S: System> EngineOf<S> {
         self.frames = self.frames.saturating_add(1);
     }
 
-    /// Runs one frame: those that join do so, the types are updated, the host's posts are written, and
-    /// all that have joined take their turns.
+    /// Runs one frame: those that join do so, the types are updated, the host's posts are written,
+    /// and all that have joined take their turns.
     ///
     /// # Errors
     ///
@@ -131,8 +131,8 @@ impl<S: System> EngineOf<S> {
         requires engine { IsEngine S.meaning self.old }
         requires posts { PostsFit self.old frame.now }
 
-        // Whatever the workers and the gate: the log is that of one thread, and each reader's reads and
-        // clears tile.
+        // Whatever the workers and the gate: the log is that of one thread, and each reader's reads
+        // and clears tile.
         ensures ran { IfOk result (λ log. (s : State) → StandsFor S.meaning self.old s
             → HasRunFrame S.meaning frame.now s log self.new) }
 
@@ -164,7 +164,8 @@ impl<S: System> EngineOf<S> {
     ///
     /// # Errors
     ///
-    /// As for `run_frame`. After `NoMemory` the logs of the frames that were run before stand in `out`.
+    /// As for `run_frame`. After `NoMemory` the logs of the frames that were run before stand in
+    /// `out`.
     pub fn run_frames<R: Threads + Sync, G: Gate>(
         &mut self,
         rt: &R,
@@ -176,8 +177,8 @@ impl<S: System> EngineOf<S> {
         requires engine { IsEngine S.meaning self.old }
         requires posts { All (PostsFit self.old) frames.now }
 
-        // Whatever the workers and the gate: the logs are those of one thread over lists of messages
-        // that only grow, and each reader's reads and clears tile.
+        // Whatever the workers and the gate: the logs are those of one thread over lists of
+        // messages that only grow, and each reader's reads and clears tile.
         ensures ran { OnOk result ((s : State) → StandsFor S.meaning self.old s
             → HasRunFrames S.meaning frames.now s out.old.items out.new.items self.new) }
         ensures spoiled { (result ≡ Err Spoiled) ↔ IsSpoiled self.old }
@@ -205,8 +206,8 @@ impl<S: System> EngineOf<S> {
         Ok(())
     }
 
-    /// Runs one frame on the calling thread, in an order that the caller gives; the log has the turns in
-    /// that order. It counts like any other frame.
+    /// Runs one frame on the calling thread, in an order that the caller gives; the log has the
+    /// turns in that order. It counts like any other frame.
     ///
     /// # Errors
     ///
@@ -217,8 +218,8 @@ impl<S: System> EngineOf<S> {
         requires engine { IsEngine S.meaning self.old }
         requires posts { PostsFit self.old frame.now }
 
-        // The order is lawful; the log has the frame's posts and each system's turn as it came out in the
-        // frame, and the engine stands for the state that the frame leaves.
+        // The order is lawful; the log has the frame's posts and each system's turn as it came out
+        // in the frame, and the engine stands for the state that the frame leaves.
         ensures replayed { IfOk result (λ log. (s : State) → StandsFor S.meaning self.old s
             → HasReplayed S.meaning frame.now order.now s log self.new) }
         ensures counted { OnOk result

@@ -66,8 +66,8 @@ pub(crate) fn plan_by(
     }
 }
 
-/// The number of the next frame and its plan, where some join with it. Where nobody does there is none,
-/// and the plan stays.
+/// The number of the next frame and its plan, where some join with it. Where nobody does there is
+/// none, and the plan stays.
 pub(crate) fn next_plan<S: System>(
     alloc: Global,
     core: &Core<S>,

@@ -1,6 +1,7 @@
 ghost use Rattle.std.specs.Prelude.{ℕ, ⊤};
 
-/// What a worker passes just before it runs a system's job: a place to count, to trace, or to hold it.
+/// What a worker passes just before it runs a system's job: a place to count, to trace, or to hold
+/// it.
 pub trait Gate: Sync {
     // What follows from its call for this worker and this system. By default that is nothing.
     ghost told: { Self → ℕ → ℕ → Type 0 } = { λ gate worker system. ⊤ };

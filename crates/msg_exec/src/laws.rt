@@ -1,4 +1,5 @@
-//! Laws: facts that hold of all systems' turns and of frames. A call of one puts it among the facts that are known there.
+//! Laws: facts that hold of all systems' turns and of frames. A call of one puts it among the facts
+//! that are known there.
 ghost use Rattle.msg_exec.specs.TurnLaws.{
   BatchesRunSideBySide,
   FramesAgreeInLawfulOrders,
@@ -25,7 +26,8 @@ use msg_order::laws::{
 use msg_system::nothing_else_is_used;
 use msg_world::Record;
 
-/// Turns keep the systems: their programs, conditions and rules. Only places, accounts and the world change.
+/// Turns keep the systems: their programs, conditions and rules. Only places, accounts and the
+/// world change.
 pub fn turns_keep_programs()
     ensures law { TurnsKeepPrograms }
 {}
@@ -64,7 +66,8 @@ pub fn frames_run_by_batches()
     nothing_else_is_used();
 }
 
-/// Two lawful orders of the same turns leave the same state, and each system's turn comes out alike.
+/// Two lawful orders of the same turns leave the same state, and each system's turn comes out
+/// alike.
 pub fn lawful_orders_agree()
     ensures law { LawfulOrdersAgree }
 {
@@ -96,8 +99,8 @@ pub fn runs_are_unique()
     turn_order_is_unique();
 }
 
-/// Where the rules make no cycle, there is a frame, and a run of any frames. So with `runs_are_unique`
-/// there is exactly one.
+/// Where the rules make no cycle, there is a frame, and a run of any frames. So with
+/// `runs_are_unique` there is exactly one.
 pub fn runs_exist()
     ensures frame { FramesExist }
     ensures run { RunsExist }

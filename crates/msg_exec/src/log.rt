@@ -1,8 +1,8 @@
 use crate::Items;
 use msg_system::Reply;
 
-/// What came of a system's turn: nothing, where one of its conditions didn't hold, or its replies, one
-/// for each op.
+/// What came of a system's turn: nothing, where one of its conditions didn't hold, or its replies,
+/// one for each op.
 #[derive(Debug, Drop)]
 pub enum Outcome {
     Skipped,

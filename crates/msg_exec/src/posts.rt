@@ -32,7 +32,8 @@ fn post(world: &mut World, t: TypeNo, value: i64) -> Result<Reply, NoMemory>
     }
 }
 
-/// Writes the posts in order, and says what they were answered, where there is room for the answers.
+/// Writes the posts in order, and says what they were answered, where there is room for the
+/// answers.
 pub(crate) fn post_all(
     world: &mut World,
     posts: &[(TypeNo, i64)],

@@ -27,8 +27,8 @@ pub fn first_states_are_sound()
     ensures law { FirstIsSound }
 {}
 
-/// What each reader was given over a run tiles its history: from its place, or from its start where it
-/// joined in the run, to the place where it stands at the end.
+/// What each reader was given over a run tiles its history: from its place, or from its start where
+/// it joined in the run, to the place where it stands at the end.
 pub fn readers_tile()
     ensures law { ReadersTile }
 {
@@ -45,8 +45,8 @@ pub fn replays_tile()
     turn_order_is_lawful();
 }
 
-/// A reader's totals are those that a run found it with and what the logs tell of it since, and they
-/// lead to its place. One that hasn't joined has none.
+/// A reader's totals are those that a run found it with and what the logs tell of it since, and
+/// they lead to its place. One that hasn't joined has none.
 pub fn accounts_add_up()
     ensures law { AccountsAddUp }
     ensures balance { AccountsBalance }
@@ -55,9 +55,9 @@ pub fn accounts_add_up()
     buffer_laws();
 }
 
-/// Each message from where a run found a reader to where it stands at the end is given to it exactly
-/// once, in order of writing, except those that it cleared itself and those dropped unread, which the
-/// missed counts of its reads and clears add up to exactly.
+/// Each message from where a run found a reader to where it stands at the end is given to it
+/// exactly once, in order of writing, except those that it cleared itself and those dropped unread,
+/// which the missed counts of its reads and clears add up to exactly.
 pub fn every_message_is_given_once()
     ensures law { EveryMessageIsGivenOnce }
 {

@@ -1,5 +1,6 @@
-//! Calls files: reading them, making their calls, and putting the answers into a sink; and what scenario files are read
-//! and reported with: the refusals of files, numbers of JSON values, texts of numbers, sinks.
+//! Calls files: reading them, making their calls, and putting the answers into a sink; and what
+//! scenario files are read and reported with: the refusals of files, numbers of JSON values, texts
+//! of numbers, sinks.
 #![tactic(auto)]
 
 mod call;

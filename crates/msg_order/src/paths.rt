@@ -83,8 +83,8 @@ fn later_conflicts(accesses: &[Access], joined: &[bool], i: usize, before: &Syst
     later
 }
 
-/// Takes the pairs of systems in conflict. What becomes of the pairs (i, j) is known before any of them
-/// adds an edge: an edge from i makes no new path to i.
+/// Takes the pairs of systems in conflict. What becomes of the pairs (i, j) is known before any of
+/// them adds an edge: an edge from i makes no new path to i.
 fn settle_pairs(before: &mut [SystemSet], accesses: &[Access], joined: &[bool])
     requires few { length before.old ≤ 256 }
     requires one_each { length joined.now ≡ length before.old }

@@ -13,7 +13,8 @@ use msg_world::Access;
 use std::alloc::{AllocError, Allocator, Global};
 use std::marker::Model;
 
-/// In which order systems run: batches one after the other, and the systems of a batch side by side.
+/// In which order systems run: batches one after the other, and the systems of a batch side by
+/// side.
 #[derive(Debug, Drop)]
 pub struct Plan<A: Allocator = Global> {
     before: Vec<SystemSet, A>,
@@ -86,11 +87,12 @@ fn plan_over<A: Allocator + Copy>(
 }
 
 impl<A: Allocator + Copy> Plan<A> {
-    /// Settles the order of the joined systems, given by their accesses and by rules, and parts them
-    /// into batches.
+    /// Settles the order of the joined systems, given by their accesses and by rules, and parts
+    /// them into batches.
     ///
-    /// Conflicting systems run by order of addition where the rules, and the pairs that were settled
-    /// before, leave that open. A rule or a conflict with a system that hasn't joined has no effect.
+    /// Conflicting systems run by order of addition where the rules, and the pairs that were
+    /// settled before, leave that open. A rule or a conflict with a system that hasn't joined has
+    /// no effect.
     ///
     /// # Errors
     ///
@@ -126,16 +128,16 @@ impl<A: Allocator> Plan<A> {
     ghost use Rattle.msg_order.specs.Order.{IsLawfulOrder};
     ghost use Rattle.msg_order.specs.Plan.{IsPlanOf};
 
-    /// The systems batch by batch, each batch by order of addition. All systems of a batch end before
-    /// the next batch begins.
+    /// The systems batch by batch, each batch by order of addition. All systems of a batch end
+    /// before the next batch begins.
     pub fn batches(&self) -> &[Vec<u32, A>]
         ensures items { map (λ batch. batch.items) result.now ≡ self.now.batches }
     {
         &self.batches
     }
 
-    /// Whether `later` must wait for `earlier`: a path of the settled order leads there. False for a
-    /// number that is no joined system's.
+    /// Whether `later` must wait for `earlier`: a path of the settled order leads there. False for
+    /// a number that is no joined system's.
     pub fn precedes(&self, earlier: u32, later: u32) -> bool
         ensures edge { IsTrue result ↔ IsEdge self.now.precedes earlier later }
     {

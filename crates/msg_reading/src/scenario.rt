@@ -16,8 +16,8 @@ pub struct SystemSpec {
     pub place: Place,
 }
 
-/// A world, the systems over it, and the frames to be run. Types, resources and systems are numbered by
-/// their place here.
+/// A world, the systems over it, and the frames to be run. Types, resources and systems are
+/// numbered by their place here.
 #[derive(Debug, Drop)]
 pub struct Scenario {
     /// Each message type's name, and the greatest number of messages that may ever be written.

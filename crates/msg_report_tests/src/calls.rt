@@ -20,8 +20,9 @@ fn expect_text(rt: &impl Abort, alloc: Global, file: &str, text: &str) {
     assert!(rt; sink.bytes() == text.as_bytes(), "{file}");
 }
 
-/// A file and its text: a clear past dropped messages; a cleared buffer; cursors and queries; a drain of both
-/// halves; items left unread; the last number; two updates, which drop; small limits; limited reads.
+/// A file and its text: a clear past dropped messages; a cleared buffer; cursors and queries; a
+/// drain of both halves; items left unread; the last number; two updates, which drop; small limits;
+/// limited reads.
 const WORKED: [(&str, &str); 12] = [
     (
         r#"{"limit":10,"calls":[["write",1],["update"],["write",2],["update"],["clear",0],["read",0]]}"#,

@@ -3,8 +3,8 @@ use crate::texts::joined;
 use msg_scenario::{Refusal, read_scenario};
 use std::test::Fail;
 
-/// A list of a file: what stands before its second item, each further item, the greatest length, what
-/// stands behind it, and how a file of that length is refused.
+/// A list of a file: what stands before its second item, each further item, the greatest length,
+/// what stands behind it, and how a file of that length is refused.
 type List<'a> = (&'a str, &'a str, usize, &'a str, Option<Refusal>);
 
 const LISTS: [List<'static>; 9] = [

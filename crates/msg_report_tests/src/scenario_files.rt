@@ -202,8 +202,9 @@ fn systems(rt: HostRuntime) -> Result<(), Fail> {
     Ok(())
 }
 
-/// Texts of pieces, each so many times, that are refused: a long name; many types; many systems; a long batch
-/// whose first value is no whole number; sixteen `not`s, which are read; seventeen; a deep list.
+/// Texts of pieces, each so many times, that are refused: a long name; many types; many systems; a
+/// long batch whose first value is no whole number; sixteen `not`s, which are read; seventeen; a
+/// deep list.
 const LONG: [(&[(&str, usize)], Refusal); 7] = [
     (
         &[

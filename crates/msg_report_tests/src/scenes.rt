@@ -1,4 +1,5 @@
-// Scenarios from their systems to their report: readers side by side, systems without memory, sinks that fail.
+// Scenarios from their systems to their report: readers side by side, systems without memory, sinks
+// that fail.
 use crate::narrow::Narrow;
 use crate::reports::HoldGate;
 use crate::sparing::{sparing_systems, workers};

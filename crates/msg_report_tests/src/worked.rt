@@ -20,10 +20,11 @@ fn expect_report<R: Abort + AllocGlobal + Threads + Sync>(rt: &R, file: &str, re
     }
 }
 
-/// A file and its report. What each is about: all conditions are asked; a condition goes past what it saw;
-/// rules against the order of adding; a drain between readers; messages outlive one update; a forward at the
-/// limit; held updates; the host and two writers; systems that join late; and that never join; no frames; no
-/// systems; one frame's lag; a read of none; a sum that stays in its range; several signals.
+/// A file and its report. What each is about: all conditions are asked; a condition goes past what
+/// it saw; rules against the order of adding; a drain between readers; messages outlive one update;
+/// a forward at the limit; held updates; the host and two writers; systems that join late; and that
+/// never join; no frames; no systems; one frame's lag; a read of none; a sum that stays in its
+/// range; several signals.
 const WORKED: [(&str, &str); 16] = [
     (
         r#"{"types":[["hit",9]],"resources":[["k",0]],"systems":[{"name":"q","if":[["resource_equals","k",1],["on_message","hit"]],"ops":[["len","hit"]]},{"name":"z","ops":[["set","k",1]]}],"frames":[[["hit",1]],[],[["hit",2]]]}"#,

@@ -72,9 +72,9 @@ fn rules_of(alloc: Global, scenario: &Scenario) -> Result<Vec<Rule>, NoMemory>
     Vec::from_slice(alloc, scenario.rules.as_slice())
 }
 
-/// Makes the engine that `report` runs, of a scenario and of its systems, which the caller put into boxes
-/// of its choice: system i means the program of the scenario's system i, and writes as number i. What was
-/// read of a file makes no cycle and no clash, so it fails for want of memory alone.
+/// Makes the engine that `report` runs, of a scenario and of its systems, which the caller put into
+/// boxes of its choice: system i means the program of the scenario's system i, and writes as number
+/// i. What was read of a file makes no cycle and no clash, so it fails for want of memory alone.
 pub fn engine_of<S: System>(
     alloc: Global,
     scenario: &Scenario,

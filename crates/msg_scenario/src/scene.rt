@@ -17,7 +17,8 @@ use msg_system::System;
 use std::alloc::Global;
 use std::thread::Threads;
 
-/// Makes the engine of a scenario of its systems, as `engine_of` does, and reports the scenario by it, as
+/// Makes the engine of a scenario of its systems, as `engine_of` does, and reports the scenario by
+/// it, as
 /// `report` does.
 ///
 /// # Errors

@@ -2,8 +2,8 @@
 ghost use Rattle.msg_system.specs.Footprints.{ConditionFootprint, JobFootprint, OpFootprint, ProgramFootprint};
 ghost use Rattle.msg_system.specs.Systems.{CompleteCovers, JobsCover, WrittenIsAll};
 
-/// What is done depends on no part but those that are needed, and changes no part but those that are
-/// written.
+/// What is done depends on no part but those that are needed, and changes no part but those that
+/// are written.
 pub fn nothing_else_is_used()
     ensures ops { OpFootprint }
     ensures programs { ProgramFootprint }

@@ -1,5 +1,6 @@
-//! Tests of engines and of the crates below them, by public contracts alone. They show what no clause says: that calls succeed
-//! while memory is there, what follows where it isn't, texts, threads, and that the definitions are meant as they are.
+//! Tests of engines and of the crates below them, by public contracts alone. They show what no
+//! clause says: that calls succeed while memory is there, what follows where it isn't, texts,
+//! threads, and that the definitions are meant as they are.
 #![tactic(auto)]
 
 #[cfg(test)]

@@ -105,7 +105,8 @@ impl Access {
         masks::has(self.write_res, r.number())
     }
 
-    /// Whether one of them writes a part that the other uses, so that their jobs can't run side by side.
+    /// Whether one of them writes a part that the other uses, so that their jobs can't run side by
+    /// side.
     pub fn conflicts(&self, other: &Access) -> bool
         ensures conflict { IsTrue result ↔ Conflict self.now other.now }
     {

@@ -9,8 +9,8 @@ pub fn lent_parts_are_a_loan()
     ensures loan { LentIsLoan }
 {}
 
-/// What is written by `Lent::writer` and `Lent::res_mut` is written in the world that the loan stands
-/// for, and leaves it the same loan.
+/// What is written by `Lent::writer` and `Lent::res_mut` is written in the world that the loan
+/// stands for, and leaves it the same loan.
 pub fn writes_stand()
     ensures messages { WritesStand }
     ensures values { ValuesStand }

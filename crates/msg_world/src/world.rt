@@ -183,7 +183,8 @@ impl World {
         self.marks = Some(marks.spent());
     }
 
-    /// Holds the world: its updates wait for a signal from now on. A signal that wasn't spent is lost.
+    /// Holds the world: its updates wait for a signal from now on. A signal that wasn't spent is
+    /// lost.
     pub fn set_held(&mut self)
         requires whole { IsWhole self.old }
         ensures meaning { (s : WorldState) → PartsStand self.old s → PartsStand self.new (held s) }

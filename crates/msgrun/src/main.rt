@@ -1,5 +1,6 @@
-//! Runs a scenario file, and reports what its systems were answered and what each reader got, missed
-//! and cleared; or answers a calls file: the calls of one message buffer and its cursors, a line for each.
+//! Runs a scenario file, and reports what its systems were answered and what each reader got,
+//! missed and cleared; or answers a calls file: the calls of one message buffer and its cursors, a
+//! line for each.
 //!
 //! `msgrun run FILE --workers N` runs a scenario, `msgrun buffer FILE` answers calls, and `msgrun`
 //! alone those of standard input.
@@ -94,7 +95,8 @@ fn bytes_of<R: AllocGlobal + Files + Input>(
     }
 }
 
-/// Prints help where the words ask for it, else the line of the fault that ended it, and gives the status.
+/// Prints help where the words ask for it, else the line of the fault that ended it, and gives the
+/// status.
 fn end<O: Print, E: Print>(output: &O, errors: &E, ended: &Result<(), MainFault>) -> u8
     ensures status { result ≡ status_after ended.now }
 {

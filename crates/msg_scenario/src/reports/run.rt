@@ -15,8 +15,8 @@ use msg_system::System;
 use std::alloc::Global;
 use std::thread::Threads;
 
-/// Runs the frames of a scenario, and puts the text of each before it runs the next; and then a line
-/// for each reader. The engine is one of the scenario, which has run no frame.
+/// Runs the frames of a scenario, and puts the text of each before it runs the next; and then a
+/// line for each reader. The engine is one of the scenario, which has run no frame.
 ///
 /// # Errors
 ///

@@ -65,8 +65,8 @@ fn expect_successors(rt: &impl Abort, results: &[Counted]) {
     assert_eq!(rt; (first.value, second.value, third.value), (11, 21, 31));
 }
 
-/// Works off a board of three jobs, and says whether there was no memory for the board or for its results. The
-/// counts are of the dropped jobs and of the dropped results.
+/// Works off a board of three jobs, and says whether there was no memory for the board or for its
+/// results. The counts are of the dropped jobs and of the dropped results.
 fn is_refused(
     rt: &impl Abort,
     alloc: Global,

@@ -52,8 +52,8 @@ impl Gate for Gathering {
     }
 }
 
-/// As many readers as workers: each job but one waits in the gate until all were called for, so each
-/// worker has a thread of its own.
+/// As many readers as workers: each job but one waits in the gate until all were called for, so
+/// each worker has a thread of its own.
 #[test]
 fn each_worker_has_a_thread(rt: HostRuntime) -> Result<(), Fail> {
     let (alloc, t) = (rt.alloc(), type_no(&rt, 0));
