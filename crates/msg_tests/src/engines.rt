@@ -1,6 +1,7 @@
 // Tests of engines: that their calls succeed, how many threads run a batch, what stands after
 // want of memory, and that a frame is meant as it is defined.
 mod cases;
+mod crews;
 mod expecting;
 mod frames;
 mod gates;
@@ -8,5 +9,6 @@ mod making;
 mod new_engines;
 mod noting;
 mod out_of_memory;
+mod posting;
 mod replay;
 mod spoiled;
