@@ -60,6 +60,7 @@ impl Sink for MemorySink {
         ensures counts { self.new.failures ≡ failures_after self.old.failures result piece.now }
         ensures takes { length self.old.contents < ROOM
             → result ≡ Ok (min (length piece.now) (ROOM - length self.old.contents)) }
+        ensures nothing { piece.now ≡ [] → result ≡ Ok 0 }
         ensures full { length self.old.contents ≡ ROOM → 0 < length piece.now → IsErr result }
     {
         if piece.is_empty() {

@@ -141,7 +141,7 @@ fn one_name_of_a_type_and_a_resource(rt: HostRuntime) {
 }
 
 /// Systems that make a file refused.
-const SYSTEMS: [(&str, Refusal); 20] = [
+const SYSTEMS: [(&str, Refusal); 26] = [
     (r#"{"name":"A","ops":[],"y":0}"#, Refusal::UnknownKey),
     (r#"{"name":"a"}"#, Refusal::Shape),
     (r#"{"name":"é","ops":[]}"#, Refusal::BadName),
@@ -160,6 +160,24 @@ const SYSTEMS: [(&str, Refusal); 20] = [
     ),
     (r#"{"name":"a","ops":[["walk","hit"]]}"#, Refusal::Shape),
     (r#"{"name":"a","ops":[["signal",1]]}"#, Refusal::Shape),
+    (
+        r#"{"name":"a","ops":[["write","hit",1,2]]}"#,
+        Refusal::Shape,
+    ),
+    (r#"{"name":"a","ops":[["walk"]]}"#, Refusal::Shape),
+    (r#"{"name":"a","ops":[["walk","hit",1]]}"#, Refusal::Shape),
+    (
+        r#"{"name":"a","ops":[],"if":[["on_message","hit",1,2]]}"#,
+        Refusal::Shape,
+    ),
+    (
+        r#"{"name":"a","ops":[],"if":[["walk","hit"]]}"#,
+        Refusal::Shape,
+    ),
+    (
+        r#"{"name":"a","ops":[],"if":[["walk","k",1]]}"#,
+        Refusal::Shape,
+    ),
     (
         r#"{"name":"a","kind":"relay","ops":[["read","hit"]]}"#,
         Refusal::Shape,
@@ -205,7 +223,7 @@ fn systems(rt: HostRuntime) -> Result<(), Fail> {
 /// Texts of pieces, each so many times, that are refused: a long name; many types; many systems; a
 /// long batch whose first value is no whole number; sixteen `not`s, which are read; seventeen; a
 /// deep list.
-const LONG: [(&[(&str, usize)], Refusal); 7] = [
+const LONG: [(&[(&str, usize)], Refusal); 8] = [
     (
         &[
             (r#"{"types":[[""#, 1),
@@ -256,6 +274,16 @@ const LONG: [(&[(&str, usize)], Refusal); 7] = [
             (r#"{"types":[],"systems":[{"name":"a","ops":[],"if":["#, 1),
             (r#"["not","#, 17),
             (r#"["on_message","hat"]"#, 1),
+            ("]", 17),
+            (r#"]}],"frames":[]}"#, 1),
+        ],
+        Refusal::TooMany,
+    ),
+    (
+        &[
+            (r#"{"types":[],"systems":[{"name":"a","ops":[],"if":["#, 1),
+            (r#"["not","#, 17),
+            (r#"["resource_equals","k",1]"#, 1),
             ("]", 17),
             (r#"]}],"frames":[]}"#, 1),
         ],

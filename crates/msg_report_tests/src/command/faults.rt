@@ -1,6 +1,6 @@
 // The line and the status of each fault, and the text that it shows itself as.
 use msg_command::{InputFault, MainFault, WordFault, print_fault};
-use msg_files::{MemorySink, Refusal, ReportFault, RunFault};
+use msg_files::{MemorySink, PutFault, Refusal, ReportFault, RunFault};
 use std::process::Abort;
 use std::test::Fail;
 
@@ -162,4 +162,12 @@ fn inputs_and_words(rt: HostRuntime) -> Result<(), Fail> {
     )?;
     let help = MainFault::Words(WordFault::Help("its text".to_string(rt.alloc())?));
     expect(&rt, help, "", 0, "its text")
+}
+
+#[test]
+fn a_failed_put(rt: HostRuntime) -> Result<(), Fail> {
+    let fault = PutFault;
+    let text = format!(in rt.alloc(); "{fault}")?;
+    assert_eq!(rt; text.as_str(), "the sink failed");
+    Ok(())
 }

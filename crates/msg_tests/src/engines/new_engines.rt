@@ -67,6 +67,19 @@ fn clash_before_cycle(rt: HostRuntime) -> Result<(), Fail> {
 }
 
 #[test]
+fn refusals_say_why(rt: HostRuntime) -> Result<(), Fail> {
+    let (clash, cycle) = (BuildRefusal::Clash(1), BuildRefusal::Cycle(2));
+    let refused = BuildRefusal::NoMemory;
+    let texts = format!(in rt.alloc(); "{clash}; {cycle}; {refused}")?;
+    assert_eq!(rt;
+        texts.as_str(),
+        "system 1 reads and writes one type; the rules go round in a circle through system 2; \
+         want of memory"
+    );
+    Ok(())
+}
+
+#[test]
 fn workers(rt: HostRuntime) {
     for (number, is_there) in [(0, false), (1, true), (64, true), (65, false)] {
         assert_eq!(rt; Workers::new(number).is_some(), is_there, "{number}");
