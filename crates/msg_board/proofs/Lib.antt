@@ -1,4 +1,7 @@
-mod Lists
+-- Lists
+mod TableLists
 mod Sums
+-- Each step keeps the law
 mod Steps
-mod Passing
+-- What that says of a pass
+mod PassSeats

@@ -14,7 +14,7 @@ use Rattle.msg_board.specs.declared.law.Slot.TheVariants.{Job, Done}
 use Rattle.msg_board.specs.declared.law.View.{View}
 use Rattle.msg_board.specs.Counts.{times, is_held, HoldsEachOnce}
 use Rattle.msg_board.specs.Law.{holders_at, draws_at, whole, without_one, one_of, united, spent, tried, taken, freed, IsViewOf, IsSlotOf, Holds, IsHeldAlone, DrawsJob, Drawing, HandingIn}
-use Rattle.msg_board.proofs.Lists.{by_place, there, inside_of, past}
+use Rattle.msg_board.proofs.TableLists.{by_place, there, inside_of, past}
 use Rattle.msg_board.proofs.Sums.{sum_by-set, term_le, terms_le, sole, one_if, one_at, none_at, times-append, times_push}
 
 module _ {J D : Type 0} (lawful : J → D → Type 0) (jobs : List J) (passes : ℕ) where

@@ -1,7 +1,5 @@
 pub mod Board
-pub mod Closing
 pub mod Counts
 pub mod Law
 pub mod Pass
-pub mod Seats
-pub mod Sound
+pub mod inner

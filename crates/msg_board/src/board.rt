@@ -1,6 +1,6 @@
 //! The board: its jobs, and how its passes draw them.
 ghost use Rattle.std.specs.Prelude.{◌≡◌, ◌+◌, ◌<◌, ◌≤◌, [], length, slice_get, All, false};
-ghost use Rattle.std.specs.Prelude.{IfOk, IfSome, IfNone, IsNone, IsTrue, None, Some};
+ghost use Rattle.std.specs.Prelude.{IfOk, IfSome, IfNone, IsNone, IsTrue, None, OnErr, Some};
 ghost use Rattle.msg_board.specs.Counts.{HoldsEachOnce};
 ghost use Rattle.msg_board.specs.Law.{whole};
 ghost use Rattle.msg_board.specs.Pass.{Drew, DrewNone, HandedIn, drawn_by, handed_in_by};
@@ -24,7 +24,7 @@ pub struct Board<W: Work, A: Allocator = Global> {
 
 impl<W: Work, A: Allocator> Model for Board<W, A> {
     ghost use Rattle.msg_board.specs.Board.{BoardView};
-    ghost use Rattle.msg_board.specs.Sound.{IsBoard, board_of};
+    ghost use Rattle.msg_board.specs.inner.Sound.{IsBoard, board_of};
 
     ghost Value = { BoardView W.Job };
 
@@ -91,7 +91,7 @@ impl<W: Work, A: Allocator + Copy> Board<W, A> {
 impl<W: Work, A: Allocator> Board<W, A> {
     ghost use Rattle.msg_board.specs.Board.{jobs_of, passes_of, IsOf, IsIdle, HasEnded};
     ghost use Rattle.msg_board.specs.Board.{IsLawfulOutcome};
-    ghost use Rattle.msg_board.specs.Closing.{IsGathered};
+    ghost use Rattle.msg_board.specs.inner.Closing.{IsGathered};
 
     /// Draws a job that nobody has drawn, with its number; None where there is none left to try.
     /// It takes one atomic step for each number that it tries. Nothing in it can wait without a
@@ -142,6 +142,9 @@ impl<W: Work, A: Allocator> Board<W, A> {
         requires ended { All (HasEnded self) passes.items }
         ensures lawful { IfOk result
             (λ results. IsLawfulOutcome W.lawful (jobs_of self) results.items) }
+
+        // A board of no jobs takes no memory.
+        ensures refused { OnErr result (0 < length (jobs_of self)) }
 
         // Also where there is no memory for the list of results.
         ensures drawn_once { HoldsEachOnce (length (jobs_of self)) (drawn_by passes.items) }

@@ -2,7 +2,7 @@
 ghost use Rattle.std.specs.Prelude.{◌≡◌, length, IsTrue, [], None, true, false};
 ghost use Rattle.msg_board.specs.Law.{whole};
 ghost use Rattle.msg_board.specs.Pass.{PassState};
-ghost use Rattle.msg_board.specs.Seats.{IsSeatOf};
+ghost use Rattle.msg_board.specs.inner.Seats.{IsSeatOf};
 
 use crate::law::{Slot, View};
 use atomic_table::Seat;
@@ -22,7 +22,7 @@ impl<J, D> Model for Pass<J, D> {
 
     ghost Value = { PassState J };
 
-    ghost use Rattle.msg_board.specs.Sound.{state_of, IsSound};
+    ghost use Rattle.msg_board.specs.inner.Sound.{state_of, IsSound};
 
     ghost view = { state_of };
 

@@ -1,8 +1,8 @@
 //! What goes into the slots of a board, and comes out of them.
-ghost use Rattle.std.specs.Prelude.{◌≡◌, ◌≤◌, [], ◌∷◌, map, IfOk, vec_capacity};
+ghost use Rattle.std.specs.Prelude.{◌≡◌, ◌<◌, ◌≤◌, [], ◌∷◌, map, IfOk, OnErr, vec_capacity};
 ghost use Rattle.std.specs.Slots.{slots_items, slots_len, IsFull};
 ghost use Rattle.msg_board.specs.declared.law.Slot.TheVariants.{Empty, Job, Done};
-ghost use Rattle.msg_board.specs.Closing.{HasDone, AreResultsIn};
+ghost use Rattle.msg_board.specs.inner.Closing.{HasDone, AreResultsIn};
 
 use crate::NoMemory;
 use crate::law::{Deal, Law, Slot, View};
@@ -58,15 +58,16 @@ pub(crate) fn put_in<W: Work, A: Allocator>(
     drop(shared.exchange(seat, k, Slot::Done(done)));
 }
 
-// The results of a closed board.
+// The results of a closed board. None take no memory.
 pub(crate) fn results_of<J: Drop, D: Drop, A: Allocator>(
     alloc: A,
     closed: Closed<Slot<J, D>, A>,
 ) -> Result<Vec<D, A>, NoMemory>
     requires full { IsFull closed.slots }
     requires done { HasDone (slots_len closed.slots) (slots_items closed.slots) }
-    ensures { IfOk result (λ results.
+    ensures results { IfOk result (λ results.
         AreResultsIn (slots_len closed.slots) (slots_items closed.slots) results.items) }
+    ensures refused { OnErr result (0 < slots_len closed.slots) }
 {
     match Vec::with_capacity(alloc, closed.slot_count()) {
         Ok(results) => Ok(take_results(closed, results)),

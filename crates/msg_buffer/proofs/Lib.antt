@@ -1,8 +1,11 @@
-pub mod Histories
-pub mod Growth
+-- Histories
 pub mod Numbers
+pub mod Histories
+pub mod Presence
+pub mod Growth
+-- What a buffer stands for
 pub mod Standing
 pub mod Exists
-pub mod Presence
+-- Readers
 pub mod Unread
 pub mod Tiles

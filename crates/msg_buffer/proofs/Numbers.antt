@@ -1,36 +1,16 @@
 -- Lists whose elements have consecutive numbers.
-use Rattle.std.proofs.Common.{◌≡◌, ℕ, suc, zero, ◌+◌, ◌-◌, ◌<◌, ◌≤◌, List, [], ◌∷◌, ◌++◌, length, map, drop, refl, ap, arith, ◌∙◌}
+use Rattle.std.proofs.Common.{◌≡◌, ℕ, suc, zero, ◌+◌, List, [], ◌∷◌, ◌++◌, length, map, drop, refl, ap, arith, ◌∙◌}
 use Rattle.std.specs.Prelude.{slice_get}
 use Rattle.std.specs.List.{enumerate_from}
-use Rattle.std.proofs.lemmas.Bool.Decides.{nat_tests}
 use Rattle.std.proofs.lemmas.List.{length-map, map-append}
 use Rattle.msg_buffer.specs.declared.instance.Instance.{Instance}
 use Rattle.msg_buffer.specs.History.{Entry, History, instance_of, instances, count}
-use Rattle.msg_buffer.specs.Kept.{message_of, numbered, HasNumbersFrom, get_from}
-
-pub slice_get-append_right : {X : Type 0} (xs ys : List X) (i : ℕ) → slice_get (xs ++ ys) (length xs + i) ≡ slice_get ys i
-slice_get-append_right [] ys i = grind arith
-slice_get-append_right (x ∷ xs) ys i = grind (arith, slice_get-append_right xs ys i)
-
-pub slice_get-append_left : {X : Type 0} (xs ys : List X) (i : ℕ) → i < length xs → slice_get (xs ++ ys) i ≡ slice_get xs i
-slice_get-append_left [] ys i below = absurd (omega arith)
-slice_get-append_left (x ∷ xs) ys zero below = refl
-slice_get-append_left (x ∷ xs) ys (suc i) below = slice_get-append_left xs ys i (omega arith)
+use Rattle.msg_buffer.specs.Kept.{message_of, numbered, HasNumbersFrom}
 
 pub slice_get-drop : {X : Type 0} (n : ℕ) (xs : List X) (i : ℕ) → slice_get (drop n xs) i ≡ slice_get xs (n + i)
 slice_get-drop zero xs i = grind arith
 slice_get-drop (suc n) [] i = grind arith
 slice_get-drop (suc n) (x ∷ xs) i = grind (arith, slice_get-drop n xs i)
-
--- what stands under a number in the first of two lists that follow each other, or in the second
-pub get_from-append_left : {X : Type 0} (start : ℕ) (xs ys : List X) (n : ℕ) → n < start + length xs → get_from start (xs ++ ys) n ≡ get_from start xs n
-get_from-append_left start xs ys n below = grind (arith, nat_tests, slice_get-append_left xs ys (n - start))
-
-pub get_from-append_right : {X : Type 0} (start : ℕ) (xs ys : List X) (n : ℕ) → start + length xs ≤ n → get_from start (xs ++ ys) n ≡ get_from (start + length xs) ys n
-get_from-append_right start xs ys n above =
-    let i = n - (start + length xs) in
-    let here : n - start ≡ length xs + i = omega arith in
-    grind (arith, nat_tests, slice_get-append_right xs ys i)
 
 module _ {M : Type 0} where
   pub length-numbered : (n : ℕ) (xs : List M) → length (numbered n xs) ≡ length xs

@@ -1,6 +1,10 @@
-pub mod Whole
-pub mod Getters
-pub mod Numerals
-pub mod Rows
-pub mod Taken
-pub mod Told
+-- reading an input
+pub mod WholeInputs
+-- numbers of workers
+pub mod WorkerNumbers
+-- what clap finds in words
+pub mod Bools
+pub mod RowValues
+pub mod ClapErrors
+pub mod ClapFillsRows
+pub mod ClapTakesAsk

@@ -1,44 +1,24 @@
-mod Drawing
-mod Doing
-mod Seats
-mod Told
-mod SharedWorld
-mod Entering
-mod Staging
-mod Batching
-mod Posting
-mod Lists
-mod Unwritten
-mod GoingOut
-mod ComingHome
-mod Batches
-mod Alone
-mod Keeping
-mod Commuting
-mod SideBySide
-mod Reordering
-mod OneRun
-mod Growing
-mod Replaying
-mod Going
-mod Passing
-mod Accounting
-mod Turning
-mod Beginning
-mod Soundly
-mod Firsts
-mod Fates
-mod Given
-mod Running
-mod ReadingRows
-mod SettledRows
-mod InPlace
-mod Arriving
-mod Framing
-mod Existing
-mod Replays
-mod Retelling
-mod Engines
-mod Making
-mod Founding
-mod Telling
+-- ---- lists
+pub mod ItemsOfLists
+-- ---- a job
+mod JobsAreDone
+mod EntriesAreAdded
+mod SystemAfterTurn
+-- ---- jobs side by side: workers draw them, and tell the gate
+mod WorkersDraw
+mod JobsShareTheWorld
+-- ---- a batch: its systems go out, and come home
+mod BatchWritesApart
+mod BatchGoesOut
+mod BatchComesHome
+mod BatchOfOne
+mod BatchAfterBatch
+-- ---- a frame: systems join, posts are written, turns are taken
+mod SystemsJoin
+mod PostsAreWritten
+mod CoreRunsFrame
+mod CoreReplaysFrame
+-- ---- an engine
+mod FirstEngineStands
+mod EngineRunsFrames
+mod AccountsTell

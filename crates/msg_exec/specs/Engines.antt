@@ -3,13 +3,13 @@ use Rattle.std.specs.Prelude.{◌≡◌, ◌⊎◌, ℕ, ◌<◌, [], ◌∷◌,
 use Rattle.msg_world.specs.Parts.{Parts}
 use Rattle.msg_system.specs.Systems.{Meaning}
 use Rattle.msg_exec.specs.declared.engine.EngineOf.{EngineOf}
-use Rattle.msg_exec.specs.declared.frame.Frame.{Frame}
-use Rattle.msg_exec.specs.declared.log.Log.{Log}
+use Rattle.msg_frames.specs.declared.frame.Frame.{Frame}
+use Rattle.msg_frames.specs.declared.log.Log.{Log}
 use Rattle.msg_exec.specs.Cores.{CoreStands, frame_count}
-use Rattle.msg_exec.specs.Frames.{IsFrame, IsRun}
-use Rattle.msg_exec.specs.Replays.{IsReplay}
-use Rattle.msg_exec.specs.State.{State}
-use Rattle.msg_exec.specs.Tiling.{AllTiled}
+use Rattle.msg_frames.specs.Frames.{IsFrame, IsRun}
+use Rattle.msg_frames.specs.Replays.{IsReplay}
+use Rattle.msg_frames.specs.State.{State}
+use Rattle.msg_frames.specs.Tiling.{AllTiled}
 
 module _ {S : Type 0} where
   -- a frame ended for want of memory: nothing of the engine is left
@@ -22,11 +22,11 @@ module _ {S : Type 0} where
 
   -- its world; none where it is spoiled
   abbrev pub world_of : EngineOf S → Option Parts
-  world_of e = option_map (λ c. c.stage.world) e.core
+  world_of e = option_map (λ c. c.lender.world) e.core
 
   -- each post is to a type of its world
   abbrev pub PostsFit : EngineOf S → Frame → Type 0
-  PostsFit e frame = IfSome e.core (λ c. All (λ p. p.0 < length c.stage.world.types) frame.posts)
+  PostsFit e frame = IfSome e.core (λ c. All (λ p. p.0 < length c.lender.world.types) frame.posts)
 
 module _ {S : Type 0} (meaning : S → Meaning) where
   -- Part by part, the engine is what the state says.

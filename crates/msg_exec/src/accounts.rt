@@ -5,10 +5,10 @@ ghost use Rattle.msg_buffer.specs.StandsFor.{StandsFor as BufferStandsFor};
 ghost use Rattle.msg_world.specs.declared.record.Record.{Record};
 ghost use Rattle.msg_world.specs.Access.{OfType};
 ghost use Rattle.msg_world.specs.Parts.{slot};
-ghost use Rattle.msg_exec.specs.Accounts.{account_of, accounts_of, accounts_of_system};
+ghost use Rattle.msg_frames.specs.Accounts.{account_of, accounts_of, accounts_of_system};
 ghost use Rattle.msg_exec.specs.Cores.{CoreStands};
 ghost use Rattle.msg_exec.specs.Keeping.{kept};
-ghost use Rattle.msg_exec.specs.State.{State};
+ghost use Rattle.msg_frames.specs.State.{State};
 
 use crate::engine_core::Core;
 use crate::{Account, EngineOf, NoMemory, RunFault, Totals};
@@ -32,7 +32,7 @@ fn account<S: System>(core: &Core<S>, system: u32, of_type: TypeNo, totals: &Tot
         → totals.now ≡ kept ((s.members system).totals of_type)
         → result ≡ account_of s system of_type }
 {
-    count_is_told(&core.stage.world, of_type);
+    count_is_told(&core.lender.world, of_type);
     let Totals {
         start,
         got,
@@ -61,18 +61,18 @@ fn add_accounts<S: System>(
     i: usize,
     accounts: &mut Vec<Account>,
 ) -> Result<(), NoMemory>
-    requires there { i < length core.now.stage.actors.items }
+    requires there { i < length core.now.lender.systems.items }
     ensures added { OnOk result ((s : State) → CoreStands S.meaning core.now s
         → accounts.new.items ≡ accounts.old.items ++ accounts_of_system s i) }
 {
-    let (Some(actor), Some(totals)) = (&core.stage.actors[i], core.stage.totals.get(i)) else {
+    let (Some(guarded), Some(totals)) = (&core.lender.systems[i], core.lender.totals.get(i)) else {
         return Ok(());
     };
     let Ok(system) = u32::try_from(i) else {
         return Ok(());
     };
-    let access = actor.system.access();
-    for t in 0..core.stage.world.types() {
+    let access = guarded.system.access();
+    for t in 0..core.lender.world.types() {
         let (Some(of_type), Some(of_it)) = (TypeNo::new(t as u32), totals.get(t)) else {
             return Ok(());
         };
@@ -89,7 +89,7 @@ fn accounts_in<S: System>(alloc: Global, core: &Core<S>) -> Result<Vec<Account>,
         → v.items ≡ accounts_of s) }
 {
     let mut accounts = Vec::new(alloc);
-    for i in 0..core.stage.actors.len() {
+    for i in 0..core.lender.systems.len() {
         add_accounts(core, i, &mut accounts)?;
     }
     Ok(accounts)
@@ -98,11 +98,11 @@ fn accounts_in<S: System>(alloc: Global, core: &Core<S>) -> Result<Vec<Account>,
 impl<S: System> EngineOf<S> {
     ghost use Rattle.std.specs.Prelude.{◌↔◌, All, Err};
     ghost use Rattle.msg_system.specs.declared.run_fault.RunFault.TheVariants.{BadOrder, Spoiled};
-    ghost use Rattle.msg_exec.specs.Accounts.{AddsUp};
+    ghost use Rattle.msg_frames.specs.Accounts.{AddsUp};
     ghost use Rattle.msg_exec.specs.Engines.{IsEngine, IsSpoiled, StandsFor};
 
-    /// What each reader was given: for each system, by number, and each type that its program
-    /// reads, by number.
+    /// What each reader was given: for each system, by number, and each type that it reads,
+    /// by number.
     ///
     /// # Errors
     ///

@@ -3,24 +3,25 @@ ghost use Rattle.std.specs.Prelude.{◌≡◌, ◌<◌, ◌≤◌, ◌↔◌, �
 ghost use Rattle.msg_order.specs.Graph.{IsAcyclic};
 ghost use Rattle.msg_order.specs.Order.{NameSystemsBelow};
 ghost use Rattle.msg_system.specs.Conditions.{new_asked};
-ghost use Rattle.msg_system.specs.Needs.{IsAccessOf, program_needs};
-ghost use Rattle.msg_exec.specs.Building.{AreNoTotals, EachIs, HasClash, IsAccessAt, IsActorAt, RefusesForClash, RefusesForCycle, all_rules, new_job};
-ghost use Rattle.msg_exec.specs.Entries.{no_totals};
+ghost use Rattle.msg_system.specs.Needs.{IsAccessOf};
+ghost use Rattle.msg_exec.specs.Building.{EachIs};
+ghost use Rattle.msg_exec.specs.inner.Building.{AreNoTotals, IsAccessAt, IsGuardedAt, RefusesForClash, RefusesForCycle};
+ghost use Rattle.msg_frames.specs.FirstState.{HasClash, all_rules, new_job};
+ghost use Rattle.msg_frames.specs.Entries.{no_totals};
 ghost use Rattle.msg_exec.specs.Jobs.{job_state};
 ghost use Rattle.msg_exec.specs.Keeping.{totals_at};
 
-use crate::job::Actor;
+use crate::job::GuardedSystem;
 use crate::{BuildRefusal, NoMemory, Place, Totals};
 use msg_order::{Plan, PlanRefusal, Rule};
 use msg_system::{Condition, Guard, System, job_access};
 use msg_world::Access;
 use std::alloc::Global;
 
-/// Its program's access, and whether that is a clash.
+/// Its own access, and whether that is a clash.
 fn own_access<S: System>(system: &S) -> (Access, bool)
-    ensures access { IsAccessOf (program_needs (S.meaning system.now).program.ops) result.0 }
+    ensures access { IsAccessOf (S.meaning system.now).needs result.0 }
     ensures clash { IsTrue result.1 ↔ HasClash (S.meaning system.now) }
-    ensures few_ops { length (S.meaning system.now).program.ops ≤ 64 }
 {
     let own = system.access();
     let clash = own.is_clash();
@@ -76,21 +77,21 @@ fn guards_of(alloc: Global, conditions: &[Condition]) -> Result<Vec<Guard>, NoMe
 }
 
 /// Each system with the conditions of its place.
-pub(crate) fn actors_of<S: System>(
+pub(crate) fn guarded_systems<S: System>(
     alloc: Global,
     systems: Vec<S>,
     places: &[Place],
-) -> Result<Vec<Option<Actor<S>>>, NoMemory>
+) -> Result<Vec<Option<GuardedSystem<S>>>, NoMemory>
     requires one_place_each { length places.now ≡ length systems.items }
     ensures as_many { IfOk result (λ v. length v.items ≡ length systems.items) }
-    ensures actors { IfOk result (λ v. EachIs (IsActorAt S.meaning systems.items places.now) v.items) }
+    ensures guarded { IfOk result (λ v. EachIs (IsGuardedAt S.meaning systems.items places.now) v.items) }
 {
-    let mut actors = Vec::new(alloc);
+    let mut guarded = Vec::new(alloc);
     for system in systems {
-        let guards = guards_of(alloc, places[actors.len()].conditions.as_slice())?;
-        actors.push(Some(Actor { system, guards }))?;
+        let guards = guards_of(alloc, places[guarded.len()].conditions.as_slice())?;
+        guarded.push(Some(GuardedSystem { system, guards }))?;
     }
-    Ok(actors)
+    Ok(guarded)
 }
 
 /// For each system the totals of readers that haven't joined, one for each type.

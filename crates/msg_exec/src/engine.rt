@@ -1,11 +1,11 @@
-use crate::building::{accesses_of, actors_of, check_rules, joins_of, totals_of};
+use crate::building::{accesses_of, check_rules, guarded_systems, joins_of, totals_of};
 use crate::engine_core::{Core, plan_by, run_one};
 use crate::joining::join_those;
-use crate::laws::{runs_are_unique, runs_exist};
-use crate::reader_laws::{first_states_are_sound, readers_tile};
+use crate::lender::Lender;
 use crate::replay::{accepts_next, replay_one};
-use crate::stage::Stage;
 use crate::{BuildRefusal, Frame, Gate, Log, Place, RunFault, Workers};
+use msg_frames::laws::{runs_are_unique, runs_exist};
+use msg_frames::reader_laws::{first_states_are_sound, readers_tile};
 use msg_order::Rule;
 use msg_order::laws::fewer_systems_make_no_cycle;
 use msg_system::System;
@@ -27,24 +27,25 @@ pub struct EngineOf<S> {
 pub type Engine = EngineOf<Box<dyn System>>;
 
 impl<S: System> EngineOf<S> {
-    ghost use Rattle.std.specs.Prelude.{◌≡◌, ◌-◌, ◌^◌, ◌+◌, ◌↔◌, All, min, IfOk, OnOk, Err, Ok};
+    ghost use Rattle.std.specs.Prelude.{◌≡◌, ◌<◌, ◌-◌, ◌^◌, ◌+◌, ◌↔◌, ℕ, All, drop, min, IfOk, OnOk, Err, Ok};
     ghost use Rattle.std.specs.Option.{option_copied};
     ghost use Rattle.msg_system.specs.declared.run_fault.RunFault.TheVariants.{BadOrder, NoMemory, Spoiled};
     ghost use Rattle.std.specs.Prelude.{◌≤◌, IfErr, IfSome, IsNone, List, Some, length, map};
+    ghost use Rattle.msg_world.specs.declared.record.TheConstants.{HOST};
     ghost use Rattle.msg_world.specs.Parts.{IsWhole, PartsStand};
     ghost use Rattle.msg_world.specs.World.{WorldState};
     ghost use Rattle.msg_order.specs.Graph.{IsAcyclic};
     ghost use Rattle.msg_order.specs.Order.{NameSystemsBelow};
-    ghost use Rattle.msg_exec.specs.Building.{EachIs, HasClash, MayBeAdded, RefusesFor, all_rules};
+    ghost use Rattle.msg_exec.specs.Building.{EachIs, MayBeAdded, RefusesFor};
+    ghost use Rattle.msg_frames.specs.FirstState.{HasClash, all_rules, first_state};
     ghost use Rattle.msg_exec.specs.Cores.{frame_count};
-    ghost use Rattle.msg_exec.specs.Frames.{first_state, systems_in};
+    ghost use Rattle.msg_frames.specs.Frames.{systems_in};
     ghost use Rattle.msg_exec.specs.Engines.{HasReplayed, HasRunFrame, HasRunFrames, HasRunSome, IsEngine, IsSpoiled, PostsFit, StandsFor, frames_of, world_of};
-    ghost use Rattle.msg_exec.specs.Replays.{IsLawfulFor};
-    ghost use Rattle.msg_exec.specs.State.{State};
-    ghost use Rattle.msg_exec.specs.TurnLaws.{HasOneRun};
-    ghost use Rattle.msg_exec.specs.declared.frame.Frame.{Frame as FrameView};
-    ghost use Rattle.msg_exec.specs.Work.{IsTold};
-    ghost use Rattle.msg_exec.specs.Workers.{number_of};
+    ghost use Rattle.msg_frames.specs.Replays.{IsLawfulFor};
+    ghost use Rattle.msg_frames.specs.State.{State};
+    ghost use Rattle.msg_frames.specs.TurnLaws.{HasOneRun};
+    ghost use Rattle.msg_frames.specs.declared.frame.Frame.{Frame as FrameView};
+    ghost use Rattle.msg_exec.specs.Work.{PassedGate};
 
     /// An engine with no frame run. The systems go by number, in order of addition, and each has
     /// its place; those of join 1 have joined, and start at 0 or at the counts of this moment.
@@ -85,16 +86,16 @@ impl<S: System> EngineOf<S> {
         let joins = joins_of(alloc, &places)?;
         let plan = plan_by(alloc, &accesses, &rules, &joins, 1)?;
         let totals = totals_of(alloc, systems.len(), world.types())?;
-        let actors = actors_of(alloc, systems, &places)?;
-        let mut stage = Stage {
+        let guarded = guarded_systems(alloc, systems, &places)?;
+        let mut lender = Lender {
             world,
-            actors,
+            systems: guarded,
             accesses,
             totals,
         };
-        join_those(&mut stage, &joins, 1);
+        join_those(&mut lender, &joins, 1);
         let core = Core {
-            stage,
+            lender,
             joins,
             rules,
             plan,
@@ -136,8 +137,8 @@ impl<S: System> EngineOf<S> {
         ensures ran { IfOk result (λ log. (s : State) → StandsFor S.meaning self.old s
             → HasRunFrame S.meaning frame.now s log self.new) }
 
-        // For each turn one of the workers called the gate, with its own number and the system's.
-        ensures told { IfOk result (λ log. All (IsTold (G.told gate.now) (number_of workers))
+        // For each turn one of the workers passed the gate, with its own number and the system's.
+        ensures gate_passed { IfOk result (λ log. All (PassedGate (G.passed gate.now) workers)
             (systems_in log)) }
         ensures counted { OnOk result
             (frames_of self.new ≡ min (frames_of self.old + 1) (2 ^ 32 - 1)) }
@@ -181,6 +182,10 @@ impl<S: System> EngineOf<S> {
         // messages that only grow, and each reader's reads and clears tile.
         ensures ran { OnOk result ((s : State) → StandsFor S.meaning self.old s
             → HasRunFrames S.meaning frames.now s out.old.items out.new.items self.new) }
+
+        // For each turn in the logs that were appended, as in `run_frame`.
+        ensures gate_passed { All (λ log. All (PassedGate (G.passed gate.now) workers)
+            (systems_in log)) (drop (length out.old.items) out.new.items) }
         ensures spoiled { (result ≡ Err Spoiled) ↔ IsSpoiled self.old }
         ensures unchanged { result ≡ Err Spoiled → self.new ≡ self.old }
         ensures nothing_appended { result ≡ Err Spoiled → out.new ≡ out.old }
@@ -259,6 +264,12 @@ impl<S: System> EngineOf<S> {
         runs_are_unique();
     }
 
+    /// A law: each of its systems writes as its number, and none as the host.
+    pub fn systems_write_as_themselves(&self)
+        ensures writers { (s : State) → StandsFor S.meaning self.now s → (i : ℕ) → i < s.systems
+            → ((s.members i).job.system.writer ≡ i) × (i < HOST) }
+    {}
+
     /// Its world; None where it is spoiled.
     pub fn world(&self) -> Option<&World>
         ensures world { option_copied result ≡ world_of self.now }
@@ -267,7 +278,7 @@ impl<S: System> EngineOf<S> {
             → IfSome result (λ w. PartsStand w.now s.world) }
     {
         match &self.core {
-            Some(core) => Some(&core.stage.world),
+            Some(core) => Some(&core.lender.world),
             None => None,
         }
     }

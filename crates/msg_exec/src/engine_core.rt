@@ -3,28 +3,29 @@ ghost use Rattle.std.specs.Prelude.{◌≡◌, ◌<◌, ◌≤◌, All, IfOk, Li
 ghost use Rattle.msg_order.specs.Graph.{IsAcyclic};
 ghost use Rattle.msg_order.specs.Order.{NameSystemsBelow, rules_among};
 ghost use Rattle.msg_order.specs.Plan.{IsPlanOf};
-ghost use Rattle.msg_exec.specs.Cores.{CoreStands, HasBegunFrame, HasOpened, IsNextPlan, RanFrame, frame_count};
-ghost use Rattle.msg_exec.specs.Frames.{systems_in};
-ghost use Rattle.msg_exec.specs.State.{State};
-ghost use Rattle.msg_exec.specs.Work.{IsTold};
-ghost use Rattle.msg_exec.specs.Workers.{number_of};
+ghost use Rattle.msg_exec.specs.Cores.{CoreStands, frame_count};
+ghost use Rattle.msg_exec.specs.inner.FrameSteps.{HasBegunFrame, HasLeft, HasOpened, IsNextPlan};
+ghost use Rattle.msg_frames.specs.Frames.{IsFrame, systems_in};
+ghost use Rattle.msg_frames.specs.State.{State};
+ghost use Rattle.msg_exec.specs.Work.{PassedGate};
 
 use crate::batch::run_batches;
 use crate::joining::join_those;
+use crate::lender::Lender;
 use crate::posts::post_all;
-use crate::reader_laws::states_stay_sound;
-use crate::stage::Stage;
 use crate::{Frame, Gate, Items, Log, NoMemory, Workers};
+use msg_frames::reader_laws::states_stay_sound;
 use msg_order::{Plan, PlanRefusal, Rule};
 use msg_system::{Reply, System};
 use msg_world::Access;
 use std::alloc::Global;
 use std::thread::Threads;
 
-/// The systems on their stage, their rules, and the plan of those that have joined.
+/// The systems and the world with what lends them out, the rules, and the plan of those that have
+/// joined.
 #[derive(Drop)]
 pub struct Core<S> {
-    pub stage: Stage<S>,
+    pub lender: Lender<S>,
     /// The frame with which each system joins.
     pub joins: Vec<u32>,
     pub rules: Vec<Rule>,
@@ -86,22 +87,22 @@ pub(crate) fn next_plan<S: System>(
     if !core.joins.contains(&next) {
         return Ok(None);
     }
-    let plan = plan_by(alloc, &core.stage.accesses, &core.rules, &core.joins, next)?;
+    let plan = plan_by(alloc, &core.lender.accesses, &core.rules, &core.joins, next)?;
     Ok(Some((next, plan)))
 }
 
-/// Those that join with the next frame do so.
+/// Starts those that join with the next frame, and takes the plan of it.
 fn begin<S: System>(alloc: Global, core: Core<S>, frames: u32) -> Result<Core<S>, NoMemory>
     requires stands { (s : State) × (CoreStands S.meaning core s × (frames ≡ frame_count s)) }
     ensures begun { IfOk result (λ begun. (s : State) → CoreStands S.meaning core s
         → frames ≡ frame_count s → HasBegunFrame S.meaning begun s) }
-    ensures types { IfOk result (λ begun. begun.stage.world ≡ core.stage.world) }
+    ensures types { IfOk result (λ begun. begun.lender.world ≡ core.lender.world) }
 {
     let mut core = core;
     let Some((next, plan)) = next_plan(alloc, &core, frames)? else {
         return Ok(core);
     };
-    join_those(&mut core.stage, &core.joins, next);
+    join_those(&mut core.lender, &core.joins, next);
     core.plan = plan;
     Ok(core)
 }
@@ -115,15 +116,15 @@ pub(crate) fn open<S: System>(
     frame: &Frame,
 ) -> Result<(Core<S>, Vec<Reply>), NoMemory>
     requires stands { (s : State) × (CoreStands S.meaning core s × (frames ≡ frame_count s)) }
-    requires posts { All (λ p. p.0 < length core.stage.world.types) frame.now.posts }
+    requires posts { All (λ p. p.0 < length core.lender.world.types) frame.now.posts }
     ensures opened { IfOk result (λ r. (s : State) → CoreStands S.meaning core s
         → frames ≡ frame_count s → HasOpened S.meaning frame.now s r.0 r.1.items) }
 {
     let mut core = begin(alloc, core, frames)?;
-    core.stage.world.update_all();
+    core.lender.world.update_all();
     let posts = frame.posts.as_slice();
     let mut replies = Vec::with_capacity(alloc, posts.len())?;
-    post_all(&mut core.stage.world, posts, &mut replies)?;
+    post_all(&mut core.lender.world, posts, &mut replies)?;
     Ok((core, replies))
 }
 
@@ -138,16 +139,16 @@ pub(crate) fn run_one<R: Threads + Sync, S: System, G: Gate>(
     gate: &G,
 ) -> Result<(Core<S>, Log), NoMemory>
     requires stands { (s : State) × (CoreStands S.meaning core s × (frames ≡ frame_count s)) }
-    requires posts { All (λ p. p.0 < length core.stage.world.types) frame.now.posts }
+    requires posts { All (λ p. p.0 < length core.lender.world.types) frame.now.posts }
     ensures ran { IfOk result (λ r. (s : State) → CoreStands S.meaning core s
-        → frames ≡ frame_count s → RanFrame S.meaning frame.now s r.1 r.0) }
-    ensures told { IfOk result (λ r. All (IsTold (G.told gate.now) (number_of workers))
+        → frames ≡ frame_count s → HasLeft S.meaning (IsFrame frame.now s r.1) s r.0) }
+    ensures gate_passed { IfOk result (λ r. All (PassedGate (G.passed gate.now) workers)
         (systems_in r.1)) }
 {
     states_stay_sound();
     let (mut core, posts) = open(alloc, core, frames, frame)?;
     let batches = core.plan.batches();
-    let turns = run_batches(rt, alloc, &mut core.stage, batches, workers, gate)?;
+    let turns = run_batches(rt, alloc, &mut core.lender, batches, workers, gate)?;
     let log = Log {
         posts: Items::from_vec(posts),
         turns: Items::from_vec(turns),

@@ -4,11 +4,11 @@ ghost use Rattle.std.specs.Prelude.{ℕ, ⊤};
 /// it.
 pub trait Gate: Sync {
     // What follows from its call for this worker and this system. By default that is nothing.
-    ghost told: { Self → ℕ → ℕ → Type 0 } = { λ gate worker system. ⊤ };
+    ghost passed: { Self → ℕ → ℕ → Type 0 } = { λ gate worker system. ⊤ };
 
     /// It has to return. Workers are numbered from 0.
     fn pass(&self, worker: u32, system: u32)
-        ensures told { Self.told self.now worker system };
+        ensures passed { Self.passed self.now worker system };
 }
 
 /// A gate that does nothing.

@@ -1,8 +1,8 @@
-// One system's job: its conditions and its program, on a loan of what its access uses.
+// One system's job: its conditions and its system, on a loan of what its access uses.
 ghost use Rattle.std.specs.Prelude.{IfOk};
 ghost use Rattle.msg_world.specs.Loan.{IsLoanOf};
 ghost use Rattle.msg_system.specs.Needs.{IsAccessOf};
-ghost use Rattle.msg_exec.specs.Jobs.{IsDone, actor_needs};
+ghost use Rattle.msg_exec.specs.Jobs.{IsDone, guarded_needs};
 
 use crate::runs::Runs;
 use crate::side_by_side::{Batch, BatchJob};
@@ -13,7 +13,7 @@ use std::alloc::Global;
 
 /// A system with its conditions.
 #[derive(Drop)]
-pub struct Actor<S> {
+pub struct GuardedSystem<S> {
     pub system: S,
     pub guards: Vec<Guard>,
 }
@@ -22,7 +22,7 @@ pub struct Actor<S> {
 #[derive(Drop)]
 pub struct Job<S> {
     pub number: u32,
-    pub actor: Actor<S>,
+    pub guarded: GuardedSystem<S>,
     pub access: Access,
     pub taken: Taken,
 }
@@ -31,7 +31,7 @@ pub struct Job<S> {
 #[derive(Drop)]
 pub struct Done<S> {
     pub number: u32,
-    pub actor: Actor<S>,
+    pub guarded: GuardedSystem<S>,
     pub taken: Taken,
     pub outcome: Outcome,
 }
@@ -39,7 +39,7 @@ pub struct Done<S> {
 /// Runs a job on the world that it was lent from.
 pub fn run_job<S: System>(alloc: Global, world: &World, job: Job<S>) -> Result<Done<S>, NoMemory>
     requires loan { IsLoanOf job.access world.now job.taken }
-    requires access { IsAccessOf (actor_needs S.meaning job.actor) job.access }
+    requires access { IsAccessOf (guarded_needs S.meaning job.guarded) job.access }
     ensures done { IfOk result (λ done. IsDone S.meaning world.now job done) }
 {
     Batch::<S>::run(alloc, BatchJob { job, world })

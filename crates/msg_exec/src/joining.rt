@@ -1,17 +1,19 @@
-// Systems join.
+// Systems start as they join.
 ghost use Rattle.std.specs.Prelude.{◌≡◌, ◌<◌, ◌≤◌, ℕ, length, map, IfSome, IsSomeAnd};
 ghost use Rattle.msg_system.specs.Conditions.{asked_started};
 ghost use Rattle.msg_system.specs.Systems.{start_place};
-ghost use Rattle.msg_exec.specs.Entries.{totals_from};
-ghost use Rattle.msg_exec.specs.Frames.{job_begun, with_joining};
+ghost use Rattle.msg_frames.specs.Entries.{totals_from};
+ghost use Rattle.msg_frames.specs.Frames.{job_begun, with_joining};
 ghost use Rattle.msg_exec.specs.Jobs.{job_state};
-ghost use Rattle.msg_exec.specs.Keeping.{first_place, totals_at};
-ghost use Rattle.msg_exec.specs.Stages.{AreJoins, HaveReadNothing, StageStands};
-ghost use Rattle.msg_exec.specs.State.{State};
+ghost use Rattle.msg_exec.specs.Keeping.{totals_at};
+ghost use Rattle.msg_exec.specs.inner.Totals.{first_place};
+ghost use Rattle.msg_exec.specs.Lender.{AreJoins, LenderStands};
+ghost use Rattle.msg_exec.specs.inner.Lending.{HaveReadNothing};
+ghost use Rattle.msg_frames.specs.State.{State};
 
 use crate::Totals;
-use crate::job::Actor;
-use crate::stage::Stage;
+use crate::job::GuardedSystem;
+use crate::lender::Lender;
 use msg_system::{Guard, Start, System};
 use msg_world::{Counts, TypeNo};
 
@@ -25,12 +27,12 @@ fn start_guards(guards: &mut [Guard], counts: &Counts, start: Start)
 }
 
 /// Sets its cursors and those of its conditions to where they start.
-fn start<S: System>(actor: &mut Actor<S>, counts: &Counts)
-    ensures begun { job_state S.meaning actor.new ≡ job_begun counts.now (job_state S.meaning actor.old) }
+fn start<S: System>(guarded: &mut GuardedSystem<S>, counts: &Counts)
+    ensures begun { job_state S.meaning guarded.new ≡ job_begun counts.now (job_state S.meaning guarded.old) }
 {
-    let start = actor.system.begins();
-    actor.system.start(counts);
-    start_guards(&mut actor.guards, counts, start);
+    let start = guarded.system.begins();
+    guarded.system.start(counts);
+    start_guards(&mut guarded.guards, counts, start);
 }
 
 /// Where a cursor of a type starts.
@@ -46,7 +48,7 @@ fn place_of(start: Start, counts: &Counts, t: TypeNo) -> u64
 /// Where a system that was given nothing starts in the type of this number.
 fn first_place<S: System>(system: &S, counts: &Counts, t: usize) -> u64
     requires type_number { t < 64 }
-    ensures place { result ≡ first_place (S.meaning system.now).program counts.now t }
+    ensures place { result ≡ first_place (S.meaning system.now) counts.now t }
 {
     let Some(t) = TypeNo::new(t as u32) else {
         unreachable!()
@@ -63,7 +65,7 @@ fn open<S: System>(system: &S, counts: &Counts, totals: &mut [Totals])
     requires few { length totals.old ≤ 64 }
     ensures as_many { length totals.new ≡ length totals.old }
     ensures opened { (t : ℕ) → t < length totals.old → totals_at totals.new t
-        ≡ totals_from (first_place (S.meaning system.now).program counts.now t) }
+        ≡ totals_from (first_place (S.meaning system.now) counts.now t) }
 {
     for t in 0..totals.len() {
         totals[t] = Totals {
@@ -74,34 +76,34 @@ fn open<S: System>(system: &S, counts: &Counts, totals: &mut [Totals])
 }
 
 /// Starts a system, and opens its accounts.
-fn begin<S: System>(slot: &mut Option<Actor<S>>, counts: &Counts, totals: &mut [Totals])
+fn begin<S: System>(slot: &mut Option<GuardedSystem<S>>, counts: &Counts, totals: &mut [Totals])
     requires few { length totals.old ≤ 64 }
     ensures as_many { length totals.new ≡ length totals.old }
     ensures begun { IfSome slot.old (λ a. IsSomeAnd slot.new
         (λ b. job_state S.meaning b ≡ job_begun counts.now (job_state S.meaning a))) }
     ensures opened { IfSome slot.old (λ a. (t : ℕ) → t < length totals.old → totals_at totals.new t
-        ≡ totals_from (first_place (S.meaning a.system).program counts.now t)) }
+        ≡ totals_from (first_place (S.meaning a.system) counts.now t)) }
 {
-    if let Some(actor) = slot {
-        start(actor, counts);
-        open(&actor.system, counts, totals);
+    if let Some(guarded) = slot {
+        start(guarded, counts);
+        open(&guarded.system, counts, totals);
     }
 }
 
-/// Those that join with this frame do so.
-pub(crate) fn join_those<S: System>(stage: &mut Stage<S>, joins: &[u32], frame: u32)
-    requires stands { (s : State) × (StageStands S.meaning stage.old s × AreJoins joins.now s
+/// Starts each system that joins with this frame, and opens its accounts.
+pub(crate) fn join_those<S: System>(lender: &mut Lender<S>, joins: &[u32], frame: u32)
+    requires stands { (s : State) × (LenderStands S.meaning lender.old s × AreJoins joins.now s
         × HaveReadNothing frame s) }
-    ensures joined { (s : State) → StageStands S.meaning stage.old s → AreJoins joins.now s
-        → HaveReadNothing frame s → StageStands S.meaning stage.new (with_joining frame s) }
-    ensures accesses { stage.new.accesses ≡ stage.old.accesses }
-    ensures world { stage.new.world ≡ stage.old.world }
+    ensures joined { (s : State) → LenderStands S.meaning lender.old s → AreJoins joins.now s
+        → HaveReadNothing frame s → LenderStands S.meaning lender.new (with_joining frame s) }
+    ensures accesses { lender.new.accesses ≡ lender.old.accesses }
+    ensures world { lender.new.world ≡ lender.old.world }
 {
-    let counts = stage.world.counts();
+    let counts = lender.world.counts();
     for i in 0..joins.len() {
         if joins[i] != frame {
             continue;
         }
-        begin(&mut stage.actors[i], &counts, &mut stage.totals[i]);
+        begin(&mut lender.systems[i], &counts, &mut lender.totals[i]);
     }
 }

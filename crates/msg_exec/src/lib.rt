@@ -1,42 +1,30 @@
-//! Frames of systems.
+//! Engines: frames of systems over workers.
 #![tactic(auto)]
 
-mod account;
 mod accounts;
 mod batch;
+mod build_refusal;
 mod building;
-mod crew;
 mod engine;
 mod engine_core;
-mod frame;
 mod gate;
-mod items;
 mod job;
 mod joining;
-pub mod laws;
-mod log;
-mod place;
+mod lender;
 mod posts;
-pub mod reader_laws;
-mod refusals;
 mod replay;
+mod run_workers;
 mod runs;
 mod side_by_side;
-mod stage;
 mod totals;
 mod workers;
 
-pub use account::Account;
+pub use build_refusal::BuildRefusal;
 pub use engine::{Engine, EngineOf};
-pub use frame::Frame;
 pub use gate::{Gate, NoGate};
-pub use items::Items;
-pub use log::{Log, Outcome, Turn};
 pub use msg_buffer::NoMemory;
+pub use msg_frames::{Account, Frame, Items, Log, Outcome, Place, Totals, Turn, laws, reader_laws};
 pub use msg_system::RunFault;
-pub use place::Place;
-pub use refusals::BuildRefusal;
 pub use runs::{Runs, work};
 pub use side_by_side::Batch;
-pub use totals::Totals;
 pub use workers::Workers;

@@ -6,8 +6,8 @@ ghost use Rattle.msg_world.specs.Access.{OfType};
 ghost use Rattle.msg_world.specs.Parts.{IsWhole, PartsStand, SameShape, slot};
 ghost use Rattle.msg_world.specs.World.{WorldState, by, with_history};
 ghost use Rattle.msg_system.specs.Programs.{numbers_for, write_reply};
-ghost use Rattle.msg_exec.specs.Frames.{post_replies, posted};
-ghost use Rattle.msg_exec.specs.Posts.{HasRoom, SomeFindsRoom};
+ghost use Rattle.msg_frames.specs.Frames.{post_replies, posted};
+ghost use Rattle.msg_exec.specs.inner.Posts.{HasRoom, SomeFindsRoom};
 
 use crate::NoMemory;
 use msg_buffer::{WriteRefusal, Written};

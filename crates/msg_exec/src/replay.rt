@@ -1,17 +1,18 @@
 // One frame in a given order, on the calling thread.
 ghost use Rattle.std.specs.Prelude.{◌≡◌, ◌<◌, ◌↔◌, All, IfOk, IsTrue, OnOk, length};
-ghost use Rattle.msg_exec.specs.declared.frame.Frame.{Frame as FrameView};
-ghost use Rattle.msg_exec.specs.Cores.{CoreStands, ReplayedFrame, frame_count};
-ghost use Rattle.msg_exec.specs.Frames.{after_turns_of};
-ghost use Rattle.msg_exec.specs.Replays.{IsLawfulFor};
-ghost use Rattle.msg_exec.specs.Stages.{StageStands};
-ghost use Rattle.msg_exec.specs.State.{State};
+ghost use Rattle.msg_frames.specs.declared.frame.Frame.{Frame as FrameView};
+ghost use Rattle.msg_exec.specs.Cores.{CoreStands, frame_count};
+ghost use Rattle.msg_exec.specs.inner.FrameSteps.{HasLeft};
+ghost use Rattle.msg_frames.specs.Frames.{after_turns_of};
+ghost use Rattle.msg_frames.specs.Replays.{IsLawfulFor, IsReplay};
+ghost use Rattle.msg_exec.specs.Lender.{LenderStands};
+ghost use Rattle.msg_frames.specs.State.{State};
 
 use crate::engine_core::{Core, next_plan, open};
-use crate::laws::{frames_agree_in_lawful_orders, systems_have_one_order};
-use crate::reader_laws::states_stay_sound;
-use crate::stage::{Stage, run_turn};
+use crate::lender::{Lender, run_turn};
 use crate::{Frame, Items, Log, NoMemory, Turn};
+use msg_frames::laws::{frames_agree_in_lawful_orders, systems_have_one_order};
+use msg_frames::reader_laws::states_stay_sound;
 use msg_system::System;
 use std::alloc::Global;
 
@@ -37,19 +38,19 @@ pub(crate) fn accepts_next<S: System>(
 /// Runs the turns of these systems one after the other.
 fn run_turns<S: System>(
     alloc: Global,
-    stage: &mut Stage<S>,
+    lender: &mut Lender<S>,
     order: &[u32],
 ) -> Result<Vec<Turn>, NoMemory>
-    requires stands { (s : State) × (StageStands S.meaning stage.old s × All (λ i. i < s.systems) order.now) }
-    ensures state { IfOk result (λ turns. (s : State) → StageStands S.meaning stage.old s
-        → StageStands S.meaning stage.new (after_turns_of order.now s).state) }
-    ensures turns { IfOk result (λ turns. (s : State) → StageStands S.meaning stage.old s
+    requires stands { (s : State) × (LenderStands S.meaning lender.old s × All (λ i. i < s.systems) order.now) }
+    ensures state { IfOk result (λ turns. (s : State) → LenderStands S.meaning lender.old s
+        → LenderStands S.meaning lender.new (after_turns_of order.now s).state) }
+    ensures turns { IfOk result (λ turns. (s : State) → LenderStands S.meaning lender.old s
         → turns.items ≡ (after_turns_of order.now s).turns) }
-    ensures accesses { OnOk result (stage.new.accesses.items ≡ stage.old.accesses.items) }
+    ensures accesses { OnOk result (lender.new.accesses.items ≡ lender.old.accesses.items) }
 {
     let mut turns = Vec::with_capacity(alloc, order.len())?;
     for &system in order {
-        turns.push(run_turn(alloc, stage, system)?)?;
+        turns.push(run_turn(alloc, lender, system)?)?;
     }
     Ok(turns)
 }
@@ -63,16 +64,16 @@ pub(crate) fn replay_one<S: System>(
     order: &[u32],
 ) -> Result<(Core<S>, Log), NoMemory>
     requires stands { (s : State) × (CoreStands S.meaning core s × (frames ≡ frame_count s)) }
-    requires posts { All (λ p. p.0 < length core.stage.world.types) frame.now.posts }
+    requires posts { All (λ p. p.0 < length core.lender.world.types) frame.now.posts }
     requires lawful { (s : State) → CoreStands S.meaning core s → frames ≡ frame_count s
         → IsLawfulFor frame.now s order.now }
     ensures replayed { IfOk result (λ r. (s : State) → CoreStands S.meaning core s
-        → frames ≡ frame_count s → ReplayedFrame S.meaning frame.now order.now s r.1 r.0) }
+        → frames ≡ frame_count s → HasLeft S.meaning (IsReplay frame.now order.now s r.1) s r.0) }
 {
     states_stay_sound();
     frames_agree_in_lawful_orders();
     let (mut core, posts) = open(alloc, core, frames, frame)?;
-    let turns = run_turns(alloc, &mut core.stage, order)?;
+    let turns = run_turns(alloc, &mut core.lender, order)?;
     let log = Log {
         posts: Items::from_vec(posts),
         turns: Items::from_vec(turns),

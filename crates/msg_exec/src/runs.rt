@@ -15,7 +15,7 @@ pub trait Runs: Work {
     // The number of the job's system.
     ghost system_of: { Self.Job → ℕ };
 
-    /// The number that the gate is told.
+    /// The number that the gate is given.
     fn number(job: &Self::Job) -> u32
         ensures number { result ≡ Self.system_of job.now };
 
@@ -35,7 +35,7 @@ pub fn work<W: Runs, G: Gate>(
     requires idle { IsIdle board.now pass.old }
     requires may { EachMay W.may (jobs_of board.now) }
     ensures ended { HasEnded board.now pass.new }
-    ensures told { EachNewIs (λ job. G.told gate.now worker (W.system_of job)) (jobs_of board.now)
+    ensures gate_passed { EachNewIs (λ job. G.passed gate.now worker (W.system_of job)) (jobs_of board.now)
         pass.old.drawn pass.new.drawn }
 {
     while let Some((k, job)) = board.draw(pass) {

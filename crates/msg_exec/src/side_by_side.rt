@@ -1,11 +1,11 @@
 // The jobs of a batch, side by side on one world.
 ghost use Rattle.std.specs.Prelude.{◌≡◌, ◌≤◌, All, IfOk, Ok, OnOk, length, map};
-ghost use Rattle.msg_exec.specs.Jobs.{AreDone, IsResult, MayRun};
-ghost use Rattle.msg_exec.specs.Work.{EachMay, IsTold};
-ghost use Rattle.msg_exec.specs.Workers.{number_of};
+ghost use Rattle.msg_exec.specs.Jobs.{IsResult, MayRun};
+ghost use Rattle.msg_exec.specs.inner.Batches.{AreDone};
+ghost use Rattle.msg_exec.specs.Work.{EachMay, PassedGate};
 
-use crate::crew::run_jobs;
-use crate::job::{Actor, Done, Job};
+use crate::job::{Done, GuardedSystem, Job};
+use crate::run_workers::run_jobs;
 use crate::runs::Runs;
 use crate::{Gate, Items, NoMemory, Outcome, Workers};
 use msg_board::Work;
@@ -51,33 +51,33 @@ impl<'a, S: System> Runs for Batch<'a, S> {
         let BatchJob { job, world } = job;
         let Job {
             number,
-            actor,
+            guarded,
             access,
             taken,
         } = job;
-        let Actor {
+        let GuardedSystem {
             mut system,
             mut guards,
-        } = actor;
+        } = guarded;
         let lent = Lent::open(world, &access, taken);
         if !Guard::check_all(&mut guards, &lent) {
             let taken = lent.into_taken();
-            let actor = Actor { system, guards };
+            let guarded = GuardedSystem { system, guards };
             let outcome = Outcome::Skipped;
             return Ok(Done {
                 number,
-                actor,
+                guarded,
                 taken,
                 outcome,
             });
         }
         let mut replies = Vec::new(alloc);
         let taken = system.run(alloc, lent, &mut replies)?;
-        let actor = Actor { system, guards };
+        let guarded = GuardedSystem { system, guards };
         let outcome = Outcome::Ran(Items::from_vec(replies));
         Ok(Done {
             number,
-            actor,
+            guarded,
             taken,
             outcome,
         })
@@ -128,8 +128,8 @@ pub(crate) fn run_side_by_side<R: Threads + Sync, S: System, G: Gate>(
     requires few { length jobs.items ≤ 256 }
     requires may { EachMay (MayRun S.meaning world.now) jobs.items }
     ensures done { IfOk result (λ done. AreDone S.meaning world.now jobs.items done.items) }
-    ensures told { OnOk result
-        (All (λ job. IsTold (G.told gate.now) (number_of workers) job.number) jobs.items) }
+    ensures gate_passed { OnOk result
+        (All (λ job. PassedGate (G.passed gate.now) workers job.number) jobs.items) }
 {
     let jobs = with_world(alloc, world, jobs)?;
     let results = run_jobs::<R, Batch<S>, G>(rt, alloc, gate, workers, jobs)?;

@@ -1,21 +1,32 @@
-ghost use Rattle.std.specs.Prelude.{◌<◌, ◌≤◌};
+ghost use Rattle.std.specs.Prelude.{◌≡◌, ◌<◌, ◌≤◌};
 
-/// How many workers run the jobs of a batch: from 1 to 64.
+use std::marker::Model;
+
+/// How many workers run the jobs of a batch: from 1 to 64. Contracts see it as the number.
 #[derive(Clone, Copy, Debug, PartialEq, Eq)]
 pub struct Workers {
     number: u32,
-    ghost some: { 0 < number },
-    ghost at_most: { number ≤ 64 },
+}
+
+impl Model for Workers {
+    ghost use Rattle.std.specs.Prelude.{ℕ, ◌<◌, ◌≤◌};
+
+    ghost Value = { ℕ };
+
+    ghost view = { λ w. w.number };
+
+    ghost inverse = { λ number. record { number = number } };
+
+    ghost invariant = { λ w. (0 < w.number) × (w.number ≤ 64) };
 }
 
 impl Workers {
-    ghost use Rattle.std.specs.Prelude.{◌≡◌, ◌≤◌, ◌<◌, ◌↔◌, IsSome, IfSome};
-    ghost use Rattle.msg_exec.specs.Workers.{number_of};
+    ghost use Rattle.std.specs.Prelude.{◌↔◌, IsSome, IfSome};
 
     /// None for 0 and for more than 64.
     pub fn new(number: u32) -> Option<Workers>
         ensures some { IsSome result ↔ ((0 < number) × (number ≤ 64)) }
-        ensures number { IfSome result (λ workers. number_of workers ≡ number) }
+        ensures number { IfSome result (λ workers. workers ≡ number) }
     {
         if 0 < number && number <= 64 {
             Some(Workers { number })
@@ -25,7 +36,7 @@ impl Workers {
     }
 
     pub fn number(&self) -> u32
-        ensures number { result ≡ number_of self.now }
+        ensures number { result ≡ self.now }
         ensures some { 0 < result }
         ensures at_most { result ≤ 64 }
     {

@@ -1,5 +1,5 @@
 -- What the checks of a value come to, once its kind is known.
-use Rattle.std.proofs.Common.{◌≡◌, ℕ, ◌-◌, take, ◌≤◌, ◌<◌, List, [], ◌∷◌, ◌++◌, length, get_or, drop, refl, sym, ap, ◌∙◌, arith, Option, Some, None, true, false, map, string_bytes, String, unwrap_or, ◌≢◌, Result, Err, IfErr, subst}
+use Rattle.std.proofs.Common.{◌≡◌, ℕ, ◌-◌, take, ◌≤◌, ◌<◌, List, [], ◌∷◌, ◌++◌, length, get_or, drop, refl, sym, ap, ◌∙◌, arith, Option, Some, None, true, false, map, string_bytes, String, unwrap_or, ◌≢◌, Result, Ok, Err, IfErr, subst}
 use Rattle.std.proofs.lemmas.Grind.{common_steps}
 use Rattle.std.proofs.lemmas.List.{length-map}
 use Rattle.std.proofs.lemmas.List.Folds.{list_all-map}
@@ -17,13 +17,22 @@ use Rattle.msg_files.specs.Json.{list_of, elements, keys, keys_of, all_some, is_
 use Rattle.msg_files.specs.declared.call.Call.{Call}
 use Rattle.msg_files.specs.declared.refusal.Refusal.{Refusal}
 use Rattle.msg_files.specs.declared.refusal.Refusal.TheVariants.{Shape, UnknownKey, TooMany, NotJson, NoMemory}
-use Rattle.msg_files.specs.Walk.{Agrees}
+use Rattle.msg_files.specs.Walk.{Agrees, IsAnswer}
 use Rattle.msg_files.proofs.Walks.{list_of-items_of, list_all-keys, all_some-map}
 
 -- an error that is passed on agrees, where it did
 pub Agrees_err : {A : Type 0} (cs : List Check) (o : Option A) (e : Refusal) (r : Result A Refusal) → r ≡ Err e
     → (e ≢ NotJson) × (e ≢ NoMemory → first_refusal cs ≡ Some e) → Agrees cs o r
 Agrees_err {A} cs o e r is h = let P : Result A Refusal → Type 0 = λ s. Agrees cs o s in subst P (sym is) h
+
+pub IsAnswer_err : {A : Type 0} (cs : List Check) (o : Option A) (e : Refusal) (r : Result A Refusal) → r ≡ Err e
+    → (e ≢ NotJson) × (first_refusal cs ≡ Some e) → IsAnswer cs o r
+IsAnswer_err {A} cs o e r is h = let P : Result A Refusal → Type 0 = λ s. IsAnswer cs o s in subst P (sym is) h
+
+-- the answer of what takes no memory agrees
+pub Agrees_of : {A : Type 0} (cs : List Check) (o : Option A) (r : Result A Refusal) → IsAnswer cs o r → Agrees cs o r
+Agrees_of cs o (Ok a) h = h
+Agrees_of cs o (Err e) h = (h.0, λ _. h.1)
 
 -- what holds of an error holds of a result that is that error
 pub IfErr_at : {T E : Type 0} (r : Result T E) (e : E) (P : E → Type 0) → r ≡ Err e → P e → IfErr r P

@@ -6,7 +6,12 @@ use Rattle.msg_files.specs.declared.call.Call.{Call}
 use Rattle.msg_files.specs.declared.refusal.Refusal.{Refusal}
 use Rattle.msg_files.specs.declared.refusal.Refusal.TheVariants.{NotJson, NoMemory}
 
--- an answer agrees with the checks, and with what is denoted
+-- the answer of what takes no memory: what is denoted, or else the refusal of the first check that fails
+abbrev pub IsAnswer : {A : Type 0} → List Check → Option A → Result A Refusal → Type 0
+IsAnswer checks denoted (Ok a) = (first_refusal checks ≡ None) × (denoted ≡ Some a)
+IsAnswer checks denoted (Err e) = (e ≢ NotJson) × (first_refusal checks ≡ Some e)
+
+-- the answer of what takes memory, and so may also be refused for want of it
 abbrev pub Agrees : {A : Type 0} → List Check → Option A → Result A Refusal → Type 0
 Agrees checks denoted (Ok a) = (first_refusal checks ≡ None) × (denoted ≡ Some a)
 Agrees checks denoted (Err e) = (e ≢ NotJson) × (e ≢ NoMemory → first_refusal checks ≡ Some e)

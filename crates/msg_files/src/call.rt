@@ -1,11 +1,11 @@
-use msg_system::Values;
+use msg_system::Items;
 
 /// One call on a buffer of `i64` and its cursors. A cursor is named by its number, from 0 on in the
 /// order of their making.
 #[derive(Debug, Drop)]
 pub enum Call {
     Write(i64),
-    Batch(Values),
+    Batch(Items<i64>),
     Update,
     /// Reads by this cursor, at most so many messages where a limit is given.
     Read(u32, Option<u32>),

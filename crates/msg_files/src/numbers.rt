@@ -1,5 +1,5 @@
 // Numbers in a JSON value.
-ghost use Rattle.std.specs.Prelude.{◌≡◌, ◌≢◌, ◌<◌, Some, None, IfOk, IfErr, MatchResult, map, option_and_then};
+ghost use Rattle.std.specs.Prelude.{◌≡◌, ◌≢◌, ◌<◌, [], Some, None, IfOk, IfErr, IsOk, MatchResult, map, option_and_then};
 ghost use Rattle.std.specs.List.{list_all};
 ghost use Rattle.serde_json.specs.Find.{as_number, as_i64};
 ghost use Rattle.serde_json.specs.View.{view, number_view};
@@ -73,6 +73,7 @@ pub fn whole_numbers(alloc: Global, items: &[Value]) -> Result<Vec<i64>, Refusal
         × (map whole (map view items.now) ≡ map Some v.items)) }
     ensures refused { IfErr result (λ e. (e ≢ Refusal.NotJson)
         × (e ≢ Refusal.NoMemory → first_refusal (map a_value (map view items.now)) ≡ Some e)) }
+    ensures no_memory { items.now ≡ [] → IsOk result }
 {
     let mut values = Vec::new(alloc);
     for item in items {

@@ -97,10 +97,7 @@ ends_number g i n e none = record {
 
 -- a system has one batch number, and it rises along a path
 pub number_once : (g : Graph) (i m n : ℕ) → IsBatchNumber g i m → IsBatchNumber g i n → m ≡ n
-number_once g i m n a b =
-    let la : m ≤ n = omega (arith, a.reached.1.0, b.longest a.reached.0 a.reached.1.1) in
-    let lb : n ≤ m = omega (arith, b.reached.1.0, a.longest b.reached.0 b.reached.1.1) in
-    omega arith
+number_once g i m n a b = grind arith
 
 pub number_rises : (g : Graph) (i j m n : ℕ) → Path g i j → IsBatchNumber g i m → IsBatchNumber g j n → m < n
 number_rises g i j m n p a b = elim (cases_lt m n) [

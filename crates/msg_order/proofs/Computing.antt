@@ -11,34 +11,14 @@ use Rattle.msg_world.specs.Access.{Part, OfType, OfResource, Registry, writes, u
 use Rattle.msg_order.specs.declared.rule.Rule.{Rule}
 use Rattle.msg_order.specs.Graph.{Graph, IsEdge, IsBatchNumber}
 use Rattle.msg_order.specs.Order.{has_joined, access_of, rules_among, AreInConflict, Settles, IsSettledOrder, pairs, RunsBefore, IsTurnOrder}
-use Rattle.msg_order.specs.Paths.{path}
-use Rattle.msg_order.proofs.Lists.{Contains-head, Contains-tail, Contains-cases, not_in_none, Contains-map, Contains-range}
+use Rattle.msg_order.specs.inner.Paths.{path}
+use Rattle.msg_order.proofs.Elements.{Contains-head, Contains-tail, Contains-list_any, Contains-map, Contains-range, list_all-Contains, list_any-Contains}
 use Rattle.msg_order.proofs.Chains.{Ends, ends_number, number_once}
 use Rattle.msg_order.proofs.PathTest.{no_Path, to_Path}
-use Rattle.msg_order.proofs.Rows.{joined_in}
-
-any_of : {X : Type 0} (test : X → Bool) (xs : List X) (x : X) → Contains xs x → test x ≡ true → list_any test xs ≡ true
-any_of test [] x h t = absurd (not_in_none x h)
-any_of test (y ∷ ys) x h t = elim (Contains-cases y ys x h) [
-  | inl s ↦ or_left (test y) (list_any test ys) (subst (λ z. test z ≡ true) (sym s) t)
-  | inr m ↦ or_right (test y) (list_any test ys) (any_of test ys x m t)
-]
-
-found_any : {X : Type 0} (test : X → Bool) (xs : List X) → list_any test xs ≡ true → (x : X) × (Contains xs x × (test x ≡ true))
-found_any test [] h = absurd (false≢true h)
-found_any test (y ∷ ys) h = elim (or_cases (test y) (list_any test ys) h) [
-  | inl t ↦ (y, (Contains-head y ys, t))
-  | inr m ↦ let f = found_any test ys m in (f.0, (Contains-tail y ys f.0 f.1.0, f.1.1))
-]
-
-each_of : {X : Type 0} (test : X → Bool) (xs : List X) (x : X) → list_all test xs ≡ true → Contains xs x → test x ≡ true
-each_of test [] x all h = absurd (not_in_none x h)
-each_of test (y ∷ ys) x all h =
-    let both = and_parts (test y) (list_all test ys) all in
-    elim (Contains-cases y ys x h) [ inl s ↦ subst (λ z. test z ≡ true) s both.0 | inr m ↦ each_of test ys x both.1 m ]
+use Rattle.msg_order.proofs.SetPaths.{joined_in}
 
 pub each_below : (test : ℕ → Bool) (n i : ℕ) → list_all test (range_with_len 0 n) ≡ true → i < n → test i ≡ true
-each_below test n i all lt = each_of test (range_with_len 0 n) i all (Contains-range 0 n i (omega arith) (omega (arith, lt)))
+each_below test n i all lt = list_all-Contains test (range_with_len 0 n) i all (Contains-range 0 n i (omega arith) (omega (arith, lt)))
 
 -- ---- conflicts
 
@@ -70,13 +50,13 @@ used_is_below n a fits (OfResource r) u =
 
 conflict_is : (n : ℕ) (a b : Access) → Fits n n a → Fits n n b → IsTrue (conflict_below n a b) ↔ Conflict a b
 conflict_is n a b fits_a fits_b = (
-  λ t. let f = found_any (meet_at a b) (parts_below n) t in (f.0, or_cases (writes a f.0 && uses b f.0) (writes b f.0 && uses a f.0) f.1.1),
+  λ t. let f = Contains-list_any (meet_at a b) (parts_below n) t in (f.0, or_cases (writes a f.0 && uses b f.0) (writes b f.0 && uses a f.0) f.1.1),
   λ c.
       let p : Part = c.0 in
       elim c.1 [
-        | inl x ↦ any_of (meet_at a b) (parts_below n) p (used_is_below n b fits_b p (and_parts (writes a p) (uses b p) x).1)
+        | inl x ↦ list_any-Contains (meet_at a b) (parts_below n) p (used_is_below n b fits_b p (and_parts (writes a p) (uses b p) x).1)
             (or_left (writes a p && uses b p) (writes b p && uses a p) x)
-        | inr x ↦ any_of (meet_at a b) (parts_below n) p (used_is_below n a fits_a p (and_parts (writes b p) (uses a p) x).1)
+        | inr x ↦ list_any-Contains (meet_at a b) (parts_below n) p (used_is_below n a fits_a p (and_parts (writes b p) (uses a p) x).1)
             (or_right (writes a p && uses b p) (writes b p && uses a p) x)
       ],
 )
@@ -103,17 +83,7 @@ settle_is C test is (p ∷ ps) g = elim (cases_Bool (test p.0 p.1)) [
 
 are_in_conflict_is : (n : ℕ) (accesses : List Access) (joined : List Bool) → ((i : ℕ) → Fits n n (access_of accesses i)) → (i j : ℕ)
     → IsTrue (are_in_conflict n accesses joined i j) ↔ AreInConflict accesses joined i j
-are_in_conflict_is n accesses joined fit i j =
-    let a : Access = access_of accesses i in
-    let b : Access = access_of accesses j in
-    let same = conflict_is n a b (fit i) (fit j) in (
-      λ t.
-          let both = and_parts (has_joined joined i && has_joined joined j) (conflict_below n a b) t in
-          let who = and_parts (has_joined joined i) (has_joined joined j) both.0 in
-          record { first_joined = who.0; second_joined = who.1; conflict = same.0 both.1 },
-      λ c. and_from (has_joined joined i && has_joined joined j) (conflict_below n a b)
-          (and_from (has_joined joined i) (has_joined joined j) c.first_joined c.second_joined) (same.1 c.conflict),
-    )
+are_in_conflict_is n accesses joined fit i j = grind (arith, conflict_is, and_parts, and_from)
 
 -- ---- batch numbers
 
@@ -153,7 +123,7 @@ longest_ends g zero j = tt
 longest_ends g (suc n) j = above_ends g (longest g n) (longest_ends g n) g (λ a b e. e) j
 
 rises_to : (g : Graph) (number : ℕ → ℕ) → rise_in g number ≡ true → (i j : ℕ) → IsEdge g i j → number i < number j
-rises_to g number rises i j e = ltb-true (number i) (number j) (each_of (λ (x : ℕ × ℕ). nat_lt (number x.0) (number x.1)) g (i, j) rises e)
+rises_to g number rises i j e = ltb-true (number i) (number j) (list_all-Contains (λ (x : ℕ × ℕ). nat_lt (number x.0) (number x.1)) g (i, j) rises e)
 
 rise_bound : (g : Graph) (number : ℕ → ℕ) → rise_in g number ≡ true → (m j : ℕ) → Ends g (suc m) j → m < number j
 rise_bound g number rises zero j e = let up : number e.0 < number j = rises_to g number rises e.0 j e.1.1 in omega arith
@@ -227,12 +197,12 @@ in_turn_by_test n accesses rules joined order fit t =
       is_settled = settle_is (AreInConflict accesses joined) (are_in_conflict n accesses joined) (are_in_conflict_is n accesses joined fit) (pairs (length accesses)) (rules_among joined rules);
       in_order = record {
         of_joined = λ i. (
-          λ h. each_of (has_joined joined) order i second.0 h,
+          λ h. list_all-Contains (has_joined joined) order i second.0 h,
           λ h.
               elim (or_cases (not (has_joined joined i)) (list_any (λ k. k == i) order)
               (each_below (λ j. not (has_joined joined j) || list_any (λ k. k == j) order) (length joined) i second.1 (joined_in joined i h))) [
                 | inl f ↦ absurd (false≢true (sym (not-true (has_joined joined i) f) ∙ h))
-                | inr t ↦ let f = found_any (λ k. k == i) order t in subst (Contains order) (eqb-true f.0 i f.1.1) f.1.0
+                | inr t ↦ let f = Contains-list_any (λ k. k == i) order t in subst (Contains order) (eqb-true f.0 i f.1.1) f.1.0
               ],
         );
         all = λ i h. (number i, number_is g (length accesses) first.0 i);

@@ -1,20 +1,19 @@
 -- That there is a settled order, and a list of its batches, for all systems whose rules make no cycle.
 use Rattle.std.proofs.Common.{◌≡◌, ℕ, zero, suc, ◌<◌, ◌≤◌, ◌⊎◌, inl, inr, Bool, true, not, ◌&&◌, List, [], ◌∷◌, ◌++◌, length, refl, sym, ◌∙◌, arith}
 use Rattle.std.specs.Prelude.{filter}
-use Rattle.std.specs.List.{concat, range_with_len}
+use Rattle.std.specs.List.{concat, list_any, range_with_len}
 use Rattle.std.proofs.lemmas.Bool.{cases_Bool, cases_eq, and_parts, and_from, false≢true}
 use Rattle.msg_world.specs.declared.access.Access.{Access}
-use Rattle.msg_world.proofs.Parts.{decide_conflict}
+use Rattle.msg_world.proofs.Conflicts.{decide_conflict}
 use Rattle.msg_order.specs.Graph.{Graph, IsAcyclic}
 use Rattle.msg_order.specs.Order.{has_joined, access_of, rules_among, AreInConflict, GainsEdge, Settles, pairs, AreBatches, RunsBefore}
-use Rattle.msg_order.specs.Paths.{path}
-use Rattle.msg_order.specs.SystemSet.{any_below}
+use Rattle.msg_order.specs.inner.Paths.{path}
 use Rattle.msg_order.specs.Laws.{SettledOrderExists, BatchesExist, TurnOrderExists, TurnOrderIsUnique}
-use Rattle.msg_order.proofs.Words.{any_below-found, any_below-true}
+use Rattle.msg_order.proofs.SystemSets.{some_below, below_some}
 use Rattle.msg_order.proofs.PathTest.{no_Path, to_Path}
-use Rattle.msg_order.proofs.Peeling.{TellsBlocked, LeadAmong, ArePeeled, peeled_first, peeled_next, peeled_all, peeled_done, count_left, left_falls}
-use Rattle.msg_order.proofs.Rows.{joined_in}
-use Rattle.msg_order.proofs.Standing.{in_turn_order}
+use Rattle.msg_order.proofs.BatchLevels.{TellsBlocked, LeadAmong, ArePeeled, peeled_first, peeled_next, peeled_all, peeled_done, count_left, left_falls}
+use Rattle.msg_order.proofs.SetPaths.{joined_in}
+use Rattle.msg_order.proofs.TurnOrders.{in_turn_order}
 use Rattle.msg_order.proofs.Uniqueness.{same_ordered}
 
 -- either of the two
@@ -54,12 +53,12 @@ settled_some accesses rules joined = settles_some (AreInConflict accesses joined
 
 -- one of those left has a path to it
 abbrev blocked : Graph → (ℕ → Bool) → ℕ → ℕ → Bool
-blocked g left n i = any_below (λ k. path g k i && left k) n
+blocked g left n i = list_any (λ k. path g k i && left k) (range_with_len 0 n)
 
 tells : (g : Graph) (left : ℕ → Bool) (n : ℕ) → ((k : ℕ) → left k ≡ true → k < n) → TellsBlocked g left (blocked g left n)
 tells g left n within = record {
-  found = λ i k p l. any_below-found (λ k. path g k i && left k) k n (within k l) (and_from (path g k i) (left k) p l);
-  by = λ i b. let f = any_below-true (λ k. path g k i && left k) n b in (f.0, and_parts (path g f.0 i) (left f.0) f.1.1);
+  found = λ i k p l. some_below (λ k. path g k i && left k) n k (within k l) (and_from (path g k i) (left k) p l);
+  by = λ i b. let f = below_some (λ k. path g k i && left k) n b in (f.0, and_parts (path g f.0 i) (left f.0) f.1.1);
 }
 
 -- What comes next: all batches, or one more and fewer left.

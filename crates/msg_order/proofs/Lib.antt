@@ -1,13 +1,19 @@
-mod Words
-mod Lists
+-- Lists, sets of systems, and paths
+mod Elements
+mod SystemSets
 mod Chains
 mod PathTest
-mod Settling
-mod Rows
-mod Peeling
-mod Standing
-mod Viewing
-mod Accepting
-mod Uniqueness
+-- The settled order
+mod SettledPairs
+mod SetPaths
+-- Batches and turns
+mod BatchLevels
+mod TurnOrders
+-- What a plan says
+mod PlanViews
+mod AcceptedOrders
+-- One order for all accesses and rules
 mod Existence
+mod Uniqueness
+-- The order of worked rows, by tests
 pub mod Computing

@@ -10,11 +10,11 @@ use Rattle.msg_order.specs.declared.rule.Rule.{Rule}
 use Rattle.msg_order.specs.Graph.{Graph, IsBatchNumber}
 use Rattle.msg_order.specs.Order.{has_joined, access_of, rules_among, AreInConflict, pairs, batch_at, AreBatches}
 use Rattle.msg_order.specs.Laws.{FewerSystemsMakeNoCycle, SettlingMakesNoCycle, ConflictingSystemsAreOrdered, SettledOrderIsUnique, BatchesAreUnique, BatchNumbersRise, LawfulOrdersKeepPaths}
-use Rattle.msg_order.proofs.Lists.{Contains-head, Contains-tail, Contains-cases, not_in_none, filter-Contains, Contains-filter}
+use Rattle.msg_order.proofs.Elements.{Contains-head, Contains-tail, Contains-cases, not_in_none, filter-Contains, Contains-filter}
 use Rattle.msg_order.proofs.Chains.{path_grows, number_once, number_rises}
-use Rattle.msg_order.proofs.Settling.{settles_once, settles_covers, Contains-pairs}
-use Rattle.msg_order.proofs.Rows.{joined_in, settled_free}
-use Rattle.msg_order.proofs.Standing.{kept_along}
+use Rattle.msg_order.proofs.SettledPairs.{settles_once, settles_covers, Contains-pairs}
+use Rattle.msg_order.proofs.SetPaths.{joined_in, settled_free}
+use Rattle.msg_order.proofs.TurnOrders.{kept_along}
 
 pub fewer_make_none : FewerSystemsMakeNoCycle
 fewer_make_none rules joined fewer among free i p = free i (path_grows (rules_among fewer rules) (rules_among joined rules) (λ a b e.

@@ -19,11 +19,13 @@ access_of accesses i = slice_index_or accesses i no_access
 abbrev pub NameSystemsBelow : ℕ → List Rule → Type 0
 NameSystemsBelow n rules = All (λ rule. (rule.earlier < n) × (rule.later < n)) rules
 
+-- the rules as edges
+abbrev pub edges_of : List Rule → Graph
+edges_of rules = map (λ rule. (rule.earlier, rule.later)) rules
+
 -- the rules among the joined systems
 abbrev pub rules_among : List Bool → List Rule → Graph
-rules_among joined rules =
-    filter (λ e. has_joined joined e.0 && has_joined joined e.1)
-    (map (λ rule. (rule.earlier, rule.later)) rules)
+rules_among joined rules = filter (λ e. has_joined joined e.0 && has_joined joined e.1) (edges_of rules)
 
 -- each edge leads from a joined system to a joined system
 abbrev pub IsAmong : List Bool → Graph → Type 0

@@ -3,8 +3,8 @@ ghost use Rattle.std.specs.Prelude.{◌≡◌, ◌&&◌, ℕ, ◌<◌, ◌≤◌
 ghost use Rattle.std.specs.List.{range_with_len};
 ghost use Rattle.msg_order.specs.Graph.{Graph, IsAcyclic};
 ghost use Rattle.msg_order.specs.Order.{AreBatches, IsAmong};
-ghost use Rattle.msg_order.specs.Paths.{ArePaths, IsSetOf, is_ready, set_at};
-ghost use Rattle.msg_order.specs.SystemSet.{has, meets};
+ghost use Rattle.msg_order.specs.inner.Paths.{ArePaths, IsSetOf, is_ready, set_at};
+ghost use Rattle.msg_order.specs.inner.SystemSet.{has, meets};
 
 use crate::system_set::SystemSet;
 use std::alloc::{AllocError, Allocator};

@@ -1,6 +1,7 @@
 //! In which order systems run: rules, the settled order, and batches that may run side by side.
 #![tactic(auto)]
 
+mod cycles;
 pub mod laws;
 mod levels;
 mod paths;
@@ -9,6 +10,7 @@ mod plan_refusal;
 mod rule;
 mod system_set;
 
+pub use cycles::lowest_on_cycle;
 pub use plan::Plan;
 pub use plan_refusal::PlanRefusal;
 pub use rule::Rule;

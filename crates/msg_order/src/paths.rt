@@ -1,13 +1,27 @@
 // The paths of a growing graph: before each system those from which a path leads to it.
-ghost use Rattle.std.specs.Prelude.{◌≡◌, ◌==◌, ◌||◌, ◌&&◌, ℕ, ◌<◌, ◌≤◌, ◌↔◌, [], true, false, length, IsTrue, IsFalse, MatchOption};
+ghost use Rattle.std.specs.Prelude.{◌≡◌, ◌==◌, ◌||◌, ◌&&◌, ℕ, ◌<◌, ◌≤◌, ◌↔◌, [], true, false, length, IfOk, IsTrue, IsFalse, MatchOption, OnErr};
 ghost use Rattle.msg_order.specs.Graph.{Graph, IsAcyclic, IsLowestOnCycle};
 ghost use Rattle.msg_order.specs.Order.{AreInConflict, NameSystemsBelow, rules_among};
-ghost use Rattle.msg_order.specs.Paths.{ArePaths, AreSettled, comes_before, set_at};
-ghost use Rattle.msg_order.specs.SystemSet.{has, meets};
+ghost use Rattle.msg_order.specs.inner.Paths.{ArePaths, AreSettled, comes_before, set_at};
+ghost use Rattle.msg_order.specs.inner.SystemSet.{has, meets};
 
 use crate::Rule;
 use crate::system_set::SystemSet;
 use msg_world::Access;
+use std::alloc::{AllocError, Allocator};
+
+/// So many systems without a path.
+pub fn no_paths<A: Allocator>(alloc: A, systems: usize) -> Result<Vec<SystemSet, A>, AllocError>
+    ensures len { IfOk result (λ before. length before.items ≡ systems) }
+    ensures none_yet { IfOk result (λ before. ArePaths [] before.items) }
+    ensures asked { OnErr result (0 < systems) }
+{
+    let mut before = Vec::new(alloc);
+    for _system in 0..systems {
+        before.push(SystemSet::empty())?;
+    }
+    Ok(before)
+}
 
 /// Adds the edges from one system to each of these.
 pub fn add_edges(before: &mut [SystemSet], from: usize, to: &SystemSet)
@@ -97,7 +111,8 @@ fn settle_pairs(before: &mut [SystemSet], accesses: &[Access], joined: &[bool])
     }
 }
 
-fn lowest_on_cycle(before: &[SystemSet]) -> Option<u32>
+/// The lowest system that stands before itself.
+fn lowest_before_itself(before: &[SystemSet]) -> Option<u32>
     requires few { length before.now ≤ 256 }
     ensures { MatchOption result ((s : ℕ) → comes_before before.now s s ≡ false)
         (λ s. (comes_before before.now s s ≡ true)
@@ -109,6 +124,21 @@ fn lowest_on_cycle(before: &[SystemSet]) -> Option<u32>
         }
     }
     None
+}
+
+/// Adds the rules among the joined systems as edges, and gives the lowest system on a cycle of
+/// them.
+pub fn follow_rules(before: &mut [SystemSet], rules: &[Rule], joined: &[bool]) -> Option<u32>
+    requires few { length before.old ≤ 256 }
+    requires one_each { length joined.now ≡ length before.old }
+    requires in_range { NameSystemsBelow (length before.old) rules.now }
+    requires none_yet { ArePaths [] before.old }
+    ensures { let among : Graph = rules_among joined.now rules.now in
+        MatchOption result (IsAcyclic among × ArePaths among before.new)
+        (IsLowestOnCycle among) }
+{
+    add_rules(before, rules, joined);
+    lowest_before_itself(before)
 }
 
 /// Settles the order of the joined systems, or gives the lowest system on a cycle of rules.
@@ -128,8 +158,7 @@ pub fn settle(
         (IsAcyclic among × AreSettled accesses.now joined.now among before.new)
         (IsLowestOnCycle among) }
 {
-    add_rules(before, rules, joined);
-    if let Some(s) = lowest_on_cycle(before) {
+    if let Some(s) = follow_rules(before, rules, joined) {
         return Some(s);
     }
     settle_pairs(before, accesses, joined);

@@ -1,16 +1,16 @@
-ghost use Rattle.std.specs.Prelude.{◌≡◌, ◌<◌, ◌≤◌, [], length, map, Err, IfErr, IfOk, OnErr, OnOk};
+ghost use Rattle.std.specs.Prelude.{◌≡◌, ◌<◌, ◌≤◌, [], length, map, Err, IfErr, IfOk, OnOk};
 ghost use Rattle.msg_order.specs.declared.plan_refusal.PlanRefusal.TheVariants.{NoMemory};
 ghost use Rattle.msg_order.specs.Graph.{IsAcyclic};
 ghost use Rattle.msg_order.specs.Order.{NameSystemsBelow, rules_among};
 ghost use Rattle.msg_order.specs.Plan.{IsPlanOf, PlanView, RefusesFor};
-ghost use Rattle.msg_order.specs.Paths.{AreKept, ArePaths, IsSetOf, view_of};
+ghost use Rattle.msg_order.specs.inner.Paths.{AreKept, ArePaths, IsSetOf, view_of};
 
 use crate::levels::batches_of;
-use crate::paths::settle;
+use crate::paths::{no_paths, settle};
 use crate::system_set::SystemSet;
 use crate::{PlanRefusal, Rule};
 use msg_world::Access;
-use std::alloc::{AllocError, Allocator, Global};
+use std::alloc::{Allocator, Global};
 use std::marker::Model;
 
 /// In which order systems run: batches one after the other, and the systems of a batch side by
@@ -28,18 +28,6 @@ impl<A: Allocator> Model for Plan<A> {
     ghost view = { λ p. view_of p.before.items p.joined (map (λ batch. batch.items) p.batches.items) };
 
     ghost invariant = { λ p. AreKept p.before.items p.joined };
-}
-
-fn no_paths<A: Allocator>(alloc: A, systems: usize) -> Result<Vec<SystemSet, A>, AllocError>
-    ensures len { IfOk result (λ before. length before.items ≡ systems) }
-    ensures none_yet { IfOk result (λ before. ArePaths [] before.items) }
-    ensures asked { OnErr result (0 < systems) }
-{
-    let mut before = Vec::new(alloc);
-    for _system in 0..systems {
-        before.push(SystemSet::empty())?;
-    }
-    Ok(before)
 }
 
 fn set_of(joined: &[bool]) -> SystemSet

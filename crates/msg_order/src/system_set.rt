@@ -7,7 +7,7 @@ pub struct SystemSet {
 }
 
 impl SystemSet {
-    ghost use Rattle.msg_order.specs.SystemSet.{has, meets};
+    ghost use Rattle.msg_order.specs.inner.SystemSet.{has, meets};
 
     pub fn empty() -> Self
         ensures { (k : ℕ) → has result k ≡ false }

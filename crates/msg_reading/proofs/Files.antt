@@ -14,7 +14,7 @@ use Rattle.msg_reading.specs.declared.scenario.Scenario.{Scenario}
 use Rattle.msg_reading.specs.declared.scenario.read.file.ScheduleSections.{ScheduleSections}
 use Rattle.msg_reading.specs.declared.scenario.read.file.WorldSections.{WorldSections}
 use Rattle.msg_reading.specs.declared.scenario.SystemSpec.{SystemSpec}
-use Rattle.msg_exec.specs.declared.frame.Frame.{Frame}
+use Rattle.msg_frames.specs.declared.frame.Frame.{Frame}
 use Rattle.msg_order.specs.declared.rule.Rule.{Rule}
 use Rattle.msg_files.specs.declared.refusal.Refusal.{Refusal}
 use Rattle.msg_files.specs.declared.refusal.Refusal.TheVariants.{Shape, UnknownKey}

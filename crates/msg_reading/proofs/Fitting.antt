@@ -1,10 +1,8 @@
 -- What the systems of a scenario file use is there, and so are the types that its frames post to.
-use Rattle.std.proofs.Common.{◌≡◌, ℕ, ◌+◌, ◌≤◌, ◌<◌, List, [], ◌∷◌, ◌++◌, length, refl, sym, ap, ◌∙◌, subst, Option, Some, None, Bool, true, false, arith, map, inl, inr}
-use Rattle.std.proofs.lemmas.Grind.{common_steps}
+use Rattle.std.proofs.Common.{◌≡◌, ℕ, ◌+◌, ◌≤◌, ◌<◌, List, [], ◌∷◌, ◌++◌, length, refl, sym, ap, ◌∙◌, subst, Option, Some, None, Bool, true, false, arith, inl, inr}
 use Rattle.std.proofs.lemmas.List.Elements.{All-cons, All-head, All-nil, All-tail}
 use Rattle.std.proofs.lemmas.List.Quantifiers.{position-Some}
-use Rattle.std.specs.Prelude.{All, IsTrue, ◌&&◌, ◌||◌, ◌⊎◌, not, codes, flat_map, if◌then◌else◌, is_some, nat_le, nat_lt, option_and_then, option_map, ℤ}
-use Rattle.std.specs.List.{list_any}
+use Rattle.std.specs.Prelude.{All, IsTrue, ◌&&◌, not, codes, flat_map, if◌then◌else◌, is_some, nat_le, nat_lt, option_and_then, option_map, ℤ}
 use Rattle.std.specs.Option.{option_map_or}
 use Rattle.std.specs.Str.{bytes_eq}
 use Rattle.serde_json.specs.Data.{Data}
@@ -14,21 +12,19 @@ use Rattle.msg_system.specs.declared.condition.Condition.{Condition}
 use Rattle.msg_system.specs.declared.condition.Probe.{Probe}
 use Rattle.msg_system.specs.declared.condition.Probe.TheVariants.{OnMessage, ResourceEquals}
 use Rattle.msg_system.specs.declared.op.Op.{Op}
-use Rattle.msg_system.specs.declared.op.Op.TheVariants.{Write, Batch, Read, Len, Missed, Clear, Forward, Sum, Get, Set, Add, Drain, Signal}
-use Rattle.msg_system.specs.declared.start.Start.{Start}
-use Rattle.msg_exec.specs.declared.frame.Frame.{Frame}
-use Rattle.msg_exec.specs.declared.place.Place.{Place}
-use Rattle.msg_files.specs.Check.{Check, first_refusal, needs}
+use Rattle.msg_system.specs.declared.op.Op.TheVariants.{Write, Batch, Read, Len, Missed, Clear, Forward, Sum, Get, Set, Add, Drain}
+use Rattle.msg_frames.specs.declared.frame.Frame.{Frame}
+use Rattle.msg_frames.specs.declared.place.Place.{Place}
+use Rattle.msg_files.specs.Check.{first_refusal, needs}
 use Rattle.msg_files.specs.Denotes.{values_of}
-use Rattle.msg_files.specs.Json.{Text, all_some, elements, is_number, natural, number_up_to, only_below, value_at, whole}
+use Rattle.msg_files.specs.Json.{Text, elements, is_number, natural, number_up_to, only_below, value_at, whole}
 use Rattle.msg_reading.specs.Names.{Declared, resource_number, type_number}
 use Rattle.msg_reading.specs.Names as names_of
 use Rattle.msg_reading.specs.Runnable.{FitKind, HasPart, PostsAreToTypes}
 use Rattle.msg_reading.specs.ScenarioChecks.{checks_in_turn, clash_checks, fits_kind, join_checks, reads_and_writes_a_type, list_checks, name_checks, of_its_kind, op_checks, ops_checks, condition_checks, place_checks, program_checks, system_checks, system_object}
-use Rattle.msg_reading.specs.ScenarioDenotes.{both, condition_of, conditions_in, each_in_turn, each_of, frame_of, inside_nots, join_in, kind_in, kind_of, nots_round, of_headed, of_two, op_of, op_with, op_with_one, op_with_two, ops_of, place_of, post_of, probe_with, start_in, start_of, system_of, text, with_system}
+use Rattle.msg_reading.specs.ScenarioDenotes.{both, condition_of, conditions_in, each_in_turn, each_of, frame_of, inside_nots, join_in, kind_in, kind_of, nots_round, of_headed, op_of, op_with, op_with_one, op_with_two, ops_of, place_of, post_of, probe_with, start_in, start_of, system_of, text, with_system}
 use Rattle.msg_reading.specs.declared.kind.Kind.{Kind}
 use Rattle.msg_reading.specs.declared.kind.Kind.TheVariants.{Script, Relay, Tally}
-use Rattle.msg_files.specs.declared.refusal.Refusal.{Refusal}
 use Rattle.msg_files.specs.declared.refusal.Refusal.TheVariants.{BadNumber, Clash, Shape}
 use Rattle.msg_reading.specs.declared.scenario.Scenario.{Scenario}
 use Rattle.msg_reading.specs.declared.scenario.SystemSpec.{SystemSpec}

@@ -8,9 +8,9 @@ use Rattle.serde_json.specs.Find.{as_array, as_object, as_str}
 use Rattle.serde_json.specs.View.{view, items_view, members_view}
 use Rattle.serde_json.specs.declared.value.Value.{Value}
 use Rattle.msg_files.specs.Check.{Check, first_refusal, needs}
-use Rattle.msg_files.specs.Json.{Text, elements, keys, keys_of, list_of}
+use Rattle.msg_files.specs.Json.{Text, elements, keys, keys_of}
 use Rattle.msg_reading.specs.ScenarioChecks.{for_headed, for_two, is_text, wrong_shape}
-use Rattle.msg_reading.specs.ScenarioDenotes.{both, of_headed, of_two, text}
+use Rattle.msg_reading.specs.ScenarioDenotes.{both, of_headed, text}
 use Rattle.msg_files.specs.Walk.{Agrees}
 use Rattle.msg_files.specs.declared.refusal.Refusal.{Refusal}
 use Rattle.msg_files.specs.declared.refusal.Refusal.TheVariants.{NoMemory, NotJson, Shape, UnknownName}
@@ -32,12 +32,6 @@ module _ {A : Type 0} where
   two_of (x ∷ y ∷ []) v w least below is is' = ap (λ z. z ∷ y ∷ []) (sym is) ∙ ap (λ z. v ∷ z ∷ []) (sym is')
   two_of (x ∷ y ∷ z ∷ rest) v w least below is is' = absurd (omega (arith, below))
 
-  pub three_of : (xs : List A) → 3 ≤ length xs → (a : A) × (b : A) × (c : A) × (rest : List A) × (xs ≡ a ∷ b ∷ c ∷ rest)
-  three_of [] least = absurd (omega (arith, least))
-  three_of (x ∷ []) least = absurd (omega (arith, least))
-  three_of (x ∷ y ∷ []) least = absurd (omega (arith, least))
-  three_of (x ∷ y ∷ z ∷ rest) least = (x, y, z, rest, refl)
-
 -- a list is its first item and the range of the others
 pub first_and_rest : (d : Data) (xs : List Value) (v : Value) → Some (items_view xs) ≡ as_array d → 1 ≤ length xs
     → v ≡ get_or xs 0 v → elements d ≡ view v ∷ map view (take (length xs - 1) (drop 1 xs))
@@ -53,34 +47,12 @@ not_two f (x ∷ []) other = refl
 not_two f (x ∷ y ∷ []) other = absurd (other refl)
 not_two f (x ∷ y ∷ z ∷ rest) other = refl
 
--- the two items of a list
-pub both_items : (d : Data) (xs : List Value) (v w : Value) → Some (items_view xs) ≡ as_array d → length xs ≡ 2
-    → v ≡ get_or xs 0 v → w ≡ get_or xs 1 w → elements d ≡ view v ∷ view w ∷ []
-both_items d xs v w list two is is' =
-    elements_are d xs list ∙ ap (map view) (two_of xs v w (omega (arith, two)) (omega (arith, two)) is is')
-
--- ---- values that are no lists have no elements
-
-pub no_elements : (d : Data) → None ≡ as_array d → elements d ≡ []
-no_elements d none = ap (λ o. unwrap_or (option_map list_of o) []) (sym none)
-
-pub no_list_of_two : (f : Data → Data → List Check) (d : Data) → None ≡ as_array d → for_two f (elements d) ≡ wrong_shape
-no_list_of_two f d none = ap (for_two f) (no_elements d none)
-
 -- ---- what agrees with equal checks
 
 pub Agrees_by : {A : Type 0} (cs ds : List Check) (o p : Option A) (r : Result A Refusal)
     → first_refusal cs ≡ first_refusal ds → o ≡ p → Agrees ds p r → Agrees cs o r
 Agrees_by cs ds o p (Ok a) e f h = (e ∙ h.0, f ∙ h.1)
 Agrees_by cs ds o p (Err x) e f h = (h.0, λ m. e ∙ h.1 m)
-
-pub two_checked : (f : Data → Data → List Check) (d a b : Data) → elements d ≡ a ∷ b ∷ []
-    → first_refusal (for_two f (elements d)) ≡ first_refusal (f a b)
-two_checked f d a b is = ap (λ ds. first_refusal (for_two f ds)) is
-
-pub two_denoted : {A : Type 0} (f : Data → Data → Option A) (d a b : Data) → elements d ≡ a ∷ b ∷ []
-    → of_two f (elements d) ≡ f a b
-two_denoted f d a b is = ap (of_two f) is
 
 pub headed_checked : (f : Text → List Data → List Check) (d head : Data) (ps : List Data) (name : Text)
     → as_str head ≡ Some name → elements d ≡ head ∷ ps

@@ -12,7 +12,7 @@ use Rattle.msg_reading.specs.Names.{Declared}
 use Rattle.msg_reading.specs.ScenarioChecks.{fits_kind, is_system_key, list_checks, name_checks, of_its_kind, op_checks, ops_checks, place_checks, program_checks, system_checks, system_object}
 use Rattle.msg_reading.specs.ScenarioDenotes.{both, each_of, kind_in, kind_of, op_of, ops_of, place_of, start_in, start_of, system_of, text}
 use Rattle.msg_system.specs.declared.start.Start.{Start}
-use Rattle.msg_exec.specs.declared.place.Place.{Place}
+use Rattle.msg_frames.specs.declared.place.Place.{Place}
 use Rattle.msg_reading.specs.declared.kind.Kind.{Kind}
 use Rattle.msg_reading.specs.declared.scenario.SystemSpec.{SystemSpec}
 use Rattle.msg_files.specs.declared.refusal.Refusal.{Refusal}

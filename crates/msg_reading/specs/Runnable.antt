@@ -9,11 +9,10 @@ use Rattle.msg_system.specs.Needs.{job_needs, needs_any, program_needs}
 use Rattle.msg_system.specs.Systems.{Meaning, new_system}
 use Rattle.msg_system.specs.declared.op.Op.{Op}
 use Rattle.msg_system.specs.declared.op.Op.TheVariants.{Forward, Sum}
-use Rattle.msg_exec.specs.Building.{all_rules}
-use Rattle.msg_exec.specs.Frames.{first_state}
-use Rattle.msg_exec.specs.State.{State}
-use Rattle.msg_exec.specs.declared.frame.Frame.{Frame}
-use Rattle.msg_exec.specs.declared.place.Place.{Place}
+use Rattle.msg_frames.specs.FirstState.{all_rules, first_state}
+use Rattle.msg_frames.specs.State.{State}
+use Rattle.msg_frames.specs.declared.frame.Frame.{Frame}
+use Rattle.msg_frames.specs.declared.place.Place.{Place}
 use Rattle.msg_reading.specs.declared.kind.Kind.{Kind}
 use Rattle.msg_reading.specs.declared.kind.Kind.TheVariants.{Script, Relay, Tally}
 use Rattle.msg_reading.specs.declared.scenario.Scenario.{Scenario}

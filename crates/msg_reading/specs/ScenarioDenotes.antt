@@ -10,8 +10,8 @@ use Rattle.msg_system.specs.declared.condition.Probe.{Probe}
 use Rattle.msg_system.specs.declared.condition.Probe.TheVariants.{OnMessage, ResourceEquals}
 use Rattle.msg_system.specs.declared.start.Start.{Start}
 use Rattle.msg_system.specs.declared.start.Start.TheVariants.{Zero, Current}
-use Rattle.msg_exec.specs.declared.frame.Frame.{Frame}
-use Rattle.msg_exec.specs.declared.place.Place.{Place}
+use Rattle.msg_frames.specs.declared.frame.Frame.{Frame}
+use Rattle.msg_frames.specs.declared.place.Place.{Place}
 use Rattle.msg_order.specs.declared.rule.Rule.{Rule}
 use Rattle.msg_files.specs.Denotes.{values_of}
 use Rattle.msg_files.specs.Json.{Text, elements, value_at, whole, natural, all_some}

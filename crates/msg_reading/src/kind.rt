@@ -1,4 +1,4 @@
-/// What a box a system is put into.
+/// Which kind of box a system is put into.
 #[derive(Clone, Copy, Debug, PartialEq, Eq)]
 pub enum Kind {
     /// Interprets its ops.

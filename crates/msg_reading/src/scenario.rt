@@ -1,5 +1,5 @@
 use crate::{Kind, Name};
-use msg_exec::{Frame, Items, Place};
+use msg_frames::{Frame, Items, Place};
 use msg_order::Rule;
 use msg_system::Program;
 

@@ -20,6 +20,8 @@ mod scenes;
 #[cfg(test)]
 mod sparing;
 #[cfg(test)]
+mod std_sinks;
+#[cfg(test)]
 mod texts;
 #[cfg(test)]
 mod worked;

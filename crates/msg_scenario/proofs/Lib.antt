@@ -1,4 +1,6 @@
+-- the engine of a scenario
 pub mod Making
-pub mod ReportFrames
+-- its report: the text of a frame, of frames, and what the sink took of them
 pub mod ReportLines
+pub mod ReportFrames
 pub mod Reporting

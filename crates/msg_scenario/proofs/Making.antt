@@ -8,12 +8,12 @@ use Rattle.msg_world.specs.Access.{OfResource, OfType, Part, Registry}
 use Rattle.msg_world.specs.Parts.{Has, Parts, PartsStand}
 use Rattle.msg_world.specs.World.{WorldState, held, new_world}
 use Rattle.msg_order.specs.declared.rule.Rule.{Rule}
-use Rattle.msg_exec.specs.Frames.{first_state}
-use Rattle.msg_system.specs.Needs.{job_needs, needs_any, program_needs}
+use Rattle.msg_frames.specs.FirstState.{IsNew, all_rules, first_state}
+use Rattle.msg_system.specs.Needs.{job_needs, needs_any, with_conditions}
 use Rattle.msg_system.specs.Systems.{Meaning, new_system}
 use Rattle.msg_order.specs.Graph.{IsAcyclic, IsLowestOnCycle}
-use Rattle.msg_exec.specs.declared.place.Place.{Place}
-use Rattle.msg_exec.specs.Building.{EachIs, IsLowestClash, MayBeAdded, all_rules}
+use Rattle.msg_frames.specs.declared.place.Place.{Place}
+use Rattle.msg_exec.specs.Building.{EachIs, IsLowestClash, MayBeAdded}
 use Rattle.msg_reading.specs.declared.scenario.Scenario.{Scenario}
 use Rattle.msg_reading.specs.declared.scenario.SystemSpec.{SystemSpec}
 use Rattle.msg_reading.specs.Runnable.{HasPart, IsRunnable, IsRunnableSystem, first_world, places_of, state_of, systems_of}
@@ -103,15 +103,15 @@ module _ {S : Type 0} (m : S → Meaning) where
       let found = there_too xs s.systems i x same here in
       let spec = found.0 in
       let is : m x ≡ new_system spec.program i = each i x here spec found.1 in
-      let program = ap (λ y. y.program) is in
+      let needs = ap (λ y. y.needs) is in
       let fine : IsRunnableSystem s spec = all_at (IsRunnableSystem s) s.systems i spec runnable.systems found.1 in
       let placed : (place : Place) → slice_get (places_of s) i ≡ Some place → spec.place ≡ place =
       λ place sp. some_same (sym (slice_get-map (λ (y : SystemSpec). y.place) s.systems i ∙ ap (option_map (λ y. y.place)) found.1) ∙ sp) in
       record {
-        new = is ∙ ap (λ q. new_system q i) (sym program);
+        new = subst (IsNew i) (sym is) (record { writer = refl; places = λ t. refl });
         fits = λ place sp p needed. has_part s w p types resources
             (fine.fits p (subst (λ (y : Place). IsTrue (needs_any (job_needs spec.program.ops y.conditions) p)) (sym (placed place sp))
-            (subst (λ q. IsTrue (needs_any (job_needs q.ops place.conditions) p)) program needed)));
+            (subst (λ n. IsTrue (needs_any (with_conditions n place.conditions) p)) needs needed)));
         joins = λ place sp. subst (λ (y : Place). (1 ≤ y.join) × (y.join ≤ 10000)) (placed place sp) fine.joins;
       }
 
@@ -122,10 +122,10 @@ module _ {S : Type 0} (m : S → Meaning) where
       let x = lowest.system in
       let found = there_too xs s.systems i x same lowest.is in
       let spec = found.0 in
-      let program = ap (λ y. y.program) (each i x lowest.is spec found.1) in
+      let needs = ap (λ y. y.needs) (each i x lowest.is spec found.1) in
       let fine : IsRunnableSystem s spec = all_at (IsRunnableSystem s) s.systems i spec runnable.systems found.1 in
       fine.no_clash lowest.clash.0
-      (subst (λ q. IsTrue ((program_needs q.ops).reads lowest.clash.0 && (program_needs q.ops).writes lowest.clash.0)) program lowest.clash.1)
+      (subst (λ n. IsTrue (n.reads lowest.clash.0 && n.writes lowest.clash.0)) needs lowest.clash.1)
 
 -- no system is on a cycle of rules
 pub no_cycle : (s : Scenario) (rules : List Rule) (n i : ℕ) → IsRunnable s → rules ≡ s.rules → n ≡ length s.systems

@@ -6,17 +6,17 @@ use Rattle.std.proofs.lemmas.List.{length-append, take_more}
 use Rattle.std.specs.Io.KnownBytes.{Appends}
 use Rattle.std.proofs.KnownBytes.{Appends-nil, Appends-trans}
 use Rattle.msg_system.specs.Systems.{Meaning}
-use Rattle.msg_exec.specs.Accounts.{accounts_of}
+use Rattle.msg_frames.specs.Accounts.{accounts_of}
 use Rattle.msg_exec.specs.Cores.{CoreStands}
 use Rattle.msg_exec.specs.Engines.{HasRunFrame, IsSpoiled, PostsFit, StandsFor, frames_of}
-use Rattle.msg_exec.specs.Frames.{IsFrame, IsRun, systems_in}
-use Rattle.msg_exec.specs.State.{State}
-use Rattle.msg_exec.specs.TurnLaws.{FrameKeeps, FramesKeepPrograms}
-use Rattle.msg_exec.specs.declared.account.Account.{Account}
+use Rattle.msg_frames.specs.Frames.{IsFrame, IsRun, systems_in}
+use Rattle.msg_frames.specs.State.{State}
+use Rattle.msg_frames.specs.TurnLaws.{FrameKeeps, FramesKeepSystems}
+use Rattle.msg_frames.specs.declared.account.Account.{Account}
 use Rattle.msg_exec.specs.declared.engine.EngineOf.{EngineOf}
 use Rattle.msg_exec.specs.declared.engine_core.Core.{Core}
-use Rattle.msg_exec.specs.declared.frame.Frame.{Frame}
-use Rattle.msg_exec.specs.declared.log.Log.{Log}
+use Rattle.msg_frames.specs.declared.frame.Frame.{Frame}
+use Rattle.msg_frames.specs.declared.log.Log.{Log}
 use Rattle.msg_system.specs.declared.run_fault.RunFault.{RunFault}
 use Rattle.msg_system.specs.declared.run_fault.RunFault.TheVariants.{BadOrder, NoMemory, Spoiled}
 use Rattle.msg_files.specs.Json.{Text}
@@ -70,8 +70,8 @@ run_more (f ∷ frames) frame s (l ∷ logs) log m u some one =
 
 module _ {X : Type 0} (meaning : X → Meaning) where
   fits : (o : Option (Core X)) (u : State) (posts : List (ℕ × ℤ)) → IsSomeAnd o (λ c. CoreStands meaning c u)
-      → All (λ p. p.0 < u.types) posts → IfSome o (λ c. All (λ p. p.0 < length c.stage.world.types) posts)
-  fits (Some c) u posts stands fit = subst (λ n. All (λ p. p.0 < n) posts) (sym stands.stage.types) fit
+      → All (λ p. p.0 < u.types) posts → IfSome o (λ c. All (λ p. p.0 < length c.lender.world.types) posts)
+  fits (Some c) u posts stands fit = subst (λ n. All (λ p. p.0 < n) posts) (sym stands.lender.types) fit
   fits None u posts stands fit = absurd stands
 
   no_core : (o : Option (Core X)) (u : State) → IsSomeAnd o (λ c. CoreStands meaning c u) → IsNone o → ⊥
@@ -127,7 +127,7 @@ module _ {X : Type 0} (meaning : X → Meaning) where
           ≡ frames_text s 1 s.frames earlier ++ frame_text s (k + 1) frame log
       pub stands : StandsFor meaning e state
 
-    pub just_run : FramesKeepPrograms → (k : ℕ) (before now : Option (List ℕ)) (e f : EngineOf X) (frame : Frame) (log : Log)
+    pub just_run : FramesKeepSystems → (k : ℕ) (before now : Option (List ℕ)) (e f : EngineOf X) (frame : Frame) (log : Log)
         → ReportSoFar k before now e → k < length s.frames → frame ≡ get_or s.frames k frame
         → ((u : State) → StandsFor meaning e u → HasRunFrame meaning frame u log f) → JustRun k before now frame log f
     just_run keep k before now e f frame log far lt is ran =

@@ -2,12 +2,12 @@
 use Rattle.std.specs.Prelude.{ℕ, List, Option}
 use Rattle.std.specs.Io.KnownBytes.{Appends}
 use Rattle.msg_system.specs.Systems.{Meaning}
-use Rattle.msg_exec.specs.Accounts.{accounts_of}
+use Rattle.msg_frames.specs.Accounts.{accounts_of}
 use Rattle.msg_exec.specs.Engines.{StandsFor}
-use Rattle.msg_exec.specs.Frames.{IsRun}
-use Rattle.msg_exec.specs.State.{State}
+use Rattle.msg_frames.specs.Frames.{IsRun}
+use Rattle.msg_frames.specs.State.{State}
 use Rattle.msg_exec.specs.declared.engine.EngineOf.{EngineOf}
-use Rattle.msg_exec.specs.declared.log.Log.{Log}
+use Rattle.msg_frames.specs.declared.log.Log.{Log}
 use Rattle.msg_scenario.specs.ReportText.{report_text}
 use Rattle.msg_scenario.specs.Reported.{HasRunOut, HasStopped}
 use Rattle.msg_reading.specs.Runnable.{state_of}

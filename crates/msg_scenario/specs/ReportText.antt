@@ -12,12 +12,12 @@ use Rattle.msg_system.specs.declared.op.Op.TheVariants.{Write, Batch, Read, Len,
 use Rattle.msg_system.specs.declared.reply.Took.{Took}
 use Rattle.msg_system.specs.declared.reply.Reply.{Reply}
 use Rattle.msg_system.specs.declared.reply.Reply.TheVariants as reply
-use Rattle.msg_exec.specs.declared.account.Account.{Account}
-use Rattle.msg_exec.specs.declared.frame.Frame.{Frame}
-use Rattle.msg_exec.specs.declared.log.Log.{Log}
-use Rattle.msg_exec.specs.declared.log.Turn.{Turn}
-use Rattle.msg_exec.specs.declared.log.Outcome.{Outcome}
-use Rattle.msg_exec.specs.declared.log.Outcome.TheVariants.{Skipped, Ran}
+use Rattle.msg_frames.specs.declared.account.Account.{Account}
+use Rattle.msg_frames.specs.declared.frame.Frame.{Frame}
+use Rattle.msg_frames.specs.declared.log.Log.{Log}
+use Rattle.msg_frames.specs.declared.log.Turn.{Turn}
+use Rattle.msg_frames.specs.declared.log.Outcome.{Outcome}
+use Rattle.msg_frames.specs.declared.log.Outcome.TheVariants.{Skipped, Ran}
 use Rattle.msg_files.specs.Json.{Text}
 use Rattle.msg_reading.specs.declared.scenario.Scenario.{Scenario}
 use Rattle.msg_reading.specs.declared.scenario.SystemSpec.{SystemSpec}

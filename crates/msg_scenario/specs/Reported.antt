@@ -2,12 +2,12 @@
 use Rattle.std.specs.Prelude.{◌≡◌, ◌⊎◌, ℕ, ◌<◌, ◌-◌, ◌^◌, min, List, length, take, Option}
 use Rattle.std.specs.Io.KnownBytes.{Appends}
 use Rattle.msg_system.specs.Systems.{Meaning}
-use Rattle.msg_exec.specs.Accounts.{accounts_of}
+use Rattle.msg_frames.specs.Accounts.{accounts_of}
 use Rattle.msg_exec.specs.Engines.{IsSpoiled, StandsFor, frames_of}
-use Rattle.msg_exec.specs.Frames.{IsRun}
-use Rattle.msg_exec.specs.State.{State}
+use Rattle.msg_frames.specs.Frames.{IsRun}
+use Rattle.msg_frames.specs.State.{State}
 use Rattle.msg_exec.specs.declared.engine.EngineOf.{EngineOf}
-use Rattle.msg_exec.specs.declared.log.Log.{Log}
+use Rattle.msg_frames.specs.declared.log.Log.{Log}
 use Rattle.msg_scenario.specs.ReportText.{frames_text, report_text, text_so_far}
 use Rattle.msg_reading.specs.Runnable.{state_of}
 use Rattle.msg_files.specs.Sinks.{AppendsAtLeast, AppendsPrefix}

@@ -18,8 +18,7 @@ use std::alloc::Global;
 use std::thread::Threads;
 
 /// Makes the engine of a scenario of its systems, as `engine_of` does, and reports the scenario by
-/// it, as
-/// `report` does.
+/// it, as `report` does.
 ///
 /// # Errors
 ///

@@ -1,11 +1,12 @@
 -- The access of a program, from what its ops read and write.
 use Rattle.std.proofs.Common.{◌≡◌, Bool, true, false, not, ◌&&◌, ◌||◌, List, refl, sym, ap, ◌∙◌}
+use Rattle.std.specs.Prelude.{◌↔◌}
 use Rattle.std.proofs.Math.Bool.{and-true}
 use Rattle.std.proofs.lemmas.Bool.{or_parts}
 use Rattle.msg_world.specs.declared.access.Access.{Access}
-use Rattle.msg_world.specs.Access.{Part, OfType, OfResource, Registry, reads, writes, uses}
+use Rattle.msg_world.specs.Access.{IsClash, Part, OfType, OfResource, Registry, reads, writes, uses}
 use Rattle.msg_system.specs.declared.op.Op.{Op}
-use Rattle.msg_system.specs.Needs.{IsAccessOf, program_needs, some_op_reads, some_op_writes}
+use Rattle.msg_system.specs.Needs.{HasClash, IsAccessOf, Needs, program_needs, some_op_reads, some_op_writes}
 
 or_nothing : (a b : Bool) → b ≡ false → (a || b) ≡ a
 or_nothing true b h = refl
@@ -36,3 +37,7 @@ module _ (ops : List Op) (a none u : Access) (nothing : (p : Part) → uses none
       written (OfType t) = settled_writes (OfType t)
       written (OfResource r) = settled_writes (OfResource r)
       written Registry = settled_writes Registry
+
+-- it clashes where the needs do
+pub same_clash : (n : Needs) (a : Access) → IsAccessOf n a → IsClash a ↔ HasClash n
+same_clash n a of = (λ c. (c.0, rw (← of.reads c.0, ← of.writes c.0) c.1), λ c. (c.0, rw (of.reads c.0, of.writes c.0) c.1))

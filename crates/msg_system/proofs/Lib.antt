@@ -1,9 +1,18 @@
+-- What programs, conditions and jobs read and write
 mod Accesses
-mod Copies
+mod JobAccesses
+-- What an op does to its loan and its cursor
 mod Lendings
+mod CopiedReads
 mod OpsDone
+-- Programs op by op, and systems
 mod Runs
+pub mod Turns
 mod Starts
-mod Asking
-mod Jobs
-mod Uses
+-- Conditions one after the other
+pub mod InPlace
+mod AllConditions
+-- Nothing else is used
+mod Footprints
+-- Turns that a behavior decides
+mod Deciding

@@ -2,7 +2,10 @@
 use Rattle.std.proofs.Common.{◌≡◌, ℕ, List, length, Option, None, refl, sym, ap, subst, ◌∙◌}
 use Rattle.std.specs.Prelude.{ℤ}
 use Rattle.msg_buffer.specs.declared.instance.Written.{Written}
-use Rattle.msg_buffer.specs.History.{write}
+use Rattle.std.proofs.lemmas.List.{length-map}
+use Rattle.msg_buffer.specs.History.{History, write}
+use Rattle.msg_buffer.specs.Kept.{message_of}
+use Rattle.msg_buffer.specs.Reader.{given}
 use Rattle.msg_world.specs.declared.lent.Lent.{Lent}
 use Rattle.msg_world.specs.declared.record.Record.{Record}
 use Rattle.msg_world.specs.Loan.{LoanStands}
@@ -10,8 +13,12 @@ use Rattle.msg_world.specs.World.{WorldState, with_history, with_value_of}
 use Rattle.msg_system.specs.declared.op.Op.TheVariants.{Forward, Sum}
 use Rattle.msg_system.specs.declared.reply.Reply.TheVariants as reply
 use Rattle.msg_system.specs.declared.reply.Took.{Took}
-use Rattle.msg_system.specs.OpRuns.{IsAfterOp}
+use Rattle.msg_system.specs.inner.OpRuns.{IsAfterOp}
 use Rattle.msg_system.specs.Programs.{after_op, again_by, numbers_for, place_after_read, sets_to, sum_onto, took, with_place, write_reply, writes_all}
+
+-- what was taken is as long as what was given
+pub as_long : (k : Took) (h : History Record) (place : ℕ) (limit : Option ℕ) → k ≡ took h place limit → length k.items ≡ length (given h place limit)
+as_long k h place limit is = ap (λ (x : Took). length x.items) is ∙ length-map (given h place limit) message_of
 
 module _ (ps : ℕ → ℕ) (s : WorldState) (l : Lent) where
   pub after_writes : (t : ℕ) (ms rs : List Record) (numbers : Option Written) → rs ≡ ms → numbers ≡ numbers_for (s.histories t) (length rs)

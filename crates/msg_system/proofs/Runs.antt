@@ -1,8 +1,8 @@
 -- Runs of ops and of programs, from one op to the next.
-use Rattle.std.proofs.Common.{◌≡◌, ℕ, zero, suc, ◌+◌, ◌<◌, ◌++◌, Bool, true, false, not, ◌&&◌, List, [], ◌∷◌, length, Option, Some, None, Result, Ok, Err, take, get_or, refl, sym, ap, subst, ◌∙◌, arith, inl, inr, append_assoc}
-use Rattle.std.specs.Prelude.{◌==◌, IfOk, IfSome, IsSome, is_some, slice_set, if◌then◌else◌}
+use Rattle.std.proofs.Common.{◌≡◌, ℕ, ◌+◌, ◌<◌, ◌++◌, Bool, true, false, not, ◌&&◌, List, [], ◌∷◌, length, Option, Some, None, Result, Ok, Err, take, get_or, refl, sym, ap, subst, ◌∙◌, arith, inl, inr, append_assoc}
+use Rattle.std.specs.Prelude.{◌==◌, IfOk, IfSome, IsSome, OnErr, is_some, slice_set, if◌then◌else◌}
 use Rattle.std.proofs.lemmas.Bool.{cases_Bool, cases_eq, eq-eqb, ne_eqb}
-use Rattle.std.proofs.lemmas.List.{get_or-set_same, get_or-set_other, length-append, take_more}
+use Rattle.std.proofs.lemmas.List.{get_or_default, get_or-set_same, get_or-set_other, length-append, take_more}
 use Rattle.std.proofs.lemmas.List.Folds.{list_any_at}
 use Rattle.msg_world.specs.declared.access.Access.{Access}
 use Rattle.msg_world.specs.declared.lent.Lent.{Lent}
@@ -11,13 +11,11 @@ use Rattle.msg_world.specs.Loan.{LoanStands, SameLoan, shown, taken_of, writable
 use Rattle.msg_world.specs.Parts.{Parts, StuffStands, slot}
 use Rattle.msg_world.specs.World.{WorldState, content}
 use Rattle.msg_system.specs.declared.op.Op.{Op}
-use Rattle.msg_system.specs.declared.program.Program.{Program}
 use Rattle.msg_system.specs.declared.reply.Reply.{Reply}
-use Rattle.msg_system.specs.declared.start.Start.{Start}
 use Rattle.msg_system.specs.Needs.{Needs, is_part, is_resource, op_needs, op_parts, program_needs, some_op_reads, some_op_writes}
-use Rattle.msg_system.specs.OpRuns.{HasReplies, IsAfterOp, IsAfterProgram, OpRan, ProgramRan, one_place, places_of}
+use Rattle.msg_system.specs.inner.OpRuns.{HasReplies, IsAfterOp, IsAfterProgram, OpRan, one_place, places_of}
 use Rattle.msg_system.specs.Programs.{AfterOp, AfterProgram, after_op, after_program, with_place}
-use Rattle.msg_system.specs.Systems.{CompleteCovers, Covers, Ran, WrittenIsAll, WrittenStand, only}
+use Rattle.msg_system.specs.Promises.{CompleteCovers, Covers, WrittenIsAll, WrittenStand}
 use Rattle.msg_system.proofs.Lendings.{can_be_shown}
 
 pub same_part_refl : (p : Part) → same_part p p ≡ true
@@ -47,11 +45,13 @@ pub if_ok : {T E : Type 0} (r : Result T E) (P Q : T → Type 0) → ((x : T) �
 if_ok (Ok x) P Q f h = f x h
 if_ok (Err e) P Q f h = tt
 
--- an element within a list, whatever stands for one outside
-get_or_default : (xs : List ℕ) (i a b : ℕ) → i < length xs → get_or xs i a ≡ get_or xs i b
-get_or_default [] i a b lt = absurd (omega arith)
-get_or_default (x ∷ xs) zero a b lt = refl
-get_or_default (x ∷ xs) (suc i) a b lt = get_or_default xs i a b (omega arith)
+pub on_err_then : {T E : Type 0} (r : Result T E) (P Q : Type 0) → (P → Q) → OnErr r P → OnErr r Q
+on_err_then (Ok x) P Q f h = tt
+on_err_then (Err e) P Q f h = f h
+
+-- the place in a type, as its cursor is read
+pub place_at : (cursors : List ℕ) (t k d : ℕ) → length cursors ≡ 64 → k ≡ t → t < 64 → places_of cursors t ≡ get_or cursors k d
+place_at cursors t k d long is lt = rw is (get_or_default cursors t 0 d (omega (arith, long, lt)))
 
 -- an op of one cursor, among the cursors of all types
 pub ran_at : (op : Op) (w : ℕ) (cursors : List ℕ) (t k d new : ℕ) (l m : Lent) (r : Reply) → length cursors ≡ 64 → k ≡ t → t < 64
@@ -59,16 +59,14 @@ pub ran_at : (op : Op) (w : ℕ) (cursors : List ℕ) (t k d new : ℕ) (l m : L
     → OpRan op w (places_of cursors) (places_of (slice_set cursors k new)) l m r
 ran_at op w cursors t k d new l m r long is lt ran =
     let within : t < length cursors = omega (arith, long, lt) in
-    let at : places_of cursors t ≡ get_or cursors k d = rw is (get_or_default cursors t 0 d within) in
-    rw is (subst (λ (places : ℕ → ℕ). OpRan op w (places_of cursors) places l m r) (sym (cursor_set cursors t new within)) (ran (places_of cursors) at))
+    rw is (subst (λ (places : ℕ → ℕ). OpRan op w (places_of cursors) places l m r) (sym (cursor_set cursors t new within)) (ran (places_of cursors) (place_at cursors t k d long is lt)))
 
 -- the same reading op without another place
 pub answered_at : (op : Op) (w : ℕ) (cursors : List ℕ) (t k d : ℕ) (l m : Lent) (r : Reply) → length cursors ≡ 64 → k ≡ t → t < 64
     → ((places : ℕ → ℕ) → places t ≡ get_or cursors k d → OpRan op w places places l m r)
     → OpRan op w (places_of cursors) (places_of cursors) l m r
 answered_at op w cursors t k d l m r long is lt ran =
-    let within : t < length cursors = omega (arith, long, lt) in
-    ran (places_of cursors) (rw is (get_or_default cursors t 0 d within))
+    ran (places_of cursors) (place_at cursors t k d long is lt)
 
 -- ---- a loan that covers, after a change of what it lets be written
 
@@ -99,9 +97,6 @@ same_loan_trans l m n a b = record {
   };
 }
 
-pub same_loan : (l : Lent) → SameLoan l l
-same_loan l = record { access = refl; world = refl; shape = record { size = record { types = refl; resources = refl }; there = λ p. refl } }
-
 -- a loan that covers a program covers each op of it
 pub covers_op : (ops : List Op) (i : ℕ) (op : Op) (l : Lent) → i < length ops → op ≡ get_or ops i op → Covers (program_needs ops) l → Covers (op_needs op) l
 covers_op ops i op l lt is covers = record {
@@ -122,7 +117,7 @@ covers_op ops i op l lt is covers = record {
 abbrev pub and_then : AfterProgram → AfterOp → AfterProgram
 and_then r e = record { places = e.places; state = e.state; replies = r.replies ++ e.reply ∷ [] }
 
-after_program-snoc : (ops : List Op) (op : Op) (w : ℕ) (ps : ℕ → ℕ) (s : WorldState)
+pub after_program-snoc : (ops : List Op) (op : Op) (w : ℕ) (ps : ℕ → ℕ) (s : WorldState)
     → after_program (ops ++ op ∷ []) w ps s ≡ and_then (after_program ops w ps s) (after_op op w (after_program ops w ps s).places (after_program ops w ps s).state)
 after_program-snoc [] op w ps s = refl
 after_program-snoc (x ∷ ops) op w ps s =
@@ -153,30 +148,15 @@ written_stand l m taken s same is stands p written =
     let Q : Bool → Type 0 = λ b. IfSome (if b then slot p m.taken else if reads m.access p then slot p m.world.now else None) (λ k. StuffStands p k (content p s)) in
     subst P (sym is) (subst Q (ap (λ (a : Access). writes a p) same.access ∙ written) (stands p))
 
--- a system whose program is one op
-pub ran_only : (op : Op) (start : Start) (w : ℕ) (ps qs : ℕ → ℕ) (l m : Lent) (taken : Parts) (before : List Reply) (r : Reply)
-    → OpRan op w ps qs l m r → SameLoan l m → taken ≡ taken_of m
-    → Ran (record { program = only op start; writer = w; places = ps }) (record { program = only op start; writer = w; places = qs }) l taken before (before ++ r ∷ [])
-ran_only op start w ps qs l m taken before r ran same is = record {
-  state = λ s stands. written_stand l m taken (after_op op w ps s).state same is (ran s stands).stands;
-  replies = λ s stands. ap (λ x. before ++ x ∷ []) (ran s stands).same_reply;
-  places = λ s stands. (ran s stands).same_places;
-  program = refl;
-  writer = refl;
-  one_each = (r ∷ [], refl, refl);
-}
+pub one_place_moved : (t old new : ℕ) → with_place (one_place t old) t new ≡ one_place t new
+one_place_moved t old new = λ k u. at (u == t) k
+  where
+    at : (b : Bool) → (if b then new else if b then old else 0) ≡ (if b then new else 0)
+    at true = refl
+    at false = refl
 
-pub ran_program : (program : Program) (w : ℕ) (ps qs : ℕ → ℕ) (l m : Lent) (taken : Parts) (before after : List Reply)
-    → ProgramRan program.ops w ps qs l m before after → HasReplies before after (length program.ops) → SameLoan l m → taken ≡ taken_of m
-    → Ran (record { program = program; writer = w; places = ps }) (record { program = program; writer = w; places = qs }) l taken before after
-ran_program program w ps qs l m taken before after ran replies same is = record {
-  state = λ s stands. written_stand l m taken (after_program program.ops w ps s).state same is (ran s stands).stands;
-  replies = λ s stands. (ran s stands).same_replies;
-  places = λ s stands. (ran s stands).same_places;
-  program = refl;
-  writer = refl;
-  one_each = replies;
-}
+pub one_place_at : (t place : ℕ) → one_place t place t ≡ place
+one_place_at t place = rw (eq-eqb t t refl) refl
 
 -- one reply more
 pub one_reply_more : (before after : List Reply) (n : ℕ) (r : Reply) → HasReplies before after n → HasReplies before (after ++ r ∷ []) (n + 1)
@@ -186,21 +166,11 @@ one_reply_more before after n r has = (
   length-append has.0 (r ∷ []) ∙ ap (λ k. k + 1) has.2,
 )
 
-pub one_place_moved : (t old new : ℕ) → with_place (one_place t old) t new ≡ one_place t new
-one_place_moved t old new = λ k u. at (u == t) k
-  where
-    at : (b : Bool) → (if b then new else if b then old else 0) ≡ (if b then new else 0)
-    at true = refl
-    at false = refl
-
 pub only_covers_read : (op : Op) (l : Lent) (p : Part) → Covers (program_needs (op ∷ [])) l → (op_parts op).read ≡ Some p → IsSome (shown p l)
 only_covers_read op l p covers is = covers_read op l p (covers_op (op ∷ []) 0 op l (omega arith) refl covers) is
 
 pub only_covers_written : (op : Op) (l : Lent) (p : Part) → Covers (program_needs (op ∷ [])) l → (op_parts op).written ≡ Some p → IsSome (writable p l)
 only_covers_written op l p covers is = covers_written op l p (covers_op (op ∷ []) 0 op l (omega arith) refl covers) is
-
-pub one_place_at : (t place : ℕ) → one_place t place t ≡ place
-one_place_at t place = rw (eq-eqb t t refl) refl
 
 pub written_is_all : WrittenIsAll
 written_is_all l taken s none stands p = elim (cases_Bool (writes l.access p)) [

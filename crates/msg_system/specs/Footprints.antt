@@ -1,4 +1,4 @@
--- What ops, programs, conditions and jobs depend on, and what they change: no more than they need.
+-- What ops, turns, conditions and jobs depend on, and what they change: no more than they need.
 use Rattle.std.specs.Prelude.{◌≡◌, ℕ, Bool, false, IsTrue, List, Option, map}
 use Rattle.msg_world.specs.Access.{Part}
 use Rattle.msg_world.specs.World.{WorldState, content}
@@ -6,8 +6,9 @@ use Rattle.msg_system.specs.declared.condition.Condition.{Condition}
 use Rattle.msg_system.specs.declared.op.Op.{Op}
 use Rattle.msg_system.specs.declared.reply.Reply.{Reply}
 use Rattle.msg_system.specs.Conditions.{AfterJob, Asked, Job, after_asking, after_job, answer}
-use Rattle.msg_system.specs.Needs.{Needs, condition_needs, job_needs, needs_any, op_needs, program_needs}
+use Rattle.msg_system.specs.Needs.{Needs, condition_needs, needs_any, op_needs, program_needs, with_conditions}
 use Rattle.msg_system.specs.Programs.{AfterOp, AfterProgram, after_op, after_program}
+use Rattle.msg_system.specs.Systems.{Meaning, turn}
 
 -- the worlds are the same in each of these parts
 abbrev pub Agree : (Part → Bool) → WorldState → WorldState → Type 0
@@ -41,6 +42,9 @@ abbrev pub ProgramFootprint : Type 0
 ProgramFootprint = (ops : List Op) (w : ℕ) (places : ℕ → ℕ)
     → HasFootprint (program_needs ops) (λ (e : AfterProgram). e.state) given_by_program (after_program ops w places)
 
+abbrev pub TurnFootprint : Type 0
+TurnFootprint = (m : Meaning) → HasFootprint m.needs (λ (e : AfterProgram). e.state) given_by_program (turn m)
+
 -- a condition changes nothing of the world
 abbrev pub ConditionFootprint : Type 0
 ConditionFootprint = (a : Asked) (m : Part → Bool) (s t : WorldState) → IsWithin (condition_needs a.condition) m → Agree m s t
@@ -51,4 +55,4 @@ abbrev pub conditions_of : Job → List Condition
 conditions_of j = map (λ a. a.condition) j.conditions
 
 abbrev pub JobFootprint : Type 0
-JobFootprint = (j : Job) → HasFootprint (job_needs j.system.program.ops (conditions_of j)) (λ (e : AfterJob). e.state) given_by_job (after_job j)
+JobFootprint = (j : Job) → HasFootprint (with_conditions j.system.needs (conditions_of j)) (λ (e : AfterJob). e.state) given_by_job (after_job j)

@@ -2,12 +2,17 @@
 use Rattle.std.specs.Prelude.{◌≡◌, ℕ, Bool, true, false, not, ◌&&◌, ◌||◌, Option, Some, None, List, option_and_then, slice_get}
 use Rattle.std.specs.List.{list_any}
 use Rattle.msg_world.specs.declared.access.Access.{Access}
-use Rattle.msg_world.specs.Access.{Part, OfType, OfResource, Registry, reads, same_part, writes}
+use Rattle.msg_world.specs.Access.{Overlap, Part, OfType, OfResource, Registry, reads, same_part, writes}
 use Rattle.msg_system.specs.declared.op.Op.{Op}
 use Rattle.msg_system.specs.declared.op.Op.TheVariants.{Write, Batch, Read, Len, Missed, Clear, Forward, Sum, Get, Set, Add, Drain, Signal}
 use Rattle.msg_system.specs.declared.condition.Condition.{Condition}
 use Rattle.msg_system.specs.declared.condition.Probe.{Probe}
 use Rattle.msg_system.specs.declared.condition.Probe.TheVariants.{OnMessage, ResourceEquals}
+
+-- there is no such part, or it holds of it
+abbrev pub is_none_or : (Part → Bool) → Option Part → Bool
+is_none_or holds None = true
+is_none_or holds (Some p) = holds p
 
 -- An op reads one part at most, and writes one part at most.
 pub record OpParts : Type 0 where
@@ -57,6 +62,10 @@ pub record Needs : Type 0 where
   pub reads : Part → Bool
   pub writes : Part → Bool
 
+-- a part is both read and written: the clash, where one system does so
+abbrev pub HasClash : Needs → Type 0
+HasClash n = Overlap n.reads n.writes
+
 -- the part is read or written
 abbrev pub needs_any : Needs → Part → Bool
 needs_any n p = n.reads p || n.writes p
@@ -94,6 +103,14 @@ probe_part (ResourceEquals r v) = OfResource r
 
 abbrev pub condition_needs : Condition → Needs
 condition_needs c = record { reads = λ p. same_part p (probe_part c.probe); writes = λ p. false }
+
+-- The part may be read by who needs these; a resource that is written isn't listed as read.
+abbrev pub may_read : Needs → Part → Bool
+may_read n p = n.reads p || (is_resource p && n.writes p)
+
+-- the op reads and writes no more than these
+abbrev pub keeps_to : Needs → Op → Bool
+keeps_to n op = is_none_or (may_read n) (op_parts op).read && is_none_or n.writes (op_parts op).written
 
 -- one of the conditions reads the part
 abbrev pub some_condition_reads : List Condition → Part → Bool

@@ -1,39 +1,78 @@
--- What a system means, how it starts, and what a run of it does.
-use Rattle.std.specs.Prelude.{All, ◌≡◌, ℕ, ◌++◌, false, None, IfSome, IsSome, IsTrue, List, [], ◌∷◌, length, slice_get, unwrap_or, if◌then◌else◌}
-use Rattle.msg_world.specs.declared.lent.Lent.{Lent}
-use Rattle.msg_world.specs.Access.{Part, OfType, uses, writes}
-use Rattle.msg_world.specs.Loan.{IsComplete, LoanStands, access_of, shown, writable}
-use Rattle.msg_world.specs.Parts.{Parts, PartsStand, StuffStands, slot}
-use Rattle.msg_world.specs.World.{WorldState, content}
-use Rattle.msg_system.specs.declared.condition.Condition.{Condition}
+-- What a system means, and what its turn is.
+use Rattle.std.specs.Prelude.{◌≡◌, ℕ, zero, suc, ◌≤◌, ◌++◌, Option, Some, None, unwrap_or, List, [], ◌∷◌, length, slice_get, if◌then◌else◌}
+use Rattle.msg_world.specs.Access.{OfType}
+use Rattle.msg_world.specs.World.{WorldState}
 use Rattle.msg_system.specs.declared.op.Op.{Op}
 use Rattle.msg_system.specs.declared.program.Program.{Program}
 use Rattle.msg_system.specs.declared.reply.Reply.{Reply}
 use Rattle.msg_system.specs.declared.start.Start.{Start}
 use Rattle.msg_system.specs.declared.start.Start.TheVariants.{Zero, Current}
-use Rattle.msg_system.specs.Needs.{IsAccessOf, Needs, condition_needs, job_needs, program_needs, some_op_reads}
-use Rattle.msg_system.specs.Programs.{AfterProgram, after_program}
+use Rattle.msg_system.specs.Needs.{Needs, keeps_to, program_needs}
+use Rattle.msg_system.specs.Programs.{AfterOp, AfterProgram, after_op, after_program}
 
--- A system is its program, the number that it writes as, and its place in each type.
+-- What a system does next, by the replies of each turn that it takes from now on, and by the replies so far of the turn
+-- that follows these. None says that the turn is over.
+abbrev pub Rule : Type 0
+Rule = List (List Reply) → List Reply → Option Op
+
+-- A system is what it needs, where its cursors start, the number that it writes as, its place in each type, and its rule.
 pub record Meaning : Type 0 where
-  pub program : Program
+  pub needs : Needs
+  pub start : Start
   pub writer : ℕ
   pub places : ℕ → ℕ
+  pub rule : Rule
+  -- the ops of its last turn; of a program, always its ops
+  pub last : List Op
 
--- it was given nothing yet
-abbrev pub new_system : Program → ℕ → Meaning
-new_system program writer = record { program = program; writer = writer; places = λ t. 0 }
+-- ---- a turn
 
--- the program of one op
-abbrev pub only : Op → Start → Program
-only op start = record { ops = op ∷ []; start = start }
+-- the op, where it keeps to what is needed; else the turn is over
+abbrev pub if_kept : Needs → Option Op → Option Op
+if_kept n None = None
+if_kept n (Some op) = if keeps_to n op then Some op else None
 
--- its turn on a world: its program, from its places
-abbrev pub turn : Meaning → WorldState → AfterProgram
-turn m s = after_program m.program.ops m.writer m.places s
+-- the next op of its turn, by the replies so far
+abbrev pub next_op : Meaning → List Reply → Option Op
+next_op m replies = if_kept m.needs (m.rule [] replies)
 
+-- one op more; or nothing, where the turn is over
+abbrev pub one_more : Option Op → ℕ → AfterProgram → AfterProgram
+one_more None w far = far
+one_more (Some op) w far =
+    let here : AfterOp = after_op op w far.places far.state in
+    record { places = here.places; state = here.state; replies = far.replies ++ here.reply ∷ [] }
+
+-- After at most so many ops: what comes next is asked by the replies so far, and that op is done.
+abbrev pub after_at_most : ℕ → (List Reply → Option Op) → ℕ → (ℕ → ℕ) → WorldState → AfterProgram
+after_at_most zero next w ps s = record { places = ps; state = s; replies = [] }
+after_at_most (suc n) next w ps s =
+    let far : AfterProgram = after_at_most n next w ps s in
+    one_more (next far.replies) w far
+
+-- its turn on a world: at most 64 ops, from its places
+unfoldable pub turn : Meaning → WorldState → AfterProgram
+turn m s = after_at_most 64 (next_op m) m.writer m.places s
+
+-- the op, as a list
+abbrev pub op_list : Option Op → List Op
+op_list None = []
+op_list (Some op) = op ∷ []
+
+-- the ops that these are the replies to
+abbrev pub ops_answered : (List Reply → Option Op) → List Reply → List Op
+ops_answered next [] = []
+ops_answered next (r ∷ rs) = op_list (next []) ++ ops_answered (λ replies. next (r ∷ replies)) rs
+
+-- what it does from a turn on that was answered so
+abbrev pub told : List Reply → Meaning → Meaning
+told replies m = record m { rule = λ turns now. m.rule (replies ∷ turns) now; last = ops_answered (next_op m) replies }
+
+-- what it means after its turn
 abbrev pub after_turn : Meaning → WorldState → Meaning
-after_turn m s = record m { places = (turn m s).places }
+after_turn m s = record (told (turn m s).replies m) { places = (turn m s).places }
+
+-- ---- where it starts
 
 -- where a cursor of a type starts, by how many messages of each type were ever written
 abbrev pub start_place : Start → List ℕ → ℕ → ℕ
@@ -42,40 +81,35 @@ start_place Current counts t = unwrap_or (slice_get counts t) 0
 
 -- its places in the types that it reads are where they start
 abbrev pub started : List ℕ → Meaning → Meaning
-started counts m = record m {
-  places = λ t. if some_op_reads m.program.ops (OfType t) then start_place m.program.start counts t else m.places t;
+started counts m = record m { places = λ t. if m.needs.reads (OfType t) then start_place m.start counts t else m.places t }
+
+-- ---- programs
+
+-- op k after k replies, whatever they were
+abbrev pub program_rule : List Op → Rule
+program_rule ops turns replies = slice_get ops (length replies)
+
+-- a system whose rule is this program
+abbrev pub of_program : Program → ℕ → (ℕ → ℕ) → Meaning
+of_program program writer places = record {
+  needs = program_needs program.ops;
+  start = program.start;
+  writer = writer;
+  places = places;
+  rule = program_rule program.ops;
+  last = program.ops;
 }
 
--- A loan covers what is needed: it shows what is read, and lets be written what is written. It may lend more.
-pub record Covers (n : Needs) (l : Lent) : Type 0 where
-  pub reads : (p : Part) → IsTrue (n.reads p) → IsSome (shown p l)
-  pub writes : (p : Part) → IsTrue (n.writes p) → IsSome (writable p l)
+-- it was given nothing yet
+abbrev pub new_system : Program → ℕ → Meaning
+new_system program writer = of_program program writer (λ t. 0)
 
--- What a loan's access writes stands, as it is given back, for that part of a world.
-abbrev pub WrittenStand : Lent → Parts → WorldState → Type 0
-WrittenStand l taken s = (p : Part) → IsTrue (writes (access_of l) p) → IfSome (slot p taken) (λ k. StuffStands p k (content p s))
+-- the program of one op
+abbrev pub only : Op → Start → Program
+only op start = record { ops = op ∷ []; start = start }
 
--- A run on a loan is the system's turn, on each world that the loan stands for; and nothing but its places changes.
-pub record Ran (old new : Meaning) (lent : Lent) (taken : Parts) (before after : List Reply) : Type 0 where
-  pub state : (s : WorldState) → LoanStands lent s → WrittenStand lent taken (turn old s).state
-  pub replies : (s : WorldState) → LoanStands lent s → after ≡ before ++ (turn old s).replies
-  pub places : (s : WorldState) → LoanStands lent s → new.places ≡ (turn old s).places
-  pub program : new.program ≡ old.program
-  pub writer : new.writer ≡ old.writer
-  -- whatever the loan stands for: the replies are appended, one for each op
-  pub one_each : (more : List Reply) × (after ≡ before ++ more) × (length more ≡ length old.program.ops)
-
--- Where nothing else is given back, that is all that is given back.
-abbrev pub WrittenIsAll : Type 0
-WrittenIsAll = (l : Lent) (taken : Parts) (s : WorldState) → ((p : Part) → writes (access_of l) p ≡ false → slot p taken ≡ None)
-    → WrittenStand l taken s → PartsStand taken s
-
--- A loan that has all that its access uses covers what is within that access.
-abbrev pub CompleteCovers : Type 0
-CompleteCovers = (n : Needs) (l : Lent) → IsComplete l → ((p : Part) → IsTrue (n.reads p) → IsTrue (uses (access_of l) p))
-    → ((p : Part) → IsTrue (n.writes p) → IsTrue (writes (access_of l) p)) → Covers n l
-
--- A loan that has all that a job needs covers its program and each of its conditions.
-abbrev pub JobsCover : Type 0
-JobsCover = (ops : List Op) (cs : List Condition) (l : Lent) → IsComplete l → IsAccessOf (job_needs ops cs) (access_of l)
-    → Covers (program_needs ops) l × All (λ c. Covers (condition_needs c) l) cs
+-- The turn of a program is its ops in order, and after it the system is that program still.
+abbrev pub IsInOrder : Type 0
+IsInOrder = (program : Program) (writer : ℕ) (places : ℕ → ℕ) (s : WorldState) → length program.ops ≤ 64 →
+    let m : Meaning = of_program program writer places in
+    (turn m s ≡ after_program program.ops writer places s) × (after_turn m s ≡ of_program program writer (turn m s).places)

@@ -4,7 +4,7 @@ ghost use Rattle.msg_world.specs.Loan.{LoanStands};
 ghost use Rattle.msg_world.specs.World.{WorldState};
 ghost use Rattle.msg_system.specs.Conditions.{after_asking, all_hold, answer, asked_started, inverted, new_asked};
 ghost use Rattle.msg_system.specs.Needs.{condition_needs};
-ghost use Rattle.msg_system.specs.Systems.{Covers};
+ghost use Rattle.msg_system.specs.Promises.{Covers};
 
 use crate::lending::{messages_of, value_of};
 use crate::scripted::start_cursor;

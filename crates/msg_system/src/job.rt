@@ -1,19 +1,17 @@
 // The access of a job.
-ghost use Rattle.std.specs.Prelude.{List};
-ghost use Rattle.msg_system.specs.declared.op.Op.{Op};
-ghost use Rattle.msg_system.specs.Needs.{IsAccessOf, job_needs, needs_of, program_needs, with_conditions};
+ghost use Rattle.msg_system.specs.Needs.{IsAccessOf, Needs, needs_of, with_conditions};
 
 use crate::{Access, Condition};
 
-/// The access of a job: the union of its program's and its conditions'.
-pub fn job_access(program: &Access, conditions: &[Condition]) -> Access
-    ensures union { IsAccessOf (with_conditions (needs_of program.now) conditions.now) result }
+/// The access of a job: the union of its system's and its conditions'.
+pub fn job_access(system: &Access, conditions: &[Condition]) -> Access
+    ensures union { IsAccessOf (with_conditions (needs_of system.now) conditions.now) result }
 
-    // So it is what a job with these ops needs, where `program` is what the ops need.
-    ensures needs { (ops : List Op) → IsAccessOf (program_needs ops) program.now
-        → IsAccessOf (job_needs ops conditions.now) result }
+    // So it is what the job needs, where `system` is what its system needs.
+    ensures needs { (n : Needs) → IsAccessOf n system.now
+        → IsAccessOf (with_conditions n conditions.now) result }
 {
-    let mut access = program.union(&Access::none());
+    let mut access = system.union(&Access::none());
     for condition in conditions {
         access = access.union(&condition.access());
     }

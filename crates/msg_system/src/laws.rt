@@ -1,14 +1,21 @@
 // Laws: facts that hold of every op, program, condition and job, and need no code.
-ghost use Rattle.msg_system.specs.Footprints.{ConditionFootprint, JobFootprint, OpFootprint, ProgramFootprint};
-ghost use Rattle.msg_system.specs.Systems.{CompleteCovers, JobsCover, WrittenIsAll};
+ghost use Rattle.msg_system.specs.Footprints.{ConditionFootprint, JobFootprint, OpFootprint, ProgramFootprint, TurnFootprint};
+ghost use Rattle.msg_system.specs.Promises.{CompleteCovers, JobsCover, WrittenIsAll};
+ghost use Rattle.msg_system.specs.Systems.{IsInOrder};
 
 /// What is done depends on no part but those that are needed, and changes no part but those that
 /// are written.
 pub fn nothing_else_is_used()
     ensures ops { OpFootprint }
     ensures programs { ProgramFootprint }
+    ensures turns { TurnFootprint }
     ensures conditions { ConditionFootprint }
     ensures jobs { JobFootprint }
+{}
+
+/// The turn of a program is its ops in order, and the system stays that program.
+pub fn a_program_is_its_ops_in_order()
+    ensures law { IsInOrder }
 {}
 
 /// What a run gives back stands for the world after it, where the loan owned nothing but what its
@@ -18,7 +25,7 @@ pub fn what_is_given_back_stands()
 {}
 
 /// A loan that `Lent::open` makes for an access covers whatever is within that access; for a job's
-/// access, its program and its conditions.
+/// access, its system and its conditions.
 pub fn open_loans_cover()
     ensures law { CompleteCovers }
     ensures jobs { JobsCover }

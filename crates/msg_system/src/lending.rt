@@ -5,10 +5,10 @@ ghost use Rattle.msg_buffer.specs.Kept.{message_of};
 ghost use Rattle.msg_buffer.specs.StandsFor.{StandsFor};
 ghost use Rattle.msg_world.specs.Access.{OfResource, OfType};
 ghost use Rattle.msg_world.specs.Loan.{LoanStands, SameLoan, shown, writable};
-ghost use Rattle.msg_world.specs.World.{WorldState, with_history, with_value_of};
+ghost use Rattle.msg_world.specs.World.{WorldState, by, with_history, with_value_of};
 ghost use Rattle.msg_system.specs.Programs.{again_by, numbers_for, sum_onto};
 
-use crate::{NoMemory, Records};
+use crate::{Items, NoMemory};
 use msg_buffer::{BatchRefusal, Instance, Messages, WriteRefusal, Written};
 use msg_world::laws::writes_stand;
 use msg_world::{Lent, Record, ResNo, TypeNo};
@@ -99,7 +99,7 @@ pub(crate) fn drain_all(
     alloc: Global,
     lent: &mut Lent,
     t: TypeNo,
-) -> Result<(u64, Records), NoMemory>
+) -> Result<(u64, Items<Record>), NoMemory>
     requires lent { IsSome (writable (OfType t) lent.old) }
     ensures first { IfOk result (λ d. (s : WorldState) → LoanStands lent.old s
         → d.0 ≡ oldest (s.histories t)) }
@@ -125,7 +125,7 @@ pub(crate) fn drain_all(
 }
 
 /// The messages alone.
-fn without_numbers(alloc: Global, instances: &[Instance<Record>]) -> Result<Records, NoMemory>
+fn without_numbers(alloc: Global, instances: &[Instance<Record>]) -> Result<Items<Record>, NoMemory>
     ensures items { IfOk result (λ records. records ≡ map message_of instances.now) }
     ensures refused { OnErr result (0 < length instances.now) }
 {
@@ -133,7 +133,7 @@ fn without_numbers(alloc: Global, instances: &[Instance<Record>]) -> Result<Reco
     for instance in instances {
         records.push(instance.message)?;
     }
-    Ok(Records::from_vec(records))
+    Ok(Items::from_vec(records))
 }
 
 /// Gives a resource another value.
@@ -161,13 +161,33 @@ pub(crate) fn added_up(start: i64, records: &[Record]) -> i64
     sum
 }
 
-/// Messages of this writer with the same values.
+/// Messages of this writer with these values.
+pub(crate) fn written_by(
+    alloc: Global,
+    values: &[i64],
+    writer: u32,
+) -> Result<Vec<Record>, NoMemory>
+    ensures written { IfOk result (λ v. v.items ≡ map (by writer) values.now) }
+    ensures refused { OnErr result (0 < length values.now) }
+{
+    let mut records = Vec::new(alloc);
+    for value in values {
+        records.push(Record {
+            writer,
+            value: *value,
+        })?;
+    }
+    Ok(records)
+}
+
+/// Messages of this writer with the values of others.
 pub(crate) fn rewritten(
     alloc: Global,
     records: &[Record],
     writer: u32,
 ) -> Result<Vec<Record>, NoMemory>
     ensures again { IfOk result (λ v. v.items ≡ again_by writer records.now) }
+    ensures refused { OnErr result (0 < length records.now) }
 {
     let mut again = Vec::new(alloc);
     for record in records {

@@ -1,16 +1,17 @@
 //! What systems do to a world: ops, programs, conditions, and the interface of boxed systems.
 #![tactic(auto)]
 
+mod behavior;
+mod behavior_system;
 mod condition;
 mod guard;
+mod items;
 mod job;
 mod laws;
 mod lending;
 mod op;
-mod ops;
 mod program;
 mod reading;
-mod records;
 mod relay;
 mod reply;
 mod run_fault;
@@ -19,18 +20,21 @@ mod start;
 mod steps;
 mod system;
 mod tally;
-mod values;
 
+pub use behavior::Behavior;
+pub use behavior_system::BehaviorSystem;
 pub use condition::{Condition, Probe};
 pub use guard::Guard;
+pub use items::Items;
 pub use job::job_access;
-pub use laws::{nothing_else_is_used, open_loans_cover, what_is_given_back_stands};
+pub use laws::{
+    a_program_is_its_ops_in_order, nothing_else_is_used, open_loans_cover,
+    what_is_given_back_stands,
+};
 pub use msg_buffer::NoMemory;
 pub use msg_world::Access;
 pub use op::Op;
-pub use ops::Ops;
 pub use program::Program;
-pub use records::Records;
 pub use relay::Relay;
 pub use reply::{Reply, Took};
 pub use run_fault::RunFault;
@@ -38,4 +42,3 @@ pub use scripted::Scripted;
 pub use start::Start;
 pub use system::System;
 pub use tally::Tally;
-pub use values::Values;

@@ -1,8 +1,7 @@
-ghost use Rattle.std.specs.Prelude.{◌≡◌, ◌||◌, ℕ, ℤ, List, IfOk, OnErr};
+ghost use Rattle.std.specs.Prelude.{◌≡◌, ◌||◌, ◌<◌, ℕ, ℤ, List, IfOk, OnErr, length};
 ghost use Rattle.msg_world.specs.Access.{Part, reads, writes};
 
-use crate::{Access, Values};
-use msg_buffer::NoMemory;
+use crate::{Access, Items, NoMemory};
 use msg_world::{ResNo, TypeNo};
 use std::alloc::Global;
 
@@ -12,7 +11,7 @@ pub enum Op {
     /// Writes one message.
     Write(TypeNo, i64),
     /// Writes all values, or none.
-    Batch(TypeNo, Values),
+    Batch(TypeNo, Items<i64>),
     /// Reads at most so many unread messages, or all.
     Read(TypeNo, Option<u64>),
     /// How many messages are unread.
@@ -37,7 +36,7 @@ pub enum Op {
 }
 
 impl Op {
-    ghost use Rattle.msg_system.specs.Needs.{op_needs, type_read};
+    ghost use Rattle.msg_system.specs.Needs.{keeps_to, needs_of, op_needs, type_read};
 
     /// The type that it reads.
     pub fn read_type(&self) -> Option<TypeNo>
@@ -51,6 +50,27 @@ impl Op {
             Op::Forward(t, _) => Some(*t),
             Op::Sum(t, _) => Some(*t),
             _ => None,
+        }
+    }
+
+    /// Whether it reads and writes no more than this access.
+    pub fn keeps_to(&self, access: &Access) -> bool
+        ensures keeps { result ≡ keeps_to (needs_of access.now) self.now }
+    {
+        match self {
+            Op::Write(t, _) => access.writes_type(*t),
+            Op::Batch(t, _) => access.writes_type(*t),
+            Op::Read(t, _) => access.reads_type(*t),
+            Op::Len(t) => access.reads_type(*t),
+            Op::Missed(t) => access.reads_type(*t),
+            Op::Clear(t) => access.reads_type(*t),
+            Op::Forward(t, u) => access.reads_type(*t) && access.writes_type(*u),
+            Op::Sum(t, r) => access.reads_type(*t) && access.writes_res(*r),
+            Op::Get(r) => access.reads_res(*r) || access.writes_res(*r),
+            Op::Set(r, _) => access.writes_res(*r),
+            Op::Add(r, _) => access.writes_res(*r),
+            Op::Drain(t) => access.writes_type(*t),
+            Op::Signal => access.registry,
         }
     }
 
@@ -82,7 +102,7 @@ impl Op {
     pub fn copy(&self, alloc: Global) -> Result<Op, NoMemory>
         ensures equal { IfOk result (λ op. op ≡ self.now) }
         ensures refused { OnErr result
-            ((t : ℕ) × (values : List ℤ) × (self.now ≡ Op.Batch t values)) }
+            ((t : ℕ) × (values : List ℤ) × (self.now ≡ Op.Batch t values) × (0 < length values)) }
     {
         Ok(match self {
             Op::Write(t, value) => Op::Write(*t, *value),
@@ -99,5 +119,19 @@ impl Op {
             Op::Drain(t) => Op::Drain(*t),
             Op::Signal => Op::Signal,
         })
+    }
+}
+
+impl Items<Op> {
+    /// Equal ops. No ops take no memory.
+    pub fn copy(&self, alloc: Global) -> Result<Items<Op>, NoMemory>
+        ensures equal { IfOk result (λ ops. ops ≡ self.now) }
+        ensures refused { OnErr result (0 < length self.now) }
+    {
+        let mut ops = Vec::new(alloc);
+        for op in self.as_slice() {
+            ops.push(op.copy(alloc)?)?;
+        }
+        Ok(Items::from_vec(ops))
     }
 }

@@ -1,21 +1,23 @@
-ghost use Rattle.std.specs.Prelude.{◌≡◌, IfOk};
+ghost use Rattle.std.specs.Prelude.{◌≡◌, ◌<◌, ◌↔◌, IfOk, OnErr, length};
 
-use crate::{Access, NoMemory, Ops, Start};
+use crate::{Access, Items, NoMemory, Op, Start};
 use std::alloc::Global;
 
 /// Ops in order, and where their cursors start.
 #[derive(Debug, Drop)]
 pub struct Program {
-    pub ops: Ops,
+    pub ops: Items<Op>,
     pub start: Start,
 }
 
 impl Program {
-    ghost use Rattle.msg_system.specs.Needs.{IsAccessOf, program_needs};
+    ghost use Rattle.msg_world.specs.Access.{IsClash};
+    ghost use Rattle.msg_system.specs.Needs.{HasClash, IsAccessOf, program_needs};
 
     /// What its ops read and write.
     pub fn access(&self) -> Access
         ensures needs { IsAccessOf (program_needs self.now.ops) result }
+        ensures clash { IsClash result ↔ HasClash (program_needs self.now.ops) }
     {
         let mut access = Access::none();
         for op in self.ops.as_slice() {
@@ -29,9 +31,10 @@ impl Program {
         }
     }
 
-    /// An equal program.
+    /// An equal program. One of no ops takes no memory.
     pub fn copy(&self, alloc: Global) -> Result<Program, NoMemory>
         ensures equal { IfOk result (λ p. p ≡ self.now) }
+        ensures refused { OnErr result (0 < length self.now.ops) }
     {
         Ok(Program {
             ops: self.ops.copy(alloc)?,

@@ -7,7 +7,7 @@ ghost use Rattle.msg_buffer.specs.StandsFor.{StandsFor};
 ghost use Rattle.msg_world.specs.declared.record.Record.{Record};
 ghost use Rattle.msg_system.specs.Programs.{place_after_read, took};
 
-use crate::{NoMemory, Records, Took};
+use crate::{Items, NoMemory, Took};
 use msg_buffer::{MessageCursor, Messages};
 use msg_world::Record;
 use std::alloc::Global;
@@ -61,6 +61,6 @@ pub(crate) fn read_unread(
     Ok(Took {
         missed,
         first,
-        items: Records::from_vec(items),
+        items: Items::from_vec(items),
     })
 }

@@ -37,14 +37,11 @@ impl Relay {
 
 impl System for Relay {
     ghost use Rattle.msg_system.specs.declared.op.Op.TheVariants.{Forward};
-    ghost use Rattle.msg_system.specs.OpRuns.{one_place};
-    ghost use Rattle.msg_system.specs.Systems.{only};
+    ghost use Rattle.msg_system.specs.inner.OpRuns.{one_place};
+    ghost use Rattle.msg_system.specs.Systems.{of_program, only};
 
-    ghost meaning = { λ s. record {
-      program = only (Forward s.from s.to) s.start;
-      writer = s.writer;
-      places = one_place s.from s.cursor;
-    } };
+    ghost meaning = { λ s.
+        of_program (only (Forward s.from s.to) s.start) s.writer (one_place s.from s.cursor) };
 
     fn access(&self) -> Access {
         Access::none()

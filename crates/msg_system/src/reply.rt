@@ -1,12 +1,13 @@
-use crate::Records;
+use crate::Items;
 use msg_buffer::Written;
+use msg_world::Record;
 
 /// What a read took: the messages from the number `first` on, and how many it had missed.
 #[derive(Debug, Drop)]
 pub struct Took {
     pub missed: u64,
     pub first: u64,
-    pub items: Records,
+    pub items: Items<Record>,
 }
 
 /// What an op answers.
@@ -27,6 +28,6 @@ pub enum Reply {
     /// A resource's value after the op.
     Value(i64),
     /// The messages that were dropped, from the number `first` on.
-    Drained { first: u64, items: Records },
+    Drained { first: u64, items: Items<Record> },
     Signalled,
 }

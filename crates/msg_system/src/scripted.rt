@@ -1,10 +1,11 @@
 // Systems that interpret their programs.
-ghost use Rattle.std.specs.Prelude.{◌≡◌, ℕ, ◌≤◌, IfOk, OnOk, length, if◌then◌else◌};
+ghost use Rattle.std.specs.Prelude.{◌≡◌, ℕ, ◌<◌, ◌≤◌, IfOk, OnErr, OnOk, length, if◌then◌else◌};
 ghost use Rattle.msg_world.specs.Access.{OfType};
 ghost use Rattle.msg_world.specs.Loan.{SameLoan};
 ghost use Rattle.msg_system.specs.Needs.{op_needs, program_needs, some_op_reads};
-ghost use Rattle.msg_system.specs.OpRuns.{HasReplies, OpRan, ProgramRan, places_of};
-ghost use Rattle.msg_system.specs.Systems.{Covers, start_place};
+ghost use Rattle.msg_system.specs.inner.OpRuns.{HasReplies, MayBeRefused, OpRan, ProgramRan, places_of};
+ghost use Rattle.msg_system.specs.Promises.{Covers};
+ghost use Rattle.msg_system.specs.Systems.{start_place};
 
 use crate::{Access, NoMemory, Op, Program, Reply, Start, System, steps};
 use msg_buffer::MessageCursor;
@@ -12,7 +13,7 @@ use msg_world::{Counts, Lent, Taken, TypeNo};
 use std::alloc::Global;
 
 /// One op, by the cursors of its system.
-fn run_op(
+pub(crate) fn run_op(
     alloc: Global,
     op: &Op,
     writer: u32,
@@ -23,6 +24,7 @@ fn run_op(
     ensures ran { IfOk result (OpRan op.now writer (places_of cursors.old) (places_of cursors.new)
         lent.old lent.new) }
     ensures same { OnOk result (SameLoan lent.old lent.new) }
+    ensures refused { OnErr result (MayBeRefused op.now (places_of cursors.old) lent.old) }
 {
     match op {
         Op::Write(t, value) => steps::write(lent, writer, *t, *value),
@@ -60,6 +62,9 @@ fn run_ops(
         (places_of cursors.new) lent.old lent.new out.old.items out.new.items) }
     ensures replies { OnOk result (HasReplies out.old.items out.new.items (length ops.now)) }
     ensures same { OnOk result (SameLoan lent.old lent.new) }
+
+    // No ops take no memory.
+    ensures refused { OnErr result (0 < length ops.now) }
 {
     for op in ops {
         out.push(run_op(alloc, op, writer, cursors, lent)?)?;
@@ -116,11 +121,9 @@ impl Scripted {
 }
 
 impl System for Scripted {
-    ghost meaning = { λ s. record {
-      program = s.program;
-      writer = s.writer;
-      places = places_of s.cursors;
-    } };
+    ghost use Rattle.msg_system.specs.Systems.{of_program};
+
+    ghost meaning = { λ s. of_program s.program s.writer (places_of s.cursors) };
 
     fn access(&self) -> Access {
         self.program.access()

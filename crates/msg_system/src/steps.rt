@@ -1,18 +1,17 @@
 // What each op does to the loan of its system, and to its system's cursor.
-ghost use Rattle.std.specs.Prelude.{◌≡◌, ◌<◌, ℕ, IfOk, IsSome, OnErr, OnOk, length};
-ghost use Rattle.msg_buffer.specs.History.{present};
+ghost use Rattle.std.specs.Prelude.{◌≡◌, ℕ, IfOk, IsSome, OnErr, OnOk};
 ghost use Rattle.msg_world.specs.Access.{OfResource, OfType, Registry};
-ghost use Rattle.msg_world.specs.Loan.{LoanStands, SameLoan, shown, writable};
-ghost use Rattle.msg_world.specs.World.{WorldState};
+ghost use Rattle.msg_world.specs.Loan.{SameLoan, shown, writable};
 ghost use Rattle.msg_system.specs.declared.op.Op.TheVariants.{Write, Batch, Read, Len, Missed, Clear, Forward, Sum, Get, Set, Add, Drain, Signal};
-ghost use Rattle.msg_system.specs.Programs.{numbers_for, with_place, write_reply};
-ghost use Rattle.msg_system.specs.OpRuns.{OpRan};
+ghost use Rattle.msg_system.specs.Programs.{with_place, write_reply};
+ghost use Rattle.msg_system.specs.inner.OpRuns.{MayBeRefused, OpRan};
 
 use crate::lending::{
     added_up, drain_all, messages_of, rewritten, set_value, value_of, write_all, write_one,
+    written_by,
 };
 use crate::reading::read_unread;
-use crate::{NoMemory, Reply, Values};
+use crate::{Items, NoMemory, Reply};
 use msg_buffer::{MessageCursor, Written};
 use msg_world::{Lent, Record, ResNo, TypeNo};
 use std::alloc::Global;
@@ -31,8 +30,8 @@ pub(crate) fn write(lent: &mut Lent, writer: u32, t: TypeNo, value: i64) -> Resu
     ensures ran { IfOk result (λ reply. (places : ℕ → ℕ)
         → OpRan (Write t value) writer places places lent.old lent.new reply) }
     ensures same { OnOk result (SameLoan lent.old lent.new) }
-    ensures refused { OnErr result ((s : WorldState) → LoanStands lent.old s
-        → IsSome (numbers_for (s.histories t) 1)) }
+    ensures refused { OnErr result ((places : ℕ → ℕ)
+        → MayBeRefused (Write t value) places lent.old) }
 {
     let numbers = write_one(lent, t, Record { writer, value })?;
     Ok(wrote_or_spent(numbers))
@@ -43,14 +42,16 @@ pub(crate) fn batch(
     lent: &mut Lent,
     writer: u32,
     t: TypeNo,
-    values: &Values,
+    values: &Items<i64>,
 ) -> Result<Reply, NoMemory>
     requires lent { IsSome (writable (OfType t) lent.old) }
     ensures ran { IfOk result (λ reply. (places : ℕ → ℕ)
         → OpRan (Batch t values.now) writer places places lent.old lent.new reply) }
     ensures same { OnOk result (SameLoan lent.old lent.new) }
+    ensures refused { OnErr result ((places : ℕ → ℕ)
+        → MayBeRefused (Batch t values.now) places lent.old) }
 {
-    let records = values.written_by(alloc, writer)?;
+    let records = written_by(alloc, values.as_slice(), writer)?;
     Ok(wrote_or_spent(write_all(lent, t, records)?))
 }
 
@@ -65,6 +66,8 @@ pub(crate) fn read(
     ensures ran { IfOk result (λ reply. (writer : ℕ) (places : ℕ → ℕ) → places t ≡ cursor.old
         → OpRan (Read t limit) writer places (with_place places t cursor.new)
         lent.now lent.now reply) }
+    ensures refused { OnErr result ((places : ℕ → ℕ) → places t ≡ cursor.old
+        → MayBeRefused (Read t limit) places lent.now) }
 {
     Ok(Reply::Read(read_unread(alloc, messages_of(lent, t), cursor, limit)?))
 }
@@ -113,6 +116,8 @@ pub(crate) fn forward(
         → OpRan (Forward t u) writer places (with_place places t cursor.new)
         lent.old lent.new reply) }
     ensures same { OnOk result (SameLoan lent.old lent.new) }
+    ensures refused { OnErr result ((places : ℕ → ℕ) → places t ≡ cursor.old
+        → MayBeRefused (Forward t u) places lent.old) }
 {
     let took = read_unread(alloc, messages_of(lent, t), cursor, None)?;
     let records = rewritten(alloc, took.items.as_slice(), writer)?;
@@ -133,6 +138,8 @@ pub(crate) fn sum(
         → OpRan (Sum t r) writer places (with_place places t cursor.new)
         lent.old lent.new reply) }
     ensures same { OnOk result (SameLoan lent.old lent.new) }
+    ensures refused { OnErr result ((places : ℕ → ℕ) → places t ≡ cursor.old
+        → MayBeRefused (Sum t r) places lent.old) }
 {
     let took = read_unread(alloc, messages_of(lent, t), cursor, None)?;
     let value = added_up(value_of(lent, r), took.items.as_slice());
@@ -174,8 +181,7 @@ pub(crate) fn drain(alloc: Global, lent: &mut Lent, t: TypeNo) -> Result<Reply, 
     ensures ran { IfOk result (λ reply. (writer : ℕ) (places : ℕ → ℕ)
         → OpRan (Drain t) writer places places lent.old lent.new reply) }
     ensures same { OnOk result (SameLoan lent.old lent.new) }
-    ensures refused { OnErr result ((s : WorldState) → LoanStands lent.old s
-        → 0 < length (present (s.histories t))) }
+    ensures refused { OnErr result ((places : ℕ → ℕ) → MayBeRefused (Drain t) places lent.old) }
 {
     let (first, items) = drain_all(alloc, lent, t)?;
     Ok(Reply::Drained { first, items })

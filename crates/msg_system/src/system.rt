@@ -3,41 +3,42 @@ use crate::{Access, NoMemory, Reply, Start};
 use msg_world::{Counts, Lent, Taken, TypeNo};
 use std::alloc::Global;
 
-/// A system, which an engine may keep in a box. It means a program of at most 64 ops, the number
-/// that it writes as, and its place in each type.
+/// A system, which an engine may keep in a box. What it means is a rule, which gives the ops of its
+/// turns by what it is told, with the access that they keep to, the number that it writes as, and
+/// its place in each type.
 pub trait System: Send + Drop {
-    ghost use Rattle.std.specs.Prelude.{◌≡◌, ◌≤◌, IfOk, length};
+    ghost use Rattle.std.specs.Prelude.{◌≡◌, IfOk};
     ghost use Rattle.msg_world.specs.Loan.{taken_of};
     ghost use Rattle.msg_world.specs.Parts.{SameShape};
-    ghost use Rattle.msg_system.specs.Needs.{IsAccessOf, program_needs, type_read_by};
-    ghost use Rattle.msg_system.specs.Systems.{Covers, Meaning, Ran, started};
+    ghost use Rattle.msg_system.specs.Needs.{IsAccessOf, type_read_by};
+    ghost use Rattle.msg_system.specs.Promises.{Covers, Ran};
+    ghost use Rattle.msg_system.specs.Systems.{Meaning, started};
 
-    // Its program, its number and its places. Nothing but the places ever changes.
+    // What it does from now on. Nothing but a start and its runs ever changes it.
     ghost meaning: { Self → Meaning };
 
-    /// What its program reads and writes.
+    /// What its ops may read and write.
     fn access(&self) -> Access
-        ensures needs { IsAccessOf (program_needs (meaning self.now).program.ops) result }
-        ensures few { length (meaning self.now).program.ops ≤ 64 };
+        ensures needs { IsAccessOf (meaning self.now).needs result };
 
-    /// The type that this op of its program reads; None where it reads none, or there is no such
-    /// op.
+    /// The type that this op of its last turn reads, or of its program, where it has one; None
+    /// where it reads none, or there is no such op.
     fn read_type(&self, op: u32) -> Option<TypeNo>
-        ensures type_read { result ≡ type_read_by (meaning self.now).program.ops op };
+        ensures type_read { result ≡ type_read_by (meaning self.now).last op };
 
     /// Where its cursors start.
     fn begins(&self) -> Start
-        ensures start { result ≡ (meaning self.now).program.start };
+        ensures start { result ≡ (meaning self.now).start };
 
     /// Sets its cursors to where they start, by the counts of this moment.
     fn start(&mut self, counts: &Counts)
         ensures started { meaning self.new ≡ started counts.now (meaning self.old) };
 
-    /// Runs its program on a loan that covers its access, and gives back what the loan owned. The
+    /// Takes its turn on a loan that covers its access, and gives back what the loan owned. The
     /// replies are appended, one for each op. After `NoMemory` nothing is known of the system or of
     /// the replies, and the loan is gone.
     fn run(&mut self, alloc: Global, lent: Lent, out: &mut Vec<Reply>) -> Result<Taken, NoMemory>
-        requires covers { Covers (program_needs (meaning self.old).program.ops) lent }
+        requires covers { Covers (meaning self.old).needs lent }
         ensures ran { IfOk result (λ taken. Ran (meaning self.old) (meaning self.new)
             lent.entry taken out.old.items out.new.items) }
         // So what is given back may be taken back.

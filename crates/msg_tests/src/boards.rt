@@ -1,10 +1,10 @@
-// The worked board, boards that threads share, and jobs that hold boxes.
+// Boards of no jobs, boards that threads share, and jobs that hold boxes.
 ghost use Rattle.std.specs.Prelude.{◌≡◌, ◌+◌};
 
 mod boxes;
+mod no_jobs;
 mod out_of_memory;
 mod threads;
-mod turns;
 
 use msg_board::Work;
 

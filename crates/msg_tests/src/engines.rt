@@ -1,7 +1,7 @@
 // Tests of engines: that their calls succeed, how many threads run a batch, what stands after
 // want of memory, and that a frame is meant as it is defined.
 mod cases;
-mod crews;
+mod deciding;
 mod expecting;
 mod frames;
 mod gates;
@@ -11,5 +11,7 @@ mod new_engines;
 mod noting;
 mod out_of_memory;
 mod posting;
+mod prefaced;
 mod replay;
 mod spoiled;
+mod workers;

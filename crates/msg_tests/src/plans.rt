@@ -1,5 +1,5 @@
 // Plans of worked rules and accesses.
-use msg_order::{Plan, PlanRefusal, Rule};
+use msg_order::{Plan, PlanRefusal, Rule, lowest_on_cycle};
 use msg_world::Access;
 use std::alloc::AllocError;
 
@@ -91,6 +91,16 @@ fn a_cycle_of_rules_names_its_lowest_system(rt: HostRuntime) -> Result<(), Alloc
         text.as_str(),
         "the rules go round in a circle through system 1"
     );
+    Ok(())
+}
+
+#[test]
+fn the_lowest_system_on_a_cycle(rt: HostRuntime) -> Result<(), AllocError> {
+    let alloc = rt.alloc();
+    let around = [Rule::before(0, 1), Rule::before(3, 2), Rule::after(3, 2)];
+    assert_eq!(rt; lowest_on_cycle(alloc, 4, &around)?, Some(2));
+    assert_eq!(rt; lowest_on_cycle(alloc, 4, &around[..2])?, None);
+    assert_eq!(rt; lowest_on_cycle(alloc, 0, &[])?, None);
     Ok(())
 }
 

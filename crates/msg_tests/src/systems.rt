@@ -2,9 +2,7 @@
 mod boxes;
 
 use crate::numbers::{res_no, type_no};
-use msg_system::{
-    Access, Op, Ops, Program, Records, Relay, Scripted, Start, System, Tally, Values,
-};
+use msg_system::{Access, Items, Op, Program, Relay, Scripted, Start, System, Tally};
 use msg_world::Record;
 use std::alloc::{AllocError, Global};
 use std::test::Fail;
@@ -12,7 +10,7 @@ use std::test::Fail;
 /// A program of one op, from zero.
 fn program(alloc: Global, op: Op) -> Result<Program, AllocError> {
     Ok(Program {
-        ops: Ops::from_vec(vec![in alloc; op]?),
+        ops: Items::from_vec(vec![in alloc; op]?),
         start: Start::Zero,
     })
 }
@@ -29,7 +27,7 @@ fn kinds_tell_what_they_are(rt: HostRuntime) -> Result<(), Fail> {
     let tally = Tally::new(t, r, Start::Zero, 2);
     let script = Scripted::new(
         Program {
-            ops: Ops::from_vec(Vec::new(alloc)),
+            ops: Items::from_vec(Vec::new(alloc)),
             start: Start::Current,
         },
         0,
@@ -64,9 +62,9 @@ fn programs(rt: HostRuntime) -> Result<(), Fail> {
     let mut ops = copied.ops.into_vec();
     ops.push(Op::Get(r))?;
     ops.push(Op::Add(r, 1))?;
-    ops.push(Op::Batch(u, Values::from_vec(Vec::from_slice(alloc, &[1, 2])?)))?;
+    ops.push(Op::Batch(u, Items::from_vec(Vec::from_slice(alloc, &[1, 2])?)))?;
     let longer = Program {
-        ops: Ops::from_vec(ops),
+        ops: Items::from_vec(ops),
         start: Start::Zero,
     };
     let access = longer.copy(alloc)?.access();
@@ -80,14 +78,14 @@ fn programs(rt: HostRuntime) -> Result<(), Fail> {
 
 #[test]
 fn lists(rt: HostRuntime) -> Result<(), Fail> {
-    let values = Values::from_vec(Vec::from_slice(rt.alloc(), &[4, -4])?);
+    let values = Items::from_vec(Vec::from_slice(rt.alloc(), &[4, -4])?);
     assert_eq!(rt; values.copy(rt.alloc())?.as_slice(), [4, -4].as_slice());
     assert_eq!(rt; values.into_vec().as_slice(), [4, -4].as_slice());
     let record = Record {
         writer: 1,
         value: 2,
     };
-    let records = Records::from_vec(Vec::from_slice(rt.alloc(), &[record])?);
+    let records = Items::from_vec(Vec::from_slice(rt.alloc(), &[record])?);
     assert_eq!(rt; records.as_slice(), [record].as_slice());
     assert_eq!(rt; records.into_vec().as_slice(), [record].as_slice());
     Ok(())

@@ -1,36 +1,23 @@
 -- Bits of masks, as tests.
-use Rattle.std.proofs.Common.{◌≡◌, ◌≢◌, ℕ, zero, suc, ◌+◌, ◌*◌, ◌-◌, ◌/◌, ◌^◌, ◌%◌, ◌<◌, ◌≤◌, min, max, Bool, true, false, not, ◌&&◌, ◌||◌, inl, inr, refl, ap, sym, ◌∙◌, arith, w64}
+use Rattle.std.proofs.Common.{◌≡◌, ◌≢◌, ℕ, zero, suc, ◌+◌, ◌*◌, ◌-◌, ◌/◌, ◌^◌, ◌%◌, ◌<◌, ◌≤◌, min, max, false, not, ◌&&◌, ◌||◌, inl, inr, refl, ap, sym, ◌∙◌, arith, w64}
 use Rattle.std.specs.Prelude.{◌==◌, ◌↔◌, IsTrue, bit_and, bit_or, ◌⊎◌}
 use Rattle.std.specs.Int.{bit_at, bit_not, trailing_zeros}
 use Rattle.std.proofs.lemmas.Bool.{cases_Bool, and_from, and_parts, cases_lt, cases_eq, eqb-true, eq-eqb, ne_eqb, eqb-false, not-true, false≢true}
+use Rattle.std.proofs.lemmas.Bool.Decides.{nat_tests}
 use Rattle.std.proofs.lemmas.Nat.{and_le_l, shr-shr}
 use Rattle.std.proofs.Math.Nat.{div-le_self}
 use Rattle.std.proofs.lemmas.Nat.Bits.{bit_at_lowest, bit_at-suc, bit_at_and, bit_at_or, bit_at_not, bit_at_above, bit_at-zero, bit_at-lt, bit_at_set_same, bit_at_set_other, bit_at_clear_same, bit_at_clear_other, bit_at-trailing_zeros}
 use Rattle.msg_world.specs.Access.{has_bit}
-use Rattle.msg_world.specs.Masks.{ShareBit, IsBelow, IsWithin}
+use Rattle.msg_world.specs.inner.Masks.{ShareBit, IsBelow, IsWithin}
 
 or_test : (x y : ℕ) → x < 2 → y < 2 → (max x y == 1) ≡ ((x == 1) || (y == 1))
-or_test zero zero h k = refl
-or_test zero (suc zero) h k = refl
-or_test (suc zero) zero h k = refl
-or_test (suc zero) (suc zero) h k = refl
-or_test zero (suc (suc y)) h k = absurd (omega arith)
-or_test (suc zero) (suc (suc y)) h k = absurd (omega arith)
-or_test (suc (suc x)) y h k = absurd (omega arith)
+or_test x y h k = grind (arith, nat_tests)
 
 and_test : (x y : ℕ) → x < 2 → y < 2 → (min x y == 1) ≡ ((x == 1) && (y == 1))
-and_test zero zero h k = refl
-and_test zero (suc zero) h k = refl
-and_test (suc zero) zero h k = refl
-and_test (suc zero) (suc zero) h k = refl
-and_test zero (suc (suc y)) h k = absurd (omega arith)
-and_test (suc zero) (suc (suc y)) h k = absurd (omega arith)
-and_test (suc (suc x)) y h k = absurd (omega arith)
+and_test x y h k = grind (arith, nat_tests)
 
 not_test : (y : ℕ) → y < 2 → (1 - y == 1) ≡ not (y == 1)
-not_test zero h = refl
-not_test (suc zero) h = refl
-not_test (suc (suc y)) h = absurd (omega arith)
+not_test y h = grind (arith, nat_tests)
 
 pub has_bit-zero : (k : ℕ) → has_bit 0 k ≡ false
 has_bit-zero k = ap (λ n. n == 1) (bit_at-zero k)
@@ -44,10 +31,6 @@ has_bit-and a b k = ap (λ n. n == 1) (bit_at_and a b k) ∙ and_test (bit_at a 
 -- a mask of 64 bits has none from 64 on
 pub has_bit-above : (a k : ℕ) → a < 2 ^ 64 → 64 ≤ k → has_bit a k ≡ false
 has_bit-above a k h l = ap (λ n. n == 1) (bit_at_above a 64 k h l)
-
-and_false : (b : Bool) → false ≡ (b && false)
-and_false true = refl
-and_false false = refl
 
 pub has_bit-clear : (a b k : ℕ) → a < 2 ^ 64 → b < 2 ^ 64 → has_bit (bit_and a (bit_not w64 b)) k ≡ (has_bit a k && not (has_bit b k))
 has_bit-clear a b k la lb = has_bit-and a (bit_not w64 b) k ∙ elim (cases_lt k 64) [

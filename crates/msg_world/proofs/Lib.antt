@@ -1,4 +1,6 @@
+-- Accesses, by their masks
 pub mod Bits
-mod Loans
-pub mod Parts
+pub mod Conflicts
+-- Worlds, and what is lent of them
 mod Worlds
+mod Loans

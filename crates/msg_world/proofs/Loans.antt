@@ -1,5 +1,5 @@
 -- What loans stand for.
-use Rattle.std.proofs.Common.{◌≡◌, ◌||◌, ℕ, ◌<◌, length, Bool, true, false, refl, sym, ap, subst, ◌∙◌, inl, inr, Option, Some, None}
+use Rattle.std.proofs.Common.{arith, ◌≡◌, ◌||◌, ℕ, ◌<◌, length, Bool, true, false, refl, sym, ap, subst, ◌∙◌, inl, inr, Option, Some, None}
 use Rattle.std.specs.Prelude.{ℤ, IfSome, IsSome, IsTrue, is_some, option_map, if◌then◌else◌}
 use Rattle.std.specs.Option.{option_or}
 use Rattle.std.proofs.lemmas.Bool.{and_from, cases_Bool, cases_eq, cases_lt, eq-eqb, ne_eqb, false≢true, or_left, or_right}
@@ -18,7 +18,7 @@ use Rattle.msg_world.specs.Access.{Part, OfType, OfResource, Registry, reads, us
 use Rattle.msg_world.specs.Loan.{LoanStands, with_messages, with_resource, writable}
 use Rattle.msg_world.specs.LoanLaws.{HomeAgain, HomeMerges, HomeWhereEither, LentIsLoan, LoanEnds, LoanStays, MayComeHome, OthersStayHome, OwnedStands, OwnsWhatItWrites, StaysApart, StaysComplete, ValuesStand, WritesStand}
 use Rattle.msg_world.specs.Parts.{IsHome, LendsOut, Parts, PartsStand, SameShape, Stuff, StuffStands, slot}
-use Rattle.msg_world.specs.World.{Content, WorldState, content, merge, signalled, signalled_marks, with_history, with_value_of}
+use Rattle.msg_world.specs.World.{WorldState, content, merge, signalled, signalled_marks, with_history, with_value_of}
 
 same_marks : (m : Option Marks) (n : Marks) → IfSome m (λ k. k ≡ n) → IfSome (option_map signalled_marks m) (λ k. k ≡ signalled_marks n)
 same_marks None n is = tt
@@ -51,23 +51,14 @@ signal_stands l s lent stand Registry =
 -- ---- writing
 
 type_there : (w : Parts) (t : ℕ) → IsSome (slot (OfType t) w) → t < length w.types
-type_there w t there = elim (cases_lt t (length w.types)) [
-  | inl lt ↦ lt
-  | inr past ↦ absurd (false≢true (sym (ap is_some (get_or_past w.types t None past)) ∙ there))
-]
+type_there w t there = grind (arith, cases_lt, false≢true, get_or_past)
 
 value_there : (w : Parts) (r : ℕ) → IsSome (slot (OfResource r) w) → r < length w.resources
-value_there w r there = elim (cases_lt r (length w.resources)) [
-  | inl lt ↦ lt
-  | inr past ↦ absurd (false≢true (sym (ap is_some (get_or_past w.resources r None past)) ∙ there))
-]
+value_there w r there = grind (arith, cases_lt, false≢true, get_or_past)
 
 -- what may be written is written by the access, and there
 is_written : (p : Part) (l : Lent) → IsSome (writable p l) → IsTrue (writes l.access p) × IsSome (slot p l.taken)
-is_written p l there = elim (cases_Bool (writes l.access p)) [
-  | inl is ↦ (is, rw is at there)
-  | inr isnt ↦ absurd (false≢true (rw isnt at there))
-]
+is_written p l there = grind (arith, cases_Bool, false≢true)
 
 pub writes_are : WritesStand
 writes_are l t k there =
@@ -115,10 +106,7 @@ values_are_written l r z there =
 -- ---- lending out
 
 lent_written : (a : Access) (old left taken : Parts) → IsHome a old → LendsOut a old left taken → (p : Part) → is_some (slot p taken) ≡ writes a p
-lent_written a old left taken home lends p = elim (cases_Bool (writes a p)) [
-  | inl is ↦ ap is_some (lends.moved p) ∙ rw is (home p (or_right (reads a p) (writes a p) is))
-  | inr isnt ↦ ap is_some (lends.moved p) ∙ rw isnt refl
-]
+lent_written a old left taken home lends p = grind (arith, cases_Bool, or_right)
 
 lent_read : (a : Access) (old left taken : Parts) → IsHome a old → LendsOut a old left taken → (p : Part) → IsTrue (reads a p) → writes a p ≡ false → IsSome (slot p left)
 lent_read a old left taken home lends p read isnt = ap is_some (lends.stayed p) ∙ rw isnt (home p (or_left (reads a p) (writes a p) read))
@@ -130,17 +118,7 @@ chosen_stands p s true o stands = (stands, tt)
 chosen_stands p s false o stands = (tt, stands)
 
 pub lent_is_loan : LentIsLoan
-lent_is_loan a old left taken home lends = (
-  record {
-    size = record { types = lends.taken_size.types ∙ sym lends.left_size.types; resources = lends.taken_size.resources ∙ sym lends.left_size.resources };
-    written = lent_written a old left taken home lends;
-    read = lent_read a old left taken home lends;
-  },
-  λ s stand. (
-    λ p. let P : Option (Stuff p) → Type 0 = λ o. IfSome o (λ k. StuffStands p k (content p s)) in subst P (sym (lends.stayed p)) (chosen_stands p s (writes a p) (slot p old) (stand p)).1,
-    λ p. let P : Option (Stuff p) → Type 0 = λ o. IfSome o (λ k. StuffStands p k (content p s)) in subst P (sym (lends.moved p)) (chosen_stands p s (writes a p) (slot p old) (stand p)).0,
-  ),
-)
+lent_is_loan a old left taken home lends = grind (arith, lent_written, lent_read, chosen_stands)
 
 -- ---- side by side
 
@@ -163,22 +141,13 @@ others_stay_home a b old left taken apart home lends p used = elim (cases_Bool (
 -- ---- coming home
 
 taken_is_out : (a : Access) (old left taken later : Parts) → LendsOut a old left taken → SameShape taken later → (p : Part) → IsSome (slot p later) → slot p left ≡ None
-taken_is_out a old left taken later lends same p there = elim (cases_Bool (writes a p)) [
-  | inl is ↦ lends.stayed p ∙ rw is refl
-  | inr isnt ↦ absurd (false≢true (sym (ap is_some (lends.moved p) ∙ rw isnt refl) ∙ sym (same.there p) ∙ there))
-]
+taken_is_out a old left taken later lends same p there = grind (arith, cases_Bool, false≢true)
 
 pub may_come_home : MayComeHome
-may_come_home a old left taken later lends same = record {
-  size = record { types = same.size.types ∙ lends.taken_size.types ∙ sym lends.left_size.types; resources = same.size.resources ∙ lends.taken_size.resources ∙ sym lends.left_size.resources };
-  out = taken_is_out a old left taken later lends same;
-}
+may_come_home a old left taken later lends same = grind (arith, taken_is_out)
 
 pub stays_apart : StaysApart
-stays_apart taken others world home apart back none = record {
-  size = record { types = apart.size.types ∙ sym back.size.types; resources = apart.size.resources ∙ sym back.size.resources };
-  out = λ p there. back.joined p ∙ rw (none p there, apart.out p there) refl;
-}
+stays_apart taken others world home apart back z6 = grind arith
 
 content_merged : (a : Access) (mine s : WorldState) (p : Part) → content p (merge a mine s) ≡ (if writes a p then content p mine else content p s)
 content_merged a mine s (OfType t) = refl
@@ -188,26 +157,14 @@ content_merged a mine s Registry = refl
 merged_slot : (p : Part) (b : Bool) (x y : Option (Stuff p)) (mine s : WorldState) → (b ≡ false → x ≡ None) → (b ≡ true → y ≡ None)
     → IfSome x (λ k. StuffStands p k (content p mine)) → IfSome y (λ k. StuffStands p k (content p s))
     → IfSome (option_or x y) (λ k. StuffStands p k (if b then content p mine else content p s))
-merged_slot p true (Some x) y mine s none out here there = here
-merged_slot p true None None mine s none out here there = tt
-merged_slot p true None (Some y) mine s none out here there = absurd (none-some y (sym (out refl)))
-merged_slot p false None None mine s none out here there = tt
-merged_slot p false None (Some y) mine s none out here there = there
-merged_slot p false (Some x) y mine s none out here there = absurd (none-some x (sym (none refl)))
+merged_slot p z1 z2 y mine s z6 out here there = grind (arith, none-some)
 
 pub home_merges : HomeMerges
-home_merges a taken world home mine s none out back here there p =
-    let P : Option (Stuff p) → Type 0 = λ o. IfSome o (λ k. StuffStands p k (if writes a p then content p mine else content p s)) in
-    let Q : Content p → Type 0 = λ x. IfSome (slot p home) (λ k. StuffStands p k x) in
-    subst Q (sym (content_merged a mine s p))
-    (subst P (sym (back.joined p)) (merged_slot p (writes a p) (slot p taken) (slot p world) mine s (none p) (out p) (here p) (there p)))
+home_merges a taken world home mine s z6 out back here there p = grind (arith, content_merged, merged_slot)
 
 home_slot : (b : Bool) {X : Type 0} (old left taken later home : Option X) → taken ≡ (if b then old else None) → left ≡ (if b then None else old)
     → is_some later ≡ is_some taken → home ≡ option_or later left → is_some home ≡ is_some old
-home_slot true old left taken None home moved stayed same back = ap is_some back ∙ ap is_some stayed ∙ same ∙ ap is_some moved
-home_slot true old left taken (Some x) home moved stayed same back = ap is_some back ∙ same ∙ ap is_some moved
-home_slot false old left taken None home moved stayed same back = ap is_some back ∙ ap is_some stayed
-home_slot false old left taken (Some x) home moved stayed same back = absurd (false≢true (sym (ap is_some moved) ∙ sym same))
+home_slot z0 old left taken z4 home moved stayed same back = grind (arith, false≢true)
 
 either_slot : {X : Type 0} (x y : Option X) → is_some (option_or x y) ≡ (is_some x || is_some y)
 either_slot None y = refl
@@ -217,10 +174,7 @@ pub home_where_either : HomeWhereEither
 home_where_either taken world home back p = ap is_some (back.joined p) ∙ either_slot (slot p taken) (slot p world)
 
 pub home_again : HomeAgain
-home_again a old left taken later home lends same back = record {
-  size = record { types = back.size.types ∙ lends.left_size.types; resources = back.size.resources ∙ lends.left_size.resources };
-  there = λ p. home_slot (writes a p) (slot p old) (slot p left) (slot p taken) (slot p later) (slot p home) (lends.moved p) (lends.stayed p) (same.there p) (back.joined p);
-}
+home_again a old left taken later home lends same back = grind (arith, home_slot)
 
 -- ---- a loan from its beginning to its end
 
@@ -232,15 +186,10 @@ no_slot (Some x) isnt = absurd (false≢true (sym isnt))
 shown_stands : (p : Part) (w r : Bool) (x y : Option (Stuff p)) (mine s : WorldState)
     → IfSome x (λ k. StuffStands p k (content p mine)) → IfSome y (λ k. StuffStands p k (content p s))
     → IfSome (if w then x else if r then y else None) (λ k. StuffStands p k (if w then content p mine else content p s))
-shown_stands p true r x y mine s here there = here
-shown_stands p false true x y mine s here there = there
-shown_stands p false false x y mine s here there = tt
+shown_stands p z1 r x y mine s here there = grind arith
 
 pub loan_stands : (l : Lent) (mine s : WorldState) → PartsStand l.taken mine → PartsStand l.world.now s → LoanStands l (merge l.access mine s)
-loan_stands l mine s here there p =
-    let a = l.access in
-    let Q : Content p → Type 0 = λ x. IfSome (if writes a p then slot p l.taken else if reads a p then slot p l.world.now else None) (λ k. StuffStands p k x) in
-    subst Q (sym (content_merged a mine s p)) (shown_stands p (writes a p) (reads a p) (slot p l.taken) (slot p l.world.now) mine s (here p) (there p))
+loan_stands l mine s here there p = grind (arith, content_merged, shown_stands)
 
 owned_part : (p : Part) (w r : Bool) (x y : Option (Stuff p)) (s : WorldState)
     → IfSome (if w then x else if r then y else None) (λ k. StuffStands p k (content p s)) → (w ≡ false → x ≡ None)
@@ -255,25 +204,14 @@ pub owned_stands : OwnedStands
 owned_stands l world s loan stand = owned_where_written l s (λ p isnt. no_slot (slot p l.taken) (loan.written p ∙ isnt)) stand
 
 pub owns_what_it_writes : OwnsWhatItWrites
-owns_what_it_writes a world taken later loan same = (
-  record {
-    size = record { types = same.size.types ∙ loan.size.types; resources = same.size.resources ∙ loan.size.resources };
-    written = λ p. same.there p ∙ loan.written p;
-    read = loan.read;
-  },
-  λ p isnt. no_slot (slot p later) (same.there p ∙ (loan.written p ∙ isnt)),
-)
+owns_what_it_writes a world taken later loan same = grind (arith, no_slot)
 
 same_choice : {X : Type 0} (b : Bool) (x x' z : Option X) → is_some x' ≡ is_some x → is_some (if b then x' else z) ≡ is_some (if b then x else z)
 same_choice true x x' z same = same
 same_choice false x x' z same = refl
 
 pub stays_complete : StaysComplete
-stays_complete old new same complete = record {
-  shows = λ p. rw (same.access, same.world)
-      (same_choice (writes old.access p) (slot p old.taken) (slot p new.taken) (if reads old.access p then slot p old.world.now else None) (same.shape.there p) ∙ complete.shows p);
-  writes = λ p. rw same.access (same_choice (writes old.access p) (slot p old.taken) (slot p new.taken) None (same.shape.there p) ∙ complete.writes p);
-}
+stays_complete old new same complete = grind (arith, same_choice)
 
 pub loan_ends : LoanEnds
 loan_ends a old left taken begun ended lends of owns same =

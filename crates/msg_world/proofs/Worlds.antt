@@ -13,9 +13,9 @@ use Rattle.msg_world.specs.declared.access.Access.{Access}
 use Rattle.msg_world.specs.declared.record.Record.{Record}
 use Rattle.msg_world.specs.declared.marks.Marks.{Marks}
 use Rattle.msg_world.specs.Access.{Part, OfType, OfResource, Registry, has_bit, uses, writes}
-use Rattle.msg_world.specs.Masks.{IsWithin}
+use Rattle.msg_world.specs.inner.Masks.{IsWithin}
 use Rattle.msg_world.specs.Parts.{Parts, IsHome, IsWhole, PartsStand, SameShape, slot}
-use Rattle.msg_world.specs.Slots.{AllUpdated, BufferStands, at}
+use Rattle.msg_world.specs.inner.Slots.{AllUpdated, BufferStands, at}
 use Rattle.msg_world.specs.World.{WorldState, new_world, updated, waits, with_history}
 
 -- a world and parts of which the marks were set
@@ -124,10 +124,7 @@ item_at xs i o lt read = same_Some (at xs i) o (sym (slice_get-get_or xs i None 
 
 -- what is read at a slot that isn't empty
 pub found_at : {X : Type 0} (xs : List (Option X)) (i : ℕ) (o : Option X) → IsSome (at xs i) → o ≡ get_or xs i o → (at xs i ≡ o) × (i < length xs)
-found_at xs i o there read = elim (cases_lt i (length xs)) [
-  | inl lt ↦ (item_at xs i o lt read, lt)
-  | inr past ↦ absurd (false≢true (sym (ap is_some (get_or_past xs i None past)) ∙ there))
-]
+found_at xs i o there read = grind (arith, cases_lt, item_at, false≢true, get_or_past)
 
 pub on_ok : {T E : Type 0} (r : Result T E) (P Q : Type 0) → (P → Q) → OnOk r P → OnOk r Q
 on_ok (Ok x) P Q f h = f h
@@ -246,3 +243,10 @@ world_stands w each = (record { histories = λ t. (chosen t).0; resources = λ r
     stand (OfType t) = (chosen t).1
     stand (OfResource r) = some_value (at w.resources r) (pos 0)
     stand Registry = some_value w.marks none
+
+-- the same of a view of parts, and of its types as they were read
+pub some_state : (v w : Parts) (types : List (Option (Kept Record))) → w ≡ v → types ≡ w.types → ((t : ℕ) → t < length types → (h : History Record) × BufferStands (at types t) h)
+    → (s : WorldState) × PartsStand v s
+some_state v w types same read each =
+    let P : List (Option (Kept Record)) → Type 0 = λ xs. (t : ℕ) → t < length xs → (h : History Record) × BufferStands (at xs t) h in
+    subst (λ (x : Parts). (s : WorldState) × PartsStand x s) same (world_stands w (subst P read each))

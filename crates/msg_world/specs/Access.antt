@@ -9,6 +9,12 @@ pub data Part : Type 0 where
   OfResource : ℕ → Part
   Registry : Part
 
+-- the part is one of so many types and resources, or the registry
+abbrev pub HasPart : ℕ → ℕ → Part → Type 0
+HasPart types resources (OfType t) = t < types
+HasPart types resources (OfResource r) = r < resources
+HasPart types resources Registry = Unit {0}
+
 -- whether they are one part
 abbrev pub same_part : Part → Part → Bool
 same_part (OfType t) (OfType u) = t == u
@@ -40,9 +46,13 @@ uses a p = reads a p || writes a p
 abbrev pub Conflict : Access → Access → Type 0
 Conflict a b = (p : Part) × (IsTrue (writes a p && uses b p) ⊎ IsTrue (writes b p && uses a p))
 
+-- A part is among these and among those. Where the first are read and the second written it is a clash.
+abbrev pub Overlap : (Part → Bool) → (Part → Bool) → Type 0
+Overlap these those = (p : Part) × IsTrue (these p && those p)
+
 -- there is a part that is both read and written
 abbrev pub IsClash : Access → Type 0
-IsClash a = (p : Part) × IsTrue (reads a p && writes a p)
+IsClash a = Overlap (reads a) (writes a)
 
 -- it uses no type and no resource but those below these numbers
 pub record Fits (types resources : ℕ) (a : Access) : Type 0 where

@@ -1,12 +1,12 @@
 -- What is at home in a world, or was moved out of it, and what it stands for.
-use Rattle.std.specs.Prelude.{◌≡◌, ℤ, ◌<◌, Option, None, IsSome, IfSome, is_some, IsTrue, List, length, slice_index_or, if◌then◌else◌}
+use Rattle.std.specs.Prelude.{◌≡◌, ℤ, Option, None, IsSome, IfSome, is_some, IsTrue, List, length, slice_index_or, if◌then◌else◌}
 use Rattle.std.specs.Option.{option_or}
 use Rattle.msg_buffer.specs.Kept.{Kept}
 use Rattle.msg_buffer.specs.StandsFor.{StandsFor}
 use Rattle.msg_world.specs.declared.record.Record.{Record}
 use Rattle.msg_world.specs.declared.marks.Marks.{Marks}
 use Rattle.msg_world.specs.declared.access.Access.{Access}
-use Rattle.msg_world.specs.Access.{Part, OfType, OfResource, Registry, uses, writes}
+use Rattle.msg_world.specs.Access.{HasPart, Part, OfType, OfResource, Registry, uses, writes}
 use Rattle.msg_world.specs.World.{WorldState, Content, content}
 
 -- A slot for each type, for each resource, and for the registry's marks: empty where that part is elsewhere.
@@ -29,9 +29,7 @@ slot Registry w = w.marks
 
 -- the world has this part, at home or elsewhere
 abbrev pub Has : Parts → Part → Type 0
-Has w (OfType t) = t < length w.types
-Has w (OfResource r) = r < length w.resources
-Has w Registry = Unit {0}
+Has w p = HasPart (length w.types) (length w.resources) p
 
 -- the same parts in number
 pub record SameSize (old new : Parts) : Type 0 where

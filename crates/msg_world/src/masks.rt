@@ -1,7 +1,7 @@
 // Masks of 64 bits, one for each number below 64.
 ghost use Rattle.std.specs.Prelude.{◌≡◌, ◌==◌, ◌||◌, ◌&&◌, not, ℕ, ◌<◌, ◌↔◌, IsTrue};
 ghost use Rattle.msg_world.specs.Access.{has_bit};
-ghost use Rattle.msg_world.specs.Masks.{ShareBit, Collide, IsBelow, IsWithin};
+ghost use Rattle.msg_world.specs.inner.Masks.{ShareBit, Collide, IsBelow, IsWithin};
 
 pub fn has(mask: u64, k: u32) -> bool
     requires { k < 64 }

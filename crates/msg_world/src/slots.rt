@@ -2,7 +2,7 @@
 ghost use Rattle.std.specs.Prelude.{◌≡◌, ℕ, ◌<◌, ◌≤◌, None, IfOk, replicate, is_some, slice_set, vec_len, if◌then◌else◌};
 ghost use Rattle.std.specs.Option.{option_copied, option_or};
 ghost use Rattle.msg_world.specs.Access.{has_bit};
-ghost use Rattle.msg_world.specs.Slots.{at};
+ghost use Rattle.msg_world.specs.inner.Slots.{at};
 
 use crate::masks;
 use std::alloc::{AllocError, Global};

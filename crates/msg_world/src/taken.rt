@@ -30,7 +30,7 @@ impl Taken {
     ghost use Rattle.msg_world.specs.Access.{OfType, OfResource, Registry};
     ghost use Rattle.msg_world.specs.Lending.{LendsMessages, LendsValue};
     ghost use Rattle.msg_world.specs.Parts.{PartsStand, slot};
-    ghost use Rattle.msg_world.specs.Slots.{at};
+    ghost use Rattle.msg_world.specs.inner.Slots.{at};
     ghost use Rattle.msg_world.specs.World.{WorldState, signalled_marks};
 
     /// A law: what was moved out stands for some state.

@@ -5,7 +5,7 @@ ghost use Rattle.msg_buffer.specs.Refusals.{IsSpent, message_refused};
 ghost use Rattle.msg_buffer.specs.StandsFor.{StandsFor};
 ghost use Rattle.msg_world.specs.Access.{Part, OfType, OfResource, Registry, writes};
 ghost use Rattle.msg_world.specs.Parts.{IsApart, IsHome, IsWhole, LendsOut, PartsStand, TakesBack, SameShape, SameSize, slot};
-ghost use Rattle.msg_world.specs.Slots.{AllUpdated, BufferStands, at};
+ghost use Rattle.msg_world.specs.inner.Slots.{AllUpdated, BufferStands, at};
 ghost use Rattle.msg_world.specs.World.{WorldState, by, held, new_world, updated, with_history};
 
 use crate::access::Access;

@@ -1,9 +1,9 @@
 -- What a run of a scenario leaves in a sink where it didn't come to its end, and how the program ends by it.
 use Rattle.std.specs.Prelude.{ℕ, ◌-◌, List, Option, Result, Ok, Err, length, take}
 use Rattle.std.specs.Io.KnownBytes.{Appends}
-use Rattle.msg_exec.specs.Accounts.{accounts_of}
-use Rattle.msg_exec.specs.State.{State}
-use Rattle.msg_exec.specs.declared.log.Log.{Log}
+use Rattle.msg_frames.specs.Accounts.{accounts_of}
+use Rattle.msg_frames.specs.State.{State}
+use Rattle.msg_frames.specs.declared.log.Log.{Log}
 use Rattle.msg_files.specs.Sinks.{AppendsAtLeast, AppendsPrefix}
 use Rattle.msg_files.specs.declared.report_fault.ReportFault.{ReportFault}
 use Rattle.msg_scenario.specs.ReportText.{frames_text, text_so_far}

@@ -28,7 +28,7 @@ fn main(rt: HostRuntime) -> ExitCode {
     ExitCode::from(end(&rt.stdout(), &rt.stderr(), &ended))
 }
 
-/// What the words ask for, done.
+/// Does what the command line asks for.
 fn run<R: AllocGlobal + Env + Files + Input + Print + Sync + Threads>(
     rt: &R,
 ) -> Result<(), MainFault> {

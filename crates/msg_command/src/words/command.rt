@@ -34,7 +34,7 @@ fn workers_arg<'a>(alloc: Global) -> Arg<'a>
         .default_value("1")
 }
 
-/// A command that tells this: what it does, and at the end of its help more of it.
+/// Adds the summary line, and the text after the help.
 fn told<'a>(command: Command<'a>, about: &'a str, more: &'a str) -> Command<'a>
     ensures app { app_of result ≡ app_of command.entry }
     ensures local { (fields_of result).has_globals ≡ (fields_of command.entry).has_globals }

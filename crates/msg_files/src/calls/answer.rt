@@ -13,7 +13,7 @@ use crate::numerals::add_number;
 use msg_buffer::{
     BatchRefusal, Instance, MessageCursor, MessageId, Messages, NoMemory, WriteRefusal,
 };
-use msg_system::Values;
+use msg_system::Items;
 use std::alloc::Global;
 
 /// Makes a call, and adds its line to the text.
@@ -130,7 +130,7 @@ fn write(value: i64, messages: &mut Messages<i64>, text: &mut Vec<u8>) -> Result
 
 fn write_batch(
     alloc: Global,
-    values: &Values,
+    values: &Items<i64>,
     messages: &mut Messages<i64>,
     text: &mut Vec<u8>,
 ) -> Result<(), NoMemory>

@@ -1,5 +1,5 @@
 // The parts of a line, made in memory.
-ghost use Rattle.std.specs.Prelude.{◌≡◌, ◌++◌, OnOk, decimal};
+ghost use Rattle.std.specs.Prelude.{◌≡◌, ◌++◌, [], IsOk, OnOk, decimal};
 ghost use Rattle.std.specs.Fmt.{signed_decimal};
 ghost use Rattle.msg_files.specs.CallsText.{item_text, items_text, more_items, value_text};
 ghost use Rattle.std.specs.Option.{option_copied};
@@ -40,7 +40,8 @@ pub fn add_items(text: &mut Vec<u8>, items: &[Instance<i64>]) -> Result<(), NoMe
 }
 
 fn add_more(text: &mut Vec<u8>, items: &[Instance<i64>]) -> Result<(), NoMemory>
-    ensures { OnOk result (text.new.items ≡ text.old.items ++ more_items items.now) }
+    ensures appends { OnOk result (text.new.items ≡ text.old.items ++ more_items items.now) }
+    ensures no_memory { items.now ≡ [] → IsOk result }
 {
     for item in items {
         text.extend_from_slice(b" ")?;

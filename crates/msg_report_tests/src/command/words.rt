@@ -11,42 +11,45 @@ pub fn words_of(alloc: Global, line: &str) -> Result<Vec<String>, AllocError> {
     Ok(words)
 }
 
+/// Command lines, and what they are parsed as.
+const ACTIONS: [(&str, &str); 29] = [
+    ("", "Ok(Buffer(None))"),
+    ("buffer f", "Ok(Buffer(Some(\"f\")))"),
+    ("buffer -- --help", "Ok(Buffer(Some(\"--help\")))"),
+    ("run f", "Ok(Run { file: \"f\", workers: 1 })"),
+    ("run f --workers 7", "Ok(Run { file: \"f\", workers: 7 })"),
+    ("run --workers 7 f", "Ok(Run { file: \"f\", workers: 7 })"),
+    ("run f --workers=64", "Ok(Run { file: \"f\", workers: 64 })"),
+    ("run f --workers 1", "Ok(Run { file: \"f\", workers: 1 })"),
+    (
+        "run -- --workers",
+        "Ok(Run { file: \"--workers\", workers: 1 })",
+    ),
+    ("run f --workers 0", "Err(Bad)"),
+    ("run f --workers 65", "Err(Bad)"),
+    ("run f --workers x", "Err(Bad)"),
+    ("run f --workers -1", "Err(Bad)"),
+    ("run f --workers 4294967297", "Err(Bad)"),
+    ("run f --workers=", "Err(Bad)"),
+    ("run f --workers", "Err(Bad)"),
+    ("run f --workers 2 --workers 3", "Err(Bad)"),
+    ("run", "Err(Bad)"),
+    ("run --workers 7", "Err(Bad)"),
+    ("run f g", "Err(Bad)"),
+    ("walk f", "Err(Bad)"),
+    ("walk run f", "Err(Bad)"),
+    ("--workers 7", "Err(Bad)"),
+    ("--workers 7 run f", "Err(Bad)"),
+    ("buffer", "Err(Bad)"),
+    ("buffer f g", "Err(Bad)"),
+    ("walk buffer f", "Err(Bad)"),
+    ("f", "Err(Bad)"),
+    ("buffer --workers 2 f", "Err(Bad)"),
+];
+
 #[test]
 fn actions(rt: HostRuntime) -> Result<(), Fail> {
-    for (line, want) in [
-        ("", "Ok(Buffer(None))"),
-        ("buffer f", "Ok(Buffer(Some(\"f\")))"),
-        ("buffer -- --help", "Ok(Buffer(Some(\"--help\")))"),
-        ("run f", "Ok(Run { file: \"f\", workers: 1 })"),
-        ("run f --workers 7", "Ok(Run { file: \"f\", workers: 7 })"),
-        ("run --workers 7 f", "Ok(Run { file: \"f\", workers: 7 })"),
-        ("run f --workers=64", "Ok(Run { file: \"f\", workers: 64 })"),
-        ("run f --workers 1", "Ok(Run { file: \"f\", workers: 1 })"),
-        (
-            "run -- --workers",
-            "Ok(Run { file: \"--workers\", workers: 1 })",
-        ),
-        ("run f --workers 0", "Err(Bad)"),
-        ("run f --workers 65", "Err(Bad)"),
-        ("run f --workers x", "Err(Bad)"),
-        ("run f --workers -1", "Err(Bad)"),
-        ("run f --workers 4294967297", "Err(Bad)"),
-        ("run f --workers=", "Err(Bad)"),
-        ("run f --workers", "Err(Bad)"),
-        ("run f --workers 2 --workers 3", "Err(Bad)"),
-        ("run", "Err(Bad)"),
-        ("run --workers 7", "Err(Bad)"),
-        ("run f g", "Err(Bad)"),
-        ("walk f", "Err(Bad)"),
-        ("walk run f", "Err(Bad)"),
-        ("--workers 7", "Err(Bad)"),
-        ("--workers 7 run f", "Err(Bad)"),
-        ("buffer", "Err(Bad)"),
-        ("buffer f g", "Err(Bad)"),
-        ("walk buffer f", "Err(Bad)"),
-        ("f", "Err(Bad)"),
-        ("buffer --workers 2 f", "Err(Bad)"),
-    ] {
+    for (line, want) in ACTIONS {
         let words = words_of(rt.alloc(), line)?;
         let parsed = parse_words(rt.alloc(), words.as_slice());
         let text = format!(in rt.alloc(); "{parsed:?}")?;
@@ -55,41 +58,44 @@ fn actions(rt: HostRuntime) -> Result<(), Fail> {
     Ok(())
 }
 
+/// Command lines that ask for help, and pieces of the help that they get.
+const HELPS: [(&str, [&str; 3]); 7] = [
+    ("--help", ["msgrun [COMMAND]", "run", "docs/FORMATS.md"]),
+    ("-h", ["msgrun [COMMAND]", "buffer", "docs/FORMATS.md"]),
+    ("help", ["msgrun [COMMAND]", "buffer", "docs/FORMATS.md"]),
+    (
+        "buffer --help",
+        ["msgrun buffer <FILE>", "[\"read\",0,2]", "docs/FORMATS.md"],
+    ),
+    (
+        "help buffer",
+        [
+            "msgrun buffer <FILE>",
+            "read 0 missed 0: 0=7 1=8\n",
+            "docs/FORMATS.md",
+        ],
+    ),
+    (
+        "run --help",
+        [
+            "--workers <N>",
+            "\"frames\":[[],[[\"hit\",6]]]",
+            "docs/FORMATS.md",
+        ],
+    ),
+    (
+        "help run",
+        [
+            "[default: 1]",
+            "r read hit missed 0: 0=5@w 1=6@host\n",
+            "docs/FORMATS.md",
+        ],
+    ),
+];
+
 #[test]
 fn help(rt: HostRuntime) -> Result<(), Fail> {
-    for (line, pieces) in [
-        ("--help", ["msgrun [COMMAND]", "run", "docs/FORMATS.md"]),
-        ("-h", ["msgrun [COMMAND]", "buffer", "docs/FORMATS.md"]),
-        ("help", ["msgrun [COMMAND]", "buffer", "docs/FORMATS.md"]),
-        (
-            "buffer --help",
-            ["msgrun buffer <FILE>", "[\"read\",0,2]", "docs/FORMATS.md"],
-        ),
-        (
-            "help buffer",
-            [
-                "msgrun buffer <FILE>",
-                "read 0 missed 0: 0=7 1=8\n",
-                "docs/FORMATS.md",
-            ],
-        ),
-        (
-            "run --help",
-            [
-                "--workers <N>",
-                "\"frames\":[[],[[\"hit\",6]]]",
-                "docs/FORMATS.md",
-            ],
-        ),
-        (
-            "help run",
-            [
-                "[default: 1]",
-                "r read hit missed 0: 0=5@w 1=6@host\n",
-                "docs/FORMATS.md",
-            ],
-        ),
-    ] {
+    for (line, pieces) in HELPS {
         let words = words_of(rt.alloc(), line)?;
         match parse_words(rt.alloc(), words.as_slice()) {
             Err(WordFault::Help(text)) => {

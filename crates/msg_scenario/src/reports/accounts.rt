@@ -1,5 +1,5 @@
 // The lines of the readers.
-ghost use Rattle.std.specs.Prelude.{◌≡◌, ◌++◌, OnOk};
+ghost use Rattle.std.specs.Prelude.{◌≡◌, ◌++◌, [], IsOk, OnOk};
 ghost use Rattle.msg_scenario.specs.ReportText.{account_line, accounts_text, standing_text};
 
 use crate::Scenario;
@@ -16,6 +16,7 @@ pub fn add_accounts(
 ) -> Result<(), NoMemory>
     ensures appends { OnOk result
         (text.new.items ≡ text.old.items ++ accounts_text scenario.now accounts.now) }
+    ensures no_memory { accounts.now ≡ [] → IsOk result }
 {
     for account in accounts {
         add_account(text, scenario, *account)?;

@@ -1,5 +1,5 @@
 // The text of one frame.
-ghost use Rattle.std.specs.Prelude.{◌≡◌, ◌++◌, OnOk, codes, flat_map};
+ghost use Rattle.std.specs.Prelude.{◌≡◌, ◌++◌, [], IsOk, OnOk, codes, flat_map};
 ghost use Rattle.msg_scenario.specs.ReportText.{frame_text, op_line, ops_text, outcome_text, post_line, posts_text, turn_text};
 
 use crate::reports::names::{add_name, add_type};
@@ -62,8 +62,9 @@ fn add_post(
 }
 
 fn add_turns(text: &mut Vec<u8>, scenario: &Scenario, turns: &[Turn]) -> Result<(), NoMemory>
-    ensures { OnOk result
+    ensures appends { OnOk result
         (text.new.items ≡ text.old.items ++ flat_map (turn_text scenario.now) turns.now) }
+    ensures no_memory { turns.now ≡ [] → IsOk result }
 {
     for turn in turns {
         add_turn(text, scenario, turn)?;

@@ -1,5 +1,5 @@
 // Parts of a report, made in memory and put into a sink.
-ghost use Rattle.std.specs.Prelude.{◌≡◌, ◌⊎◌, Err, IfErr, OnOk, OnErr};
+ghost use Rattle.std.specs.Prelude.{◌≡◌, ◌≢◌, ◌⊎◌, [], Err, IfErr, OnOk, OnErr};
 ghost use Rattle.std.specs.Io.KnownBytes.{Appends};
 ghost use Rattle.msg_scenario.specs.ReportText.{accounts_text, frame_text};
 ghost use Rattle.msg_files.specs.Sinks.{AppendsPrefix, one_more};
@@ -58,6 +58,7 @@ pub fn put_accounts<S: Sink>(
     ensures memory { result ≡ Err ReportFault.NoMemory → sink.new ≡ sink.old }
     ensures faults { IfErr result
         (λ fault. (fault ≡ ReportFault.Write) ⊎ (fault ≡ ReportFault.NoMemory)) }
+    ensures no_memory { accounts.now ≡ [] → result ≢ Err ReportFault.NoMemory }
 {
     text.clear();
     if add_accounts(text, scenario, accounts).is_err() {

@@ -1,5 +1,5 @@
 // A reply at the end of a text.
-ghost use Rattle.std.specs.Prelude.{◌≡◌, ◌+◌, ◌++◌, List, OnOk, codes, decimal};
+ghost use Rattle.std.specs.Prelude.{◌≡◌, ◌+◌, ◌++◌, [], List, IsOk, OnOk, codes, decimal};
 ghost use Rattle.msg_scenario.specs.ReportText.{item_text, items_text, more_items, numbers_text, reply_text, took_text, written_text};
 
 use crate::Scenario;
@@ -108,8 +108,9 @@ fn add_more(
     before: u64,
     items: &[Record],
 ) -> Result<(), NoMemory>
-    ensures { OnOk result
+    ensures appends { OnOk result
         (text.new.items ≡ text.old.items ++ more_items scenario.now (before + 1) items.now) }
+    ensures no_memory { items.now ≡ [] → IsOk result }
 {
     let first = u128::from(before) + 1;
     for (k, item) in items.iter().enumerate() {

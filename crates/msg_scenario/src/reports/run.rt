@@ -8,7 +8,7 @@ ghost use Rattle.msg_files.specs.Sinks.{one_more};
 
 use crate::Scenario;
 use crate::reports::put::{put_accounts, put_frame};
-use msg_exec::laws::frames_keep_programs;
+use msg_exec::laws::frames_keep_the_systems;
 use msg_exec::{EngineOf, Gate, Workers};
 use msg_files::{ReportFault, Sink};
 use msg_system::System;
@@ -52,7 +52,7 @@ pub fn report<R: Threads + Sync, X: System, S: Sink, G: Gate>(
         → S.failures sink.new ≡ one_more (S.failures sink.old) }
     ensures quiet { result ≢ Err ReportFault.Write → S.failures sink.new ≡ S.failures sink.old }
 {
-    frames_keep_programs();
+    frames_keep_the_systems();
     let mut text = Vec::new(alloc);
     let mut number = 0u64;
     for frame in scenario.frames.as_slice() {

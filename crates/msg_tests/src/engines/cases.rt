@@ -4,7 +4,7 @@ use super::making::{engine_of, frame_of, quiet, run_frame};
 use crate::numbers::type_no;
 use msg_exec::NoGate;
 use msg_order::Rule;
-use msg_system::{Op, Values};
+use msg_system::{Items, Op};
 use std::test::Fail;
 
 const NUMBERS: [u32; 4] = [1, 2, 7, 64];
@@ -36,7 +36,7 @@ fn wrote_two<'a>(first: u64) -> Step<'a> {
 #[test]
 fn host_and_two_writers(rt: HostRuntime) -> Result<(), Fail> {
     let (alloc, t) = (rt.alloc(), type_no(&rt, 0));
-    let two = Values::from_vec(vec![in alloc; 2, 3]?);
+    let two = Items::from_vec(vec![in alloc; 2, 3]?);
     let ops = [Op::Write(t, 1), Op::Batch(t, two), Op::Read(t, None)];
     let nine = frame_of(alloc, &[(t, 9)])?;
     let eight = frame_of(alloc, &[(t, 8)])?;

@@ -84,11 +84,11 @@ fn one_worker_takes_them_one_by_one(rt: HostRuntime) -> Result<(), Fail> {
 fn the_gate_is_called_before_the_system_runs(rt: HostRuntime) -> Result<(), Fail> {
     let (alloc, t) = (rt.alloc(), type_no(&rt, 0));
     let noted = Arc::new(alloc, AtomicU64::new(0))?;
-    let roles = vec![in alloc;
+    let ops = vec![in alloc;
         (Op::Read(t, None), Start::Zero),
         (Op::Write(t, 1), Start::Zero),
     ]?;
-    let mut engine = noting_engine(&rt, alloc, 1, roles, &noted)?;
+    let mut engine = noting_engine(&rt, alloc, 1, ops, &noted)?;
     let gate = NotingGate { noted: &noted };
     run_frame(&rt, &mut engine, &quiet(alloc), 2, &gate)?;
     assert_eq!(rt; noted.load(Ordering::SeqCst), 9192);

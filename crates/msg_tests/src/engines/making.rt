@@ -3,16 +3,16 @@ ghost use Rattle.std.specs.Prelude.{◌≡◌, ◌+◌, ◌≤◌, All, IfOk, On
 ghost use Rattle.msg_world.specs.Access.{Part};
 ghost use Rattle.msg_world.specs.Parts.{Has, IsWhole};
 ghost use Rattle.msg_order.specs.Order.{NameSystemsBelow};
-ghost use Rattle.msg_system.specs.Needs.{job_needs, needs_any};
-ghost use Rattle.msg_system.specs.Systems.{new_system};
+ghost use Rattle.msg_system.specs.Needs.{needs_any, with_conditions};
 ghost use Rattle.msg_exec.specs.Building.{EachIs, MayBeAdded};
+ghost use Rattle.msg_frames.specs.FirstState.{IsNew};
 ghost use Rattle.msg_exec.specs.Engines.{IsEngine, PostsFit};
 
 use crate::numbers::workers;
 use msg_buffer::NoMemory;
-use msg_exec::{BuildRefusal, EngineOf, Frame, Gate, Items, Log, Place, RunFault};
+use msg_exec::{BuildRefusal, EngineOf, Frame, Gate, Log, Place, RunFault};
 use msg_order::Rule;
-use msg_system::{Op, Ops, Program, Scripted, Start, System, job_access};
+use msg_system::{Items, Op, Program, Scripted, Start, System, job_access};
 use msg_world::{TypeNo, World};
 use std::alloc::Global;
 use std::process::Abort;
@@ -32,8 +32,8 @@ fn are_in_range(rules: &[Rule], systems: usize) -> bool
 
 /// Whether the world has what the system and its conditions use, and its frame is in range.
 fn fits<S: System>(world: &World, system: &S, place: &Place) -> bool
-    ensures has { IsTrue result → (p : Part) → IsTrue (needs_any (job_needs
-        (S.meaning system.now).program.ops place.now.conditions) p) → Has world.now p }
+    ensures has { IsTrue result → (p : Part) → IsTrue (needs_any (with_conditions
+        (S.meaning system.now).needs place.now.conditions) p) → Has world.now p }
     ensures joins { IsTrue result → (1 ≤ place.now.join) × (place.now.join ≤ 10000) }
 {
     let access = job_access(&system.access(), place.conditions.as_slice());
@@ -46,7 +46,7 @@ fn fits<S: System>(world: &World, system: &S, place: &Place) -> bool
 /// Whether that holds of each of them.
 fn all_fit<S: System>(world: &World, systems: &[S], places: &[Place]) -> bool
     requires one_place_each { length places.now ≡ length systems.now }
-    requires new { EachIs (λ i x. S.meaning x ≡ new_system (S.meaning x).program i) systems.now }
+    requires new { EachIs (λ i x. IsNew i (S.meaning x)) systems.now }
     ensures fit { IsTrue result → EachIs (MayBeAdded S.meaning world.now places.now) systems.now }
 {
     for i in 0..systems.len() {
@@ -67,7 +67,7 @@ pub fn start<S: System>(
     rules: Vec<Rule>,
 ) -> Result<EngineOf<S>, BuildRefusal>
     requires whole { IsWhole world }
-    requires new { EachIs (λ i x. S.meaning x ≡ new_system (S.meaning x).program i) systems.items }
+    requires new { EachIs (λ i x. IsNew i (S.meaning x)) systems.items }
     ensures engine { IfOk result (IsEngine S.meaning) }
 {
     assert!(rt; systems.len() <= 256);
@@ -81,12 +81,9 @@ pub fn start<S: System>(
 
 /// Adds a new system.
 pub fn add<S: System>(systems: &mut Vec<S>, system: S) -> Result<(), NoMemory>
-    requires its { S.meaning system
-        ≡ new_system (S.meaning system).program (length systems.old.items) }
-    requires new { EachIs (λ i x. S.meaning x ≡ new_system (S.meaning x).program i)
-        systems.old.items }
-    ensures new { OnOk result (EachIs (λ i x. S.meaning x ≡ new_system (S.meaning x).program i)
-        systems.new.items) }
+    requires its { IsNew (length systems.old.items) (S.meaning system) }
+    requires new { EachIs (λ i x. IsNew i (S.meaning x)) systems.old.items }
+    ensures new { OnOk result (EachIs (λ i x. IsNew i (S.meaning x)) systems.new.items) }
     ensures as_many { OnOk result (length systems.new.items ≡ length systems.old.items + 1) }
 {
     systems.push(system)?;
@@ -95,11 +92,10 @@ pub fn add<S: System>(systems: &mut Vec<S>, system: S) -> Result<(), NoMemory>
 
 /// A script of these ops, which writes as this writer.
 pub fn script(rt: &impl Abort, ops: Vec<Op>, start: Start, writer: u32) -> Scripted
-    ensures new { ⟦<Scripted as System>⟧.meaning result
-        ≡ new_system (⟦<Scripted as System>⟧.meaning result).program writer }
+    ensures new { IsNew writer (⟦<Scripted as System>⟧.meaning result) }
 {
     let program = Program {
-        ops: Ops::from_vec(ops),
+        ops: Items::from_vec(ops),
         start,
     };
     assert!(rt; program.ops.as_slice().len() <= 64);
@@ -113,8 +109,8 @@ pub fn scripts(
     ops: &[Op],
     start: Start,
 ) -> Result<Vec<Scripted>, NoMemory>
-    ensures new { IfOk result (λ systems. EachIs (λ i x. ⟦<Scripted as System>⟧.meaning x
-        ≡ new_system (⟦<Scripted as System>⟧.meaning x).program i) systems.items) }
+    ensures new { IfOk result (λ systems.
+        EachIs (λ i x. IsNew i (⟦<Scripted as System>⟧.meaning x)) systems.items) }
 {
     let mut systems = Vec::with_capacity(alloc, ops.len())?;
     for op in ops {

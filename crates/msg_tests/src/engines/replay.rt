@@ -4,7 +4,8 @@ ghost use Rattle.msg_exec.specs.Engines.{IsEngine};
 
 use super::expecting::{Step, by, expect_log, posted, read, wrote};
 use super::making::{frame_of, quiet, replay, run_frame, run_frames};
-use super::noting::{Noting, noting_engine};
+use super::noting::noting_engine;
+use super::prefaced::Prefaced;
 use crate::numbers::type_no;
 use msg_exec::{Account, EngineOf, Frame, NoGate, RunFault};
 use msg_system::{Op, Start, System};
@@ -36,7 +37,7 @@ fn kept<S: System>(engine: &EngineOf<S>, t: TypeNo) -> Option<(u64, u64)> {
 }
 
 /// After so many frames of a writer of ones and two readers.
-fn expect_after(rt: &impl Abort, engine: &EngineOf<Noting>, frames: u32) -> Result<(), RunFault> {
+fn expect_after(rt: &impl Abort, engine: &EngineOf<Prefaced>, frames: u32) -> Result<(), RunFault> {
     let (t, count) = (type_no(rt, 0), frames as u64);
     assert_eq!(rt; engine.frames_run(), frames);
     assert_eq!(rt; kept(engine, t), Some((0, count)));
@@ -64,16 +65,16 @@ fn writer_and_readers(
     rt: &impl Abort,
     alloc: Global,
     noted: &Arc<AtomicU64>,
-) -> Result<EngineOf<Noting>, Fail>
-    ensures engine { IfOk result (IsEngine ⟦<Noting as System>⟧.meaning) }
+) -> Result<EngineOf<Prefaced>, Fail>
+    ensures engine { IfOk result (IsEngine ⟦<Prefaced as System>⟧.meaning) }
 {
     let t = type_no(rt, 0);
-    let roles = vec![in alloc;
+    let ops = vec![in alloc;
         (Op::Write(t, 1), Start::Zero),
         (Op::Read(t, None), Start::Zero),
         (Op::Read(t, None), Start::Zero),
     ]?;
-    noting_engine(rt, alloc, 1, roles, noted)
+    noting_engine(rt, alloc, 1, ops, noted)
 }
 
 #[test]
@@ -117,12 +118,12 @@ fn the_same_frame_replayed(rt: HostRuntime) -> Result<(), Fail> {
 fn expect_post_alone(
     rt: &impl Abort,
     alloc: Global,
-    engine: &mut EngineOf<Noting>,
+    engine: &mut EngineOf<Prefaced>,
     value: i64,
     number: u64,
 ) -> Result<(), Fail>
-    requires engine { IsEngine ⟦<Noting as System>⟧.meaning engine.old }
-    ensures engine { IsEngine ⟦<Noting as System>⟧.meaning engine.new }
+    requires engine { IsEngine ⟦<Prefaced as System>⟧.meaning engine.old }
+    ensures engine { IsEngine ⟦<Prefaced as System>⟧.meaning engine.new }
 {
     let frame = frame_of(alloc, &[(type_no(rt, 0), value)])?;
     expect_unlawful(rt, engine, &frame, &[0]);
@@ -132,7 +133,7 @@ fn expect_post_alone(
 }
 
 /// The accounts of two readers that join with the third frame, after two frames.
-fn expect_waiting(rt: &impl Abort, engine: &EngineOf<Noting>) -> Result<(), RunFault> {
+fn expect_waiting(rt: &impl Abort, engine: &EngineOf<Prefaced>) -> Result<(), RunFault> {
     let t = type_no(rt, 0);
     assert_eq!(rt; engine.frames_run(), 2);
     let waiting = |system: u32| Account {
@@ -145,7 +146,7 @@ fn expect_waiting(rt: &impl Abort, engine: &EngineOf<Noting>) -> Result<(), RunF
 }
 
 /// The same after three frames.
-fn expect_joined(rt: &impl Abort, engine: &EngineOf<Noting>) -> Result<(), RunFault> {
+fn expect_joined(rt: &impl Abort, engine: &EngineOf<Prefaced>) -> Result<(), RunFault> {
     let t = type_no(rt, 0);
     assert_eq!(rt; engine.frames_run(), 3);
     assert_eq!(rt; kept(engine, t), Some((1, 3)));
@@ -167,12 +168,12 @@ fn expect_joined(rt: &impl Abort, engine: &EngineOf<Noting>) -> Result<(), RunFa
 #[test]
 fn late_systems(rt: HostRuntime) -> Result<(), Fail> {
     let (alloc, t) = (rt.alloc(), type_no(&rt, 0));
-    let roles = vec![in alloc;
+    let ops = vec![in alloc;
         (Op::Read(t, None), Start::Zero),
         (Op::Read(t, None), Start::Current),
     ]?;
     let noted = Arc::new(alloc, AtomicU64::new(0))?;
-    let mut engine = noting_engine(&rt, alloc, 3, roles, &noted)?;
+    let mut engine = noting_engine(&rt, alloc, 3, ops, &noted)?;
     expect_post_alone(&rt, alloc, &mut engine, 1, 0)?;
     expect_post_alone(&rt, alloc, &mut engine, 2, 1)?;
     expect_waiting(&rt, &engine)?;

@@ -3,49 +3,15 @@ ghost use Rattle.std.specs.Prelude.{IfOk};
 ghost use Rattle.msg_exec.specs.Engines.{IsEngine};
 
 use super::making::{add, places, quiet, replay, run_frame, run_frames, script, start};
+use super::prefaced::{Before, Prefaced};
 use crate::numbers::type_no;
 use msg_exec::{EngineOf, NoGate, RunFault};
-use msg_system::{Access, NoMemory, Op, Reply, Scripted, Start, System};
-use msg_world::{Counts, Lent, Taken, TypeNo, World};
+use msg_system::{Op, Start, System};
+use msg_world::World;
 use std::alloc::Global;
 use std::process::Abort;
 use std::test::Fail;
 use std::thread::Threads;
-
-/// A script that has no memory from its second run on.
-#[derive(Drop)]
-struct Failing {
-    script: Scripted,
-    has_run: bool,
-}
-
-impl System for Failing {
-    ghost meaning = { λ s. ⟦<Scripted as System>⟧.meaning s.script };
-
-    fn access(&self) -> Access {
-        self.script.access()
-    }
-
-    fn read_type(&self, op: u32) -> Option<TypeNo> {
-        self.script.read_type(op)
-    }
-
-    fn begins(&self) -> Start {
-        self.script.begins()
-    }
-
-    fn start(&mut self, counts: &Counts) {
-        self.script.start(counts);
-    }
-
-    fn run(&mut self, alloc: Global, lent: Lent, out: &mut Vec<Reply>) -> Result<Taken, NoMemory> {
-        if self.has_run {
-            return Err(NoMemory);
-        }
-        self.has_run = true;
-        self.script.run(alloc, lent, out)
-    }
-}
 
 /// Every call answers so of an engine that is spoiled after so many frames.
 pub fn expect_spoiled<R: Threads + Sync + Abort, S: System>(
@@ -70,14 +36,14 @@ pub fn expect_spoiled<R: Threads + Sync + Abort, S: System>(
     assert_eq!(rt; engine.frames_run(), frames_run);
 }
 
-/// An engine of one failing reader.
-fn failing_engine(rt: &impl Abort, alloc: Global) -> Result<EngineOf<Failing>, Fail>
-    ensures engine { IfOk result (IsEngine ⟦<Failing as System>⟧.meaning) }
+/// An engine of one reader that has no memory from its second run on.
+fn failing_engine(rt: &impl Abort, alloc: Global) -> Result<EngineOf<Prefaced>, Fail>
+    ensures engine { IfOk result (IsEngine ⟦<Prefaced as System>⟧.meaning) }
 {
     let ops = vec![in alloc; Op::Read(type_no(rt, 0), None)]?;
-    let failing = Failing {
+    let failing = Prefaced {
         script: script(rt, ops, Start::Zero, 0),
-        has_run: false,
+        before: Before::FailAgain { has_run: false },
     };
     let mut systems = Vec::new(alloc);
     add(&mut systems, failing)?;

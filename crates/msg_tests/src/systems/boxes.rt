@@ -1,8 +1,7 @@
 // Boxed systems of the three kinds, each run on a loan of its own.
 use crate::numbers::{res_no, type_no};
 use msg_system::{
-    NoMemory, Op, Ops, Program, Relay, Reply, Scripted, Start, System, Tally, Values,
-    open_loans_cover,
+    Items, NoMemory, Op, Program, Relay, Reply, Scripted, Start, System, Tally, open_loans_cover,
 };
 use msg_world::laws::{lent_parts_are_a_loan, lent_parts_may_come_home};
 use msg_world::{Lent, World};
@@ -31,10 +30,10 @@ fn run_once<S: System>(
 }
 
 const REPLIES: &str = "[Wrote(Written { first: 0, n: 1 }), Wrote(Written { first: 1, n: 1 }), \
-     Forwarded { took: Took { missed: 0, first: 0, items: Records { items: [\
+     Forwarded { took: Took { missed: 0, first: 0, items: Items { items: [\
      Record { writer: 0, value: 5 }, Record { writer: 0, value: 6 }] } }, \
      wrote: Some(Written { first: 0, n: 2 }) }, \
-     Summed { took: Took { missed: 0, first: 0, items: Records { items: [\
+     Summed { took: Took { missed: 0, first: 0, items: Items { items: [\
      Record { writer: 1, value: 5 }, Record { writer: 1, value: 6 }] } }, value: 18 }]";
 
 #[test]
@@ -43,7 +42,7 @@ fn a_list_of_three_boxes(rt: HostRuntime) -> Result<(), Fail> {
     let (t, u, r) = (type_no(&rt, 0), type_no(&rt, 1), res_no(&rt, 0));
     let script = Scripted::new(
         Program {
-            ops: Ops::from_vec(vec![in alloc; Op::Write(t, 5), Op::Write(t, 6)]?),
+            ops: Items::from_vec(vec![in alloc; Op::Write(t, 5), Op::Write(t, 6)]?),
             start: Start::Zero,
         },
         0,
@@ -65,8 +64,8 @@ fn a_list_of_three_boxes(rt: HostRuntime) -> Result<(), Fail> {
 }
 
 const DRAINED: &str = "[Wrote(Written { first: 0, n: 1 }), Wrote(Written { first: 1, n: 1 }), \
-     Drained { first: 0, items: Records { items: [Record { writer: 4, value: 5 }, \
-     Record { writer: 4, value: -6 }] } }, Drained { first: 2, items: Records { items: [] } }]";
+     Drained { first: 0, items: Items { items: [Record { writer: 4, value: 5 }, \
+     Record { writer: 4, value: -6 }] } }, Drained { first: 2, items: Items { items: [] } }]";
 
 #[test]
 fn a_drain_answers_with_all_messages(rt: HostRuntime) -> Result<(), Fail> {
@@ -78,7 +77,7 @@ fn a_drain_answers_with_all_messages(rt: HostRuntime) -> Result<(), Fail> {
         Op::Drain(t),
     ]?;
     let program = Program {
-        ops: Ops::from_vec(ops),
+        ops: Items::from_vec(ops),
         start: Start::Zero,
     };
     assert!(rt; program.ops.as_slice().len() <= 64);
@@ -95,7 +94,7 @@ fn a_drain_answers_with_all_messages(rt: HostRuntime) -> Result<(), Fail> {
 fn copies_of_every_op(rt: HostRuntime) -> Result<(), Fail> {
     let alloc = rt.alloc();
     let (t, u, r) = (type_no(&rt, 0), type_no(&rt, 1), res_no(&rt, 0));
-    let values = Values::from_vec(vec![in alloc; 2, 3]?);
+    let values = Items::from_vec(vec![in alloc; 2, 3]?);
     let ops = [
         Op::Write(t, -5),
         Op::Batch(t, values),

@@ -3,7 +3,7 @@ use mathlib.Core.Option.{some}
 use lib.ListN.{get_elem?}
 use Rattle.std.specs.Slots.{slots_items}
 use Rattle.msg_board.specs.declared.law.Slot.TheVariants.{Done}
-use Rattle.msg_board.proofs.Lists.{one_value, each_pushed, false_below}
+use Rattle.msg_board.proofs.TableLists.{one_value, each_pushed, false_below}
 use Rattle.msg_board.proofs.slots.take_results.Goals as goal
 
 pub unreachable-requires : goal.unreachable-requires

@@ -1,5 +1,5 @@
 use Rattle.std.proofs.Common.{rules}
-use Rattle.msg_command.proofs.Whole.{all_at_end, more_than}
+use Rattle.msg_command.proofs.WholeInputs.{all_at_end, more_than}
 use Rattle.msg_command.proofs.input.read_all.Goals as goal
 
 pub returns-then-n-eq0-clause-all : goal.returns-then-n-eq0-clause-all

@@ -1,4 +1,4 @@
-use Rattle.msg_exec.proofs.Telling.{place_below, told}
+use Rattle.msg_exec.proofs.AccountsTell.{place_below, told}
 use Rattle.msg_exec.proofs.accounts.account.Goals as goal
 
 pub returns : goal.returns

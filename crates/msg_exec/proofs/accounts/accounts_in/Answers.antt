@@ -1,4 +1,4 @@
-use Rattle.msg_exec.proofs.Telling.{system_more}
+use Rattle.msg_exec.proofs.AccountsTell.{system_more}
 use Rattle.msg_exec.proofs.accounts.accounts_in.Goals as goal
 
 pub loop-i-preserved : goal.loop-i-preserved

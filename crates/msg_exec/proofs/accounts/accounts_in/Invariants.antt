@@ -1,9 +1,9 @@
 use Rattle.std.proofs.Common.{◌≡◌}
 use Rattle.std.specs.Prelude.{flat_map}
 use Rattle.std.specs.List.{range_with_len}
-use Rattle.msg_exec.specs.Accounts.{accounts_of_system}
+use Rattle.msg_frames.specs.Accounts.{accounts_of_system}
 use Rattle.msg_exec.specs.Cores.{CoreStands}
-use Rattle.msg_exec.specs.State.{State}
+use Rattle.msg_frames.specs.State.{State}
 use Rattle.msg_exec.proofs.accounts.accounts_in.Given as goal
 
 abbrev pub invariant-loop-i : goal.invariant-loop-i

@@ -1,12 +1,12 @@
 use Rattle.std.proofs.Common.{◌≡◌, ◌<◌, refl, sym, ap, get_or, ◌∙◌, arith}
 use Rattle.std.specs.Global.{Vec}
 use Rattle.msg_world.specs.Access.{OfType, reads}
-use Rattle.msg_exec.specs.declared.totals.Totals.{Totals}
-use Rattle.msg_exec.specs.Accounts.{is_reader}
-use Rattle.msg_exec.specs.Entries.{no_totals}
-use Rattle.msg_exec.specs.Stages.{TotalsStand}
-use Rattle.msg_exec.proofs.Staging.{taken_from}
-use Rattle.msg_exec.proofs.Telling.{no_reader_more, reader_is, reader_more, reader_told, taken_actor}
+use Rattle.msg_frames.specs.declared.totals.Totals.{Totals}
+use Rattle.msg_frames.specs.Accounts.{is_reader}
+use Rattle.msg_frames.specs.Entries.{no_totals}
+use Rattle.msg_exec.specs.Lender.{TotalsStand}
+use Rattle.msg_exec.proofs.ItemsOfLists.{taken_from}
+use Rattle.msg_exec.proofs.AccountsTell.{no_reader_more, reader_is, reader_more, reader_told, taken_system}
 use Rattle.msg_exec.proofs.accounts.add_accounts.Goals as goal
 use Rattle.msg_exec.proofs.accounts.add_accounts.Goals.{then-reads_type+in_ok-push, else-reads_type}
 
@@ -16,17 +16,17 @@ loop-t-preserved g c = record {
       let core = c.args.core.now in
       let i = c.args.i in
       let t = c.loop-t.t in
-      let stage = stands.stage in
-      let lt : i < s.systems = omega (arith, c.requires.there, stage.actors) in
-      let within : t < s.types = omega (arith, c.loop-t-test.true, c.types-t-end.ensures.types, stage.types) in
-      let here = stage.members i lt in
-      let job = taken_actor g.S.System.meaning core.stage i s.systems c.index.result.now c.index.result.now c.in-Some-Some.actor (s.members i).job lt stage.actors c.index.ensures refl c.in-Some-Some.is-0 here.actor in
+      let lender = stands.lender in
+      let lt : i < s.systems = omega (arith, c.requires.there, lender.systems) in
+      let within : t < s.types = omega (arith, c.loop-t-test.true, c.types-t-end.ensures.types, lender.types) in
+      let here = lender.members i lt in
+      let job = taken_system g.S.System.meaning core.lender i s.systems c.index.result.now c.index.result.now c.in-Some-Some.guarded (s.members i).job lt lender.systems c.index.ensures refl c.in-Some-Some.is-0 here.guarded in
       let reader : c.reads_type.result ≡ is_reader s i t = c.reads_type.ensures.read ∙ ap (λ u. reads c.access-access.result (OfType u)) c.in-Some-Some-2.ensures.value
-      ∙ reader_is g.S.System.meaning s i t c.in-Some-Some.actor c.access-access.result job c.access-access.ensures.needs in
+      ∙ reader_is g.S.System.meaning s i t c.in-Some-Some.guarded c.access-access.result job c.access-access.ensures.needs in
       let far = c.loop-t.invariant.so_far s stands in
       elim c.if-reads_type.branch [
         | then-reads_type+in_ok-push w ↦
-            (let its = taken_from (λ (v : Vec Totals). TotalsStand s.types v.items (s.members i).totals) core.stage.totals.items i s.systems c.in-Some-Some.totals.now lt stage.totals
+            (let its = taken_from (λ (v : Vec Totals). TotalsStand s.types v.items (s.members i).totals) core.lender.totals.items i s.systems c.in-Some-Some.totals.now lt lender.totals
             (c.in-Some-Some.ensures.lookup.1 ∙ ap (λ xs. get_or xs i c.in-Some-Some.totals.now) c.deref.ensures.value) here.totals in
             let is = c.in-Some-Some-2.ensures'.lookup.3.1 no_totals ∙ ap (λ xs. get_or xs t no_totals) c.deref-in-loop-t.ensures.value ∙ its.each t within in
             reader_more s i t c.args.accounts.now.items c.loop-t.accounts.items c.if-reads_type.accounts.items w.account.result (sym reader ∙ w.if-reads_type.true)

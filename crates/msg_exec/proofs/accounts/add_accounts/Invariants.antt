@@ -1,7 +1,7 @@
 use Rattle.std.proofs.Common.{◌≡◌, ◌++◌}
 use Rattle.msg_exec.specs.Cores.{CoreStands}
-use Rattle.msg_exec.specs.State.{State}
-use Rattle.msg_exec.proofs.Telling.{accounts_below}
+use Rattle.msg_frames.specs.State.{State}
+use Rattle.msg_exec.proofs.AccountsTell.{accounts_below}
 use Rattle.msg_exec.proofs.accounts.add_accounts.Given as goal
 
 abbrev pub invariant-loop-t : goal.invariant-loop-t

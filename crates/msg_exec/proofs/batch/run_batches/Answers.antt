@@ -1,17 +1,15 @@
 use Rattle.std.proofs.Common.{◌≡◌, ◌≢◌, ℕ, ◌<◌, ◌≤◌, ◌++◌, [], get_or, ap, sym, ◌∙◌, subst, arith, take, map, length}
 use Rattle.std.proofs.lemmas.List.{length-map}
 use Rattle.std.proofs.lemmas.List.Elements.{All-append}
-use Rattle.msg_exec.specs.Work.{IsTold}
-use Rattle.msg_exec.specs.Workers.{number_of}
+use Rattle.msg_exec.specs.Work.{PassedGate}
 use Rattle.msg_order.specs.Plan.{NoneConflict}
-use Rattle.msg_exec.proofs.Batches.{its_systems, pairs_of_one}
+use Rattle.msg_exec.proofs.BatchAfterBatch.{its_systems, pairs_of_one, HasTurned, as_many_systems, one_batch_more, systems_of, turned_more}
 use Rattle.std.specs.Prelude.{All, AllPairs}
 use Rattle.std.proofs.Math.Seq.{take-length}
-use Rattle.msg_exec.specs.Frames.{after_turns_of}
-use Rattle.msg_exec.specs.Stages.{StageStands}
-use Rattle.msg_exec.specs.State.{State}
+use Rattle.msg_frames.specs.Frames.{after_turns_of}
+use Rattle.msg_exec.specs.Lender.{LenderStands}
+use Rattle.msg_frames.specs.State.{State}
 use Rattle.std.specs.Global.{Vec}
-use Rattle.msg_exec.proofs.Batching.{HasTurned, as_many_systems, one_batch_more, systems_of, turned_more}
 use Rattle.msg_exec.proofs.batch.run_batches.Goals as goal
 
 pub run_batch-requires-clause-stands : goal.run_batch-requires-clause-stands
@@ -42,7 +40,7 @@ run_batch-requires-clause-apart g c κs within =
     let k = c.loop-batch.batch-index in
     let batches = c.args.batches.now in
     subst (λ xs. NoneConflict xs c.deref.result.now) (sym c.loop-batch.invariant.accesses)
-    (subst (NoneConflict c.args.stage.now.accesses.items) (its_systems batches k c.batch-item.result c.deref.result.now c.loop-batch-test.true c.batch-item.is c.deref.ensures.value)
+    (subst (NoneConflict c.args.lender.now.accesses.items) (its_systems batches k c.batch-item.result c.deref.result.now c.loop-batch-test.true c.batch-item.is c.deref.ensures.value)
     (c.requires.apart k [] (omega (arith, c.loop-batch-test.true, length-map batches (λ b. b.items)))))
 
 pub loop-batch-preserved : goal.loop-batch-preserved
@@ -53,31 +51,31 @@ loop-batch-preserved g c =
     let read = c.deref.ensures.value in
     record {
       accesses = ran.accesses ∙ c.loop-batch.invariant.accesses;
-      told = subst (All (IsTold (g.G.Gate.told c.args.gate.now) (number_of c.args.workers))) (sym (one_batch_more batches k c.batch-item.result c.loop-batch-test.true c.batch-item.is))
-          (All-append (IsTold (g.G.Gate.told c.args.gate.now) (number_of c.args.workers)) (systems_of (take k batches)) c.batch-item.result.items c.loop-batch.invariant.told
-          (subst (All (IsTold (g.G.Gate.told c.args.gate.now) (number_of c.args.workers))) read ran.told));
+      gate_passed = subst (All (PassedGate (g.G.Gate.passed c.args.gate.now) c.args.workers)) (sym (one_batch_more batches k c.batch-item.result c.loop-batch-test.true c.batch-item.is))
+          (All-append (PassedGate (g.G.Gate.passed c.args.gate.now) c.args.workers) (systems_of (take k batches)) c.batch-item.result.items c.loop-batch.invariant.gate_passed
+          (subst (All (PassedGate (g.G.Gate.passed c.args.gate.now) c.args.workers)) read ran.gate_passed));
       turned = λ s stands.
-          subst (λ xs. HasTurned g.S.System.meaning xs s c.run_batch.new.stage [] c.run_batch.new.turns.items) (sym (one_batch_more batches k c.batch-item.result c.loop-batch-test.true c.batch-item.is))
-          (turned_more g.S.System.meaning (systems_of (take k batches)) c.batch-item.result.items s c.loop-batch.stage c.run_batch.new.stage [] c.loop-batch.turns.items c.run_batch.new.turns.items
+          subst (λ xs. HasTurned g.S.System.meaning xs s c.run_batch.new.lender [] c.run_batch.new.turns.items) (sym (one_batch_more batches k c.batch-item.result c.loop-batch-test.true c.batch-item.is))
+          (turned_more g.S.System.meaning (systems_of (take k batches)) c.batch-item.result.items s c.loop-batch.lender c.run_batch.new.lender [] c.loop-batch.turns.items c.run_batch.new.turns.items
           (c.loop-batch.invariant.turned s stands)
-          (λ u here. subst (λ xs. StageStands g.S.System.meaning c.run_batch.new.stage (after_turns_of xs u).state) read (ran.state u here))
+          (λ u here. subst (λ xs. LenderStands g.S.System.meaning c.run_batch.new.lender (after_turns_of xs u).state) read (ran.state u here))
           (λ u here. ran.turns u here ∙ ap (λ xs. c.loop-batch.turns.items ++ (after_turns_of xs u).turns) read));
     }
 
 pub returns-clause-state : goal.returns-clause-state
 returns-clause-state g c s stands =
     let n : c.loop-batch.batch-index ≡ length c.args.batches.now = omega arith in
-    (subst (λ xs. HasTurned g.S.System.meaning (systems_of xs) s c.loop-batch.stage [] c.loop-batch.turns.items) (ap (λ k. take k c.args.batches.now) n ∙ take-length c.args.batches.now)
+    (subst (λ xs. HasTurned g.S.System.meaning (systems_of xs) s c.loop-batch.lender [] c.loop-batch.turns.items) (ap (λ k. take k c.args.batches.now) n ∙ take-length c.args.batches.now)
     (c.loop-batch.invariant.turned s stands)).0
 
 pub returns-clause-turns : goal.returns-clause-turns
 returns-clause-turns g c s stands =
     let n : c.loop-batch.batch-index ≡ length c.args.batches.now = omega arith in
-    (subst (λ xs. HasTurned g.S.System.meaning (systems_of xs) s c.loop-batch.stage [] c.loop-batch.turns.items) (ap (λ k. take k c.args.batches.now) n ∙ take-length c.args.batches.now)
+    (subst (λ xs. HasTurned g.S.System.meaning (systems_of xs) s c.loop-batch.lender [] c.loop-batch.turns.items) (ap (λ k. take k c.args.batches.now) n ∙ take-length c.args.batches.now)
     (c.loop-batch.invariant.turned s stands)).1
 
-pub returns-clause-told : goal.returns-clause-told
-returns-clause-told g c =
+pub returns-clause-gate_passed : goal.returns-clause-gate_passed
+returns-clause-gate_passed g c =
     let n : c.loop-batch.batch-index ≡ length c.args.batches.now = omega arith in
-    subst (λ xs. All (IsTold (g.G.Gate.told c.args.gate.now) (number_of c.args.workers)) (systems_of xs)) (ap (λ k. take k c.args.batches.now) n ∙ take-length c.args.batches.now)
-    c.loop-batch.invariant.told
+    subst (λ xs. All (PassedGate (g.G.Gate.passed c.args.gate.now) c.args.workers) (systems_of xs)) (ap (λ k. take k c.args.batches.now) n ∙ take-length c.args.batches.now)
+    c.loop-batch.invariant.gate_passed

@@ -4,10 +4,12 @@ use Rattle.std.proofs.lemmas.Bool.{false≢true}
 use Rattle.std.proofs.lemmas.List.{length-append}
 use Rattle.std.proofs.lemmas.Option.{slice_get-get_or}
 use Rattle.msg_world.specs.Access.{no_access}
-use Rattle.msg_system.specs.Needs.{IsAccessOf, job_needs}
-use Rattle.msg_exec.specs.declared.place.Place.{Place}
-use Rattle.msg_exec.specs.Building.{EachIs, HasClash, IsAccessAt}
-use Rattle.msg_exec.proofs.Making.{each_pushed, read_is, read_there}
+use Rattle.msg_system.specs.Needs.{IsAccessOf, with_conditions}
+use Rattle.msg_frames.specs.declared.place.Place.{Place}
+use Rattle.msg_exec.specs.Building.{EachIs}
+use Rattle.msg_exec.specs.inner.Building.{IsAccessAt}
+use Rattle.msg_frames.specs.FirstState.{HasClash}
+use Rattle.msg_exec.proofs.ItemsOfLists.{each_pushed, read_is, read_there}
 use Rattle.msg_exec.proofs.building.accesses_of.Goals as goal
 
 pub returns-then-clash-clause-clash : goal.returns-then-clash-clause-clash
@@ -34,11 +36,10 @@ loop-i-preserved g c =
     record {
       as_many = ap length pushed ∙ length-append xs (c.job_access-access.result ∷ []) ∙ ap (λ n. n + 1) inv.as_many;
       accesses = subst (EachIs P) (sym pushed) (each_pushed P P xs c.job_access-access.result inv.accesses (λ k a lt is. is) (subst (λ k. P k c.job_access-access.result) (sym inv.as_many) (record {
-        access = λ x place sx sp. subst (λ y. IsAccessOf (job_needs (m y).program.ops place.conditions) c.job_access-access.result) (system x sx)
-            (subst (λ cs. IsAccessOf (job_needs (m c.index-systems-i.result).program.ops cs) c.job_access-access.result)
+        access = λ x place sx sp. subst (λ y. IsAccessOf (with_conditions (m y).needs place.conditions) c.job_access-access.result) (system x sx)
+            (subst (λ cs. IsAccessOf (with_conditions (m c.index-systems-i.result).needs cs) c.job_access-access.result)
             (c.as_slice.ensures.items ∙ ap (λ (q : Place). q.conditions) (sym c.index-places-i.is ∙ read_is c.args.places.now i c.index-places-i.result place (omega (arith, c.requires.one_place_each)) c.index-places-i.is sp))
-            (c.job_access-access.ensures.needs (m c.index-systems-i.result).program.ops own.access));
-        few_ops = λ x sx. subst (λ y. length (m y).program.ops ≤ 64) (system x sx) own.few_ops;
+            (c.job_access-access.ensures.needs (m c.index-systems-i.result).needs own.access));
         no_clash = λ x sx has. false≢true (sym c.if-clash.false ∙ own.clash.1 (subst (λ y. HasClash (m y)) (sym (system x sx)) has));
       })));
     }

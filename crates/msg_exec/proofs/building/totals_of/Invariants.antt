@@ -1,5 +1,6 @@
 use Rattle.std.proofs.Common.{◌≡◌, length}
-use Rattle.msg_exec.specs.Building.{AreNoTotals, EachIs}
+use Rattle.msg_exec.specs.Building.{EachIs}
+use Rattle.msg_exec.specs.inner.Building.{AreNoTotals}
 use Rattle.msg_exec.proofs.building.totals_of.Given as goal
 
 abbrev pub invariant-loop-system : goal.invariant-loop-system

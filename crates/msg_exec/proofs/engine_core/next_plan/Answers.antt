@@ -4,8 +4,8 @@ use Rattle.std.proofs.lemmas.Bool.{eqb-false}
 use Rattle.msg_order.specs.Graph.{IsAcyclic}
 use Rattle.msg_order.specs.Order.{NameSystemsBelow, rules_among}
 use Rattle.msg_order.specs.Plan.{IsPlanOf}
-use Rattle.msg_exec.specs.State.{State}
-use Rattle.msg_exec.proofs.Framing.{plan_next}
+use Rattle.msg_frames.specs.State.{State}
+use Rattle.msg_exec.proofs.CoreRunsFrame.{plan_next}
 use Rattle.msg_exec.proofs.engine_core.next_plan.Goals as goal
 
 pub returns-in_default : goal.returns-in_default
@@ -30,14 +30,14 @@ pub plan_by-requires-clause-in_range : goal.plan_by-requires-clause-in_range
 plan_by-requires-clause-in_range g c =
     let s : State = c.requires.stands.0 in
     let has = c.requires.stands.1.0.schedule in
-    let size : length c.deref-2.result.now ≡ s.systems = ap length c.deref-2.ensures.value ∙ c.requires.stands.1.0.stage.accesses in
+    let size : length c.deref-2.result.now ≡ s.systems = ap length c.deref-2.ensures.value ∙ c.requires.stands.1.0.lender.accesses in
     subst (λ rs. NameSystemsBelow (length c.deref-2.result.now) rs) (sym (c.deref-3.ensures.value ∙ has.rules)) (subst (λ n. NameSystemsBelow n s.rules) (sym size) has.named)
 
 pub plan_by-requires-clause-no_cycle : goal.plan_by-requires-clause-no_cycle
 plan_by-requires-clause-no_cycle g c joined as_many =
     let s : State = c.requires.stands.0 in
     let has = c.requires.stands.1.0.schedule in
-    let size : length c.deref-2.result.now ≡ s.systems = ap length c.deref-2.ensures.value ∙ c.requires.stands.1.0.stage.accesses in
+    let size : length c.deref-2.result.now ≡ s.systems = ap length c.deref-2.ensures.value ∙ c.requires.stands.1.0.lender.accesses in
     subst (λ rs. IsAcyclic (rules_among joined rs)) (sym (c.deref-3.ensures.value ∙ has.rules)) (has.no_cycle joined (as_many ∙ size))
 
 pub returns : goal.returns
@@ -49,7 +49,7 @@ returns g c = record {
       let plan = c.in_ok-plan.plan in (
         omega (arith, is, c.if-frames-eq0.false),
         next,
-        plan_next g.S.System.meaning core s c.in-Some.next plan stands.schedule next
+        plan_next core s c.in-Some.next plan stands.schedule next
             (subst (λ as_is. IsPlanOf as_is core.rules.items (map (λ j. nat_le j c.in-Some.next) core.joins.items) plan) c.deref-2.ensures.value
             (subst (λ rs. IsPlanOf c.deref-2.result.now rs (map (λ j. nat_le j c.in-Some.next) core.joins.items) plan) c.deref-3.ensures.value
             (subst (λ js. IsPlanOf c.deref-2.result.now c.deref-3.result.now (map (λ j. nat_le j c.in-Some.next) js) plan) c.deref-4.ensures.value c.in_ok-plan.ensures.plan))),

@@ -4,11 +4,11 @@ use Rattle.std.specs.List.{concat}
 use Rattle.std.specs.Global.{Vec}
 use Rattle.msg_order.specs.Order.{AreBatches}
 use Rattle.msg_order.specs.Plan.{NoneConflict}
-use Rattle.msg_exec.specs.Frames.{before_turns}
-use Rattle.msg_exec.specs.State.{State, joined}
-use Rattle.msg_exec.specs.Work.{IsTold}
-use Rattle.msg_exec.specs.Workers.{number_of}
-use Rattle.msg_exec.proofs.Framing.{batches_below, frame_ran, in_that_order, logged_in}
+use Rattle.msg_frames.specs.Frames.{before_turns}
+use Rattle.msg_frames.specs.State.{State, joined}
+use Rattle.msg_exec.specs.Work.{PassedGate}
+use Rattle.msg_frames.proofs.FramesInOrder.{in_that_order, logged_in}
+use Rattle.msg_exec.proofs.CoreRunsFrame.{batches_below, frame_ran}
 use Rattle.msg_exec.proofs.engine_core.run_one.Goals as goal
 
 pub run_batches-requires-clause-stands : goal.run_batches-requires-clause-stands
@@ -18,7 +18,7 @@ run_batches-requires-clause-stands g c κs within =
     let bt : State = before_turns c.args.frame.now.posts s in (
       bt,
       (
-        has.stage,
+        has.lender,
         batches_below g.S.System.meaning c.batches-batches.result.now bt has.plan.order
             (subst (λ bs. AreBatches has.plan.order (joined bt) bs) (sym c.batches-batches.ensures.items) has.plan.classes),
       ),
@@ -27,7 +27,7 @@ run_batches-requires-clause-stands g c κs within =
 pub run_batches-requires-clause-few : goal.run_batches-requires-clause-few
 run_batches-requires-clause-few g c κs within =
     let has = c.in_ok-core.ensures.opened c.requires.stands.0 c.requires.stands.1.0 c.requires.stands.1.1 in
-    omega (arith, has.stage.accesses, has.schedule.few)
+    omega (arith, has.lender.accesses, has.schedule.few)
 
 pub run_batches-requires-clause-once : goal.run_batches-requires-clause-once
 run_batches-requires-clause-once g c κs within =
@@ -37,7 +37,7 @@ run_batches-requires-clause-once g c κs within =
 pub run_batches-requires-clause-apart : goal.run_batches-requires-clause-apart
 run_batches-requires-clause-apart g c κs within =
     let has = c.in_ok-core.ensures.opened c.requires.stands.0 c.requires.stands.1.0 c.requires.stands.1.1 in
-    subst (All (NoneConflict c.in_ok-core.core.stage.accesses.items)) (sym c.batches-batches.ensures.items) has.plan.apart
+    subst (All (NoneConflict c.in_ok-core.core.lender.accesses.items)) (sym c.batches-batches.ensures.items) has.plan.apart
 
 pub returns : goal.returns
 returns g c = record {
@@ -46,15 +46,15 @@ returns g c = record {
       let bt : State = before_turns c.args.frame.now.posts s in
       let order : List ℕ = concat (map (λ (batch : Vec ℕ). batch.items) c.batches-batches.result.now) in
       frame_ran g.S.System.meaning c.in_ok-core.core _ s c.args.frame.now _ order c.in_ok-core.posts.items (ap concat c.batches-batches.ensures.items) has stands.sound
-      c.states_stay_sound.ensures.frame (c.in_ok-turns.ensures.state bt has.stage)
-      (logged_in c.args.frame.now order s _ c.in_ok-core.posts.items c.from_vec.ensures.items has.posts (c.from_vec-2.ensures.items ∙ c.in_ok-turns.ensures.turns bt has.stage))
+      c.states_stay_sound.ensures.frame (c.in_ok-turns.ensures.state bt has.lender)
+      (logged_in c.args.frame.now order s _ c.in_ok-core.posts.items c.from_vec.ensures.items has.posts (c.from_vec-2.ensures.items ∙ c.in_ok-turns.ensures.turns bt has.lender))
       refl refl refl c.in_ok-turns.ensures.accesses;
-  told =
+  gate_passed =
       let s : State = c.requires.stands.0 in
       let has = c.in_ok-core.ensures.opened s c.requires.stands.1.0 c.requires.stands.1.1 in
       let bt : State = before_turns c.args.frame.now.posts s in
       let order : List ℕ = concat (map (λ (batch : Vec ℕ). batch.items) c.batches-batches.result.now) in
-      subst (All (IsTold (g.G.Gate.told c.args.gate.now) (number_of c.args.workers)))
-      (sym (in_that_order c.args.frame.now order s _ (logged_in c.args.frame.now order s _ c.in_ok-core.posts.items c.from_vec.ensures.items has.posts (c.from_vec-2.ensures.items ∙ c.in_ok-turns.ensures.turns bt has.stage))))
-      c.in_ok-turns.ensures.told;
+      subst (All (PassedGate (g.G.Gate.passed c.args.gate.now) c.args.workers))
+      (sym (in_that_order c.args.frame.now order s _ (logged_in c.args.frame.now order s _ c.in_ok-core.posts.items c.from_vec.ensures.items has.posts (c.from_vec-2.ensures.items ∙ c.in_ok-turns.ensures.turns bt has.lender))))
+      c.in_ok-turns.ensures.gate_passed;
 }

@@ -1,15 +1,16 @@
 use Rattle.std.proofs.Common.{◌≡◌, length}
-use Rattle.msg_exec.specs.Stages.{AreJoins, HaveReadNothing, StageStands}
-use Rattle.msg_exec.specs.State.{State}
-use Rattle.msg_exec.proofs.Arriving.{joined_below}
+use Rattle.msg_exec.specs.Lender.{AreJoins, LenderStands}
+use Rattle.msg_exec.specs.inner.Lending.{HaveReadNothing}
+use Rattle.msg_frames.specs.State.{State}
+use Rattle.msg_exec.proofs.SystemsJoin.{joined_below}
 use Rattle.msg_exec.proofs.joining.join_those.Given as goal
 
 abbrev pub invariant-loop-i : goal.invariant-loop-i
 invariant-loop-i g l = record {
-  so_far : (s : State) → StageStands g.S.System.meaning l.initial.stage s → AreJoins l.joins s → HaveReadNothing l.frame s
-      → StageStands g.S.System.meaning l.stage (joined_below l.i l.frame s);
-  actors : length l.stage.actors.items ≡ length l.initial.stage.actors.items;
-  totals : length l.stage.totals.items ≡ length l.initial.stage.totals.items;
-  accesses : l.stage.accesses ≡ l.initial.stage.accesses;
-  world : l.stage.world ≡ l.initial.stage.world;
+  so_far : (s : State) → LenderStands g.S.System.meaning l.initial.lender s → AreJoins l.joins s → HaveReadNothing l.frame s
+      → LenderStands g.S.System.meaning l.lender (joined_below l.i l.frame s);
+  systems : length l.lender.systems.items ≡ length l.initial.lender.systems.items;
+  totals : length l.lender.totals.items ≡ length l.initial.lender.totals.items;
+  accesses : l.lender.accesses ≡ l.initial.lender.accesses;
+  world : l.lender.world ≡ l.initial.lender.world;
 }

@@ -1,10 +1,11 @@
 use Rattle.std.proofs.Common.{◌≡◌, ℕ, ◌<◌, length}
-use Rattle.msg_exec.specs.Entries.{totals_from}
-use Rattle.msg_exec.specs.Keeping.{first_place, totals_at}
+use Rattle.msg_frames.specs.Entries.{totals_from}
+use Rattle.msg_exec.specs.Keeping.{totals_at}
+use Rattle.msg_exec.specs.inner.Totals.{first_place}
 use Rattle.msg_exec.proofs.joining.open.Given as goal
 
 abbrev pub invariant-loop-t : goal.invariant-loop-t
 invariant-loop-t g l = record {
   as_many : length l.totals ≡ length l.initial.totals;
-  opened : (u : ℕ) → u < l.t → totals_at l.totals u ≡ totals_from (first_place (g.S.System.meaning l.system).program l.counts u);
+  opened : (u : ℕ) → u < l.t → totals_at l.totals u ≡ totals_from (first_place (g.S.System.meaning l.system) l.counts u);
 }

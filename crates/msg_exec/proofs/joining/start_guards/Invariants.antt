@@ -1,9 +1,7 @@
-use Rattle.std.proofs.Common.{◌≡◌, map, take, drop}
+use Rattle.std.proofs.Common.{◌≡◌, ◌++◌, map, take, drop}
 use Rattle.msg_system.specs.Conditions.{asked_started}
 use Rattle.msg_exec.proofs.joining.start_guards.Given as goal
 
 abbrev pub invariant-loop-guard : goal.invariant-loop-guard
-invariant-loop-guard l = record {
-  started : take l.guard-index l.guards ≡ map (asked_started l.start l.counts) (take l.guard-index l.initial.guards);
-  rest : drop l.guard-index l.guards ≡ drop l.guard-index l.initial.guards;
-}
+invariant-loop-guard l =
+    l.guards ≡ map (asked_started l.start l.counts) (take l.guard-index l.initial.guards) ++ drop l.guard-index l.initial.guards

@@ -10,8 +10,8 @@ use Rattle.msg_world.specs.Parts.{PartsStand}
 use Rattle.msg_world.specs.World.{WorldState, by, with_history}
 use Rattle.msg_system.specs.declared.reply.Reply.{Reply}
 use Rattle.std.proofs.lemmas.Option.{slice_get-get_or}
-use Rattle.msg_exec.specs.Frames.{posted}
-use Rattle.msg_exec.proofs.Posting.{HasPosted, if_refused, one_post_more}
+use Rattle.msg_frames.specs.Frames.{posted}
+use Rattle.msg_exec.proofs.PostsAreWritten.{HasPosted, if_refused, one_post_more}
 use Rattle.msg_exec.proofs.posts.post_all.Goals as goal
 
 pub post-requires : goal.post-requires

@@ -1,9 +1,9 @@
 use Rattle.std.proofs.Common.{◌<◌, ◌++◌, ◌∷◌, [], ap, sym, subst, ◌∙◌, arith, take}
 use Rattle.std.specs.Prelude.{slice_index_or}
 use Rattle.std.proofs.lemmas.List.{take_more}
-use Rattle.msg_exec.specs.Frames.{after_turns_of}
-use Rattle.msg_exec.specs.State.{State}
-use Rattle.msg_exec.proofs.Batching.{HasTurned, as_many_systems, turned_all, turned_more}
+use Rattle.msg_frames.specs.Frames.{after_turns_of}
+use Rattle.msg_frames.specs.State.{State}
+use Rattle.msg_exec.proofs.BatchAfterBatch.{HasTurned, as_many_systems, turned_all, turned_more}
 use Rattle.msg_exec.proofs.replay.run_turns.Goals as goal
 
 pub run_turn-requires-clause-stands : goal.run_turn-requires-clause-stands
@@ -25,16 +25,16 @@ loop-system-preserved g c =
     record {
       accesses = ran.accesses ∙ c.loop-system.invariant.accesses;
       turned = λ s stands.
-          subst (λ xs. HasTurned g.S.System.meaning xs s c.run_turn.new.stage [] c.push.new.self.items) (sym (take_more order k 0 c.loop-system-test.true))
-          (turned_more g.S.System.meaning (take k order) (i ∷ []) s c.loop-system.stage c.run_turn.new.stage [] c.loop-system.turns.items c.push.new.self.items
+          subst (λ xs. HasTurned g.S.System.meaning xs s c.run_turn.new.lender [] c.push.new.self.items) (sym (take_more order k 0 c.loop-system-test.true))
+          (turned_more g.S.System.meaning (take k order) (i ∷ []) s c.loop-system.lender c.run_turn.new.lender [] c.loop-system.turns.items c.push.new.self.items
           (c.loop-system.invariant.turned s stands) ran.state
           (λ u here. c.in_ok-push.ensures.items ∙ ap (λ turn. c.loop-system.turns.items ++ turn ∷ []) (ran.logged u here)));
     }
 
 pub returns-clause-state : goal.returns-clause-state
 returns-clause-state g c s stands =
-    (turned_all g.S.System.meaning c.args.order.now c.loop-system.system-index s c.loop-system.stage [] c.loop-system.turns.items (omega arith) (c.loop-system.invariant.turned s stands)).0
+    (turned_all g.S.System.meaning c.args.order.now c.loop-system.system-index s c.loop-system.lender [] c.loop-system.turns.items (omega arith) (c.loop-system.invariant.turned s stands)).0
 
 pub returns-clause-turns : goal.returns-clause-turns
 returns-clause-turns g c s stands =
-    (turned_all g.S.System.meaning c.args.order.now c.loop-system.system-index s c.loop-system.stage [] c.loop-system.turns.items (omega arith) (c.loop-system.invariant.turned s stands)).1
+    (turned_all g.S.System.meaning c.args.order.now c.loop-system.system-index s c.loop-system.lender [] c.loop-system.turns.items (omega arith) (c.loop-system.invariant.turned s stands)).1

@@ -1,10 +1,9 @@
 use Rattle.std.proofs.lemmas.Result.{IfOk-weaker}
 use Rattle.msg_exec.specs.Jobs.{MayRun}
 use Rattle.msg_exec.specs.declared.job.Job.{Job}
-use Rattle.msg_exec.specs.Work.{IsTold}
-use Rattle.msg_exec.specs.Workers.{number_of}
-use Rattle.msg_exec.proofs.Told.{all_mapped}
-use Rattle.msg_exec.proofs.SharedWorld.{all_are_done, each_may}
+use Rattle.msg_exec.specs.Work.{PassedGate}
+use Rattle.msg_exec.proofs.WorkersDraw.{all_mapped}
+use Rattle.msg_exec.proofs.JobsShareTheWorld.{all_are_done, each_may}
 use Rattle.msg_exec.proofs.side_by_side.run_side_by_side.Goals as goal
 
 pub run_jobs-requires-clause-may : goal.run_jobs-requires-clause-may
@@ -16,8 +15,8 @@ returns g c = record {
   done = IfOk-weaker c.all_done.result _ _
       (λ done ok. all_are_done g.S.System.meaning (λ b. b.job) (λ b. b.world.now) c.args.world.now c.in_ok-jobs.jobs.items c.args.jobs.items _ done.items c.in_ok-jobs.ensures.jobs c.in_ok-jobs.ensures.world c.in_ok-results.ensures.lawful ok)
       c.all_done.ensures.done;
-  told = IfOk-weaker c.all_done.result _ _
-      (λ done ok. all_mapped (λ (j : Job g.row.S.Denot). IsTold (g.G.Gate.told c.args.gate.now) (number_of c.args.workers) j.number) (λ b. b.job) c.in_ok-jobs.jobs.items c.args.jobs.items
-      c.in_ok-jobs.ensures.jobs c.in_ok-results.ensures.told)
+  gate_passed = IfOk-weaker c.all_done.result _ _
+      (λ done ok. all_mapped (λ (j : Job g.row.S.Denot). PassedGate (g.G.Gate.passed c.args.gate.now) c.args.workers j.number) (λ b. b.job) c.in_ok-jobs.jobs.items c.args.jobs.items
+      c.in_ok-jobs.ensures.jobs c.in_ok-results.ensures.gate_passed)
       c.all_done.ensures.done;
 }

@@ -1,14 +1,14 @@
 use Rattle.std.proofs.Common.{arith, ap, sym, ◌∙◌}
-use Rattle.msg_exec.specs.Entries.{entries_for, with_entries}
-use Rattle.msg_exec.specs.Tiling.{outcome_entries}
-use Rattle.msg_exec.specs.Keeping.{entry_at, kept}
-use Rattle.msg_exec.proofs.Entering.{entered_all, entered_one_more}
+use Rattle.msg_frames.specs.Entries.{entries_for, with_entries}
+use Rattle.msg_exec.specs.Keeping.{kept}
+use Rattle.msg_exec.specs.inner.Totals.{entries_by, entry_at}
+use Rattle.msg_exec.proofs.EntriesAreAdded.{entered_all, entered_one_more}
 use Rattle.msg_exec.proofs.totals.enter.Goals as goal
 
 pub loop-reply-preserved : goal.loop-reply-preserved
 loop-reply-preserved g c =
     let inv = c.loop-reply.invariant in
-    let ops = (g.S.System.meaning c.args.system.now).program.ops in
+    let ops = (g.S.System.meaning c.args.system.now).last in
     let k = c.loop-reply.reply-index in
     record {
       op = omega (arith, inv.op);
@@ -24,8 +24,8 @@ loop-reply-preserved g c =
 
 pub returns-clause-entered : goal.returns-clause-entered
 returns-clause-entered g c t x lt is =
-    let ops = (g.S.System.meaning c.args.system.now).program.ops in
+    let ops = (g.S.System.meaning c.args.system.now).last in
     let far = c.loop-reply.invariant.entered t x lt is in
     far.1 ∙ ap kept (entered_all t ops c.as_slice-reply-items.result.now c.loop-reply.reply-index far.0 _ c.loop-reply-test.false far.2)
     ∙ ap (λ rs. kept (with_entries (entries_for t ops rs) x)) c.as_slice-reply-items.ensures.items
-    ∙ ap (λ o. kept (with_entries (outcome_entries t ops o) x)) (sym c.in-Ran.is)
+    ∙ ap (λ o. kept (with_entries (entries_by t ops o) x)) (sym c.in-Ran.is)

@@ -1,6 +1,6 @@
 use Rattle.std.proofs.Common.{◌≡◌, ℕ, ◌<◌, length, drop}
-use Rattle.msg_exec.specs.declared.totals.Totals.{Totals as TotalsOf}
-use Rattle.msg_exec.specs.Entries.{entries_for, with_entries}
+use Rattle.msg_frames.specs.declared.totals.Totals.{Totals as TotalsOf}
+use Rattle.msg_frames.specs.Entries.{entries_for, with_entries}
 use Rattle.msg_exec.specs.Keeping.{kept, totals_at}
 use Rattle.msg_exec.proofs.totals.enter.Given as goal
 
@@ -11,6 +11,6 @@ invariant-loop-reply g l = record {
   as_many : length l.totals ≡ length l.initial.totals;
   entered : (t : ℕ) (x : TotalsOf) → t < length l.initial.totals → totals_at l.initial.totals t ≡ kept x
       → (y : TotalsOf) × (totals_at l.totals t ≡ kept y)
-      × (with_entries (entries_for t (drop l.reply-index (g.S.System.meaning l.system).program.ops) (drop l.reply-index l.reply-items)) y
-      ≡ with_entries (entries_for t (g.S.System.meaning l.system).program.ops l.reply-items) x);
+      × (with_entries (entries_for t (drop l.reply-index (g.S.System.meaning l.system).last) (drop l.reply-index l.reply-items)) y
+      ≡ with_entries (entries_for t (g.S.System.meaning l.system).last l.reply-items) x);
 }

@@ -6,14 +6,14 @@ ghost use Rattle.msg_files.specs.Check.{first_refusal};
 ghost use Rattle.msg_files.specs.Checks.{a_value, bare_checks, batch_checks, call_checks, checks_with, checks_with_one, checks_with_two};
 ghost use Rattle.msg_files.specs.Denotes.{bare_call, call_of, call_with, call_with_one, call_with_two, values_of};
 ghost use Rattle.msg_files.specs.Json.{is_number, whole};
-ghost use Rattle.msg_files.specs.Walk.{Agrees, FitsCursors};
+ghost use Rattle.msg_files.specs.Walk.{Agrees, FitsCursors, IsAnswer};
 
 use crate::call::Call;
 use crate::calls::read::part;
 use crate::limits::{MAX_CURSORS, MAX_VALUES};
 use crate::numbers::{are_numbers, whole_numbers};
 use crate::refusal::Refusal;
-use msg_system::Values;
+use msg_system::Items;
 use serde_json::Value;
 use std::alloc::Global;
 
@@ -48,7 +48,7 @@ fn read_parts(alloc: Global, made: u32, head: &str, parts: &[Value]) -> Result<C
 }
 
 fn read_bare(made: u32, head: &str) -> Result<Call, Refusal>
-    ensures is { Agrees (bare_checks made head.now) (bare_call head.now) result }
+    ensures is { IsAnswer (bare_checks made head.now) (bare_call head.now) result }
     ensures fits { IfOk result (FitsCursors made) }
 {
     match head {
@@ -100,7 +100,7 @@ fn read_with_one(alloc: Global, made: u32, head: &str, part: &Value) -> Result<C
 }
 
 fn read_with_two(made: u32, head: &str, part: &Value, other: &Value) -> Result<Call, Refusal>
-    ensures is { Agrees (checks_with_two made head.now (view part.now) (view other.now))
+    ensures is { IsAnswer (checks_with_two made head.now (view part.now) (view other.now))
         (call_with_two head.now (view part.now) (view other.now)) result }
     ensures fits { IfOk result (FitsCursors made) }
 {
@@ -112,7 +112,7 @@ fn read_with_two(made: u32, head: &str, part: &Value, other: &Value) -> Result<C
 }
 
 /// The values of a batch.
-fn read_values(alloc: Global, part: &Value) -> Result<Values, Refusal>
+fn read_values(alloc: Global, part: &Value) -> Result<Items<i64>, Refusal>
     ensures { Agrees (batch_checks (view part.now))
         (values_of (view part.now)) result }
 {
@@ -126,5 +126,5 @@ fn read_values(alloc: Global, part: &Value) -> Result<Values, Refusal>
     if items.len() > MAX_VALUES {
         return Err(Refusal::TooMany);
     }
-    Ok(Values::from_vec(whole_numbers(alloc, items)?))
+    Ok(Items::from_vec(whole_numbers(alloc, items)?))
 }

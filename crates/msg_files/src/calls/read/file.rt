@@ -1,4 +1,4 @@
-// The whole file.
+// A calls file: its limit, and each call after those before it.
 ghost use Rattle.std.specs.Prelude.{◌≡◌, ◌≢◌, Some, None, true, IfOk, IfErr, map, string_bytes};
 ghost use Rattle.std.specs.List.{list_all};
 ghost use Rattle.serde_json.specs.View.{view};

@@ -4,7 +4,7 @@ ghost use Rattle.serde_json.specs.Find.{as_number, as_i64};
 ghost use Rattle.serde_json.specs.View.{view, number_view};
 ghost use Rattle.msg_files.specs.Json.{whole, natural, natural_of, only_below};
 ghost use Rattle.msg_files.specs.Checks.{a_number, a_value, a_cursor, a_limit, a_message_number, limit_checks};
-ghost use Rattle.msg_files.specs.Walk.{Agrees};
+ghost use Rattle.msg_files.specs.Walk.{IsAnswer};
 
 use crate::limits::MAX_LIMIT;
 use crate::numbers::{natural_number, number, small_number, whole_number};
@@ -13,7 +13,7 @@ use serde_json::Value;
 
 /// A value of a message.
 pub fn value(part: &Value) -> Result<i64, Refusal>
-    ensures agrees { Agrees (a_number (view part.now) ∷ a_value (view part.now) ∷ [])
+    ensures agrees { IsAnswer (a_number (view part.now) ∷ a_value (view part.now) ∷ [])
         (whole (view part.now)) result }
 {
     whole_number(number(part)?)
@@ -22,7 +22,7 @@ pub fn value(part: &Value) -> Result<i64, Refusal>
 /// The number of a cursor that was made.
 pub fn cursor(made: u32, part: &Value) -> Result<u32, Refusal>
     ensures small { IfOk result (λ c. c < made) }
-    ensures is { Agrees (a_number (view part.now) ∷ a_cursor made (view part.now) ∷ [])
+    ensures is { IsAnswer (a_number (view part.now) ∷ a_cursor made (view part.now) ∷ [])
         (natural (view part.now)) result }
 {
     small_number(number(part)?, made)
@@ -30,7 +30,7 @@ pub fn cursor(made: u32, part: &Value) -> Result<u32, Refusal>
 
 /// The number of a message.
 pub fn message_number(part: &Value) -> Result<u64, Refusal>
-    ensures agrees { Agrees (a_number (view part.now) ∷ a_message_number (view part.now) ∷ [])
+    ensures agrees { IsAnswer (a_number (view part.now) ∷ a_message_number (view part.now) ∷ [])
         (natural (view part.now)) result }
 {
     natural_number(number(part)?)
@@ -39,7 +39,7 @@ pub fn message_number(part: &Value) -> Result<u64, Refusal>
 /// A cursor that was made, and how many messages it reads at most.
 pub fn cursor_and_limit(made: u32, part: &Value, limit: &Value) -> Result<(u32, u32), Refusal>
     ensures small { IfOk result (λ p. p.0 < made) }
-    ensures is { Agrees
+    ensures is { IsAnswer
         (a_number (view part.now) ∷ a_number (view limit.now)
         ∷ a_cursor made (view part.now) ∷ a_limit (view limit.now) ∷ [])
         (option_and_then (λ c. option_map (λ k. record { 0 = c; 1 = k }) (natural (view limit.now)))
@@ -54,7 +54,7 @@ pub fn cursor_and_limit(made: u32, part: &Value, limit: &Value) -> Result<(u32, 
 
 /// The limit of a buffer.
 pub fn buffer_limit(value: &Value) -> Result<u32, Refusal>
-    ensures agrees { Agrees (limit_checks (view value.now)) (natural (view value.now)) result }
+    ensures agrees { IsAnswer (limit_checks (view value.now)) (natural (view value.now)) result }
 {
     small_number(number(value)?, MAX_LIMIT + 1)
 }

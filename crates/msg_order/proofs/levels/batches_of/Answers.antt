@@ -1,9 +1,9 @@
 use Rattle.std.proofs.Common.{◌≡◌, ◌<◌, ◌≢◌, ℕ, Bool, map, length, sym, ◌∙◌, arith, vec_len}
 use Rattle.std.proofs.lemmas.Bool.{eqb-true, eqb-false, and_parts}
 use Rattle.std.proofs.lemmas.List.{map-append}
-use Rattle.msg_order.specs.SystemSet.{has, meets}
-use Rattle.msg_order.specs.Paths.{set_at}
-use Rattle.msg_order.proofs.Peeling.{LeadAmong, peeled_first, peeled_next, peeled_all, peeled_done, left_falls, sets_tell}
+use Rattle.msg_order.specs.inner.SystemSet.{has, meets}
+use Rattle.msg_order.specs.inner.Paths.{set_at}
+use Rattle.msg_order.proofs.BatchLevels.{LeadAmong, peeled_first, peeled_next, peeled_all, peeled_done, left_falls, sets_tell}
 use Rattle.msg_order.proofs.levels.batches_of.Goals as goal
 
 pub levels-init : goal.levels-init

@@ -1,9 +1,9 @@
 use Rattle.std.proofs.Common.{◌≡◌, ◌<◌, ℕ, Bool, true, false, not, ◌&&◌, inl, inr, length, sym, ◌∙◌, arith}
 use Rattle.std.proofs.lemmas.Bool.{cases_lt, and_from, and_left, and_right, not_from_true, not_from_false, false_from_ne_true}
-use Rattle.msg_order.specs.SystemSet.{has, meets}
-use Rattle.msg_order.specs.Paths.{set_at, is_ready}
-use Rattle.msg_order.proofs.Lists.{filter_takes, filter_passes}
-use Rattle.msg_order.proofs.Words.{told_with, told_without, empty_with}
+use Rattle.msg_order.specs.inner.SystemSet.{has, meets}
+use Rattle.msg_order.specs.inner.Paths.{set_at, is_ready}
+use Rattle.msg_order.proofs.Elements.{filter_takes, filter_drops}
+use Rattle.msg_order.proofs.SystemSets.{told_with, told_without, empty_with}
 use Rattle.msg_order.proofs.levels.take_level.Goals as goal
 use Rattle.msg_order.proofs.levels.take_level.Goals.{then-contains+then-is_blocked, then-contains+else-is_blocked+in_ok-push, else-contains}
 
@@ -20,7 +20,7 @@ loop-i-preserved _g c =
           let l : left i ≡ true = sym c.contains.ensures ∙ w.if-contains.true in
           let b : blocked i ≡ true = sym w.meets-is_blocked.ensures ∙ w.if-is_blocked.true in
           record {
-            batch = rw w.batch-is (filter_passes ready i c.loop-i.batch.items old.batch (and_right (left i) (not (blocked i)) (not_from_true (blocked i) b)));
+            batch = rw w.batch-is (filter_drops ready i c.loop-i.batch.items old.batch (and_right (left i) (not (blocked i)) (not_from_true (blocked i) b)));
             next = rw w.next-is (told_with (has c.loop-i.next) (has w.insert.new.self) next i w.insert.ensures old.next (and_from (left i) (blocked i) l b));
             above = rw w.next-is (empty_with (has c.loop-i.next) (has w.insert.new.self) i w.insert.ensures old.above);
           }
@@ -35,7 +35,7 @@ loop-i-preserved _g c =
       | else-contains w ↦
           let l : left i ≡ false = sym c.contains.ensures ∙ w.if-contains.false in
           record {
-            batch = rw w.batch-is (filter_passes ready i c.loop-i.batch.items old.batch (and_left (left i) (not (blocked i)) l));
+            batch = rw w.batch-is (filter_drops ready i c.loop-i.batch.items old.batch (and_left (left i) (not (blocked i)) l));
             next = rw w.next-is (told_without (has c.loop-i.next) next i old.next old.above (and_left (left i) (blocked i) l));
             above = rw w.next-is (λ k h. old.above k (omega arith));
           }

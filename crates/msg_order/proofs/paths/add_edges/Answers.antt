@@ -1,6 +1,6 @@
 use Rattle.std.proofs.Common.{inl, inr, length, arith}
 use Rattle.std.proofs.lemmas.Bool.{cases_lt}
-use Rattle.msg_order.proofs.Rows.{adds_past}
+use Rattle.msg_order.proofs.SetPaths.{adds_past}
 use Rattle.msg_order.proofs.paths.add_edges.Goals as goal
 
 pub returns : goal.returns

@@ -1,5 +1,5 @@
 use Rattle.std.proofs.Common.{◌≡◌, ℕ, ◌<◌, true, false}
-use Rattle.msg_order.specs.SystemSet.{has}
+use Rattle.msg_order.specs.inner.SystemSet.{has}
 use Rattle.msg_order.specs.Order.{AreInConflict}
 use Rattle.msg_order.proofs.paths.later_conflicts.Given as goal
 

@@ -5,11 +5,11 @@ use Rattle.std.proofs.lemmas.List.{with_items_is}
 use Rattle.msg_order.specs.declared.system_set.SystemSet.{SystemSet}
 use Rattle.msg_order.specs.Graph.{Graph, IsAcyclic}
 use Rattle.msg_order.specs.Order.{AreBatches, IsAmong}
-use Rattle.msg_order.specs.Paths.{ArePaths, AreKept}
+use Rattle.msg_order.specs.inner.Paths.{ArePaths, AreKept}
 use Rattle.msg_order.proofs.PathTest.{from_Path, to_Path}
-use Rattle.msg_order.proofs.Rows.{settled_joins, settled_free}
-use Rattle.msg_order.proofs.Standing.{in_lawful_order, in_turn_order, none_conflict}
-use Rattle.msg_order.proofs.Viewing.{precedes-view, systems-view, sets_kept}
+use Rattle.msg_order.proofs.SetPaths.{settled_joins, settled_free}
+use Rattle.msg_order.proofs.TurnOrders.{in_lawful_order, in_turn_order, none_conflict}
+use Rattle.msg_order.proofs.PlanViews.{precedes-view, systems-view, sets_kept}
 use Rattle.msg_order.proofs.plan.plan_over.Goals as goal
 
 pub invariant_of-result : goal.invariant_of-result

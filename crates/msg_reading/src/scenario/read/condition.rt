@@ -3,7 +3,7 @@ ghost use Rattle.std.specs.Prelude.{◌≡◌, ◌∷◌, [], map, option_map};
 ghost use Rattle.serde_json.specs.View.{view};
 ghost use Rattle.msg_reading.specs.ScenarioChecks.{condition_checks, probe_checks};
 ghost use Rattle.msg_reading.specs.ScenarioDenotes.{condition_of, in_not, in_not_with, inside_nots, nots_round, probe_with};
-ghost use Rattle.msg_files.specs.Walk.{Agrees};
+ghost use Rattle.msg_files.specs.Walk.{IsAnswer};
 
 use crate::Refusal;
 use crate::limits::{MAX_NOTS, MOST_NESTED};
@@ -71,7 +71,7 @@ fn read_probe(
     head: &str,
     parts: &[Value],
 ) -> Result<Condition, Refusal>
-    ensures agrees { Agrees (probe_checks names.now nots head.now (map view parts.now))
+    ensures agrees { IsAnswer (probe_checks names.now nots head.now (map view parts.now))
         (option_map (λ probe. record { nots = nots; probe = probe })
         (probe_with names.now head.now (map view parts.now)))
         result }
@@ -90,7 +90,7 @@ fn read_on_message(
     head: &str,
     part: &Value,
 ) -> Result<Condition, Refusal>
-    ensures agrees { Agrees (probe_checks names.now nots head.now (view part.now ∷ []))
+    ensures agrees { IsAnswer (probe_checks names.now nots head.now (view part.now ∷ []))
         (option_map (λ probe. record { nots = nots; probe = probe })
         (probe_with names.now head.now (view part.now ∷ [])))
         result }
@@ -113,7 +113,7 @@ fn read_resource_equals(
     part: &Value,
     other: &Value,
 ) -> Result<Condition, Refusal>
-    ensures agrees { Agrees
+    ensures agrees { IsAnswer
         (probe_checks names.now nots head.now (view part.now ∷ view other.now ∷ []))
         (option_map (λ probe. record { nots = nots; probe = probe })
         (probe_with names.now head.now (view part.now ∷ view other.now ∷ [])))

@@ -1,4 +1,4 @@
-// The whole file.
+// The sections of a scenario file, one after another.
 ghost use Rattle.std.specs.Prelude.{◌≡◌, ◌≢◌, None, Some, IfOk, IfErr, MatchResult, OnOk, codes, option_map, string_bytes, unwrap_or};
 ghost use Rattle.std.specs.List.{list_all};
 ghost use Rattle.serde_json.specs.Find.{as_bool};
@@ -16,7 +16,7 @@ use crate::scenario::read::list::{read_list, read_list_if_there};
 use crate::scenario::read::named::read_names;
 use crate::scenario::read::names::Declarations;
 use crate::{Name, Refusal, Scenario, SystemSpec};
-use msg_exec::{Frame, Items};
+use msg_frames::{Frame, Items};
 use msg_order::Rule;
 use serde_json::{Map, Value};
 use std::alloc::Global;

@@ -7,7 +7,7 @@ use crate::limits::MAX_POSTS;
 use crate::scenario::read::list::{Element, read_list};
 use crate::scenario::read::names::Declarations;
 use crate::scenario::read::part::{two, type_and_value};
-use msg_exec::Frame;
+use msg_frames::Frame;
 use msg_world::TypeNo;
 use serde_json::Value;
 use std::alloc::Global;

@@ -11,7 +11,7 @@ ghost use Rattle.msg_files.specs.Walk.{Agrees};
 
 use crate::Refusal;
 use crate::scenario::read::names::Declarations;
-use msg_exec::Items;
+use msg_frames::Items;
 use serde_json::Value;
 use std::alloc::Global;
 

@@ -10,7 +10,7 @@ ghost use Rattle.msg_files.specs.Json.{all_some, elements, whole};
 ghost use Rattle.msg_reading.specs.Names.{type_number};
 ghost use Rattle.msg_reading.specs.ScenarioChecks.{a_type, bare_op_checks, is_list_of_numbers, is_text, op_checks, op_checks_with, op_checks_with_one, op_checks_with_two};
 ghost use Rattle.msg_reading.specs.ScenarioDenotes.{bare_op, both, op_of, op_with, op_with_one, op_with_two, text};
-ghost use Rattle.msg_files.specs.Walk.{Agrees};
+ghost use Rattle.msg_files.specs.Walk.{Agrees, IsAnswer};
 ghost use Rattle.msg_files.specs.declared.refusal.Refusal.TheVariants.{Shape, TooMany};
 
 use crate::Refusal;
@@ -22,7 +22,7 @@ use crate::scenario::read::part::{
 };
 use msg_files::MAX_VALUES;
 use msg_files::numbers::{are_numbers, whole_numbers};
-use msg_system::{Op, Values};
+use msg_system::{Items, Op};
 use serde_json::Value;
 use std::alloc::Global;
 
@@ -55,7 +55,7 @@ fn read_parts(
 }
 
 fn read_bare(head: &str) -> Result<Op, Refusal>
-    ensures agrees { Agrees (bare_op_checks head.now) (bare_op head.now) result }
+    ensures agrees { IsAnswer (bare_op_checks head.now) (bare_op head.now) result }
 {
     match head {
         "signal" => Ok(Op::Signal),
@@ -64,7 +64,7 @@ fn read_bare(head: &str) -> Result<Op, Refusal>
 }
 
 fn read_with_one(names: &Declarations, head: &str, part: &Value) -> Result<Op, Refusal>
-    ensures agrees { Agrees (op_checks_with_one names.now head.now (view part.now))
+    ensures agrees { IsAnswer (op_checks_with_one names.now head.now (view part.now))
         (op_with_one names.now head.now (view part.now)) result }
 {
     match head {
@@ -160,7 +160,7 @@ fn text_and_numbers<'a>(
 }
 
 /// The values of a batch.
-fn read_values(alloc: Global, items: &[Value]) -> Result<Values, Refusal>
+fn read_values(alloc: Global, items: &[Value]) -> Result<Items<i64>, Refusal>
     ensures agrees { Agrees
         (needs (nat_le (length items.now) 1024) TooMany ∷ map a_value (map view items.now))
         (all_some (map whole (map view items.now))) result }
@@ -168,5 +168,5 @@ fn read_values(alloc: Global, items: &[Value]) -> Result<Values, Refusal>
     if items.len() > MAX_VALUES {
         return Err(Refusal::TooMany);
     }
-    Ok(Values::from_vec(whole_numbers(alloc, items)?))
+    Ok(Items::from_vec(whole_numbers(alloc, items)?))
 }

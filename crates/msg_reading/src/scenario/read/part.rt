@@ -9,7 +9,7 @@ ghost use Rattle.msg_files.specs.Json.{Text, elements, is_number, natural, whole
 ghost use Rattle.msg_reading.specs.Names.{resource_number, type_number};
 ghost use Rattle.msg_reading.specs.ScenarioChecks.{a_resource, a_type, for_headed, for_two, is_text, wrong_shape};
 ghost use Rattle.msg_reading.specs.ScenarioDenotes.{both, in_not, text};
-ghost use Rattle.msg_files.specs.Walk.{Agrees};
+ghost use Rattle.msg_files.specs.Walk.{IsAnswer};
 ghost use Rattle.msg_files.specs.declared.refusal.Refusal.TheVariants.{Shape};
 
 use crate::Refusal;
@@ -101,7 +101,7 @@ pub fn type_and_value(
     of_type: &Value,
     value: &Value,
 ) -> Result<(TypeNo, i64), Refusal>
-    ensures agrees { Agrees
+    ensures agrees { IsAnswer
         (needs (is_text (view of_type.now) && is_number (view value.now)) Shape
         ∷ a_type names.now (view of_type.now)
         ∷ a_value (view value.now)
@@ -120,7 +120,7 @@ pub fn type_and_limit(
     of_type: &Value,
     limit: &Value,
 ) -> Result<(TypeNo, u32), Refusal>
-    ensures agrees { Agrees
+    ensures agrees { IsAnswer
         (needs (is_text (view of_type.now) && is_number (view limit.now)) Shape
         ∷ a_type names.now (view of_type.now)
         ∷ a_limit (view limit.now)
@@ -139,7 +139,7 @@ pub fn two_types(
     from: &Value,
     to: &Value,
 ) -> Result<(TypeNo, TypeNo), Refusal>
-    ensures agrees { Agrees
+    ensures agrees { IsAnswer
         (needs (is_text (view from.now) && is_text (view to.now)) Shape
         ∷ a_type names.now (view from.now)
         ∷ a_type names.now (view to.now)
@@ -158,7 +158,7 @@ pub fn type_and_resource(
     of_type: &Value,
     resource: &Value,
 ) -> Result<(TypeNo, ResNo), Refusal>
-    ensures agrees { Agrees
+    ensures agrees { IsAnswer
         (needs (is_text (view of_type.now) && is_text (view resource.now)) Shape
         ∷ a_type names.now (view of_type.now)
         ∷ a_resource names.now (view resource.now)
@@ -177,7 +177,7 @@ pub fn resource_and_value(
     resource: &Value,
     value: &Value,
 ) -> Result<(ResNo, i64), Refusal>
-    ensures agrees { Agrees
+    ensures agrees { IsAnswer
         (needs (is_text (view resource.now) && is_number (view value.now)) Shape
         ∷ a_resource names.now (view resource.now)
         ∷ a_value (view value.now)

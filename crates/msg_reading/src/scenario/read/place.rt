@@ -1,17 +1,17 @@
-// A system's place among the others, and where its cursors start.
+// A system's conditions, the frame that it joins with, and where its cursors start.
 ghost use Rattle.std.specs.Prelude.{◌≡◌, None, Some, MatchResult};
 ghost use Rattle.serde_json.specs.View.{view};
 ghost use Rattle.msg_files.specs.Json.{natural};
 ghost use Rattle.msg_reading.specs.ScenarioChecks.{condition_checks, join_checks, list_checks, place_checks};
 ghost use Rattle.msg_reading.specs.ScenarioDenotes.{condition_of, conditions_in, each_of, join_in, place_of, start_in, start_of};
-ghost use Rattle.msg_files.specs.Walk.{Agrees};
+ghost use Rattle.msg_files.specs.Walk.{Agrees, IsAnswer};
 
 use crate::Refusal;
 use crate::limits::{LAST_JOIN, MAX_CONDITIONS};
 use crate::scenario::read::list::read_list_if_there;
 use crate::scenario::read::names::Declarations;
-use msg_exec::{Items, Place};
 use msg_files::numbers::{number, small_number};
+use msg_frames::{Items, Place};
 use msg_system::{Condition, Start};
 use serde_json::Value;
 use std::alloc::Global;
@@ -38,7 +38,7 @@ fn read_conditions(
 }
 
 fn read_join(system: &Value) -> Result<u32, Refusal>
-    ensures agrees { Agrees (join_checks (join_in (view system.now)))
+    ensures agrees { IsAnswer (join_checks (join_in (view system.now)))
         (natural (join_in (view system.now))) result }
 {
     match system.get("join") {
@@ -48,7 +48,7 @@ fn read_join(system: &Value) -> Result<u32, Refusal>
 }
 
 fn join_of(join: &Value) -> Result<u32, Refusal>
-    ensures agrees { Agrees (join_checks (view join.now)) (natural (view join.now)) result }
+    ensures agrees { IsAnswer (join_checks (view join.now)) (natural (view join.now)) result }
 {
     let join = small_number(number(join)?, LAST_JOIN + 1)?;
     if join == 0 {

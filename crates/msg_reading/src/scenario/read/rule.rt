@@ -5,7 +5,7 @@ ghost use Rattle.msg_files.specs.Check.{needs};
 ghost use Rattle.msg_reading.specs.Names.{system_number};
 ghost use Rattle.msg_reading.specs.ScenarioChecks.{a_system, is_text, rule_checks};
 ghost use Rattle.msg_reading.specs.ScenarioDenotes.{both, rule_of, text};
-ghost use Rattle.msg_files.specs.Walk.{Agrees};
+ghost use Rattle.msg_files.specs.Walk.{IsAnswer};
 ghost use Rattle.msg_files.specs.declared.refusal.Refusal.TheVariants.{Shape};
 
 use crate::Refusal;
@@ -28,7 +28,7 @@ impl Element for Rule {
 }
 
 fn read_rule(names: &Declarations, earlier: &Value, later: &Value) -> Result<Rule, Refusal>
-    ensures agrees { Agrees
+    ensures agrees { IsAnswer
         (needs (is_text (view earlier.now) && is_text (view later.now)) Shape
         ∷ a_system names.now (view earlier.now)
         ∷ a_system names.now (view later.now)

@@ -1,4 +1,4 @@
-// One system.
+// One system: its name, its kind and program, and its conditions, join and start.
 ghost use Rattle.std.specs.Prelude.{◌≡◌, ◌≢◌, ◌∷◌, ◌++◌, [], None, Some, IfOk, IfErr, MatchResult, OnOk, codes, false, string_bytes};
 ghost use Rattle.std.specs.List.{list_all};
 ghost use Rattle.std.specs.Option.{option_map_or};
@@ -17,8 +17,8 @@ use crate::scenario::read::names::Declarations;
 use crate::scenario::read::part::text;
 use crate::scenario::read::place::{read_place, read_start};
 use crate::{Kind, Name, Refusal, SystemSpec};
-use msg_exec::Place;
-use msg_system::{Op, Ops, Program};
+use msg_frames::Place;
+use msg_system::{Items, Op, Program};
 use serde_json::{Map, Value};
 use std::alloc::Global;
 
@@ -134,7 +134,12 @@ fn kind_named(kind: &Value) -> Result<Kind, Refusal>
 }
 
 /// The ops of a system of this kind.
-fn read_ops(alloc: Global, names: &Declarations, kind: Kind, ops: &Value) -> Result<Ops, Refusal>
+fn read_ops(
+    alloc: Global,
+    names: &Declarations,
+    kind: Kind,
+    ops: &Value,
+) -> Result<Items<Op>, Refusal>
     ensures agrees { Agrees
         (list_checks 64 (op_checks names.now) (view ops.now)
         ++ needs (option_map_or (fits_kind kind) (each_of (op_of names.now) (view ops.now)) false) Shape
@@ -145,7 +150,7 @@ fn read_ops(alloc: Global, names: &Declarations, kind: Kind, ops: &Value) -> Res
     if !fits(kind, ops.as_slice()) {
         return Err(Refusal::Shape);
     }
-    Ok(Ops::from_vec(ops))
+    Ok(Items::from_vec(ops))
 }
 
 /// A relay's program is one `forward`, a tally's one `sum`.

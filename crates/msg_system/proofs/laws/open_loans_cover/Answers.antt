@@ -1,4 +1,4 @@
-use Rattle.msg_system.proofs.Jobs.{jobs_cover}
+use Rattle.msg_system.proofs.JobAccesses.{jobs_cover}
 use Rattle.msg_system.proofs.Runs.{complete_covers}
 use Rattle.msg_system.proofs.laws.open_loans_cover.Goals as goal
 

@@ -5,8 +5,8 @@ use Rattle.std.proofs.lemmas.Int.{to_z-of_z}
 use Rattle.msg_world.specs.Access.{OfResource, OfType, Registry}
 use Rattle.msg_system.specs.declared.op.Op.TheVariants.{Write, Read, Len, Missed, Clear, Forward, Sum, Set, Add}
 use Rattle.msg_system.specs.Needs.{op_parts}
-use Rattle.msg_system.specs.OpRuns.{OpRan, places_of}
-use Rattle.msg_system.proofs.Runs.{answered_at, covers_read, covers_written, if_ok, ran_at}
+use Rattle.msg_system.specs.inner.OpRuns.{OpRan, places_of}
+use Rattle.msg_system.proofs.Runs.{answered_at, covers_read, covers_written, if_ok, on_err_then, place_at, ran_at}
 use Rattle.msg_system.proofs.scripted.run_op.Goals as goal
 
 pub write-requires : goal.write-requires
@@ -101,3 +101,27 @@ returns-in-Forward-clause-ran c = rw c.in-Forward.is (if_ok c.forward.result _ _
 
 pub returns-in-Sum-clause-ran : goal.returns-in-Sum-clause-ran
 returns-in-Sum-clause-ran c = rw c.in-Sum.is (if_ok c.sum.result _ _ (λ reply ran. ran_at (Sum c.in-Sum.t c.in-Sum.r) c.args.writer c.args.cursors.now c.in-Sum.t c.number-in-Sum.result c.index-cursors-number-in-Sum.result c.sum.new.cursor c.args.lent.now c.sum.new.lent reply c.told-cursors c.number-in-Sum.ensures.number c.number-in-Sum.ensures.within (ran c.args.writer)) c.sum.ensures.ran)
+
+pub returns-in-Read-clause-refused : goal.returns-in-Read-clause-refused
+returns-in-Read-clause-refused c =
+    let at = place_at c.args.cursors.now c.in-Read.t c.number.result c.index-cursors-number.result c.told-cursors c.number.ensures.number c.number.ensures.within in
+    rw c.in-Read.is (on_err_then c.read.result _ _ (λ refused. refused (places_of c.args.cursors.now) at) c.read.ensures.refused)
+
+pub returns-in-Forward-clause-refused : goal.returns-in-Forward-clause-refused
+returns-in-Forward-clause-refused c =
+    let at = place_at c.args.cursors.now c.in-Forward.t c.number-in-Forward.result c.index-cursors-number-in-Forward.result c.told-cursors c.number-in-Forward.ensures.number c.number-in-Forward.ensures.within in
+    rw c.in-Forward.is (on_err_then c.forward.result _ _ (λ refused. refused (places_of c.args.cursors.now) at) c.forward.ensures.refused)
+
+pub returns-in-Sum-clause-refused : goal.returns-in-Sum-clause-refused
+returns-in-Sum-clause-refused c =
+    let at = place_at c.args.cursors.now c.in-Sum.t c.number-in-Sum.result c.index-cursors-number-in-Sum.result c.told-cursors c.number-in-Sum.ensures.number c.number-in-Sum.ensures.within in
+    rw c.in-Sum.is (on_err_then c.sum.result _ _ (λ refused. refused (places_of c.args.cursors.now) at) c.sum.ensures.refused)
+
+pub returns-in-Write-clause-refused : goal.returns-in-Write-clause-refused
+returns-in-Write-clause-refused c = rw c.in-Write.is (on_err_then c.write.result _ _ (λ refused. refused (places_of c.args.cursors.now)) c.write.ensures.refused)
+
+pub returns-in-Batch-clause-refused : goal.returns-in-Batch-clause-refused
+returns-in-Batch-clause-refused c = rw c.in-Batch.is (on_err_then c.batch.result _ _ (λ refused. refused (places_of c.args.cursors.now)) c.batch.ensures.refused)
+
+pub returns-in-Drain-clause-refused : goal.returns-in-Drain-clause-refused
+returns-in-Drain-clause-refused c = rw c.in-Drain.is (on_err_then c.drain.result _ _ (λ refused. refused (places_of c.args.cursors.now)) c.drain.ensures.refused)

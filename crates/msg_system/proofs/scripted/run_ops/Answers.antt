@@ -1,7 +1,7 @@
 use Rattle.std.proofs.Common.{◌<◌, List, arith, length, subst}
 use Rattle.std.proofs.lemmas.List.{take_all}
 use Rattle.msg_system.specs.declared.op.Op.{Op}
-use Rattle.msg_system.specs.OpRuns.{IsAfterProgram, places_of}
+use Rattle.msg_system.specs.inner.OpRuns.{IsAfterProgram, places_of}
 use Rattle.msg_system.specs.Programs.{after_program}
 use Rattle.msg_system.proofs.Runs.{covers_later, covers_op, one_reply_more, op_more, same_loan_trans}
 use Rattle.msg_system.specs.Needs.{op_needs}

@@ -2,7 +2,7 @@ use Rattle.std.proofs.Common.{◌≡◌, ℕ, take}
 use Rattle.std.specs.Prelude.{if◌then◌else◌}
 use Rattle.msg_world.specs.Access.{OfType}
 use Rattle.msg_system.specs.Needs.{some_op_reads}
-use Rattle.msg_system.specs.OpRuns.{places_of}
+use Rattle.msg_system.specs.inner.OpRuns.{places_of}
 use Rattle.msg_system.specs.Systems.{start_place}
 use Rattle.msg_system.proofs.scripted.start_cursors.Given as goal
 

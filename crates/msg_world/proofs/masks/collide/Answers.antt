@@ -1,6 +1,6 @@
 use Rattle.std.proofs.Common.{inl, inr, sym, ◌∙◌}
 use Rattle.std.proofs.lemmas.Bool.{false≢true}
-use Rattle.msg_world.proofs.Parts.{share_bit-or}
+use Rattle.msg_world.proofs.Conflicts.{share_bit-or}
 use Rattle.msg_world.proofs.masks.collide.Goals as goal
 
 pub returns-then-share_bit : goal.returns-then-share_bit

@@ -1,7 +1,7 @@
 use Rattle.std.proofs.Common.{◌≡◌, ℕ, None, vec_len}
 use Rattle.std.specs.Prelude.{◌&&◌, nat_lt, if◌then◌else◌}
 use Rattle.msg_world.specs.Access.{has_bit}
-use Rattle.msg_world.specs.Slots.{at}
+use Rattle.msg_world.specs.inner.Slots.{at}
 use Rattle.msg_world.proofs.slots.move_slots.Given as goal
 
 abbrev pub invariant-loop-k : goal.invariant-loop-k

@@ -3,7 +3,7 @@ use Rattle.std.proofs.lemmas.Bool.{cases_eq}
 use Rattle.msg_buffer.specs.History.{History}
 use Rattle.msg_buffer.specs.Kept.{Kept}
 use Rattle.msg_world.specs.declared.record.Record.{Record}
-use Rattle.msg_world.specs.Slots.{BufferStands}
+use Rattle.msg_world.specs.inner.Slots.{BufferStands}
 use Rattle.msg_world.proofs.Worlds.{item_at}
 use Rattle.msg_world.proofs.world.each_stands.Goals as goal
 

@@ -1,7 +1,7 @@
 use Rattle.std.proofs.Common.{ℕ, ◌<◌}
 use Rattle.msg_buffer.specs.History.{History}
 use Rattle.msg_world.specs.declared.record.Record.{Record}
-use Rattle.msg_world.specs.Slots.{BufferStands, at}
+use Rattle.msg_world.specs.inner.Slots.{BufferStands, at}
 use Rattle.msg_world.proofs.world.each_stands.Given as goal
 
 abbrev pub invariant-loop-slot : goal.invariant-loop-slot

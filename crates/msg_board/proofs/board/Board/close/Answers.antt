@@ -1,15 +1,15 @@
-use Rattle.std.proofs.Common.{◌≡◌, ap, sym, ◌∙◌, arith, subst, length, None}
+use Rattle.std.proofs.Common.{◌≡◌, ◌<◌, ap, sym, ◌∙◌, arith, subst, length, None}
 use Rattle.std.proofs.lemmas.List.Elements.{All-weaker}
 use Rattle.std.proofs.lemmas.Result.{IfOk-weaker}
-use Rattle.std.specs.Prelude.{IfOk}
+use Rattle.std.specs.Prelude.{IfOk, OnErr}
 use Rattle.msg_board.specs.Board.{jobs_of, passes_of, HasEnded, IsLawfulOutcome}
-use Rattle.msg_board.specs.Closing.{IsGathered}
+use Rattle.msg_board.specs.inner.Closing.{IsGathered}
 use Rattle.msg_board.specs.Pass.{drawn_by}
-use Rattle.msg_board.specs.Sound.{board_of}
+use Rattle.msg_board.specs.inner.Sound.{board_of}
 use Rattle.msg_board.specs.Counts.{HoldsEachOnce}
-use Rattle.msg_board.proofs.Lists.{there, get_there, one_value}
+use Rattle.msg_board.proofs.TableLists.{there, get_there, one_value}
 use Rattle.msg_board.proofs.Steps.{closes}
-use Rattle.msg_board.proofs.Passing.{done_same, all_handed_in}
+use Rattle.msg_board.proofs.PassSeats.{done_same, all_handed_in}
 use Rattle.msg_board.proofs.board.Board.close.Goals as goal
 
 pub results_of-requires-clause-done : goal.results_of-requires-clause-done
@@ -30,7 +30,12 @@ returns-clause-lawful g c = let b = board_of c.self.inside in let is = c.self.vi
       as_many = taken.as_many ∙ (counts ∙ slots);
       each = λ k j d at gives. let t = closed.0.1 k j (get_there (jobs_of b) k j at) in
           subst (g.W.Work.lawful j) (done_same t.0 d (one_value _ _ _ t.1 (taken.each k d gives))) t.2;
-    }) c.results_of.ensures)
+    }) c.results_of.ensures.results)
+
+pub returns-clause-refused : goal.returns-clause-refused
+returns-clause-refused g c =
+    let many = c.close_with.ensures.counts.1 ∙ c.self.invariant.slots ∙ ap (λ v. length (jobs_of v)) c.self.view_is in
+    subst (λ n. OnErr c.results_of.result (0 < n)) many c.results_of.ensures.refused
 
 pub returns-clause-drawn_once : goal.returns-clause-drawn_once
 returns-clause-drawn_once g c = let b = board_of c.self.inside in let is = c.self.view_is in

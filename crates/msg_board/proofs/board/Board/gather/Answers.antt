@@ -1,10 +1,10 @@
 use Rattle.std.proofs.Common.{rules, ap, sym, ◌∙◌, arith, subst}
 use Rattle.std.specs.List.{All}
 use Rattle.msg_board.specs.Board.{HasEnded}
-use Rattle.msg_board.specs.Seats.{carried}
-use Rattle.msg_board.proofs.Lists.{All-split_last}
+use Rattle.msg_board.specs.inner.Seats.{carried}
+use Rattle.msg_board.proofs.TableLists.{All-split_last}
 use Rattle.msg_board.proofs.Steps.{unites}
-use Rattle.msg_board.proofs.Passing.{gathers_first, gathers, gathered}
+use Rattle.msg_board.proofs.PassSeats.{gathers_first, gathers, gathered}
 use Rattle.msg_board.proofs.board.Board.gather.Goals as goal
 
 pub loop-pass-init : goal.loop-pass-init

@@ -1,8 +1,8 @@
 use Rattle.std.proofs.Common.{ap, sym, ◌∙◌, arith, length}
 use Rattle.msg_board.specs.Board.{jobs_of}
-use Rattle.msg_board.specs.Seats.{carried}
+use Rattle.msg_board.specs.inner.Seats.{carried}
 use Rattle.msg_board.proofs.Steps.{draws}
-use Rattle.msg_board.proofs.Passing.{drew_sound, drew_said, unfinished_more}
+use Rattle.msg_board.proofs.PassSeats.{drew_sound, drew_said, unfinished_more}
 use Rattle.msg_board.proofs.board.Board.try_next.Goals as goal
 
 pub fetch_max-found-requires : goal.fetch_max-found-requires

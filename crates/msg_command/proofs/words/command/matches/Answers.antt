@@ -1,7 +1,7 @@
 use Rattle.std.proofs.Common.{◌∙◌, ap}
 use Rattle.clap.specs.Words.{App, takes}
 use Rattle.msg_command.specs.CommandLine.{texts_of}
-use Rattle.msg_command.proofs.Told.{found_in, told_of}
+use Rattle.msg_command.proofs.ClapErrors.{found_in, told_of}
 use Rattle.msg_command.proofs.words.command.matches.Goals as goal
 
 -- where clap takes the words, its only error is want of memory

@@ -4,7 +4,7 @@ use Rattle.std.proofs.lemmas.Result.{IfErr-weaker}
 use Rattle.clap.specs.Words.{fault_of}
 use Rattle.msg_command.specs.Asked.{IsToldOf, asked_by}
 use Rattle.msg_command.specs.CommandLine.{msgrun_app, texts_of}
-use Rattle.msg_command.proofs.Taken.{takes_asks}
+use Rattle.msg_command.proofs.ClapTakesAsk.{takes_asks}
 use Rattle.msg_command.proofs.words.parse.parse_words.Goals as goal
 
 -- words that clap takes ask for something, or for a run on what is no number of workers, so that else only want of memory

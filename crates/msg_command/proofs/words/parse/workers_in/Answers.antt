@@ -1,4 +1,4 @@
-use Rattle.msg_command.proofs.Numerals.{is_named, is_no_number}
+use Rattle.msg_command.proofs.WorkerNumbers.{is_named, is_no_number}
 use Rattle.msg_command.proofs.words.parse.workers_in.Goals as goal
 
 pub returns-in_default-clause-number : goal.returns-in_default-clause-number

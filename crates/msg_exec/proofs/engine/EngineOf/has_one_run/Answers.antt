@@ -1,4 +1,4 @@
-use Rattle.msg_exec.proofs.Engines.{has_one_run}
+use Rattle.msg_exec.proofs.EngineRunsFrames.{has_one_run}
 use Rattle.msg_exec.proofs.engine.EngineOf.has_one_run.Goals as goal
 
 pub returns : goal.returns

@@ -6,16 +6,18 @@ use Rattle.msg_order.specs.Graph.{IsAcyclic}
 use Rattle.msg_order.specs.Order.{rules_among}
 use Rattle.msg_order.specs.Plan.{IsPlanOf}
 use Rattle.msg_world.specs.declared.access.Access.{Access}
-use Rattle.msg_exec.specs.declared.place.Place.{Place}
+use Rattle.msg_frames.specs.declared.place.Place.{Place}
 use Rattle.msg_exec.specs.declared.engine_core.Core.{Core}
-use Rattle.msg_exec.specs.Building.{AreNoTotals, EachIs, IsAccessAt, IsActorAt, RefusesForCycle, all_rules}
+use Rattle.msg_exec.specs.Building.{EachIs}
+use Rattle.msg_exec.specs.inner.Building.{AreNoTotals, IsAccessAt, IsGuardedAt, RefusesForCycle}
+use Rattle.msg_frames.specs.FirstState.{all_rules, first_state, unjoined}
 use Rattle.msg_exec.specs.Cores.{Schedule}
-use Rattle.msg_exec.specs.Frames.{first_state, with_joining}
-use Rattle.msg_exec.specs.Stages.{AreJoins}
-use Rattle.msg_exec.specs.State.{State, joined}
-use Rattle.msg_exec.proofs.Founding.{are_new, before_first, joins_are, none_clashes, none_more, nothing_read, refusal_for_rules, schedule_first, stage_is_first}
-use Rattle.msg_exec.proofs.Framing.{joined_by_frame, schedule_along}
-use Rattle.msg_exec.proofs.Keeping.{joining_on_keeps}
+use Rattle.msg_frames.specs.Frames.{with_joining}
+use Rattle.msg_exec.specs.Lender.{AreJoins}
+use Rattle.msg_frames.specs.State.{State, joined}
+use Rattle.msg_exec.proofs.FirstEngineStands.{are_new, joins_are, none_clashes, none_more, nothing_read, refusal_for_rules, schedule_first, lender_is_first}
+use Rattle.msg_exec.proofs.CoreRunsFrame.{joined_by_frame, schedule_along}
+use Rattle.msg_frames.proofs.SystemsStay.{joining_on_keeps}
 use Rattle.msg_exec.proofs.engine.EngineOf.new.Goals as goal
 
 pub returns-in-Err-clause-refusal : goal.returns-in-Err-clause-refusal
@@ -45,14 +47,14 @@ join_those-requires-clause-stands g c κs within =
     let size : length xs ≡ length systems = c.in_ok-accesses.ensures.as_many ∙ ap length c.deref.ensures.value in
     let accesses : EachIs (IsAccessAt m systems places) xs = subst (λ ys. EachIs (IsAccessAt m ys places) xs) c.deref.ensures.value
     (subst (λ ps. EachIs (IsAccessAt m c.deref.result.now ps) xs) c.deref-2.ensures.value c.in_ok-accesses.ensures.accesses) in
-    let actors = subst (λ ps. EachIs (IsActorAt m systems ps) c.in_ok-actors.actors.items) c.deref-9.ensures.value c.in_ok-actors.ensures.actors in
+    let guarded = subst (λ ps. EachIs (IsGuardedAt m systems ps) c.in_ok-guarded.guarded.items) c.deref-9.ensures.value c.in_ok-guarded.ensures.guarded in
     let many : length c.in_ok-totals.totals.items ≡ length systems = omega (arith, c.in_ok-totals.ensures.as_many, c.len.ensures) in
     let totals : EachIs (λ i v. AreNoTotals (length c.args.world.types) v.items) c.in_ok-totals.totals.items = subst (λ n. EachIs (λ i v. AreNoTotals n v.items) c.in_ok-totals.totals.items) c.types.ensures.types c.in_ok-totals.ensures.totals in
     let joins = joins_are m c.args.world systems places c.requires.whole c.requires.one_place_each c.requires.each c.deref-10.result.now c.args.rules.items w
     (c.deref-10.ensures.value ∙ c.in_ok-joins.ensures.joins ∙ ap (map (λ (place : Place). place.join)) c.deref-5.ensures.value) in (
-      before_first (map m systems) places c.args.rules.items (length c.args.world.types) w,
+      unjoined (map m systems) places c.args.rules.items (length c.args.world.types) w,
       (
-        stage_is_first m c.args.world systems places c.requires.whole c.requires.one_place_each c.requires.each _ c.args.rules.items refl c.in_ok-actors.ensures.as_many size many actors accesses totals w c.stands_for_some.ensures.state.1,
+        lender_is_first m c.args.world systems places c.requires.whole c.requires.one_place_each c.requires.each _ c.args.rules.items refl c.in_ok-guarded.ensures.as_many size many guarded accesses totals w c.stands_for_some.ensures.state.1,
         joins,
         nothing_read m c.args.world systems places c.requires.whole c.requires.one_place_each c.requires.each c.args.rules.items w,
       ),
@@ -72,24 +74,24 @@ returns-clause-meaning g c w stands =
     let size : length xs ≡ length systems = c.in_ok-accesses.ensures.as_many ∙ ap length c.deref.ensures.value in
     let accesses : EachIs (IsAccessAt m systems places) xs = subst (λ ys. EachIs (IsAccessAt m ys places) xs) c.deref.ensures.value
     (subst (λ ps. EachIs (IsAccessAt m c.deref.result.now ps) xs) c.deref-2.ensures.value c.in_ok-accesses.ensures.accesses) in
-    let actors = subst (λ ps. EachIs (IsActorAt m systems ps) c.in_ok-actors.actors.items) c.deref-9.ensures.value c.in_ok-actors.ensures.actors in
+    let guarded = subst (λ ps. EachIs (IsGuardedAt m systems ps) c.in_ok-guarded.guarded.items) c.deref-9.ensures.value c.in_ok-guarded.ensures.guarded in
     let many : length c.in_ok-totals.totals.items ≡ length systems = omega (arith, c.in_ok-totals.ensures.as_many, c.len.ensures) in
     let totals : EachIs (λ i v. AreNoTotals (length c.args.world.types) v.items) c.in_ok-totals.totals.items = subst (λ n. EachIs (λ i v. AreNoTotals n v.items) c.in_ok-totals.totals.items) c.types.ensures.types c.in_ok-totals.ensures.totals in
-    let first : State = before_first (map m systems) places c.args.rules.items (length c.args.world.types) w in
+    let first : State = unjoined (map m systems) places c.args.rules.items (length c.args.world.types) w in
     let s : State = with_joining 1 first in
     let js : List ℕ = c.in_ok-joins.joins.items in
     let joins : AreJoins js first = joins_are m c.args.world systems places c.requires.whole c.requires.one_place_each c.requires.each js c.args.rules.items w
     (c.in_ok-joins.ensures.joins ∙ ap (map (λ (place : Place). place.join)) c.deref-5.ensures.value) in
     let fresh = nothing_read m c.args.world systems places c.requires.whole c.requires.one_place_each c.requires.each c.args.rules.items w in
-    let stage = stage_is_first m c.args.world systems places c.requires.whole c.requires.one_place_each c.requires.each _ c.args.rules.items refl c.in_ok-actors.ensures.as_many size many actors accesses totals w stands in
+    let lender = lender_is_first m c.args.world systems places c.requires.whole c.requires.one_place_each c.requires.each _ c.args.rules.items refl c.in_ok-guarded.ensures.as_many size many guarded accesses totals w stands in
     let none : (joined : List Bool) → length joined ≡ length systems → IsAcyclic (rules_among joined c.args.rules.items) =
     none_more c.fewer_systems_make_no_cycle.ensures.law (length systems) c.args.rules.items (returns-clause-no_cycle g c) in
-    let core : Core g.row.S.Denot = record { stage = c.join_those.new.stage; joins = c.in_ok-joins.joins; rules = c.args.rules; plan = c.in_ok-plan.plan } in
-    let schedule : Schedule m core s = schedule_along m core first s (joining_on_keeps 1 first)
+    let core : Core g.row.S.Denot = record { lender = c.join_those.new.lender; joins = c.in_ok-joins.joins; rules = c.args.rules; plan = c.in_ok-plan.plan } in
+    let schedule : Schedule core s = schedule_along core first s (joining_on_keeps 1 first)
     (schedule_first m core c.args.world systems places c.args.rules.items w c.requires.few c.requires.one_place_each c.requires.each c.requires.in_range none refl joins) in
     record {
       core = record {
-        stage = c.join_those.ensures.joined first stage (subst (λ ys. AreJoins ys first) (sym c.deref-10.ensures.value) joins) fresh;
+        lender = c.join_those.ensures.joined first lender (subst (λ ys. AreJoins ys first) (sym c.deref-10.ensures.value) joins) fresh;
         schedule = schedule;
         plan = subst (λ (v : Vec Access). IsPlanOf v.items c.args.rules.items (joined s) c.in_ok-plan.plan) (sym c.join_those.ensures.accesses)
             (subst (λ bs. IsPlanOf xs c.args.rules.items bs c.in_ok-plan.plan) (joined_by_frame js s 1 schedule.joins (omega arith))

@@ -1,7 +1,7 @@
 use Rattle.std.proofs.Common.{refl, sym, ap, ◌∙◌, inr}
 use Rattle.std.proofs.lemmas.Bool.{false≢true}
 use Rattle.std.specs.Result.{is_ok}
-use Rattle.msg_exec.proofs.Engines.{core_taken, replayed, stood_for}
+use Rattle.msg_exec.proofs.EngineRunsFrames.{core_taken, replayed, stood_for}
 use Rattle.msg_exec.proofs.engine.EngineOf.replay_frame.Goals as goal
 
 pub returns-clause-replayed : goal.returns-clause-replayed

@@ -1,5 +1,5 @@
 use Rattle.std.proofs.Common.{inr}
-use Rattle.msg_exec.proofs.Engines.{core_taken, frame_run, stood_for}
+use Rattle.msg_exec.proofs.EngineRunsFrames.{core_taken, frame_run, stood_for}
 use Rattle.msg_exec.proofs.engine.EngineOf.run_frame.Goals as goal
 
 pub returns-clause-ran : goal.returns-clause-ran

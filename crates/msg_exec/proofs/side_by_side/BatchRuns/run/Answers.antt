@@ -6,7 +6,7 @@ use Rattle.msg_world.specs.Parts.{Parts, SameShape}
 use Rattle.msg_system.specs.declared.condition.Condition.{Condition}
 use Rattle.msg_system.specs.Conditions.{Asked, after_asking, all_hold}
 use Rattle.msg_system.specs.Systems.{turn}
-use Rattle.msg_exec.proofs.Doing.{nothing_else, ran_job}
+use Rattle.msg_exec.proofs.JobsAreDone.{nothing_else, ran_job}
 use Rattle.msg_exec.proofs.side_by_side.BatchRuns.run.Goals as goal
 
 pub returns : goal.returns
@@ -18,9 +18,9 @@ returns g c =
     let P : Parts → Type 0 = λ p. SameShape p taken in
     let shape : SameShape job.taken taken = subst P c.open-lent.ensures.taken c.in_ok-taken.ensures.shape in
     let none = nothing_else job.access job.taken taken c.requires.may.loan.written shape in
-    let there : c.deref_mut.result.now ≡ job.actor.guards.items = c.deref_mut.ensures.value in
+    let there : c.deref_mut.result.now ≡ job.guarded.guards.items = c.deref_mut.ensures.value in
     let f : Asked → Condition = λ a. a.condition in
-    let as_many : length c.check_all.new.guards ≡ length job.actor.guards.items =
+    let as_many : length c.check_all.new.guards ≡ length job.guarded.guards.items =
     sym (length-map c.check_all.new.guards f) ∙ ap length c.check_all.ensures.same ∙ length-map c.deref_mut.result.now f ∙ ap length there in
     record {
       lawful = record {
@@ -29,11 +29,11 @@ returns g c =
           shape = shape;
           after = λ w world lent.
               let stands = c.open-lent.ensures.meaning w world lent in
-              ran_job g.S.System.meaning job.actor _ l taken w job.number _ _ _ c.new-replies.ensures.items c.from_vec.ensures.items
+              ran_job g.S.System.meaning job.guarded _ l taken w job.number _ _ _ c.new-replies.ensures.items c.from_vec.ensures.items
               (sym c.if-not-check_all.false ∙ c.check_all.ensures.answer w stands ∙ ap (λ gs. all_hold gs w) there)
-              (with_items_is job.actor.guards c.check_all.new.guards (omega (arith, as_many)) ∙ c.check_all.ensures.moved w stands ∙ ap (λ gs. map (after_asking w) gs) there)
+              (with_items_is job.guarded.guards c.check_all.new.guards (omega (arith, as_many)) ∙ c.check_all.ensures.moved w stands ∙ ap (λ gs. map (after_asking w) gs) there)
               ran stands
-              (c.what_is_given_back_stands.ensures.law l taken (turn (g.S.System.meaning job.actor.system) w).state
+              (c.what_is_given_back_stands.ensures.law l taken (turn (g.S.System.meaning job.guarded.system) w).state
               (λ p isnt. none p (ap (λ (a : Access). writes a p) (sym c.open-lent.ensures.access) ∙ isnt)) (ran.state w stands));
         };
       };

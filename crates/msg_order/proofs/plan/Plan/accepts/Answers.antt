@@ -1,26 +1,26 @@
 use Rattle.std.proofs.Common.{◌≡◌, ◌<◌, ◌≤◌, ℕ, Bool, length, get_or, map, sym, ap, subst, ◌∙◌, refl, arith}
 use Rattle.std.proofs.lemmas.Bool.{false≢true, false_from_ne_true}
 use Rattle.std.proofs.lemmas.List.{get_or_read}
-use Rattle.msg_order.specs.SystemSet.{has, meets, no_set}
+use Rattle.msg_order.specs.inner.SystemSet.{has, meets, no_set}
 use Rattle.msg_order.specs.Order.{has_joined}
-use Rattle.msg_order.specs.Paths.{set_at}
-use Rattle.msg_order.proofs.Words.{meets-found, meets-true}
-use Rattle.msg_order.proofs.Viewing.{edges_of, joined_of, lawful_same}
-use Rattle.msg_order.proofs.Accepting.{AreTaken, taken_first, taken_next, taken_all, not_joined, not_left, not_open, not_all}
+use Rattle.msg_order.specs.inner.Paths.{set_at}
+use Rattle.msg_order.proofs.SystemSets.{meets-found, meets-true}
+use Rattle.msg_order.proofs.PlanViews.{seen_edges, seen_joined, lawful_same}
+use Rattle.msg_order.proofs.AcceptedOrders.{AreTaken, taken_first, taken_next, taken_all, not_joined, not_left, not_open, not_all}
 use Rattle.msg_order.proofs.plan.Plan.accepts.Goals as goal
 use Rattle.msg_order.proofs.plan.Plan.accepts.Goals.{then-system-len-via-then-system-len, then-system-len-via-else-system-len+then-not-contains, then-system-len-via-else-system-len+else-not-contains+then-meets}
 
 pub loop-system-init : goal.loop-system-init
 loop-system-init _g c = taken_first c.args.self.now.precedes c.args.self.now.joined (has c.self.inside.joined) c.args.order.now
-    (joined_of c.args.self.now c.self.inside.before.items c.self.inside.joined (map (λ b. b.items) c.self.inside.batches.items) c.self.view_is c.self.invariant)
+    (seen_joined c.args.self.now c.self.inside.before.items c.self.inside.joined (map (λ b. b.items) c.self.inside.batches.items) c.self.view_is c.self.invariant)
 
 pub loop-system-preserved : goal.loop-system-preserved
 loop-system-preserved _g c =
     let before = c.self.inside.before.items in
     let set = c.self.inside.joined in
     let bs = map (λ b. b.items) c.self.inside.batches.items in
-    let edges = edges_of c.args.self.now before set bs c.self.view_is c.self.invariant in
-    let joined = joined_of c.args.self.now before set bs c.self.view_is c.self.invariant in
+    let edges = seen_edges c.args.self.now before set bs c.self.view_is c.self.invariant in
+    let joined = seen_joined c.args.self.now before set bs c.self.view_is c.self.invariant in
     let k : ℕ = c.loop-system.system-index in
     let s : ℕ = get_or c.args.order.now k 0 in
     let at : c.index.result.now ≡ set_at before s = get_or_read before s _ (omega arith) c.index.ensures no_set in
@@ -38,8 +38,8 @@ returns-then-system-len-clause-keeps_what_precedes _g c =
     let bs = map (λ b. b.items) c.self.inside.batches.items in
     let g = c.args.self.now.precedes in
     let systems = c.args.self.now.joined in
-    let edges = edges_of c.args.self.now before set bs c.self.view_is c.self.invariant in
-    let joined = joined_of c.args.self.now before set bs c.self.view_is c.self.invariant in
+    let edges = seen_edges c.args.self.now before set bs c.self.view_is c.self.invariant in
+    let joined = seen_joined c.args.self.now before set bs c.self.view_is c.self.invariant in
     let order = c.args.order.now in
     let k : ℕ = c.loop-system.system-index in
     let s : ℕ = get_or order k 0 in (
@@ -69,8 +69,8 @@ returns-clause-keeps_what_precedes _g c =
     let bs = map (λ b. b.items) c.self.inside.batches.items in
     let g = c.args.self.now.precedes in
     let systems = c.args.self.now.joined in
-    let edges = edges_of c.args.self.now before set bs c.self.view_is c.self.invariant in
-    let joined = joined_of c.args.self.now before set bs c.self.view_is c.self.invariant in
+    let edges = seen_edges c.args.self.now before set bs c.self.view_is c.self.invariant in
+    let joined = seen_joined c.args.self.now before set bs c.self.view_is c.self.invariant in
     let order = c.args.order.now in
     let left : ℕ → Bool = has c.loop-system.left in
     let all : c.loop-system.system-index ≡ length order = omega arith in

@@ -1,5 +1,5 @@
-use Rattle.msg_order.specs.SystemSet.{has}
-use Rattle.msg_order.proofs.Accepting.{AreTaken}
+use Rattle.msg_order.specs.inner.SystemSet.{has}
+use Rattle.msg_order.proofs.AcceptedOrders.{AreTaken}
 use Rattle.msg_order.proofs.plan.Plan.accepts.Given as goal
 
 abbrev pub invariant-loop-system : goal.invariant-loop-system

@@ -1,9 +1,9 @@
 use Rattle.std.proofs.Common.{◌≡◌, ◌<◌, ℕ, length, map, ap, sym, ◌∙◌, arith}
 use Rattle.std.proofs.lemmas.Bool.{false≢true}
 use Rattle.std.proofs.lemmas.List.{get_or_read}
-use Rattle.msg_order.specs.SystemSet.{has, no_set}
-use Rattle.msg_order.specs.Paths.{comes_before}
-use Rattle.msg_order.proofs.Viewing.{edges_of}
+use Rattle.msg_order.specs.inner.SystemSet.{has, no_set}
+use Rattle.msg_order.specs.inner.Paths.{comes_before}
+use Rattle.msg_order.proofs.PlanViews.{seen_edges}
 use Rattle.msg_order.proofs.plan.Plan.precedes.Goals as goal
 use Rattle.msg_order.proofs.plan.Plan.precedes.Goals.{then-earlier-len-via-then-earlier-len, then-earlier-len-via-else-earlier-len+then-later-len}
 
@@ -12,7 +12,7 @@ returns-then-earlier-len _g c =
     let before = c.self.inside.before.items in
     let i : ℕ = c.args.earlier in
     let j : ℕ = c.args.later in
-    let edges = edges_of c.args.self.now before c.self.inside.joined (map (λ b. b.items) c.self.inside.batches.items) c.self.view_is c.self.invariant i j in record {
+    let edges = seen_edges c.args.self.now before c.self.inside.joined (map (λ b. b.items) c.self.inside.batches.items) c.self.view_is c.self.invariant i j in record {
       edge = (
         λ t. absurd (false≢true t),
         λ e.
@@ -31,7 +31,7 @@ returns _g c =
     let before = c.self.inside.before.items in
     let i : ℕ = c.args.earlier in
     let j : ℕ = c.args.later in
-    let edges = edges_of c.args.self.now before c.self.inside.joined (map (λ b. b.items) c.self.inside.batches.items) c.self.view_is c.self.invariant i j in
+    let edges = seen_edges c.args.self.now before c.self.inside.joined (map (λ b. b.items) c.self.inside.batches.items) c.self.view_is c.self.invariant i j in
     let is : c.contains.result ≡ comes_before before i j = c.contains.ensures ∙ ap (λ s. has s i) (get_or_read before j _ (omega arith) c.index.ensures no_set) in record {
       edge = (
         λ t. edges.1 (sym is ∙ t),

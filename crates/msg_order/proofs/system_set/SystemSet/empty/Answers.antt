@@ -1,6 +1,6 @@
 use Rattle.std.proofs.Common.{◌≡◌, ℕ, zero, suc, ◌/◌, ◌%◌, ◌∷◌, [], List, get_or, refl}
 use Rattle.msg_world.proofs.Bits.{has_bit-zero}
-use Rattle.msg_order.specs.SystemSet.{has}
+use Rattle.msg_order.specs.inner.SystemSet.{has}
 use Rattle.msg_order.proofs.system_set.SystemSet.empty.Goals as goal
 
 abbrev zeros : List ℕ

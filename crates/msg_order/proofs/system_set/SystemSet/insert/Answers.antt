@@ -1,6 +1,6 @@
 use Rattle.std.proofs.Common.{◌≡◌, length, rules}
-use Rattle.msg_order.specs.SystemSet.{has}
-use Rattle.msg_order.proofs.Words.{words-insert}
+use Rattle.msg_order.specs.inner.SystemSet.{has}
+use Rattle.msg_order.proofs.SystemSets.{words-insert}
 use Rattle.msg_order.proofs.system_set.SystemSet.insert.Goals as goal
 
 pub returns : goal.returns

@@ -1,7 +1,7 @@
 use Rattle.std.proofs.Common.{◌≡◌, not, inl, inr, sym, ap, ◌∙◌, arith, rules, length}
 use Rattle.std.proofs.lemmas.Bool.{cases_Bool, cases_lt, not-true, false≢true, false_from_ne_true}
-use Rattle.msg_order.specs.SystemSet.{has}
-use Rattle.msg_order.proofs.Words.{meets-found, meets-true, has-above}
+use Rattle.msg_order.specs.inner.SystemSet.{has}
+use Rattle.msg_order.proofs.SystemSets.{meets-found, meets-true, has-above}
 use Rattle.msg_order.proofs.system_set.SystemSet.is_empty.Goals as goal
 
 pub returns : goal.returns

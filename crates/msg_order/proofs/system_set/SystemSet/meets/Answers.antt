@@ -2,8 +2,8 @@ use Rattle.std.proofs.Common.{◌<◌, ◌≤◌, ℕ, ◌+◌, ◌*◌, ◌/◌
 use Rattle.std.specs.Prelude.{bit_and}
 use Rattle.std.proofs.lemmas.Nat.{and_le_l}
 use Rattle.msg_world.proofs.Bits.{some_bit}
-use Rattle.msg_order.specs.SystemSet.{has, meets}
-use Rattle.msg_order.proofs.Words.{any_below-none, any_below-found, has_bit-apart, words-share}
+use Rattle.msg_order.specs.inner.SystemSet.{has, meets}
+use Rattle.msg_order.proofs.SystemSets.{none_below, some_below, has_bit-apart, words-share}
 use Rattle.msg_order.proofs.system_set.SystemSet.meets.Goals as goal
 
 pub returns : goal.returns
@@ -11,7 +11,7 @@ unfolding has meets
 returns c =
     let xs = c.args.self.now.words in
     let ys = c.args.other.now.words in
-    sym (any_below-none (λ k. has c.args.self.now k && has c.args.other.now k) 256 (λ k h.
+    sym (none_below (λ k. has c.args.self.now k && has c.args.other.now k) 256 (λ k h.
     has_bit-apart (get_or xs (k / 64) 0) (get_or ys (k / 64) 0) (k % 64) (c.loop-i.invariant (k / 64) (omega arith))))
 
 pub returns-then-self-i-ne0 : goal.returns-then-self-i-ne0
@@ -25,5 +25,5 @@ returns-then-self-i-ne0 c =
     let fits : a < 2 ^ 64 = search rules in
     let le : bit_and a b ≤ a = and_le_l a b in
     let bit = some_bit (bit_and a b) (omega arith) c.if-self-i-ne0.true in
-    sym (any_below-found (λ k. has c.args.self.now k && has c.args.other.now k) (64 * i + bit.0) 256 (omega (arith, bit.1.0))
+    sym (some_below (λ k. has c.args.self.now k && has c.args.other.now k) 256 (64 * i + bit.0) (omega (arith, bit.1.0))
     (words-share xs ys i bit.0 (64 * i + bit.0) bit.1.0 refl bit.1.1))

@@ -1,8 +1,8 @@
 use Rattle.std.proofs.Common.{◌≡◌, ◌/◌, ◌%◌, inl, inr, get_or, length, arith, rules}
 use Rattle.std.proofs.lemmas.Bool.{cases_lt}
 use Rattle.msg_world.proofs.Bits.{has_bit-or}
-use Rattle.msg_order.specs.SystemSet.{has}
-use Rattle.msg_order.proofs.Words.{past_or}
+use Rattle.msg_order.specs.inner.SystemSet.{has}
+use Rattle.msg_order.proofs.SystemSets.{past_or}
 use Rattle.msg_order.proofs.system_set.SystemSet.union_with.Goals as goal
 
 pub returns : goal.returns

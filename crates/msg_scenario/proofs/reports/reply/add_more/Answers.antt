@@ -10,7 +10,7 @@ loop-k-preserved c =
     (spaced _ _ _ _ _ c.in_ok-extend_from_slice.ensures.items c.in_ok-add_item.ensures)
     (omega (arith, c.from-first.ensures)) c.loop-k-test.true
 
-pub returns : goal.returns
-returns c =
+pub returns-clause-appends : goal.returns-clause-appends
+returns-clause-appends c =
     numbered_all (next_item c.args.scenario.now) (c.args.before + 1) c.args.items.now c.loop-k.k _ _
     c.loop-k.invariant (omega (arith, c.loop-k-test.false))

@@ -1,5 +1,5 @@
 use Rattle.std.proofs.Common.{◌≡◌, ◌+◌, ◌<◌, ◌≤◌, ℕ, List, length, get_or, refl, sym, ap, ◌∙◌, subst, arith, inl, inr}
-use Rattle.msg_exec.specs.declared.frame.Frame.{Frame}
+use Rattle.msg_frames.specs.declared.frame.Frame.{Frame}
 use Rattle.msg_reading.specs.Runnable.{PostsAreToTypes}
 use Rattle.msg_files.proofs.Puts.{of_err, on_err, on_err_then, on_ok_then}
 use Rattle.msg_scenario.proofs.Reporting.{accounts_out, frame_put, frame_stopped, just_run, no_memory_for_frame, out_printed, posts_fit, readers_put, readers_stopped, report_begun, stopped_printed}
@@ -55,7 +55,7 @@ loop-frame-preserved g c =
     let frame = c.frame-item.result in
     let items = c.as_slice-frame-items.result.now in
     let same = c.as_slice-frame-items.ensures.items in
-    let just = just_run meaning s c.frames_keep_programs.ensures.law k _ _ c.loop-frame.engine c.run_frame.new.self frame c.in-Ok.log
+    let just = just_run meaning s c.frames_keep_the_systems.ensures.law k _ _ c.loop-frame.engine c.run_frame.new.self frame c.in-Ok.log
     c.loop-frame.invariant.so_far (below s.frames items k same c.loop-frame-test.true) (frame_is s.frames items k frame same c.frame-item.is)
     c.in-Ok.ensures.ran in record {
       so_far = frame_put meaning s k _ _ _ frame c.in-Ok.log c.run_frame.new.self (c.loop-frame.number + 1) just
@@ -72,7 +72,7 @@ returns-in_err-put_frame-clause-stopped g c cause =
     let frame = c.frame-item.result in
     let items = c.as_slice-frame-items.result.now in
     let same = c.as_slice-frame-items.ensures.items in
-    let just = just_run meaning s c.frames_keep_programs.ensures.law k _ _ c.loop-frame.engine c.run_frame.new.self frame c.in-Ok.log
+    let just = just_run meaning s c.frames_keep_the_systems.ensures.law k _ _ c.loop-frame.engine c.run_frame.new.self frame c.in-Ok.log
     c.loop-frame.invariant.so_far (below s.frames items k same c.loop-frame-test.true) (frame_is s.frames items k frame same c.frame-item.is)
     c.in-Ok.ensures.ran in
     frame_stopped meaning s k _ _ _ frame c.in-Ok.log c.run_frame.new.self (c.loop-frame.number + 1) just
@@ -86,7 +86,7 @@ returns-in_err-put_frame-clause-prefix g c =
     let frame = c.frame-item.result in
     let items = c.as_slice-frame-items.result.now in
     let same = c.as_slice-frame-items.ensures.items in
-    let just = just_run meaning s c.frames_keep_programs.ensures.law k _ _ c.loop-frame.engine c.run_frame.new.self frame c.in-Ok.log
+    let just = just_run meaning s c.frames_keep_the_systems.ensures.law k _ _ c.loop-frame.engine c.run_frame.new.self frame c.in-Ok.log
     c.loop-frame.invariant.so_far (below s.frames items k same c.loop-frame-test.true) (frame_is s.frames items k frame same c.frame-item.is)
     c.in-Ok.ensures.ran in
     on_err _ c.from_residual.result _

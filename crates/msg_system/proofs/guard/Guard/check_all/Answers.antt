@@ -4,8 +4,9 @@ use Rattle.std.proofs.lemmas.List.{length-map}
 use Rattle.msg_system.specs.declared.condition.Condition.{Condition}
 use Rattle.msg_system.specs.Conditions.{Asked, after_asking, all_hold, answer}
 use Rattle.msg_system.specs.Needs.{condition_needs}
-use Rattle.msg_system.specs.Systems.{Covers}
-use Rattle.msg_system.proofs.Asking.{all_hold_more, moved_later, not_reached, rest_later, seen_here}
+use Rattle.msg_system.specs.Promises.{Covers}
+use Rattle.msg_system.proofs.AllConditions.{all_hold_more, seen_here}
+use Rattle.msg_system.proofs.InPlace.{changed_later, not_reached, rest_later}
 use Rattle.msg_system.proofs.guard.Guard.check_all.Goals as goal
 
 pub check-all-requires : goal.check-all-requires
@@ -28,7 +29,7 @@ loop-guard-preserved c =
     record {
       answer = λ s stands. ap (λ b. b && c.check-all.result) (inv.answer s stands)
           ∙ ap (λ b. all_hold (take i xs) s && b) (c.check-all.ensures.answer s stands ∙ ap (λ (a : Asked). answer a s) here) ∙ sym (all_hold_more xs i d s lx);
-      moved = λ s stands. moved_later xs ys i inv.rest lx ly (after_asking s) c.check-all.new.self d (inv.moved s stands)
+      moved = λ s stands. changed_later xs ys i inv.rest lx ly (after_asking s) c.check-all.new.self d (inv.moved s stands)
           (c.check-all.ensures.moved s stands ∙ ap (after_asking s) here);
       same = map-set_same (λ (a : Asked). a.condition) ys i c.check-all.new.self d c.check-all.ensures.same ∙ inv.same;
       rest = rest_later xs ys i inv.rest lx ly c.check-all.new.self;

@@ -1,8 +1,8 @@
-use Rattle.std.proofs.Common.{refl, subst}
+use Rattle.std.proofs.Common.{refl}
 use Rattle.msg_world.specs.Access.{OfType}
 use Rattle.msg_system.specs.declared.op.Op.TheVariants.{Forward}
-use Rattle.msg_system.specs.OpRuns.{OpRan, one_place}
-use Rattle.msg_system.proofs.Runs.{one_place_at, one_place_moved, only_covers_read, only_covers_written, ran_only}
+use Rattle.msg_system.proofs.Runs.{only_covers_read, only_covers_written}
+use Rattle.msg_system.proofs.Turns.{one_op_ran}
 use Rattle.msg_system.proofs.relay.RelaySystem.run.Goals as goal
 
 pub forward-requires-clause-read : goal.forward-requires-clause-read
@@ -14,8 +14,5 @@ forward-requires-clause-written c = let b = c.args.self.now in only_covers_writt
 pub returns-clause-ran : goal.returns-clause-ran
 returns-clause-ran c =
     let s = c.args.self.now in
-    let ran = subst (λ places. OpRan (Forward s.from s.to) s.writer (one_place s.from s.cursor) places c.args.lent c.forward.new.lent c.in_ok-forward.field-0)
-    (one_place_moved s.from s.cursor c.forward.new.cursor)
-    (c.in_ok-forward.ensures.ran (one_place s.from s.cursor) (one_place_at s.from s.cursor)) in
-    rw c.in_ok-push.ensures.items (ran_only (Forward s.from s.to) s.start s.writer (one_place s.from s.cursor) (one_place s.from c.forward.new.cursor) c.args.lent c.forward.new.lent
-    c.into_taken.result c.args.out.now.items c.in_ok-forward.field-0 ran c.in_ok-forward.ensures.same c.into_taken.ensures.taken)
+    one_op_ran (Forward s.from s.to) s.start s.writer s.from s.cursor c.forward.new.cursor c.args.lent c.forward.new.lent c.into_taken.result c.args.out.now.items _
+    c.in_ok-forward.field-0 c.in_ok-forward.ensures.ran c.in_ok-forward.ensures.same c.into_taken.ensures.taken c.in_ok-push.ensures.items

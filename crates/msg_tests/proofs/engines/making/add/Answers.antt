@@ -1,8 +1,8 @@
 use Rattle.std.proofs.Common.{◌≡◌, [], ◌∷◌, length, sym, ap, subst, arith}
 use Rattle.std.proofs.lemmas.List.{length-append}
-use Rattle.msg_system.specs.Systems.{new_system}
+use Rattle.msg_frames.specs.FirstState.{IsNew}
 use Rattle.msg_exec.specs.Building.{EachIs}
-use Rattle.msg_tests.proofs.Making.{each_pushed}
+use Rattle.msg_exec.proofs.ItemsOfLists.{each_pushed}
 use Rattle.msg_tests.proofs.engines.making.add.Goals as goal
 
 pub returns : goal.returns
@@ -11,7 +11,7 @@ returns g c =
     let xs = c.args.systems.now.items in
     let pushed = c.in_ok-push.ensures.items in
     record {
-      new = subst (EachIs (λ i x. m x ≡ new_system (m x).program i)) (sym pushed)
-          (each_pushed (λ i x. m x ≡ new_system (m x).program i) xs c.args.system c.requires.new c.requires.its);
+      new = subst (EachIs (λ i x. IsNew i (m x))) (sym pushed)
+          (each_pushed (λ i x. IsNew i (m x)) (λ i x. IsNew i (m x)) xs c.args.system c.requires.new (λ i x lt is. is) c.requires.its);
       as_many = (let sum = length-append xs (c.args.system ∷ []) in let same = ap length pushed in omega (arith, same, sum));
     }

@@ -2,10 +2,10 @@ use Rattle.std.proofs.Common.{◌≡◌, ◌+◌, ◌<◌, ◌≤◌, ℕ, Some,
 use Rattle.std.specs.Prelude.{IsTrue, slice_get}
 use Rattle.std.proofs.lemmas.Bool.Decides.{eqb_tells}
 use Rattle.std.proofs.lemmas.Option.{slice_get_within}
-use Rattle.msg_system.specs.Needs.{job_needs, needs_any}
-use Rattle.msg_exec.specs.declared.place.Place.{Place}
+use Rattle.msg_system.specs.Needs.{needs_any, with_conditions}
+use Rattle.msg_frames.specs.declared.place.Place.{Place}
 use Rattle.msg_exec.specs.Building.{MayBeAdded}
-use Rattle.msg_tests.proofs.Making.{read_is, read_there}
+use Rattle.msg_exec.proofs.ItemsOfLists.{read_is, read_there}
 use Rattle.msg_tests.proofs.engines.making.all_fit.Goals as goal
 
 pub loop-i-preserved : goal.loop-i-preserved
@@ -20,7 +20,7 @@ loop-i-preserved g c k x lt there =
     let same : (place : Place) → slice_get places i ≡ Some place → q ≡ place = λ place sp. read_is places i q place (omega (arith, below, c.requires.one_place_each)) c.index-places-i.is sp in
     let its : MayBeAdded m c.args.world.now places i r = record {
       new = c.requires.new i r (read_there xs i r below c.index-systems-i.is);
-      fits = λ place sp p needed. c.if-not-fits.ensures.has refl p (subst (λ (y : Place). IsTrue (needs_any (job_needs (m r).program.ops y.conditions) p)) (sym (same place sp)) needed);
+      fits = λ place sp p needed. c.if-not-fits.ensures.has refl p (subst (λ (y : Place). IsTrue (needs_any (with_conditions (m r).needs y.conditions) p)) (sym (same place sp)) needed);
       joins = λ place sp. subst (λ (y : Place). (1 ≤ y.join) × (y.join ≤ 10000)) (same place sp) (c.if-not-fits.ensures.joins refl);
     } in
     elim (eqb_tells k i) [

@@ -4,7 +4,7 @@ use Rattle.std.proofs.lemmas.Bool.{false≢true}
 use Rattle.msg_world.specs.declared.access.Access.{Access}
 use Rattle.msg_world.specs.Access.{OfResource, OfType, Part, Registry, uses, writes}
 use Rattle.msg_world.specs.Parts.{Has, Parts, slot}
-use Rattle.msg_system.specs.Needs.{IsAccessOf, Needs, job_needs, needs_any}
+use Rattle.msg_system.specs.Needs.{IsAccessOf, Needs, needs_any, with_conditions}
 use Rattle.msg_tests.proofs.engines.making.fits.Goals as goal
 
 within : {X : Type 0} (xs : List (Option X)) (t : ℕ) → IsSome (slice_index_or xs t None) → t < length xs
@@ -23,10 +23,10 @@ used n a p of needed = ap (λ b. b || writes a p) (of.reads p) ∙ ap (λ b. n.r
 
 pub returns : goal.returns
 returns g c =
-    let needs = c.job_access-access.ensures.needs (g.S.System.meaning c.args.system.now).program.ops c.access.ensures.needs in
+    let needs = c.job_access-access.ensures.needs (g.S.System.meaning c.args.system.now).needs c.access.ensures.needs in
     let same = c.as_slice.ensures.items in
     record {
       has = λ home p needed. has_part c.args.world.now p (c.is_home.ensures.home.0 home p
-          (used _ c.job_access-access.result p (subst (λ cs. IsAccessOf (job_needs (g.S.System.meaning c.args.system.now).program.ops cs) c.job_access-access.result) same needs) needed));
+          (used _ c.job_access-access.result p (subst (λ cs. IsAccessOf (with_conditions (g.S.System.meaning c.args.system.now).needs cs) c.job_access-access.result) same needs) needed));
       joins = λ home. (let late = c.if-place-eq0.false in omega (arith, late), c.if-place-gt10000.false);
     }

@@ -1,4 +1,4 @@
-use Rattle.msg_world.proofs.Parts.{conflicts_lem}
+use Rattle.msg_world.proofs.Conflicts.{conflicts_lem}
 use Rattle.msg_world.proofs.access.Access.conflicts.Goals as goal
 
 pub returns : goal.returns

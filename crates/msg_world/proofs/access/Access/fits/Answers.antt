@@ -1,6 +1,6 @@
 use Rattle.std.proofs.Common.{sym, ◌∙◌}
 use Rattle.std.proofs.lemmas.Bool.{false≢true}
-use Rattle.msg_world.proofs.Parts.{is_below-or}
+use Rattle.msg_world.proofs.Conflicts.{is_below-or}
 use Rattle.msg_world.proofs.access.Access.fits.Goals as goal
 
 pub returns-then-is_below : goal.returns-then-is_below

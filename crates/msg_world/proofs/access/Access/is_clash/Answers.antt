@@ -1,7 +1,7 @@
 use Rattle.std.proofs.Common.{inl, inr, sym, ◌∙◌}
 use Rattle.std.proofs.lemmas.Bool.{false≢true}
 use Rattle.msg_world.specs.Access.{OfType, OfResource}
-use Rattle.msg_world.proofs.Parts.{is_clash-masks}
+use Rattle.msg_world.proofs.Conflicts.{is_clash-masks}
 use Rattle.msg_world.proofs.access.Access.is_clash.Goals as goal
 
 pub returns-then-share_bit : goal.returns-then-share_bit

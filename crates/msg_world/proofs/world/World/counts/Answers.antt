@@ -4,7 +4,7 @@ use Rattle.msg_buffer.specs.Kept.{Kept}
 use Rattle.msg_world.specs.declared.record.Record.{Record}
 use Rattle.msg_world.specs.Access.{OfType}
 use Rattle.msg_world.specs.Parts.{Parts}
-use Rattle.msg_world.specs.Slots.{BufferStands, at}
+use Rattle.msg_world.specs.inner.Slots.{BufferStands, at}
 use Rattle.msg_world.proofs.world.World.counts.Goals as goal
 
 pub returns-clause-meaning : goal.returns-clause-meaning

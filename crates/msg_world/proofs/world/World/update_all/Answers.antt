@@ -7,7 +7,7 @@ use Rattle.msg_buffer.specs.Kept.{Kept}
 use Rattle.msg_world.specs.declared.record.Record.{Record}
 use Rattle.msg_world.specs.Access.{Registry}
 use Rattle.msg_world.specs.Parts.{Parts, PartsStand, SameShape, slot}
-use Rattle.msg_world.specs.Slots.{AllUpdated}
+use Rattle.msg_world.specs.inner.Slots.{AllUpdated}
 use Rattle.msg_world.proofs.Worlds.{others_update, types_updated_shape, waiting_stays}
 use Rattle.msg_world.proofs.world.World.update_all.Goals as goal
 

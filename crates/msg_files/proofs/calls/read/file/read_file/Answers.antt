@@ -49,7 +49,7 @@ returns-in_err-limit c =
     record {
       agrees = Agrees_err (checks_of d) (file_of d) e c.from_residual.result (passed.1 ∙ ap (λ f. Err f) passed.2) (
         c.in_err-limit.ensures.agrees.0,
-        λ m. root ∙ first_refusal-stands (limit_checks limit) (list_checks list) e (c.in_err-limit.ensures.agrees.1 m),
+        λ m. root ∙ first_refusal-stands (limit_checks limit) (list_checks list) e c.in_err-limit.ensures.agrees.1,
       );
     }
 

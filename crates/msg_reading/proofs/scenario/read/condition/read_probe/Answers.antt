@@ -3,7 +3,7 @@ use Rattle.std.specs.Prelude.{option_map}
 use Rattle.serde_json.specs.View.{view}
 use Rattle.msg_reading.specs.ScenarioChecks.{probe_checks}
 use Rattle.msg_reading.specs.ScenarioDenotes.{probe_with}
-use Rattle.msg_files.specs.Walk.{Agrees}
+use Rattle.msg_files.specs.Walk.{IsAnswer}
 use Rattle.msg_reading.proofs.Conditions.{probe_of_many}
 use Rattle.msg_reading.proofs.Parts.{one_of, two_of}
 use Rattle.msg_reading.proofs.scenario.read.condition.read_probe.Goals as goal
@@ -14,7 +14,7 @@ returns-in-len1 c =
     let nots = c.args.nots in
     let head = c.args.head.now in
     let one = one_of c.args.parts.now c.part-item.result c.in-len1.len_at_least c.in-len1.len_below c.part-item.is in record {
-      agrees = subst (λ xs. Agrees (probe_checks names nots head (map view xs))
+      agrees = subst (λ xs. IsAnswer (probe_checks names nots head (map view xs))
           (option_map (λ probe. record { nots = nots; probe = probe }) (probe_with names head (map view xs)))
           c.read_on_message.result) (sym one) c.read_on_message.ensures.agrees;
     }
@@ -26,7 +26,7 @@ returns-in-len2 c =
     let head = c.args.head.now in
     let two = two_of c.args.parts.now c.part-item-then-parts-lt3.result c.other-item.result
     c.in-len2.len_at_least c.in-len2.len_below c.part-item-then-parts-lt3.is c.other-item.is in record {
-      agrees = subst (λ xs. Agrees (probe_checks names nots head (map view xs))
+      agrees = subst (λ xs. IsAnswer (probe_checks names nots head (map view xs))
           (option_map (λ probe. record { nots = nots; probe = probe }) (probe_with names head (map view xs)))
           c.read_resource_equals.result) (sym two) c.read_resource_equals.ensures.agrees;
     }
@@ -35,6 +35,6 @@ pub returns-in-len3-up : goal.returns-in-len3-up
 returns-in-len3-up c = record {
   agrees = (
     λ same. cc,
-    λ _. probe_of_many c.args.names.now c.args.nots c.args.head.now c.args.parts.now c.in-len3-up.len_at_least,
+    probe_of_many c.args.names.now c.args.nots c.args.head.now c.args.parts.now c.in-len3-up.len_at_least,
   );
 }

@@ -7,7 +7,7 @@ use Rattle.msg_reading.specs.Names.{type_number}
 use Rattle.msg_reading.specs.ScenarioChecks.{a_type, is_text}
 use Rattle.msg_reading.specs.ScenarioDenotes.{both, text}
 use Rattle.msg_files.specs.declared.refusal.Refusal.TheVariants.{Shape, UnknownName}
-use Rattle.msg_files.proofs.Shapes.{Agrees_err}
+use Rattle.msg_files.proofs.Shapes.{IsAnswer_err}
 use Rattle.msg_reading.proofs.Parts.{last_unknown}
 use Rattle.msg_reading.proofs.scenario.read.part.two_types.Goals as goal
 
@@ -21,11 +21,11 @@ returns-in_err-type_no-2 c =
     let d = view c.args.from.now in
     let e = view c.args.to.now in
     record {
-      agrees = Agrees_err (needs (is_text d && is_text e) Shape ∷ a_type names d ∷ a_type names e ∷ [])
+      agrees = IsAnswer_err (needs (is_text d && is_text e) Shape ∷ a_type names d ∷ a_type names e ∷ [])
           (both (λ a b. (a, b)) (type_number names (text d)) (type_number names (text e)))
           UnknownName residual.result (passed.1 ∙ ap (λ e. Err e) (passed.2 ∙ found.0)) (
             λ same. cc,
-            λ _. last_unknown d e c.in_ok-from.from.now c.in_ok-from.to.now
+            last_unknown d e c.in_ok-from.from.now c.in_ok-from.to.now
                 (type_number names) (type_number names) c.in_ok-type_no.field-0 are.0 are.1
                 c.in_ok-type_no.ensures.found found.1,
           );

@@ -7,7 +7,7 @@ use Rattle.msg_reading.specs.Names.{resource_number, type_number}
 use Rattle.msg_reading.specs.ScenarioChecks.{a_resource, a_type, is_text}
 use Rattle.msg_reading.specs.ScenarioDenotes.{both, text}
 use Rattle.msg_files.specs.declared.refusal.Refusal.TheVariants.{Shape, UnknownName}
-use Rattle.msg_files.proofs.Shapes.{Agrees_err}
+use Rattle.msg_files.proofs.Shapes.{IsAnswer_err}
 use Rattle.msg_reading.proofs.Parts.{last_unknown}
 use Rattle.msg_reading.proofs.scenario.read.part.type_and_resource.Goals as goal
 
@@ -21,11 +21,11 @@ returns-in_err-res_no c =
     let d = view c.args.of_type.now in
     let e = view c.args.resource.now in
     record {
-      agrees = Agrees_err (needs (is_text d && is_text e) Shape ∷ a_type names d ∷ a_resource names e ∷ [])
+      agrees = IsAnswer_err (needs (is_text d && is_text e) Shape ∷ a_type names d ∷ a_resource names e ∷ [])
           (both (λ a b. (a, b)) (type_number names (text d)) (resource_number names (text e)))
           UnknownName residual.result (passed.1 ∙ ap (λ e. Err e) (passed.2 ∙ found.0)) (
             λ same. cc,
-            λ _. last_unknown d e c.in_ok-of_type.of_type.now c.in_ok-of_type.resource.now
+            last_unknown d e c.in_ok-of_type.of_type.now c.in_ok-of_type.resource.now
                 (type_number names) (resource_number names) c.in_ok-type_no.field-0 are.0 are.1
                 c.in_ok-type_no.ensures.found found.1,
           );

@@ -30,7 +30,8 @@ returns-in_err-join c =
       agrees = Agrees_err (place_checks names d) (place_of names d) e residual.result
           (passed.1 ∙ ap (λ f. Err f) passed.2)
           (goes_on (list_checks 8 (condition_checks names) (conditions_in d)) (join_checks (join_in d)) e
-          c.in_ok-conditions.ensures.agrees.0 c.in_err-join.ensures.agrees);
+          c.in_ok-conditions.ensures.agrees.0
+          (c.in_err-join.ensures.agrees.0, λ _. c.in_err-join.ensures.agrees.1));
     }
 
 pub returns : goal.returns

@@ -7,7 +7,7 @@ use Rattle.msg_reading.specs.Names.{system_number}
 use Rattle.msg_reading.specs.ScenarioChecks.{a_system, is_text}
 use Rattle.msg_reading.specs.ScenarioDenotes.{both, text}
 use Rattle.msg_files.specs.declared.refusal.Refusal.TheVariants.{Shape, UnknownName}
-use Rattle.msg_files.proofs.Shapes.{Agrees_err}
+use Rattle.msg_files.proofs.Shapes.{IsAnswer_err}
 use Rattle.msg_reading.proofs.Parts.{last_unknown}
 use Rattle.msg_reading.proofs.scenario.read.rule.read_rule.Goals as goal
 
@@ -21,11 +21,11 @@ returns-in_err-system_no-2 c =
     let d = view c.args.earlier.now in
     let e = view c.args.later.now in
     record {
-      agrees = Agrees_err (needs (is_text d && is_text e) Shape ∷ a_system names d ∷ a_system names e ∷ [])
+      agrees = IsAnswer_err (needs (is_text d && is_text e) Shape ∷ a_system names d ∷ a_system names e ∷ [])
           (both (λ i j. record { earlier = i; later = j }) (system_number names (text d)) (system_number names (text e)))
           UnknownName residual.result (passed.1 ∙ ap (λ e. Err e) (passed.2 ∙ found.0)) (
             λ same. cc,
-            λ _. last_unknown d e c.in_ok-earlier.earlier.now c.in_ok-earlier.later.now
+            last_unknown d e c.in_ok-earlier.earlier.now c.in_ok-earlier.later.now
                 (system_number names) (system_number names) c.in_ok-system_no.field-0 are.0 are.1
                 c.in_ok-system_no.ensures.found found.1,
           );

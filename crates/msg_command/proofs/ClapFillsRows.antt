@@ -1,0 +1,422 @@
+-- What words that clap takes leave of a subcommand: each row has a value.
+use Rattle.std.proofs.Common.{◌≡◌, ℕ, zero, suc, length, List, [], ◌∷◌, ◌++◌, refl, sym, ap, ◌∙◌, Option, Some, None, Bool, true, false, codes, subst}
+use Rattle.std.specs.Prelude.{fold, find, if◌then◌else◌, encode_utf8, drop, is_some, ◌&&◌, ◌||◌, cond, slice_get, not, nat_le, option_and_then}
+use Rattle.std.specs.Str.{bytes_eq, chars}
+use Rattle.std.specs.List.{list_all}
+use Rattle.std.specs.Option.{option_map_or}
+use Rattle.clap.specs.Words.{Row, Rule, Text, Shape, first_of}
+use Rattle.clap.specs.Facts.{explicit_source, unwrap_or_range}
+use Rattle.clap.specs.Lexer.{long_of, short_of}
+use Rattle.clap.proofs.OnLiterals.{clap_on_literals}
+use Rattle.clap.specs.Simple.{built_leaf, filled, help_rule, with_index}
+use Rattle.msg_command.specs.CommandLine.{buffer_app, file_rule, run_app, workers_rule}
+use Rattle.clap.specs.Walk.{Step, next, trailing, subcommand, value, has_long, has_short, bundle, option_word, reading_by, after_step, walked_from, default_rows, nothing_held, rows_after, walk, walk_from, Held, Names, Outcome, Waiting, Walk, done, waits, plain, refused, idle, option, positional, action_of, after_flag, arg_by_id, arg_by_index, arg_by_long, arg_by_short, attached_value, bundle_met, bundle_step, finished, flag_met, has_row, is_pending, long_met, long_or_other, more_values, option_met, plain_word, positional_held, reacted, settled, settled_rows, short_met, short_or_plain, subcommand_met, subcommand_or_other, takes_several, takes_values, to_positional, used, used_as, used_by_id, values_or_missing, walked, with_default, with_values, without, word_met}
+use Rattle.clap.specs.Takes.{default_passes, action_passes, bundle_passes, bundle_step_passes, flag_word_passes, flags_pass, is_given, level_passes, long_passes, option_passes, other_passes, positional_passes, react_passes, settle_passes, short_passes, step_passes, turn_passes, use_passes, walk_passes, word_passes}
+use Rattle.clap.specs.declared.parser.matches.ValueSource.{ValueSource}
+use Rattle.clap.specs.declared.parser.matches.ValueSource.TheVariants.{DefaultValue, CommandLine}
+use Rattle.clap.specs.declared.builder.value_parser.Reading.{Reading}
+use Rattle.clap.specs.declared.builder.ArgAction.TheVariants.{Set, Help}
+use Rattle.msg_command.proofs.Bools.{both, together}
+
+-- ---- rows
+
+-- there is one or more
+abbrev some_of : List Text → Bool
+some_of [] = false
+some_of (v ∷ vs) = true
+
+abbrev has_value : Row → Bool
+has_value r = some_of r.values
+
+-- each row has a value
+abbrev pub have_values : List Row → Bool
+have_values rows = list_all has_value rows
+
+-- more values are values
+longer : (xs ys : List Text) → some_of ys ≡ true → some_of (xs ++ ys) ≡ true
+longer [] ys h = h
+longer (x ∷ xs) ys h = refl
+
+with_values_keeps : (id : Text) (how : Reading) (s : ValueSource) (vs : List Text) (rows : List Row)
+    → some_of vs ≡ true → have_values rows ≡ true → have_values (with_values id how s vs rows) ≡ true
+with_values_keeps id how s vs [] some all = together _ _ some refl
+with_values_keeps id how s vs (r ∷ rs) some all =
+    let parts = both (has_value r) (have_values rs) all in
+    elim (bytes_eq r.id id) as (λ b. have_values (if b then more_values s vs r ++ rs else r ∷ with_values id how s vs rs) ≡ true) [
+      | true ↦ together _ _ (longer r.values vs some) parts.1
+      | false ↦ together _ _ parts.0 (with_values_keeps id how s vs rs some parts.1)
+    ]
+
+without_keeps : (id : Text) (rows : List Row) → have_values rows ≡ true → have_values (without id rows) ≡ true
+without_keeps id [] all = refl
+without_keeps id (r ∷ rs) all =
+    let parts = both (has_value r) (have_values rs) all in
+    elim (bytes_eq r.id id) as (λ b. have_values (if b then rs else r ∷ without id rs) ≡ true) [
+      | true ↦ parts.1
+      | false ↦ together _ _ parts.0 (without_keeps id rs parts.1)
+    ]
+
+-- ---- uses
+
+-- a use that passes leaves rows that have values
+abbrev Valued : Rule → Type 0
+Valued a = (again : Bool) (vs : List Text) (rows : List Row) → use_passes again a vs rows ≡ true → have_values rows ≡ true
+    → have_values (used a vs rows) ≡ true
+
+abbrev EachValued : List Rule → Type 0
+EachValued [] = Unit {0}
+EachValued (a ∷ rest) = Valued a × EachValued rest
+
+abbrev IfValued : Option Rule → Type 0
+IfValued None = Unit {0}
+IfValued (Some a) = Valued a
+
+found_valued : (test : Rule → Bool) (c : List Rule) → EachValued c → IfValued (find test c)
+found_valued test [] each = tt
+found_valued test (a ∷ rest) each =
+    elim (test a) as (λ b. IfValued (cond b (Some a) (find test rest))) [
+      | true ↦ each.0
+      | false ↦ found_valued test rest each.1
+    ]
+
+-- an argument of one value or more
+set_valued : (a : Rule) → action_of a ≡ Set → nat_le (unwrap_or_range a.range).start_inclusive 0 ≡ false → Valued a
+set_valued a set least again [] rows passes all =
+    let parts = both (nat_le (unwrap_or_range a.range).start_inclusive 0) _ passes in cc
+set_valued a set least again (v ∷ vs) rows passes all =
+    subst (λ k. have_values (used_as k a.id (reading_by a) (v ∷ vs) rows) ≡ true) (sym set)
+    (with_values_keeps a.id _ CommandLine (v ∷ vs) (without a.id rows) refl (without_keeps a.id rows all))
+
+-- help never passes
+help_valued : (a : Rule) → action_of a ≡ Help → Valued a
+help_valued a help again vs rows passes all =
+    let parts = both (nat_le (unwrap_or_range a.range).start_inclusive (length vs)) _ passes in
+    let rest = both (nat_le (length vs) _) _ parts.1 in
+    let bad : false ≡ true = sym (ap (λ k. action_passes k again a (values_or_missing a vs) rows) help) ∙ rest.1 in cc
+
+-- ---- what is held
+
+by_id_keeps : (again : Bool) (o : Option Rule) (vs : List Text) (rows : List Row) → IfValued o
+    → option_map_or (λ a. use_passes again a vs rows) o true ≡ true → have_values rows ≡ true
+    → have_values (used_by_id o vs rows) ≡ true
+by_id_keeps again None vs rows fine passes all = all
+by_id_keeps again (Some a) vs rows fine passes all = fine again vs rows passes all
+
+settled_keeps : (c : List Rule) (again : Bool) (h : Held) → EachValued c → settle_passes c again h ≡ true
+    → have_values h.rows ≡ true → have_values (settled c h).rows ≡ true
+settled_keeps c again h fine passes all =
+    elim h.pending as (λ p. option_map_or (λ (p : Text × List Text). option_map_or (λ a. use_passes again a p.1 h.rows) (arg_by_id c p.0) true) p true ≡ true
+    → have_values (settled_rows c p h.rows) ≡ true) [
+      | None ↦ λ _. all
+      | Some p ↦ λ ok. by_id_keeps again (arg_by_id c p.0) p.1 h.rows (found_valued (λ a. bytes_eq a.id p.0) c fine) ok all
+    ] passes
+
+reacted_keeps : (c : List Rule) (again : Bool) (a : Rule) (vs : List Text) (h : Held) → EachValued c → Valued a
+    → react_passes c again a vs h ≡ true → have_values h.rows ≡ true → have_values (reacted c a vs h).rows ≡ true
+reacted_keeps c again a vs h fine its passes all =
+    let parts = both (settle_passes c again h) _ passes in
+    its again vs (settled c h).rows parts.1 (settled_keeps c again h fine parts.0 all)
+
+option_keeps : (c : List Rule) (again : Bool) (a : Rule) (v : Option Text) (h : Held) → EachValued c → Valued a
+    → option_passes c again a v h ≡ true → have_values h.rows ≡ true → have_values (option_met c a v h).0.rows ≡ true
+option_keeps c again a (Some v) h fine its passes all = reacted_keeps c again a (v ∷ []) h fine its passes all
+option_keeps c again a None h fine its passes all = settled_keeps c again h fine passes all
+
+long_keeps : (c : List Rule) (again : Bool) (o : Option Rule) (v : Option Text) (h : Held) → EachValued c → IfValued o
+    → long_passes c again o v h ≡ true → have_values h.rows ≡ true → have_values (long_met c o v h).0.rows ≡ true
+long_keeps c again None v h fine its passes all = cc
+long_keeps c again (Some a) (Some v) h fine its passes all =
+    elim (takes_values a) as (λ b. (if b then option_passes c again a (Some v) h else (not true && react_passes c again a [] h)) ≡ true
+    → have_values (if b then option_met c a (Some v) h else flag_met c a (Some v) h).0.rows ≡ true) [
+      | true ↦ λ ok. option_keeps c again a (Some v) h fine its ok all
+      | false ↦ λ ok. all
+    ] passes
+long_keeps c again (Some a) None h fine its passes all =
+    elim (takes_values a) as (λ b. (if b then option_passes c again a None h else (not false && react_passes c again a [] h)) ≡ true
+    → have_values (if b then option_met c a None h else flag_met c a None h).0.rows ≡ true) [
+      | true ↦ λ ok. option_keeps c again a None h fine its ok all
+      | false ↦ λ ok. reacted_keeps c again a [] h fine its ok all
+    ] passes
+
+-- ---- a word
+
+plain_rows : (c : List Rule) (w : Waiting) (word : Text) (h : Held) → (plain_word c w word h).0.rows ≡ h.rows
+plain_rows c idle word h = refl
+plain_rows c positional word h = refl
+plain_rows c (option id) word h =
+    elim (arg_by_id c id) as (λ o. (option_word o id word h).0.rows ≡ h.rows) [ None ↦ refl | Some a ↦ refl ]
+
+after_flag_rows : (c : List Rule) (w : Waiting) (word : Text) (h : Held) (o : Outcome) → (after_flag c w word h o).0.rows ≡ h.rows
+after_flag_rows c w word h done = refl
+after_flag_rows c w word h (waits id) = refl
+after_flag_rows c w word h plain = plain_rows c w word h
+after_flag_rows c w word h refused = plain_rows c w word h
+
+short_keeps : (c : List Rule) (again : Bool) (o : Option Rule) (rest : Text) (h : Held) (passing : Held → Bool)
+    (met : Held → Held × Outcome) → EachValued c → IfValued o
+    → ((g : Held) → passing g ≡ true → have_values g.rows ≡ true → have_values (met g).0.rows ≡ true)
+    → short_passes c again o rest h passing ≡ true → have_values h.rows ≡ true
+    → have_values (short_met c o rest h met).0.rows ≡ true
+short_keeps c again None rest h passing met fine its more passes all = cc
+short_keeps c again (Some a) rest h passing met fine its more passes all =
+    elim (takes_values a) as (λ b. (if b then option_passes c again a (attached_value rest) h else (react_passes c again a [] h && passing (reacted c a [] h))) ≡ true
+    → have_values (if b then option_met c a (attached_value rest) h else met (reacted c a [] h)).0.rows ≡ true) [
+      | true ↦ λ ok. option_keeps c again a (attached_value rest) h fine its ok all
+      | false ↦ λ ok.
+          let parts = both (react_passes c again a [] h) _ ok in
+          more (reacted c a [] h) parts.1 (reacted_keeps c again a [] h fine its parts.0 all)
+    ] passes
+
+-- the flags of a bundle, at most k of them, leave rows with values
+abbrev FlagsKeep : List Rule → Bool → ℕ → Type 0
+FlagsKeep c again k = (flags : Text) (skip : ℕ) (so_far : Outcome) (h : Held) → flags_pass c again k flags skip h ≡ true
+    → have_values h.rows ≡ true → have_values (bundle_met c k flags skip so_far h).0.rows ≡ true
+
+flag_keeps : (c : List Rule) (again : Bool) (k : ℕ) → EachValued c → FlagsKeep c again k
+    → (flags : Text) (skip : ℕ) (so_far : Outcome) (h : Held) (x : ℕ)
+    → bundle_step_passes c again (Some x) flags skip h (flags_pass c again k) ≡ true → have_values h.rows ≡ true
+    → have_values (bundle_step c (Some x) flags skip so_far h (bundle_met c k)).0.rows ≡ true
+flag_keeps c again k fine more flags zero so_far h x passes all =
+    let rest = drop (length (encode_utf8 x)) flags in
+    short_keeps c again (arg_by_short c x) rest h (flags_pass c again k rest 0) (bundle_met c k rest 0 done) fine
+    (found_valued (λ a. not (is_some a.index) && has_short a x) c fine) (λ g ok vs. more rest 0 done g ok vs) passes all
+flag_keeps c again k fine more flags (suc skip) so_far h x passes all =
+    more (drop (length (encode_utf8 x)) flags) skip so_far h passes all
+
+flags_keep : (c : List Rule) (again : Bool) (k : ℕ) → EachValued c → FlagsKeep c again k
+unfolding flags_pass bundle_met
+flags_keep c again zero fine flags skip so_far h passes all = all
+flags_keep c again (suc k) fine flags skip so_far h passes all =
+    elim (slice_get (chars flags) 0) as (λ o. bundle_step_passes c again o flags skip h (flags_pass c again k) ≡ true
+    → have_values (bundle_step c o flags skip so_far h (bundle_met c k)).0.rows ≡ true) [
+      | None ↦ λ ok. all
+      | Some x ↦ λ ok. flag_keeps c again k fine (flags_keep c again k fine) flags skip so_far h x ok all
+    ] passes
+
+short_word_keeps : (c : List Rule) (again : Bool) (w : Waiting) (word : Text) (flags : Option Text) (h : Held) → EachValued c
+    → option_map_or (λ f. bundle_passes c again f h) flags true ≡ true → have_values h.rows ≡ true
+    → have_values (short_or_plain c w word flags h).0.rows ≡ true
+short_word_keeps c again w word None h fine passes all = ap have_values (plain_rows c w word h) ∙ all
+short_word_keeps c again w word (Some f) h fine passes all =
+    ap have_values (after_flag_rows c w word (bundle c f h).0 (bundle c f h).1)
+    ∙ flags_keep c again (length f) fine f h.skip plain (record h { skip = 0 }) passes all
+
+flag_word_keeps : (c : List Rule) (again : Bool) (w : Waiting) (word : Text) (named : Option (Text × Option Text)) (h : Held)
+    → EachValued c → flag_word_passes c again named word h ≡ true → have_values h.rows ≡ true
+    → have_values (long_or_other c w word named h).0.rows ≡ true
+flag_word_keeps c again w word None h fine passes all = short_word_keeps c again w word (short_of word) h fine passes all
+flag_word_keeps c again w word (Some p) h fine passes all =
+    let met = long_met c (arg_by_long c p.0) p.1 h in
+    ap have_values (after_flag_rows c w word met.0 met.1)
+    ∙ long_keeps c again (arg_by_long c p.0) p.1 h fine (found_valued (λ a. not (is_some a.index) && has_long a p.0) c fine) passes all
+
+other_keeps : (s : Shape) (name : Option Text) (w : Waiting) (position : ℕ) (word : Text) (h : Held) → EachValued s.rules
+    → other_passes s name word h ≡ true → have_values h.rows ≡ true
+    → have_values (subcommand_or_other s.rules name w position word h).0.rows ≡ true
+other_keeps s (Some name) w position word h fine passes all = all
+other_keeps s None w position word h fine passes all =
+    elim (bytes_eq word (45 ∷ 45 ∷ [])) as (λ b. (b || flag_word_passes s.rules s.args_override_self (long_of word) word h) ≡ true
+    → have_values (if b then (h, trailing position) else long_or_other s.rules w word (long_of word) h).0.rows ≡ true) [
+      | true ↦ λ ok. all
+      | false ↦ λ ok. flag_word_keeps s.rules s.args_override_self w word (long_of word) h fine ok all
+    ] passes
+
+word_keeps : (s : Shape) (names : Names) (past : Bool) (w : Waiting) (position : ℕ) (word : Text) (h : Held) → EachValued s.rules
+    → word_passes s names past w word h ≡ true → have_values h.rows ≡ true
+    → have_values (word_met s.rules names past w position word h).0.rows ≡ true
+word_keeps s names true w position word h fine passes all = all
+word_keeps s names false w position word h fine passes all =
+    other_keeps s (subcommand_met names w word) w position word h fine passes all
+
+positional_keeps : (c : List Rule) (again : Bool) (a : Rule) (word : Text) (h : Held) → EachValued c
+    → positional_passes c again a h ≡ true → have_values h.rows ≡ true
+    → have_values (positional_held c a word h).rows ≡ true
+positional_keeps c again a word h fine passes all =
+    elim (is_pending a h.pending && takes_several a) as (λ b. (b || settle_passes c again h) ≡ true
+    → have_values (if b then h else settled c h).rows ≡ true) [
+      | true ↦ λ ok. all
+      | false ↦ λ ok. settled_keeps c again h fine ok all
+    ] passes
+
+step_keeps : (s : Shape) (w : Walk) (word : Text) (h : Held) (step : Step) → EachValued s.rules
+    → step_passes s w.position h step ≡ true → have_values h.rows ≡ true
+    → have_values (after_step s.rules word w h step).held.rows ≡ true
+step_keeps s w word h (next waiting) fine passes all = all
+step_keeps s w word h (trailing position) fine passes all = all
+step_keeps s w word h (subcommand name) fine passes all = all
+step_keeps s w word h value fine passes all =
+    elim (arg_by_index s.rules w.position) as (λ o. option_map_or (λ a. positional_passes s.rules s.args_override_self a h) o false ≡ true
+    → have_values (to_positional s.rules o word w h).held.rows ≡ true) [
+      | None ↦ λ ok. cc
+      | Some a ↦ λ ok. positional_keeps s.rules s.args_override_self a word h fine ok all
+    ] passes
+
+turn_keeps : (s : Shape) (names : Names) (w : Walk) (word : Text) → EachValued s.rules → turn_passes s names w word ≡ true
+    → have_values w.held.rows ≡ true → have_values (walked s.rules names w word).held.rows ≡ true
+unfolding walked
+turn_keeps s names w word fine passes all =
+    let met = word_met s.rules names w.is_trailing w.waiting w.position word w.held in
+    elim w.stopped as (λ o. (is_some o || (word_passes s names w.is_trailing w.waiting word w.held && step_passes s w.position met.0 met.1)) ≡ true
+    → have_values (walked_from s.rules names o w word).held.rows ≡ true) [
+      | Some p ↦ λ ok. all
+      | None ↦ λ ok.
+          let parts = both (word_passes s names w.is_trailing w.waiting word w.held) _ ok in
+          step_keeps s w word met.0 met.1 fine parts.1
+          (word_keeps s names w.is_trailing w.waiting w.position word w.held fine parts.0 all)
+    ] passes
+
+-- ---- all words
+
+walk_keeps : (s : Shape) (names : Names) (words : List Text) (w : Walk) → EachValued s.rules → walk_passes s names w words ≡ true
+    → have_values w.held.rows ≡ true → have_values (fold (walked s.rules names) w words).held.rows ≡ true
+unfolding walk_passes
+walk_keeps s names [] w fine passes all = all
+walk_keeps s names (word ∷ rest) w fine passes all =
+    let parts = both (turn_passes s names w word) _ passes in
+    walk_keeps s names rest (walked s.rules names w word) fine parts.1 (turn_keeps s names w word fine parts.0 all)
+
+default_keeps : (a : Rule) (rows : List Row) → have_values rows ≡ true → have_values (with_default rows a) ≡ true
+default_keeps a rows all =
+    elim (has_row a.id rows) as (λ b. have_values (if b then rows else default_rows a.id (reading_by a) a.defaults rows) ≡ true) [
+      | true ↦ all
+      | false ↦ elim a.defaults as (λ vs. have_values (default_rows a.id (reading_by a) vs rows) ≡ true) [
+        | [] ↦ all
+        | v ∷ vs ↦ with_values_keeps a.id (reading_by a) DefaultValue (v ∷ vs) rows refl all
+      ]
+    ]
+
+defaults_keep : (c : List Rule) (rows : List Row) → have_values rows ≡ true → have_values (fold with_default rows c) ≡ true
+defaults_keep [] rows all = all
+defaults_keep (a ∷ rest) rows all = defaults_keep rest (with_default rows a) (default_keeps a rows all)
+
+-- a row that is there has a first value
+value_there : (vs : List Text) → some_of vs ≡ true → (t : Text) × (slice_get vs 0 ≡ Some t)
+value_there [] some = cc
+value_there (v ∷ vs) some = (v, refl)
+
+pub first_there : (id : Text) (rows : List Row) → have_values rows ≡ true
+    → is_some (find (λ r. bytes_eq r.id id) rows) ≡ true → (t : Text) × (first_of id rows ≡ Some t)
+first_there id [] all there = cc
+first_there id (r ∷ rs) all there =
+    let parts = both (has_value r) (have_values rs) all in
+    elim (bytes_eq r.id id) as (λ b. is_some (cond b (Some r) (find (λ r. bytes_eq r.id id) rs)) ≡ true
+    → (t : Text) × (option_and_then (λ r. slice_get r.values 0) (cond b (Some r) (find (λ r. bytes_eq r.id id) rs)) ≡ Some t)) [
+      | true ↦ λ ok. value_there r.values parts.0
+      | false ↦ λ ok. first_there id rs parts.1 ok
+    ] there
+
+found_first : (b : Bool) (r : Row) (o : Option Row) → b ≡ true → is_some (cond b (Some r) o) ≡ true
+found_first true r o is = refl
+found_first false r o is = cc
+
+found_later : (b : Bool) (r : Row) (o : Option Row) → is_some o ≡ true → is_some (cond b (Some r) o) ≡ true
+found_later true r o is = refl
+found_later false r o is = is
+
+-- a default that is given is there
+with_values_there : (id : Text) (how : Reading) (s : ValueSource) (vs : List Text) (rows : List Row) → bytes_eq id id ≡ true
+    → is_some (find (λ r. bytes_eq r.id id) (with_values id how s vs rows)) ≡ true
+with_values_there id how s vs [] same = found_first (bytes_eq id id) _ None same
+with_values_there id how s vs (r ∷ rs) same =
+    elim (bytes_eq r.id id) as (λ b. bytes_eq r.id id ≡ b → is_some (find (λ r. bytes_eq r.id id) (if b then more_values s vs r ++ rs else r ∷ with_values id how s vs rs)) ≡ true) [
+      | true ↦ λ is. found_first (bytes_eq r.id id) _ _ is
+      | false ↦ λ is. found_later (bytes_eq r.id id) r _ (with_values_there id how s vs rs same)
+    ] refl
+
+row_there : (id : Text) (rows : List Row) → has_row id rows ≡ true → is_some (find (λ r. bytes_eq r.id id) rows) ≡ true
+row_there id [] h = h
+row_there id (r ∷ rs) h =
+    elim (bytes_eq r.id id) as (λ b. (b || has_row id rs) ≡ true → is_some (cond b (Some r) (find (λ r. bytes_eq r.id id) rs)) ≡ true) [
+      | true ↦ λ ok. refl
+      | false ↦ λ ok. row_there id rs ok
+    ] h
+
+pub default_there : (a : Rule) (rows : List Row) → bytes_eq a.id a.id ≡ true → some_of a.defaults ≡ true
+    → is_some (find (λ r. bytes_eq r.id a.id) (with_default rows a)) ≡ true
+default_there a rows same some =
+    elim (has_row a.id rows) as (λ b. has_row a.id rows ≡ b → is_some (find (λ r. bytes_eq r.id a.id) (if b then rows else default_rows a.id (reading_by a) a.defaults rows)) ≡ true) [
+      | true ↦ λ is. row_there a.id rows is
+      | false ↦ λ is. elim a.defaults as (λ vs. some_of vs ≡ true → is_some (find (λ r. bytes_eq r.id a.id) (default_rows a.id (reading_by a) vs rows)) ≡ true) [
+        | [] ↦ λ bad. cc
+        | v ∷ vs ↦ λ _. with_values_there a.id (reading_by a) DefaultValue (v ∷ vs) rows same
+      ] some
+    ] refl
+
+given_there : (id : Text) (rows : List Row) → is_given id rows ≡ true → is_some (find (λ r. bytes_eq r.id id) rows) ≡ true
+given_there id rows h =
+    elim (find (λ r. bytes_eq r.id id) rows) as (λ o. option_map_or (λ r. explicit_source r.source) o false ≡ true → is_some o ≡ true) [
+      | None ↦ λ ok. ok
+      | Some r ↦ λ ok. refl
+    ] h
+
+-- ---- the commands
+
+abbrev pub run_shape : Shape
+run_shape = built_leaf run_app.top
+
+abbrev file_built : Rule
+file_built = with_index 1 (filled file_rule)
+
+abbrev workers_built : Rule
+workers_built = with_index 2 (filled workers_rule)
+
+abbrev help_built : Rule
+help_built = with_index 2 (filled help_rule)
+
+-- ---- buffer FILE
+
+abbrev pub buffer_shape : Shape
+buffer_shape = built_leaf buffer_app.top
+
+buffer_valued : EachValued buffer_shape.rules
+unfolding clap_on_literals
+buffer_valued = (set_valued file_built refl refl, (help_valued help_built refl, tt))
+
+-- `buffer` takes words only with a FILE
+pub buffer_given : (words : List Text) → level_passes buffer_shape [] nothing_held words false ≡ true
+    → (file : Text) × (first_of (codes "FILE") (rows_after buffer_shape.rules [] words) ≡ Some file)
+unfolding clap_on_literals
+buffer_given words passes =
+    let parts = both (walk_passes buffer_shape [] (walk_from nothing_held) words) _ passes in
+    let end = (walk buffer_shape.rules [] nothing_held words).held in
+    let settles = both (settle_passes buffer_shape.rules false end) _ parts.1 in
+    let valid = (both (list_all default_passes buffer_shape.rules) _ settles.1).1 in
+    let kept = settled_keeps buffer_shape.rules false end buffer_valued settles.0
+    (walk_keeps buffer_shape [] words (walk_from nothing_held) buffer_valued parts.0 refl) in
+    let rows = finished buffer_shape.rules end in
+    let all : have_values rows ≡ true = defaults_keep buffer_shape.rules (settled buffer_shape.rules end).rows kept in
+    first_there (codes "FILE") rows all (given_there (codes "FILE") rows (both (is_given (codes "FILE") rows) _ valid).0)
+
+-- ---- run FILE --workers N
+
+run_valued : EachValued run_shape.rules
+unfolding clap_on_literals
+run_valued = (set_valued file_built refl refl, (set_valued workers_built refl refl, (help_valued help_built refl, tt)))
+
+-- the same whichever way it goes
+either_way : {X : Type 0} (b : Bool) (x : X) → (if b then x else x) ≡ x
+either_way true x = refl
+either_way false x = refl
+
+-- `run` takes words only with a FILE, and a number of workers is there, given or by default
+pub run_given : (words : List Text) → level_passes run_shape [] nothing_held words false ≡ true
+    → ((file : Text) × (first_of (codes "FILE") (rows_after run_shape.rules [] words) ≡ Some file))
+    × ((text : Text) × (first_of (codes "workers") (rows_after run_shape.rules [] words) ≡ Some text))
+unfolding clap_on_literals
+run_given words passes =
+    let parts = both (walk_passes run_shape [] (walk_from nothing_held) words) _ passes in
+    let end = (walk run_shape.rules [] nothing_held words).held in
+    let settles = both (settle_passes run_shape.rules false end) _ parts.1 in
+    let valid = (both (list_all default_passes run_shape.rules) _ settles.1).1 in
+    let kept = settled_keeps run_shape.rules false end run_valued settles.0
+    (walk_keeps run_shape [] words (walk_from nothing_held) run_valued parts.0 refl) in
+    let first = (settled run_shape.rules end).rows in
+    let rows = finished run_shape.rules end in
+    let all : have_values rows ≡ true = defaults_keep run_shape.rules first kept in
+    let file_row : is_some (find (λ r. bytes_eq r.id (codes "FILE")) rows) ≡ true =
+    given_there (codes "FILE") rows (both (is_given (codes "FILE") rows) _ valid).0 in
+    let before = with_default first file_built in
+    let workers_row : is_some (find (λ r. bytes_eq r.id (codes "workers")) rows) ≡ true =
+    ap (λ l. is_some (find (λ r. bytes_eq r.id (codes "workers")) l)) (either_way (has_row (codes "help") (with_default before workers_built)) (with_default before workers_built))
+    ∙ default_there workers_built before refl refl in
+    (first_there (codes "FILE") rows all file_row, first_there (codes "workers") rows all workers_row)

@@ -1,0 +1,184 @@
+-- Words that clap takes ask for something, or for a run on what is no number of workers: `buffer` has its FILE, `run` its
+-- FILE and a number, and nothing else is entered.
+use Rattle.std.proofs.Common.{◌≡◌, ◌⊎◌, inl, inr, ℕ, get_or, List, [], ◌∷◌, refl, sym, ap, ◌∙◌, subst, Option, Some, None, Bool, true, false, codes}
+use Rattle.std.specs.Prelude.{fold, is_some, ◌&&◌, ◌||◌, cond, if◌then◌else◌, not, option_and_then, option_map}
+use Rattle.std.specs.Str.{bytes_eq}
+use Rattle.std.specs.Option.{option_map_or}
+use Rattle.std.proofs.lemmas.Slice.Eq.{bytes_eq-Decides}
+use Rattle.clap.specs.Words.{Rule, Shape, Text, takes}
+use Rattle.clap.specs.Lexer.{long_of, short_of}
+use Rattle.clap.specs.Simple.{built, entered, names_of, rows_at}
+use Rattle.clap.specs.Walk.{Held, Names, Outcome, Step, Waiting, Walk, after_flag, after_step, arg_by_index, arg_by_long, bundle, done, idle, long_met, long_or_other, next, nothing_held, option, plain, plain_word, positional, refused, short_or_plain, stop_after, subcommand, subcommand_met, subcommand_or_other, to_positional, trailing, value, waits, walk_from, walked, walked_from, word_met}
+use Rattle.clap.specs.Takes.{entered_passes, level_passes, other_passes, step_passes, turn_passes, walk_passes, word_passes}
+use Rattle.clap.proofs.OnLiterals.{clap_on_literals}
+use Rattle.msg_command.specs.Asked.{IsRunOnNone, asked, asked_by, buffer as buffer_of, run_asked, workers_asked, workers_in}
+use Rattle.msg_command.specs.CommandLine.{msgrun_app}
+use Rattle.msg_command.proofs.Bools.{both}
+use Rattle.msg_command.proofs.ClapFillsRows.{buffer_given, run_given, run_shape}
+
+-- ---- a flag is no subcommand
+
+abbrev IsFlag : Step → Type 0
+IsFlag (next waiting) = Unit {0}
+IsFlag (trailing position) = Unit {0}
+IsFlag (subcommand name) = ⊥
+IsFlag value = Unit {0}
+
+plain_is : (c : List Rule) (w : Waiting) (word : Text) (h : Held) → IsFlag (plain_word c w word h).1
+plain_is c idle word h = tt
+plain_is c positional word h = tt
+plain_is c (option id) word h = tt
+
+after_is : (c : List Rule) (w : Waiting) (word : Text) (h : Held) (o : Outcome) → IsFlag (after_flag c w word h o).1
+after_is c w word h done = tt
+after_is c w word h (waits id) = tt
+after_is c w word h plain = plain_is c w word h
+after_is c w word h refused = plain_is c w word h
+
+short_is : (c : List Rule) (w : Waiting) (word : Text) (flags : Option Text) (h : Held)
+    → IsFlag (short_or_plain c w word flags h).1
+short_is c w word None h = plain_is c w word h
+short_is c w word (Some f) h = after_is c w word (bundle c f h).0 (bundle c f h).1
+
+flag_is : (c : List Rule) (w : Waiting) (word : Text) (named : Option (Text × Option Text)) (h : Held)
+    → IsFlag (long_or_other c w word named h).1
+flag_is c w word None h = short_is c w word (short_of word) h
+flag_is c w word (Some p) h =
+    let met = long_met c (arg_by_long c p.0) p.1 h in after_is c w word met.0 met.1
+
+-- ---- where a walk over words that pass stops, it isn't at `help`
+
+abbrev top : Shape
+top = (built msgrun_app).top
+
+abbrev names : Names
+names = names_of (built msgrun_app)
+
+abbrev NotHelp : Option (Text × List Text) → Type 0
+NotHelp None = Unit {0}
+NotHelp (Some p) = bytes_eq p.0 (codes "help") ≡ false
+
+not_help : (b : Bool) → (not b || false) ≡ true → b ≡ false
+not_help true h = cc
+not_help false h = refl
+
+-- a flag doesn't stop it
+flag_goes_on : (word : Text) (w : Walk) (h : Held) (step : Step) → IsFlag step → w.stopped ≡ None
+    → NotHelp (after_step top.rules word w h step).stopped
+flag_goes_on word w h (next waiting) is none = subst NotHelp (sym none) tt
+flag_goes_on word w h (trailing position) is none = subst NotHelp (sym none) tt
+flag_goes_on word w h (subcommand name) is none = absurd is
+flag_goes_on word w h value is none =
+    elim (arg_by_index top.rules w.position) as (λ o. NotHelp (to_positional top.rules o word w h).stopped) [
+      | None ↦ subst NotHelp (sym none) tt
+      | Some a ↦ tt
+    ]
+
+-- what a word is, after `--` or before, where it names this subcommand or none
+abbrev met : Bool → Option Text → Walk → Text → Held × Step
+met past name w word =
+    if past then (w.held, value) else subcommand_or_other top.rules name w.waiting w.position word w.held
+
+word_stops : (past : Bool) (name : Option Text) (w : Walk) (word : Text) → w.stopped ≡ None
+    → (past || other_passes top name word w.held) ≡ true
+    → NotHelp (after_step top.rules word w (met past name w word).0 (met past name w word).1).stopped
+unfolding clap_on_literals
+word_stops true name w word none passes = flag_goes_on word w w.held value tt none
+word_stops false (Some n) w word none passes = not_help (bytes_eq n (codes "help")) passes
+word_stops false None w word none passes =
+    let flag = long_or_other top.rules w.waiting word (long_of word) w.held in
+    elim (bytes_eq word (45 ∷ 45 ∷ [])) as (λ b. NotHelp (after_step top.rules word w
+    (if b then (w.held, trailing w.position) else flag).0 (if b then (w.held, trailing w.position) else flag).1).stopped) [
+      | true ↦ flag_goes_on word w w.held (trailing w.position) tt none
+      | false ↦ flag_goes_on word w flag.0 flag.1 (flag_is top.rules w.waiting word (long_of word) w.held) none
+    ]
+
+turn_stops : (w : Walk) (word : Text) → turn_passes top names w word ≡ true → NotHelp w.stopped
+    → NotHelp (walked top.rules names w word).stopped
+unfolding walked
+turn_stops w word passes so_far =
+    let here = word_met top.rules names w.is_trailing w.waiting w.position word w.held in
+    elim w.stopped as (λ o. w.stopped ≡ o
+    → (is_some o || (word_passes top names w.is_trailing w.waiting word w.held && step_passes top w.position here.0 here.1)) ≡ true
+    → NotHelp o → NotHelp (walked_from top.rules names o w word).stopped) [
+      | Some p ↦ λ is ok isnt. isnt
+      | None ↦ λ is ok isnt. word_stops w.is_trailing (subcommand_met names w.waiting word) w word is
+          (both (word_passes top names w.is_trailing w.waiting word w.held) _ ok).0
+    ] refl passes so_far
+
+walk_stops : (words : List Text) (w : Walk) → walk_passes top names w words ≡ true → NotHelp w.stopped
+    → NotHelp (fold (walked top.rules names) w words).stopped
+unfolding walk_passes
+walk_stops [] w passes so_far = so_far
+walk_stops (word ∷ rest) w passes so_far =
+    let parts = both (turn_passes top names w word) _ passes in
+    walk_stops rest (walked top.rules names w word) parts.1 (turn_stops w word parts.0 so_far)
+
+-- the name of the subcommand `help`, the other way round
+help_named : (name : Text) → bytes_eq name (codes "help") ≡ false → bytes_eq (codes "help") name ≡ false
+help_named name isnt =
+    elim (bytes_eq (codes "help") name) as (λ b. bytes_eq (codes "help") name ≡ b → b ≡ false) [
+      | true ↦ λ is.
+          let same = (bytes_eq-Decides (codes "help") name).0 is in
+          let bad : false ≡ true = sym isnt ∙ (bytes_eq-Decides name (codes "help")).1 (sym same) in cc
+      | false ↦ λ is. refl
+    ] refl
+
+-- ---- what is asked for
+
+-- words ask for something, or for a run on what is no number of workers
+abbrev Asks : List Text → Type 0
+Asks words = (is_some (asked words) ≡ true) ⊎ IsRunOnNone words
+
+-- the subcommands: `buffer`, `run` and `help`
+abbrev sub_at : ℕ → Shape
+sub_at k = get_or (built msgrun_app).subs k top
+
+-- the one that a name is of, by three tests of it
+abbrev found : Bool → Bool → Bool → Option Shape
+found a b c = cond a (Some (sub_at 0)) (cond b (Some (sub_at 1)) (cond c (Some (sub_at 2)) None))
+
+run_asks : (words rest : List Text)
+    → entered (built msgrun_app) (stop_after top.rules names words) ≡ Some (rows_at run_shape rest)
+    → level_passes run_shape [] nothing_held rest false ≡ true → Asks words
+unfolding clap_on_literals
+run_asks words rest sub passes =
+    let given = run_given rest passes in
+    let rows = (rows_at run_shape rest).1 in
+    let file = given.0.0 in
+    let text = given.1.0 in
+    elim (workers_in text) as (λ o. workers_in text ≡ o → Asks words) [
+      | Some n ↦ λ is. inl (ap (λ o. is_some (asked_by o)) sub
+          ∙ ap (λ o. is_some (run_asked o (workers_asked rows))) given.0.1
+          ∙ ap (λ o. is_some (run_asked (Some file) (option_and_then workers_in o))) given.1.1
+          ∙ ap (λ o. is_some (run_asked (Some file) o)) is)
+      | None ↦ λ is. inr (rows, text, sub, given.1.1, is)
+    ] refl
+
+found_asks : (words rest : List Text) (a b c : Bool) → c ≡ false
+    → entered (built msgrun_app) (stop_after top.rules names words) ≡ option_map (λ s. rows_at s rest) (found a b c)
+    → option_map_or (λ s. level_passes s [] nothing_held rest false) (found a b c) true ≡ true → Asks words
+unfolding clap_on_literals
+found_asks words rest true b c isnt sub passes =
+    let file = buffer_given rest passes in
+    inl (ap (λ o. is_some (asked_by o)) sub ∙ ap (λ o. is_some (option_map (λ f. buffer_of (Some f)) o)) file.1)
+found_asks words rest false true c isnt sub passes = run_asks words rest sub passes
+found_asks words rest false false true isnt sub passes = cc
+found_asks words rest false false false isnt sub passes = inl (ap (λ o. is_some (asked_by o)) sub)
+
+stopped_asks : (words : List Text) (o : Option (Text × List Text)) → stop_after top.rules names words ≡ o
+    → entered_passes (built msgrun_app) o ≡ true → NotHelp o → Asks words
+unfolding clap_on_literals
+stopped_asks words None is passes isnt = inl (ap (λ o. is_some (asked_by (entered (built msgrun_app) o))) is)
+stopped_asks words (Some (name, rest)) is passes isnt =
+    found_asks words rest (bytes_eq (codes "buffer") name || false) (bytes_eq (codes "run") name || false)
+    (bytes_eq (codes "help") name || false) (ap (λ b. b || false) (help_named name isnt))
+    (ap (entered (built msgrun_app)) is) passes
+
+-- what words that clap takes ask for
+pub takes_asks : (words : List Text) → takes msgrun_app words ≡ true → Asks words
+unfolding clap_on_literals
+takes_asks words passes =
+    let parts = both (entered_passes (built msgrun_app) (stop_after top.rules names words)) _ passes in
+    let walks = both (walk_passes top names (walk_from nothing_held) words) _ parts.1 in
+    stopped_asks words (stop_after top.rules names words) refl parts.0 (walk_stops words (walk_from nothing_held) walks.0 tt)

@@ -1,0 +1,10 @@
+use Rattle.std.proofs.Common.{◌≡◌, length}
+use Rattle.msg_exec.specs.Building.{EachIs}
+use Rattle.msg_exec.specs.inner.Building.{IsGuardedAt}
+use Rattle.msg_exec.proofs.building.guarded_systems.Given as goal
+
+abbrev pub invariant-loop-system : goal.invariant-loop-system
+invariant-loop-system g l = record {
+  as_many : length l.guarded.items ≡ length l.yielded;
+  guarded : EachIs (IsGuardedAt g.S.System.meaning l.yielded l.places) l.guarded.items;
+}

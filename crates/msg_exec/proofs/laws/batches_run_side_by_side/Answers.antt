@@ -1,5 +1,0 @@
-use Rattle.msg_exec.proofs.SideBySide.{side_by_side}
-use Rattle.msg_exec.proofs.laws.batches_run_side_by_side.Goals as goal
-
-pub returns : goal.returns
-returns c = record { law = side_by_side c.nothing_else_is_used.ensures.jobs }

@@ -1,0 +1,46 @@
+-- When the systems and the world that an engine keeps stand for a state.
+use Rattle.std.specs.Prelude.{◌≡◌, ℕ, ◌<◌, ◌≤◌, List, length, slice_get, slice_index, slice_index_or, Option, None, IsSomeAnd}
+use Rattle.msg_world.specs.Parts.{IsHome, IsWhole, PartsStand}
+use Rattle.msg_order.specs.Order.{access_of}
+use Rattle.msg_system.specs.Needs.{IsAccessOf}
+use Rattle.msg_system.specs.Systems.{Meaning}
+use Rattle.msg_exec.specs.declared.job.GuardedSystem.{GuardedSystem}
+use Rattle.msg_exec.specs.declared.lender.Lender.{Lender}
+use Rattle.msg_frames.specs.declared.totals.Totals.{Totals}
+use Rattle.msg_frames.specs.Frames.{needs_of}
+use Rattle.msg_exec.specs.Jobs.{job_state}
+use Rattle.msg_exec.specs.Keeping.{kept, totals_at}
+use Rattle.msg_frames.specs.State.{Member, State}
+
+-- the totals of a system, by type
+pub record TotalsStand (types : ℕ) (xs : List Totals) (totals : ℕ → Totals) : Type 0 where
+  pub as_many : length xs ≡ types
+  pub each : (t : ℕ) → t < types → totals_at xs t ≡ kept (totals t)
+
+module _ {S : Type 0} where
+  -- system i, where it is home
+  abbrev pub system_at : Lender S → ℕ → Option (GuardedSystem S)
+  system_at g i = slice_index_or g.systems.items i None
+
+module _ {S : Type 0} (meaning : S → Meaning) where
+  -- system i is there, and with its access and its totals stands for a member
+  pub record MemberStands (g : Lender S) (types i : ℕ) (m : Member) : Type 0 where
+    pub guarded : IsSomeAnd (system_at g i) (λ a. job_state meaning a ≡ m.job)
+    pub access : IsAccessOf (needs_of m) (access_of g.accesses.items i)
+    pub home : IsHome (access_of g.accesses.items i) g.world
+    pub totals : IsSomeAnd (slice_get g.totals.items i) (λ v. TotalsStand types v.items m.totals)
+
+  -- All are home, and each is what the state says.
+  pub record LenderStands (g : Lender S) (s : State) : Type 0 where
+    pub systems : length g.systems.items ≡ s.systems
+    pub accesses : length g.accesses.items ≡ s.systems
+    pub totals : length g.totals.items ≡ s.systems
+    pub members : (i : ℕ) → i < s.systems → MemberStands g s.types i (s.members i)
+    pub world : PartsStand g.world s.world
+    pub whole : IsWhole g.world
+    pub types : length g.world.types ≡ s.types
+
+-- the frames with which the systems join
+pub record AreJoins (joins : List ℕ) (s : State) : Type 0 where
+  pub as_many : length joins ≡ s.systems
+  pub each : (i : ℕ) → i < s.systems → slice_index joins i ≡ (s.members i).join

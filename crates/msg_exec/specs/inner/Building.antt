@@ -1,0 +1,46 @@
+-- What the parts of a new engine are, and what a refusal says before all is looked at.
+use Rattle.std.specs.Prelude.{◌≡◌, ℕ, ◌<◌, ◌≤◌, List, length, Option, Some, slice_get, IsSomeAnd, ⊤}
+use Rattle.msg_world.specs.declared.access.Access.{Access}
+use Rattle.msg_order.specs.declared.rule.Rule.{Rule}
+use Rattle.msg_order.specs.Graph.{IsLowestOnCycle}
+use Rattle.msg_system.specs.Needs.{IsAccessOf, with_conditions}
+use Rattle.msg_system.specs.Systems.{Meaning}
+use Rattle.msg_exec.specs.declared.job.GuardedSystem.{GuardedSystem}
+use Rattle.msg_frames.specs.declared.place.Place.{Place}
+use Rattle.msg_frames.specs.declared.totals.Totals.{Totals}
+use Rattle.msg_frames.specs.Entries.{no_totals}
+use Rattle.msg_frames.specs.FirstState.{HasClash, all_rules, new_job}
+use Rattle.msg_exec.specs.Jobs.{job_state}
+use Rattle.msg_exec.specs.Keeping.{totals_at}
+use Rattle.msg_exec.specs.declared.build_refusal.BuildRefusal.{BuildRefusal}
+use Rattle.msg_exec.specs.declared.build_refusal.BuildRefusal.TheVariants.{Clash, Cycle, NoMemory}
+use Rattle.msg_exec.specs.Building.{IsLowestClash}
+
+-- what is said of a refusal for the rules alone
+abbrev pub RefusesForCycle : ℕ → List Rule → BuildRefusal → Type 0
+RefusesForCycle systems rules (Clash s) = ⊥
+RefusesForCycle systems rules (Cycle s) = IsLowestOnCycle (all_rules systems rules) s
+RefusesForCycle systems rules NoMemory = ⊤
+
+module _ {S : Type 0} (meaning : S → Meaning) where
+  -- what is said of a refusal before the rules are looked at
+  abbrev pub RefusesForClash : List S → BuildRefusal → Type 0
+  RefusesForClash systems (Clash s) = IsLowestClash meaning systems s
+  RefusesForClash systems (Cycle s) = ⊥
+  RefusesForClash systems NoMemory = ⊤
+
+  -- an access is that of system i with its conditions, and the system is no clash
+  pub record IsAccessAt (systems : List S) (places : List Place) (i : ℕ) (a : Access) : Type 0 where
+    pub access : (x : S) (place : Place) → slice_get systems i ≡ Some x → slice_get places i ≡ Some place
+        → IsAccessOf (with_conditions (meaning x).needs place.conditions) a
+    pub no_clash : (x : S) → slice_get systems i ≡ Some x → ¬ HasClash (meaning x)
+
+  -- it is system i, with its conditions
+  abbrev pub IsGuardedAt : List S → List Place → ℕ → Option (GuardedSystem S) → Type 0
+  IsGuardedAt systems places i o = (x : S) (place : Place) → slice_get systems i ≡ Some x → slice_get places i ≡ Some place
+      → IsSomeAnd o (λ a. job_state meaning a ≡ new_job (meaning x) place)
+
+-- totals of readers that haven't joined, one for each type
+pub record AreNoTotals (types : ℕ) (xs : List Totals) : Type 0 where
+  pub as_many : length xs ≡ types
+  pub each : (t : ℕ) → t < types → totals_at xs t ≡ no_totals

@@ -1,0 +1,73 @@
+-- Systems go out for their turns, and come home.
+use Rattle.std.specs.Prelude.{◌≡◌, ℕ, ◌<◌, Bool, false, ◌||◌, List, [], ◌∷◌, Contains, length, slice_get, slice_set, Some, None, if◌then◌else◌}
+use Rattle.std.specs.Global.{Vec}
+use Rattle.std.specs.List.{AllZip}
+use Rattle.msg_world.specs.declared.access.Access.{Access}
+use Rattle.msg_world.specs.Access.{Part, writes}
+use Rattle.msg_world.specs.Parts.{LendsOut, SameSize, TakesBack, slot}
+use Rattle.msg_order.specs.Order.{access_of}
+use Rattle.msg_system.specs.Systems.{Meaning}
+use Rattle.msg_exec.specs.declared.job.Done.{Done}
+use Rattle.msg_exec.specs.declared.job.Job.{Job}
+use Rattle.msg_exec.specs.declared.lender.Lender.{Lender}
+use Rattle.msg_frames.specs.declared.totals.Totals.{Totals}
+use Rattle.msg_frames.specs.Entries.{with_entries}
+use Rattle.msg_exec.specs.inner.Totals.{entries_by}
+use Rattle.msg_exec.specs.Keeping.{kept, totals_at}
+use Rattle.msg_frames.specs.State.{State}
+use Rattle.msg_frames.specs.Tiling.{place_of}
+use Rattle.msg_exec.specs.Lender.{system_at}
+
+-- whether any of these systems writes the part
+abbrev pub any_writes : List Access → List ℕ → Part → Bool
+any_writes accesses [] p = false
+any_writes accesses (i ∷ is) p = writes (access_of accesses i) p || any_writes accesses is p
+
+module _ {S : Type 0} where
+  -- System i goes out for its turn: the job has it, with what its access writes. All else stays.
+  pub record GoesOut (old : Lender S) (i : ℕ) (job : Job S) (new : Lender S) : Type 0 where
+    pub number : job.number ≡ i
+    pub guarded : system_at old i ≡ Some job.guarded
+    pub access : job.access ≡ access_of old.accesses.items i
+    pub lent : LendsOut job.access old.world new.world job.taken
+    pub systems : new.systems.items ≡ slice_set old.systems.items i None
+    pub accesses : new.accesses.items ≡ old.accesses.items
+    pub totals : new.totals.items ≡ old.totals.items
+
+  -- A job that is out from the lender `whole`: what it has is as it was there.
+  pub record IsOut (whole : Lender S) (i : ℕ) (job : Job S) : Type 0 where
+    pub number : job.number ≡ i
+    pub guarded : system_at whole i ≡ Some job.guarded
+    pub access : job.access ≡ access_of whole.accesses.items i
+    pub size : SameSize whole.world job.taken
+    pub taken : (p : Part) → slot p job.taken ≡ (if writes job.access p then slot p whole.world else None)
+
+  -- The jobs of a batch are out. What none of its systems writes stays, and so do the other systems.
+  pub record AreOut (whole : Lender S) (batch : List ℕ) (jobs : List (Job S)) (left : Lender S) : Type 0 where
+    pub each : AllZip (IsOut whole) batch jobs
+    pub size : SameSize whole.world left.world
+    pub world : (p : Part)
+        → slot p left.world ≡ (if any_writes whole.accesses.items batch p then None else slot p whole.world)
+    pub as_many : length left.systems.items ≡ length whole.systems.items
+    pub others : (k : ℕ) → ¬ Contains batch k → system_at left k ≡ system_at whole k
+    pub accesses : left.accesses.items ≡ whole.accesses.items
+    pub totals : left.totals.items ≡ whole.totals.items
+
+module _ {S : Type 0} (meaning : S → Meaning) where
+  -- the totals of a system after what came of its job
+  pub record HaveEntered (done : Done S) (old new : List Totals) : Type 0 where
+    pub as_many : length new ≡ length old
+    pub entered : (t : ℕ) (x : Totals) → t < length old → totals_at old t ≡ kept x
+        → totals_at new t ≡ kept (with_entries (entries_by t (meaning done.guarded.system).last done.outcome) x)
+
+  -- A system comes home from its turn, with what it gives back, and its totals are those after it. All else stays.
+  pub record ComesHome (old : Lender S) (done : Done S) (new : Lender S) : Type 0 where
+    pub systems : new.systems.items ≡ slice_set old.systems.items done.number (Some done.guarded)
+    pub accesses : new.accesses.items ≡ old.accesses.items
+    pub taken_back : TakesBack done.taken old.world new.world
+    pub totals : (v : Vec Totals) × (new.totals.items ≡ slice_set old.totals.items done.number v)
+        × ((u : Vec Totals) → slice_get old.totals.items done.number ≡ Some u → HaveEntered done u.items v.items)
+
+-- those that join with this frame were given nothing yet
+abbrev pub HaveReadNothing : ℕ → State → Type 0
+HaveReadNothing frame s = (i t : ℕ) → (s.members i).join ≡ frame → place_of s i t ≡ 0

@@ -1,0 +1,28 @@
+-- What is added to totals, and where they begin.
+use Rattle.std.specs.Prelude.{ℕ, ◌≤◌, ◌==◌, List, [], length, None, Some, option_to_list, ⊤, if◌then◌else◌}
+use Rattle.msg_system.specs.declared.op.Op.{Op}
+use Rattle.msg_system.specs.declared.reply.Reply.{Reply}
+use Rattle.msg_world.specs.Access.{OfType}
+use Rattle.msg_system.specs.Needs.{type_read_by}
+use Rattle.msg_system.specs.Systems.{Meaning, start_place}
+use Rattle.msg_frames.specs.declared.log.Outcome.{Outcome}
+use Rattle.msg_frames.specs.declared.log.Outcome.TheVariants.{Skipped, Ran}
+use Rattle.msg_frames.specs.Entries.{Entry, entries_for, entry_of}
+
+-- where a system that was given nothing starts in a type
+abbrev pub first_place : Meaning → List ℕ → ℕ → ℕ
+first_place m counts t = if m.needs.reads (OfType t) then start_place m.start counts t else 0
+
+-- the entries for type t of a turn that was of these ops
+abbrev pub entries_by : ℕ → List Op → Outcome → List Entry
+entries_by t ops Skipped = []
+entries_by t ops (Ran replies) = entries_for t ops replies
+
+-- the entry for type t that the reply to op k tells of
+abbrev pub entry_at : ℕ → List Op → ℕ → Reply → List Entry
+entry_at t ops k reply = elim (type_read_by ops k) [ None ↦ [] | Some u ↦ if u == t then option_to_list (entry_of reply) else [] ]
+
+-- as many replies as a turn has at most
+abbrev pub HasFewReplies : Outcome → Type 0
+HasFewReplies Skipped = ⊤
+HasFewReplies (Ran replies) = length replies ≤ 64

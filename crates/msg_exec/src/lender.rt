@@ -1,0 +1,100 @@
+// Systems and the world go out for turns, and come home.
+ghost use Rattle.std.specs.Prelude.{◌≡◌, ◌<◌, IfOk, OnOk};
+ghost use Rattle.msg_frames.specs.Frames.{after_turn_of, logged};
+ghost use Rattle.msg_exec.specs.Lender.{LenderStands};
+ghost use Rattle.msg_frames.specs.State.{State};
+
+use crate::job::{Done, GuardedSystem, Job, run_job};
+use crate::totals::enter;
+use crate::{NoMemory, Totals, Turn};
+use msg_frames::laws::batches_run_side_by_side;
+use msg_system::System;
+use msg_world::laws::written_parts_come_home;
+use msg_world::{Access, World};
+use std::alloc::Global;
+
+/// What lends out systems, and the parts of the world that they write. A system that is out for its
+/// turn isn't there.
+#[derive(Drop)]
+pub struct Lender<S> {
+    pub world: World,
+    pub systems: Vec<Option<GuardedSystem<S>>>,
+    pub accesses: Vec<Access>,
+    /// For each system those of each type.
+    pub totals: Vec<Vec<Totals>>,
+}
+
+impl<S: System> Lender<S> {
+    ghost use Rattle.std.specs.Prelude.{IsSome, length};
+    ghost use Rattle.msg_world.specs.Parts.{IsApart, IsHome};
+    ghost use Rattle.msg_order.specs.Order.{access_of};
+    ghost use Rattle.msg_exec.specs.inner.Totals.{HasFewReplies};
+    ghost use Rattle.msg_exec.specs.Lender.{system_at};
+    ghost use Rattle.msg_exec.specs.inner.Lending.{ComesHome, GoesOut};
+
+    /// Takes a system out for its turn, with what its access writes.
+    pub(crate) fn lend_out(&mut self, number: u32) -> Result<Job<S>, NoMemory>
+        requires number { number < length self.old.accesses.items }
+        requires there { IsSome (system_at self.old number) }
+        requires home { IsHome (access_of self.old.accesses.items number) self.old.world }
+        ensures out { IfOk result (λ job. GoesOut self.old number job self.new) }
+    {
+        let i = number as usize;
+        let access = self.accesses[i];
+        let Some(guarded) = self.systems[i].take() else {
+            unreachable!()
+        };
+        let taken = self.world.lend_out(&access)?;
+        Ok(Job {
+            number,
+            guarded,
+            access,
+            taken,
+        })
+    }
+
+    /// Takes a system back after its turn, with what it gives back.
+    pub(crate) fn take_back(&mut self, done: Done<S>) -> Turn
+        requires systems { done.number < length self.old.systems.items }
+        requires totals { done.number < length self.old.totals.items }
+        requires apart { IsApart done.taken self.old.world }
+        requires few { HasFewReplies done.outcome }
+        ensures home { ComesHome S.meaning self.old done self.new }
+        ensures turn { result ≡ record { system = done.number; outcome = done.outcome } }
+    {
+        let Done {
+            number,
+            guarded,
+            taken,
+            outcome,
+        } = done;
+        let i = number as usize;
+        self.world.take_back(taken);
+        enter(&guarded.system, &mut self.totals[i], &outcome);
+        self.systems[i] = Some(guarded);
+        Turn {
+            system: number,
+            outcome,
+        }
+    }
+}
+
+/// One system's turn.
+pub(crate) fn run_turn<S: System>(
+    alloc: Global,
+    lender: &mut Lender<S>,
+    number: u32,
+) -> Result<Turn, NoMemory>
+    requires stands { (s : State) × (LenderStands S.meaning lender.old s × (number < s.systems)) }
+    ensures state { IfOk result (λ turn. (s : State) → LenderStands S.meaning lender.old s
+        → LenderStands S.meaning lender.new (after_turn_of number s)) }
+    ensures logged { IfOk result (λ turn. (s : State) → LenderStands S.meaning lender.old s
+        → turn ≡ logged s number) }
+    ensures accesses { OnOk result (lender.new.accesses.items ≡ lender.old.accesses.items) }
+{
+    batches_run_side_by_side();
+    written_parts_come_home();
+    let job = lender.lend_out(number)?;
+    let done = run_job(alloc, &lender.world, job)?;
+    Ok(lender.take_back(done))
+}

@@ -1,0 +1,33 @@
+-- A frame whose turns are taken in an order: its log has them in that order.
+use Rattle.std.proofs.Common.{◌≡◌, ℕ, List, [], ◌∷◌, map, refl, sym, ap, subst, ◌∙◌}
+use Rattle.msg_world.specs.World.{updated}
+use Rattle.msg_system.specs.declared.reply.Reply.{Reply}
+use Rattle.msg_frames.specs.declared.frame.Frame.{Frame}
+use Rattle.msg_frames.specs.declared.log.Log.{Log}
+use Rattle.msg_frames.specs.declared.log.Turn.{Turn}
+use Rattle.msg_frames.specs.Frames.{IsFrame, IsTurnOrderOf, after_turn_of, after_turns_of, before_turns, frame_in, post_replies, systems_in}
+use Rattle.msg_frames.specs.State.{State}
+
+systems_logged : (order : List ℕ) (s : State) → map (λ (t : Turn). t.system) (after_turns_of order s).turns ≡ order
+systems_logged [] s = refl
+systems_logged (i ∷ is) s = ap (λ rest. i ∷ rest) (systems_logged is (after_turn_of i s))
+
+-- the log of a frame in an order: the answers to its posts, and the turns
+pub logged_in : (frame : Frame) (order : List ℕ) (s : State) (log : Log) (replies : List Reply) → log.posts ≡ replies → replies ≡ post_replies frame.posts (updated s.world)
+    → log.turns ≡ (after_turns_of order (before_turns frame.posts s)).turns → log ≡ (frame_in order frame s).log
+logged_in frame order s log replies has answered turns = λ k. record { posts = (has ∙ answered) k; turns = turns k }
+
+-- the log has them in that order
+pub in_that_order : (frame : Frame) (order : List ℕ) (s : State) (log : Log) → log ≡ (frame_in order frame s).log → systems_in log ≡ order
+in_that_order frame order s log told = ap systems_in told ∙ systems_logged order (before_turns frame.posts s)
+
+-- the turns in their order are a frame
+pub frame_in_order : (frame : Frame) (s : State) (log : Log) (order : List ℕ) → IsTurnOrderOf (before_turns frame.posts s) order → log ≡ (frame_in order frame s).log
+    → IsFrame frame s log (frame_in order frame s).state
+frame_in_order frame s log order in_order told =
+    let taken : systems_in log ≡ order = in_that_order frame order s log told in
+    record {
+      in_order = subst (IsTurnOrderOf (before_turns frame.posts s)) (sym taken) in_order;
+      tells = told ∙ ap (λ is. (frame_in is frame s).log) (sym taken);
+      leaves = ap (λ is. (frame_in is frame s).state) (sym taken);
+    }

@@ -1,0 +1,146 @@
+-- Whatever a run does, each type's history goes on.
+use Rattle.std.proofs.Common.{ℕ, zero, suc, ℤ, ◌≤◌, List, [], ◌∷◌, ◌++◌, map, Option, None, Some, refl, sym, ap, subst, ◌∙◌, append-nil, append_assoc, length-append, arith, inl, inr}
+use Rattle.std.proofs.lemmas.Bool.{cases_Bool, cases_eq, eq-eqb, ne_eqb}
+use Rattle.msg_buffer.specs.History.{GoesOn, History, IsSound, OnlyGrows, clear, count, write}
+use Rattle.msg_buffer.specs.Tiling.{ClearsFit, ReadsFit}
+use Rattle.msg_world.specs.declared.record.Record.{Record}
+use Rattle.msg_world.specs.declared.record.TheConstants.{HOST}
+use Rattle.msg_world.specs.World.{WorldState, by, updated, waits, with_history}
+use Rattle.msg_system.specs.declared.op.Op.{Op}
+use Rattle.msg_system.specs.declared.op.Op.TheVariants.{Write, Batch, Read, Len, Missed, Clear, Forward, Sum, Get, Set, Add, Drain, Signal}
+use Rattle.msg_system.specs.Conditions.{Job, after_job, all_hold}
+use Rattle.msg_system.specs.Programs.{AfterProgram, after_op, again_by, took}
+use Rattle.msg_system.specs.Systems.{Meaning, after_at_most, next_op, one_more, turn}
+use Rattle.msg_frames.specs.declared.frame.Frame.{Frame}
+use Rattle.msg_frames.specs.Frames.{after_turn_of, after_turns_of, before_turns, frame_in, joining, posted, systems_in}
+use Rattle.msg_frames.specs.State.{State}
+use Rattle.msg_frames.specs.TurnLaws.{ListsOnlyGrow}
+use Rattle.msg_frames.proofs.SystemsStay.{joining_world}
+
+-- What the laws of buffers say of the world's types.
+pub record BufferLaws : Type 0 where
+  pub grow : OnlyGrows Record
+  pub reads : ReadsFit Record
+  pub clears : ClearsFit Record
+
+pub buffer_laws : OnlyGrows Record → ReadsFit Record → ClearsFit Record → BufferLaws
+buffer_laws grow reads clears = record { grow = grow; reads = reads; clears = clears }
+
+-- ---- histories
+
+pub stays : (h : History Record) → IsSound h → GoesOn h h
+stays h sound = record { more = []; entries = sym (append-nil h.entries); limit = refl; updates = omega arith; floor = omega arith; sound = sound }
+
+pub goes_further : (a b c : History Record) → GoesOn a b → GoesOn b c → GoesOn a c
+goes_further a b c x y = record {
+  more = x.more ++ y.more;
+  entries = y.entries ∙ ap (λ es. es ++ y.more) x.entries ∙ append_assoc a.entries x.more y.more;
+  limit = y.limit ∙ x.limit;
+  updates = omega (arith, x.updates, y.updates);
+  floor = omega (arith, x.floor, y.floor);
+  sound = y.sound;
+}
+
+pub counts_more : (a b : History Record) → GoesOn a b → count a ≤ count b
+counts_more a b x = rw x.entries (omega (arith, length-append a.entries x.more))
+
+-- ---- worlds
+
+-- each sound history of the first world goes on in the second
+abbrev pub WorldGoesOn : WorldState → WorldState → Type 0
+WorldGoesOn w v = (t : ℕ) → IsSound (w.histories t) → GoesOn (w.histories t) (v.histories t)
+
+world_stays : (w : WorldState) → WorldGoesOn w w
+world_stays w t sound = stays (w.histories t) sound
+
+world_goes_further : (a b c : WorldState) → WorldGoesOn a b → WorldGoesOn b c → WorldGoesOn a c
+world_goes_further a b c x y t sound =
+    goes_further (a.histories t) (b.histories t) (c.histories t) (x t sound) (y t (x t sound).sound)
+
+one_goes_on : (w : WorldState) (u : ℕ) (h : History Record) → (IsSound (w.histories u) → GoesOn (w.histories u) h) → WorldGoesOn w (with_history w u h)
+one_goes_on w u h goes t sound = elim (cases_eq t u) [
+  | inl e ↦ rw (eq-eqb t u e) (subst (λ v. GoesOn (w.histories v) h) (sym e) (goes (subst (λ v. IsSound (w.histories v)) e sound)))
+  | inr ne ↦ rw (ne_eqb t u ne) (stays (w.histories t) sound)
+]
+
+module _ (grow : OnlyGrows Record) where
+  written_goes_on : (w : WorldState) (t : ℕ) (ms : List Record) → WorldGoesOn w (with_history w t (write ms (w.histories t)))
+  written_goes_on w t ms = one_goes_on w t (write ms (w.histories t)) (λ sound. (grow (w.histories t) sound).0 ms)
+
+  -- ---- jobs
+
+  pub op_goes_on : (op : Op) (writer : ℕ) (places : ℕ → ℕ) (w : WorldState) → WorldGoesOn w (after_op op writer places w).state
+  op_goes_on (Write t v) writer places w = written_goes_on w t (by writer v ∷ [])
+  op_goes_on (Batch t vs) writer places w = written_goes_on w t (map (by writer) vs)
+  op_goes_on (Read t limit) writer places w = world_stays w
+  op_goes_on (Len t) writer places w = world_stays w
+  op_goes_on (Missed t) writer places w = world_stays w
+  op_goes_on (Clear t) writer places w = world_stays w
+  op_goes_on (Forward t u) writer places w = written_goes_on w u (again_by writer (took (w.histories t) (places t) None).items)
+  op_goes_on (Sum t r) writer places w = world_stays w
+  op_goes_on (Get r) writer places w = world_stays w
+  op_goes_on (Set r v) writer places w = world_stays w
+  op_goes_on (Add r v) writer places w = world_stays w
+  op_goes_on (Drain t) writer places w = one_goes_on w t (clear (w.histories t)) (λ sound. (grow (w.histories t) sound).2)
+  op_goes_on Signal writer places w = world_stays w
+
+  more_goes_on : (o : Option Op) (writer : ℕ) (far : AfterProgram) → WorldGoesOn far.state (one_more o writer far).state
+  more_goes_on None writer far = world_stays far.state
+  more_goes_on (Some op) writer far = op_goes_on op writer far.places far.state
+
+  ops_go_on : (n : ℕ) (m : Meaning) (w : WorldState) → WorldGoesOn w (after_at_most n (next_op m) m.writer m.places w).state
+  ops_go_on zero m w = world_stays w
+  ops_go_on (suc n) m w =
+      let far : AfterProgram = after_at_most n (next_op m) m.writer m.places w in
+      world_goes_further w far.state (one_more (next_op m far.replies) m.writer far).state (ops_go_on n m w) (more_goes_on (next_op m far.replies) m.writer far)
+
+  turn_goes_on : (m : Meaning) (w : WorldState) → WorldGoesOn w (turn m w).state
+  unfolding turn
+  turn_goes_on m w = ops_go_on 64 m w
+
+  pub job_goes_on : (j : Job) (w : WorldState) → WorldGoesOn w (after_job j w).state
+  job_goes_on j w = elim (cases_Bool (all_hold j.conditions w)) [
+    | inl e ↦ rw e (turn_goes_on j.system w)
+    | inr e ↦ rw e (world_stays w)
+  ]
+
+  -- ---- turns, frames and runs
+
+  pub turns_go_on : (order : List ℕ) (s : State) → WorldGoesOn s.world (after_turns_of order s).state.world
+  turns_go_on [] s = world_stays s.world
+  turns_go_on (i ∷ is) s =
+      world_goes_further s.world (after_turn_of i s).world (after_turns_of is (after_turn_of i s)).state.world
+      (job_goes_on (s.members i).job s.world) (turns_go_on is (after_turn_of i s))
+
+  posts_go_on : (posts : List (ℕ × ℤ)) (w : WorldState) → WorldGoesOn w (posted posts w)
+  posts_go_on [] w = world_stays w
+  posts_go_on (p ∷ ps) w =
+      let next = with_history w p.0 (write (by HOST p.1 ∷ []) (w.histories p.0)) in
+      world_goes_further w next (posted ps next) (written_goes_on w p.0 (by HOST p.1 ∷ [])) (posts_go_on ps next)
+
+  update_goes_on : (w : WorldState) → WorldGoesOn w (updated w)
+  update_goes_on w = elim (cases_Bool (waits w)) [
+    | inl e ↦ rw e (world_stays w)
+    | inr e ↦ rw e (λ t sound. (grow (w.histories t) sound).1)
+  ]
+
+  pub before_goes_on : (posts : List (ℕ × ℤ)) (s : State) → WorldGoesOn s.world (before_turns posts s).world
+  before_goes_on posts s =
+      let ready : WorldState = (joining s).world in
+      subst (λ w. WorldGoesOn w (posted posts (updated ready))) (joining_world s)
+      (world_goes_further ready (updated ready) (posted posts (updated ready)) (update_goes_on ready) (posts_go_on posts (updated ready)))
+
+  frame_goes_on : (order : List ℕ) (frame : Frame) (s : State) → WorldGoesOn s.world (frame_in order frame s).state.world
+  frame_goes_on order frame s =
+      world_goes_further s.world (before_turns frame.posts s).world (frame_in order frame s).state.world
+      (before_goes_on frame.posts s) (turns_go_on order (before_turns frame.posts s))
+
+  pub runs_go_on : ListsOnlyGrow
+  runs_go_on [] s u [] run = subst (λ (x : State). WorldGoesOn s.world x.world) (sym run) (world_stays s.world)
+  runs_go_on [] s u (log ∷ logs) run = absurd run
+  runs_go_on (frame ∷ frames) s u [] run = absurd run
+  runs_go_on (frame ∷ frames) s u (log ∷ logs) run =
+      let next : State = run.0 in
+      world_goes_further s.world next.world u.world
+      (subst (λ (x : State). WorldGoesOn s.world x.world) (sym run.1.leaves) (frame_goes_on (systems_in log) frame s))
+      (runs_go_on frames next u logs run.2)

@@ -1,0 +1,27 @@
+-- ---- lists
+pub mod ElementsAndPairs
+-- ---- turns and frames keep the systems, and the log has their order
+pub mod SystemsStay
+pub mod FramesInOrder
+-- ---- turns side by side, and in other orders
+mod TurnsCommute
+mod BatchesSideBySide
+mod RunsAreUnique
+mod RunsExist
+mod LawfulOrdersAgree
+-- ---- histories
+mod HistoriesGrow
+-- ---- what a reader goes past: in a job, in turns, in a frame, over a run
+mod ReaderOverJob
+mod EntriesAddUp
+mod ReaderOverTurns
+mod BeforeTurns
+mod StatesStaySound
+mod FirstStatesAreSound
+mod OneFateEach
+mod TilesGiveInOrder
+mod ReaderOverRun
+mod ReplaysTellTheSame
+-- ---- worked runs
+mod ReadingsOfRows
+mod RowsAreRuns

@@ -1,0 +1,170 @@
+-- Each number that tiles go past meets one fate, at one tile.
+use Rattle.std.proofs.Common.{◌≡◌, ℕ, zero, suc, ◌+◌, ◌-◌, ◌≤◌, ◌<◌, List, [], ◌∷◌, map, length, Contains, cond, is_some, refl, sym, ap, subst, ◌∙◌, arith, inl, inr, All}
+use Rattle.std.specs.Prelude.{nat_lt}
+use Rattle.std.specs.List.{range_with_len}
+use Rattle.std.proofs.lemmas.Bool.{cases_Bool, ltb-true, ltb-false, lt-ltb, le-ltb}
+use Rattle.std.proofs.lemmas.List.Elements.{All-cons, All-head, All-nil, All-tail}
+use Rattle.std.proofs.lemmas.List.FromFn.{get_or-range_with_len, length-range_with_len}
+use Rattle.std.proofs.lemmas.Option.{same_Some}
+use Rattle.msg_buffer.specs.Reader.{next_place}
+use Rattle.msg_buffer.specs.Tiling.{Tile}
+use Rattle.msg_frames.specs.Entries.{Entry}
+use Rattle.msg_frames.specs.Readings.{Fate, IsDropped, Meets, MeetsOneFate, given, cleared, missed, numbers_at, numbers_passed}
+use Rattle.msg_frames.specs.Tiling.{Moment}
+use Rattle.msg_frames.proofs.ReaderOverJob.{IsWritten, tile_of}
+
+-- ---- ranges
+
+in_range : (a n x : ℕ) → a ≤ x → x < a + n → Contains (range_with_len a n) x
+in_range a n x low high =
+    let long = length-range_with_len a n in
+    let at = get_or-range_with_len a n (x - a) x (omega arith) in
+    (x - a, omega arith, at ∙ omega arith)
+
+of_range : (a n x : ℕ) → Contains (range_with_len a n) x → (a ≤ x) × (x < a + n)
+of_range a n x c =
+    let long = length-range_with_len a n in
+    let below : c.0 < length (range_with_len a n) = c.1 in
+    let at = get_or-range_with_len a n c.0 x (omega arith) in
+    let is : x ≡ a + c.0 = sym c.2 ∙ at in
+    (omega arith, omega arith)
+
+none_among : (x : ℕ) → ¬ Contains {X = ℕ} [] x
+none_among x c = let below : c.0 < 0 = c.1 in absurd (omega arith)
+
+-- ---- at one entry
+
+abbrev fate_at : Entry → ℕ → Fate
+fate_at e n = cond (nat_lt n e.stretch.first) missed (cond (is_some e.given) given cleared)
+
+-- the entry begins at this place
+abbrev BeginsAt : ℕ → Entry → Type 0
+BeginsAt place e = e.stretch.first ≡ place + e.stretch.missed
+
+-- a number of the stretch, given or cleared
+of_passed : (e : Entry) (n : ℕ) (fate : Fate) (place : ℕ) → BeginsAt place e → Contains (numbers_passed e) n → cond (is_some e.given) given cleared ≡ fate
+    → (place ≤ n) × (n < next_place e.stretch) × (fate_at e n ≡ fate)
+of_passed e n fate place begins c is =
+    let bounds = of_range e.stretch.first e.stretch.number n c in
+    (omega (arith, bounds), bounds.1, rw (le-ltb n e.stretch.first bounds.0) is)
+
+-- a number that met a fate at an entry lies there, and met no other
+fate_of : (fate : Fate) (e : Entry) (n place : ℕ) → BeginsAt place e → Contains (numbers_at fate e) n → (place ≤ n) × (n < next_place e.stretch) × (fate_at e n ≡ fate)
+fate_of given e n place begins c = elim (cases_Bool (is_some e.given)) [
+  | inl is ↦ of_passed e n given place begins (subst (λ b. Contains (cond b (numbers_passed e) []) n) is c) (rw is refl)
+  | inr isnt ↦ absurd (none_among n (subst (λ b. Contains (cond b (numbers_passed e) []) n) isnt c))
+]
+fate_of cleared e n place begins c = elim (cases_Bool (is_some e.given)) [
+  | inl is ↦ absurd (none_among n (subst (λ b. Contains (cond b [] (numbers_passed e)) n) is c))
+  | inr isnt ↦ of_passed e n cleared place begins (subst (λ b. Contains (cond b [] (numbers_passed e)) n) isnt c) (rw isnt refl)
+]
+fate_of missed e n place begins c =
+    let bounds = of_range (e.stretch.first - e.stretch.missed) e.stretch.missed n c in
+    let low : e.stretch.first - e.stretch.missed ≤ n = bounds.0 in
+    let high : n < (e.stretch.first - e.stretch.missed) + e.stretch.missed = bounds.1 in
+    let below : n < e.stretch.first = omega arith in
+    (omega arith, omega arith, rw (lt-ltb n e.stretch.first below) refl)
+
+-- and each number there met one
+has_fate : (e : Entry) (n place : ℕ) → BeginsAt place e → place ≤ n → n < next_place e.stretch → Contains (numbers_at (fate_at e n) e) n
+has_fate e n place begins low high = elim (cases_Bool (nat_lt n e.stretch.first)) [
+  | inl is ↦
+      let below : n < e.stretch.first = ltb-true n e.stretch.first is in
+      rw is (in_range (e.stretch.first - e.stretch.missed) e.stretch.missed n (omega arith) (omega arith))
+  | inr isnt ↦
+      let above : e.stretch.first ≤ n = ltb-false n e.stretch.first isnt in
+      let among : Contains (numbers_passed e) n = in_range e.stretch.first e.stretch.number n above high in
+      rw isnt (elim (cases_Bool (is_some e.given)) [
+        | inl some ↦ subst (λ b. Contains (numbers_at (cond b given cleared) e) n) (sym some) (rw some among)
+        | inr none ↦ subst (λ b. Contains (numbers_at (cond b given cleared) e) n) (sym none) (rw none among)
+      ])
+]
+
+-- ---- at the entries of tiles
+
+abbrev pub entries_of : List Moment → List Entry
+entries_of ms = map (λ m. m.entry) ms
+
+here : (e : Entry) (es : List Entry) (n : ℕ) (fate : Fate) → Contains (numbers_at fate e) n → Meets (e ∷ es) n 0 fate
+here e es n fate among = record { entry = e; is_entry = refl; among = among }
+
+of_here : (e : Entry) (es : List Entry) (n : ℕ) (fate : Fate) → Meets (e ∷ es) n 0 fate → Contains (numbers_at fate e) n
+of_here e es n fate met = subst (λ x. Contains (numbers_at fate x) n) (sym (same_Some e met.entry met.is_entry)) met.among
+
+later : (e : Entry) (es : List Entry) (n k : ℕ) (fate : Fate) → Meets es n k fate → Meets (e ∷ es) n (suc k) fate
+later e es n k fate met = record { entry = met.entry; is_entry = met.is_entry; among = met.among }
+
+of_later : (e : Entry) (es : List Entry) (n k : ℕ) (fate : Fate) → Meets (e ∷ es) n (suc k) fate → Meets es n k fate
+of_later e es n k fate met = record { entry = met.entry; is_entry = met.is_entry; among = met.among }
+
+tiles_rise : (p : ℕ) (ms : List Moment) (q : ℕ) → Tile p (map tile_of ms) q → p ≤ q
+tiles_rise p [] q tile = let same : p ≡ q = tile in omega arith
+tiles_rise p (m ∷ ms) q tile =
+    let first : m.entry.stretch.first ≡ p + m.entry.stretch.missed = tile.0.first in
+    let rest = tiles_rise (next_place m.entry.stretch) ms q tile.1 in
+    omega arith
+
+none_met : (n k : ℕ) (fate : Fate) → ¬ Meets [] n k fate
+none_met n k fate met = absurd (cc)
+
+pub lies_between : (p : ℕ) (ms : List Moment) (q : ℕ) → Tile p (map tile_of ms) q → (n k : ℕ) (fate : Fate) → Meets (entries_of ms) n k fate → (p ≤ n) × (n < q)
+lies_between p [] q tile n k fate met = absurd (none_met n k fate met)
+lies_between p (m ∷ ms) q tile n zero fate met =
+    let at = fate_of fate m.entry n p tile.0.first (of_here m.entry (entries_of ms) n fate met) in
+    let rise = tiles_rise (next_place m.entry.stretch) ms q tile.1 in
+    (at.0, omega (arith, at.1, rise))
+lies_between p (m ∷ ms) q tile n (suc k) fate met =
+    let rest = lies_between (next_place m.entry.stretch) ms q tile.1 n k fate (of_later m.entry (entries_of ms) n k fate met) in
+    let first : m.entry.stretch.first ≡ p + m.entry.stretch.missed = tile.0.first in
+    (omega (arith, rest.0), rest.1)
+
+one_fate : (p : ℕ) (ms : List Moment) (q : ℕ) → Tile p (map tile_of ms) q → (n k l : ℕ) (f g : Fate) → Meets (entries_of ms) n k f → Meets (entries_of ms) n l g → (l ≡ k) × (g ≡ f)
+one_fate p [] q tile n k l f g x y = absurd (none_met n k f x)
+one_fate p (m ∷ ms) q tile n zero zero f g x y =
+    let a = fate_of f m.entry n p tile.0.first (of_here m.entry (entries_of ms) n f x) in
+    let b = fate_of g m.entry n p tile.0.first (of_here m.entry (entries_of ms) n g y) in
+    (refl, sym b.2 ∙ a.2)
+one_fate p (m ∷ ms) q tile n zero (suc l) f g x y =
+    let a = fate_of f m.entry n p tile.0.first (of_here m.entry (entries_of ms) n f x) in
+    let b = lies_between (next_place m.entry.stretch) ms q tile.1 n l g (of_later m.entry (entries_of ms) n l g y) in
+    absurd (omega (arith, a.1, b.0))
+one_fate p (m ∷ ms) q tile n (suc k) zero f g x y =
+    let a = fate_of g m.entry n p tile.0.first (of_here m.entry (entries_of ms) n g y) in
+    let b = lies_between (next_place m.entry.stretch) ms q tile.1 n k f (of_later m.entry (entries_of ms) n k f x) in
+    absurd (omega (arith, a.1, b.0))
+one_fate p (m ∷ ms) q tile n (suc k) (suc l) f g x y =
+    let rest = one_fate (next_place m.entry.stretch) ms q tile.1 n k l f g (of_later m.entry (entries_of ms) n k f x) (of_later m.entry (entries_of ms) n l g y) in
+    (ap suc rest.0, rest.1)
+
+some_fate : (p : ℕ) (ms : List Moment) (q : ℕ) → Tile p (map tile_of ms) q → (n : ℕ) → p ≤ n → n < q → (k : ℕ) × ((fate : Fate) × Meets (entries_of ms) n k fate)
+some_fate p [] q tile n low high = let same : p ≡ q = tile in absurd (omega arith)
+some_fate p (m ∷ ms) q tile n low high = elim (cases_Bool (nat_lt n (next_place m.entry.stretch))) [
+  | inl is ↦ (0, (fate_at m.entry n, here m.entry (entries_of ms) n (fate_at m.entry n) (has_fate m.entry n p tile.0.first low (ltb-true n (next_place m.entry.stretch) is))))
+  | inr isnt ↦
+      let rest = some_fate (next_place m.entry.stretch) ms q tile.1 n (ltb-false n (next_place m.entry.stretch) isnt) high in
+      (suc rest.0, (rest.1.0, later m.entry (entries_of ms) n rest.0 rest.1.0 rest.1.1))
+]
+
+pub meets_one_fate : (p : ℕ) (ms : List Moment) (q : ℕ) → Tile p (map tile_of ms) q → (n : ℕ) → p ≤ n → n < q → MeetsOneFate (entries_of ms) n
+meets_one_fate p ms q tile n low high =
+    let some = some_fate p ms q tile n low high in
+    record { entry = some.0; fate = some.1.0; met = some.1.1; only = λ k other met. one_fate p ms q tile n some.0 k some.1.0 other some.1.1 met }
+
+-- ---- what was missed
+
+abbrev MissesDropped : Moment → Type 0
+MissesDropped m = (n : ℕ) → Contains (numbers_at missed m.entry) n → IsDropped m.history n
+
+pub missed_are_dropped : (p : ℕ) (ms : List Moment) (q : ℕ) → Tile p (map tile_of ms) q → All IsWritten ms → All MissesDropped ms
+missed_are_dropped p [] q tile written = All-nil MissesDropped
+missed_are_dropped p (m ∷ ms) q tile written =
+    let e : Entry = m.entry in
+    All-cons MissesDropped m ms
+    (λ n c.
+    let bounds = of_range (e.stretch.first - e.stretch.missed) e.stretch.missed n c in
+    let first : e.stretch.first ≡ p + e.stretch.missed = tile.0.first in
+    let low : p ≤ n = omega (arith, bounds.0) in
+    let high : n < e.stretch.first = omega (arith, bounds.1) in
+    let by_then = All-head IsWritten m ms written in
+    (omega (arith, by_then), tile.0.missed n low high))
+    (missed_are_dropped (next_place e.stretch) ms q tile.1 (All-tail IsWritten m ms written))

@@ -1,0 +1,238 @@
+-- What a reader goes past over a run of frames.
+use Rattle.std.proofs.Common.{arith, ◌≡◌, ℕ, ◌<◌, List, [], ◌∷◌, ◌++◌, map, refl, sym, ap, subst, ◌∙◌, unwrap_or}
+use Rattle.std.specs.Prelude.{IsTrue, IsFalse}
+use Rattle.std.proofs.lemmas.Bool.{false≢true}
+use Rattle.std.proofs.lemmas.List.{map-append}
+use Rattle.msg_buffer.specs.History.{GoesOn, History}
+use Rattle.msg_world.specs.declared.record.Record.{Record}
+use Rattle.msg_system.specs.Needs.{Needs}
+use Rattle.msg_system.specs.Systems.{Rule}
+use Rattle.msg_frames.specs.declared.frame.Frame.{Frame}
+use Rattle.msg_frames.specs.declared.log.Log.{Log}
+use Rattle.msg_frames.specs.declared.totals.Totals.{Totals}
+use Rattle.msg_frames.specs.Entries.{entries_told, totals_from, with_entries}
+use Rattle.msg_frames.specs.Frames.{IsRun, before_turns, begun, counts, frame_in, systems_in}
+use Rattle.msg_frames.specs.Readings.{IsGivenOnce, IsInOrderOf}
+use Rattle.msg_frames.proofs.OneFateEach.{lies_between, meets_one_fate, missed_are_dropped}
+use Rattle.msg_frames.proofs.TilesGiveInOrder.{all_as_written, counted_cleared, counted_given, counted_missed, given_in_order, in_order_of}
+use Rattle.msg_frames.specs.ReaderLaws.{AccountsAddUp, EachWriterInOrder, EveryMessageIsGivenOnce, ReadersTile, found_totals}
+use Rattle.msg_frames.specs.Soundness.{IsSoundState}
+use Rattle.msg_frames.specs.State.{Member, State, has_begun}
+use Rattle.msg_frames.specs.Tiling.{Moment, answers_in, found_at, moments, place_of, turns_moments}
+use Rattle.msg_frames.proofs.HistoriesGrow.{BufferLaws, goes_further, stays}
+use Rattle.msg_frames.proofs.SystemsStay.{before_keeps, turns_keep}
+use Rattle.msg_frames.proofs.ReaderOverJob.{Passes, passes_nothing}
+use Rattle.msg_frames.proofs.EntriesAddUp.{tiles_add_up, with_entries-none}
+use Rattle.msg_frames.proofs.ReaderOverTurns.{Keeps, Reads, Tells, after_told, answers_among, no_moments, reads_further, tells_further, turns_read, turns_tell}
+use Rattle.msg_frames.proofs.BeforeTurns.{Prepares, before_rule, comes, prepares, stood, waits}
+use Rattle.msg_frames.proofs.StatesStaySound.{begun_alike, frame_sound, has_no_turn, prepared_sound}
+
+-- a run of frames, as one frame and then the others, from the state that the frame leaves
+after_first : (frame : Frame) (frames : List Frame) (s : State) (log : Log) (logs : List Log) (u : State) → IsRun (frame ∷ frames) s (log ∷ logs) u
+    → IsRun frames (frame_in (systems_in log) frame s).state logs u
+after_first frame frames s log logs u is = subst (λ m. IsRun frames m logs u) is.1.leaves is.2
+
+-- ---- the entries that the logs have
+
+frame_tells : (i t : ℕ) (frame : Frame) (s : State) (log : Log) → log ≡ (frame_in (systems_in log) frame s).log
+    → Tells i t s (answers_among i log.turns) (turns_moments i t (systems_in log) (before_turns frame.posts s)) (frame_in (systems_in log) frame s).state
+frame_tells i t frame s log is =
+    let b : State = before_turns frame.posts s in
+    let ms : List Moment = turns_moments i t (systems_in log) b in
+    let own = turns_tell i t (systems_in log) b in
+    let kept = ((before_keeps frame.posts s).members i).needs in
+    let same : answers_among i (frame_in (systems_in log) frame s).log.turns ≡ answers_among i log.turns = ap (λ (l : Log). answers_among i l.turns) (sym is) in
+    subst (λ turns. Tells i t s turns ms (frame_in (systems_in log) frame s).state) same (record {
+      entries = ap (λ (z : Needs × Rule). entries_told t z.0 z.1 (answers_among i (frame_in (systems_in log) frame s).log.turns)) (λ k. (sym kept k, sym (before_rule frame.posts s i) k)) ∙ own.entries;
+      rule = own.rule ∙ ap (after_told (answers_among i (frame_in (systems_in log) frame s).log.turns)) (before_rule frame.posts s i);
+      needs = own.needs ∙ kept;
+    })
+
+pub run_tells : (i t : ℕ) (frames : List Frame) (s : State) (logs : List Log) (u : State) → IsRun frames s logs u → Tells i t s (answers_in i logs) (moments i t frames logs s) u
+run_tells i t [] s [] u is = record {
+  entries = refl;
+  rule = ap (λ (x : State). (x.members i).job.system.rule) is;
+  needs = ap (λ (x : State). (x.members i).job.system.needs) is;
+}
+run_tells i t [] s (log ∷ logs) u is = absurd is
+run_tells i t (frame ∷ frames) s [] u is = absurd is
+run_tells i t (frame ∷ frames) s (log ∷ logs) u is =
+    let m : State = (frame_in (systems_in log) frame s).state in
+    tells_further i t s (answers_among i log.turns) (turns_moments i t (systems_in log) (before_turns frame.posts s)) m
+    (answers_in i logs) (moments i t frames logs m) u (frame_tells i t frame s log is.1.tells)
+    (run_tells i t frames m logs u (after_first frame frames s log logs u is))
+
+-- ---- a reader that has joined
+
+passes_since : (a b c : History Record) (p : ℕ) (ms : List Moment) (q : ℕ) → GoesOn a b → Passes p b ms q c → Passes p a ms q c
+passes_since a b c p ms q goes x = record {
+  goes_on = goes_further a b c goes x.goes_on;
+  within = x.within;
+  tile = x.tile;
+  gives = x.gives;
+  earlier = x.earlier;
+  written = x.written;
+}
+
+-- what comes before the turns does nothing to it
+reads_since : (i t : ℕ) (s b : State) (ms : List Moment) (u : State) → GoesOn (s.world.histories t) (b.world.histories t) → b.members i ≡ s.members i → Reads i t b ms u → Reads i t s ms u
+reads_since i t s b ms u goes same x = record {
+  passes = subst (λ (m : Member). Passes (m.job.system.places t) (s.world.histories t) ms (place_of u i t) (u.world.histories t)) same
+      (passes_since (s.world.histories t) (b.world.histories t) (u.world.histories t) (place_of b i t) ms (place_of u i t) goes x.passes);
+  totals = subst (λ (m : Member). (u.members i).totals t ≡ with_entries (map (λ y. y.entry) ms) (m.totals t)) same x.totals;
+}
+
+-- ---- a reader that joins in the run, or had joined
+
+-- Reader (i, t) goes past these moments between two states, from where it was found.
+pub record Follows (i t : ℕ) (s : State) (ms : List Moment) (u : State) : Type 0 where
+  pub passes : Passes (found_at s u i t) (s.world.histories t) ms (place_of u i t) (u.world.histories t)
+  pub totals : (u.members i).totals t ≡ with_entries (map (λ m. m.entry) ms) (found_totals s u i t)
+
+module _ (i t : ℕ) where
+  follows_joined : (s : State) (ms : List Moment) (u : State) → IsTrue (has_begun s i) → Reads i t s ms u → Follows i t s ms u
+  follows_joined s ms u has x = record {
+    passes = rw has x.passes;
+    totals = rw has x.totals;
+  }
+
+  -- from the place at which it joined
+  follows_new : (s : State) (ms : List Moment) (u : State) (place : ℕ) → IsFalse (has_begun s i)
+      → Passes place (s.world.histories t) ms (place_of u i t) (u.world.histories t) → (u.members i).totals t ≡ with_entries (map (λ m. m.entry) ms) (totals_from place) → Follows i t s ms u
+  follows_new s ms u place isnt passes totals =
+      let at : unwrap_or ((u.members i).totals t).start 0 ≡ place = ap (λ (x : Totals). unwrap_or x.start 0) totals in
+      record {
+        passes = rw isnt (rw at passes);
+        totals = rw isnt (rw at totals);
+      }
+
+  -- where nothing was done to it yet
+  follows_since : (s m : State) (ms : List Moment) (u : State) → IsFalse (has_begun s i) → IsFalse (has_begun m i) → GoesOn (s.world.histories t) (m.world.histories t) → Follows i t m ms u → Follows i t s ms u
+  follows_since s m ms u isnt wasnt goes x =
+      let same : found_at s u i t ≡ found_at m u i t = rw (isnt, wasnt) refl in
+      record {
+        passes = subst (λ p. Passes p (s.world.histories t) ms (place_of u i t) (u.world.histories t)) (sym same)
+            (passes_since (s.world.histories t) (m.world.histories t) (u.world.histories t) (found_at m u i t) ms (place_of u i t) goes x.passes);
+        totals = x.totals ∙ ap (with_entries (map (λ y. y.entry) ms)) (rw (isnt, wasnt) refl);
+      }
+
+module _ (laws : BufferLaws) (i t : ℕ) where
+  -- the turns of a frame
+  frame_reads : (frame : Frame) (order : List ℕ) (s : State) → IsSoundState s → t < s.types
+      → Reads i t (before_turns frame.posts s) (turns_moments i t order (before_turns frame.posts s)) (frame_in order frame s).state
+  frame_reads frame order s sound below =
+      let b : State = before_turns frame.posts s in
+      let prep : Prepares s b = prepares laws.grow frame.posts s in
+      let ready : IsSoundState b = prepared_sound s b sound prep in
+      let under : t < b.types = subst (λ n. t < n) (sym prep.same.types) below in
+      turns_read laws i t order b (ready.histories t under) (ready.places i t under)
+
+  run_reads : (frames : List Frame) (s : State) (logs : List Log) (u : State) → IsSoundState s → IsRun frames s logs u → t < s.types → IsTrue (has_begun s i)
+      → Reads i t s (moments i t frames logs s) u
+  run_reads [] s [] u sound is below has =
+      subst (Reads i t s []) (sym is) (record {
+        passes = passes_nothing (place_of s i t) (s.world.histories t) (s.world.histories t) (sound.places i t below) (stays (s.world.histories t) (sound.histories t below));
+        totals = sym (with_entries-none ((s.members i).totals t));
+      })
+  run_reads [] s (log ∷ logs) u sound is below has = absurd is
+  run_reads (frame ∷ frames) s [] u sound is below has = absurd is
+  run_reads (frame ∷ frames) s (log ∷ logs) u sound is below has =
+      let b : State = before_turns frame.posts s in
+      let m : State = (frame_in (systems_in log) frame s).state in
+      let prep : Prepares s b = prepares laws.grow frame.posts s in
+      let keep : Keeps b m = turns_keep (systems_in log) b in
+      let here : Reads i t b (turns_moments i t (systems_in log) b) m = frame_reads frame (systems_in log) s sound below in
+      let msound : IsSoundState m = subst IsSoundState is.1.leaves (frame_sound laws frame s log is.0 sound is.1) in
+      let later : IsTrue (has_begun b i) → Reads i t m (moments i t frames logs m) u = λ now. run_reads frames m logs u msound (after_first frame frames s log logs u is)
+      (subst (λ n. t < n) (sym (keep.0.types ∙ prep.same.types)) below) (begun_alike b m i keep ∙ now) in
+      elim (prep.arrival i) [
+        | stood was now same ↦ reads_further i t s (turns_moments i t (systems_in log) b) m (moments i t frames logs m) u
+            (reads_since i t s b (turns_moments i t (systems_in log) b) m (prep.world t (sound.histories t below)) same here) (later now)
+        | comes was now is_new ↦ absurd (false≢true (sym was ∙ has))
+        | waits was now same ↦ absurd (false≢true (sym was ∙ has))
+      ]
+
+  pub run_follows : (frames : List Frame) (s : State) (logs : List Log) (u : State) → IsSoundState s → IsRun frames s logs u → t < s.types → IsTrue (has_begun u i)
+      → Follows i t s (moments i t frames logs s) u
+  run_follows [] s [] u sound is below has =
+      let had : IsTrue (has_begun s i) = subst (λ x. IsTrue (has_begun x i)) is has in
+      follows_joined i t s [] u had (run_reads [] s [] u sound is below had)
+  run_follows [] s (log ∷ logs) u sound is below has = absurd is
+  run_follows (frame ∷ frames) s [] u sound is below has = absurd is
+  run_follows (frame ∷ frames) s (log ∷ logs) u sound is below has =
+      let b : State = before_turns frame.posts s in
+      let m : State = (frame_in (systems_in log) frame s).state in
+      let ms : List Moment = turns_moments i t (systems_in log) b in
+      let rest : List Moment = moments i t frames logs m in
+      let prep : Prepares s b = prepares laws.grow frame.posts s in
+      let keep : Keeps b m = turns_keep (systems_in log) b in
+      let here : Reads i t b ms m = frame_reads frame (systems_in log) s sound below in
+      let msound : IsSoundState m = subst IsSoundState is.1.leaves (frame_sound laws frame s log is.0 sound is.1) in
+      let mbelow : t < m.types = subst (λ n. t < n) (sym (keep.0.types ∙ prep.same.types)) below in
+      let goes : GoesOn (s.world.histories t) (b.world.histories t) = prep.world t (sound.histories t below) in
+      let mrun : IsRun frames m logs u = after_first frame frames s log logs u is in
+      elim (prep.arrival i) [
+        | stood was now same ↦ follows_joined i t s (ms ++ rest) u was (run_reads (frame ∷ frames) s (log ∷ logs) u sound is below was)
+        | comes was now new ↦
+            let all : Reads i t b (ms ++ rest) u = reads_further i t b ms m rest u here (run_reads frames m logs u msound mrun mbelow (begun_alike b m i keep ∙ now)) in
+            let place : ℕ = (begun (counts s) (s.members i)).job.system.places t in
+            follows_new i t s (ms ++ rest) u place was
+            (passes_since (s.world.histories t) (b.world.histories t) (u.world.histories t) place (ms ++ rest) (place_of u i t) goes
+            (subst (λ (x : Member). Passes (x.job.system.places t) (b.world.histories t) (ms ++ rest) (place_of u i t) (u.world.histories t)) new all.passes))
+            (subst (λ (x : Member). (u.members i).totals t ≡ with_entries (map (λ y. y.entry) (ms ++ rest)) (x.totals t)) new all.totals)
+        | waits was now same ↦
+            let none : ms ≡ [] = no_moments i t (systems_in log) b (has_no_turn b (systems_in log) i is.1.in_order now) in
+            subst (λ xs. Follows i t s (xs ++ rest) u) (sym none)
+            (follows_since i t s m rest u was (begun_alike b m i keep ∙ now)
+            (goes_further (s.world.histories t) (b.world.histories t) (m.world.histories t) goes here.passes.goes_on)
+            (run_follows frames m logs u msound mrun mbelow has))
+      ]
+
+-- ---- the laws
+
+module _ (laws : BufferLaws) where
+  pub readers_tile : ReadersTile
+  readers_tile frames s logs u sound is i t below has =
+      let follows : Follows i t s (moments i t frames logs s) u = run_follows laws i t frames s logs u sound is below has in
+      record {
+        entries = (run_tells i t frames s logs u is).entries;
+        tile = follows.passes.tile;
+        gives = follows.passes.gives;
+      }
+
+  pub accounts_add_up : AccountsAddUp
+  accounts_add_up frames s logs u i t sound is below has =
+      (run_follows laws i t frames s logs u sound is below has).totals
+      ∙ ap (λ es. with_entries es (found_totals s u i t)) (sym (run_tells i t frames s logs u is).entries)
+
+  -- ---- message by message
+
+  pub every_message_is_given_once : EveryMessageIsGivenOnce
+  every_message_is_given_once frames s logs u i t sound is below has =
+      let ms : List Moment = moments i t frames logs s in
+      let from : ℕ = found_at s u i t in
+      let to : ℕ = place_of u i t in
+      let last : History Record = u.world.histories t in
+      let passes : Passes from (s.world.histories t) ms to last = (run_follows laws i t frames s logs u sound is below has).passes in
+      let once : IsGivenOnce (map (λ m. m.entry) ms) ms from to last = record {
+        entries = refl;
+        each = meets_one_fate from ms to passes.tile;
+        no_other = λ n k fate met. lies_between from ms to passes.tile n k fate met;
+        in_order = given_in_order from ms to passes.tile;
+        as_written = all_as_written last ms passes.gives passes.earlier passes.written;
+        dropped = missed_are_dropped from ms to passes.tile passes.written;
+        adds_up =
+            let sums = tiles_add_up from ms to passes.tile in
+            omega (arith, counted_given (map (λ m. m.entry) ms), counted_missed (map (λ m. m.entry) ms), counted_cleared (map (λ m. m.entry) ms));
+        counts_given = counted_given (map (λ m. m.entry) ms);
+        counts_missed = counted_missed (map (λ m. m.entry) ms);
+        counts_cleared = counted_cleared (map (λ m. m.entry) ms);
+      } in
+      subst (λ es. IsGivenOnce es ms from to last) (sym (run_tells i t frames s logs u is).entries) once
+
+  pub each_writer_in_order : EachWriterInOrder
+  each_writer_in_order frames s logs u i t writer sound is below has =
+      let ms : List Moment = moments i t frames logs s in
+      let passes = (run_follows laws i t frames s logs u sound is below has).passes in
+      subst (λ es. IsInOrderOf writer es (u.world.histories t)) (sym (run_tells i t frames s logs u is).entries)
+      (in_order_of writer (found_at s u i t) ms (place_of u i t) (u.world.histories t) passes.tile passes.gives passes.earlier passes.written)

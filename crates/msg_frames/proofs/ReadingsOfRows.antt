@@ -1,0 +1,67 @@
+-- Rows: a host posts three messages, then none, then one. One system reads a message in each frame; another joins with
+-- the third frame and clears.
+use Rattle.std.proofs.Common.{◌≡◌, List, [], ◌∷◌, Some, pos, refl}
+use Rattle.msg_world.specs.World.{by, new_world}
+use Rattle.msg_system.specs.declared.op.Op.{Op}
+use Rattle.msg_system.specs.declared.op.Op.TheVariants.{Read, Clear}
+use Rattle.msg_system.specs.declared.start.Start.TheVariants.{Zero}
+use Rattle.msg_system.specs.Systems.{new_system, turn}
+use Rattle.msg_world.specs.declared.record.TheConstants.{HOST}
+use Rattle.msg_frames.specs.declared.place.Place.{Place}
+use Rattle.msg_frames.specs.declared.log.Log.{Log}
+use Rattle.msg_frames.specs.Entries.{Entry}
+use Rattle.msg_frames.specs.Frames.{AfterFrame, frame_in}
+use Rattle.msg_frames.specs.FirstState.{first_state, nowhere}
+use Rattle.msg_frames.specs.Readings.{given, cleared, missed, messages_given, numbers_of}
+use Rattle.msg_frames.specs.State.{State}
+use Rattle.msg_frames.specs.Tiling.{found_at, log_entries, place_of}
+
+abbrev reader : List Op
+reader = Read 0 (Some 1) ∷ []
+
+abbrev clearer : List Op
+clearer = Clear 0 ∷ []
+
+abbrev late : Place
+late = record { conditions = []; join = 3 }
+
+abbrev start : State
+start = first_state (new_system (record { ops = reader; start = Zero }) 0 ∷ new_system (record { ops = clearer; start = Zero }) 1 ∷ [])
+    (nowhere ∷ late ∷ []) [] 1 (new_world (9 ∷ []) [])
+
+abbrev first : AfterFrame
+first = frame_in (0 ∷ []) (record { posts = (0, pos 5) ∷ (0, pos 6) ∷ (0, pos 7) ∷ [] }) start
+
+abbrev second : AfterFrame
+second = frame_in (0 ∷ []) (record { posts = [] }) first.state
+
+-- by the third frame those of the first are dropped
+abbrev third : AfterFrame
+third = frame_in (0 ∷ 1 ∷ []) (record { posts = (0, pos 8) ∷ [] }) second.state
+
+abbrev logs : List Log
+logs = first.log ∷ second.log ∷ third.log ∷ []
+
+abbrev read : List Entry
+read = log_entries 0 0 (start.members 0).job.system logs
+
+-- two are read before the third is dropped, and then the fourth
+read_row : (numbers_of given read ≡ 0 ∷ 1 ∷ 3 ∷ []) × (numbers_of missed read ≡ 2 ∷ []) × (numbers_of cleared read ≡ []) × (place_of third.state 0 0 ≡ 4)
+unfolding turn
+read_row = (refl, refl, refl, refl)
+
+messages_row : messages_given read ≡ by HOST (pos 5) ∷ by HOST (pos 6) ∷ by HOST (pos 8) ∷ []
+unfolding turn
+messages_row = refl
+
+abbrev swept : List Entry
+swept = log_entries 1 0 (start.members 1).job.system logs
+
+-- the other begins at 0, too late for the first three
+swept_row : (found_at start third.state 1 0 ≡ 0) × (numbers_of missed swept ≡ 0 ∷ 1 ∷ 2 ∷ []) × (numbers_of cleared swept ≡ 3 ∷ []) × (numbers_of given swept ≡ [])
+unfolding turn
+swept_row = (refl, refl, refl, refl)
+
+totals_row : (third.state.members 1).totals 0 ≡ record { start = Some 0; got = 0; missed = 3; cleared = 1 }
+unfolding turn
+totals_row = refl

@@ -1,0 +1,306 @@
+-- Each worked run is a run as the definitions say: the order of its turns is the settled one. The accesses, the settled
+-- order and the batch numbers are computed.
+use Rattle.std.proofs.Common.{◌≡◌, ℕ, zero, suc, ◌*◌, ◌^◌, ◌%◌, ◌<◌, ◌≤◌, inl, inr, Bool, true, false, cond, ◌&&◌, ◌||◌, List, [], ◌∷◌, Option, Some, None, map, refl, ap, sym, subst, ◌∙◌, arith}
+use Rattle.std.specs.Prelude.{nat_lt, bit_or, slice_index_or}
+use Rattle.std.specs.List.{range_with_len, list_all, list_any}
+use Rattle.std.proofs.lemmas.Bool.{cases_Bool, cases_eq, cases_lt, and_parts, or_cases, false≢true, false_from_ne_true, eqb-true, eq-eqb, ne_eqb, ltb-true}
+use Rattle.std.proofs.lemmas.List.{get_or_past}
+use Rattle.std.proofs.lemmas.List.FromFn.{get_or-map-range_with_len, length-map-range_with_len}
+use Rattle.msg_world.specs.declared.access.Access.{Access}
+use Rattle.msg_world.specs.Access.{Part, OfType, OfResource, Registry, same_part, has_bit, reads, writes, no_access, Fits}
+use Rattle.msg_world.proofs.Bits.{has_bit-zero, has_bit-set}
+use Rattle.msg_order.specs.Order.{access_of}
+use Rattle.msg_order.proofs.Computing.{each_below, is_turn_order, in_turn_by_test}
+use Rattle.msg_system.specs.declared.op.Op.{Op}
+use Rattle.msg_system.specs.declared.condition.Condition.{Condition}
+use Rattle.msg_system.specs.declared.op.Op.TheVariants.{Read}
+use Rattle.msg_system.specs.declared.program.Program.{Program}
+use Rattle.msg_system.specs.Footprints.{conditions_of}
+use Rattle.msg_system.specs.Systems.{turn}
+use Rattle.msg_system.specs.Needs.{Needs, IsAccessOf, is_part, job_needs, op_parts, probe_part, some_op_reads, some_condition_reads, program_needs, with_conditions}
+use Rattle.msg_frames.specs.declared.frame.Frame.{Frame}
+use Rattle.msg_frames.specs.Frames.{AfterFrame, IsTurnOrderOf, before_turns, frame_in, needs_of}
+use Rattle.msg_frames.specs.FirstState.{nobody, unjoined}
+use Rattle.msg_frames.specs.State.{State, joined}
+use Rattle.msg_frames.proofs.SystemsStay.{before_keeps, frame_keeps, joining_on_keeps}
+use Rattle.msg_frames.specs.Rows.{OrderedFrames, IsRunOf, Setup, start_of, alone, numbered, program, lag, lag_frames, fourth, fourth_frames, writers, writers_frames, contrary, contrary_frames, echo, echo_frames, two_conditions, conditions_frames, tally, tally_frames, late, late_frames, early_frames, gated, gated_frames, signallers, signallers_frames, drained, drained_frames, relay, relay_frames}
+use Rattle.msg_frames.proofs.FramesInOrder.{frame_in_order}
+
+-- ---- accesses, computed
+
+-- the numbers below n that pass the test, as bits
+abbrev mask : (ℕ → Bool) → ℕ → ℕ
+mask test zero = 0
+mask test (suc n) = cond (test n) (bit_or (mask test n) (1 * 2 ^ n % 2 ^ 64)) (mask test n)
+
+mask_above : (test : ℕ → Bool) (n k : ℕ) → n ≤ 64 → n ≤ k → has_bit (mask test n) k ≡ false
+mask_above test zero k few h = has_bit-zero k
+mask_above test (suc n) k few h =
+    let rest : has_bit (mask test n) k ≡ false = mask_above test n k (omega arith) (omega arith) in
+    elim (cases_Bool (test n)) [
+      | inl t ↦ rw t (has_bit-set (mask test n) n k (omega arith) ∙ rw (ne_eqb k n (omega arith)) rest)
+      | inr f ↦ rw f rest
+    ]
+
+mask_below : (test : ℕ → Bool) (n k : ℕ) → n ≤ 64 → k < n → has_bit (mask test n) k ≡ test k
+mask_below test zero k few h = absurd (omega arith)
+mask_below test (suc n) k few h = elim (cases_eq k n) [
+  | inl e ↦ elim (cases_Bool (test n)) [
+    | inl t ↦ rw (t, e) (has_bit-set (mask test n) n n (omega arith) ∙ rw (eq-eqb n n refl, t) refl)
+    | inr f ↦ rw (f, e) (mask_above test n n (omega arith) (omega arith) ∙ sym f)
+  ]
+  | inr ne ↦
+      let rest : has_bit (mask test n) k ≡ test k = mask_below test n k (omega arith) (omega arith) in
+      elim (cases_Bool (test n)) [
+        | inl t ↦ rw t (has_bit-set (mask test n) n k (omega arith) ∙ rw (ne_eqb k n ne) rest)
+        | inr f ↦ rw f rest
+      ]
+]
+
+mask_is : (test : ℕ → Bool) (n : ℕ) → n ≤ 64 → ((k : ℕ) → test k ≡ true → k < n) → (k : ℕ) → has_bit (mask test n) k ≡ test k
+mask_is test n few within k = elim (cases_lt k n) [
+  | inl l ↦ mask_below test n k few l
+  | inr l ↦ mask_above test n k few l ∙ sym (false_from_ne_true (test k) (λ t. let below : k < n = within k t in absurd (omega arith)))
+]
+
+abbrev access_for : ℕ → Needs → Access
+access_for n needs = record {
+  read_types = mask (λ t. needs.reads (OfType t)) n;
+  write_types = mask (λ t. needs.writes (OfType t)) n;
+  read_res = mask (λ r. needs.reads (OfResource r)) n;
+  write_res = mask (λ r. needs.writes (OfResource r)) n;
+  registry = needs.writes Registry;
+}
+
+bit_is_below : (test : ℕ → Bool) (n k : ℕ) → n ≤ 64 → has_bit (mask test n) k ≡ true → k < n
+bit_is_below test n k few t = elim (cases_lt k n) [ inl l ↦ l | inr l ↦ absurd (false≢true (sym (mask_above test n k few l) ∙ t)) ]
+
+access_fits : (n : ℕ) (needs : Needs) → n ≤ 64 → Fits n n (access_for n needs)
+access_fits n needs few = record {
+  types_below = λ t u. elim (or_cases (has_bit (mask (λ t. needs.reads (OfType t)) n) t) (has_bit (mask (λ t. needs.writes (OfType t)) n) t) u) [
+    | inl x ↦ bit_is_below (λ t. needs.reads (OfType t)) n t few x
+    | inr x ↦ bit_is_below (λ t. needs.writes (OfType t)) n t few x
+  ];
+  resources_below = λ r u. elim (or_cases (has_bit (mask (λ r. needs.reads (OfResource r)) n) r) (has_bit (mask (λ r. needs.writes (OfResource r)) n) r) u) [
+    | inl x ↦ bit_is_below (λ r. needs.reads (OfResource r)) n r few x
+    | inr x ↦ bit_is_below (λ r. needs.writes (OfResource r)) n r few x
+  ];
+}
+
+nothing_fits : (n : ℕ) → Fits n n no_access
+nothing_fits n = record {
+  types_below = λ t u. absurd (elim (or_cases (has_bit 0 t) (has_bit 0 t) u) [ inl x ↦ false≢true (sym (has_bit-zero t) ∙ x) | inr x ↦ false≢true (sym (has_bit-zero t) ∙ x) ]);
+  resources_below = λ r u. absurd (elim (or_cases (has_bit 0 r) (has_bit 0 r) u) [ inl x ↦ false≢true (sym (has_bit-zero r) ∙ x) | inr x ↦ false≢true (sym (has_bit-zero r) ∙ x) ]);
+}
+
+-- ---- a job of types and resources below n
+
+abbrev may_read : ℕ → Part → Bool
+may_read n (OfType t) = nat_lt t n
+may_read n (OfResource r) = nat_lt r n
+may_read n Registry = false
+
+abbrev may_write : ℕ → Part → Bool
+may_write n (OfType t) = nat_lt t n
+may_write n (OfResource r) = nat_lt r n
+may_write n Registry = true
+
+abbrev passes : (Part → Bool) → Option Part → Bool
+passes test None = true
+passes test (Some p) = test p
+
+same_is : (p q : Part) → same_part p q ≡ true → p ≡ q
+same_is (OfType t) (OfType u) h = ap OfType (eqb-true t u h)
+same_is (OfResource r) (OfResource s) h = ap OfResource (eqb-true r s h)
+same_is Registry Registry h = refl
+same_is (OfType t) (OfResource s) h = absurd (false≢true h)
+same_is (OfType t) Registry h = absurd (false≢true h)
+same_is (OfResource r) (OfType u) h = absurd (false≢true h)
+same_is (OfResource r) Registry h = absurd (false≢true h)
+same_is Registry (OfType u) h = absurd (false≢true h)
+same_is Registry (OfResource s) h = absurd (false≢true h)
+
+part_passes : (test : Part → Bool) (o : Option Part) (p : Part) → passes test o ≡ true → is_part o p ≡ true → test p ≡ true
+part_passes test None p t h = absurd (false≢true h)
+part_passes test (Some q) p t h = subst (λ z. test z ≡ true) (sym (same_is p q h)) t
+
+any_passes : {X : Type 0} (test : Part → Bool) (part : X → Option Part) (xs : List X) (p : Part) → list_all (λ x. passes test (part x)) xs ≡ true → list_any (λ x. is_part (part x) p) xs ≡ true → test p ≡ true
+any_passes test part [] p all h = absurd (false≢true h)
+any_passes test part (x ∷ xs) p all h =
+    let both = and_parts (passes test (part x)) (list_all (λ x. passes test (part x)) xs) all in
+    elim (or_cases (is_part (part x) p) (list_any (λ x. is_part (part x) p) xs) h) [
+      | inl a ↦ part_passes test (part x) p both.0 a
+      | inr a ↦ any_passes test part xs p both.1 a
+    ]
+
+abbrev is_within : ℕ → List Op → List Condition → Bool
+is_within n ops cs =
+    (list_all (λ op. passes (may_read n) (op_parts op).read) ops && list_all (λ op. passes (may_write n) (op_parts op).written) ops)
+    && list_all (λ c. passes (may_read n) (Some (probe_part c.probe))) cs
+
+reads_within : (n : ℕ) (ops : List Op) (cs : List Condition) → is_within n ops cs ≡ true → (p : Part) → (job_needs ops cs).reads p ≡ true → may_read n p ≡ true
+reads_within n ops cs w p h =
+    let all = and_parts (list_all (λ op. passes (may_read n) (op_parts op).read) ops && list_all (λ op. passes (may_write n) (op_parts op).written) ops) (list_all (λ c. passes (may_read n) (Some (probe_part c.probe))) cs) w in
+    let own = and_parts (list_all (λ op. passes (may_read n) (op_parts op).read) ops) (list_all (λ op. passes (may_write n) (op_parts op).written) ops) all.0 in
+    elim (or_cases ((program_needs ops).reads p) (some_condition_reads cs p) (and_parts ((program_needs ops).reads p || some_condition_reads cs p) _ h).0) [
+      | inl x ↦ any_passes (may_read n) (λ op. (op_parts op).read) ops p own.0 (and_parts (some_op_reads ops p) _ x).0
+      | inr x ↦ any_passes (may_read n) (λ c. Some (probe_part c.probe)) cs p all.1 x
+    ]
+
+writes_within : (n : ℕ) (ops : List Op) (cs : List Condition) → is_within n ops cs ≡ true → (p : Part) → (job_needs ops cs).writes p ≡ true → may_write n p ≡ true
+writes_within n ops cs w p h =
+    let all = and_parts (list_all (λ op. passes (may_read n) (op_parts op).read) ops && list_all (λ op. passes (may_write n) (op_parts op).written) ops) (list_all (λ c. passes (may_read n) (Some (probe_part c.probe))) cs) w in
+    let own = and_parts (list_all (λ op. passes (may_read n) (op_parts op).read) ops) (list_all (λ op. passes (may_write n) (op_parts op).written) ops) all.0 in
+    any_passes (may_write n) (λ op. (op_parts op).written) ops p own.1 h
+
+access_is : (n : ℕ) (ops : List Op) (cs : List Condition) → n ≤ 64 → is_within n ops cs ≡ true → IsAccessOf (job_needs ops cs) (access_for n (job_needs ops cs))
+access_is n ops cs few w = record { reads = read; writes = written }
+  where
+    needs : Needs
+    needs = job_needs ops cs
+
+    read : (p : Part) → reads (access_for n needs) p ≡ needs.reads p
+    read (OfType t) = mask_is (λ t. needs.reads (OfType t)) n few (λ k h. ltb-true k n (reads_within n ops cs w (OfType k) h)) t
+    read (OfResource r) = mask_is (λ r. needs.reads (OfResource r)) n few (λ k h. ltb-true k n (reads_within n ops cs w (OfResource k) h)) r
+    read Registry = sym (false_from_ne_true (needs.reads Registry) (λ h. absurd (false≢true (reads_within n ops cs w Registry h))))
+
+    written : (p : Part) → writes (access_for n needs) p ≡ needs.writes p
+    written (OfType t) = mask_is (λ t. needs.writes (OfType t)) n few (λ k h. ltb-true k n (writes_within n ops cs w (OfType k) h)) t
+    written (OfResource r) = mask_is (λ r. needs.writes (OfResource r)) n few (λ k h. ltb-true k n (writes_within n ops cs w (OfResource k) h)) r
+    written Registry = refl
+
+-- ---- the turns of a frame
+
+-- the worlds of the worked runs have two types and one resource at most
+abbrev most : ℕ
+most = 2
+
+abbrev accesses_of : State → List Access
+accesses_of s = map (λ i. access_for most (needs_of (s.members i))) (range_with_len 0 s.systems)
+
+-- the ops of program i
+abbrev ops_at : List Program → ℕ → List Op
+ops_at programs i = (slice_index_or programs i (program [])).ops
+
+-- the systems need what these programs need
+abbrev ArePrograms : List Program → State → Type 0
+ArePrograms programs s = (i : ℕ) → (s.members i).job.system.needs ≡ program_needs (ops_at programs i)
+
+abbrev job_is_within : List Program → State → ℕ → Bool
+job_is_within programs s i = is_within most (ops_at programs i) (conditions_of (s.members i).job)
+
+abbrev are_turns_of : List Program → State → List ℕ → Bool
+are_turns_of programs s order = list_all (job_is_within programs s) (range_with_len 0 s.systems) && is_turn_order most (accesses_of s) s.rules (joined s) order
+
+turns_of : (programs : List Program) (s : State) (order : List ℕ) → ArePrograms programs s → are_turns_of programs s order ≡ true → IsTurnOrderOf s order
+turns_of programs s order are t =
+    let both = and_parts (list_all (job_is_within programs s) (range_with_len 0 s.systems)) (is_turn_order most (accesses_of s) s.rules (joined s) order) t in
+    let access : ℕ → Access = λ i. access_for most (needs_of (s.members i)) in
+    let is : (i : ℕ) → i < s.systems → access_of (accesses_of s) i ≡ access i = λ i lt. get_or-map-range_with_len access 0 s.systems i i no_access lt (omega arith) in
+    let fit : (i : ℕ) → Fits most most (access_of (accesses_of s) i) = λ i. elim (cases_lt i s.systems) [
+      | inl lt ↦ subst (Fits most most) (sym (is i lt)) (access_fits most (needs_of (s.members i)) (omega arith))
+      | inr past ↦ subst (Fits most most) (sym (get_or_past (accesses_of s) i no_access (omega (arith, length-map-range_with_len access 0 s.systems)))) (nothing_fits most)
+    ] in
+    let turn = in_turn_by_test most (accesses_of s) s.rules (joined s) order fit both.1 in
+    record {
+      settled = turn.settled;
+      is_order = record {
+        accesses = accesses_of s;
+        of_systems = record {
+          each = length-map-range_with_len access 0 s.systems;
+          of_needs = λ i lt. subst (IsAccessOf (needs_of (s.members i))) (sym (is i lt))
+              (subst (λ (n : Needs). IsAccessOf (with_conditions n (conditions_of (s.members i).job)) (access_for most (with_conditions n (conditions_of (s.members i).job)))) (sym (are i))
+              (access_is most (ops_at programs i) (conditions_of (s.members i).job) (omega arith) (each_below (job_is_within programs s) s.systems i both.0 lt)));
+        };
+        is_settled = turn.is_settled;
+      };
+      in_order = turn.in_order;
+    }
+
+-- ---- runs
+
+-- the order of each frame is the settled one
+abbrev are_in_order : List Program → OrderedFrames → State → Bool
+are_in_order programs [] s = true
+are_in_order programs (f ∷ fs) s = are_turns_of programs (before_turns f.0 s) f.1 && are_in_order programs fs (frame_in f.1 (record { posts = f.0 }) s).state
+
+is_run : (programs : List Program) (frames : OrderedFrames) (s : State) → ArePrograms programs s → are_in_order programs frames s ≡ true → IsRunOf frames s
+is_run programs [] s are t = refl
+is_run programs (f ∷ fs) s are t =
+    let both = and_parts (are_turns_of programs (before_turns f.0 s) f.1) (are_in_order programs fs (frame_in f.1 (record { posts = f.0 }) s).state) t in
+    let frame : Frame = record { posts = f.0 } in
+    let here : AfterFrame = frame_in f.1 frame s in (
+      here.state,
+      frame_in_order frame s here.log f.1 (turns_of programs (before_turns f.0 s) f.1 (λ i. ((before_keeps f.0 s).members i).needs ∙ are i) both.0) refl,
+      is_run programs fs here.state (λ i. ((frame_keeps f.1 frame s).members i).needs ∙ are i) both.1,
+    )
+
+numbered_are : (n : ℕ) (programs : List Program) (i : ℕ) → (slice_index_or (numbered n programs) i nobody).needs ≡ program_needs (ops_at programs i)
+numbered_are n [] i = refl
+numbered_are n (p ∷ ps) zero = refl
+numbered_are n (p ∷ ps) (suc i) = numbered_are (suc n) ps i
+
+row : (x : Setup) (frames : OrderedFrames) → are_in_order x.programs frames (start_of x) ≡ true → IsRunOf frames (start_of x)
+row x frames t =
+    is_run x.programs frames (start_of x)
+    (λ i. ((joining_on_keeps 1 (unjoined (numbered 0 x.programs) x.places x.rules x.types x.world)).members i).needs ∙ numbered_are 0 x.programs i) t
+
+no_frames_is_a_run : IsRunOf [] (start_of alone)
+unfolding turn
+no_frames_is_a_run = row alone [] refl
+
+one_frames_lag_is_a_run : IsRunOf lag_frames (start_of lag)
+unfolding turn
+one_frames_lag_is_a_run = row lag lag_frames refl
+
+exactly_two_updates_is_a_run : IsRunOf fourth_frames (start_of (fourth (Read 0 None ∷ [])))
+unfolding turn
+exactly_two_updates_is_a_run = row (fourth (Read 0 None ∷ [])) fourth_frames refl
+
+read_of_none_is_a_run : IsRunOf fourth_frames (start_of (fourth (Read 0 (Some 0) ∷ Read 0 None ∷ [])))
+unfolding turn
+read_of_none_is_a_run = row (fourth (Read 0 (Some 0) ∷ Read 0 None ∷ [])) fourth_frames refl
+
+host_and_two_writers_is_a_run : IsRunOf writers_frames (start_of writers)
+unfolding turn
+host_and_two_writers_is_a_run = row writers writers_frames refl
+
+contradictory_order_is_a_run : IsRunOf contrary_frames (start_of contrary)
+unfolding turn
+contradictory_order_is_a_run = row contrary contrary_frames refl
+
+own_message_asked_is_a_run : IsRunOf echo_frames (start_of echo)
+unfolding turn
+own_message_asked_is_a_run = row echo echo_frames refl
+
+all_conditions_is_a_run : IsRunOf conditions_frames (start_of two_conditions)
+unfolding turn
+all_conditions_is_a_run = row two_conditions conditions_frames refl
+
+saturation_is_a_run : IsRunOf tally_frames (start_of tally)
+unfolding turn
+saturation_is_a_run = row tally tally_frames refl
+
+late_systems_is_a_run : IsRunOf late_frames (start_of late)
+unfolding turn
+late_systems_is_a_run = row late late_frames refl
+
+late_systems_wait_is_a_run : IsRunOf early_frames (start_of late)
+unfolding turn
+late_systems_wait_is_a_run = row late early_frames refl
+
+held_updates_is_a_run : IsRunOf gated_frames (start_of gated)
+unfolding turn
+held_updates_is_a_run = row gated gated_frames refl
+
+several_signals_is_a_run : IsRunOf signallers_frames (start_of signallers)
+unfolding turn
+several_signals_is_a_run = row signallers signallers_frames refl
+
+drain_between_readers_is_a_run : IsRunOf drained_frames (start_of drained)
+unfolding turn
+drain_between_readers_is_a_run = row drained drained_frames refl
+
+forward_at_the_limit_is_a_run : IsRunOf relay_frames (start_of relay)
+unfolding turn
+forward_at_the_limit_is_a_run = row relay relay_frames refl

@@ -1,0 +1,117 @@
+-- Frames keep states sound.
+use Rattle.std.proofs.Common.{◌≡◌, ℕ, suc, ◌≤◌, ◌<◌, max, List, [], ◌∷◌, Contains, refl, sym, ap₂, subst, ◌∙◌, arith, inl, inr}
+use Rattle.std.specs.Prelude.{IsTrue, IsFalse, nat_le, false}
+use Rattle.std.proofs.lemmas.Bool.{cases_Bool, false≢true, leb-false, leb-true}
+use Rattle.std.proofs.lemmas.List.{get_or_past}
+use Rattle.std.proofs.lemmas.List.FromFn.{get_or-map-range_with_len, length-map-range_with_len}
+use Rattle.msg_buffer.specs.History.{count}
+use Rattle.msg_order.specs.Order.{has_joined}
+use Rattle.msg_frames.specs.declared.frame.Frame.{Frame}
+use Rattle.msg_frames.specs.declared.log.Log.{Log}
+use Rattle.msg_frames.specs.Entries.{no_totals}
+use Rattle.msg_frames.specs.Frames.{IsFrame, IsRun, IsTurnOrderOf, after_turns_of, before_turns, begun, counts, systems_in}
+use Rattle.msg_frames.specs.Soundness.{IsBalanced, IsSoundState}
+use Rattle.msg_frames.specs.State.{Member, State, has_begun, joined}
+use Rattle.msg_frames.specs.Tiling.{place_of}
+use Rattle.msg_frames.proofs.HistoriesGrow.{BufferLaws, counts_more, turns_go_on}
+use Rattle.msg_frames.proofs.SystemsStay.{turns_keep}
+use Rattle.msg_frames.proofs.EntriesAddUp.{stays_balanced}
+use Rattle.msg_frames.proofs.ReaderOverTurns.{Keeps, turns_read, turns_skip}
+use Rattle.msg_frames.proofs.BeforeTurns.{Prepares, begun_within, comes, prepares, stood, waits}
+
+-- ---- who has a turn
+
+has_joined_has_begun : (b : State) (i : ℕ) → IsTrue (has_joined (joined b) i) → IsTrue (has_begun b i)
+has_joined_has_begun b i is = elim (cases_Bool (nat_le (suc i) b.systems)) [
+  | inl e ↦ sym (get_or-map-range_with_len (has_begun b) 0 b.systems i i false (leb-true (suc i) b.systems e) (omega arith)) ∙ is
+  | inr e ↦ absurd (false≢true (sym (past e) ∙ is))
+]
+  where
+    past : IsFalse (nat_le (suc i) b.systems) → has_joined (joined b) i ≡ false
+    past e =
+        let lt = leb-false (suc i) b.systems e in
+        let long = length-map-range_with_len (has_begun b) 0 b.systems in
+        get_or_past (joined b) i false (omega arith)
+
+-- one that waits has no turn
+pub has_no_turn : (b : State) (order : List ℕ) (i : ℕ) → IsTurnOrderOf b order → IsFalse (has_begun b i) → ¬ Contains order i
+has_no_turn b order i ordered isnt at = false≢true (sym isnt ∙ has_joined_has_begun b i ((ordered.in_order.of_joined i).0 at))
+
+pub begun_alike : (b u : State) (i : ℕ) → Keeps b u → has_begun u i ≡ has_begun b i
+begun_alike b u i keep = ap₂ (λ j n. nat_le j (max 1 n)) (keep.0.members i).join keep.1
+
+-- ---- before the turns
+
+pub balanced_start : (m : Member) (counts : List ℕ) (t : ℕ) → IsBalanced ((begun counts m).totals t) ((begun counts m).job.system.places t)
+balanced_start m counts t = record { begin = (begun counts m).job.system.places t; start = refl; adds_up = omega arith }
+
+module _ (s b : State) (sound : IsSoundState s) (prep : Prepares s b) where
+  prepared_places : (i t : ℕ) → t < s.types → place_of b i t ≤ count (b.world.histories t)
+  prepared_places i t below =
+      let within : place_of s i t ≤ count (s.world.histories t) = sound.places i t below in
+      let more : count (s.world.histories t) ≤ count (b.world.histories t) = counts_more (s.world.histories t) (b.world.histories t) (prep.world t (sound.histories t below)) in
+      elim (prep.arrival i) [
+        | stood was has same ↦ rw (place_of, same) (omega arith)
+        | comes was has is ↦ let new = begun_within s i t below within in rw (place_of, is) (omega arith)
+        | waits was has same ↦ rw (place_of, same) (omega arith)
+      ]
+
+  prepared_waiting : (i t : ℕ) → IsFalse (has_begun b i) → (place_of b i t ≡ 0) × ((b.members i).totals t ≡ no_totals)
+  prepared_waiting i t isnt = elim (prep.arrival i) [
+    | stood was has same ↦ absurd (false≢true (sym isnt ∙ has))
+    | comes was has is ↦ absurd (false≢true (sym isnt ∙ has))
+    | waits was has same ↦ subst (λ (m : Member). (m.job.system.places t ≡ 0) × (m.totals t ≡ no_totals)) (sym same) (sound.waiting i t was)
+  ]
+
+  prepared_balanced : (i t : ℕ) → t < s.types → IsTrue (has_begun b i) → IsBalanced ((b.members i).totals t) (place_of b i t)
+  prepared_balanced i t below is_begun = elim (prep.arrival i) [
+    | stood was has same ↦ subst (λ (m : Member). IsBalanced (m.totals t) (m.job.system.places t)) (sym same) (sound.balanced i t below was)
+    | comes was has is ↦ subst (λ (m : Member). IsBalanced (m.totals t) (m.job.system.places t)) (sym is) (balanced_start (s.members i) (counts s) t)
+    | waits was has same ↦ absurd (false≢true (sym has ∙ is_begun))
+  ]
+
+  pub prepared_sound : IsSoundState b
+  prepared_sound = record {
+    histories = λ t below. (prep.world t (sound.histories t (subst (λ n. t < n) prep.same.types below))).sound;
+    places = λ i t below. prepared_places i t (subst (λ n. t < n) prep.same.types below);
+    joins = λ i. subst (λ n. 1 ≤ n) (sym (prep.same.members i).join) (sound.joins i);
+    writers = λ i below. (prep.same.members i).writer ∙ sound.writers i (subst (λ n. i < n) prep.same.systems below);
+    waiting = prepared_waiting;
+    balanced = λ i t below. prepared_balanced i t (subst (λ n. t < n) prep.same.types below);
+  }
+
+-- ---- the turns, frames and runs
+
+module _ (laws : BufferLaws) where
+  turns_sound : (b : State) (order : List ℕ) → IsSoundState b → IsTurnOrderOf b order → IsSoundState (after_turns_of order b).state
+  turns_sound b order sound ordered =
+      let u : State = (after_turns_of order b).state in
+      let keep : Keeps b u = turns_keep order b in
+      record {
+        histories = λ t below. (turns_go_on laws.grow order b t (sound.histories t (subst (λ n. t < n) keep.0.types below))).sound;
+        places = λ i t below.
+            let under : t < b.types = subst (λ n. t < n) keep.0.types below in
+            (turns_read laws i t order b (sound.histories t under) (sound.places i t under)).passes.within;
+        joins = λ i. subst (λ n. 1 ≤ n) (sym (keep.0.members i).join) (sound.joins i);
+        writers = λ i below. (keep.0.members i).writer ∙ sound.writers i (subst (λ n. i < n) keep.0.systems below);
+        waiting = λ i t isnt.
+            let was : IsFalse (has_begun b i) = sym (begun_alike b u i keep) ∙ isnt in
+            subst (λ (m : Member). (m.job.system.places t ≡ 0) × (m.totals t ≡ no_totals))
+            (sym (turns_skip i order b (has_no_turn b order i ordered was))) (sound.waiting i t was);
+        balanced = λ i t below is_begun.
+            let under : t < b.types = subst (λ n. t < n) keep.0.types below in
+            let reads = turns_read laws i t order b (sound.histories t under) (sound.places i t under) in
+            subst (λ x. IsBalanced x (place_of u i t)) (sym reads.totals)
+            (stays_balanced ((b.members i).totals t) (place_of b i t) _ (place_of u i t) (sound.balanced i t under (sym (begun_alike b u i keep) ∙ is_begun)) reads.passes.tile);
+      }
+
+  pub frame_sound : (frame : Frame) (s : State) (log : Log) (u : State) → IsSoundState s → IsFrame frame s log u → IsSoundState u
+  frame_sound frame s log u sound is =
+      let b : State = before_turns frame.posts s in
+      subst IsSoundState (sym is.leaves) (turns_sound b (systems_in log) (prepared_sound s b sound (prepares laws.grow frame.posts s)) is.in_order)
+
+  pub run_sound : (frames : List Frame) (s : State) (logs : List Log) (u : State) → IsSoundState s → IsRun frames s logs u → IsSoundState u
+  run_sound [] s [] u sound is = subst IsSoundState (sym is) sound
+  run_sound [] s (log ∷ logs) u sound is = absurd is
+  run_sound (frame ∷ frames) s [] u sound is = absurd is
+  run_sound (frame ∷ frames) s (log ∷ logs) u sound is = run_sound frames is.0 logs u (frame_sound frame s log is.0 sound is.1) is.2

@@ -1,0 +1,97 @@
+-- What the replies of a system tell of its readers: what each read and each clear went past. A reader is a
+-- system and a type that it reads.
+use Rattle.std.specs.Prelude.{ℕ, ◌+◌, ◌==◌, false, Bool, List, [], ◌∷◌, ◌++◌, length, map, sum, Option, Some, None, option_to_list, if◌then◌else◌}
+use Rattle.msg_buffer.specs.Reader.{Stretch}
+use Rattle.msg_world.specs.declared.record.Record.{Record}
+use Rattle.msg_system.specs.declared.op.Op.{Op}
+use Rattle.msg_system.specs.declared.reply.Reply.{Reply}
+use Rattle.msg_system.specs.declared.reply.Reply.TheVariants.{Wrote, Spent, Read, Len, Missed, Cleared, Forwarded, Summed, Value, Drained, Signalled}
+use Rattle.msg_system.specs.declared.reply.Took.{Took}
+use Rattle.msg_system.specs.Needs.{Needs, type_read}
+use Rattle.msg_system.specs.Systems.{Meaning, Rule, if_kept, ops_answered}
+use Rattle.msg_frames.specs.declared.log.Outcome.{Outcome}
+use Rattle.msg_frames.specs.declared.log.Outcome.TheVariants.{Skipped, Ran}
+use Rattle.msg_frames.specs.declared.totals.Totals.{Totals}
+
+-- What a reader went past by one op: a stretch of messages, which it was given, or which it cleared.
+pub record Entry : Type 0 where
+  pub stretch : Stretch
+  -- the messages that it was given; none where it cleared them
+  pub given : Option (List Record)
+
+-- an op that reads is told by what it took
+abbrev pub entry_of_read : Took → Entry
+entry_of_read took = record {
+  stretch = record { missed = took.missed; first = took.first; number = length took.items };
+  given = Some took.items;
+}
+
+-- the entry that a reply tells of; an op that only asks or writes goes past nothing
+abbrev pub entry_of : Reply → Option Entry
+entry_of (Wrote numbers) = None
+entry_of Spent = None
+entry_of (Read took) = Some (entry_of_read took)
+entry_of (Len n) = None
+entry_of (Missed n) = None
+entry_of (Cleared missed first n) = Some (record { stretch = record { missed = missed; first = first; number = n }; given = None })
+entry_of (Forwarded took wrote) = Some (entry_of_read took)
+entry_of (Summed took value) = Some (entry_of_read took)
+entry_of (Value value) = None
+entry_of (Drained first items) = None
+entry_of Signalled = None
+
+-- the op reads the type
+abbrev pub op_reads_type : ℕ → Op → Bool
+op_reads_type t op = elim (type_read op) [ None ↦ false | Some u ↦ u == t ]
+
+-- the entry of an op for a type
+abbrev pub entry_for : ℕ → Op → Reply → List Entry
+entry_for t op reply = if op_reads_type t op then option_to_list (entry_of reply) else []
+
+-- the entries for a type among the replies to these ops
+abbrev pub entries_for : ℕ → List Op → List Reply → List Entry
+entries_for t [] replies = []
+entries_for t (op ∷ ops) [] = []
+entries_for t (op ∷ ops) (reply ∷ replies) = entry_for t op reply ++ entries_for t ops replies
+
+-- what a system was told by a turn: the replies; nothing where it was skipped
+abbrev pub answers : Outcome → List (List Reply)
+answers Skipped = []
+answers (Ran replies) = replies ∷ []
+
+-- the ops of its next turn that these are the replies to
+abbrev pub ops_by : Needs → Rule → List Reply → List Op
+ops_by n rule replies = ops_answered (λ so_far. if_kept n (rule [] so_far)) replies
+
+-- The entries for a type of a system that takes turns which are answered so, one after the other.
+abbrev pub entries_told : ℕ → Needs → Rule → List (List Reply) → List Entry
+entries_told t n rule [] = []
+entries_told t n rule (replies ∷ turns) =
+    entries_for t (ops_by n rule replies) replies ++ entries_told t n (λ later now. rule (replies ∷ later) now) turns
+
+-- those of one turn
+abbrev pub outcome_entries : ℕ → Meaning → Outcome → List Entry
+outcome_entries t m outcome = entries_told t m.needs m.rule (answers outcome)
+
+-- how many messages it was given, and how many it cleared
+abbrev pub number_given : Entry → ℕ
+number_given e = elim e.given [ None ↦ 0 | Some items ↦ e.stretch.number ]
+
+abbrev pub number_cleared : Entry → ℕ
+number_cleared e = elim e.given [ None ↦ e.stretch.number | Some items ↦ 0 ]
+
+-- the totals of a reader that hasn't joined
+abbrev pub no_totals : Totals
+no_totals = record { start = None; got = 0; missed = 0; cleared = 0 }
+
+-- the totals of a reader that joins at this place
+abbrev pub totals_from : ℕ → Totals
+totals_from place = record { start = Some place; got = 0; missed = 0; cleared = 0 }
+
+-- the totals with more entries
+abbrev pub with_entries : List Entry → Totals → Totals
+with_entries es x = record x {
+  got = x.got + sum (map number_given es);
+  missed = x.missed + sum (map (λ e. e.stretch.missed) es);
+  cleared = x.cleared + sum (map number_cleared es);
+}

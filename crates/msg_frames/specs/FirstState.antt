@@ -1,0 +1,59 @@
+-- A state before any frame, and which systems and rules make none.
+use Rattle.std.specs.Prelude.{◌≡◌, ℕ, ◌&&◌, true, List, [], length, map, replicate, slice_index_or, IsTrue}
+use Rattle.msg_world.specs.Access.{Part}
+use Rattle.msg_world.specs.World.{WorldState}
+use Rattle.msg_order.specs.declared.rule.Rule.{Rule}
+use Rattle.msg_order.specs.Graph.{Graph}
+use Rattle.msg_order.specs.Order.{rules_among}
+use Rattle.msg_system.specs.Conditions.{Job, new_asked}
+use Rattle.msg_system.specs.declared.start.Start.TheVariants.{Zero}
+use Rattle.msg_system.specs.Systems.{Meaning, new_system}
+use Rattle.msg_frames.specs.declared.place.Place.{Place}
+use Rattle.msg_frames.specs.Entries.{no_totals}
+use Rattle.msg_frames.specs.Frames.{with_joining}
+use Rattle.msg_frames.specs.State.{Member, State}
+
+-- the default for a number that is no system's: no ops, writer 0
+abbrev pub nobody : Meaning
+nobody = new_system (record { ops = []; start = Zero }) 0
+
+abbrev pub nowhere : Place
+nowhere = record { conditions = []; join = 1 }
+
+-- it writes as this number, and was given nothing
+pub record IsNew (i : ℕ) (m : Meaning) : Type 0 where
+  pub writer : m.writer ≡ i
+  pub places : (t : ℕ) → m.places t ≡ 0
+
+-- the job of a system that was given nothing, with the conditions of its place
+abbrev pub new_job : Meaning → Place → Job
+new_job system place = record { system = system; conditions = map new_asked place.conditions }
+
+-- a system that hasn't joined
+abbrev pub waiting : Meaning → Place → Member
+waiting system place = record { job = new_job system place; join = place.join; totals = λ t. no_totals }
+
+-- No frame was run, and nobody has joined.
+abbrev pub unjoined : List Meaning → List Place → List Rule → ℕ → WorldState → State
+unjoined systems places rules types world = record {
+  systems = length systems;
+  members = λ i. waiting (slice_index_or systems i nobody) (slice_index_or places i nowhere);
+  rules = rules;
+  types = types;
+  world = world;
+  frames = 0;
+}
+
+-- No frame was run, and those of join 1 have joined.
+abbrev pub first_state : List Meaning → List Place → List Rule → ℕ → WorldState → State
+first_state systems places rules types world = with_joining 1 (unjoined systems places rules types world)
+
+-- ---- what makes none
+
+-- it reads and writes one part
+abbrev pub HasClash : Meaning → Type 0
+HasClash m = (p : Part) × IsTrue (m.needs.reads p && m.needs.writes p)
+
+-- the rules of all systems, as edges
+abbrev pub all_rules : ℕ → List Rule → Graph
+all_rules systems rules = rules_among (replicate systems true) rules

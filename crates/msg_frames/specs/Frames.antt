@@ -1,0 +1,175 @@
+-- A frame, and frames one after the other.
+use Rattle.std.specs.Prelude.{◌≡◌, ℕ, suc, ℤ, ◌<◌, ◌==◌, List, [], ◌∷◌, length, map, Option, Some, None, if◌then◌else◌}
+use Rattle.std.specs.List.{range_with_len}
+use Rattle.msg_buffer.specs.History.{count, write}
+use Rattle.msg_world.specs.declared.access.Access.{Access}
+use Rattle.msg_world.specs.declared.record.TheConstants.{HOST}
+use Rattle.msg_world.specs.World.{WorldState, by, updated, with_history}
+use Rattle.msg_order.specs.Graph.{Graph}
+use Rattle.msg_order.specs.Order.{IsSettledOrder, IsTurnOrder, access_of}
+use Rattle.msg_system.specs.declared.reply.Reply.{Reply}
+use Rattle.msg_system.specs.Conditions.{AfterJob, Job, after_job, asked_started}
+use Rattle.msg_system.specs.Footprints.{conditions_of}
+use Rattle.msg_system.specs.Needs.{IsAccessOf, Needs, with_conditions}
+use Rattle.msg_system.specs.Programs.{numbers_for, write_reply}
+use Rattle.msg_system.specs.Systems.{started}
+use Rattle.msg_frames.specs.declared.frame.Frame.{Frame}
+use Rattle.msg_frames.specs.declared.log.Log.{Log}
+use Rattle.msg_frames.specs.declared.log.Turn.{Turn}
+use Rattle.msg_frames.specs.declared.log.Outcome.{Outcome}
+use Rattle.msg_frames.specs.declared.log.Outcome.TheVariants.{Skipped, Ran}
+use Rattle.msg_frames.specs.Entries.{outcome_entries, totals_from, with_entries}
+use Rattle.msg_frames.specs.State.{Member, State, joined}
+
+-- ---- joining
+
+-- how many messages of each type were ever written
+abbrev pub counts : State → List ℕ
+counts s = map (λ t. count (s.world.histories t)) (range_with_len 0 s.types)
+
+-- a job whose cursors stand where they start
+abbrev pub job_begun : List ℕ → Job → Job
+job_begun counts j = record {
+  system = started counts j.system;
+  conditions = map (asked_started j.system.start counts) j.conditions;
+}
+
+-- A system joins: its cursors and those of its conditions stand where they start, and its accounts begin there.
+abbrev pub begun : List ℕ → Member → Member
+begun counts m = record m {
+  job = job_begun counts m.job;
+  totals = λ t. totals_from ((started counts m.job.system).places t);
+}
+
+-- those that join with frame k have joined
+abbrev pub with_joining : ℕ → State → State
+with_joining k s = record s { members = λ i. if (s.members i).join == k then begun (counts s) (s.members i) else s.members i }
+
+-- Those that join with the next frame do so. With the first frame none does, since they joined before.
+abbrev pub joining : State → State
+joining s = if s.frames == 0 then s else with_joining (suc s.frames) s
+
+-- ---- what the host posts
+
+-- the world after the posts, each of a value to a type
+abbrev pub posted : List (ℕ × ℤ) → WorldState → WorldState
+posted [] w = w
+posted (p ∷ ps) w = posted ps (with_history w p.0 (write (by HOST p.1 ∷ []) (w.histories p.0)))
+
+-- what they are answered
+abbrev pub post_replies : List (ℕ × ℤ) → WorldState → List Reply
+post_replies [] w = []
+post_replies (p ∷ ps) w =
+    write_reply (numbers_for (w.histories p.0) 1)
+    ∷ post_replies ps (with_history w p.0 (write (by HOST p.1 ∷ []) (w.histories p.0)))
+
+-- ---- turns
+
+-- what came of a job
+abbrev pub outcome_of : Option (List Reply) → Outcome
+outcome_of None = Skipped
+outcome_of (Some replies) = Ran replies
+
+-- What a system's turn leaves of it and of the world, and what came of it.
+pub record AfterTurn : Type 0 where
+  pub member : Member
+  pub world : WorldState
+  pub outcome : Outcome
+
+-- its job, and the entries of that in its accounts
+abbrev pub member_turn : Member → WorldState → AfterTurn
+member_turn m w =
+    let after : AfterJob = after_job m.job w in
+    record {
+      member = record m { job = after.job; totals = λ t. with_entries (outcome_entries t m.job.system (outcome_of after.replies)) (m.totals t) };
+      world = after.state;
+      outcome = outcome_of after.replies;
+    }
+
+-- the turn of system i
+abbrev pub turn_of : State → ℕ → AfterTurn
+turn_of s i = member_turn (s.members i) s.world
+
+abbrev pub with_member : (ℕ → Member) → ℕ → Member → ℕ → Member
+with_member members i m = λ k. if k == i then m else members k
+
+abbrev pub after_turn_of : ℕ → State → State
+after_turn_of i s = record s { members = with_member s.members i (turn_of s i).member; world = (turn_of s i).world }
+
+-- what the log says of it
+abbrev pub logged : State → ℕ → Turn
+logged s i = record { system = i; outcome = (turn_of s i).outcome }
+
+-- What the turns of some systems leave, and the log of them.
+pub record AfterTurns : Type 0 where
+  pub state : State
+  pub turns : List Turn
+
+-- one system after the other, on one thread
+abbrev pub after_turns_of : List ℕ → State → AfterTurns
+after_turns_of [] s = record { state = s; turns = [] }
+after_turns_of (i ∷ is) s =
+    let rest : AfterTurns = after_turns_of is (after_turn_of i s) in
+    record { state = rest.state; turns = logged s i ∷ rest.turns }
+
+-- ---- a frame
+
+-- Before the turns: those that join do so, every type is updated (a held world where it was signalled), and the
+-- host's posts are written.
+abbrev pub before_turns : List (ℕ × ℤ) → State → State
+before_turns posts s =
+    let ready : State = joining s in
+    record ready { world = posted posts (updated ready.world); frames = suc ready.frames }
+
+-- What a frame leaves, and its log.
+pub record AfterFrame : Type 0 where
+  pub state : State
+  pub log : Log
+
+-- the frame whose systems take their turns in this order
+abbrev pub frame_in : List ℕ → Frame → State → AfterFrame
+frame_in order frame s =
+    let turns : AfterTurns = after_turns_of order (before_turns frame.posts s) in
+    record {
+      state = turns.state;
+      log = record { posts = post_replies frame.posts (updated s.world); turns = turns.turns };
+    }
+
+-- what a member's job needs: its system and its conditions
+abbrev pub needs_of : Member → Needs
+needs_of m = with_conditions m.job.system.needs (conditions_of m.job)
+
+-- the accesses of the systems, in order of addition
+pub record AreAccessesOf (s : State) (accesses : List Access) : Type 0 where
+  pub each : length accesses ≡ s.systems
+  pub of_needs : (i : ℕ) → i < s.systems → IsAccessOf (needs_of (s.members i)) (access_of accesses i)
+
+-- The order is settled among those that have joined, by their accesses and the rules.
+pub record IsOrderOf (s : State) (settled : Graph) : Type 0 where
+  pub accesses : List Access
+  pub of_systems : AreAccessesOf s accesses
+  pub is_settled : IsSettledOrder accesses s.rules (joined s) settled
+
+-- All that have joined, by batch number in the settled order, and then by addition.
+pub record IsTurnOrderOf (s : State) (order : List ℕ) : Type 0 where
+  pub settled : Graph
+  pub is_order : IsOrderOf s settled
+  pub in_order : IsTurnOrder settled (joined s) order
+
+-- the systems in the order in which the log has their turns
+abbrev pub systems_in : Log → List ℕ
+systems_in log = map (λ turn. turn.system) log.turns
+
+-- A frame on the state s has this log and leaves the state u: its systems took their turns in the settled order, one
+-- after the other on one thread.
+pub record IsFrame (frame : Frame) (s : State) (log : Log) (u : State) : Type 0 where
+  pub in_order : IsTurnOrderOf (before_turns frame.posts s) (systems_in log)
+  pub tells : log ≡ (frame_in (systems_in log) frame s).log
+  pub leaves : u ≡ (frame_in (systems_in log) frame s).state
+
+-- Frames one after the other have these logs, and leave the state u.
+abbrev pub IsRun : List Frame → State → List Log → State → Type 0
+IsRun [] s [] u = u ≡ s
+IsRun [] s (log ∷ logs) u = ⊥
+IsRun (frame ∷ frames) s [] u = ⊥
+IsRun (frame ∷ frames) s (log ∷ logs) u = (m : State) × IsFrame frame s log m × IsRun frames m logs u

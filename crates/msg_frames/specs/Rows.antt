@@ -1,0 +1,469 @@
+-- Worked runs: systems, frames with the order of their turns, and the logs that come of them, by computation. Of each of
+-- them it is proved that it is a run (`IsRunOf`), since its turns are in the settled order.
+use Rattle.std.specs.Prelude.{◌≡◌, ℕ, suc, ℤ, pos, negsuc, List, [], ◌∷◌, ◌++◌, map, Some, None, refl}
+use Rattle.msg_world.specs.declared.record.Record.{Record}
+use Rattle.msg_order.specs.declared.rule.Rule.{Rule}
+use Rattle.msg_world.specs.World.{WorldState, by, held, new_world}
+use Rattle.msg_system.specs.declared.condition.Condition.{Condition}
+use Rattle.msg_system.specs.declared.condition.Probe.TheVariants.{OnMessage, ResourceEquals}
+use Rattle.msg_system.specs.declared.op.Op.{Op}
+use Rattle.msg_system.specs.declared.op.Op.TheVariants.{Write, Batch, Read, Len, Missed, Forward, Sum, Set, Add, Drain, Signal}
+use Rattle.msg_system.specs.declared.program.Program.{Program}
+use Rattle.msg_system.specs.declared.reply.Reply.{Reply}
+use Rattle.msg_system.specs.declared.reply.Reply.TheVariants as reply
+use Rattle.msg_system.specs.declared.reply.Took.{Took}
+use Rattle.msg_system.specs.declared.start.Start.TheVariants.{Zero, Current}
+use Rattle.msg_system.specs.Systems.{Meaning, new_system, turn}
+use Rattle.msg_world.specs.declared.record.TheConstants.{HOST}
+use Rattle.msg_frames.specs.declared.log.Log.{Log}
+use Rattle.msg_frames.specs.declared.log.Outcome.TheVariants.{Skipped, Ran}
+use Rattle.msg_frames.specs.declared.log.Turn.{Turn}
+use Rattle.msg_frames.specs.declared.place.Place.{Place}
+use Rattle.msg_frames.specs.declared.totals.Totals.{Totals}
+use Rattle.msg_frames.specs.Entries.{no_totals}
+use Rattle.msg_frames.specs.Frames.{AfterFrame, IsRun, frame_in}
+use Rattle.msg_frames.specs.FirstState.{first_state}
+use Rattle.msg_frames.specs.State.{State}
+
+-- ---- how the rows are written
+
+-- frames one after the other, each with what the host posts and the order of its turns
+abbrev pub OrderedFrames : Type 0
+OrderedFrames = List (List (ℕ × ℤ) × List ℕ)
+
+-- what they leave, and their logs
+pub record Run : Type 0 where
+  pub state : State
+  pub logs : List Log
+
+abbrev pub run_from : OrderedFrames → State → Run
+run_from [] s = record { state = s; logs = [] }
+run_from (frame ∷ frames) s =
+    let here : AfterFrame = frame_in frame.1 (record { posts = frame.0 }) s in
+    let rest : Run = run_from frames here.state in
+    record { state = rest.state; logs = here.log ∷ rest.logs }
+
+-- what a worked run begins with
+pub record Setup : Type 0 where
+  pub programs : List Program
+  pub places : List Place
+  pub rules : List Rule
+  pub types : ℕ
+  pub world : WorldState
+
+-- systems of these programs, each of which writes as its number
+abbrev pub numbered : ℕ → List Program → List Meaning
+numbered n [] = []
+numbered n (p ∷ ps) = new_system p n ∷ numbered (suc n) ps
+
+abbrev pub start_of : Setup → State
+start_of x = first_state (numbered 0 x.programs) x.places x.rules x.types x.world
+
+abbrev pub run : OrderedFrames → Setup → Run
+run frames x = run_from frames (start_of x)
+
+-- in each frame the turns are in this order
+abbrev pub each_in_order : List ℕ → List (List (ℕ × ℤ)) → OrderedFrames
+each_in_order order posts = map (λ ps. (ps, order)) posts
+
+-- these frames are a run, as the definition says
+abbrev pub IsRunOf : OrderedFrames → State → Type 0
+IsRunOf frames s = IsRun (map (λ f. record { posts = f.0 }) frames) s (run_from frames s).logs (run_from frames s).state
+
+-- one post, to type 0
+abbrev pub post : ℤ → List (ℕ × ℤ)
+post value = (0, value) ∷ []
+
+abbrev pub program : List Op → Program
+program ops = record { ops = ops; start = Zero }
+
+abbrev pub always : Place
+always = record { conditions = []; join = 1 }
+
+abbrev pub asking : List Condition → Place
+asking conditions = record { conditions = conditions; join = 1 }
+
+abbrev pub from_frame : ℕ → Place
+from_frame k = record { conditions = []; join = k }
+
+abbrev pub equals : ℕ → ℤ → Condition
+equals r value = record { nots = 0; probe = ResourceEquals r value }
+
+abbrev pub differs : ℕ → ℤ → Condition
+differs r value = record { nots = 1; probe = ResourceEquals r value }
+
+abbrev pub on_message : ℕ → Condition
+on_message t = record { nots = 0; probe = OnMessage t }
+
+-- what the log says: the host's posts, and turns
+abbrev pub told : List Reply → List Turn → Log
+told posts turns = record { posts = posts; turns = turns }
+
+abbrev pub ran : ℕ → List Reply → Turn
+ran i replies = record { system = i; outcome = Ran replies }
+
+-- the turn of a system of one op
+abbrev pub did : ℕ → Reply → Turn
+did i r = ran i (r ∷ [])
+
+abbrev pub skipped : ℕ → Turn
+skipped i = record { system = i; outcome = Skipped }
+
+-- a write of n messages, of which this is the first number
+abbrev pub wrote : ℕ → ℕ → Reply
+wrote first n = reply.Wrote (record { first = first; n = n })
+
+abbrev pub read_of : ℕ → ℕ → List Record → Reply
+read_of missed first items = reply.Read (record { missed = missed; first = first; items = items })
+
+abbrev pub totals_of : State → ℕ → ℕ → Totals
+totals_of s i t = (s.members i).totals t
+
+abbrev pub gave : ℕ → ℕ → ℕ → Totals
+gave start got missed = record { start = Some start; got = got; missed = missed; cleared = 0 }
+
+-- ---- no frames: nothing is logged, and the reader stands at its start
+
+abbrev pub alone : Setup
+alone = record {
+  programs = program (Read 0 None ∷ []) ∷ [];
+  places = always ∷ [];
+  rules = [];
+  types = 1;
+  world = new_world (10 ∷ []) [];
+}
+
+pub no_frames : (run [] alone).logs ≡ []
+unfolding turn
+no_frames = refl
+
+pub no_frames_gave : totals_of (run [] alone).state 0 0 ≡ gave 0 0 0
+unfolding turn
+no_frames_gave = refl
+
+-- ---- a reader that runs before the writer gets its message a frame later
+
+abbrev pub lag : Setup
+lag = record {
+  programs = program (Read 0 None ∷ []) ∷ program (Write 0 (pos 5) ∷ []) ∷ [];
+  places = always ∷ always ∷ [];
+  rules = record { earlier = 0; later = 1 } ∷ [];
+  types = 1;
+  world = new_world (10 ∷ []) (pos 0 ∷ []);
+}
+
+abbrev pub lag_frames : OrderedFrames
+lag_frames = each_in_order (0 ∷ 1 ∷ []) ([] ∷ [] ∷ [])
+
+abbrev pub lag_run : Run
+lag_run = run lag_frames lag
+
+pub one_frames_lag : lag_run.logs
+    ≡ told [] (did 0 (read_of 0 0 []) ∷ did 1 (wrote 0 1) ∷ [])
+    ∷ told [] (did 0 (read_of 0 0 (by 1 (pos 5) ∷ [])) ∷ did 1 (wrote 1 1) ∷ []) ∷ []
+unfolding turn
+one_frames_lag = refl
+
+pub one_frames_lag_gave : totals_of lag_run.state 0 0 ≡ gave 0 1 0
+unfolding turn
+one_frames_lag_gave = refl
+
+-- ---- two updates drop a message, and not one
+
+abbrev pub fourth : List Op → Setup
+fourth ops = record {
+  programs = program (Add 0 (pos 1) ∷ []) ∷ program ops ∷ [];
+  places = always ∷ asking (equals 0 (pos 4) ∷ []) ∷ [];
+  rules = [];
+  types = 1;
+  world = new_world (10 ∷ []) (pos 0 ∷ []);
+}
+
+abbrev pub fourth_frames : OrderedFrames
+fourth_frames = each_in_order (0 ∷ 1 ∷ []) (post (pos 10) ∷ post (pos 20) ∷ post (pos 30) ∷ [] ∷ [])
+
+abbrev pub fourth_run : List Op → Run
+fourth_run ops = run fourth_frames (fourth ops)
+
+pub exactly_two_updates : (fourth_run (Read 0 None ∷ [])).logs
+    ≡ told (wrote 0 1 ∷ []) (did 0 (reply.Value (pos 1)) ∷ skipped 1 ∷ [])
+    ∷ told (wrote 1 1 ∷ []) (did 0 (reply.Value (pos 2)) ∷ skipped 1 ∷ [])
+    ∷ told (wrote 2 1 ∷ []) (did 0 (reply.Value (pos 3)) ∷ skipped 1 ∷ [])
+    ∷ told [] (did 0 (reply.Value (pos 4)) ∷ did 1 (read_of 2 2 (by HOST (pos 30) ∷ [])) ∷ []) ∷ []
+unfolding turn
+exactly_two_updates = refl
+
+pub exactly_two_updates_gave : totals_of (fourth_run (Read 0 None ∷ [])).state 1 0 ≡ gave 0 1 2
+unfolding turn
+exactly_two_updates_gave = refl
+
+-- ---- a read of no messages goes past dropped ones
+
+pub read_of_none : (fourth_run (Read 0 (Some 0) ∷ Read 0 None ∷ [])).logs
+    ≡ told (wrote 0 1 ∷ []) (did 0 (reply.Value (pos 1)) ∷ skipped 1 ∷ [])
+    ∷ told (wrote 1 1 ∷ []) (did 0 (reply.Value (pos 2)) ∷ skipped 1 ∷ [])
+    ∷ told (wrote 2 1 ∷ []) (did 0 (reply.Value (pos 3)) ∷ skipped 1 ∷ [])
+    ∷ told [] (did 0 (reply.Value (pos 4)) ∷ ran 1 (read_of 2 2 [] ∷ read_of 0 2 (by HOST (pos 30) ∷ []) ∷ []) ∷ [])
+    ∷ []
+unfolding turn
+read_of_none = refl
+
+-- ---- the host and two systems write to one type
+
+abbrev pub writers : Setup
+writers = record {
+  programs = program (Write 0 (pos 1) ∷ []) ∷
+      program (Batch 0 (pos 2 ∷ pos 3 ∷ []) ∷ []) ∷
+      program (Read 0 None ∷ []) ∷ [];
+  places = always ∷ always ∷ always ∷ [];
+  rules = [];
+  types = 1;
+  world = new_world (20 ∷ []) (pos 0 ∷ []);
+}
+
+-- what the reader gets of a frame, after the host's value
+abbrev pub of_three : ℤ → List Record
+of_three value = by HOST value ∷ by 0 (pos 1) ∷ by 1 (pos 2) ∷ by 1 (pos 3) ∷ []
+
+abbrev pub writers_frames : OrderedFrames
+writers_frames = each_in_order (0 ∷ 1 ∷ 2 ∷ []) (post (pos 9) ∷ post (pos 8) ∷ [])
+
+pub host_and_two_writers : (run writers_frames writers).logs
+    ≡ told (wrote 0 1 ∷ []) (did 0 (wrote 1 1) ∷ did 1 (wrote 2 2) ∷ did 2 (read_of 0 0 (of_three (pos 9))) ∷ [])
+    ∷ told (wrote 4 1 ∷ []) (did 0 (wrote 5 1) ∷ did 1 (wrote 6 2) ∷ did 2 (read_of 0 4 (of_three (pos 8))) ∷ []) ∷ []
+unfolding turn
+host_and_two_writers = refl
+
+-- ---- rules that go against the order of addition
+
+abbrev pub contrary : Setup
+contrary = record {
+  programs = program (Write 0 (pos 1) ∷ []) ∷
+      program (Write 1 (pos 2) ∷ []) ∷
+      program (Read 1 None ∷ []) ∷
+      program (Read 0 None ∷ []) ∷ [];
+  places = always ∷ always ∷ always ∷ always ∷ [];
+  rules = record { earlier = 3; later = 1 } ∷ record { earlier = 2; later = 0 } ∷ [];
+  types = 2;
+  world = new_world (10 ∷ 10 ∷ []) [];
+}
+
+abbrev pub contrary_turns : List Turn
+contrary_turns =
+    did 2 (read_of 0 0 []) ∷ did 0 (wrote 0 1) ∷ did 3 (read_of 0 0 (by 0 (pos 1) ∷ [])) ∷ did 1 (wrote 0 1) ∷ []
+
+abbrev pub contrary_frames : OrderedFrames
+contrary_frames = each_in_order (2 ∷ 0 ∷ 3 ∷ 1 ∷ []) ([] ∷ [])
+
+pub contradictory_order : (run contrary_frames contrary).logs ≡ told [] contrary_turns ∷ []
+unfolding turn
+contradictory_order = refl
+
+-- ---- a system that asks for messages of the type that it writes
+
+abbrev pub echo : Setup
+echo = record {
+  programs = program (Write 0 (pos 1) ∷ []) ∷ [];
+  places = asking (on_message 0 ∷ []) ∷ [];
+  rules = [];
+  types = 1;
+  world = new_world (9 ∷ []) [];
+}
+
+abbrev pub echo_frames : OrderedFrames
+echo_frames = each_in_order (0 ∷ []) ([] ∷ post (pos 5) ∷ [] ∷ [])
+
+pub own_message_asked : (run echo_frames echo).logs
+    ≡ told [] (skipped 0 ∷ []) ∷ told (wrote 0 1 ∷ []) (did 0 (wrote 1 1) ∷ []) ∷ told [] (did 0 (wrote 2 1) ∷ []) ∷ []
+unfolding turn
+own_message_asked = refl
+
+-- ---- every condition is asked: the message of frame 1 was gone past as the first condition didn't hold
+
+abbrev pub two_conditions : Setup
+two_conditions = record {
+  programs = program (Len 0 ∷ []) ∷ program (Set 0 (pos 1) ∷ []) ∷ [];
+  places = asking (equals 0 (pos 1) ∷ on_message 0 ∷ []) ∷ always ∷ [];
+  rules = [];
+  types = 1;
+  world = new_world (9 ∷ []) (pos 0 ∷ []);
+}
+
+abbrev pub conditions_frames : OrderedFrames
+conditions_frames = each_in_order (0 ∷ 1 ∷ []) (post (pos 1) ∷ [] ∷ post (pos 2) ∷ [])
+
+pub all_conditions : (run conditions_frames two_conditions).logs
+    ≡ told (wrote 0 1 ∷ []) (skipped 0 ∷ did 1 (reply.Value (pos 1)) ∷ [])
+    ∷ told [] (skipped 0 ∷ did 1 (reply.Value (pos 1)) ∷ [])
+    ∷ told (wrote 1 1 ∷ []) (did 0 (reply.Len 1) ∷ did 1 (reply.Value (pos 1)) ∷ []) ∷ []
+unfolding turn
+all_conditions = refl
+
+-- ---- a sum is held within its range at each message
+
+abbrev pub tally : Setup
+tally = record {
+  programs = program (Sum 0 0 ∷ []) ∷ [];
+  places = always ∷ [];
+  rules = [];
+  types = 1;
+  world = new_world (9 ∷ []) (pos 9223372036854775807 ∷ []);
+}
+
+abbrev pub added : Took
+added = record { missed = 0; first = 0; items = by HOST (pos 1) ∷ by HOST (negsuc 4) ∷ [] }
+
+abbrev pub tally_frames : OrderedFrames
+tally_frames = each_in_order (0 ∷ []) (((0, pos 1) ∷ (0, negsuc 4) ∷ []) ∷ [])
+
+pub saturation : (run tally_frames tally).logs
+    ≡ told (wrote 0 1 ∷ wrote 1 1 ∷ []) (did 0 (reply.Summed added (pos 9223372036854775802)) ∷ []) ∷ []
+unfolding turn
+saturation = refl
+
+-- ---- systems that join with frame 3, one from the start of the list and one from its end
+
+abbrev pub late : Setup
+late = record {
+  programs = program (Read 0 None ∷ []) ∷ record { ops = Read 0 None ∷ []; start = Current } ∷ [];
+  places = from_frame 3 ∷ from_frame 3 ∷ [];
+  rules = [];
+  types = 1;
+  world = new_world (10 ∷ []) (pos 0 ∷ []);
+}
+
+abbrev pub early_frames : OrderedFrames
+early_frames = each_in_order [] (post (pos 1) ∷ post (pos 2) ∷ [])
+
+abbrev pub late_frames : OrderedFrames
+late_frames = early_frames ++ each_in_order (0 ∷ 1 ∷ []) (post (pos 3) ∷ [])
+
+abbrev pub late_run : Run
+late_run = run late_frames late
+
+pub late_systems : late_run.logs
+    ≡ told (wrote 0 1 ∷ []) [] ∷ told (wrote 1 1 ∷ []) []
+    ∷ told (wrote 2 1 ∷ []) (
+    did 0 (read_of 1 1 (by HOST (pos 2) ∷ by HOST (pos 3) ∷ [])) ∷
+    did 1 (read_of 0 2 (by HOST (pos 3) ∷ [])) ∷ []) ∷ []
+unfolding turn
+late_systems = refl
+
+pub late_systems_gave : (totals_of late_run.state 0 0 ≡ gave 0 2 1) × (totals_of late_run.state 1 0 ≡ gave 2 1 0)
+unfolding turn
+late_systems_gave = (refl, refl)
+
+pub late_systems_wait : totals_of (run early_frames late).state 0 0 ≡ no_totals
+unfolding turn
+late_systems_wait = refl
+
+-- ---- a held world is updated only in the frame after a signal
+
+abbrev pub gated : Setup
+gated = record {
+  programs = program (Add 0 (pos 1) ∷ []) ∷ program (Signal ∷ []) ∷ program (Len 0 ∷ []) ∷ [];
+  places = always ∷ asking (differs 0 (pos 1) ∷ []) ∷ always ∷ [];
+  rules = [];
+  types = 1;
+  world = held (new_world (10 ∷ []) (pos 0 ∷ []));
+}
+
+abbrev pub gated_frames : OrderedFrames
+gated_frames = each_in_order (0 ∷ 2 ∷ 1 ∷ []) (post (pos 1) ∷ [] ∷ [] ∷ [] ∷ [])
+
+pub held_updates : (run gated_frames gated).logs
+    ≡ told (wrote 0 1 ∷ []) (did 0 (reply.Value (pos 1)) ∷ did 2 (reply.Len 1) ∷ skipped 1 ∷ [])
+    ∷ told [] (did 0 (reply.Value (pos 2)) ∷ did 2 (reply.Len 1) ∷ did 1 reply.Signalled ∷ [])
+    ∷ told [] (did 0 (reply.Value (pos 3)) ∷ did 2 (reply.Len 1) ∷ did 1 reply.Signalled ∷ [])
+    ∷ told [] (did 0 (reply.Value (pos 4)) ∷ did 2 (reply.Len 0) ∷ did 1 reply.Signalled ∷ []) ∷ []
+unfolding turn
+held_updates = refl
+
+-- ---- several signals of a frame are one: the next frame updates once
+
+abbrev pub signallers : Setup
+signallers = record {
+  programs = program (Signal ∷ Signal ∷ []) ∷ program (Signal ∷ []) ∷ program (Missed 0 ∷ []) ∷ [];
+  places = always ∷ always ∷ always ∷ [];
+  rules = [];
+  types = 1;
+  world = held (new_world (10 ∷ []) []);
+}
+
+abbrev pub signallers_frames : OrderedFrames
+signallers_frames = each_in_order (0 ∷ 2 ∷ 1 ∷ []) (post (pos 1) ∷ [] ∷ [] ∷ [])
+
+-- the turns of a frame, in which so many messages were missed
+abbrev pub signalled : ℕ → List Turn
+signalled missed =
+    ran 0 (reply.Signalled ∷ reply.Signalled ∷ []) ∷ did 2 (reply.Missed missed) ∷ did 1 reply.Signalled ∷ []
+
+pub several_signals : (run signallers_frames signallers).logs
+    ≡ told (wrote 0 1 ∷ []) (signalled 0) ∷ told [] (signalled 0) ∷ told [] (signalled 1) ∷ []
+unfolding turn
+several_signals = refl
+
+-- ---- what is drained between two readers is missed by each that hadn't read it
+
+abbrev pub drained : Setup
+drained = record {
+  programs = program (Read 0 (Some 1) ∷ []) ∷ program (Drain 0 ∷ []) ∷ program (Read 0 None ∷ []) ∷ [];
+  places = always ∷ always ∷ always ∷ [];
+  rules = [];
+  types = 1;
+  world = new_world (10 ∷ []) [];
+}
+
+abbrev pub drained_frames : OrderedFrames
+drained_frames = each_in_order (0 ∷ 1 ∷ 2 ∷ []) (((0, pos 1) ∷ (0, pos 2) ∷ []) ∷ post (pos 3) ∷ [])
+
+pub drain_between_readers : (run drained_frames drained).logs
+    ≡ told (wrote 0 1 ∷ wrote 1 1 ∷ []) (
+    did 0 (read_of 0 0 (by HOST (pos 1) ∷ [])) ∷
+    did 1 (reply.Drained 0 (by HOST (pos 1) ∷ by HOST (pos 2) ∷ [])) ∷
+    did 2 (read_of 2 2 []) ∷ [])
+    ∷ told (wrote 2 1 ∷ []) (
+    did 0 (read_of 1 2 (by HOST (pos 3) ∷ [])) ∷
+    did 1 (reply.Drained 2 (by HOST (pos 3) ∷ [])) ∷
+    did 2 (read_of 1 3 []) ∷ []) ∷ []
+unfolding turn
+drain_between_readers = refl
+
+pub drain_between_readers_gave : (totals_of (run drained_frames drained).state 0 0 ≡ gave 0 2 1)
+    × (totals_of (run drained_frames drained).state 2 0 ≡ gave 0 0 3)
+unfolding turn
+drain_between_readers_gave = (refl, refl)
+
+-- ---- what a refused forward read stays read
+
+abbrev pub relay : Setup
+relay = record {
+  programs = program (Forward 0 1 ∷ []) ∷ program (Read 1 None ∷ []) ∷ [];
+  places = always ∷ always ∷ [];
+  rules = [];
+  types = 2;
+  world = new_world (10 ∷ 1 ∷ []) [];
+}
+
+abbrev pub took_from : ℕ → List Record → Took
+took_from first items = record { missed = 0; first = first; items = items }
+
+abbrev pub relay_frames : OrderedFrames
+relay_frames = each_in_order (0 ∷ 1 ∷ []) (((0, pos 1) ∷ (0, pos 2) ∷ []) ∷ post (pos 3) ∷ [])
+
+abbrev pub relay_run : Run
+relay_run = run relay_frames relay
+
+pub forward_at_the_limit : relay_run.logs
+    ≡ told (wrote 0 1 ∷ wrote 1 1 ∷ []) (
+    did 0 (reply.Forwarded (took_from 0 (by HOST (pos 1) ∷ by HOST (pos 2) ∷ [])) None) ∷
+    did 1 (read_of 0 0 []) ∷ [])
+    ∷ told (wrote 2 1 ∷ []) (
+    did 0 (reply.Forwarded (took_from 2 (by HOST (pos 3) ∷ [])) (Some (record { first = 0; n = 1 }))) ∷
+    did 1 (read_of 0 0 (by 0 (pos 3) ∷ [])) ∷ []) ∷ []
+unfolding turn
+forward_at_the_limit = refl
+
+pub forward_at_the_limit_gave : (totals_of relay_run.state 0 0 ≡ gave 0 3 0) × (totals_of relay_run.state 1 1 ≡ gave 0 1 0)
+unfolding turn
+forward_at_the_limit_gave = (refl, refl)

@@ -1,0 +1,25 @@
+-- What holds of every state that frames make.
+use Rattle.std.specs.Prelude.{◌≡◌, ℕ, ◌+◌, ◌≤◌, ◌<◌, Some, IsTrue, IsFalse}
+use Rattle.msg_buffer.specs.History.{IsSound, count}
+use Rattle.msg_frames.specs.Entries.{no_totals}
+use Rattle.msg_frames.specs.State.{State, has_begun}
+use Rattle.msg_frames.specs.Tiling.{place_of}
+use Rattle.msg_frames.specs.declared.totals.Totals.{Totals}
+
+-- The account begins at a start, and all that the reader got, missed and cleared since leads to its place.
+pub record IsBalanced (x : Totals) (place : ℕ) : Type 0 where
+  pub begin : ℕ
+  pub start : x.start ≡ Some begin
+  pub adds_up : begin + x.got + x.missed + x.cleared ≡ place
+
+pub record IsSoundState (s : State) : Type 0 where
+  pub histories : (t : ℕ) → t < s.types → IsSound (s.world.histories t)
+  -- no reader is past the messages that there are
+  pub places : (i t : ℕ) → t < s.types → place_of s i t ≤ count (s.world.histories t)
+  -- a system joins with frame 1 or later
+  pub joins : (i : ℕ) → 1 ≤ (s.members i).join
+  -- it writes as its number
+  pub writers : (i : ℕ) → i < s.systems → (s.members i).job.system.writer ≡ i
+  -- before it joins it was given nothing
+  pub waiting : (i t : ℕ) → IsFalse (has_begun s i) → (place_of s i t ≡ 0) × ((s.members i).totals t ≡ no_totals)
+  pub balanced : (i t : ℕ) → t < s.types → IsTrue (has_begun s i) → IsBalanced ((s.members i).totals t) (place_of s i t)

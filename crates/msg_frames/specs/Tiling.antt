@@ -1,0 +1,99 @@
+-- What a reader was given over a run, moment by moment.
+use Rattle.std.specs.Prelude.{◌≡◌, ℕ, zero, suc, ◌<◌, ◌==◌, Option, Some, None, List, [], ◌∷◌, ◌++◌, map, flat_map, take, drop, All, IfSome, unwrap_or, IsTrue, if◌then◌else◌}
+use Rattle.msg_buffer.specs.History.{History, instances}
+use Rattle.msg_buffer.specs.Kept.{message_of}
+use Rattle.msg_buffer.specs.Reader.{Stretch}
+use Rattle.msg_buffer.specs.Tiling.{Tile}
+use Rattle.msg_world.specs.declared.record.Record.{Record}
+use Rattle.msg_world.specs.World.{WorldState}
+use Rattle.msg_system.specs.declared.op.Op.{Op}
+use Rattle.msg_system.specs.Conditions.{Job, all_hold}
+use Rattle.msg_system.specs.declared.reply.Reply.{Reply}
+use Rattle.msg_system.specs.Programs.{AfterProgram, after_op}
+use Rattle.msg_system.specs.Systems.{Meaning, after_at_most, next_op}
+use Rattle.msg_frames.specs.declared.frame.Frame.{Frame}
+use Rattle.msg_frames.specs.declared.log.Log.{Log}
+use Rattle.msg_frames.specs.Entries.{Entry, answers, entries_told, entry_for}
+use Rattle.msg_frames.specs.Frames.{after_turn_of, before_turns, frame_in, systems_in}
+use Rattle.msg_frames.specs.State.{State, has_begun}
+
+-- ---- the entries that logs have
+
+-- what system i was told: the replies of each turn that it took
+abbrev pub answers_in : ℕ → List Log → List (List Reply)
+answers_in i logs = flat_map (λ log. flat_map (λ turn. if turn.system == i then answers turn.outcome else []) log.turns) logs
+
+-- the entries for type t of system i, which meant this before
+abbrev pub log_entries : ℕ → ℕ → Meaning → List Log → List Entry
+log_entries i t m logs = entries_told t m.needs m.rule (answers_in i logs)
+
+-- ---- the moments of a run
+
+-- The moment of an entry: the history of its type as it was, and what the reader went past.
+pub record Moment : Type 0 where
+  pub history : History Record
+  pub entry : Entry
+
+-- of the next op, after what was done so far; none where the turn is over
+abbrev pub next_moments : ℕ → Option Op → ℕ → AfterProgram → List Moment
+next_moments t None writer far = []
+next_moments t (Some op) writer far =
+    map (λ e. record { history = far.state.histories t; entry = e }) (entry_for t op (after_op op writer far.places far.state).reply)
+
+-- of at most so many ops of its turn
+abbrev pub first_moments : ℕ → ℕ → Meaning → WorldState → List Moment
+first_moments t zero m w = []
+first_moments t (suc n) m w =
+    let far : AfterProgram = after_at_most n (next_op m) m.writer m.places w in
+    first_moments t n m w ++ next_moments t (next_op m far.replies) m.writer far
+
+-- of its turn
+unfoldable pub turn_moments : ℕ → Meaning → WorldState → List Moment
+turn_moments t m w = first_moments t 64 m w
+
+-- of its job
+abbrev pub job_moments : ℕ → Job → WorldState → List Moment
+job_moments t job w = if all_hold job.conditions w then turn_moments t job.system w else []
+
+-- of system i in the turns of a frame
+abbrev pub turns_moments : ℕ → ℕ → List ℕ → State → List Moment
+turns_moments i t [] s = []
+turns_moments i t (j ∷ js) s =
+    (if j == i then job_moments t (s.members i).job s.world else []) ++ turns_moments i t js (after_turn_of j s)
+
+-- of system i in a run of frames with these logs
+abbrev pub moments : ℕ → ℕ → List Frame → List Log → State → List Moment
+moments i t (frame ∷ frames) (log ∷ logs) s =
+    turns_moments i t (systems_in log) (before_turns frame.posts s)
+    ++ moments i t frames logs (frame_in (systems_in log) frame s).state
+moments i t [] logs s = []
+moments i t (frame ∷ frames) [] s = []
+
+-- ---- the tiling of a reader over a run
+
+-- the place of system i in type t
+abbrev pub place_of : State → ℕ → ℕ → ℕ
+place_of s i t = (s.members i).job.system.places t
+
+-- Where a run from s to u finds a reader: at its place, or where it starts as it joins.
+abbrev pub found_at : State → State → ℕ → ℕ → ℕ
+found_at s u i t = if has_begun s i then place_of s i t else unwrap_or ((u.members i).totals t).start 0
+
+-- the messages of a stretch
+abbrev pub messages_of : History Record → Stretch → List Record
+messages_of h stretch = map message_of (take stretch.number (drop stretch.first (instances h)))
+
+-- an entry that gave messages gave those of its stretch
+abbrev pub GivesItsStretch : Moment → Type 0
+GivesItsStretch m = IfSome m.entry.given (λ items. items ≡ messages_of m.history m.entry.stretch)
+
+-- The entries that the logs have of a reader are its moments. They tile: each begins at the place that the one before it
+-- led to, what it missed wasn't present at that moment, and what it went past was. What it gave is the messages there.
+pub record IsTiled (i t : ℕ) (frames : List Frame) (logs : List Log) (s u : State) : Type 0 where
+  pub entries : log_entries i t (s.members i).job.system logs ≡ map (λ m. m.entry) (moments i t frames logs s)
+  pub tile : Tile (found_at s u i t) (map (λ m. (m.history, m.entry.stretch)) (moments i t frames logs s)) (place_of u i t)
+  pub gives : All GivesItsStretch (moments i t frames logs s)
+
+-- it holds of every reader of a type of the world that has joined by the end of the run
+abbrev pub AllTiled : List Frame → List Log → State → State → Type 0
+AllTiled frames logs s u = (i t : ℕ) → t < s.types → IsTrue (has_begun u i) → IsTiled i t frames logs s u

@@ -1,0 +1,164 @@
+-- What holds of turns, side by side and in other orders, and of frames. Each law is the contract of a function in
+-- src/laws.rt.
+use Rattle.std.specs.Prelude.{◌≡◌, ◌≢◌, ℕ, suc, ◌<◌, Bool, List, [], ◌∷◌, ◌++◌, map, length, All, AllPairs, IsPermutation}
+use Rattle.std.specs.List.{concat}
+use Rattle.msg_buffer.specs.History.{GoesOn, IsSound}
+use Rattle.msg_world.specs.declared.access.Access.{Access}
+use Rattle.msg_world.specs.Access.{Conflict}
+use Rattle.msg_world.specs.World.{merge}
+use Rattle.msg_order.specs.Graph.{Graph, IsAcyclic}
+use Rattle.msg_order.specs.Order.{IsLawfulOrder, IsSettledOrder, access_of, rules_among}
+use Rattle.msg_order.specs.Plan.{NoneConflict}
+use Rattle.msg_system.specs.Footprints.{conditions_of}
+use Rattle.msg_frames.specs.declared.frame.Frame.{Frame}
+use Rattle.msg_frames.specs.declared.log.Log.{Log}
+use Rattle.msg_frames.specs.Frames.{AfterTurns, AreAccessesOf, IsFrame, IsOrderOf, IsRun, after_turn_of, after_turns_of, before_turns, frame_in, joining, logged, turn_of, with_joining, with_member}
+use Rattle.msg_frames.specs.State.{Member, State, joined}
+
+-- ---- what stays
+
+-- The same system: what it needs, where it starts, the number that it writes as, its conditions, and when it joins. Its
+-- rule, its cursors and its accounts may be others.
+pub record SameMember (m n : Member) : Type 0 where
+  pub needs : n.job.system.needs ≡ m.job.system.needs
+  pub start : n.job.system.start ≡ m.job.system.start
+  pub writer : n.job.system.writer ≡ m.job.system.writer
+  pub conditions : conditions_of n.job ≡ conditions_of m.job
+  pub join : n.join ≡ m.join
+
+-- The same systems, rules and types. The world may be another, and the number of frames.
+pub record SameSystems (s u : State) : Type 0 where
+  pub systems : u.systems ≡ s.systems
+  pub members : (i : ℕ) → SameMember (s.members i) (u.members i)
+  pub rules : u.rules ≡ s.rules
+  pub types : u.types ≡ s.types
+
+-- Turns keep the systems, and make no frame.
+abbrev pub TurnsKeepSystems : Type 0
+TurnsKeepSystems = (order : List ℕ) (s : State)
+    → SameSystems s (after_turns_of order s).state × ((after_turns_of order s).state.frames ≡ s.frames)
+
+-- What a frame keeps: whoever joins, and whatever is done before the turns and by them. It counts as one frame.
+pub record FrameKeeps (order : List ℕ) (frame : Frame) (s : State) : Type 0 where
+  pub with_joiners : (k : ℕ) → SameSystems s (with_joining k s)
+  pub as_it_begins : SameSystems s (joining s)
+  pub before : SameSystems s (before_turns frame.posts s)
+  pub after : SameSystems s (frame_in order frame s).state
+  pub counted_before : (before_turns frame.posts s).frames ≡ suc s.frames
+  pub counted : (frame_in order frame s).state.frames ≡ suc s.frames
+
+abbrev pub FramesKeepSystems : Type 0
+FramesKeepSystems = (order : List ℕ) (frame : Frame) (s : State) → FrameKeeps order frame s
+
+-- The same systems have the same accesses, and as many frames on the same have joined.
+abbrev pub SameSystemsHaveSameAccesses : Type 0
+SameSystemsHaveSameAccesses = (s u : State) → SameSystems s u
+    → ((accesses : List Access) → AreAccessesOf s accesses → AreAccessesOf u accesses)
+    × (u.frames ≡ s.frames → joined u ≡ joined s)
+
+-- ---- turns side by side
+
+-- Where the accesses of two systems don't conflict, the turn of one doesn't change what comes of the other's, and it
+-- doesn't matter which is first.
+abbrev pub TurnsOfOthersCommute : Type 0
+TurnsOfOthersCommute = (s : State) (accesses : List Access) (i j : ℕ) → AreAccessesOf s accesses
+    → i < s.systems → j < s.systems → i ≢ j → ¬ Conflict (access_of accesses i) (access_of accesses j)
+    → (logged (after_turn_of i s) j ≡ logged s j) × (logged (after_turn_of j s) i ≡ logged s i)
+    × (after_turn_of j (after_turn_of i s) ≡ after_turn_of i (after_turn_of j s))
+
+-- the state s after what system i's job on the state `start` wrote has come home
+abbrev pub home : List Access → State → ℕ → State → State
+home accesses start i s = record s {
+  members = with_member s.members i (turn_of start i).member;
+  world = merge (access_of accesses i) (turn_of start i).world s.world;
+}
+
+-- after that of each of these, one after the other
+abbrev pub all_home : List Access → State → List ℕ → State → State
+all_home accesses start [] s = s
+all_home accesses start (i ∷ is) s = all_home accesses start is (home accesses start i s)
+
+-- Jobs of which no two conflict may each run on the state as it was at the start, if what they wrote comes home after
+-- it: the log and the state are those of one turn after the other.
+abbrev pub BatchesRunSideBySide : Type 0
+BatchesRunSideBySide = (s : State) (accesses : List Access) (batch : List ℕ) → AreAccessesOf s accesses
+    → All (λ i. i < s.systems) batch → AllPairs (λ i j. i ≢ j) batch → NoneConflict accesses batch
+    → ((after_turns_of batch s).turns ≡ map (logged s) batch)
+    × ((after_turns_of batch s).state ≡ all_home accesses s batch s)
+
+-- each batch side by side, on the state that the batches before it left
+abbrev pub by_batches : List Access → List (List ℕ) → State → AfterTurns
+by_batches accesses [] s = record { state = s; turns = [] }
+by_batches accesses (batch ∷ batches) s =
+    let rest : AfterTurns = by_batches accesses batches (all_home accesses s batch s) in
+    record { state = rest.state; turns = map (logged s) batch ++ rest.turns }
+
+-- One batch after the other, each side by side, leaves the log and the state of one turn after the other.
+abbrev pub FramesRunByBatches : Type 0
+FramesRunByBatches = (s : State) (accesses : List Access) (batches : List (List ℕ)) → AreAccessesOf s accesses
+    → All (λ i. i < s.systems) (concat batches) → AllPairs (λ i j. i ≢ j) (concat batches)
+    → All (NoneConflict accesses) batches
+    → after_turns_of (concat batches) s ≡ by_batches accesses batches s
+
+-- ---- turns in other orders
+
+-- Two lawful orders of one settled order leave the same state and have the same turns: each system's comes out alike.
+abbrev pub LawfulOrdersAgree : Type 0
+LawfulOrdersAgree = (s : State) (accesses : List Access) (settled : Graph) (a b : List ℕ) → AreAccessesOf s accesses
+    → IsSettledOrder accesses s.rules (joined s) settled
+    → IsLawfulOrder settled (joined s) a → IsLawfulOrder settled (joined s) b
+    → ((after_turns_of a s).state ≡ (after_turns_of b s).state)
+    × IsPermutation (after_turns_of a s).turns (after_turns_of b s).turns
+
+-- ---- one run
+
+-- The systems have one settled order, whatever accesses are written for what they need.
+abbrev pub SystemsHaveOneOrder : Type 0
+SystemsHaveOneOrder = (s : State) (g h : Graph) → IsOrderOf s g → IsOrderOf s h → g ≡ h
+
+-- A frame has one log, and leaves one state.
+abbrev pub FramesAreUnique : Type 0
+FramesAreUnique = (frame : Frame) (s u v : State) (log other : Log)
+    → IsFrame frame s log u → IsFrame frame s other v → (log ≡ other) × (u ≡ v)
+
+-- And so it is with frames one after the other.
+abbrev pub RunsAreUnique : Type 0
+RunsAreUnique = (frames : List Frame) (s u v : State) (logs others : List Log)
+    → IsRun frames s logs u → IsRun frames s others v → (logs ≡ others) × (u ≡ v)
+
+-- whichever systems have joined, the rules make no cycle among them
+abbrev pub NoCycle : State → Type 0
+NoCycle s = (joined : List Bool) → length joined ≡ s.systems → IsAcyclic (rules_among joined s.rules)
+
+-- Where the rules make no cycle, and each system has an access for what it needs, there is a frame.
+abbrev pub FramesExist : Type 0
+FramesExist = (frame : Frame) (s : State) (accesses : List Access) → NoCycle s → AreAccessesOf s accesses
+    → (log : Log) × (u : State) × IsFrame frame s log u
+
+-- And so it is with frames one after the other.
+abbrev pub RunsExist : Type 0
+RunsExist = (frames : List Frame) (s : State) (accesses : List Access) → NoCycle s → AreAccessesOf s accesses
+    → (logs : List Log) × (u : State) × IsRun frames s logs u
+
+-- These frames have one run from the state s, and no other.
+pub record HasOneRun (frames : List Frame) (s : State) : Type 0 where
+  pub logs : List Log
+  pub state : State
+  pub is_run : IsRun frames s logs state
+  pub only : (others : List Log) (u : State) → IsRun frames s others u → (others ≡ logs) × (u ≡ state)
+
+-- In any lawful order a frame's turns come out alike, and it leaves the same state.
+abbrev pub FramesAgreeInLawfulOrders : Type 0
+FramesAgreeInLawfulOrders = (frame : Frame) (s u : State) (log : Log) (settled : Graph) (order : List ℕ)
+    → IsFrame frame s log u → IsOrderOf (before_turns frame.posts s) settled
+    → IsLawfulOrder settled (joined (before_turns frame.posts s)) order
+    → ((frame_in order frame s).state ≡ u)
+    × ((frame_in order frame s).log.posts ≡ log.posts)
+    × IsPermutation (frame_in order frame s).log.turns log.turns
+
+-- ---- lists of messages
+
+-- Over a run each type's history goes on: what was written stays, each message in its place.
+abbrev pub ListsOnlyGrow : Type 0
+ListsOnlyGrow = (frames : List Frame) (s u : State) (logs : List Log) → IsRun frames s logs u
+    → (t : ℕ) → IsSound (s.world.histories t) → GoesOn (s.world.histories t) (u.world.histories t)

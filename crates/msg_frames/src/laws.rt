@@ -1,0 +1,129 @@
+//! Laws: facts that hold of all systems' turns and of frames. Calling one makes its fact available
+//! to the caller's proof; it does nothing at run time.
+ghost use Rattle.msg_frames.specs.TurnLaws.{
+  BatchesRunSideBySide,
+  FramesAgreeInLawfulOrders,
+  FramesAreUnique,
+  FramesExist,
+  FramesKeepSystems,
+  FramesRunByBatches,
+  LawfulOrdersAgree,
+  ListsOnlyGrow,
+  RunsAreUnique,
+  RunsExist,
+  SameSystemsHaveSameAccesses,
+  SystemsHaveOneOrder,
+  TurnsKeepSystems,
+  TurnsOfOthersCommute,
+};
+
+use msg_buffer::laws::histories_only_grow;
+use msg_order::laws::{
+    conflicting_systems_are_ordered, lawful_orders_keep_paths, settled_order_exists,
+    settled_order_is_unique, settling_makes_no_cycle, turn_order_exists, turn_order_is_lawful,
+    turn_order_is_unique,
+};
+use msg_system::nothing_else_is_used;
+use msg_world::Record;
+
+/// Turns keep the systems: what they need, where they start, their conditions, and the rules of
+/// their order. Only what they do next, places, accounts and the world change.
+pub fn turns_keep_the_systems()
+    ensures law { TurnsKeepSystems }
+{}
+
+/// Frames keep the systems too.
+pub fn frames_keep_the_systems()
+    ensures law { FramesKeepSystems }
+{}
+
+/// The same systems have the same accesses, and after as many frames the same of them have joined.
+pub fn same_systems_have_same_accesses()
+    ensures law { SameSystemsHaveSameAccesses }
+{}
+
+/// Of two systems whose accesses don't conflict, the turn of one doesn't change what comes of the
+/// other's, and it doesn't matter which is first.
+pub fn turns_of_others_commute()
+    ensures law { TurnsOfOthersCommute }
+{
+    nothing_else_is_used();
+}
+
+/// Systems of which no two conflict may take their turns side by side: each runs on what was there
+/// at the start, and what it wrote comes home after it. The log and what is left are those of one
+/// turn after the other.
+pub fn batches_run_side_by_side()
+    ensures law { BatchesRunSideBySide }
+{
+    nothing_else_is_used();
+}
+
+/// Batch after batch, each side by side, gives what one turn after the other gives.
+pub fn frames_run_by_batches()
+    ensures law { FramesRunByBatches }
+{
+    nothing_else_is_used();
+}
+
+/// Two lawful orders of the same turns leave the same state, and each system's turn comes out
+/// alike.
+pub fn lawful_orders_agree()
+    ensures law { LawfulOrdersAgree }
+{
+    nothing_else_is_used();
+    conflicting_systems_are_ordered();
+    lawful_orders_keep_paths();
+}
+
+/// Systems have one settled order: it doesn't matter how their accesses are written.
+pub fn systems_have_one_order()
+    ensures law { SystemsHaveOneOrder }
+{
+    settled_order_is_unique();
+}
+
+/// A frame has one log, and leaves one state.
+pub fn frames_are_unique()
+    ensures law { FramesAreUnique }
+{
+    settled_order_is_unique();
+    turn_order_is_unique();
+}
+
+/// Frames one after the other have one list of logs, and leave one state.
+pub fn runs_are_unique()
+    ensures law { RunsAreUnique }
+{
+    settled_order_is_unique();
+    turn_order_is_unique();
+}
+
+/// Where the rules make no cycle, there is a frame, and a run of any frames. So with
+/// `runs_are_unique` there is exactly one.
+pub fn runs_exist()
+    ensures frame { FramesExist }
+    ensures run { RunsExist }
+{
+    settled_order_exists();
+    settling_makes_no_cycle();
+    turn_order_exists();
+}
+
+/// In any lawful order a frame leaves the same state, and each system's turn comes out alike.
+pub fn frames_agree_in_lawful_orders()
+    ensures law { FramesAgreeInLawfulOrders }
+{
+    nothing_else_is_used();
+    conflicting_systems_are_ordered();
+    lawful_orders_keep_paths();
+    settled_order_is_unique();
+    turn_order_is_lawful();
+}
+
+/// Over a run each type's list of messages only grows.
+pub fn lists_only_grow()
+    ensures law { ListsOnlyGrow }
+{
+    histories_only_grow::<Record>();
+}

@@ -1,0 +1,17 @@
+//! What frames of systems are, and what holds of them: the model that an engine keeps to.
+#![tactic(auto)]
+
+mod account;
+mod frame;
+pub mod laws;
+mod log;
+mod place;
+pub mod reader_laws;
+mod totals;
+
+pub use account::Account;
+pub use frame::Frame;
+pub use log::{Log, Outcome, Turn};
+pub use msg_system::Items;
+pub use place::Place;
+pub use totals::Totals;

@@ -1,0 +1,11 @@
+use crate::Items;
+use msg_system::Condition;
+
+/// What stands beside a system: its run conditions, and the frame that it joins with.
+#[derive(Debug, Drop)]
+pub struct Place {
+    /// All of them must hold for the system to run on its turn. At most 8 in a scenario file.
+    pub conditions: Items<Condition>,
+    /// The frame that it joins with, from 1 to 10,000. With 1 it joins as the engine is made.
+    pub join: u32,
+}

@@ -1,0 +1,120 @@
+-- What stands in a list that was made from others.
+use Rattle.std.proofs.Common.{◌≡◌, ℕ, zero, suc, ◌+◌, ◌-◌, ◌<◌, ◌≤◌, ◌⊎◌, inl, inr, Bool, true, false, cond, List, [], ◌∷◌, ◌++◌, length, map, get_or, refl, ap, sym, ◌∙◌, arith}
+use Rattle.std.specs.Prelude.{Contains, filter, flat_map}
+use Rattle.std.specs.List.{range_with_len, concat, list_all, list_any}
+use Rattle.std.proofs.lemmas.Bool.{false≢true}
+use Rattle.std.proofs.lemmas.List.{append-nil, get_or-map, length-map, map-id}
+use Rattle.std.proofs.lemmas.List.Elements.{All-contains, All-contains_itself, All-filter, All-map, Contains-append_cases, Contains-append_left, Contains-append_right, Contains-get_or, filter-append, filter_passes}
+use Rattle.std.proofs.lemmas.List.Folds.{Any-from_list_any, list_any_at}
+use Rattle.std.proofs.lemmas.List.FromFn.{get_or-range_with_len, length-range_with_len, map-range_with_len_more}
+use Rattle.std.proofs.lemmas.List.Sums.{AllPass-from_list_all}
+use Rattle.msg_order.specs.Order.{batch_at}
+
+module _ {X : Type 0} where
+  pub Contains-head : (x : X) (xs : List X) → Contains (x ∷ xs) x
+  Contains-head x xs = (0, omega arith, refl)
+
+  pub Contains-tail : (x : X) (xs : List X) (y : X) → Contains xs y → Contains (x ∷ xs) y
+  Contains-tail x xs y h = (suc h.0, omega (arith, h.1), h.2)
+
+  at_place : (x : X) (xs : List X) (y : X) (k : ℕ) → k < length (x ∷ xs) → get_or (x ∷ xs) k y ≡ y → (x ≡ y) ⊎ Contains xs y
+  at_place x xs y zero h e = inl e
+  at_place x xs y (suc k) h e = inr (k, omega arith, e)
+
+  pub Contains-cases : (x : X) (xs : List X) (y : X) → Contains (x ∷ xs) y → (x ≡ y) ⊎ Contains xs y
+  Contains-cases x xs y h = at_place x xs y h.0 h.1 h.2
+
+  pub not_in_none : (y : X) → Contains {X = X} [] y → ⊥
+  not_in_none y h = absurd (omega (arith, h.1))
+
+  -- ---- those that pass a test
+
+  module _ (p : X → Bool) where
+    pub filter-Contains : (xs : List X) (y : X) → Contains (filter p xs) y → Contains xs y × (p y ≡ true)
+    filter-Contains xs y h = (
+      All-contains (Contains xs) (filter p xs) y (All-filter p (Contains xs) xs (All-contains_itself xs)) h,
+      All-contains (λ x. p x ≡ true) (filter p xs) y (filter_passes p xs) h,
+    )
+
+    kept : (b : Bool) (x : X) (us : List X) (y : X) → ((b ≡ true) × (x ≡ y)) ⊎ Contains us y → Contains (cond b (x ∷ us) us) y
+    kept true x us y (inl s) = (0, omega arith, s.1)
+    kept true x us y (inr r) = Contains-tail x us y r
+    kept false x us y (inl s) = absurd (false≢true s.0)
+    kept false x us y (inr r) = r
+
+    pub Contains-filter : (xs : List X) (y : X) → Contains xs y → p y ≡ true → Contains (filter p xs) y
+    Contains-filter [] y h t = absurd (not_in_none y h)
+    Contains-filter (x ∷ xs) y h t =
+        kept (p x) x (filter p xs) y (elim (Contains-cases x xs y h) [ inl s ↦ inl (ap p s ∙ t, s) | inr r ↦ inr (Contains-filter xs y r t) ])
+
+    pub list_any-Contains : (xs : List X) (x : X) → Contains xs x → p x ≡ true → list_any p xs ≡ true
+    list_any-Contains xs x h t = list_any_at p xs h.0 x h.1 (ap p h.2 ∙ t)
+
+    pub Contains-list_any : (xs : List X) → list_any p xs ≡ true → (x : X) × (Contains xs x × (p x ≡ true))
+    Contains-list_any xs h = let a = Any-from_list_any p xs h in (a.1, ((a.0, a.2, a.3), a.4))
+
+    pub list_all-Contains : (xs : List X) (x : X) → list_all p xs ≡ true → Contains xs x → p x ≡ true
+    list_all-Contains xs x all h = All-contains (λ y. p y ≡ true) xs x (AllPass-from_list_all p xs all) h
+
+-- ---- lists of what a function gives
+
+module _ {X Y : Type 0} where
+  pub map-Contains : (f : X → Y) (xs : List X) (y : Y) → Contains (map f xs) y → (x : X) × (Contains xs x × (f x ≡ y))
+  map-Contains f xs y h =
+      let P : Y → Type 0 = λ z. (x : X) × (Contains xs x × (f x ≡ z)) in
+      All-contains P (map f xs) y (All-map P f xs (λ k d lt. (get_or xs k d, (Contains-get_or xs k d lt, refl)))) h
+
+  pub Contains-map : (f : X → Y) (xs : List X) (x : X) → Contains xs x → Contains (map f xs) (f x)
+  Contains-map f xs x h = (h.0, omega (arith, length-map xs f, h.1), get_or-map f xs h.0 x (f x) h.1 ∙ ap f h.2)
+
+  pub flat_map-Contains : (f : X → List Y) (xs : List X) (y : Y) → Contains (flat_map f xs) y → (x : X) × (Contains xs x × Contains (f x) y)
+  flat_map-Contains f [] y h = absurd (not_in_none y h)
+  flat_map-Contains f (x ∷ xs) y h = elim (Contains-append_cases (f x) (flat_map f xs) y h) [
+    | inl s ↦ (x, (Contains-head x xs, s))
+    | inr t ↦ let r = flat_map-Contains f xs y t in (r.0, (Contains-tail x xs r.0 r.1.0, r.1.1))
+  ]
+
+  pub Contains-flat_map : (f : X → List Y) (xs : List X) (x : X) (y : Y) → Contains xs x → Contains (f x) y → Contains (flat_map f xs) y
+  Contains-flat_map f [] x y h k = absurd (not_in_none x h)
+  Contains-flat_map f (z ∷ xs) x y h k = elim (Contains-cases z xs x h) [
+    | inl s ↦ Contains-append_left (f z) (flat_map f xs) y (rw s k)
+    | inr t ↦ Contains-append_right (f z) (flat_map f xs) y (Contains-flat_map f xs x y t k)
+  ]
+
+-- what stands in some batch
+pub concat-Contains : (xss : List (List ℕ)) (y : ℕ) → Contains (concat xss) y → (b : ℕ) × Contains (batch_at xss b) y
+concat-Contains [] y h = absurd (not_in_none y h)
+concat-Contains (xs ∷ xss) y h = elim (Contains-append_cases xs (concat xss) y h) [
+  | inl s ↦ (0, s)
+  | inr t ↦ let r = concat-Contains xss y t in (suc r.0, r.1)
+]
+
+pub Contains-concat : (xss : List (List ℕ)) (b y : ℕ) → Contains (batch_at xss b) y → Contains (concat xss) y
+Contains-concat [] b y h = absurd (not_in_none y h)
+Contains-concat (xs ∷ xss) zero y h = Contains-append_left xs (concat xss) y h
+Contains-concat (xs ∷ xss) (suc b) y h = Contains-append_right xs (concat xss) y (Contains-concat xss b y h)
+
+-- ---- ranges
+
+pub range-Contains : (a n k : ℕ) → Contains (range_with_len a n) k → (a ≤ k) × (k < a + n)
+range-Contains a n k h = grind (arith, length-range_with_len, get_or-range_with_len)
+
+pub Contains-range : (a n k : ℕ) → a ≤ k → k < a + n → Contains (range_with_len a n) k
+Contains-range a n k h l =
+    let lt : k - a < n = omega arith in
+    let is : a + (k - a) ≡ k = omega arith in
+    (k - a, omega (arith, length-range_with_len a n), get_or-range_with_len a n (k - a) k lt ∙ is)
+
+pub range_more : (i : ℕ) → range_with_len 0 (i + 1) ≡ range_with_len 0 i ++ i ∷ []
+range_more i = let is : 0 + i ≡ i = omega arith in simp map-id at (map-range_with_len_more (λ k. k) 0 i i is)
+
+-- a filter of a range, one number on
+module _ (p : ℕ → Bool) (i : ℕ) (xs : List ℕ) (so_far : xs ≡ filter p (range_with_len 0 i)) where
+  filter_more : filter p (range_with_len 0 (i + 1)) ≡ xs ++ cond (p i) (i ∷ []) []
+  filter_more = ap (filter p) (range_more i) ∙ filter-append p (range_with_len 0 i) (i ∷ []) ∙ ap (λ ys. ys ++ cond (p i) (i ∷ []) []) (sym so_far)
+
+  pub filter_takes : p i ≡ true → xs ++ i ∷ [] ≡ filter p (range_with_len 0 (i + 1))
+  filter_takes t = rw (filter_more, t) refl
+
+  pub filter_drops : p i ≡ false → xs ≡ filter p (range_with_len 0 (i + 1))
+  filter_drops t = rw (filter_more, t, append-nil xs) refl

@@ -1,0 +1,78 @@
+-- What callers see of a plan, by its sets.
+use Rattle.std.proofs.Common.{◌≡◌, ℕ, ◌<◌, ◌≤◌, inl, inr, Bool, true, false, List, length, map, sym, subst, ◌∙◌, arith}
+use Rattle.std.specs.Prelude.{◌↔◌, Contains, IsTrue}
+use Rattle.std.specs.List.{range_with_len}
+use Rattle.std.proofs.lemmas.Bool.{cases_lt, false≢true, false_from_ne_true}
+use Rattle.std.proofs.lemmas.List.{get_or_past}
+use Rattle.std.proofs.lemmas.List.FromFn.{fill_by_all, get_or-map-range_with_len, length-map-range_with_len}
+use Rattle.msg_order.specs.declared.system_set.SystemSet.{SystemSet}
+use Rattle.msg_order.specs.inner.SystemSet.{has}
+use Rattle.msg_order.specs.Graph.{Graph, IsEdge, Path}
+use Rattle.msg_order.specs.Order.{has_joined, IsLawfulOrder, IsAmong}
+use Rattle.msg_order.specs.Plan.{PlanView, IsPlanOf}
+use Rattle.msg_order.specs.inner.Paths.{comes_before, ArePaths, AreKept, IsSetOf, square, view_of}
+use Rattle.msg_order.proofs.Elements.{filter-Contains, Contains-filter, Contains-flat_map, Contains-map, Contains-range}
+use Rattle.msg_order.proofs.Chains.{first_edge, last_edge, edge_is_path}
+use Rattle.msg_order.proofs.PathTest.{to_Path}
+use Rattle.msg_order.proofs.TurnOrders.{kept_along}
+use Rattle.msg_world.specs.declared.access.Access.{Access}
+use Rattle.msg_order.specs.declared.rule.Rule.{Rule}
+
+Contains-square : (n i j : ℕ) → i < n → j < n → Contains (square n) (i, j)
+Contains-square n i j h l =
+    Contains-flat_map (λ (a : ℕ). map (λ (b : ℕ). (a, b)) (range_with_len 0 n)) (range_with_len 0 n) i (i, j) (Contains-range 0 n i (omega arith) (omega arith))
+    (Contains-map (λ (b : ℕ). (i, b)) (range_with_len 0 n) j (Contains-range 0 n j (omega arith) (omega arith)))
+
+-- the pairs of the view are what the sets say
+pub precedes-view : (before : List SystemSet) (joined : SystemSet) (batches : List (List ℕ)) → AreKept before joined → (i j : ℕ) → IsEdge (view_of before joined batches).precedes i j ↔ (comes_before before i j ≡ true)
+precedes-view before joined batches kept i j =
+    let test : ℕ × ℕ → Bool = λ e. comes_before before e.0 e.1 in (
+      λ h. (filter-Contains test (square (length before)) (i, j) h).1,
+      λ t.
+          let both = kept.among i j t in
+          Contains-filter test (square (length before)) (i, j) (Contains-square (length before) i j (kept.within i both.0) (kept.within j both.1)) t,
+    )
+
+pub joined-view : (before : List SystemSet) (joined : SystemSet) (batches : List (List ℕ)) → AreKept before joined → (i : ℕ) → has_joined (view_of before joined batches).joined i ≡ has joined i
+joined-view before joined batches kept i =
+    grind (arith, cases_lt, get_or-map-range_with_len, length-map-range_with_len, get_or_past, false_from_ne_true)
+
+-- the same of a view that they are known to give
+pub seen_edges : (v : PlanView) (before : List SystemSet) (joined : SystemSet) (batches : List (List ℕ)) → view_of before joined batches ≡ v → AreKept before joined → (i j : ℕ) → IsEdge v.precedes i j ↔ (comes_before before i j ≡ true)
+seen_edges v before joined batches is kept i j = subst (λ w. IsEdge w.precedes i j ↔ (comes_before before i j ≡ true)) is (precedes-view before joined batches kept i j)
+
+pub seen_joined : (v : PlanView) (before : List SystemSet) (joined : SystemSet) (batches : List (List ℕ)) → view_of before joined batches ≡ v → AreKept before joined → (i : ℕ) → has_joined v.joined i ≡ has joined i
+seen_joined v before joined batches is kept i = subst (λ w. has_joined w.joined i ≡ has joined i) is (joined-view before joined batches kept i)
+
+pub systems-view : (joined : List Bool) (set : SystemSet) (n : ℕ) → length joined ≡ n → IsSetOf joined set → map (has set) (range_with_len 0 n) ≡ joined
+systems-view joined set n len is = sym (fill_by_all (has set) joined n false len (λ k lt. sym (is k)))
+
+-- the sets of a plan lead among the joined systems
+pub sets_kept : (g : Graph) (joined : List Bool) (before : List SystemSet) (set : SystemSet) → length before ≤ 256 → length joined ≡ length before → ArePaths g before → IsSetOf joined set → IsAmong joined g → AreKept before set
+sets_kept g joined before set few len paths is among = record {
+  few = few;
+  within = λ i t. elim (cases_lt i (length before)) [
+    | inl l ↦ l
+    | inr l ↦ absurd (false≢true (sym (get_or_past joined i false (omega arith)) ∙ sym (is i) ∙ t))
+  ];
+  among = λ i j t.
+      let p : Path g i j = to_Path g i j (sym (paths i j) ∙ t) in
+      let first = first_edge g i j p in
+      let last = last_edge g i j p in
+      (is i ∙ (among i first.0 first.1).0, is j ∙ (among last.0 j last.1).1);
+}
+
+-- an order is lawful for the pairs of a plan where it is for the edges that it was settled by
+pub lawful_same : (accesses : List Access) (rules : List Rule) (joined : List Bool) (p : PlanView) (plan : IsPlanOf accesses rules joined p) (order : List ℕ) → IsLawfulOrder p.precedes p.joined order ↔ IsLawfulOrder plan.order joined order
+lawful_same accesses rules joined p plan order = (
+  λ w. record {
+    of_joined = λ i. subst (λ js. Contains order i ↔ IsTrue (has_joined js i)) plan.systems (w.of_joined i);
+    once = w.once;
+    kept = λ i j e. w.kept i j ((plan.paths i j).1 (edge_is_path plan.order i j e));
+  },
+  λ w. record {
+    of_joined = λ i. subst (λ js. Contains order i ↔ IsTrue (has_joined js i)) (sym plan.systems) (w.of_joined i);
+    once = w.once;
+    kept = λ i j e. kept_along plan.order joined order w i j ((plan.paths i j).0 e);
+  },
+)

@@ -1,0 +1,173 @@
+-- Pairs taken in turn: what they add, keep and reach.
+use Rattle.std.proofs.Common.{◌≡◌, ◌≢◌, ℕ, ◌+◌, ◌-◌, ◌<◌, ◌⊎◌, inl, inr, Bool, true, false, cond, ◌&&◌, ◌||◌, List, [], ◌∷◌, ◌++◌, map, refl, ap, sym, subst, ◌∙◌, arith}
+use Rattle.std.specs.Prelude.{◌==◌, Contains, flat_map}
+use Rattle.std.specs.List.{list_any, range_with_len}
+use Rattle.std.proofs.Math.Bool.{and-false, or-false}
+use Rattle.std.proofs.lemmas.Bool.{cases_Bool, or_cases, and_parts, false≢true, false_from_ne_true, eqb-true, ne_eqb}
+use Rattle.std.proofs.lemmas.Grind.{flat_map-append}
+use Rattle.std.proofs.lemmas.List.{append-nil}
+use Rattle.msg_order.specs.Graph.{Graph, IsEdge, Path}
+use Rattle.msg_order.specs.Order.{GainsEdge, Settles, pairs}
+use Rattle.msg_order.specs.inner.Paths.{path}
+use Rattle.msg_order.proofs.Elements.{Contains-head, Contains-tail, Contains-cases, not_in_none, range_more, flat_map-Contains, Contains-flat_map, map-Contains, Contains-map, range-Contains, Contains-range}
+use Rattle.msg_order.proofs.Chains.{edge_is_path}
+use Rattle.msg_order.proofs.PathTest.{path_trans, to_Path, no_Path, no_path, path_more}
+
+-- Some pairs after others.
+pub settles_then : (C : ℕ → ℕ → Type 0) (ps qs g h k : Graph) → Settles C g ps h → Settles C h qs k → Settles C g (ps ++ qs) k
+settles_then C [] qs g h k a b = subst (λ x. Settles C x qs k) (sym a) b
+settles_then C (p ∷ ps) qs g h k a b = elim a [
+  | inl x ↦ inl (x.0, settles_then C ps qs (p ∷ g) h k x.1 b)
+  | inr x ↦ inr (x.0, settles_then C ps qs g h k x.1 b)
+]
+
+-- Only one graph comes of them.
+pub settles_once : (C : ℕ → ℕ → Type 0) (ps g h k : Graph) → Settles C g ps h → Settles C g ps k → h ≡ k
+settles_once C [] g h k a b = sym a ∙ b
+settles_once C (p ∷ ps) g h k a b = elim a [
+  | inl x ↦ elim b [ inl y ↦ settles_once C ps (p ∷ g) h k x.1 y.1 | inr y ↦ absurd (y.0 x.0) ]
+  | inr x ↦ elim b [ inl y ↦ absurd (x.0 y.0) | inr y ↦ settles_once C ps g h k x.1 y.1 ]
+]
+
+-- Each edge was there before, or is one of the pairs that are in conflict.
+pub settles_edges : (C : ℕ → ℕ → Type 0) (ps g h : Graph) → Settles C g ps h → (i j : ℕ) → IsEdge h i j → IsEdge g i j ⊎ (Contains ps (i, j) × C i j)
+settles_edges C [] g h a i j e = inl (subst (λ x. IsEdge x i j) (sym a) e)
+settles_edges C (p ∷ ps) g h a i j e = elim a [
+  | inl x ↦ elim (settles_edges C ps (p ∷ g) h x.1 i j e) [
+    | inl y ↦ elim (Contains-cases p g (i, j) y) [
+      | inl s ↦ inr (subst (λ (q : ℕ × ℕ). Contains (p ∷ ps) q) s (Contains-head p ps), subst (λ (q : ℕ × ℕ). C q.0 q.1) s x.0.0)
+      | inr t ↦ inl t
+    ]
+    | inr y ↦ inr (Contains-tail p ps (i, j) y.0, y.1)
+  ]
+  | inr x ↦ elim (settles_edges C ps g h x.1 i j e) [ inl y ↦ inl y | inr y ↦ inr (Contains-tail p ps (i, j) y.0, y.1) ]
+]
+
+-- A path stays.
+pub settles_grows : (C : ℕ → ℕ → Type 0) (ps g h : Graph) → Settles C g ps h → (i j : ℕ) → Path g i j → Path h i j
+settles_grows C [] g h a i j p = subst (λ x. Path x i j) a p
+settles_grows C (q ∷ ps) g h a i j p = elim a [
+  | inl x ↦ settles_grows C ps (q ∷ g) h x.1 i j (path_more q g i j p)
+  | inr x ↦ settles_grows C ps g h x.1 i j p
+]
+
+-- Between each of the pairs that are in conflict there is a path one way or the other.
+pub settles_covers : (C : ℕ → ℕ → Type 0) (ps g h : Graph) → Settles C g ps h → (i j : ℕ) → Contains ps (i, j) → C i j → Path h i j ⊎ Path h j i
+settles_covers C [] g h a i j m c = absurd (not_in_none (i, j) m)
+settles_covers C (p ∷ ps) g h a i j m c = elim (Contains-cases p ps (i, j) m) [
+  | inl s ↦ elim a [
+    | inl x ↦ inl (settles_grows C ps (p ∷ g) h x.1 i j (edge_is_path (p ∷ g) i j (subst (λ (q : ℕ × ℕ). Contains (p ∷ g) q) s (Contains-head p g))))
+    | inr x ↦ elim (cases_Bool (path g j i)) [
+      | inl t ↦ inr (settles_grows C ps g h x.1 j i (to_Path g j i t))
+      | inr f ↦ absurd (x.0 (subst (λ (q : ℕ × ℕ). GainsEdge C g q.0 q.1) (sym s) (c, no_Path g j i f)))
+    ]
+  ]
+  | inr t ↦ elim a [
+    | inl x ↦ settles_covers C ps (p ∷ g) h x.1 i j t c
+    | inr x ↦ settles_covers C ps g h x.1 i j t c
+  ]
+]
+
+-- An edge to which no path leads back makes no cycle.
+free_step : (p : ℕ × ℕ) (g : Graph) → p.0 < p.1 → path g p.1 p.0 ≡ false → ((s : ℕ) → path g s s ≡ false) → (s : ℕ) → path (p ∷ g) s s ≡ false
+free_step p g lt free h s = grind (arith, false_from_ne_true, false≢true, or_cases, and_parts, eqb-true, path_trans)
+
+pub settles_free : (C : ℕ → ℕ → Type 0) (ps g h : Graph) → Settles C g ps h → ((i j : ℕ) → Contains ps (i, j) → i < j) → ((s : ℕ) → path g s s ≡ false) → (s : ℕ) → path h s s ≡ false
+settles_free C [] g h a up f = subst (λ x. (s : ℕ) → path x s s ≡ false) a f
+settles_free C (p ∷ ps) g h a up f = elim a [
+  | inl x ↦ settles_free C ps (p ∷ g) h x.1 (λ i j m. up i j (Contains-tail p ps (i, j) m)) (free_step p g (up p.0 p.1 (Contains-head p ps)) (no_path g p.1 p.0 x.0.1) f)
+  | inr x ↦ settles_free C ps g h x.1 (λ i j m. up i j (Contains-tail p ps (i, j) m)) f
+]
+
+-- All pairs of numbers below n, up to those of i.
+abbrev pub row : ℕ → ℕ → Graph
+row n i = map (λ j. (i, j)) (range_with_len (i + 1) (n - (i + 1)))
+
+abbrev pub pairs_until : ℕ → ℕ → Graph
+pairs_until n i = flat_map (row n) (range_with_len 0 i)
+
+pub pairs_until-more : (n i : ℕ) → pairs_until n (i + 1) ≡ pairs_until n i ++ row n i
+pairs_until-more n i =
+    ap (flat_map (row n)) (range_more i) ∙ flat_map-append (row n) (range_with_len 0 i) (i ∷ []) ∙ ap (λ xs. pairs_until n i ++ xs) (append-nil (row n i))
+
+pub pairs-Contains : (n i j : ℕ) → Contains (pairs n) (i, j) → (i < j) × (j < n)
+pairs-Contains n i j h =
+    let r = flat_map-Contains (row n) (range_with_len 0 n) (i, j) h in
+    let a = range-Contains 0 n r.0 r.1.0 in
+    let m = map-Contains (λ (k : ℕ). (r.0, k)) (range_with_len (r.0 + 1) (n - (r.0 + 1))) (i, j) r.1.1 in
+    let b = range-Contains (r.0 + 1) (n - (r.0 + 1)) m.0 m.1.0 in
+    let first : r.0 ≡ i = ap (λ (q : ℕ × ℕ). q.0) m.1.1 in
+    let second : m.0 ≡ j = ap (λ (q : ℕ × ℕ). q.1) m.1.1 in
+    (omega (arith, a, b, first, second), omega (arith, a, b, first, second))
+
+pub Contains-pairs : (n i j : ℕ) → i < j → j < n → Contains (pairs n) (i, j)
+Contains-pairs n i j h l =
+    Contains-flat_map (row n) (range_with_len 0 n) i (i, j) (Contains-range 0 n i (omega arith) (omega arith))
+    (Contains-map (λ (k : ℕ). (i, k)) (range_with_len (i + 1) (n - (i + 1))) j (Contains-range (i + 1) (n - (i + 1)) j (omega arith) (omega arith)))
+
+-- The graph with an edge from i to each of these systems for which the test holds.
+abbrev pub grown : ℕ → (ℕ → Bool) → List ℕ → Graph → Graph
+grown i test [] g = g
+grown i test (j ∷ js) g = grown i test js (cond (test j) ((i, j) ∷ g) g)
+
+-- An edge from i adds no path to i, where no path leads back.
+same_to : (g : Graph) (i t x : ℕ) → t ≢ i → path g t i ≡ false → path ((i, t) ∷ g) x i ≡ path g x i
+same_to g i t x ne free = rw (free, ne_eqb i t (λ e. ne (sym e)), and-false (x == i || path g x i), or-false (path g x i)) refl
+
+-- Nor does it to others from where no path leads to i.
+same_from : (g : Graph) (i t s k : ℕ) → s ≢ i → path g s i ≡ false → path ((i, t) ∷ g) s k ≡ path g s k
+same_from g i t s k ne free = rw (free, ne_eqb s i ne, or-false (path g s k)) refl
+
+regroup : (p b q a : Bool) → ((p || (b && q)) || (b && a)) ≡ (p || (b && (q || a)))
+regroup z0 b q a = grind arith
+
+-- What the test holds of has no path to i, and isn't i.
+abbrev pub AreFree : Graph → ℕ → (ℕ → Bool) → Type 0
+AreFree g i test = (t : ℕ) → test t ≡ true → (t ≢ i) × (path g t i ≡ false)
+
+-- an edge to one of them leaves it so
+still_free : (g : Graph) (i j : ℕ) (test : ℕ → Bool) → AreFree g i test → test j ≡ true → AreFree ((i, j) ∷ g) i test
+still_free g i j test f e t s = let q = f j e in let r = f t s in (r.0, same_to g i j t q.0 q.1 ∙ r.1)
+
+-- the test holds of k, or of one from which a path leads to k
+abbrev pub reaches : (ℕ → Bool) → Graph → ℕ → ℕ → Bool
+reaches test g k t = test t && (k == t || path g t k)
+
+same_reach : (g : Graph) (i j k : ℕ) (test : ℕ → Bool) → AreFree g i test → (t : ℕ) → reaches test ((i, j) ∷ g) k t ≡ reaches test g k t
+same_reach g i j k test f t = grind (arith, cases_Bool, same_from)
+
+pub grown_paths : (g : Graph) (i : ℕ) (test : ℕ → Bool) (js : List ℕ) → AreFree g i test → (x k : ℕ)
+    → path (grown i test js g) x k ≡ (path g x k || ((x == i || path g x i) && list_any (reaches test g k) js))
+grown_paths g i test [] f x k = rw (and-false (x == i || path g x i), or-false (path g x k)) refl
+grown_paths g i test (j ∷ js) f x k = elim (cases_Bool (test j)) [
+  | inr e ↦ rw e (grown_paths g i test js f x k)
+  | inl e ↦
+      let h : Graph = (i, j) ∷ g in
+      let q = f j e in
+      rw e (grown_paths h i test js (still_free g i j test f e) x k
+      ∙ ap (λ p. path h x k || ((x == i || p) && list_any (reaches test h k) js)) (same_to g i j x q.0 q.1)
+      ∙ ap (λ (p : ℕ → Bool). path h x k || ((x == i || path g x i) && list_any p js)) (λ n t. same_reach g i j k test f t n)
+      ∙ regroup (path g x k) (x == i || path g x i) (k == j || path g j k) (list_any (reaches test g k) js))
+]
+
+-- The test tells which pairs of i and a later system gain their edge, whichever of them did before.
+abbrev pub TellsPairs : (ℕ → ℕ → Type 0) → Graph → ℕ → (ℕ → Bool) → Type 0
+TellsPairs C g i test = (t : ℕ) → i < t → (test t ≡ true → C i t × (path g t i ≡ false)) × (C i t → path g t i ≡ false → test t ≡ true)
+
+pub settles_row : (C : ℕ → ℕ → Type 0) (g : Graph) (i : ℕ) (test : ℕ → Bool) (js : List ℕ) → ((j : ℕ) → Contains js j → i < j) → TellsPairs C g i test
+    → Settles C g (map (λ k. (i, k)) js) (grown i test js g)
+settles_row C g i test [] up h = refl
+settles_row C g i test (j ∷ js) up h =
+    let lt : i < j = up j (Contains-head j js) in
+    let later : (k : ℕ) → Contains js k → i < k = λ k c. up k (Contains-tail j js k c) in
+    elim (cases_Bool (test j)) [
+      | inl e ↦
+          let at = (h j lt).0 e in
+          let ne : j ≢ i = omega arith in
+          let on : TellsPairs C ((i, j) ∷ g) i test = λ t l.
+          let r = h t l in
+          let same : path ((i, j) ∷ g) t i ≡ path g t i = same_to g i j t ne at.1 in
+          (λ s. let q = r.0 s in (q.0, same ∙ q.1), λ c f. r.1 c (sym same ∙ f)) in
+          rw e (inl ((at.0, no_Path g j i at.1), settles_row C ((i, j) ∷ g) i test js later on))
+      | inr e ↦ rw e (inr (λ x. false≢true (sym e ∙ (h j lt).1 x.0 (no_path g j i x.1)), settles_row C g i test js later h))
+    ]

@@ -1,6 +1,0 @@
-use Rattle.std.proofs.Common.{◌≡◌, ℕ, ◌<◌, false}
-use Rattle.msg_order.specs.Paths.{comes_before}
-use Rattle.msg_order.proofs.paths.lowest_on_cycle.Given as goal
-
-abbrev pub invariant-loop-s : goal.invariant-loop-s
-invariant-loop-s l = (r : ℕ) → r < l.s → comes_before l.before r r ≡ false

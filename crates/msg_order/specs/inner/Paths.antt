@@ -1,0 +1,59 @@
+-- Paths as the sets of the code keep them: before each system those that precede it. No public contract
+-- cites these; that they are the paths of the definitions is proved.
+use Rattle.std.specs.Prelude.{◌≡◌, ℕ, ◌≤◌, ◌<◌, Bool, true, false, not, ◌&&◌, ◌||◌, ◌==◌, List, [], ◌∷◌, map, length, filter, flat_map, slice_index_or}
+use Rattle.std.specs.List.{range_with_len}
+use Rattle.msg_world.specs.declared.access.Access.{Access}
+use Rattle.msg_order.specs.declared.system_set.SystemSet.{SystemSet}
+use Rattle.msg_order.specs.inner.SystemSet.{has, meets, no_set}
+use Rattle.msg_order.specs.Graph.{Graph}
+use Rattle.msg_order.specs.Order.{has_joined, AreInConflict, Settles, pairs}
+use Rattle.msg_order.specs.Plan.{PlanView}
+
+-- a path leads from i to j: without the first edge, or to its begin and on from its end
+abbrev pub path : Graph → ℕ → ℕ → Bool
+path [] i j = false
+path (e ∷ g) i j = path g i j || ((i == e.0 || path g i e.0) && (j == e.1 || path g e.1 j))
+
+-- the set of those before system j
+abbrev pub set_at : List SystemSet → ℕ → SystemSet
+set_at before j = slice_index_or before j no_set
+
+-- i is in the set of those before j
+abbrev pub comes_before : List SystemSet → ℕ → ℕ → Bool
+comes_before before i j = has (set_at before j) i
+
+-- the sets are the paths of g
+abbrev pub ArePaths : Graph → List SystemSet → Type 0
+ArePaths g before = (i j : ℕ) → comes_before before i j ≡ path g i j
+
+-- the sets are the paths of what g becomes as the pairs are taken
+abbrev pub AreSettled : List Access → List Bool → Graph → List SystemSet → Type 0
+AreSettled accesses joined g before = (h : Graph)
+    × (ArePaths h before × Settles (AreInConflict accesses joined) g (pairs (length accesses)) h)
+
+-- the set is that of the joined systems
+abbrev pub IsSetOf : List Bool → SystemSet → Type 0
+IsSetOf joined set = (i : ℕ) → has set i ≡ has_joined joined i
+
+-- it is left, and none that is left is before it
+abbrev pub is_ready : List SystemSet → SystemSet → ℕ → Bool
+is_ready before left i = has left i && not (meets (set_at before i) left)
+
+-- the sets of so many systems, of which those before a system and itself have joined
+pub record AreKept (before : List SystemSet) (joined : SystemSet) : Type 0 where
+  pub few : length before ≤ 256
+  pub within : (i : ℕ) → has joined i ≡ true → i < length before
+  pub among : (i j : ℕ) → comes_before before i j ≡ true
+      → (has joined i ≡ true) × (has joined j ≡ true)
+
+-- all pairs of numbers below n
+abbrev pub square : ℕ → List (ℕ × ℕ)
+square n = flat_map (λ i. map (λ j. (i, j)) (range_with_len 0 n)) (range_with_len 0 n)
+
+-- what callers see of a plan with these sets and batches
+abbrev pub view_of : List SystemSet → SystemSet → List (List ℕ) → PlanView
+view_of before joined batches = record {
+  joined = map (has joined) (range_with_len 0 (length before));
+  precedes = filter (λ e. comes_before before e.0 e.1) (square (length before));
+  batches = batches;
+}

@@ -1,0 +1,26 @@
+// Whether rules go round in a circle.
+ghost use Rattle.std.specs.Prelude.{◌<◌, ◌≤◌, IfNone, IfOk, IfSome, OnErr};
+ghost use Rattle.msg_order.specs.Graph.{IsAcyclic, IsLowestOnCycle};
+ghost use Rattle.msg_order.specs.Order.{NameSystemsBelow, edges_of};
+
+use crate::Rule;
+use crate::paths::{follow_rules, no_paths};
+use std::alloc::{AllocError, Allocator};
+
+/// The lowest of so many systems from which the rules lead back to it; None where they lead back
+/// to no system. No systems take no memory.
+pub fn lowest_on_cycle<A: Allocator>(
+    alloc: A,
+    systems: usize,
+    rules: &[Rule],
+) -> Result<Option<u32>, AllocError>
+    requires few { systems ≤ 256 }
+    requires in_range { NameSystemsBelow systems rules.now }
+    ensures lowest { IfOk result (λ found. IfSome found (IsLowestOnCycle (edges_of rules.now))) }
+    ensures acyclic { IfOk result (λ found. IfNone found (IsAcyclic (edges_of rules.now))) }
+    ensures no_memory { OnErr result (0 < systems) }
+{
+    let joined = [true; 256];
+    let mut before = no_paths(alloc, systems)?;
+    Ok(follow_rules(&mut before, rules, &joined[..systems]))
+}

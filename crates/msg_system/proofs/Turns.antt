@@ -1,0 +1,207 @@
+-- Turns by rules.
+use Rattle.std.proofs.Common.{◌≡◌, ℕ, zero, suc, ◌+◌, ◌<◌, ◌≤◌, ◌++◌, Bool, true, false, not, ◌&&◌, ◌||◌, List, [], ◌∷◌, length, Option, Some, None, take, drop, refl, sym, ap, subst, ◌∙◌, arith, inl, inr, append_assoc}
+use Rattle.std.specs.Prelude.{IsTrue, slice_get, if◌then◌else◌}
+use Rattle.std.proofs.Math.Bool.{and-true}
+use Rattle.std.proofs.Math.Seq.{drop-append_seam}
+use Rattle.std.proofs.lemmas.Bool.{and_from, and_parts, cases_Bool, eqb-true, false≢true}
+use Rattle.std.proofs.lemmas.List.{append-nil, length-take-le, take_more, take_all}
+use Rattle.std.proofs.lemmas.List.Folds.{list_any_at}
+use Rattle.std.proofs.lemmas.Option.{get_or_from_slice_get, none-some, same_Some, slice_get_cases, slice_get_past, slice_get_within}
+use Rattle.msg_world.specs.Access.{Part, OfType, OfResource, Registry, same_part}
+use Rattle.msg_world.specs.declared.lent.Lent.{Lent}
+use Rattle.msg_world.specs.Loan.{SameLoan, taken_of}
+use Rattle.msg_world.specs.Parts.{Parts}
+use Rattle.msg_world.specs.World.{WorldState}
+use Rattle.msg_system.specs.declared.op.Op.{Op}
+use Rattle.msg_system.specs.declared.program.Program.{Program}
+use Rattle.msg_system.specs.declared.reply.Reply.{Reply}
+use Rattle.msg_system.specs.declared.start.Start.{Start}
+use Rattle.msg_system.specs.Needs.{Needs, is_none_or, is_part, is_resource, keeps_to, may_read, op_needs, op_parts, program_needs, some_op_reads, some_op_writes}
+use Rattle.msg_system.specs.inner.OpRuns.{HasReplies, OpRan, ProgramRan, one_place}
+use Rattle.msg_system.specs.Programs.{AfterOp, AfterProgram, after_op, after_program, with_place}
+use Rattle.msg_system.specs.Promises.{Ran, WrittenStand}
+use Rattle.msg_system.specs.Systems.{IsInOrder, Meaning, after_at_most, if_kept, next_op, of_program, one_more, only, op_list, ops_answered, turn}
+use Rattle.msg_system.proofs.Runs.{after_program-snoc, one_place_at, one_place_moved, same_part_refl, written_stand}
+
+-- ---- a program keeps to what it needs
+
+none_or_all : (holds : Part → Bool) (o : Option Part) → ((p : Part) → IsTrue (is_part o p) → IsTrue (holds p)) → IsTrue (is_none_or holds o)
+none_or_all holds None each = refl
+none_or_all holds (Some p) each = each p (same_part_refl p)
+
+listed : (r k w : Bool) → IsTrue r → IsTrue ((r && not (k && w)) || (k && w))
+listed true true true h = refl
+listed true true false h = refl
+listed true false w h = refl
+listed false k w h = absurd (false≢true h)
+
+op_kept : (ops : List Op) (i : ℕ) (op : Op) → slice_get ops i ≡ Some op → keeps_to (program_needs ops) op ≡ true
+op_kept ops i op is =
+    let lt = slice_get_within ops i op is in
+    let at = get_or_from_slice_get ops i op op is in
+    let n : Needs = program_needs ops in
+    and_from _ _
+    (none_or_all (may_read n) (op_parts op).read (λ p h. listed (some_op_reads ops p) (is_resource p) (some_op_writes ops p)
+    (list_any_at (λ o. (op_needs o).reads p) ops i op lt (ap (λ o. (op_needs o).reads p) at ∙ h))))
+    (none_or_all n.writes (op_parts op).written (λ p h. list_any_at (λ o. (op_needs o).writes p) ops i op lt (ap (λ o. (op_needs o).writes p) at ∙ h)))
+
+program_next : (program : Program) (w : ℕ) (ps : ℕ → ℕ) (rs : List Reply) → next_op (of_program program w ps) rs ≡ slice_get program.ops (length rs)
+program_next program w ps rs = at (slice_get program.ops (length rs)) refl
+  where
+    at : (o : Option Op) → slice_get program.ops (length rs) ≡ o → if_kept (program_needs program.ops) o ≡ o
+    at None is = refl
+    at (Some op) is = rw (op_kept program.ops (length rs) op is) refl
+
+program_nexts : (program : Program) (w : ℕ) (ps : ℕ → ℕ) → next_op (of_program program w ps) ≡ (λ (rs : List Reply). slice_get program.ops (length rs))
+program_nexts program w ps = λ k rs. program_next program w ps rs k
+
+-- ---- a program is its ops in order
+
+pub one_reply_each : (ops : List Op) (w : ℕ) (ps : ℕ → ℕ) (s : WorldState) → length (after_program ops w ps s).replies ≡ length ops
+one_reply_each [] w ps s = refl
+one_reply_each (op ∷ ops) w ps s = let e : AfterOp = after_op op w ps s in ap suc (one_reply_each ops w e.places e.state)
+
+-- as far as so many ops
+so_far : (ops : List Op) (n w : ℕ) (ps : ℕ → ℕ) (s : WorldState)
+    → after_at_most n (λ replies. slice_get ops (length replies)) w ps s ≡ after_program (take n ops) w ps s
+so_far ops zero w ps s = refl
+so_far ops (suc n) w ps s =
+    let far : AfterProgram = after_program (take n ops) w ps s in
+    let more : (e : AfterProgram) → e ≡ far → one_more (slice_get ops (length e.replies)) w e ≡ one_more (slice_get ops (length (take n ops))) w far =
+    λ e is. ap (λ x. one_more (slice_get ops (length x.replies)) w x) is ∙ ap (λ k. one_more (slice_get ops k) w far) (one_reply_each (take n ops) w ps s) in
+    more (after_at_most n (λ replies. slice_get ops (length replies)) w ps s) (so_far ops n w ps s)
+    ∙ elim (slice_get_cases ops n).1 [
+      | inl h ↦
+          ap (λ k. one_more (slice_get ops k) w far) (length-take-le n ops (omega (arith, h.1)))
+          ∙ ap (λ o. one_more o w far) h.2
+          ∙ sym (after_program-snoc (take n ops) h.0 w ps s)
+          ∙ ap (λ xs. after_program xs w ps s) (sym (ap (λ k. take k ops) (the_suc n) ∙ take_more ops n h.0 h.1 ∙ ap (λ x. take n ops ++ x ∷ []) h.3))
+      | inr h ↦
+          ap (λ (o : Option Op). one_more o w far) (slice_get_past ops (length (take n ops)) (whole n ops h.0))
+          ∙ ap (λ xs. after_program xs w ps s) (take_all n ops h.0 ∙ sym (take_all (suc n) ops (omega (arith, h.0))))
+    ]
+  where
+    the_suc : (n : ℕ) → suc n ≡ n + 1
+    the_suc n = omega arith
+
+    whole : (n : ℕ) (xs : List Op) → length xs ≤ n → length xs ≤ length (take n xs)
+    whole n xs h = rw (take_all n xs h) (omega arith)
+
+-- as many ops as are asked for, or all
+pub program_so_far : (program : Program) (n w : ℕ) (ps : ℕ → ℕ) (s : WorldState) → length program.ops ≤ n
+    → after_at_most n (next_op (of_program program w ps)) w ps s ≡ after_program program.ops w ps s
+program_so_far program n w ps s few =
+    ap (λ next. after_at_most n next w ps s) (program_nexts program w ps) ∙ so_far program.ops n w ps s
+    ∙ ap (λ xs. after_program xs w ps s) (take_all n program.ops few)
+
+pub ops_answered-snoc : (next : List Reply → Option Op) (rs : List Reply) (r : Reply) → ops_answered next (rs ++ r ∷ []) ≡ ops_answered next rs ++ op_list (next rs)
+ops_answered-snoc next [] r = append-nil (op_list (next []))
+ops_answered-snoc next (x ∷ rs) r =
+    ap (λ xs. op_list (next []) ++ xs) (ops_answered-snoc (λ now. next (x ∷ now)) rs r)
+    ∙ sym (append_assoc (op_list (next [])) (ops_answered (λ now. next (x ∷ now)) rs) (op_list (next (x ∷ rs))))
+
+answered_first : (ops : List Op) (rs : List Reply) → ops_answered (λ replies. slice_get ops (length replies)) rs ≡ take (length rs) ops
+answered_first ops [] = refl
+answered_first [] (r ∷ rs) = answered_first [] rs ∙ no_more (length rs)
+  where
+    no_more : (n : ℕ) → take {A = Op} n [] ≡ take {A = Op} (suc n) []
+    no_more zero = refl
+    no_more (suc n) = refl
+answered_first (op ∷ ops) (r ∷ rs) = ap (λ xs. op ∷ xs) (answered_first ops rs)
+
+-- the replies to a whole program are answers to its ops
+pub answered_all : (program : Program) (w : ℕ) (ps : ℕ → ℕ) (rs : List Reply) → length rs ≡ length program.ops
+    → ops_answered (next_op (of_program program w ps)) rs ≡ program.ops
+answered_all program w ps rs all =
+    ap (λ next. ops_answered next rs) (program_nexts program w ps) ∙ answered_first program.ops rs
+    ∙ take_all (length rs) program.ops (omega (arith, all))
+
+pub in_order : IsInOrder
+unfolding turn
+in_order program w ps s few =
+    let m : Meaning = of_program program w ps in
+    let is : turn m s ≡ after_program program.ops w ps s = program_so_far program 64 w ps s few in
+    let all : ops_answered (next_op m) (turn m s).replies ≡ program.ops =
+    answered_all program w ps (turn m s).replies (ap (λ (e : AfterProgram). length e.replies) is ∙ one_reply_each program.ops w ps s) in
+    (is, ap (λ ops. record (of_program program w (turn m s).places) { last = ops }) all)
+
+-- ---- an op that keeps to what is needed
+
+-- part by part
+pub record IsKept (n : Needs) (op : Op) : Type 0 where
+  pub reads : (p : Part) → IsTrue ((op_needs op).reads p) → IsTrue (may_read n p)
+  pub writes : (p : Part) → IsTrue ((op_needs op).writes p) → IsTrue (n.writes p)
+
+same_part_is : (p q : Part) → IsTrue (same_part p q) → p ≡ q
+same_part_is (OfType t) (OfType u) h = ap OfType (eqb-true t u h)
+same_part_is (OfResource r) (OfResource s) h = ap OfResource (eqb-true r s h)
+same_part_is Registry Registry h = refl
+same_part_is (OfType t) (OfResource s) h = absurd (false≢true h)
+same_part_is (OfType t) Registry h = absurd (false≢true h)
+same_part_is (OfResource r) (OfType u) h = absurd (false≢true h)
+same_part_is (OfResource r) Registry h = absurd (false≢true h)
+same_part_is Registry (OfType u) h = absurd (false≢true h)
+same_part_is Registry (OfResource s) h = absurd (false≢true h)
+
+at_part : (holds : Part → Bool) (o : Option Part) (p : Part) → IsTrue (is_none_or holds o) → IsTrue (is_part o p) → IsTrue (holds p)
+at_part holds None p all h = absurd (false≢true h)
+at_part holds (Some q) p all h = rw (same_part_is p q h) all
+
+pub kept : (n : Needs) (op : Op) → IsTrue (keeps_to n op) → IsKept n op
+kept n op h =
+    let both = and_parts (is_none_or (may_read n) (op_parts op).read) (is_none_or n.writes (op_parts op).written) h in
+    record {
+      reads = λ p is. at_part (may_read n) (op_parts op).read p both.0 is;
+      writes = λ p is. at_part n.writes (op_parts op).written p both.1 is;
+    }
+
+-- what comes next keeps to what is needed
+pub next_kept_to : (n : Needs) (o : Option Op) (op : Op) → if_kept n o ≡ Some op → IsKept n op
+next_kept_to n None op is = absurd (none-some op is)
+next_kept_to n (Some x) op is = elim (cases_Bool (keeps_to n x)) [
+  | inl holds ↦ rw (sym (same_Some x op (ap (λ b. if b then Some x else None) (sym holds) ∙ is))) (kept n x holds)
+  | inr isnt ↦ absurd (none-some op (ap (λ b. if b then Some x else None) (sym isnt) ∙ is))
+]
+
+-- ---- a run of a program
+
+pub ran_program : (program : Program) (w : ℕ) (ps qs : ℕ → ℕ) (l m : Lent) (taken : Parts) (before after : List Reply) → length program.ops ≤ 64
+    → ProgramRan program.ops w ps qs l m before after → HasReplies before after (length program.ops) → SameLoan l m → taken ≡ taken_of m
+    → Ran (of_program program w ps) (of_program program w qs) l taken before after
+ran_program program w ps qs l m taken before after few ran replies same is =
+    let as_turn : (s : WorldState) → turn (of_program program w ps) s ≡ after_program program.ops w ps s = λ s. (in_order program w ps s few).0 in
+    record {
+      replies = replies.0;
+      appended = replies.1;
+      one_each = sym replies.2;
+      means = ap (λ ops. record (of_program program w qs) { last = ops }) (sym (answered_all program w ps replies.0 replies.2));
+      state = λ s stands. subst (λ (e : AfterProgram). WrittenStand l taken e.state) (sym (as_turn s))
+          (written_stand l m taken (after_program program.ops w ps s).state same is (ran s stands).stands);
+      answers = λ s stands. sym (drop-append_seam before replies.0) ∙ ap (drop (length before)) (sym replies.1 ∙ (ran s stands).same_replies)
+          ∙ drop-append_seam before (after_program program.ops w ps s).replies ∙ ap (λ (e : AfterProgram). e.replies) (sym (as_turn s));
+      places = λ s stands. (ran s stands).same_places ∙ ap (λ (e : AfterProgram). e.places) (sym (as_turn s));
+    }
+
+-- of one op
+pub ran_only : (op : Op) (start : Start) (w : ℕ) (ps qs : ℕ → ℕ) (l m : Lent) (taken : Parts) (before : List Reply) (r : Reply)
+    → OpRan op w ps qs l m r → SameLoan l m → taken ≡ taken_of m
+    → Ran (of_program (only op start) w ps) (of_program (only op start) w qs) l taken before (before ++ r ∷ [])
+ran_only op start w ps qs l m taken before r ran same is =
+    ran_program (only op start) w ps qs l m taken before (before ++ r ∷ []) (omega arith)
+    (λ s stands. record {
+      same_places = (ran s stands).same_places;
+      stands = (ran s stands).stands;
+      same_replies = ap (λ x. before ++ x ∷ []) (ran s stands).same_reply;
+    }) (r ∷ [], refl, refl) same is
+
+-- of one op, where the system keeps one cursor, at a place of the type that the op reads
+pub one_op_ran : (op : Op) (start : Start) (w t old new : ℕ) (l m : Lent) (taken : Parts) (before after : List Reply) (r : Reply)
+    → ((places : ℕ → ℕ) → places t ≡ old → OpRan op w places (with_place places t new) l m r) → SameLoan l m → taken ≡ taken_of m → after ≡ before ++ r ∷ []
+    → Ran (of_program (only op start) w (one_place t old)) (of_program (only op start) w (one_place t new)) l taken before after
+one_op_ran op start w t old new l m taken before after r ran same is appended =
+    let here = subst (λ places. OpRan op w (one_place t old) places l m r) (one_place_moved t old new) (ran (one_place t old) (one_place_at t old)) in
+    rw appended (ran_only op start w (one_place t old) (one_place t new) l m taken before r here same is)
+
+-- the types that a program reads are those that an op of it reads
+pub reads_of_program : (program : Program) (t : ℕ) → (program_needs program.ops).reads (OfType t) ≡ some_op_reads program.ops (OfType t)
+reads_of_program program t = and-true (some_op_reads program.ops (OfType t))

@@ -1,0 +1,57 @@
+use Rattle.std.proofs.Common.{◌≡◌, ◌∷◌, [], ◌++◌, drop, length, arith, ap, sym, length-append, ◌∙◌}
+use Rattle.msg_system.specs.Needs.{needs_of, op_needs}
+use Rattle.msg_system.specs.inner.OpRuns.{AreAnswered, next_kept, places_of}
+use Rattle.msg_system.proofs.Deciding.{answered_more, appended, covers_kept, turn_full, turn_more, turn_over}
+use Rattle.msg_system.proofs.Runs.{covers_later, same_loan_trans}
+use Rattle.msg_system.proofs.Turns.{next_kept_to}
+use Rattle.msg_system.proofs.behavior_system.run_turn.Goals as goal
+
+pub run_op-requires : goal.run_op-requires
+run_op-requires g c =
+    let b = g.B.Behavior in let n = needs_of c.args.access.now in
+    record {
+      covers = covers_later (op_needs c.in-Some.op) c.args.lent.now c.loop-done.lent c.loop-done.invariant.same
+          (covers_kept c.in-Some.op n c.args.lent.now (next_kept_to n _ c.in-Some.op (sym c.in_ok-next_within.ensures.next ∙ c.in-Some.is)) c.requires.covers);
+    }
+
+pub returns-in-None-clause-ran : goal.returns-in-None-clause-ran
+returns-in-None-clause-ran g c s stands =
+    let b = g.B.Behavior in let inv = c.loop-done.invariant in let next = next_kept (needs_of c.args.access.now) b.next_op (b.memory c.args.behavior.now) in
+    turn_over next c.args.writer (places_of c.args.cursors.now) s c.len-before.result c.loop-done._done (places_of c.loop-done.cursors)
+    c.loop-done.lent c.args.out.now.items c.loop-done.out.items inv.long (inv.so_far s stands) (omega arith)
+    (sym c.in-None.is ∙ c.in_ok-next_within.ensures.next ∙ ap next (c.since.ensures.rest ∙ ap (drop c.len-before.result) c.as_slice.ensures.value))
+
+pub loop-done-preserved : goal.loop-done-preserved
+loop-done-preserved g c =
+    let b = g.B.Behavior in let inv = c.loop-done.invariant in let next = next_kept (needs_of c.args.access.now) b.next_op (b.memory c.args.behavior.now) in
+    let is = sym c.in-Some.is ∙ c.in_ok-next_within.ensures.next ∙ ap next (c.since.ensures.rest ∙ ap (drop c.len-before.result) c.as_slice.ensures.value) in
+    record {
+      so_far = λ s stands. rw c.in_ok-push-in-Some.ensures.items (turn_more next c.args.writer (places_of c.args.cursors.now) s c.len-before.result
+          c.loop-done._done (places_of c.loop-done.cursors) c.loop-done.lent c.args.out.now.items c.loop-done.out.items inv.long (inv.so_far s stands)
+          c.in-Some.op (places_of c.run_op.new.cursors) c.run_op.new.lent c.in_ok-run_op-in-Some.field-0 is c.in_ok-run_op-in-Some.ensures.ran);
+      long = inv.long;
+      answered = rw (c.in_ok-push-in-Some.ensures.items, c.in_ok-push-in-Some-2.ensures.items) (answered_more next c.loop-done.ops.items c.args.out.now.items c.loop-done.out.items c.in-Some.op c.in_ok-run_op-in-Some.field-0 inv.answered
+          (is ∙ ap (λ k. next (drop k c.loop-done.out.items)) inv.long ∙ ap next (appended next c.loop-done.ops.items c.args.out.now.items c.loop-done.out.items inv.answered)));
+      same = same_loan_trans c.args.lent.now c.loop-done.lent c.run_op.new.lent inv.same c.in_ok-run_op-in-Some.ensures.same;
+    }
+
+pub returns-clause-ran : goal.returns-clause-ran
+returns-clause-ran g c s stands =
+    let b = g.B.Behavior in let inv = c.loop-done.invariant in
+    turn_full (next_kept (needs_of c.args.access.now) b.next_op (b.memory c.args.behavior.now)) c.args.writer (places_of c.args.cursors.now) s c.len-before.result c.loop-done._done (places_of c.loop-done.cursors)
+    c.loop-done.lent c.args.out.now.items c.loop-done.out.items inv.long (inv.so_far s stands) (omega arith)
+
+pub since-requires : goal.since-requires
+since-requires g c = let inv = c.loop-done.invariant in record { within = rw (ap length c.as_slice.ensures.value ∙ ap length inv.answered.1 ∙ length-append c.args.out.now.items inv.answered.0) (omega (arith, inv.long)) }
+
+pub returns-in-None-clause-answered : goal.returns-in-None-clause-answered
+returns-in-None-clause-answered g c = c.loop-done.invariant.answered
+
+pub returns-in-None-clause-same : goal.returns-in-None-clause-same
+returns-in-None-clause-same g c = c.loop-done.invariant.same
+
+pub returns-clause-answered : goal.returns-clause-answered
+returns-clause-answered g c = c.loop-done.invariant.answered
+
+pub returns-clause-same : goal.returns-clause-same
+returns-clause-same g c = c.loop-done.invariant.same

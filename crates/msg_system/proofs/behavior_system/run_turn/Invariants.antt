@@ -1,0 +1,18 @@
+use Rattle.std.proofs.Common.{◌≡◌, ℕ, List, length}
+use Rattle.msg_world.specs.Loan.{LoanStands, SameLoan}
+use Rattle.msg_world.specs.World.{WorldState}
+use Rattle.msg_system.specs.Needs.{needs_of}
+use Rattle.msg_system.specs.inner.OpRuns.{AreAnswered, IsAfterProgram, next_kept, places_of}
+use Rattle.msg_system.specs.Systems.{after_at_most}
+use Rattle.msg_system.proofs.behavior_system.run_turn.Given as goal
+
+abbrev pub invariant-loop-done : goal.invariant-loop-done
+invariant-loop-done g l =
+    let b = g.B.Behavior in let next = next_kept (needs_of l.access) b.next_op (b.memory l.behavior) in
+    record {
+      so_far : (s : WorldState) → LoanStands l.initial.lent s
+          → IsAfterProgram (after_at_most l._done next l.writer (places_of l.initial.cursors) s) (places_of l.cursors) l.lent l.initial.out.items l.out.items;
+      long : l.before ≡ length l.initial.out.items;
+      answered : AreAnswered next l.ops.items l.initial.out.items l.out.items;
+      same : SameLoan l.initial.lent l.lent;
+    }

@@ -1,0 +1,22 @@
+-- What a behavior does, turn after turn.
+use Rattle.std.specs.Prelude.{ℕ, List, [], Option, fold}
+use Rattle.msg_system.specs.declared.op.Op.{Op}
+use Rattle.msg_system.specs.declared.reply.Reply.{Reply}
+use Rattle.msg_system.specs.declared.start.Start.{Start}
+use Rattle.msg_system.specs.Needs.{Needs}
+use Rattle.msg_system.specs.Systems.{Meaning, Rule}
+
+-- Its rule: the next op by what it remembers of the turns that it took, one after the other, and by the replies so far.
+abbrev pub behaves : {M : Type 0} → (M → List Reply → Option Op) → (M → List Reply → M) → M → Rule
+behaves next remember memory turns replies = next (fold remember memory turns) replies
+
+-- a system that goes by a rule and was given nothing yet
+abbrev pub new_by_rule : Needs → Start → ℕ → Rule → Meaning
+new_by_rule needs start writer rule = record {
+  needs = needs;
+  start = start;
+  writer = writer;
+  places = λ t. 0;
+  rule = rule;
+  last = [];
+}

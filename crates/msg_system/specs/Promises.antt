@@ -1,0 +1,47 @@
+-- What a box promises of its runs.
+use Rattle.std.specs.Prelude.{All, ◌≡◌, ℕ, ◌++◌, false, None, IfSome, IsSome, IsTrue, List, length}
+use Rattle.msg_world.specs.declared.lent.Lent.{Lent}
+use Rattle.msg_world.specs.Access.{Part, uses, writes}
+use Rattle.msg_world.specs.Loan.{IsComplete, LoanStands, access_of, shown, writable}
+use Rattle.msg_world.specs.Parts.{Parts, PartsStand, StuffStands, slot}
+use Rattle.msg_world.specs.World.{WorldState, content}
+use Rattle.msg_system.specs.declared.condition.Condition.{Condition}
+use Rattle.msg_system.specs.declared.reply.Reply.{Reply}
+use Rattle.msg_system.specs.Needs.{IsAccessOf, Needs, condition_needs, with_conditions}
+use Rattle.msg_system.specs.Systems.{Meaning, told, turn}
+
+-- A loan covers what is needed: it shows what is read, and lets be written what is written. It may lend more.
+pub record Covers (n : Needs) (l : Lent) : Type 0 where
+  pub reads : (p : Part) → IsTrue (n.reads p) → IsSome (shown p l)
+  pub writes : (p : Part) → IsTrue (n.writes p) → IsSome (writable p l)
+
+-- What a loan's access writes stands, as it is given back, for that part of a world.
+abbrev pub WrittenStand : Lent → Parts → WorldState → Type 0
+WrittenStand l taken s = (p : Part) → IsTrue (writes (access_of l) p) → IfSome (slot p taken) (λ k. StuffStands p k (content p s))
+
+-- A run on a loan is the system's turn, on each world that the loan stands for.
+pub record Ran (old new : Meaning) (lent : Lent) (taken : Parts) (before after : List Reply) : Type 0 where
+  -- the replies of this turn, one for each op
+  pub replies : List Reply
+  pub appended : after ≡ before ++ replies
+  pub one_each : length new.last ≡ length replies
+  -- nothing changes but by what it was told
+  pub means : new ≡ record (told replies old) { places = new.places }
+  pub state : (s : WorldState) → LoanStands lent s → WrittenStand lent taken (turn old s).state
+  pub answers : (s : WorldState) → LoanStands lent s → replies ≡ (turn old s).replies
+  pub places : (s : WorldState) → LoanStands lent s → new.places ≡ (turn old s).places
+
+-- Where nothing else is given back, that is all that is given back.
+abbrev pub WrittenIsAll : Type 0
+WrittenIsAll = (l : Lent) (taken : Parts) (s : WorldState) → ((p : Part) → writes (access_of l) p ≡ false → slot p taken ≡ None)
+    → WrittenStand l taken s → PartsStand taken s
+
+-- A loan that has all that its access uses covers what is within that access.
+abbrev pub CompleteCovers : Type 0
+CompleteCovers = (n : Needs) (l : Lent) → IsComplete l → ((p : Part) → IsTrue (n.reads p) → IsTrue (uses (access_of l) p))
+    → ((p : Part) → IsTrue (n.writes p) → IsTrue (writes (access_of l) p)) → Covers n l
+
+-- A loan that has all that a job needs covers its system and each of its conditions.
+abbrev pub JobsCover : Type 0
+JobsCover = (n : Needs) (cs : List Condition) (l : Lent) → IsComplete l → IsAccessOf (with_conditions n cs) (access_of l)
+    → Covers n l × All (λ c. Covers (condition_needs c) l) cs

@@ -1,0 +1,34 @@
+// What decides the ops of a system.
+use crate::{Access, NoMemory, Op, Reply, Start};
+use std::alloc::Global;
+
+/// Decides what a system does, by a memory of its own and by what its ops are answered.
+///
+/// `BehaviorSystem` makes a system of it. Whoever implements it says by its ghost equations what
+/// each call does, and proves nothing about loans, worlds or frames.
+pub trait Behavior: Drop {
+    ghost use Rattle.std.specs.Prelude.{◌≡◌, List, Option, IfOk, OnOk};
+    ghost use Rattle.msg_system.specs.declared.op.Op.{Op};
+    ghost use Rattle.msg_system.specs.declared.reply.Reply.{Reply};
+
+    // What it remembers.
+    ghost Memory: { Type 0 };
+
+    ghost memory: { Self → Memory };
+
+    // The next op of a turn, by what it remembers and the replies so far; None ends the turn.
+    ghost next_op: { Memory → List Reply → Option Op };
+
+    // What it remembers after a turn that was answered so.
+    ghost remembered: { Memory → List Reply → Memory };
+
+    /// The next op of this turn, by the replies so far; None where the turn is over. A turn ends
+    /// after 64 ops, and before an op outside the access of its system.
+    fn next(&self, alloc: Global, replies: &[Reply]) -> Result<Option<Op>, NoMemory>
+        ensures next { IfOk result (λ op. op ≡ next_op (memory self.now) replies.now) };
+
+    /// Keeps what is worth it of a turn, by its replies. A turn that is skipped isn't told.
+    fn remember(&mut self, alloc: Global, replies: &[Reply]) -> Result<(), NoMemory>
+        ensures remembers { OnOk result
+            (memory self.new ≡ remembered (memory self.old) replies.now) };
+}

@@ -1,0 +1,171 @@
+// Systems that decide by a behavior.
+ghost use Rattle.std.specs.Prelude.{◌≡◌, ◌≤◌, ℕ, IfOk, OnOk, drop, length, if◌then◌else◌};
+ghost use Rattle.msg_world.specs.Access.{OfType, reads};
+ghost use Rattle.msg_world.specs.Loan.{SameLoan};
+ghost use Rattle.msg_system.specs.Behaviors.{behaves};
+ghost use Rattle.msg_system.specs.Needs.{needs_of};
+ghost use Rattle.msg_system.specs.inner.OpRuns.{AreAnswered, TurnRan, next_kept, places_of};
+ghost use Rattle.msg_system.specs.Promises.{Covers};
+ghost use Rattle.msg_system.specs.Systems.{start_place};
+
+use crate::behavior::Behavior;
+use crate::scripted::{run_op, start_cursor};
+use crate::{Access, Items, NoMemory, Op, Reply, Start, System};
+use msg_buffer::MessageCursor;
+use msg_world::{Counts, Lent, Taken, TypeNo};
+use std::alloc::Global;
+
+/// The replies from one on.
+fn since(replies: &[Reply], from: usize) -> &[Reply]
+    requires within { from ≤ length replies.now }
+    ensures rest { result.now ≡ drop from replies.now }
+{
+    &replies[from..]
+}
+
+/// The next op, where it keeps to the access.
+fn next_within<B: Behavior>(
+    alloc: Global,
+    behavior: &B,
+    access: &Access,
+    replies: &[Reply],
+) -> Result<Option<Op>, NoMemory>
+    ensures next { IfOk result (λ op. op
+        ≡ next_kept (needs_of access.now) B.next_op (B.memory behavior.now) replies.now) }
+{
+    match behavior.next(alloc, replies)? {
+        Some(op) if op.keeps_to(access) => Ok(Some(op)),
+        _ => Ok(None),
+    }
+}
+
+/// One turn: the ops that the behavior gives, one after the other. It gives those that it did.
+fn run_turn<B: Behavior>(
+    alloc: Global,
+    behavior: &B,
+    access: &Access,
+    writer: u32,
+    cursors: &mut [MessageCursor; 64],
+    lent: &mut Lent,
+    out: &mut Vec<Reply>,
+) -> Result<Vec<Op>, NoMemory>
+    requires covers { Covers (needs_of access.now) lent.old }
+    ensures ran { OnOk result (TurnRan
+        (next_kept (needs_of access.now) B.next_op (B.memory behavior.now)) writer
+        (places_of cursors.old) (places_of cursors.new) lent.old lent.new
+        out.old.items out.new.items) }
+    ensures answered { IfOk result (λ v. AreAnswered
+        (next_kept (needs_of access.now) B.next_op (B.memory behavior.now)) v.items
+        out.old.items out.new.items) }
+    ensures same { OnOk result (SameLoan lent.old lent.new) }
+{
+    let before = out.len();
+    let mut ops = Vec::new(alloc);
+    for _done in 0..64u32 {
+        match next_within(alloc, behavior, access, since(out.as_slice(), before))? {
+            None => return Ok(ops),
+            Some(op) => {
+                out.push(run_op(alloc, &op, writer, cursors, lent)?)?;
+                ops.push(op)?;
+            }
+        }
+    }
+    Ok(ops)
+}
+
+/// Sets the cursors of the types that the access reads to where they start.
+fn start_read(access: Access, start: Start, counts: &Counts, cursors: &mut [MessageCursor; 64])
+    ensures started { (t : ℕ) → places_of cursors.new t
+        ≡ (if reads access (OfType t) then start_place start counts.now t
+        else places_of cursors.old t) }
+{
+    for number in 0..64u32 {
+        if let Some(t) = TypeNo::new(number) {
+            if access.reads_type(t) {
+                cursors[number as usize] = start_cursor(start, counts, t);
+            }
+        }
+    }
+}
+
+/// A system that does what its behavior decides.
+#[derive(Drop)]
+pub struct BehaviorSystem<B: Behavior> {
+    behavior: B,
+    access: Access,
+    start: Start,
+    writer: u32,
+    cursors: [MessageCursor; 64],
+    last: Items<Op>,
+}
+
+impl<B: Behavior + Send> BehaviorSystem<B> {
+    ghost use Rattle.msg_system.specs.Behaviors.{new_by_rule};
+
+    /// It has done nothing yet. It does no op outside `access`, and writes as the number `writer`.
+    pub fn new(
+        alloc: Global,
+        behavior: B,
+        access: Access,
+        start: Start,
+        writer: u32,
+    ) -> BehaviorSystem<B>
+        ensures new { ⟦<BehaviorSystem<B> as System>⟧.meaning result ≡ new_by_rule
+            (needs_of access) start writer (behaves B.next_op B.remembered (B.memory behavior)) }
+    {
+        BehaviorSystem {
+            behavior,
+            access,
+            start,
+            writer,
+            cursors: [MessageCursor::new(0); 64],
+            last: Items::from_vec(Vec::new(alloc)),
+        }
+    }
+}
+
+impl<B: Behavior + Send> System for BehaviorSystem<B> {
+    ghost meaning = { λ s. record {
+      needs = needs_of s.access;
+      start = s.start;
+      writer = s.writer;
+      places = places_of s.cursors;
+      rule = behaves B.next_op B.remembered (B.memory s.behavior);
+      last = s.last;
+    } };
+
+    fn access(&self) -> Access {
+        self.access
+    }
+
+    fn read_type(&self, op: u32) -> Option<TypeNo> {
+        self.last.as_slice().get(op as usize)?.read_type()
+    }
+
+    fn begins(&self) -> Start {
+        self.start
+    }
+
+    fn start(&mut self, counts: &Counts) {
+        let (access, start) = (self.access, self.start);
+        start_read(access, start, counts, &mut self.cursors);
+    }
+
+    fn run(&mut self, alloc: Global, lent: Lent, out: &mut Vec<Reply>) -> Result<Taken, NoMemory> {
+        let mut lent = lent;
+        let before = out.len();
+        let ops = run_turn(
+            alloc,
+            &self.behavior,
+            &self.access,
+            self.writer,
+            &mut self.cursors,
+            &mut lent,
+            out,
+        )?;
+        self.last = Items::from_vec(ops);
+        self.behavior
+            .remember(alloc, since(out.as_slice(), before))?;
+        Ok(lent.into_taken())
+    }
+}

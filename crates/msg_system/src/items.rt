@@ -1,0 +1,54 @@
+ghost use Rattle.std.specs.Prelude.{◌≡◌, ◌<◌, IfOk, OnErr, length};
+
+use crate::NoMemory;
+use std::alloc::Global;
+use std::marker::Model;
+
+/// Items in order. Contracts see it as their list.
+#[derive(Debug, Drop)]
+pub struct Items<T> {
+    items: Vec<T>,
+}
+
+impl<T> Model for Items<T> {
+    ghost use Rattle.std.specs.Prelude.{List};
+
+    ghost Value = { List T };
+
+    ghost view = { λ i. i.items.items };
+}
+
+impl<T> Items<T> {
+    /// Takes no memory.
+    pub fn from_vec(items: Vec<T>) -> Items<T>
+        ensures items { result ≡ items.items }
+    {
+        Items { items }
+    }
+
+    /// Takes no memory.
+    pub fn into_vec(self) -> Vec<T>
+        ensures items { result.items ≡ self }
+    {
+        let Items { items } = self;
+        items
+    }
+
+    pub fn as_slice(&self) -> &[T]
+        ensures items { result.now ≡ self.now }
+    {
+        self.items.as_slice()
+    }
+}
+
+impl Items<i64> {
+    /// Equal values. No values take no memory.
+    pub fn copy(&self, alloc: Global) -> Result<Items<i64>, NoMemory>
+        ensures equal { IfOk result (λ values. values ≡ self.now) }
+        ensures refused { OnErr result (0 < length self.now) }
+    {
+        let mut items = Vec::with_capacity(alloc, self.items.len())?;
+        items.extend_from_slice(self.items.as_slice())?;
+        Ok(Items { items })
+    }
+}

@@ -1,0 +1,127 @@
+// Systems that decide: each on 1, 2, 7 and 64 workers.
+ghost use Rattle.std.specs.Prelude.{◌≡◌, IfOk, slice_get};
+ghost use Rattle.msg_exec.specs.Engines.{IsEngine};
+ghost use Rattle.msg_tests.specs.Adders.{brought, total_after};
+
+use super::making::{add, frame_of, places, run_frame, start};
+use crate::numbers::type_no;
+use msg_exec::{EngineOf, NoGate};
+use msg_system::{Access, Behavior, BehaviorSystem, NoMemory, Op, Reply, Start, System};
+use msg_world::{Record, TypeNo, World};
+use std::alloc::Global;
+use std::process::Abort;
+use std::test::Fail;
+
+/// Adds what it reads to a total, which it writes in the same turn where anything came.
+#[derive(Drop)]
+pub struct Adder {
+    pub from: TypeNo,
+    pub to: TypeNo,
+    pub total: i64,
+}
+
+/// The messages that the first reply brought.
+fn first_brought(replies: &[Reply]) -> &[Record]
+    ensures brought { result.now ≡ brought (slice_get replies.now 0) }
+{
+    match replies.get(0) {
+        Some(Reply::Read(took)) => took.items.as_slice(),
+        _ => &[],
+    }
+}
+
+/// The total with what the first reply brought.
+fn added(total: i64, replies: &[Reply]) -> i64
+    ensures total { result ≡ total_after total replies.now }
+{
+    let mut sum = total;
+    for record in first_brought(replies) {
+        sum = sum.saturating_add(record.value);
+    }
+    sum
+}
+
+impl Behavior for Adder {
+    ghost use Rattle.msg_tests.specs.declared.engines.deciding.Adder.{Adder};
+    ghost use Rattle.msg_tests.specs.Adders.{next_op, remembered};
+
+    ghost Memory = { Adder };
+
+    ghost memory = { λ a. a };
+
+    ghost next_op = { next_op };
+
+    ghost remembered = { remembered };
+
+    fn next(&self, _alloc: Global, replies: &[Reply]) -> Result<Option<Op>, NoMemory> {
+        Ok(match replies.len() {
+            0 => Some(Op::Read(self.from, None)),
+            1 => {
+                if first_brought(replies).len() == 0 {
+                    None
+                } else {
+                    Some(Op::Write(self.to, added(self.total, replies)))
+                }
+            }
+            _ => None,
+        })
+    }
+
+    fn remember(&mut self, _alloc: Global, replies: &[Reply]) -> Result<(), NoMemory> {
+        self.total = added(self.total, replies);
+        Ok(())
+    }
+}
+
+/// An engine of one adder, over a world of two types.
+fn adder_engine(rt: &impl Abort, alloc: Global) -> Result<EngineOf<BehaviorSystem<Adder>>, Fail>
+    ensures engine { IfOk result (IsEngine ⟦<BehaviorSystem<Adder> as System>⟧.meaning) }
+{
+    let (from, to) = (type_no(rt, 0), type_no(rt, 1));
+    let access = Access::none().with_read_type(from).with_write_type(to);
+    let adder = Adder { from, to, total: 0 };
+    let mut systems = Vec::new(alloc);
+    let system = BehaviorSystem::new(alloc, adder, access, Start::Zero, 0);
+    add(&mut systems, system)?;
+    let places = places(alloc, 1, 1)?;
+    let world = World::new(alloc, &[10, 10], &[])?;
+    Ok(start(rt, alloc, world, systems, places, Vec::new(alloc))?)
+}
+
+/// These values, and no others, were written in this frame.
+fn expect_written(rt: &impl Abort, world: Option<&World>, t: TypeNo, values: &[i64]) {
+    let Some(messages) = world.and_then(|w| w.messages(t)) else {
+        panic!(rt; "no messages");
+    };
+    let written = messages.current();
+    assert_eq!(rt; written.len(), values.len());
+    for (instance, value) in written.iter().zip(values) {
+        assert_eq!(rt;
+            instance.message,
+            Record {
+                writer: 0,
+                value: *value
+            }
+        );
+    }
+}
+
+#[test]
+fn a_sum_goes_out_in_its_turn(rt: HostRuntime) -> Result<(), Fail> {
+    let (alloc, from, to) = (rt.alloc(), type_no(&rt, 0), type_no(&rt, 1));
+    let (both, none) = (
+        frame_of(alloc, &[(from, 5), (from, 6)])?,
+        frame_of(alloc, &[])?,
+    );
+    let one = frame_of(alloc, &[(from, 1)])?;
+    for number in [1, 2, 7, 64] {
+        let mut engine = adder_engine(&rt, alloc)?;
+        run_frame(&rt, &mut engine, &both, number, &NoGate)?;
+        expect_written(&rt, engine.world(), to, &[11]);
+        run_frame(&rt, &mut engine, &none, number, &NoGate)?;
+        expect_written(&rt, engine.world(), to, &[]);
+        run_frame(&rt, &mut engine, &one, number, &NoGate)?;
+        expect_written(&rt, engine.world(), to, &[12]);
+    }
+    Ok(())
+}

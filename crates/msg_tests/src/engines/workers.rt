@@ -1,0 +1,143 @@
+// How many workers run the jobs of a batch, and what they do beside one that has no memory.
+ghost use Rattle.std.specs.Prelude.{IfOk};
+ghost use Rattle.msg_exec.specs.Engines.{IsEngine};
+
+use super::expecting::{expect_log, posted, read};
+use super::gates::HoldGate;
+use super::making::{add, engine_of, frame_of, places, quiet, run_frame, script, start};
+use super::prefaced::{Before, Prefaced};
+use super::spoiled::expect_spoiled;
+use crate::numbers::type_no;
+use msg_exec::{EngineOf, Gate, NoGate, RunFault};
+use msg_system::{Op, Start, System};
+use msg_world::World;
+use std::alloc::Global;
+use std::process::Abort;
+use std::sync::Arc;
+use std::sync::atomic::{AtomicU64, Ordering};
+use std::test::Fail;
+
+/// Holds each call but the last of so many until that came.
+#[derive(Drop)]
+struct Gathering {
+    awaited: u64,
+    came: AtomicU64,
+    limits_met: AtomicU64,
+}
+
+impl Gathering {
+    fn new(awaited: u64) -> Gathering {
+        Gathering {
+            awaited,
+            came: AtomicU64::new(0),
+            limits_met: AtomicU64::new(0),
+        }
+    }
+
+    /// All came, and each that was held saw it.
+    fn expect_gathered(&self, rt: &impl Abort) {
+        assert_eq!(rt; self.limits_met.load(Ordering::SeqCst), 0);
+        assert_eq!(rt; self.came.load(Ordering::SeqCst), self.awaited);
+    }
+}
+
+impl Gate for Gathering {
+    fn pass(&self, _worker: u32, _system: u32) {
+        self.came.fetch_add(1, Ordering::SeqCst);
+        for _ in 0..50_000_000u64 {
+            if self.came.load(Ordering::SeqCst) >= self.awaited {
+                return;
+            }
+        }
+        self.limits_met.fetch_add(1, Ordering::SeqCst);
+    }
+}
+
+/// As many readers as workers: each job but one waits in the gate until all were called for, so
+/// each worker has a thread of its own.
+#[test]
+fn each_worker_has_a_thread(rt: HostRuntime) -> Result<(), Fail> {
+    let (alloc, t) = (rt.alloc(), type_no(&rt, 0));
+    let ops = [
+        Op::Read(t, None),
+        Op::Read(t, None),
+        Op::Read(t, None),
+        Op::Read(t, None),
+        Op::Read(t, None),
+    ];
+    for number in [2, 3, 5] {
+        let gate = Gathering::new(number);
+        let mut engine = engine_of(&rt, alloc, &[10], &ops[..number as usize], &[])??;
+        run_frame(&rt, &mut engine, &quiet(alloc), number as u32, &gate)?;
+        gate.expect_gathered(&rt);
+    }
+    Ok(())
+}
+
+/// Two readers on two workers over two frames. In the first one a reader waits for the other.
+#[test]
+fn two_workers(rt: HostRuntime) -> Result<(), Fail> {
+    let (alloc, t) = (rt.alloc(), type_no(&rt, 0));
+    let ops = [Op::Read(t, None), Op::Read(t, None)];
+    let mut engine = engine_of(&rt, alloc, &[200], &ops, &[])??;
+    let gate = HoldGate::new(2, [true, false, false], 2);
+    let log = run_frame(&rt, &mut engine, &frame_of(alloc, &[(t, 3)])?, 2, &gate)?;
+    gate.expect_met(&rt);
+    let three = [posted(3)];
+    expect_log(&rt, &log, &[0], &[read(0, 0, &three), read(1, 0, &three)]);
+    let log = run_frame(&rt, &mut engine, &frame_of(alloc, &[(t, 4)])?, 2, &NoGate)?;
+    let four = [posted(4)];
+    expect_log(&rt, &log, &[1], &[read(0, 1, &four), read(1, 1, &four)]);
+    Ok(())
+}
+
+/// An engine of readers of one type, of which the first has no memory and the others are counted.
+fn first_fails(
+    rt: &impl Abort,
+    alloc: Global,
+    number: u32,
+    runs: &Arc<AtomicU64>,
+) -> Result<EngineOf<Prefaced>, Fail>
+    ensures engine { IfOk result (IsEngine ⟦<Prefaced as System>⟧.meaning) }
+{
+    let mut systems = Vec::new(alloc);
+    for _system in 0..number {
+        assert!(rt; systems.len() < 256);
+        let writer = systems.len() as u32;
+        let ops = vec![in alloc; Op::Read(type_no(rt, 0), None)]?;
+        let before = if writer == 0 {
+            Before::Fail
+        } else {
+            Before::Count(Arc::try_clone(runs)?)
+        };
+        let counted = Prefaced {
+            script: script(rt, ops, Start::Zero, writer),
+            before,
+        };
+        add(&mut systems, counted)?;
+    }
+    let places = places(alloc, systems.len(), 1)?;
+    let world = World::new(alloc, &[10], &[])?;
+    Ok(start(rt, alloc, world, systems, places, Vec::new(alloc))?)
+}
+
+/// The other jobs of its batch are run, on one worker after it and on two beside it.
+#[test]
+fn the_others_run_where_one_has_no_memory(rt: HostRuntime) -> Result<(), Fail> {
+    let alloc = rt.alloc();
+    for (readers, workers) in [(2, 1), (2, 2), (5, 2), (5, 64)] {
+        let runs = Arc::new(alloc, AtomicU64::new(0))?;
+        let mut engine = first_fails(&rt, alloc, readers, &runs)?;
+        let gate = Gathering::new(workers.min(readers) as u64);
+        let log = run_frame(&rt, &mut engine, &quiet(alloc), workers, &gate);
+        assert!(rt; matches!(log, Err(RunFault::NoMemory)));
+        assert_eq!(rt;
+            runs.load(Ordering::SeqCst),
+            readers as u64 - 1,
+            "{workers}"
+        );
+        assert_eq!(rt; gate.limits_met.load(Ordering::SeqCst), 0);
+        expect_spoiled(&rt, alloc, &mut engine, 0);
+    }
+    Ok(())
+}
