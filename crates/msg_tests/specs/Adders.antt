@@ -6,7 +6,7 @@ use Rattle.msg_system.specs.declared.op.Op.TheVariants.{Read, Write}
 use Rattle.msg_system.specs.declared.reply.Reply.{Reply}
 use Rattle.msg_system.specs.declared.reply.Reply.TheVariants as reply
 use Rattle.msg_system.specs.Programs.{sum_onto}
-use Rattle.msg_tests.specs.declared.engines.deciding.Adder.{Adder}
+use Rattle.msg_tests.specs.declared.adders.Adder.{Adder}
 
 -- the messages that a reply brought
 abbrev pub brought : Option Reply → List Record

@@ -5,6 +5,7 @@
 
 #[cfg(test)]
 mod accesses;
+pub mod adders;
 #[cfg(test)]
 mod boards;
 #[cfg(test)]

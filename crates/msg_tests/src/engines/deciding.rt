@@ -1,77 +1,16 @@
 // Systems that decide: each on 1, 2, 7 and 64 workers.
-ghost use Rattle.std.specs.Prelude.{◌≡◌, IfOk, slice_get};
+ghost use Rattle.std.specs.Prelude.{IfOk};
 ghost use Rattle.msg_exec.specs.Engines.{IsEngine};
-ghost use Rattle.msg_tests.specs.Adders.{brought, total_after};
 
 use super::making::{add, frame_of, places, run_frame, start};
+use crate::adders::Adder;
 use crate::numbers::type_no;
 use msg_exec::{EngineOf, NoGate};
-use msg_system::{Access, Behavior, BehaviorSystem, NoMemory, Op, Reply, Start, System};
+use msg_system::{Access, BehaviorSystem, Start, System};
 use msg_world::{Record, TypeNo, World};
 use std::alloc::Global;
 use std::process::Abort;
 use std::test::Fail;
-
-/// Adds what it reads to a total, which it writes in the same turn where anything came.
-#[derive(Drop)]
-pub struct Adder {
-    pub from: TypeNo,
-    pub to: TypeNo,
-    pub total: i64,
-}
-
-/// The messages that the first reply brought.
-fn first_brought(replies: &[Reply]) -> &[Record]
-    ensures brought { result.now ≡ brought (slice_get replies.now 0) }
-{
-    match replies.get(0) {
-        Some(Reply::Read(took)) => took.items.as_slice(),
-        _ => &[],
-    }
-}
-
-/// The total with what the first reply brought.
-fn added(total: i64, replies: &[Reply]) -> i64
-    ensures total { result ≡ total_after total replies.now }
-{
-    let mut sum = total;
-    for record in first_brought(replies) {
-        sum = sum.saturating_add(record.value);
-    }
-    sum
-}
-
-impl Behavior for Adder {
-    ghost use Rattle.msg_tests.specs.declared.engines.deciding.Adder.{Adder};
-    ghost use Rattle.msg_tests.specs.Adders.{next_op, remembered};
-
-    ghost Memory = { Adder };
-
-    ghost memory = { λ a. a };
-
-    ghost next_op = { next_op };
-
-    ghost remembered = { remembered };
-
-    fn next(&self, _alloc: Global, replies: &[Reply]) -> Result<Option<Op>, NoMemory> {
-        Ok(match replies.len() {
-            0 => Some(Op::Read(self.from, None)),
-            1 => {
-                if first_brought(replies).len() == 0 {
-                    None
-                } else {
-                    Some(Op::Write(self.to, added(self.total, replies)))
-                }
-            }
-            _ => None,
-        })
-    }
-
-    fn remember(&mut self, _alloc: Global, replies: &[Reply]) -> Result<(), NoMemory> {
-        self.total = added(self.total, replies);
-        Ok(())
-    }
-}
 
 /// An engine of one adder, over a world of two types.
 fn adder_engine(rt: &impl Abort, alloc: Global) -> Result<EngineOf<BehaviorSystem<Adder>>, Fail>
