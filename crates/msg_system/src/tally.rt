@@ -1,6 +1,6 @@
 ghost use Rattle.std.specs.Prelude.{◌≡◌};
 
-use crate::{Access, Cursors, NoMemory, Op, Reply, Start, System};
+use crate::{Access, Cursors, NoMemory, Op, Reply, Start, System, one_op_is_a_turn};
 use msg_world::{Counts, Lent, ResNo, Taken, TypeNo};
 use std::alloc::Global;
 
@@ -61,6 +61,7 @@ impl System for Tally {
     }
 
     fn run(&mut self, alloc: Global, lent: Lent, out: &mut Vec<Reply>) -> Result<Taken, NoMemory> {
+        one_op_is_a_turn();
         let mut lent = lent;
         let op = Op::Sum(self.from, self.to);
         out.push(op.run(alloc, self.writer, &mut self.cursors, &mut lent)?)?;
