@@ -7,7 +7,7 @@ use Rattle.serde_json.specs.Find.{as_bool, as_object, get}
 use Rattle.msg_files.specs.Check.{Check, first_refusal, needs}
 use Rattle.msg_files.specs.Json.{Text, elements, keys}
 use Rattle.msg_reading.specs.Names.{Declared}
-use Rattle.msg_reading.specs.ScenarioChecks.{frame_checks, is_root_key, list_checks, names_checks, resource_checks, root_object, rule_checks, section_checks, system_checks, type_checks}
+use Rattle.msg_reading.specs.ScenarioChecks.{frame_checks, is_root_key, list_checks, names_checks, resource_checks, root_object, rule_checks, scenario_checks, system_checks, type_checks}
 use Rattle.msg_reading.specs.ScenarioDenotes.{all_names, each_in_turn, each_of, frame_of, frames_in, held_in, no_names, part_names, resource_of, resources_in, rule_of, rules_in, rules_of, scenario_of, system_of, systems_in, systems_of, type_names, type_of, types_in, with_all, with_resource, with_system, with_type}
 use Rattle.msg_reading.specs.Sections.{schedule_checks, schedule_of, world_checks, world_names, world_of}
 use Rattle.msg_reading.specs.declared.scenario.Scenario.{Scenario}
@@ -246,7 +246,7 @@ regrouped (Some a) (Some b) (Some c) (Some d) (Some e) (Some f) w x is is' =
     ∙ ap (option_map (λ v. scenario_record w.types w.resources w.held v.systems v.rules v.frames)) is'
 
 module _ (d : Data) where
-  sections_are : section_checks d
+  sections_are : scenario_checks d
       ≡ root_object d
       ++ (world_checks no_names (types_in d) d ++ schedule_checks (part_names d) (systems_in d) (frames_in d) d)
   unfolding world_checks schedule_checks
@@ -276,10 +276,10 @@ module _ (d : Data) where
     at_start : {A : Type 0} (F : Declared → Data → A) → F no_names (types_in d) ≡ F n t
     at_start F = ap (λ v. F no_names v) at ∙ ap (λ k. F k t) (sym none)
 
-    pub sections_refuse_world : (e : Refusal) → Refuses (world_checks n t d) e → Refuses (section_checks d) e
+    pub sections_refuse_world : (e : Refusal) → Refuses (world_checks n t d) e → Refuses (scenario_checks d) e
     sections_refuse_world e h =
         let world = world_checks no_names (types_in d) d in
-        refuses_by (section_checks d)
+        refuses_by (scenario_checks d)
         (root_object d ++ (world ++ schedule_checks (part_names d) (systems_in d) (frames_in d) d)) e
         (ap first_refusal sections_are)
         (second_refuses (root_object d) world (schedule_checks (part_names d) (systems_in d) (frames_in d) d) e object
@@ -294,16 +294,16 @@ module _ (d : Data) where
       in_world F =
           ap (λ k. F k (systems_in d) (frames_in d)) after_world ∙ ap (λ v. F m v (frames_in d)) at' ∙ ap (F m s) at''
 
-      pub sections_refuse_schedule : (e : Refusal) → Refuses (schedule_checks m s f d) e → Refuses (section_checks d) e
+      pub sections_refuse_schedule : (e : Refusal) → Refuses (schedule_checks m s f d) e → Refuses (scenario_checks d) e
       sections_refuse_schedule e h =
           let first = world_checks no_names (types_in d) d in
           let last = schedule_checks (part_names d) (systems_in d) (frames_in d) d in
-          refuses_by (section_checks d) (root_object d ++ (first ++ last)) e (ap first_refusal sections_are)
+          refuses_by (scenario_checks d) (root_object d ++ (first ++ last)) e (ap first_refusal sections_are)
           (third_refuses (root_object d) first last e object
           (at_start (λ k v. first_refusal (world_checks k v d)) ∙ world)
           (refuses_by last (schedule_checks m s f d) e (in_world (λ k v u. first_refusal (schedule_checks k v u d))) h))
 
-      pub sections_pass : first_refusal (schedule_checks m s f d) ≡ None → first_refusal (section_checks d) ≡ None
+      pub sections_pass : first_refusal (schedule_checks m s f d) ≡ None → first_refusal (scenario_checks d) ≡ None
       sections_pass h =
           ap first_refusal sections_are
           ∙ all_pass (root_object d) (world_checks no_names (types_in d) d)

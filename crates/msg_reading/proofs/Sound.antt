@@ -1,29 +1,24 @@
 -- What is known of a scenario that was read.
-use Rattle.std.proofs.Common.{◌≡◌, ℕ, get_or, ◌+◌, ◌≤◌, ◌<◌, List, [], ◌∷◌, ◌++◌, length, refl, sym, ap, ◌∙◌, Some, None, true, arith, subst}
+use Rattle.std.proofs.Common.{◌≡◌, ℕ, ◌+◌, ◌≤◌, ◌<◌, List, [], ◌∷◌, ◌++◌, length, refl, sym, ap, ◌∙◌, Some, None, true, arith, subst}
 use Rattle.std.proofs.lemmas.Grind.{common_steps}
 use Rattle.std.proofs.lemmas.List.Elements.{All-head, All-tail}
 use Rattle.std.proofs.lemmas.List.Quantifiers.{position-Some}
-use Rattle.std.specs.Prelude.{All, replicate, unwrap_or, is_some, nat_le}
+use Rattle.std.specs.Prelude.{All, replicate, is_some, nat_le}
 use Rattle.std.specs.Str.{bytes_eq}
 use Rattle.serde_json.specs.Data.{Data}
-use Rattle.msg_order.specs.Order.{NameSystemsBelow, has_joined, rules_among}
-use Rattle.msg_order.specs.Graph.{Graph, IsAcyclic, IsLowestOnCycle}
-use Rattle.msg_order.specs.Plan.{RefusesFor}
-use Rattle.msg_order.specs.declared.plan_refusal.PlanRefusal.{PlanRefusal}
-use Rattle.msg_order.specs.declared.plan_refusal.PlanRefusal.TheVariants.{Cycle as PlanCycle}
+use Rattle.msg_order.specs.Order.{NameSystemsBelow, edges_of, has_joined, rules_among}
+use Rattle.msg_order.specs.Graph.{IsAcyclic}
 use Rattle.msg_order.specs.declared.rule.Rule.{Rule}
 use Rattle.msg_files.specs.Check.{Check, first_refusal, needs}
 use Rattle.msg_files.specs.Json.{Text, elements, is_list}
 use Rattle.msg_reading.specs.Names.{Declared, position_of, system_number}
 use Rattle.serde_json.specs.Find.{as_bool}
-use Rattle.msg_reading.specs.Reading.{edges_of}
+use Rattle.msg_reading.specs.Reading.{IsClashing}
 use Rattle.msg_reading.specs.Runnable.{IsRunnable, PostsAreToTypes}
-use Rattle.msg_reading.specs.ScenarioChecks.{checks_in_turn, clash_checks, frame_checks, list_checks, names_checks, resource_checks, root_object, rule_checks, scenario_checks, section_checks, system_checks, type_checks}
+use Rattle.msg_reading.specs.ScenarioChecks.{checks_in_turn, frame_checks, list_checks, names_checks, resource_checks, root_object, rule_checks, scenario_checks, system_checks, type_checks}
 use Rattle.msg_reading.specs.declared.scenario.Scenario.{Scenario}
-use Rattle.msg_reading.specs.declared.scenario.SystemSpec.{SystemSpec}
-use Rattle.msg_reading.proofs.Fitting.{NamesOf, SystemFits, frames_fit, no_part_clashes, none_clash, systems_fit}
+use Rattle.msg_reading.proofs.Fitting.{NamesOf, SystemFits, frames_fit, systems_fit}
 use Rattle.msg_reading.proofs.There.{below_there, both_pass, both_there, each_all, in_turn_length, map_there, passed_length, then_there, two_there}
-use Rattle.msg_files.proofs.Walks.{first_refusal-passed}
 use Rattle.msg_reading.specs.ScenarioDenotes.{all_names, both, each_in_turn, each_of, frame_of, frames_in, held_in, no_names, part_names, resource_of, resources_in, rule_of, rules_in, rules_of, scenario_of, system_of, systems_in, systems_of, text, type_names, type_of, types_in, with_all, with_resource, with_system, with_type}
 use Rattle.msg_files.specs.declared.refusal.Refusal.TheVariants.{Shape, TooMany}
 
@@ -126,7 +121,7 @@ pub record IsWhole (d : Data) (s : Scenario) : Type 0 where
   pub rules_in_range : NameSystemsBelow (length s.systems) s.rules
   pub posts : All (PostsAreToTypes s) s.frames
 
-pub whole_of : (d : Data) (s : Scenario) → first_refusal (section_checks d) ≡ None → scenario_of d ≡ Some s → IsWhole d s
+pub whole_of : (d : Data) (s : Scenario) → first_refusal (scenario_checks d) ≡ None → scenario_of d ≡ Some s → IsWhole d s
 whole_of d s passes denotes =
     let t = then_there _ (each_in_turn (λ names. type_of) with_type no_names (elements (types_in d))) s denotes in
     let r = then_there _ (each_in_turn (λ names. resource_of) with_resource (type_names d) (elements (resources_in d))) s t.2 in
@@ -192,21 +187,8 @@ rules_among_all n (rule ∷ rules) below =
     let rest = rules_among_all n rules (All-tail (λ r. (r.earlier < n) × (r.later < n)) rule rules below) in
     rw (first, second) (ap (λ l. (rule.earlier, rule.later) ∷ l) rest)
 
--- a refusal of a plan for a cycle
-pub cycle_of : (g : Graph) (r : PlanRefusal) (s : ℕ) → r ≡ PlanCycle s → RefusesFor g r → IsLowestOnCycle g s
-cycle_of g r s is h = subst (λ x. RefusesFor g x) is h
-
--- good sections leave it to the systems that were read
-pub sections_then : (d : Data) (s : Scenario) (systems : List SystemSpec) → first_refusal (section_checks d) ≡ None
-    → scenario_of d ≡ Some s → systems ≡ s.systems
-    → first_refusal (scenario_checks d) ≡ first_refusal (clash_checks 0 systems)
-sections_then d s systems passes denotes are =
-    first_refusal-passed (section_checks d) (clash_checks 0 (unwrap_or (systems_of d) [])) passes
-    ∙ ap (λ o. first_refusal (clash_checks 0 (unwrap_or o []))) (whole_of d s passes denotes).systems
-    ∙ ap (λ l. first_refusal (clash_checks 0 l)) (sym are)
-
 -- and it is one that may be run, where no program clashes and the rules make no cycle
-pub runnable_of : (d : Data) (s : Scenario) → IsWhole d s → first_refusal (clash_checks 0 s.systems) ≡ None
+pub runnable_of : (d : Data) (s : Scenario) → IsWhole d s → All (λ x. ¬ IsClashing x) s.systems
     → IsAcyclic (edges_of s.rules) → IsRunnable s
 runnable_of d s whole none acyclic = record {
   few_types = whole.few_types;
@@ -216,7 +198,7 @@ runnable_of d s whole none acyclic = record {
     few_ops = (whole.systems_fit k x lt).few_ops;
     fit_kind = (whole.systems_fit k x lt).fit_kind;
     fits = (whole.systems_fit k x lt).fits;
-    no_clash = no_part_clashes (get_or s.systems k x).program.ops (none_clash 0 s.systems none k x lt);
+    no_clash = none k x lt;
     joins = (whole.systems_fit k x lt).joins;
   };
   rules_in_range = whole.rules_in_range;

@@ -6,7 +6,7 @@ ghost use Rattle.serde_json.specs.View.{view};
 ghost use Rattle.msg_files.specs.Check.{first_refusal};
 ghost use Rattle.msg_files.specs.Json.{elements, value_at};
 ghost use Rattle.msg_reading.specs.Names.{Declared};
-ghost use Rattle.msg_reading.specs.ScenarioChecks.{is_root_key, list_checks, names_checks, resource_checks, root_object, rule_checks, section_checks};
+ghost use Rattle.msg_reading.specs.ScenarioChecks.{is_root_key, list_checks, names_checks, resource_checks, root_object, rule_checks, scenario_checks};
 ghost use Rattle.msg_reading.specs.ScenarioDenotes.{each_in_turn, each_of, frames_in, held_in, resource_of, resources_in, rule_of, rules_in, scenario_of, systems_in, types_in, with_all, with_resource};
 ghost use Rattle.msg_reading.specs.Sections.{schedule_checks, schedule_of, world_checks, world_names, world_of};
 ghost use Rattle.msg_files.specs.Walk.{Agrees};
@@ -47,7 +47,7 @@ struct ScheduleSections {
 
 /// The sections of a file one after another.
 pub fn read_sections(alloc: Global, value: &Value) -> Result<Scenario, Refusal>
-    ensures agrees { Agrees (section_checks (view value.now)) (scenario_of (view value.now)) result }
+    ensures agrees { Agrees (scenario_checks (view value.now)) (scenario_of (view value.now)) result }
 {
     let needed = needed(value)?;
     let mut names = Declarations::new(alloc);

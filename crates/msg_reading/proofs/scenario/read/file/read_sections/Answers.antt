@@ -2,7 +2,7 @@ use Rattle.std.proofs.Common.{◌∙◌, ap, Err}
 use Rattle.std.proofs.lemmas.Result.{err_from_is_err_and}
 use Rattle.serde_json.specs.View.{view}
 use Rattle.msg_files.proofs.Shapes.{Agrees_err}
-use Rattle.msg_reading.specs.ScenarioChecks.{section_checks}
+use Rattle.msg_reading.specs.ScenarioChecks.{scenario_checks}
 use Rattle.msg_reading.specs.ScenarioDenotes.{scenario_of}
 use Rattle.msg_reading.proofs.Files.{scenario_denoted, sections_pass, sections_refuse_schedule, sections_refuse_world}
 use Rattle.msg_reading.proofs.scenario.read.file.read_sections.Goals as goal
@@ -11,7 +11,7 @@ pub returns-in_err-world : goal.returns-in_err-world
 returns-in_err-world c =
     let passed = err_from_is_err_and c.from_residual-in_err-world.result c.from_residual-in_err-world.ensures.1 in
     record {
-      agrees = Agrees_err (section_checks (view c.args.value.now))
+      agrees = Agrees_err (scenario_checks (view c.args.value.now))
           (scenario_of (view c.args.value.now)) c.in_err-world.field-0.0
           c.from_residual-in_err-world.result (passed.1 ∙ ap (λ r. Err r) passed.2)
           (sections_refuse_world (view c.args.value.now) c.new-names.result (view c.in_ok-needed.needed.types.now)
@@ -23,7 +23,7 @@ pub returns-in_err-schedule : goal.returns-in_err-schedule
 returns-in_err-schedule c =
     let passed = err_from_is_err_and c.from_residual-in_err-schedule.result c.from_residual-in_err-schedule.ensures.1 in
     record {
-      agrees = Agrees_err (section_checks (view c.args.value.now))
+      agrees = Agrees_err (scenario_checks (view c.args.value.now))
           (scenario_of (view c.args.value.now)) c.in_err-schedule.field-0.0
           c.from_residual-in_err-schedule.result (passed.1 ∙ ap (λ r. Err r) passed.2)
           (sections_refuse_schedule (view c.args.value.now) c.new-names.result (view c.in_ok-needed.needed.types.now)
