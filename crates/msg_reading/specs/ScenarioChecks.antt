@@ -253,13 +253,32 @@ root_object d =
     ∷ needs (is_some (get (codes "frames") d)) Shape
     ∷ []
 
+-- the sections of a file
+abbrev pub types_checks : Data → List Check
+types_checks d = names_checks 64 type_checks with_type no_names (types_in d)
+
+abbrev pub resources_checks : Data → List Check
+resources_checks d = names_checks 64 resource_checks with_resource (type_names d) (resources_in d)
+
+abbrev pub held_checks : Data → List Check
+held_checks d = needs (is_some (as_bool (held_in d))) Shape ∷ []
+
+abbrev pub systems_checks : Data → List Check
+systems_checks d = names_checks 256 system_checks with_system (part_names d) (systems_in d)
+
+abbrev pub rules_checks : Data → List Check
+rules_checks d = list_checks 1024 (rule_checks (all_names d)) (rules_in d)
+
+abbrev pub frames_checks : Data → List Check
+frames_checks d = list_checks 10000 (frame_checks (all_names d)) (frames_in d)
+
 -- all checks of a file, but those of its programs and rules together
 abbrev pub scenario_checks : Data → List Check
 scenario_checks d =
     root_object d
-    ++ (names_checks 64 type_checks with_type no_names (types_in d)
-    ++ (names_checks 64 resource_checks with_resource (type_names d) (resources_in d)
-    ++ (needs (is_some (as_bool (held_in d))) Shape
-    ∷ (names_checks 256 system_checks with_system (part_names d) (systems_in d)
-    ++ (list_checks 1024 (rule_checks (all_names d)) (rules_in d)
-    ++ list_checks 10000 (frame_checks (all_names d)) (frames_in d))))))
+    ++ (types_checks d
+    ++ (resources_checks d
+    ++ (held_checks d
+    ++ (systems_checks d
+    ++ (rules_checks d
+    ++ frames_checks d)))))
