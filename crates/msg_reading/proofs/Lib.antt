@@ -1,6 +1,5 @@
 -- lists of a file, by their parts and by their elements
 pub mod Parts
-pub mod Steps
 pub mod Lists
 pub mod Named
 -- names, ops, conditions and systems

@@ -4,17 +4,17 @@ use Rattle.std.specs.List.{list_all}
 use Rattle.std.specs.Option.{option_map_or}
 use Rattle.std.specs.Str.{bytes_eq}
 use Rattle.serde_json.specs.Data.{Data}
-use Rattle.serde_json.specs.Find.{get, as_str, as_bool}
+use Rattle.serde_json.specs.Find.{as_str, as_bool}
 use Rattle.msg_system.specs.declared.op.Op.{Op}
 use Rattle.msg_system.specs.declared.op.Op.TheVariants.{Forward, Sum}
-use Rattle.msg_files.specs.Json.{Text, elements, keys, value_at, is_object, is_list, is_number, number_up_to}
+use Rattle.msg_files.specs.Json.{Text, elements, value_at, is_list, is_number, number_up_to}
 use Rattle.msg_files.specs.Check.{Check, needs}
-use Rattle.msg_files.specs.Checks.{a_value, a_limit, few_values}
+use Rattle.msg_files.specs.Checks.{a_value, a_limit, few_values, has_key, object_checks}
 use Rattle.msg_reading.specs.Names.{Declared, is_name, position_of, type_number, resource_number, system_number}
 use Rattle.msg_reading.specs.ScenarioDenotes.{text, inside_nots, nots_round, kind_of, kind_in, conditions_in, join_in, start_of, start_in, ops_of, with_type, with_resource, with_system, no_names, types_in, resources_in, held_in, systems_in, rules_in, frames_in, type_names, part_names, all_names}
 use Rattle.msg_reading.specs.declared.kind.Kind.{Kind}
 use Rattle.msg_reading.specs.declared.kind.Kind.TheVariants.{Script, Relay, Tally}
-use Rattle.msg_files.specs.declared.refusal.Refusal.TheVariants.{Shape, UnknownKey, BadName, TwiceNamed, BadNumber, TooMany, UnknownName}
+use Rattle.msg_files.specs.declared.refusal.Refusal.TheVariants.{Shape, BadName, TwiceNamed, BadNumber, TooMany, UnknownName}
 
 -- ---- parts of values
 
@@ -169,11 +169,7 @@ is_system_key key =
 -- an object with a name and ops, and with no other keys than those of systems
 abbrev pub system_object : Data → List Check
 system_object d =
-    needs (is_object d) Shape
-    ∷ needs (list_all is_system_key (keys d)) UnknownKey
-    ∷ needs (is_some (get (codes "name") d)) Shape
-    ∷ needs (is_some (get (codes "ops") d)) Shape
-    ∷ []
+    object_checks is_system_key d ++ (has_key (codes "name") d ∷ has_key (codes "ops") d ∷ [])
 
 -- a relay's program is one `forward`, a tally's one `sum`, a script's anything
 abbrev pub fits_kind : Kind → List Op → Bool
@@ -246,12 +242,8 @@ is_root_key key =
 -- an object with types, systems and frames, and with no other keys than those of scenarios
 abbrev pub root_object : Data → List Check
 root_object d =
-    needs (is_object d) Shape
-    ∷ needs (list_all is_root_key (keys d)) UnknownKey
-    ∷ needs (is_some (get (codes "types") d)) Shape
-    ∷ needs (is_some (get (codes "systems") d)) Shape
-    ∷ needs (is_some (get (codes "frames") d)) Shape
-    ∷ []
+    object_checks is_root_key d
+    ++ (has_key (codes "types") d ∷ has_key (codes "systems") d ∷ has_key (codes "frames") d ∷ [])
 
 -- the sections of a file
 abbrev pub types_checks : Data → List Check

@@ -1,6 +1,5 @@
 // The sections of a scenario file, one after another.
-ghost use Rattle.std.specs.Prelude.{◌≡◌, ◌≢◌, None, Some, IfOk, IfErr, OnOk, codes, string_bytes};
-ghost use Rattle.std.specs.List.{list_all};
+ghost use Rattle.std.specs.Prelude.{◌≡◌, ◌≢◌, None, Some, IfOk, IfErr, OnOk, codes};
 ghost use Rattle.serde_json.specs.Find.{as_bool};
 ghost use Rattle.serde_json.specs.View.{view};
 ghost use Rattle.msg_files.specs.Check.{first_refusal};
@@ -14,9 +13,10 @@ use crate::scenario::read::list::{read_list, read_list_if_there};
 use crate::scenario::read::named::read_names;
 use crate::scenario::read::names::Declarations;
 use crate::{Name, Refusal, Scenario, SystemSpec};
+use msg_files::json::{self, Keys, check_keys};
 use msg_frames::{Frame, Items};
 use msg_order::Rule;
-use serde_json::{Map, Value};
+use serde_json::Value;
 use std::alloc::Global;
 
 /// The sections that a file needs.
@@ -58,43 +58,28 @@ fn needed(file: &Value) -> Result<Sections<'_>, Refusal>
     ensures refused { IfErr result (λ e. (e ≢ Refusal.NotJson)
         × (first_refusal (root_object (view file.now)) ≡ Some e)) }
 {
-    let Some(members) = file.as_object() else {
-        return Err(Refusal::Shape);
-    };
-    if !are_known(members) {
-        return Err(Refusal::UnknownKey);
-    }
-    let Some(types) = file.get("types") else {
-        return Err(Refusal::Shape);
-    };
-    let Some(systems) = file.get("systems") else {
-        return Err(Refusal::Shape);
-    };
-    let Some(frames) = file.get("frames") else {
-        return Err(Refusal::Shape);
-    };
+    check_keys::<FileKeys>(file)?;
     Ok(Sections {
-        types,
-        systems,
-        frames,
+        types: json::needed(file, "types")?,
+        systems: json::needed(file, "systems")?,
+        frames: json::needed(file, "frames")?,
     })
 }
 
-fn are_known(members: &Map<String, Value>) -> bool
-    ensures { result ≡ list_all (λ m. is_root_key (string_bytes m.0)) members.now.entries }
-{
-    members.iter().all(|(key, _)| is_known(key.as_str()))
-}
+/// The keys of a scenario file.
+struct FileKeys;
 
-fn is_known(key: &str) -> bool
-    ensures { result ≡ is_root_key key.now }
-{
-    key == "types"
-        || key == "resources"
-        || key == "held"
-        || key == "systems"
-        || key == "rules"
-        || key == "frames"
+impl Keys for FileKeys {
+    ghost known = { is_root_key };
+
+    fn is_known(key: &str) -> bool {
+        key == "types"
+            || key == "resources"
+            || key == "held"
+            || key == "systems"
+            || key == "rules"
+            || key == "frames"
+    }
 }
 
 /// The types of the file, which stand there.
