@@ -12,7 +12,7 @@ use Rattle.msg_frames.specs.declared.log.Log.{Log}
 use Rattle.msg_frames.specs.declared.log.Turn.{Turn}
 use Rattle.msg_frames.specs.Entries.{answers}
 use Rattle.msg_frames.specs.Frames.{IsRun, before_turns, systems_in}
-use Rattle.msg_frames.specs.ReaderLaws.{ReadersTile, ReplaysTellTheSame, ReplaysTile}
+use Rattle.msg_frames.specs.ReaderLaws.{RunsAreComplete, ReplaysTellTheSame, ReplaysTellACompleteRun}
 use Rattle.msg_frames.specs.Replays.{IsMixedRun, IsReplay}
 use Rattle.msg_frames.specs.State.{State, joined}
 use Rattle.msg_frames.specs.Tiling.{answers_in}
@@ -115,7 +115,7 @@ settles lawful (frame ∷ frames) s (log ∷ logs) u x =
       }
     ]
 
-pub replays_tile : TurnOrderIsLawful → ReadersTile → ReplaysTile
-replays_tile lawful tile frames s logs u sound x =
+pub replays_tell : TurnOrderIsLawful → RunsAreComplete → ReplaysTellACompleteRun
+replays_tell lawful complete frames s logs u sound x =
     let run = settles lawful frames s logs u x in
-    record { settled = run.settled; is_run = run.is_run; alike = run.alike; tiled = tile frames s run.settled u sound run.is_run }
+    record { settled = run.settled; complete = complete frames s run.settled u sound run.is_run; alike = run.alike }
