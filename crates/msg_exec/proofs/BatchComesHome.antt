@@ -31,7 +31,8 @@ use Rattle.msg_frames.specs.State.{Member, State}
 use Rattle.msg_frames.specs.TurnLaws.{BatchesRunSideBySide, SameSystems, all_home, home}
 use Rattle.msg_exec.proofs.BatchGoesOut.{has_written, its_member, left_stands, sizes_follow, sizes_meet, taken_stands}
 use Rattle.msg_frames.proofs.SystemsStay.{turns_keep_systems}
-use Rattle.msg_frames.proofs.ElementsAndPairs.{Contains-either, Contains-first, Contains-later, Contains-none, pairs_head, pairs_right}
+use Rattle.msg_frames.proofs.ElementsAndPairs.{pairs_head, pairs_right}
+use Rattle.msg_order.proofs.Elements.{Contains-cases, Contains-head, Contains-tail, not_in_none}
 use Rattle.msg_exec.proofs.SystemAfterTurn.{few_replies, its_own, of_another, still_has, still_there, totals_after}
 use Rattle.msg_exec.proofs.ItemsOfLists.{get_other, get_same}
 use Rattle.msg_exec.proofs.BatchWritesApart.{later_write_not, written_is_used}
@@ -163,7 +164,7 @@ module _ {S : Type 0} (meaning : S → Meaning) where
           let m : Member = s.members i in
           let old = some_of (slice_get now.totals.items i) _ (half.totals i lt) in
           let entered : HaveEntered meaning d old.0.items v.items = comes.totals.2 old.0 (ap (slice_get now.totals.items) back.number ∙ old.1) in
-          let before : TotalsStand s.types old.0.items m.totals = subst (λ (x : Member). TotalsStand s.types old.0.items x.totals) (half.untouched i (Contains-first i rest)) old.2 in
+          let before : TotalsStand s.types old.0.items m.totals = subst (λ (x : Member). TotalsStand s.types old.0.items x.totals) (half.untouched i (Contains-head i rest)) old.2 in
           let there : slice_get new.totals.items i ≡ Some v = ap (λ xs. slice_get xs i) totals_set ∙ get_same now.totals.items i v (omega (arith, lt, half.as_many)) in
           subst (λ x. IsSomeAnd x (λ v. TotalsStand s.types v.items its_turn.totals)) (sym there)
           (totals_after s.types m s.world old.0.items v.items _ d.outcome (ap (λ (j : JobState). j.system.last) back.after.job) back.after.outcome before entered.as_many entered.entered)
@@ -186,7 +187,7 @@ module _ {S : Type 0} (meaning : S → Meaning) where
           | inl same ↦ subst (λ n. IsSomeAnd (system_at new n) (λ a. job_state meaning a ≡ ((home whole.accesses.items s i u).members n).job)) (sym same.1)
               (subst (λ (x : Member). IsSomeAnd (system_at new i) (λ a. job_state meaning a ≡ x.job)) (sym (its_own i its_turn u.members)) system_back)
           | inr other ↦
-              let out : ¬ Contains (i ∷ rest) k = λ there. elim (Contains-either i rest k there) [ inl same ↦ other.1 (sym same) | inr later ↦ away later ] in
+              let out : ¬ Contains (i ∷ rest) k = λ there. elim (Contains-cases i rest k there) [ inl same ↦ other.1 (sym same) | inr later ↦ away later ] in
               let there : system_at new k ≡ system_at now k = ap (λ xs. slice_index_or xs k None) systems_set ∙ get_or-set_other now.systems.items i k (Some d.guarded) None other.1 in
               subst (λ (x : Member). IsSomeAnd (system_at new k) (λ a. job_state meaning a ≡ x.job)) (sym (of_another i k its_turn u.members other.1))
               (subst (λ x. IsSomeAnd x (λ a. job_state meaning a ≡ (u.members k).job)) (sym there) (half.members k below out))
@@ -201,7 +202,7 @@ module _ {S : Type 0} (meaning : S → Meaning) where
         ];
         untouched = λ k there.
             let other : k ≢ i = λ same. fresh (subst (Contains rest) same there) in
-            of_another i k its_turn u.members other ∙ half.untouched k (Contains-later i rest k there);
+            of_another i k its_turn u.members other ∙ half.untouched k (Contains-tail i rest k there);
         world = merges (access_of whole.accesses.items i) d.taken now.world new.world (turn_of s i).world u.world
             (λ p isnt. none_there (slot p d.taken) (back.there p ∙ isnt)) out_of_world comes.taken_back back.after.written half.world;
         size = sizes_follow whole.world now.world new.world half.size comes.taken_back.size;
@@ -222,7 +223,7 @@ module _ {S : Type 0} (meaning : S → Meaning) where
             let its : access_of now.accesses.items k ≡ access_of whole.accesses.items k = ap (λ xs. access_of xs k) half.accesses in
             let needs : needs_of (u.members k) ≡ needs_of (s.members k) = λ n. with_conditions ((same.members k).needs n) ((same.members k).conditions n) in
             record {
-              guarded = half.members k lt (Contains-none k);
+              guarded = half.members k lt (not_in_none k);
               access = subst (λ a. IsAccessOf (needs_of (u.members k)) a) (sym its) (subst (λ n. IsAccessOf n (access_of whole.accesses.items k)) (sym needs) here.access);
               home = λ p used. still_there whole.world now.world p shape (here.home p (ap (λ a. uses a p) (sym its) ∙ used));
               totals = subst (λ n. IsSomeAnd (slice_get now.totals.items k) (λ v. TotalsStand n v.items (u.members k).totals)) (sym same.types) (half.totals k lt);
@@ -264,7 +265,7 @@ module _ {S : Type 0} (meaning : S → Meaning) where
     goes_on come [] all back half = absurd back
     goes_on come (i ∷ rest) all back half =
         may_come whole now s (all_home whole.accesses.items s come s) i rest d stands
-        (All-contains (λ i. i < s.systems) batch i below (subst (λ xs. Contains xs i) all (Contains-append_right come (i ∷ rest) i (Contains-first i rest)))) half back.0
+        (All-contains (λ i. i < s.systems) batch i below (subst (λ xs. Contains xs i) all (Contains-append_right come (i ∷ rest) i (Contains-head i rest)))) half back.0
 
     pub next_may_come : (left : List (Done S)) → left ≡ d ∷ ds → ComingHome whole batch s left now before turns → MayCome now d
     next_may_come left is far = goes_on far.come far.rest far.all (subst (AllZip (IsBack whole s) far.rest) is far.back) far.half
@@ -275,7 +276,7 @@ module _ {S : Type 0} (meaning : S → Meaning) where
           → turns ≡ before ++ map (logged s) come → ComingHome whole batch s ds new before (turns ++ turn ∷ [])
       one_more come [] all back half log = absurd back
       one_more come (i ∷ rest) all back half log =
-          let lt : i < s.systems = All-contains (λ i. i < s.systems) batch i below (subst (λ xs. Contains xs i) all (Contains-append_right come (i ∷ rest) i (Contains-first i rest))) in
+          let lt : i < s.systems = All-contains (λ i. i < s.systems) batch i below (subst (λ xs. Contains xs i) all (Contains-append_right come (i ∷ rest) i (Contains-head i rest))) in
           let Free : ℕ → ℕ → Type 0 = λ i j. ¬ Conflict (access_of whole.accesses.items i) (access_of whole.accesses.items j) in
           let others = pairs_head (λ i j. i ≢ j) i rest (pairs_right (λ i j. i ≢ j) come (i ∷ rest) (subst (AllPairs (λ i j. i ≢ j)) (sym all) once)) in
           let free = pairs_head Free i rest (pairs_right Free come (i ∷ rest) (subst (AllPairs Free) (sym all) none)) in

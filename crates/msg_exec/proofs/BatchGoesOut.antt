@@ -23,7 +23,7 @@ use Rattle.msg_exec.specs.Lender.{MemberStands, LenderStands, system_at}
 use Rattle.msg_exec.specs.inner.Lending.{AreOut, GoesOut, IsOut, any_writes}
 use Rattle.msg_frames.specs.State.{State}
 use Rattle.msg_exec.specs.Work.{EachMay}
-use Rattle.msg_frames.proofs.ElementsAndPairs.{Contains-first, Contains-later}
+use Rattle.msg_order.proofs.Elements.{Contains-head, Contains-tail}
 use Rattle.msg_exec.proofs.BatchWritesApart.{any_more, earlier_write_not, others_write_not, written_is_used}
 
 -- ---- lists side by side
@@ -40,10 +40,10 @@ beside R [] (b ∷ ys) k y all at = absurd all
 beside R (a ∷ xs) [] k y all at = absurd all
 beside R (a ∷ xs) (b ∷ ys) zero y all at =
     let same : b ≡ y = cc in
-    (a, Contains-first a xs, subst (R a) same all.0)
+    (a, Contains-head a xs, subst (R a) same all.0)
 beside R (a ∷ xs) (b ∷ ys) (suc k) y all at =
     let later = beside R xs ys k y all.1 at in
-    (later.0, Contains-later a xs later.0 later.1, later.2)
+    (later.0, Contains-tail a xs later.0 later.1, later.2)
 
 -- ---- sizes
 
@@ -111,7 +111,7 @@ module _ {S : Type 0} where
       world = left_there;
       as_many = ap length goes.systems ∙ length-set old.systems.items i None ∙ out.as_many;
       others = λ k away.
-          let other : k ≢ i = λ same. away (Contains-append_right is (i ∷ []) k (subst (Contains (i ∷ [])) (sym same) (Contains-first i []))) in
+          let other : k ≢ i = λ same. away (Contains-append_right is (i ∷ []) k (subst (Contains (i ∷ [])) (sym same) (Contains-head i []))) in
           ap (λ xs. slice_index_or xs k None) goes.systems ∙ get_or-set_other old.systems.items i k None None other
           ∙ out.others k (λ there. away (Contains-append_left is (i ∷ []) k there));
       accesses = goes.accesses ∙ out.accesses;

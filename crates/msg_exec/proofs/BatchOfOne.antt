@@ -19,7 +19,7 @@ use Rattle.msg_frames.specs.State.{State}
 use Rattle.msg_frames.specs.TurnLaws.{BatchesRunSideBySide}
 use Rattle.msg_exec.proofs.BatchComesHome.{ComingHome, MayCome, all_came, begin_home, next_comes, next_may_come}
 use Rattle.msg_exec.proofs.BatchGoesOut.{MayGo, all_may_run, may_go, none_out, one_more_out}
-use Rattle.msg_frames.proofs.ElementsAndPairs.{Contains-none}
+use Rattle.msg_order.proofs.Elements.{not_in_none}
 
 no_pairs : (R : ℕ → ℕ → Type 0) (i : ℕ) → AllPairs R (i ∷ [])
 no_pairs R i = λ a b d lt l. absurd (omega arith)
@@ -32,11 +32,11 @@ module _ {S : Type 0} (meaning : S → Meaning) (g : Lender S) (s : State) (i : 
   none = no_pairs (λ a b. ¬ Conflict (access_of g.accesses.items a) (access_of g.accesses.items b)) i
 
   pub alone_may_go : MayGo g i
-  alone_may_go = may_go meaning g g s [] [] i stands lt (none_out g) (Contains-none i) (λ k d l. absurd (omega arith))
+  alone_may_go = may_go meaning g g s [] [] i stands lt (none_out g) (not_in_none i) (λ k d l. absurd (omega arith))
 
   module _ (left : Lender S) (j : Job S) (goes : GoesOut g i j left) where
     out : AreOut g (i ∷ []) (j ∷ []) left
-    out = one_more_out g g left [] [] i j (none_out g) goes (Contains-none i) (λ k d l. absurd (omega arith))
+    out = one_more_out g g left [] [] i j (none_out g) goes (not_in_none i) (λ k d l. absurd (omega arith))
 
     pub alone_may_run : MayRun meaning left.world j
     alone_may_run = all_may_run meaning g left s (i ∷ []) (j ∷ []) stands below out none 0 j refl

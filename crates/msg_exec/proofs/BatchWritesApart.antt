@@ -10,7 +10,8 @@ use Rattle.msg_world.specs.Access.{Part, Conflict, reads, uses, writes}
 use Rattle.msg_order.specs.Order.{access_of}
 use Rattle.msg_order.specs.Plan.{NoneConflict}
 use Rattle.msg_exec.specs.inner.Lending.{any_writes}
-use Rattle.msg_frames.proofs.ElementsAndPairs.{Contains-either, pairs_head, pairs_tail}
+use Rattle.msg_frames.proofs.ElementsAndPairs.{pairs_head, pairs_tail}
+use Rattle.msg_order.proofs.Elements.{Contains-cases}
 
 -- ---- a list up to an element
 
@@ -64,7 +65,7 @@ module _ (accesses : List Access) where
   pub others_write_not : (is : List ℕ) (i : ℕ) (p : Part) → NoneConflict accesses is → Contains is i
       → IsTrue (uses (access_of accesses i) p) → writes (access_of accesses i) p ≡ false → any_writes accesses is p ≡ false
   others_write_not [] i p none there used isnt = refl
-  others_write_not (x ∷ xs) i p none there used isnt = elim (Contains-either x xs i there) [
+  others_write_not (x ∷ xs) i p none there used isnt = elim (Contains-cases x xs i there) [
     | inl same ↦
         let here : writes (access_of accesses x) p ≡ false = ap (λ k. writes (access_of accesses k) p) same ∙ isnt in
         rw here (later_write_not xs x p (pairs_head Free x xs none) (ap (λ k. uses (access_of accesses k) p) same ∙ used))

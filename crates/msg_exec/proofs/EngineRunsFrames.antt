@@ -14,10 +14,11 @@ use Rattle.msg_frames.specs.declared.log.Log.{Log}
 use Rattle.msg_exec.specs.Cores.{CoreStands, frame_count}
 use Rattle.msg_exec.specs.inner.FrameSteps.{HasLeft}
 use Rattle.msg_exec.specs.Engines.{HasReplayed, HasRunFrame, HasRunFrames, IsEngine, PostsFit, StandsFor, frames_of}
+use Rattle.msg_frames.specs.CompleteRun.{IsCompleteRun}
 use Rattle.msg_frames.specs.Frames.{AreAccessesOf, IsFrame, IsRun, systems_in}
 use Rattle.msg_frames.specs.Replays.{IsReplay}
 use Rattle.msg_frames.specs.TurnLaws.{HasOneRun, RunsAreUnique, RunsExist}
-use Rattle.msg_frames.specs.ReaderLaws.{ReadersTile}
+use Rattle.msg_frames.specs.ReaderLaws.{ReplaysTellACompleteRun, RunsAreComplete}
 use Rattle.msg_frames.specs.Soundness.{IsSoundState}
 use Rattle.msg_frames.proofs.SystemsStay.{frame_keeps}
 use Rattle.msg_frames.specs.State.{State}
@@ -36,19 +37,20 @@ module _ {S : Type 0} (meaning : S → Meaning) where
   }
 
   pub frame_run : (e f : EngineOf S) (c : Core S) (frame : Frame) (s : State) (log : Log) → frames_of e ≡ frame_count s → f.core ≡ Some c
-      → frames_of f ≡ min (frames_of e + 1) (2 ^ 32 - 1) → ReadersTile → IsSoundState s → HasLeft meaning (IsFrame frame s log) s c → HasRunFrame meaning frame s log f
-  frame_run e f c frame s log old core counted tile sound ran = record {
+      → frames_of f ≡ min (frames_of e + 1) (2 ^ 32 - 1) → RunsAreComplete → IsSoundState s → HasLeft meaning (IsFrame frame s log) s c → HasRunFrame meaning frame s log f
+  frame_run e f c frame s log old core counted all sound ran = record {
     state = ran.state;
     is_frame = ran.leaves;
     stands = stands_after e f c s ran.state old core counted ran.stands ran.frames;
-    tiled = tile (frame ∷ []) s (log ∷ []) ran.state sound (ran.state, ran.leaves, refl);
+    complete = all (frame ∷ []) s (log ∷ []) ran.state sound (ran.state, ran.leaves, refl);
   }
 
   pub replayed : (e f : EngineOf S) (c : Core S) (frame : Frame) (order : List ℕ) (s : State) (log : Log) → frames_of e ≡ frame_count s → f.core ≡ Some c
-      → frames_of f ≡ min (frames_of e + 1) (2 ^ 32 - 1) → HasLeft meaning (IsReplay frame order s log) s c → HasReplayed meaning frame order s log f
-  replayed e f c frame order s log old core counted ran = record {
+      → frames_of f ≡ min (frames_of e + 1) (2 ^ 32 - 1) → ReplaysTellACompleteRun → IsSoundState s → HasLeft meaning (IsReplay frame order s log) s c → HasReplayed meaning frame order s log f
+  replayed e f c frame order s log old core counted tell sound ran = record {
     state = ran.state;
     is_replay = ran.leaves;
+    tells = tell (frame ∷ []) s (log ∷ []) ran.state sound (ran.state, inr (order, ran.leaves), refl);
     stands = stands_after e f c s ran.state old core counted ran.stands ran.frames;
   }
 
@@ -100,18 +102,17 @@ module _ {S : Type 0} (meaning : S → Meaning) where
   sound_of (Some c) s stands = stands.sound
   sound_of None s stands = absurd stands
 
-  pub all_run : (frames : List Frame) (k : ℕ) (s : State) (before after : List Log) (e0 e : EngineOf S) → k ≡ length frames → ReadersTile → StandsFor meaning e0 s
+  pub all_run : (frames : List Frame) (k : ℕ) (s : State) (before after : List Log) (e0 e : EngineOf S) → k ≡ length frames → RunsAreComplete → StandsFor meaning e0 s
       → RunSoFar frames k s before after e → HasRunFrames meaning frames s before after e
-  all_run frames k s before after e0 e end tile stood far =
+  all_run frames k s before after e0 e end complete stood far =
       let whole : take k frames ≡ frames = ap (λ n. take n frames) end ∙ take-length frames in
       let run : IsRun frames s far.logs far.state = subst (λ fs. IsRun fs s far.logs far.state) whole far.is_run in
       record {
         logs = far.logs;
         state = far.state;
         appended = far.appended;
-        is_run = run;
+        complete = complete frames s far.logs far.state (sound_of e0.core s stood.core) run;
         stands = far.stands;
-        tiled = tile frames s far.logs far.state (sound_of e0.core s stood.core) run;
       }
 
   few_of : (o : Option (Core S)) (s : State) → IsSomeAnd o (λ c. CoreStands meaning c s) → s.systems ≤ 256
@@ -130,6 +131,9 @@ module _ {S : Type 0} (meaning : S → Meaning) where
 
   pub has_one_run : RunsExist → RunsAreUnique → (e : EngineOf S) (s : State) → StandsFor meaning e s → (frames : List Frame) → HasOneRun frames s
   has_one_run exist unique e s stands frames = one_run_of exist unique e.core s stands.core frames
+
+  pub complete_from : RunsAreComplete → (e : EngineOf S) (s : State) → StandsFor meaning e s → (frames : List Frame) (logs : List Log) (u : State) → IsRun frames s logs u → IsCompleteRun frames s logs u
+  complete_from complete e s stands frames logs u run = complete frames s logs u (sound_of e.core s stands.core) run
 
   fit_of : (o : Option (Core S)) (s : State) (ps : List (ℕ × ℤ)) → IsSomeAnd o (λ c. CoreStands meaning c s) → IfSome o (λ c. All (λ p. p.0 < length c.lender.world.types) ps) → All (λ p. p.0 < s.types) ps
   fit_of (Some c) s ps stands fit = subst (λ n. All (λ p. p.0 < n) ps) stands.lender.types fit

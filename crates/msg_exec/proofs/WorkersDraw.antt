@@ -19,7 +19,7 @@ use Rattle.msg_exec.specs.inner.Lending.{IsOut}
 use Rattle.msg_exec.specs.Work.{EachNewIs, PassedGate}
 use Rattle.msg_exec.specs.inner.Batches.{EachByItsWorker}
 use Rattle.msg_exec.proofs.ItemsOfLists.{item_at}
-use Rattle.msg_frames.proofs.ElementsAndPairs.{Contains-first, Contains-later, Contains-none}
+use Rattle.msg_order.proofs.Elements.{Contains-head, Contains-tail, not_in_none}
 
 -- ---- one job more is drawn
 
@@ -55,11 +55,11 @@ both_if_ok (Err e) P Q p q = tt
 found : (k : ℕ) (ns : List ℕ) → 0 < times k ns → Contains ns k
 found k [] some = absurd (omega (arith, some))
 found k (n ∷ ns) some = elim (cases_Bool (n == k)) [
-  | inl e ↦ subst (Contains (n ∷ ns)) (eqb-true n k e) (Contains-first n ns)
+  | inl e ↦ subst (Contains (n ∷ ns)) (eqb-true n k e) (Contains-head n ns)
   | inr e ↦
       let sum : times k (n ∷ ns) ≡ times k (n ∷ []) + times k ns = sum_by-append (λ m. cond (m == k) 1 0) (n ∷ []) ns in
       let other : times k (n ∷ []) ≡ 0 = ap (λ b. 0 + cond b 1 0) e in
-      Contains-later n ns k (found k ns (omega (arith, some, sum, other)))
+      Contains-tail n ns k (found k ns (omega (arith, some, sum, other)))
 ]
 
 module _ {J : Type 0} where
@@ -88,7 +88,7 @@ module _ {J : Type 0} where
       let d = drawer ps k (omega (arith, one)) in
       let lt = slice_get_within ps d.index d.pass d.there in
       elim (by d.index d.pass d.there k d.drew) [
-        | inl old ↦ absurd (Contains-none k old)
+        | inl old ↦ absurd (not_in_none k old)
         | inr new ↦ (d.index, omega (arith, lt, many), new job at)
       ]
 

@@ -6,10 +6,11 @@ use Rattle.msg_exec.specs.declared.engine.EngineOf.{EngineOf}
 use Rattle.msg_frames.specs.declared.frame.Frame.{Frame}
 use Rattle.msg_frames.specs.declared.log.Log.{Log}
 use Rattle.msg_exec.specs.Cores.{CoreStands, frame_count}
+use Rattle.msg_frames.specs.CompleteRun.{IsCompleteRun}
 use Rattle.msg_frames.specs.Frames.{IsFrame, IsRun}
+use Rattle.msg_frames.specs.ReaderLaws.{TellsACompleteRun}
 use Rattle.msg_frames.specs.Replays.{IsReplay}
 use Rattle.msg_frames.specs.State.{State}
-use Rattle.msg_frames.specs.Tiling.{AllTiled}
 
 module _ {S : Type 0} where
   -- a frame ended for want of memory: nothing of the engine is left
@@ -38,30 +39,30 @@ module _ {S : Type 0} (meaning : S → Meaning) where
   abbrev pub IsEngine : EngineOf S → Type 0
   IsEngine e = IsSpoiled e ⊎ ((s : State) × StandsFor e s)
 
-  -- From the state s the engine ran a frame: the log is the frame's on one thread, the engine stands for the state that it
-  -- leaves, and what each reader was given tiles.
+  -- From the state s the engine ran a frame: the log is the frame's on one thread, with all that a run comes to, and the
+  -- engine stands for the state that the frame leaves.
   pub record HasRunFrame (frame : Frame) (s : State) (log : Log) (e : EngineOf S) : Type 0 where
     pub state : State
     pub is_frame : IsFrame frame s log state
+    pub complete : IsCompleteRun (frame ∷ []) s (log ∷ []) state
     pub stands : StandsFor e state
-    pub tiled : AllTiled (frame ∷ []) (log ∷ []) s state
 
-  -- From the state s the engine replayed a frame in this order: the log is a replay's, and the engine stands for the
-  -- state that the frame leaves.
+  -- From the state s the engine replayed a frame in this order: the log is a replay's, it tells each system what the
+  -- frame tells it, with all that a run comes to, and the engine stands for the state that the frame leaves.
   pub record HasReplayed (frame : Frame) (order : List ℕ) (s : State) (log : Log) (e : EngineOf S) : Type 0 where
     pub state : State
     pub is_replay : IsReplay frame order s log state
+    pub tells : TellsACompleteRun (frame ∷ []) s (log ∷ []) state
     pub stands : StandsFor e state
 
-  -- From the state s the engine ran frames one after the other: their logs were appended, the engine stands for the state
-  -- that they leave, and what each reader was given tiles.
+  -- From the state s the engine ran frames one after the other: their logs were appended, which are those of one thread,
+  -- with all that a run comes to, and the engine stands for the state that the frames leave.
   pub record HasRunFrames (frames : List Frame) (s : State) (before after : List Log) (e : EngineOf S) : Type 0 where
     pub logs : List Log
     pub state : State
     pub appended : after ≡ before ++ logs
-    pub is_run : IsRun frames s logs state
+    pub complete : IsCompleteRun frames s logs state
     pub stands : StandsFor e state
-    pub tiled : AllTiled frames logs s state
 
   -- From the state s the engine ran some of the frames, the first ones, and then there was no memory: the logs of those
   -- were appended, and it counted those.

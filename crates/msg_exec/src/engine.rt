@@ -5,7 +5,9 @@ use crate::lender::Lender;
 use crate::replay::{accepts_next, replay_one};
 use crate::{BuildRefusal, Frame, Gate, Log, Place, RunFault, Workers};
 use msg_frames::laws::{runs_are_unique, runs_exist};
-use msg_frames::reader_laws::{first_states_are_sound, readers_tile};
+use msg_frames::reader_laws::{
+    first_states_are_sound, replays_tell_a_complete_run, runs_are_complete,
+};
 use msg_order::Rule;
 use msg_order::laws::fewer_systems_make_no_cycle;
 use msg_system::System;
@@ -39,12 +41,14 @@ impl<S: System> EngineOf<S> {
     ghost use Rattle.msg_exec.specs.Building.{EachIs, MayBeAdded, RefusesFor};
     ghost use Rattle.msg_frames.specs.FirstState.{HasClash, all_rules, first_state};
     ghost use Rattle.msg_exec.specs.Cores.{frame_count};
-    ghost use Rattle.msg_frames.specs.Frames.{systems_in};
+    ghost use Rattle.msg_frames.specs.CompleteRun.{IsCompleteRun};
+    ghost use Rattle.msg_frames.specs.Frames.{IsRun, systems_in};
     ghost use Rattle.msg_exec.specs.Engines.{HasReplayed, HasRunFrame, HasRunFrames, HasRunSome, IsEngine, IsSpoiled, PostsFit, StandsFor, frames_of, world_of};
     ghost use Rattle.msg_frames.specs.Replays.{IsLawfulFor};
     ghost use Rattle.msg_frames.specs.State.{State};
     ghost use Rattle.msg_frames.specs.TurnLaws.{HasOneRun};
     ghost use Rattle.msg_frames.specs.declared.frame.Frame.{Frame as FrameView};
+    ghost use Rattle.msg_frames.specs.declared.log.Log.{Log as LogView};
     ghost use Rattle.msg_exec.specs.Work.{PassedGate};
 
     /// An engine with no frame run. The systems go by number, in order of addition, and each has
@@ -132,8 +136,8 @@ impl<S: System> EngineOf<S> {
         requires engine { IsEngine S.meaning self.old }
         requires posts { PostsFit self.old frame.now }
 
-        // Whatever the workers and the gate: the log is that of one thread, and each reader's reads
-        // and clears tile.
+        // Whatever the workers and the gate: the log is that of one thread over lists of messages
+        // that only grow, and each reader is given every message once.
         ensures ran { IfOk result (λ log. (s : State) → StandsFor S.meaning self.old s
             → HasRunFrame S.meaning frame.now s log self.new) }
 
@@ -149,7 +153,7 @@ impl<S: System> EngineOf<S> {
         ensures no_bad_order { ¬ (result ≡ Err BadOrder) }
         ensures engine { IsEngine S.meaning self.new }
     {
-        readers_tile();
+        runs_are_complete();
         let Some(core) = self.core.take() else {
             return Err(RunFault::Spoiled);
         };
@@ -179,7 +183,7 @@ impl<S: System> EngineOf<S> {
         requires posts { All (PostsFit self.old) frames.now }
 
         // Whatever the workers and the gate: the logs are those of one thread over lists of
-        // messages that only grow, and each reader's reads and clears tile.
+        // messages that only grow, and each reader is given every message once.
         ensures ran { OnOk result ((s : State) → StandsFor S.meaning self.old s
             → HasRunFrames S.meaning frames.now s out.old.items out.new.items self.new) }
 
@@ -194,7 +198,7 @@ impl<S: System> EngineOf<S> {
         ensures no_bad_order { ¬ (result ≡ Err BadOrder) }
         ensures engine { IsEngine S.meaning self.new }
     {
-        readers_tile();
+        runs_are_complete();
         if self.core.is_none() {
             return Err(RunFault::Spoiled);
         }
@@ -224,7 +228,8 @@ impl<S: System> EngineOf<S> {
         requires posts { PostsFit self.old frame.now }
 
         // The order is lawful; the log has the frame's posts and each system's turn as it came out
-        // in the frame, and the engine stands for the state that the frame leaves.
+        // in the frame, which gave each reader every message once, and the engine stands for the
+        // state that the frame leaves.
         ensures replayed { IfOk result (λ log. (s : State) → StandsFor S.meaning self.old s
             → HasReplayed S.meaning frame.now order.now s log self.new) }
         ensures counted { OnOk result
@@ -238,6 +243,7 @@ impl<S: System> EngineOf<S> {
         ensures not_counted { result ≡ Err NoMemory → frames_of self.new ≡ frames_of self.old }
         ensures engine { IsEngine S.meaning self.new }
     {
+        replays_tell_a_complete_run();
         let Some(core) = self.core.take() else {
             return Err(RunFault::Spoiled);
         };
@@ -255,11 +261,16 @@ impl<S: System> EngineOf<S> {
         Ok(log)
     }
 
-    /// A law: from each state that it stands for, any frames have exactly one run.
+    /// A law: from each state that it stands for, any frames have exactly one run, and all that a
+    /// run comes to holds of it.
     pub fn has_one_run(&self)
         ensures run { (s : State) → StandsFor S.meaning self.now s → (frames : List FrameView)
             → HasOneRun frames s }
+        ensures complete { (s : State) → StandsFor S.meaning self.now s
+            → (frames : List FrameView) (logs : List LogView) (u : State) → IsRun frames s logs u
+            → IsCompleteRun frames s logs u }
     {
+        runs_are_complete();
         runs_exist();
         runs_are_unique();
     }

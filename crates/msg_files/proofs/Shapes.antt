@@ -1,17 +1,17 @@
 -- What the checks of a value come to, once its kind is known.
-use Rattle.std.proofs.Common.{◌≡◌, ℕ, ◌-◌, take, ◌≤◌, ◌<◌, List, [], ◌∷◌, ◌++◌, length, get_or, drop, refl, sym, ap, ◌∙◌, arith, Option, Some, None, true, false, map, string_bytes, String, unwrap_or, ◌≢◌, Result, Ok, Err, IfErr, subst}
+use Rattle.std.proofs.Common.{◌≡◌, ℕ, ◌-◌, take, ◌≤◌, ◌<◌, List, [], ◌∷◌, length, get_or, drop, refl, sym, ap, ◌∙◌, arith, Option, Some, true, false, map, string_bytes, String, unwrap_or, ◌≢◌, Result, Ok, Err, IfErr, subst}
 use Rattle.std.proofs.lemmas.Grind.{common_steps}
 use Rattle.std.proofs.lemmas.List.{length-map}
 use Rattle.std.proofs.lemmas.List.Folds.{list_all-map}
 use Rattle.std.specs.List.{list_all}
-use Rattle.std.specs.Prelude.{ℤ, option_map, codes, nat_le}
+use Rattle.std.specs.Prelude.{Bool, ℤ, option_map, codes, nat_le}
 use Rattle.std.specs.declared.alloc.Global.{Global}
-use Rattle.serde_json.specs.Data.{Data, null, boolean, number, string, array, object, Items, Members}
+use Rattle.serde_json.specs.Data.{Data, null, boolean, number, string, array, object, Items}
 use Rattle.serde_json.specs.Find.{as_array, as_object, as_str, get}
 use Rattle.serde_json.specs.View.{view, items_view, members_view}
 use Rattle.serde_json.specs.declared.value.Value.{Value}
 use Rattle.msg_files.specs.Check.{Check, first_refusal}
-use Rattle.msg_files.specs.Checks.{a_value, batch_checks, call_checks, calls_checks, checks_in, checks_of, checks_with, is_known, limit_checks, list_checks}
+use Rattle.msg_files.specs.Checks.{a_value, batch_checks, call_checks, calls_checks, checks_in, checks_with, list_checks, object_checks}
 use Rattle.msg_files.specs.Denotes.{call_in, call_of, calls_of, call_with, file_of, values_of}
 use Rattle.msg_files.specs.Json.{list_of, elements, keys, keys_of, all_some, is_number, natural, whole, value_at}
 use Rattle.msg_files.specs.declared.call.Call.{Call}
@@ -150,35 +150,17 @@ list_denotes d xs calls e are =
 
 -- ---- the file
 
--- an object with a key that isn't known
-pub root_unknown : (d : Data) (ms : List (String Global × Value)) → Some (members_view ms) ≡ as_object d
-    → list_all (λ m. is_known (string_bytes m.0)) ms ≡ false
-    → first_refusal (checks_of d) ≡ Some UnknownKey
-root_unknown d ms e unknown =
-    let of_keys : list_all is_known (keys d) ≡ false =
-    ap (λ o. list_all is_known (unwrap_or (option_map keys_of o) [])) (sym e) ∙ list_all-keys is_known ms ∙ unknown in
-    rw (of_keys, ← e) refl
+-- the keys of an object, as its members are seen
+pub known_keys : (p : List ℕ → Bool) (d : Data) (ms : List (String Global × Value)) → Some (members_view ms) ≡ as_object d
+    → list_all p (keys d) ≡ list_all (λ m. p (string_bytes m.0)) ms
+known_keys p d ms is =
+    ap (λ o. list_all p (unwrap_or (option_map keys_of o) [])) (sym is) ∙ list_all-keys p ms
 
--- an object whose keys are known passes the first two checks
-pub keys_known : (d : Data) (ms : List (String Global × Value)) → Some (members_view ms) ≡ as_object d
-    → list_all (λ m. is_known (string_bytes m.0)) ms ≡ true
-    → list_all is_known (keys d) ≡ true
-keys_known d ms e known =
-    ap (λ o. list_all is_known (unwrap_or (option_map keys_of o) [])) (sym e) ∙ list_all-keys is_known ms ∙ known
-
-pub root_no_limit : (d : Data) (ms : Members) → Some ms ≡ as_object d → list_all is_known (keys d) ≡ true
-    → None ≡ get (codes "limit") d → first_refusal (checks_of d) ≡ Some Shape
-root_no_limit d ms e known limit = rw (known, ← e, ← limit) refl
-
-pub root_no_calls : (d l : Data) (ms : Members) → Some ms ≡ as_object d → list_all is_known (keys d) ≡ true
-    → Some l ≡ get (codes "limit") d → None ≡ get (codes "calls") d → first_refusal (checks_of d) ≡ Some Shape
-root_no_calls d l ms e known limit calls = rw (known, ← e, ← limit, ← calls) refl
-
--- what is left once both keys are there
-pub root_passed : (d l c : Data) (ms : Members) → Some ms ≡ as_object d → list_all is_known (keys d) ≡ true
-    → Some l ≡ get (codes "limit") d → Some c ≡ get (codes "calls") d
-    → first_refusal (checks_of d) ≡ first_refusal (limit_checks l ++ list_checks c)
-root_passed d l c ms e known limit calls = rw (known, ← e, ← limit, ← calls) refl
+pub object_unknown : (p : List ℕ → Bool) (d : Data) (ms : List (String Global × Value)) → Some (members_view ms) ≡ as_object d
+    → list_all (λ m. p (string_bytes m.0)) ms ≡ false → first_refusal (object_checks p d) ≡ Some UnknownKey
+object_unknown p d ms is unknown =
+    let none : list_all p (keys d) ≡ false = known_keys p d ms is ∙ unknown in
+    rw (none, ← is) refl
 
 pub value_at_is : (d v : Data) (key : List ℕ) → Some v ≡ get key d → value_at key d ≡ v
 value_at_is d v key e = ap (λ o. unwrap_or o null) (sym e)

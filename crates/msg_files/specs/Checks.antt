@@ -11,6 +11,16 @@ use Rattle.msg_files.specs.Cursors.{made_by}
 use Rattle.msg_files.specs.Denotes.{call_of}
 use Rattle.msg_files.specs.declared.refusal.Refusal.TheVariants.{Shape, UnknownKey, BadNumber, TooMany}
 
+-- ---- objects
+
+-- an object that has none but these keys
+abbrev pub object_checks : (Text → Bool) → Data → List Check
+object_checks known d = needs (is_object d) Shape ∷ needs (list_all known (keys d)) UnknownKey ∷ []
+
+-- the object has this key
+abbrev pub has_key : Text → Data → Check
+has_key key d = needs (is_some (get key d)) Shape
+
 -- ---- parts of a call
 
 -- a JSON number
@@ -123,16 +133,7 @@ is_known key = bytes_eq key (codes "limit") || bytes_eq key (codes "calls")
 
 -- an object with the keys `limit` and `calls`, and no others
 abbrev pub root_checks : Data → List Check
-root_checks d =
-    needs (is_object d) Shape
-    ∷ needs (list_all is_known (keys d)) UnknownKey
-    ∷ needs (is_some (get (codes "limit") d)) Shape
-    ∷ needs (is_some (get (codes "calls") d)) Shape
-    ∷ []
-
--- a number from 0 to 1,000,000
-abbrev pub limit_checks : Data → List Check
-limit_checks d = a_number d ∷ needs (is_some (number_up_to 1000000 d)) BadNumber ∷ []
+root_checks d = object_checks is_known d ++ (has_key (codes "limit") d ∷ has_key (codes "calls") d ∷ [])
 
 -- a list of at most 10,000 calls, before which cursor 0 is there
 abbrev pub list_checks : Data → List Check
@@ -145,4 +146,4 @@ list_checks d =
 abbrev pub checks_of : Data → List Check
 checks_of d =
     root_checks d
-    ++ (limit_checks (value_at (codes "limit") d) ++ list_checks (value_at (codes "calls") d))
+    ++ ((a_number (value_at (codes "limit") d) ∷ a_limit (value_at (codes "limit") d) ∷ []) ++ list_checks (value_at (codes "calls") d))

@@ -5,6 +5,7 @@
 
 mod call;
 mod calls;
+pub mod json;
 mod limits;
 mod memory_sink;
 pub mod numbers;

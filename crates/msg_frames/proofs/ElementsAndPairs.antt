@@ -4,6 +4,7 @@ use Rattle.std.specs.Prelude.{All, AllPairs, Contains}
 use Rattle.std.proofs.lemmas.List.{get_or_append_left}
 use Rattle.std.proofs.lemmas.List.Elements.{All-cons, All-head, All-tail}
 use Rattle.std.proofs.lemmas.List.Kept.{AllPairs-cons}
+use Rattle.msg_order.proofs.Elements.{Contains-cases, not_in_none}
 
 module _ {X : Type 0} where
   pub pairs_head : (R : X → X → Type 0) (x : X) (xs : List X) → AllPairs R (x ∷ xs) → All (R x) xs
@@ -43,24 +44,6 @@ module _ {X : Type 0} where
       let e = all_middle (R x) xs y ys (pairs_head R x (xs ++ y ∷ ys) h) in
       (All-cons (λ z. R z y) x xs e.0 r.0, AllPairs-cons R x (xs ++ ys) e.1 r.1)
 
-  -- ---- what stands in a list
-
-  pub Contains-first : (x : X) (xs : List X) → Contains (x ∷ xs) x
-  Contains-first x xs = (0, omega arith, refl)
-
-  pub Contains-later : (x : X) (xs : List X) (y : X) → Contains xs y → Contains (x ∷ xs) y
-  Contains-later x xs y h = (suc h.0, omega (arith, h.1), h.2)
-
-  at_place : (x : X) (xs : List X) (y : X) (k : ℕ) → k < length (x ∷ xs) → get_or (x ∷ xs) k y ≡ y → (x ≡ y) ⊎ Contains xs y
-  at_place x xs y zero h e = inl e
-  at_place x xs y (suc k) h e = inr (k, omega arith, e)
-
-  pub Contains-either : (x : X) (xs : List X) (y : X) → Contains (x ∷ xs) y → (x ≡ y) ⊎ Contains xs y
-  Contains-either x xs y h = at_place x xs y h.0 h.1 h.2
-
-  pub Contains-none : (y : X) → Contains {X = X} [] y → ⊥
-  Contains-none y h = absurd (omega (arith, h.1))
-
   -- a list cut where an element stands
   pub record Cut (xs : List X) (x : X) : Type 0 where
     pub before : List X
@@ -68,8 +51,8 @@ module _ {X : Type 0} where
     pub is : xs ≡ before ++ x ∷ rest
 
   pub cut : (xs : List X) (x : X) → Contains xs x → Cut xs x
-  cut [] x h = absurd (Contains-none x h)
-  cut (y ∷ ys) x h = elim (Contains-either y ys x h) [
+  cut [] x h = absurd (not_in_none x h)
+  cut (y ∷ ys) x h = elim (Contains-cases y ys x h) [
     | inl e ↦ record { before = []; rest = ys; is = ap (λ z. z ∷ ys) e }
     | inr later ↦
         let c : Cut ys x = cut ys x later in

@@ -21,7 +21,8 @@ use Rattle.msg_frames.specs.TurnLaws.{FramesAgreeInLawfulOrders, LawfulOrdersAgr
 use Rattle.msg_frames.proofs.RunsAreUnique.{one_order, order_is_among}
 use Rattle.msg_frames.proofs.TurnsCommute.{turns_commute}
 use Rattle.msg_frames.proofs.SystemsStay.{accesses_stay, joined_below, one_turn_keeps}
-use Rattle.msg_frames.proofs.ElementsAndPairs.{Contains-either, Contains-first, Contains-later, Contains-none, Cut, cut, pairs_head, pairs_middle, pairs_right, pairs_tail}
+use Rattle.msg_frames.proofs.ElementsAndPairs.{Cut, cut, pairs_head, pairs_middle, pairs_right, pairs_tail}
+use Rattle.msg_order.proofs.Elements.{Contains-cases, Contains-head, Contains-tail, not_in_none}
 
 -- ---- the same run
 
@@ -77,18 +78,18 @@ Forward P order = AllPairs (λ i j. ¬ P j i) order
 
 none_contained : (xs : List ℕ) → ((i : ℕ) → Contains xs i → ⊥) → xs ≡ []
 none_contained [] h = refl
-none_contained (x ∷ xs) h = absurd (h x (Contains-first x xs))
+none_contained (x ∷ xs) h = absurd (h x (Contains-head x xs))
 
 middle_or : (xs : List ℕ) (y : ℕ) (ys : List ℕ) (i : ℕ) → Contains (xs ++ y ∷ ys) i → (y ≡ i) ⊎ Contains (xs ++ ys) i
 middle_or xs y ys i h = elim (Contains-append_cases xs (y ∷ ys) i h) [
   | inl l ↦ inr (Contains-append_left xs ys i l)
-  | inr r ↦ elim (Contains-either y ys i r) [ inl e ↦ inl e | inr l ↦ inr (Contains-append_right xs ys i l) ]
+  | inr r ↦ elim (Contains-cases y ys i r) [ inl e ↦ inl e | inr l ↦ inr (Contains-append_right xs ys i l) ]
 ]
 
 with_middle : (xs : List ℕ) (y : ℕ) (ys : List ℕ) (i : ℕ) → Contains (xs ++ ys) i → Contains (xs ++ y ∷ ys) i
 with_middle xs y ys i h = elim (Contains-append_cases xs ys i h) [
   | inl l ↦ Contains-append_left xs (y ∷ ys) i l
-  | inr r ↦ Contains-append_right xs (y ∷ ys) i (Contains-later y ys i r)
+  | inr r ↦ Contains-append_right xs (y ∷ ys) i (Contains-tail y ys i r)
 ]
 
 -- what stands once isn't among the others
@@ -105,17 +106,17 @@ module _ (foot : JobFootprint) (accesses : List Access) (P : ℕ → ℕ → Typ
       → ((i : ℕ) → Contains settled i → i < length accesses)
       → AllPairs (λ i j. i ≢ j) settled → AllPairs (λ i j. i ≢ j) order → Forward P settled → Forward P order
       → SameRun accesses order settled
-  reordered [] order joins to from below once once' a b = rw (none_contained order (λ i h. Contains-none i (to i h))) (same_run accesses [])
+  reordered [] order joins to from below once once' a b = rw (none_contained order (λ i h. not_in_none i (to i h))) (same_run accesses [])
   reordered (x ∷ rest) order joins to from below once once' a b =
-      let c : Cut order x = cut order x (from x (Contains-first x rest)) in
+      let c : Cut order x = cut order x (from x (Contains-head x rest)) in
       let single : AllPairs (λ i j. i ≢ j) (c.before ++ x ∷ c.rest) = subst (AllPairs (λ i j. i ≢ j)) c.is once' in
       let parts = pairs_middle (λ i j. i ≢ j) c.before x c.rest single in
       let ahead = pairs_middle (λ i j. ¬ P j i) c.before x c.rest (subst (Forward P) c.is b) in
-      let to' : (i : ℕ) → Contains (c.before ++ c.rest) i → Contains rest i = λ i h. elim (Contains-either x rest i (to i (subst (λ xs. Contains xs i) (sym c.is) (with_middle c.before x c.rest i h)))) [
+      let to' : (i : ℕ) → Contains (c.before ++ c.rest) i → Contains rest i = λ i h. elim (Contains-cases x rest i (to i (subst (λ xs. Contains xs i) (sym c.is) (with_middle c.before x c.rest i h)))) [
         | inl e ↦ absurd (apart_from c.before x c.rest single (subst (Contains (c.before ++ c.rest)) (sym e) h))
         | inr later ↦ later
       ] in
-      let from' : (i : ℕ) → Contains rest i → Contains (c.before ++ c.rest) i = λ i h. elim (middle_or c.before x c.rest i (subst (λ xs. Contains xs i) c.is (from i (Contains-later x rest i h)))) [
+      let from' : (i : ℕ) → Contains rest i → Contains (c.before ++ c.rest) i = λ i h. elim (middle_or c.before x c.rest i (subst (λ xs. Contains xs i) c.is (from i (Contains-tail x rest i h)))) [
         | inl e ↦ absurd (All-contains (λ y. x ≢ y) rest i (pairs_head (λ i j. i ≢ j) x rest once) h e)
         | inr other ↦ other
       ] in
@@ -124,15 +125,15 @@ module _ (foot : JobFootprint) (accesses : List Access) (P : ℕ → ℕ → Typ
       let y : ℕ = get_or c.before k d in
       let inside : Contains rest y = in_rest k d lt in (
         parts.0 k d lt,
-        λ conflict. elim (joins y x (Contains-later x rest y inside) (Contains-first x rest) (parts.0 k d lt) conflict) [
+        λ conflict. elim (joins y x (Contains-tail x rest y inside) (Contains-head x rest) (parts.0 k d lt) conflict) [
           | inl p ↦ All-contains (λ z. ¬ P z x) rest y (pairs_head (λ i j. ¬ P j i) x rest a) inside p
           | inr p ↦ ahead.0 k d lt p
         ],
       ) in
       rw (c.is) (run_along accesses (c.before ++ x ∷ c.rest) (x ∷ c.before ++ c.rest) (x ∷ rest)
-      (run_to_front accesses foot x c.before c.rest (below x (Contains-first x rest)) (λ k d lt. below (get_or c.before k d) (Contains-later x rest _ (in_rest k d lt))) free)
+      (run_to_front accesses foot x c.before c.rest (below x (Contains-head x rest)) (λ k d lt. below (get_or c.before k d) (Contains-tail x rest _ (in_rest k d lt))) free)
       (run_later accesses x (c.before ++ c.rest) rest
-      (reordered rest (c.before ++ c.rest) (λ i j p q. joins i j (Contains-later x rest i p) (Contains-later x rest j q)) to' from' (λ i h. below i (Contains-later x rest i h))
+      (reordered rest (c.before ++ c.rest) (λ i j p q. joins i j (Contains-tail x rest i p) (Contains-tail x rest j q)) to' from' (λ i h. below i (Contains-tail x rest i h))
       (pairs_tail (λ i j. i ≢ j) x rest once) parts.1 (pairs_tail (λ i j. ¬ P j i) x rest a) ahead.1)))
 
 -- ---- lawful orders

@@ -10,16 +10,17 @@ use Rattle.msg_system.specs.Systems.{Rule}
 use Rattle.msg_frames.specs.declared.frame.Frame.{Frame}
 use Rattle.msg_frames.specs.declared.log.Log.{Log}
 use Rattle.msg_frames.specs.declared.totals.Totals.{Totals}
-use Rattle.msg_frames.specs.Entries.{entries_told, totals_from, with_entries}
+use Rattle.msg_frames.specs.Entries.{Entry, entries_told, totals_from, with_entries}
 use Rattle.msg_frames.specs.Frames.{IsRun, before_turns, begun, counts, frame_in, systems_in}
 use Rattle.msg_frames.specs.Readings.{IsGivenOnce, IsInOrderOf}
 use Rattle.msg_frames.proofs.OneFateEach.{lies_between, meets_one_fate, missed_are_dropped}
 use Rattle.msg_frames.proofs.TilesGiveInOrder.{all_as_written, counted_cleared, counted_given, counted_missed, given_in_order, in_order_of}
-use Rattle.msg_frames.specs.ReaderLaws.{AccountsAddUp, EachWriterInOrder, EveryMessageIsGivenOnce, ReadersTile, found_totals}
+use Rattle.msg_frames.specs.CompleteRun.{IsServed, found_totals}
+use Rattle.msg_frames.specs.ReaderLaws.{RunsAreComplete}
 use Rattle.msg_frames.specs.Soundness.{IsSoundState}
 use Rattle.msg_frames.specs.State.{Member, State, has_begun}
-use Rattle.msg_frames.specs.Tiling.{Moment, answers_in, found_at, moments, place_of, turns_moments}
-use Rattle.msg_frames.proofs.HistoriesGrow.{BufferLaws, goes_further, stays}
+use Rattle.msg_frames.specs.Tiling.{Moment, answers_in, found_at, log_entries, moments, place_of, turns_moments}
+use Rattle.msg_frames.proofs.HistoriesGrow.{BufferLaws, goes_further, runs_go_on, stays}
 use Rattle.msg_frames.proofs.SystemsStay.{before_keeps, turns_keep}
 use Rattle.msg_frames.proofs.ReaderOverJob.{Passes, passes_nothing}
 use Rattle.msg_frames.proofs.EntriesAddUp.{tiles_add_up, with_entries-none}
@@ -188,33 +189,38 @@ module _ (laws : BufferLaws) (i t : ℕ) where
             (run_follows frames m logs u msound mrun mbelow has))
       ]
 
--- ---- the laws
+-- ---- what a run does for a reader
 
 module _ (laws : BufferLaws) where
-  pub readers_tile : ReadersTile
-  readers_tile frames s logs u sound is i t below has =
-      let follows : Follows i t s (moments i t frames logs s) u = run_follows laws i t frames s logs u sound is below has in
-      record {
-        entries = (run_tells i t frames s logs u is).entries;
-        tile = follows.passes.tile;
-        gives = follows.passes.gives;
-      }
+  module _ (i t : ℕ) (frames : List Frame) (s : State) (logs : List Log) (u : State) (sound : IsSoundState s) (is : IsRun frames s logs u) (below : t < s.types)
+      (has : IsTrue (has_begun u i))
+    where
+      abbrev ms : List Moment
+      ms = moments i t frames logs s
 
-  pub accounts_add_up : AccountsAddUp
-  accounts_add_up frames s logs u i t sound is below has =
-      (run_follows laws i t frames s logs u sound is below has).totals
-      ∙ ap (λ es. with_entries es (found_totals s u i t)) (sym (run_tells i t frames s logs u is).entries)
+      abbrev es : List Entry
+      es = log_entries i t (s.members i).job.system logs
 
-  -- ---- message by message
+      abbrev from : ℕ
+      from = found_at s u i t
 
-  pub every_message_is_given_once : EveryMessageIsGivenOnce
-  every_message_is_given_once frames s logs u i t sound is below has =
-      let ms : List Moment = moments i t frames logs s in
-      let from : ℕ = found_at s u i t in
-      let to : ℕ = place_of u i t in
-      let last : History Record = u.world.histories t in
-      let passes : Passes from (s.world.histories t) ms to last = (run_follows laws i t frames s logs u sound is below has).passes in
-      let once : IsGivenOnce (map (λ m. m.entry) ms) ms from to last = record {
+      abbrev to : ℕ
+      to = place_of u i t
+
+      abbrev last : History Record
+      last = u.world.histories t
+
+      follows : Follows i t s ms u
+      follows = run_follows laws i t frames s logs u sound is below has
+
+      passes : Passes from (s.world.histories t) ms to last
+      passes = follows.passes
+
+      tells : es ≡ map (λ m. m.entry) ms
+      tells = (run_tells i t frames s logs u is).entries
+
+      told_once : IsGivenOnce (map (λ m. m.entry) ms) ms from to last
+      told_once = record {
         entries = refl;
         each = meets_one_fate from ms to passes.tile;
         no_other = λ n k fate met. lies_between from ms to passes.tile n k fate met;
@@ -227,12 +233,20 @@ module _ (laws : BufferLaws) where
         counts_given = counted_given (map (λ m. m.entry) ms);
         counts_missed = counted_missed (map (λ m. m.entry) ms);
         counts_cleared = counted_cleared (map (λ m. m.entry) ms);
-      } in
-      subst (λ es. IsGivenOnce es ms from to last) (sym (run_tells i t frames s logs u is).entries) once
+      }
 
-  pub each_writer_in_order : EachWriterInOrder
-  each_writer_in_order frames s logs u i t writer sound is below has =
-      let ms : List Moment = moments i t frames logs s in
-      let passes = (run_follows laws i t frames s logs u sound is below has).passes in
-      subst (λ es. IsInOrderOf writer es (u.world.histories t)) (sym (run_tells i t frames s logs u is).entries)
-      (in_order_of writer (found_at s u i t) ms (place_of u i t) (u.world.histories t) passes.tile passes.gives passes.earlier passes.written)
+      is_served : IsServed i t frames s logs u
+      is_served = record {
+        given = subst (λ xs. IsGivenOnce xs ms from to last) (sym tells) told_once;
+        by_writer = λ writer. subst (λ xs. IsInOrderOf writer xs last) (sym tells)
+            (in_order_of writer from ms to last passes.tile passes.gives passes.earlier passes.written);
+        tiled = record { entries = tells; tile = passes.tile; gives = passes.gives };
+        totals = follows.totals ∙ ap (λ xs. with_entries xs (found_totals s u i t)) (sym tells);
+      }
+
+  pub runs_are_complete : RunsAreComplete
+  runs_are_complete frames s logs u sound is = record {
+    is_run = is;
+    grew = λ t below. runs_go_on laws.grow frames s u logs is t (sound.histories t below);
+    served = λ i t below has. is_served i t frames s logs u sound is below has;
+  }

@@ -12,11 +12,12 @@ use Rattle.msg_frames.specs.declared.log.Log.{Log}
 use Rattle.msg_frames.specs.declared.log.Turn.{Turn}
 use Rattle.msg_frames.specs.Entries.{answers}
 use Rattle.msg_frames.specs.Frames.{IsRun, before_turns, systems_in}
-use Rattle.msg_frames.specs.ReaderLaws.{ReadersTile, ReplaysTellTheSame, ReplaysTile}
+use Rattle.msg_frames.specs.ReaderLaws.{RunsAreComplete, ReplaysTellTheSame, ReplaysTellACompleteRun}
 use Rattle.msg_frames.specs.Replays.{IsMixedRun, IsReplay}
 use Rattle.msg_frames.specs.State.{State, joined}
 use Rattle.msg_frames.specs.Tiling.{answers_in}
-use Rattle.msg_frames.proofs.ElementsAndPairs.{Contains-either, Contains-first, Contains-later, Contains-none, pairs_head, pairs_tail}
+use Rattle.msg_frames.proofs.ElementsAndPairs.{pairs_head, pairs_tail}
+use Rattle.msg_order.proofs.Elements.{Contains-cases, Contains-head, Contains-tail, not_in_none}
 use Rattle.msg_frames.proofs.RunsAreUnique.{order_is_among}
 
 -- ---- what is told under one key, in a list in which each key stands once
@@ -32,21 +33,21 @@ module _ {X Y : Type 0} (key : X → ℕ) (f : X → List Y) (i : ℕ) where
   not_own x ne = elim (cases_Bool (key x == i)) [ inl t ↦ absurd (ne (eqb-true (key x) i t)) | inr n ↦ rw n refl ]
 
   key_among : (xs : List X) (x : X) → Contains xs x → Contains (map key xs) (key x)
-  key_among [] x c = absurd (Contains-none x c)
-  key_among (y ∷ ys) x c = elim (Contains-either y ys x c) [
-    | inl e ↦ subst (λ z. Contains (map key (y ∷ ys)) (key z)) e (Contains-first (key y) (map key ys))
-    | inr d ↦ Contains-later (key y) (map key ys) (key x) (key_among ys x d)
+  key_among [] x c = absurd (not_in_none x c)
+  key_among (y ∷ ys) x c = elim (Contains-cases y ys x c) [
+    | inl e ↦ subst (λ z. Contains (map key (y ∷ ys)) (key z)) e (Contains-head (key y) (map key ys))
+    | inr d ↦ Contains-tail (key y) (map key ys) (key x) (key_among ys x d)
   ]
 
   none_told : (xs : List X) → ((x : X) → Contains xs x → key x ≢ i) → flat_map own xs ≡ []
   none_told [] h = refl
-  none_told (x ∷ xs) h = ap (λ ys. ys ++ flat_map own xs) (not_own x (h x (Contains-first x xs))) ∙ none_told xs (λ y c. h y (Contains-later x xs y c))
+  none_told (x ∷ xs) h = ap (λ ys. ys ++ flat_map own xs) (not_own x (h x (Contains-head x xs))) ∙ none_told xs (λ y c. h y (Contains-tail x xs y c))
 
   one_told : (xs : List X) → AllPairs (λ a b. a ≢ b) (map key xs) → (x : X) → Contains xs x → key x ≡ i → flat_map own xs ≡ f x
-  one_told [] once x c e = absurd (Contains-none x c)
+  one_told [] once x c e = absurd (not_in_none x c)
   one_told (y ∷ ys) once x c e =
       let apart : All (λ k. key y ≢ k) (map key ys) = pairs_head (λ a b. a ≢ b) (key y) (map key ys) once in
-      elim (Contains-either y ys x c) [
+      elim (Contains-cases y ys x c) [
         | inl same ↦
             let is : key y ≡ i = ap key same ∙ e in
             let rest : flat_map own ys ≡ [] = none_told ys (λ z d at. All-contains (λ k. key y ≢ k) (map key ys) (key z) apart (key_among ys z d) (is ∙ sym at)) in
@@ -57,12 +58,12 @@ module _ {X Y : Type 0} (key : X → ℕ) (f : X → List Y) (i : ℕ) where
       ]
 
   look : (xs : List X) → ((x : X) × (Contains xs x × (key x ≡ i))) ⊎ ((x : X) → Contains xs x → key x ≢ i)
-  look [] = inr (λ x c. absurd (Contains-none x c))
+  look [] = inr (λ x c. absurd (not_in_none x c))
   look (x ∷ xs) = elim (cases_Bool (key x == i)) [
-    | inl t ↦ inl (x, (Contains-first x xs, eqb-true (key x) i t))
+    | inl t ↦ inl (x, (Contains-head x xs, eqb-true (key x) i t))
     | inr n ↦ elim (look xs) [
-      | inl some ↦ inl (some.0, (Contains-later x xs some.0 some.1.0, some.1.1))
-      | inr none ↦ inr (λ y c at. elim (Contains-either x xs y c) [ inl e ↦ eqb-false (key x) i n (ap key e ∙ at) | inr d ↦ none y d at ])
+      | inl some ↦ inl (some.0, (Contains-tail x xs some.0 some.1.0, some.1.1))
+      | inr none ↦ inr (λ y c at. elim (Contains-cases x xs y c) [ inl e ↦ eqb-false (key x) i n (ap key e ∙ at) | inr d ↦ none y d at ])
     ]
   ]
 
@@ -114,7 +115,7 @@ settles lawful (frame ∷ frames) s (log ∷ logs) u x =
       }
     ]
 
-pub replays_tile : TurnOrderIsLawful → ReadersTile → ReplaysTile
-replays_tile lawful tile frames s logs u sound x =
+pub replays_tell : TurnOrderIsLawful → RunsAreComplete → ReplaysTellACompleteRun
+replays_tell lawful complete frames s logs u sound x =
     let run = settles lawful frames s logs u x in
-    record { settled = run.settled; is_run = run.is_run; alike = run.alike; tiled = tile frames s run.settled u sound run.is_run }
+    record { settled = run.settled; complete = complete frames s run.settled u sound run.is_run; alike = run.alike }

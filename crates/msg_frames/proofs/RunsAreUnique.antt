@@ -13,7 +13,7 @@ use Rattle.msg_order.specs.Order.{AreInConflict, IsAmong, IsSettledOrder, IsTurn
 use Rattle.msg_frames.specs.Frames.{AreAccessesOf, IsOrderOf, IsRun, IsTurnOrderOf, before_turns, frame_in, systems_in}
 use Rattle.msg_frames.specs.State.{State, has_begun, joined}
 use Rattle.msg_frames.specs.TurnLaws.{FramesAreUnique, NoCycle, RunsAreUnique, SystemsHaveOneOrder}
-use Rattle.msg_frames.proofs.ElementsAndPairs.{Contains-either}
+use Rattle.msg_order.proofs.Elements.{Contains-cases}
 use Rattle.msg_frames.proofs.SystemsStay.{joined_below}
 
 -- ---- conflicts
@@ -72,7 +72,7 @@ rules_are_among who rules i j e = and_parts (has_joined who i) (has_joined who j
 settles_among : (accesses : List Access) (who : List Bool) (ps : List (ℕ × ℕ)) (g h : Graph) → IsAmong who g → Settles (AreInConflict accesses who) g ps h → IsAmong who h
 settles_among accesses who [] g h among e = subst (IsAmong who) e among
 settles_among accesses who (p ∷ ps) g h among x = elim x [
-  | inl gains ↦ settles_among accesses who ps (p ∷ g) h (λ i j e. elim (Contains-either p g (i, j) e) [
+  | inl gains ↦ settles_among accesses who ps (p ∷ g) h (λ i j e. elim (Contains-cases p g (i, j) e) [
     | inl is ↦ subst (λ (q : ℕ × ℕ). IsTrue (has_joined who q.0) × IsTrue (has_joined who q.1)) is (gains.0.0.first_joined, gains.0.0.second_joined)
     | inr old ↦ among i j old
   ]) gains.1

@@ -6,6 +6,7 @@ pub mod Replays
 pub mod TurnLaws
 pub mod Tiling
 pub mod Readings
+pub mod CompleteRun
 pub mod Soundness
 pub mod ReaderLaws
 pub mod Accounts

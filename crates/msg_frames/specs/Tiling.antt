@@ -93,7 +93,3 @@ pub record IsTiled (i t : ℕ) (frames : List Frame) (logs : List Log) (s u : St
   pub entries : log_entries i t (s.members i).job.system logs ≡ map (λ m. m.entry) (moments i t frames logs s)
   pub tile : Tile (found_at s u i t) (map (λ m. (m.history, m.entry.stretch)) (moments i t frames logs s)) (place_of u i t)
   pub gives : All GivesItsStretch (moments i t frames logs s)
-
--- it holds of every reader of a type of the world that has joined by the end of the run
-abbrev pub AllTiled : List Frame → List Log → State → State → Type 0
-AllTiled frames logs s u = (i t : ℕ) → t < s.types → IsTrue (has_begun u i) → IsTiled i t frames logs s u

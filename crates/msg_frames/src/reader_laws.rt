@@ -1,7 +1,7 @@
 //! Laws of readers: facts that hold of every run of frames.
-ghost use Rattle.msg_frames.specs.ReaderLaws.{AccountsAddUp, AccountsBalance, EachWriterInOrder, EveryMessageIsGivenOnce, FirstIsSound, FrameStaysSound, NoneBeforeJoining, ReadersTile, ReplaysTellTheSame, ReplaysTile, RunStaysSound};
+ghost use Rattle.msg_frames.specs.ReaderLaws.{AccountsBalance, FirstIsSound, FrameStaysSound, NoneBeforeJoining, ReplaysTellACompleteRun, ReplaysTellTheSame, RunStaysSound, RunsAreComplete};
 
-use msg_buffer::laws::{histories_only_grow, readers_tile as buffer_readers_tile};
+use msg_buffer::laws::{histories_only_grow, readers_tile};
 use msg_order::laws::turn_order_is_lawful;
 use msg_world::Record;
 
@@ -11,7 +11,7 @@ pub fn states_stay_sound()
     ensures run { RunStaysSound }
 {
     histories_only_grow::<Record>();
-    buffer_readers_tile::<Record>();
+    readers_tile::<Record>();
 }
 
 /// A state before any frame is sound, where its systems are new ones over a sound world.
@@ -19,50 +19,29 @@ pub fn first_states_are_sound()
     ensures law { FirstIsSound }
 {}
 
-/// What each reader was given over a run tiles its history: from its place, or from its start where
-/// it joined in the run, to the place where it stands at the end.
-pub fn readers_tile()
-    ensures law { ReadersTile }
+/// Every run is complete. Its logs are those of one thread over lists that only grow. Each message
+/// from where the run found a reader to where it stands at the end is given to it exactly once, in
+/// order of writing, those of each writer in its order, except those that it cleared itself and
+/// those dropped unread, which the missed counts of its reads and clears add up to exactly.
+pub fn runs_are_complete()
+    ensures law { RunsAreComplete }
 {
     histories_only_grow::<Record>();
-    buffer_readers_tile::<Record>();
+    readers_tile::<Record>();
 }
 
 /// What the log of a replay tells of a reader is what the frame tells. So frames of which some are
-/// replayed tell of each reader what the run of the same frames tells, and that tiles.
-pub fn replays_tile()
+/// replayed tell each reader what the run of the same frames tells, which is complete.
+pub fn replays_tell_a_complete_run()
     ensures replay { ReplaysTellTheSame }
-    ensures law { ReplaysTile }
+    ensures law { ReplaysTellACompleteRun }
 {
-    readers_tile();
+    runs_are_complete();
     turn_order_is_lawful();
 }
 
-/// A reader's totals are those that a run found it with and what the logs tell of it since, and
-/// they lead to its place. One that hasn't joined has none.
+/// A reader's totals lead from its start to its place. One that hasn't joined has none.
 pub fn accounts_add_up()
-    ensures law { AccountsAddUp }
     ensures balance { AccountsBalance }
     ensures before_joining { NoneBeforeJoining }
-{
-    histories_only_grow::<Record>();
-    buffer_readers_tile::<Record>();
-}
-
-/// Each message from where a run found a reader to where it stands at the end is given to it
-/// exactly once, in order of writing, except those that it cleared itself and those dropped unread,
-/// which the missed counts of its reads and clears add up to exactly.
-pub fn every_message_is_given_once()
-    ensures law { EveryMessageIsGivenOnce }
-{
-    histories_only_grow::<Record>();
-    buffer_readers_tile::<Record>();
-}
-
-/// A reader is given the messages of one writer in the order in which that writer wrote them.
-pub fn each_writer_in_order()
-    ensures law { EachWriterInOrder }
-{
-    histories_only_grow::<Record>();
-    buffer_readers_tile::<Record>();
-}
+{}

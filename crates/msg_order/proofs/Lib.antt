@@ -1,5 +1,5 @@
 -- Lists, sets of systems, and paths
-mod Elements
+pub mod Elements
 mod SystemSets
 mod Chains
 mod PathTest

@@ -1,12 +1,12 @@
 -- What the systems of a scenario file use is there, and so are the types that its frames post to.
-use Rattle.std.proofs.Common.{◌≡◌, ℕ, ◌+◌, ◌≤◌, ◌<◌, List, [], ◌∷◌, ◌++◌, length, refl, sym, ap, ◌∙◌, subst, Option, Some, None, Bool, true, false, arith, inl, inr}
-use Rattle.std.proofs.lemmas.List.Elements.{All-cons, All-head, All-nil, All-tail}
+use Rattle.std.proofs.Common.{◌≡◌, ℕ, ◌≤◌, ◌<◌, List, [], ◌∷◌, ◌++◌, length, refl, sym, ap, ◌∙◌, subst, Option, Some, None, Bool, true, false, arith, inl, inr}
+use Rattle.std.proofs.lemmas.List.Elements.{All-head, All-tail}
 use Rattle.std.proofs.lemmas.List.Quantifiers.{position-Some}
-use Rattle.std.specs.Prelude.{All, IsTrue, ◌&&◌, not, codes, flat_map, if◌then◌else◌, is_some, nat_le, nat_lt, option_and_then, option_map, ℤ}
+use Rattle.std.specs.Prelude.{All, IsTrue, ◌&&◌, ◌||◌, ◌⊎◌, codes, flat_map, if◌then◌else◌, is_some, nat_le, nat_lt, option_and_then, option_map, ℤ}
 use Rattle.std.specs.Option.{option_map_or}
 use Rattle.std.specs.Str.{bytes_eq}
 use Rattle.serde_json.specs.Data.{Data}
-use Rattle.msg_world.specs.Access.{Part, OfType, OfResource, Registry}
+use Rattle.msg_world.specs.Access.{HasPart, Part, OfType, OfResource, Registry}
 use Rattle.msg_system.specs.Needs.{is_part, job_needs, needs_any, op_parts, probe_part, program_needs, some_condition_reads, some_op_reads, some_op_writes}
 use Rattle.msg_system.specs.declared.condition.Condition.{Condition}
 use Rattle.msg_system.specs.declared.condition.Probe.{Probe}
@@ -20,16 +20,26 @@ use Rattle.msg_files.specs.Denotes.{values_of}
 use Rattle.msg_files.specs.Json.{Text, elements, is_number, natural, number_up_to, only_below, value_at, whole}
 use Rattle.msg_reading.specs.Names.{Declared, resource_number, type_number}
 use Rattle.msg_reading.specs.Names as names_of
-use Rattle.msg_reading.specs.Runnable.{FitKind, HasPart, PostsAreToTypes}
-use Rattle.msg_reading.specs.ScenarioChecks.{checks_in_turn, clash_checks, fits_kind, join_checks, reads_and_writes_a_type, list_checks, name_checks, of_its_kind, op_checks, ops_checks, condition_checks, place_checks, program_checks, system_checks, system_object}
+use Rattle.msg_reading.specs.Runnable.{FitKind, PostsAreToTypes}
+use Rattle.msg_reading.specs.ScenarioChecks.{checks_in_turn, fits_kind, join_checks, list_checks, name_checks, of_its_kind, op_checks, ops_checks, condition_checks, place_checks, program_checks, system_checks, system_object}
 use Rattle.msg_reading.specs.ScenarioDenotes.{both, condition_of, conditions_in, each_in_turn, each_of, frame_of, inside_nots, join_in, kind_in, kind_of, nots_round, of_headed, op_of, op_with, op_with_one, op_with_two, ops_of, place_of, post_of, probe_with, start_in, start_of, system_of, text, with_system}
 use Rattle.msg_reading.specs.declared.kind.Kind.{Kind}
 use Rattle.msg_reading.specs.declared.kind.Kind.TheVariants.{Script, Relay, Tally}
-use Rattle.msg_files.specs.declared.refusal.Refusal.TheVariants.{BadNumber, Clash, Shape}
+use Rattle.msg_files.specs.declared.refusal.Refusal.TheVariants.{BadNumber, Shape}
 use Rattle.msg_reading.specs.declared.scenario.Scenario.{Scenario}
 use Rattle.msg_reading.specs.declared.scenario.SystemSpec.{SystemSpec}
-use Rattle.msg_reading.proofs.Clashes.{both_true, either, needs_clash}
 use Rattle.msg_reading.proofs.There.{below_there, both_pass, both_there, choice, each_all, each_length, first_passes, headed_there, in_turn_all, map_there, passed_length, some_same, then_there, two_there}
+
+-- ---- tests
+
+either : (a b : Bool) → a || b ≡ true → (a ≡ true) ⊎ (b ≡ true)
+either true b h = inl refl
+either false b h = inr h
+
+both_true : (a b : Bool) → a && b ≡ true → (a ≡ true) × (b ≡ true)
+both_true true true h = (refl, refl)
+both_true true false h = cc
+both_true false b h = cc
 
 -- ---- parts that are there
 
@@ -41,14 +51,14 @@ pub record NamesOf (s : Scenario) (names : Declared) : Type 0 where
 module _ (s : Scenario) where
   abbrev HasPartIf : Option Part → Type 0
   HasPartIf None = Unit {0}
-  HasPartIf (Some p) = HasPart s p
+  HasPartIf (Some p) = HasPart (length s.types) (length s.resources) p
 
   -- what an op reads and writes is there
   record OpFits (op : Op) : Type 0 where
     pub read : HasPartIf (op_parts op).read
     pub written : HasPartIf (op_parts op).written
 
-  part_there : (o : Option Part) (p : Part) → HasPartIf o → is_part o p ≡ true → HasPart s p
+  part_there : (o : Option Part) (p : Part) → HasPartIf o → is_part o p ≡ true → HasPart (length s.types) (length s.resources) p
   part_there None p has is = cc
   part_there (Some (OfType t)) (OfType u) has is = let same : u ≡ t = grind (arith, is) in subst (λ n. n < length s.types) (sym same) has
   part_there (Some (OfType t)) (OfResource u) has is = cc
@@ -61,7 +71,7 @@ module _ (s : Scenario) where
   part_there (Some Registry) (OfResource u) has is = cc
   part_there (Some Registry) Registry has is = tt
 
-  reads_there : (ops : List Op) (p : Part) → All OpFits ops → some_op_reads ops p ≡ true → HasPart s p
+  reads_there : (ops : List Op) (p : Part) → All OpFits ops → some_op_reads ops p ≡ true → HasPart (length s.types) (length s.resources) p
   reads_there [] p fit h = cc
   reads_there (op ∷ ops) p fit h =
       elim (either (is_part (op_parts op).read p) (some_op_reads ops p) h) [
@@ -69,7 +79,7 @@ module _ (s : Scenario) where
         | inr later ↦ reads_there ops p (All-tail OpFits op ops fit) later
       ]
 
-  writes_there : (ops : List Op) (p : Part) → All OpFits ops → some_op_writes ops p ≡ true → HasPart s p
+  writes_there : (ops : List Op) (p : Part) → All OpFits ops → some_op_writes ops p ≡ true → HasPart (length s.types) (length s.resources) p
   writes_there [] p fit h = cc
   writes_there (op ∷ ops) p fit h =
       elim (either (is_part (op_parts op).written p) (some_op_writes ops p) h) [
@@ -79,9 +89,9 @@ module _ (s : Scenario) where
 
   -- what a condition asks about is there
   abbrev ConditionFits : Condition → Type 0
-  ConditionFits c = HasPart s (probe_part c.probe)
+  ConditionFits c = HasPart (length s.types) (length s.resources) (probe_part c.probe)
 
-  asked_there : (cs : List Condition) (p : Part) → All ConditionFits cs → some_condition_reads cs p ≡ true → HasPart s p
+  asked_there : (cs : List Condition) (p : Part) → All ConditionFits cs → some_condition_reads cs p ≡ true → HasPart (length s.types) (length s.resources) p
   asked_there [] p fit h = cc
   asked_there (c ∷ cs) p fit h =
       elim (either (is_part (Some (probe_part c.probe)) p) (some_condition_reads cs p) h) [
@@ -91,7 +101,7 @@ module _ (s : Scenario) where
 
   -- so a job needs nothing else
   job_fits : (ops : List Op) (cs : List Condition) → All OpFits ops → All ConditionFits cs
-      → (p : Part) → IsTrue (needs_any (job_needs ops cs) p) → HasPart s p
+      → (p : Part) → IsTrue (needs_any (job_needs ops cs) p) → HasPart (length s.types) (length s.resources) p
   job_fits ops cs ops_fit cs_fit p h =
       elim (either ((job_needs ops cs).reads p) (some_op_writes ops p) h) [
         | inl reads ↦ elim (either ((program_needs ops).reads p) (some_condition_reads cs p) (both_true _ _ reads).0) [
@@ -208,16 +218,16 @@ module _ (s : Scenario) (names : Declared) (of : NamesOf s names) where
   op_fits d op h =
       let there = headed_there (op_with names) (elements d) op h in op_with_fits (text there.0) there.1 op there.2
 
-  probe_fits : (head : Text) (ds : List Data) (probe : Probe) → probe_with names head ds ≡ Some probe → HasPart s (probe_part probe)
+  probe_fits : (head : Text) (ds : List Data) (probe : Probe) → probe_with names head ds ≡ Some probe → HasPart (length s.types) (length s.resources) (probe_part probe)
   probe_fits head [] probe h = cc
   probe_fits head (d ∷ []) probe h = elim (choice (bytes_eq head (codes "on_message")) _ _ probe h) [
     | inl e ↦ let there = map_there (λ t. OnMessage t) (type_number names (text d)) probe e in
-        subst (λ p. HasPart s (probe_part p)) there.2 (has_type (text d) there.0 there.1)
+        subst (λ p. HasPart (length s.types) (length s.resources) (probe_part p)) there.2 (has_type (text d) there.0 there.1)
     | inr e ↦ cc
   ]
   probe_fits head (d ∷ e ∷ []) probe h = elim (choice (bytes_eq head (codes "resource_equals")) _ _ probe h) [
     | inl h ↦ let there = both_there (λ r v. ResourceEquals r v) (resource_number names (text d)) (whole e) probe h in
-        subst (λ p. HasPart s (probe_part p)) there.4 (has_resource (text d) there.0 there.2)
+        subst (λ p. HasPart (length s.types) (length s.resources) (probe_part p)) there.4 (has_resource (text d) there.0 there.2)
     | inr h ↦ cc
   ]
   probe_fits head (d ∷ e ∷ f ∷ rest) probe h = cc
@@ -270,7 +280,7 @@ joins_fit d n passed is =
 pub record SystemFits (s : Scenario) (x : SystemSpec) : Type 0 where
   pub few_ops : length x.program.ops ≤ 64
   pub fit_kind : FitKind x.kind x.program.ops
-  pub fits : (p : Part) → IsTrue (needs_any (job_needs x.program.ops x.place.conditions) p) → HasPart s p
+  pub fits : (p : Part) → IsTrue (needs_any (job_needs x.program.ops x.place.conditions) p) → HasPart (length s.types) (length s.resources) p
   pub joins : (1 ≤ x.place.join) × (x.place.join ≤ 10000)
 
 -- the checks of a system, one group after another
@@ -312,7 +322,7 @@ system_fits s names d x of passed denotes =
     subst (SystemFits s) rest.4 (record {
       few_ops = omega (arith, few, many);
       fit_kind = kind_fits kind.0 ops.0 as_kind;
-      fits = subst (λ (y : Place). (p : Part) → IsTrue (needs_any (job_needs ops.0 y.conditions) p) → HasPart s p) place.4
+      fits = subst (λ (y : Place). (p : Part) → IsTrue (needs_any (job_needs ops.0 y.conditions) p) → HasPart (length s.types) (length s.resources) p) place.4
           (job_fits s ops.0 place.0
           (each_all (op_of names) (OpFits s) (op_fits s names of) (elements (value_at (codes "ops") d)) ops.0 ops.1)
           (each_all (condition_of names) (ConditionFits s) (condition_fits s names of) (elements (conditions_in d)) place.0 place.2));
@@ -325,25 +335,3 @@ pub systems_fit : (s : Scenario) (names : Declared) (ds : List Data) (systems : 
 systems_fit s names ds systems of passed denotes =
     in_turn_all system_of with_system system_checks (SystemFits s) (NamesOf s)
     (λ names d of. record { types = of.types; resources = of.resources }) (system_fits s) names ds systems of passed denotes
-
--- ---- clashes
-
--- no program reads and writes one type
-pub none_clash : (n : ℕ) (systems : List SystemSpec) → first_refusal (clash_checks n systems) ≡ None
-    → All (λ x. reads_and_writes_a_type x.program.ops ≡ false) systems
-none_clash n [] h = All-nil (λ x. reads_and_writes_a_type x.program.ops ≡ false)
-none_clash n (x ∷ systems) h =
-    let here = first_passes (not (reads_and_writes_a_type x.program.ops)) (Clash n) (clash_checks (n + 1) systems) h in
-    All-cons (λ y. reads_and_writes_a_type y.program.ops ≡ false) x systems (not_true (reads_and_writes_a_type x.program.ops) here.0)
-    (none_clash (n + 1) systems here.1)
-  where
-    not_true : (b : Bool) → not b ≡ true → b ≡ false
-    not_true true h = cc
-    not_true false h = refl
-
--- so none needs a part both for reading and for writing
-pub no_part_clashes : (ops : List Op) → reads_and_writes_a_type ops ≡ false
-    → (p : Part) → ¬ IsTrue ((program_needs ops).reads p && (program_needs ops).writes p)
-no_part_clashes ops none p h =
-    let parts = both_true ((program_needs ops).reads p) ((program_needs ops).writes p) h in
-    let clash = needs_clash ops p parts.0 parts.1 in cc

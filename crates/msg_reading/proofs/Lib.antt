@@ -10,7 +10,6 @@ pub mod Systems
 -- the whole file
 pub mod Files
 -- what is known of a scenario that was read: it can be run
-pub mod Clashes
 pub mod There
 pub mod Fitting
 pub mod Sound

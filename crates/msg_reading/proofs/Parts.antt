@@ -1,21 +1,19 @@
 -- Lists of a scenario file by their parts.
-use Rattle.std.proofs.Common.{◌≡◌, ℕ, ◌≤◌, ◌<◌, List, [], ◌∷◌, ◌++◌, length, get_or, take, drop, refl, sym, ap, ◌∙◌, arith, Option, Some, None, map, ◌-◌, Result, Ok, Err, ◌≢◌, String, string_bytes}
-use Rattle.std.specs.List.{list_all}
-use Rattle.std.specs.declared.alloc.Global.{Global}
-use Rattle.std.specs.Prelude.{Bool, unwrap_or, option_map, is_some, ◌&&◌}
+use Rattle.std.proofs.Common.{◌≡◌, ℕ, ◌≤◌, ◌<◌, List, [], ◌∷◌, length, get_or, take, drop, refl, sym, ap, ◌∙◌, arith, Option, Some, None, map, ◌-◌, Result, Ok, Err, ◌≢◌}
+use Rattle.std.specs.Prelude.{is_some, ◌&&◌}
 use Rattle.serde_json.specs.Data.{Data}
-use Rattle.serde_json.specs.Find.{as_array, as_object, as_str}
-use Rattle.serde_json.specs.View.{view, items_view, members_view}
+use Rattle.serde_json.specs.Find.{as_array, as_str}
+use Rattle.serde_json.specs.View.{view, items_view}
 use Rattle.serde_json.specs.declared.value.Value.{Value}
 use Rattle.msg_files.specs.Check.{Check, first_refusal, needs}
-use Rattle.msg_files.specs.Json.{Text, elements, keys, keys_of}
+use Rattle.msg_files.specs.Json.{Text, elements}
 use Rattle.msg_reading.specs.ScenarioChecks.{for_headed, for_two, is_text, wrong_shape}
 use Rattle.msg_reading.specs.ScenarioDenotes.{both, of_headed, text}
 use Rattle.msg_files.specs.Walk.{Agrees}
 use Rattle.msg_files.specs.declared.refusal.Refusal.{Refusal}
-use Rattle.msg_files.specs.declared.refusal.Refusal.TheVariants.{NoMemory, NotJson, Shape, UnknownName}
+use Rattle.msg_files.specs.declared.refusal.Refusal.TheVariants.{Shape, UnknownName}
 use Rattle.msg_files.proofs.Shapes.{elements_are, range_to_end}
-use Rattle.msg_files.proofs.Walks.{first_refusal-passed, first_refusal-stands, list_all-keys}
+use Rattle.msg_files.proofs.Steps.{Refuses}
 
 -- ---- lists of one, of two and of more items
 
@@ -73,32 +71,12 @@ last_unknown d e x y f g n is is' first second = rw (is, is', first, second) ref
 
 -- ---- checks one after another, where one of them fails
 
--- a refusal, of which nothing is known where it is for memory
-abbrev pub Refuses : List Check → Refusal → Type 0
-Refuses cs e = (e ≢ NotJson) × (e ≢ NoMemory → first_refusal cs ≡ Some e)
-
-pub stops : (cs ds : List Check) (e : Refusal) → Refuses cs e → Refuses (cs ++ ds) e
-stops cs ds e h = (h.0, λ m. first_refusal-stands cs ds e (h.1 m))
-
-pub goes_on : (cs ds : List Check) (e : Refusal) → first_refusal cs ≡ None → Refuses ds e → Refuses (cs ++ ds) e
-goes_on cs ds e passed h = (h.0, λ m. first_refusal-passed cs ds passed ∙ h.1 m)
-
-pub refuses_by : (cs ds : List Check) (e : Refusal) → first_refusal cs ≡ first_refusal ds → Refuses ds e → Refuses cs e
-refuses_by cs ds e same h = (h.0, λ m. same ∙ h.1 m)
-
 -- a wrong shape is no want of memory
 pub is_shape : (cs : List Check) → first_refusal cs ≡ Some Shape → Refuses cs Shape
 is_shape cs is = (λ same. cc, λ _. is)
 
 pub refuses_as : (cs : List Check) (e f : Refusal) → e ≡ f → Refuses cs f → Refuses cs e
 refuses_as cs e f is h = rw is h
-
--- ---- the keys of an object
-
-pub known_keys : (p : Text → Bool) (d : Data) (ms : List (String Global × Value)) → Some (members_view ms) ≡ as_object d
-    → list_all p (keys d) ≡ list_all (λ m. p (string_bytes m.0)) ms
-known_keys p d ms is =
-    ap (λ o. list_all p (unwrap_or (option_map keys_of o) [])) (sym is) ∙ list_all-keys p ms
 
 -- ---- both of two
 

@@ -1,30 +1,26 @@
 -- What is known of a scenario that was read.
-use Rattle.std.proofs.Common.{◌≡◌, ℕ, get_or, ◌+◌, ◌≤◌, ◌<◌, List, [], ◌∷◌, ◌++◌, length, refl, sym, ap, ◌∙◌, Some, None, true, arith, subst}
+use Rattle.std.proofs.Common.{◌≡◌, ℕ, ◌+◌, ◌≤◌, ◌<◌, List, [], ◌∷◌, length, refl, sym, ap, ◌∙◌, Some, None, true, arith, subst}
 use Rattle.std.proofs.lemmas.Grind.{common_steps}
 use Rattle.std.proofs.lemmas.List.Elements.{All-head, All-tail}
 use Rattle.std.proofs.lemmas.List.Quantifiers.{position-Some}
-use Rattle.std.specs.Prelude.{All, replicate, unwrap_or, is_some, nat_le}
+use Rattle.std.specs.Prelude.{All, replicate, nat_le}
 use Rattle.std.specs.Str.{bytes_eq}
 use Rattle.serde_json.specs.Data.{Data}
-use Rattle.msg_order.specs.Order.{NameSystemsBelow, has_joined, rules_among}
-use Rattle.msg_order.specs.Graph.{Graph, IsAcyclic, IsLowestOnCycle}
-use Rattle.msg_order.specs.Plan.{RefusesFor}
-use Rattle.msg_order.specs.declared.plan_refusal.PlanRefusal.{PlanRefusal}
-use Rattle.msg_order.specs.declared.plan_refusal.PlanRefusal.TheVariants.{Cycle as PlanCycle}
+use Rattle.msg_order.specs.Order.{NameSystemsBelow, edges_of, has_joined, rules_among}
+use Rattle.msg_order.specs.Graph.{IsAcyclic}
 use Rattle.msg_order.specs.declared.rule.Rule.{Rule}
-use Rattle.msg_files.specs.Check.{Check, first_refusal, needs}
+use Rattle.msg_files.specs.Check.{first_refusal, needs}
 use Rattle.msg_files.specs.Json.{Text, elements, is_list}
 use Rattle.msg_reading.specs.Names.{Declared, position_of, system_number}
 use Rattle.serde_json.specs.Find.{as_bool}
-use Rattle.msg_reading.specs.Reading.{edges_of}
+use Rattle.msg_reading.specs.Reading.{IsClashing}
 use Rattle.msg_reading.specs.Runnable.{IsRunnable, PostsAreToTypes}
-use Rattle.msg_reading.specs.ScenarioChecks.{checks_in_turn, clash_checks, frame_checks, list_checks, names_checks, resource_checks, root_object, rule_checks, scenario_checks, section_checks, system_checks, type_checks}
+use Rattle.msg_reading.specs.ScenarioChecks.{checks_in_turn, held_checks, resources_checks, systems_checks, types_checks, resource_checks, root_object, scenario_checks, system_checks, type_checks}
 use Rattle.msg_reading.specs.declared.scenario.Scenario.{Scenario}
-use Rattle.msg_reading.specs.declared.scenario.SystemSpec.{SystemSpec}
-use Rattle.msg_reading.proofs.Fitting.{NamesOf, SystemFits, frames_fit, no_part_clashes, none_clash, systems_fit}
+use Rattle.msg_reading.proofs.Fitting.{NamesOf, SystemFits, frames_fit, systems_fit}
+use Rattle.msg_reading.proofs.Files.{from_held, from_resources, from_rules, from_systems, from_types}
 use Rattle.msg_reading.proofs.There.{below_there, both_pass, both_there, each_all, in_turn_length, map_there, passed_length, then_there, two_there}
-use Rattle.msg_files.proofs.Walks.{first_refusal-passed}
-use Rattle.msg_reading.specs.ScenarioDenotes.{all_names, both, each_in_turn, each_of, frame_of, frames_in, held_in, no_names, part_names, resource_of, resources_in, rule_of, rules_in, rules_of, scenario_of, system_of, systems_in, systems_of, text, type_names, type_of, types_in, with_all, with_resource, with_system, with_type}
+use Rattle.msg_reading.specs.ScenarioDenotes.{all_names, frames_of, resources_of, types_of, both, each_of, frames_in, held_in, no_names, part_names, resource_of, resources_in, rule_of, rules_in, rules_of, scenario_of, system_of, systems_in, systems_of, text, type_names, type_of, types_in, with_all, with_resource, with_system, with_type}
 use Rattle.msg_files.specs.declared.refusal.Refusal.TheVariants.{Shape, TooMany}
 
 -- ---- names
@@ -93,28 +89,6 @@ rules_below names d rules h =
 
 -- ---- the whole
 
--- the checks of a file from each section on
-module _ (d : Data) where
-  abbrev from_rules : List Check
-  from_rules =
-      list_checks 1024 (rule_checks (all_names d)) (rules_in d)
-      ++ list_checks 10000 (frame_checks (all_names d)) (frames_in d)
-
-  abbrev from_systems : List Check
-  from_systems = names_checks 256 system_checks with_system (part_names d) (systems_in d) ++ from_rules
-
-  abbrev held_check : List Check
-  held_check = needs (is_some (as_bool (held_in d))) Shape ∷ []
-
-  abbrev from_held : List Check
-  from_held = held_check ++ from_systems
-
-  abbrev from_resources : List Check
-  from_resources = names_checks 64 resource_checks with_resource (type_names d) (resources_in d) ++ from_held
-
-  abbrev from_types : List Check
-  from_types = names_checks 64 type_checks with_type no_names (types_in d) ++ from_resources
-
 -- what holds of a scenario whose sections passed their checks
 pub record IsWhole (d : Data) (s : Scenario) : Type 0 where
   pub systems : systems_of d ≡ Some s.systems
@@ -126,23 +100,21 @@ pub record IsWhole (d : Data) (s : Scenario) : Type 0 where
   pub rules_in_range : NameSystemsBelow (length s.systems) s.rules
   pub posts : All (PostsAreToTypes s) s.frames
 
-pub whole_of : (d : Data) (s : Scenario) → first_refusal (section_checks d) ≡ None → scenario_of d ≡ Some s → IsWhole d s
+pub whole_of : (d : Data) (s : Scenario) → first_refusal (scenario_checks d) ≡ None → scenario_of d ≡ Some s → IsWhole d s
 whole_of d s passes denotes =
-    let t = then_there _ (each_in_turn (λ names. type_of) with_type no_names (elements (types_in d))) s denotes in
-    let r = then_there _ (each_in_turn (λ names. resource_of) with_resource (type_names d) (elements (resources_in d))) s t.2 in
+    let t = then_there _ (types_of d) s denotes in
+    let r = then_there _ (resources_of d) s t.2 in
     let h = then_there _ (as_bool (held_in d)) s r.2 in
     let y = then_there _ (systems_of d) s h.2 in
     let u = then_there _ (rules_of d) s y.2 in
-    let f = map_there _ (each_of (frame_of (all_names d)) (frames_in d)) s u.2 in
+    let f = map_there _ (frames_of d) s u.2 in
     let systems : systems_of d ≡ Some s.systems = y.1 ∙ ap (λ x. Some x.systems) f.2 in
     let rules : rules_of d ≡ Some s.rules = u.1 ∙ ap (λ x. Some x.rules) f.2 in
     let after_object = both_pass (root_object d) (from_types d) passes in
-    let after_types = both_pass (names_checks 64 type_checks with_type no_names (types_in d)) (from_resources d) after_object.1 in
-    let after_resources = both_pass (names_checks 64 resource_checks with_resource (type_names d) (resources_in d))
-    (from_held d) after_types.1 in
-    let after_held = both_pass (held_check d) (from_systems d) after_resources.1 in
-    let on_systems = (both_pass (names_checks 256 system_checks with_system (part_names d) (systems_in d)) (from_rules d)
-    after_held.1).0 in
+    let after_types = both_pass (types_checks d) (from_resources d) after_object.1 in
+    let after_resources = both_pass (resources_checks d) (from_held d) after_types.1 in
+    let after_held = both_pass (held_checks d) (from_systems d) after_resources.1 in
+    let on_systems = (both_pass (systems_checks d) (from_rules d) after_held.1).0 in
     let as_many = in_turn_length system_of with_system (part_names d) (elements (systems_in d)) s.systems systems in
     let few = passed_length (systems_in d) 256
     (checks_in_turn system_checks with_system (part_names d) (elements (systems_in d))) on_systems in
@@ -164,7 +136,7 @@ whole_of d s passes denotes =
       types = ap length (names_keep (λ n. n.types) with_system (λ n e. refl) (part_names d) (elements (systems_in d))) ∙ parts.types;
       resources = ap length (names_keep (λ n. n.resources) with_system (λ n e. refl) (part_names d) (elements (systems_in d))) ∙ parts.resources;
     } in
-    let frames : each_of (frame_of (all_names d)) (frames_in d) ≡ Some s.frames = f.1 ∙ ap (λ x. Some x.frames) f.2 in
+    let frames : frames_of d ≡ Some s.frames = f.1 ∙ ap (λ x. Some x.frames) f.2 in
     record {
       systems = systems;
       rules = rules;
@@ -192,21 +164,8 @@ rules_among_all n (rule ∷ rules) below =
     let rest = rules_among_all n rules (All-tail (λ r. (r.earlier < n) × (r.later < n)) rule rules below) in
     rw (first, second) (ap (λ l. (rule.earlier, rule.later) ∷ l) rest)
 
--- a refusal of a plan for a cycle
-pub cycle_of : (g : Graph) (r : PlanRefusal) (s : ℕ) → r ≡ PlanCycle s → RefusesFor g r → IsLowestOnCycle g s
-cycle_of g r s is h = subst (λ x. RefusesFor g x) is h
-
--- good sections leave it to the systems that were read
-pub sections_then : (d : Data) (s : Scenario) (systems : List SystemSpec) → first_refusal (section_checks d) ≡ None
-    → scenario_of d ≡ Some s → systems ≡ s.systems
-    → first_refusal (scenario_checks d) ≡ first_refusal (clash_checks 0 systems)
-sections_then d s systems passes denotes are =
-    first_refusal-passed (section_checks d) (clash_checks 0 (unwrap_or (systems_of d) [])) passes
-    ∙ ap (λ o. first_refusal (clash_checks 0 (unwrap_or o []))) (whole_of d s passes denotes).systems
-    ∙ ap (λ l. first_refusal (clash_checks 0 l)) (sym are)
-
 -- and it is one that may be run, where no program clashes and the rules make no cycle
-pub runnable_of : (d : Data) (s : Scenario) → IsWhole d s → first_refusal (clash_checks 0 s.systems) ≡ None
+pub runnable_of : (d : Data) (s : Scenario) → IsWhole d s → All (λ x. ¬ IsClashing x) s.systems
     → IsAcyclic (edges_of s.rules) → IsRunnable s
 runnable_of d s whole none acyclic = record {
   few_types = whole.few_types;
@@ -216,7 +175,7 @@ runnable_of d s whole none acyclic = record {
     few_ops = (whole.systems_fit k x lt).few_ops;
     fit_kind = (whole.systems_fit k x lt).fit_kind;
     fits = (whole.systems_fit k x lt).fits;
-    no_clash = no_part_clashes (get_or s.systems k x).program.ops (none_clash 0 s.systems none k x lt);
+    no_clash = none k x lt;
     joins = (whole.systems_fit k x lt).joins;
   };
   rules_in_range = whole.rules_in_range;

@@ -1,42 +1,23 @@
 -- The systems of a scenario file.
 use Rattle.std.proofs.Common.{◌≡◌, List, [], ◌∷◌, ◌++◌, refl, ap, ◌∙◌, Option, Some, None, true, false}
 use Rattle.std.specs.Prelude.{codes, is_some, if◌then◌else◌, option_and_then, option_map}
-use Rattle.std.specs.List.{list_all}
 use Rattle.std.specs.Option.{option_map_or}
-use Rattle.serde_json.specs.Data.{Data, Members}
-use Rattle.serde_json.specs.Find.{as_object, get}
+use Rattle.serde_json.specs.Data.{Data}
 use Rattle.msg_system.specs.declared.op.Op.{Op}
 use Rattle.msg_files.specs.Check.{Check, first_refusal, needs}
-use Rattle.msg_files.specs.Json.{Text, keys, value_at}
+use Rattle.msg_files.specs.Json.{Text, value_at}
 use Rattle.msg_reading.specs.Names.{Declared}
-use Rattle.msg_reading.specs.ScenarioChecks.{fits_kind, is_system_key, list_checks, name_checks, of_its_kind, op_checks, ops_checks, place_checks, program_checks, system_checks, system_object}
+use Rattle.msg_reading.specs.ScenarioChecks.{fits_kind, list_checks, name_checks, of_its_kind, op_checks, ops_checks, place_checks, program_checks, system_checks, system_object}
 use Rattle.msg_reading.specs.ScenarioDenotes.{both, each_of, kind_in, kind_of, op_of, ops_of, place_of, start_in, start_of, system_of, text}
 use Rattle.msg_system.specs.declared.start.Start.{Start}
 use Rattle.msg_frames.specs.declared.place.Place.{Place}
 use Rattle.msg_reading.specs.declared.kind.Kind.{Kind}
 use Rattle.msg_reading.specs.declared.scenario.SystemSpec.{SystemSpec}
 use Rattle.msg_files.specs.declared.refusal.Refusal.{Refusal}
-use Rattle.msg_files.specs.declared.refusal.Refusal.TheVariants.{Shape, UnknownKey}
-use Rattle.msg_reading.proofs.Parts.{Refuses, both_denoted, goes_on, refuses_by, stops}
+use Rattle.msg_files.specs.declared.refusal.Refusal.TheVariants.{Shape}
+use Rattle.msg_files.proofs.Steps.{Refuses, goes_on, refuses_by, stops}
+use Rattle.msg_reading.proofs.Parts.{both_denoted}
 use Rattle.msg_files.proofs.Walks.{first_refusal-passed}
-
--- ---- the object
-
-pub system_unknown : (d : Data) (ms : Members) → Some ms ≡ as_object d → list_all is_system_key (keys d) ≡ false
-    → first_refusal (system_object d) ≡ Some UnknownKey
-system_unknown d ms is unknown = rw (unknown, ← is) refl
-
-pub system_no_name : (d : Data) (ms : Members) → Some ms ≡ as_object d → list_all is_system_key (keys d) ≡ true
-    → None ≡ get (codes "name") d → first_refusal (system_object d) ≡ Some Shape
-system_no_name d ms is known name = rw (known, ← is, ← name) refl
-
-pub system_no_ops : (d n : Data) (ms : Members) → Some ms ≡ as_object d → list_all is_system_key (keys d) ≡ true
-    → Some n ≡ get (codes "name") d → None ≡ get (codes "ops") d → first_refusal (system_object d) ≡ Some Shape
-system_no_ops d n ms is known name ops = rw (known, ← is, ← name, ← ops) refl
-
-pub system_keys : (d n o : Data) (ms : Members) → Some ms ≡ as_object d → list_all is_system_key (keys d) ≡ true
-    → Some n ≡ get (codes "name") d → Some o ≡ get (codes "ops") d → first_refusal (system_object d) ≡ None
-system_keys d n o ms is known name ops = rw (known, ← is, ← name, ← ops) refl
 
 -- ---- kind and ops
 

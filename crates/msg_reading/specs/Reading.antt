@@ -1,32 +1,48 @@
 -- What a scenario file is read as, and what it is refused for.
-use Rattle.std.specs.Prelude.{◌≡◌, ◌⊎◌, ℕ, List, [], map, Some, None, unwrap_or}
+use Rattle.std.specs.Prelude.{◌≡◌, ◌⊎◌, ℕ, All, List, Some, None, slice_get, take}
 use Rattle.serde_json.specs.Data.{Data}
-use Rattle.msg_order.specs.Graph.{Graph, IsAcyclic, IsLowestOnCycle}
-use Rattle.msg_order.specs.declared.rule.Rule.{Rule}
+use Rattle.msg_order.specs.Graph.{IsAcyclic, IsLowestOnCycle}
+use Rattle.msg_order.specs.Order.{edges_of}
+use Rattle.msg_system.specs.Needs.{HasClash, program_needs}
 use Rattle.msg_files.specs.Check.{first_refusal}
 use Rattle.msg_reading.specs.ScenarioChecks.{scenario_checks}
-use Rattle.msg_reading.specs.ScenarioDenotes.{rules_of, scenario_of}
+use Rattle.msg_reading.specs.ScenarioDenotes.{scenario_of}
 use Rattle.msg_files.specs.declared.refusal.Refusal.{Refusal}
-use Rattle.msg_files.specs.declared.refusal.Refusal.TheVariants.{Cycle}
+use Rattle.msg_files.specs.declared.refusal.Refusal.TheVariants.{Clash, Cycle}
 use Rattle.msg_reading.specs.declared.scenario.Scenario.{Scenario}
+use Rattle.msg_reading.specs.declared.scenario.SystemSpec.{SystemSpec}
 
--- the rules as edges, each from the earlier system to the later one
-abbrev pub edges_of : List Rule → Graph
-edges_of rules = map (λ rule. (rule.earlier, rule.later)) rules
+-- the system's program reads and writes one type
+abbrev pub IsClashing : SystemSpec → Type 0
+IsClashing system = HasClash (program_needs system.program.ops)
 
--- a value that passes all checks denotes this scenario, whose rules make no cycle
-pub record IsReadAs (d : Data) (scenario : Scenario) : Type 0 where
+-- s is the lowest system whose program reads and writes one type
+pub record IsLowestClash (systems : List SystemSpec) (s : ℕ) : Type 0 where
+  pub system : SystemSpec
+  pub is : slice_get systems s ≡ Some system
+  pub clash : IsClashing system
+  pub lowest : All (λ x. ¬ IsClashing x) (take s systems)
+
+-- a value passes all checks, and denotes this scenario
+pub record Denotes (d : Data) (scenario : Scenario) : Type 0 where
   pub passes : first_refusal (scenario_checks d) ≡ None
   pub denotes : scenario_of d ≡ Some scenario
+
+-- the value is read as a scenario whose programs don't clash, and whose rules make no cycle
+pub record IsReadAs (d : Data) (scenario : Scenario) : Type 0 where
+  pub denotes : Denotes d scenario
+  pub no_clash : All (λ x. ¬ IsClashing x) scenario.systems
   pub acyclic : IsAcyclic (edges_of scenario.rules)
 
--- a value that passes all checks has rules that make a cycle, and this is the lowest system on one
-pub record IsCyclic (d : Data) (refusal : Refusal) : Type 0 where
-  pub passes : first_refusal (scenario_checks d) ≡ None
-  pub system : ℕ
-  pub names_it : refusal ≡ Cycle system
-  pub lowest : IsLowestOnCycle (edges_of (unwrap_or (rules_of d) [])) system
+-- A scenario is refused for its lowest clash; or, where no program clashes, for the lowest system on a
+-- cycle of rules.
+abbrev pub IsUnfit : Scenario → Refusal → Type 0
+IsUnfit scenario (Clash s) = IsLowestClash scenario.systems s
+IsUnfit scenario (Cycle s) = All (λ x. ¬ IsClashing x) scenario.systems × IsLowestOnCycle (edges_of scenario.rules) s
+IsUnfit scenario _ = ⊥
 
--- a value is refused for the first check that fails, and after all checks for a cycle
+-- a value is refused for the first check that fails, and where none fails as the scenario that it denotes
 abbrev pub IsRefusedFor : Data → Refusal → Type 0
-IsRefusedFor d refusal = (first_refusal (scenario_checks d) ≡ Some refusal) ⊎ IsCyclic d refusal
+IsRefusedFor d refusal =
+    (first_refusal (scenario_checks d) ≡ Some refusal)
+    ⊎ ((scenario : Scenario) × Denotes d scenario × IsUnfit scenario refusal)

@@ -1,11 +1,11 @@
 -- The state that an engine of a scenario begins in, and what every scenario that was read keeps to.
-use Rattle.std.specs.Prelude.{◌≡◌, ◌≤◌, ◌<◌, ◌&&◌, ℕ, ⊤, IsTrue, All, List, [], ◌∷◌, length, map, if◌then◌else◌}
+use Rattle.std.specs.Prelude.{◌≡◌, ◌≤◌, ◌<◌, ℕ, ⊤, IsTrue, All, List, [], ◌∷◌, length, map, if◌then◌else◌}
 use Rattle.std.specs.List.{enumerate_from}
-use Rattle.msg_world.specs.Access.{Part, OfType, OfResource, Registry}
+use Rattle.msg_world.specs.Access.{HasPart, Part}
 use Rattle.msg_world.specs.World.{WorldState, held, new_world}
 use Rattle.msg_order.specs.Graph.{IsAcyclic}
 use Rattle.msg_order.specs.Order.{NameSystemsBelow}
-use Rattle.msg_system.specs.Needs.{job_needs, needs_any, program_needs}
+use Rattle.msg_system.specs.Needs.{HasClash, job_needs, needs_any, program_needs}
 use Rattle.msg_system.specs.Systems.{Meaning, new_system}
 use Rattle.msg_system.specs.declared.op.Op.{Op}
 use Rattle.msg_system.specs.declared.op.Op.TheVariants.{Forward, Sum}
@@ -40,12 +40,6 @@ state_of s = first_state (systems_of s) (places_of s) s.rules (length s.types) (
 
 -- ---- what may be run
 
--- its world has this part
-abbrev pub HasPart : Scenario → Part → Type 0
-HasPart s (OfType t) = t < length s.types
-HasPart s (OfResource r) = r < length s.resources
-HasPart s Registry = Unit {0}
-
 -- these are ops for a box of this kind
 abbrev pub FitKind : Kind → List Op → Type 0
 FitKind Script ops = ⊤
@@ -56,8 +50,9 @@ FitKind Tally ops = (from : ℕ) × (to : ℕ) × (ops ≡ Sum from to ∷ [])
 pub record IsRunnableSystem (s : Scenario) (x : SystemSpec) : Type 0 where
   pub few_ops : length x.program.ops ≤ 64
   pub fit_kind : FitKind x.kind x.program.ops
-  pub fits : (p : Part) → IsTrue (needs_any (job_needs x.program.ops x.place.conditions) p) → HasPart s p
-  pub no_clash : (p : Part) → ¬ IsTrue ((program_needs x.program.ops).reads p && (program_needs x.program.ops).writes p)
+  pub fits : (p : Part) → IsTrue (needs_any (job_needs x.program.ops x.place.conditions) p)
+      → HasPart (length s.types) (length s.resources) p
+  pub no_clash : ¬ HasClash (program_needs x.program.ops)
   pub joins : (1 ≤ x.place.join) × (x.place.join ≤ 10000)
 
 -- each post of a frame is to a type that there is

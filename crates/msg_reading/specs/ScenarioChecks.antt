@@ -1,23 +1,20 @@
 -- The checks of a scenario file in reading order, each with the refusal that it gives where it fails.
-use Rattle.std.specs.Prelude.{ℕ, ◌+◌, ◌||◌, ◌&&◌, not, nat_le, Bool, true, false, List, [], ◌∷◌, ◌++◌, length, map, flat_map, is_some, unwrap_or, codes, if◌then◌else◌}
-use Rattle.std.specs.List.{list_all, list_any}
+use Rattle.std.specs.Prelude.{ℕ, ◌||◌, ◌&&◌, not, nat_le, Bool, true, false, List, [], ◌∷◌, ◌++◌, length, map, flat_map, is_some, codes, if◌then◌else◌}
+use Rattle.std.specs.List.{list_all}
 use Rattle.std.specs.Option.{option_map_or}
 use Rattle.std.specs.Str.{bytes_eq}
 use Rattle.serde_json.specs.Data.{Data}
-use Rattle.serde_json.specs.Find.{get, as_str, as_bool}
-use Rattle.msg_world.specs.Access.{OfType}
-use Rattle.msg_system.specs.Needs.{some_op_writes, type_read}
+use Rattle.serde_json.specs.Find.{as_str, as_bool}
 use Rattle.msg_system.specs.declared.op.Op.{Op}
 use Rattle.msg_system.specs.declared.op.Op.TheVariants.{Forward, Sum}
-use Rattle.msg_files.specs.Json.{Text, elements, keys, value_at, is_object, is_list, is_number, number_up_to}
+use Rattle.msg_files.specs.Json.{Text, elements, value_at, is_list, is_number, number_up_to}
 use Rattle.msg_files.specs.Check.{Check, needs}
-use Rattle.msg_files.specs.Checks.{a_value, a_limit, few_values}
+use Rattle.msg_files.specs.Checks.{a_value, a_limit, few_values, has_key, object_checks}
 use Rattle.msg_reading.specs.Names.{Declared, is_name, position_of, type_number, resource_number, system_number}
-use Rattle.msg_reading.specs.ScenarioDenotes.{text, inside_nots, nots_round, kind_of, kind_in, conditions_in, join_in, start_of, start_in, ops_of, with_type, with_resource, with_system, no_names, types_in, resources_in, held_in, systems_in, rules_in, frames_in, type_names, part_names, all_names, systems_of}
+use Rattle.msg_reading.specs.ScenarioDenotes.{text, inside_nots, nots_round, kind_of, kind_in, conditions_in, join_in, start_of, start_in, ops_of, with_type, with_resource, with_system, no_names, types_in, resources_in, held_in, systems_in, rules_in, frames_in, type_names, part_names, all_names}
 use Rattle.msg_reading.specs.declared.kind.Kind.{Kind}
 use Rattle.msg_reading.specs.declared.kind.Kind.TheVariants.{Script, Relay, Tally}
-use Rattle.msg_reading.specs.declared.scenario.SystemSpec.{SystemSpec}
-use Rattle.msg_files.specs.declared.refusal.Refusal.TheVariants.{Shape, UnknownKey, BadName, TwiceNamed, BadNumber, TooMany, UnknownName, Clash}
+use Rattle.msg_files.specs.declared.refusal.Refusal.TheVariants.{Shape, BadName, TwiceNamed, BadNumber, TooMany, UnknownName}
 
 -- ---- parts of values
 
@@ -172,11 +169,7 @@ is_system_key key =
 -- an object with a name and ops, and with no other keys than those of systems
 abbrev pub system_object : Data → List Check
 system_object d =
-    needs (is_object d) Shape
-    ∷ needs (list_all is_system_key (keys d)) UnknownKey
-    ∷ needs (is_some (get (codes "name") d)) Shape
-    ∷ needs (is_some (get (codes "ops") d)) Shape
-    ∷ []
+    object_checks is_system_key d ++ (has_key (codes "name") d ∷ has_key (codes "ops") d ∷ [])
 
 -- a relay's program is one `forward`, a tally's one `sum`, a script's anything
 abbrev pub fits_kind : Kind → List Op → Bool
@@ -249,35 +242,35 @@ is_root_key key =
 -- an object with types, systems and frames, and with no other keys than those of scenarios
 abbrev pub root_object : Data → List Check
 root_object d =
-    needs (is_object d) Shape
-    ∷ needs (list_all is_root_key (keys d)) UnknownKey
-    ∷ needs (is_some (get (codes "types") d)) Shape
-    ∷ needs (is_some (get (codes "systems") d)) Shape
-    ∷ needs (is_some (get (codes "frames") d)) Shape
-    ∷ []
-
--- an op of the program reads a type, and an op of it writes that type
-abbrev pub reads_and_writes_a_type : List Op → Bool
-reads_and_writes_a_type ops =
-    list_any (λ op. option_map_or (λ t. some_op_writes ops (OfType t)) (type_read op) false) ops
-
--- the systems from number s on
-abbrev pub clash_checks : ℕ → List SystemSpec → List Check
-clash_checks s [] = []
-clash_checks s (system ∷ systems) =
-    needs (not (reads_and_writes_a_type system.program.ops)) (Clash s) ∷ clash_checks (s + 1) systems
+    object_checks is_root_key d
+    ++ (has_key (codes "types") d ∷ has_key (codes "systems") d ∷ has_key (codes "frames") d ∷ [])
 
 -- the sections of a file
-abbrev pub section_checks : Data → List Check
-section_checks d =
-    root_object d
-    ++ (names_checks 64 type_checks with_type no_names (types_in d)
-    ++ (names_checks 64 resource_checks with_resource (type_names d) (resources_in d)
-    ++ (needs (is_some (as_bool (held_in d))) Shape
-    ∷ (names_checks 256 system_checks with_system (part_names d) (systems_in d)
-    ++ (list_checks 1024 (rule_checks (all_names d)) (rules_in d)
-    ++ list_checks 10000 (frame_checks (all_names d)) (frames_in d))))))
+abbrev pub types_checks : Data → List Check
+types_checks d = names_checks 64 type_checks with_type no_names (types_in d)
 
--- all checks of a file, but that its rules make no cycle
+abbrev pub resources_checks : Data → List Check
+resources_checks d = names_checks 64 resource_checks with_resource (type_names d) (resources_in d)
+
+abbrev pub held_checks : Data → List Check
+held_checks d = needs (is_some (as_bool (held_in d))) Shape ∷ []
+
+abbrev pub systems_checks : Data → List Check
+systems_checks d = names_checks 256 system_checks with_system (part_names d) (systems_in d)
+
+abbrev pub rules_checks : Data → List Check
+rules_checks d = list_checks 1024 (rule_checks (all_names d)) (rules_in d)
+
+abbrev pub frames_checks : Data → List Check
+frames_checks d = list_checks 10000 (frame_checks (all_names d)) (frames_in d)
+
+-- all checks of a file, but those of its programs and rules together
 abbrev pub scenario_checks : Data → List Check
-scenario_checks d = section_checks d ++ clash_checks 0 (unwrap_or (systems_of d) [])
+scenario_checks d =
+    root_object d
+    ++ (types_checks d
+    ++ (resources_checks d
+    ++ (held_checks d
+    ++ (systems_checks d
+    ++ (rules_checks d
+    ++ frames_checks d)))))

@@ -280,11 +280,20 @@ all_names d = with_all with_system (part_names d) (elements (systems_in d))
 
 -- ---- the whole
 
+abbrev pub types_of : Data → Option (List (Text × ℕ))
+types_of d = each_in_turn (λ names. type_of) with_type no_names (elements (types_in d))
+
+abbrev pub resources_of : Data → Option (List (Text × ℤ))
+resources_of d = each_in_turn (λ names. resource_of) with_resource (type_names d) (elements (resources_in d))
+
 abbrev pub systems_of : Data → Option (List SystemSpec)
 systems_of d = each_in_turn system_of with_system (part_names d) (elements (systems_in d))
 
 abbrev pub rules_of : Data → Option (List Rule)
 rules_of d = each_of (rule_of (all_names d)) (rules_in d)
+
+abbrev pub frames_of : Data → Option (List Frame)
+frames_of d = each_of (frame_of (all_names d)) (frames_in d)
 
 -- a scenario
 abbrev pub scenario_of : Data → Option Scenario
@@ -303,9 +312,9 @@ scenario_of d =
       rules = rules;
       frames = frames;
     })
-    (each_of (frame_of (all_names d)) (frames_in d)))
+    (frames_of d))
     (rules_of d))
     (systems_of d))
     (as_bool (held_in d)))
-    (each_in_turn (λ names. resource_of) with_resource (type_names d) (elements (resources_in d))))
-    (each_in_turn (λ names. type_of) with_type no_names (elements (types_in d)))
+    (resources_of d))
+    (types_of d)

@@ -4,7 +4,7 @@ use Rattle.std.specs.Prelude.{Bool, ℤ, if◌then◌else◌, IsTrue, option_map
 use Rattle.std.specs.List.{All, enumerate_from}
 use Rattle.std.proofs.lemmas.List.Elements.{All-get_or}
 use Rattle.std.proofs.lemmas.Option.{get_or_from_slice_get, slice_get_cases, slice_get_within, slice_get-map}
-use Rattle.msg_world.specs.Access.{OfResource, OfType, Part, Registry}
+use Rattle.msg_world.specs.Access.{Part}
 use Rattle.msg_world.specs.Parts.{Has, Parts, PartsStand}
 use Rattle.msg_world.specs.World.{WorldState, held, new_world}
 use Rattle.msg_order.specs.declared.rule.Rule.{Rule}
@@ -16,7 +16,7 @@ use Rattle.msg_frames.specs.declared.place.Place.{Place}
 use Rattle.msg_exec.specs.Building.{EachIs, IsLowestClash, MayBeAdded}
 use Rattle.msg_reading.specs.declared.scenario.Scenario.{Scenario}
 use Rattle.msg_reading.specs.declared.scenario.SystemSpec.{SystemSpec}
-use Rattle.msg_reading.specs.Runnable.{HasPart, IsRunnable, IsRunnableSystem, first_world, places_of, state_of, systems_of}
+use Rattle.msg_reading.specs.Runnable.{IsRunnable, IsRunnableSystem, first_world, places_of, state_of, systems_of}
 use Rattle.msg_scenario.specs.Making.{IsSystemAt}
 use Rattle.msg_reading.proofs.There.{some_same}
 
@@ -60,13 +60,6 @@ same_state s systems places rules types a b c d =
     ∙ ap (λ x. first_state (systems_of s) (places_of s) x types (first_world s)) c
     ∙ ap (λ x. first_state (systems_of s) (places_of s) s.rules x (first_world s)) d
 
--- the world of a scenario has the scenario's parts
-has_part : (s : Scenario) (w : Parts) (p : Part) → length w.types ≡ length s.types → length w.resources ≡ length s.resources
-    → HasPart s p → Has w p
-has_part s w (OfType t) types resources has = subst (λ n. t < n) (sym types) has
-has_part s w (OfResource r) types resources has = subst (λ n. r < n) (sym resources) has
-has_part s w Registry types resources has = has
-
 module _ {S : Type 0} (m : S → Meaning) where
   -- the system of the spec at a place is the one at that place
   pub is_system_at : (specs : List SystemSpec) (n : ℕ) (x : S) (spec : SystemSpec) → slice_get specs n ≡ Some spec
@@ -109,7 +102,7 @@ module _ {S : Type 0} (m : S → Meaning) where
       λ place sp. some_same (sym (slice_get-map (λ (y : SystemSpec). y.place) s.systems i ∙ ap (option_map (λ y. y.place)) found.1) ∙ sp) in
       record {
         new = subst (IsNew i) (sym is) (record { writer = refl; places = λ t. refl });
-        fits = λ place sp p needed. has_part s w p types resources
+        fits = λ place sp p needed. rw (types, resources)
             (fine.fits p (subst (λ (y : Place). IsTrue (needs_any (job_needs spec.program.ops y.conditions) p)) (sym (placed place sp))
             (subst (λ n. IsTrue (needs_any (with_conditions n place.conditions) p)) needs needed)));
         joins = λ place sp. subst (λ (y : Place). (1 ≤ y.join) × (y.join ≤ 10000)) (placed place sp) fine.joins;
@@ -124,8 +117,8 @@ module _ {S : Type 0} (m : S → Meaning) where
       let spec = found.0 in
       let needs = ap (λ y. y.needs) (each i x lowest.is spec found.1) in
       let fine : IsRunnableSystem s spec = all_at (IsRunnableSystem s) s.systems i spec runnable.systems found.1 in
-      fine.no_clash lowest.clash.0
-      (subst (λ n. IsTrue (n.reads lowest.clash.0 && n.writes lowest.clash.0)) needs lowest.clash.1)
+      fine.no_clash
+      (lowest.clash.0, subst (λ n. IsTrue (n.reads lowest.clash.0 && n.writes lowest.clash.0)) needs lowest.clash.1)
 
 -- no system is on a cycle of rules
 pub no_cycle : (s : Scenario) (rules : List Rule) (n i : ℕ) → IsRunnable s → rules ≡ s.rules → n ≡ length s.systems

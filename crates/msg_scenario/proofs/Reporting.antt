@@ -9,6 +9,7 @@ use Rattle.msg_system.specs.Systems.{Meaning}
 use Rattle.msg_frames.specs.Accounts.{accounts_of}
 use Rattle.msg_exec.specs.Cores.{CoreStands}
 use Rattle.msg_exec.specs.Engines.{HasRunFrame, IsSpoiled, PostsFit, StandsFor, frames_of}
+use Rattle.msg_frames.specs.CompleteRun.{IsCompleteRun}
 use Rattle.msg_frames.specs.Frames.{IsFrame, IsRun, systems_in}
 use Rattle.msg_frames.specs.State.{State}
 use Rattle.msg_frames.specs.TurnLaws.{FrameKeeps, FramesKeepSystems}
@@ -249,11 +250,14 @@ module _ {X : Type 0} (meaning : X → Meaning) where
         (far : ReportSoFar k before now e) (all : k ≡ length s.frames)
         (are : (u : State) → StandsFor meaning e u → accounts ≡ accounts_of u) where
       -- their lines were put
-      pub readers_put : Appends now after (accounts_text s accounts) → HasReported meaning s before after e
-      readers_put puts = record {
+      pub readers_put : ((frames : List Frame) (logs : List Log) (u : State) → IsRun frames (state_of s) logs u
+          → IsCompleteRun frames (state_of s) logs u)
+          → Appends now after (accounts_text s accounts) → HasReported meaning s before after e
+      readers_put complete puts = record {
         logs = far.logs;
         state = far.state;
-        is_run = subst (λ fs. IsRun fs (state_of s) far.logs far.state) (ap (λ n. take n s.frames) all ∙ take-length s.frames) far.is_run;
+        complete = complete s.frames far.logs far.state
+            (subst (λ fs. IsRun fs (state_of s) far.logs far.state) (ap (λ n. take n s.frames) all ∙ take-length s.frames) far.is_run);
         printed = Appends-trans before now after (frames_text s 1 s.frames far.logs) (accounts_text s (accounts_of far.state))
             far.printed (subst (λ l. Appends now after (accounts_text s l)) (are far.state far.stands) puts);
         stands = far.stands;

@@ -4,7 +4,7 @@ use Rattle.std.specs.Io.KnownBytes.{Appends}
 use Rattle.msg_system.specs.Systems.{Meaning}
 use Rattle.msg_frames.specs.Accounts.{accounts_of}
 use Rattle.msg_exec.specs.Engines.{StandsFor}
-use Rattle.msg_frames.specs.Frames.{IsRun}
+use Rattle.msg_frames.specs.CompleteRun.{IsCompleteRun}
 use Rattle.msg_frames.specs.State.{State}
 use Rattle.msg_exec.specs.declared.engine.EngineOf.{EngineOf}
 use Rattle.msg_frames.specs.declared.log.Log.{Log}
@@ -13,11 +13,11 @@ use Rattle.msg_scenario.specs.Reported.{HasRunOut, HasStopped}
 use Rattle.msg_reading.specs.Runnable.{state_of}
 use Rattle.msg_reading.specs.declared.scenario.Scenario.{Scenario}
 
--- All frames were run, and the sink took the report of the scenario, and no more.
+-- All frames were run, with all that a run comes to, and the sink took the report of the scenario, and no more.
 pub record IsReported (s : Scenario) (before after : Option (List ℕ)) : Type 0 where
   pub logs : List Log
   pub state : State
-  pub is_run : IsRun s.frames (state_of s) logs state
+  pub complete : IsCompleteRun s.frames (state_of s) logs state
   pub printed : Appends before after (report_text s logs (accounts_of state))
 
 module _ {X : Type 0} (meaning : X → Meaning) (s : Scenario) where

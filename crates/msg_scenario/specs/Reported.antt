@@ -4,6 +4,7 @@ use Rattle.std.specs.Io.KnownBytes.{Appends}
 use Rattle.msg_system.specs.Systems.{Meaning}
 use Rattle.msg_frames.specs.Accounts.{accounts_of}
 use Rattle.msg_exec.specs.Engines.{IsSpoiled, StandsFor, frames_of}
+use Rattle.msg_frames.specs.CompleteRun.{IsCompleteRun}
 use Rattle.msg_frames.specs.Frames.{IsRun}
 use Rattle.msg_frames.specs.State.{State}
 use Rattle.msg_exec.specs.declared.engine.EngineOf.{EngineOf}
@@ -25,11 +26,11 @@ pub record HasPrinted (s : Scenario) (before after : Option (List ℕ)) : Type 0
   pub printed : AppendsPrefix before after (text_so_far s logs (accounts_of state))
 
 module _ {X : Type 0} (meaning : X → Meaning) (s : Scenario) where
-  -- All frames were run, and the sink took the whole report.
+  -- All frames were run, with all that a run comes to, and the sink took the whole report.
   pub record HasReported (before after : Option (List ℕ)) (e : EngineOf X) : Type 0 where
     pub logs : List Log
     pub state : State
-    pub is_run : IsRun s.frames (state_of s) logs state
+    pub complete : IsCompleteRun s.frames (state_of s) logs state
     pub printed : Appends before after (report_text s logs (accounts_of state))
     pub stands : StandsFor meaning e state
 

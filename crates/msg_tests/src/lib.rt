@@ -10,6 +10,7 @@ pub mod adders;
 mod boards;
 #[cfg(test)]
 mod buffers;
+pub mod clients;
 #[cfg(test)]
 mod engines;
 #[cfg(test)]

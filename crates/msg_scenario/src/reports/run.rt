@@ -34,7 +34,8 @@ pub fn report<R: Threads + Sync, X: System, S: Sink, G: Gate>(
     requires engine { StandsFor X.meaning engine.old (state_of scenario.now) }
     requires posts { All (PostsAreToTypes scenario.now) scenario.now.frames }
 
-    // Whatever the workers and the gate: the text is that of one thread.
+    // Whatever the workers and the gate: the text is that of one thread, and each reader was given
+    // every message once.
     ensures ok { OnOk result (HasReported X.meaning scenario.now
         (S.contents sink.old) (S.contents sink.new) engine.new) }
     ensures prefix { OnErr result
@@ -53,6 +54,7 @@ pub fn report<R: Threads + Sync, X: System, S: Sink, G: Gate>(
     ensures quiet { result ≢ Err ReportFault.Write → S.failures sink.new ≡ S.failures sink.old }
 {
     frames_keep_the_systems();
+    engine.has_one_run();
     let mut text = Vec::new(alloc);
     let mut number = 0u64;
     for frame in scenario.frames.as_slice() {

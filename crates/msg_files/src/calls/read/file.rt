@@ -1,6 +1,5 @@
 // A calls file: its limit, and each call after those before it.
-ghost use Rattle.std.specs.Prelude.{◌≡◌, ◌≢◌, Some, None, true, IfOk, IfErr, map, string_bytes};
-ghost use Rattle.std.specs.List.{list_all};
+ghost use Rattle.std.specs.Prelude.{◌≡◌, ◌≢◌, Some, None, true, IfOk, IfErr, map};
 ghost use Rattle.serde_json.specs.View.{view};
 ghost use Rattle.msg_files.specs.Check.{first_refusal};
 ghost use Rattle.msg_files.specs.Checks.{calls_checks, checks_of, is_known, list_checks};
@@ -12,42 +11,33 @@ use crate::call::Call;
 use crate::calls::Calls;
 use crate::calls::read::call::read_call;
 use crate::calls::read::part::buffer_limit;
+use crate::json::{Keys, check_keys, needed};
 use crate::limits::MAX_CALLS;
 use crate::refusal::Refusal;
-use serde_json::{Map, Value};
+use serde_json::Value;
 use std::alloc::Global;
 
 /// The file that a JSON value denotes.
 pub fn read_file(alloc: Global, value: &Value) -> Result<Calls, Refusal>
     ensures agrees { Agrees (checks_of (view value.now)) (file_of (view value.now)) result }
 {
-    let Some(members) = value.as_object() else {
-        return Err(Refusal::Shape);
-    };
-    if !are_known(members) {
-        return Err(Refusal::UnknownKey);
-    }
-    let Some(limit) = value.get("limit") else {
-        return Err(Refusal::Shape);
-    };
-    let Some(list) = value.get("calls") else {
-        return Err(Refusal::Shape);
-    };
+    check_keys::<FileKeys>(value)?;
+    let limit = needed(value, "limit")?;
+    let list = needed(value, "calls")?;
     let limit = buffer_limit(limit)?;
     let calls = read_list(alloc, list)?;
     Ok(Calls::new(limit, calls))
 }
 
-fn are_known(members: &Map<String, Value>) -> bool
-    ensures { result ≡ list_all (λ m. is_known (string_bytes m.0)) members.now.entries }
-{
-    members.iter().all(|(key, _)| is_known(key.as_str()))
-}
+/// The keys of a calls file.
+struct FileKeys;
 
-fn is_known(key: &str) -> bool
-    ensures { result ≡ is_known key.now }
-{
-    key == "limit" || key == "calls"
+impl Keys for FileKeys {
+    ghost known = { is_known };
+
+    fn is_known(key: &str) -> bool {
+        key == "limit" || key == "calls"
+    }
 }
 
 fn read_list(alloc: Global, value: &Value) -> Result<Vec<Call>, Refusal>

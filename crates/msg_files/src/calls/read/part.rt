@@ -3,7 +3,7 @@ ghost use Rattle.std.specs.Prelude.{◌≡◌, ◌<◌, ◌∷◌, [], Some, Non
 ghost use Rattle.serde_json.specs.Find.{as_number, as_i64};
 ghost use Rattle.serde_json.specs.View.{view, number_view};
 ghost use Rattle.msg_files.specs.Json.{whole, natural, natural_of, only_below};
-ghost use Rattle.msg_files.specs.Checks.{a_number, a_value, a_cursor, a_limit, a_message_number, limit_checks};
+ghost use Rattle.msg_files.specs.Checks.{a_number, a_value, a_cursor, a_limit, a_message_number};
 ghost use Rattle.msg_files.specs.Walk.{IsAnswer};
 
 use crate::limits::MAX_LIMIT;
@@ -54,7 +54,8 @@ pub fn cursor_and_limit(made: u32, part: &Value, limit: &Value) -> Result<(u32, 
 
 /// The limit of a buffer.
 pub fn buffer_limit(value: &Value) -> Result<u32, Refusal>
-    ensures agrees { IsAnswer (limit_checks (view value.now)) (natural (view value.now)) result }
+    ensures agrees { IsAnswer (a_number (view value.now) ∷ a_limit (view value.now) ∷ [])
+        (natural (view value.now)) result }
 {
     small_number(number(value)?, MAX_LIMIT + 1)
 }

@@ -1,6 +1,5 @@
 // One system: its name, its kind and program, and its conditions, join and start.
-ghost use Rattle.std.specs.Prelude.{◌≡◌, ◌≢◌, ◌∷◌, ◌++◌, [], None, Some, IfOk, IfErr, MatchResult, OnOk, codes, false, string_bytes};
-ghost use Rattle.std.specs.List.{list_all};
+ghost use Rattle.std.specs.Prelude.{◌≡◌, ◌≢◌, ◌∷◌, ◌++◌, [], None, Some, IfOk, IfErr, MatchResult, OnOk, codes, false};
 ghost use Rattle.std.specs.Option.{option_map_or};
 ghost use Rattle.serde_json.specs.View.{view};
 ghost use Rattle.msg_files.specs.Check.{first_refusal, needs};
@@ -17,9 +16,10 @@ use crate::scenario::read::names::Declarations;
 use crate::scenario::read::part::text;
 use crate::scenario::read::place::{read_place, read_start};
 use crate::{Kind, Name, Refusal, SystemSpec};
+use msg_files::json::{self, Keys, check_keys};
 use msg_frames::Place;
 use msg_system::{Items, Op, Program};
-use serde_json::{Map, Value};
+use serde_json::Value;
 use std::alloc::Global;
 
 impl Declaration for SystemSpec {
@@ -74,31 +74,24 @@ fn needed(system: &Value) -> Result<(&Value, &Value), Refusal>
     ensures refused { IfErr result (λ e. (e ≢ Refusal.NotJson)
         × (first_refusal (system_object (view system.now)) ≡ Some e)) }
 {
-    let Some(members) = system.as_object() else {
-        return Err(Refusal::Shape);
-    };
-    if !are_known(members) {
-        return Err(Refusal::UnknownKey);
+    check_keys::<SystemKeys>(system)?;
+    Ok((json::needed(system, "name")?, json::needed(system, "ops")?))
+}
+
+/// The keys of a system.
+struct SystemKeys;
+
+impl Keys for SystemKeys {
+    ghost known = { is_system_key };
+
+    fn is_known(key: &str) -> bool {
+        key == "name"
+            || key == "kind"
+            || key == "ops"
+            || key == "if"
+            || key == "join"
+            || key == "start"
     }
-    let Some(name) = system.get("name") else {
-        return Err(Refusal::Shape);
-    };
-    let Some(ops) = system.get("ops") else {
-        return Err(Refusal::Shape);
-    };
-    Ok((name, ops))
-}
-
-fn are_known(members: &Map<String, Value>) -> bool
-    ensures { result ≡ list_all (λ m. is_system_key (string_bytes m.0)) members.now.entries }
-{
-    members.iter().all(|(key, _)| is_known(key.as_str()))
-}
-
-fn is_known(key: &str) -> bool
-    ensures { result ≡ is_system_key key.now }
-{
-    key == "name" || key == "kind" || key == "ops" || key == "if" || key == "join" || key == "start"
 }
 
 fn read_name(alloc: Global, names: &mut Declarations, name: &Value) -> Result<Name, Refusal>

@@ -8,7 +8,7 @@ pub returns-clause-replayed : goal.returns-clause-replayed
 returns-clause-replayed g c s stands =
     let core = core_taken g.S.System.meaning c.args.self.now c.take.result c.in-Some.core s c.take.ensures.value c.in-Some.is stands in
     replayed g.S.System.meaning c.args.self.now _ c.in-Ok-replay_one.core c.args.frame.now c.args.order.now s c.in-Ok-replay_one.log stands.frames c.end_frame.ensures.core c.end_frame.ensures.counted
-    (c.in-Ok-replay_one.ensures.replayed s core stands.frames)
+    c.replays_tell_a_complete_run.ensures.law core.sound (c.in-Ok-replay_one.ensures.replayed s core stands.frames)
 
 pub returns-clause-engine : goal.returns-clause-engine
 returns-clause-engine g c =

@@ -36,7 +36,7 @@ loop-frame-preserved g c =
 
 pub returns-clause-ran : goal.returns-clause-ran
 returns-clause-ran g c s stands =
-    all_run g.S.System.meaning c.args.frames.now c.loop-frame.frame-index s c.args.out.now.items c.loop-frame.out.items c.args.self.now c.loop-frame.self (omega arith) c.readers_tile.ensures.law stands
+    all_run g.S.System.meaning c.args.frames.now c.loop-frame.frame-index s c.args.out.now.items c.loop-frame.out.items c.args.self.now c.loop-frame.self (omega arith) c.runs_are_complete.ensures.law stands
     (c.loop-frame.invariant.so_far s stands)
 
 pub returns-then-is_err-clause-gate_passed : goal.returns-then-is_err-clause-gate_passed

@@ -1,16 +1,13 @@
-use Rattle.std.proofs.Common.{◌≡◌, ◌∙◌, ◌≤◌, None, ap, sym, subst, length, Err, [], inl, inr}
-use Rattle.std.specs.Prelude.{unwrap_or}
+use Rattle.std.proofs.Common.{◌∙◌, ◌≤◌, ap, sym, subst, length, Err, inl, inr}
+use Rattle.std.specs.Prelude.{All}
 use Rattle.std.proofs.lemmas.Result.{err_from_is_err_and}
 use Rattle.serde_json.specs.View.{view}
 use Rattle.msg_order.specs.Graph.{IsAcyclic, IsLowestOnCycle}
-use Rattle.msg_order.specs.Order.{NameSystemsBelow}
-use Rattle.msg_files.specs.Check.{first_refusal}
-use Rattle.msg_reading.specs.Reading.{edges_of}
-use Rattle.msg_reading.specs.ScenarioChecks.{clash_checks, section_checks}
-use Rattle.msg_reading.specs.ScenarioDenotes.{systems_of}
+use Rattle.msg_order.specs.Order.{NameSystemsBelow, edges_of}
+use Rattle.msg_files.specs.declared.refusal.Refusal.TheVariants.{Clash}
 use Rattle.msg_files.proofs.Shapes.{IfErr_at}
-use Rattle.msg_reading.proofs.Sound.{runnable_of, sections_then, whole_of}
-use Rattle.msg_files.proofs.Walks.{first_refusal-stands}
+use Rattle.msg_reading.specs.Reading.{IsClashing, IsLowestClash, IsUnfit}
+use Rattle.msg_reading.proofs.Sound.{runnable_of, whole_of}
 use Rattle.msg_reading.proofs.scenario.read.read_value.Goals as goal
 
 pub returns-in_err-scenario-clause-refused : goal.returns-in_err-scenario-clause-refused
@@ -22,7 +19,7 @@ returns-in_err-scenario-clause-refused c =
     let refused = c.in_err-scenario.ensures.agrees in
     IfErr_at residual.result e _ (passed.1 ∙ ap (λ f. Err f) passed.2) (
       refused.0,
-      λ m. inl (first_refusal-stands (section_checks d) (clash_checks 0 (unwrap_or (systems_of d) [])) e (refused.1 m)),
+      λ m. inl (refused.1 m),
     )
 
 pub check_clashes-requires : goal.check_clashes-requires
@@ -36,13 +33,16 @@ returns-in_err-check_clashes-clause-refused c =
     let residual = c.from_residual-in_err-check_clashes in
     let passed = err_from_is_err_and residual.result residual.ensures.1 in
     let d = view c.args.value.now in
-    let e = c.in_err-check_clashes.field-0.0 in
+    let s = c.in_ok-scenario.scenario in
     let agrees = c.in_ok-scenario.ensures.agrees in
     let refused = c.in_err-check_clashes.ensures.refused in
-    IfErr_at residual.result e _ (passed.1 ∙ ap (λ f. Err f) passed.2) (
-      refused.0,
-      λ m. inl (sections_then d c.in_ok-scenario.scenario c.as_slice.result.now agrees.0 agrees.1 c.as_slice.ensures.items
-          ∙ refused.1),
+    IfErr_at residual.result (Clash refused.0) _ (passed.1 ∙ ap (λ f. Err f) (passed.2 ∙ refused.1)) (
+      λ same. cc,
+      λ m. inr (
+        s,
+        record { passes = agrees.0; denotes = agrees.1 },
+        subst (λ l. IsLowestClash l refused.0) c.as_slice.ensures.items refused.2,
+      ),
     )
 
 pub check_cycles-requires-clause-few : goal.check_cycles-requires-clause-few
@@ -63,32 +63,26 @@ pub returns-in_err-check_cycles-clause-refused : goal.returns-in_err-check_cycle
 returns-in_err-check_cycles-clause-refused c =
     let residual = c.from_residual-in_err-check_cycles in
     let passed = err_from_is_err_and residual.result residual.ensures.1 in
-    let d = view c.args.value.now in
-    let e = c.in_err-check_cycles.field-0.0 in
     let s = c.in_ok-scenario.scenario in
     let agrees = c.in_ok-scenario.ensures.agrees in
-    let whole = whole_of d s agrees.0 agrees.1 in
     let refused = c.in_err-check_cycles.ensures.refused in
-    let rules = c.as_slice-2.ensures.items ∙ sym (ap (λ o. unwrap_or o []) whole.rules) in
-    IfErr_at residual.result e _ (passed.1 ∙ ap (λ f. Err f) passed.2) (
+    IfErr_at residual.result c.in_err-check_cycles.field-0.0 _ (passed.1 ∙ ap (λ f. Err f) passed.2) (
       refused.0,
-      λ m. inr (record {
-        passes = sections_then d s c.as_slice.result.now agrees.0 agrees.1 c.as_slice.ensures.items
-            ∙ c.in_ok-check_clashes.ensures.passed;
-        system = (refused.1 m).0;
-        names_it = (refused.1 m).1;
-        lowest = subst (λ l. IsLowestOnCycle (edges_of l) (refused.1 m).0) rules (refused.1 m).2;
-      }),
+      λ m. inr (
+        s,
+        record { passes = agrees.0; denotes = agrees.1 },
+        subst (IsUnfit s) (sym (refused.1 m).1) (
+          subst (All (λ x. ¬ IsClashing x)) c.as_slice.ensures.items c.in_ok-check_clashes.ensures.passed,
+          subst (λ l. IsLowestOnCycle (edges_of l) (refused.1 m).0) c.as_slice-2.ensures.items (refused.1 m).2,
+        ),
+      ),
     )
 
 pub returns-clause-ok : goal.returns-clause-ok
 returns-clause-ok c =
-    let d = view c.args.value.now in
-    let s = c.in_ok-scenario.scenario in
     let agrees = c.in_ok-scenario.ensures.agrees in record {
-      passes = sections_then d s c.as_slice.result.now agrees.0 agrees.1 c.as_slice.ensures.items
-          ∙ c.in_ok-check_clashes.ensures.passed;
-      denotes = agrees.1;
+      denotes = record { passes = agrees.0; denotes = agrees.1 };
+      no_clash = subst (All (λ x. ¬ IsClashing x)) c.as_slice.ensures.items c.in_ok-check_clashes.ensures.passed;
       acyclic = subst (λ l. IsAcyclic (edges_of l)) c.as_slice-2.ensures.items c.in_ok-check_cycles.ensures.acyclic;
     }
 
@@ -98,5 +92,5 @@ returns-clause-runnable c =
     let s = c.in_ok-scenario.scenario in
     let agrees = c.in_ok-scenario.ensures.agrees in
     runnable_of d s (whole_of d s agrees.0 agrees.1)
-    (subst (λ systems. first_refusal (clash_checks 0 systems) ≡ None) c.as_slice.ensures.items c.in_ok-check_clashes.ensures.passed)
-    (subst (λ rules. IsAcyclic (edges_of rules)) c.as_slice-2.ensures.items c.in_ok-check_cycles.ensures.acyclic)
+    (subst (All (λ x. ¬ IsClashing x)) c.as_slice.ensures.items c.in_ok-check_clashes.ensures.passed)
+    (subst (λ l. IsAcyclic (edges_of l)) c.as_slice-2.ensures.items c.in_ok-check_cycles.ensures.acyclic)

@@ -1,6 +1,6 @@
 use Rattle.std.proofs.Common.{◌≡◌, ◌+◌, ◌<◌, ◌≤◌, ℕ, List, length, get_or, refl, sym, ap, ◌∙◌, subst, arith, inl, inr}
 use Rattle.msg_frames.specs.declared.frame.Frame.{Frame}
-use Rattle.msg_reading.specs.Runnable.{PostsAreToTypes}
+use Rattle.msg_reading.specs.Runnable.{PostsAreToTypes, state_of}
 use Rattle.msg_files.proofs.Puts.{of_err, on_err, on_err_then, on_ok_then}
 use Rattle.msg_scenario.proofs.Reporting.{accounts_out, frame_put, frame_stopped, just_run, no_memory_for_frame, out_printed, posts_fit, readers_put, readers_stopped, report_begun, stopped_printed}
 use Rattle.msg_scenario.proofs.reports.run.report.Goals as goal
@@ -99,7 +99,8 @@ returns-in-Ok-accounts-clause-ok g c =
     on_ok_then c.put_accounts.result _ _
     (readers_put g.X.System.meaning c.args.scenario.now c.loop-frame.frame-index _ _ _ c.loop-frame.engine c.as_slice.result.now
     c.loop-frame.invariant.so_far (all_run c.args.scenario.now.frames _ _ c.as_slice-frame-items.ensures.items c.loop-frame.auto.frame-index-end c.loop-frame-test.false)
-    (λ u stands. c.as_slice.ensures.value ∙ c.in-Ok-accounts.ensures.accounts u stands))
+    (λ u stands. c.as_slice.ensures.value ∙ c.in-Ok-accounts.ensures.accounts u stands)
+    (c.has_one_run.ensures.complete (state_of c.args.scenario.now) c.requires.engine))
     c.put_accounts.ensures.ok
 
 pub returns-in-Ok-accounts-clause-stopped : goal.returns-in-Ok-accounts-clause-stopped

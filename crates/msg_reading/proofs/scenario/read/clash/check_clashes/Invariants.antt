@@ -1,6 +1,10 @@
-use Rattle.std.proofs.Common.{◌≡◌}
-use Rattle.msg_reading.proofs.Clashes.{ClashesLeft}
+use Rattle.std.proofs.Common.{◌≡◌, take}
+use Rattle.std.specs.Prelude.{All}
+use Rattle.msg_reading.specs.Reading.{IsClashing}
 use Rattle.msg_reading.proofs.scenario.read.clash.check_clashes.Given as goal
 
 abbrev pub invariant-loop-system : goal.invariant-loop-system
-invariant-loop-system l = ClashesLeft l.systems l.s × (l.s ≡ l.system-index)
+invariant-loop-system l = record {
+  number : l.s ≡ l.system-index;
+  none : All (λ x. ¬ IsClashing x) (take l.system-index l.systems);
+}

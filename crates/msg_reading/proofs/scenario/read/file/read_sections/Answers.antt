@@ -1,50 +1,98 @@
-use Rattle.std.proofs.Common.{◌∙◌, ap, Err}
-use Rattle.std.proofs.lemmas.Result.{err_from_is_err_and}
+use Rattle.std.proofs.Common.{refl}
 use Rattle.serde_json.specs.View.{view}
-use Rattle.msg_files.proofs.Shapes.{Agrees_err}
-use Rattle.msg_reading.specs.ScenarioChecks.{section_checks}
+use Rattle.msg_reading.specs.ScenarioChecks.{frames_checks, held_checks, resources_checks, root_object, rules_checks, scenario_checks, systems_checks, types_checks}
 use Rattle.msg_reading.specs.ScenarioDenotes.{scenario_of}
-use Rattle.msg_reading.proofs.Files.{scenario_denoted, sections_pass, sections_refuse_schedule, sections_refuse_world}
+use Rattle.msg_reading.proofs.Files.{from_held, from_resources, from_rules, from_systems, from_types}
+use Rattle.msg_files.proofs.Steps.{also, goes_on, passed_on, stops}
 use Rattle.msg_reading.proofs.scenario.read.file.read_sections.Goals as goal
 
-pub returns-in_err-world : goal.returns-in_err-world
-returns-in_err-world c =
-    let passed = err_from_is_err_and c.from_residual-in_err-world.result c.from_residual-in_err-world.ensures.1 in
+pub returns-in_err-types : goal.returns-in_err-types
+returns-in_err-types c =
+    let d = view c.args.value.now in
+    let e = c.in_err-types.field-0.0 in
     record {
-      agrees = Agrees_err (section_checks (view c.args.value.now))
-          (scenario_of (view c.args.value.now)) c.in_err-world.field-0.0
-          c.from_residual-in_err-world.result (passed.1 ∙ ap (λ r. Err r) passed.2)
-          (sections_refuse_world (view c.args.value.now) c.new-names.result (view c.in_ok-needed.needed.types.now)
-          c.in_ok-needed.ensures.found.0 c.new-names.ensures.empty c.in_ok-needed.ensures.found.1
-          c.in_err-world.field-0.0 c.in_err-world.ensures.agrees);
+      agrees = passed_on (scenario_checks d) (scenario_of d) e c.from_residual-in_err-types.result c.from_residual-in_err-types.ensures.1
+          (goes_on (root_object d) (from_types d) e c.in_ok-needed.ensures.found.0
+          (stops (types_checks d) (from_resources d) e c.in_err-types.ensures.agrees));
     }
 
-pub returns-in_err-schedule : goal.returns-in_err-schedule
-returns-in_err-schedule c =
-    let passed = err_from_is_err_and c.from_residual-in_err-schedule.result c.from_residual-in_err-schedule.ensures.1 in
+pub returns-in_err-resources : goal.returns-in_err-resources
+returns-in_err-resources c =
+    let d = view c.args.value.now in
+    let e = c.in_err-resources.field-0.0 in
     record {
-      agrees = Agrees_err (section_checks (view c.args.value.now))
-          (scenario_of (view c.args.value.now)) c.in_err-schedule.field-0.0
-          c.from_residual-in_err-schedule.result (passed.1 ∙ ap (λ r. Err r) passed.2)
-          (sections_refuse_schedule (view c.args.value.now) c.new-names.result (view c.in_ok-needed.needed.types.now)
-          c.in_ok-needed.ensures.found.0 c.new-names.ensures.empty c.in_ok-needed.ensures.found.1
-          c.read_world.new.names (view c.in_ok-needed.needed.systems.now) (view c.in_ok-needed.needed.frames.now)
-          c.in_ok-world.ensures.declares c.in_ok-needed.ensures.found.2 c.in_ok-needed.ensures.found.3 c.in_ok-world.ensures.agrees.0
-          c.in_err-schedule.field-0.0 c.in_err-schedule.ensures.agrees);
+      agrees = passed_on (scenario_checks d) (scenario_of d) e c.from_residual-in_err-resources.result c.from_residual-in_err-resources.ensures.1
+          (goes_on (root_object d) (from_types d) e c.in_ok-needed.ensures.found.0
+          (goes_on (types_checks d) (from_resources d) e c.in_ok-types.ensures.agrees.0
+          (stops (resources_checks d) (from_held d) e c.in_err-resources.ensures.agrees)));
+    }
+
+pub returns-in_err-held : goal.returns-in_err-held
+returns-in_err-held c =
+    let d = view c.args.value.now in
+    let e = c.in_err-held.field-0.0 in
+    record {
+      agrees = passed_on (scenario_checks d) (scenario_of d) e c.from_residual-in_err-held.result c.from_residual-in_err-held.ensures.1
+          (goes_on (root_object d) (from_types d) e c.in_ok-needed.ensures.found.0
+          (goes_on (types_checks d) (from_resources d) e c.in_ok-types.ensures.agrees.0
+          (goes_on (resources_checks d) (from_held d) e c.in_ok-resources.ensures.agrees.0
+          (stops (held_checks d) (from_systems d) e (c.in_err-held.ensures.agrees.0, λ m. c.in_err-held.ensures.agrees.1)))));
+    }
+
+pub returns-in_err-systems : goal.returns-in_err-systems
+returns-in_err-systems c =
+    let d = view c.args.value.now in
+    let e = c.in_err-systems.field-0.0 in
+    record {
+      agrees = passed_on (scenario_checks d) (scenario_of d) e c.from_residual-in_err-systems.result c.from_residual-in_err-systems.ensures.1
+          (goes_on (root_object d) (from_types d) e c.in_ok-needed.ensures.found.0
+          (goes_on (types_checks d) (from_resources d) e c.in_ok-types.ensures.agrees.0
+          (goes_on (resources_checks d) (from_held d) e c.in_ok-resources.ensures.agrees.0
+          (goes_on (held_checks d) (from_systems d) e c.in_ok-held.ensures.agrees.0
+          (stops (systems_checks d) (from_rules d) e c.in_err-systems.ensures.agrees)))));
+    }
+
+pub returns-in_err-rules : goal.returns-in_err-rules
+returns-in_err-rules c =
+    let d = view c.args.value.now in
+    let e = c.in_err-rules.field-0.0 in
+    record {
+      agrees = passed_on (scenario_checks d) (scenario_of d) e c.from_residual-in_err-rules.result c.from_residual-in_err-rules.ensures.1
+          (goes_on (root_object d) (from_types d) e c.in_ok-needed.ensures.found.0
+          (goes_on (types_checks d) (from_resources d) e c.in_ok-types.ensures.agrees.0
+          (goes_on (resources_checks d) (from_held d) e c.in_ok-resources.ensures.agrees.0
+          (goes_on (held_checks d) (from_systems d) e c.in_ok-held.ensures.agrees.0
+          (goes_on (systems_checks d) (from_rules d) e c.in_ok-systems.ensures.agrees.0
+          (stops (rules_checks d) (frames_checks d) e c.in_err-rules.ensures.agrees))))));
+    }
+
+pub returns-in_err-frames : goal.returns-in_err-frames
+returns-in_err-frames c =
+    let d = view c.args.value.now in
+    let e = c.in_err-frames.field-0.0 in
+    record {
+      agrees = passed_on (scenario_checks d) (scenario_of d) e c.from_residual-in_err-frames.result c.from_residual-in_err-frames.ensures.1
+          (goes_on (root_object d) (from_types d) e c.in_ok-needed.ensures.found.0
+          (goes_on (types_checks d) (from_resources d) e c.in_ok-types.ensures.agrees.0
+          (goes_on (resources_checks d) (from_held d) e c.in_ok-resources.ensures.agrees.0
+          (goes_on (held_checks d) (from_systems d) e c.in_ok-held.ensures.agrees.0
+          (goes_on (systems_checks d) (from_rules d) e c.in_ok-systems.ensures.agrees.0
+          (goes_on (rules_checks d) (frames_checks d) e c.in_ok-rules.ensures.agrees.0
+          c.in_err-frames.ensures.agrees))))));
     }
 
 pub returns : goal.returns
-returns c = record {
-  agrees = (
-    sections_pass (view c.args.value.now) c.new-names.result (view c.in_ok-needed.needed.types.now)
-        c.in_ok-needed.ensures.found.0 c.new-names.ensures.empty c.in_ok-needed.ensures.found.1
-        c.read_world.new.names (view c.in_ok-needed.needed.systems.now) (view c.in_ok-needed.needed.frames.now)
-        c.in_ok-world.ensures.declares c.in_ok-needed.ensures.found.2 c.in_ok-needed.ensures.found.3 c.in_ok-world.ensures.agrees.0
-        c.in_ok-schedule.ensures.agrees.0,
-    scenario_denoted (view c.args.value.now) c.new-names.result (view c.in_ok-needed.needed.types.now)
-        c.in_ok-needed.ensures.found.0 c.new-names.ensures.empty c.in_ok-needed.ensures.found.1
-        c.read_world.new.names (view c.in_ok-needed.needed.systems.now) (view c.in_ok-needed.needed.frames.now)
-        c.in_ok-world.ensures.declares c.in_ok-needed.ensures.found.2 c.in_ok-needed.ensures.found.3 c.in_ok-world.ensures.agrees.0
-        c.in_ok-world.world c.in_ok-schedule.schedule c.in_ok-world.ensures.agrees.1 c.in_ok-schedule.ensures.agrees.1,
-  );
-}
+returns c =
+    let d = view c.args.value.now in
+    record {
+      agrees = (
+        also (root_object d) (from_types d) c.in_ok-needed.ensures.found.0
+            (also (types_checks d) (from_resources d) c.in_ok-types.ensures.agrees.0
+            (also (resources_checks d) (from_held d) c.in_ok-resources.ensures.agrees.0
+            (also (held_checks d) (from_systems d) c.in_ok-held.ensures.agrees.0
+            (also (systems_checks d) (from_rules d) c.in_ok-systems.ensures.agrees.0
+            (also (rules_checks d) (frames_checks d) c.in_ok-rules.ensures.agrees.0
+            c.in_ok-frames.ensures.agrees.0))))),
+        rw (c.in_ok-types.ensures.agrees.1, c.in_ok-resources.ensures.agrees.1, c.in_ok-held.ensures.agrees.1, c.in_ok-systems.ensures.agrees.1, c.in_ok-rules.ensures.agrees.1, c.in_ok-frames.ensures.agrees.1) refl,
+      );
+    }

@@ -7,7 +7,7 @@ use Rattle.msg_files.specs.Check.{needs}
 use Rattle.msg_reading.specs.ScenarioChecks.{fits_kind, list_checks, op_checks}
 use Rattle.msg_reading.specs.ScenarioDenotes.{each_of, op_of}
 use Rattle.msg_files.specs.declared.refusal.Refusal.TheVariants.{Shape}
-use Rattle.msg_reading.proofs.Parts.{stops}
+use Rattle.msg_files.proofs.Steps.{stops}
 use Rattle.msg_files.proofs.Shapes.{Agrees_err}
 use Rattle.msg_reading.proofs.Systems.{of_kind, ops_of_kind, other_kind}
 use Rattle.msg_reading.proofs.scenario.read.system.read_ops.Goals as goal

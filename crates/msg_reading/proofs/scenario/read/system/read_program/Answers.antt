@@ -6,7 +6,8 @@ use Rattle.msg_files.specs.Check.{needs}
 use Rattle.msg_reading.specs.ScenarioChecks.{place_checks, program_checks}
 use Rattle.msg_reading.specs.ScenarioDenotes.{each_of, op_of, start_in, start_of}
 use Rattle.msg_files.specs.declared.refusal.Refusal.TheVariants.{Shape}
-use Rattle.msg_reading.proofs.Parts.{goes_on, is_shape, refuses_as, refuses_by, stops}
+use Rattle.msg_files.proofs.Steps.{goes_on, refuses_by, stops}
+use Rattle.msg_reading.proofs.Parts.{is_shape, refuses_as}
 use Rattle.msg_files.proofs.Shapes.{IfErr_at}
 use Rattle.msg_reading.proofs.Systems.{after_ops, ops_of_kind, program_from, start_is}
 use Rattle.msg_files.proofs.Walks.{first_refusal-passed}

@@ -4,7 +4,7 @@ use Rattle.serde_json.specs.View.{view}
 use Rattle.msg_files.specs.Check.{first_refusal}
 use Rattle.msg_reading.specs.ScenarioChecks.{program_checks, system_checks}
 use Rattle.msg_reading.specs.ScenarioDenotes.{ops_of, place_of, system_of}
-use Rattle.msg_reading.proofs.Parts.{refuses_by}
+use Rattle.msg_files.proofs.Steps.{refuses_by}
 use Rattle.msg_files.proofs.Shapes.{Agrees_err}
 use Rattle.msg_reading.proofs.Systems.{system_denoted, system_misnamed, system_named}
 use Rattle.msg_reading.proofs.scenario.read.system.SystemSpecDeclaration.read.Goals as goal

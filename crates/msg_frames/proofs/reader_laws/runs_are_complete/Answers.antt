@@ -1,0 +1,8 @@
+use Rattle.msg_frames.proofs.HistoriesGrow.{buffer_laws}
+use Rattle.msg_frames.proofs.ReaderOverRun.{runs_are_complete}
+use Rattle.msg_frames.proofs.reader_laws.runs_are_complete.Goals as goal
+
+pub returns : goal.returns
+returns c = record {
+  law = runs_are_complete (buffer_laws c.histories_only_grow.ensures.grows c.readers_tile.ensures.reads c.readers_tile.ensures.clears);
+}
