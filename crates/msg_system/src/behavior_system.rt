@@ -9,8 +9,8 @@ ghost use Rattle.msg_system.specs.Promises.{Covers};
 ghost use Rattle.msg_system.specs.Systems.{start_place};
 
 use crate::behavior::Behavior;
-use crate::scripted::{run_op, start_cursor};
-use crate::{Access, Items, NoMemory, Op, Reply, Start, System};
+use crate::scripted::{new_cursors, run_op, start_cursor};
+use crate::{Access, Items, NoMemory, Numbered, Op, Reply, Start, System};
 use msg_buffer::MessageCursor;
 use msg_world::{Counts, Lent, Taken, TypeNo};
 use std::alloc::Global;
@@ -118,7 +118,7 @@ impl<B: Behavior + Send> BehaviorSystem<B> {
             access,
             start,
             writer,
-            cursors: [MessageCursor::new(0); 64],
+            cursors: new_cursors(),
             last: Items::from_vec(Vec::new(alloc)),
         }
     }
@@ -167,5 +167,12 @@ impl<B: Behavior + Send> System for BehaviorSystem<B> {
         self.behavior
             .remember(alloc, since(out.as_slice(), before))?;
         Ok(lent.into_taken())
+    }
+}
+
+impl<B: Behavior + Send> Numbered for BehaviorSystem<B> {
+    fn set_number(&mut self, number: u32) {
+        self.writer = number;
+        self.cursors = new_cursors();
     }
 }

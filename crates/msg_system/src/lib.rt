@@ -9,6 +9,7 @@ mod items;
 mod job;
 mod laws;
 mod lending;
+mod numbered;
 mod op;
 mod program;
 mod reading;
@@ -33,6 +34,7 @@ pub use laws::{
 };
 pub use msg_buffer::NoMemory;
 pub use msg_world::Access;
+pub use numbered::Numbered;
 pub use op::Op;
 pub use program::Program;
 pub use relay::Relay;

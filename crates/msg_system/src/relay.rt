@@ -1,7 +1,7 @@
 ghost use Rattle.std.specs.Prelude.{◌≡◌};
 
 use crate::scripted::start_cursor;
-use crate::{Access, NoMemory, Reply, Start, System, steps};
+use crate::{Access, NoMemory, Numbered, Reply, Start, System, steps};
 use msg_buffer::MessageCursor;
 use msg_world::{Counts, Lent, Taken, TypeNo};
 use std::alloc::Global;
@@ -67,5 +67,12 @@ impl System for Relay {
         let cursor = &mut self.cursor;
         out.push(steps::forward(alloc, &mut lent, self.writer, from, to, cursor)?)?;
         Ok(lent.into_taken())
+    }
+}
+
+impl Numbered for Relay {
+    fn set_number(&mut self, number: u32) {
+        self.writer = number;
+        self.cursor = MessageCursor::new(0);
     }
 }

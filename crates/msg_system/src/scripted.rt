@@ -7,7 +7,7 @@ ghost use Rattle.msg_system.specs.inner.OpRuns.{HasReplies, MayBeRefused, OpRan,
 ghost use Rattle.msg_system.specs.Promises.{Covers};
 ghost use Rattle.msg_system.specs.Systems.{start_place};
 
-use crate::{Access, NoMemory, Op, Program, Reply, Start, System, steps};
+use crate::{Access, NoMemory, Numbered, Op, Program, Reply, Start, System, steps};
 use msg_buffer::MessageCursor;
 use msg_world::{Counts, Lent, Taken, TypeNo};
 use std::alloc::Global;
@@ -72,6 +72,13 @@ fn run_ops(
     Ok(())
 }
 
+/// Cursors that have read nothing.
+pub(crate) fn new_cursors() -> [MessageCursor; 64]
+    ensures nothing_read { places_of result ≡ λ t. 0 }
+{
+    [MessageCursor::new(0); 64]
+}
+
 /// Where a cursor of this type starts.
 pub(crate) fn start_cursor(start: Start, counts: &Counts, t: TypeNo) -> MessageCursor
     ensures place { result ≡ start_place start counts.now t }
@@ -115,7 +122,7 @@ impl Scripted {
         Scripted {
             program,
             writer,
-            cursors: [MessageCursor::new(0); 64],
+            cursors: new_cursors(),
         }
     }
 }
@@ -152,5 +159,12 @@ impl System for Scripted {
         let ops = self.program.ops.as_slice();
         run_ops(alloc, ops, self.writer, &mut self.cursors, &mut lent, out)?;
         Ok(lent.into_taken())
+    }
+}
+
+impl Numbered for Scripted {
+    fn set_number(&mut self, number: u32) {
+        self.writer = number;
+        self.cursors = new_cursors();
     }
 }
