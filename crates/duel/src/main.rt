@@ -2,7 +2,7 @@
 //! and run on four workers.
 #![tactic(auto)]
 
-ghost use Rattle.std.specs.Prelude.{◌≡◌, ◌<◌, [], IfOk, length, map};
+ghost use Rattle.std.specs.Prelude.{[], IfOk, length, map};
 ghost use Rattle.msg_world.specs.Parts.{IsWhole, PartsStand};
 ghost use Rattle.msg_world.specs.World.{WorldState};
 ghost use Rattle.msg_frames.specs.FirstState.{first_state};
@@ -11,60 +11,42 @@ ghost use Rattle.msg_exec.specs.Engines.{HasRunFrames};
 
 mod role;
 
-use msg_exec::{EngineBuilder, EngineOf, Frame, Items, Log, NoGate, Outcome, Workers};
+use msg_exec::{EngineBuilder, EngineOf, Frame, Items, Log, NoGate, Workers};
 use msg_order::Rule;
 use msg_system::{BehaviorSystem, Condition, Probe, System};
 use msg_world::{ResNo, TypeNo, World};
-use role::Role;
+use role::{Fighter, Role};
 use std::alloc::Global;
 use std::thread::Threads;
-
-/// More than enough for two to fall.
-const FRAMES: u32 = 8;
-
-fn type_no(number: u32) -> TypeNo
-    requires few { number < 64 }
-    ensures number { result ≡ number }
-{
-    let Some(t) = TypeNo::new(number) else {
-        unreachable!()
-    };
-    t
-}
-
-/// The resource that has how many fell.
-fn fallen() -> ResNo {
-    let Some(r) = ResNo::new(0) else {
-        unreachable!()
-    };
-    r
-}
 
 /// Three fighters in a ring, each until two have fallen, the third from frame 3 on; and a referee,
 /// who counts before they strike. Type i has the blows to fighter i, type 3 the falls.
 fn ring(alloc: Global) -> anyhow::Result<EngineBuilder<BehaviorSystem<Role>>> {
-    let falls = type_no(3);
+    let (falls, fallen) = (TypeNo::new(3).unwrap(), ResNo::new(0).unwrap());
     let mut ring = EngineBuilder::new(alloc);
     for number in 0..3u32 {
-        let fighter = Role::Fighter {
-            blows: type_no(number),
-            rival: type_no((number + 1) % 3),
+        let fighter = Fighter {
+            blows: TypeNo::new(number).unwrap(),
+            rival: TypeNo::new((number + 1) % 3).unwrap(),
             falls,
             health: 3,
         };
-        let until_two_fell = Condition {
-            nots: 1,
-            probe: Probe::ResourceEquals(fallen(), 2),
-        };
+        let two_fell = Probe::ResourceEquals(fallen, 2);
+        let until = vec![in alloc;
+            Condition {
+                nots: 1,
+                probe: two_fell
+            },
+        ]?;
         let join = if number == 2 { 3 } else { 1 };
-        ring.add_system(fighter.system(alloc), vec![in alloc; until_two_fell]?, join)?;
+        ring.add_system(Role::Fighter(fighter).system(alloc), until, join)?;
         ring.add_rule(Rule::before(3, number))?;
     }
-    let referee = Role::Referee {
-        falls,
-        fallen: fallen(),
-    };
-    ring.add_system(referee.system(alloc), Vec::new(alloc), 1)?;
+    ring.add_system(
+        Role::Referee(falls, fallen).system(alloc),
+        Vec::new(alloc),
+        1,
+    )?;
     Ok(ring)
 }
 
@@ -94,21 +76,17 @@ fn fight<R: Threads + Sync>(
     Ok((engine, logs))
 }
 
-/// Tells who took a turn in each frame, and what each reader was given.
-fn tell(
-    rt: &impl Print,
-    engine: &EngineOf<BehaviorSystem<Role>>,
-    logs: &[Log],
-) -> anyhow::Result<()> {
-    for log in logs {
-        print!(rt; "turns:")?;
-        for turn in log.turns.as_slice() {
-            if let Outcome::Ran(_) = turn.outcome {
-                print!(rt; " {}", turn.system)?;
-            }
-        }
-        println!(rt;)?;
+fn main(rt: HostRuntime) -> anyhow::Result<()> {
+    let (alloc, workers) = (rt.alloc(), Workers::new(4).unwrap());
+    let world = World::new(alloc, &[100; 4], &[0])?;
+    let mut frames = Vec::new(alloc);
+    for _ in 0..8 {
+        frames.push(Frame {
+            posts: Items::from_vec(Vec::new(alloc)),
+        })?;
     }
+    let (engine, logs) = fight(&rt, alloc, ring(alloc)?, world, &frames, workers)?;
+    println!(rt; "frames {}", logs.len())?;
     for account in engine.accounts()? {
         println!(rt;
             "system {} got {} missed {}",
@@ -116,20 +94,4 @@ fn tell(
         )?;
     }
     Ok(())
-}
-
-fn main(rt: HostRuntime) -> anyhow::Result<()> {
-    let alloc = rt.alloc();
-    let world = World::new(alloc, &[100; 4], &[0])?;
-    let mut frames = Vec::new(alloc);
-    for _ in 0..FRAMES {
-        frames.push(Frame {
-            posts: Items::from_vec(Vec::new(alloc)),
-        })?;
-    }
-    let Some(workers) = Workers::new(4) else {
-        unreachable!()
-    };
-    let (engine, logs) = fight(&rt, alloc, ring(alloc)?, world, &frames, workers)?;
-    tell(&rt, &engine, &logs)
 }
