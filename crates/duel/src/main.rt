@@ -31,22 +31,17 @@ fn ring(alloc: Global) -> anyhow::Result<EngineBuilder<BehaviorSystem<Role>>> {
             falls,
             health: 3,
         };
-        let two_fell = Probe::ResourceEquals(fallen, 2);
-        let until = vec![in alloc;
-            Condition {
-                nots: 1,
-                probe: two_fell
-            },
-        ]?;
+        let until_two_fell = Condition {
+            nots: 1,
+            probe: Probe::ResourceEquals(fallen, 2),
+        };
         let join = if number == 2 { 3 } else { 1 };
-        ring.add_system(Role::Fighter(fighter).system(alloc), until, join)?;
+        let conditions = vec![in alloc; until_two_fell]?;
+        ring.add_system(Role::Fighter(fighter).system(alloc), conditions, join)?;
         ring.add_rule(Rule::before(3, number))?;
     }
-    ring.add_system(
-        Role::Referee(falls, fallen).system(alloc),
-        Vec::new(alloc),
-        1,
-    )?;
+    let referee = Role::Referee(falls, fallen).system(alloc);
+    ring.add_system(referee, Vec::new(alloc), 1)?;
     Ok(ring)
 }
 
@@ -69,9 +64,10 @@ fn fight<R: Threads + Sync>(
 {
     let mut engine = ring.build(world)?;
     let mut logs = Vec::new(alloc);
-    if !engine.all_fit(frames) {
-        anyhow::bail!("a post is to a type that isn't there");
-    }
+    anyhow::ensure!(
+        engine.all_fit(frames),
+        "a post is to a type that isn't there"
+    );
     engine.run_frames(rt, frames, workers, &NoGate, &mut logs)?;
     Ok((engine, logs))
 }
@@ -85,8 +81,7 @@ fn main(rt: HostRuntime) -> anyhow::Result<()> {
             posts: Items::from_vec(Vec::new(alloc)),
         })?;
     }
-    let (engine, logs) = fight(&rt, alloc, ring(alloc)?, world, &frames, workers)?;
-    println!(rt; "frames {}", logs.len())?;
+    let (engine, _logs) = fight(&rt, alloc, ring(alloc)?, world, &frames, workers)?;
     for account in engine.accounts()? {
         println!(rt;
             "system {} got {} missed {}",

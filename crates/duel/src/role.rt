@@ -27,16 +27,13 @@ pub enum Role {
 impl Role {
     /// A system of this role, which a builder numbers.
     pub fn system(self, alloc: Global) -> BehaviorSystem<Role> {
+        let none = Access::none();
         let access = match &self {
-            Role::Fighter(f) => Access::none()
+            Role::Fighter(f) => none
                 .with_read_type(f.blows)
                 .with_write_type(f.rival)
                 .with_write_type(f.falls),
-            Role::Referee(falls, fallen) => {
-                Access::none()
-                    .with_read_type(*falls)
-                    .with_write_res(*fallen)
-            }
+            Role::Referee(falls, fallen) => none.with_read_type(*falls).with_write_res(*fallen),
         };
         BehaviorSystem::new(alloc, self, access, Start::Zero, 0)
     }

@@ -2,8 +2,8 @@ use Rattle.std.proofs.Common.{◌++◌, ap, ◌∙◌}
 use Rattle.duel.proofs.fight.Goals as goal
 
 -- the logs stand after none
-pub returns : goal.returns
-returns g c = record {
+pub returns-2 : goal.returns-2
+returns-2 g c = record {
   one_thread = λ w stands.
       let ran = c.in_ok-run_frames.ensures.ran _ (c.in_ok-engine.ensures.meaning w stands) in record {
         logs = ran.logs;
