@@ -13,7 +13,8 @@ use Rattle.msg_system.specs.declared.reply.Reply.{Reply}
 use Rattle.msg_system.specs.declared.start.Start.{Start}
 use Rattle.msg_system.specs.Behaviors.{behaves}
 use Rattle.msg_system.specs.Needs.{Needs, is_resource, op_needs}
-use Rattle.msg_system.specs.inner.OpRuns.{AreAnswered, IsAfterOp, IsAfterProgram, OpRan, TurnRan, next_kept}
+use Rattle.msg_system.specs.OpRuns.{IsAfterOp, OpRan}
+use Rattle.msg_system.specs.inner.TurnRuns.{AreAnswered, IsAfterProgram, TurnRan, next_kept}
 use Rattle.msg_system.specs.Programs.{AfterOp, AfterProgram, after_op}
 use Rattle.msg_system.specs.Promises.{Covers, Ran}
 use Rattle.msg_system.specs.Systems.{Meaning, after_at_most, one_more, op_list, ops_answered, turn}

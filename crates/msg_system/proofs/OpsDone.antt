@@ -13,7 +13,7 @@ use Rattle.msg_world.specs.World.{WorldState, with_history, with_value_of}
 use Rattle.msg_system.specs.declared.op.Op.TheVariants.{Forward, Sum}
 use Rattle.msg_system.specs.declared.reply.Reply.TheVariants as reply
 use Rattle.msg_system.specs.declared.reply.Took.{Took}
-use Rattle.msg_system.specs.inner.OpRuns.{IsAfterOp}
+use Rattle.msg_system.specs.OpRuns.{IsAfterOp}
 use Rattle.msg_system.specs.Programs.{after_op, again_by, numbers_for, place_after_read, sets_to, sum_onto, took, with_place, write_reply, writes_all}
 
 -- what was taken is as long as what was given

@@ -10,12 +10,14 @@ use Rattle.msg_world.specs.Access.{Part, OfType, OfResource, Registry, reads, sa
 use Rattle.msg_world.specs.Loan.{LoanStands, SameLoan, shown, taken_of, writable}
 use Rattle.msg_world.specs.Parts.{Parts, StuffStands, slot}
 use Rattle.msg_world.specs.World.{WorldState, content}
+use Rattle.msg_system.specs.declared.cursors.Cursors.{Cursors}
 use Rattle.msg_system.specs.declared.op.Op.{Op}
 use Rattle.msg_system.specs.declared.reply.Reply.{Reply}
 use Rattle.msg_system.specs.Needs.{Needs, is_part, is_resource, op_needs, op_parts, program_needs, some_op_reads, some_op_writes}
-use Rattle.msg_system.specs.inner.OpRuns.{HasReplies, IsAfterOp, IsAfterProgram, OpRan, one_place, places_of}
+use Rattle.msg_system.specs.OpRuns.{IsAfterOp, OpRan, places_of}
+use Rattle.msg_system.specs.inner.TurnRuns.{HasReplies, IsAfterProgram}
 use Rattle.msg_system.specs.Programs.{AfterOp, AfterProgram, after_op, after_program, with_place}
-use Rattle.msg_system.specs.Promises.{CompleteCovers, Covers, WrittenIsAll, WrittenStand}
+use Rattle.msg_system.specs.Promises.{CompleteCovers, Covers, OneOpIsCovered, WrittenIsAll, WrittenStand}
 use Rattle.msg_system.proofs.Lendings.{can_be_shown}
 
 pub same_part_refl : (p : Part) → same_part p p ≡ true
@@ -31,14 +33,17 @@ covers_read op l p covers is = covers.reads p (ap (λ q. is_part q p) is ∙ sam
 pub covers_written : (op : Op) (l : Lent) (p : Part) → Covers (op_needs op) l → (op_parts op).written ≡ Some p → IsSome (writable p l)
 covers_written op l p covers is = covers.writes p (ap (λ q. is_part q p) is ∙ same_part_refl p)
 
--- the places after one cursor was moved
-pub cursor_set : (cursors : List ℕ) (t place : ℕ) → t < length cursors → places_of (slice_set cursors t place) ≡ with_place (places_of cursors) t place
-cursor_set cursors t place lt = λ k u. at u k
+-- the cursors, after the one in a type was moved
+abbrev pub moved : Cursors → ℕ → ℕ → Cursors
+moved cs t place = record { by_type = slice_set cs.by_type t place }
+
+moved_place : (cs : Cursors) (t place : ℕ) → t < length cs.by_type → places_of (moved cs t place) ≡ with_place (places_of cs) t place
+moved_place cs t place lt = λ k u. at u k
   where
-    at : (u : ℕ) → places_of (slice_set cursors t place) u ≡ with_place (places_of cursors) t place u
+    at : (u : ℕ) → places_of (moved cs t place) u ≡ with_place (places_of cs) t place u
     at u = elim (cases_eq u t) [
-      | inl e ↦ rw (e, get_or-set_same cursors t place 0 lt, eq-eqb t t refl) refl
-      | inr ne ↦ rw (get_or-set_other cursors t u place 0 ne, ne_eqb u t ne) refl
+      | inl e ↦ rw (e, get_or-set_same cs.by_type t place 0 lt, eq-eqb t t refl) refl
+      | inr ne ↦ rw (get_or-set_other cs.by_type t u place 0 ne, ne_eqb u t ne) refl
     ]
 
 pub if_ok : {T E : Type 0} (r : Result T E) (P Q : T → Type 0) → ((x : T) → P x → Q x) → IfOk r P → IfOk r Q
@@ -49,24 +54,17 @@ pub on_err_then : {T E : Type 0} (r : Result T E) (P Q : Type 0) → (P → Q) �
 on_err_then (Ok x) P Q f h = tt
 on_err_then (Err e) P Q f h = f h
 
--- the place in a type, as its cursor is read
-pub place_at : (cursors : List ℕ) (t k d : ℕ) → length cursors ≡ 64 → k ≡ t → t < 64 → places_of cursors t ≡ get_or cursors k d
-place_at cursors t k d long is lt = rw is (get_or_default cursors t 0 d (omega (arith, long, lt)))
+-- one of the cursors of all types, as the array has it
+module _ (cs : Cursors) (t k d : ℕ) (long : length cs.by_type ≡ 64) (is : k ≡ t) (lt : t < 64) where
+  pub place_at : places_of cs t ≡ get_or cs.by_type k d
+  place_at = rw is (get_or_default cs.by_type t 0 d (omega (arith, long, lt)))
 
--- an op of one cursor, among the cursors of all types
-pub ran_at : (op : Op) (w : ℕ) (cursors : List ℕ) (t k d new : ℕ) (l m : Lent) (r : Reply) → length cursors ≡ 64 → k ≡ t → t < 64
-    → ((places : ℕ → ℕ) → places t ≡ get_or cursors k d → OpRan op w places (with_place places t new) l m r)
-    → OpRan op w (places_of cursors) (places_of (slice_set cursors k new)) l m r
-ran_at op w cursors t k d new l m r long is lt ran =
-    let within : t < length cursors = omega (arith, long, lt) in
-    rw is (subst (λ (places : ℕ → ℕ). OpRan op w (places_of cursors) places l m r) (sym (cursor_set cursors t new within)) (ran (places_of cursors) (place_at cursors t k d long is lt)))
-
--- the same reading op without another place
-pub answered_at : (op : Op) (w : ℕ) (cursors : List ℕ) (t k d : ℕ) (l m : Lent) (r : Reply) → length cursors ≡ 64 → k ≡ t → t < 64
-    → ((places : ℕ → ℕ) → places t ≡ get_or cursors k d → OpRan op w places places l m r)
-    → OpRan op w (places_of cursors) (places_of cursors) l m r
-answered_at op w cursors t k d l m r long is lt ran =
-    ran (places_of cursors) (place_at cursors t k d long is lt)
+  -- an op that moves it
+  pub ran_at : (op : Op) (w new : ℕ) (l m : Lent) (r : Reply) → ((places : ℕ → ℕ) → places t ≡ get_or cs.by_type k d → OpRan op w places (with_place places t new) l m r)
+      → OpRan op w (places_of cs) (places_of (moved cs k new)) l m r
+  ran_at op w new l m r ran =
+      let within : t < length cs.by_type = omega (arith, long, lt) in
+      rw is (subst (λ (places : ℕ → ℕ). OpRan op w (places_of cs) places l m r) (sym (moved_place cs t new within)) (ran (places_of cs) place_at))
 
 -- ---- a loan that covers, after a change of what it lets be written
 
@@ -148,16 +146,6 @@ written_stand l m taken s same is stands p written =
     let Q : Bool → Type 0 = λ b. IfSome (if b then slot p m.taken else if reads m.access p then slot p m.world.now else None) (λ k. StuffStands p k (content p s)) in
     subst P (sym is) (subst Q (ap (λ (a : Access). writes a p) same.access ∙ written) (stands p))
 
-pub one_place_moved : (t old new : ℕ) → with_place (one_place t old) t new ≡ one_place t new
-one_place_moved t old new = λ k u. at (u == t) k
-  where
-    at : (b : Bool) → (if b then new else if b then old else 0) ≡ (if b then new else 0)
-    at true = refl
-    at false = refl
-
-pub one_place_at : (t place : ℕ) → one_place t place t ≡ place
-one_place_at t place = rw (eq-eqb t t refl) refl
-
 -- one reply more
 pub one_reply_more : (before after : List Reply) (n : ℕ) (r : Reply) → HasReplies before after n → HasReplies before (after ++ r ∷ []) (n + 1)
 one_reply_more before after n r has = (
@@ -166,11 +154,8 @@ one_reply_more before after n r has = (
   length-append has.0 (r ∷ []) ∙ ap (λ k. k + 1) has.2,
 )
 
-pub only_covers_read : (op : Op) (l : Lent) (p : Part) → Covers (program_needs (op ∷ [])) l → (op_parts op).read ≡ Some p → IsSome (shown p l)
-only_covers_read op l p covers is = covers_read op l p (covers_op (op ∷ []) 0 op l (omega arith) refl covers) is
-
-pub only_covers_written : (op : Op) (l : Lent) (p : Part) → Covers (program_needs (op ∷ [])) l → (op_parts op).written ≡ Some p → IsSome (writable p l)
-only_covers_written op l p covers is = covers_written op l p (covers_op (op ∷ []) 0 op l (omega arith) refl covers) is
+pub one_op_is_covered : OneOpIsCovered
+one_op_is_covered op l covers = covers_op (op ∷ []) 0 op l (omega arith) refl covers
 
 pub written_is_all : WrittenIsAll
 written_is_all l taken s none stands p = elim (cases_Bool (writes l.access p)) [

@@ -1,7 +1,6 @@
 -- Turns by rules.
 use Rattle.std.proofs.Common.{◌≡◌, ℕ, zero, suc, ◌+◌, ◌<◌, ◌≤◌, ◌++◌, Bool, true, false, not, ◌&&◌, ◌||◌, List, [], ◌∷◌, length, Option, Some, None, take, drop, refl, sym, ap, subst, ◌∙◌, arith, inl, inr, append_assoc}
 use Rattle.std.specs.Prelude.{IsTrue, slice_get, if◌then◌else◌}
-use Rattle.std.proofs.Math.Bool.{and-true}
 use Rattle.std.proofs.Math.Seq.{drop-append_seam}
 use Rattle.std.proofs.lemmas.Bool.{and_from, and_parts, cases_Bool, eqb-true, false≢true}
 use Rattle.std.proofs.lemmas.List.{append-nil, length-take-le, take_more, take_all}
@@ -17,11 +16,11 @@ use Rattle.msg_system.specs.declared.program.Program.{Program}
 use Rattle.msg_system.specs.declared.reply.Reply.{Reply}
 use Rattle.msg_system.specs.declared.start.Start.{Start}
 use Rattle.msg_system.specs.Needs.{Needs, is_none_or, is_part, is_resource, keeps_to, may_read, op_needs, op_parts, program_needs, some_op_reads, some_op_writes}
-use Rattle.msg_system.specs.inner.OpRuns.{HasReplies, OpRan, ProgramRan, one_place}
-use Rattle.msg_system.specs.Programs.{AfterOp, AfterProgram, after_op, after_program, with_place}
-use Rattle.msg_system.specs.Promises.{Ran, WrittenStand}
+use Rattle.msg_system.specs.inner.TurnRuns.{HasReplies, ProgramRan}
+use Rattle.msg_system.specs.Programs.{AfterOp, AfterProgram, after_op, after_program}
+use Rattle.msg_system.specs.Promises.{OneOpIsATurn, Ran, WrittenStand}
 use Rattle.msg_system.specs.Systems.{IsInOrder, Meaning, after_at_most, if_kept, next_op, of_program, one_more, only, op_list, ops_answered, turn}
-use Rattle.msg_system.proofs.Runs.{after_program-snoc, one_place_at, one_place_moved, same_part_refl, written_stand}
+use Rattle.msg_system.proofs.Runs.{after_program-snoc, same_part_refl, written_stand}
 
 -- ---- a program keeps to what it needs
 
@@ -182,26 +181,11 @@ ran_program program w ps qs l m taken before after few ran replies same is =
       places = λ s stands. (ran s stands).same_places ∙ ap (λ (e : AfterProgram). e.places) (sym (as_turn s));
     }
 
--- of one op
-pub ran_only : (op : Op) (start : Start) (w : ℕ) (ps qs : ℕ → ℕ) (l m : Lent) (taken : Parts) (before : List Reply) (r : Reply)
-    → OpRan op w ps qs l m r → SameLoan l m → taken ≡ taken_of m
-    → Ran (of_program (only op start) w ps) (of_program (only op start) w qs) l taken before (before ++ r ∷ [])
-ran_only op start w ps qs l m taken before r ran same is =
-    ran_program (only op start) w ps qs l m taken before (before ++ r ∷ []) (omega arith)
+pub one_op_is_a_turn : OneOpIsATurn
+one_op_is_a_turn op start w ps qs l m before r ran same =
+    ran_program (only op start) w ps qs l m (taken_of m) before (before ++ r ∷ []) (omega arith)
     (λ s stands. record {
       same_places = (ran s stands).same_places;
       stands = (ran s stands).stands;
       same_replies = ap (λ x. before ++ x ∷ []) (ran s stands).same_reply;
-    }) (r ∷ [], refl, refl) same is
-
--- of one op, where the system keeps one cursor, at a place of the type that the op reads
-pub one_op_ran : (op : Op) (start : Start) (w t old new : ℕ) (l m : Lent) (taken : Parts) (before after : List Reply) (r : Reply)
-    → ((places : ℕ → ℕ) → places t ≡ old → OpRan op w places (with_place places t new) l m r) → SameLoan l m → taken ≡ taken_of m → after ≡ before ++ r ∷ []
-    → Ran (of_program (only op start) w (one_place t old)) (of_program (only op start) w (one_place t new)) l taken before after
-one_op_ran op start w t old new l m taken before after r ran same is appended =
-    let here = subst (λ places. OpRan op w (one_place t old) places l m r) (one_place_moved t old new) (ran (one_place t old) (one_place_at t old)) in
-    rw appended (ran_only op start w (one_place t old) (one_place t new) l m taken before r here same is)
-
--- the types that a program reads are those that an op of it reads
-pub reads_of_program : (program : Program) (t : ℕ) → (program_needs program.ops).reads (OfType t) ≡ some_op_reads program.ops (OfType t)
-reads_of_program program t = and-true (some_op_reads program.ops (OfType t))
+    }) (r ∷ [], refl, refl) same refl

@@ -2,6 +2,7 @@ pub mod Behaviors
 pub mod Conditions
 pub mod Footprints
 pub mod Needs
+pub mod OpRuns
 pub mod Programs
 pub mod Promises
 pub mod Systems

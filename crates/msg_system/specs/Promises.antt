@@ -1,14 +1,17 @@
 -- What a box promises of its runs.
-use Rattle.std.specs.Prelude.{All, ◌≡◌, ℕ, ◌++◌, false, None, IfSome, IsSome, IsTrue, List, length}
+use Rattle.std.specs.Prelude.{All, ◌≡◌, ℕ, ◌++◌, false, None, IfSome, IsSome, IsTrue, List, [], ◌∷◌, length}
 use Rattle.msg_world.specs.declared.lent.Lent.{Lent}
 use Rattle.msg_world.specs.Access.{Part, uses, writes}
-use Rattle.msg_world.specs.Loan.{IsComplete, LoanStands, access_of, shown, writable}
+use Rattle.msg_world.specs.Loan.{IsComplete, LoanStands, SameLoan, access_of, shown, taken_of, writable}
 use Rattle.msg_world.specs.Parts.{Parts, PartsStand, StuffStands, slot}
 use Rattle.msg_world.specs.World.{WorldState, content}
 use Rattle.msg_system.specs.declared.condition.Condition.{Condition}
+use Rattle.msg_system.specs.declared.op.Op.{Op}
 use Rattle.msg_system.specs.declared.reply.Reply.{Reply}
-use Rattle.msg_system.specs.Needs.{IsAccessOf, Needs, condition_needs, with_conditions}
-use Rattle.msg_system.specs.Systems.{Meaning, told, turn}
+use Rattle.msg_system.specs.declared.start.Start.{Start}
+use Rattle.msg_system.specs.Needs.{IsAccessOf, Needs, condition_needs, op_needs, program_needs, with_conditions}
+use Rattle.msg_system.specs.OpRuns.{OpRan}
+use Rattle.msg_system.specs.Systems.{Meaning, of_program, only, told, turn}
 
 -- A loan covers what is needed: it shows what is read, and lets be written what is written. It may lend more.
 pub record Covers (n : Needs) (l : Lent) : Type 0 where
@@ -30,6 +33,16 @@ pub record Ran (old new : Meaning) (lent : Lent) (taken : Parts) (before after :
   pub state : (s : WorldState) → LoanStands lent s → WrittenStand lent taken (turn old s).state
   pub answers : (s : WorldState) → LoanStands lent s → replies ≡ (turn old s).replies
   pub places : (s : WorldState) → LoanStands lent s → new.places ≡ (turn old s).places
+
+-- A loan that covers a program of one op covers that op.
+abbrev pub OneOpIsCovered : Type 0
+OneOpIsCovered = (op : Op) (l : Lent) → Covers (program_needs (op ∷ [])) l → Covers (op_needs op) l
+
+-- One op that ran is the turn of a system whose program is that op, where its reply is appended and its loan given back.
+abbrev pub OneOpIsATurn : Type 0
+OneOpIsATurn = (op : Op) (start : Start) (writer : ℕ) (old_places new_places : ℕ → ℕ) (old new : Lent) (before : List Reply) (reply : Reply)
+    → OpRan op writer old_places new_places old new reply → SameLoan old new
+    → Ran (of_program (only op start) writer old_places) (of_program (only op start) writer new_places) old (taken_of new) before (before ++ reply ∷ [])
 
 -- Where nothing else is given back, that is all that is given back.
 abbrev pub WrittenIsAll : Type 0

@@ -79,9 +79,12 @@ abbrev pub start_place : Start → List ℕ → ℕ → ℕ
 start_place Zero counts t = 0
 start_place Current counts t = unwrap_or (slice_get counts t) 0
 
--- its places in the types that it reads are where they start
+-- the places in the types that are read are where they start, the others as they were
+abbrev pub started_places : Needs → Start → List ℕ → (ℕ → ℕ) → ℕ → ℕ
+started_places n start counts places t = if n.reads (OfType t) then start_place start counts t else places t
+
 abbrev pub started : List ℕ → Meaning → Meaning
-started counts m = record m { places = λ t. if m.needs.reads (OfType t) then start_place m.start counts t else m.places t }
+started counts m = record m { places = started_places m.needs m.start counts m.places }
 
 -- ---- programs
 

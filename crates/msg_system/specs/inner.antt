@@ -1,2 +1,2 @@
 -- What only private functions cite.
-pub mod OpRuns
+pub mod TurnRuns

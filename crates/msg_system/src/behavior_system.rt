@@ -1,17 +1,14 @@
 // Systems that decide by a behavior.
-ghost use Rattle.std.specs.Prelude.{◌≡◌, ◌≤◌, ℕ, IfOk, OnOk, drop, length, if◌then◌else◌};
-ghost use Rattle.msg_world.specs.Access.{OfType, reads};
+ghost use Rattle.std.specs.Prelude.{◌≡◌, ◌≤◌, IfOk, OnOk, drop, length};
 ghost use Rattle.msg_world.specs.Loan.{SameLoan};
 ghost use Rattle.msg_system.specs.Behaviors.{behaves};
 ghost use Rattle.msg_system.specs.Needs.{needs_of};
-ghost use Rattle.msg_system.specs.inner.OpRuns.{AreAnswered, TurnRan, next_kept, places_of};
+ghost use Rattle.msg_system.specs.OpRuns.{places_of};
+ghost use Rattle.msg_system.specs.inner.TurnRuns.{AreAnswered, TurnRan, next_kept};
 ghost use Rattle.msg_system.specs.Promises.{Covers};
-ghost use Rattle.msg_system.specs.Systems.{start_place};
 
 use crate::behavior::Behavior;
-use crate::scripted::{run_op, start_cursor};
-use crate::{Access, Items, NoMemory, Op, Reply, Start, System};
-use msg_buffer::MessageCursor;
+use crate::{Access, Cursors, Items, NoMemory, Op, Reply, Start, System};
 use msg_world::{Counts, Lent, Taken, TypeNo};
 use std::alloc::Global;
 
@@ -45,7 +42,7 @@ fn run_turn<B: Behavior>(
     behavior: &B,
     access: &Access,
     writer: u32,
-    cursors: &mut [MessageCursor; 64],
+    cursors: &mut Cursors,
     lent: &mut Lent,
     out: &mut Vec<Reply>,
 ) -> Result<Vec<Op>, NoMemory>
@@ -65,27 +62,12 @@ fn run_turn<B: Behavior>(
         match next_within(alloc, behavior, access, since(out.as_slice(), before))? {
             None => return Ok(ops),
             Some(op) => {
-                out.push(run_op(alloc, &op, writer, cursors, lent)?)?;
+                out.push(op.run(alloc, writer, cursors, lent)?)?;
                 ops.push(op)?;
             }
         }
     }
     Ok(ops)
-}
-
-/// Sets the cursors of the types that the access reads to where they start.
-fn start_read(access: Access, start: Start, counts: &Counts, cursors: &mut [MessageCursor; 64])
-    ensures started { (t : ℕ) → places_of cursors.new t
-        ≡ (if reads access (OfType t) then start_place start counts.now t
-        else places_of cursors.old t) }
-{
-    for number in 0..64u32 {
-        if let Some(t) = TypeNo::new(number) {
-            if access.reads_type(t) {
-                cursors[number as usize] = start_cursor(start, counts, t);
-            }
-        }
-    }
 }
 
 /// A system that does what its behavior decides.
@@ -95,7 +77,7 @@ pub struct BehaviorSystem<B: Behavior> {
     access: Access,
     start: Start,
     writer: u32,
-    cursors: [MessageCursor; 64],
+    cursors: Cursors,
     last: Items<Op>,
 }
 
@@ -118,7 +100,7 @@ impl<B: Behavior + Send> BehaviorSystem<B> {
             access,
             start,
             writer,
-            cursors: [MessageCursor::new(0); 64],
+            cursors: Cursors::new(),
             last: Items::from_vec(Vec::new(alloc)),
         }
     }
@@ -147,8 +129,7 @@ impl<B: Behavior + Send> System for BehaviorSystem<B> {
     }
 
     fn start(&mut self, counts: &Counts) {
-        let (access, start) = (self.access, self.start);
-        start_read(access, start, counts, &mut self.cursors);
+        self.cursors.start(self.access, self.start, counts);
     }
 
     fn run(&mut self, alloc: Global, lent: Lent, out: &mut Vec<Reply>) -> Result<Taken, NoMemory> {

@@ -6,8 +6,8 @@ ghost use Rattle.msg_system.specs.Conditions.{after_asking, all_hold, answer, as
 ghost use Rattle.msg_system.specs.Needs.{condition_needs};
 ghost use Rattle.msg_system.specs.Promises.{Covers};
 
+use crate::cursors::start_cursor;
 use crate::lending::{messages_of, value_of};
-use crate::scripted::start_cursor;
 use crate::{Condition, Probe, Start};
 use msg_buffer::MessageCursor;
 use msg_world::{Counts, Lent};

@@ -1,6 +1,6 @@
 // Laws: facts that hold of every op, program, condition and job, and need no code.
 ghost use Rattle.msg_system.specs.Footprints.{ConditionFootprint, JobFootprint, OpFootprint, ProgramFootprint, TurnFootprint};
-ghost use Rattle.msg_system.specs.Promises.{CompleteCovers, JobsCover, WrittenIsAll};
+ghost use Rattle.msg_system.specs.Promises.{CompleteCovers, JobsCover, OneOpIsATurn, OneOpIsCovered, WrittenIsAll};
 ghost use Rattle.msg_system.specs.Systems.{IsInOrder};
 
 /// What is done depends on no part but those that are needed, and changes no part but those that
@@ -16,6 +16,13 @@ pub fn nothing_else_is_used()
 /// The turn of a program is its ops in order, and the system stays that program.
 pub fn a_program_is_its_ops_in_order()
     ensures law { IsInOrder }
+{}
+
+/// One op that ran on a loan is the turn of the system whose program is that op, and a loan that
+/// covers that system covers the op.
+pub fn one_op_is_a_turn()
+    ensures covered { OneOpIsCovered }
+    ensures law { OneOpIsATurn }
 {}
 
 /// What a run gives back stands for the world after it, where the loan owned nothing but what its

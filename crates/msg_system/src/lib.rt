@@ -4,6 +4,7 @@
 mod behavior;
 mod behavior_system;
 mod condition;
+mod cursors;
 mod guard;
 mod items;
 mod job;
@@ -24,11 +25,12 @@ mod tally;
 pub use behavior::Behavior;
 pub use behavior_system::BehaviorSystem;
 pub use condition::{Condition, Probe};
+pub use cursors::Cursors;
 pub use guard::Guard;
 pub use items::Items;
 pub use job::job_access;
 pub use laws::{
-    a_program_is_its_ops_in_order, nothing_else_is_used, open_loans_cover,
+    a_program_is_its_ops_in_order, nothing_else_is_used, one_op_is_a_turn, open_loans_cover,
     what_is_given_back_stands,
 };
 pub use msg_buffer::NoMemory;

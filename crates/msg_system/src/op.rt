@@ -1,8 +1,8 @@
-ghost use Rattle.std.specs.Prelude.{◌≡◌, ◌||◌, ◌<◌, ℕ, ℤ, List, IfOk, OnErr, length};
+ghost use Rattle.std.specs.Prelude.{◌≡◌, ◌||◌, ◌<◌, ℕ, ℤ, List, IfOk, OnErr, OnOk, length};
 ghost use Rattle.msg_world.specs.Access.{Part, reads, writes};
 
-use crate::{Access, Items, NoMemory};
-use msg_world::{ResNo, TypeNo};
+use crate::{Access, Cursors, Items, NoMemory, Reply, steps};
+use msg_world::{Lent, ResNo, TypeNo};
 use std::alloc::Global;
 
 /// One step of a program. All reading ops of one type in a program share one place.
@@ -36,7 +36,10 @@ pub enum Op {
 }
 
 impl Op {
+    ghost use Rattle.msg_world.specs.Loan.{SameLoan};
     ghost use Rattle.msg_system.specs.Needs.{keeps_to, needs_of, op_needs, type_read};
+    ghost use Rattle.msg_system.specs.OpRuns.{MayBeRefused, OpRan, places_of};
+    ghost use Rattle.msg_system.specs.Promises.{Covers};
 
     /// The type that it reads.
     pub fn read_type(&self) -> Option<TypeNo>
@@ -95,6 +98,57 @@ impl Op {
             Op::Add(r, _) => access.with_write_res(*r),
             Op::Drain(t) => access.with_write_type(*t),
             Op::Signal => access.with_registry(),
+        }
+    }
+
+    /// Does this op on a loan that covers it, for the system that has these cursors and writes as
+    /// the number `writer`. After `NoMemory` nothing is known of the cursors or of the loan.
+    pub fn run(
+        &self,
+        alloc: Global,
+        writer: u32,
+        cursors: &mut Cursors,
+        lent: &mut Lent,
+    ) -> Result<Reply, NoMemory>
+        requires covers { Covers (op_needs self.now) lent.old }
+        ensures ran { IfOk result (OpRan self.now writer (places_of cursors.old)
+            (places_of cursors.new) lent.old lent.new) }
+        ensures same { OnOk result (SameLoan lent.old lent.new) }
+        ensures refused { OnErr result (MayBeRefused self.now (places_of cursors.old) lent.old) }
+    {
+        match self {
+            Op::Write(t, value) => steps::write(lent, writer, *t, *value),
+            Op::Batch(t, values) => steps::batch(alloc, lent, writer, *t, values),
+            Op::Read(t, limit) => {
+                steps::read(
+                    alloc,
+                    lent,
+                    *t,
+                    *limit,
+                    &mut cursors.by_type[t.number() as usize],
+                )
+            }
+            Op::Len(t) => Ok(steps::len(lent, *t, &cursors.by_type[t.number() as usize])),
+            Op::Missed(t) => Ok(steps::missed(lent, *t, &cursors.by_type[t.number() as usize])),
+            Op::Clear(t) => Ok(steps::clear(lent, *t, &mut cursors.by_type[t.number() as usize])),
+            Op::Forward(t, u) => {
+                let cursor = &mut cursors.by_type[t.number() as usize];
+                steps::forward(alloc, lent, writer, *t, *u, cursor)
+            }
+            Op::Sum(t, r) => {
+                steps::sum(
+                    alloc,
+                    lent,
+                    *t,
+                    *r,
+                    &mut cursors.by_type[t.number() as usize],
+                )
+            }
+            Op::Get(r) => Ok(steps::get(lent, *r)),
+            Op::Set(r, value) => Ok(steps::set(lent, *r, *value)),
+            Op::Add(r, value) => Ok(steps::add(lent, *r, *value)),
+            Op::Drain(t) => steps::drain(alloc, lent, *t),
+            Op::Signal => Ok(steps::signal(lent)),
         }
     }
 

@@ -1,8 +1,6 @@
 ghost use Rattle.std.specs.Prelude.{◌≡◌};
 
-use crate::scripted::start_cursor;
-use crate::{Access, NoMemory, Reply, Start, System, steps};
-use msg_buffer::MessageCursor;
+use crate::{Access, Cursors, NoMemory, Op, Reply, Start, System, one_op_is_a_turn};
 use msg_world::{Counts, Lent, Taken, TypeNo};
 use std::alloc::Global;
 
@@ -13,7 +11,7 @@ pub struct Relay {
     to: TypeNo,
     start: Start,
     writer: u32,
-    cursor: MessageCursor,
+    cursors: Cursors,
 }
 
 impl Relay {
@@ -30,18 +28,18 @@ impl Relay {
             to,
             start,
             writer,
-            cursor: MessageCursor::new(0),
+            cursors: Cursors::new(),
         }
     }
 }
 
 impl System for Relay {
     ghost use Rattle.msg_system.specs.declared.op.Op.TheVariants.{Forward};
-    ghost use Rattle.msg_system.specs.inner.OpRuns.{one_place};
+    ghost use Rattle.msg_system.specs.OpRuns.{places_of};
     ghost use Rattle.msg_system.specs.Systems.{of_program, only};
 
     ghost meaning = { λ s.
-        of_program (only (Forward s.from s.to) s.start) s.writer (one_place s.from s.cursor) };
+        of_program (only (Forward s.from s.to) s.start) s.writer (places_of s.cursors) };
 
     fn access(&self) -> Access {
         Access::none()
@@ -58,14 +56,15 @@ impl System for Relay {
     }
 
     fn start(&mut self, counts: &Counts) {
-        self.cursor = start_cursor(self.start, counts, self.from);
+        let access = self.access();
+        self.cursors.start(access, self.start, counts);
     }
 
     fn run(&mut self, alloc: Global, lent: Lent, out: &mut Vec<Reply>) -> Result<Taken, NoMemory> {
+        one_op_is_a_turn();
         let mut lent = lent;
-        let (from, to) = (self.from, self.to);
-        let cursor = &mut self.cursor;
-        out.push(steps::forward(alloc, &mut lent, self.writer, from, to, cursor)?)?;
+        let op = Op::Forward(self.from, self.to);
+        out.push(op.run(alloc, self.writer, &mut self.cursors, &mut lent)?)?;
         Ok(lent.into_taken())
     }
 }

@@ -1,59 +1,21 @@
 // Systems that interpret their programs.
-ghost use Rattle.std.specs.Prelude.{◌≡◌, ℕ, ◌<◌, ◌≤◌, IfOk, OnErr, OnOk, length, if◌then◌else◌};
-ghost use Rattle.msg_world.specs.Access.{OfType};
+ghost use Rattle.std.specs.Prelude.{◌≡◌, ◌<◌, ◌≤◌, OnErr, OnOk, length};
 ghost use Rattle.msg_world.specs.Loan.{SameLoan};
-ghost use Rattle.msg_system.specs.Needs.{op_needs, program_needs, some_op_reads};
-ghost use Rattle.msg_system.specs.inner.OpRuns.{HasReplies, MayBeRefused, OpRan, ProgramRan, places_of};
+ghost use Rattle.msg_system.specs.Needs.{program_needs};
+ghost use Rattle.msg_system.specs.OpRuns.{places_of};
+ghost use Rattle.msg_system.specs.inner.TurnRuns.{HasReplies, ProgramRan};
 ghost use Rattle.msg_system.specs.Promises.{Covers};
-ghost use Rattle.msg_system.specs.Systems.{start_place};
 
-use crate::{Access, NoMemory, Op, Program, Reply, Start, System, steps};
-use msg_buffer::MessageCursor;
+use crate::{Access, Cursors, NoMemory, Op, Program, Reply, Start, System};
 use msg_world::{Counts, Lent, Taken, TypeNo};
 use std::alloc::Global;
-
-/// One op, by the cursors of its system.
-pub(crate) fn run_op(
-    alloc: Global,
-    op: &Op,
-    writer: u32,
-    cursors: &mut [MessageCursor; 64],
-    lent: &mut Lent,
-) -> Result<Reply, NoMemory>
-    requires covers { Covers (op_needs op.now) lent.old }
-    ensures ran { IfOk result (OpRan op.now writer (places_of cursors.old) (places_of cursors.new)
-        lent.old lent.new) }
-    ensures same { OnOk result (SameLoan lent.old lent.new) }
-    ensures refused { OnErr result (MayBeRefused op.now (places_of cursors.old) lent.old) }
-{
-    match op {
-        Op::Write(t, value) => steps::write(lent, writer, *t, *value),
-        Op::Batch(t, values) => steps::batch(alloc, lent, writer, *t, values),
-        Op::Read(t, limit) => {
-            steps::read(alloc, lent, *t, *limit, &mut cursors[t.number() as usize])
-        }
-        Op::Len(t) => Ok(steps::len(lent, *t, &cursors[t.number() as usize])),
-        Op::Missed(t) => Ok(steps::missed(lent, *t, &cursors[t.number() as usize])),
-        Op::Clear(t) => Ok(steps::clear(lent, *t, &mut cursors[t.number() as usize])),
-        Op::Forward(t, u) => {
-            let cursor = &mut cursors[t.number() as usize];
-            steps::forward(alloc, lent, writer, *t, *u, cursor)
-        }
-        Op::Sum(t, r) => { steps::sum(alloc, lent, *t, *r, &mut cursors[t.number() as usize]) }
-        Op::Get(r) => Ok(steps::get(lent, *r)),
-        Op::Set(r, value) => Ok(steps::set(lent, *r, *value)),
-        Op::Add(r, value) => Ok(steps::add(lent, *r, *value)),
-        Op::Drain(t) => steps::drain(alloc, lent, *t),
-        Op::Signal => Ok(steps::signal(lent)),
-    }
-}
 
 /// The ops one after the other.
 fn run_ops(
     alloc: Global,
     ops: &[Op],
     writer: u32,
-    cursors: &mut [MessageCursor; 64],
+    cursors: &mut Cursors,
     lent: &mut Lent,
     out: &mut Vec<Reply>,
 ) -> Result<(), NoMemory>
@@ -67,32 +29,9 @@ fn run_ops(
     ensures refused { OnErr result (0 < length ops.now) }
 {
     for op in ops {
-        out.push(run_op(alloc, op, writer, cursors, lent)?)?;
+        out.push(op.run(alloc, writer, cursors, lent)?)?;
     }
     Ok(())
-}
-
-/// Where a cursor of this type starts.
-pub(crate) fn start_cursor(start: Start, counts: &Counts, t: TypeNo) -> MessageCursor
-    ensures place { result ≡ start_place start counts.now t }
-{
-    match start {
-        Start::Zero => MessageCursor::new(0),
-        Start::Current => MessageCursor::new(counts.of(t).unwrap_or(0)),
-    }
-}
-
-/// Sets the cursors of the types that the ops read to where they start.
-fn start_cursors(ops: &[Op], start: Start, counts: &Counts, cursors: &mut [MessageCursor; 64])
-    ensures started { (t : ℕ) → places_of cursors.new t
-        ≡ (if some_op_reads ops.now (OfType t) then start_place start counts.now t
-        else places_of cursors.old t) }
-{
-    for op in ops {
-        if let Some(t) = op.read_type() {
-            cursors[t.number() as usize] = start_cursor(start, counts, t);
-        }
-    }
 }
 
 /// A system that interprets a program.
@@ -100,7 +39,7 @@ fn start_cursors(ops: &[Op], start: Start, counts: &Counts, cursors: &mut [Messa
 pub struct Scripted {
     program: Program,
     writer: u32,
-    cursors: [MessageCursor; 64],
+    cursors: Cursors,
     ghost few: { length program.ops ≤ 64 },
 }
 
@@ -115,7 +54,7 @@ impl Scripted {
         Scripted {
             program,
             writer,
-            cursors: [MessageCursor::new(0); 64],
+            cursors: Cursors::new(),
         }
     }
 }
@@ -138,13 +77,8 @@ impl System for Scripted {
     }
 
     fn start(&mut self, counts: &Counts) {
-        let start = self.program.start;
-        start_cursors(
-            self.program.ops.as_slice(),
-            start,
-            counts,
-            &mut self.cursors,
-        );
+        self.cursors
+            .start(self.program.access(), self.program.start, counts);
     }
 
     fn run(&mut self, alloc: Global, lent: Lent, out: &mut Vec<Reply>) -> Result<Taken, NoMemory> {

@@ -4,7 +4,7 @@ ghost use Rattle.msg_world.specs.Access.{OfResource, OfType, Registry};
 ghost use Rattle.msg_world.specs.Loan.{SameLoan, shown, writable};
 ghost use Rattle.msg_system.specs.declared.op.Op.TheVariants.{Write, Batch, Read, Len, Missed, Clear, Forward, Sum, Get, Set, Add, Drain, Signal};
 ghost use Rattle.msg_system.specs.Programs.{with_place, write_reply};
-ghost use Rattle.msg_system.specs.inner.OpRuns.{MayBeRefused, OpRan};
+ghost use Rattle.msg_system.specs.OpRuns.{MayBeRefused, OpRan};
 
 use crate::lending::{
     added_up, drain_all, messages_of, rewritten, set_value, value_of, write_all, write_one,

@@ -1,5 +1,7 @@
 // Tests of engines: that their calls succeed, how many threads run a batch, what stands after
 // want of memory, and that a frame is meant as it is defined.
+mod alternating;
+mod beacons;
 mod cases;
 mod deciding;
 mod expecting;

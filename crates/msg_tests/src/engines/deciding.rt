@@ -2,11 +2,11 @@
 ghost use Rattle.std.specs.Prelude.{IfOk};
 ghost use Rattle.msg_exec.specs.Engines.{IsEngine};
 
-use super::making::{add, frame_of, places, run_frame, start};
+use super::making::{add_deciding, frame_of, places, run_frame, start};
 use crate::adders::Adder;
 use crate::numbers::type_no;
 use msg_exec::{EngineOf, NoGate};
-use msg_system::{Access, BehaviorSystem, Start, System};
+use msg_system::{Access, BehaviorSystem, System};
 use msg_world::{Record, TypeNo, World};
 use std::alloc::Global;
 use std::process::Abort;
@@ -20,8 +20,7 @@ fn adder_engine(rt: &impl Abort, alloc: Global) -> Result<EngineOf<BehaviorSyste
     let access = Access::none().with_read_type(from).with_write_type(to);
     let adder = Adder { from, to, total: 0 };
     let mut systems = Vec::new(alloc);
-    let system = BehaviorSystem::new(alloc, adder, access, Start::Zero, 0);
-    add(&mut systems, system)?;
+    add_deciding(rt, alloc, &mut systems, adder, access)?;
     let places = places(alloc, 1, 1)?;
     let world = World::new(alloc, &[10, 10], &[])?;
     Ok(start(rt, alloc, world, systems, places, Vec::new(alloc))?)

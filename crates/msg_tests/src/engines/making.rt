@@ -12,7 +12,9 @@ use crate::numbers::workers;
 use msg_buffer::NoMemory;
 use msg_exec::{BuildRefusal, EngineOf, Frame, Gate, Log, Place, RunFault};
 use msg_order::Rule;
-use msg_system::{Items, Op, Program, Scripted, Start, System, job_access};
+use msg_system::{
+    Access, Behavior, BehaviorSystem, Items, Op, Program, Scripted, Start, System, job_access,
+};
 use msg_world::{TypeNo, World};
 use std::alloc::Global;
 use std::process::Abort;
@@ -88,6 +90,25 @@ pub fn add<S: System>(systems: &mut Vec<S>, system: S) -> Result<(), NoMemory>
 {
     systems.push(system)?;
     Ok(())
+}
+
+/// Adds a system that does what this behavior decides within this access.
+pub fn add_deciding<B: Behavior + Send>(
+    rt: &impl Abort,
+    alloc: Global,
+    systems: &mut Vec<BehaviorSystem<B>>,
+    behavior: B,
+    access: Access,
+) -> Result<(), NoMemory>
+    requires new { EachIs (λ i x. IsNew i (⟦<BehaviorSystem<B> as System>⟧.meaning x))
+        systems.old.items }
+    ensures new { OnOk result (EachIs (λ i x.
+        IsNew i (⟦<BehaviorSystem<B> as System>⟧.meaning x)) systems.new.items) }
+{
+    assert!(rt; systems.len() < 256);
+    let writer = systems.len() as u32;
+    let system = BehaviorSystem::new(alloc, behavior, access, Start::Zero, writer);
+    add(systems, system)
 }
 
 /// A script of these ops, which writes as this writer.

@@ -5,7 +5,7 @@ ghost use Rattle.msg_exec.specs.Engines.{IsEngine};
 use super::making::{add, places, script, start};
 use super::prefaced::{Before, Prefaced};
 use msg_exec::EngineOf;
-use msg_system::{Op, Start, System};
+use msg_system::{Op, Scripted, Start, System};
 use msg_world::World;
 use std::alloc::Global;
 use std::process::Abort;
@@ -28,8 +28,8 @@ pub fn noting_engine(
     join: u32,
     ops: Vec<(Op, Start)>,
     noted: &Arc<AtomicU64>,
-) -> Result<EngineOf<Prefaced>, Fail>
-    ensures engine { IfOk result (IsEngine ⟦<Prefaced as System>⟧.meaning) }
+) -> Result<EngineOf<Prefaced<Scripted>>, Fail>
+    ensures engine { IfOk result (IsEngine ⟦<Prefaced<Scripted> as System>⟧.meaning) }
 {
     let mut systems = Vec::new(alloc);
     for (op, start_at) in ops {
@@ -40,7 +40,7 @@ pub fn noting_engine(
             noted: Arc::try_clone(noted)?,
         };
         let noting = Prefaced {
-            script: script(rt, vec![in alloc; op]?, start_at, writer),
+            system: script(rt, vec![in alloc; op]?, start_at, writer),
             before,
         };
         add(&mut systems, noting)?;

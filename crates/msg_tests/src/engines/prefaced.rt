@@ -1,6 +1,6 @@
-// Scripts, and what is done before each of their runs.
+// Systems, and what is done before each of their runs.
 use super::noting::note;
-use msg_system::{Access, NoMemory, Reply, Scripted, Start, System};
+use msg_system::{Access, NoMemory, Reply, Start, System};
 use msg_world::{Counts, Lent, Taken, TypeNo};
 use std::alloc::Global;
 use std::sync::Arc;
@@ -38,34 +38,34 @@ impl Before {
     }
 }
 
-/// A script, and what is done before each of its runs.
+/// A system, and what is done before each of its runs.
 #[derive(Drop)]
-pub struct Prefaced {
-    pub script: Scripted,
+pub struct Prefaced<S: System> {
+    pub system: S,
     pub before: Before,
 }
 
-impl System for Prefaced {
-    ghost meaning = { λ s. ⟦<Scripted as System>⟧.meaning s.script };
+impl<S: System> System for Prefaced<S> {
+    ghost meaning = { λ s. S.meaning s.system };
 
     fn access(&self) -> Access {
-        self.script.access()
+        self.system.access()
     }
 
     fn read_type(&self, op: u32) -> Option<TypeNo> {
-        self.script.read_type(op)
+        self.system.read_type(op)
     }
 
     fn begins(&self) -> Start {
-        self.script.begins()
+        self.system.begins()
     }
 
     fn start(&mut self, counts: &Counts) {
-        self.script.start(counts);
+        self.system.start(counts);
     }
 
     fn run(&mut self, alloc: Global, lent: Lent, out: &mut Vec<Reply>) -> Result<Taken, NoMemory> {
         self.before.run()?;
-        self.script.run(alloc, lent, out)
+        self.system.run(alloc, lent, out)
     }
 }

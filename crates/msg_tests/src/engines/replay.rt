@@ -8,7 +8,7 @@ use super::noting::noting_engine;
 use super::prefaced::Prefaced;
 use crate::numbers::type_no;
 use msg_exec::{Account, EngineOf, Frame, NoGate, RunFault};
-use msg_system::{Op, Start, System};
+use msg_system::{Op, Scripted, Start, System};
 use msg_world::TypeNo;
 use std::alloc::Global;
 use std::process::Abort;
@@ -37,7 +37,11 @@ fn kept<S: System>(engine: &EngineOf<S>, t: TypeNo) -> Option<(u64, u64)> {
 }
 
 /// After so many frames of a writer of ones and two readers.
-fn expect_after(rt: &impl Abort, engine: &EngineOf<Prefaced>, frames: u32) -> Result<(), RunFault> {
+fn expect_after(
+    rt: &impl Abort,
+    engine: &EngineOf<Prefaced<Scripted>>,
+    frames: u32,
+) -> Result<(), RunFault> {
     let (t, count) = (type_no(rt, 0), frames as u64);
     assert_eq!(rt; engine.frames_run(), frames);
     assert_eq!(rt; kept(engine, t), Some((0, count)));
@@ -65,8 +69,8 @@ fn writer_and_readers(
     rt: &impl Abort,
     alloc: Global,
     noted: &Arc<AtomicU64>,
-) -> Result<EngineOf<Prefaced>, Fail>
-    ensures engine { IfOk result (IsEngine ⟦<Prefaced as System>⟧.meaning) }
+) -> Result<EngineOf<Prefaced<Scripted>>, Fail>
+    ensures engine { IfOk result (IsEngine ⟦<Prefaced<Scripted> as System>⟧.meaning) }
 {
     let t = type_no(rt, 0);
     let ops = vec![in alloc;
@@ -118,12 +122,12 @@ fn the_same_frame_replayed(rt: HostRuntime) -> Result<(), Fail> {
 fn expect_post_alone(
     rt: &impl Abort,
     alloc: Global,
-    engine: &mut EngineOf<Prefaced>,
+    engine: &mut EngineOf<Prefaced<Scripted>>,
     value: i64,
     number: u64,
 ) -> Result<(), Fail>
-    requires engine { IsEngine ⟦<Prefaced as System>⟧.meaning engine.old }
-    ensures engine { IsEngine ⟦<Prefaced as System>⟧.meaning engine.new }
+    requires engine { IsEngine ⟦<Prefaced<Scripted> as System>⟧.meaning engine.old }
+    ensures engine { IsEngine ⟦<Prefaced<Scripted> as System>⟧.meaning engine.new }
 {
     let frame = frame_of(alloc, &[(type_no(rt, 0), value)])?;
     expect_unlawful(rt, engine, &frame, &[0]);
@@ -133,7 +137,7 @@ fn expect_post_alone(
 }
 
 /// The accounts of two readers that join with the third frame, after two frames.
-fn expect_waiting(rt: &impl Abort, engine: &EngineOf<Prefaced>) -> Result<(), RunFault> {
+fn expect_waiting(rt: &impl Abort, engine: &EngineOf<Prefaced<Scripted>>) -> Result<(), RunFault> {
     let t = type_no(rt, 0);
     assert_eq!(rt; engine.frames_run(), 2);
     let waiting = |system: u32| Account {
@@ -146,7 +150,7 @@ fn expect_waiting(rt: &impl Abort, engine: &EngineOf<Prefaced>) -> Result<(), Ru
 }
 
 /// The same after three frames.
-fn expect_joined(rt: &impl Abort, engine: &EngineOf<Prefaced>) -> Result<(), RunFault> {
+fn expect_joined(rt: &impl Abort, engine: &EngineOf<Prefaced<Scripted>>) -> Result<(), RunFault> {
     let t = type_no(rt, 0);
     assert_eq!(rt; engine.frames_run(), 3);
     assert_eq!(rt; kept(engine, t), Some((1, 3)));

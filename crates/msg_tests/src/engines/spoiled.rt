@@ -6,7 +6,7 @@ use super::making::{add, places, quiet, replay, run_frame, run_frames, script, s
 use super::prefaced::{Before, Prefaced};
 use crate::numbers::type_no;
 use msg_exec::{EngineOf, NoGate, RunFault};
-use msg_system::{Op, Start, System};
+use msg_system::{Op, Scripted, Start, System};
 use msg_world::World;
 use std::alloc::Global;
 use std::process::Abort;
@@ -37,12 +37,12 @@ pub fn expect_spoiled<R: Threads + Sync + Abort, S: System>(
 }
 
 /// An engine of one reader that has no memory from its second run on.
-fn failing_engine(rt: &impl Abort, alloc: Global) -> Result<EngineOf<Prefaced>, Fail>
-    ensures engine { IfOk result (IsEngine ⟦<Prefaced as System>⟧.meaning) }
+fn failing_engine(rt: &impl Abort, alloc: Global) -> Result<EngineOf<Prefaced<Scripted>>, Fail>
+    ensures engine { IfOk result (IsEngine ⟦<Prefaced<Scripted> as System>⟧.meaning) }
 {
     let ops = vec![in alloc; Op::Read(type_no(rt, 0), None)]?;
     let failing = Prefaced {
-        script: script(rt, ops, Start::Zero, 0),
+        system: script(rt, ops, Start::Zero, 0),
         before: Before::FailAgain { has_run: false },
     };
     let mut systems = Vec::new(alloc);

@@ -9,7 +9,7 @@ use super::prefaced::{Before, Prefaced};
 use super::spoiled::expect_spoiled;
 use crate::numbers::type_no;
 use msg_exec::{EngineOf, Gate, NoGate, RunFault};
-use msg_system::{Op, Start, System};
+use msg_system::{Op, Scripted, Start, System};
 use msg_world::World;
 use std::alloc::Global;
 use std::process::Abort;
@@ -97,8 +97,8 @@ fn first_fails(
     alloc: Global,
     number: u32,
     runs: &Arc<AtomicU64>,
-) -> Result<EngineOf<Prefaced>, Fail>
-    ensures engine { IfOk result (IsEngine ⟦<Prefaced as System>⟧.meaning) }
+) -> Result<EngineOf<Prefaced<Scripted>>, Fail>
+    ensures engine { IfOk result (IsEngine ⟦<Prefaced<Scripted> as System>⟧.meaning) }
 {
     let mut systems = Vec::new(alloc);
     for _system in 0..number {
@@ -111,7 +111,7 @@ fn first_fails(
             Before::Count(Arc::try_clone(runs)?)
         };
         let counted = Prefaced {
-            script: script(rt, ops, Start::Zero, writer),
+            system: script(rt, ops, Start::Zero, writer),
             before,
         };
         add(&mut systems, counted)?;

@@ -1,13 +1,14 @@
 use Rattle.std.proofs.Common.{◌≡◌, ◌∷◌, [], ◌++◌, drop, length, arith, ap, sym, length-append, ◌∙◌}
 use Rattle.msg_system.specs.Needs.{needs_of, op_needs}
-use Rattle.msg_system.specs.inner.OpRuns.{AreAnswered, next_kept, places_of}
+use Rattle.msg_system.specs.OpRuns.{places_of}
+use Rattle.msg_system.specs.inner.TurnRuns.{AreAnswered, next_kept}
 use Rattle.msg_system.proofs.Deciding.{answered_more, appended, covers_kept, turn_full, turn_more, turn_over}
 use Rattle.msg_system.proofs.Runs.{covers_later, same_loan_trans}
 use Rattle.msg_system.proofs.Turns.{next_kept_to}
 use Rattle.msg_system.proofs.behavior_system.run_turn.Goals as goal
 
-pub run_op-requires : goal.run_op-requires
-run_op-requires g c =
+pub run-requires : goal.run-requires
+run-requires g c =
     let b = g.B.Behavior in let n = needs_of c.args.access.now in
     record {
       covers = covers_later (op_needs c.in-Some.op) c.args.lent.now c.loop-done.lent c.loop-done.invariant.same
@@ -28,11 +29,11 @@ loop-done-preserved g c =
     record {
       so_far = λ s stands. rw c.in_ok-push-in-Some.ensures.items (turn_more next c.args.writer (places_of c.args.cursors.now) s c.len-before.result
           c.loop-done._done (places_of c.loop-done.cursors) c.loop-done.lent c.args.out.now.items c.loop-done.out.items inv.long (inv.so_far s stands)
-          c.in-Some.op (places_of c.run_op.new.cursors) c.run_op.new.lent c.in_ok-run_op-in-Some.field-0 is c.in_ok-run_op-in-Some.ensures.ran);
+          c.in-Some.op (places_of c.run.new.cursors) c.run.new.lent c.in_ok-run-in-Some.field-0 is c.in_ok-run-in-Some.ensures.ran);
       long = inv.long;
-      answered = rw (c.in_ok-push-in-Some.ensures.items, c.in_ok-push-in-Some-2.ensures.items) (answered_more next c.loop-done.ops.items c.args.out.now.items c.loop-done.out.items c.in-Some.op c.in_ok-run_op-in-Some.field-0 inv.answered
+      answered = rw (c.in_ok-push-in-Some.ensures.items, c.in_ok-push-in-Some-2.ensures.items) (answered_more next c.loop-done.ops.items c.args.out.now.items c.loop-done.out.items c.in-Some.op c.in_ok-run-in-Some.field-0 inv.answered
           (is ∙ ap (λ k. next (drop k c.loop-done.out.items)) inv.long ∙ ap next (appended next c.loop-done.ops.items c.args.out.now.items c.loop-done.out.items inv.answered)));
-      same = same_loan_trans c.args.lent.now c.loop-done.lent c.run_op.new.lent inv.same c.in_ok-run_op-in-Some.ensures.same;
+      same = same_loan_trans c.args.lent.now c.loop-done.lent c.run.new.lent inv.same c.in_ok-run-in-Some.ensures.same;
     }
 
 pub returns-clause-ran : goal.returns-clause-ran

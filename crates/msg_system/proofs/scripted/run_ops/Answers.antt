@@ -1,14 +1,15 @@
 use Rattle.std.proofs.Common.{◌<◌, List, arith, length, subst}
 use Rattle.std.proofs.lemmas.List.{take_all}
 use Rattle.msg_system.specs.declared.op.Op.{Op}
-use Rattle.msg_system.specs.inner.OpRuns.{IsAfterProgram, places_of}
+use Rattle.msg_system.specs.OpRuns.{places_of}
+use Rattle.msg_system.specs.inner.TurnRuns.{IsAfterProgram}
 use Rattle.msg_system.specs.Programs.{after_program}
 use Rattle.msg_system.proofs.Runs.{covers_later, covers_op, one_reply_more, op_more, same_loan_trans}
 use Rattle.msg_system.specs.Needs.{op_needs}
 use Rattle.msg_system.proofs.scripted.run_ops.Goals as goal
 
-pub run_op-requires : goal.run_op-requires
-run_op-requires c =
+pub run-requires : goal.run-requires
+run-requires c =
     let lt : c.loop-op.op-index < length c.args.ops.now = omega arith in
     record {
       covers = covers_later (op_needs c.op-item.result) c.args.lent.now c.loop-op.lent c.loop-op.invariant.same
@@ -21,10 +22,10 @@ loop-op-preserved c =
     let inv = c.loop-op.invariant in
     record {
       so_far = λ s stands. rw c.in_ok-push.ensures.items (op_more c.args.ops.now c.loop-op.op-index c.op-item.result c.args.writer (places_of c.args.cursors.now)
-          (places_of c.loop-op.cursors) (places_of c.run_op.new.cursors) s c.loop-op.lent c.run_op.new.lent c.args.out.now.items c.loop-op.out.items c.in_ok-run_op.field-0
-          lt c.op-item.is (inv.so_far s stands) c.in_ok-run_op.ensures.ran);
-      replies = rw c.in_ok-push.ensures.items (one_reply_more c.args.out.now.items c.loop-op.out.items c.loop-op.op-index c.in_ok-run_op.field-0 inv.replies);
-      same = same_loan_trans c.args.lent.now c.loop-op.lent c.run_op.new.lent inv.same c.in_ok-run_op.ensures.same;
+          (places_of c.loop-op.cursors) (places_of c.run.new.cursors) s c.loop-op.lent c.run.new.lent c.args.out.now.items c.loop-op.out.items c.in_ok-run.field-0
+          lt c.op-item.is (inv.so_far s stands) c.in_ok-run.ensures.ran);
+      replies = rw c.in_ok-push.ensures.items (one_reply_more c.args.out.now.items c.loop-op.out.items c.loop-op.op-index c.in_ok-run.field-0 inv.replies);
+      same = same_loan_trans c.args.lent.now c.loop-op.lent c.run.new.lent inv.same c.in_ok-run.ensures.same;
     }
 
 pub returns-clause-ran : goal.returns-clause-ran

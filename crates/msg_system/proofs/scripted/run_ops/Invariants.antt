@@ -1,7 +1,8 @@
 use Rattle.std.proofs.Common.{take}
 use Rattle.msg_world.specs.Loan.{LoanStands, SameLoan}
 use Rattle.msg_world.specs.World.{WorldState}
-use Rattle.msg_system.specs.inner.OpRuns.{HasReplies, IsAfterProgram, places_of}
+use Rattle.msg_system.specs.OpRuns.{places_of}
+use Rattle.msg_system.specs.inner.TurnRuns.{HasReplies, IsAfterProgram}
 use Rattle.msg_system.specs.Programs.{after_program}
 use Rattle.msg_system.proofs.scripted.run_ops.Given as goal
 

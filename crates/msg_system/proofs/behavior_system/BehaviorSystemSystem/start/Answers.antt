@@ -1,17 +1,13 @@
+use Rattle.std.proofs.Common.{ℕ, refl, ap}
 use Rattle.msg_system.specs.Behaviors.{behaves}
 use Rattle.msg_system.specs.Needs.{needs_of}
+use Rattle.msg_system.proofs.Deciding.{meaning_by}
 use Rattle.msg_system.proofs.behavior_system.BehaviorSystemSystem.start.Goals as goal
 
 pub returns : goal.returns
 returns g c =
     let b = g.B.Behavior in let s = c.args.self.now in
     record {
-      started = λ k. record {
-        needs = needs_of s.access;
-        start = s.start;
-        writer = s.writer;
-        places = λ t. c.start_read.ensures.started t k;
-        rule = behaves b.next_op b.remembered (b.memory s.behavior);
-        last = s.last;
-      };
+      started = ap (λ (ps : ℕ → ℕ). meaning_by (needs_of s.access) b.next_op b.remembered s.start s.writer ps s.last (b.memory s.behavior))
+          (c.start.ensures.started (needs_of s.access) (record { reads = λ p. refl; writes = λ p. refl }));
     }

@@ -1,5 +1,6 @@
 use Rattle.std.proofs.Common.{length, subst}
-use Rattle.msg_system.specs.inner.OpRuns.{HasReplies, ProgramRan, places_of}
+use Rattle.msg_system.specs.OpRuns.{places_of}
+use Rattle.msg_system.specs.inner.TurnRuns.{HasReplies, ProgramRan}
 use Rattle.msg_system.proofs.Turns.{ran_program}
 use Rattle.msg_system.proofs.scripted.ScriptedSystem.run.Goals as goal
 

@@ -3,56 +3,56 @@ use mir.Val.{SFits}
 use mir.Syntax.{w64}
 use Rattle.std.proofs.lemmas.Int.{to_z-of_z}
 use Rattle.msg_world.specs.Access.{OfResource, OfType, Registry}
-use Rattle.msg_system.specs.declared.op.Op.TheVariants.{Write, Read, Len, Missed, Clear, Forward, Sum, Set, Add}
+use Rattle.msg_system.specs.declared.op.Op.TheVariants.{Write, Read, Clear, Forward, Sum, Set, Add}
 use Rattle.msg_system.specs.Needs.{op_parts}
-use Rattle.msg_system.specs.inner.OpRuns.{OpRan, places_of}
-use Rattle.msg_system.proofs.Runs.{answered_at, covers_read, covers_written, if_ok, on_err_then, place_at, ran_at}
-use Rattle.msg_system.proofs.scripted.run_op.Goals as goal
+use Rattle.msg_system.specs.OpRuns.{OpRan, places_of}
+use Rattle.msg_system.proofs.Runs.{covers_read, covers_written, if_ok, on_err_then, place_at, ran_at}
+use Rattle.msg_system.proofs.op.Op.run.Goals as goal
 
 pub write-requires : goal.write-requires
-write-requires c = record { lent = covers_written c.args.op.now c.args.lent.now (OfType c.in-Write.t) c.requires.covers (ap (λ o. (op_parts o).written) c.in-Write.is) }
+write-requires c = record { lent = covers_written c.args.self.now c.args.lent.now (OfType c.in-Write.t) c.requires.covers (ap (λ o. (op_parts o).written) c.in-Write.is) }
 
 pub batch-requires : goal.batch-requires
-batch-requires c = record { lent = covers_written c.args.op.now c.args.lent.now (OfType c.in-Batch.t) c.requires.covers (ap (λ o. (op_parts o).written) c.in-Batch.is) }
+batch-requires c = record { lent = covers_written c.args.self.now c.args.lent.now (OfType c.in-Batch.t) c.requires.covers (ap (λ o. (op_parts o).written) c.in-Batch.is) }
 
 pub drain-requires : goal.drain-requires
-drain-requires c = record { lent = covers_written c.args.op.now c.args.lent.now (OfType c.in-Drain.t) c.requires.covers (ap (λ o. (op_parts o).written) c.in-Drain.is) }
+drain-requires c = record { lent = covers_written c.args.self.now c.args.lent.now (OfType c.in-Drain.t) c.requires.covers (ap (λ o. (op_parts o).written) c.in-Drain.is) }
 
 pub set-requires : goal.set-requires
-set-requires c = record { lent = covers_written c.args.op.now c.args.lent.now (OfResource c.in-Set.r) c.requires.covers (ap (λ o. (op_parts o).written) c.in-Set.is) }
+set-requires c = record { lent = covers_written c.args.self.now c.args.lent.now (OfResource c.in-Set.r) c.requires.covers (ap (λ o. (op_parts o).written) c.in-Set.is) }
 
 pub add-requires : goal.add-requires
-add-requires c = record { lent = covers_written c.args.op.now c.args.lent.now (OfResource c.in-Add.r) c.requires.covers (ap (λ o. (op_parts o).written) c.in-Add.is) }
+add-requires c = record { lent = covers_written c.args.self.now c.args.lent.now (OfResource c.in-Add.r) c.requires.covers (ap (λ o. (op_parts o).written) c.in-Add.is) }
 
 pub signal-requires : goal.signal-requires
-signal-requires c = record { lent = covers_written c.args.op.now c.args.lent.now (Registry) c.requires.covers (ap (λ o. (op_parts o).written) c.in-Signal.is) }
+signal-requires c = record { lent = covers_written c.args.self.now c.args.lent.now (Registry) c.requires.covers (ap (λ o. (op_parts o).written) c.in-Signal.is) }
 
 pub read-requires : goal.read-requires
-read-requires c = record { lent = covers_read c.args.op.now c.args.lent.now (OfType c.in-Read.t) c.requires.covers (ap (λ o. (op_parts o).read) c.in-Read.is) }
+read-requires c = record { lent = covers_read c.args.self.now c.args.lent.now (OfType c.in-Read.t) c.requires.covers (ap (λ o. (op_parts o).read) c.in-Read.is) }
 
 pub len-requires : goal.len-requires
-len-requires c = record { lent = covers_read c.args.op.now c.args.lent.now (OfType c.in-Len.t) c.requires.covers (ap (λ o. (op_parts o).read) c.in-Len.is) }
+len-requires c = record { lent = covers_read c.args.self.now c.args.lent.now (OfType c.in-Len.t) c.requires.covers (ap (λ o. (op_parts o).read) c.in-Len.is) }
 
 pub missed-requires : goal.missed-requires
-missed-requires c = record { lent = covers_read c.args.op.now c.args.lent.now (OfType c.in-Missed.t) c.requires.covers (ap (λ o. (op_parts o).read) c.in-Missed.is) }
+missed-requires c = record { lent = covers_read c.args.self.now c.args.lent.now (OfType c.in-Missed.t) c.requires.covers (ap (λ o. (op_parts o).read) c.in-Missed.is) }
 
 pub clear-requires : goal.clear-requires
-clear-requires c = record { lent = covers_read c.args.op.now c.args.lent.now (OfType c.in-Clear.t) c.requires.covers (ap (λ o. (op_parts o).read) c.in-Clear.is) }
+clear-requires c = record { lent = covers_read c.args.self.now c.args.lent.now (OfType c.in-Clear.t) c.requires.covers (ap (λ o. (op_parts o).read) c.in-Clear.is) }
 
 pub get-requires : goal.get-requires
-get-requires c = record { lent = covers_read c.args.op.now c.args.lent.now (OfResource c.in-Get.r) c.requires.covers (ap (λ o. (op_parts o).read) c.in-Get.is) }
+get-requires c = record { lent = covers_read c.args.self.now c.args.lent.now (OfResource c.in-Get.r) c.requires.covers (ap (λ o. (op_parts o).read) c.in-Get.is) }
 
 pub forward-requires-clause-read : goal.forward-requires-clause-read
-forward-requires-clause-read c = covers_read c.args.op.now c.args.lent.now (OfType c.in-Forward.t) c.requires.covers (ap (λ o. (op_parts o).read) c.in-Forward.is)
+forward-requires-clause-read c = covers_read c.args.self.now c.args.lent.now (OfType c.in-Forward.t) c.requires.covers (ap (λ o. (op_parts o).read) c.in-Forward.is)
 
 pub forward-requires-clause-written : goal.forward-requires-clause-written
-forward-requires-clause-written c = covers_written c.args.op.now c.args.lent.now (OfType c.in-Forward.u) c.requires.covers (ap (λ o. (op_parts o).written) c.in-Forward.is)
+forward-requires-clause-written c = covers_written c.args.self.now c.args.lent.now (OfType c.in-Forward.u) c.requires.covers (ap (λ o. (op_parts o).written) c.in-Forward.is)
 
 pub sum-requires-clause-read : goal.sum-requires-clause-read
-sum-requires-clause-read c = covers_read c.args.op.now c.args.lent.now (OfType c.in-Sum.t) c.requires.covers (ap (λ o. (op_parts o).read) c.in-Sum.is)
+sum-requires-clause-read c = covers_read c.args.self.now c.args.lent.now (OfType c.in-Sum.t) c.requires.covers (ap (λ o. (op_parts o).read) c.in-Sum.is)
 
 pub sum-requires-clause-written : goal.sum-requires-clause-written
-sum-requires-clause-written c = covers_written c.args.op.now c.args.lent.now (OfResource c.in-Sum.r) c.requires.covers (ap (λ o. (op_parts o).written) c.in-Sum.is)
+sum-requires-clause-written c = covers_written c.args.self.now c.args.lent.now (OfResource c.in-Sum.r) c.requires.covers (ap (λ o. (op_parts o).written) c.in-Sum.is)
 
 pub returns-in-Batch-clause-ran : goal.returns-in-Batch-clause-ran
 returns-in-Batch-clause-ran c = rw c.in-Batch.is (if_ok c.batch.result _ _ (λ reply ran. ran (places_of c.args.cursors.now)) c.batch.ensures.ran)
@@ -85,22 +85,22 @@ returns-in-Add-clause-ran c =
     (to_z-of_z w64 c.in-Add.value fits) (c.add.ensures.ran c.args.writer (places_of c.args.cursors.now)))
 
 pub returns-in-Read-clause-ran : goal.returns-in-Read-clause-ran
-returns-in-Read-clause-ran c = rw c.in-Read.is (if_ok c.read.result _ _ (λ reply ran. ran_at (Read c.in-Read.t c.in-Read.limit) c.args.writer c.args.cursors.now c.in-Read.t c.number.result c.index-cursors-number.result c.read.new.cursor c.args.lent.now c.args.lent.now reply c.told-cursors c.number.ensures.number c.number.ensures.within (ran c.args.writer)) c.read.ensures.ran)
+returns-in-Read-clause-ran c = rw c.in-Read.is (if_ok c.read.result _ _ (λ reply ran. ran_at c.args.cursors.now c.in-Read.t c.number.result c.index-cursors-number.result c.told-cursors c.number.ensures.number c.number.ensures.within (Read c.in-Read.t c.in-Read.limit) c.args.writer c.read.new.cursor c.args.lent.now c.args.lent.now reply (ran c.args.writer)) c.read.ensures.ran)
 
 pub returns-in-Len-clause-ran : goal.returns-in-Len-clause-ran
-returns-in-Len-clause-ran c = rw c.in-Len.is (answered_at (Len c.in-Len.t) c.args.writer c.args.cursors.now c.in-Len.t c.number-in-Len.result c.index-cursors-number-in-Len.result c.args.lent.now c.args.lent.now c.len.result c.told-cursors c.number-in-Len.ensures.number c.number-in-Len.ensures.within (c.len.ensures.ran c.args.writer))
+returns-in-Len-clause-ran c = rw c.in-Len.is (c.len.ensures.ran c.args.writer (places_of c.args.cursors.now) (place_at c.args.cursors.now c.in-Len.t c.number-in-Len.result c.index-cursors-number-in-Len.result c.told-cursors c.number-in-Len.ensures.number c.number-in-Len.ensures.within))
 
 pub returns-in-Missed-clause-ran : goal.returns-in-Missed-clause-ran
-returns-in-Missed-clause-ran c = rw c.in-Missed.is (answered_at (Missed c.in-Missed.t) c.args.writer c.args.cursors.now c.in-Missed.t c.number-in-Missed.result c.index-cursors-number-in-Missed.result c.args.lent.now c.args.lent.now c.missed.result c.told-cursors c.number-in-Missed.ensures.number c.number-in-Missed.ensures.within (c.missed.ensures.ran c.args.writer))
+returns-in-Missed-clause-ran c = rw c.in-Missed.is (c.missed.ensures.ran c.args.writer (places_of c.args.cursors.now) (place_at c.args.cursors.now c.in-Missed.t c.number-in-Missed.result c.index-cursors-number-in-Missed.result c.told-cursors c.number-in-Missed.ensures.number c.number-in-Missed.ensures.within))
 
 pub returns-in-Clear-clause-ran : goal.returns-in-Clear-clause-ran
-returns-in-Clear-clause-ran c = rw c.in-Clear.is (ran_at (Clear c.in-Clear.t) c.args.writer c.args.cursors.now c.in-Clear.t c.number-in-Clear.result c.index-cursors-number-in-Clear.result c.clear.new.cursor c.args.lent.now c.args.lent.now c.clear.result c.told-cursors c.number-in-Clear.ensures.number c.number-in-Clear.ensures.within (c.clear.ensures.ran c.args.writer))
+returns-in-Clear-clause-ran c = rw c.in-Clear.is (ran_at c.args.cursors.now c.in-Clear.t c.number-in-Clear.result c.index-cursors-number-in-Clear.result c.told-cursors c.number-in-Clear.ensures.number c.number-in-Clear.ensures.within (Clear c.in-Clear.t) c.args.writer c.clear.new.cursor c.args.lent.now c.args.lent.now c.clear.result (c.clear.ensures.ran c.args.writer))
 
 pub returns-in-Forward-clause-ran : goal.returns-in-Forward-clause-ran
-returns-in-Forward-clause-ran c = rw c.in-Forward.is (if_ok c.forward.result _ _ (λ reply ran. ran_at (Forward c.in-Forward.t c.in-Forward.u) c.args.writer c.args.cursors.now c.in-Forward.t c.number-in-Forward.result c.index-cursors-number-in-Forward.result c.forward.new.cursor c.args.lent.now c.forward.new.lent reply c.told-cursors c.number-in-Forward.ensures.number c.number-in-Forward.ensures.within (ran)) c.forward.ensures.ran)
+returns-in-Forward-clause-ran c = rw c.in-Forward.is (if_ok c.forward.result _ _ (λ reply ran. ran_at c.args.cursors.now c.in-Forward.t c.number-in-Forward.result c.index-cursors-number-in-Forward.result c.told-cursors c.number-in-Forward.ensures.number c.number-in-Forward.ensures.within (Forward c.in-Forward.t c.in-Forward.u) c.args.writer c.forward.new.cursor c.args.lent.now c.forward.new.lent reply ran) c.forward.ensures.ran)
 
 pub returns-in-Sum-clause-ran : goal.returns-in-Sum-clause-ran
-returns-in-Sum-clause-ran c = rw c.in-Sum.is (if_ok c.sum.result _ _ (λ reply ran. ran_at (Sum c.in-Sum.t c.in-Sum.r) c.args.writer c.args.cursors.now c.in-Sum.t c.number-in-Sum.result c.index-cursors-number-in-Sum.result c.sum.new.cursor c.args.lent.now c.sum.new.lent reply c.told-cursors c.number-in-Sum.ensures.number c.number-in-Sum.ensures.within (ran c.args.writer)) c.sum.ensures.ran)
+returns-in-Sum-clause-ran c = rw c.in-Sum.is (if_ok c.sum.result _ _ (λ reply ran. ran_at c.args.cursors.now c.in-Sum.t c.number-in-Sum.result c.index-cursors-number-in-Sum.result c.told-cursors c.number-in-Sum.ensures.number c.number-in-Sum.ensures.within (Sum c.in-Sum.t c.in-Sum.r) c.args.writer c.sum.new.cursor c.args.lent.now c.sum.new.lent reply (ran c.args.writer)) c.sum.ensures.ran)
 
 pub returns-in-Read-clause-refused : goal.returns-in-Read-clause-refused
 returns-in-Read-clause-refused c =

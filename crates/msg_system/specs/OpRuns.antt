@@ -1,0 +1,41 @@
+-- What one op on a loan does, by the cursors of its system.
+use Rattle.std.specs.Prelude.{◌≡◌, ℕ, ◌<◌, IsSome, None, length, slice_index}
+use Rattle.msg_buffer.specs.History.{present}
+use Rattle.msg_buffer.specs.Reader.{given}
+use Rattle.msg_world.specs.declared.lent.Lent.{Lent}
+use Rattle.msg_world.specs.Loan.{LoanStands}
+use Rattle.msg_world.specs.World.{WorldState}
+use Rattle.msg_system.specs.declared.cursors.Cursors.{Cursors}
+use Rattle.msg_system.specs.declared.op.Op.{Op}
+use Rattle.msg_system.specs.declared.op.Op.TheVariants.{Write, Batch, Read, Forward, Sum, Drain}
+use Rattle.msg_system.specs.declared.reply.Reply.{Reply}
+use Rattle.msg_system.specs.Programs.{AfterOp, after_op, numbers_for}
+
+-- the place in each type, by the type's number
+abbrev pub places_of : Cursors → ℕ → ℕ
+places_of cursors t = slice_index cursors.by_type t
+
+-- the places, the loan and the reply are those after an op
+pub record IsAfterOp (after : AfterOp) (places : ℕ → ℕ) (lent : Lent) (answer : Reply) : Type 0 where
+  pub same_places : places ≡ after.places
+  pub stands : LoanStands lent after.state
+  pub same_reply : answer ≡ after.reply
+
+-- for each state that the loan stood for, they are those after the op there
+abbrev pub OpRan : Op → ℕ → (ℕ → ℕ) → (ℕ → ℕ) → Lent → Lent → Reply → Type 0
+OpRan op writer old_places new_places old new answer =
+    (s : WorldState) → LoanStands old s → IsAfterOp (after_op op writer old_places s) new_places new answer
+
+-- An op asks for memory only where it writes, gives or drops something.
+abbrev pub AsksForMemory : Op → (ℕ → ℕ) → WorldState → Type 0
+AsksForMemory (Write t v) places s = IsSome (numbers_for (s.histories t) 1)
+AsksForMemory (Batch t vs) places s = 0 < length vs
+AsksForMemory (Read t limit) places s = 0 < length (given (s.histories t) (places t) limit)
+AsksForMemory (Forward t u) places s = 0 < length (given (s.histories t) (places t) None)
+AsksForMemory (Sum t r) places s = 0 < length (given (s.histories t) (places t) None)
+AsksForMemory (Drain t) places s = 0 < length (present (s.histories t))
+AsksForMemory _ places s = ⊥
+
+-- so it may be refused: it asks in each state that the loan stands for
+abbrev pub MayBeRefused : Op → (ℕ → ℕ) → Lent → Type 0
+MayBeRefused op places lent = (s : WorldState) → LoanStands lent s → AsksForMemory op places s

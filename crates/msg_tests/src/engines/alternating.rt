@@ -1,0 +1,205 @@
+// Systems that decide by their memory: each on 1, 2, 7 and 64 workers.
+ghost use Rattle.std.specs.Prelude.{IfOk, OnOk};
+ghost use Rattle.msg_frames.specs.FirstState.{IsNew};
+ghost use Rattle.msg_exec.specs.Building.{EachIs};
+ghost use Rattle.msg_exec.specs.Engines.{IsEngine};
+
+use super::making::{add_deciding, frame_of, places, quiet, replay, run_frame, start};
+use crate::numbers::type_no;
+use msg_exec::{EngineOf, Frame, Log, NoGate, Outcome, Place, RunFault};
+use msg_system::{
+    Access, Behavior, BehaviorSystem, Condition, Items, NoMemory, Op, Probe, Reply, System,
+};
+use msg_world::{TypeNo, World};
+use std::alloc::Global;
+use std::process::Abort;
+use std::test::Fail;
+use std::thread::Threads;
+
+const NUMBERS: [u32; 4] = [1, 2, 7, 64];
+
+/// Writes so many messages to a type in one turn, and to the other type in the next.
+#[derive(Drop)]
+struct Alternating {
+    here: TypeNo,
+    there: TypeNo,
+    writes: u64,
+}
+
+impl Behavior for Alternating {
+    ghost use Rattle.std.specs.Prelude.{Some, None, length, nat_lt, pos, if◌then◌else◌};
+    ghost use Rattle.msg_system.specs.declared.op.Op.TheVariants.{Write};
+    ghost use Rattle.msg_tests.specs.declared.engines.alternating.Alternating.{Alternating};
+
+    ghost Memory = { Alternating };
+
+    ghost memory = { λ a. a };
+
+    ghost next_op = { λ a replies.
+        if nat_lt (length replies) a.writes then Some (Write a.here (pos 1)) else None };
+
+    ghost remembered = { λ a replies. record a { here = a.there; there = a.here } };
+
+    fn next(&self, _alloc: Global, replies: &[Reply]) -> Result<Option<Op>, NoMemory> {
+        Ok(if (replies.len() as u64) < self.writes {
+            Some(Op::Write(self.here, 1))
+        } else {
+            None
+        })
+    }
+
+    fn remember(&mut self, _alloc: Global, _replies: &[Reply]) -> Result<(), NoMemory> {
+        let here = self.here;
+        self.here = self.there;
+        self.there = here;
+        Ok(())
+    }
+}
+
+/// Adds one, over these types.
+fn add_alternating(
+    rt: &impl Abort,
+    alloc: Global,
+    systems: &mut Vec<BehaviorSystem<Alternating>>,
+    types: (u32, u32),
+    writes: u64,
+) -> Result<(), NoMemory>
+    requires new { EachIs (λ i x.
+        IsNew i (⟦<BehaviorSystem<Alternating> as System>⟧.meaning x)) systems.old.items }
+    ensures new { OnOk result (EachIs (λ i x.
+        IsNew i (⟦<BehaviorSystem<Alternating> as System>⟧.meaning x)) systems.new.items) }
+{
+    let (here, there) = (type_no(rt, types.0), type_no(rt, types.1));
+    let access = Access::none().with_write_type(here).with_write_type(there);
+    let behavior = Alternating {
+        here,
+        there,
+        writes,
+    };
+    add_deciding(rt, alloc, systems, behavior, access)
+}
+
+/// An engine of two of them, the first over the types 0 and 1 and the second over 2 and 3.
+fn engine_of_two(
+    rt: &impl Abort,
+    alloc: Global,
+    writes: u64,
+    places: Vec<Place>,
+) -> Result<EngineOf<BehaviorSystem<Alternating>>, Fail>
+    ensures engine { IfOk result (IsEngine ⟦<BehaviorSystem<Alternating> as System>⟧.meaning) }
+{
+    let mut systems = Vec::new(alloc);
+    add_alternating(rt, alloc, &mut systems, (0, 1), writes)?;
+    add_alternating(rt, alloc, &mut systems, (2, 3), writes)?;
+    let world = World::new(alloc, &[200, 200, 200, 200, 200], &[])?;
+    Ok(start(rt, alloc, world, systems, places, Vec::new(alloc))?)
+}
+
+/// Two places of systems that run where something came in type 4.
+fn places_on_message(rt: &impl Abort, alloc: Global) -> Result<Vec<Place>, NoMemory> {
+    let mut places = Vec::new(alloc);
+    for _ in 0..2u32 {
+        let probe = Probe::OnMessage(type_no(rt, 4));
+        places.push(Place {
+            conditions: Items::from_vec(vec![in alloc; Condition { nots: 0, probe }]?),
+            join: 1,
+        })?;
+    }
+    Ok(places)
+}
+
+/// What a system wrote in a frame: how many messages to its first type, and how many to its
+/// second; None where it was skipped.
+type Wrote = Option<(usize, usize)>;
+
+/// How many messages of this type were written in this frame.
+fn written(rt: &impl Abort, world: &World, t: u32) -> usize {
+    match world.messages(type_no(rt, t)) {
+        Some(messages) => messages.current().len(),
+        None => panic!(rt; "no messages"),
+    }
+}
+
+/// Each system that has joined wrote so, by one op a message.
+fn expect_wrote<S: System>(rt: &impl Abort, engine: &EngineOf<S>, log: &Log, wrote: Wrote) {
+    for turn in log.turns.as_slice() {
+        match (&turn.outcome, wrote) {
+            (Outcome::Ran(replies), Some((first, second))) => {
+                assert_eq!(rt; replies.as_slice().len(), first.max(second))
+            }
+            (Outcome::Skipped, None) => {}
+            _other => panic!(rt; "skipped or not"),
+        }
+    }
+    let Some(world) = engine.world() else {
+        panic!(rt; "no world");
+    };
+    for t in [0, 2] {
+        let both = (written(rt, world, t), written(rt, world, t + 1));
+        assert_eq!(rt; both, wrote.unwrap_or((0, 0)));
+    }
+}
+
+/// A frame on so many workers, in which the systems write so.
+fn expect_frame<R: Threads + Sync + Abort, S: System>(
+    rt: &R,
+    engine: &mut EngineOf<S>,
+    frame: &Frame,
+    number: u32,
+    wrote: Wrote,
+) -> Result<(), RunFault>
+    requires engine { IsEngine S.meaning engine.old }
+    ensures engine { IsEngine S.meaning engine.new }
+{
+    let log = run_frame(rt, engine, frame, number, &NoGate)?;
+    expect_wrote(rt, engine, &log, wrote);
+    Ok(())
+}
+
+/// How often they write in a turn, the frame that they join with, and what they write in each of
+/// three frames: never more than 64 messages, and nothing before they joined.
+#[test]
+fn they_take_turns(rt: HostRuntime) -> Result<(), Fail> {
+    let (alloc, frame) = (rt.alloc(), quiet(rt.alloc()));
+    for (writes, join, [first, second, third]) in [
+        (1, 1, [(1, 0), (0, 1), (1, 0)]),
+        (0, 1, [(0, 0), (0, 0), (0, 0)]),
+        (65, 1, [(64, 0), (0, 64), (64, 0)]),
+        (1, 3, [(0, 0), (0, 0), (1, 0)]),
+    ] {
+        for number in NUMBERS {
+            let mut engine = engine_of_two(&rt, alloc, writes, places(alloc, 2, join)?)?;
+            expect_frame(&rt, &mut engine, &frame, number, Some(first))?;
+            expect_frame(&rt, &mut engine, &frame, number, Some(second))?;
+            expect_frame(&rt, &mut engine, &frame, number, Some(third))?;
+        }
+    }
+    Ok(())
+}
+
+/// A skipped turn isn't told: the next one writes to the type that it would have written to.
+#[test]
+fn a_skipped_turn(rt: HostRuntime) -> Result<(), Fail> {
+    let (alloc, none) = (rt.alloc(), quiet(rt.alloc()));
+    let came = frame_of(alloc, &[(type_no(&rt, 4), 1)])?;
+    for number in NUMBERS {
+        let mut engine = engine_of_two(&rt, alloc, 1, places_on_message(&rt, alloc)?)?;
+        expect_frame(&rt, &mut engine, &came, number, Some((1, 0)))?;
+        expect_frame(&rt, &mut engine, &none, number, None)?;
+        expect_frame(&rt, &mut engine, &came, number, Some((0, 1)))?;
+    }
+    Ok(())
+}
+
+#[test]
+fn a_replayed_turn_is_told(rt: HostRuntime) -> Result<(), Fail> {
+    let (alloc, frame) = (rt.alloc(), quiet(rt.alloc()));
+    for number in NUMBERS {
+        let mut engine = engine_of_two(&rt, alloc, 1, places(alloc, 2, 1)?)?;
+        expect_frame(&rt, &mut engine, &frame, number, Some((1, 0)))?;
+        let log = replay(&rt, &mut engine, &frame, &[1, 0])?;
+        expect_wrote(&rt, &engine, &log, Some((0, 1)));
+        expect_frame(&rt, &mut engine, &frame, number, Some((1, 0)))?;
+    }
+    Ok(())
+}
