@@ -40,7 +40,7 @@ conditions_new : (cs : List Condition) → map (λ a. a.condition) (map new_aske
 conditions_new [] = refl
 conditions_new (c ∷ cs) = ap (λ rest. c ∷ rest) (conditions_new cs)
 
-used_is_needed : (n : Needs) (a : Access) (p : Part) → IsAccessOf n a → IsTrue (uses a p) → IsTrue (needs_any n p)
+pub used_is_needed : (n : Needs) (a : Access) (p : Part) → IsAccessOf n a → IsTrue (uses a p) → IsTrue (needs_any n p)
 used_is_needed n a p of used = ap (λ b. b || n.writes p) (sym (of.reads p)) ∙ ap (λ b. reads a p || b) (sym (of.writes p)) ∙ used
 
 history_sound : (o : Option (Kept Record)) (h : History Record) → IsSome o → IfSome o (λ k. BufferStandsFor k h) → IsSound h

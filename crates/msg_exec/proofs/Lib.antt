@@ -20,5 +20,6 @@ mod CoreRunsFrame
 mod CoreReplaysFrame
 -- ---- an engine
 mod FirstEngineStands
+mod BuilderBuilds
 mod EngineRunsFrames
 mod AccountsTell

@@ -1,13 +1,16 @@
 -- What a new engine is made of, and when there is none.
-use Rattle.std.specs.Prelude.{◌≡◌, ℕ, ◌<◌, ◌≤◌, List, length, Some, slice_get, IsTrue, ⊤}
+use Rattle.std.specs.Prelude.{◌≡◌, ℕ, ◌+◌, ◌<◌, ◌≤◌, List, [], ◌∷◌, length, Some, slice_get, IsTrue, ⊤}
 use Rattle.msg_world.specs.Access.{Part}
 use Rattle.msg_world.specs.Parts.{Has, Parts}
 use Rattle.msg_order.specs.declared.rule.Rule.{Rule}
 use Rattle.msg_order.specs.Graph.{IsLowestOnCycle}
+use Rattle.msg_order.specs.Order.{NameSystemsBelow}
 use Rattle.msg_system.specs.Needs.{needs_any, with_conditions}
 use Rattle.msg_system.specs.Systems.{Meaning}
 use Rattle.msg_frames.specs.declared.place.Place.{Place}
 use Rattle.msg_frames.specs.FirstState.{HasClash, IsNew, all_rules}
+use Rattle.msg_exec.specs.declared.build_error.BuildError.{BuildError}
+use Rattle.msg_exec.specs.declared.build_error.BuildError.TheVariants.{Full, BadJoin, Misfit, UnknownSystem, Refused}
 use Rattle.msg_exec.specs.declared.build_refusal.BuildRefusal.{BuildRefusal}
 use Rattle.msg_exec.specs.declared.build_refusal.BuildRefusal.TheVariants.{Clash, Cycle, NoMemory}
 
@@ -16,6 +19,14 @@ module _ {X : Type 0} where
   abbrev pub EachIs : (ℕ → X → Type 0) → List X → Type 0
   EachIs P xs = (i : ℕ) (x : X) → slice_get xs i ≡ Some x → P i x
 
+-- the frames that a system may join with
+abbrev pub IsJoin : ℕ → Type 0
+IsJoin join = (1 ≤ join) × (join ≤ 10000)
+
+-- the world has what a system and its conditions read and write
+abbrev pub FitsWorld : Parts → Meaning → Place → Type 0
+FitsWorld world m place = (p : Part) → IsTrue (needs_any (with_conditions m.needs place.conditions) p) → Has world p
+
 module _ {S : Type 0} (meaning : S → Meaning) where
   -- system i, in its place, may be added to an engine over a world of these parts
   pub record MayBeAdded (world : Parts) (places : List Place) (i : ℕ) (x : S) : Type 0 where
@@ -23,8 +34,8 @@ module _ {S : Type 0} (meaning : S → Meaning) where
     pub new : IsNew i (meaning x)
     -- the world has what it and its conditions read and write
     pub fits : (place : Place) → slice_get places i ≡ Some place
-        → (p : Part) → IsTrue (needs_any (with_conditions (meaning x).needs place.conditions) p) → Has world p
-    pub joins : (place : Place) → slice_get places i ≡ Some place → (1 ≤ place.join) × (place.join ≤ 10000)
+        → FitsWorld world (meaning x) place
+    pub joins : (place : Place) → slice_get places i ≡ Some place → IsJoin place.join
 
   -- s is the lowest system that reads and writes one part
   pub record IsLowestClash (systems : List S) (s : ℕ) : Type 0 where
@@ -38,3 +49,57 @@ module _ {S : Type 0} (meaning : S → Meaning) where
   RefusesFor systems rules (Clash s) = IsLowestClash systems s
   RefusesFor systems rules (Cycle s) = EachIs (λ i x. ¬ HasClash (meaning x)) systems × IsLowestOnCycle (all_rules (length systems) rules) s
   RefusesFor systems rules NoMemory = ⊤
+
+-- ---- a builder
+
+-- What was added to a builder: systems, a place for each, and rules.
+pub record Added (S : Type 0) : Type 0 where
+  pub systems : List S
+  pub places : List Place
+  pub rules : List Rule
+
+-- each writes as its number, from n on, and has read nothing
+abbrev pub numbered_from : ℕ → List Meaning → List Meaning
+numbered_from n [] = []
+numbered_from n (m ∷ ms) = record m { writer = n; places = λ t. 0 } ∷ numbered_from (n + 1) ms
+
+-- why a system isn't added to so many, to join with this frame
+abbrev pub RefusesToAdd : ℕ → ℕ → BuildError → Type 0
+RefusesToAdd systems join Full = 256 ≤ systems
+RefusesToAdd systems join (BadJoin frame) = (frame ≡ join) × ¬ IsJoin join
+RefusesToAdd systems join (Refused NoMemory) = ⊤
+RefusesToAdd systems join _ = ⊥
+
+-- the first rule that names a system from n on
+pub record IsFirstUnknown (n : ℕ) (rules : List Rule) (rule : Rule) : Type 0 where
+  pub index : ℕ
+  pub is : slice_get rules index ≡ Some rule
+  pub unknown : ¬ ((rule.earlier < n) × (rule.later < n))
+  pub first : (k : ℕ) (r : Rule) → k < index → slice_get rules k ≡ Some r → (r.earlier < n) × (r.later < n)
+
+module _ {S : Type 0} (meaning : S → Meaning) where
+  -- the systems below n fit the world in their places
+  abbrev pub FitBelow : ℕ → Parts → List S → List Place → Type 0
+  FitBelow n world systems places = (i : ℕ) (x : S) (place : Place) → i < n → slice_get systems i ≡ Some x → slice_get places i ≡ Some place
+      → FitsWorld world (meaning x) place
+
+  -- all systems fit the world in their places
+  abbrev pub AllFit : Parts → List S → List Place → Type 0
+  AllFit world systems places = FitBelow (length systems) world systems places
+
+  -- s is the lowest system that doesn't fit the world in its place
+  pub record IsLowestMisfit (world : Parts) (systems : List S) (places : List Place) (s : ℕ) : Type 0 where
+    pub system : S
+    pub place : Place
+    pub is : slice_get systems s ≡ Some system
+    pub placed : slice_get places s ≡ Some place
+    pub misfit : ¬ FitsWorld world (meaning system) place
+    pub lowest : FitBelow s world systems places
+
+  -- Why no engine is made: a system that doesn't fit; else a rule without its system; else what `EngineOf::new` refuses.
+  abbrev pub RefusesToBuild : Parts → Added S → BuildError → Type 0
+  RefusesToBuild world a (Misfit s) = IsLowestMisfit world a.systems a.places s
+  RefusesToBuild world a (UnknownSystem rule) = AllFit world a.systems a.places × IsFirstUnknown (length a.systems) a.rules rule
+  RefusesToBuild world a (Refused refusal) =
+      AllFit world a.systems a.places × NameSystemsBelow (length a.systems) a.rules × RefusesFor meaning a.systems a.rules refusal
+  RefusesToBuild world a _ = ⊥

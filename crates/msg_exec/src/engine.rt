@@ -32,7 +32,7 @@ impl<S: System> EngineOf<S> {
     ghost use Rattle.std.specs.Prelude.{◌≡◌, ◌<◌, ◌-◌, ◌^◌, ◌+◌, ◌↔◌, ℕ, All, drop, min, IfOk, OnOk, Err, Ok};
     ghost use Rattle.std.specs.Option.{option_copied};
     ghost use Rattle.msg_system.specs.declared.run_fault.RunFault.TheVariants.{BadOrder, NoMemory, Spoiled};
-    ghost use Rattle.std.specs.Prelude.{◌≤◌, IfErr, IfSome, IsNone, List, Some, length, map};
+    ghost use Rattle.std.specs.Prelude.{◌≤◌, IfErr, IfSome, IsNone, IsTrue, List, Some, length, map};
     ghost use Rattle.msg_world.specs.declared.record.TheConstants.{HOST};
     ghost use Rattle.msg_world.specs.Parts.{IsWhole, PartsStand};
     ghost use Rattle.msg_world.specs.World.{WorldState};
@@ -292,6 +292,34 @@ impl<S: System> EngineOf<S> {
             Some(core) => Some(&core.lender.world),
             None => None,
         }
+    }
+
+    /// Whether each post of the frame is to a type of its world, as the calls that run it ask. Every
+    /// frame fits an engine that is spoiled.
+    pub fn fits(&self, frame: &Frame) -> bool
+        ensures fits { IsTrue result ↔ PostsFit self.now frame.now }
+    {
+        let Some(world) = self.world() else {
+            return true;
+        };
+        for post in frame.posts.as_slice() {
+            if post.0.number() as usize >= world.types() {
+                return false;
+            }
+        }
+        true
+    }
+
+    /// Whether each of the frames fits.
+    pub fn all_fit(&self, frames: &[Frame]) -> bool
+        ensures fit { IsTrue result ↔ All (PostsFit self.now) frames.now }
+    {
+        for frame in frames {
+            if !self.fits(frame) {
+                return false;
+            }
+        }
+        true
     }
 
     /// How many whole frames were run. It stays at the greatest number.

@@ -3,7 +3,9 @@
 
 mod accounts;
 mod batch;
+mod build_error;
 mod build_refusal;
+mod builder;
 mod building;
 mod engine;
 mod engine_core;
@@ -19,7 +21,9 @@ mod side_by_side;
 mod totals;
 mod workers;
 
+pub use build_error::BuildError;
 pub use build_refusal::BuildRefusal;
+pub use builder::EngineBuilder;
 pub use engine::{Engine, EngineOf};
 pub use gate::{Gate, NoGate};
 pub use msg_buffer::NoMemory;

@@ -1,7 +1,9 @@
 -- What a behavior does, turn after turn.
-use Rattle.std.specs.Prelude.{ℕ, List, [], Option, fold}
+use Rattle.std.specs.Prelude.{ℕ, List, [], Option, Some, fold}
+use Rattle.msg_world.specs.declared.record.Record.{Record}
 use Rattle.msg_system.specs.declared.op.Op.{Op}
 use Rattle.msg_system.specs.declared.reply.Reply.{Reply}
+use Rattle.msg_system.specs.declared.reply.Reply.TheVariants.{Read, Forwarded, Summed}
 use Rattle.msg_system.specs.declared.start.Start.{Start}
 use Rattle.msg_system.specs.Needs.{Needs}
 use Rattle.msg_system.specs.Systems.{Meaning, Rule}
@@ -20,3 +22,10 @@ new_by_rule needs start writer rule = record {
   rule = rule;
   last = [];
 }
+
+-- the messages that a reply brought: those that its op read
+abbrev pub brought : Option Reply → List Record
+brought (Some (Read took)) = took.items
+brought (Some (Forwarded took wrote)) = took.items
+brought (Some (Summed took z)) = took.items
+brought _ = []

@@ -8,7 +8,7 @@ ghost use Rattle.msg_system.specs.inner.TurnRuns.{AreAnswered, TurnRan, next_kep
 ghost use Rattle.msg_system.specs.Promises.{Covers};
 
 use crate::behavior::Behavior;
-use crate::{Access, Cursors, Items, NoMemory, Op, Reply, Start, System};
+use crate::{Access, Cursors, Items, NoMemory, Numbered, Op, Reply, Start, System};
 use msg_world::{Counts, Lent, Taken, TypeNo};
 use std::alloc::Global;
 
@@ -148,5 +148,12 @@ impl<B: Behavior + Send> System for BehaviorSystem<B> {
         self.behavior
             .remember(alloc, since(out.as_slice(), before))?;
         Ok(lent.into_taken())
+    }
+}
+
+impl<B: Behavior + Send> Numbered for BehaviorSystem<B> {
+    fn set_number(&mut self, number: u32) {
+        self.writer = number;
+        self.cursors = Cursors::new();
     }
 }

@@ -150,8 +150,8 @@ pub(crate) fn set_value(lent: &mut Lent, r: ResNo, value: i64)
     }
 }
 
-/// The values added one by one.
-pub(crate) fn added_up(start: i64, records: &[Record]) -> i64
+/// The values of messages added one by one, held within the range of `i64` at each step.
+pub fn added_up(start: i64, records: &[Record]) -> i64
     ensures sum { result ≡ sum_onto start records.now }
 {
     let mut sum = start;

@@ -10,6 +10,7 @@ mod items;
 mod job;
 mod laws;
 mod lending;
+mod numbered;
 mod op;
 mod program;
 mod reading;
@@ -33,12 +34,14 @@ pub use laws::{
     a_program_is_its_ops_in_order, nothing_else_is_used, one_op_is_a_turn, open_loans_cover,
     what_is_given_back_stands,
 };
+pub use lending::added_up;
 pub use msg_buffer::NoMemory;
 pub use msg_world::Access;
+pub use numbered::Numbered;
 pub use op::Op;
 pub use program::Program;
 pub use relay::Relay;
-pub use reply::{Reply, Took};
+pub use reply::{Reply, Took, brought};
 pub use run_fault::RunFault;
 pub use scripted::Scripted;
 pub use start::Start;

@@ -1,6 +1,6 @@
 ghost use Rattle.std.specs.Prelude.{◌≡◌};
 
-use crate::{Access, Cursors, NoMemory, Op, Reply, Start, System, one_op_is_a_turn};
+use crate::{Access, Cursors, NoMemory, Numbered, Op, Reply, Start, System, one_op_is_a_turn};
 use msg_world::{Counts, Lent, Taken, TypeNo};
 use std::alloc::Global;
 
@@ -66,5 +66,12 @@ impl System for Relay {
         let op = Op::Forward(self.from, self.to);
         out.push(op.run(alloc, self.writer, &mut self.cursors, &mut lent)?)?;
         Ok(lent.into_taken())
+    }
+}
+
+impl Numbered for Relay {
+    fn set_number(&mut self, number: u32) {
+        self.writer = number;
+        self.cursors = Cursors::new();
     }
 }

@@ -1,3 +1,6 @@
+ghost use Rattle.std.specs.Prelude.{◌≡◌, slice_get};
+ghost use Rattle.msg_system.specs.Behaviors.{brought};
+
 use crate::Items;
 use msg_buffer::Written;
 use msg_world::Record;
@@ -30,4 +33,17 @@ pub enum Reply {
     /// The messages that were dropped, from the number `first` on.
     Drained { first: u64, items: Items<Record> },
     Signalled,
+}
+
+/// The messages that reply `k` brought, those that its op read; none where it read none, or isn't
+/// there.
+pub fn brought(replies: &[Reply], k: usize) -> &[Record]
+    ensures brought { result.now ≡ brought (slice_get replies.now k) }
+{
+    match replies.get(k) {
+        Some(Reply::Read(took)) => took.items.as_slice(),
+        Some(Reply::Forwarded { took, .. }) => took.items.as_slice(),
+        Some(Reply::Summed { took, .. }) => took.items.as_slice(),
+        _ => &[],
+    }
 }

@@ -6,7 +6,7 @@ ghost use Rattle.msg_system.specs.OpRuns.{places_of};
 ghost use Rattle.msg_system.specs.inner.TurnRuns.{HasReplies, ProgramRan};
 ghost use Rattle.msg_system.specs.Promises.{Covers};
 
-use crate::{Access, Cursors, NoMemory, Op, Program, Reply, Start, System};
+use crate::{Access, Cursors, NoMemory, Numbered, Op, Program, Reply, Start, System};
 use msg_world::{Counts, Lent, Taken, TypeNo};
 use std::alloc::Global;
 
@@ -86,5 +86,12 @@ impl System for Scripted {
         let ops = self.program.ops.as_slice();
         run_ops(alloc, ops, self.writer, &mut self.cursors, &mut lent, out)?;
         Ok(lent.into_taken())
+    }
+}
+
+impl Numbered for Scripted {
+    fn set_number(&mut self, number: u32) {
+        self.writer = number;
+        self.cursors = Cursors::new();
     }
 }

@@ -1,17 +1,11 @@
 -- What an adder does next, and what it remembers.
 use Rattle.std.specs.Prelude.{ℕ, ℤ, ◌==◌, List, [], length, Option, Some, None, slice_get, if◌then◌else◌}
-use Rattle.msg_world.specs.declared.record.Record.{Record}
 use Rattle.msg_system.specs.declared.op.Op.{Op}
 use Rattle.msg_system.specs.declared.op.Op.TheVariants.{Read, Write}
 use Rattle.msg_system.specs.declared.reply.Reply.{Reply}
-use Rattle.msg_system.specs.declared.reply.Reply.TheVariants as reply
+use Rattle.msg_system.specs.Behaviors.{brought}
 use Rattle.msg_system.specs.Programs.{sum_onto}
 use Rattle.msg_tests.specs.declared.adders.Adder.{Adder}
-
--- the messages that a reply brought
-abbrev pub brought : Option Reply → List Record
-brought (Some (reply.Read took)) = took.items
-brought _ = []
 
 -- the total with what the first reply brought
 abbrev pub total_after : ℤ → List Reply → ℤ

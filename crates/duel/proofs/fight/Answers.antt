@@ -1,0 +1,16 @@
+use Rattle.std.proofs.Common.{◌++◌, ap, ◌∙◌}
+use Rattle.duel.proofs.fight.Goals as goal
+
+-- the logs stand after none
+pub returns-2 : goal.returns-2
+returns-2 g c = record {
+  one_thread = λ w stands.
+      let ran = c.in_ok-run_frames.ensures.ran _ (c.in_ok-engine.ensures.meaning w stands) in record {
+        logs = ran.logs;
+        state = ran.state;
+        appended = ran.appended ∙ ap (λ before. before ++ ran.logs) c.new-logs.ensures.items;
+        is_run = ran.is_run;
+        stands = ran.stands;
+        tiled = ran.tiled;
+      };
+}

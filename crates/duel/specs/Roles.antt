@@ -1,0 +1,27 @@
+-- What the systems of a fight do next, and what they remember.
+use Rattle.std.specs.Prelude.{ℤ, pos, ◌==◌, List, length, Option, Some, None, int_lt, slice_get, if◌then◌else◌}
+use Rattle.msg_system.specs.declared.op.Op.{Op}
+use Rattle.msg_system.specs.declared.op.Op.TheVariants.{Read, Sum, Write}
+use Rattle.msg_system.specs.declared.reply.Reply.{Reply}
+use Rattle.msg_system.specs.Behaviors.{brought}
+use Rattle.msg_system.specs.Programs.{sum_onto}
+use Rattle.duel.specs.declared.role.TheConstants.{BLOW}
+use Rattle.duel.specs.declared.role.Role.{Role}
+use Rattle.duel.specs.declared.role.Role.TheVariants.{Fighter, Referee}
+
+-- the health that is left by the blows that came in this turn
+abbrev pub health_after : ℤ → List Reply → ℤ
+health_after health replies = sum_onto health (brought (slice_get replies 0))
+
+-- A fighter reads its blows where it hasn't fallen, and then deals one, or says that it fell. A referee adds up the falls.
+abbrev pub next_op : Role → List Reply → Option Op
+next_op (Fighter f) replies =
+    if length replies == 0 then (if int_lt (pos 0) f.health then Some (Read f.blows None) else None)
+    else if length replies == 1 then
+    (if int_lt (pos 0) (health_after f.health replies) then Some (Write f.rival BLOW) else Some (Write f.falls (pos 1)))
+    else None
+next_op (Referee falls fallen) replies = if length replies == 0 then Some (Sum falls fallen) else None
+
+abbrev pub remembered : Role → List Reply → Role
+remembered (Fighter f) replies = Fighter (record f { health = health_after f.health replies })
+remembered (Referee falls fallen) replies = Referee falls fallen

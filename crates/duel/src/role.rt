@@ -1,0 +1,76 @@
+// The systems of a fight.
+use msg_system::{Access, Behavior, BehaviorSystem, NoMemory, Op, Reply, Start, added_up, brought};
+use msg_world::{ResNo, TypeNo};
+use std::alloc::Global;
+
+/// What a blow adds to a fighter's health.
+const BLOW: i64 = -1;
+
+/// Takes the blows that come to it. While health is left it deals one to its rival; then it says
+/// once that it fell, and is still.
+#[derive(Drop)]
+pub struct Fighter {
+    pub blows: TypeNo,
+    pub rival: TypeNo,
+    pub falls: TypeNo,
+    pub health: i64,
+}
+
+/// What a system of the fight does.
+#[derive(Drop)]
+pub enum Role {
+    Fighter(Fighter),
+    /// Adds the falls of a type to a resource.
+    Referee(TypeNo, ResNo),
+}
+
+impl Role {
+    /// A system of this role, which a builder numbers.
+    pub fn system(self, alloc: Global) -> BehaviorSystem<Role> {
+        let none = Access::none();
+        let access = match &self {
+            Role::Fighter(f) => none
+                .with_read_type(f.blows)
+                .with_write_type(f.rival)
+                .with_write_type(f.falls),
+            Role::Referee(falls, fallen) => none.with_read_type(*falls).with_write_res(*fallen),
+        };
+        BehaviorSystem::new(alloc, self, access, Start::Zero, 0)
+    }
+}
+
+impl Behavior for Role {
+    ghost use Rattle.duel.specs.declared.role.Role.{Role};
+    ghost use Rattle.duel.specs.Roles.{next_op, remembered};
+
+    ghost Memory = { Role };
+
+    ghost memory = { λ r. r };
+
+    ghost next_op = { next_op };
+
+    ghost remembered = { remembered };
+
+    fn next(&self, _alloc: Global, replies: &[Reply]) -> Result<Option<Op>, NoMemory> {
+        Ok(match (self, replies.len()) {
+            (Role::Fighter(f), 0) => (f.health > 0).then_some(Op::Read(f.blows, None)),
+            (Role::Fighter(f), 1) => {
+                let is_up = added_up(f.health, brought(replies, 0)) > 0;
+                Some(if is_up {
+                    Op::Write(f.rival, BLOW)
+                } else {
+                    Op::Write(f.falls, 1)
+                })
+            }
+            (Role::Referee(falls, fallen), 0) => Some(Op::Sum(*falls, *fallen)),
+            _ => None,
+        })
+    }
+
+    fn remember(&mut self, _alloc: Global, replies: &[Reply]) -> Result<(), NoMemory> {
+        if let Role::Fighter(f) = self {
+            f.health = added_up(f.health, brought(replies, 0));
+        }
+        Ok(())
+    }
+}

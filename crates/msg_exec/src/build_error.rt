@@ -1,0 +1,45 @@
+ghost use Rattle.std.specs.Prelude.{◌≡◌};
+
+use crate::{BuildRefusal, NoMemory};
+use msg_order::Rule;
+use thiserror::Error;
+
+/// Why a builder refused what it was given, or made no engine of it.
+#[derive(Debug, Drop, Error)]
+pub enum BuildError {
+    /// There are as many systems as an engine may have.
+    #[error("there are 256 systems, and an engine has no more")]
+    Full,
+    /// The frame that a system was to join with.
+    #[error("a system can't join with frame {0}, but with one from 1 to 10000")]
+    BadJoin(u32),
+    /// The lowest system that, or a condition of which, reads or writes what the world hasn't got.
+    #[error("system {0} or a condition of it reads or writes what the world hasn't got")]
+    Misfit(u32),
+    /// The first rule that names a system which isn't there.
+    #[error("no system {}, or no system {}, which a rule names", .0.earlier, .0.later)]
+    UnknownSystem(Rule),
+    #[error(transparent)]
+    Refused(BuildRefusal),
+}
+
+impl From<BuildRefusal> for BuildError {
+    ghost use Rattle.msg_exec.specs.declared.build_error.BuildError.TheVariants.{Refused};
+
+    ghost from_gives = { λ refusal error. error ≡ Refused refusal };
+
+    fn from(refusal: BuildRefusal) -> Self {
+        BuildError::Refused(refusal)
+    }
+}
+
+impl From<NoMemory> for BuildError {
+    ghost use Rattle.msg_exec.specs.declared.build_error.BuildError.TheVariants.{Refused};
+    ghost use Rattle.msg_exec.specs.declared.build_refusal.BuildRefusal.TheVariants.{NoMemory as RefusedMemory};
+
+    ghost from_gives = { λ _ error. error ≡ Refused RefusedMemory };
+
+    fn from(_error: NoMemory) -> Self {
+        BuildError::Refused(BuildRefusal::NoMemory)
+    }
+}

@@ -1,0 +1,205 @@
+// Engines made of systems, conditions and rules, with every condition tested.
+ghost use Rattle.std.specs.Prelude.{◌≡◌, ℕ, ◌≤◌, ◌↔◌, ◌++◌, [], ◌∷◌, IfErr, IfOk, IsTrue, OnOk, length, map};
+ghost use Rattle.msg_world.specs.Parts.{IsWhole, PartsStand};
+ghost use Rattle.msg_world.specs.World.{WorldState};
+ghost use Rattle.msg_order.specs.Order.{NameSystemsBelow};
+ghost use Rattle.msg_order.specs.declared.rule.Rule.{Rule as RuleView};
+ghost use Rattle.msg_order.specs.Graph.{IsAcyclic};
+ghost use Rattle.msg_frames.specs.FirstState.{HasClash, all_rules, first_state};
+ghost use Rattle.msg_exec.specs.declared.build_error.BuildError.TheVariants.{Misfit, UnknownSystem};
+ghost use Rattle.msg_exec.specs.Building.{AllFit, EachIs, FitsWorld, IsFirstUnknown, IsLowestMisfit, RefusesToAdd, RefusesToBuild, numbered_from};
+ghost use Rattle.msg_exec.specs.Engines.{IsEngine, IsSpoiled, StandsFor};
+
+use crate::{BuildError, BuildRefusal, EngineOf, Items, NoMemory, Place};
+use msg_order::Rule;
+use msg_system::{Condition, Numbered, System, job_access};
+use msg_world::World;
+use std::alloc::Global;
+use std::marker::Model;
+
+/// Systems and rules, added in any order, which make an engine. It numbers the systems in order of
+/// addition, and tests all that `EngineOf::new` asks of them.
+#[derive(Drop)]
+pub struct EngineBuilder<S> {
+    alloc: Global,
+    systems: Vec<S>,
+    places: Vec<Place>,
+    rules: Vec<Rule>,
+}
+
+impl<S> Model for EngineBuilder<S> {
+    ghost use Rattle.std.specs.Prelude.{◌≡◌, ◌≤◌, All, length};
+    ghost use Rattle.msg_exec.specs.Building.{Added, IsJoin};
+
+    ghost Value = { Added S };
+
+    ghost view = { λ b. record {
+      systems = b.systems.items;
+      places = b.places.items;
+      rules = b.rules.items;
+    } };
+
+    ghost invariant = { λ b. (length b.systems.items ≤ 256)
+        × (length b.places.items ≡ length b.systems.items)
+        × All (λ place. IsJoin place.join) b.places.items };
+}
+
+/// Whether the world has what the system and its conditions read and write.
+fn fits<S: System>(world: &World, system: &S, place: &Place) -> bool
+    requires whole { IsWhole world.now }
+    ensures fit { IsTrue result ↔ FitsWorld world.now (S.meaning system.now) place.now }
+{
+    world.is_home(&job_access(&system.access(), place.conditions.as_slice()))
+}
+
+/// Refuses the lowest system that doesn't fit the world.
+fn check_systems<S: System>(
+    world: &World,
+    systems: &[S],
+    places: &[Place],
+) -> Result<(), BuildError>
+    requires whole { IsWhole world.now }
+    requires few { length systems.now ≤ 256 }
+    requires one_place_each { length places.now ≡ length systems.now }
+    ensures fit { OnOk result (AllFit S.meaning world.now systems.now places.now) }
+    ensures misfit { IfErr result (λ e. (s : ℕ) × (e ≡ Misfit s)
+        × IsLowestMisfit S.meaning world.now systems.now places.now s) }
+{
+    for i in 0..systems.len() {
+        if !fits(world, &systems[i], &places[i]) {
+            return Err(BuildError::Misfit(i as u32));
+        }
+    }
+    Ok(())
+}
+
+/// Refuses the first rule that names a system which isn't there.
+fn check_names<S>(rules: &[Rule], systems: &[S]) -> Result<(), BuildError>
+    requires few { length systems.now ≤ 256 }
+    ensures named { OnOk result (NameSystemsBelow (length systems.now) rules.now) }
+    ensures unknown { IfErr result (λ e. (rule : RuleView) × (e ≡ UnknownSystem rule)
+        × IsFirstUnknown (length systems.now) rules.now rule) }
+{
+    for rule in rules {
+        if rule.earlier as usize >= systems.len() || rule.later as usize >= systems.len() {
+            return Err(BuildError::UnknownSystem(*rule));
+        }
+    }
+    Ok(())
+}
+
+/// The systems, each with its number.
+fn numbered<S: Numbered>(alloc: Global, systems: Vec<S>) -> Result<Vec<S>, NoMemory>
+    requires few { length systems.items ≤ 256 }
+    ensures as_many { IfOk result (λ v. length v.items ≡ length systems.items) }
+    ensures numbered { IfOk result (λ v.
+        map S.meaning v.items ≡ numbered_from 0 (map S.meaning systems.items)) }
+{
+    let mut numbered = Vec::new(alloc);
+    for system in systems {
+        let mut system = system;
+        system.set_number(numbered.len() as u32);
+        numbered.push(system)?;
+    }
+    Ok(numbered)
+}
+
+impl<S: Numbered> EngineBuilder<S> {
+    /// Nothing is added yet. It takes no memory.
+    pub fn new(alloc: Global) -> EngineBuilder<S>
+        ensures new { result ≡ record { systems = []; places = []; rules = [] } }
+    {
+        EngineBuilder {
+            alloc,
+            systems: Vec::new(alloc),
+            places: Vec::new(alloc),
+            rules: Vec::new(alloc),
+        }
+    }
+
+    /// Adds a system that takes its turns from the frame `join` on, where all its conditions hold,
+    /// and gives its number. With 1 it joins as the engine is made.
+    ///
+    /// # Errors
+    ///
+    /// `Full` where there are 256 systems; `BadJoin` where `join` isn't from 1 to 10,000; and want
+    /// of memory. Then nothing is added.
+    pub fn add_system(
+        &mut self,
+        system: S,
+        conditions: Vec<Condition>,
+        join: u32,
+    ) -> Result<u32, BuildError>
+        ensures added { OnOk result (self.new ≡ record self.old {
+          systems = self.old.systems ++ system ∷ [];
+          places = self.old.places ++ record { conditions = conditions.items; join = join } ∷ [];
+        }) }
+        ensures number { IfOk result (λ number. number ≡ length self.old.systems) }
+        ensures refusal { IfErr result (RefusesToAdd (length self.old.systems) join) }
+        ensures unchanged { IfErr result (λ _. self.new ≡ self.old) }
+    {
+        if self.systems.len() >= 256 {
+            return Err(BuildError::Full);
+        }
+        if join == 0 || join > 10_000 {
+            return Err(BuildError::BadJoin(join));
+        }
+        let number = self.systems.len() as u32;
+        self.systems.reserve(1)?;
+        self.places.reserve(1)?;
+        let place = Place {
+            conditions: Items::from_vec(conditions),
+            join,
+        };
+        let (Ok(()), Ok(())) = (self.systems.push(system), self.places.push(place)) else {
+            unreachable!()
+        };
+        Ok(number)
+    }
+
+    /// Adds a rule. Its systems may be added later.
+    pub fn add_rule(&mut self, rule: Rule) -> Result<(), NoMemory>
+        ensures added { OnOk result
+            (self.new ≡ record self.old { rules = self.old.rules ++ rule ∷ [] }) }
+        ensures unchanged { IfErr result (λ _. self.new ≡ self.old) }
+    {
+        self.rules.push(rule)?;
+        Ok(())
+    }
+
+    /// The engine of what was added, over this world, with no frame run. System i writes as i, and
+    /// has read nothing.
+    ///
+    /// # Errors
+    ///
+    /// `Misfit` with the lowest system that the world lacks something for; else `UnknownSystem` with
+    /// the first rule without its systems; else what `EngineOf::new` refuses. The world and the
+    /// systems are dropped then.
+    pub fn build(self, world: World) -> Result<EngineOf<S>, BuildError>
+        requires whole { IsWhole world }
+        ensures meaning { IfOk result (λ e. (w : WorldState) → PartsStand world w
+            → StandsFor S.meaning e (first_state (numbered_from 0 (map S.meaning self.systems))
+            self.places self.rules (length world.types) w)) }
+        ensures engine { IfOk result (IsEngine S.meaning) }
+        ensures fresh { IfOk result (λ e. ¬ IsSpoiled e) }
+        ensures fit { OnOk result (AllFit S.meaning world self.systems self.places) }
+        ensures named { OnOk result (NameSystemsBelow (length self.systems) self.rules) }
+        ensures no_clash { OnOk result (EachIs (λ i x. ¬ HasClash (S.meaning x)) self.systems) }
+        ensures no_cycle { OnOk result (IsAcyclic (all_rules (length self.systems) self.rules)) }
+        ensures refusal { IfErr result (RefusesToBuild S.meaning world self) }
+    {
+        check_systems(&world, &self.systems, &self.places)?;
+        check_names(&self.rules, &self.systems)?;
+        let EngineBuilder {
+            alloc,
+            systems,
+            places,
+            rules,
+        } = self;
+        let systems = numbered(alloc, systems)?;
+        match EngineOf::new(alloc, world, systems, places, rules) {
+            Ok(engine) => Ok(engine),
+            Err(refusal) => Err(BuildError::Refused(refusal)),
+        }
+    }
+}
