@@ -4,8 +4,7 @@ use Rattle.std.specs.Prelude.{not}
 use Rattle.std.specs.List.{enumerate_from}
 use Rattle.std.proofs.lemmas.Bool.Decides.{nat_tests}
 use Rattle.msg_buffer.specs.declared.instance.Instance.{Instance}
-use Rattle.msg_buffer.specs.History.{Entry, History, instance_of, is_present, is_current, HasRisingStamps, stamped, update}
-use Rattle.msg_buffer.specs.Kept.{numbered}
+use Rattle.msg_buffer.specs.History.{Entry, History, instance_of, is_present, is_current, HasRisingStamps, stamped, update, numbered}
 
 module _ {M : Type 0} where
   -- the entries that pass a test, of those numbered from n on

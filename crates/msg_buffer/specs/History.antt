@@ -36,6 +36,14 @@ module _ {M : Type 0} where
   abbrev pub instance_of : ℕ × Entry M → Instance M
   instance_of x = record { id = record { 0 = x.0 }; message = x.1.message }
 
+  abbrev pub message_of : Instance M → M
+  message_of x = x.message
+
+  -- messages under the numbers from n on
+  abbrev pub numbered : ℕ → List M → List (Instance M)
+  numbered n [] = []
+  numbered n (m ∷ ms) = record { id = record { 0 = n }; message = m } ∷ numbered (n + 1) ms
+
   -- all messages ever written, each with its number
   abbrev pub instances : History M → List (Instance M)
   instances h = map instance_of (numbered_entries h)

@@ -1,6 +1,7 @@
 -- What a buffer keeps: two halves, of messages written before the last update and since.
 use Rattle.std.specs.Prelude.{◌≡◌, ℕ, ◌+◌, ◌-◌, ◌≤◌, nat_le, List, [], ◌∷◌, ◌++◌, length, map, slice_get, Option, None, if◌then◌else◌}
 use Rattle.msg_buffer.specs.declared.instance.Instance.{Instance}
+use Rattle.msg_buffer.specs.History.{message_of, numbered}
 
 -- what contracts see of a buffer
 pub record Kept (M : Type 0) : Type 0 where
@@ -17,14 +18,6 @@ module _ {M : Type 0} where
   -- how many messages were ever written
   abbrev pub kept_count : Kept M → ℕ
   kept_count k = k.oldest + length k.older + length k.newer
-
-  abbrev pub message_of : Instance M → M
-  message_of x = x.message
-
-  -- messages under the numbers from n on
-  abbrev pub numbered : ℕ → List M → List (Instance M)
-  numbered n [] = []
-  numbered n (m ∷ ms) = record { id = record { 0 = n }; message = m } ∷ numbered (n + 1) ms
 
   -- each one's number is n plus its index
   abbrev pub HasNumbersFrom : ℕ → List (Instance M) → Type 0

@@ -1,7 +1,7 @@
--- A reader of a history stands at a place: the number of the first message that it wasn't given yet.
-use Rattle.std.specs.Prelude.{ℕ, ◌+◌, ◌-◌, max, List, length, take, drop, Option, Some, None}
+-- Reading: a reader stands at a place, the number of the first message that it wasn't given yet.
+use Rattle.std.specs.Prelude.{ℕ, ◌+◌, ◌-◌, max, List, length, take, drop, Option, Some, None, ◌≡◌, ◌≤◌, ◌<◌, [], ◌∷◌}
 use Rattle.msg_buffer.specs.declared.instance.Instance.{Instance}
-use Rattle.msg_buffer.specs.History.{History, instances, oldest}
+use Rattle.msg_buffer.specs.History.{History, instances, oldest, IsPresent}
 
 -- What one read or clear goes past: some messages that it missed, and then `number` of them from `first` on.
 pub record Stretch : Type 0 where
@@ -35,18 +35,28 @@ module _ {M : Type 0} where
   abbrev pub given : History M → ℕ → Option ℕ → List (Instance M)
   given h place limit = at_most limit (unread h place)
 
+  -- it goes past these, after what it missed
+  abbrev pub going_past : History M → ℕ → List (Instance M) → Stretch
+  going_past h place xs = record { missed = missed h place; first = first h place; number = length xs }
+
   -- what a read goes past: what it gives
   abbrev pub read : History M → ℕ → Option ℕ → Stretch
-  read h place limit = record {
-    missed = missed h place;
-    first = first h place;
-    number = length (given h place limit);
-  }
+  read h place limit = going_past h place (given h place limit)
 
   -- what a clear goes past: all that is unread
   abbrev pub pass_over : History M → ℕ → Stretch
-  pass_over h place = record {
-    missed = missed h place;
-    first = first h place;
-    number = length (unread h place);
-  }
+  pass_over h place = going_past h place (unread h place)
+
+-- A stretch fits a reader's place in the history of that moment.
+pub record Fits {M : Type 0} (h : History M) (place : ℕ) (s : Stretch) : Type 0 where
+  -- it begins at the place, past the missed ones
+  pub first : s.first ≡ place + s.missed
+  -- these aren't present
+  pub missed : (n : ℕ) → place ≤ n → n < s.first → ¬ IsPresent h n
+  -- and those that it goes past are
+  pub passed : (n : ℕ) → s.first ≤ n → n < next_place s → IsPresent h n
+
+-- Stretches fit one behind the other, each in the history of its moment, from one place to another.
+abbrev pub Tile : {M : Type 0} → ℕ → List (History M × Stretch) → ℕ → Type 0
+Tile from [] to = from ≡ to
+Tile from (x ∷ xs) to = Fits x.0 from x.1 × Tile (next_place x.1) xs to

@@ -2,21 +2,7 @@
 -- left out but what was missed.
 use Rattle.std.specs.Prelude.{◌≡◌, ℕ, ◌+◌, ◌≤◌, ◌<◌, min, List, [], ◌∷◌, length, take, drop, All, Option, Some, None}
 use Rattle.msg_buffer.specs.History.{History, IsPresent, IsSound, count, instances}
-use Rattle.msg_buffer.specs.Reader.{Stretch, next_place, given, read, pass_over, unread}
-
--- A stretch fits a reader's place in the history of that moment.
-pub record Fits {M : Type 0} (h : History M) (place : ℕ) (s : Stretch) : Type 0 where
-  -- it begins at the place, past the missed ones
-  pub first : s.first ≡ place + s.missed
-  -- these aren't present
-  pub missed : (n : ℕ) → place ≤ n → n < s.first → ¬ IsPresent h n
-  -- and those that it goes past are
-  pub passed : (n : ℕ) → s.first ≤ n → n < next_place s → IsPresent h n
-
--- Stretches fit one behind the other, each in the history of its moment, from one place to another.
-abbrev pub Tile : {M : Type 0} → ℕ → List (History M × Stretch) → ℕ → Type 0
-Tile from [] to = from ≡ to
-Tile from (x ∷ xs) to = Fits x.0 from x.1 × Tile (next_place x.1) xs to
+use Rattle.msg_buffer.specs.Reader.{Stretch, next_place, given, read, pass_over, unread, Fits, Tile}
 
 -- what a reader does at a moment: it reads, with or without a limit, or it clears
 pub data Pass : Type 0 where

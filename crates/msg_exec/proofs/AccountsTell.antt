@@ -27,7 +27,7 @@ use Rattle.msg_exec.specs.Jobs.{job_state}
 use Rattle.msg_exec.specs.Keeping.{kept, within_u64}
 use Rattle.msg_frames.specs.Soundness.{IsSoundState}
 use Rattle.msg_exec.specs.Lender.{system_at}
-use Rattle.msg_frames.specs.State.{State, has_begun}
+use Rattle.msg_frames.specs.Frames.{State, has_begun}
 use Rattle.msg_frames.specs.Tiling.{place_of}
 
 -- ---- one account

@@ -21,13 +21,12 @@ use Rattle.msg_exec.specs.declared.job.Job.{Job}
 use Rattle.msg_frames.specs.declared.log.Turn.{Turn}
 use Rattle.msg_exec.specs.declared.lender.Lender.{Lender}
 use Rattle.msg_frames.specs.declared.totals.Totals.{Totals}
-use Rattle.msg_frames.specs.Frames.{AreAccessesOf, after_turns_of, logged, needs_of, turn_of}
+use Rattle.msg_frames.specs.Frames.{AreAccessesOf, after_turns_of, logged, needs_of, turn_of, Member, State}
 use Rattle.msg_exec.specs.Jobs.{IsAfterJob, IsDone, job_state}
 use Rattle.msg_exec.specs.inner.Batches.{AreDone}
 use Rattle.msg_exec.specs.inner.Totals.{HasFewReplies}
 use Rattle.msg_exec.specs.Lender.{MemberStands, LenderStands, TotalsStand, system_at}
 use Rattle.msg_exec.specs.inner.Lending.{AreOut, ComesHome, HaveEntered, IsOut, any_writes}
-use Rattle.msg_frames.specs.State.{Member, State}
 use Rattle.msg_frames.specs.TurnLaws.{BatchesRunSideBySide, SameSystems, all_home, home}
 use Rattle.msg_exec.proofs.BatchGoesOut.{has_written, its_member, left_stands, sizes_follow, sizes_meet, taken_stands}
 use Rattle.msg_frames.proofs.SystemsStay.{turns_keep_systems}

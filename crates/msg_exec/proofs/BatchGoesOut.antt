@@ -11,17 +11,15 @@ use Rattle.msg_world.specs.Parts.{IsHome, Parts, PartsStand, SameSize, StuffStan
 use Rattle.msg_world.specs.World.{content}
 use Rattle.msg_order.specs.Order.{access_of}
 use Rattle.msg_order.specs.Plan.{NoneConflict}
-use Rattle.msg_system.specs.Conditions.{Job as JobState}
-use Rattle.msg_system.specs.Footprints.{conditions_of}
+use Rattle.msg_system.specs.Conditions.{Job as JobState, conditions_of}
 use Rattle.msg_system.specs.Needs.{IsAccessOf, with_conditions}
 use Rattle.msg_system.specs.Systems.{Meaning}
 use Rattle.msg_exec.specs.declared.job.Job.{Job}
 use Rattle.msg_exec.specs.declared.lender.Lender.{Lender}
-use Rattle.msg_frames.specs.Frames.{needs_of}
+use Rattle.msg_frames.specs.Frames.{needs_of, State}
 use Rattle.msg_exec.specs.Jobs.{MayRun, job_state}
 use Rattle.msg_exec.specs.Lender.{MemberStands, LenderStands, system_at}
 use Rattle.msg_exec.specs.inner.Lending.{AreOut, GoesOut, IsOut, any_writes}
-use Rattle.msg_frames.specs.State.{State}
 use Rattle.msg_exec.specs.Work.{EachMay}
 use Rattle.msg_order.proofs.Elements.{Contains-head, Contains-tail}
 use Rattle.msg_exec.proofs.BatchWritesApart.{any_more, earlier_write_not, others_write_not, written_is_used}

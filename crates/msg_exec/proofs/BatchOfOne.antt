@@ -11,11 +11,10 @@ use Rattle.msg_exec.specs.declared.job.Done.{Done}
 use Rattle.msg_exec.specs.declared.job.Job.{Job}
 use Rattle.msg_frames.specs.declared.log.Turn.{Turn}
 use Rattle.msg_exec.specs.declared.lender.Lender.{Lender}
-use Rattle.msg_frames.specs.Frames.{after_turn_of, logged}
+use Rattle.msg_frames.specs.Frames.{after_turn_of, logged, State}
 use Rattle.msg_exec.specs.Jobs.{IsDone, MayRun}
 use Rattle.msg_exec.specs.Lender.{LenderStands}
 use Rattle.msg_exec.specs.inner.Lending.{AreOut, ComesHome, GoesOut}
-use Rattle.msg_frames.specs.State.{State}
 use Rattle.msg_frames.specs.TurnLaws.{BatchesRunSideBySide}
 use Rattle.msg_exec.proofs.BatchComesHome.{ComingHome, MayCome, all_came, begin_home, next_comes, next_may_come}
 use Rattle.msg_exec.proofs.BatchGoesOut.{MayGo, all_may_run, may_go, none_out, one_more_out}

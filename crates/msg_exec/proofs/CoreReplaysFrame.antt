@@ -14,11 +14,10 @@ use Rattle.msg_frames.specs.declared.frame.Frame.{Frame}
 use Rattle.msg_frames.specs.declared.log.Log.{Log}
 use Rattle.msg_exec.specs.Cores.{CoreStands}
 use Rattle.msg_exec.specs.inner.FrameSteps.{HasLeft, HasOpened, NobodyJoins, PlansNext, counted}
-use Rattle.msg_frames.specs.Frames.{IsFrame, IsOrderOf, after_turns_of, before_turns, frame_in, joining}
+use Rattle.msg_frames.specs.Frames.{IsFrame, IsOrderOf, after_turns_of, before_turns, frame_in, joining, State, joined}
 use Rattle.msg_frames.specs.ReaderLaws.{FrameStaysSound}
 use Rattle.msg_frames.specs.Replays.{IsLawfulFor, IsReplay}
 use Rattle.msg_exec.specs.Lender.{LenderStands}
-use Rattle.msg_frames.specs.State.{State, joined}
 use Rattle.msg_frames.specs.TurnLaws.{FramesAgreeInLawfulOrders, SystemsHaveOneOrder}
 use Rattle.msg_exec.proofs.CoreRunsFrame.{frame_ran, is_frame_by, nobody_more}
 use Rattle.msg_frames.proofs.FramesInOrder.{in_that_order}

@@ -21,12 +21,11 @@ use Rattle.msg_frames.specs.declared.log.Log.{Log}
 use Rattle.msg_exec.specs.declared.lender.Lender.{Lender}
 use Rattle.msg_exec.specs.Cores.{CoreStands, Schedule}
 use Rattle.msg_exec.specs.inner.FrameSteps.{HasBegunFrame, HasLeft, HasOpened, NobodyJoins, PlansNext, counted}
-use Rattle.msg_frames.specs.Frames.{IsFrame, after_turns_of, before_turns, begun, counts, frame_in, joining, post_replies, posted, with_joining}
+use Rattle.msg_frames.specs.Frames.{IsFrame, after_turns_of, before_turns, begun, counts, frame_in, joining, post_replies, posted, with_joining, State, has_begun, joined}
 use Rattle.msg_frames.specs.ReaderLaws.{FrameStaysSound}
 use Rattle.msg_frames.specs.Soundness.{IsSoundState}
 use Rattle.msg_exec.specs.Lender.{AreJoins, LenderStands}
 use Rattle.msg_exec.specs.inner.Lending.{HaveReadNothing}
-use Rattle.msg_frames.specs.State.{State, has_begun, joined}
 use Rattle.msg_frames.specs.TurnLaws.{SameSystems}
 use Rattle.msg_exec.proofs.SystemsJoin.{listed, members_alike}
 use Rattle.msg_frames.proofs.SystemsStay.{joined_below, joined_stay, joining_keeps, joining_makes_no_frame, joining_world, no_cycle_stays, turns_keep_systems, turns_make_no_frame}

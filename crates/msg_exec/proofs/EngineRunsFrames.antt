@@ -15,13 +15,12 @@ use Rattle.msg_exec.specs.Cores.{CoreStands, frame_count}
 use Rattle.msg_exec.specs.inner.FrameSteps.{HasLeft}
 use Rattle.msg_exec.specs.Engines.{HasReplayed, HasRunFrame, HasRunFrames, IsEngine, PostsFit, StandsFor, frames_of}
 use Rattle.msg_frames.specs.CompleteRun.{IsCompleteRun}
-use Rattle.msg_frames.specs.Frames.{AreAccessesOf, IsFrame, IsRun, systems_in}
+use Rattle.msg_frames.specs.Frames.{AreAccessesOf, IsFrame, IsRun, systems_in, State}
 use Rattle.msg_frames.specs.Replays.{IsReplay}
 use Rattle.msg_frames.specs.TurnLaws.{HasOneRun, RunsAreUnique, RunsExist}
 use Rattle.msg_frames.specs.ReaderLaws.{ReplaysTellACompleteRun, RunsAreComplete}
 use Rattle.msg_frames.specs.Soundness.{IsSoundState}
 use Rattle.msg_frames.proofs.SystemsStay.{frame_keeps}
-use Rattle.msg_frames.specs.State.{State}
 
 module _ {S : Type 0} (meaning : S → Meaning) where
   -- the core that was taken out stands for what the engine stood for

@@ -29,12 +29,11 @@ use Rattle.msg_exec.specs.declared.engine_core.Core.{Core}
 use Rattle.msg_exec.specs.declared.build_refusal.BuildRefusal.{BuildRefusal}
 use Rattle.msg_exec.specs.declared.build_refusal.BuildRefusal.TheVariants.{Clash, Cycle, NoMemory}
 use Rattle.msg_exec.specs.Cores.{Schedule}
-use Rattle.msg_frames.specs.Frames.{needs_of}
+use Rattle.msg_frames.specs.Frames.{needs_of, State}
 use Rattle.msg_frames.specs.ReaderLaws.{AreNew}
 use Rattle.msg_exec.specs.Lender.{AreJoins, MemberStands, LenderStands, TotalsStand}
 use Rattle.msg_exec.specs.inner.Lending.{HaveReadNothing}
 use Rattle.msg_exec.proofs.ItemsOfLists.{item_at}
-use Rattle.msg_frames.specs.State.{State}
 
 conditions_new : (cs : List Condition) → map (λ a. a.condition) (map new_asked cs) ≡ cs
 conditions_new [] = refl

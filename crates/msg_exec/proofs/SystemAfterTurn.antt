@@ -15,14 +15,13 @@ use Rattle.msg_system.specs.Programs.{AfterProgram, after_op}
 use Rattle.msg_system.specs.Systems.{Meaning, after_at_most, next_op, one_more, ops_answered, turn}
 use Rattle.msg_frames.specs.declared.log.Outcome.{Outcome}
 use Rattle.msg_frames.specs.declared.totals.Totals.{Totals}
-use Rattle.msg_frames.specs.Frames.{member_turn, needs_of, outcome_of, with_member}
+use Rattle.msg_frames.specs.Frames.{member_turn, needs_of, outcome_of, with_member, Member}
 use Rattle.msg_frames.specs.Entries.{entries_for, outcome_entries, with_entries}
 use Rattle.msg_exec.specs.declared.lender.Lender.{Lender}
 use Rattle.msg_exec.specs.Jobs.{job_state}
 use Rattle.msg_exec.specs.Keeping.{kept, totals_at}
 use Rattle.msg_exec.specs.inner.Totals.{HasFewReplies, entries_by}
 use Rattle.msg_exec.specs.Lender.{MemberStands, TotalsStand, system_at}
-use Rattle.msg_frames.specs.State.{Member}
 
 -- ---- a job doesn't change its conditions
 

@@ -17,13 +17,12 @@ use Rattle.msg_exec.specs.declared.job.GuardedSystem.{GuardedSystem}
 use Rattle.msg_exec.specs.declared.lender.Lender.{Lender}
 use Rattle.msg_frames.specs.declared.totals.Totals.{Totals}
 use Rattle.msg_frames.specs.Entries.{totals_from}
-use Rattle.msg_frames.specs.Frames.{begun, counts, job_begun, needs_of, with_joining}
+use Rattle.msg_frames.specs.Frames.{begun, counts, job_begun, needs_of, with_joining, Member, State}
 use Rattle.msg_exec.specs.Jobs.{job_state}
 use Rattle.msg_exec.specs.Keeping.{totals_at}
 use Rattle.msg_exec.specs.inner.Totals.{first_place}
 use Rattle.msg_exec.specs.Lender.{MemberStands, LenderStands, TotalsStand, system_at}
 use Rattle.msg_exec.specs.inner.Lending.{HaveReadNothing}
-use Rattle.msg_frames.specs.State.{Member, State}
 use Rattle.msg_exec.proofs.SystemAfterTurn.{eqb_same, member_stays}
 use Rattle.msg_exec.proofs.ItemsOfLists.{get_other, get_same}
 

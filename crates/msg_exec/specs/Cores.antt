@@ -6,7 +6,7 @@ use Rattle.msg_system.specs.Systems.{Meaning}
 use Rattle.msg_exec.specs.declared.engine_core.Core.{Core}
 use Rattle.msg_frames.specs.Soundness.{IsSoundState}
 use Rattle.msg_exec.specs.Lender.{AreJoins, LenderStands}
-use Rattle.msg_frames.specs.State.{State, joined}
+use Rattle.msg_frames.specs.Frames.{State, joined}
 use Rattle.msg_frames.specs.TurnLaws.{NoCycle}
 
 -- how many frames were run, as an engine counts them: it stays at the greatest number of its type

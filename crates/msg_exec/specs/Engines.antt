@@ -7,10 +7,8 @@ use Rattle.msg_frames.specs.declared.frame.Frame.{Frame}
 use Rattle.msg_frames.specs.declared.log.Log.{Log}
 use Rattle.msg_exec.specs.Cores.{CoreStands, frame_count}
 use Rattle.msg_frames.specs.CompleteRun.{IsCompleteRun}
-use Rattle.msg_frames.specs.Frames.{IsFrame, IsRun}
-use Rattle.msg_frames.specs.ReaderLaws.{TellsACompleteRun}
-use Rattle.msg_frames.specs.Replays.{IsReplay}
-use Rattle.msg_frames.specs.State.{State}
+use Rattle.msg_frames.specs.Frames.{IsFrame, IsRun, State}
+use Rattle.msg_frames.specs.Replays.{IsReplay, TellsACompleteRun}
 
 module _ {S : Type 0} where
   -- a frame ended for want of memory: nothing of the engine is left

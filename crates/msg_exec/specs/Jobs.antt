@@ -3,8 +3,7 @@ use Rattle.std.specs.Prelude.{◌≡◌, Result, IfOk}
 use Rattle.msg_world.specs.Loan.{IsLoanOf}
 use Rattle.msg_world.specs.Parts.{Parts, PartsStand, SameShape}
 use Rattle.msg_world.specs.World.{WorldState}
-use Rattle.msg_system.specs.Conditions.{AfterJob, Job as JobState, after_job}
-use Rattle.msg_system.specs.Footprints.{conditions_of}
+use Rattle.msg_system.specs.Conditions.{AfterJob, Job as JobState, after_job, conditions_of}
 use Rattle.msg_system.specs.Needs.{IsAccessOf, Needs, with_conditions}
 use Rattle.msg_system.specs.Systems.{Meaning}
 use Rattle.msg_exec.specs.declared.job.GuardedSystem.{GuardedSystem}

@@ -7,10 +7,9 @@ use Rattle.msg_system.specs.Systems.{Meaning}
 use Rattle.msg_exec.specs.declared.job.GuardedSystem.{GuardedSystem}
 use Rattle.msg_exec.specs.declared.lender.Lender.{Lender}
 use Rattle.msg_frames.specs.declared.totals.Totals.{Totals}
-use Rattle.msg_frames.specs.Frames.{needs_of}
+use Rattle.msg_frames.specs.Frames.{needs_of, Member, State}
 use Rattle.msg_exec.specs.Jobs.{job_state}
 use Rattle.msg_exec.specs.Keeping.{kept, totals_at}
-use Rattle.msg_frames.specs.State.{Member, State}
 
 -- the totals of a system, by type
 pub record TotalsStand (types : ℕ) (xs : List Totals) (totals : ℕ → Totals) : Type 0 where

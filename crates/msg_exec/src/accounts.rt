@@ -8,7 +8,7 @@ ghost use Rattle.msg_world.specs.Parts.{slot};
 ghost use Rattle.msg_frames.specs.Accounts.{account_of, accounts_of, accounts_of_system};
 ghost use Rattle.msg_exec.specs.Cores.{CoreStands};
 ghost use Rattle.msg_exec.specs.Keeping.{kept};
-ghost use Rattle.msg_frames.specs.State.{State};
+ghost use Rattle.msg_frames.specs.Frames.{State};
 
 use crate::engine_core::Core;
 use crate::{Account, EngineOf, NoMemory, RunFault, Totals};

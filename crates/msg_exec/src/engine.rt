@@ -42,10 +42,9 @@ impl<S: System> EngineOf<S> {
     ghost use Rattle.msg_frames.specs.FirstState.{HasClash, all_rules, first_state};
     ghost use Rattle.msg_exec.specs.Cores.{frame_count};
     ghost use Rattle.msg_frames.specs.CompleteRun.{IsCompleteRun};
-    ghost use Rattle.msg_frames.specs.Frames.{IsRun, systems_in};
+    ghost use Rattle.msg_frames.specs.Frames.{IsRun, systems_in, State};
     ghost use Rattle.msg_exec.specs.Engines.{HasReplayed, HasRunFrame, HasRunFrames, HasRunSome, IsEngine, IsSpoiled, PostsFit, StandsFor, frames_of, world_of};
     ghost use Rattle.msg_frames.specs.Replays.{IsLawfulFor};
-    ghost use Rattle.msg_frames.specs.State.{State};
     ghost use Rattle.msg_frames.specs.TurnLaws.{HasOneRun};
     ghost use Rattle.msg_frames.specs.declared.frame.Frame.{Frame as FrameView};
     ghost use Rattle.msg_frames.specs.declared.log.Log.{Log as LogView};

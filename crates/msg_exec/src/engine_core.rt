@@ -5,8 +5,7 @@ ghost use Rattle.msg_order.specs.Order.{NameSystemsBelow, rules_among};
 ghost use Rattle.msg_order.specs.Plan.{IsPlanOf};
 ghost use Rattle.msg_exec.specs.Cores.{CoreStands, frame_count};
 ghost use Rattle.msg_exec.specs.inner.FrameSteps.{HasBegunFrame, HasLeft, HasOpened, IsNextPlan};
-ghost use Rattle.msg_frames.specs.Frames.{IsFrame, systems_in};
-ghost use Rattle.msg_frames.specs.State.{State};
+ghost use Rattle.msg_frames.specs.Frames.{IsFrame, systems_in, State};
 ghost use Rattle.msg_exec.specs.Work.{PassedGate};
 
 use crate::batch::run_batches;

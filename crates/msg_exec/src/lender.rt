@@ -1,8 +1,7 @@
 // Systems and the world go out for turns, and come home.
 ghost use Rattle.std.specs.Prelude.{◌≡◌, ◌<◌, IfOk, OnOk};
-ghost use Rattle.msg_frames.specs.Frames.{after_turn_of, logged};
+ghost use Rattle.msg_frames.specs.Frames.{after_turn_of, logged, State};
 ghost use Rattle.msg_exec.specs.Lender.{LenderStands};
-ghost use Rattle.msg_frames.specs.State.{State};
 
 use crate::job::{Done, GuardedSystem, Job, run_job};
 use crate::totals::enter;

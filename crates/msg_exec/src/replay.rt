@@ -3,10 +3,9 @@ ghost use Rattle.std.specs.Prelude.{◌≡◌, ◌<◌, ◌↔◌, All, IfOk, Is
 ghost use Rattle.msg_frames.specs.declared.frame.Frame.{Frame as FrameView};
 ghost use Rattle.msg_exec.specs.Cores.{CoreStands, frame_count};
 ghost use Rattle.msg_exec.specs.inner.FrameSteps.{HasLeft};
-ghost use Rattle.msg_frames.specs.Frames.{after_turns_of};
+ghost use Rattle.msg_frames.specs.Frames.{after_turns_of, State};
 ghost use Rattle.msg_frames.specs.Replays.{IsLawfulFor, IsReplay};
 ghost use Rattle.msg_exec.specs.Lender.{LenderStands};
-ghost use Rattle.msg_frames.specs.State.{State};
 
 use crate::engine_core::{Core, next_plan, open};
 use crate::lender::{Lender, run_turn};

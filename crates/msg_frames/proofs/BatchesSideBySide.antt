@@ -12,8 +12,7 @@ use Rattle.msg_order.specs.Plan.{NoneConflict}
 use Rattle.msg_system.specs.Footprints.{Agree, HasFootprint, JobFootprint}
 use Rattle.msg_system.specs.Needs.{IsAccessOf, needs_any}
 use Rattle.msg_frames.specs.declared.log.Outcome.{Outcome}
-use Rattle.msg_frames.specs.Frames.{AfterTurn, AfterTurns, AreAccessesOf, after_turn_of, after_turns_of, logged, member_turn, needs_of, turn_of, with_member}
-use Rattle.msg_frames.specs.State.{Member, State}
+use Rattle.msg_frames.specs.Frames.{AfterTurn, AfterTurns, AreAccessesOf, after_turn_of, after_turns_of, logged, member_turn, needs_of, turn_of, with_member, Member, State}
 use Rattle.msg_frames.specs.TurnLaws.{BatchesRunSideBySide, FramesRunByBatches, SameSystems, all_home, by_batches, home}
 use Rattle.msg_frames.proofs.SystemsStay.{accesses_stay, turns_keep_systems}
 use Rattle.msg_frames.proofs.ElementsAndPairs.{all_left, all_right, pairs_head, pairs_left, pairs_right, pairs_tail}

@@ -11,8 +11,7 @@ use Rattle.msg_world.specs.World.{updated}
 use Rattle.msg_system.specs.declared.start.Start.{Start}
 use Rattle.msg_system.specs.declared.start.Start.TheVariants.{Zero, Current}
 use Rattle.msg_system.specs.Systems.{start_place}
-use Rattle.msg_frames.specs.Frames.{before_turns, begun, counts, posted, with_joining}
-use Rattle.msg_frames.specs.State.{Member, State, has_begun}
+use Rattle.msg_frames.specs.Frames.{before_turns, begun, counts, posted, with_joining, Member, State, has_begun}
 use Rattle.msg_frames.specs.Tiling.{place_of}
 use Rattle.msg_frames.specs.TurnLaws.{SameSystems}
 use Rattle.msg_frames.proofs.HistoriesGrow.{WorldGoesOn, before_goes_on}

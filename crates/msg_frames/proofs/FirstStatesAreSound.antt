@@ -9,11 +9,10 @@ use Rattle.msg_world.specs.World.{WorldState}
 use Rattle.msg_system.specs.Systems.{Meaning}
 use Rattle.msg_frames.specs.declared.place.Place.{Place}
 use Rattle.msg_frames.specs.Entries.{no_totals}
-use Rattle.msg_frames.specs.Frames.{begun, counts}
+use Rattle.msg_frames.specs.Frames.{begun, counts, Member, State, has_begun}
 use Rattle.msg_frames.specs.FirstState.{first_state, nobody, nowhere, unjoined}
 use Rattle.msg_frames.specs.ReaderLaws.{AreNew, FirstIsSound}
 use Rattle.msg_frames.specs.Soundness.{IsBalanced, IsSoundState}
-use Rattle.msg_frames.specs.State.{Member, State, has_begun}
 use Rattle.msg_frames.specs.Tiling.{place_of}
 use Rattle.msg_frames.proofs.BeforeTurns.{begun_within}
 use Rattle.msg_frames.proofs.StatesStaySound.{balanced_start}

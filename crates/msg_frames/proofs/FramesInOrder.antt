@@ -5,8 +5,7 @@ use Rattle.msg_system.specs.declared.reply.Reply.{Reply}
 use Rattle.msg_frames.specs.declared.frame.Frame.{Frame}
 use Rattle.msg_frames.specs.declared.log.Log.{Log}
 use Rattle.msg_frames.specs.declared.log.Turn.{Turn}
-use Rattle.msg_frames.specs.Frames.{IsFrame, IsTurnOrderOf, after_turn_of, after_turns_of, before_turns, frame_in, post_replies, systems_in}
-use Rattle.msg_frames.specs.State.{State}
+use Rattle.msg_frames.specs.Frames.{IsFrame, IsTurnOrderOf, after_turn_of, after_turns_of, before_turns, frame_in, post_replies, systems_in, State}
 
 systems_logged : (order : List ℕ) (s : State) → map (λ (t : Turn). t.system) (after_turns_of order s).turns ≡ order
 systems_logged [] s = refl

@@ -12,8 +12,7 @@ use Rattle.msg_system.specs.Conditions.{Job, after_job, all_hold}
 use Rattle.msg_system.specs.Programs.{AfterProgram, after_op, again_by, took}
 use Rattle.msg_system.specs.Systems.{Meaning, after_at_most, next_op, one_more, turn}
 use Rattle.msg_frames.specs.declared.frame.Frame.{Frame}
-use Rattle.msg_frames.specs.Frames.{after_turn_of, after_turns_of, before_turns, frame_in, joining, posted, systems_in}
-use Rattle.msg_frames.specs.State.{State}
+use Rattle.msg_frames.specs.Frames.{after_turn_of, after_turns_of, before_turns, frame_in, joining, posted, systems_in, State}
 use Rattle.msg_frames.specs.TurnLaws.{ListsOnlyGrow}
 use Rattle.msg_frames.proofs.SystemsStay.{joining_world}
 

@@ -15,8 +15,7 @@ use Rattle.msg_order.specs.Order.{IsLawfulOrder, IsTurnOrder, StandsBefore, acce
 use Rattle.msg_system.specs.Footprints.{JobFootprint}
 use Rattle.msg_frames.specs.declared.log.Log.{Log}
 use Rattle.msg_frames.specs.declared.log.Turn.{Turn}
-use Rattle.msg_frames.specs.Frames.{AreAccessesOf, after_turn_of, after_turns_of, before_turns, frame_in, logged, systems_in}
-use Rattle.msg_frames.specs.State.{State, has_begun, joined}
+use Rattle.msg_frames.specs.Frames.{AreAccessesOf, after_turn_of, after_turns_of, before_turns, frame_in, logged, systems_in, State, has_begun, joined}
 use Rattle.msg_frames.specs.TurnLaws.{FramesAgreeInLawfulOrders, LawfulOrdersAgree}
 use Rattle.msg_frames.proofs.RunsAreUnique.{one_order, order_is_among}
 use Rattle.msg_frames.proofs.TurnsCommute.{turns_commute}

@@ -22,6 +22,8 @@ mod OneFateEach
 mod TilesGiveInOrder
 mod ReaderOverRun
 mod ReplaysTellTheSame
+mod StampsStayRecent
+mod ReadersStayUpToDate
 -- ---- worked runs
 mod ReadingsOfRows
 mod RowsAreRuns

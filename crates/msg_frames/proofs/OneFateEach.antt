@@ -6,10 +6,9 @@ use Rattle.std.proofs.lemmas.Bool.{cases_Bool, ltb-true, ltb-false, lt-ltb, le-l
 use Rattle.std.proofs.lemmas.List.Elements.{All-cons, All-head, All-nil, All-tail}
 use Rattle.std.proofs.lemmas.List.FromFn.{get_or-range_with_len, length-range_with_len}
 use Rattle.std.proofs.lemmas.Option.{same_Some}
-use Rattle.msg_buffer.specs.Reader.{next_place}
-use Rattle.msg_buffer.specs.Tiling.{Tile}
+use Rattle.msg_buffer.specs.Reader.{next_place, Tile}
 use Rattle.msg_frames.specs.Entries.{Entry}
-use Rattle.msg_frames.specs.Readings.{Fate, IsDropped, Meets, MeetsOneFate, given, cleared, missed, numbers_at, numbers_passed}
+use Rattle.msg_frames.specs.CompleteRun.{Fate, IsDropped, Meets, MeetsOneFate, given, cleared, missed, numbers_at, numbers_passed}
 use Rattle.msg_frames.specs.Tiling.{Moment}
 use Rattle.msg_frames.proofs.ReaderOverJob.{IsWritten, tile_of}
 

@@ -3,10 +3,8 @@ use Rattle.std.proofs.Common.{◌≡◌, ℕ, zero, suc, ◌+◌, ◌≤◌, Lis
 use Rattle.std.proofs.lemmas.Bool.{cases_eq, eq-eqb, ne_eqb, cases_Bool}
 use Rattle.std.proofs.lemmas.List.{append-nil, length-append, length-map, map-append}
 use Rattle.std.proofs.lemmas.List.Elements.{All-append, All-cons, All-nil, All-weaker}
-use Rattle.msg_buffer.specs.History.{GoesOn, History, IsSound, count, instances}
-use Rattle.msg_buffer.specs.Kept.{message_of}
-use Rattle.msg_buffer.specs.Reader.{Stretch, given, next_place, pass_over, read}
-use Rattle.msg_buffer.specs.Tiling.{Fits, Tile}
+use Rattle.msg_buffer.specs.History.{GoesOn, History, IsSound, count, instances, message_of}
+use Rattle.msg_buffer.specs.Reader.{Stretch, given, next_place, pass_over, read, Fits, Tile}
 use Rattle.msg_world.specs.declared.record.Record.{Record}
 use Rattle.msg_world.specs.World.{WorldState}
 use Rattle.msg_system.specs.declared.op.Op.{Op}

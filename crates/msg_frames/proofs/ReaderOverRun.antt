@@ -11,14 +11,12 @@ use Rattle.msg_frames.specs.declared.frame.Frame.{Frame}
 use Rattle.msg_frames.specs.declared.log.Log.{Log}
 use Rattle.msg_frames.specs.declared.totals.Totals.{Totals}
 use Rattle.msg_frames.specs.Entries.{Entry, entries_told, totals_from, with_entries}
-use Rattle.msg_frames.specs.Frames.{IsRun, before_turns, begun, counts, frame_in, systems_in}
-use Rattle.msg_frames.specs.Readings.{IsGivenOnce, IsInOrderOf}
+use Rattle.msg_frames.specs.Frames.{IsRun, before_turns, begun, counts, frame_in, systems_in, Member, State, has_begun}
 use Rattle.msg_frames.proofs.OneFateEach.{lies_between, meets_one_fate, missed_are_dropped}
 use Rattle.msg_frames.proofs.TilesGiveInOrder.{all_as_written, counted_cleared, counted_given, counted_missed, given_in_order, in_order_of}
-use Rattle.msg_frames.specs.CompleteRun.{IsServed, found_totals}
+use Rattle.msg_frames.specs.CompleteRun.{IsServed, found_totals, IsGivenOnce, IsInOrderOf}
 use Rattle.msg_frames.specs.ReaderLaws.{RunsAreComplete}
 use Rattle.msg_frames.specs.Soundness.{IsSoundState}
-use Rattle.msg_frames.specs.State.{Member, State, has_begun}
 use Rattle.msg_frames.specs.Tiling.{Moment, answers_in, found_at, log_entries, moments, place_of, turns_moments}
 use Rattle.msg_frames.proofs.HistoriesGrow.{BufferLaws, goes_further, runs_go_on, stays}
 use Rattle.msg_frames.proofs.SystemsStay.{before_keeps, turns_keep}

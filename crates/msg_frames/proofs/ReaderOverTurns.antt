@@ -8,8 +8,7 @@ use Rattle.msg_system.specs.Needs.{Needs}
 use Rattle.msg_system.specs.Systems.{Rule}
 use Rattle.msg_frames.specs.declared.log.Turn.{Turn}
 use Rattle.msg_frames.specs.Entries.{Entry, answers, entries_for, entries_told, ops_by, with_entries}
-use Rattle.msg_frames.specs.Frames.{after_turn_of, after_turns_of, logged, turn_of}
-use Rattle.msg_frames.specs.State.{Member, State}
+use Rattle.msg_frames.specs.Frames.{after_turn_of, after_turns_of, logged, turn_of, Member, State}
 use Rattle.msg_frames.specs.Tiling.{Moment, job_moments, place_of, turns_moments}
 use Rattle.msg_frames.specs.TurnLaws.{SameSystems}
 use Rattle.msg_frames.proofs.HistoriesGrow.{BufferLaws, job_goes_on, stays}

@@ -11,10 +11,9 @@ use Rattle.msg_frames.specs.declared.frame.Frame.{Frame}
 use Rattle.msg_frames.specs.declared.log.Log.{Log}
 use Rattle.msg_frames.specs.declared.log.Turn.{Turn}
 use Rattle.msg_frames.specs.Entries.{answers}
-use Rattle.msg_frames.specs.Frames.{IsRun, before_turns, systems_in}
+use Rattle.msg_frames.specs.Frames.{IsRun, before_turns, systems_in, State, joined}
 use Rattle.msg_frames.specs.ReaderLaws.{RunsAreComplete, ReplaysTellTheSame, ReplaysTellACompleteRun}
 use Rattle.msg_frames.specs.Replays.{IsMixedRun, IsReplay}
-use Rattle.msg_frames.specs.State.{State, joined}
 use Rattle.msg_frames.specs.Tiling.{answers_in}
 use Rattle.msg_frames.proofs.ElementsAndPairs.{pairs_head, pairs_tail}
 use Rattle.msg_order.proofs.Elements.{Contains-cases, Contains-head, Contains-tail, not_in_none}

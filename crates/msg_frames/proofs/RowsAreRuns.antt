@@ -15,13 +15,12 @@ use Rattle.msg_system.specs.declared.op.Op.{Op}
 use Rattle.msg_system.specs.declared.condition.Condition.{Condition}
 use Rattle.msg_system.specs.declared.op.Op.TheVariants.{Read}
 use Rattle.msg_system.specs.declared.program.Program.{Program}
-use Rattle.msg_system.specs.Footprints.{conditions_of}
+use Rattle.msg_system.specs.Conditions.{conditions_of}
 use Rattle.msg_system.specs.Systems.{turn}
 use Rattle.msg_system.specs.Needs.{Needs, IsAccessOf, is_part, job_needs, op_parts, probe_part, some_op_reads, some_condition_reads, program_needs, with_conditions}
 use Rattle.msg_frames.specs.declared.frame.Frame.{Frame}
-use Rattle.msg_frames.specs.Frames.{AfterFrame, IsTurnOrderOf, before_turns, frame_in, needs_of}
+use Rattle.msg_frames.specs.Frames.{AfterFrame, IsTurnOrderOf, before_turns, frame_in, needs_of, State, joined}
 use Rattle.msg_frames.specs.FirstState.{nobody, unjoined}
-use Rattle.msg_frames.specs.State.{State, joined}
 use Rattle.msg_frames.proofs.SystemsStay.{before_keeps, frame_keeps, joining_on_keeps}
 use Rattle.msg_frames.specs.Rows.{OrderedFrames, IsRunOf, Setup, start_of, alone, numbered, program, lag, lag_frames, fourth, fourth_frames, writers, writers_frames, contrary, contrary_frames, echo, echo_frames, two_conditions, conditions_frames, tally, tally_frames, late, late_frames, early_frames, gated, gated_frames, signallers, signallers_frames, drained, drained_frames, relay, relay_frames}
 use Rattle.msg_frames.proofs.FramesInOrder.{frame_in_order}

@@ -10,8 +10,7 @@ use Rattle.msg_order.specs.declared.rule.Rule.{Rule}
 use Rattle.msg_order.specs.Graph.{Graph, IsAcyclic}
 use Rattle.msg_order.specs.Laws.{SettledOrderIsUnique, SettlingMakesNoCycle, TurnOrderIsUnique}
 use Rattle.msg_order.specs.Order.{AreInConflict, IsAmong, IsSettledOrder, IsTurnOrder, Settles, access_of, has_joined, pairs, rules_among}
-use Rattle.msg_frames.specs.Frames.{AreAccessesOf, IsOrderOf, IsRun, IsTurnOrderOf, before_turns, frame_in, systems_in}
-use Rattle.msg_frames.specs.State.{State, has_begun, joined}
+use Rattle.msg_frames.specs.Frames.{AreAccessesOf, IsOrderOf, IsRun, IsTurnOrderOf, before_turns, frame_in, systems_in, State, has_begun, joined}
 use Rattle.msg_frames.specs.TurnLaws.{FramesAreUnique, NoCycle, RunsAreUnique, SystemsHaveOneOrder}
 use Rattle.msg_order.proofs.Elements.{Contains-cases}
 use Rattle.msg_frames.proofs.SystemsStay.{joined_below}

@@ -9,9 +9,8 @@ use Rattle.msg_order.specs.Order.{has_joined}
 use Rattle.msg_frames.specs.declared.frame.Frame.{Frame}
 use Rattle.msg_frames.specs.declared.log.Log.{Log}
 use Rattle.msg_frames.specs.Entries.{no_totals}
-use Rattle.msg_frames.specs.Frames.{IsFrame, IsRun, IsTurnOrderOf, after_turns_of, before_turns, begun, counts, systems_in}
+use Rattle.msg_frames.specs.Frames.{IsFrame, IsRun, IsTurnOrderOf, after_turns_of, before_turns, begun, counts, systems_in, Member, State, has_begun, joined}
 use Rattle.msg_frames.specs.Soundness.{IsBalanced, IsSoundState}
-use Rattle.msg_frames.specs.State.{Member, State, has_begun, joined}
 use Rattle.msg_frames.specs.Tiling.{place_of}
 use Rattle.msg_frames.proofs.HistoriesGrow.{BufferLaws, counts_more, turns_go_on}
 use Rattle.msg_frames.proofs.SystemsStay.{turns_keep}

@@ -13,8 +13,7 @@ use Rattle.msg_system.specs.Conditions.{Asked, after_asking, all_hold, asked_sta
 use Rattle.msg_system.specs.declared.start.Start.{Start}
 use Rattle.msg_system.specs.Needs.{IsAccessOf, with_conditions}
 use Rattle.msg_frames.specs.declared.frame.Frame.{Frame}
-use Rattle.msg_frames.specs.Frames.{AreAccessesOf, after_turn_of, after_turns_of, before_turns, begun, counts, frame_in, joining, member_turn, needs_of, turn_of, with_joining, with_member}
-use Rattle.msg_frames.specs.State.{Member, State, has_begun, joined}
+use Rattle.msg_frames.specs.Frames.{AreAccessesOf, after_turn_of, after_turns_of, before_turns, begun, counts, frame_in, joining, member_turn, needs_of, turn_of, with_joining, with_member, Member, State, has_begun, joined}
 use Rattle.msg_frames.specs.TurnLaws.{FramesKeepSystems, NoCycle, SameMember, SameSystems, SameSystemsHaveSameAccesses, TurnsKeepSystems}
 
 -- ---- members

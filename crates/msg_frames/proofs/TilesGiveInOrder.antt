@@ -10,13 +10,11 @@ use Rattle.std.proofs.lemmas.List.FromFn.{length-range_with_len}
 use Rattle.std.proofs.lemmas.Option.{slice_get-get_or}
 use Rattle.std.proofs.lemmas.Simd.{map-map}
 use Rattle.msg_buffer.specs.declared.instance.Instance.{Instance}
-use Rattle.msg_buffer.specs.History.{Entry as Written, GoesOn, History, count, instance_of, instances}
-use Rattle.msg_buffer.specs.Kept.{message_of, numbered}
-use Rattle.msg_buffer.specs.Reader.{Stretch, next_place}
-use Rattle.msg_buffer.specs.Tiling.{Tile}
+use Rattle.msg_buffer.specs.History.{Entry as Written, GoesOn, History, count, instance_of, instances, message_of, numbered}
+use Rattle.msg_buffer.specs.Reader.{Stretch, next_place, Tile}
 use Rattle.msg_world.specs.declared.record.Record.{Record}
 use Rattle.msg_frames.specs.Entries.{Entry, number_cleared, number_given}
-use Rattle.msg_frames.specs.Readings.{IsInOrderOf, given, cleared, missed, given_by, instances_given, message_numbered, messages_given, numbers_at, numbers_of}
+use Rattle.msg_frames.specs.CompleteRun.{IsInOrderOf, given, cleared, missed, given_by, instances_given, message_numbered, messages_given, numbers_at, numbers_of}
 use Rattle.msg_frames.specs.Tiling.{GivesItsStretch, Moment, messages_of}
 use Rattle.msg_frames.proofs.EntriesAddUp.{sum-cons}
 use Rattle.msg_frames.proofs.OneFateEach.{entries_of}

@@ -11,9 +11,8 @@ use Rattle.msg_system.specs.Conditions.{Job}
 use Rattle.msg_system.specs.Footprints.{HasFootprint, JobFootprint}
 use Rattle.msg_system.specs.Needs.{IsAccessOf, Needs, needs_any}
 use Rattle.msg_frames.specs.declared.log.Outcome.{Outcome}
-use Rattle.msg_frames.specs.Frames.{AfterTurn, AreAccessesOf, after_turn_of, member_turn, needs_of, outcome_of, turn_of, with_member}
+use Rattle.msg_frames.specs.Frames.{AfterTurn, AreAccessesOf, after_turn_of, member_turn, needs_of, outcome_of, turn_of, with_member, Member, State}
 use Rattle.msg_frames.specs.Entries.{outcome_entries, with_entries}
-use Rattle.msg_frames.specs.State.{Member, State}
 use Rattle.msg_frames.specs.TurnLaws.{TurnsOfOthersCommute}
 
 -- ---- worlds and states

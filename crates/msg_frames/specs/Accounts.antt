@@ -4,7 +4,7 @@ use Rattle.std.specs.List.{filter, range_with_len}
 use Rattle.msg_world.specs.Access.{OfType}
 use Rattle.msg_frames.specs.declared.account.Account.{Account}
 use Rattle.msg_frames.specs.declared.totals.Totals.{Totals}
-use Rattle.msg_frames.specs.State.{State}
+use Rattle.msg_frames.specs.Frames.{State}
 use Rattle.msg_frames.specs.Tiling.{place_of}
 
 -- system i reads type t

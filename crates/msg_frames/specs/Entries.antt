@@ -5,7 +5,7 @@ use Rattle.msg_buffer.specs.Reader.{Stretch}
 use Rattle.msg_world.specs.declared.record.Record.{Record}
 use Rattle.msg_system.specs.declared.op.Op.{Op}
 use Rattle.msg_system.specs.declared.reply.Reply.{Reply}
-use Rattle.msg_system.specs.declared.reply.Reply.TheVariants.{Wrote, Spent, Read, Len, Missed, Cleared, Forwarded, Summed, Value, Drained, Signalled}
+use Rattle.msg_system.specs.declared.reply.Reply.TheVariants.{Read, Cleared, Forwarded, Summed}
 use Rattle.msg_system.specs.declared.reply.Took.{Took}
 use Rattle.msg_system.specs.Needs.{Needs, type_read}
 use Rattle.msg_system.specs.Systems.{Meaning, Rule, if_kept, ops_answered}
@@ -28,17 +28,11 @@ entry_of_read took = record {
 
 -- the entry that a reply tells of; an op that only asks or writes goes past nothing
 abbrev pub entry_of : Reply → Option Entry
-entry_of (Wrote numbers) = None
-entry_of Spent = None
 entry_of (Read took) = Some (entry_of_read took)
-entry_of (Len n) = None
-entry_of (Missed n) = None
-entry_of (Cleared missed first n) = Some (record { stretch = record { missed = missed; first = first; number = n }; given = None })
 entry_of (Forwarded took wrote) = Some (entry_of_read took)
 entry_of (Summed took value) = Some (entry_of_read took)
-entry_of (Value value) = None
-entry_of (Drained first items) = None
-entry_of Signalled = None
+entry_of (Cleared missed first n) = Some (record { stretch = record { missed = missed; first = first; number = n }; given = None })
+entry_of _ = None
 
 -- the op reads the type
 abbrev pub op_reads_type : ℕ → Op → Bool

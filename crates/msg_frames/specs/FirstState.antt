@@ -10,8 +10,7 @@ use Rattle.msg_system.specs.declared.start.Start.TheVariants.{Zero}
 use Rattle.msg_system.specs.Systems.{Meaning, new_system}
 use Rattle.msg_frames.specs.declared.place.Place.{Place}
 use Rattle.msg_frames.specs.Entries.{no_totals}
-use Rattle.msg_frames.specs.Frames.{with_joining}
-use Rattle.msg_frames.specs.State.{Member, State}
+use Rattle.msg_frames.specs.Frames.{with_joining, Member, State}
 
 -- the default for a number that is no system's: no ops, writer 0
 abbrev pub nobody : Meaning

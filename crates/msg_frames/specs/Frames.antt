@@ -1,5 +1,5 @@
 -- A frame, and frames one after the other.
-use Rattle.std.specs.Prelude.{◌≡◌, ℕ, suc, ℤ, ◌<◌, ◌==◌, List, [], ◌∷◌, length, map, Option, Some, None, if◌then◌else◌}
+use Rattle.std.specs.Prelude.{◌≡◌, ℕ, suc, ℤ, ◌<◌, ◌==◌, List, [], ◌∷◌, length, map, Option, Some, None, if◌then◌else◌, max, nat_le, Bool}
 use Rattle.std.specs.List.{range_with_len}
 use Rattle.msg_buffer.specs.History.{count, write}
 use Rattle.msg_world.specs.declared.access.Access.{Access}
@@ -8,8 +8,7 @@ use Rattle.msg_world.specs.World.{WorldState, by, updated, with_history}
 use Rattle.msg_order.specs.Graph.{Graph}
 use Rattle.msg_order.specs.Order.{IsSettledOrder, IsTurnOrder, access_of}
 use Rattle.msg_system.specs.declared.reply.Reply.{Reply}
-use Rattle.msg_system.specs.Conditions.{AfterJob, Job, after_job, asked_started}
-use Rattle.msg_system.specs.Footprints.{conditions_of}
+use Rattle.msg_system.specs.Conditions.{AfterJob, Job, after_job, asked_started, conditions_of}
 use Rattle.msg_system.specs.Needs.{IsAccessOf, Needs, with_conditions}
 use Rattle.msg_system.specs.Programs.{numbers_for, write_reply}
 use Rattle.msg_system.specs.Systems.{started}
@@ -19,7 +18,36 @@ use Rattle.msg_frames.specs.declared.log.Turn.{Turn}
 use Rattle.msg_frames.specs.declared.log.Outcome.{Outcome}
 use Rattle.msg_frames.specs.declared.log.Outcome.TheVariants.{Skipped, Ran}
 use Rattle.msg_frames.specs.Entries.{outcome_entries, totals_from, with_entries}
-use Rattle.msg_frames.specs.State.{Member, State, joined}
+use Rattle.msg_order.specs.declared.rule.Rule.{Rule}
+use Rattle.msg_frames.specs.declared.totals.Totals.{Totals}
+
+-- A system among the others.
+pub record Member : Type 0 where
+  -- its system and its conditions, with their cursors
+  pub job : Job
+  -- the frame that it joins with; with 1 it joins before any frame
+  pub join : ℕ
+  -- what it was given of each type
+  pub totals : ℕ → Totals
+
+pub record State : Type 0 where
+  -- how many systems there are; a system goes by its number, in order of addition
+  pub systems : ℕ
+  pub members : ℕ → Member
+  pub rules : List Rule
+  -- how many types the world has
+  pub types : ℕ
+  pub world : WorldState
+  -- how many frames were run
+  pub frames : ℕ
+
+-- system i has joined
+abbrev pub has_begun : State → ℕ → Bool
+has_begun s i = nat_le (s.members i).join (max 1 s.frames)
+
+-- of each system, whether it has joined
+abbrev pub joined : State → List Bool
+joined s = map (has_begun s) (range_with_len 0 s.systems)
 
 -- ---- joining
 

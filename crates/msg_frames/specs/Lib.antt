@@ -1,13 +1,12 @@
 pub mod Entries
-pub mod State
 pub mod Frames
 pub mod FirstState
 pub mod Replays
 pub mod TurnLaws
 pub mod Tiling
-pub mod Readings
 pub mod CompleteRun
 pub mod Soundness
 pub mod ReaderLaws
+pub mod UpToDate
 pub mod Accounts
 pub mod Rows

@@ -9,11 +9,10 @@ use Rattle.msg_frames.specs.declared.log.Log.{Log}
 use Rattle.msg_frames.specs.declared.place.Place.{Place}
 use Rattle.msg_frames.specs.declared.totals.Totals.{Totals}
 use Rattle.msg_frames.specs.Entries.{no_totals}
-use Rattle.msg_frames.specs.Frames.{IsFrame, IsRun}
+use Rattle.msg_frames.specs.Frames.{IsFrame, IsRun, State, has_begun}
 use Rattle.msg_frames.specs.FirstState.{IsNew, first_state, nobody}
-use Rattle.msg_frames.specs.Replays.{IsMixedRun, IsReplay}
+use Rattle.msg_frames.specs.Replays.{IsMixedRun, IsReplay, TellsACompleteRun}
 use Rattle.msg_frames.specs.Soundness.{IsBalanced, IsSoundState}
-use Rattle.msg_frames.specs.State.{State, has_begun}
 use Rattle.msg_frames.specs.CompleteRun.{IsCompleteRun}
 use Rattle.msg_frames.specs.Tiling.{answers_in, place_of}
 
@@ -51,12 +50,6 @@ abbrev pub ReplaysTellTheSame : Type 0
 ReplaysTellTheSame = (frame : Frame) (order : List ℕ) (s : State) (log : Log) (u : State)
     (replay : IsReplay frame order s log u) (i : ℕ)
     → answers_in i (log ∷ []) ≡ answers_in i (replay.settled ∷ [])
-
--- The logs tell each system what the run of the same frames tells it, which is complete.
-pub record TellsACompleteRun (frames : List Frame) (s : State) (logs : List Log) (u : State) : Type 0 where
-  pub settled : List Log
-  pub complete : IsCompleteRun frames s settled u
-  pub alike : (i : ℕ) → answers_in i logs ≡ answers_in i settled
 
 -- So it is with frames of which some are replayed.
 abbrev pub ReplaysTellACompleteRun : Type 0

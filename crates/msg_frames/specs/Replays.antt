@@ -4,8 +4,9 @@ use Rattle.msg_order.specs.Graph.{Graph}
 use Rattle.msg_order.specs.Order.{IsLawfulOrder}
 use Rattle.msg_frames.specs.declared.frame.Frame.{Frame}
 use Rattle.msg_frames.specs.declared.log.Log.{Log}
-use Rattle.msg_frames.specs.Frames.{IsFrame, IsOrderOf, before_turns, systems_in}
-use Rattle.msg_frames.specs.State.{State, joined}
+use Rattle.msg_frames.specs.Frames.{IsFrame, IsOrderOf, before_turns, systems_in, State, joined}
+use Rattle.msg_frames.specs.CompleteRun.{IsCompleteRun}
+use Rattle.msg_frames.specs.Tiling.{answers_in}
 
 -- The order is lawful for a frame on the state s: it has all that will have joined, each once, and keeps their settled
 -- order.
@@ -24,6 +25,12 @@ pub record IsReplay (frame : Frame) (order : List ℕ) (s : State) (log : Log) (
   pub posts : log.posts ≡ settled.posts
   pub turns : IsPermutation log.turns settled.turns
   pub in_order : systems_in log ≡ order
+
+-- The logs tell each system what the run of the same frames tells it, which is complete.
+pub record TellsACompleteRun (frames : List Frame) (s : State) (logs : List Log) (u : State) : Type 0 where
+  pub settled : List Log
+  pub complete : IsCompleteRun frames s settled u
+  pub alike : (i : ℕ) → answers_in i logs ≡ answers_in i settled
 
 -- Frames one after the other, each run or replayed in some order, have these logs, and leave the state u.
 abbrev pub IsMixedRun : List Frame → State → List Log → State → Type 0

@@ -21,9 +21,8 @@ use Rattle.msg_frames.specs.declared.log.Turn.{Turn}
 use Rattle.msg_frames.specs.declared.place.Place.{Place}
 use Rattle.msg_frames.specs.declared.totals.Totals.{Totals}
 use Rattle.msg_frames.specs.Entries.{no_totals}
-use Rattle.msg_frames.specs.Frames.{AfterFrame, IsRun, frame_in}
+use Rattle.msg_frames.specs.Frames.{AfterFrame, IsRun, frame_in, State}
 use Rattle.msg_frames.specs.FirstState.{first_state}
-use Rattle.msg_frames.specs.State.{State}
 
 -- ---- how the rows are written
 

@@ -2,7 +2,7 @@
 use Rattle.std.specs.Prelude.{◌≡◌, ℕ, ◌+◌, ◌≤◌, ◌<◌, Some, IsTrue, IsFalse}
 use Rattle.msg_buffer.specs.History.{IsSound, count}
 use Rattle.msg_frames.specs.Entries.{no_totals}
-use Rattle.msg_frames.specs.State.{State, has_begun}
+use Rattle.msg_frames.specs.Frames.{State, has_begun}
 use Rattle.msg_frames.specs.Tiling.{place_of}
 use Rattle.msg_frames.specs.declared.totals.Totals.{Totals}
 

@@ -1,9 +1,7 @@
 -- What a reader was given over a run, moment by moment.
 use Rattle.std.specs.Prelude.{◌≡◌, ℕ, zero, suc, ◌<◌, ◌==◌, Option, Some, None, List, [], ◌∷◌, ◌++◌, map, flat_map, take, drop, All, IfSome, unwrap_or, IsTrue, if◌then◌else◌}
-use Rattle.msg_buffer.specs.History.{History, instances}
-use Rattle.msg_buffer.specs.Kept.{message_of}
-use Rattle.msg_buffer.specs.Reader.{Stretch}
-use Rattle.msg_buffer.specs.Tiling.{Tile}
+use Rattle.msg_buffer.specs.History.{History, instances, message_of}
+use Rattle.msg_buffer.specs.Reader.{Stretch, Tile}
 use Rattle.msg_world.specs.declared.record.Record.{Record}
 use Rattle.msg_world.specs.World.{WorldState}
 use Rattle.msg_system.specs.declared.op.Op.{Op}
@@ -14,8 +12,7 @@ use Rattle.msg_system.specs.Systems.{Meaning, after_at_most, next_op}
 use Rattle.msg_frames.specs.declared.frame.Frame.{Frame}
 use Rattle.msg_frames.specs.declared.log.Log.{Log}
 use Rattle.msg_frames.specs.Entries.{Entry, answers, entries_told, entry_for}
-use Rattle.msg_frames.specs.Frames.{after_turn_of, before_turns, frame_in, systems_in}
-use Rattle.msg_frames.specs.State.{State, has_begun}
+use Rattle.msg_frames.specs.Frames.{after_turn_of, before_turns, frame_in, systems_in, State, has_begun}
 
 -- ---- the entries that logs have
 

@@ -9,11 +9,10 @@ use Rattle.msg_world.specs.World.{merge}
 use Rattle.msg_order.specs.Graph.{Graph, IsAcyclic}
 use Rattle.msg_order.specs.Order.{IsLawfulOrder, IsSettledOrder, access_of, rules_among}
 use Rattle.msg_order.specs.Plan.{NoneConflict}
-use Rattle.msg_system.specs.Footprints.{conditions_of}
+use Rattle.msg_system.specs.Conditions.{conditions_of}
 use Rattle.msg_frames.specs.declared.frame.Frame.{Frame}
 use Rattle.msg_frames.specs.declared.log.Log.{Log}
-use Rattle.msg_frames.specs.Frames.{AfterTurns, AreAccessesOf, IsFrame, IsOrderOf, IsRun, after_turn_of, after_turns_of, before_turns, frame_in, joining, logged, turn_of, with_joining, with_member}
-use Rattle.msg_frames.specs.State.{Member, State, joined}
+use Rattle.msg_frames.specs.Frames.{AfterTurns, AreAccessesOf, IsFrame, IsOrderOf, IsRun, after_turn_of, after_turns_of, before_turns, frame_in, joining, logged, turn_of, with_joining, with_member, Member, State, joined}
 
 -- ---- what stays
 

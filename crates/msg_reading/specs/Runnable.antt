@@ -10,7 +10,7 @@ use Rattle.msg_system.specs.Systems.{Meaning, new_system}
 use Rattle.msg_system.specs.declared.op.Op.{Op}
 use Rattle.msg_system.specs.declared.op.Op.TheVariants.{Forward, Sum}
 use Rattle.msg_frames.specs.FirstState.{all_rules, first_state}
-use Rattle.msg_frames.specs.State.{State}
+use Rattle.msg_frames.specs.Frames.{State}
 use Rattle.msg_frames.specs.declared.frame.Frame.{Frame}
 use Rattle.msg_frames.specs.declared.place.Place.{Place}
 use Rattle.msg_reading.specs.declared.kind.Kind.{Kind}

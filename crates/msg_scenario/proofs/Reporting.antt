@@ -10,8 +10,7 @@ use Rattle.msg_frames.specs.Accounts.{accounts_of}
 use Rattle.msg_exec.specs.Cores.{CoreStands}
 use Rattle.msg_exec.specs.Engines.{HasRunFrame, IsSpoiled, PostsFit, StandsFor, frames_of}
 use Rattle.msg_frames.specs.CompleteRun.{IsCompleteRun}
-use Rattle.msg_frames.specs.Frames.{IsFrame, IsRun, systems_in}
-use Rattle.msg_frames.specs.State.{State}
+use Rattle.msg_frames.specs.Frames.{IsFrame, IsRun, systems_in, State}
 use Rattle.msg_frames.specs.TurnLaws.{FrameKeeps, FramesKeepSystems}
 use Rattle.msg_frames.specs.declared.account.Account.{Account}
 use Rattle.msg_exec.specs.declared.engine.EngineOf.{EngineOf}

@@ -5,7 +5,7 @@ use Rattle.msg_system.specs.Systems.{Meaning}
 use Rattle.msg_frames.specs.Accounts.{accounts_of}
 use Rattle.msg_exec.specs.Engines.{StandsFor}
 use Rattle.msg_frames.specs.CompleteRun.{IsCompleteRun}
-use Rattle.msg_frames.specs.State.{State}
+use Rattle.msg_frames.specs.Frames.{State}
 use Rattle.msg_exec.specs.declared.engine.EngineOf.{EngineOf}
 use Rattle.msg_frames.specs.declared.log.Log.{Log}
 use Rattle.msg_scenario.specs.ReportText.{report_text}

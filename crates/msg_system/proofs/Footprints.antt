@@ -4,8 +4,7 @@ use Rattle.std.specs.Prelude.{◌==◌, ℤ, IsTrue, nat_lt, if◌then◌else◌
 use Rattle.std.specs.Ordering.{int_eq}
 use Rattle.std.proofs.Math.Bool.{or-false}
 use Rattle.std.proofs.lemmas.Bool.{cases_Bool, false≢true, or_left, or_right}
-use Rattle.msg_buffer.specs.History.{History, clear, count, oldest, present, write}
-use Rattle.msg_buffer.specs.Kept.{message_of}
+use Rattle.msg_buffer.specs.History.{History, clear, count, oldest, present, write, message_of}
 use Rattle.msg_buffer.specs.Reader.{missed, pass_over, unread}
 use Rattle.msg_world.specs.declared.record.Record.{Record}
 use Rattle.msg_world.specs.Access.{Part, OfType, OfResource, Registry, same_part}
@@ -19,8 +18,8 @@ use Rattle.msg_system.specs.declared.program.Program.{Program}
 use Rattle.msg_system.specs.declared.reply.Reply.{Reply}
 use Rattle.msg_system.specs.declared.reply.Reply.TheVariants as reply
 use Rattle.msg_system.specs.declared.start.Start.TheVariants.{Zero}
-use Rattle.msg_system.specs.Conditions.{AfterJob, Asked, Job, after_asking, all_hold, answer, found, inverted, place_after}
-use Rattle.msg_system.specs.Footprints.{Agree, ConditionFootprint, IsWithin, JobFootprint, HasFootprint, OpFootprint, ProgramFootprint, TurnFootprint, conditions_of, given_by_job, given_by_op, given_by_program}
+use Rattle.msg_system.specs.Conditions.{AfterJob, Asked, Job, after_asking, all_hold, answer, found, inverted, place_after, conditions_of}
+use Rattle.msg_system.specs.Footprints.{Agree, ConditionFootprint, IsWithin, JobFootprint, HasFootprint, OpFootprint, ProgramFootprint, TurnFootprint, given_by_job, given_by_op, given_by_program}
 use Rattle.msg_system.specs.Needs.{Needs, condition_needs, is_part, is_resource, op_needs, op_parts, probe_part, program_needs, some_condition_reads, with_conditions}
 use Rattle.msg_system.specs.Programs.{AfterOp, AfterProgram, after_op, after_program, again_by, cleared, numbers_for, place_after_read, plus, sum_onto, took, with_place, write_reply}
 use Rattle.msg_system.specs.Systems.{Meaning, after_at_most, after_turn, next_op, of_program, one_more, told, turn}

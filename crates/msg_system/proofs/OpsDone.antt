@@ -3,8 +3,7 @@ use Rattle.std.proofs.Common.{◌≡◌, ℕ, List, length, Option, None, refl, 
 use Rattle.std.specs.Prelude.{ℤ}
 use Rattle.msg_buffer.specs.declared.instance.Written.{Written}
 use Rattle.std.proofs.lemmas.List.{length-map}
-use Rattle.msg_buffer.specs.History.{History, write}
-use Rattle.msg_buffer.specs.Kept.{message_of}
+use Rattle.msg_buffer.specs.History.{History, write, message_of}
 use Rattle.msg_buffer.specs.Reader.{given}
 use Rattle.msg_world.specs.declared.lent.Lent.{Lent}
 use Rattle.msg_world.specs.declared.record.Record.{Record}

@@ -57,6 +57,10 @@ pub record Job : Type 0 where
   pub system : Meaning
   pub conditions : List Asked
 
+-- the conditions of a job, without their places
+abbrev pub conditions_of : Job → List Condition
+conditions_of j = map (λ a. a.condition) j.conditions
+
 -- What a job leaves, and what its program answered: nothing, where the job was skipped.
 pub record AfterJob : Type 0 where
   pub job : Job

@@ -5,7 +5,7 @@ use Rattle.msg_world.specs.World.{WorldState, content}
 use Rattle.msg_system.specs.declared.condition.Condition.{Condition}
 use Rattle.msg_system.specs.declared.op.Op.{Op}
 use Rattle.msg_system.specs.declared.reply.Reply.{Reply}
-use Rattle.msg_system.specs.Conditions.{AfterJob, Asked, Job, after_asking, after_job, answer}
+use Rattle.msg_system.specs.Conditions.{AfterJob, Asked, Job, after_asking, after_job, answer, conditions_of}
 use Rattle.msg_system.specs.Needs.{Needs, condition_needs, needs_any, op_needs, program_needs, with_conditions}
 use Rattle.msg_system.specs.Programs.{AfterOp, AfterProgram, after_op, after_program}
 use Rattle.msg_system.specs.Systems.{Meaning, turn}
@@ -49,10 +49,6 @@ TurnFootprint = (m : Meaning) → HasFootprint m.needs (λ (e : AfterProgram). e
 abbrev pub ConditionFootprint : Type 0
 ConditionFootprint = (a : Asked) (m : Part → Bool) (s t : WorldState) → IsWithin (condition_needs a.condition) m → Agree m s t
     → (answer a s ≡ answer a t) × (after_asking s a ≡ after_asking t a)
-
--- the conditions of a job, without their places
-abbrev pub conditions_of : Job → List Condition
-conditions_of j = map (λ a. a.condition) j.conditions
 
 abbrev pub JobFootprint : Type 0
 JobFootprint = (j : Job) → HasFootprint (with_conditions j.system.needs (conditions_of j)) (λ (e : AfterJob). e.state) given_by_job (after_job j)

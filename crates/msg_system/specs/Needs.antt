@@ -46,8 +46,7 @@ op_parts Signal = writing Registry
 -- the type, where the part is one
 abbrev pub type_of : Part → Option ℕ
 type_of (OfType t) = Some t
-type_of (OfResource r) = None
-type_of Registry = None
+type_of _ = None
 
 -- the type that an op reads
 abbrev pub type_read : Op → Option ℕ
@@ -85,9 +84,8 @@ abbrev pub some_op_writes : List Op → Part → Bool
 some_op_writes ops p = list_any (λ op. (op_needs op).writes p) ops
 
 abbrev pub is_resource : Part → Bool
-is_resource (OfType t) = false
 is_resource (OfResource r) = true
-is_resource Registry = false
+is_resource _ = false
 
 -- A program writes what an op of it writes, and reads what an op of it reads. A resource that is also written isn't listed as
 -- read: it is used once, for writing. A type that is both read and written stays both: that is the clash.

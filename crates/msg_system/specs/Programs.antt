@@ -2,8 +2,7 @@
 use Rattle.std.specs.Prelude.{ℕ, ℤ, ◌+ℤ◌, ◌==◌, Option, None, Some, List, [], ◌∷◌, fold, length, map, if◌then◌else◌}
 use Rattle.std.specs.Int.{saturate_signed, w64}
 use Rattle.msg_buffer.specs.declared.instance.Written.{Written}
-use Rattle.msg_buffer.specs.History.{History, clear, count, has_room, oldest, present, write}
-use Rattle.msg_buffer.specs.Kept.{message_of}
+use Rattle.msg_buffer.specs.History.{History, clear, count, has_room, oldest, present, write, message_of}
 use Rattle.msg_buffer.specs.Reader.{Stretch, first, given, missed, next_place, pass_over, read, unread}
 use Rattle.msg_world.specs.declared.record.Record.{Record}
 use Rattle.msg_world.specs.World.{WorldState, by, signalled, with_history, with_value_of}

@@ -1,7 +1,6 @@
 // What ops do to the parts that are lent to them.
 ghost use Rattle.std.specs.Prelude.{◌≡◌, ◌<◌, ℕ, [], ◌∷◌, IfOk, OnErr, OnOk, IsSome, length, map};
-ghost use Rattle.msg_buffer.specs.History.{clear, oldest, present, write};
-ghost use Rattle.msg_buffer.specs.Kept.{message_of};
+ghost use Rattle.msg_buffer.specs.History.{clear, oldest, present, write, message_of};
 ghost use Rattle.msg_buffer.specs.StandsFor.{StandsFor};
 ghost use Rattle.msg_world.specs.Access.{OfResource, OfType};
 ghost use Rattle.msg_world.specs.Loan.{LoanStands, SameLoan, shown, writable};

@@ -1,7 +1,6 @@
 // Reading what is unread of a type.
 ghost use Rattle.std.specs.Prelude.{◌≡◌, ◌+◌, ◌<◌, IfOk, OnErr, OnOk, length, map};
-ghost use Rattle.msg_buffer.specs.History.{History};
-ghost use Rattle.msg_buffer.specs.Kept.{message_of};
+ghost use Rattle.msg_buffer.specs.History.{History, message_of};
 ghost use Rattle.msg_buffer.specs.Reader.{first, given};
 ghost use Rattle.msg_buffer.specs.StandsFor.{StandsFor};
 ghost use Rattle.msg_world.specs.declared.record.Record.{Record};

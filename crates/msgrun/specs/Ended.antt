@@ -2,7 +2,7 @@
 use Rattle.std.specs.Prelude.{ℕ, ◌-◌, List, Option, Result, Ok, Err, length, take}
 use Rattle.std.specs.Io.KnownBytes.{Appends}
 use Rattle.msg_frames.specs.Accounts.{accounts_of}
-use Rattle.msg_frames.specs.State.{State}
+use Rattle.msg_frames.specs.Frames.{State}
 use Rattle.msg_frames.specs.declared.log.Log.{Log}
 use Rattle.msg_files.specs.Sinks.{AppendsAtLeast, AppendsPrefix}
 use Rattle.msg_files.specs.declared.report_fault.ReportFault.{ReportFault}

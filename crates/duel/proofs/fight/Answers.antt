@@ -9,8 +9,7 @@ returns-2 g c = record {
         logs = ran.logs;
         state = ran.state;
         appended = ran.appended ∙ ap (λ before. before ++ ran.logs) c.new-logs.ensures.items;
-        is_run = ran.is_run;
+        complete = ran.complete;
         stands = ran.stands;
-        tiled = ran.tiled;
       };
 }

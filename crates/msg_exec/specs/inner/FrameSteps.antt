@@ -6,9 +6,8 @@ use Rattle.msg_system.specs.Systems.{Meaning}
 use Rattle.msg_world.specs.World.{updated}
 use Rattle.msg_exec.specs.declared.engine_core.Core.{Core}
 use Rattle.msg_frames.specs.declared.frame.Frame.{Frame}
-use Rattle.msg_frames.specs.Frames.{before_turns, joining, post_replies}
+use Rattle.msg_frames.specs.Frames.{before_turns, joining, post_replies, State, joined}
 use Rattle.msg_exec.specs.Lender.{LenderStands}
-use Rattle.msg_frames.specs.State.{State, joined}
 use Rattle.msg_exec.specs.Cores.{CoreStands, Schedule}
 
 -- the state with one frame more counted

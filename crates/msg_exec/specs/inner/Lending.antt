@@ -14,7 +14,7 @@ use Rattle.msg_frames.specs.declared.totals.Totals.{Totals}
 use Rattle.msg_frames.specs.Entries.{with_entries}
 use Rattle.msg_exec.specs.inner.Totals.{entries_by}
 use Rattle.msg_exec.specs.Keeping.{kept, totals_at}
-use Rattle.msg_frames.specs.State.{State}
+use Rattle.msg_frames.specs.Frames.{State}
 use Rattle.msg_frames.specs.Tiling.{place_of}
 use Rattle.msg_exec.specs.Lender.{system_at}
 

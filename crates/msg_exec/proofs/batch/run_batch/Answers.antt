@@ -2,7 +2,7 @@ use Rattle.std.proofs.Common.{subst, sym, ◌∙◌, arith}
 use Rattle.std.proofs.lemmas.List.{nil_from_length}
 use Rattle.std.proofs.lemmas.Slice.Zip.{AllZip-long}
 use Rattle.msg_exec.specs.inner.Lending.{IsOut}
-use Rattle.msg_frames.specs.State.{State}
+use Rattle.msg_frames.specs.Frames.{State}
 use Rattle.msg_exec.specs.Work.{PassedGate}
 use Rattle.msg_exec.proofs.WorkersDraw.{of_batch}
 use Rattle.msg_exec.proofs.BatchAfterBatch.{no_more_than}

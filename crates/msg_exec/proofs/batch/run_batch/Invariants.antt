@@ -1,5 +1,5 @@
 use Rattle.msg_exec.specs.Lender.{LenderStands}
-use Rattle.msg_frames.specs.State.{State}
+use Rattle.msg_frames.specs.Frames.{State}
 use Rattle.msg_exec.proofs.BatchComesHome.{ComingHome}
 use Rattle.msg_exec.proofs.batch.run_batch.Given as goal
 

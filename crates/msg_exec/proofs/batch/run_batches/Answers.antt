@@ -6,9 +6,8 @@ use Rattle.msg_order.specs.Plan.{NoneConflict}
 use Rattle.msg_exec.proofs.BatchAfterBatch.{its_systems, pairs_of_one, HasTurned, as_many_systems, one_batch_more, systems_of, turned_more}
 use Rattle.std.specs.Prelude.{All, AllPairs}
 use Rattle.std.proofs.Math.Seq.{take-length}
-use Rattle.msg_frames.specs.Frames.{after_turns_of}
+use Rattle.msg_frames.specs.Frames.{after_turns_of, State}
 use Rattle.msg_exec.specs.Lender.{LenderStands}
-use Rattle.msg_frames.specs.State.{State}
 use Rattle.std.specs.Global.{Vec}
 use Rattle.msg_exec.proofs.batch.run_batches.Goals as goal
 

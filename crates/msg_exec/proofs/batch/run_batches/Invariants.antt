@@ -3,7 +3,7 @@ use Rattle.std.specs.Prelude.{All}
 use Rattle.std.specs.List.{concat}
 use Rattle.msg_exec.specs.Work.{PassedGate}
 use Rattle.msg_exec.specs.Lender.{LenderStands}
-use Rattle.msg_frames.specs.State.{State}
+use Rattle.msg_frames.specs.Frames.{State}
 use Rattle.msg_exec.proofs.BatchAfterBatch.{HasTurned}
 use Rattle.msg_exec.proofs.batch.run_batches.Given as goal
 

@@ -4,7 +4,7 @@ use Rattle.std.proofs.lemmas.Bool.{eqb-false}
 use Rattle.msg_order.specs.Graph.{IsAcyclic}
 use Rattle.msg_order.specs.Order.{NameSystemsBelow, rules_among}
 use Rattle.msg_order.specs.Plan.{IsPlanOf}
-use Rattle.msg_frames.specs.State.{State}
+use Rattle.msg_frames.specs.Frames.{State}
 use Rattle.msg_exec.proofs.CoreRunsFrame.{plan_next}
 use Rattle.msg_exec.proofs.engine_core.next_plan.Goals as goal
 

@@ -1,8 +1,7 @@
 use Rattle.std.proofs.Common.{◌<◌, ◌++◌, ◌∷◌, [], ap, sym, subst, ◌∙◌, arith, take}
 use Rattle.std.specs.Prelude.{slice_index_or}
 use Rattle.std.proofs.lemmas.List.{take_more}
-use Rattle.msg_frames.specs.Frames.{after_turns_of}
-use Rattle.msg_frames.specs.State.{State}
+use Rattle.msg_frames.specs.Frames.{after_turns_of, State}
 use Rattle.msg_exec.proofs.BatchAfterBatch.{HasTurned, as_many_systems, turned_all, turned_more}
 use Rattle.msg_exec.proofs.replay.run_turns.Goals as goal
 

@@ -1,6 +1,6 @@
 use Rattle.std.proofs.Common.{◌≡◌, take, []}
 use Rattle.msg_exec.specs.Lender.{LenderStands}
-use Rattle.msg_frames.specs.State.{State}
+use Rattle.msg_frames.specs.Frames.{State}
 use Rattle.msg_exec.proofs.BatchAfterBatch.{HasTurned}
 use Rattle.msg_exec.proofs.replay.run_turns.Given as goal
 

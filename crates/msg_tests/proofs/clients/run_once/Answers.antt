@@ -2,10 +2,9 @@ use Rattle.std.proofs.Common.{◌≡◌, ℕ, ◌<◌, List, rules, subst, sym, 
 use Rattle.std.specs.Prelude.{IsTrue}
 use Rattle.msg_frames.specs.declared.frame.Frame.{Frame}
 use Rattle.msg_frames.specs.declared.log.Log.{Log}
-use Rattle.msg_frames.specs.CompleteRun.{IsCompleteRun}
-use Rattle.msg_frames.specs.Readings.{Meets}
+use Rattle.msg_frames.specs.CompleteRun.{IsCompleteRun, Meets}
 use Rattle.msg_frames.specs.Readings.Fate.{given}
-use Rattle.msg_frames.specs.State.{State, has_begun}
+use Rattle.msg_frames.specs.Frames.{State, has_begun}
 use Rattle.msg_frames.specs.Tiling.{log_entries}
 use Rattle.msg_tests.proofs.clients.run_once.Goals as goal
 

@@ -12,9 +12,8 @@ use Rattle.msg_exec.specs.Building.{EachIs}
 use Rattle.msg_exec.specs.inner.Building.{AreNoTotals, IsAccessAt, IsGuardedAt, RefusesForCycle}
 use Rattle.msg_frames.specs.FirstState.{all_rules, first_state, unjoined}
 use Rattle.msg_exec.specs.Cores.{Schedule}
-use Rattle.msg_frames.specs.Frames.{with_joining}
+use Rattle.msg_frames.specs.Frames.{with_joining, State, joined}
 use Rattle.msg_exec.specs.Lender.{AreJoins}
-use Rattle.msg_frames.specs.State.{State, joined}
 use Rattle.msg_exec.proofs.FirstEngineStands.{are_new, joins_are, none_clashes, none_more, nothing_read, refusal_for_rules, schedule_first, lender_is_first}
 use Rattle.msg_exec.proofs.CoreRunsFrame.{joined_by_frame, schedule_along}
 use Rattle.msg_frames.proofs.SystemsStay.{joining_on_keeps}
