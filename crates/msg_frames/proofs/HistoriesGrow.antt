@@ -129,7 +129,7 @@ module _ (grow : OnlyGrows Record) where
       subst (λ w. WorldGoesOn w (posted posts (updated ready))) (joining_world s)
       (world_goes_further ready (updated ready) (posted posts (updated ready)) (update_goes_on ready) (posts_go_on posts (updated ready)))
 
-  frame_goes_on : (order : List ℕ) (frame : Frame) (s : State) → WorldGoesOn s.world (frame_in order frame s).state.world
+  pub frame_goes_on : (order : List ℕ) (frame : Frame) (s : State) → WorldGoesOn s.world (frame_in order frame s).state.world
   frame_goes_on order frame s =
       world_goes_further s.world (before_turns frame.posts s).world (frame_in order frame s).state.world
       (before_goes_on frame.posts s) (turns_go_on order (before_turns frame.posts s))

@@ -23,7 +23,9 @@ mod TilesGiveInOrder
 mod ReaderOverRun
 mod ReplaysTellTheSame
 mod StampsStayRecent
+mod ReadersTakeAll
 mod ReadersStayUpToDate
+mod ProgramsReadAll
 -- ---- worked runs
 mod ReadingsOfRows
 mod RowsAreRuns

@@ -159,12 +159,12 @@ module _ (laws : BufferLaws) where
   op_passes t (Drain u) writer ps w sound within = passes_nothing (ps t) (w.histories t) _ within (op_goes_on laws.grow (Drain u) writer ps w t sound)
   op_passes t Signal writer ps w sound within = passes_nothing (ps t) (w.histories t) _ within (stays (w.histories t) sound)
 
-  next_passes : (t : ℕ) (o : Option Op) (writer : ℕ) (far : AfterProgram) → IsSound (far.state.histories t) → far.places t ≤ count (far.state.histories t)
+  pub next_passes : (t : ℕ) (o : Option Op) (writer : ℕ) (far : AfterProgram) → IsSound (far.state.histories t) → far.places t ≤ count (far.state.histories t)
       → Passes (far.places t) (far.state.histories t) (next_moments t o writer far) ((one_more o writer far).places t) ((one_more o writer far).state.histories t)
   next_passes t None writer far sound within = passes_nothing (far.places t) (far.state.histories t) (far.state.histories t) within (stays (far.state.histories t) sound)
   next_passes t (Some op) writer far sound within = op_passes t op writer far.places far.state sound within
 
-  first_passes : (t n : ℕ) (m : Meaning) (w : WorldState) → IsSound (w.histories t) → m.places t ≤ count (w.histories t) →
+  pub first_passes : (t n : ℕ) (m : Meaning) (w : WorldState) → IsSound (w.histories t) → m.places t ≤ count (w.histories t) →
       let far : AfterProgram = after_at_most n (next_op m) m.writer m.places w in Passes (m.places t) (w.histories t) (first_moments t n m w) (far.places t) (far.state.histories t)
   first_passes t zero m w sound within = passes_nothing (m.places t) (w.histories t) (w.histories t) within (stays (w.histories t) sound)
   first_passes t (suc n) m w sound within =

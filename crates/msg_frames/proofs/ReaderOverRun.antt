@@ -27,7 +27,7 @@ use Rattle.msg_frames.proofs.BeforeTurns.{Prepares, before_rule, comes, prepares
 use Rattle.msg_frames.proofs.StatesStaySound.{begun_alike, frame_sound, has_no_turn, prepared_sound}
 
 -- a run of frames, as one frame and then the others, from the state that the frame leaves
-after_first : (frame : Frame) (frames : List Frame) (s : State) (log : Log) (logs : List Log) (u : State) → IsRun (frame ∷ frames) s (log ∷ logs) u
+pub after_first : (frame : Frame) (frames : List Frame) (s : State) (log : Log) (logs : List Log) (u : State) → IsRun (frame ∷ frames) s (log ∷ logs) u
     → IsRun frames (frame_in (systems_in log) frame s).state logs u
 after_first frame frames s log logs u is = subst (λ m. IsRun frames m logs u) is.1.leaves is.2
 

@@ -34,7 +34,7 @@ abbrev pub Keeps : State → State → Type 0
 Keeps s u = SameSystems s u × (u.frames ≡ s.frames)
 
 -- a member is as its turn leaves it, or as it was
-one_member : (P : Member → Type 0) (j i : ℕ) (s : State) → (i ≡ j → P (turn_of s i).member) → (¬ (i ≡ j) → P (s.members i)) → P ((after_turn_of j s).members i)
+pub one_member : (P : Member → Type 0) (j i : ℕ) (s : State) → (i ≡ j → P (turn_of s i).member) → (¬ (i ≡ j) → P (s.members i)) → P ((after_turn_of j s).members i)
 one_member P j i s here other = elim (cases_eq i j) [
   | inl e ↦ rw (eq-eqb i j e) (subst (λ k. P (turn_of s k).member) e (here e))
   | inr ne ↦ rw (ne_eqb i j ne) (other ne)
@@ -61,7 +61,7 @@ module _ (laws : BufferLaws) where
       (λ e. rw (eq-eqb j i (sym e)) (ap (λ es. with_entries es ((s.members i).totals t)) (job_logged t (s.members i).job s.world)))
       (λ ne. rw (ne_eqb j i (λ x. ne (sym x))) (sym (with_entries-none ((s.members i).totals t))))
 
-  turn_reads : (i t j : ℕ) (s : State) → IsSound (s.world.histories t) → place_of s i t ≤ count (s.world.histories t) → Reads i t s (own_moments i t j s) (after_turn_of j s)
+  pub turn_reads : (i t j : ℕ) (s : State) → IsSound (s.world.histories t) → place_of s i t ≤ count (s.world.histories t) → Reads i t s (own_moments i t j s) (after_turn_of j s)
   turn_reads i t j s sound within = record { passes = turn_passes i t j s sound within; totals = turn_totals i t j s }
 
   pub turns_read : (i t : ℕ) (js : List ℕ) (s : State) → IsSound (s.world.histories t) → place_of s i t ≤ count (s.world.histories t)

@@ -1,5 +1,5 @@
 -- Where the messages from a number on have recent stamps, ops, turns and posts keep it so.
-use Rattle.std.proofs.Common.{◌≡◌, ℕ, zero, suc, ◌+◌, ◌≤◌, ℤ, List, [], ◌∷◌, ◌++◌, map, All, Option, None, Some, cond, refl, sym, ap, subst, ◌∙◌, arith, inl, inr, slice_get}
+use Rattle.std.proofs.Common.{◌≡◌, ℕ, zero, suc, ◌+◌, ◌≤◌, ℤ, ◌⊎◌, List, [], ◌∷◌, ◌++◌, map, All, Option, None, Some, cond, refl, sym, ap, subst, ◌∙◌, arith, inl, inr, slice_get, length, ◌==◌}
 use Rattle.std.proofs.lemmas.Bool.{cases_Bool, cases_eq, eq-eqb, ne_eqb}
 use Rattle.std.proofs.lemmas.Option.{none-some, same_Some}
 use Rattle.std.proofs.lemmas.List.Elements.{All-append, All-cons, All-nil}
@@ -35,19 +35,16 @@ stamp_of u (m ∷ ms) (suc n) e at = stamp_of u ms n e at
 
 module _ (k p : ℕ) where
   write_recent : (h : History Record) (ms : List Record) → AreRecent k p h → AreRecent k p (write ms h)
-  write_recent h ms recent = elim (cases_Bool (has_room h ms')) [
+  write_recent h ms recent = elim (cases_Bool (has_room h (length ms))) [
     | inl room ↦ rw room (λ n e above at. elim (at_append h.entries (stamped h.updates ms) n e at) [
       | inl old ↦ recent n e above old
       | inr new ↦ let stamp = stamp_of h.updates ms new.0 e new.1 in omega arith
     ])
     | inr full ↦ rw full recent
   ]
-    where
-      abbrev ms' : ℕ
-      ms' = length ms
 
 -- an update makes them one update older
-update_recent : (p : ℕ) (h : History Record) → AreRecent 0 p h → AreRecent 1 p (update h)
+pub update_recent : (p : ℕ) (h : History Record) → AreRecent 0 p h → AreRecent 1 p (update h)
 update_recent p h recent n e above at = let was = recent n e above at in omega arith
 
 pub less_recent : (p : ℕ) (h : History Record) → AreRecent 0 p h → AreRecent 1 p h

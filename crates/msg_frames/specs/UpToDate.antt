@@ -1,9 +1,11 @@
 -- Readers that read all of a type in each frame, and what that assures them of.
-use Rattle.std.specs.Prelude.{◌≡◌, ◌≢◌, ℕ, ◌<◌, ◌≤◌, ◌==◌, Bool, false, List, [], ◌∷◌, ◌++◌, Contains, All, None, IsTrue}
+use Rattle.std.specs.Prelude.{◌≡◌, ◌≢◌, ℕ, ◌<◌, ◌≤◌, ◌==◌, Bool, false, List, [], ◌∷◌, ◌++◌, Contains, All, None, IsTrue, length}
 use Rattle.std.specs.List.{list_any}
 use Rattle.msg_buffer.specs.History.{IsPresent, count, update}
 use Rattle.msg_system.specs.declared.op.Op.{Op}
 use Rattle.msg_system.specs.declared.op.Op.TheVariants.{Read, Forward, Sum}
+use Rattle.msg_system.specs.declared.program.Program.{Program}
+use Rattle.msg_system.specs.Systems.{of_program}
 use Rattle.msg_frames.specs.declared.frame.Frame.{Frame}
 use Rattle.msg_frames.specs.declared.log.Log.{Log}
 use Rattle.msg_frames.specs.declared.log.Outcome.TheVariants.{Skipped}
@@ -74,3 +76,13 @@ abbrev pub WhoReadsEachFrameMissesNothing : Type 0
 WhoReadsEachFrameMissesNothing = (frame : Frame) (frames : List Frame) (s m u : State) (log : Log) (logs : List Log) (i t : ℕ)
     → IsSoundState s → IsFrame frame s log m → (run : IsRun frames m logs u) → t < s.types → ReadsAll i t log m
     → ReadsAllInEach i t frames m logs u run → NothingDrained t s u → MissesNothing i t m logs
+
+-- A system that has joined, has no conditions, and whose program reads the type without limit, reads all in each frame, and
+-- stays that program.
+abbrev pub WhoseProgramReadsAll : Type 0
+WhoseProgramReadsAll = (frame : Frame) (s : State) (log : Log) (u : State) (i t : ℕ) (program : Program) (writer : ℕ) (places : ℕ → ℕ)
+    → IsFrame frame s log u → i < s.systems → IsTrue (has_begun s i)
+    → (s.members i).job ≡ record { system = of_program program writer places; conditions = [] }
+    → length program.ops ≤ 64 → IsTrue (list_any (reads_all t) program.ops)
+    → ReadsAll i t log u
+    × ((later : ℕ → ℕ) × ((u.members i).job ≡ record { system = of_program program writer later; conditions = [] }))

@@ -1,8 +1,10 @@
 //! Laws of readers: facts that hold of every run of frames.
 ghost use Rattle.msg_frames.specs.ReaderLaws.{AccountsBalance, FirstIsSound, FrameStaysSound, NoneBeforeJoining, ReplaysTellACompleteRun, ReplaysTellTheSame, RunStaysSound, RunsAreComplete};
+ghost use Rattle.msg_frames.specs.UpToDate.{WhoIsUpToDateMissesNothing, WhoReadsAllCatchesUp, WhoReadsAllHasTheFrameBefore, WhoReadsAllIsUpToDate, WhoReadsEachFrameMissesNothing, WhoseProgramReadsAll};
 
 use msg_buffer::laws::{histories_only_grow, readers_tile};
 use msg_order::laws::turn_order_is_lawful;
+use msg_system::a_program_is_its_ops_in_order;
 use msg_world::Record;
 
 /// A frame leaves a sound state sound, and so does a run of frames.
@@ -45,3 +47,26 @@ pub fn accounts_add_up()
     ensures balance { AccountsBalance }
     ensures before_joining { NoneBeforeJoining }
 {}
+
+/// A system that reads a type without limit in each frame misses nothing of it after the first of
+/// these frames, unless a system drains the type. At the end of its turn it was given, or went
+/// past, all that had been written when the turn began; so what is written in one frame it has by
+/// the end of the next.
+pub fn who_reads_each_frame_misses_nothing()
+    ensures catches_up { WhoReadsAllCatchesUp }
+    ensures frame_before { WhoReadsAllHasTheFrameBefore }
+    ensures up_to_date { WhoReadsAllIsUpToDate }
+    ensures next_frame { WhoIsUpToDateMissesNothing }
+    ensures law { WhoReadsEachFrameMissesNothing }
+{
+    histories_only_grow::<Record>();
+    readers_tile::<Record>();
+}
+
+/// A system without conditions, whose program reads a type without limit, does so in each frame.
+pub fn programs_read_all()
+    ensures law { WhoseProgramReadsAll }
+{
+    histories_only_grow::<Record>();
+    a_program_is_its_ops_in_order();
+}

@@ -1,0 +1,157 @@
+-- A reader whose turn reads all of a type goes past all that had been written by then.
+use Rattle.std.proofs.Common.{◌≡◌, ◌≢◌, ℕ, zero, suc, ◌+◌, ◌<◌, ◌≤◌, List, [], ◌∷◌, ◌++◌, map, All, Contains, Bool, true, false, ◌||◌, Option, None, Some, refl, sym, ap, subst, ◌∙◌, arith, inl, inr, ◌==◌, slice_get, length}
+use Rattle.std.specs.Prelude.{IsTrue}
+use Rattle.std.specs.List.{list_any}
+use Rattle.std.proofs.lemmas.Bool.{and_from, and_parts, cases_Bool, cases_eq, eq-eqb, eqb-true, false≢true, le-leb, leb-true, ne_eqb, or_cases}
+use Rattle.std.proofs.lemmas.Option.{slice_get_cases, slice_get_within}
+use Rattle.std.proofs.lemmas.List.{append-nil}
+use Rattle.std.proofs.lemmas.List.Elements.{All-cons, All-contains, All-head, All-map, All-nil, All-tail}
+use Rattle.std.proofs.lemmas.List.Folds.{list_any-append}
+use Rattle.msg_buffer.specs.History.{Entry, GoesOn, History, IsPresent, IsSound, count, update}
+use Rattle.msg_buffer.specs.Reader.{Fits, Stretch, Tile, next_place}
+use Rattle.msg_world.specs.declared.record.Record.{Record}
+use Rattle.msg_world.specs.World.{WorldState}
+use Rattle.msg_system.specs.declared.op.Op.{Op}
+use Rattle.msg_system.specs.declared.op.Op.TheVariants.{Write, Batch, Read, Len, Missed, Clear, Forward, Sum, Get, Set, Add, Drain, Signal}
+use Rattle.msg_system.specs.declared.reply.Reply.{Reply}
+use Rattle.msg_system.specs.Conditions.{Job, after_job, all_hold}
+use Rattle.msg_system.specs.Programs.{AfterProgram, after_op, place_after_read, with_place}
+use Rattle.msg_system.specs.Systems.{Meaning, after_at_most, next_op, one_more, op_list, ops_answered, turn}
+use Rattle.msg_system.proofs.Turns.{ops_answered-snoc}
+use Rattle.msg_frames.specs.declared.log.Outcome.TheVariants.{Skipped}
+use Rattle.msg_frames.specs.Frames.{after_turn_of, after_turns_of, logged, outcome_of, turn_of, Member, State}
+use Rattle.msg_frames.specs.Tiling.{Moment, first_moments, next_moments, place_of}
+use Rattle.msg_frames.specs.UpToDate.{reads_all}
+use Rattle.msg_frames.proofs.HistoriesGrow.{BufferLaws, counts_more, job_goes_on, turns_go_on}
+use Rattle.msg_frames.proofs.ReaderOverJob.{IsWritten, Passes, first_passes, job_passes, next_passes, tile_of}
+use Rattle.msg_frames.proofs.ReaderOverTurns.{one_member, turn_reads, turns_read}
+use Rattle.msg_frames.proofs.StampsStayRecent.{AreRecent}
+
+-- ---- a turn that reads all
+
+-- a tile only goes on
+pub goes_no_lower : (place : ℕ) (ms : List Moment) (to : ℕ) → Tile place (map tile_of ms) to → place ≤ to
+goes_no_lower place [] to tile = omega (arith, tile)
+goes_no_lower place (m ∷ ms) to tile =
+    let rest = goes_no_lower (next_place m.entry.stretch) ms to tile.1 in
+    let first = tile.0.first in
+    omega arith
+
+module _ (laws : BufferLaws) (t : ℕ) where
+  takes : (u : ℕ) (ps : ℕ → ℕ) (w : WorldState) → IsSound (w.histories t) → ps t ≤ count (w.histories t) → IsTrue (u == t)
+      → with_place ps u (place_after_read (w.histories u) (ps u) None) t ≡ count (w.histories t)
+  takes u ps w sound within is =
+      let same : u ≡ t = eqb-true u t is in
+      rw (eq-eqb t u (sym same))
+      (subst (λ v. place_after_read (w.histories v) (ps v) None ≡ count (w.histories t)) (sym same) ((laws.clears (w.histories t) (ps t) sound).1 within))
+
+  op_takes_all : (op : Op) (writer : ℕ) (ps : ℕ → ℕ) (w : WorldState) → IsSound (w.histories t) → ps t ≤ count (w.histories t) → IsTrue (reads_all t op)
+      → (after_op op writer ps w).places t ≡ count (w.histories t)
+  op_takes_all (Read u None) writer ps w sound within is = takes u ps w sound within is
+  op_takes_all (Read u (Some limit)) writer ps w sound within is = absurd (false≢true is)
+  op_takes_all (Forward u v) writer ps w sound within is = takes u ps w sound within is
+  op_takes_all (Sum u r) writer ps w sound within is = takes u ps w sound within is
+  op_takes_all (Write u v) writer ps w sound within is = absurd (false≢true is)
+  op_takes_all (Batch u vs) writer ps w sound within is = absurd (false≢true is)
+  op_takes_all (Len u) writer ps w sound within is = absurd (false≢true is)
+  op_takes_all (Missed u) writer ps w sound within is = absurd (false≢true is)
+  op_takes_all (Clear u) writer ps w sound within is = absurd (false≢true is)
+  op_takes_all (Get r) writer ps w sound within is = absurd (false≢true is)
+  op_takes_all (Set r v) writer ps w sound within is = absurd (false≢true is)
+  op_takes_all (Add r v) writer ps w sound within is = absurd (false≢true is)
+  op_takes_all (Drain u) writer ps w sound within is = absurd (false≢true is)
+  op_takes_all Signal writer ps w sound within is = absurd (false≢true is)
+
+  -- so it does by one op more, or it did before
+  more_takes : (o : Option Op) (m : Meaning) (far : AfterProgram) (c : ℕ) → next_op m far.replies ≡ o → IsSound (far.state.histories t)
+      → far.places t ≤ count (far.state.histories t) → c ≤ count (far.state.histories t)
+      → (IsTrue (list_any (reads_all t) (ops_answered (next_op m) far.replies)) → c ≤ far.places t)
+      → IsTrue (list_any (reads_all t) (ops_answered (next_op m) (one_more o m.writer far).replies)) → c ≤ (one_more o m.writer far).places t
+  more_takes None m far c at sound within less so is = so is
+  more_takes (Some op) m far c at sound within less so is =
+      let r : Reply = (after_op op m.writer far.places far.state).reply in
+      let ops : List Op = ops_answered (next_op m) far.replies in
+      let more : ops_answered (next_op m) (far.replies ++ r ∷ []) ≡ ops ++ op ∷ [] = ops_answered-snoc (next_op m) far.replies r ∙ ap (λ x. ops ++ op_list x) at in
+      let either : (list_any (reads_all t) ops || (reads_all t op || false)) ≡ true = sym (list_any-append (reads_all t) ops (op ∷ [])) ∙ ap (list_any (reads_all t)) (sym more) ∙ is in
+      elim (or_cases (list_any (reads_all t) ops) (reads_all t op || false) either) [
+        | inl old ↦
+            let was = so old in
+            let further = goes_no_lower (far.places t) (next_moments t (Some op) m.writer far) ((one_more (Some op) m.writer far).places t)
+            (next_passes laws t (Some op) m.writer far sound within).tile in
+            omega arith
+        | inr new ↦ elim (or_cases (reads_all t op) false new) [
+          | inl is ↦ let all = op_takes_all op m.writer far.places far.state sound within is in omega arith
+          | inr none ↦ absurd (false≢true none)
+        ]
+      ]
+
+  first_takes : (n : ℕ) (m : Meaning) (w : WorldState) → IsSound (w.histories t) → m.places t ≤ count (w.histories t) →
+      let far : AfterProgram = after_at_most n (next_op m) m.writer m.places w in
+      IsTrue (list_any (reads_all t) (ops_answered (next_op m) far.replies)) → count (w.histories t) ≤ far.places t
+  first_takes zero m w sound within is = absurd (false≢true is)
+  first_takes (suc n) m w sound within is =
+      let far : AfterProgram = after_at_most n (next_op m) m.writer m.places w in
+      let so_far : Passes (m.places t) (w.histories t) (first_moments t n m w) (far.places t) (far.state.histories t) = first_passes laws t n m w sound within in
+      more_takes (next_op m far.replies) m far (count (w.histories t)) refl so_far.goes_on.sound so_far.within
+      (counts_more (w.histories t) (far.state.histories t) so_far.goes_on) (first_takes n m w sound within) is
+
+  turn_takes : (m : Meaning) (w : WorldState) → IsSound (w.histories t) → m.places t ≤ count (w.histories t)
+      → IsTrue (list_any (reads_all t) (ops_answered (next_op m) (turn m w).replies)) → count (w.histories t) ≤ (turn m w).places t
+  unfolding turn
+  turn_takes m w sound within is = first_takes 64 m w sound within is
+
+  -- ---- a job
+
+  job_takes : (j : Job) (w : WorldState) → IsSound (w.histories t) → j.system.places t ≤ count (w.histories t) → outcome_of (after_job j w).replies ≢ Skipped
+      → IsTrue (list_any (reads_all t) (after_job j w).job.system.last) → count (w.histories t) ≤ (after_job j w).job.system.places t
+  job_takes j w sound within = elim (cases_Bool (all_hold j.conditions w)) [
+    | inl e ↦ rw e (λ ran is. turn_takes j.system w sound within is)
+    | inr e ↦ rw e (λ ran is. absurd (ran refl))
+  ]
+
+  job_keeps : (c : ℕ) (j : Job) (w : WorldState) → IsSound (w.histories t) → j.system.places t ≤ count (w.histories t) → c ≤ count (w.histories t)
+      → (IsTrue (list_any (reads_all t) j.system.last) → c ≤ j.system.places t)
+      → IsTrue (list_any (reads_all t) (after_job j w).job.system.last) → c ≤ (after_job j w).job.system.places t
+  job_keeps c j w sound within less has = elim (cases_Bool (all_hold j.conditions w)) [
+    | inl e ↦ rw e (λ is. let all = turn_takes j.system w sound within is in omega arith)
+    | inr e ↦ rw e has
+  ]
+
+  -- ---- turns
+
+  -- where the last ops of system i read all, it stands at c or after it
+  abbrev Took : ℕ → ℕ → State → Type 0
+  Took i c s = IsTrue (list_any (reads_all t) (s.members i).job.system.last) → c ≤ place_of s i t
+
+  own_turn_takes : (i : ℕ) (s : State) → IsSound (s.world.histories t) → place_of s i t ≤ count (s.world.histories t) → (logged s i).outcome ≢ Skipped
+      → Took i (count (s.world.histories t)) (after_turn_of i s)
+  own_turn_takes i s sound within ran =
+      one_member (λ m. IsTrue (list_any (reads_all t) m.job.system.last) → count (s.world.histories t) ≤ m.job.system.places t) i i s
+      (λ e. job_takes (s.members i).job s.world sound within ran) (λ ne. absurd (ne refl))
+
+  turn_keeps : (i j c : ℕ) (s : State) → IsSound (s.world.histories t) → place_of s i t ≤ count (s.world.histories t) → c ≤ count (s.world.histories t)
+      → Took i c s → Took i c (after_turn_of j s)
+  turn_keeps i j c s sound within less has =
+      one_member (λ m. IsTrue (list_any (reads_all t) m.job.system.last) → c ≤ m.job.system.places t) j i s
+      (λ e. job_keeps c (s.members i).job s.world sound within less has) (λ ne. has)
+
+  turns_keep_it : (i c : ℕ) (js : List ℕ) (s : State) → IsSound (s.world.histories t) → place_of s i t ≤ count (s.world.histories t) → c ≤ count (s.world.histories t)
+      → Took i c s → Took i c (after_turns_of js s).state
+  turns_keep_it i c [] s sound within less has = has
+  turns_keep_it i c (j ∷ js) s sound within less has =
+      let first = (turn_reads laws i t j s sound within).passes in
+      let more = counts_more (s.world.histories t) ((after_turn_of j s).world.histories t) first.goes_on in
+      turns_keep_it i c js (after_turn_of j s) first.goes_on.sound first.within (omega arith) (turn_keeps i j c s sound within less has)
+
+  pub takes_by_turn : (i : ℕ) (earlier later : List ℕ) (b : State) → IsSound (b.world.histories t) → place_of b i t ≤ count (b.world.histories t)
+      → All (λ turn. turn.system ≡ i → turn.outcome ≢ Skipped) (after_turns_of (earlier ++ i ∷ later) b).turns
+      → Took i (count ((after_turns_of earlier b).state.world.histories t)) (after_turns_of (earlier ++ i ∷ later) b).state
+  takes_by_turn i [] later b sound within ran =
+      let first = (turn_reads laws i t i b sound within).passes in
+      turns_keep_it i (count (b.world.histories t)) later (after_turn_of i b) first.goes_on.sound first.within
+      (counts_more (b.world.histories t) ((after_turn_of i b).world.histories t) first.goes_on)
+      (own_turn_takes i b sound within (All-head (λ turn. turn.system ≡ i → turn.outcome ≢ Skipped) (logged b i) (after_turns_of later (after_turn_of i b)).turns ran refl))
+  takes_by_turn i (j ∷ more) later b sound within ran =
+      let first = (turn_reads laws i t j b sound within).passes in
+      takes_by_turn i more later (after_turn_of j b) first.goes_on.sound first.within
+      (All-tail (λ turn. turn.system ≡ i → turn.outcome ≢ Skipped) (logged b j) (after_turns_of (more ++ i ∷ later) (after_turn_of j b)).turns ran)
