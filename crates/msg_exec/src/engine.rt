@@ -141,8 +141,8 @@ impl<S: System> EngineOf<S> {
         ensures ran { IfOk result (λ log. (s : State) → StandsFor S.meaning self.old s
             → HasRunFrame S.meaning frame.now s log self.new) }
 
-        // For each turn one of the workers passed the gate, with its own number and the system's.
-        // They are no more than the turns.
+        // For each turn one of the workers passed the gate, with its own number, which is below the
+        // number of turns too, and the system's.
         ensures gate_passed { IfOk result
             (λ log. EachPassedGate (G.passed gate.now) workers (systems_in log)) }
         ensures counted { OnOk result
