@@ -1,11 +1,11 @@
 -- What workers draw from the board, and that a worker passed the gate for each job, with its own number.
-use Rattle.std.proofs.Common.{◌≡◌, ℕ, zero, suc, ◌+◌, ◌<◌, ◌≤◌, ◌==◌, cond, inl, inr, List, [], ◌∷◌, ◌++◌, length, map, get_or, Some, Result, Ok, Err, refl, ap, sym, subst, ◌∙◌, arith, slice_index_or}
+use Rattle.std.proofs.Common.{◌≡◌, ℕ, zero, suc, ◌+◌, ◌<◌, ◌≤◌, ◌==◌, cond, inl, inr, List, [], ◌∷◌, ◌++◌, length, map, min, get_or, Some, Result, Ok, Err, refl, ap, sym, subst, ◌∙◌, arith, slice_index_or}
 use Rattle.std.specs.Prelude.{All, Contains, IfOk, slice_get, slice_set}
 use Rattle.std.specs.List.{AllZip, range_with_len}
 use Rattle.std.specs.Option.{unwrap_or}
 use Rattle.std.proofs.lemmas.Bool.{cases_Bool, eqb-true, cases_lt}
 use Rattle.std.proofs.lemmas.List.{get_or-map, length-append, length-map, map-append}
-use Rattle.std.proofs.lemmas.List.Elements.{All-cons, All-head, All-tail, Contains-push_cases}
+use Rattle.std.proofs.lemmas.List.Elements.{All-append, All-cons, All-head, All-tail, Contains-push_cases}
 use Rattle.std.proofs.lemmas.List.FromFn.{get_or-range_with_len, length-range_with_len}
 use Rattle.std.proofs.lemmas.List.Sums.{sum_by-append}
 use Rattle.std.proofs.lemmas.Option.{get_or_from_slice_get, slice_get_within}
@@ -16,7 +16,7 @@ use Rattle.msg_exec.specs.declared.run_workers.Worker.{Worker}
 use Rattle.msg_exec.specs.declared.job.Job.{Job}
 use Rattle.msg_exec.specs.declared.lender.Lender.{Lender}
 use Rattle.msg_exec.specs.inner.Lending.{IsOut}
-use Rattle.msg_exec.specs.Work.{EachNewIs, PassedGate}
+use Rattle.msg_exec.specs.Work.{EachNewIs, EachPassedGate, PassedGate}
 use Rattle.msg_exec.specs.inner.Batches.{EachByItsWorker}
 use Rattle.msg_exec.proofs.ItemsOfLists.{item_at}
 use Rattle.msg_order.proofs.Elements.{Contains-head, Contains-tail, not_in_none}
@@ -170,3 +170,15 @@ module _ {S : Type 0} (P : ℕ → Type 0) (whole : Lender S) where
   of_batch (i ∷ batch) [] out told = absurd out
   of_batch (i ∷ batch) (j ∷ jobs) out told =
       All-cons P i batch (subst P out.0.number (All-head (λ (j : Job S). P j.number) j jobs told)) (of_batch batch jobs out.1 (All-tail (λ (j : Job S). P j.number) j jobs told))
+
+module _ (passed : ℕ → ℕ → Type 0) where
+  more_workers : (n m : ℕ) (systems : List ℕ) → n ≤ m → All (PassedGate passed n) systems → All (PassedGate passed m) systems
+  more_workers n m systems le all = λ k d lt. let by = all k d lt in (by.0, omega (arith, le, by.1), by.2)
+
+  -- the workers of some systems, and of more
+  pub more_passed : (n : ℕ) (some more : List ℕ) → EachPassedGate passed n some → EachPassedGate passed n more → EachPassedGate passed n (some ++ more)
+  more_passed n some more one other =
+      let m : ℕ = min n (length (some ++ more)) in
+      let sum = length-append some more in
+      All-append (PassedGate passed m) some more (more_workers (min n (length some)) m some (omega (arith, sum)) one)
+      (more_workers (min n (length more)) m more (omega (arith, sum)) other)

@@ -1,5 +1,5 @@
 -- When jobs may be run, what is so of those that were drawn, and for which the gate was passed.
-use Rattle.std.specs.Prelude.{◌≡◌, ◌<◌, ℕ, List, Contains, Some, slice_get, ◌⊎◌}
+use Rattle.std.specs.Prelude.{◌≡◌, ◌<◌, ℕ, All, List, Contains, Some, length, min, slice_get, ◌⊎◌}
 
 module _ {J : Type 0} where
   -- each of these jobs may be run
@@ -14,3 +14,7 @@ module _ {J : Type 0} where
 -- one of n workers passed the gate for the system
 abbrev pub PassedGate : (ℕ → ℕ → Type 0) → ℕ → ℕ → Type 0
 PassedGate passed n system = (worker : ℕ) × (worker < n) × passed worker system
+
+-- for each of these systems one of n workers passed the gate, and of no more workers than systems
+abbrev pub EachPassedGate : (ℕ → ℕ → Type 0) → ℕ → List ℕ → Type 0
+EachPassedGate passed n systems = All (PassedGate passed (min n (length systems))) systems

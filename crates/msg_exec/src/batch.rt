@@ -5,7 +5,7 @@ ghost use Rattle.msg_frames.specs.Frames.{after_turns_of, State};
 ghost use Rattle.msg_order.specs.Plan.{NoneConflict};
 ghost use Rattle.msg_exec.specs.Lender.{LenderStands};
 ghost use Rattle.msg_exec.specs.inner.Lending.{AreOut};
-ghost use Rattle.msg_exec.specs.Work.{PassedGate};
+ghost use Rattle.msg_exec.specs.Work.{PassedGate, EachPassedGate};
 
 use crate::job::Job;
 use crate::lender::Lender;
@@ -54,7 +54,7 @@ fn run_batch<R: Threads + Sync, S: System, G: Gate>(
     ensures turns { OnOk result ((s : State) → LenderStands S.meaning lender.old s
         → turns.new.items ≡ turns.old.items ++ (after_turns_of batch.now s).turns) }
     ensures accesses { OnOk result (lender.new.accesses.items ≡ lender.old.accesses.items) }
-    ensures gate_passed { OnOk result (All (PassedGate (G.passed gate.now) workers) batch.now) }
+    ensures gate_passed { OnOk result (EachPassedGate (G.passed gate.now) workers batch.now) }
 {
     batches_run_side_by_side();
     written_parts_come_home();
@@ -85,7 +85,7 @@ pub(crate) fn run_batches<R: Threads + Sync, S: System, G: Gate>(
     ensures turns { IfOk result (λ turns. (s : State) → LenderStands S.meaning lender.old s
         → turns.items ≡ (after_turns_of (concat (map (λ batch. batch.items) batches.now)) s).turns) }
     ensures accesses { OnOk result (lender.new.accesses.items ≡ lender.old.accesses.items) }
-    ensures gate_passed { OnOk result (All (PassedGate (G.passed gate.now) workers)
+    ensures gate_passed { OnOk result (EachPassedGate (G.passed gate.now) workers
         (concat (map (λ batch. batch.items) batches.now))) }
 {
     let mut turns = Vec::new(alloc);

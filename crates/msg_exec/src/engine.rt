@@ -48,7 +48,7 @@ impl<S: System> EngineOf<S> {
     ghost use Rattle.msg_frames.specs.TurnLaws.{HasOneRun};
     ghost use Rattle.msg_frames.specs.declared.frame.Frame.{Frame as FrameView};
     ghost use Rattle.msg_frames.specs.declared.log.Log.{Log as LogView};
-    ghost use Rattle.msg_exec.specs.Work.{PassedGate};
+    ghost use Rattle.msg_exec.specs.Work.{EachPassedGate};
 
     /// An engine with no frame run. The systems go by number, in order of addition, and each has
     /// its place; those of join 1 have joined, and start at 0 or at the counts of this moment.
@@ -140,9 +140,10 @@ impl<S: System> EngineOf<S> {
         ensures ran { IfOk result (λ log. (s : State) → StandsFor S.meaning self.old s
             → HasRunFrame S.meaning frame.now s log self.new) }
 
-        // For each turn one of the workers passed the gate, with its own number and the system's.
-        ensures gate_passed { IfOk result (λ log. All (PassedGate (G.passed gate.now) workers)
-            (systems_in log)) }
+        // For each turn one of the workers passed the gate, with its own number, which is below the
+        // number of turns too, and the system's.
+        ensures gate_passed { IfOk result
+            (λ log. EachPassedGate (G.passed gate.now) workers (systems_in log)) }
         ensures counted { OnOk result
             (frames_of self.new ≡ min (frames_of self.old + 1) (2 ^ 32 - 1)) }
         ensures spoiled { (result ≡ Err Spoiled) ↔ IsSpoiled self.old }
@@ -187,8 +188,8 @@ impl<S: System> EngineOf<S> {
             → HasRunFrames S.meaning frames.now s out.old.items out.new.items self.new) }
 
         // For each turn in the logs that were appended, as in `run_frame`.
-        ensures gate_passed { All (λ log. All (PassedGate (G.passed gate.now) workers)
-            (systems_in log)) (drop (length out.old.items) out.new.items) }
+        ensures gate_passed { All (λ log. EachPassedGate (G.passed gate.now) workers (systems_in log))
+            (drop (length out.old.items) out.new.items) }
         ensures spoiled { (result ≡ Err Spoiled) ↔ IsSpoiled self.old }
         ensures unchanged { result ≡ Err Spoiled → self.new ≡ self.old }
         ensures nothing_appended { result ≡ Err Spoiled → out.new ≡ out.old }

@@ -6,7 +6,7 @@ ghost use Rattle.msg_order.specs.Plan.{IsPlanOf};
 ghost use Rattle.msg_exec.specs.Cores.{CoreStands, frame_count};
 ghost use Rattle.msg_exec.specs.inner.FrameSteps.{HasBegunFrame, HasLeft, HasOpened, IsNextPlan};
 ghost use Rattle.msg_frames.specs.Frames.{IsFrame, systems_in, State};
-ghost use Rattle.msg_exec.specs.Work.{PassedGate};
+ghost use Rattle.msg_exec.specs.Work.{PassedGate, EachPassedGate};
 
 use crate::batch::run_batches;
 use crate::joining::join_those;
@@ -141,8 +141,8 @@ pub(crate) fn run_one<R: Threads + Sync, S: System, G: Gate>(
     requires posts { All (λ p. p.0 < length core.lender.world.types) frame.now.posts }
     ensures ran { IfOk result (λ r. (s : State) → CoreStands S.meaning core s
         → frames ≡ frame_count s → HasLeft S.meaning (IsFrame frame.now s r.1) s r.0) }
-    ensures gate_passed { IfOk result (λ r. All (PassedGate (G.passed gate.now) workers)
-        (systems_in r.1)) }
+    ensures gate_passed { IfOk result
+        (λ r. EachPassedGate (G.passed gate.now) workers (systems_in r.1)) }
 {
     states_stay_sound();
     let (mut core, posts) = open(alloc, core, frames, frame)?;

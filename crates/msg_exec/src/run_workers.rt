@@ -1,5 +1,5 @@
 // Workers side by side.
-ghost use Rattle.std.specs.Prelude.{◌≡◌, ◌≤◌, ℕ, All, IfOk, OnOk, Some, length, map, slice_get};
+ghost use Rattle.std.specs.Prelude.{◌≡◌, ◌≤◌, ℕ, All, IfOk, OnOk, Some, length, map, min, slice_get};
 ghost use Rattle.std.specs.List.{range_with_len};
 ghost use Rattle.msg_board.specs.Board.{HasEnded, IsIdle, IsLawfulOutcome, IsNew, jobs_of};
 ghost use Rattle.msg_board.specs.Pass.{PassState};
@@ -119,7 +119,7 @@ pub(crate) fn run_jobs<R: Threads + Sync, W: Runs + Send, G: Gate>(
     requires may { EachMay W.may jobs.items }
     ensures lawful { IfOk result (λ results. IsLawfulOutcome W.lawful jobs.items results.items) }
     ensures gate_passed { OnOk result ((k : ℕ) (job : W.Job) → slice_get jobs.items k ≡ Some job
-        → PassedGate (G.passed gate.now) workers (W.system_of job)) }
+        → PassedGate (G.passed gate.now) (min workers (length jobs.items)) (W.system_of job)) }
 {
     let passes = workers.number().min(jobs.len() as u32).max(1);
     let (board, passes) = Board::<W>::new(alloc, jobs, passes)?;

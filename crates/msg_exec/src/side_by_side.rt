@@ -1,5 +1,5 @@
 // The jobs of a batch, side by side on one world.
-ghost use Rattle.std.specs.Prelude.{◌≡◌, ◌≤◌, All, IfOk, Ok, OnOk, length, map};
+ghost use Rattle.std.specs.Prelude.{◌≡◌, ◌≤◌, All, IfOk, Ok, OnOk, length, map, min};
 ghost use Rattle.msg_exec.specs.Jobs.{IsResult, MayRun};
 ghost use Rattle.msg_exec.specs.inner.Batches.{AreDone};
 ghost use Rattle.msg_exec.specs.Work.{EachMay, PassedGate};
@@ -129,7 +129,8 @@ pub(crate) fn run_side_by_side<R: Threads + Sync, S: System, G: Gate>(
     requires may { EachMay (MayRun S.meaning world.now) jobs.items }
     ensures done { IfOk result (λ done. AreDone S.meaning world.now jobs.items done.items) }
     ensures gate_passed { OnOk result
-        (All (λ job. PassedGate (G.passed gate.now) workers job.number) jobs.items) }
+        (All (λ job. PassedGate (G.passed gate.now) (min workers (length jobs.items)) job.number)
+        jobs.items) }
 {
     let jobs = with_world(alloc, world, jobs)?;
     let results = run_jobs::<R, Batch<S>, G>(rt, alloc, gate, workers, jobs)?;

@@ -1,6 +1,8 @@
-use Rattle.std.proofs.Common.{subst, sym, ◌∙◌, arith}
+use Rattle.std.proofs.Common.{length, min, subst, sym, ◌∙◌, arith}
+use Rattle.std.specs.Prelude.{All}
 use Rattle.std.proofs.lemmas.List.{nil_from_length}
 use Rattle.std.proofs.lemmas.Slice.Zip.{AllZip-long}
+use Rattle.msg_exec.specs.declared.job.Job.{Job}
 use Rattle.msg_exec.specs.inner.Lending.{IsOut}
 use Rattle.msg_frames.specs.Frames.{State}
 use Rattle.msg_exec.specs.Work.{PassedGate}
@@ -77,5 +79,10 @@ pub returns-clause-accesses : goal.returns-clause-accesses
 returns-clause-accesses g c = (c.loop-done.invariant c.requires.stands.0 c.requires.stands.1.0).half.accesses
 
 pub returns-clause-gate_passed : goal.returns-clause-gate_passed
-returns-clause-gate_passed g c = of_batch (PassedGate (g.G.Gate.passed c.args.gate.now) c.args.workers) c.args.lender.now c.args.batch.now c.in_ok-jobs.jobs.items
-    c.in_ok-jobs.ensures.out.each c.in_ok-all.ensures.gate_passed
+returns-clause-gate_passed g c =
+    let passed = g.G.Gate.passed c.args.gate.now in
+    let batch = c.args.batch.now in
+    let jobs = c.in_ok-jobs.jobs.items in
+    of_batch (PassedGate passed (min c.args.workers (length batch))) c.args.lender.now batch jobs c.in_ok-jobs.ensures.out.each
+    (subst (λ n. All (λ (j : Job g.row.S.Denot). PassedGate passed (min c.args.workers n) j.number) jobs)
+    (AllZip-long (IsOut c.args.lender.now) batch jobs c.in_ok-jobs.ensures.out.each) c.in_ok-all.ensures.gate_passed)

@@ -1,8 +1,8 @@
 use Rattle.std.proofs.Common.{◌≡◌, ◌≢◌, ℕ, ◌<◌, ◌≤◌, ◌++◌, [], get_or, ap, sym, ◌∙◌, subst, arith, take, map, length}
 use Rattle.std.proofs.lemmas.List.{length-map}
-use Rattle.std.proofs.lemmas.List.Elements.{All-append}
-use Rattle.msg_exec.specs.Work.{PassedGate}
+use Rattle.msg_exec.specs.Work.{EachPassedGate}
 use Rattle.msg_order.specs.Plan.{NoneConflict}
+use Rattle.msg_exec.proofs.WorkersDraw.{more_passed}
 use Rattle.msg_exec.proofs.BatchAfterBatch.{its_systems, pairs_of_one, HasTurned, as_many_systems, one_batch_more, systems_of, turned_more}
 use Rattle.std.specs.Prelude.{All, AllPairs}
 use Rattle.std.proofs.Math.Seq.{take-length}
@@ -50,9 +50,9 @@ loop-batch-preserved g c =
     let read = c.deref.ensures.value in
     record {
       accesses = ran.accesses ∙ c.loop-batch.invariant.accesses;
-      gate_passed = subst (All (PassedGate (g.G.Gate.passed c.args.gate.now) c.args.workers)) (sym (one_batch_more batches k c.batch-item.result c.loop-batch-test.true c.batch-item.is))
-          (All-append (PassedGate (g.G.Gate.passed c.args.gate.now) c.args.workers) (systems_of (take k batches)) c.batch-item.result.items c.loop-batch.invariant.gate_passed
-          (subst (All (PassedGate (g.G.Gate.passed c.args.gate.now) c.args.workers)) read ran.gate_passed));
+      gate_passed = subst (EachPassedGate (g.G.Gate.passed c.args.gate.now) c.args.workers) (sym (one_batch_more batches k c.batch-item.result c.loop-batch-test.true c.batch-item.is))
+          (more_passed (g.G.Gate.passed c.args.gate.now) c.args.workers (systems_of (take k batches)) c.batch-item.result.items c.loop-batch.invariant.gate_passed
+          (subst (EachPassedGate (g.G.Gate.passed c.args.gate.now) c.args.workers) read ran.gate_passed));
       turned = λ s stands.
           subst (λ xs. HasTurned g.S.System.meaning xs s c.run_batch.new.lender [] c.run_batch.new.turns.items) (sym (one_batch_more batches k c.batch-item.result c.loop-batch-test.true c.batch-item.is))
           (turned_more g.S.System.meaning (systems_of (take k batches)) c.batch-item.result.items s c.loop-batch.lender c.run_batch.new.lender [] c.loop-batch.turns.items c.run_batch.new.turns.items
@@ -76,5 +76,5 @@ returns-clause-turns g c s stands =
 pub returns-clause-gate_passed : goal.returns-clause-gate_passed
 returns-clause-gate_passed g c =
     let n : c.loop-batch.batch-index ≡ length c.args.batches.now = omega arith in
-    subst (λ xs. All (PassedGate (g.G.Gate.passed c.args.gate.now) c.args.workers) (systems_of xs)) (ap (λ k. take k c.args.batches.now) n ∙ take-length c.args.batches.now)
+    subst (λ xs. EachPassedGate (g.G.Gate.passed c.args.gate.now) c.args.workers (systems_of xs)) (ap (λ k. take k c.args.batches.now) n ∙ take-length c.args.batches.now)
     c.loop-batch.invariant.gate_passed

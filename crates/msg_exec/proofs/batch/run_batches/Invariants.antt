@@ -1,7 +1,6 @@
 use Rattle.std.proofs.Common.{◌≡◌, take, map, []}
-use Rattle.std.specs.Prelude.{All}
 use Rattle.std.specs.List.{concat}
-use Rattle.msg_exec.specs.Work.{PassedGate}
+use Rattle.msg_exec.specs.Work.{EachPassedGate}
 use Rattle.msg_exec.specs.Lender.{LenderStands}
 use Rattle.msg_frames.specs.Frames.{State}
 use Rattle.msg_exec.proofs.BatchAfterBatch.{HasTurned}
@@ -11,6 +10,6 @@ abbrev pub invariant-loop-batch : goal.invariant-loop-batch
 invariant-loop-batch g l = record {
   turned : (s : State) → LenderStands g.S.System.meaning l.initial.lender s
       → HasTurned g.S.System.meaning (concat (map (λ batch. batch.items) (take l.batch-index l.batches))) s l.lender [] l.turns.items;
-  gate_passed : All (PassedGate (g.G.Gate.passed l.gate) l.workers) (concat (map (λ batch. batch.items) (take l.batch-index l.batches)));
+  gate_passed : EachPassedGate (g.G.Gate.passed l.gate) l.workers (concat (map (λ batch. batch.items) (take l.batch-index l.batches)));
   accesses : l.lender.accesses.items ≡ l.initial.lender.accesses.items;
 }

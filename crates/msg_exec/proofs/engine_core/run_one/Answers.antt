@@ -5,7 +5,7 @@ use Rattle.std.specs.Global.{Vec}
 use Rattle.msg_order.specs.Order.{AreBatches}
 use Rattle.msg_order.specs.Plan.{NoneConflict}
 use Rattle.msg_frames.specs.Frames.{before_turns, State, joined}
-use Rattle.msg_exec.specs.Work.{PassedGate}
+use Rattle.msg_exec.specs.Work.{PassedGate, EachPassedGate}
 use Rattle.msg_frames.proofs.FramesInOrder.{in_that_order, logged_in}
 use Rattle.msg_exec.proofs.CoreRunsFrame.{batches_below, frame_ran}
 use Rattle.msg_exec.proofs.engine_core.run_one.Goals as goal
@@ -53,7 +53,7 @@ returns g c = record {
       let has = c.in_ok-core.ensures.opened s c.requires.stands.1.0 c.requires.stands.1.1 in
       let bt : State = before_turns c.args.frame.now.posts s in
       let order : List ℕ = concat (map (λ (batch : Vec ℕ). batch.items) c.batches-batches.result.now) in
-      subst (All (PassedGate (g.G.Gate.passed c.args.gate.now) c.args.workers))
+      subst (EachPassedGate (g.G.Gate.passed c.args.gate.now) c.args.workers)
       (sym (in_that_order c.args.frame.now order s _ (logged_in c.args.frame.now order s _ c.in_ok-core.posts.items c.from_vec.ensures.items has.posts (c.from_vec-2.ensures.items ∙ c.in_ok-turns.ensures.turns bt has.lender))))
       c.in_ok-turns.ensures.gate_passed;
 }

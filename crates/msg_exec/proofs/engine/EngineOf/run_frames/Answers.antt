@@ -3,7 +3,7 @@ use Rattle.std.specs.Prelude.{All, IsSome}
 use Rattle.std.proofs.lemmas.List.{length-append}
 use Rattle.msg_exec.specs.Cores.{CoreStands}
 use Rattle.msg_exec.specs.Engines.{PostsFit}
-use Rattle.msg_exec.specs.Work.{PassedGate}
+use Rattle.msg_exec.specs.Work.{EachPassedGate}
 use Rattle.msg_frames.specs.Frames.{systems_in}
 use Rattle.msg_exec.proofs.EngineRunsFrames.{all_run, one_frame_more, one_log_more, posts_still_fit, some_there, stood}
 use Rattle.msg_exec.proofs.engine.EngineOf.run_frames.Goals as goal
@@ -28,7 +28,7 @@ loop-frame-preserved g c =
       so_far = λ s stands. one_frame_more g.S.System.meaning c.args.frames.now c.loop-frame.frame-index c.frame-item.result s c.args.out.now.items c.loop-frame.out.items c.push.new.self.items c.in_ok-log.log
           c.loop-frame.self c.run_frame.new.self c.loop-frame-test.true c.frame-item.is (c.loop-frame.invariant.so_far s stands) ran pushed;
       longer = omega (arith, c.loop-frame.invariant.longer, ap length pushed, length-append c.loop-frame.out.items (c.in_ok-log.log ∷ []));
-      gate_passed = one_log_more (λ log. All (PassedGate (g.G.Gate.passed c.args.gate.now) c.args.workers) (systems_in log)) (length c.args.out.now.items) c.loop-frame.out.items
+      gate_passed = one_log_more (λ log. EachPassedGate (g.G.Gate.passed c.args.gate.now) c.args.workers (systems_in log)) (length c.args.out.now.items) c.loop-frame.out.items
           c.push.new.self.items c.in_ok-log.log c.loop-frame.invariant.longer pushed c.loop-frame.invariant.gate_passed c.in_ok-log.ensures.gate_passed;
       engine = c.in_ok-log.ensures.engine;
       core = some_there (λ x. CoreStands g.S.System.meaning x (ran far.state far.stands).state) c.run_frame.new.self.core (ran far.state far.stands).stands.core;
@@ -42,11 +42,11 @@ returns-clause-ran g c s stands =
 pub returns-then-is_err-clause-gate_passed : goal.returns-then-is_err-clause-gate_passed
 returns-then-is_err-clause-gate_passed g c =
     let kept : c.reserve.new.self.items ≡ c.loop-frame.out.items = search rules in
-    subst (λ logs. All (λ log. All (PassedGate (g.G.Gate.passed c.args.gate.now) c.args.workers) (systems_in log)) (drop (length c.args.out.now.items) logs)) (sym kept)
+    subst (λ logs. All (λ log. EachPassedGate (g.G.Gate.passed c.args.gate.now) c.args.workers (systems_in log)) (drop (length c.args.out.now.items) logs)) (sym kept)
     c.loop-frame.invariant.gate_passed
 
 pub returns-in_err-log-clause-gate_passed : goal.returns-in_err-log-clause-gate_passed
 returns-in_err-log-clause-gate_passed g c =
     let kept : c.reserve.new.self.items ≡ c.loop-frame.out.items = search rules in
-    subst (λ logs. All (λ log. All (PassedGate (g.G.Gate.passed c.args.gate.now) c.args.workers) (systems_in log)) (drop (length c.args.out.now.items) logs)) (sym kept)
+    subst (λ logs. All (λ log. EachPassedGate (g.G.Gate.passed c.args.gate.now) c.args.workers (systems_in log)) (drop (length c.args.out.now.items) logs)) (sym kept)
     c.loop-frame.invariant.gate_passed

@@ -1,7 +1,7 @@
 use Rattle.std.proofs.Common.{◌≤◌, length, drop}
 use Rattle.std.specs.Prelude.{All, IsSome}
 use Rattle.msg_exec.specs.Engines.{IsEngine, StandsFor}
-use Rattle.msg_exec.specs.Work.{PassedGate}
+use Rattle.msg_exec.specs.Work.{PassedGate, EachPassedGate}
 use Rattle.msg_frames.specs.Frames.{systems_in, State}
 use Rattle.msg_exec.proofs.EngineRunsFrames.{RunSoFar}
 use Rattle.msg_exec.proofs.engine.EngineOf.run_frames.Given as goal
@@ -10,7 +10,7 @@ abbrev pub invariant-loop-frame : goal.invariant-loop-frame
 invariant-loop-frame g l = record {
   so_far : (s : State) → StandsFor g.S.System.meaning l.initial.self s → RunSoFar g.S.System.meaning l.frames l.frame-index s l.initial.out.items l.out.items l.self;
   longer : length l.initial.out.items ≤ length l.out.items;
-  gate_passed : All (λ log. All (PassedGate (g.G.Gate.passed l.gate) l.workers) (systems_in log)) (drop (length l.initial.out.items) l.out.items);
+  gate_passed : All (λ log. EachPassedGate (g.G.Gate.passed l.gate) l.workers (systems_in log)) (drop (length l.initial.out.items) l.out.items);
   engine : IsEngine g.S.System.meaning l.self;
   core : IsSome l.self.core;
 }
