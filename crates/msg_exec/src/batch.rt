@@ -1,14 +1,14 @@
 // A frame's turns, batch by batch.
-ghost use Rattle.std.specs.Prelude.{◌≡◌, ◌≢◌, ◌<◌, ◌≤◌, ◌++◌, All, AllPairs, IfOk, OnOk, length, map};
+ghost use Rattle.std.specs.Prelude.{◌≡◌, ◌≢◌, ◌<◌, ◌≤◌, ◌++◌, ◌∷◌, [], All, AllPairs, IfOk, OnOk, length, map};
 ghost use Rattle.std.specs.List.{concat};
-ghost use Rattle.msg_frames.specs.Frames.{after_turns_of, State};
+ghost use Rattle.msg_frames.specs.Frames.{after_turns_of, State, after_turn_of, logged};
 ghost use Rattle.msg_order.specs.Plan.{NoneConflict};
 ghost use Rattle.msg_exec.specs.Lender.{LenderStands};
 ghost use Rattle.msg_exec.specs.inner.Lending.{AreOut};
-ghost use Rattle.msg_exec.specs.Work.{PassedGate, EachPassedGate};
+ghost use Rattle.msg_exec.specs.Work.{EachPassedGate};
 
 use crate::job::Job;
-use crate::lender::Lender;
+use crate::lender::{Lender, run_turn};
 use crate::side_by_side::run_side_by_side;
 use crate::{Gate, NoMemory, Turn, Workers};
 use msg_frames::laws::batches_run_side_by_side;
@@ -35,8 +35,8 @@ fn lend_out_all<S: System>(
     Ok(jobs)
 }
 
-/// Runs the jobs of one batch side by side, and appends their turns, by order of addition.
-fn run_batch<R: Threads + Sync, S: System, G: Gate>(
+/// Runs the jobs of a batch over the workers, and appends their turns, by order of addition.
+fn run_many<R: Threads + Sync, S: System, G: Gate>(
     rt: &R,
     alloc: Global,
     lender: &mut Lender<S>,
@@ -64,6 +64,56 @@ fn run_batch<R: Threads + Sync, S: System, G: Gate>(
         turns.push(lender.take_back(done))?;
     }
     Ok(())
+}
+
+/// Runs the turn of a system that is alone in its batch, in place, and appends it.
+fn run_alone<S: System, G: Gate>(
+    alloc: Global,
+    lender: &mut Lender<S>,
+    system: u32,
+    workers: Workers,
+    gate: &G,
+    turns: &mut Vec<Turn>,
+) -> Result<(), NoMemory>
+    requires stands { (s : State) × (LenderStands S.meaning lender.old s × (system < s.systems)) }
+    ensures state { OnOk result ((s : State) → LenderStands S.meaning lender.old s
+        → LenderStands S.meaning lender.new (after_turn_of system s)) }
+    ensures turns { OnOk result ((s : State) → LenderStands S.meaning lender.old s
+        → turns.new.items ≡ turns.old.items ++ logged s system ∷ []) }
+    ensures accesses { OnOk result (lender.new.accesses.items ≡ lender.old.accesses.items) }
+    ensures gate_passed { EachPassedGate (G.passed gate.now) workers (system ∷ []) }
+{
+    workers.number();
+    gate.pass(0, system);
+    turns.push(run_turn(alloc, lender, system)?)?;
+    Ok(())
+}
+
+/// Runs the jobs of one batch, and appends their turns, by order of addition.
+fn run_batch<R: Threads + Sync, S: System, G: Gate>(
+    rt: &R,
+    alloc: Global,
+    lender: &mut Lender<S>,
+    batch: &[u32],
+    workers: Workers,
+    gate: &G,
+    turns: &mut Vec<Turn>,
+) -> Result<(), NoMemory>
+    requires stands { (s : State) × (LenderStands S.meaning lender.old s × All (λ i. i < s.systems) batch.now) }
+    requires few { length lender.old.accesses.items ≤ 256 }
+    requires once { AllPairs (λ i j. i ≢ j) batch.now }
+    requires apart { NoneConflict lender.old.accesses.items batch.now }
+    ensures state { OnOk result ((s : State) → LenderStands S.meaning lender.old s
+        → LenderStands S.meaning lender.new (after_turns_of batch.now s).state) }
+    ensures turns { OnOk result ((s : State) → LenderStands S.meaning lender.old s
+        → turns.new.items ≡ turns.old.items ++ (after_turns_of batch.now s).turns) }
+    ensures accesses { OnOk result (lender.new.accesses.items ≡ lender.old.accesses.items) }
+    ensures gate_passed { OnOk result (All (PassedGate (G.passed gate.now) workers) batch.now) }
+{
+    match batch {
+        [system] => run_alone(alloc, lender, *system, workers, gate, turns),
+        _ => run_many(rt, alloc, lender, batch, workers, gate, turns),
+    }
 }
 
 /// Runs the batches one after the other.

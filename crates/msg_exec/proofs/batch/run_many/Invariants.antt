@@ -1,7 +1,7 @@
 use Rattle.msg_exec.specs.Lender.{LenderStands}
 use Rattle.msg_frames.specs.Frames.{State}
 use Rattle.msg_exec.proofs.BatchComesHome.{ComingHome}
-use Rattle.msg_exec.proofs.batch.run_batch.Given as goal
+use Rattle.msg_exec.proofs.batch.run_many.Given as goal
 
 abbrev pub invariant-loop-done : goal.invariant-loop-done
 invariant-loop-done g l =
