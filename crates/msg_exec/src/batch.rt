@@ -108,7 +108,7 @@ fn run_batch<R: Threads + Sync, S: System, G: Gate>(
     ensures turns { OnOk result ((s : State) → LenderStands S.meaning lender.old s
         → turns.new.items ≡ turns.old.items ++ (after_turns_of batch.now s).turns) }
     ensures accesses { OnOk result (lender.new.accesses.items ≡ lender.old.accesses.items) }
-    ensures gate_passed { OnOk result (All (PassedGate (G.passed gate.now) workers) batch.now) }
+    ensures gate_passed { OnOk result (EachPassedGate (G.passed gate.now) workers batch.now) }
 {
     match batch {
         [system] => run_alone(alloc, lender, *system, workers, gate, turns),
