@@ -81,7 +81,7 @@ fn run_alone<S: System, G: Gate>(
     ensures turns { OnOk result ((s : State) → LenderStands S.meaning lender.old s
         → turns.new.items ≡ turns.old.items ++ logged s system ∷ []) }
     ensures accesses { OnOk result (lender.new.accesses.items ≡ lender.old.accesses.items) }
-    ensures gate_passed { EachPassedGate (G.passed gate.now) workers (system ∷ []) }
+    ensures gate_passed { OnOk result (EachPassedGate (G.passed gate.now) workers (system ∷ [])) }
 {
     workers.number();
     gate.pass(0, system);

@@ -15,4 +15,4 @@ returns-in-len1-clause-state g c =
 pub returns-in-len1-clause-gate_passed : goal.returns-in-len1-clause-gate_passed
 returns-in-len1-clause-gate_passed g c =
     subst (λ xs. OnOk c.run_alone.result (EachPassedGate (g.G.Gate.passed c.args.gate.now) c.args.workers xs))
-    (sym (only_one c.args.batch.now 0 (omega (arith, c.in-len1.len_at_least, c.in-len1.len_below)))) (λ _. c.run_alone.ensures.gate_passed)
+    (sym (only_one c.args.batch.now 0 (omega (arith, c.in-len1.len_at_least, c.in-len1.len_below)))) c.run_alone.ensures.gate_passed
