@@ -138,7 +138,7 @@ pub(crate) fn run_batches<R: Threads + Sync, S: System, G: Gate>(
     ensures gate_passed { OnOk result (EachPassedGate (G.passed gate.now) workers
         (concat (map (λ batch. batch.items) batches.now))) }
 {
-    let mut turns = Vec::new(alloc);
+    let mut turns = Vec::with_capacity(alloc, lender.accesses.len())?;
     for batch in batches {
         run_batch(rt, alloc, lender, batch, workers, gate, &mut turns)?;
     }

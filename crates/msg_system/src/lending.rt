@@ -128,7 +128,7 @@ fn without_numbers(alloc: Global, instances: &[Instance<Record>]) -> Result<Item
     ensures items { IfOk result (λ records. records ≡ map message_of instances.now) }
     ensures refused { OnErr result (0 < length instances.now) }
 {
-    let mut records = Vec::new(alloc);
+    let mut records = Vec::with_capacity(alloc, instances.len())?;
     for instance in instances {
         records.push(instance.message)?;
     }
@@ -169,7 +169,7 @@ pub(crate) fn written_by(
     ensures written { IfOk result (λ v. v.items ≡ map (by writer) values.now) }
     ensures refused { OnErr result (0 < length values.now) }
 {
-    let mut records = Vec::new(alloc);
+    let mut records = Vec::with_capacity(alloc, values.len())?;
     for value in values {
         records.push(Record {
             writer,
@@ -188,7 +188,7 @@ pub(crate) fn rewritten(
     ensures again { IfOk result (λ v. v.items ≡ again_by writer records.now) }
     ensures refused { OnErr result (0 < length records.now) }
 {
-    let mut again = Vec::new(alloc);
+    let mut again = Vec::with_capacity(alloc, records.len())?;
     for record in records {
         again.push(Record {
             writer,

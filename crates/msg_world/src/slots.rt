@@ -10,7 +10,7 @@ use std::alloc::{AllocError, Global};
 pub(crate) fn empty_slots<T: Drop>(alloc: Global, n: usize) -> Result<Vec<Option<T>>, AllocError>
     ensures empty { IfOk result (λ v. v.items ≡ replicate n None) }
 {
-    let mut slots = Vec::new(alloc);
+    let mut slots = Vec::with_capacity(alloc, n)?;
     for _made in 0..n {
         slots.push(None)?;
     }
