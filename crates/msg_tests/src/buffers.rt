@@ -3,19 +3,22 @@ mod left_reads;
 
 use msg_buffer::laws::{histories_only_grow, messages_outlive_one_update, readers_tile};
 use msg_buffer::{BatchRefusal, MessageCursor, MessageId, Messages, WriteRefusal, Written};
+use std::process::Abort;
 use std::test::Fail;
+
+/// Too few numbers are left for these values.
+fn expect_spent(rt: &impl Abort, buffer: &mut Messages<i64>, batch: Vec<i64>, values: &[i64]) {
+    match buffer.write_batch(batch) {
+        Err(BatchRefusal::NumbersSpent(batch)) => assert_eq!(rt; batch.as_slice(), values),
+        _other => panic!(rt; "a number is left for each"),
+    }
+}
 
 #[test]
 fn last_number(rt: HostRuntime) -> Result<(), Fail> {
     let mut buffer: Messages<i64> = Messages::new(rt.alloc(), 2);
-    let batch = Vec::from_slice(rt.alloc(), &[1, 2, 3])?;
-    match buffer.write_batch(batch) {
-        Err(BatchRefusal::NumbersSpent(batch)) => assert_eq!(rt;
-            batch.as_slice(),
-            [1, 2, 3].as_slice()
-        ),
-        _other => assert!(rt; false),
-    }
+    let three = Vec::from_slice(rt.alloc(), &[1, 2, 3])?;
+    expect_spent(&rt, &mut buffer, three, &[1, 2, 3]);
     assert!(rt; buffer.write(4).is_ok());
     assert!(rt; buffer.write(5).is_ok());
     assert!(rt; matches!(buffer.write(6), Err(WriteRefusal::NumbersSpent(6))));

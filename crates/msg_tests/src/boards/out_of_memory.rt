@@ -1,8 +1,9 @@
 // A board that can't be made drops the jobs; one that can't be closed drops the results.
-ghost use Rattle.std.specs.Prelude.{◌≡◌, ◌+◌, IfOk, length};
+ghost use Rattle.std.specs.Prelude.{◌≡◌, ◌+◌, IfOk, Some, length, slice_get};
+ghost use Rattle.msg_board.specs.Board.{HasEnded, IsIdle, IsOf, jobs_of};
 
 use crate::outcome::tell;
-use msg_board::{Board, Work};
+use msg_board::{Board, Pass, Work};
 use std::alloc::{AllocError, Global};
 use std::process::Abort;
 use std::sync::atomic::{AtomicU64, Ordering};
@@ -45,6 +46,39 @@ fn three_jobs<'a>(alloc: Global, dropped: &'a AtomicU64) -> Result<Vec<Counted<'
     Ok(jobs)
 }
 
+/// Draws the job of this number.
+fn draw<'a>(
+    rt: &impl Abort,
+    board: &Board<AddOne<'a>>,
+    pass: &mut Pass<Counted<'a>, Counted<'a>>,
+    number: usize,
+) -> Counted<'a>
+    requires idle { IsIdle board.now pass.old }
+    ensures own { IsOf board.now pass.new }
+    ensures holding { pass.new.holding ≡ Some number }
+    ensures job { slice_get (jobs_of board.now) number ≡ Some result }
+{
+    match board.draw(pass) {
+        Some((k, job)) => {
+            assert_eq!(rt; k, number);
+            job
+        }
+        None => panic!(rt; "job {number}"),
+    }
+}
+
+/// There is no job left to draw.
+fn expect_none<'a>(
+    rt: &impl Abort,
+    board: &Board<AddOne<'a>>,
+    pass: &mut Pass<Counted<'a>, Counted<'a>>,
+)
+    requires idle { IsIdle board.now pass.old }
+    ensures ended { HasEnded board.now pass.new }
+{
+    assert!(rt; board.draw(pass).is_none());
+}
+
 /// The successor of a drawn job, which is dropped.
 fn finish<'a>(rt: &impl Abort, job: Counted<'a>, value: u64, dropped: &'a AtomicU64) -> Counted<'a>
     ensures { result.value ≡ job.entry.value + 1 }
@@ -55,6 +89,29 @@ fn finish<'a>(rt: &impl Abort, job: Counted<'a>, value: u64, dropped: &'a Atomic
         value: value + 1,
         dropped,
     }
+}
+
+/// Two passes draw three jobs, of which the second is handed in last.
+fn work_off<'a>(
+    rt: &impl Abort,
+    board: &Board<AddOne<'a>>,
+    a: &mut Pass<Counted<'a>, Counted<'a>>,
+    b: &mut Pass<Counted<'a>, Counted<'a>>,
+    dropped: &'a AtomicU64,
+)
+    requires a { IsIdle board.now a.old }
+    requires b { IsIdle board.now b.old }
+    ensures a { HasEnded board.now a.new }
+    ensures b { HasEnded board.now b.new }
+{
+    let first = draw(rt, board, a, 0);
+    let second = draw(rt, board, b, 1);
+    board.hand_in(a, 0, finish(rt, first, 10, dropped));
+    let third = draw(rt, board, a, 2);
+    board.hand_in(a, 2, finish(rt, third, 30, dropped));
+    expect_none(rt, board, a);
+    board.hand_in(b, 1, finish(rt, second, 20, dropped));
+    expect_none(rt, board, b);
 }
 
 /// What the three jobs came to.
@@ -81,21 +138,7 @@ fn is_refused(
     let (Some(mut b), Some(mut a)) = (passes.pop(), passes.pop()) else {
         panic!(rt; "two passes")
     };
-    let first = board.draw(&mut a);
-    let second = board.draw(&mut b);
-    let (Some((0, first)), Some((1, second))) = (first, second) else {
-        panic!(rt; "the first job and the second")
-    };
-    let first = finish(rt, first, 10, results_dropped);
-    let second = finish(rt, second, 20, results_dropped);
-    board.hand_in(&mut a, 0, first);
-    let Some((2, job)) = board.draw(&mut a) else {
-        panic!(rt; "the third job")
-    };
-    board.hand_in(&mut a, 2, finish(rt, job, 30, results_dropped));
-    assert!(rt; board.draw(&mut a).is_none());
-    board.hand_in(&mut b, 1, second);
-    assert!(rt; board.draw(&mut b).is_none());
+    work_off(rt, &board, &mut a, &mut b, results_dropped);
     passes.push(a)?;
     passes.push(b)?;
     assert_eq!(rt; results_dropped.load(Ordering::SeqCst), 0);

@@ -1,14 +1,15 @@
 // A system of one's own, whose turn is one write.
 ghost use Rattle.std.specs.Prelude.{IfOk, ℕ};
-ghost use Rattle.msg_frames.specs.FirstState.{IsNew};
 ghost use Rattle.msg_exec.specs.Engines.{IsEngine};
 
-use super::expecting::{expect_log, wrote};
-use super::making::{add, places, quiet, run_frame, start};
+use super::expecting::{expect_frame, wrote};
+use super::making::quiet;
 use super::prefaced::{Before, Prefaced};
 use crate::numbers::type_no;
-use msg_exec::{EngineOf, NoGate};
-use msg_system::{Access, Cursors, NoMemory, Op, Reply, Start, System, one_op_is_a_turn};
+use msg_exec::{EngineBuilder, EngineOf};
+use msg_system::{
+    Access, Cursors, NoMemory, Numbered, Op, Reply, Start, System, one_op_is_a_turn,
+};
 use msg_world::{Counts, Lent, Taken, TypeNo, World};
 use std::alloc::Global;
 use std::process::Abort;
@@ -26,13 +27,11 @@ pub struct Beacon {
 }
 
 impl Beacon {
-    pub fn new(to: TypeNo, value: i64, writer: u32) -> Beacon
-        ensures new { IsNew writer (⟦<Beacon as System>⟧.meaning result) }
-    {
+    pub fn new(to: TypeNo, value: i64) -> Beacon {
         Beacon {
             to,
             value,
-            writer,
+            writer: 0,
             cursors: Cursors::new(),
         }
     }
@@ -69,6 +68,13 @@ impl System for Beacon {
     }
 }
 
+impl Numbered for Beacon {
+    fn set_number(&mut self, number: u32) {
+        self.writer = number;
+        self.cursors = Cursors::new();
+    }
+}
+
 /// An engine of two beacons, each to a type of its own, whose runs are counted.
 fn beacon_engine(
     rt: &impl Abort,
@@ -77,18 +83,15 @@ fn beacon_engine(
 ) -> Result<EngineOf<Prefaced<Beacon>>, Fail>
     ensures engine { IfOk result (IsEngine ⟦<Prefaced<Beacon> as System>⟧.meaning) }
 {
-    let mut systems = Vec::new(alloc);
-    for writer in [0, 1] {
+    let mut builder = EngineBuilder::new(alloc);
+    for t in [0, 1] {
         let counted = Prefaced {
-            system: Beacon::new(type_no(rt, writer), 5, writer),
+            system: Beacon::new(type_no(rt, t), 5),
             before: Before::Count(Arc::try_clone(runs)?),
         };
-        assert_eq!(rt; systems.len(), writer as usize);
-        add(&mut systems, counted)?;
+        builder.add_system(counted, Vec::new(alloc), 1)?;
     }
-    let world = World::new(alloc, &[10, 10], &[])?;
-    let places = places(alloc, systems.len(), 1)?;
-    Ok(start(rt, alloc, world, systems, places, Vec::new(alloc))?)
+    Ok(builder.build(World::new(alloc, &[10, 10], &[])?)?)
 }
 
 #[test]
@@ -97,10 +100,9 @@ fn a_system_of_ones_own(rt: HostRuntime) -> Result<(), Fail> {
     for number in [1, 2, 7, 64] {
         let runs = Arc::new(alloc, AtomicU64::new(0))?;
         let mut engine = beacon_engine(&rt, alloc, &runs)?;
-        let log = run_frame(&rt, &mut engine, &frame, number, &NoGate)?;
-        expect_log(&rt, &log, &[], &[wrote(0, 0), wrote(1, 0)]);
-        let log = run_frame(&rt, &mut engine, &frame, number, &NoGate)?;
-        expect_log(&rt, &log, &[], &[wrote(0, 1), wrote(1, 1)]);
+        let (first, second) = ([wrote(0, 0), wrote(1, 0)], [wrote(0, 1), wrote(1, 1)]);
+        expect_frame(&rt, &mut engine, &frame, number, &[], &first)?;
+        expect_frame(&rt, &mut engine, &frame, number, &[], &second)?;
         assert_eq!(rt; runs.load(Ordering::SeqCst), 4);
     }
     Ok(())

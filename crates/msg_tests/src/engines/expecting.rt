@@ -1,9 +1,13 @@
 // What is expected of frames whose systems have one op each and no conditions.
+ghost use Rattle.msg_exec.specs.Engines.{IsEngine};
+
+use super::making::{replay, run_frame};
 use msg_buffer::Written;
-use msg_exec::{Log, Outcome, Turn};
-use msg_system::Reply;
+use msg_exec::{EngineOf, Frame, Log, NoGate, Outcome, RunFault, Turn};
+use msg_system::{Reply, System};
 use msg_world::{HOST, Record};
 use std::process::Abort;
+use std::thread::Threads;
 
 /// What a system's turn came to.
 #[derive(Clone, Copy)]
@@ -100,4 +104,38 @@ pub fn expect_log(rt: &impl Abort, log: &Log, posts: &[u64], steps: &[Step<'_>])
     for (turn, step) in turns.iter().zip(steps) {
         expect_step(rt, turn, *step);
     }
+}
+
+/// The engine's next frame, on so many workers, comes to this.
+pub fn expect_frame<R: Threads + Sync + Abort, S: System>(
+    rt: &R,
+    engine: &mut EngineOf<S>,
+    frame: &Frame,
+    number: u32,
+    posts: &[u64],
+    steps: &[Step<'_>],
+) -> Result<(), RunFault>
+    requires engine { IsEngine S.meaning engine.old }
+    ensures engine { IsEngine S.meaning engine.new }
+{
+    let log = run_frame(rt, engine, frame, number, &NoGate)?;
+    expect_log(rt, &log, posts, steps);
+    Ok(())
+}
+
+/// The engine's next frame, replayed in this order, comes to this.
+pub fn expect_replay<S: System>(
+    rt: &impl Abort,
+    engine: &mut EngineOf<S>,
+    frame: &Frame,
+    order: &[u32],
+    posts: &[u64],
+    steps: &[Step<'_>],
+) -> Result<(), RunFault>
+    requires engine { IsEngine S.meaning engine.old }
+    ensures engine { IsEngine S.meaning engine.new }
+{
+    let log = replay(rt, engine, frame, order)?;
+    expect_log(rt, &log, posts, steps);
+    Ok(())
 }

@@ -24,7 +24,7 @@ fn readers(rt: &impl Abort, alloc: Global, number: u32) -> Result<EngineOf<Scrip
     for _ in 0..number {
         ops.push(Op::Read(t, None))?;
     }
-    Ok(engine_of(rt, alloc, &[10], &ops, &[])??)
+    Ok(engine_of(rt, alloc, &[10], &ops, &[])?)
 }
 
 /// So many readers on so many workers, of which these are held until all were called for.

@@ -1,8 +1,7 @@
 // The greatest numbers that types, limits and reads may have.
-use super::expecting::{by, expect_log, posted, read, wrote};
-use super::making::{engine_of, frame_of, quiet, run_frame};
+use super::expecting::{by, expect_frame, posted, read, wrote};
+use super::making::{engine_of, frame_of, quiet};
 use crate::numbers::type_no;
-use msg_exec::NoGate;
 use msg_system::Op;
 use std::test::Fail;
 
@@ -15,15 +14,14 @@ fn a_read_of_the_greatest_limit(rt: HostRuntime) -> Result<(), Fail> {
         Op::Read(t, Some(0)),
         Op::Read(t, Some(1)),
     ];
-    let frame = frame_of(alloc, &[(t, 5), (t, 6)])?;
-    let mut engine = engine_of(&rt, alloc, &[u64::MAX], &ops, &[])??;
-    let log = run_frame(&rt, &mut engine, &frame, 1, &NoGate)?;
+    let mut engine = engine_of(&rt, alloc, &[u64::MAX], &ops, &[])?;
+    let (five, six) = ([posted(5)], [posted(6)]);
     let both = [posted(5), posted(6)];
-    let steps = [read(0, 0, &both), read(1, 0, &[]), read(2, 0, &both[..1])];
-    expect_log(&rt, &log, &[0, 1], &steps);
-    let log = run_frame(&rt, &mut engine, &quiet(alloc), 1, &NoGate)?;
-    let steps = [read(0, 2, &[]), read(1, 0, &[]), read(2, 1, &both[1..])];
-    expect_log(&rt, &log, &[], &steps);
+    let steps = [read(0, 0, &both), read(1, 0, &[]), read(2, 0, &five)];
+    let frame = frame_of(alloc, &[(t, 5), (t, 6)])?;
+    expect_frame(&rt, &mut engine, &frame, 1, &[0, 1], &steps)?;
+    let steps = [read(0, 2, &[]), read(1, 0, &[]), read(2, 1, &six)];
+    expect_frame(&rt, &mut engine, &quiet(alloc), 1, &[], &steps)?;
     Ok(())
 }
 
@@ -32,9 +30,9 @@ fn a_read_of_the_greatest_limit(rt: HostRuntime) -> Result<(), Fail> {
 fn the_last_of_64_types(rt: HostRuntime) -> Result<(), Fail> {
     let (alloc, t) = (rt.alloc(), type_no(&rt, 63));
     let ops = [Op::Write(t, 5), Op::Read(t, None)];
-    let mut engine = engine_of(&rt, alloc, &[1; 64], &ops, &[])??;
-    let log = run_frame(&rt, &mut engine, &quiet(alloc), 2, &NoGate)?;
+    let mut engine = engine_of(&rt, alloc, &[1; 64], &ops, &[])?;
     let written = [by(0, 5)];
-    expect_log(&rt, &log, &[], &[wrote(0, 0), read(1, 0, &written)]);
+    let steps = [wrote(0, 0), read(1, 0, &written)];
+    expect_frame(&rt, &mut engine, &quiet(alloc), 2, &[], &steps)?;
     Ok(())
 }

@@ -2,7 +2,7 @@
 ghost use Rattle.std.specs.Prelude.{IfOk};
 ghost use Rattle.msg_exec.specs.Engines.{IsEngine};
 
-use super::expecting::{Step, by, expect_log, posted, read, wrote};
+use super::expecting::{Step, by, expect_log, expect_replay, posted, read, wrote};
 use super::making::{frame_of, quiet, replay, run_frame, run_frames};
 use super::noting::noting_engine;
 use super::prefaced::Prefaced;
@@ -98,21 +98,33 @@ fn a_frame_by_two_workers(rt: HostRuntime) -> Result<(), Fail> {
     Ok(())
 }
 
+/// Orders in which a reader comes before the writer, in which one is left out, and in which one
+/// comes twice.
+fn expect_three_unlawful(
+    rt: &impl Abort,
+    engine: &mut EngineOf<Prefaced<Scripted>>,
+    frame: &Frame,
+)
+    requires engine { IsEngine ⟦<Prefaced<Scripted> as System>⟧.meaning engine.old }
+    ensures engine { IsEngine ⟦<Prefaced<Scripted> as System>⟧.meaning engine.new }
+{
+    expect_unlawful(rt, engine, frame, &[1, 0, 2]);
+    expect_unlawful(rt, engine, frame, &[0, 1]);
+    expect_unlawful(rt, engine, frame, &[0, 1, 1]);
+}
+
 #[test]
 fn the_same_frame_replayed(rt: HostRuntime) -> Result<(), Fail> {
-    let (alloc, frame, one) = (rt.alloc(), quiet(rt.alloc()), [by(0, 1)]);
-    let noted = Arc::new(alloc, AtomicU64::new(0))?;
-    let mut engine = writer_and_readers(&rt, alloc, &noted)?;
+    let (frame, one) = (quiet(rt.alloc()), [by(0, 1)]);
+    let noted = Arc::new(rt.alloc(), AtomicU64::new(0))?;
+    let mut engine = writer_and_readers(&rt, rt.alloc(), &noted)?;
     run_frame(&rt, &mut engine, &frame, 1, &NoGate)?;
     noted.store(0, Ordering::SeqCst);
-    expect_unlawful(&rt, &mut engine, &frame, &[1, 0, 2]);
-    expect_unlawful(&rt, &mut engine, &frame, &[0, 1]);
-    expect_unlawful(&rt, &mut engine, &frame, &[0, 1, 1]);
+    expect_three_unlawful(&rt, &mut engine, &frame);
     expect_after(&rt, &engine, 1)?;
     assert_eq!(rt; noted.load(Ordering::SeqCst), 0);
-    let log = replay(&rt, &mut engine, &frame, &[0, 2, 1])?;
     let steps = [wrote(0, 1), read(2, 1, &one), read(1, 1, &one)];
-    expect_log(&rt, &log, &[], &steps);
+    expect_replay(&rt, &mut engine, &frame, &[0, 2, 1], &[], &steps)?;
     assert_eq!(rt; noted.load(Ordering::SeqCst), 132);
     expect_after(&rt, &engine, 2)?;
     Ok(())
@@ -131,8 +143,7 @@ fn expect_post_alone(
 {
     let frame = frame_of(alloc, &[(type_no(rt, 0), value)])?;
     expect_unlawful(rt, engine, &frame, &[0]);
-    let log = replay(rt, engine, &frame, &[])?;
-    expect_log(rt, &log, &[number], &[]);
+    expect_replay(rt, engine, &frame, &[], &[number], &[])?;
     Ok(())
 }
 
@@ -185,14 +196,15 @@ fn late_systems(rt: HostRuntime) -> Result<(), Fail> {
     expect_unlawful(&rt, &mut engine, &third, &[0]);
     expect_unlawful(&rt, &mut engine, &third, &[]);
     expect_waiting(&rt, &engine)?;
-    let log = replay(&rt, &mut engine, &third, &[1, 0])?;
+    let (two, one) = ([posted(2), posted(3)], [posted(3)]);
     let missing = Step::Read {
         system: 0,
         missed: 1,
         first: 1,
-        records: &[posted(2), posted(3)],
+        records: &two,
     };
-    expect_log(&rt, &log, &[2], &[read(1, 2, &[posted(3)]), missing]);
+    let steps = [read(1, 2, &one), missing];
+    expect_replay(&rt, &mut engine, &third, &[1, 0], &[2], &steps)?;
     expect_joined(&rt, &engine)?;
     assert_eq!(rt; noted.load(Ordering::SeqCst), 21);
     Ok(())

@@ -2,13 +2,13 @@
 ghost use Rattle.std.specs.Prelude.{IfOk};
 ghost use Rattle.msg_exec.specs.Engines.{IsEngine};
 
-use super::expecting::{expect_log, posted, read};
+use super::expecting::{expect_frame, expect_log, posted, read};
 use super::gates::HoldGate;
-use super::making::{add, engine_of, frame_of, places, quiet, run_frame, script, start};
+use super::making::{engine_of, frame_of, quiet, run_frame, script};
 use super::prefaced::{Before, Prefaced};
 use super::spoiled::expect_spoiled;
 use crate::numbers::type_no;
-use msg_exec::{EngineOf, Gate, NoGate, RunFault};
+use msg_exec::{EngineBuilder, EngineOf, Gate, RunFault};
 use msg_system::{Op, Scripted, Start, System};
 use msg_world::World;
 use std::alloc::Global;
@@ -67,7 +67,7 @@ fn each_worker_has_a_thread(rt: HostRuntime) -> Result<(), Fail> {
     ];
     for number in [2, 3, 5] {
         let gate = Gathering::new(number);
-        let mut engine = engine_of(&rt, alloc, &[10], &ops[..number as usize], &[])??;
+        let mut engine = engine_of(&rt, alloc, &[10], &ops[..number as usize], &[])?;
         run_frame(&rt, &mut engine, &quiet(alloc), number as u32, &gate)?;
         gate.expect_gathered(&rt);
     }
@@ -79,15 +79,15 @@ fn each_worker_has_a_thread(rt: HostRuntime) -> Result<(), Fail> {
 fn two_workers(rt: HostRuntime) -> Result<(), Fail> {
     let (alloc, t) = (rt.alloc(), type_no(&rt, 0));
     let ops = [Op::Read(t, None), Op::Read(t, None)];
-    let mut engine = engine_of(&rt, alloc, &[200], &ops, &[])??;
+    let mut engine = engine_of(&rt, alloc, &[200], &ops, &[])?;
     let gate = HoldGate::new(2, [true, false, false], 2);
     let log = run_frame(&rt, &mut engine, &frame_of(alloc, &[(t, 3)])?, 2, &gate)?;
     gate.expect_met(&rt);
     let three = [posted(3)];
     expect_log(&rt, &log, &[0], &[read(0, 0, &three), read(1, 0, &three)]);
-    let log = run_frame(&rt, &mut engine, &frame_of(alloc, &[(t, 4)])?, 2, &NoGate)?;
     let four = [posted(4)];
-    expect_log(&rt, &log, &[1], &[read(0, 1, &four), read(1, 1, &four)]);
+    let steps = [read(0, 1, &four), read(1, 1, &four)];
+    expect_frame(&rt, &mut engine, &frame_of(alloc, &[(t, 4)])?, 2, &[1], &steps)?;
     Ok(())
 }
 
@@ -100,25 +100,21 @@ fn first_fails(
 ) -> Result<EngineOf<Prefaced<Scripted>>, Fail>
     ensures engine { IfOk result (IsEngine ⟦<Prefaced<Scripted> as System>⟧.meaning) }
 {
-    let mut systems = Vec::new(alloc);
-    for _system in 0..number {
-        assert!(rt; systems.len() < 256);
-        let writer = systems.len() as u32;
+    let mut builder = EngineBuilder::new(alloc);
+    for system in 0..number {
         let ops = vec![in alloc; Op::Read(type_no(rt, 0), None)]?;
-        let before = if writer == 0 {
+        let before = if system == 0 {
             Before::Fail
         } else {
             Before::Count(Arc::try_clone(runs)?)
         };
         let counted = Prefaced {
-            system: script(rt, ops, Start::Zero, writer),
+            system: script(rt, ops, Start::Zero),
             before,
         };
-        add(&mut systems, counted)?;
+        builder.add_system(counted, Vec::new(alloc), 1)?;
     }
-    let places = places(alloc, systems.len(), 1)?;
-    let world = World::new(alloc, &[10], &[])?;
-    Ok(start(rt, alloc, world, systems, places, Vec::new(alloc))?)
+    Ok(builder.build(World::new(alloc, &[10], &[])?)?)
 }
 
 /// The other jobs of its batch are run, on one worker after it and on two beside it.
