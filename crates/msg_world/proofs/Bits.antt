@@ -123,3 +123,34 @@ decide_share a b = elim (cases_eq (bit_and a b) 0) [
   | inl e ↦ inr (λ s. false≢true (sym (has_bit-zero s.0) ∙ ap (λ n. has_bit n s.0) (sym e) ∙ has_bit-and a b s.0 ∙ s.1))
   | inr ne ↦ let r = some_bit_of (bit_and a b) (bit_and a b) (omega arith) ne in inl (r.0, sym (has_bit-and a b r.0) ∙ r.1)
 ]
+
+-- bit k of a mask that was shifted
+shifted : (mask n k : ℕ) → has_bit (mask / 2 ^ n) k ≡ has_bit mask (n + k)
+shifted mask n k = ap (λ m. m % 2 == 1) (shr-shr mask n k)
+
+shifted-from : (mask n k : ℕ) → n ≤ k → has_bit mask k ≡ has_bit (mask / 2 ^ n) (k - n)
+shifted-from mask n k le = let e : n + (k - n) ≡ k = omega arith in ap (has_bit mask) (sym e) ∙ sym (shifted mask n (k - n))
+
+-- no bit is set from n on where nothing is left of the mask
+pub none_from : (mask n : ℕ) → mask / 2 ^ n ≡ 0 → (k : ℕ) → n ≤ k → has_bit mask k ≡ false
+none_from mask n gone k le = shifted-from mask n k le ∙ ap (λ m. has_bit m (k - n)) gone ∙ has_bit-zero (k - n)
+
+-- the next bit that is set from n on
+module _ (mask n : ℕ) (fits : mask < 2 ^ 64) (some : mask / 2 ^ n ≢ 0) where
+  rest_fits : mask / 2 ^ n < 2 ^ 64
+  rest_fits = let le : mask / 2 ^ n ≤ mask = div-le_self mask (2 ^ n) in omega arith
+
+  lowest : (trailing_zeros w64 (mask / 2 ^ n) < 64) × (bit_at (mask / 2 ^ n) (trailing_zeros w64 (mask / 2 ^ n)) ≡ 1) × ((i : ℕ) → i < trailing_zeros w64 (mask / 2 ^ n) → bit_at (mask / 2 ^ n) i ≡ 0)
+  lowest = bit_at-trailing_zeros w64 (mask / 2 ^ n) (omega arith) rest_fits
+
+  pub next_is_set : IsTrue (has_bit mask (n + trailing_zeros w64 (mask / 2 ^ n)))
+  next_is_set = sym (sym (eq-eqb (bit_at (mask / 2 ^ n) (trailing_zeros w64 (mask / 2 ^ n))) 1 lowest.1) ∙ shifted mask n (trailing_zeros w64 (mask / 2 ^ n)))
+
+  pub next_is_below : n + trailing_zeros w64 (mask / 2 ^ n) < 64
+  next_is_below = elim (cases_lt (n + trailing_zeros w64 (mask / 2 ^ n)) 64) [
+    | inl l ↦ l
+    | inr l ↦ absurd (false≢true (sym (has_bit-above mask (n + trailing_zeros w64 (mask / 2 ^ n)) fits l) ∙ next_is_set))
+  ]
+
+  pub none_before_next : (k : ℕ) → n ≤ k → k < n + trailing_zeros w64 (mask / 2 ^ n) → has_bit mask k ≡ false
+  none_before_next k le lt = shifted-from mask n k le ∙ ap (λ b. b == 1) (lowest.2 (k - n) (omega arith))

@@ -1,5 +1,5 @@
 // Masks of 64 bits, one for each number below 64.
-ghost use Rattle.std.specs.Prelude.{◌≡◌, ◌==◌, ◌||◌, ◌&&◌, not, ℕ, ◌<◌, ◌↔◌, IsTrue};
+ghost use Rattle.std.specs.Prelude.{◌≡◌, ◌==◌, ◌||◌, ◌&&◌, not, ℕ, ◌<◌, ◌≤◌, ◌↔◌, IsTrue, false};
 ghost use Rattle.msg_world.specs.Access.{has_bit};
 ghost use Rattle.msg_world.specs.inner.Masks.{ShareBit, Collide, IsBelow, IsWithin};
 
@@ -51,4 +51,22 @@ pub fn is_within(mask: u64, other: u64) -> bool
     ensures { IsTrue result ↔ IsWithin mask other }
 {
     without(mask, other) == 0
+}
+
+/// The first bit of the mask from this number on; 64 where there is none.
+pub fn next_bit(mask: u64, from: u32) -> u32
+    requires { from ≤ 64 }
+    ensures from_there { from ≤ result }
+    ensures at_most { result ≤ 64 }
+    ensures is_set { result < 64 → IsTrue (has_bit mask result) }
+    ensures none_before { (k : ℕ) → from ≤ k → k < result → has_bit mask k ≡ false }
+{
+    if from == 64 {
+        return 64;
+    }
+    let rest = mask >> from;
+    if rest == 0 {
+        return 64;
+    }
+    from + rest.trailing_zeros()
 }
