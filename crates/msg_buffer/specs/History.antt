@@ -64,8 +64,7 @@ module _ {M : Type 0} where
   abbrev pub current : History M → List (Instance M)
   current h = map instance_of (filter (is_current h) (numbered_entries h))
 
-  -- how many entries aren't present; since these are a prefix, this is the number of the oldest message
-  -- that is
+  -- how many entries aren't present: they are the first ones, so this is the number of the oldest that is
   abbrev pub oldest : History M → ℕ
   oldest h = length (filter (λ x. not (is_present h x)) (numbered_entries h))
 
@@ -108,8 +107,7 @@ pub record IsSound {M : Type 0} (h : History M) : Type 0 where
   pub floor : h.floor ≤ count h
   pub within_limit : count h ≤ h.limit
 
--- A history goes on as a later one: all that was written stays in its place, and only what is present
--- changes.
+-- A history goes on as a later one: all that was written stays in its place.
 pub record GoesOn {M : Type 0} (old new : History M) : Type 0 where
   pub more : List (Entry M)
   pub entries : new.entries ≡ old.entries ++ more

@@ -1,38 +1,15 @@
 -- Entries are added to totals one by one.
 use Rattle.std.proofs.Common.{◌≡◌, ℕ, zero, suc, ◌+◌, ◌<◌, ◌≤◌, ◌==◌, List, [], ◌∷◌, ◌++◌, length, map, drop, get_or, Option, Some, None, refl, sym, ap, ◌∙◌, arith}
-use Rattle.std.specs.Prelude.{false, fold, slice_get, sum, option_to_list, unwrap_or, if◌then◌else◌}
+use Rattle.std.specs.Prelude.{false, slice_get, option_to_list, unwrap_or, if◌then◌else◌}
 use Rattle.std.proofs.Math.ListN.{drop_of_length-le}
 use Rattle.std.proofs.lemmas.Option.{none-some, slice_get-get_or}
 use Rattle.msg_system.specs.declared.op.Op.{Op}
 use Rattle.msg_system.specs.declared.reply.Reply.{Reply}
 use Rattle.msg_system.specs.Needs.{type_read}
 use Rattle.msg_frames.specs.declared.totals.Totals.{Totals}
-use Rattle.msg_frames.specs.Entries.{Entry, entries_for, entry_of, number_cleared, number_given, with_entries}
+use Rattle.msg_frames.specs.Entries.{Entry, entries_for, entry_of, with_entries}
+use Rattle.msg_frames.proofs.EntriesAddUp.{with_entries-append, with_entries-none}
 use Rattle.msg_exec.specs.inner.Totals.{entry_at}
-
-sum_from : (a : ℕ) (ns : List ℕ) → fold ◌+◌ a ns ≡ a + sum ns
-sum_from a [] = omega arith
-sum_from a (n ∷ ns) = let here = sum_from (a + n) ns in let there = sum_from (0 + n) ns in omega (arith, here, there)
-
-sum_of_both : (f : Entry → ℕ) (es fs : List Entry) → sum (map f (es ++ fs)) ≡ sum (map f es) + sum (map f fs)
-sum_of_both f [] fs = omega arith
-sum_of_both f (e ∷ es) fs =
-    let rest = sum_of_both f es fs in
-    let both = sum_from (0 + f e) (map f (es ++ fs)) in
-    let left = sum_from (0 + f e) (map f es) in
-    omega (arith, rest, both, left)
-
-added_twice : (n a b c : ℕ) → c ≡ a + b → n + c ≡ n + a + b
-added_twice n a b c is = omega (arith, is)
-
--- entries may be added in two goes
-pub entries_then_more : (es fs : List Entry) (x : Totals) → with_entries (es ++ fs) x ≡ with_entries fs (with_entries es x)
-entries_then_more es fs x = λ k. record {
-  start = x.start;
-  got = added_twice x.got _ _ _ (sum_of_both number_given es fs) k;
-  missed = added_twice x.missed _ _ _ (sum_of_both (λ e. e.stretch.missed) es fs) k;
-  cleared = added_twice x.cleared _ _ _ (sum_of_both number_cleared es fs) k;
-}
 
 of_its_type : (t : ℕ) (o : Option ℕ) (es : List Entry)
     → (if (elim o [ None ↦ false | Some u ↦ u == t ]) then es else []) ≡ (elim o [ None ↦ [] | Some u ↦ if u == t then es else [] ])
@@ -49,13 +26,6 @@ entries_from t (op ∷ ops) (r ∷ replies) zero reply here =
 entries_from t [] (r ∷ replies) (suc k) reply here = refl
 entries_from t (op ∷ ops) (r ∷ replies) (suc k) reply here = entries_from t ops replies k reply here
 
-nothing_more : (n : ℕ) → n + 0 ≡ n
-nothing_more n = omega arith
-
--- adding none changes nothing
-no_entries_more : (x : Totals) → with_entries [] x ≡ x
-no_entries_more x = λ k. record { start = x.start; got = nothing_more x.got k; missed = nothing_more x.missed k; cleared = nothing_more x.cleared k }
-
 without_replies : (t : ℕ) (ops : List Op) → entries_for t ops [] ≡ []
 without_replies t [] = refl
 without_replies t (op ∷ ops) = refl
@@ -69,11 +39,11 @@ entered_one_more t ops replies k reply y z lt is to =
     let here : slice_get replies k ≡ Some reply = slice_get-get_or replies k reply lt ∙ ap (λ r. Some r) (sym is) in
     let next : k + 1 ≡ suc k = omega arith in
     ap (λ n. with_entries (entries_for t (drop n ops) (drop n replies)) (with_entries (entry_at t ops k reply) y)) next
-    ∙ sym (entries_then_more (entry_at t ops k reply) (entries_for t (drop (suc k) ops) (drop (suc k) replies)) y)
+    ∙ sym (with_entries-append (entry_at t ops k reply) (entries_for t (drop (suc k) ops) (drop (suc k) replies)) y)
     ∙ ap (λ es. with_entries es y) (sym (entries_from t ops replies k reply here)) ∙ to
 
 pub entered_all : (t : ℕ) (ops : List Op) (replies : List Reply) (k : ℕ) (y z : Totals) → length replies ≤ k
     → with_entries (entries_for t (drop k ops) (drop k replies)) y ≡ z → y ≡ z
 entered_all t ops replies k y z le to =
-    sym (no_entries_more y)
+    sym (with_entries-none y)
     ∙ ap (λ es. with_entries es y) (sym (ap (λ rs. entries_for t (drop k ops) rs) (drop_of_length-le replies le) ∙ without_replies t (drop k ops))) ∙ to

@@ -53,8 +53,7 @@ module _ {S : Type 0} (meaning : S → Meaning) where
     pub tells : TellsACompleteRun (frame ∷ []) s (log ∷ []) state
     pub stands : StandsFor e state
 
-  -- From the state s the engine ran frames one after the other: their logs were appended, which are those of one thread,
-  -- with all that a run comes to, and the engine stands for the state that the frames leave.
+  -- From the state s the engine ran frames: it appended the logs of a complete run, and stands for the state that is left.
   pub record HasRunFrames (frames : List Frame) (s : State) (before after : List Log) (e : EngineOf S) : Type 0 where
     pub logs : List Log
     pub state : State

@@ -6,9 +6,10 @@ use Rattle.std.proofs.lemmas.Bool.{cases_Bool, ltb-true, ltb-false, lt-ltb, le-l
 use Rattle.std.proofs.lemmas.List.Elements.{All-cons, All-head, All-nil, All-tail}
 use Rattle.std.proofs.lemmas.List.FromFn.{get_or-range_with_len, length-range_with_len}
 use Rattle.std.proofs.lemmas.Option.{same_Some}
+use Rattle.msg_buffer.specs.History.{IsPresent, count}
 use Rattle.msg_buffer.specs.Reader.{next_place, Tile}
-use Rattle.msg_frames.specs.Entries.{Entry}
-use Rattle.msg_frames.specs.CompleteRun.{Fate, IsDropped, Meets, MeetsOneFate, given, cleared, missed, numbers_at, numbers_passed}
+use Rattle.msg_frames.specs.Entries.{Entry, Fate, given, cleared, missed, numbers_at, numbers_passed}
+use Rattle.msg_frames.specs.CompleteRun.{Meets, MeetsOneFate}
 use Rattle.msg_frames.specs.Tiling.{Moment}
 use Rattle.msg_frames.proofs.ReaderOverJob.{IsWritten, tile_of}
 
@@ -152,7 +153,7 @@ meets_one_fate p ms q tile n low high =
 -- ---- what was missed
 
 abbrev MissesDropped : Moment → Type 0
-MissesDropped m = (n : ℕ) → Contains (numbers_at missed m.entry) n → IsDropped m.history n
+MissesDropped m = (n : ℕ) → Contains (numbers_at missed m.entry) n → (n < count m.history) × (¬ IsPresent m.history n)
 
 pub missed_are_dropped : (p : ℕ) (ms : List Moment) (q : ℕ) → Tile p (map tile_of ms) q → All IsWritten ms → All MissesDropped ms
 missed_are_dropped p [] q tile written = All-nil MissesDropped

@@ -1,5 +1,6 @@
 -- What a reader goes past by an op, by a turn and by a job.
 use Rattle.std.proofs.Common.{◌≡◌, ℕ, zero, suc, ◌+◌, ◌≤◌, List, [], ◌∷◌, ◌++◌, append_assoc, map, length, take, drop, All, Option, None, Some, refl, sym, ap, subst, ◌∙◌, arith, inl, inr, cond, ◌==◌}
+use Rattle.std.specs.Prelude.{option_to_list}
 use Rattle.std.proofs.lemmas.Bool.{cases_eq, eq-eqb, ne_eqb, cases_Bool}
 use Rattle.std.proofs.lemmas.List.{append-nil, length-append, length-map, map-append}
 use Rattle.std.proofs.lemmas.List.Elements.{All-append, All-cons, All-nil, All-weaker}
@@ -11,7 +12,7 @@ use Rattle.msg_system.specs.declared.op.Op.{Op}
 use Rattle.msg_system.specs.declared.op.Op.TheVariants.{Write, Batch, Read, Len, Missed, Clear, Forward, Sum, Get, Set, Add, Drain, Signal}
 use Rattle.msg_system.specs.declared.reply.Reply.{Reply}
 use Rattle.msg_system.specs.Programs.{AfterProgram, after_op, took, with_place}
-use Rattle.msg_system.specs.Systems.{Meaning, after_at_most, next_op, one_more, op_list, ops_answered, turn}
+use Rattle.msg_system.specs.Systems.{Meaning, after_at_most, next_op, one_more, ops_answered, turn}
 use Rattle.msg_system.proofs.Turns.{ops_answered-snoc}
 use Rattle.msg_system.specs.Conditions.{Job, after_job, all_hold}
 use Rattle.msg_frames.specs.Frames.{outcome_of}
@@ -217,7 +218,7 @@ module _ (t : ℕ) (m : Meaning) (w : WorldState) where
   answered_more (Some op) far ms is so =
       let r : Reply = (after_op op m.writer far.places far.state).reply in
       let ops : List Op = ops_answered (next_op m) far.replies in
-      let more : ops_answered (next_op m) (far.replies ++ r ∷ []) ≡ ops ++ op ∷ [] = ops_answered-snoc (next_op m) far.replies r ∙ ap (λ x. ops ++ op_list x) is in (
+      let more : ops_answered (next_op m) (far.replies ++ r ∷ []) ≡ ops ++ op ∷ [] = ops_answered-snoc (next_op m) far.replies r ∙ ap (λ x. ops ++ option_to_list x) is in (
         ap length more ∙ length-append ops (op ∷ []) ∙ ap (λ k. k + 1) so.0 ∙ sym (length-append far.replies (r ∷ [])),
         ap (λ x. entries_for t x (far.replies ++ r ∷ [])) more ∙ entries_snoc ops far.replies op r so.0
             ∙ ap (λ es. es ++ entry_for t op r) so.1 ∙ ap (λ es. map (λ x. x.entry) ms ++ es) (entries_again (far.state.histories t) (entry_for t op r))

@@ -13,7 +13,7 @@ use Rattle.msg_frames.specs.declared.totals.Totals.{Totals}
 use Rattle.msg_frames.specs.Entries.{Entry, entries_told, totals_from, with_entries}
 use Rattle.msg_frames.specs.Frames.{IsRun, before_turns, begun, counts, frame_in, systems_in, Member, State, has_begun}
 use Rattle.msg_frames.proofs.OneFateEach.{lies_between, meets_one_fate, missed_are_dropped}
-use Rattle.msg_frames.proofs.TilesGiveInOrder.{all_as_written, counted_cleared, counted_given, counted_missed, given_in_order, in_order_of}
+use Rattle.msg_frames.proofs.TilesGiveInOrder.{all_as_written, given_in_order, in_order_of}
 use Rattle.msg_frames.specs.CompleteRun.{IsServed, found_totals, IsGivenOnce, IsInOrderOf}
 use Rattle.msg_frames.specs.ReaderLaws.{RunsAreComplete}
 use Rattle.msg_frames.specs.Soundness.{IsSoundState}
@@ -225,12 +225,7 @@ module _ (laws : BufferLaws) where
         in_order = given_in_order from ms to passes.tile;
         as_written = all_as_written last ms passes.gives passes.earlier passes.written;
         dropped = missed_are_dropped from ms to passes.tile passes.written;
-        adds_up =
-            let sums = tiles_add_up from ms to passes.tile in
-            omega (arith, counted_given (map (λ m. m.entry) ms), counted_missed (map (λ m. m.entry) ms), counted_cleared (map (λ m. m.entry) ms));
-        counts_given = counted_given (map (λ m. m.entry) ms);
-        counts_missed = counted_missed (map (λ m. m.entry) ms);
-        counts_cleared = counted_cleared (map (λ m. m.entry) ms);
+        adds_up = tiles_add_up from ms to passes.tile;
       }
 
       is_served : IsServed i t frames s logs u

@@ -1,6 +1,6 @@
 -- A reader whose turn reads all of a type goes past all that had been written by then.
 use Rattle.std.proofs.Common.{◌≡◌, ◌≢◌, ℕ, zero, suc, ◌+◌, ◌<◌, ◌≤◌, List, [], ◌∷◌, ◌++◌, map, All, Contains, Bool, true, false, ◌||◌, Option, None, Some, refl, sym, ap, subst, ◌∙◌, arith, inl, inr, ◌==◌, slice_get, length}
-use Rattle.std.specs.Prelude.{IsTrue}
+use Rattle.std.specs.Prelude.{option_to_list, IsTrue}
 use Rattle.std.specs.List.{list_any}
 use Rattle.std.proofs.lemmas.Bool.{and_from, and_parts, cases_Bool, cases_eq, eq-eqb, eqb-true, false≢true, le-leb, leb-true, ne_eqb, or_cases}
 use Rattle.std.proofs.lemmas.Option.{slice_get_cases, slice_get_within}
@@ -16,7 +16,7 @@ use Rattle.msg_system.specs.declared.op.Op.TheVariants.{Write, Batch, Read, Len,
 use Rattle.msg_system.specs.declared.reply.Reply.{Reply}
 use Rattle.msg_system.specs.Conditions.{Job, after_job, all_hold}
 use Rattle.msg_system.specs.Programs.{AfterProgram, after_op, place_after_read, with_place}
-use Rattle.msg_system.specs.Systems.{Meaning, after_at_most, next_op, one_more, op_list, ops_answered, turn}
+use Rattle.msg_system.specs.Systems.{Meaning, after_at_most, next_op, one_more, ops_answered, turn}
 use Rattle.msg_system.proofs.Turns.{ops_answered-snoc}
 use Rattle.msg_frames.specs.declared.log.Outcome.TheVariants.{Skipped}
 use Rattle.msg_frames.specs.Frames.{after_turn_of, after_turns_of, logged, outcome_of, turn_of, Member, State}
@@ -71,7 +71,7 @@ module _ (laws : BufferLaws) (t : ℕ) where
   more_takes (Some op) m far c at sound within less so is =
       let r : Reply = (after_op op m.writer far.places far.state).reply in
       let ops : List Op = ops_answered (next_op m) far.replies in
-      let more : ops_answered (next_op m) (far.replies ++ r ∷ []) ≡ ops ++ op ∷ [] = ops_answered-snoc (next_op m) far.replies r ∙ ap (λ x. ops ++ op_list x) at in
+      let more : ops_answered (next_op m) (far.replies ++ r ∷ []) ≡ ops ++ op ∷ [] = ops_answered-snoc (next_op m) far.replies r ∙ ap (λ x. ops ++ option_to_list x) at in
       let either : (list_any (reads_all t) ops || (reads_all t op || false)) ≡ true = sym (list_any-append (reads_all t) ops (op ∷ [])) ∙ ap (list_any (reads_all t)) (sym more) ∙ is in
       elim (or_cases (list_any (reads_all t) ops) (reads_all t op || false) either) [
         | inl old ↦

@@ -9,10 +9,10 @@ use Rattle.msg_system.specs.Systems.{new_system, turn}
 use Rattle.msg_world.specs.declared.record.TheConstants.{HOST}
 use Rattle.msg_frames.specs.declared.place.Place.{Place}
 use Rattle.msg_frames.specs.declared.log.Log.{Log}
-use Rattle.msg_frames.specs.Entries.{Entry}
+use Rattle.msg_frames.specs.Entries.{Entry, given, cleared, missed, numbers_of}
 use Rattle.msg_frames.specs.Frames.{AfterFrame, frame_in, State}
 use Rattle.msg_frames.specs.FirstState.{first_state, nowhere}
-use Rattle.msg_frames.specs.CompleteRun.{given, cleared, missed, messages_given, numbers_of}
+use Rattle.msg_frames.specs.CompleteRun.{messages_given}
 use Rattle.msg_frames.specs.Tiling.{found_at, log_entries, place_of}
 
 abbrev reader : List Op

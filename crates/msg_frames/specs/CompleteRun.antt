@@ -1,38 +1,16 @@
 -- A run of frames with all that it comes to: for the lists of messages, and for each reader.
-use Rattle.std.specs.Prelude.{◌≡◌, ℕ, ◌<◌, List, if◌then◌else◌, IsTrue, ◌+◌, ◌-◌, ◌≤◌, ◌==◌, All, Contains, [], length, map, filter, flat_map, sum, Option, Some, option_map, unwrap_or, is_some, slice_get}
-use Rattle.msg_buffer.specs.History.{GoesOn, History, IsPresent, count, numbered}
+use Rattle.std.specs.Prelude.{◌≡◌, ℕ, ◌<◌, List, if◌then◌else◌, IsTrue, ◌+◌, ◌≤◌, ◌==◌, Bool, false, All, Contains, [], length, map, filter, flat_map, Option, None, Some, option_map, unwrap_or, slice_get}
+use Rattle.msg_buffer.specs.History.{GoesOn, History, IsPresent, count}
 use Rattle.msg_frames.specs.declared.frame.Frame.{Frame}
 use Rattle.msg_frames.specs.declared.log.Log.{Log}
 use Rattle.msg_frames.specs.declared.totals.Totals.{Totals}
-use Rattle.msg_frames.specs.Entries.{Entry, totals_from, with_entries, number_cleared, number_given}
+use Rattle.msg_frames.specs.Entries.{Entry, Fate, given, cleared, missed, numbers_at, numbers_of, totals_from, with_entries}
 use Rattle.msg_frames.specs.Frames.{IsRun, State, has_begun}
 use Rattle.msg_frames.specs.Tiling.{IsTiled, found_at, log_entries, moments, place_of, Moment}
-use Rattle.std.specs.List.{range_with_len}
 use Rattle.std.specs.List.Sorted.{IsStrictlyIncreasing}
-use Rattle.msg_buffer.specs.declared.instance.Instance.{Instance}
 use Rattle.msg_world.specs.declared.record.Record.{Record}
 
--- ---- what became of a message
-
--- A reader is given a message, or it clears it, or it misses it.
-pub data Fate : Type 0 where
-  given : Fate
-  cleared : Fate
-  missed : Fate
-
--- the numbers that an entry goes past
-abbrev pub numbers_passed : Entry → List ℕ
-numbers_passed e = range_with_len e.stretch.first e.stretch.number
-
--- The numbers of the messages that met a fate at an entry. Those that it missed stand just before its first.
-abbrev pub numbers_at : Fate → Entry → List ℕ
-numbers_at given e = if is_some e.given then numbers_passed e else []
-numbers_at cleared e = if is_some e.given then [] else numbers_passed e
-numbers_at missed e = range_with_len (e.stretch.first - e.stretch.missed) e.stretch.missed
-
--- those that met it at any entry, in the order of the entries
-abbrev pub numbers_of : Fate → List Entry → List ℕ
-numbers_of fate es = flat_map (numbers_at fate) es
+-- ---- what became of each message
 
 -- Message number n met this fate at entry k.
 pub record Meets (es : List Entry) (n k : ℕ) (fate : Fate) : Type 0 where
@@ -57,12 +35,7 @@ messages_given es = flat_map (λ e. unwrap_or e.given []) es
 abbrev pub message_numbered : History Record → ℕ → Option Record
 message_numbered h n = option_map (λ e. e.message) (slice_get h.entries n)
 
--- it was written, and isn't present any more
-abbrev pub IsDropped : History Record → ℕ → Type 0
-IsDropped h n = (n < count h) × (¬ IsPresent h n)
-
--- All that a reader's entries say of the messages from one place to another, where `last` is the history of its type at
--- the end, and the entries are those of these moments.
+-- What a reader's entries, which are those of these moments, say of the messages from one place to another.
 pub record IsGivenOnce (es : List Entry) (ms : List Moment) (from to : ℕ) (last : History Record) : Type 0 where
   pub entries : es ≡ map (λ m. m.entry) ms
   -- each message was given, or cleared, or missed: one of these, and once
@@ -73,30 +46,22 @@ pub record IsGivenOnce (es : List Entry) (ms : List Moment) (from to : ℕ) (las
   pub in_order : IsStrictlyIncreasing (numbers_of given es)
   -- and what was given is what was written
   pub as_written : map (message_numbered last) (numbers_of given es) ≡ map Some (messages_given es)
-  -- a message that was missed had been dropped by that moment
-  pub dropped : All (λ m. (n : ℕ) → Contains (numbers_at missed m.entry) n → IsDropped m.history n) ms
+  -- a message that was missed had been written by that moment, and wasn't present any more
+  pub dropped : All (λ m. (n : ℕ) → Contains (numbers_at missed m.entry) n → (n < count m.history) × ¬ IsPresent m.history n) ms
   -- and so they add up
   pub adds_up : from + length (numbers_of given es) + length (numbers_of missed es) + length (numbers_of cleared es) ≡ to
-  -- the accounts count exactly these
-  pub counts_given : length (numbers_of given es) ≡ sum (map number_given es)
-  pub counts_missed : length (numbers_of missed es) ≡ sum (map (λ e. e.stretch.missed) es)
-  pub counts_cleared : length (numbers_of cleared es) ≡ sum (map number_cleared es)
 
 -- ---- writer by writer
 
--- what a reader was given, each message with its number
-abbrev pub instances_given : List Entry → List (Instance Record)
-instances_given es = flat_map (λ e. numbered e.stretch.first (unwrap_or e.given [])) es
+-- message number n was written by this writer
+abbrev pub is_by : ℕ → History Record → ℕ → Bool
+is_by writer h n = elim (message_numbered h n) [ None ↦ false | Some m ↦ m.writer == writer ]
 
--- those of one writer
-abbrev pub given_by : ℕ → List Entry → List (Instance Record)
-given_by writer es = filter (λ x. x.message.writer == writer) (instances_given es)
-
--- What a reader was given of one writer came in that writer's order of writing: each is the message of its number, and
--- the numbers rise.
+-- Of one writer a reader was given the messages of these numbers, which rise.
 pub record IsInOrderOf (writer : ℕ) (es : List Entry) (last : History Record) : Type 0 where
-  pub as_written : All (λ x. message_numbered last x.id.0 ≡ Some x.message) (given_by writer es)
-  pub in_order : IsStrictlyIncreasing (map (λ x. x.id.0) (given_by writer es))
+  pub as_written : map (message_numbered last) (filter (is_by writer last) (numbers_of given es))
+      ≡ map Some (filter (λ m. m.writer == writer) (messages_given es))
+  pub in_order : IsStrictlyIncreasing (filter (is_by writer last) (numbers_of given es))
 
 -- ---- a run
 

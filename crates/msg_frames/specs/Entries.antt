@@ -1,6 +1,7 @@
 -- What the replies of a system tell of its readers: what each read and each clear went past. A reader is a
 -- system and a type that it reads.
-use Rattle.std.specs.Prelude.{ℕ, ◌+◌, ◌==◌, false, Bool, List, [], ◌∷◌, ◌++◌, length, map, sum, Option, Some, None, option_to_list, if◌then◌else◌}
+use Rattle.std.specs.Prelude.{ℕ, ◌+◌, ◌-◌, ◌==◌, false, Bool, List, [], ◌∷◌, ◌++◌, length, flat_map, Option, Some, None, is_some, option_to_list, if◌then◌else◌}
+use Rattle.std.specs.List.{range_with_len}
 use Rattle.msg_buffer.specs.Reader.{Stretch}
 use Rattle.msg_world.specs.declared.record.Record.{Record}
 use Rattle.msg_system.specs.declared.op.Op.{Op}
@@ -44,9 +45,8 @@ entry_for t op reply = if op_reads_type t op then option_to_list (entry_of reply
 
 -- the entries for a type among the replies to these ops
 abbrev pub entries_for : ℕ → List Op → List Reply → List Entry
-entries_for t [] replies = []
-entries_for t (op ∷ ops) [] = []
 entries_for t (op ∷ ops) (reply ∷ replies) = entry_for t op reply ++ entries_for t ops replies
+entries_for t _ _ = []
 
 -- what a system was told by a turn: the replies; nothing where it was skipped
 abbrev pub answers : Outcome → List (List Reply)
@@ -67,12 +67,29 @@ entries_told t n rule (replies ∷ turns) =
 abbrev pub outcome_entries : ℕ → Meaning → Outcome → List Entry
 outcome_entries t m outcome = entries_told t m.needs m.rule (answers outcome)
 
--- how many messages it was given, and how many it cleared
-abbrev pub number_given : Entry → ℕ
-number_given e = elim e.given [ None ↦ 0 | Some items ↦ e.stretch.number ]
+-- ---- what became of messages
 
-abbrev pub number_cleared : Entry → ℕ
-number_cleared e = elim e.given [ None ↦ e.stretch.number | Some items ↦ 0 ]
+-- A reader is given a message, or it clears it, or it misses it.
+pub data Fate : Type 0 where
+  given : Fate
+  cleared : Fate
+  missed : Fate
+
+-- the numbers that an entry goes past
+abbrev pub numbers_passed : Entry → List ℕ
+numbers_passed e = range_with_len e.stretch.first e.stretch.number
+
+-- The numbers of the messages that met a fate at an entry. Those that it missed stand just before its first.
+abbrev pub numbers_at : Fate → Entry → List ℕ
+numbers_at given e = if is_some e.given then numbers_passed e else []
+numbers_at cleared e = if is_some e.given then [] else numbers_passed e
+numbers_at missed e = range_with_len (e.stretch.first - e.stretch.missed) e.stretch.missed
+
+-- those that met it at any entry, in the order of the entries
+abbrev pub numbers_of : Fate → List Entry → List ℕ
+numbers_of fate es = flat_map (numbers_at fate) es
+
+-- ---- totals
 
 -- the totals of a reader that hasn't joined
 abbrev pub no_totals : Totals
@@ -85,7 +102,7 @@ totals_from place = record { start = Some place; got = 0; missed = 0; cleared = 
 -- the totals with more entries
 abbrev pub with_entries : List Entry → Totals → Totals
 with_entries es x = record x {
-  got = x.got + sum (map number_given es);
-  missed = x.missed + sum (map (λ e. e.stretch.missed) es);
-  cleared = x.cleared + sum (map number_cleared es);
+  got = x.got + length (numbers_of given es);
+  missed = x.missed + length (numbers_of missed es);
+  cleared = x.cleared + length (numbers_of cleared es);
 }

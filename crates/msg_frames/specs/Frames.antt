@@ -87,9 +87,7 @@ posted (p ∷ ps) w = posted ps (with_history w p.0 (write (by HOST p.1 ∷ []) 
 -- what they are answered
 abbrev pub post_replies : List (ℕ × ℤ) → WorldState → List Reply
 post_replies [] w = []
-post_replies (p ∷ ps) w =
-    write_reply (numbers_for (w.histories p.0) 1)
-    ∷ post_replies ps (with_history w p.0 (write (by HOST p.1 ∷ []) (w.histories p.0)))
+post_replies (p ∷ ps) w = write_reply (numbers_for (w.histories p.0) 1) ∷ post_replies ps (posted (p ∷ []) w)
 
 -- ---- turns
 
@@ -142,8 +140,7 @@ after_turns_of (i ∷ is) s =
 
 -- ---- a frame
 
--- Before the turns: those that join do so, every type is updated (a held world where it was signalled), and the
--- host's posts are written.
+-- Before the turns some join, every type is updated (a held world where it was signalled), and the posts are written.
 abbrev pub before_turns : List (ℕ × ℤ) → State → State
 before_turns posts s =
     let ready : State = joining s in
@@ -188,8 +185,7 @@ pub record IsTurnOrderOf (s : State) (order : List ℕ) : Type 0 where
 abbrev pub systems_in : Log → List ℕ
 systems_in log = map (λ turn. turn.system) log.turns
 
--- A frame on the state s has this log and leaves the state u: its systems took their turns in the settled order, one
--- after the other on one thread.
+-- A frame has this log and leaves u: its systems took their turns in the settled order, one by one, on one thread.
 pub record IsFrame (frame : Frame) (s : State) (log : Log) (u : State) : Type 0 where
   pub in_order : IsTurnOrderOf (before_turns frame.posts s) (systems_in log)
   pub tells : log ≡ (frame_in (systems_in log) frame s).log
@@ -198,6 +194,5 @@ pub record IsFrame (frame : Frame) (s : State) (log : Log) (u : State) : Type 0 
 -- Frames one after the other have these logs, and leave the state u.
 abbrev pub IsRun : List Frame → State → List Log → State → Type 0
 IsRun [] s [] u = u ≡ s
-IsRun [] s (log ∷ logs) u = ⊥
-IsRun (frame ∷ frames) s [] u = ⊥
 IsRun (frame ∷ frames) s (log ∷ logs) u = (m : State) × IsFrame frame s log m × IsRun frames m logs u
+IsRun _ s _ u = ⊥

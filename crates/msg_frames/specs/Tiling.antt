@@ -63,8 +63,7 @@ abbrev pub moments : ℕ → ℕ → List Frame → List Log → State → List 
 moments i t (frame ∷ frames) (log ∷ logs) s =
     turns_moments i t (systems_in log) (before_turns frame.posts s)
     ++ moments i t frames logs (frame_in (systems_in log) frame s).state
-moments i t [] logs s = []
-moments i t (frame ∷ frames) [] s = []
+moments i t _ _ s = []
 
 -- ---- the tiling of a reader over a run
 
@@ -84,8 +83,7 @@ messages_of h stretch = map message_of (take stretch.number (drop stretch.first 
 abbrev pub GivesItsStretch : Moment → Type 0
 GivesItsStretch m = IfSome m.entry.given (λ items. items ≡ messages_of m.history m.entry.stretch)
 
--- The entries that the logs have of a reader are its moments. They tile: each begins at the place that the one before it
--- led to, what it missed wasn't present at that moment, and what it went past was. What it gave is the messages there.
+-- The entries that the logs have of a reader are its moments, which tile; what each gave is the messages there.
 pub record IsTiled (i t : ℕ) (frames : List Frame) (logs : List Log) (s u : State) : Type 0 where
   pub entries : log_entries i t (s.members i).job.system logs ≡ map (λ m. m.entry) (moments i t frames logs s)
   pub tile : Tile (found_at s u i t) (map (λ m. (m.history, m.entry.stretch)) (moments i t frames logs s)) (place_of u i t)

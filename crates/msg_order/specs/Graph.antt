@@ -11,9 +11,8 @@ IsEdge g i j = Contains g (i, j)
 
 -- each system of the list is joined to the next by an edge
 abbrev pub IsChain : Graph → List ℕ → Type 0
-IsChain g [] = ⊤
-IsChain g (i ∷ []) = ⊤
 IsChain g (i ∷ (j ∷ more)) = IsEdge g i j × IsChain g (j ∷ more)
+IsChain g _ = ⊤
 
 -- a chain of one or more edges leads from i to j
 abbrev pub Path : Graph → ℕ → ℕ → Type 0

@@ -1,6 +1,6 @@
 -- Turns that a behavior decides, op after op.
 use Rattle.std.proofs.Common.{◌≡◌, ℕ, zero, suc, ◌+◌, ◌<◌, ◌≤◌, ◌++◌, Bool, true, false, not, ◌&&◌, ◌||◌, List, [], ◌∷◌, length, length-append, Option, Some, None, refl, sym, ap, subst, ◌∙◌, arith, inl, inr, append_assoc, drop}
-use Rattle.std.specs.Prelude.{IsTrue}
+use Rattle.std.specs.Prelude.{option_to_list, IsTrue}
 use Rattle.std.proofs.lemmas.Bool.{cases_Bool, cases_eq, false≢true}
 use Rattle.std.proofs.Math.Seq.{drop-append_seam}
 use Rattle.std.proofs.lemmas.List.{append-nil}
@@ -17,7 +17,7 @@ use Rattle.msg_system.specs.OpRuns.{IsAfterOp, OpRan}
 use Rattle.msg_system.specs.inner.TurnRuns.{AreAnswered, IsAfterProgram, TurnRan, next_kept}
 use Rattle.msg_system.specs.Programs.{AfterOp, AfterProgram, after_op}
 use Rattle.msg_system.specs.Promises.{Covers, Ran}
-use Rattle.msg_system.specs.Systems.{Meaning, after_at_most, one_more, op_list, ops_answered, turn}
+use Rattle.msg_system.specs.Systems.{Meaning, after_at_most, one_more, ops_answered, turn}
 use Rattle.msg_system.proofs.Lendings.{can_be_shown}
 use Rattle.msg_system.proofs.Runs.{written_stand}
 use Rattle.msg_system.proofs.Turns.{IsKept, ops_answered-snoc}
@@ -95,7 +95,7 @@ pub answered_more : (next : List Reply → Option Op) (ops : List Op) (before af
 answered_more next ops before after op r are is = (
   are.0 ++ r ∷ [],
   ap (λ xs. xs ++ r ∷ []) are.1 ∙ append_assoc before are.0 (r ∷ []),
-  ap (λ xs. xs ++ op ∷ []) are.2 ∙ ap (λ (o : Option Op). ops_answered next are.0 ++ op_list o) is ∙ sym (ops_answered-snoc next are.0 r),
+  ap (λ xs. xs ++ op ∷ []) are.2 ∙ ap (λ (o : Option Op). ops_answered next are.0 ++ option_to_list o) is ∙ sym (ops_answered-snoc next are.0 r),
   length-append ops (op ∷ []) ∙ ap (λ k. k + 1) are.3 ∙ sym (length-append are.0 (r ∷ [])),
 )
 

@@ -5,7 +5,7 @@ use Rattle.std.specs.Ordering.{int_eq}
 use Rattle.std.proofs.Math.Bool.{or-false}
 use Rattle.std.proofs.lemmas.Bool.{cases_Bool, false≢true, or_left, or_right}
 use Rattle.msg_buffer.specs.History.{History, clear, count, oldest, present, write, message_of}
-use Rattle.msg_buffer.specs.Reader.{missed, pass_over, unread}
+use Rattle.msg_buffer.specs.Reader.{first, missed, unread}
 use Rattle.msg_world.specs.declared.record.Record.{Record}
 use Rattle.msg_world.specs.Access.{Part, OfType, OfResource, Registry, same_part}
 use Rattle.msg_world.specs.World.{WorldState, by, content, signalled, signalled_marks, with_history, with_value_of}
@@ -21,7 +21,7 @@ use Rattle.msg_system.specs.declared.start.Start.TheVariants.{Zero}
 use Rattle.msg_system.specs.Conditions.{AfterJob, Asked, Job, after_asking, all_hold, answer, found, inverted, place_after, conditions_of}
 use Rattle.msg_system.specs.Footprints.{Agree, ConditionFootprint, IsWithin, JobFootprint, HasFootprint, OpFootprint, ProgramFootprint, TurnFootprint, given_by_job, given_by_op, given_by_program}
 use Rattle.msg_system.specs.Needs.{Needs, condition_needs, is_part, is_resource, op_needs, op_parts, probe_part, program_needs, some_condition_reads, with_conditions}
-use Rattle.msg_system.specs.Programs.{AfterOp, AfterProgram, after_op, after_program, again_by, cleared, numbers_for, place_after_read, plus, sum_onto, took, with_place, write_reply}
+use Rattle.msg_system.specs.Programs.{AfterOp, AfterProgram, after_op, after_program, again_by, numbers_for, place_after_read, plus, sum_onto, took, with_place, write_reply}
 use Rattle.msg_system.specs.Systems.{Meaning, after_at_most, after_turn, next_op, of_program, one_more, told, turn}
 use Rattle.msg_system.proofs.Runs.{same_part_refl}
 use Rattle.msg_system.proofs.Turns.{IsKept, next_kept_to, program_so_far}
@@ -90,7 +90,7 @@ module _ (m : Part → Bool) (s t : WorldState) (agree : Agree m s t) where
       ap (λ h. (with_place ps k (place_after_read h (ps k) l), reply.Read (took h (ps k) l))) (read_agrees (Read k l) within (OfType k) refl)
   op_same (Len k) w ps within = ap (λ h. (ps, reply.Len (length (unread h (ps k))))) (read_agrees (Len k) within (OfType k) refl)
   op_same (Missed k) w ps within = ap (λ h. (ps, reply.Missed (missed h (ps k)))) (read_agrees (Missed k) within (OfType k) refl)
-  op_same (Clear k) w ps within = ap (λ h. (with_place ps k (count h), cleared (pass_over h (ps k)))) (read_agrees (Clear k) within (OfType k) refl)
+  op_same (Clear k) w ps within = ap (λ h. (with_place ps k (count h), reply.Cleared (missed h (ps k)) (first h (ps k)) (length (unread h (ps k))))) (read_agrees (Clear k) within (OfType k) refl)
   op_same (Forward k u) w ps within =
       ap (λ h. (with_place ps k (place_after_read h (ps k) None), reply.Forwarded (took h (ps k) None) (numbers_for (s.histories u) (length (again_by w (took h (ps k) None).items)))))
       (read_agrees (Forward k u) within (OfType k) refl)

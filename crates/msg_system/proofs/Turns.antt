@@ -1,6 +1,6 @@
 -- Turns by rules.
 use Rattle.std.proofs.Common.{◌≡◌, ℕ, zero, suc, ◌+◌, ◌<◌, ◌≤◌, ◌++◌, Bool, true, false, not, ◌&&◌, ◌||◌, List, [], ◌∷◌, length, Option, Some, None, take, drop, refl, sym, ap, subst, ◌∙◌, arith, inl, inr, append_assoc}
-use Rattle.std.specs.Prelude.{IsTrue, slice_get, if◌then◌else◌}
+use Rattle.std.specs.Prelude.{option_to_list, IsTrue, slice_get, if◌then◌else◌}
 use Rattle.std.proofs.Math.Seq.{drop-append_seam}
 use Rattle.std.proofs.lemmas.Bool.{and_from, and_parts, cases_Bool, eqb-true, false≢true}
 use Rattle.std.proofs.lemmas.List.{append-nil, length-take-le, take_more, take_all}
@@ -19,7 +19,7 @@ use Rattle.msg_system.specs.Needs.{Needs, is_none_or, is_part, is_resource, keep
 use Rattle.msg_system.specs.inner.TurnRuns.{HasReplies, ProgramRan}
 use Rattle.msg_system.specs.Programs.{AfterOp, AfterProgram, after_op, after_program}
 use Rattle.msg_system.specs.Promises.{OneOpIsATurn, Ran, WrittenStand}
-use Rattle.msg_system.specs.Systems.{IsInOrder, Meaning, after_at_most, if_kept, next_op, of_program, one_more, only, op_list, ops_answered, turn}
+use Rattle.msg_system.specs.Systems.{IsInOrder, Meaning, after_at_most, if_kept, next_op, of_program, one_more, only, ops_answered, turn}
 use Rattle.msg_system.proofs.Runs.{after_program-snoc, same_part_refl, written_stand}
 
 -- ---- a program keeps to what it needs
@@ -93,11 +93,11 @@ program_so_far program n w ps s few =
     ap (λ next. after_at_most n next w ps s) (program_nexts program w ps) ∙ so_far program.ops n w ps s
     ∙ ap (λ xs. after_program xs w ps s) (take_all n program.ops few)
 
-pub ops_answered-snoc : (next : List Reply → Option Op) (rs : List Reply) (r : Reply) → ops_answered next (rs ++ r ∷ []) ≡ ops_answered next rs ++ op_list (next rs)
-ops_answered-snoc next [] r = append-nil (op_list (next []))
+pub ops_answered-snoc : (next : List Reply → Option Op) (rs : List Reply) (r : Reply) → ops_answered next (rs ++ r ∷ []) ≡ ops_answered next rs ++ option_to_list (next rs)
+ops_answered-snoc next [] r = append-nil (option_to_list (next []))
 ops_answered-snoc next (x ∷ rs) r =
-    ap (λ xs. op_list (next []) ++ xs) (ops_answered-snoc (λ now. next (x ∷ now)) rs r)
-    ∙ sym (append_assoc (op_list (next [])) (ops_answered (λ now. next (x ∷ now)) rs) (op_list (next (x ∷ rs))))
+    ap (λ xs. option_to_list (next []) ++ xs) (ops_answered-snoc (λ now. next (x ∷ now)) rs r)
+    ∙ sym (append_assoc (option_to_list (next [])) (ops_answered (λ now. next (x ∷ now)) rs) (option_to_list (next (x ∷ rs))))
 
 answered_first : (ops : List Op) (rs : List Reply) → ops_answered (λ replies. slice_get ops (length replies)) rs ≡ take (length rs) ops
 answered_first ops [] = refl

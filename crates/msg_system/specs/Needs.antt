@@ -11,37 +11,27 @@ use Rattle.msg_system.specs.declared.condition.Probe.TheVariants.{OnMessage, Res
 
 -- there is no such part, or it holds of it
 abbrev pub is_none_or : (Part → Bool) → Option Part → Bool
-is_none_or holds None = true
-is_none_or holds (Some p) = holds p
+is_none_or holds part = elim part [ None ↦ true | Some p ↦ holds p ]
 
 -- An op reads one part at most, and writes one part at most.
 pub record OpParts : Type 0 where
   pub read : Option Part
   pub written : Option Part
 
-abbrev pub reading : Part → OpParts
-reading p = record { read = Some p; written = None }
-
-abbrev pub writing : Part → OpParts
-writing p = record { read = None; written = Some p }
-
-abbrev pub reading_and_writing : Part → Part → OpParts
-reading_and_writing p q = record { read = Some p; written = Some q }
-
 abbrev pub op_parts : Op → OpParts
-op_parts (Write t v) = writing (OfType t)
-op_parts (Batch t vs) = writing (OfType t)
-op_parts (Read t limit) = reading (OfType t)
-op_parts (Len t) = reading (OfType t)
-op_parts (Missed t) = reading (OfType t)
-op_parts (Clear t) = reading (OfType t)
-op_parts (Forward t u) = reading_and_writing (OfType t) (OfType u)
-op_parts (Sum t r) = reading_and_writing (OfType t) (OfResource r)
-op_parts (Get r) = reading (OfResource r)
-op_parts (Set r v) = writing (OfResource r)
-op_parts (Add r v) = writing (OfResource r)
-op_parts (Drain t) = writing (OfType t)
-op_parts Signal = writing Registry
+op_parts (Write t v) = record { read = None; written = Some (OfType t) }
+op_parts (Batch t vs) = record { read = None; written = Some (OfType t) }
+op_parts (Read t limit) = record { read = Some (OfType t); written = None }
+op_parts (Len t) = record { read = Some (OfType t); written = None }
+op_parts (Missed t) = record { read = Some (OfType t); written = None }
+op_parts (Clear t) = record { read = Some (OfType t); written = None }
+op_parts (Forward t u) = record { read = Some (OfType t); written = Some (OfType u) }
+op_parts (Sum t r) = record { read = Some (OfType t); written = Some (OfResource r) }
+op_parts (Get r) = record { read = Some (OfResource r); written = None }
+op_parts (Set r v) = record { read = None; written = Some (OfResource r) }
+op_parts (Add r v) = record { read = None; written = Some (OfResource r) }
+op_parts (Drain t) = record { read = None; written = Some (OfType t) }
+op_parts Signal = record { read = None; written = Some Registry }
 
 -- the type, where the part is one
 abbrev pub type_of : Part → Option ℕ

@@ -1,9 +1,9 @@
 -- What an op does to the places of its system and to the world, and what it answers; and a program, its ops in order.
-use Rattle.std.specs.Prelude.{ℕ, ℤ, ◌+ℤ◌, ◌==◌, Option, None, Some, List, [], ◌∷◌, fold, length, map, if◌then◌else◌}
+use Rattle.std.specs.Prelude.{ℕ, ◌+◌, ℤ, ◌+ℤ◌, ◌==◌, Option, None, Some, List, [], ◌∷◌, fold, length, map, if◌then◌else◌}
 use Rattle.std.specs.Int.{saturate_signed, w64}
 use Rattle.msg_buffer.specs.declared.instance.Written.{Written}
 use Rattle.msg_buffer.specs.History.{History, clear, count, has_room, oldest, present, write, message_of}
-use Rattle.msg_buffer.specs.Reader.{Stretch, first, given, missed, next_place, pass_over, read, unread}
+use Rattle.msg_buffer.specs.Reader.{first, given, missed, unread}
 use Rattle.msg_world.specs.declared.record.Record.{Record}
 use Rattle.msg_world.specs.World.{WorldState, by, signalled, with_history, with_value_of}
 use Rattle.msg_system.specs.declared.op.Op.{Op}
@@ -28,11 +28,7 @@ took h place limit = record { missed = missed h place; first = first h place; it
 
 -- the place after it
 abbrev pub place_after_read : History Record → ℕ → Option ℕ → ℕ
-place_after_read h place limit = next_place (read h place limit)
-
--- what a clear says that it goes past
-abbrev pub cleared : Stretch → Reply
-cleared s = reply.Cleared s.missed s.first s.number
+place_after_read h place limit = first h place + length (given h place limit)
 
 -- the numbers that so many messages get; none where too few are left
 abbrev pub numbers_for : History Record → ℕ → Option Written
@@ -79,7 +75,9 @@ after_op (Read t limit) w ps s =
     answers (reply.Read (took (s.histories t) (ps t) limit)) (with_place ps t (place_after_read (s.histories t) (ps t) limit)) s
 after_op (Len t) w ps s = answers (reply.Len (length (unread (s.histories t) (ps t)))) ps s
 after_op (Missed t) w ps s = answers (reply.Missed (missed (s.histories t) (ps t))) ps s
-after_op (Clear t) w ps s = answers (cleared (pass_over (s.histories t) (ps t))) (with_place ps t (count (s.histories t))) s
+after_op (Clear t) w ps s =
+    let h : History Record = s.histories t in
+    answers (reply.Cleared (missed h (ps t)) (first h (ps t)) (length (unread h (ps t)))) (with_place ps t (count h)) s
 after_op (Forward t u) w ps s =
     let taken : Took = took (s.histories t) (ps t) None in
     let ms : List Record = again_by w taken.items in

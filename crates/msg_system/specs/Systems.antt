@@ -1,5 +1,5 @@
 -- What a system means, and what its turn is.
-use Rattle.std.specs.Prelude.{◌≡◌, ℕ, zero, suc, ◌≤◌, ◌++◌, Option, Some, None, unwrap_or, List, [], ◌∷◌, length, slice_get, if◌then◌else◌}
+use Rattle.std.specs.Prelude.{◌≡◌, ℕ, zero, suc, ◌≤◌, ◌++◌, Option, Some, None, option_and_then, option_to_list, unwrap_or, List, [], ◌∷◌, length, slice_get, if◌then◌else◌}
 use Rattle.msg_world.specs.Access.{OfType}
 use Rattle.msg_world.specs.World.{WorldState}
 use Rattle.msg_system.specs.declared.op.Op.{Op}
@@ -10,8 +10,7 @@ use Rattle.msg_system.specs.declared.start.Start.TheVariants.{Zero, Current}
 use Rattle.msg_system.specs.Needs.{Needs, keeps_to, program_needs}
 use Rattle.msg_system.specs.Programs.{AfterOp, AfterProgram, after_op, after_program}
 
--- What a system does next, by the replies of each turn that it takes from now on, and by the replies so far of the turn
--- that follows these. None says that the turn is over.
+-- What a system does next, by the replies of its turns from now on, and by those so far of this turn; None ends the turn.
 abbrev pub Rule : Type 0
 Rule = List (List Reply) → List Reply → Option Op
 
@@ -29,8 +28,7 @@ pub record Meaning : Type 0 where
 
 -- the op, where it keeps to what is needed; else the turn is over
 abbrev pub if_kept : Needs → Option Op → Option Op
-if_kept n None = None
-if_kept n (Some op) = if keeps_to n op then Some op else None
+if_kept n next = option_and_then (λ op. if keeps_to n op then Some op else None) next
 
 -- the next op of its turn, by the replies so far
 abbrev pub next_op : Meaning → List Reply → Option Op
@@ -54,15 +52,10 @@ after_at_most (suc n) next w ps s =
 unfoldable pub turn : Meaning → WorldState → AfterProgram
 turn m s = after_at_most 64 (next_op m) m.writer m.places s
 
--- the op, as a list
-abbrev pub op_list : Option Op → List Op
-op_list None = []
-op_list (Some op) = op ∷ []
-
 -- the ops that these are the replies to
 abbrev pub ops_answered : (List Reply → Option Op) → List Reply → List Op
 ops_answered next [] = []
-ops_answered next (r ∷ rs) = op_list (next []) ++ ops_answered (λ replies. next (r ∷ replies)) rs
+ops_answered next (r ∷ rs) = option_to_list (next []) ++ ops_answered (λ replies. next (r ∷ replies)) rs
 
 -- what it does from a turn on that was answered so
 abbrev pub told : List Reply → Meaning → Meaning

@@ -7,8 +7,7 @@ use Rattle.msg_world.specs.declared.marks.Marks.{Marks}
 use Rattle.msg_world.specs.declared.access.Access.{Access}
 use Rattle.msg_world.specs.Access.{Part, OfType, OfResource, Registry, writes}
 
--- Types and resources go by their numbers. A world that is held updates its types only where a signal is
--- pending.
+-- Types and resources go by number. A held world updates its types only where a signal is pending.
 pub record WorldState : Type 0 where
   pub histories : ℕ → History Record
   pub resources : ℕ → ℤ
