@@ -9,7 +9,12 @@ use Rattle.msg_system.specs.Needs.{type_read}
 use Rattle.msg_frames.specs.declared.totals.Totals.{Totals}
 use Rattle.msg_frames.specs.Entries.{Entry, entries_for, entry_of, with_entries}
 use Rattle.msg_frames.proofs.EntriesAddUp.{with_entries-append, with_entries-none}
+use Rattle.msg_exec.specs.Keeping.{kept}
 use Rattle.msg_exec.specs.inner.Totals.{entry_at}
+
+-- the same totals are kept alike
+pub kept_alike : {x y t : Totals} → x ≡ y → t ≡ kept y → t ≡ kept x
+kept_alike same is = is ∙ ap kept (sym same)
 
 of_its_type : (t : ℕ) (o : Option ℕ) (es : List Entry)
     → (if (elim o [ None ↦ false | Some u ↦ u == t ]) then es else []) ≡ (elim o [ None ↦ [] | Some u ↦ if u == t then es else [] ])

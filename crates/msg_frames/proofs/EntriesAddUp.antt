@@ -4,8 +4,10 @@ use Rattle.std.proofs.lemmas.List.{length-append}
 use Rattle.std.proofs.lemmas.List.FromFn.{length-range_with_len}
 use Rattle.msg_buffer.specs.Reader.{next_place, Tile}
 use Rattle.msg_world.specs.declared.record.Record.{Record}
+use Rattle.msg_system.specs.declared.reply.Took.{Took}
+use Rattle.std.specs.List.{range_with_len}
 use Rattle.msg_frames.specs.declared.totals.Totals.{Totals}
-use Rattle.msg_frames.specs.Entries.{Entry, Fate, given, cleared, missed, numbers_at, numbers_of, numbers_passed, with_entries}
+use Rattle.msg_frames.specs.Entries.{Entry, Fate, given, cleared, missed, entry_of_read, numbers_at, numbers_of, numbers_passed, with_entries}
 use Rattle.msg_frames.specs.Soundness.{IsBalanced}
 use Rattle.msg_frames.specs.Tiling.{Moment}
 use Rattle.msg_frames.proofs.ReaderOverJob.{tile_of}
@@ -26,6 +28,28 @@ pub with_entries-append : (es fs : List Entry) (x : Totals) → with_entries (es
 with_entries-append es fs x =
     same_totals (with_entries (es ++ fs) x) (with_entries fs (with_entries es x)) refl
     (omega (arith, more_of given es fs)) (omega (arith, more_of missed es fs)) (omega (arith, more_of cleared es fs))
+
+-- what one op that read adds, and what one clear
+pub with_read : (took : Took) (x : Totals)
+    → with_entries (entry_of_read took ∷ []) x ≡ record x { got = x.got + length took.items; missed = x.missed + took.missed }
+with_read took x =
+    let n : ℕ = length took.items in
+    let passed = length-range_with_len took.first n in
+    let before = length-range_with_len (took.first - took.missed) took.missed in
+    same_totals (with_entries (entry_of_read took ∷ []) x) (record x { got = x.got + n; missed = x.missed + took.missed }) refl
+    (omega (arith, passed, length-append (range_with_len took.first n) []))
+    (omega (arith, before, length-append (range_with_len (took.first - took.missed) took.missed) [])) (omega arith)
+
+pub with_clear : (gone first n : ℕ) (x : Totals)
+    → with_entries (record { stretch = record { missed = gone; first = first; number = n }; given = None } ∷ []) x
+    ≡ record x { missed = x.missed + gone; cleared = x.cleared + n }
+with_clear gone first n x =
+    let passed = length-range_with_len first n in
+    let before = length-range_with_len (first - gone) gone in
+    let e : Entry = record { stretch = record { missed = gone; first = first; number = n }; given = None } in
+    same_totals (with_entries (e ∷ []) x) (record x { missed = x.missed + gone; cleared = x.cleared + n }) refl (omega arith)
+    (omega (arith, before, length-append (range_with_len (first - gone) gone) []))
+    (omega (arith, passed, length-append (range_with_len first n) []))
 
 -- all that an entry goes past was given or cleared
 given_or_cleared : (o : Option (List Record)) (ns : List ℕ) → length (cond (is_some o) ns []) + length (cond (is_some o) [] ns) ≡ length ns

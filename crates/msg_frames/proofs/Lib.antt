@@ -13,7 +13,7 @@ mod LawfulOrdersAgree
 mod HistoriesGrow
 -- ---- what a reader goes past: in a job, in turns, in a frame, over a run
 mod ReaderOverJob
-mod EntriesAddUp
+pub mod EntriesAddUp
 mod ReaderOverTurns
 mod BeforeTurns
 mod StatesStaySound

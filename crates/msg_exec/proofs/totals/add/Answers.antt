@@ -1,0 +1,13 @@
+use Rattle.std.proofs.Common.{rules, ap, ◌∙◌}
+use Rattle.std.specs.Prelude.{option_to_list}
+use Rattle.msg_frames.specs.Entries.{entry_of, with_entries}
+use Rattle.msg_frames.proofs.EntriesAddUp.{with_clear}
+use Rattle.msg_exec.proofs.EntriesAreAdded.{kept_alike}
+use Rattle.msg_exec.proofs.totals.add.Goals as goal
+
+pub returns-in-Cleared : goal.returns-in-Cleared
+returns-in-Cleared c = record {
+  added = λ x is.
+      let told = ap (λ r. with_entries (option_to_list (entry_of r)) x) c.in-Cleared.is in
+      kept_alike (told ∙ with_clear c.in-Cleared.missed c.in-Cleared.first c.in-Cleared.n x) (search rules);
+}
