@@ -2,7 +2,7 @@
 ghost use Rattle.std.specs.Prelude.{◌≡◌, ◌<◌, ℕ, All, IfOk, IsTrue};
 ghost use Rattle.msg_exec.specs.Engines.{IsEngine, PostsFit, StandsFor};
 ghost use Rattle.msg_frames.specs.CompleteRun.{Meets};
-ghost use Rattle.msg_frames.specs.CompleteRun.Fate.{given};
+ghost use Rattle.msg_frames.specs.Entries.Fate.{given};
 ghost use Rattle.msg_frames.specs.Frames.{State, has_begun};
 ghost use Rattle.msg_frames.specs.Tiling.{log_entries};
 

@@ -5,12 +5,13 @@ ghost use Rattle.msg_exec.specs.Engines.{IsEngine};
 use super::making::{add_deciding, frame_of, places, run_frame, start};
 use crate::adders::Adder;
 use crate::numbers::type_no;
-use msg_exec::{EngineOf, NoGate};
+use msg_exec::{EngineOf, Frame, NoGate, RunFault};
 use msg_system::{Access, BehaviorSystem, System};
-use msg_world::{Record, TypeNo, World};
+use msg_world::{Record, World};
 use std::alloc::Global;
 use std::process::Abort;
 use std::test::Fail;
+use std::thread::Threads;
 
 /// An engine of one adder, over a world of two types.
 fn adder_engine(rt: &impl Abort, alloc: Global) -> Result<EngineOf<BehaviorSystem<Adder>>, Fail>
@@ -26,27 +27,33 @@ fn adder_engine(rt: &impl Abort, alloc: Global) -> Result<EngineOf<BehaviorSyste
     Ok(start(rt, alloc, world, systems, places, Vec::new(alloc))?)
 }
 
-/// These values, and no others, were written in this frame.
-fn expect_written(rt: &impl Abort, world: Option<&World>, t: TypeNo, values: &[i64]) {
-    let Some(messages) = world.and_then(|w| w.messages(t)) else {
+/// Runs a frame on so many workers. In it these values, and no others, are written to the second type.
+fn expect_frame_writes<R: Threads + Sync + Abort>(
+    rt: &R,
+    engine: &mut EngineOf<BehaviorSystem<Adder>>,
+    frame: &Frame,
+    number: u32,
+    values: &[i64],
+) -> Result<(), RunFault>
+    requires engine { IsEngine ⟦<BehaviorSystem<Adder> as System>⟧.meaning engine.old }
+    ensures engine { IsEngine ⟦<BehaviorSystem<Adder> as System>⟧.meaning engine.new }
+{
+    run_frame(rt, engine, frame, number, &NoGate)?;
+    let Some(messages) = engine.world().and_then(|w| w.messages(type_no(rt, 1))) else {
         panic!(rt; "no messages");
     };
     let written = messages.current();
     assert_eq!(rt; written.len(), values.len());
     for (instance, value) in written.iter().zip(values) {
-        assert_eq!(rt;
-            instance.message,
-            Record {
-                writer: 0,
-                value: *value
-            }
-        );
+        let value = *value;
+        assert_eq!(rt; instance.message, Record { writer: 0, value });
     }
+    Ok(())
 }
 
 #[test]
 fn a_sum_goes_out_in_its_turn(rt: HostRuntime) -> Result<(), Fail> {
-    let (alloc, from, to) = (rt.alloc(), type_no(&rt, 0), type_no(&rt, 1));
+    let (alloc, from) = (rt.alloc(), type_no(&rt, 0));
     let (both, none) = (
         frame_of(alloc, &[(from, 5), (from, 6)])?,
         frame_of(alloc, &[])?,
@@ -54,12 +61,9 @@ fn a_sum_goes_out_in_its_turn(rt: HostRuntime) -> Result<(), Fail> {
     let one = frame_of(alloc, &[(from, 1)])?;
     for number in [1, 2, 7, 64] {
         let mut engine = adder_engine(&rt, alloc)?;
-        run_frame(&rt, &mut engine, &both, number, &NoGate)?;
-        expect_written(&rt, engine.world(), to, &[11]);
-        run_frame(&rt, &mut engine, &none, number, &NoGate)?;
-        expect_written(&rt, engine.world(), to, &[]);
-        run_frame(&rt, &mut engine, &one, number, &NoGate)?;
-        expect_written(&rt, engine.world(), to, &[12]);
+        expect_frame_writes(&rt, &mut engine, &both, number, &[11])?;
+        expect_frame_writes(&rt, &mut engine, &none, number, &[])?;
+        expect_frame_writes(&rt, &mut engine, &one, number, &[12])?;
     }
     Ok(())
 }

@@ -3,7 +3,7 @@ use Rattle.std.specs.Prelude.{IsTrue}
 use Rattle.msg_frames.specs.declared.frame.Frame.{Frame}
 use Rattle.msg_frames.specs.declared.log.Log.{Log}
 use Rattle.msg_frames.specs.CompleteRun.{IsCompleteRun, Meets}
-use Rattle.msg_frames.specs.CompleteRun.Fate.{given}
+use Rattle.msg_frames.specs.Entries.Fate.{given}
 use Rattle.msg_frames.specs.Frames.{State, has_begun}
 use Rattle.msg_frames.specs.Tiling.{log_entries}
 use Rattle.msg_tests.proofs.clients.run_once.Goals as goal
