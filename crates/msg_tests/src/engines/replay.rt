@@ -15,6 +15,7 @@ use std::process::Abort;
 use std::sync::Arc;
 use std::sync::atomic::{AtomicU64, Ordering};
 use std::test::Fail;
+use std::thread::Threads;
 
 /// The account of a reader of this type that started at 0, and got as many messages as its place
 /// says.
@@ -98,18 +99,39 @@ fn a_frame_by_two_workers(rt: HostRuntime) -> Result<(), Fail> {
     Ok(())
 }
 
+/// A writer and two readers that ran one frame, after which nothing is noted.
+fn after_one_frame<R: Threads + Sync + Abort>(
+    rt: &R,
+    alloc: Global,
+    frame: &Frame,
+    noted: &Arc<AtomicU64>,
+) -> Result<EngineOf<Prefaced<Scripted>>, Fail>
+    ensures engine { IfOk result (IsEngine ⟦<Prefaced<Scripted> as System>⟧.meaning) }
+{
+    let mut engine = writer_and_readers(rt, alloc, noted)?;
+    run_frame(rt, &mut engine, frame, 1, &NoGate)?;
+    noted.store(0, Ordering::SeqCst);
+    Ok(engine)
+}
+
+#[test]
+fn unlawful_orders_run_nothing(rt: HostRuntime) -> Result<(), Fail> {
+    let (alloc, frame) = (rt.alloc(), quiet(rt.alloc()));
+    let noted = Arc::new(alloc, AtomicU64::new(0))?;
+    let mut engine = after_one_frame(&rt, alloc, &frame, &noted)?;
+    expect_unlawful(&rt, &mut engine, &frame, &[1, 0, 2]);
+    expect_unlawful(&rt, &mut engine, &frame, &[0, 1]);
+    expect_unlawful(&rt, &mut engine, &frame, &[0, 1, 1]);
+    assert_eq!(rt; noted.load(Ordering::SeqCst), 0);
+    expect_after(&rt, &engine, 1)?;
+    Ok(())
+}
+
 #[test]
 fn the_same_frame_replayed(rt: HostRuntime) -> Result<(), Fail> {
     let (alloc, frame, one) = (rt.alloc(), quiet(rt.alloc()), [by(0, 1)]);
     let noted = Arc::new(alloc, AtomicU64::new(0))?;
-    let mut engine = writer_and_readers(&rt, alloc, &noted)?;
-    run_frame(&rt, &mut engine, &frame, 1, &NoGate)?;
-    noted.store(0, Ordering::SeqCst);
-    expect_unlawful(&rt, &mut engine, &frame, &[1, 0, 2]);
-    expect_unlawful(&rt, &mut engine, &frame, &[0, 1]);
-    expect_unlawful(&rt, &mut engine, &frame, &[0, 1, 1]);
-    expect_after(&rt, &engine, 1)?;
-    assert_eq!(rt; noted.load(Ordering::SeqCst), 0);
+    let mut engine = after_one_frame(&rt, alloc, &frame, &noted)?;
     let log = replay(&rt, &mut engine, &frame, &[0, 2, 1])?;
     let steps = [wrote(0, 1), read(2, 1, &one), read(1, 1, &one)];
     expect_log(&rt, &log, &[], &steps);
