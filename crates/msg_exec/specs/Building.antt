@@ -63,11 +63,12 @@ abbrev pub numbered_from : ℕ → List Meaning → List Meaning
 numbered_from n [] = []
 numbered_from n (m ∷ ms) = record m { writer = n; places = λ t. 0 } ∷ numbered_from (n + 1) ms
 
--- why a system isn't added to so many, to join with this frame
+-- why a system isn't added to so many, to join with this frame: there are too many; else it can't join with that frame;
+-- and only where it might be added there is no memory
 abbrev pub RefusesToAdd : ℕ → ℕ → BuildError → Type 0
 RefusesToAdd systems join Full = 256 ≤ systems
-RefusesToAdd systems join (BadJoin frame) = (frame ≡ join) × ¬ IsJoin join
-RefusesToAdd systems join (Refused NoMemory) = ⊤
+RefusesToAdd systems join (BadJoin frame) = (systems < 256) × (frame ≡ join) × ¬ IsJoin join
+RefusesToAdd systems join (Refused NoMemory) = (systems < 256) × IsJoin join
 RefusesToAdd systems join _ = ⊥
 
 -- the first rule that names a system from n on

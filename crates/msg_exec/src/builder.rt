@@ -122,8 +122,8 @@ impl<S: Numbered> EngineBuilder<S> {
     ///
     /// # Errors
     ///
-    /// `Full` where there are 256 systems; `BadJoin` where `join` isn't from 1 to 10,000; and want
-    /// of memory. Then nothing is added.
+    /// `Full` where there are 256 systems; else `BadJoin` where `join` isn't from 1 to 10,000; else
+    /// want of memory. Then nothing is added.
     pub fn add_system(
         &mut self,
         system: S,

@@ -1,5 +1,5 @@
 -- What a run of a scenario leaves in a sink where it didn't come to its end, and how the program ends by it.
-use Rattle.std.specs.Prelude.{ℕ, ◌-◌, List, Option, Result, Ok, Err, length, take}
+use Rattle.std.specs.Prelude.{◌≡◌, ◌⊎◌, ℕ, ◌-◌, List, Option, Result, Ok, Err, length, take}
 use Rattle.std.specs.Io.KnownBytes.{Appends}
 use Rattle.msg_frames.specs.Accounts.{accounts_of}
 use Rattle.msg_frames.specs.Frames.{State}
@@ -27,6 +27,9 @@ pub record PrintedSome (s : Scenario) (before after : Option (List ℕ)) : Type 
   pub is_run : HasRunFirst s logs state
   pub printed : AppendsPrefix before after (text_so_far s logs (accounts_of state))
   pub earlier : AppendsAtLeast before after (frames_text s 1 s.frames (take (length logs - 1) logs))
+  -- it stopped in the text of that frame, or else all frames were run and their texts are there, the last one's too
+  pub last : AppendsPrefix before after (frames_text s 1 s.frames logs)
+      ⊎ ((length logs ≡ length s.frames) × AppendsAtLeast before after (frames_text s 1 s.frames logs))
 
 -- the fault that ends the program, by what a run of a scenario came to
 abbrev pub main_fault : {E : Type 0} → Result (Result (Unit {0}) ReportFault) E → Result (Unit {0}) MainFault

@@ -1,5 +1,5 @@
 // The text of one frame.
-ghost use Rattle.std.specs.Prelude.{◌≡◌, ◌++◌, [], IsOk, OnOk, codes, flat_map};
+ghost use Rattle.std.specs.Prelude.{◌≡◌, ◌<◌, ◌++◌, [], IsOk, OnErr, OnOk, codes, flat_map, length};
 ghost use Rattle.msg_scenario.specs.ReportText.{frame_text, op_line, ops_text, outcome_text, post_line, posts_text, turn_text};
 
 use crate::reports::names::{add_name, add_type};
@@ -36,8 +36,9 @@ fn add_posts(
     posts: &[(TypeNo, i64)],
     replies: &[Reply],
 ) -> Result<(), NoMemory>
-    ensures { OnOk result
+    ensures appends { OnOk result
         (text.new.items ≡ text.old.items ++ posts_text scenario.now posts.now replies.now) }
+    ensures refused { OnErr result ((0 < length posts.now) × (0 < length replies.now)) }
 {
     for ((t, _), reply) in posts.iter().zip(replies) {
         add_post(text, scenario, *t, reply)?;
@@ -111,8 +112,9 @@ fn add_ops(
     ops: &[Op],
     replies: &[Reply],
 ) -> Result<(), NoMemory>
-    ensures { OnOk result
+    ensures appends { OnOk result
         (text.new.items ≡ text.old.items ++ ops_text scenario.now name.now ops.now replies.now) }
+    ensures refused { OnErr result ((0 < length ops.now) × (0 < length replies.now)) }
 {
     for (op, reply) in ops.iter().zip(replies) {
         add_line(text, scenario, name, op, reply)?;

@@ -18,4 +18,5 @@ returns-clause-stopped g c cause =
       is_run = stopped.is_run;
       printed = stopped.printed;
       earlier = stopped.earlier;
+      last = stopped.last;
     }
