@@ -17,6 +17,16 @@ use std::snapshot::Snapshot;
 
 /// Jobs that several workers draw, each with a pass of its own. A job's number is its place in the
 /// list that `new` was given. Clauses see it as a `BoardView`.
+///
+/// ```
+/// let (board, mut passes) = Board::<Squaring>::new(alloc, numbers, 2)?;
+/// for pass in passes.iter_mut() {
+///     while let Some((k, number)) = board.draw(pass) {
+///         board.hand_in(pass, k, u64::from(number) * u64::from(number));
+///     }
+/// }
+/// let squares = board.close(alloc, passes)?;
+/// ```
 #[derive(Drop)]
 pub struct Board<W: Work, A: Allocator = Global> {
     table: Table<Slot<W::Job, W::Done>, View<W::Job>, Deal<W::Job, A>, Law<W>, A>,

@@ -13,6 +13,14 @@ use std::marker::Model;
 ///
 /// A cursor may be used on any buffer. Where its place is past the buffer's count it finds nothing
 /// and keeps its place, until it is cleared.
+///
+/// ```
+/// let mut reader = hits.get_cursor();
+/// let (missed, unread) = (reader.missed(&hits), reader.len(&hits));
+/// for (_, points) in reader.read(&hits) {
+///     println!(rt; "{points}, of {unread} unread; {missed} missed before")?;
+/// }
+/// ```
 #[derive(Clone, Copy, Debug, Default, PartialEq, Eq)]
 pub struct MessageCursor {
     pub(crate) place: u64,

@@ -19,6 +19,16 @@ use std::mem::{replace, swap};
 ///
 /// Each message gets the next number, from 0 on, and numbers aren't used again. `limit` messages
 /// can ever be written.
+///
+/// ```
+/// let mut hits = Messages::new(alloc, 100);
+/// let mut reader = hits.get_cursor();
+/// hits.write(7)?;
+/// for (id, points) in reader.read(&hits) {
+///     println!(rt; "{}: {points}", id.0)?;
+/// }
+/// hits.update();
+/// ```
 #[derive(Drop)]
 pub struct Messages<M, A: Allocator = Global> {
     /// What was written before the last update.

@@ -19,6 +19,14 @@ use std::marker::Model;
 
 /// Systems and rules, added in any order, which make an engine. It numbers the systems in order of
 /// addition, and tests all that `EngineOf::new` asks of them.
+///
+/// ```
+/// let mut systems = EngineBuilder::new(alloc);
+/// let adder = systems.add_system(adder, Vec::new(alloc), 1)?;
+/// let judge = systems.add_system(judge, vec![in alloc; condition]?, 3)?;
+/// systems.add_rule(Rule::before(judge, adder))?;
+/// let mut engine = systems.build(World::new(alloc, &[100], &[0])?)?;
+/// ```
 #[derive(Drop)]
 pub struct EngineBuilder<S> {
     alloc: Global,

@@ -18,6 +18,14 @@ use std::thread::Threads;
 /// Systems over one world, which run frame by frame.
 ///
 /// After want of memory in a frame the engine is spoiled: every later frame call answers so.
+///
+/// ```
+/// let mut engine = systems.build(world)?;
+/// if engine.fits(&frame) {
+///     let log = engine.run_frame(&rt, &frame, workers, &NoGate)?;
+///     println!(rt; "{} systems took their turn", log.turns.as_slice().len())?;
+/// }
+/// ```
 #[derive(Drop)]
 pub struct EngineOf<S> {
     pub(crate) alloc: Global,

@@ -35,6 +35,7 @@ impl Workers {
         }
     }
 
+    /// How many they are.
     pub fn number(&self) -> u32
         ensures number { result ≡ self.now }
         ensures some { 0 < result }

@@ -3,7 +3,7 @@ use msg_system::{Condition, Reply};
 use msg_world::TypeNo;
 
 /// What the host posts as a frame begins: values, each to a type.
-#[derive(Debug, Drop)]
+#[derive(Debug, PartialEq, Eq, Drop)]
 pub struct Frame {
     pub posts: Items<(TypeNo, i64)>,
 }

@@ -2,7 +2,7 @@ use crate::Items;
 use msg_system::Condition;
 
 /// What stands beside a system: its run conditions, and the frame that it joins with.
-#[derive(Debug, Drop)]
+#[derive(Debug, PartialEq, Eq, Drop)]
 pub struct Place {
     /// All of them must hold for the system to run on its turn. At most 8 in a scenario file.
     pub conditions: Items<Condition>,

@@ -15,6 +15,13 @@ use std::marker::Model;
 
 /// In which order systems run: batches one after the other, and the systems of a batch side by
 /// side.
+///
+/// ```
+/// let plan = Plan::build(alloc, &accesses, &[Rule::before(2, 0)], &[true; 3])?;
+/// for batch in plan.batches() {
+///     println!(rt; "{} side by side", batch.len())?;
+/// }
+/// ```
 #[derive(Debug, Drop)]
 pub struct Plan<A: Allocator = Global> {
     before: Vec<SystemSet, A>,

@@ -256,7 +256,7 @@ module _ (s : Scenario) (names : Declared) (of : NamesOf s names) where
 
 -- ---- kinds and joins
 
-kind_fits : (kind : Kind) (ops : List Op) → fits_kind kind ops ≡ true → FitKind kind ops
+pub kind_fits : (kind : Kind) (ops : List Op) → fits_kind kind ops ≡ true → FitKind kind ops
 kind_fits Script ops h = tt
 kind_fits Relay (Forward t u ∷ []) h = (t, u, refl)
 kind_fits Tally (Sum t r ∷ []) h = (t, r, refl)

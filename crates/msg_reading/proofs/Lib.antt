@@ -13,3 +13,5 @@ pub mod Files
 pub mod There
 pub mod Fitting
 pub mod Sound
+-- and of one that was made in code: tests tell whether it can be run
+mod Tested

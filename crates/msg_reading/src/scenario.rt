@@ -4,6 +4,7 @@ use msg_order::Rule;
 use msg_system::Program;
 
 mod read;
+mod runnable;
 
 pub use read::read_scenario;
 
@@ -18,6 +19,21 @@ pub struct SystemSpec {
 
 /// A world, the systems over it, and the frames to be run. Types, resources and systems are
 /// numbered by their place here.
+///
+/// `read_scenario` makes one of a file; in code each part is made, and then the whole is tested.
+///
+/// ```
+/// let hit = (Name::new(alloc, "hit")?, 10);
+/// let scenario = Scenario {
+///     types: Items::from_vec(vec![in alloc; hit]?),
+///     resources: Items::from_vec(Vec::new(alloc)),
+///     held: false,
+///     systems: Items::from_vec(systems),
+///     rules: Items::from_vec(vec![in alloc; Rule::before(0, 1)]?),
+///     frames: Items::from_vec(frames),
+/// };
+/// let can_be_run = scenario.is_runnable(alloc)?;
+/// ```
 #[derive(Debug, Drop)]
 pub struct Scenario {
     /// Each message type's name, and the greatest number of messages that may ever be written.

@@ -6,6 +6,28 @@ use std::alloc::Global;
 ///
 /// `BehaviorSystem` makes a system of it. Whoever implements it says by its ghost equations what
 /// each call does, and proves nothing about loans, worlds or frames.
+///
+/// ```
+/// /// Answers each message of a type by one to another.
+/// impl Behavior for Echo {
+///     ghost Memory = { Echo };
+///
+///     ghost memory = { λ e. e };
+///
+///     ghost next_op = { λ e replies.
+///         if length replies == 0 then Some (Forward e.from e.to) else None };
+///
+///     ghost remembered = { λ e replies. e };
+///
+///     fn next(&self, _alloc: Global, replies: &[Reply]) -> Result<Option<Op>, NoMemory> {
+///         Ok((replies.len() == 0).then_some(Op::Forward(self.from, self.to)))
+///     }
+///
+///     fn remember(&mut self, _alloc: Global, _replies: &[Reply]) -> Result<(), NoMemory> {
+///         Ok(())
+///     }
+/// }
+/// ```
 pub trait Behavior: Drop {
     ghost use Rattle.std.specs.Prelude.{◌≡◌, List, Option, IfOk, OnOk};
     ghost use Rattle.msg_system.specs.declared.op.Op.{Op};

@@ -34,11 +34,31 @@ impl<T> Items<T> {
         items
     }
 
+    /// All of them, in order.
     pub fn as_slice(&self) -> &[T]
         ensures items { result.now ≡ self.now }
     {
         self.items.as_slice()
     }
+}
+
+// Equal lists, item by item.
+impl<T: PartialEq> PartialEq for Items<T> {
+    ghost use Rattle.std.specs.Cmp.Lexicographic.{lists_per, pointwise};
+
+    ghost eq = { pointwise T.eq };
+
+    ghost laws = { lists_per T.laws };
+
+    fn eq(&self, other: &Items<T>) -> bool {
+        self.as_slice() == other.as_slice()
+    }
+}
+
+impl<T: Eq> Eq for Items<T> {
+    ghost use Rattle.std.specs.Cmp.Lexicographic.{lists_equiv};
+
+    ghost laws = { lists_equiv T.Eq.laws };
 }
 
 impl Items<i64> {

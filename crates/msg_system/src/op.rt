@@ -6,7 +6,7 @@ use msg_world::{Lent, ResNo, TypeNo};
 use std::alloc::Global;
 
 /// One step of a program. All reading ops of one type in a program share one place.
-#[derive(Debug, Drop)]
+#[derive(Debug, PartialEq, Eq, Drop)]
 pub enum Op {
     /// Writes one message.
     Write(TypeNo, i64),

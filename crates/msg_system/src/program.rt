@@ -4,7 +4,7 @@ use crate::{Access, Items, NoMemory, Op, Start};
 use std::alloc::Global;
 
 /// Ops in order, and where their cursors start.
-#[derive(Debug, Drop)]
+#[derive(Debug, PartialEq, Eq, Drop)]
 pub struct Program {
     pub ops: Items<Op>,
     pub start: Start,

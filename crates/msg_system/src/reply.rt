@@ -6,7 +6,7 @@ use msg_buffer::Written;
 use msg_world::Record;
 
 /// What a read took: the messages from the number `first` on, and how many it had missed.
-#[derive(Debug, Drop)]
+#[derive(Debug, PartialEq, Eq, Drop)]
 pub struct Took {
     pub missed: u64,
     pub first: u64,
@@ -14,7 +14,7 @@ pub struct Took {
 }
 
 /// What an op answers.
-#[derive(Debug, Drop)]
+#[derive(Debug, PartialEq, Eq, Drop)]
 pub enum Reply {
     Wrote(Written),
     /// A write that was refused whole: too few numbers are left.

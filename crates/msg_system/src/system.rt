@@ -6,6 +6,17 @@ use std::alloc::Global;
 /// A system, which an engine may keep in a box. What it means is a rule, which gives the ops of its
 /// turns by what it is told, with the access that they keep to, the number that it writes as, and
 /// its place in each type.
+///
+/// `Scripted`, `Relay`, `Tally` and `BehaviorSystem` are systems. An engine calls them; by hand it is
+///
+/// ```
+/// system.start(&world.counts());
+/// let access = system.access();
+/// let taken = world.lend_out(&access)?;
+/// let mut replies = Vec::new(alloc);
+/// let taken = system.run(alloc, Lent::open(&world, &access, taken), &mut replies)?;
+/// world.take_back(taken);
+/// ```
 pub trait System: Send + Drop {
     ghost use Rattle.std.specs.Prelude.{◌≡◌, IfOk};
     ghost use Rattle.msg_world.specs.Loan.{taken_of};

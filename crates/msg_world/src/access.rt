@@ -31,6 +31,7 @@ impl Access {
         }
     }
 
+    /// This access, and reads of a type.
     pub fn with_read_type(self, t: TypeNo) -> Self
         ensures reads { (p : Part) → reads result p ≡ (same_part p (OfType t) || reads self p) }
         ensures writes { (p : Part) → writes result p ≡ writes self p }
@@ -41,6 +42,7 @@ impl Access {
         }
     }
 
+    /// This access, and writes to a type.
     pub fn with_write_type(self, t: TypeNo) -> Self
         ensures reads { (p : Part) → reads result p ≡ reads self p }
         ensures writes { (p : Part) → writes result p ≡ (same_part p (OfType t) || writes self p) }
@@ -51,6 +53,7 @@ impl Access {
         }
     }
 
+    /// This access, and reads of a resource.
     pub fn with_read_res(self, r: ResNo) -> Self
         ensures reads { (p : Part) → reads result p ≡ (same_part p (OfResource r) || reads self p) }
         ensures writes { (p : Part) → writes result p ≡ writes self p }
@@ -61,6 +64,7 @@ impl Access {
         }
     }
 
+    /// This access, and writes to a resource.
     pub fn with_write_res(self, r: ResNo) -> Self
         ensures reads { (p : Part) → reads result p ≡ reads self p }
         ensures writes { (p : Part) → writes result p ≡ (same_part p (OfResource r) || writes self p) }
@@ -71,6 +75,7 @@ impl Access {
         }
     }
 
+    /// This access, and signals to the registry.
     pub fn with_registry(self) -> Self
         ensures reads { (p : Part) → reads result p ≡ reads self p }
         ensures writes { (p : Part) → writes result p ≡ (same_part p Registry || writes self p) }
@@ -81,24 +86,28 @@ impl Access {
         }
     }
 
+    /// Whether it reads the type.
     pub fn reads_type(&self, t: TypeNo) -> bool
         ensures read { result ≡ reads self.now (OfType t) }
     {
         masks::has(self.read_types, t.number())
     }
 
+    /// Whether it writes to the type.
     pub fn writes_type(&self, t: TypeNo) -> bool
         ensures written { result ≡ writes self.now (OfType t) }
     {
         masks::has(self.write_types, t.number())
     }
 
+    /// Whether it reads the resource.
     pub fn reads_res(&self, r: ResNo) -> bool
         ensures read { result ≡ reads self.now (OfResource r) }
     {
         masks::has(self.read_res, r.number())
     }
 
+    /// Whether it writes to the resource.
     pub fn writes_res(&self, r: ResNo) -> bool
         ensures written { result ≡ writes self.now (OfResource r) }
     {

@@ -7,6 +7,16 @@ use msg_buffer::Messages;
 
 /// What one job works on: what its access only reads it sees in the world, beside others; what its
 /// access writes it owns, until it gives that back.
+///
+/// ```
+/// let taken = world.lend_out(&access)?;
+/// let mut lent = Lent::open(&world, &access, taken);
+/// if let Some(blows) = lent.writer(blows) {
+///     blows.write(Record { writer: 3, value: 5 })?;
+/// }
+/// let taken = lent.into_taken();
+/// world.take_back(taken);
+/// ```
 #[derive(Drop)]
 pub struct Lent<'a> {
     world: &'a World,

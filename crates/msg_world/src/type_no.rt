@@ -19,6 +19,7 @@ impl Model for TypeNo {
 }
 
 impl TypeNo {
+    /// The type with this number; None where it is 64 or more.
     pub fn new(number: u32) -> Option<Self>
         ensures valid { IsSome result ↔ (number < 64) }
         ensures value { IfSome result (λ t. t ≡ number) }
@@ -30,6 +31,7 @@ impl TypeNo {
         }
     }
 
+    /// Its number, from 0 to 63.
     pub fn number(self) -> u32
         ensures number { result ≡ self }
         ensures within { self < 64 }

@@ -22,7 +22,17 @@ use std::marker::Model;
 /// What systems share: the messages of each type, the value of each resource, and the registry of
 /// signals. Parts of it may be out on loan.
 ///
-/// Updates of a held world wait for a signal, which they spend.
+/// Updates of a held world wait for a signal, which they spend. A world has at most 64 types and 64
+/// resources.
+///
+/// ```
+/// // Two types, of at most 100 messages each, and a resource that is 0 at first.
+/// let mut world = World::new(alloc, &[100, 100], &[0])?;
+/// if let Some(blows) = TypeNo::new(0) {
+///     world.post(blows, 5)?;
+/// }
+/// world.update_all();
+/// ```
 #[derive(Drop)]
 pub struct World {
     types: Vec<Option<Messages<Record>>>,

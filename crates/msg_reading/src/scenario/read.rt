@@ -26,6 +26,8 @@ mod place;
 mod rule;
 mod system;
 
+pub use system::fits as fits_kind;
+
 /// The scenario that the bytes are a JSON text of, or the first refusal in reading order.
 pub fn read_scenario(alloc: Global, bytes: &[u8]) -> Result<Scenario, Refusal>
     ensures ok { IfOk result (λ scenario.

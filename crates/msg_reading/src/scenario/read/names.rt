@@ -1,37 +1,17 @@
 // The names that a file declares.
 ghost use Rattle.std.specs.Prelude.{◌≡◌, ◌∷◌, ◌++◌, [], Some, None, IsOk, OnOk, MatchResult};
-ghost use Rattle.std.specs.List.{list_all};
-ghost use Rattle.msg_reading.specs.Names.{is_name, is_name_character, position_of, type_number, resource_number, system_number};
+ghost use Rattle.msg_reading.specs.Names.{position_of, type_number, resource_number, system_number};
 ghost use Rattle.msg_reading.specs.ScenarioChecks.{new_name};
 ghost use Rattle.msg_reading.specs.ScenarioDenotes.{no_names};
 ghost use Rattle.msg_files.specs.Walk.{Agrees};
 
-use crate::limits::{MAX_NAME, MAX_RESOURCES, MAX_SYSTEMS, MAX_TYPES};
+use crate::limits::{MAX_RESOURCES, MAX_SYSTEMS, MAX_TYPES};
+use crate::name::is_name;
 use crate::{Name, Refusal};
 use indexmap::IndexSet;
 use msg_world::{ResNo, TypeNo};
 use std::alloc::Global;
 use std::marker::Model;
-
-/// Whether it is a good name.
-fn is_name(name: &str) -> bool
-    ensures { result ≡ is_name name.now }
-{
-    let bytes = name.as_bytes();
-    1 <= bytes.len() && bytes.len() <= MAX_NAME && are_name_characters(bytes) && name != "host"
-}
-
-fn are_name_characters(bytes: &[u8]) -> bool
-    ensures { result ≡ list_all is_name_character bytes.now }
-{
-    bytes.iter().all(|byte| is_name_character(*byte))
-}
-
-fn is_name_character(byte: u8) -> bool
-    ensures { result ≡ is_name_character byte }
-{
-    97 <= byte && byte <= 122 || 48 <= byte && byte <= 57 || byte == 95
-}
 
 /// Names in order, each once. Contracts see it as their list.
 #[derive(Drop)]

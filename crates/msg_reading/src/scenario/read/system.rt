@@ -147,7 +147,7 @@ fn read_ops(
 }
 
 /// A relay's program is one `forward`, a tally's one `sum`.
-fn fits(kind: Kind, ops: &[Op]) -> bool
+pub fn fits(kind: Kind, ops: &[Op]) -> bool
     ensures { result ≡ fits_kind kind ops.now }
 {
     match kind {
