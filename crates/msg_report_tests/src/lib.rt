@@ -10,6 +10,8 @@ mod command;
 #[cfg(test)]
 mod limits;
 #[cfg(test)]
+mod made;
+#[cfg(test)]
 mod narrow;
 #[cfg(test)]
 mod reports;
