@@ -11,6 +11,7 @@ use crate::refusal::Refusal;
 use serde_json::{Number, Value};
 use std::alloc::Global;
 
+/// The number that a value is; `Shape` where it is something else.
 pub fn number(value: &Value) -> Result<&Number, Refusal>
     ensures { MatchResult result (λ n. as_number (view value.now) ≡ Some (number_view n.now))
         (λ e. (e ≡ Refusal.Shape) × (as_number (view value.now) ≡ None)) }
@@ -21,6 +22,7 @@ pub fn number(value: &Value) -> Result<&Number, Refusal>
     }
 }
 
+/// The whole number that it is; `BadNumber` where it is none, or lies outside `i64`.
 pub fn whole_number(n: &Number) -> Result<i64, Refusal>
     ensures { MatchResult result (λ z. as_i64 (number_view n.now) ≡ Some z)
         (λ e. (e ≡ Refusal.BadNumber) × (as_i64 (number_view n.now) ≡ None)) }
@@ -61,6 +63,7 @@ pub fn small_number(n: &Number, end: u32) -> Result<u32, Refusal>
     Ok(k as u32)
 }
 
+/// Whether all items are numbers, of any kind.
 pub fn are_numbers(items: &[Value]) -> bool
     ensures { result ≡ list_all (λ v. is_number (view v)) items.now }
 {

@@ -9,12 +9,14 @@ pub struct SystemSet {
 impl SystemSet {
     ghost use Rattle.msg_order.specs.inner.SystemSet.{has, meets};
 
+    /// The set without systems.
     pub fn empty() -> Self
         ensures { (k : ℕ) → has result k ≡ false }
     {
         SystemSet { words: [0; 4] }
     }
 
+    /// Whether system `k` is in it.
     pub fn contains(&self, k: usize) -> bool
         requires { k < 256 }
         ensures { result ≡ has self.now k }
@@ -22,6 +24,7 @@ impl SystemSet {
         (self.words[k / 64] >> (k % 64)) & 1 == 1
     }
 
+    /// Adds system `k`.
     pub fn insert(&mut self, k: usize)
         requires { k < 256 }
         ensures { (j : ℕ) → has self.new j ≡ (j == k || has self.old j) }
@@ -29,6 +32,7 @@ impl SystemSet {
         self.words[k / 64] |= 1u64 << (k % 64);
     }
 
+    /// Takes system `k` out.
     pub fn remove(&mut self, k: usize)
         requires { k < 256 }
         ensures { (j : ℕ) → has self.new j ≡ (not (j == k) && has self.old j) }
@@ -36,6 +40,7 @@ impl SystemSet {
         self.words[k / 64] &= !(1u64 << (k % 64));
     }
 
+    /// Adds all systems of the other set.
     pub fn union_with(&mut self, other: &SystemSet)
         ensures { (j : ℕ) → has self.new j ≡ (has self.old j || has other.now j) }
     {
@@ -56,6 +61,7 @@ impl SystemSet {
         false
     }
 
+    /// Whether no system is in it.
     pub fn is_empty(&self) -> bool
         ensures { IsTrue result ↔ ((k : ℕ) → has self.now k ≡ false) }
     {

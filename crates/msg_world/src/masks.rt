@@ -3,6 +3,7 @@ ghost use Rattle.std.specs.Prelude.{◌≡◌, ◌==◌, ◌||◌, ◌&&◌, not
 ghost use Rattle.msg_world.specs.Access.{has_bit};
 ghost use Rattle.msg_world.specs.inner.Masks.{ShareBit, Collide, IsBelow, IsWithin};
 
+/// Whether bit `k` is set.
 pub fn has(mask: u64, k: u32) -> bool
     requires { k < 64 }
     ensures { result ≡ has_bit mask k }
@@ -10,6 +11,7 @@ pub fn has(mask: u64, k: u32) -> bool
     (mask >> k) & 1 == 1
 }
 
+/// The mask with bit `k` set.
 pub fn with_bit(mask: u64, k: u32) -> u64
     requires { k < 64 }
     ensures { (j : ℕ) → has_bit result j ≡ (j == k || has_bit mask j) }
@@ -17,36 +19,42 @@ pub fn with_bit(mask: u64, k: u32) -> u64
     mask | (1 << k)
 }
 
+/// The bits of both masks.
 pub fn either(a: u64, b: u64) -> u64
     ensures { (j : ℕ) → has_bit result j ≡ (has_bit a j || has_bit b j) }
 {
     a | b
 }
 
+/// The bits of a mask that aren't taken.
 pub fn without(mask: u64, taken: u64) -> u64
     ensures { (j : ℕ) → has_bit result j ≡ (has_bit mask j && not (has_bit taken j)) }
 {
     mask & !taken
 }
 
+/// Whether a bit is set in both.
 pub fn share_bit(a: u64, b: u64) -> bool
     ensures { IsTrue result ↔ ShareBit a b }
 {
     a & b != 0
 }
 
+/// Whether a bit that one of them writes is read or written by the other.
 pub fn collide(read: u64, write: u64, other_read: u64, other_write: u64) -> bool
     ensures { IsTrue result ↔ Collide read write other_read other_write }
 {
     share_bit(write, other_read | other_write) || share_bit(other_write, read | write)
 }
 
+/// Whether no bit from `n` on is set.
 pub fn is_below(mask: u64, n: u32) -> bool
     ensures { IsTrue result ↔ IsBelow mask n }
 {
     n >= 64 || mask >> n == 0
 }
 
+/// Whether each bit of a mask is set in the other.
 pub fn is_within(mask: u64, other: u64) -> bool
     ensures { IsTrue result ↔ IsWithin mask other }
 {

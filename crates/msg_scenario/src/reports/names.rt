@@ -6,12 +6,14 @@ use crate::{Name, Scenario};
 use msg_buffer::NoMemory;
 use msg_world::{HOST, ResNo, TypeNo};
 
+/// A name as it is.
 pub fn add_name(text: &mut Vec<u8>, name: &Name) -> Result<(), NoMemory>
     ensures appends { OnOk result (text.new.items ≡ text.old.items ++ name.now) }
 {
     text.extend_from_slice(name.as_str().as_bytes())
 }
 
+/// The name of a type; nothing where there is no such type.
 pub fn add_type(text: &mut Vec<u8>, scenario: &Scenario, t: TypeNo) -> Result<(), NoMemory>
     ensures appends { OnOk result (text.new.items ≡ text.old.items ++ type_name scenario.now t) }
 {
@@ -21,6 +23,7 @@ pub fn add_type(text: &mut Vec<u8>, scenario: &Scenario, t: TypeNo) -> Result<()
     }
 }
 
+/// The name of a resource; nothing where there is no such resource.
 pub fn add_resource(text: &mut Vec<u8>, scenario: &Scenario, r: ResNo) -> Result<(), NoMemory>
     ensures appends { OnOk result
         (text.new.items ≡ text.old.items ++ resource_name scenario.now r) }
@@ -31,6 +34,7 @@ pub fn add_resource(text: &mut Vec<u8>, scenario: &Scenario, r: ResNo) -> Result
     }
 }
 
+/// The name of a system; nothing where there is no such system.
 pub fn add_system(text: &mut Vec<u8>, scenario: &Scenario, system: u32) -> Result<(), NoMemory>
     ensures appends { OnOk result
         (text.new.items ≡ text.old.items ++ system_name scenario.now system) }

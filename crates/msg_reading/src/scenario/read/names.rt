@@ -83,6 +83,7 @@ impl Model for Declarations {
 }
 
 impl Declarations {
+    /// No names.
     pub fn new(alloc: Global) -> Declarations
         ensures empty { result ≡ no_names }
     {
@@ -132,6 +133,7 @@ impl Declarations {
         }
     }
 
+    /// Names the next type; `BadName` or `TwiceNamed` where it can't have this name.
     pub fn declare_type(&mut self, alloc: Global, name: &str) -> Result<Name, Refusal>
         ensures agrees { Agrees (new_name self.old.types name.now) (Some name.now) result }
         ensures declares { OnOk result
@@ -140,6 +142,7 @@ impl Declarations {
         self.types.declare(alloc, name)
     }
 
+    /// Names the next resource, as `declare_type` does a type.
     pub fn declare_resource(&mut self, alloc: Global, name: &str) -> Result<Name, Refusal>
         ensures agrees { Agrees (new_name self.old.resources name.now) (Some name.now) result }
         ensures declares { OnOk result
@@ -148,6 +151,7 @@ impl Declarations {
         self.resources.declare(alloc, name)
     }
 
+    /// Names the next system, as `declare_type` does a type.
     pub fn declare_system(&mut self, alloc: Global, name: &str) -> Result<Name, Refusal>
         ensures agrees { Agrees (new_name self.old.systems name.now) (Some name.now) result }
         ensures declares { OnOk result

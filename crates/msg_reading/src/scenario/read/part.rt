@@ -57,6 +57,7 @@ pub fn head_and_parts(value: &Value) -> Result<(&str, &[Value]), Refusal>
     }
 }
 
+/// The text that a part is; `Shape` where it is something else.
 pub fn text(part: &Value) -> Result<&str, Refusal>
     ensures is { MatchResult result (λ t. as_str (view part.now) ≡ Some t.now)
         (λ e. (e ≡ Refusal.Shape) × (as_str (view part.now) ≡ None)) }
@@ -67,6 +68,7 @@ pub fn text(part: &Value) -> Result<&str, Refusal>
     }
 }
 
+/// The texts that two parts are; `Shape` where one is something else.
 pub fn two_texts<'a>(first: &'a Value, second: &'a Value) -> Result<(&'a str, &'a str), Refusal>
     ensures are { MatchResult result
         (λ p. (as_str (view first.now) ≡ Some p.0.now) × (as_str (view second.now) ≡ Some p.1.now))
@@ -79,6 +81,7 @@ pub fn two_texts<'a>(first: &'a Value, second: &'a Value) -> Result<(&'a str, &'
     }
 }
 
+/// The text and the number that two parts are; `Shape` where one is something else.
 pub fn text_and_number<'a>(
     first: &'a Value,
     second: &'a Value,

@@ -16,6 +16,7 @@ use msg_system::{Condition, Start};
 use serde_json::Value;
 use std::alloc::Global;
 
+/// The conditions of a system, and the frame that it joins with: 1 where none is named.
 pub fn read_place(alloc: Global, names: &Declarations, system: &Value) -> Result<Place, Refusal>
     ensures agrees { Agrees (place_checks names.now (view system.now))
         (place_of names.now (view system.now)) result }
@@ -57,6 +58,7 @@ fn join_of(join: &Value) -> Result<u32, Refusal>
     Ok(join)
 }
 
+/// Where the cursors of a system start; `Shape` where that is no start.
 pub fn read_start(system: &Value) -> Result<Start, Refusal>
     ensures is { MatchResult result (λ s. start_of (start_in (view system.now)) ≡ Some s)
         (λ e. (e ≡ Refusal.Shape) × (start_of (start_in (view system.now)) ≡ None)) }
