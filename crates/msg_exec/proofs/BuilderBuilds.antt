@@ -1,22 +1,21 @@
 -- What a builder tests of systems and a world, and systems that were given their numbers.
-use Rattle.std.proofs.Common.{◌≡◌, ℕ, zero, suc, ◌+◌, ◌<◌, ◌++◌, ◌&&◌, ◌||◌, All, List, [], ◌∷◌, length, map, get_or, Option, None, Some, refl, sym, ap, ap₂, subst, ◌∙◌, arith}
+use Rattle.std.proofs.Common.{◌≡◌, ℕ, zero, suc, ◌+◌, ◌<◌, ◌++◌, ◌&&◌, All, List, [], ◌∷◌, length, map, get_or, Option, None, Some, refl, sym, ap, ap₂, subst, ◌∙◌, arith}
 use Rattle.std.specs.Prelude.{IsSome, IsTrue, slice_get, slice_index_or}
 use Rattle.std.proofs.lemmas.Bool.{false≢true}
 use Rattle.std.proofs.lemmas.List.{get_or-map, length-map}
 use Rattle.std.proofs.lemmas.List.Elements.{All-get_or}
 use Rattle.std.proofs.lemmas.Option.{get_or_from_slice_get, same_Some, slice_get_within}
-use Rattle.msg_world.specs.declared.access.Access.{Access}
-use Rattle.msg_world.specs.Access.{OfResource, OfType, Part, Registry, uses, writes}
+use Rattle.msg_world.specs.Access.{OfResource, OfType, Part, Registry, writes}
 use Rattle.msg_world.specs.Parts.{Has, Parts, slot}
 use Rattle.msg_order.specs.declared.rule.Rule.{Rule}
 use Rattle.msg_order.specs.Graph.{IsLowestOnCycle}
-use Rattle.msg_system.specs.Needs.{IsAccessOf, Needs, needs_any, with_conditions}
+use Rattle.msg_system.specs.Needs.{Needs, needs_any, with_conditions}
 use Rattle.msg_system.specs.Systems.{Meaning}
 use Rattle.msg_frames.specs.declared.place.Place.{Place}
 use Rattle.msg_frames.specs.FirstState.{HasClash, all_rules, nobody}
 use Rattle.msg_exec.specs.declared.build_refusal.BuildRefusal.{BuildRefusal}
 use Rattle.msg_exec.specs.declared.build_refusal.BuildRefusal.TheVariants.{Clash, Cycle, NoMemory}
-use Rattle.msg_exec.specs.Building.{AllFit, EachIs, IsJoin, IsLowestClash, MayBeAdded, RefusesFor, numbered_from}
+use Rattle.msg_exec.specs.Building.{AllFit, EachIs, IsJoin, MayBeAdded, RefusesFor, numbered_from}
 use Rattle.msg_exec.proofs.ItemsOfLists.{item_at}
 
 -- ---- what a world has
@@ -31,9 +30,6 @@ pub has_part : (w : Parts) (p : Part) → IsSome (slot p w) → Has w p
 has_part w (OfType t) some = within w.types t some
 has_part w (OfResource r) some = within w.resources r some
 has_part w Registry some = tt
-
-pub needed_is_used : (n : Needs) (a : Access) (p : Part) → IsAccessOf n a → IsTrue (needs_any n p) → IsTrue (uses a p)
-needed_is_used n a p of needed = ap (λ b. b || writes a p) (of.reads p) ∙ ap (λ b. n.reads p || b) (of.writes p) ∙ needed
 
 -- ---- systems with their numbers
 

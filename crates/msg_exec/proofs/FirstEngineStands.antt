@@ -1,5 +1,5 @@
 -- A new engine stands for the first state.
-use Rattle.std.proofs.Common.{◌≡◌, ℕ, ◌<◌, ◌≤◌, ◌||◌, Bool, true, false, List, [], ◌∷◌, length, map, Option, Some, None, refl, sym, ap, subst, ◌∙◌, arith, inl, inr}
+use Rattle.std.proofs.Common.{◌≡◌, ℕ, ◌<◌, ◌≤◌, Bool, true, false, List, [], ◌∷◌, length, map, Option, Some, None, refl, sym, ap, subst, ◌∙◌, arith, inl, inr}
 use Rattle.std.specs.Prelude.{IfSome, IsSome, IsSomeAnd, IsTrue, nat_lt, replicate, slice_get, slice_index_or}
 use Rattle.std.proofs.lemmas.Bool.{cases_Bool, false≢true, ltb-false, ltb-true}
 use Rattle.std.proofs.lemmas.List.{get_or-map, get_or-replicate, get_or_past, length-map}
@@ -9,7 +9,7 @@ use Rattle.msg_buffer.specs.Kept.{Kept}
 use Rattle.msg_buffer.specs.StandsFor.{StandsFor as BufferStandsFor}
 use Rattle.msg_world.specs.declared.access.Access.{Access}
 use Rattle.msg_world.specs.declared.record.Record.{Record}
-use Rattle.msg_world.specs.Access.{OfType, Part, reads, uses}
+use Rattle.msg_world.specs.Access.{OfType}
 use Rattle.msg_world.specs.Parts.{IsWhole, Parts, PartsStand, slot}
 use Rattle.msg_world.specs.World.{WorldState}
 use Rattle.msg_order.specs.declared.rule.Rule.{Rule}
@@ -18,8 +18,9 @@ use Rattle.msg_order.specs.Laws.{FewerSystemsMakeNoCycle}
 use Rattle.msg_order.specs.Order.{NameSystemsBelow, access_of, has_joined, rules_among}
 use Rattle.msg_system.specs.declared.condition.Condition.{Condition}
 use Rattle.msg_system.specs.Conditions.{new_asked}
-use Rattle.msg_system.specs.Needs.{IsAccessOf, Needs, needs_any, with_conditions}
+use Rattle.msg_system.specs.Needs.{IsAccessOf, with_conditions}
 use Rattle.msg_system.specs.Systems.{Meaning}
+use Rattle.msg_system.proofs.Accesses.{uses_needs}
 use Rattle.msg_frames.specs.declared.place.Place.{Place}
 use Rattle.msg_exec.specs.declared.lender.Lender.{Lender}
 use Rattle.msg_exec.specs.Building.{EachIs, MayBeAdded, RefusesFor}
@@ -38,9 +39,6 @@ use Rattle.msg_exec.proofs.ItemsOfLists.{item_at}
 conditions_new : (cs : List Condition) → map (λ a. a.condition) (map new_asked cs) ≡ cs
 conditions_new [] = refl
 conditions_new (c ∷ cs) = ap (λ rest. c ∷ rest) (conditions_new cs)
-
-pub used_is_needed : (n : Needs) (a : Access) (p : Part) → IsAccessOf n a → IsTrue (uses a p) → IsTrue (needs_any n p)
-used_is_needed n a p of used = ap (λ b. b || n.writes p) (sym (of.reads p)) ∙ ap (λ b. reads a p || b) (sym (of.writes p)) ∙ used
 
 history_sound : (o : Option (Kept Record)) (h : History Record) → IsSome o → IfSome o (λ k. BufferStandsFor k h) → IsSound h
 history_sound (Some k) h some stands = stands.sound
@@ -67,7 +65,7 @@ module _ {S : Type 0} (meaning : S → Meaning) where
         record {
           guarded = guarded i _ (slice_get-get_or g.systems.items i None (omega (arith, lt, na))) x place sx sp;
           access = subst (λ n. IsAccessOf n (access_of g.accesses.items i)) (sym needs) (access.access x place sx sp);
-          home = λ p used. subst (λ w. IsSome (slot p w)) (sym same) (whole p ((each i x sx).fits place sp p (used_is_needed _ _ p (access.access x place sx sp) used)));
+          home = λ p used. subst (λ w. IsSome (slot p w)) (sym same) (whole p ((each i x sx).fits place sp p (sym (uses_needs _ _ (access.access x place sx sp) p) ∙ used)));
           totals = subst (λ o. IsSomeAnd o (λ v. TotalsStand (length world.types) v.items (waiting (meaning x) place).totals)) (sym total.1) (record { as_many = (totals i total.0 total.1).as_many; each = (totals i total.0 total.1).each });
         }
 

@@ -1,7 +1,9 @@
 -- A job is done: its system ran, and what the loan owned is given back as the job left it.
-use Rattle.std.proofs.Common.{◌≡◌, ℕ, true, false, List, [], ◌++◌, Option, Some, None, map, refl, sym, ap, subst, ◌∙◌}
+use Rattle.std.proofs.Common.{◌≡◌, ℕ, true, false, List, [], ◌++◌, Option, Some, None, Vec, length, map, refl, sym, ap, subst, ◌∙◌, arith}
 use Rattle.std.specs.Prelude.{is_some}
+use Rattle.std.specs.Vec.{with_items}
 use Rattle.std.proofs.lemmas.Bool.{false≢true}
+use Rattle.std.proofs.lemmas.List.{length-map, with_items_is}
 use Rattle.msg_world.specs.declared.access.Access.{Access}
 use Rattle.msg_world.specs.declared.lent.Lent.{Lent}
 use Rattle.msg_world.specs.Access.{Part, writes}
@@ -9,7 +11,8 @@ use Rattle.msg_world.specs.Loan.{LoanStands}
 use Rattle.msg_world.specs.Parts.{Parts, PartsStand, SameShape, slot}
 use Rattle.msg_world.specs.World.{WorldState}
 use Rattle.msg_system.specs.declared.reply.Reply.{Reply}
-use Rattle.msg_system.specs.Conditions.{AfterJob, Job as JobState, after_asking, after_job, all_hold}
+use Rattle.msg_system.specs.declared.condition.Condition.{Condition}
+use Rattle.msg_system.specs.Conditions.{AfterJob, Asked, Job as JobState, after_asking, after_job, all_hold}
 use Rattle.msg_system.specs.Promises.{Ran}
 use Rattle.msg_system.specs.Systems.{Meaning, after_turn, told, turn}
 use Rattle.msg_exec.specs.declared.job.GuardedSystem.{GuardedSystem}
@@ -50,3 +53,26 @@ ran_job meaning before now l taken w number none after replies nothing given hol
       written = written;
       outcome = ap (λ rs. outcome.Ran rs) (given ∙ ran.appended ∙ ap (λ rs. rs ++ ran.replies) nothing ∙ ran.answers w stands);
     })
+
+after_job_that_skips : (j : JobState) (w : WorldState) → false ≡ all_hold j.conditions w
+    → after_job j w ≡ record { job = record { system = j.system; conditions = map (after_asking w) j.conditions }; state = w; replies = None }
+after_job_that_skips j w skips = rw (sym skips) refl
+
+pub skipped_job : {S : Type 0} (meaning : S → Meaning) (before now : GuardedSystem S) (taken : Parts) (w : WorldState) (number : ℕ)
+    → false ≡ all_hold before.guards.items w → now.system ≡ before.system → now.guards.items ≡ map (after_asking w) before.guards.items → PartsStand taken w
+    → IsAfterJob meaning (after_job (job_state meaning before) w) (record { number = number; guarded = now; taken = taken; outcome = outcome.Skipped })
+skipped_job meaning before now taken w number skips same asked stand =
+    let d : Done _ = record { number = number; guarded = now; taken = taken; outcome = outcome.Skipped } in
+    subst (λ (after : AfterJob). IsAfterJob meaning after d) (sym (after_job_that_skips (job_state meaning before) w skips)) (record {
+      job = λ k. record { system = meaning (same k); conditions = asked k };
+      written = stand;
+      outcome = refl;
+    })
+
+-- the conditions of a vector after they were asked through a slice of it
+pub asked_guards : {Z : Type 0} (guards : Vec Asked Z) (slice after : List Asked) (w : WorldState) → slice ≡ guards.items → map (λ (a : Asked). a.condition) after ≡ map (λ (a : Asked). a.condition) slice
+    → after ≡ map (after_asking w) slice → (with_items guards after).items ≡ map (after_asking w) guards.items
+asked_guards guards slice after w there same moved =
+    let f : Asked → Condition = λ a. a.condition in
+    let as_many : length after ≡ length guards.items = sym (length-map after f) ∙ ap length same ∙ length-map slice f ∙ ap length there in
+    with_items_is guards after (omega (arith, as_many)) ∙ moved ∙ ap (λ gs. map (after_asking w) gs) there

@@ -1,5 +1,5 @@
 -- When the systems and the world that an engine keeps stand for a state.
-use Rattle.std.specs.Prelude.{◌≡◌, ℕ, ◌<◌, ◌≤◌, List, length, slice_get, slice_index, slice_index_or, Option, None, IsSomeAnd}
+use Rattle.std.specs.Prelude.{◌≡◌, ℕ, ◌<◌, List, length, slice_get, slice_index, slice_index_or, Option, None, IsSomeAnd}
 use Rattle.msg_world.specs.Parts.{IsHome, IsWhole, PartsStand}
 use Rattle.msg_order.specs.Order.{access_of}
 use Rattle.msg_system.specs.Needs.{IsAccessOf}

@@ -1,8 +1,8 @@
 -- A system without conditions whose program reads all of a type reads all in each frame.
-use Rattle.std.proofs.Common.{◌≡◌, ◌≢◌, ℕ, ℤ, ◌<◌, ◌≤◌, List, [], ◌∷◌, All, Contains, length, Bool, true, false, refl, sym, ap, subst, ◌∙◌, arith, inl, inr, Some}
+use Rattle.std.proofs.Common.{◌≡◌, ◌≢◌, ℕ, ℤ, ◌<◌, ◌≤◌, List, [], ◌∷◌, All, length, Bool, true, false, sym, ap, subst, ◌∙◌, arith}
 use Rattle.std.specs.Prelude.{IsTrue}
 use Rattle.std.specs.List.{list_any}
-use Rattle.std.proofs.lemmas.Bool.{cases_eq, false≢true}
+use Rattle.std.proofs.lemmas.Bool.{false≢true}
 use Rattle.std.proofs.lemmas.List.Elements.{All-cons, All-nil}
 use Rattle.std.proofs.lemmas.List.FromFn.{get_or-map-range_with_len}
 use Rattle.msg_buffer.specs.History.{OnlyGrows}
@@ -17,9 +17,8 @@ use Rattle.msg_order.specs.Order.{has_joined}
 use Rattle.msg_frames.specs.declared.log.Log.{Log}
 use Rattle.msg_frames.specs.declared.log.Outcome.{Outcome}
 use Rattle.msg_frames.specs.declared.log.Outcome.TheVariants.{Ran, Skipped}
-use Rattle.msg_frames.specs.declared.log.Turn.{Turn}
-use Rattle.msg_frames.specs.Frames.{Member, State, after_turn_of, after_turns_of, before_turns, begun, counts, has_begun, job_begun, joined, logged, systems_in}
-use Rattle.msg_frames.specs.UpToDate.{ReadsAll, WhoseProgramReadsAll, reads_all}
+use Rattle.msg_frames.specs.Frames.{Member, State, after_turn_of, after_turns_of, before_turns, counts, has_begun, job_begun, joined, logged, systems_in}
+use Rattle.msg_frames.specs.UpToDate.{WhoseProgramReadsAll, reads_all}
 use Rattle.msg_frames.proofs.BeforeTurns.{Prepares, comes, prepares, stood}
 use Rattle.msg_frames.proofs.BeforeTurns as before
 use Rattle.msg_frames.proofs.ReaderOverTurns.{one_member}

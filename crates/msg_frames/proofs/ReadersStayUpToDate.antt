@@ -1,6 +1,6 @@
 -- A reader that reads all in each frame is up to date, and so it misses nothing.
-use Rattle.std.proofs.Common.{◌≡◌, ◌≢◌, ℕ, suc, ◌+◌, ◌<◌, ◌≤◌, List, [], ◌∷◌, ◌++◌, map, All, Contains, refl, sym, ap, subst, ◌∙◌, arith, inl, inr, slice_get, Some}
-use Rattle.std.specs.Prelude.{IsTrue, IsFalse, nat_le}
+use Rattle.std.proofs.Common.{◌≡◌, ◌≢◌, ℕ, suc, ◌+◌, ◌<◌, ◌≤◌, List, [], ◌∷◌, ◌++◌, map, All, Contains, refl, sym, ap, subst, ◌∙◌, arith, inl, inr}
+use Rattle.std.specs.Prelude.{IsTrue, nat_le}
 use Rattle.std.proofs.lemmas.Bool.{and_from, and_parts, cases_Bool, cases_eq, false≢true, le-leb, leb-false, leb-true}
 use Rattle.std.proofs.lemmas.Option.{same_Some, slice_get_cases, slice_get_within}
 use Rattle.std.proofs.lemmas.List.Elements.{All-append, All-cons, All-head, All-map, All-nil, All-tail}
@@ -12,19 +12,19 @@ use Rattle.msg_frames.proofs.ElementsAndPairs.{Cut, cut}
 use Rattle.msg_frames.specs.declared.frame.Frame.{Frame}
 use Rattle.msg_frames.specs.declared.log.Log.{Log}
 use Rattle.msg_frames.specs.declared.log.Outcome.TheVariants.{Skipped}
-use Rattle.msg_frames.specs.Frames.{IsFrame, IsRun, State, after_turns_of, before_turns, frame_in, has_begun, joining, posted, systems_in}
+use Rattle.msg_frames.specs.Frames.{IsFrame, IsRun, State, after_turns_of, before_turns, frame_in, has_begun, joining, systems_in}
 use Rattle.msg_frames.specs.Soundness.{IsSoundState}
 use Rattle.msg_frames.specs.Tiling.{Moment, moments, place_of, turns_moments}
 use Rattle.std.specs.List.{list_any}
 use Rattle.msg_frames.specs.UpToDate.{reads_all, IsUpToDate, MissesNothing, NothingDrained, ReadsAll, ReadsAllInEach, WhoIsUpToDateMissesNothing, WhoReadsAllCatchesUp, WhoReadsAllHasTheFrameBefore, WhoReadsAllIsUpToDate, WhoReadsEachFrameMissesNothing}
 use Rattle.msg_frames.proofs.HistoriesGrow.{BufferLaws, counts_more, frame_goes_on, runs_go_on, turns_go_on}
 use Rattle.msg_frames.proofs.SystemsStay.{before_keeps, joining_world, turns_keep}
-use Rattle.msg_frames.proofs.ReaderOverJob.{IsWritten, Passes, tile_of}
-use Rattle.msg_frames.proofs.ReaderOverTurns.{Keeps, turns_read}
+use Rattle.msg_frames.proofs.ReaderOverJob.{IsWritten, tile_of}
+use Rattle.msg_frames.proofs.ReaderOverTurns.{turns_read}
 use Rattle.msg_frames.proofs.BeforeTurns.{Prepares, comes, prepares, stood}
 use Rattle.msg_frames.proofs.BeforeTurns as before
 use Rattle.msg_frames.proofs.StatesStaySound.{begun_alike, frame_sound, has_no_turn, prepared_sound}
-use Rattle.msg_frames.proofs.ReaderOverRun.{after_first, run_tells}
+use Rattle.msg_frames.proofs.ReaderOverRun.{run_tells}
 use Rattle.msg_frames.proofs.StampsStayRecent.{AreRecent, AtMoments, posts_recent, turns_recent, update_recent, updated_recent}
 use Rattle.msg_frames.proofs.ReadersTakeAll.{takes_by_turn}
 

@@ -1,15 +1,12 @@
 -- A reader whose turn reads all of a type goes past all that had been written by then.
-use Rattle.std.proofs.Common.{◌≡◌, ◌≢◌, ℕ, zero, suc, ◌+◌, ◌<◌, ◌≤◌, List, [], ◌∷◌, ◌++◌, map, All, Contains, Bool, true, false, ◌||◌, Option, None, Some, refl, sym, ap, subst, ◌∙◌, arith, inl, inr, ◌==◌, slice_get, length}
+use Rattle.std.proofs.Common.{◌≡◌, ◌≢◌, ℕ, zero, suc, ◌+◌, ◌≤◌, List, [], ◌∷◌, ◌++◌, map, All, true, false, ◌||◌, Option, None, Some, refl, sym, ap, subst, ◌∙◌, arith, inl, inr, ◌==◌}
 use Rattle.std.specs.Prelude.{option_to_list, IsTrue}
 use Rattle.std.specs.List.{list_any}
-use Rattle.std.proofs.lemmas.Bool.{and_from, and_parts, cases_Bool, cases_eq, eq-eqb, eqb-true, false≢true, le-leb, leb-true, ne_eqb, or_cases}
-use Rattle.std.proofs.lemmas.Option.{slice_get_cases, slice_get_within}
-use Rattle.std.proofs.lemmas.List.{append-nil}
-use Rattle.std.proofs.lemmas.List.Elements.{All-cons, All-contains, All-head, All-map, All-nil, All-tail}
+use Rattle.std.proofs.lemmas.Bool.{cases_Bool, eq-eqb, eqb-true, false≢true, or_cases}
+use Rattle.std.proofs.lemmas.List.Elements.{All-head, All-tail}
 use Rattle.std.proofs.lemmas.List.Folds.{list_any-append}
-use Rattle.msg_buffer.specs.History.{Entry, GoesOn, History, IsPresent, IsSound, count, update}
-use Rattle.msg_buffer.specs.Reader.{Fits, Stretch, Tile, next_place}
-use Rattle.msg_world.specs.declared.record.Record.{Record}
+use Rattle.msg_buffer.specs.History.{IsSound, count}
+use Rattle.msg_buffer.specs.Reader.{Tile, next_place}
 use Rattle.msg_world.specs.World.{WorldState}
 use Rattle.msg_system.specs.declared.op.Op.{Op}
 use Rattle.msg_system.specs.declared.op.Op.TheVariants.{Write, Batch, Read, Len, Missed, Clear, Forward, Sum, Get, Set, Add, Drain, Signal}
@@ -19,13 +16,12 @@ use Rattle.msg_system.specs.Programs.{AfterProgram, after_op, place_after_read, 
 use Rattle.msg_system.specs.Systems.{Meaning, after_at_most, next_op, one_more, ops_answered, turn}
 use Rattle.msg_system.proofs.Turns.{ops_answered-snoc}
 use Rattle.msg_frames.specs.declared.log.Outcome.TheVariants.{Skipped}
-use Rattle.msg_frames.specs.Frames.{after_turn_of, after_turns_of, logged, outcome_of, turn_of, Member, State}
+use Rattle.msg_frames.specs.Frames.{after_turn_of, after_turns_of, logged, outcome_of, State}
 use Rattle.msg_frames.specs.Tiling.{Moment, first_moments, next_moments, place_of}
 use Rattle.msg_frames.specs.UpToDate.{reads_all}
-use Rattle.msg_frames.proofs.HistoriesGrow.{BufferLaws, counts_more, job_goes_on, turns_go_on}
-use Rattle.msg_frames.proofs.ReaderOverJob.{IsWritten, Passes, first_passes, job_passes, next_passes, tile_of}
-use Rattle.msg_frames.proofs.ReaderOverTurns.{one_member, turn_reads, turns_read}
-use Rattle.msg_frames.proofs.StampsStayRecent.{AreRecent}
+use Rattle.msg_frames.proofs.HistoriesGrow.{BufferLaws, counts_more}
+use Rattle.msg_frames.proofs.ReaderOverJob.{Passes, first_passes, next_passes, tile_of}
+use Rattle.msg_frames.proofs.ReaderOverTurns.{one_member, turn_reads}
 
 -- ---- a turn that reads all
 

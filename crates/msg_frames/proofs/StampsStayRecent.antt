@@ -1,5 +1,5 @@
 -- Where the messages from a number on have recent stamps, ops, turns and posts keep it so.
-use Rattle.std.proofs.Common.{◌≡◌, ℕ, zero, suc, ◌+◌, ◌≤◌, ℤ, ◌⊎◌, List, [], ◌∷◌, ◌++◌, map, All, Option, None, Some, cond, refl, sym, ap, subst, ◌∙◌, arith, inl, inr, slice_get, length, ◌==◌}
+use Rattle.std.proofs.Common.{◌≡◌, ℕ, zero, suc, ◌+◌, ◌≤◌, ℤ, ◌⊎◌, List, [], ◌∷◌, ◌++◌, map, All, Option, None, Some, cond, sym, ap, subst, arith, inl, inr, slice_get, length, ◌==◌}
 use Rattle.std.proofs.lemmas.Bool.{cases_Bool, cases_eq, eq-eqb, ne_eqb}
 use Rattle.std.proofs.lemmas.Option.{none-some, same_Some}
 use Rattle.std.proofs.lemmas.List.Elements.{All-append, All-cons, All-nil}

@@ -1,5 +1,5 @@
 -- Turns of systems whose accesses don't conflict can be swapped.
-use Rattle.std.proofs.Common.{◌≡◌, ◌≢◌, ℕ, ◌<◌, false, ◌&&◌, ◌||◌, List, Option, refl, ap, sym, ◌∙◌, inl, inr, eq-eqb, ne_eqb}
+use Rattle.std.proofs.Common.{◌≡◌, ◌≢◌, ℕ, ◌<◌, false, ◌&&◌, List, Option, refl, ap, sym, ◌∙◌, inl, inr, eq-eqb, ne_eqb}
 use Rattle.std.specs.Prelude.{IsTrue}
 use Rattle.std.proofs.lemmas.Bool.{and_from, cases_Bool, cases_eq, or_right}
 use Rattle.msg_world.specs.declared.access.Access.{Access}
@@ -10,6 +10,7 @@ use Rattle.msg_system.specs.declared.reply.Reply.{Reply}
 use Rattle.msg_system.specs.Conditions.{Job}
 use Rattle.msg_system.specs.Footprints.{HasFootprint, JobFootprint}
 use Rattle.msg_system.specs.Needs.{IsAccessOf, Needs, needs_any}
+use Rattle.msg_system.proofs.Accesses.{uses_needs}
 use Rattle.msg_frames.specs.declared.log.Outcome.{Outcome}
 use Rattle.msg_frames.specs.Frames.{AfterTurn, AreAccessesOf, after_turn_of, member_turn, needs_of, outcome_of, turn_of, with_member, Member, State}
 use Rattle.msg_frames.specs.Entries.{outcome_entries, with_entries}
@@ -45,12 +46,9 @@ pub record Apart (m n : Needs) : Type 0 where
 pub flip : (m n : Needs) → Apart m n → Apart n m
 flip m n h = record { left = h.right; right = h.left }
 
-needs_used : (n : Needs) (a : Access) → IsAccessOf n a → (p : Part) → uses a p ≡ needs_any n p
-needs_used n a h p k = h.reads p k || h.writes p k
-
 unwritten : (m n : Needs) (a b : Access) → IsAccessOf m a → IsAccessOf n b → (p : Part) → (IsTrue (writes a p && uses b p) → ⊥) → IsTrue (needs_any n p) → m.writes p ≡ false
 unwritten m n a b ma nb p none used = elim (cases_Bool (m.writes p)) [
-  | inl e ↦ absurd (none (and_from (writes a p) (uses b p) (ma.writes p ∙ e) (needs_used n b nb p ∙ used)))
+  | inl e ↦ absurd (none (and_from (writes a p) (uses b p) (ma.writes p ∙ e) (uses_needs n b nb p ∙ used)))
   | inr e ↦ e
 ]
 

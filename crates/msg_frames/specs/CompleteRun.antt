@@ -35,7 +35,7 @@ messages_given es = flat_map (λ e. unwrap_or e.given []) es
 abbrev pub message_numbered : History Record → ℕ → Option Record
 message_numbered h n = option_map (λ e. e.message) (slice_get h.entries n)
 
--- What a reader's entries, which are those of these moments, say of the messages from one place to another.
+-- What the entries of these moments say of the messages from one place to another; at the end the type's list is last.
 pub record IsGivenOnce (es : List Entry) (ms : List Moment) (from to : ℕ) (last : History Record) : Type 0 where
   pub entries : es ≡ map (λ m. m.entry) ms
   -- each message was given, or cleared, or missed: one of these, and once

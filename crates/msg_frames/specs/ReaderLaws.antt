@@ -1,5 +1,5 @@
 -- What holds of readers over every run.
-use Rattle.std.specs.Prelude.{◌≡◌, ℕ, ◌<◌, ◌≤◌, List, [], ◌∷◌, All, EachIndex, if◌then◌else◌, IsTrue, IsFalse, slice_index_or}
+use Rattle.std.specs.Prelude.{◌≡◌, ℕ, ◌<◌, ◌≤◌, List, [], ◌∷◌, All, EachIndex, IsTrue, IsFalse, slice_index_or}
 use Rattle.msg_buffer.specs.History.{IsSound}
 use Rattle.msg_order.specs.declared.rule.Rule.{Rule}
 use Rattle.msg_world.specs.World.{WorldState}
@@ -7,7 +7,6 @@ use Rattle.msg_system.specs.Systems.{Meaning}
 use Rattle.msg_frames.specs.declared.frame.Frame.{Frame}
 use Rattle.msg_frames.specs.declared.log.Log.{Log}
 use Rattle.msg_frames.specs.declared.place.Place.{Place}
-use Rattle.msg_frames.specs.declared.totals.Totals.{Totals}
 use Rattle.msg_frames.specs.Entries.{no_totals}
 use Rattle.msg_frames.specs.Frames.{IsFrame, IsRun, State, has_begun}
 use Rattle.msg_frames.specs.FirstState.{IsNew, first_state, nobody}

@@ -1,5 +1,5 @@
 -- What a reader was given over a run, moment by moment.
-use Rattle.std.specs.Prelude.{◌≡◌, ℕ, zero, suc, ◌<◌, ◌==◌, Option, Some, None, List, [], ◌∷◌, ◌++◌, map, flat_map, take, drop, All, IfSome, unwrap_or, IsTrue, if◌then◌else◌}
+use Rattle.std.specs.Prelude.{◌≡◌, ℕ, zero, suc, ◌==◌, Option, Some, None, List, [], ◌∷◌, ◌++◌, map, flat_map, take, drop, All, IfSome, unwrap_or, if◌then◌else◌}
 use Rattle.msg_buffer.specs.History.{History, instances, message_of}
 use Rattle.msg_buffer.specs.Reader.{Stretch, Tile}
 use Rattle.msg_world.specs.declared.record.Record.{Record}

@@ -44,6 +44,7 @@ names_grow part with_one grows names (d ∷ ds) =
 
 -- there are as many names of systems as systems
 pub as_many_systems : (d : Data) → length (all_names d).systems ≡ length (elements (systems_in d))
+unfolding type_names part_names all_names
 as_many_systems d =
     let none : (part_names d).systems ≡ [] =
     names_keep (λ n. n.systems) with_resource (λ n e. refl) (type_names d) (elements (resources_in d))
@@ -53,11 +54,13 @@ as_many_systems d =
 
 -- as many names of types as types, and of resources as resources
 pub as_many_types : (d : Data) → length (part_names d).types ≡ length (elements (types_in d))
+unfolding part_names type_names
 as_many_types d =
     ap length (names_keep (λ n. n.types) with_resource (λ n e. refl) (type_names d) (elements (resources_in d)))
     ∙ names_grow (λ n. n.types) with_type (λ n e. grind (arith, common_steps)) no_names (elements (types_in d)) ∙ omega arith
 
 pub as_many_resources : (d : Data) → length (part_names d).resources ≡ length (elements (resources_in d))
+unfolding type_names part_names
 as_many_resources d =
     let none : (type_names d).resources ≡ [] =
     names_keep (λ n. n.resources) with_type (λ n e. refl) no_names (elements (types_in d)) in
@@ -101,6 +104,7 @@ pub record IsWhole (d : Data) (s : Scenario) : Type 0 where
   pub posts : All (PostsAreToTypes s) s.frames
 
 pub whole_of : (d : Data) (s : Scenario) → first_refusal (scenario_checks d) ≡ None → scenario_of d ≡ Some s → IsWhole d s
+unfolding systems_of systems_checks types_of types_checks resources_of resources_checks all_names rules_of frames_of
 whole_of d s passes denotes =
     let t = then_there _ (types_of d) s denotes in
     let r = then_there _ (resources_of d) s t.2 in

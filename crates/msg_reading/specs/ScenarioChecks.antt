@@ -240,28 +240,28 @@ is_root_key key =
     || bytes_eq key (codes "systems") || bytes_eq key (codes "rules") || bytes_eq key (codes "frames")
 
 -- an object with types, systems and frames, and with no other keys than those of scenarios
-abbrev pub root_object : Data → List Check
+unfoldable pub root_object : Data → List Check
 root_object d =
     object_checks is_root_key d
     ++ (has_key (codes "types") d ∷ has_key (codes "systems") d ∷ has_key (codes "frames") d ∷ [])
 
 -- the sections of a file
-abbrev pub types_checks : Data → List Check
+unfoldable pub types_checks : Data → List Check
 types_checks d = names_checks 64 type_checks with_type no_names (types_in d)
 
-abbrev pub resources_checks : Data → List Check
+unfoldable pub resources_checks : Data → List Check
 resources_checks d = names_checks 64 resource_checks with_resource (type_names d) (resources_in d)
 
-abbrev pub held_checks : Data → List Check
+unfoldable pub held_checks : Data → List Check
 held_checks d = needs (is_some (as_bool (held_in d))) Shape ∷ []
 
-abbrev pub systems_checks : Data → List Check
+unfoldable pub systems_checks : Data → List Check
 systems_checks d = names_checks 256 system_checks with_system (part_names d) (systems_in d)
 
-abbrev pub rules_checks : Data → List Check
+unfoldable pub rules_checks : Data → List Check
 rules_checks d = list_checks 1024 (rule_checks (all_names d)) (rules_in d)
 
-abbrev pub frames_checks : Data → List Check
+unfoldable pub frames_checks : Data → List Check
 frames_checks d = list_checks 10000 (frame_checks (all_names d)) (frames_in d)
 
 -- all checks of a file, but those of its programs and rules together

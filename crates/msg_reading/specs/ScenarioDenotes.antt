@@ -269,30 +269,30 @@ abbrev pub frames_in : Data → Data
 frames_in d = value_at (codes "frames") d
 
 -- the names of a scenario's types; of its types and resources; and of all
-abbrev pub type_names : Data → Declared
+unfoldable pub type_names : Data → Declared
 type_names d = with_all with_type no_names (elements (types_in d))
 
-abbrev pub part_names : Data → Declared
+unfoldable pub part_names : Data → Declared
 part_names d = with_all with_resource (type_names d) (elements (resources_in d))
 
-abbrev pub all_names : Data → Declared
+unfoldable pub all_names : Data → Declared
 all_names d = with_all with_system (part_names d) (elements (systems_in d))
 
 -- ---- the whole
 
-abbrev pub types_of : Data → Option (List (Text × ℕ))
+unfoldable pub types_of : Data → Option (List (Text × ℕ))
 types_of d = each_in_turn (λ names. type_of) with_type no_names (elements (types_in d))
 
-abbrev pub resources_of : Data → Option (List (Text × ℤ))
+unfoldable pub resources_of : Data → Option (List (Text × ℤ))
 resources_of d = each_in_turn (λ names. resource_of) with_resource (type_names d) (elements (resources_in d))
 
-abbrev pub systems_of : Data → Option (List SystemSpec)
+unfoldable pub systems_of : Data → Option (List SystemSpec)
 systems_of d = each_in_turn system_of with_system (part_names d) (elements (systems_in d))
 
-abbrev pub rules_of : Data → Option (List Rule)
+unfoldable pub rules_of : Data → Option (List Rule)
 rules_of d = each_of (rule_of (all_names d)) (rules_in d)
 
-abbrev pub frames_of : Data → Option (List Frame)
+unfoldable pub frames_of : Data → Option (List Frame)
 frames_of d = each_of (frame_of (all_names d)) (frames_in d)
 
 -- a scenario

@@ -1,11 +1,10 @@
 -- The systems of an engine that is made of a scenario.
-use Rattle.std.proofs.Common.{◌≡◌, ℕ, suc, ◌+◌, ◌<◌, ◌≤◌, List, [], ◌∷◌, length, map, zero-add, Some, refl, sym, ap, subst, ◌∙◌, inl, inr, arith}
+use Rattle.std.proofs.Common.{◌≡◌, ℕ, suc, ◌+◌, ◌≤◌, List, [], ◌∷◌, length, map, zero-add, Some, refl, sym, ap, subst, ◌∙◌, inl, inr, arith}
 use Rattle.std.specs.Prelude.{Bool, ℤ, if◌then◌else◌, IsTrue, option_map, slice_get, ◌&&◌}
 use Rattle.std.specs.List.{All, enumerate_from}
 use Rattle.std.proofs.lemmas.List.Elements.{All-get_or}
 use Rattle.std.proofs.lemmas.Option.{get_or_from_slice_get, slice_get_cases, slice_get_within, slice_get-map}
-use Rattle.msg_world.specs.Access.{Part}
-use Rattle.msg_world.specs.Parts.{Has, Parts, PartsStand}
+use Rattle.msg_world.specs.Parts.{Parts, PartsStand}
 use Rattle.msg_world.specs.World.{WorldState, held, new_world}
 use Rattle.msg_order.specs.declared.rule.Rule.{Rule}
 use Rattle.msg_frames.specs.FirstState.{IsNew, all_rules, first_state}

@@ -1,4 +1,4 @@
--- The access of a program, from what its ops read and write.
+-- The access of a program, from what its ops read and write; an access uses what is needed.
 use Rattle.std.proofs.Common.{◌≡◌, Bool, true, false, not, ◌&&◌, ◌||◌, List, refl, sym, ap, ◌∙◌}
 use Rattle.std.specs.Prelude.{◌↔◌}
 use Rattle.std.proofs.Math.Bool.{and-true}
@@ -6,7 +6,7 @@ use Rattle.std.proofs.lemmas.Bool.{or_parts}
 use Rattle.msg_world.specs.declared.access.Access.{Access}
 use Rattle.msg_world.specs.Access.{IsClash, Part, OfType, OfResource, Registry, reads, writes, uses}
 use Rattle.msg_system.specs.declared.op.Op.{Op}
-use Rattle.msg_system.specs.Needs.{HasClash, IsAccessOf, Needs, program_needs, some_op_reads, some_op_writes}
+use Rattle.msg_system.specs.Needs.{HasClash, IsAccessOf, Needs, needs_any, program_needs, some_op_reads, some_op_writes}
 
 or_nothing : (a b : Bool) → b ≡ false → (a || b) ≡ a
 or_nothing true b h = refl
@@ -37,6 +37,10 @@ module _ (ops : List Op) (a none u : Access) (nothing : (p : Part) → uses none
       written (OfType t) = settled_writes (OfType t)
       written (OfResource r) = settled_writes (OfResource r)
       written Registry = settled_writes Registry
+
+-- it uses what is needed, and nothing else
+pub uses_needs : (n : Needs) (a : Access) → IsAccessOf n a → (p : Part) → uses a p ≡ needs_any n p
+uses_needs n a of p k = of.reads p k || of.writes p k
 
 -- it clashes where the needs do
 pub same_clash : (n : Needs) (a : Access) → IsAccessOf n a → IsClash a ↔ HasClash n

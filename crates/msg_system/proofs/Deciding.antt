@@ -1,9 +1,8 @@
 -- Turns that a behavior decides, op after op.
-use Rattle.std.proofs.Common.{◌≡◌, ℕ, zero, suc, ◌+◌, ◌<◌, ◌≤◌, ◌++◌, Bool, true, false, not, ◌&&◌, ◌||◌, List, [], ◌∷◌, length, length-append, Option, Some, None, refl, sym, ap, subst, ◌∙◌, arith, inl, inr, append_assoc, drop}
+use Rattle.std.proofs.Common.{◌≡◌, ℕ, zero, suc, ◌+◌, ◌≤◌, ◌++◌, Bool, true, false, ◌&&◌, ◌||◌, List, [], ◌∷◌, length, length-append, Option, Some, None, sym, ap, subst, ◌∙◌, arith, inl, inr, append_assoc, drop}
 use Rattle.std.specs.Prelude.{option_to_list, IsTrue}
 use Rattle.std.proofs.lemmas.Bool.{cases_Bool, cases_eq, false≢true}
 use Rattle.std.proofs.Math.Seq.{drop-append_seam}
-use Rattle.std.proofs.lemmas.List.{append-nil}
 use Rattle.msg_world.specs.declared.lent.Lent.{Lent}
 use Rattle.msg_world.specs.Loan.{SameLoan, taken_of}
 use Rattle.msg_world.specs.Parts.{Parts}
@@ -15,7 +14,7 @@ use Rattle.msg_system.specs.Behaviors.{behaves}
 use Rattle.msg_system.specs.Needs.{Needs, is_resource, op_needs}
 use Rattle.msg_system.specs.OpRuns.{IsAfterOp, OpRan}
 use Rattle.msg_system.specs.inner.TurnRuns.{AreAnswered, IsAfterProgram, TurnRan, next_kept}
-use Rattle.msg_system.specs.Programs.{AfterOp, AfterProgram, after_op}
+use Rattle.msg_system.specs.Programs.{AfterProgram, after_op}
 use Rattle.msg_system.specs.Promises.{Covers, Ran}
 use Rattle.msg_system.specs.Systems.{Meaning, after_at_most, one_more, ops_answered, turn}
 use Rattle.msg_system.proofs.Lendings.{can_be_shown}

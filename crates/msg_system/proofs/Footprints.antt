@@ -21,7 +21,7 @@ use Rattle.msg_system.specs.declared.start.Start.TheVariants.{Zero}
 use Rattle.msg_system.specs.Conditions.{AfterJob, Asked, Job, after_asking, all_hold, answer, found, inverted, place_after, conditions_of}
 use Rattle.msg_system.specs.Footprints.{Agree, ConditionFootprint, IsWithin, JobFootprint, HasFootprint, OpFootprint, ProgramFootprint, TurnFootprint, given_by_job, given_by_op, given_by_program}
 use Rattle.msg_system.specs.Needs.{Needs, condition_needs, is_part, is_resource, op_needs, op_parts, probe_part, program_needs, some_condition_reads, with_conditions}
-use Rattle.msg_system.specs.Programs.{AfterOp, AfterProgram, after_op, after_program, again_by, numbers_for, place_after_read, plus, sum_onto, took, with_place, write_reply}
+use Rattle.msg_system.specs.Programs.{AfterProgram, after_op, again_by, numbers_for, place_after_read, plus, sum_onto, took, with_place, write_reply}
 use Rattle.msg_system.specs.Systems.{Meaning, after_at_most, after_turn, next_op, of_program, one_more, told, turn}
 use Rattle.msg_system.proofs.Runs.{same_part_refl}
 use Rattle.msg_system.proofs.Turns.{IsKept, next_kept_to, program_so_far}

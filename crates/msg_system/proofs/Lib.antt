@@ -1,5 +1,5 @@
 -- What programs, conditions and jobs read and write
-mod Accesses
+pub mod Accesses
 mod JobAccesses
 -- What an op does to its loan and its cursor
 mod Lendings

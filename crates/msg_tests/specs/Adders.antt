@@ -1,5 +1,5 @@
 -- What an adder does next, and what it remembers.
-use Rattle.std.specs.Prelude.{ℕ, ℤ, ◌==◌, List, [], length, Option, Some, None, slice_get, if◌then◌else◌}
+use Rattle.std.specs.Prelude.{ℤ, ◌==◌, List, length, Option, Some, None, slice_get, if◌then◌else◌}
 use Rattle.msg_system.specs.declared.op.Op.{Op}
 use Rattle.msg_system.specs.declared.op.Op.TheVariants.{Read, Write}
 use Rattle.msg_system.specs.declared.reply.Reply.{Reply}

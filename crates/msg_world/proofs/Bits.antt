@@ -1,14 +1,16 @@
 -- Bits of masks, as tests.
 use Rattle.std.proofs.Common.{◌≡◌, ◌≢◌, ℕ, zero, suc, ◌+◌, ◌*◌, ◌-◌, ◌/◌, ◌^◌, ◌%◌, ◌<◌, ◌≤◌, min, max, false, not, ◌&&◌, ◌||◌, inl, inr, refl, ap, sym, ◌∙◌, arith, w64}
-use Rattle.std.specs.Prelude.{◌==◌, ◌↔◌, IsTrue, bit_and, bit_or, ◌⊎◌}
+use lib.Count.{ones_step}
+use Rattle.std.specs.Prelude.{◌==◌, ◌↔◌, IsTrue, bit_and, bit_or, count_ones, nat_lt, ◌⊎◌}
+use Rattle.std.proofs.Math.Bool.{and-true}
 use Rattle.std.specs.Int.{bit_at, bit_not, trailing_zeros}
-use Rattle.std.proofs.lemmas.Bool.{cases_Bool, and_from, and_parts, cases_lt, cases_eq, eqb-true, eq-eqb, ne_eqb, eqb-false, not-true, false≢true}
+use Rattle.std.proofs.lemmas.Bool.{cases_lt, cases_eq, eqb-true, eq-eqb, ne_eqb, eqb-false, le-ltb, lt-ltb, not-true, false≢true}
 use Rattle.std.proofs.lemmas.Bool.Decides.{nat_tests}
 use Rattle.std.proofs.lemmas.Nat.{and_le_l, shr-shr}
 use Rattle.std.proofs.Math.Nat.{div-le_self}
 use Rattle.std.proofs.lemmas.Nat.Bits.{bit_at_lowest, bit_at-suc, bit_at_and, bit_at_or, bit_at_not, bit_at_above, bit_at-zero, bit_at-lt, bit_at_set_same, bit_at_set_other, bit_at_clear_same, bit_at_clear_other, bit_at-trailing_zeros}
 use Rattle.msg_world.specs.Access.{has_bit}
-use Rattle.msg_world.specs.inner.Masks.{ShareBit, IsBelow, IsWithin}
+use Rattle.msg_world.specs.inner.Masks.{ShareBit, IsBelow}
 
 or_test : (x y : ℕ) → x < 2 → y < 2 → (max x y == 1) ≡ ((x == 1) || (y == 1))
 or_test x y h k = grind (arith, nat_tests)
@@ -91,23 +93,6 @@ shr-is_below mask n fits = (
   ],
 )
 
--- a mask without the bits of another is 0 where it has no other bits
-pub zero-is_within : (mask other rest : ℕ) → rest < 2 ^ 64 → ((k : ℕ) → has_bit rest k ≡ (has_bit mask k && not (has_bit other k)))
-    → IsTrue (rest == 0) ↔ IsWithin mask other
-zero-is_within mask other rest fits bits = (
-  λ t k bit. elim (cases_Bool (has_bit other k)) [
-    | inl has ↦ has
-    | inr hasnt ↦ absurd (false≢true (sym (has_bit-zero k) ∙ ap (λ n. has_bit n k) (sym (eqb-true rest 0 t)) ∙ bits k ∙ and_from (has_bit mask k) (not (has_bit other k)) bit (ap not hasnt)))
-  ],
-  λ within. elim (cases_eq rest 0) [
-    | inl e ↦ eq-eqb rest 0 e
-    | inr ne ↦
-        let bit = some_bit rest fits ne in
-        let both = and_parts (has_bit mask bit.0) (not (has_bit other bit.0)) (sym (bits bit.0) ∙ bit.1.1) in
-        absurd (false≢true (ap not (sym (within bit.0 both.0)) ∙ both.1))
-  ],
-)
-
 -- whatever its size
 some_bit_of : (fuel n : ℕ) → n ≤ fuel → n ≢ 0 → (k : ℕ) × IsTrue (has_bit n k)
 some_bit_of zero n h ne = let e : n ≡ 0 = omega arith in absurd (ne e)
@@ -122,4 +107,78 @@ pub decide_share : (a b : ℕ) → ShareBit a b ⊎ (ShareBit a b → ⊥)
 decide_share a b = elim (cases_eq (bit_and a b) 0) [
   | inl e ↦ inr (λ s. false≢true (sym (has_bit-zero s.0) ∙ ap (λ n. has_bit n s.0) (sym e) ∙ has_bit-and a b s.0 ∙ s.1))
   | inr ne ↦ let r = some_bit_of (bit_and a b) (bit_and a b) (omega arith) ne in inl (r.0, sym (has_bit-and a b r.0) ∙ r.1)
+]
+
+-- bit k of a mask that was shifted
+shifted : (mask n k : ℕ) → has_bit (mask / 2 ^ n) k ≡ has_bit mask (n + k)
+shifted mask n k = ap (λ m. m % 2 == 1) (shr-shr mask n k)
+
+shifted-from : (mask n k : ℕ) → n ≤ k → has_bit mask k ≡ has_bit (mask / 2 ^ n) (k - n)
+shifted-from mask n k le = let e : n + (k - n) ≡ k = omega arith in ap (has_bit mask) (sym e) ∙ sym (shifted mask n (k - n))
+
+-- no bit is set from n on where nothing is left of the mask
+pub none_from : (mask n : ℕ) → mask / 2 ^ n ≡ 0 → (k : ℕ) → n ≤ k → has_bit mask k ≡ false
+none_from mask n gone k le = shifted-from mask n k le ∙ ap (λ m. has_bit m (k - n)) gone ∙ has_bit-zero (k - n)
+
+-- the next bit that is set from n on
+module _ (mask n : ℕ) (fits : mask < 2 ^ 64) (some : mask / 2 ^ n ≢ 0) where
+  rest_fits : mask / 2 ^ n < 2 ^ 64
+  rest_fits = let le : mask / 2 ^ n ≤ mask = div-le_self mask (2 ^ n) in omega arith
+
+  lowest : (trailing_zeros w64 (mask / 2 ^ n) < 64) × (bit_at (mask / 2 ^ n) (trailing_zeros w64 (mask / 2 ^ n)) ≡ 1) × ((i : ℕ) → i < trailing_zeros w64 (mask / 2 ^ n) → bit_at (mask / 2 ^ n) i ≡ 0)
+  lowest = bit_at-trailing_zeros w64 (mask / 2 ^ n) (omega arith) rest_fits
+
+  pub next_is_set : IsTrue (has_bit mask (n + trailing_zeros w64 (mask / 2 ^ n)))
+  next_is_set = sym (sym (eq-eqb (bit_at (mask / 2 ^ n) (trailing_zeros w64 (mask / 2 ^ n))) 1 lowest.1) ∙ shifted mask n (trailing_zeros w64 (mask / 2 ^ n)))
+
+  pub next_is_below : n + trailing_zeros w64 (mask / 2 ^ n) < 64
+  next_is_below = elim (cases_lt (n + trailing_zeros w64 (mask / 2 ^ n)) 64) [
+    | inl l ↦ l
+    | inr l ↦ absurd (false≢true (sym (has_bit-above mask (n + trailing_zeros w64 (mask / 2 ^ n)) fits l) ∙ next_is_set))
+  ]
+
+  pub none_before_next : (k : ℕ) → n ≤ k → k < n + trailing_zeros w64 (mask / 2 ^ n) → has_bit mask k ≡ false
+  none_before_next k le lt = shifted-from mask n k le ∙ ap (λ b. b == 1) (lowest.2 (k - n) (omega arith))
+
+-- ---- how many bits are set from a number on
+
+ones_from : (mask n : ℕ) → count_ones (mask / 2 ^ n) ≡ mask / 2 ^ n % 2 + count_ones (mask / 2 ^ (n + 1))
+ones_from mask n = ones_step (mask / 2 ^ n) ∙ ap (λ m. mask / 2 ^ n % 2 + count_ones m) (shr-shr mask n 1)
+
+-- one less from the next number on, where the bit is set
+pub one_less : (mask n : ℕ) → IsTrue (has_bit mask n) → count_ones (mask / 2 ^ n) ≡ count_ones (mask / 2 ^ (n + 1)) + 1
+one_less mask n set = let step = ones_from mask n in let one : mask / 2 ^ n % 2 ≡ 1 = eqb-true (mask / 2 ^ n % 2) 1 set in omega arith
+
+-- as many, where none is set before the next number
+pub as_many_ones : (mask n d : ℕ) → ((k : ℕ) → n ≤ k → k < n + d → has_bit mask k ≡ false) → count_ones (mask / 2 ^ (n + d)) ≡ count_ones (mask / 2 ^ n)
+as_many_ones mask n zero none = let same : n + 0 ≡ n = omega arith in ap (λ k. count_ones (mask / 2 ^ k)) same
+as_many_ones mask n (suc d) none =
+    let step = ones_from mask (n + d) in
+    let lt : mask / 2 ^ (n + d) % 2 < 2 = bit_at-lt mask (n + d) in
+    let unset : mask / 2 ^ (n + d) % 2 ≢ 1 = eqb-false (mask / 2 ^ (n + d) % 2) 1 (none (n + d) (omega arith) (omega arith)) in
+    let rest = as_many_ones mask n d (λ k le l. none k le (omega arith)) in
+    let next : n + suc d ≡ n + d + 1 = omega arith in
+    ap (λ k. count_ones (mask / 2 ^ k)) next ∙ omega arith
+
+-- ---- the bits below a number
+
+-- below the next bit after n are those below n, and n
+pub below_next : (mask n next : ℕ) → IsTrue (has_bit mask n) → n < next → ((k : ℕ) → n + 1 ≤ k → k < next → has_bit mask k ≡ false)
+    → (k : ℕ) → (has_bit mask k && nat_lt k next) ≡ (k == n || (has_bit mask k && nat_lt k n))
+below_next mask n next set lt none k = elim (cases_eq k n) [
+  | inl e ↦ rw (e, eq-eqb n n refl, set, lt-ltb n next lt) refl
+  | inr ne ↦ elim (cases_lt k n) [
+    | inl below ↦ rw (ne_eqb k n ne, lt-ltb k n below, lt-ltb k next (omega arith)) refl
+    | inr past ↦ elim (cases_lt k next) [
+      | inl between ↦ rw (ne_eqb k n ne, none k (omega arith) between) refl
+      | inr beyond ↦ rw (ne_eqb k n ne, le-ltb k n past, le-ltb k next beyond) refl
+    ]
+  ]
+]
+
+-- there are no others than those below 64
+pub all_below : (mask n : ℕ) → mask < 2 ^ 64 → 64 ≤ n → (k : ℕ) → (has_bit mask k && nat_lt k n) ≡ has_bit mask k
+all_below mask n fits past k = elim (cases_lt k n) [
+  | inl below ↦ rw (lt-ltb k n below) (and-true (has_bit mask k))
+  | inr beyond ↦ rw (has_bit-above mask k fits (omega arith)) refl
 ]

@@ -13,9 +13,8 @@ use Rattle.msg_world.specs.declared.access.Access.{Access}
 use Rattle.msg_world.specs.declared.record.Record.{Record}
 use Rattle.msg_world.specs.declared.marks.Marks.{Marks}
 use Rattle.msg_world.specs.Access.{Part, OfType, OfResource, Registry, has_bit, uses, writes}
-use Rattle.msg_world.specs.inner.Masks.{IsWithin}
 use Rattle.msg_world.specs.Parts.{Parts, IsHome, IsWhole, PartsStand, SameShape, slot}
-use Rattle.msg_world.specs.inner.Slots.{AllUpdated, BufferStands, at}
+use Rattle.msg_world.specs.inner.Slots.{AllUpdated, BufferStands, HaveEach, at}
 use Rattle.msg_world.specs.World.{WorldState, new_world, updated, waits, with_history}
 
 -- a world and parts of which the marks were set
@@ -188,27 +187,26 @@ taken_back_joined taken old new types resources marks Registry = marks
 
 -- ---- what is home
 
--- The masks of what is used and of what is there say whether all is home.
-pub home_by_masks : (a : Access) (w : Parts) (types resources types_there resources_there : ℕ) (types_home resources_home marks_there : Bool)
+-- The masks of what is used say whether all is home.
+pub home_by_masks : (a : Access) (w : Parts) (types resources : ℕ) (types_home resources_home marks_there : Bool)
     → ((k : ℕ) → has_bit types k ≡ (has_bit a.read_types k || has_bit a.write_types k)) → ((k : ℕ) → has_bit resources k ≡ (has_bit a.read_res k || has_bit a.write_res k))
-    → ((k : ℕ) → has_bit types_there k ≡ is_some (at w.types k)) → ((k : ℕ) → has_bit resources_there k ≡ is_some (at w.resources k))
-    → IsTrue types_home ↔ IsWithin types types_there → IsTrue resources_home ↔ IsWithin resources resources_there → marks_there ≡ is_some w.marks
+    → IsTrue types_home ↔ HaveEach w.types types → IsTrue resources_home ↔ HaveEach w.resources resources → marks_there ≡ is_some w.marks
     → IsTrue ((types_home && resources_home) && (not a.registry || marks_there)) ↔ IsHome a w
-home_by_masks a w types resources types_there resources_there types_home resources_home marks_there t r tt' rt th rh m = (
+home_by_masks a w types resources types_home resources_home marks_there t r th rh m = (
   λ all.
       let both = and_parts (types_home && resources_home) (not a.registry || marks_there) all in
       let parts = and_parts types_home resources_home both.0 in
       is_home parts.0 parts.1 both.1,
   λ home. and_from (types_home && resources_home) (not a.registry || marks_there)
       (and_from types_home resources_home
-      (th.1 (λ k bit. tt' k ∙ home (OfType k) (sym (t k) ∙ bit)))
-      (rh.1 (λ k bit. rt k ∙ home (OfResource k) (sym (r k) ∙ bit))))
+      (th.1 (λ k bit. home (OfType k) (sym (t k) ∙ bit)))
+      (rh.1 (λ k bit. home (OfResource k) (sym (r k) ∙ bit))))
       (by_registry home),
 )
   where
     is_home : IsTrue types_home → IsTrue resources_home → IsTrue (not a.registry || marks_there) → IsHome a w
-    is_home x y z (OfType k) uses = sym (tt' k) ∙ th.0 x k (t k ∙ uses)
-    is_home x y z (OfResource k) uses = sym (rt k) ∙ rh.0 y k (r k ∙ uses)
+    is_home x y z (OfType k) uses = th.0 x k (t k ∙ uses)
+    is_home x y z (OfResource k) uses = rh.0 y k (r k ∙ uses)
     is_home x y z Registry uses = elim (or_cases (not a.registry) marks_there z) [
       | inl n ↦ absurd (false≢true (ap not (sym uses) ∙ n))
       | inr there ↦ sym m ∙ there

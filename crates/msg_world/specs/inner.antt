@@ -1,3 +1,5 @@
 -- What only private functions cite.
 pub mod Masks
+pub mod Moved
+pub mod MovedLends
 pub mod Slots

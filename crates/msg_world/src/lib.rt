@@ -11,6 +11,7 @@ pub mod laws;
 mod lent;
 mod marks;
 mod masks;
+mod moved;
 mod record;
 mod res_no;
 mod slots;

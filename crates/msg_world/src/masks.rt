@@ -1,7 +1,7 @@
 // Masks of 64 bits, one for each number below 64.
-ghost use Rattle.std.specs.Prelude.{◌≡◌, ◌==◌, ◌||◌, ◌&&◌, not, ℕ, ◌<◌, ◌↔◌, IsTrue};
+ghost use Rattle.std.specs.Prelude.{◌≡◌, ◌==◌, ◌||◌, ◌&&◌, not, ℕ, ◌<◌, ◌≤◌, ◌↔◌, IsTrue, false, count_ones, ◌/◌, ◌^◌};
 ghost use Rattle.msg_world.specs.Access.{has_bit};
-ghost use Rattle.msg_world.specs.inner.Masks.{ShareBit, Collide, IsBelow, IsWithin};
+ghost use Rattle.msg_world.specs.inner.Masks.{ShareBit, Collide, IsBelow};
 
 /// Whether bit `k` is set.
 pub fn has(mask: u64, k: u32) -> bool
@@ -54,9 +54,21 @@ pub fn is_below(mask: u64, n: u32) -> bool
     n >= 64 || mask >> n == 0
 }
 
-/// Whether each bit of a mask is set in the other.
-pub fn is_within(mask: u64, other: u64) -> bool
-    ensures { IsTrue result ↔ IsWithin mask other }
+/// The first bit of the mask from this number on; 64 where there is none.
+pub fn next_bit(mask: u64, from: u32) -> u32
+    requires { from ≤ 64 }
+    ensures from_there { from ≤ result }
+    ensures at_most { result ≤ 64 }
+    ensures is_set { result < 64 → IsTrue (has_bit mask result) }
+    ensures none_before { (k : ℕ) → from ≤ k → k < result → has_bit mask k ≡ false }
+    ensures as_many { count_ones (mask / 2 ^ result) ≡ count_ones (mask / 2 ^ from) }
 {
-    without(mask, other) == 0
+    if from == 64 {
+        return 64;
+    }
+    let rest = mask >> from;
+    if rest == 0 {
+        return 64;
+    }
+    from + rest.trailing_zeros()
 }

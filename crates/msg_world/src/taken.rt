@@ -1,7 +1,10 @@
+ghost use Rattle.std.specs.Prelude.{ℕ, ◌<◌, length};
+ghost use Rattle.msg_buffer.specs.History.{History};
+ghost use Rattle.msg_world.specs.inner.Slots.{BufferStands, at};
+
 use crate::marks::Marks;
+use crate::moved::MovedParts;
 use crate::record::Record;
-use crate::slots::slot_ref;
-use crate::world::each_stands;
 use crate::{ResNo, TypeNo};
 use msg_buffer::Messages;
 use std::marker::Model;
@@ -10,8 +13,8 @@ use std::marker::Model;
 /// world stays without them.
 #[derive(Drop)]
 pub struct Taken {
-    pub(crate) types: Vec<Option<Messages<Record>>>,
-    pub(crate) resources: Vec<Option<i64>>,
+    pub(crate) types: MovedParts<Messages<Record>>,
+    pub(crate) resources: MovedParts<i64>,
     pub(crate) marks: Option<Marks>,
 }
 
@@ -20,7 +23,19 @@ impl Model for Taken {
 
     ghost Value = { Parts };
 
-    ghost view = { λ t. record { types = t.types.items; resources = t.resources.items; marks = t.marks } };
+    ghost view = { λ t. record { types = t.types; resources = t.resources; marks = t.marks } };
+}
+
+/// A law: each buffer that was moved out stands for some history.
+fn moved_stand(types: &MovedParts<Messages<Record>>)
+    ensures histories { (t : ℕ) → t < length types.now
+        → (h : History Record) × BufferStands (at types.now t) h }
+{
+    for t in 0..types.slots() {
+        if let Some(messages) = types.get(t) {
+            messages.stands_for_some();
+        }
+    }
 }
 
 impl Taken {
@@ -30,48 +45,41 @@ impl Taken {
     ghost use Rattle.msg_world.specs.Access.{OfType, OfResource, Registry};
     ghost use Rattle.msg_world.specs.Lending.{LendsMessages, LendsValue};
     ghost use Rattle.msg_world.specs.Parts.{PartsStand, slot};
-    ghost use Rattle.msg_world.specs.inner.Slots.{at};
     ghost use Rattle.msg_world.specs.World.{WorldState, signalled_marks};
 
     /// A law: what was moved out stands for some state.
     pub(crate) fn stands_for_some(&self)
         ensures state { (s : WorldState) × PartsStand self.now s }
     {
-        each_stands(&self.types);
+        moved_stand(&self.types);
     }
 
     /// What is there of a type.
     pub(crate) fn messages(&self, t: TypeNo) -> Option<&Messages<Record>>
         ensures there { option_copied result ≡ slot (OfType t) self.now }
     {
-        slot_ref(&self.types, t.number() as usize)
+        self.types.get(t.number() as usize)
     }
 
     pub(crate) fn messages_mut(&mut self, k: usize) -> Option<&mut Messages<Record>>
         ensures* writes_back { sem 𝓛 (LendsMessages self.entry k result) }
         ensures there { option_copied_mut result ≡ at self.old.types k }
     {
-        match self.types.get_mut(k) {
-            Some(slot) => slot.as_mut(),
-            None => None,
-        }
+        self.types.get_mut(k)
     }
 
     /// What is there of a resource.
     pub(crate) fn value(&self, r: ResNo) -> Option<i64>
         ensures there { result ≡ slot (OfResource r) self.now }
     {
-        slot_ref(&self.resources, r.number() as usize).copied()
+        self.resources.get(r.number() as usize).copied()
     }
 
     pub(crate) fn value_mut(&mut self, k: usize) -> Option<&mut i64>
         ensures* writes_back { sem 𝓛 (LendsValue self.entry k result) }
         ensures there { option_copied_mut result ≡ at self.old.resources k }
     {
-        match self.resources.get_mut(k) {
-            Some(slot) => slot.as_mut(),
-            None => None,
-        }
+        self.resources.get_mut(k)
     }
 
     /// Marks a signal, where the registry is there; says whether it is.

@@ -12,9 +12,9 @@ use crate::access::Access;
 use crate::counts::Counts;
 use crate::marks::Marks;
 use crate::record::{HOST, Record};
-use crate::slots::{empty_slots, filled, move_slots, return_slots, slot_ref};
+use crate::slots::{have_each, slot_ref};
 use crate::taken::Taken;
-use crate::{ResNo, TypeNo, masks};
+use crate::{ResNo, TypeNo, masks, moved};
 use msg_buffer::{MessageId, Messages, NoMemory, WriteRefusal};
 use std::alloc::Global;
 use std::marker::Model;
@@ -130,7 +130,7 @@ fn slot_stands(slot: &Option<Messages<Record>>)
 }
 
 /// A law: each buffer stands for some history.
-pub(crate) fn each_stands(types: &[Option<Messages<Record>>])
+fn each_stands(types: &[Option<Messages<Record>>])
     ensures histories { (t : ℕ) → t < length types.now
         → (h : History Record) × BufferStands (at types.now t) h }
 {
@@ -272,8 +272,8 @@ impl World {
     {
         let types = masks::either(access.read_types, access.write_types);
         let resources = masks::either(access.read_res, access.write_res);
-        let types_home = masks::is_within(types, filled(&self.types));
-        let resources_home = masks::is_within(resources, filled(&self.resources));
+        let types_home = have_each(&self.types, types);
+        let resources_home = have_each(&self.resources, resources);
         let marks_home = !access.registry | self.marks.is_some();
         types_home & resources_home & marks_home
     }
@@ -285,15 +285,12 @@ impl World {
         ensures err { OnErr result (self.new ≡ self.old) }
     {
         let alloc = *self.types.allocator();
-        let mut types = empty_slots(alloc, self.types.len())?;
-        let mut resources = empty_slots(alloc, self.resources.len())?;
-        move_slots(&mut self.types, &mut types, access.write_types);
-        move_slots(&mut self.resources, &mut resources, access.write_res);
-        let marks = take_marks(&mut self.marks, access.registry);
+        let types = moved::room_for(alloc, access.write_types)?;
+        let resources = moved::room_for(alloc, access.write_res)?;
         Ok(Taken {
-            types,
-            resources,
-            marks,
+            types: moved::move_out(&mut self.types, types, access.write_types),
+            resources: moved::move_out(&mut self.resources, resources, access.write_res),
+            marks: take_marks(&mut self.marks, access.registry),
         })
     }
 
@@ -302,13 +299,8 @@ impl World {
         requires apart { IsApart taken self.old }
         ensures home { TakesBack taken self.old self.new }
     {
-        let Taken {
-            mut types,
-            mut resources,
-            marks,
-        } = taken;
-        return_slots(&mut types, &mut self.types);
-        return_slots(&mut resources, &mut self.resources);
-        self.marks = marks.or(self.marks);
+        moved::move_home(taken.types, &mut self.types);
+        moved::move_home(taken.resources, &mut self.resources);
+        self.marks = taken.marks.or(self.marks);
     }
 }

@@ -1,5 +1,5 @@
 -- What the parts of a new engine are, and what a refusal says before all is looked at.
-use Rattle.std.specs.Prelude.{◌≡◌, ℕ, ◌<◌, ◌≤◌, List, length, Option, Some, slice_get, IsSomeAnd, ⊤}
+use Rattle.std.specs.Prelude.{◌≡◌, ℕ, ◌<◌, List, length, Option, Some, slice_get, IsSomeAnd, ⊤}
 use Rattle.msg_world.specs.declared.access.Access.{Access}
 use Rattle.msg_order.specs.declared.rule.Rule.{Rule}
 use Rattle.msg_order.specs.Graph.{IsLowestOnCycle}

@@ -15,7 +15,3 @@ Collide read write other_read other_write = (k : ℕ)
 -- each bit of the mask is below n
 abbrev pub IsBelow : ℕ → ℕ → Type 0
 IsBelow mask n = (k : ℕ) → IsTrue (has_bit mask k) → k < n
-
--- each bit of the first is one of the second
-abbrev pub IsWithin : ℕ → ℕ → Type 0
-IsWithin mask other = (k : ℕ) → IsTrue (has_bit mask k) → IsTrue (has_bit other k)

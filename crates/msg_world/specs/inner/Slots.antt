@@ -1,13 +1,18 @@
 -- What the private functions on lists of slots say. No public contract cites these.
-use Rattle.std.specs.Prelude.{◌≡◌, ℕ, Option, None, IfSome, is_some, List, length, slice_index_or}
+use Rattle.std.specs.Prelude.{◌≡◌, ℕ, Option, None, IfSome, IsSome, IsTrue, is_some, List, length, slice_index_or}
 use Rattle.msg_buffer.specs.History.{History, update}
 use Rattle.msg_buffer.specs.Kept.{Kept}
 use Rattle.msg_buffer.specs.StandsFor.{StandsFor}
+use Rattle.msg_world.specs.Access.{has_bit}
 use Rattle.msg_world.specs.declared.record.Record.{Record}
 
 -- what slot k holds: nothing past the end
 abbrev pub at : {X : Type 0} → List (Option X) → ℕ → Option X
 at xs k = slice_index_or xs k None
+
+-- each slot of a mask holds something
+abbrev pub HaveEach : {X : Type 0} → List (Option X) → ℕ → Type 0
+HaveEach xs mask = (k : ℕ) → IsTrue (has_bit mask k) → IsSome (at xs k)
 
 -- the buffer in a slot stands for a history, where there is one
 abbrev pub BufferStands : Option (Kept Record) → History Record → Type 0

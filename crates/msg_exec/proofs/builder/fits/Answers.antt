@@ -1,16 +1,16 @@
-use Rattle.std.proofs.Common.{subst}
+use Rattle.std.proofs.Common.{subst, sym, ◌∙◌}
 use Rattle.msg_system.specs.Needs.{IsAccessOf, with_conditions}
-use Rattle.msg_exec.proofs.BuilderBuilds.{has_part, needed_is_used}
-use Rattle.msg_exec.proofs.FirstEngineStands.{used_is_needed}
+use Rattle.msg_system.proofs.Accesses.{uses_needs}
+use Rattle.msg_exec.proofs.BuilderBuilds.{has_part}
 use Rattle.msg_exec.proofs.builder.fits.Goals as goal
 
 pub returns : goal.returns
 returns g c =
     let needs = (g.S.System.meaning c.args.system.now).needs in
-    let used = subst (λ cs. IsAccessOf (with_conditions needs cs) c.job_access.result) c.as_slice.ensures.items (c.job_access.ensures.needs needs c.access.ensures.needs) in
+    let used = uses_needs _ _ (subst (λ cs. IsAccessOf (with_conditions needs cs) c.job_access.result) c.as_slice.ensures.items (c.job_access.ensures.needs needs c.access.ensures.needs)) in
     record {
       fit = (
-        λ home p needed. has_part c.args.world.now p (c.is_home.ensures.home.0 home p (needed_is_used _ c.job_access.result p used needed)),
-        λ fit. c.is_home.ensures.home.1 (λ p is. c.requires.whole p (fit p (used_is_needed _ c.job_access.result p used is))),
+        λ home p needed. has_part c.args.world.now p (c.is_home.ensures.home.0 home p (used p ∙ needed)),
+        λ fit. c.is_home.ensures.home.1 (λ p is. c.requires.whole p (fit p (sym (used p) ∙ is))),
       );
     }

@@ -1,4 +1,4 @@
-use Rattle.std.proofs.Common.{◌∷◌, ◌++◌, ◌+◌, [], length, map, sym, ap, ℕ, ◌≡◌, ◌∙◌, arith}
+use Rattle.std.proofs.Common.{◌∷◌, ◌++◌, ◌+◌, [], length, map, sym, ap, ◌≡◌, ◌∙◌, arith}
 use Rattle.std.proofs.lemmas.List.{length-append, length-map, map-append}
 use Rattle.msg_system.specs.Systems.{Meaning}
 use Rattle.msg_exec.specs.Building.{numbered_from}

@@ -50,6 +50,7 @@ pub fn read_sections(alloc: Global, value: &Value) -> Result<Scenario, Refusal>
 }
 
 /// The sections that a file needs, where its keys are known.
+#[tactic(auto, unfolding(crate::specs::ScenarioChecks::root_object))]
 fn needed(file: &Value) -> Result<Sections<'_>, Refusal>
     ensures found { IfOk result (λ n. (first_refusal (root_object (view file.now)) ≡ None)
         × (types_in (view file.now) ≡ view n.types.now)
@@ -83,6 +84,7 @@ impl Keys for FileKeys {
 }
 
 /// The types of the file, which stand there.
+#[tactic(auto, unfolding(crate::specs::ScenarioChecks::types_checks, crate::specs::ScenarioDenotes::types_of, crate::specs::ScenarioDenotes::type_names))]
 fn read_types(
     alloc: Global,
     names: &mut Declarations,
@@ -97,6 +99,7 @@ fn read_types(
     read_names(alloc, names, types, MAX_TYPES)
 }
 
+#[tactic(auto, unfolding(crate::specs::ScenarioChecks::resources_checks, crate::specs::ScenarioDenotes::resources_of, crate::specs::ScenarioDenotes::part_names))]
 fn read_resources(
     alloc: Global,
     names: &mut Declarations,
@@ -112,6 +115,7 @@ fn read_resources(
     }
 }
 
+#[tactic(auto, unfolding(crate::specs::ScenarioChecks::held_checks))]
 fn read_held(file: &Value) -> Result<bool, Refusal>
     ensures agrees { IsAnswer (held_checks (view file.now)) (as_bool (held_in (view file.now))) result }
 {
@@ -122,6 +126,7 @@ fn read_held(file: &Value) -> Result<bool, Refusal>
 }
 
 /// The systems of the file, which stand there.
+#[tactic(auto, unfolding(crate::specs::ScenarioChecks::systems_checks, crate::specs::ScenarioDenotes::systems_of, crate::specs::ScenarioDenotes::all_names))]
 fn read_systems(
     alloc: Global,
     names: &mut Declarations,
@@ -136,6 +141,7 @@ fn read_systems(
     read_names(alloc, names, systems, MAX_SYSTEMS)
 }
 
+#[tactic(auto, unfolding(crate::specs::ScenarioChecks::rules_checks, crate::specs::ScenarioDenotes::rules_of))]
 fn read_rules(alloc: Global, names: &Declarations, file: &Value) -> Result<Items<Rule>, Refusal>
     requires all { names.now ≡ all_names (view file.now) }
     ensures agrees { Agrees (rules_checks (view file.now)) (rules_of (view file.now)) result }
@@ -144,6 +150,7 @@ fn read_rules(alloc: Global, names: &Declarations, file: &Value) -> Result<Items
 }
 
 /// The frames of the file, which stand there.
+#[tactic(auto, unfolding(crate::specs::ScenarioChecks::frames_checks, crate::specs::ScenarioDenotes::frames_of))]
 fn read_frames(
     alloc: Global,
     names: &Declarations,

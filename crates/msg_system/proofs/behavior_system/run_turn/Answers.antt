@@ -1,7 +1,7 @@
-use Rattle.std.proofs.Common.{◌≡◌, ◌∷◌, [], ◌++◌, drop, length, arith, ap, sym, length-append, ◌∙◌}
+use Rattle.std.proofs.Common.{drop, length, arith, ap, sym, length-append, ◌∙◌}
 use Rattle.msg_system.specs.Needs.{needs_of, op_needs}
 use Rattle.msg_system.specs.OpRuns.{places_of}
-use Rattle.msg_system.specs.inner.TurnRuns.{AreAnswered, next_kept}
+use Rattle.msg_system.specs.inner.TurnRuns.{next_kept}
 use Rattle.msg_system.proofs.Deciding.{answered_more, appended, covers_kept, turn_full, turn_more, turn_over}
 use Rattle.msg_system.proofs.Runs.{covers_later, same_loan_trans}
 use Rattle.msg_system.proofs.Turns.{next_kept_to}

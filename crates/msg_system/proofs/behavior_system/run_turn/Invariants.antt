@@ -1,4 +1,4 @@
-use Rattle.std.proofs.Common.{◌≡◌, ℕ, List, length}
+use Rattle.std.proofs.Common.{◌≡◌, length}
 use Rattle.msg_world.specs.Loan.{LoanStands, SameLoan}
 use Rattle.msg_world.specs.World.{WorldState}
 use Rattle.msg_system.specs.Needs.{needs_of}

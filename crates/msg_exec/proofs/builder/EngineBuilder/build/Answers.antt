@@ -1,5 +1,4 @@
-use Rattle.std.proofs.Common.{◌≡◌, List, map, length, sym, ap, subst, ◌∙◌}
-use Rattle.msg_world.specs.World.{WorldState}
+use Rattle.std.proofs.Common.{List, map, length, subst}
 use Rattle.msg_order.specs.Graph.{IsAcyclic}
 use Rattle.msg_order.specs.Order.{NameSystemsBelow}
 use Rattle.msg_system.specs.Systems.{Meaning}

@@ -1,8 +1,8 @@
 use Rattle.std.proofs.Common.{length, refl, subst, sym}
+use Rattle.std.proofs.lemmas.Result.{IfOk-weaker}
 use Rattle.msg_frames.specs.FirstState.{all_rules}
 use Rattle.msg_order.specs.Graph.{IsAcyclic}
 use Rattle.msg_order.specs.Order.{NameSystemsBelow}
-use Rattle.msg_reading.proofs.Tested.{if_ok}
 use Rattle.msg_reading.proofs.scenario.Scenario.is_runnable.Goals as goal
 
 pub returns : goal.returns
@@ -14,7 +14,7 @@ returns c =
     let small = c.if-not-is_small.ensures.small.0 refl in
     let named = c.if-not-name_systems_below.ensures.named.0 refl in
     record {
-      runnable = if_ok c.are_acyclic.result _ _ (λ is acyclic. (
+      runnable = IfOk-weaker c.are_acyclic.result _ _ (λ is acyclic. (
         λ yes. record {
           few_types = small.0;
           few_resources = small.1;

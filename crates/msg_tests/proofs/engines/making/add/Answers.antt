@@ -1,4 +1,4 @@
-use Rattle.std.proofs.Common.{◌≡◌, [], ◌∷◌, length, sym, ap, subst, arith}
+use Rattle.std.proofs.Common.{[], ◌∷◌, length, sym, ap, subst, arith}
 use Rattle.std.proofs.lemmas.List.{length-append}
 use Rattle.msg_frames.specs.FirstState.{IsNew}
 use Rattle.msg_exec.specs.Building.{EachIs}

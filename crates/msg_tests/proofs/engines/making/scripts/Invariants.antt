@@ -1,4 +1,3 @@
-use Rattle.std.proofs.Common.{◌≡◌}
 use Rattle.msg_frames.specs.FirstState.{IsNew}
 use Rattle.msg_system.specs.contracts.scripted.ScriptedSystem.TheImpl.{meaning-value}
 use Rattle.msg_exec.specs.Building.{EachIs}

@@ -6,6 +6,15 @@ use Rattle.msg_reading.proofs.Files.{from_held, from_resources, from_rules, from
 use Rattle.msg_files.proofs.Steps.{also, goes_on, passed_on, stops}
 use Rattle.msg_reading.proofs.scenario.read.file.read_sections.Goals as goal
 
+pub returns-in_err-needed : goal.returns-in_err-needed
+returns-in_err-needed c =
+    let d = view c.args.value.now in
+    let refused = c.in_err-needed.ensures.refused in
+    record {
+      agrees = passed_on (scenario_checks d) (scenario_of d) c.in_err-needed.field-0.0 c.from_residual.result c.from_residual.ensures.1
+          (stops (root_object d) (from_types d) c.in_err-needed.field-0.0 (refused.0, λ m. refused.1));
+    }
+
 pub returns-in_err-types : goal.returns-in_err-types
 returns-in_err-types c =
     let d = view c.args.value.now in

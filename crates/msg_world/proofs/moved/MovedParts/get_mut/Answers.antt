@@ -1,0 +1,27 @@
+use Rattle.std.proofs.Common.{sym, subst, ◌∙◌, ap, Some, inr}
+use Rattle.std.specs.Prelude.{slice_set}
+use Rattle.msg_world.specs.inner.Moved.{IsFirstOf, NoneOf}
+use Rattle.msg_world.specs.inner.Slots.{at}
+use Rattle.msg_world.proofs.Placed.{at_none, first_part, its_slot, lends_alike, set_first}
+use Rattle.msg_world.proofs.moved.MovedParts.get_mut.Goals as goal
+
+pub returns-in_err-place : goal.returns-in_err-place
+returns-in_err-place g c =
+    let parts = c.self.inside.parts.items in
+    let none : NoneOf c.args.slot parts = subst (NoneOf c.args.slot) c.deref.ensures.value c.in_err-place.ensures.none in (
+      rw c.from_residual.ensures (ap inr c.self.view_is),
+      record { writes_back = tt; held = rw c.from_residual.ensures (sym (ap (λ xs. at xs c.args.slot) (sym c.self.view_is) ∙ at_none c.self.inside.slots c.args.slot parts none)) },
+    )
+
+pub returns-in-Some : goal.returns-in-Some
+returns-in-Some g c =
+    let parts = c.self.inside.parts.items in
+    let n = c.self.inside.slots in
+    let place = c.in_ok-place.place in
+    let first : IsFirstOf c.args.slot parts place = subst (λ ms. IsFirstOf c.args.slot ms place) c.deref.ensures.value c.in_ok-place.ensures.found in
+    let m = c.in-Some.moved.now in
+    let read = c.in-Some.ensures.item.1 in (
+      lends_alike _ _ _ (λ w. set_first n c.args.slot parts place (record { slot = m.slot; part = w }) first (its_slot c.args.slot parts place m first read)
+          ∙ ap (λ xs. slice_set xs c.args.slot (Some w)) c.self.view_is),
+      record { writes_back = tt; held = sym (ap (λ xs. at xs c.args.slot) (sym c.self.view_is) ∙ first_part n c.args.slot parts place m c.self.invariant first read) },
+    )

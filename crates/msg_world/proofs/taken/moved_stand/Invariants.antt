@@ -1,0 +1,8 @@
+use Rattle.std.proofs.Common.{ℕ, ◌<◌}
+use Rattle.msg_buffer.specs.History.{History}
+use Rattle.msg_world.specs.declared.record.Record.{Record}
+use Rattle.msg_world.specs.inner.Slots.{BufferStands, at}
+use Rattle.msg_world.proofs.taken.moved_stand.Given as goal
+
+abbrev pub invariant-loop-t : goal.invariant-loop-t
+invariant-loop-t l = (t : ℕ) → t < l.t → (h : History Record) × BufferStands (at l.types t) h
