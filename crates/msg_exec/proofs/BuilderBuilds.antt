@@ -5,7 +5,7 @@ use Rattle.std.proofs.lemmas.Bool.{false≢true}
 use Rattle.std.proofs.lemmas.List.{get_or-map, length-map}
 use Rattle.std.proofs.lemmas.List.Elements.{All-get_or}
 use Rattle.std.proofs.lemmas.Option.{get_or_from_slice_get, same_Some, slice_get_within}
-use Rattle.msg_world.specs.Access.{OfResource, OfType, Part, Registry, writes}
+use Rattle.msg_world.specs.Access.{OfResource, OfType, Part, Registry}
 use Rattle.msg_world.specs.Parts.{Has, Parts, slot}
 use Rattle.msg_order.specs.declared.rule.Rule.{Rule}
 use Rattle.msg_order.specs.Graph.{IsLowestOnCycle}

@@ -1,7 +1,7 @@
 // A frame's turns, batch by batch.
-ghost use Rattle.std.specs.Prelude.{◌≡◌, ◌≢◌, ◌<◌, ◌≤◌, ◌++◌, ◌∷◌, [], All, AllPairs, IfOk, OnOk, length, map};
+ghost use Rattle.std.specs.Prelude.{◌≡◌, ◌≢◌, ◌<◌, ◌≤◌, ◌++◌, All, AllPairs, IfOk, OnOk, length, map};
 ghost use Rattle.std.specs.List.{concat};
-ghost use Rattle.msg_frames.specs.Frames.{after_turns_of, State, after_turn_of, logged};
+ghost use Rattle.msg_frames.specs.Frames.{after_turns_of, State};
 ghost use Rattle.msg_order.specs.Plan.{NoneConflict};
 ghost use Rattle.msg_exec.specs.Lender.{LenderStands};
 ghost use Rattle.msg_exec.specs.inner.Lending.{AreOut};
@@ -66,30 +66,31 @@ fn run_many<R: Threads + Sync, S: System, G: Gate>(
     Ok(())
 }
 
-/// Runs the turn of a system that is alone in its batch, in place, and appends it.
-fn run_alone<S: System, G: Gate>(
+/// Runs the turns of these systems one after the other, in place and as worker 0, and appends them.
+pub(crate) fn run_turns<S: System, G: Gate>(
     alloc: Global,
     lender: &mut Lender<S>,
-    system: u32,
-    workers: Workers,
+    systems: &[u32],
     gate: &G,
     turns: &mut Vec<Turn>,
 ) -> Result<(), NoMemory>
-    requires stands { (s : State) × (LenderStands S.meaning lender.old s × (system < s.systems)) }
+    requires stands { (s : State) × (LenderStands S.meaning lender.old s × All (λ i. i < s.systems) systems.now) }
     ensures state { OnOk result ((s : State) → LenderStands S.meaning lender.old s
-        → LenderStands S.meaning lender.new (after_turn_of system s)) }
+        → LenderStands S.meaning lender.new (after_turns_of systems.now s).state) }
     ensures turns { OnOk result ((s : State) → LenderStands S.meaning lender.old s
-        → turns.new.items ≡ turns.old.items ++ logged s system ∷ []) }
+        → turns.new.items ≡ turns.old.items ++ (after_turns_of systems.now s).turns) }
     ensures accesses { OnOk result (lender.new.accesses.items ≡ lender.old.accesses.items) }
-    ensures gate_passed { OnOk result (EachPassedGate (G.passed gate.now) workers (system ∷ [])) }
+    ensures gate_passed { OnOk result (All (G.passed gate.now 0) systems.now) }
 {
-    workers.number();
-    gate.pass(0, system);
-    turns.push(run_turn(alloc, lender, system)?)?;
+    for &system in systems {
+        gate.pass(0, system);
+        turns.push(run_turn(alloc, lender, system)?)?;
+    }
     Ok(())
 }
 
-/// Runs the jobs of one batch, and appends their turns, by order of addition.
+/// Runs the jobs of one batch, and appends their turns, by order of addition: in place where one
+/// worker runs them all, or there is one.
 fn run_batch<R: Threads + Sync, S: System, G: Gate>(
     rt: &R,
     alloc: Global,
@@ -110,10 +111,10 @@ fn run_batch<R: Threads + Sync, S: System, G: Gate>(
     ensures accesses { OnOk result (lender.new.accesses.items ≡ lender.old.accesses.items) }
     ensures gate_passed { OnOk result (EachPassedGate (G.passed gate.now) workers batch.now) }
 {
-    match batch {
-        [system] => run_alone(alloc, lender, *system, workers, gate, turns),
-        _ => run_many(rt, alloc, lender, batch, workers, gate, turns),
+    if workers.number() == 1 || batch.len() == 1 {
+        return run_turns(alloc, lender, batch, gate, turns);
     }
+    run_many(rt, alloc, lender, batch, workers, gate, turns)
 }
 
 /// Runs the batches one after the other.

@@ -1,15 +1,14 @@
 // One frame in a given order, on the calling thread.
-ghost use Rattle.std.specs.Prelude.{◌≡◌, ◌<◌, ◌↔◌, All, IfOk, IsTrue, OnOk, length};
+ghost use Rattle.std.specs.Prelude.{◌≡◌, ◌<◌, ◌↔◌, All, IfOk, IsTrue, length};
 ghost use Rattle.msg_frames.specs.declared.frame.Frame.{Frame as FrameView};
 ghost use Rattle.msg_exec.specs.Cores.{CoreStands, frame_count};
 ghost use Rattle.msg_exec.specs.inner.FrameSteps.{HasLeft};
-ghost use Rattle.msg_frames.specs.Frames.{after_turns_of, State};
+ghost use Rattle.msg_frames.specs.Frames.{State};
 ghost use Rattle.msg_frames.specs.Replays.{IsLawfulFor, IsReplay};
-ghost use Rattle.msg_exec.specs.Lender.{LenderStands};
 
+use crate::batch::run_turns;
 use crate::engine_core::{Core, next_plan, open};
-use crate::lender::{Lender, run_turn};
-use crate::{Frame, Items, Log, NoMemory, Turn};
+use crate::{Frame, Items, Log, NoGate, NoMemory};
 use msg_frames::laws::{frames_agree_in_lawful_orders, systems_have_one_order};
 use msg_frames::reader_laws::states_stay_sound;
 use msg_system::System;
@@ -34,26 +33,6 @@ pub(crate) fn accepts_next<S: System>(
     }
 }
 
-/// Runs the turns of these systems one after the other.
-fn run_turns<S: System>(
-    alloc: Global,
-    lender: &mut Lender<S>,
-    order: &[u32],
-) -> Result<Vec<Turn>, NoMemory>
-    requires stands { (s : State) × (LenderStands S.meaning lender.old s × All (λ i. i < s.systems) order.now) }
-    ensures state { IfOk result (λ turns. (s : State) → LenderStands S.meaning lender.old s
-        → LenderStands S.meaning lender.new (after_turns_of order.now s).state) }
-    ensures turns { IfOk result (λ turns. (s : State) → LenderStands S.meaning lender.old s
-        → turns.items ≡ (after_turns_of order.now s).turns) }
-    ensures accesses { OnOk result (lender.new.accesses.items ≡ lender.old.accesses.items) }
-{
-    let mut turns = Vec::with_capacity(alloc, order.len())?;
-    for &system in order {
-        turns.push(run_turn(alloc, lender, system)?)?;
-    }
-    Ok(turns)
-}
-
 /// Runs one frame in an order that is lawful for it, where so many were run before it.
 pub(crate) fn replay_one<S: System>(
     alloc: Global,
@@ -72,7 +51,8 @@ pub(crate) fn replay_one<S: System>(
     states_stay_sound();
     frames_agree_in_lawful_orders();
     let (mut core, posts) = open(alloc, core, frames, frame)?;
-    let turns = run_turns(alloc, &mut core.lender, order)?;
+    let mut turns = Vec::with_capacity(alloc, order.len())?;
+    run_turns(alloc, &mut core.lender, order, &NoGate, &mut turns)?;
     let log = Log {
         posts: Items::from_vec(posts),
         turns: Items::from_vec(turns),

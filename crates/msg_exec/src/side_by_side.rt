@@ -4,7 +4,7 @@ ghost use Rattle.msg_exec.specs.Jobs.{IsResult, MayRun};
 ghost use Rattle.msg_exec.specs.inner.Batches.{AreDone};
 ghost use Rattle.msg_exec.specs.Work.{EachMay, PassedGate};
 
-use crate::job::{Done, GuardedSystem, Job, run_job};
+use crate::job::{Done, GuardedSystem, Job};
 use crate::run_workers::run_jobs;
 use crate::runs::Runs;
 use crate::{Gate, Items, NoMemory, Outcome, Workers};
@@ -115,35 +115,8 @@ fn all_done<S: System>(
     Ok(all)
 }
 
-/// Runs the jobs one after the other, as worker 0. Where memory is refused to one, the others are
-/// still run.
-fn run_in_turn<S: System, G: Gate>(
-    alloc: Global,
-    world: &World,
-    gate: &G,
-    jobs: Vec<Job<S>>,
-) -> Result<Vec<Done<S>>, NoMemory>
-    requires may { EachMay (MayRun S.meaning world.now) jobs.items }
-    ensures done { IfOk result (λ done. AreDone S.meaning world.now jobs.items done.items) }
-    ensures gate_passed { OnOk result (All (λ job. G.passed gate.now 0 job.number) jobs.items) }
-{
-    let mut all = Vec::with_capacity(alloc, jobs.len())?;
-    let mut refused = false;
-    for job in jobs {
-        gate.pass(0, job.number);
-        match run_job(alloc, world, job) {
-            Ok(done) => all.push(done)?,
-            Err(NoMemory) => refused = true,
-        }
-    }
-    if refused {
-        return Err(NoMemory);
-    }
-    Ok(all)
-}
-
-/// Runs the jobs on the world that they were lent from: one worker runs them in turn, and more draw
-/// them from a board. Where memory is refused to one, the others are still run.
+/// Runs the jobs on the world that they were lent from, over workers that draw them from a board.
+/// Where memory is refused to one, the others are still run.
 pub(crate) fn run_side_by_side<R: Threads + Sync, S: System, G: Gate>(
     rt: &R,
     alloc: Global,
@@ -159,9 +132,6 @@ pub(crate) fn run_side_by_side<R: Threads + Sync, S: System, G: Gate>(
         (All (λ job. PassedGate (G.passed gate.now) (min workers (length jobs.items)) job.number)
         jobs.items) }
 {
-    if workers.number() == 1 {
-        return run_in_turn(alloc, world, gate, jobs);
-    }
     let jobs = with_world(alloc, world, jobs)?;
     let results = run_jobs::<R, Batch<S>, G>(rt, alloc, gate, workers, jobs)?;
     all_done(alloc, results)

@@ -1,4 +1,4 @@
-use Rattle.std.proofs.Common.{◌≡◌, ◌∙◌, length, min, ap, sym, subst, arith}
+use Rattle.std.proofs.Common.{◌≡◌, ◌∙◌, length, min, ap, sym, subst}
 use Rattle.std.proofs.lemmas.List.{length-map}
 use Rattle.std.proofs.lemmas.Result.{IfOk-weaker}
 use Rattle.std.specs.Prelude.{All}
@@ -12,11 +12,6 @@ use Rattle.msg_exec.proofs.side_by_side.run_side_by_side.Goals as goal
 pub run_jobs-requires-clause-may : goal.run_jobs-requires-clause-may
 run_jobs-requires-clause-may g c κs within =
     each_may (MayRun g.S.System.meaning) (λ b. b.job) (λ b. b.world.now) c.args.world.now _ c.args.jobs.items c.in_ok-jobs.ensures.jobs c.in_ok-jobs.ensures.world c.requires.may
-
-pub returns-then-number-eq1-clause-gate_passed : goal.returns-then-number-eq1-clause-gate_passed
-returns-then-number-eq1-clause-gate_passed g c = IfOk-weaker c.run_in_turn.result _ _
-    (λ done all k d lt. (0, omega (arith, c.number.ensures.number, c.number.ensures.some, lt), all k d lt))
-    c.run_in_turn.ensures.gate_passed
 
 pub returns : goal.returns
 returns g c = record {

@@ -1,12 +1,14 @@
-use Rattle.std.proofs.Common.{◌≡◌, take, []}
+use Rattle.std.proofs.Common.{◌≡◌, take}
+use Rattle.std.specs.Prelude.{All}
 use Rattle.msg_exec.specs.Lender.{LenderStands}
 use Rattle.msg_frames.specs.Frames.{State}
 use Rattle.msg_exec.proofs.BatchAfterBatch.{HasTurned}
-use Rattle.msg_exec.proofs.replay.run_turns.Given as goal
+use Rattle.msg_exec.proofs.batch.run_turns.Given as goal
 
 abbrev pub invariant-loop-system : goal.invariant-loop-system
 invariant-loop-system g l = record {
   turned : (s : State) → LenderStands g.S.System.meaning l.initial.lender s
-      → HasTurned g.S.System.meaning (take l.system-index l.order) s l.lender [] l.turns.items;
+      → HasTurned g.S.System.meaning (take l.system-index l.systems) s l.lender l.initial.turns.items l.turns.items;
   accesses : l.lender.accesses.items ≡ l.initial.lender.accesses.items;
+  passed : All (g.G.Gate.passed l.gate 0) (take l.system-index l.systems);
 }
