@@ -1,5 +1,5 @@
 -- A turn is a batch of one system.
-use Rattle.std.proofs.Common.{◌≡◌, ◌≢◌, ℕ, ◌<◌, List, [], ◌∷◌, length, get_or, refl, ap, arith}
+use Rattle.std.proofs.Common.{◌≡◌, ◌≢◌, ℕ, ◌<◌, [], ◌∷◌, get_or, refl, ap, arith}
 use Rattle.std.specs.Prelude.{All, AllPairs}
 use Rattle.std.proofs.lemmas.List.Elements.{All-cons}
 use Rattle.msg_world.specs.Access.{Conflict}
@@ -19,12 +19,6 @@ use Rattle.msg_frames.specs.TurnLaws.{BatchesRunSideBySide}
 use Rattle.msg_exec.proofs.BatchComesHome.{ComingHome, MayCome, all_came, begin_home, next_comes, next_may_come}
 use Rattle.msg_exec.proofs.BatchGoesOut.{MayGo, all_may_run, may_go, none_out, one_more_out}
 use Rattle.msg_order.proofs.Elements.{not_in_none}
-
--- a list that has one number
-pub only_one : (batch : List ℕ) (d : ℕ) → length batch ≡ 1 → batch ≡ get_or batch 0 d ∷ []
-only_one [] d one = absurd (omega (arith, one))
-only_one (i ∷ []) d one = refl
-only_one (i ∷ k ∷ batch) d one = absurd (omega (arith, one))
 
 no_pairs : (R : ℕ → ℕ → Type 0) (i : ℕ) → AllPairs R (i ∷ [])
 no_pairs R i = λ a b d lt l. absurd (omega arith)

@@ -1,6 +1,6 @@
 -- What workers draw from the board, and that a worker passed the gate for each job, with its own number.
 use Rattle.std.proofs.Common.{◌≡◌, ℕ, zero, suc, ◌+◌, ◌<◌, ◌≤◌, ◌==◌, cond, inl, inr, List, [], ◌∷◌, ◌++◌, length, map, min, get_or, Some, Result, Ok, Err, refl, ap, sym, subst, ◌∙◌, arith, slice_index_or}
-use Rattle.std.specs.Prelude.{All, Contains, IfOk, slice_get, slice_set}
+use Rattle.std.specs.Prelude.{All, Contains, IfOk, slice_get}
 use Rattle.std.specs.List.{AllZip, range_with_len}
 use Rattle.std.specs.Option.{unwrap_or}
 use Rattle.std.proofs.lemmas.Bool.{cases_Bool, eqb-true, cases_lt}
@@ -137,21 +137,6 @@ pub one_pass_more : {P : Type 0} (workers more : List (Worker P)) (worker : Work
     → map (λ (w : Worker P). w.pass) workers ≡ passes → map (λ (w : Worker P). w.pass) more ≡ passes ++ worker.pass ∷ []
 one_pass_more {P} workers more worker passes is same =
     ap (map (λ (w : Worker P). w.pass)) is ∙ map-append (λ (w : Worker P). w.pass) workers (worker ∷ []) ∙ ap (λ ps. ps ++ worker.pass ∷ []) same
-
--- a single pass is that of worker 0
-module _ {J : Type 0} where
-  pub only_worker : (b : BoardView J) (Such : ℕ → J → Type 0) (jobs : List J) (passes : List (PassState J)) (old new : PassState J) → length passes ≡ 1 → All (IsNew b) passes
-      → old ≡ get_or passes 0 old → EachNewIs (Such 0) jobs old.drawn new.drawn → EachByItsWorker Such jobs (slice_set passes 0 new)
-  only_worker b Such jobs [] old new one fresh was told = absurd (omega (arith, one))
-  only_worker b Such jobs (q ∷ (r ∷ rs)) old new one fresh was told = absurd (omega (arith, one))
-  only_worker b Such jobs (q ∷ []) old new one fresh was told = by_it
-    where
-      by_it : EachByItsWorker Such jobs (new ∷ [])
-      by_it zero p at =
-          let is : new ≡ p = ap (λ o. unwrap_or o p) at in
-          let none : old.drawn ≡ [] = ap (λ (x : PassState J). x.drawn) was ∙ (fresh 0 q (omega arith)).drawn in
-          subst (λ (x : PassState J). EachNewIs (Such 0) jobs [] x.drawn) is (subst (λ ns. EachNewIs (Such 0) jobs ns new.drawn) none told)
-      by_it (suc k) p at = let lt = slice_get_within (new ∷ []) (suc k) p at in absurd (omega (arith, lt))
 
 -- ---- system by system
 

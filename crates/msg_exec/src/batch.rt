@@ -90,7 +90,7 @@ pub(crate) fn run_turns<S: System, G: Gate>(
 }
 
 /// Runs the jobs of one batch, and appends their turns, by order of addition: in place where one
-/// worker runs them all, or there is one.
+/// worker runs them all, or there is at most one.
 fn run_batch<R: Threads + Sync, S: System, G: Gate>(
     rt: &R,
     alloc: Global,
@@ -111,7 +111,7 @@ fn run_batch<R: Threads + Sync, S: System, G: Gate>(
     ensures accesses { OnOk result (lender.new.accesses.items ≡ lender.old.accesses.items) }
     ensures gate_passed { OnOk result (EachPassedGate (G.passed gate.now) workers batch.now) }
 {
-    if workers.number() == 1 || batch.len() == 1 {
+    if workers.number() == 1 || batch.len() <= 1 {
         return run_turns(alloc, lender, batch, gate, turns);
     }
     run_many(rt, alloc, lender, batch, workers, gate, turns)

@@ -81,13 +81,13 @@ fn work_in_threads<R: Threads + Sync, W: Runs + Send, G: Gate>(
     thread::map_vec(rt, workers, &each)
 }
 
-/// A worker for each pass. A single one starts no thread.
+/// A worker for each pass.
 fn work_all<R: Threads + Sync, W: Runs + Send, G: Gate>(
     rt: &R,
     alloc: Global,
     board: &Board<W>,
     gate: &G,
-    mut passes: Vec<Pass<W::Job, W::Done>>,
+    passes: Vec<Pass<W::Job, W::Done>>,
 ) -> Result<Vec<Pass<W::Job, W::Done>>, NoMemory>
     requires few { length passes.items ≤ 64 }
     requires new { All (IsNew board.now) passes.items }
@@ -98,10 +98,6 @@ fn work_all<R: Threads + Sync, W: Runs + Send, G: Gate>(
         EachByItsWorker (λ worker job. G.passed gate.now worker (W.system_of job))
         (jobs_of board.now) ended.items) }
 {
-    if passes.len() == 1 {
-        work(alloc, board, &mut passes[0], 0, gate);
-        return Ok(passes);
-    }
     let workers = workers_for(alloc, passes)?;
     work_in_threads(rt, alloc, board, gate, workers)
 }

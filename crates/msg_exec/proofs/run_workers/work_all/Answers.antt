@@ -1,17 +1,12 @@
-use Rattle.std.proofs.Common.{arith, length}
+use Rattle.std.proofs.Common.{length}
 use Rattle.std.proofs.lemmas.Result.{IfOk-weaker}
 use Rattle.msg_board.specs.Board.{IsIdle, jobs_of}
-use Rattle.msg_exec.proofs.WorkersDraw.{all_have, both_if_ok, by_number, only_worker}
+use Rattle.msg_exec.proofs.WorkersDraw.{all_have, both_if_ok, by_number}
 use Rattle.msg_exec.proofs.run_workers.work_all.Goals as goal
 
 pub work_in_threads-requires-clause-idle : goal.work_in_threads-requires-clause-idle
 work_in_threads-requires-clause-idle g c κs within =
     all_have (IsIdle c.args.board.now) _ _ c.in_ok-workers.ensures.passes (λ k d lt. let new = c.requires.new k d lt in record { own = new.own; holding = new.holding })
-
-pub returns-then-len-eq1-clause-gate_passed : goal.returns-then-len-eq1-clause-gate_passed
-returns-then-len-eq1-clause-gate_passed g c =
-    only_worker c.args.board.now (λ worker job. g.G.Gate.passed c.args.gate.now worker (g.W.Runs.system_of job)) (jobs_of c.args.board.now) c.args.passes.items
-    c.index_mut.result.now c.work.new.pass (omega (arith, c.if-len-eq1.true, c.len.ensures)) c.requires.new c.index_mut.ensures.value c.work.ensures.gate_passed
 
 pub returns-clause-gate_passed : goal.returns-clause-gate_passed
 returns-clause-gate_passed g c = IfOk-weaker c.work_in_threads.result _ _
