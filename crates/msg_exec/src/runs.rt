@@ -1,7 +1,9 @@
 // What a worker does: it draws jobs from a board, runs them, and hands in what they gave.
-ghost use Rattle.std.specs.Prelude.{◌≡◌, ℕ};
-ghost use Rattle.msg_board.specs.Board.{HasEnded, IsIdle, jobs_of};
+ghost use Rattle.std.specs.Prelude.{◌≡◌, ℕ, Some, slice_get};
+ghost use Rattle.msg_board.specs.Board.{HasEnded, IsIdle, IsOf, jobs_of};
+ghost use Rattle.msg_board.specs.Pass.{HandedIn};
 ghost use Rattle.msg_exec.specs.Work.{EachMay, EachNewIs};
+ghost use Rattle.msg_exec.specs.inner.Batches.{HasWorked, IsFirstDraw};
 
 use crate::Gate;
 use msg_board::{Board, Pass, Work};
@@ -24,6 +26,28 @@ pub trait Runs: Work {
         ensures lawful { Self.lawful job result };
 }
 
+/// Runs the job that the pass holds, once the gate is passed, and hands in what it gave.
+fn run_drawn<W: Runs, G: Gate>(
+    alloc: Global,
+    board: &Board<W>,
+    pass: &mut Pass<W::Job, W::Done>,
+    k: usize,
+    job: W::Job,
+    worker: u32,
+    gate: &G,
+)
+    requires own { IsOf board.now pass.old }
+    requires holds { pass.old.holding ≡ Some k }
+    requires there { slice_get (jobs_of board.now) k ≡ Some job }
+    requires may { W.may job }
+    ensures own { IsOf board.now pass.new }
+    ensures handed_in { HandedIn pass.old pass.new k }
+    ensures gate_passed { G.passed gate.now worker (W.system_of job) }
+{
+    gate.pass(worker, W::number(&job));
+    board.hand_in(pass, k, W::run(alloc, job));
+}
+
 /// One worker's part of the jobs: it draws them until there is none left.
 pub fn work<W: Runs, G: Gate>(
     alloc: Global,
@@ -35,11 +59,30 @@ pub fn work<W: Runs, G: Gate>(
     requires idle { IsIdle board.now pass.old }
     requires may { EachMay W.may (jobs_of board.now) }
     ensures ended { HasEnded board.now pass.new }
-    ensures gate_passed { EachNewIs (λ job. G.passed gate.now worker (W.system_of job)) (jobs_of board.now)
-        pass.old.drawn pass.new.drawn }
+    ensures gate_passed { EachNewIs (λ job. G.passed gate.now worker (W.system_of job))
+        (jobs_of board.now) pass.old.drawn pass.new.drawn }
 {
     while let Some((k, job)) = board.draw(pass) {
-        gate.pass(worker, W::number(&job));
-        board.hand_in(pass, k, W::run(alloc, job));
+        run_drawn(alloc, board, pass, k, job, worker, gate);
+    }
+}
+
+/// The part of a worker from what it drew first: it runs that job, and draws on.
+pub(crate) fn work_on<W: Runs, G: Gate>(
+    alloc: Global,
+    board: &Board<W>,
+    gate: &G,
+    worker: u32,
+    first: Option<(usize, W::Job)>,
+    pass: &mut Pass<W::Job, W::Done>,
+)
+    requires first { IsFirstDraw board.now pass.old first }
+    requires may { EachMay W.may (jobs_of board.now) }
+    ensures worked { HasWorked board.now (λ job. G.passed gate.now worker (W.system_of job))
+        pass.new }
+{
+    if let Some((number, job)) = first {
+        run_drawn(alloc, board, pass, number, job, worker, gate);
+        work(alloc, board, pass, worker, gate);
     }
 }

@@ -1,11 +1,11 @@
 -- What holds of the jobs of a batch.
-use Rattle.std.specs.Prelude.{◌≡◌, List}
+use Rattle.std.specs.Prelude.{◌≡◌, ◌+◌, ℕ, All, List, ◌∷◌, [], Option, Some, None, slice_get}
 use Rattle.std.specs.List.{AllZip}
 use Rattle.msg_world.specs.Parts.{Parts}
 use Rattle.msg_system.specs.Systems.{Meaning}
 use Rattle.msg_exec.specs.declared.job.Job.{Job}
 use Rattle.msg_exec.specs.declared.job.Done.{Done}
-use Rattle.std.specs.Prelude.{◌≡◌, ℕ, List, [], Some, slice_get}
+use Rattle.msg_board.specs.Board.{BoardView, HasEnded, IsOf, jobs_of}
 use Rattle.msg_board.specs.Pass.{PassState}
 use Rattle.msg_exec.specs.Jobs.{IsDone}
 use Rattle.msg_exec.specs.Work.{EachNewIs}
@@ -16,7 +16,27 @@ module _ {S : Type 0} (meaning : S → Meaning) where
   AreDone world jobs done = AllZip (IsDone meaning world) jobs done
 
 module _ {J : Type 0} where
-  -- Pass k is that of worker k: what each number that it drew says of a job is so of that worker.
-  abbrev pub EachByItsWorker : (ℕ → J → Type 0) → List J → List (PassState J) → Type 0
-  EachByItsWorker Such jobs passes = (k : ℕ) (p : PassState J) → slice_get passes k ≡ Some p
-      → EachNewIs (Such k) jobs [] p.drawn
+  -- The pass was new and drew this job, which it holds.
+  pub record HasFirst (b : BoardView J) (p : PassState J) (k : ℕ) (job : J) : Type 0 where
+    pub own : IsOf b p
+    pub holding : p.holding ≡ Some k
+    pub drawn : p.drawn ≡ k ∷ []
+    pub there : slice_get (jobs_of b) k ≡ Some job
+
+  -- The pass was new, and this is what it drew first: a job, or nothing, and so it has ended.
+  abbrev pub IsFirstDraw : BoardView J → PassState J → Option (ℕ × J) → Type 0
+  IsFirstDraw b p None = HasEnded b p × (p.drawn ≡ [])
+  IsFirstDraw b p (Some r) = HasFirst b p r.0 r.1
+
+  -- The pass was new and has ended, and of each job that it drew this is so.
+  pub record HasWorked (b : BoardView J) (Such : J → Type 0) (p : PassState J) : Type 0 where
+    pub ended : HasEnded b p
+    pub each : EachNewIs Such (jobs_of b) [] p.drawn
+
+  -- The passes were new and have ended. They go to the workers by number, from this one on: of each
+  -- job that a pass drew this is so for its worker.
+  pub record HaveWorked (b : BoardView J) (Such : ℕ → J → Type 0) (first : ℕ)
+      (passes : List (PassState J)) : Type 0 where
+    pub ended : All (HasEnded b) passes
+    pub each : (k : ℕ) (p : PassState J) → slice_get passes k ≡ Some p
+        → EachNewIs (Such (first + k)) (jobs_of b) [] p.drawn

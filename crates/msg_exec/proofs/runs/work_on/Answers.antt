@@ -1,0 +1,19 @@
+use Rattle.std.proofs.Common.{[], sym, subst, ◌∙◌, inl}
+use Rattle.msg_board.specs.Board.{jobs_of}
+use Rattle.msg_exec.specs.Work.{EachNewIs}
+use Rattle.msg_exec.specs.inner.Batches.{IsFirstDraw}
+use Rattle.msg_exec.proofs.WorkersDraw.{and_then, one_more}
+use Rattle.msg_exec.proofs.runs.work_on.Goals as goal
+
+-- src/runs.rt:71:1
+pub returns-in-Some : goal.returns-in-Some
+returns-in-Some g c =
+    let J : Type 0 = g.row.W-Job.Denot in
+    let told : J → Type 0 = λ job. g.G.Gate.passed c.args.gate.now c.args.worker (g.W.Runs.system_of job) in
+    let jobs = jobs_of c.args.board.now in
+    let first = subst (IsFirstDraw c.args.board.now c.args.pass.now) c.in-Some.is c.requires.first in
+    let one = one_more told jobs [] [] c.in-Some.number c.in-Some.job (λ k drew. inl drew) first.there
+    c.run_drawn.ensures.gate_passed in
+    let its = subst (EachNewIs told jobs []) (sym (c.run_drawn.ensures.handed_in.drawn ∙ first.drawn)) one in
+    let each = and_then told jobs [] c.run_drawn.new.pass.drawn c.work.new.pass.drawn its c.work.ensures.gate_passed in
+    record { worked = record { ended = c.work.ensures.ended; each = each } }
