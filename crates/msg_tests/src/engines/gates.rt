@@ -73,6 +73,54 @@ impl Gate for HoldGate {
     }
 }
 
+/// Holds each call until all of four workers came.
+#[derive(Drop)]
+pub struct RollCall {
+    came: [AtomicU64; 4],
+    limits_met: AtomicU64,
+}
+
+impl RollCall {
+    pub fn new() -> RollCall {
+        let none = || AtomicU64::new(0);
+        RollCall {
+            came: [none(), none(), none(), none()],
+            limits_met: AtomicU64::new(0),
+        }
+    }
+
+    /// Each worker came once, and each that was held saw all.
+    pub fn expect_all(&self, rt: &impl Abort) {
+        for calls in &self.came {
+            assert_eq!(rt; calls.load(Ordering::SeqCst), 1);
+        }
+        assert_eq!(rt; self.limits_met.load(Ordering::SeqCst), 0);
+    }
+
+    fn all_came(&self) -> bool {
+        for calls in &self.came {
+            if calls.load(Ordering::SeqCst) == 0 {
+                return false;
+            }
+        }
+        true
+    }
+}
+
+impl Gate for RollCall {
+    fn pass(&self, worker: u32, _system: u32) {
+        if worker < 4 {
+            self.came[worker as usize].fetch_add(1, Ordering::SeqCst);
+            for _ in 0..50_000_000u64 {
+                if self.all_came() {
+                    return;
+                }
+            }
+        }
+        self.limits_met.fetch_add(1, Ordering::SeqCst);
+    }
+}
+
 /// Sees whether worker 0 alone is called, and for 0, 1, 2 and so on.
 #[derive(Drop)]
 pub struct OneByOne {

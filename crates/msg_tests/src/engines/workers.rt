@@ -3,7 +3,7 @@ ghost use Rattle.std.specs.Prelude.{IfOk};
 ghost use Rattle.msg_exec.specs.Engines.{IsEngine};
 
 use super::expecting::{expect_log, posted, read};
-use super::gates::HoldGate;
+use super::gates::{HoldGate, RollCall};
 use super::making::{add, engine_of, frame_of, places, quiet, run_frame, script, start};
 use super::prefaced::{Before, Prefaced};
 use super::spoiled::expect_spoiled;
@@ -88,6 +88,31 @@ fn two_workers(rt: HostRuntime) -> Result<(), Fail> {
     let log = run_frame(&rt, &mut engine, &frame_of(alloc, &[(t, 4)])?, 2, &NoGate)?;
     let four = [posted(4)];
     expect_log(&rt, &log, &[1], &[read(0, 1, &four), read(1, 1, &four)]);
+    Ok(())
+}
+
+/// Four readers on four workers: each job is held until all four workers have passed.
+#[test]
+fn four_workers(rt: HostRuntime) -> Result<(), Fail> {
+    let (alloc, t) = (rt.alloc(), type_no(&rt, 0));
+    let ops = [
+        Op::Read(t, None),
+        Op::Read(t, None),
+        Op::Read(t, None),
+        Op::Read(t, None),
+    ];
+    let mut engine = engine_of(&rt, alloc, &[10], &ops, &[])??;
+    let gate = RollCall::new();
+    let log = run_frame(&rt, &mut engine, &frame_of(alloc, &[(t, 3)])?, 4, &gate)?;
+    gate.expect_all(&rt);
+    let three = [posted(3)];
+    let all = [
+        read(0, 0, &three),
+        read(1, 0, &three),
+        read(2, 0, &three),
+        read(3, 0, &three),
+    ];
+    expect_log(&rt, &log, &[0], &all);
     Ok(())
 }
 
