@@ -84,6 +84,7 @@ impl System for Scripted {
     fn run(&mut self, alloc: Global, lent: Lent, out: &mut Vec<Reply>) -> Result<Taken, NoMemory> {
         let mut lent = lent;
         let ops = self.program.ops.as_slice();
+        out.reserve_exact(ops.len())?;
         run_ops(alloc, ops, self.writer, &mut self.cursors, &mut lent, out)?;
         Ok(lent.into_taken())
     }
