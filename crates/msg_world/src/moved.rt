@@ -7,7 +7,7 @@ ghost use Rattle.msg_world.specs.inner.Moved.{AreSlotsBelow, IsFirstOf, NoneOf, 
 ghost use Rattle.msg_world.specs.inner.Slots.{at};
 
 use crate::masks;
-use std::alloc::{AllocError, Global};
+use std::alloc::AllocError;
 use std::marker::Model;
 
 /// A part that was moved out of a slot.
@@ -50,12 +50,15 @@ fn place_of<T>(parts: &[Moved<T>], slot: usize) -> Option<usize>
     None
 }
 
-/// Room for what the slots of a mask hold.
-pub(crate) fn room_for<T: Drop>(alloc: Global, mask: u64) -> Result<Vec<Moved<T>>, AllocError>
+/// Room for what the slots of a mask hold, in the memory of a list that came home.
+pub(crate) fn room_in<T: Drop>(spare: Vec<Moved<T>>, mask: u64) -> Result<Vec<Moved<T>>, AllocError>
     ensures empty { IfOk result (λ room. room.items ≡ []) }
     ensures room { IfOk result (λ room. count_ones mask ≤ vec_capacity room) }
 {
-    Vec::with_capacity(alloc, mask.count_ones() as usize)
+    let mut room = spare;
+    room.clear();
+    room.reserve_exact(mask.count_ones() as usize)?;
+    Ok(room)
 }
 
 /// Moves what a slot holds, if anything, behind the parts.
@@ -143,8 +146,8 @@ fn put_home<T: Drop>(home: &mut Vec<Option<T>>, slot: usize, part: T)
     home[slot] = Some(part);
 }
 
-/// Moves all parts home.
-pub(crate) fn move_home<T: Drop>(moved: MovedParts<T>, home: &mut Vec<Option<T>>)
+/// Moves all parts home. Gives the list that they were in, for the next ones.
+pub(crate) fn move_home<T: Drop>(moved: MovedParts<T>, home: &mut Vec<Option<T>>) -> Vec<Moved<T>>
     requires as_many { length moved ≡ vec_len home.old }
     ensures joined { (k : ℕ)
         → at home.new.items k ≡ option_or (at moved k) (at home.old.items k) }
@@ -157,4 +160,5 @@ pub(crate) fn move_home<T: Drop>(moved: MovedParts<T>, home: &mut Vec<Option<T>>
     while let Some(Moved { slot, part }) = parts.pop() {
         put_home(home, slot, part);
     }
+    parts
 }

@@ -11,6 +11,7 @@ ghost use Rattle.msg_world.specs.World.{WorldState, by, held, new_world, updated
 use crate::access::Access;
 use crate::counts::Counts;
 use crate::marks::Marks;
+use crate::moved::Moved;
 use crate::record::{HOST, Record};
 use crate::slots::{have_each, slot_ref};
 use crate::taken::Taken;
@@ -18,6 +19,7 @@ use crate::{ResNo, TypeNo, masks, moved};
 use msg_buffer::{MessageId, Messages, NoMemory, WriteRefusal};
 use std::alloc::Global;
 use std::marker::Model;
+use std::mem::replace;
 
 /// What systems share: the messages of each type, the value of each resource, and the registry of
 /// signals. Parts of it may be out on loan.
@@ -38,6 +40,9 @@ pub struct World {
     types: Vec<Option<Messages<Record>>>,
     resources: Vec<Option<i64>>,
     marks: Option<Marks>,
+    /// Lists in which parts came home last: their memory serves the parts that go out next.
+    spare_types: Vec<Moved<Messages<Record>>>,
+    spare_resources: Vec<Moved<i64>>,
 }
 
 impl Model for World {
@@ -167,6 +172,8 @@ impl World {
             types,
             resources,
             marks,
+            spare_types: Vec::new(alloc),
+            spare_resources: Vec::new(alloc),
         })
     }
 
@@ -285,8 +292,10 @@ impl World {
         ensures err { OnErr result (self.new ≡ self.old) }
     {
         let alloc = *self.types.allocator();
-        let types = moved::room_for(alloc, access.write_types)?;
-        let resources = moved::room_for(alloc, access.write_res)?;
+        let spare_types = replace(&mut self.spare_types, Vec::new(alloc));
+        let types = moved::room_in(spare_types, access.write_types)?;
+        let spare_resources = replace(&mut self.spare_resources, Vec::new(alloc));
+        let resources = moved::room_in(spare_resources, access.write_res)?;
         Ok(Taken {
             types: moved::move_out(&mut self.types, types, access.write_types),
             resources: moved::move_out(&mut self.resources, resources, access.write_res),
@@ -299,8 +308,8 @@ impl World {
         requires apart { IsApart taken self.old }
         ensures home { TakesBack taken self.old self.new }
     {
-        moved::move_home(taken.types, &mut self.types);
-        moved::move_home(taken.resources, &mut self.resources);
+        self.spare_types = moved::move_home(taken.types, &mut self.types);
+        self.spare_resources = moved::move_home(taken.resources, &mut self.resources);
         self.marks = taken.marks.or(self.marks);
     }
 }
