@@ -69,16 +69,16 @@ module _ {S : Type 0} (meaning : S → Meaning) where
     pub number : d.number ≡ i
     pub size : SameSize whole.world d.taken
     pub there : (p : Part) → is_some (slot p d.taken) ≡ writes (access_of whole.accesses.items i) p
-    pub after : IsAfterJob meaning (after_job (s.members i).job s.world) d
+    pub after : IsAfterJob meaning (after_job (s.members i).job s.world) d.guarded d.taken d.outcome
 
   is_back : (whole left : Lender S) (s : State) (i : ℕ) (j : Job S) (d : Done S) → LenderStands meaning whole s → i < s.systems
       → PartsStand left.world s.world → IsOut whole i j → IsDone meaning left.world j d → IsBack whole s i d
   is_back whole left s i j d stands lt world out done = record {
     number = done.number ∙ out.number;
-    size = sizes_follow whole.world j.taken d.taken out.size done.shape.size;
-    there = λ p. done.shape.there p ∙ has_written meaning whole s i j stands lt out p ∙ ap (λ a. writes a p) out.access;
-    after = subst (λ (x : JobState). IsAfterJob meaning (after_job x s.world) d) (its_member meaning whole s i j stands lt out)
-        (done.after s.world world (taken_stands meaning whole s i j stands.world out));
+    size = sizes_follow whole.world j.taken d.taken out.size done.turn.shape.size;
+    there = λ p. done.turn.shape.there p ∙ has_written meaning whole s i j stands lt out p ∙ ap (λ a. writes a p) out.access;
+    after = subst (λ (x : JobState). IsAfterJob meaning (after_job x s.world) d.guarded d.taken d.outcome) (its_member meaning whole s i j stands lt out)
+        (done.turn.after s.world world (taken_stands meaning whole s i j stands.world out));
   }
 
   pub all_back : (whole left : Lender S) (s : State) (is : List ℕ) (js : List (Job S)) (ds : List (Done S)) → LenderStands meaning whole s → All (λ i. i < s.systems) is

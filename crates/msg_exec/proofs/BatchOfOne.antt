@@ -1,24 +1,29 @@
 -- A turn is a batch of one system.
-use Rattle.std.proofs.Common.{◌≡◌, ◌≢◌, ℕ, ◌<◌, [], ◌∷◌, get_or, refl, ap, arith}
-use Rattle.std.specs.Prelude.{All, AllPairs}
+use Rattle.std.proofs.Common.{◌≡◌, ◌≢◌, ℕ, ◌<◌, [], ◌∷◌, Option, None, Some, get_or, refl, sym, ap, ◌∙◌, arith}
+use Rattle.std.specs.Prelude.{All, AllPairs, if◌then◌else◌}
+use Rattle.std.proofs.Math.Bool.{or-false}
 use Rattle.std.proofs.lemmas.List.Elements.{All-cons}
-use Rattle.msg_world.specs.Access.{Conflict}
+use Rattle.msg_world.specs.declared.access.Access.{Access}
+use Rattle.msg_world.specs.Access.{Conflict, writes}
+use Rattle.msg_world.specs.Parts.{LendsOut, Parts, slot}
 use Rattle.msg_world.specs.LoanLaws.{HomeMerges, HomeWhereEither}
 use Rattle.msg_order.specs.Order.{access_of}
 use Rattle.msg_order.specs.Plan.{NoneConflict}
 use Rattle.msg_system.specs.Systems.{Meaning}
 use Rattle.msg_exec.specs.declared.job.Done.{Done}
+use Rattle.msg_exec.specs.declared.job.GuardedSystem.{GuardedSystem}
 use Rattle.msg_exec.specs.declared.job.Job.{Job}
+use Rattle.msg_frames.specs.declared.log.Outcome.{Outcome}
 use Rattle.msg_frames.specs.declared.log.Turn.{Turn}
 use Rattle.msg_exec.specs.declared.lender.Lender.{Lender}
 use Rattle.msg_frames.specs.Frames.{after_turn_of, logged, State}
-use Rattle.msg_exec.specs.Jobs.{IsDone, MayRun}
-use Rattle.msg_exec.specs.Lender.{LenderStands}
-use Rattle.msg_exec.specs.inner.Lending.{AreOut, ComesHome, GoesOut}
+use Rattle.msg_exec.specs.Jobs.{HasTakenTurn, MayRun}
+use Rattle.msg_exec.specs.Lender.{LenderStands, system_at}
+use Rattle.msg_exec.specs.inner.Lending.{AreOut, ComesHome}
 use Rattle.msg_frames.specs.TurnLaws.{BatchesRunSideBySide}
-use Rattle.msg_exec.proofs.BatchComesHome.{ComingHome, MayCome, all_came, begin_home, next_comes, next_may_come}
-use Rattle.msg_exec.proofs.BatchGoesOut.{MayGo, all_may_run, may_go, none_out, one_more_out}
-use Rattle.msg_order.proofs.Elements.{not_in_none}
+use Rattle.msg_exec.proofs.BatchComesHome.{ComingHome, MayCome, all_back, all_came, begin_home, next_comes, next_may_come}
+use Rattle.msg_exec.proofs.BatchGoesOut.{all_may_run, left_stands}
+use Rattle.msg_exec.proofs.ItemsOfLists.{read_or}
 
 no_pairs : (R : ℕ → ℕ → Type 0) (i : ℕ) → AllPairs R (i ∷ [])
 no_pairs R i = λ a b d lt l. absurd (omega arith)
@@ -30,27 +35,55 @@ module _ {S : Type 0} (meaning : S → Meaning) (g : Lender S) (s : State) (i : 
   none : NoneConflict g.accesses.items (i ∷ [])
   none = no_pairs (λ a b. ¬ Conflict (access_of g.accesses.items a) (access_of g.accesses.items b)) i
 
-  pub alone_may_go : MayGo g i
-  alone_may_go = may_go meaning g g s [] [] i stands lt (none_out g) (not_in_none i) (λ k d l. absurd (omega arith))
+  -- What its access writes is out, and the system is where it was.
+  module _ (left taken : Parts) (a : Access) (held : Option (GuardedSystem S)) (guarded : GuardedSystem S) (is_its : a ≡ get_or g.accesses.items i a)
+      (is_there : held ≡ get_or g.systems.items i held) (is_some : held ≡ Some guarded) (lent : LendsOut a g.world left taken) where
+    its : a ≡ access_of g.accesses.items i
+    its = sym (read_or g.accesses.items i _ a (omega (arith, lt, stands.accesses)) is_its)
 
-  module _ (left : Lender S) (j : Job S) (goes : GoesOut g i j left) where
-    out : AreOut g (i ∷ []) (j ∷ []) left
-    out = one_more_out g g left [] [] i j (none_out g) goes (not_in_none i) (λ k d l. absurd (omega arith))
+    there : system_at g i ≡ Some guarded
+    there = read_or g.systems.items i None held (omega (arith, lt, stands.systems)) is_there ∙ is_some
 
-    pub alone_may_run : MayRun meaning left.world j
-    alone_may_run = all_may_run meaning g left s (i ∷ []) (j ∷ []) stands below out none 0 j refl
+    abbrev its_job : Job S
+    its_job = record { number = i; guarded = guarded; access = a; taken = taken }
 
-    module _ (d : Done S) (done : IsDone meaning left.world j d) where
-      begun : ComingHome meaning g (i ∷ []) s (d ∷ []) left [] []
-      begun = begin_home meaning g left s (i ∷ []) (j ∷ []) (d ∷ []) [] stands below out (done, tt)
+    abbrev pub mid : Lender S
+    mid = record g { world = left }
 
-      pub alone_may_come : MayCome left d
-      alone_may_come = next_may_come meaning g left (i ∷ []) s d [] [] [] stands below (d ∷ []) refl begun
+    out : AreOut g (i ∷ []) (its_job ∷ []) mid
+    out = record {
+      each = (record { number = refl; guarded = there; access = its; size = lent.taken_size; taken = lent.moved }, tt);
+      size = lent.left_size;
+      world = λ p. lent.stayed p ∙ ap (λ b. if b then None else slot p g.world) (ap (λ x. writes x p) its ∙ sym (or-false (writes (access_of g.accesses.items i) p)));
+      as_many = refl;
+      others = λ k away. refl;
+      accesses = refl;
+      totals = refl;
+    }
 
-      pub turn_taken : (new : Lender S) (turn : Turn) → ComesHome meaning left d new → turn ≡ record { system = d.number; outcome = d.outcome }
-          → HomeMerges → HomeWhereEither → BatchesRunSideBySide → LenderStands meaning new (after_turn_of i s) × (turn ≡ logged s i)
-      turn_taken new turn comes tells merges either law =
+    pub may_take_turn : MayRun meaning left its_job
+    may_take_turn = all_may_run meaning g mid s (i ∷ []) (its_job ∷ []) stands below out none 0 its_job refl
+
+    module _ (later : Parts) (came : Outcome) (after : GuardedSystem S) (took : HasTakenTurn meaning left taken guarded later came after) where
+      abbrev pub its_done : Done S
+      its_done = record { number = i; guarded = after; taken = later; outcome = came }
+
+      begun : ComingHome meaning g (i ∷ []) s (its_done ∷ []) mid [] []
+      begun = begin_home meaning g mid s (i ∷ []) (its_job ∷ []) (its_done ∷ []) [] stands below out (record { number = refl; turn = took }, tt)
+
+      pub may_come_home : MayCome mid its_done
+      may_come_home = next_may_come meaning g mid (i ∷ []) s its_done [] [] [] stands below (its_done ∷ []) refl begun
+
+      pub turn_taken : (new : Lender S) → ComesHome meaning mid its_done new → HomeMerges → HomeWhereEither → BatchesRunSideBySide
+          → LenderStands meaning new (after_turn_of i s)
+      turn_taken new comes merges either law =
+          let turn : Turn = record { system = i; outcome = came } in
           let once = no_pairs (λ a b. a ≢ b) i in
-          let far = next_comes meaning g left (i ∷ []) s d [] [] [] stands below new turn once none comes tells merges either (d ∷ []) refl begun in
-          let all = all_came meaning g new (i ∷ []) s [] [] (turn ∷ []) stands below once none law refl far in
-          (all.0, ap (λ ts. get_or ts 0 turn) all.1)
+          let far = next_comes meaning g mid (i ∷ []) s its_done [] [] [] stands below new turn once none comes refl merges either (its_done ∷ []) refl begun in
+          (all_came meaning g new (i ∷ []) s [] [] (turn ∷ []) stands below once none law refl far).0
+
+      pub turn_is_logged : record { system = i; outcome = came } ≡ logged s i
+      turn_is_logged =
+          let left_there = left_stands meaning g mid s (i ∷ []) (its_job ∷ []) stands.world out in
+          let back = (all_back meaning g mid s (i ∷ []) (its_job ∷ []) (its_done ∷ []) stands below left_there out.each (record { number = refl; turn = took }, tt)).0 in
+          λ k. record { system = i; outcome = back.after.outcome k }

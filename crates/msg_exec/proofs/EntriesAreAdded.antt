@@ -1,15 +1,21 @@
 -- Entries are added to totals one by one.
-use Rattle.std.proofs.Common.{◌≡◌, ℕ, zero, suc, ◌+◌, ◌<◌, ◌≤◌, ◌==◌, List, [], ◌∷◌, ◌++◌, length, drop, get_or, Option, Some, None, refl, sym, ap, ◌∙◌, arith}
+use Rattle.std.proofs.Common.{◌≡◌, ℕ, zero, suc, ◌+◌, ◌<◌, ◌≤◌, ◌==◌, List, [], ◌∷◌, ◌++◌, length, drop, get_or, Option, Some, None, refl, sym, ap, subst, ◌∙◌, arith}
 use Rattle.std.specs.Prelude.{false, slice_get, option_to_list, unwrap_or, if◌then◌else◌}
 use Rattle.std.proofs.Math.ListN.{drop_of_length-le}
-use Rattle.std.proofs.lemmas.Option.{none-some, slice_get-get_or}
+use Rattle.std.specs.Global.{Vec}
+use Rattle.std.specs.Vec.{with_items}
+use Rattle.std.proofs.lemmas.List.{with_items_is}
+use Rattle.std.proofs.lemmas.Option.{none-some, slice_get-get_or, unwrap_or-slice_get}
 use Rattle.msg_system.specs.declared.op.Op.{Op}
 use Rattle.msg_system.specs.declared.reply.Reply.{Reply}
 use Rattle.msg_system.specs.Needs.{type_read}
+use Rattle.msg_system.specs.Systems.{Meaning}
 use Rattle.msg_frames.specs.declared.totals.Totals.{Totals}
 use Rattle.msg_frames.specs.Entries.{Entry, entries_for, entry_of, with_entries}
 use Rattle.msg_frames.proofs.EntriesAddUp.{with_entries-append, with_entries-none}
 use Rattle.msg_exec.specs.Keeping.{kept}
+use Rattle.msg_exec.specs.declared.job.Done.{Done}
+use Rattle.msg_exec.specs.inner.Lending.{HaveEntered}
 use Rattle.msg_exec.specs.inner.Totals.{entry_at}
 
 -- the same totals are kept alike
@@ -52,3 +58,14 @@ pub entered_all : (t : ℕ) (ops : List Op) (replies : List Reply) (k : ℕ) (y 
 entered_all t ops replies k y z le to =
     sym (with_entries-none y)
     ∙ ap (λ es. with_entries es y) (sym (ap (λ rs. entries_for t (drop k ops) rs) (drop_of_length-le replies le) ∙ without_replies t (drop k ops))) ∙ to
+
+-- ---- the totals of a system, among those of all
+
+-- what its turn told is entered in its totals where they stand
+pub entered_there : {S : Type 0} (meaning : S → Meaning) (d : Done S) (all : List (Vec Totals)) (x : Vec Totals) (was now : List Totals)
+    → x ≡ get_or all d.number x → was ≡ x.items → length now ≡ x.len → HaveEntered meaning d was now
+    → (u : Vec Totals) → slice_get all d.number ≡ Some u → HaveEntered meaning d u.items (with_items x now).items
+entered_there meaning d all x was now at there size entered u is =
+    let same : u ≡ x = ap (λ o. unwrap_or o x) (sym is) ∙ unwrap_or-slice_get all d.number x ∙ sym at in
+    subst (λ xs. HaveEntered meaning d xs (with_items x now).items) (there ∙ ap (λ (v : Vec Totals). v.items) (sym same))
+    (subst (λ xs. HaveEntered meaning d was xs) (sym (with_items_is x now size)) entered)

@@ -19,6 +19,9 @@ read_is xs i r x lt is there = is ∙ get_or_from_slice_get xs i x r there
 pub read_there : {X : Type 0} (xs : List X) (i : ℕ) (r : X) → i < length xs → r ≡ get_or xs i r → slice_get xs i ≡ Some r
 read_there xs i r lt is = slice_get-get_or xs i r lt ∙ ap (λ y. Some y) (sym is)
 
+pub read_or : {X : Type 0} (xs : List X) (i : ℕ) (d r : X) → i < length xs → r ≡ get_or xs i r → get_or xs i d ≡ r
+read_or xs i d r lt is = ap (λ o. unwrap_or o r) (sym (slice_get-get_or xs i d lt) ∙ read_there xs i r lt is)
+
 -- what holds of the item that is there holds of the one that was read
 pub taken_from : {X : Type 0} (P : X → Type 0) (xs : List X) (i n : ℕ) (x : X) → i < n → length xs ≡ n → x ≡ get_or xs i x
     → IsSomeAnd (slice_get xs i) P → P x

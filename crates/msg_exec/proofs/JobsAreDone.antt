@@ -1,5 +1,5 @@
 -- A job is done: its system ran, and what the loan owned is given back as the job left it.
-use Rattle.std.proofs.Common.{◌≡◌, ℕ, true, false, List, [], ◌++◌, Option, Some, None, Vec, length, map, refl, sym, ap, subst, ◌∙◌, arith}
+use Rattle.std.proofs.Common.{◌≡◌, true, false, List, [], ◌++◌, Option, Some, None, Vec, length, map, refl, sym, ap, subst, ◌∙◌, arith}
 use Rattle.std.specs.Prelude.{is_some}
 use Rattle.std.specs.Vec.{with_items}
 use Rattle.std.proofs.lemmas.Bool.{false≢true}
@@ -16,7 +16,6 @@ use Rattle.msg_system.specs.Conditions.{AfterJob, Asked, Job as JobState, after_
 use Rattle.msg_system.specs.Promises.{Ran}
 use Rattle.msg_system.specs.Systems.{Meaning, after_turn, told, turn}
 use Rattle.msg_exec.specs.declared.job.GuardedSystem.{GuardedSystem}
-use Rattle.msg_exec.specs.declared.job.Done.{Done}
 use Rattle.msg_frames.specs.declared.log.Outcome.TheVariants as outcome
 use Rattle.msg_exec.specs.Jobs.{IsAfterJob, job_state}
 
@@ -38,17 +37,16 @@ pub after_job_that_runs : (j : JobState) (w : WorldState) → true ≡ all_hold 
     }
 after_job_that_runs j w holds = rw (sym holds) refl
 
-pub ran_job : {S : Type 0} (meaning : S → Meaning) (before now : GuardedSystem S) (l : Lent) (taken : Parts) (w : WorldState) (number : ℕ) (none after replies : List Reply)
+pub ran_job : {S : Type 0} (meaning : S → Meaning) (before now : GuardedSystem S) (l : Lent) (taken : Parts) (w : WorldState) (none after replies : List Reply)
     → none ≡ [] → replies ≡ after → true ≡ all_hold before.guards.items w → now.guards.items ≡ map (after_asking w) before.guards.items
     → Ran (meaning before.system) (meaning now.system) l taken none after → LoanStands l w
     → PartsStand taken (turn (meaning before.system) w).state
-    → IsAfterJob meaning (after_job (job_state meaning before) w) (record { number = number; guarded = now; taken = taken; outcome = outcome.Ran replies })
-ran_job meaning before now l taken w number none after replies nothing given holds asked ran stands written =
-    let d : Done _ = record { number = number; guarded = now; taken = taken; outcome = outcome.Ran replies } in
+    → IsAfterJob meaning (after_job (job_state meaning before) w) now taken (outcome.Ran replies)
+ran_job meaning before now l taken w none after replies nothing given holds asked ran stands written =
     let is = after_job_that_runs (job_state meaning before) w holds in
     let m : Meaning = meaning before.system in
     let moved : meaning now.system ≡ after_turn m w = ran.means ∙ (λ k. record (told (ran.answers w stands k) m) { places = ran.places w stands k }) in
-    subst (λ (after : AfterJob). IsAfterJob meaning after d) (sym is) (record {
+    subst (λ (after : AfterJob). IsAfterJob meaning after now taken (outcome.Ran replies)) (sym is) (record {
       job = λ k. record { system = moved k; conditions = asked k };
       written = written;
       outcome = ap (λ rs. outcome.Ran rs) (given ∙ ran.appended ∙ ap (λ rs. rs ++ ran.replies) nothing ∙ ran.answers w stands);
@@ -58,12 +56,11 @@ after_job_that_skips : (j : JobState) (w : WorldState) → false ≡ all_hold j.
     → after_job j w ≡ record { job = record { system = j.system; conditions = map (after_asking w) j.conditions }; state = w; replies = None }
 after_job_that_skips j w skips = rw (sym skips) refl
 
-pub skipped_job : {S : Type 0} (meaning : S → Meaning) (before now : GuardedSystem S) (taken : Parts) (w : WorldState) (number : ℕ)
+pub skipped_job : {S : Type 0} (meaning : S → Meaning) (before now : GuardedSystem S) (taken : Parts) (w : WorldState)
     → false ≡ all_hold before.guards.items w → now.system ≡ before.system → now.guards.items ≡ map (after_asking w) before.guards.items → PartsStand taken w
-    → IsAfterJob meaning (after_job (job_state meaning before) w) (record { number = number; guarded = now; taken = taken; outcome = outcome.Skipped })
-skipped_job meaning before now taken w number skips same asked stand =
-    let d : Done _ = record { number = number; guarded = now; taken = taken; outcome = outcome.Skipped } in
-    subst (λ (after : AfterJob). IsAfterJob meaning after d) (sym (after_job_that_skips (job_state meaning before) w skips)) (record {
+    → IsAfterJob meaning (after_job (job_state meaning before) w) now taken outcome.Skipped
+skipped_job meaning before now taken w skips same asked stand =
+    subst (λ (after : AfterJob). IsAfterJob meaning after now taken outcome.Skipped) (sym (after_job_that_skips (job_state meaning before) w skips)) (record {
       job = λ k. record { system = meaning (same k); conditions = asked k };
       written = stand;
       outcome = refl;

@@ -9,6 +9,7 @@ use Rattle.msg_system.specs.Systems.{Meaning}
 use Rattle.msg_exec.specs.declared.job.GuardedSystem.{GuardedSystem}
 use Rattle.msg_exec.specs.declared.job.Job.{Job}
 use Rattle.msg_exec.specs.declared.job.Done.{Done}
+use Rattle.msg_frames.specs.declared.log.Outcome.{Outcome}
 use Rattle.msg_frames.specs.Frames.{outcome_of}
 
 module _ {S : Type 0} (meaning : S → Meaning) where
@@ -20,18 +21,22 @@ module _ {S : Type 0} (meaning : S → Meaning) where
   abbrev pub guarded_needs : GuardedSystem S → Needs
   guarded_needs a = with_conditions (meaning a.system).needs (conditions_of (job_state a))
 
-  -- The job is done: it is what it means to be on a world that the loan stands for.
-  pub record IsAfterJob (after : AfterJob) (d : Done S) : Type 0 where
-    pub job : job_state d.guarded ≡ after.job
-    pub written : PartsStand d.taken after.state
-    pub outcome : d.outcome ≡ outcome_of after.replies
+  -- The job is done: its system, what it gives back and what came of it are what they mean to be after it.
+  pub record IsAfterJob (after : AfterJob) (guarded : GuardedSystem S) (taken : Parts) (came : Outcome) : Type 0 where
+    pub job : job_state guarded ≡ after.job
+    pub written : PartsStand taken after.state
+    pub outcome : came ≡ outcome_of after.replies
+
+  -- A turn on a loan is the job of the system and its conditions, on each world that the loan stands for.
+  pub record HasTakenTurn (world taken : Parts) (old : GuardedSystem S) (later : Parts) (came : Outcome) (new : GuardedSystem S) : Type 0 where
+    -- what is given back may be taken back
+    pub shape : SameShape taken later
+    pub after : (w : WorldState) → PartsStand world w → PartsStand taken w → IsAfterJob (after_job (job_state old) w) new later came
 
   -- A lawful result of a job on a world.
   pub record IsDone (world : Parts) (j : Job S) (d : Done S) : Type 0 where
     pub number : d.number ≡ j.number
-    -- what is given back may be taken back
-    pub shape : SameShape j.taken d.taken
-    pub after : (w : WorldState) → PartsStand world w → PartsStand j.taken w → IsAfterJob (after_job (job_state j.guarded) w) d
+    pub turn : HasTakenTurn world j.taken j.guarded d.taken d.outcome d.guarded
 
   -- It may run on a world: it has what its access uses, and that is what it needs.
   pub record MayRun (world : Parts) (j : Job S) : Type 0 where

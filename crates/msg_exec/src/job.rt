@@ -1,14 +1,15 @@
 // One system's job: its conditions and its system, on a loan of what its access uses.
 ghost use Rattle.std.specs.Prelude.{IfOk};
+ghost use Rattle.msg_world.specs.declared.access.Access.{Access};
 ghost use Rattle.msg_world.specs.Loan.{IsLoanOf};
+ghost use Rattle.msg_world.specs.Parts.{Parts};
 ghost use Rattle.msg_system.specs.Needs.{IsAccessOf};
-ghost use Rattle.msg_exec.specs.Jobs.{IsDone, guarded_needs};
+ghost use Rattle.msg_frames.specs.declared.log.Outcome.{Outcome};
+ghost use Rattle.msg_exec.specs.Jobs.{HasTakenTurn, guarded_needs};
 
-use crate::runs::Runs;
-use crate::side_by_side::{Batch, BatchJob};
-use crate::{NoMemory, Outcome};
-use msg_system::{Guard, System};
-use msg_world::{Access, Taken, World};
+use crate::{Items, NoMemory, Outcome};
+use msg_system::{Guard, System, open_loans_cover, what_is_given_back_stands};
+use msg_world::{Access, Lent, Taken, World};
 use std::alloc::Global;
 
 /// A system with its conditions.
@@ -16,6 +17,54 @@ use std::alloc::Global;
 pub struct GuardedSystem<S> {
     pub system: S,
     pub guards: Vec<Guard>,
+}
+
+/// What takes a turn on parts that were lent to it. (It is a trait since a function that has the
+/// bound `System` gets no proof where the method of a trait calls it.)
+pub(crate) trait TakesTurns {
+    // What was lent from the world is what it needs.
+    ghost may: { Self → Access → Parts → Parts → Type 0 };
+
+    // What its turn gave back, what came of it, and what it is now, are those of a turn.
+    ghost took: { Self → Parts → Parts → Parts → Outcome → Self → Type 0 };
+
+    /// Takes the turn. Gives back what was lent, and what came of it.
+    fn take_turn(
+        &mut self,
+        alloc: Global,
+        world: &World,
+        access: &Access,
+        taken: Taken,
+    ) -> Result<(Taken, Outcome), NoMemory>
+        requires may { Self.may self.old access.now world.now taken }
+        ensures took { IfOk result (λ r. Self.took self.old world.now taken r.0 r.1 self.new) };
+}
+
+// It asks its conditions, and runs the system where they hold.
+impl<S: System> TakesTurns for GuardedSystem<S> {
+    ghost may = { λ g access world taken.
+        IsLoanOf access world taken × IsAccessOf (guarded_needs S.meaning g) access };
+
+    ghost took = { λ g world taken later outcome new.
+        HasTakenTurn S.meaning world taken g later outcome new };
+
+    fn take_turn(
+        &mut self,
+        alloc: Global,
+        world: &World,
+        access: &Access,
+        taken: Taken,
+    ) -> Result<(Taken, Outcome), NoMemory> {
+        open_loans_cover();
+        what_is_given_back_stands();
+        let lent = Lent::open(world, access, taken);
+        if !Guard::check_all(&mut self.guards, &lent) {
+            return Ok((lent.into_taken(), Outcome::Skipped));
+        }
+        let mut replies = Vec::new(alloc);
+        let taken = self.system.run(alloc, lent, &mut replies)?;
+        Ok((taken, Outcome::Ran(Items::from_vec(replies))))
+    }
 }
 
 /// A system that is out for its turn, and what was lent out to it in writing.
@@ -34,13 +83,4 @@ pub struct Done<S> {
     pub guarded: GuardedSystem<S>,
     pub taken: Taken,
     pub outcome: Outcome,
-}
-
-/// Runs a job on the world that it was lent from.
-pub fn run_job<S: System>(alloc: Global, world: &World, job: Job<S>) -> Result<Done<S>, NoMemory>
-    requires loan { IsLoanOf job.access world.now job.taken }
-    requires access { IsAccessOf (guarded_needs S.meaning job.guarded) job.access }
-    ensures done { IfOk result (λ done. IsDone S.meaning world.now job done) }
-{
-    Batch::<S>::run(alloc, BatchJob { job, world })
 }

@@ -3,7 +3,7 @@ ghost use Rattle.std.specs.Prelude.{◌≡◌, ◌<◌, IfOk, OnOk};
 ghost use Rattle.msg_frames.specs.Frames.{after_turn_of, logged, State};
 ghost use Rattle.msg_exec.specs.Lender.{LenderStands};
 
-use crate::job::{Done, GuardedSystem, Job, run_job};
+use crate::job::{Done, GuardedSystem, Job, TakesTurns};
 use crate::totals::enter;
 use crate::{NoMemory, Totals, Turn};
 use msg_frames::laws::batches_run_side_by_side;
@@ -78,7 +78,7 @@ impl<S: System> Lender<S> {
     }
 }
 
-/// One system's turn.
+/// One system's turn, which it takes where it stands.
 pub(crate) fn run_turn<S: System>(
     alloc: Global,
     lender: &mut Lender<S>,
@@ -93,7 +93,17 @@ pub(crate) fn run_turn<S: System>(
 {
     batches_run_side_by_side();
     written_parts_come_home();
-    let job = lender.lend_out(number)?;
-    let done = run_job(alloc, &lender.world, job)?;
-    Ok(lender.take_back(done))
+    let i = number as usize;
+    let access = lender.accesses[i];
+    let taken = lender.world.lend_out(&access)?;
+    let Some(guarded) = &mut lender.systems[i] else {
+        unreachable!()
+    };
+    let (taken, outcome) = guarded.take_turn(alloc, &lender.world, &access, taken)?;
+    lender.world.take_back(taken);
+    enter(&guarded.system, &mut lender.totals[i], &outcome);
+    Ok(Turn {
+        system: number,
+        outcome,
+    })
 }

@@ -4,13 +4,13 @@ ghost use Rattle.msg_exec.specs.Jobs.{IsResult, MayRun};
 ghost use Rattle.msg_exec.specs.inner.Batches.{AreDone};
 ghost use Rattle.msg_exec.specs.Work.{EachMay, PassedGate};
 
-use crate::job::{Done, GuardedSystem, Job};
+use crate::job::{Done, Job, TakesTurns};
 use crate::run_workers::run_jobs;
 use crate::runs::Runs;
-use crate::{Gate, Items, NoMemory, Outcome, Workers};
+use crate::{Gate, NoMemory, Workers};
 use msg_board::Work;
-use msg_system::{Guard, System, open_loans_cover, what_is_given_back_stands};
-use msg_world::{Lent, World};
+use msg_system::System;
+use msg_world::World;
 use std::alloc::Global;
 use std::marker::PhantomData;
 use std::thread::Threads;
@@ -46,35 +46,14 @@ impl<'a, S: System> Runs for Batch<'a, S> {
     }
 
     fn run(alloc: Global, job: BatchJob<'a, S>) -> Result<Done<S>, NoMemory> {
-        open_loans_cover();
-        what_is_given_back_stands();
         let BatchJob { job, world } = job;
         let Job {
             number,
-            guarded,
+            mut guarded,
             access,
             taken,
         } = job;
-        let GuardedSystem {
-            mut system,
-            mut guards,
-        } = guarded;
-        let lent = Lent::open(world, &access, taken);
-        if !Guard::check_all(&mut guards, &lent) {
-            let taken = lent.into_taken();
-            let guarded = GuardedSystem { system, guards };
-            let outcome = Outcome::Skipped;
-            return Ok(Done {
-                number,
-                guarded,
-                taken,
-                outcome,
-            });
-        }
-        let mut replies = Vec::new(alloc);
-        let taken = system.run(alloc, lent, &mut replies)?;
-        let guarded = GuardedSystem { system, guards };
-        let outcome = Outcome::Ran(Items::from_vec(replies));
+        let (taken, outcome) = guarded.take_turn(alloc, world, &access, taken)?;
         Ok(Done {
             number,
             guarded,

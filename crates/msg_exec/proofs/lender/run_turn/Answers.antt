@@ -1,55 +1,54 @@
-use Rattle.std.proofs.Common.{◌<◌, subst, sym, ◌∙◌}
-use Rattle.msg_exec.proofs.BatchOfOne.{alone_may_come, alone_may_go, alone_may_run, turn_taken}
+use Rattle.std.proofs.Common.{◌<◌, refl, subst, sym, ◌∙◌, arith}
+use Rattle.msg_exec.specs.declared.job.Done.{Done}
+use Rattle.msg_exec.proofs.BatchOfOne.{may_come_home, may_take_turn, turn_is_logged, turn_taken}
+use Rattle.msg_exec.proofs.EntriesAreAdded.{entered_there}
 use Rattle.msg_exec.proofs.lender.run_turn.Goals as goal
 
-pub lend_out-requires-clause-there : goal.lend_out-requires-clause-there
-lend_out-requires-clause-there g c κs within =
-    (alone_may_go g.S.System.meaning c.args.lender.now c.requires.stands.0 c.args.number c.requires.stands.1.0 c.requires.stands.1.1).there
+pub take_turn-requires : goal.take_turn-requires
+take_turn-requires g c =
+    let s = c.requires.stands in
+    let may = may_take_turn g.S.System.meaning c.args.lender.now s.0 c.args.number s.1.0 s.1.1
+    c.lend_out.new.self c.in_ok-taken.taken c.index.result.now c.index_mut.result.now c.in-Some.guarded c.index.ensures c.index_mut.ensures.value c.in-Some.is
+    c.in_ok-taken.ensures.lent in
+    record { may = (may.loan, may.access) }
 
-pub lend_out-requires-clause-home : goal.lend_out-requires-clause-home
-lend_out-requires-clause-home g c κs within =
-    (alone_may_go g.S.System.meaning c.args.lender.now c.requires.stands.0 c.args.number c.requires.stands.1.0 c.requires.stands.1.1).home
-
-pub run_job-requires-clause-loan : goal.run_job-requires-clause-loan
-run_job-requires-clause-loan g c κs within =
-    (alone_may_run g.S.System.meaning c.args.lender.now c.requires.stands.0 c.args.number c.requires.stands.1.0 c.requires.stands.1.1
-    c.lend_out.new.self c.in_ok-job.job c.in_ok-job.ensures.out).loan
-
-pub run_job-requires-clause-access : goal.run_job-requires-clause-access
-run_job-requires-clause-access g c κs within =
-    (alone_may_run g.S.System.meaning c.args.lender.now c.requires.stands.0 c.args.number c.requires.stands.1.0 c.requires.stands.1.1
-    c.lend_out.new.self c.in_ok-job.job c.in_ok-job.ensures.out).access
-
-pub take_back-requires-clause-systems : goal.take_back-requires-clause-systems
-take_back-requires-clause-systems g c κs within =
-    (alone_may_come g.S.System.meaning c.args.lender.now c.requires.stands.0 c.args.number c.requires.stands.1.0 c.requires.stands.1.1
-    c.lend_out.new.self c.in_ok-job.job c.in_ok-job.ensures.out c.in_ok-done.done c.in_ok-done.ensures.done).systems
-
-pub take_back-requires-clause-totals : goal.take_back-requires-clause-totals
-take_back-requires-clause-totals g c κs within =
-    (alone_may_come g.S.System.meaning c.args.lender.now c.requires.stands.0 c.args.number c.requires.stands.1.0 c.requires.stands.1.1
-    c.lend_out.new.self c.in_ok-job.job c.in_ok-job.ensures.out c.in_ok-done.done c.in_ok-done.ensures.done).totals
-
-pub take_back-requires-clause-apart : goal.take_back-requires-clause-apart
-take_back-requires-clause-apart g c κs within =
-    (alone_may_come g.S.System.meaning c.args.lender.now c.requires.stands.0 c.args.number c.requires.stands.1.0 c.requires.stands.1.1
-    c.lend_out.new.self c.in_ok-job.job c.in_ok-job.ensures.out c.in_ok-done.done c.in_ok-done.ensures.done).apart
-
-pub take_back-requires-clause-few : goal.take_back-requires-clause-few
-take_back-requires-clause-few g c κs within =
-    (alone_may_come g.S.System.meaning c.args.lender.now c.requires.stands.0 c.args.number c.requires.stands.1.0 c.requires.stands.1.1
-    c.lend_out.new.self c.in_ok-job.job c.in_ok-job.ensures.out c.in_ok-done.done c.in_ok-done.ensures.done).few
+pub enter-requires-clause-few : goal.enter-requires-clause-few
+enter-requires-clause-few g c κs within =
+    let s = c.requires.stands in
+    (may_come_home g.S.System.meaning c.args.lender.now s.0 c.args.number s.1.0 s.1.1
+    c.lend_out.new.self c.in_ok-taken.taken c.index.result.now c.index_mut.result.now c.in-Some.guarded c.index.ensures c.index_mut.ensures.value c.in-Some.is
+    c.in_ok-taken.ensures.lent
+    c.in_ok-taken-2.taken c.in_ok-taken-2.outcome c.take_turn.new.self c.in_ok-taken-2.ensures.took).few
 
 pub returns-clause-state : goal.returns-clause-state
 returns-clause-state g c s stands =
-    let lt : c.args.number < s.systems = subst (λ n. c.args.number < n) (sym c.requires.stands.1.0.accesses ∙ stands.accesses) c.requires.stands.1.1 in
-    (turn_taken g.S.System.meaning c.args.lender.now s c.args.number stands lt c.lend_out.new.self c.in_ok-job.job c.in_ok-job.ensures.out
-    c.in_ok-done.done c.in_ok-done.ensures.done c.take_back.new.self c.take_back.result c.take_back.ensures.home c.take_back.ensures.turn
-    c.written_parts_come_home.ensures.meaning c.written_parts_come_home.ensures.either c.batches_run_side_by_side.ensures.law).0
+    let old = c.args.lender.now in
+    let i = c.args.number in
+    let lt : i < s.systems = subst (λ n. i < n) (sym c.requires.stands.1.0.accesses ∙ stands.accesses) c.requires.stands.1.1 in
+    let done : Done g.row.S.Denot = record { number = i; guarded = c.take_turn.new.self; taken = c.in_ok-taken-2.taken; outcome = c.in_ok-taken-2.outcome } in
+    turn_taken g.S.System.meaning old s i stands lt
+    c.lend_out.new.self c.in_ok-taken.taken c.index.result.now c.index_mut.result.now c.in-Some.guarded c.index.ensures c.index_mut.ensures.value c.in-Some.is
+    c.in_ok-taken.ensures.lent
+    c.in_ok-taken-2.taken c.in_ok-taken-2.outcome c.take_turn.new.self c.in_ok-taken-2.ensures.took _
+    (record {
+      systems = refl;
+      accesses = refl;
+      taken_back = c.take_back.ensures.home;
+      totals = (
+        _,
+        refl,
+        entered_there g.S.System.meaning done old.totals.items c.index_mut-2.result.now c.deref_mut.result.now c.enter.new.totals
+            c.index_mut-2.ensures.value c.deref_mut.ensures.value (omega (arith, c.enter.ensures.as_many, c.deref_mut.ensures.len))
+            (record { as_many = c.enter.ensures.as_many; entered = c.enter.ensures.entered }),
+      );
+    })
+    c.written_parts_come_home.ensures.meaning c.written_parts_come_home.ensures.either c.batches_run_side_by_side.ensures.law
 
 pub returns-clause-logged : goal.returns-clause-logged
 returns-clause-logged g c s stands =
-    let lt : c.args.number < s.systems = subst (λ n. c.args.number < n) (sym c.requires.stands.1.0.accesses ∙ stands.accesses) c.requires.stands.1.1 in
-    (turn_taken g.S.System.meaning c.args.lender.now s c.args.number stands lt c.lend_out.new.self c.in_ok-job.job c.in_ok-job.ensures.out
-    c.in_ok-done.done c.in_ok-done.ensures.done c.take_back.new.self c.take_back.result c.take_back.ensures.home c.take_back.ensures.turn
-    c.written_parts_come_home.ensures.meaning c.written_parts_come_home.ensures.either c.batches_run_side_by_side.ensures.law).1
+    let i = c.args.number in
+    let lt : i < s.systems = subst (λ n. i < n) (sym c.requires.stands.1.0.accesses ∙ stands.accesses) c.requires.stands.1.1 in
+    turn_is_logged g.S.System.meaning c.args.lender.now s i stands lt
+    c.lend_out.new.self c.in_ok-taken.taken c.index.result.now c.index_mut.result.now c.in-Some.guarded c.index.ensures c.index_mut.ensures.value c.in-Some.is
+    c.in_ok-taken.ensures.lent
+    c.in_ok-taken-2.taken c.in_ok-taken-2.outcome c.take_turn.new.self c.in_ok-taken-2.ensures.took

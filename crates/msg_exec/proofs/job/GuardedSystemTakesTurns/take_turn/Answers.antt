@@ -1,0 +1,50 @@
+use Rattle.std.proofs.Common.{rules, ◌≡◌, refl, sym, ap, subst, ◌∙◌}
+use Rattle.msg_world.specs.declared.access.Access.{Access}
+use Rattle.msg_world.specs.Access.{writes}
+use Rattle.msg_world.specs.Parts.{Parts, PartsStand, SameShape}
+use Rattle.msg_system.specs.Conditions.{all_hold}
+use Rattle.msg_system.specs.Systems.{turn}
+use Rattle.msg_exec.proofs.JobsAreDone.{asked_guards, nothing_else, ran_job, skipped_job}
+use Rattle.msg_exec.proofs.job.GuardedSystemTakesTurns.take_turn.Goals as goal
+
+pub returns-then-not-check_all : goal.returns-then-not-check_all
+returns-then-not-check_all g c =
+    let old = c.args.self.now in
+    let kept : c.args.taken ≡ c.into_taken.result = sym (c.into_taken.ensures.taken ∙ c.open-lent.ensures.taken) in
+    let there = c.deref_mut.ensures.value in
+    record {
+      took = record {
+        shape = subst (λ p. SameShape c.args.taken p) kept (search rules);
+        after = λ w world lent.
+            let stands = c.open-lent.ensures.meaning w world lent in
+            skipped_job g.S.System.meaning old _ _ w
+            (sym c.if-not-check_all.true ∙ c.check_all.ensures.answer w stands ∙ ap (λ gs. all_hold gs w) there)
+            refl
+            (asked_guards old.guards c.deref_mut.result.now c.check_all.new.guards w there c.check_all.ensures.same (c.check_all.ensures.moved w stands))
+            (subst (λ p. PartsStand p w) kept lent);
+      };
+    }
+
+pub returns : goal.returns
+returns g c =
+    let old = c.args.self.now in
+    let l = c.open-lent.result in
+    let taken = c.in_ok-taken.taken in
+    let ran = c.in_ok-taken.ensures.ran in
+    let P : Parts → Type 0 = λ p. SameShape p taken in
+    let shape : SameShape c.args.taken taken = subst P c.open-lent.ensures.taken c.in_ok-taken.ensures.shape in
+    let none = nothing_else c.args.access.now c.args.taken taken c.requires.may.0.written shape in
+    let there = c.deref_mut.ensures.value in
+    record {
+      took = record {
+        shape = shape;
+        after = λ w world lent.
+            let stands = c.open-lent.ensures.meaning w world lent in
+            ran_job g.S.System.meaning old _ l taken w _ _ _ c.new-replies.ensures.items c.from_vec.ensures.items
+            (sym c.if-not-check_all.false ∙ c.check_all.ensures.answer w stands ∙ ap (λ gs. all_hold gs w) there)
+            (asked_guards old.guards c.deref_mut.result.now c.check_all.new.guards w there c.check_all.ensures.same (c.check_all.ensures.moved w stands))
+            ran stands
+            (c.what_is_given_back_stands.ensures.law l taken (turn (g.S.System.meaning old.system) w).state
+            (λ p isnt. none p (ap (λ (a : Access). writes a p) (sym c.open-lent.ensures.access) ∙ isnt)) (ran.state w stands));
+      };
+    }
