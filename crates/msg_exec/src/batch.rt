@@ -10,6 +10,7 @@ ghost use Rattle.msg_exec.specs.Work.{EachPassedGate};
 use crate::job::Job;
 use crate::lender::{Lender, run_turn};
 use crate::side_by_side::run_side_by_side;
+use crate::spares::Spares;
 use crate::{Gate, NoMemory, Turn, Workers};
 use msg_frames::laws::batches_run_side_by_side;
 use msg_system::System;
@@ -72,6 +73,7 @@ pub(crate) fn run_turns<S: System, G: Gate>(
     lender: &mut Lender<S>,
     systems: &[u32],
     gate: &G,
+    spares: &mut Spares,
     turns: &mut Vec<Turn>,
 ) -> Result<(), NoMemory>
     requires stands { (s : State) × (LenderStands S.meaning lender.old s × All (λ i. i < s.systems) systems.now) }
@@ -84,7 +86,7 @@ pub(crate) fn run_turns<S: System, G: Gate>(
 {
     for &system in systems {
         gate.pass(0, system);
-        turns.push(run_turn(alloc, lender, system)?)?;
+        turns.push(run_turn(alloc, lender, system, spares)?)?;
     }
     Ok(())
 }
@@ -98,6 +100,7 @@ fn run_batch<R: Threads + Sync, S: System, G: Gate>(
     batch: &[u32],
     workers: Workers,
     gate: &G,
+    spares: &mut Spares,
     turns: &mut Vec<Turn>,
 ) -> Result<(), NoMemory>
     requires stands { (s : State) × (LenderStands S.meaning lender.old s × All (λ i. i < s.systems) batch.now) }
@@ -112,7 +115,7 @@ fn run_batch<R: Threads + Sync, S: System, G: Gate>(
     ensures gate_passed { OnOk result (EachPassedGate (G.passed gate.now) workers batch.now) }
 {
     if workers.number() == 1 || batch.len() <= 1 {
-        return run_turns(alloc, lender, batch, gate, turns);
+        return run_turns(alloc, lender, batch, gate, spares, turns);
     }
     run_many(rt, alloc, lender, batch, workers, gate, turns)
 }
@@ -125,6 +128,7 @@ pub(crate) fn run_batches<R: Threads + Sync, S: System, G: Gate>(
     batches: &[Vec<u32>],
     workers: Workers,
     gate: &G,
+    spares: &mut Spares,
 ) -> Result<Vec<Turn>, NoMemory>
     requires stands { (s : State) × (LenderStands S.meaning lender.old s
         × All (λ batch. All (λ i. i < s.systems) batch.items) batches.now) }
@@ -139,9 +143,9 @@ pub(crate) fn run_batches<R: Threads + Sync, S: System, G: Gate>(
     ensures gate_passed { OnOk result (EachPassedGate (G.passed gate.now) workers
         (concat (map (λ batch. batch.items) batches.now))) }
 {
-    let mut turns = Vec::with_capacity(alloc, lender.accesses.len())?;
+    let mut turns = spares.turns(alloc, lender.accesses.len())?;
     for batch in batches {
-        run_batch(rt, alloc, lender, batch, workers, gate, &mut turns)?;
+        run_batch(rt, alloc, lender, batch, workers, gate, spares, &mut turns)?;
     }
     Ok(turns)
 }

@@ -3,6 +3,7 @@ use crate::engine_core::{Core, plan_by, run_one};
 use crate::joining::join_those;
 use crate::lender::Lender;
 use crate::replay::{accepts_next, replay_one};
+use crate::spares::Spares;
 use crate::{BuildRefusal, Frame, Gate, Log, Place, RunFault, Workers};
 use msg_frames::laws::{runs_are_unique, runs_exist};
 use msg_frames::reader_laws::{
@@ -31,6 +32,7 @@ pub struct EngineOf<S> {
     pub(crate) alloc: Global,
     pub(crate) core: Option<Core<S>>,
     pub(crate) frames: u32,
+    spares: Spares,
 }
 
 /// An engine of boxed systems.
@@ -115,6 +117,7 @@ impl<S: System> EngineOf<S> {
             alloc,
             core: Some(core),
             frames: 0,
+            spares: Spares::new(alloc),
         })
     }
 
@@ -165,12 +168,32 @@ impl<S: System> EngineOf<S> {
         let Some(core) = self.core.take() else {
             return Err(RunFault::Spoiled);
         };
-        let Ok((core, log)) = run_one(rt, self.alloc, core, self.frames, frame, workers, gate)
-        else {
+        let Ok((core, log)) = run_one(
+            rt,
+            self.alloc,
+            core,
+            self.frames,
+            frame,
+            workers,
+            gate,
+            &mut self.spares,
+        ) else {
             return Err(RunFault::NoMemory);
         };
         self.end_frame(core);
         Ok(log)
+    }
+
+    /// Takes the memory of a log that is no longer needed, for the logs of frames to come: a loop
+    /// that gives each log back asks for less.
+    pub fn recycle(&mut self, log: Log)
+        ensures meaning { (s : State) → StandsFor S.meaning self.old s → StandsFor S.meaning self.new s }
+        ensures counted { frames_of self.new ≡ frames_of self.old }
+        ensures world { world_of self.new ≡ world_of self.old }
+        ensures spoiled { IsSpoiled self.new ↔ IsSpoiled self.old }
+        ensures engine { IsEngine S.meaning self.old → IsEngine S.meaning self.new }
+    {
+        self.spares.keep(log);
     }
 
     /// Runs frames one after the other, and appends the log of each whole one.
@@ -262,7 +285,14 @@ impl<S: System> EngineOf<S> {
             self.core = Some(core);
             return Err(RunFault::BadOrder);
         }
-        let Ok((core, log)) = replay_one(self.alloc, core, self.frames, frame, order) else {
+        let Ok((core, log)) = replay_one(
+            self.alloc,
+            core,
+            self.frames,
+            frame,
+            order,
+            &mut self.spares,
+        ) else {
             return Err(RunFault::NoMemory);
         };
         self.end_frame(core);

@@ -12,6 +12,7 @@ use crate::batch::run_batches;
 use crate::joining::join_those;
 use crate::lender::Lender;
 use crate::posts::post_all;
+use crate::spares::Spares;
 use crate::{Frame, Gate, Items, Log, NoMemory, Workers};
 use msg_frames::reader_laws::states_stay_sound;
 use msg_order::{Plan, PlanRefusal, Rule};
@@ -136,6 +137,7 @@ pub(crate) fn run_one<R: Threads + Sync, S: System, G: Gate>(
     frame: &Frame,
     workers: Workers,
     gate: &G,
+    spares: &mut Spares,
 ) -> Result<(Core<S>, Log), NoMemory>
     requires stands { (s : State) × (CoreStands S.meaning core s × (frames ≡ frame_count s)) }
     requires posts { All (λ p. p.0 < length core.lender.world.types) frame.now.posts }
@@ -147,7 +149,7 @@ pub(crate) fn run_one<R: Threads + Sync, S: System, G: Gate>(
     states_stay_sound();
     let (mut core, posts) = open(alloc, core, frames, frame)?;
     let batches = core.plan.batches();
-    let turns = run_batches(rt, alloc, &mut core.lender, batches, workers, gate)?;
+    let turns = run_batches(rt, alloc, &mut core.lender, batches, workers, gate, spares)?;
     let log = Log {
         posts: Items::from_vec(posts),
         turns: Items::from_vec(turns),

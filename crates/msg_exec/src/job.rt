@@ -1,5 +1,5 @@
 // One system's job: its conditions and its system, on a loan of what its access uses.
-ghost use Rattle.std.specs.Prelude.{IfOk};
+ghost use Rattle.std.specs.Prelude.{◌≡◌, [], IfOk};
 ghost use Rattle.msg_world.specs.declared.access.Access.{Access};
 ghost use Rattle.msg_world.specs.Loan.{IsLoanOf};
 ghost use Rattle.msg_world.specs.Parts.{Parts};
@@ -8,7 +8,7 @@ ghost use Rattle.msg_frames.specs.declared.log.Outcome.{Outcome};
 ghost use Rattle.msg_exec.specs.Jobs.{HasTakenTurn, guarded_needs};
 
 use crate::{Items, NoMemory, Outcome};
-use msg_system::{Guard, System, open_loans_cover, what_is_given_back_stands};
+use msg_system::{Guard, Reply, System, open_loans_cover, what_is_given_back_stands};
 use msg_world::{Access, Lent, Taken, World};
 use std::alloc::Global;
 
@@ -28,14 +28,16 @@ pub(crate) trait TakesTurns {
     // What its turn gave back, what came of it, and what it is now, are those of a turn.
     ghost took: { Self → Parts → Parts → Parts → Outcome → Self → Type 0 };
 
-    /// Takes the turn. Gives back what was lent, and what came of it.
+    /// Takes the turn. Gives back what was lent, and what came of it; replies go into the empty list.
     fn take_turn(
         &mut self,
         alloc: Global,
         world: &World,
         access: &Access,
         taken: Taken,
+        replies: Vec<Reply>,
     ) -> Result<(Taken, Outcome), NoMemory>
+        requires empty { replies.items ≡ [] }
         requires may { Self.may self.old access.now world.now taken }
         ensures took { IfOk result (λ r. Self.took self.old world.now taken r.0 r.1 self.new) };
 }
@@ -54,6 +56,7 @@ impl<S: System> TakesTurns for GuardedSystem<S> {
         world: &World,
         access: &Access,
         taken: Taken,
+        mut replies: Vec<Reply>,
     ) -> Result<(Taken, Outcome), NoMemory> {
         open_loans_cover();
         what_is_given_back_stands();
@@ -61,7 +64,6 @@ impl<S: System> TakesTurns for GuardedSystem<S> {
         if !Guard::check_all(&mut self.guards, &lent) {
             return Ok((lent.into_taken(), Outcome::Skipped));
         }
-        let mut replies = Vec::new(alloc);
         let taken = self.system.run(alloc, lent, &mut replies)?;
         Ok((taken, Outcome::Ran(Items::from_vec(replies))))
     }

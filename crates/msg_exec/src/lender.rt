@@ -4,6 +4,7 @@ ghost use Rattle.msg_frames.specs.Frames.{after_turn_of, logged, State};
 ghost use Rattle.msg_exec.specs.Lender.{LenderStands};
 
 use crate::job::{Done, GuardedSystem, Job, TakesTurns};
+use crate::spares::Spares;
 use crate::totals::enter;
 use crate::{NoMemory, Totals, Turn};
 use msg_frames::laws::batches_run_side_by_side;
@@ -83,6 +84,7 @@ pub(crate) fn run_turn<S: System>(
     alloc: Global,
     lender: &mut Lender<S>,
     number: u32,
+    spares: &mut Spares,
 ) -> Result<Turn, NoMemory>
     requires stands { (s : State) × (LenderStands S.meaning lender.old s × (number < s.systems)) }
     ensures state { IfOk result (λ turn. (s : State) → LenderStands S.meaning lender.old s
@@ -96,10 +98,11 @@ pub(crate) fn run_turn<S: System>(
     let i = number as usize;
     let access = lender.accesses[i];
     let taken = lender.world.lend_out(&access)?;
+    let replies = spares.replies(alloc);
     let Some(guarded) = &mut lender.systems[i] else {
         unreachable!()
     };
-    let (taken, outcome) = guarded.take_turn(alloc, &lender.world, &access, taken)?;
+    let (taken, outcome) = guarded.take_turn(alloc, &lender.world, &access, taken, replies)?;
     lender.world.take_back(taken);
     enter(&guarded.system, &mut lender.totals[i], &outcome);
     Ok(Turn {

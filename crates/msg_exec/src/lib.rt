@@ -18,6 +18,7 @@ mod replay;
 mod run_workers;
 mod runs;
 mod side_by_side;
+mod spares;
 mod totals;
 mod workers;
 

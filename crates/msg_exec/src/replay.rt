@@ -8,6 +8,7 @@ ghost use Rattle.msg_frames.specs.Replays.{IsLawfulFor, IsReplay};
 
 use crate::batch::run_turns;
 use crate::engine_core::{Core, next_plan, open};
+use crate::spares::Spares;
 use crate::{Frame, Items, Log, NoGate, NoMemory};
 use msg_frames::laws::{frames_agree_in_lawful_orders, systems_have_one_order};
 use msg_frames::reader_laws::states_stay_sound;
@@ -40,6 +41,7 @@ pub(crate) fn replay_one<S: System>(
     frames: u32,
     frame: &Frame,
     order: &[u32],
+    spares: &mut Spares,
 ) -> Result<(Core<S>, Log), NoMemory>
     requires stands { (s : State) × (CoreStands S.meaning core s × (frames ≡ frame_count s)) }
     requires posts { All (λ p. p.0 < length core.lender.world.types) frame.now.posts }
@@ -51,8 +53,8 @@ pub(crate) fn replay_one<S: System>(
     states_stay_sound();
     frames_agree_in_lawful_orders();
     let (mut core, posts) = open(alloc, core, frames, frame)?;
-    let mut turns = Vec::with_capacity(alloc, order.len())?;
-    run_turns(alloc, &mut core.lender, order, &NoGate, &mut turns)?;
+    let mut turns = spares.turns(alloc, order.len())?;
+    run_turns(alloc, &mut core.lender, order, &NoGate, spares, &mut turns)?;
     let log = Log {
         posts: Items::from_vec(posts),
         turns: Items::from_vec(turns),

@@ -53,7 +53,7 @@ impl<'a, S: System> Runs for Batch<'a, S> {
             access,
             taken,
         } = job;
-        let (taken, outcome) = guarded.take_turn(alloc, world, &access, taken)?;
+        let (taken, outcome) = guarded.take_turn(alloc, world, &access, taken, Vec::new(alloc))?;
         Ok(Done {
             number,
             guarded,

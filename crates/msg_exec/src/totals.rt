@@ -1,5 +1,5 @@
 // What readers were given is added to their totals.
-ghost use Rattle.std.specs.Prelude.{◌≡◌, ◌∷◌, [], ℕ, ◌<◌, length, option_to_list};
+ghost use Rattle.std.specs.Prelude.{◌≡◌, ◌∷◌, [], ℕ, ◌<◌, is_some, length, option_to_list};
 ghost use Rattle.msg_frames.specs.declared.totals.Totals.{Totals as TotalsOf};
 ghost use Rattle.msg_frames.specs.Entries.{entry_of, entry_of_read, with_entries};
 ghost use Rattle.msg_exec.specs.Keeping.{kept, totals_at};
@@ -40,6 +40,16 @@ fn add(totals: &mut Totals, reply: &Reply)
     }
 }
 
+/// Whether a reply tells of a reader: of one that read, or cleared.
+fn is_of_reader(reply: &Reply) -> bool
+    ensures { result ≡ is_some (entry_of reply.now) }
+{
+    matches!(
+        reply,
+        Reply::Read(_) | Reply::Cleared { .. } | Reply::Forwarded { .. } | Reply::Summed { .. }
+    )
+}
+
 /// Adds what one reply of a system tells to the totals of its type.
 fn enter_reply<S: System>(system: &S, op: u32, reply: &Reply, totals: &mut [Totals])
     ensures as_many { length totals.new ≡ length totals.old }
@@ -48,6 +58,9 @@ fn enter_reply<S: System>(system: &S, op: u32, reply: &Reply, totals: &mut [Tota
         → totals_at totals.new t
         ≡ kept (with_entries (entry_at t (S.meaning system.now).last op reply.now) x) }
 {
+    if !is_of_reader(reply) {
+        return;
+    }
     if let Some(t) = system.read_type(op) {
         let t = t.number() as usize;
         if t < totals.len() {

@@ -158,8 +158,9 @@ module _ {X : Type 0} (meaning : X → Meaning) where
     module _ (k : ℕ) (before now after : Option (List ℕ)) (frame : Frame) (log : Log) (e : EngineOf X) (number : ℕ)
         (just : JustRun k before now frame log e) (is : number ≡ k + 1) where
       -- its text was put
-      pub frame_put : Appends now after (frame_text s number frame log) → ReportSoFar (k + 1) before after e
-      frame_put puts =
+      pub frame_put : (f : EngineOf X) → ((u : State) → StandsFor meaning e u → StandsFor meaning f u)
+          → Appends now after (frame_text s number frame log) → ReportSoFar (k + 1) before after f
+      frame_put f stays puts =
           let sum = length-append just.earlier (log ∷ []) in
           let many = just.as_many in
           record {
@@ -172,7 +173,7 @@ module _ {X : Type 0} (meaning : X → Meaning) where
             printed = subst (Appends before after) (sym just.next)
                 (Appends-trans before now after (frames_text s 1 s.frames just.earlier) (frame_text s (k + 1) frame log)
                 just.printed (subst (λ n. Appends now after (frame_text s n frame log)) is puts));
-            stands = just.stands;
+            stands = stays just.state just.stands;
           }
 
       -- its text was put in part

@@ -64,6 +64,7 @@ pub fn report<R: Threads + Sync, X: System, S: Sink, G: Gate>(
         };
         number += 1;
         put_frame(scenario, number, frame, &log, &mut text, sink)?;
+        engine.recycle(log);
     }
     match engine.accounts() {
         Ok(accounts) => put_accounts(scenario, accounts.as_slice(), &mut text, sink),

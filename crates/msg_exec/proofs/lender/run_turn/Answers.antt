@@ -4,13 +4,13 @@ use Rattle.msg_exec.proofs.BatchOfOne.{may_come_home, may_take_turn, turn_is_log
 use Rattle.msg_exec.proofs.EntriesAreAdded.{entered_there}
 use Rattle.msg_exec.proofs.lender.run_turn.Goals as goal
 
-pub take_turn-requires : goal.take_turn-requires
-take_turn-requires g c =
+pub take_turn-requires-clause-may : goal.take_turn-requires-clause-may
+take_turn-requires-clause-may g c =
     let s = c.requires.stands in
     let may = may_take_turn g.S.System.meaning c.args.lender.now s.0 c.args.number s.1.0 s.1.1
     c.lend_out.new.self c.in_ok-taken.taken c.index.result.now c.index_mut.result.now c.in-Some.guarded c.index.ensures c.index_mut.ensures.value c.in-Some.is
     c.in_ok-taken.ensures.lent in
-    record { may = (may.loan, may.access) }
+    (may.loan, may.access)
 
 pub enter-requires-clause-few : goal.enter-requires-clause-few
 enter-requires-clause-few g c κs within =

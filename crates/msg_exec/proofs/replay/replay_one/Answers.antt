@@ -19,6 +19,6 @@ returns g c = record {
       let order = c.args.order.now in
       frame_replayed g.S.System.meaning c.args.core c.in_ok-core.core _ s c.args.frame.now order _ c.in_ok-core.posts.items stands has
       c.states_stay_sound.ensures.frame c.frames_agree_in_lawful_orders.ensures.law (c.requires.lawful s stands is) (c.in_ok-run_turns.ensures.state bt has.lender)
-      (logged_in c.args.frame.now order s _ c.in_ok-core.posts.items c.from_vec.ensures.items has.posts (c.from_vec-2.ensures.items ∙ c.in_ok-run_turns.ensures.turns bt has.lender ∙ ap (λ ts. ts ++ (after_turns_of order bt).turns) c.in_ok-turns.ensures.items))
+      (logged_in c.args.frame.now order s _ c.in_ok-core.posts.items c.from_vec.ensures.items has.posts (c.from_vec-2.ensures.items ∙ c.in_ok-run_turns.ensures.turns bt has.lender ∙ ap (λ ts. ts ++ (after_turns_of order bt).turns) c.in_ok-turns.ensures.empty))
       refl refl refl c.in_ok-run_turns.ensures.accesses;
 }

@@ -59,7 +59,7 @@ loop-frame-preserved g c =
     c.loop-frame.invariant.so_far (below s.frames items k same c.loop-frame-test.true) (frame_is s.frames items k frame same c.frame-item.is)
     c.in-Ok.ensures.ran in record {
       so_far = frame_put meaning s k _ _ _ frame c.in-Ok.log c.run_frame.new.self (c.loop-frame.number + 1) just
-          (ap (λ n. n + 1) c.loop-frame.invariant.number) c.in_ok-put_frame.ensures.ok;
+          (ap (λ n. n + 1) c.loop-frame.invariant.number) c.recycle.new.self c.recycle.ensures.meaning c.in_ok-put_frame.ensures.ok;
       failures = c.in_ok-put_frame.ensures.quiet ∙ c.loop-frame.invariant.failures;
       number = ap (λ n. n + 1) c.loop-frame.invariant.number;
     }

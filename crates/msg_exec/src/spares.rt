@@ -1,0 +1,68 @@
+// Lists that are no longer needed, whose memory serves the logs of frames to come.
+ghost use Rattle.std.specs.Prelude.{◌≡◌, ◌≤◌, [], IfOk, vec_capacity};
+
+use crate::{Log, NoMemory, Outcome, Turn};
+use msg_system::Reply;
+use std::alloc::Global;
+use std::mem::replace;
+
+/// At most so many lists of replies are kept: one for each system that an engine may have.
+const MOST: usize = 256;
+
+/// Empty lists with their memory.
+#[derive(Drop)]
+pub(crate) struct Spares {
+    turns: Vec<Turn>,
+    replies: Vec<Vec<Reply>>,
+}
+
+impl Spares {
+    pub(crate) fn new(alloc: Global) -> Spares {
+        Spares {
+            turns: Vec::new(alloc),
+            replies: Vec::new(alloc),
+        }
+    }
+
+    /// An empty list with room for so many turns.
+    pub(crate) fn turns(&mut self, alloc: Global, room: usize) -> Result<Vec<Turn>, NoMemory>
+        ensures empty { IfOk result (λ turns. turns.items ≡ []) }
+    {
+        let mut turns = replace(&mut self.turns, Vec::new(alloc));
+        turns.clear();
+        turns.reserve(room)?;
+        Ok(turns)
+    }
+
+    /// An empty list of replies.
+    pub(crate) fn replies(&mut self, alloc: Global) -> Vec<Reply>
+        ensures empty { result.items ≡ [] }
+    {
+        match self.replies.pop() {
+            Some(mut replies) => {
+                replies.clear();
+                replies
+            }
+            None => Vec::new(alloc),
+        }
+    }
+
+    /// Keeps the lists of a log, where there is room for them.
+    pub(crate) fn keep(&mut self, log: Log) {
+        let mut turns = log.turns.into_vec();
+        while let Some(turn) = turns.pop() {
+            if let Outcome::Ran(replies) = turn.outcome {
+                self.keep_replies(replies.into_vec());
+            }
+        }
+        self.turns = turns;
+    }
+
+    fn keep_replies(&mut self, replies: Vec<Reply>) {
+        let mut replies = replies;
+        replies.clear();
+        if self.replies.len() < MOST {
+            let _kept = self.replies.push(replies);
+        }
+    }
+}
