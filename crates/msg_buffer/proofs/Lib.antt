@@ -1,5 +1,6 @@
 -- Histories
 pub mod Numbers
+pub mod Made
 pub mod Histories
 pub mod Presence
 pub mod Growth

@@ -1,5 +1,7 @@
 // Writing many messages at once.
-ghost use Rattle.std.specs.Prelude.{◌≡◌, ◌+◌, ◌^◌, ◌<◌, ◌≤◌, ◌++◌, vec_len, vec_capacity};
+ghost use Rattle.std.specs.Prelude.{◌≡◌, ◌+◌, ◌^◌, ◌<◌, ◌≤◌, ◌++◌, List, length, vec_len, vec_capacity};
+ghost use Rattle.std.specs.Fn.{FnReturnsAt};
+ghost use Rattle.std.specs.List.{AllZip};
 ghost use Rattle.msg_buffer.specs.History.{numbered};
 
 use crate::instance::{Instance, MessageId};
@@ -19,6 +21,29 @@ pub(crate) fn append_numbered<M: Drop, A: Allocator>(
     let mut next = first;
     for message in batch {
         let id = MessageId(next);
+        instances.push_reserved(Instance { id, message });
+        next += 1;
+    }
+}
+
+/// Appends what the function makes of each item, under the numbers from `first` on. The room was
+/// made before.
+pub(crate) fn append_each<T, M, A: Allocator, F: Fn(&T) -> M>(
+    instances: &mut Vec<Instance<M>, A>,
+    first: u64,
+    items: &[T],
+    message_of: F,
+)
+    requires callable { F.IsAlwaysCallable message_of }
+    requires room { vec_len instances.old + length items.now ≤ vec_capacity instances.old }
+    requires numbers { first + length items.now < 2 ^ 64 }
+    ensures appended { (ms : List M) × AllZip (FnReturnsAt F.Fn message_of) items.now ms
+        × (instances.new.items ≡ instances.old.items ++ numbered first ms) }
+{
+    let mut next = first;
+    for item in items {
+        let id = MessageId(next);
+        let message = message_of(item);
         instances.push_reserved(Instance { id, message });
         next += 1;
     }

@@ -1,12 +1,14 @@
 // The buffer.
-ghost use Rattle.std.specs.Prelude.{◌≡◌, ◌+◌, ◌-◌, ◌^◌, ◌<◌, ◌≤◌, ◌↔◌, [], ◌∷◌, length, IsTrue, IfOk, IfErr, OnOk, OnErr, IsOk};
+ghost use Rattle.std.specs.Prelude.{◌≡◌, ◌+◌, ◌-◌, ◌^◌, ◌<◌, ◌≤◌, ◌↔◌, List, [], ◌∷◌, length, IsTrue, IfOk, IfErr, OnOk, OnErr, IsOk};
+ghost use Rattle.std.specs.Fn.{FnReturnsAt};
+ghost use Rattle.std.specs.List.{AllZip};
 ghost use Rattle.std.specs.Option.{option_copied};
 ghost use Rattle.msg_buffer.specs.History.{History, clear, count, current, empty, get, oldest, present, update, write};
 ghost use Rattle.msg_buffer.specs.Kept.{kept_count, kept_instances, get_from};
 ghost use Rattle.msg_buffer.specs.Refusals.{IsBatchSpent, IsSpent, batch_refused, message_refused};
 ghost use Rattle.msg_buffer.specs.StandsFor.{StandsFor};
 
-use crate::batch::append_numbered;
+use crate::batch::{append_each, append_numbered};
 use crate::cursor::MessageCursor;
 use crate::instance::{Instance, MessageId, Written};
 use crate::refusals::{BatchRefusal, NoMemory, WriteRefusal};
@@ -184,6 +186,44 @@ impl<M, A: Allocator> Messages<M, A> {
                 Err(WriteRefusal::NoMemory(message))
             }
         }
+    }
+
+    /// Writes what the function makes of each item, under consecutive numbers, or nothing.
+    pub fn write_each<T, F: Fn(&T) -> M>(
+        &mut self,
+        items: &[T],
+        message_of: F,
+    ) -> Result<Written, WriteRefusal<()>>
+        requires callable { F.IsAlwaysCallable message_of }
+        ensures meaning { OnOk result ((ms : List M)
+            × AllZip (FnReturnsAt F.Fn message_of) items.now ms
+            × ((h : History M) → StandsFor self.old h → StandsFor self.new (write ms h))) }
+        ensures first { IfOk result (λ w. (h : History M) → StandsFor self.old h
+            → w.first ≡ count h) }
+        ensures number { IfOk result (λ w. w.n ≡ length items.now) }
+
+        // Where too few numbers are left it is refused for that, and else all fit or memory is
+        // refused. No items always fit.
+        ensures room { OnOk result ((h : History M) → StandsFor self.old h
+            → count h + length items.now ≤ h.limit) }
+        ensures spent { IfErr result (λ e. (h : History M) → StandsFor self.old h
+            → (IsSpent e ↔ (h.limit < count h + length items.now))) }
+        ensures empty { items.now ≡ [] → IsOk result }
+
+        // A refusal changes nothing.
+        ensures err { OnErr result (self.new ≡ self.old) }
+    {
+        let first = self.count;
+        let n = items.len() as u64;
+        if n > self.limit - first {
+            return Err(WriteRefusal::NumbersSpent(()));
+        }
+        if self.newer.instances.reserve(items.len()).is_err() {
+            return Err(WriteRefusal::NoMemory(()));
+        }
+        append_each(&mut self.newer.instances, first, items, message_of);
+        self.count = first + n;
+        Ok(Written { first, n })
     }
 }
 

@@ -1,6 +1,7 @@
 -- What is read from a loan, and written through it.
-use Rattle.std.proofs.Common.{◌≡◌, ℕ, ◌+◌, ◌++◌, ◌≤◌, ◌<◌, Bool, true, false, List, length, Option, Some, None, refl, sym, subst, ◌∙◌, arith, inl, inr}
+use Rattle.std.proofs.Common.{◌≡◌, ℕ, ◌+◌, ◌++◌, ◌≤◌, ◌<◌, Bool, true, false, List, [], ◌∷◌, length, map, Option, Some, None, refl, sym, subst, ◌∙◌, arith, inl, inr}
 use Rattle.std.specs.Prelude.{ℤ, Result, Ok, Err, IfSome, IsSome, OnErr, if◌then◌else◌}
+use Rattle.std.specs.List.{AllZip}
 use Rattle.std.proofs.lemmas.Bool.{cases_Bool, cases_lt, false≢true}
 use Rattle.std.proofs.lemmas.Bool.Decides.{nat_tests}
 use Rattle.msg_buffer.specs.declared.instance.Written.{Written}
@@ -66,3 +67,10 @@ pub spent_stands : (h : History Record) (ms : List Record) (k : Kept Record) →
 spent_stands h ms k spent stands =
     let P : Bool → Type 0 = λ b. StandsFor k (if b then record h { entries = h.entries ++ stamped h.updates ms } else h) in
     subst P (sym (room_false h (length ms) spent)) stands
+
+-- what a function makes of items, where it gives what `f` gives
+pub made_by : {X M : Type 0} (R : X → M → Type 0) (f : X → M) → ((x : X) (m : M) → R x m → m ≡ f x) → (xs : List X) (ms : List M) → AllZip R xs ms → ms ≡ map f xs
+made_by R f is [] [] made = refl
+made_by R f is [] (m ∷ ms) made = absurd made
+made_by R f is (x ∷ xs) [] made = absurd made
+made_by R f is (x ∷ xs) (m ∷ ms) made = rw (is x m made.0, made_by R f is xs ms made.1) refl

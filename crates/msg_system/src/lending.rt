@@ -1,14 +1,15 @@
 // What ops do to the parts that are lent to them.
 ghost use Rattle.std.specs.Prelude.{◌≡◌, ◌<◌, ℕ, [], ◌∷◌, IfOk, OnErr, OnOk, IsSome, length, map};
+ghost use Rattle.std.specs.Fn.{FnReturnsAt};
 ghost use Rattle.msg_buffer.specs.History.{clear, oldest, present, write, message_of};
 ghost use Rattle.msg_buffer.specs.StandsFor.{StandsFor};
 ghost use Rattle.msg_world.specs.Access.{OfResource, OfType};
 ghost use Rattle.msg_world.specs.Loan.{LoanStands, SameLoan, shown, writable};
-ghost use Rattle.msg_world.specs.World.{WorldState, by, with_history, with_value_of};
-ghost use Rattle.msg_system.specs.Programs.{again_by, numbers_for, sum_onto};
+ghost use Rattle.msg_world.specs.World.{WorldState, with_history, with_value_of};
+ghost use Rattle.msg_system.specs.Programs.{numbers_for, sum_onto};
 
 use crate::{Items, NoMemory};
-use msg_buffer::{BatchRefusal, Instance, Messages, WriteRefusal, Written};
+use msg_buffer::{Instance, Messages, WriteRefusal, Written};
 use msg_world::laws::writes_stand;
 use msg_world::{Lent, Record, ResNo, TypeNo};
 use std::alloc::Global;
@@ -64,31 +65,37 @@ pub(crate) fn write_one(
     }
 }
 
-/// Writes all messages, or none where too few numbers are left.
-pub(crate) fn write_all(
+/// Writes what the function makes of each item, or nothing where too few numbers are left.
+pub(crate) fn write_each<T, F: Fn(&T) -> Record>(
     lent: &mut Lent,
     t: TypeNo,
-    records: Vec<Record>,
+    items: &[T],
+    message_of: F,
 ) -> Result<Option<Written>, NoMemory>
     requires lent { IsSome (writable (OfType t) lent.old) }
+    requires callable { F.IsAlwaysCallable message_of }
     ensures numbers { IfOk result (λ numbers. (s : WorldState) → LoanStands lent.old s
-        → numbers ≡ numbers_for (s.histories t) (length records.items)) }
-    ensures written { OnOk result ((s : WorldState) → LoanStands lent.old s
-        → LoanStands lent.new (with_history s t (write records.items (s.histories t)))) }
+        → numbers ≡ numbers_for (s.histories t) (length items.now)) }
+
+    // Of each item what `f` gives, if that is what the function makes of it.
+    ensures written { OnOk result ((f : T → Record)
+        → ((x : T) (m : Record) → FnReturnsAt F.Fn message_of x m → m ≡ f x)
+        → (s : WorldState) → LoanStands lent.old s
+        → LoanStands lent.new (with_history s t (write (map f items.now) (s.histories t)))) }
     ensures same { OnOk result (SameLoan lent.old lent.new) }
 
     // Memory is refused only where there is something to write, and numbers enough were left.
-    ensures some { OnErr result (0 < length records.items) }
+    ensures some { OnErr result (0 < length items.now) }
     ensures refused { OnErr result ((s : WorldState) → LoanStands lent.old s
-        → IsSome (numbers_for (s.histories t) (length records.items))) }
+        → IsSome (numbers_for (s.histories t) (length items.now))) }
 {
     writes_stand();
     match lent.writer(t) {
         None => unreachable!(),
-        Some(messages) => match messages.write_batch(records) {
+        Some(messages) => match messages.write_each(items, message_of) {
             Ok(written) => Ok(Some(written)),
-            Err(BatchRefusal::NumbersSpent(_)) => Ok(None),
-            Err(BatchRefusal::NoMemory(_)) => Err(NoMemory),
+            Err(WriteRefusal::NumbersSpent(())) => Ok(None),
+            Err(WriteRefusal::NoMemory(())) => Err(NoMemory),
         },
     }
 }
@@ -158,42 +165,4 @@ pub fn added_up(start: i64, records: &[Record]) -> i64
         sum = sum.saturating_add(record.value);
     }
     sum
-}
-
-/// Messages of this writer with these values.
-pub(crate) fn written_by(
-    alloc: Global,
-    values: &[i64],
-    writer: u32,
-) -> Result<Vec<Record>, NoMemory>
-    ensures written { IfOk result (λ v. v.items ≡ map (by writer) values.now) }
-    ensures refused { OnErr result (0 < length values.now) }
-{
-    let mut records = Vec::with_capacity(alloc, values.len())?;
-    for value in values {
-        records.push(Record {
-            writer,
-            value: *value,
-        })?;
-    }
-    Ok(records)
-}
-
-/// Messages of this writer with the values of others.
-pub(crate) fn rewritten(
-    alloc: Global,
-    records: &[Record],
-    writer: u32,
-) -> Result<Vec<Record>, NoMemory>
-    ensures again { IfOk result (λ v. v.items ≡ again_by writer records.now) }
-    ensures refused { OnErr result (0 < length records.now) }
-{
-    let mut again = Vec::with_capacity(alloc, records.len())?;
-    for record in records {
-        again.push(Record {
-            writer,
-            value: record.value,
-        })?;
-    }
-    Ok(again)
 }

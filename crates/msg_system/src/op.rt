@@ -118,7 +118,7 @@ impl Op {
     {
         match self {
             Op::Write(t, value) => steps::write(lent, writer, *t, *value),
-            Op::Batch(t, values) => steps::batch(alloc, lent, writer, *t, values),
+            Op::Batch(t, values) => steps::batch(lent, writer, *t, values),
             Op::Read(t, limit) => {
                 steps::read(
                     alloc,

@@ -7,8 +7,7 @@ ghost use Rattle.msg_system.specs.Programs.{with_place, write_reply};
 ghost use Rattle.msg_system.specs.OpRuns.{MayBeRefused, OpRan};
 
 use crate::lending::{
-    added_up, drain_all, messages_of, rewritten, set_value, value_of, write_all, write_one,
-    written_by,
+    added_up, drain_all, messages_of, set_value, value_of, write_each, write_one,
 };
 use crate::reading::read_unread;
 use crate::{Items, NoMemory, Reply};
@@ -38,7 +37,6 @@ pub(crate) fn write(lent: &mut Lent, writer: u32, t: TypeNo, value: i64) -> Resu
 }
 
 pub(crate) fn batch(
-    alloc: Global,
     lent: &mut Lent,
     writer: u32,
     t: TypeNo,
@@ -51,8 +49,11 @@ pub(crate) fn batch(
     ensures refused { OnErr result ((places : ℕ → ℕ)
         → MayBeRefused (Batch t values.now) places lent.old) }
 {
-    let records = written_by(alloc, values.as_slice(), writer)?;
-    Ok(wrote_or_spent(write_all(lent, t, records)?))
+    let message_of = |value: &i64| Record {
+        writer,
+        value: *value,
+    };
+    Ok(wrote_or_spent(write_each(lent, t, values.as_slice(), message_of)?))
 }
 
 pub(crate) fn read(
@@ -120,8 +121,11 @@ pub(crate) fn forward(
         → MayBeRefused (Forward t u) places lent.old) }
 {
     let took = read_unread(alloc, messages_of(lent, t), cursor, None)?;
-    let records = rewritten(alloc, took.items.as_slice(), writer)?;
-    let wrote = write_all(lent, u, records)?;
+    let message_of = |record: &Record| Record {
+        writer,
+        value: record.value,
+    };
+    let wrote = write_each(lent, u, took.items.as_slice(), message_of)?;
     Ok(Reply::Forwarded { took, wrote })
 }
 

@@ -1,7 +1,8 @@
-use Rattle.std.proofs.Common.{None, ap, arith, length, ◌∙◌}
+use Rattle.std.proofs.Common.{None, ap, arith, length, rules, sym, ◌∙◌}
 use Rattle.std.proofs.lemmas.List.{length-map}
+use Rattle.msg_world.specs.declared.record.Record.{Record}
 use Rattle.msg_world.specs.World.{by}
-use Rattle.msg_system.specs.Programs.{again_by}
+use Rattle.msg_system.specs.Programs.{again_by, numbers_for}
 use Rattle.msg_system.proofs.Lendings.{on_err}
 use Rattle.msg_system.proofs.OpsDone.{after_forward, as_long}
 use Rattle.msg_system.proofs.steps.forward.Goals as goal
@@ -10,24 +11,21 @@ pub returns-clause-ran : goal.returns-clause-ran
 returns-clause-ran c places at s stand =
     let h = s.histories c.args.t in
     let here = c.messages_of.ensures.stands s stand in
-    let again = c.in_ok-records.ensures.again ∙ ap (again_by c.args.writer) c.as_slice.ensures.items in
-    after_forward places s c.write_all.new.lent c.args.t c.read_unread.new.cursor c.args.cursor.now c.in_ok-took.took at
-    (c.in_ok-took.ensures.took h here) (c.in_ok-took.ensures.place h here) c.args.writer c.args.u c.in_ok-records.records.items c.in_ok-wrote.wrote again
-    (c.in_ok-wrote.ensures.numbers s stand) (c.in_ok-wrote.ensures.written s stand)
+    let w = c.args.writer in
+    let items = c.as_slice.result.now in
+    let again = ap (again_by w) c.as_slice.ensures.items in
+    let long = length-map items (λ (m : Record). by w m.value) in
+    let numbers = c.in_ok-wrote.ensures.numbers s stand ∙ ap (numbers_for (s.histories c.args.u)) (sym long) in
+    let written = c.in_ok-wrote.ensures.written (λ (m : Record). by w m.value) (λ x m made. search rules) s stand in
+    after_forward places s c.write_each.new.lent c.args.t c.read_unread.new.cursor c.args.cursor.now c.in_ok-took.took at
+    (c.in_ok-took.ensures.took h here) (c.in_ok-took.ensures.place h here) w c.args.u (again_by w items) c.in_ok-wrote.wrote again numbers written
 
 pub returns-in_err-took-clause-refused : goal.returns-in_err-took-clause-refused
 returns-in_err-took-clause-refused c = on_err c.from_residual.result _ (λ places at s stand.
     rw at (c.in_err-took.ensures.refused (s.histories c.args.t) (c.messages_of.ensures.stands s stand)))
 
-pub returns-in_err-records-clause-refused : goal.returns-in_err-records-clause-refused
-returns-in_err-records-clause-refused c = on_err c.from_residual-in_err-records.result _ (λ places at s stand.
-    let h = s.histories c.args.t in
-    let long = as_long c.in_ok-took.took h c.args.cursor.now None (c.in_ok-took.ensures.took h (c.messages_of.ensures.stands s stand)) in
-    rw at (omega (arith, long, ap length c.as_slice.ensures.items, c.in_err-records.ensures.refused)))
-
 pub returns-in_err-wrote-clause-refused : goal.returns-in_err-wrote-clause-refused
 returns-in_err-wrote-clause-refused c = on_err c.from_residual-in_err-wrote.result _ (λ places at s stand.
     let h = s.histories c.args.t in
     let long = as_long c.in_ok-took.took h c.args.cursor.now None (c.in_ok-took.ensures.took h (c.messages_of.ensures.stands s stand)) in
-    let again = ap length c.in_ok-records.ensures.again ∙ length-map c.as_slice.result.now (λ m. by c.args.writer m.value) in
-    rw at (omega (arith, long, again, ap length c.as_slice.ensures.items, c.in_err-wrote.ensures.some)))
+    rw at (omega (arith, long, ap length c.as_slice.ensures.items, c.in_err-wrote.ensures.some)))

@@ -1,0 +1,25 @@
+use Rattle.std.proofs.Common.{◌++◌, [], ◌∷◌, refl, ◌∙◌, arith}
+use Rattle.std.proofs.lemmas.Fn.{says_at}
+use Rattle.std.proofs.lemmas.List.{length-take}
+use Rattle.msg_buffer.proofs.Made.{as_many, one_appended, one_more}
+use Rattle.msg_buffer.proofs.batch.append_each.Goals as goal
+
+pub loop-item-preserved : goal.loop-item-preserved
+loop-item-preserved g c =
+    let at = c.loop-item in
+    let put = c.push_reserved.ensures in
+    let made = at.invariant.3 in
+    let m = c.message_of-message.result in
+    let within = c.loop-item-test.true in
+    let more = one_more _ c.args.items.now made.0 at.item-index c.item-item.result m within c.item-item.is made.1
+    (says_at g.F.Fn c.message_of-message.ensures refl) in
+    let long = as_many _ _ made.0 made.1 ∙ length-take at.item-index c.args.items.now in (
+      omega arith,
+      omega (arith, put.len),
+      omega (arith, put.capacity),
+      (
+        made.0 ++ m ∷ [],
+        more,
+        rw put.items (one_appended c.args.instances.now.items at.instances.items c.args.first at.next made.0 m made.2 (omega arith)),
+      ),
+    )
