@@ -1,7 +1,6 @@
 -- Entries are added to totals one by one.
-use Rattle.std.proofs.Common.{◌≡◌, ℕ, zero, suc, ◌+◌, ◌<◌, ◌≤◌, ◌==◌, List, [], ◌∷◌, ◌++◌, length, drop, get_or, Option, Some, None, refl, sym, ap, subst, ◌∙◌, arith, inl, inr}
-use Rattle.std.specs.Prelude.{false, is_some, slice_get, option_to_list, unwrap_or, if◌then◌else◌}
-use Rattle.std.proofs.lemmas.Bool.{cases_Bool}
+use Rattle.std.proofs.Common.{◌≡◌, ℕ, zero, suc, ◌+◌, ◌<◌, ◌≤◌, ◌==◌, List, [], ◌∷◌, ◌++◌, length, drop, get_or, Option, Some, None, refl, sym, ap, subst, ◌∙◌, arith}
+use Rattle.std.specs.Prelude.{false, slice_get, option_to_list, unwrap_or, if◌then◌else◌}
 use Rattle.std.proofs.Math.ListN.{drop_of_length-le}
 use Rattle.std.specs.Global.{Vec}
 use Rattle.std.specs.Vec.{with_items}
@@ -9,7 +8,7 @@ use Rattle.std.proofs.lemmas.List.{with_items_is}
 use Rattle.std.proofs.lemmas.Option.{none-some, slice_get-get_or, unwrap_or-slice_get}
 use Rattle.msg_system.specs.declared.op.Op.{Op}
 use Rattle.msg_system.specs.declared.reply.Reply.{Reply}
-use Rattle.msg_system.specs.Needs.{type_read, type_read_by}
+use Rattle.msg_system.specs.Needs.{type_read}
 use Rattle.msg_system.specs.Systems.{Meaning}
 use Rattle.msg_frames.specs.declared.totals.Totals.{Totals}
 use Rattle.msg_frames.specs.Entries.{Entry, entries_for, entry_of, with_entries}
@@ -37,16 +36,6 @@ entries_from t (op ∷ ops) (r ∷ replies) zero reply here =
     ap (λ es. es ++ entries_for t ops replies) (of_its_type t (type_read op) (option_to_list (entry_of r)) ∙ ap (λ x. entry_at t (op ∷ ops) 0 x) (ap (λ o. unwrap_or o r) here))
 entries_from t [] (r ∷ replies) (suc k) reply here = refl
 entries_from t (op ∷ ops) (r ∷ replies) (suc k) reply here = entries_from t ops replies k reply here
-
--- a reply that tells of no reader has no entry
-pub no_entry : (t : ℕ) (ops : List Op) (k : ℕ) (reply : Reply) → is_some (entry_of reply) ≡ false → entry_at t ops k reply ≡ []
-no_entry t ops k reply none = of_type (type_read_by ops k) (entry_of reply) none
-  where
-    of_type : (o : Option ℕ) (e : Option Entry) → is_some e ≡ false
-        → (elim o [ None ↦ [] | Some u ↦ if u == t then option_to_list e else [] ]) ≡ []
-    of_type None e h = refl
-    of_type (Some u) None h = elim (cases_Bool (u == t)) [ inl is ↦ rw is refl | inr isnt ↦ rw isnt refl ]
-    of_type (Some u) (Some x) h = absurd cc
 
 without_replies : (t : ℕ) (ops : List Op) → entries_for t ops [] ≡ []
 without_replies t [] = refl
