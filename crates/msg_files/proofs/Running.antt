@@ -1,14 +1,14 @@
 -- The calls of a file, one after another.
-use Rattle.std.proofs.Common.{◌≡◌, ℕ, ◌+◌, ◌<◌, List, [], ◌++◌, length, get_or, drop, refl, ap, ◌∙◌, sym, append_assoc, append-nil, Option, Some, None, Bool, true, false, arith}
+use Rattle.std.proofs.Common.{◌≡◌, ℕ, ◌+◌, ◌<◌, ◌≤◌, List, [], ◌++◌, length, get_or, drop, refl, ap, ◌∙◌, sym, append_assoc, append-nil, Option, Some, None, Bool, true, false, arith}
 use Rattle.std.specs.Prelude.{ℤ, ◌&&◌}
-use Rattle.std.proofs.lemmas.List.{drop_more}
+use Rattle.std.proofs.lemmas.List.{drop_all, drop_more}
 use Rattle.std.proofs.lemmas.Grind.{common_steps}
 use Rattle.std.specs.Io.KnownBytes.{Appends}
 use Rattle.std.proofs.KnownBytes.{Appends-trans}
 use Rattle.msg_buffer.specs.Kept.{Kept}
 use Rattle.msg_files.specs.CallsText.{State, after, line, text_of}
 use Rattle.msg_files.specs.Cursors.{cursors_exist, made_by}
-use Rattle.msg_files.specs.Running.{AreIn}
+use Rattle.msg_files.specs.Running.{AreIn, TakesFront}
 use Rattle.msg_files.specs.Sinks.{AppendsPrefix}
 use Rattle.msg_files.specs.declared.call.Call.{Call}
 use Rattle.msg_files.specs.declared.call.Call.TheVariants.{Write, Batch, Update, Read, Missed, Len, Clear, Cursor, CursorCurrent, Get, Current, Oldest, Count, Total, Drain, ClearAll}
@@ -43,53 +43,83 @@ pub Appends_none : (known : Option (List ℕ)) → Appends known known []
 Appends_none None = tt
 Appends_none (Some xs) = sym (append-nil xs)
 
--- what was printed, and what the calls that are left print, is all of it
-pub record OnTheWay (before now : Option (List ℕ)) (messages : Kept ℤ) (cursors : List ℕ)
+-- what was put, what is gathered, and what the calls that are left print, is all of it
+pub record OnTheWay (before now : Option (List ℕ)) (messages : Kept ℤ) (cursors gathered : List ℕ)
     (rest : List Call) (all : List ℕ) : Type 0 where
   pub state : State
-  pub printed : List ℕ
+  pub front : List ℕ
   pub are_in : AreIn messages cursors state
-  pub taken : Appends before now printed
-  pub whole : printed ++ text_of rest state ≡ all
+  pub taken : Appends before now front
+  pub whole : front ++ (gathered ++ text_of rest state) ≡ all
   pub exist : cursors_exist (length cursors) rest ≡ true
 
--- one call more
-pub OnTheWay_more : (before now now' : Option (List ℕ)) (m m' : Kept ℤ) (cs cs' : List ℕ)
-    (calls : List Call) (i : ℕ) (d : Call) (all : List ℕ)
-    → OnTheWay before now m cs (drop i calls) all → i < length calls
-    → ((s : State) → AreIn m cs s → AreIn m' cs' (after (get_or calls i d) s))
-    → ((s : State) → AreIn m cs s → Appends now now' (line (get_or calls i d) s))
-    → OnTheWay before now' m' cs' (drop (i + 1) calls) all
-OnTheWay_more before now now' m m' cs cs' calls i d all way lt state prints =
-    let call = get_or calls i d in
-    let s = way.state in
-    let are' = state s way.are_in in
-    let made : length cs' ≡ length cs + made_by call =
-    ap length are'.places ∙ length-places_after call s
-    ∙ ap (λ l. length l + made_by call) (sym way.are_in.places) in
-    let rest = drop (i + 1) calls in record {
-      state = after call s;
-      printed = way.printed ++ line call s;
-      are_in = are';
-      taken = Appends-trans before now now' way.printed (line call s) way.taken (prints s way.are_in);
-      whole = append_assoc way.printed (line call s) (text_of rest (after call s))
-          ∙ ap (λ cs. way.printed ++ text_of cs s) (sym (drop_more calls i d lt)) ∙ way.whole;
-      exist = ap (λ n. cursors_exist n rest) made
-          ∙ (both _ _ (ap (cursors_exist (length cs)) (sym (drop_more calls i d lt)) ∙ way.exist)).1;
-    }
+-- a line before the lines of the calls after it
+module _ (before now : Option (List ℕ)) (m : Kept ℤ) (cs gathered : List ℕ) (calls : List Call) (i : ℕ) (d : Call)
+    (all : List ℕ) (way : OnTheWay before now m cs gathered (drop i calls) all) (lt : i < length calls) where
+  abbrev call_at : Call
+  call_at = get_or calls i d
 
--- a call that fails leaves a front of the whole text
-pub OnTheWay_fails : (before now now' : Option (List ℕ)) (m : Kept ℤ) (cs : List ℕ)
-    (calls : List Call) (i : ℕ) (d : Call) (all : List ℕ)
-    → OnTheWay before now m cs (drop i calls) all → i < length calls
-    → ((s : State) → AreIn m cs s → AppendsPrefix now now' (line (get_or calls i d) s))
+  abbrev lines_after : List ℕ
+  lines_after = text_of (drop (i + 1) calls) (after call_at way.state)
+
+  parts : all ≡ way.front ++ ((gathered ++ line call_at way.state) ++ lines_after)
+  parts =
+      sym way.whole ∙ ap (λ cs. way.front ++ (gathered ++ text_of cs way.state)) (drop_more calls i d lt)
+      ∙ ap (λ l. way.front ++ l) (sym (append_assoc gathered (line call_at way.state) lines_after))
+
+  -- one call more
+  pub OnTheWay_more : (now' : Option (List ℕ)) (m' : Kept ℤ) (cs' made gathered' : List ℕ)
+      → ((s : State) → AreIn m cs s → AreIn m' cs' (after (get_or calls i d) s))
+      → ((s : State) → AreIn m cs s → made ≡ line (get_or calls i d) s)
+      → TakesFront now now' (gathered ++ made) gathered'
+      → OnTheWay before now' m' cs' gathered' (drop (i + 1) calls) all
+  OnTheWay_more now' m' cs' made gathered' state is puts =
+      let s = way.state in
+      let are' = state s way.are_in in
+      let longer : length cs' ≡ length cs + made_by call_at =
+      ap length are'.places ∙ length-places_after call_at s
+      ∙ ap (λ l. length l + made_by call_at) (sym way.are_in.places) in
+      let rest = drop (i + 1) calls in record {
+        state = after call_at s;
+        front = way.front ++ puts.front;
+        are_in = are';
+        taken = Appends-trans before now now' way.front puts.front way.taken puts.taken;
+        whole = append_assoc way.front puts.front (gathered' ++ lines_after)
+            ∙ ap (λ l. way.front ++ l) (sym (append_assoc puts.front gathered' lines_after)
+            ∙ ap (λ l. l ++ lines_after) (sym puts.parts ∙ ap (λ l. gathered ++ l) (is s way.are_in)))
+            ∙ sym parts;
+        exist = ap (λ n. cursors_exist n rest) longer
+            ∙ (both _ _ (ap (cursors_exist (length cs)) (sym (drop_more calls i d lt)) ∙ way.exist)).1;
+      }
+
+  -- a put that fails leaves a front of the whole text
+  pub OnTheWay_fails : (now' : Option (List ℕ)) (made : List ℕ)
+      → ((s : State) → AreIn m cs s → made ≡ line (get_or calls i d) s)
+      → AppendsPrefix now now' (gathered ++ made) → AppendsPrefix before now' all
+  OnTheWay_fails now' made is puts =
+      AppendsPrefix_after before now now' way.front (gathered ++ made) lines_after all
+      (parts ∙ ap (λ l. way.front ++ ((gathered ++ l) ++ lines_after)) (sym (is way.state way.are_in))
+      ∙ sym (append_assoc way.front (gathered ++ made) lines_after))
+      way.taken puts
+
+-- what is gathered goes before the lines that are left
+pub OnTheWay_stops : (before now now' : Option (List ℕ)) (m : Kept ℤ) (cs gathered : List ℕ) (rest : List Call)
+    (all : List ℕ) → OnTheWay before now m cs gathered rest all → AppendsPrefix now now' gathered
     → AppendsPrefix before now' all
-OnTheWay_fails before now now' m cs calls i d all way lt prints =
-    let call = get_or calls i d in
-    let s = way.state in
-    let rest = text_of (drop (i + 1) calls) (after call s) in
-    let parts : all ≡ (way.printed ++ line call s) ++ rest =
-    sym way.whole ∙ ap (λ cs. way.printed ++ text_of cs s) (drop_more calls i d lt)
-    ∙ sym (append_assoc way.printed (line call s) rest) in
-    AppendsPrefix_after before now now' way.printed (line call s) rest all
-    parts way.taken (prints s way.are_in)
+OnTheWay_stops before now now' m cs gathered rest all way puts =
+    AppendsPrefix_after before now now' way.front gathered (text_of rest way.state) all
+    (sym way.whole ∙ sym (append_assoc way.front gathered (text_of rest way.state))) way.taken puts
+
+-- what was put is a front of itself
+pub AppendsPrefix_whole : (a b : Option (List ℕ)) (text : List ℕ) → Appends a b text → AppendsPrefix a b text
+AppendsPrefix_whole a b text h = (text, [], sym (append-nil text), h)
+
+-- no call is left, and what is gathered was put
+pub OnTheWay_ends : (before now now' : Option (List ℕ)) (m : Kept ℤ) (cs gathered : List ℕ) (calls : List Call) (i : ℕ)
+    (all : List ℕ) → OnTheWay before now m cs gathered (drop i calls) all → length calls ≤ i → Appends now now' gathered
+    → Appends before now' all
+OnTheWay_ends before now now' m cs gathered calls i all way le puts =
+    let whole : way.front ++ gathered ≡ all =
+    ap (λ l. way.front ++ l) (sym (append-nil gathered))
+    ∙ ap (λ cs. way.front ++ (gathered ++ text_of cs way.state)) (sym (drop_all i calls le)) ∙ way.whole in
+    rw (← whole) (Appends-trans before now now' way.front gathered way.taken puts)

@@ -1,5 +1,6 @@
 -- What the private functions of the runner promise: no public contract cites this file.
-use Rattle.std.specs.Prelude.{◌≡◌, ℕ, ℤ, List}
+use Rattle.std.specs.Prelude.{◌≡◌, ◌++◌, ℕ, ℤ, List, Option}
+use Rattle.std.specs.Io.KnownBytes.{Appends}
 use Rattle.msg_buffer.specs.Kept.{Kept}
 use Rattle.msg_buffer.specs.StandsFor.{StandsFor}
 use Rattle.msg_files.specs.CallsText.{State}
@@ -8,3 +9,9 @@ use Rattle.msg_files.specs.CallsText.{State}
 pub record AreIn (messages : Kept ℤ) (cursors : List ℕ) (s : State) : Type 0 where
   pub stands : StandsFor messages s.history
   pub places : cursors ≡ s.places
+
+-- known bytes grow by a front of a text, and this is the rest of it
+pub record TakesFront (before after : Option (List ℕ)) (text rest : List ℕ) : Type 0 where
+  pub front : List ℕ
+  pub taken : Appends before after front
+  pub parts : text ≡ front ++ rest

@@ -23,5 +23,5 @@ pub use msg_buffer::NoMemory;
 pub use msg_system::RunFault;
 pub use refusal::Refusal;
 pub use report_fault::ReportFault;
-pub use sink::{PutFault, Sink, put_all};
+pub use sink::{PutFault, Sink, put_all, put_text};
 pub use std_sink::StdSink;

@@ -1,7 +1,8 @@
-ghost use Rattle.std.specs.Prelude.{◌≡◌, ◌≤◌, List, ℕ, Option, OnOk, OnErr, IfOk, length};
+ghost use Rattle.std.specs.Prelude.{◌≡◌, ◌≤◌, List, ℕ, Option, OnOk, OnErr, IfErr, IfOk, length};
 ghost use Rattle.std.specs.Io.KnownBytes.{WriteAppends, Appends};
 ghost use Rattle.msg_files.specs.Sinks.{failures_after, one_more, AppendsPrefix};
 
+use crate::report_fault::ReportFault;
 use thiserror::Error;
 
 /// A put that took nothing.
@@ -41,4 +42,19 @@ pub fn put_all<S: Sink>(sink: &mut S, piece: &[u8]) -> Result<(), PutFault>
         done += n;
     }
     Ok(())
+}
+
+/// Puts a text that is made; where the sink fails, the fault of a report.
+pub fn put_text<S: Sink>(text: &[u8], sink: &mut S) -> Result<(), ReportFault>
+    ensures ok { OnOk result (Appends (S.contents sink.old) (S.contents sink.new) text.now) }
+    ensures quiet { OnOk result (S.failures sink.new ≡ S.failures sink.old) }
+    ensures prefix { OnErr result
+        (AppendsPrefix (S.contents sink.old) (S.contents sink.new) text.now) }
+    ensures write { OnErr result (S.failures sink.new ≡ one_more (S.failures sink.old)) }
+    ensures only_write { IfErr result (λ fault. fault ≡ ReportFault.Write) }
+{
+    match put_all(sink, text) {
+        Ok(()) => Ok(()),
+        Err(_) => Err(ReportFault::Write),
+    }
 }

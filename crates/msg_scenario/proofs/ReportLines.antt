@@ -1,5 +1,5 @@
 -- A text that is made piece by piece.
-use Rattle.std.proofs.Common.{◌≡◌, ◌⊎◌, inl, inr, ℕ, ◌+◌, ◌<◌, ◌≤◌, List, [], ◌∷◌, ◌++◌, length, get_or, take, refl, ap, ◌∙◌, sym, append_assoc, append-nil, Option, None, arith}
+use Rattle.std.proofs.Common.{◌≡◌, ◌⊎◌, inl, inr, ℕ, ◌+◌, ◌<◌, ◌≤◌, List, [], ◌∷◌, ◌++◌, length, get_or, take, refl, ap, ◌∙◌, sym, append-nil, Option, None, arith}
 use Rattle.std.specs.List.{enumerate_from}
 use Rattle.std.specs.Prelude.{flat_map, zip}
 use Rattle.std.proofs.lemmas.List.{flat_map_more, take_all, take_more}
@@ -42,11 +42,6 @@ pub numbered_all : {X : Type 0} (piece : ℕ × X → List ℕ) (n : ℕ) (xs : 
 numbered_all piece n xs i before now made le =
     made ∙ ap (λ l. before ++ flat_map piece l)
     (take_all i (enumerate_from n xs) (omega (arith, le, length-enumerate_from n xs)))
-
--- a piece after a gap
-pub spaced : (now gap after piece next : List ℕ) → after ≡ now ++ gap → next ≡ after ++ piece → next ≡ now ++ (gap ++ piece)
-spaced now gap after piece next first second =
-    second ∙ ap (λ l. l ++ piece) first ∙ append_assoc now gap piece
 
 -- ---- a loop over two lists side by side
 

@@ -1,14 +1,13 @@
 // One call on a buffer and its cursors, and its line.
-ghost use Rattle.std.specs.Prelude.{◌≡◌, ◌<◌, ℤ, ◌++◌, ◌∷◌, [], None, OnOk, IfOk, Some, codes, decimal, length, true};
+ghost use Rattle.std.specs.Prelude.{◌≡◌, ◌<◌, ℤ, ◌++◌, ◌∷◌, [], OnOk, codes, decimal, length, true};
 ghost use Rattle.msg_buffer.specs.History.{History, get, write};
-ghost use Rattle.msg_buffer.specs.Reader.{given, next_place, read, unread};
 ghost use Rattle.msg_buffer.specs.StandsFor.{StandsFor};
 ghost use Rattle.msg_files.specs.CallsText.{State, after, items_text, line, value_text, written_text};
 ghost use Rattle.msg_files.specs.Cursors.{has_cursor};
 ghost use Rattle.msg_files.specs.Running.{AreIn};
 
 use crate::call::Call;
-use crate::calls::text::{add_found, add_items};
+use crate::calls::text::{add_found, add_items, add_unread};
 use crate::numerals::add_number;
 use msg_buffer::{
     BatchRefusal, Instance, MessageCursor, MessageId, Messages, NoMemory, WriteRefusal,
@@ -37,7 +36,7 @@ pub fn answer(
             messages.update();
             text.extend_from_slice(b"update\n")
         }
-        Call::Read(cursor, limit) => read(alloc, *cursor, *limit, messages, cursors, text),
+        Call::Read(cursor, limit) => read(*cursor, *limit, messages, cursors, text),
         Call::Missed(cursor) => {
             let missed = cursors[*cursor as usize].missed(messages);
             add_cursor(text, b"missed ", *cursor, missed)
@@ -56,13 +55,13 @@ pub fn answer(
             make(cursor, cursors, text)
         }
         Call::Get(number) => get(*number, messages, text),
-        Call::Current => add_list(text, b"current: ", messages.current()),
+        Call::Current => add_list(text, b"current:", messages.current()),
         Call::Oldest => add_count(text, b"oldest ", messages.oldest()),
         Call::Count => add_count(text, b"count ", messages.count()),
         Call::Total => add_count(text, b"total ", messages.len()),
         Call::Drain => {
             let items = messages.drain()?;
-            add_list(text, b"drain: ", items.as_slice())
+            add_list(text, b"drain:", items.as_slice())
         }
         Call::ClearAll => {
             messages.clear();
@@ -96,7 +95,7 @@ fn add_cursor(text: &mut Vec<u8>, head: &[u8], cursor: u32, number: u64) -> Resu
 /// A line of a head and items.
 fn add_list(text: &mut Vec<u8>, head: &[u8], items: &[Instance<i64>]) -> Result<(), NoMemory>
     ensures { OnOk result (text.new.items ≡ text.old.items
-        ++ (head.now ++ items_text items.now ++ codes "\n")) }
+        ++ (head.now ++ codes " " ++ items_text items.now ++ codes "\n")) }
 {
     text.extend_from_slice(head)?;
     add_items(text, items)?;
@@ -182,7 +181,6 @@ fn make(
 
 /// Reads by a cursor.
 fn read(
-    alloc: Global,
     number: u32,
     limit: Option<u32>,
     messages: &Messages<i64>,
@@ -196,92 +194,14 @@ fn read(
         → AreIn messages.now cursors.new.items (after (Call.Read number limit) s)) }
 {
     let mut cursor = cursors[number as usize];
-    let missed = cursor.missed(messages);
-    let items = take(alloc, &mut cursor, limit, messages)?;
-    cursors[number as usize] = cursor;
-    add_read(text, number, missed, items.as_slice())
-}
-
-/// The line of a read.
-fn add_read(
-    text: &mut Vec<u8>,
-    number: u32,
-    missed: u64,
-    items: &[Instance<i64>],
-) -> Result<(), NoMemory>
-    ensures { OnOk result (text.new.items
-        ≡ text.old.items ++ (codes "read " ++ decimal number ++ codes " missed " ++ decimal missed
-        ++ codes ": " ++ items_text items.now ++ codes "\n")) }
-{
     text.extend_from_slice(b"read ")?;
     add_number(text, u64::from(number))?;
     text.extend_from_slice(b" missed ")?;
-    add_number(text, missed)?;
-    text.extend_from_slice(b": ")?;
-    add_items(text, items)?;
+    add_number(text, cursor.missed(messages))?;
+    text.extend_from_slice(b":")?;
+    add_unread(text, &mut cursor, limit, messages)?;
+    cursors[number as usize] = cursor;
     text.extend_from_slice(b"\n")
-}
-
-/// Takes the unread messages, or the first of them where there is a limit.
-fn take(
-    alloc: Global,
-    cursor: &mut MessageCursor,
-    limit: Option<u32>,
-    messages: &Messages<i64>,
-) -> Result<Vec<Instance<i64>>, NoMemory>
-    ensures items { IfOk result (λ v. (h : History ℤ) → StandsFor messages.now h
-        → v.items ≡ given h cursor.old limit) }
-    ensures place { OnOk result ((h : History ℤ) → StandsFor messages.now h
-        → cursor.new ≡ next_place (read h cursor.old limit)) }
-{
-    match limit {
-        None => take_all(alloc, cursor, messages),
-        Some(most) => take_first(alloc, cursor, most, messages),
-    }
-}
-
-/// Takes all unread messages.
-fn take_all(
-    alloc: Global,
-    cursor: &mut MessageCursor,
-    messages: &Messages<i64>,
-) -> Result<Vec<Instance<i64>>, NoMemory>
-    ensures items { IfOk result (λ v. (h : History ℤ) → StandsFor messages.now h
-        → v.items ≡ unread h cursor.old) }
-    ensures place { OnOk result ((h : History ℤ) → StandsFor messages.now h
-        → cursor.new ≡ next_place (read h cursor.old None)) }
-{
-    let mut items = Vec::new(alloc);
-    for (id, message) in cursor.read(messages) {
-        let message = *message;
-        items.push(Instance { id, message })?;
-    }
-    Ok(items)
-}
-
-/// Takes the first unread messages: `most` of them, or all where there are fewer.
-fn take_first(
-    alloc: Global,
-    cursor: &mut MessageCursor,
-    most: u32,
-    messages: &Messages<i64>,
-) -> Result<Vec<Instance<i64>>, NoMemory>
-    ensures items { IfOk result (λ v. (h : History ℤ) → StandsFor messages.now h
-        → v.items ≡ given h cursor.old (Some most)) }
-    ensures place { OnOk result ((h : History ℤ) → StandsFor messages.now h
-        → cursor.new ≡ next_place (read h cursor.old (Some most))) }
-{
-    let number = u64::from(most).min(cursor.len(messages));
-    let mut items = Vec::new(alloc);
-    let mut unread = cursor.read(messages);
-    for _ in 0..number {
-        let Some((id, message)) = unread.next() else {
-            break;
-        };
-        let message = *message;
-        items.push(Instance { id, message })?;
-    }
-    Ok(items)
 }
 
 /// Goes past all that is unread.

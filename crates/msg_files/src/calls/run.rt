@@ -1,20 +1,22 @@
-// Calls made one after another, each line printed before the next call.
-ghost use Rattle.std.specs.Prelude.{◌≡◌, ◌⊎◌, Err, IfErr, OnOk, OnErr, length, true};
+// Calls made one after another. Their lines are gathered, and put into the sink in large pieces.
+ghost use Rattle.std.specs.Prelude.{◌≡◌, ◌⊎◌, ◌++◌, if◌then◌else◌, Err, IfErr, OnOk, OnErr};
 ghost use Rattle.std.specs.Io.KnownBytes.{Appends};
-ghost use Rattle.msg_files.specs.CallsText.{State, after, calls_text, line};
-ghost use Rattle.msg_files.specs.Cursors.{has_cursor};
-ghost use Rattle.msg_files.specs.Running.{AreIn};
+ghost use Rattle.msg_files.specs.CallsText.{calls_text};
+ghost use Rattle.msg_files.specs.Running.{TakesFront};
 ghost use Rattle.msg_files.specs.Sinks.{AppendsPrefix, one_more};
 
-use crate::call::Call;
 use crate::calls::Calls;
 use crate::calls::answer::answer;
 use crate::report_fault::ReportFault;
-use crate::sink::{Sink, put_all};
-use msg_buffer::{MessageCursor, Messages};
+use crate::sink::{Sink, put_text};
+use msg_buffer::Messages;
 use std::alloc::Global;
 
-/// Makes the calls of a file on a new buffer, and puts the line of each into the sink.
+/// How many bytes are gathered before they are put.
+const FULL: usize = 65536;
+
+/// Makes the calls of a file on a new buffer, and puts the line of each into the sink; where there is
+/// no memory for a call, the lines of those before it.
 pub fn run_calls<S: Sink>(alloc: Global, calls: &Calls, sink: &mut S) -> Result<(), ReportFault>
     ensures ok { OnOk result
         (Appends (S.contents sink.old) (S.contents sink.new) (calls_text calls.now)) }
@@ -34,42 +36,42 @@ pub fn run_calls<S: Sink>(alloc: Global, calls: &Calls, sink: &mut S) -> Result<
     if cursors.push(messages.get_cursor()).is_err() {
         return Err(ReportFault::NoMemory);
     }
-    let mut text = Vec::new(alloc);
+    let (mut line, mut gathered) = (Vec::new(alloc), Vec::new(alloc));
     for call in calls.calls() {
-        run_call(alloc, call, &mut messages, &mut cursors, &mut text, sink)?;
+        line.clear();
+        match answer(alloc, call, &mut messages, &mut cursors, &mut line) {
+            Ok(()) => gather(&mut gathered, line.as_slice(), sink)?,
+            Err(_) => {
+                put_text(gathered.as_slice(), sink)?;
+                return Err(ReportFault::NoMemory);
+            }
+        }
     }
-    Ok(())
+    put_text(gathered.as_slice(), sink)
 }
 
-/// Makes one call, and puts its line, which is made in `text`.
-fn run_call<S: Sink>(
-    alloc: Global,
-    call: &Call,
-    messages: &mut Messages<i64>,
-    cursors: &mut Vec<MessageCursor>,
-    text: &mut Vec<u8>,
-    sink: &mut S,
-) -> Result<(), ReportFault>
-    requires { has_cursor (length cursors.old.items) call.now ≡ true }
-    ensures state { OnOk result ((s : State) → AreIn messages.old cursors.old.items s
-        → AreIn messages.new cursors.new.items (after call.now s)) }
-    ensures ok { OnOk result ((s : State) → AreIn messages.old cursors.old.items s
-        → Appends (S.contents sink.old) (S.contents sink.new) (line call.now s)) }
+/// Adds a line to those that are gathered, or puts both where these are many or have no room.
+fn gather<S: Sink>(gathered: &mut Vec<u8>, line: &[u8], sink: &mut S) -> Result<(), ReportFault>
+    ensures ok { OnOk result (TakesFront (S.contents sink.old) (S.contents sink.new)
+        (gathered.old.items ++ line.now) gathered.new.items) }
     ensures quiet { OnOk result (S.failures sink.new ≡ S.failures sink.old) }
-    ensures prefix { OnErr result ((s : State) → AreIn messages.old cursors.old.items s
-        → AppendsPrefix (S.contents sink.old) (S.contents sink.new) (line call.now s)) }
-    ensures write { result ≡ Err ReportFault.Write
-        → S.failures sink.new ≡ one_more (S.failures sink.old) }
-    ensures memory { result ≡ Err ReportFault.NoMemory → S.failures sink.new ≡ S.failures sink.old }
-    ensures faults { IfErr result
-        (λ fault. (fault ≡ ReportFault.Write) ⊎ (fault ≡ ReportFault.NoMemory)) }
+    ensures prefix { OnErr result (AppendsPrefix (S.contents sink.old) (S.contents sink.new)
+        (gathered.old.items ++ line.now)) }
+    ensures write { OnErr result (S.failures sink.new ≡ one_more (S.failures sink.old)) }
+    ensures only_write { IfErr result (λ fault. fault ≡ ReportFault.Write) }
 {
-    text.clear();
-    if answer(alloc, call, messages, cursors, text).is_err() {
-        return Err(ReportFault::NoMemory);
+    if add_where_room(gathered, line) {
+        return Ok(());
     }
-    match put_all(sink, text.as_slice()) {
-        Ok(()) => Ok(()),
-        Err(_) => Err(ReportFault::Write),
-    }
+    put_text(gathered.as_slice(), sink)?;
+    gathered.clear();
+    put_text(line, sink)
+}
+
+/// Adds a line unless many are there or memory is refused, and tells whether it did.
+fn add_where_room(gathered: &mut Vec<u8>, line: &[u8]) -> bool
+    ensures { gathered.new.items
+        ≡ (if result then gathered.old.items ++ line.now else gathered.old.items) }
+{
+    gathered.len() < FULL && gathered.extend_from_slice(line).is_ok()
 }

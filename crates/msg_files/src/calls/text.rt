@@ -1,11 +1,13 @@
 // The parts of a line, made in memory.
-ghost use Rattle.std.specs.Prelude.{◌≡◌, ◌++◌, [], IsOk, OnOk, decimal};
-ghost use Rattle.std.specs.Fmt.{signed_decimal};
-ghost use Rattle.msg_files.specs.CallsText.{item_text, items_text, more_items, value_text};
+ghost use Rattle.std.specs.Prelude.{◌≡◌, ◌++◌, ℤ, List, [], IsOk, OnOk, codes, length};
 ghost use Rattle.std.specs.Option.{option_copied};
+ghost use Rattle.msg_buffer.specs.History.{History};
+ghost use Rattle.msg_buffer.specs.Reader.{at_most, given, next_place, read};
+ghost use Rattle.msg_buffer.specs.StandsFor.{StandsFor};
+ghost use Rattle.msg_files.specs.CallsText.{item_text, items_text, more_items, value_text};
 
-use crate::numerals::{add_number, add_value};
-use msg_buffer::{Instance, NoMemory};
+use crate::numerals::{add_pair, add_value};
+use msg_buffer::{Instance, MessageCursor, MessageId, Messages, NoMemory};
 
 /// A message's value, or `none`.
 pub fn add_found(text: &mut Vec<u8>, value: Option<&i64>) -> Result<(), NoMemory>
@@ -18,24 +20,22 @@ pub fn add_found(text: &mut Vec<u8>, value: Option<&i64>) -> Result<(), NoMemory
     }
 }
 
-fn add_item(text: &mut Vec<u8>, item: &Instance<i64>) -> Result<(), NoMemory>
-    ensures { OnOk result (text.new.items ≡ text.old.items ++ item_text item.now) }
+/// An item with a space in front.
+fn add_item(text: &mut Vec<u8>, id: MessageId, message: &i64) -> Result<(), NoMemory>
+    ensures { OnOk result (text.new.items
+        ≡ text.old.items ++ (codes " " ++ item_text (record { id = id; message = message.now }))) }
 {
-    add_number(text, item.id.0)?;
-    text.extend_from_slice(b"=")?;
-    add_value(text, item.message)
+    add_pair(text, u128::from(id.0), *message)
 }
 
-/// The items with a space between two, or `none`.
+/// Items after a head: each with a space in front, or `none`.
 pub fn add_items(text: &mut Vec<u8>, items: &[Instance<i64>]) -> Result<(), NoMemory>
-    ensures appends { OnOk result (text.new.items ≡ text.old.items ++ items_text items.now) }
+    ensures appends { OnOk result
+        (text.new.items ≡ text.old.items ++ (codes " " ++ items_text items.now)) }
 {
     match items {
-        [] => text.extend_from_slice(b"none"),
-        [first, rest @ ..] => {
-            add_item(text, first)?;
-            add_more(text, rest)
-        }
+        [] => text.extend_from_slice(b" none"),
+        [_, ..] => add_more(text, items),
     }
 }
 
@@ -44,8 +44,45 @@ fn add_more(text: &mut Vec<u8>, items: &[Instance<i64>]) -> Result<(), NoMemory>
     ensures no_memory { items.now ≡ [] → IsOk result }
 {
     for item in items {
-        text.extend_from_slice(b" ")?;
-        add_item(text, item)?;
+        add_item(text, item.id, &item.message)?;
     }
     Ok(())
+}
+
+/// The unread messages, or the first of them where there is a limit, as items.
+pub fn add_unread(
+    text: &mut Vec<u8>,
+    cursor: &mut MessageCursor,
+    limit: Option<u32>,
+    messages: &Messages<i64>,
+) -> Result<(), NoMemory>
+    ensures appends { OnOk result ((h : History ℤ) → StandsFor messages.now h
+        → text.new.items
+        ≡ text.old.items ++ (codes " " ++ items_text (given h cursor.old limit))) }
+    ensures place { OnOk result ((h : History ℤ) → StandsFor messages.now h
+        → cursor.new ≡ next_place (read h cursor.old limit)) }
+{
+    let number = number_given(limit, cursor.len(messages));
+    let mut unread = cursor.read(messages);
+    if number == 0 {
+        return text.extend_from_slice(b" none");
+    }
+    for _ in 0..number {
+        let Some((id, message)) = unread.next() else {
+            break;
+        };
+        add_item(text, id, message)?;
+    }
+    Ok(())
+}
+
+/// How many messages a read gives, where so many are unread.
+fn number_given(limit: Option<u32>, unread: u64) -> u64
+    ensures { (xs : List (Instance ℤ)) → length xs ≡ unread
+        → result ≡ length (at_most limit xs) }
+{
+    match limit {
+        None => unread,
+        Some(most) => unread.min(u64::from(most)),
+    }
 }

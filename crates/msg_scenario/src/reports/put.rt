@@ -8,7 +8,7 @@ use crate::Scenario;
 use crate::reports::accounts::add_accounts;
 use crate::reports::frame::add_frame;
 use msg_exec::{Account, Frame, Log};
-use msg_files::{ReportFault, Sink, put_all};
+use msg_files::{ReportFault, Sink, put_text};
 
 /// Puts the text of a frame that had this log; it is made in `text` first.
 pub fn put_frame<S: Sink>(
@@ -65,19 +65,4 @@ pub fn put_accounts<S: Sink>(
         return Err(ReportFault::NoMemory);
     }
     put_text(text.as_slice(), sink)
-}
-
-/// Puts a text that is made.
-fn put_text<S: Sink>(text: &[u8], sink: &mut S) -> Result<(), ReportFault>
-    ensures ok { OnOk result (Appends (S.contents sink.old) (S.contents sink.new) text.now) }
-    ensures quiet { OnOk result (S.failures sink.new ≡ S.failures sink.old) }
-    ensures prefix { OnErr result
-        (AppendsPrefix (S.contents sink.old) (S.contents sink.new) text.now) }
-    ensures write { OnErr result (S.failures sink.new ≡ one_more (S.failures sink.old)) }
-    ensures only_write { IfErr result (λ fault. fault ≡ ReportFault.Write) }
-{
-    match put_all(sink, text) {
-        Ok(()) => Ok(()),
-        Err(_) => Err(ReportFault::Write),
-    }
 }

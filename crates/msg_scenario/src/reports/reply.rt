@@ -5,7 +5,7 @@ ghost use Rattle.msg_scenario.specs.ReportText.{item_text, items_text, more_item
 use crate::Scenario;
 use crate::reports::names::add_writer;
 use msg_buffer::{NoMemory, Written};
-use msg_files::numerals::{add_number, add_value, add_wide};
+use msg_files::numerals::{add_number, add_pair, add_value};
 use msg_system::{Reply, Took};
 use msg_world::Record;
 
@@ -42,7 +42,7 @@ pub fn add_reply(text: &mut Vec<u8>, scenario: &Scenario, reply: &Reply) -> Resu
             add_value(text, *value)
         }
         Reply::Drained { first, items } => {
-            text.extend_from_slice(b": ")?;
+            text.extend_from_slice(b":")?;
             add_items(text, scenario, *first, items.as_slice())
         }
         Reply::Signalled => Ok(()),
@@ -78,11 +78,11 @@ fn add_took(text: &mut Vec<u8>, scenario: &Scenario, took: &Took) -> Result<(), 
         (text.new.items ≡ text.old.items ++ (codes " " ++ took_text scenario.now took.now)) }
 {
     add_count(text, b" missed ", took.missed)?;
-    text.extend_from_slice(b": ")?;
+    text.extend_from_slice(b":")?;
     add_items(text, scenario, took.first, took.items.as_slice())
 }
 
-/// Messages numbered from `first` on, with a space between two, or `none`.
+/// Messages numbered from `first` on, each with a space in front, or ` none`.
 fn add_items(
     text: &mut Vec<u8>,
     scenario: &Scenario,
@@ -90,36 +90,32 @@ fn add_items(
     items: &[Record],
 ) -> Result<(), NoMemory>
     ensures { OnOk result
-        (text.new.items ≡ text.old.items ++ items_text scenario.now first items.now) }
+        (text.new.items ≡ text.old.items ++ (codes " " ++ items_text scenario.now first items.now)) }
 {
     match items {
-        [] => text.extend_from_slice(b"none"),
-        [item, rest @ ..] => {
-            add_item(text, scenario, u128::from(first), *item)?;
-            add_more(text, scenario, first, rest)
-        }
+        [] => text.extend_from_slice(b" none"),
+        [_, ..] => add_more(text, scenario, first, items),
     }
 }
 
-/// The messages after the one of this number.
 fn add_more(
     text: &mut Vec<u8>,
     scenario: &Scenario,
-    before: u64,
+    first: u64,
     items: &[Record],
 ) -> Result<(), NoMemory>
     ensures appends { OnOk result
-        (text.new.items ≡ text.old.items ++ more_items scenario.now (before + 1) items.now) }
+        (text.new.items ≡ text.old.items ++ more_items scenario.now first items.now) }
     ensures no_memory { items.now ≡ [] → IsOk result }
 {
-    let first = u128::from(before) + 1;
+    let first = u128::from(first);
     for (k, item) in items.iter().enumerate() {
-        text.extend_from_slice(b" ")?;
         add_item(text, scenario, first + k as u128, *item)?;
     }
     Ok(())
 }
 
+/// A message with a space in front.
 fn add_item(
     text: &mut Vec<u8>,
     scenario: &Scenario,
@@ -127,11 +123,9 @@ fn add_item(
     item: Record,
 ) -> Result<(), NoMemory>
     ensures { OnOk result
-        (text.new.items ≡ text.old.items ++ item_text scenario.now number item) }
+        (text.new.items ≡ text.old.items ++ (codes " " ++ item_text scenario.now number item)) }
 {
-    add_wide(text, number)?;
-    text.extend_from_slice(b"=")?;
-    add_value(text, item.value)?;
+    add_pair(text, number, item.value)?;
     text.extend_from_slice(b"@")?;
     add_writer(text, scenario, item.writer)
 }

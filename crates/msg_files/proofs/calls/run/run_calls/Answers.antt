@@ -1,27 +1,51 @@
-use Rattle.std.proofs.Common.{◌∙◌}
-use Rattle.msg_files.proofs.Puts.{on_err}
-use Rattle.msg_files.proofs.Running.{OnTheWay_fails, OnTheWay_more}
+use Rattle.std.proofs.Common.{◌∙◌, ◌++◌, ◌≡◌, ℕ, List, [], ap}
+use Rattle.std.specs.Io.KnownBytes.{Appends}
+use Rattle.msg_files.specs.Sinks.{AppendsPrefix}
+use Rattle.msg_files.proofs.Puts.{on_err, on_err_then, on_ok_then}
+use Rattle.msg_files.proofs.Running.{AppendsPrefix_whole, OnTheWay_ends, OnTheWay_fails, OnTheWay_more, OnTheWay_stops}
 use Rattle.msg_files.proofs.calls.run.run_calls.Goals as goal
 
-pub returns-in_err-run_call-clause-prefix : goal.returns-in_err-run_call-clause-prefix
-returns-in_err-run_call-clause-prefix g c =
-    let calls = c.calls-call-items.result.now in
-    let i = c.loop-call.call-index in
-    let call = c.call-item.result in
-    let prints = c.in_err-run_call.ensures.prefix in
+-- what is added to nothing stands alone
+alone : (a b c line : List ℕ) → a ≡ b → b ≡ c ++ line → c ≡ [] → a ≡ line
+alone a b c line same added none = same ∙ added ∙ ap (λ l. l ++ line) none
+
+pub returns-in_err-put_text-in-Err-clause-prefix : goal.returns-in_err-put_text-in-Err-clause-prefix
+returns-in_err-put_text-in-Err-clause-prefix g c =
+    on_err _ c.from_residual-in_err-put_text-in-Err.result _
+    (OnTheWay_stops _ _ _ _ _ _ _ _ c.loop-call.invariant.0
+    (rw (← c.as_slice-in-Err.ensures.value) c.in_err-put_text-in-Err.ensures.prefix))
+
+pub returns-in-Err-clause-prefix : goal.returns-in-Err-clause-prefix
+returns-in-Err-clause-prefix g c =
+    OnTheWay_stops _ _ _ _ _ _ _ _ c.loop-call.invariant.0
+    (AppendsPrefix_whole _ _ _ (rw (← c.as_slice-in-Err.ensures.value) c.in_ok-put_text-in-Err.ensures.ok))
+
+pub returns-in_err-gather-in-Ok-clause-prefix : goal.returns-in_err-gather-in-Ok-clause-prefix
+returns-in_err-gather-in-Ok-clause-prefix g c =
     on_err _ c.from_residual.result _
-    (OnTheWay_fails _ _ _ _ _ calls i call _ c.loop-call.invariant.0 c.loop-call-test.true
-    (λ s are. rw (← c.call-item.is) (prints s are)))
+    (OnTheWay_fails _ _ _ _ _ _ _ c.call-item.result _ c.loop-call.invariant.0 c.loop-call-test.true _ _
+    (λ s are. rw (← c.call-item.is) (alone _ _ _ _ c.as_slice.ensures.value (c.in-Ok.ensures.line s are) c.clear.ensures.items))
+    c.in_err-gather-in-Ok.ensures.prefix)
 
 pub loop-call-preserved : goal.loop-call-preserved
-loop-call-preserved g c =
-    let calls = c.calls-call-items.result.now in
-    let i = c.loop-call.call-index in
-    let call = c.call-item.result in
-    let state = c.in_ok-run_call.ensures.state in
-    let prints = c.in_ok-run_call.ensures.ok in (
-      OnTheWay_more _ _ _ _ _ _ _ calls i call _ c.loop-call.invariant.0 c.loop-call-test.true
-          (λ s are. rw (← c.call-item.is) (state s are))
-          (λ s are. rw (← c.call-item.is) (prints s are)),
-      c.in_ok-run_call.ensures.quiet ∙ c.loop-call.invariant.1,
-    )
+loop-call-preserved g c = (
+  OnTheWay_more _ _ _ _ _ _ _ c.call-item.result _ c.loop-call.invariant.0 c.loop-call-test.true _ _ _ _ _
+      (λ s are. rw (← c.call-item.is) (c.in-Ok.ensures.state s are))
+      (λ s are. rw (← c.call-item.is) (alone _ _ _ _ c.as_slice.ensures.value (c.in-Ok.ensures.line s are) c.clear.ensures.items))
+      c.in_ok-gather-in-Ok.ensures.ok,
+  c.in_ok-gather-in-Ok.ensures.quiet ∙ c.loop-call.invariant.1,
+)
+
+pub returns-clause-ok : goal.returns-clause-ok
+returns-clause-ok g c =
+    on_ok_then c.put_text-2.result
+    (Appends (g.S.Sink.contents c.loop-call.sink) (g.S.Sink.contents c.put_text-2.new.sink) c.as_slice-2.result.now) _
+    (λ h. OnTheWay_ends _ _ _ _ _ _ _ _ _ c.loop-call.invariant.0 c.loop-call-test.false (rw c.as_slice-2.ensures.value at h))
+    c.put_text-2.ensures.ok
+
+pub returns-clause-prefix : goal.returns-clause-prefix
+returns-clause-prefix g c =
+    on_err_then c.put_text-2.result
+    (AppendsPrefix (g.S.Sink.contents c.loop-call.sink) (g.S.Sink.contents c.put_text-2.new.sink) c.as_slice-2.result.now) _
+    (λ h. OnTheWay_stops _ _ _ _ _ _ _ _ c.loop-call.invariant.0 (rw c.as_slice-2.ensures.value at h))
+    c.put_text-2.ensures.prefix

@@ -1,16 +1,14 @@
-use Rattle.std.proofs.Common.{◌+◌, arith}
+use Rattle.std.proofs.Common.{arith}
 use Rattle.msg_scenario.specs.ReportText.{next_item}
-use Rattle.msg_scenario.proofs.ReportLines.{numbered_all, numbered_more, spaced}
+use Rattle.msg_scenario.proofs.ReportLines.{numbered_all, numbered_more}
 use Rattle.msg_scenario.proofs.reports.reply.add_more.Goals as goal
 
 pub loop-k-preserved : goal.loop-k-preserved
 loop-k-preserved c =
-    numbered_more (next_item c.args.scenario.now) (c.args.before + 1) c.args.items.now c.loop-k.k _ _ _ _ _
-    c.loop-k.invariant
-    (spaced _ _ _ _ _ c.in_ok-extend_from_slice.ensures.items c.in_ok-add_item.ensures)
-    (omega (arith, c.from-first.ensures)) c.loop-k-test.true
+    numbered_more (next_item c.args.scenario.now) c.args.first c.args.items.now c.loop-k.k _ _ _ _ _
+    c.loop-k.invariant c.in_ok-add_item.ensures (omega (arith, c.from-first.ensures)) c.loop-k-test.true
 
 pub returns-clause-appends : goal.returns-clause-appends
 returns-clause-appends c =
-    numbered_all (next_item c.args.scenario.now) (c.args.before + 1) c.args.items.now c.loop-k.k _ _
+    numbered_all (next_item c.args.scenario.now) c.args.first c.args.items.now c.loop-k.k _ _
     c.loop-k.invariant (omega (arith, c.loop-k-test.false))

@@ -1,4 +1,4 @@
-use Rattle.std.proofs.Common.{◌≡◌, ◌+◌, ◌++◌, take}
+use Rattle.std.proofs.Common.{◌≡◌, ◌++◌, take}
 use Rattle.std.specs.List.{enumerate_from}
 use Rattle.std.specs.Prelude.{flat_map}
 use Rattle.msg_scenario.specs.ReportText.{next_item}
@@ -7,4 +7,4 @@ use Rattle.msg_scenario.proofs.reports.reply.add_more.Given as goal
 abbrev pub invariant-loop-k : goal.invariant-loop-k
 invariant-loop-k l =
     l.text.items
-    ≡ l.initial.text.items ++ flat_map (next_item l.scenario) (take l.k (enumerate_from (l.before + 1) l.items))
+    ≡ l.initial.text.items ++ flat_map (next_item l.scenario) (take l.k (enumerate_from l.fn.first l.items))

@@ -1,0 +1,5 @@
+use Rattle.msg_files.proofs.Lines.{HasAdded}
+use Rattle.msg_files.proofs.calls.text.add_unread.Given as goal
+
+abbrev pub invariant-loop : goal.invariant-loop
+invariant-loop l = HasAdded l.initial.unread l.unread l.initial.text.items l.text.items l.counter
