@@ -1,6 +1,6 @@
 // Writing many messages at once.
 ghost use Rattle.std.specs.Prelude.{◌≡◌, ◌+◌, ◌^◌, ◌<◌, ◌≤◌, ◌++◌, vec_len, vec_capacity};
-ghost use Rattle.msg_buffer.specs.History.{numbered};
+ghost use Rattle.msg_buffer.specs.Prelude.{numbered};
 
 use crate::instance::{Instance, MessageId};
 use std::alloc::Allocator;

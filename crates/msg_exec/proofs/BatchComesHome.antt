@@ -8,26 +8,16 @@ use Rattle.std.proofs.lemmas.List.{append-nil, get_or-set_other, get_or-set_same
 use Rattle.std.proofs.lemmas.List.Elements.{All-contains, All-head, All-tail, Contains-append_right}
 use Rattle.std.specs.List.{AllZip}
 use Rattle.msg_world.specs.declared.access.Access.{Access}
-use Rattle.msg_world.specs.Access.{Part, Conflict, uses, writes}
-use Rattle.msg_world.specs.LoanLaws.{HomeMerges, HomeWhereEither}
-use Rattle.msg_world.specs.Parts.{IsApart, PartsStand, SameShape, SameSize, slot}
-use Rattle.msg_order.specs.Order.{access_of}
-use Rattle.msg_order.specs.Plan.{NoneConflict}
-use Rattle.msg_system.specs.Conditions.{Job as JobState, after_job}
-use Rattle.msg_system.specs.Needs.{IsAccessOf, with_conditions}
-use Rattle.msg_system.specs.Systems.{Meaning}
-use Rattle.msg_exec.specs.declared.job.Done.{Done}
-use Rattle.msg_exec.specs.declared.job.Job.{Job}
+use Rattle.msg_world.specs.Prelude.{Conflict, HomeMerges, HomeWhereEither, IsApart, Part, PartsStand, SameShape, SameSize, slot, uses, writes}
+use Rattle.msg_order.specs.Prelude.{NoneConflict, access_of}
+use Rattle.msg_system.specs.Prelude.{IsAccessOf, Job as JobState, Meaning, after_job, with_conditions}
+use Rattle.msg_exec.specs.Prelude.{Done, IsAfterJob, IsDone, Job, Lender, LenderStands, MemberStands, TotalsStand, job_state, system_at}
 use Rattle.msg_frames.specs.declared.log.Turn.{Turn}
-use Rattle.msg_exec.specs.declared.lender.Lender.{Lender}
 use Rattle.msg_frames.specs.declared.totals.Totals.{Totals}
-use Rattle.msg_frames.specs.Frames.{AreAccessesOf, after_turns_of, logged, needs_of, turn_of, Member, State}
-use Rattle.msg_exec.specs.Jobs.{IsAfterJob, IsDone, job_state}
+use Rattle.msg_frames.specs.Prelude.{AreAccessesOf, BatchesRunSideBySide, Member, SameSystems, State, after_turns_of, all_home, home, logged, needs_of, turn_of}
 use Rattle.msg_exec.specs.inner.Batches.{AreDone}
 use Rattle.msg_exec.specs.inner.Totals.{HasFewReplies}
-use Rattle.msg_exec.specs.Lender.{MemberStands, LenderStands, TotalsStand, system_at}
 use Rattle.msg_exec.specs.inner.Lending.{AreOut, ComesHome, HaveEntered, IsOut, any_writes}
-use Rattle.msg_frames.specs.TurnLaws.{BatchesRunSideBySide, SameSystems, all_home, home}
 use Rattle.msg_exec.proofs.BatchGoesOut.{has_written, its_member, left_stands, sizes_follow, sizes_meet, taken_stands}
 use Rattle.msg_frames.proofs.SystemsStay.{turns_keep_systems}
 use Rattle.msg_frames.proofs.ElementsAndPairs.{pairs_head, pairs_right}

@@ -2,20 +2,13 @@
 use Rattle.std.proofs.Common.{◌≡◌, ◌≢◌, ℕ, ◌<◌, [], ◌∷◌, get_or, refl, ap, arith}
 use Rattle.std.specs.Prelude.{All, AllPairs}
 use Rattle.std.proofs.lemmas.List.Elements.{All-cons}
-use Rattle.msg_world.specs.Access.{Conflict}
-use Rattle.msg_world.specs.LoanLaws.{HomeMerges, HomeWhereEither}
-use Rattle.msg_order.specs.Order.{access_of}
-use Rattle.msg_order.specs.Plan.{NoneConflict}
-use Rattle.msg_system.specs.Systems.{Meaning}
-use Rattle.msg_exec.specs.declared.job.Done.{Done}
-use Rattle.msg_exec.specs.declared.job.Job.{Job}
+use Rattle.msg_world.specs.Prelude.{Conflict, HomeMerges, HomeWhereEither}
+use Rattle.msg_order.specs.Prelude.{NoneConflict, access_of}
+use Rattle.msg_system.specs.Prelude.{Meaning}
+use Rattle.msg_exec.specs.Prelude.{Done, IsDone, Job, Lender, LenderStands, MayRun}
 use Rattle.msg_frames.specs.declared.log.Turn.{Turn}
-use Rattle.msg_exec.specs.declared.lender.Lender.{Lender}
-use Rattle.msg_frames.specs.Frames.{after_turn_of, logged, State}
-use Rattle.msg_exec.specs.Jobs.{IsDone, MayRun}
-use Rattle.msg_exec.specs.Lender.{LenderStands}
+use Rattle.msg_frames.specs.Prelude.{BatchesRunSideBySide, State, after_turn_of, logged}
 use Rattle.msg_exec.specs.inner.Lending.{AreOut, ComesHome, GoesOut}
-use Rattle.msg_frames.specs.TurnLaws.{BatchesRunSideBySide}
 use Rattle.msg_exec.proofs.BatchComesHome.{ComingHome, MayCome, all_came, begin_home, next_comes, next_may_come}
 use Rattle.msg_exec.proofs.BatchGoesOut.{MayGo, all_may_run, may_go, none_out, one_more_out}
 use Rattle.msg_order.proofs.Elements.{not_in_none}

@@ -3,22 +3,15 @@ use Rattle.std.proofs.Common.{◌≡◌, ℕ, ◌<◌, Bool, List, refl, sym, ap
 use Rattle.std.specs.Prelude.{All, IsPermutation, IsTrue, ◌↔◌}
 use Rattle.std.specs.List.{concat}
 use Rattle.std.proofs.lemmas.List.Elements.{Contains-get_or}
-use Rattle.msg_order.specs.Graph.{Graph}
-use Rattle.msg_order.specs.Order.{IsLawfulOrder, IsSettledOrder}
-use Rattle.msg_order.specs.Plan.{IsPlanOf}
+use Rattle.msg_order.specs.Prelude.{Graph, IsLawfulOrder, IsPlanOf, IsSettledOrder}
 use Rattle.msg_order.specs.declared.rule.Rule.{Rule}
 use Rattle.msg_system.specs.declared.reply.Reply.{Reply}
-use Rattle.msg_system.specs.Systems.{Meaning}
-use Rattle.msg_exec.specs.declared.engine_core.Core.{Core}
+use Rattle.msg_system.specs.Prelude.{Meaning}
+use Rattle.msg_exec.specs.Prelude.{Core, CoreStands, LenderStands}
 use Rattle.msg_frames.specs.declared.frame.Frame.{Frame}
 use Rattle.msg_frames.specs.declared.log.Log.{Log}
-use Rattle.msg_exec.specs.Cores.{CoreStands}
 use Rattle.msg_exec.specs.inner.FrameSteps.{HasLeft, HasOpened, NobodyJoins, PlansNext, counted}
-use Rattle.msg_frames.specs.Frames.{IsFrame, IsOrderOf, after_turns_of, before_turns, frame_in, joining, State, joined}
-use Rattle.msg_frames.specs.ReaderLaws.{FrameStaysSound}
-use Rattle.msg_frames.specs.Replays.{IsLawfulFor, IsReplay}
-use Rattle.msg_exec.specs.Lender.{LenderStands}
-use Rattle.msg_frames.specs.TurnLaws.{FramesAgreeInLawfulOrders, SystemsHaveOneOrder}
+use Rattle.msg_frames.specs.Prelude.{FrameStaysSound, FramesAgreeInLawfulOrders, IsFrame, IsLawfulFor, IsOrderOf, IsReplay, State, SystemsHaveOneOrder, after_turns_of, before_turns, frame_in, joined, joining}
 use Rattle.msg_exec.proofs.CoreRunsFrame.{frame_ran, is_frame_by, nobody_more}
 use Rattle.msg_frames.proofs.FramesInOrder.{in_that_order}
 use Rattle.msg_frames.proofs.SystemsStay.{accesses_stay, before_keeps, joined_below}

@@ -7,26 +7,17 @@ use Rattle.std.proofs.lemmas.Bool.{cases_Bool, eqb-true, eqb-false, leb-false, l
 use Rattle.std.proofs.lemmas.Option.{slice_get-get_or}
 use Rattle.std.proofs.lemmas.Simd.{map-map}
 use Rattle.msg_world.specs.declared.access.Access.{Access}
-use Rattle.msg_world.specs.Parts.{Parts, PartsStand, SameShape}
-use Rattle.msg_world.specs.World.{WorldState, updated}
-use Rattle.msg_order.specs.Graph.{Graph}
-use Rattle.msg_order.specs.Order.{AreBatches, IsTurnOrder, NameSystemsBelow, batch_at}
-use Rattle.msg_order.specs.Plan.{IsPlanOf, PlanView}
+use Rattle.msg_world.specs.Prelude.{Parts, PartsStand, SameShape, WorldState, updated}
+use Rattle.msg_order.specs.Prelude.{AreBatches, Graph, IsPlanOf, IsTurnOrder, NameSystemsBelow, PlanView, batch_at}
 use Rattle.msg_order.specs.declared.rule.Rule.{Rule}
 use Rattle.msg_system.specs.declared.reply.Reply.{Reply}
-use Rattle.msg_system.specs.Systems.{Meaning}
-use Rattle.msg_exec.specs.declared.engine_core.Core.{Core}
+use Rattle.msg_system.specs.Prelude.{Meaning}
+use Rattle.msg_exec.specs.Prelude.{AreJoins, Core, CoreStands, Lender, LenderStands, Schedule}
 use Rattle.msg_frames.specs.declared.frame.Frame.{Frame}
 use Rattle.msg_frames.specs.declared.log.Log.{Log}
-use Rattle.msg_exec.specs.declared.lender.Lender.{Lender}
-use Rattle.msg_exec.specs.Cores.{CoreStands, Schedule}
 use Rattle.msg_exec.specs.inner.FrameSteps.{HasBegunFrame, HasLeft, HasOpened, NobodyJoins, PlansNext, counted}
-use Rattle.msg_frames.specs.Frames.{IsFrame, after_turns_of, before_turns, begun, counts, frame_in, joining, post_replies, posted, with_joining, State, has_begun, joined}
-use Rattle.msg_frames.specs.ReaderLaws.{FrameStaysSound}
-use Rattle.msg_frames.specs.Soundness.{IsSoundState}
-use Rattle.msg_exec.specs.Lender.{AreJoins, LenderStands}
+use Rattle.msg_frames.specs.Prelude.{FrameStaysSound, IsFrame, IsSoundState, SameSystems, State, after_turns_of, before_turns, begun, counts, frame_in, has_begun, joined, joining, post_replies, posted, with_joining}
 use Rattle.msg_exec.specs.inner.Lending.{HaveReadNothing}
-use Rattle.msg_frames.specs.TurnLaws.{SameSystems}
 use Rattle.msg_exec.proofs.SystemsJoin.{listed, members_alike}
 use Rattle.msg_frames.proofs.SystemsStay.{joined_below, joined_stay, joining_keeps, joining_makes_no_frame, joining_world, no_cycle_stays, turns_keep_systems, turns_make_no_frame}
 use Rattle.std.proofs.lemmas.List.Elements.{Contains-get_or}

@@ -5,11 +5,11 @@ use Rattle.std.proofs.Math.ListN.{drop_of_length-le}
 use Rattle.std.proofs.lemmas.Option.{none-some, slice_get-get_or}
 use Rattle.msg_system.specs.declared.op.Op.{Op}
 use Rattle.msg_system.specs.declared.reply.Reply.{Reply}
-use Rattle.msg_system.specs.Needs.{type_read}
+use Rattle.msg_system.specs.Prelude.{type_read}
 use Rattle.msg_frames.specs.declared.totals.Totals.{Totals}
-use Rattle.msg_frames.specs.Entries.{Entry, entries_for, entry_of, with_entries}
+use Rattle.msg_frames.specs.Prelude.{Entry, entries_for, entry_of, with_entries}
 use Rattle.msg_frames.proofs.EntriesAddUp.{with_entries-append, with_entries-none}
-use Rattle.msg_exec.specs.Keeping.{kept}
+use Rattle.msg_exec.specs.Prelude.{kept}
 use Rattle.msg_exec.specs.inner.Totals.{entry_at}
 
 -- the same totals are kept alike

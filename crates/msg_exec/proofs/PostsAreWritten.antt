@@ -2,13 +2,12 @@
 use Rattle.std.proofs.Common.{◌≡◌, ℕ, ℤ, ◌+◌, ◌<◌, List, [], ◌∷◌, ◌++◌, length, take, get_or, Result, Ok, Err, refl, sym, ap, subst, ◌∙◌}
 use Rattle.std.specs.Prelude.{OnErr}
 use Rattle.std.proofs.lemmas.List.{take_more}
-use Rattle.msg_buffer.specs.History.{write}
+use Rattle.msg_buffer.specs.Prelude.{write}
 use Rattle.msg_world.specs.declared.record.TheConstants.{HOST}
-use Rattle.msg_world.specs.Parts.{Parts, PartsStand}
-use Rattle.msg_world.specs.World.{WorldState, by, with_history}
+use Rattle.msg_world.specs.Prelude.{Parts, PartsStand, WorldState, by, with_history}
 use Rattle.msg_system.specs.declared.reply.Reply.{Reply}
-use Rattle.msg_system.specs.Programs.{numbers_for, write_reply}
-use Rattle.msg_frames.specs.Frames.{post_replies, posted}
+use Rattle.msg_system.specs.Prelude.{numbers_for, write_reply}
+use Rattle.msg_frames.specs.Prelude.{post_replies, posted}
 
 pub if_refused : {T E P : Type 0} (r : Result T E) → P → OnErr r P
 if_refused (Ok x) p = tt

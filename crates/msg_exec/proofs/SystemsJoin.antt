@@ -6,22 +6,14 @@ use Rattle.std.specs.List.{range_with_len}
 use Rattle.std.proofs.lemmas.Bool.{cases_Bool, le-ltb, lt-ltb, ltb-false, ltb-true, ne_eqb}
 use Rattle.std.proofs.lemmas.Bool.Decides.{eqb_tells}
 use Rattle.std.proofs.lemmas.List.{get_or-set_same, get_or-set_other, length-set}
-use Rattle.msg_buffer.specs.History.{count}
-use Rattle.msg_order.specs.Order.{access_of}
-use Rattle.msg_world.specs.Access.{OfType, uses}
-use Rattle.msg_world.specs.Parts.{IsWhole, Parts, PartsStand, SameShape, slot}
-use Rattle.msg_system.specs.Conditions.{Asked, Job as JobState, asked_started}
-use Rattle.msg_system.specs.Needs.{IsAccessOf, with_conditions}
-use Rattle.msg_system.specs.Systems.{Meaning, started, start_place}
-use Rattle.msg_exec.specs.declared.job.GuardedSystem.{GuardedSystem}
-use Rattle.msg_exec.specs.declared.lender.Lender.{Lender}
+use Rattle.msg_buffer.specs.Prelude.{count}
+use Rattle.msg_order.specs.Prelude.{access_of}
+use Rattle.msg_world.specs.Prelude.{IsWhole, OfType, Parts, PartsStand, SameShape, slot, uses}
+use Rattle.msg_system.specs.Prelude.{Asked, IsAccessOf, Job as JobState, Meaning, asked_started, start_place, started, with_conditions}
+use Rattle.msg_exec.specs.Prelude.{GuardedSystem, Lender, LenderStands, MemberStands, TotalsStand, job_state, system_at, totals_at}
 use Rattle.msg_frames.specs.declared.totals.Totals.{Totals}
-use Rattle.msg_frames.specs.Entries.{totals_from}
-use Rattle.msg_frames.specs.Frames.{begun, counts, job_begun, needs_of, with_joining, Member, State}
-use Rattle.msg_exec.specs.Jobs.{job_state}
-use Rattle.msg_exec.specs.Keeping.{totals_at}
+use Rattle.msg_frames.specs.Prelude.{Member, State, begun, counts, job_begun, needs_of, totals_from, with_joining}
 use Rattle.msg_exec.specs.inner.Totals.{first_place}
-use Rattle.msg_exec.specs.Lender.{MemberStands, LenderStands, TotalsStand, system_at}
 use Rattle.msg_exec.specs.inner.Lending.{HaveReadNothing}
 use Rattle.msg_exec.proofs.SystemAfterTurn.{eqb_same, member_stays}
 use Rattle.msg_exec.proofs.ItemsOfLists.{get_other, get_same}

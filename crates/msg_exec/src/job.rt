@@ -1,8 +1,8 @@
 // One system's job: its conditions and its system, on a loan of what its access uses.
 ghost use Rattle.std.specs.Prelude.{IfOk};
-ghost use Rattle.msg_world.specs.Loan.{IsLoanOf};
-ghost use Rattle.msg_system.specs.Needs.{IsAccessOf};
-ghost use Rattle.msg_exec.specs.Jobs.{IsDone, guarded_needs};
+ghost use Rattle.msg_world.specs.Prelude.{IsLoanOf};
+ghost use Rattle.msg_system.specs.Prelude.{IsAccessOf};
+ghost use Rattle.msg_exec.specs.Prelude.{IsDone, guarded_needs};
 
 use crate::runs::Runs;
 use crate::side_by_side::{Batch, BatchJob};

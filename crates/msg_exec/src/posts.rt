@@ -1,12 +1,10 @@
 // What the host posts.
 ghost use Rattle.std.specs.Prelude.{◌≡◌, ◌<◌, ◌≤◌, ◌∷◌, [], All, IfOk, IsSome, OnErr, OnOk, length, vec_capacity};
-ghost use Rattle.msg_buffer.specs.History.{write};
+ghost use Rattle.msg_buffer.specs.Prelude.{write};
 ghost use Rattle.msg_world.specs.declared.record.TheConstants.{HOST};
-ghost use Rattle.msg_world.specs.Access.{OfType};
-ghost use Rattle.msg_world.specs.Parts.{IsWhole, PartsStand, SameShape, slot};
-ghost use Rattle.msg_world.specs.World.{WorldState, by, with_history};
-ghost use Rattle.msg_system.specs.Programs.{numbers_for, write_reply};
-ghost use Rattle.msg_frames.specs.Frames.{post_replies, posted};
+ghost use Rattle.msg_world.specs.Prelude.{IsWhole, OfType, PartsStand, SameShape, WorldState, by, slot, with_history};
+ghost use Rattle.msg_system.specs.Prelude.{numbers_for, write_reply};
+ghost use Rattle.msg_frames.specs.Prelude.{post_replies, posted};
 ghost use Rattle.msg_exec.specs.inner.Posts.{HasRoom, SomeFindsRoom};
 
 use crate::NoMemory;

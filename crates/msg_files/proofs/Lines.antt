@@ -3,7 +3,7 @@ use Rattle.std.proofs.Common.{◌≡◌, ℕ, ◌+◌, ◌<◌, List, [], ◌∷
 use Rattle.std.specs.Prelude.{ℤ}
 use Rattle.std.proofs.lemmas.List.{take_more}
 use Rattle.msg_buffer.specs.declared.Instance.{Instance}
-use Rattle.msg_files.specs.CallsText.{item_text, more_items}
+use Rattle.msg_files.specs.Prelude.{item_text, more_items}
 
 pub more_items-push : (xs : List (Instance ℤ)) (x : Instance ℤ)
     → more_items (xs ++ x ∷ []) ≡ more_items xs ++ (codes " " ++ item_text x)

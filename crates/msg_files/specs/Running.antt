@@ -1,7 +1,6 @@
 -- What the private functions of the runner promise: no public contract cites this file.
 use Rattle.std.specs.Prelude.{◌≡◌, ℕ, ℤ, List}
-use Rattle.msg_buffer.specs.Kept.{Kept}
-use Rattle.msg_buffer.specs.StandsFor.{StandsFor}
+use Rattle.msg_buffer.specs.Prelude.{Kept, StandsFor}
 use Rattle.msg_files.specs.CallsText.{State}
 
 -- a buffer and its cursors are in a state

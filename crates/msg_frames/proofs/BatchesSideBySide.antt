@@ -5,15 +5,10 @@ use Rattle.std.specs.List.{concat}
 use Rattle.std.proofs.lemmas.Bool.{cases_Bool, or_right}
 use Rattle.std.proofs.lemmas.List.Elements.{All-head, All-tail}
 use Rattle.msg_world.specs.declared.access.Access.{Access}
-use Rattle.msg_world.specs.Access.{Part, OfType, OfResource, Registry, Conflict, writes}
-use Rattle.msg_world.specs.World.{WorldState, content, merge}
-use Rattle.msg_order.specs.Order.{access_of}
-use Rattle.msg_order.specs.Plan.{NoneConflict}
-use Rattle.msg_system.specs.Footprints.{Agree, HasFootprint, JobFootprint}
-use Rattle.msg_system.specs.Needs.{IsAccessOf, needs_any}
-use Rattle.msg_frames.specs.declared.log.Outcome.{Outcome}
-use Rattle.msg_frames.specs.Frames.{AfterTurn, AfterTurns, AreAccessesOf, after_turn_of, after_turns_of, logged, member_turn, needs_of, turn_of, with_member, Member, State}
-use Rattle.msg_frames.specs.TurnLaws.{BatchesRunSideBySide, FramesRunByBatches, SameSystems, all_home, by_batches, home}
+use Rattle.msg_world.specs.Prelude.{Conflict, OfResource, OfType, Part, Registry, WorldState, content, merge, writes}
+use Rattle.msg_order.specs.Prelude.{NoneConflict, access_of}
+use Rattle.msg_system.specs.Prelude.{Agree, HasFootprint, IsAccessOf, JobFootprint, needs_any}
+use Rattle.msg_frames.specs.Prelude.{AfterTurn, AfterTurns, AreAccessesOf, BatchesRunSideBySide, FramesRunByBatches, Member, Outcome, SameSystems, State, after_turn_of, after_turns_of, all_home, by_batches, home, logged, member_turn, needs_of, turn_of, with_member}
 use Rattle.msg_frames.proofs.SystemsStay.{accesses_stay, turns_keep_systems}
 use Rattle.msg_frames.proofs.ElementsAndPairs.{all_left, all_right, pairs_head, pairs_left, pairs_right, pairs_tail}
 use Rattle.msg_frames.proofs.TurnsCommute.{Apart, apart, given_by_turn, same_world, turn_footprint, with_member_other}

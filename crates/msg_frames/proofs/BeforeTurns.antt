@@ -4,16 +4,13 @@ use Rattle.std.specs.Prelude.{IsTrue, IsFalse, nat_le}
 use Rattle.std.proofs.lemmas.Bool.{cases_eq, eq-eqb, ne_eqb, cases_Bool, leb-true, leb-false, le-leb, lt-leb, and_from, and_left, and_right, not_from_true, not_from_false}
 use Rattle.std.proofs.lemmas.Option.{unwrap_or-slice_get}
 use Rattle.std.proofs.lemmas.List.FromFn.{get_or-map-range_with_len}
-use Rattle.msg_buffer.specs.History.{OnlyGrows, count}
+use Rattle.msg_buffer.specs.Prelude.{OnlyGrows, count}
 use Rattle.msg_world.specs.declared.record.Record.{Record}
-use Rattle.msg_world.specs.Access.{OfType}
-use Rattle.msg_world.specs.World.{updated}
+use Rattle.msg_world.specs.Prelude.{OfType, updated}
 use Rattle.msg_system.specs.declared.start.Start.{Start}
 use Rattle.msg_system.specs.declared.start.Start.TheVariants.{Zero, Current}
-use Rattle.msg_system.specs.Systems.{start_place}
-use Rattle.msg_frames.specs.Frames.{before_turns, begun, counts, posted, with_joining, Member, State, has_begun}
-use Rattle.msg_frames.specs.Tiling.{place_of}
-use Rattle.msg_frames.specs.TurnLaws.{SameSystems}
+use Rattle.msg_system.specs.Prelude.{start_place}
+use Rattle.msg_frames.specs.Prelude.{Member, SameSystems, State, before_turns, begun, counts, has_begun, place_of, posted, with_joining}
 use Rattle.msg_frames.proofs.HistoriesGrow.{WorldGoesOn, before_goes_on}
 use Rattle.msg_frames.proofs.SystemsStay.{before_keeps}
 

@@ -1,11 +1,8 @@
 -- A frame whose turns are taken in an order: its log has them in that order.
 use Rattle.std.proofs.Common.{◌≡◌, ℕ, List, [], ◌∷◌, map, refl, sym, ap, subst, ◌∙◌}
-use Rattle.msg_world.specs.World.{updated}
+use Rattle.msg_world.specs.Prelude.{updated}
 use Rattle.msg_system.specs.declared.reply.Reply.{Reply}
-use Rattle.msg_frames.specs.declared.frame.Frame.{Frame}
-use Rattle.msg_frames.specs.declared.log.Log.{Log}
-use Rattle.msg_frames.specs.declared.log.Turn.{Turn}
-use Rattle.msg_frames.specs.Frames.{IsFrame, IsTurnOrderOf, after_turn_of, after_turns_of, before_turns, frame_in, post_replies, systems_in, State}
+use Rattle.msg_frames.specs.Prelude.{Frame, IsFrame, IsTurnOrderOf, Log, State, Turn, after_turn_of, after_turns_of, before_turns, frame_in, post_replies, systems_in}
 
 systems_logged : (order : List ℕ) (s : State) → map (λ (t : Turn). t.system) (after_turns_of order s).turns ≡ order
 systems_logged [] s = refl

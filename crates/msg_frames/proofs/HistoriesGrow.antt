@@ -1,19 +1,14 @@
 -- Whatever a run does, each type's history goes on.
 use Rattle.std.proofs.Common.{ℕ, zero, suc, ℤ, ◌≤◌, List, [], ◌∷◌, ◌++◌, map, Option, None, Some, refl, sym, ap, subst, ◌∙◌, append-nil, append_assoc, length-append, arith, inl, inr}
 use Rattle.std.proofs.lemmas.Bool.{cases_Bool, cases_eq, eq-eqb, ne_eqb}
-use Rattle.msg_buffer.specs.History.{GoesOn, History, IsSound, OnlyGrows, clear, count, write}
-use Rattle.msg_buffer.specs.Tiling.{ClearsFit, ReadsFit}
+use Rattle.msg_buffer.specs.Prelude.{ClearsFit, GoesOn, History, IsSound, OnlyGrows, ReadsFit, clear, count, write}
 use Rattle.msg_world.specs.declared.record.Record.{Record}
 use Rattle.msg_world.specs.declared.record.TheConstants.{HOST}
-use Rattle.msg_world.specs.World.{WorldState, by, updated, waits, with_history}
+use Rattle.msg_world.specs.Prelude.{WorldState, by, updated, waits, with_history}
 use Rattle.msg_system.specs.declared.op.Op.{Op}
 use Rattle.msg_system.specs.declared.op.Op.TheVariants.{Write, Batch, Read, Len, Missed, Clear, Forward, Sum, Get, Set, Add, Drain, Signal}
-use Rattle.msg_system.specs.Conditions.{Job, after_job, all_hold}
-use Rattle.msg_system.specs.Programs.{AfterProgram, after_op, again_by, took}
-use Rattle.msg_system.specs.Systems.{Meaning, after_at_most, next_op, one_more, turn}
-use Rattle.msg_frames.specs.declared.frame.Frame.{Frame}
-use Rattle.msg_frames.specs.Frames.{after_turn_of, after_turns_of, before_turns, frame_in, joining, posted, systems_in, State}
-use Rattle.msg_frames.specs.TurnLaws.{ListsOnlyGrow}
+use Rattle.msg_system.specs.Prelude.{AfterProgram, Job, Meaning, after_at_most, after_job, after_op, again_by, all_hold, next_op, one_more, took, turn}
+use Rattle.msg_frames.specs.Prelude.{Frame, ListsOnlyGrow, State, after_turn_of, after_turns_of, before_turns, frame_in, joining, posted, systems_in}
 use Rattle.msg_frames.proofs.SystemsStay.{joining_world}
 
 -- What the laws of buffers say of the world's types.

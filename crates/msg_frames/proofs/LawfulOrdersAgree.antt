@@ -8,15 +8,10 @@ use Rattle.std.proofs.lemmas.List.FromFn.{length-map-range_with_len}
 use Rattle.std.proofs.lemmas.List.Sorted.{IsPermutation-cons, IsPermutation-middle, IsPermutation-refl, IsPermutation-trans}
 use Rattle.std.proofs.lemmas.Option.{get_or_from_slice_get, slice_get_within}
 use Rattle.msg_world.specs.declared.access.Access.{Access}
-use Rattle.msg_world.specs.Access.{Conflict}
-use Rattle.msg_order.specs.Graph.{Graph, Path}
-use Rattle.msg_order.specs.Laws.{ConflictingSystemsAreOrdered, LawfulOrdersKeepPaths, SettledOrderIsUnique, TurnOrderIsLawful}
-use Rattle.msg_order.specs.Order.{IsLawfulOrder, IsTurnOrder, StandsBefore, access_of}
-use Rattle.msg_system.specs.Footprints.{JobFootprint}
-use Rattle.msg_frames.specs.declared.log.Log.{Log}
-use Rattle.msg_frames.specs.declared.log.Turn.{Turn}
-use Rattle.msg_frames.specs.Frames.{AreAccessesOf, after_turn_of, after_turns_of, before_turns, frame_in, logged, systems_in, State, has_begun, joined}
-use Rattle.msg_frames.specs.TurnLaws.{FramesAgreeInLawfulOrders, LawfulOrdersAgree}
+use Rattle.msg_world.specs.Prelude.{Conflict}
+use Rattle.msg_order.specs.Prelude.{ConflictingSystemsAreOrdered, Graph, IsLawfulOrder, IsTurnOrder, LawfulOrdersKeepPaths, Path, SettledOrderIsUnique, StandsBefore, TurnOrderIsLawful, access_of}
+use Rattle.msg_system.specs.Prelude.{JobFootprint}
+use Rattle.msg_frames.specs.Prelude.{AreAccessesOf, FramesAgreeInLawfulOrders, LawfulOrdersAgree, Log, State, Turn, after_turn_of, after_turns_of, before_turns, frame_in, has_begun, joined, logged, systems_in}
 use Rattle.msg_frames.proofs.RunsAreUnique.{one_order, order_is_among}
 use Rattle.msg_frames.proofs.TurnsCommute.{turns_commute}
 use Rattle.msg_frames.proofs.SystemsStay.{accesses_stay, joined_below, one_turn_keeps}

@@ -5,20 +5,14 @@ use Rattle.std.specs.List.{list_any}
 use Rattle.std.proofs.lemmas.Bool.{false≢true}
 use Rattle.std.proofs.lemmas.List.Elements.{All-cons, All-nil}
 use Rattle.std.proofs.lemmas.List.FromFn.{get_or-map-range_with_len}
-use Rattle.msg_buffer.specs.History.{OnlyGrows}
+use Rattle.msg_buffer.specs.Prelude.{OnlyGrows}
 use Rattle.msg_world.specs.declared.record.Record.{Record}
-use Rattle.msg_world.specs.World.{WorldState}
+use Rattle.msg_world.specs.Prelude.{WorldState}
 use Rattle.msg_system.specs.declared.program.Program.{Program}
 use Rattle.msg_system.specs.declared.reply.Reply.{Reply}
-use Rattle.msg_system.specs.Conditions.{Job, after_job}
-use Rattle.msg_system.specs.Systems.{IsInOrder, Meaning, of_program, started_places, turn}
-use Rattle.msg_system.specs.Needs.{program_needs}
-use Rattle.msg_order.specs.Order.{has_joined}
-use Rattle.msg_frames.specs.declared.log.Log.{Log}
-use Rattle.msg_frames.specs.declared.log.Outcome.{Outcome}
-use Rattle.msg_frames.specs.declared.log.Outcome.TheVariants.{Ran, Skipped}
-use Rattle.msg_frames.specs.Frames.{Member, State, after_turn_of, after_turns_of, before_turns, counts, has_begun, job_begun, joined, logged, systems_in}
-use Rattle.msg_frames.specs.UpToDate.{WhoseProgramReadsAll, reads_all}
+use Rattle.msg_system.specs.Prelude.{IsInOrder, Job, Meaning, after_job, of_program, program_needs, started_places, turn}
+use Rattle.msg_order.specs.Prelude.{has_joined}
+use Rattle.msg_frames.specs.Prelude.{Log, Member, Outcome, Ran, Skipped, State, WhoseProgramReadsAll, after_turn_of, after_turns_of, before_turns, counts, has_begun, job_begun, joined, logged, reads_all, systems_in}
 use Rattle.msg_frames.proofs.BeforeTurns.{Prepares, comes, prepares, stood}
 use Rattle.msg_frames.proofs.BeforeTurns as before
 use Rattle.msg_frames.proofs.ReaderOverTurns.{one_member}

@@ -2,21 +2,12 @@
 use Rattle.std.proofs.Common.{◌≡◌, ℕ, ◌<◌, List, [], ◌∷◌, ◌++◌, map, refl, sym, ap, subst, ◌∙◌, unwrap_or}
 use Rattle.std.specs.Prelude.{IsTrue, IsFalse}
 use Rattle.std.proofs.lemmas.Bool.{false≢true}
-use Rattle.msg_buffer.specs.History.{GoesOn, History}
+use Rattle.msg_buffer.specs.Prelude.{GoesOn, History}
 use Rattle.msg_world.specs.declared.record.Record.{Record}
-use Rattle.msg_system.specs.Needs.{Needs}
-use Rattle.msg_system.specs.Systems.{Rule}
-use Rattle.msg_frames.specs.declared.frame.Frame.{Frame}
-use Rattle.msg_frames.specs.declared.log.Log.{Log}
-use Rattle.msg_frames.specs.declared.totals.Totals.{Totals}
-use Rattle.msg_frames.specs.Entries.{Entry, entries_told, totals_from, with_entries}
-use Rattle.msg_frames.specs.Frames.{IsRun, before_turns, begun, counts, frame_in, systems_in, Member, State, has_begun}
+use Rattle.msg_system.specs.Prelude.{Needs, Rule}
+use Rattle.msg_frames.specs.Prelude.{Entry, Frame, IsGivenOnce, IsInOrderOf, IsRun, IsServed, IsSoundState, Log, Member, Moment, RunsAreComplete, State, Totals, answers_in, before_turns, begun, counts, entries_told, found_at, found_totals, frame_in, has_begun, log_entries, moments, place_of, systems_in, totals_from, turns_moments, with_entries}
 use Rattle.msg_frames.proofs.OneFateEach.{lies_between, meets_one_fate, missed_are_dropped}
 use Rattle.msg_frames.proofs.TilesGiveInOrder.{all_as_written, given_in_order, in_order_of}
-use Rattle.msg_frames.specs.CompleteRun.{IsServed, found_totals, IsGivenOnce, IsInOrderOf}
-use Rattle.msg_frames.specs.ReaderLaws.{RunsAreComplete}
-use Rattle.msg_frames.specs.Soundness.{IsSoundState}
-use Rattle.msg_frames.specs.Tiling.{Moment, answers_in, found_at, log_entries, moments, place_of, turns_moments}
 use Rattle.msg_frames.proofs.HistoriesGrow.{BufferLaws, goes_further, runs_go_on, stays}
 use Rattle.msg_frames.proofs.SystemsStay.{before_keeps, turns_keep}
 use Rattle.msg_frames.proofs.ReaderOverJob.{Passes, passes_nothing}

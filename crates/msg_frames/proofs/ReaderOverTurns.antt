@@ -2,15 +2,10 @@
 use Rattle.std.proofs.Common.{◌≡◌, ℕ, suc, ◌≤◌, List, [], ◌∷◌, ◌++◌, map, Contains, flat_map, cond, append_assoc, refl, sym, ap, subst, ◌∙◌, arith, inl, inr, ◌==◌}
 use Rattle.std.proofs.lemmas.Bool.{cases_eq, eq-eqb, ne_eqb}
 use Rattle.std.proofs.lemmas.List.{map-append}
-use Rattle.msg_buffer.specs.History.{IsSound, count}
+use Rattle.msg_buffer.specs.Prelude.{IsSound, count}
 use Rattle.msg_system.specs.declared.reply.Reply.{Reply}
-use Rattle.msg_system.specs.Needs.{Needs}
-use Rattle.msg_system.specs.Systems.{Rule}
-use Rattle.msg_frames.specs.declared.log.Turn.{Turn}
-use Rattle.msg_frames.specs.Entries.{Entry, answers, entries_for, entries_told, ops_by, with_entries}
-use Rattle.msg_frames.specs.Frames.{after_turn_of, after_turns_of, logged, turn_of, Member, State}
-use Rattle.msg_frames.specs.Tiling.{Moment, job_moments, place_of, turns_moments}
-use Rattle.msg_frames.specs.TurnLaws.{SameSystems}
+use Rattle.msg_system.specs.Prelude.{Needs, Rule}
+use Rattle.msg_frames.specs.Prelude.{Entry, Member, Moment, SameSystems, State, Turn, after_turn_of, after_turns_of, answers, entries_for, entries_told, job_moments, logged, ops_by, place_of, turn_of, turns_moments, with_entries}
 use Rattle.msg_frames.proofs.HistoriesGrow.{BufferLaws, job_goes_on, stays}
 use Rattle.msg_frames.proofs.SystemsStay.{one_turn_keeps}
 use Rattle.msg_frames.proofs.ReaderOverJob.{Passes, job_logged, job_passes, job_rule, passes_further, passes_nothing}

@@ -4,19 +4,12 @@ use Rattle.std.specs.Prelude.{IsTrue, nat_le}
 use Rattle.std.proofs.lemmas.Bool.{and_from, and_parts, cases_Bool, cases_eq, false≢true, le-leb, leb-false, leb-true}
 use Rattle.std.proofs.lemmas.Option.{same_Some, slice_get_cases, slice_get_within}
 use Rattle.std.proofs.lemmas.List.Elements.{All-append, All-cons, All-head, All-map, All-nil, All-tail}
-use Rattle.msg_buffer.specs.History.{Entry, GoesOn, History, IsPresent, count, update}
-use Rattle.msg_buffer.specs.Reader.{Fits, Stretch, Tile, next_place}
+use Rattle.msg_buffer.specs.Prelude.{Entry, Fits, GoesOn, History, IsPresent, Stretch, Tile, count, next_place, update}
 use Rattle.msg_world.specs.declared.record.Record.{Record}
-use Rattle.msg_world.specs.World.{WorldState, updated, waits}
+use Rattle.msg_world.specs.Prelude.{WorldState, updated, waits}
 use Rattle.msg_frames.proofs.ElementsAndPairs.{Cut, cut}
-use Rattle.msg_frames.specs.declared.frame.Frame.{Frame}
-use Rattle.msg_frames.specs.declared.log.Log.{Log}
-use Rattle.msg_frames.specs.declared.log.Outcome.TheVariants.{Skipped}
-use Rattle.msg_frames.specs.Frames.{IsFrame, IsRun, State, after_turns_of, before_turns, frame_in, has_begun, joining, systems_in}
-use Rattle.msg_frames.specs.Soundness.{IsSoundState}
-use Rattle.msg_frames.specs.Tiling.{Moment, moments, place_of, turns_moments}
+use Rattle.msg_frames.specs.Prelude.{Frame, IsFrame, IsRun, IsSoundState, IsUpToDate, Log, MissesNothing, Moment, NothingDrained, ReadsAll, ReadsAllInEach, Skipped, State, WhoIsUpToDateMissesNothing, WhoReadsAllCatchesUp, WhoReadsAllHasTheFrameBefore, WhoReadsAllIsUpToDate, WhoReadsEachFrameMissesNothing, after_turns_of, before_turns, frame_in, has_begun, joining, moments, place_of, reads_all, systems_in, turns_moments}
 use Rattle.std.specs.List.{list_any}
-use Rattle.msg_frames.specs.UpToDate.{reads_all, IsUpToDate, MissesNothing, NothingDrained, ReadsAll, ReadsAllInEach, WhoIsUpToDateMissesNothing, WhoReadsAllCatchesUp, WhoReadsAllHasTheFrameBefore, WhoReadsAllIsUpToDate, WhoReadsEachFrameMissesNothing}
 use Rattle.msg_frames.proofs.HistoriesGrow.{BufferLaws, counts_more, frame_goes_on, runs_go_on, turns_go_on}
 use Rattle.msg_frames.proofs.SystemsStay.{before_keeps, joining_world, turns_keep}
 use Rattle.msg_frames.proofs.ReaderOverJob.{IsWritten, tile_of}

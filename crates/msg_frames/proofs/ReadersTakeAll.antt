@@ -5,20 +5,14 @@ use Rattle.std.specs.List.{list_any}
 use Rattle.std.proofs.lemmas.Bool.{cases_Bool, eq-eqb, eqb-true, false≢true, or_cases}
 use Rattle.std.proofs.lemmas.List.Elements.{All-head, All-tail}
 use Rattle.std.proofs.lemmas.List.Folds.{list_any-append}
-use Rattle.msg_buffer.specs.History.{IsSound, count}
-use Rattle.msg_buffer.specs.Reader.{Tile, next_place}
-use Rattle.msg_world.specs.World.{WorldState}
+use Rattle.msg_buffer.specs.Prelude.{IsSound, Tile, count, next_place}
+use Rattle.msg_world.specs.Prelude.{WorldState}
 use Rattle.msg_system.specs.declared.op.Op.{Op}
 use Rattle.msg_system.specs.declared.op.Op.TheVariants.{Write, Batch, Read, Len, Missed, Clear, Forward, Sum, Get, Set, Add, Drain, Signal}
 use Rattle.msg_system.specs.declared.reply.Reply.{Reply}
-use Rattle.msg_system.specs.Conditions.{Job, after_job, all_hold}
-use Rattle.msg_system.specs.Programs.{AfterProgram, after_op, place_after_read, with_place}
-use Rattle.msg_system.specs.Systems.{Meaning, after_at_most, next_op, one_more, ops_answered, turn}
+use Rattle.msg_system.specs.Prelude.{AfterProgram, Job, Meaning, after_at_most, after_job, after_op, all_hold, next_op, one_more, ops_answered, place_after_read, turn, with_place}
 use Rattle.msg_system.proofs.Turns.{ops_answered-snoc}
-use Rattle.msg_frames.specs.declared.log.Outcome.TheVariants.{Skipped}
-use Rattle.msg_frames.specs.Frames.{after_turn_of, after_turns_of, logged, outcome_of, State}
-use Rattle.msg_frames.specs.Tiling.{Moment, first_moments, next_moments, place_of}
-use Rattle.msg_frames.specs.UpToDate.{reads_all}
+use Rattle.msg_frames.specs.Prelude.{Moment, Skipped, State, after_turn_of, after_turns_of, first_moments, logged, next_moments, outcome_of, place_of, reads_all}
 use Rattle.msg_frames.proofs.HistoriesGrow.{BufferLaws, counts_more}
 use Rattle.msg_frames.proofs.ReaderOverJob.{Passes, first_passes, next_passes, tile_of}
 use Rattle.msg_frames.proofs.ReaderOverTurns.{one_member, turn_reads}

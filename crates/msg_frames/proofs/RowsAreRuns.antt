@@ -7,22 +7,17 @@ use Rattle.std.proofs.lemmas.Bool.{cases_Bool, cases_eq, cases_lt, and_parts, or
 use Rattle.std.proofs.lemmas.List.{get_or_past}
 use Rattle.std.proofs.lemmas.List.FromFn.{get_or-map-range_with_len, length-map-range_with_len}
 use Rattle.msg_world.specs.declared.access.Access.{Access}
-use Rattle.msg_world.specs.Access.{Part, OfType, OfResource, Registry, same_part, has_bit, reads, writes, no_access, Fits}
+use Rattle.msg_world.specs.Prelude.{Part, OfType, OfResource, Registry, same_part, has_bit, reads, writes, no_access, Fits}
 use Rattle.msg_world.proofs.Bits.{has_bit-zero, has_bit-set}
-use Rattle.msg_order.specs.Order.{access_of}
+use Rattle.msg_order.specs.Prelude.{access_of}
 use Rattle.msg_order.proofs.Computing.{each_below, is_turn_order, in_turn_by_test}
 use Rattle.msg_system.specs.declared.op.Op.{Op}
 use Rattle.msg_system.specs.declared.condition.Condition.{Condition}
 use Rattle.msg_system.specs.declared.op.Op.TheVariants.{Read}
 use Rattle.msg_system.specs.declared.program.Program.{Program}
-use Rattle.msg_system.specs.Conditions.{conditions_of}
-use Rattle.msg_system.specs.Systems.{turn}
-use Rattle.msg_system.specs.Needs.{Needs, IsAccessOf, is_part, job_needs, op_parts, probe_part, some_op_reads, some_condition_reads, program_needs, with_conditions}
-use Rattle.msg_frames.specs.declared.frame.Frame.{Frame}
-use Rattle.msg_frames.specs.Frames.{AfterFrame, IsTurnOrderOf, before_turns, frame_in, needs_of, State, joined}
-use Rattle.msg_frames.specs.FirstState.{nobody, unjoined}
+use Rattle.msg_system.specs.Prelude.{IsAccessOf, Needs, conditions_of, is_part, job_needs, op_parts, probe_part, program_needs, some_condition_reads, some_op_reads, turn, with_conditions}
+use Rattle.msg_frames.specs.Prelude.{AfterFrame, Frame, IsRunOf, IsTurnOrderOf, OrderedFrames, Setup, State, alone, before_turns, conditions_frames, contrary, contrary_frames, drained, drained_frames, early_frames, echo, echo_frames, fourth, fourth_frames, frame_in, gated, gated_frames, joined, lag, lag_frames, late, late_frames, needs_of, nobody, numbered, program, relay, relay_frames, signallers, signallers_frames, start_of, tally, tally_frames, two_conditions, unjoined, writers, writers_frames}
 use Rattle.msg_frames.proofs.SystemsStay.{before_keeps, frame_keeps, joining_on_keeps}
-use Rattle.msg_frames.specs.Rows.{OrderedFrames, IsRunOf, Setup, start_of, alone, numbered, program, lag, lag_frames, fourth, fourth_frames, writers, writers_frames, contrary, contrary_frames, echo, echo_frames, two_conditions, conditions_frames, tally, tally_frames, late, late_frames, early_frames, gated, gated_frames, signallers, signallers_frames, drained, drained_frames, relay, relay_frames}
 use Rattle.msg_frames.proofs.FramesInOrder.{frame_in_order}
 
 -- ---- accesses, computed

@@ -5,13 +5,10 @@ use Rattle.std.proofs.lemmas.Bool.{and_parts}
 use Rattle.std.proofs.lemmas.List.Elements.{All-contains, filter_passes}
 use Rattle.std.proofs.lemmas.List.FromFn.{length-map-range_with_len}
 use Rattle.msg_world.specs.declared.access.Access.{Access}
-use Rattle.msg_world.specs.Access.{Part, Conflict, uses, writes}
+use Rattle.msg_world.specs.Prelude.{Part, Conflict, uses, writes}
 use Rattle.msg_order.specs.declared.rule.Rule.{Rule}
-use Rattle.msg_order.specs.Graph.{Graph, IsAcyclic}
-use Rattle.msg_order.specs.Laws.{SettledOrderIsUnique, SettlingMakesNoCycle, TurnOrderIsUnique}
-use Rattle.msg_order.specs.Order.{AreInConflict, IsAmong, IsSettledOrder, IsTurnOrder, Settles, access_of, has_joined, pairs, rules_among}
-use Rattle.msg_frames.specs.Frames.{AreAccessesOf, IsOrderOf, IsRun, IsTurnOrderOf, before_turns, frame_in, systems_in, State, has_begun, joined}
-use Rattle.msg_frames.specs.TurnLaws.{FramesAreUnique, NoCycle, RunsAreUnique, SystemsHaveOneOrder}
+use Rattle.msg_order.specs.Prelude.{AreInConflict, Graph, IsAcyclic, IsAmong, IsSettledOrder, IsTurnOrder, SettledOrderIsUnique, Settles, SettlingMakesNoCycle, TurnOrderIsUnique, access_of, has_joined, pairs, rules_among}
+use Rattle.msg_frames.specs.Prelude.{AreAccessesOf, FramesAreUnique, IsOrderOf, IsRun, IsTurnOrderOf, NoCycle, RunsAreUnique, State, SystemsHaveOneOrder, before_turns, frame_in, has_begun, joined, systems_in}
 use Rattle.msg_order.proofs.Elements.{Contains-cases}
 use Rattle.msg_frames.proofs.SystemsStay.{joined_below}
 

@@ -1,10 +1,7 @@
 -- A state has a frame, and so a run, where its rules make no cycle.
 use Rattle.std.proofs.Common.{[], ◌∷◌, refl, sym, subst}
-use Rattle.msg_order.specs.Laws.{SettledOrderExists, SettlingMakesNoCycle, TurnOrderExists}
-use Rattle.msg_frames.specs.declared.log.Log.{Log}
-use Rattle.msg_frames.specs.declared.frame.Frame.{Frame}
-use Rattle.msg_frames.specs.Frames.{IsFrame, IsOrderOf, IsTurnOrderOf, before_turns, frame_in, systems_in, State, joined}
-use Rattle.msg_frames.specs.TurnLaws.{FramesExist, RunsExist, SameSystems}
+use Rattle.msg_order.specs.Prelude.{SettledOrderExists, SettlingMakesNoCycle, TurnOrderExists}
+use Rattle.msg_frames.specs.Prelude.{Frame, FramesExist, IsFrame, IsOrderOf, IsTurnOrderOf, Log, RunsExist, SameSystems, State, before_turns, frame_in, joined, systems_in}
 use Rattle.msg_frames.proofs.FramesInOrder.{frame_in_order}
 use Rattle.msg_frames.proofs.SystemsStay.{accesses_stay, before_keeps, frame_keeps, no_cycle_stays}
 use Rattle.msg_frames.proofs.RunsAreUnique.{order_has_no_cycle, order_is_among}

@@ -4,14 +4,9 @@ use Rattle.std.specs.Prelude.{IsTrue, IsFalse, nat_le, false}
 use Rattle.std.proofs.lemmas.Bool.{cases_Bool, false≢true, leb-false, leb-true}
 use Rattle.std.proofs.lemmas.List.{get_or_past}
 use Rattle.std.proofs.lemmas.List.FromFn.{get_or-map-range_with_len, length-map-range_with_len}
-use Rattle.msg_buffer.specs.History.{count}
-use Rattle.msg_order.specs.Order.{has_joined}
-use Rattle.msg_frames.specs.declared.frame.Frame.{Frame}
-use Rattle.msg_frames.specs.declared.log.Log.{Log}
-use Rattle.msg_frames.specs.Entries.{no_totals}
-use Rattle.msg_frames.specs.Frames.{IsFrame, IsRun, IsTurnOrderOf, after_turns_of, before_turns, begun, counts, systems_in, Member, State, has_begun, joined}
-use Rattle.msg_frames.specs.Soundness.{IsBalanced, IsSoundState}
-use Rattle.msg_frames.specs.Tiling.{place_of}
+use Rattle.msg_buffer.specs.Prelude.{count}
+use Rattle.msg_order.specs.Prelude.{has_joined}
+use Rattle.msg_frames.specs.Prelude.{Frame, IsBalanced, IsFrame, IsRun, IsSoundState, IsTurnOrderOf, Log, Member, State, after_turns_of, before_turns, begun, counts, has_begun, joined, no_totals, place_of, systems_in}
 use Rattle.msg_frames.proofs.HistoriesGrow.{BufferLaws, counts_more, turns_go_on}
 use Rattle.msg_frames.proofs.SystemsStay.{turns_keep}
 use Rattle.msg_frames.proofs.EntriesAddUp.{stays_balanced}

@@ -6,15 +6,11 @@ use Rattle.std.proofs.lemmas.List.{get_or_past}
 use Rattle.std.proofs.lemmas.List.FromFn.{length-map-range_with_len}
 use Rattle.std.specs.Prelude.{if◌then◌else◌, ◌==◌}
 use Rattle.msg_world.specs.declared.access.Access.{Access}
-use Rattle.msg_world.specs.World.{WorldState}
-use Rattle.msg_order.specs.Graph.{IsAcyclic}
-use Rattle.msg_order.specs.Order.{access_of, has_joined, rules_among}
-use Rattle.msg_system.specs.Conditions.{Asked, after_asking, all_hold, asked_started}
+use Rattle.msg_world.specs.Prelude.{WorldState}
+use Rattle.msg_order.specs.Prelude.{IsAcyclic, access_of, has_joined, rules_among}
+use Rattle.msg_system.specs.Prelude.{Asked, IsAccessOf, after_asking, all_hold, asked_started, with_conditions}
 use Rattle.msg_system.specs.declared.start.Start.{Start}
-use Rattle.msg_system.specs.Needs.{IsAccessOf, with_conditions}
-use Rattle.msg_frames.specs.declared.frame.Frame.{Frame}
-use Rattle.msg_frames.specs.Frames.{AreAccessesOf, after_turn_of, after_turns_of, before_turns, begun, counts, frame_in, joining, member_turn, needs_of, turn_of, with_joining, with_member, Member, State, has_begun, joined}
-use Rattle.msg_frames.specs.TurnLaws.{FramesKeepSystems, NoCycle, SameMember, SameSystems, SameSystemsHaveSameAccesses, TurnsKeepSystems}
+use Rattle.msg_frames.specs.Prelude.{AreAccessesOf, Frame, FramesKeepSystems, Member, NoCycle, SameMember, SameSystems, SameSystemsHaveSameAccesses, State, TurnsKeepSystems, after_turn_of, after_turns_of, before_turns, begun, counts, frame_in, has_begun, joined, joining, member_turn, needs_of, turn_of, with_joining, with_member}
 
 -- ---- members
 

@@ -1,17 +1,13 @@
 -- A frame, and frames one after the other.
 use Rattle.std.specs.Prelude.{◌≡◌, ℕ, suc, ℤ, ◌<◌, ◌==◌, List, [], ◌∷◌, length, map, Option, Some, None, if◌then◌else◌, max, nat_le, Bool}
 use Rattle.std.specs.List.{range_with_len}
-use Rattle.msg_buffer.specs.History.{count, write}
+use Rattle.msg_buffer.specs.Prelude.{count, write}
 use Rattle.msg_world.specs.declared.access.Access.{Access}
 use Rattle.msg_world.specs.declared.record.TheConstants.{HOST}
-use Rattle.msg_world.specs.World.{WorldState, by, updated, with_history}
-use Rattle.msg_order.specs.Graph.{Graph}
-use Rattle.msg_order.specs.Order.{IsSettledOrder, IsTurnOrder, access_of}
+use Rattle.msg_world.specs.Prelude.{WorldState, by, updated, with_history}
+use Rattle.msg_order.specs.Prelude.{Graph, IsSettledOrder, IsTurnOrder, access_of}
 use Rattle.msg_system.specs.declared.reply.Reply.{Reply}
-use Rattle.msg_system.specs.Conditions.{AfterJob, Job, after_job, asked_started, conditions_of}
-use Rattle.msg_system.specs.Needs.{IsAccessOf, Needs, with_conditions}
-use Rattle.msg_system.specs.Programs.{numbers_for, write_reply}
-use Rattle.msg_system.specs.Systems.{started}
+use Rattle.msg_system.specs.Prelude.{AfterJob, IsAccessOf, Job, Needs, after_job, asked_started, conditions_of, numbers_for, started, with_conditions, write_reply}
 use Rattle.msg_frames.specs.declared.frame.Frame.{Frame}
 use Rattle.msg_frames.specs.declared.log.Log.{Log}
 use Rattle.msg_frames.specs.declared.log.Turn.{Turn}

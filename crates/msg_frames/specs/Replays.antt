@@ -1,7 +1,6 @@
 -- A frame in another order than the settled one.
 use Rattle.std.specs.Prelude.{◌≡◌, ◌⊎◌, ℕ, List, [], ◌∷◌, IsPermutation}
-use Rattle.msg_order.specs.Graph.{Graph}
-use Rattle.msg_order.specs.Order.{IsLawfulOrder}
+use Rattle.msg_order.specs.Prelude.{Graph, IsLawfulOrder}
 use Rattle.msg_frames.specs.declared.frame.Frame.{Frame}
 use Rattle.msg_frames.specs.declared.log.Log.{Log}
 use Rattle.msg_frames.specs.Frames.{IsFrame, IsOrderOf, before_turns, systems_in, State, joined}

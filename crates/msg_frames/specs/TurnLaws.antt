@@ -2,14 +2,11 @@
 -- src/laws.rt.
 use Rattle.std.specs.Prelude.{◌≡◌, ◌≢◌, ℕ, suc, ◌<◌, Bool, List, [], ◌∷◌, ◌++◌, map, length, All, AllPairs, IsPermutation}
 use Rattle.std.specs.List.{concat}
-use Rattle.msg_buffer.specs.History.{GoesOn, IsSound}
+use Rattle.msg_buffer.specs.Prelude.{GoesOn, IsSound}
 use Rattle.msg_world.specs.declared.access.Access.{Access}
-use Rattle.msg_world.specs.Access.{Conflict}
-use Rattle.msg_world.specs.World.{merge}
-use Rattle.msg_order.specs.Graph.{Graph, IsAcyclic}
-use Rattle.msg_order.specs.Order.{IsLawfulOrder, IsSettledOrder, access_of, rules_among}
-use Rattle.msg_order.specs.Plan.{NoneConflict}
-use Rattle.msg_system.specs.Conditions.{conditions_of}
+use Rattle.msg_world.specs.Prelude.{Conflict, merge}
+use Rattle.msg_order.specs.Prelude.{Graph, IsAcyclic, IsLawfulOrder, IsSettledOrder, NoneConflict, access_of, rules_among}
+use Rattle.msg_system.specs.Prelude.{conditions_of}
 use Rattle.msg_frames.specs.declared.frame.Frame.{Frame}
 use Rattle.msg_frames.specs.declared.log.Log.{Log}
 use Rattle.msg_frames.specs.Frames.{AfterTurns, AreAccessesOf, IsFrame, IsOrderOf, IsRun, after_turn_of, after_turns_of, before_turns, frame_in, joining, logged, turn_of, with_joining, with_member, Member, State, joined}

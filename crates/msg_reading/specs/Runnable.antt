@@ -1,16 +1,12 @@
 -- The state that an engine of a scenario begins in, and what every scenario that was read keeps to.
 use Rattle.std.specs.Prelude.{◌≡◌, ◌≤◌, ◌<◌, ℕ, ⊤, IsTrue, All, List, [], ◌∷◌, length, map, if◌then◌else◌}
 use Rattle.std.specs.List.{enumerate_from}
-use Rattle.msg_world.specs.Access.{HasPart, Part}
-use Rattle.msg_world.specs.World.{WorldState, held, new_world}
-use Rattle.msg_order.specs.Graph.{IsAcyclic}
-use Rattle.msg_order.specs.Order.{NameSystemsBelow}
-use Rattle.msg_system.specs.Needs.{HasClash, job_needs, needs_any, program_needs}
-use Rattle.msg_system.specs.Systems.{Meaning, new_system}
+use Rattle.msg_world.specs.Prelude.{HasPart, Part, WorldState, held, new_world}
+use Rattle.msg_order.specs.Prelude.{IsAcyclic, NameSystemsBelow}
+use Rattle.msg_system.specs.Prelude.{HasClash, Meaning, job_needs, needs_any, new_system, program_needs}
 use Rattle.msg_system.specs.declared.op.Op.{Op}
 use Rattle.msg_system.specs.declared.op.Op.TheVariants.{Forward, Sum}
-use Rattle.msg_frames.specs.FirstState.{all_rules, first_state}
-use Rattle.msg_frames.specs.Frames.{State}
+use Rattle.msg_frames.specs.Prelude.{State, all_rules, first_state}
 use Rattle.msg_frames.specs.declared.frame.Frame.{Frame}
 use Rattle.msg_frames.specs.declared.place.Place.{Place}
 use Rattle.msg_reading.specs.declared.kind.Kind.{Kind}

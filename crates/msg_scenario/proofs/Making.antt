@@ -4,19 +4,17 @@ use Rattle.std.specs.Prelude.{Bool, ℤ, if◌then◌else◌, IsTrue, option_map
 use Rattle.std.specs.List.{All, enumerate_from}
 use Rattle.std.proofs.lemmas.List.Elements.{All-get_or}
 use Rattle.std.proofs.lemmas.Option.{get_or_from_slice_get, slice_get_cases, slice_get_within, slice_get-map}
-use Rattle.msg_world.specs.Parts.{Parts, PartsStand}
-use Rattle.msg_world.specs.World.{WorldState, held, new_world}
+use Rattle.msg_world.specs.Prelude.{Parts, PartsStand, WorldState, held, new_world}
 use Rattle.msg_order.specs.declared.rule.Rule.{Rule}
-use Rattle.msg_frames.specs.FirstState.{IsNew, all_rules, first_state}
-use Rattle.msg_system.specs.Needs.{job_needs, needs_any, with_conditions}
-use Rattle.msg_system.specs.Systems.{Meaning, new_system}
-use Rattle.msg_order.specs.Graph.{IsAcyclic, IsLowestOnCycle}
+use Rattle.msg_frames.specs.Prelude.{IsNew, all_rules, first_state}
+use Rattle.msg_system.specs.Prelude.{Meaning, job_needs, needs_any, new_system, with_conditions}
+use Rattle.msg_order.specs.Prelude.{IsAcyclic, IsLowestOnCycle}
 use Rattle.msg_frames.specs.declared.place.Place.{Place}
-use Rattle.msg_exec.specs.Building.{EachIs, IsLowestClash, MayBeAdded}
+use Rattle.msg_exec.specs.Prelude.{EachIs, IsLowestClash, MayBeAdded}
 use Rattle.msg_reading.specs.declared.scenario.Scenario.{Scenario}
 use Rattle.msg_reading.specs.declared.scenario.SystemSpec.{SystemSpec}
-use Rattle.msg_reading.specs.Runnable.{IsRunnable, IsRunnableSystem, first_world, places_of, state_of, systems_of}
-use Rattle.msg_scenario.specs.Making.{IsSystemAt}
+use Rattle.msg_reading.specs.Prelude.{IsRunnable, IsRunnableSystem, first_world, places_of, state_of, systems_of}
+use Rattle.msg_scenario.specs.Prelude.{IsSystemAt}
 use Rattle.msg_reading.proofs.There.{some_same}
 
 -- what holds of all of a list holds of what is found in it

@@ -2,10 +2,9 @@
 use Rattle.std.specs.Prelude.{ℕ, ◌+◌, ℤ, ◌+ℤ◌, ◌==◌, Option, None, Some, List, [], ◌∷◌, fold, length, map, if◌then◌else◌}
 use Rattle.std.specs.Int.{saturate_signed, w64}
 use Rattle.msg_buffer.specs.declared.instance.Written.{Written}
-use Rattle.msg_buffer.specs.History.{History, clear, count, has_room, oldest, present, write, message_of}
-use Rattle.msg_buffer.specs.Reader.{first, given, missed, unread}
+use Rattle.msg_buffer.specs.Prelude.{History, clear, count, first, given, has_room, message_of, missed, oldest, present, unread, write}
 use Rattle.msg_world.specs.declared.record.Record.{Record}
-use Rattle.msg_world.specs.World.{WorldState, by, signalled, with_history, with_value_of}
+use Rattle.msg_world.specs.Prelude.{WorldState, by, signalled, with_history, with_value_of}
 use Rattle.msg_system.specs.declared.op.Op.{Op}
 use Rattle.msg_system.specs.declared.op.Op.TheVariants.{Write, Batch, Read, Len, Missed, Clear, Forward, Sum, Get, Set, Add, Drain, Signal}
 use Rattle.msg_system.specs.declared.reply.Reply.{Reply}

@@ -1,11 +1,8 @@
 // What ops do to the parts that are lent to them.
 ghost use Rattle.std.specs.Prelude.{◌≡◌, ◌<◌, ℕ, [], ◌∷◌, IfOk, OnErr, OnOk, IsSome, length, map};
-ghost use Rattle.msg_buffer.specs.History.{clear, oldest, present, write, message_of};
-ghost use Rattle.msg_buffer.specs.StandsFor.{StandsFor};
-ghost use Rattle.msg_world.specs.Access.{OfResource, OfType};
-ghost use Rattle.msg_world.specs.Loan.{LoanStands, SameLoan, shown, writable};
-ghost use Rattle.msg_world.specs.World.{WorldState, by, with_history, with_value_of};
-ghost use Rattle.msg_system.specs.Programs.{again_by, numbers_for, sum_onto};
+ghost use Rattle.msg_buffer.specs.Prelude.{StandsFor, clear, message_of, oldest, present, write};
+ghost use Rattle.msg_world.specs.Prelude.{LoanStands, OfResource, OfType, SameLoan, WorldState, by, shown, with_history, with_value_of, writable};
+ghost use Rattle.msg_system.specs.Prelude.{again_by, numbers_for, sum_onto};
 
 use crate::{Items, NoMemory};
 use msg_buffer::{BatchRefusal, Instance, Messages, WriteRefusal, Written};

@@ -6,16 +6,9 @@ use Rattle.std.proofs.Math.ListN.{length-set}
 use Rattle.std.proofs.lemmas.Bool.{and_from, and_parts, cases_Bool, cases_eq, cases_lt, false≢true, or_cases, or_left, or_right, eq-eqb, ne_eqb}
 use Rattle.std.proofs.lemmas.Option.{same_Some, slice_get-get_or}
 use Rattle.std.proofs.lemmas.List.{get_or-set_same, get_or-set_other, get_or_past}
-use Rattle.msg_buffer.specs.History.{History, empty, update}
-use Rattle.msg_buffer.specs.Kept.{Kept}
-use Rattle.msg_buffer.specs.StandsFor.{StandsFor}
-use Rattle.msg_world.specs.declared.access.Access.{Access}
-use Rattle.msg_world.specs.declared.record.Record.{Record}
-use Rattle.msg_world.specs.declared.marks.Marks.{Marks}
-use Rattle.msg_world.specs.Access.{Part, OfType, OfResource, Registry, has_bit, uses, writes}
-use Rattle.msg_world.specs.Parts.{Parts, IsHome, IsWhole, PartsStand, SameShape, slot}
+use Rattle.msg_buffer.specs.Prelude.{History, Kept, StandsFor, empty, update}
+use Rattle.msg_world.specs.Prelude.{Access, IsHome, IsWhole, Marks, OfResource, OfType, Part, Parts, PartsStand, Record, Registry, SameShape, WorldState, has_bit, new_world, slot, updated, uses, waits, with_history, writes}
 use Rattle.msg_world.specs.inner.Slots.{AllUpdated, BufferStands, HaveEach, at}
-use Rattle.msg_world.specs.World.{WorldState, new_world, updated, waits, with_history}
 
 -- a world and parts of which the marks were set
 pub marks_stand : (w : Parts) (s : WorldState) (m n : Marks) → m ≡ n → PartsStand w s → PartsStand (record w { marks = Some m }) (record s { marks = n })

@@ -1,7 +1,7 @@
 -- The world that systems share: the history of each message type, the value of each resource, and the
 -- registry of signals.
 use Rattle.std.specs.Prelude.{ℕ, ℤ, pos, Bool, true, false, not, ◌&&◌, ◌||◌, ◌==◌, List, slice_index, slice_index_or, if◌then◌else◌}
-use Rattle.msg_buffer.specs.History.{History, empty, update}
+use Rattle.msg_buffer.specs.Prelude.{History, empty, update}
 use Rattle.msg_world.specs.declared.record.Record.{Record}
 use Rattle.msg_world.specs.declared.marks.Marks.{Marks}
 use Rattle.msg_world.specs.declared.access.Access.{Access}

@@ -1,12 +1,12 @@
 -- What each step of a frame leaves of what an engine works on.
 use Rattle.std.specs.Prelude.{◌≡◌, ◌≢◌, ◌⊎◌, ℕ, suc, ◌<◌, List, Option, Some, None}
-use Rattle.msg_order.specs.Plan.{IsPlanOf, PlanView}
+use Rattle.msg_order.specs.Prelude.{IsPlanOf, PlanView}
 use Rattle.msg_system.specs.declared.reply.Reply.{Reply}
-use Rattle.msg_system.specs.Systems.{Meaning}
-use Rattle.msg_world.specs.World.{updated}
+use Rattle.msg_system.specs.Prelude.{Meaning}
+use Rattle.msg_world.specs.Prelude.{updated}
 use Rattle.msg_exec.specs.declared.engine_core.Core.{Core}
 use Rattle.msg_frames.specs.declared.frame.Frame.{Frame}
-use Rattle.msg_frames.specs.Frames.{before_turns, joining, post_replies, State, joined}
+use Rattle.msg_frames.specs.Prelude.{before_turns, joining, post_replies, State, joined}
 use Rattle.msg_exec.specs.Lender.{LenderStands}
 use Rattle.msg_exec.specs.Cores.{CoreStands, Schedule}
 

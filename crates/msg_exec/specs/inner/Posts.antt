@@ -1,9 +1,9 @@
 -- When a post finds room.
 use Rattle.std.specs.Prelude.{◌≡◌, ℕ, ℤ, ◌<◌, List, take, Some, slice_get}
-use Rattle.msg_buffer.specs.History.{History, count}
+use Rattle.msg_buffer.specs.Prelude.{History, count}
 use Rattle.msg_world.specs.declared.record.Record.{Record}
-use Rattle.msg_world.specs.World.{WorldState}
-use Rattle.msg_frames.specs.Frames.{posted}
+use Rattle.msg_world.specs.Prelude.{WorldState}
+use Rattle.msg_frames.specs.Prelude.{posted}
 
 -- a number is left for one message more
 abbrev pub HasRoom : History Record → Type 0

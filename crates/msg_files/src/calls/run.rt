@@ -1,10 +1,7 @@
 // Calls made one after another, each line printed before the next call.
 ghost use Rattle.std.specs.Prelude.{◌≡◌, ◌⊎◌, Err, IfErr, OnOk, OnErr, length, true};
 ghost use Rattle.std.specs.Io.KnownBytes.{Appends};
-ghost use Rattle.msg_files.specs.CallsText.{State, after, calls_text, line};
-ghost use Rattle.msg_files.specs.Cursors.{has_cursor};
-ghost use Rattle.msg_files.specs.Running.{AreIn};
-ghost use Rattle.msg_files.specs.Sinks.{AppendsPrefix, one_more};
+ghost use Rattle.msg_files.specs.Prelude.{AppendsPrefix, AreIn, State, after, calls_text, has_cursor, line, one_more};
 
 use crate::call::Call;
 use crate::calls::Calls;

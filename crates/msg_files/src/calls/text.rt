@@ -1,7 +1,7 @@
 // The parts of a line, made in memory.
 ghost use Rattle.std.specs.Prelude.{◌≡◌, ◌++◌, [], IsOk, OnOk, decimal};
 ghost use Rattle.std.specs.Fmt.{signed_decimal};
-ghost use Rattle.msg_files.specs.CallsText.{item_text, items_text, more_items, value_text};
+ghost use Rattle.msg_files.specs.Prelude.{item_text, items_text, more_items, value_text};
 ghost use Rattle.std.specs.Option.{option_copied};
 
 use crate::numerals::{add_number, add_value};

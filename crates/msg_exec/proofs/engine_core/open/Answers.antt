@@ -1,8 +1,7 @@
 use Rattle.std.proofs.Common.{◌≡◌, ◌<◌, ◌∙◌, ℕ, ℤ, refl, ap, sym, subst, length}
 use Rattle.std.specs.Prelude.{All}
-use Rattle.msg_world.specs.Parts.{Parts, PartsStand, SameShape}
-use Rattle.msg_world.specs.World.{WorldState, updated}
-use Rattle.msg_frames.specs.Frames.{joining, post_replies, posted}
+use Rattle.msg_world.specs.Prelude.{Parts, PartsStand, SameShape, WorldState, updated}
+use Rattle.msg_frames.specs.Prelude.{joining, post_replies, posted}
 use Rattle.msg_exec.proofs.CoreRunsFrame.{opened}
 use Rattle.msg_exec.proofs.engine_core.open.Goals as goal
 

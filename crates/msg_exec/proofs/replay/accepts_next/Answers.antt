@@ -1,6 +1,6 @@
 use Rattle.std.proofs.Common.{subst}
 use Rattle.msg_exec.specs.inner.FrameSteps.{IsNextPlan, counted}
-use Rattle.msg_frames.specs.Frames.{joining, joined}
+use Rattle.msg_frames.specs.Prelude.{joining, joined}
 use Rattle.msg_exec.proofs.CoreReplaysFrame.{accepted, plan_stays}
 use Rattle.msg_exec.proofs.replay.accepts_next.Goals as goal
 

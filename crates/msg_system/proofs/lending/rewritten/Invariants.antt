@@ -1,5 +1,5 @@
 use Rattle.std.proofs.Common.{◌≡◌, take}
-use Rattle.msg_system.specs.Programs.{again_by}
+use Rattle.msg_system.specs.Prelude.{again_by}
 use Rattle.msg_system.proofs.lending.rewritten.Given as goal
 
 abbrev pub invariant-loop-record : goal.invariant-loop-record

@@ -1,5 +1,5 @@
 use Rattle.std.proofs.Common.{◌≡◌, map, take}
-use Rattle.msg_world.specs.World.{by}
+use Rattle.msg_world.specs.Prelude.{by}
 use Rattle.msg_system.proofs.lending.written_by.Given as goal
 
 abbrev pub invariant-loop-value : goal.invariant-loop-value

@@ -1,7 +1,7 @@
 use Rattle.std.proofs.Common.{None, ap, arith, length, ◌∙◌}
 use Rattle.std.proofs.lemmas.List.{length-map}
-use Rattle.msg_world.specs.World.{by}
-use Rattle.msg_system.specs.Programs.{again_by}
+use Rattle.msg_world.specs.Prelude.{by}
+use Rattle.msg_system.specs.Prelude.{again_by}
 use Rattle.msg_system.proofs.Lendings.{on_err}
 use Rattle.msg_system.proofs.OpsDone.{after_forward, as_long}
 use Rattle.msg_system.proofs.steps.forward.Goals as goal

@@ -1,19 +1,13 @@
 use Rattle.std.proofs.Common.{◌≡◌, ℕ, Bool, List, length, map, refl, sym, ap, subst, ◌∙◌, arith, inr}
 use Rattle.std.specs.Prelude.{nat_le}
 use Rattle.std.specs.Global.{Vec}
-use Rattle.msg_world.specs.World.{WorldState}
-use Rattle.msg_order.specs.Graph.{IsAcyclic}
-use Rattle.msg_order.specs.Order.{rules_among}
-use Rattle.msg_order.specs.Plan.{IsPlanOf}
+use Rattle.msg_world.specs.Prelude.{WorldState}
+use Rattle.msg_order.specs.Prelude.{IsAcyclic, IsPlanOf, rules_among}
 use Rattle.msg_world.specs.declared.access.Access.{Access}
 use Rattle.msg_frames.specs.declared.place.Place.{Place}
-use Rattle.msg_exec.specs.declared.engine_core.Core.{Core}
-use Rattle.msg_exec.specs.Building.{EachIs}
+use Rattle.msg_exec.specs.Prelude.{AreJoins, Core, EachIs, Schedule}
 use Rattle.msg_exec.specs.inner.Building.{AreNoTotals, IsAccessAt, IsGuardedAt, RefusesForCycle}
-use Rattle.msg_frames.specs.FirstState.{all_rules, first_state, unjoined}
-use Rattle.msg_exec.specs.Cores.{Schedule}
-use Rattle.msg_frames.specs.Frames.{with_joining, State, joined}
-use Rattle.msg_exec.specs.Lender.{AreJoins}
+use Rattle.msg_frames.specs.Prelude.{State, all_rules, first_state, joined, unjoined, with_joining}
 use Rattle.msg_exec.proofs.FirstEngineStands.{are_new, joins_are, none_clashes, none_more, nothing_read, refusal_for_rules, schedule_first, lender_is_first}
 use Rattle.msg_exec.proofs.CoreRunsFrame.{joined_by_frame, schedule_along}
 use Rattle.msg_frames.proofs.SystemsStay.{joining_on_keeps}

@@ -1,4 +1,4 @@
-use Rattle.msg_buffer.specs.Reading.{HasGiven}
+use Rattle.msg_buffer.specs.Prelude.{HasGiven}
 use Rattle.msg_files.proofs.calls.answer.take_all.Given as goal
 
 abbrev pub invariant-loop-id : goal.invariant-loop-id

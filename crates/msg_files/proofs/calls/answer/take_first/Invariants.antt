@@ -1,5 +1,5 @@
 use Rattle.std.proofs.Common.{◌≡◌, length}
-use Rattle.msg_buffer.specs.Reading.{HasGiven}
+use Rattle.msg_buffer.specs.Prelude.{HasGiven}
 use Rattle.msg_files.proofs.calls.answer.take_first.Given as goal
 
 abbrev pub invariant-loop : goal.invariant-loop

@@ -1,7 +1,5 @@
 use Rattle.std.proofs.Common.{refl, sym, subst}
-use Rattle.msg_world.specs.Loan.{LoanStands}
-use Rattle.msg_world.specs.Parts.{Parts, SameShape}
-use Rattle.msg_world.specs.World.{signalled}
+use Rattle.msg_world.specs.Prelude.{LoanStands, Parts, SameShape, signalled}
 use Rattle.msg_world.proofs.Loans.{signal_stands, with_signal_shape}
 use Rattle.msg_world.proofs.lent.Lent.signal.Goals as goal
 
