@@ -1,8 +1,7 @@
 -- What a read comes to.
 use Rattle.std.specs.Prelude.{◌≡◌, ℕ, ◌+◌, List, length, sum_by}
 use Rattle.msg_buffer.specs.declared.instance.Instance.{Instance}
-use Rattle.msg_buffer.specs.History.{History}
-use Rattle.msg_buffer.specs.Reader.{missed, unread}
+use Rattle.msg_buffer.specs.Prelude.{History, missed, unread}
 use Rattle.damage_and_score.specs.declared.damage.Damage.{Damage}
 use Rattle.damage_and_score.specs.declared.damage.Hero.{Hero}
 use Rattle.damage_and_score.specs.declared.damage.Hero.TheVariants.{Archer, Mage}

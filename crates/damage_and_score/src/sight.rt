@@ -1,9 +1,7 @@
 // What one read of a cursor comes to.
 ghost use Rattle.std.specs.Prelude.{◌≡◌, ◌+◌, IfOk};
-ghost use Rattle.msg_buffer.specs.History.{History};
-ghost use Rattle.msg_buffer.specs.StandsFor.{StandsFor};
-ghost use Rattle.damage_and_score.specs.Seen.{HasSeen};
-ghost use Rattle.damage_and_score.specs.declared.damage.Damage.{Damage as Hit};
+ghost use Rattle.msg_buffer.specs.Prelude.{History, StandsFor};
+ghost use Rattle.damage_and_score.specs.Prelude.{Damage as Hit, HasSeen};
 
 use crate::damage::{Damage, Hero};
 use anyhow::Context;

@@ -3,8 +3,7 @@ use Rattle.std.specs.Prelude.{ℤ, pos, ◌==◌, List, length, Option, Some, No
 use Rattle.msg_system.specs.declared.op.Op.{Op}
 use Rattle.msg_system.specs.declared.op.Op.TheVariants.{Read, Sum, Write}
 use Rattle.msg_system.specs.declared.reply.Reply.{Reply}
-use Rattle.msg_system.specs.Behaviors.{brought}
-use Rattle.msg_system.specs.Programs.{sum_onto}
+use Rattle.msg_system.specs.Prelude.{brought, sum_onto}
 use Rattle.duel.specs.declared.role.TheConstants.{BLOW}
 use Rattle.duel.specs.declared.role.Role.{Role}
 use Rattle.duel.specs.declared.role.Role.TheVariants.{Fighter, Referee}

@@ -3,11 +3,9 @@
 #![tactic(auto)]
 
 ghost use Rattle.std.specs.Prelude.{[], IfOk, length, map};
-ghost use Rattle.msg_world.specs.Parts.{IsWhole, PartsStand};
-ghost use Rattle.msg_world.specs.World.{WorldState};
-ghost use Rattle.msg_frames.specs.FirstState.{first_state};
-ghost use Rattle.msg_exec.specs.Building.{numbered_from};
-ghost use Rattle.msg_exec.specs.Engines.{HasRunFrames};
+ghost use Rattle.msg_world.specs.Prelude.{IsWhole, PartsStand, WorldState};
+ghost use Rattle.msg_frames.specs.Prelude.{first_state};
+ghost use Rattle.msg_exec.specs.Prelude.{HasRunFrames, numbered_from};
 
 mod role;
 

@@ -2,7 +2,7 @@
 use Rattle.std.proofs.Common.{◌≡◌, ℕ, ◌*◌, ◌<◌, List, get_or, map, subst, sym, ◌∙◌}
 use Rattle.std.proofs.lemmas.List.{ext_get_or, get_or-map, length-map}
 use Rattle.std.proofs.lemmas.Option.{slice_get-get_or}
-use Rattle.msg_board.specs.Board.{IsLawfulOutcome}
+use Rattle.msg_board.specs.Prelude.{IsLawfulOutcome}
 
 pub are_squares : (jobs done : List ℕ) → IsLawfulOutcome (λ n s. s ≡ n * n) jobs done → done ≡ map (λ n. n * n) jobs
 are_squares jobs done told =

@@ -2,7 +2,7 @@
 #![tactic(auto)]
 
 ghost use Rattle.std.specs.Prelude.{◌≡◌, ◌*◌, ◌<◌, ◌≤◌, IfOk, length, map};
-ghost use Rattle.msg_board.specs.Board.{HasEnded, IsIdle};
+ghost use Rattle.msg_board.specs.Prelude.{HasEnded, IsIdle};
 
 use msg_board::{Board, NoMemory, Pass, Work};
 use std::alloc::Global;

@@ -6,15 +6,8 @@ use mathlib.Core.Option.{some}
 use lib.ListN.{get_elem?}
 use Rattle.atomic_table.specs.declared.shared.Seat.{Seat}
 use Rattle.atomic_table.specs.Table.{Me}
-use Rattle.msg_board.specs.declared.law.Slot.{Slot}
-use Rattle.msg_board.specs.declared.law.Slot.TheVariants.{Empty, Job, Done}
-use Rattle.msg_board.specs.declared.law.View.{View}
-use Rattle.msg_board.specs.declared.pass.Pass.TheInside.{Inside}
-use Rattle.msg_board.specs.Board.{BoardView, jobs_of, HasEnded}
-use Rattle.msg_board.specs.Counts.{times, is_held}
+use Rattle.msg_board.specs.Prelude.{BoardView, Done, Drew, Empty, HandedIn, HasEnded, Inside, Job, PassState, Slot, View, freed, handed_in, is_held, jobs_of, taken, times, united}
 use Rattle.msg_board.specs.inner.Closing.{IsGathered}
-use Rattle.msg_board.specs.Law.{taken, freed, united}
-use Rattle.msg_board.specs.Pass.{PassState, handed_in, Drew, HandedIn}
 use Rattle.msg_board.specs.inner.Seats.{IsSeatOf}
 use Rattle.msg_board.specs.inner.Sound.{state_of, IsSound}
 use Rattle.msg_board.proofs.TableLists.{got, All-split_last}

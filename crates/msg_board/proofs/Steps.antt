@@ -9,11 +9,7 @@ use native.Mathlib.Decide.{ℕ_discrete, dec_le}
 use lib.ListN.{get_elem?, length-map}
 use Rattle.atomic_table.specs.Table.{State, Me, Step, step, Act, keeps, takes, gives, Valid, carried_after, stepped, Allows, Splits, Joins, Final, Seen, opening}
 use Rattle.atomic_table.proofs.Lists.{at_set, set_here, set_else, at_snoc, at_map}
-use Rattle.msg_board.specs.declared.law.Slot.{Slot}
-use Rattle.msg_board.specs.declared.law.Slot.TheVariants.{Job, Done}
-use Rattle.msg_board.specs.declared.law.View.{View}
-use Rattle.msg_board.specs.Counts.{times, is_held, HoldsEachOnce}
-use Rattle.msg_board.specs.Law.{holders_at, draws_at, whole, without_one, one_of, united, spent, tried, taken, freed, IsViewOf, IsSlotOf, Holds, IsHeldAlone, DrawsJob, Drawing, HandingIn}
+use Rattle.msg_board.specs.Prelude.{Done, Drawing, DrawsJob, HandingIn, Holds, HoldsEachOnce, IsHeldAlone, IsSlotOf, IsViewOf, Job, Slot, View, draws_at, freed, holders_at, is_held, one_of, spent, taken, times, tried, united, whole, without_one}
 use Rattle.msg_board.proofs.TableLists.{by_place, there, inside_of, past}
 use Rattle.msg_board.proofs.Sums.{sum_by-set, term_le, terms_le, sole, one_if, one_at, none_at, times-append, times_push}
 

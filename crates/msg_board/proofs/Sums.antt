@@ -4,7 +4,7 @@ use Rattle.std.proofs.Common.{Bool, ◌≡◌, ◌≢◌, ℕ, zero, suc, ◌+�
 use Rattle.std.proofs.lemmas.List.Sums.{sum_by-cons, sum_by-append}
 use mathlib.Core.Option.{some, some-injective, some-ne-none}
 use lib.ListN.{get_elem?}
-use Rattle.msg_board.specs.Counts.{times}
+use Rattle.msg_board.specs.Prelude.{times}
 
 module _ {A : Type 0} (g : A → ℕ) where
   -- the sum after one element has changed

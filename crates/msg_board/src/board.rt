@@ -1,9 +1,7 @@
 //! The board: its jobs, and how its passes draw them.
 ghost use Rattle.std.specs.Prelude.{◌≡◌, ◌+◌, ◌<◌, ◌≤◌, [], length, slice_get, All, false};
 ghost use Rattle.std.specs.Prelude.{IfOk, IfSome, IfNone, IsNone, IsTrue, None, OnErr, Some};
-ghost use Rattle.msg_board.specs.Counts.{HoldsEachOnce};
-ghost use Rattle.msg_board.specs.Law.{whole};
-ghost use Rattle.msg_board.specs.Pass.{Drew, DrewNone, HandedIn, drawn_by, handed_in_by};
+ghost use Rattle.msg_board.specs.Prelude.{Drew, DrewNone, HandedIn, HoldsEachOnce, drawn_by, handed_in_by, whole};
 
 use crate::NoMemory;
 use crate::law::{Deal, Divide, Draw, HandIn, Law, Slot, Unite, View};

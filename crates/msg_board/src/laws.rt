@@ -1,9 +1,7 @@
 //! Laws: facts that hold of every board, and need no code.
 ghost use Rattle.std.specs.Prelude.{ℕ, List};
 ghost use Rattle.atomic_table.specs.Table.{State};
-ghost use Rattle.msg_board.specs.declared.law.Slot.{Slot};
-ghost use Rattle.msg_board.specs.declared.law.View.{View};
-ghost use Rattle.msg_board.specs.Law.{Holds, IsHeldAlone};
+ghost use Rattle.msg_board.specs.Prelude.{Holds, IsHeldAlone, Slot, View};
 
 use crate::work::Work;
 

@@ -1,7 +1,6 @@
 //! A worker's right to draw from one board.
 ghost use Rattle.std.specs.Prelude.{◌≡◌, length, IsTrue, [], None, true, false};
-ghost use Rattle.msg_board.specs.Law.{whole};
-ghost use Rattle.msg_board.specs.Pass.{PassState};
+ghost use Rattle.msg_board.specs.Prelude.{PassState, whole};
 ghost use Rattle.msg_board.specs.inner.Seats.{IsSeatOf};
 
 use crate::law::{Slot, View};

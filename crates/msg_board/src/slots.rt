@@ -1,7 +1,7 @@
 //! What goes into the slots of a board, and comes out of them.
 ghost use Rattle.std.specs.Prelude.{◌≡◌, ◌<◌, ◌≤◌, [], ◌∷◌, map, IfOk, OnErr, vec_capacity};
 ghost use Rattle.std.specs.Slots.{slots_items, slots_len, IsFull};
-ghost use Rattle.msg_board.specs.declared.law.Slot.TheVariants.{Empty, Job, Done};
+ghost use Rattle.msg_board.specs.Prelude.{Empty, Job, Done};
 ghost use Rattle.msg_board.specs.inner.Closing.{HasDone, AreResultsIn};
 
 use crate::NoMemory;

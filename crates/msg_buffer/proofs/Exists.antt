@@ -2,10 +2,7 @@
 use Rattle.std.proofs.Common.{◌≡◌, ℕ, ◌+◌, ◌≤◌, List, [], ◌∷◌, ◌++◌, length, map, refl, sym, ap, ◌∙◌, arith, length-append}
 use Rattle.std.specs.Prelude.{replicate}
 use Rattle.std.proofs.lemmas.List.{length-map, length-replicate}
-use Rattle.msg_buffer.specs.declared.instance.Instance.{Instance}
-use Rattle.msg_buffer.specs.History.{Entry, History, HasRisingStamps, count, is_present, is_current, present, current, stamped, message_of, numbered}
-use Rattle.msg_buffer.specs.Kept.{Kept, kept_count, kept_instances}
-use Rattle.msg_buffer.specs.StandsFor.{StandsFor}
+use Rattle.msg_buffer.specs.Prelude.{Entry, HasRisingStamps, History, Instance, Kept, StandsFor, count, current, is_current, is_present, kept_count, kept_instances, message_of, numbered, present, stamped}
 use Rattle.msg_buffer.proofs.Histories.{current-stamped, gone-stamped, kept, kept-append, length-stamped, not_current-stamped, present-stamped, stamps-stamped}
 use Rattle.msg_buffer.proofs.Standing.{oldest_and_present}
 

@@ -2,7 +2,7 @@
 use Rattle.std.proofs.Common.{suc, ◌+◌, ◌≤◌, List, [], length, refl, sym, ◌∙◌, arith, inl, inr, append-nil, length-append}
 use Rattle.std.proofs.lemmas.Bool.{cases_Bool}
 use Rattle.std.proofs.lemmas.Bool.Decides.{nat_tests}
-use Rattle.msg_buffer.specs.History.{History, IsSound, GoesOn, OnlyGrows, OutliveOneUpdate, count, has_room, stamped, write, update}
+use Rattle.msg_buffer.specs.Prelude.{History, IsSound, GoesOn, OnlyGrows, OutliveOneUpdate, count, has_room, stamped, write, update}
 use Rattle.msg_buffer.proofs.Histories.{kept_after_update, length-stamped, none_current_after_update, stamps-append, stamps_later}
 
 module _ {M : Type 0} where

@@ -3,8 +3,7 @@ use Rattle.std.proofs.Common.{◌≡◌, ℕ, suc, ◌+◌, ◌≤◌, ◌<◌, 
 use Rattle.std.specs.Prelude.{not}
 use Rattle.std.specs.List.{enumerate_from}
 use Rattle.std.proofs.lemmas.Bool.Decides.{nat_tests}
-use Rattle.msg_buffer.specs.declared.instance.Instance.{Instance}
-use Rattle.msg_buffer.specs.History.{Entry, History, instance_of, is_present, is_current, HasRisingStamps, stamped, update, numbered}
+use Rattle.msg_buffer.specs.Prelude.{Entry, HasRisingStamps, History, Instance, instance_of, is_current, is_present, numbered, stamped, update}
 
 module _ {M : Type 0} where
   -- the entries that pass a test, of those numbered from n on

@@ -2,8 +2,7 @@
 use Rattle.std.proofs.Common.{◌≡◌, ℕ, zero, suc, ◌+◌, ◌<◌, List, [], ◌∷◌, ◌++◌, length, take, refl, ap, subst, arith, append_assoc}
 use Rattle.std.specs.Prelude.{get_or}
 use Rattle.std.specs.List.{AllZip}
-use Rattle.msg_buffer.specs.declared.instance.Instance.{Instance}
-use Rattle.msg_buffer.specs.History.{numbered}
+use Rattle.msg_buffer.specs.Prelude.{Instance, numbered}
 use Rattle.msg_buffer.proofs.Numbers.{numbered-append}
 
 module _ {X M : Type 0} (R : X → M → Type 0) where

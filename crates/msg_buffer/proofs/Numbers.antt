@@ -3,9 +3,7 @@ use Rattle.std.proofs.Common.{◌≡◌, ℕ, suc, zero, ◌+◌, List, [], ◌�
 use Rattle.std.specs.Prelude.{slice_get}
 use Rattle.std.specs.List.{enumerate_from}
 use Rattle.std.proofs.lemmas.List.{length-map, map-append}
-use Rattle.msg_buffer.specs.declared.instance.Instance.{Instance}
-use Rattle.msg_buffer.specs.History.{Entry, History, instance_of, instances, count, message_of, numbered}
-use Rattle.msg_buffer.specs.Kept.{HasNumbersFrom}
+use Rattle.msg_buffer.specs.Prelude.{Entry, HasNumbersFrom, History, Instance, count, instance_of, instances, message_of, numbered}
 
 pub slice_get-drop : {X : Type 0} (n : ℕ) (xs : List X) (i : ℕ) → slice_get (drop n xs) i ≡ slice_get xs (n + i)
 slice_get-drop zero xs i = grind arith

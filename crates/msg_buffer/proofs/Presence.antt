@@ -5,9 +5,7 @@ use Rattle.std.specs.List.{enumerate_from}
 use Rattle.std.proofs.lemmas.Bool.{cases_Bool, false≢true}
 use Rattle.std.proofs.lemmas.Bool.Decides.{nat_tests}
 use Rattle.std.proofs.lemmas.Option.{slice_get_cases, same_Some}
-use Rattle.msg_buffer.specs.History.{Entry, History, IsSound, IsPresent, count, get, instance_of, instances, is_present, oldest, HasRisingStamps, message_of}
-use Rattle.msg_buffer.specs.Kept.{Kept, get_from, kept_instances}
-use Rattle.msg_buffer.specs.StandsFor.{StandsFor}
+use Rattle.msg_buffer.specs.Prelude.{Entry, HasRisingStamps, History, IsPresent, IsSound, Kept, StandsFor, count, get, get_from, instance_of, instances, is_present, kept_instances, message_of, oldest}
 use Rattle.msg_buffer.proofs.Histories.{all_present, dropped, present_is_suffix, present_means}
 use Rattle.msg_buffer.proofs.Numbers.{slice_get-drop}
 

@@ -3,10 +3,7 @@ use Rattle.std.proofs.Common.{◌≡◌, ℕ, ◌-◌, ◌≤◌, List, [], ◌�
 use Rattle.std.proofs.lemmas.List.{length-take}
 use Rattle.std.proofs.lemmas.List.Elements.{All-head, All-tail}
 use Rattle.std.proofs.Math.Seq.{take-length}
-use Rattle.msg_buffer.specs.declared.instance.Instance.{Instance}
-use Rattle.msg_buffer.specs.History.{History, IsSound, count, oldest}
-use Rattle.msg_buffer.specs.Reader.{first, unread, at_most, given, next_place, Fits}
-use Rattle.msg_buffer.specs.Tiling.{Pass, ReadsFit, ReadsUpTo, ClearsFit, RunsTile, reads, clears, stretch_of}
+use Rattle.msg_buffer.specs.Prelude.{ClearsFit, Fits, History, Instance, IsSound, Pass, ReadsFit, ReadsUpTo, RunsTile, at_most, clears, count, first, given, next_place, oldest, reads, stretch_of, unread}
 use Rattle.msg_buffer.proofs.Standing.{oldest_and_present}
 use Rattle.msg_buffer.proofs.Presence.{is_there, not_present}
 use Rattle.msg_buffer.proofs.Unread.{length-unread}

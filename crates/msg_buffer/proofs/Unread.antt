@@ -4,10 +4,7 @@ use Rattle.std.specs.Prelude.{slice_get}
 use Rattle.std.proofs.lemmas.Option.{slice_get_within, slice_get_cases, get_or_from_slice_get, none-some}
 use Rattle.std.proofs.lemmas.List.{drop_more, drop_all, drop-drop, length-drop}
 use Rattle.std.proofs.lemmas.Bool.Decides.{nat_tests}
-use Rattle.msg_buffer.specs.History.{History, count, instances, oldest}
-use Rattle.msg_buffer.specs.Reader.{first, unread}
-use Rattle.msg_buffer.specs.Kept.{Kept, kept_instances, get_from}
-use Rattle.msg_buffer.specs.StandsFor.{StandsFor}
+use Rattle.msg_buffer.specs.Prelude.{History, Kept, StandsFor, count, first, get_from, instances, kept_instances, oldest, unread}
 use Rattle.msg_buffer.proofs.Presence.{kept_stands}
 use Rattle.msg_buffer.proofs.Numbers.{length-instances}
 

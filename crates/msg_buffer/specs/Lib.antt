@@ -1,5 +1,6 @@
 pub mod History
 pub mod Kept
+pub mod Prelude
 pub mod Reader
 pub mod Reading
 pub mod Refusals

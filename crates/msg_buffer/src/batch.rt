@@ -2,7 +2,7 @@
 ghost use Rattle.std.specs.Prelude.{◌≡◌, ◌+◌, ◌^◌, ◌<◌, ◌≤◌, ◌++◌, List, length, vec_len, vec_capacity};
 ghost use Rattle.std.specs.Fn.{FnReturnsAt};
 ghost use Rattle.std.specs.List.{AllZip};
-ghost use Rattle.msg_buffer.specs.History.{numbered};
+ghost use Rattle.msg_buffer.specs.Prelude.{numbered};
 
 use crate::instance::{Instance, MessageId};
 use std::alloc::Allocator;

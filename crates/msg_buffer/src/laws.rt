@@ -1,9 +1,6 @@
 //! Laws: facts that hold of every history, and of every read that is left.
 ghost use Rattle.std.specs.Prelude.{◌≡◌, Some};
-ghost use Rattle.msg_buffer.specs.History.{History, OnlyGrows, OutliveOneUpdate};
-ghost use Rattle.msg_buffer.specs.Reader.{next_place, read};
-ghost use Rattle.msg_buffer.specs.StandsFor.{StandsFor};
-ghost use Rattle.msg_buffer.specs.Tiling.{ClearsFit, ReadsFit, ReadsUpTo, RunsTile};
+ghost use Rattle.msg_buffer.specs.Prelude.{ClearsFit, History, OnlyGrows, OutliveOneUpdate, ReadsFit, ReadsUpTo, RunsTile, StandsFor, next_place, read};
 
 use crate::cursor::MessageCursor;
 use crate::messages::Messages;

@@ -3,10 +3,7 @@ ghost use Rattle.std.specs.Prelude.{◌≡◌, ◌+◌, ◌-◌, ◌^◌, ◌<�
 ghost use Rattle.std.specs.Fn.{FnReturnsAt};
 ghost use Rattle.std.specs.List.{AllZip};
 ghost use Rattle.std.specs.Option.{option_copied};
-ghost use Rattle.msg_buffer.specs.History.{History, clear, count, current, empty, get, oldest, present, update, write};
-ghost use Rattle.msg_buffer.specs.Kept.{kept_count, kept_instances, get_from};
-ghost use Rattle.msg_buffer.specs.Refusals.{IsBatchSpent, IsSpent, batch_refused, message_refused};
-ghost use Rattle.msg_buffer.specs.StandsFor.{StandsFor};
+ghost use Rattle.msg_buffer.specs.Prelude.{History, IsBatchSpent, IsSpent, StandsFor, batch_refused, clear, count, current, empty, get, get_from, kept_count, kept_instances, message_refused, oldest, present, update, write};
 
 use crate::batch::{append_each, append_numbered};
 use crate::cursor::MessageCursor;

@@ -1,7 +1,7 @@
 // One half of a buffer.
 ghost use Rattle.std.specs.Prelude.{◌≡◌, []};
 ghost use Rattle.std.specs.Option.{option_copied};
-ghost use Rattle.msg_buffer.specs.Kept.{get_from};
+ghost use Rattle.msg_buffer.specs.Prelude.{get_from};
 
 use crate::instance::Instance;
 use std::alloc::Allocator;

@@ -3,12 +3,9 @@ use Rattle.std.proofs.Common.{◌≡◌, ◌≢◌, ◌⊎◌, inl, inr, refl, a
 use Rattle.clap.specs.Words.{App, HasKind, IsAmong, Kinds, Text, fault_of, is_simple_and_free}
 use Rattle.clap.specs.declared.error.Error.{Error}
 use Rattle.clap.proofs.OnLiterals.{clap_on_literals}
-use Rattle.msg_command.specs.CommandLine.{msgrun_app}
+use Rattle.msg_command.specs.Prelude.{IsHelp, IsToldOf, WordFault, msgrun_app}
 use Rattle.clap.specs.declared.error.ErrorKind.{ErrorKind}
 use Rattle.clap.specs.declared.error.ErrorKind.TheVariants as kind
-use Rattle.msg_command.specs.Asked.{IsToldOf}
-use Rattle.msg_command.specs.Telling.{IsHelp}
-use Rattle.msg_command.specs.declared.words.WordFault.{WordFault}
 use Rattle.msg_command.specs.declared.words.WordFault.TheVariants as word
 
 -- an error of one of these kinds, or of want of memory, is told as such

@@ -11,8 +11,7 @@ use Rattle.clap.specs.Simple.{built, entered, names_of, rows_at}
 use Rattle.clap.specs.Walk.{Held, Names, Outcome, Step, Waiting, Walk, after_flag, after_step, arg_by_index, arg_by_long, bundle, done, idle, long_met, long_or_other, next, nothing_held, option, plain, plain_word, positional, refused, short_or_plain, stop_after, subcommand, subcommand_met, subcommand_or_other, to_positional, trailing, value, waits, walk_from, walked, walked_from, word_met}
 use Rattle.clap.specs.Takes.{entered_passes, level_passes, other_passes, step_passes, turn_passes, walk_passes, word_passes}
 use Rattle.clap.proofs.OnLiterals.{clap_on_literals}
-use Rattle.msg_command.specs.Asked.{IsRunOnNone, asked, asked_by, buffer as buffer_of, run_asked, workers_asked, workers_in}
-use Rattle.msg_command.specs.CommandLine.{msgrun_app}
+use Rattle.msg_command.specs.Prelude.{IsRunOnNone, asked, asked_by, buffer as buffer_of, msgrun_app, run_asked, workers_asked, workers_in}
 use Rattle.msg_command.proofs.Bools.{both}
 use Rattle.msg_command.proofs.ClapFillsRows.{buffer_given, run_given, run_shape}
 

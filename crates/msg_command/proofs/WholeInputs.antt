@@ -3,7 +3,7 @@ use Rattle.std.proofs.Common.{◌≡◌, ℕ, ◌+◌, ◌<◌, ◌≤◌, List,
 use Rattle.std.specs.Io.KnownBytes.{Consumes, IsAtEnd}
 use Rattle.std.proofs.KnownBytes.{Consumes-trans, Consumes-all}
 use Rattle.std.proofs.lemmas.Grind.{common_steps}
-use Rattle.msg_command.specs.Inputs.{IsAllOf, GaveMoreThan}
+use Rattle.msg_command.specs.Prelude.{IsAllOf, GaveMoreThan}
 
 -- a read of nothing at the end: what came before is all
 pub all_at_end : (a b c : Option (List ℕ)) (all buf : List ℕ) (n : ℕ) → n ≡ 0

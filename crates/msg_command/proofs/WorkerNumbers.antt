@@ -6,7 +6,7 @@ use Rattle.std.specs.List.{list_all}
 use Rattle.std.specs.Str.Parse.{AllDigits, IsNumeral, digits_value, without_leading_plus}
 use Rattle.std.proofs.lemmas.Bool.{le-leb, leb-true, lt-ltb, ltb-true}
 use Rattle.clap.specs.Words.{Text}
-use Rattle.msg_command.specs.Asked.{is_numeral, workers_in}
+use Rattle.msg_command.specs.Prelude.{is_numeral, workers_in}
 use Rattle.msg_command.proofs.Bools.{both, together}
 
 -- each digit passes the test

@@ -1,5 +1,5 @@
 ghost use Rattle.std.specs.Prelude.{◌≡◌, ◌≤◌, Err, IfOk, vec_len};
-ghost use Rattle.msg_command.specs.Inputs.{IsAllOf, GaveMoreThan};
+ghost use Rattle.msg_command.specs.Prelude.{IsAllOf, GaveMoreThan};
 
 use std::alloc::Global;
 use std::io::Read;

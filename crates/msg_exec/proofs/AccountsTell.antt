@@ -6,29 +6,15 @@ use Rattle.std.proofs.lemmas.Bool.{cases_Bool, false≢true}
 use Rattle.std.proofs.lemmas.List.{append-nil, flat_map_more, map-append, get_or_default}
 use Rattle.std.proofs.lemmas.List.Elements.{All-append, All-filter, All-map, All-nil, filter-append}
 use Rattle.std.proofs.lemmas.List.FromFn.{get_or-range_with_len, length-range_with_len, map-range_with_len_more}
-use Rattle.msg_buffer.specs.History.{History, count}
-use Rattle.msg_buffer.specs.Kept.{Kept}
-use Rattle.msg_buffer.specs.StandsFor.{StandsFor as BufferStandsFor}
+use Rattle.msg_buffer.specs.Prelude.{History, Kept, StandsFor as BufferStandsFor, count}
 use Rattle.msg_world.specs.declared.access.Access.{Access}
 use Rattle.msg_world.specs.declared.record.Record.{Record}
-use Rattle.msg_world.specs.Access.{OfType, reads}
-use Rattle.msg_world.specs.Parts.{slot}
-use Rattle.msg_system.specs.Conditions.{Job}
-use Rattle.msg_system.specs.Needs.{IsAccessOf}
-use Rattle.msg_system.specs.Systems.{Meaning}
+use Rattle.msg_world.specs.Prelude.{OfType, reads, slot}
+use Rattle.msg_system.specs.Prelude.{IsAccessOf, Job, Meaning}
 use Rattle.msg_frames.specs.declared.account.Account.{Account}
-use Rattle.msg_exec.specs.declared.engine_core.Core.{Core}
-use Rattle.msg_exec.specs.declared.job.GuardedSystem.{GuardedSystem}
-use Rattle.msg_exec.specs.declared.lender.Lender.{Lender}
+use Rattle.msg_exec.specs.Prelude.{Core, CoreStands, GuardedSystem, Lender, job_state, kept, system_at, within_u64}
 use Rattle.msg_frames.specs.declared.totals.Totals.{Totals}
-use Rattle.msg_frames.specs.Accounts.{AddsUp, account_of, accounts_of, accounts_of_system, is_reader}
-use Rattle.msg_exec.specs.Cores.{CoreStands}
-use Rattle.msg_exec.specs.Jobs.{job_state}
-use Rattle.msg_exec.specs.Keeping.{kept, within_u64}
-use Rattle.msg_frames.specs.Soundness.{IsSoundState}
-use Rattle.msg_exec.specs.Lender.{system_at}
-use Rattle.msg_frames.specs.Frames.{State, has_begun}
-use Rattle.msg_frames.specs.Tiling.{place_of}
+use Rattle.msg_frames.specs.Prelude.{AddsUp, IsSoundState, State, account_of, accounts_of, accounts_of_system, has_begun, is_reader, place_of}
 
 -- ---- one account
 

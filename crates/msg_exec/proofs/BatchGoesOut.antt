@@ -6,21 +6,12 @@ use Rattle.std.proofs.lemmas.List.{get_or-set_other, length-set}
 use Rattle.std.proofs.lemmas.List.Elements.{Contains-append_left, Contains-append_right, All-contains}
 use Rattle.std.specs.List.{AllZip}
 use Rattle.msg_world.specs.declared.access.Access.{Access}
-use Rattle.msg_world.specs.Access.{Part, Conflict, uses, writes}
-use Rattle.msg_world.specs.Parts.{IsHome, Parts, PartsStand, SameSize, StuffStands, slot}
-use Rattle.msg_world.specs.World.{content}
-use Rattle.msg_order.specs.Order.{access_of}
-use Rattle.msg_order.specs.Plan.{NoneConflict}
-use Rattle.msg_system.specs.Conditions.{Job as JobState, conditions_of}
-use Rattle.msg_system.specs.Needs.{IsAccessOf, with_conditions}
-use Rattle.msg_system.specs.Systems.{Meaning}
-use Rattle.msg_exec.specs.declared.job.Job.{Job}
-use Rattle.msg_exec.specs.declared.lender.Lender.{Lender}
-use Rattle.msg_frames.specs.Frames.{needs_of, State}
-use Rattle.msg_exec.specs.Jobs.{MayRun, job_state}
-use Rattle.msg_exec.specs.Lender.{MemberStands, LenderStands, system_at}
+use Rattle.msg_world.specs.Prelude.{Conflict, IsHome, Part, Parts, PartsStand, SameSize, StuffStands, content, slot, uses, writes}
+use Rattle.msg_order.specs.Prelude.{NoneConflict, access_of}
+use Rattle.msg_system.specs.Prelude.{IsAccessOf, Job as JobState, Meaning, conditions_of, with_conditions}
+use Rattle.msg_exec.specs.Prelude.{EachMay, Job, Lender, LenderStands, MayRun, MemberStands, job_state, system_at}
+use Rattle.msg_frames.specs.Prelude.{needs_of, State}
 use Rattle.msg_exec.specs.inner.Lending.{AreOut, GoesOut, IsOut, any_writes}
-use Rattle.msg_exec.specs.Work.{EachMay}
 use Rattle.msg_order.proofs.Elements.{Contains-head, Contains-tail}
 use Rattle.msg_exec.proofs.BatchWritesApart.{any_more, earlier_write_not, others_write_not, written_is_used}
 

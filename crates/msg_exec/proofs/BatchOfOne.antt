@@ -4,23 +4,14 @@ use Rattle.std.specs.Prelude.{All, AllPairs, if◌then◌else◌}
 use Rattle.std.proofs.Math.Bool.{or-false}
 use Rattle.std.proofs.lemmas.List.Elements.{All-cons}
 use Rattle.msg_world.specs.declared.access.Access.{Access}
-use Rattle.msg_world.specs.Access.{Conflict, writes}
-use Rattle.msg_world.specs.Parts.{LendsOut, Parts, slot}
-use Rattle.msg_world.specs.LoanLaws.{HomeMerges, HomeWhereEither}
-use Rattle.msg_order.specs.Order.{access_of}
-use Rattle.msg_order.specs.Plan.{NoneConflict}
-use Rattle.msg_system.specs.Systems.{Meaning}
-use Rattle.msg_exec.specs.declared.job.Done.{Done}
-use Rattle.msg_exec.specs.declared.job.GuardedSystem.{GuardedSystem}
-use Rattle.msg_exec.specs.declared.job.Job.{Job}
+use Rattle.msg_world.specs.Prelude.{Conflict, HomeMerges, HomeWhereEither, LendsOut, Parts, slot, writes}
+use Rattle.msg_order.specs.Prelude.{NoneConflict, access_of}
+use Rattle.msg_system.specs.Prelude.{Meaning}
+use Rattle.msg_exec.specs.Prelude.{Done, GuardedSystem, HasTakenTurn, Job, Lender, LenderStands, MayRun, system_at}
 use Rattle.msg_frames.specs.declared.log.Outcome.{Outcome}
 use Rattle.msg_frames.specs.declared.log.Turn.{Turn}
-use Rattle.msg_exec.specs.declared.lender.Lender.{Lender}
-use Rattle.msg_frames.specs.Frames.{after_turn_of, logged, State}
-use Rattle.msg_exec.specs.Jobs.{HasTakenTurn, MayRun}
-use Rattle.msg_exec.specs.Lender.{LenderStands, system_at}
+use Rattle.msg_frames.specs.Prelude.{BatchesRunSideBySide, State, after_turn_of, logged_turn}
 use Rattle.msg_exec.specs.inner.Lending.{AreOut, ComesHome}
-use Rattle.msg_frames.specs.TurnLaws.{BatchesRunSideBySide}
 use Rattle.msg_exec.proofs.BatchComesHome.{ComingHome, MayCome, all_back, all_came, begin_home, next_comes, next_may_come}
 use Rattle.msg_exec.proofs.BatchGoesOut.{all_may_run, left_stands}
 use Rattle.msg_exec.proofs.ItemsOfLists.{read_or}
@@ -82,7 +73,7 @@ module _ {S : Type 0} (meaning : S → Meaning) (g : Lender S) (s : State) (i : 
           let far = next_comes meaning g mid (i ∷ []) s its_done [] [] [] stands below new turn once none comes refl merges either (its_done ∷ []) refl begun in
           (all_came meaning g new (i ∷ []) s [] [] (turn ∷ []) stands below once none law refl far).0
 
-      pub turn_is_logged : record { system = i; outcome = came } ≡ logged s i
+      pub turn_is_logged : record { system = i; outcome = came } ≡ logged_turn s i
       turn_is_logged =
           let left_there = left_stands meaning g mid s (i ∷ []) (its_job ∷ []) stands.world out in
           let back = (all_back meaning g mid s (i ∷ []) (its_job ∷ []) (its_done ∷ []) stands below left_there out.each (record { number = refl; turn = took }, tt)).0 in

@@ -6,9 +6,8 @@ use Rattle.std.proofs.lemmas.Bool.{and_from, cases_Bool, or_right}
 use Rattle.std.proofs.lemmas.List.{get_or-take, get_or_default, length-take-le}
 use Rattle.std.proofs.lemmas.List.Elements.{All-contains, All-head, All-tail}
 use Rattle.msg_world.specs.declared.access.Access.{Access}
-use Rattle.msg_world.specs.Access.{Part, Conflict, reads, uses, writes}
-use Rattle.msg_order.specs.Order.{access_of}
-use Rattle.msg_order.specs.Plan.{NoneConflict}
+use Rattle.msg_world.specs.Prelude.{Part, Conflict, reads, uses, writes}
+use Rattle.msg_order.specs.Prelude.{NoneConflict, access_of}
 use Rattle.msg_exec.specs.inner.Lending.{any_writes}
 use Rattle.msg_frames.proofs.ElementsAndPairs.{pairs_head, pairs_tail}
 use Rattle.msg_order.proofs.Elements.{Contains-cases}

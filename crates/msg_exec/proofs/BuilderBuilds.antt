@@ -5,17 +5,13 @@ use Rattle.std.proofs.lemmas.Bool.{false≢true}
 use Rattle.std.proofs.lemmas.List.{get_or-map, length-map}
 use Rattle.std.proofs.lemmas.List.Elements.{All-get_or}
 use Rattle.std.proofs.lemmas.Option.{get_or_from_slice_get, same_Some, slice_get_within}
-use Rattle.msg_world.specs.Access.{OfResource, OfType, Part, Registry}
-use Rattle.msg_world.specs.Parts.{Has, Parts, slot}
+use Rattle.msg_world.specs.Prelude.{Has, OfResource, OfType, Part, Parts, Registry, slot}
 use Rattle.msg_order.specs.declared.rule.Rule.{Rule}
-use Rattle.msg_order.specs.Graph.{IsLowestOnCycle}
-use Rattle.msg_system.specs.Needs.{Needs, needs_any, with_conditions}
-use Rattle.msg_system.specs.Systems.{Meaning}
+use Rattle.msg_order.specs.Prelude.{IsLowestOnCycle}
+use Rattle.msg_system.specs.Prelude.{Meaning, Needs, needs_any, with_conditions}
 use Rattle.msg_frames.specs.declared.place.Place.{Place}
-use Rattle.msg_frames.specs.FirstState.{HasClash, all_rules, nobody}
-use Rattle.msg_exec.specs.declared.build_refusal.BuildRefusal.{BuildRefusal}
-use Rattle.msg_exec.specs.declared.build_refusal.BuildRefusal.TheVariants.{Clash, Cycle, NoMemory}
-use Rattle.msg_exec.specs.Building.{AllFit, EachIs, IsJoin, MayBeAdded, RefusesFor, numbered_from}
+use Rattle.msg_frames.specs.Prelude.{HasClash, all_rules, nobody}
+use Rattle.msg_exec.specs.Prelude.{AllFit, BuildRefusal, Clash, Cycle, EachIs, IsJoin, MayBeAdded, NoMemory, RefusesFor, numbered_from}
 use Rattle.msg_exec.proofs.ItemsOfLists.{item_at}
 
 -- ---- what a world has

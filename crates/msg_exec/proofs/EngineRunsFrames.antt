@@ -6,20 +6,12 @@ use Rattle.std.proofs.lemmas.List.{drop-append-le, length-append, take_more}
 use Rattle.std.proofs.lemmas.List.Elements.{All-append, All-cons, All-nil}
 use Rattle.std.proofs.lemmas.Bool.{false≢true}
 use Rattle.msg_world.specs.declared.record.TheConstants.{HOST}
-use Rattle.msg_system.specs.Systems.{Meaning}
-use Rattle.msg_exec.specs.declared.engine.EngineOf.{EngineOf}
-use Rattle.msg_exec.specs.declared.engine_core.Core.{Core}
+use Rattle.msg_system.specs.Prelude.{Meaning}
+use Rattle.msg_exec.specs.Prelude.{Core, CoreStands, EngineOf, HasReplayed, HasRunFrame, HasRunFrames, IsEngine, PostsFit, StandsFor, frame_count, frames_of}
 use Rattle.msg_frames.specs.declared.frame.Frame.{Frame}
 use Rattle.msg_frames.specs.declared.log.Log.{Log}
-use Rattle.msg_exec.specs.Cores.{CoreStands, frame_count}
 use Rattle.msg_exec.specs.inner.FrameSteps.{HasLeft}
-use Rattle.msg_exec.specs.Engines.{HasReplayed, HasRunFrame, HasRunFrames, IsEngine, PostsFit, StandsFor, frames_of}
-use Rattle.msg_frames.specs.CompleteRun.{IsCompleteRun}
-use Rattle.msg_frames.specs.Frames.{AreAccessesOf, IsFrame, IsRun, systems_in, State}
-use Rattle.msg_frames.specs.Replays.{IsReplay}
-use Rattle.msg_frames.specs.TurnLaws.{HasOneRun, RunsAreUnique, RunsExist}
-use Rattle.msg_frames.specs.ReaderLaws.{ReplaysTellACompleteRun, RunsAreComplete}
-use Rattle.msg_frames.specs.Soundness.{IsSoundState}
+use Rattle.msg_frames.specs.Prelude.{AreAccessesOf, HasOneRun, IsCompleteRun, IsFrame, IsReplay, IsRun, IsSoundState, ReplaysTellACompleteRun, RunsAreComplete, RunsAreUnique, RunsExist, State, systems_in}
 use Rattle.msg_frames.proofs.SystemsStay.{frame_keeps}
 
 module _ {S : Type 0} (meaning : S → Meaning) where

@@ -8,13 +8,11 @@ use Rattle.std.proofs.lemmas.List.{with_items_is}
 use Rattle.std.proofs.lemmas.Option.{none-some, slice_get-get_or, unwrap_or-slice_get}
 use Rattle.msg_system.specs.declared.op.Op.{Op}
 use Rattle.msg_system.specs.declared.reply.Reply.{Reply}
-use Rattle.msg_system.specs.Needs.{type_read}
-use Rattle.msg_system.specs.Systems.{Meaning}
+use Rattle.msg_system.specs.Prelude.{Meaning, type_read}
 use Rattle.msg_frames.specs.declared.totals.Totals.{Totals}
-use Rattle.msg_frames.specs.Entries.{Entry, entries_for, entry_of, with_entries}
+use Rattle.msg_frames.specs.Prelude.{Entry, entries_for, entry_of, with_entries}
 use Rattle.msg_frames.proofs.EntriesAddUp.{with_entries-append, with_entries-none}
-use Rattle.msg_exec.specs.Keeping.{kept}
-use Rattle.msg_exec.specs.declared.job.Done.{Done}
+use Rattle.msg_exec.specs.Prelude.{Done, kept}
 use Rattle.msg_exec.specs.inner.Lending.{HaveEntered}
 use Rattle.msg_exec.specs.inner.Totals.{entry_at}
 

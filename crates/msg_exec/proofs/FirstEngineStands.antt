@@ -4,35 +4,19 @@ use Rattle.std.specs.Prelude.{IfSome, IsSome, IsSomeAnd, IsTrue, nat_lt, replica
 use Rattle.std.proofs.lemmas.Bool.{cases_Bool, false≢true, ltb-false, ltb-true}
 use Rattle.std.proofs.lemmas.List.{get_or-map, get_or-replicate, get_or_past, length-map}
 use Rattle.std.proofs.lemmas.Option.{get_or_from_slice_get, slice_get-get_or, slice_get_within}
-use Rattle.msg_buffer.specs.History.{History, IsSound}
-use Rattle.msg_buffer.specs.Kept.{Kept}
-use Rattle.msg_buffer.specs.StandsFor.{StandsFor as BufferStandsFor}
+use Rattle.msg_buffer.specs.Prelude.{History, IsSound, Kept, StandsFor as BufferStandsFor}
 use Rattle.msg_world.specs.declared.access.Access.{Access}
 use Rattle.msg_world.specs.declared.record.Record.{Record}
-use Rattle.msg_world.specs.Access.{OfType}
-use Rattle.msg_world.specs.Parts.{IsWhole, Parts, PartsStand, slot}
-use Rattle.msg_world.specs.World.{WorldState}
+use Rattle.msg_world.specs.Prelude.{IsWhole, OfType, Parts, PartsStand, WorldState, slot}
 use Rattle.msg_order.specs.declared.rule.Rule.{Rule}
-use Rattle.msg_order.specs.Graph.{IsAcyclic, IsLowestOnCycle}
-use Rattle.msg_order.specs.Laws.{FewerSystemsMakeNoCycle}
-use Rattle.msg_order.specs.Order.{NameSystemsBelow, access_of, has_joined, rules_among}
+use Rattle.msg_order.specs.Prelude.{FewerSystemsMakeNoCycle, IsAcyclic, IsLowestOnCycle, NameSystemsBelow, access_of, has_joined, rules_among}
 use Rattle.msg_system.specs.declared.condition.Condition.{Condition}
-use Rattle.msg_system.specs.Conditions.{new_asked}
-use Rattle.msg_system.specs.Needs.{IsAccessOf, with_conditions}
-use Rattle.msg_system.specs.Systems.{Meaning}
+use Rattle.msg_system.specs.Prelude.{IsAccessOf, Meaning, new_asked, with_conditions}
 use Rattle.msg_system.proofs.Accesses.{uses_needs}
 use Rattle.msg_frames.specs.declared.place.Place.{Place}
-use Rattle.msg_exec.specs.declared.lender.Lender.{Lender}
-use Rattle.msg_exec.specs.Building.{EachIs, MayBeAdded, RefusesFor}
+use Rattle.msg_exec.specs.Prelude.{AreJoins, BuildRefusal, Clash, Core, Cycle, EachIs, Lender, LenderStands, MayBeAdded, MemberStands, NoMemory, RefusesFor, Schedule, TotalsStand}
 use Rattle.msg_exec.specs.inner.Building.{AreNoTotals, IsAccessAt, IsGuardedAt, RefusesForCycle}
-use Rattle.msg_frames.specs.FirstState.{IsNew, HasClash, all_rules, nobody, nowhere, unjoined, waiting}
-use Rattle.msg_exec.specs.declared.engine_core.Core.{Core}
-use Rattle.msg_exec.specs.declared.build_refusal.BuildRefusal.{BuildRefusal}
-use Rattle.msg_exec.specs.declared.build_refusal.BuildRefusal.TheVariants.{Clash, Cycle, NoMemory}
-use Rattle.msg_exec.specs.Cores.{Schedule}
-use Rattle.msg_frames.specs.Frames.{needs_of, State}
-use Rattle.msg_frames.specs.ReaderLaws.{AreNew}
-use Rattle.msg_exec.specs.Lender.{AreJoins, MemberStands, LenderStands, TotalsStand}
+use Rattle.msg_frames.specs.Prelude.{AreNew, HasClash, IsNew, State, all_rules, needs_of, nobody, nowhere, unjoined, waiting}
 use Rattle.msg_exec.specs.inner.Lending.{HaveReadNothing}
 use Rattle.msg_exec.proofs.ItemsOfLists.{item_at}
 

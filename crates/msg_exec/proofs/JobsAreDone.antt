@@ -6,18 +6,12 @@ use Rattle.std.proofs.lemmas.Bool.{false≢true}
 use Rattle.std.proofs.lemmas.List.{length-map, with_items_is}
 use Rattle.msg_world.specs.declared.access.Access.{Access}
 use Rattle.msg_world.specs.declared.lent.Lent.{Lent}
-use Rattle.msg_world.specs.Access.{Part, writes}
-use Rattle.msg_world.specs.Loan.{LoanStands}
-use Rattle.msg_world.specs.Parts.{Parts, PartsStand, SameShape, slot}
-use Rattle.msg_world.specs.World.{WorldState}
+use Rattle.msg_world.specs.Prelude.{LoanStands, Part, Parts, PartsStand, SameShape, WorldState, slot, writes}
 use Rattle.msg_system.specs.declared.reply.Reply.{Reply}
 use Rattle.msg_system.specs.declared.condition.Condition.{Condition}
-use Rattle.msg_system.specs.Conditions.{AfterJob, Asked, Job as JobState, after_asking, after_job, all_hold}
-use Rattle.msg_system.specs.Promises.{Ran}
-use Rattle.msg_system.specs.Systems.{Meaning, after_turn, told, turn}
-use Rattle.msg_exec.specs.declared.job.GuardedSystem.{GuardedSystem}
+use Rattle.msg_system.specs.Prelude.{AfterJob, Asked, Job as JobState, Meaning, Ran, after_asking, after_job, after_turn, all_hold, told, turn}
+use Rattle.msg_exec.specs.Prelude.{GuardedSystem}
 use Rattle.msg_frames.specs.declared.log.Outcome.TheVariants as outcome
-use Rattle.msg_exec.specs.Jobs.{IsAfterJob, job_state}
 
 -- nothing is given back but what is written
 pub nothing_else : (a : Access) (taken later : Parts) → ((p : Part) → is_some (slot p taken) ≡ writes a p) → SameShape taken later

@@ -2,13 +2,11 @@
 use Rattle.std.proofs.Common.{◌≡◌, ℕ, zero, suc, List, [], ◌∷◌, length, map, Result, Ok, refl, subst, sym, ◌∙◌, Some, arith}
 use Rattle.std.specs.Prelude.{slice_get}
 use Rattle.std.proofs.lemmas.List.{length-map}
-use Rattle.msg_world.specs.Parts.{Parts}
-use Rattle.msg_board.specs.Board.{IsLawfulOutcome}
-use Rattle.msg_exec.specs.declared.job.Job.{Job}
-use Rattle.msg_exec.specs.declared.job.Done.{Done}
-use Rattle.msg_exec.specs.Jobs.{IsDone, IsResult}
+use Rattle.msg_world.specs.Prelude.{Parts}
+use Rattle.msg_board.specs.Prelude.{IsLawfulOutcome}
+use Rattle.msg_exec.specs.Prelude.{Done, IsDone, IsResult, Job}
 use Rattle.msg_exec.specs.inner.Batches.{AreDone}
-use Rattle.msg_system.specs.Systems.{Meaning}
+use Rattle.msg_system.specs.Prelude.{Meaning}
 
 -- B: a job with its world
 module _ {B J : Type 0} (may : Parts → J → Type 0) (job : B → J) (world : B → Parts) (w : Parts) where

@@ -3,25 +3,16 @@ use Rattle.std.proofs.Common.{◌≡◌, ◌≢◌, subst, sym, ap₂, zero, suc
 use Rattle.std.specs.Prelude.{IsSome, IsSomeAnd, slice_get}
 use Rattle.std.proofs.lemmas.Bool.{cases_Bool, ne_eqb}
 use Rattle.std.proofs.lemmas.Bool.Decides.{eqb_tells}
-use Rattle.msg_world.specs.Access.{Part, OfType, OfResource, Registry, uses}
-use Rattle.msg_world.specs.Parts.{Has, Parts, SameShape, slot}
-use Rattle.msg_world.specs.World.{WorldState}
-use Rattle.msg_order.specs.Order.{access_of}
+use Rattle.msg_world.specs.Prelude.{Has, OfResource, OfType, Part, Parts, Registry, SameShape, WorldState, slot, uses}
+use Rattle.msg_order.specs.Prelude.{access_of}
 use Rattle.msg_system.specs.declared.op.Op.{Op}
-use Rattle.msg_system.specs.Conditions.{Asked, Job as JobState, after_asking, after_job, all_hold}
-use Rattle.msg_system.specs.Needs.{IsAccessOf}
+use Rattle.msg_system.specs.Prelude.{AfterProgram, Asked, IsAccessOf, Job as JobState, Meaning, after_asking, after_at_most, after_job, after_op, all_hold, next_op, one_more, ops_answered, turn}
 use Rattle.msg_system.specs.declared.reply.Reply.{Reply}
-use Rattle.msg_system.specs.Programs.{AfterProgram, after_op}
-use Rattle.msg_system.specs.Systems.{Meaning, after_at_most, next_op, one_more, ops_answered, turn}
 use Rattle.msg_frames.specs.declared.log.Outcome.{Outcome}
 use Rattle.msg_frames.specs.declared.totals.Totals.{Totals}
-use Rattle.msg_frames.specs.Frames.{member_turn, needs_of, outcome_of, with_member, Member}
-use Rattle.msg_frames.specs.Entries.{entries_for, outcome_entries, with_entries}
-use Rattle.msg_exec.specs.declared.lender.Lender.{Lender}
-use Rattle.msg_exec.specs.Jobs.{job_state}
-use Rattle.msg_exec.specs.Keeping.{kept, totals_at}
+use Rattle.msg_frames.specs.Prelude.{Member, entries_for, member_turn, needs_of, outcome_entries, outcome_of, with_entries, with_member}
+use Rattle.msg_exec.specs.Prelude.{Lender, MemberStands, TotalsStand, job_state, kept, system_at, totals_at}
 use Rattle.msg_exec.specs.inner.Totals.{HasFewReplies, entries_by}
-use Rattle.msg_exec.specs.Lender.{MemberStands, TotalsStand, system_at}
 
 -- ---- a job doesn't change its conditions
 

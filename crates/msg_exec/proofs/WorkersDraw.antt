@@ -8,13 +8,9 @@ use Rattle.std.proofs.lemmas.List.{length-append}
 use Rattle.std.proofs.lemmas.List.Elements.{All-append, All-cons, All-head, All-tail, Contains-push_cases}
 use Rattle.std.proofs.lemmas.List.Sums.{sum_by-append}
 use Rattle.std.proofs.lemmas.Option.{slice_get_within}
-use Rattle.msg_board.specs.Board.{BoardView, HasEnded, jobs_of}
-use Rattle.msg_board.specs.Counts.{HoldsEachOnce, times}
-use Rattle.msg_board.specs.Pass.{PassState, drawn_by}
-use Rattle.msg_exec.specs.declared.job.Job.{Job}
-use Rattle.msg_exec.specs.declared.lender.Lender.{Lender}
+use Rattle.msg_board.specs.Prelude.{BoardView, HasEnded, HoldsEachOnce, PassState, drawn_by, jobs_of, times}
+use Rattle.msg_exec.specs.Prelude.{EachNewIs, EachPassedGate, Job, Lender, PassedGate}
 use Rattle.msg_exec.specs.inner.Lending.{IsOut}
-use Rattle.msg_exec.specs.Work.{EachNewIs, EachPassedGate, PassedGate}
 use Rattle.msg_exec.specs.inner.Batches.{HasWorked, HaveWorked}
 use Rattle.msg_order.proofs.Elements.{Contains-head, Contains-tail, not_in_none}
 

@@ -1,14 +1,11 @@
 -- What a new engine is made of, and when there is none.
 use Rattle.std.specs.Prelude.{◌≡◌, ℕ, ◌+◌, ◌<◌, ◌≤◌, List, [], ◌∷◌, length, Some, slice_get, IsTrue, ⊤}
-use Rattle.msg_world.specs.Access.{Part}
-use Rattle.msg_world.specs.Parts.{Has, Parts}
+use Rattle.msg_world.specs.Prelude.{Has, Part, Parts}
 use Rattle.msg_order.specs.declared.rule.Rule.{Rule}
-use Rattle.msg_order.specs.Graph.{IsLowestOnCycle}
-use Rattle.msg_order.specs.Order.{NameSystemsBelow}
-use Rattle.msg_system.specs.Needs.{needs_any, with_conditions}
-use Rattle.msg_system.specs.Systems.{Meaning}
+use Rattle.msg_order.specs.Prelude.{IsLowestOnCycle, NameSystemsBelow}
+use Rattle.msg_system.specs.Prelude.{Meaning, needs_any, with_conditions}
 use Rattle.msg_frames.specs.declared.place.Place.{Place}
-use Rattle.msg_frames.specs.FirstState.{HasClash, IsNew, all_rules}
+use Rattle.msg_frames.specs.Prelude.{HasClash, IsNew, all_rules}
 use Rattle.msg_exec.specs.declared.build_error.BuildError.{BuildError}
 use Rattle.msg_exec.specs.declared.build_error.BuildError.TheVariants.{Full, BadJoin, Misfit, UnknownSystem, Refused}
 use Rattle.msg_exec.specs.declared.build_refusal.BuildRefusal.{BuildRefusal}

@@ -1,14 +1,12 @@
 -- When an engine stands for a state, and what its calls do.
 use Rattle.std.specs.Prelude.{◌≡◌, ◌⊎◌, ℕ, ◌<◌, [], ◌∷◌, ◌++◌, All, List, length, take, Option, option_map, IsNone, IsSomeAnd, IfSome}
-use Rattle.msg_world.specs.Parts.{Parts}
-use Rattle.msg_system.specs.Systems.{Meaning}
+use Rattle.msg_world.specs.Prelude.{Parts}
+use Rattle.msg_system.specs.Prelude.{Meaning}
 use Rattle.msg_exec.specs.declared.engine.EngineOf.{EngineOf}
 use Rattle.msg_frames.specs.declared.frame.Frame.{Frame}
 use Rattle.msg_frames.specs.declared.log.Log.{Log}
 use Rattle.msg_exec.specs.Cores.{CoreStands, frame_count}
-use Rattle.msg_frames.specs.CompleteRun.{IsCompleteRun}
-use Rattle.msg_frames.specs.Frames.{IsFrame, IsRun, State}
-use Rattle.msg_frames.specs.Replays.{IsReplay, TellsACompleteRun}
+use Rattle.msg_frames.specs.Prelude.{IsCompleteRun, IsFrame, IsReplay, IsRun, State, TellsACompleteRun}
 
 module _ {S : Type 0} where
   -- a frame ended for want of memory: nothing of the engine is left

@@ -1,16 +1,12 @@
 -- What a job does: the turn of its system, on each world that it was lent from.
 use Rattle.std.specs.Prelude.{◌≡◌, Result, IfOk}
-use Rattle.msg_world.specs.Loan.{IsLoanOf}
-use Rattle.msg_world.specs.Parts.{Parts, PartsStand, SameShape}
-use Rattle.msg_world.specs.World.{WorldState}
-use Rattle.msg_system.specs.Conditions.{AfterJob, Job as JobState, after_job, conditions_of}
-use Rattle.msg_system.specs.Needs.{IsAccessOf, Needs, with_conditions}
-use Rattle.msg_system.specs.Systems.{Meaning}
+use Rattle.msg_world.specs.Prelude.{IsLoanOf, Parts, PartsStand, SameShape, WorldState}
+use Rattle.msg_system.specs.Prelude.{AfterJob, IsAccessOf, Job as JobState, Meaning, Needs, after_job, conditions_of, with_conditions}
 use Rattle.msg_exec.specs.declared.job.GuardedSystem.{GuardedSystem}
 use Rattle.msg_exec.specs.declared.job.Job.{Job}
 use Rattle.msg_exec.specs.declared.job.Done.{Done}
 use Rattle.msg_frames.specs.declared.log.Outcome.{Outcome}
-use Rattle.msg_frames.specs.Frames.{outcome_of}
+use Rattle.msg_frames.specs.Prelude.{outcome_of}
 
 module _ {S : Type 0} (meaning : S → Meaning) where
   -- a system and its conditions, as the job that they mean

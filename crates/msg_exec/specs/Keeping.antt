@@ -1,7 +1,7 @@
 -- How an engine keeps totals: each number within `u64`. No number of a run is past it, so that what callers see is exact.
 use Rattle.std.specs.Prelude.{ℕ, ◌-◌, ◌^◌, min, List, slice_index_or}
 use Rattle.msg_frames.specs.declared.totals.Totals.{Totals}
-use Rattle.msg_frames.specs.Entries.{no_totals}
+use Rattle.msg_frames.specs.Prelude.{no_totals}
 
 abbrev pub within_u64 : ℕ → ℕ
 within_u64 n = min n (2 ^ 64 - 1)

@@ -1,13 +1,12 @@
 -- When the systems and the world that an engine keeps stand for a state.
 use Rattle.std.specs.Prelude.{◌≡◌, ℕ, ◌<◌, List, length, slice_get, slice_index, slice_index_or, Option, None, IsSomeAnd}
-use Rattle.msg_world.specs.Parts.{IsHome, IsWhole, PartsStand}
-use Rattle.msg_order.specs.Order.{access_of}
-use Rattle.msg_system.specs.Needs.{IsAccessOf}
-use Rattle.msg_system.specs.Systems.{Meaning}
+use Rattle.msg_world.specs.Prelude.{IsHome, IsWhole, PartsStand}
+use Rattle.msg_order.specs.Prelude.{access_of}
+use Rattle.msg_system.specs.Prelude.{IsAccessOf, Meaning}
 use Rattle.msg_exec.specs.declared.job.GuardedSystem.{GuardedSystem}
 use Rattle.msg_exec.specs.declared.lender.Lender.{Lender}
 use Rattle.msg_frames.specs.declared.totals.Totals.{Totals}
-use Rattle.msg_frames.specs.Frames.{needs_of, Member, State}
+use Rattle.msg_frames.specs.Prelude.{needs_of, Member, State}
 use Rattle.msg_exec.specs.Jobs.{job_state}
 use Rattle.msg_exec.specs.Keeping.{kept, totals_at}
 

@@ -1,14 +1,10 @@
 // What readers were given, for callers.
 ghost use Rattle.std.specs.Prelude.{◌≡◌, ◌<◌, ◌≤◌, ◌++◌, ◌^◌, ℕ, IfSome, OnOk, IfOk, IsSome, length};
-ghost use Rattle.msg_buffer.specs.History.{History, count};
-ghost use Rattle.msg_buffer.specs.StandsFor.{StandsFor as BufferStandsFor};
+ghost use Rattle.msg_buffer.specs.Prelude.{History, StandsFor as BufferStandsFor, count};
 ghost use Rattle.msg_world.specs.declared.record.Record.{Record};
-ghost use Rattle.msg_world.specs.Access.{OfType};
-ghost use Rattle.msg_world.specs.Parts.{slot};
-ghost use Rattle.msg_frames.specs.Accounts.{account_of, accounts_of, accounts_of_system};
-ghost use Rattle.msg_exec.specs.Cores.{CoreStands};
-ghost use Rattle.msg_exec.specs.Keeping.{kept};
-ghost use Rattle.msg_frames.specs.Frames.{State};
+ghost use Rattle.msg_world.specs.Prelude.{OfType, slot};
+ghost use Rattle.msg_frames.specs.Prelude.{State, account_of, accounts_of, accounts_of_system};
+ghost use Rattle.msg_exec.specs.Prelude.{CoreStands, kept};
 
 use crate::engine_core::Core;
 use crate::{Account, EngineOf, NoMemory, RunFault, Totals};
@@ -98,7 +94,7 @@ fn accounts_in<S: System>(alloc: Global, core: &Core<S>) -> Result<Vec<Account>,
 impl<S: System> EngineOf<S> {
     ghost use Rattle.std.specs.Prelude.{◌↔◌, All, Err};
     ghost use Rattle.msg_system.specs.declared.run_fault.RunFault.TheVariants.{BadOrder, Spoiled};
-    ghost use Rattle.msg_frames.specs.Accounts.{AddsUp};
+    ghost use Rattle.msg_frames.specs.Prelude.{AddsUp};
     ghost use Rattle.msg_exec.specs.Engines.{IsEngine, IsSpoiled, StandsFor};
 
     /// What each reader was given: for each system, by number, and each type that it reads,

@@ -1,11 +1,10 @@
 // A frame's turns, batch by batch.
 ghost use Rattle.std.specs.Prelude.{◌≡◌, ◌≢◌, ◌<◌, ◌≤◌, ◌++◌, All, AllPairs, IfOk, OnOk, length, map};
 ghost use Rattle.std.specs.List.{concat};
-ghost use Rattle.msg_frames.specs.Frames.{after_turns_of, State};
-ghost use Rattle.msg_order.specs.Plan.{NoneConflict};
-ghost use Rattle.msg_exec.specs.Lender.{LenderStands};
+ghost use Rattle.msg_frames.specs.Prelude.{after_turns_of, State};
+ghost use Rattle.msg_order.specs.Prelude.{NoneConflict};
+ghost use Rattle.msg_exec.specs.Prelude.{EachPassedGate, LenderStands};
 ghost use Rattle.msg_exec.specs.inner.Lending.{AreOut};
-ghost use Rattle.msg_exec.specs.Work.{EachPassedGate};
 
 use crate::job::Job;
 use crate::lender::{Lender, run_turn};

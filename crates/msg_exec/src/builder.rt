@@ -1,14 +1,10 @@
 // Engines made of systems, conditions and rules, with every condition tested.
 ghost use Rattle.std.specs.Prelude.{◌≡◌, ℕ, ◌≤◌, ◌↔◌, ◌++◌, [], ◌∷◌, IfErr, IfOk, IsTrue, OnOk, length, map};
-ghost use Rattle.msg_world.specs.Parts.{IsWhole, PartsStand};
-ghost use Rattle.msg_world.specs.World.{WorldState};
-ghost use Rattle.msg_order.specs.Order.{NameSystemsBelow};
+ghost use Rattle.msg_world.specs.Prelude.{IsWhole, PartsStand, WorldState};
+ghost use Rattle.msg_order.specs.Prelude.{IsAcyclic, NameSystemsBelow};
 ghost use Rattle.msg_order.specs.declared.rule.Rule.{Rule as RuleView};
-ghost use Rattle.msg_order.specs.Graph.{IsAcyclic};
-ghost use Rattle.msg_frames.specs.FirstState.{HasClash, all_rules, first_state};
-ghost use Rattle.msg_exec.specs.declared.build_error.BuildError.TheVariants.{Misfit, UnknownSystem};
-ghost use Rattle.msg_exec.specs.Building.{AllFit, EachIs, FitsWorld, IsFirstUnknown, IsLowestMisfit, RefusesToAdd, RefusesToBuild, numbered_from};
-ghost use Rattle.msg_exec.specs.Engines.{IsEngine, IsSpoiled, StandsFor};
+ghost use Rattle.msg_frames.specs.Prelude.{HasClash, all_rules, first_state};
+ghost use Rattle.msg_exec.specs.Prelude.{AllFit, EachIs, FitsWorld, IsEngine, IsFirstUnknown, IsLowestMisfit, IsSpoiled, Misfit, RefusesToAdd, RefusesToBuild, StandsFor, UnknownSystem, numbered_from};
 
 use crate::{BuildError, BuildRefusal, EngineOf, Items, NoMemory, Place};
 use msg_order::Rule;

@@ -1,15 +1,10 @@
 // The parts of a new engine.
 ghost use Rattle.std.specs.Prelude.{◌≡◌, ◌<◌, ◌≤◌, ◌↔◌, ℕ, IfOk, IfErr, OnOk, IsTrue, IsSomeAnd, Some, length, map, slice_get};
-ghost use Rattle.msg_order.specs.Graph.{IsAcyclic};
-ghost use Rattle.msg_order.specs.Order.{NameSystemsBelow};
-ghost use Rattle.msg_system.specs.Conditions.{new_asked};
-ghost use Rattle.msg_system.specs.Needs.{IsAccessOf};
-ghost use Rattle.msg_exec.specs.Building.{EachIs};
+ghost use Rattle.msg_order.specs.Prelude.{IsAcyclic, NameSystemsBelow};
+ghost use Rattle.msg_system.specs.Prelude.{IsAccessOf, new_asked};
+ghost use Rattle.msg_exec.specs.Prelude.{EachIs, job_state, totals_at};
 ghost use Rattle.msg_exec.specs.inner.Building.{AreNoTotals, IsAccessAt, IsGuardedAt, RefusesForClash, RefusesForCycle};
-ghost use Rattle.msg_frames.specs.FirstState.{HasClash, all_rules, new_job};
-ghost use Rattle.msg_frames.specs.Entries.{no_totals};
-ghost use Rattle.msg_exec.specs.Jobs.{job_state};
-ghost use Rattle.msg_exec.specs.Keeping.{totals_at};
+ghost use Rattle.msg_frames.specs.Prelude.{HasClash, all_rules, new_job, no_totals};
 
 use crate::job::GuardedSystem;
 use crate::{BuildRefusal, NoMemory, Place, Totals};

@@ -1,12 +1,9 @@
 // What an engine works on, and one frame of it.
 ghost use Rattle.std.specs.Prelude.{◌≡◌, ◌<◌, ◌≤◌, All, IfOk, List, Bool, length, map, nat_le};
-ghost use Rattle.msg_order.specs.Graph.{IsAcyclic};
-ghost use Rattle.msg_order.specs.Order.{NameSystemsBelow, rules_among};
-ghost use Rattle.msg_order.specs.Plan.{IsPlanOf};
-ghost use Rattle.msg_exec.specs.Cores.{CoreStands, frame_count};
+ghost use Rattle.msg_order.specs.Prelude.{IsAcyclic, IsPlanOf, NameSystemsBelow, rules_among};
+ghost use Rattle.msg_exec.specs.Prelude.{CoreStands, EachPassedGate, PassedGate, frame_count};
 ghost use Rattle.msg_exec.specs.inner.FrameSteps.{HasBegunFrame, HasLeft, HasOpened, IsNextPlan};
-ghost use Rattle.msg_frames.specs.Frames.{IsFrame, systems_in, State};
-ghost use Rattle.msg_exec.specs.Work.{PassedGate, EachPassedGate};
+ghost use Rattle.msg_frames.specs.Prelude.{IsFrame, systems_in, State};
 
 use crate::batch::run_batches;
 use crate::joining::join_those;

@@ -1,9 +1,8 @@
 // One system's job: its conditions and its system, on a loan of what its access uses.
 ghost use Rattle.std.specs.Prelude.{◌≡◌, [], IfOk};
 ghost use Rattle.msg_world.specs.declared.access.Access.{Access};
-ghost use Rattle.msg_world.specs.Loan.{IsLoanOf};
-ghost use Rattle.msg_world.specs.Parts.{Parts};
-ghost use Rattle.msg_system.specs.Needs.{IsAccessOf};
+ghost use Rattle.msg_world.specs.Prelude.{IsLoanOf, Parts};
+ghost use Rattle.msg_system.specs.Prelude.{IsAccessOf};
 ghost use Rattle.msg_frames.specs.declared.log.Outcome.{Outcome};
 ghost use Rattle.msg_exec.specs.Jobs.{HasTakenTurn, guarded_needs};
 

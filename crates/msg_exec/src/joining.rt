@@ -1,13 +1,9 @@
 // Systems start as they join.
 ghost use Rattle.std.specs.Prelude.{◌≡◌, ◌<◌, ◌≤◌, ℕ, length, map, IfSome, IsSomeAnd};
-ghost use Rattle.msg_system.specs.Conditions.{asked_started};
-ghost use Rattle.msg_system.specs.Systems.{start_place};
-ghost use Rattle.msg_frames.specs.Entries.{totals_from};
-ghost use Rattle.msg_frames.specs.Frames.{job_begun, with_joining, State};
-ghost use Rattle.msg_exec.specs.Jobs.{job_state};
-ghost use Rattle.msg_exec.specs.Keeping.{totals_at};
+ghost use Rattle.msg_system.specs.Prelude.{asked_started, start_place};
+ghost use Rattle.msg_frames.specs.Prelude.{State, job_begun, totals_from, with_joining};
+ghost use Rattle.msg_exec.specs.Prelude.{AreJoins, LenderStands, job_state, totals_at};
 ghost use Rattle.msg_exec.specs.inner.Totals.{first_place};
-ghost use Rattle.msg_exec.specs.Lender.{AreJoins, LenderStands};
 ghost use Rattle.msg_exec.specs.inner.Lending.{HaveReadNothing};
 
 use crate::Totals;

@@ -1,7 +1,7 @@
 // Systems and the world go out for turns, and come home.
 ghost use Rattle.std.specs.Prelude.{◌≡◌, ◌<◌, IfOk, OnOk};
-ghost use Rattle.msg_frames.specs.Frames.{after_turn_of, logged, State};
-ghost use Rattle.msg_exec.specs.Lender.{LenderStands};
+ghost use Rattle.msg_frames.specs.Prelude.{after_turn_of, logged_turn, State};
+ghost use Rattle.msg_exec.specs.Prelude.{LenderStands};
 
 use crate::job::{Done, GuardedSystem, Job, TakesTurns};
 use crate::spares::Spares;
@@ -26,8 +26,8 @@ pub struct Lender<S> {
 
 impl<S: System> Lender<S> {
     ghost use Rattle.std.specs.Prelude.{IsSome, length};
-    ghost use Rattle.msg_world.specs.Parts.{IsApart, IsHome};
-    ghost use Rattle.msg_order.specs.Order.{access_of};
+    ghost use Rattle.msg_world.specs.Prelude.{IsApart, IsHome};
+    ghost use Rattle.msg_order.specs.Prelude.{access_of};
     ghost use Rattle.msg_exec.specs.inner.Totals.{HasFewReplies};
     ghost use Rattle.msg_exec.specs.Lender.{system_at};
     ghost use Rattle.msg_exec.specs.inner.Lending.{ComesHome, GoesOut};
@@ -90,7 +90,7 @@ pub(crate) fn run_turn<S: System>(
     ensures state { IfOk result (λ turn. (s : State) → LenderStands S.meaning lender.old s
         → LenderStands S.meaning lender.new (after_turn_of number s)) }
     ensures logged { IfOk result (λ turn. (s : State) → LenderStands S.meaning lender.old s
-        → turn ≡ logged s number) }
+        → turn ≡ logged_turn s number) }
     ensures accesses { OnOk result (lender.new.accesses.items ≡ lender.old.accesses.items) }
 {
     batches_run_side_by_side();

@@ -1,10 +1,9 @@
 // One frame in a given order, on the calling thread.
 ghost use Rattle.std.specs.Prelude.{◌≡◌, ◌<◌, ◌↔◌, All, IfOk, IsTrue, length};
 ghost use Rattle.msg_frames.specs.declared.frame.Frame.{Frame as FrameView};
-ghost use Rattle.msg_exec.specs.Cores.{CoreStands, frame_count};
+ghost use Rattle.msg_exec.specs.Prelude.{CoreStands, frame_count};
 ghost use Rattle.msg_exec.specs.inner.FrameSteps.{HasLeft};
-ghost use Rattle.msg_frames.specs.Frames.{State};
-ghost use Rattle.msg_frames.specs.Replays.{IsLawfulFor, IsReplay};
+ghost use Rattle.msg_frames.specs.Prelude.{IsLawfulFor, IsReplay, State};
 
 use crate::batch::run_turns;
 use crate::engine_core::{Core, next_plan, open};

@@ -1,8 +1,8 @@
 // Workers side by side.
 ghost use Rattle.std.specs.Prelude.{◌≡◌, ◌+◌, ◌≤◌, ℕ, All, IfOk, OnOk, Some, length, min, slice_get};
 ghost use Rattle.std.specs.Thread.{IsSend, IsSync};
-ghost use Rattle.msg_board.specs.Board.{IsLawfulOutcome, IsNew, jobs_of};
-ghost use Rattle.msg_exec.specs.Work.{EachMay, PassedGate};
+ghost use Rattle.msg_board.specs.Prelude.{IsLawfulOutcome, IsNew, jobs_of};
+ghost use Rattle.msg_exec.specs.Prelude.{EachMay, PassedGate};
 ghost use Rattle.msg_exec.specs.inner.Batches.{HasWorked, HaveWorked, IsFirstDraw};
 
 use crate::runs::{Runs, work_on};

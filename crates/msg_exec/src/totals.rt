@@ -1,8 +1,8 @@
 // What readers were given is added to their totals.
 ghost use Rattle.std.specs.Prelude.{◌≡◌, ◌∷◌, [], ℕ, ◌<◌, is_some, length, option_to_list};
 ghost use Rattle.msg_frames.specs.declared.totals.Totals.{Totals as TotalsOf};
-ghost use Rattle.msg_frames.specs.Entries.{entry_of, entry_of_read, with_entries};
-ghost use Rattle.msg_exec.specs.Keeping.{kept, totals_at};
+ghost use Rattle.msg_frames.specs.Prelude.{entry_of, entry_of_read, with_entries};
+ghost use Rattle.msg_exec.specs.Prelude.{kept, totals_at};
 ghost use Rattle.msg_exec.specs.inner.Totals.{HasFewReplies, entries_by, entry_at};
 
 use crate::{Outcome, Totals};

@@ -6,12 +6,11 @@ use Rattle.std.specs.declared.alloc.Global.{Global}
 use Rattle.std.proofs.Math.Seq.{take-append_seam}
 use Rattle.std.proofs.lemmas.List.{length-append, take_all, take_more}
 use Rattle.std.proofs.lemmas.Grind.{common_steps}
-use Rattle.msg_buffer.specs.Reader.{at_most}
-use Rattle.msg_buffer.specs.Reading.{Gives, HasGiven, iter_rest, shown}
+use Rattle.msg_buffer.specs.Prelude.{Gives, HasGiven, at_most, iter_rest, shown}
 use Rattle.msg_buffer.specs.declared.Instance.{Instance}
 use Rattle.msg_buffer.specs.declared.instance.MessageId.{MessageId}
 use Rattle.msg_buffer.specs.declared.iter.MessageIter.{MessageIter}
-use Rattle.msg_files.specs.CallsText.{item_text, items_text, more_items}
+use Rattle.msg_files.specs.Prelude.{item_text, items_text, more_items}
 
 pub more_items-push : (xs : List (Instance ℤ)) (x : Instance ℤ)
     → more_items (xs ++ x ∷ []) ≡ more_items xs ++ (codes " " ++ item_text x)

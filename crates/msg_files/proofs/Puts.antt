@@ -5,7 +5,7 @@ use Rattle.std.proofs.lemmas.List.{take-append-drop}
 use Rattle.std.proofs.lemmas.Grind.{common_steps}
 use Rattle.std.specs.Io.KnownBytes.{Appends, Keeps}
 use Rattle.std.proofs.KnownBytes.{Appends-trans, Appends-kept}
-use Rattle.msg_files.specs.Sinks.{failures_after, AppendsPrefix}
+use Rattle.msg_files.specs.Prelude.{failures_after, AppendsPrefix}
 
 -- a put that took something is no failure
 pub failures_after_some : (E : Type 0) (k n : ℕ) (xs : List ℕ) → n ≢ 0

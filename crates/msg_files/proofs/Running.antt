@@ -5,13 +5,8 @@ use Rattle.std.proofs.lemmas.List.{drop_all, drop_more}
 use Rattle.std.proofs.lemmas.Grind.{common_steps}
 use Rattle.std.specs.Io.KnownBytes.{Appends}
 use Rattle.std.proofs.KnownBytes.{Appends-trans}
-use Rattle.msg_buffer.specs.Kept.{Kept}
-use Rattle.msg_files.specs.CallsText.{State, after, line, text_of}
-use Rattle.msg_files.specs.Cursors.{cursors_exist, made_by}
-use Rattle.msg_files.specs.Running.{AreIn, TakesFront}
-use Rattle.msg_files.specs.Sinks.{AppendsPrefix}
-use Rattle.msg_files.specs.declared.call.Call.{Call}
-use Rattle.msg_files.specs.declared.call.Call.TheVariants.{Write, Batch, Update, Read, Missed, Len, Clear, Cursor, CursorCurrent, Get, Current, Oldest, Count, Total, Drain, ClearAll}
+use Rattle.msg_buffer.specs.Prelude.{Kept}
+use Rattle.msg_files.specs.Prelude.{AppendsPrefix, AreIn, Batch, Call, Clear, ClearAll, Count, Current, Cursor, CursorCurrent, Drain, Get, Len, Missed, Oldest, Read, State, TakesFront, Total, Update, Write, after, cursors_exist, line, made_by, text_of}
 use Rattle.msg_files.proofs.Puts.{AppendsPrefix_after}
 
 -- a call makes as many places as it makes cursors

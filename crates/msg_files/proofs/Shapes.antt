@@ -10,14 +10,7 @@ use Rattle.serde_json.specs.Data.{Data, null, boolean, number, string, array, ob
 use Rattle.serde_json.specs.Find.{as_array, as_object, as_str, get}
 use Rattle.serde_json.specs.View.{view, items_view, members_view}
 use Rattle.serde_json.specs.declared.value.Value.{Value}
-use Rattle.msg_files.specs.Check.{Check, first_refusal}
-use Rattle.msg_files.specs.Checks.{a_value, batch_checks, call_checks, calls_checks, checks_in, checks_with, list_checks, object_checks}
-use Rattle.msg_files.specs.Denotes.{call_in, call_of, calls_of, call_with, file_of, values_of}
-use Rattle.msg_files.specs.Json.{list_of, elements, keys, keys_of, all_some, is_number, natural, whole, value_at}
-use Rattle.msg_files.specs.declared.call.Call.{Call}
-use Rattle.msg_files.specs.declared.refusal.Refusal.{Refusal}
-use Rattle.msg_files.specs.declared.refusal.Refusal.TheVariants.{Shape, UnknownKey, TooMany, NotJson, NoMemory}
-use Rattle.msg_files.specs.Walk.{Agrees, IsAnswer}
+use Rattle.msg_files.specs.Prelude.{Agrees, Call, Check, IsAnswer, NoMemory, NotJson, Refusal, Shape, TooMany, UnknownKey, a_value, all_some, batch_checks, call_checks, call_in, call_of, call_with, calls_checks, calls_of, checks_in, checks_with, elements, file_of, first_refusal, is_number, keys, keys_of, list_checks, list_of, natural, object_checks, value_at, values_of, whole}
 use Rattle.msg_files.proofs.Walks.{list_of-items_of, list_all-keys, all_some-map}
 
 -- an error that is passed on agrees, where it did

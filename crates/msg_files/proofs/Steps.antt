@@ -1,10 +1,7 @@
 -- Steps of a reader, which goes on from the checks that passed to those after them.
 use Rattle.std.proofs.Common.{◌≡◌, List, ◌++◌, ◌∙◌, Option, Some, None, Result, Ok, Err, ◌≢◌}
 use Rattle.std.specs.Prelude.{IsErrAnd}
-use Rattle.msg_files.specs.Check.{Check, first_refusal}
-use Rattle.msg_files.specs.Walk.{Agrees}
-use Rattle.msg_files.specs.declared.refusal.Refusal.{Refusal}
-use Rattle.msg_files.specs.declared.refusal.Refusal.TheVariants.{NoMemory, NotJson}
+use Rattle.msg_files.specs.Prelude.{Agrees, Check, NoMemory, NotJson, Refusal, first_refusal}
 use Rattle.msg_files.proofs.Walks.{first_refusal-passed, first_refusal-stands}
 
 -- a refusal, of which nothing is known where it is for memory

@@ -7,13 +7,7 @@ use Rattle.std.specs.declared.alloc.Global.{Global}
 use Rattle.serde_json.specs.Data.{Data}
 use Rattle.serde_json.specs.View.{view, items_of, members_view}
 use Rattle.serde_json.specs.declared.value.Value.{Value}
-use Rattle.msg_files.specs.Check.{Check, first_refusal}
-use Rattle.msg_files.specs.Checks.{a_value, call_checks, calls_checks}
-use Rattle.msg_files.specs.Cursors.{cursors_exist, has_cursor, made_by}
-use Rattle.msg_files.specs.Denotes.{call_of}
-use Rattle.msg_files.specs.Json.{list_of, keys_of, all_some, whole}
-use Rattle.msg_files.specs.declared.call.Call.{Call}
-use Rattle.msg_files.specs.declared.refusal.Refusal.{Refusal}
+use Rattle.msg_files.specs.Prelude.{Call, Check, Refusal, a_value, all_some, call_checks, call_of, calls_checks, cursors_exist, first_refusal, has_cursor, keys_of, list_of, made_by, whole}
 
 -- ---- lists in serde_json's form, and in ours
 

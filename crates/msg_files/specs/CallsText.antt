@@ -2,8 +2,7 @@
 -- cursors.
 use Rattle.std.specs.Prelude.{ℕ, ℤ, List, [], ◌∷◌, ◌++◌, length, slice_index, slice_set, Option, Some, None, codes, decimal, if◌then◌else◌}
 use Rattle.std.specs.Fmt.{signed_decimal}
-use Rattle.msg_buffer.specs.History.{History, clear, count, current, empty, get, has_room, oldest, present, update, write}
-use Rattle.msg_buffer.specs.Reader.{given, missed, next_place, read, unread}
+use Rattle.msg_buffer.specs.Prelude.{History, clear, count, current, empty, get, given, has_room, missed, next_place, oldest, present, read, unread, update, write}
 use Rattle.msg_buffer.specs.declared.Instance.{Instance}
 use Rattle.msg_files.specs.Json.{Text}
 use Rattle.msg_files.specs.Cursors.{CallsFile}

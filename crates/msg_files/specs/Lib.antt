@@ -1,4 +1,5 @@
 pub mod Json
+pub mod Prelude
 pub mod Sinks
 pub mod Check
 pub mod Cursors

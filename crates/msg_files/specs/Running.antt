@@ -1,8 +1,7 @@
 -- What the private functions of the runner promise: no public contract cites this file.
 use Rattle.std.specs.Prelude.{◌≡◌, ◌++◌, ℕ, ℤ, List, Option}
 use Rattle.std.specs.Io.KnownBytes.{Appends}
-use Rattle.msg_buffer.specs.Kept.{Kept}
-use Rattle.msg_buffer.specs.StandsFor.{StandsFor}
+use Rattle.msg_buffer.specs.Prelude.{Kept, StandsFor}
 use Rattle.msg_files.specs.CallsText.{State}
 
 -- a buffer and its cursors are in a state

@@ -1,5 +1,5 @@
 ghost use Rattle.std.specs.Prelude.{◌≡◌, true};
-ghost use Rattle.msg_files.specs.Cursors.{cursors_exist};
+ghost use Rattle.msg_files.specs.Prelude.{cursors_exist};
 
 use crate::call::Call;
 use std::marker::Model;

@@ -3,9 +3,7 @@ ghost use Rattle.std.specs.Prelude.{◌≡◌, ◌≢◌, None, Some, true, IfEr
 ghost use Rattle.std.specs.List.{list_all};
 ghost use Rattle.serde_json.specs.Find.{get};
 ghost use Rattle.serde_json.specs.View.{view};
-ghost use Rattle.msg_files.specs.Check.{first_refusal};
-ghost use Rattle.msg_files.specs.Checks.{object_checks};
-ghost use Rattle.msg_files.specs.Json.{is_object, keys};
+ghost use Rattle.msg_files.specs.Prelude.{first_refusal, is_object, keys, object_checks};
 
 use crate::refusal::Refusal;
 use serde_json::{Map, Value};

@@ -3,9 +3,7 @@ ghost use Rattle.std.specs.Prelude.{◌≡◌, ◌≢◌, ◌<◌, [], Some, Non
 ghost use Rattle.std.specs.List.{list_all};
 ghost use Rattle.serde_json.specs.Find.{as_number, as_i64};
 ghost use Rattle.serde_json.specs.View.{view, number_view};
-ghost use Rattle.msg_files.specs.Check.{first_refusal};
-ghost use Rattle.msg_files.specs.Checks.{a_value};
-ghost use Rattle.msg_files.specs.Json.{whole, natural_of, only_below, is_number};
+ghost use Rattle.msg_files.specs.Prelude.{a_value, first_refusal, is_number, natural_of, only_below, whole};
 
 use crate::refusal::Refusal;
 use serde_json::{Number, Value};

@@ -2,14 +2,11 @@
 use Rattle.std.proofs.Common.{◌≡◌, ℕ, ◌+◌, ◌-◌, List, [], ◌∷◌, ◌++◌, length, map, cond, Option, Some, None, is_some, refl, arith}
 use Rattle.std.proofs.lemmas.List.{length-append}
 use Rattle.std.proofs.lemmas.List.FromFn.{length-range_with_len}
-use Rattle.msg_buffer.specs.Reader.{next_place, Tile}
+use Rattle.msg_buffer.specs.Prelude.{next_place, Tile}
 use Rattle.msg_world.specs.declared.record.Record.{Record}
 use Rattle.msg_system.specs.declared.reply.Took.{Took}
 use Rattle.std.specs.List.{range_with_len}
-use Rattle.msg_frames.specs.declared.totals.Totals.{Totals}
-use Rattle.msg_frames.specs.Entries.{Entry, Fate, given, cleared, missed, entry_of_read, numbers_at, numbers_of, numbers_passed, with_entries}
-use Rattle.msg_frames.specs.Soundness.{IsBalanced}
-use Rattle.msg_frames.specs.Tiling.{Moment}
+use Rattle.msg_frames.specs.Prelude.{Entry, Fate, IsBalanced, Moment, Totals, cleared, entry_of_read, given, missed, numbers_at, numbers_of, numbers_passed, with_entries}
 use Rattle.msg_frames.proofs.ReaderOverJob.{tile_of}
 
 -- what met a fate at these entries and at those

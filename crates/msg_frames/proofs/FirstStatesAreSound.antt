@@ -3,17 +3,11 @@ use Rattle.std.proofs.Common.{◌≡◌, ℕ, ◌≤◌, List, length, refl, sym
 use Rattle.std.specs.Prelude.{IsTrue, IsFalse, nat_le}
 use Rattle.std.proofs.lemmas.Bool.{cases_Bool, cases_eq, eq-eqb, leb-true, leb-false, ne_eqb, false≢true}
 use Rattle.std.proofs.lemmas.List.{get_or_past}
-use Rattle.msg_buffer.specs.History.{count}
+use Rattle.msg_buffer.specs.Prelude.{count}
 use Rattle.msg_order.specs.declared.rule.Rule.{Rule}
-use Rattle.msg_world.specs.World.{WorldState}
-use Rattle.msg_system.specs.Systems.{Meaning}
-use Rattle.msg_frames.specs.declared.place.Place.{Place}
-use Rattle.msg_frames.specs.Entries.{no_totals}
-use Rattle.msg_frames.specs.Frames.{begun, counts, Member, State, has_begun}
-use Rattle.msg_frames.specs.FirstState.{first_state, nobody, nowhere, unjoined}
-use Rattle.msg_frames.specs.ReaderLaws.{AreNew, FirstIsSound}
-use Rattle.msg_frames.specs.Soundness.{IsBalanced, IsSoundState}
-use Rattle.msg_frames.specs.Tiling.{place_of}
+use Rattle.msg_world.specs.Prelude.{WorldState}
+use Rattle.msg_system.specs.Prelude.{Meaning}
+use Rattle.msg_frames.specs.Prelude.{AreNew, FirstIsSound, IsBalanced, IsSoundState, Member, Place, State, counts, first_state, has_begun, joined_member, no_totals, nobody, nowhere, place_of, unjoined}
 use Rattle.msg_frames.proofs.BeforeTurns.{begun_within}
 use Rattle.msg_frames.proofs.StatesStaySound.{balanced_start}
 
@@ -30,7 +24,7 @@ module _ (systems : List Meaning) (places : List Place) (rules : List Rule) (typ
     | inr e ↦ (new.new i (leb-false (length systems) i e)).places t
   ]
 
-  first_or_not : (P : Member → Type 0) (i : ℕ) → ((all_wait.members i).join ≡ 1 → P (begun (counts all_wait) (all_wait.members i)))
+  first_or_not : (P : Member → Type 0) (i : ℕ) → ((all_wait.members i).join ≡ 1 → P (joined_member (counts all_wait) (all_wait.members i)))
       → (¬ ((all_wait.members i).join ≡ 1) → P (all_wait.members i)) → P (first.members i)
   first_or_not P i now later = elim (cases_eq (all_wait.members i).join 1) [
     | inl e ↦ rw (eq-eqb (all_wait.members i).join 1 e) (now e)

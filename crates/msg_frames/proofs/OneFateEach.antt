@@ -6,11 +6,8 @@ use Rattle.std.proofs.lemmas.Bool.{cases_Bool, ltb-true, ltb-false, lt-ltb, le-l
 use Rattle.std.proofs.lemmas.List.Elements.{All-cons, All-head, All-nil, All-tail}
 use Rattle.std.proofs.lemmas.List.FromFn.{get_or-range_with_len, length-range_with_len}
 use Rattle.std.proofs.lemmas.Option.{same_Some}
-use Rattle.msg_buffer.specs.History.{IsPresent, count}
-use Rattle.msg_buffer.specs.Reader.{next_place, Tile}
-use Rattle.msg_frames.specs.Entries.{Entry, Fate, given, cleared, missed, numbers_at, numbers_passed}
-use Rattle.msg_frames.specs.CompleteRun.{Meets, MeetsOneFate}
-use Rattle.msg_frames.specs.Tiling.{Moment}
+use Rattle.msg_buffer.specs.Prelude.{IsPresent, Tile, count, next_place}
+use Rattle.msg_frames.specs.Prelude.{Entry, Fate, Meets, MeetsOneFate, Moment, cleared, given, missed, numbers_at, numbers_passed}
 use Rattle.msg_frames.proofs.ReaderOverJob.{IsWritten, tile_of}
 
 -- ---- ranges

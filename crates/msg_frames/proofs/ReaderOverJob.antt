@@ -4,20 +4,15 @@ use Rattle.std.specs.Prelude.{option_to_list}
 use Rattle.std.proofs.lemmas.Bool.{cases_eq, eq-eqb, ne_eqb, cases_Bool}
 use Rattle.std.proofs.lemmas.List.{append-nil, length-append, length-map, map-append}
 use Rattle.std.proofs.lemmas.List.Elements.{All-append, All-cons, All-nil, All-weaker}
-use Rattle.msg_buffer.specs.History.{GoesOn, History, IsSound, count, instances, message_of}
-use Rattle.msg_buffer.specs.Reader.{Stretch, given, next_place, pass_over, read, Fits, Tile}
+use Rattle.msg_buffer.specs.Prelude.{Fits, GoesOn, History, IsSound, Stretch, Tile, count, given, instances, message_of, next_place, pass_over, read}
 use Rattle.msg_world.specs.declared.record.Record.{Record}
-use Rattle.msg_world.specs.World.{WorldState}
+use Rattle.msg_world.specs.Prelude.{WorldState}
 use Rattle.msg_system.specs.declared.op.Op.{Op}
 use Rattle.msg_system.specs.declared.op.Op.TheVariants.{Write, Batch, Read, Len, Missed, Clear, Forward, Sum, Get, Set, Add, Drain, Signal}
 use Rattle.msg_system.specs.declared.reply.Reply.{Reply}
-use Rattle.msg_system.specs.Programs.{AfterProgram, after_op, took, with_place}
-use Rattle.msg_system.specs.Systems.{Meaning, after_at_most, next_op, one_more, ops_answered, turn}
+use Rattle.msg_system.specs.Prelude.{AfterProgram, Job, Meaning, after_at_most, after_job, after_op, all_hold, next_op, one_more, ops_answered, took, turn, with_place}
 use Rattle.msg_system.proofs.Turns.{ops_answered-snoc}
-use Rattle.msg_system.specs.Conditions.{Job, after_job, all_hold}
-use Rattle.msg_frames.specs.Frames.{outcome_of}
-use Rattle.msg_frames.specs.Entries.{Entry, answers, entries_for, entry_for, entry_of_read, outcome_entries}
-use Rattle.msg_frames.specs.Tiling.{GivesItsStretch, Moment, first_moments, job_moments, next_moments, turn_moments}
+use Rattle.msg_frames.specs.Prelude.{Entry, GivesItsStretch, Moment, answers, entries_for, entry_for, entry_of_read, first_moments, job_moments, next_moments, outcome_entries, outcome_of, turn_moments}
 use Rattle.msg_frames.proofs.HistoriesGrow.{BufferLaws, counts_more, goes_further, op_goes_on, stays}
 
 -- a moment, as a tile of the buffers' laws

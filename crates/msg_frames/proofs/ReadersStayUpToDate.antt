@@ -4,19 +4,12 @@ use Rattle.std.specs.Prelude.{IsTrue, nat_le}
 use Rattle.std.proofs.lemmas.Bool.{and_from, and_parts, cases_Bool, cases_eq, false≢true, le-leb, leb-false, leb-true}
 use Rattle.std.proofs.lemmas.Option.{same_Some, slice_get_cases, slice_get_within}
 use Rattle.std.proofs.lemmas.List.Elements.{All-append, All-cons, All-head, All-map, All-nil, All-tail}
-use Rattle.msg_buffer.specs.History.{Entry, GoesOn, History, IsPresent, count, update}
-use Rattle.msg_buffer.specs.Reader.{Fits, Stretch, Tile, next_place}
+use Rattle.msg_buffer.specs.Prelude.{Entry, Fits, GoesOn, History, IsPresent, Stretch, Tile, count, next_place, update}
 use Rattle.msg_world.specs.declared.record.Record.{Record}
-use Rattle.msg_world.specs.World.{WorldState, updated, waits}
+use Rattle.msg_world.specs.Prelude.{WorldState, after_update, waits}
 use Rattle.msg_frames.proofs.ElementsAndPairs.{Cut, cut}
-use Rattle.msg_frames.specs.declared.frame.Frame.{Frame}
-use Rattle.msg_frames.specs.declared.log.Log.{Log}
-use Rattle.msg_frames.specs.declared.log.Outcome.TheVariants.{Skipped}
-use Rattle.msg_frames.specs.Frames.{IsFrame, IsRun, State, after_turns_of, before_turns, frame_in, has_begun, joining, systems_in}
-use Rattle.msg_frames.specs.Soundness.{IsSoundState}
-use Rattle.msg_frames.specs.Tiling.{Moment, moments, place_of, turns_moments}
+use Rattle.msg_frames.specs.Prelude.{Frame, IsFrame, IsRun, IsSoundState, IsUpToDate, Log, MissesNothing, Moment, NothingDrained, ReadsAll, ReadsAllInEach, Skipped, State, WhoIsUpToDateMissesNothing, WhoReadsAllCatchesUp, WhoReadsAllHasTheFrameBefore, WhoReadsAllIsUpToDate, WhoReadsEachFrameMissesNothing, after_turns_of, before_turns, frame_in, has_begun, joining, moments, place_of, reads_all, systems_in, turns_moments}
 use Rattle.std.specs.List.{list_any}
-use Rattle.msg_frames.specs.UpToDate.{reads_all, IsUpToDate, MissesNothing, NothingDrained, ReadsAll, ReadsAllInEach, WhoIsUpToDateMissesNothing, WhoReadsAllCatchesUp, WhoReadsAllHasTheFrameBefore, WhoReadsAllIsUpToDate, WhoReadsEachFrameMissesNothing}
 use Rattle.msg_frames.proofs.HistoriesGrow.{BufferLaws, counts_more, frame_goes_on, runs_go_on, turns_go_on}
 use Rattle.msg_frames.proofs.SystemsStay.{before_keeps, joining_world, turns_keep}
 use Rattle.msg_frames.proofs.ReaderOverJob.{IsWritten, tile_of}
@@ -74,7 +67,7 @@ tile_misses_none p place (m ∷ ms) to tile written there above =
 none_yet : (k p : ℕ) (h : History Record) → count h ≤ p → AreRecent k p h
 none_yet k p h less n e above at = let within = slice_get_within h.entries n e at in absurd (omega arith)
 
-none_yet_updated : (p t : ℕ) (w : WorldState) → count (w.histories t) ≤ p → AreRecent 0 p ((updated w).histories t)
+none_yet_updated : (p t : ℕ) (w : WorldState) → count (w.histories t) ≤ p → AreRecent 0 p ((after_update w).histories t)
 none_yet_updated p t w less = elim (cases_Bool (waits w)) [
   | inl e ↦ rw e (none_yet 0 p (w.histories t) less)
   | inr e ↦ rw e (none_yet 0 p (update (w.histories t)) less)
@@ -132,11 +125,11 @@ module _ (laws : BufferLaws) where
         omega arith
 
     -- a frame keeps recent what its update leaves recent
-    frame_recent : (k p : ℕ) → AreRecent k p ((updated s.world).histories t)
+    frame_recent : (k p : ℕ) → AreRecent k p ((after_update s.world).histories t)
         → AreRecent k p (u.world.histories t) × AtMoments k p t (turns_moments i t (systems_in log) b)
     frame_recent k p recent =
-        let begun : AreRecent k p (b.world.histories t) = posts_recent k p t frame.posts (updated (joining s).world)
-        (subst (λ w. AreRecent k p ((updated w).histories t)) (sym (joining_world s)) recent) in
+        let begun : AreRecent k p (b.world.histories t) = posts_recent k p t frame.posts (after_update (joining s).world)
+        (subst (λ w. AreRecent k p ((after_update w).histories t)) (sym (joining_world s)) recent) in
         let turns = turns_recent k p t i (systems_in log) b begun in
         (subst (λ (x : State). AreRecent k p (x.world.histories t)) (sym is.leaves) turns.0, turns.1)
 

@@ -5,20 +5,14 @@ use Rattle.std.specs.List.{list_any}
 use Rattle.std.proofs.lemmas.Bool.{cases_Bool, eq-eqb, eqb-true, false≢true, or_cases}
 use Rattle.std.proofs.lemmas.List.Elements.{All-head, All-tail}
 use Rattle.std.proofs.lemmas.List.Folds.{list_any-append}
-use Rattle.msg_buffer.specs.History.{IsSound, count}
-use Rattle.msg_buffer.specs.Reader.{Tile, next_place}
-use Rattle.msg_world.specs.World.{WorldState}
+use Rattle.msg_buffer.specs.Prelude.{IsSound, Tile, count, next_place}
+use Rattle.msg_world.specs.Prelude.{WorldState}
 use Rattle.msg_system.specs.declared.op.Op.{Op}
 use Rattle.msg_system.specs.declared.op.Op.TheVariants.{Write, Batch, Read, Len, Missed, Clear, Forward, Sum, Get, Set, Add, Drain, Signal}
 use Rattle.msg_system.specs.declared.reply.Reply.{Reply}
-use Rattle.msg_system.specs.Conditions.{Job, after_job, all_hold}
-use Rattle.msg_system.specs.Programs.{AfterProgram, after_op, place_after_read, with_place}
-use Rattle.msg_system.specs.Systems.{Meaning, after_at_most, next_op, one_more, ops_answered, turn}
+use Rattle.msg_system.specs.Prelude.{AfterProgram, Job, Meaning, after_at_most, after_job, after_op, all_hold, next_op, one_more, ops_answered, place_after_read, turn, with_place}
 use Rattle.msg_system.proofs.Turns.{ops_answered-snoc}
-use Rattle.msg_frames.specs.declared.log.Outcome.TheVariants.{Skipped}
-use Rattle.msg_frames.specs.Frames.{after_turn_of, after_turns_of, logged, outcome_of, State}
-use Rattle.msg_frames.specs.Tiling.{Moment, first_moments, next_moments, place_of}
-use Rattle.msg_frames.specs.UpToDate.{reads_all}
+use Rattle.msg_frames.specs.Prelude.{Moment, Skipped, State, after_turn_of, after_turns_of, first_moments, logged_turn, next_moments, outcome_of, place_of, reads_all}
 use Rattle.msg_frames.proofs.HistoriesGrow.{BufferLaws, counts_more}
 use Rattle.msg_frames.proofs.ReaderOverJob.{Passes, first_passes, next_passes, tile_of}
 use Rattle.msg_frames.proofs.ReaderOverTurns.{one_member, turn_reads}
@@ -119,7 +113,7 @@ module _ (laws : BufferLaws) (t : ℕ) where
   abbrev Took : ℕ → ℕ → State → Type 0
   Took i c s = IsTrue (list_any (reads_all t) (s.members i).job.system.last) → c ≤ place_of s i t
 
-  own_turn_takes : (i : ℕ) (s : State) → IsSound (s.world.histories t) → place_of s i t ≤ count (s.world.histories t) → (logged s i).outcome ≢ Skipped
+  own_turn_takes : (i : ℕ) (s : State) → IsSound (s.world.histories t) → place_of s i t ≤ count (s.world.histories t) → (logged_turn s i).outcome ≢ Skipped
       → Took i (count (s.world.histories t)) (after_turn_of i s)
   own_turn_takes i s sound within ran =
       one_member (λ m. IsTrue (list_any (reads_all t) m.job.system.last) → count (s.world.histories t) ≤ m.job.system.places t) i i s
@@ -146,8 +140,8 @@ module _ (laws : BufferLaws) (t : ℕ) where
       let first = (turn_reads laws i t i b sound within).passes in
       turns_keep_it i (count (b.world.histories t)) later (after_turn_of i b) first.goes_on.sound first.within
       (counts_more (b.world.histories t) ((after_turn_of i b).world.histories t) first.goes_on)
-      (own_turn_takes i b sound within (All-head (λ turn. turn.system ≡ i → turn.outcome ≢ Skipped) (logged b i) (after_turns_of later (after_turn_of i b)).turns ran refl))
+      (own_turn_takes i b sound within (All-head (λ turn. turn.system ≡ i → turn.outcome ≢ Skipped) (logged_turn b i) (after_turns_of later (after_turn_of i b)).turns ran refl))
   takes_by_turn i (j ∷ more) later b sound within ran =
       let first = (turn_reads laws i t j b sound within).passes in
       takes_by_turn i more later (after_turn_of j b) first.goes_on.sound first.within
-      (All-tail (λ turn. turn.system ≡ i → turn.outcome ≢ Skipped) (logged b j) (after_turns_of (more ++ i ∷ later) (after_turn_of j b)).turns ran)
+      (All-tail (λ turn. turn.system ≡ i → turn.outcome ≢ Skipped) (logged_turn b j) (after_turns_of (more ++ i ∷ later) (after_turn_of j b)).turns ran)

@@ -1,19 +1,13 @@
 -- Rows: a host posts three messages, then none, then one. One system reads a message in each frame; another joins with
 -- the third frame and clears.
 use Rattle.std.proofs.Common.{◌≡◌, List, [], ◌∷◌, Some, pos, refl}
-use Rattle.msg_world.specs.World.{by, new_world}
+use Rattle.msg_world.specs.Prelude.{by, new_world}
 use Rattle.msg_system.specs.declared.op.Op.{Op}
 use Rattle.msg_system.specs.declared.op.Op.TheVariants.{Read, Clear}
 use Rattle.msg_system.specs.declared.start.Start.TheVariants.{Zero}
-use Rattle.msg_system.specs.Systems.{new_system, turn}
+use Rattle.msg_system.specs.Prelude.{new_system, turn}
 use Rattle.msg_world.specs.declared.record.TheConstants.{HOST}
-use Rattle.msg_frames.specs.declared.place.Place.{Place}
-use Rattle.msg_frames.specs.declared.log.Log.{Log}
-use Rattle.msg_frames.specs.Entries.{Entry, given, cleared, missed, numbers_of}
-use Rattle.msg_frames.specs.Frames.{AfterFrame, frame_in, State}
-use Rattle.msg_frames.specs.FirstState.{first_state, nowhere}
-use Rattle.msg_frames.specs.CompleteRun.{messages_given}
-use Rattle.msg_frames.specs.Tiling.{found_at, log_entries, place_of}
+use Rattle.msg_frames.specs.Prelude.{AfterFrame, Entry, Log, Place, State, cleared, first_state, found_at, frame_in, given, log_entries, messages_given, missed, nowhere, numbers_of, place_of}
 
 abbrev reader : List Op
 reader = Read 0 (Some 1) ∷ []

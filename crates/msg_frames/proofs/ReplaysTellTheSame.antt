@@ -5,16 +5,9 @@ use Rattle.std.proofs.lemmas.Bool.{cases_Bool, eqb-false, eqb-true}
 use Rattle.std.proofs.lemmas.List.{append-nil}
 use Rattle.std.proofs.lemmas.List.Elements.{All-contains}
 use Rattle.std.proofs.lemmas.List.Sorted.{Contains-permutation, IsPermutation-sym}
-use Rattle.msg_order.specs.Laws.{TurnOrderIsLawful}
+use Rattle.msg_order.specs.Prelude.{TurnOrderIsLawful}
 use Rattle.msg_system.specs.declared.reply.Reply.{Reply}
-use Rattle.msg_frames.specs.declared.frame.Frame.{Frame}
-use Rattle.msg_frames.specs.declared.log.Log.{Log}
-use Rattle.msg_frames.specs.declared.log.Turn.{Turn}
-use Rattle.msg_frames.specs.Entries.{answers}
-use Rattle.msg_frames.specs.Frames.{IsRun, before_turns, systems_in, State, joined}
-use Rattle.msg_frames.specs.ReaderLaws.{RunsAreComplete, ReplaysTellTheSame, ReplaysTellACompleteRun}
-use Rattle.msg_frames.specs.Replays.{IsMixedRun, IsReplay}
-use Rattle.msg_frames.specs.Tiling.{answers_in}
+use Rattle.msg_frames.specs.Prelude.{Frame, IsMixedRun, IsReplay, IsRun, Log, ReplaysTellACompleteRun, ReplaysTellTheSame, RunsAreComplete, State, Turn, answers, answers_in, before_turns, join_flags, systems_in}
 use Rattle.msg_frames.proofs.ElementsAndPairs.{pairs_head, pairs_tail}
 use Rattle.msg_order.proofs.Elements.{Contains-cases, Contains-head, Contains-tail, not_in_none}
 use Rattle.msg_frames.proofs.RunsAreUnique.{order_is_among}
@@ -82,7 +75,7 @@ turns_alike lawful frame order s log u replay i =
     let settled = replay.is_frame.in_order in
     told_alike (λ (turn : Turn). turn.system) (λ (turn : Turn). answers turn.outcome) i log.turns replay.settled.turns replay.turns
     (subst (AllPairs (λ a b. a ≢ b)) (sym replay.in_order) replay.lawful.lawful.once)
-    (lawful settled.settled (joined b) (systems_in replay.settled) (order_is_among b settled.settled settled.is_order) settled.in_order).once
+    (lawful settled.settled (join_flags b) (systems_in replay.settled) (order_is_among b settled.settled settled.is_order) settled.in_order).once
 
 pub replay_tells : TurnOrderIsLawful → ReplaysTellTheSame
 replay_tells lawful frame order s log u replay i = ap (λ xs. xs ++ []) (turns_alike lawful frame order s log u replay i)

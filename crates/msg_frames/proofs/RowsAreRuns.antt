@@ -7,22 +7,17 @@ use Rattle.std.proofs.lemmas.Bool.{cases_Bool, cases_eq, cases_lt, and_parts, or
 use Rattle.std.proofs.lemmas.List.{get_or_past}
 use Rattle.std.proofs.lemmas.List.FromFn.{get_or-map-range_with_len, length-map-range_with_len}
 use Rattle.msg_world.specs.declared.access.Access.{Access}
-use Rattle.msg_world.specs.Access.{Part, OfType, OfResource, Registry, same_part, has_bit, reads, writes, no_access, Fits}
+use Rattle.msg_world.specs.Prelude.{Part, OfType, OfResource, Registry, same_part, has_bit, reads, writes, no_access, Fits}
 use Rattle.msg_world.proofs.Bits.{has_bit-zero, has_bit-set}
-use Rattle.msg_order.specs.Order.{access_of}
+use Rattle.msg_order.specs.Prelude.{access_of}
 use Rattle.msg_order.proofs.Computing.{each_below, is_turn_order, in_turn_by_test}
 use Rattle.msg_system.specs.declared.op.Op.{Op}
 use Rattle.msg_system.specs.declared.condition.Condition.{Condition}
 use Rattle.msg_system.specs.declared.op.Op.TheVariants.{Read}
 use Rattle.msg_system.specs.declared.program.Program.{Program}
-use Rattle.msg_system.specs.Conditions.{conditions_of}
-use Rattle.msg_system.specs.Systems.{turn}
-use Rattle.msg_system.specs.Needs.{Needs, IsAccessOf, is_part, job_needs, op_parts, probe_part, some_op_reads, some_condition_reads, program_needs, with_conditions}
-use Rattle.msg_frames.specs.declared.frame.Frame.{Frame}
-use Rattle.msg_frames.specs.Frames.{AfterFrame, IsTurnOrderOf, before_turns, frame_in, needs_of, State, joined}
-use Rattle.msg_frames.specs.FirstState.{nobody, unjoined}
+use Rattle.msg_system.specs.Prelude.{IsAccessOf, Needs, conditions_of, is_part, job_needs, op_parts, probe_part, program_needs, some_condition_reads, some_op_reads, turn, with_conditions}
+use Rattle.msg_frames.specs.Prelude.{AfterFrame, Frame, IsRunOf, IsTurnOrderOf, OrderedFrames, Setup, State, alone, before_turns, conditions_frames, contrary, contrary_frames, drained, drained_frames, early_frames, echo, echo_frames, fourth, fourth_frames, frame_in, gated, gated_frames, join_flags, lag, lag_frames, late, late_frames, needs_of, nobody, numbered, program, relay, relay_frames, signallers, signallers_frames, start_of, tally, tally_frames, two_conditions, unjoined, writers, writers_frames}
 use Rattle.msg_frames.proofs.SystemsStay.{before_keeps, frame_keeps, joining_on_keeps}
-use Rattle.msg_frames.specs.Rows.{OrderedFrames, IsRunOf, Setup, start_of, alone, numbered, program, lag, lag_frames, fourth, fourth_frames, writers, writers_frames, contrary, contrary_frames, echo, echo_frames, two_conditions, conditions_frames, tally, tally_frames, late, late_frames, early_frames, gated, gated_frames, signallers, signallers_frames, drained, drained_frames, relay, relay_frames}
 use Rattle.msg_frames.proofs.FramesInOrder.{frame_in_order}
 
 -- ---- accesses, computed
@@ -189,18 +184,18 @@ abbrev job_is_within : List Program → State → ℕ → Bool
 job_is_within programs s i = is_within most (ops_at programs i) (conditions_of (s.members i).job)
 
 abbrev are_turns_of : List Program → State → List ℕ → Bool
-are_turns_of programs s order = list_all (job_is_within programs s) (range_with_len 0 s.systems) && is_turn_order most (accesses_of s) s.rules (joined s) order
+are_turns_of programs s order = list_all (job_is_within programs s) (range_with_len 0 s.systems) && is_turn_order most (accesses_of s) s.rules (join_flags s) order
 
 turns_of : (programs : List Program) (s : State) (order : List ℕ) → ArePrograms programs s → are_turns_of programs s order ≡ true → IsTurnOrderOf s order
 turns_of programs s order are t =
-    let both = and_parts (list_all (job_is_within programs s) (range_with_len 0 s.systems)) (is_turn_order most (accesses_of s) s.rules (joined s) order) t in
+    let both = and_parts (list_all (job_is_within programs s) (range_with_len 0 s.systems)) (is_turn_order most (accesses_of s) s.rules (join_flags s) order) t in
     let access : ℕ → Access = λ i. access_for most (needs_of (s.members i)) in
     let is : (i : ℕ) → i < s.systems → access_of (accesses_of s) i ≡ access i = λ i lt. get_or-map-range_with_len access 0 s.systems i i no_access lt (omega arith) in
     let fit : (i : ℕ) → Fits most most (access_of (accesses_of s) i) = λ i. elim (cases_lt i s.systems) [
       | inl lt ↦ subst (Fits most most) (sym (is i lt)) (access_fits most (needs_of (s.members i)) (omega arith))
       | inr past ↦ subst (Fits most most) (sym (get_or_past (accesses_of s) i no_access (omega (arith, length-map-range_with_len access 0 s.systems)))) (nothing_fits most)
     ] in
-    let turn = in_turn_by_test most (accesses_of s) s.rules (joined s) order fit both.1 in
+    let turn = in_turn_by_test most (accesses_of s) s.rules (join_flags s) order fit both.1 in
     record {
       settled = turn.settled;
       is_order = record {

@@ -7,12 +7,9 @@ use Rattle.std.proofs.lemmas.Bool.{cases_Bool}
 use Rattle.std.proofs.lemmas.List.{drop-append-le, drop-map, drop_more, length-append, length-drop, map-append, take-append-le, take-map}
 use Rattle.std.proofs.lemmas.List.Elements.{All-head, All-tail}
 use Rattle.std.proofs.lemmas.Option.{slice_get-get_or}
-use Rattle.msg_buffer.specs.History.{Entry as Written, GoesOn, History, count, instance_of, instances, message_of}
-use Rattle.msg_buffer.specs.Reader.{Stretch, next_place, Tile}
+use Rattle.msg_buffer.specs.Prelude.{Entry as Written, GoesOn, History, Stretch, Tile, count, instance_of, instances, message_of, next_place}
 use Rattle.msg_world.specs.declared.record.Record.{Record}
-use Rattle.msg_frames.specs.Entries.{Entry, given, numbers_at, numbers_of}
-use Rattle.msg_frames.specs.CompleteRun.{IsInOrderOf, is_by, message_numbered, messages_given}
-use Rattle.msg_frames.specs.Tiling.{GivesItsStretch, Moment, messages_of}
+use Rattle.msg_frames.specs.Prelude.{Entry, GivesItsStretch, IsInOrderOf, Moment, given, is_by, message_numbered, messages_given, messages_of, numbers_at, numbers_of}
 use Rattle.msg_frames.proofs.OneFateEach.{entries_of}
 use Rattle.msg_frames.proofs.ReaderOverJob.{IsWritten, tile_of}
 

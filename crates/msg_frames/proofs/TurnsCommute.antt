@@ -3,18 +3,12 @@ use Rattle.std.proofs.Common.{◌≡◌, ◌≢◌, ℕ, ◌<◌, false, ◌&&�
 use Rattle.std.specs.Prelude.{IsTrue}
 use Rattle.std.proofs.lemmas.Bool.{and_from, cases_Bool, cases_eq, or_right}
 use Rattle.msg_world.specs.declared.access.Access.{Access}
-use Rattle.msg_world.specs.Access.{Part, OfType, OfResource, Registry, Conflict, uses, writes}
-use Rattle.msg_world.specs.World.{WorldState, content}
-use Rattle.msg_order.specs.Order.{access_of}
+use Rattle.msg_world.specs.Prelude.{Conflict, OfResource, OfType, Part, Registry, WorldState, content, uses, writes}
+use Rattle.msg_order.specs.Prelude.{access_of}
 use Rattle.msg_system.specs.declared.reply.Reply.{Reply}
-use Rattle.msg_system.specs.Conditions.{Job}
-use Rattle.msg_system.specs.Footprints.{HasFootprint, JobFootprint}
-use Rattle.msg_system.specs.Needs.{IsAccessOf, Needs, needs_any}
+use Rattle.msg_system.specs.Prelude.{HasFootprint, IsAccessOf, Job, JobFootprint, Needs, needs_any}
 use Rattle.msg_system.proofs.Accesses.{uses_needs}
-use Rattle.msg_frames.specs.declared.log.Outcome.{Outcome}
-use Rattle.msg_frames.specs.Frames.{AfterTurn, AreAccessesOf, after_turn_of, member_turn, needs_of, outcome_of, turn_of, with_member, Member, State}
-use Rattle.msg_frames.specs.Entries.{outcome_entries, with_entries}
-use Rattle.msg_frames.specs.TurnLaws.{TurnsOfOthersCommute}
+use Rattle.msg_frames.specs.Prelude.{AfterTurn, AreAccessesOf, Member, Outcome, State, TurnsOfOthersCommute, after_turn_of, member_turn, needs_of, outcome_entries, outcome_of, turn_of, with_entries, with_member}
 
 -- ---- worlds and states
 

@@ -1,7 +1,7 @@
 -- What callers see of what each reader was given.
 use Rattle.std.specs.Prelude.{◌≡◌, ℕ, ◌+◌, Bool, List, map, flat_map, unwrap_or}
 use Rattle.std.specs.List.{filter, range_with_len}
-use Rattle.msg_world.specs.Access.{OfType}
+use Rattle.msg_world.specs.Prelude.{OfType}
 use Rattle.msg_frames.specs.declared.account.Account.{Account}
 use Rattle.msg_frames.specs.declared.totals.Totals.{Totals}
 use Rattle.msg_frames.specs.Frames.{State}

@@ -1,6 +1,6 @@
 -- A run of frames with all that it comes to: for the lists of messages, and for each reader.
 use Rattle.std.specs.Prelude.{◌≡◌, ℕ, ◌<◌, List, if◌then◌else◌, IsTrue, ◌+◌, ◌≤◌, ◌==◌, Bool, false, All, Contains, [], length, map, filter, flat_map, Option, None, Some, option_map, unwrap_or, slice_get}
-use Rattle.msg_buffer.specs.History.{GoesOn, History, IsPresent, count}
+use Rattle.msg_buffer.specs.Prelude.{GoesOn, History, IsPresent, count}
 use Rattle.msg_frames.specs.declared.frame.Frame.{Frame}
 use Rattle.msg_frames.specs.declared.log.Log.{Log}
 use Rattle.msg_frames.specs.declared.totals.Totals.{Totals}

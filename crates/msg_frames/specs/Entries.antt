@@ -2,14 +2,13 @@
 -- system and a type that it reads.
 use Rattle.std.specs.Prelude.{ℕ, ◌+◌, ◌-◌, ◌==◌, false, Bool, List, [], ◌∷◌, ◌++◌, length, flat_map, Option, Some, None, is_some, option_to_list, if◌then◌else◌}
 use Rattle.std.specs.List.{range_with_len}
-use Rattle.msg_buffer.specs.Reader.{Stretch}
+use Rattle.msg_buffer.specs.Prelude.{Stretch}
 use Rattle.msg_world.specs.declared.record.Record.{Record}
 use Rattle.msg_system.specs.declared.op.Op.{Op}
 use Rattle.msg_system.specs.declared.reply.Reply.{Reply}
 use Rattle.msg_system.specs.declared.reply.Reply.TheVariants.{Read, Cleared, Forwarded, Summed}
 use Rattle.msg_system.specs.declared.reply.Took.{Took}
-use Rattle.msg_system.specs.Needs.{Needs, type_read}
-use Rattle.msg_system.specs.Systems.{Meaning, Rule, if_kept, ops_answered}
+use Rattle.msg_system.specs.Prelude.{Meaning, Needs, Rule, if_kept, ops_answered, type_read}
 use Rattle.msg_frames.specs.declared.log.Outcome.{Outcome}
 use Rattle.msg_frames.specs.declared.log.Outcome.TheVariants.{Skipped, Ran}
 use Rattle.msg_frames.specs.declared.totals.Totals.{Totals}

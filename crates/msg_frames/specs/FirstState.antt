@@ -1,13 +1,10 @@
 -- A state before any frame, and which systems and rules make none.
 use Rattle.std.specs.Prelude.{◌≡◌, ℕ, ◌&&◌, true, List, [], length, map, replicate, slice_index_or, IsTrue}
-use Rattle.msg_world.specs.Access.{Part}
-use Rattle.msg_world.specs.World.{WorldState}
+use Rattle.msg_world.specs.Prelude.{Part, WorldState}
 use Rattle.msg_order.specs.declared.rule.Rule.{Rule}
-use Rattle.msg_order.specs.Graph.{Graph}
-use Rattle.msg_order.specs.Order.{rules_among}
-use Rattle.msg_system.specs.Conditions.{Job, new_asked}
+use Rattle.msg_order.specs.Prelude.{Graph, rules_among}
+use Rattle.msg_system.specs.Prelude.{Job, Meaning, new_asked, new_system}
 use Rattle.msg_system.specs.declared.start.Start.TheVariants.{Zero}
-use Rattle.msg_system.specs.Systems.{Meaning, new_system}
 use Rattle.msg_frames.specs.declared.place.Place.{Place}
 use Rattle.msg_frames.specs.Entries.{no_totals}
 use Rattle.msg_frames.specs.Frames.{with_joining, Member, State}

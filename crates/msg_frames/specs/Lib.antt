@@ -1,6 +1,7 @@
 pub mod Entries
 pub mod Frames
 pub mod FirstState
+pub mod Prelude
 pub mod Replays
 pub mod TurnLaws
 pub mod Tiling

@@ -1,9 +1,9 @@
 -- What holds of readers over every run.
 use Rattle.std.specs.Prelude.{◌≡◌, ℕ, ◌<◌, ◌≤◌, List, [], ◌∷◌, All, EachIndex, IsTrue, IsFalse, slice_index_or}
-use Rattle.msg_buffer.specs.History.{IsSound}
+use Rattle.msg_buffer.specs.Prelude.{IsSound}
 use Rattle.msg_order.specs.declared.rule.Rule.{Rule}
-use Rattle.msg_world.specs.World.{WorldState}
-use Rattle.msg_system.specs.Systems.{Meaning}
+use Rattle.msg_world.specs.Prelude.{WorldState}
+use Rattle.msg_system.specs.Prelude.{Meaning}
 use Rattle.msg_frames.specs.declared.frame.Frame.{Frame}
 use Rattle.msg_frames.specs.declared.log.Log.{Log}
 use Rattle.msg_frames.specs.declared.place.Place.{Place}

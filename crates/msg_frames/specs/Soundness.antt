@@ -1,6 +1,6 @@
 -- What holds of every state that frames make.
 use Rattle.std.specs.Prelude.{◌≡◌, ℕ, ◌+◌, ◌≤◌, ◌<◌, Some, IsTrue, IsFalse}
-use Rattle.msg_buffer.specs.History.{IsSound, count}
+use Rattle.msg_buffer.specs.Prelude.{IsSound, count}
 use Rattle.msg_frames.specs.Entries.{no_totals}
 use Rattle.msg_frames.specs.Frames.{State, has_begun}
 use Rattle.msg_frames.specs.Tiling.{place_of}

@@ -1,14 +1,11 @@
 -- What a reader was given over a run, moment by moment.
 use Rattle.std.specs.Prelude.{◌≡◌, ℕ, zero, suc, ◌==◌, Option, Some, None, List, [], ◌∷◌, ◌++◌, map, flat_map, take, drop, All, IfSome, unwrap_or, if◌then◌else◌}
-use Rattle.msg_buffer.specs.History.{History, instances, message_of}
-use Rattle.msg_buffer.specs.Reader.{Stretch, Tile}
+use Rattle.msg_buffer.specs.Prelude.{History, Stretch, Tile, instances, message_of}
 use Rattle.msg_world.specs.declared.record.Record.{Record}
-use Rattle.msg_world.specs.World.{WorldState}
+use Rattle.msg_world.specs.Prelude.{WorldState}
 use Rattle.msg_system.specs.declared.op.Op.{Op}
-use Rattle.msg_system.specs.Conditions.{Job, all_hold}
+use Rattle.msg_system.specs.Prelude.{AfterProgram, Job, Meaning, after_at_most, after_op, all_hold, next_op}
 use Rattle.msg_system.specs.declared.reply.Reply.{Reply}
-use Rattle.msg_system.specs.Programs.{AfterProgram, after_op}
-use Rattle.msg_system.specs.Systems.{Meaning, after_at_most, next_op}
 use Rattle.msg_frames.specs.declared.frame.Frame.{Frame}
 use Rattle.msg_frames.specs.declared.log.Log.{Log}
 use Rattle.msg_frames.specs.Entries.{Entry, answers, entries_told, entry_for}

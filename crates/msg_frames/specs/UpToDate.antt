@@ -1,11 +1,11 @@
 -- Readers that read all of a type in each frame, and what that assures them of.
 use Rattle.std.specs.Prelude.{◌≡◌, ◌≢◌, ℕ, ◌<◌, ◌≤◌, ◌==◌, Bool, false, List, [], ◌∷◌, ◌++◌, Contains, All, None, IsTrue, length}
 use Rattle.std.specs.List.{list_any}
-use Rattle.msg_buffer.specs.History.{IsPresent, count, update}
+use Rattle.msg_buffer.specs.Prelude.{IsPresent, count, update}
 use Rattle.msg_system.specs.declared.op.Op.{Op}
 use Rattle.msg_system.specs.declared.op.Op.TheVariants.{Read, Forward, Sum}
 use Rattle.msg_system.specs.declared.program.Program.{Program}
-use Rattle.msg_system.specs.Systems.{of_program}
+use Rattle.msg_system.specs.Prelude.{of_program}
 use Rattle.msg_frames.specs.declared.frame.Frame.{Frame}
 use Rattle.msg_frames.specs.declared.log.Log.{Log}
 use Rattle.msg_frames.specs.declared.log.Outcome.TheVariants.{Skipped}

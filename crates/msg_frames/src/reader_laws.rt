@@ -1,6 +1,5 @@
 //! Laws of readers: facts that hold of every run of frames.
-ghost use Rattle.msg_frames.specs.ReaderLaws.{AccountsBalance, FirstIsSound, FrameStaysSound, NoneBeforeJoining, ReplaysTellACompleteRun, ReplaysTellTheSame, RunStaysSound, RunsAreComplete};
-ghost use Rattle.msg_frames.specs.UpToDate.{WhoIsUpToDateMissesNothing, WhoReadsAllCatchesUp, WhoReadsAllHasTheFrameBefore, WhoReadsAllIsUpToDate, WhoReadsEachFrameMissesNothing, WhoseProgramReadsAll};
+ghost use Rattle.msg_frames.specs.Prelude.{AccountsBalance, FirstIsSound, FrameStaysSound, NoneBeforeJoining, ReplaysTellACompleteRun, ReplaysTellTheSame, RunStaysSound, RunsAreComplete, WhoIsUpToDateMissesNothing, WhoReadsAllCatchesUp, WhoReadsAllHasTheFrameBefore, WhoReadsAllIsUpToDate, WhoReadsEachFrameMissesNothing, WhoseProgramReadsAll};
 
 use msg_buffer::laws::{histories_only_grow, readers_tile};
 use msg_order::laws::turn_order_is_lawful;

@@ -3,8 +3,7 @@ use Rattle.std.proofs.Common.{◌≡◌, ◌≢◌, ℕ, zero, suc, ◌+◌, ◌
 use Rattle.std.specs.Prelude.{◌==◌}
 use Rattle.std.proofs.lemmas.Bool.{cases_eq, false≢true, and_parts, ne_eqb, not-true, eqb-false}
 use Rattle.std.proofs.lemmas.List.{get_or_default}
-use Rattle.msg_order.specs.Graph.{Graph, IsEdge}
-use Rattle.msg_order.specs.Order.{has_joined, StandsBefore, IsLawfulOrder}
+use Rattle.msg_order.specs.Prelude.{Graph, IsEdge, IsLawfulOrder, StandsBefore, has_joined}
 use Rattle.msg_order.proofs.TurnOrders.{stands, places_of, place_of, of_place, one_place}
 
 -- i stands among the first k, or not

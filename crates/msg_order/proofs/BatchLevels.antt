@@ -9,11 +9,9 @@ use Rattle.std.proofs.lemmas.List.Elements.{All-push, Contains-get_or}
 use Rattle.std.proofs.lemmas.List.Kept.{IsStrictlyIncreasing-filter}
 use Rattle.std.proofs.lemmas.List.FromFn.{length-range_with_len, get_or-range_with_len}
 use Rattle.std.proofs.Math.Seq.{get_or-append_seam}
-use Rattle.msg_order.specs.Graph.{Graph, IsEdge, IsAcyclic, IsBatchNumber}
-use Rattle.msg_order.specs.Order.{has_joined, batch_at, AreBatches}
+use Rattle.msg_order.specs.Prelude.{AreBatches, Graph, IsAcyclic, IsBatchNumber, IsEdge, SystemSet, batch_at, has_joined}
 use Rattle.msg_order.specs.inner.Paths.{path, set_at, ArePaths}
 use Rattle.msg_order.specs.inner.SystemSet.{has, meets}
-use Rattle.msg_order.specs.declared.system_set.SystemSet.{SystemSet}
 use Rattle.msg_order.proofs.SystemSets.{meets-found, meets-true}
 use Rattle.msg_order.proofs.Elements.{not_in_none, filter-Contains, Contains-filter, range-Contains, Contains-range}
 use Rattle.msg_order.proofs.Chains.{Ends, ends_less, ends_at_most, ends_along, number_ends, ends_number}

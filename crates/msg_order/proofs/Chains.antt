@@ -1,7 +1,7 @@
 -- Chains, joined end to end, and counted from their end.
 use Rattle.std.proofs.Common.{◌≡◌, ℕ, zero, suc, ◌+◌, ◌<◌, ◌≤◌, inl, inr, List, [], ◌∷◌, ◌++◌, length, refl, sym, subst, arith, append_assoc, length-append}
 use Rattle.std.proofs.lemmas.Bool.{cases_lt, cases_eq}
-use Rattle.msg_order.specs.Graph.{Graph, IsEdge, IsChain, Path, IsBatchNumber}
+use Rattle.msg_order.specs.Prelude.{Graph, IsEdge, IsChain, Path, IsBatchNumber}
 
 -- where each edge of g is one of h, so is each chain
 pub chain_grows : (g h : Graph) → ((i j : ℕ) → IsEdge g i j → IsEdge h i j) → (xs : List ℕ) → IsChain g xs → IsChain h xs

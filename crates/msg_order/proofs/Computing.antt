@@ -7,10 +7,8 @@ use Rattle.std.proofs.lemmas.List.Elements.{Contains-append_left, Contains-appen
 use Rattle.std.proofs.lemmas.List.Kept.{AllPairs-cons}
 use Rattle.std.proofs.lemmas.List.Sums.{AllPass-from_list_all}
 use Rattle.msg_world.specs.declared.access.Access.{Access}
-use Rattle.msg_world.specs.Access.{Part, OfType, OfResource, Registry, writes, uses, Conflict, Fits}
-use Rattle.msg_order.specs.declared.rule.Rule.{Rule}
-use Rattle.msg_order.specs.Graph.{Graph, IsEdge, IsBatchNumber}
-use Rattle.msg_order.specs.Order.{has_joined, access_of, rules_among, AreInConflict, Settles, IsSettledOrder, pairs, RunsBefore, IsTurnOrder}
+use Rattle.msg_world.specs.Prelude.{Part, OfType, OfResource, Registry, writes, uses, Conflict, Fits}
+use Rattle.msg_order.specs.Prelude.{AreInConflict, Graph, IsBatchNumber, IsEdge, IsSettledOrder, IsTurnOrder, Rule, RunsBefore, Settles, access_of, has_joined, pairs, rules_among}
 use Rattle.msg_order.specs.inner.Paths.{path}
 use Rattle.msg_order.proofs.Elements.{Contains-head, Contains-tail, Contains-list_any, Contains-map, Contains-range, list_all-Contains, list_any-Contains}
 use Rattle.msg_order.proofs.Chains.{Ends, ends_number, number_once}

@@ -5,10 +5,8 @@ use Rattle.std.specs.List.{concat, list_any, range_with_len}
 use Rattle.std.proofs.lemmas.Bool.{cases_Bool, cases_eq, and_parts, and_from, false≢true}
 use Rattle.msg_world.specs.declared.access.Access.{Access}
 use Rattle.msg_world.proofs.Conflicts.{decide_conflict}
-use Rattle.msg_order.specs.Graph.{Graph, IsAcyclic}
-use Rattle.msg_order.specs.Order.{has_joined, access_of, rules_among, AreInConflict, GainsEdge, Settles, pairs, AreBatches, RunsBefore}
+use Rattle.msg_order.specs.Prelude.{AreBatches, AreInConflict, BatchesExist, GainsEdge, Graph, IsAcyclic, RunsBefore, SettledOrderExists, Settles, TurnOrderExists, TurnOrderIsUnique, access_of, has_joined, pairs, rules_among}
 use Rattle.msg_order.specs.inner.Paths.{path}
-use Rattle.msg_order.specs.Laws.{SettledOrderExists, BatchesExist, TurnOrderExists, TurnOrderIsUnique}
 use Rattle.msg_order.proofs.SystemSets.{some_below, below_some}
 use Rattle.msg_order.proofs.PathTest.{no_Path, to_Path}
 use Rattle.msg_order.proofs.BatchLevels.{TellsBlocked, LeadAmong, ArePeeled, peeled_first, peeled_next, peeled_all, peeled_done, count_left, left_falls}

@@ -2,7 +2,7 @@
 use Rattle.std.proofs.Common.{◌≡◌, ℕ, ◌⊎◌, inl, inr, Bool, true, false, ◌&&◌, ◌||◌, List, [], ◌∷◌, ◌++◌, refl, ap, sym, subst, ◌∙◌}
 use Rattle.std.specs.Prelude.{◌==◌}
 use Rattle.std.proofs.lemmas.Bool.{eqb-true, eq-eqb, or_cases, or_left, or_right, and_parts, and_from, false≢true, false_from_ne_true}
-use Rattle.msg_order.specs.Graph.{Graph, IsEdge, IsChain, Path}
+use Rattle.msg_order.specs.Prelude.{Graph, IsEdge, IsChain, Path}
 use Rattle.msg_order.specs.inner.Paths.{path}
 use Rattle.msg_order.proofs.Elements.{Contains-head, Contains-tail, Contains-cases, not_in_none}
 use Rattle.msg_order.proofs.Chains.{edge_is_path, paths_join, path_grows}

@@ -5,18 +5,14 @@ use Rattle.std.specs.List.{range_with_len}
 use Rattle.std.proofs.lemmas.Bool.{cases_lt, false≢true, false_from_ne_true}
 use Rattle.std.proofs.lemmas.List.{get_or_past}
 use Rattle.std.proofs.lemmas.List.FromFn.{fill_by_all, get_or-map-range_with_len, length-map-range_with_len}
-use Rattle.msg_order.specs.declared.system_set.SystemSet.{SystemSet}
+use Rattle.msg_order.specs.Prelude.{Graph, IsAmong, IsEdge, IsLawfulOrder, IsPlanOf, Path, PlanView, Rule, SystemSet, has_joined}
 use Rattle.msg_order.specs.inner.SystemSet.{has}
-use Rattle.msg_order.specs.Graph.{Graph, IsEdge, Path}
-use Rattle.msg_order.specs.Order.{has_joined, IsLawfulOrder, IsAmong}
-use Rattle.msg_order.specs.Plan.{PlanView, IsPlanOf}
 use Rattle.msg_order.specs.inner.Paths.{comes_before, ArePaths, AreKept, IsSetOf, square, view_of}
 use Rattle.msg_order.proofs.Elements.{filter-Contains, Contains-filter, Contains-flat_map, Contains-map, Contains-range}
 use Rattle.msg_order.proofs.Chains.{first_edge, last_edge, edge_is_path}
 use Rattle.msg_order.proofs.PathTest.{to_Path}
 use Rattle.msg_order.proofs.TurnOrders.{kept_along}
 use Rattle.msg_world.specs.declared.access.Access.{Access}
-use Rattle.msg_order.specs.declared.rule.Rule.{Rule}
 
 Contains-square : (n i j : ℕ) → i < n → j < n → Contains (square n) (i, j)
 Contains-square n i j h l =

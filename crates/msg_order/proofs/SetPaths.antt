@@ -9,11 +9,8 @@ use Rattle.std.proofs.lemmas.Simd.{get_or-replicate}
 use Rattle.std.proofs.lemmas.List.Elements.{All-head, All-tail, filter-append, Contains-append_left, Contains-push, Contains-push_cases}
 use Rattle.std.proofs.lemmas.Bool.{cases_eq, cases_lt, or_left, or_right, or_cases, and_parts, and_from, false≢true, false_from_ne_true, eqb-true, eq-eqb}
 use Rattle.msg_world.specs.declared.access.Access.{Access}
-use Rattle.msg_order.specs.declared.rule.Rule.{Rule}
-use Rattle.msg_order.specs.declared.system_set.SystemSet.{SystemSet}
+use Rattle.msg_order.specs.Prelude.{AreInConflict, Graph, IsAcyclic, IsAmong, IsEdge, IsLowestOnCycle, NameSystemsBelow, Rule, Settles, SystemSet, edges_of, has_joined, pairs, rules_among}
 use Rattle.msg_order.specs.inner.SystemSet.{has, meets, no_set}
-use Rattle.msg_order.specs.Graph.{Graph, IsEdge, IsAcyclic, IsLowestOnCycle}
-use Rattle.msg_order.specs.Order.{NameSystemsBelow, edges_of, has_joined, rules_among, AreInConflict, Settles, pairs, IsAmong}
 use Rattle.msg_order.specs.inner.Paths.{path, set_at, comes_before, ArePaths}
 use Rattle.msg_order.proofs.SystemSets.{has-no_set, meets-found, meets-true}
 use Rattle.msg_order.proofs.Elements.{Contains-tail, Contains-cases, Contains-list_any, Contains-range, filter-Contains, list_any-Contains, range-Contains}

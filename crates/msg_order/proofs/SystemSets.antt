@@ -5,9 +5,9 @@ use Rattle.std.specs.Int.{bit_not}
 use Rattle.std.specs.List.{list_any, range_with_len}
 use Rattle.std.proofs.lemmas.Bool.{cases_eq, and_parts, and_from, eq-eqb, ne_eqb, false≢true, false_from_ne_true}
 use Rattle.std.proofs.lemmas.List.{get_or_past}
-use Rattle.msg_world.specs.Access.{has_bit}
+use Rattle.msg_world.specs.Prelude.{has_bit}
 use Rattle.msg_world.proofs.Bits.{has_bit-zero, has_bit-set, has_bit-unset, has_bit-and}
-use Rattle.msg_order.specs.declared.system_set.SystemSet.{SystemSet}
+use Rattle.msg_order.specs.Prelude.{SystemSet}
 use Rattle.msg_order.specs.inner.SystemSet.{has, meets, no_set}
 use Rattle.msg_order.proofs.Elements.{list_any-Contains, Contains-list_any, Contains-range, range-Contains}
 

@@ -9,11 +9,7 @@ use Rattle.std.proofs.lemmas.List.Elements.{All-head, All-tail, All-from_get_or,
 use Rattle.std.proofs.lemmas.List.Kept.{AllPairs-from_increasing}
 use Rattle.std.proofs.lemmas.Option.{slice_get-get_or, slice_get_within, get_or_from_slice_get}
 use Rattle.msg_world.specs.declared.access.Access.{Access}
-use Rattle.msg_order.specs.declared.rule.Rule.{Rule}
-use Rattle.msg_order.specs.Graph.{IsBatchNumber, Graph, IsChain, Path}
-use Rattle.msg_order.specs.Order.{rules_among, AreInConflict, Settles, pairs, batch_at, AreBatches, StandsBefore, IsLawfulOrder, RunsBefore, IsTurnOrder}
-use Rattle.msg_order.specs.Plan.{NoneConflict}
-use Rattle.msg_order.specs.Laws.{TurnOrderIsLawful}
+use Rattle.msg_order.specs.Prelude.{AreBatches, AreInConflict, Graph, IsBatchNumber, IsChain, IsLawfulOrder, IsTurnOrder, NoneConflict, Path, Rule, RunsBefore, Settles, StandsBefore, TurnOrderIsLawful, batch_at, pairs, rules_among}
 use Rattle.msg_order.proofs.Elements.{concat-Contains, Contains-concat}
 use Rattle.msg_order.proofs.Chains.{number_once, number_rises, edge_is_path}
 use Rattle.msg_order.proofs.SettledPairs.{settles_covers, Contains-pairs}

@@ -1,7 +1,7 @@
 -- Laws of the settled order. Each is the contract of a function of the same name in src/laws.rt.
 use Rattle.std.specs.Prelude.{◌≡◌, ◌≢◌, ◌<◌, ℕ, Bool, List, length, IsTrue, ◌⊎◌}
 use Rattle.msg_world.specs.declared.access.Access.{Access}
-use Rattle.msg_world.specs.Access.{Conflict}
+use Rattle.msg_world.specs.Prelude.{Conflict}
 use Rattle.msg_order.specs.declared.rule.Rule.{Rule}
 use Rattle.msg_order.specs.Graph.{Graph, Path, IsAcyclic, IsBatchNumber}
 use Rattle.msg_order.specs.Order.{has_joined, access_of, rules_among, IsAmong, IsSettledOrder, AreBatches, IsTurnOrder, StandsBefore, IsLawfulOrder}

@@ -2,7 +2,7 @@
 use Rattle.std.specs.Prelude.{◌≡◌, ℕ, Bool, List, All, AllPairs, ◌↔◌, ⊤}
 use Rattle.std.specs.List.{concat}
 use Rattle.msg_world.specs.declared.access.Access.{Access}
-use Rattle.msg_world.specs.Access.{Conflict}
+use Rattle.msg_world.specs.Prelude.{Conflict}
 use Rattle.msg_order.specs.declared.rule.Rule.{Rule}
 use Rattle.msg_order.specs.declared.plan_refusal.PlanRefusal.{PlanRefusal}
 use Rattle.msg_order.specs.declared.plan_refusal.PlanRefusal.TheVariants.{Cycle, NoMemory}

@@ -1,7 +1,6 @@
 // Whether rules go round in a circle.
 ghost use Rattle.std.specs.Prelude.{◌<◌, ◌≤◌, IfNone, IfOk, IfSome, OnErr};
-ghost use Rattle.msg_order.specs.Graph.{IsAcyclic, IsLowestOnCycle};
-ghost use Rattle.msg_order.specs.Order.{NameSystemsBelow, edges_of};
+ghost use Rattle.msg_order.specs.Prelude.{IsAcyclic, IsLowestOnCycle, NameSystemsBelow, edges_of};
 
 use crate::Rule;
 use crate::paths::{follow_rules, no_paths};

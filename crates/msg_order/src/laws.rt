@@ -1,6 +1,6 @@
 //! Laws of the settled order, for proofs: a call of one puts it among the facts that are known
 //! there.
-ghost use Rattle.msg_order.specs.Laws.{FewerSystemsMakeNoCycle, SettlingMakesNoCycle, ConflictingSystemsAreOrdered, SettledOrderExists, SettledOrderIsUnique, BatchesExist, BatchesAreUnique, TurnOrderExists, TurnOrderIsUnique, TurnOrderIsLawful, BatchNumbersRise, LawfulOrdersKeepPaths};
+ghost use Rattle.msg_order.specs.Prelude.{FewerSystemsMakeNoCycle, SettlingMakesNoCycle, ConflictingSystemsAreOrdered, SettledOrderExists, SettledOrderIsUnique, BatchesExist, BatchesAreUnique, TurnOrderExists, TurnOrderIsUnique, TurnOrderIsLawful, BatchNumbersRise, LawfulOrdersKeepPaths};
 
 /// Rules that make no cycle among some systems make none among fewer of them. So a plan over
 /// systems that have joined can't be refused for a cycle where the rules of all systems have none.

@@ -1,8 +1,7 @@
 // Batches, taken level by level from the systems that are left.
 ghost use Rattle.std.specs.Prelude.{◌≡◌, ◌&&◌, ℕ, ◌<◌, ◌≤◌, Bool, List, true, length, map, filter, IfOk, OnErr};
 ghost use Rattle.std.specs.List.{range_with_len};
-ghost use Rattle.msg_order.specs.Graph.{Graph, IsAcyclic};
-ghost use Rattle.msg_order.specs.Order.{AreBatches, IsAmong};
+ghost use Rattle.msg_order.specs.Prelude.{AreBatches, Graph, IsAcyclic, IsAmong};
 ghost use Rattle.msg_order.specs.inner.Paths.{ArePaths, IsSetOf, is_ready, set_at};
 ghost use Rattle.msg_order.specs.inner.SystemSet.{has, meets};
 

@@ -3,11 +3,8 @@ use Rattle.std.proofs.Common.{◌≡◌, ℕ, suc, ◌+◌, ◌-◌, ◌≤◌, 
 use Rattle.serde_json.specs.Data.{Data}
 use Rattle.serde_json.specs.View.{view}
 use Rattle.serde_json.specs.declared.value.Value.{Value}
-use Rattle.msg_files.specs.Check.{first_refusal}
-use Rattle.msg_files.specs.Json.{Text}
-use Rattle.msg_reading.specs.Names.{Declared}
-use Rattle.msg_reading.specs.ScenarioChecks.{probe_checks}
-use Rattle.msg_reading.specs.ScenarioDenotes.{in_not, inside_nots, nots_round}
+use Rattle.msg_files.specs.Prelude.{Text, first_refusal}
+use Rattle.msg_reading.specs.Prelude.{Declared, in_not, inside_nots, nots_round, probe_checks}
 use Rattle.msg_files.specs.declared.refusal.Refusal.TheVariants.{Shape}
 
 -- no probe has more than two parts

@@ -1,8 +1,8 @@
 -- The whole of a scenario file.
 use Rattle.std.proofs.Common.{List, ◌++◌}
 use Rattle.serde_json.specs.Data.{Data}
-use Rattle.msg_files.specs.Check.{Check}
-use Rattle.msg_reading.specs.ScenarioChecks.{frames_checks, held_checks, resources_checks, rules_checks, systems_checks, types_checks}
+use Rattle.msg_files.specs.Prelude.{Check}
+use Rattle.msg_reading.specs.Prelude.{frames_checks, held_checks, resources_checks, rules_checks, systems_checks, types_checks}
 
 -- ---- the checks of a file from each section on
 

@@ -6,8 +6,8 @@ use Rattle.std.specs.Prelude.{All, IsTrue, ◌&&◌, ◌||◌, ◌⊎◌, codes,
 use Rattle.std.specs.Option.{option_map_or}
 use Rattle.std.specs.Str.{bytes_eq}
 use Rattle.serde_json.specs.Data.{Data}
-use Rattle.msg_world.specs.Access.{HasPart, Part, OfType, OfResource, Registry}
-use Rattle.msg_system.specs.Needs.{is_part, job_needs, needs_any, op_parts, probe_part, program_needs, some_condition_reads, some_op_reads, some_op_writes}
+use Rattle.msg_world.specs.Prelude.{HasPart, Part, OfType, OfResource, Registry}
+use Rattle.msg_system.specs.Prelude.{is_part, job_needs, needs_any, op_parts, probe_part, program_needs, some_condition_reads, some_op_reads, some_op_writes}
 use Rattle.msg_system.specs.declared.condition.Condition.{Condition}
 use Rattle.msg_system.specs.declared.condition.Probe.{Probe}
 use Rattle.msg_system.specs.declared.condition.Probe.TheVariants.{OnMessage, ResourceEquals}
@@ -15,19 +15,10 @@ use Rattle.msg_system.specs.declared.op.Op.{Op}
 use Rattle.msg_system.specs.declared.op.Op.TheVariants.{Write, Batch, Read, Len, Missed, Clear, Forward, Sum, Get, Set, Add, Drain}
 use Rattle.msg_frames.specs.declared.frame.Frame.{Frame}
 use Rattle.msg_frames.specs.declared.place.Place.{Place}
-use Rattle.msg_files.specs.Check.{first_refusal, needs}
-use Rattle.msg_files.specs.Denotes.{values_of}
-use Rattle.msg_files.specs.Json.{Text, elements, is_number, natural, number_up_to, only_below, value_at, whole}
-use Rattle.msg_reading.specs.Names.{Declared, resource_number, type_number}
+use Rattle.msg_files.specs.Prelude.{Text, elements, first_refusal, is_number, natural, needs, number_up_to, only_below, value_at, values_of, whole}
+use Rattle.msg_reading.specs.Prelude.{Declared, FitKind, Kind, PostsAreToTypes, Relay, Scenario, Script, SystemSpec, Tally, both, checks_in_turn, condition_checks, condition_of, conditions_in, each_in_turn, each_of, fits_kind, frame_of, inside_nots, join_checks, join_in, kind_in, kind_of, list_checks, name_checks, nots_round, of_headed, of_its_kind, op_checks, op_of, op_with, op_with_one, op_with_two, ops_checks, ops_of, place_checks, place_of, post_of, probe_with, program_checks, resource_number, start_in, start_of, system_checks, system_object, system_of, text, type_number, with_system}
 use Rattle.msg_reading.specs.Names as names_of
-use Rattle.msg_reading.specs.Runnable.{FitKind, PostsAreToTypes}
-use Rattle.msg_reading.specs.ScenarioChecks.{checks_in_turn, fits_kind, join_checks, list_checks, name_checks, of_its_kind, op_checks, ops_checks, condition_checks, place_checks, program_checks, system_checks, system_object}
-use Rattle.msg_reading.specs.ScenarioDenotes.{both, condition_of, conditions_in, each_in_turn, each_of, frame_of, inside_nots, join_in, kind_in, kind_of, nots_round, of_headed, op_of, op_with, op_with_one, op_with_two, ops_of, place_of, post_of, probe_with, start_in, start_of, system_of, text, with_system}
-use Rattle.msg_reading.specs.declared.kind.Kind.{Kind}
-use Rattle.msg_reading.specs.declared.kind.Kind.TheVariants.{Script, Relay, Tally}
 use Rattle.msg_files.specs.declared.refusal.Refusal.TheVariants.{BadNumber, Shape}
-use Rattle.msg_reading.specs.declared.scenario.Scenario.{Scenario}
-use Rattle.msg_reading.specs.declared.scenario.SystemSpec.{SystemSpec}
 use Rattle.msg_reading.proofs.There.{below_there, both_pass, both_there, choice, each_all, each_length, first_passes, headed_there, in_turn_all, map_there, passed_length, some_same, then_there, two_there}
 
 -- ---- tests

@@ -6,11 +6,10 @@ use Rattle.serde_json.specs.Data.{Data}
 use Rattle.serde_json.specs.Find.{as_array}
 use Rattle.serde_json.specs.View.{view, items_view}
 use Rattle.serde_json.specs.declared.value.Value.{Value}
-use Rattle.msg_files.specs.Check.{Check, first_refusal, needs}
-use Rattle.msg_files.specs.Json.{all_some, elements, is_list}
+use Rattle.msg_files.specs.Prelude.{Check, all_some, elements, first_refusal, is_list, needs}
 use Rattle.msg_files.specs.declared.refusal.Refusal.{Refusal}
 use Rattle.msg_files.specs.declared.refusal.Refusal.TheVariants.{Shape, TooMany}
-use Rattle.msg_reading.specs.ScenarioDenotes.{each_of}
+use Rattle.msg_reading.specs.Prelude.{each_of}
 use Rattle.msg_files.proofs.Shapes.{elements_are}
 use Rattle.msg_files.proofs.Walks.{all_some-map, first_refusal-passed, first_refusal-stands}
 

@@ -5,10 +5,8 @@ use Rattle.std.specs.Prelude.{option_map}
 use Rattle.serde_json.specs.Data.{Data}
 use Rattle.serde_json.specs.View.{view}
 use Rattle.serde_json.specs.declared.value.Value.{Value}
-use Rattle.msg_files.specs.Check.{Check, first_refusal}
-use Rattle.msg_reading.specs.Names.{Declared}
-use Rattle.msg_reading.specs.ScenarioChecks.{checks_in_turn}
-use Rattle.msg_reading.specs.ScenarioDenotes.{both, each_in_turn, with_all}
+use Rattle.msg_files.specs.Prelude.{Check, first_refusal}
+use Rattle.msg_reading.specs.Prelude.{Declared, both, checks_in_turn, each_in_turn, with_all}
 use Rattle.msg_files.specs.declared.refusal.Refusal.{Refusal}
 use Rattle.msg_files.proofs.Walks.{first_refusal-passed, first_refusal-stands}
 

@@ -9,13 +9,8 @@ use Rattle.serde_json.specs.Find.{as_array, as_str}
 use Rattle.serde_json.specs.View.{view, items_view}
 use Rattle.serde_json.specs.declared.value.Value.{Value}
 use Rattle.msg_system.specs.declared.op.Op.TheVariants.{Batch}
-use Rattle.msg_files.specs.Check.{first_refusal, needs}
-use Rattle.msg_files.specs.Checks.{a_value, few_values}
-use Rattle.msg_files.specs.Denotes.{values_of}
-use Rattle.msg_files.specs.Json.{Text, all_some, elements, is_number, whole}
-use Rattle.msg_reading.specs.Names.{Declared, type_number}
-use Rattle.msg_reading.specs.ScenarioChecks.{a_type, is_list_of_numbers, is_text, op_checks_with}
-use Rattle.msg_reading.specs.ScenarioDenotes.{both, text}
+use Rattle.msg_files.specs.Prelude.{Text, a_value, all_some, elements, few_values, first_refusal, is_number, needs, values_of, whole}
+use Rattle.msg_reading.specs.Prelude.{Declared, a_type, both, is_list_of_numbers, is_text, op_checks_with, text, type_number}
 use Rattle.msg_files.specs.declared.refusal.Refusal.TheVariants.{Shape, TooMany}
 use Rattle.msg_files.proofs.Shapes.{elements_are}
 

@@ -5,11 +5,8 @@ use Rattle.serde_json.specs.Data.{Data}
 use Rattle.serde_json.specs.Find.{as_array, as_str}
 use Rattle.serde_json.specs.View.{view, items_view}
 use Rattle.serde_json.specs.declared.value.Value.{Value}
-use Rattle.msg_files.specs.Check.{Check, first_refusal, needs}
-use Rattle.msg_files.specs.Json.{Text, elements}
-use Rattle.msg_reading.specs.ScenarioChecks.{for_headed, for_two, is_text, wrong_shape}
-use Rattle.msg_reading.specs.ScenarioDenotes.{both, of_headed, text}
-use Rattle.msg_files.specs.Walk.{Agrees}
+use Rattle.msg_files.specs.Prelude.{Agrees, Check, Text, elements, first_refusal, needs}
+use Rattle.msg_reading.specs.Prelude.{both, for_headed, for_two, is_text, of_headed, text, wrong_shape}
 use Rattle.msg_files.specs.declared.refusal.Refusal.{Refusal}
 use Rattle.msg_files.specs.declared.refusal.Refusal.TheVariants.{Shape, UnknownName}
 use Rattle.msg_files.proofs.Shapes.{elements_are, range_to_end}

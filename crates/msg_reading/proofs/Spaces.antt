@@ -7,8 +7,8 @@ use Rattle.std.specs.Prelude.{cond, position, is_some, is_err, Result, Ok, Err, 
 use Rattle.std.specs.Str.{bytes_eq}
 use Rattle.std.specs.declared.alloc.Global.{Global}
 use Rattle.indexmap.specs.IndexSet.{insert_key}
-use Rattle.msg_files.specs.Json.{Text}
-use Rattle.msg_reading.specs.Names.{position_of}
+use Rattle.msg_files.specs.Prelude.{Text}
+use Rattle.msg_reading.specs.Prelude.{position_of}
 
 module _ {A B : Type 0} (p : B → Bool) (f : A → B) where
   position_or_len-map : (xs : List A) → position_or_len p (map f xs) ≡ position_or_len (λ x. p (f x)) xs

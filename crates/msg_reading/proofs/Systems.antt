@@ -4,15 +4,10 @@ use Rattle.std.specs.Prelude.{codes, is_some, if◌then◌else◌, option_and_th
 use Rattle.std.specs.Option.{option_map_or}
 use Rattle.serde_json.specs.Data.{Data}
 use Rattle.msg_system.specs.declared.op.Op.{Op}
-use Rattle.msg_files.specs.Check.{Check, first_refusal, needs}
-use Rattle.msg_files.specs.Json.{Text, value_at}
-use Rattle.msg_reading.specs.Names.{Declared}
-use Rattle.msg_reading.specs.ScenarioChecks.{fits_kind, list_checks, name_checks, of_its_kind, op_checks, ops_checks, place_checks, program_checks, system_checks, system_object}
-use Rattle.msg_reading.specs.ScenarioDenotes.{both, each_of, kind_in, kind_of, op_of, ops_of, place_of, start_in, start_of, system_of, text}
+use Rattle.msg_files.specs.Prelude.{Check, Text, first_refusal, needs, value_at}
+use Rattle.msg_reading.specs.Prelude.{Declared, Kind, SystemSpec, both, each_of, fits_kind, kind_in, kind_of, list_checks, name_checks, of_its_kind, op_checks, op_of, ops_checks, ops_of, place_checks, place_of, program_checks, start_in, start_of, system_checks, system_object, system_of, text}
 use Rattle.msg_system.specs.declared.start.Start.{Start}
 use Rattle.msg_frames.specs.declared.place.Place.{Place}
-use Rattle.msg_reading.specs.declared.kind.Kind.{Kind}
-use Rattle.msg_reading.specs.declared.scenario.SystemSpec.{SystemSpec}
 use Rattle.msg_files.specs.declared.refusal.Refusal.{Refusal}
 use Rattle.msg_files.specs.declared.refusal.Refusal.TheVariants.{Shape}
 use Rattle.msg_files.proofs.Steps.{Refuses, goes_on, refuses_by, stops}

@@ -4,11 +4,8 @@ use Rattle.std.proofs.lemmas.Grind.{common_steps}
 use Rattle.std.proofs.lemmas.List.Elements.{All-cons, All-nil}
 use Rattle.std.specs.Prelude.{All, if◌then◌else◌, ◌⊎◌, nat_le, nat_lt, option_and_then, option_map}
 use Rattle.serde_json.specs.Data.{Data}
-use Rattle.msg_files.specs.Check.{Check, first_refusal, needs}
-use Rattle.msg_files.specs.Json.{Text, all_some, elements, is_list, only_below}
-use Rattle.msg_reading.specs.Names.{Declared}
-use Rattle.msg_reading.specs.ScenarioChecks.{checks_in_turn}
-use Rattle.msg_reading.specs.ScenarioDenotes.{both, each_in_turn, of_headed, of_two, text}
+use Rattle.msg_files.specs.Prelude.{Check, Text, all_some, elements, first_refusal, is_list, needs, only_below}
+use Rattle.msg_reading.specs.Prelude.{Declared, both, checks_in_turn, each_in_turn, of_headed, of_two, text}
 use Rattle.msg_files.specs.declared.refusal.Refusal.{Refusal}
 use Rattle.msg_files.specs.declared.refusal.Refusal.TheVariants.{Shape, TooMany}
 

@@ -1,4 +1,5 @@
 pub mod Names
+pub mod Prelude
 pub mod ScenarioChecks
 pub mod ScenarioDenotes
 pub mod Reading

@@ -2,7 +2,7 @@
 use Rattle.std.specs.Prelude.{ℕ, ◌&&◌, ◌||◌, ◌==◌, not, nat_le, Bool, List, length, Option, position, option_and_then, codes}
 use Rattle.std.specs.List.{list_all}
 use Rattle.std.specs.Str.{bytes_eq}
-use Rattle.msg_files.specs.Json.{Text, only_below}
+use Rattle.msg_files.specs.Prelude.{Text, only_below}
 
 -- `a` to `z`, `0` to `9`, or `_`
 abbrev pub is_name_character : ℕ → Bool

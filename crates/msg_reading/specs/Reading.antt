@@ -1,10 +1,9 @@
 -- What a scenario file is read as, and what it is refused for.
 use Rattle.std.specs.Prelude.{◌≡◌, ◌⊎◌, ℕ, All, List, Some, None, slice_get, take}
 use Rattle.serde_json.specs.Data.{Data}
-use Rattle.msg_order.specs.Graph.{IsAcyclic, IsLowestOnCycle}
-use Rattle.msg_order.specs.Order.{edges_of}
-use Rattle.msg_system.specs.Needs.{HasClash, program_needs}
-use Rattle.msg_files.specs.Check.{first_refusal}
+use Rattle.msg_order.specs.Prelude.{IsAcyclic, IsLowestOnCycle, edges_of}
+use Rattle.msg_system.specs.Prelude.{HasClash, program_needs}
+use Rattle.msg_files.specs.Prelude.{first_refusal}
 use Rattle.msg_reading.specs.ScenarioChecks.{scenario_checks}
 use Rattle.msg_reading.specs.ScenarioDenotes.{scenario_of}
 use Rattle.msg_files.specs.declared.refusal.Refusal.{Refusal}

@@ -7,9 +7,7 @@ use Rattle.serde_json.specs.Data.{Data}
 use Rattle.serde_json.specs.Find.{as_str, as_bool}
 use Rattle.msg_system.specs.declared.op.Op.{Op}
 use Rattle.msg_system.specs.declared.op.Op.TheVariants.{Forward, Sum}
-use Rattle.msg_files.specs.Json.{Text, elements, value_at, is_list, is_number, number_up_to}
-use Rattle.msg_files.specs.Check.{Check, needs}
-use Rattle.msg_files.specs.Checks.{a_value, a_limit, few_values, has_key, object_checks}
+use Rattle.msg_files.specs.Prelude.{Check, Text, a_limit, a_value, elements, few_values, has_key, is_list, is_number, needs, number_up_to, object_checks, value_at}
 use Rattle.msg_reading.specs.Names.{Declared, is_name, position_of, type_number, resource_number, system_number}
 use Rattle.msg_reading.specs.ScenarioDenotes.{text, inside_nots, nots_round, kind_of, kind_in, conditions_in, join_in, start_of, start_in, ops_of, with_type, with_resource, with_system, no_names, types_in, resources_in, held_in, systems_in, rules_in, frames_in, type_names, part_names, all_names}
 use Rattle.msg_reading.specs.declared.kind.Kind.{Kind}

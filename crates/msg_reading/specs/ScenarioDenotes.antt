@@ -13,8 +13,7 @@ use Rattle.msg_system.specs.declared.start.Start.TheVariants.{Zero, Current}
 use Rattle.msg_frames.specs.declared.frame.Frame.{Frame}
 use Rattle.msg_frames.specs.declared.place.Place.{Place}
 use Rattle.msg_order.specs.declared.rule.Rule.{Rule}
-use Rattle.msg_files.specs.Denotes.{values_of}
-use Rattle.msg_files.specs.Json.{Text, elements, value_at, whole, natural, all_some}
+use Rattle.msg_files.specs.Prelude.{Text, all_some, elements, natural, value_at, values_of, whole}
 use Rattle.msg_reading.specs.Names.{Declared, type_number, resource_number, system_number}
 use Rattle.msg_reading.specs.declared.kind.Kind.{Kind}
 use Rattle.msg_reading.specs.declared.kind.Kind.TheVariants.{Script, Relay, Tally}

@@ -1,6 +1,6 @@
 ghost use Rattle.std.specs.Prelude.{◌≡◌, ◌⊎◌, IfErr, IfOk, IsTrue, string_bytes};
 ghost use Rattle.std.specs.List.{list_all};
-ghost use Rattle.msg_reading.specs.Names.{is_name, is_name_character};
+ghost use Rattle.msg_reading.specs.Prelude.{is_name, is_name_character};
 
 use crate::Refusal;
 use crate::limits::MAX_NAME;
@@ -16,7 +16,7 @@ pub struct Name {
 
 impl Model for Name {
     ghost use Rattle.std.specs.Prelude.{string_bytes};
-    ghost use Rattle.msg_files.specs.Json.{Text};
+    ghost use Rattle.msg_files.specs.Prelude.{Text};
 
     ghost Value = { Text };
 

@@ -1,10 +1,9 @@
 // Scripts that may come to want of memory, and the engine of a scenario over them.
 ghost use Rattle.std.specs.Prelude.{◌≡◌, ◌≤◌, ◌+◌, Some, IfOk, OnOk, length, slice_get};
-ghost use Rattle.msg_system.specs.Systems.{new_system};
-ghost use Rattle.msg_exec.specs.Building.{EachIs};
-ghost use Rattle.msg_exec.specs.Engines.{StandsFor};
-ghost use Rattle.msg_scenario.specs.Making.{IsSystemAt};
-ghost use Rattle.msg_reading.specs.Runnable.{IsRunnable, state_of};
+ghost use Rattle.msg_system.specs.Prelude.{new_system};
+ghost use Rattle.msg_exec.specs.Prelude.{EachIs, StandsFor};
+ghost use Rattle.msg_scenario.specs.Prelude.{IsSystemAt};
+ghost use Rattle.msg_reading.specs.Prelude.{IsRunnable, state_of};
 
 use msg_exec::{EngineOf, Workers};
 use msg_scenario::{Scenario, SystemSpec, engine_of};

@@ -5,13 +5,9 @@ use Rattle.std.proofs.Math.Seq.{take-append_seam, take-length}
 use Rattle.std.proofs.lemmas.List.{length-append, take_more}
 use Rattle.std.specs.Io.KnownBytes.{Appends}
 use Rattle.std.proofs.KnownBytes.{Appends-nil, Appends-trans}
-use Rattle.msg_system.specs.Systems.{Meaning}
-use Rattle.msg_frames.specs.Accounts.{accounts_of}
-use Rattle.msg_exec.specs.Cores.{CoreStands}
-use Rattle.msg_exec.specs.Engines.{HasRunFrame, IsSpoiled, PostsFit, StandsFor, frames_of}
-use Rattle.msg_frames.specs.CompleteRun.{IsCompleteRun}
-use Rattle.msg_frames.specs.Frames.{IsFrame, IsRun, systems_in, State}
-use Rattle.msg_frames.specs.TurnLaws.{FrameKeeps, FramesKeepSystems}
+use Rattle.msg_system.specs.Prelude.{Meaning}
+use Rattle.msg_frames.specs.Prelude.{FrameKeeps, FramesKeepSystems, IsCompleteRun, IsFrame, IsRun, State, accounts_of, systems_in}
+use Rattle.msg_exec.specs.Prelude.{CoreStands, HasRunFrame, IsSpoiled, PostsFit, StandsFor, frames_of}
 use Rattle.msg_frames.specs.declared.account.Account.{Account}
 use Rattle.msg_exec.specs.declared.engine.EngineOf.{EngineOf}
 use Rattle.msg_exec.specs.declared.engine_core.Core.{Core}
@@ -19,11 +15,9 @@ use Rattle.msg_frames.specs.declared.frame.Frame.{Frame}
 use Rattle.msg_frames.specs.declared.log.Log.{Log}
 use Rattle.msg_system.specs.declared.run_fault.RunFault.{RunFault}
 use Rattle.msg_system.specs.declared.run_fault.RunFault.TheVariants.{BadOrder, NoMemory, Spoiled}
-use Rattle.msg_files.specs.Json.{Text}
-use Rattle.msg_scenario.specs.ReportText.{accounts_text, frame_text, frames_text, report_text, text_so_far}
-use Rattle.msg_scenario.specs.Reported.{HasPrinted, HasReported, HasRunOut, HasStopped}
-use Rattle.msg_reading.specs.Runnable.{PostsAreToTypes, state_of}
-use Rattle.msg_files.specs.Sinks.{AppendsPrefix}
+use Rattle.msg_files.specs.Prelude.{AppendsPrefix, Text}
+use Rattle.msg_scenario.specs.Prelude.{HasPrinted, HasReported, HasRunOut, HasStopped, accounts_text, frame_text, frames_text, report_text, text_so_far}
+use Rattle.msg_reading.specs.Prelude.{PostsAreToTypes, state_of}
 use Rattle.msg_reading.specs.declared.scenario.Scenario.{Scenario}
 use Rattle.msg_files.proofs.Puts.{AppendsPrefix_after}
 use Rattle.msg_scenario.proofs.ReportFrames.{frames_text-none, frames_text_more}

@@ -1,4 +1,5 @@
 pub mod Making
+pub mod Prelude
 pub mod ReportText
 pub mod Reported
 pub mod Ran

@@ -1,6 +1,6 @@
 -- Which systems an engine of a scenario is made of.
 use Rattle.std.specs.Prelude.{◌≡◌, ℕ, List, Some, slice_get}
-use Rattle.msg_system.specs.Systems.{Meaning, new_system}
+use Rattle.msg_system.specs.Prelude.{Meaning, new_system}
 use Rattle.msg_reading.specs.declared.scenario.SystemSpec.{SystemSpec}
 
 module _ {S : Type 0} (meaning : S → Meaning) where

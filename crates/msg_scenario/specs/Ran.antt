@@ -1,16 +1,14 @@
 -- What a run of a scenario leaves in a sink, and what became of its engine.
 use Rattle.std.specs.Prelude.{ℕ, List, Option}
 use Rattle.std.specs.Io.KnownBytes.{Appends}
-use Rattle.msg_system.specs.Systems.{Meaning}
-use Rattle.msg_frames.specs.Accounts.{accounts_of}
-use Rattle.msg_exec.specs.Engines.{StandsFor}
-use Rattle.msg_frames.specs.CompleteRun.{IsCompleteRun}
-use Rattle.msg_frames.specs.Frames.{State}
+use Rattle.msg_system.specs.Prelude.{Meaning}
+use Rattle.msg_frames.specs.Prelude.{IsCompleteRun, State, accounts_of}
+use Rattle.msg_exec.specs.Prelude.{StandsFor}
 use Rattle.msg_exec.specs.declared.engine.EngineOf.{EngineOf}
 use Rattle.msg_frames.specs.declared.log.Log.{Log}
 use Rattle.msg_scenario.specs.ReportText.{report_text}
 use Rattle.msg_scenario.specs.Reported.{HasRunOut, HasStopped}
-use Rattle.msg_reading.specs.Runnable.{state_of}
+use Rattle.msg_reading.specs.Prelude.{state_of}
 use Rattle.msg_reading.specs.declared.scenario.Scenario.{Scenario}
 
 -- All frames were run, with all that a run comes to, and the sink took the report of the scenario, and no more.

@@ -18,7 +18,7 @@ use Rattle.msg_frames.specs.declared.log.Log.{Log}
 use Rattle.msg_frames.specs.declared.log.Turn.{Turn}
 use Rattle.msg_frames.specs.declared.log.Outcome.{Outcome}
 use Rattle.msg_frames.specs.declared.log.Outcome.TheVariants.{Skipped, Ran}
-use Rattle.msg_files.specs.Json.{Text}
+use Rattle.msg_files.specs.Prelude.{Text}
 use Rattle.msg_reading.specs.declared.scenario.Scenario.{Scenario}
 use Rattle.msg_reading.specs.declared.scenario.SystemSpec.{SystemSpec}
 

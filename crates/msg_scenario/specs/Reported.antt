@@ -1,16 +1,14 @@
 -- What a report leaves: which frames were run, what the sink took, and what the engine stands for.
 use Rattle.std.specs.Prelude.{◌≡◌, ◌⊎◌, ℕ, ◌<◌, ◌-◌, ◌^◌, min, List, length, take, Option}
 use Rattle.std.specs.Io.KnownBytes.{Appends}
-use Rattle.msg_system.specs.Systems.{Meaning}
-use Rattle.msg_frames.specs.Accounts.{accounts_of}
-use Rattle.msg_exec.specs.Engines.{IsSpoiled, StandsFor, frames_of}
-use Rattle.msg_frames.specs.CompleteRun.{IsCompleteRun}
-use Rattle.msg_frames.specs.Frames.{IsRun, State}
+use Rattle.msg_system.specs.Prelude.{Meaning}
+use Rattle.msg_frames.specs.Prelude.{IsCompleteRun, IsRun, State, accounts_of}
+use Rattle.msg_exec.specs.Prelude.{IsSpoiled, StandsFor, frames_of}
 use Rattle.msg_exec.specs.declared.engine.EngineOf.{EngineOf}
 use Rattle.msg_frames.specs.declared.log.Log.{Log}
 use Rattle.msg_scenario.specs.ReportText.{frames_text, report_text, text_so_far}
-use Rattle.msg_reading.specs.Runnable.{state_of}
-use Rattle.msg_files.specs.Sinks.{AppendsAtLeast, AppendsPrefix}
+use Rattle.msg_reading.specs.Prelude.{state_of}
+use Rattle.msg_files.specs.Prelude.{AppendsAtLeast, AppendsPrefix}
 use Rattle.msg_reading.specs.declared.scenario.Scenario.{Scenario}
 
 -- the first frames of a scenario, as many as there are logs, have these logs and leave this state

@@ -1,10 +1,9 @@
 // The engine of a scenario.
 ghost use Rattle.std.specs.Prelude.{◌≡◌, ◌≤◌, IfOk, length, map};
-ghost use Rattle.msg_world.specs.Parts.{IsWhole, PartsStand};
-ghost use Rattle.msg_exec.specs.Building.{EachIs};
-ghost use Rattle.msg_exec.specs.Engines.{StandsFor};
-ghost use Rattle.msg_scenario.specs.Making.{IsSystemAt};
-ghost use Rattle.msg_reading.specs.Runnable.{IsRunnable, first_world, places_of, state_of};
+ghost use Rattle.msg_world.specs.Prelude.{IsWhole, PartsStand};
+ghost use Rattle.msg_exec.specs.Prelude.{EachIs, StandsFor};
+ghost use Rattle.msg_scenario.specs.Prelude.{IsSystemAt};
+ghost use Rattle.msg_reading.specs.Prelude.{IsRunnable, first_world, places_of, state_of};
 
 use crate::Scenario;
 use msg_exec::{BuildRefusal, EngineOf, Items, NoMemory, Place};

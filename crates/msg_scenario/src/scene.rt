@@ -1,12 +1,10 @@
 // A scenario, run to its end by an engine that is made for it.
 ghost use Rattle.std.specs.Prelude.{◌≡◌, ◌≢◌, ◌⊎◌, Ok, Err, IfOk, OnErr, OnOk, length};
 ghost use Rattle.msg_system.specs.declared.run_fault.RunFault.TheVariants.{BadOrder, NoMemory as NoRoom, Spoiled};
-ghost use Rattle.msg_exec.specs.Building.{EachIs};
-ghost use Rattle.msg_files.specs.Sinks.{one_more};
-ghost use Rattle.msg_reading.specs.Runnable.{IsRunnable};
-ghost use Rattle.msg_scenario.specs.Making.{IsSystemAt};
-ghost use Rattle.msg_scenario.specs.Ran.{IsReported, RanOut, Stopped};
-ghost use Rattle.msg_scenario.specs.Reported.{HasPrinted};
+ghost use Rattle.msg_exec.specs.Prelude.{EachIs};
+ghost use Rattle.msg_files.specs.Prelude.{one_more};
+ghost use Rattle.msg_reading.specs.Prelude.{IsRunnable};
+ghost use Rattle.msg_scenario.specs.Prelude.{HasPrinted, IsReported, IsSystemAt, RanOut, Stopped};
 
 use crate::Scenario;
 use crate::building::engine_of;

@@ -4,9 +4,8 @@ use Rattle.std.specs.Prelude.{◌↔◌}
 use Rattle.std.proofs.Math.Bool.{and-true}
 use Rattle.std.proofs.lemmas.Bool.{or_parts}
 use Rattle.msg_world.specs.declared.access.Access.{Access}
-use Rattle.msg_world.specs.Access.{IsClash, Part, OfType, OfResource, Registry, reads, writes, uses}
-use Rattle.msg_system.specs.declared.op.Op.{Op}
-use Rattle.msg_system.specs.Needs.{HasClash, IsAccessOf, Needs, needs_any, program_needs, some_op_reads, some_op_writes}
+use Rattle.msg_world.specs.Prelude.{IsClash, Part, OfType, OfResource, Registry, reads, writes, uses}
+use Rattle.msg_system.specs.Prelude.{HasClash, IsAccessOf, Needs, Op, needs_any, program_needs, some_op_reads, some_op_writes}
 
 or_nothing : (a b : Bool) → b ≡ false → (a || b) ≡ a
 or_nothing true b h = refl

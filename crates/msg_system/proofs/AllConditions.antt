@@ -2,8 +2,8 @@
 use Rattle.std.proofs.Common.{◌≡◌, ℕ, ◌+◌, ◌<◌, ◌++◌, Bool, true, false, ◌&&◌, List, [], ◌∷◌, length, map, take, drop, get_or, refl, sym, ap, ◌∙◌}
 use Rattle.std.proofs.Math.Bool.{and-true}
 use Rattle.std.proofs.lemmas.List.{get_or-map, take_more}
-use Rattle.msg_world.specs.World.{WorldState}
-use Rattle.msg_system.specs.Conditions.{Asked, all_hold, answer}
+use Rattle.msg_world.specs.Prelude.{WorldState}
+use Rattle.msg_system.specs.Prelude.{Asked, all_hold, answer}
 use Rattle.msg_system.proofs.InPlace.{not_reached}
 
 and_assoc : (a b c : Bool) → (a && (b && c)) ≡ ((a && b) && c)

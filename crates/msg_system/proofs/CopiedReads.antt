@@ -3,7 +3,7 @@ use Rattle.std.proofs.Common.{◌≡◌, ℕ, ◌+◌, ◌≤◌, ◌++◌, List
 use Rattle.std.specs.Prelude.{unwrap_or}
 use Rattle.std.proofs.lemmas.List.{length-append, length-map, take-map, take_at, take_all}
 use Rattle.msg_buffer.specs.declared.instance.Instance.{Instance}
-use Rattle.msg_buffer.specs.Reader.{at_most}
+use Rattle.msg_buffer.specs.Prelude.{at_most}
 
 module _ {M X : Type 0} (f : Instance M → X) (unread : List (Instance M)) (copied : List X) where
   -- as many as were asked for

@@ -4,19 +4,9 @@ use Rattle.std.specs.Prelude.{option_to_list, IsTrue}
 use Rattle.std.proofs.lemmas.Bool.{cases_Bool, cases_eq, false≢true}
 use Rattle.std.proofs.Math.Seq.{drop-append_seam}
 use Rattle.msg_world.specs.declared.lent.Lent.{Lent}
-use Rattle.msg_world.specs.Loan.{SameLoan, taken_of}
-use Rattle.msg_world.specs.Parts.{Parts}
-use Rattle.msg_world.specs.World.{WorldState}
-use Rattle.msg_system.specs.declared.op.Op.{Op}
-use Rattle.msg_system.specs.declared.reply.Reply.{Reply}
-use Rattle.msg_system.specs.declared.start.Start.{Start}
-use Rattle.msg_system.specs.Behaviors.{behaves}
-use Rattle.msg_system.specs.Needs.{Needs, is_resource, op_needs}
-use Rattle.msg_system.specs.OpRuns.{IsAfterOp, OpRan}
+use Rattle.msg_world.specs.Prelude.{Parts, SameLoan, WorldState, taken_of}
+use Rattle.msg_system.specs.Prelude.{AfterProgram, Covers, IsAfterOp, Meaning, Needs, Op, OpRan, Ran, Reply, Start, after_at_most, after_op, behaves, is_resource, one_more, op_needs, ops_answered, turn}
 use Rattle.msg_system.specs.inner.TurnRuns.{AreAnswered, IsAfterProgram, TurnRan, next_kept}
-use Rattle.msg_system.specs.Programs.{AfterProgram, after_op}
-use Rattle.msg_system.specs.Promises.{Covers, Ran}
-use Rattle.msg_system.specs.Systems.{Meaning, after_at_most, one_more, ops_answered, turn}
 use Rattle.msg_system.proofs.Lendings.{can_be_shown}
 use Rattle.msg_system.proofs.Runs.{written_stand}
 use Rattle.msg_system.proofs.Turns.{IsKept, ops_answered-snoc}

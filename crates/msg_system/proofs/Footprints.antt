@@ -4,25 +4,11 @@ use Rattle.std.specs.Prelude.{◌==◌, ℤ, IsTrue, nat_lt, if◌then◌else◌
 use Rattle.std.specs.Ordering.{int_eq}
 use Rattle.std.proofs.Math.Bool.{or-false}
 use Rattle.std.proofs.lemmas.Bool.{cases_Bool, false≢true, or_left, or_right}
-use Rattle.msg_buffer.specs.History.{History, clear, count, oldest, present, write, message_of}
-use Rattle.msg_buffer.specs.Reader.{first, missed, unread}
+use Rattle.msg_buffer.specs.Prelude.{History, clear, count, first, message_of, missed, oldest, present, unread, write}
 use Rattle.msg_world.specs.declared.record.Record.{Record}
-use Rattle.msg_world.specs.Access.{Part, OfType, OfResource, Registry, same_part}
-use Rattle.msg_world.specs.World.{WorldState, by, content, signalled, signalled_marks, with_history, with_value_of}
-use Rattle.msg_system.specs.declared.condition.Condition.{Condition}
-use Rattle.msg_system.specs.declared.condition.Probe.{Probe}
-use Rattle.msg_system.specs.declared.condition.Probe.TheVariants.{OnMessage, ResourceEquals}
-use Rattle.msg_system.specs.declared.op.Op.{Op}
-use Rattle.msg_system.specs.declared.op.Op.TheVariants.{Write, Batch, Read, Len, Missed, Clear, Forward, Sum, Get, Set, Add, Drain, Signal}
-use Rattle.msg_system.specs.declared.program.Program.{Program}
-use Rattle.msg_system.specs.declared.reply.Reply.{Reply}
+use Rattle.msg_world.specs.Prelude.{OfResource, OfType, Part, Registry, WorldState, after_signal, by, content, same_part, signalled_marks, with_history, with_value_of}
+use Rattle.msg_system.specs.Prelude.{Add, AfterJob, AfterProgram, Agree, Asked, Batch, Clear, Condition, ConditionFootprint, Drain, Forward, Get, HasFootprint, IsWithin, Job, JobFootprint, Len, Meaning, Missed, Needs, OnMessage, Op, OpFootprint, Probe, Program, ProgramFootprint, Read, Reply, ResourceEquals, Set, Signal, Sum, TurnFootprint, Write, Zero, after_asking, after_at_most, after_op, after_turn, again_by, all_hold, answer, condition_needs, conditions_of, found, given_by_job, given_by_op, given_by_program, inverted, is_part, is_resource, next_op, numbers_for, of_program, one_more, op_needs, op_parts, place_after, place_after_read, plus, probe_part, program_needs, some_condition_reads, sum_onto, told, took, turn, with_conditions, with_place, write_reply}
 use Rattle.msg_system.specs.declared.reply.Reply.TheVariants as reply
-use Rattle.msg_system.specs.declared.start.Start.TheVariants.{Zero}
-use Rattle.msg_system.specs.Conditions.{AfterJob, Asked, Job, after_asking, all_hold, answer, found, inverted, place_after, conditions_of}
-use Rattle.msg_system.specs.Footprints.{Agree, ConditionFootprint, IsWithin, JobFootprint, HasFootprint, OpFootprint, ProgramFootprint, TurnFootprint, given_by_job, given_by_op, given_by_program}
-use Rattle.msg_system.specs.Needs.{Needs, condition_needs, is_part, is_resource, op_needs, op_parts, probe_part, program_needs, some_condition_reads, with_conditions}
-use Rattle.msg_system.specs.Programs.{AfterProgram, after_op, again_by, numbers_for, place_after_read, plus, sum_onto, took, with_place, write_reply}
-use Rattle.msg_system.specs.Systems.{Meaning, after_at_most, after_turn, next_op, of_program, one_more, told, turn}
 use Rattle.msg_system.proofs.Runs.{same_part_refl}
 use Rattle.msg_system.proofs.Turns.{IsKept, next_kept_to, program_so_far}
 
@@ -38,7 +24,7 @@ value_kept s r z (OfType t) other = refl
 value_kept s r z (OfResource q) other = rw other refl
 value_kept s r z Registry other = refl
 
-marks_kept : (s : WorldState) (p : Part) → same_part p Registry ≡ false → content p (signalled s) ≡ content p s
+marks_kept : (s : WorldState) (p : Part) → same_part p Registry ≡ false → content p (after_signal s) ≡ content p s
 marks_kept s (OfType t) other = refl
 marks_kept s (OfResource r) other = refl
 marks_kept s Registry other = absurd (false≢true (sym other))
@@ -71,7 +57,7 @@ module _ (m : Part → Bool) (s t : WorldState) (agree : Agree m s t) where
   values_alike k x y e (OfResource r) h = ap (λ z. if r == k then z else s.resources r) e ∙ ap (λ z. if r == k then y else z) (agree (OfResource r) h)
   values_alike k x y e Registry h = agree Registry h
 
-  signals_alike : Agree m (signalled s) (signalled t)
+  signals_alike : Agree m (after_signal s) (after_signal t)
   signals_alike (OfType u) h = agree (OfType u) h
   signals_alike (OfResource r) h = agree (OfResource r) h
   signals_alike Registry h = ap signalled_marks (agree Registry h)

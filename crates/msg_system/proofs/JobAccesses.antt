@@ -5,11 +5,8 @@ use Rattle.std.proofs.Math.Bool.{and-false, or-false}
 use Rattle.std.proofs.lemmas.Bool.{false≢true, or_parts, or_right}
 use Rattle.std.proofs.lemmas.List.Folds.{list_any_at, list_any_more}
 use Rattle.msg_world.specs.declared.access.Access.{Access}
-use Rattle.msg_world.specs.Access.{Part, reads, uses, writes}
-use Rattle.msg_world.specs.Loan.{access_of}
-use Rattle.msg_system.specs.declared.condition.Condition.{Condition}
-use Rattle.msg_system.specs.Needs.{IsAccessOf, Needs, condition_needs, needs_of, some_condition_reads, with_conditions}
-use Rattle.msg_system.specs.Promises.{JobsCover}
+use Rattle.msg_world.specs.Prelude.{Part, access_of, reads, uses, writes}
+use Rattle.msg_system.specs.Prelude.{Condition, IsAccessOf, JobsCover, Needs, condition_needs, needs_of, some_condition_reads, with_conditions}
 use Rattle.msg_system.proofs.Runs.{complete_covers}
 
 -- what is read with one condition more: what is written isn't listed

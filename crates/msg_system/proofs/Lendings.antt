@@ -5,15 +5,11 @@ use Rattle.std.specs.List.{AllZip}
 use Rattle.std.proofs.lemmas.Bool.{cases_Bool, cases_lt, false≢true}
 use Rattle.std.proofs.lemmas.Bool.Decides.{nat_tests}
 use Rattle.msg_buffer.specs.declared.instance.Written.{Written}
-use Rattle.msg_buffer.specs.History.{History, count, has_room, write, stamped}
-use Rattle.msg_buffer.specs.Kept.{Kept}
-use Rattle.msg_buffer.specs.StandsFor.{StandsFor}
+use Rattle.msg_buffer.specs.Prelude.{History, Kept, StandsFor, count, has_room, stamped, write}
 use Rattle.msg_world.specs.declared.lent.Lent.{Lent}
 use Rattle.msg_world.specs.declared.record.Record.{Record}
-use Rattle.msg_world.specs.Access.{Part, OfType, OfResource, writes}
-use Rattle.msg_world.specs.Loan.{LoanStands, shown, writable}
-use Rattle.msg_world.specs.World.{WorldState}
-use Rattle.msg_system.specs.Programs.{numbers_for}
+use Rattle.msg_world.specs.Prelude.{LoanStands, OfResource, OfType, Part, WorldState, shown, writable, writes}
+use Rattle.msg_system.specs.Prelude.{numbers_for}
 
 -- what may be written is shown
 pub writable_is_shown : (p : Part) (l : Lent) → IsSome (writable p l) → shown p l ≡ writable p l

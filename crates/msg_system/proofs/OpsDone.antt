@@ -3,17 +3,12 @@ use Rattle.std.proofs.Common.{◌≡◌, ℕ, List, length, Option, None, refl, 
 use Rattle.std.specs.Prelude.{ℤ}
 use Rattle.msg_buffer.specs.declared.instance.Written.{Written}
 use Rattle.std.proofs.lemmas.List.{length-map}
-use Rattle.msg_buffer.specs.History.{History, write, message_of}
-use Rattle.msg_buffer.specs.Reader.{given}
+use Rattle.msg_buffer.specs.Prelude.{History, given, message_of, write}
 use Rattle.msg_world.specs.declared.lent.Lent.{Lent}
 use Rattle.msg_world.specs.declared.record.Record.{Record}
-use Rattle.msg_world.specs.Loan.{LoanStands}
-use Rattle.msg_world.specs.World.{WorldState, with_history, with_value_of}
-use Rattle.msg_system.specs.declared.op.Op.TheVariants.{Forward, Sum}
+use Rattle.msg_world.specs.Prelude.{LoanStands, WorldState, with_history, with_value_of}
+use Rattle.msg_system.specs.Prelude.{Forward, IsAfterOp, Sum, Took, after_op, again_by, numbers_for, place_after_read, sets_to, sum_onto, took, with_place, write_reply, writes_all}
 use Rattle.msg_system.specs.declared.reply.Reply.TheVariants as reply
-use Rattle.msg_system.specs.declared.reply.Took.{Took}
-use Rattle.msg_system.specs.OpRuns.{IsAfterOp}
-use Rattle.msg_system.specs.Programs.{after_op, again_by, numbers_for, place_after_read, sets_to, sum_onto, took, with_place, write_reply, writes_all}
 
 -- what was taken is as long as what was given
 pub as_long : (k : Took) (h : History Record) (place : ℕ) (limit : Option ℕ) → k ≡ took h place limit → length k.items ≡ length (given h place limit)

@@ -6,18 +6,9 @@ use Rattle.std.proofs.lemmas.List.{get_or_default, get_or-set_same, get_or-set_o
 use Rattle.std.proofs.lemmas.List.Folds.{list_any_at}
 use Rattle.msg_world.specs.declared.access.Access.{Access}
 use Rattle.msg_world.specs.declared.lent.Lent.{Lent}
-use Rattle.msg_world.specs.Access.{Part, OfType, OfResource, Registry, reads, same_part, writes}
-use Rattle.msg_world.specs.Loan.{LoanStands, SameLoan, shown, taken_of, writable}
-use Rattle.msg_world.specs.Parts.{Parts, StuffStands, slot}
-use Rattle.msg_world.specs.World.{WorldState, content}
-use Rattle.msg_system.specs.declared.cursors.Cursors.{Cursors}
-use Rattle.msg_system.specs.declared.op.Op.{Op}
-use Rattle.msg_system.specs.declared.reply.Reply.{Reply}
-use Rattle.msg_system.specs.Needs.{Needs, is_part, is_resource, op_needs, op_parts, program_needs, some_op_reads, some_op_writes}
-use Rattle.msg_system.specs.OpRuns.{IsAfterOp, OpRan, places_of}
+use Rattle.msg_world.specs.Prelude.{LoanStands, OfResource, OfType, Part, Parts, Registry, SameLoan, StuffStands, WorldState, content, reads, same_part, shown, slot, taken_of, writable, writes}
+use Rattle.msg_system.specs.Prelude.{AfterOp, AfterProgram, CompleteCovers, Covers, Cursors, IsAfterOp, Needs, OneOpIsCovered, Op, OpRan, Reply, WrittenIsAll, WrittenStand, after_op, after_program, is_part, is_resource, op_needs, op_parts, places_of, program_needs, some_op_reads, some_op_writes, with_place}
 use Rattle.msg_system.specs.inner.TurnRuns.{HasReplies, IsAfterProgram}
-use Rattle.msg_system.specs.Programs.{AfterOp, AfterProgram, after_op, after_program, with_place}
-use Rattle.msg_system.specs.Promises.{CompleteCovers, Covers, OneOpIsCovered, WrittenIsAll, WrittenStand}
 use Rattle.msg_system.proofs.Lendings.{can_be_shown}
 
 pub same_part_refl : (p : Part) → same_part p p ≡ true

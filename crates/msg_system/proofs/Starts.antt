@@ -3,10 +3,7 @@ use Rattle.std.proofs.Common.{◌≡◌, ℕ, zero, suc, ◌+◌, ◌<◌, ◌�
 use Rattle.std.specs.Prelude.{if◌then◌else◌}
 use Rattle.std.proofs.lemmas.Bool.{cases_eq}
 use Rattle.std.proofs.lemmas.List.{get_or-set_same, get_or-set_other}
-use Rattle.msg_system.specs.declared.cursors.Cursors.{Cursors}
-use Rattle.msg_system.specs.declared.start.Start.{Start}
-use Rattle.msg_system.specs.OpRuns.{places_of}
-use Rattle.msg_system.specs.Systems.{start_place}
+use Rattle.msg_system.specs.Prelude.{Cursors, Start, places_of, start_place}
 use Rattle.msg_system.proofs.Runs.{moved}
 
 -- a list of nothing but zeros

@@ -6,19 +6,10 @@ use Rattle.std.proofs.lemmas.Bool.{and_from, and_parts, cases_Bool, eqb-true, fa
 use Rattle.std.proofs.lemmas.List.{append-nil, length-take-le, take_more, take_all}
 use Rattle.std.proofs.lemmas.List.Folds.{list_any_at}
 use Rattle.std.proofs.lemmas.Option.{get_or_from_slice_get, none-some, same_Some, slice_get_cases, slice_get_past, slice_get_within}
-use Rattle.msg_world.specs.Access.{Part, OfType, OfResource, Registry, same_part}
+use Rattle.msg_world.specs.Prelude.{OfResource, OfType, Part, Parts, Registry, SameLoan, WorldState, same_part, taken_of}
 use Rattle.msg_world.specs.declared.lent.Lent.{Lent}
-use Rattle.msg_world.specs.Loan.{SameLoan, taken_of}
-use Rattle.msg_world.specs.Parts.{Parts}
-use Rattle.msg_world.specs.World.{WorldState}
-use Rattle.msg_system.specs.declared.op.Op.{Op}
-use Rattle.msg_system.specs.declared.program.Program.{Program}
-use Rattle.msg_system.specs.declared.reply.Reply.{Reply}
-use Rattle.msg_system.specs.Needs.{Needs, is_none_or, is_part, is_resource, keeps_to, may_read, op_needs, op_parts, program_needs, some_op_reads, some_op_writes}
+use Rattle.msg_system.specs.Prelude.{AfterOp, AfterProgram, IsInOrder, Meaning, Needs, OneOpIsATurn, Op, Program, Ran, Reply, WrittenStand, after_at_most, after_op, after_program, if_kept, is_none_or, is_part, is_resource, keeps_to, may_read, next_op, of_program, one_more, only, op_needs, op_parts, ops_answered, program_needs, some_op_reads, some_op_writes, turn}
 use Rattle.msg_system.specs.inner.TurnRuns.{HasReplies, ProgramRan}
-use Rattle.msg_system.specs.Programs.{AfterOp, AfterProgram, after_op, after_program}
-use Rattle.msg_system.specs.Promises.{OneOpIsATurn, Ran, WrittenStand}
-use Rattle.msg_system.specs.Systems.{IsInOrder, Meaning, after_at_most, if_kept, next_op, of_program, one_more, only, ops_answered, turn}
 use Rattle.msg_system.proofs.Runs.{after_program-snoc, same_part_refl, written_stand}
 
 -- ---- a program keeps to what it needs

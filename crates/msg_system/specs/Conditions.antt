@@ -1,9 +1,8 @@
 -- What a condition answers, and a job: all its conditions, and then its program or nothing.
 use Rattle.std.specs.Prelude.{ℕ, zero, suc, Bool, true, not, ◌&&◌, nat_lt, List, [], ◌∷◌, length, map, Option, None, Some, if◌then◌else◌}
 use Rattle.std.specs.Ordering.{int_eq}
-use Rattle.msg_buffer.specs.History.{count}
-use Rattle.msg_buffer.specs.Reader.{unread}
-use Rattle.msg_world.specs.World.{WorldState}
+use Rattle.msg_buffer.specs.Prelude.{count, unread}
+use Rattle.msg_world.specs.Prelude.{WorldState}
 use Rattle.msg_system.specs.declared.condition.Condition.{Condition}
 use Rattle.msg_system.specs.declared.condition.Probe.{Probe}
 use Rattle.msg_system.specs.declared.condition.Probe.TheVariants.{OnMessage, ResourceEquals}

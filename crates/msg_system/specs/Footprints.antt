@@ -1,7 +1,6 @@
 -- What ops, turns, conditions and jobs depend on, and what they change: no more than they need.
 use Rattle.std.specs.Prelude.{◌≡◌, ℕ, Bool, false, IsTrue, List, Option}
-use Rattle.msg_world.specs.Access.{Part}
-use Rattle.msg_world.specs.World.{WorldState, content}
+use Rattle.msg_world.specs.Prelude.{Part, WorldState, content}
 use Rattle.msg_system.specs.declared.op.Op.{Op}
 use Rattle.msg_system.specs.declared.reply.Reply.{Reply}
 use Rattle.msg_system.specs.Conditions.{AfterJob, Asked, Job, after_asking, after_job, answer, conditions_of}

@@ -3,6 +3,7 @@ pub mod Conditions
 pub mod Footprints
 pub mod Needs
 pub mod OpRuns
+pub mod Prelude
 pub mod Programs
 pub mod Promises
 pub mod Systems

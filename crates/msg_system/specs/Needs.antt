@@ -2,7 +2,7 @@
 use Rattle.std.specs.Prelude.{◌≡◌, ℕ, Bool, true, false, not, ◌&&◌, ◌||◌, Option, Some, None, List, option_and_then, slice_get}
 use Rattle.std.specs.List.{list_any}
 use Rattle.msg_world.specs.declared.access.Access.{Access}
-use Rattle.msg_world.specs.Access.{Overlap, Part, OfType, OfResource, Registry, reads, same_part, writes}
+use Rattle.msg_world.specs.Prelude.{Overlap, Part, OfType, OfResource, Registry, reads, same_part, writes}
 use Rattle.msg_system.specs.declared.op.Op.{Op}
 use Rattle.msg_system.specs.declared.op.Op.TheVariants.{Write, Batch, Read, Len, Missed, Clear, Forward, Sum, Get, Set, Add, Drain, Signal}
 use Rattle.msg_system.specs.declared.condition.Condition.{Condition}

@@ -1,10 +1,8 @@
 -- What one op on a loan does, by the cursors of its system.
 use Rattle.std.specs.Prelude.{◌≡◌, ℕ, ◌<◌, IsSome, None, length, slice_index}
-use Rattle.msg_buffer.specs.History.{present}
-use Rattle.msg_buffer.specs.Reader.{given}
+use Rattle.msg_buffer.specs.Prelude.{given, present}
 use Rattle.msg_world.specs.declared.lent.Lent.{Lent}
-use Rattle.msg_world.specs.Loan.{LoanStands}
-use Rattle.msg_world.specs.World.{WorldState}
+use Rattle.msg_world.specs.Prelude.{LoanStands, WorldState}
 use Rattle.msg_system.specs.declared.cursors.Cursors.{Cursors}
 use Rattle.msg_system.specs.declared.op.Op.{Op}
 use Rattle.msg_system.specs.declared.op.Op.TheVariants.{Write, Batch, Read, Forward, Sum, Drain}

@@ -1,10 +1,7 @@
 -- What a box promises of its runs.
 use Rattle.std.specs.Prelude.{All, ◌≡◌, ℕ, ◌++◌, false, None, IfSome, IsSome, IsTrue, List, [], ◌∷◌, length}
 use Rattle.msg_world.specs.declared.lent.Lent.{Lent}
-use Rattle.msg_world.specs.Access.{Part, uses, writes}
-use Rattle.msg_world.specs.Loan.{IsComplete, LoanStands, SameLoan, access_of, shown, taken_of, writable}
-use Rattle.msg_world.specs.Parts.{Parts, PartsStand, StuffStands, slot}
-use Rattle.msg_world.specs.World.{WorldState, content}
+use Rattle.msg_world.specs.Prelude.{IsComplete, LoanStands, Part, Parts, PartsStand, SameLoan, StuffStands, WorldState, access_of, content, shown, slot, taken_of, uses, writable, writes}
 use Rattle.msg_system.specs.declared.condition.Condition.{Condition}
 use Rattle.msg_system.specs.declared.op.Op.{Op}
 use Rattle.msg_system.specs.declared.reply.Reply.{Reply}

@@ -1,7 +1,6 @@
 -- What a system means, and what its turn is.
 use Rattle.std.specs.Prelude.{◌≡◌, ℕ, zero, suc, ◌≤◌, ◌++◌, Option, Some, None, option_and_then, option_to_list, unwrap_or, List, [], ◌∷◌, length, slice_get, if◌then◌else◌}
-use Rattle.msg_world.specs.Access.{OfType}
-use Rattle.msg_world.specs.World.{WorldState}
+use Rattle.msg_world.specs.Prelude.{OfType, WorldState}
 use Rattle.msg_system.specs.declared.op.Op.{Op}
 use Rattle.msg_system.specs.declared.program.Program.{Program}
 use Rattle.msg_system.specs.declared.reply.Reply.{Reply}

@@ -1,6 +1,6 @@
 // Systems that decide by a behavior.
 ghost use Rattle.std.specs.Prelude.{◌≡◌, ◌≤◌, IfOk, OnOk, drop, length};
-ghost use Rattle.msg_world.specs.Loan.{SameLoan};
+ghost use Rattle.msg_world.specs.Prelude.{SameLoan};
 ghost use Rattle.msg_system.specs.Behaviors.{behaves};
 ghost use Rattle.msg_system.specs.Needs.{needs_of};
 ghost use Rattle.msg_system.specs.OpRuns.{places_of};

@@ -1,8 +1,6 @@
 // The cursors of a system.
 ghost use Rattle.std.specs.Prelude.{◌≡◌, ℕ};
-ghost use Rattle.msg_system.specs.Needs.{IsAccessOf, Needs};
-ghost use Rattle.msg_system.specs.OpRuns.{places_of};
-ghost use Rattle.msg_system.specs.Systems.{start_place, started_places};
+ghost use Rattle.msg_system.specs.Prelude.{IsAccessOf, Needs, places_of, start_place, started_places};
 
 use crate::{Access, Start};
 use msg_buffer::MessageCursor;

@@ -1,10 +1,7 @@
 // Conditions with cursors of their own.
 ghost use Rattle.std.specs.Prelude.{◌≡◌, All, map};
-ghost use Rattle.msg_world.specs.Loan.{LoanStands};
-ghost use Rattle.msg_world.specs.World.{WorldState};
-ghost use Rattle.msg_system.specs.Conditions.{after_asking, all_hold, answer, asked_started, inverted, new_asked};
-ghost use Rattle.msg_system.specs.Needs.{condition_needs};
-ghost use Rattle.msg_system.specs.Promises.{Covers};
+ghost use Rattle.msg_world.specs.Prelude.{LoanStands, WorldState};
+ghost use Rattle.msg_system.specs.Prelude.{Covers, after_asking, all_hold, answer, asked_started, condition_needs, inverted, new_asked};
 
 use crate::cursors::start_cursor;
 use crate::lending::{messages_of, value_of};

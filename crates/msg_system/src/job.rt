@@ -1,5 +1,5 @@
 // The access of a job.
-ghost use Rattle.msg_system.specs.Needs.{IsAccessOf, Needs, needs_of, with_conditions};
+ghost use Rattle.msg_system.specs.Prelude.{IsAccessOf, Needs, needs_of, with_conditions};
 
 use crate::{Access, Condition};
 

@@ -1,7 +1,5 @@
 // Laws: facts that hold of every op, program, condition and job, and need no code.
-ghost use Rattle.msg_system.specs.Footprints.{ConditionFootprint, JobFootprint, OpFootprint, ProgramFootprint, TurnFootprint};
-ghost use Rattle.msg_system.specs.Promises.{CompleteCovers, JobsCover, OneOpIsATurn, OneOpIsCovered, WrittenIsAll};
-ghost use Rattle.msg_system.specs.Systems.{IsInOrder};
+ghost use Rattle.msg_system.specs.Prelude.{CompleteCovers, ConditionFootprint, IsInOrder, JobFootprint, JobsCover, OneOpIsATurn, OneOpIsCovered, OpFootprint, ProgramFootprint, TurnFootprint, WrittenIsAll};
 
 /// What is done depends on no part but those that are needed, and changes no part but those that
 /// are written.

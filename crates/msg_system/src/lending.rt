@@ -1,12 +1,9 @@
 // What ops do to the parts that are lent to them.
 ghost use Rattle.std.specs.Prelude.{◌≡◌, ◌<◌, ℕ, [], ◌∷◌, IfOk, OnErr, OnOk, IsSome, length, map};
 ghost use Rattle.std.specs.Fn.{FnReturnsAt};
-ghost use Rattle.msg_buffer.specs.History.{clear, oldest, present, write, message_of};
-ghost use Rattle.msg_buffer.specs.StandsFor.{StandsFor};
-ghost use Rattle.msg_world.specs.Access.{OfResource, OfType};
-ghost use Rattle.msg_world.specs.Loan.{LoanStands, SameLoan, shown, writable};
-ghost use Rattle.msg_world.specs.World.{WorldState, with_history, with_value_of};
-ghost use Rattle.msg_system.specs.Programs.{numbers_for, sum_onto};
+ghost use Rattle.msg_buffer.specs.Prelude.{StandsFor, clear, message_of, oldest, present, write};
+ghost use Rattle.msg_world.specs.Prelude.{LoanStands, OfResource, OfType, SameLoan, WorldState, shown, with_history, with_value_of, writable};
+ghost use Rattle.msg_system.specs.Prelude.{numbers_for, sum_onto};
 
 use crate::{Items, NoMemory};
 use msg_buffer::{Instance, Messages, WriteRefusal, Written};

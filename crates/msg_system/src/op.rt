@@ -1,5 +1,5 @@
 ghost use Rattle.std.specs.Prelude.{◌≡◌, ◌||◌, ◌<◌, ℕ, ℤ, List, IfOk, OnErr, OnOk, length};
-ghost use Rattle.msg_world.specs.Access.{Part, reads, writes};
+ghost use Rattle.msg_world.specs.Prelude.{Part, reads, writes};
 
 use crate::{Access, Cursors, Items, NoMemory, Reply, steps};
 use msg_world::{Lent, ResNo, TypeNo};
@@ -36,7 +36,7 @@ pub enum Op {
 }
 
 impl Op {
-    ghost use Rattle.msg_world.specs.Loan.{SameLoan};
+    ghost use Rattle.msg_world.specs.Prelude.{SameLoan};
     ghost use Rattle.msg_system.specs.Needs.{keeps_to, needs_of, op_needs, type_read};
     ghost use Rattle.msg_system.specs.OpRuns.{MayBeRefused, OpRan, places_of};
     ghost use Rattle.msg_system.specs.Promises.{Covers};

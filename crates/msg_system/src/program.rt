@@ -11,7 +11,7 @@ pub struct Program {
 }
 
 impl Program {
-    ghost use Rattle.msg_world.specs.Access.{IsClash};
+    ghost use Rattle.msg_world.specs.Prelude.{IsClash};
     ghost use Rattle.msg_system.specs.Needs.{HasClash, IsAccessOf, program_needs};
 
     /// What its ops read and write.

@@ -1,10 +1,8 @@
 // Reading what is unread of a type.
 ghost use Rattle.std.specs.Prelude.{◌≡◌, ◌+◌, ◌<◌, IfOk, OnErr, OnOk, length, map};
-ghost use Rattle.msg_buffer.specs.History.{History, message_of};
-ghost use Rattle.msg_buffer.specs.Reader.{first, given};
-ghost use Rattle.msg_buffer.specs.StandsFor.{StandsFor};
+ghost use Rattle.msg_buffer.specs.Prelude.{History, StandsFor, first, given, message_of};
 ghost use Rattle.msg_world.specs.declared.record.Record.{Record};
-ghost use Rattle.msg_system.specs.Programs.{place_after_read, took};
+ghost use Rattle.msg_system.specs.Prelude.{place_after_read, took};
 
 use crate::{Items, NoMemory, Took};
 use msg_buffer::{MessageCursor, Messages};

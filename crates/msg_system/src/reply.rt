@@ -1,5 +1,5 @@
 ghost use Rattle.std.specs.Prelude.{◌≡◌, slice_get};
-ghost use Rattle.msg_system.specs.Behaviors.{brought};
+ghost use Rattle.msg_system.specs.Prelude.{brought};
 
 use crate::Items;
 use msg_buffer::Written;

@@ -1,6 +1,6 @@
 // Systems that interpret their programs.
 ghost use Rattle.std.specs.Prelude.{◌≡◌, ◌<◌, ◌≤◌, OnErr, OnOk, length};
-ghost use Rattle.msg_world.specs.Loan.{SameLoan};
+ghost use Rattle.msg_world.specs.Prelude.{SameLoan};
 ghost use Rattle.msg_system.specs.Needs.{program_needs};
 ghost use Rattle.msg_system.specs.OpRuns.{places_of};
 ghost use Rattle.msg_system.specs.inner.TurnRuns.{HasReplies, ProgramRan};

@@ -1,10 +1,7 @@
 // What each op does to the loan of its system, and to its system's cursor.
 ghost use Rattle.std.specs.Prelude.{◌≡◌, ℕ, IfOk, IsSome, OnErr, OnOk};
-ghost use Rattle.msg_world.specs.Access.{OfResource, OfType, Registry};
-ghost use Rattle.msg_world.specs.Loan.{SameLoan, shown, writable};
-ghost use Rattle.msg_system.specs.declared.op.Op.TheVariants.{Write, Batch, Read, Len, Missed, Clear, Forward, Sum, Get, Set, Add, Drain, Signal};
-ghost use Rattle.msg_system.specs.Programs.{with_place, write_reply};
-ghost use Rattle.msg_system.specs.OpRuns.{MayBeRefused, OpRan};
+ghost use Rattle.msg_world.specs.Prelude.{OfResource, OfType, Registry, SameLoan, shown, writable};
+ghost use Rattle.msg_system.specs.Prelude.{Add, Batch, Clear, Drain, Forward, Get, Len, MayBeRefused, Missed, OpRan, Read, Set, Signal, Sum, Write, with_place, write_reply};
 
 use crate::lending::{
     added_up, drain_all, messages_of, set_value, value_of, write_each, write_one,

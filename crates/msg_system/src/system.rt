@@ -19,8 +19,7 @@ use std::alloc::Global;
 /// ```
 pub trait System: Send + Drop {
     ghost use Rattle.std.specs.Prelude.{◌≡◌, IfOk};
-    ghost use Rattle.msg_world.specs.Loan.{taken_of};
-    ghost use Rattle.msg_world.specs.Parts.{SameShape};
+    ghost use Rattle.msg_world.specs.Prelude.{SameShape, taken_of};
     ghost use Rattle.msg_system.specs.Needs.{IsAccessOf, type_read_by};
     ghost use Rattle.msg_system.specs.Promises.{Covers, Ran};
     ghost use Rattle.msg_system.specs.Systems.{Meaning, started};

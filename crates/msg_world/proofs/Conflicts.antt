@@ -2,8 +2,7 @@
 use Rattle.std.proofs.Common.{arith, ◌≡◌, ℕ, ◌<◌, Bool, false, ◌&&◌, ◌||◌, inl, inr, ◌⊎◌, sym, ◌∙◌}
 use Rattle.std.specs.Prelude.{◌↔◌, IsTrue, bit_or}
 use Rattle.std.proofs.lemmas.Bool.{cases_Bool, or_cases, or_left, or_right, and_parts, and_from, false≢true}
-use Rattle.msg_world.specs.declared.access.Access.{Access}
-use Rattle.msg_world.specs.Access.{Part, OfType, OfResource, Registry, has_bit, writes, uses, Conflict, IsClash}
+use Rattle.msg_world.specs.Prelude.{Access, Conflict, IsClash, OfResource, OfType, Part, Registry, has_bit, uses, writes}
 use Rattle.msg_world.specs.inner.Masks.{ShareBit, Collide, IsBelow}
 use Rattle.msg_world.proofs.Bits.{has_bit-or, decide_share}
 

@@ -5,20 +5,10 @@ use Rattle.std.specs.Option.{option_or}
 use Rattle.std.proofs.lemmas.Bool.{and_from, cases_Bool, cases_eq, cases_lt, eq-eqb, ne_eqb, false≢true, or_left, or_right}
 use Rattle.std.proofs.Math.ListN.{length-set}
 use Rattle.std.proofs.lemmas.List.{get_or-set_same, get_or-set_other, get_or_past}
-use Rattle.msg_buffer.specs.History.{History}
-use Rattle.msg_buffer.specs.StandsFor.{StandsFor}
-use Rattle.msg_world.specs.declared.record.Record.{Record}
-use Rattle.msg_world.specs.Lending.{with_value}
+use Rattle.msg_buffer.specs.Prelude.{History, StandsFor}
+use Rattle.msg_world.specs.Prelude.{Access, HomeAgain, HomeMerges, HomeWhereEither, IsHome, LendsOut, Lent, LentIsLoan, LoanEnds, LoanStands, LoanStays, Marks, MayComeHome, OfResource, OfType, OthersStayHome, OwnedStands, OwnsWhatItWrites, Part, Parts, PartsStand, Record, Registry, SameShape, StaysApart, StaysComplete, Stuff, StuffStands, ValuesStand, WorldState, WritesStand, after_signal, content, merge, reads, signalled_marks, slot, uses, with_history, with_messages, with_resource, with_value, with_value_of, writable, writes}
 use Rattle.msg_world.proofs.Worlds.{type_shape}
 use Rattle.std.proofs.lemmas.Option.{none-some}
-use Rattle.msg_world.specs.declared.access.Access.{Access}
-use Rattle.msg_world.specs.declared.lent.Lent.{Lent}
-use Rattle.msg_world.specs.declared.marks.Marks.{Marks}
-use Rattle.msg_world.specs.Access.{Part, OfType, OfResource, Registry, reads, uses, writes}
-use Rattle.msg_world.specs.Loan.{LoanStands, with_messages, with_resource, writable}
-use Rattle.msg_world.specs.LoanLaws.{HomeAgain, HomeMerges, HomeWhereEither, LentIsLoan, LoanEnds, LoanStays, MayComeHome, OthersStayHome, OwnedStands, OwnsWhatItWrites, StaysApart, StaysComplete, ValuesStand, WritesStand}
-use Rattle.msg_world.specs.Parts.{IsHome, LendsOut, Parts, PartsStand, SameShape, Stuff, StuffStands, slot}
-use Rattle.msg_world.specs.World.{WorldState, content, merge, signalled, signalled_marks, with_history, with_value_of}
 
 same_marks : (m : Option Marks) (n : Marks) → IfSome m (λ k. k ≡ n) → IfSome (option_map signalled_marks m) (λ k. k ≡ signalled_marks n)
 same_marks None n is = tt
@@ -40,7 +30,7 @@ with_signal_shape w = record { size = record { types = refl; resources = refl };
     there Registry = still_some w.marks
 
 -- a loan of the registry, after a signal
-pub signal_stands : (l : Lent) (s : WorldState) → l.access.registry ≡ true → LoanStands l s → LoanStands (record l { taken = with_signal l.taken }) (signalled s)
+pub signal_stands : (l : Lent) (s : WorldState) → l.access.registry ≡ true → LoanStands l s → LoanStands (record l { taken = with_signal l.taken }) (after_signal s)
 signal_stands l s lent stand (OfType t) = stand (OfType t)
 signal_stands l s lent stand (OfResource r) = stand (OfResource r)
 signal_stands l s lent stand Registry =

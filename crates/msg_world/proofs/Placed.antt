@@ -5,7 +5,7 @@ use Rattle.std.specs.Option.{option_or}
 use Rattle.std.proofs.lemmas.Bool.{cases_lt, cases_eq, eq-eqb, ne_eqb}
 use Rattle.std.proofs.lemmas.Option.{slice_get-get_or}
 use Rattle.std.proofs.lemmas.List.{get_or-replicate, get_or-set_same, get_or-set_other, get_or_past, length-replicate, length-set, set-set, set_comm}
-use Rattle.msg_world.specs.declared.moved.Moved.{Moved}
+use Rattle.msg_world.specs.Prelude.{Moved}
 use Rattle.msg_world.specs.inner.Moved.{IsFirstOf, NoneOf, placed}
 use Rattle.msg_world.specs.inner.Slots.{at}
 

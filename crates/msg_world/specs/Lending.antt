@@ -4,7 +4,7 @@ use Rattle.std.specs.Borrow.{LendsIf, MutBor, Fml, RattleType, i64}
 use Rattle.std.specs.contracts.alloc.Global.{the_row as global_row}
 use Rattle.std.specs.contracts.impls.GlobalAllocator.TheImpl.{ghosts}
 use Rattle.msg_buffer.specs.contracts.messages.Messages.{the_row as messages_of}
-use Rattle.msg_buffer.specs.Kept.{Kept}
+use Rattle.msg_buffer.specs.Prelude.{Kept}
 use Rattle.msg_world.specs.declared.record.Record.{Record}
 use Rattle.msg_world.specs.contracts.record.Record.{the_row as record_row}
 use Rattle.msg_world.specs.contracts.taken.Taken.{the_row as taken_row}

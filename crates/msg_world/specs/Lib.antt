@@ -3,5 +3,6 @@ pub mod Lending
 pub mod Loan
 pub mod LoanLaws
 pub mod Parts
+pub mod Prelude
 pub mod World
 pub mod inner

@@ -3,7 +3,7 @@
 use Rattle.std.specs.Prelude.{◌≡◌, ℕ, ℤ, Option, None, IsSome, IfSome, IsTrue, is_some, false, [], if◌then◌else◌}
 use mir.Syntax.{named}
 use Rattle.std.specs.Borrow.{LendsIf, MutBor, Fml, i64}
-use Rattle.msg_buffer.specs.Kept.{Kept}
+use Rattle.msg_buffer.specs.Prelude.{Kept}
 use Rattle.msg_world.specs.declared.access.Access.{Access}
 use Rattle.msg_world.specs.declared.record.Record.{Record}
 use Rattle.msg_world.specs.declared.lent.Lent.{Lent}

@@ -1,8 +1,6 @@
 -- What holds of parts that are lent and taken back, one after the other or side by side.
 use Rattle.std.specs.Prelude.{◌≡◌, ◌||◌, ℕ, ℤ, false, None, IsSome, IsTrue, is_some}
-use Rattle.msg_buffer.specs.History.{History}
-use Rattle.msg_buffer.specs.Kept.{Kept}
-use Rattle.msg_buffer.specs.StandsFor.{StandsFor}
+use Rattle.msg_buffer.specs.Prelude.{History, Kept, StandsFor}
 use Rattle.msg_world.specs.declared.access.Access.{Access}
 use Rattle.msg_world.specs.declared.lent.Lent.{Lent}
 use Rattle.msg_world.specs.declared.record.Record.{Record}

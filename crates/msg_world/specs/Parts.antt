@@ -1,8 +1,7 @@
 -- What is at home in a world, or was moved out of it, and what it stands for.
 use Rattle.std.specs.Prelude.{◌≡◌, ℤ, Option, None, IsSome, IfSome, is_some, IsTrue, List, length, slice_index_or, if◌then◌else◌}
 use Rattle.std.specs.Option.{option_or}
-use Rattle.msg_buffer.specs.Kept.{Kept}
-use Rattle.msg_buffer.specs.StandsFor.{StandsFor}
+use Rattle.msg_buffer.specs.Prelude.{Kept, StandsFor}
 use Rattle.msg_world.specs.declared.record.Record.{Record}
 use Rattle.msg_world.specs.declared.marks.Marks.{Marks}
 use Rattle.msg_world.specs.declared.access.Access.{Access}

@@ -1,6 +1,6 @@
 //! Laws: facts that hold of every loan, and need no code.
 ghost use Rattle.std.specs.Prelude.{◌≡◌};
-ghost use Rattle.msg_world.specs.LoanLaws.{HomeAgain, HomeMerges, HomeWhereEither, LentIsLoan, LoanEnds, LoanStays, MayComeHome, OthersStayHome, OwnedStands, OwnsWhatItWrites, StaysApart, StaysComplete, ValuesStand, WritesStand};
+ghost use Rattle.msg_world.specs.Prelude.{HomeAgain, HomeMerges, HomeWhereEither, LentIsLoan, LoanEnds, LoanStays, MayComeHome, OthersStayHome, OwnedStands, OwnsWhatItWrites, StaysApart, StaysComplete, ValuesStand, WritesStand};
 
 use crate::record::HOST;
 

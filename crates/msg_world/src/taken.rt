@@ -1,5 +1,5 @@
 ghost use Rattle.std.specs.Prelude.{ℕ, ◌<◌, length};
-ghost use Rattle.msg_buffer.specs.History.{History};
+ghost use Rattle.msg_buffer.specs.Prelude.{History};
 ghost use Rattle.msg_world.specs.inner.Slots.{BufferStands, at};
 
 use crate::marks::Marks;

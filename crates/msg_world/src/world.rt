@@ -1,12 +1,8 @@
 ghost use Rattle.std.specs.Prelude.{◌≡◌, ℕ, ◌+◌, ◌<◌, ◌≤◌, ◌↔◌, [], ◌∷◌, length, slice_index, slice_get, is_some, Some, None, IfOk, IfErr, OnOk, OnErr, IsTrue, IsSome, IsSomeAnd, map, if◌then◌else◌};
 ghost use Rattle.std.specs.Option.{option_copied};
-ghost use Rattle.msg_buffer.specs.History.{History, count, empty, update, write};
-ghost use Rattle.msg_buffer.specs.Refusals.{IsSpent, message_refused};
-ghost use Rattle.msg_buffer.specs.StandsFor.{StandsFor};
-ghost use Rattle.msg_world.specs.Access.{Part, OfType, OfResource, Registry, writes};
-ghost use Rattle.msg_world.specs.Parts.{IsApart, IsHome, IsWhole, LendsOut, PartsStand, TakesBack, SameShape, SameSize, slot};
+ghost use Rattle.msg_buffer.specs.Prelude.{History, IsSpent, StandsFor, count, empty, message_refused, update, write};
+ghost use Rattle.msg_world.specs.Prelude.{IsApart, IsHome, IsWhole, LendsOut, OfResource, OfType, Part, PartsStand, Registry, SameShape, SameSize, TakesBack, WorldState, after_update, by, held_world, new_world, slot, with_history, writes};
 ghost use Rattle.msg_world.specs.inner.Slots.{AllUpdated, BufferStands, at};
-ghost use Rattle.msg_world.specs.World.{WorldState, by, held, new_world, updated, with_history};
 
 use crate::access::Access;
 use crate::counts::Counts;
@@ -187,7 +183,7 @@ impl World {
     /// The update at the beginning of a frame: every type, or none where a held world waits.
     pub fn update_all(&mut self)
         requires whole { IsWhole self.old }
-        ensures meaning { (s : WorldState) → PartsStand self.old s → PartsStand self.new (updated s) }
+        ensures meaning { (s : WorldState) → PartsStand self.old s → PartsStand self.new (after_update s) }
         ensures shape { SameShape self.old self.new }
     {
         let Some(marks) = self.marks else {
@@ -204,7 +200,7 @@ impl World {
     /// lost.
     pub fn set_held(&mut self)
         requires whole { IsWhole self.old }
-        ensures meaning { (s : WorldState) → PartsStand self.old s → PartsStand self.new (held s) }
+        ensures meaning { (s : WorldState) → PartsStand self.old s → PartsStand self.new (held_world s) }
         ensures shape { SameShape self.old self.new }
     {
         self.marks = Some(Marks {

@@ -1,15 +1,13 @@
 -- What a run of a scenario leaves in a sink where it didn't come to its end, and how the program ends by it.
 use Rattle.std.specs.Prelude.{◌≡◌, ◌⊎◌, ℕ, ◌-◌, List, Option, Result, Ok, Err, length, take}
 use Rattle.std.specs.Io.KnownBytes.{Appends}
-use Rattle.msg_frames.specs.Accounts.{accounts_of}
-use Rattle.msg_frames.specs.Frames.{State}
+use Rattle.msg_frames.specs.Prelude.{State, accounts_of}
 use Rattle.msg_frames.specs.declared.log.Log.{Log}
-use Rattle.msg_files.specs.Sinks.{AppendsAtLeast, AppendsPrefix}
+use Rattle.msg_files.specs.Prelude.{AppendsAtLeast, AppendsPrefix}
 use Rattle.msg_files.specs.declared.report_fault.ReportFault.{ReportFault}
-use Rattle.msg_scenario.specs.ReportText.{frames_text, text_so_far}
-use Rattle.msg_scenario.specs.Reported.{HasRunFirst}
+use Rattle.msg_scenario.specs.Prelude.{HasRunFirst, frames_text, text_so_far}
 use Rattle.msg_reading.specs.declared.scenario.Scenario.{Scenario}
-use Rattle.msg_command.specs.Faults.{status_of}
+use Rattle.msg_command.specs.Prelude.{status_of}
 use Rattle.msg_command.specs.declared.fault.MainFault.{MainFault}
 use Rattle.msg_command.specs.declared.fault.MainFault.TheVariants.{Built, Report}
 

@@ -1,9 +1,9 @@
 // A scenario's systems, each made of what its kind is.
 ghost use Rattle.std.specs.Prelude.{◌≡◌, ◌≤◌, ◌+◌, Some, IfOk, OnOk, length, slice_get};
-ghost use Rattle.msg_system.specs.Systems.{new_system};
-ghost use Rattle.msg_exec.specs.Building.{EachIs};
-ghost use Rattle.msg_scenario.specs.Making.{IsSystemAt};
-ghost use Rattle.msg_reading.specs.Runnable.{FitKind};
+ghost use Rattle.msg_system.specs.Prelude.{new_system};
+ghost use Rattle.msg_exec.specs.Prelude.{EachIs};
+ghost use Rattle.msg_scenario.specs.Prelude.{IsSystemAt};
+ghost use Rattle.msg_reading.specs.Prelude.{FitKind};
 
 use msg_exec::NoMemory;
 use msg_scenario::{Kind, SystemSpec};

@@ -7,7 +7,7 @@
 #![tactic(auto)]
 
 ghost use Rattle.std.specs.Prelude.{◌≡◌, ◌<◌, ◌≤◌};
-ghost use Rattle.msgrun.specs.Ended.{status_after};
+ghost use Rattle.msgrun.specs.Prelude.{status_after};
 
 mod building;
 mod scene;

@@ -2,11 +2,10 @@
 ghost use Rattle.std.specs.Prelude.{◌≡◌, ◌≢◌, ◌⊎◌, Ok, Err, IfOk, OnErr, OnOk};
 ghost use Rattle.std.specs.Box.{box_value};
 ghost use Rattle.msg_system.specs.declared.run_fault.RunFault.TheVariants.{BadOrder, NoMemory as NoRoom, Spoiled};
-ghost use Rattle.msg_files.specs.Sinks.{one_more};
-ghost use Rattle.msg_reading.specs.Runnable.{IsRunnable};
-ghost use Rattle.msg_scenario.specs.Ran.{IsReported};
-ghost use Rattle.msg_scenario.specs.Reported.{HasPrinted};
-ghost use Rattle.msgrun.specs.Ended.{PrintedFrames, PrintedSome, main_fault};
+ghost use Rattle.msg_files.specs.Prelude.{one_more};
+ghost use Rattle.msg_reading.specs.Prelude.{IsRunnable};
+ghost use Rattle.msg_scenario.specs.Prelude.{HasPrinted, IsReported};
+ghost use Rattle.msgrun.specs.Prelude.{PrintedFrames, PrintedSome, main_fault};
 
 use crate::building::{add, relay_of, scripted_of, tally_of};
 use msg_command::MainFault;

@@ -1,6 +1,6 @@
 use Rattle.std.proofs.Common.{◌≡◌, ◌*◌, subst}
 use Rattle.std.proofs.lemmas.Result.{IfOk-weaker}
-use Rattle.msg_board.specs.Board.{IsLawfulOutcome}
+use Rattle.msg_board.specs.Prelude.{IsLawfulOutcome}
 use Rattle.job_board.proofs.Outcome.{are_squares}
 use Rattle.job_board.proofs.squares.Goals as goal
 

@@ -1,6 +1,6 @@
 ghost use Rattle.std.specs.Prelude.{◌≡◌};
-ghost use Rattle.msg_files.specs.Sinks.{TakesUnlessFailed};
-ghost use Rattle.msg_command.specs.Faults.{line_of, words_line, input_line, refusal_line, run_line, report_line, status_of};
+ghost use Rattle.msg_files.specs.Prelude.{TakesUnlessFailed};
+ghost use Rattle.msg_command.specs.Prelude.{line_of, words_line, input_line, refusal_line, run_line, report_line, status_of};
 
 use crate::fault::MainFault;
 use crate::{InputFault, WordFault};

@@ -3,9 +3,7 @@ ghost use Rattle.std.specs.Prelude.{◌≡◌, ◌≢◌, [], IfOk, IfErr, OnOk,
 ghost use Rattle.clap.specs.Words.{app_of, rule_of, fault_of, takes, subcommand_of, subcommand_rows_of, kind_of};
 ghost use Rattle.clap.specs.declared.Command.{out-Command as fields_of};
 ghost use Rattle.clap.specs.declared.error.ErrorKind.TheVariants.{DisplayHelp, OutOfMemory};
-ghost use Rattle.msg_command.specs.Asked.{IsToldOf};
-ghost use Rattle.msg_command.specs.Telling.{IsHelp};
-ghost use Rattle.msg_command.specs.CommandLine.{file_rule, workers_rule, buffer_app, run_app, msgrun_app, texts_of};
+ghost use Rattle.msg_command.specs.Prelude.{IsHelp, IsToldOf, buffer_app, file_rule, msgrun_app, run_app, texts_of, workers_rule};
 
 use crate::words::{WordFault, help};
 use clap::error::ErrorKind;

@@ -1,7 +1,6 @@
 ghost use Rattle.std.specs.Prelude.{◌≡◌, ◌<◌, ◌≤◌, ◌⊎◌, [], IfSome, Some, None, true, IfOk, IfErr, OnOk, codes, string_bytes};
 ghost use Rattle.clap.specs.Words.{fault_of, takes, first_of, rows_of, found_of, subcommand_rows_of};
-ghost use Rattle.msg_command.specs.CommandLine.{msgrun_app, texts_of};
-ghost use Rattle.msg_command.specs.Asked.{IsInRange, IsRunOnNone, IsToldOf, request_of, asked, asked_by, workers_asked, workers_in};
+ghost use Rattle.msg_command.specs.Prelude.{IsInRange, IsRunOnNone, IsToldOf, asked, asked_by, msgrun_app, request_of, texts_of, workers_asked, workers_in};
 
 use crate::words::command::matches;
 use crate::words::{Action, WordFault};

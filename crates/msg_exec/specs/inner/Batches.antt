@@ -1,12 +1,11 @@
 -- What holds of the jobs of a batch.
 use Rattle.std.specs.Prelude.{◌≡◌, ◌+◌, ℕ, All, List, ◌∷◌, [], Option, Some, None, slice_get}
 use Rattle.std.specs.List.{AllZip}
-use Rattle.msg_world.specs.Parts.{Parts}
-use Rattle.msg_system.specs.Systems.{Meaning}
+use Rattle.msg_world.specs.Prelude.{Parts}
+use Rattle.msg_system.specs.Prelude.{Meaning}
 use Rattle.msg_exec.specs.declared.job.Job.{Job}
 use Rattle.msg_exec.specs.declared.job.Done.{Done}
-use Rattle.msg_board.specs.Board.{BoardView, HasEnded, IsOf, jobs_of}
-use Rattle.msg_board.specs.Pass.{PassState}
+use Rattle.msg_board.specs.Prelude.{BoardView, HasEnded, IsOf, PassState, jobs_of}
 use Rattle.msg_exec.specs.Jobs.{IsDone}
 use Rattle.msg_exec.specs.Work.{EachNewIs}
 

@@ -2,14 +2,12 @@
 use Rattle.std.specs.Prelude.{◌≡◌, ℕ, ◌<◌, List, length, Option, Some, slice_get, IsSomeAnd, ⊤}
 use Rattle.msg_world.specs.declared.access.Access.{Access}
 use Rattle.msg_order.specs.declared.rule.Rule.{Rule}
-use Rattle.msg_order.specs.Graph.{IsLowestOnCycle}
-use Rattle.msg_system.specs.Needs.{IsAccessOf, with_conditions}
-use Rattle.msg_system.specs.Systems.{Meaning}
+use Rattle.msg_order.specs.Prelude.{IsLowestOnCycle}
+use Rattle.msg_system.specs.Prelude.{IsAccessOf, Meaning, with_conditions}
 use Rattle.msg_exec.specs.declared.job.GuardedSystem.{GuardedSystem}
 use Rattle.msg_frames.specs.declared.place.Place.{Place}
 use Rattle.msg_frames.specs.declared.totals.Totals.{Totals}
-use Rattle.msg_frames.specs.Entries.{no_totals}
-use Rattle.msg_frames.specs.FirstState.{HasClash, all_rules, new_job}
+use Rattle.msg_frames.specs.Prelude.{HasClash, all_rules, new_job, no_totals}
 use Rattle.msg_exec.specs.Jobs.{job_state}
 use Rattle.msg_exec.specs.Keeping.{totals_at}
 use Rattle.msg_exec.specs.declared.build_refusal.BuildRefusal.{BuildRefusal}

@@ -3,19 +3,16 @@ use Rattle.std.specs.Prelude.{◌≡◌, ℕ, ◌<◌, Bool, false, ◌||◌, Li
 use Rattle.std.specs.Global.{Vec}
 use Rattle.std.specs.List.{AllZip}
 use Rattle.msg_world.specs.declared.access.Access.{Access}
-use Rattle.msg_world.specs.Access.{Part, writes}
-use Rattle.msg_world.specs.Parts.{LendsOut, SameSize, TakesBack, slot}
-use Rattle.msg_order.specs.Order.{access_of}
-use Rattle.msg_system.specs.Systems.{Meaning}
+use Rattle.msg_world.specs.Prelude.{LendsOut, Part, SameSize, TakesBack, slot, writes}
+use Rattle.msg_order.specs.Prelude.{access_of}
+use Rattle.msg_system.specs.Prelude.{Meaning}
 use Rattle.msg_exec.specs.declared.job.Done.{Done}
 use Rattle.msg_exec.specs.declared.job.Job.{Job}
 use Rattle.msg_exec.specs.declared.lender.Lender.{Lender}
 use Rattle.msg_frames.specs.declared.totals.Totals.{Totals}
-use Rattle.msg_frames.specs.Entries.{with_entries}
+use Rattle.msg_frames.specs.Prelude.{State, place_of, with_entries}
 use Rattle.msg_exec.specs.inner.Totals.{entries_by}
 use Rattle.msg_exec.specs.Keeping.{kept, totals_at}
-use Rattle.msg_frames.specs.Frames.{State}
-use Rattle.msg_frames.specs.Tiling.{place_of}
 use Rattle.msg_exec.specs.Lender.{system_at}
 
 -- whether any of these systems writes the part

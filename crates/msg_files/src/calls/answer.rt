@@ -1,10 +1,7 @@
 // One call on a buffer and its cursors, and its line.
 ghost use Rattle.std.specs.Prelude.{◌≡◌, ◌<◌, ℤ, ◌++◌, ◌∷◌, [], OnOk, codes, decimal, length, true};
-ghost use Rattle.msg_buffer.specs.History.{History, get, write};
-ghost use Rattle.msg_buffer.specs.StandsFor.{StandsFor};
-ghost use Rattle.msg_files.specs.CallsText.{State, after, items_text, line, value_text, written_text};
-ghost use Rattle.msg_files.specs.Cursors.{has_cursor};
-ghost use Rattle.msg_files.specs.Running.{AreIn};
+ghost use Rattle.msg_buffer.specs.Prelude.{History, StandsFor, get, write};
+ghost use Rattle.msg_files.specs.Prelude.{AreIn, State, after, has_cursor, items_text, line, value_text, written_text};
 
 use crate::call::Call;
 use crate::calls::text::{add_found, add_items, add_unread};

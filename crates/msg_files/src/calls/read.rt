@@ -2,10 +2,7 @@
 ghost use Rattle.std.specs.Prelude.{◌≡◌, ◌≢◌, None, Some, Err, IfOk, IfErr, IsUtf8};
 ghost use Rattle.serde_json.specs.Data.{Data};
 ghost use Rattle.serde_json.specs.Read.{read};
-ghost use Rattle.msg_files.specs.Check.{first_refusal};
-ghost use Rattle.msg_files.specs.Checks.{checks_of};
-ghost use Rattle.msg_files.specs.Denotes.{file_of};
-ghost use Rattle.msg_files.specs.Json.{IsJsonOf};
+ghost use Rattle.msg_files.specs.Prelude.{IsJsonOf, checks_of, file_of, first_refusal};
 
 use crate::calls::Calls;
 use crate::refusal::Refusal;

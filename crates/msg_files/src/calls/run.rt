@@ -1,9 +1,7 @@
 // Calls made one after another. Their lines are gathered, and put into the sink in large pieces.
 ghost use Rattle.std.specs.Prelude.{◌≡◌, ◌⊎◌, ◌++◌, if◌then◌else◌, Err, IfErr, OnOk, OnErr};
 ghost use Rattle.std.specs.Io.KnownBytes.{Appends};
-ghost use Rattle.msg_files.specs.CallsText.{calls_text};
-ghost use Rattle.msg_files.specs.Running.{TakesFront};
-ghost use Rattle.msg_files.specs.Sinks.{AppendsPrefix, one_more};
+ghost use Rattle.msg_files.specs.Prelude.{AppendsPrefix, TakesFront, calls_text, one_more};
 
 use crate::calls::Calls;
 use crate::calls::answer::answer;

@@ -1,10 +1,8 @@
 // The parts of a line, made in memory.
 ghost use Rattle.std.specs.Prelude.{◌≡◌, ◌++◌, ℤ, List, [], IsOk, OnOk, codes, length};
 ghost use Rattle.std.specs.Option.{option_copied};
-ghost use Rattle.msg_buffer.specs.History.{History};
-ghost use Rattle.msg_buffer.specs.Reader.{at_most, given, next_place, read};
-ghost use Rattle.msg_buffer.specs.StandsFor.{StandsFor};
-ghost use Rattle.msg_files.specs.CallsText.{item_text, items_text, more_items, value_text};
+ghost use Rattle.msg_buffer.specs.Prelude.{History, StandsFor, at_most, given, next_place, read};
+ghost use Rattle.msg_files.specs.Prelude.{item_text, items_text, more_items, value_text};
 
 use crate::numerals::{add_pair, add_value};
 use msg_buffer::{Instance, MessageCursor, MessageId, Messages, NoMemory};

@@ -1,7 +1,7 @@
 -- Sets of systems, as the private functions' contracts see them. No public contract cites these.
 use Rattle.std.specs.Prelude.{ℕ, ◌/◌, ◌%◌, Bool, ◌&&◌, [], slice_index}
 use Rattle.std.specs.List.{list_any, range_with_len}
-use Rattle.msg_world.specs.Access.{has_bit}
+use Rattle.msg_world.specs.Prelude.{has_bit}
 use Rattle.msg_order.specs.declared.system_set.SystemSet.{SystemSet}
 
 -- system k is in the set

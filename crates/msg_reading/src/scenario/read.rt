@@ -3,9 +3,8 @@ ghost use Rattle.std.specs.Prelude.{◌≡◌, ◌≢◌, None, Some, Err, IfOk,
 ghost use Rattle.serde_json.specs.Data.{Data};
 ghost use Rattle.serde_json.specs.Read.{read};
 ghost use Rattle.serde_json.specs.View.{view};
-ghost use Rattle.msg_files.specs.Json.{IsJsonOf};
-ghost use Rattle.msg_reading.specs.Reading.{IsReadAs, IsRefusedFor};
-ghost use Rattle.msg_reading.specs.Runnable.{IsRunnable};
+ghost use Rattle.msg_files.specs.Prelude.{IsJsonOf};
+ghost use Rattle.msg_reading.specs.Prelude.{IsReadAs, IsRefusedFor, IsRunnable};
 
 use crate::{Refusal, Scenario};
 use serde_json::{Category, Value};

@@ -1,11 +1,10 @@
 // Whether a scenario can be run.
 ghost use Rattle.std.specs.Prelude.{◌≡◌, ◌≤◌, ◌↔◌, ℕ, All, IfOk, IsTrue, length};
-ghost use Rattle.msg_world.specs.Access.{HasPart, Part};
-ghost use Rattle.msg_frames.specs.FirstState.{all_rules};
-ghost use Rattle.msg_order.specs.Graph.{IsAcyclic};
-ghost use Rattle.msg_order.specs.Order.{NameSystemsBelow};
-ghost use Rattle.msg_system.specs.Needs.{HasClash, job_needs, needs_any, program_needs};
-ghost use Rattle.msg_reading.specs.Runnable.{FitKind, IsRunnable, IsRunnableSystem, PostsAreToTypes};
+ghost use Rattle.msg_world.specs.Prelude.{HasPart, Part};
+ghost use Rattle.msg_frames.specs.Prelude.{all_rules};
+ghost use Rattle.msg_order.specs.Prelude.{IsAcyclic, NameSystemsBelow};
+ghost use Rattle.msg_system.specs.Prelude.{HasClash, job_needs, needs_any, program_needs};
+ghost use Rattle.msg_reading.specs.Prelude.{FitKind, IsRunnable, IsRunnableSystem, PostsAreToTypes};
 
 use crate::limits::{LAST_JOIN, MAX_OPS, MAX_RESOURCES, MAX_SYSTEMS, MAX_TYPES};
 use crate::scenario::read::fits_kind;

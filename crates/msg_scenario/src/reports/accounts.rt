@@ -1,6 +1,6 @@
 // The lines of the readers.
 ghost use Rattle.std.specs.Prelude.{◌≡◌, ◌++◌, [], IsOk, OnOk};
-ghost use Rattle.msg_scenario.specs.ReportText.{account_line, accounts_text, standing_text};
+ghost use Rattle.msg_scenario.specs.Prelude.{account_line, accounts_text, standing_text};
 
 use crate::Scenario;
 use crate::reports::names::{add_system, add_type};

@@ -1,6 +1,6 @@
 // The text of one frame.
 ghost use Rattle.std.specs.Prelude.{◌≡◌, ◌<◌, ◌++◌, [], IsOk, OnErr, OnOk, codes, flat_map, length};
-ghost use Rattle.msg_scenario.specs.ReportText.{frame_text, op_line, ops_text, outcome_text, post_line, posts_text, turn_text};
+ghost use Rattle.msg_scenario.specs.Prelude.{frame_text, op_line, ops_text, outcome_text, post_line, posts_text, turn_text};
 
 use crate::reports::names::{add_name, add_type};
 use crate::reports::op::add_op;

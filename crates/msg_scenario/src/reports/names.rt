@@ -1,6 +1,6 @@
 // Names at the end of a text. A number that nothing has in the scenario goes without one.
 ghost use Rattle.std.specs.Prelude.{◌≡◌, ◌++◌, OnOk};
-ghost use Rattle.msg_scenario.specs.ReportText.{resource_name, system_name, type_name, writer_name};
+ghost use Rattle.msg_scenario.specs.Prelude.{resource_name, system_name, type_name, writer_name};
 
 use crate::{Name, Scenario};
 use msg_buffer::NoMemory;

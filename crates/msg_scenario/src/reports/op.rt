@@ -1,6 +1,6 @@
 // An op at the end of a text.
 ghost use Rattle.std.specs.Prelude.{◌≡◌, ◌++◌, OnOk, codes};
-ghost use Rattle.msg_scenario.specs.ReportText.{op_text, resource_name, type_name};
+ghost use Rattle.msg_scenario.specs.Prelude.{op_text, resource_name, type_name};
 
 use crate::Scenario;
 use crate::reports::names::{add_resource, add_type};

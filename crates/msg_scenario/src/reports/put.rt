@@ -1,8 +1,8 @@
 // Parts of a report, made in memory and put into a sink.
 ghost use Rattle.std.specs.Prelude.{◌≡◌, ◌≢◌, ◌⊎◌, [], Err, IfErr, OnOk, OnErr};
 ghost use Rattle.std.specs.Io.KnownBytes.{Appends};
-ghost use Rattle.msg_scenario.specs.ReportText.{accounts_text, frame_text};
-ghost use Rattle.msg_files.specs.Sinks.{AppendsPrefix, one_more};
+ghost use Rattle.msg_scenario.specs.Prelude.{accounts_text, frame_text};
+ghost use Rattle.msg_files.specs.Prelude.{AppendsPrefix, one_more};
 
 use crate::Scenario;
 use crate::reports::accounts::add_accounts;

@@ -1,6 +1,6 @@
 // A reply at the end of a text.
 ghost use Rattle.std.specs.Prelude.{◌≡◌, ◌+◌, ◌++◌, [], List, IsOk, OnOk, codes, decimal};
-ghost use Rattle.msg_scenario.specs.ReportText.{item_text, items_text, more_items, numbers_text, reply_text, took_text, written_text};
+ghost use Rattle.msg_scenario.specs.Prelude.{item_text, items_text, more_items, numbers_text, reply_text, took_text, written_text};
 
 use crate::Scenario;
 use crate::reports::names::add_writer;

@@ -1,10 +1,10 @@
 // The report of a scenario: frame by frame, and then the readers.
 ghost use Rattle.std.specs.Prelude.{◌≡◌, ◌≢◌, ◌⊎◌, All, Err, OnOk, OnErr, IfErr};
-ghost use Rattle.msg_exec.specs.Engines.{StandsFor};
+ghost use Rattle.msg_exec.specs.Prelude.{StandsFor};
 ghost use Rattle.msg_system.specs.declared.run_fault.RunFault.TheVariants.{BadOrder, NoMemory, Spoiled};
-ghost use Rattle.msg_scenario.specs.Reported.{HasPrinted, HasReported, HasRunOut, HasStopped};
-ghost use Rattle.msg_reading.specs.Runnable.{PostsAreToTypes, state_of};
-ghost use Rattle.msg_files.specs.Sinks.{one_more};
+ghost use Rattle.msg_scenario.specs.Prelude.{HasPrinted, HasReported, HasRunOut, HasStopped};
+ghost use Rattle.msg_reading.specs.Prelude.{PostsAreToTypes, state_of};
+ghost use Rattle.msg_files.specs.Prelude.{one_more};
 
 use crate::Scenario;
 use crate::reports::put::{put_accounts, put_frame};

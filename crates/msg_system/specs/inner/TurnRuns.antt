@@ -1,8 +1,7 @@
 -- What the private functions of programs and turns say. No public contract cites these.
 use Rattle.std.specs.Prelude.{◌≡◌, ℕ, ◌++◌, List, Option, length}
 use Rattle.msg_world.specs.declared.lent.Lent.{Lent}
-use Rattle.msg_world.specs.Loan.{LoanStands}
-use Rattle.msg_world.specs.World.{WorldState}
+use Rattle.msg_world.specs.Prelude.{LoanStands, WorldState}
 use Rattle.msg_system.specs.declared.op.Op.{Op}
 use Rattle.msg_system.specs.declared.reply.Reply.{Reply}
 use Rattle.msg_system.specs.Needs.{Needs}

@@ -1,8 +1,7 @@
 // Systems that decide by their memory: each on 1, 2, 7 and 64 workers.
 ghost use Rattle.std.specs.Prelude.{IfOk, OnOk};
-ghost use Rattle.msg_frames.specs.FirstState.{IsNew};
-ghost use Rattle.msg_exec.specs.Building.{EachIs};
-ghost use Rattle.msg_exec.specs.Engines.{IsEngine};
+ghost use Rattle.msg_frames.specs.Prelude.{IsNew};
+ghost use Rattle.msg_exec.specs.Prelude.{EachIs, IsEngine};
 
 use super::making::{add_deciding, frame_of, places, quiet, replay, run_frame, start};
 use crate::numbers::type_no;

@@ -1,7 +1,7 @@
 // A system of one's own, whose turn is one write.
 ghost use Rattle.std.specs.Prelude.{IfOk, ℕ};
-ghost use Rattle.msg_frames.specs.FirstState.{IsNew};
-ghost use Rattle.msg_exec.specs.Engines.{IsEngine};
+ghost use Rattle.msg_frames.specs.Prelude.{IsNew};
+ghost use Rattle.msg_exec.specs.Prelude.{IsEngine};
 
 use super::expecting::{expect_log, wrote};
 use super::making::{add, places, quiet, run_frame, start};
@@ -41,8 +41,7 @@ impl Beacon {
 impl System for Beacon {
     ghost use Rattle.msg_system.specs.declared.op.Op.TheVariants.{Write};
     ghost use Rattle.msg_system.specs.declared.start.Start.TheVariants.{Zero};
-    ghost use Rattle.msg_system.specs.OpRuns.{places_of};
-    ghost use Rattle.msg_system.specs.Systems.{of_program, only};
+    ghost use Rattle.msg_system.specs.Prelude.{of_program, only, places_of};
 
     ghost meaning = { λ b. of_program (only (Write b.to b.value) Zero) b.writer (places_of b.cursors) };
 

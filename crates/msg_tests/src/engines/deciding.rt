@@ -1,6 +1,6 @@
 // Systems that decide: each on 1, 2, 7 and 64 workers.
 ghost use Rattle.std.specs.Prelude.{IfOk};
-ghost use Rattle.msg_exec.specs.Engines.{IsEngine};
+ghost use Rattle.msg_exec.specs.Prelude.{IsEngine};
 
 use super::making::{add_deciding, frame_of, places, run_frame, start};
 use crate::adders::Adder;

@@ -1,6 +1,6 @@
 // On which threads the jobs of a batch run, and when the gate is called.
 ghost use Rattle.std.specs.Prelude.{IfOk};
-ghost use Rattle.msg_exec.specs.Engines.{IsEngine};
+ghost use Rattle.msg_exec.specs.Prelude.{IsEngine};
 
 use super::expecting::{expect_log, posted, read};
 use super::gates::{HoldGate, NotingGate, OneByOne};

@@ -1,12 +1,10 @@
 // Engines for tests: their systems, their places, and one frame of them.
 ghost use Rattle.std.specs.Prelude.{◌≡◌, ◌+◌, ◌≤◌, All, IfOk, OnOk, IsTrue, length};
-ghost use Rattle.msg_world.specs.Access.{Part};
-ghost use Rattle.msg_world.specs.Parts.{Has, IsWhole};
-ghost use Rattle.msg_order.specs.Order.{NameSystemsBelow};
-ghost use Rattle.msg_system.specs.Needs.{needs_any, with_conditions};
-ghost use Rattle.msg_exec.specs.Building.{EachIs, MayBeAdded};
-ghost use Rattle.msg_frames.specs.FirstState.{IsNew};
-ghost use Rattle.msg_exec.specs.Engines.{IsEngine, PostsFit};
+ghost use Rattle.msg_world.specs.Prelude.{Has, IsWhole, Part};
+ghost use Rattle.msg_order.specs.Prelude.{NameSystemsBelow};
+ghost use Rattle.msg_system.specs.Prelude.{needs_any, with_conditions};
+ghost use Rattle.msg_exec.specs.Prelude.{EachIs, IsEngine, MayBeAdded, PostsFit};
+ghost use Rattle.msg_frames.specs.Prelude.{IsNew};
 
 use crate::numbers::workers;
 use msg_buffer::NoMemory;

@@ -1,6 +1,6 @@
 // Systems that note their turns.
 ghost use Rattle.std.specs.Prelude.{IfOk};
-ghost use Rattle.msg_exec.specs.Engines.{IsEngine};
+ghost use Rattle.msg_exec.specs.Prelude.{IsEngine};
 
 use super::making::{add, places, script, start};
 use super::prefaced::{Before, Prefaced};

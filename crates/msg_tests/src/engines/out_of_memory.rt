@@ -1,7 +1,7 @@
 // What refused requests for ordinary memory leave of engines. Each test prints `refused` where
 // the call that it tests answered want of memory, and `ample` where it gave its whole answer.
 ghost use Rattle.std.specs.Prelude.{IfOk};
-ghost use Rattle.msg_exec.specs.Engines.{IsEngine};
+ghost use Rattle.msg_exec.specs.Prelude.{IsEngine};
 
 use super::expecting::{by, expect_log, read, wrote};
 use super::making::{engine_of, quiet, replay, run_frames};

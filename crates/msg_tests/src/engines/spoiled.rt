@@ -1,6 +1,6 @@
 // An engine that is spoiled.
 ghost use Rattle.std.specs.Prelude.{IfOk};
-ghost use Rattle.msg_exec.specs.Engines.{IsEngine};
+ghost use Rattle.msg_exec.specs.Prelude.{IsEngine};
 
 use super::making::{add, places, quiet, replay, run_frame, run_frames, script, start};
 use super::prefaced::{Before, Prefaced};

@@ -1,6 +1,6 @@
 // How many workers run the jobs of a batch, and what they do beside one that has no memory.
 ghost use Rattle.std.specs.Prelude.{IfOk};
-ghost use Rattle.msg_exec.specs.Engines.{IsEngine};
+ghost use Rattle.msg_exec.specs.Prelude.{IsEngine};
 
 use super::expecting::{expect_log, posted, read};
 use super::gates::{HoldGate, RollCall};

@@ -1,7 +1,6 @@
 use Rattle.std.proofs.Common.{◌≡◌, ◌+◌, length}
-use Rattle.msg_buffer.specs.Reading.{Continues, iter_place, iter_rest}
-use Rattle.damage_and_score.specs.Seen.{points_of}
-use Rattle.damage_and_score.specs.declared.damage.Hero.TheVariants.{Archer, Mage}
+use Rattle.msg_buffer.specs.Prelude.{Continues, iter_place, iter_rest}
+use Rattle.damage_and_score.specs.Prelude.{Archer, Mage, points_of}
 use Rattle.damage_and_score.proofs.sight.see.Given as goal
 
 -- what was added so far and what is left are all that was unread

@@ -1,5 +1,5 @@
 use Rattle.std.proofs.Common.{◌≡◌, map}
-use Rattle.msg_board.specs.declared.law.Slot.TheVariants.{Job}
+use Rattle.msg_board.specs.Prelude.{Job}
 use Rattle.msg_board.proofs.slots.slots_of.Given as goal
 
 abbrev pub invariant-loop-job : goal.invariant-loop-job

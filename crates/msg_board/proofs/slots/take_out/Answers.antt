@@ -1,6 +1,6 @@
 use Rattle.std.proofs.Common.{ap, sym, ◌∙◌, ◌∷◌}
 use Rattle.atomic_table.specs.Table.{rest}
-use Rattle.msg_board.specs.declared.law.Slot.TheVariants.{Job}
+use Rattle.msg_board.specs.Prelude.{Job}
 use Rattle.msg_board.proofs.slots.take_out.Goals as goal
 
 pub exchange-requires : goal.exchange-requires

@@ -2,7 +2,7 @@ use Rattle.std.proofs.Common.{rules, ◌≡◌, ap, sym, ◌∙◌, ◌∷◌, [
 use mathlib.Core.Option.{some}
 use lib.ListN.{get_elem?}
 use Rattle.std.specs.Slots.{slots_items}
-use Rattle.msg_board.specs.declared.law.Slot.TheVariants.{Done}
+use Rattle.msg_board.specs.Prelude.{Done}
 use Rattle.msg_board.proofs.TableLists.{one_value, each_pushed, false_below}
 use Rattle.msg_board.proofs.slots.take_results.Goals as goal
 

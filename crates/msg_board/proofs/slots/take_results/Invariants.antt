@@ -4,7 +4,7 @@ use lib.ListN.{get_elem?}
 use Rattle.std.specs.Prelude.{slice_get}
 use Rattle.std.specs.Slots.{slots_items, slots_filled, slots_len}
 use Rattle.std.specs.Slots.Ownership.{Filled}
-use Rattle.msg_board.specs.declared.law.Slot.TheVariants.{Done}
+use Rattle.msg_board.specs.Prelude.{Done}
 use Rattle.msg_board.proofs.slots.take_results.Given as goal
 
 abbrev pub invariant-loop-i : goal.invariant-loop-i

@@ -1,7 +1,7 @@
 use Rattle.std.proofs.Common.{◌≡◌, ◌+◌, ◌++◌, List, take, vec_len, vec_capacity}
 use Rattle.std.specs.Fn.{FnReturnsAt}
 use Rattle.std.specs.List.{AllZip}
-use Rattle.msg_buffer.specs.History.{numbered}
+use Rattle.msg_buffer.specs.Prelude.{numbered}
 use Rattle.msg_buffer.proofs.batch.append_each.Given as goal
 
 abbrev pub invariant-loop-item : goal.invariant-loop-item

@@ -1,6 +1,6 @@
 use Rattle.std.proofs.Common.{◌≡◌, ◌+◌, ◌++◌, ◌≤◌, vec_len, vec_capacity}
 use Rattle.std.specs.Vec.Iter.{into_iter_items, into_iter_len}
-use Rattle.msg_buffer.specs.History.{numbered}
+use Rattle.msg_buffer.specs.Prelude.{numbered}
 use Rattle.msg_buffer.proofs.batch.append_numbered.Given as goal
 
 abbrev pub invariant-loop-message : goal.invariant-loop-message

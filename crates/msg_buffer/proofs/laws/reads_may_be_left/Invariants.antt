@@ -1,5 +1,5 @@
 use Rattle.std.proofs.Common.{◌≡◌, ◌+◌, length}
-use Rattle.msg_buffer.specs.Reading.{Continues, iter_place, iter_rest}
+use Rattle.msg_buffer.specs.Prelude.{Continues, iter_place, iter_rest}
 use Rattle.msg_buffer.proofs.laws.reads_may_be_left.Given as goal
 
 abbrev pub invariant-loop : goal.invariant-loop

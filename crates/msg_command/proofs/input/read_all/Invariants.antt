@@ -1,6 +1,6 @@
 use Rattle.std.proofs.Common.{◌≤◌, vec_len}
 use Rattle.std.specs.Io.KnownBytes.{Consumes}
-use Rattle.msg_command.specs.declared.input.TheConstants.{MAX_BYTES}
+use Rattle.msg_command.specs.Prelude.{MAX_BYTES}
 use Rattle.msg_command.proofs.input.read_all.Given as goal
 
 abbrev pub invariant-loop : goal.invariant-loop

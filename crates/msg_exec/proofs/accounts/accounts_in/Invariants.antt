@@ -1,9 +1,8 @@
 use Rattle.std.proofs.Common.{◌≡◌}
 use Rattle.std.specs.Prelude.{flat_map}
 use Rattle.std.specs.List.{range_with_len}
-use Rattle.msg_frames.specs.Accounts.{accounts_of_system}
-use Rattle.msg_exec.specs.Cores.{CoreStands}
-use Rattle.msg_frames.specs.Frames.{State}
+use Rattle.msg_frames.specs.Prelude.{State, accounts_of_system}
+use Rattle.msg_exec.specs.Prelude.{CoreStands}
 use Rattle.msg_exec.proofs.accounts.accounts_in.Given as goal
 
 abbrev pub invariant-loop-i : goal.invariant-loop-i

@@ -1,10 +1,9 @@
 use Rattle.std.proofs.Common.{◌≡◌, ◌<◌, refl, sym, ap, get_or, ◌∙◌, arith}
 use Rattle.std.specs.Global.{Vec}
-use Rattle.msg_world.specs.Access.{OfType, reads}
+use Rattle.msg_world.specs.Prelude.{OfType, reads}
 use Rattle.msg_frames.specs.declared.totals.Totals.{Totals}
-use Rattle.msg_frames.specs.Accounts.{is_reader}
-use Rattle.msg_frames.specs.Entries.{no_totals}
-use Rattle.msg_exec.specs.Lender.{TotalsStand}
+use Rattle.msg_frames.specs.Prelude.{is_reader, no_totals}
+use Rattle.msg_exec.specs.Prelude.{TotalsStand}
 use Rattle.msg_exec.proofs.ItemsOfLists.{taken_from}
 use Rattle.msg_exec.proofs.AccountsTell.{no_reader_more, reader_is, reader_more, reader_told, taken_system}
 use Rattle.msg_exec.proofs.accounts.add_accounts.Goals as goal

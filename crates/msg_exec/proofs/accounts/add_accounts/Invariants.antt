@@ -1,6 +1,6 @@
 use Rattle.std.proofs.Common.{◌≡◌, ◌++◌}
-use Rattle.msg_exec.specs.Cores.{CoreStands}
-use Rattle.msg_frames.specs.Frames.{State}
+use Rattle.msg_exec.specs.Prelude.{CoreStands}
+use Rattle.msg_frames.specs.Prelude.{State}
 use Rattle.msg_exec.proofs.AccountsTell.{accounts_below}
 use Rattle.msg_exec.proofs.accounts.add_accounts.Given as goal
 

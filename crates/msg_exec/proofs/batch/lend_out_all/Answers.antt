@@ -1,8 +1,8 @@
 use Rattle.std.proofs.Common.{◌≢◌, ◌++◌, ◌∷◌, [], subst, sym, take}
 use Rattle.std.specs.Prelude.{slice_index_or}
 use Rattle.std.proofs.lemmas.List.{take_more}
-use Rattle.msg_world.specs.Access.{Conflict}
-use Rattle.msg_order.specs.Order.{access_of}
+use Rattle.msg_world.specs.Prelude.{Conflict}
+use Rattle.msg_order.specs.Prelude.{access_of}
 use Rattle.msg_exec.specs.inner.Lending.{AreOut}
 use Rattle.msg_exec.proofs.BatchGoesOut.{may_go, one_more_out}
 use Rattle.msg_exec.proofs.BatchWritesApart.{each_before, not_before}

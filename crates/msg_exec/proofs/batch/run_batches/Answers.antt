@@ -1,13 +1,12 @@
 use Rattle.std.proofs.Common.{◌≡◌, ◌≢◌, ℕ, ◌<◌, ◌≤◌, ◌++◌, [], get_or, ap, sym, ◌∙◌, subst, arith, take, map, length}
 use Rattle.std.proofs.lemmas.List.{length-map}
-use Rattle.msg_exec.specs.Work.{EachPassedGate}
-use Rattle.msg_order.specs.Plan.{NoneConflict}
+use Rattle.msg_exec.specs.Prelude.{EachPassedGate, LenderStands}
+use Rattle.msg_order.specs.Prelude.{NoneConflict}
 use Rattle.msg_exec.proofs.WorkersDraw.{more_passed}
 use Rattle.msg_exec.proofs.BatchAfterBatch.{its_systems, pairs_of_one, HasTurned, as_many_systems, one_batch_more, systems_of, turned_more}
 use Rattle.std.specs.Prelude.{All, AllPairs}
 use Rattle.std.proofs.Math.Seq.{take-length}
-use Rattle.msg_frames.specs.Frames.{after_turns_of, State}
-use Rattle.msg_exec.specs.Lender.{LenderStands}
+use Rattle.msg_frames.specs.Prelude.{after_turns_of, State}
 use Rattle.std.specs.Global.{Vec}
 use Rattle.msg_exec.proofs.batch.run_batches.Goals as goal
 

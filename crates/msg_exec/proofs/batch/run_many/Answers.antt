@@ -2,10 +2,9 @@ use Rattle.std.proofs.Common.{length, min, subst, sym, ◌∙◌, arith}
 use Rattle.std.specs.Prelude.{All}
 use Rattle.std.proofs.lemmas.List.{nil_from_length}
 use Rattle.std.proofs.lemmas.Slice.Zip.{AllZip-long}
-use Rattle.msg_exec.specs.declared.job.Job.{Job}
+use Rattle.msg_exec.specs.Prelude.{Job, PassedGate}
 use Rattle.msg_exec.specs.inner.Lending.{IsOut}
-use Rattle.msg_frames.specs.Frames.{State}
-use Rattle.msg_exec.specs.Work.{PassedGate}
+use Rattle.msg_frames.specs.Prelude.{State}
 use Rattle.msg_exec.proofs.WorkersDraw.{of_batch}
 use Rattle.msg_exec.proofs.BatchAfterBatch.{no_more_than}
 use Rattle.msg_exec.proofs.BatchComesHome.{ComingHome, all_came, begin_home, below_alike, next_comes, next_may_come}

@@ -1,5 +1,5 @@
-use Rattle.msg_exec.specs.Lender.{LenderStands}
-use Rattle.msg_frames.specs.Frames.{State}
+use Rattle.msg_exec.specs.Prelude.{LenderStands}
+use Rattle.msg_frames.specs.Prelude.{State}
 use Rattle.msg_exec.proofs.BatchComesHome.{ComingHome}
 use Rattle.msg_exec.proofs.batch.run_many.Given as goal
 

@@ -2,7 +2,7 @@ use Rattle.std.proofs.Common.{◌<◌, ◌++◌, ◌∷◌, [], ap, sym, subst, 
 use Rattle.std.specs.Prelude.{All, slice_index_or}
 use Rattle.std.proofs.lemmas.List.{take_more}
 use Rattle.std.proofs.lemmas.List.Elements.{All-push}
-use Rattle.msg_frames.specs.Frames.{after_turns_of, State}
+use Rattle.msg_frames.specs.Prelude.{after_turns_of, State}
 use Rattle.msg_exec.proofs.BatchAfterBatch.{HasTurned, as_many_systems, turned_all, turned_more}
 use Rattle.msg_exec.proofs.batch.run_turns.Goals as goal
 

@@ -1,7 +1,7 @@
 use Rattle.std.proofs.Common.{◌≡◌, take}
 use Rattle.std.specs.Prelude.{All}
-use Rattle.msg_exec.specs.Lender.{LenderStands}
-use Rattle.msg_frames.specs.Frames.{State}
+use Rattle.msg_exec.specs.Prelude.{LenderStands}
+use Rattle.msg_frames.specs.Prelude.{State}
 use Rattle.msg_exec.proofs.BatchAfterBatch.{HasTurned}
 use Rattle.msg_exec.proofs.batch.run_turns.Given as goal
 

@@ -1,4 +1,4 @@
-use Rattle.msg_exec.specs.Building.{FitBelow}
+use Rattle.msg_exec.specs.Prelude.{FitBelow}
 use Rattle.msg_exec.proofs.builder.check_systems.Given as goal
 
 abbrev pub invariant-loop-i : goal.invariant-loop-i

@@ -1,7 +1,7 @@
 use Rattle.std.proofs.Common.{◌∷◌, ◌++◌, ◌+◌, [], length, map, sym, ap, ◌≡◌, ◌∙◌, arith}
 use Rattle.std.proofs.lemmas.List.{length-append, length-map, map-append}
-use Rattle.msg_system.specs.Systems.{Meaning}
-use Rattle.msg_exec.specs.Building.{numbered_from}
+use Rattle.msg_system.specs.Prelude.{Meaning}
+use Rattle.msg_exec.specs.Prelude.{numbered_from}
 use Rattle.msg_exec.proofs.BuilderBuilds.{numbered_more}
 use Rattle.msg_exec.proofs.builder.numbered.Goals as goal
 

@@ -1,5 +1,5 @@
 use Rattle.std.proofs.Common.{◌≡◌, length, map}
-use Rattle.msg_exec.specs.Building.{numbered_from}
+use Rattle.msg_exec.specs.Prelude.{numbered_from}
 use Rattle.msg_exec.proofs.builder.numbered.Given as goal
 
 abbrev pub invariant-loop-system : goal.invariant-loop-system

@@ -3,12 +3,12 @@ use Rattle.std.specs.Prelude.{slice_get}
 use Rattle.std.proofs.lemmas.Bool.{false≢true}
 use Rattle.std.proofs.lemmas.List.{length-append}
 use Rattle.std.proofs.lemmas.Option.{slice_get-get_or}
-use Rattle.msg_world.specs.Access.{no_access}
-use Rattle.msg_system.specs.Needs.{IsAccessOf, with_conditions}
+use Rattle.msg_world.specs.Prelude.{no_access}
+use Rattle.msg_system.specs.Prelude.{IsAccessOf, with_conditions}
 use Rattle.msg_frames.specs.declared.place.Place.{Place}
-use Rattle.msg_exec.specs.Building.{EachIs}
+use Rattle.msg_exec.specs.Prelude.{EachIs}
 use Rattle.msg_exec.specs.inner.Building.{IsAccessAt}
-use Rattle.msg_frames.specs.FirstState.{HasClash}
+use Rattle.msg_frames.specs.Prelude.{HasClash}
 use Rattle.msg_exec.proofs.ItemsOfLists.{each_pushed, read_is, read_there}
 use Rattle.msg_exec.proofs.building.accesses_of.Goals as goal
 

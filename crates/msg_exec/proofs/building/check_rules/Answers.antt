@@ -1,7 +1,6 @@
 use Rattle.std.proofs.Common.{◌≡◌, length, true, subst, rules}
 use Rattle.std.specs.Prelude.{replicate}
-use Rattle.msg_order.specs.Graph.{IsAcyclic}
-use Rattle.msg_order.specs.Order.{rules_among}
+use Rattle.msg_order.specs.Prelude.{IsAcyclic, rules_among}
 use Rattle.msg_exec.proofs.building.check_rules.Goals as goal
 
 pub returns-in-Ok-build-clause-acyclic : goal.returns-in-Ok-build-clause-acyclic

@@ -1,5 +1,5 @@
 use Rattle.std.proofs.Common.{◌≡◌, length}
-use Rattle.msg_exec.specs.Building.{EachIs}
+use Rattle.msg_exec.specs.Prelude.{EachIs}
 use Rattle.msg_exec.specs.inner.Building.{IsGuardedAt}
 use Rattle.msg_exec.proofs.building.guarded_systems.Given as goal
 

@@ -1,5 +1,5 @@
 use Rattle.std.proofs.Common.{◌≡◌, map, take}
-use Rattle.msg_system.specs.Conditions.{new_asked}
+use Rattle.msg_system.specs.Prelude.{new_asked}
 use Rattle.msg_exec.proofs.building.guards_of.Given as goal
 
 abbrev pub invariant-loop-condition : goal.invariant-loop-condition

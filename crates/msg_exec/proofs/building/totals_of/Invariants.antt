@@ -1,5 +1,5 @@
 use Rattle.std.proofs.Common.{◌≡◌, length}
-use Rattle.msg_exec.specs.Building.{EachIs}
+use Rattle.msg_exec.specs.Prelude.{EachIs}
 use Rattle.msg_exec.specs.inner.Building.{AreNoTotals}
 use Rattle.msg_exec.proofs.building.totals_of.Given as goal
 

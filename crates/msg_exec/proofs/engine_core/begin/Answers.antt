@@ -1,8 +1,8 @@
 use Rattle.std.proofs.Common.{sym, subst, refl}
 use Rattle.msg_exec.specs.inner.FrameSteps.{IsNextPlan}
-use Rattle.msg_exec.specs.Lender.{AreJoins}
+use Rattle.msg_exec.specs.Prelude.{AreJoins}
 use Rattle.msg_exec.specs.inner.Lending.{HaveReadNothing}
-use Rattle.msg_frames.specs.Frames.{State}
+use Rattle.msg_frames.specs.Prelude.{State}
 use Rattle.msg_exec.proofs.CoreRunsFrame.{about_to_join, none_begins, those_begin}
 use Rattle.msg_exec.proofs.engine_core.begin.Goals as goal
 

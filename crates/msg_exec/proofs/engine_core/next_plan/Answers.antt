@@ -1,10 +1,8 @@
 use Rattle.std.proofs.Common.{◌≡◌, length, ap, sym, subst, ◌∙◌, arith, inl, inr, map}
 use Rattle.std.specs.Prelude.{slice_index_or, suc, nat_le}
 use Rattle.std.proofs.lemmas.Bool.{eqb-false}
-use Rattle.msg_order.specs.Graph.{IsAcyclic}
-use Rattle.msg_order.specs.Order.{NameSystemsBelow, rules_among}
-use Rattle.msg_order.specs.Plan.{IsPlanOf}
-use Rattle.msg_frames.specs.Frames.{State}
+use Rattle.msg_order.specs.Prelude.{IsAcyclic, IsPlanOf, NameSystemsBelow, rules_among}
+use Rattle.msg_frames.specs.Prelude.{State}
 use Rattle.msg_exec.proofs.CoreRunsFrame.{plan_next}
 use Rattle.msg_exec.proofs.engine_core.next_plan.Goals as goal
 

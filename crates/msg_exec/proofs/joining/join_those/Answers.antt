@@ -4,12 +4,9 @@ use Rattle.std.specs.Prelude.{IsSomeAnd}
 use Rattle.std.specs.Vec.{with_items}
 use Rattle.std.proofs.lemmas.List.{get_or_default, length-set, with_items_is}
 use Rattle.msg_frames.specs.declared.totals.Totals.{Totals}
-use Rattle.msg_frames.specs.Entries.{totals_from}
-use Rattle.msg_frames.specs.Frames.{job_begun, State}
-use Rattle.msg_exec.specs.Jobs.{job_state}
-use Rattle.msg_exec.specs.Keeping.{totals_at}
+use Rattle.msg_frames.specs.Prelude.{State, job_begun, totals_from}
+use Rattle.msg_exec.specs.Prelude.{TotalsStand, job_state, system_at, totals_at}
 use Rattle.msg_exec.specs.inner.Totals.{first_place}
-use Rattle.msg_exec.specs.Lender.{TotalsStand, system_at}
 use Rattle.msg_exec.proofs.SystemsJoin.{all_joined, counts_are, joined_below, one_joins, one_waits}
 use Rattle.msg_exec.proofs.ItemsOfLists.{taken_from}
 use Rattle.msg_exec.proofs.joining.join_those.Goals as goal

@@ -1,6 +1,6 @@
 use Rattle.std.proofs.Common.{◌≡◌, ℕ, ◌<◌, length}
-use Rattle.msg_frames.specs.Entries.{totals_from}
-use Rattle.msg_exec.specs.Keeping.{totals_at}
+use Rattle.msg_frames.specs.Prelude.{totals_from}
+use Rattle.msg_exec.specs.Prelude.{totals_at}
 use Rattle.msg_exec.specs.inner.Totals.{first_place}
 use Rattle.msg_exec.proofs.joining.open.Given as goal
 

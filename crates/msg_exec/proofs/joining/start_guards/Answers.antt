@@ -1,6 +1,6 @@
 use Rattle.std.proofs.Common.{set, sym, ap, ◌∙◌, arith}
 use Rattle.std.proofs.lemmas.List.Edits.{map_over_more}
-use Rattle.msg_system.specs.Conditions.{Asked, asked_started}
+use Rattle.msg_system.specs.Prelude.{Asked, asked_started}
 use Rattle.msg_exec.proofs.joining.start_guards.Goals as goal
 
 pub loop-guard-preserved : goal.loop-guard-preserved

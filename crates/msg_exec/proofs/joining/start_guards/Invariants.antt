@@ -1,5 +1,5 @@
 use Rattle.std.proofs.Common.{◌≡◌, ◌++◌, map, take, drop}
-use Rattle.msg_system.specs.Conditions.{asked_started}
+use Rattle.msg_system.specs.Prelude.{asked_started}
 use Rattle.msg_exec.proofs.joining.start_guards.Given as goal
 
 abbrev pub invariant-loop-guard : goal.invariant-loop-guard

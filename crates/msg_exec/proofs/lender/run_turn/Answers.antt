@@ -1,5 +1,5 @@
 use Rattle.std.proofs.Common.{◌<◌, refl, subst, sym, ◌∙◌, arith}
-use Rattle.msg_exec.specs.declared.job.Done.{Done}
+use Rattle.msg_exec.specs.Prelude.{Done}
 use Rattle.msg_exec.proofs.BatchOfOne.{may_come_home, may_take_turn, turn_is_logged, turn_taken}
 use Rattle.msg_exec.proofs.EntriesAreAdded.{entered_there}
 use Rattle.msg_exec.proofs.lender.run_turn.Goals as goal

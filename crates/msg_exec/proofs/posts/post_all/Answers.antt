@@ -3,14 +3,12 @@ use Rattle.std.proofs.Math.Seq.{take-length}
 use mir.Val.{SFits}
 use mir.Syntax.{w64}
 use Rattle.std.proofs.lemmas.Int.{to_z-of_z}
-use Rattle.msg_buffer.specs.History.{write}
+use Rattle.msg_buffer.specs.Prelude.{write}
 use Rattle.msg_world.specs.declared.record.TheConstants.{HOST}
-use Rattle.msg_world.specs.Access.{OfType}
-use Rattle.msg_world.specs.Parts.{PartsStand}
-use Rattle.msg_world.specs.World.{WorldState, by, with_history}
+use Rattle.msg_world.specs.Prelude.{OfType, PartsStand, WorldState, by, with_history}
 use Rattle.msg_system.specs.declared.reply.Reply.{Reply}
 use Rattle.std.proofs.lemmas.Option.{slice_get-get_or}
-use Rattle.msg_frames.specs.Frames.{posted}
+use Rattle.msg_frames.specs.Prelude.{after_posts}
 use Rattle.msg_exec.proofs.PostsAreWritten.{HasPosted, if_refused, one_post_more}
 use Rattle.msg_exec.proofs.posts.post_all.Goals as goal
 
@@ -46,7 +44,7 @@ returns-in_err-reply-clause-no_memory c =
       record {
         post = p;
         is_post = slice_get-get_or c.args.posts.now k p c.loop-t-test.true ∙ ap Some (sym c.loop-t-item.is);
-        room = c.in_err-reply.ensures.no_memory (posted (take k c.args.posts.now) w) (c.loop-t.invariant.so_far w stands).0;
+        room = c.in_err-reply.ensures.no_memory (after_posts (take k c.args.posts.now) w) (c.loop-t.invariant.so_far w stands).0;
       },
     ))
 

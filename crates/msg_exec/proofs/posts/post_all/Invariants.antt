@@ -1,6 +1,5 @@
 use Rattle.std.proofs.Common.{◌≡◌, ◌≤◌, take, length, vec_capacity}
-use Rattle.msg_world.specs.Parts.{PartsStand, SameShape}
-use Rattle.msg_world.specs.World.{WorldState}
+use Rattle.msg_world.specs.Prelude.{PartsStand, SameShape, WorldState}
 use Rattle.msg_exec.proofs.PostsAreWritten.{HasPosted}
 use Rattle.msg_exec.proofs.posts.post_all.Given as goal
 

@@ -1,5 +1,5 @@
 use Rattle.std.proofs.Common.{◌++◌, ◌∙◌, ap, refl}
-use Rattle.msg_frames.specs.Frames.{after_turns_of, before_turns, State}
+use Rattle.msg_frames.specs.Prelude.{after_turns_of, before_turns, State}
 use Rattle.msg_frames.proofs.FramesInOrder.{logged_in}
 use Rattle.msg_exec.proofs.CoreReplaysFrame.{frame_replayed, lawful_below}
 use Rattle.msg_exec.proofs.replay.replay_one.Goals as goal

@@ -3,9 +3,7 @@ use Rattle.std.specs.Prelude.{slice_get}
 use Rattle.std.proofs.Math.Seq.{take-append_seam}
 use Rattle.std.proofs.lemmas.Option.{slice_get_within}
 use Rattle.std.proofs.lemmas.Result.{IfOk-weaker}
-use Rattle.msg_board.specs.Board.{jobs_of}
-use Rattle.msg_board.specs.Counts.{HoldsEachOnce}
-use Rattle.msg_board.specs.Pass.{PassState, drawn_by}
+use Rattle.msg_board.specs.Prelude.{HoldsEachOnce, PassState, drawn_by, jobs_of}
 use Rattle.msg_exec.proofs.WorkersDraw.{each_passed}
 use Rattle.msg_exec.proofs.run_workers.run_jobs.Goals as goal
 

@@ -1,6 +1,6 @@
 use Rattle.std.proofs.Common.{subst, sym, ◌∙◌}
-use Rattle.msg_board.specs.Board.{jobs_of}
-use Rattle.msg_exec.specs.Work.{EachNewIs}
+use Rattle.msg_board.specs.Prelude.{jobs_of}
+use Rattle.msg_exec.specs.Prelude.{EachNewIs}
 use Rattle.msg_exec.proofs.WorkersDraw.{one_more}
 use Rattle.msg_exec.proofs.runs.work.Goals as goal
 

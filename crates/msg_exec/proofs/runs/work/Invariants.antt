@@ -1,6 +1,6 @@
 use Rattle.std.proofs.Common.{◌-◌, length}
-use Rattle.msg_board.specs.Board.{IsIdle, jobs_of}
-use Rattle.msg_exec.specs.Work.{EachNewIs}
+use Rattle.msg_board.specs.Prelude.{IsIdle, jobs_of}
+use Rattle.msg_exec.specs.Prelude.{EachNewIs}
 use Rattle.msg_exec.proofs.runs.work.Given as goal
 
 abbrev pub invariant-loop-k : goal.invariant-loop-k

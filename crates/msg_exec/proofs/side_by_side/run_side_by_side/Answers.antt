@@ -2,9 +2,7 @@ use Rattle.std.proofs.Common.{◌≡◌, ◌∙◌, length, min, ap, sym, subst}
 use Rattle.std.proofs.lemmas.List.{length-map}
 use Rattle.std.proofs.lemmas.Result.{IfOk-weaker}
 use Rattle.std.specs.Prelude.{All}
-use Rattle.msg_exec.specs.Jobs.{MayRun}
-use Rattle.msg_exec.specs.declared.job.Job.{Job}
-use Rattle.msg_exec.specs.Work.{PassedGate}
+use Rattle.msg_exec.specs.Prelude.{Job, MayRun, PassedGate}
 use Rattle.msg_exec.proofs.WorkersDraw.{all_mapped}
 use Rattle.msg_exec.proofs.JobsShareTheWorld.{all_are_done, each_may}
 use Rattle.msg_exec.proofs.side_by_side.run_side_by_side.Goals as goal

@@ -1,6 +1,6 @@
 use Rattle.std.proofs.Common.{arith, ap, sym, ◌∙◌}
-use Rattle.msg_frames.specs.Entries.{entries_for, with_entries}
-use Rattle.msg_exec.specs.Keeping.{kept}
+use Rattle.msg_frames.specs.Prelude.{entries_for, with_entries}
+use Rattle.msg_exec.specs.Prelude.{kept}
 use Rattle.msg_exec.specs.inner.Totals.{entries_by, entry_at}
 use Rattle.msg_exec.proofs.EntriesAreAdded.{entered_all, entered_one_more}
 use Rattle.msg_exec.proofs.totals.enter.Goals as goal

@@ -1,7 +1,7 @@
 use Rattle.std.proofs.Common.{◌≡◌, ℕ, ◌<◌, length, drop}
 use Rattle.msg_frames.specs.declared.totals.Totals.{Totals as TotalsOf}
-use Rattle.msg_frames.specs.Entries.{entries_for, with_entries}
-use Rattle.msg_exec.specs.Keeping.{kept, totals_at}
+use Rattle.msg_frames.specs.Prelude.{entries_for, with_entries}
+use Rattle.msg_exec.specs.Prelude.{kept, totals_at}
 use Rattle.msg_exec.proofs.totals.enter.Given as goal
 
 -- the entries of the ops to come lead from what is kept to what it is to be

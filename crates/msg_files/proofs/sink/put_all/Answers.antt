@@ -1,5 +1,5 @@
 use Rattle.std.proofs.Common.{length, ap, arith}
-use Rattle.msg_files.specs.declared.sink.PutFault.{PutFault}
+use Rattle.msg_files.specs.Prelude.{PutFault}
 use Rattle.msg_files.proofs.Puts.{on_err, rest_whole, failures_kept, Appends_more, AppendsPrefix_kept, AppendsPrefix_zero}
 use Rattle.msg_files.proofs.sink.put_all.Goals as goal
 

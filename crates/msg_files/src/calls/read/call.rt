@@ -2,11 +2,7 @@
 ghost use Rattle.std.specs.Prelude.{◌≡◌, ◌≢◌, ◌<◌, ◌≤◌, Some, None, IfOk, IfErr, MatchResult, map};
 ghost use Rattle.std.specs.List.{list_all};
 ghost use Rattle.serde_json.specs.View.{view};
-ghost use Rattle.msg_files.specs.Check.{first_refusal};
-ghost use Rattle.msg_files.specs.Checks.{a_value, bare_checks, batch_checks, call_checks, checks_with, checks_with_one, checks_with_two};
-ghost use Rattle.msg_files.specs.Denotes.{bare_call, call_of, call_with, call_with_one, call_with_two, values_of};
-ghost use Rattle.msg_files.specs.Json.{is_number, whole};
-ghost use Rattle.msg_files.specs.Walk.{Agrees, FitsCursors, IsAnswer};
+ghost use Rattle.msg_files.specs.Prelude.{Agrees, FitsCursors, IsAnswer, a_value, bare_call, bare_checks, batch_checks, call_checks, call_of, call_with, call_with_one, call_with_two, checks_with, checks_with_one, checks_with_two, first_refusal, is_number, values_of, whole};
 
 use crate::call::Call;
 use crate::calls::read::part;

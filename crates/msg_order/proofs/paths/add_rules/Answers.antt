@@ -1,7 +1,6 @@
 use Rattle.std.proofs.Common.{ℕ, get_or, take, ◌∙◌, sym, arith}
 use Rattle.std.proofs.lemmas.Bool.{and_from, and_left, and_right}
-use Rattle.msg_order.specs.declared.rule.Rule.{Rule}
-use Rattle.msg_order.specs.Order.{has_joined, rules_among}
+use Rattle.msg_order.specs.Prelude.{Rule, has_joined, rules_among}
 use Rattle.msg_order.proofs.SetPaths.{adds_edge, rule_adds, rule_follows, rule_passes}
 use Rattle.msg_order.proofs.paths.add_rules.Goals as goal
 use Rattle.msg_order.proofs.paths.add_rules.Goals.{then-joined-earlier+then-joined-later+then-not-contains, else-joined-earlier, else-joined-earlier-via-then-joined-earlier+then-joined-later+else-not-contains, else-joined-earlier-via-then-joined-earlier+else-joined-later, else-joined-earlier-via-else-joined-earlier}

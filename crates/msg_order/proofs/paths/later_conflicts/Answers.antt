@@ -2,7 +2,7 @@ use Rattle.std.proofs.Common.{◌≡◌, ℕ, false, inl, inr, sym, ◌∙◌, s
 use Rattle.std.specs.Prelude.{◌==◌}
 use Rattle.std.proofs.lemmas.Bool.{cases_eq, or_cases, or_left, or_right, eqb-true, eq-eqb, false≢true}
 use Rattle.msg_order.specs.inner.SystemSet.{has}
-use Rattle.msg_order.specs.Order.{AreInConflict}
+use Rattle.msg_order.specs.Prelude.{AreInConflict}
 use Rattle.msg_order.proofs.paths.later_conflicts.Goals as goal
 use Rattle.msg_order.proofs.paths.later_conflicts.Goals.{then-are_in_conflict+then-not-contains, else-are_in_conflict, else-are_in_conflict-via-then-are_in_conflict+else-not-contains, else-are_in_conflict-via-else-are_in_conflict}
 

@@ -1,6 +1,6 @@
 use Rattle.std.proofs.Common.{◌≡◌, ℕ, ◌<◌, true, false}
 use Rattle.msg_order.specs.inner.SystemSet.{has}
-use Rattle.msg_order.specs.Order.{AreInConflict}
+use Rattle.msg_order.specs.Prelude.{AreInConflict}
 use Rattle.msg_order.proofs.paths.later_conflicts.Given as goal
 
 abbrev pub invariant-loop-j : goal.invariant-loop-j

@@ -1,4 +1,4 @@
-use Rattle.msg_order.specs.Order.{rules_among}
+use Rattle.msg_order.specs.Prelude.{rules_among}
 use Rattle.msg_order.proofs.paths.settle.Goals as goal
 
 pub returns : goal.returns

@@ -1,5 +1,5 @@
 use Rattle.std.proofs.Common.{◌<◌, length, arith}
-use Rattle.msg_order.specs.Order.{AreInConflict}
+use Rattle.msg_order.specs.Prelude.{AreInConflict}
 use Rattle.msg_order.proofs.SetPaths.{row_settles, joined_in}
 use Rattle.msg_order.proofs.paths.settle_pairs.Goals as goal
 

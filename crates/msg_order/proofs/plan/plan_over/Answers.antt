@@ -2,9 +2,7 @@ use Rattle.std.proofs.Common.{◌≡◌, ℕ, List, Bool, length, map, sym, ap, 
 use Rattle.std.specs.List.{concat}
 use Rattle.std.specs.Vec.{with_items}
 use Rattle.std.proofs.lemmas.List.{with_items_is}
-use Rattle.msg_order.specs.declared.system_set.SystemSet.{SystemSet}
-use Rattle.msg_order.specs.Graph.{Graph, IsAcyclic}
-use Rattle.msg_order.specs.Order.{AreBatches, IsAmong}
+use Rattle.msg_order.specs.Prelude.{AreBatches, Graph, IsAcyclic, IsAmong, SystemSet}
 use Rattle.msg_order.specs.inner.Paths.{ArePaths, AreKept}
 use Rattle.msg_order.proofs.PathTest.{from_Path, to_Path}
 use Rattle.msg_order.proofs.SetPaths.{settled_joins, settled_free}

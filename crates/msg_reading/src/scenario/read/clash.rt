@@ -1,6 +1,6 @@
 // Whether a system's program clashes with itself.
 ghost use Rattle.std.specs.Prelude.{◌≡◌, ◌≤◌, ℕ, All, IfErr, OnOk, length};
-ghost use Rattle.msg_reading.specs.Reading.{IsClashing, IsLowestClash};
+ghost use Rattle.msg_reading.specs.Prelude.{IsClashing, IsLowestClash};
 ghost use Rattle.msg_files.specs.declared.refusal.Refusal.TheVariants.{Clash};
 
 use crate::{Refusal, SystemSpec};

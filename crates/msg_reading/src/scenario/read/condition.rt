@@ -3,7 +3,7 @@ ghost use Rattle.std.specs.Prelude.{◌≡◌, ◌∷◌, [], map, option_map};
 ghost use Rattle.serde_json.specs.View.{view};
 ghost use Rattle.msg_reading.specs.ScenarioChecks.{condition_checks, probe_checks};
 ghost use Rattle.msg_reading.specs.ScenarioDenotes.{condition_of, in_not, in_not_with, inside_nots, nots_round, probe_with};
-ghost use Rattle.msg_files.specs.Walk.{IsAnswer};
+ghost use Rattle.msg_files.specs.Prelude.{IsAnswer};
 
 use crate::Refusal;
 use crate::limits::{MAX_NOTS, MOST_NESTED};

@@ -1,7 +1,6 @@
 // Whether the rules of a file go round in a circle.
 ghost use Rattle.std.specs.Prelude.{◌≡◌, ◌≢◌, ◌≤◌, ℕ, IfErr, OnOk};
-ghost use Rattle.msg_order.specs.Graph.{IsAcyclic, IsLowestOnCycle};
-ghost use Rattle.msg_order.specs.Order.{NameSystemsBelow, edges_of};
+ghost use Rattle.msg_order.specs.Prelude.{IsAcyclic, IsLowestOnCycle, NameSystemsBelow, edges_of};
 ghost use Rattle.msg_files.specs.declared.refusal.Refusal.TheVariants.{Cycle};
 
 use crate::Refusal;

@@ -1,12 +1,9 @@
 // One type or one resource: a name and a number.
 ghost use Rattle.std.specs.Prelude.{◌≡◌, ◌∷◌, ◌++◌, ◌&&◌, [], OnOk, option_map};
 ghost use Rattle.serde_json.specs.View.{view};
-ghost use Rattle.msg_files.specs.Check.{needs};
-ghost use Rattle.msg_files.specs.Checks.{a_limit, a_value};
-ghost use Rattle.msg_files.specs.Json.{is_number, natural, whole};
+ghost use Rattle.msg_files.specs.Prelude.{Agrees, a_limit, a_value, is_number, natural, needs, whole};
 ghost use Rattle.msg_reading.specs.ScenarioChecks.{is_text, new_name, resource_checks, type_checks};
 ghost use Rattle.msg_reading.specs.ScenarioDenotes.{resource_of, text, type_of, with_resource, with_type};
-ghost use Rattle.msg_files.specs.Walk.{Agrees};
 ghost use Rattle.msg_files.specs.declared.refusal.Refusal.TheVariants.{Shape};
 
 use crate::scenario::read::named::Declaration;

@@ -2,9 +2,7 @@
 ghost use Rattle.std.specs.Prelude.{◌≡◌, ◌≢◌, None, Some, IfOk, IfErr, OnOk, codes};
 ghost use Rattle.serde_json.specs.Find.{as_bool};
 ghost use Rattle.serde_json.specs.View.{view};
-ghost use Rattle.msg_files.specs.Check.{first_refusal};
-ghost use Rattle.msg_files.specs.Json.{value_at};
-ghost use Rattle.msg_files.specs.Walk.{Agrees, IsAnswer};
+ghost use Rattle.msg_files.specs.Prelude.{Agrees, IsAnswer, first_refusal, value_at};
 ghost use Rattle.msg_reading.specs.ScenarioChecks.{frames_checks, held_checks, is_root_key, resources_checks, root_object, rules_checks, scenario_checks, systems_checks, types_checks};
 ghost use Rattle.msg_reading.specs.ScenarioDenotes.{all_names, frames_in, frames_of, held_in, no_names, part_names, resources_of, rules_of, scenario_of, systems_in, systems_of, type_names, types_in, types_of};
 

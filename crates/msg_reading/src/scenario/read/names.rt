@@ -1,9 +1,7 @@
 // The names that a file declares.
 ghost use Rattle.std.specs.Prelude.{◌≡◌, ◌∷◌, ◌++◌, [], Some, None, IsOk, OnOk, MatchResult};
-ghost use Rattle.msg_reading.specs.Names.{position_of, type_number, resource_number, system_number};
-ghost use Rattle.msg_reading.specs.ScenarioChecks.{new_name};
-ghost use Rattle.msg_reading.specs.ScenarioDenotes.{no_names};
-ghost use Rattle.msg_files.specs.Walk.{Agrees};
+ghost use Rattle.msg_reading.specs.Prelude.{new_name, no_names, position_of, resource_number, system_number, type_number};
+ghost use Rattle.msg_files.specs.Prelude.{Agrees};
 
 use crate::limits::{MAX_RESOURCES, MAX_SYSTEMS, MAX_TYPES};
 use crate::name::is_name;
@@ -21,7 +19,7 @@ pub struct NameSpace {
 
 impl Model for NameSpace {
     ghost use Rattle.std.specs.Prelude.{List, map, string_bytes};
-    ghost use Rattle.msg_files.specs.Json.{Text};
+    ghost use Rattle.msg_files.specs.Prelude.{Text};
 
     ghost Value = { List Text };
 

@@ -3,14 +3,10 @@ ghost use Rattle.std.specs.Prelude.{◌≡◌, ◌∷◌, ◌&&◌, Some, MatchR
 ghost use Rattle.serde_json.specs.Find.{as_array, as_str};
 ghost use Rattle.serde_json.specs.View.{items_view, view};
 ghost use Rattle.msg_system.specs.declared.op.Op.TheVariants.{Batch};
-ghost use Rattle.msg_files.specs.Check.{needs};
-ghost use Rattle.msg_files.specs.Checks.{a_value, few_values};
-ghost use Rattle.msg_files.specs.Denotes.{values_of};
-ghost use Rattle.msg_files.specs.Json.{all_some, elements, whole};
+ghost use Rattle.msg_files.specs.Prelude.{Agrees, IsAnswer, a_value, all_some, elements, few_values, needs, values_of, whole};
 ghost use Rattle.msg_reading.specs.Names.{type_number};
 ghost use Rattle.msg_reading.specs.ScenarioChecks.{a_type, bare_op_checks, is_list_of_numbers, is_text, op_checks, op_checks_with, op_checks_with_one, op_checks_with_two};
 ghost use Rattle.msg_reading.specs.ScenarioDenotes.{bare_op, both, op_of, op_with, op_with_one, op_with_two, text};
-ghost use Rattle.msg_files.specs.Walk.{Agrees, IsAnswer};
 ghost use Rattle.msg_files.specs.declared.refusal.Refusal.TheVariants.{Shape, TooMany};
 
 use crate::Refusal;

@@ -3,13 +3,8 @@ ghost use Rattle.std.specs.Prelude.{◌≡◌, ◌∷◌, ◌&&◌, [], List, So
 ghost use Rattle.serde_json.specs.Data.{Data};
 ghost use Rattle.serde_json.specs.Find.{as_number, as_str};
 ghost use Rattle.serde_json.specs.View.{view, number_view};
-ghost use Rattle.msg_files.specs.Check.{Check, first_refusal, needs};
-ghost use Rattle.msg_files.specs.Checks.{a_limit, a_value};
-ghost use Rattle.msg_files.specs.Json.{Text, elements, is_number, natural, whole};
-ghost use Rattle.msg_reading.specs.Names.{resource_number, type_number};
-ghost use Rattle.msg_reading.specs.ScenarioChecks.{a_resource, a_type, for_headed, for_two, is_text, wrong_shape};
-ghost use Rattle.msg_reading.specs.ScenarioDenotes.{both, in_not, text};
-ghost use Rattle.msg_files.specs.Walk.{IsAnswer};
+ghost use Rattle.msg_files.specs.Prelude.{Check, IsAnswer, Text, a_limit, a_value, elements, first_refusal, is_number, natural, needs, whole};
+ghost use Rattle.msg_reading.specs.Prelude.{a_resource, a_type, both, for_headed, for_two, in_not, is_text, resource_number, text, type_number, wrong_shape};
 ghost use Rattle.msg_files.specs.declared.refusal.Refusal.TheVariants.{Shape};
 
 use crate::Refusal;

@@ -1,10 +1,8 @@
 // A system's conditions, the frame that it joins with, and where its cursors start.
 ghost use Rattle.std.specs.Prelude.{◌≡◌, None, Some, MatchResult};
 ghost use Rattle.serde_json.specs.View.{view};
-ghost use Rattle.msg_files.specs.Json.{natural};
-ghost use Rattle.msg_reading.specs.ScenarioChecks.{condition_checks, join_checks, list_checks, place_checks};
-ghost use Rattle.msg_reading.specs.ScenarioDenotes.{condition_of, conditions_in, each_of, join_in, place_of, start_in, start_of};
-ghost use Rattle.msg_files.specs.Walk.{Agrees, IsAnswer};
+ghost use Rattle.msg_files.specs.Prelude.{Agrees, IsAnswer, natural};
+ghost use Rattle.msg_reading.specs.Prelude.{condition_checks, condition_of, conditions_in, each_of, join_checks, join_in, list_checks, place_checks, place_of, start_in, start_of};
 
 use crate::Refusal;
 use crate::limits::{LAST_JOIN, MAX_CONDITIONS};

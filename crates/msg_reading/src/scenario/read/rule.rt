@@ -1,11 +1,10 @@
 // One rule: two systems, of which the first runs before the second.
 ghost use Rattle.std.specs.Prelude.{◌∷◌, ◌&&◌, []};
 ghost use Rattle.serde_json.specs.View.{view};
-ghost use Rattle.msg_files.specs.Check.{needs};
+ghost use Rattle.msg_files.specs.Prelude.{IsAnswer, needs};
 ghost use Rattle.msg_reading.specs.Names.{system_number};
 ghost use Rattle.msg_reading.specs.ScenarioChecks.{a_system, is_text, rule_checks};
 ghost use Rattle.msg_reading.specs.ScenarioDenotes.{both, rule_of, text};
-ghost use Rattle.msg_files.specs.Walk.{IsAnswer};
 ghost use Rattle.msg_files.specs.declared.refusal.Refusal.TheVariants.{Shape};
 
 use crate::Refusal;

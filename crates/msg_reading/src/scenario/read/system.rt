@@ -2,11 +2,9 @@
 ghost use Rattle.std.specs.Prelude.{◌≡◌, ◌≢◌, ◌∷◌, ◌++◌, [], None, Some, IfOk, IfErr, MatchResult, OnOk, codes, false};
 ghost use Rattle.std.specs.Option.{option_map_or};
 ghost use Rattle.serde_json.specs.View.{view};
-ghost use Rattle.msg_files.specs.Check.{first_refusal, needs};
-ghost use Rattle.msg_files.specs.Json.{value_at};
+ghost use Rattle.msg_files.specs.Prelude.{Agrees, first_refusal, needs, value_at};
 ghost use Rattle.msg_reading.specs.ScenarioChecks.{fits_kind, is_system_key, list_checks, name_checks, op_checks, program_checks, system_checks, system_object};
 ghost use Rattle.msg_reading.specs.ScenarioDenotes.{each_of, kind_in, kind_of, op_of, ops_of, place_of, start_in, start_of, system_of, text, with_system};
-ghost use Rattle.msg_files.specs.Walk.{Agrees};
 ghost use Rattle.msg_files.specs.declared.refusal.Refusal.TheVariants.{Shape};
 
 use crate::limits::MAX_OPS;

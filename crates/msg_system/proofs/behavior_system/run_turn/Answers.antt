@@ -1,6 +1,5 @@
 use Rattle.std.proofs.Common.{drop, length, arith, ap, sym, length-append, ◌∙◌}
-use Rattle.msg_system.specs.Needs.{needs_of, op_needs}
-use Rattle.msg_system.specs.OpRuns.{places_of}
+use Rattle.msg_system.specs.Prelude.{needs_of, op_needs, places_of}
 use Rattle.msg_system.specs.inner.TurnRuns.{next_kept}
 use Rattle.msg_system.proofs.Deciding.{answered_more, appended, covers_kept, turn_full, turn_more, turn_over}
 use Rattle.msg_system.proofs.Runs.{covers_later, same_loan_trans}

@@ -1,10 +1,7 @@
 use Rattle.std.proofs.Common.{◌≡◌, length}
-use Rattle.msg_world.specs.Loan.{LoanStands, SameLoan}
-use Rattle.msg_world.specs.World.{WorldState}
-use Rattle.msg_system.specs.Needs.{needs_of}
-use Rattle.msg_system.specs.OpRuns.{places_of}
+use Rattle.msg_world.specs.Prelude.{LoanStands, SameLoan, WorldState}
+use Rattle.msg_system.specs.Prelude.{after_at_most, needs_of, places_of}
 use Rattle.msg_system.specs.inner.TurnRuns.{AreAnswered, IsAfterProgram, next_kept}
-use Rattle.msg_system.specs.Systems.{after_at_most}
 use Rattle.msg_system.proofs.behavior_system.run_turn.Given as goal
 
 abbrev pub invariant-loop-done : goal.invariant-loop-done

@@ -1,5 +1,5 @@
 use Rattle.std.proofs.Common.{◌≡◌}
-use Rattle.msg_system.specs.Conditions.{inverted}
+use Rattle.msg_system.specs.Prelude.{inverted}
 use Rattle.msg_system.proofs.guard.invert.Given as goal
 
 abbrev pub invariant-loop-inverted : goal.invariant-loop-inverted

@@ -1,7 +1,6 @@
 use Rattle.std.proofs.Common.{◌<◌, List, arith, length, refl, subst}
 use Rattle.std.proofs.lemmas.List.{take_all}
-use Rattle.msg_system.specs.declared.condition.Condition.{Condition}
-use Rattle.msg_system.specs.Needs.{IsAccessOf, needs_of, with_conditions}
+use Rattle.msg_system.specs.Prelude.{Condition, IsAccessOf, needs_of, with_conditions}
 use Rattle.msg_system.proofs.JobAccesses.{access_along, condition_more, no_conditions}
 use Rattle.msg_system.proofs.job.job_access.Goals as goal
 

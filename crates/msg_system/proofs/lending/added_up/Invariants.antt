@@ -1,5 +1,5 @@
 use Rattle.std.proofs.Common.{◌≡◌, take}
-use Rattle.msg_system.specs.Programs.{sum_onto}
+use Rattle.msg_system.specs.Prelude.{sum_onto}
 use Rattle.msg_system.proofs.lending.added_up.Given as goal
 
 abbrev pub invariant-loop-record : goal.invariant-loop-record

@@ -1,5 +1,5 @@
 use Rattle.std.proofs.Common.{◌≡◌, map, take}
-use Rattle.msg_buffer.specs.History.{message_of}
+use Rattle.msg_buffer.specs.Prelude.{message_of}
 use Rattle.msg_system.proofs.lending.without_numbers.Given as goal
 
 abbrev pub invariant-loop-instance : goal.invariant-loop-instance

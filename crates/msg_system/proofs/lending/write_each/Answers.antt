@@ -1,8 +1,6 @@
 use Rattle.std.proofs.Common.{List, length, map, subst, sym, arith}
 use Rattle.std.proofs.lemmas.List.{length-map}
-use Rattle.msg_buffer.specs.History.{write}
-use Rattle.msg_buffer.specs.Kept.{Kept}
-use Rattle.msg_buffer.specs.StandsFor.{StandsFor}
+use Rattle.msg_buffer.specs.Prelude.{Kept, StandsFor, write}
 use Rattle.msg_world.specs.declared.record.Record.{Record}
 use Rattle.msg_system.proofs.Lendings.{made_by, numbers_fit, numbers_left, numbers_spent, spent_stands, written_messages_stand}
 use Rattle.msg_system.proofs.lending.write_each.Goals as goal

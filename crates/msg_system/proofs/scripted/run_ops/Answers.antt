@@ -1,11 +1,8 @@
 use Rattle.std.proofs.Common.{◌<◌, List, arith, length, subst}
 use Rattle.std.proofs.lemmas.List.{take_all}
-use Rattle.msg_system.specs.declared.op.Op.{Op}
-use Rattle.msg_system.specs.OpRuns.{places_of}
+use Rattle.msg_system.specs.Prelude.{Op, after_program, op_needs, places_of}
 use Rattle.msg_system.specs.inner.TurnRuns.{IsAfterProgram}
-use Rattle.msg_system.specs.Programs.{after_program}
 use Rattle.msg_system.proofs.Runs.{covers_later, covers_op, one_reply_more, op_more, same_loan_trans}
-use Rattle.msg_system.specs.Needs.{op_needs}
 use Rattle.msg_system.proofs.scripted.run_ops.Goals as goal
 
 pub run-requires : goal.run-requires

@@ -1,9 +1,7 @@
 use Rattle.std.proofs.Common.{take}
-use Rattle.msg_world.specs.Loan.{LoanStands, SameLoan}
-use Rattle.msg_world.specs.World.{WorldState}
-use Rattle.msg_system.specs.OpRuns.{places_of}
+use Rattle.msg_world.specs.Prelude.{LoanStands, SameLoan, WorldState}
+use Rattle.msg_system.specs.Prelude.{after_program, places_of}
 use Rattle.msg_system.specs.inner.TurnRuns.{HasReplies, IsAfterProgram}
-use Rattle.msg_system.specs.Programs.{after_program}
 use Rattle.msg_system.proofs.scripted.run_ops.Given as goal
 
 abbrev pub invariant-loop-op : goal.invariant-loop-op

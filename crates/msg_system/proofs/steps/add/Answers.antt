@@ -2,7 +2,7 @@ use Rattle.std.proofs.Common.{◌≡◌, rules, to_z, of_z, ap, ◌∙◌}
 use mir.Val.{SFits}
 use mir.Syntax.{w64}
 use Rattle.std.proofs.lemmas.Int.{to_z-of_z}
-use Rattle.msg_system.specs.Programs.{plus}
+use Rattle.msg_system.specs.Prelude.{plus}
 use Rattle.msg_system.proofs.OpsDone.{after_set}
 use Rattle.msg_system.proofs.steps.add.Goals as goal
 

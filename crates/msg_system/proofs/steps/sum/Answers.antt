@@ -2,7 +2,7 @@ use Rattle.std.proofs.Common.{◌≡◌, rules, to_z, of_z, ap, refl, ◌∙◌}
 use mir.Val.{SFits}
 use mir.Syntax.{w64}
 use Rattle.std.proofs.lemmas.Int.{to_z-of_z}
-use Rattle.msg_system.specs.Programs.{sum_onto}
+use Rattle.msg_system.specs.Prelude.{sum_onto}
 use Rattle.msg_system.proofs.Lendings.{on_err}
 use Rattle.msg_system.proofs.OpsDone.{after_sum}
 use Rattle.msg_system.proofs.steps.sum.Goals as goal

@@ -1,7 +1,7 @@
 use Rattle.std.proofs.Common.{◌≡◌, ℕ, None, rules, sym, subst, ap, ◌∙◌, arith, false, true, vec_len}
 use Rattle.std.specs.Prelude.{nat_lt, ◌&&◌, ◌==◌, if◌then◌else◌}
 use Rattle.std.proofs.lemmas.Bool.{and_right, eqb-true, le-ltb}
-use Rattle.msg_world.specs.Access.{has_bit}
+use Rattle.msg_world.specs.Prelude.{has_bit}
 use Rattle.msg_world.specs.inner.Moved.{placed}
 use Rattle.msg_world.specs.inner.Slots.{at}
 use Rattle.msg_world.proofs.Bits.{all_below, below_next, one_less}

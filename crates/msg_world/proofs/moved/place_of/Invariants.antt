@@ -1,6 +1,6 @@
 use Rattle.std.proofs.Common.{◌≡◌, ◌≢◌, ℕ, ◌<◌, Some}
 use Rattle.std.specs.Prelude.{slice_get}
-use Rattle.msg_world.specs.declared.moved.Moved.{Moved}
+use Rattle.msg_world.specs.Prelude.{Moved}
 use Rattle.msg_world.proofs.moved.place_of.Given as goal
 
 abbrev pub invariant-loop-i : goal.invariant-loop-i

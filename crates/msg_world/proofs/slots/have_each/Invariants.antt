@@ -1,5 +1,5 @@
 use Rattle.std.proofs.Common.{◌-◌, ◌<◌, ◌≤◌, ℕ, IsSome, IsTrue}
-use Rattle.msg_world.specs.Access.{has_bit}
+use Rattle.msg_world.specs.Prelude.{has_bit}
 use Rattle.msg_world.specs.inner.Slots.{at}
 use Rattle.msg_world.proofs.slots.have_each.Given as goal
 

@@ -1,10 +1,8 @@
 use Rattle.std.proofs.Common.{inl, inr, arith, Option, sym, subst}
 use Rattle.std.specs.Prelude.{pos}
 use Rattle.std.proofs.lemmas.Bool.{cases_eq}
-use Rattle.msg_buffer.specs.History.{History, empty}
-use Rattle.msg_buffer.specs.Kept.{Kept}
-use Rattle.msg_world.specs.World.{by}
-use Rattle.msg_world.specs.declared.record.Record.{Record}
+use Rattle.msg_buffer.specs.Prelude.{History, Kept, empty}
+use Rattle.msg_world.specs.Prelude.{Record, by}
 use Rattle.msg_world.specs.inner.Slots.{BufferStands, at}
 use Rattle.msg_world.proofs.taken.moved_stand.Goals as goal
 use Rattle.msg_world.proofs.taken.moved_stand.Goals.{in-Some, in_default}

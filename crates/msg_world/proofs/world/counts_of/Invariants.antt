@@ -1,7 +1,7 @@
 use Rattle.std.proofs.Common.{◌≡◌, ℕ, ◌<◌, length, Some}
 use Rattle.std.specs.Prelude.{IsSome, slice_get}
-use Rattle.msg_buffer.specs.History.{History, count}
-use Rattle.msg_world.specs.declared.record.Record.{Record}
+use Rattle.msg_buffer.specs.Prelude.{History, count}
+use Rattle.msg_world.specs.Prelude.{Record}
 use Rattle.msg_world.specs.inner.Slots.{BufferStands, at}
 use Rattle.msg_world.proofs.world.counts_of.Given as goal
 

@@ -1,8 +1,7 @@
 use Rattle.std.proofs.Common.{inl, inr, arith, Option}
 use Rattle.std.proofs.lemmas.Bool.{cases_eq}
-use Rattle.msg_buffer.specs.History.{History}
-use Rattle.msg_buffer.specs.Kept.{Kept}
-use Rattle.msg_world.specs.declared.record.Record.{Record}
+use Rattle.msg_buffer.specs.Prelude.{History, Kept}
+use Rattle.msg_world.specs.Prelude.{Record}
 use Rattle.msg_world.specs.inner.Slots.{BufferStands}
 use Rattle.msg_world.proofs.Worlds.{item_at}
 use Rattle.msg_world.proofs.world.each_stands.Goals as goal

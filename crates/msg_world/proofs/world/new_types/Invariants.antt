@@ -1,7 +1,6 @@
 use Rattle.std.proofs.Common.{◌≡◌, ℕ, ◌<◌, length}
 use Rattle.std.specs.Prelude.{IsSomeAnd, slice_index}
-use Rattle.msg_buffer.specs.History.{empty}
-use Rattle.msg_buffer.specs.StandsFor.{StandsFor}
+use Rattle.msg_buffer.specs.Prelude.{StandsFor, empty}
 use Rattle.msg_world.specs.inner.Slots.{at}
 use Rattle.msg_world.proofs.world.new_types.Given as goal
 

@@ -1,6 +1,6 @@
 use Rattle.std.specs.Prelude.{pos}
-use Rattle.msg_buffer.specs.History.{empty}
-use Rattle.msg_world.specs.World.{by}
+use Rattle.msg_buffer.specs.Prelude.{empty}
+use Rattle.msg_world.specs.Prelude.{by}
 use Rattle.msg_world.proofs.world.slot_stands.Goals as goal
 
 pub returns-in-Some : goal.returns-in-Some

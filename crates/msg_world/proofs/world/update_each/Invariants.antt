@@ -1,7 +1,7 @@
 use Rattle.std.proofs.Common.{◌≡◌, ℕ, ◌<◌, ◌≤◌}
 use Rattle.std.specs.Prelude.{is_some}
-use Rattle.msg_buffer.specs.History.{History, update}
-use Rattle.msg_world.specs.declared.record.Record.{Record}
+use Rattle.msg_buffer.specs.Prelude.{History, update}
+use Rattle.msg_world.specs.Prelude.{Record}
 use Rattle.msg_world.specs.inner.Slots.{BufferStands, at}
 use Rattle.msg_world.proofs.world.update_each.Given as goal
 

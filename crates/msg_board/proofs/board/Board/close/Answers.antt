@@ -2,11 +2,9 @@ use Rattle.std.proofs.Common.{◌≡◌, ◌<◌, ap, sym, ◌∙◌, arith, sub
 use Rattle.std.proofs.lemmas.List.Elements.{All-weaker}
 use Rattle.std.proofs.lemmas.Result.{IfOk-weaker}
 use Rattle.std.specs.Prelude.{IfOk, OnErr}
-use Rattle.msg_board.specs.Board.{jobs_of, passes_of, HasEnded, IsLawfulOutcome}
+use Rattle.msg_board.specs.Prelude.{HasEnded, HoldsEachOnce, IsLawfulOutcome, drawn_by, jobs_of, passes_of}
 use Rattle.msg_board.specs.inner.Closing.{IsGathered}
-use Rattle.msg_board.specs.Pass.{drawn_by}
 use Rattle.msg_board.specs.inner.Sound.{board_of}
-use Rattle.msg_board.specs.Counts.{HoldsEachOnce}
 use Rattle.msg_board.proofs.TableLists.{there, get_there, one_value}
 use Rattle.msg_board.proofs.Steps.{closes}
 use Rattle.msg_board.proofs.PassSeats.{done_same, all_handed_in}

@@ -1,7 +1,6 @@
 use Rattle.std.proofs.Common.{◌≡◌, ◌+◌, ◌<◌, length, []}
 use Rattle.std.specs.List.{All}
-use Rattle.msg_board.specs.Board.{jobs_of, IsNew}
-use Rattle.msg_board.specs.Law.{whole}
+use Rattle.msg_board.specs.Prelude.{IsNew, jobs_of, whole}
 use Rattle.msg_board.proofs.board.Board.divide.Given as goal
 
 abbrev pub invariant-loop-left : goal.invariant-loop-left

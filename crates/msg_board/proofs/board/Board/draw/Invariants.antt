@@ -1,5 +1,5 @@
 use Rattle.std.proofs.Common.{◌≡◌, ◌-◌, ◌≤◌, length, true}
-use Rattle.msg_board.specs.Board.{jobs_of, IsIdle}
+use Rattle.msg_board.specs.Prelude.{jobs_of, IsIdle}
 use Rattle.msg_board.proofs.board.Board.draw.Given as goal
 
 abbrev pub invariant-loop-pass : goal.invariant-loop-pass

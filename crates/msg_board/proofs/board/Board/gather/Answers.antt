@@ -1,6 +1,6 @@
 use Rattle.std.proofs.Common.{rules, ap, sym, ◌∙◌, arith, subst}
 use Rattle.std.specs.List.{All}
-use Rattle.msg_board.specs.Board.{HasEnded}
+use Rattle.msg_board.specs.Prelude.{HasEnded}
 use Rattle.msg_board.specs.inner.Seats.{carried}
 use Rattle.msg_board.proofs.TableLists.{All-split_last}
 use Rattle.msg_board.proofs.Steps.{unites}

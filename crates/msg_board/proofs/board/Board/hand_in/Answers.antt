@@ -1,6 +1,6 @@
 use Rattle.std.proofs.Common.{ap, sym, ◌∙◌, arith, length, ◌<◌}
 use lib.ListN.{get_elem?}
-use Rattle.msg_board.specs.Board.{jobs_of}
+use Rattle.msg_board.specs.Prelude.{jobs_of}
 use Rattle.msg_board.proofs.TableLists.{there, got}
 use Rattle.msg_board.proofs.Steps.{hands_in_at}
 use Rattle.msg_board.proofs.PassSeats.{handed_sound, handed_said, held_within}

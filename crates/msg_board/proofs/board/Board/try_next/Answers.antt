@@ -1,5 +1,5 @@
 use Rattle.std.proofs.Common.{ap, sym, ◌∙◌, arith, length}
-use Rattle.msg_board.specs.Board.{jobs_of}
+use Rattle.msg_board.specs.Prelude.{jobs_of}
 use Rattle.msg_board.specs.inner.Seats.{carried}
 use Rattle.msg_board.proofs.Steps.{draws}
 use Rattle.msg_board.proofs.PassSeats.{drew_sound, drew_said, unfinished_more}

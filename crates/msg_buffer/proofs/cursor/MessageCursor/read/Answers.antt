@@ -1,5 +1,5 @@
 use Rattle.std.proofs.Common.{rules, ◌≡◌, ◌-◌, max, drop, ap, ◌∙◌}
-use Rattle.msg_buffer.specs.Kept.{kept_instances}
+use Rattle.msg_buffer.specs.Prelude.{kept_instances}
 use Rattle.msg_buffer.proofs.Unread.{unread_stands}
 use Rattle.msg_buffer.proofs.cursor.MessageCursor.read.Goals as goal
 

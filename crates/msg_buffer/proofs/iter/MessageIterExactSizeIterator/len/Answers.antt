@@ -1,5 +1,5 @@
 use Rattle.std.proofs.Common.{◌-◌, arith, length-append, length-drop}
-use Rattle.msg_buffer.specs.Kept.{kept_instances}
+use Rattle.msg_buffer.specs.Prelude.{kept_instances}
 use Rattle.msg_buffer.proofs.iter.MessageIterExactSizeIterator.len.Goals as goal
 
 pub returns-clause-value : goal.returns-clause-value

@@ -1,6 +1,6 @@
 use Rattle.std.proofs.Common.{◌≡◌, ◌<◌, ◌-◌, ◌∷◌, length, drop, refl, sym, ap, ◌∙◌, arith, length-append, Some, None}
 use Rattle.std.proofs.lemmas.List.{drop_all}
-use Rattle.msg_buffer.specs.Kept.{get_from, kept_instances}
+use Rattle.msg_buffer.specs.Prelude.{get_from, kept_instances}
 use Rattle.msg_buffer.proofs.Unread.{rest_ends, rest_more}
 use Rattle.msg_buffer.proofs.iter.MessageIterIterator.next.Goals as goal
 

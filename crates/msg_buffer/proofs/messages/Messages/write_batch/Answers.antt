@@ -1,6 +1,5 @@
 use Rattle.std.proofs.Common.{rules, ◌≡◌, ◌++◌, arith, length, length-append}
-use Rattle.msg_buffer.specs.Kept.{kept_count}
-use Rattle.msg_buffer.specs.History.{numbered}
+use Rattle.msg_buffer.specs.Prelude.{kept_count, numbered}
 use Rattle.msg_buffer.proofs.Numbers.{length-numbered, numbers-append}
 use Rattle.msg_buffer.proofs.Standing.{stands_written}
 use Rattle.msg_buffer.proofs.messages.Messages.write_batch.Goals as goal

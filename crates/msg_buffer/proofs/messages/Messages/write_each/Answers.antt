@@ -1,6 +1,5 @@
 use Rattle.std.proofs.Common.{rules, ◌≡◌, ◌++◌, arith, length-append}
-use Rattle.msg_buffer.specs.Kept.{kept_count}
-use Rattle.msg_buffer.specs.History.{numbered}
+use Rattle.msg_buffer.specs.Prelude.{kept_count, numbered}
 use Rattle.msg_buffer.proofs.Made.{as_many}
 use Rattle.msg_buffer.proofs.Numbers.{length-numbered, numbers-append}
 use Rattle.msg_buffer.proofs.Standing.{stands_written}

@@ -1,6 +1,6 @@
 use Rattle.std.proofs.Common.{◌∙◌, ap}
 use Rattle.clap.specs.Words.{App, takes}
-use Rattle.msg_command.specs.CommandLine.{texts_of}
+use Rattle.msg_command.specs.Prelude.{texts_of}
 use Rattle.msg_command.proofs.ClapErrors.{found_in, told_of}
 use Rattle.msg_command.proofs.words.command.matches.Goals as goal
 

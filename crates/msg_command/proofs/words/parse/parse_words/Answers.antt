@@ -2,8 +2,7 @@ use Rattle.std.proofs.Common.{◌≡◌, ◌∙◌, ap, sym, inl, inr, subst, tr
 use Rattle.std.specs.Prelude.{is_some}
 use Rattle.std.proofs.lemmas.Result.{IfErr-weaker}
 use Rattle.clap.specs.Words.{fault_of}
-use Rattle.msg_command.specs.Asked.{IsToldOf, asked_by}
-use Rattle.msg_command.specs.CommandLine.{msgrun_app, texts_of}
+use Rattle.msg_command.specs.Prelude.{IsToldOf, asked_by, msgrun_app, texts_of}
 use Rattle.msg_command.proofs.ClapTakesAsk.{takes_asks}
 use Rattle.msg_command.proofs.words.parse.parse_words.Goals as goal
 

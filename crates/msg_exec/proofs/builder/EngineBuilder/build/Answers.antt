@@ -1,10 +1,8 @@
 use Rattle.std.proofs.Common.{List, map, length, subst}
-use Rattle.msg_order.specs.Graph.{IsAcyclic}
-use Rattle.msg_order.specs.Order.{NameSystemsBelow}
-use Rattle.msg_system.specs.Systems.{Meaning}
-use Rattle.msg_exec.specs.Building.{Added, AllFit, EachIs, RefusesFor, numbered_from}
-use Rattle.msg_exec.specs.Engines.{StandsFor}
-use Rattle.msg_frames.specs.FirstState.{HasClash, all_rules, first_state}
+use Rattle.msg_order.specs.Prelude.{IsAcyclic, NameSystemsBelow}
+use Rattle.msg_system.specs.Prelude.{Meaning}
+use Rattle.msg_exec.specs.Prelude.{Added, AllFit, EachIs, RefusesFor, StandsFor, numbered_from}
+use Rattle.msg_frames.specs.Prelude.{HasClash, all_rules, first_state}
 use Rattle.msg_exec.proofs.BuilderBuilds.{may_be_added, no_clash_before, refusal_before}
 use Rattle.msg_exec.proofs.builder.EngineBuilder.build.Goals as goal
 

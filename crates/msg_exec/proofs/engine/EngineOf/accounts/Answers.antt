@@ -1,6 +1,6 @@
 use Rattle.std.proofs.Common.{refl, sym, subst}
 use Rattle.std.specs.Prelude.{All}
-use Rattle.msg_frames.specs.Accounts.{AddsUp}
+use Rattle.msg_frames.specs.Prelude.{AddsUp}
 use Rattle.msg_exec.proofs.EngineRunsFrames.{core_taken, stood_for}
 use Rattle.msg_exec.proofs.AccountsTell.{all_add_up}
 use Rattle.msg_exec.proofs.engine.EngineOf.accounts.Goals as goal

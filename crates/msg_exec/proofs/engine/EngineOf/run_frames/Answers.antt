@@ -1,10 +1,8 @@
 use Rattle.std.proofs.Common.{◌≡◌, ◌++◌, ◌∷◌, [], length, drop, ap, sym, subst, arith, rules}
 use Rattle.std.specs.Prelude.{All, IsSome}
 use Rattle.std.proofs.lemmas.List.{length-append}
-use Rattle.msg_exec.specs.Cores.{CoreStands}
-use Rattle.msg_exec.specs.Engines.{PostsFit}
-use Rattle.msg_exec.specs.Work.{EachPassedGate}
-use Rattle.msg_frames.specs.Frames.{systems_in}
+use Rattle.msg_exec.specs.Prelude.{CoreStands, EachPassedGate, PostsFit}
+use Rattle.msg_frames.specs.Prelude.{systems_in}
 use Rattle.msg_exec.proofs.EngineRunsFrames.{all_run, one_frame_more, one_log_more, posts_still_fit, some_there, stood}
 use Rattle.msg_exec.proofs.engine.EngineOf.run_frames.Goals as goal
 

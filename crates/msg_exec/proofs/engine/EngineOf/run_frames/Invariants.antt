@@ -1,8 +1,7 @@
 use Rattle.std.proofs.Common.{◌≤◌, length, drop}
 use Rattle.std.specs.Prelude.{All, IsSome}
-use Rattle.msg_exec.specs.Engines.{IsEngine, StandsFor}
-use Rattle.msg_exec.specs.Work.{EachPassedGate}
-use Rattle.msg_frames.specs.Frames.{systems_in, State}
+use Rattle.msg_exec.specs.Prelude.{EachPassedGate, IsEngine, StandsFor}
+use Rattle.msg_frames.specs.Prelude.{systems_in, State}
 use Rattle.msg_exec.proofs.EngineRunsFrames.{RunSoFar}
 use Rattle.msg_exec.proofs.engine.EngineOf.run_frames.Given as goal
 

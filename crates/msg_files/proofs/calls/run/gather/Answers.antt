@@ -1,8 +1,7 @@
 use Rattle.std.proofs.Common.{◌∙◌, ◌++◌, ap, sym, append-nil, append_assoc, ◌≡◌, List, ℕ, Option, []}
 use Rattle.std.specs.Io.KnownBytes.{Appends}
 use Rattle.std.proofs.KnownBytes.{Appends-trans}
-use Rattle.msg_files.specs.Running.{TakesFront}
-use Rattle.msg_files.specs.Sinks.{AppendsPrefix}
+use Rattle.msg_files.specs.Prelude.{AppendsPrefix, TakesFront}
 use Rattle.msg_files.proofs.Puts.{AppendsPrefix_after, on_err, on_err_then, on_ok_then}
 use Rattle.msg_files.proofs.calls.run.gather.Goals as goal
 

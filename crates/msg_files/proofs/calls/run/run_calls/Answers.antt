@@ -1,6 +1,6 @@
 use Rattle.std.proofs.Common.{◌∙◌, ◌++◌, ◌≡◌, ℕ, List, [], ap}
 use Rattle.std.specs.Io.KnownBytes.{Appends}
-use Rattle.msg_files.specs.Sinks.{AppendsPrefix}
+use Rattle.msg_files.specs.Prelude.{AppendsPrefix}
 use Rattle.msg_files.proofs.Puts.{on_err, on_err_then, on_ok_then}
 use Rattle.msg_files.proofs.Running.{AppendsPrefix_whole, OnTheWay_ends, OnTheWay_fails, OnTheWay_more, OnTheWay_stops}
 use Rattle.msg_files.proofs.calls.run.run_calls.Goals as goal

@@ -1,5 +1,5 @@
 use Rattle.std.proofs.Common.{◌≡◌, drop}
-use Rattle.msg_files.specs.CallsText.{calls_text}
+use Rattle.msg_files.specs.Prelude.{calls_text}
 use Rattle.msg_files.proofs.Running.{OnTheWay}
 use Rattle.msg_files.proofs.calls.run.run_calls.Given as goal
 

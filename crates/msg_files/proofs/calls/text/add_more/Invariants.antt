@@ -1,5 +1,5 @@
 use Rattle.std.proofs.Common.{◌≡◌, ◌++◌, take}
-use Rattle.msg_files.specs.CallsText.{more_items}
+use Rattle.msg_files.specs.Prelude.{more_items}
 use Rattle.msg_files.proofs.calls.text.add_more.Given as goal
 
 abbrev pub invariant-loop-item : goal.invariant-loop-item

@@ -1,10 +1,7 @@
 use Rattle.std.proofs.Common.{◌≡◌, ◌+◌, ◌<◌, ◌++◌, length, ap, sym, ◌∙◌, arith, rules}
 use Rattle.std.specs.Prelude.{ℤ}
-use Rattle.msg_buffer.specs.History.{History}
-use Rattle.msg_buffer.specs.Reader.{first, given, next_place, read, unread}
-use Rattle.msg_buffer.specs.Reading.{iter_place}
-use Rattle.msg_buffer.specs.StandsFor.{StandsFor}
-use Rattle.msg_files.specs.CallsText.{more_items}
+use Rattle.msg_buffer.specs.Prelude.{History, StandsFor, first, given, iter_place, next_place, read, unread}
+use Rattle.msg_files.specs.Prelude.{more_items}
 use Rattle.msg_files.proofs.Lines.{HasAdded_none, HasAdded_more, HasAdded_given, spaced_items}
 use Rattle.msg_files.proofs.calls.text.add_unread.Goals as goal
 

@@ -2,7 +2,7 @@ use Rattle.std.proofs.Common.{◌≡◌, ◌<◌, ◌≤◌, ℕ, Bool, length, 
 use Rattle.std.proofs.lemmas.Bool.{false≢true, false_from_ne_true}
 use Rattle.std.proofs.lemmas.List.{get_or_read}
 use Rattle.msg_order.specs.inner.SystemSet.{has, meets, no_set}
-use Rattle.msg_order.specs.Order.{has_joined}
+use Rattle.msg_order.specs.Prelude.{has_joined}
 use Rattle.msg_order.specs.inner.Paths.{set_at}
 use Rattle.msg_order.proofs.SystemSets.{meets-found, meets-true}
 use Rattle.msg_order.proofs.PlanViews.{seen_edges, seen_joined, lawful_same}

@@ -2,11 +2,10 @@ use Rattle.std.proofs.Common.{◌∙◌, ◌≤◌, ap, sym, subst, length, Err,
 use Rattle.std.specs.Prelude.{All}
 use Rattle.std.proofs.lemmas.Result.{err_from_is_err_and}
 use Rattle.serde_json.specs.View.{view}
-use Rattle.msg_order.specs.Graph.{IsAcyclic, IsLowestOnCycle}
-use Rattle.msg_order.specs.Order.{NameSystemsBelow, edges_of}
+use Rattle.msg_order.specs.Prelude.{IsAcyclic, IsLowestOnCycle, NameSystemsBelow, edges_of}
 use Rattle.msg_files.specs.declared.refusal.Refusal.TheVariants.{Clash}
 use Rattle.msg_files.proofs.Shapes.{IfErr_at}
-use Rattle.msg_reading.specs.Reading.{IsClashing, IsLowestClash, IsUnfit}
+use Rattle.msg_reading.specs.Prelude.{IsClashing, IsLowestClash, IsUnfit}
 use Rattle.msg_reading.proofs.Sound.{runnable_of, whole_of}
 use Rattle.msg_reading.proofs.scenario.read.read_value.Goals as goal
 

@@ -1,6 +1,6 @@
 use Rattle.std.proofs.Common.{ℕ, ◌<◌, get_or}
 use Rattle.msg_frames.specs.declared.frame.Frame.{Frame}
-use Rattle.msg_reading.specs.Runnable.{PostsAreToTypes}
+use Rattle.msg_reading.specs.Prelude.{PostsAreToTypes}
 use Rattle.msg_reading.proofs.scenario.runnable.all_posts_are_to_types.Given as goal
 
 abbrev pub invariant-loop-frame : goal.invariant-loop-frame

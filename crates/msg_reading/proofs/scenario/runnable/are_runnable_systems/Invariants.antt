@@ -1,6 +1,5 @@
 use Rattle.std.proofs.Common.{ℕ, ◌<◌, get_or}
-use Rattle.msg_reading.specs.Runnable.{IsRunnableSystem}
-use Rattle.msg_reading.specs.declared.scenario.SystemSpec.{SystemSpec}
+use Rattle.msg_reading.specs.Prelude.{IsRunnableSystem, SystemSpec}
 use Rattle.msg_reading.proofs.scenario.runnable.are_runnable_systems.Given as goal
 
 abbrev pub invariant-loop-system : goal.invariant-loop-system

@@ -1,5 +1,5 @@
 use Rattle.std.proofs.Common.{subst}
-use Rattle.msg_system.specs.Needs.{IsAccessOf, program_needs, with_conditions}
+use Rattle.msg_system.specs.Prelude.{IsAccessOf, program_needs, with_conditions}
 use Rattle.msg_reading.proofs.Tested.{fits_there, is_there}
 use Rattle.msg_reading.proofs.scenario.runnable.fits.Goals as goal
 

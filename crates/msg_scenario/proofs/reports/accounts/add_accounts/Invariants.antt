@@ -1,5 +1,5 @@
 use Rattle.std.proofs.Common.{◌≡◌, ◌++◌, take}
-use Rattle.msg_scenario.specs.ReportText.{accounts_text}
+use Rattle.msg_scenario.specs.Prelude.{accounts_text}
 use Rattle.msg_scenario.proofs.reports.accounts.add_accounts.Given as goal
 
 abbrev pub invariant-loop-account : goal.invariant-loop-account

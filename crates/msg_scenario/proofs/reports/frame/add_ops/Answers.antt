@@ -1,4 +1,4 @@
-use Rattle.msg_scenario.specs.ReportText.{op_line}
+use Rattle.msg_scenario.specs.Prelude.{op_line}
 use Rattle.msg_scenario.proofs.ReportLines.{no_pair_left}
 use Rattle.msg_scenario.proofs.reports.frame.add_ops.Goals as goal
 

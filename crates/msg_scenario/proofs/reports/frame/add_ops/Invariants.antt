@@ -1,5 +1,5 @@
 use Rattle.std.proofs.Common.{◌≡◌, ◌++◌}
-use Rattle.msg_scenario.specs.ReportText.{op_line, ops_text}
+use Rattle.msg_scenario.specs.Prelude.{op_line, ops_text}
 use Rattle.msg_scenario.proofs.ReportLines.{LeftWithin, pieces_left}
 use Rattle.msg_scenario.proofs.reports.frame.add_ops.Given as goal
 

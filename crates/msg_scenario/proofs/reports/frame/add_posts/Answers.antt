@@ -1,4 +1,4 @@
-use Rattle.msg_scenario.specs.ReportText.{post_line}
+use Rattle.msg_scenario.specs.Prelude.{post_line}
 use Rattle.msg_scenario.proofs.ReportLines.{no_pair_left}
 use Rattle.msg_scenario.proofs.reports.frame.add_posts.Goals as goal
 

@@ -1,5 +1,5 @@
 use Rattle.std.proofs.Common.{◌≡◌, ◌++◌}
-use Rattle.msg_scenario.specs.ReportText.{post_line, posts_text}
+use Rattle.msg_scenario.specs.Prelude.{post_line, posts_text}
 use Rattle.msg_scenario.proofs.ReportLines.{LeftWithin, pieces_left}
 use Rattle.msg_scenario.proofs.reports.frame.add_posts.Given as goal
 

@@ -1,6 +1,6 @@
 use Rattle.std.proofs.Common.{◌≡◌, ◌++◌, take}
 use Rattle.std.specs.Prelude.{flat_map}
-use Rattle.msg_scenario.specs.ReportText.{turn_text}
+use Rattle.msg_scenario.specs.Prelude.{turn_text}
 use Rattle.msg_scenario.proofs.reports.frame.add_turns.Given as goal
 
 abbrev pub invariant-loop-turn : goal.invariant-loop-turn

@@ -1,6 +1,6 @@
 use Rattle.std.proofs.Common.{◌≡◌, OnErr, rules, subst}
-use Rattle.msg_scenario.specs.ReportText.{frame_text}
-use Rattle.msg_files.specs.Sinks.{AppendsPrefix}
+use Rattle.msg_scenario.specs.Prelude.{frame_text}
+use Rattle.msg_files.specs.Prelude.{AppendsPrefix}
 use Rattle.msg_scenario.proofs.reports.put.put_frame.Goals as goal
 
 pub returns-clause-prefix : goal.returns-clause-prefix

@@ -1,5 +1,5 @@
 use Rattle.std.proofs.Common.{arith}
-use Rattle.msg_scenario.specs.ReportText.{next_item}
+use Rattle.msg_scenario.specs.Prelude.{next_item}
 use Rattle.msg_scenario.proofs.ReportLines.{numbered_all, numbered_more}
 use Rattle.msg_scenario.proofs.reports.reply.add_more.Goals as goal
 

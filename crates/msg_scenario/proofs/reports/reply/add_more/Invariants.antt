@@ -1,7 +1,7 @@
 use Rattle.std.proofs.Common.{◌≡◌, ◌++◌, take}
 use Rattle.std.specs.List.{enumerate_from}
 use Rattle.std.specs.Prelude.{flat_map}
-use Rattle.msg_scenario.specs.ReportText.{next_item}
+use Rattle.msg_scenario.specs.Prelude.{next_item}
 use Rattle.msg_scenario.proofs.reports.reply.add_more.Given as goal
 
 abbrev pub invariant-loop-k : goal.invariant-loop-k

@@ -1,6 +1,6 @@
 use Rattle.std.proofs.Common.{◌≡◌, ◌+◌, ◌<◌, ◌≤◌, ℕ, List, length, get_or, refl, sym, ap, ◌∙◌, subst, arith, inl, inr}
 use Rattle.msg_frames.specs.declared.frame.Frame.{Frame}
-use Rattle.msg_reading.specs.Runnable.{PostsAreToTypes, state_of}
+use Rattle.msg_reading.specs.Prelude.{PostsAreToTypes, state_of}
 use Rattle.msg_files.proofs.Puts.{of_err, on_err, on_err_then, on_ok_then}
 use Rattle.msg_scenario.proofs.Reporting.{accounts_out, frame_put, frame_stopped, just_run, no_memory_for_frame, out_printed, posts_fit, readers_put, readers_stopped, report_begun, stopped_printed}
 use Rattle.msg_scenario.proofs.reports.run.report.Goals as goal

@@ -2,10 +2,8 @@ use Rattle.std.proofs.Common.{◌≡◌, ℕ, ◌+◌, ◌<◌, Bool, length, fa
 use Rattle.std.specs.Prelude.{if◌then◌else◌, ◌==◌}
 use Rattle.std.proofs.lemmas.Bool.{cases_lt, false≢true}
 use Rattle.std.proofs.lemmas.Nat.Bits.{bit_at_above}
-use Rattle.msg_world.specs.Access.{OfType, reads}
-use Rattle.msg_system.specs.declared.cursors.Cursors.{Cursors}
-use Rattle.msg_system.specs.OpRuns.{places_of}
-use Rattle.msg_system.specs.Systems.{start_place}
+use Rattle.msg_world.specs.Prelude.{OfType, reads}
+use Rattle.msg_system.specs.Prelude.{Cursors, places_of, start_place}
 use Rattle.msg_system.proofs.Starts.{StartedBelow, not_started, set_started}
 use Rattle.msg_system.proofs.cursors.Cursors.start.Goals as goal
 use Rattle.msg_system.proofs.cursors.Cursors.start.Goals.{in-Some+then-reads_type, in-Some+else-reads_type, in_default}

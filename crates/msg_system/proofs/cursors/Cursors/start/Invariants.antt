@@ -1,4 +1,4 @@
-use Rattle.msg_world.specs.Access.{OfType, reads}
+use Rattle.msg_world.specs.Prelude.{OfType, reads}
 use Rattle.msg_system.proofs.Starts.{StartedBelow}
 use Rattle.msg_system.proofs.cursors.Cursors.start.Given as goal
 

@@ -1,10 +1,7 @@
 use Rattle.std.proofs.Common.{◌<◌, ◌&&◌, ap, arith, length, sym, ◌∙◌, subst, take}
 use Rattle.std.proofs.Math.Seq.{map-set_same}
 use Rattle.std.proofs.lemmas.List.{length-map}
-use Rattle.msg_system.specs.declared.condition.Condition.{Condition}
-use Rattle.msg_system.specs.Conditions.{Asked, after_asking, all_hold, answer}
-use Rattle.msg_system.specs.Needs.{condition_needs}
-use Rattle.msg_system.specs.Promises.{Covers}
+use Rattle.msg_system.specs.Prelude.{Asked, Condition, Covers, after_asking, all_hold, answer, condition_needs}
 use Rattle.msg_system.proofs.AllConditions.{all_hold_more, seen_here}
 use Rattle.msg_system.proofs.InPlace.{changed_later, not_reached, rest_later}
 use Rattle.msg_system.proofs.guard.Guard.check_all.Goals as goal

@@ -1,7 +1,6 @@
 use Rattle.std.proofs.Common.{◌≡◌, map, take, drop}
-use Rattle.msg_world.specs.Loan.{LoanStands}
-use Rattle.msg_world.specs.World.{WorldState}
-use Rattle.msg_system.specs.Conditions.{after_asking, all_hold}
+use Rattle.msg_world.specs.Prelude.{LoanStands, WorldState}
+use Rattle.msg_system.specs.Prelude.{after_asking, all_hold}
 use Rattle.msg_system.proofs.guard.Guard.check_all.Given as goal
 
 abbrev pub invariant-loop-guard : goal.invariant-loop-guard

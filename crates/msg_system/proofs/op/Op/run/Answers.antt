@@ -2,10 +2,8 @@ use Rattle.std.proofs.Common.{rules, ap, subst}
 use mir.Val.{SFits}
 use mir.Syntax.{w64}
 use Rattle.std.proofs.lemmas.Int.{to_z-of_z}
-use Rattle.msg_world.specs.Access.{OfResource, OfType, Registry}
-use Rattle.msg_system.specs.declared.op.Op.TheVariants.{Write, Read, Clear, Forward, Sum, Set, Add}
-use Rattle.msg_system.specs.Needs.{op_parts}
-use Rattle.msg_system.specs.OpRuns.{OpRan, places_of}
+use Rattle.msg_world.specs.Prelude.{OfResource, OfType, Registry}
+use Rattle.msg_system.specs.Prelude.{Add, Clear, Forward, OpRan, Read, Set, Sum, Write, op_parts, places_of}
 use Rattle.msg_system.proofs.Runs.{covers_read, covers_written, if_ok, on_err_then, place_at, ran_at}
 use Rattle.msg_system.proofs.op.Op.run.Goals as goal
 

@@ -1,6 +1,6 @@
 use Rattle.std.proofs.Common.{◌≡◌, take}
-use Rattle.msg_world.specs.Access.{Part, reads, writes}
-use Rattle.msg_system.specs.Needs.{some_op_reads, some_op_writes}
+use Rattle.msg_world.specs.Prelude.{Part, reads, writes}
+use Rattle.msg_system.specs.Prelude.{some_op_reads, some_op_writes}
 use Rattle.msg_system.proofs.program.Program.access.Given as goal
 
 abbrev pub invariant-loop-op : goal.invariant-loop-op

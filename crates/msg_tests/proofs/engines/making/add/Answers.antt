@@ -1,7 +1,7 @@
 use Rattle.std.proofs.Common.{[], ◌∷◌, length, sym, ap, subst, arith}
 use Rattle.std.proofs.lemmas.List.{length-append}
-use Rattle.msg_frames.specs.FirstState.{IsNew}
-use Rattle.msg_exec.specs.Building.{EachIs}
+use Rattle.msg_frames.specs.Prelude.{IsNew}
+use Rattle.msg_exec.specs.Prelude.{EachIs}
 use Rattle.msg_exec.proofs.ItemsOfLists.{each_pushed}
 use Rattle.msg_tests.proofs.engines.making.add.Goals as goal
 

@@ -1,5 +1,5 @@
 use Rattle.std.proofs.Common.{ap, arith, ◌∙◌}
-use Rattle.msg_system.specs.Systems.{Meaning}
+use Rattle.msg_system.specs.Prelude.{Meaning}
 use Rattle.msg_tests.proofs.engines.making.add_deciding.Goals as goal
 
 pub add-requires-clause-its : goal.add-requires-clause-its

@@ -2,9 +2,9 @@ use Rattle.std.proofs.Common.{◌≡◌, ◌+◌, ◌<◌, ◌≤◌, ℕ, Some,
 use Rattle.std.specs.Prelude.{IsTrue, slice_get}
 use Rattle.std.proofs.lemmas.Bool.Decides.{eqb_tells}
 use Rattle.std.proofs.lemmas.Option.{slice_get_within}
-use Rattle.msg_system.specs.Needs.{needs_any, with_conditions}
+use Rattle.msg_system.specs.Prelude.{needs_any, with_conditions}
 use Rattle.msg_frames.specs.declared.place.Place.{Place}
-use Rattle.msg_exec.specs.Building.{MayBeAdded}
+use Rattle.msg_exec.specs.Prelude.{MayBeAdded}
 use Rattle.msg_exec.proofs.ItemsOfLists.{read_is, read_there}
 use Rattle.msg_tests.proofs.engines.making.all_fit.Goals as goal
 

@@ -1,6 +1,6 @@
 use Rattle.std.proofs.Common.{◌≡◌, ℕ, ◌<◌, Some}
 use Rattle.std.specs.Prelude.{slice_get}
-use Rattle.msg_exec.specs.Building.{MayBeAdded}
+use Rattle.msg_exec.specs.Prelude.{MayBeAdded}
 use Rattle.msg_tests.proofs.engines.making.all_fit.Given as goal
 
 abbrev pub invariant-loop-i : goal.invariant-loop-i

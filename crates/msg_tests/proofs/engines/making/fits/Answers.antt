@@ -2,9 +2,8 @@ use Rattle.std.proofs.Common.{ℕ, zero, suc, ◌<◌, ◌||◌, List, [], ◌�
 use Rattle.std.specs.Prelude.{IsSome, IsTrue, slice_index_or}
 use Rattle.std.proofs.lemmas.Bool.{false≢true}
 use Rattle.msg_world.specs.declared.access.Access.{Access}
-use Rattle.msg_world.specs.Access.{OfResource, OfType, Part, Registry, uses, writes}
-use Rattle.msg_world.specs.Parts.{Has, Parts, slot}
-use Rattle.msg_system.specs.Needs.{IsAccessOf, Needs, needs_any, with_conditions}
+use Rattle.msg_world.specs.Prelude.{Has, OfResource, OfType, Part, Parts, Registry, slot, uses, writes}
+use Rattle.msg_system.specs.Prelude.{IsAccessOf, Needs, needs_any, with_conditions}
 use Rattle.msg_tests.proofs.engines.making.fits.Goals as goal
 
 within : {X : Type 0} (xs : List (Option X)) (t : ℕ) → IsSome (slice_index_or xs t None) → t < length xs

@@ -1,5 +1,5 @@
 use Rattle.std.proofs.Common.{refl, subst, sym}
-use Rattle.msg_frames.specs.FirstState.{IsNew}
+use Rattle.msg_frames.specs.Prelude.{IsNew}
 use Rattle.msg_tests.proofs.engines.making.script.Goals as goal
 
 pub returns : goal.returns

@@ -1,5 +1,5 @@
 use Rattle.std.proofs.Common.{refl, subst}
-use Rattle.msg_exec.specs.Building.{EachIs, MayBeAdded}
+use Rattle.msg_exec.specs.Prelude.{EachIs, MayBeAdded}
 use Rattle.msg_tests.proofs.engines.making.start.Goals as goal
 
 pub new-requires-clause-each : goal.new-requires-clause-each

@@ -1,5 +1,5 @@
-use Rattle.msg_frames.specs.FirstState.{IsNew}
-use Rattle.msg_exec.specs.Building.{EachIs}
+use Rattle.msg_frames.specs.Prelude.{IsNew}
+use Rattle.msg_exec.specs.Prelude.{EachIs}
 use Rattle.msg_system.specs.contracts.scripted.ScriptedSystem.TheImpl.{meaning-value}
 use Rattle.msg_tests.proofs.engines.noting.noting_engine.Given as goal
 

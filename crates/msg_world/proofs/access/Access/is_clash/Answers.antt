@@ -1,6 +1,6 @@
 use Rattle.std.proofs.Common.{inl, inr, sym, ◌∙◌}
 use Rattle.std.proofs.lemmas.Bool.{false≢true}
-use Rattle.msg_world.specs.Access.{OfType, OfResource}
+use Rattle.msg_world.specs.Prelude.{OfType, OfResource}
 use Rattle.msg_world.proofs.Conflicts.{is_clash-masks}
 use Rattle.msg_world.proofs.access.Access.is_clash.Goals as goal
 

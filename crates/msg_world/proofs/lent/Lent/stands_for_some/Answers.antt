@@ -1,4 +1,4 @@
-use Rattle.msg_world.specs.World.{merge}
+use Rattle.msg_world.specs.Prelude.{merge}
 use Rattle.msg_world.proofs.Loans.{loan_stands}
 use Rattle.msg_world.proofs.lent.Lent.stands_for_some.Goals as goal
 

@@ -1,5 +1,5 @@
 use Rattle.std.proofs.Common.{refl}
-use Rattle.msg_world.specs.Parts.{Parts}
+use Rattle.msg_world.specs.Prelude.{Parts}
 use Rattle.msg_world.proofs.Worlds.{some_state}
 use Rattle.msg_world.proofs.taken.Taken.stands_for_some.Goals as goal
 

@@ -1,9 +1,7 @@
 use Rattle.std.proofs.Common.{◌≡◌, ◌∙◌, ap, sym, subst}
 use Rattle.std.specs.Prelude.{IsSome, List, Option}
-use Rattle.msg_buffer.specs.Kept.{Kept}
-use Rattle.msg_world.specs.declared.record.Record.{Record}
-use Rattle.msg_world.specs.Access.{OfType}
-use Rattle.msg_world.specs.Parts.{Parts}
+use Rattle.msg_buffer.specs.Prelude.{Kept}
+use Rattle.msg_world.specs.Prelude.{OfType, Parts, Record}
 use Rattle.msg_world.specs.inner.Slots.{BufferStands, at}
 use Rattle.msg_world.proofs.world.World.counts.Goals as goal
 

@@ -1,5 +1,5 @@
 use Rattle.std.proofs.Common.{subst, rules}
-use Rattle.msg_world.specs.Parts.{LendsOut, Parts}
+use Rattle.msg_world.specs.Prelude.{LendsOut, Parts}
 use Rattle.msg_world.proofs.Worlds.{lent_out_left, lent_out_taken}
 use Rattle.msg_world.proofs.world.World.lend_out.Goals as goal
 

@@ -4,12 +4,8 @@ use mir.Syntax.{w64}
 use Rattle.std.proofs.lemmas.Int.{to_z-of_z}
 use Rattle.std.proofs.lemmas.Grind.{common_steps}
 use Rattle.std.specs.Prelude.{ℤ, IsSome, slice_set}
-use Rattle.msg_buffer.specs.History.{write}
-use Rattle.msg_buffer.specs.StandsFor.{StandsFor}
-use Rattle.msg_world.specs.declared.record.TheConstants.{HOST}
-use Rattle.msg_world.specs.Access.{OfType}
-use Rattle.msg_world.specs.Parts.{Parts, PartsStand, SameShape, slot}
-use Rattle.msg_world.specs.World.{WorldState, by}
+use Rattle.msg_buffer.specs.Prelude.{StandsFor, write}
+use Rattle.msg_world.specs.Prelude.{HOST, OfType, Parts, PartsStand, SameShape, WorldState, by, slot}
 use Rattle.msg_world.proofs.Worlds.{buffer_stands, found_at, if_err, if_ok, on_ok, type_shape, type_stands}
 use Rattle.msg_world.proofs.world.World.post.Goals as goal
 

@@ -1,4 +1,4 @@
-use Rattle.msg_world.specs.Parts.{Parts}
+use Rattle.msg_world.specs.Prelude.{Parts}
 use Rattle.msg_world.proofs.Worlds.{some_state}
 use Rattle.msg_world.proofs.world.World.stands_for_some.Goals as goal
 

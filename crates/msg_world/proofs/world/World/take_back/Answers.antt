@@ -1,5 +1,5 @@
 use Rattle.std.proofs.Common.{subst, rules}
-use Rattle.msg_world.specs.Parts.{Parts, TakesBack}
+use Rattle.msg_world.specs.Prelude.{Parts, TakesBack}
 use Rattle.msg_world.proofs.Worlds.{taken_back_joined}
 use Rattle.msg_world.proofs.world.World.take_back.Goals as goal
 

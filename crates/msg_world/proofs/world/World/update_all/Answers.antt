@@ -3,10 +3,8 @@ use Rattle.std.specs.Prelude.{IsSome}
 use Rattle.std.specs.Vec.{with_items}
 use Rattle.std.proofs.lemmas.Bool.{false≢true}
 use Rattle.std.proofs.lemmas.List.{with_items_is}
-use Rattle.msg_buffer.specs.Kept.{Kept}
-use Rattle.msg_world.specs.declared.record.Record.{Record}
-use Rattle.msg_world.specs.Access.{Registry}
-use Rattle.msg_world.specs.Parts.{Parts, PartsStand, SameShape, slot}
+use Rattle.msg_buffer.specs.Prelude.{Kept}
+use Rattle.msg_world.specs.Prelude.{Parts, PartsStand, Record, Registry, SameShape, slot}
 use Rattle.msg_world.specs.inner.Slots.{AllUpdated}
 use Rattle.msg_world.proofs.Worlds.{others_update, types_updated_shape, waiting_stays}
 use Rattle.msg_world.proofs.world.World.update_all.Goals as goal

@@ -1,8 +1,7 @@
 use Rattle.std.proofs.Common.{◌∙◌, ap, sym, Some, Err}
 use Rattle.std.proofs.lemmas.Result.{err_from_is_err_and}
 use Rattle.serde_json.specs.View.{view, items_view}
-use Rattle.msg_files.specs.Checks.{batch_checks}
-use Rattle.msg_files.specs.Denotes.{values_of}
+use Rattle.msg_files.specs.Prelude.{batch_checks, values_of}
 use Rattle.msg_files.proofs.Shapes.{batch_no_numbers, batch_long, batch_short, batch_denotes, Agrees_err}
 use Rattle.msg_files.proofs.calls.read.call.read_values.Goals as goal
 

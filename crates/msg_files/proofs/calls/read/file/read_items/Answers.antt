@@ -2,9 +2,7 @@ use Rattle.std.proofs.Common.{◌∙◌, ap, sym, Err, ◌++◌, ◌∷◌, []}
 use Rattle.std.specs.Prelude.{if◌then◌else◌}
 use Rattle.std.proofs.lemmas.Result.{err_from_is_err_and}
 use Rattle.serde_json.specs.View.{view}
-use Rattle.msg_files.specs.Check.{first_refusal}
-use Rattle.msg_files.specs.Checks.{call_checks}
-use Rattle.msg_files.specs.Denotes.{call_of}
+use Rattle.msg_files.specs.Prelude.{call_checks, call_of, first_refusal}
 use Rattle.msg_files.proofs.Shapes.{IfErr_at}
 use Rattle.msg_files.proofs.Walks.{CallsLeft-more, CallsLeft-bad, CallsLeft-end}
 use Rattle.msg_files.proofs.calls.read.file.read_items.Goals as goal

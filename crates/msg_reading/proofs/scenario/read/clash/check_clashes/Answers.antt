@@ -5,7 +5,7 @@ use Rattle.std.proofs.lemmas.List.{take_more, take_all}
 use Rattle.std.proofs.lemmas.Option.{slice_get_read}
 use Rattle.std.proofs.lemmas.List.Elements.{All-append, All-cons, All-nil}
 use Rattle.msg_files.specs.declared.refusal.Refusal.TheVariants.{Clash}
-use Rattle.msg_reading.specs.Reading.{IsClashing}
+use Rattle.msg_reading.specs.Prelude.{IsClashing}
 use Rattle.msg_reading.proofs.scenario.read.clash.check_clashes.Goals as goal
 
 pub loop-system-preserved : goal.loop-system-preserved

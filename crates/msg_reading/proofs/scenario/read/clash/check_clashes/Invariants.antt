@@ -1,6 +1,6 @@
 use Rattle.std.proofs.Common.{◌≡◌, take}
 use Rattle.std.specs.Prelude.{All}
-use Rattle.msg_reading.specs.Reading.{IsClashing}
+use Rattle.msg_reading.specs.Prelude.{IsClashing}
 use Rattle.msg_reading.proofs.scenario.read.clash.check_clashes.Given as goal
 
 abbrev pub invariant-loop-system : goal.invariant-loop-system

@@ -1,9 +1,8 @@
 use Rattle.std.proofs.Common.{sym, subst, map}
 use Rattle.std.specs.Prelude.{option_map}
 use Rattle.serde_json.specs.View.{view}
-use Rattle.msg_reading.specs.ScenarioChecks.{probe_checks}
-use Rattle.msg_reading.specs.ScenarioDenotes.{probe_with}
-use Rattle.msg_files.specs.Walk.{IsAnswer}
+use Rattle.msg_reading.specs.Prelude.{probe_checks, probe_with}
+use Rattle.msg_files.specs.Prelude.{IsAnswer}
 use Rattle.msg_reading.proofs.Conditions.{probe_of_many}
 use Rattle.msg_reading.proofs.Parts.{one_of, two_of}
 use Rattle.msg_reading.proofs.scenario.read.condition.read_probe.Goals as goal

@@ -1,7 +1,6 @@
 use Rattle.std.proofs.Common.{refl}
 use Rattle.serde_json.specs.View.{view}
-use Rattle.msg_reading.specs.ScenarioChecks.{frames_checks, held_checks, resources_checks, root_object, rules_checks, scenario_checks, systems_checks, types_checks}
-use Rattle.msg_reading.specs.ScenarioDenotes.{scenario_of}
+use Rattle.msg_reading.specs.Prelude.{frames_checks, held_checks, resources_checks, root_object, rules_checks, scenario_checks, scenario_of, systems_checks, types_checks}
 use Rattle.msg_reading.proofs.Files.{from_held, from_resources, from_rules, from_systems, from_types}
 use Rattle.msg_files.proofs.Steps.{also, goes_on, passed_on, stops}
 use Rattle.msg_reading.proofs.scenario.read.file.read_sections.Goals as goal

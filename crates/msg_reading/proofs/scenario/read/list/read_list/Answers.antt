@@ -2,8 +2,7 @@ use Rattle.std.proofs.Common.{◌∙◌, ap, sym, Some, Err}
 use Rattle.std.specs.Prelude.{flat_map}
 use Rattle.std.proofs.lemmas.Result.{err_from_is_err_and}
 use Rattle.serde_json.specs.View.{view, items_view}
-use Rattle.msg_reading.specs.ScenarioChecks.{list_checks}
-use Rattle.msg_reading.specs.ScenarioDenotes.{each_of}
+use Rattle.msg_reading.specs.Prelude.{each_of, list_checks}
 use Rattle.msg_files.proofs.Shapes.{Agrees_err}
 use Rattle.msg_reading.proofs.Lists.{too_long, short_enough, each_denotes}
 use Rattle.msg_reading.proofs.scenario.read.list.read_list.Goals as goal

@@ -1,9 +1,8 @@
 use Rattle.std.proofs.Common.{◌∙◌, ap, sym, Some, Err}
 use Rattle.std.proofs.lemmas.Result.{err_from_is_err_and}
 use Rattle.serde_json.specs.View.{view, items_view}
-use Rattle.msg_files.specs.Json.{elements}
-use Rattle.msg_reading.specs.ScenarioChecks.{checks_in_turn, names_checks}
-use Rattle.msg_reading.specs.ScenarioDenotes.{each_in_turn, with_all}
+use Rattle.msg_files.specs.Prelude.{elements}
+use Rattle.msg_reading.specs.Prelude.{checks_in_turn, each_in_turn, names_checks, with_all}
 use Rattle.msg_files.proofs.Shapes.{Agrees_err, elements_are}
 use Rattle.msg_reading.proofs.Lists.{too_long, short_enough}
 use Rattle.msg_reading.proofs.scenario.read.named.read_names.Goals as goal

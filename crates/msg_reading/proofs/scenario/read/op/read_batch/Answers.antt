@@ -3,13 +3,8 @@ use Rattle.std.specs.Prelude.{◌&&◌}
 use Rattle.std.proofs.lemmas.Result.{err_from_is_err_and}
 use Rattle.serde_json.specs.View.{view}
 use Rattle.msg_system.specs.declared.op.Op.TheVariants.{Batch}
-use Rattle.msg_files.specs.Check.{needs}
-use Rattle.msg_files.specs.Checks.{a_value, few_values}
-use Rattle.msg_files.specs.Denotes.{values_of}
-use Rattle.msg_files.specs.Json.{elements}
-use Rattle.msg_reading.specs.Names.{type_number}
-use Rattle.msg_reading.specs.ScenarioChecks.{a_type, is_list_of_numbers, is_text}
-use Rattle.msg_reading.specs.ScenarioDenotes.{both, text}
+use Rattle.msg_files.specs.Prelude.{a_value, elements, few_values, needs, values_of}
+use Rattle.msg_reading.specs.Prelude.{a_type, both, is_list_of_numbers, is_text, text, type_number}
 use Rattle.msg_files.specs.declared.refusal.Refusal.TheVariants.{Shape}
 use Rattle.msg_files.proofs.Shapes.{Agrees_err}
 use Rattle.msg_reading.proofs.Ops.{batch_passed, batch_denoted}

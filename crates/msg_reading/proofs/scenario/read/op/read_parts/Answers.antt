@@ -1,8 +1,7 @@
 use Rattle.std.proofs.Common.{sym, subst, map}
 use Rattle.serde_json.specs.View.{view}
-use Rattle.msg_reading.specs.ScenarioChecks.{op_checks_with}
-use Rattle.msg_reading.specs.ScenarioDenotes.{op_with}
-use Rattle.msg_files.specs.Walk.{Agrees, IsAnswer}
+use Rattle.msg_reading.specs.Prelude.{op_checks_with, op_with}
+use Rattle.msg_files.specs.Prelude.{Agrees, IsAnswer}
 use Rattle.msg_files.proofs.Shapes.{Agrees_of}
 use Rattle.msg_reading.proofs.Ops.{op_of_many}
 use Rattle.msg_reading.proofs.Parts.{one_of, two_of}

@@ -1,5 +1,5 @@
 use Rattle.std.proofs.Common.{◌∙◌, ap, sym, Some}
-use Rattle.msg_files.specs.Json.{all_some}
+use Rattle.msg_files.specs.Prelude.{all_some}
 use Rattle.msg_files.proofs.Walks.{all_some-map}
 use Rattle.msg_reading.proofs.Ops.{few_enough}
 use Rattle.msg_reading.proofs.scenario.read.op.read_values.Goals as goal

@@ -1,7 +1,7 @@
 use Rattle.std.proofs.Common.{◌∙◌, ap, sym, refl, Some}
 use Rattle.serde_json.specs.View.{view, items_view}
 use Rattle.msg_reading.proofs.Ops.{numbers_or_not, not_both}
-use Rattle.msg_reading.specs.ScenarioChecks.{is_text}
+use Rattle.msg_reading.specs.Prelude.{is_text}
 use Rattle.msg_reading.proofs.scenario.read.op.text_and_numbers.Goals as goal
 
 pub returns-then-not-are_numbers : goal.returns-then-not-are_numbers

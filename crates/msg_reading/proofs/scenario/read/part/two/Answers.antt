@@ -1,6 +1,6 @@
 use Rattle.std.proofs.Common.{◌∙◌, ap, refl, Some}
 use Rattle.serde_json.specs.View.{view, items_view}
-use Rattle.msg_reading.specs.ScenarioChecks.{for_two}
+use Rattle.msg_reading.specs.Prelude.{for_two}
 use Rattle.msg_files.proofs.Shapes.{elements_are}
 use Rattle.msg_reading.proofs.Parts.{not_two}
 use Rattle.msg_reading.proofs.scenario.read.part.two.Goals as goal

@@ -1,8 +1,7 @@
 use Rattle.std.proofs.Common.{◌∙◌, ap, Err}
 use Rattle.std.proofs.lemmas.Result.{err_from_is_err_and}
 use Rattle.serde_json.specs.View.{view}
-use Rattle.msg_reading.specs.ScenarioChecks.{condition_checks, join_checks, list_checks, place_checks}
-use Rattle.msg_reading.specs.ScenarioDenotes.{conditions_in, join_in, place_of}
+use Rattle.msg_reading.specs.Prelude.{condition_checks, conditions_in, join_checks, join_in, list_checks, place_checks, place_of}
 use Rattle.msg_files.proofs.Steps.{goes_on, stops}
 use Rattle.msg_reading.proofs.Parts.{both_denoted}
 use Rattle.msg_files.proofs.Shapes.{Agrees_err}

@@ -2,10 +2,8 @@ use Rattle.std.proofs.Common.{◌∙◌, ap, Err, ◌∷◌, []}
 use Rattle.std.specs.Prelude.{◌&&◌}
 use Rattle.std.proofs.lemmas.Result.{err_from_is_err_and}
 use Rattle.serde_json.specs.View.{view}
-use Rattle.msg_files.specs.Check.{needs}
-use Rattle.msg_reading.specs.Names.{system_number}
-use Rattle.msg_reading.specs.ScenarioChecks.{a_system, is_text}
-use Rattle.msg_reading.specs.ScenarioDenotes.{both, text}
+use Rattle.msg_files.specs.Prelude.{needs}
+use Rattle.msg_reading.specs.Prelude.{a_system, both, is_text, system_number, text}
 use Rattle.msg_files.specs.declared.refusal.Refusal.TheVariants.{Shape, UnknownName}
 use Rattle.msg_files.proofs.Shapes.{IsAnswer_err}
 use Rattle.msg_reading.proofs.Parts.{last_unknown}

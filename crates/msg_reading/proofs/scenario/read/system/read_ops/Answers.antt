@@ -3,9 +3,8 @@ use Rattle.std.specs.Prelude.{false}
 use Rattle.std.specs.Option.{option_map_or}
 use Rattle.std.proofs.lemmas.Result.{err_from_is_err_and}
 use Rattle.serde_json.specs.View.{view}
-use Rattle.msg_files.specs.Check.{needs}
-use Rattle.msg_reading.specs.ScenarioChecks.{fits_kind, list_checks, op_checks}
-use Rattle.msg_reading.specs.ScenarioDenotes.{each_of, op_of}
+use Rattle.msg_files.specs.Prelude.{needs}
+use Rattle.msg_reading.specs.Prelude.{each_of, fits_kind, list_checks, op_checks, op_of}
 use Rattle.msg_files.specs.declared.refusal.Refusal.TheVariants.{Shape}
 use Rattle.msg_files.proofs.Steps.{stops}
 use Rattle.msg_files.proofs.Shapes.{Agrees_err}

@@ -2,9 +2,8 @@ use Rattle.std.proofs.Common.{◌∙◌, ◌++◌, ap, Err, None, Some, ◌∷�
 use Rattle.std.specs.Prelude.{is_some}
 use Rattle.std.proofs.lemmas.Result.{err_from_is_err_and}
 use Rattle.serde_json.specs.View.{view}
-use Rattle.msg_files.specs.Check.{needs}
-use Rattle.msg_reading.specs.ScenarioChecks.{place_checks, program_checks}
-use Rattle.msg_reading.specs.ScenarioDenotes.{each_of, op_of, start_in, start_of}
+use Rattle.msg_files.specs.Prelude.{needs}
+use Rattle.msg_reading.specs.Prelude.{each_of, op_of, place_checks, program_checks, start_in, start_of}
 use Rattle.msg_files.specs.declared.refusal.Refusal.TheVariants.{Shape}
 use Rattle.msg_files.proofs.Steps.{goes_on, refuses_by, stops}
 use Rattle.msg_reading.proofs.Parts.{is_shape, refuses_as}

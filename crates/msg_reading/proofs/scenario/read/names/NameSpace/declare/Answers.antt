@@ -1,7 +1,7 @@
 use Rattle.std.proofs.Common.{◌∙◌, ap, sym, ◌++◌, ◌∷◌, [], ◌≡◌, map, string_bytes}
 use Rattle.indexmap.specs.IndexSet.{insert_key}
 use Rattle.std.specs.Str.{bytes_eq}
-use Rattle.msg_reading.specs.Names.{position_of}
+use Rattle.msg_reading.specs.Prelude.{position_of}
 use Rattle.msg_reading.proofs.Spaces.{insert-new, is_absent, of_ok}
 use Rattle.msg_reading.proofs.scenario.read.names.NameSpace.declare.Goals as goal
 

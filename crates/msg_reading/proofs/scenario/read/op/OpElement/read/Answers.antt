@@ -1,7 +1,6 @@
 use Rattle.std.proofs.Common.{map}
 use Rattle.serde_json.specs.View.{view}
-use Rattle.msg_reading.specs.ScenarioChecks.{op_checks, op_checks_with}
-use Rattle.msg_reading.specs.ScenarioDenotes.{op_of, op_with}
+use Rattle.msg_reading.specs.Prelude.{op_checks, op_checks_with, op_of, op_with}
 use Rattle.msg_reading.proofs.Parts.{Agrees_by, headed_checked, headed_denoted}
 use Rattle.msg_reading.proofs.scenario.read.op.OpElement.read.Goals as goal
 

@@ -1,9 +1,8 @@
 use Rattle.std.proofs.Common.{◌∙◌, ap, sym, Err}
 use Rattle.std.proofs.lemmas.Result.{err_from_is_err_and}
 use Rattle.serde_json.specs.View.{view}
-use Rattle.msg_files.specs.Check.{first_refusal}
-use Rattle.msg_reading.specs.ScenarioChecks.{program_checks, system_checks}
-use Rattle.msg_reading.specs.ScenarioDenotes.{ops_of, place_of, system_of}
+use Rattle.msg_files.specs.Prelude.{first_refusal}
+use Rattle.msg_reading.specs.Prelude.{ops_of, place_of, program_checks, system_checks, system_of}
 use Rattle.msg_files.proofs.Steps.{refuses_by}
 use Rattle.msg_files.proofs.Shapes.{Agrees_err}
 use Rattle.msg_reading.proofs.Systems.{system_denoted, system_misnamed, system_named}
