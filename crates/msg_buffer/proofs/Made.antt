@@ -6,8 +6,8 @@ use Rattle.msg_buffer.specs.Prelude.{Instance, numbered}
 use Rattle.msg_buffer.proofs.Numbers.{numbered-append}
 
 module _ {X M : Type 0} (R : X → M → Type 0) where
-  pub one_more : (xs : List X) (ms : List M) (i : ℕ) (x : X) (m : M) → i < length xs → x ≡ get_or xs i x → AllZip R (take i xs) ms → R x m
-      → AllZip R (take (i + 1) xs) (ms ++ m ∷ [])
+  pub one_more : (xs : List X) (ms : List M) (i : ℕ) (x : X) (m : M) → i < length xs → x ≡ get_or xs i x
+      → AllZip R (take i xs) ms → R x m → AllZip R (take (i + 1) xs) (ms ++ m ∷ [])
   one_more [] ms i x m within at made is = absurd (omega arith)
   one_more (y ∷ xs) [] zero x m within at made is = (subst (λ z. R z m) at is, tt)
   one_more (y ∷ xs) (n ∷ ms) zero x m within at made is = absurd made
@@ -23,7 +23,8 @@ module _ {X M : Type 0} (R : X → M → Type 0) where
   as_many (x ∷ xs) (m ∷ ms) made = ap suc (as_many xs ms made.1)
 
 -- one message more behind those that were appended
-pub one_appended : {M : Type 0} (old xs : List (Instance M)) (first next : ℕ) (ms : List M) (m : M) → xs ≡ old ++ numbered first ms → next ≡ first + length ms
+pub one_appended : {M : Type 0} (old xs : List (Instance M)) (first next : ℕ) (ms : List M) (m : M)
+    → xs ≡ old ++ numbered first ms → next ≡ first + length ms
     → xs ++ record { id = record { 0 = next }; message = m } ∷ [] ≡ old ++ numbered first (ms ++ m ∷ [])
 one_appended old xs first next ms m is at =
     rw (is, numbered-append first ms (m ∷ []), ← at) (append_assoc old (numbered first ms) _)

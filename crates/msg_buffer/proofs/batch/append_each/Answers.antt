@@ -11,8 +11,8 @@ loop-item-preserved g c =
     let made = at.invariant.3 in
     let m = c.message_of-message.result in
     let within = c.loop-item-test.true in
-    let more = one_more _ c.args.items.now made.0 at.item-index c.item-item.result m within c.item-item.is made.1
-    (says_at g.F.Fn c.message_of-message.ensures refl) in
+    let result = says_at g.F.Fn c.message_of-message.ensures refl in
+    let more = one_more _ c.args.items.now made.0 at.item-index c.item-item.result m within c.item-item.is made.1 result in
     let long = as_many _ _ made.0 made.1 ∙ length-take at.item-index c.args.items.now in (
       omega arith,
       omega (arith, put.len),
@@ -20,6 +20,6 @@ loop-item-preserved g c =
       (
         made.0 ++ m ∷ [],
         more,
-        rw put.items (one_appended c.args.instances.now.items at.instances.items c.args.first at.next made.0 m made.2 (omega arith)),
+        rw put.items (one_appended _ at.instances.items c.args.first at.next made.0 m made.2 (omega arith)),
       ),
     )
