@@ -10,7 +10,7 @@ use Rattle.msg_world.specs.Prelude.{LoanStands, Part, Parts, PartsStand, SameSha
 use Rattle.msg_system.specs.declared.reply.Reply.{Reply}
 use Rattle.msg_system.specs.declared.condition.Condition.{Condition}
 use Rattle.msg_system.specs.Prelude.{AfterJob, Asked, Job as JobState, Meaning, Ran, after_asking, after_job, after_turn, all_hold, told, turn}
-use Rattle.msg_exec.specs.Prelude.{GuardedSystem}
+use Rattle.msg_exec.specs.Prelude.{GuardedSystem, IsAfterJob, job_state}
 use Rattle.msg_frames.specs.declared.log.Outcome.TheVariants as outcome
 
 -- nothing is given back but what is written
