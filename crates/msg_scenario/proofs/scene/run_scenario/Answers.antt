@@ -20,3 +20,11 @@ returns-clause-stopped g c cause = record {
     | inr memory ↦ inr (inside _ _ memory)
   ]);
 }
+
+pub returns-clause-run : goal.returns-clause-run
+returns-clause-run g c ran = record {
+  engine = c.in_ok-engine.engine;
+  begun = c.in_ok-engine.ensures.meaning;
+  left = c.report.new.engine;
+  has_run_out = c.report.ensures.run (inside _ _ ran);
+}
