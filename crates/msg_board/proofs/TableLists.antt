@@ -1,7 +1,6 @@
 -- Elements of lists, as the table names them (`get_elem?`) and as clauses do (`slice_get`).
-use Rattle.std.specs.Prelude.{slice_get}
 use Rattle.std.specs.List.{All}
-use Rattle.std.proofs.Common.{Bool, false, ◌∙◌, ◌+◌, ◌⊎◌, inl, inr, ⊎_elim, Option, Some, None, ◌≡◌, ◌≢◌, ℕ, zero, suc, ◌<◌, ◌≤◌, List, [], ◌∷◌, ◌++◌, length, get_or, set, replicate, sym, refl, ap, subst, arith, get_or-set_other, get_or-set_same, length-append}
+use Rattle.std.proofs.Common.{Bool, false, ◌∙◌, ◌+◌, ◌⊎◌, inl, inr, ⊎_elim, Option, Some, None, ◌≡◌, ◌≢◌, ℕ, zero, suc, ◌<◌, ◌≤◌, List, [], ◌∷◌, ◌++◌, length, get_or, set, replicate, sym, refl, ap, subst, arith, get_or-set_other, get_or-set_same, length-append, slice_get}
 use Rattle.std.proofs.Math.ListN.{get_or-append}
 use Rattle.std.proofs.Math.Seq.{get_or-append_seam}
 use mathlib.Core.Logic.{dite}

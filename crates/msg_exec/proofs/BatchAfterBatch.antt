@@ -8,7 +8,7 @@ use Rattle.std.proofs.Math.Seq.{take-length}
 use Rattle.msg_system.specs.Prelude.{Meaning}
 use Rattle.msg_frames.specs.declared.log.Turn.{Turn}
 use Rattle.msg_exec.specs.Prelude.{Lender, LenderStands}
-use Rattle.msg_frames.specs.Prelude.{AfterTurns, after_turn_of, after_turns_of, logged, State}
+use Rattle.msg_frames.specs.Prelude.{AfterTurns, after_turn_of, after_turns_of, logged_turn, State}
 use Rattle.std.proofs.lemmas.Bool.{false≢true}
 use Rattle.std.specs.Prelude.{All, AllPairs}
 use Rattle.std.proofs.lemmas.Bool.Decides.{Decides-eqb, eqb_tells}
@@ -24,7 +24,7 @@ and_then x is = record { state = (after_turns_of is x.state).state; turns = x.tu
 pub turns_then_more : (is js : List ℕ) (s : State) → after_turns_of (is ++ js) s ≡ and_then (after_turns_of is s) js
 turns_then_more [] js s = refl
 turns_then_more (i ∷ is) js s =
-    ap (λ (x : AfterTurns). record { state = x.state; turns = logged s i ∷ x.turns }) (turns_then_more is js (after_turn_of i s))
+    ap (λ (x : AfterTurns). record { state = x.state; turns = logged_turn s i ∷ x.turns }) (turns_then_more is js (after_turn_of i s))
 
 pub as_many_systems : (is : List ℕ) (s : State) → (after_turns_of is s).state.systems ≡ s.systems
 as_many_systems [] s = refl

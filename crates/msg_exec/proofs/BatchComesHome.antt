@@ -14,7 +14,7 @@ use Rattle.msg_system.specs.Prelude.{IsAccessOf, Job as JobState, Meaning, after
 use Rattle.msg_exec.specs.Prelude.{Done, IsAfterJob, IsDone, Job, Lender, LenderStands, MemberStands, TotalsStand, job_state, system_at}
 use Rattle.msg_frames.specs.declared.log.Turn.{Turn}
 use Rattle.msg_frames.specs.declared.totals.Totals.{Totals}
-use Rattle.msg_frames.specs.Prelude.{AreAccessesOf, BatchesRunSideBySide, Member, SameSystems, State, after_turns_of, all_home, home, logged, needs_of, turn_of}
+use Rattle.msg_frames.specs.Prelude.{AreAccessesOf, BatchesRunSideBySide, Member, SameSystems, State, after_turns_of, all_home, home, logged_turn, needs_of, turn_of}
 use Rattle.msg_exec.specs.inner.Batches.{AreDone}
 use Rattle.msg_exec.specs.inner.Totals.{HasFewReplies}
 use Rattle.msg_exec.specs.inner.Lending.{AreOut, ComesHome, HaveEntered, IsOut, any_writes}
@@ -234,7 +234,7 @@ module _ {S : Type 0} (meaning : S → Meaning) where
     pub all : come ++ rest ≡ batch
     pub back : AllZip (IsBack whole s) rest ds
     pub half : Halfway whole s (all_home whole.accesses.items s come s) rest now
-    pub logged_so_far : turns ≡ before ++ map (logged s) come
+    pub logged_so_far : turns ≡ before ++ map (logged_turn s) come
 
   pub begin_home : (whole left : Lender S) (s : State) (batch : List ℕ) (js : List (Job S)) (ds : List (Done S)) (turns : List Turn) → LenderStands meaning whole s
       → All (λ i. i < s.systems) batch → AreOut whole batch js left → AreDone meaning left.world js ds → ComingHome whole batch s ds left turns turns
@@ -262,14 +262,14 @@ module _ {S : Type 0} (meaning : S → Meaning) where
     module _ (new : Lender S) (turn : Turn) (once : AllPairs (λ i j. i ≢ j) batch) (none : NoneConflict whole.accesses.items batch)
         (comes : ComesHome meaning now d new) (tells : turn ≡ record { system = d.number; outcome = d.outcome }) (merges : HomeMerges) (either : HomeWhereEither) where
       one_more : (come rest : List ℕ) → come ++ rest ≡ batch → AllZip (IsBack whole s) rest (d ∷ ds) → Halfway whole s (all_home whole.accesses.items s come s) rest now
-          → turns ≡ before ++ map (logged s) come → ComingHome whole batch s ds new before (turns ++ turn ∷ [])
+          → turns ≡ before ++ map (logged_turn s) come → ComingHome whole batch s ds new before (turns ++ turn ∷ [])
       one_more come [] all back half log = absurd back
       one_more come (i ∷ rest) all back half log =
           let lt : i < s.systems = All-contains (λ i. i < s.systems) batch i below (subst (λ xs. Contains xs i) all (Contains-append_right come (i ∷ rest) i (Contains-head i rest))) in
           let Free : ℕ → ℕ → Type 0 = λ i j. ¬ Conflict (access_of whole.accesses.items i) (access_of whole.accesses.items j) in
           let others = pairs_head (λ i j. i ≢ j) i rest (pairs_right (λ i j. i ≢ j) come (i ∷ rest) (subst (AllPairs (λ i j. i ≢ j)) (sym all) once)) in
           let free = pairs_head Free i rest (pairs_right Free come (i ∷ rest) (subst (AllPairs Free) (sym all) none)) in
-          let same : turn ≡ logged s i = tells ∙ (λ k. record { system = back.0.number k; outcome = back.0.after.outcome k }) in
+          let same : turn ≡ logged_turn s i = tells ∙ (λ k. record { system = back.0.number k; outcome = back.0.after.outcome k }) in
           record {
             come = come ++ i ∷ [];
             rest = rest;
@@ -279,8 +279,8 @@ module _ {S : Type 0} (meaning : S → Meaning) where
                 (one_home whole now s (all_home whole.accesses.items s come s) i rest d stands lt half back.0 new comes
                 (λ there. All-contains (λ j. i ≢ j) rest i others there refl) free merges either);
             logged_so_far =
-                ap (λ ts. ts ++ turn ∷ []) log ∙ append_assoc before (map (logged s) come) (turn ∷ [])
-                ∙ ap (λ t. before ++ (map (logged s) come ++ t ∷ [])) same ∙ ap (λ ts. before ++ ts) (sym (map-append (logged s) come (i ∷ [])));
+                ap (λ ts. ts ++ turn ∷ []) log ∙ append_assoc before (map (logged_turn s) come) (turn ∷ [])
+                ∙ ap (λ t. before ++ (map (logged_turn s) come ++ t ∷ [])) same ∙ ap (λ ts. before ++ ts) (sym (map-append (logged_turn s) come (i ∷ [])));
           }
 
       pub next_comes : (left : List (Done S)) → left ≡ d ∷ ds → ComingHome whole batch s left now before turns → ComingHome whole batch s ds new before (turns ++ turn ∷ [])
@@ -295,7 +295,7 @@ module _ {S : Type 0} (meaning : S → Meaning) where
       ended far.come far.rest far.all (subst (AllZip (IsBack whole s) far.rest) nobody far.back) far.half far.logged_so_far
     where
       ended : (come rest : List ℕ) → come ++ rest ≡ batch → AllZip (IsBack whole s) rest [] → Halfway whole s (all_home whole.accesses.items s come s) rest now
-          → turns ≡ before ++ map (logged s) come → LenderStands meaning now (after_turns_of batch s).state × (turns ≡ before ++ (after_turns_of batch s).turns)
+          → turns ≡ before ++ map (logged_turn s) come → LenderStands meaning now (after_turns_of batch s).state × (turns ≡ before ++ (after_turns_of batch s).turns)
       ended come (i ∷ rest) all back half log = absurd back
       ended come [] all back half log =
           let are : AreAccessesOf s whole.accesses.items = record { each = stands.accesses; of_needs = λ i lt. (stands.members i lt).access } in
@@ -303,5 +303,5 @@ module _ {S : Type 0} (meaning : S → Meaning) where
           let whole_batch : come ≡ batch = sym (append-nil come) ∙ all in
           let state : all_home whole.accesses.items s come s ≡ (after_turns_of batch s).state = ap (λ is. all_home whole.accesses.items s is s) whole_batch ∙ sym side.1 in (
             stands_again whole now s (after_turns_of batch s).state stands (turns_keep_systems batch s) (subst (λ u. Halfway whole s u [] now) state half),
-            log ∙ ap (λ is. before ++ map (logged s) is) whole_batch ∙ ap (λ ts. before ++ ts) (sym side.0),
+            log ∙ ap (λ is. before ++ map (logged_turn s) is) whole_batch ∙ ap (λ ts. before ++ ts) (sym side.0),
           )

@@ -7,7 +7,7 @@ use Rattle.msg_order.specs.Prelude.{NoneConflict, access_of}
 use Rattle.msg_system.specs.Prelude.{Meaning}
 use Rattle.msg_exec.specs.Prelude.{Done, IsDone, Job, Lender, LenderStands, MayRun}
 use Rattle.msg_frames.specs.declared.log.Turn.{Turn}
-use Rattle.msg_frames.specs.Prelude.{BatchesRunSideBySide, State, after_turn_of, logged}
+use Rattle.msg_frames.specs.Prelude.{BatchesRunSideBySide, State, after_turn_of, logged_turn}
 use Rattle.msg_exec.specs.inner.Lending.{AreOut, ComesHome, GoesOut}
 use Rattle.msg_exec.proofs.BatchComesHome.{ComingHome, MayCome, all_came, begin_home, next_comes, next_may_come}
 use Rattle.msg_exec.proofs.BatchGoesOut.{MayGo, all_may_run, may_go, none_out, one_more_out}
@@ -41,7 +41,7 @@ module _ {S : Type 0} (meaning : S → Meaning) (g : Lender S) (s : State) (i : 
       alone_may_come = next_may_come meaning g left (i ∷ []) s d [] [] [] stands below (d ∷ []) refl begun
 
       pub turn_taken : (new : Lender S) (turn : Turn) → ComesHome meaning left d new → turn ≡ record { system = d.number; outcome = d.outcome }
-          → HomeMerges → HomeWhereEither → BatchesRunSideBySide → LenderStands meaning new (after_turn_of i s) × (turn ≡ logged s i)
+          → HomeMerges → HomeWhereEither → BatchesRunSideBySide → LenderStands meaning new (after_turn_of i s) × (turn ≡ logged_turn s i)
       turn_taken new turn comes tells merges either law =
           let once = no_pairs (λ a b. a ≢ b) i in
           let far = next_comes meaning g left (i ∷ []) s d [] [] [] stands below new turn once none comes tells merges either (d ∷ []) refl begun in

@@ -11,7 +11,7 @@ use Rattle.msg_exec.specs.Prelude.{Core, CoreStands, LenderStands}
 use Rattle.msg_frames.specs.declared.frame.Frame.{Frame}
 use Rattle.msg_frames.specs.declared.log.Log.{Log}
 use Rattle.msg_exec.specs.inner.FrameSteps.{HasLeft, HasOpened, NobodyJoins, PlansNext, counted}
-use Rattle.msg_frames.specs.Prelude.{FrameStaysSound, FramesAgreeInLawfulOrders, IsFrame, IsLawfulFor, IsOrderOf, IsReplay, State, SystemsHaveOneOrder, after_turns_of, before_turns, frame_in, joined, joining}
+use Rattle.msg_frames.specs.Prelude.{FrameStaysSound, FramesAgreeInLawfulOrders, IsFrame, IsLawfulFor, IsOrderOf, IsReplay, State, SystemsHaveOneOrder, after_turns_of, before_turns, frame_in, join_flags, joining}
 use Rattle.msg_exec.proofs.CoreRunsFrame.{frame_ran, is_frame_by, nobody_more}
 use Rattle.msg_frames.proofs.FramesInOrder.{in_that_order}
 use Rattle.msg_frames.proofs.SystemsStay.{accesses_stay, before_keeps, joined_below}
@@ -29,7 +29,7 @@ module _ {S : Type 0} (meaning : S → Meaning) where
   plan_stays c s stands none = subst (λ js. IsPlanOf c.lender.accesses.items s.rules js c.plan) (sym (nobody_more s none)) stands.plan
 
   -- the plan settles the order of those that will have joined
-  settled_next : (c : Core S) (s : State) (frame : Frame) (g : Graph) → CoreStands meaning c s → IsSettledOrder c.lender.accesses.items s.rules (joined (counted (joining s))) g
+  settled_next : (c : Core S) (s : State) (frame : Frame) (g : Graph) → CoreStands meaning c s → IsSettledOrder c.lender.accesses.items s.rules (join_flags (counted (joining s))) g
       → IsOrderOf (before_turns frame.posts s) g
   settled_next c s frame g stands settled =
       let b : State = before_turns frame.posts s in
@@ -37,18 +37,18 @@ module _ {S : Type 0} (meaning : S → Meaning) where
       record {
         accesses = c.lender.accesses.items;
         of_systems = accesses_stay s b c.lender.accesses.items same (record { each = stands.lender.accesses; of_needs = λ i lt. (stands.lender.members i lt).access });
-        is_settled = subst (λ (rs : List Rule). IsSettledOrder c.lender.accesses.items rs (joined b) g) (sym same.rules) settled;
+        is_settled = subst (λ (rs : List Rule). IsSettledOrder c.lender.accesses.items rs (join_flags b) g) (sym same.rules) settled;
       }
 
   -- so what the plan accepts is what is lawful
   pub accepted : (accepts : Bool) (c : Core S) (s : State) (frame : Frame) (order : List ℕ) (g : Graph) → SystemsHaveOneOrder → CoreStands meaning c s
-      → IsSettledOrder c.lender.accesses.items s.rules (joined (counted (joining s))) g
-      → (IsTrue accepts ↔ IsLawfulOrder g (joined (counted (joining s))) order) → IsTrue accepts ↔ IsLawfulFor frame s order
+      → IsSettledOrder c.lender.accesses.items s.rules (join_flags (counted (joining s))) g
+      → (IsTrue accepts ↔ IsLawfulOrder g (join_flags (counted (joining s))) order) → IsTrue accepts ↔ IsLawfulFor frame s order
   accepted accepts c s frame order g one stands settled tells =
       let b : State = before_turns frame.posts s in
       let is : IsOrderOf b g = settled_next c s frame g stands settled in (
         λ yes. record { settled = g; is_order = is; lawful = tells.0 yes },
-        λ x. tells.1 (subst (λ h. IsLawfulOrder h (joined b) order) (one b x.settled g x.is_order is) x.lawful),
+        λ x. tells.1 (subst (λ h. IsLawfulOrder h (join_flags b) order) (one b x.settled g x.is_order is) x.lawful),
       )
 
   -- ---- the frame

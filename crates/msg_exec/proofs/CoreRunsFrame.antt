@@ -7,7 +7,7 @@ use Rattle.std.proofs.lemmas.Bool.{cases_Bool, eqb-true, eqb-false, leb-false, l
 use Rattle.std.proofs.lemmas.Option.{slice_get-get_or}
 use Rattle.std.proofs.lemmas.Simd.{map-map}
 use Rattle.msg_world.specs.declared.access.Access.{Access}
-use Rattle.msg_world.specs.Prelude.{Parts, PartsStand, SameShape, WorldState, updated}
+use Rattle.msg_world.specs.Prelude.{Parts, PartsStand, SameShape, WorldState, after_update}
 use Rattle.msg_order.specs.Prelude.{AreBatches, Graph, IsPlanOf, IsTurnOrder, NameSystemsBelow, PlanView, batch_at}
 use Rattle.msg_order.specs.declared.rule.Rule.{Rule}
 use Rattle.msg_system.specs.declared.reply.Reply.{Reply}
@@ -16,7 +16,7 @@ use Rattle.msg_exec.specs.Prelude.{AreJoins, Core, CoreStands, Lender, LenderSta
 use Rattle.msg_frames.specs.declared.frame.Frame.{Frame}
 use Rattle.msg_frames.specs.declared.log.Log.{Log}
 use Rattle.msg_exec.specs.inner.FrameSteps.{HasBegunFrame, HasLeft, HasOpened, NobodyJoins, PlansNext, counted}
-use Rattle.msg_frames.specs.Prelude.{FrameStaysSound, IsFrame, IsSoundState, SameSystems, State, after_turns_of, before_turns, begun, counts, frame_in, has_begun, joined, joining, post_replies, posted, with_joining}
+use Rattle.msg_frames.specs.Prelude.{FrameStaysSound, IsFrame, IsSoundState, SameSystems, State, after_posts, after_turns_of, before_turns, counts, frame_in, has_begun, join_flags, joined_member, joining, post_replies, with_joining}
 use Rattle.msg_exec.specs.inner.Lending.{HaveReadNothing}
 use Rattle.msg_exec.proofs.SystemsJoin.{listed, members_alike}
 use Rattle.msg_frames.proofs.SystemsStay.{joined_below, joined_stay, joining_keeps, joining_makes_no_frame, joining_world, no_cycle_stays, turns_keep_systems, turns_make_no_frame}
@@ -47,7 +47,7 @@ joins_listed js s are = listed (λ i. (s.members i).join) js 0 s.systems are.as_
     (λ k lt. slice_get-get_or js k 0 (omega (arith, lt, are.as_many)) ∙ ap (λ j. Some j) (are.each k lt) ∙ ap (λ m. Some (s.members m).join) (omega arith))
 
 -- those that have joined by a frame, where so many frames and one more are counted
-pub joined_by_frame : (js : List ℕ) (s : State) (frame : ℕ) → AreJoins js s → max 1 s.frames ≡ frame → map (λ j. nat_le j frame) js ≡ joined s
+pub joined_by_frame : (js : List ℕ) (s : State) (frame : ℕ) → AreJoins js s → max 1 s.frames ≡ frame → map (λ j. nat_le j frame) js ≡ join_flags s
 joined_by_frame js s frame are is =
     ap (map (λ j. nat_le j frame)) (joins_listed js s are) ∙ map-map (λ j. nat_le j frame) (λ i. (s.members i).join) (range_with_len 0 s.systems)
     ∙ ap (λ n. map (λ i. nat_le (s.members i).join n) (range_with_len 0 s.systems)) (sym is)
@@ -77,7 +77,7 @@ one_more j (suc f) (inl waits) = ap (λ n. nat_le j n) (later (suc f)) ∙ beyon
         above : (j f : ℕ) → f < j → j ≢ suc f → suc f < j
         above j f lt waits = elim (cases_Bool (j == suc f)) [ inl is ↦ absurd (waits (eqb-true j (suc f) is)) | inr isnt ↦ (let other = eqb-false j (suc f) isnt in omega (arith, lt, other)) ]
 
-pub nobody_more : (s : State) → NobodyJoins s → joined (counted (joining s)) ≡ joined s
+pub nobody_more : (s : State) → NobodyJoins s → join_flags (counted (joining s)) ≡ join_flags s
 nobody_more s none =
     let same = joining_keeps s in
     let counted_alike : SameSystems (counted s) (counted (joining s)) = record { systems = same.systems; members = same.members; rules = same.rules; types = same.types } in
@@ -90,7 +90,7 @@ unchanged : {S : Type 0} (meaning : S → Meaning) (g : Lender S) (s : State) �
 unchanged meaning g s none stands = elim (cases_Bool (s.frames == 0)) [
   | inl first ↦ rw first stands
   | inr later ↦ rw later (members_alike meaning g s (with_joining (suc s.frames) s).members (λ i lt. elim (none i lt) [
-    | inl waits ↦ ap (λ b. if b then begun (counts s) (s.members i) else s.members i) (ne_eqb (s.members i).join (suc s.frames) waits)
+    | inl waits ↦ ap (λ b. if b then joined_member (counts s) (s.members i) else s.members i) (ne_eqb (s.members i).join (suc s.frames) waits)
     | inr first ↦ absurd (eqb-false s.frames 0 later first)
   ]) stands)
 ]
@@ -99,7 +99,7 @@ pub none_begins : {S : Type 0} (meaning : S → Meaning) (c : Core S) (s : State
 none_begins meaning c s stands none = record {
   lender = unchanged meaning c.lender s none stands.lender;
   schedule = schedule_along c s (joining s) (joining_keeps s) stands.schedule;
-  plan = subst (λ rs. IsPlanOf c.lender.accesses.items rs (joined (counted (joining s))) c.plan) (sym (joining_keeps s).rules)
+  plan = subst (λ rs. IsPlanOf c.lender.accesses.items rs (join_flags (counted (joining s))) c.plan) (sym (joining_keeps s).rules)
       (subst (λ js. IsPlanOf c.lender.accesses.items s.rules js c.plan) (sym (nobody_more s none)) stands.plan);
 }
 
@@ -115,7 +115,7 @@ plan_next c s next plan has is plans =
     let later : Schedule c (joining s) = schedule_along c s (joining s) (joining_keeps s) has in
     let are : AreJoins c.joins.items now = record { as_many = later.joins.as_many; each = later.joins.each } in
     let at : max 1 now.frames ≡ next = omega (arith, is, joining_makes_no_frame s) in
-    subst (λ (rs : List Rule). IsPlanOf c.lender.accesses.items rs (joined now) plan) has.rules
+    subst (λ (rs : List Rule). IsPlanOf c.lender.accesses.items rs (join_flags now) plan) has.rules
     (subst (λ bs. IsPlanOf c.lender.accesses.items c.rules.items bs plan) (joined_by_frame c.joins.items now next are at) plans)
 
 -- those that join with it do so
@@ -134,8 +134,8 @@ those_begin meaning c d s next stands some is lender joins rules accesses plan =
         named = has.named;
         no_cycle = has.no_cycle;
       };
-      plan = subst (λ (rs : List Rule). IsPlanOf d.lender.accesses.items rs (joined (counted (joining s))) d.plan) (sym (joining_keeps s).rules)
-          (subst (λ (v : Vec Access). IsPlanOf v.items s.rules (joined (counted (joining s))) d.plan) (sym accesses) plan);
+      plan = subst (λ (rs : List Rule). IsPlanOf d.lender.accesses.items rs (join_flags (counted (joining s))) d.plan) (sym (joining_keeps s).rules)
+          (subst (λ (v : Vec Access). IsPlanOf v.items s.rules (join_flags (counted (joining s))) d.plan) (sym accesses) plan);
     }
 
 -- ---- the frame opens, and its turns are taken
@@ -155,7 +155,7 @@ module _ {S : Type 0} (meaning : S → Meaning) where
   }
 
   -- each system of a batch is one of those that there are
-  pub batches_below : (batches : List (Vec ℕ)) (u : State) (order : Graph) → AreBatches order (joined u) (map (λ b. b.items) batches) → All (λ (batch : Vec ℕ). All (λ i. i < u.systems) batch.items) batches
+  pub batches_below : (batches : List (Vec ℕ)) (u : State) (order : Graph) → AreBatches order (join_flags u) (map (λ b. b.items) batches) → All (λ (batch : Vec ℕ). All (λ i. i < u.systems) batch.items) batches
   batches_below batches u order classes k d lt j e below =
       let batch : List ℕ = (get_or batches k d).items in
       let at : batch_at (map (λ (b : Vec ℕ). b.items) batches) k ≡ batch = get_or-map (λ (b : Vec ℕ). b.items) batches k d [] lt in
@@ -163,7 +163,7 @@ module _ {S : Type 0} (meaning : S → Meaning) where
 
   -- the updates and the posts leave the rest of the core
   pub opened : (b d : Core S) (s : State) (frame : Frame) (replies : List Reply) → HasBegunFrame meaning b s → SameShape b.lender.world d.lender.world
-      → PartsStand d.lender.world (posted frame.posts (updated (joining s).world)) → replies ≡ post_replies frame.posts (updated (joining s).world)
+      → PartsStand d.lender.world (after_posts frame.posts (after_update (joining s).world)) → replies ≡ post_replies frame.posts (after_update (joining s).world)
       → d ≡ record b { lender = record b.lender { world = d.lender.world } } → HasOpened meaning frame s d replies
   opened b d s frame replies has shape world posts only =
       let parts : Parts = d.lender.world in
@@ -178,7 +178,7 @@ module _ {S : Type 0} (meaning : S → Meaning) where
           no_cycle = has.schedule.no_cycle;
         };
         plan = has.plan;
-        posts = posts ∙ ap (λ w. post_replies frame.posts (updated w)) (joining_world s);
+        posts = posts ∙ ap (λ w. post_replies frame.posts (after_update w)) (joining_world s);
       })
 
   -- one turn after the other, batch by batch, is a frame
@@ -193,7 +193,7 @@ module _ {S : Type 0} (meaning : S → Meaning) where
           of_systems = record { each = has.lender.accesses; of_needs = λ i lt. (has.lender.members i lt).access };
           is_settled = has.plan.settled;
         };
-        in_order = subst (IsTurnOrder has.plan.order (joined bt)) (sym is) has.plan.turns;
+        in_order = subst (IsTurnOrder has.plan.order (join_flags bt)) (sym is) has.plan.turns;
       }) told
 
   pub frame_ran : (b d : Core S) (s : State) (frame : Frame) (log : Log) (order : List ℕ) (replies : List Reply) → order ≡ concat b.plan.batches → HasOpened meaning frame s b replies
@@ -218,8 +218,8 @@ module _ {S : Type 0} (meaning : S → Meaning) where
             named = later.named;
             no_cycle = later.no_cycle;
           };
-          plan = subst (λ xs. IsPlanOf xs u.rules (joined u) d.plan) (sym accesses) (subst (λ p. IsPlanOf b.lender.accesses.items u.rules (joined u) p) (sym plan)
-              (subst (λ rs. IsPlanOf b.lender.accesses.items rs (joined u) b.plan) (sym same.rules) (subst (λ js. IsPlanOf b.lender.accesses.items bt.rules js b.plan)
+          plan = subst (λ xs. IsPlanOf xs u.rules (join_flags u) d.plan) (sym accesses) (subst (λ p. IsPlanOf b.lender.accesses.items u.rules (join_flags u) p) (sym plan)
+              (subst (λ rs. IsPlanOf b.lender.accesses.items rs (join_flags u) b.plan) (sym same.rules) (subst (λ js. IsPlanOf b.lender.accesses.items bt.rules js b.plan)
               (sym (joined_stay bt u same (turns_make_no_frame order bt))) has.plan)));
           sound = stays frame s log u sound ran;
         };

@@ -7,7 +7,7 @@ use Rattle.msg_world.specs.declared.record.TheConstants.{HOST}
 use Rattle.msg_world.specs.Prelude.{Parts, PartsStand, WorldState, by, with_history}
 use Rattle.msg_system.specs.declared.reply.Reply.{Reply}
 use Rattle.msg_system.specs.Prelude.{numbers_for, write_reply}
-use Rattle.msg_frames.specs.Prelude.{post_replies, posted}
+use Rattle.msg_frames.specs.Prelude.{after_posts, post_replies}
 
 pub if_refused : {T E P : Type 0} (r : Result T E) → P → OnErr r P
 if_refused (Ok x) p = tt
@@ -15,17 +15,17 @@ if_refused (Err e) p = p
 
 -- what holds after some posts
 abbrev pub HasPosted : List (ℕ × ℤ) → WorldState → Parts → List Reply → Type 0
-HasPosted ps w parts replies = PartsStand parts (posted ps w) × (replies ≡ post_replies ps w)
+HasPosted ps w parts replies = PartsStand parts (after_posts ps w) × (replies ≡ post_replies ps w)
 
 abbrev after_post : ℕ × ℤ → WorldState → WorldState
 after_post p w = with_history w p.0 (write (by HOST p.1 ∷ []) (w.histories p.0))
 
-posted_more : (ps : List (ℕ × ℤ)) (p : ℕ × ℤ) (w : WorldState) → posted (ps ++ p ∷ []) w ≡ after_post p (posted ps w)
+posted_more : (ps : List (ℕ × ℤ)) (p : ℕ × ℤ) (w : WorldState) → after_posts (ps ++ p ∷ []) w ≡ after_post p (after_posts ps w)
 posted_more [] p w = refl
 posted_more (q ∷ ps) p w = posted_more ps p (after_post q w)
 
 replies_more : (ps : List (ℕ × ℤ)) (p : ℕ × ℤ) (w : WorldState)
-    → post_replies (ps ++ p ∷ []) w ≡ post_replies ps w ++ write_reply (numbers_for ((posted ps w).histories p.0) 1) ∷ []
+    → post_replies (ps ++ p ∷ []) w ≡ post_replies ps w ++ write_reply (numbers_for ((after_posts ps w).histories p.0) 1) ∷ []
 replies_more [] p w = refl
 replies_more (q ∷ ps) p w = ap (λ rs. write_reply (numbers_for (w.histories q.0) 1) ∷ rs) (replies_more ps p (after_post q w))
 
@@ -36,7 +36,7 @@ pub one_post_more : (ps : List (ℕ × ℤ)) (k : ℕ) (p : ℕ × ℤ) (w : Wor
     → HasPosted (take (k + 1) ps) w new (before ++ reply ∷ [])
 one_post_more ps k p w old new before reply lt is far state said =
     let longer : take (k + 1) ps ≡ take k ps ++ p ∷ [] = take_more ps k p lt ∙ ap (λ x. take k ps ++ x ∷ []) (sym is) in
-    let now : WorldState = posted (take k ps) w in
+    let now : WorldState = after_posts (take k ps) w in
     subst (λ xs. HasPosted xs w new (before ++ reply ∷ [])) (sym longer) (
       subst (PartsStand new) (sym (posted_more (take k ps) p w)) (state now far.0),
       ap (λ rs. rs ++ reply ∷ []) far.1 ∙ ap (λ r. post_replies (take k ps) w ++ r ∷ []) (said now far.0) ∙ sym (replies_more (take k ps) p w),

@@ -12,7 +12,7 @@ use Rattle.msg_world.specs.Prelude.{IsWhole, OfType, Parts, PartsStand, SameShap
 use Rattle.msg_system.specs.Prelude.{Asked, IsAccessOf, Job as JobState, Meaning, asked_started, start_place, started, with_conditions}
 use Rattle.msg_exec.specs.Prelude.{GuardedSystem, Lender, LenderStands, MemberStands, TotalsStand, job_state, system_at, totals_at}
 use Rattle.msg_frames.specs.declared.totals.Totals.{Totals}
-use Rattle.msg_frames.specs.Prelude.{Member, State, begun, counts, job_begun, needs_of, totals_from, with_joining}
+use Rattle.msg_frames.specs.Prelude.{Member, State, counts, job_begun, joined_member, needs_of, totals_from, with_joining}
 use Rattle.msg_exec.specs.inner.Totals.{first_place}
 use Rattle.msg_exec.specs.inner.Lending.{HaveReadNothing}
 use Rattle.msg_exec.proofs.SystemAfterTurn.{eqb_same, member_stays}
@@ -23,10 +23,10 @@ abbrev pub joins_below : ℕ → ℕ → State → ℕ → Bool
 joins_below n frame s j = nat_lt j n && ((s.members j).join == frame)
 
 abbrev pub joined_below : ℕ → ℕ → State → State
-joined_below n frame s = record s { members = λ j. if joins_below n frame s j then begun (counts s) (s.members j) else s.members j }
+joined_below n frame s = record s { members = λ j. if joins_below n frame s j then joined_member (counts s) (s.members j) else s.members j }
 
 abbrev pick : State → ℕ → Bool → Member
-pick s j b = if b then begun (counts s) (s.members j) else s.members j
+pick s j b = if b then joined_member (counts s) (s.members j) else s.members j
 
 and_false : (a b : Bool) → b ≡ false → (a && b) ≡ false
 and_false true b is = is
@@ -35,7 +35,7 @@ and_false false b is = refl
 not_yet : (s : State) (i frame : ℕ) → (joined_below i frame s).members i ≡ s.members i
 not_yet s i frame = ap (λ b. pick s i (b && ((s.members i).join == frame))) (le-ltb i i (omega arith))
 
-now : (s : State) (i frame : ℕ) → (s.members i).join ≡ frame → (joined_below (i + 1) frame s).members i ≡ begun (counts s) (s.members i)
+now : (s : State) (i frame : ℕ) → (s.members i).join ≡ frame → (joined_below (i + 1) frame s).members i ≡ joined_member (counts s) (s.members i)
 now s i frame joins =
     ap (λ b. pick s i (b && ((s.members i).join == frame))) (lt-ltb i (i + 1) (omega arith))
     ∙ ap (λ n. pick s i ((s.members i).join == n)) (sym joins) ∙ ap (pick s i) (eqb_same (s.members i).join)
@@ -98,16 +98,16 @@ module _ {S : Type 0} (meaning : S → Meaning) where
   first_is_started cs m t fresh = ap (λ p. if m.needs.reads (OfType t) then start_place m.start cs t else p) (sym fresh)
 
   begun_stands : (g h : Lender S) (types i : ℕ) (cs : List ℕ) (x : Option (GuardedSystem S)) (v : Vec Totals) (m : Member) → i < length g.systems.items → i < length g.totals.items → length v.items ≡ types
-      → ((t : ℕ) → m.job.system.places t ≡ 0) → HasBegun g h i cs x v → MemberStands meaning g types i m → MemberStands meaning h types i (begun cs m)
+      → ((t : ℕ) → m.job.system.places t ≡ 0) → HasBegun g h i cs x v → MemberStands meaning g types i m → MemberStands meaning h types i (joined_member cs m)
   begun_stands g h types i cs x v m lt lv many fresh has stands =
       let access : access_of h.accesses.items i ≡ access_of g.accesses.items i = ap (λ xs. access_of xs i) has.accesses in
-      let needs : needs_of (begun cs m) ≡ needs_of m = ap (with_conditions m.job.system.needs) (conditions_alike (asked_started m.job.system.start cs) (λ a. refl) m.job.conditions) in
+      let needs : needs_of (joined_member cs m) ≡ needs_of m = ap (with_conditions m.job.system.needs) (conditions_alike (asked_started m.job.system.start cs) (λ a. refl) m.job.conditions) in
       record {
-        guarded = subst (λ o. IsSomeAnd o (λ b. job_state meaning b ≡ (begun cs m).job)) (sym (ap (λ xs. slice_index_or xs i None) has.systems ∙ get_or-set_same g.systems.items i x None lt))
+        guarded = subst (λ o. IsSomeAnd o (λ b. job_state meaning b ≡ (joined_member cs m).job)) (sym (ap (λ xs. slice_index_or xs i None) has.systems ∙ get_or-set_same g.systems.items i x None lt))
             (begun_system (system_at g i) x cs m.job has.begun stands.guarded);
-        access = subst (λ a. IsAccessOf (needs_of (begun cs m)) a) (sym access) (subst (λ n. IsAccessOf n (access_of g.accesses.items i)) (sym needs) stands.access);
+        access = subst (λ a. IsAccessOf (needs_of (joined_member cs m)) a) (sym access) (subst (λ n. IsAccessOf n (access_of g.accesses.items i)) (sym needs) stands.access);
         home = λ p used. subst (λ w. IsSome (slot p w)) (sym has.world) (stands.home p (ap (λ a. uses a p) (sym access) ∙ used));
-        totals = subst (λ o. IsSomeAnd o (λ w. TotalsStand types w.items (begun cs m).totals)) (sym (ap (λ xs. slice_get xs i) has.totals ∙ get_same g.totals.items i v lv)) (record {
+        totals = subst (λ o. IsSomeAnd o (λ w. TotalsStand types w.items (joined_member cs m).totals)) (sym (ap (λ xs. slice_get xs i) has.totals ∙ get_same g.totals.items i v lv)) (record {
           as_many = many;
           each = λ t below. opened_totals (system_at g i) v.items cs m.job has.opened stands.guarded t (omega (arith, below, many)) ∙ ap totals_from (first_is_started cs m.job.system t (fresh t));
         });
@@ -119,7 +119,7 @@ module _ {S : Type 0} (meaning : S → Meaning) where
   one_joins g h s i frame cs x v lt joins fresh same many has stands =
       let shape : SameShape g.world h.world = subst (SameShape g.world) (sym has.world) (same_shape g.world) in
       let here : MemberStands meaning g s.types i (s.members i) = subst (λ m. MemberStands meaning g s.types i m) (not_yet s i frame) (stands.members i lt) in
-      let its : MemberStands meaning h s.types i (begun (counts s) (s.members i)) = subst (λ c. MemberStands meaning h s.types i (begun c (s.members i))) same
+      let its : MemberStands meaning h s.types i (joined_member (counts s) (s.members i)) = subst (λ c. MemberStands meaning h s.types i (joined_member c (s.members i))) same
       (begun_stands g h s.types i cs x v (s.members i) (omega (arith, lt, stands.systems)) (omega (arith, lt, stands.totals)) many (λ t. fresh i t joins) has here) in
       record {
         systems = ap length has.systems ∙ length-set g.systems.items i x ∙ stands.systems;

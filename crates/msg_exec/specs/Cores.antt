@@ -3,7 +3,7 @@ use Rattle.std.specs.Prelude.{◌≡◌, ℕ, ◌-◌, ◌^◌, ◌≤◌, ◌<�
 use Rattle.msg_order.specs.Prelude.{IsPlanOf, NameSystemsBelow}
 use Rattle.msg_system.specs.Prelude.{Meaning}
 use Rattle.msg_exec.specs.declared.engine_core.Core.{Core}
-use Rattle.msg_frames.specs.Prelude.{IsSoundState, NoCycle, State, joined}
+use Rattle.msg_frames.specs.Prelude.{IsSoundState, NoCycle, State, join_flags}
 use Rattle.msg_exec.specs.Lender.{AreJoins, LenderStands}
 
 -- how many frames were run, as an engine counts them: it stays at the greatest number of its type
@@ -25,5 +25,5 @@ module _ {S : Type 0} (meaning : S → Meaning) where
   pub record CoreStands (c : Core S) (s : State) : Type 0 where
     pub lender : LenderStands meaning c.lender s
     pub schedule : Schedule c s
-    pub plan : IsPlanOf c.lender.accesses.items s.rules (joined s) c.plan
+    pub plan : IsPlanOf c.lender.accesses.items s.rules (join_flags s) c.plan
     pub sound : IsSoundState s

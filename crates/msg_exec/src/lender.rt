@@ -1,6 +1,6 @@
 // Systems and the world go out for turns, and come home.
 ghost use Rattle.std.specs.Prelude.{◌≡◌, ◌<◌, IfOk, OnOk};
-ghost use Rattle.msg_frames.specs.Prelude.{after_turn_of, logged, State};
+ghost use Rattle.msg_frames.specs.Prelude.{after_turn_of, logged_turn, State};
 ghost use Rattle.msg_exec.specs.Prelude.{LenderStands};
 
 use crate::job::{Done, GuardedSystem, Job, run_job};
@@ -88,7 +88,7 @@ pub(crate) fn run_turn<S: System>(
     ensures state { IfOk result (λ turn. (s : State) → LenderStands S.meaning lender.old s
         → LenderStands S.meaning lender.new (after_turn_of number s)) }
     ensures logged { IfOk result (λ turn. (s : State) → LenderStands S.meaning lender.old s
-        → turn ≡ logged s number) }
+        → turn ≡ logged_turn s number) }
     ensures accesses { OnOk result (lender.new.accesses.items ≡ lender.old.accesses.items) }
 {
     batches_run_side_by_side();

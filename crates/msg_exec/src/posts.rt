@@ -4,7 +4,7 @@ ghost use Rattle.msg_buffer.specs.Prelude.{write};
 ghost use Rattle.msg_world.specs.declared.record.TheConstants.{HOST};
 ghost use Rattle.msg_world.specs.Prelude.{IsWhole, OfType, PartsStand, SameShape, WorldState, by, slot, with_history};
 ghost use Rattle.msg_system.specs.Prelude.{numbers_for, write_reply};
-ghost use Rattle.msg_frames.specs.Prelude.{post_replies, posted};
+ghost use Rattle.msg_frames.specs.Prelude.{after_posts, post_replies};
 ghost use Rattle.msg_exec.specs.inner.Posts.{HasRoom, SomeFindsRoom};
 
 use crate::NoMemory;
@@ -42,7 +42,7 @@ pub(crate) fn post_all(
     requires none_yet { replies.old.items ≡ [] }
     requires room { length posts.now ≤ vec_capacity replies.old }
     ensures state { OnOk result ((w : WorldState) → PartsStand world.old w
-        → PartsStand world.new (posted posts.now w)) }
+        → PartsStand world.new (after_posts posts.now w)) }
     ensures replies { OnOk result ((w : WorldState) → PartsStand world.old w
         → replies.new.items ≡ post_replies posts.now w) }
     ensures shape { OnOk result (SameShape world.old world.new) }

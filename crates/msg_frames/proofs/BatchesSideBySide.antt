@@ -1,6 +1,5 @@
 -- The jobs of a batch, side by side.
-use Rattle.std.proofs.Common.{◌≡◌, ◌≢◌, ℕ, suc, ◌<◌, List, [], ◌∷◌, ◌++◌, map, slice_index_or, refl, ap, sym, ◌∙◌, inl, inr, arith, subst}
-use Rattle.std.specs.Prelude.{All, AllPairs, if◌then◌else◌}
+use Rattle.std.proofs.Common.{◌≡◌, ◌≢◌, ℕ, suc, ◌<◌, List, [], ◌∷◌, ◌++◌, map, slice_index_or, refl, ap, sym, ◌∙◌, inl, inr, arith, subst, All, AllPairs, if◌then◌else◌}
 use Rattle.std.specs.List.{concat}
 use Rattle.std.proofs.lemmas.Bool.{cases_Bool, or_right}
 use Rattle.std.proofs.lemmas.List.Elements.{All-head, All-tail}
@@ -8,7 +7,7 @@ use Rattle.msg_world.specs.declared.access.Access.{Access}
 use Rattle.msg_world.specs.Prelude.{Conflict, OfResource, OfType, Part, Registry, WorldState, content, merge, writes}
 use Rattle.msg_order.specs.Prelude.{NoneConflict, access_of}
 use Rattle.msg_system.specs.Prelude.{Agree, HasFootprint, IsAccessOf, JobFootprint, needs_any}
-use Rattle.msg_frames.specs.Prelude.{AfterTurn, AfterTurns, AreAccessesOf, BatchesRunSideBySide, FramesRunByBatches, Member, Outcome, SameSystems, State, after_turn_of, after_turns_of, all_home, by_batches, home, logged, member_turn, needs_of, turn_of, with_member}
+use Rattle.msg_frames.specs.Prelude.{AfterTurn, AfterTurns, AreAccessesOf, BatchesRunSideBySide, FramesRunByBatches, Member, Outcome, SameSystems, State, after_turn_of, after_turns_of, all_home, by_batches, home, logged_turn, member_turn, needs_of, turn_of, with_member}
 use Rattle.msg_frames.proofs.SystemsStay.{accesses_stay, turns_keep_systems}
 use Rattle.msg_frames.proofs.ElementsAndPairs.{all_left, all_right, pairs_head, pairs_left, pairs_right, pairs_tail}
 use Rattle.msg_frames.proofs.TurnsCommute.{Apart, apart, given_by_turn, same_world, turn_footprint, with_member_other}
@@ -69,7 +68,7 @@ module _ (foot : JobFootprint) (accesses : List Access) (start : State) (are : A
 
   from_start : (batch : List ℕ) (s : State) → All (λ i. i < start.systems) batch → AllPairs (λ i j. i ≢ j) batch → NoneConflict accesses batch
       → All (Untouched start s) batch
-      → ((after_turns_of batch s).turns ≡ map (logged start) batch) × ((after_turns_of batch s).state ≡ all_home accesses start batch s)
+      → ((after_turns_of batch s).turns ≡ map (logged_turn start) batch) × ((after_turns_of batch s).state ≡ all_home accesses start batch s)
   from_start [] s below once none same = (refl, refl)
   from_start (i ∷ is) s below once none same =
       let here : Untouched start s i = All-head (Untouched start s) i is same in
@@ -79,7 +78,7 @@ module _ (foot : JobFootprint) (accesses : List Access) (start : State) (are : A
       (λ k d lt. still s i (slice_index_or is k d) li (below (suc k) d (omega arith)) (pairs_head (λ i j. i ≢ j) i is once k d lt)
       (pairs_head (λ i j. ¬ Conflict (access_of accesses i) (access_of accesses j)) i is none k d lt) here (same (suc k) d (omega arith))) in (
         ap (λ (g : Member × Outcome). record { system = i; outcome = g.1 } ∷ (after_turns_of is (after_turn_of i s)).turns) (given_same s i here)
-            ∙ ap (λ turns. logged start i ∷ turns) rest.0,
+            ∙ ap (λ turns. logged_turn start i ∷ turns) rest.0,
         rest.1 ∙ ap (all_home accesses start is) (turn_is_home s i li here),
       )
 
@@ -91,7 +90,7 @@ side_by_side foot s accesses batch are below once none =
 
 pub turns_follow : (xs ys : List ℕ) (s : State) → (after_turns_of (xs ++ ys) s).turns ≡ (after_turns_of xs s).turns ++ (after_turns_of ys (after_turns_of xs s).state).turns
 turns_follow [] ys s = refl
-turns_follow (x ∷ xs) ys s = ap (λ turns. logged s x ∷ turns) (turns_follow xs ys (after_turn_of x s))
+turns_follow (x ∷ xs) ys s = ap (λ turns. logged_turn s x ∷ turns) (turns_follow xs ys (after_turn_of x s))
 
 pub states_follow : (xs ys : List ℕ) (s : State) → (after_turns_of (xs ++ ys) s).state ≡ (after_turns_of ys (after_turns_of xs s).state).state
 states_follow [] ys s = refl
@@ -109,5 +108,5 @@ batch_by_batch foot s accesses (batch ∷ batches) are below once apart =
     let next : after_turns_of (concat batches) left ≡ by_batches accesses batches (all_home accesses s batch s) = rest ∙ ap (by_batches accesses batches) first.1 in
     λ k. record {
       state = (states_follow batch (concat batches) s ∙ ap (λ (t : AfterTurns). t.state) next) k;
-      turns = (turns_follow batch (concat batches) s ∙ ap (λ turns. turns ++ (after_turns_of (concat batches) left).turns) first.0 ∙ ap (λ (t : AfterTurns). map (logged s) batch ++ t.turns) next) k;
+      turns = (turns_follow batch (concat batches) s ∙ ap (λ turns. turns ++ (after_turns_of (concat batches) left).turns) first.0 ∙ ap (λ (t : AfterTurns). map (logged_turn s) batch ++ t.turns) next) k;
     }

@@ -1,16 +1,15 @@
 -- What comes before the turns of a frame: systems join, types are updated, posts are written.
-use Rattle.std.proofs.Common.{◌≡◌, ℕ, suc, ◌≤◌, ◌<◌, ℤ, max, List, Bool, true, false, not, ◌&&◌, cond, refl, sym, ap, subst, ◌∙◌, arith, inl, inr, ◌==◌, slice_get, unwrap_or}
-use Rattle.std.specs.Prelude.{IsTrue, IsFalse, nat_le}
+use Rattle.std.proofs.Common.{◌≡◌, ℕ, suc, ◌≤◌, ◌<◌, ℤ, max, List, Bool, true, false, not, ◌&&◌, cond, refl, sym, ap, subst, ◌∙◌, arith, inl, inr, ◌==◌, slice_get, unwrap_or, IsTrue, IsFalse, nat_le}
 use Rattle.std.proofs.lemmas.Bool.{cases_eq, eq-eqb, ne_eqb, cases_Bool, leb-true, leb-false, le-leb, lt-leb, and_from, and_left, and_right, not_from_true, not_from_false}
 use Rattle.std.proofs.lemmas.Option.{unwrap_or-slice_get}
 use Rattle.std.proofs.lemmas.List.FromFn.{get_or-map-range_with_len}
 use Rattle.msg_buffer.specs.Prelude.{OnlyGrows, count}
 use Rattle.msg_world.specs.declared.record.Record.{Record}
-use Rattle.msg_world.specs.Prelude.{OfType, updated}
+use Rattle.msg_world.specs.Prelude.{OfType, after_update}
 use Rattle.msg_system.specs.declared.start.Start.{Start}
 use Rattle.msg_system.specs.declared.start.Start.TheVariants.{Zero, Current}
 use Rattle.msg_system.specs.Prelude.{start_place}
-use Rattle.msg_frames.specs.Prelude.{Member, SameSystems, State, before_turns, begun, counts, has_begun, place_of, posted, with_joining}
+use Rattle.msg_frames.specs.Prelude.{Member, SameSystems, State, after_posts, before_turns, counts, has_begun, joined_member, place_of, with_joining}
 use Rattle.msg_frames.proofs.HistoriesGrow.{WorldGoesOn, before_goes_on}
 use Rattle.msg_frames.proofs.SystemsStay.{before_keeps}
 
@@ -21,14 +20,14 @@ abbrev arrives : State → ℕ → Bool
 arrives s i = not (s.frames == 0) && ((s.members i).join == suc s.frames)
 
 abbrev arrived : State → ℕ → Member
-arrived s i = cond (arrives s i) (begun (counts s) (s.members i)) (s.members i)
+arrived s i = cond (arrives s i) (joined_member (counts s) (s.members i)) (s.members i)
 
 abbrev ready : List (ℕ × ℤ) → State → State
-ready posts s = record s { members = arrived s; world = posted posts (updated s.world); frames = suc s.frames }
+ready posts s = record s { members = arrived s; world = after_posts posts (after_update s.world); frames = suc s.frames }
 
 ready_if : (first : Bool) (posts : List (ℕ × ℤ)) (s : State)
-    → (let b : State = cond first s (with_joining (suc s.frames) s) in record b { world = posted posts (updated b.world); frames = suc b.frames })
-    ≡ record s { members = λ i. cond (not first && ((s.members i).join == suc s.frames)) (begun (counts s) (s.members i)) (s.members i); world = posted posts (updated s.world); frames = suc s.frames }
+    → (let b : State = cond first s (with_joining (suc s.frames) s) in record b { world = after_posts posts (after_update b.world); frames = suc b.frames })
+    ≡ record s { members = λ i. cond (not first && ((s.members i).join == suc s.frames)) (joined_member (counts s) (s.members i)) (s.members i); world = after_posts posts (after_update s.world); frames = suc s.frames }
 ready_if true posts s = refl
 ready_if false posts s = refl
 
@@ -40,7 +39,7 @@ before_is posts s = ready_if (s.frames == 0) posts s
 -- Where system i stands among those that join: it had joined before, it joins now, or it still waits.
 pub data Arrival (s b : State) (i : ℕ) : Type 0 where
   stood : IsTrue (has_begun s i) → IsTrue (has_begun b i) → b.members i ≡ s.members i → Arrival s b i
-  comes : IsFalse (has_begun s i) → IsTrue (has_begun b i) → b.members i ≡ begun (counts s) (s.members i) → Arrival s b i
+  comes : IsFalse (has_begun s i) → IsTrue (has_begun b i) → b.members i ≡ joined_member (counts s) (s.members i) → Arrival s b i
   waits : IsFalse (has_begun s i) → IsFalse (has_begun b i) → b.members i ≡ s.members i → Arrival s b i
 
 -- What comes before the turns leaves.
@@ -66,8 +65,8 @@ arrival posts s i =
           elim (cases_eq join (suc s.frames)) [
             | inl now ↦
                 let comes_now : arrives s i ≡ true = and_from (not (s.frames == 0)) (join == suc s.frames) (not_from_false (s.frames == 0) (ne_eqb s.frames 0 (λ z. omega arith))) (eq-eqb join (suc s.frames) now) in
-                let is : arrived s i ≡ begun (counts s) (s.members i) = rw comes_now refl in
-                comes e (begun_by posts s i (begun (counts s) (s.members i)) true is (le-leb join (max 1 (suc s.frames)) (omega arith))) is
+                let is : arrived s i ≡ joined_member (counts s) (s.members i) = rw comes_now refl in
+                comes e (begun_by posts s i (joined_member (counts s) (s.members i)) true is (le-leb join (max 1 (suc s.frames)) (omega arith))) is
             | inr other ↦
                 let same : arrived s i ≡ s.members i = quiet (and_right (not (s.frames == 0)) (join == suc s.frames) (ne_eqb join (suc s.frames) other)) in
                 waits e (begun_by posts s i (s.members i) false same (lt-leb join (max 1 (suc s.frames)) (omega arith))) same
@@ -101,7 +100,7 @@ start_within Current s t below =
     omega arith
 
 pub begun_within : (s : State) (i t : ℕ) → t < s.types → place_of s i t ≤ count (s.world.histories t)
-    → (begun (counts s) (s.members i)).job.system.places t ≤ count (s.world.histories t)
+    → (joined_member (counts s) (s.members i)).job.system.places t ≤ count (s.world.histories t)
 begun_within s i t below within = elim (cases_Bool ((s.members i).job.system.needs.reads (OfType t))) [
   | inl e ↦ rw e (start_within (s.members i).job.system.start s t below)
   | inr e ↦ rw e within
@@ -112,6 +111,6 @@ begun_within s i t below within = elim (cases_Bool ((s.members i).job.system.nee
 pub before_rule : (posts : List (ℕ × ℤ)) (s : State) (i : ℕ) → ((before_turns posts s).members i).job.system.rule ≡ (s.members i).job.system.rule
 before_rule posts s i = ap (λ (b : State). (b.members i).job.system.rule) (before_is posts s) ∙ at (arrives s i)
   where
-    at : (b : Bool) → (cond b (begun (counts s) (s.members i)) (s.members i)).job.system.rule ≡ (s.members i).job.system.rule
+    at : (b : Bool) → (cond b (joined_member (counts s) (s.members i)) (s.members i)).job.system.rule ≡ (s.members i).job.system.rule
     at true = refl
     at false = refl

@@ -1,13 +1,12 @@
 -- A first state is sound.
-use Rattle.std.proofs.Common.{◌≡◌, ℕ, ◌≤◌, List, length, refl, sym, ap, subst, ◌∙◌, arith, inl, inr}
-use Rattle.std.specs.Prelude.{IsTrue, IsFalse, nat_le}
+use Rattle.std.proofs.Common.{◌≡◌, ℕ, ◌≤◌, List, length, refl, sym, ap, subst, ◌∙◌, arith, inl, inr, IsTrue, IsFalse, nat_le}
 use Rattle.std.proofs.lemmas.Bool.{cases_Bool, cases_eq, eq-eqb, leb-true, leb-false, ne_eqb, false≢true}
 use Rattle.std.proofs.lemmas.List.{get_or_past}
 use Rattle.msg_buffer.specs.Prelude.{count}
 use Rattle.msg_order.specs.declared.rule.Rule.{Rule}
 use Rattle.msg_world.specs.Prelude.{WorldState}
 use Rattle.msg_system.specs.Prelude.{Meaning}
-use Rattle.msg_frames.specs.Prelude.{AreNew, FirstIsSound, IsBalanced, IsSoundState, Member, Place, State, begun, counts, first_state, has_begun, no_totals, nobody, nowhere, place_of, unjoined}
+use Rattle.msg_frames.specs.Prelude.{AreNew, FirstIsSound, IsBalanced, IsSoundState, Member, Place, State, counts, first_state, has_begun, joined_member, no_totals, nobody, nowhere, place_of, unjoined}
 use Rattle.msg_frames.proofs.BeforeTurns.{begun_within}
 use Rattle.msg_frames.proofs.StatesStaySound.{balanced_start}
 
@@ -24,7 +23,7 @@ module _ (systems : List Meaning) (places : List Place) (rules : List Rule) (typ
     | inr e ↦ (new.new i (leb-false (length systems) i e)).places t
   ]
 
-  first_or_not : (P : Member → Type 0) (i : ℕ) → ((all_wait.members i).join ≡ 1 → P (begun (counts all_wait) (all_wait.members i)))
+  first_or_not : (P : Member → Type 0) (i : ℕ) → ((all_wait.members i).join ≡ 1 → P (joined_member (counts all_wait) (all_wait.members i)))
       → (¬ ((all_wait.members i).join ≡ 1) → P (all_wait.members i)) → P (first.members i)
   first_or_not P i now later = elim (cases_eq (all_wait.members i).join 1) [
     | inl e ↦ rw (eq-eqb (all_wait.members i).join 1 e) (now e)

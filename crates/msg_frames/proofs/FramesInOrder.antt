@@ -1,6 +1,6 @@
 -- A frame whose turns are taken in an order: its log has them in that order.
 use Rattle.std.proofs.Common.{◌≡◌, ℕ, List, [], ◌∷◌, map, refl, sym, ap, subst, ◌∙◌}
-use Rattle.msg_world.specs.Prelude.{updated}
+use Rattle.msg_world.specs.Prelude.{after_update}
 use Rattle.msg_system.specs.declared.reply.Reply.{Reply}
 use Rattle.msg_frames.specs.Prelude.{Frame, IsFrame, IsTurnOrderOf, Log, State, Turn, after_turn_of, after_turns_of, before_turns, frame_in, post_replies, systems_in}
 
@@ -9,7 +9,7 @@ systems_logged [] s = refl
 systems_logged (i ∷ is) s = ap (λ rest. i ∷ rest) (systems_logged is (after_turn_of i s))
 
 -- the log of a frame in an order: the answers to its posts, and the turns
-pub logged_in : (frame : Frame) (order : List ℕ) (s : State) (log : Log) (replies : List Reply) → log.posts ≡ replies → replies ≡ post_replies frame.posts (updated s.world)
+pub logged_in : (frame : Frame) (order : List ℕ) (s : State) (log : Log) (replies : List Reply) → log.posts ≡ replies → replies ≡ post_replies frame.posts (after_update s.world)
     → log.turns ≡ (after_turns_of order (before_turns frame.posts s)).turns → log ≡ (frame_in order frame s).log
 logged_in frame order s log replies has answered turns = λ k. record { posts = (has ∙ answered) k; turns = turns k }
 

@@ -4,11 +4,11 @@ use Rattle.std.proofs.lemmas.Bool.{cases_Bool, cases_eq, eq-eqb, ne_eqb}
 use Rattle.msg_buffer.specs.Prelude.{ClearsFit, GoesOn, History, IsSound, OnlyGrows, ReadsFit, clear, count, write}
 use Rattle.msg_world.specs.declared.record.Record.{Record}
 use Rattle.msg_world.specs.declared.record.TheConstants.{HOST}
-use Rattle.msg_world.specs.Prelude.{WorldState, by, updated, waits, with_history}
+use Rattle.msg_world.specs.Prelude.{WorldState, after_update, by, waits, with_history}
 use Rattle.msg_system.specs.declared.op.Op.{Op}
 use Rattle.msg_system.specs.declared.op.Op.TheVariants.{Write, Batch, Read, Len, Missed, Clear, Forward, Sum, Get, Set, Add, Drain, Signal}
 use Rattle.msg_system.specs.Prelude.{AfterProgram, Job, Meaning, after_at_most, after_job, after_op, again_by, all_hold, next_op, one_more, took, turn}
-use Rattle.msg_frames.specs.Prelude.{Frame, ListsOnlyGrow, State, after_turn_of, after_turns_of, before_turns, frame_in, joining, posted, systems_in}
+use Rattle.msg_frames.specs.Prelude.{Frame, ListsOnlyGrow, State, after_posts, after_turn_of, after_turns_of, before_turns, frame_in, joining, systems_in}
 use Rattle.msg_frames.proofs.SystemsStay.{joining_world}
 
 -- What the laws of buffers say of the world's types.
@@ -106,13 +106,13 @@ module _ (grow : OnlyGrows Record) where
       world_goes_further s.world (after_turn_of i s).world (after_turns_of is (after_turn_of i s)).state.world
       (job_goes_on (s.members i).job s.world) (turns_go_on is (after_turn_of i s))
 
-  posts_go_on : (posts : List (ℕ × ℤ)) (w : WorldState) → WorldGoesOn w (posted posts w)
+  posts_go_on : (posts : List (ℕ × ℤ)) (w : WorldState) → WorldGoesOn w (after_posts posts w)
   posts_go_on [] w = world_stays w
   posts_go_on (p ∷ ps) w =
       let next = with_history w p.0 (write (by HOST p.1 ∷ []) (w.histories p.0)) in
-      world_goes_further w next (posted ps next) (written_goes_on w p.0 (by HOST p.1 ∷ [])) (posts_go_on ps next)
+      world_goes_further w next (after_posts ps next) (written_goes_on w p.0 (by HOST p.1 ∷ [])) (posts_go_on ps next)
 
-  update_goes_on : (w : WorldState) → WorldGoesOn w (updated w)
+  update_goes_on : (w : WorldState) → WorldGoesOn w (after_update w)
   update_goes_on w = elim (cases_Bool (waits w)) [
     | inl e ↦ rw e (world_stays w)
     | inr e ↦ rw e (λ t sound. (grow (w.histories t) sound).1)
@@ -121,8 +121,8 @@ module _ (grow : OnlyGrows Record) where
   pub before_goes_on : (posts : List (ℕ × ℤ)) (s : State) → WorldGoesOn s.world (before_turns posts s).world
   before_goes_on posts s =
       let ready : WorldState = (joining s).world in
-      subst (λ w. WorldGoesOn w (posted posts (updated ready))) (joining_world s)
-      (world_goes_further ready (updated ready) (posted posts (updated ready)) (update_goes_on ready) (posts_go_on posts (updated ready)))
+      subst (λ w. WorldGoesOn w (after_posts posts (after_update ready))) (joining_world s)
+      (world_goes_further ready (after_update ready) (after_posts posts (after_update ready)) (update_goes_on ready) (posts_go_on posts (after_update ready)))
 
   pub frame_goes_on : (order : List ℕ) (frame : Frame) (s : State) → WorldGoesOn s.world (frame_in order frame s).state.world
   frame_goes_on order frame s =

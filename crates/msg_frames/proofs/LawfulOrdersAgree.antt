@@ -1,7 +1,5 @@
 -- Two lawful orders of turns leave the same.
-use Rattle.std.proofs.Common.{◌≡◌, ◌≢◌, ℕ, ◌<◌, ◌⊎◌, inl, inr, Bool, List, [], ◌∷◌, ◌++◌, length, get_or, refl, ap, sym, subst, subst₂, ◌∙◌, arith}
-use Rattle.std.specs.Prelude.{All, AllPairs, Contains, IsPermutation}
-use Rattle.std.proofs.lemmas.Bool.{cases_order}
+use Rattle.std.proofs.Common.{◌≡◌, ◌≢◌, ℕ, ◌<◌, ◌⊎◌, inl, inr, Bool, List, [], ◌∷◌, ◌++◌, length, get_or, refl, ap, sym, subst, subst₂, ◌∙◌, arith, All, AllPairs, Contains, IsPermutation}
 use Rattle.std.proofs.lemmas.Grind.{get_or_default_zero}
 use Rattle.std.proofs.lemmas.List.Elements.{All-contains, All-head, All-tail, Contains-append_cases, Contains-append_left, Contains-append_right, Contains-get_or}
 use Rattle.std.proofs.lemmas.List.FromFn.{length-map-range_with_len}
@@ -11,12 +9,13 @@ use Rattle.msg_world.specs.declared.access.Access.{Access}
 use Rattle.msg_world.specs.Prelude.{Conflict}
 use Rattle.msg_order.specs.Prelude.{ConflictingSystemsAreOrdered, Graph, IsLawfulOrder, IsTurnOrder, LawfulOrdersKeepPaths, Path, SettledOrderIsUnique, StandsBefore, TurnOrderIsLawful, access_of}
 use Rattle.msg_system.specs.Prelude.{JobFootprint}
-use Rattle.msg_frames.specs.Prelude.{AreAccessesOf, FramesAgreeInLawfulOrders, LawfulOrdersAgree, Log, State, Turn, after_turn_of, after_turns_of, before_turns, frame_in, has_begun, joined, logged, systems_in}
+use Rattle.msg_frames.specs.Prelude.{AreAccessesOf, FramesAgreeInLawfulOrders, LawfulOrdersAgree, Log, State, Turn, after_turn_of, after_turns_of, before_turns, frame_in, has_begun, join_flags, logged_turn, systems_in}
 use Rattle.msg_frames.proofs.RunsAreUnique.{one_order, order_is_among}
 use Rattle.msg_frames.proofs.TurnsCommute.{turns_commute}
 use Rattle.msg_frames.proofs.SystemsStay.{accesses_stay, joined_below, one_turn_keeps}
 use Rattle.msg_frames.proofs.ElementsAndPairs.{Cut, cut, pairs_head, pairs_middle, pairs_right, pairs_tail}
 use Rattle.msg_order.proofs.Elements.{Contains-cases, Contains-head, Contains-tail, not_in_none}
+use Rattle.msg_order.proofs.TurnOrders.{one_place}
 
 -- ---- the same run
 
@@ -39,18 +38,18 @@ module _ (accesses : List Access) where
   run_later : (x : ℕ) (is js : List ℕ) → SameRun accesses is js → SameRun accesses (x ∷ is) (x ∷ js)
   run_later x is js a s are =
       let r = a (after_turn_of x s) (accesses_stay s (after_turn_of x s) accesses (one_turn_keeps x s) are) in
-      (r.0, IsPermutation-cons (logged s x) _ _ r.1)
+      (r.0, IsPermutation-cons (logged_turn s x) _ _ r.1)
 
   run_swapped : JobFootprint → (x y : ℕ) (is : List ℕ) → x < length accesses → y < length accesses → x ≢ y → ¬ Conflict (access_of accesses x) (access_of accesses y)
       → SameRun accesses (x ∷ y ∷ is) (y ∷ x ∷ is)
   run_swapped foot x y is lx ly ne none s are =
       let e = turns_commute foot s accesses x y are (subst (λ n. x < n) are.each lx) (subst (λ n. y < n) are.each ly) ne none in
       let turns : List Turn = (after_turns_of is (after_turn_of y (after_turn_of x s))).turns in
-      let one : logged s x ∷ logged s y ∷ turns ≡ (after_turns_of (x ∷ y ∷ is) s).turns = ap (λ t. logged s x ∷ t ∷ turns) (sym e.0) in
-      let other : logged s y ∷ logged s x ∷ turns ≡ (after_turns_of (y ∷ x ∷ is) s).turns =
-      ap (λ t. logged s y ∷ t ∷ turns) (sym e.1) ∙ ap (λ u. logged s y ∷ logged (after_turn_of y s) x ∷ (after_turns_of is u).turns) e.2 in (
+      let one : logged_turn s x ∷ logged_turn s y ∷ turns ≡ (after_turns_of (x ∷ y ∷ is) s).turns = ap (λ t. logged_turn s x ∷ t ∷ turns) (sym e.0) in
+      let other : logged_turn s y ∷ logged_turn s x ∷ turns ≡ (after_turns_of (y ∷ x ∷ is) s).turns =
+      ap (λ t. logged_turn s y ∷ t ∷ turns) (sym e.1) ∙ ap (λ u. logged_turn s y ∷ logged_turn (after_turn_of y s) x ∷ (after_turns_of is u).turns) e.2 in (
         ap (λ u. (after_turns_of is u).state) e.2,
-        subst₂ IsPermutation one other (IsPermutation-middle (logged s x ∷ []) (logged s y) turns),
+        subst₂ IsPermutation one other (IsPermutation-middle (logged_turn s x ∷ []) (logged_turn s y) turns),
       )
 
   -- what is free of all before it moves to the front
@@ -132,13 +131,6 @@ module _ (foot : JobFootprint) (accesses : List Access) (P : ℕ → ℕ → Typ
 
 -- ---- lawful orders
 
--- where each stands once, one place
-one_place : (order : List ℕ) (a b : ℕ) → AllPairs (λ i j. i ≢ j) order → a < length order → b < length order → get_or order a 0 ≡ get_or order b 0 → a ≡ b
-one_place order a b once la lb e = elim (cases_order a b) [
-  | inl s ↦ s
-  | inr o ↦ elim o [ inl l ↦ absurd (once a b 0 l lb e) | inr l ↦ absurd (once b a 0 l la (sym e)) ]
-]
-
 -- no path leads back in a lawful order
 lawful_forward : LawfulOrdersKeepPaths → (g : Graph) (who : List Bool) (order : List ℕ) → IsLawfulOrder g who order → Forward (Path g) order
 lawful_forward keeps g who order lawful a b d lt l p =
@@ -152,11 +144,11 @@ lawful_forward keeps g who order lawful a b d lt l p =
 pub orders_agree : JobFootprint → ConflictingSystemsAreOrdered → LawfulOrdersKeepPaths → LawfulOrdersAgree
 orders_agree foot ordered keeps s accesses settled a b are is_settled la lb =
     reordered foot accesses (Path settled) b a
-    (λ i j p q ne conflict. ordered accesses s.rules (joined s) settled (length-map-range_with_len (has_begun s) 0 s.systems ∙ sym are.each) is_settled i j ne ((lb.of_joined i).0 p) ((lb.of_joined j).0 q) conflict)
+    (λ i j p q ne conflict. ordered accesses s.rules (join_flags s) settled (length-map-range_with_len (has_begun s) 0 s.systems ∙ sym are.each) is_settled i j ne ((lb.of_joined i).0 p) ((lb.of_joined j).0 q) conflict)
     (λ i h. (lb.of_joined i).1 ((la.of_joined i).0 h))
     (λ i h. (la.of_joined i).1 ((lb.of_joined i).0 h))
     (λ i h. subst (λ n. i < n) (sym are.each) (joined_below s i ((lb.of_joined i).0 h)))
-    lb.once la.once (lawful_forward keeps settled (joined s) b lb) (lawful_forward keeps settled (joined s) a la) s are
+    lb.once la.once (lawful_forward keeps settled (join_flags s) b lb) (lawful_forward keeps settled (join_flags s) a la) s are
 
 -- ---- frames
 
@@ -164,8 +156,8 @@ pub frames_agree : JobFootprint → ConflictingSystemsAreOrdered → LawfulOrder
 frames_agree foot ordered keeps one is_lawful frame s u log settled order x is_order lawful =
     let b : State = before_turns frame.posts s in
     let same : x.in_order.settled ≡ settled = one_order one b x.in_order.settled settled x.in_order.is_order is_order in
-    let turns : IsTurnOrder settled (joined b) (systems_in log) = subst (λ g. IsTurnOrder g (joined b) (systems_in log)) same x.in_order.in_order in
-    let own : IsLawfulOrder settled (joined b) (systems_in log) = is_lawful settled (joined b) (systems_in log) (order_is_among b settled is_order) turns in
+    let turns : IsTurnOrder settled (join_flags b) (systems_in log) = subst (λ g. IsTurnOrder g (join_flags b) (systems_in log)) same x.in_order.in_order in
+    let own : IsLawfulOrder settled (join_flags b) (systems_in log) = is_lawful settled (join_flags b) (systems_in log) (order_is_among b settled is_order) turns in
     let agree = orders_agree foot ordered keeps b is_order.accesses settled order (systems_in log) is_order.of_systems is_order.is_settled lawful own in (
       agree.0 ∙ sym x.leaves,
       ap (λ (l : Log). l.posts) (sym x.tells),

@@ -1,6 +1,5 @@
 -- A system without conditions whose program reads all of a type reads all in each frame.
-use Rattle.std.proofs.Common.{◌≡◌, ◌≢◌, ℕ, ℤ, ◌<◌, ◌≤◌, List, [], ◌∷◌, All, length, Bool, true, false, sym, ap, subst, ◌∙◌, arith}
-use Rattle.std.specs.Prelude.{IsTrue}
+use Rattle.std.proofs.Common.{◌≡◌, ◌≢◌, ℕ, ℤ, ◌<◌, ◌≤◌, List, [], ◌∷◌, All, length, Bool, true, false, sym, ap, subst, ◌∙◌, arith, IsTrue}
 use Rattle.std.specs.List.{list_any}
 use Rattle.std.proofs.lemmas.Bool.{false≢true}
 use Rattle.std.proofs.lemmas.List.Elements.{All-cons, All-nil}
@@ -12,7 +11,7 @@ use Rattle.msg_system.specs.declared.program.Program.{Program}
 use Rattle.msg_system.specs.declared.reply.Reply.{Reply}
 use Rattle.msg_system.specs.Prelude.{IsInOrder, Job, Meaning, after_job, of_program, program_needs, started_places, turn}
 use Rattle.msg_order.specs.Prelude.{has_joined}
-use Rattle.msg_frames.specs.Prelude.{Log, Member, Outcome, Ran, Skipped, State, WhoseProgramReadsAll, after_turn_of, after_turns_of, before_turns, counts, has_begun, job_begun, joined, logged, reads_all, systems_in}
+use Rattle.msg_frames.specs.Prelude.{Log, Member, Outcome, Ran, Skipped, State, WhoseProgramReadsAll, after_turn_of, after_turns_of, before_turns, counts, has_begun, job_begun, join_flags, logged_turn, reads_all, systems_in}
 use Rattle.msg_frames.proofs.BeforeTurns.{Prepares, comes, prepares, stood}
 use Rattle.msg_frames.proofs.BeforeTurns as before
 use Rattle.msg_frames.proofs.ReaderOverTurns.{one_member}
@@ -45,8 +44,8 @@ module _ (in_order : IsInOrder) (program : Program) (writer : ℕ) (few : length
 
   turns_ran : (i : ℕ) (order : List ℕ) (s : State) → IsProgram (s.members i).job → All (λ turn. turn.system ≡ i → turn.outcome ≢ Skipped) (after_turns_of order s).turns
   turns_ran i [] s is = All-nil (λ turn. turn.system ≡ i → turn.outcome ≢ Skipped)
-  turns_ran i (j ∷ js) s is = All-cons (λ turn. turn.system ≡ i → turn.outcome ≢ Skipped) (logged s j) (after_turns_of js (after_turn_of j s)).turns
-      (λ e. subst (λ k. (logged s k).outcome ≢ Skipped) (sym e) (rw is.1 (ran_isnt_skipped _)))
+  turns_ran i (j ∷ js) s is = All-cons (λ turn. turn.system ≡ i → turn.outcome ≢ Skipped) (logged_turn s j) (after_turns_of js (after_turn_of j s)).turns
+      (λ e. subst (λ k. (logged_turn s k).outcome ≢ Skipped) (sym e) (rw is.1 (ran_isnt_skipped _)))
       (turns_ran i js (after_turn_of j s) (turn_stays i j s is))
 
   before_stays : OnlyGrows Record → (posts : List (ℕ × ℤ)) (s : State) (i : ℕ) → IsProgram (s.members i).job → IsProgram ((before_turns posts s).members i).job
@@ -71,7 +70,7 @@ programs_read_all grow in_order frame s log u i t program writer places is there
       | before.waits old new same ↦ absurd (false≢true (sym old ∙ has))
     ] in
     let under : i < b.systems = subst (λ n. i < n) (sym prep.same.systems) there in
-    let joins : has_joined (joined b) i ≡ has_begun b i = get_or-map-range_with_len (has_begun b) 0 b.systems i i false under (omega arith) in (
+    let joins : has_joined (join_flags b) i ≡ has_begun b i = get_or-map-range_with_len (has_begun b) 0 b.systems i i false under (omega arith) in (
       record {
         has_turn = (is.in_order.in_order.of_joined i).1 (joins ∙ now);
         ran = subst (All (λ turn. turn.system ≡ i → turn.outcome ≢ Skipped)) (sym (ap (λ (l : Log). l.turns) is.tells)) (turns_ran in_order program writer few i order b ready);

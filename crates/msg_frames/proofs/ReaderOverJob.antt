@@ -1,6 +1,5 @@
 -- What a reader goes past by an op, by a turn and by a job.
-use Rattle.std.proofs.Common.{◌≡◌, ℕ, zero, suc, ◌+◌, ◌≤◌, List, [], ◌∷◌, ◌++◌, append_assoc, map, length, take, drop, All, Option, None, Some, refl, sym, ap, subst, ◌∙◌, arith, inl, inr, cond, ◌==◌}
-use Rattle.std.specs.Prelude.{option_to_list}
+use Rattle.std.proofs.Common.{◌≡◌, ℕ, zero, suc, ◌+◌, ◌≤◌, List, [], ◌∷◌, ◌++◌, append_assoc, map, length, take, drop, All, Option, None, Some, refl, sym, ap, subst, ◌∙◌, arith, inl, inr, cond, ◌==◌, option_to_list}
 use Rattle.std.proofs.lemmas.Bool.{cases_eq, eq-eqb, ne_eqb, cases_Bool}
 use Rattle.std.proofs.lemmas.List.{append-nil, length-append, length-map, map-append}
 use Rattle.std.proofs.lemmas.List.Elements.{All-append, All-cons, All-nil, All-weaker}

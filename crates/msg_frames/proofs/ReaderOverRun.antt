@@ -1,11 +1,10 @@
 -- What a reader goes past over a run of frames.
-use Rattle.std.proofs.Common.{◌≡◌, ℕ, ◌<◌, List, [], ◌∷◌, ◌++◌, map, refl, sym, ap, subst, ◌∙◌, unwrap_or}
-use Rattle.std.specs.Prelude.{IsTrue, IsFalse}
+use Rattle.std.proofs.Common.{◌≡◌, ℕ, ◌<◌, List, [], ◌∷◌, ◌++◌, map, refl, sym, ap, subst, ◌∙◌, unwrap_or, IsTrue, IsFalse}
 use Rattle.std.proofs.lemmas.Bool.{false≢true}
 use Rattle.msg_buffer.specs.Prelude.{GoesOn, History}
 use Rattle.msg_world.specs.declared.record.Record.{Record}
 use Rattle.msg_system.specs.Prelude.{Needs, Rule}
-use Rattle.msg_frames.specs.Prelude.{Entry, Frame, IsGivenOnce, IsInOrderOf, IsRun, IsServed, IsSoundState, Log, Member, Moment, RunsAreComplete, State, Totals, answers_in, before_turns, begun, counts, entries_told, found_at, found_totals, frame_in, has_begun, log_entries, moments, place_of, systems_in, totals_from, turns_moments, with_entries}
+use Rattle.msg_frames.specs.Prelude.{Entry, Frame, IsGivenOnce, IsInOrderOf, IsRun, IsServed, IsSoundState, Log, Member, Moment, RunsAreComplete, State, Totals, answers_in, before_turns, counts, entries_told, found_at, found_totals, frame_in, has_begun, joined_member, log_entries, moments, place_of, systems_in, totals_from, turns_moments, with_entries}
 use Rattle.msg_frames.proofs.OneFateEach.{lies_between, meets_one_fate, missed_are_dropped}
 use Rattle.msg_frames.proofs.TilesGiveInOrder.{all_as_written, given_in_order, in_order_of}
 use Rattle.msg_frames.proofs.HistoriesGrow.{BufferLaws, goes_further, runs_go_on, stays}
@@ -164,7 +163,7 @@ module _ (laws : BufferLaws) (i t : ℕ) where
         | stood was now same ↦ follows_joined i t s (ms ++ rest) u was (run_reads (frame ∷ frames) s (log ∷ logs) u sound is below was)
         | comes was now new ↦
             let all : Reads i t b (ms ++ rest) u = reads_further i t b ms m rest u here (run_reads frames m logs u msound mrun mbelow (begun_alike b m i keep ∙ now)) in
-            let place : ℕ = (begun (counts s) (s.members i)).job.system.places t in
+            let place : ℕ = (joined_member (counts s) (s.members i)).job.system.places t in
             follows_new i t s (ms ++ rest) u place was
             (passes_since (s.world.histories t) (b.world.histories t) (u.world.histories t) place (ms ++ rest) (place_of u i t) goes
             (subst (λ (x : Member). Passes (x.job.system.places t) (b.world.histories t) (ms ++ rest) (place_of u i t) (u.world.histories t)) new all.passes))

@@ -5,7 +5,7 @@ use Rattle.std.proofs.lemmas.List.{map-append}
 use Rattle.msg_buffer.specs.Prelude.{IsSound, count}
 use Rattle.msg_system.specs.declared.reply.Reply.{Reply}
 use Rattle.msg_system.specs.Prelude.{Needs, Rule}
-use Rattle.msg_frames.specs.Prelude.{Entry, Member, Moment, SameSystems, State, Turn, after_turn_of, after_turns_of, answers, entries_for, entries_told, job_moments, logged, ops_by, place_of, turn_of, turns_moments, with_entries}
+use Rattle.msg_frames.specs.Prelude.{Entry, Member, Moment, SameSystems, State, Turn, after_turn_of, after_turns_of, answers, entries_for, entries_told, job_moments, logged_turn, ops_by, place_of, turn_of, turns_moments, with_entries}
 use Rattle.msg_frames.proofs.HistoriesGrow.{BufferLaws, job_goes_on, stays}
 use Rattle.msg_frames.proofs.SystemsStay.{one_turn_keeps}
 use Rattle.msg_frames.proofs.ReaderOverJob.{Passes, job_logged, job_passes, job_rule, passes_further, passes_nothing}
@@ -111,16 +111,16 @@ tells_further i t a xs ms b ys ns c x y =
       needs = y.needs ∙ x.needs;
     }
 
-turn_tells : (i t j : ℕ) (s : State) → Tells i t s (cond (j == i) (answers (logged s j).outcome) []) (own_moments i t j s) (after_turn_of j s)
+turn_tells : (i t j : ℕ) (s : State) → Tells i t s (cond (j == i) (answers (logged_turn s j).outcome) []) (own_moments i t j s) (after_turn_of j s)
 turn_tells i t j s = record { entries = entries; rule = rule; needs = ((one_turn_keeps j s).members i).needs }
   where
-    entries : entries_told t (s.members i).job.system.needs (s.members i).job.system.rule (cond (j == i) (answers (logged s j).outcome) []) ≡ map (λ x. x.entry) (own_moments i t j s)
+    entries : entries_told t (s.members i).job.system.needs (s.members i).job.system.rule (cond (j == i) (answers (logged_turn s j).outcome) []) ≡ map (λ x. x.entry) (own_moments i t j s)
     entries = elim (cases_eq j i) [
       | inl e ↦ rw (eq-eqb j i e) (rw e (job_logged t (s.members i).job s.world))
       | inr ne ↦ rw (ne_eqb j i ne) refl
     ]
 
-    rule : ((after_turn_of j s).members i).job.system.rule ≡ after_told (cond (j == i) (answers (logged s j).outcome) []) (s.members i).job.system.rule
+    rule : ((after_turn_of j s).members i).job.system.rule ≡ after_told (cond (j == i) (answers (logged_turn s j).outcome) []) (s.members i).job.system.rule
     rule = elim (cases_eq j i) [
       | inl e ↦ rw (eq-eqb j i e, eq-eqb i j (sym e)) (rw e (job_rule (s.members i).job s.world))
       | inr ne ↦ rw (ne_eqb j i ne, ne_eqb i j (λ x. ne (sym x))) refl
@@ -130,7 +130,7 @@ pub turns_tell : (i t : ℕ) (js : List ℕ) (s : State) → Tells i t s (answer
 turns_tell i t [] s = record { entries = refl; rule = refl; needs = refl }
 turns_tell i t (j ∷ js) s =
     let u : State = after_turn_of j s in
-    tells_further i t s (cond (j == i) (answers (logged s j).outcome) []) (own_moments i t j s) u
+    tells_further i t s (cond (j == i) (answers (logged_turn s j).outcome) []) (own_moments i t j s) u
     (answers_among i (after_turns_of js u).turns) (turns_moments i t js u) (after_turns_of js u).state (turn_tells i t j s) (turns_tell i t js u)
 
 -- one whose turn doesn't come

@@ -1,12 +1,11 @@
 -- A reader that reads all in each frame is up to date, and so it misses nothing.
-use Rattle.std.proofs.Common.{◌≡◌, ◌≢◌, ℕ, suc, ◌+◌, ◌<◌, ◌≤◌, List, [], ◌∷◌, ◌++◌, map, All, Contains, refl, sym, ap, subst, ◌∙◌, arith, inl, inr}
-use Rattle.std.specs.Prelude.{IsTrue, nat_le}
+use Rattle.std.proofs.Common.{◌≡◌, ◌≢◌, ℕ, suc, ◌+◌, ◌<◌, ◌≤◌, List, [], ◌∷◌, ◌++◌, map, All, Contains, refl, sym, ap, subst, ◌∙◌, arith, inl, inr, IsTrue, nat_le}
 use Rattle.std.proofs.lemmas.Bool.{and_from, and_parts, cases_Bool, cases_eq, false≢true, le-leb, leb-false, leb-true}
 use Rattle.std.proofs.lemmas.Option.{same_Some, slice_get_cases, slice_get_within}
 use Rattle.std.proofs.lemmas.List.Elements.{All-append, All-cons, All-head, All-map, All-nil, All-tail}
 use Rattle.msg_buffer.specs.Prelude.{Entry, Fits, GoesOn, History, IsPresent, Stretch, Tile, count, next_place, update}
 use Rattle.msg_world.specs.declared.record.Record.{Record}
-use Rattle.msg_world.specs.Prelude.{WorldState, updated, waits}
+use Rattle.msg_world.specs.Prelude.{WorldState, after_update, waits}
 use Rattle.msg_frames.proofs.ElementsAndPairs.{Cut, cut}
 use Rattle.msg_frames.specs.Prelude.{Frame, IsFrame, IsRun, IsSoundState, IsUpToDate, Log, MissesNothing, Moment, NothingDrained, ReadsAll, ReadsAllInEach, Skipped, State, WhoIsUpToDateMissesNothing, WhoReadsAllCatchesUp, WhoReadsAllHasTheFrameBefore, WhoReadsAllIsUpToDate, WhoReadsEachFrameMissesNothing, after_turns_of, before_turns, frame_in, has_begun, joining, moments, place_of, reads_all, systems_in, turns_moments}
 use Rattle.std.specs.List.{list_any}
@@ -67,7 +66,7 @@ tile_misses_none p place (m ∷ ms) to tile written there above =
 none_yet : (k p : ℕ) (h : History Record) → count h ≤ p → AreRecent k p h
 none_yet k p h less n e above at = let within = slice_get_within h.entries n e at in absurd (omega arith)
 
-none_yet_updated : (p t : ℕ) (w : WorldState) → count (w.histories t) ≤ p → AreRecent 0 p ((updated w).histories t)
+none_yet_updated : (p t : ℕ) (w : WorldState) → count (w.histories t) ≤ p → AreRecent 0 p ((after_update w).histories t)
 none_yet_updated p t w less = elim (cases_Bool (waits w)) [
   | inl e ↦ rw e (none_yet 0 p (w.histories t) less)
   | inr e ↦ rw e (none_yet 0 p (update (w.histories t)) less)
@@ -125,11 +124,11 @@ module _ (laws : BufferLaws) where
         omega arith
 
     -- a frame keeps recent what its update leaves recent
-    frame_recent : (k p : ℕ) → AreRecent k p ((updated s.world).histories t)
+    frame_recent : (k p : ℕ) → AreRecent k p ((after_update s.world).histories t)
         → AreRecent k p (u.world.histories t) × AtMoments k p t (turns_moments i t (systems_in log) b)
     frame_recent k p recent =
-        let begun : AreRecent k p (b.world.histories t) = posts_recent k p t frame.posts (updated (joining s).world)
-        (subst (λ w. AreRecent k p ((updated w).histories t)) (sym (joining_world s)) recent) in
+        let begun : AreRecent k p (b.world.histories t) = posts_recent k p t frame.posts (after_update (joining s).world)
+        (subst (λ w. AreRecent k p ((after_update w).histories t)) (sym (joining_world s)) recent) in
         let turns = turns_recent k p t i (systems_in log) b begun in
         (subst (λ (x : State). AreRecent k p (x.world.histories t)) (sym is.leaves) turns.0, turns.1)
 

@@ -1,6 +1,5 @@
 -- A reader whose turn reads all of a type goes past all that had been written by then.
-use Rattle.std.proofs.Common.{◌≡◌, ◌≢◌, ℕ, zero, suc, ◌+◌, ◌≤◌, List, [], ◌∷◌, ◌++◌, map, All, true, false, ◌||◌, Option, None, Some, refl, sym, ap, subst, ◌∙◌, arith, inl, inr, ◌==◌}
-use Rattle.std.specs.Prelude.{option_to_list, IsTrue}
+use Rattle.std.proofs.Common.{◌≡◌, ◌≢◌, ℕ, zero, suc, ◌+◌, ◌≤◌, List, [], ◌∷◌, ◌++◌, map, All, true, false, ◌||◌, Option, None, Some, refl, sym, ap, subst, ◌∙◌, arith, inl, inr, ◌==◌, option_to_list, IsTrue}
 use Rattle.std.specs.List.{list_any}
 use Rattle.std.proofs.lemmas.Bool.{cases_Bool, eq-eqb, eqb-true, false≢true, or_cases}
 use Rattle.std.proofs.lemmas.List.Elements.{All-head, All-tail}
@@ -12,7 +11,7 @@ use Rattle.msg_system.specs.declared.op.Op.TheVariants.{Write, Batch, Read, Len,
 use Rattle.msg_system.specs.declared.reply.Reply.{Reply}
 use Rattle.msg_system.specs.Prelude.{AfterProgram, Job, Meaning, after_at_most, after_job, after_op, all_hold, next_op, one_more, ops_answered, place_after_read, turn, with_place}
 use Rattle.msg_system.proofs.Turns.{ops_answered-snoc}
-use Rattle.msg_frames.specs.Prelude.{Moment, Skipped, State, after_turn_of, after_turns_of, first_moments, logged, next_moments, outcome_of, place_of, reads_all}
+use Rattle.msg_frames.specs.Prelude.{Moment, Skipped, State, after_turn_of, after_turns_of, first_moments, logged_turn, next_moments, outcome_of, place_of, reads_all}
 use Rattle.msg_frames.proofs.HistoriesGrow.{BufferLaws, counts_more}
 use Rattle.msg_frames.proofs.ReaderOverJob.{Passes, first_passes, next_passes, tile_of}
 use Rattle.msg_frames.proofs.ReaderOverTurns.{one_member, turn_reads}
@@ -113,7 +112,7 @@ module _ (laws : BufferLaws) (t : ℕ) where
   abbrev Took : ℕ → ℕ → State → Type 0
   Took i c s = IsTrue (list_any (reads_all t) (s.members i).job.system.last) → c ≤ place_of s i t
 
-  own_turn_takes : (i : ℕ) (s : State) → IsSound (s.world.histories t) → place_of s i t ≤ count (s.world.histories t) → (logged s i).outcome ≢ Skipped
+  own_turn_takes : (i : ℕ) (s : State) → IsSound (s.world.histories t) → place_of s i t ≤ count (s.world.histories t) → (logged_turn s i).outcome ≢ Skipped
       → Took i (count (s.world.histories t)) (after_turn_of i s)
   own_turn_takes i s sound within ran =
       one_member (λ m. IsTrue (list_any (reads_all t) m.job.system.last) → count (s.world.histories t) ≤ m.job.system.places t) i i s
@@ -140,8 +139,8 @@ module _ (laws : BufferLaws) (t : ℕ) where
       let first = (turn_reads laws i t i b sound within).passes in
       turns_keep_it i (count (b.world.histories t)) later (after_turn_of i b) first.goes_on.sound first.within
       (counts_more (b.world.histories t) ((after_turn_of i b).world.histories t) first.goes_on)
-      (own_turn_takes i b sound within (All-head (λ turn. turn.system ≡ i → turn.outcome ≢ Skipped) (logged b i) (after_turns_of later (after_turn_of i b)).turns ran refl))
+      (own_turn_takes i b sound within (All-head (λ turn. turn.system ≡ i → turn.outcome ≢ Skipped) (logged_turn b i) (after_turns_of later (after_turn_of i b)).turns ran refl))
   takes_by_turn i (j ∷ more) later b sound within ran =
       let first = (turn_reads laws i t j b sound within).passes in
       takes_by_turn i more later (after_turn_of j b) first.goes_on.sound first.within
-      (All-tail (λ turn. turn.system ≡ i → turn.outcome ≢ Skipped) (logged b j) (after_turns_of (more ++ i ∷ later) (after_turn_of j b)).turns ran)
+      (All-tail (λ turn. turn.system ≡ i → turn.outcome ≢ Skipped) (logged_turn b j) (after_turns_of (more ++ i ∷ later) (after_turn_of j b)).turns ran)

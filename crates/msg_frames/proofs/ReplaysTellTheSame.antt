@@ -1,13 +1,12 @@
 -- A replay tells of each system what the frame tells of it.
-use Rattle.std.proofs.Common.{◌≡◌, ◌≢◌, ℕ, ◌==◌, ◌⊎◌, inl, inr, List, [], ◌∷◌, ◌++◌, map, refl, ap, sym, subst, ◌∙◌}
-use Rattle.std.specs.Prelude.{All, AllPairs, Contains, IsPermutation, flat_map, if◌then◌else◌}
+use Rattle.std.proofs.Common.{◌≡◌, ◌≢◌, ℕ, ◌==◌, ◌⊎◌, inl, inr, List, [], ◌∷◌, ◌++◌, map, refl, ap, sym, subst, ◌∙◌, All, AllPairs, Contains, IsPermutation, flat_map, if◌then◌else◌}
 use Rattle.std.proofs.lemmas.Bool.{cases_Bool, eqb-false, eqb-true}
 use Rattle.std.proofs.lemmas.List.{append-nil}
 use Rattle.std.proofs.lemmas.List.Elements.{All-contains}
 use Rattle.std.proofs.lemmas.List.Sorted.{Contains-permutation, IsPermutation-sym}
 use Rattle.msg_order.specs.Prelude.{TurnOrderIsLawful}
 use Rattle.msg_system.specs.declared.reply.Reply.{Reply}
-use Rattle.msg_frames.specs.Prelude.{Frame, IsMixedRun, IsReplay, IsRun, Log, ReplaysTellACompleteRun, ReplaysTellTheSame, RunsAreComplete, State, Turn, answers, answers_in, before_turns, joined, systems_in}
+use Rattle.msg_frames.specs.Prelude.{Frame, IsMixedRun, IsReplay, IsRun, Log, ReplaysTellACompleteRun, ReplaysTellTheSame, RunsAreComplete, State, Turn, answers, answers_in, before_turns, join_flags, systems_in}
 use Rattle.msg_frames.proofs.ElementsAndPairs.{pairs_head, pairs_tail}
 use Rattle.msg_order.proofs.Elements.{Contains-cases, Contains-head, Contains-tail, not_in_none}
 use Rattle.msg_frames.proofs.RunsAreUnique.{order_is_among}
@@ -75,7 +74,7 @@ turns_alike lawful frame order s log u replay i =
     let settled = replay.is_frame.in_order in
     told_alike (λ (turn : Turn). turn.system) (λ (turn : Turn). answers turn.outcome) i log.turns replay.settled.turns replay.turns
     (subst (AllPairs (λ a b. a ≢ b)) (sym replay.in_order) replay.lawful.lawful.once)
-    (lawful settled.settled (joined b) (systems_in replay.settled) (order_is_among b settled.settled settled.is_order) settled.in_order).once
+    (lawful settled.settled (join_flags b) (systems_in replay.settled) (order_is_among b settled.settled settled.is_order) settled.in_order).once
 
 pub replay_tells : TurnOrderIsLawful → ReplaysTellTheSame
 replay_tells lawful frame order s log u replay i = ap (λ xs. xs ++ []) (turns_alike lawful frame order s log u replay i)

@@ -1,13 +1,12 @@
 -- Each worked run is a run as the definitions say: the order of its turns is the settled one. The accesses, the settled
 -- order and the batch numbers are computed.
-use Rattle.std.proofs.Common.{◌≡◌, ℕ, zero, suc, ◌*◌, ◌^◌, ◌%◌, ◌<◌, ◌≤◌, inl, inr, Bool, true, false, cond, ◌&&◌, ◌||◌, List, [], ◌∷◌, Option, Some, None, map, refl, ap, sym, subst, ◌∙◌, arith}
-use Rattle.std.specs.Prelude.{nat_lt, bit_or, slice_index_or}
+use Rattle.std.proofs.Common.{◌≡◌, ℕ, zero, suc, ◌*◌, ◌^◌, ◌%◌, ◌<◌, ◌≤◌, inl, inr, Bool, true, false, cond, ◌&&◌, ◌||◌, List, [], ◌∷◌, Option, Some, None, map, refl, sym, subst, ◌∙◌, arith, nat_lt, bit_or, slice_index_or}
 use Rattle.std.specs.List.{range_with_len, list_all, list_any}
-use Rattle.std.proofs.lemmas.Bool.{cases_Bool, cases_eq, cases_lt, and_parts, or_cases, false≢true, false_from_ne_true, eqb-true, eq-eqb, ne_eqb, ltb-true}
+use Rattle.std.proofs.lemmas.Bool.{cases_Bool, cases_eq, cases_lt, and_parts, or_cases, false≢true, false_from_ne_true, eq-eqb, ne_eqb, ltb-true}
 use Rattle.std.proofs.lemmas.List.{get_or_past}
 use Rattle.std.proofs.lemmas.List.FromFn.{get_or-map-range_with_len, length-map-range_with_len}
 use Rattle.msg_world.specs.declared.access.Access.{Access}
-use Rattle.msg_world.specs.Prelude.{Part, OfType, OfResource, Registry, same_part, has_bit, reads, writes, no_access, Fits}
+use Rattle.msg_world.specs.Prelude.{Part, OfType, OfResource, Registry, has_bit, reads, writes, no_access, Fits}
 use Rattle.msg_world.proofs.Bits.{has_bit-zero, has_bit-set}
 use Rattle.msg_order.specs.Prelude.{access_of}
 use Rattle.msg_order.proofs.Computing.{each_below, is_turn_order, in_turn_by_test}
@@ -15,8 +14,9 @@ use Rattle.msg_system.specs.declared.op.Op.{Op}
 use Rattle.msg_system.specs.declared.condition.Condition.{Condition}
 use Rattle.msg_system.specs.declared.op.Op.TheVariants.{Read}
 use Rattle.msg_system.specs.declared.program.Program.{Program}
-use Rattle.msg_system.specs.Prelude.{IsAccessOf, Needs, conditions_of, is_part, job_needs, op_parts, probe_part, program_needs, some_condition_reads, some_op_reads, turn, with_conditions}
-use Rattle.msg_frames.specs.Prelude.{AfterFrame, Frame, IsRunOf, IsTurnOrderOf, OrderedFrames, Setup, State, alone, before_turns, conditions_frames, contrary, contrary_frames, drained, drained_frames, early_frames, echo, echo_frames, fourth, fourth_frames, frame_in, gated, gated_frames, joined, lag, lag_frames, late, late_frames, needs_of, nobody, numbered, program, relay, relay_frames, signallers, signallers_frames, start_of, tally, tally_frames, two_conditions, unjoined, writers, writers_frames}
+use Rattle.msg_system.specs.Prelude.{IsAccessOf, Needs, conditions_of, is_none_or, is_part, job_needs, op_parts, probe_part, program_needs, some_condition_reads, some_op_reads, turn, with_conditions}
+use Rattle.msg_frames.specs.Prelude.{AfterFrame, Frame, IsRunOf, IsTurnOrderOf, OrderedFrames, Setup, State, alone, before_turns, conditions_frames, contrary, contrary_frames, drained, drained_frames, early_frames, echo, echo_frames, fourth, fourth_frames, frame_in, gated, gated_frames, join_flags, lag, lag_frames, late, late_frames, needs_of, nobody, numbered, program, relay, relay_frames, signallers, signallers_frames, start_of, tally, tally_frames, two_conditions, unjoined, writers, writers_frames}
+use Rattle.msg_system.proofs.Turns.{at_part}
 use Rattle.msg_frames.proofs.SystemsStay.{before_keeps, frame_keeps, joining_on_keeps}
 use Rattle.msg_frames.proofs.FramesInOrder.{frame_in_order}
 
@@ -99,43 +99,24 @@ may_write n (OfType t) = nat_lt t n
 may_write n (OfResource r) = nat_lt r n
 may_write n Registry = true
 
-abbrev passes : (Part → Bool) → Option Part → Bool
-passes test None = true
-passes test (Some p) = test p
-
-same_is : (p q : Part) → same_part p q ≡ true → p ≡ q
-same_is (OfType t) (OfType u) h = ap OfType (eqb-true t u h)
-same_is (OfResource r) (OfResource s) h = ap OfResource (eqb-true r s h)
-same_is Registry Registry h = refl
-same_is (OfType t) (OfResource s) h = absurd (false≢true h)
-same_is (OfType t) Registry h = absurd (false≢true h)
-same_is (OfResource r) (OfType u) h = absurd (false≢true h)
-same_is (OfResource r) Registry h = absurd (false≢true h)
-same_is Registry (OfType u) h = absurd (false≢true h)
-same_is Registry (OfResource s) h = absurd (false≢true h)
-
-part_passes : (test : Part → Bool) (o : Option Part) (p : Part) → passes test o ≡ true → is_part o p ≡ true → test p ≡ true
-part_passes test None p t h = absurd (false≢true h)
-part_passes test (Some q) p t h = subst (λ z. test z ≡ true) (sym (same_is p q h)) t
-
-any_passes : {X : Type 0} (test : Part → Bool) (part : X → Option Part) (xs : List X) (p : Part) → list_all (λ x. passes test (part x)) xs ≡ true → list_any (λ x. is_part (part x) p) xs ≡ true → test p ≡ true
+any_passes : {X : Type 0} (test : Part → Bool) (part : X → Option Part) (xs : List X) (p : Part) → list_all (λ x. is_none_or test (part x)) xs ≡ true → list_any (λ x. is_part (part x) p) xs ≡ true → test p ≡ true
 any_passes test part [] p all h = absurd (false≢true h)
 any_passes test part (x ∷ xs) p all h =
-    let both = and_parts (passes test (part x)) (list_all (λ x. passes test (part x)) xs) all in
+    let both = and_parts (is_none_or test (part x)) (list_all (λ x. is_none_or test (part x)) xs) all in
     elim (or_cases (is_part (part x) p) (list_any (λ x. is_part (part x) p) xs) h) [
-      | inl a ↦ part_passes test (part x) p both.0 a
+      | inl a ↦ at_part test (part x) p both.0 a
       | inr a ↦ any_passes test part xs p both.1 a
     ]
 
 abbrev is_within : ℕ → List Op → List Condition → Bool
 is_within n ops cs =
-    (list_all (λ op. passes (may_read n) (op_parts op).read) ops && list_all (λ op. passes (may_write n) (op_parts op).written) ops)
-    && list_all (λ c. passes (may_read n) (Some (probe_part c.probe))) cs
+    (list_all (λ op. is_none_or (may_read n) (op_parts op).read) ops && list_all (λ op. is_none_or (may_write n) (op_parts op).written) ops)
+    && list_all (λ c. is_none_or (may_read n) (Some (probe_part c.probe))) cs
 
 reads_within : (n : ℕ) (ops : List Op) (cs : List Condition) → is_within n ops cs ≡ true → (p : Part) → (job_needs ops cs).reads p ≡ true → may_read n p ≡ true
 reads_within n ops cs w p h =
-    let all = and_parts (list_all (λ op. passes (may_read n) (op_parts op).read) ops && list_all (λ op. passes (may_write n) (op_parts op).written) ops) (list_all (λ c. passes (may_read n) (Some (probe_part c.probe))) cs) w in
-    let own = and_parts (list_all (λ op. passes (may_read n) (op_parts op).read) ops) (list_all (λ op. passes (may_write n) (op_parts op).written) ops) all.0 in
+    let all = and_parts (list_all (λ op. is_none_or (may_read n) (op_parts op).read) ops && list_all (λ op. is_none_or (may_write n) (op_parts op).written) ops) (list_all (λ c. is_none_or (may_read n) (Some (probe_part c.probe))) cs) w in
+    let own = and_parts (list_all (λ op. is_none_or (may_read n) (op_parts op).read) ops) (list_all (λ op. is_none_or (may_write n) (op_parts op).written) ops) all.0 in
     elim (or_cases ((program_needs ops).reads p) (some_condition_reads cs p) (and_parts ((program_needs ops).reads p || some_condition_reads cs p) _ h).0) [
       | inl x ↦ any_passes (may_read n) (λ op. (op_parts op).read) ops p own.0 (and_parts (some_op_reads ops p) _ x).0
       | inr x ↦ any_passes (may_read n) (λ c. Some (probe_part c.probe)) cs p all.1 x
@@ -143,8 +124,8 @@ reads_within n ops cs w p h =
 
 writes_within : (n : ℕ) (ops : List Op) (cs : List Condition) → is_within n ops cs ≡ true → (p : Part) → (job_needs ops cs).writes p ≡ true → may_write n p ≡ true
 writes_within n ops cs w p h =
-    let all = and_parts (list_all (λ op. passes (may_read n) (op_parts op).read) ops && list_all (λ op. passes (may_write n) (op_parts op).written) ops) (list_all (λ c. passes (may_read n) (Some (probe_part c.probe))) cs) w in
-    let own = and_parts (list_all (λ op. passes (may_read n) (op_parts op).read) ops) (list_all (λ op. passes (may_write n) (op_parts op).written) ops) all.0 in
+    let all = and_parts (list_all (λ op. is_none_or (may_read n) (op_parts op).read) ops && list_all (λ op. is_none_or (may_write n) (op_parts op).written) ops) (list_all (λ c. is_none_or (may_read n) (Some (probe_part c.probe))) cs) w in
+    let own = and_parts (list_all (λ op. is_none_or (may_read n) (op_parts op).read) ops) (list_all (λ op. is_none_or (may_write n) (op_parts op).written) ops) all.0 in
     any_passes (may_write n) (λ op. (op_parts op).written) ops p own.1 h
 
 access_is : (n : ℕ) (ops : List Op) (cs : List Condition) → n ≤ 64 → is_within n ops cs ≡ true → IsAccessOf (job_needs ops cs) (access_for n (job_needs ops cs))
@@ -184,18 +165,18 @@ abbrev job_is_within : List Program → State → ℕ → Bool
 job_is_within programs s i = is_within most (ops_at programs i) (conditions_of (s.members i).job)
 
 abbrev are_turns_of : List Program → State → List ℕ → Bool
-are_turns_of programs s order = list_all (job_is_within programs s) (range_with_len 0 s.systems) && is_turn_order most (accesses_of s) s.rules (joined s) order
+are_turns_of programs s order = list_all (job_is_within programs s) (range_with_len 0 s.systems) && is_turn_order most (accesses_of s) s.rules (join_flags s) order
 
 turns_of : (programs : List Program) (s : State) (order : List ℕ) → ArePrograms programs s → are_turns_of programs s order ≡ true → IsTurnOrderOf s order
 turns_of programs s order are t =
-    let both = and_parts (list_all (job_is_within programs s) (range_with_len 0 s.systems)) (is_turn_order most (accesses_of s) s.rules (joined s) order) t in
+    let both = and_parts (list_all (job_is_within programs s) (range_with_len 0 s.systems)) (is_turn_order most (accesses_of s) s.rules (join_flags s) order) t in
     let access : ℕ → Access = λ i. access_for most (needs_of (s.members i)) in
     let is : (i : ℕ) → i < s.systems → access_of (accesses_of s) i ≡ access i = λ i lt. get_or-map-range_with_len access 0 s.systems i i no_access lt (omega arith) in
     let fit : (i : ℕ) → Fits most most (access_of (accesses_of s) i) = λ i. elim (cases_lt i s.systems) [
       | inl lt ↦ subst (Fits most most) (sym (is i lt)) (access_fits most (needs_of (s.members i)) (omega arith))
       | inr past ↦ subst (Fits most most) (sym (get_or_past (accesses_of s) i no_access (omega (arith, length-map-range_with_len access 0 s.systems)))) (nothing_fits most)
     ] in
-    let turn = in_turn_by_test most (accesses_of s) s.rules (joined s) order fit both.1 in
+    let turn = in_turn_by_test most (accesses_of s) s.rules (join_flags s) order fit both.1 in
     record {
       settled = turn.settled;
       is_order = record {

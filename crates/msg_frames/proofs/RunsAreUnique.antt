@@ -1,6 +1,5 @@
 -- The systems have one settled order, a frame has one log, and so has a run.
-use Rattle.std.proofs.Common.{◌≡◌, ℕ, ◌<◌, ◌&&◌, ◌||◌, inl, inr, Bool, true, List, [], ◌∷◌, length, map, refl, ap, sym, subst, ◌∙◌}
-use Rattle.std.specs.Prelude.{IsTrue}
+use Rattle.std.proofs.Common.{◌≡◌, ℕ, ◌<◌, ◌&&◌, ◌||◌, inl, inr, Bool, true, List, [], ◌∷◌, length, map, refl, ap, sym, subst, ◌∙◌, IsTrue}
 use Rattle.std.proofs.lemmas.Bool.{and_parts}
 use Rattle.std.proofs.lemmas.List.Elements.{All-contains, filter_passes}
 use Rattle.std.proofs.lemmas.List.FromFn.{length-map-range_with_len}
@@ -8,7 +7,7 @@ use Rattle.msg_world.specs.declared.access.Access.{Access}
 use Rattle.msg_world.specs.Prelude.{Part, Conflict, uses, writes}
 use Rattle.msg_order.specs.declared.rule.Rule.{Rule}
 use Rattle.msg_order.specs.Prelude.{AreInConflict, Graph, IsAcyclic, IsAmong, IsSettledOrder, IsTurnOrder, SettledOrderIsUnique, Settles, SettlingMakesNoCycle, TurnOrderIsUnique, access_of, has_joined, pairs, rules_among}
-use Rattle.msg_frames.specs.Prelude.{AreAccessesOf, FramesAreUnique, IsOrderOf, IsRun, IsTurnOrderOf, NoCycle, RunsAreUnique, State, SystemsHaveOneOrder, before_turns, frame_in, has_begun, joined, systems_in}
+use Rattle.msg_frames.specs.Prelude.{AreAccessesOf, FramesAreUnique, IsOrderOf, IsRun, IsTurnOrderOf, NoCycle, RunsAreUnique, State, SystemsHaveOneOrder, before_turns, frame_in, has_begun, join_flags, systems_in}
 use Rattle.msg_order.proofs.Elements.{Contains-cases}
 use Rattle.msg_frames.proofs.SystemsStay.{joined_below}
 
@@ -32,7 +31,7 @@ module _ (s : State) (a b : List Access) (are : AreAccessesOf s a) (are' : AreAc
   same_uses : (i : ℕ) → i < s.systems → (p : Part) → uses (access_of a i) p ≡ uses (access_of b i) p
   same_uses i lt p k = ((are.of_needs i lt).reads p ∙ sym ((are'.of_needs i lt).reads p)) k || same_writes i lt p k
 
-  same_conflict : (i j : ℕ) → AreInConflict a (joined s) i j → AreInConflict b (joined s) i j
+  same_conflict : (i j : ℕ) → AreInConflict a (join_flags s) i j → AreInConflict b (join_flags s) i j
   same_conflict i j h =
       let li : i < s.systems = joined_below s i h.first_joined in
       let lj : j < s.systems = joined_below s j h.second_joined in
@@ -51,13 +50,13 @@ settles_by C D to from (p ∷ ps) g h x = elim x [
   | inr stays ↦ inr (λ d. stays.0 (from p.0 p.1 d.0, d.1), settles_by C D to from ps g h stays.1)
 ]
 
-settled_by_other : (s : State) (a b : List Access) → AreAccessesOf s a → AreAccessesOf s b → (g : Graph) → IsSettledOrder a s.rules (joined s) g → IsSettledOrder b s.rules (joined s) g
-settled_by_other s a b are are' g settled = settles_by (AreInConflict a (joined s)) (AreInConflict b (joined s)) (same_conflict s a b are are') (same_conflict s b a are' are)
-    (pairs (length b)) (rules_among (joined s) s.rules) g
-    (subst (λ n. Settles (AreInConflict a (joined s)) (rules_among (joined s) s.rules) (pairs n) g) (are.each ∙ sym are'.each) settled)
+settled_by_other : (s : State) (a b : List Access) → AreAccessesOf s a → AreAccessesOf s b → (g : Graph) → IsSettledOrder a s.rules (join_flags s) g → IsSettledOrder b s.rules (join_flags s) g
+settled_by_other s a b are are' g settled = settles_by (AreInConflict a (join_flags s)) (AreInConflict b (join_flags s)) (same_conflict s a b are are') (same_conflict s b a are' are)
+    (pairs (length b)) (rules_among (join_flags s) s.rules) g
+    (subst (λ n. Settles (AreInConflict a (join_flags s)) (rules_among (join_flags s) s.rules) (pairs n) g) (are.each ∙ sym are'.each) settled)
 
 pub one_order : SettledOrderIsUnique → SystemsHaveOneOrder
-one_order unique s g h x y = unique x.accesses s.rules (joined s) g h x.is_settled (settled_by_other s y.accesses x.accesses y.of_systems x.of_systems h y.is_settled)
+one_order unique s g h x y = unique x.accesses s.rules (join_flags s) g h x.is_settled (settled_by_other s y.accesses x.accesses y.of_systems x.of_systems h y.is_settled)
 
 -- ---- edges among those that have joined
 
@@ -77,17 +76,17 @@ settles_among accesses who (p ∷ ps) g h among x = elim x [
 
 -- ---- frames and runs
 
-pub order_is_among : (s : State) (g : Graph) → IsOrderOf s g → IsAmong (joined s) g
-order_is_among s g o = settles_among o.accesses (joined s) (pairs (length o.accesses)) (rules_among (joined s) s.rules) g (rules_are_among (joined s) s.rules) o.is_settled
+pub order_is_among : (s : State) (g : Graph) → IsOrderOf s g → IsAmong (join_flags s) g
+order_is_among s g o = settles_among o.accesses (join_flags s) (pairs (length o.accesses)) (rules_among (join_flags s) s.rules) g (rules_are_among (join_flags s) s.rules) o.is_settled
 
 pub order_has_no_cycle : SettlingMakesNoCycle → (s : State) (g : Graph) → NoCycle s → IsOrderOf s g → IsAcyclic g
-order_has_no_cycle acyclic s g none o = acyclic o.accesses s.rules (joined s) g o.is_settled (none (joined s) (length-map-range_with_len (has_begun s) 0 s.systems))
+order_has_no_cycle acyclic s g none o = acyclic o.accesses s.rules (join_flags s) g o.is_settled (none (join_flags s) (length-map-range_with_len (has_begun s) 0 s.systems))
 
 module _ (one : SettledOrderIsUnique) (turns : TurnOrderIsUnique) where
   pub one_turn_order : (s : State) (xs ys : List ℕ) → IsTurnOrderOf s xs → IsTurnOrderOf s ys → xs ≡ ys
   one_turn_order s xs ys x y =
       let same : y.settled ≡ x.settled = one_order one s y.settled x.settled y.is_order x.is_order in
-      turns x.settled (joined s) xs ys x.in_order (subst (λ g. IsTurnOrder g (joined s) ys) same y.in_order)
+      turns x.settled (join_flags s) xs ys x.in_order (subst (λ g. IsTurnOrder g (join_flags s) ys) same y.in_order)
 
   pub one_frame : FramesAreUnique
   one_frame frame s u v log other x y =

@@ -1,7 +1,7 @@
 -- A state has a frame, and so a run, where its rules make no cycle.
 use Rattle.std.proofs.Common.{[], ◌∷◌, refl, sym, subst}
 use Rattle.msg_order.specs.Prelude.{SettledOrderExists, SettlingMakesNoCycle, TurnOrderExists}
-use Rattle.msg_frames.specs.Prelude.{Frame, FramesExist, IsFrame, IsOrderOf, IsTurnOrderOf, Log, RunsExist, SameSystems, State, before_turns, frame_in, joined, systems_in}
+use Rattle.msg_frames.specs.Prelude.{Frame, FramesExist, IsFrame, IsOrderOf, IsTurnOrderOf, Log, RunsExist, SameSystems, State, before_turns, frame_in, join_flags, systems_in}
 use Rattle.msg_frames.proofs.FramesInOrder.{frame_in_order}
 use Rattle.msg_frames.proofs.SystemsStay.{accesses_stay, before_keeps, frame_keeps, no_cycle_stays}
 use Rattle.msg_frames.proofs.RunsAreUnique.{order_has_no_cycle, order_is_among}
@@ -11,9 +11,9 @@ module _ (settled : SettledOrderExists) (acyclic : SettlingMakesNoCycle) (turns 
   some_frame frame s accesses none are =
       let b : State = before_turns frame.posts s in
       let same : SameSystems s b = before_keeps frame.posts s in
-      let g = settled accesses b.rules (joined b) in
+      let g = settled accesses b.rules (join_flags b) in
       let is_order : IsOrderOf b g.0 = record { accesses = accesses; of_systems = accesses_stay s b accesses same are; is_settled = g.1 } in
-      let order = turns g.0 (joined b) (order_is_among b g.0 is_order) (order_has_no_cycle acyclic b g.0 (no_cycle_stays s b same none) is_order) in
+      let order = turns g.0 (join_flags b) (order_is_among b g.0 is_order) (order_has_no_cycle acyclic b g.0 (no_cycle_stays s b same none) is_order) in
       let in_order : IsTurnOrderOf b order.0 = record { settled = g.0; is_order = is_order; in_order = order.1 } in
       ((frame_in order.0 frame s).log, (frame_in order.0 frame s).state, frame_in_order frame s (frame_in order.0 frame s).log order.0 in_order refl)
 

@@ -6,12 +6,12 @@ use Rattle.std.proofs.lemmas.List.Elements.{All-append, All-cons, All-nil}
 use Rattle.msg_buffer.specs.Prelude.{Entry, History, clear, has_room, stamped, update, write}
 use Rattle.msg_world.specs.declared.record.Record.{Record}
 use Rattle.msg_world.specs.declared.record.TheConstants.{HOST}
-use Rattle.msg_world.specs.Prelude.{WorldState, by, updated, waits, with_history}
+use Rattle.msg_world.specs.Prelude.{WorldState, after_update, by, waits, with_history}
 use Rattle.msg_system.specs.declared.op.Op.{Op}
 use Rattle.msg_system.specs.declared.op.Op.TheVariants.{Write, Batch, Read, Len, Missed, Clear, Forward, Sum, Get, Set, Add, Drain, Signal}
 use Rattle.msg_system.specs.Prelude.{AfterProgram, Job, Meaning, after_at_most, after_job, after_op, again_by, all_hold, next_op, one_more, took, turn}
 use Rattle.msg_frames.specs.Entries as entries
-use Rattle.msg_frames.specs.Prelude.{Moment, State, after_turn_of, after_turns_of, first_moments, job_moments, next_moments, posted, turn_moments, turns_moments}
+use Rattle.msg_frames.specs.Prelude.{Moment, State, after_posts, after_turn_of, after_turns_of, first_moments, job_moments, next_moments, turn_moments, turns_moments}
 
 -- the messages from number p on were written at most k updates ago
 abbrev pub AreRecent : ℕ → ℕ → History Record → Type 0
@@ -62,7 +62,7 @@ module _ (k p t : ℕ) where
   written_recent : (w : WorldState) (u : ℕ) (ms : List Record) → InWorld w → InWorld (with_history w u (write ms (w.histories u)))
   written_recent w u ms = one_recent w u (write ms (w.histories u)) (write_recent k p (w.histories u) ms)
 
-  pub posts_recent : (posts : List (ℕ × ℤ)) (w : WorldState) → InWorld w → InWorld (posted posts w)
+  pub posts_recent : (posts : List (ℕ × ℤ)) (w : WorldState) → InWorld w → InWorld (after_posts posts w)
   posts_recent [] w recent = recent
   posts_recent (x ∷ xs) w recent =
       posts_recent xs (with_history w x.0 (write (by HOST x.1 ∷ []) (w.histories x.0))) (written_recent w x.0 (by HOST x.1 ∷ []) recent)
@@ -129,7 +129,7 @@ module _ (k p t : ℕ) where
 
 -- ---- the update before them
 
-pub updated_recent : (p t : ℕ) (w : WorldState) → AreRecent 0 p (w.histories t) → AreRecent 1 p ((updated w).histories t)
+pub updated_recent : (p t : ℕ) (w : WorldState) → AreRecent 0 p (w.histories t) → AreRecent 1 p ((after_update w).histories t)
 updated_recent p t w recent = elim (cases_Bool (waits w)) [
   | inl e ↦ rw e (less_recent p (w.histories t) recent)
   | inr e ↦ rw e (update_recent p (w.histories t) recent)

@@ -1,12 +1,11 @@
 -- Frames keep states sound.
-use Rattle.std.proofs.Common.{◌≡◌, ℕ, suc, ◌≤◌, ◌<◌, max, List, [], ◌∷◌, Contains, refl, sym, ap₂, subst, ◌∙◌, arith, inl, inr}
-use Rattle.std.specs.Prelude.{IsTrue, IsFalse, nat_le, false}
+use Rattle.std.proofs.Common.{◌≡◌, ℕ, suc, ◌≤◌, ◌<◌, max, List, [], ◌∷◌, Contains, refl, sym, ap₂, subst, ◌∙◌, arith, inl, inr, IsTrue, IsFalse, nat_le, false}
 use Rattle.std.proofs.lemmas.Bool.{cases_Bool, false≢true, leb-false, leb-true}
 use Rattle.std.proofs.lemmas.List.{get_or_past}
 use Rattle.std.proofs.lemmas.List.FromFn.{get_or-map-range_with_len, length-map-range_with_len}
 use Rattle.msg_buffer.specs.Prelude.{count}
 use Rattle.msg_order.specs.Prelude.{has_joined}
-use Rattle.msg_frames.specs.Prelude.{Frame, IsBalanced, IsFrame, IsRun, IsSoundState, IsTurnOrderOf, Log, Member, State, after_turns_of, before_turns, begun, counts, has_begun, joined, no_totals, place_of, systems_in}
+use Rattle.msg_frames.specs.Prelude.{Frame, IsBalanced, IsFrame, IsRun, IsSoundState, IsTurnOrderOf, Log, Member, State, after_turns_of, before_turns, counts, has_begun, join_flags, joined_member, no_totals, place_of, systems_in}
 use Rattle.msg_frames.proofs.HistoriesGrow.{BufferLaws, counts_more, turns_go_on}
 use Rattle.msg_frames.proofs.SystemsStay.{turns_keep}
 use Rattle.msg_frames.proofs.EntriesAddUp.{stays_balanced}
@@ -15,17 +14,17 @@ use Rattle.msg_frames.proofs.BeforeTurns.{Prepares, begun_within, comes, prepare
 
 -- ---- who has a turn
 
-has_joined_has_begun : (b : State) (i : ℕ) → IsTrue (has_joined (joined b) i) → IsTrue (has_begun b i)
+has_joined_has_begun : (b : State) (i : ℕ) → IsTrue (has_joined (join_flags b) i) → IsTrue (has_begun b i)
 has_joined_has_begun b i is = elim (cases_Bool (nat_le (suc i) b.systems)) [
   | inl e ↦ sym (get_or-map-range_with_len (has_begun b) 0 b.systems i i false (leb-true (suc i) b.systems e) (omega arith)) ∙ is
   | inr e ↦ absurd (false≢true (sym (past e) ∙ is))
 ]
   where
-    past : IsFalse (nat_le (suc i) b.systems) → has_joined (joined b) i ≡ false
+    past : IsFalse (nat_le (suc i) b.systems) → has_joined (join_flags b) i ≡ false
     past e =
         let lt = leb-false (suc i) b.systems e in
         let long = length-map-range_with_len (has_begun b) 0 b.systems in
-        get_or_past (joined b) i false (omega arith)
+        get_or_past (join_flags b) i false (omega arith)
 
 -- one that waits has no turn
 pub has_no_turn : (b : State) (order : List ℕ) (i : ℕ) → IsTurnOrderOf b order → IsFalse (has_begun b i) → ¬ Contains order i
@@ -36,8 +35,8 @@ begun_alike b u i keep = ap₂ (λ j n. nat_le j (max 1 n)) (keep.0.members i).j
 
 -- ---- before the turns
 
-pub balanced_start : (m : Member) (counts : List ℕ) (t : ℕ) → IsBalanced ((begun counts m).totals t) ((begun counts m).job.system.places t)
-balanced_start m counts t = record { begin = (begun counts m).job.system.places t; start = refl; adds_up = omega arith }
+pub balanced_start : (m : Member) (counts : List ℕ) (t : ℕ) → IsBalanced ((joined_member counts m).totals t) ((joined_member counts m).job.system.places t)
+balanced_start m counts t = record { begin = (joined_member counts m).job.system.places t; start = refl; adds_up = omega arith }
 
 module _ (s b : State) (sound : IsSoundState s) (prep : Prepares s b) where
   prepared_places : (i t : ℕ) → t < s.types → place_of b i t ≤ count (b.world.histories t)

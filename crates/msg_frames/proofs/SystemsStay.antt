@@ -1,16 +1,15 @@
 -- What turns and frames keep of the systems.
-use Rattle.std.proofs.Common.{◌≡◌, ℕ, ◌<◌, IsTrue, false, arith, List, [], ◌∷◌, map, refl, ap, sym, subst, ◌∙◌, inl, inr, suc, max, nat_le, ℤ, eq-eqb, ne_eqb}
+use Rattle.std.proofs.Common.{◌≡◌, ℕ, ◌<◌, IsTrue, false, arith, List, [], ◌∷◌, map, refl, ap, sym, subst, ◌∙◌, inl, inr, suc, max, nat_le, ℤ, eq-eqb, ne_eqb, if◌then◌else◌, ◌==◌}
 use Rattle.std.specs.List.{range_with_len}
 use Rattle.std.proofs.lemmas.Bool.{cases_Bool, cases_eq, cases_lt, false≢true}
 use Rattle.std.proofs.lemmas.List.{get_or_past}
 use Rattle.std.proofs.lemmas.List.FromFn.{length-map-range_with_len}
-use Rattle.std.specs.Prelude.{if◌then◌else◌, ◌==◌}
 use Rattle.msg_world.specs.declared.access.Access.{Access}
 use Rattle.msg_world.specs.Prelude.{WorldState}
 use Rattle.msg_order.specs.Prelude.{IsAcyclic, access_of, has_joined, rules_among}
 use Rattle.msg_system.specs.Prelude.{Asked, IsAccessOf, after_asking, all_hold, asked_started, with_conditions}
 use Rattle.msg_system.specs.declared.start.Start.{Start}
-use Rattle.msg_frames.specs.Prelude.{AreAccessesOf, Frame, FramesKeepSystems, Member, NoCycle, SameMember, SameSystems, SameSystemsHaveSameAccesses, State, TurnsKeepSystems, after_turn_of, after_turns_of, before_turns, begun, counts, frame_in, has_begun, joined, joining, member_turn, needs_of, turn_of, with_joining, with_member}
+use Rattle.msg_frames.specs.Prelude.{AreAccessesOf, Frame, FramesKeepSystems, Member, NoCycle, SameMember, SameSystems, SameSystemsHaveSameAccesses, State, TurnsKeepSystems, after_turn_of, after_turns_of, before_turns, counts, frame_in, has_begun, join_flags, joined_member, joining, member_turn, needs_of, turn_of, with_joining, with_member}
 
 -- ---- members
 
@@ -40,7 +39,7 @@ started_same : (start : Start) (counts : List ℕ) (asked : List Asked) → map 
 started_same start counts [] = refl
 started_same start counts (a ∷ asked) = ap (λ cs. a.condition ∷ cs) (started_same start counts asked)
 
-begun_keeps : (counts : List ℕ) (m : Member) → SameMember m (begun counts m)
+begun_keeps : (counts : List ℕ) (m : Member) → SameMember m (joined_member counts m)
 begun_keeps counts m = record { needs = refl; start = refl; writer = refl; conditions = started_same m.job.system.start counts m.job.conditions; join = refl }
 
 -- ---- systems
@@ -86,7 +85,7 @@ turns_keep order s = (turns_keep_systems order s, turns_make_no_frame order s)
 pub joining_on_keeps : (k : ℕ) (s : State) → SameSystems s (with_joining k s)
 joining_on_keeps k s = record { systems = refl; members = members; rules = refl; types = refl }
   where
-    members : (i : ℕ) → SameMember (s.members i) (if (s.members i).join == k then begun (counts s) (s.members i) else s.members i)
+    members : (i : ℕ) → SameMember (s.members i) (if (s.members i).join == k then joined_member (counts s) (s.members i) else s.members i)
     members i = elim (cases_Bool ((s.members i).join == k)) [
       | inl e ↦ rw e (begun_keeps (counts s) (s.members i))
       | inr e ↦ rw e (same_member (s.members i))
@@ -141,17 +140,17 @@ accesses_stay s u accesses h a = record {
       (a.of_needs i (subst (λ n. i < n) h.systems lt));
 }
 
-pub joined_stay : (s u : State) → SameSystems s u → u.frames ≡ s.frames → joined u ≡ joined s
+pub joined_stay : (s u : State) → SameSystems s u → u.frames ≡ s.frames → join_flags u ≡ join_flags s
 joined_stay s u h e k = map (λ i. nat_le ((h.members i).join k) (max 1 (e k))) (range_with_len 0 (h.systems k))
 
 pub same_accesses : SameSystemsHaveSameAccesses
 same_accesses s u h = (λ accesses a. accesses_stay s u accesses h a, joined_stay s u h)
 
 -- one that has joined is one of the systems
-pub joined_below : (s : State) (i : ℕ) → IsTrue (has_joined (joined s) i) → i < s.systems
+pub joined_below : (s : State) (i : ℕ) → IsTrue (has_joined (join_flags s) i) → i < s.systems
 joined_below s i h = elim (cases_lt i s.systems) [
   | inl lt ↦ lt
-  | inr past ↦ absurd (false≢true (sym (get_or_past (joined s) i false (omega (arith, length-map-range_with_len (has_begun s) 0 s.systems))) ∙ h))
+  | inr past ↦ absurd (false≢true (sym (get_or_past (join_flags s) i false (omega (arith, length-map-range_with_len (has_begun s) 0 s.systems))) ∙ h))
 ]
 
 -- the rules make no cycle among them

@@ -1,6 +1,5 @@
 -- Turns of systems whose accesses don't conflict can be swapped.
-use Rattle.std.proofs.Common.{◌≡◌, ◌≢◌, ℕ, ◌<◌, false, ◌&&◌, List, Option, refl, ap, sym, ◌∙◌, inl, inr, eq-eqb, ne_eqb}
-use Rattle.std.specs.Prelude.{IsTrue}
+use Rattle.std.proofs.Common.{◌≡◌, ◌≢◌, ℕ, ◌<◌, false, ◌&&◌, List, Option, refl, ap, sym, ◌∙◌, inl, inr, eq-eqb, ne_eqb, IsTrue}
 use Rattle.std.proofs.lemmas.Bool.{and_from, cases_Bool, cases_eq, or_right}
 use Rattle.msg_world.specs.declared.access.Access.{Access}
 use Rattle.msg_world.specs.Prelude.{Conflict, OfResource, OfType, Part, Registry, WorldState, content, uses, writes}

@@ -4,7 +4,7 @@ use Rattle.std.specs.List.{range_with_len}
 use Rattle.msg_buffer.specs.Prelude.{count, write}
 use Rattle.msg_world.specs.declared.access.Access.{Access}
 use Rattle.msg_world.specs.declared.record.TheConstants.{HOST}
-use Rattle.msg_world.specs.Prelude.{WorldState, by, updated, with_history}
+use Rattle.msg_world.specs.Prelude.{WorldState, after_update, by, with_history}
 use Rattle.msg_order.specs.Prelude.{Graph, IsSettledOrder, IsTurnOrder, access_of}
 use Rattle.msg_system.specs.declared.reply.Reply.{Reply}
 use Rattle.msg_system.specs.Prelude.{AfterJob, IsAccessOf, Job, Needs, after_job, asked_started, conditions_of, numbers_for, started, with_conditions, write_reply}
@@ -42,8 +42,8 @@ abbrev pub has_begun : State → ℕ → Bool
 has_begun s i = nat_le (s.members i).join (max 1 s.frames)
 
 -- of each system, whether it has joined
-abbrev pub joined : State → List Bool
-joined s = map (has_begun s) (range_with_len 0 s.systems)
+abbrev pub join_flags : State → List Bool
+join_flags s = map (has_begun s) (range_with_len 0 s.systems)
 
 -- ---- joining
 
@@ -59,15 +59,15 @@ job_begun counts j = record {
 }
 
 -- A system joins: its cursors and those of its conditions stand where they start, and its accounts begin there.
-abbrev pub begun : List ℕ → Member → Member
-begun counts m = record m {
+abbrev pub joined_member : List ℕ → Member → Member
+joined_member counts m = record m {
   job = job_begun counts m.job;
   totals = λ t. totals_from ((started counts m.job.system).places t);
 }
 
 -- those that join with frame k have joined
 abbrev pub with_joining : ℕ → State → State
-with_joining k s = record s { members = λ i. if (s.members i).join == k then begun (counts s) (s.members i) else s.members i }
+with_joining k s = record s { members = λ i. if (s.members i).join == k then joined_member (counts s) (s.members i) else s.members i }
 
 -- Those that join with the next frame do so. With the first frame none does, since they joined before.
 abbrev pub joining : State → State
@@ -76,14 +76,14 @@ joining s = if s.frames == 0 then s else with_joining (suc s.frames) s
 -- ---- what the host posts
 
 -- the world after the posts, each of a value to a type
-abbrev pub posted : List (ℕ × ℤ) → WorldState → WorldState
-posted [] w = w
-posted (p ∷ ps) w = posted ps (with_history w p.0 (write (by HOST p.1 ∷ []) (w.histories p.0)))
+abbrev pub after_posts : List (ℕ × ℤ) → WorldState → WorldState
+after_posts [] w = w
+after_posts (p ∷ ps) w = after_posts ps (with_history w p.0 (write (by HOST p.1 ∷ []) (w.histories p.0)))
 
 -- what they are answered
 abbrev pub post_replies : List (ℕ × ℤ) → WorldState → List Reply
 post_replies [] w = []
-post_replies (p ∷ ps) w = write_reply (numbers_for (w.histories p.0) 1) ∷ post_replies ps (posted (p ∷ []) w)
+post_replies (p ∷ ps) w = write_reply (numbers_for (w.histories p.0) 1) ∷ post_replies ps (after_posts (p ∷ []) w)
 
 -- ---- turns
 
@@ -119,8 +119,8 @@ abbrev pub after_turn_of : ℕ → State → State
 after_turn_of i s = record s { members = with_member s.members i (turn_of s i).member; world = (turn_of s i).world }
 
 -- what the log says of it
-abbrev pub logged : State → ℕ → Turn
-logged s i = record { system = i; outcome = (turn_of s i).outcome }
+abbrev pub logged_turn : State → ℕ → Turn
+logged_turn s i = record { system = i; outcome = (turn_of s i).outcome }
 
 -- What the turns of some systems leave, and the log of them.
 pub record AfterTurns : Type 0 where
@@ -132,7 +132,7 @@ abbrev pub after_turns_of : List ℕ → State → AfterTurns
 after_turns_of [] s = record { state = s; turns = [] }
 after_turns_of (i ∷ is) s =
     let rest : AfterTurns = after_turns_of is (after_turn_of i s) in
-    record { state = rest.state; turns = logged s i ∷ rest.turns }
+    record { state = rest.state; turns = logged_turn s i ∷ rest.turns }
 
 -- ---- a frame
 
@@ -140,7 +140,7 @@ after_turns_of (i ∷ is) s =
 abbrev pub before_turns : List (ℕ × ℤ) → State → State
 before_turns posts s =
     let ready : State = joining s in
-    record ready { world = posted posts (updated ready.world); frames = suc ready.frames }
+    record ready { world = after_posts posts (after_update ready.world); frames = suc ready.frames }
 
 -- What a frame leaves, and its log.
 pub record AfterFrame : Type 0 where
@@ -153,7 +153,7 @@ frame_in order frame s =
     let turns : AfterTurns = after_turns_of order (before_turns frame.posts s) in
     record {
       state = turns.state;
-      log = record { posts = post_replies frame.posts (updated s.world); turns = turns.turns };
+      log = record { posts = post_replies frame.posts (after_update s.world); turns = turns.turns };
     }
 
 -- what a member's job needs: its system and its conditions
@@ -169,13 +169,13 @@ pub record AreAccessesOf (s : State) (accesses : List Access) : Type 0 where
 pub record IsOrderOf (s : State) (settled : Graph) : Type 0 where
   pub accesses : List Access
   pub of_systems : AreAccessesOf s accesses
-  pub is_settled : IsSettledOrder accesses s.rules (joined s) settled
+  pub is_settled : IsSettledOrder accesses s.rules (join_flags s) settled
 
 -- All that have joined, by batch number in the settled order, and then by addition.
 pub record IsTurnOrderOf (s : State) (order : List ℕ) : Type 0 where
   pub settled : Graph
   pub is_order : IsOrderOf s settled
-  pub in_order : IsTurnOrder settled (joined s) order
+  pub in_order : IsTurnOrder settled (join_flags s) order
 
 -- the systems in the order in which the log has their turns
 abbrev pub systems_in : Log → List ℕ

@@ -3,7 +3,7 @@ use Rattle.std.specs.Prelude.{◌≡◌, ◌⊎◌, ℕ, List, [], ◌∷◌, Is
 use Rattle.msg_order.specs.Prelude.{Graph, IsLawfulOrder}
 use Rattle.msg_frames.specs.declared.frame.Frame.{Frame}
 use Rattle.msg_frames.specs.declared.log.Log.{Log}
-use Rattle.msg_frames.specs.Frames.{IsFrame, IsOrderOf, before_turns, systems_in, State, joined}
+use Rattle.msg_frames.specs.Frames.{IsFrame, IsOrderOf, before_turns, systems_in, State, join_flags}
 use Rattle.msg_frames.specs.CompleteRun.{IsCompleteRun}
 use Rattle.msg_frames.specs.Tiling.{answers_in}
 
@@ -12,7 +12,7 @@ use Rattle.msg_frames.specs.Tiling.{answers_in}
 pub record IsLawfulFor (frame : Frame) (s : State) (order : List ℕ) : Type 0 where
   pub settled : Graph
   pub is_order : IsOrderOf (before_turns frame.posts s) settled
-  pub lawful : IsLawfulOrder settled (joined (before_turns frame.posts s)) order
+  pub lawful : IsLawfulOrder settled (join_flags (before_turns frame.posts s)) order
 
 -- A frame on the state s was replayed in this order: the log has what the posts were answered in the frame and each
 -- system's turn as it came out there, with the turns in this order; and the state u is the one that the frame leaves.

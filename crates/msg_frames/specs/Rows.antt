@@ -3,7 +3,7 @@
 use Rattle.std.specs.Prelude.{◌≡◌, ℕ, suc, ℤ, pos, negsuc, List, [], ◌∷◌, ◌++◌, map, Some, None, refl}
 use Rattle.msg_world.specs.declared.record.Record.{Record}
 use Rattle.msg_order.specs.declared.rule.Rule.{Rule}
-use Rattle.msg_world.specs.Prelude.{WorldState, by, held, new_world}
+use Rattle.msg_world.specs.Prelude.{WorldState, by, held_world, new_world}
 use Rattle.msg_system.specs.declared.condition.Condition.{Condition}
 use Rattle.msg_system.specs.declared.condition.Probe.TheVariants.{OnMessage, ResourceEquals}
 use Rattle.msg_system.specs.declared.op.Op.{Op}
@@ -364,7 +364,7 @@ gated = record {
   places = always ∷ asking (differs 0 (pos 1) ∷ []) ∷ always ∷ [];
   rules = [];
   types = 1;
-  world = held (new_world (10 ∷ []) (pos 0 ∷ []));
+  world = held_world (new_world (10 ∷ []) (pos 0 ∷ []));
 }
 
 abbrev pub gated_frames : OrderedFrames
@@ -386,7 +386,7 @@ signallers = record {
   places = always ∷ always ∷ always ∷ [];
   rules = [];
   types = 1;
-  world = held (new_world (10 ∷ []) []);
+  world = held_world (new_world (10 ∷ []) []);
 }
 
 abbrev pub signallers_frames : OrderedFrames

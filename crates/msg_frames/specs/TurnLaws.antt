@@ -9,7 +9,7 @@ use Rattle.msg_order.specs.Prelude.{Graph, IsAcyclic, IsLawfulOrder, IsSettledOr
 use Rattle.msg_system.specs.Prelude.{conditions_of}
 use Rattle.msg_frames.specs.declared.frame.Frame.{Frame}
 use Rattle.msg_frames.specs.declared.log.Log.{Log}
-use Rattle.msg_frames.specs.Frames.{AfterTurns, AreAccessesOf, IsFrame, IsOrderOf, IsRun, after_turn_of, after_turns_of, before_turns, frame_in, joining, logged, turn_of, with_joining, with_member, Member, State, joined}
+use Rattle.msg_frames.specs.Frames.{AfterTurns, AreAccessesOf, IsFrame, IsOrderOf, IsRun, after_turn_of, after_turns_of, before_turns, frame_in, joining, logged_turn, turn_of, with_joining, with_member, Member, State, join_flags}
 
 -- ---- what stays
 
@@ -50,7 +50,7 @@ FramesKeepSystems = (order : List ℕ) (frame : Frame) (s : State) → FrameKeep
 abbrev pub SameSystemsHaveSameAccesses : Type 0
 SameSystemsHaveSameAccesses = (s u : State) → SameSystems s u
     → ((accesses : List Access) → AreAccessesOf s accesses → AreAccessesOf u accesses)
-    × (u.frames ≡ s.frames → joined u ≡ joined s)
+    × (u.frames ≡ s.frames → join_flags u ≡ join_flags s)
 
 -- ---- turns side by side
 
@@ -59,7 +59,7 @@ SameSystemsHaveSameAccesses = (s u : State) → SameSystems s u
 abbrev pub TurnsOfOthersCommute : Type 0
 TurnsOfOthersCommute = (s : State) (accesses : List Access) (i j : ℕ) → AreAccessesOf s accesses
     → i < s.systems → j < s.systems → i ≢ j → ¬ Conflict (access_of accesses i) (access_of accesses j)
-    → (logged (after_turn_of i s) j ≡ logged s j) × (logged (after_turn_of j s) i ≡ logged s i)
+    → (logged_turn (after_turn_of i s) j ≡ logged_turn s j) × (logged_turn (after_turn_of j s) i ≡ logged_turn s i)
     × (after_turn_of j (after_turn_of i s) ≡ after_turn_of i (after_turn_of j s))
 
 -- the state s after what system i's job on the state `start` wrote has come home
@@ -79,7 +79,7 @@ all_home accesses start (i ∷ is) s = all_home accesses start is (home accesses
 abbrev pub BatchesRunSideBySide : Type 0
 BatchesRunSideBySide = (s : State) (accesses : List Access) (batch : List ℕ) → AreAccessesOf s accesses
     → All (λ i. i < s.systems) batch → AllPairs (λ i j. i ≢ j) batch → NoneConflict accesses batch
-    → ((after_turns_of batch s).turns ≡ map (logged s) batch)
+    → ((after_turns_of batch s).turns ≡ map (logged_turn s) batch)
     × ((after_turns_of batch s).state ≡ all_home accesses s batch s)
 
 -- each batch side by side, on the state that the batches before it left
@@ -87,7 +87,7 @@ abbrev pub by_batches : List Access → List (List ℕ) → State → AfterTurns
 by_batches accesses [] s = record { state = s; turns = [] }
 by_batches accesses (batch ∷ batches) s =
     let rest : AfterTurns = by_batches accesses batches (all_home accesses s batch s) in
-    record { state = rest.state; turns = map (logged s) batch ++ rest.turns }
+    record { state = rest.state; turns = map (logged_turn s) batch ++ rest.turns }
 
 -- One batch after the other, each side by side, leaves the log and the state of one turn after the other.
 abbrev pub FramesRunByBatches : Type 0
@@ -101,8 +101,8 @@ FramesRunByBatches = (s : State) (accesses : List Access) (batches : List (List 
 -- Two lawful orders of one settled order leave the same state and have the same turns: each system's comes out alike.
 abbrev pub LawfulOrdersAgree : Type 0
 LawfulOrdersAgree = (s : State) (accesses : List Access) (settled : Graph) (a b : List ℕ) → AreAccessesOf s accesses
-    → IsSettledOrder accesses s.rules (joined s) settled
-    → IsLawfulOrder settled (joined s) a → IsLawfulOrder settled (joined s) b
+    → IsSettledOrder accesses s.rules (join_flags s) settled
+    → IsLawfulOrder settled (join_flags s) a → IsLawfulOrder settled (join_flags s) b
     → ((after_turns_of a s).state ≡ (after_turns_of b s).state)
     × IsPermutation (after_turns_of a s).turns (after_turns_of b s).turns
 
@@ -124,7 +124,7 @@ RunsAreUnique = (frames : List Frame) (s u v : State) (logs others : List Log)
 
 -- whichever systems have joined, the rules make no cycle among them
 abbrev pub NoCycle : State → Type 0
-NoCycle s = (joined : List Bool) → length joined ≡ s.systems → IsAcyclic (rules_among joined s.rules)
+NoCycle s = (join_flags : List Bool) → length join_flags ≡ s.systems → IsAcyclic (rules_among join_flags s.rules)
 
 -- Where the rules make no cycle, and each system has an access for what it needs, there is a frame.
 abbrev pub FramesExist : Type 0
@@ -147,7 +147,7 @@ pub record HasOneRun (frames : List Frame) (s : State) : Type 0 where
 abbrev pub FramesAgreeInLawfulOrders : Type 0
 FramesAgreeInLawfulOrders = (frame : Frame) (s u : State) (log : Log) (settled : Graph) (order : List ℕ)
     → IsFrame frame s log u → IsOrderOf (before_turns frame.posts s) settled
-    → IsLawfulOrder settled (joined (before_turns frame.posts s)) order
+    → IsLawfulOrder settled (join_flags (before_turns frame.posts s)) order
     → ((frame_in order frame s).state ≡ u)
     × ((frame_in order frame s).log.posts ≡ log.posts)
     × IsPermutation (frame_in order frame s).log.turns log.turns

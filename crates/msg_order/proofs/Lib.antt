@@ -8,7 +8,7 @@ mod SettledPairs
 mod SetPaths
 -- Batches and turns
 mod BatchLevels
-mod TurnOrders
+pub mod TurnOrders
 -- What a plan says
 mod PlanViews
 mod AcceptedOrders

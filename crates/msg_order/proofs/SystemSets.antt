@@ -1,6 +1,5 @@
 -- Sets of systems as words of bits.
-use Rattle.std.proofs.Common.{◌≡◌, ◌≢◌, ℕ, ◌+◌, ◌*◌, ◌/◌, ◌^◌, ◌%◌, ◌<◌, ◌≤◌, Bool, true, false, not, ◌&&◌, ◌||◌, List, inl, inr, get_or, length, refl, ap, ◌∙◌, arith, w64, get_or-set_same, get_or-set_other, slice_set, sym}
-use Rattle.std.specs.Prelude.{◌==◌, bit_and, bit_or}
+use Rattle.std.proofs.Common.{◌≡◌, ◌≢◌, ℕ, ◌+◌, ◌*◌, ◌/◌, ◌^◌, ◌%◌, ◌<◌, ◌≤◌, Bool, true, false, not, ◌&&◌, ◌||◌, List, inl, inr, get_or, length, refl, ap, ◌∙◌, arith, w64, get_or-set_same, get_or-set_other, slice_set, sym, ◌==◌, bit_and, bit_or}
 use Rattle.std.specs.Int.{bit_not}
 use Rattle.std.specs.List.{list_any, range_with_len}
 use Rattle.std.proofs.lemmas.Bool.{cases_eq, and_parts, and_from, eq-eqb, ne_eqb, false≢true, false_from_ne_true}

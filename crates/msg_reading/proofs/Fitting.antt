@@ -1,8 +1,7 @@
 -- What the systems of a scenario file use is there, and so are the types that its frames post to.
-use Rattle.std.proofs.Common.{◌≡◌, ℕ, ◌≤◌, ◌<◌, List, [], ◌∷◌, ◌++◌, length, refl, sym, ap, ◌∙◌, subst, Option, Some, None, Bool, true, false, arith, inl, inr}
+use Rattle.std.proofs.Common.{◌≡◌, ℕ, ◌≤◌, ◌<◌, List, [], ◌∷◌, ◌++◌, length, refl, sym, ap, ◌∙◌, subst, Option, Some, None, Bool, true, false, arith, inl, inr, All, IsTrue, ◌&&◌, ◌||◌, ◌⊎◌, codes, flat_map, if◌then◌else◌, is_some, nat_le, nat_lt, option_and_then, option_map, ℤ}
 use Rattle.std.proofs.lemmas.List.Elements.{All-head, All-tail}
 use Rattle.std.proofs.lemmas.List.Quantifiers.{position-Some}
-use Rattle.std.specs.Prelude.{All, IsTrue, ◌&&◌, ◌||◌, ◌⊎◌, codes, flat_map, if◌then◌else◌, is_some, nat_le, nat_lt, option_and_then, option_map, ℤ}
 use Rattle.std.specs.Option.{option_map_or}
 use Rattle.std.specs.Str.{bytes_eq}
 use Rattle.serde_json.specs.Data.{Data}

@@ -1,7 +1,6 @@
 -- Lists of a scenario file, and one step of a walk over their elements.
-use Rattle.std.proofs.Common.{◌≡◌, ℕ, ◌+◌, ◌≤◌, ◌<◌, List, [], ◌∷◌, ◌++◌, length, get_or, drop, arith, true, false, refl, sym, ap, ◌∙◌, append_assoc, append-nil, Option, Some, None, map}
+use Rattle.std.proofs.Common.{◌≡◌, ℕ, ◌+◌, ◌≤◌, ◌<◌, List, [], ◌∷◌, ◌++◌, length, get_or, drop, arith, true, false, refl, sym, ap, ◌∙◌, append_assoc, append-nil, Option, Some, None, map, flat_map, nat_le}
 use Rattle.std.proofs.lemmas.List.{length-map, map-append, drop_more, drop_all}
-use Rattle.std.specs.Prelude.{flat_map, nat_le}
 use Rattle.serde_json.specs.Data.{Data}
 use Rattle.serde_json.specs.Find.{as_array}
 use Rattle.serde_json.specs.View.{view, items_view}

@@ -1,20 +1,18 @@
 -- What is known of a scenario that was read.
-use Rattle.std.proofs.Common.{◌≡◌, ℕ, ◌+◌, ◌≤◌, ◌<◌, List, [], ◌∷◌, length, refl, sym, ap, ◌∙◌, Some, None, true, arith, subst}
+use Rattle.std.proofs.Common.{◌≡◌, ℕ, ◌+◌, ◌≤◌, ◌<◌, List, [], ◌∷◌, length, refl, sym, ap, ◌∙◌, Some, None, true, arith, subst, All, replicate, nat_le}
 use Rattle.std.proofs.lemmas.Grind.{common_steps}
 use Rattle.std.proofs.lemmas.List.Elements.{All-head, All-tail}
 use Rattle.std.proofs.lemmas.List.Quantifiers.{position-Some}
-use Rattle.std.specs.Prelude.{All, replicate, nat_le}
 use Rattle.std.specs.Str.{bytes_eq}
 use Rattle.serde_json.specs.Data.{Data}
 use Rattle.msg_order.specs.Prelude.{IsAcyclic, NameSystemsBelow, edges_of, has_joined, rules_among}
 use Rattle.msg_order.specs.declared.rule.Rule.{Rule}
 use Rattle.msg_files.specs.Prelude.{Text, elements, first_refusal, is_list, needs}
-use Rattle.msg_reading.specs.Prelude.{Declared, IsClashing, IsRunnable, PostsAreToTypes, Scenario, all_names, both, checks_in_turn, each_of, frames_in, frames_of, held_checks, held_in, no_names, part_names, position_of, resource_checks, resource_of, resources_checks, resources_in, resources_of, root_object, rule_of, rules_in, rules_of, scenario_checks, scenario_of, system_checks, system_number, system_of, systems_checks, systems_in, text, type_checks, type_names, type_of, types_checks, types_in, types_of, with_all, with_resource, with_system, with_type}
+use Rattle.msg_reading.specs.Prelude.{Declared, IsClashing, IsRunnable, PostsAreToTypes, Scenario, all_names, both, checks_in_turn, each_of, frames_in, frames_of, held_checks, held_in, no_names, part_names, position_of, resource_checks, resource_of, resources_checks, resources_in, resources_of, root_object, rule_of, rules_in, rules_of, scenario_checks, scenario_of, system_checks, system_number, system_of, systems_checks, systems_in, systems_of, text, type_checks, type_names, type_of, types_checks, types_in, types_of, with_all, with_resource, with_system, with_type}
 use Rattle.serde_json.specs.Find.{as_bool}
 use Rattle.msg_reading.proofs.Fitting.{NamesOf, SystemFits, frames_fit, systems_fit}
 use Rattle.msg_reading.proofs.Files.{from_held, from_resources, from_rules, from_systems, from_types}
 use Rattle.msg_reading.proofs.There.{below_there, both_pass, both_there, each_all, in_turn_length, map_there, passed_length, then_there, two_there}
-use Rattle.msg_reading.specs.ScenarioDenotes.{systems_of}
 use Rattle.msg_files.specs.declared.refusal.Refusal.TheVariants.{Shape, TooMany}
 
 -- ---- names

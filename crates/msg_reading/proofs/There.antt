@@ -1,8 +1,7 @@
 -- What is there where a value is denoted, and what passes where checks pass.
-use Rattle.std.proofs.Common.{◌≡◌, ℕ, ◌≤◌, List, [], ◌∷◌, ◌++◌, length, refl, sym, ap, ◌∙◌, Option, Some, None, Bool, true, false, arith, map, subst, inl, inr}
+use Rattle.std.proofs.Common.{◌≡◌, ℕ, ◌≤◌, List, [], ◌∷◌, ◌++◌, length, refl, sym, ap, ◌∙◌, Option, Some, None, Bool, true, false, arith, map, subst, inl, inr, All, if◌then◌else◌, ◌⊎◌, nat_le, nat_lt, option_and_then, option_map}
 use Rattle.std.proofs.lemmas.Grind.{common_steps}
 use Rattle.std.proofs.lemmas.List.Elements.{All-cons, All-nil}
-use Rattle.std.specs.Prelude.{All, if◌then◌else◌, ◌⊎◌, nat_le, nat_lt, option_and_then, option_map}
 use Rattle.serde_json.specs.Data.{Data}
 use Rattle.msg_files.specs.Prelude.{Check, Text, all_some, elements, first_refusal, is_list, needs, only_below}
 use Rattle.msg_reading.specs.Prelude.{Declared, both, checks_in_turn, each_in_turn, of_headed, of_two, text}

@@ -1,7 +1,7 @@
 -- The state that an engine of a scenario begins in, and what every scenario that was read keeps to.
 use Rattle.std.specs.Prelude.{◌≡◌, ◌≤◌, ◌<◌, ℕ, ⊤, IsTrue, All, List, [], ◌∷◌, length, map, if◌then◌else◌}
 use Rattle.std.specs.List.{enumerate_from}
-use Rattle.msg_world.specs.Prelude.{HasPart, Part, WorldState, held, new_world}
+use Rattle.msg_world.specs.Prelude.{HasPart, Part, WorldState, held_world, new_world}
 use Rattle.msg_order.specs.Prelude.{IsAcyclic, NameSystemsBelow}
 use Rattle.msg_system.specs.Prelude.{HasClash, Meaning, job_needs, needs_any, new_system, program_needs}
 use Rattle.msg_system.specs.declared.op.Op.{Op}
@@ -20,11 +20,11 @@ use Rattle.msg_reading.specs.declared.scenario.SystemSpec.{SystemSpec}
 abbrev pub first_world : Scenario → WorldState
 first_world s =
     let world = new_world (map (λ named. named.1) s.types) (map (λ named. named.1) s.resources) in
-    if s.held then held world else world
+    if s.held then held_world world else world
 
 -- the systems, which were given nothing yet; each writes as its number
-abbrev pub systems_of : Scenario → List Meaning
-systems_of s = map (λ x. new_system x.1.program x.0) (enumerate_from 0 s.systems)
+abbrev pub meanings_of : Scenario → List Meaning
+meanings_of s = map (λ x. new_system x.1.program x.0) (enumerate_from 0 s.systems)
 
 -- where each stands among the others
 abbrev pub places_of : Scenario → List Place
@@ -32,7 +32,7 @@ places_of s = map (λ x. x.place) s.systems
 
 -- no frame was run, and those of join 1 have joined
 abbrev pub state_of : Scenario → State
-state_of s = first_state (systems_of s) (places_of s) s.rules (length s.types) (first_world s)
+state_of s = first_state (meanings_of s) (places_of s) s.rules (length s.types) (first_world s)
 
 -- ---- what may be run
 

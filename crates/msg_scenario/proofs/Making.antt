@@ -1,10 +1,9 @@
 -- The systems of an engine that is made of a scenario.
-use Rattle.std.proofs.Common.{◌≡◌, ℕ, suc, ◌+◌, ◌≤◌, List, [], ◌∷◌, length, map, zero-add, Some, refl, sym, ap, subst, ◌∙◌, inl, inr, arith}
-use Rattle.std.specs.Prelude.{Bool, ℤ, if◌then◌else◌, IsTrue, option_map, slice_get, ◌&&◌}
+use Rattle.std.proofs.Common.{◌≡◌, ℕ, suc, ◌+◌, ◌≤◌, List, [], ◌∷◌, length, map, zero-add, Some, refl, sym, ap, subst, ◌∙◌, inl, inr, arith, Bool, ℤ, if◌then◌else◌, IsTrue, option_map, slice_get, ◌&&◌}
 use Rattle.std.specs.List.{All, enumerate_from}
 use Rattle.std.proofs.lemmas.List.Elements.{All-get_or}
 use Rattle.std.proofs.lemmas.Option.{get_or_from_slice_get, slice_get_cases, slice_get_within, slice_get-map}
-use Rattle.msg_world.specs.Prelude.{Parts, PartsStand, WorldState, held, new_world}
+use Rattle.msg_world.specs.Prelude.{Parts, PartsStand, WorldState, held_world, new_world}
 use Rattle.msg_order.specs.declared.rule.Rule.{Rule}
 use Rattle.msg_frames.specs.Prelude.{IsNew, all_rules, first_state}
 use Rattle.msg_system.specs.Prelude.{Meaning, job_needs, needs_any, new_system, with_conditions}
@@ -13,7 +12,7 @@ use Rattle.msg_frames.specs.declared.place.Place.{Place}
 use Rattle.msg_exec.specs.Prelude.{EachIs, IsLowestClash, MayBeAdded}
 use Rattle.msg_reading.specs.declared.scenario.Scenario.{Scenario}
 use Rattle.msg_reading.specs.declared.scenario.SystemSpec.{SystemSpec}
-use Rattle.msg_reading.specs.Prelude.{IsRunnable, IsRunnableSystem, first_world, places_of, state_of, systems_of}
+use Rattle.msg_reading.specs.Prelude.{IsRunnable, IsRunnableSystem, first_world, meanings_of, places_of, state_of}
 use Rattle.msg_scenario.specs.Prelude.{IsSystemAt}
 use Rattle.msg_reading.proofs.There.{some_same}
 
@@ -43,19 +42,19 @@ stands_unheld s w limits values types resources stands =
     (subst (λ vs. PartsStand w (new_world limits vs)) resources stands)
 
 -- the first world is that, held or not
-pub stands_held : (s : Scenario) (w : Parts) (b : Bool) → s.held ≡ b → PartsStand w (if b then held (unheld s) else unheld s)
+pub stands_held : (s : Scenario) (w : Parts) (b : Bool) → s.held ≡ b → PartsStand w (if b then held_world (unheld s) else unheld s)
     → PartsStand w (first_world s)
-stands_held s w b is stands = subst (λ k. PartsStand w (if k then held (unheld s) else unheld s)) (sym is) stands
+stands_held s w b is stands = subst (λ k. PartsStand w (if k then held_world (unheld s) else unheld s)) (sym is) stands
 
 -- the state of its parts is the scenario's
 pub same_state : (s : Scenario) (systems : List Meaning) (places : List Place) (rules : List Rule) (types : ℕ)
-    → systems ≡ systems_of s → places ≡ places_of s → rules ≡ s.rules → types ≡ length s.types
+    → systems ≡ meanings_of s → places ≡ places_of s → rules ≡ s.rules → types ≡ length s.types
     → first_state systems places rules types (first_world s) ≡ state_of s
 same_state s systems places rules types a b c d =
     ap (λ x. first_state x places rules types (first_world s)) a
-    ∙ ap (λ x. first_state (systems_of s) x rules types (first_world s)) b
-    ∙ ap (λ x. first_state (systems_of s) (places_of s) x types (first_world s)) c
-    ∙ ap (λ x. first_state (systems_of s) (places_of s) s.rules x (first_world s)) d
+    ∙ ap (λ x. first_state (meanings_of s) x rules types (first_world s)) b
+    ∙ ap (λ x. first_state (meanings_of s) (places_of s) x types (first_world s)) c
+    ∙ ap (λ x. first_state (meanings_of s) (places_of s) s.rules x (first_world s)) d
 
 module _ {S : Type 0} (m : S → Meaning) where
   -- the system of the spec at a place is the one at that place
@@ -80,7 +79,7 @@ module _ {S : Type 0} (m : S → Meaning) where
       ∙ ap (λ l. new_system spec.program n ∷ l) rest
 
   pub all_made : (s : Scenario) (xs : List S) → length xs ≡ length s.systems → EachIs (IsSystemAt m s.systems) xs
-      → map m xs ≡ systems_of s
+      → map m xs ≡ meanings_of s
   all_made s xs same each =
       all_from s.systems xs 0 same
       (λ i j x spec is here there. subst (λ k. m x ≡ new_system spec.program k) (sym (zero-add i) ∙ is) (each i x here spec there))

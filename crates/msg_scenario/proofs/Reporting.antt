@@ -1,6 +1,5 @@
 -- The frames of a scenario, run one after another, and what the sink took of their text.
-use Rattle.std.proofs.Common.{◌≡◌, ℕ, zero, suc, ◌+◌, ◌-◌, ◌^◌, ◌<◌, List, [], ◌∷◌, ◌++◌, length, get_or, take, refl, sym, ap, subst, ◌∙◌, append_assoc, append-nil, min, Option, Some, None, Result, Err, true, false, arith, inl, inr, eq-eqb}
-use Rattle.std.specs.Prelude.{All, IfSome, IsNone, IsSomeAnd, ◌==◌, ℤ, if◌then◌else◌}
+use Rattle.std.proofs.Common.{◌≡◌, ℕ, zero, suc, ◌+◌, ◌-◌, ◌^◌, ◌<◌, List, [], ◌∷◌, ◌++◌, length, get_or, take, refl, sym, ap, subst, ◌∙◌, append_assoc, append-nil, min, Option, Some, None, Result, Err, true, false, arith, inl, inr, eq-eqb, All, IfSome, IsNone, IsSomeAnd, ◌==◌, ℤ, if◌then◌else◌}
 use Rattle.std.proofs.Math.Seq.{take-append_seam, take-length}
 use Rattle.std.proofs.lemmas.List.{length-append, take_more}
 use Rattle.std.specs.Io.KnownBytes.{Appends}

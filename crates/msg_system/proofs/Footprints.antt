@@ -1,12 +1,11 @@
 -- Ops, turns, conditions and jobs use no more than they need.
-use Rattle.std.proofs.Common.{◌≡◌, ℕ, zero, suc, Bool, true, false, not, ◌&&◌, ◌||◌, List, [], ◌∷◌, ◌++◌, length, map, Option, None, Some, refl, sym, ap, subst, ◌∙◌, arith, inl, inr}
-use Rattle.std.specs.Prelude.{◌==◌, ℤ, IsTrue, nat_lt, if◌then◌else◌}
+use Rattle.std.proofs.Common.{◌≡◌, ℕ, zero, suc, Bool, true, false, not, ◌&&◌, ◌||◌, List, [], ◌∷◌, ◌++◌, length, map, Option, None, Some, refl, sym, ap, subst, ◌∙◌, arith, inl, inr, ◌==◌, ℤ, IsTrue, nat_lt, if◌then◌else◌}
 use Rattle.std.specs.Ordering.{int_eq}
 use Rattle.std.proofs.Math.Bool.{or-false}
 use Rattle.std.proofs.lemmas.Bool.{cases_Bool, false≢true, or_left, or_right}
 use Rattle.msg_buffer.specs.Prelude.{History, clear, count, first, message_of, missed, oldest, present, unread, write}
 use Rattle.msg_world.specs.declared.record.Record.{Record}
-use Rattle.msg_world.specs.Prelude.{OfResource, OfType, Part, Registry, WorldState, by, content, same_part, signalled, signalled_marks, with_history, with_value_of}
+use Rattle.msg_world.specs.Prelude.{OfResource, OfType, Part, Registry, WorldState, after_signal, by, content, same_part, signalled_marks, with_history, with_value_of}
 use Rattle.msg_system.specs.Prelude.{Add, AfterJob, AfterProgram, Agree, Asked, Batch, Clear, Condition, ConditionFootprint, Drain, Forward, Get, HasFootprint, IsWithin, Job, JobFootprint, Len, Meaning, Missed, Needs, OnMessage, Op, OpFootprint, Probe, Program, ProgramFootprint, Read, Reply, ResourceEquals, Set, Signal, Sum, TurnFootprint, Write, Zero, after_asking, after_at_most, after_op, after_turn, again_by, all_hold, answer, condition_needs, conditions_of, found, given_by_job, given_by_op, given_by_program, inverted, is_part, is_resource, next_op, numbers_for, of_program, one_more, op_needs, op_parts, place_after, place_after_read, plus, probe_part, program_needs, some_condition_reads, sum_onto, told, took, turn, with_conditions, with_place, write_reply}
 use Rattle.msg_system.specs.declared.reply.Reply.TheVariants as reply
 use Rattle.msg_system.proofs.Runs.{same_part_refl}
@@ -24,7 +23,7 @@ value_kept s r z (OfType t) other = refl
 value_kept s r z (OfResource q) other = rw other refl
 value_kept s r z Registry other = refl
 
-marks_kept : (s : WorldState) (p : Part) → same_part p Registry ≡ false → content p (signalled s) ≡ content p s
+marks_kept : (s : WorldState) (p : Part) → same_part p Registry ≡ false → content p (after_signal s) ≡ content p s
 marks_kept s (OfType t) other = refl
 marks_kept s (OfResource r) other = refl
 marks_kept s Registry other = absurd (false≢true (sym other))
@@ -57,7 +56,7 @@ module _ (m : Part → Bool) (s t : WorldState) (agree : Agree m s t) where
   values_alike k x y e (OfResource r) h = ap (λ z. if r == k then z else s.resources r) e ∙ ap (λ z. if r == k then y else z) (agree (OfResource r) h)
   values_alike k x y e Registry h = agree Registry h
 
-  signals_alike : Agree m (signalled s) (signalled t)
+  signals_alike : Agree m (after_signal s) (after_signal t)
   signals_alike (OfType u) h = agree (OfType u) h
   signals_alike (OfResource r) h = agree (OfResource r) h
   signals_alike Registry h = ap signalled_marks (agree Registry h)

@@ -1,6 +1,5 @@
 -- The access of a job, from its program's and its conditions'.
-use Rattle.std.proofs.Common.{◌≡◌, ℕ, ◌+◌, ◌<◌, Bool, true, false, not, ◌&&◌, ◌||◌, List, [], length, take, get_or, refl, sym, ap, ◌∙◌}
-use Rattle.std.specs.Prelude.{IsTrue}
+use Rattle.std.proofs.Common.{◌≡◌, ℕ, ◌+◌, ◌<◌, Bool, true, false, not, ◌&&◌, ◌||◌, List, [], length, take, get_or, refl, sym, ap, ◌∙◌, IsTrue}
 use Rattle.std.proofs.Math.Bool.{and-false, or-false}
 use Rattle.std.proofs.lemmas.Bool.{false≢true, or_parts, or_right}
 use Rattle.std.proofs.lemmas.List.Folds.{list_any_at, list_any_more}

@@ -1,6 +1,5 @@
 -- What is read from a loan, and written through it.
-use Rattle.std.proofs.Common.{◌≡◌, ℕ, ◌+◌, ◌++◌, ◌≤◌, ◌<◌, Bool, true, false, List, length, Option, Some, None, refl, sym, subst, ◌∙◌, arith, inl, inr}
-use Rattle.std.specs.Prelude.{ℤ, Result, Ok, Err, IfSome, IsSome, OnErr, if◌then◌else◌}
+use Rattle.std.proofs.Common.{◌≡◌, ℕ, ◌+◌, ◌++◌, ◌≤◌, ◌<◌, Bool, true, false, List, length, Option, Some, None, refl, sym, subst, ◌∙◌, arith, inl, inr, ℤ, Result, Ok, Err, IfSome, IsSome, OnErr, if◌then◌else◌}
 use Rattle.std.proofs.lemmas.Bool.{cases_Bool, cases_lt, false≢true}
 use Rattle.std.proofs.lemmas.Bool.Decides.{nat_tests}
 use Rattle.msg_buffer.specs.declared.instance.Written.{Written}

@@ -1,6 +1,5 @@
 -- Turns by rules.
-use Rattle.std.proofs.Common.{◌≡◌, ℕ, zero, suc, ◌+◌, ◌≤◌, ◌++◌, Bool, true, false, not, ◌&&◌, ◌||◌, List, [], ◌∷◌, length, Option, Some, None, take, drop, refl, sym, ap, subst, ◌∙◌, arith, inl, inr, append_assoc}
-use Rattle.std.specs.Prelude.{option_to_list, IsTrue, slice_get, if◌then◌else◌}
+use Rattle.std.proofs.Common.{◌≡◌, ℕ, zero, suc, ◌+◌, ◌≤◌, ◌++◌, Bool, true, false, not, ◌&&◌, ◌||◌, List, [], ◌∷◌, length, Option, Some, None, take, drop, refl, sym, ap, subst, ◌∙◌, arith, inl, inr, append_assoc, option_to_list, IsTrue, slice_get, if◌then◌else◌}
 use Rattle.std.proofs.Math.Seq.{drop-append_seam}
 use Rattle.std.proofs.lemmas.Bool.{and_from, and_parts, cases_Bool, eqb-true, false≢true}
 use Rattle.std.proofs.lemmas.List.{append-nil, length-take-le, take_more, take_all}
@@ -132,7 +131,8 @@ same_part_is (OfResource r) Registry h = absurd (false≢true h)
 same_part_is Registry (OfType u) h = absurd (false≢true h)
 same_part_is Registry (OfResource s) h = absurd (false≢true h)
 
-at_part : (holds : Part → Bool) (o : Option Part) (p : Part) → IsTrue (is_none_or holds o) → IsTrue (is_part o p) → IsTrue (holds p)
+-- what holds of a part that there may be holds of that part
+pub at_part : (holds : Part → Bool) (o : Option Part) (p : Part) → IsTrue (is_none_or holds o) → IsTrue (is_part o p) → IsTrue (holds p)
 at_part holds None p all h = absurd (false≢true h)
 at_part holds (Some q) p all h = rw (same_part_is p q h) all
 

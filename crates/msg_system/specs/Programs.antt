@@ -4,7 +4,7 @@ use Rattle.std.specs.Int.{saturate_signed, w64}
 use Rattle.msg_buffer.specs.declared.instance.Written.{Written}
 use Rattle.msg_buffer.specs.Prelude.{History, clear, count, first, given, has_room, message_of, missed, oldest, present, unread, write}
 use Rattle.msg_world.specs.declared.record.Record.{Record}
-use Rattle.msg_world.specs.Prelude.{WorldState, by, signalled, with_history, with_value_of}
+use Rattle.msg_world.specs.Prelude.{WorldState, after_signal, by, with_history, with_value_of}
 use Rattle.msg_system.specs.declared.op.Op.{Op}
 use Rattle.msg_system.specs.declared.op.Op.TheVariants.{Write, Batch, Read, Len, Missed, Clear, Forward, Sum, Get, Set, Add, Drain, Signal}
 use Rattle.msg_system.specs.declared.reply.Reply.{Reply}
@@ -101,7 +101,7 @@ after_op (Drain t) w ps s = record {
   state = with_history s t (clear (s.histories t));
   reply = reply.Drained (oldest (s.histories t)) (map message_of (present (s.histories t)));
 }
-after_op Signal w ps s = record { places = ps; state = signalled s; reply = reply.Signalled }
+after_op Signal w ps s = record { places = ps; state = after_signal s; reply = reply.Signalled }
 
 -- What a program leaves, and what its ops answer, one reply each.
 pub record AfterProgram : Type 0 where

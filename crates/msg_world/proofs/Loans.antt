@@ -1,12 +1,11 @@
 -- What loans stand for.
-use Rattle.std.proofs.Common.{arith, ◌≡◌, ◌||◌, ℕ, ◌<◌, length, Bool, true, false, refl, sym, ap, subst, ◌∙◌, inl, inr, Option, Some, None}
-use Rattle.std.specs.Prelude.{ℤ, IfSome, IsSome, IsTrue, is_some, option_map, if◌then◌else◌}
+use Rattle.std.proofs.Common.{arith, ◌≡◌, ◌||◌, ℕ, ◌<◌, length, Bool, true, false, refl, sym, ap, subst, ◌∙◌, inl, inr, Option, Some, None, ℤ, IfSome, IsSome, IsTrue, is_some, option_map, if◌then◌else◌}
 use Rattle.std.specs.Option.{option_or}
 use Rattle.std.proofs.lemmas.Bool.{and_from, cases_Bool, cases_eq, cases_lt, eq-eqb, ne_eqb, false≢true, or_left, or_right}
 use Rattle.std.proofs.Math.ListN.{length-set}
 use Rattle.std.proofs.lemmas.List.{get_or-set_same, get_or-set_other, get_or_past}
 use Rattle.msg_buffer.specs.Prelude.{History, StandsFor}
-use Rattle.msg_world.specs.Prelude.{Access, HomeAgain, HomeMerges, HomeWhereEither, IsHome, LendsOut, Lent, LentIsLoan, LoanEnds, LoanStands, LoanStays, Marks, MayComeHome, OfResource, OfType, OthersStayHome, OwnedStands, OwnsWhatItWrites, Part, Parts, PartsStand, Record, Registry, SameShape, StaysApart, StaysComplete, Stuff, StuffStands, ValuesStand, WorldState, WritesStand, content, merge, reads, signalled, signalled_marks, slot, uses, with_history, with_messages, with_resource, with_value, with_value_of, writable, writes}
+use Rattle.msg_world.specs.Prelude.{Access, HomeAgain, HomeMerges, HomeWhereEither, IsHome, LendsOut, Lent, LentIsLoan, LoanEnds, LoanStands, LoanStays, Marks, MayComeHome, OfResource, OfType, OthersStayHome, OwnedStands, OwnsWhatItWrites, Part, Parts, PartsStand, Record, Registry, SameShape, StaysApart, StaysComplete, Stuff, StuffStands, ValuesStand, WorldState, WritesStand, after_signal, content, merge, reads, signalled_marks, slot, uses, with_history, with_messages, with_resource, with_value, with_value_of, writable, writes}
 use Rattle.msg_world.proofs.Worlds.{type_shape}
 use Rattle.std.proofs.lemmas.Option.{none-some}
 
@@ -30,7 +29,7 @@ with_signal_shape w = record { size = record { types = refl; resources = refl };
     there Registry = still_some w.marks
 
 -- a loan of the registry, after a signal
-pub signal_stands : (l : Lent) (s : WorldState) → l.access.registry ≡ true → LoanStands l s → LoanStands (record l { taken = with_signal l.taken }) (signalled s)
+pub signal_stands : (l : Lent) (s : WorldState) → l.access.registry ≡ true → LoanStands l s → LoanStands (record l { taken = with_signal l.taken }) (after_signal s)
 signal_stands l s lent stand (OfType t) = stand (OfType t)
 signal_stands l s lent stand (OfResource r) = stand (OfResource r)
 signal_stands l s lent stand Registry =

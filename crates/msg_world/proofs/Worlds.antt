@@ -1,13 +1,13 @@
 -- What a world stands for after each change, part by part.
-use Rattle.std.proofs.Common.{◌≡◌, ℕ, zero, suc, ◌<◌, Bool, true, false, List, [], ◌∷◌, length, map, refl, sym, ap, subst, ◌∙◌, arith, inl, inr, Option, Some, None, Result, Ok, Err, get_or}
-use Rattle.std.specs.Prelude.{ℤ, pos, IfErr, IfOk, OnOk, ◌&&◌, ◌||◌, ◌↔◌, not, IfSome, IsSome, IsSomeAnd, IsTrue, is_some, unwrap_or, slice_index, slice_index_or, slice_set, if◌then◌else◌}
+use Rattle.std.proofs.Common.{◌≡◌, ℕ, zero, suc, ◌<◌, Bool, true, false, List, [], ◌∷◌, length, map, refl, sym, ap, subst, ◌∙◌, arith, inl, inr, Option, Some, None, Result, Ok, Err, get_or, ℤ, pos, IfErr, IfOk, OnOk, ◌&&◌, ◌||◌, ◌↔◌, not, IfSome, IsSome, IsSomeAnd, IsTrue, is_some, slice_index, slice_index_or, slice_set, if◌then◌else◌}
+use Rattle.std.specs.Prelude.{unwrap_or}
 use Rattle.std.specs.Option.{option_or}
 use Rattle.std.proofs.Math.ListN.{length-set}
 use Rattle.std.proofs.lemmas.Bool.{and_from, and_parts, cases_Bool, cases_eq, cases_lt, false≢true, or_cases, or_left, or_right, eq-eqb, ne_eqb}
 use Rattle.std.proofs.lemmas.Option.{same_Some, slice_get-get_or}
 use Rattle.std.proofs.lemmas.List.{get_or-set_same, get_or-set_other, get_or_past}
 use Rattle.msg_buffer.specs.Prelude.{History, Kept, StandsFor, empty, update}
-use Rattle.msg_world.specs.Prelude.{Access, IsHome, IsWhole, Marks, OfResource, OfType, Part, Parts, PartsStand, Record, Registry, SameShape, WorldState, has_bit, new_world, slot, updated, uses, waits, with_history, writes}
+use Rattle.msg_world.specs.Prelude.{Access, IsHome, IsWhole, Marks, OfResource, OfType, Part, Parts, PartsStand, Record, Registry, SameShape, WorldState, after_update, has_bit, new_world, slot, uses, waits, with_history, writes}
 use Rattle.msg_world.specs.inner.Slots.{AllUpdated, BufferStands, HaveEach, at}
 
 -- a world and parts of which the marks were set
@@ -31,7 +31,7 @@ same_shape w = record { size = record { types = refl; resources = refl }; there 
 marks_are : (w : Parts) (s : WorldState) (m : Marks) → w.marks ≡ Some m → PartsStand w s → m ≡ s.marks
 marks_are w s m is stand = let P : Option Marks → Type 0 = λ o. IfSome o (λ k. k ≡ s.marks) in subst P is (stand Registry)
 
-pub waiting_stays : (w : Parts) (s : WorldState) (m : Marks) → w.marks ≡ Some m → true ≡ (m.held && not m.pending) → PartsStand w s → PartsStand w (updated s)
+pub waiting_stays : (w : Parts) (s : WorldState) (m : Marks) → w.marks ≡ Some m → true ≡ (m.held && not m.pending) → PartsStand w s → PartsStand w (after_update s)
 waiting_stays w s m is waiting stand =
     let same : (m.held && not m.pending) ≡ waits s = ap (λ (k : Marks). k.held && not k.pending) (marks_are w s m is stand) in
     let P : WorldState → Type 0 = λ t. PartsStand w t in
@@ -56,7 +56,7 @@ types_updated_shape w types m there all = record { size = record { types = all.l
 
 -- what isn't waiting is updated
 pub others_update : (w : Parts) (s : WorldState) (types : List (Option (Kept Record))) (m n : Marks) → w.marks ≡ Some m → false ≡ (m.held && not m.pending) → n ≡ record m { pending = false }
-    → AllUpdated w.types types → PartsStand w s → PartsStand (record { types = types; resources = w.resources; marks = Some n }) (updated s)
+    → AllUpdated w.types types → PartsStand w s → PartsStand (record { types = types; resources = w.resources; marks = Some n }) (after_update s)
 others_update w s types m n is waiting spent all stand =
     let marks = marks_are w s m is stand in
     let same : (m.held && not m.pending) ≡ waits s = ap (λ (k : Marks). k.held && not k.pending) marks in

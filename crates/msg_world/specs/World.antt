@@ -47,8 +47,8 @@ abbrev pub waits : WorldState → Bool
 waits s = s.marks.held && not s.marks.pending
 
 -- The frame's update: every type is updated, and a signal is spent. A world that waits stays as it is.
-abbrev pub updated : WorldState → WorldState
-updated s =
+abbrev pub after_update : WorldState → WorldState
+after_update s =
     if waits s then s
     else record s { histories = λ t. update (s.histories t); marks = record s.marks { pending = false } }
 
@@ -56,12 +56,12 @@ updated s =
 abbrev pub signalled_marks : Marks → Marks
 signalled_marks m = record m { pending = m.pending || m.held }
 
-abbrev pub signalled : WorldState → WorldState
-signalled s = record s { marks = signalled_marks s.marks }
+abbrev pub after_signal : WorldState → WorldState
+after_signal s = record s { marks = signalled_marks s.marks }
 
 -- held, and waiting
-abbrev pub held : WorldState → WorldState
-held s = record s { marks = record { held = true; pending = false } }
+abbrev pub held_world : WorldState → WorldState
+held_world s = record s { marks = record { held = true; pending = false } }
 
 -- The parts that an access writes as they are in one world, and all else as it is in another.
 abbrev pub merge : Access → WorldState → WorldState → WorldState

@@ -31,7 +31,7 @@ impl<'a> Lent<'a> {
     ghost use Rattle.msg_world.specs.Access.{OfResource, OfType, Registry};
     ghost use Rattle.msg_world.specs.Loan.{IsComplete, IsLoanOf, LendsResource, LendsWriter, LoanStands, SameLoan, access_of, shown, taken_of, writable};
     ghost use Rattle.msg_world.specs.Parts.{PartsStand};
-    ghost use Rattle.msg_world.specs.World.{WorldState, signalled};
+    ghost use Rattle.msg_world.specs.World.{WorldState, after_signal};
 
     /// Opens the loan of what was moved out of the world for this access.
     pub fn open(world: &'a World, access: &Access, taken: Taken) -> Lent<'a>
@@ -88,7 +88,7 @@ impl<'a> Lent<'a> {
     pub fn signal(&mut self) -> bool
         ensures answer { result ≡ is_some (writable Registry self.old) }
         ensures signalled { IsTrue result → (s : WorldState) → LoanStands self.old s
-            → LoanStands self.new (signalled s) }
+            → LoanStands self.new (after_signal s) }
         ensures same { SameLoan self.old self.new }
         ensures refused { IsTrue (not result) → self.new ≡ self.old }
     {

@@ -1,7 +1,7 @@
 ghost use Rattle.std.specs.Prelude.{◌≡◌, ℕ, ◌+◌, ◌<◌, ◌≤◌, ◌↔◌, [], ◌∷◌, length, slice_index, slice_get, is_some, Some, None, IfOk, IfErr, OnOk, OnErr, IsTrue, IsSome, IsSomeAnd, map, if◌then◌else◌};
 ghost use Rattle.std.specs.Option.{option_copied};
 ghost use Rattle.msg_buffer.specs.Prelude.{History, IsSpent, StandsFor, count, empty, message_refused, update, write};
-ghost use Rattle.msg_world.specs.Prelude.{IsApart, IsHome, IsWhole, LendsOut, OfResource, OfType, Part, PartsStand, Registry, SameShape, SameSize, TakesBack, WorldState, by, held, new_world, slot, updated, with_history, writes};
+ghost use Rattle.msg_world.specs.Prelude.{IsApart, IsHome, IsWhole, LendsOut, OfResource, OfType, Part, PartsStand, Registry, SameShape, SameSize, TakesBack, WorldState, after_update, by, held_world, new_world, slot, with_history, writes};
 ghost use Rattle.msg_world.specs.inner.Slots.{AllUpdated, BufferStands, at};
 
 use crate::access::Access;
@@ -176,7 +176,7 @@ impl World {
     /// The update at the beginning of a frame: every type, or none where a held world waits.
     pub fn update_all(&mut self)
         requires whole { IsWhole self.old }
-        ensures meaning { (s : WorldState) → PartsStand self.old s → PartsStand self.new (updated s) }
+        ensures meaning { (s : WorldState) → PartsStand self.old s → PartsStand self.new (after_update s) }
         ensures shape { SameShape self.old self.new }
     {
         let Some(marks) = self.marks else {
@@ -193,7 +193,7 @@ impl World {
     /// lost.
     pub fn set_held(&mut self)
         requires whole { IsWhole self.old }
-        ensures meaning { (s : WorldState) → PartsStand self.old s → PartsStand self.new (held s) }
+        ensures meaning { (s : WorldState) → PartsStand self.old s → PartsStand self.new (held_world s) }
         ensures shape { SameShape self.old self.new }
     {
         self.marks = Some(Marks {

@@ -3,7 +3,7 @@ use Rattle.std.specs.Prelude.{◌≡◌, ℕ, ℤ, ◌<◌, List, take, Some, sl
 use Rattle.msg_buffer.specs.Prelude.{History, count}
 use Rattle.msg_world.specs.declared.record.Record.{Record}
 use Rattle.msg_world.specs.Prelude.{WorldState}
-use Rattle.msg_frames.specs.Prelude.{posted}
+use Rattle.msg_frames.specs.Prelude.{after_posts}
 
 -- a number is left for one message more
 abbrev pub HasRoom : History Record → Type 0
@@ -13,7 +13,7 @@ HasRoom h = count h < h.limit
 pub record FindsRoom (posts : List (ℕ × ℤ)) (w : WorldState) (k : ℕ) : Type 0 where
   pub post : ℕ × ℤ
   pub is_post : slice_get posts k ≡ Some post
-  pub room : HasRoom ((posted (take k posts) w).histories post.0)
+  pub room : HasRoom ((after_posts (take k posts) w).histories post.0)
 
 -- one of them does
 abbrev pub SomeFindsRoom : List (ℕ × ℤ) → WorldState → Type 0

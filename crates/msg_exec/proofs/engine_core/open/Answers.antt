@@ -1,7 +1,7 @@
 use Rattle.std.proofs.Common.{◌≡◌, ◌<◌, ◌∙◌, ℕ, ℤ, refl, ap, sym, subst, length}
 use Rattle.std.specs.Prelude.{All}
-use Rattle.msg_world.specs.Prelude.{Parts, PartsStand, SameShape, WorldState, updated}
-use Rattle.msg_frames.specs.Prelude.{joining, post_replies, posted}
+use Rattle.msg_world.specs.Prelude.{Parts, PartsStand, SameShape, WorldState, after_update}
+use Rattle.msg_frames.specs.Prelude.{after_posts, joining, post_replies}
 use Rattle.msg_exec.proofs.CoreRunsFrame.{opened}
 use Rattle.msg_exec.proofs.engine_core.open.Goals as goal
 
@@ -19,9 +19,9 @@ returns g c = record {
       let old = c.update_all.ensures.shape in
       let new = c.in_ok-post_all.ensures.shape in
       let shape : SameShape b.lender.world c.post_all.new.world = record { size = record { types = new.size.types ∙ old.size.types; resources = new.size.resources ∙ old.size.resources }; there = λ p. new.there p ∙ old.there p } in
-      let w : WorldState = updated (joining s).world in
+      let w : WorldState = after_update (joining s).world in
       let now = c.update_all.ensures.meaning (joining s).world has.lender.world in
-      let after = subst (λ ps. PartsStand c.post_all.new.world (posted ps w)) c.as_slice-posts.ensures.items (c.in_ok-post_all.ensures.state w now) in
+      let after = subst (λ ps. PartsStand c.post_all.new.world (after_posts ps w)) c.as_slice-posts.ensures.items (c.in_ok-post_all.ensures.state w now) in
       opened g.S.System.meaning b _ s c.args.frame.now c.post_all.new.replies.items has shape after
       (c.in_ok-post_all.ensures.replies w now ∙ ap (λ ps. post_replies ps w) c.as_slice-posts.ensures.items) refl;
 }

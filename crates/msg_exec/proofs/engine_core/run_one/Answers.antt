@@ -3,7 +3,7 @@ use Rattle.std.specs.Prelude.{All, AllPairs}
 use Rattle.std.specs.List.{concat}
 use Rattle.std.specs.Global.{Vec}
 use Rattle.msg_order.specs.Prelude.{AreBatches, NoneConflict}
-use Rattle.msg_frames.specs.Prelude.{before_turns, State, joined}
+use Rattle.msg_frames.specs.Prelude.{before_turns, State, join_flags}
 use Rattle.msg_exec.specs.Prelude.{EachPassedGate}
 use Rattle.msg_frames.proofs.FramesInOrder.{in_that_order, logged_in}
 use Rattle.msg_exec.proofs.CoreRunsFrame.{batches_below, frame_ran}
@@ -18,7 +18,7 @@ run_batches-requires-clause-stands g c κs within =
       (
         has.lender,
         batches_below g.S.System.meaning c.batches-batches.result.now bt has.plan.order
-            (subst (λ bs. AreBatches has.plan.order (joined bt) bs) (sym c.batches-batches.ensures.items) has.plan.classes),
+            (subst (λ bs. AreBatches has.plan.order (join_flags bt) bs) (sym c.batches-batches.ensures.items) has.plan.classes),
       ),
     )
 

@@ -8,7 +8,7 @@ use Rattle.msg_world.specs.declared.record.TheConstants.{HOST}
 use Rattle.msg_world.specs.Prelude.{OfType, PartsStand, WorldState, by, with_history}
 use Rattle.msg_system.specs.declared.reply.Reply.{Reply}
 use Rattle.std.proofs.lemmas.Option.{slice_get-get_or}
-use Rattle.msg_frames.specs.Prelude.{posted}
+use Rattle.msg_frames.specs.Prelude.{after_posts}
 use Rattle.msg_exec.proofs.PostsAreWritten.{HasPosted, if_refused, one_post_more}
 use Rattle.msg_exec.proofs.posts.post_all.Goals as goal
 
@@ -44,7 +44,7 @@ returns-in_err-reply-clause-no_memory c =
       record {
         post = p;
         is_post = slice_get-get_or c.args.posts.now k p c.loop-t-test.true ∙ ap Some (sym c.loop-t-item.is);
-        room = c.in_err-reply.ensures.no_memory (posted (take k c.args.posts.now) w) (c.loop-t.invariant.so_far w stands).0;
+        room = c.in_err-reply.ensures.no_memory (after_posts (take k c.args.posts.now) w) (c.loop-t.invariant.so_far w stands).0;
       },
     ))
 

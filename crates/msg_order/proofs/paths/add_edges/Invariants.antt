@@ -1,5 +1,4 @@
-use Rattle.std.proofs.Common.{◌≡◌, ℕ, ◌<◌, ◌≤◌, ◌||◌, ◌&&◌}
-use Rattle.std.specs.Prelude.{◌==◌}
+use Rattle.std.proofs.Common.{◌≡◌, ℕ, ◌<◌, ◌≤◌, ◌||◌, ◌&&◌, ◌==◌}
 use Rattle.msg_order.specs.inner.SystemSet.{has, meets}
 use Rattle.msg_order.specs.inner.Paths.{comes_before, set_at}
 use Rattle.msg_order.proofs.paths.add_edges.Given as goal

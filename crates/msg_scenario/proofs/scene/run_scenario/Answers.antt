@@ -1,5 +1,4 @@
-use Rattle.std.proofs.Common.{◌≡◌, ap, inl, inr}
-use Rattle.std.specs.Prelude.{Err, Ok, Result}
+use Rattle.std.proofs.Common.{◌≡◌, ap, inl, inr, Err, Ok, Result}
 use Rattle.msg_scenario.proofs.scene.run_scenario.Goals as goal
 
 -- what is within an answer, or else d

@@ -1,5 +1,4 @@
-use Rattle.std.proofs.Common.{◌≡◌, ℕ, None, rules, sym, subst, ap, ◌∙◌, arith, false, true, vec_len}
-use Rattle.std.specs.Prelude.{nat_lt, ◌&&◌, ◌==◌, if◌then◌else◌}
+use Rattle.std.proofs.Common.{◌≡◌, ℕ, None, rules, sym, subst, ap, ◌∙◌, arith, false, true, vec_len, nat_lt, ◌&&◌, ◌==◌, if◌then◌else◌}
 use Rattle.std.proofs.lemmas.Bool.{and_right, eqb-true, le-ltb}
 use Rattle.msg_world.specs.Prelude.{has_bit}
 use Rattle.msg_world.specs.inner.Moved.{placed}

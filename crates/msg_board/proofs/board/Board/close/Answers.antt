@@ -1,7 +1,6 @@
-use Rattle.std.proofs.Common.{◌≡◌, ◌<◌, ap, sym, ◌∙◌, arith, subst, length, None}
+use Rattle.std.proofs.Common.{◌≡◌, ◌<◌, ap, sym, ◌∙◌, arith, subst, length, None, IfOk, OnErr}
 use Rattle.std.proofs.lemmas.List.Elements.{All-weaker}
 use Rattle.std.proofs.lemmas.Result.{IfOk-weaker}
-use Rattle.std.specs.Prelude.{IfOk, OnErr}
 use Rattle.msg_board.specs.Prelude.{HasEnded, HoldsEachOnce, IsLawfulOutcome, drawn_by, jobs_of, passes_of}
 use Rattle.msg_board.specs.inner.Closing.{IsGathered}
 use Rattle.msg_board.specs.inner.Sound.{board_of}

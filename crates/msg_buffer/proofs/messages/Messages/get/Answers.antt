@@ -1,5 +1,4 @@
-use Rattle.std.proofs.Common.{ap, ◌∙◌}
-use Rattle.std.specs.Prelude.{option_map}
+use Rattle.std.proofs.Common.{ap, ◌∙◌, option_map}
 use Rattle.std.specs.Option.{option_copied}
 use Rattle.msg_buffer.specs.Prelude.{message_of}
 use Rattle.msg_buffer.proofs.Presence.{get_stands}

@@ -7,7 +7,7 @@ use Rattle.msg_world.specs.declared.access.Access.{Access}
 use Rattle.msg_frames.specs.declared.place.Place.{Place}
 use Rattle.msg_exec.specs.Prelude.{AreJoins, Core, EachIs, Schedule}
 use Rattle.msg_exec.specs.inner.Building.{AreNoTotals, IsAccessAt, IsGuardedAt, RefusesForCycle}
-use Rattle.msg_frames.specs.Prelude.{State, all_rules, first_state, joined, unjoined, with_joining}
+use Rattle.msg_frames.specs.Prelude.{State, all_rules, first_state, join_flags, unjoined, with_joining}
 use Rattle.msg_exec.proofs.FirstEngineStands.{are_new, joins_are, none_clashes, none_more, nothing_read, refusal_for_rules, schedule_first, lender_is_first}
 use Rattle.msg_exec.proofs.CoreRunsFrame.{joined_by_frame, schedule_along}
 use Rattle.msg_frames.proofs.SystemsStay.{joining_on_keeps}
@@ -25,10 +25,10 @@ returns-in-Err-clause-refusal g c =
     (subst (λ rs. RefusesForCycle (length c.deref-3.result.now) rs c.in-Err.refusal) c.deref-4.ensures.value c.in-Err.ensures.cycle)
 
 pub plan_by-requires-clause-no_cycle : goal.plan_by-requires-clause-no_cycle
-plan_by-requires-clause-no_cycle g c joined size =
+plan_by-requires-clause-no_cycle g c join_flags size =
     let same : length c.deref-3.result.now ≡ length c.deref-6.result.now = ap length c.deref-3.ensures.value ∙ sym (ap length c.deref-6.ensures.value) in
-    subst (λ rs. IsAcyclic (rules_among joined rs)) (c.deref-4.ensures.value ∙ sym c.deref-7.ensures.value)
-    (none_more c.fewer_systems_make_no_cycle.ensures.law (length c.deref-3.result.now) c.deref-4.result.now c.in_default.ensures.acyclic joined (size ∙ sym same))
+    subst (λ rs. IsAcyclic (rules_among join_flags rs)) (c.deref-4.ensures.value ∙ sym c.deref-7.ensures.value)
+    (none_more c.fewer_systems_make_no_cycle.ensures.law (length c.deref-3.result.now) c.deref-4.result.now c.in_default.ensures.acyclic join_flags (size ∙ sym same))
 
 pub join_those-requires-clause-stands : goal.join_those-requires-clause-stands
 join_those-requires-clause-stands g c κs within =
@@ -77,7 +77,7 @@ returns-clause-meaning g c w stands =
     (c.in_ok-joins.ensures.joins ∙ ap (map (λ (place : Place). place.join)) c.deref-5.ensures.value) in
     let fresh = nothing_read m c.args.world systems places c.requires.whole c.requires.one_place_each c.requires.each c.args.rules.items w in
     let lender = lender_is_first m c.args.world systems places c.requires.whole c.requires.one_place_each c.requires.each _ c.args.rules.items refl c.in_ok-guarded.ensures.as_many size many guarded accesses totals w stands in
-    let none : (joined : List Bool) → length joined ≡ length systems → IsAcyclic (rules_among joined c.args.rules.items) =
+    let none : (join_flags : List Bool) → length join_flags ≡ length systems → IsAcyclic (rules_among join_flags c.args.rules.items) =
     none_more c.fewer_systems_make_no_cycle.ensures.law (length systems) c.args.rules.items (returns-clause-no_cycle g c) in
     let core : Core g.row.S.Denot = record { lender = c.join_those.new.lender; joins = c.in_ok-joins.joins; rules = c.args.rules; plan = c.in_ok-plan.plan } in
     let schedule : Schedule core s = schedule_along core first s (joining_on_keeps 1 first)
@@ -86,7 +86,7 @@ returns-clause-meaning g c w stands =
       core = record {
         lender = c.join_those.ensures.joined first lender (subst (λ ys. AreJoins ys first) (sym c.deref-10.ensures.value) joins) fresh;
         schedule = schedule;
-        plan = subst (λ (v : Vec Access). IsPlanOf v.items c.args.rules.items (joined s) c.in_ok-plan.plan) (sym c.join_those.ensures.accesses)
+        plan = subst (λ (v : Vec Access). IsPlanOf v.items c.args.rules.items (join_flags s) c.in_ok-plan.plan) (sym c.join_those.ensures.accesses)
             (subst (λ bs. IsPlanOf xs c.args.rules.items bs c.in_ok-plan.plan) (joined_by_frame js s 1 schedule.joins (omega arith))
             (subst (λ ys. IsPlanOf ys c.args.rules.items (map (λ j. nat_le j 1) js) c.in_ok-plan.plan) c.deref-6.ensures.value
             (subst (λ rs. IsPlanOf c.deref-6.result.now rs (map (λ j. nat_le j 1) js) c.in_ok-plan.plan) c.deref-7.ensures.value

@@ -1,5 +1,4 @@
-use Rattle.std.proofs.Common.{◌/◌, ◌%◌, get_or, ap}
-use Rattle.std.specs.Prelude.{◌==◌}
+use Rattle.std.proofs.Common.{◌/◌, ◌%◌, get_or, ap, ◌==◌}
 use Rattle.std.proofs.lemmas.Nat.Bits.{shr_and_one}
 use Rattle.msg_order.specs.inner.SystemSet.{has}
 use Rattle.msg_order.proofs.system_set.SystemSet.contains.Goals as goal

@@ -1,5 +1,4 @@
-use Rattle.std.proofs.Common.{◌≡◌, ◌++◌, take}
-use Rattle.std.specs.Prelude.{flat_map}
+use Rattle.std.proofs.Common.{◌≡◌, ◌++◌, take, flat_map}
 use Rattle.msg_scenario.specs.Prelude.{turn_text}
 use Rattle.msg_scenario.proofs.reports.frame.add_turns.Given as goal
 

@@ -1,12 +1,12 @@
 use Rattle.std.proofs.Common.{refl, sym, subst}
-use Rattle.msg_world.specs.Prelude.{LoanStands, Parts, SameShape, signalled}
+use Rattle.msg_world.specs.Prelude.{LoanStands, Parts, SameShape, after_signal}
 use Rattle.msg_world.proofs.Loans.{signal_stands, with_signal_shape}
 use Rattle.msg_world.proofs.lent.Lent.signal.Goals as goal
 
 pub returns-clause-signalled : goal.returns-clause-signalled
 returns-clause-signalled c answer s stand =
     let l = c.args.self.now in
-    let P : Parts → Type 0 = λ w. LoanStands (record l { taken = w }) (signalled s) in
+    let P : Parts → Type 0 = λ w. LoanStands (record l { taken = w }) (after_signal s) in
     subst P (sym c.signal.ensures.marks) (signal_stands l s c.if-not-self.false stand)
 
 pub returns-clause-same : goal.returns-clause-same

@@ -1,5 +1,4 @@
-use Rattle.std.proofs.Common.{sym, subst, ◌∙◌, ap, Some, inr}
-use Rattle.std.specs.Prelude.{slice_set}
+use Rattle.std.proofs.Common.{sym, subst, ◌∙◌, ap, Some, inr, slice_set}
 use Rattle.msg_world.specs.inner.Moved.{IsFirstOf, NoneOf}
 use Rattle.msg_world.specs.inner.Slots.{at}
 use Rattle.msg_world.proofs.Placed.{at_none, first_part, its_slot, lends_alike, set_first}

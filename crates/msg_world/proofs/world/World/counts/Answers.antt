@@ -1,5 +1,4 @@
-use Rattle.std.proofs.Common.{◌≡◌, ◌∙◌, ap, sym, subst}
-use Rattle.std.specs.Prelude.{IsSome, List, Option}
+use Rattle.std.proofs.Common.{◌≡◌, ◌∙◌, ap, sym, subst, IsSome, List, Option}
 use Rattle.msg_buffer.specs.Prelude.{Kept}
 use Rattle.msg_world.specs.Prelude.{OfType, Parts, Record}
 use Rattle.msg_world.specs.inner.Slots.{BufferStands, at}

@@ -1,5 +1,4 @@
-use Rattle.std.proofs.Common.{◌||◌, ◌&&◌, not, subst}
-use Rattle.std.specs.Prelude.{IsTrue, ◌↔◌}
+use Rattle.std.proofs.Common.{◌||◌, ◌&&◌, not, subst, IsTrue, ◌↔◌}
 use Rattle.msg_world.specs.Prelude.{Parts, IsHome}
 use Rattle.msg_world.proofs.Worlds.{home_by_masks}
 use Rattle.msg_world.proofs.world.World.is_home.Goals as goal

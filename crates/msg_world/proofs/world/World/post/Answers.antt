@@ -1,9 +1,8 @@
-use Rattle.std.proofs.Common.{arith, rules, ◌∷◌, [], ap, sym, subst, Some, ◌∙◌}
+use Rattle.std.proofs.Common.{arith, rules, ◌∷◌, [], ap, sym, subst, Some, ◌∙◌, ℤ, IsSome, slice_set}
 use mir.Val.{SFits}
 use mir.Syntax.{w64}
 use Rattle.std.proofs.lemmas.Int.{to_z-of_z}
 use Rattle.std.proofs.lemmas.Grind.{common_steps}
-use Rattle.std.specs.Prelude.{ℤ, IsSome, slice_set}
 use Rattle.msg_buffer.specs.Prelude.{StandsFor, write}
 use Rattle.msg_world.specs.Prelude.{HOST, OfType, Parts, PartsStand, SameShape, WorldState, by, slot}
 use Rattle.msg_world.proofs.Worlds.{buffer_stands, found_at, if_err, if_ok, on_ok, type_shape, type_stands}

@@ -1,5 +1,4 @@
-use Rattle.std.proofs.Common.{refl, sym, subst, true, false, Some}
-use Rattle.std.specs.Prelude.{IsSome}
+use Rattle.std.proofs.Common.{refl, sym, subst, true, false, Some, IsSome}
 use Rattle.msg_world.specs.Prelude.{Marks, Parts, PartsStand, Registry, SameShape, slot}
 use Rattle.msg_world.proofs.Worlds.{marks_shape, marks_stand}
 use Rattle.msg_world.proofs.world.World.set_held.Goals as goal

@@ -1,5 +1,4 @@
-use Rattle.std.proofs.Common.{sym, subst, map}
-use Rattle.std.specs.Prelude.{option_map}
+use Rattle.std.proofs.Common.{sym, subst, map, option_map}
 use Rattle.serde_json.specs.View.{view}
 use Rattle.msg_reading.specs.Prelude.{probe_checks, probe_with}
 use Rattle.msg_files.specs.Prelude.{IsAnswer}

@@ -1,5 +1,4 @@
-use Rattle.std.proofs.Common.{◌∙◌, ap, sym, Err, Some, ◌∷◌, []}
-use Rattle.std.specs.Prelude.{false}
+use Rattle.std.proofs.Common.{◌∙◌, ap, sym, Err, Some, ◌∷◌, [], false}
 use Rattle.std.specs.Option.{option_map_or}
 use Rattle.std.proofs.lemmas.Result.{err_from_is_err_and}
 use Rattle.serde_json.specs.View.{view}
