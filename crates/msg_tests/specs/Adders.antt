@@ -3,8 +3,7 @@ use Rattle.std.specs.Prelude.{ℤ, ◌==◌, List, length, Option, Some, None, s
 use Rattle.msg_system.specs.declared.op.Op.{Op}
 use Rattle.msg_system.specs.declared.op.Op.TheVariants.{Read, Write}
 use Rattle.msg_system.specs.declared.reply.Reply.{Reply}
-use Rattle.msg_system.specs.Behaviors.{brought}
-use Rattle.msg_system.specs.Programs.{sum_onto}
+use Rattle.msg_system.specs.Prelude.{brought, sum_onto}
 use Rattle.msg_tests.specs.declared.adders.Adder.{Adder}
 
 -- the total with what the first reply brought

@@ -1,10 +1,8 @@
 //! What a client shows by the engine's clauses alone.
 ghost use Rattle.std.specs.Prelude.{◌≡◌, ◌<◌, ℕ, All, IfOk, IsTrue};
-ghost use Rattle.msg_exec.specs.Engines.{IsEngine, PostsFit, StandsFor};
-ghost use Rattle.msg_frames.specs.CompleteRun.{Meets};
+ghost use Rattle.msg_exec.specs.Prelude.{IsEngine, PostsFit, StandsFor};
+ghost use Rattle.msg_frames.specs.Prelude.{Meets, State, has_begun, log_entries};
 ghost use Rattle.msg_frames.specs.Entries.Fate.{given};
-ghost use Rattle.msg_frames.specs.Frames.{State, has_begun};
-ghost use Rattle.msg_frames.specs.Tiling.{log_entries};
 
 use msg_exec::laws::runs_are_unique;
 use msg_exec::{EngineOf, Frame, Log, NoGate, RunFault, Workers};

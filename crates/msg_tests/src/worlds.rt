@@ -2,8 +2,7 @@
 mod loans;
 
 ghost use Rattle.std.specs.Prelude.{OnOk};
-ghost use Rattle.msg_world.specs.Loan.{SameLoan};
-ghost use Rattle.msg_world.specs.Parts.{IsWhole, SameShape};
+ghost use Rattle.msg_world.specs.Prelude.{IsWhole, SameLoan, SameShape};
 
 use crate::numbers::{res_no, type_no};
 use msg_buffer::{MessageId, NoMemory, WriteRefusal};

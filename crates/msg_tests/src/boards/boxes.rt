@@ -1,6 +1,6 @@
 // Jobs that hold a boxed object and a shared reference to a number.
 ghost use Rattle.std.specs.Prelude.{◌≡◌, ◌+◌, ◌/◌, ◌≤◌, ℕ, length, IfOk};
-ghost use Rattle.msg_board.specs.Board.{IsIdle, HasEnded};
+ghost use Rattle.msg_board.specs.Prelude.{IsIdle, HasEnded};
 
 use msg_board::{Board, NoMemory, Pass, Work};
 use std::alloc::Global;

@@ -1,6 +1,6 @@
 // Boards whose passes draw in threads of their own, until None.
 ghost use Rattle.std.specs.Prelude.{◌≡◌, ◌<◌, ◌≤◌, length, IfOk, All};
-ghost use Rattle.msg_board.specs.Board.{jobs_of, IsIdle, HasEnded};
+ghost use Rattle.msg_board.specs.Prelude.{jobs_of, IsIdle, HasEnded};
 
 use super::AddOne;
 use msg_board::{Board, NoMemory, Pass};

@@ -1,14 +1,14 @@
 // What refused requests for ordinary memory leave of engines. Each test prints `refused` where
 // the call that it tests answered want of memory, and `ample` where it gave its whole answer.
 ghost use Rattle.std.specs.Prelude.{IfOk};
-ghost use Rattle.msg_exec.specs.Engines.{IsEngine};
+ghost use Rattle.msg_exec.specs.Prelude.{IsEngine};
 
 use super::expecting::{by, expect_log, read, wrote};
 use super::making::{engine_of, quiet, replay, run_frames};
 use super::spoiled::expect_spoiled;
 use crate::numbers::type_no;
 use crate::outcome::tell;
-use msg_exec::{BuildRefusal, EngineOf, Log, NoGate, NoMemory, RunFault};
+use msg_exec::{BuildError, BuildRefusal, EngineOf, Log, NoGate, NoMemory, RunFault};
 use msg_order::Rule;
 use msg_system::{Op, Scripted, System};
 use std::alloc::Global;
@@ -22,10 +22,10 @@ fn lagging(rt: &impl Abort, alloc: Global) -> Result<EngineOf<Scripted>, NoMemor
 {
     let t = type_no(rt, 0);
     let ops = [Op::Read(t, None), Op::Write(t, 5)];
-    match engine_of(rt, alloc, &[10], &ops, &[Rule::before(0, 1)])? {
+    match engine_of(rt, alloc, &[10], &ops, &[Rule::before(0, 1)]) {
         Ok(engine) => Ok(engine),
-        Err(BuildRefusal::NoMemory) => Err(NoMemory),
-        Err(_other) => panic!(rt; "neither a clash nor a cycle"),
+        Err(BuildError::Refused(BuildRefusal::NoMemory)) => Err(NoMemory),
+        Err(_other) => panic!(rt; "the engine can be built"),
     }
 }
 

@@ -1,6 +1,6 @@
 // Frames in a given order.
 ghost use Rattle.std.specs.Prelude.{IfOk};
-ghost use Rattle.msg_exec.specs.Engines.{IsEngine};
+ghost use Rattle.msg_exec.specs.Prelude.{IsEngine};
 
 use super::expecting::{Step, by, expect_log, posted, read, wrote};
 use super::making::{frame_of, quiet, replay, run_frame, run_frames};

@@ -1,6 +1,5 @@
 use Rattle.std.proofs.Common.{subst, sym}
-use Rattle.msg_world.specs.Parts.{IsApart, Parts, SameShape}
-use Rattle.msg_world.specs.Loan.{taken_of}
+use Rattle.msg_world.specs.Prelude.{IsApart, Parts, SameShape, taken_of}
 use Rattle.msg_tests.proofs.worlds.lending.Goals as goal
 
 pub take_back-requires : goal.take_back-requires

@@ -1,5 +1,5 @@
 use Rattle.std.proofs.Common.{◌-◌, length}
-use Rattle.msg_board.specs.Board.{jobs_of, IsIdle}
+use Rattle.msg_board.specs.Prelude.{jobs_of, IsIdle}
 use Rattle.msg_tests.proofs.boards.boxes.work.Given as goal
 
 abbrev pub invariant-loop-k : goal.invariant-loop-k

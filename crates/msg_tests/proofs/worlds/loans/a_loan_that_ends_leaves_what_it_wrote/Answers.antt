@@ -1,5 +1,5 @@
 use Rattle.std.proofs.Common.{subst, sym}
-use Rattle.msg_world.specs.Parts.{IsApart, Parts}
+use Rattle.msg_world.specs.Prelude.{IsApart, Parts}
 use Rattle.msg_tests.proofs.worlds.loans.a_loan_that_ends_leaves_what_it_wrote.Goals as goal
 
 pub take_back-requires : goal.take_back-requires
