@@ -12,7 +12,7 @@ use Rattle.msg_files.specs.Prelude.{Text, elements, first_refusal, is_list, need
 use Rattle.msg_reading.specs.Prelude.{Declared, IsClashing, IsRunnable, PostsAreToTypes, Scenario, all_names, both, checks_in_turn, each_of, frames_in, frames_of, held_checks, held_in, no_names, part_names, position_of, resource_checks, resource_of, resources_checks, resources_in, resources_of, root_object, rule_of, rules_in, rules_of, scenario_checks, scenario_of, system_checks, system_number, system_of, systems_checks, systems_in, systems_of, text, type_checks, type_names, type_of, types_checks, types_in, types_of, with_all, with_resource, with_system, with_type}
 use Rattle.serde_json.specs.Find.{as_bool}
 use Rattle.msg_reading.proofs.Fitting.{NamesOf, SystemFits, frames_fit, systems_fit}
-use Rattle.msg_reading.proofs.Files.{from_held, from_resources, from_rules, from_systems, from_types}
+use Rattle.msg_reading.proofs.Files.{from_held, from_resources, from_rules, from_systems}
 use Rattle.msg_reading.proofs.There.{below_there, both_pass, both_there, each_all, in_turn_length, map_there, passed_length, then_there, two_there}
 use Rattle.msg_files.specs.declared.refusal.Refusal.TheVariants.{Shape, TooMany}
 
@@ -107,7 +107,7 @@ whole_of d s passes denotes =
     let f = map_there _ (frames_of d) s u.2 in
     let systems : systems_of d ≡ Some s.systems = y.1 ∙ ap (λ x. Some x.systems) f.2 in
     let rules : rules_of d ≡ Some s.rules = u.1 ∙ ap (λ x. Some x.rules) f.2 in
-    let after_object = both_pass (root_object d) (from_types d) passes in
+    let after_object = both_pass (root_object d) (sections_checks d) passes in
     let after_types = both_pass (types_checks d) (from_resources d) after_object.1 in
     let after_resources = both_pass (resources_checks d) (from_held d) after_types.1 in
     let after_held = both_pass (held_checks d) (from_systems d) after_resources.1 in

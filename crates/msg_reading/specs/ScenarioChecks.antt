@@ -262,13 +262,16 @@ rules_checks d = list_checks 1024 (rule_checks (all_names d)) (rules_in d)
 unfoldable pub frames_checks : Data → List Check
 frames_checks d = list_checks 10000 (frame_checks (all_names d)) (frames_in d)
 
--- all checks of a file, but those of its programs and rules together
-abbrev pub scenario_checks : Data → List Check
-scenario_checks d =
-    root_object d
-    ++ (types_checks d
+-- the checks of a file's sections
+abbrev pub sections_checks : Data → List Check
+sections_checks d =
+    types_checks d
     ++ (resources_checks d
     ++ (held_checks d
     ++ (systems_checks d
     ++ (rules_checks d
-    ++ frames_checks d)))))
+    ++ frames_checks d))))
+
+-- all checks of a file, but those of its programs and rules together
+abbrev pub scenario_checks : Data → List Check
+scenario_checks d = root_object d ++ sections_checks d

@@ -3,7 +3,7 @@ ghost use Rattle.std.specs.Prelude.{◌≡◌, ◌≢◌, None, Some, IfOk, IfEr
 ghost use Rattle.serde_json.specs.Find.{as_bool};
 ghost use Rattle.serde_json.specs.View.{view};
 ghost use Rattle.msg_files.specs.Prelude.{Agrees, IsAnswer, first_refusal, value_at};
-ghost use Rattle.msg_reading.specs.ScenarioChecks.{frames_checks, held_checks, is_root_key, resources_checks, root_object, rules_checks, scenario_checks, systems_checks, types_checks};
+ghost use Rattle.msg_reading.specs.ScenarioChecks.{frames_checks, held_checks, is_root_key, resources_checks, root_object, rules_checks, scenario_checks, sections_checks, systems_checks, types_checks};
 ghost use Rattle.msg_reading.specs.ScenarioDenotes.{all_names, frames_in, frames_of, held_in, no_names, part_names, resources_of, rules_of, scenario_of, systems_in, systems_of, type_names, types_in, types_of};
 
 use crate::limits::{MAX_FRAMES, MAX_RESOURCES, MAX_RULES, MAX_SYSTEMS, MAX_TYPES};
@@ -31,12 +31,29 @@ pub fn read_sections(alloc: Global, value: &Value) -> Result<Scenario, Refusal>
 {
     let needed = needed(value)?;
     let mut names = Declarations::new(alloc);
-    let types = read_types(alloc, &mut names, needed.types, value)?;
-    let resources = read_resources(alloc, &mut names, value)?;
-    let held = read_held(value)?;
-    let systems = read_systems(alloc, &mut names, needed.systems, value)?;
-    let rules = read_rules(alloc, &names, value)?;
-    let frames = read_frames(alloc, &names, needed.frames, value)?;
+    read_in_turn(alloc, &mut names, needed, value)
+}
+
+/// The sections of a file whose keys are known. (The names are lent to it, since a proof goes
+/// through all that is dropped where a section is refused.)
+fn read_in_turn(
+    alloc: Global,
+    names: &mut Declarations,
+    needed: Sections,
+    file: &Value,
+) -> Result<Scenario, Refusal>
+    requires none { names.old ≡ no_names }
+    requires types { types_in (view file.now) ≡ view needed.types.now }
+    requires systems { systems_in (view file.now) ≡ view needed.systems.now }
+    requires frames { frames_in (view file.now) ≡ view needed.frames.now }
+    ensures agrees { Agrees (sections_checks (view file.now)) (scenario_of (view file.now)) result }
+{
+    let types = read_types(alloc, names, needed.types, file)?;
+    let resources = read_resources(alloc, names, file)?;
+    let held = read_held(file)?;
+    let systems = read_systems(alloc, names, needed.systems, file)?;
+    let rules = read_rules(alloc, names, file)?;
+    let frames = read_frames(alloc, names, needed.frames, file)?;
     Ok(Scenario {
         types,
         resources,
