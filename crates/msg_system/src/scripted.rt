@@ -81,8 +81,12 @@ impl System for Scripted {
             .start(self.program.access(), self.program.start, counts);
     }
 
-    fn run(&mut self, alloc: Global, lent: Lent, out: &mut Vec<Reply>) -> Result<Taken, NoMemory> {
-        let mut lent = lent;
+    fn run(
+        &mut self,
+        alloc: Global,
+        mut lent: Lent,
+        out: &mut Vec<Reply>,
+    ) -> Result<Taken, NoMemory> {
         let ops = self.program.ops.as_slice();
         out.reserve_exact(ops.len())?;
         run_ops(alloc, ops, self.writer, &mut self.cursors, &mut lent, out)?;

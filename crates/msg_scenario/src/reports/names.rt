@@ -1,5 +1,5 @@
 // Names at the end of a text. A number that nothing has in the scenario goes without one.
-ghost use Rattle.std.specs.Prelude.{◌≡◌, ◌++◌, OnOk};
+ghost use Rattle.std.specs.Prelude.{◌≡◌, ◌++◌, OnOk, codes};
 ghost use Rattle.msg_scenario.specs.Prelude.{resource_name, system_name, type_name, writer_name};
 
 use crate::{Name, Scenario};
@@ -45,14 +45,15 @@ pub fn add_system(text: &mut Vec<u8>, scenario: &Scenario, system: u32) -> Resul
     }
 }
 
-/// The name of a message's writer.
+/// `@` and the name of a message's writer.
 pub fn add_writer(text: &mut Vec<u8>, scenario: &Scenario, writer: u32) -> Result<(), NoMemory>
     ensures appends { OnOk result
-        (text.new.items ≡ text.old.items ++ writer_name scenario.now writer) }
+        (text.new.items ≡ text.old.items ++ (codes "@" ++ writer_name scenario.now writer)) }
 {
     if writer == HOST {
-        text.extend_from_slice(b"host")
+        text.extend_from_slice(b"@host")
     } else {
+        text.extend_from_slice(b"@")?;
         add_system(text, scenario, writer)
     }
 }

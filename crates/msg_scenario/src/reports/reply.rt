@@ -77,8 +77,12 @@ fn add_took(text: &mut Vec<u8>, scenario: &Scenario, took: &Took) -> Result<(), 
     ensures { OnOk result
         (text.new.items ≡ text.old.items ++ (codes " " ++ took_text scenario.now took.now)) }
 {
-    add_count(text, b" missed ", took.missed)?;
-    text.extend_from_slice(b":")?;
+    if took.missed == 0 {
+        text.extend_from_slice(b" missed 0:")?;
+    } else {
+        add_count(text, b" missed ", took.missed)?;
+        text.extend_from_slice(b":")?;
+    }
     add_items(text, scenario, took.first, took.items.as_slice())
 }
 
@@ -126,6 +130,5 @@ fn add_item(
         (text.new.items ≡ text.old.items ++ (codes " " ++ item_text scenario.now number item)) }
 {
     add_pair(text, number, item.value)?;
-    text.extend_from_slice(b"@")?;
     add_writer(text, scenario, item.writer)
 }
