@@ -132,10 +132,7 @@ module _ (mask n : ℕ) (fits : mask < 2 ^ 64) (some : mask / 2 ^ n ≢ 0) where
   next_is_set = sym (sym (eq-eqb (bit_at (mask / 2 ^ n) (trailing_zeros w64 (mask / 2 ^ n))) 1 lowest.1) ∙ shifted mask n (trailing_zeros w64 (mask / 2 ^ n)))
 
   pub next_is_below : n + trailing_zeros w64 (mask / 2 ^ n) < 64
-  next_is_below = elim (cases_lt (n + trailing_zeros w64 (mask / 2 ^ n)) 64) [
-    | inl l ↦ l
-    | inr l ↦ absurd (false≢true (sym (has_bit-above mask (n + trailing_zeros w64 (mask / 2 ^ n)) fits l) ∙ next_is_set))
-  ]
+  next_is_below = grind (arith, cases_lt, false≢true, has_bit-above, next_is_set)
 
   pub none_before_next : (k : ℕ) → n ≤ k → k < n + trailing_zeros w64 (mask / 2 ^ n) → has_bit mask k ≡ false
   none_before_next k le lt = shifted-from mask n k le ∙ ap (λ b. b == 1) (lowest.2 (k - n) (omega arith))
@@ -165,20 +162,11 @@ as_many_ones mask n (suc d) none =
 -- below the next bit after n are those below n, and n
 pub below_next : (mask n next : ℕ) → IsTrue (has_bit mask n) → n < next → ((k : ℕ) → n + 1 ≤ k → k < next → has_bit mask k ≡ false)
     → (k : ℕ) → (has_bit mask k && nat_lt k next) ≡ (k == n || (has_bit mask k && nat_lt k n))
-below_next mask n next set lt none k = elim (cases_eq k n) [
-  | inl e ↦ rw (e, eq-eqb n n refl, set, lt-ltb n next lt) refl
-  | inr ne ↦ elim (cases_lt k n) [
-    | inl below ↦ rw (ne_eqb k n ne, lt-ltb k n below, lt-ltb k next (omega arith)) refl
-    | inr past ↦ elim (cases_lt k next) [
-      | inl between ↦ rw (ne_eqb k n ne, none k (omega arith) between) refl
-      | inr beyond ↦ rw (ne_eqb k n ne, le-ltb k n past, le-ltb k next beyond) refl
-    ]
-  ]
-]
+below_next mask n next set lt none k = grind (arith, cases_eq, eq-eqb, lt-ltb, cases_lt, ne_eqb, le-ltb)
 
 -- there are no others than those below 64
 pub all_below : (mask n : ℕ) → mask < 2 ^ 64 → 64 ≤ n → (k : ℕ) → (has_bit mask k && nat_lt k n) ≡ has_bit mask k
-all_below mask n fits past k = elim (cases_lt k n) [
-  | inl below ↦ rw (lt-ltb k n below) (and-true (has_bit mask k))
-  | inr beyond ↦ rw (has_bit-above mask k fits (omega arith)) refl
-]
+all_below mask n fits past k = grind (arith, cases_lt, lt-ltb, and-true, has_bit-above)
+
+-- what the functions of masks are proved by
+pub ruleset of_masks = (has_bit-or, has_bit-set, has_bit-clear, has_bit-above, share_bit-and, shr-is_below, none_from, next_is_set, next_is_below, none_before_next, as_many_ones)

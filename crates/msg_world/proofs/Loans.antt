@@ -1,22 +1,20 @@
 -- What loans stand for.
-use Rattle.std.proofs.Common.{arith, ◌≡◌, ◌||◌, ℕ, ◌<◌, length, Bool, true, false, refl, sym, ap, subst, ◌∙◌, inl, inr, Option, Some, None}
+use Rattle.std.proofs.Common.{arith, ◌≡◌, ℕ, ◌<◌, length, Bool, true, false, refl, sym, ap, subst, ◌∙◌, inl, inr, Option, Some, None}
 use Rattle.std.specs.Prelude.{ℤ, IfSome, IsSome, IsTrue, is_some, option_map, if◌then◌else◌}
 use Rattle.std.specs.Option.{option_or}
-use Rattle.std.proofs.lemmas.Bool.{and_from, cases_Bool, cases_eq, cases_lt, eq-eqb, ne_eqb, false≢true, or_left, or_right}
+use Rattle.std.proofs.lemmas.Bool.{and_from, cases_Bool, cases_eq, cases_lt, eq-eqb, ne_eqb, false≢true, or_left}
 use Rattle.std.proofs.Math.ListN.{length-set}
 use Rattle.std.proofs.lemmas.List.{get_or-set_same, get_or-set_other, get_or_past}
 use Rattle.msg_buffer.specs.Prelude.{History, StandsFor}
-use Rattle.msg_world.specs.Prelude.{Access, HomeAgain, HomeMerges, HomeWhereEither, IsHome, LendsOut, Lent, LentIsLoan, LoanEnds, LoanStands, LoanStays, Marks, MayComeHome, OfResource, OfType, OthersStayHome, OwnedStands, OwnsWhatItWrites, Part, Parts, PartsStand, Record, Registry, SameShape, StaysApart, StaysComplete, Stuff, StuffStands, ValuesStand, WorldState, WritesStand, after_signal, content, merge, reads, signalled_marks, slot, uses, with_history, with_messages, with_resource, with_value, with_value_of, writable, writes}
+use Rattle.msg_world.specs.Prelude.{Access, HomeAgain, HomeMerges, LendsOut, Lent, LoanEnds, LoanStands, LoanStays, Marks, MayComeHome, OfResource, OfType, Part, Parts, PartsStand, Record, Registry, SameShape, Stuff, StuffStands, ValuesStand, WorldState, WritesStand, after_signal, content, merge, reads, signalled_marks, slot, uses, with_history, with_messages, with_resource, with_value, with_value_of, writable, writes}
 use Rattle.msg_world.proofs.Worlds.{type_shape}
 use Rattle.std.proofs.lemmas.Option.{none-some}
 
 same_marks : (m : Option Marks) (n : Marks) → IfSome m (λ k. k ≡ n) → IfSome (option_map signalled_marks m) (λ k. k ≡ signalled_marks n)
-same_marks None n is = tt
-same_marks (Some m) n is = ap signalled_marks is
+same_marks m n z2 = grind arith
 
 still_some : (m : Option Marks) → is_some (option_map signalled_marks m) ≡ is_some m
-still_some None = refl
-still_some (Some m) = refl
+still_some m = grind arith
 
 abbrev pub with_signal : Parts → Parts
 with_signal w = record w { marks = option_map signalled_marks w.marks }
@@ -95,20 +93,10 @@ values_are_written l r z there =
 
 -- ---- lending out
 
-lent_written : (a : Access) (old left taken : Parts) → IsHome a old → LendsOut a old left taken → (p : Part) → is_some (slot p taken) ≡ writes a p
-lent_written a old left taken home lends p = grind (arith, cases_Bool, or_right)
-
-lent_read : (a : Access) (old left taken : Parts) → IsHome a old → LendsOut a old left taken → (p : Part) → IsTrue (reads a p) → writes a p ≡ false → IsSome (slot p left)
-lent_read a old left taken home lends p read isnt = ap is_some (lends.stayed p) ∙ rw isnt (home p (or_left (reads a p) (writes a p) read))
-
 -- what is one of two slots, or nothing, stands where they do
 chosen_stands : (p : Part) (s : WorldState) (b : Bool) (o : Option (Stuff p)) → IfSome o (λ k. StuffStands p k (content p s))
     → IfSome (if b then o else None) (λ k. StuffStands p k (content p s)) × IfSome (if b then None else o) (λ k. StuffStands p k (content p s))
-chosen_stands p s true o stands = (stands, tt)
-chosen_stands p s false o stands = (tt, stands)
-
-pub lent_is_loan : LentIsLoan
-lent_is_loan a old left taken home lends = grind (arith, lent_written, lent_read, chosen_stands)
+chosen_stands p s b o z4 = grind arith
 
 -- ---- side by side
 
@@ -122,12 +110,6 @@ loan_stays a b world taken left others apart loan lends = record {
   ];
 }
 
-pub others_stay_home : OthersStayHome
-others_stay_home a b old left taken apart home lends p used = elim (cases_Bool (writes a p)) [
-  | inl is ↦ absurd (apart (p, inl (and_from (writes a p) (uses b p) is used)))
-  | inr free ↦ ap is_some (lends.stayed p) ∙ rw free (home p used)
-]
-
 -- ---- coming home
 
 taken_is_out : (a : Access) (old left taken later : Parts) → LendsOut a old left taken → SameShape taken later → (p : Part) → IsSome (slot p later) → slot p left ≡ None
@@ -135,9 +117,6 @@ taken_is_out a old left taken later lends same p there = grind (arith, cases_Boo
 
 pub may_come_home : MayComeHome
 may_come_home a old left taken later lends same = grind (arith, taken_is_out)
-
-pub stays_apart : StaysApart
-stays_apart taken others world home apart back z6 = grind arith
 
 content_merged : (a : Access) (mine s : WorldState) (p : Part) → content p (merge a mine s) ≡ (if writes a p then content p mine else content p s)
 content_merged a mine s (OfType t) = refl
@@ -156,21 +135,13 @@ home_slot : (b : Bool) {X : Type 0} (old left taken later home : Option X) → t
     → is_some later ≡ is_some taken → home ≡ option_or later left → is_some home ≡ is_some old
 home_slot z0 old left taken z4 home moved stayed same back = grind (arith, false≢true)
 
-either_slot : {X : Type 0} (x y : Option X) → is_some (option_or x y) ≡ (is_some x || is_some y)
-either_slot None y = refl
-either_slot (Some x) y = refl
-
-pub home_where_either : HomeWhereEither
-home_where_either taken world home back p = ap is_some (back.joined p) ∙ either_slot (slot p taken) (slot p world)
-
 pub home_again : HomeAgain
 home_again a old left taken later home lends same back = grind (arith, home_slot)
 
 -- ---- a loan from its beginning to its end
 
 no_slot : {X : Type 0} (o : Option X) → is_some o ≡ false → o ≡ None
-no_slot None isnt = refl
-no_slot (Some x) isnt = absurd (false≢true (sym isnt))
+no_slot o z1 = grind (arith, false≢true)
 
 -- what is shown of a part stands, where its own slot and the world's do
 shown_stands : (p : Part) (w r : Bool) (x y : Option (Stuff p)) (mine s : WorldState)
@@ -184,24 +155,10 @@ loan_stands l mine s here there p = grind (arith, content_merged, shown_stands)
 owned_part : (p : Part) (w r : Bool) (x y : Option (Stuff p)) (s : WorldState)
     → IfSome (if w then x else if r then y else None) (λ k. StuffStands p k (content p s)) → (w ≡ false → x ≡ None)
     → IfSome x (λ k. StuffStands p k (content p s))
-owned_part p true r x y s is none = is
-owned_part p false r x y s is none = let P : Option (Stuff p) → Type 0 = λ o. IfSome o (λ k. StuffStands p k (content p s)) in subst P (sym (none refl)) tt
+owned_part p w r x y s z6 z7 = grind arith
 
 owned_where_written : (l : Lent) (s : WorldState) → ((p : Part) → writes l.access p ≡ false → slot p l.taken ≡ None) → LoanStands l s → PartsStand l.taken s
 owned_where_written l s none stand p = owned_part p (writes l.access p) (reads l.access p) (slot p l.taken) (slot p l.world.now) s (stand p) (none p)
-
-pub owned_stands : OwnedStands
-owned_stands l world s loan stand = owned_where_written l s (λ p isnt. no_slot (slot p l.taken) (loan.written p ∙ isnt)) stand
-
-pub owns_what_it_writes : OwnsWhatItWrites
-owns_what_it_writes a world taken later loan same = grind (arith, no_slot)
-
-same_choice : {X : Type 0} (b : Bool) (x x' z : Option X) → is_some x' ≡ is_some x → is_some (if b then x' else z) ≡ is_some (if b then x else z)
-same_choice true x x' z same = same
-same_choice false x x' z same = refl
-
-pub stays_complete : StaysComplete
-stays_complete old new same complete = grind (arith, same_choice)
 
 pub loan_ends : LoanEnds
 loan_ends a old left taken begun ended lends of owns same =

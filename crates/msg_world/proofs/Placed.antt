@@ -17,15 +17,12 @@ module _ {X : Type 0} where
   abbrev none_of : Option X
   none_of = None
 
-  pub length-placed : (n : ℕ) (ms : List (Moved X)) → length (placed n ms) ≡ n
-  length-placed n [] = length-replicate n None
-  length-placed n (m ∷ ms) = length-set (placed n ms) m.slot (Some m.part) ∙ length-placed n ms
+  pub placed_length : (n : ℕ) (ms : List (Moved X)) → length (placed n ms) ≡ n
+  placed_length n [] = length-replicate n None
+  placed_length n (m ∷ ms) = length-set (placed n ms) m.slot (Some m.part) ∙ placed_length n ms
 
   pub at_empty : (n k : ℕ) → at {X = X} (replicate n None) k ≡ None
-  at_empty n k = elim (cases_lt k n) [
-    | inl l ↦ get_or-replicate n k None None l
-    | inr l ↦ get_or_past (replicate n None) k None (let e : length (replicate n (none_of)) ≡ n = length-replicate n None in omega arith)
-  ]
+  at_empty n k = grind (arith, cases_lt, get_or-replicate, get_or_past, length-replicate)
 
   -- a slot of which there is no part
   pub at_none : (n slot : ℕ) (ms : List (Moved X)) → NoneOf slot ms → at (placed n ms) slot ≡ None
@@ -43,7 +40,7 @@ module _ {X : Type 0} where
   at_first n slot [] i m lt f is = absurd (let no : i < 0 = f.there in omega arith)
   at_first n slot (k ∷ ms) zero m lt f is =
       let same : k.slot ≡ slot = f.its k refl in
-      let within : slot < length (placed n ms) = subst (λ z. slot < z) (sym (length-placed n ms)) lt in
+      let within : slot < length (placed n ms) = subst (λ z. slot < z) (sym (placed_length n ms)) lt in
       ap (λ s. at (slice_set (placed n ms) s (Some k.part)) slot) same
       ∙ get_or-set_same (placed n ms) slot (Some k.part) None within ∙ ap (λ o. some_part o) is
     where
@@ -70,7 +67,7 @@ module _ {X : Type 0} where
   one_more n [] m below none = refl
   one_more n (k ∷ ms) m below none = elim (cases_eq m.slot k.slot) [
     | inl e ↦
-        let within : k.slot < length (placed n ms) = subst (λ z. k.slot < z) (sym (length-placed n ms)) (below 0 k (omega arith)) in
+        let within : k.slot < length (placed n ms) = subst (λ z. k.slot < z) (sym (placed_length n ms)) (below 0 k (omega arith)) in
         let some : at (slice_set (placed n ms) k.slot (Some k.part)) k.slot ≡ Some k.part = get_or-set_same (placed n ms) k.slot (Some k.part) None within in
         let gone : at (slice_set (placed n ms) k.slot (Some k.part)) k.slot ≡ None = subst (λ s. at (slice_set (placed n ms) k.slot (Some k.part)) s ≡ None) e none in
         absurd (none_is (sym gone ∙ some))
@@ -95,16 +92,16 @@ module _ {X : Type 0} where
   last_home n (j ∷ ms) m home lt as_many k = elim (cases_eq k j.slot) [
     | inl e ↦ elim (cases_lt j.slot n) [
       | inl l ↦
-          let left : j.slot < length (placed n (ms ++ m ∷ [])) = subst (λ z. j.slot < z) (sym (length-placed n (ms ++ m ∷ []))) l in
-          let right : j.slot < length (placed n ms) = subst (λ z. j.slot < z) (sym (length-placed n ms)) l in
+          let left : j.slot < length (placed n (ms ++ m ∷ [])) = subst (λ z. j.slot < z) (sym (placed_length n (ms ++ m ∷ []))) l in
+          let right : j.slot < length (placed n ms) = subst (λ z. j.slot < z) (sym (placed_length n ms)) l in
           rw (e, get_or-set_same (placed n (ms ++ m ∷ [])) j.slot (Some j.part) None left, get_or-set_same (placed n ms) j.slot (Some j.part) None right) refl
       | inr l ↦
           let out : (xs : List (Option X)) → length xs ≡ n → at (slice_set xs j.slot (Some j.part)) j.slot ≡ None =
           λ xs same. get_or_past (slice_set xs j.slot (Some j.part)) j.slot None (let s : length (slice_set xs j.slot (Some j.part)) ≡ length xs = length-set xs j.slot (Some j.part) in omega arith) in
           rw (
             e,
-            out (placed n (ms ++ m ∷ [])) (length-placed n (ms ++ m ∷ [])),
-            out (placed n ms) (length-placed n ms),
+            out (placed n (ms ++ m ∷ [])) (placed_length n (ms ++ m ∷ [])),
+            out (placed n ms) (placed_length n ms),
             get_or-set_other home m.slot j.slot (Some m.part) None (λ s. absurd (omega arith)),
           ) refl
     ]
@@ -116,28 +113,18 @@ module _ {X : Type 0} where
   its_slot slot ms i m f read = f.its m (slice_get-get_or ms i m f.there ∙ ap Some (sym read))
 
   pub first_part : (n slot : ℕ) (ms : List (Moved X)) (i : ℕ) (m : Moved X) → All (λ k. k.slot < n) ms → IsFirstOf slot ms i → m ≡ get_or ms i m → at (placed n ms) slot ≡ Some m.part
-  first_part n slot ms i m below f read =
-      let within : m.slot < n = subst (λ k. k.slot < n) (sym read) (below i m f.there) in
-      at_first n slot ms i m (subst (λ s. s < n) (its_slot slot ms i m f read) within) f (slice_get-get_or ms i m f.there ∙ ap Some (sym read))
+  first_part n slot ms i m below f read = grind (arith, at_first, its_slot, slice_get-get_or)
 
   -- what is at each slot after one part more, of what the slots had that it left
   pub one_more_at : (n : ℕ) (ms : List (Moved X)) (m : Moved X) (from : List (Option X)) → m.slot < n → at from m.slot ≡ Some m.part → All (λ k. k.slot < n) ms → at (placed n ms) m.slot ≡ None
       → (k : ℕ) → at (placed n (ms ++ m ∷ [])) k ≡ (if k == m.slot then at from k else at (placed n ms) k)
-  one_more_at n ms m from lt had below none k =
-      ap (λ xs. at xs k) (one_more n ms m below none) ∙ elim (cases_eq k m.slot) [
-        | inl e ↦
-            let within : m.slot < length (placed n ms) = subst (λ z. m.slot < z) (sym (length-placed n ms)) lt in
-            rw (e, eq-eqb m.slot m.slot refl, get_or-set_same (placed n ms) m.slot (Some m.part) None within) (sym had)
-        | inr ne ↦ rw (ne_eqb k m.slot ne) (get_or-set_other (placed n ms) m.slot k (Some m.part) None ne)
-      ]
+  one_more_at n ms m from lt had below none k = grind (arith, one_more, cases_eq, placed_length, eq-eqb, get_or-set_same, ne_eqb, get_or-set_other)
 
   -- what a slot holds after one slot was moved out, which wasn't among those before
   pub one_moves : (bit same : Bool) (after from before first : Option X) → (same ≡ true → bit ≡ false) → after ≡ (if same then from else before)
       → before ≡ (if bit then first else None) → from ≡ (if bit then None else first) → after ≡ (if same || bit then first else None)
-  one_moves bit true after from before first apart step moved left = step ∙ left ∙ rw (apart refl) refl
-  one_moves bit false after from before first apart step moved left = step ∙ moved
+  one_moves bit same after from before first z6 z7 z8 z9 = grind arith
 
   pub one_leaves : (bit same : Bool) (after before first : Option X) → after ≡ (if same then None else before) → before ≡ (if bit then None else first)
       → after ≡ (if same || bit then None else first)
-  one_leaves bit true after before first step left = step
-  one_leaves bit false after before first step left = step ∙ left
+  one_leaves bit same after before first z5 z6 = grind arith

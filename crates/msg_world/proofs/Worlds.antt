@@ -1,5 +1,5 @@
 -- What a world stands for after each change, part by part.
-use Rattle.std.proofs.Common.{◌≡◌, ℕ, zero, suc, ◌<◌, Bool, true, false, List, [], ◌∷◌, length, map, refl, sym, ap, subst, ◌∙◌, arith, inl, inr, Option, Some, None, Result, Ok, Err, get_or}
+use Rattle.std.proofs.Common.{◌≡◌, ℕ, zero, suc, ◌<◌, Bool, true, false, List, [], ◌∷◌, length, map, refl, sym, ap, subst, ◌∙◌, arith, inl, inr, Option, Some, None, Result, get_or}
 use Rattle.std.specs.Prelude.{ℤ, pos, IfErr, IfOk, OnOk, ◌&&◌, ◌||◌, ◌↔◌, not, IfSome, IsSome, IsSomeAnd, IsTrue, is_some, unwrap_or, slice_index, slice_index_or, slice_set, if◌then◌else◌}
 use Rattle.std.specs.Option.{option_or}
 use Rattle.std.proofs.Math.ListN.{length-set}
@@ -67,16 +67,13 @@ others_update w s types m n is waiting spent all stand =
 -- ---- a new world
 
 some_and : {X : Type 0} (o : Option X) (P : X → Type 0) → IsSomeAnd o P → IfSome o P
-some_and None P h = absurd h
-some_and (Some x) P h = h
+some_and o P z2 = grind arith
 
 some_there : {X : Type 0} (o : Option X) (P : X → Type 0) → IsSomeAnd o P → IsSome o
-some_there None P h = absurd h
-some_there (Some x) P h = refl
+some_there o P z2 = grind arith
 
 none_stands : {X : Type 0} (o : Option X) (P : X → Type 0) → o ≡ None → IfSome o P
-none_stands None P e = tt
-none_stands (Some x) P e = absurd (cc)
+none_stands o P z2 = grind arith
 
 -- each resource has its value, and there are no others
 values_are : (values : List ℤ) (r : ℕ) → IfSome (at (map (λ z. Some z) values) r) (λ y. y ≡ slice_index_or values r (pos 0))
@@ -119,16 +116,13 @@ pub found_at : {X : Type 0} (xs : List (Option X)) (i : ℕ) (o : Option X) → 
 found_at xs i o there read = grind (arith, cases_lt, item_at, false≢true, get_or_past)
 
 pub on_ok : {T E : Type 0} (r : Result T E) (P Q : Type 0) → (P → Q) → OnOk r P → OnOk r Q
-on_ok (Ok x) P Q f h = f h
-on_ok (Err e) P Q f h = tt
+on_ok r P Q z3 z4 = grind arith
 
 pub if_ok : {T E : Type 0} (r : Result T E) (P Q : T → Type 0) → ((x : T) → P x → Q x) → IfOk r P → IfOk r Q
-if_ok (Ok x) P Q f h = f x h
-if_ok (Err e) P Q f h = tt
+if_ok r P Q x z4 = grind arith
 
 pub if_err : {T E : Type 0} (r : Result T E) (P Q : E → Type 0) → ((e : E) → P e → Q e) → IfErr r P → IfErr r Q
-if_err (Ok x) P Q f h = tt
-if_err (Err e) P Q f h = f e h
+if_err r P Q e z4 = grind arith
 
 -- the buffer of a type stands for its history
 pub buffer_stands : (w : Parts) (s : WorldState) (t : ℕ) (k : Kept Record) → at w.types t ≡ Some k → PartsStand w s → StandsFor k (s.histories t)
@@ -214,8 +208,7 @@ home_by_masks a w types resources types_home resources_home marks_there t r th r
 -- ---- what a world stands for
 
 some_value : {X : Type 0} (o : Option X) (d : X) → IfSome o (λ y. y ≡ unwrap_or o d)
-some_value None d = tt
-some_value (Some x) d = refl
+some_value o d = grind arith
 
 -- Parts stand for some world where each of their buffers stands for some history.
 pub world_stands : (w : Parts) → ((t : ℕ) → t < length w.types → (h : History Record) × BufferStands (at w.types t) h) → (s : WorldState) × PartsStand w s

@@ -116,6 +116,7 @@ impl Access {
 
     /// Whether one of them writes a part that the other uses, so that their jobs can't run side by
     /// side.
+    #[tactic(auto, using(crate::proofs::Conflicts::conflicts_lem))]
     pub fn conflicts(&self, other: &Access) -> bool
         ensures conflict { IsTrue result ↔ Conflict self.now other.now }
     {

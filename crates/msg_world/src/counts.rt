@@ -21,7 +21,7 @@ impl Model for Counts {
 }
 
 impl Counts {
-    /// Of no types.
+    /// The counts of a world without types.
     pub(crate) fn none() -> Counts
         ensures none { length result ≡ 0 }
     {
@@ -31,7 +31,7 @@ impl Counts {
         }
     }
 
-    /// Of one type more.
+    /// Adds the count of one more type, which gets the next number.
     pub(crate) fn push(&mut self, count: u64)
         requires room { length self.old < 64 }
         ensures pushed { self.new ≡ self.old ++ count ∷ [] }
@@ -40,7 +40,7 @@ impl Counts {
         self.types += 1;
     }
 
-    /// How many of this type; None where there is no such type.
+    /// How many messages of this type were ever written; None where there is no such type.
     pub fn of(&self, t: TypeNo) -> Option<u64>
         ensures count { result ≡ slice_get self.now t }
     {

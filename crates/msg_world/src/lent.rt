@@ -5,8 +5,8 @@ use crate::world::World;
 use crate::{ResNo, TypeNo};
 use msg_buffer::Messages;
 
-/// What one job works on: what its access only reads it sees in the world, beside others; what its
-/// access writes it owns, until it gives that back.
+/// What one job works on. The parts that its access only reads stay in the world, where other jobs
+/// may read them meanwhile. The parts that its access writes are its own until it gives them back.
 ///
 /// ```
 /// let taken = world.lend_out(&access)?;

@@ -1,4 +1,6 @@
 // Masks of 64 bits, one for each number below 64.
+#![tactic(auto, using(crate::proofs::Bits::of_masks))]
+
 ghost use Rattle.std.specs.Prelude.{◌≡◌, ◌==◌, ◌||◌, ◌&&◌, not, ℕ, ◌<◌, ◌≤◌, ◌↔◌, IsTrue, false, count_ones, ◌/◌, ◌^◌};
 ghost use Rattle.msg_world.specs.Prelude.{has_bit};
 ghost use Rattle.msg_world.specs.inner.Masks.{ShareBit, Collide, IsBelow};

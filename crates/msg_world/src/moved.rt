@@ -112,6 +112,7 @@ impl<T> MovedParts<T> {
     ghost use Rattle.msg_world.specs.inner.MovedLends.{LendsPart};
 
     /// How many slots there are.
+    #[tactic(auto, using(crate::proofs::Placed::placed_length))]
     pub(crate) fn slots(&self) -> usize
         ensures slots { result ≡ length self.now }
     {
@@ -119,6 +120,7 @@ impl<T> MovedParts<T> {
     }
 
     /// What was moved out of a slot.
+    #[tactic(auto, using(crate::proofs::Placed::at_none, crate::proofs::Placed::first_part))]
     pub(crate) fn get(&self, slot: usize) -> Option<&T>
         ensures held { option_copied result ≡ at self.now slot }
     {

@@ -16,6 +16,7 @@ pub(crate) fn slot_ref<T>(slots: &Vec<Option<T>>, k: usize) -> Option<&T>
 }
 
 /// Whether each slot of a mask holds something.
+#[tactic(auto, using(crate::proofs::Bits::of_masks))]
 pub(crate) fn have_each<T>(slots: &Vec<Option<T>>, mask: u64) -> bool
     ensures each { IsTrue result ↔ HaveEach slots.now.items mask }
 {

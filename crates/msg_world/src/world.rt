@@ -150,6 +150,7 @@ fn take_marks(marks: &mut Option<Marks>, lent: bool) -> Option<Marks>
 
 impl World {
     /// A world that isn't held, with a message type for each limit and a resource for each value.
+    #[tactic(auto, using(crate::proofs::Worlds::new_stands, crate::proofs::Worlds::new_whole))]
     pub fn new(alloc: Global, limits: &[u64], resources: &[i64]) -> Result<World, NoMemory>
         requires types { length limits.now ≤ 64 }
         requires resources { length resources.now ≤ 64 }
@@ -300,6 +301,7 @@ impl World {
     }
 
     /// Moves home what was moved out. It takes no memory.
+    #[tactic(auto, using(crate::proofs::Worlds::taken_back_joined))]
     pub fn take_back(&mut self, taken: Taken)
         requires apart { IsApart taken self.old }
         ensures home { TakesBack taken self.old self.new }

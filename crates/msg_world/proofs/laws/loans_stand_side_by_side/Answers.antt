@@ -1,8 +1,5 @@
-use Rattle.msg_world.proofs.Loans.{loan_stays, others_stay_home}
+use Rattle.msg_world.proofs.Loans.{loan_stays}
 use Rattle.msg_world.proofs.laws.loans_stand_side_by_side.Goals as goal
 
 pub returns-clause-loan : goal.returns-clause-loan
 returns-clause-loan c = loan_stays
-
-pub returns-clause-home : goal.returns-clause-home
-returns-clause-home c = others_stay_home

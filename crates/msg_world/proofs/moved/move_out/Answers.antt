@@ -1,3 +1,4 @@
+use Rattle.std.proofs.lemmas.Grind.{common_steps}
 use Rattle.std.proofs.Common.{◌≡◌, ℕ, None, rules, sym, subst, ap, ◌∙◌, arith, false, true, vec_len}
 use Rattle.std.specs.Prelude.{nat_lt, ◌&&◌, ◌==◌, if◌then◌else◌}
 use Rattle.std.proofs.lemmas.Bool.{and_right, eqb-true, le-ltb}
@@ -5,14 +6,11 @@ use Rattle.msg_world.specs.Prelude.{has_bit}
 use Rattle.msg_world.specs.inner.Moved.{placed}
 use Rattle.msg_world.specs.inner.Slots.{at}
 use Rattle.msg_world.proofs.Bits.{all_below, below_next, one_less}
-use Rattle.msg_world.proofs.Placed.{length-placed, one_leaves, one_moves}
+use Rattle.msg_world.proofs.Placed.{placed_length, one_leaves, one_moves}
 use Rattle.msg_world.proofs.moved.move_out.Goals as goal
 
 pub move_slot-requires-clause-room : goal.move_slot-requires-clause-room
-move_slot-requires-clause-room g c =
-    let less = one_less c.args.mask c.loop-k.k (c.loop-k.invariant.is_set c.loop-k-test.true) in
-    let room = c.loop-k.invariant.room in
-    omega arith
+move_slot-requires-clause-room g c = grind (arith, common_steps, one_less)
 
 pub loop-k-preserved : goal.loop-k-preserved
 loop-k-preserved g c =
@@ -38,14 +36,10 @@ loop-k-preserved g c =
     apart k same = let e = eqb-true k c.loop-k.k same in and_right (has_bit c.args.mask k) (nat_lt k c.loop-k.k) (le-ltb k c.loop-k.k (omega arith))
 
 pub returns-clause-moved : goal.returns-clause-moved
-returns-clause-moved g c k =
-    let all = all_below c.args.mask c.loop-k.k c.ranges.mask.fits c.loop-k-test.false k in
-    ap (λ n. at (placed n c.loop-k.parts.items) k) c.len.ensures ∙ subst (λ b. at (placed (vec_len c.loop-k.from) c.loop-k.parts.items) k ≡ (if b then at c.args.from.now.items k else None)) all (c.loop-k.invariant.moved k)
+returns-clause-moved g c = grind (arith, common_steps, all_below)
 
 pub returns-clause-left : goal.returns-clause-left
-returns-clause-left g c k =
-    let all = all_below c.args.mask c.loop-k.k c.ranges.mask.fits c.loop-k-test.false k in
-    subst (λ b. at c.loop-k.from.items k ≡ (if b then None else at c.args.from.now.items k)) all (c.loop-k.invariant.left k)
+returns-clause-left g c = grind (arith, common_steps, all_below)
 
 pub returns-clause-moved_len : goal.returns-clause-moved_len
-returns-clause-moved_len g c = length-placed c.len.result c.loop-k.parts.items ∙ search rules
+returns-clause-moved_len g c = placed_length c.len.result c.loop-k.parts.items ∙ search rules

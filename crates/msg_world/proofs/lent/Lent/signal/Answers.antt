@@ -1,13 +1,11 @@
-use Rattle.std.proofs.Common.{refl, sym, subst}
-use Rattle.msg_world.specs.Prelude.{LoanStands, Parts, SameShape, after_signal}
+use Rattle.std.proofs.lemmas.Grind.{common_steps}
+use Rattle.std.proofs.Common.{arith, refl, sym, subst}
+use Rattle.msg_world.specs.Prelude.{Parts, SameShape}
 use Rattle.msg_world.proofs.Loans.{signal_stands, with_signal_shape}
 use Rattle.msg_world.proofs.lent.Lent.signal.Goals as goal
 
 pub returns-clause-signalled : goal.returns-clause-signalled
-returns-clause-signalled c answer s stand =
-    let l = c.args.self.now in
-    let P : Parts → Type 0 = λ w. LoanStands (record l { taken = w }) (after_signal s) in
-    subst P (sym c.signal.ensures.marks) (signal_stands l s c.if-not-self.false stand)
+returns-clause-signalled c = grind (arith, common_steps, signal_stands)
 
 pub returns-clause-same : goal.returns-clause-same
 returns-clause-same c =

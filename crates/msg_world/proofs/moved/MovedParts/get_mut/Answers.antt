@@ -1,17 +1,13 @@
-use Rattle.std.proofs.Common.{sym, subst, ◌∙◌, ap, Some, inr}
+use Rattle.std.proofs.lemmas.Grind.{common_steps}
+use Rattle.std.proofs.Common.{arith, sym, subst, ◌∙◌, ap, Some}
 use Rattle.std.specs.Prelude.{slice_set}
-use Rattle.msg_world.specs.inner.Moved.{IsFirstOf, NoneOf}
+use Rattle.msg_world.specs.inner.Moved.{IsFirstOf}
 use Rattle.msg_world.specs.inner.Slots.{at}
 use Rattle.msg_world.proofs.Placed.{at_none, first_part, its_slot, lends_alike, set_first}
 use Rattle.msg_world.proofs.moved.MovedParts.get_mut.Goals as goal
 
 pub returns-in_err-place : goal.returns-in_err-place
-returns-in_err-place g c =
-    let parts = c.self.inside.parts.items in
-    let none : NoneOf c.args.slot parts = subst (NoneOf c.args.slot) c.deref.ensures.value c.in_err-place.ensures.none in (
-      rw c.from_residual.ensures (ap inr c.self.view_is),
-      record { writes_back = tt; held = rw c.from_residual.ensures (sym (ap (λ xs. at xs c.args.slot) (sym c.self.view_is) ∙ at_none c.self.inside.slots c.args.slot parts none)) },
-    )
+returns-in_err-place g c = grind (arith, common_steps, at_none)
 
 pub returns-in-Some : goal.returns-in-Some
 returns-in-Some g c =

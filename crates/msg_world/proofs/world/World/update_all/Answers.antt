@@ -1,4 +1,5 @@
-use Rattle.std.proofs.Common.{sym, subst, ap, ◌∙◌, Some, List, Option, arith}
+use Rattle.std.proofs.lemmas.Grind.{common_steps}
+use Rattle.std.proofs.Common.{sym, subst, ◌∙◌, Some, List, Option, arith}
 use Rattle.std.specs.Prelude.{IsSome}
 use Rattle.std.specs.Vec.{with_items}
 use Rattle.std.proofs.lemmas.Bool.{false≢true}
@@ -16,10 +17,7 @@ returns-in_default-clause-meaning c s stand =
     absurd (false≢true (rw c.in_default.is at there))
 
 pub returns-then-is_waiting-clause-meaning : goal.returns-then-is_waiting-clause-meaning
-returns-then-is_waiting-clause-meaning c s stand =
-    let P : Parts → Type 0 = λ v. IsSome (slot Registry v) in
-    let w = c.args.self.now in
-    waiting_stays w s c.in-Some.marks (ap (λ (v : Parts). v.marks) (sym c.self.view_is) ∙ c.in-Some.is) (sym c.if-is_waiting.true ∙ c.is_waiting.ensures.waiting) stand
+returns-then-is_waiting-clause-meaning c = grind (arith, common_steps, waiting_stays)
 
 pub returns-clause-meaning : goal.returns-clause-meaning
 returns-clause-meaning c s stand =

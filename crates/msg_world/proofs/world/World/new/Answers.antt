@@ -1,8 +1,0 @@
-use Rattle.msg_world.proofs.Worlds.{new_stands, new_whole}
-use Rattle.msg_world.proofs.world.World.new.Goals as goal
-
-pub returns-clause-meaning : goal.returns-clause-meaning
-returns-clause-meaning c = rw c.in_ok-resources.ensures.values (new_stands c.args.limits.now c.args.resources.now c.in_ok-types.types.items c.in_ok-types.ensures.as_many c.in_ok-types.ensures.empty)
-
-pub returns-clause-whole : goal.returns-clause-whole
-returns-clause-whole c = rw c.in_ok-resources.ensures.values (new_whole c.args.limits.now c.args.resources.now c.in_ok-types.types.items c.in_ok-types.ensures.as_many c.in_ok-types.ensures.empty)
