@@ -1,6 +1,5 @@
 -- What words that clap takes leave of a subcommand: each row has a value.
-use Rattle.std.proofs.Common.{◌≡◌, ℕ, zero, suc, length, List, [], ◌∷◌, ◌++◌, refl, sym, ap, ◌∙◌, Option, Some, None, Bool, true, false, codes, subst}
-use Rattle.std.specs.Prelude.{fold, find, if◌then◌else◌, encode_utf8, drop, is_some, ◌&&◌, ◌||◌, cond, slice_get, not, nat_le, option_and_then}
+use Rattle.std.proofs.Common.{◌≡◌, ℕ, zero, suc, length, List, [], ◌∷◌, ◌++◌, refl, sym, ap, ◌∙◌, Option, Some, None, Bool, true, false, codes, subst, fold, find, if◌then◌else◌, encode_utf8, drop, is_some, ◌&&◌, ◌||◌, cond, slice_get, not, nat_le, option_and_then}
 use Rattle.std.specs.Str.{bytes_eq, chars}
 use Rattle.std.specs.List.{list_all}
 use Rattle.std.specs.Option.{option_map_or}
@@ -16,7 +15,7 @@ use Rattle.clap.specs.declared.parser.matches.ValueSource.{ValueSource}
 use Rattle.clap.specs.declared.parser.matches.ValueSource.TheVariants.{DefaultValue, CommandLine}
 use Rattle.clap.specs.declared.builder.value_parser.Reading.{Reading}
 use Rattle.clap.specs.declared.builder.ArgAction.TheVariants.{Set, Help}
-use Rattle.msg_command.proofs.Bools.{both, together}
+use Rattle.std.proofs.lemmas.Bool.{and_from, and_parts}
 
 -- ---- rows
 
@@ -39,21 +38,21 @@ longer (x ∷ xs) ys h = refl
 
 with_values_keeps : (id : Text) (how : Reading) (s : ValueSource) (vs : List Text) (rows : List Row)
     → some_of vs ≡ true → have_values rows ≡ true → have_values (with_values id how s vs rows) ≡ true
-with_values_keeps id how s vs [] some all = together _ _ some refl
+with_values_keeps id how s vs [] some all = and_from _ _ some refl
 with_values_keeps id how s vs (r ∷ rs) some all =
-    let parts = both (has_value r) (have_values rs) all in
+    let parts = and_parts (has_value r) (have_values rs) all in
     elim (bytes_eq r.id id) as (λ b. have_values (if b then more_values s vs r ++ rs else r ∷ with_values id how s vs rs) ≡ true) [
-      | true ↦ together _ _ (longer r.values vs some) parts.1
-      | false ↦ together _ _ parts.0 (with_values_keeps id how s vs rs some parts.1)
+      | true ↦ and_from _ _ (longer r.values vs some) parts.1
+      | false ↦ and_from _ _ parts.0 (with_values_keeps id how s vs rs some parts.1)
     ]
 
 without_keeps : (id : Text) (rows : List Row) → have_values rows ≡ true → have_values (without id rows) ≡ true
 without_keeps id [] all = refl
 without_keeps id (r ∷ rs) all =
-    let parts = both (has_value r) (have_values rs) all in
+    let parts = and_parts (has_value r) (have_values rs) all in
     elim (bytes_eq r.id id) as (λ b. have_values (if b then rs else r ∷ without id rs) ≡ true) [
       | true ↦ parts.1
-      | false ↦ together _ _ parts.0 (without_keeps id rs parts.1)
+      | false ↦ and_from _ _ parts.0 (without_keeps id rs parts.1)
     ]
 
 -- ---- uses
@@ -82,7 +81,7 @@ found_valued test (a ∷ rest) each =
 -- an argument of one value or more
 set_valued : (a : Rule) → action_of a ≡ Set → nat_le (unwrap_or_range a.range).start_inclusive 0 ≡ false → Valued a
 set_valued a set least again [] rows passes all =
-    let parts = both (nat_le (unwrap_or_range a.range).start_inclusive 0) _ passes in cc
+    let parts = and_parts (nat_le (unwrap_or_range a.range).start_inclusive 0) _ passes in cc
 set_valued a set least again (v ∷ vs) rows passes all =
     subst (λ k. have_values (used_as k a.id (reading_by a) (v ∷ vs) rows) ≡ true) (sym set)
     (with_values_keeps a.id _ CommandLine (v ∷ vs) (without a.id rows) refl (without_keeps a.id rows all))
@@ -90,8 +89,8 @@ set_valued a set least again (v ∷ vs) rows passes all =
 -- help never passes
 help_valued : (a : Rule) → action_of a ≡ Help → Valued a
 help_valued a help again vs rows passes all =
-    let parts = both (nat_le (unwrap_or_range a.range).start_inclusive (length vs)) _ passes in
-    let rest = both (nat_le (length vs) _) _ parts.1 in
+    let parts = and_parts (nat_le (unwrap_or_range a.range).start_inclusive (length vs)) _ passes in
+    let rest = and_parts (nat_le (length vs) _) _ parts.1 in
     let bad : false ≡ true = sym (ap (λ k. action_passes k again a (values_or_missing a vs) rows) help) ∙ rest.1 in cc
 
 -- ---- what is held
@@ -114,7 +113,7 @@ settled_keeps c again h fine passes all =
 reacted_keeps : (c : List Rule) (again : Bool) (a : Rule) (vs : List Text) (h : Held) → EachValued c → Valued a
     → react_passes c again a vs h ≡ true → have_values h.rows ≡ true → have_values (reacted c a vs h).rows ≡ true
 reacted_keeps c again a vs h fine its passes all =
-    let parts = both (settle_passes c again h) _ passes in
+    let parts = and_parts (settle_passes c again h) _ passes in
     its again vs (settled c h).rows parts.1 (settled_keeps c again h fine parts.0 all)
 
 option_keeps : (c : List Rule) (again : Bool) (a : Rule) (v : Option Text) (h : Held) → EachValued c → Valued a
@@ -163,7 +162,7 @@ short_keeps c again (Some a) rest h passing met fine its more passes all =
     → have_values (if b then option_met c a (attached_value rest) h else met (reacted c a [] h)).0.rows ≡ true) [
       | true ↦ λ ok. option_keeps c again a (attached_value rest) h fine its ok all
       | false ↦ λ ok.
-          let parts = both (react_passes c again a [] h) _ ok in
+          let parts = and_parts (react_passes c again a [] h) _ ok in
           more (reacted c a [] h) parts.1 (reacted_keeps c again a [] h fine its parts.0 all)
     ] passes
 
@@ -260,7 +259,7 @@ turn_keeps s names w word fine passes all =
     → have_values (walked_from s.rules names o w word).held.rows ≡ true) [
       | Some p ↦ λ ok. all
       | None ↦ λ ok.
-          let parts = both (word_passes s names w.is_trailing w.waiting word w.held) _ ok in
+          let parts = and_parts (word_passes s names w.is_trailing w.waiting word w.held) _ ok in
           step_keeps s w word met.0 met.1 fine parts.1
           (word_keeps s names w.is_trailing w.waiting w.position word w.held fine parts.0 all)
     ] passes
@@ -272,7 +271,7 @@ walk_keeps : (s : Shape) (names : Names) (words : List Text) (w : Walk) → Each
 unfolding walk_passes
 walk_keeps s names [] w fine passes all = all
 walk_keeps s names (word ∷ rest) w fine passes all =
-    let parts = both (turn_passes s names w word) _ passes in
+    let parts = and_parts (turn_passes s names w word) _ passes in
     walk_keeps s names rest (walked s.rules names w word) fine parts.1 (turn_keeps s names w word fine parts.0 all)
 
 default_keeps : (a : Rule) (rows : List Row) → have_values rows ≡ true → have_values (with_default rows a) ≡ true
@@ -298,7 +297,7 @@ pub first_there : (id : Text) (rows : List Row) → have_values rows ≡ true
     → is_some (find (λ r. bytes_eq r.id id) rows) ≡ true → (t : Text) × (first_of id rows ≡ Some t)
 first_there id [] all there = cc
 first_there id (r ∷ rs) all there =
-    let parts = both (has_value r) (have_values rs) all in
+    let parts = and_parts (has_value r) (have_values rs) all in
     elim (bytes_eq r.id id) as (λ b. is_some (cond b (Some r) (find (λ r. bytes_eq r.id id) rs)) ≡ true
     → (t : Text) × (option_and_then (λ r. slice_get r.values 0) (cond b (Some r) (find (λ r. bytes_eq r.id id) rs)) ≡ Some t)) [
       | true ↦ λ ok. value_there r.values parts.0
@@ -377,15 +376,15 @@ pub buffer_given : (words : List Text) → level_passes buffer_shape [] nothing_
     → (file : Text) × (first_of (codes "FILE") (rows_after buffer_shape.rules [] words) ≡ Some file)
 unfolding clap_on_literals
 buffer_given words passes =
-    let parts = both (walk_passes buffer_shape [] (walk_from nothing_held) words) _ passes in
+    let parts = and_parts (walk_passes buffer_shape [] (walk_from nothing_held) words) _ passes in
     let end = (walk buffer_shape.rules [] nothing_held words).held in
-    let settles = both (settle_passes buffer_shape.rules false end) _ parts.1 in
-    let valid = (both (list_all default_passes buffer_shape.rules) _ settles.1).1 in
+    let settles = and_parts (settle_passes buffer_shape.rules false end) _ parts.1 in
+    let valid = (and_parts (list_all default_passes buffer_shape.rules) _ settles.1).1 in
     let kept = settled_keeps buffer_shape.rules false end buffer_valued settles.0
     (walk_keeps buffer_shape [] words (walk_from nothing_held) buffer_valued parts.0 refl) in
     let rows = finished buffer_shape.rules end in
     let all : have_values rows ≡ true = defaults_keep buffer_shape.rules (settled buffer_shape.rules end).rows kept in
-    first_there (codes "FILE") rows all (given_there (codes "FILE") rows (both (is_given (codes "FILE") rows) _ valid).0)
+    first_there (codes "FILE") rows all (given_there (codes "FILE") rows (and_parts (is_given (codes "FILE") rows) _ valid).0)
 
 -- ---- run FILE --workers N
 
@@ -404,17 +403,17 @@ pub run_given : (words : List Text) → level_passes run_shape [] nothing_held w
     × ((text : Text) × (first_of (codes "workers") (rows_after run_shape.rules [] words) ≡ Some text))
 unfolding clap_on_literals
 run_given words passes =
-    let parts = both (walk_passes run_shape [] (walk_from nothing_held) words) _ passes in
+    let parts = and_parts (walk_passes run_shape [] (walk_from nothing_held) words) _ passes in
     let end = (walk run_shape.rules [] nothing_held words).held in
-    let settles = both (settle_passes run_shape.rules false end) _ parts.1 in
-    let valid = (both (list_all default_passes run_shape.rules) _ settles.1).1 in
+    let settles = and_parts (settle_passes run_shape.rules false end) _ parts.1 in
+    let valid = (and_parts (list_all default_passes run_shape.rules) _ settles.1).1 in
     let kept = settled_keeps run_shape.rules false end run_valued settles.0
     (walk_keeps run_shape [] words (walk_from nothing_held) run_valued parts.0 refl) in
     let first = (settled run_shape.rules end).rows in
     let rows = finished run_shape.rules end in
     let all : have_values rows ≡ true = defaults_keep run_shape.rules first kept in
     let file_row : is_some (find (λ r. bytes_eq r.id (codes "FILE")) rows) ≡ true =
-    given_there (codes "FILE") rows (both (is_given (codes "FILE") rows) _ valid).0 in
+    given_there (codes "FILE") rows (and_parts (is_given (codes "FILE") rows) _ valid).0 in
     let before = with_default first file_built in
     let workers_row : is_some (find (λ r. bytes_eq r.id (codes "workers")) rows) ≡ true =
     ap (λ l. is_some (find (λ r. bytes_eq r.id (codes "workers")) l)) (either_way (has_row (codes "help") (with_default before workers_built)) (with_default before workers_built))

@@ -1,7 +1,6 @@
 -- Words that clap takes ask for something, or for a run on what is no number of workers: `buffer` has its FILE, `run` its
 -- FILE and a number, and nothing else is entered.
-use Rattle.std.proofs.Common.{◌≡◌, ◌⊎◌, inl, inr, ℕ, get_or, List, [], ◌∷◌, refl, sym, ap, ◌∙◌, subst, Option, Some, None, Bool, true, false, codes}
-use Rattle.std.specs.Prelude.{fold, is_some, ◌&&◌, ◌||◌, cond, if◌then◌else◌, not, option_and_then, option_map}
+use Rattle.std.proofs.Common.{◌≡◌, ◌⊎◌, inl, inr, ℕ, get_or, List, [], ◌∷◌, refl, sym, ap, ◌∙◌, subst, Option, Some, None, Bool, true, false, codes, fold, is_some, ◌&&◌, ◌||◌, cond, if◌then◌else◌, not, option_and_then, option_map}
 use Rattle.std.specs.Str.{bytes_eq}
 use Rattle.std.specs.Option.{option_map_or}
 use Rattle.std.proofs.lemmas.Slice.Eq.{bytes_eq-Decides}
@@ -12,7 +11,7 @@ use Rattle.clap.specs.Walk.{Held, Names, Outcome, Step, Waiting, Walk, after_fla
 use Rattle.clap.specs.Takes.{entered_passes, level_passes, other_passes, step_passes, turn_passes, walk_passes, word_passes}
 use Rattle.clap.proofs.OnLiterals.{clap_on_literals}
 use Rattle.msg_command.specs.Prelude.{IsRunOnNone, asked, asked_by, buffer as buffer_of, msgrun_app, run_asked, workers_asked, workers_in}
-use Rattle.msg_command.proofs.Bools.{both}
+use Rattle.std.proofs.lemmas.Bool.{and_parts}
 use Rattle.msg_command.proofs.ClapFillsRows.{buffer_given, run_given, run_shape}
 
 -- ---- a flag is no subcommand
@@ -102,7 +101,7 @@ turn_stops w word passes so_far =
     → NotHelp o → NotHelp (walked_from top.rules names o w word).stopped) [
       | Some p ↦ λ is ok isnt. isnt
       | None ↦ λ is ok isnt. word_stops w.is_trailing (subcommand_met names w.waiting word) w word is
-          (both (word_passes top names w.is_trailing w.waiting word w.held) _ ok).0
+          (and_parts (word_passes top names w.is_trailing w.waiting word w.held) _ ok).0
     ] refl passes so_far
 
 walk_stops : (words : List Text) (w : Walk) → walk_passes top names w words ≡ true → NotHelp w.stopped
@@ -110,7 +109,7 @@ walk_stops : (words : List Text) (w : Walk) → walk_passes top names w words �
 unfolding walk_passes
 walk_stops [] w passes so_far = so_far
 walk_stops (word ∷ rest) w passes so_far =
-    let parts = both (turn_passes top names w word) _ passes in
+    let parts = and_parts (turn_passes top names w word) _ passes in
     walk_stops rest (walked top.rules names w word) parts.1 (turn_stops w word parts.0 so_far)
 
 -- the name of the subcommand `help`, the other way round
@@ -178,6 +177,6 @@ stopped_asks words (Some (name, rest)) is passes isnt =
 pub takes_asks : (words : List Text) → takes msgrun_app words ≡ true → Asks words
 unfolding clap_on_literals
 takes_asks words passes =
-    let parts = both (entered_passes (built msgrun_app) (stop_after top.rules names words)) _ passes in
-    let walks = both (walk_passes top names (walk_from nothing_held) words) _ parts.1 in
+    let parts = and_parts (entered_passes (built msgrun_app) (stop_after top.rules names words)) _ passes in
+    let walks = and_parts (walk_passes top names (walk_from nothing_held) words) _ parts.1 in
     stopped_asks words (stop_after top.rules names words) refl parts.0 (walk_stops words (walk_from nothing_held) walks.0 tt)

@@ -3,7 +3,6 @@ pub mod WholeInputs
 -- numbers of workers
 pub mod WorkerNumbers
 -- what clap finds in words
-pub mod Bools
 pub mod RowValues
 pub mod ClapErrors
 pub mod ClapFillsRows

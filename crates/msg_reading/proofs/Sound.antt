@@ -9,11 +9,11 @@ use Rattle.serde_json.specs.Data.{Data}
 use Rattle.msg_order.specs.Prelude.{IsAcyclic, NameSystemsBelow, edges_of, has_joined, rules_among}
 use Rattle.msg_order.specs.declared.rule.Rule.{Rule}
 use Rattle.msg_files.specs.Prelude.{Text, elements, first_refusal, is_list, needs}
-use Rattle.msg_reading.specs.Prelude.{Declared, IsClashing, IsRunnable, PostsAreToTypes, Scenario, all_names, both, checks_in_turn, each_of, frames_in, frames_of, held_checks, held_in, no_names, part_names, position_of, resource_checks, resource_of, resources_checks, resources_in, resources_of, root_object, rule_of, rules_in, rules_of, scenario_checks, scenario_of, system_checks, system_number, system_of, systems_checks, systems_in, systems_of, text, type_checks, type_names, type_of, types_checks, types_in, types_of, with_all, with_resource, with_system, with_type}
+use Rattle.msg_reading.specs.Prelude.{Declared, IsClashing, IsRunnable, PostsAreToTypes, Scenario, all_names, both, checks_in_turn, each_of, frames_in, frames_of, held_checks, held_in, no_names, part_names, position_of, resource_checks, resource_of, resources_checks, resources_in, resources_of, root_object, rule_of, rules_in, rules_of, scenario_checks, scenario_of, sections_checks, system_checks, system_number, system_of, systems_checks, systems_in, systems_of, text, type_checks, type_names, type_of, types_checks, types_in, types_of, with_all, with_resource, with_system, with_type}
 use Rattle.serde_json.specs.Find.{as_bool}
-use Rattle.msg_reading.proofs.Fitting.{NamesOf, SystemFits, frames_fit, systems_fit}
+use Rattle.msg_reading.proofs.Fitting.{NamesOf, frames_fit, systems_fit}
 use Rattle.msg_reading.proofs.Files.{from_held, from_resources, from_rules, from_systems}
-use Rattle.msg_reading.proofs.There.{below_there, both_pass, both_there, each_all, in_turn_length, map_there, passed_length, then_there, two_there}
+use Rattle.msg_reading.proofs.There.{Holds, below_there, both_pass, in_both, in_each, in_map, in_then, in_turn_length, in_two, passed_length}
 use Rattle.msg_files.specs.declared.refusal.Refusal.TheVariants.{Shape, TooMany}
 
 -- ---- names
@@ -62,64 +62,54 @@ as_many_resources d =
 
 -- ---- rules
 
-system_below : (names : Declared) (name : Text) (n : ℕ) → system_number names name ≡ Some n → n < length names.systems
-system_below names name n h =
-    (position-Some (bytes_eq name) names.systems n [] (below_there (position_of names.systems name) 256 n h)).0
+system_below : (names : Declared) (d : Data) → Holds (λ n. n < length names.systems) (system_number names (text d))
+system_below names d n h =
+    (position-Some (bytes_eq (text d)) names.systems n [] (below_there (position_of names.systems (text d)) 256 n h)).0
 
-rule_below : (names : Declared) (d : Data) (rule : Rule) → rule_of names d ≡ Some rule
-    → (rule.earlier < length names.systems) × (rule.later < length names.systems)
-rule_below names d rule h =
-    let two = two_there (λ a b. both (λ i j. record { earlier = i; later = j })
-    (system_number names (text a)) (system_number names (text b))) (elements d) rule h in
-    let there = both_there (λ i j. record { earlier = i; later = j })
-    (system_number names (text two.0)) (system_number names (text two.1)) rule two.2 in
-    let first = system_below names (text two.0) there.0 there.2 in
-    let second = system_below names (text two.1) there.1 there.3 in
-    rw (← there.4) (first, second)
+-- both systems of a rule are among so many
+abbrev IsBelow : ℕ → Rule → Type 0
+IsBelow n rule = (rule.earlier < n) × (rule.later < n)
 
-pub rules_below : (names : Declared) (d : Data) (rules : List Rule) → each_of (rule_of names) d ≡ Some rules
-    → NameSystemsBelow (length names.systems) rules
-rules_below names d rules h =
-    each_all (rule_of names) (λ r. (r.earlier < length names.systems) × (r.later < length names.systems)) (rule_below names)
-    (elements d) rules h
+rule_below : (names : Declared) (d : Data) → Holds (IsBelow (length names.systems)) (rule_of names d)
+rule_below names d = in_two _ _ (elements d) (λ a b. in_both _ _ (system_number names (text a)) (system_number names (text b))
+    (λ i j is at. (system_below names a i is, system_below names b j at)))
+
+-- rules among systems that have all joined are all the rules
+all_joined : (n i : ℕ) → i < n → has_joined (replicate n true) i ≡ true
+all_joined n i lt = grind (arith, common_steps, lt)
+
+pub rules_among_all : (n : ℕ) (rules : List Rule) → NameSystemsBelow n rules
+    → rules_among (replicate n true) rules ≡ edges_of rules
+rules_among_all n [] below = refl
+rules_among_all n (rule ∷ rules) below =
+    let here = All-head (IsBelow n) rule rules below in
+    rw (all_joined n rule.earlier here.0, all_joined n rule.later here.1)
+    (ap (λ l. (rule.earlier, rule.later) ∷ l) (rules_among_all n rules (All-tail (IsBelow n) rule rules below)))
 
 -- ---- the whole
 
--- what holds of a scenario whose sections passed their checks
-pub record IsWhole (d : Data) (s : Scenario) : Type 0 where
-  pub systems : systems_of d ≡ Some s.systems
-  pub rules : rules_of d ≡ Some s.rules
-  pub few_types : length s.types ≤ 64
-  pub few_resources : length s.resources ≤ 64
+-- what holds of a scenario whose sections passed their checks: it can be run, if no program clashes and the rules make
+-- no cycle
+pub record IsWhole (s : Scenario) : Type 0 where
   pub few_systems : length s.systems ≤ 256
-  pub systems_fit : All (SystemFits s) s.systems
   pub rules_in_range : NameSystemsBelow (length s.systems) s.rules
-  pub posts : All (PostsAreToTypes s) s.frames
+  pub runnable : All (λ x. ¬ IsClashing x) s.systems → IsAcyclic (edges_of s.rules) → IsRunnable s
 
-pub whole_of : (d : Data) (s : Scenario) → first_refusal (scenario_checks d) ≡ None → scenario_of d ≡ Some s → IsWhole d s
+whole_from : (d : Data) (s : Scenario) → first_refusal (scenario_checks d) ≡ None → types_of d ≡ Some s.types → resources_of d ≡ Some s.resources
+    → systems_of d ≡ Some s.systems → rules_of d ≡ Some s.rules → frames_of d ≡ Some s.frames → IsWhole s
 unfolding systems_of systems_checks types_of types_checks resources_of resources_checks all_names rules_of frames_of
-whole_of d s passes denotes =
-    let t = then_there _ (types_of d) s denotes in
-    let r = then_there _ (resources_of d) s t.2 in
-    let h = then_there _ (as_bool (held_in d)) s r.2 in
-    let y = then_there _ (systems_of d) s h.2 in
-    let u = then_there _ (rules_of d) s y.2 in
-    let f = map_there _ (frames_of d) s u.2 in
-    let systems : systems_of d ≡ Some s.systems = y.1 ∙ ap (λ x. Some x.systems) f.2 in
-    let rules : rules_of d ≡ Some s.rules = u.1 ∙ ap (λ x. Some x.rules) f.2 in
+whole_from d s passes types resources systems rules frames =
     let after_object = both_pass (root_object d) (sections_checks d) passes in
     let after_types = both_pass (types_checks d) (from_resources d) after_object.1 in
     let after_resources = both_pass (resources_checks d) (from_held d) after_types.1 in
     let after_held = both_pass (held_checks d) (from_systems d) after_resources.1 in
     let on_systems = (both_pass (systems_checks d) (from_rules d) after_held.1).0 in
+    let in_turn = checks_in_turn system_checks with_system (part_names d) (elements (systems_in d)) in
     let as_many = in_turn_length system_of with_system (part_names d) (elements (systems_in d)) s.systems systems in
-    let few = passed_length (systems_in d) 256
-    (checks_in_turn system_checks with_system (part_names d) (elements (systems_in d))) on_systems in
-    let types = t.1 ∙ ap (λ x. Some x.types) f.2 in
+    let few = passed_length (systems_in d) 256 in_turn on_systems in
     let types_denoted = in_turn_length (λ names. type_of) with_type no_names (elements (types_in d)) s.types types in
     let few_types = passed_length (types_in d) 64
     (checks_in_turn type_checks with_type no_names (elements (types_in d))) after_types.0 in
-    let resources = r.1 ∙ ap (λ x. Some x.resources) f.2 in
     let resources_denoted = in_turn_length (λ names. resource_of) with_resource (type_names d)
     (elements (resources_in d)) s.resources resources in
     let few_resources = passed_length (resources_in d) 64
@@ -133,49 +123,27 @@ whole_of d s passes denotes =
       types = ap length (names_keep (λ n. n.types) with_system (λ n e. refl) (part_names d) (elements (systems_in d))) ∙ parts.types;
       resources = ap length (names_keep (λ n. n.resources) with_system (λ n e. refl) (part_names d) (elements (systems_in d))) ∙ parts.resources;
     } in
-    let frames : frames_of d ≡ Some s.frames = f.1 ∙ ap (λ x. Some x.frames) f.2 in
+    let system_fit = systems_fit s (part_names d) (elements (systems_in d)) parts
+    (both_pass (needs (is_list (systems_in d)) Shape ∷ needs (nat_le (length (elements (systems_in d))) 256) TooMany ∷ []) in_turn on_systems).1 s.systems systems in
+    let below : NameSystemsBelow (length s.systems) s.rules =
+    rw (← named) (in_each (IsBelow (length (all_names d).systems)) (rule_of (all_names d)) (rule_below (all_names d)) (elements (rules_in d)) s.rules rules).0 in
     record {
-      systems = systems;
-      rules = rules;
-      few_types = omega (arith, few_types, types_denoted);
-      few_resources = omega (arith, few_resources, resources_denoted);
       few_systems = omega (arith, few, as_many);
-      systems_fit = systems_fit s (part_names d) (elements (systems_in d)) s.systems parts
-          (both_pass (needs (is_list (systems_in d)) Shape ∷ needs (nat_le (length (elements (systems_in d))) 256) TooMany ∷ [])
-          (checks_in_turn system_checks with_system (part_names d) (elements (systems_in d))) on_systems).1 systems;
-      rules_in_range = rw (← named) (rules_below (all_names d) (rules_in d) s.rules rules);
-      posts = frames_fit s (all_names d) all (frames_in d) s.frames frames;
+      rules_in_range = below;
+      runnable = λ none acyclic. record {
+        few_types = omega (arith, few_types, types_denoted);
+        few_resources = omega (arith, few_resources, resources_denoted);
+        few_systems = omega (arith, few, as_many);
+        systems = λ k x lt. system_fit k x lt (none k x lt);
+        rules_in_range = below;
+        acyclic = rw (rules_among_all (length s.systems) s.rules below) acyclic;
+        posts = frames_fit s (all_names d) all (frames_in d) s.frames frames;
+      };
     }
 
--- rules among systems that have all joined are all the rules
-all_joined : (n i : ℕ) → i < n → has_joined (replicate n true) i ≡ true
-all_joined n i lt = grind (arith, common_steps, lt)
-
-pub rules_among_all : (n : ℕ) (rules : List Rule) → NameSystemsBelow n rules
-    → rules_among (replicate n true) rules ≡ edges_of rules
-rules_among_all n [] below = refl
-rules_among_all n (rule ∷ rules) below =
-    let here = All-head (λ r. (r.earlier < n) × (r.later < n)) rule rules below in
-    let first = all_joined n rule.earlier here.0 in
-    let second = all_joined n rule.later here.1 in
-    let rest = rules_among_all n rules (All-tail (λ r. (r.earlier < n) × (r.later < n)) rule rules below) in
-    rw (first, second) (ap (λ l. (rule.earlier, rule.later) ∷ l) rest)
-
--- and it is one that may be run, where no program clashes and the rules make no cycle
-pub runnable_of : (d : Data) (s : Scenario) → IsWhole d s → All (λ x. ¬ IsClashing x) s.systems
-    → IsAcyclic (edges_of s.rules) → IsRunnable s
-runnable_of d s whole none acyclic = record {
-  few_types = whole.few_types;
-  few_resources = whole.few_resources;
-  few_systems = whole.few_systems;
-  systems = λ k x lt. record {
-    few_ops = (whole.systems_fit k x lt).few_ops;
-    fit_kind = (whole.systems_fit k x lt).fit_kind;
-    fits = (whole.systems_fit k x lt).fits;
-    no_clash = none k x lt;
-    joins = (whole.systems_fit k x lt).joins;
-  };
-  rules_in_range = whole.rules_in_range;
-  acyclic = subst IsAcyclic (sym (rules_among_all (length s.systems) s.rules whole.rules_in_range)) acyclic;
-  posts = whole.posts;
-}
+pub whole_of : (d : Data) → first_refusal (scenario_checks d) ≡ None → Holds IsWhole (scenario_of d)
+whole_of d passes =
+    in_then _ _ (types_of d) (λ types t. in_then _ _ (resources_of d) (λ resources r. in_then _ _ (as_bool (held_in d)) (λ held _.
+    in_then _ _ (systems_of d) (λ systems y. in_then _ _ (rules_of d) (λ rules u. in_map _ _ (frames_of d) (λ frames f.
+    whole_from d (record { types = types; resources = resources; held = held; systems = systems; rules = rules; frames = frames })
+    passes t r y u f))))))

@@ -1,5 +1,4 @@
-use Rattle.std.proofs.Common.{◌∙◌, ap, codes, refl, sym}
-use Rattle.std.specs.Prelude.{option_and_then}
+use Rattle.std.proofs.Common.{◌∙◌, ap, codes, refl, sym, option_and_then}
 use Rattle.msg_command.specs.Prelude.{workers_in}
 use Rattle.msg_command.proofs.RowValues.{first_value_rows}
 use Rattle.msg_command.proofs.words.parse.workers_of.Goals as goal
