@@ -8,10 +8,15 @@ use msg_buffer::NoMemory;
 /// How long a pair is at most: a space, 39 digits, `=`, a sign and 19 digits.
 const LONGEST: usize = 61;
 
-/// A number from 0 on.
+/// A number from 0 on. One of a single digit, as most are, is put without a buffer.
+#[tactic(auto, using(std::proofs::lemmas::Fmt::decimal_digit))]
 pub fn add_number(text: &mut Vec<u8>, number: u64) -> Result<(), NoMemory>
     ensures appends { OnOk result (text.new.items ≡ text.old.items ++ decimal number) }
 {
+    if number < 10 {
+        text.push(b'0' + number as u8)?;
+        return Ok(());
+    }
     text.extend_from_slice(Buffer::new().format(number).as_bytes())
 }
 

@@ -132,8 +132,12 @@ impl<B: Behavior + Send> System for BehaviorSystem<B> {
         self.cursors.start(self.access, self.start, counts);
     }
 
-    fn run(&mut self, alloc: Global, lent: Lent, out: &mut Vec<Reply>) -> Result<Taken, NoMemory> {
-        let mut lent = lent;
+    fn run(
+        &mut self,
+        alloc: Global,
+        mut lent: Lent,
+        out: &mut Vec<Reply>,
+    ) -> Result<Taken, NoMemory> {
         let before = out.len();
         let ops = run_turn(
             alloc,

@@ -60,10 +60,14 @@ impl System for Relay {
         self.cursors.start(access, self.start, counts);
     }
 
-    fn run(&mut self, alloc: Global, lent: Lent, out: &mut Vec<Reply>) -> Result<Taken, NoMemory> {
+    fn run(
+        &mut self,
+        alloc: Global,
+        mut lent: Lent,
+        out: &mut Vec<Reply>,
+    ) -> Result<Taken, NoMemory> {
         one_op_is_a_turn();
         out.reserve_exact(1)?;
-        let mut lent = lent;
         let op = Op::Forward(self.from, self.to);
         out.push(op.run(alloc, self.writer, &mut self.cursors, &mut lent)?)?;
         Ok(lent.into_taken())
