@@ -1,5 +1,5 @@
 -- Batches, level by level: what is left after m of them are the systems in which a chain of m edges ends.
-use Rattle.std.proofs.Common.{◌≡◌, ℕ, zero, suc, ◌+◌, ◌<◌, ◌≤◌, ◌⊎◌, inl, inr, Bool, true, false, not, cond, ◌&&◌, List, [], ◌∷◌, ◌++◌, length, get_or, refl, ap, sym, subst, ◌∙◌, arith, length-append}
+use Rattle.std.proofs.Common.{◌≡◌, ℕ, zero, suc, ◌+◌, ◌<◌, ◌≤◌, ◌⊎◌, inl, inr, Bool, true, false, not, cond, ◌&&◌, List, [], ◌∷◌, ◌++◌, length, get_or, ap, sym, subst, ◌∙◌, arith, length-append}
 use Rattle.std.specs.Prelude.{◌↔◌, Contains, All, filter}
 use Rattle.std.specs.List.{range_with_len}
 use Rattle.std.specs.List.Sorted.{IsStrictlyIncreasing}
@@ -201,8 +201,7 @@ peeled_done g systems start left batches same h none = record {
 }
 
 right_false : (b : Bool) → (b && false) ≡ false
-right_false true = refl
-right_false false = refl
+right_false b = grind arith
 
 -- the measure
 pub left_falls : (left blocked next : ℕ → Bool) (n : ℕ) (batch : List ℕ) → batch ≡ filter (λ i. left i && not (blocked i)) (range_with_len 0 n) → 0 < length batch

@@ -18,8 +18,7 @@ module _ {X : Type 0} where
   Contains-tail x xs y h = (suc h.0, omega (arith, h.1), h.2)
 
   at_place : (x : X) (xs : List X) (y : X) (k : ℕ) → k < length (x ∷ xs) → get_or (x ∷ xs) k y ≡ y → (x ≡ y) ⊎ Contains xs y
-  at_place x xs y zero h e = inl e
-  at_place x xs y (suc k) h e = inr (k, omega arith, e)
+  at_place x xs y k h e = grind arith
 
   pub Contains-cases : (x : X) (xs : List X) (y : X) → Contains (x ∷ xs) y → (x ≡ y) ⊎ Contains xs y
   Contains-cases x xs y h = at_place x xs y h.0 h.1 h.2
@@ -118,3 +117,6 @@ module _ (p : ℕ → Bool) (i : ℕ) (xs : List ℕ) (so_far : xs ≡ filter p 
 
   pub filter_drops : p i ≡ false → xs ≡ filter p (range_with_len 0 (i + 1))
   filter_drops t = rw (filter_more, t, append-nil xs) refl
+
+-- one number on, it passes or it does not
+pub ruleset range_filters = (filter_takes, filter_drops)

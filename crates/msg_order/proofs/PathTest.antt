@@ -1,5 +1,5 @@
 -- The test for a path, which grows edge by edge, says whether there is one.
-use Rattle.std.proofs.Common.{◌≡◌, ℕ, ◌⊎◌, inl, inr, Bool, true, false, ◌&&◌, ◌||◌, List, [], ◌∷◌, ◌++◌, refl, ap, sym, subst, ◌∙◌}
+use Rattle.std.proofs.Common.{arith, ◌≡◌, ℕ, ◌⊎◌, inl, inr, Bool, true, false, ◌&&◌, ◌||◌, List, [], ◌∷◌, ◌++◌, ap, sym, subst, ◌∙◌}
 use Rattle.std.specs.Prelude.{◌==◌}
 use Rattle.std.proofs.lemmas.Bool.{eqb-true, eq-eqb, or_cases, or_left, or_right, and_parts, and_from, false≢true, false_from_ne_true}
 use Rattle.msg_order.specs.Prelude.{Graph, IsEdge, IsChain, Path}
@@ -83,9 +83,7 @@ no_path g i j f = false_from_ne_true (path g i j) (λ t. f (to_Path g i j t))
 
 -- two tests that hold at the same places
 pub same_test : (a b : Bool) → (a ≡ true → b ≡ true) → (b ≡ true → a ≡ true) → a ≡ b
-same_test true b f h = sym (f refl)
-same_test false true f h = h refl
-same_test false false f h = refl
+same_test a b f h = grind arith
 
 -- graphs with the same edges have the same paths
 pub same_paths : (g h : Graph) → ((i j : ℕ) → IsEdge g i j → IsEdge h i j) → ((i j : ℕ) → IsEdge h i j → IsEdge g i j) → (i j : ℕ) → path g i j ≡ path h i j

@@ -32,8 +32,7 @@ abbrev pub AddsEdges : List SystemSet → ℕ → SystemSet → List SystemSet �
 AddsEdges before from to new = (i j : ℕ) → comes_before new i j ≡ (comes_before before i j || ((i == from || comes_before before i from) && (has to j || meets (set_at before j) to)))
 
 nothing : (b : Bool) → false ≡ (false || (b && (false || false)))
-nothing true = refl
-nothing false = refl
+nothing b = grind arith
 
 -- it holds past the last set
 pub adds_past : (before new : List SystemSet) (from : ℕ) (to : SystemSet) (i j : ℕ) → length new ≡ length before → length before ≤ j → ((k : ℕ) → has to k ≡ true → k < length before)

@@ -86,8 +86,7 @@ abbrev pub pairs_until : ℕ → ℕ → Graph
 pairs_until n i = flat_map (row n) (range_with_len 0 i)
 
 pub pairs_until-more : (n i : ℕ) → pairs_until n (i + 1) ≡ pairs_until n i ++ row n i
-pairs_until-more n i =
-    ap (flat_map (row n)) (range_more i) ∙ flat_map-append (row n) (range_with_len 0 i) (i ∷ []) ∙ ap (λ xs. pairs_until n i ++ xs) (append-nil (row n i))
+pairs_until-more n i = grind (arith, range_more, flat_map-append, append-nil)
 
 pub pairs-Contains : (n i j : ℕ) → Contains (pairs n) (i, j) → (i < j) × (j < n)
 pairs-Contains n i j h =

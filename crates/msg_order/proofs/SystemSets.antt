@@ -1,12 +1,13 @@
 -- Sets of systems as words of bits.
-use Rattle.std.proofs.Common.{◌≡◌, ◌≢◌, ℕ, ◌+◌, ◌*◌, ◌/◌, ◌^◌, ◌%◌, ◌<◌, ◌≤◌, Bool, true, false, not, ◌&&◌, ◌||◌, List, inl, inr, get_or, length, refl, ap, ◌∙◌, arith, w64, get_or-set_same, get_or-set_other, slice_set, sym}
+use Rattle.std.proofs.Common.{[], ◌∷◌, ◌≡◌, ◌≢◌, ℕ, ◌+◌, ◌*◌, ◌/◌, ◌^◌, ◌%◌, ◌<◌, ◌≤◌, Bool, true, false, not, ◌&&◌, ◌||◌, List, get_or, length, refl, ap, ◌∙◌, arith, w64, get_or-set_same, get_or-set_other, slice_set, sym}
 use Rattle.std.specs.Prelude.{◌==◌, bit_and, bit_or}
 use Rattle.std.specs.Int.{bit_not}
 use Rattle.std.specs.List.{list_any, range_with_len}
 use Rattle.std.proofs.lemmas.Bool.{cases_eq, and_parts, and_from, eq-eqb, ne_eqb, false≢true, false_from_ne_true}
 use Rattle.std.proofs.lemmas.List.{get_or_past}
+use Rattle.std.proofs.lemmas.Nat.Bits.{shr_and_one}
 use Rattle.msg_world.specs.Prelude.{has_bit}
-use Rattle.msg_world.proofs.Bits.{has_bit-zero, has_bit-set, has_bit-unset, has_bit-and}
+use Rattle.msg_world.proofs.Bits.{has_bit-zero, has_bit-set, has_bit-unset, has_bit-and, has_bit-or}
 use Rattle.msg_order.specs.Prelude.{SystemSet}
 use Rattle.msg_order.specs.inner.SystemSet.{has, meets, no_set}
 use Rattle.msg_order.proofs.Elements.{list_any-Contains, Contains-list_any, Contains-range, range-Contains}
@@ -31,14 +32,7 @@ same_test j k p = grind (arith, cases_eq, eq-eqb, ne_eqb, same_place)
 words-set : (words : List ℕ) (new j k : ℕ) (f : Bool → Bool → Bool) → length words ≡ 4 → k < 256 → ((b : Bool) → f false b ≡ b)
     → has_bit new (j % 64) ≡ f (j % 64 == k % 64) (has_bit (get_or words (k / 64) 0) (j % 64))
     → has_bit (get_or (slice_set words (k / 64) new) (j / 64) 0) (j % 64) ≡ f (j == k) (has_bit (get_or words (j / 64) 0) (j % 64))
-words-set words new j k f l h same is =
-    let within : k / 64 < length words = omega arith in
-    elim (cases_eq (j / 64) (k / 64)) [
-      | inl p ↦ rw (p, get_or-set_same words (k / 64) new 0 within) (is ∙ ap (λ b. f b (has_bit (get_or words (k / 64) 0) (j % 64))) (same_test j k p))
-      | inr np ↦
-          let ne : j ≢ k = λ e. np (ap (λ x. x / 64) e) in
-          rw (ne_eqb j k ne, get_or-set_other words (k / 64) (j / 64) new 0 np) (sym (same (has_bit (get_or words (j / 64) 0) (j % 64))))
-    ]
+words-set words new j k f l h same is = grind (arith, cases_eq, get_or-set_same, same_test, ne_eqb, get_or-set_other)
 
 -- `words[k / 64] |= 1 << (k % 64)`
 pub words-insert : (words : List ℕ) (j k : ℕ) → length words ≡ 4 → k < 256 →
@@ -55,6 +49,10 @@ words-remove words j k l h =
 
 pub past_or : (a b c : List ℕ) (q r : ℕ) → length a ≤ q → length b ≤ q → length c ≤ q → has_bit (get_or a q 0) r ≡ (has_bit (get_or b q 0) r || has_bit (get_or c q 0) r)
 past_or a b c q r h k l = rw (get_or_past a q 0 h, get_or_past b q 0 k, get_or_past c q 0 l, has_bit-zero r) refl
+
+-- four words of no bits
+pub no_words : (q : ℕ) → (let words : List ℕ = 0 ∷ 0 ∷ 0 ∷ 0 ∷ [] in get_or words q 0 ≡ 0)
+no_words q = grind (arith, get_or_past)
 
 -- nothing is in a set of no words
 pub has-no_set : (k : ℕ) → has no_set k ≡ false
@@ -92,3 +90,9 @@ empty_with old new i step none k h = let ne : k ≢ i = omega arith in step k �
 
 pub told_without : (old want : ℕ → Bool) (i : ℕ) → ((k : ℕ) → k < i → old k ≡ want k) → ((k : ℕ) → i ≤ k → old k ≡ false) → want i ≡ false → (k : ℕ) → k < i + 1 → old k ≡ want k
 told_without old want i told z4 no_ k h = grind (arith, cases_eq)
+
+-- what the functions of sets are proved by
+pub ruleset of_sets = (words-insert, words-remove, past_or, no_words, has_bit-zero, has_bit-or, shr_and_one, meets-found, meets-true, has-above)
+
+-- what the next set of a level is told by
+pub ruleset told = (told_with, told_without, empty_with)

@@ -6,12 +6,11 @@ use Rattle.std.proofs.lemmas.List.Elements.{Contains-get_or}
 use Rattle.std.proofs.lemmas.List.Kept.{AllPairs-from_increasing}
 use Rattle.msg_world.specs.declared.access.Access.{Access}
 use Rattle.msg_world.specs.Prelude.{Conflict}
-use Rattle.msg_order.specs.Prelude.{AreBatches, AreInConflict, BatchNumbersRise, BatchesAreUnique, ConflictingSystemsAreOrdered, FewerSystemsMakeNoCycle, Graph, IsBatchNumber, LawfulOrdersKeepPaths, Rule, SettledOrderIsUnique, SettlingMakesNoCycle, access_of, batch_at, has_joined, pairs, rules_among}
+use Rattle.msg_order.specs.Prelude.{AreBatches, AreInConflict, BatchNumbersRise, BatchesAreUnique, ConflictingSystemsAreOrdered, FewerSystemsMakeNoCycle, Graph, IsBatchNumber, Rule, SettledOrderIsUnique, access_of, batch_at, has_joined, pairs, rules_among}
 use Rattle.msg_order.proofs.Elements.{Contains-head, Contains-tail, Contains-cases, not_in_none, filter-Contains, Contains-filter}
 use Rattle.msg_order.proofs.Chains.{path_grows, number_once, number_rises}
 use Rattle.msg_order.proofs.SettledPairs.{settles_once, settles_covers, Contains-pairs}
-use Rattle.msg_order.proofs.SetPaths.{joined_in, settled_free}
-use Rattle.msg_order.proofs.TurnOrders.{kept_along}
+use Rattle.msg_order.proofs.SetPaths.{joined_in}
 
 pub fewer_make_none : FewerSystemsMakeNoCycle
 fewer_make_none rules joined fewer among free i p = free i (path_grows (rules_among fewer rules) (rules_among joined rules) (λ a b e.
@@ -19,9 +18,6 @@ fewer_make_none rules joined fewer among free i p = free i (path_grows (rules_am
     let q = filter-Contains (λ (e : ℕ × ℕ). has_joined fewer e.0 && has_joined fewer e.1) all (a, b) e in
     let both = and_parts (has_joined fewer a) (has_joined fewer b) q.1 in
     Contains-filter (λ (e : ℕ × ℕ). has_joined joined e.0 && has_joined joined e.1) all (a, b) q.0 (and_from (has_joined joined a) (has_joined joined b) (among a both.0) (among b both.1))) i i p)
-
-pub settling_makes_none : SettlingMakesNoCycle
-settling_makes_none accesses rules joined order settled free = settled_free accesses rules joined order settled free
 
 conflict_sym : (a b : Access) → Conflict a b → Conflict b a
 conflict_sym a b c = (c.0, elim c.1 [ inl x ↦ inr x | inr x ↦ inl x ])
@@ -115,6 +111,3 @@ batches_once g joined bs cs h k =
 
 pub numbers_rise : BatchNumbersRise
 numbers_rise g i j m n a b = (λ e. number_once g j m n (subst (λ k. IsBatchNumber g k m) e a) b, λ p. number_rises g i j m n p a b)
-
-pub orders_keep_paths : LawfulOrdersKeepPaths
-orders_keep_paths g joined order w = kept_along g joined order w

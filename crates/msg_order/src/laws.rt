@@ -14,21 +14,25 @@ pub fn settling_makes_no_cycle()
 {}
 
 /// Of two joined systems in conflict, the settled order leads from one to the other.
+#[tactic(auto, using(crate::proofs::Uniqueness::conflicts_ordered))]
 pub fn conflicting_systems_are_ordered()
     ensures law { ConflictingSystemsAreOrdered }
 {}
 
 /// There is a settled order, whatever the rules.
+#[tactic(auto, using(crate::proofs::Existence::settled_some))]
 pub fn settled_order_exists()
     ensures law { SettledOrderExists }
 {}
 
 /// Accesses, rules and joined systems have one settled order.
+#[tactic(auto, using(crate::proofs::Uniqueness::settled_once))]
 pub fn settled_order_is_unique()
     ensures law { SettledOrderIsUnique }
 {}
 
 /// Edges among joined systems that make no cycle have a list of batches.
+#[tactic(auto, using(crate::proofs::Existence::batches_some))]
 pub fn batches_exist()
     ensures law { BatchesExist }
 {}
@@ -39,6 +43,7 @@ pub fn batches_are_unique()
 {}
 
 /// Edges among joined systems that make no cycle have a turn order.
+#[tactic(auto, using(crate::proofs::Existence::turns_some))]
 pub fn turn_order_exists()
     ensures law { TurnOrderExists }
 {}

@@ -10,6 +10,7 @@ use msg_world::Access;
 use std::alloc::{AllocError, Allocator};
 
 /// So many systems without a path.
+#[tactic(auto, using(crate::proofs::SetPaths::none_past, crate::proofs::SetPaths::sets_push))]
 pub fn no_paths<A: Allocator>(alloc: A, systems: usize) -> Result<Vec<SystemSet, A>, AllocError>
     ensures len { IfOk result (λ before. length before.items ≡ systems) }
     ensures none_yet { IfOk result (λ before. ArePaths [] before.items) }
@@ -23,6 +24,7 @@ pub fn no_paths<A: Allocator>(alloc: A, systems: usize) -> Result<Vec<SystemSet,
 }
 
 /// Adds the edges from one system to each of these.
+#[tactic(auto, using(crate::proofs::SetPaths::adds_past))]
 pub fn add_edges(before: &mut [SystemSet], from: usize, to: &SystemSet)
     requires few { length before.old ≤ 256 }
     requires is_system { from < length before.old }
@@ -111,6 +113,7 @@ fn settle_pairs(before: &mut [SystemSet], accesses: &[Access], joined: &[bool])
 }
 
 /// The lowest system that stands before itself.
+#[tactic(auto, using(crate::proofs::SetPaths::none_past))]
 fn lowest_before_itself(before: &[SystemSet]) -> Option<u32>
     requires few { length before.now ≤ 256 }
     ensures { MatchOption result ((s : ℕ) → comes_before before.now s s ≡ false)
@@ -127,6 +130,7 @@ fn lowest_before_itself(before: &[SystemSet]) -> Option<u32>
 
 /// Adds the rules among the joined systems as edges, and gives the lowest system on a cycle of
 /// them.
+#[tactic(auto, using(crate::proofs::SetPaths::lowest_by_sets))]
 pub fn follow_rules(before: &mut [SystemSet], rules: &[Rule], joined: &[bool]) -> Option<u32>
     requires few { length before.old ≤ 256 }
     requires one_each { length joined.now ≡ length before.old }

@@ -1,3 +1,5 @@
+#![tactic(auto, using(crate::proofs::SystemSets::of_sets), unfolding(crate::specs::inner::SystemSet::has))]
+
 ghost use Rattle.std.specs.Prelude.{◌≡◌, ◌==◌, ◌||◌, ◌&&◌, not, ℕ, ◌<◌, ◌↔◌, false, IsTrue};
 
 /// A set of systems, by their numbers below 256.
@@ -62,6 +64,7 @@ impl SystemSet {
     }
 
     /// Whether no system is in it.
+    #[tactic(auto, using(crate::proofs::SystemSets::of_sets))]
     pub fn is_empty(&self) -> bool
         ensures { IsTrue result ↔ ((k : ℕ) → has self.now k ≡ false) }
     {

@@ -1,5 +1,5 @@
-use Rattle.msg_order.proofs.Uniqueness.{orders_keep_paths}
+use Rattle.msg_order.proofs.TurnOrders.{kept_along}
 use Rattle.msg_order.proofs.laws.lawful_orders_keep_paths.Goals as goal
 
 pub returns : goal.returns
-returns c = record { law = orders_keep_paths }
+returns c = record { law = kept_along }

@@ -1,5 +1,5 @@
-use Rattle.msg_order.proofs.Uniqueness.{settling_makes_none}
+use Rattle.msg_order.proofs.SetPaths.{settled_free}
 use Rattle.msg_order.proofs.laws.settling_makes_no_cycle.Goals as goal
 
 pub returns : goal.returns
-returns c = record { law = settling_makes_none }
+returns c = record { law = settled_free }

@@ -3,14 +3,8 @@ use Rattle.std.proofs.lemmas.Bool.{eqb-true, eqb-false, and_parts}
 use Rattle.std.proofs.lemmas.List.{map-append}
 use Rattle.msg_order.specs.inner.SystemSet.{has, meets}
 use Rattle.msg_order.specs.inner.Paths.{set_at}
-use Rattle.msg_order.proofs.BatchLevels.{LeadAmong, peeled_first, peeled_next, peeled_all, peeled_done, left_falls, sets_tell}
+use Rattle.msg_order.proofs.BatchLevels.{LeadAmong, peeled_next, peeled_all, peeled_done, left_falls, sets_tell}
 use Rattle.msg_order.proofs.levels.batches_of.Goals as goal
-
-pub levels-init : goal.levels-init
-levels-init _g c = record {
-  within = c.requires.within;
-  peeled = λ g h a. rw c.new-batches.ensures.items (peeled_first g (has c.args.joined.now));
-}
 
 pub returns-then-is_empty-clause-batches : goal.returns-then-is_empty-clause-batches
 returns-then-is_empty-clause-batches _g c = λ g systems h set among free.

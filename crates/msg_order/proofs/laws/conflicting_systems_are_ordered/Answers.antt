@@ -1,5 +1,0 @@
-use Rattle.msg_order.proofs.Uniqueness.{conflicts_ordered}
-use Rattle.msg_order.proofs.laws.conflicting_systems_are_ordered.Goals as goal
-
-pub returns : goal.returns
-returns c = record { law = conflicts_ordered }
