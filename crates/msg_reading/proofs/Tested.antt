@@ -22,9 +22,3 @@ fits_there n a types resources of all = record {
   types_below = λ t used. all (OfType t) (sym (uses_needs n a of (OfType t)) ∙ used);
   resources_below = λ r used. all (OfResource r) (sym (uses_needs n a of (OfResource r)) ∙ used);
 }
-
--- ops that fit the kind pass its test
-pub passes_kind : (kind : Kind) (ops : List Op) → FitKind kind ops → fits_kind kind ops ≡ true
-passes_kind Script ops fit = refl
-passes_kind Relay ops fit = ap (fits_kind Relay) fit.2
-passes_kind Tally ops fit = ap (fits_kind Tally) fit.2

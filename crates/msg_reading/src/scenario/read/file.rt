@@ -26,6 +26,7 @@ struct Sections<'a> {
 }
 
 /// The sections of a file one after another.
+#[tactic(auto, using(crate::proofs::Files::refusal_of_both))]
 pub fn read_sections(alloc: Global, value: &Value) -> Result<Scenario, Refusal>
     ensures agrees { Agrees (scenario_checks (view value.now)) (scenario_of (view value.now)) result }
 {
