@@ -1,9 +1,9 @@
 -- The whole of a scenario file.
-use Rattle.std.proofs.Common.{◌≡◌, List, [], ◌∷◌, ◌++◌, Option, Some, None, true, false, refl}
+use Rattle.std.proofs.Common.{◌≡◌, List, [], ◌∷◌, ◌++◌, Some, true, false, refl}
 use Rattle.std.specs.Prelude.{if◌then◌else◌}
+use Rattle.std.specs.Option.{option_or}
 use Rattle.serde_json.specs.Data.{Data}
 use Rattle.msg_files.specs.Prelude.{Check, first_refusal}
-use Rattle.msg_files.specs.declared.refusal.Refusal.{Refusal}
 use Rattle.msg_reading.specs.Prelude.{frames_checks, held_checks, resources_checks, rules_checks, systems_checks, types_checks}
 
 -- ---- the checks of a file from each section on
@@ -27,11 +27,11 @@ from_types d = types_checks d ++ from_resources d
 
 -- a refusal of the first, or else of the second
 pub refusal_of_both : (cs ds : List Check)
-    → first_refusal (cs ++ ds) ≡ elim (first_refusal cs) as (λ o. Option Refusal) [ None ↦ first_refusal ds | Some e ↦ Some e ]
+    → first_refusal (cs ++ ds) ≡ option_or (first_refusal cs) (first_refusal ds)
 refusal_of_both [] ds = refl
 refusal_of_both (c ∷ cs) ds =
     elim c.passes as (λ b. (if b then first_refusal (cs ++ ds) else Some c.refusal)
-    ≡ elim (if b then first_refusal cs else Some c.refusal) as (λ o. Option Refusal) [ None ↦ first_refusal ds | Some e ↦ Some e ]) [
+    ≡ option_or (if b then first_refusal cs else Some c.refusal) (first_refusal ds)) [
       | true ↦ refusal_of_both cs ds
       | false ↦ refl
     ]

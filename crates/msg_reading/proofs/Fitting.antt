@@ -4,7 +4,7 @@ use Rattle.std.proofs.lemmas.Bool.{and_parts, eqb-true, or_cases}
 use Rattle.std.proofs.lemmas.List.Elements.{All-head, All-tail, All-weaker}
 use Rattle.std.proofs.lemmas.List.Quantifiers.{position-Some}
 use Rattle.std.proofs.lemmas.Option.{same_Some}
-use Rattle.std.specs.Prelude.{All, Bool, IfSome, IsTrue, ◌||◌, codes, flat_map, if◌then◌else◌, is_some, nat_le, nat_lt, option_and_then, ℤ}
+use Rattle.std.specs.Prelude.{All, Bool, IfSome, IsTrue, ◌||◌, codes, flat_map, if◌then◌else◌, is_some, nat_le, nat_lt, option_and_then}
 use Rattle.std.specs.List.{list_any}
 use Rattle.std.specs.Option.{option_map_or}
 use Rattle.std.specs.Str.{bytes_eq}
@@ -12,10 +12,8 @@ use Rattle.serde_json.specs.Data.{Data}
 use Rattle.msg_world.specs.Prelude.{HasPart, Part, OfType, OfResource, Registry}
 use Rattle.msg_system.specs.Prelude.{is_part, job_needs, needs_any, op_parts, probe_part, program_needs, some_condition_reads, some_op_reads, some_op_writes}
 use Rattle.msg_system.specs.declared.condition.Condition.{Condition}
-use Rattle.msg_system.specs.declared.condition.Probe.{Probe}
 use Rattle.msg_system.specs.declared.op.Op.{Op}
 use Rattle.msg_system.specs.declared.op.Op.TheVariants.{Forward, Sum}
-use Rattle.msg_frames.specs.declared.frame.Frame.{Frame}
 use Rattle.msg_frames.specs.declared.place.Place.{Place}
 use Rattle.msg_files.specs.Prelude.{Text, elements, first_refusal, is_number, natural, needs, number_up_to, only_below, value_at, values_of, whole}
 use Rattle.msg_reading.specs.Prelude.{Declared, FitKind, IsClashing, IsRunnableSystem, Kind, PostsAreToTypes, Relay, Scenario, Script, SystemSpec, Tally, checks_in_turn, condition_checks, condition_of, conditions_in, each_in_turn, each_of, fits_kind, frame_of, inside_nots, join_checks, join_in, kind_in, kind_of, list_checks, name_checks, of_headed, of_its_kind, op_checks, op_of, op_with, op_with_one, op_with_two, ops_checks, ops_of, place_checks, place_of, position_of, post_of, probe_with, program_checks, resource_number, start_in, start_of, system_checks, system_object, system_of, text, type_number, with_system}

@@ -1,16 +1,12 @@
 -- Lists of a scenario file, and one step of a walk over their elements.
-use Rattle.std.proofs.Common.{◌≡◌, ℕ, ◌+◌, ◌≤◌, ◌<◌, List, [], ◌∷◌, ◌++◌, length, get_or, drop, arith, true, false, refl, sym, ap, ◌∙◌, append_assoc, append-nil, Option, Some, None, map}
+use Rattle.std.proofs.Common.{◌≡◌, ℕ, ◌+◌, ◌<◌, List, [], ◌∷◌, ◌++◌, length, get_or, drop, sym, ap, ◌∙◌, append_assoc, Option, Some, None, map}
 use Rattle.std.proofs.lemmas.List.{length-map, map-append, drop_more, drop_all}
-use Rattle.std.specs.Prelude.{flat_map, nat_le}
+use Rattle.std.specs.Prelude.{flat_map}
 use Rattle.serde_json.specs.Data.{Data}
-use Rattle.serde_json.specs.Find.{as_array}
-use Rattle.serde_json.specs.View.{view, items_view}
+use Rattle.serde_json.specs.View.{view}
 use Rattle.serde_json.specs.declared.value.Value.{Value}
-use Rattle.msg_files.specs.Prelude.{Check, all_some, elements, first_refusal, is_list, needs}
+use Rattle.msg_files.specs.Prelude.{Check, first_refusal}
 use Rattle.msg_files.specs.declared.refusal.Refusal.{Refusal}
-use Rattle.msg_files.specs.declared.refusal.Refusal.TheVariants.{Shape, TooMany}
-use Rattle.msg_reading.specs.Prelude.{each_of}
-use Rattle.msg_files.proofs.Shapes.{elements_are}
 use Rattle.msg_files.proofs.Walks.{all_some-map, first_refusal-passed, first_refusal-stands, list_of-items_of}
 use Rattle.std.proofs.lemmas.List.Folds.{list_all-map}
 

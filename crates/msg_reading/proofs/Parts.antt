@@ -1,14 +1,13 @@
 -- Lists of a scenario file by their parts.
-use Rattle.std.proofs.Common.{◌≡◌, ℕ, ◌≤◌, ◌<◌, List, [], ◌∷◌, length, get_or, take, drop, refl, sym, ap, ◌∙◌, arith, Option, Some, None, map, ◌-◌, Result, Ok, Err, ◌≢◌}
-use Rattle.std.specs.Prelude.{is_some, ◌&&◌}
+use Rattle.std.proofs.Common.{◌≡◌, ◌≤◌, ◌<◌, List, [], ◌∷◌, length, get_or, take, drop, refl, sym, ap, ◌∙◌, arith, Option, Some, map, ◌-◌}
 use Rattle.serde_json.specs.Data.{Data}
 use Rattle.serde_json.specs.Find.{as_array, as_str}
 use Rattle.serde_json.specs.View.{view, items_view}
 use Rattle.serde_json.specs.declared.value.Value.{Value}
-use Rattle.msg_files.specs.Prelude.{Agrees, Check, Text, elements, first_refusal, needs}
-use Rattle.msg_reading.specs.Prelude.{both, for_headed, for_two, is_text, of_headed, text, wrong_shape}
+use Rattle.msg_files.specs.Prelude.{Check, Text, elements, first_refusal}
+use Rattle.msg_reading.specs.Prelude.{both, for_headed, of_headed}
 use Rattle.msg_files.specs.declared.refusal.Refusal.{Refusal}
-use Rattle.msg_files.specs.declared.refusal.Refusal.TheVariants.{Shape, UnknownName}
+use Rattle.msg_files.specs.declared.refusal.Refusal.TheVariants.{Shape}
 use Rattle.msg_files.proofs.Shapes.{elements_are, range_to_end}
 use Rattle.msg_files.proofs.Steps.{Refuses}
 
@@ -33,11 +32,6 @@ first_and_rest d (x ∷ xs) v list least is =
     ∙ ap (λ ys. view v ∷ map view ys) (sym (range_to_end 1 (x ∷ xs)))
 
 -- ---- what agrees with equal checks
-
-pub Agrees_by : {A : Type 0} (cs ds : List Check) (o p : Option A) (r : Result A Refusal)
-    → first_refusal cs ≡ first_refusal ds → o ≡ p → Agrees ds p r → Agrees cs o r
-Agrees_by cs ds o p (Ok a) e f h = (e ∙ h.0, f ∙ h.1)
-Agrees_by cs ds o p (Err x) e f h = (h.0, λ m. e ∙ h.1 m)
 
 pub headed_checked : (f : Text → List Data → List Check) (d head : Data) (ps : List Data) (name : Text)
     → as_str head ≡ Some name → elements d ≡ head ∷ ps

@@ -1,5 +1,5 @@
 -- What is known of a scenario that was read.
-use Rattle.std.proofs.Common.{◌≡◌, ℕ, ◌+◌, ◌≤◌, ◌<◌, List, [], ◌∷◌, length, refl, sym, ap, ◌∙◌, Some, None, true, arith, subst}
+use Rattle.std.proofs.Common.{◌≡◌, ℕ, ◌+◌, ◌≤◌, ◌<◌, List, [], ◌∷◌, length, refl, sym, ap, ◌∙◌, Some, None, true, arith}
 use Rattle.std.proofs.lemmas.Grind.{common_steps}
 use Rattle.std.proofs.lemmas.List.Elements.{All-head, All-tail}
 use Rattle.std.proofs.lemmas.List.Quantifiers.{position-Some}
@@ -9,7 +9,7 @@ use Rattle.serde_json.specs.Data.{Data}
 use Rattle.msg_order.specs.Prelude.{IsAcyclic, NameSystemsBelow, edges_of, has_joined, rules_among}
 use Rattle.msg_order.specs.declared.rule.Rule.{Rule}
 use Rattle.msg_files.specs.Prelude.{Text, elements, first_refusal, is_list, needs}
-use Rattle.msg_reading.specs.Prelude.{Declared, IsClashing, IsRunnable, PostsAreToTypes, Scenario, all_names, both, checks_in_turn, each_of, frames_in, frames_of, held_checks, held_in, no_names, part_names, position_of, resource_checks, resource_of, resources_checks, resources_in, resources_of, root_object, rule_of, rules_in, rules_of, scenario_checks, scenario_of, system_checks, system_number, system_of, systems_checks, systems_in, systems_of, text, type_checks, type_names, type_of, types_checks, types_in, types_of, with_all, with_resource, with_system, with_type}
+use Rattle.msg_reading.specs.Prelude.{Declared, IsClashing, IsRunnable, Scenario, all_names, checks_in_turn, frames_in, frames_of, held_checks, held_in, no_names, part_names, position_of, resource_checks, resource_of, resources_checks, resources_in, resources_of, root_object, rule_of, rules_in, rules_of, scenario_checks, scenario_of, system_checks, system_number, system_of, systems_checks, systems_in, systems_of, text, type_checks, type_names, type_of, types_checks, types_in, types_of, with_all, with_resource, with_system, with_type}
 use Rattle.serde_json.specs.Find.{as_bool}
 use Rattle.msg_reading.proofs.Fitting.{NamesOf, frames_fit, systems_fit}
 use Rattle.msg_reading.proofs.Files.{from_held, from_resources, from_rules, from_systems, from_types}

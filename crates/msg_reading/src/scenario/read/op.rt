@@ -27,6 +27,7 @@ impl Element for Op {
 
     ghost denotes = { op_of };
 
+    #[tactic(auto, using(crate::proofs::Parts::headed_checked, crate::proofs::Parts::headed_denoted))]
     fn read(alloc: Global, names: &Declarations, value: &Value) -> Result<Op, Refusal> {
         let (head, parts) = head_and_parts(value)?;
         read_parts(alloc, names, head, parts)
