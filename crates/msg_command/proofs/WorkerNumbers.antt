@@ -27,10 +27,6 @@ passing_numeral ds h =
     let parts = and_parts (nat_lt 0 (length ds)) (list_all (λ c. nat_lt (digit_value c) 10) ds) h in
     (ltb-true 0 (length ds) parts.0, passing_digits ds parts.1)
 
-some_if : (b : Bool) (v : ℕ) → b ≡ true → (if b then Some v else None) ≡ Some v
-some_if true v h = refl
-some_if false v h = cc
-
 none_unless : (b : Bool) (v : ℕ) → (b ≡ true → ⊥) → (if b then Some v else None) ≡ None
 none_unless true v h = absurd (h refl)
 none_unless false v h = refl
@@ -44,22 +40,9 @@ is_named text n numeral is low high =
     let least : nat_le 1 v ≡ true = le-leb 1 v (subst (λ k. 1 ≤ k) is low) in
     let most : nat_le v 64 ≡ true = le-leb v 64 (subst (λ k. k ≤ 64) is high) in
     ap (λ k. Some k) is
-    ∙ sym (some_if _ v (and_from _ _ (numeral_passes digits numeral) (and_from _ _ least most)))
+    ∙ sym (ap (λ b. if b then Some v else None) (and_from _ _ (numeral_passes digits numeral) (and_from _ _ least most)))
 
--- a number out of that range is none
-pub is_out_of_range : (text : Text) (n : ℕ) → n ≡ digits_value 10 (without_leading_plus text)
-    → ((1 ≤ n) × (n ≤ 64) → ⊥) → None ≡ workers_in text
-is_out_of_range text n is out =
-    let digits = without_leading_plus text in
-    let v = digits_value 10 digits in
-    sym (none_unless (is_numeral digits && (nat_le 1 v && nat_le v 64)) v (λ h.
-    let parts = and_parts (nat_le 1 v) (nat_le v 64) (and_parts (is_numeral digits) (nat_le 1 v && nat_le v 64) h).1 in
-    out (subst (λ k. 1 ≤ k) (sym is) (leb-true 1 v parts.0), subst (λ k. k ≤ 64) (sym is) (leb-true v 64 parts.1))))
-
-below : (v : ℕ) → v ≤ 64 → v < 2 ^ 32
-below v h = omega (arith, h)
-
--- and neither is what isn't a numeral of a number below 2 ^ 32
+-- what isn't a numeral of a number below 2 ^ 32 is none
 pub is_no_number : (text : Text) → (IsNumeral 10 (without_leading_plus text) × (digits_value 10 (without_leading_plus text) < 2 ^ 32) → ⊥)
     → None ≡ workers_in text
 is_no_number text none =
@@ -67,4 +50,5 @@ is_no_number text none =
     let v = digits_value 10 digits in
     sym (none_unless (is_numeral digits && (nat_le 1 v && nat_le v 64)) v (λ h.
     let parts = and_parts (is_numeral digits) (nat_le 1 v && nat_le v 64) h in
-    none (passing_numeral digits parts.0, below v (leb-true v 64 (and_parts (nat_le 1 v) (nat_le v 64) parts.1).1))))
+    let few = leb-true v 64 (and_parts (nat_le 1 v) (nat_le v 64) parts.1).1 in
+    none (passing_numeral digits parts.0, omega arith)))

@@ -6,7 +6,7 @@ use Rattle.msg_world.specs.declared.record.Record.{Record}
 use Rattle.msg_world.specs.declared.record.TheConstants.{HOST}
 use Rattle.msg_world.specs.Prelude.{WorldState, after_update, by, waits, with_history}
 use Rattle.msg_system.specs.declared.op.Op.{Op}
-use Rattle.msg_system.specs.declared.op.Op.TheVariants.{Write, Batch, Read, Len, Missed, Clear, Forward, Sum, Get, Set, Add, Drain, Signal}
+use Rattle.msg_system.specs.declared.op.Op.TheVariants.{Write, Batch, Forward, Drain}
 use Rattle.msg_system.specs.Prelude.{AfterProgram, Job, Meaning, after_at_most, after_job, after_op, again_by, all_hold, next_op, one_more, took, turn}
 use Rattle.msg_frames.specs.Prelude.{Frame, ListsOnlyGrow, State, after_posts, after_turn_of, after_turns_of, before_turns, frame_in, joining, systems_in}
 use Rattle.msg_frames.proofs.SystemsStay.{joining_world}
@@ -66,17 +66,9 @@ module _ (grow : OnlyGrows Record) where
   pub op_goes_on : (op : Op) (writer : ℕ) (places : ℕ → ℕ) (w : WorldState) → WorldGoesOn w (after_op op writer places w).state
   op_goes_on (Write t v) writer places w = written_goes_on w t (by writer v ∷ [])
   op_goes_on (Batch t vs) writer places w = written_goes_on w t (map (by writer) vs)
-  op_goes_on (Read t limit) writer places w = world_stays w
-  op_goes_on (Len t) writer places w = world_stays w
-  op_goes_on (Missed t) writer places w = world_stays w
-  op_goes_on (Clear t) writer places w = world_stays w
   op_goes_on (Forward t u) writer places w = written_goes_on w u (again_by writer (took (w.histories t) (places t) None).items)
-  op_goes_on (Sum t r) writer places w = world_stays w
-  op_goes_on (Get r) writer places w = world_stays w
-  op_goes_on (Set r v) writer places w = world_stays w
-  op_goes_on (Add r v) writer places w = world_stays w
   op_goes_on (Drain t) writer places w = one_goes_on w t (clear (w.histories t)) (λ sound. (grow (w.histories t) sound).2)
-  op_goes_on Signal writer places w = world_stays w
+  op_goes_on op writer places w = world_stays w
 
   more_goes_on : (o : Option Op) (writer : ℕ) (far : AfterProgram) → WorldGoesOn far.state (one_more o writer far).state
   more_goes_on None writer far = world_stays far.state
@@ -131,10 +123,9 @@ module _ (grow : OnlyGrows Record) where
 
   pub runs_go_on : ListsOnlyGrow
   runs_go_on [] s u [] run = subst (λ (x : State). WorldGoesOn s.world x.world) (sym run) (world_stays s.world)
-  runs_go_on [] s u (log ∷ logs) run = absurd run
-  runs_go_on (frame ∷ frames) s u [] run = absurd run
   runs_go_on (frame ∷ frames) s u (log ∷ logs) run =
       let next : State = run.0 in
       world_goes_further s.world next.world u.world
       (subst (λ (x : State). WorldGoesOn s.world x.world) (sym run.1.leaves) (frame_goes_on (systems_in log) frame s))
       (runs_go_on frames next u logs run.2)
+  runs_go_on frames s u logs run = absurd run

@@ -147,13 +147,7 @@ module _ (laws : BufferLaws) where
   op_passes t (Clear u) writer ps w sound within = of_clear u t w ps sound within
   op_passes t (Forward u v) writer ps w sound within = of_read u t w _ ps None sound within (op_goes_on laws.grow (Forward u v) writer ps w t sound)
   op_passes t (Sum u r) writer ps w sound within = of_read u t w (w.histories t) ps None sound within (stays (w.histories t) sound)
-  op_passes t (Write u v) writer ps w sound within = passes_nothing (ps t) (w.histories t) _ within (op_goes_on laws.grow (Write u v) writer ps w t sound)
-  op_passes t (Batch u vs) writer ps w sound within = passes_nothing (ps t) (w.histories t) _ within (op_goes_on laws.grow (Batch u vs) writer ps w t sound)
-  op_passes t (Get r) writer ps w sound within = passes_nothing (ps t) (w.histories t) _ within (stays (w.histories t) sound)
-  op_passes t (Set r v) writer ps w sound within = passes_nothing (ps t) (w.histories t) _ within (stays (w.histories t) sound)
-  op_passes t (Add r v) writer ps w sound within = passes_nothing (ps t) (w.histories t) _ within (stays (w.histories t) sound)
-  op_passes t (Drain u) writer ps w sound within = passes_nothing (ps t) (w.histories t) _ within (op_goes_on laws.grow (Drain u) writer ps w t sound)
-  op_passes t Signal writer ps w sound within = passes_nothing (ps t) (w.histories t) _ within (stays (w.histories t) sound)
+  op_passes t op writer ps w sound within = passes_nothing (ps t) (w.histories t) _ within (op_goes_on laws.grow op writer ps w t sound)
 
   pub next_passes : (t : ℕ) (o : Option Op) (writer : ℕ) (far : AfterProgram) → IsSound (far.state.histories t) → far.places t ≤ count (far.state.histories t)
       → Passes (far.places t) (far.state.histories t) (next_moments t o writer far) ((one_more o writer far).places t) ((one_more o writer far).state.histories t)

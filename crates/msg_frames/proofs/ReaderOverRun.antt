@@ -43,13 +43,12 @@ run_tells i t [] s [] u is = record {
   rule = ap (λ (x : State). (x.members i).job.system.rule) is;
   needs = ap (λ (x : State). (x.members i).job.system.needs) is;
 }
-run_tells i t [] s (log ∷ logs) u is = absurd is
-run_tells i t (frame ∷ frames) s [] u is = absurd is
 run_tells i t (frame ∷ frames) s (log ∷ logs) u is =
     let m : State = (frame_in (systems_in log) frame s).state in
     tells_further i t s (answers_among i log.turns) (turns_moments i t (systems_in log) (before_turns frame.posts s)) m
     (answers_in i logs) (moments i t frames logs m) u (frame_tells i t frame s log is.1.tells)
     (run_tells i t frames m logs u (after_first frame frames s log logs u is))
+run_tells i t frames s logs u is = absurd is
 
 -- ---- a reader that has joined
 
@@ -123,8 +122,6 @@ module _ (laws : BufferLaws) (i t : ℕ) where
         passes = passes_nothing (place_of s i t) (s.world.histories t) (s.world.histories t) (sound.places i t below) (stays (s.world.histories t) (sound.histories t below));
         totals = sym (with_entries-none ((s.members i).totals t));
       })
-  run_reads [] s (log ∷ logs) u sound is below has = absurd is
-  run_reads (frame ∷ frames) s [] u sound is below has = absurd is
   run_reads (frame ∷ frames) s (log ∷ logs) u sound is below has =
       let b : State = before_turns frame.posts s in
       let m : State = (frame_in (systems_in log) frame s).state in
@@ -140,14 +137,13 @@ module _ (laws : BufferLaws) (i t : ℕ) where
         | comes was now is_new ↦ absurd (false≢true (sym was ∙ has))
         | waits was now same ↦ absurd (false≢true (sym was ∙ has))
       ]
+  run_reads frames s logs u sound is below has = absurd is
 
   pub run_follows : (frames : List Frame) (s : State) (logs : List Log) (u : State) → IsSoundState s → IsRun frames s logs u → t < s.types → IsTrue (has_begun u i)
       → Follows i t s (moments i t frames logs s) u
   run_follows [] s [] u sound is below has =
       let had : IsTrue (has_begun s i) = subst (λ x. IsTrue (has_begun x i)) is has in
       follows_joined i t s [] u had (run_reads [] s [] u sound is below had)
-  run_follows [] s (log ∷ logs) u sound is below has = absurd is
-  run_follows (frame ∷ frames) s [] u sound is below has = absurd is
   run_follows (frame ∷ frames) s (log ∷ logs) u sound is below has =
       let b : State = before_turns frame.posts s in
       let m : State = (frame_in (systems_in log) frame s).state in
@@ -176,6 +172,7 @@ module _ (laws : BufferLaws) (i t : ℕ) where
             (goes_further (s.world.histories t) (b.world.histories t) (m.world.histories t) goes here.passes.goes_on)
             (run_follows frames m logs u msound mrun mbelow has))
       ]
+  run_follows frames s logs u sound is below has = absurd is
 
 -- ---- what a run does for a reader
 

@@ -210,8 +210,6 @@ module _ (laws : BufferLaws) where
   missed_after : (frame : Frame) (frames : List Frame) (s m u : State) (log : Log) (logs : List Log) (i t : ℕ) → IsSoundState s → IsFrame frame s log m
       → (run : IsRun frames m logs u) → t < s.types → ReadsAll i t log m → ReadsAllInEach i t frames m logs u run → NothingDrained t s u → NoneMissed (moments i t frames logs m)
   missed_after frame [] s m u log [] i t sound is run below reads each drained = All-nil (λ m. m.entry.stretch.missed ≡ 0)
-  missed_after frame [] s m u log (l ∷ ls) i t sound is run below reads each drained = absurd run
-  missed_after frame (f ∷ fs) s m u log [] i t sound is run below reads each drained = absurd run
   missed_after frame (f ∷ fs) s m u log (l ∷ ls) i t sound is run below reads each drained =
       let v : State = run.0 in
       let mid : Between t s m u = between frame (f ∷ fs) s m u log (l ∷ ls) t sound is run below drained in
@@ -221,6 +219,7 @@ module _ (laws : BufferLaws) where
       (now_up_to_date frame s log m i t sound is below reads mid.first) next.first in
       All-append (λ x. x.entry.stretch.missed ≡ 0) ms (moments i t fs ls (frame_in (systems_in l) f m).state) here
       (subst (λ x. NoneMissed (moments i t fs ls x)) run.1.leaves (missed_after f fs m v u l ls i t mid.sound run.1 run.2 mid.below each.0 each.1 mid.rest))
+  missed_after frame frames s m u log logs i t sound is run below reads each drained = absurd run
 
   -- as the logs tell it
   told_none_missed : (frames : List Frame) (s : State) (logs : List Log) (u : State) (i t : ℕ) → IsRun frames s logs u → NoneMissed (moments i t frames logs s) → MissesNothing i t s logs

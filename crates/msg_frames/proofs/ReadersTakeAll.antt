@@ -38,19 +38,9 @@ module _ (laws : BufferLaws) (t : ℕ) where
   op_takes_all : (op : Op) (writer : ℕ) (ps : ℕ → ℕ) (w : WorldState) → IsSound (w.histories t) → ps t ≤ count (w.histories t) → IsTrue (reads_all t op)
       → (after_op op writer ps w).places t ≡ count (w.histories t)
   op_takes_all (Read u None) writer ps w sound within is = takes u ps w sound within is
-  op_takes_all (Read u (Some limit)) writer ps w sound within is = absurd (false≢true is)
   op_takes_all (Forward u v) writer ps w sound within is = takes u ps w sound within is
   op_takes_all (Sum u r) writer ps w sound within is = takes u ps w sound within is
-  op_takes_all (Write u v) writer ps w sound within is = absurd (false≢true is)
-  op_takes_all (Batch u vs) writer ps w sound within is = absurd (false≢true is)
-  op_takes_all (Len u) writer ps w sound within is = absurd (false≢true is)
-  op_takes_all (Missed u) writer ps w sound within is = absurd (false≢true is)
-  op_takes_all (Clear u) writer ps w sound within is = absurd (false≢true is)
-  op_takes_all (Get r) writer ps w sound within is = absurd (false≢true is)
-  op_takes_all (Set r v) writer ps w sound within is = absurd (false≢true is)
-  op_takes_all (Add r v) writer ps w sound within is = absurd (false≢true is)
-  op_takes_all (Drain u) writer ps w sound within is = absurd (false≢true is)
-  op_takes_all Signal writer ps w sound within is = absurd (false≢true is)
+  op_takes_all op writer ps w sound within is = cc
 
   -- so it does by one op more, or it did before
   more_takes : (o : Option Op) (m : Meaning) (far : AfterProgram) (c : ℕ) → next_op m far.replies ≡ o → IsSound (far.state.histories t)

@@ -88,8 +88,6 @@ record Settled (frames : List Frame) (s : State) (logs : List Log) (u : State) :
 
 settles : TurnOrderIsLawful → (frames : List Frame) (s : State) (logs : List Log) (u : State) → IsMixedRun frames s logs u → Settled frames s logs u
 settles lawful [] s [] u x = record { settled = []; is_run = x; alike = λ i. refl }
-settles lawful [] s (log ∷ logs) u x = absurd x
-settles lawful (frame ∷ frames) s [] u x = absurd x
 settles lawful (frame ∷ frames) s (log ∷ logs) u x =
     let rest = settles lawful frames x.0 logs u x.2 in
     elim x.1 [
@@ -106,6 +104,7 @@ settles lawful (frame ∷ frames) s (log ∷ logs) u x =
             ∙ ap (λ (xs : List (List Reply)). flat_map (λ (turn : Turn). if turn.system == i then answers turn.outcome else []) replay.1.settled.turns ++ xs) (rest.alike i);
       }
     ]
+settles lawful frames s logs u x = absurd x
 
 pub replays_tell : TurnOrderIsLawful → RunsAreComplete → ReplaysTellACompleteRun
 replays_tell lawful complete frames s logs u sound x =

@@ -107,12 +107,7 @@ same_is : (p q : Part) → same_part p q ≡ true → p ≡ q
 same_is (OfType t) (OfType u) h = ap OfType (eqb-true t u h)
 same_is (OfResource r) (OfResource s) h = ap OfResource (eqb-true r s h)
 same_is Registry Registry h = refl
-same_is (OfType t) (OfResource s) h = absurd (false≢true h)
-same_is (OfType t) Registry h = absurd (false≢true h)
-same_is (OfResource r) (OfType u) h = absurd (false≢true h)
-same_is (OfResource r) Registry h = absurd (false≢true h)
-same_is Registry (OfType u) h = absurd (false≢true h)
-same_is Registry (OfResource s) h = absurd (false≢true h)
+same_is p q h = cc
 
 part_passes : (test : Part → Bool) (o : Option Part) (p : Part) → passes test o ≡ true → is_part o p ≡ true → test p ≡ true
 part_passes test None p t h = absurd (false≢true h)

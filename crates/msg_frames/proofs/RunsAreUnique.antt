@@ -99,10 +99,9 @@ module _ (one : SettledOrderIsUnique) (turns : TurnOrderIsUnique) where
   pub one_run : RunsAreUnique
   one_run [] s u v [] [] x y = (refl, x ∙ sym y)
   one_run [] s u v [] (other ∷ others) x y = absurd y
-  one_run [] s u v (log ∷ logs) others x y = absurd x
-  one_run (frame ∷ frames) s u v [] others x y = absurd x
   one_run (frame ∷ frames) s u v (log ∷ logs) [] x y = absurd y
   one_run (frame ∷ frames) s u v (log ∷ logs) (other ∷ others) x y =
       let here = one_frame frame s x.0 y.0 log other x.1 y.1 in
       let rest = one_run frames x.0 u v logs others x.2 (subst (λ m. IsRun frames m others v) (sym here.1) y.2) in
       (ap (λ l. l ∷ logs) here.0 ∙ ap (λ ls. other ∷ ls) rest.0, rest.1)
+  one_run frames s u v logs others x y = absurd x

@@ -8,7 +8,7 @@ use Rattle.msg_world.specs.declared.record.Record.{Record}
 use Rattle.msg_world.specs.declared.record.TheConstants.{HOST}
 use Rattle.msg_world.specs.Prelude.{WorldState, after_update, by, waits, with_history}
 use Rattle.msg_system.specs.declared.op.Op.{Op}
-use Rattle.msg_system.specs.declared.op.Op.TheVariants.{Write, Batch, Read, Len, Missed, Clear, Forward, Sum, Get, Set, Add, Drain, Signal}
+use Rattle.msg_system.specs.declared.op.Op.TheVariants.{Write, Batch, Forward, Drain}
 use Rattle.msg_system.specs.Prelude.{AfterProgram, Job, Meaning, after_at_most, after_job, after_op, again_by, all_hold, next_op, one_more, took, turn}
 use Rattle.msg_frames.specs.Entries as entries
 use Rattle.msg_frames.specs.Prelude.{Moment, State, after_posts, after_turn_of, after_turns_of, first_moments, job_moments, next_moments, turn_moments, turns_moments}
@@ -72,17 +72,9 @@ module _ (k p t : ℕ) where
   op_recent : (op : Op) (writer : ℕ) (places : ℕ → ℕ) (w : WorldState) → InWorld w → InWorld (after_op op writer places w).state
   op_recent (Write u v) writer places w = written_recent w u (by writer v ∷ [])
   op_recent (Batch u vs) writer places w = written_recent w u (map (by writer) vs)
-  op_recent (Read u limit) writer places w = λ recent. recent
-  op_recent (Len u) writer places w = λ recent. recent
-  op_recent (Missed u) writer places w = λ recent. recent
-  op_recent (Clear u) writer places w = λ recent. recent
   op_recent (Forward u v) writer places w = written_recent w v (again_by writer (took (w.histories u) (places u) None).items)
-  op_recent (Sum u r) writer places w = λ recent. recent
-  op_recent (Get r) writer places w = λ recent. recent
-  op_recent (Set r v) writer places w = λ recent. recent
-  op_recent (Add r v) writer places w = λ recent. recent
   op_recent (Drain u) writer places w = one_recent w u (clear (w.histories u)) (λ recent. recent)
-  op_recent Signal writer places w = λ recent. recent
+  op_recent op writer places w = λ recent. recent
 
   -- ---- turns, with their moments
 

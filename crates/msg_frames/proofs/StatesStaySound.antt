@@ -106,6 +106,5 @@ module _ (laws : BufferLaws) where
 
   pub run_sound : (frames : List Frame) (s : State) (logs : List Log) (u : State) → IsSoundState s → IsRun frames s logs u → IsSoundState u
   run_sound [] s [] u sound is = subst IsSoundState (sym is) sound
-  run_sound [] s (log ∷ logs) u sound is = absurd is
-  run_sound (frame ∷ frames) s [] u sound is = absurd is
   run_sound (frame ∷ frames) s (log ∷ logs) u sound is = run_sound frames is.0 logs u (frame_sound frame s log is.0 sound is.1) is.2
+  run_sound frames s logs u sound is = absurd is

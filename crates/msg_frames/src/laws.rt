@@ -28,6 +28,7 @@ use msg_world::Record;
 
 /// Turns keep the systems: what they need, where they start, their conditions, and the rules of
 /// their order. Only what they do next, places, accounts and the world change.
+#[tactic(auto, using(crate::proofs::SystemsStay::turns_keep))]
 pub fn turns_keep_the_systems()
     ensures law { TurnsKeepSystems }
 {}
@@ -38,6 +39,7 @@ pub fn frames_keep_the_systems()
 {}
 
 /// The same systems have the same accesses, and after as many frames the same of them have joined.
+#[tactic(auto, using(crate::proofs::SystemsStay::same_accesses))]
 pub fn same_systems_have_same_accesses()
     ensures law { SameSystemsHaveSameAccesses }
 {}
@@ -60,6 +62,7 @@ pub fn batches_run_side_by_side()
 }
 
 /// Batch after batch, each side by side, gives what one turn after the other gives.
+#[tactic(auto, using(crate::proofs::BatchesSideBySide::batch_by_batch))]
 pub fn frames_run_by_batches()
     ensures law { FramesRunByBatches }
 {
@@ -68,6 +71,7 @@ pub fn frames_run_by_batches()
 
 /// Two lawful orders of the same turns leave the same state, and each system's turn comes out
 /// alike.
+#[tactic(auto, using(crate::proofs::LawfulOrdersAgree::orders_agree))]
 pub fn lawful_orders_agree()
     ensures law { LawfulOrdersAgree }
 {
@@ -92,6 +96,7 @@ pub fn frames_are_unique()
 }
 
 /// Frames one after the other have one list of logs, and leave one state.
+#[tactic(auto, using(crate::proofs::RunsAreUnique::one_run))]
 pub fn runs_are_unique()
     ensures law { RunsAreUnique }
 {
@@ -122,6 +127,7 @@ pub fn frames_agree_in_lawful_orders()
 }
 
 /// Over a run each type's list of messages only grows.
+#[tactic(auto, using(crate::proofs::HistoriesGrow::runs_go_on))]
 pub fn lists_only_grow()
     ensures law { ListsOnlyGrow }
 {

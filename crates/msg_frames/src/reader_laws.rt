@@ -16,6 +16,7 @@ pub fn states_stay_sound()
 }
 
 /// A state before any frame is sound, where its systems are new ones over a sound world.
+#[tactic(auto, using(crate::proofs::FirstStatesAreSound::first_is_sound))]
 pub fn first_states_are_sound()
     ensures law { FirstIsSound }
 {}

@@ -1,5 +1,5 @@
 -- The conditions of a scenario file.
-use Rattle.std.proofs.Common.{◌≡◌, ℕ, suc, ◌+◌, ◌-◌, ◌≤◌, ◌<◌, List, [], ◌∷◌, length, refl, sym, ap, ◌∙◌, arith, Option, Some, None, map}
+use Rattle.std.proofs.Common.{◌≡◌, ℕ, suc, ◌+◌, ◌-◌, ◌≤◌, ◌<◌, List, ◌∷◌, length, refl, sym, ap, ◌∙◌, arith, Option, Some, None, map}
 use Rattle.serde_json.specs.Data.{Data}
 use Rattle.serde_json.specs.View.{view}
 use Rattle.serde_json.specs.declared.value.Value.{Value}
@@ -10,32 +10,29 @@ use Rattle.msg_files.specs.declared.refusal.Refusal.TheVariants.{Shape}
 -- no probe has more than two parts
 pub probe_of_many : (names : Declared) (nots : ℕ) (head : Text) (xs : List Value) → 3 ≤ length xs
     → first_refusal (probe_checks names nots head (map view xs)) ≡ Some Shape
-probe_of_many names nots head [] many = absurd (omega (arith, many))
-probe_of_many names nots head (x ∷ []) many = absurd (omega (arith, many))
-probe_of_many names nots head (x ∷ y ∷ []) many = absurd (omega (arith, many))
 probe_of_many names nots head (x ∷ y ∷ z ∷ rest) many = refl
+probe_of_many names nots head xs many = absurd (omega (arith, many))
 
 -- so many `not`s were seen round this value, of `most` that are looked for
 pub record NotsSeen (most : ℕ) (d : Data) (seen : ℕ) (inside : Data) : Type 0 where
   pub round : nots_round most d ≡ seen + nots_round (most - seen) inside
   pub inner : inside_nots most d ≡ inside_nots (most - seen) inside
 
-pub NotsSeen-start : (most : ℕ) (d : Data) → NotsSeen most d 0 d
-NotsSeen-start most d =
-    let none : most - 0 ≡ most = omega arith in record { round = rw none (omega arith); inner = rw none refl }
-
 -- one `not` more that is looked for, by what is in it
-round_by : (n : ℕ) (d : Data) {o : Option Data} → in_not d ≡ o → nots_round (suc n) d ≡ elim o as (λ x. ℕ) [ None ↦ 0 | Some e ↦ nots_round n e + 1 ]
+round_by : (n : ℕ) (d : Data) {o : Option Data} → in_not d ≡ o
+    → nots_round (suc n) d ≡ elim o as (λ x. ℕ) [ None ↦ 0 | Some e ↦ nots_round n e + 1 ]
 round_by n d is = ap (λ o. elim o as (λ x. ℕ) [ None ↦ 0 | Some e ↦ nots_round n e + 1 ]) is
 
-inside_by : (n : ℕ) (d : Data) {o : Option Data} → in_not d ≡ o → inside_nots (suc n) d ≡ elim o as (λ x. Data) [ None ↦ d | Some e ↦ inside_nots n e ]
+inside_by : (n : ℕ) (d : Data) {o : Option Data} → in_not d ≡ o
+    → inside_nots (suc n) d ≡ elim o as (λ x. Data) [ None ↦ d | Some e ↦ inside_nots n e ]
 inside_by n d is = ap (λ o. elim o as (λ x. Data) [ None ↦ d | Some e ↦ inside_nots n e ]) is
 
 module _ {most seen : ℕ} {d inside : Data} (so_far : NotsSeen most d seen inside) where
   pub NotsSeen-more : {inner : Data} → seen < most → in_not inside ≡ Some inner → NotsSeen most d (seen + 1) inner
   NotsSeen-more {inner} lt is =
       let left : most - seen ≡ suc (most - (seen + 1)) = omega arith in
-      let deeper : nots_round (most - seen) inside ≡ nots_round (most - (seen + 1)) inner + 1 = rw left (round_by _ inside is) in
+      let deeper : nots_round (most - seen) inside ≡ nots_round (most - (seen + 1)) inner + 1
+      = rw left (round_by _ inside is) in
       record { round = omega (arith, so_far.round, deeper); inner = so_far.inner ∙ rw left (inside_by _ inside is) }
 
   pub NotsSeen-end : seen < most → in_not inside ≡ None → (seen ≡ nots_round most d) × (inside ≡ inside_nots most d)

@@ -1,10 +1,10 @@
 -- The whole of a scenario file.
-use Rattle.std.proofs.Common.{◌≡◌, List, ◌++◌, Option, None, Result, Ok, Err}
+use Rattle.std.proofs.Common.{◌≡◌, List, [], ◌∷◌, ◌++◌, Some, true, false, refl}
+use Rattle.std.specs.Prelude.{if◌then◌else◌}
+use Rattle.std.specs.Option.{option_or}
 use Rattle.serde_json.specs.Data.{Data}
-use Rattle.msg_files.specs.Prelude.{Agrees, Check, first_refusal}
-use Rattle.msg_files.specs.declared.refusal.Refusal.{Refusal}
-use Rattle.msg_files.proofs.Steps.{also, goes_on}
-use Rattle.msg_reading.specs.Prelude.{frames_checks, held_checks, resources_checks, rules_checks, systems_checks, types_checks}
+use Rattle.msg_files.specs.Prelude.{Check, first_refusal}
+use Rattle.msg_reading.specs.Prelude.{frames_checks, held_checks, resources_checks, rules_checks, systems_checks}
 
 -- ---- the checks of a file from each section on
 
@@ -20,8 +20,15 @@ from_held d = held_checks d ++ from_systems d
 abbrev pub from_resources : Data → List Check
 from_resources d = resources_checks d ++ from_held d
 
--- ---- checks that passed, before those that a result agrees with
+-- ---- checks one after another
 
-pub agrees_after : {A : Type 0} (cs ds : List Check) (o : Option A) (r : Result A Refusal) → first_refusal cs ≡ None → Agrees ds o r → Agrees (cs ++ ds) o r
-agrees_after cs ds o (Ok a) passed h = (also cs ds passed h.0, h.1)
-agrees_after cs ds o (Err e) passed h = goes_on cs ds e passed h
+-- a refusal of the first, or else of the second
+pub refusal_of_both : (cs ds : List Check)
+    → first_refusal (cs ++ ds) ≡ option_or (first_refusal cs) (first_refusal ds)
+refusal_of_both [] ds = refl
+refusal_of_both (c ∷ cs) ds =
+    elim c.passes as (λ b. (if b then first_refusal (cs ++ ds) else Some c.refusal)
+    ≡ option_or (if b then first_refusal cs else Some c.refusal) (first_refusal ds)) [
+      | true ↦ refusal_of_both cs ds
+      | false ↦ refl
+    ]

@@ -4,7 +4,7 @@ use Rattle.std.proofs.lemmas.Bool.{and_parts, eqb-true, or_cases}
 use Rattle.std.proofs.lemmas.List.Elements.{All-head, All-tail, All-weaker}
 use Rattle.std.proofs.lemmas.List.Quantifiers.{position-Some}
 use Rattle.std.proofs.lemmas.Option.{same_Some}
-use Rattle.std.specs.Prelude.{All, Bool, IfSome, IsTrue, ◌||◌, codes, flat_map, if◌then◌else◌, is_some, nat_le, nat_lt, option_and_then, ℤ}
+use Rattle.std.specs.Prelude.{All, Bool, IfSome, IsTrue, ◌||◌, codes, flat_map, if◌then◌else◌, is_some, nat_le, nat_lt, option_and_then}
 use Rattle.std.specs.List.{list_any}
 use Rattle.std.specs.Option.{option_map_or}
 use Rattle.std.specs.Str.{bytes_eq}
@@ -12,10 +12,8 @@ use Rattle.serde_json.specs.Data.{Data}
 use Rattle.msg_world.specs.Prelude.{HasPart, Part, OfType, OfResource, Registry}
 use Rattle.msg_system.specs.Prelude.{is_part, job_needs, needs_any, op_parts, probe_part, program_needs, some_condition_reads, some_op_reads, some_op_writes}
 use Rattle.msg_system.specs.declared.condition.Condition.{Condition}
-use Rattle.msg_system.specs.declared.condition.Probe.{Probe}
 use Rattle.msg_system.specs.declared.op.Op.{Op}
 use Rattle.msg_system.specs.declared.op.Op.TheVariants.{Forward, Sum}
-use Rattle.msg_frames.specs.declared.frame.Frame.{Frame}
 use Rattle.msg_frames.specs.declared.place.Place.{Place}
 use Rattle.msg_files.specs.Prelude.{Text, elements, first_refusal, is_number, natural, needs, number_up_to, only_below, value_at, values_of, whole}
 use Rattle.msg_reading.specs.Prelude.{Declared, FitKind, IsClashing, IsRunnableSystem, Kind, PostsAreToTypes, Relay, Scenario, Script, SystemSpec, Tally, checks_in_turn, condition_checks, condition_of, conditions_in, each_in_turn, each_of, fits_kind, frame_of, inside_nots, join_checks, join_in, kind_in, kind_of, list_checks, name_checks, of_headed, of_its_kind, op_checks, op_of, op_with, op_with_one, op_with_two, ops_checks, ops_of, place_checks, place_of, position_of, post_of, probe_with, program_checks, resource_number, start_in, start_of, system_checks, system_object, system_of, text, type_number, with_system}
@@ -59,22 +57,28 @@ module _ (s : Scenario) where
   job_fits : (ops : List Op) (cs : List Condition) → All OpFits ops → All ConditionFits cs
       → (p : Part) → IsTrue (needs_any (job_needs ops cs) p) → Has p
   job_fits ops cs ops_fit cs_fit p h = elim (or_cases ((job_needs ops cs).reads p) (some_op_writes ops p) h) [
-    | inl reads ↦ elim (or_cases ((program_needs ops).reads p) (some_condition_reads cs p) (and_parts ((program_needs ops).reads p || some_condition_reads cs p) _ reads).0) [
-      | inl read ↦ some_there (λ op. (op_parts op).read) ops p (All-weaker OpFits (λ op. IfSome (op_parts op).read Has) (λ op fits. fits.0) ops ops_fit)
-          (and_parts (some_op_reads ops p) _ read).0
-      | inr asked ↦ some_there (λ c. Some (probe_part c.probe)) cs p cs_fit asked
-    ]
-    | inr written ↦ some_there (λ op. (op_parts op).written) ops p (All-weaker OpFits (λ op. IfSome (op_parts op).written Has) (λ op fits. fits.1) ops ops_fit) written
+    | inl reads ↦ elim (or_cases ((program_needs ops).reads p) (some_condition_reads cs p)
+        (and_parts ((program_needs ops).reads p || some_condition_reads cs p) _ reads).0) [
+          | inl read ↦ some_there (λ op. (op_parts op).read) ops p
+              (All-weaker OpFits (λ op. IfSome (op_parts op).read Has) (λ op fits. fits.0) ops ops_fit)
+              (and_parts (some_op_reads ops p) _ read).0
+          | inr asked ↦ some_there (λ c. Some (probe_part c.probe)) cs p cs_fit asked
+        ]
+    | inr written ↦ some_there (λ op. (op_parts op).written) ops p
+        (All-weaker OpFits (λ op. IfSome (op_parts op).written Has) (λ op fits. fits.1) ops ops_fit) written
   ]
 
 -- ---- ops and conditions
 
 module _ (s : Scenario) (names : Declared) (of : NamesOf s names) where
   has_type : (d : Data) → Holds (λ t. t < length s.types) (type_number names (text d))
-  has_type d t h = subst (λ n. t < n) of.types (position-Some (bytes_eq (text d)) names.types t [] (below_there (position_of names.types (text d)) 64 t h)).0
+  has_type d t h = subst (λ n. t < n) of.types
+      (position-Some (bytes_eq (text d)) names.types t [] (below_there (position_of names.types (text d)) 64 t h)).0
 
   has_resource : (d : Data) → Holds (λ r. r < length s.resources) (resource_number names (text d))
-  has_resource d r h = subst (λ n. r < n) of.resources (position-Some (bytes_eq (text d)) names.resources r [] (below_there (position_of names.resources (text d)) 64 r h)).0
+  has_resource d r h = subst (λ n. r < n) of.resources
+      (position-Some (bytes_eq (text d)) names.resources r []
+      (below_there (position_of names.resources (text d)) 64 r h)).0
 
   op_with_one_fits : (head : Text) (d : Data) → Holds (OpFits s) (op_with_one names head d)
   op_with_one_fits head d =
@@ -83,23 +87,29 @@ module _ (s : Scenario) (names : Declared) (of : NamesOf s names) where
       (choice _ (bytes_eq head (codes "len")) _ _ (in_map _ _ type (λ t is. (has_type d t is, tt)))
       (choice _ (bytes_eq head (codes "missed")) _ _ (in_map _ _ type (λ t is. (has_type d t is, tt)))
       (choice _ (bytes_eq head (codes "clear")) _ _ (in_map _ _ type (λ t is. (has_type d t is, tt)))
-      (choice _ (bytes_eq head (codes "get")) _ _ (in_map _ _ (resource_number names (text d)) (λ r is. (has_resource d r is, tt)))
+      (choice _ (bytes_eq head (codes "get")) _ _
+      (in_map _ _ (resource_number names (text d)) (λ r is. (has_resource d r is, tt)))
       (choice _ (bytes_eq head (codes "drain")) _ _ (in_map _ _ type (λ t is. (tt, has_type d t is))) (λ op h. cc))))))
 
   op_with_two_fits : (head : Text) (d e : Data) → Holds (OpFits s) (op_with_two names head d e)
   op_with_two_fits head d e =
       let type = type_number names (text d) in
       let resource = resource_number names (text d) in
+      let of_resource = has_resource d in
       choice _ (bytes_eq head (codes "write")) _ _ (in_both _ _ type (whole e) (λ t v is _. (tt, has_type d t is)))
-      (choice _ (bytes_eq head (codes "batch")) _ _ (in_both _ _ type (values_of e) (λ t vs is _. (tt, has_type d t is)))
+      (choice _ (bytes_eq head (codes "batch")) _ _ (in_both _ _ type (values_of e) (λ t v is _. (tt, has_type d t is)))
       (choice _ (bytes_eq head (codes "read")) _ _ (in_both _ _ type (natural e) (λ t k is _. (has_type d t is, tt)))
-      (choice _ (bytes_eq head (codes "forward")) _ _ (in_both _ _ type (type_number names (text e)) (λ t u is at. (has_type d t is, has_type e u at)))
-      (choice _ (bytes_eq head (codes "sum")) _ _ (in_both _ _ type (resource_number names (text e)) (λ t r is at. (has_type d t is, has_resource e r at)))
-      (choice _ (bytes_eq head (codes "set")) _ _ (in_both _ _ resource (whole e) (λ r v is _. (tt, has_resource d r is)))
-      (choice _ (bytes_eq head (codes "add")) _ _ (in_both _ _ resource (whole e) (λ r v is _. (tt, has_resource d r is))) (λ op h. cc)))))))
+      (choice _ (bytes_eq head (codes "forward")) _ _
+      (in_both _ _ type (type_number names (text e)) (λ t u is at. (has_type d t is, has_type e u at)))
+      (choice _ (bytes_eq head (codes "sum")) _ _
+      (in_both _ _ type (resource_number names (text e)) (λ t r is at. (has_type d t is, has_resource e r at)))
+      (choice _ (bytes_eq head (codes "set")) _ _ (in_both _ _ resource (whole e) (λ r v is _. (tt, of_resource r is)))
+      (choice _ (bytes_eq head (codes "add")) _ _ (in_both _ _ resource (whole e) (λ r v is _. (tt, of_resource r is)))
+      (λ op h. cc)))))))
 
   op_with_fits : (head : Text) (ds : List Data) → Holds (OpFits s) (op_with names head ds)
-  op_with_fits head [] = choice _ (bytes_eq head (codes "signal")) _ _ (λ op is. rw (← same_Some _ op is) (tt, tt)) (λ op h. cc)
+  op_with_fits head [] = choice _ (bytes_eq head (codes "signal")) _ _ (λ op is. rw (← same_Some _ op is) (tt, tt))
+      (λ op h. cc)
   op_with_fits head (d ∷ []) = op_with_one_fits head d
   op_with_fits head (d ∷ e ∷ []) = op_with_two_fits head d e
   op_with_fits head (d ∷ e ∷ f ∷ rest) = λ op h. cc
@@ -108,7 +118,8 @@ module _ (s : Scenario) (names : Declared) (of : NamesOf s names) where
   op_fits d = in_headed _ (op_with names) (elements d) op_with_fits
 
   probe_fits : (head : Text) (ds : List Data) → Holds (λ probe. Has s (probe_part probe)) (probe_with names head ds)
-  probe_fits head (d ∷ []) = choice _ (bytes_eq head (codes "on_message")) _ _ (in_map _ _ (type_number names (text d)) (has_type d)) (λ p h. cc)
+  probe_fits head (d ∷ []) = choice _ (bytes_eq head (codes "on_message")) _ _
+      (in_map _ _ (type_number names (text d)) (has_type d)) (λ p h. cc)
   probe_fits head (d ∷ e ∷ []) = choice _ (bytes_eq head (codes "resource_equals")) _ _
       (in_both _ _ (resource_number names (text d)) (whole e) (λ r v is _. has_resource d r is)) (λ p h. cc)
   probe_fits head ds = λ p h. cc
@@ -120,10 +131,12 @@ module _ (s : Scenario) (names : Declared) (of : NamesOf s names) where
   -- ---- posts
 
   post_fits : (d : Data) → Holds (λ post. post.0 < length s.types) (post_of names d)
-  post_fits d = in_two _ _ (elements d) (λ name value. in_both _ _ (type_number names (text name)) (whole value) (λ t v is _. has_type name t is))
+  post_fits d = in_two _ _ (elements d) (λ name value.
+      in_both _ _ (type_number names (text name)) (whole value) (λ t v is _. has_type name t is))
 
   frame_fits : (d : Data) → Holds (PostsAreToTypes s) (frame_of names d)
-  frame_fits d = in_map _ _ (each_of (post_of names) d) (λ posts is. (in_each (λ p. p.0 < length s.types) (post_of names) post_fits (elements d) posts is).0)
+  frame_fits d = in_map _ _ (each_of (post_of names) d)
+      (λ posts is. (in_each (λ p. p.0 < length s.types) (post_of names) post_fits (elements d) posts is).0)
 
   pub frames_fit : (d : Data) → Holds (All (PostsAreToTypes s)) (each_of (frame_of names) d)
   frames_fit d frames is = (in_each (PostsAreToTypes s) (frame_of names) frame_fits (elements d) frames is).0
@@ -136,15 +149,16 @@ kind_fits Relay (Forward t u ∷ []) h = (t, u, refl)
 kind_fits Tally (Sum t r ∷ []) h = (t, r, refl)
 kind_fits kind ops h = cc
 
-join_there : (n : ℕ) (b : Bool) → nat_lt n 10001 ≡ b → option_map_or (nat_le 1) (if b then Some n else None) false ≡ true
-    → (1 ≤ n) × (n ≤ 10000)
+join_there : (n : ℕ) (b : Bool) → nat_lt n 10001 ≡ b
+    → option_map_or (nat_le 1) (if b then Some n else None) false ≡ true → (1 ≤ n) × (n ≤ 10000)
 join_there n true below h = let least : nat_le 1 n ≡ true = h in (grind (arith, least), grind (arith, below))
 join_there n false below h = cc
 
 joins_fit : (d : Data) (n : ℕ) → first_refusal (join_checks d) ≡ None → natural d ≡ Some n → (1 ≤ n) × (n ≤ 10000)
 joins_fit d n passed is =
     let in_range = option_map_or (nat_le 1) (number_up_to 10000 d) false in
-    let range = (first_passes in_range BadNumber [] (first_passes (is_number d) Shape (needs in_range BadNumber ∷ []) passed).1).0 in
+    let range = (first_passes in_range BadNumber []
+    (first_passes (is_number d) Shape (needs in_range BadNumber ∷ []) passed).1).0 in
     join_there n (nat_lt n 10001) refl
     (ap (λ o. option_map_or (nat_le 1) (option_and_then (only_below 10001) o) false) (sym is) ∙ range)
 
@@ -154,8 +168,8 @@ joins_fit d n passed is =
 abbrev pub SystemFits : Scenario → SystemSpec → Type 0
 SystemFits s x = ¬ IsClashing x → IsRunnableSystem s x
 
-system_fits : (s : Scenario) (names : Declared) (d : Data) → NamesOf s names → first_refusal (system_checks names d) ≡ None
-    → Holds (SystemFits s) (system_of names d)
+system_fits : (s : Scenario) (names : Declared) (d : Data) → NamesOf s names
+    → first_refusal (system_checks names d) ≡ None → Holds (SystemFits s) (system_of names d)
 system_fits s names d of passed =
     let name = name_checks names (value_at (codes "name") d) in
     let last = needs (is_some (start_of (start_in d))) Shape ∷ [] in
@@ -163,18 +177,22 @@ system_fits s names d of passed =
     let program = (both_pass name (program_checks names d)
     (both_pass (system_object d) (name ++ program_checks names d) passed).1).1 in
     let parts = both_pass (ops_checks names d) (place_checks names d ++ last)
-    (first_passes (is_some (kind_of (kind_in d))) Shape (ops_checks names d ++ (place_checks names d ++ last)) program).1 in
+    (first_passes (is_some (kind_of (kind_in d))) Shape
+    (ops_checks names d ++ (place_checks names d ++ last)) program).1 in
     let listed = both_pass list (needs (of_its_kind names d) Shape ∷ []) parts.0 in
     let joins = (both_pass (list_checks 8 (condition_checks names) (conditions_in d)) (join_checks (join_in d))
     (both_pass (place_checks names d) last parts.1).0).1 in
-    let few = passed_length (value_at (codes "ops") d) 64 (flat_map (op_checks names) (elements (value_at (codes "ops") d))) listed.0 in
+    let few = passed_length (value_at (codes "ops") d) 64
+    (flat_map (op_checks names) (elements (value_at (codes "ops") d))) listed.0 in
     in_then _ _ (kind_of (kind_in d)) (λ kind k. in_then _ _ (ops_of names d) (λ ops o.
     let fit = in_each (OpFits s) (op_of names) (op_fits s names of) (elements (value_at (codes "ops") d)) ops o in
     let many = fit.1 in
     let as_kind : fits_kind kind ops ≡ true = rw (k, o) at (first_passes (of_its_kind names d) Shape [] listed.1).0 in
     in_both _ _ (place_of names d) (start_of (start_in d)) (λ place start p _ none.
-    let placed = in_both (λ (y : Place). All (ConditionFits s) y.conditions × ((1 ≤ y.join) × (y.join ≤ 10000))) _ (each_of (condition_of names) (conditions_in d)) (natural (join_in d))
-    (λ conditions join c j. ((in_each (ConditionFits s) (condition_of names) (condition_fits s names of) (elements (conditions_in d)) conditions c).0, joins_fit (join_in d) join joins j)) place p in
+    let placed = in_both (λ (y : Place). All (ConditionFits s) y.conditions × ((1 ≤ y.join) × (y.join ≤ 10000))) _
+    (each_of (condition_of names) (conditions_in d)) (natural (join_in d)) (λ conditions join c j.
+    let all = in_each (ConditionFits s) (condition_of names) (condition_fits s names of) (elements (conditions_in d)) in
+    ((all conditions c).0, joins_fit (join_in d) join joins j)) place p in
     record {
       few_ops = omega (arith, few, many);
       fit_kind = kind_fits kind ops as_kind;

@@ -1,17 +1,14 @@
 -- Lists of a scenario file, and one step of a walk over their elements.
-use Rattle.std.proofs.Common.{◌≡◌, ℕ, ◌+◌, ◌≤◌, ◌<◌, List, [], ◌∷◌, ◌++◌, length, get_or, drop, arith, true, false, refl, sym, ap, ◌∙◌, append_assoc, append-nil, Option, Some, None, map}
+use Rattle.std.proofs.Common.{◌≡◌, ℕ, ◌+◌, ◌<◌, List, [], ◌∷◌, ◌++◌, length, get_or, drop, sym, ap, ◌∙◌, append_assoc, Option, Some, None, map}
 use Rattle.std.proofs.lemmas.List.{length-map, map-append, drop_more, drop_all}
-use Rattle.std.specs.Prelude.{flat_map, nat_le}
+use Rattle.std.specs.Prelude.{flat_map}
 use Rattle.serde_json.specs.Data.{Data}
-use Rattle.serde_json.specs.Find.{as_array}
-use Rattle.serde_json.specs.View.{view, items_view}
+use Rattle.serde_json.specs.View.{view}
 use Rattle.serde_json.specs.declared.value.Value.{Value}
-use Rattle.msg_files.specs.Prelude.{Check, all_some, elements, first_refusal, is_list, needs}
+use Rattle.msg_files.specs.Prelude.{Check, first_refusal}
 use Rattle.msg_files.specs.declared.refusal.Refusal.{Refusal}
-use Rattle.msg_files.specs.declared.refusal.Refusal.TheVariants.{Shape, TooMany}
-use Rattle.msg_reading.specs.Prelude.{each_of}
-use Rattle.msg_files.proofs.Shapes.{elements_are}
-use Rattle.msg_files.proofs.Walks.{all_some-map, first_refusal-passed, first_refusal-stands}
+use Rattle.msg_files.proofs.Walks.{all_some-map, first_refusal-passed, first_refusal-stands, list_of-items_of}
+use Rattle.std.proofs.lemmas.List.Folds.{list_all-map}
 
 -- the elements so far passed their checks, and those from i on are left
 pub record ElementsLeft {A : Type 0} (checks : Data → List Check) (denotes : Data → Option A)
@@ -46,36 +43,6 @@ module _ {A : Type 0} (checks : Data → List Check) (denotes : Data → Option 
       left.passed ∙ ap (λ l. first_refusal (flat_map checks (map view l))) (drop_more items i d lt)
       ∙ first_refusal-stands (checks (view (get_or items i d))) (flat_map checks (map view (drop (i + 1) items))) e bad
 
-  pub ElementsLeft-end : (i : ℕ) (read : List A) → ElementsLeft checks denotes items i read → length items ≤ i
-      → (first_refusal (flat_map checks (map view items)) ≡ None)
-      × (map denotes (map view items) ≡ map (λ a. Some a) read)
-  ElementsLeft-end i read left end =
-      let all : drop i items ≡ [] = drop_all i items end in (
-        left.passed ∙ ap (λ l. first_refusal (flat_map checks (map view l))) all,
-        left.denoted ∙ ap (λ l. map (λ a. Some a) read ++ map denotes (map view l)) all
-            ∙ append-nil (map (λ a. Some a) read),
-      )
+-- ---- steps that the check takes by itself
 
--- ---- a list, and what is checked of its elements
-
-module _ (checks : List Data → List Check) (most : ℕ) (d : Data) (xs : List Value) (is : Some (items_view xs) ≡ as_array d) where
-  pub too_long : most < length xs
-      → first_refusal (needs (is_list d) Shape ∷ needs (nat_le (length (elements d)) most) TooMany ∷ checks (elements d))
-      ≡ Some TooMany
-  too_long long =
-      let are = elements_are d xs is in
-      let over : nat_le (length xs) most ≡ false = grind arith in
-      rw (are, ← is, length-map, over) refl
-
-  pub short_enough : length xs ≤ most
-      → first_refusal (needs (is_list d) Shape ∷ needs (nat_le (length (elements d)) most) TooMany ∷ checks (elements d))
-      ≡ first_refusal (checks (map view xs))
-  short_enough short =
-      let are = elements_are d xs is in
-      let under : nat_le (length xs) most ≡ true = grind arith in
-      rw (are, ← is, length-map, under) refl
-
-pub each_denotes : {A : Type 0} (f : Data → Option A) (d : Data) (xs : List Value) (read : List A)
-    → Some (items_view xs) ≡ as_array d → map f (map view xs) ≡ map (λ a. Some a) read → each_of f d ≡ Some read
-each_denotes f d xs read is are =
-    ap (λ ds. all_some (map f ds)) (elements_are d xs is) ∙ ap all_some are ∙ all_some-map read
+pub ruleset list_steps = (list_of-items_of, all_some-map, list_all-map, length-map)

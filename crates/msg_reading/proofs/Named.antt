@@ -1,6 +1,6 @@
 -- One step of a walk over elements that declare names.
-use Rattle.std.proofs.Common.{◌≡◌, ℕ, ◌+◌, ◌≤◌, ◌<◌, List, [], ◌∷◌, ◌++◌, length, get_or, drop, refl, sym, ap, ◌∙◌, append_assoc, append-nil, Option, Some, None, map}
-use Rattle.std.proofs.lemmas.List.{drop_more, drop_all}
+use Rattle.std.proofs.Common.{◌≡◌, ℕ, ◌+◌, ◌<◌, List, [], ◌∷◌, ◌++◌, length, get_or, drop, refl, sym, ap, ◌∙◌, append_assoc, Option, Some, None, map}
+use Rattle.std.proofs.lemmas.List.{drop_more}
 use Rattle.std.specs.Prelude.{option_map}
 use Rattle.serde_json.specs.Data.{Data}
 use Rattle.serde_json.specs.View.{view}
@@ -19,17 +19,6 @@ module _ {A : Type 0} (checks : Declared → Data → List Check) (denotes : Dec
     pub denoted : each_in_turn denotes with_one first (map view items)
         ≡ option_map (λ rest. read ++ rest) (each_in_turn denotes with_one names (map view (drop i items)))
     pub declared : with_all with_one first (map view items) ≡ with_all with_one names (map view (drop i items))
-
-  nothing_before : (o : Option (List A)) → o ≡ option_map (λ rest. [] ++ rest) o
-  nothing_before None = refl
-  nothing_before (Some rest) = refl
-
-  pub NamedLeft-start : NamedLeft 0 first []
-  NamedLeft-start = record {
-    passed = refl;
-    denoted = nothing_before (each_in_turn denotes with_one first (map view items));
-    declared = refl;
-  }
 
   one_more_before : (read : List A) (a : A) (o : Option (List A))
       → option_map (λ rest. read ++ rest) (option_map (λ rest. a ∷ rest) o)
@@ -66,15 +55,3 @@ module _ {A : Type 0} (checks : Declared → Data → List Check) (denotes : Dec
       ∙ ap (λ l. first_refusal (checks_in_turn checks with_one names (map view l))) (drop_more items i d lt)
       ∙ first_refusal-stands (checks names here)
       (checks_in_turn checks with_one (with_one names here) (map view (drop (i + 1) items))) e bad
-
-  pub NamedLeft-end : (i : ℕ) (names : Declared) (read : List A) → NamedLeft i names read → length items ≤ i
-      → (first_refusal (checks_in_turn checks with_one first (map view items)) ≡ None)
-      × (each_in_turn denotes with_one first (map view items) ≡ Some read)
-      × (with_all with_one first (map view items) ≡ names)
-  NamedLeft-end i names read left end =
-      let all : drop i items ≡ [] = drop_all i items end in (
-        left.passed ∙ ap (λ l. first_refusal (checks_in_turn checks with_one names (map view l))) all,
-        left.denoted ∙ ap (λ l. option_map (λ r. read ++ r) (each_in_turn denotes with_one names (map view l))) all
-            ∙ ap (λ l. Some l) (append-nil read),
-        left.declared ∙ ap (λ l. with_all with_one names (map view l)) all,
-      )

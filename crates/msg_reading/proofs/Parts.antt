@@ -1,14 +1,13 @@
 -- Lists of a scenario file by their parts.
-use Rattle.std.proofs.Common.{◌≡◌, ℕ, ◌≤◌, ◌<◌, List, [], ◌∷◌, length, get_or, take, drop, refl, sym, ap, ◌∙◌, arith, Option, Some, None, map, ◌-◌, Result, Ok, Err, ◌≢◌}
-use Rattle.std.specs.Prelude.{is_some, ◌&&◌}
+use Rattle.std.proofs.Common.{◌≡◌, ◌≤◌, ◌<◌, List, [], ◌∷◌, length, get_or, take, drop, refl, sym, ap, ◌∙◌, arith, Option, Some, map, ◌-◌}
 use Rattle.serde_json.specs.Data.{Data}
 use Rattle.serde_json.specs.Find.{as_array, as_str}
 use Rattle.serde_json.specs.View.{view, items_view}
 use Rattle.serde_json.specs.declared.value.Value.{Value}
-use Rattle.msg_files.specs.Prelude.{Agrees, Check, Text, elements, first_refusal, needs}
-use Rattle.msg_reading.specs.Prelude.{both, for_headed, for_two, is_text, of_headed, text, wrong_shape}
+use Rattle.msg_files.specs.Prelude.{Check, Text, elements, first_refusal}
+use Rattle.msg_reading.specs.Prelude.{both, for_headed, of_headed}
 use Rattle.msg_files.specs.declared.refusal.Refusal.{Refusal}
-use Rattle.msg_files.specs.declared.refusal.Refusal.TheVariants.{Shape, UnknownName}
+use Rattle.msg_files.specs.declared.refusal.Refusal.TheVariants.{Shape}
 use Rattle.msg_files.proofs.Shapes.{elements_are, range_to_end}
 use Rattle.msg_files.proofs.Steps.{Refuses}
 
@@ -16,16 +15,13 @@ use Rattle.msg_files.proofs.Steps.{Refuses}
 
 module _ {A : Type 0} where
   pub one_of : (xs : List A) (v : A) → 1 ≤ length xs → length xs < 2 → v ≡ get_or xs 0 v → xs ≡ v ∷ []
-  one_of [] v least below is = absurd (omega (arith, least))
   one_of (x ∷ []) v least below is = ap (λ y. y ∷ []) (sym is)
-  one_of (x ∷ y ∷ rest) v least below is = absurd (omega (arith, below))
+  one_of xs v least below is = absurd (omega (arith, least, below))
 
   pub two_of : (xs : List A) (v w : A) → 2 ≤ length xs → length xs < 3 → v ≡ get_or xs 0 v → w ≡ get_or xs 1 w
       → xs ≡ v ∷ w ∷ []
-  two_of [] v w least below is is' = absurd (omega (arith, least))
-  two_of (x ∷ []) v w least below is is' = absurd (omega (arith, least))
   two_of (x ∷ y ∷ []) v w least below is is' = ap (λ z. z ∷ y ∷ []) (sym is) ∙ ap (λ z. v ∷ z ∷ []) (sym is')
-  two_of (x ∷ y ∷ z ∷ rest) v w least below is is' = absurd (omega (arith, below))
+  two_of xs v w least below is is' = absurd (omega (arith, least, below))
 
 -- a list is its first item and the range of the others
 pub first_and_rest : (d : Data) (xs : List Value) (v : Value) → Some (items_view xs) ≡ as_array d → 1 ≤ length xs
@@ -35,19 +31,7 @@ first_and_rest d (x ∷ xs) v list least is =
     elements_are d (x ∷ xs) list ∙ ap (λ y. view y ∷ map view xs) (sym is)
     ∙ ap (λ ys. view v ∷ map view ys) (sym (range_to_end 1 (x ∷ xs)))
 
--- a list that hasn't two items
-pub not_two : (f : Data → Data → List Check) (xs : List Value) → length xs ≢ 2 → for_two f (map view xs) ≡ wrong_shape
-not_two f [] other = refl
-not_two f (x ∷ []) other = refl
-not_two f (x ∷ y ∷ []) other = absurd (other refl)
-not_two f (x ∷ y ∷ z ∷ rest) other = refl
-
 -- ---- what agrees with equal checks
-
-pub Agrees_by : {A : Type 0} (cs ds : List Check) (o p : Option A) (r : Result A Refusal)
-    → first_refusal cs ≡ first_refusal ds → o ≡ p → Agrees ds p r → Agrees cs o r
-Agrees_by cs ds o p (Ok a) e f h = (e ∙ h.0, f ∙ h.1)
-Agrees_by cs ds o p (Err x) e f h = (h.0, λ m. e ∙ h.1 m)
 
 pub headed_checked : (f : Text → List Data → List Check) (d head : Data) (ps : List Data) (name : Text)
     → as_str head ≡ Some name → elements d ≡ head ∷ ps
@@ -57,14 +41,6 @@ headed_checked f d head ps name is are = ap (λ ds. first_refusal (for_headed f 
 pub headed_denoted : {A : Type 0} (f : Text → List Data → Option A) (d head : Data) (ps : List Data) (name : Text)
     → as_str head ≡ Some name → elements d ≡ head ∷ ps → of_headed f (elements d) ≡ f name ps
 headed_denoted f d head ps name is are = ap (of_headed f) are ∙ rw is refl
-
--- the second name isn't declared
-pub last_unknown : (d e : Data) (x y : Text) (f g : Text → Option ℕ) (n : ℕ)
-    → as_str d ≡ Some x → as_str e ≡ Some y → f x ≡ Some n → g y ≡ None
-    → first_refusal
-    (needs (is_text d && is_text e) Shape ∷ needs (is_some (f (text d))) UnknownName
-    ∷ needs (is_some (g (text e))) UnknownName ∷ []) ≡ Some UnknownName
-last_unknown d e x y f g n is is' first second = rw (is, is', first, second) refl
 
 -- ---- checks one after another, where one of them fails
 

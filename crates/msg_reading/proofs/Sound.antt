@@ -1,5 +1,5 @@
 -- What is known of a scenario that was read.
-use Rattle.std.proofs.Common.{◌≡◌, ℕ, ◌+◌, ◌≤◌, ◌<◌, List, [], ◌∷◌, length, refl, sym, ap, ◌∙◌, Some, None, true, arith, subst}
+use Rattle.std.proofs.Common.{◌≡◌, ℕ, ◌+◌, ◌≤◌, ◌<◌, List, [], ◌∷◌, length, refl, sym, ap, ◌∙◌, Some, None, true, arith}
 use Rattle.std.proofs.lemmas.Grind.{common_steps}
 use Rattle.std.proofs.lemmas.List.Elements.{All-head, All-tail}
 use Rattle.std.proofs.lemmas.List.Quantifiers.{position-Some}
@@ -9,7 +9,7 @@ use Rattle.serde_json.specs.Data.{Data}
 use Rattle.msg_order.specs.Prelude.{IsAcyclic, NameSystemsBelow, edges_of, has_joined, rules_among}
 use Rattle.msg_order.specs.declared.rule.Rule.{Rule}
 use Rattle.msg_files.specs.Prelude.{Text, elements, first_refusal, is_list, needs}
-use Rattle.msg_reading.specs.Prelude.{Declared, IsClashing, IsRunnable, PostsAreToTypes, Scenario, all_names, both, checks_in_turn, each_of, frames_in, frames_of, held_checks, held_in, no_names, part_names, position_of, resource_checks, resource_of, resources_checks, resources_in, resources_of, root_object, rule_of, rules_in, rules_of, scenario_checks, scenario_of, sections_checks, system_checks, system_number, system_of, systems_checks, systems_in, systems_of, text, type_checks, type_names, type_of, types_checks, types_in, types_of, with_all, with_resource, with_system, with_type}
+use Rattle.msg_reading.specs.Prelude.{Declared, IsClashing, IsRunnable, Scenario, all_names, checks_in_turn, frames_in, frames_of, held_checks, held_in, no_names, part_names, position_of, resource_checks, resource_of, resources_checks, resources_in, resources_of, root_object, rule_of, rules_in, rules_of, scenario_checks, scenario_of, sections_checks, system_checks, system_number, system_of, systems_checks, systems_in, systems_of, text, type_checks, type_names, type_of, types_checks, types_in, types_of, with_all, with_resource, with_system, with_type}
 use Rattle.serde_json.specs.Find.{as_bool}
 use Rattle.msg_reading.proofs.Fitting.{NamesOf, frames_fit, systems_fit}
 use Rattle.msg_reading.proofs.Files.{from_held, from_resources, from_rules, from_systems}
@@ -95,8 +95,9 @@ pub record IsWhole (s : Scenario) : Type 0 where
   pub rules_in_range : NameSystemsBelow (length s.systems) s.rules
   pub runnable : All (λ x. ¬ IsClashing x) s.systems → IsAcyclic (edges_of s.rules) → IsRunnable s
 
-whole_from : (d : Data) (s : Scenario) → first_refusal (scenario_checks d) ≡ None → types_of d ≡ Some s.types → resources_of d ≡ Some s.resources
-    → systems_of d ≡ Some s.systems → rules_of d ≡ Some s.rules → frames_of d ≡ Some s.frames → IsWhole s
+whole_from : (d : Data) (s : Scenario) → first_refusal (scenario_checks d) ≡ None → types_of d ≡ Some s.types
+    → resources_of d ≡ Some s.resources → systems_of d ≡ Some s.systems → rules_of d ≡ Some s.rules
+    → frames_of d ≡ Some s.frames → IsWhole s
 unfolding systems_of systems_checks types_of types_checks resources_of resources_checks all_names rules_of frames_of
 whole_from d s passes types resources systems rules frames =
     let after_object = both_pass (root_object d) (sections_checks d) passes in
@@ -120,13 +121,17 @@ whole_from d s passes types resources systems rules frames =
       resources = as_many_resources d ∙ sym resources_denoted;
     } in
     let all : NamesOf s (all_names d) = record {
-      types = ap length (names_keep (λ n. n.types) with_system (λ n e. refl) (part_names d) (elements (systems_in d))) ∙ parts.types;
-      resources = ap length (names_keep (λ n. n.resources) with_system (λ n e. refl) (part_names d) (elements (systems_in d))) ∙ parts.resources;
+      types = ap length (names_keep (λ n. n.types) with_system (λ n e. refl) _ (elements (systems_in d))) ∙ parts.types;
+      resources = ap length (names_keep (λ n. n.resources) with_system (λ n e. refl) _ (elements (systems_in d)))
+          ∙ parts.resources;
     } in
     let system_fit = systems_fit s (part_names d) (elements (systems_in d)) parts
-    (both_pass (needs (is_list (systems_in d)) Shape ∷ needs (nat_le (length (elements (systems_in d))) 256) TooMany ∷ []) in_turn on_systems).1 s.systems systems in
+    (both_pass
+    (needs (is_list (systems_in d)) Shape ∷ needs (nat_le (length (elements (systems_in d))) 256) TooMany ∷ [])
+    in_turn on_systems).1 s.systems systems in
     let below : NameSystemsBelow (length s.systems) s.rules =
-    rw (← named) (in_each (IsBelow (length (all_names d).systems)) (rule_of (all_names d)) (rule_below (all_names d)) (elements (rules_in d)) s.rules rules).0 in
+    rw (← named) (in_each (IsBelow (length (all_names d).systems)) (rule_of (all_names d)) (rule_below (all_names d))
+    (elements (rules_in d)) s.rules rules).0 in
     record {
       few_systems = omega (arith, few, as_many);
       rules_in_range = below;
@@ -143,7 +148,13 @@ whole_from d s passes types resources systems rules frames =
 
 pub whole_of : (d : Data) → first_refusal (scenario_checks d) ≡ None → Holds IsWhole (scenario_of d)
 whole_of d passes =
-    in_then _ _ (types_of d) (λ types t. in_then _ _ (resources_of d) (λ resources r. in_then _ _ (as_bool (held_in d)) (λ held _.
-    in_then _ _ (systems_of d) (λ systems y. in_then _ _ (rules_of d) (λ rules u. in_map _ _ (frames_of d) (λ frames f.
-    whole_from d (record { types = types; resources = resources; held = held; systems = systems; rules = rules; frames = frames })
-    passes t r y u f))))))
+    in_then _ _ (types_of d) (λ types t. in_then _ _ (resources_of d) (λ resources r.
+    in_then _ _ (as_bool (held_in d)) (λ held _. in_then _ _ (systems_of d) (λ systems y.
+    in_then _ _ (rules_of d) (λ rules u. in_map _ _ (frames_of d) (λ frames f. whole_from d (record {
+      types = types;
+      resources = resources;
+      held = held;
+      systems = systems;
+      rules = rules;
+      frames = frames;
+    }) passes t r y u f))))))

@@ -1,5 +1,5 @@
 -- The systems of a scenario file.
-use Rattle.std.proofs.Common.{◌≡◌, List, [], ◌∷◌, ◌++◌, refl, ap, ◌∙◌, Option, Some, None, true, false}
+use Rattle.std.proofs.Common.{◌≡◌, List, [], ◌∷◌, ◌++◌, ap, ◌∙◌, Option, Some, None, false}
 use Rattle.std.specs.Prelude.{codes, is_some, if◌then◌else◌, option_and_then, option_map}
 use Rattle.std.specs.Option.{option_map_or}
 use Rattle.serde_json.specs.Data.{Data}
@@ -39,38 +39,11 @@ module _ (names : Declared) (d : Data) where
       (kind_known k is)
       ∙ ap (λ o. first_refusal (ops_of_kind names k o ++ after_ops)) at
 
-  pub program_no_kind : kind_of (kind_in d) ≡ None → first_refusal (program_checks names d) ≡ Some Shape
-  program_no_kind none = ap (λ o. if is_some o then first_refusal (ops_checks names d ++ after_ops) else Some Shape) none
-
   pub start_is : (o : Option Start) → start_of (start_in d) ≡ o
       → first_refusal (needs (is_some (start_of (start_in d))) Shape ∷ []) ≡ (if is_some o then None else Some Shape)
   start_is o is = ap (λ s. if is_some s then None else Some Shape) is
 
--- a list of ops of another kind
-pub other_kind : (names : Declared) (kind : Kind) (d : Data) (ops : List Op) → each_of (op_of names) d ≡ Some ops
-    → fits_kind kind ops ≡ false → first_refusal (list_checks 64 (op_checks names) d) ≡ None
-    → first_refusal (ops_of_kind names kind d) ≡ Some Shape
-other_kind names kind d ops are other passed =
-    let unfit : option_map_or (fits_kind kind) (each_of (op_of names) d) false ≡ false
-    = ap (λ o. option_map_or (fits_kind kind) o false) are ∙ other in
-    first_refusal-passed (list_checks 64 (op_checks names) d) _ passed
-    ∙ ap (λ b. first_refusal (needs b Shape ∷ [])) unfit
-
-pub of_kind : (names : Declared) (kind : Kind) (d : Data) (ops : List Op) → each_of (op_of names) d ≡ Some ops
-    → fits_kind kind ops ≡ true → first_refusal (list_checks 64 (op_checks names) d) ≡ None
-    → first_refusal (ops_of_kind names kind d) ≡ None
-of_kind names kind d ops are same passed =
-    let fit : option_map_or (fits_kind kind) (each_of (op_of names) d) false ≡ true
-    = ap (λ o. option_map_or (fits_kind kind) o false) are ∙ same in
-    first_refusal-passed (list_checks 64 (op_checks names) d) _ passed
-    ∙ ap (λ b. first_refusal (needs b Shape ∷ [])) fit
-
 -- ---- the whole
-
--- the program's checks don't ask which systems are declared
-pub same_program : (names : Declared) (systems : List Text) (d : Data)
-    → program_checks (record names { systems = systems }) d ≡ program_checks names d
-same_program names systems d = refl
 
 -- a good object and a good name leave it to what follows
 pub system_named : (names : Declared) (d n : Data) → first_refusal (system_object d) ≡ None

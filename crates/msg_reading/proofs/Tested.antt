@@ -1,12 +1,10 @@
 -- What the tests of a scenario tell.
-use Rattle.std.proofs.Common.{◌≡◌, ℕ, List, refl, sym, ap, ◌∙◌, true}
+use Rattle.std.proofs.Common.{ℕ, sym, ◌∙◌}
 use Rattle.std.specs.Prelude.{IsTrue}
 use Rattle.msg_world.specs.Prelude.{Fits, HasPart, Part, OfType, OfResource, Registry}
 use Rattle.msg_world.specs.declared.access.Access.{Access}
 use Rattle.msg_system.specs.Prelude.{IsAccessOf, Needs, needs_any}
-use Rattle.msg_system.specs.declared.op.Op.{Op}
 use Rattle.msg_system.proofs.Accesses.{uses_needs}
-use Rattle.msg_reading.specs.Prelude.{FitKind, Kind, Relay, Script, Tally, fits_kind}
 
 -- all that is needed is there, where the access fits
 pub is_there : (n : Needs) (a : Access) (types resources : ℕ) → IsAccessOf n a → Fits types resources a
@@ -22,9 +20,3 @@ fits_there n a types resources of all = record {
   types_below = λ t used. all (OfType t) (sym (uses_needs n a of (OfType t)) ∙ used);
   resources_below = λ r used. all (OfResource r) (sym (uses_needs n a of (OfResource r)) ∙ used);
 }
-
--- ops that fit the kind pass its test
-pub passes_kind : (kind : Kind) (ops : List Op) → FitKind kind ops → fits_kind kind ops ≡ true
-passes_kind Script ops fit = refl
-passes_kind Relay ops fit = ap (fits_kind Relay) fit.2
-passes_kind Tally ops fit = ap (fits_kind Tally) fit.2

@@ -1,5 +1,5 @@
 -- What holds of all that a value denotes, and what passes where checks pass.
-use Rattle.std.proofs.Common.{◌≡◌, ℕ, ◌≤◌, List, [], ◌∷◌, ◌++◌, length, refl, sym, ap, ◌∙◌, Option, Some, None, Bool, true, false, arith, map, subst}
+use Rattle.std.proofs.Common.{◌≡◌, ℕ, ◌≤◌, List, [], ◌∷◌, ◌++◌, length, refl, sym, ap, Option, Some, None, Bool, true, false, arith, map, subst}
 use Rattle.std.proofs.lemmas.Bool.{leb-true}
 use Rattle.std.proofs.lemmas.Grind.{common_steps}
 use Rattle.std.proofs.lemmas.List.Elements.{All-cons, All-nil}
@@ -16,7 +16,8 @@ use Rattle.msg_files.specs.declared.refusal.Refusal.TheVariants.{Shape, TooMany}
 abbrev pub Holds : {A : Type 0} → (A → Type 0) → Option A → Type 0
 Holds {A} P o = (a : A) → o ≡ Some a → P a
 
-pub in_map : {A B : Type 0} (P : B → Type 0) (f : A → B) (o : Option A) → ((a : A) → o ≡ Some a → P (f a)) → Holds P (option_map f o)
+pub in_map : {A B : Type 0} (P : B → Type 0) (f : A → B) (o : Option A)
+    → ((a : A) → o ≡ Some a → P (f a)) → Holds P (option_map f o)
 in_map P f None good b h = cc
 in_map P f (Some a) good b h = subst P (same_Some (f a) b h) (good a refl)
 
@@ -25,13 +26,13 @@ pub in_both : {A B C : Type 0} (P : C → Type 0) (f : A → B → C) (o : Optio
 in_both P f None p good c h = cc
 in_both P f (Some a) p good c h = in_map P (f a) p (λ b is. good a b refl is) c h
 
-pub in_then : {A B : Type 0} (P : B → Type 0) (f : A → Option B) (o : Option A) → ((a : A) → o ≡ Some a → Holds P (f a))
-    → Holds P (option_and_then f o)
+pub in_then : {A B : Type 0} (P : B → Type 0) (f : A → Option B) (o : Option A)
+    → ((a : A) → o ≡ Some a → Holds P (f a)) → Holds P (option_and_then f o)
 in_then P f None good b h = cc
 in_then P f (Some a) good b h = good a refl b h
 
-pub in_two : {A : Type 0} (P : A → Type 0) (f : Data → Data → Option A) (ds : List Data) → ((x y : Data) → Holds P (f x y))
-    → Holds P (of_two f ds)
+pub in_two : {A : Type 0} (P : A → Type 0) (f : Data → Data → Option A) (ds : List Data)
+    → ((x y : Data) → Holds P (f x y)) → Holds P (of_two f ds)
 in_two P f (x ∷ y ∷ []) good a h = good x y a h
 in_two P f ds good a h = cc
 
@@ -41,7 +42,8 @@ in_headed P f [] good a h = cc
 in_headed P f (head ∷ parts) good a h = good (text head) parts a h
 
 -- one of two
-pub choice : {A : Type 0} (P : A → Type 0) (b : Bool) (o p : Option A) → Holds P o → Holds P p → Holds P (if b then o else p)
+pub choice : {A : Type 0} (P : A → Type 0) (b : Bool) (o p : Option A)
+    → Holds P o → Holds P p → Holds P (if b then o else p)
 choice P true o p h k = h
 choice P false o p h k = k
 
@@ -54,7 +56,8 @@ in_cons P (Some a) os good xs h = in_map P (λ rest. a ∷ rest) (all_some os) (
 pub in_each : {A : Type 0} (P : A → Type 0) (f : Data → Option A) → ((d : Data) → Holds P (f d)) → (ds : List Data)
     → Holds (λ xs. All P xs × (length xs ≡ length ds)) (all_some (map f ds))
 in_each P f good [] xs h = subst (λ ys. All P ys × (length ys ≡ 0)) (same_Some [] xs h) (All-nil P, refl)
-in_each P f good (d ∷ ds) xs h = in_cons (λ ys. All P ys × (length ys ≡ length (d ∷ ds))) (f d) (map f ds) (λ a rest is are.
+in_each P f good (d ∷ ds) xs h = in_cons (λ ys. All P ys × (length ys ≡ length (d ∷ ds))) (f d) (map f ds)
+    (λ a rest is are.
     let all = in_each P f good ds rest are in
     let long = all.1 in
     (All-cons P a rest (good d a is) all.0, grind (arith, common_steps, long))) xs h
@@ -67,10 +70,13 @@ below_there (Some k) end n h = ap (λ m. Some m) (cond_some (nat_lt k end) k n h
 
 module _ {A : Type 0} (f : Declared → Data → Option A) (with_one : Declared → Data → Declared) where
   -- each element denotes one thing
-  pub in_turn_length : (names : Declared) (ds : List Data) → Holds (λ xs. length xs ≡ length ds) (each_in_turn f with_one names ds)
+  pub in_turn_length : (names : Declared) (ds : List Data)
+      → Holds (λ xs. length xs ≡ length ds) (each_in_turn f with_one names ds)
   in_turn_length names [] xs h = ap length (sym (same_Some [] xs h))
-  in_turn_length names (d ∷ ds) xs h = in_both (λ ys. length ys ≡ length (d ∷ ds)) _ (f names d) (each_in_turn f with_one (with_one names d) ds)
-      (λ a rest is are. let long = in_turn_length (with_one names d) ds rest are in grind (arith, common_steps, long)) xs h
+  in_turn_length names (d ∷ ds) xs h =
+      in_both (λ ys. length ys ≡ length (d ∷ ds)) _ (f names d) (each_in_turn f with_one (with_one names d) ds)
+      (λ a rest is are. let long = in_turn_length (with_one names d) ds rest are in grind (arith, common_steps, long))
+      xs h
 
 -- ---- checks
 
@@ -96,17 +102,21 @@ pub passed_length : (d : Data) (most : ℕ) (checks : List Check)
     → length (elements d) ≤ most
 passed_length d most checks h =
     let few = nat_le (length (elements d)) most in
-    leb-true (length (elements d)) most (first_passes few TooMany checks (first_passes (is_list d) Shape (needs few TooMany ∷ checks) h).1).0
+    leb-true (length (elements d)) most
+    (first_passes few TooMany checks (first_passes (is_list d) Shape (needs few TooMany ∷ checks) h).1).0
 
 -- what holds of each thing that an element denotes which passed its checks holds of all, where each declares a name
 module _ {A : Type 0} (f : Declared → Data → Option A) (with_one : Declared → Data → Declared)
     (checks : Declared → Data → List Check) (P : A → Type 0) (Q : Declared → Type 0)
     (keeps : (names : Declared) (d : Data) → Q names → Q (with_one names d))
-    (good : (names : Declared) (d : Data) → Q names → first_refusal (checks names d) ≡ None → Holds P (f names d)) where
-  pub in_turn_all : (names : Declared) (ds : List Data) → Q names → first_refusal (checks_in_turn checks with_one names ds) ≡ None
+    (good : (names : Declared) (d : Data) → Q names
+    → first_refusal (checks names d) ≡ None → Holds P (f names d)) where
+  pub in_turn_all : (names : Declared) (ds : List Data) → Q names
+      → first_refusal (checks_in_turn checks with_one names ds) ≡ None
       → Holds (All P) (each_in_turn f with_one names ds)
   in_turn_all names [] q passed xs h = subst (All P) (same_Some [] xs h) (All-nil P)
   in_turn_all names (d ∷ ds) q passed xs h =
       let parts = both_pass (checks names d) (checks_in_turn checks with_one (with_one names d) ds) passed in
       in_both (All P) _ (f names d) (each_in_turn f with_one (with_one names d) ds) (λ a rest is are.
-      All-cons P a rest (good names d q parts.0 a is) (in_turn_all (with_one names d) ds (keeps names d q) parts.1 rest are)) xs h
+      All-cons P a rest (good names d q parts.0 a is)
+      (in_turn_all (with_one names d) ds (keeps names d q) parts.1 rest are)) xs h

@@ -77,13 +77,21 @@ fn add_took(text: &mut Vec<u8>, scenario: &Scenario, took: &Took) -> Result<(), 
     ensures { OnOk result
         (text.new.items ≡ text.old.items ++ (codes " " ++ took_text scenario.now took.now)) }
 {
-    if took.missed == 0 {
-        text.extend_from_slice(b" missed 0:")?;
-    } else {
-        add_count(text, b" missed ", took.missed)?;
-        text.extend_from_slice(b":")?;
-    }
+    add_missed(text, took.missed)?;
     add_items(text, scenario, took.first, took.items.as_slice())
+}
+
+/// How many messages a read missed. Most miss none.
+#[tactic(auto, using(std::proofs::lemmas::Fmt::decimal_digit))]
+fn add_missed(text: &mut Vec<u8>, missed: u64) -> Result<(), NoMemory>
+    ensures { OnOk result (text.new.items
+        ≡ text.old.items ++ (codes " missed " ++ decimal missed ++ codes ":")) }
+{
+    if missed == 0 {
+        return text.extend_from_slice(b" missed 0:");
+    }
+    add_count(text, b" missed ", missed)?;
+    text.extend_from_slice(b":")
 }
 
 /// Messages numbered from `first` on, each with a space in front, or ` none`.

@@ -31,6 +31,7 @@ pub trait Declaration: Sized + Drop {
 }
 
 /// The elements of a list that isn't longer than `most`, and their names declared.
+#[tactic(auto, using(crate::proofs::Lists::list_steps))]
 pub fn read_names<T: Declaration>(
     alloc: Global,
     names: &mut Declarations,

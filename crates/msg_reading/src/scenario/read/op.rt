@@ -27,12 +27,14 @@ impl Element for Op {
 
     ghost denotes = { op_of };
 
+    #[tactic(auto, using(crate::proofs::Parts::headed_checked, crate::proofs::Parts::headed_denoted))]
     fn read(alloc: Global, names: &Declarations, value: &Value) -> Result<Op, Refusal> {
         let (head, parts) = head_and_parts(value)?;
         read_parts(alloc, names, head, parts)
     }
 }
 
+#[tactic(auto, using(crate::proofs::Ops::op_of_many))]
 fn read_parts(
     alloc: Global,
     names: &Declarations,
@@ -114,6 +116,7 @@ fn read_with_two(
     }
 }
 
+#[tactic(auto, using(crate::proofs::Lists::list_steps))]
 fn read_batch(
     alloc: Global,
     names: &Declarations,
@@ -134,6 +137,7 @@ fn read_batch(
     Ok(Op::Batch(of_type, read_values(alloc, items)?))
 }
 
+#[tactic(auto, using(crate::proofs::Lists::list_steps))]
 fn text_and_numbers<'a>(
     part: &'a Value,
     other: &'a Value,
@@ -156,6 +160,7 @@ fn text_and_numbers<'a>(
 }
 
 /// The values of a batch.
+#[tactic(auto, using(crate::proofs::Lists::list_steps))]
 fn read_values(alloc: Global, items: &[Value]) -> Result<Items<i64>, Refusal>
     ensures agrees { Agrees
         (needs (nat_le (length items.now) 1024) TooMany ∷ map a_value (map view items.now))

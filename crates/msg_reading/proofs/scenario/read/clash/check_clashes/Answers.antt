@@ -1,28 +1,20 @@
-use Rattle.std.proofs.Common.{◌≡◌, ◌∙◌, ap, sym, subst, refl, ◌+◌, ◌∷◌, [], ◌++◌, take}
+use Rattle.std.proofs.Common.{◌∙◌, ap, sym, subst, refl, ◌+◌}
 use Rattle.std.specs.Prelude.{All}
 use Rattle.std.proofs.lemmas.Bool.{false≢true}
-use Rattle.std.proofs.lemmas.List.{take_more, take_all}
+use Rattle.std.proofs.lemmas.List.{take_all}
+use Rattle.std.proofs.lemmas.List.Elements.{All-more}
 use Rattle.std.proofs.lemmas.Option.{slice_get_read}
-use Rattle.std.proofs.lemmas.List.Elements.{All-append, All-cons, All-nil}
 use Rattle.msg_files.specs.declared.refusal.Refusal.TheVariants.{Clash}
 use Rattle.msg_reading.specs.Prelude.{IsClashing}
 use Rattle.msg_reading.proofs.scenario.read.clash.check_clashes.Goals as goal
 
 pub loop-system-preserved : goal.loop-system-preserved
-loop-system-preserved c =
-    let systems = c.args.systems.now in
-    let i = c.loop-system.system-index in
-    let x = c.system-item.result in
-    let more : take i systems ++ x ∷ [] ≡ take (i + 1) systems =
-    ap (λ y. take i systems ++ y ∷ []) c.system-item.is ∙ sym (take_more systems i x c.loop-system-test.true) in
-    record {
-      number = ap (λ n. n + 1) c.loop-system.invariant.number;
-      none = subst (All (λ y. ¬ IsClashing y)) more
-          (All-append (λ y. ¬ IsClashing y) (take i systems) (x ∷ []) c.loop-system.invariant.none
-          (All-cons (λ y. ¬ IsClashing y) x []
-          (λ has. false≢true (sym c.if-is_clash.false ∙ c.is_clash.ensures.clash.1 (c.access.ensures.clash.1 has)))
-          (All-nil (λ y. ¬ IsClashing y))));
-    }
+loop-system-preserved c = record {
+  number = ap (λ n. n + 1) c.loop-system.invariant.number;
+  none = All-more (λ y. ¬ IsClashing y) c.args.systems.now c.loop-system.system-index c.system-item.result
+      c.loop-system-test.true c.loop-system.invariant.none (subst (λ y. ¬ IsClashing y) c.system-item.is (λ has.
+      false≢true (sym c.if-is_clash.false ∙ c.is_clash.ensures.clash.1 (c.access.ensures.clash.1 has))));
+}
 
 pub returns-then-is_clash-clause-refused : goal.returns-then-is_clash-clause-refused
 returns-then-is_clash-clause-refused c =

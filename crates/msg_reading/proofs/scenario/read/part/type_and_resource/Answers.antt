@@ -1,30 +1,10 @@
-use Rattle.std.proofs.Common.{◌∙◌, ap, Err, ◌∷◌, []}
-use Rattle.std.specs.Prelude.{◌&&◌}
 use Rattle.std.proofs.lemmas.Result.{err_from_is_err_and}
-use Rattle.serde_json.specs.View.{view}
-use Rattle.msg_files.specs.Prelude.{needs}
-use Rattle.msg_reading.specs.Prelude.{a_resource, a_type, both, is_text, resource_number, text, type_number}
-use Rattle.msg_files.specs.declared.refusal.Refusal.TheVariants.{Shape, UnknownName}
-use Rattle.msg_files.proofs.Shapes.{IsAnswer_err}
-use Rattle.msg_reading.proofs.Parts.{last_unknown}
+use Rattle.std.proofs.Common.{refl}
 use Rattle.msg_reading.proofs.scenario.read.part.type_and_resource.Goals as goal
 
 pub returns-in_err-res_no : goal.returns-in_err-res_no
 returns-in_err-res_no c =
-    let residual = c.from_residual-in_err-res_no in
-    let passed = err_from_is_err_and residual.result residual.ensures.1 in
+    let p = err_from_is_err_and c.from_residual-in_err-res_no.result c.from_residual-in_err-res_no.ensures.1 in
     let found = c.in_err-res_no.ensures.found in
     let are = c.in_ok-of_type.ensures.are in
-    let names = c.args.names.now in
-    let d = view c.args.of_type.now in
-    let e = view c.args.resource.now in
-    record {
-      agrees = IsAnswer_err (needs (is_text d && is_text e) Shape ∷ a_type names d ∷ a_resource names e ∷ [])
-          (both (λ a b. (a, b)) (type_number names (text d)) (resource_number names (text e)))
-          UnknownName residual.result (passed.1 ∙ ap (λ e. Err e) (passed.2 ∙ found.0)) (
-            λ same. cc,
-            last_unknown d e c.in_ok-of_type.of_type.now c.in_ok-of_type.resource.now
-                (type_number names) (resource_number names) c.in_ok-type_no.field-0 are.0 are.1
-                c.in_ok-type_no.ensures.found found.1,
-          );
-    }
+    record { agrees = rw (p.1, p.2, found.0, are.0, are.1, c.in_ok-type_no.ensures.found, found.1) (λ same. cc, refl) }

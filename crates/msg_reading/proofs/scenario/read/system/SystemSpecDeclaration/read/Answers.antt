@@ -1,36 +1,30 @@
-use Rattle.std.proofs.Common.{◌∙◌, ap, sym, Err}
-use Rattle.std.proofs.lemmas.Result.{err_from_is_err_and}
+use Rattle.std.proofs.Common.{◌∙◌, ap, sym}
 use Rattle.serde_json.specs.View.{view}
 use Rattle.msg_files.specs.Prelude.{first_refusal}
 use Rattle.msg_reading.specs.Prelude.{ops_of, place_of, program_checks, system_checks, system_of}
-use Rattle.msg_files.proofs.Steps.{refuses_by}
-use Rattle.msg_files.proofs.Shapes.{Agrees_err}
+use Rattle.msg_files.proofs.Steps.{passed_on, refuses_by}
 use Rattle.msg_reading.proofs.Systems.{system_denoted, system_misnamed, system_named}
 use Rattle.msg_reading.proofs.scenario.read.system.SystemSpecDeclaration.read.Goals as goal
 
 pub returns-in_err-name-2-clause-agrees : goal.returns-in_err-name-2-clause-agrees
 returns-in_err-name-2-clause-agrees c =
-    let residual = c.from_residual-in_err-name-2 in
-    let passed = err_from_is_err_and residual.result residual.ensures.1 in
     let names = c.args.names.now in
     let d = view c.args.value.now in
     let e = c.in_err-name-2.field-0.0 in
     let found = c.in_ok-name.ensures.found in
-    Agrees_err (system_checks names d) (system_of names d) e residual.result (passed.1 ∙ ap (λ f. Err f) passed.2)
+    passed_on (system_checks names d) (system_of names d) e _ c.from_residual-in_err-name-2.ensures.1
     (system_misnamed names d (view c.in_ok-name.name.now) e found.0 found.1 c.in_err-name-2.ensures.agrees)
 
 pub returns-in_err-kind-clause-agrees : goal.returns-in_err-kind-clause-agrees
 returns-in_err-kind-clause-agrees c =
-    let residual = c.from_residual-in_err-kind in
-    let passed = err_from_is_err_and residual.result residual.ensures.1 in
     let names = c.args.names.now in
     let d = view c.args.value.now in
     let e = c.in_err-kind.field-0.0 in
     let found = c.in_ok-name.ensures.found in
-    let after = c.read_name.new.names in
+    let after = program_checks c.read_name.new.names d in
     let same = ap (λ n. first_refusal (program_checks n d)) c.in_ok-name-2.ensures.declares in
-    Agrees_err (system_checks names d) (system_of names d) e residual.result (passed.1 ∙ ap (λ f. Err f) passed.2)
-    (refuses_by (system_checks names d) (program_checks after d) e
+    passed_on (system_checks names d) (system_of names d) e _ c.from_residual-in_err-kind.ensures.1
+    (refuses_by (system_checks names d) after e
     (system_named names d (view c.in_ok-name.name.now) found.0 found.1 c.in_ok-name-2.ensures.agrees.0 ∙ sym same)
     c.in_err-kind.ensures.refused)
 
