@@ -1,13 +1,12 @@
 // Systems that decide by their memory: each on 1, 2, 7 and 64 workers.
-ghost use Rattle.std.specs.Prelude.{IfOk, OnOk};
-ghost use Rattle.msg_frames.specs.Prelude.{IsNew};
-ghost use Rattle.msg_exec.specs.Prelude.{EachIs, IsEngine};
+ghost use Rattle.std.specs.Prelude.{IfOk};
+ghost use Rattle.msg_exec.specs.Prelude.{IsEngine};
 
-use super::making::{add_deciding, frame_of, places, quiet, replay, run_frame, start};
+use super::making::{frame_of, quiet, replay, run_frame};
 use crate::numbers::type_no;
-use msg_exec::{EngineOf, Frame, Log, NoGate, Outcome, Place, RunFault};
+use msg_exec::{EngineBuilder, EngineOf, Frame, Log, NoGate, Outcome, RunFault};
 use msg_system::{
-    Access, Behavior, BehaviorSystem, Condition, Items, NoMemory, Op, Probe, Reply, System,
+    Access, Behavior, BehaviorSystem, Condition, NoMemory, Op, Probe, Reply, Start, System,
 };
 use msg_world::{TypeNo, World};
 use std::alloc::Global;
@@ -55,19 +54,13 @@ impl Behavior for Alternating {
     }
 }
 
-/// Adds one, over these types.
-fn add_alternating(
+/// A system that does so within these types.
+fn alternating_system(
     rt: &impl Abort,
     alloc: Global,
-    systems: &mut Vec<BehaviorSystem<Alternating>>,
     types: (u32, u32),
     writes: u64,
-) -> Result<(), NoMemory>
-    requires new { EachIs (λ i x.
-        IsNew i (⟦<BehaviorSystem<Alternating> as System>⟧.meaning x)) systems.old.items }
-    ensures new { OnOk result (EachIs (λ i x.
-        IsNew i (⟦<BehaviorSystem<Alternating> as System>⟧.meaning x)) systems.new.items) }
-{
+) -> BehaviorSystem<Alternating> {
     let (here, there) = (type_no(rt, types.0), type_no(rt, types.1));
     let access = Access::none().with_write_type(here).with_write_type(there);
     let behavior = Alternating {
@@ -75,7 +68,7 @@ fn add_alternating(
         there,
         writes,
     };
-    add_deciding(rt, alloc, systems, behavior, access)
+    BehaviorSystem::new(alloc, behavior, access, Start::Zero, 0)
 }
 
 /// An engine of two of them, the first over the types 0 and 1 and the second over 2 and 3.
@@ -83,28 +76,18 @@ fn engine_of_two(
     rt: &impl Abort,
     alloc: Global,
     writes: u64,
-    places: Vec<Place>,
+    conditions: &[Condition],
+    join: u32,
 ) -> Result<EngineOf<BehaviorSystem<Alternating>>, Fail>
     ensures engine { IfOk result (IsEngine ⟦<BehaviorSystem<Alternating> as System>⟧.meaning) }
 {
-    let mut systems = Vec::new(alloc);
-    add_alternating(rt, alloc, &mut systems, (0, 1), writes)?;
-    add_alternating(rt, alloc, &mut systems, (2, 3), writes)?;
-    let world = World::new(alloc, &[200, 200, 200, 200, 200], &[])?;
-    Ok(start(rt, alloc, world, systems, places, Vec::new(alloc))?)
-}
-
-/// Two places of systems that run where something came in type 4.
-fn places_on_message(rt: &impl Abort, alloc: Global) -> Result<Vec<Place>, NoMemory> {
-    let mut places = Vec::new(alloc);
-    for _ in 0..2u32 {
-        let probe = Probe::OnMessage(type_no(rt, 4));
-        places.push(Place {
-            conditions: Items::from_vec(vec![in alloc; Condition { nots: 0, probe }]?),
-            join: 1,
-        })?;
+    let mut systems = EngineBuilder::new(alloc);
+    for types in [(0, 1), (2, 3)] {
+        let system = alternating_system(rt, alloc, types, writes);
+        systems.add_system(system, Vec::from_slice(alloc, conditions)?, join)?;
     }
-    Ok(places)
+    let world = World::new(alloc, &[200, 200, 200, 200, 200], &[])?;
+    Ok(systems.build(world)?)
 }
 
 /// What a system wrote in a frame: how many messages to its first type, and how many to its
@@ -167,7 +150,7 @@ fn they_take_turns(rt: HostRuntime) -> Result<(), Fail> {
         (1, 3, [(0, 0), (0, 0), (1, 0)]),
     ] {
         for number in NUMBERS {
-            let mut engine = engine_of_two(&rt, alloc, writes, places(alloc, 2, join)?)?;
+            let mut engine = engine_of_two(&rt, alloc, writes, &[], join)?;
             expect_frame(&rt, &mut engine, &frame, number, Some(first))?;
             expect_frame(&rt, &mut engine, &frame, number, Some(second))?;
             expect_frame(&rt, &mut engine, &frame, number, Some(third))?;
@@ -181,8 +164,10 @@ fn they_take_turns(rt: HostRuntime) -> Result<(), Fail> {
 fn a_skipped_turn(rt: HostRuntime) -> Result<(), Fail> {
     let (alloc, none) = (rt.alloc(), quiet(rt.alloc()));
     let came = frame_of(alloc, &[(type_no(&rt, 4), 1)])?;
+    let probe = Probe::OnMessage(type_no(&rt, 4));
+    let conditions = [Condition { nots: 0, probe }];
     for number in NUMBERS {
-        let mut engine = engine_of_two(&rt, alloc, 1, places_on_message(&rt, alloc)?)?;
+        let mut engine = engine_of_two(&rt, alloc, 1, &conditions, 1)?;
         expect_frame(&rt, &mut engine, &came, number, Some((1, 0)))?;
         expect_frame(&rt, &mut engine, &none, number, None)?;
         expect_frame(&rt, &mut engine, &came, number, Some((0, 1)))?;
@@ -194,7 +179,7 @@ fn a_skipped_turn(rt: HostRuntime) -> Result<(), Fail> {
 fn a_replayed_turn_is_told(rt: HostRuntime) -> Result<(), Fail> {
     let (alloc, frame) = (rt.alloc(), quiet(rt.alloc()));
     for number in NUMBERS {
-        let mut engine = engine_of_two(&rt, alloc, 1, places(alloc, 2, 1)?)?;
+        let mut engine = engine_of_two(&rt, alloc, 1, &[], 1)?;
         expect_frame(&rt, &mut engine, &frame, number, Some((1, 0)))?;
         let log = replay(&rt, &mut engine, &frame, &[1, 0])?;
         expect_wrote(&rt, &engine, &log, Some((0, 1)));

@@ -15,7 +15,7 @@ fn one_frames_lag(rt: HostRuntime) -> Result<(), Fail> {
     let ops = [Op::Read(t, None), Op::Write(t, 5)];
     let frame = quiet(alloc);
     for number in NUMBERS {
-        let mut engine = engine_of(&rt, alloc, &[10], &ops, &[Rule::before(0, 1)])??;
+        let mut engine = engine_of(&rt, alloc, &[10], &ops, &[Rule::before(0, 1)])?;
         let log = run_frame(&rt, &mut engine, &frame, number, &NoGate)?;
         expect_log(&rt, &log, &[], &[read(0, 0, &[]), wrote(1, 0)]);
         let log = run_frame(&rt, &mut engine, &frame, number, &NoGate)?;
@@ -41,7 +41,7 @@ fn host_and_two_writers(rt: HostRuntime) -> Result<(), Fail> {
     let nine = frame_of(alloc, &[(t, 9)])?;
     let eight = frame_of(alloc, &[(t, 8)])?;
     for number in NUMBERS {
-        let mut engine = engine_of(&rt, alloc, &[20], &ops, &[])??;
+        let mut engine = engine_of(&rt, alloc, &[20], &ops, &[])?;
         let log = run_frame(&rt, &mut engine, &nine, number, &NoGate)?;
         let all = [posted(9), by(0, 1), by(1, 2), by(1, 3)];
         expect_log(
@@ -74,7 +74,7 @@ fn contradictory_order(rt: HostRuntime) -> Result<(), Fail> {
     let rules = [Rule::before(3, 1), Rule::before(2, 0)];
     let frame = quiet(alloc);
     for number in NUMBERS {
-        let mut engine = engine_of(&rt, alloc, &[10, 10], &ops, &rules)??;
+        let mut engine = engine_of(&rt, alloc, &[10, 10], &ops, &rules)?;
         let log = run_frame(&rt, &mut engine, &frame, number, &NoGate)?;
         let (none, one) = (read(2, 0, &[]), [by(0, 1)]);
         expect_log(

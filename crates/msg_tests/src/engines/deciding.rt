@@ -2,11 +2,11 @@
 ghost use Rattle.std.specs.Prelude.{IfOk};
 ghost use Rattle.msg_exec.specs.Prelude.{IsEngine};
 
-use super::making::{add_deciding, frame_of, places, run_frame, start};
+use super::making::{frame_of, run_frame};
 use crate::adders::Adder;
 use crate::numbers::type_no;
-use msg_exec::{EngineOf, Frame, NoGate, RunFault};
-use msg_system::{Access, BehaviorSystem, System};
+use msg_exec::{EngineBuilder, EngineOf, Frame, NoGate, RunFault};
+use msg_system::{Access, BehaviorSystem, Start, System};
 use msg_world::{Record, World};
 use std::alloc::Global;
 use std::process::Abort;
@@ -20,14 +20,13 @@ fn adder_engine(rt: &impl Abort, alloc: Global) -> Result<EngineOf<BehaviorSyste
     let (from, to) = (type_no(rt, 0), type_no(rt, 1));
     let access = Access::none().with_read_type(from).with_write_type(to);
     let adder = Adder { from, to, total: 0 };
-    let mut systems = Vec::new(alloc);
-    add_deciding(rt, alloc, &mut systems, adder, access)?;
-    let places = places(alloc, 1, 1)?;
-    let world = World::new(alloc, &[10, 10], &[])?;
-    Ok(start(rt, alloc, world, systems, places, Vec::new(alloc))?)
+    let adder = BehaviorSystem::new(alloc, adder, access, Start::Zero, 0);
+    let mut systems = EngineBuilder::new(alloc);
+    systems.add_system(adder, Vec::new(alloc), 1)?;
+    Ok(systems.build(World::new(alloc, &[10, 10], &[])?)?)
 }
 
-/// Runs a frame on so many workers. In it these values, and no others, are written to the second type.
+/// Runs a frame on so many workers, in which just these values are written to the second type.
 fn expect_frame_writes<R: Threads + Sync + Abort>(
     rt: &R,
     engine: &mut EngineOf<BehaviorSystem<Adder>>,

@@ -1,31 +1,13 @@
 // On which threads the jobs of a batch run, and when the gate is called.
-ghost use Rattle.std.specs.Prelude.{IfOk};
-ghost use Rattle.msg_exec.specs.Prelude.{IsEngine};
-
 use super::expecting::{expect_log, posted, read};
 use super::gates::{HoldGate, NotingGate, OneByOne};
-use super::making::{engine_of, frame_of, quiet, run_frame, run_frames};
+use super::making::{frame_of, quiet, readers, run_frame, run_frames};
 use super::noting::noting_engine;
 use crate::numbers::type_no;
-use msg_exec::EngineOf;
-use msg_system::{Op, Scripted, Start, System};
-use std::alloc::Global;
-use std::process::Abort;
+use msg_system::{Op, Start};
 use std::sync::Arc;
 use std::sync::atomic::{AtomicU64, Ordering};
 use std::test::Fail;
-
-/// An engine of so many readers of one type.
-fn readers(rt: &impl Abort, alloc: Global, number: u32) -> Result<EngineOf<Scripted>, Fail>
-    ensures engine { IfOk result (IsEngine ⟦<Scripted as System>⟧.meaning) }
-{
-    let t = type_no(rt, 0);
-    let mut ops = Vec::new(alloc);
-    for _ in 0..number {
-        ops.push(Op::Read(t, None))?;
-    }
-    Ok(engine_of(rt, alloc, &[10], &ops, &[])??)
-}
 
 /// So many readers on so many workers, of which these are held until all were called for.
 #[test]

@@ -16,7 +16,7 @@ fn a_read_of_the_greatest_limit(rt: HostRuntime) -> Result<(), Fail> {
         Op::Read(t, Some(1)),
     ];
     let frame = frame_of(alloc, &[(t, 5), (t, 6)])?;
-    let mut engine = engine_of(&rt, alloc, &[u64::MAX], &ops, &[])??;
+    let mut engine = engine_of(&rt, alloc, &[u64::MAX], &ops, &[])?;
     let log = run_frame(&rt, &mut engine, &frame, 1, &NoGate)?;
     let both = [posted(5), posted(6)];
     let steps = [read(0, 0, &both), read(1, 0, &[]), read(2, 0, &both[..1])];
@@ -32,7 +32,7 @@ fn a_read_of_the_greatest_limit(rt: HostRuntime) -> Result<(), Fail> {
 fn the_last_of_64_types(rt: HostRuntime) -> Result<(), Fail> {
     let (alloc, t) = (rt.alloc(), type_no(&rt, 63));
     let ops = [Op::Write(t, 5), Op::Read(t, None)];
-    let mut engine = engine_of(&rt, alloc, &[1; 64], &ops, &[])??;
+    let mut engine = engine_of(&rt, alloc, &[1; 64], &ops, &[])?;
     let log = run_frame(&rt, &mut engine, &quiet(alloc), 2, &NoGate)?;
     let written = [by(0, 5)];
     expect_log(&rt, &log, &[], &[wrote(0, 0), read(1, 0, &written)]);

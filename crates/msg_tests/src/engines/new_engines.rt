@@ -1,8 +1,8 @@
 // Where systems of a new engine start, engines that there are not, and numbers of workers.
 use super::expecting::{expect_log, posted, read};
-use super::making::{add, engine_of, places, quiet, run_frame, script, scripts, start};
+use super::making::{engine_of, quiet, run_frame, script};
 use crate::numbers::type_no;
-use msg_exec::{BuildRefusal, NoGate, Workers};
+use msg_exec::{BuildError, BuildRefusal, EngineBuilder, NoGate, Workers};
 use msg_order::Rule;
 use msg_system::{Op, Start};
 use msg_world::World;
@@ -22,15 +22,10 @@ fn expect_first_read<R: Threads + Sync + Abort>(
     let mut world = World::new(alloc, &[10], &[])?;
     assert!(rt; world.messages(t).is_some());
     assert!(rt; world.post(t, 5).is_ok());
-    let systems = scripts(rt, alloc, &[Op::Read(t, None)], start_at)?;
-    let mut engine = start(
-        rt,
-        alloc,
-        world,
-        systems,
-        places(alloc, 1, 1)?,
-        Vec::new(alloc),
-    )?;
+    let mut systems = EngineBuilder::new(alloc);
+    let reading = script(rt, alloc, &[Op::Read(t, None)], start_at)?;
+    systems.add_system(reading, Vec::new(alloc), 1)?;
+    let mut engine = systems.build(world)?;
     let log = run_frame(rt, &mut engine, &quiet(alloc), 1, &NoGate)?;
     match start_at {
         Start::Zero => expect_log(rt, &log, &[], &[read(0, 0, &[posted(5)])]),
@@ -48,21 +43,20 @@ fn starts_in_a_world_with_a_message(rt: HostRuntime) -> Result<(), Fail> {
 #[test]
 fn clash_before_cycle(rt: HostRuntime) -> Result<(), Fail> {
     let (alloc, t) = (rt.alloc(), type_no(&rt, 0));
-    let itself = vec![in alloc; Rule::before(0, 0)]?;
-    let ops = vec![in alloc; Op::Read(t, None), Op::Write(t, 1)]?;
-    let mut systems = Vec::new(alloc);
-    add(&mut systems, script(&rt, ops, Start::Zero, 0))?;
-    let world = World::new(alloc, &[10], &[])?;
-    let refused = start(&rt, alloc, world, systems, places(alloc, 1, 1)?, itself);
-    assert!(rt; matches!(refused, Err(BuildRefusal::Clash(0))));
-    let refused = engine_of(
+    let clashing = script(
         &rt,
         alloc,
-        &[10],
-        &[Op::Read(t, None)],
-        &[Rule::before(0, 0)],
+        &[Op::Read(t, None), Op::Write(t, 1)],
+        Start::Zero,
     )?;
-    assert!(rt; matches!(refused, Err(BuildRefusal::Cycle(0))));
+    let mut systems = EngineBuilder::new(alloc);
+    systems.add_system(clashing, Vec::new(alloc), 1)?;
+    systems.add_rule(Rule::before(0, 0))?;
+    let refused = systems.build(World::new(alloc, &[10], &[])?);
+    assert!(rt; matches!(refused, Err(BuildError::Refused(BuildRefusal::Clash(0)))));
+    let itself = [Rule::before(0, 0)];
+    let refused = engine_of(&rt, alloc, &[10], &[Op::Read(t, None)], &itself);
+    assert!(rt; matches!(refused, Err(BuildError::Refused(BuildRefusal::Cycle(0)))));
     Ok(())
 }
 

@@ -2,9 +2,9 @@
 ghost use Rattle.std.specs.Prelude.{IfOk};
 ghost use Rattle.msg_exec.specs.Prelude.{IsEngine};
 
-use super::making::{add, places, script, start};
+use super::making::script;
 use super::prefaced::{Before, Prefaced};
-use msg_exec::EngineOf;
+use msg_exec::{EngineBuilder, EngineOf};
 use msg_system::{Op, Scripted, Start, System};
 use msg_world::World;
 use std::alloc::Global;
@@ -31,21 +31,16 @@ pub fn noting_engine(
 ) -> Result<EngineOf<Prefaced<Scripted>>, Fail>
     ensures engine { IfOk result (IsEngine ⟦<Prefaced<Scripted> as System>⟧.meaning) }
 {
-    let mut systems = Vec::new(alloc);
+    let mut systems = EngineBuilder::new(alloc);
+    let mut digit = 0;
     for (op, start_at) in ops {
-        assert!(rt; systems.len() < 256);
-        let writer = systems.len() as u32;
-        let before = Before::Note {
-            digit: writer as u64 + 1,
-            noted: Arc::try_clone(noted)?,
-        };
+        digit = (digit + 1) % 10;
+        let noted = Arc::try_clone(noted)?;
         let noting = Prefaced {
-            system: script(rt, vec![in alloc; op]?, start_at, writer),
-            before,
+            system: script(rt, alloc, &[op], start_at)?,
+            before: Before::Note { digit, noted },
         };
-        add(&mut systems, noting)?;
+        systems.add_system(noting, Vec::new(alloc), join)?;
     }
-    let places = places(alloc, systems.len(), join)?;
-    let world = World::new(alloc, &[10], &[])?;
-    Ok(start(rt, alloc, world, systems, places, Vec::new(alloc))?)
+    Ok(systems.build(World::new(alloc, &[10], &[])?)?)
 }

@@ -8,7 +8,7 @@ use super::making::{engine_of, quiet, replay, run_frames};
 use super::spoiled::expect_spoiled;
 use crate::numbers::type_no;
 use crate::outcome::tell;
-use msg_exec::{BuildRefusal, EngineOf, Log, NoGate, NoMemory, RunFault};
+use msg_exec::{BuildError, BuildRefusal, EngineOf, Log, NoGate, NoMemory, RunFault};
 use msg_order::Rule;
 use msg_system::{Op, Scripted, System};
 use std::alloc::Global;
@@ -22,10 +22,10 @@ fn lagging(rt: &impl Abort, alloc: Global) -> Result<EngineOf<Scripted>, NoMemor
 {
     let t = type_no(rt, 0);
     let ops = [Op::Read(t, None), Op::Write(t, 5)];
-    match engine_of(rt, alloc, &[10], &ops, &[Rule::before(0, 1)])? {
+    match engine_of(rt, alloc, &[10], &ops, &[Rule::before(0, 1)]) {
         Ok(engine) => Ok(engine),
-        Err(BuildRefusal::NoMemory) => Err(NoMemory),
-        Err(_other) => panic!(rt; "neither a clash nor a cycle"),
+        Err(BuildError::Refused(BuildRefusal::NoMemory)) => Err(NoMemory),
+        Err(_other) => panic!(rt; "the engine can be built"),
     }
 }
 

@@ -3,7 +3,7 @@ use super::expecting::{expect_log, posted, read};
 use super::making::{engine_of, frame_of, run_frame};
 use crate::numbers::type_no;
 use msg_buffer::Written;
-use msg_exec::{BuildRefusal, NoGate, Outcome};
+use msg_exec::{BuildError, BuildRefusal, NoGate, Outcome};
 use msg_order::Rule;
 use msg_system::{Op, Reply};
 use std::process::Abort;
@@ -24,7 +24,7 @@ fn a_post_past_the_limit(rt: HostRuntime) -> Result<(), Fail> {
     let (alloc, t) = (rt.alloc(), type_no(&rt, 0));
     let frame = frame_of(alloc, &[(t, 7), (t, 8)])?;
     for number in [1, 2, 7, 64] {
-        let mut engine = engine_of(&rt, alloc, &[1], &[Op::Read(t, None)], &[])??;
+        let mut engine = engine_of(&rt, alloc, &[1], &[Op::Read(t, None)], &[])?;
         let log = run_frame(&rt, &mut engine, &frame, number, &NoGate)?;
         expect_one_number(&rt, log.posts.as_slice());
         let log = run_frame(&rt, &mut engine, &frame_of(alloc, &[])?, number, &NoGate)?;
@@ -44,9 +44,9 @@ fn rules_that_go_round(rt: HostRuntime) -> Result<(), Fail> {
         Op::Read(t, None),
     ];
     let there_and_back = [Rule::before(0, 1), Rule::before(1, 0)];
-    let refused = engine_of(&rt, alloc, &[10, 10], &ops, &there_and_back)?;
-    assert!(rt; matches!(refused, Err(BuildRefusal::Cycle(0))));
-    let refused = engine_of(&rt, alloc, &[10, 10], &ops, &[Rule::before(1, 1)])?;
-    assert!(rt; matches!(refused, Err(BuildRefusal::Cycle(1))));
+    let refused = engine_of(&rt, alloc, &[10, 10], &ops, &there_and_back);
+    assert!(rt; matches!(refused, Err(BuildError::Refused(BuildRefusal::Cycle(0)))));
+    let refused = engine_of(&rt, alloc, &[10, 10], &ops, &[Rule::before(1, 1)]);
+    assert!(rt; matches!(refused, Err(BuildError::Refused(BuildRefusal::Cycle(1)))));
     Ok(())
 }

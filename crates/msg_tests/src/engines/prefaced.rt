@@ -1,6 +1,6 @@
 // Systems, and what is done before each of their runs.
 use super::noting::note;
-use msg_system::{Access, NoMemory, Reply, Start, System};
+use msg_system::{Access, NoMemory, Numbered, Reply, Start, System};
 use msg_world::{Counts, Lent, Taken, TypeNo};
 use std::alloc::Global;
 use std::sync::Arc;
@@ -67,5 +67,11 @@ impl<S: System> System for Prefaced<S> {
     fn run(&mut self, alloc: Global, lent: Lent, out: &mut Vec<Reply>) -> Result<Taken, NoMemory> {
         self.before.run()?;
         self.system.run(alloc, lent, out)
+    }
+}
+
+impl<S: Numbered> Numbered for Prefaced<S> {
+    fn set_number(&mut self, number: u32) {
+        self.system.set_number(number);
     }
 }

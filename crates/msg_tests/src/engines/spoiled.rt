@@ -2,10 +2,10 @@
 ghost use Rattle.std.specs.Prelude.{IfOk};
 ghost use Rattle.msg_exec.specs.Prelude.{IsEngine};
 
-use super::making::{add, places, quiet, replay, run_frame, run_frames, script, start};
+use super::making::{quiet, replay, run_frame, run_frames, script};
 use super::prefaced::{Before, Prefaced};
 use crate::numbers::type_no;
-use msg_exec::{EngineOf, NoGate, RunFault};
+use msg_exec::{EngineBuilder, EngineOf, NoGate, RunFault};
 use msg_system::{Op, Scripted, Start, System};
 use msg_world::World;
 use std::alloc::Global;
@@ -40,16 +40,13 @@ pub fn expect_spoiled<R: Threads + Sync + Abort, S: System>(
 fn failing_engine(rt: &impl Abort, alloc: Global) -> Result<EngineOf<Prefaced<Scripted>>, Fail>
     ensures engine { IfOk result (IsEngine ⟦<Prefaced<Scripted> as System>⟧.meaning) }
 {
-    let ops = vec![in alloc; Op::Read(type_no(rt, 0), None)]?;
     let failing = Prefaced {
-        system: script(rt, ops, Start::Zero, 0),
+        system: script(rt, alloc, &[Op::Read(type_no(rt, 0), None)], Start::Zero)?,
         before: Before::FailAgain { has_run: false },
     };
-    let mut systems = Vec::new(alloc);
-    add(&mut systems, failing)?;
-    let world = World::new(alloc, &[10], &[])?;
-    let places = places(alloc, 1, 1)?;
-    Ok(start(rt, alloc, world, systems, places, Vec::new(alloc))?)
+    let mut systems = EngineBuilder::new(alloc);
+    systems.add_system(failing, Vec::new(alloc), 1)?;
+    Ok(systems.build(World::new(alloc, &[10], &[])?)?)
 }
 
 /// The second frame has no memory, on so many workers; the engine is spoiled by it.

@@ -4,11 +4,11 @@ ghost use Rattle.msg_exec.specs.Prelude.{IsEngine};
 
 use super::expecting::{expect_log, posted, read};
 use super::gates::{HoldGate, RollCall};
-use super::making::{add, engine_of, frame_of, places, quiet, run_frame, script, start};
+use super::making::{frame_of, quiet, readers, run_frame, script};
 use super::prefaced::{Before, Prefaced};
 use super::spoiled::expect_spoiled;
 use crate::numbers::type_no;
-use msg_exec::{EngineOf, Gate, NoGate, RunFault};
+use msg_exec::{EngineBuilder, EngineOf, Gate, NoGate, RunFault};
 use msg_system::{Op, Scripted, Start, System};
 use msg_world::World;
 use std::alloc::Global;
@@ -57,18 +57,11 @@ impl Gate for Gathering {
 /// each worker has a thread of its own.
 #[test]
 fn each_worker_has_a_thread(rt: HostRuntime) -> Result<(), Fail> {
-    let (alloc, t) = (rt.alloc(), type_no(&rt, 0));
-    let ops = [
-        Op::Read(t, None),
-        Op::Read(t, None),
-        Op::Read(t, None),
-        Op::Read(t, None),
-        Op::Read(t, None),
-    ];
+    let alloc = rt.alloc();
     for number in [2, 3, 5] {
-        let gate = Gathering::new(number);
-        let mut engine = engine_of(&rt, alloc, &[10], &ops[..number as usize], &[])??;
-        run_frame(&rt, &mut engine, &quiet(alloc), number as u32, &gate)?;
+        let gate = Gathering::new(number as u64);
+        let mut engine = readers(&rt, alloc, number)?;
+        run_frame(&rt, &mut engine, &quiet(alloc), number, &gate)?;
         gate.expect_gathered(&rt);
     }
     Ok(())
@@ -78,8 +71,7 @@ fn each_worker_has_a_thread(rt: HostRuntime) -> Result<(), Fail> {
 #[test]
 fn two_workers(rt: HostRuntime) -> Result<(), Fail> {
     let (alloc, t) = (rt.alloc(), type_no(&rt, 0));
-    let ops = [Op::Read(t, None), Op::Read(t, None)];
-    let mut engine = engine_of(&rt, alloc, &[200], &ops, &[])??;
+    let mut engine = readers(&rt, alloc, 2)?;
     let gate = HoldGate::new(2, [true, false, false], 2);
     let log = run_frame(&rt, &mut engine, &frame_of(alloc, &[(t, 3)])?, 2, &gate)?;
     gate.expect_met(&rt);
@@ -95,13 +87,7 @@ fn two_workers(rt: HostRuntime) -> Result<(), Fail> {
 #[test]
 fn four_workers(rt: HostRuntime) -> Result<(), Fail> {
     let (alloc, t) = (rt.alloc(), type_no(&rt, 0));
-    let ops = [
-        Op::Read(t, None),
-        Op::Read(t, None),
-        Op::Read(t, None),
-        Op::Read(t, None),
-    ];
-    let mut engine = engine_of(&rt, alloc, &[10], &ops, &[])??;
+    let mut engine = readers(&rt, alloc, 4)?;
     let gate = RollCall::new();
     let log = run_frame(&rt, &mut engine, &frame_of(alloc, &[(t, 3)])?, 4, &gate)?;
     gate.expect_all(&rt);
@@ -125,25 +111,17 @@ fn first_fails(
 ) -> Result<EngineOf<Prefaced<Scripted>>, Fail>
     ensures engine { IfOk result (IsEngine ⟦<Prefaced<Scripted> as System>⟧.meaning) }
 {
-    let mut systems = Vec::new(alloc);
-    for _system in 0..number {
-        assert!(rt; systems.len() < 256);
-        let writer = systems.len() as u32;
-        let ops = vec![in alloc; Op::Read(type_no(rt, 0), None)]?;
-        let before = if writer == 0 {
+    let mut systems = EngineBuilder::new(alloc);
+    for system in 0..number {
+        let before = if system == 0 {
             Before::Fail
         } else {
             Before::Count(Arc::try_clone(runs)?)
         };
-        let counted = Prefaced {
-            system: script(rt, ops, Start::Zero, writer),
-            before,
-        };
-        add(&mut systems, counted)?;
+        let system = script(rt, alloc, &[Op::Read(type_no(rt, 0), None)], Start::Zero)?;
+        systems.add_system(Prefaced { system, before }, Vec::new(alloc), 1)?;
     }
-    let places = places(alloc, systems.len(), 1)?;
-    let world = World::new(alloc, &[10], &[])?;
-    Ok(start(rt, alloc, world, systems, places, Vec::new(alloc))?)
+    Ok(systems.build(World::new(alloc, &[10], &[])?)?)
 }
 
 /// The other jobs of its batch are run beside it; one worker takes no turn after it.
