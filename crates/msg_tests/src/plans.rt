@@ -1,16 +1,9 @@
 // Plans of worked rules and accesses.
+use crate::numbers::of_types as uses;
 use msg_order::{Plan, PlanRefusal, Rule, lowest_on_cycle};
 use msg_world::Access;
 use std::alloc::AllocError;
 use std::test::Fail;
-
-fn uses(read_types: u64, write_types: u64) -> Access {
-    Access {
-        read_types,
-        write_types,
-        ..Access::none()
-    }
-}
 
 fn has_batches(plan: &Plan, want: &[&[u32]]) -> bool {
     let batches = plan.batches();

@@ -54,23 +54,6 @@ impl Behavior for Alternating {
     }
 }
 
-/// A system that does so within these types.
-fn alternating_system(
-    rt: &impl Abort,
-    alloc: Global,
-    types: (u32, u32),
-    writes: u64,
-) -> BehaviorSystem<Alternating> {
-    let (here, there) = (type_no(rt, types.0), type_no(rt, types.1));
-    let access = Access::none().with_write_type(here).with_write_type(there);
-    let behavior = Alternating {
-        here,
-        there,
-        writes,
-    };
-    BehaviorSystem::new(alloc, behavior, access, Start::Zero, 0)
-}
-
 /// An engine of two of them, the first over the types 0 and 1 and the second over 2 and 3.
 fn engine_of_two(
     rt: &impl Abort,
@@ -83,11 +66,17 @@ fn engine_of_two(
 {
     let mut systems = EngineBuilder::new(alloc);
     for types in [(0, 1), (2, 3)] {
-        let system = alternating_system(rt, alloc, types, writes);
+        let (here, there) = (type_no(rt, types.0), type_no(rt, types.1));
+        let access = Access::none().with_write_type(here).with_write_type(there);
+        let behavior = Alternating {
+            here,
+            there,
+            writes,
+        };
+        let system = BehaviorSystem::new(alloc, behavior, access, Start::Zero, 0);
         systems.add_system(system, Vec::from_slice(alloc, conditions)?, join)?;
     }
-    let world = World::new(alloc, &[200, 200, 200, 200, 200], &[])?;
-    Ok(systems.build(world)?)
+    Ok(systems.build(World::new(alloc, &[200; 5], &[])?)?)
 }
 
 /// What a system wrote in a frame: how many messages to its first type, and how many to its
@@ -122,68 +111,61 @@ fn expect_wrote<S: System>(rt: &impl Abort, engine: &EngineOf<S>, log: &Log, wro
     }
 }
 
-/// A frame on so many workers, in which the systems write so.
+/// A frame on so many workers, or replayed by both, in which the systems write so.
 fn expect_frame<R: Threads + Sync + Abort, S: System>(
     rt: &R,
     engine: &mut EngineOf<S>,
     frame: &Frame,
     number: u32,
+    is_replayed: bool,
     wrote: Wrote,
 ) -> Result<(), RunFault>
     requires engine { IsEngine S.meaning engine.old }
     ensures engine { IsEngine S.meaning engine.new }
 {
+    if is_replayed {
+        let log = replay(rt, engine, frame, &[1, 0])?;
+        expect_wrote(rt, engine, &log, wrote);
+        return Ok(());
+    }
     let log = run_frame(rt, engine, frame, number, &NoGate)?;
     expect_wrote(rt, engine, &log, wrote);
     Ok(())
 }
 
-/// How often they write in a turn, the frame that they join with, and what they write in each of
-/// three frames: never more than 64 messages, and nothing before they joined.
+/// How often they write in a turn, the frame that they join with, whether they ask for a message,
+/// whether the second frame is replayed, and what they write in each of three frames, of which the
+/// second has no message.
 #[test]
 fn they_take_turns(rt: HostRuntime) -> Result<(), Fail> {
-    let (alloc, frame) = (rt.alloc(), quiet(rt.alloc()));
-    for (writes, join, [first, second, third]) in [
-        (1, 1, [(1, 0), (0, 1), (1, 0)]),
-        (0, 1, [(0, 0), (0, 0), (0, 0)]),
-        (65, 1, [(64, 0), (0, 64), (64, 0)]),
-        (1, 3, [(0, 0), (0, 0), (1, 0)]),
+    let (alloc, t) = (rt.alloc(), type_no(&rt, 4));
+    let (came, none) = (frame_of(alloc, &[(t, 1)])?, quiet(alloc));
+    let probe = Probe::OnMessage(t);
+    let asked = [Condition { nots: 0, probe }];
+    for (writes, join, asks, replays, [first, second, third]) in [
+        (1, 1, 0, false, [Some((1, 0)), Some((0, 1)), Some((1, 0))]),
+        (0, 1, 0, false, [Some((0, 0)), Some((0, 0)), Some((0, 0))]),
+        // never more than 64 messages
+        (
+            65,
+            1,
+            0,
+            false,
+            [Some((64, 0)), Some((0, 64)), Some((64, 0))],
+        ),
+        // nothing before they joined
+        (1, 3, 0, false, [Some((0, 0)), Some((0, 0)), Some((1, 0))]),
+        // a skipped turn isn't told: the next one writes as it would have written
+        (1, 1, 1, false, [Some((1, 0)), None, Some((0, 1))]),
+        // a replayed turn is told
+        (1, 1, 0, true, [Some((1, 0)), Some((0, 1)), Some((1, 0))]),
     ] {
         for number in NUMBERS {
-            let mut engine = engine_of_two(&rt, alloc, writes, &[], join)?;
-            expect_frame(&rt, &mut engine, &frame, number, Some(first))?;
-            expect_frame(&rt, &mut engine, &frame, number, Some(second))?;
-            expect_frame(&rt, &mut engine, &frame, number, Some(third))?;
+            let mut engine = engine_of_two(&rt, alloc, writes, &asked[..asks], join)?;
+            expect_frame(&rt, &mut engine, &came, number, false, first)?;
+            expect_frame(&rt, &mut engine, &none, number, replays, second)?;
+            expect_frame(&rt, &mut engine, &came, number, false, third)?;
         }
-    }
-    Ok(())
-}
-
-/// A skipped turn isn't told: the next one writes to the type that it would have written to.
-#[test]
-fn a_skipped_turn(rt: HostRuntime) -> Result<(), Fail> {
-    let (alloc, none) = (rt.alloc(), quiet(rt.alloc()));
-    let came = frame_of(alloc, &[(type_no(&rt, 4), 1)])?;
-    let probe = Probe::OnMessage(type_no(&rt, 4));
-    let conditions = [Condition { nots: 0, probe }];
-    for number in NUMBERS {
-        let mut engine = engine_of_two(&rt, alloc, 1, &conditions, 1)?;
-        expect_frame(&rt, &mut engine, &came, number, Some((1, 0)))?;
-        expect_frame(&rt, &mut engine, &none, number, None)?;
-        expect_frame(&rt, &mut engine, &came, number, Some((0, 1)))?;
-    }
-    Ok(())
-}
-
-#[test]
-fn a_replayed_turn_is_told(rt: HostRuntime) -> Result<(), Fail> {
-    let (alloc, frame) = (rt.alloc(), quiet(rt.alloc()));
-    for number in NUMBERS {
-        let mut engine = engine_of_two(&rt, alloc, 1, &[], 1)?;
-        expect_frame(&rt, &mut engine, &frame, number, Some((1, 0)))?;
-        let log = replay(&rt, &mut engine, &frame, &[1, 0])?;
-        expect_wrote(&rt, &engine, &log, Some((0, 1)));
-        expect_frame(&rt, &mut engine, &frame, number, Some((1, 0)))?;
     }
     Ok(())
 }

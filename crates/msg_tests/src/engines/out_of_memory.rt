@@ -77,21 +77,6 @@ fn frames_on_two_workers(rt: HostRuntime) -> Result<(), Fail> {
     tell(&rt, is_refused)
 }
 
-/// Replays the frame of this number, from 0, of the lagging engine.
-fn replay_one(
-    rt: &impl Abort,
-    alloc: Global,
-    engine: &mut EngineOf<Scripted>,
-    frame: u32,
-) -> Result<(), RunFault>
-    requires engine { IsEngine ⟦<Scripted as System>⟧.meaning engine.old }
-    ensures engine { IsEngine ⟦<Scripted as System>⟧.meaning engine.new }
-{
-    let log = replay(rt, engine, &quiet(alloc), &[0, 1])?;
-    expect_lag(rt, &log, frame);
-    Ok(())
-}
-
 /// Replays two frames of the lagging engine, up to the first fault, and counts those that were
 /// replayed.
 fn replay_two(
@@ -103,9 +88,10 @@ fn replay_two(
     requires engine { IsEngine ⟦<Scripted as System>⟧.meaning engine.old }
     ensures engine { IsEngine ⟦<Scripted as System>⟧.meaning engine.new }
 {
-    replay_one(rt, alloc, engine, 0)?;
+    let frame = quiet(alloc);
+    expect_lag(rt, &replay(rt, engine, &frame, &[0, 1])?, 0);
     *replayed = 1;
-    replay_one(rt, alloc, engine, 1)?;
+    expect_lag(rt, &replay(rt, engine, &frame, &[0, 1])?, 1);
     *replayed = 2;
     Ok(())
 }

@@ -1,20 +1,17 @@
-// The greatest numbers that types, limits and reads may have.
+// The greatest numbers that types, limits and reads may have, and posts past a limit.
 use super::expecting::{by, expect_log, posted, read, wrote};
 use super::making::{engine_of, frame_of, quiet, run_frame};
 use crate::numbers::type_no;
+use msg_buffer::Written;
 use msg_exec::NoGate;
-use msg_system::Op;
+use msg_system::{Op, Reply};
 use std::test::Fail;
 
 /// A read asks for room for what is unread, however great its limit is.
 #[test]
 fn a_read_of_the_greatest_limit(rt: HostRuntime) -> Result<(), Fail> {
     let (alloc, t) = (rt.alloc(), type_no(&rt, 0));
-    let ops = [
-        Op::Read(t, Some(u64::MAX)),
-        Op::Read(t, Some(0)),
-        Op::Read(t, Some(1)),
-    ];
+    let ops = [Some(u64::MAX), Some(0), Some(1)].map(|limit| Op::Read(t, limit));
     let frame = frame_of(alloc, &[(t, 5), (t, 6)])?;
     let mut engine = engine_of(&rt, alloc, &[u64::MAX], &ops, &[])?;
     let log = run_frame(&rt, &mut engine, &frame, 1, &NoGate)?;
@@ -34,7 +31,24 @@ fn the_last_of_64_types(rt: HostRuntime) -> Result<(), Fail> {
     let ops = [Op::Write(t, 5), Op::Read(t, None)];
     let mut engine = engine_of(&rt, alloc, &[1; 64], &ops, &[])?;
     let log = run_frame(&rt, &mut engine, &quiet(alloc), 2, &NoGate)?;
-    let written = [by(0, 5)];
-    expect_log(&rt, &log, &[], &[wrote(0, 0), read(1, 0, &written)]);
+    expect_log(&rt, &log, &[], &[wrote(0, 0), read(1, 0, &[by(0, 5)])]);
+    Ok(())
+}
+
+/// The first post takes the only number, and the second is told that numbers are spent.
+#[test]
+fn a_post_past_the_limit(rt: HostRuntime) -> Result<(), Fail> {
+    let (alloc, t) = (rt.alloc(), type_no(&rt, 0));
+    let (frame, none) = (frame_of(alloc, &[(t, 7), (t, 8)])?, quiet(alloc));
+    for number in [1, 2, 7, 64] {
+        let mut engine = engine_of(&rt, alloc, &[1], &[Op::Read(t, None)], &[])?;
+        let log = run_frame(&rt, &mut engine, &frame, number, &NoGate)?;
+        let [Reply::Wrote(first), Reply::Spent] = log.posts.as_slice() else {
+            panic!(rt; "one number for two posts")
+        };
+        assert_eq!(rt; *first, Written { first: 0, n: 1 });
+        let log = run_frame(&rt, &mut engine, &none, number, &NoGate)?;
+        expect_log(&rt, &log, &[], &[read(0, 1, &[])]);
+    }
     Ok(())
 }
