@@ -75,11 +75,11 @@ fn a_loan_shows_what_its_access_uses(rt: HostRuntime) -> Result<(), Fail> {
     assert!(rt; world.is_home(&access));
     lent_parts_are_a_loan();
     let taken = world.lend_out(&access)?;
+    let mut lent = Lent::open(&world, &access, taken);
     assert!(rt; !world.is_home(&Access::none().with_read_type(t)));
     assert!(rt; world.is_home(&Access::none().with_read_type(u)));
     assert!(rt; world.messages(t).is_none());
     assert!(rt; world.messages(u).is_some());
-    let mut lent = Lent::open(&world, &access, taken);
     assert!(rt; lent.reader(t).is_some());
     assert!(rt; lent.reader(u).is_none() && lent.reader(none).is_none());
     assert_eq!(rt; lent.res(r), Some(7));

@@ -35,7 +35,7 @@ fn starts_in_a_world_with_a_message(rt: HostRuntime) -> Result<(), Fail> {
 #[test]
 fn refused_engines(rt: HostRuntime) -> Result<(), Fail> {
     let (alloc, t, u) = (rt.alloc(), type_no(&rt, 0), type_no(&rt, 1));
-    let clash = [Op::Forward(t, t)];
+    let (clash, alone) = ([Op::Forward(t, t)], [Op::Read(t, None)]);
     let waiting = [
         Op::Write(t, 1),
         Op::Write(u, 2),
@@ -46,7 +46,7 @@ fn refused_engines(rt: HostRuntime) -> Result<(), Fail> {
     let around = [Rule::before(0, 1), Rule::before(1, 0)];
     for (ops, rules, want) in [
         (&clash[..], &own[..], "Refused(Clash(0))"),
-        (&waiting[3..], &own[..], "Refused(Cycle(0))"),
+        (&alone[..], &own[..], "Refused(Cycle(0))"),
         (&waiting[..], &around[..], "Refused(Cycle(0))"),
         (&waiting[..], &next[..], "Refused(Cycle(1))"),
     ] {

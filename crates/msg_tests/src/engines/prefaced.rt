@@ -96,7 +96,7 @@ pub fn noting_engine(
     let mut systems = EngineBuilder::new(alloc);
     let mut digit = 0;
     for (op, start_at) in ops {
-        digit = (digit + 1) % 10;
+        digit = digit % 9 + 1;
         let noted = Arc::try_clone(noted)?;
         let noting = Prefaced {
             system: script(rt, alloc, &[op], start_at)?,

@@ -40,11 +40,11 @@ fn expect_after<S: System>(
     engine: &EngineOf<S>,
     frames: u32,
     numbers: (u64, u64),
-    accounts: [Account; 2],
+    accounts: &[Account],
 ) -> Result<(), RunFault> {
     assert_eq!(rt; engine.frames_run(), frames);
     assert_eq!(rt; kept(engine, type_no(rt, 0)), Some(numbers));
-    assert_eq!(rt; engine.accounts()?.as_slice(), accounts.as_slice());
+    assert_eq!(rt; engine.accounts()?.as_slice(), accounts);
     Ok(())
 }
 
@@ -85,12 +85,14 @@ fn a_replay_takes_lawful_orders_alone(rt: HostRuntime) -> Result<(), Fail> {
     expect_unlawful(&rt, &mut engine, &frames[0], &[0, 1]);
     expect_unlawful(&rt, &mut engine, &frames[0], &[0, 1, 1]);
     assert_eq!(rt; noted.load(Ordering::SeqCst), 0);
-    expect_after(&rt, &engine, 2, (0, 2), [1, 2].map(|s| account(s, t, 2)))?;
+    let accounts = [account(1, t, 2), account(2, t, 2)];
+    expect_after(&rt, &engine, 2, (0, 2), &accounts)?;
     let log = replay(&rt, &mut engine, &frames[0], &[0, 2, 1])?;
     let steps = [wrote(0, 2), read(2, 2, &one), read(1, 2, &one)];
     expect_log(&rt, &log, &[], &steps);
     assert_eq!(rt; noted.load(Ordering::SeqCst), 132);
-    expect_after(&rt, &engine, 3, (1, 3), [1, 2].map(|s| account(s, t, 3)))?;
+    let accounts = [account(1, t, 3), account(2, t, 3)];
+    expect_after(&rt, &engine, 3, (1, 3), &accounts)?;
     Ok(())
 }
 
@@ -124,22 +126,21 @@ fn late_systems(rt: HostRuntime) -> Result<(), Fail> {
     let mut engine = noting_engine(&rt, alloc, 3, ops, &noted)?;
     expect_post_alone(&rt, alloc, &mut engine, 1, 0)?;
     expect_post_alone(&rt, alloc, &mut engine, 2, 1)?;
-    let waiting = [0, 1].map(|s| Account {
-        start: None,
-        ..account(s, t, 0)
-    });
-    expect_after(&rt, &engine, 2, (0, 2), waiting)?;
+    let mut waiting = [account(0, t, 0), account(1, t, 0)];
+    waiting[0].start = None;
+    waiting[1].start = None;
+    expect_after(&rt, &engine, 2, (0, 2), &waiting)?;
     let third = frame_of(alloc, &[(t, 3)])?;
     expect_unlawful(&rt, &mut engine, &third, &[0]);
     expect_unlawful(&rt, &mut engine, &third, &[]);
-    expect_after(&rt, &engine, 2, (0, 2), waiting)?;
+    expect_after(&rt, &engine, 2, (0, 2), &waiting)?;
     let log = replay(&rt, &mut engine, &third, &[1, 0])?;
-    let (two, three) = ([posted(2), posted(3)], [posted(3)]);
+    let both = [posted(2), posted(3)];
     let missing = Step {
         missed: 1,
-        ..read(0, 1, &two)
+        ..read(0, 1, &both)
     };
-    expect_log(&rt, &log, &[2], &[read(1, 2, &three), missing]);
+    expect_log(&rt, &log, &[2], &[read(1, 2, &both[1..]), missing]);
     let from_zero = Account {
         got: 2,
         missed: 1,
@@ -150,7 +151,7 @@ fn late_systems(rt: HostRuntime) -> Result<(), Fail> {
         got: 1,
         ..account(1, t, 3)
     };
-    expect_after(&rt, &engine, 3, (1, 3), [from_zero, from_current])?;
+    expect_after(&rt, &engine, 3, (1, 3), &[from_zero, from_current])?;
     assert_eq!(rt; noted.load(Ordering::SeqCst), 21);
     Ok(())
 }
