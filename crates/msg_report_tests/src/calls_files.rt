@@ -1,258 +1,149 @@
 // What a calls file denotes, and which are refused.
-use crate::texts::joined;
+use crate::texts::{expect_refusal, long_file, nested, wanted};
 use msg_scenario::{Calls, Refusal, read_calls};
 use std::alloc::Global;
-use std::process::Abort;
 use std::test::Fail;
-
-fn expect_refusal(rt: &impl Abort, alloc: Global, text: &str, want: Refusal) {
-    match read_calls(alloc, text.as_bytes()) {
-        Ok(_) => panic!(rt; "accepted {text}"),
-        Err(refusal) => assert!(rt; refusal == want, "{text}: {refusal:?}"),
-    }
-}
 
 fn shown(alloc: Global, calls: &Calls) -> Result<String, Fail> {
     Ok(format!(in alloc; "{} {:?}", calls.limit(), calls.calls())?)
 }
 
-/// Calls and what they are read as.
-const HEADS: [(&str, &str); 20] = [
-    (r#"["write",-7]"#, "Write(-7)"),
-    (
-        r#"["write",9223372036854775807]"#,
-        "Write(9223372036854775807)",
-    ),
-    (
-        r#"["write",-9223372036854775808]"#,
-        "Write(-9223372036854775808)",
-    ),
-    (r#"["batch",[]]"#, "Batch(Items { items: [] })"),
-    (r#"["batch",[1,-2]]"#, "Batch(Items { items: [1, -2] })"),
-    (r#"["update"]"#, "Update"),
-    (r#"["read",0]"#, "Read(0, None)"),
-    (r#"["read",0,1000000]"#, "Read(0, Some(1000000))"),
-    (r#"["missed",0]"#, "Missed(0)"),
-    (r#"["len",0]"#, "Len(0)"),
-    (r#"["clear",0]"#, "Clear(0)"),
-    (r#"["cursor"],["read",1]"#, "Cursor, Read(1, None)"),
-    (r#"["cursor_current"],["len",1]"#, "CursorCurrent, Len(1)"),
-    (r#"["get",9223372036854775807]"#, "Get(9223372036854775807)"),
-    (r#"["current"]"#, "Current"),
-    (r#"["oldest"]"#, "Oldest"),
-    (r#"["count"]"#, "Count"),
-    (r#"["total"]"#, "Total"),
-    (r#"["drain"]"#, "Drain"),
-    (r#"["clear_all"]"#, "ClearAll"),
+/// Calls, each with what it is read as.
+const HEADS: [&str; 20] = [
+    r#"["write",-7] Write(-7)"#,
+    r#"["write",9223372036854775807] Write(9223372036854775807)"#,
+    r#"["write",-9223372036854775808] Write(-9223372036854775808)"#,
+    r#"["batch",[]] Batch(Items { items: [] })"#,
+    r#"["batch",[1,-2]] Batch(Items { items: [1, -2] })"#,
+    r#"["update"] Update"#,
+    r#"["read",0] Read(0, None)"#,
+    r#"["read",0,1000000] Read(0, Some(1000000))"#,
+    r#"["missed",0] Missed(0)"#,
+    r#"["len",0] Len(0)"#,
+    r#"["clear",0] Clear(0)"#,
+    r#"["cursor"],["read",1] Cursor, Read(1, None)"#,
+    r#"["cursor_current"],["len",1] CursorCurrent, Len(1)"#,
+    r#"["get",9223372036854775807] Get(9223372036854775807)"#,
+    r#"["current"] Current"#,
+    r#"["oldest"] Oldest"#,
+    r#"["count"] Count"#,
+    r#"["total"] Total"#,
+    r#"["drain"] Drain"#,
+    r#"["clear_all"] ClearAll"#,
 ];
 
 #[test]
 fn every_head(rt: HostRuntime) -> Result<(), Fail> {
     let alloc = rt.alloc();
-    for (call, want) in HEADS {
+    for row in HEADS {
+        let (call, want) = wanted(&rt, row);
         let text = format!(in alloc; r#"{{"calls":[{call}],"limit":1000000}}"#)?;
-        let Ok(calls) = read_calls(alloc, text.as_bytes()) else {
-            panic!(rt; "refused {text}");
-        };
+        let calls = read_calls(alloc, text.as_bytes())?;
         let want = format!(in alloc; "1000000 [{want}]")?;
         assert_eq!(rt; shown(alloc, &calls)?.as_str(), want.as_str());
     }
     Ok(())
 }
 
-/// Files that are refused.
-const FILES: [(&str, Refusal); 20] = [
-    ("", Refusal::NotJson),
-    (r#"{"limit":"#, Refusal::NotJson),
-    (r#"{"limit":1e400,"calls":[]}"#, Refusal::NotJson),
-    ("[]", Refusal::Shape),
-    ("7", Refusal::Shape),
-    ("{}", Refusal::Shape),
-    (r#"{"limit":1}"#, Refusal::Shape),
-    (r#"{"calls":[]}"#, Refusal::Shape),
-    (r#"{"x":0}"#, Refusal::UnknownKey),
-    (r#"{"limit":1,"calls":[],"x":0}"#, Refusal::UnknownKey),
-    (r#"{"limit":"1","calls":7}"#, Refusal::Shape),
-    (r#"{"limit":-1,"calls":7}"#, Refusal::BadNumber),
-    (r#"{"limit":1000001,"calls":[]}"#, Refusal::BadNumber),
-    (r#"{"limit":1.5,"calls":[]}"#, Refusal::BadNumber),
-    (r#"{"limit":1e3,"calls":[]}"#, Refusal::BadNumber),
-    (r#"{"limit":1.0,"calls":[]}"#, Refusal::BadNumber),
-    (r#"{"limit":-0,"calls":[]}"#, Refusal::BadNumber),
-    (
-        r#"{"limit":99999999999999999999,"calls":[]}"#,
-        Refusal::BadNumber,
-    ),
-    (r#"{"limit":5,"limit":-1,"calls":[]}"#, Refusal::BadNumber),
-    (r#"{"limit":1,"calls":7}"#, Refusal::Shape),
+/// Files, each behind the refusal that it gets.
+const REFUSED: [&str; 48] = [
+    "NotJson ",
+    r#"NotJson {"limit":"#,
+    r#"NotJson {"limit":1e400,"calls":[]}"#,
+    "Shape []",
+    "Shape 7",
+    "Shape {}",
+    r#"Shape {"limit":1}"#,
+    r#"Shape {"calls":[]}"#,
+    r#"UnknownKey {"x":0}"#,
+    r#"UnknownKey {"limit":1,"calls":[],"x":0}"#,
+    r#"Shape {"limit":"1","calls":7}"#,
+    r#"BadNumber {"limit":-1,"calls":7}"#,
+    r#"BadNumber {"limit":1000001,"calls":[]}"#,
+    r#"BadNumber {"limit":1.5,"calls":[]}"#,
+    r#"BadNumber {"limit":1e3,"calls":[]}"#,
+    r#"BadNumber {"limit":1.0,"calls":[]}"#,
+    r#"BadNumber {"limit":-0,"calls":[]}"#,
+    r#"BadNumber {"limit":99999999999999999999,"calls":[]}"#,
+    r#"BadNumber {"limit":5,"limit":-1,"calls":[]}"#,
+    r#"Shape {"limit":1,"calls":7}"#,
+    r#"Shape {"limit":1,"calls":[7]}"#,
+    r#"Shape {"limit":1,"calls":[[]]}"#,
+    r#"Shape {"limit":1,"calls":[[7]]}"#,
+    r#"Shape {"limit":1,"calls":[["walk"]]}"#,
+    r#"Shape {"limit":1,"calls":[["Update"]]}"#,
+    r#"Shape {"limit":1,"calls":[["update",1]]}"#,
+    r#"Shape {"limit":1,"calls":[["write"]]}"#,
+    r#"Shape {"limit":1,"calls":[["write","1"]]}"#,
+    r#"Shape {"limit":1,"calls":[["write",1,2]]}"#,
+    r#"BadNumber {"limit":1,"calls":[["write",1.5]]}"#,
+    r#"BadNumber {"limit":1,"calls":[["write",9223372036854775808]]}"#,
+    r#"Shape {"limit":1,"calls":[["batch",7]]}"#,
+    r#"Shape {"limit":1,"calls":[["batch",[1.5,"1"]]]}"#,
+    r#"BadNumber {"limit":1,"calls":[["batch",[1,1.5]]]}"#,
+    r#"BadNumber {"limit":1,"calls":[["read",1]]}"#,
+    r#"BadNumber {"limit":1,"calls":[["read",-1]]}"#,
+    r#"Shape {"limit":1,"calls":[["read",1,"k"]]}"#,
+    r#"BadNumber {"limit":1,"calls":[["read",1,1000001]]}"#,
+    r#"BadNumber {"limit":1,"calls":[["read",0,1000001]]}"#,
+    r#"Shape {"limit":1,"calls":[["read",0,1,2]]}"#,
+    r#"BadNumber {"limit":1,"calls":[["missed",1]]}"#,
+    r#"BadNumber {"limit":1,"calls":[["len",1]]}"#,
+    r#"BadNumber {"limit":1,"calls":[["clear",1]]}"#,
+    r#"BadNumber {"limit":1,"calls":[["cursor"],["clear",2]]}"#,
+    r#"BadNumber {"limit":1,"calls":[["clear",1],["cursor"]]}"#,
+    r#"BadNumber {"limit":1,"calls":[["get",-1]]}"#,
+    r#"BadNumber {"limit":1,"calls":[["get",9223372036854775808]]}"#,
+    r#"BadNumber {"limit":1,"calls":[["write",1.5],7]}"#,
 ];
 
 #[test]
-fn files(rt: HostRuntime) -> Result<(), Fail> {
-    for (text, want) in FILES {
-        expect_refusal(&rt, rt.alloc(), text, want);
+fn refused_files(rt: HostRuntime) -> Result<(), Fail> {
+    for row in REFUSED {
+        let (want, text) = wanted(&rt, row);
+        expect_refusal(
+            &rt,
+            read_calls(rt.alloc(), text.as_bytes()).err(),
+            want,
+            text,
+        )?;
     }
     let last = r#"{"limit":-1,"limit":5,"calls":[]}"#;
-    let Ok(calls) = read_calls(rt.alloc(), last.as_bytes()) else {
-        panic!(rt; "refused {last}");
-    };
+    let calls = read_calls(rt.alloc(), last.as_bytes())?;
     assert_eq!(rt; shown(rt.alloc(), &calls)?.as_str(), "5 []");
-    let no_text = [255u8];
-    assert_eq!(rt;
-        read_calls(rt.alloc(), &no_text).err(),
-        Some(Refusal::NotJson)
-    );
-    let inside = b"{\"limit\":1,\"calls\":[[\"\xff\"]]}";
-    assert_eq!(rt;
-        read_calls(rt.alloc(), inside).err(),
-        Some(Refusal::NotJson)
-    );
-    Ok(())
-}
-
-/// Calls that make a file refused.
-const CALLS: [(&str, Refusal); 28] = [
-    ("7", Refusal::Shape),
-    ("[]", Refusal::Shape),
-    ("[7]", Refusal::Shape),
-    (r#"["walk"]"#, Refusal::Shape),
-    (r#"["Update"]"#, Refusal::Shape),
-    (r#"["update",1]"#, Refusal::Shape),
-    (r#"["write"]"#, Refusal::Shape),
-    (r#"["write","1"]"#, Refusal::Shape),
-    (r#"["write",1,2]"#, Refusal::Shape),
-    (r#"["write",1.5]"#, Refusal::BadNumber),
-    (r#"["write",9223372036854775808]"#, Refusal::BadNumber),
-    (r#"["batch",7]"#, Refusal::Shape),
-    (r#"["batch",[1.5,"1"]]"#, Refusal::Shape),
-    (r#"["batch",[1,1.5]]"#, Refusal::BadNumber),
-    (r#"["read",1]"#, Refusal::BadNumber),
-    (r#"["read",-1]"#, Refusal::BadNumber),
-    (r#"["read",1,"k"]"#, Refusal::Shape),
-    (r#"["read",1,1000001]"#, Refusal::BadNumber),
-    (r#"["read",0,1000001]"#, Refusal::BadNumber),
-    (r#"["read",0,1,2]"#, Refusal::Shape),
-    (r#"["missed",1]"#, Refusal::BadNumber),
-    (r#"["len",1]"#, Refusal::BadNumber),
-    (r#"["clear",1]"#, Refusal::BadNumber),
-    (r#"["cursor"],["clear",2]"#, Refusal::BadNumber),
-    (r#"["clear",1],["cursor"]"#, Refusal::BadNumber),
-    (r#"["get",-1]"#, Refusal::BadNumber),
-    (r#"["get",9223372036854775808]"#, Refusal::BadNumber),
-    (r#"["write",1.5],7"#, Refusal::BadNumber),
-];
-
-#[test]
-fn calls(rt: HostRuntime) -> Result<(), Fail> {
-    for (call, want) in CALLS {
-        let text = format!(in rt.alloc(); r#"{{"limit":1,"calls":[{call}]}}"#)?;
-        expect_refusal(&rt, rt.alloc(), text.as_str(), want);
+    for no_text in [b"\xff".as_slice(), b"{\"limit\":1,\"calls\":[[\"\xff\"]]}"] {
+        let refused = read_calls(rt.alloc(), no_text).err();
+        assert_eq!(rt; refused, Some(Refusal::NotJson));
     }
     Ok(())
 }
 
-/// Texts of pieces, each so many times, that are accepted.
-const LONG_ACCEPTED: [&[(&str, usize)]; 3] = [
-    &[
-        (r#"{"limit":1,"calls":[["update"]"#, 1),
-        (r#",["update"]"#, 9999),
-        ("]}", 1),
-    ],
-    &[
-        (r#"{"limit":1,"calls":[["cursor"]"#, 1),
-        (r#",["cursor"]"#, 62),
-        ("]}", 1),
-    ],
-    &[
-        (r#"{"limit":1,"calls":[["batch",[1"#, 1),
-        (",1", 1023),
-        ("]]]}", 1),
-    ],
-];
-
-/// Such texts that are refused.
-const LONG: [(&[(&str, usize)], Refusal); 11] = [
-    (
-        &[
-            (r#"{"limit":1,"calls":[["update"]"#, 1),
-            (r#",["update"]"#, 10000),
-            ("]}", 1),
-        ],
-        Refusal::TooMany,
-    ),
-    (
-        &[(r#"{"limit":1,"calls":[7"#, 1), (",7", 10000), ("]}", 1)],
-        Refusal::TooMany,
-    ),
-    (
-        &[
-            (r#"{"limit":1,"calls":[["cursor"]"#, 1),
-            (r#",["cursor"]"#, 63),
-            ("]}", 1),
-        ],
-        Refusal::TooMany,
-    ),
-    (
-        &[
-            (r#"{"limit":1,"calls":[["cursor_current"]"#, 1),
-            (r#",["cursor_current"]"#, 63),
-            ("]}", 1),
-        ],
-        Refusal::TooMany,
-    ),
-    (
-        &[
-            (r#"{"limit":1,"calls":[["batch",[1"#, 1),
-            (",1", 1024),
-            ("]]]}", 1),
-        ],
-        Refusal::TooMany,
-    ),
-    (
-        &[
-            (r#"{"limit":1,"calls":[["batch",[1.5"#, 1),
-            (",1.5", 1024),
-            ("]]]}", 1),
-        ],
-        Refusal::TooMany,
-    ),
-    (
-        &[
-            (r#"{"limit":1,"calls":[["batch",[1.5"#, 1),
-            (",1.5", 1023),
-            ("]]]}", 1),
-        ],
-        Refusal::BadNumber,
-    ),
-    (
-        &[
-            (r#"{"limit":1,"calls":[["batch",["1""#, 1),
-            (r#","1""#, 1024),
-            ("]]]}", 1),
-        ],
-        Refusal::Shape,
-    ),
-    (
-        &[
-            (r#"{"limit":1,"calls":[["batch",[1.5"#, 1),
-            (",1", 1024),
-            ("]]]}", 1),
-        ],
-        Refusal::TooMany,
-    ),
-    (&[("[", 100), ("]", 100)], Refusal::Shape),
-    (&[("[", 200), ("]", 200)], Refusal::NotJson),
+/// Files with a long list, each behind how it is refused, the list's length and its item.
+const LONG: [&str; 12] = [
+    r#"Ok 10000 ["update"] {"limit":1,"calls":[*]}"#,
+    r#"TooMany 10001 ["update"] {"limit":1,"calls":[*]}"#,
+    r#"TooMany 10001 7 {"limit":1,"calls":[*]}"#,
+    r#"Ok 63 ["cursor"] {"limit":1,"calls":[*]}"#,
+    r#"TooMany 64 ["cursor"] {"limit":1,"calls":[*]}"#,
+    r#"TooMany 64 ["cursor_current"] {"limit":1,"calls":[*]}"#,
+    r#"Ok 1024 1 {"limit":1,"calls":[["batch",[*]]]}"#,
+    r#"TooMany 1025 1 {"limit":1,"calls":[["batch",[*]]]}"#,
+    r#"TooMany 1025 1.5 {"limit":1,"calls":[["batch",[*]]]}"#,
+    r#"BadNumber 1024 1.5 {"limit":1,"calls":[["batch",[*]]]}"#,
+    r#"Shape 1025 "1" {"limit":1,"calls":[["batch",[*]]]}"#,
+    r#"TooMany 1024 1 {"limit":1,"calls":[["batch",[1.5,*]]]}"#,
 ];
 
 #[test]
 fn long_files(rt: HostRuntime) -> Result<(), Fail> {
-    for pieces in LONG_ACCEPTED {
-        let text = joined(rt.alloc(), pieces)?;
-        assert!(rt; read_calls(rt.alloc(), text.as_bytes()).is_ok(), "{text}");
+    for row in LONG {
+        let (want, text) = long_file(&rt, row)?;
+        let refused = read_calls(rt.alloc(), text.as_bytes()).err();
+        expect_refusal(&rt, refused, want, row)?;
     }
-    for (pieces, want) in LONG {
-        let text = joined(rt.alloc(), pieces)?;
-        expect_refusal(&rt, rt.alloc(), text.as_str(), want);
+    for (depth, want) in [(100, Refusal::Shape), (200, Refusal::NotJson)] {
+        let text = nested(rt.alloc(), "[", depth, "", "]")?;
+        assert_eq!(rt; read_calls(rt.alloc(), text.as_bytes()).err(), Some(want));
     }
     Ok(())
 }

@@ -8,8 +8,6 @@ mod calls_files;
 #[cfg(test)]
 mod command;
 #[cfg(test)]
-mod limits;
-#[cfg(test)]
 mod made;
 #[cfg(test)]
 mod narrow;
@@ -18,12 +16,8 @@ mod reports;
 #[cfg(test)]
 mod scenario_files;
 #[cfg(test)]
-mod scenes;
-#[cfg(test)]
 mod sparing;
 #[cfg(test)]
 mod std_sinks;
 #[cfg(test)]
 mod texts;
-#[cfg(test)]
-mod worked;

@@ -7,6 +7,7 @@ use msg_scenario::{Kind, MemorySink, Name, Refusal, Scenario, SystemSpec, report
 use msg_system::{Op, Program, Start};
 use msg_world::TypeNo;
 use std::alloc::Global;
+use std::test::Fail;
 
 const REPORT: &str = "\
     frame 1\n\
@@ -57,7 +58,7 @@ fn lag(alloc: Global, rule: Rule, posted: TypeNo) -> Option<Scenario> {
 }
 
 #[test]
-fn a_scenario_of_code_is_reported(rt: HostRuntime) {
+fn a_scenario_of_code_is_reported(rt: HostRuntime) -> Result<(), Fail> {
     let alloc = rt.alloc();
     let Some(scenario) = lag(alloc, Rule::before(0, 1), TypeNo::new(0).unwrap()) else {
         panic!(rt; "no scenario")
@@ -65,9 +66,7 @@ fn a_scenario_of_code_is_reported(rt: HostRuntime) {
     let Ok(true) = scenario.is_runnable(alloc) else {
         panic!(rt; "it can't be run")
     };
-    let Ok(mut engine) = sparing_engine(alloc, &scenario, 100) else {
-        panic!(rt; "no engine")
-    };
+    let mut engine = sparing_engine(alloc, &scenario, 100)?;
     let mut sink = MemorySink::new();
     let workers = workers(&rt, 2);
     let put = report(
@@ -81,6 +80,7 @@ fn a_scenario_of_code_is_reported(rt: HostRuntime) {
     );
     assert_eq!(rt; put, Ok(()));
     assert!(rt; sink.bytes() == REPORT.as_bytes());
+    Ok(())
 }
 
 /// A rule that names no system, one that makes a cycle, and a post to no type.
@@ -101,7 +101,7 @@ fn scenarios_that_cant_be_run(rt: HostRuntime) {
 }
 
 #[test]
-fn names_are_tested(rt: HostRuntime) {
+fn names_are_tested(rt: HostRuntime) -> Result<(), Fail> {
     let alloc = rt.alloc();
     for text in [
         "",
@@ -110,13 +110,13 @@ fn names_are_tested(rt: HostRuntime) {
         "a b",
         "a23456789_123456789_123456789_123",
     ] {
-        let Err(refusal) = Name::new(alloc, text) else {
-            panic!(rt; "{text}")
-        };
-        assert_eq!(rt; refusal, Refusal::BadName, "{text}");
+        assert_eq!(rt;
+            Name::new(alloc, text).err(),
+            Some(Refusal::BadName),
+            "{text}"
+        );
     }
-    let Ok(name) = Name::new(alloc, "a23456789_123456789_123456789_12") else {
-        panic!(rt; "refused")
-    };
+    let name = Name::new(alloc, "a23456789_123456789_123456789_12")?;
     assert_eq!(rt; name.as_str(), "a23456789_123456789_123456789_12");
+    Ok(())
 }

@@ -1,68 +1,70 @@
 // Whole reports: sinks that fail, systems without memory, and readers side by side.
 use crate::narrow::Narrow;
-use crate::sparing::{sparing_engine, workers};
+use crate::sparing::{sparing_engine, sparing_systems, workers};
 use msg_exec::{Gate, NoGate, RunFault};
-use msg_scenario::{MemorySink, ReportFault, Sink, read_scenario, report};
+use msg_scenario::{MemorySink, ReportFault, Sink, read_scenario, report, run_scenario};
 use std::process::Abort;
 use std::sync::atomic::{AtomicU64, Ordering};
 use std::thread::Threads;
 
-const LAG: &str =
-    r#"{"types":[["hit",10]],"systems":[{"name":"r","ops":[["read","hit"]]},{"name":"w","ops":[["write","hit",5]]}],"rules":[["r","w"]],"frames":[[],[]]}"#;
+const TWO_READERS: &str =
+    r#"{"types":[["hit",200]],"systems":[{"name":"a","ops":[["read","hit"]]},{"name":"b","ops":[["read","hit"]]}],"frames":[[["hit",3]],[["hit",4]]]}"#;
 
 const FIRST_FRAME: &str = "\
     frame 1\n\
-    r read hit missed 0: none\n\
-    w write hit 0+1\n";
+    host post hit 0+1\n\
+    a read hit missed 0: 0=3@host\n\
+    b read hit missed 0: 0=3@host\n";
 
 const WHOLE: &str = "\
     frame 1\n\
-    r read hit missed 0: none\n\
-    w write hit 0+1\n\
+    host post hit 0+1\n\
+    a read hit missed 0: 0=3@host\n\
+    b read hit missed 0: 0=3@host\n\
     frame 2\n\
-    r read hit missed 0: 0=5@w\n\
-    w write hit 1+1\n\
-    reader r hit start 0 got 1 missed 0 cleared 0 place 1\n";
+    host post hit 1+1\n\
+    a read hit missed 0: 1=4@host\n\
+    b read hit missed 0: 1=4@host\n\
+    reader a hit start 0 got 2 missed 0 cleared 0 place 2\n\
+    reader b hit start 0 got 2 missed 0 cleared 0 place 2\n";
 
-/// What a report came to, how many frames the engine counts then, and whether it is spoiled.
-#[derive(Drop)]
-pub struct Outcome {
-    pub put: Result<(), ReportFault>,
-    pub frames: u32,
-    pub is_spoiled: bool,
-}
-
-/// The report of a file, by systems each of which has memory for so many runs.
-pub fn report_of<R: Threads + Sync + Abort + AllocGlobal, S: Sink, G: Gate>(
+/// What the report of the two readers came to, each of which has memory for so many runs: of an
+/// engine, with how many frames that counts then, and whether it is spoiled; or from its systems.
+fn report_of<R: Threads + Sync + Abort + AllocGlobal, S: Sink, G: Gate>(
     rt: &R,
-    file: &str,
+    of_engine: bool,
     on: u32,
     runs: u32,
     gate: &G,
     sink: &mut S,
-) -> Outcome {
+) -> (Result<(), ReportFault>, Option<(u32, bool)>) {
     let alloc = rt.alloc();
-    let Ok(scenario) = read_scenario(alloc, file.as_bytes()) else {
-        panic!(rt; "refused: {file}")
-    };
-    let Ok(mut engine) = sparing_engine(alloc, &scenario, runs) else {
-        panic!(rt; "no memory")
+    let Ok(scenario) = read_scenario(alloc, TWO_READERS.as_bytes()) else {
+        panic!(rt; "refused")
     };
     let workers = workers(rt, on);
-    let put = report(rt, alloc, &mut engine, &scenario, workers, gate, sink);
-    Outcome {
-        put,
-        frames: engine.frames_run(),
-        is_spoiled: engine.world().is_none(),
+    if of_engine {
+        let Ok(mut engine) = sparing_engine(alloc, &scenario, runs) else {
+            panic!(rt; "no memory")
+        };
+        let put = report(rt, alloc, &mut engine, &scenario, workers, gate, sink);
+        return (put, Some((engine.frames_run(), engine.world().is_none())));
+    }
+    let Ok(systems) = sparing_systems(alloc, &scenario, runs) else {
+        panic!(rt; "no memory")
+    };
+    match run_scenario(rt, alloc, &scenario, systems, workers, gate, sink) {
+        Ok(put) => (put, None),
+        Err(_) => panic!(rt; "no engine"),
     }
 }
 
 #[test]
 fn sinks_that_take_little(rt: HostRuntime) {
-    for at_once in [1, 7] {
+    for (at_once, of_engine) in [(1, true), (7, true), (1, false)] {
         let mut sink = Narrow::new(at_once, WHOLE.len(), false);
-        let came = report_of(&rt, LAG, 2, 2, &NoGate, &mut sink);
-        assert_eq!(rt; came.put, Ok(()), "{at_once}");
+        let (put, _) = report_of(&rt, of_engine, 2, 2, &NoGate, &mut sink);
+        assert_eq!(rt; put, Ok(()), "{at_once}");
         assert_eq!(rt; sink.failures(), 0, "{at_once}");
         assert!(rt; sink.taken() == WHOLE.as_bytes(), "{at_once}");
     }
@@ -71,49 +73,41 @@ fn sinks_that_take_little(rt: HostRuntime) {
 /// A sink that fails after so many bytes has these, and later frames weren't run.
 #[test]
 fn sinks_that_fail(rt: HostRuntime) {
-    assert_eq!(rt; WHOLE.len(), 155);
-    assert_eq!(rt; FIRST_FRAME.len(), 50);
     for left in 0..WHOLE.len() {
-        let mut sink = Narrow::new(1000, left, left % 2 == 0);
-        let came = report_of(&rt, LAG, 1, 2, &NoGate, &mut sink);
-        assert_eq!(rt; came.put, Err(ReportFault::Write), "{left}");
-        assert_eq!(rt; sink.failures(), 1, "{left}");
-        assert!(rt; sink.taken() == &WHOLE.as_bytes()[..left], "{left}");
-        assert_eq!(rt; came.frames, if left < 50 { 1 } else { 2 }, "{left}");
-        assert!(rt; !came.is_spoiled, "{left}");
+        for of_engine in [true, false] {
+            let mut sink = Narrow::new(1000, left, left % 2 == 0);
+            let (put, engine) = report_of(&rt, of_engine, 1, 2, &NoGate, &mut sink);
+            assert_eq!(rt; put, Err(ReportFault::Write), "{left}");
+            assert_eq!(rt; sink.failures(), 1, "{left}");
+            assert!(rt; sink.taken() == &WHOLE.as_bytes()[..left], "{left}");
+            let frames = if left < FIRST_FRAME.len() { 1 } else { 2 };
+            assert_eq!(rt;
+                engine.unwrap_or((frames, false)),
+                (frames, false),
+                "{left}"
+            );
+        }
     }
 }
 
 #[test]
 fn systems_without_memory(rt: HostRuntime) {
     for (runs, want) in [(0, ""), (1, FIRST_FRAME)] {
-        let mut sink = MemorySink::new();
-        let came = report_of(&rt, LAG, 2, runs, &NoGate, &mut sink);
-        assert_eq!(rt;
-            came.put,
-            Err(ReportFault::Run(RunFault::NoMemory)),
-            "{runs}"
-        );
-        assert_eq!(rt; came.frames, runs, "{runs}");
-        assert!(rt; came.is_spoiled, "{runs}");
-        assert!(rt; sink.bytes() == want.as_bytes(), "{runs}");
+        for of_engine in [true, false] {
+            let mut sink = MemorySink::new();
+            let (put, engine) = report_of(&rt, of_engine, 2, runs, &NoGate, &mut sink);
+            assert_eq!(rt; put, Err(ReportFault::Run(RunFault::NoMemory)), "{runs}");
+            assert_eq!(rt; engine.unwrap_or((runs, true)), (runs, true), "{runs}");
+            assert!(rt; sink.bytes() == want.as_bytes(), "{runs}");
+        }
     }
 }
 
 /// Holds system 0 until it was called for another.
 #[derive(Drop)]
-pub struct HoldGate {
-    pub came: AtomicU64,
-    pub limits_met: AtomicU64,
-}
-
-impl HoldGate {
-    pub fn new() -> HoldGate {
-        HoldGate {
-            came: AtomicU64::new(0),
-            limits_met: AtomicU64::new(0),
-        }
-    }
+struct HoldGate {
+    came: AtomicU64,
+    limits_met: AtomicU64,
 }
 
 impl Gate for HoldGate {
@@ -131,14 +125,19 @@ impl Gate for HoldGate {
     }
 }
 
+/// One reader is held until the other came, so each needs a worker of its own.
 #[test]
 fn readers_run_side_by_side(rt: HostRuntime) {
-    let file =
-        r#"{"types":[["hit",10]],"systems":[{"name":"a","ops":[["len","hit"]]},{"name":"b","ops":[["len","hit"]]}],"frames":[[["hit",5]]]}"#;
-    let gate = HoldGate::new();
-    let mut sink = MemorySink::new();
-    let came = report_of(&rt, file, 2, 2, &gate, &mut sink);
-    assert_eq!(rt; came.put, Ok(()));
-    assert_eq!(rt; gate.came.load(Ordering::SeqCst), 1);
-    assert_eq!(rt; gate.limits_met.load(Ordering::SeqCst), 0);
+    for of_engine in [true, false] {
+        let gate = HoldGate {
+            came: AtomicU64::new(0),
+            limits_met: AtomicU64::new(0),
+        };
+        let mut sink = MemorySink::new();
+        let (put, _) = report_of(&rt, of_engine, 2, 2, &gate, &mut sink);
+        assert_eq!(rt; put, Ok(()));
+        assert_eq!(rt; gate.came.load(Ordering::SeqCst), 2);
+        assert_eq!(rt; gate.limits_met.load(Ordering::SeqCst), 0);
+        assert!(rt; sink.bytes() == WHOLE.as_bytes());
+    }
 }

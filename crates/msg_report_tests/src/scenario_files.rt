@@ -1,15 +1,8 @@
 // What a scenario file denotes, and which are refused.
-use crate::texts::joined;
+use crate::texts::{expect_refusal, long_file, nested, wanted};
 use msg_scenario::{Refusal, Scenario, read_scenario};
 use std::process::Abort;
 use std::test::Fail;
-
-fn expect_refusal(rt: &(impl Abort + AllocGlobal), text: &str, want: Refusal) {
-    match read_scenario(rt.alloc(), text.as_bytes()) {
-        Ok(_) => panic!(rt; "accepted {text}"),
-        Err(refusal) => assert!(rt; refusal == want, "{text}: {refusal:?}"),
-    }
-}
 
 /// The scenario of a text that is accepted.
 fn accepted(rt: &(impl Abort + AllocGlobal), text: &str) -> Scenario {
@@ -19,35 +12,139 @@ fn accepted(rt: &(impl Abort + AllocGlobal), text: &str) -> Scenario {
     }
 }
 
-/// Types and frames of files that are refused.
-const TYPES: [(&str, &str, Refusal); 15] = [
-    (r#"[["Hit",1]]"#, "[]", Refusal::BadName),
-    (r#"[["host",1]]"#, "[]", Refusal::BadName),
-    (r#"[["",1]]"#, "[]", Refusal::BadName),
-    (r#"[["hit",1],["hit",2]]"#, "[]", Refusal::TwiceNamed),
-    (r#"[["hit",1.5]]"#, "[]", Refusal::BadNumber),
-    (r#"[["hit",-1]]"#, "[]", Refusal::BadNumber),
-    (r#"[["hit",1000001]]"#, "[]", Refusal::BadNumber),
-    (
-        r#"[["hit",99999999999999999999]]"#,
-        "[]",
-        Refusal::BadNumber,
-    ),
-    ("[]", r#"[[["hat",1]]]"#, Refusal::UnknownName),
-    (r#"[["hit"]]"#, "[]", Refusal::Shape),
-    (r#"[["hit","1"]]"#, "[]", Refusal::Shape),
-    ("{}", "[]", Refusal::Shape),
-    (r#"[["hit",1]]"#, r#"[[["hit",1.5]]]"#, Refusal::BadNumber),
-    (r#"[["hit",1]]"#, r#"[[["hit"]]]"#, Refusal::Shape),
-    (r#"[["hit",1]]"#, "[7]", Refusal::Shape),
+/// Files, each behind the refusal that it gets.
+const REFUSED: [&str; 58] = [
+    r#"BadName {"types":[["Hit",1]],"systems":[],"frames":[]}"#,
+    r#"BadName {"types":[["host",1]],"systems":[],"frames":[]}"#,
+    r#"BadName {"types":[["",1]],"systems":[],"frames":[]}"#,
+    r#"TwiceNamed {"types":[["hit",1],["hit",2]],"systems":[],"frames":[]}"#,
+    r#"BadNumber {"types":[["hit",1.5]],"systems":[],"frames":[]}"#,
+    r#"BadNumber {"types":[["hit",-1]],"systems":[],"frames":[]}"#,
+    r#"BadNumber {"types":[["hit",1000001]],"systems":[],"frames":[]}"#,
+    r#"BadNumber {"types":[["hit",99999999999999999999]],"systems":[],"frames":[]}"#,
+    r#"UnknownName {"types":[],"systems":[],"frames":[[["hat",1]]]}"#,
+    r#"Shape {"types":[["hit"]],"systems":[],"frames":[]}"#,
+    r#"Shape {"types":[["hit","1"]],"systems":[],"frames":[]}"#,
+    r#"Shape {"types":{},"systems":[],"frames":[]}"#,
+    r#"BadNumber {"types":[["hit",1]],"systems":[],"frames":[[["hit",1.5]]]}"#,
+    r#"Shape {"types":[["hit",1]],"systems":[],"frames":[[["hit"]]]}"#,
+    r#"Shape {"types":[["hit",1]],"systems":[],"frames":[7]}"#,
+    "NotJson ",
+    r#"NotJson {"types":"#,
+    "Shape []",
+    r#"Shape {"types":[]}"#,
+    r#"UnknownKey {"types":[["Hit",-1]],"x":1}"#,
+    r#"UnknownKey {"types":[],"systems":[],"frames":[],"x":1}"#,
+    r#"BadName {"types":[["Hit",-1]],"systems":[],"frames":[]}"#,
+    r#"Shape {"frames":[[["hat",1]]],"types":[],"systems":7}"#,
+    r#"Shape {"types":[],"held":0,"systems":[],"frames":[]}"#,
+    r#"BadNumber {"types":[],"resources":[["r",1.5]],"systems":[],"frames":[]}"#,
+    r#"UnknownName {"types":[],"systems":[{"name":"a","ops":[]}],"rules":[["a","z"]],"frames":[]}"#,
+    r#"Shape {"types":[],"systems":[{"name":"a","ops":[]}],"rules":[["a"]],"frames":[]}"#,
+    r#"Clash(0) {"types":[["h",1]],"systems":[{"name":"a","ops":[["read","h"],["write","h",1]]}],"rules":[["a","a"]],"frames":[]}"#,
+    r#"Cycle(0) {"types":[],"systems":[{"name":"s0","ops":[]},{"name":"s1","ops":[]},{"name":"s2","ops":[]}],"rules":[["s0","s1"],["s1","s0"]],"frames":[]}"#,
+    r#"Cycle(1) {"types":[],"systems":[{"name":"s0","ops":[]},{"name":"s1","ops":[]},{"name":"s2","ops":[]}],"rules":[["s1","s1"]],"frames":[]}"#,
+    r#"Cycle(1) {"types":[],"systems":[{"name":"s0","ops":[]},{"name":"s1","ops":[]},{"name":"s2","ops":[]}],"rules":[["s0","s1"],["s1","s2"],["s2","s1"]],"frames":[]}"#,
+    r#"UnknownKey {"types":[["hit",9]],"systems":[{"name":"A","ops":[],"y":0}],"frames":[]}"#,
+    r#"Shape {"types":[["hit",9]],"systems":[{"name":"a"}],"frames":[]}"#,
+    r#"BadName {"types":[["hit",9]],"systems":[{"name":"é","ops":[]}],"frames":[]}"#,
+    r#"TwiceNamed {"types":[["hit",9]],"systems":[{"name":"a","ops":[]},{"name":"a","ops":7}],"frames":[]}"#,
+    r#"UnknownName {"types":[["hit",9]],"systems":[{"name":"a","ops":[["read","hat",-1]]}],"frames":[]}"#,
+    r#"Shape {"types":[["hit",9]],"systems":[{"name":"a","ops":[["read","hat","k"]]}],"frames":[]}"#,
+    r#"BadNumber {"types":[["hit",9]],"systems":[{"name":"a","ops":[["read","hit",1000001]]}],"frames":[]}"#,
+    r#"Shape {"types":[["hit",9]],"systems":[{"name":"a","ops":[["walk","hit"]]}],"frames":[]}"#,
+    r#"Shape {"types":[["hit",9]],"systems":[{"name":"a","ops":[["signal",1]]}],"frames":[]}"#,
+    r#"Shape {"types":[["hit",9]],"systems":[{"name":"a","ops":[["write","hit",1,2]]}],"frames":[]}"#,
+    r#"Shape {"types":[["hit",9]],"systems":[{"name":"a","ops":[["walk"]]}],"frames":[]}"#,
+    r#"Shape {"types":[["hit",9]],"systems":[{"name":"a","ops":[["walk","hit",1]]}],"frames":[]}"#,
+    r#"Shape {"types":[["hit",9]],"systems":[{"name":"a","ops":[],"if":[["on_message","hit",1,2]]}],"frames":[]}"#,
+    r#"Shape {"types":[["hit",9]],"systems":[{"name":"a","ops":[],"if":[["walk","hit"]]}],"frames":[]}"#,
+    r#"Shape {"types":[["hit",9]],"systems":[{"name":"a","ops":[],"if":[["walk","k",1]]}],"frames":[]}"#,
+    r#"Shape {"types":[["hit",9]],"systems":[{"name":"a","kind":"relay","ops":[["read","hit"]]}],"frames":[]}"#,
+    r#"UnknownName {"types":[["hit",9]],"systems":[{"name":"a","kind":"relay","ops":[["read","hat"]]}],"frames":[]}"#,
+    r#"Shape {"types":[["hit",9]],"systems":[{"name":"a","kind":"fast","ops":7}],"frames":[]}"#,
+    r#"BadNumber {"types":[["hit",9]],"systems":[{"name":"a","ops":[],"join":0}],"frames":[]}"#,
+    r#"BadNumber {"types":[["hit",9]],"systems":[{"name":"a","ops":[],"join":10001}],"frames":[]}"#,
+    r#"Shape {"types":[["hit",9]],"systems":[{"name":"a","ops":[],"join":"1"}],"frames":[]}"#,
+    r#"Shape {"types":[["hit",9]],"systems":[{"name":"a","ops":[],"start":1}],"frames":[]}"#,
+    r#"BadNumber {"types":[["hit",9]],"systems":[{"name":"a","ops":[],"start":"last","join":0}],"frames":[]}"#,
+    r#"Shape {"types":[["hit",9]],"systems":[{"name":"a","ops":[],"if":[["not",["not"]]]}],"frames":[]}"#,
+    r#"Clash(0) {"types":[["hit",9]],"systems":[{"name":"a","ops":[["forward","hit","hit"]]}],"frames":[]}"#,
+    r#"Clash(1) {"types":[["hit",9]],"systems":[{"name":"a","ops":[]},{"name":"b","ops":[["drain","hit"],["len","hit"]]}],"frames":[]}"#,
+    r#"BadName {"types":[["aaaaaaaaaaaaaaaaaaaaaaaaaaaaaaaaa",1]],"systems":[],"frames":[]}"#,
 ];
 
 #[test]
-fn types(rt: HostRuntime) -> Result<(), Fail> {
-    for (types, frames, want) in TYPES {
-        let text = format!(in rt.alloc(); r#"{{"types":{types},"systems":[],"frames":{frames}}}"#)?;
-        expect_refusal(&rt, text.as_str(), want);
+fn refused_files(rt: HostRuntime) -> Result<(), Fail> {
+    for row in REFUSED {
+        let (want, text) = wanted(&rt, row);
+        let refused = read_scenario(rt.alloc(), text.as_bytes()).err();
+        expect_refusal(&rt, refused, want, text)?;
     }
+    let no_text = read_scenario(rt.alloc(), b"\xff").err();
+    assert_eq!(rt; no_text, Some(Refusal::NotJson));
+    Ok(())
+}
+
+/// Files with a long list, each behind how it is refused, the list's length and its item: the
+/// greatest length, and one more; a list of which the first item is bad too.
+const LONG: [&str; 19] = [
+    r#"Shape 64 0 {"types":[*],"systems":[],"frames":[]}"#,
+    r#"TooMany 65 0 {"types":[*],"systems":[],"frames":[]}"#,
+    r#"Shape 256 0 {"types":[],"systems":[*],"frames":[]}"#,
+    r#"TooMany 257 0 {"types":[],"systems":[*],"frames":[]}"#,
+    r#"Shape 64 0 {"types":[],"resources":[*],"systems":[],"frames":[]}"#,
+    r#"TooMany 65 0 {"types":[],"resources":[*],"systems":[],"frames":[]}"#,
+    r#"Ok 64 ["len","hit"] {"types":[["hit",9]],"systems":[{"name":"a","ops":[*]}],"frames":[]}"#,
+    r#"TooMany 65 ["len","hit"] {"types":[["hit",9]],"systems":[{"name":"a","ops":[*]}],"frames":[]}"#,
+    r#"Ok 8 ["on_message","hit"] {"types":[["hit",9]],"systems":[{"name":"a","ops":[],"if":[*]}],"frames":[]}"#,
+    r#"TooMany 9 ["on_message","hit"] {"types":[["hit",9]],"systems":[{"name":"a","ops":[],"if":[*]}],"frames":[]}"#,
+    r#"Ok 1024 1 {"types":[["hit",9]],"systems":[{"name":"a","ops":[["batch","hit",[*]]]}],"frames":[]}"#,
+    r#"TooMany 1025 1 {"types":[["hit",9]],"systems":[{"name":"a","ops":[["batch","hit",[*]]]}],"frames":[]}"#,
+    r#"Ok 1024 ["hit",1] {"types":[["hit",9]],"systems":[],"frames":[[*]]}"#,
+    r#"TooMany 1025 ["hit",1] {"types":[["hit",9]],"systems":[],"frames":[[*]]}"#,
+    r#"Ok 1024 ["a","b"] {"types":[],"systems":[{"name":"a","ops":[]},{"name":"b","ops":[]}],"rules":[*],"frames":[]}"#,
+    r#"TooMany 1025 ["a","b"] {"types":[],"systems":[{"name":"a","ops":[]},{"name":"b","ops":[]}],"rules":[*],"frames":[]}"#,
+    r#"Ok 10000 [] {"types":[],"systems":[],"frames":[*]}"#,
+    r#"TooMany 10001 [] {"types":[],"systems":[],"frames":[*]}"#,
+    r#"TooMany 1024 1 {"types":[["hit",9]],"systems":[{"name":"a","ops":[["batch","hit",[1.5,*]]]}],"frames":[]}"#,
+];
+
+#[test]
+fn long_files(rt: HostRuntime) -> Result<(), Fail> {
+    for row in LONG {
+        let (want, text) = long_file(&rt, row)?;
+        let refused = read_scenario(rt.alloc(), text.as_bytes()).err();
+        expect_refusal(&rt, refused, want, row)?;
+    }
+    Ok(())
+}
+
+/// Sixteen `not`s are read, and seventeen are too many. A list as deep is no scenario.
+#[test]
+fn deep_files(rt: HostRuntime) -> Result<(), Fail> {
+    let alloc = rt.alloc();
+    let (asks, equals) = (r#"["on_message","hat"]"#, r#"["resource_equals","k",1]"#);
+    for (nots, probe, want) in [
+        (16, asks, Refusal::UnknownName),
+        (17, asks, Refusal::TooMany),
+        (17, equals, Refusal::TooMany),
+    ] {
+        let condition = nested(alloc, r#"["not","#, nots, probe, "]")?;
+        let text = format!(in alloc;
+            r#"{{"types":[],"systems":[{{"name":"a","ops":[],"if":[{condition}]}}],"frames":[]}}"#
+        )?;
+        assert_eq!(rt;
+            read_scenario(alloc, text.as_bytes()).err(),
+            Some(want),
+            "{nots}"
+        );
+    }
+    let text = nested(alloc, "[", 100, "", "]")?;
+    assert_eq!(rt;
+        read_scenario(alloc, text.as_bytes()).err(),
+        Some(Refusal::Shape)
+    );
     Ok(())
 }
 
@@ -63,71 +160,6 @@ fn longest_names(rt: HostRuntime) {
     assert_eq!(rt; *limit, 1_000_000);
 }
 
-/// Files that are refused.
-const FILES: [(&str, Refusal); 16] = [
-    ("", Refusal::NotJson),
-    (r#"{"types":"#, Refusal::NotJson),
-    ("[]", Refusal::Shape),
-    (r#"{"types":[]}"#, Refusal::Shape),
-    (r#"{"types":[["Hit",-1]],"x":1}"#, Refusal::UnknownKey),
-    (
-        r#"{"types":[],"systems":[],"frames":[],"x":1}"#,
-        Refusal::UnknownKey,
-    ),
-    (
-        r#"{"types":[["Hit",-1]],"systems":[],"frames":[]}"#,
-        Refusal::BadName,
-    ),
-    (
-        r#"{"frames":[[["hat",1]]],"types":[],"systems":7}"#,
-        Refusal::Shape,
-    ),
-    (
-        r#"{"types":[],"held":0,"systems":[],"frames":[]}"#,
-        Refusal::Shape,
-    ),
-    (
-        r#"{"types":[],"resources":[["r",1.5]],"systems":[],"frames":[]}"#,
-        Refusal::BadNumber,
-    ),
-    (
-        r#"{"types":[],"systems":[{"name":"a","ops":[]}],"rules":[["a","z"]],"frames":[]}"#,
-        Refusal::UnknownName,
-    ),
-    (
-        r#"{"types":[],"systems":[{"name":"a","ops":[]}],"rules":[["a"]],"frames":[]}"#,
-        Refusal::Shape,
-    ),
-    (
-        r#"{"types":[["h",1]],"systems":[{"name":"a","ops":[["read","h"],["write","h",1]]}],"rules":[["a","a"]],"frames":[]}"#,
-        Refusal::Clash(0),
-    ),
-    (
-        r#"{"types":[],"systems":[{"name":"s0","ops":[]},{"name":"s1","ops":[]},{"name":"s2","ops":[]}],"rules":[["s0","s1"],["s1","s0"]],"frames":[]}"#,
-        Refusal::Cycle(0),
-    ),
-    (
-        r#"{"types":[],"systems":[{"name":"s0","ops":[]},{"name":"s1","ops":[]},{"name":"s2","ops":[]}],"rules":[["s1","s1"]],"frames":[]}"#,
-        Refusal::Cycle(1),
-    ),
-    (
-        r#"{"types":[],"systems":[{"name":"s0","ops":[]},{"name":"s1","ops":[]},{"name":"s2","ops":[]}],"rules":[["s0","s1"],["s1","s2"],["s2","s1"]],"frames":[]}"#,
-        Refusal::Cycle(1),
-    ),
-];
-
-#[test]
-fn files(rt: HostRuntime) {
-    for (text, want) in FILES {
-        expect_refusal(&rt, text, want);
-    }
-    let no_text = [255u8];
-    assert_eq!(rt;
-        read_scenario(rt.alloc(), &no_text).err(),
-        Some(Refusal::NotJson)
-    );
-}
-
 #[test]
 fn one_name_of_a_type_and_a_resource(rt: HostRuntime) {
     let text = r#"{"types":[["hit",1]],"resources":[["hit",-5]],"systems":[],"frames":[[],[]]}"#;
@@ -138,167 +170,6 @@ fn one_name_of_a_type_and_a_resource(rt: HostRuntime) {
     assert_eq!(rt; *value, -5);
     assert_eq!(rt; scenario.frames.as_slice().len(), 2);
     assert!(rt; !scenario.held);
-}
-
-/// Systems that make a file refused.
-const SYSTEMS: [(&str, Refusal); 26] = [
-    (r#"{"name":"A","ops":[],"y":0}"#, Refusal::UnknownKey),
-    (r#"{"name":"a"}"#, Refusal::Shape),
-    (r#"{"name":"é","ops":[]}"#, Refusal::BadName),
-    (
-        r#"{"name":"a","ops":[]},{"name":"a","ops":7}"#,
-        Refusal::TwiceNamed,
-    ),
-    (
-        r#"{"name":"a","ops":[["read","hat",-1]]}"#,
-        Refusal::UnknownName,
-    ),
-    (r#"{"name":"a","ops":[["read","hat","k"]]}"#, Refusal::Shape),
-    (
-        r#"{"name":"a","ops":[["read","hit",1000001]]}"#,
-        Refusal::BadNumber,
-    ),
-    (r#"{"name":"a","ops":[["walk","hit"]]}"#, Refusal::Shape),
-    (r#"{"name":"a","ops":[["signal",1]]}"#, Refusal::Shape),
-    (
-        r#"{"name":"a","ops":[["write","hit",1,2]]}"#,
-        Refusal::Shape,
-    ),
-    (r#"{"name":"a","ops":[["walk"]]}"#, Refusal::Shape),
-    (r#"{"name":"a","ops":[["walk","hit",1]]}"#, Refusal::Shape),
-    (
-        r#"{"name":"a","ops":[],"if":[["on_message","hit",1,2]]}"#,
-        Refusal::Shape,
-    ),
-    (
-        r#"{"name":"a","ops":[],"if":[["walk","hit"]]}"#,
-        Refusal::Shape,
-    ),
-    (
-        r#"{"name":"a","ops":[],"if":[["walk","k",1]]}"#,
-        Refusal::Shape,
-    ),
-    (
-        r#"{"name":"a","kind":"relay","ops":[["read","hit"]]}"#,
-        Refusal::Shape,
-    ),
-    (
-        r#"{"name":"a","kind":"relay","ops":[["read","hat"]]}"#,
-        Refusal::UnknownName,
-    ),
-    (r#"{"name":"a","kind":"fast","ops":7}"#, Refusal::Shape),
-    (r#"{"name":"a","ops":[],"join":0}"#, Refusal::BadNumber),
-    (r#"{"name":"a","ops":[],"join":10001}"#, Refusal::BadNumber),
-    (r#"{"name":"a","ops":[],"join":"1"}"#, Refusal::Shape),
-    (r#"{"name":"a","ops":[],"start":1}"#, Refusal::Shape),
-    (
-        r#"{"name":"a","ops":[],"start":"last","join":0}"#,
-        Refusal::BadNumber,
-    ),
-    (
-        r#"{"name":"a","ops":[],"if":[["not",["not"]]]}"#,
-        Refusal::Shape,
-    ),
-    (
-        r#"{"name":"a","ops":[["forward","hit","hit"]]}"#,
-        Refusal::Clash(0),
-    ),
-    (
-        r#"{"name":"a","ops":[]},{"name":"b","ops":[["drain","hit"],["len","hit"]]}"#,
-        Refusal::Clash(1),
-    ),
-];
-
-#[test]
-fn systems(rt: HostRuntime) -> Result<(), Fail> {
-    for (systems, want) in SYSTEMS {
-        let text = format!(in rt.alloc();
-            r#"{{"types":[["hit",9]],"systems":[{systems}],"frames":[]}}"#
-        )?;
-        expect_refusal(&rt, text.as_str(), want);
-    }
-    Ok(())
-}
-
-/// Texts of pieces, each so many times, that are refused: a long name; many types; many systems; a
-/// long batch whose first value is no whole number; sixteen `not`s, which are read; seventeen; a
-/// deep list.
-const LONG: [(&[(&str, usize)], Refusal); 8] = [
-    (
-        &[
-            (r#"{"types":[[""#, 1),
-            ("a", 33),
-            (r#"",1]],"systems":[],"frames":[]}"#, 1),
-        ],
-        Refusal::BadName,
-    ),
-    (
-        &[
-            (r#"{"types":[0"#, 1),
-            (",0", 64),
-            (r#"],"systems":[],"frames":[]}"#, 1),
-        ],
-        Refusal::TooMany,
-    ),
-    (
-        &[
-            (r#"{"types":[],"systems":[0"#, 1),
-            (",0", 256),
-            (r#"],"frames":[]}"#, 1),
-        ],
-        Refusal::TooMany,
-    ),
-    (
-        &[
-            (
-                r#"{"types":[["hit",9]],"systems":[{"name":"a","ops":[["batch","hit",[1.5"#,
-                1,
-            ),
-            (",1", 1024),
-            (r#"]]]}],"frames":[]}"#, 1),
-        ],
-        Refusal::TooMany,
-    ),
-    (
-        &[
-            (r#"{"types":[],"systems":[{"name":"a","ops":[],"if":["#, 1),
-            (r#"["not","#, 16),
-            (r#"["on_message","hat"]"#, 1),
-            ("]", 16),
-            (r#"]}],"frames":[]}"#, 1),
-        ],
-        Refusal::UnknownName,
-    ),
-    (
-        &[
-            (r#"{"types":[],"systems":[{"name":"a","ops":[],"if":["#, 1),
-            (r#"["not","#, 17),
-            (r#"["on_message","hat"]"#, 1),
-            ("]", 17),
-            (r#"]}],"frames":[]}"#, 1),
-        ],
-        Refusal::TooMany,
-    ),
-    (
-        &[
-            (r#"{"types":[],"systems":[{"name":"a","ops":[],"if":["#, 1),
-            (r#"["not","#, 17),
-            (r#"["resource_equals","k",1]"#, 1),
-            ("]", 17),
-            (r#"]}],"frames":[]}"#, 1),
-        ],
-        Refusal::TooMany,
-    ),
-    (&[("[", 100), ("]", 100)], Refusal::Shape),
-];
-
-#[test]
-fn long_files(rt: HostRuntime) -> Result<(), Fail> {
-    for (pieces, want) in LONG {
-        let text = joined(rt.alloc(), pieces)?;
-        expect_refusal(&rt, text.as_str(), want);
-    }
-    Ok(())
 }
 
 /// A file with every op and every key.

@@ -1,20 +1,98 @@
 // Boards of no jobs, boards that threads share, and jobs that hold boxes.
-ghost use Rattle.std.specs.Prelude.{◌≡◌, ◌+◌};
+ghost use Rattle.std.specs.Prelude.{◌≡◌, ◌+◌, ◌<◌, ◌≤◌, length};
+ghost use Rattle.msg_board.specs.Prelude.{IsIdle, HasEnded};
 
 mod boxes;
-mod no_jobs;
 mod out_of_memory;
-mod threads;
 
-use msg_board::Work;
+use msg_board::{Board, NoMemory, Pass, Work};
+use std::alloc::Global;
+use std::test::Fail;
+use std::thread;
+use std::thread::Threads;
+
+/// Work that a thread knows how to do.
+trait Runs: Work {
+    fn run(job: Self::Job) -> Self::Done
+        ensures { Self.lawful job result };
+}
 
 /// The one lawful result of a job is its successor.
 struct AddOne;
 
 impl Work for AddOne {
-    type Job = u64;
+    type Job = u32;
 
     type Done = u64;
 
     ghost lawful = { λ j d. d ≡ j + 1 };
+}
+
+impl Runs for AddOne {
+    fn run(job: u32) -> u64 {
+        job as u64 + 1
+    }
+}
+
+/// Draws until None.
+fn work<W: Runs>(board: &Board<W>, mut pass: Pass<W::Job, W::Done>) -> Pass<W::Job, W::Done>
+    requires { IsIdle board.now pass }
+    ensures { HasEnded board.now result }
+{
+    while let Some((k, job)) = board.draw(&mut pass) {
+        board.hand_in(&mut pass, k, W::run(job));
+    }
+    pass
+}
+
+/// As many threads as passes, each with one of its own.
+fn run_jobs<R: Threads + Sync, W: Runs + Send>(
+    rt: &R,
+    alloc: Global,
+    jobs: Vec<W::Job>,
+    passes: u32,
+) -> Result<Vec<W::Done>, NoMemory>
+    requires jobs { length jobs.items ≤ 256 }
+    requires passes { (0 < passes) × (passes ≤ 64) }
+{
+    let (board, passes) = Board::<W>::new(alloc, jobs, passes)?;
+    let shared = &board;
+    let each = |pass: Pass<W::Job, W::Done>| -> Pass<W::Job, W::Done>
+        requires { IsIdle shared.now pass }
+        ensures { HasEnded shared.entry.now result }
+    { work(shared, pass) };
+    let ended = thread::map_vec(rt, passes, &each)?;
+    board.close(alloc, ended)
+}
+
+/// So many jobs and so many threads: each number's successor, in the order of the jobs.
+#[test]
+fn threads_draw_jobs(rt: HostRuntime) -> Result<(), Fail> {
+    for (n, passes) in [(100, 2), (256, 64), (1, 3)] {
+        let mut jobs = Vec::new(rt.alloc());
+        for i in 0..n {
+            jobs.push(i)?;
+        }
+        assert!(rt; jobs.len() <= 256);
+        let results = run_jobs::<HostRuntime, AddOne>(&rt, rt.alloc(), jobs, passes)?;
+        assert_eq!(rt; results.len(), n as usize);
+        assert!(rt; results.iter().enumerate().all(|(i, x)| *x == i as u64 + 1));
+    }
+    Ok(())
+}
+
+/// Over another allocator than `Global`.
+#[test]
+fn no_jobs_and_one_pass(rt: HostRuntime) -> Result<(), Fail> {
+    let heap = rt.alloc();
+    let (board, mut passes) = Board::<AddOne, &Global>::new(&heap, Vec::new(&heap), 1)?;
+    let Some(mut pass) = passes.pop() else {
+        panic!(rt; "a pass")
+    };
+    let drawn = board.draw(&mut pass);
+    assert!(rt; drawn.is_none());
+    passes.push(pass)?;
+    let results = board.close(&heap, passes)?;
+    assert!(rt; results.is_empty());
+    Ok(())
 }

@@ -1,13 +1,14 @@
 // Buffers: what calls files can't show, and the texts of refusals.
-mod left_reads;
-
-use msg_buffer::laws::{histories_only_grow, messages_outlive_one_update, readers_tile};
+use msg_buffer::laws::{
+    histories_only_grow, messages_outlive_one_update, readers_tile, reads_may_be_left,
+};
 use msg_buffer::{BatchRefusal, MessageCursor, MessageId, Messages, WriteRefusal, Written};
 use std::test::Fail;
 
 #[test]
 fn last_number(rt: HostRuntime) -> Result<(), Fail> {
     let mut buffer: Messages<i64> = Messages::new(rt.alloc(), 2);
+    assert!(rt; buffer.is_empty());
     let batch = Vec::from_slice(rt.alloc(), &[1, 2, 3])?;
     match buffer.write_batch(batch) {
         Err(BatchRefusal::NumbersSpent(batch)) => assert_eq!(rt;
@@ -22,36 +23,6 @@ fn last_number(rt: HostRuntime) -> Result<(), Fail> {
     let none = buffer.write_batch(Vec::new(rt.alloc()));
     assert_eq!(rt; none.ok(), Some(Written { first: 2, n: 0 }));
     assert_eq!(rt; buffer.get(MessageId(u64::MAX)), None);
-    Ok(())
-}
-
-#[test]
-fn cursors_and_queries(rt: HostRuntime) -> Result<(), Fail> {
-    let mut buffer: Messages<i64> = Messages::new(rt.alloc(), 10);
-    assert!(rt; buffer.is_empty());
-    assert!(rt; buffer.write(1).is_ok());
-    buffer.update();
-    buffer.update();
-    let from_zero = MessageCursor::default();
-    let current = buffer.get_cursor_current();
-    assert_eq!(rt; from_zero.place(), 0);
-    assert_eq!(rt; current.place(), 1);
-    assert_eq!(rt; from_zero.missed(&buffer), 1);
-    assert_eq!(rt; current.missed(&buffer), 0);
-    assert!(rt; buffer.write(2).is_ok());
-    assert_eq!(rt; buffer.get(MessageId(0)), None);
-    assert_eq!(rt; buffer.get(MessageId(1)).copied(), Some(2));
-    assert_eq!(rt; buffer.get(MessageId(2)), None);
-    let [written] = buffer.current() else {
-        panic!(rt; "one message is new")
-    };
-    assert_eq!(rt; (written.id, written.message), (MessageId(1), 2));
-    assert_eq!(rt; buffer.oldest(), 1);
-    assert_eq!(rt; buffer.count(), 2);
-    assert_eq!(rt; buffer.len(), 1);
-    buffer.update();
-    assert!(rt; buffer.current().is_empty());
-    assert_eq!(rt; buffer.len(), 1);
     Ok(())
 }
 
@@ -102,11 +73,33 @@ fn a_walk_left_early(rt: HostRuntime) -> Result<(), Fail> {
 fn refusals_say_why(rt: HostRuntime) -> Result<(), Fail> {
     let spent: WriteRefusal<i64> = WriteRefusal::NumbersSpent(1);
     let refused: WriteRefusal<i64> = WriteRefusal::NoMemory(1);
-    let texts = format!(in rt.alloc(); "{spent}, {refused}")?;
-    assert_eq!(rt; texts.as_str(), "no number is left, want of memory");
-    let spent: BatchRefusal<i64> = BatchRefusal::NumbersSpent(Vec::new(rt.alloc()));
-    let refused: BatchRefusal<i64> = BatchRefusal::NoMemory(Vec::new(rt.alloc()));
-    let texts = format!(in rt.alloc(); "{spent}, {refused}")?;
-    assert_eq!(rt; texts.as_str(), "too few numbers are left, want of memory");
+    let few: BatchRefusal<i64> = BatchRefusal::NumbersSpent(Vec::new(rt.alloc()));
+    let none: BatchRefusal<i64> = BatchRefusal::NoMemory(Vec::new(rt.alloc()));
+    assert_eq!(rt;
+        format!(in rt.alloc(); "{spent}, {refused}, {few}, {none}")?.as_str(),
+        "no number is left, want of memory, too few numbers are left, want of memory"
+    );
+    Ok(())
+}
+
+/// A buffer that dropped two messages and keeps three: cursors that begin at 0, left after so many.
+#[test]
+fn what_is_not_taken_stays_unread(rt: HostRuntime) -> Result<(), Fail> {
+    let mut buffer: Messages<i64> = Messages::new(rt.alloc(), 10);
+    for value in 0..2 {
+        assert!(rt; buffer.write(value).is_ok());
+    }
+    buffer.update();
+    buffer.update();
+    for value in 2..5 {
+        assert!(rt; buffer.write(value).is_ok());
+    }
+    for (taken, place) in [(0, 2), (1, 3), (2, 4), (3, 5), (4, 5), (u64::MAX, 5)] {
+        let mut cursor = MessageCursor::default();
+        reads_may_be_left(&mut cursor, &buffer, taken);
+        assert_eq!(rt; cursor.place(), place, "after {taken}");
+        assert_eq!(rt; cursor.missed(&buffer), 0);
+        assert_eq!(rt; cursor.len(&buffer), 5 - place);
+    }
     Ok(())
 }

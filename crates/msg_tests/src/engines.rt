@@ -2,18 +2,14 @@
 // want of memory, and that a frame is meant as it is defined.
 mod alternating;
 mod beacons;
-mod cases;
+mod building;
 mod deciding;
 mod expecting;
 mod frames;
 mod gates;
-mod great_limits;
-mod making;
-mod new_engines;
-mod noting;
+mod limits;
+pub mod making;
 mod out_of_memory;
-mod posting;
 mod prefaced;
 mod replay;
 mod spoiled;
-mod workers;

@@ -1,15 +1,9 @@
 // Plans of worked rules and accesses.
+use crate::numbers::of_types as uses;
 use msg_order::{Plan, PlanRefusal, Rule, lowest_on_cycle};
 use msg_world::Access;
 use std::alloc::AllocError;
-
-fn uses(read_types: u64, write_types: u64) -> Access {
-    Access {
-        read_types,
-        write_types,
-        ..Access::none()
-    }
-}
+use std::test::Fail;
 
 fn has_batches(plan: &Plan, want: &[&[u32]]) -> bool {
     let batches = plan.batches();
@@ -25,45 +19,40 @@ fn has_batches(plan: &Plan, want: &[&[u32]]) -> bool {
 }
 
 #[test]
-fn no_systems(rt: HostRuntime) {
-    let Ok(plan) = Plan::build(rt.alloc(), &[], &[], &[]) else {
-        panic!(rt; "no plan");
-    };
+fn no_systems(rt: HostRuntime) -> Result<(), Fail> {
+    let plan = Plan::build(rt.alloc(), &[], &[], &[])?;
     assert!(rt; has_batches(&plan, &[]));
     assert!(rt; plan.accepts(&[]));
     assert!(rt; !plan.accepts(&[0]));
     assert!(rt; !plan.precedes(0, 0));
+    Ok(())
 }
 
 #[test]
-fn readers_run_side_by_side(rt: HostRuntime) {
+fn readers_run_side_by_side(rt: HostRuntime) -> Result<(), Fail> {
     let accesses = [uses(0, 1), uses(1, 0), uses(1, 0), uses(0, 1)];
-    let Ok(plan) = Plan::build(rt.alloc(), &accesses, &[], &[true; 4]) else {
-        panic!(rt; "no plan");
-    };
+    let plan = Plan::build(rt.alloc(), &accesses, &[], &[true; 4])?;
     assert!(rt; has_batches(&plan, &[&[0], &[1, 2], &[3]]));
     assert!(rt; plan.precedes(0, 3));
     assert!(rt; !plan.precedes(1, 2));
+    Ok(())
 }
 
 #[test]
-fn a_settled_pair_leaves_the_next_no_choice(rt: HostRuntime) {
+fn a_settled_pair_leaves_the_next_no_choice(rt: HostRuntime) -> Result<(), Fail> {
     let rules = [Rule::before(2, 0)];
-    let Ok(plan) = Plan::build(rt.alloc(), &[uses(0, 1); 3], &rules, &[true; 3]) else {
-        panic!(rt; "no plan");
-    };
+    let plan = Plan::build(rt.alloc(), &[uses(0, 1); 3], &rules, &[true; 3])?;
     assert!(rt; has_batches(&plan, &[&[2], &[0], &[1]]));
     assert!(rt; plan.precedes(2, 1));
+    Ok(())
 }
 
 #[test]
-fn rules_against_the_order_of_addition(rt: HostRuntime) {
+fn rules_against_the_order_of_addition(rt: HostRuntime) -> Result<(), Fail> {
     let accesses = [uses(0, 1), uses(0, 2), uses(2, 0), uses(1, 0)];
     let rules = [Rule::before(3, 1), Rule::after(0, 2)];
     assert_eq!(rt; rules[1], Rule::before(2, 0));
-    let Ok(plan) = Plan::build(rt.alloc(), &accesses, &rules, &[true; 4]) else {
-        panic!(rt; "no plan");
-    };
+    let plan = Plan::build(rt.alloc(), &accesses, &rules, &[true; 4])?;
     assert!(rt; has_batches(&plan, &[&[2], &[0], &[3], &[1]]));
     assert!(rt; plan.precedes(2, 1));
     assert!(rt; !plan.precedes(1, 2));
@@ -73,6 +62,7 @@ fn rules_against_the_order_of_addition(rt: HostRuntime) {
     assert!(rt; !plan.accepts(&[2, 0, 3]));
     assert!(rt; !plan.accepts(&[2, 0, 3, 1, 1]));
     assert!(rt; !plan.accepts(&[2, 0, 3, 300]));
+    Ok(())
 }
 
 #[test]
@@ -105,40 +95,32 @@ fn the_lowest_system_on_a_cycle(rt: HostRuntime) -> Result<(), AllocError> {
 }
 
 #[test]
-fn what_has_not_joined_has_no_effect(rt: HostRuntime) {
+fn what_has_not_joined_has_no_effect(rt: HostRuntime) -> Result<(), Fail> {
     let idle = [Access::none(); 3];
     let chain = [Rule::before(0, 1), Rule::before(1, 2)];
     let own = [Rule::before(1, 1)];
     let early = [true, false, true];
-    let Ok(plan) = Plan::build(rt.alloc(), &idle, &chain, &early) else {
-        panic!(rt; "no plan");
-    };
+    let plan = Plan::build(rt.alloc(), &idle, &chain, &early)?;
     assert!(rt; has_batches(&plan, &[&[0, 2]]));
     assert!(rt; !plan.precedes(0, 2));
     assert!(rt; !plan.precedes(0, 1));
-    let Ok(plan) = Plan::build(rt.alloc(), &idle, &chain, &[true; 3]) else {
-        panic!(rt; "no plan");
-    };
+    let plan = Plan::build(rt.alloc(), &idle, &chain, &[true; 3])?;
     assert!(rt; has_batches(&plan, &[&[0], &[1], &[2]]));
     assert!(rt; plan.precedes(0, 2));
-    let Ok(plan) = Plan::build(rt.alloc(), &idle, &own, &early) else {
-        panic!(rt; "no plan");
-    };
+    let plan = Plan::build(rt.alloc(), &idle, &own, &early)?;
     assert!(rt; has_batches(&plan, &[&[0, 2]]));
     let all = Plan::build(rt.alloc(), &idle, &own, &[true; 3]);
     assert!(rt; matches!(&all, Err(PlanRefusal::Cycle(1))));
+    Ok(())
 }
 
 #[test]
-fn many_systems(rt: HostRuntime) {
-    let Ok(apart) = Plan::build(rt.alloc(), &[uses(0, 1); 256], &[], &[true; 256]) else {
-        panic!(rt; "no plan");
-    };
+fn many_systems(rt: HostRuntime) -> Result<(), Fail> {
+    let apart = Plan::build(rt.alloc(), &[uses(0, 1); 256], &[], &[true; 256])?;
     assert_eq!(rt; apart.batches().len(), 256);
     assert!(rt; apart.precedes(0, 255));
-    let Ok(together) = Plan::build(rt.alloc(), &[uses(1, 0); 256], &[], &[true; 256]) else {
-        panic!(rt; "no plan");
-    };
+    let together = Plan::build(rt.alloc(), &[uses(1, 0); 256], &[], &[true; 256])?;
     assert_eq!(rt; together.batches().len(), 1);
     assert!(rt; !together.precedes(0, 255));
+    Ok(())
 }

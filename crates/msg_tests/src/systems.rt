@@ -1,19 +1,11 @@
 // The three kinds of systems, and programs.
 mod boxes;
 
+use crate::engines::making::script;
 use crate::numbers::{res_no, type_no};
-use msg_system::{Access, Items, Op, Program, Relay, Scripted, Start, System, Tally};
+use msg_system::{Access, Items, Op, Program, Relay, Start, System, Tally};
 use msg_world::Record;
-use std::alloc::{AllocError, Global};
 use std::test::Fail;
-
-/// A program of one op, from zero.
-fn program(alloc: Global, op: Op) -> Result<Program, AllocError> {
-    Ok(Program {
-        ops: Items::from_vec(vec![in alloc; op]?),
-        start: Start::Zero,
-    })
-}
 
 fn begins_of<S: System>(system: &S) -> Start {
     system.begins()
@@ -21,25 +13,13 @@ fn begins_of<S: System>(system: &S) -> Start {
 
 #[test]
 fn kinds_tell_what_they_are(rt: HostRuntime) -> Result<(), Fail> {
-    let alloc = rt.alloc();
     let (t, u, r) = (type_no(&rt, 0), type_no(&rt, 1), res_no(&rt, 0));
     let relay = Relay::new(t, u, Start::Current, 1);
     let tally = Tally::new(t, r, Start::Zero, 2);
-    let script = Scripted::new(
-        Program {
-            ops: Items::from_vec(Vec::new(alloc)),
-            start: Start::Current,
-        },
-        0,
-    );
-    assert_eq!(rt;
-        relay.access(),
-        Access::none().with_read_type(t).with_write_type(u)
-    );
-    assert_eq!(rt;
-        tally.access(),
-        Access::none().with_read_type(t).with_write_res(r)
-    );
+    let script = script(&rt, rt.alloc(), &[], Start::Current)?;
+    let reads = Access::none().with_read_type(t);
+    assert_eq!(rt; relay.access(), reads.with_write_type(u));
+    assert_eq!(rt; tally.access(), reads.with_write_res(r));
     assert_eq!(rt; script.access(), Access::none());
     assert_eq!(rt; relay.read_type(0), Some(t));
     assert_eq!(rt; relay.read_type(1), None);
@@ -52,10 +32,14 @@ fn kinds_tell_what_they_are(rt: HostRuntime) -> Result<(), Fail> {
 }
 
 #[test]
-fn programs(rt: HostRuntime) -> Result<(), Fail> {
+fn programs_are_copied_and_tell_their_access(rt: HostRuntime) -> Result<(), Fail> {
     let alloc = rt.alloc();
     let (t, u, r) = (type_no(&rt, 0), type_no(&rt, 1), res_no(&rt, 0));
-    let clash = program(alloc, Op::Forward(t, t))?;
+    let ops = Items::from_vec(vec![in alloc; Op::Forward(t, t)]?);
+    let clash = Program {
+        ops,
+        start: Start::Zero,
+    };
     assert!(rt; clash.access().is_clash());
     let copied = clash.copy(alloc)?;
     assert_eq!(rt; copied.access(), clash.access());
@@ -63,15 +47,15 @@ fn programs(rt: HostRuntime) -> Result<(), Fail> {
     ops.push(Op::Get(r))?;
     ops.push(Op::Add(r, 1))?;
     ops.push(Op::Batch(u, Items::from_vec(Vec::from_slice(alloc, &[1, 2])?)))?;
-    let longer = Program {
-        ops: Items::from_vec(ops),
+    let ops = Items::from_vec(ops);
+    let access = Program {
+        ops,
         start: Start::Zero,
-    };
-    let access = longer.copy(alloc)?.access();
-    assert!(rt; access.writes_res(r));
-    assert!(rt; !access.reads_res(r));
-    assert!(rt; access.reads_type(t));
-    assert!(rt; access.writes_type(t));
+    }
+    .copy(alloc)?
+    .access();
+    assert!(rt; access.writes_res(r) && !access.reads_res(r));
+    assert!(rt; access.reads_type(t) && access.writes_type(t));
     assert!(rt; access.writes_type(u));
     Ok(())
 }

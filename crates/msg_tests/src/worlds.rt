@@ -1,14 +1,12 @@
 // Lending, posts and held updates of worlds.
-mod loans;
-
 ghost use Rattle.std.specs.Prelude.{OnOk};
 ghost use Rattle.msg_world.specs.Prelude.{IsWhole, SameLoan, SameShape};
 
 use crate::numbers::{res_no, type_no};
 use msg_buffer::{MessageId, NoMemory, WriteRefusal};
 use msg_world::laws::{
-    lent_parts_are_a_loan, lent_parts_may_come_home, loans_stand_side_by_side, writes_stand,
-    written_parts_come_home,
+    host_comes_after_systems, lent_parts_are_a_loan, lent_parts_may_come_home, loans_end,
+    loans_stand_side_by_side, writes_stand, written_parts_come_home,
 };
 use msg_world::{Access, HOST, Lent, Record, ResNo, TypeNo, World};
 use std::process::Abort;
@@ -70,18 +68,23 @@ fn lending(rt: HostRuntime) -> Result<(), Fail> {
 
 #[test]
 fn a_loan_shows_what_its_access_uses(rt: HostRuntime) -> Result<(), Fail> {
-    let (t, u, r) = (type_no(&rt, 0), type_no(&rt, 1), res_no(&rt, 0));
-    let mut world = World::new(rt.alloc(), &[4], &[7])?;
+    let (t, u, none) = (type_no(&rt, 0), type_no(&rt, 1), type_no(&rt, 2));
+    let r = res_no(&rt, 0);
+    let mut world = World::new(rt.alloc(), &[4, 4], &[7])?;
     let access = Access::none().with_write_type(t).with_read_res(r);
     assert!(rt; world.is_home(&access));
     lent_parts_are_a_loan();
     let taken = world.lend_out(&access)?;
     let mut lent = Lent::open(&world, &access, taken);
+    assert!(rt; !world.is_home(&Access::none().with_read_type(t)));
+    assert!(rt; world.is_home(&Access::none().with_read_type(u)));
+    assert!(rt; world.messages(t).is_none());
+    assert!(rt; world.messages(u).is_some());
     assert!(rt; lent.reader(t).is_some());
-    assert!(rt; lent.reader(u).is_none());
+    assert!(rt; lent.reader(u).is_none() && lent.reader(none).is_none());
     assert_eq!(rt; lent.res(r), Some(7));
     assert!(rt; lent.writer(t).is_some());
-    assert!(rt; lent.writer(u).is_none());
+    assert!(rt; lent.writer(u).is_none() && lent.writer(none).is_none());
     assert!(rt; lent.res_mut(r).is_none());
     assert!(rt; !lent.signal());
     Ok(())
@@ -108,20 +111,6 @@ fn a_written_resource_comes_home(rt: HostRuntime) -> Result<(), Fail> {
     assert!(rt; world.is_home(&access));
     assert_eq!(rt; world.resource(r), Some(8));
     assert_eq!(rt; world.resource(q), Some(70));
-    Ok(())
-}
-
-#[test]
-fn what_is_out_is_not_home(rt: HostRuntime) -> Result<(), Fail> {
-    let (t, u) = (type_no(&rt, 0), type_no(&rt, 1));
-    let mut world = World::new(rt.alloc(), &[4, 4], &[])?;
-    let access = Access::none().with_write_type(t);
-    assert!(rt; world.is_home(&access));
-    let _taken = world.lend_out(&access)?;
-    assert!(rt; !world.is_home(&Access::none().with_read_type(t)));
-    assert!(rt; world.is_home(&Access::none().with_read_type(u)));
-    assert!(rt; world.messages(t).is_none());
-    assert!(rt; world.messages(u).is_some());
     Ok(())
 }
 
@@ -217,4 +206,36 @@ fn a_world_that_is_not_held(rt: HostRuntime) -> Result<(), Fail> {
     world.update_all();
     assert_eq!(rt; kept(&rt, &world), 0);
     Ok(())
+}
+
+#[test]
+fn a_loan_that_ends_leaves_what_it_wrote(rt: HostRuntime) -> Result<(), Fail> {
+    let (t, u, r) = (type_no(&rt, 0), type_no(&rt, 1), res_no(&rt, 0));
+    let mut world = World::new(rt.alloc(), &[4, 4], &[7])?;
+    let access = Access::none().with_write_type(t).with_read_res(r);
+    assert!(rt; world.is_home(&access));
+    lent_parts_are_a_loan();
+    let taken = world.lend_out(&access)?;
+    let mut lent = Lent::open(&world, &access, taken);
+    lent.stands_for_some();
+    let record = Record {
+        writer: 3,
+        value: 9,
+    };
+    assert_eq!(rt; write(&mut lent, t, record), Some(MessageId(0)));
+    loans_end();
+    let taken = lent.into_taken();
+    world.take_back(taken);
+    match world.messages(t) {
+        Some(messages) => assert_eq!(rt; messages.get(MessageId(0)).copied(), Some(record)),
+        None => panic!(rt; "type 0 is home"),
+    }
+    assert!(rt; world.messages(u).is_some());
+    assert_eq!(rt; world.resource(r), Some(7));
+    Ok(())
+}
+
+#[test]
+fn the_number_of_the_host() {
+    host_comes_after_systems();
 }

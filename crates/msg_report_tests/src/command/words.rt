@@ -58,28 +58,16 @@ fn actions(rt: HostRuntime) -> Result<(), Fail> {
     Ok(())
 }
 
-/// Command lines that ask for help, and pieces of the help that they get.
-const HELPS: [(&str, [&str; 3]); 7] = [
-    ("--help", ["msgrun [COMMAND]", "run", "docs/FORMATS.md"]),
+/// Command lines that ask for help, and pieces of the help that they get. The examples have the
+/// whole text where it is asked for by `--help`.
+const HELPS: [(&str, [&str; 3]); 4] = [
     ("-h", ["msgrun [COMMAND]", "buffer", "docs/FORMATS.md"]),
     ("help", ["msgrun [COMMAND]", "buffer", "docs/FORMATS.md"]),
-    (
-        "buffer --help",
-        ["msgrun buffer <FILE>", "[\"read\",0,2]", "docs/FORMATS.md"],
-    ),
     (
         "help buffer",
         [
             "msgrun buffer <FILE>",
             "read 0 missed 0: 0=7 1=8\n",
-            "docs/FORMATS.md",
-        ],
-    ),
-    (
-        "run --help",
-        [
-            "--workers <N>",
-            "\"frames\":[[],[[\"hit\",6]]]",
             "docs/FORMATS.md",
         ],
     ),

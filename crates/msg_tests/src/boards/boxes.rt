@@ -1,12 +1,11 @@
 // Jobs that hold a boxed object and a shared reference to a number.
-ghost use Rattle.std.specs.Prelude.{◌≡◌, ◌+◌, ◌/◌, ◌≤◌, ℕ, length, IfOk};
-ghost use Rattle.msg_board.specs.Prelude.{IsIdle, HasEnded};
+ghost use Rattle.std.specs.Prelude.{◌≡◌, ◌/◌, ◌≤◌, ℕ, length};
 
-use msg_board::{Board, NoMemory, Pass, Work};
+use super::{Runs, run_jobs};
+use msg_board::{NoMemory, Work};
 use std::alloc::Global;
 use std::marker::PhantomData;
 use std::test::Fail;
-use std::thread;
 use std::thread::Threads;
 
 trait Tool: Send + Drop {
@@ -71,47 +70,12 @@ impl<'a, T: Tool> Work for Tools<'a, T> {
     ghost lawful = { λ j d. d.value ≡ T.gain j.tool j.base.now };
 }
 
-/// Work that a thread knows how to do.
-trait Runs: Work {
-    fn run(job: Self::Job) -> Self::Done
-        ensures { Self.lawful job result };
-}
-
 impl<'a, T: Tool> Runs for Tools<'a, T> {
     fn run(job: ToolJob<'a, T>) -> ToolDone<T> {
         let ToolJob { tool, base } = job;
         let value = tool.apply(*base);
         ToolDone { tool, value }
     }
-}
-
-// Draws until None.
-fn work<W: Runs>(board: &Board<W>, mut pass: Pass<W::Job, W::Done>) -> Pass<W::Job, W::Done>
-    requires { IsIdle board.now pass }
-    ensures { HasEnded board.now result }
-{
-    while let Some((k, job)) = board.draw(&mut pass) {
-        board.hand_in(&mut pass, k, W::run(job));
-    }
-    pass
-}
-
-// Two passes, each in a thread of its own.
-fn run_jobs<R: Threads + Sync, W: Runs + Send>(
-    rt: &R,
-    alloc: Global,
-    jobs: Vec<W::Job>,
-) -> Result<Vec<W::Done>, NoMemory>
-    requires { length jobs.items ≤ 256 }
-{
-    let (board, passes) = Board::<W>::new(alloc, jobs, 2)?;
-    let shared = &board;
-    let each = |pass: Pass<W::Job, W::Done>| -> Pass<W::Job, W::Done>
-        requires { IsIdle shared.now pass }
-        ensures { HasEnded shared.entry.now result }
-    { work(shared, pass) };
-    let ended = thread::map_vec(rt, passes, &each)?;
-    board.close(alloc, ended)
 }
 
 // What each tool gives of the number.
@@ -128,7 +92,7 @@ fn values<R: Threads + Sync, T: Tool>(
         jobs.push(ToolJob { tool, base })?;
     }
     let mut values = Vec::new(alloc);
-    for done in run_jobs::<R, Tools<T>>(rt, alloc, jobs)? {
+    for done in run_jobs::<R, Tools<T>>(rt, alloc, jobs, 2)? {
         values.push(done.value)?;
     }
     Ok(values)

@@ -1,13 +1,12 @@
 // Systems that decide by their memory: each on 1, 2, 7 and 64 workers.
-ghost use Rattle.std.specs.Prelude.{IfOk, OnOk};
-ghost use Rattle.msg_frames.specs.Prelude.{IsNew};
-ghost use Rattle.msg_exec.specs.Prelude.{EachIs, IsEngine};
+ghost use Rattle.std.specs.Prelude.{IfOk};
+ghost use Rattle.msg_exec.specs.Prelude.{IsEngine};
 
-use super::making::{add_deciding, frame_of, places, quiet, replay, run_frame, start};
+use super::making::{frame_of, quiet, replay, run_frame};
 use crate::numbers::type_no;
-use msg_exec::{EngineOf, Frame, Log, NoGate, Outcome, Place, RunFault};
+use msg_exec::{EngineBuilder, EngineOf, Frame, Log, NoGate, Outcome, RunFault};
 use msg_system::{
-    Access, Behavior, BehaviorSystem, Condition, Items, NoMemory, Op, Probe, Reply, System,
+    Access, Behavior, BehaviorSystem, Condition, NoMemory, Op, Probe, Reply, Start, System,
 };
 use msg_world::{TypeNo, World};
 use std::alloc::Global;
@@ -55,56 +54,29 @@ impl Behavior for Alternating {
     }
 }
 
-/// Adds one, over these types.
-fn add_alternating(
-    rt: &impl Abort,
-    alloc: Global,
-    systems: &mut Vec<BehaviorSystem<Alternating>>,
-    types: (u32, u32),
-    writes: u64,
-) -> Result<(), NoMemory>
-    requires new { EachIs (λ i x.
-        IsNew i (⟦<BehaviorSystem<Alternating> as System>⟧.meaning x)) systems.old.items }
-    ensures new { OnOk result (EachIs (λ i x.
-        IsNew i (⟦<BehaviorSystem<Alternating> as System>⟧.meaning x)) systems.new.items) }
-{
-    let (here, there) = (type_no(rt, types.0), type_no(rt, types.1));
-    let access = Access::none().with_write_type(here).with_write_type(there);
-    let behavior = Alternating {
-        here,
-        there,
-        writes,
-    };
-    add_deciding(rt, alloc, systems, behavior, access)
-}
-
 /// An engine of two of them, the first over the types 0 and 1 and the second over 2 and 3.
 fn engine_of_two(
     rt: &impl Abort,
     alloc: Global,
     writes: u64,
-    places: Vec<Place>,
+    conditions: &[Condition],
+    join: u32,
 ) -> Result<EngineOf<BehaviorSystem<Alternating>>, Fail>
     ensures engine { IfOk result (IsEngine ⟦<BehaviorSystem<Alternating> as System>⟧.meaning) }
 {
-    let mut systems = Vec::new(alloc);
-    add_alternating(rt, alloc, &mut systems, (0, 1), writes)?;
-    add_alternating(rt, alloc, &mut systems, (2, 3), writes)?;
-    let world = World::new(alloc, &[200, 200, 200, 200, 200], &[])?;
-    Ok(start(rt, alloc, world, systems, places, Vec::new(alloc))?)
-}
-
-/// Two places of systems that run where something came in type 4.
-fn places_on_message(rt: &impl Abort, alloc: Global) -> Result<Vec<Place>, NoMemory> {
-    let mut places = Vec::new(alloc);
-    for _ in 0..2u32 {
-        let probe = Probe::OnMessage(type_no(rt, 4));
-        places.push(Place {
-            conditions: Items::from_vec(vec![in alloc; Condition { nots: 0, probe }]?),
-            join: 1,
-        })?;
+    let mut systems = EngineBuilder::new(alloc);
+    for types in [(0, 1), (2, 3)] {
+        let (here, there) = (type_no(rt, types.0), type_no(rt, types.1));
+        let access = Access::none().with_write_type(here).with_write_type(there);
+        let behavior = Alternating {
+            here,
+            there,
+            writes,
+        };
+        let system = BehaviorSystem::new(alloc, behavior, access, Start::Zero, 0);
+        systems.add_system(system, Vec::from_slice(alloc, conditions)?, join)?;
     }
-    Ok(places)
+    Ok(systems.build(World::new(alloc, &[200; 5], &[])?)?)
 }
 
 /// What a system wrote in a frame: how many messages to its first type, and how many to its
@@ -139,66 +111,61 @@ fn expect_wrote<S: System>(rt: &impl Abort, engine: &EngineOf<S>, log: &Log, wro
     }
 }
 
-/// A frame on so many workers, in which the systems write so.
+/// A frame on so many workers, or replayed by both, in which the systems write so.
 fn expect_frame<R: Threads + Sync + Abort, S: System>(
     rt: &R,
     engine: &mut EngineOf<S>,
     frame: &Frame,
     number: u32,
+    is_replayed: bool,
     wrote: Wrote,
 ) -> Result<(), RunFault>
     requires engine { IsEngine S.meaning engine.old }
     ensures engine { IsEngine S.meaning engine.new }
 {
+    if is_replayed {
+        let log = replay(rt, engine, frame, &[1, 0])?;
+        expect_wrote(rt, engine, &log, wrote);
+        return Ok(());
+    }
     let log = run_frame(rt, engine, frame, number, &NoGate)?;
     expect_wrote(rt, engine, &log, wrote);
     Ok(())
 }
 
-/// How often they write in a turn, the frame that they join with, and what they write in each of
-/// three frames: never more than 64 messages, and nothing before they joined.
+/// How often they write in a turn, the frame that they join with, whether they ask for a message,
+/// whether the second frame is replayed, and what they write in each of three frames, of which the
+/// second has no message.
 #[test]
 fn they_take_turns(rt: HostRuntime) -> Result<(), Fail> {
-    let (alloc, frame) = (rt.alloc(), quiet(rt.alloc()));
-    for (writes, join, [first, second, third]) in [
-        (1, 1, [(1, 0), (0, 1), (1, 0)]),
-        (0, 1, [(0, 0), (0, 0), (0, 0)]),
-        (65, 1, [(64, 0), (0, 64), (64, 0)]),
-        (1, 3, [(0, 0), (0, 0), (1, 0)]),
+    let (alloc, t) = (rt.alloc(), type_no(&rt, 4));
+    let (came, none) = (frame_of(alloc, &[(t, 1)])?, quiet(alloc));
+    let probe = Probe::OnMessage(t);
+    let asked = [Condition { nots: 0, probe }];
+    for (writes, join, asks, replays, [first, second, third]) in [
+        (1, 1, 0, false, [Some((1, 0)), Some((0, 1)), Some((1, 0))]),
+        (0, 1, 0, false, [Some((0, 0)), Some((0, 0)), Some((0, 0))]),
+        // never more than 64 messages
+        (
+            65,
+            1,
+            0,
+            false,
+            [Some((64, 0)), Some((0, 64)), Some((64, 0))],
+        ),
+        // nothing before they joined
+        (1, 3, 0, false, [Some((0, 0)), Some((0, 0)), Some((1, 0))]),
+        // a skipped turn isn't told: the next one writes as it would have written
+        (1, 1, 1, false, [Some((1, 0)), None, Some((0, 1))]),
+        // a replayed turn is told
+        (1, 1, 0, true, [Some((1, 0)), Some((0, 1)), Some((1, 0))]),
     ] {
         for number in NUMBERS {
-            let mut engine = engine_of_two(&rt, alloc, writes, places(alloc, 2, join)?)?;
-            expect_frame(&rt, &mut engine, &frame, number, Some(first))?;
-            expect_frame(&rt, &mut engine, &frame, number, Some(second))?;
-            expect_frame(&rt, &mut engine, &frame, number, Some(third))?;
+            let mut engine = engine_of_two(&rt, alloc, writes, &asked[..asks], join)?;
+            expect_frame(&rt, &mut engine, &came, number, false, first)?;
+            expect_frame(&rt, &mut engine, &none, number, replays, second)?;
+            expect_frame(&rt, &mut engine, &came, number, false, third)?;
         }
-    }
-    Ok(())
-}
-
-/// A skipped turn isn't told: the next one writes to the type that it would have written to.
-#[test]
-fn a_skipped_turn(rt: HostRuntime) -> Result<(), Fail> {
-    let (alloc, none) = (rt.alloc(), quiet(rt.alloc()));
-    let came = frame_of(alloc, &[(type_no(&rt, 4), 1)])?;
-    for number in NUMBERS {
-        let mut engine = engine_of_two(&rt, alloc, 1, places_on_message(&rt, alloc)?)?;
-        expect_frame(&rt, &mut engine, &came, number, Some((1, 0)))?;
-        expect_frame(&rt, &mut engine, &none, number, None)?;
-        expect_frame(&rt, &mut engine, &came, number, Some((0, 1)))?;
-    }
-    Ok(())
-}
-
-#[test]
-fn a_replayed_turn_is_told(rt: HostRuntime) -> Result<(), Fail> {
-    let (alloc, frame) = (rt.alloc(), quiet(rt.alloc()));
-    for number in NUMBERS {
-        let mut engine = engine_of_two(&rt, alloc, 1, places(alloc, 2, 1)?)?;
-        expect_frame(&rt, &mut engine, &frame, number, Some((1, 0)))?;
-        let log = replay(&rt, &mut engine, &frame, &[1, 0])?;
-        expect_wrote(&rt, &engine, &log, Some((0, 1)));
-        expect_frame(&rt, &mut engine, &frame, number, Some((1, 0)))?;
     }
     Ok(())
 }

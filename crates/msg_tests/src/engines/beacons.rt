@@ -1,41 +1,23 @@
 // A system of one's own, whose turn is one write.
-ghost use Rattle.std.specs.Prelude.{IfOk, ℕ};
-ghost use Rattle.msg_frames.specs.Prelude.{IsNew};
-ghost use Rattle.msg_exec.specs.Prelude.{IsEngine};
-
 use super::expecting::{expect_log, wrote};
-use super::making::{add, places, quiet, run_frame, start};
+use super::making::{quiet, run_frame};
 use super::prefaced::{Before, Prefaced};
 use crate::numbers::type_no;
-use msg_exec::{EngineOf, NoGate};
-use msg_system::{Access, Cursors, NoMemory, Op, Reply, Start, System, one_op_is_a_turn};
+use msg_exec::{EngineBuilder, NoGate};
+use msg_system::{Access, Cursors, NoMemory, Numbered, Op, Reply, Start, System, one_op_is_a_turn};
 use msg_world::{Counts, Lent, Taken, TypeNo, World};
 use std::alloc::Global;
-use std::process::Abort;
 use std::sync::Arc;
 use std::sync::atomic::{AtomicU64, Ordering};
 use std::test::Fail;
 
 /// Writes the same value to a type, turn after turn.
 #[derive(Drop)]
-pub struct Beacon {
+struct Beacon {
     to: TypeNo,
     value: i64,
     writer: u32,
     cursors: Cursors,
-}
-
-impl Beacon {
-    pub fn new(to: TypeNo, value: i64, writer: u32) -> Beacon
-        ensures new { IsNew writer (⟦<Beacon as System>⟧.meaning result) }
-    {
-        Beacon {
-            to,
-            value,
-            writer,
-            cursors: Cursors::new(),
-        }
-    }
 }
 
 impl System for Beacon {
@@ -68,34 +50,31 @@ impl System for Beacon {
     }
 }
 
-/// An engine of two beacons, each to a type of its own, whose runs are counted.
-fn beacon_engine(
-    rt: &impl Abort,
-    alloc: Global,
-    runs: &Arc<AtomicU64>,
-) -> Result<EngineOf<Prefaced<Beacon>>, Fail>
-    ensures engine { IfOk result (IsEngine ⟦<Prefaced<Beacon> as System>⟧.meaning) }
-{
-    let mut systems = Vec::new(alloc);
-    for writer in [0, 1] {
-        let counted = Prefaced {
-            system: Beacon::new(type_no(rt, writer), 5, writer),
-            before: Before::Count(Arc::try_clone(runs)?),
-        };
-        assert_eq!(rt; systems.len(), writer as usize);
-        add(&mut systems, counted)?;
+impl Numbered for Beacon {
+    fn set_number(&mut self, number: u32) {
+        self.writer = number;
+        self.cursors = Cursors::new();
     }
-    let world = World::new(alloc, &[10, 10], &[])?;
-    let places = places(alloc, systems.len(), 1)?;
-    Ok(start(rt, alloc, world, systems, places, Vec::new(alloc))?)
 }
 
+/// Two beacons, each to a type of its own, whose runs are counted.
 #[test]
 fn a_system_of_ones_own(rt: HostRuntime) -> Result<(), Fail> {
     let (alloc, frame) = (rt.alloc(), quiet(rt.alloc()));
     for number in [1, 2, 7, 64] {
         let runs = Arc::new(alloc, AtomicU64::new(0))?;
-        let mut engine = beacon_engine(&rt, alloc, &runs)?;
+        let mut systems = EngineBuilder::new(alloc);
+        for to in [0, 1] {
+            let system = Beacon {
+                to: type_no(&rt, to),
+                value: 5,
+                writer: 0,
+                cursors: Cursors::new(),
+            };
+            let before = Before::Count(Arc::try_clone(&runs)?);
+            systems.add_system(Prefaced { system, before }, Vec::new(alloc), 1)?;
+        }
+        let mut engine = systems.build(World::new(alloc, &[10, 10], &[])?)?;
         let log = run_frame(&rt, &mut engine, &frame, number, &NoGate)?;
         expect_log(&rt, &log, &[], &[wrote(0, 0), wrote(1, 0)]);
         let log = run_frame(&rt, &mut engine, &frame, number, &NoGate)?;

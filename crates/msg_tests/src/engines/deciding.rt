@@ -1,44 +1,31 @@
 // Systems that decide: each on 1, 2, 7 and 64 workers.
-ghost use Rattle.std.specs.Prelude.{IfOk};
 ghost use Rattle.msg_exec.specs.Prelude.{IsEngine};
 
-use super::making::{add_deciding, frame_of, places, run_frame, start};
+use super::making::{frame_of, run_frame};
 use crate::adders::Adder;
 use crate::numbers::type_no;
-use msg_exec::{EngineOf, Frame, NoGate, RunFault};
-use msg_system::{Access, BehaviorSystem, System};
-use msg_world::{Record, World};
+use msg_exec::{EngineBuilder, EngineOf, NoGate};
+use msg_system::{Access, BehaviorSystem, Start, System};
+use msg_world::{Record, TypeNo, World};
 use std::alloc::Global;
 use std::process::Abort;
 use std::test::Fail;
 use std::thread::Threads;
 
-/// An engine of one adder, over a world of two types.
-fn adder_engine(rt: &impl Abort, alloc: Global) -> Result<EngineOf<BehaviorSystem<Adder>>, Fail>
-    ensures engine { IfOk result (IsEngine ⟦<BehaviorSystem<Adder> as System>⟧.meaning) }
-{
-    let (from, to) = (type_no(rt, 0), type_no(rt, 1));
-    let access = Access::none().with_read_type(from).with_write_type(to);
-    let adder = Adder { from, to, total: 0 };
-    let mut systems = Vec::new(alloc);
-    add_deciding(rt, alloc, &mut systems, adder, access)?;
-    let places = places(alloc, 1, 1)?;
-    let world = World::new(alloc, &[10, 10], &[])?;
-    Ok(start(rt, alloc, world, systems, places, Vec::new(alloc))?)
-}
-
-/// Runs a frame on so many workers. In it these values, and no others, are written to the second type.
+/// Runs a frame with these posts on so many workers, in which just these values are written to the
+/// second type.
 fn expect_frame_writes<R: Threads + Sync + Abort>(
     rt: &R,
+    alloc: Global,
     engine: &mut EngineOf<BehaviorSystem<Adder>>,
-    frame: &Frame,
     number: u32,
+    posts: &[(TypeNo, i64)],
     values: &[i64],
-) -> Result<(), RunFault>
+) -> Result<(), Fail>
     requires engine { IsEngine ⟦<BehaviorSystem<Adder> as System>⟧.meaning engine.old }
     ensures engine { IsEngine ⟦<BehaviorSystem<Adder> as System>⟧.meaning engine.new }
 {
-    run_frame(rt, engine, frame, number, &NoGate)?;
+    run_frame(rt, engine, &frame_of(alloc, posts)?, number, &NoGate)?;
     let Some(messages) = engine.world().and_then(|w| w.messages(type_no(rt, 1))) else {
         panic!(rt; "no messages");
     };
@@ -53,17 +40,24 @@ fn expect_frame_writes<R: Threads + Sync + Abort>(
 
 #[test]
 fn a_sum_goes_out_in_its_turn(rt: HostRuntime) -> Result<(), Fail> {
-    let (alloc, from) = (rt.alloc(), type_no(&rt, 0));
-    let (both, none) = (
-        frame_of(alloc, &[(from, 5), (from, 6)])?,
-        frame_of(alloc, &[])?,
-    );
-    let one = frame_of(alloc, &[(from, 1)])?;
+    let (alloc, from, to) = (rt.alloc(), type_no(&rt, 0), type_no(&rt, 1));
+    let access = Access::none().with_read_type(from).with_write_type(to);
     for number in [1, 2, 7, 64] {
-        let mut engine = adder_engine(&rt, alloc)?;
-        expect_frame_writes(&rt, &mut engine, &both, number, &[11])?;
-        expect_frame_writes(&rt, &mut engine, &none, number, &[])?;
-        expect_frame_writes(&rt, &mut engine, &one, number, &[12])?;
+        let adder = Adder { from, to, total: 0 };
+        let adder = BehaviorSystem::new(alloc, adder, access, Start::Zero, 0);
+        let mut systems = EngineBuilder::new(alloc);
+        systems.add_system(adder, Vec::new(alloc), 1)?;
+        let mut engine = systems.build(World::new(alloc, &[10, 10], &[])?)?;
+        expect_frame_writes(
+            &rt,
+            alloc,
+            &mut engine,
+            number,
+            &[(from, 5), (from, 6)],
+            &[11],
+        )?;
+        expect_frame_writes(&rt, alloc, &mut engine, number, &[], &[])?;
+        expect_frame_writes(&rt, alloc, &mut engine, number, &[(from, 1)], &[12])?;
     }
     Ok(())
 }

@@ -5,40 +5,31 @@ use msg_system::Reply;
 use msg_world::{HOST, Record};
 use std::process::Abort;
 
-/// What a system's turn came to.
+/// What a system's turn came to: it wrote one message, of the number `first`, or it read these
+/// messages, from that number on, and missed so many before.
 #[derive(Clone, Copy)]
-pub enum Step<'a> {
-    /// It wrote so many messages, from the number `first` on.
-    Wrote {
-        system: u32,
-        first: u64,
-        n: u64,
-    },
-    /// It read these messages, from the number `first` on, and missed so many before.
-    Read {
-        system: u32,
-        missed: u64,
-        first: u64,
-        records: &'a [Record],
-    },
+pub struct Step<'a> {
+    pub system: u32,
+    pub first: u64,
+    pub missed: u64,
+    pub read: Option<&'a [Record]>,
 }
 
 /// It wrote one message, of this number.
 pub fn wrote<'a>(system: u32, first: u64) -> Step<'a> {
-    Step::Wrote {
+    Step {
         system,
         first,
-        n: 1,
+        missed: 0,
+        read: None,
     }
 }
 
 /// It read these messages, from the number `first` on, and missed none.
 pub fn read<'a>(system: u32, first: u64, records: &'a [Record]) -> Step<'a> {
-    Step::Read {
-        system,
-        missed: 0,
-        first,
-        records,
+    Step {
+        read: Some(records),
+        ..wrote(system, first)
     }
 }
 
@@ -52,40 +43,26 @@ pub fn posted(value: i64) -> Record {
     by(HOST, value)
 }
 
-/// The one reply of a turn of this system.
-fn only<'a>(rt: &impl Abort, turn: &'a Turn, system: u32) -> &'a Reply {
-    assert_eq!(rt; turn.system, system);
+fn expect_step(rt: &impl Abort, turn: &Turn, step: Step<'_>) {
+    assert_eq!(rt; turn.system, step.system);
     let Outcome::Ran(replies) = &turn.outcome else {
         panic!(rt; "no system has conditions")
     };
-    match replies.as_slice() {
-        [reply] => reply,
-        _other => panic!(rt; "each system has one op"),
-    }
-}
-
-fn expect_wrote(rt: &impl Abort, reply: &Reply, first: u64, n: u64) {
-    match reply {
-        Reply::Wrote(written) => assert_eq!(rt; *written, Written { first, n }),
-        _other => panic!(rt; "a write"),
-    }
-}
-
-fn expect_step(rt: &impl Abort, turn: &Turn, step: Step<'_>) {
-    match step {
-        Step::Wrote { system, first, n } => expect_wrote(rt, only(rt, turn, system), first, n),
-        Step::Read {
-            system,
-            missed,
-            first,
-            records,
-        } => match only(rt, turn, system) {
-            Reply::Read(took) => {
-                assert_eq!(rt; (took.missed, took.first), (missed, first));
-                assert_eq!(rt; took.items.as_slice(), records);
-            }
-            _other => panic!(rt; "system {system} reads"),
-        },
+    match (replies.as_slice(), step.read) {
+        ([Reply::Wrote(written)], None) => {
+            assert_eq!(rt;
+                *written,
+                Written {
+                    first: step.first,
+                    n: 1
+                }
+            )
+        }
+        ([Reply::Read(took)], Some(records)) => {
+            assert_eq!(rt; (took.missed, took.first), (step.missed, step.first));
+            assert_eq!(rt; took.items.as_slice(), records);
+        }
+        _other => panic!(rt; "system {} has another reply", step.system),
     }
 }
 
@@ -94,7 +71,8 @@ pub fn expect_log(rt: &impl Abort, log: &Log, posts: &[u64], steps: &[Step<'_>])
     let (replies, turns) = (log.posts.as_slice(), log.turns.as_slice());
     assert_eq!(rt; replies.len(), posts.len());
     for (reply, first) in replies.iter().zip(posts) {
-        expect_wrote(rt, reply, *first, 1);
+        let first = *first;
+        assert!(rt; matches!(reply, Reply::Wrote(w) if *w == Written { first, n: 1 }));
     }
     assert_eq!(rt; turns.len(), steps.len());
     for (turn, step) in turns.iter().zip(steps) {

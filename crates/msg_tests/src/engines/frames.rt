@@ -1,69 +1,46 @@
 // On which threads the jobs of a batch run, and when the gate is called.
-ghost use Rattle.std.specs.Prelude.{IfOk};
-ghost use Rattle.msg_exec.specs.Prelude.{IsEngine};
-
 use super::expecting::{expect_log, posted, read};
 use super::gates::{HoldGate, NotingGate, OneByOne};
-use super::making::{engine_of, frame_of, quiet, run_frame, run_frames};
-use super::noting::noting_engine;
+use super::making::{frame_of, quiet, readers, run_frame, run_frames};
+use super::prefaced::noting_engine;
 use crate::numbers::type_no;
-use msg_exec::EngineOf;
-use msg_system::{Op, Scripted, Start, System};
-use std::alloc::Global;
-use std::process::Abort;
+use msg_system::{Op, Start};
 use std::sync::Arc;
 use std::sync::atomic::{AtomicU64, Ordering};
 use std::test::Fail;
 
-/// An engine of so many readers of one type.
-fn readers(rt: &impl Abort, alloc: Global, number: u32) -> Result<EngineOf<Scripted>, Fail>
-    ensures engine { IfOk result (IsEngine ⟦<Scripted as System>⟧.meaning) }
-{
-    let t = type_no(rt, 0);
-    let mut ops = Vec::new(alloc);
-    for _ in 0..number {
-        ops.push(Op::Read(t, None))?;
-    }
-    Ok(engine_of(rt, alloc, &[10], &ops, &[])??)
-}
-
-/// So many readers on so many workers, of which these are held until all were called for.
+/// So many readers on so many workers, of which these are held until all were called for: where
+/// all are held, each worker has a thread and a number of its own. First one frame, then a list.
 #[test]
 fn readers_run_side_by_side(rt: HostRuntime) -> Result<(), Fail> {
-    let (alloc, five) = (rt.alloc(), [posted(5)]);
-    let frame = frame_of(alloc, &[(type_no(&rt, 0), 5)])?;
-    let all = [read(0, 0, &five), read(1, 0, &five), read(2, 0, &five)];
+    let (alloc, t) = (rt.alloc(), type_no(&rt, 0));
+    let (five, six) = ([posted(5)], [posted(6)]);
+    let (frame, frames) = (frame_of(alloc, &[(t, 5)])?, [frame_of(alloc, &[(t, 6)])?]);
     for (number, workers, held) in [
-        (2, 2, [true, false, false]),
-        (3, 2, [true, false, false]),
-        (3, 2, [false, true, false]),
-        (3, 2, [false, false, true]),
-        (3, 3, [true, true, true]),
+        (3, 2, [true, false, false, false, false]),
+        (3, 2, [false, true, false, false, false]),
+        (3, 2, [false, false, true, false, false]),
+        (2, 2, [true; 5]),
+        (3, 3, [true; 5]),
+        (4, 4, [true; 5]),
+        (5, 5, [true; 5]),
     ] {
-        let gate = HoldGate::new(workers, held, number as u64);
+        let all = [0, 1, 2, 3, 4].map(|i| read(i, 0, &five));
+        let again = [0, 1, 2, 3, 4].map(|i| read(i, 1, &six));
+        assert!(rt; number <= 5);
         let mut engine = readers(&rt, alloc, number)?;
+        let gate = HoldGate::new(workers, held, number as u64);
         let log = run_frame(&rt, &mut engine, &frame, workers, &gate)?;
-        gate.expect_met(&rt);
-        assert!(rt; number <= 3);
+        gate.expect_met(&rt, number as u64);
         expect_log(&rt, &log, &[0], &all[..number as usize]);
-    }
-    Ok(())
-}
-
-#[test]
-fn a_list_of_frames_is_run_side_by_side_too(rt: HostRuntime) -> Result<(), Fail> {
-    let (alloc, frames) = (rt.alloc(), [quiet(rt.alloc())]);
-    for held in [
-        [true, false, false],
-        [false, true, false],
-        [false, false, true],
-    ] {
-        let gate = HoldGate::new(2, held, 3);
-        let mut engine = readers(&rt, alloc, 3)?;
+        let gate = HoldGate::new(workers, held, number as u64);
         let mut logs = Vec::new(alloc);
-        run_frames(&rt, &mut engine, &frames, 2, &gate, &mut logs)?;
-        gate.expect_met(&rt);
-        assert_eq!(rt; logs.len(), 1);
+        run_frames(&rt, &mut engine, &frames, workers, &gate, &mut logs)?;
+        gate.expect_met(&rt, number as u64);
+        let [log] = logs.as_slice() else {
+            panic!(rt; "one frame, one log")
+        };
+        expect_log(&rt, log, &[1], &again[..number as usize]);
     }
     Ok(())
 }

@@ -1,48 +1,45 @@
 // Gates that see which threads run the jobs of a batch.
-use super::noting::note;
+use super::prefaced::note;
 use msg_exec::Gate;
 use std::process::Abort;
 use std::sync::atomic::{AtomicU64, Ordering};
 
-/// Holds some of three systems until so many calls came, and sees whether a worker's number is in
+/// Holds some of five systems until so many calls came, and sees whether a worker's number is in
 /// use twice, or isn't below the number of workers.
 #[derive(Drop)]
 pub struct HoldGate {
     workers: u32,
-    held: [bool; 3],
+    held: [bool; 5],
     awaited: u64,
     came: AtomicU64,
     limits_met: AtomicU64,
-    busy: [AtomicU64; 3],
+    busy: [AtomicU64; 5],
     clashes: AtomicU64,
 }
 
 impl HoldGate {
-    /// For at most three workers.
-    pub fn new(workers: u32, held: [bool; 3], awaited: u64) -> HoldGate {
+    /// For at most five systems.
+    pub fn new(workers: u32, held: [bool; 5], awaited: u64) -> HoldGate {
+        let none = || AtomicU64::new(0);
         HoldGate {
             workers,
             held,
             awaited,
-            came: AtomicU64::new(0),
-            limits_met: AtomicU64::new(0),
-            busy: [AtomicU64::new(0), AtomicU64::new(0), AtomicU64::new(0)],
-            clashes: AtomicU64::new(0),
+            came: none(),
+            limits_met: none(),
+            busy: [none(), none(), none(), none(), none()],
+            clashes: none(),
         }
     }
 
-    /// So many calls came and no more, each that was held saw them, and no worker's number was in
-    /// use twice.
-    pub fn expect_met(&self, rt: &impl Abort) {
+    /// So many calls came and no more, each that was held saw those that it awaited, and no
+    /// worker's number was in use twice.
+    pub fn expect_met(&self, rt: &impl Abort, calls: u64) {
         let limits_met = self.limits_met.load(Ordering::SeqCst);
         let clashes = self.clashes.load(Ordering::SeqCst);
         let came = self.came.load(Ordering::SeqCst);
         let held = self.held;
-        assert_eq!(rt;
-            (limits_met, clashes, came),
-            (0, 0, self.awaited),
-            "{held:?} held"
-        );
+        assert_eq!(rt; (limits_met, clashes, came), (0, 0, calls), "{held:?} held");
     }
 
     fn hold(&self) {
@@ -57,7 +54,7 @@ impl HoldGate {
 
 impl Gate for HoldGate {
     fn pass(&self, worker: u32, system: u32) {
-        if worker > 2 || worker >= self.workers || system > 2 {
+        if worker > 4 || worker >= self.workers || system > 4 {
             self.clashes.fetch_add(1, Ordering::SeqCst);
             return;
         }
@@ -70,54 +67,6 @@ impl Gate for HoldGate {
             self.hold();
         }
         busy.store(0, Ordering::SeqCst);
-    }
-}
-
-/// Holds each call until all of four workers came.
-#[derive(Drop)]
-pub struct RollCall {
-    came: [AtomicU64; 4],
-    limits_met: AtomicU64,
-}
-
-impl RollCall {
-    pub fn new() -> RollCall {
-        let none = || AtomicU64::new(0);
-        RollCall {
-            came: [none(), none(), none(), none()],
-            limits_met: AtomicU64::new(0),
-        }
-    }
-
-    /// Each worker came once, and each that was held saw all.
-    pub fn expect_all(&self, rt: &impl Abort) {
-        for calls in &self.came {
-            assert_eq!(rt; calls.load(Ordering::SeqCst), 1);
-        }
-        assert_eq!(rt; self.limits_met.load(Ordering::SeqCst), 0);
-    }
-
-    fn all_came(&self) -> bool {
-        for calls in &self.came {
-            if calls.load(Ordering::SeqCst) == 0 {
-                return false;
-            }
-        }
-        true
-    }
-}
-
-impl Gate for RollCall {
-    fn pass(&self, worker: u32, _system: u32) {
-        if worker < 4 {
-            self.came[worker as usize].fetch_add(1, Ordering::SeqCst);
-            for _ in 0..50_000_000u64 {
-                if self.all_came() {
-                    return;
-                }
-            }
-        }
-        self.limits_met.fetch_add(1, Ordering::SeqCst);
     }
 }
 

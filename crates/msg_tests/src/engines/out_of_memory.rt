@@ -8,7 +8,7 @@ use super::making::{engine_of, quiet, replay, run_frames};
 use super::spoiled::expect_spoiled;
 use crate::numbers::type_no;
 use crate::outcome::tell;
-use msg_exec::{BuildRefusal, EngineOf, Log, NoGate, NoMemory, RunFault};
+use msg_exec::{BuildError, BuildRefusal, EngineOf, Log, NoGate, NoMemory, RunFault};
 use msg_order::Rule;
 use msg_system::{Op, Scripted, System};
 use std::alloc::Global;
@@ -22,10 +22,10 @@ fn lagging(rt: &impl Abort, alloc: Global) -> Result<EngineOf<Scripted>, NoMemor
 {
     let t = type_no(rt, 0);
     let ops = [Op::Read(t, None), Op::Write(t, 5)];
-    match engine_of(rt, alloc, &[10], &ops, &[Rule::before(0, 1)])? {
+    match engine_of(rt, alloc, &[10], &ops, &[Rule::before(0, 1)]) {
         Ok(engine) => Ok(engine),
-        Err(BuildRefusal::NoMemory) => Err(NoMemory),
-        Err(_other) => panic!(rt; "neither a clash nor a cycle"),
+        Err(BuildError::Refused(BuildRefusal::NoMemory)) => Err(NoMemory),
+        Err(_other) => panic!(rt; "the engine can be built"),
     }
 }
 
@@ -77,21 +77,6 @@ fn frames_on_two_workers(rt: HostRuntime) -> Result<(), Fail> {
     tell(&rt, is_refused)
 }
 
-/// Replays the frame of this number, from 0, of the lagging engine.
-fn replay_one(
-    rt: &impl Abort,
-    alloc: Global,
-    engine: &mut EngineOf<Scripted>,
-    frame: u32,
-) -> Result<(), RunFault>
-    requires engine { IsEngine ⟦<Scripted as System>⟧.meaning engine.old }
-    ensures engine { IsEngine ⟦<Scripted as System>⟧.meaning engine.new }
-{
-    let log = replay(rt, engine, &quiet(alloc), &[0, 1])?;
-    expect_lag(rt, &log, frame);
-    Ok(())
-}
-
 /// Replays two frames of the lagging engine, up to the first fault, and counts those that were
 /// replayed.
 fn replay_two(
@@ -103,9 +88,10 @@ fn replay_two(
     requires engine { IsEngine ⟦<Scripted as System>⟧.meaning engine.old }
     ensures engine { IsEngine ⟦<Scripted as System>⟧.meaning engine.new }
 {
-    replay_one(rt, alloc, engine, 0)?;
+    let frame = quiet(alloc);
+    expect_lag(rt, &replay(rt, engine, &frame, &[0, 1])?, 0);
     *replayed = 1;
-    replay_one(rt, alloc, engine, 1)?;
+    expect_lag(rt, &replay(rt, engine, &frame, &[0, 1])?, 1);
     *replayed = 2;
     Ok(())
 }

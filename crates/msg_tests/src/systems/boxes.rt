@@ -1,7 +1,8 @@
-// Boxed systems of the three kinds, each run on a loan of its own.
+// Boxed systems of the three kinds, run on a loan of its own.
+use crate::engines::making::script;
 use crate::numbers::{res_no, type_no};
 use msg_system::{
-    Items, NoMemory, Op, Program, Relay, Reply, Scripted, Start, System, Tally, open_loans_cover,
+    Items, NoMemory, Numbered, Op, Relay, Reply, Start, System, Tally, open_loans_cover,
 };
 use msg_world::laws::{lent_parts_are_a_loan, lent_parts_may_come_home};
 use msg_world::{Lent, World};
@@ -34,58 +35,42 @@ const REPLIES: &str = "[Wrote(Written { first: 0, n: 1 }), Wrote(Written { first
      Record { writer: 0, value: 5 }, Record { writer: 0, value: 6 }] } }, \
      wrote: Some(Written { first: 0, n: 2 }) }, \
      Summed { took: Took { missed: 0, first: 0, items: Items { items: [\
-     Record { writer: 1, value: 5 }, Record { writer: 1, value: 6 }] } }, value: 18 }]";
+     Record { writer: 1, value: 5 }, Record { writer: 1, value: 6 }] } }, value: 18 }, \
+     Wrote(Written { first: 0, n: 1 }), Wrote(Written { first: 1, n: 1 }), \
+     Drained { first: 0, items: Items { items: [Record { writer: 4, value: 5 }, \
+     Record { writer: 4, value: -6 }] } }, Drained { first: 2, items: Items { items: [] } }]";
 
+/// A writer, a relay, a tally, and one that drains what it wrote.
 #[test]
-fn a_list_of_three_boxes(rt: HostRuntime) -> Result<(), Fail> {
+fn a_list_of_four_boxes(rt: HostRuntime) -> Result<(), Fail> {
     let alloc = rt.alloc();
-    let (t, u, r) = (type_no(&rt, 0), type_no(&rt, 1), res_no(&rt, 0));
-    let script = Scripted::new(
-        Program {
-            ops: Items::from_vec(vec![in alloc; Op::Write(t, 5), Op::Write(t, 6)]?),
-            start: Start::Zero,
-        },
-        0,
+    let (t, u, v, r) = (
+        type_no(&rt, 0),
+        type_no(&rt, 1),
+        type_no(&rt, 2),
+        res_no(&rt, 0),
     );
-    let relay = Relay::new(t, u, Start::Zero, 1);
-    let tally = Tally::new(u, r, Start::Zero, 2);
-    let mut boxes: Vec<Box<dyn System>> = Vec::with_capacity(alloc, 3)?;
-    boxes.push(Box::new(alloc, script)?)?;
-    boxes.push(Box::new(alloc, relay)?)?;
-    boxes.push(Box::new(alloc, tally)?)?;
-    let mut world = World::new(alloc, &[9, 9], &[7])?;
+    let writer = script(&rt, alloc, &[Op::Write(t, 5), Op::Write(t, 6)], Start::Zero)?;
+    let ops = [
+        Op::Write(v, 5),
+        Op::Write(v, -6),
+        Op::Drain(v),
+        Op::Drain(v),
+    ];
+    let mut drain = script(&rt, alloc, &ops, Start::Zero)?;
+    drain.set_number(4);
+    let mut boxes: Vec<Box<dyn System>> = Vec::with_capacity(alloc, 4)?;
+    boxes.push(Box::new(alloc, writer)?)?;
+    boxes.push(Box::new(alloc, Relay::new(t, u, Start::Zero, 1))?)?;
+    boxes.push(Box::new(alloc, Tally::new(u, r, Start::Zero, 2))?)?;
+    boxes.push(Box::new(alloc, drain)?)?;
+    let mut world = World::new(alloc, &[9, 9, 9], &[7])?;
     let mut replies = Vec::new(alloc);
     for system in boxes.iter_mut() {
         run_once(&rt, alloc, &mut world, system, &mut replies)?;
     }
     assert_eq!(rt; format!(in alloc; "{replies:?}")?.as_str(), REPLIES);
     assert_eq!(rt; world.resource(r), Some(18));
-    Ok(())
-}
-
-const DRAINED: &str = "[Wrote(Written { first: 0, n: 1 }), Wrote(Written { first: 1, n: 1 }), \
-     Drained { first: 0, items: Items { items: [Record { writer: 4, value: 5 }, \
-     Record { writer: 4, value: -6 }] } }, Drained { first: 2, items: Items { items: [] } }]";
-
-#[test]
-fn a_drain_answers_with_all_messages(rt: HostRuntime) -> Result<(), Fail> {
-    let (alloc, t) = (rt.alloc(), type_no(&rt, 0));
-    let ops = vec![in alloc;
-        Op::Write(t, 5),
-        Op::Write(t, -6),
-        Op::Drain(t),
-        Op::Drain(t),
-    ]?;
-    let program = Program {
-        ops: Items::from_vec(ops),
-        start: Start::Zero,
-    };
-    assert!(rt; program.ops.as_slice().len() <= 64);
-    let mut script = Scripted::new(program, 4);
-    let mut world = World::new(alloc, &[9], &[])?;
-    let mut replies = Vec::new(alloc);
-    run_once(&rt, alloc, &mut world, &mut script, &mut replies)?;
-    assert_eq!(rt; format!(in alloc; "{replies:?}")?.as_str(), DRAINED);
     Ok(())
 }
 

@@ -1,6 +1,6 @@
 use Rattle.std.proofs.Common.{◌-◌, length}
 use Rattle.msg_board.specs.Prelude.{jobs_of, IsIdle}
-use Rattle.msg_tests.proofs.boards.boxes.work.Given as goal
+use Rattle.msg_tests.proofs.boards.work.Given as goal
 
 abbrev pub invariant-loop-k : goal.invariant-loop-k
 invariant-loop-k g l = IsIdle l.board l.pass

@@ -1,6 +1,6 @@
 use Rattle.std.proofs.Common.{subst, sym}
 use Rattle.msg_world.specs.Prelude.{IsApart, Parts}
-use Rattle.msg_tests.proofs.worlds.loans.a_loan_that_ends_leaves_what_it_wrote.Goals as goal
+use Rattle.msg_tests.proofs.worlds.a_loan_that_ends_leaves_what_it_wrote.Goals as goal
 
 pub take_back-requires : goal.take_back-requires
 take_back-requires g c =

@@ -1,7 +1,0 @@
-use Rattle.msg_frames.specs.Prelude.{IsNew}
-use Rattle.msg_exec.specs.Prelude.{EachIs}
-use Rattle.msg_system.specs.contracts.scripted.ScriptedSystem.TheImpl.{meaning-value}
-use Rattle.msg_tests.proofs.engines.noting.noting_engine.Given as goal
-
-abbrev pub invariant-loop-op : goal.invariant-loop-op
-invariant-loop-op g l = EachIs (λ i x. IsNew i (meaning-value.it x.system)) l.systems.items
