@@ -1,5 +1,5 @@
 -- What tiles give: messages in order of writing.
-use Rattle.std.proofs.Common.{◌≡◌, ℕ, zero, suc, ◌+◌, ◌-◌, ◌≤◌, ◌<◌, List, [], ◌∷◌, ◌++◌, map, length, take, drop, Bool, cond, Option, Some, None, is_some, option_map, IfSome, unwrap_or, filter, refl, sym, ap, subst, ◌∙◌, arith, inl, inr, slice_get, get_or, All}
+use Rattle.std.proofs.Common.{◌≡◌, ℕ, zero, suc, ◌+◌, ◌≤◌, ◌<◌, List, [], ◌∷◌, ◌++◌, map, length, take, drop, Bool, cond, Option, Some, None, is_some, option_map, IfSome, unwrap_or, filter, refl, sym, ap, subst, ◌∙◌, arith, inl, inr, slice_get, get_or, All}
 use Rattle.std.specs.Prelude.{false, ◌==◌}
 use Rattle.std.specs.List.{range_with_len, enumerate_from}
 use Rattle.std.specs.List.Sorted.{IsStrictlyIncreasing}
