@@ -15,27 +15,14 @@ use Rattle.msg_system.proofs.Turns.{IsKept, ops_answered-snoc}
 
 -- a loan that covers what is needed covers each op that keeps to it
 pub covers_kept : (op : Op) (n : Needs) (l : Lent) → IsKept n op → Covers n l → Covers (op_needs op) l
-covers_kept op n l keeps covers = record {
-  reads = λ p h. elim (cases_Bool (n.reads p)) [
-    | inl is ↦ covers.reads p is
-    | inr isnt ↦ can_be_shown p l (covers.writes p (last (n.reads p) (is_resource p) (n.writes p) isnt (keeps.reads p h)))
-  ];
-  writes = λ p h. covers.writes p (keeps.writes p h);
-}
-  where
-    last : (x k y : Bool) → x ≡ false → IsTrue (x || (k && y)) → IsTrue y
-    last x true y isnt h = rw isnt at h
-    last x false y isnt h = absurd (false≢true (rw isnt at h))
+covers_kept op n l keeps covers = grind (arith, cases_Bool, can_be_shown, false≢true)
 
 told_so_far : (n : ℕ) (before out replies : List Reply) → n ≡ length before → out ≡ before ++ replies → drop n out ≡ replies
 told_so_far n before out replies long is = rw (long, is) (drop-append_seam before replies)
 
 module _ (next : List Reply → Option Op) (w : ℕ) (ps : ℕ → ℕ) (s : WorldState) where
   one_longer : (k : ℕ) → after_at_most (k + 1) next w ps s ≡ one_more (next (after_at_most k next w ps s).replies) w (after_at_most k next w ps s)
-  one_longer k = ap (λ n. after_at_most n next w ps s) (the_suc k)
-    where
-      the_suc : (k : ℕ) → k + 1 ≡ suc k
-      the_suc k = omega arith
+  one_longer k = grind arith
 
   -- where the rule says that the turn is over, it stays as it is
   stays : (n k : ℕ) → k ≤ n → next (after_at_most k next w ps s).replies ≡ None → after_at_most n next w ps s ≡ after_at_most k next w ps s

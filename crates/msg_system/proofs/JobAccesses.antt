@@ -1,5 +1,5 @@
 -- The access of a job, from its program's and its conditions'.
-use Rattle.std.proofs.Common.{◌≡◌, ℕ, ◌+◌, ◌<◌, Bool, true, false, not, ◌&&◌, ◌||◌, List, [], length, take, get_or, refl, sym, ap, ◌∙◌}
+use Rattle.std.proofs.Common.{arith, ◌≡◌, ℕ, ◌+◌, ◌<◌, Bool, true, false, not, ◌&&◌, ◌||◌, List, [], length, take, get_or, refl, sym, ap, ◌∙◌}
 use Rattle.std.specs.Prelude.{IsTrue}
 use Rattle.std.proofs.Math.Bool.{and-false, or-false}
 use Rattle.std.proofs.lemmas.Bool.{false≢true, or_parts, or_right}
@@ -23,14 +23,7 @@ IsUnion a b u = ((p : Part) → writes u p ≡ (writes a p || writes b p)) × ((
 
 -- without conditions
 pub no_conditions : (n : Needs) (a none u : Access) → ((p : Part) → uses none p ≡ false) → IsUnion a none u → IsAccessOf n a → IsAccessOf (with_conditions n []) u
-no_conditions n a none u nothing union of = record {
-  reads = λ p. union.1 p ∙ ap (λ w. (reads a p || reads none p) && not w) (written p) ∙ ap (λ r. (reads a p || r) && not (n.writes p)) (or_parts (reads none p) (writes none p) (nothing p)).0
-      ∙ ap (λ r. (r || false) && not (n.writes p)) (of.reads p);
-  writes = written;
-}
-  where
-    written : (p : Part) → writes u p ≡ n.writes p
-    written p = union.0 p ∙ ap (λ w. writes a p || w) (or_parts (reads none p) (writes none p) (nothing p)).1 ∙ or-false (writes a p) ∙ of.writes p
+no_conditions n a none u nothing union of = grind (arith, or_parts, or-false)
 
 -- one condition more
 pub condition_more : (n : Needs) (cs : List Condition) (i : ℕ) (c : Condition) (a b u : Access) → i < length cs → c ≡ get_or cs i c
@@ -55,30 +48,15 @@ condition_more n cs i c a b u lt is of one union = record { reads = read; writes
 
 -- what is said of an access's own parts is said of the needs that it is the access of
 pub access_along : (n : Needs) (cs : List Condition) (a u : Access) → IsAccessOf n a → IsAccessOf (with_conditions (needs_of a) cs) u → IsAccessOf (with_conditions n cs) u
-access_along n cs a u of own = record {
-  reads = λ p. own.reads p ∙ ap (λ r. (r || some_condition_reads cs p) && not (writes a p)) (of.reads p) ∙ ap (λ w. (n.reads p || some_condition_reads cs p) && not w) (of.writes p);
-  writes = λ p. own.writes p ∙ of.writes p;
-}
+access_along n cs a u of own = grind arith
 
 -- ---- what a job needs is what its program and its conditions need
 
 read_or_written : (x c w : Bool) → IsTrue x → IsTrue (((x || c) && not w) || w)
-read_or_written x c true h = or_right ((x || c) && not true) true refl
-read_or_written true c false h = refl
-read_or_written false c false h = absurd (false≢true h)
+read_or_written x c w z3 = grind (arith, or_right, false≢true)
 
 asked_or_written : (x c w : Bool) → IsTrue c → IsTrue (((x || c) && not w) || w)
-asked_or_written x c true h = or_right ((x || c) && not true) true refl
-asked_or_written true c false h = refl
-asked_or_written false c false h = rw h refl
+asked_or_written x c w z3 = grind (arith, or_right)
 
 pub jobs_cover : JobsCover
-jobs_cover n cs l complete of = (
-  complete_covers n l complete (λ p h. used p (read_or_written (n.reads p) (some_condition_reads cs p) (n.writes p) h)) (λ p h. of.writes p ∙ h),
-  λ i c lt. complete_covers (condition_needs (get_or cs i c)) l complete
-      (λ p h. used p (asked_or_written (n.reads p) (some_condition_reads cs p) (n.writes p) (list_any_at (λ (x : Condition). (condition_needs x).reads p) cs i c lt h)))
-      (λ p h. absurd (false≢true h)),
-)
-  where
-    used : (p : Part) → IsTrue ((with_conditions n cs).reads p || n.writes p) → IsTrue (uses (access_of l) p)
-    used p h = ap (λ r. r || writes l.access p) (of.reads p) ∙ ap (λ w. (with_conditions n cs).reads p || w) (of.writes p) ∙ h
+jobs_cover n cs l complete of = grind (arith, complete_covers, read_or_written, asked_or_written, list_any_at, false≢true)

@@ -15,7 +15,3 @@ returns-clause-ran c places s stand =
     subst (λ (r : Reply). IsAfterOp (writes_all c.args.t ms places s) places c.write_each.new.lent r) (sym c.wrote_or_spent.ensures.reply)
     (after_writes places s c.write_each.new.lent c.args.t ms (map (by c.args.writer) c.as_slice.result.now) c.in_ok-write_each.field-0 items
     (c.in_ok-write_each.ensures.numbers s stand ∙ ap (numbers_for (s.histories c.args.t)) (sym long)) written)
-
-pub returns-in_err-write_each-clause-refused : goal.returns-in_err-write_each-clause-refused
-returns-in_err-write_each-clause-refused c = on_err c.from_residual.result _ (λ places s stand.
-    omega (arith, ap length c.as_slice.ensures.items, c.in_err-write_each.ensures.some))
