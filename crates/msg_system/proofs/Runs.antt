@@ -109,11 +109,5 @@ one_reply_more before after n r has = (
   length-append has.0 (r ∷ []) ∙ ap (λ k. k + 1) has.2,
 )
 
-pub one_op_is_covered : OneOpIsCovered
-one_op_is_covered op l covers = covers_op (op ∷ []) 0 op l (omega arith) refl covers
-
-pub written_is_all : WrittenIsAll
-written_is_all l taken s none stands p = grind (arith, cases_Bool)
-
 pub complete_covers : CompleteCovers
 complete_covers n l complete reads_in writes_in = grind arith
