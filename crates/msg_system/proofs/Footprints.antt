@@ -1,5 +1,5 @@
 -- Ops, turns, conditions and jobs use no more than they need.
-use Rattle.std.proofs.Common.{◌≡◌, ℕ, zero, suc, Bool, true, false, not, ◌&&◌, ◌||◌, List, [], ◌∷◌, ◌++◌, length, map, Option, None, Some, refl, sym, ap, subst, ◌∙◌, arith, inl, inr}
+use Rattle.std.proofs.Common.{◌≡◌, ℕ, zero, suc, Bool, true, false, not, ◌&&◌, ◌||◌, List, [], ◌∷◌, ◌++◌, length, map, Option, None, Some, refl, sym, ap, subst, ◌∙◌, arith}
 use Rattle.std.specs.Prelude.{◌==◌, ℤ, IsTrue, nat_lt, if◌then◌else◌}
 use Rattle.std.specs.Ordering.{int_eq}
 use Rattle.std.proofs.Math.Bool.{or-false}
@@ -7,7 +7,7 @@ use Rattle.std.proofs.lemmas.Bool.{cases_Bool, false≢true, or_left, or_right}
 use Rattle.msg_buffer.specs.Prelude.{History, clear, count, first, message_of, missed, oldest, present, unread, write}
 use Rattle.msg_world.specs.declared.record.Record.{Record}
 use Rattle.msg_world.specs.Prelude.{OfResource, OfType, Part, Registry, WorldState, after_signal, by, content, same_part, signalled_marks, with_history, with_value_of}
-use Rattle.msg_system.specs.Prelude.{Add, AfterJob, AfterProgram, Agree, Asked, Batch, Clear, Condition, ConditionFootprint, Drain, Forward, Get, HasFootprint, IsWithin, Job, JobFootprint, Len, Meaning, Missed, Needs, OnMessage, Op, OpFootprint, Probe, Program, ProgramFootprint, Read, Reply, ResourceEquals, Set, Signal, Sum, TurnFootprint, Write, Zero, after_asking, after_at_most, after_op, after_turn, again_by, all_hold, answer, condition_needs, conditions_of, found, given_by_job, given_by_op, given_by_program, inverted, is_part, is_resource, next_op, numbers_for, of_program, one_more, op_needs, op_parts, place_after, place_after_read, plus, probe_part, program_needs, some_condition_reads, sum_onto, told, took, turn, with_conditions, with_place, write_reply}
+use Rattle.msg_system.specs.Prelude.{Add, AfterJob, AfterProgram, Agree, Asked, Batch, Clear, Condition, ConditionFootprint, Drain, Forward, Get, HasFootprint, IsWithin, Job, JobFootprint, Len, Meaning, Missed, Needs, OnMessage, Op, OpFootprint, Probe, Program, ProgramFootprint, Read, Reply, ResourceEquals, Set, Signal, Sum, TurnFootprint, Write, Zero, after_asking, after_at_most, after_op, after_turn, again_by, all_hold, answer, condition_needs, conditions_of, found, given_by_job, given_by_op, given_by_program, inverted, is_part, next_op, numbers_for, of_program, one_more, op_needs, op_parts, place_after, place_after_read, plus, probe_part, program_needs, some_condition_reads, sum_onto, told, took, turn, with_conditions, with_place, write_reply}
 use Rattle.msg_system.specs.declared.reply.Reply.TheVariants as reply
 use Rattle.msg_system.proofs.Runs.{same_part_refl}
 use Rattle.msg_system.proofs.Turns.{IsKept, next_kept_to, program_so_far}

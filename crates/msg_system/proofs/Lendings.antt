@@ -1,14 +1,14 @@
 -- What is read from a loan, and written through it.
-use Rattle.std.proofs.Common.{◌≡◌, ℕ, ◌+◌, ◌++◌, ◌≤◌, ◌<◌, Bool, true, false, List, [], ◌∷◌, length, map, Option, Some, None, refl, sym, subst, ◌∙◌, arith, inl, inr}
-use Rattle.std.specs.Prelude.{ℤ, Result, Ok, Err, IfSome, IsSome, OnErr, if◌then◌else◌}
+use Rattle.std.proofs.Common.{◌≡◌, ℕ, ◌+◌, ◌≤◌, ◌<◌, true, false, List, [], ◌∷◌, length, map, Option, Some, None, refl, sym, subst, ◌∙◌, arith}
+use Rattle.std.specs.Prelude.{ℤ, Result, IfSome, IsSome, OnErr}
 use Rattle.std.specs.List.{AllZip}
 use Rattle.std.proofs.lemmas.Bool.{cases_Bool, cases_lt, false≢true}
 use Rattle.std.proofs.lemmas.Bool.Decides.{nat_tests}
 use Rattle.msg_buffer.specs.declared.instance.Written.{Written}
-use Rattle.msg_buffer.specs.Prelude.{History, Kept, StandsFor, count, has_room, stamped, write}
+use Rattle.msg_buffer.specs.Prelude.{History, Kept, StandsFor, count, has_room, write}
 use Rattle.msg_world.specs.declared.lent.Lent.{Lent}
 use Rattle.msg_world.specs.declared.record.Record.{Record}
-use Rattle.msg_world.specs.Prelude.{LoanStands, OfResource, OfType, Part, WorldState, shown, writable, writes}
+use Rattle.msg_world.specs.Prelude.{LoanStands, OfResource, OfType, Part, WorldState, shown, writable}
 use Rattle.msg_system.specs.Prelude.{numbers_for}
 
 -- what may be written is shown

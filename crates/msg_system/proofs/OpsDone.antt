@@ -1,5 +1,5 @@
 -- What stands after an op, from what was done to its loan and its cursor.
-use Rattle.std.proofs.Common.{arith, ◌≡◌, ℕ, List, length, Option, None, refl, sym, ap, subst, ◌∙◌}
+use Rattle.std.proofs.Common.{arith, ◌≡◌, ℕ, List, length, Option, None, sym, ap, ◌∙◌}
 use Rattle.std.specs.Prelude.{ℤ}
 use Rattle.msg_buffer.specs.declared.instance.Written.{Written}
 use Rattle.std.proofs.lemmas.List.{length-map}

@@ -1,13 +1,12 @@
 -- Runs of ops and of programs, from one op to the next.
-use Rattle.std.proofs.Common.{◌≡◌, ℕ, ◌+◌, ◌<◌, ◌++◌, Bool, true, false, not, ◌&&◌, List, [], ◌∷◌, length, Option, Some, None, Result, Ok, Err, take, get_or, refl, sym, ap, subst, ◌∙◌, arith, inl, inr, append_assoc}
-use Rattle.std.specs.Prelude.{IfOk, IfSome, IsSome, OnErr, is_some, slice_set, if◌then◌else◌}
+use Rattle.std.proofs.Common.{◌≡◌, ℕ, ◌+◌, ◌<◌, ◌++◌, Bool, true, List, [], ◌∷◌, length, Option, Some, None, Result, take, get_or, refl, sym, ap, subst, ◌∙◌, arith, append_assoc}
+use Rattle.std.specs.Prelude.{IfOk, IsSome, OnErr, is_some, slice_set, if◌then◌else◌}
 use Rattle.std.proofs.lemmas.Bool.{cases_Bool, cases_eq, eq-eqb, ne_eqb}
 use Rattle.std.proofs.lemmas.List.{get_or_default, get_or-set_same, get_or-set_other, length-append, take_more}
 use Rattle.std.proofs.lemmas.List.Folds.{list_any_at}
-use Rattle.msg_world.specs.declared.access.Access.{Access}
 use Rattle.msg_world.specs.declared.lent.Lent.{Lent}
-use Rattle.msg_world.specs.Prelude.{LoanStands, OfResource, OfType, Part, Parts, Registry, SameLoan, StuffStands, WorldState, content, reads, same_part, shown, slot, taken_of, writable, writes}
-use Rattle.msg_system.specs.Prelude.{AfterOp, AfterProgram, CompleteCovers, Covers, Cursors, IsAfterOp, Needs, OneOpIsCovered, Op, OpRan, Reply, WrittenIsAll, WrittenStand, after_op, after_program, is_part, is_resource, op_needs, op_parts, places_of, program_needs, some_op_reads, some_op_writes, with_place}
+use Rattle.msg_world.specs.Prelude.{LoanStands, Part, Parts, SameLoan, WorldState, same_part, shown, slot, taken_of, writable, writes}
+use Rattle.msg_system.specs.Prelude.{AfterOp, AfterProgram, CompleteCovers, Covers, Cursors, IsAfterOp, Needs, Op, OpRan, Reply, WrittenStand, after_op, after_program, is_part, op_needs, op_parts, places_of, program_needs, with_place}
 use Rattle.msg_system.specs.inner.TurnRuns.{HasReplies, IsAfterProgram}
 use Rattle.msg_system.proofs.Lendings.{can_be_shown}
 
@@ -64,10 +63,6 @@ covers_later n l m same covers = grind (arith, shown_later, writable_later)
 pub same_loan_trans : (l m n : Lent) → SameLoan l m → SameLoan m n → SameLoan l n
 same_loan_trans l m n a b = grind arith
 
--- a loan that covers a program covers each op of it
-pub covers_op : (ops : List Op) (i : ℕ) (op : Op) (l : Lent) → i < length ops → op ≡ get_or ops i op → Covers (program_needs ops) l → Covers (op_needs op) l
-covers_op ops i op l lt is covers = grind (arith, cases_Bool, can_be_shown, list_any_at)
-
 -- ---- one op more
 
 abbrev pub and_then : AfterProgram → AfterOp → AfterProgram
@@ -108,6 +103,3 @@ one_reply_more before after n r has = (
   ap (λ xs. xs ++ r ∷ []) has.1 ∙ append_assoc before has.0 (r ∷ []),
   length-append has.0 (r ∷ []) ∙ ap (λ k. k + 1) has.2,
 )
-
-pub complete_covers : CompleteCovers
-complete_covers n l complete reads_in writes_in = grind arith

@@ -1,12 +1,12 @@
 -- Turns by rules.
-use Rattle.std.proofs.Common.{◌≡◌, ℕ, zero, suc, ◌+◌, ◌≤◌, ◌++◌, Bool, true, false, not, ◌&&◌, ◌||◌, List, [], ◌∷◌, length, Option, Some, None, take, drop, refl, sym, ap, subst, ◌∙◌, arith, inl, inr, append_assoc}
+use Rattle.std.proofs.Common.{◌≡◌, ℕ, zero, suc, ◌+◌, ◌≤◌, ◌++◌, Bool, true, not, ◌&&◌, ◌||◌, List, [], ◌∷◌, length, Option, Some, None, take, drop, refl, sym, ap, subst, ◌∙◌, arith, inl, inr, append_assoc}
 use Rattle.std.specs.Prelude.{option_to_list, IsTrue, slice_get, if◌then◌else◌}
 use Rattle.std.proofs.Math.Seq.{drop-append_seam}
 use Rattle.std.proofs.lemmas.Bool.{and_from, and_parts, cases_Bool, eqb-true, false≢true}
 use Rattle.std.proofs.lemmas.List.{append-nil, length-take-le, take_more, take_all}
 use Rattle.std.proofs.lemmas.List.Folds.{list_any_at}
 use Rattle.std.proofs.lemmas.Option.{get_or_from_slice_get, none-some, same_Some, slice_get_cases, slice_get_past, slice_get_within}
-use Rattle.msg_world.specs.Prelude.{OfResource, OfType, Part, Parts, Registry, SameLoan, WorldState, same_part, taken_of}
+use Rattle.msg_world.specs.Prelude.{Part, Parts, SameLoan, WorldState, same_part, taken_of}
 use Rattle.msg_world.specs.declared.lent.Lent.{Lent}
 use Rattle.msg_system.specs.Prelude.{AfterOp, AfterProgram, IsInOrder, Meaning, Needs, OneOpIsATurn, Op, Program, Ran, Reply, WrittenStand, after_at_most, after_op, after_program, if_kept, is_none_or, is_part, is_resource, keeps_to, may_read, next_op, of_program, one_more, only, op_needs, op_parts, ops_answered, program_needs, some_op_reads, some_op_writes, turn}
 use Rattle.msg_system.specs.inner.TurnRuns.{HasReplies, ProgramRan}

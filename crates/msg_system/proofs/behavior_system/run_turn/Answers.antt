@@ -1,4 +1,4 @@
-use Rattle.std.proofs.Common.{drop, length, arith, ap, sym, length-append, ◌∙◌}
+use Rattle.std.proofs.Common.{drop, arith, ap, sym, ◌∙◌}
 use Rattle.msg_system.specs.Prelude.{needs_of, op_needs, places_of}
 use Rattle.msg_system.specs.inner.TurnRuns.{next_kept}
 use Rattle.msg_system.proofs.Deciding.{answered_more, appended, covers_kept, turn_full, turn_more, turn_over}

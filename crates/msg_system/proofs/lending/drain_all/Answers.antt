@@ -1,6 +1,5 @@
 use Rattle.std.proofs.lemmas.Grind.{common_steps}
-use Rattle.std.proofs.Common.{ap, arith, length, ◌∙◌, map}
-use Rattle.msg_buffer.specs.Prelude.{clear, message_of}
+use Rattle.std.proofs.Common.{arith}
 use Rattle.msg_system.proofs.Lendings.{on_err, written_messages_stand}
 use Rattle.msg_system.proofs.lending.drain_all.Goals as goal
 

@@ -1,7 +1,5 @@
 use Rattle.std.proofs.lemmas.Grind.{common_steps}
-use Rattle.std.proofs.Common.{arith, rules, ◌∙◌}
-use mir.Val.{SFits}
-use mir.Syntax.{w64}
+use Rattle.std.proofs.Common.{arith}
 use Rattle.std.proofs.lemmas.Int.{to_z-of_z}
 use Rattle.msg_system.proofs.Lendings.{value_stands}
 use Rattle.msg_system.proofs.lending.value_of.Goals as goal

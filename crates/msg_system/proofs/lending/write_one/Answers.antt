@@ -1,7 +1,5 @@
 use Rattle.std.proofs.lemmas.Grind.{common_steps}
-use Rattle.std.proofs.Common.{arith, [], ◌∷◌, refl, subst, sym}
-use Rattle.msg_buffer.specs.Prelude.{Kept, StandsFor, write}
-use Rattle.msg_world.specs.declared.record.Record.{Record}
+use Rattle.std.proofs.Common.{arith}
 use Rattle.msg_system.proofs.Lendings.{numbers_fit, numbers_left, numbers_spent, spent_stands, written_messages_stand}
 use Rattle.msg_system.proofs.lending.write_one.Goals as goal
 

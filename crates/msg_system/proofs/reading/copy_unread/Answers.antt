@@ -1,8 +1,6 @@
 use Rattle.std.proofs.lemmas.Grind.{common_steps}
-use Rattle.std.proofs.Common.{◌≡◌, ◌++◌, ◌≤◌, length, map, min, arith, ap, sym, ◌∙◌}
-use Rattle.std.specs.Prelude.{unwrap_or}
+use Rattle.std.proofs.Common.{arith}
 use Rattle.std.proofs.lemmas.List.{append-nil}
-use Rattle.msg_buffer.specs.Prelude.{iter_rest, message_of, unread}
 use Rattle.msg_system.proofs.CopiedReads.{all_copied, enough_copied}
 use Rattle.msg_system.proofs.reading.copy_unread.Goals as goal
 use Rattle.msg_system.proofs.reading.copy_unread.Goals.{else-loop-copied-test, then-loop-copied-test+in_default}

@@ -1,8 +1,8 @@
 use Rattle.std.proofs.Common.{◌<◌, List, arith, length, subst}
 use Rattle.std.proofs.lemmas.List.{take_all}
-use Rattle.msg_system.specs.Prelude.{Op, after_program, op_needs, places_of}
+use Rattle.msg_system.specs.Prelude.{Op, after_program, places_of}
 use Rattle.msg_system.specs.inner.TurnRuns.{IsAfterProgram}
-use Rattle.msg_system.proofs.Runs.{covers_later, covers_op, one_reply_more, op_more, same_loan_trans}
+use Rattle.msg_system.proofs.Runs.{one_reply_more, op_more, same_loan_trans}
 use Rattle.msg_system.proofs.scripted.run_ops.Goals as goal
 
 pub loop-op-preserved : goal.loop-op-preserved

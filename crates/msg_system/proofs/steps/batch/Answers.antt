@@ -1,8 +1,7 @@
-use Rattle.std.proofs.Common.{ap, arith, length, map, rules, subst, sym, ◌∙◌}
+use Rattle.std.proofs.Common.{ap, map, rules, subst, sym, ◌∙◌}
 use Rattle.std.proofs.lemmas.List.{length-map}
 use Rattle.msg_world.specs.Prelude.{by}
 use Rattle.msg_system.specs.Prelude.{IsAfterOp, Reply, numbers_for, writes_all}
-use Rattle.msg_system.proofs.Lendings.{on_err}
 use Rattle.msg_system.proofs.OpsDone.{after_writes}
 use Rattle.msg_system.proofs.steps.batch.Goals as goal
 

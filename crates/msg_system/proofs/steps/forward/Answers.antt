@@ -1,10 +1,9 @@
-use Rattle.std.proofs.Common.{None, ap, arith, length, rules, sym, ◌∙◌}
+use Rattle.std.proofs.Common.{ap, rules, sym, ◌∙◌}
 use Rattle.std.proofs.lemmas.List.{length-map}
 use Rattle.msg_world.specs.declared.record.Record.{Record}
 use Rattle.msg_world.specs.Prelude.{by}
 use Rattle.msg_system.specs.Prelude.{again_by, numbers_for}
-use Rattle.msg_system.proofs.Lendings.{on_err}
-use Rattle.msg_system.proofs.OpsDone.{after_forward, as_long}
+use Rattle.msg_system.proofs.OpsDone.{after_forward}
 use Rattle.msg_system.proofs.steps.forward.Goals as goal
 
 pub returns-clause-ran : goal.returns-clause-ran

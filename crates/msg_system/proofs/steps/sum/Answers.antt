@@ -3,7 +3,6 @@ use mir.Val.{SFits}
 use mir.Syntax.{w64}
 use Rattle.std.proofs.lemmas.Int.{to_z-of_z}
 use Rattle.msg_system.specs.Prelude.{sum_onto}
-use Rattle.msg_system.proofs.Lendings.{on_err}
 use Rattle.msg_system.proofs.OpsDone.{after_sum}
 use Rattle.msg_system.proofs.steps.sum.Goals as goal
 

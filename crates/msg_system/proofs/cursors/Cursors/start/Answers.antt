@@ -1,10 +1,9 @@
-use Rattle.std.proofs.Common.{◌≡◌, ℕ, ◌+◌, ◌<◌, Bool, length, false, inl, inr, arith, rules, ap, sym, ◌∙◌, subst}
+use Rattle.std.proofs.Common.{◌≡◌, inl, inr, arith, rules, ap, ◌∙◌}
 use Rattle.std.specs.Prelude.{if◌then◌else◌, ◌==◌}
-use Rattle.std.proofs.lemmas.Bool.{cases_lt, false≢true}
+use Rattle.std.proofs.lemmas.Bool.{cases_lt}
 use Rattle.std.proofs.lemmas.Nat.Bits.{bit_at_above}
 use Rattle.msg_world.specs.Prelude.{OfType, reads}
-use Rattle.msg_system.specs.Prelude.{Cursors, places_of, start_place}
-use Rattle.msg_system.proofs.Starts.{StartedBelow, not_started, set_started}
+use Rattle.msg_system.specs.Prelude.{places_of, start_place}
 use Rattle.msg_system.proofs.cursors.Cursors.start.Goals as goal
 
 pub returns : goal.returns
