@@ -1,5 +1,5 @@
 -- Conditions asked one after the other.
-use Rattle.std.proofs.Common.{◌≡◌, ℕ, ◌+◌, ◌<◌, ◌++◌, Bool, true, false, ◌&&◌, List, [], ◌∷◌, length, map, take, drop, get_or, refl, sym, ap, ◌∙◌}
+use Rattle.std.proofs.Common.{arith, ◌≡◌, ℕ, ◌+◌, ◌<◌, ◌++◌, Bool, ◌&&◌, List, [], ◌∷◌, length, map, take, drop, get_or, sym, ap, ◌∙◌}
 use Rattle.std.proofs.Math.Bool.{and-true}
 use Rattle.std.proofs.lemmas.List.{get_or-map, take_more}
 use Rattle.msg_world.specs.Prelude.{WorldState}
@@ -7,8 +7,7 @@ use Rattle.msg_system.specs.Prelude.{Asked, all_hold, answer}
 use Rattle.msg_system.proofs.InPlace.{not_reached}
 
 and_assoc : (a b c : Bool) → (a && (b && c)) ≡ ((a && b) && c)
-and_assoc true b c = refl
-and_assoc false b c = refl
+and_assoc a b c = grind arith
 
 all_hold-snoc : (xs : List Asked) (x : Asked) (s : WorldState) → all_hold (xs ++ x ∷ []) s ≡ (all_hold xs s && answer x s)
 all_hold-snoc [] x s = and-true (answer x s)

@@ -25,5 +25,4 @@ module _ {M X : Type 0} (f : Instance M → X) (unread : List (Instance M)) (cop
 
   -- all there were
   pub all_copied : (limit : Option ℕ) → map f unread ≡ copied → length copied ≤ unwrap_or limit (length unread) → copied ≡ map f (at_most limit unread)
-  all_copied None whole few = sym whole
-  all_copied (Some k) whole few = sym whole ∙ ap (map f) (sym (take_all k unread (omega (arith, few, ap length whole, length-map unread f))))
+  all_copied limit z1 z2 = grind (arith, take_all, length-map)

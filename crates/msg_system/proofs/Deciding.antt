@@ -1,11 +1,11 @@
 -- Turns that a behavior decides, op after op.
-use Rattle.std.proofs.Common.{◌≡◌, ℕ, zero, suc, ◌+◌, ◌≤◌, ◌++◌, Bool, true, false, ◌&&◌, ◌||◌, List, [], ◌∷◌, length, length-append, Option, Some, None, sym, ap, subst, ◌∙◌, arith, inl, inr, append_assoc, drop}
-use Rattle.std.specs.Prelude.{option_to_list, IsTrue}
+use Rattle.std.proofs.Common.{◌≡◌, ℕ, zero, suc, ◌+◌, ◌≤◌, ◌++◌, List, [], ◌∷◌, length, length-append, Option, Some, None, sym, ap, subst, ◌∙◌, arith, inl, inr, append_assoc, drop}
+use Rattle.std.specs.Prelude.{option_to_list}
 use Rattle.std.proofs.lemmas.Bool.{cases_Bool, cases_eq, false≢true}
 use Rattle.std.proofs.Math.Seq.{drop-append_seam}
 use Rattle.msg_world.specs.declared.lent.Lent.{Lent}
 use Rattle.msg_world.specs.Prelude.{Parts, SameLoan, WorldState, taken_of}
-use Rattle.msg_system.specs.Prelude.{AfterProgram, Covers, IsAfterOp, Meaning, Needs, Op, OpRan, Ran, Reply, Start, after_at_most, after_op, behaves, is_resource, one_more, op_needs, ops_answered, turn}
+use Rattle.msg_system.specs.Prelude.{AfterProgram, Covers, IsAfterOp, Meaning, Needs, Op, OpRan, Ran, Reply, Start, after_at_most, after_op, behaves, one_more, op_needs, ops_answered, turn}
 use Rattle.msg_system.specs.inner.TurnRuns.{AreAnswered, IsAfterProgram, TurnRan, next_kept}
 use Rattle.msg_system.proofs.Lendings.{can_be_shown}
 use Rattle.msg_system.proofs.Runs.{written_stand}
@@ -15,27 +15,14 @@ use Rattle.msg_system.proofs.Turns.{IsKept, ops_answered-snoc}
 
 -- a loan that covers what is needed covers each op that keeps to it
 pub covers_kept : (op : Op) (n : Needs) (l : Lent) → IsKept n op → Covers n l → Covers (op_needs op) l
-covers_kept op n l keeps covers = record {
-  reads = λ p h. elim (cases_Bool (n.reads p)) [
-    | inl is ↦ covers.reads p is
-    | inr isnt ↦ can_be_shown p l (covers.writes p (last (n.reads p) (is_resource p) (n.writes p) isnt (keeps.reads p h)))
-  ];
-  writes = λ p h. covers.writes p (keeps.writes p h);
-}
-  where
-    last : (x k y : Bool) → x ≡ false → IsTrue (x || (k && y)) → IsTrue y
-    last x true y isnt h = rw isnt at h
-    last x false y isnt h = absurd (false≢true (rw isnt at h))
+covers_kept op n l keeps covers = grind (arith, cases_Bool, can_be_shown, false≢true)
 
 told_so_far : (n : ℕ) (before out replies : List Reply) → n ≡ length before → out ≡ before ++ replies → drop n out ≡ replies
 told_so_far n before out replies long is = rw (long, is) (drop-append_seam before replies)
 
 module _ (next : List Reply → Option Op) (w : ℕ) (ps : ℕ → ℕ) (s : WorldState) where
   one_longer : (k : ℕ) → after_at_most (k + 1) next w ps s ≡ one_more (next (after_at_most k next w ps s).replies) w (after_at_most k next w ps s)
-  one_longer k = ap (λ n. after_at_most n next w ps s) (the_suc k)
-    where
-      the_suc : (k : ℕ) → k + 1 ≡ suc k
-      the_suc k = omega arith
+  one_longer k = grind arith
 
   -- where the rule says that the turn is over, it stays as it is
   stays : (n k : ℕ) → k ≤ n → next (after_at_most k next w ps s).replies ≡ None → after_at_most n next w ps s ≡ after_at_most k next w ps s

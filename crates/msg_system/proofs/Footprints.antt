@@ -1,5 +1,5 @@
 -- Ops, turns, conditions and jobs use no more than they need.
-use Rattle.std.proofs.Common.{◌≡◌, ℕ, zero, suc, Bool, true, false, not, ◌&&◌, ◌||◌, List, [], ◌∷◌, ◌++◌, length, map, Option, None, Some, refl, sym, ap, subst, ◌∙◌, arith, inl, inr}
+use Rattle.std.proofs.Common.{◌≡◌, ℕ, zero, suc, Bool, true, false, not, ◌&&◌, ◌||◌, List, [], ◌∷◌, ◌++◌, length, map, Option, None, Some, refl, sym, ap, subst, ◌∙◌, arith}
 use Rattle.std.specs.Prelude.{◌==◌, ℤ, IsTrue, nat_lt, if◌then◌else◌}
 use Rattle.std.specs.Ordering.{int_eq}
 use Rattle.std.proofs.Math.Bool.{or-false}
@@ -7,7 +7,7 @@ use Rattle.std.proofs.lemmas.Bool.{cases_Bool, false≢true, or_left, or_right}
 use Rattle.msg_buffer.specs.Prelude.{History, clear, count, first, message_of, missed, oldest, present, unread, write}
 use Rattle.msg_world.specs.declared.record.Record.{Record}
 use Rattle.msg_world.specs.Prelude.{OfResource, OfType, Part, Registry, WorldState, after_signal, by, content, same_part, signalled_marks, with_history, with_value_of}
-use Rattle.msg_system.specs.Prelude.{Add, AfterJob, AfterProgram, Agree, Asked, Batch, Clear, Condition, ConditionFootprint, Drain, Forward, Get, HasFootprint, IsWithin, Job, JobFootprint, Len, Meaning, Missed, Needs, OnMessage, Op, OpFootprint, Probe, Program, ProgramFootprint, Read, Reply, ResourceEquals, Set, Signal, Sum, TurnFootprint, Write, Zero, after_asking, after_at_most, after_op, after_turn, again_by, all_hold, answer, condition_needs, conditions_of, found, given_by_job, given_by_op, given_by_program, inverted, is_part, is_resource, next_op, numbers_for, of_program, one_more, op_needs, op_parts, place_after, place_after_read, plus, probe_part, program_needs, some_condition_reads, sum_onto, told, took, turn, with_conditions, with_place, write_reply}
+use Rattle.msg_system.specs.Prelude.{Add, AfterJob, AfterProgram, Agree, Asked, Batch, Clear, Condition, ConditionFootprint, Drain, Forward, Get, HasFootprint, IsWithin, Job, JobFootprint, Len, Meaning, Missed, Needs, OnMessage, Op, OpFootprint, Probe, Program, ProgramFootprint, Read, Reply, ResourceEquals, Set, Signal, Sum, TurnFootprint, Write, Zero, after_asking, after_at_most, after_op, after_turn, again_by, all_hold, answer, condition_needs, conditions_of, found, given_by_job, given_by_op, given_by_program, inverted, is_part, next_op, numbers_for, of_program, one_more, op_needs, op_parts, place_after, place_after_read, plus, probe_part, program_needs, some_condition_reads, sum_onto, told, took, turn, with_conditions, with_place, write_reply}
 use Rattle.msg_system.specs.declared.reply.Reply.TheVariants as reply
 use Rattle.msg_system.proofs.Runs.{same_part_refl}
 use Rattle.msg_system.proofs.Turns.{IsKept, next_kept_to, program_so_far}
@@ -123,22 +123,11 @@ op_footprint op w ps = record {
 
 -- what an op uses is used by who needs as much
 kept_within : (n : Needs) (op : Op) (m : Part → Bool) → IsKept n op → IsWithin n m → IsWithin (op_needs op) m
-kept_within n op m kept within p h =
-    within p (used ((op_needs op).reads p) ((op_needs op).writes p) (n.reads p) (is_resource p) (n.writes p) (kept.reads p) (kept.writes p) h)
-  where
-    used : (r w x k y : Bool) → (IsTrue r → IsTrue (x || (k && y))) → (IsTrue w → IsTrue y) → IsTrue (r || w) → IsTrue (x || y)
-    used r w true k y f g h = refl
-    used r w false k true f g h = refl
-    used true w false true false f g h = f refl
-    used true w false false false f g h = f refl
-    used false w false k false f g h = g h
+kept_within n op m kept within p h = grind arith
 
 module _ (n : Needs) (next : List Reply → Option Op) (keeps : (replies : List Reply) (op : Op) → next replies ≡ Some op → IsKept n op) (w : ℕ) (ps : ℕ → ℕ) where
   not_written : (op : Op) (p : Part) → IsKept n op → n.writes p ≡ false → (op_needs op).writes p ≡ false
-  not_written op p kept h = elim (cases_Bool ((op_needs op).writes p)) [
-    | inl is ↦ absurd (false≢true (sym h ∙ kept.writes p is))
-    | inr isnt ↦ isnt
-  ]
+  not_written op p kept h = grind (arith, cases_Bool, false≢true)
 
   more_kept : (o : Option Op) (far : AfterProgram) (p : Part) → ((op : Op) → o ≡ Some op → IsKept n op) → n.writes p ≡ false
       → content p (one_more o w far).state ≡ content p far.state
@@ -225,8 +214,7 @@ abbrev AllAskedIn : List Asked → (Part → Bool) → Type 0
 AllAskedIn asked m = (p : Part) → IsTrue (some_condition_reads (map (λ a. a.condition) asked) p) → IsTrue (m p)
 
 first_asked_in : (a : Asked) (asked : List Asked) (m : Part → Bool) → AllAskedIn (a ∷ asked) m → IsWithin (condition_needs a.condition) m
-first_asked_in a asked m within p h =
-    within p (or_left ((condition_needs a.condition).reads p) (some_condition_reads (map (λ a. a.condition) asked) p) (sym (or-false ((condition_needs a.condition).reads p)) ∙ h))
+first_asked_in a asked m within p h = grind (arith, or_left, or-false)
 
 rest_asked_in : (a : Asked) (asked : List Asked) (m : Part → Bool) → AllAskedIn (a ∷ asked) m → AllAskedIn asked m
 rest_asked_in a asked m within p h = within p (or_right ((condition_needs a.condition).reads p) (some_condition_reads (map (λ a. a.condition) asked) p) h)
@@ -270,14 +258,10 @@ module _ (system : Meaning) where
 
 -- what a system uses, its job uses
 system_part : (r w c : Bool) → IsTrue (r || w) → IsTrue (((r || c) && not w) || w)
-system_part r true c h = or_right ((r || c) && not true) true refl
-system_part true false c h = refl
-system_part false false c h = absurd (false≢true h)
+system_part r w c z3 = grind (arith, or_right, false≢true)
 
 condition_part : (r c w : Bool) → IsTrue c → IsTrue (((r || c) && not w) || w)
-condition_part r c true h = or_right ((r || c) && not true) true refl
-condition_part true c false h = refl
-condition_part false c false h = rw h refl
+condition_part r c w z3 = grind (arith, or_right)
 
 module _ (j : Job) (m : Part → Bool) (within : IsWithin (with_conditions j.system.needs (conditions_of j)) m) where
   system_in : IsWithin j.system.needs m

@@ -1,22 +1,19 @@
 -- What is read from a loan, and written through it.
-use Rattle.std.proofs.Common.{◌≡◌, ℕ, ◌+◌, ◌++◌, ◌≤◌, ◌<◌, Bool, true, false, List, [], ◌∷◌, length, map, Option, Some, None, refl, sym, subst, ◌∙◌, arith, inl, inr}
-use Rattle.std.specs.Prelude.{ℤ, Result, Ok, Err, IfSome, IsSome, OnErr, if◌then◌else◌}
+use Rattle.std.proofs.Common.{◌≡◌, ℕ, ◌+◌, ◌≤◌, ◌<◌, true, false, List, [], ◌∷◌, length, map, Option, Some, None, refl, sym, subst, ◌∙◌, arith}
+use Rattle.std.specs.Prelude.{ℤ, Result, IfSome, IsSome, OnErr}
 use Rattle.std.specs.List.{AllZip}
 use Rattle.std.proofs.lemmas.Bool.{cases_Bool, cases_lt, false≢true}
 use Rattle.std.proofs.lemmas.Bool.Decides.{nat_tests}
 use Rattle.msg_buffer.specs.declared.instance.Written.{Written}
-use Rattle.msg_buffer.specs.Prelude.{History, Kept, StandsFor, count, has_room, stamped, write}
+use Rattle.msg_buffer.specs.Prelude.{History, Kept, StandsFor, count, has_room, write}
 use Rattle.msg_world.specs.declared.lent.Lent.{Lent}
 use Rattle.msg_world.specs.declared.record.Record.{Record}
-use Rattle.msg_world.specs.Prelude.{LoanStands, OfResource, OfType, Part, WorldState, shown, writable, writes}
+use Rattle.msg_world.specs.Prelude.{LoanStands, OfResource, OfType, Part, WorldState, shown, writable}
 use Rattle.msg_system.specs.Prelude.{numbers_for}
 
 -- what may be written is shown
 pub writable_is_shown : (p : Part) (l : Lent) → IsSome (writable p l) → shown p l ≡ writable p l
-writable_is_shown p l there = elim (cases_Bool (writes l.access p)) [
-  | inl is ↦ rw is refl
-  | inr isnt ↦ absurd (false≢true (rw isnt at there))
-]
+writable_is_shown p l there = grind (arith, cases_Bool, false≢true)
 
 pub can_be_shown : (p : Part) (l : Lent) → IsSome (writable p l) → IsSome (shown p l)
 can_be_shown p l there = rw (writable_is_shown p l there) there
@@ -48,21 +45,15 @@ module _ (h : History Record) (n : ℕ) where
 
   -- where they aren't spent, there are numbers
   pub numbers_left : ¬ (h.limit < count h + n) → IsSome (numbers_for h n)
-  numbers_left not_spent = elim (cases_lt h.limit (count h + n)) [
-    | inl spent ↦ absurd (not_spent spent)
-    | inr room ↦ rw (room_true room) refl
-  ]
+  numbers_left not_spent = grind (arith, cases_lt, room_true)
 
 -- what holds in any case holds after a refusal
 pub on_err : {T E : Type 0} (r : Result T E) (P : Type 0) → P → OnErr r P
-on_err (Ok x) P holds = tt
-on_err (Err e) P holds = holds
+on_err r P z2 = grind arith
 
 -- a write that doesn't fit changes nothing
 pub spent_stands : (h : History Record) (ms : List Record) (k : Kept Record) → h.limit < count h + length ms → StandsFor k h → StandsFor k (write ms h)
-spent_stands h ms k spent stands =
-    let P : Bool → Type 0 = λ b. StandsFor k (if b then record h { entries = h.entries ++ stamped h.updates ms } else h) in
-    subst P (sym (room_false h (length ms) spent)) stands
+spent_stands h ms k spent stands = grind (arith, room_false)
 
 -- what a function makes of items, where it gives what `f` gives
 pub made_by : {X M : Type 0} (R : X → M → Type 0) (f : X → M) → ((x : X) (m : M) → R x m → m ≡ f x) → (xs : List X) (ms : List M) → AllZip R xs ms → ms ≡ map f xs

@@ -1,5 +1,5 @@
 -- Where the cursors of a system start.
-use Rattle.std.proofs.Common.{◌≡◌, ℕ, zero, suc, ◌+◌, ◌<◌, ◌≤◌, Bool, true, false, List, length, replicate, get_or, refl, arith, inl, inr}
+use Rattle.std.proofs.Common.{◌≡◌, ℕ, zero, suc, ◌+◌, ◌<◌, ◌≤◌, Bool, true, false, List, length, replicate, get_or, refl, arith}
 use Rattle.std.specs.Prelude.{if◌then◌else◌}
 use Rattle.std.proofs.lemmas.Bool.{cases_eq}
 use Rattle.std.proofs.lemmas.List.{get_or-set_same, get_or-set_other}
@@ -21,19 +21,7 @@ module _ (R : ℕ → Bool) (start : Start) (counts : List ℕ) (old : Cursors) 
 
   module _ (n : ℕ) (new : Cursors) (far : StartedBelow n new) where
     pub set_started : (place : ℕ) → n < length new.by_type → R n ≡ true → place ≡ start_place start counts n → StartedBelow (n + 1) (moved new n place)
-    set_started place lt read at = record {
-      done = λ t l. elim (cases_eq t n) [
-        | inl e ↦ rw (e, get_or-set_same new.by_type n place 0 lt, read) at
-        | inr ne ↦ rw (get_or-set_other new.by_type n t place 0 ne) (far.done t (omega (arith, l, ne)))
-      ];
-      later = λ t l. rw (get_or-set_other new.by_type n t place 0 (omega (arith, l))) (far.later t (omega (arith, l)));
-    }
+    set_started place lt read at = grind (arith, cases_eq, get_or-set_same, get_or-set_other)
 
     pub not_started : R n ≡ false → StartedBelow (n + 1) new
-    not_started unread = record {
-      done = λ t l. elim (cases_eq t n) [
-        | inl e ↦ rw (e, unread) (far.later n (omega arith))
-        | inr ne ↦ far.done t (omega (arith, l, ne))
-      ];
-      later = λ t l. far.later t (omega (arith, l));
-    }
+    not_started unread = grind (arith, cases_eq)

@@ -1,12 +1,12 @@
 -- Turns by rules.
-use Rattle.std.proofs.Common.{◌≡◌, ℕ, zero, suc, ◌+◌, ◌≤◌, ◌++◌, Bool, true, false, not, ◌&&◌, ◌||◌, List, [], ◌∷◌, length, Option, Some, None, take, drop, refl, sym, ap, subst, ◌∙◌, arith, inl, inr, append_assoc}
+use Rattle.std.proofs.Common.{◌≡◌, ℕ, zero, suc, ◌+◌, ◌≤◌, ◌++◌, Bool, true, not, ◌&&◌, ◌||◌, List, [], ◌∷◌, length, Option, Some, None, take, drop, refl, sym, ap, subst, ◌∙◌, arith, inl, inr, append_assoc}
 use Rattle.std.specs.Prelude.{option_to_list, IsTrue, slice_get, if◌then◌else◌}
 use Rattle.std.proofs.Math.Seq.{drop-append_seam}
 use Rattle.std.proofs.lemmas.Bool.{and_from, and_parts, cases_Bool, eqb-true, false≢true}
 use Rattle.std.proofs.lemmas.List.{append-nil, length-take-le, take_more, take_all}
 use Rattle.std.proofs.lemmas.List.Folds.{list_any_at}
 use Rattle.std.proofs.lemmas.Option.{get_or_from_slice_get, none-some, same_Some, slice_get_cases, slice_get_past, slice_get_within}
-use Rattle.msg_world.specs.Prelude.{OfResource, OfType, Part, Parts, Registry, SameLoan, WorldState, same_part, taken_of}
+use Rattle.msg_world.specs.Prelude.{Part, Parts, SameLoan, WorldState, same_part, taken_of}
 use Rattle.msg_world.specs.declared.lent.Lent.{Lent}
 use Rattle.msg_system.specs.Prelude.{AfterOp, AfterProgram, IsInOrder, Meaning, Needs, OneOpIsATurn, Op, Program, Ran, Reply, WrittenStand, after_at_most, after_op, after_program, if_kept, is_none_or, is_part, is_resource, keeps_to, may_read, next_op, of_program, one_more, only, op_needs, op_parts, ops_answered, program_needs, some_op_reads, some_op_writes, turn}
 use Rattle.msg_system.specs.inner.TurnRuns.{HasReplies, ProgramRan}
@@ -15,14 +15,10 @@ use Rattle.msg_system.proofs.Runs.{after_program-snoc, same_part_refl, written_s
 -- ---- a program keeps to what it needs
 
 none_or_all : (holds : Part → Bool) (o : Option Part) → ((p : Part) → IsTrue (is_part o p) → IsTrue (holds p)) → IsTrue (is_none_or holds o)
-none_or_all holds None each = refl
-none_or_all holds (Some p) each = each p (same_part_refl p)
+none_or_all holds o p = grind (arith, same_part_refl)
 
 listed : (r k w : Bool) → IsTrue r → IsTrue ((r && not (k && w)) || (k && w))
-listed true true true h = refl
-listed true true false h = refl
-listed true false w h = refl
-listed false k w h = absurd (false≢true h)
+listed r k w z3 = grind (arith, false≢true)
 
 op_kept : (ops : List Op) (i : ℕ) (op : Op) → slice_get ops i ≡ Some op → keeps_to (program_needs ops) op ≡ true
 op_kept ops i op is =
@@ -35,11 +31,7 @@ op_kept ops i op is =
     (none_or_all n.writes (op_parts op).written (λ p h. list_any_at (λ o. (op_needs o).writes p) ops i op lt (ap (λ o. (op_needs o).writes p) at ∙ h)))
 
 program_next : (program : Program) (w : ℕ) (ps : ℕ → ℕ) (rs : List Reply) → next_op (of_program program w ps) rs ≡ slice_get program.ops (length rs)
-program_next program w ps rs = at (slice_get program.ops (length rs)) refl
-  where
-    at : (o : Option Op) → slice_get program.ops (length rs) ≡ o → if_kept (program_needs program.ops) o ≡ o
-    at None is = refl
-    at (Some op) is = rw (op_kept program.ops (length rs) op is) refl
+program_next program w ps rs = grind (arith, op_kept)
 
 program_nexts : (program : Program) (w : ℕ) (ps : ℕ → ℕ) → next_op (of_program program w ps) ≡ (λ (rs : List Reply). slice_get program.ops (length rs))
 program_nexts program w ps = λ k rs. program_next program w ps rs k
@@ -122,27 +114,13 @@ pub record IsKept (n : Needs) (op : Op) : Type 0 where
   pub writes : (p : Part) → IsTrue ((op_needs op).writes p) → IsTrue (n.writes p)
 
 same_part_is : (p q : Part) → IsTrue (same_part p q) → p ≡ q
-same_part_is (OfType t) (OfType u) h = ap OfType (eqb-true t u h)
-same_part_is (OfResource r) (OfResource s) h = ap OfResource (eqb-true r s h)
-same_part_is Registry Registry h = refl
-same_part_is (OfType t) (OfResource s) h = absurd (false≢true h)
-same_part_is (OfType t) Registry h = absurd (false≢true h)
-same_part_is (OfResource r) (OfType u) h = absurd (false≢true h)
-same_part_is (OfResource r) Registry h = absurd (false≢true h)
-same_part_is Registry (OfType u) h = absurd (false≢true h)
-same_part_is Registry (OfResource s) h = absurd (false≢true h)
+same_part_is p q z2 = grind (arith, eqb-true, false≢true)
 
 at_part : (holds : Part → Bool) (o : Option Part) (p : Part) → IsTrue (is_none_or holds o) → IsTrue (is_part o p) → IsTrue (holds p)
-at_part holds None p all h = absurd (false≢true h)
-at_part holds (Some q) p all h = rw (same_part_is p q h) all
+at_part holds o p z3 z4 = grind (arith, false≢true, same_part_is)
 
 pub kept : (n : Needs) (op : Op) → IsTrue (keeps_to n op) → IsKept n op
-kept n op h =
-    let both = and_parts (is_none_or (may_read n) (op_parts op).read) (is_none_or n.writes (op_parts op).written) h in
-    record {
-      reads = λ p is. at_part (may_read n) (op_parts op).read p both.0 is;
-      writes = λ p is. at_part n.writes (op_parts op).written p both.1 is;
-    }
+kept n op h = grind (arith, and_parts, at_part)
 
 -- what comes next keeps to what is needed
 pub next_kept_to : (n : Needs) (o : Option Op) (op : Op) → if_kept n o ≡ Some op → IsKept n op

@@ -12,6 +12,7 @@ pub fn nothing_else_is_used()
 {}
 
 /// The turn of a program is its ops in order, and the system stays that program.
+#[tactic(auto, using(crate::proofs::Turns::in_order))]
 pub fn a_program_is_its_ops_in_order()
     ensures law { IsInOrder }
 {}

@@ -1,4 +1,4 @@
-use Rattle.std.proofs.Common.{drop, length, arith, ap, sym, length-append, ◌∙◌}
+use Rattle.std.proofs.Common.{drop, arith, ap, sym, ◌∙◌}
 use Rattle.msg_system.specs.Prelude.{needs_of, op_needs, places_of}
 use Rattle.msg_system.specs.inner.TurnRuns.{next_kept}
 use Rattle.msg_system.proofs.Deciding.{answered_more, appended, covers_kept, turn_full, turn_more, turn_over}
@@ -40,18 +40,3 @@ returns-clause-ran g c s stands =
     let b = g.B.Behavior in let inv = c.loop-done.invariant in
     turn_full (next_kept (needs_of c.args.access.now) b.next_op (b.memory c.args.behavior.now)) c.args.writer (places_of c.args.cursors.now) s c.len-before.result c.loop-done._done (places_of c.loop-done.cursors)
     c.loop-done.lent c.args.out.now.items c.loop-done.out.items inv.long (inv.so_far s stands) (omega arith)
-
-pub since-requires : goal.since-requires
-since-requires g c = let inv = c.loop-done.invariant in record { within = rw (ap length c.as_slice.ensures.value ∙ ap length inv.answered.1 ∙ length-append c.args.out.now.items inv.answered.0) (omega (arith, inv.long)) }
-
-pub returns-in-None-clause-answered : goal.returns-in-None-clause-answered
-returns-in-None-clause-answered g c = c.loop-done.invariant.answered
-
-pub returns-in-None-clause-same : goal.returns-in-None-clause-same
-returns-in-None-clause-same g c = c.loop-done.invariant.same
-
-pub returns-clause-answered : goal.returns-clause-answered
-returns-clause-answered g c = c.loop-done.invariant.answered
-
-pub returns-clause-same : goal.returns-clause-same
-returns-clause-same g c = c.loop-done.invariant.same

@@ -1,15 +1,13 @@
-use Rattle.std.proofs.Common.{List, length, map, subst, sym, arith}
+use Rattle.std.proofs.lemmas.Grind.{common_steps}
+use Rattle.std.proofs.Common.{List, map, subst, arith}
 use Rattle.std.proofs.lemmas.List.{length-map}
-use Rattle.msg_buffer.specs.Prelude.{Kept, StandsFor, write}
+use Rattle.msg_buffer.specs.Prelude.{StandsFor, write}
 use Rattle.msg_world.specs.declared.record.Record.{Record}
 use Rattle.msg_system.proofs.Lendings.{made_by, numbers_fit, numbers_left, numbers_spent, spent_stands, written_messages_stand}
 use Rattle.msg_system.proofs.lending.write_each.Goals as goal
 
 pub returns-in-Ok-clause-numbers : goal.returns-in-Ok-clause-numbers
-returns-in-Ok-clause-numbers g c s stand =
-    let h = s.histories c.args.t in
-    let here = written_messages_stand c.args.lent.now s c.args.t c.in-Some.messages.now c.requires.lent c.in-Some.ensures.writable stand in
-    numbers_fit h (length c.args.items.now) c.in-Ok.written (c.in-Ok.ensures.room h here) (c.in-Ok.ensures.first h here) c.in-Ok.ensures.number
+returns-in-Ok-clause-numbers g c = grind (arith, common_steps, written_messages_stand, numbers_fit)
 
 pub returns-in-Ok-clause-written : goal.returns-in-Ok-clause-written
 returns-in-Ok-clause-written g c f is s stand =
@@ -21,26 +19,10 @@ returns-in-Ok-clause-written g c f is s stand =
     (subst P (made_by _ f is c.args.items.now made.0 made.1) (made.2 h here)) stand
 
 pub returns-in-Err-NumbersSpent-clause-numbers : goal.returns-in-Err-NumbersSpent-clause-numbers
-returns-in-Err-NumbersSpent-clause-numbers g c s stand =
-    let h = s.histories c.args.t in
-    let here = written_messages_stand c.args.lent.now s c.args.t c.in-Some.messages.now c.requires.lent c.in-Some.ensures.writable stand in
-    let spent = rw c.in-Err-NumbersSpent.field-0-is at c.in-Err-NumbersSpent.ensures.spent in
-    numbers_spent h (length c.args.items.now) ((spent h here).0 tt)
+returns-in-Err-NumbersSpent-clause-numbers g c = grind (arith, common_steps, written_messages_stand, numbers_spent)
 
 pub returns-in-Err-NumbersSpent-clause-written : goal.returns-in-Err-NumbersSpent-clause-written
-returns-in-Err-NumbersSpent-clause-written g c f is s stand =
-    let h = s.histories c.args.t in
-    let here = written_messages_stand c.args.lent.now s c.args.t c.in-Some.messages.now c.requires.lent c.in-Some.ensures.writable stand in
-    let spent = (rw c.in-Err-NumbersSpent.field-0-is at c.in-Err-NumbersSpent.ensures.spent h here).0 tt in
-    let long = length-map c.args.items.now f in
-    let P : Kept Record → Type 0 = λ k. StandsFor k h in
-    let there = subst P (sym c.in-Err-NumbersSpent.ensures.err) here in
-    (c.writes_stand.ensures.messages c.args.lent.now c.args.t c.write_each.new.self c.requires.lent).1 s (write (map f c.args.items.now) h)
-    (spent_stands h (map f c.args.items.now) c.write_each.new.self (omega (arith, long, spent)) there) stand
+returns-in-Err-NumbersSpent-clause-written g c = grind (arith, common_steps, written_messages_stand, length-map, spent_stands)
 
 pub returns-in-Err-NoMemory-clause-refused : goal.returns-in-Err-NoMemory-clause-refused
-returns-in-Err-NoMemory-clause-refused g c s stand =
-    let h = s.histories c.args.t in
-    let here = written_messages_stand c.args.lent.now s c.args.t c.in-Some.messages.now c.requires.lent c.in-Some.ensures.writable stand in
-    let spent = rw c.in-Err-NoMemory.field-0-is at c.in-Err-NoMemory.ensures.spent in
-    numbers_left h (length c.args.items.now) (λ over. (spent h here).1 over)
+returns-in-Err-NoMemory-clause-refused g c = grind (arith, common_steps, written_messages_stand, numbers_left)

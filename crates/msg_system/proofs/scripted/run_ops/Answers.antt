@@ -1,17 +1,9 @@
 use Rattle.std.proofs.Common.{◌<◌, List, arith, length, subst}
 use Rattle.std.proofs.lemmas.List.{take_all}
-use Rattle.msg_system.specs.Prelude.{Op, after_program, op_needs, places_of}
+use Rattle.msg_system.specs.Prelude.{Op, after_program, places_of}
 use Rattle.msg_system.specs.inner.TurnRuns.{IsAfterProgram}
-use Rattle.msg_system.proofs.Runs.{covers_later, covers_op, one_reply_more, op_more, same_loan_trans}
+use Rattle.msg_system.proofs.Runs.{one_reply_more, op_more, same_loan_trans}
 use Rattle.msg_system.proofs.scripted.run_ops.Goals as goal
-
-pub run-requires : goal.run-requires
-run-requires c =
-    let lt : c.loop-op.op-index < length c.args.ops.now = omega arith in
-    record {
-      covers = covers_later (op_needs c.op-item.result) c.args.lent.now c.loop-op.lent c.loop-op.invariant.same
-          (covers_op c.args.ops.now c.loop-op.op-index c.op-item.result c.args.lent.now lt c.op-item.is c.requires.covers);
-    }
 
 pub loop-op-preserved : goal.loop-op-preserved
 loop-op-preserved c =

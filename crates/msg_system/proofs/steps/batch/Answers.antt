@@ -1,8 +1,7 @@
-use Rattle.std.proofs.Common.{ap, arith, length, map, rules, subst, sym, ◌∙◌}
+use Rattle.std.proofs.Common.{ap, map, rules, subst, sym, ◌∙◌}
 use Rattle.std.proofs.lemmas.List.{length-map}
 use Rattle.msg_world.specs.Prelude.{by}
 use Rattle.msg_system.specs.Prelude.{IsAfterOp, Reply, numbers_for, writes_all}
-use Rattle.msg_system.proofs.Lendings.{on_err}
 use Rattle.msg_system.proofs.OpsDone.{after_writes}
 use Rattle.msg_system.proofs.steps.batch.Goals as goal
 
@@ -15,7 +14,3 @@ returns-clause-ran c places s stand =
     subst (λ (r : Reply). IsAfterOp (writes_all c.args.t ms places s) places c.write_each.new.lent r) (sym c.wrote_or_spent.ensures.reply)
     (after_writes places s c.write_each.new.lent c.args.t ms (map (by c.args.writer) c.as_slice.result.now) c.in_ok-write_each.field-0 items
     (c.in_ok-write_each.ensures.numbers s stand ∙ ap (numbers_for (s.histories c.args.t)) (sym long)) written)
-
-pub returns-in_err-write_each-clause-refused : goal.returns-in_err-write_each-clause-refused
-returns-in_err-write_each-clause-refused c = on_err c.from_residual.result _ (λ places s stand.
-    omega (arith, ap length c.as_slice.ensures.items, c.in_err-write_each.ensures.some))

@@ -1,10 +1,9 @@
-use Rattle.std.proofs.Common.{None, ap, arith, length, rules, sym, ◌∙◌}
+use Rattle.std.proofs.Common.{ap, rules, sym, ◌∙◌}
 use Rattle.std.proofs.lemmas.List.{length-map}
 use Rattle.msg_world.specs.declared.record.Record.{Record}
 use Rattle.msg_world.specs.Prelude.{by}
 use Rattle.msg_system.specs.Prelude.{again_by, numbers_for}
-use Rattle.msg_system.proofs.Lendings.{on_err}
-use Rattle.msg_system.proofs.OpsDone.{after_forward, as_long}
+use Rattle.msg_system.proofs.OpsDone.{after_forward}
 use Rattle.msg_system.proofs.steps.forward.Goals as goal
 
 pub returns-clause-ran : goal.returns-clause-ran
@@ -19,13 +18,3 @@ returns-clause-ran c places at s stand =
     let written = c.in_ok-wrote.ensures.written (λ (m : Record). by w m.value) (λ x m made. search rules) s stand in
     after_forward places s c.write_each.new.lent c.args.t c.read_unread.new.cursor c.args.cursor.now c.in_ok-took.took at
     (c.in_ok-took.ensures.took h here) (c.in_ok-took.ensures.place h here) w c.args.u (again_by w items) c.in_ok-wrote.wrote again numbers written
-
-pub returns-in_err-took-clause-refused : goal.returns-in_err-took-clause-refused
-returns-in_err-took-clause-refused c = on_err c.from_residual.result _ (λ places at s stand.
-    rw at (c.in_err-took.ensures.refused (s.histories c.args.t) (c.messages_of.ensures.stands s stand)))
-
-pub returns-in_err-wrote-clause-refused : goal.returns-in_err-wrote-clause-refused
-returns-in_err-wrote-clause-refused c = on_err c.from_residual-in_err-wrote.result _ (λ places at s stand.
-    let h = s.histories c.args.t in
-    let long = as_long c.in_ok-took.took h c.args.cursor.now None (c.in_ok-took.ensures.took h (c.messages_of.ensures.stands s stand)) in
-    rw at (omega (arith, long, ap length c.as_slice.ensures.items, c.in_err-wrote.ensures.some)))

@@ -3,7 +3,6 @@ use mir.Val.{SFits}
 use mir.Syntax.{w64}
 use Rattle.std.proofs.lemmas.Int.{to_z-of_z}
 use Rattle.msg_system.specs.Prelude.{sum_onto}
-use Rattle.msg_system.proofs.Lendings.{on_err}
 use Rattle.msg_system.proofs.OpsDone.{after_sum}
 use Rattle.msg_system.proofs.steps.sum.Goals as goal
 
@@ -21,7 +20,3 @@ returns-clause-ran c w places at s stand =
     ∙ ap (sum_onto (s.resources c.args.r)) c.as_slice.ensures.items in
     after_sum places s c.set_value.new.lent c.args.t c.read_unread.new.cursor c.args.cursor.now c.in_ok-took.took at
     (c.in_ok-took.ensures.took h here) (c.in_ok-took.ensures.place h here) w c.args.r new new sum refl (c.set_value.ensures.written s stand)
-
-pub returns-in_err-took-clause-refused : goal.returns-in_err-took-clause-refused
-returns-in_err-took-clause-refused c = on_err c.from_residual.result _ (λ places at s stand.
-    rw at (c.in_err-took.ensures.refused (s.histories c.args.t) (c.messages_of.ensures.stands s stand)))

@@ -100,21 +100,6 @@ returns-in-Forward-clause-ran c = rw c.in-Forward.is (if_ok c.forward.result _ _
 pub returns-in-Sum-clause-ran : goal.returns-in-Sum-clause-ran
 returns-in-Sum-clause-ran c = rw c.in-Sum.is (if_ok c.sum.result _ _ (λ reply ran. ran_at c.args.cursors.now c.in-Sum.t c.number-in-Sum.result c.index-cursors-number-in-Sum.result c.told-cursors c.number-in-Sum.ensures.number c.number-in-Sum.ensures.within (Sum c.in-Sum.t c.in-Sum.r) c.args.writer c.sum.new.cursor c.args.lent.now c.sum.new.lent reply (ran c.args.writer)) c.sum.ensures.ran)
 
-pub returns-in-Read-clause-refused : goal.returns-in-Read-clause-refused
-returns-in-Read-clause-refused c =
-    let at = place_at c.args.cursors.now c.in-Read.t c.number.result c.index-cursors-number.result c.told-cursors c.number.ensures.number c.number.ensures.within in
-    rw c.in-Read.is (on_err_then c.read.result _ _ (λ refused. refused (places_of c.args.cursors.now) at) c.read.ensures.refused)
-
-pub returns-in-Forward-clause-refused : goal.returns-in-Forward-clause-refused
-returns-in-Forward-clause-refused c =
-    let at = place_at c.args.cursors.now c.in-Forward.t c.number-in-Forward.result c.index-cursors-number-in-Forward.result c.told-cursors c.number-in-Forward.ensures.number c.number-in-Forward.ensures.within in
-    rw c.in-Forward.is (on_err_then c.forward.result _ _ (λ refused. refused (places_of c.args.cursors.now) at) c.forward.ensures.refused)
-
-pub returns-in-Sum-clause-refused : goal.returns-in-Sum-clause-refused
-returns-in-Sum-clause-refused c =
-    let at = place_at c.args.cursors.now c.in-Sum.t c.number-in-Sum.result c.index-cursors-number-in-Sum.result c.told-cursors c.number-in-Sum.ensures.number c.number-in-Sum.ensures.within in
-    rw c.in-Sum.is (on_err_then c.sum.result _ _ (λ refused. refused (places_of c.args.cursors.now) at) c.sum.ensures.refused)
-
 pub returns-in-Write-clause-refused : goal.returns-in-Write-clause-refused
 returns-in-Write-clause-refused c = rw c.in-Write.is (on_err_then c.write.result _ _ (λ refused. refused (places_of c.args.cursors.now)) c.write.ensures.refused)
 
