@@ -1,6 +1,7 @@
 // What a scenario file denotes, and which are refused.
 use crate::texts::{expect_refusal, long_file, nested, wanted};
 use msg_scenario::{Refusal, Scenario, read_scenario};
+use std::alloc::Global;
 use std::process::Abort;
 use std::test::Fail;
 
@@ -12,7 +13,15 @@ fn accepted(rt: &(impl Abort + AllocGlobal), text: &str) -> Scenario {
     }
 }
 
-/// Files, each behind the refusal that it gets.
+/// The file, or of systems alone a file with them and the type `hit`.
+fn whole(alloc: Global, text: &str) -> Result<String, Fail> {
+    if !text.starts_with(r#"{"name""#) {
+        return Ok(text.to_string(alloc)?);
+    }
+    Ok(format!(in alloc; r#"{{"types":[["hit",9]],"systems":[{text}],"frames":[]}}"#)?)
+}
+
+/// Files, or their systems, each behind the refusal that it gets.
 const REFUSED: [&str; 58] = [
     r#"BadName {"types":[["Hit",1]],"systems":[],"frames":[]}"#,
     r#"BadName {"types":[["host",1]],"systems":[],"frames":[]}"#,
@@ -45,32 +54,32 @@ const REFUSED: [&str; 58] = [
     r#"Cycle(0) {"types":[],"systems":[{"name":"s0","ops":[]},{"name":"s1","ops":[]},{"name":"s2","ops":[]}],"rules":[["s0","s1"],["s1","s0"]],"frames":[]}"#,
     r#"Cycle(1) {"types":[],"systems":[{"name":"s0","ops":[]},{"name":"s1","ops":[]},{"name":"s2","ops":[]}],"rules":[["s1","s1"]],"frames":[]}"#,
     r#"Cycle(1) {"types":[],"systems":[{"name":"s0","ops":[]},{"name":"s1","ops":[]},{"name":"s2","ops":[]}],"rules":[["s0","s1"],["s1","s2"],["s2","s1"]],"frames":[]}"#,
-    r#"UnknownKey {"types":[["hit",9]],"systems":[{"name":"A","ops":[],"y":0}],"frames":[]}"#,
-    r#"Shape {"types":[["hit",9]],"systems":[{"name":"a"}],"frames":[]}"#,
-    r#"BadName {"types":[["hit",9]],"systems":[{"name":"é","ops":[]}],"frames":[]}"#,
-    r#"TwiceNamed {"types":[["hit",9]],"systems":[{"name":"a","ops":[]},{"name":"a","ops":7}],"frames":[]}"#,
-    r#"UnknownName {"types":[["hit",9]],"systems":[{"name":"a","ops":[["read","hat",-1]]}],"frames":[]}"#,
-    r#"Shape {"types":[["hit",9]],"systems":[{"name":"a","ops":[["read","hat","k"]]}],"frames":[]}"#,
-    r#"BadNumber {"types":[["hit",9]],"systems":[{"name":"a","ops":[["read","hit",1000001]]}],"frames":[]}"#,
-    r#"Shape {"types":[["hit",9]],"systems":[{"name":"a","ops":[["walk","hit"]]}],"frames":[]}"#,
-    r#"Shape {"types":[["hit",9]],"systems":[{"name":"a","ops":[["signal",1]]}],"frames":[]}"#,
-    r#"Shape {"types":[["hit",9]],"systems":[{"name":"a","ops":[["write","hit",1,2]]}],"frames":[]}"#,
-    r#"Shape {"types":[["hit",9]],"systems":[{"name":"a","ops":[["walk"]]}],"frames":[]}"#,
-    r#"Shape {"types":[["hit",9]],"systems":[{"name":"a","ops":[["walk","hit",1]]}],"frames":[]}"#,
-    r#"Shape {"types":[["hit",9]],"systems":[{"name":"a","ops":[],"if":[["on_message","hit",1,2]]}],"frames":[]}"#,
-    r#"Shape {"types":[["hit",9]],"systems":[{"name":"a","ops":[],"if":[["walk","hit"]]}],"frames":[]}"#,
-    r#"Shape {"types":[["hit",9]],"systems":[{"name":"a","ops":[],"if":[["walk","k",1]]}],"frames":[]}"#,
-    r#"Shape {"types":[["hit",9]],"systems":[{"name":"a","kind":"relay","ops":[["read","hit"]]}],"frames":[]}"#,
-    r#"UnknownName {"types":[["hit",9]],"systems":[{"name":"a","kind":"relay","ops":[["read","hat"]]}],"frames":[]}"#,
-    r#"Shape {"types":[["hit",9]],"systems":[{"name":"a","kind":"fast","ops":7}],"frames":[]}"#,
-    r#"BadNumber {"types":[["hit",9]],"systems":[{"name":"a","ops":[],"join":0}],"frames":[]}"#,
-    r#"BadNumber {"types":[["hit",9]],"systems":[{"name":"a","ops":[],"join":10001}],"frames":[]}"#,
-    r#"Shape {"types":[["hit",9]],"systems":[{"name":"a","ops":[],"join":"1"}],"frames":[]}"#,
-    r#"Shape {"types":[["hit",9]],"systems":[{"name":"a","ops":[],"start":1}],"frames":[]}"#,
-    r#"BadNumber {"types":[["hit",9]],"systems":[{"name":"a","ops":[],"start":"last","join":0}],"frames":[]}"#,
-    r#"Shape {"types":[["hit",9]],"systems":[{"name":"a","ops":[],"if":[["not",["not"]]]}],"frames":[]}"#,
-    r#"Clash(0) {"types":[["hit",9]],"systems":[{"name":"a","ops":[["forward","hit","hit"]]}],"frames":[]}"#,
-    r#"Clash(1) {"types":[["hit",9]],"systems":[{"name":"a","ops":[]},{"name":"b","ops":[["drain","hit"],["len","hit"]]}],"frames":[]}"#,
+    r#"UnknownKey {"name":"A","ops":[],"y":0}"#,
+    r#"Shape {"name":"a"}"#,
+    r#"BadName {"name":"é","ops":[]}"#,
+    r#"TwiceNamed {"name":"a","ops":[]},{"name":"a","ops":7}"#,
+    r#"UnknownName {"name":"a","ops":[["read","hat",-1]]}"#,
+    r#"Shape {"name":"a","ops":[["read","hat","k"]]}"#,
+    r#"BadNumber {"name":"a","ops":[["read","hit",1000001]]}"#,
+    r#"Shape {"name":"a","ops":[["walk","hit"]]}"#,
+    r#"Shape {"name":"a","ops":[["signal",1]]}"#,
+    r#"Shape {"name":"a","ops":[["write","hit",1,2]]}"#,
+    r#"Shape {"name":"a","ops":[["walk"]]}"#,
+    r#"Shape {"name":"a","ops":[["walk","hit",1]]}"#,
+    r#"Shape {"name":"a","ops":[],"if":[["on_message","hit",1,2]]}"#,
+    r#"Shape {"name":"a","ops":[],"if":[["walk","hit"]]}"#,
+    r#"Shape {"name":"a","ops":[],"if":[["walk","k",1]]}"#,
+    r#"Shape {"name":"a","kind":"relay","ops":[["read","hit"]]}"#,
+    r#"UnknownName {"name":"a","kind":"relay","ops":[["read","hat"]]}"#,
+    r#"Shape {"name":"a","kind":"fast","ops":7}"#,
+    r#"BadNumber {"name":"a","ops":[],"join":0}"#,
+    r#"BadNumber {"name":"a","ops":[],"join":10001}"#,
+    r#"Shape {"name":"a","ops":[],"join":"1"}"#,
+    r#"Shape {"name":"a","ops":[],"start":1}"#,
+    r#"BadNumber {"name":"a","ops":[],"start":"last","join":0}"#,
+    r#"Shape {"name":"a","ops":[],"if":[["not",["not"]]]}"#,
+    r#"Clash(0) {"name":"a","ops":[["forward","hit","hit"]]}"#,
+    r#"Clash(1) {"name":"a","ops":[]},{"name":"b","ops":[["drain","hit"],["len","hit"]]}"#,
     r#"BadName {"types":[["aaaaaaaaaaaaaaaaaaaaaaaaaaaaaaaaa",1]],"systems":[],"frames":[]}"#,
 ];
 
@@ -78,8 +87,9 @@ const REFUSED: [&str; 58] = [
 fn refused_files(rt: HostRuntime) -> Result<(), Fail> {
     for row in REFUSED {
         let (want, text) = wanted(&rt, row);
+        let text = whole(rt.alloc(), text)?;
         let refused = read_scenario(rt.alloc(), text.as_bytes()).err();
-        expect_refusal(&rt, refused, want, text)?;
+        expect_refusal(&rt, refused, want, row)?;
     }
     let no_text = read_scenario(rt.alloc(), b"\xff").err();
     assert_eq!(rt; no_text, Some(Refusal::NotJson));
@@ -95,25 +105,26 @@ const LONG: [&str; 19] = [
     r#"TooMany 257 0 {"types":[],"systems":[*],"frames":[]}"#,
     r#"Shape 64 0 {"types":[],"resources":[*],"systems":[],"frames":[]}"#,
     r#"TooMany 65 0 {"types":[],"resources":[*],"systems":[],"frames":[]}"#,
-    r#"Ok 64 ["len","hit"] {"types":[["hit",9]],"systems":[{"name":"a","ops":[*]}],"frames":[]}"#,
-    r#"TooMany 65 ["len","hit"] {"types":[["hit",9]],"systems":[{"name":"a","ops":[*]}],"frames":[]}"#,
-    r#"Ok 8 ["on_message","hit"] {"types":[["hit",9]],"systems":[{"name":"a","ops":[],"if":[*]}],"frames":[]}"#,
-    r#"TooMany 9 ["on_message","hit"] {"types":[["hit",9]],"systems":[{"name":"a","ops":[],"if":[*]}],"frames":[]}"#,
-    r#"Ok 1024 1 {"types":[["hit",9]],"systems":[{"name":"a","ops":[["batch","hit",[*]]]}],"frames":[]}"#,
-    r#"TooMany 1025 1 {"types":[["hit",9]],"systems":[{"name":"a","ops":[["batch","hit",[*]]]}],"frames":[]}"#,
+    r#"Ok 64 ["len","hit"] {"name":"a","ops":[*]}"#,
+    r#"TooMany 65 ["len","hit"] {"name":"a","ops":[*]}"#,
+    r#"Ok 8 ["on_message","hit"] {"name":"a","ops":[],"if":[*]}"#,
+    r#"TooMany 9 ["on_message","hit"] {"name":"a","ops":[],"if":[*]}"#,
+    r#"Ok 1024 1 {"name":"a","ops":[["batch","hit",[*]]]}"#,
+    r#"TooMany 1025 1 {"name":"a","ops":[["batch","hit",[*]]]}"#,
     r#"Ok 1024 ["hit",1] {"types":[["hit",9]],"systems":[],"frames":[[*]]}"#,
     r#"TooMany 1025 ["hit",1] {"types":[["hit",9]],"systems":[],"frames":[[*]]}"#,
     r#"Ok 1024 ["a","b"] {"types":[],"systems":[{"name":"a","ops":[]},{"name":"b","ops":[]}],"rules":[*],"frames":[]}"#,
     r#"TooMany 1025 ["a","b"] {"types":[],"systems":[{"name":"a","ops":[]},{"name":"b","ops":[]}],"rules":[*],"frames":[]}"#,
     r#"Ok 10000 [] {"types":[],"systems":[],"frames":[*]}"#,
     r#"TooMany 10001 [] {"types":[],"systems":[],"frames":[*]}"#,
-    r#"TooMany 1024 1 {"types":[["hit",9]],"systems":[{"name":"a","ops":[["batch","hit",[1.5,*]]]}],"frames":[]}"#,
+    r#"TooMany 1024 1 {"name":"a","ops":[["batch","hit",[1.5,*]]]}"#,
 ];
 
 #[test]
 fn long_files(rt: HostRuntime) -> Result<(), Fail> {
     for row in LONG {
         let (want, text) = long_file(&rt, row)?;
+        let text = whole(rt.alloc(), text.as_str())?;
         let refused = read_scenario(rt.alloc(), text.as_bytes()).err();
         expect_refusal(&rt, refused, want, row)?;
     }

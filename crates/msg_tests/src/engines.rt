@@ -3,6 +3,7 @@
 mod alternating;
 mod beacons;
 mod building;
+mod cases;
 mod deciding;
 mod expecting;
 mod frames;

@@ -5,12 +5,13 @@ use msg_system::Reply;
 use msg_world::{HOST, Record};
 use std::process::Abort;
 
-/// What a system's turn came to: it wrote one message, of the number `first`, or it read these
+/// What a system's turn came to: it wrote `n` messages, from the number `first` on, or it read these
 /// messages, from that number on, and missed so many before.
 #[derive(Clone, Copy)]
 pub struct Step<'a> {
     pub system: u32,
     pub first: u64,
+    pub n: u64,
     pub missed: u64,
     pub read: Option<&'a [Record]>,
 }
@@ -20,6 +21,7 @@ pub fn wrote<'a>(system: u32, first: u64) -> Step<'a> {
     Step {
         system,
         first,
+        n: 1,
         missed: 0,
         read: None,
     }
@@ -54,7 +56,7 @@ fn expect_step(rt: &impl Abort, turn: &Turn, step: Step<'_>) {
                 *written,
                 Written {
                     first: step.first,
-                    n: 1
+                    n: step.n
                 }
             )
         }
