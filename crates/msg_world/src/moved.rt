@@ -7,8 +7,9 @@ ghost use Rattle.msg_world.specs.inner.Moved.{AreSlotsBelow, IsFirstOf, NoneOf, 
 ghost use Rattle.msg_world.specs.inner.Slots.{at};
 
 use crate::masks;
-use std::alloc::AllocError;
+use std::alloc::{AllocError, Global};
 use std::marker::Model;
+use std::mem::replace;
 
 /// A part that was moved out of a slot.
 #[derive(Drop)]
@@ -50,15 +51,30 @@ fn place_of<T>(parts: &[Moved<T>], slot: usize) -> Option<usize>
     None
 }
 
-/// Room for what the slots of a mask hold, in the memory of a list that came home.
-pub(crate) fn room_in<T: Drop>(spare: Vec<Moved<T>>, mask: u64) -> Result<Vec<Moved<T>>, AllocError>
+/// Room for what the slots of a mask hold, in the memory of a list that came home. A mask of none
+/// takes no list.
+pub(crate) fn room_in<T: Drop>(
+    alloc: Global,
+    spare: &mut Vec<Moved<T>>,
+    mask: u64,
+) -> Result<Vec<Moved<T>>, AllocError>
     ensures empty { IfOk result (λ room. room.items ≡ []) }
     ensures room { IfOk result (λ room. count_ones mask ≤ vec_capacity room) }
 {
-    let mut room = spare;
+    if mask == 0 {
+        return Ok(Vec::new(alloc));
+    }
+    let mut room = replace(spare, Vec::new(alloc));
     room.clear();
     room.reserve_exact(mask.count_ones() as usize)?;
     Ok(room)
+}
+
+/// Keeps a list that came home for the parts that go out next, if it has memory.
+pub(crate) fn keep<T: Drop>(spare: &mut Vec<Moved<T>>, list: Vec<Moved<T>>) {
+    if list.capacity() > 0 {
+        *spare = list;
+    }
 }
 
 /// Moves what a slot holds, if anything, behind the parts.

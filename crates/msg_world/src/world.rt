@@ -15,7 +15,6 @@ use crate::{ResNo, TypeNo, masks, moved};
 use msg_buffer::{MessageId, Messages, NoMemory, WriteRefusal};
 use std::alloc::Global;
 use std::marker::Model;
-use std::mem::replace;
 
 /// What systems share: the messages of each type, the value of each resource, and the registry of
 /// signals. Parts of it may be out on loan.
@@ -289,10 +288,8 @@ impl World {
         ensures err { OnErr result (self.new ≡ self.old) }
     {
         let alloc = *self.types.allocator();
-        let spare_types = replace(&mut self.spare_types, Vec::new(alloc));
-        let types = moved::room_in(spare_types, access.write_types)?;
-        let spare_resources = replace(&mut self.spare_resources, Vec::new(alloc));
-        let resources = moved::room_in(spare_resources, access.write_res)?;
+        let types = moved::room_in(alloc, &mut self.spare_types, access.write_types)?;
+        let resources = moved::room_in(alloc, &mut self.spare_resources, access.write_res)?;
         Ok(Taken {
             types: moved::move_out(&mut self.types, types, access.write_types),
             resources: moved::move_out(&mut self.resources, resources, access.write_res),
@@ -306,8 +303,10 @@ impl World {
         requires apart { IsApart taken self.old }
         ensures home { TakesBack taken self.old self.new }
     {
-        self.spare_types = moved::move_home(taken.types, &mut self.types);
-        self.spare_resources = moved::move_home(taken.resources, &mut self.resources);
+        let types = moved::move_home(taken.types, &mut self.types);
+        moved::keep(&mut self.spare_types, types);
+        let resources = moved::move_home(taken.resources, &mut self.resources);
+        moved::keep(&mut self.spare_resources, resources);
         self.marks = taken.marks.or(self.marks);
     }
 }
