@@ -24,28 +24,39 @@ fn one_frames_lag(rt: HostRuntime) -> Result<(), Fail> {
     Ok(())
 }
 
+/// System 1 wrote two messages, from the number `first` on.
+fn wrote_two<'a>(first: u64) -> Step<'a> {
+    Step {
+        n: 2,
+        ..wrote(1, first)
+    }
+}
+
 #[test]
 fn host_and_two_writers(rt: HostRuntime) -> Result<(), Fail> {
     let (alloc, t) = (rt.alloc(), type_no(&rt, 0));
     let two = Items::from_vec(vec![in alloc; 2, 3]?);
     let ops = [Op::Write(t, 1), Op::Batch(t, two), Op::Read(t, None)];
-    let frames = [frame_of(alloc, &[(t, 9)])?, frame_of(alloc, &[(t, 8)])?];
+    let nine = frame_of(alloc, &[(t, 9)])?;
+    let eight = frame_of(alloc, &[(t, 8)])?;
     for number in NUMBERS {
         let mut engine = engine_of(&rt, alloc, &[20], &ops, &[])?;
-        for (frame, first, value) in [(&frames[0], 0, 9), (&frames[1], 4, 8)] {
-            let log = run_frame(&rt, &mut engine, frame, number, &NoGate)?;
-            let all = [posted(value), by(0, 1), by(1, 2), by(1, 3)];
-            let pair = Step {
-                n: 2,
-                ..wrote(1, first + 2)
-            };
-            expect_log(
-                &rt,
-                &log,
-                &[first],
-                &[wrote(0, first + 1), pair, read(2, first, &all)],
-            );
-        }
+        let log = run_frame(&rt, &mut engine, &nine, number, &NoGate)?;
+        let all = [posted(9), by(0, 1), by(1, 2), by(1, 3)];
+        expect_log(
+            &rt,
+            &log,
+            &[0],
+            &[wrote(0, 1), wrote_two(2), read(2, 0, &all)],
+        );
+        let log = run_frame(&rt, &mut engine, &eight, number, &NoGate)?;
+        let all = [posted(8), by(0, 1), by(1, 2), by(1, 3)];
+        expect_log(
+            &rt,
+            &log,
+            &[4],
+            &[wrote(0, 5), wrote_two(6), read(2, 4, &all)],
+        );
     }
     Ok(())
 }
