@@ -1,6 +1,6 @@
 // Engines for tests, and frames of them.
-ghost use Rattle.std.specs.Prelude.{All, IfOk, IsTrue};
-ghost use Rattle.msg_exec.specs.Prelude.{IsEngine, PostsFit};
+ghost use Rattle.std.specs.Prelude.{IfOk};
+ghost use Rattle.msg_exec.specs.Prelude.{IsEngine};
 
 use crate::numbers::{type_no, workers};
 use msg_buffer::NoMemory;
@@ -80,33 +80,6 @@ pub fn quiet(alloc: Global) -> Frame {
     }
 }
 
-/// Whether its posts are to types of the engine's world.
-fn posts_fit<S: System>(engine: &EngineOf<S>, frame: &Frame) -> bool
-    ensures fit { IsTrue result → PostsFit engine.now frame.now }
-{
-    let Some(world) = engine.world() else {
-        return true;
-    };
-    for post in frame.posts.as_slice() {
-        if post.0.number() as usize >= world.types() {
-            return false;
-        }
-    }
-    true
-}
-
-/// Whether that holds of each frame.
-fn all_posts_fit<S: System>(engine: &EngineOf<S>, frames: &[Frame]) -> bool
-    ensures fit { IsTrue result → All (PostsFit engine.now) frames.now }
-{
-    for frame in frames {
-        if !posts_fit(engine, frame) {
-            return false;
-        }
-    }
-    true
-}
-
 /// One frame on so many workers.
 pub fn run_frame<R: Threads + Sync + Abort, S: System, G: Gate>(
     rt: &R,
@@ -118,7 +91,7 @@ pub fn run_frame<R: Threads + Sync + Abort, S: System, G: Gate>(
     requires engine { IsEngine S.meaning engine.old }
     ensures engine { IsEngine S.meaning engine.new }
 {
-    assert!(rt; posts_fit(engine, frame));
+    assert!(rt; engine.fits(frame));
     engine.run_frame(rt, frame, workers(rt, number), gate)
 }
 
@@ -134,7 +107,7 @@ pub fn run_frames<R: Threads + Sync + Abort, S: System, G: Gate>(
     requires engine { IsEngine S.meaning engine.old }
     ensures engine { IsEngine S.meaning engine.new }
 {
-    assert!(rt; all_posts_fit(engine, frames));
+    assert!(rt; engine.all_fit(frames));
     engine.run_frames(rt, frames, workers(rt, number), gate, logs)
 }
 
@@ -148,6 +121,6 @@ pub fn replay<S: System>(
     requires engine { IsEngine S.meaning engine.old }
     ensures engine { IsEngine S.meaning engine.new }
 {
-    assert!(rt; posts_fit(engine, frame));
+    assert!(rt; engine.fits(frame));
     engine.replay_frame(frame, order)
 }

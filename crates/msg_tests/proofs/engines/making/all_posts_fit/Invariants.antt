@@ -1,7 +1,0 @@
-use Rattle.std.proofs.Common.{ℕ, ◌<◌, get_or}
-use Rattle.msg_frames.specs.declared.frame.Frame.{Frame}
-use Rattle.msg_exec.specs.Prelude.{PostsFit}
-use Rattle.msg_tests.proofs.engines.making.all_posts_fit.Given as goal
-
-abbrev pub invariant-loop-frame : goal.invariant-loop-frame
-invariant-loop-frame g l = (k : ℕ) (d : Frame) → k < l.frame-index → PostsFit l.engine (get_or l.frames k d)

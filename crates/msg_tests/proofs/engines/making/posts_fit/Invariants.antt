@@ -1,5 +1,0 @@
-use Rattle.std.proofs.Common.{ℕ, ℤ, ◌<◌, get_or, length}
-use Rattle.msg_tests.proofs.engines.making.posts_fit.Given as goal
-
-abbrev pub invariant-loop-post : goal.invariant-loop-post
-invariant-loop-post g l = (k : ℕ) (d : ℕ × ℤ) → k < l.post-index → (get_or l.post-items k d).0 < length l.world.types
