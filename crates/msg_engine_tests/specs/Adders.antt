@@ -1,0 +1,22 @@
+-- What an adder does next, and what it remembers.
+use Rattle.std.specs.Prelude.{ℤ, ◌==◌, List, length, Option, Some, None, slice_get, if◌then◌else◌}
+use Rattle.msg_system.specs.declared.op.Op.{Op}
+use Rattle.msg_system.specs.declared.op.Op.TheVariants.{Read, Write}
+use Rattle.msg_system.specs.declared.reply.Reply.{Reply}
+use Rattle.msg_system.specs.Prelude.{brought, sum_onto}
+use Rattle.msg_engine_tests.specs.declared.adders.Adder.{Adder}
+
+-- the total with what the first reply brought
+abbrev pub total_after : ℤ → List Reply → ℤ
+total_after total replies = sum_onto total (brought (slice_get replies 0))
+
+-- it reads, and writes its total where anything came
+abbrev pub next_op : Adder → List Reply → Option Op
+next_op a replies =
+    if length replies == 0 then Some (Read a.from None)
+    else if length replies == 1 then
+    (if length (brought (slice_get replies 0)) == 0 then None else Some (Write a.to (total_after a.total replies)))
+    else None
+
+abbrev pub remembered : Adder → List Reply → Adder
+remembered a replies = record a { total = total_after a.total replies }

@@ -1,0 +1,79 @@
+// Where systems of a new engine start, engines that there are not, and numbers of workers.
+use crate::expecting::{expect_log, posted, read};
+use crate::making::{engine_of, quiet, run_frame, script};
+use msg_exec::{BuildRefusal, EngineBuilder, NoGate, Workers};
+use msg_order::Rule;
+use msg_part_tests::numbers::type_no;
+use msg_system::{Op, Start};
+use msg_world::World;
+use std::test::Fail;
+
+/// The first read of a system in a world that had a message before the engine was made.
+#[test]
+fn starts_in_a_world_with_a_message(rt: HostRuntime) -> Result<(), Fail> {
+    let (alloc, t) = (rt.alloc(), type_no(0));
+    for (start_at, first) in [(Start::Zero, 0), (Start::Current, 1)] {
+        let mut world = World::new(alloc, &[10], &[])?;
+        assert!(rt; world.messages(t).is_some());
+        assert!(rt; world.post(t, 5).is_ok());
+        let mut systems = EngineBuilder::new(alloc);
+        let reading = script(&rt, alloc, &[Op::Read(t, None)], start_at)?;
+        systems.add_system(reading, Vec::new(alloc), 1)?;
+        let mut engine = systems.build(world)?;
+        let log = run_frame(&rt, &mut engine, &quiet(alloc), 1, &NoGate)?;
+        expect_log(
+            &rt,
+            &log,
+            &[],
+            &[read(0, first, &[posted(5)][first as usize..])],
+        );
+    }
+    Ok(())
+}
+
+/// A clash comes before a cycle, and of rules that go round the lowest system is named.
+#[test]
+fn refused_engines(rt: HostRuntime) -> Result<(), Fail> {
+    let (alloc, t, u) = (rt.alloc(), type_no(0), type_no(1));
+    let (clash, alone) = ([Op::Forward(t, t)], [Op::Read(t, None)]);
+    let waiting = [
+        Op::Write(t, 1),
+        Op::Write(u, 2),
+        Op::Read(u, None),
+        Op::Read(t, None),
+    ];
+    let (own, next) = ([Rule::before(0, 0)], [Rule::before(1, 1)]);
+    let around = [Rule::before(0, 1), Rule::before(1, 0)];
+    for (ops, rules, want) in [
+        (&clash[..], &own[..], "Refused(Clash(0))"),
+        (&alone[..], &own[..], "Refused(Cycle(0))"),
+        (&waiting[..], &around[..], "Refused(Cycle(0))"),
+        (&waiting[..], &next[..], "Refused(Cycle(1))"),
+    ] {
+        let Err(refused) = engine_of(&rt, alloc, &[10, 10], ops, rules) else {
+            panic!(rt; "not {want}")
+        };
+        assert_eq!(rt; format!(in alloc; "{refused:?}")?.as_str(), want);
+    }
+    Ok(())
+}
+
+#[test]
+fn refusals_say_why(rt: HostRuntime) -> Result<(), Fail> {
+    let (clash, cycle) = (BuildRefusal::Clash(1), BuildRefusal::Cycle(2));
+    let refused = BuildRefusal::NoMemory;
+    let texts = format!(in rt.alloc(); "{clash}; {cycle}; {refused}")?;
+    assert_eq!(rt;
+        texts.as_str(),
+        "system 1 reads and writes one type; the rules go round in a circle through system 2; \
+         want of memory"
+    );
+    Ok(())
+}
+
+#[test]
+fn workers(rt: HostRuntime) {
+    for (number, is_there) in [(0, false), (1, true), (64, true), (65, false)] {
+        assert_eq!(rt; Workers::new(number).is_some(), is_there, "{number}");
+    }
+}

@@ -1,0 +1,87 @@
+// Worked runs that `run_frame` keeps, each on 1, 2, 7 and 64 workers.
+use crate::expecting::{Step, by, expect_log, posted, read, wrote};
+use crate::making::{engine_of, frame_of, quiet, run_frame};
+use msg_exec::NoGate;
+use msg_order::Rule;
+use msg_part_tests::numbers::type_no;
+use msg_system::{Items, Op};
+use std::test::Fail;
+
+const NUMBERS: [u32; 4] = [1, 2, 7, 64];
+
+#[test]
+fn one_frames_lag(rt: HostRuntime) -> Result<(), Fail> {
+    let (alloc, t) = (rt.alloc(), type_no(0));
+    let ops = [Op::Read(t, None), Op::Write(t, 5)];
+    let frame = quiet(alloc);
+    for number in NUMBERS {
+        let mut engine = engine_of(&rt, alloc, &[10], &ops, &[Rule::before(0, 1)])?;
+        let log = run_frame(&rt, &mut engine, &frame, number, &NoGate)?;
+        expect_log(&rt, &log, &[], &[read(0, 0, &[]), wrote(1, 0)]);
+        let log = run_frame(&rt, &mut engine, &frame, number, &NoGate)?;
+        expect_log(&rt, &log, &[], &[read(0, 0, &[by(1, 5)]), wrote(1, 1)]);
+    }
+    Ok(())
+}
+
+/// System 1 wrote two messages, from the number `first` on.
+fn wrote_two<'a>(first: u64) -> Step<'a> {
+    Step {
+        n: 2,
+        ..wrote(1, first)
+    }
+}
+
+#[test]
+fn host_and_two_writers(rt: HostRuntime) -> Result<(), Fail> {
+    let (alloc, t) = (rt.alloc(), type_no(0));
+    let two = Items::from_vec(vec![in alloc; 2, 3]?);
+    let ops = [Op::Write(t, 1), Op::Batch(t, two), Op::Read(t, None)];
+    let nine = frame_of(alloc, &[(t, 9)])?;
+    let eight = frame_of(alloc, &[(t, 8)])?;
+    for number in NUMBERS {
+        let mut engine = engine_of(&rt, alloc, &[20], &ops, &[])?;
+        let log = run_frame(&rt, &mut engine, &nine, number, &NoGate)?;
+        let all = [posted(9), by(0, 1), by(1, 2), by(1, 3)];
+        expect_log(
+            &rt,
+            &log,
+            &[0],
+            &[wrote(0, 1), wrote_two(2), read(2, 0, &all)],
+        );
+        let log = run_frame(&rt, &mut engine, &eight, number, &NoGate)?;
+        let all = [posted(8), by(0, 1), by(1, 2), by(1, 3)];
+        expect_log(
+            &rt,
+            &log,
+            &[4],
+            &[wrote(0, 5), wrote_two(6), read(2, 4, &all)],
+        );
+    }
+    Ok(())
+}
+
+#[test]
+fn contradictory_order(rt: HostRuntime) -> Result<(), Fail> {
+    let (alloc, t, u) = (rt.alloc(), type_no(0), type_no(1));
+    let ops = [
+        Op::Write(t, 1),
+        Op::Write(u, 2),
+        Op::Read(u, None),
+        Op::Read(t, None),
+    ];
+    let rules = [Rule::before(3, 1), Rule::before(2, 0)];
+    let frame = quiet(alloc);
+    for number in NUMBERS {
+        let mut engine = engine_of(&rt, alloc, &[10, 10], &ops, &rules)?;
+        let log = run_frame(&rt, &mut engine, &frame, number, &NoGate)?;
+        let (none, one) = (read(2, 0, &[]), [by(0, 1)]);
+        expect_log(
+            &rt,
+            &log,
+            &[],
+            &[none, wrote(0, 0), read(3, 0, &one), wrote(1, 0)],
+        );
+    }
+    Ok(())
+}

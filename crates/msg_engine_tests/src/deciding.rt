@@ -1,0 +1,63 @@
+// Systems that decide: each on 1, 2, 7 and 64 workers.
+ghost use Rattle.msg_exec.specs.Prelude.{IsEngine};
+
+use crate::adders::Adder;
+use crate::making::{frame_of, run_frame};
+use msg_exec::{EngineBuilder, EngineOf, NoGate};
+use msg_part_tests::numbers::type_no;
+use msg_system::{Access, BehaviorSystem, Start, System};
+use msg_world::{Record, TypeNo, World};
+use std::alloc::Global;
+use std::process::Abort;
+use std::test::Fail;
+use std::thread::Threads;
+
+/// Runs a frame with these posts on so many workers, in which just these values are written to the
+/// second type.
+fn expect_frame_writes<R: Threads + Sync + Abort>(
+    rt: &R,
+    alloc: Global,
+    engine: &mut EngineOf<BehaviorSystem<Adder>>,
+    number: u32,
+    posts: &[(TypeNo, i64)],
+    values: &[i64],
+) -> Result<(), Fail>
+    requires engine { IsEngine ⟦<BehaviorSystem<Adder> as System>⟧.meaning engine.old }
+    ensures engine { IsEngine ⟦<BehaviorSystem<Adder> as System>⟧.meaning engine.new }
+{
+    run_frame(rt, engine, &frame_of(alloc, posts)?, number, &NoGate)?;
+    let Some(messages) = engine.world().and_then(|w| w.messages(type_no(1))) else {
+        panic!(rt; "no messages");
+    };
+    let written = messages.current();
+    assert_eq!(rt; written.len(), values.len());
+    for (instance, value) in written.iter().zip(values) {
+        let value = *value;
+        assert_eq!(rt; instance.message, Record { writer: 0, value });
+    }
+    Ok(())
+}
+
+#[test]
+fn a_sum_goes_out_in_its_turn(rt: HostRuntime) -> Result<(), Fail> {
+    let (alloc, from, to) = (rt.alloc(), type_no(0), type_no(1));
+    let access = Access::none().with_read_type(from).with_write_type(to);
+    for number in [1, 2, 7, 64] {
+        let adder = Adder { from, to, total: 0 };
+        let adder = BehaviorSystem::new(alloc, adder, access, Start::Zero, 0);
+        let mut systems = EngineBuilder::new(alloc);
+        systems.add_system(adder, Vec::new(alloc), 1)?;
+        let mut engine = systems.build(World::new(alloc, &[10, 10], &[])?)?;
+        expect_frame_writes(
+            &rt,
+            alloc,
+            &mut engine,
+            number,
+            &[(from, 5), (from, 6)],
+            &[11],
+        )?;
+        expect_frame_writes(&rt, alloc, &mut engine, number, &[], &[])?;
+        expect_frame_writes(&rt, alloc, &mut engine, number, &[(from, 1)], &[12])?;
+    }
+    Ok(())
+}

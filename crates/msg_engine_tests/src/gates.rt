@@ -1,0 +1,114 @@
+// Gates that see which threads run the jobs of a batch.
+use crate::prefaced::note;
+use msg_exec::Gate;
+use std::process::Abort;
+use std::sync::atomic::{AtomicU64, Ordering};
+
+/// Holds some of five systems until so many calls came, and sees whether a worker's number is in
+/// use twice, or isn't below the number of workers.
+#[derive(Drop)]
+pub struct HoldGate {
+    workers: u32,
+    held: [bool; 5],
+    awaited: u64,
+    came: AtomicU64,
+    limits_met: AtomicU64,
+    busy: [AtomicU64; 5],
+    clashes: AtomicU64,
+}
+
+impl HoldGate {
+    /// For at most five systems.
+    pub fn new(workers: u32, held: [bool; 5], awaited: u64) -> HoldGate {
+        let none = || AtomicU64::new(0);
+        HoldGate {
+            workers,
+            held,
+            awaited,
+            came: none(),
+            limits_met: none(),
+            busy: [none(), none(), none(), none(), none()],
+            clashes: none(),
+        }
+    }
+
+    /// So many calls came and no more, each that was held saw those that it awaited, and no
+    /// worker's number was in use twice.
+    pub fn expect_met(&self, rt: &impl Abort, calls: u64) {
+        let limits_met = self.limits_met.load(Ordering::SeqCst);
+        let clashes = self.clashes.load(Ordering::SeqCst);
+        let came = self.came.load(Ordering::SeqCst);
+        let held = self.held;
+        assert_eq!(rt; (limits_met, clashes, came), (0, 0, calls), "{held:?} held");
+    }
+
+    fn hold(&self) {
+        for _ in 0..50_000_000u64 {
+            if self.came.load(Ordering::SeqCst) >= self.awaited {
+                return;
+            }
+        }
+        self.limits_met.fetch_add(1, Ordering::SeqCst);
+    }
+}
+
+impl Gate for HoldGate {
+    fn pass(&self, worker: u32, system: u32) {
+        if worker > 4 || worker >= self.workers || system > 4 {
+            self.clashes.fetch_add(1, Ordering::SeqCst);
+            return;
+        }
+        let busy = &self.busy[worker as usize];
+        if busy.swap(1, Ordering::SeqCst) != 0 {
+            self.clashes.fetch_add(1, Ordering::SeqCst);
+        }
+        self.came.fetch_add(1, Ordering::SeqCst);
+        if self.held[system as usize] {
+            self.hold();
+        }
+        busy.store(0, Ordering::SeqCst);
+    }
+}
+
+/// Sees whether worker 0 alone is called, and for 0, 1, 2 and so on.
+#[derive(Drop)]
+pub struct OneByOne {
+    calls: AtomicU64,
+    others: AtomicU64,
+}
+
+impl OneByOne {
+    pub fn new() -> OneByOne {
+        OneByOne {
+            calls: AtomicU64::new(0),
+            others: AtomicU64::new(0),
+        }
+    }
+
+    /// It was called so often.
+    pub fn expect_calls(&self, rt: &impl Abort, calls: u64) {
+        assert_eq!(rt; self.calls.load(Ordering::SeqCst), calls);
+        assert_eq!(rt; self.others.load(Ordering::SeqCst), 0);
+    }
+}
+
+impl Gate for OneByOne {
+    fn pass(&self, worker: u32, system: u32) {
+        let before = self.calls.fetch_add(1, Ordering::SeqCst);
+        if worker != 0 || system as u64 != before {
+            self.others.fetch_add(1, Ordering::SeqCst);
+        }
+    }
+}
+
+/// Notes a 9 as it is called.
+#[derive(Clone, Copy)]
+pub struct NotingGate<'a> {
+    pub noted: &'a AtomicU64,
+}
+
+impl Gate for NotingGate<'_> {
+    fn pass(&self, _worker: u32, _system: u32) {
+        note(self.noted, 9);
+    }
+}

@@ -1,0 +1,35 @@
+//! Tests of engines, by public contracts alone. They show what no clause says: that calls succeed
+//! while memory is there, how many threads run a batch, what stands after want of memory, and that
+//! a frame is meant as it is defined.
+#![tactic(auto)]
+
+pub mod adders;
+#[cfg(test)]
+mod alternating;
+#[cfg(test)]
+mod beacons;
+#[cfg(test)]
+mod building;
+#[cfg(test)]
+mod cases;
+pub mod clients;
+#[cfg(test)]
+mod deciding;
+#[cfg(test)]
+mod expecting;
+#[cfg(test)]
+mod frames;
+#[cfg(test)]
+mod gates;
+#[cfg(test)]
+mod limits;
+#[cfg(test)]
+mod making;
+#[cfg(test)]
+mod out_of_memory;
+#[cfg(test)]
+mod prefaced;
+#[cfg(test)]
+mod replay;
+#[cfg(test)]
+mod spoiled;

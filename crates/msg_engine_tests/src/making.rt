@@ -1,0 +1,134 @@
+// Engines for tests, and frames of them.
+ghost use Rattle.std.specs.Prelude.{IfOk};
+ghost use Rattle.msg_exec.specs.Prelude.{IsEngine};
+
+use msg_buffer::NoMemory;
+use msg_exec::{BuildError, EngineBuilder, EngineOf, Frame, Gate, Log, RunFault, Workers};
+use msg_order::Rule;
+use msg_part_tests::numbers::type_no;
+use msg_system::{Items, Op, Program, Scripted, Start, System};
+use msg_world::{TypeNo, World};
+use std::alloc::Global;
+use std::process::Abort;
+use std::thread::Threads;
+
+/// A script of these ops.
+pub fn script(
+    rt: &impl Abort,
+    alloc: Global,
+    ops: &[Op],
+    start: Start,
+) -> Result<Scripted, NoMemory> {
+    let mut copies = Vec::with_capacity(alloc, ops.len())?;
+    for op in ops {
+        copies.push(op.copy(alloc)?)?;
+    }
+    let ops = Items::from_vec(copies);
+    assert!(rt; ops.as_slice().len() <= 64);
+    Ok(Scripted::new(Program { ops, start }, 0))
+}
+
+/// An engine of scripts of one op each, over types of these limits.
+pub fn engine_of(
+    rt: &impl Abort,
+    alloc: Global,
+    limits: &[u64],
+    ops: &[Op],
+    rules: &[Rule],
+) -> Result<EngineOf<Scripted>, BuildError>
+    ensures engine { IfOk result (IsEngine ⟦<Scripted as System>⟧.meaning) }
+{
+    let mut systems = EngineBuilder::new(alloc);
+    for op in ops {
+        let script = script(rt, alloc, &[op.copy(alloc)?], Start::Zero)?;
+        systems.add_system(script, Vec::new(alloc), 1)?;
+    }
+    for rule in rules {
+        systems.add_rule(*rule)?;
+    }
+    assert!(rt; limits.len() <= 64);
+    systems.build(World::new(alloc, limits, &[])?)
+}
+
+/// An engine of so many readers of one type.
+pub fn readers(
+    rt: &impl Abort,
+    alloc: Global,
+    number: u32,
+) -> Result<EngineOf<Scripted>, BuildError>
+    ensures engine { IfOk result (IsEngine ⟦<Scripted as System>⟧.meaning) }
+{
+    let mut systems = EngineBuilder::new(alloc);
+    for _ in 0..number {
+        let reader = script(rt, alloc, &[Op::Read(type_no(0), None)], Start::Zero)?;
+        systems.add_system(reader, Vec::new(alloc), 1)?;
+    }
+    systems.build(World::new(alloc, &[10], &[])?)
+}
+
+/// A frame with these posts.
+pub fn frame_of(alloc: Global, posts: &[(TypeNo, i64)]) -> Result<Frame, NoMemory> {
+    Ok(Frame {
+        posts: Items::from_vec(Vec::from_slice(alloc, posts)?),
+    })
+}
+
+/// A frame without posts.
+pub fn quiet(alloc: Global) -> Frame {
+    Frame {
+        posts: Items::from_vec(Vec::new(alloc)),
+    }
+}
+
+/// So many workers.
+fn workers(rt: &impl Abort, number: u32) -> Workers {
+    match Workers::new(number) {
+        Some(workers) => workers,
+        None => panic!(rt; "from 1 to 64 workers"),
+    }
+}
+
+/// One frame on so many workers.
+pub fn run_frame<R: Threads + Sync + Abort, S: System, G: Gate>(
+    rt: &R,
+    engine: &mut EngineOf<S>,
+    frame: &Frame,
+    number: u32,
+    gate: &G,
+) -> Result<Log, RunFault>
+    requires engine { IsEngine S.meaning engine.old }
+    ensures engine { IsEngine S.meaning engine.new }
+{
+    assert!(rt; engine.fits(frame));
+    engine.run_frame(rt, frame, workers(rt, number), gate)
+}
+
+/// Frames on so many workers, whose logs are appended.
+pub fn run_frames<R: Threads + Sync + Abort, S: System, G: Gate>(
+    rt: &R,
+    engine: &mut EngineOf<S>,
+    frames: &[Frame],
+    number: u32,
+    gate: &G,
+    logs: &mut Vec<Log>,
+) -> Result<(), RunFault>
+    requires engine { IsEngine S.meaning engine.old }
+    ensures engine { IsEngine S.meaning engine.new }
+{
+    assert!(rt; engine.all_fit(frames));
+    engine.run_frames(rt, frames, workers(rt, number), gate, logs)
+}
+
+/// A frame on this thread, in this order.
+pub fn replay<S: System>(
+    rt: &impl Abort,
+    engine: &mut EngineOf<S>,
+    frame: &Frame,
+    order: &[u32],
+) -> Result<Log, RunFault>
+    requires engine { IsEngine S.meaning engine.old }
+    ensures engine { IsEngine S.meaning engine.new }
+{
+    assert!(rt; engine.fits(frame));
+    engine.replay_frame(frame, order)
+}

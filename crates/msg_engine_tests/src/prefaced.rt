@@ -1,0 +1,108 @@
+// Systems, and what is done before each of their runs.
+ghost use Rattle.std.specs.Prelude.{IfOk};
+ghost use Rattle.msg_exec.specs.Prelude.{IsEngine};
+
+use crate::making::script;
+use msg_exec::{EngineBuilder, EngineOf};
+use msg_system::{Access, NoMemory, Numbered, Op, Reply, Scripted, Start, System};
+use msg_world::{Counts, Lent, Taken, TypeNo, World};
+use std::alloc::Global;
+use std::process::Abort;
+use std::sync::Arc;
+use std::sync::atomic::{AtomicU64, Ordering};
+use std::test::Fail;
+
+/// A digit is noted at the end of a shared number.
+pub fn note(noted: &AtomicU64, digit: u64) {
+    let before = noted.load(Ordering::SeqCst);
+    let after = before.wrapping_mul(10).wrapping_add(digit);
+    noted.store(after, Ordering::SeqCst);
+}
+
+/// What is done before a run.
+#[derive(Drop)]
+pub enum Before {
+    /// It has no memory after so many runs.
+    FailAfter(u32),
+    /// It is counted.
+    Count(Arc<AtomicU64>),
+    /// It is noted by a digit.
+    Note { digit: u64, noted: Arc<AtomicU64> },
+}
+
+impl Before {
+    fn run(&mut self) -> Result<(), NoMemory> {
+        match self {
+            Before::FailAfter(0) => return Err(NoMemory),
+            Before::FailAfter(runs) => *runs -= 1,
+            Before::Count(runs) => {
+                runs.fetch_add(1, Ordering::SeqCst);
+            }
+            Before::Note { digit, noted } => note(noted, *digit),
+        }
+        Ok(())
+    }
+}
+
+/// A system, and what is done before each of its runs.
+#[derive(Drop)]
+pub struct Prefaced<S: System> {
+    pub system: S,
+    pub before: Before,
+}
+
+impl<S: System> System for Prefaced<S> {
+    ghost meaning = { λ s. S.meaning s.system };
+
+    fn access(&self) -> Access {
+        self.system.access()
+    }
+
+    fn read_type(&self, op: u32) -> Option<TypeNo> {
+        self.system.read_type(op)
+    }
+
+    fn begins(&self) -> Start {
+        self.system.begins()
+    }
+
+    fn start(&mut self, counts: &Counts) {
+        self.system.start(counts);
+    }
+
+    fn run(&mut self, alloc: Global, lent: Lent, out: &mut Vec<Reply>) -> Result<Taken, NoMemory> {
+        self.before.run()?;
+        self.system.run(alloc, lent, out)
+    }
+}
+
+impl<S: Numbered> Numbered for Prefaced<S> {
+    fn set_number(&mut self, number: u32) {
+        self.system.set_number(number);
+    }
+}
+
+/// An engine of noting scripts that join with this frame, each with one op, over a world of one
+/// type. System i notes i + 1.
+pub fn noting_engine(
+    rt: &impl Abort,
+    alloc: Global,
+    join: u32,
+    ops: Vec<(Op, Start)>,
+    noted: &Arc<AtomicU64>,
+) -> Result<EngineOf<Prefaced<Scripted>>, Fail>
+    ensures engine { IfOk result (IsEngine ⟦<Prefaced<Scripted> as System>⟧.meaning) }
+{
+    let mut systems = EngineBuilder::new(alloc);
+    let mut digit = 0;
+    for (op, start_at) in ops {
+        digit = digit % 9 + 1;
+        let noted = Arc::try_clone(noted)?;
+        let noting = Prefaced {
+            system: script(rt, alloc, &[op], start_at)?,
+            before: Before::Note { digit, noted },
+        };
+        systems.add_system(noting, Vec::new(alloc), join)?;
+    }
+    Ok(systems.build(World::new(alloc, &[10], &[])?)?)
+}

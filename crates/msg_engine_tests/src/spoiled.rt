@@ -1,0 +1,97 @@
+// Engines that want of memory spoils, and what the other jobs of a batch do beside it.
+ghost use Rattle.std.specs.Prelude.{IfOk};
+ghost use Rattle.msg_exec.specs.Prelude.{IsEngine};
+
+use crate::gates::HoldGate;
+use crate::making::{quiet, replay, run_frame, run_frames, script};
+use crate::prefaced::{Before, Prefaced};
+use msg_exec::{EngineBuilder, EngineOf, NoGate, RunFault};
+use msg_part_tests::numbers::type_no;
+use msg_system::{Op, Scripted, Start, System};
+use msg_world::World;
+use std::alloc::Global;
+use std::process::Abort;
+use std::sync::Arc;
+use std::sync::atomic::{AtomicU64, Ordering};
+use std::test::Fail;
+use std::thread::Threads;
+
+/// Every call answers so of an engine that is spoiled after so many frames.
+pub fn expect_spoiled<R: Threads + Sync + Abort, S: System>(
+    rt: &R,
+    alloc: Global,
+    engine: &mut EngineOf<S>,
+    frames_run: u32,
+)
+    requires engine { IsEngine S.meaning engine.old }
+{
+    let frames = [quiet(alloc)];
+    let log = run_frame(rt, engine, &frames[0], 1, &NoGate);
+    assert!(rt; matches!(log, Err(RunFault::Spoiled)));
+    let mut logs = Vec::new(alloc);
+    let ran = run_frames(rt, engine, &frames, 1, &NoGate, &mut logs);
+    assert_eq!(rt; ran, Err(RunFault::Spoiled));
+    assert!(rt; logs.is_empty());
+    let log = replay(rt, engine, &frames[0], &[0, 1]);
+    assert!(rt; matches!(log, Err(RunFault::Spoiled)));
+    assert!(rt; matches!(engine.accounts(), Err(RunFault::Spoiled)));
+    assert!(rt; engine.world().is_none());
+    assert_eq!(rt; engine.frames_run(), frames_run);
+}
+
+/// An engine of readers of one type, of which the first has memory for so many runs and the others
+/// are counted.
+fn failing_engine(
+    rt: &impl Abort,
+    alloc: Global,
+    readers: u32,
+    first_runs: u32,
+    runs: &Arc<AtomicU64>,
+) -> Result<EngineOf<Prefaced<Scripted>>, Fail>
+    ensures engine { IfOk result (IsEngine ⟦<Prefaced<Scripted> as System>⟧.meaning) }
+{
+    let mut systems = EngineBuilder::new(alloc);
+    for system in 0..readers {
+        let before = if system == 0 {
+            Before::FailAfter(first_runs)
+        } else {
+            Before::Count(Arc::try_clone(runs)?)
+        };
+        let system = script(rt, alloc, &[Op::Read(type_no(0), None)], Start::Zero)?;
+        systems.add_system(Prefaced { system, before }, Vec::new(alloc), 1)?;
+    }
+    Ok(systems.build(World::new(alloc, &[10], &[])?)?)
+}
+
+/// The second frame has no memory, on so many workers; the engine is spoiled by it.
+#[test]
+fn a_frame_without_memory_spoils_its_engine(rt: HostRuntime) -> Result<(), Fail> {
+    let frame = quiet(rt.alloc());
+    let runs = Arc::new(rt.alloc(), AtomicU64::new(0))?;
+    for number in [1, 2, 7, 64] {
+        let mut engine = failing_engine(&rt, rt.alloc(), 1, 1, &runs)?;
+        let first = run_frame(&rt, &mut engine, &frame, number, &NoGate);
+        assert!(rt; first.is_ok(), "{number}");
+        let second = run_frame(&rt, &mut engine, &frame, number, &NoGate);
+        assert!(rt; matches!(second, Err(RunFault::NoMemory)), "{number}");
+        expect_spoiled(&rt, rt.alloc(), &mut engine, 1);
+    }
+    Ok(())
+}
+
+/// The other jobs of its batch are run beside it; one worker takes no turn after it.
+#[test]
+fn the_others_run_where_one_has_no_memory(rt: HostRuntime) -> Result<(), Fail> {
+    let alloc = rt.alloc();
+    for (readers, workers, run) in [(2, 1, 0), (2, 2, 1), (5, 2, 4), (5, 64, 4)] {
+        let runs = Arc::new(alloc, AtomicU64::new(0))?;
+        let mut engine = failing_engine(&rt, alloc, readers, 0, &runs)?;
+        let gate = HoldGate::new(workers, [true; 5], workers.min(readers) as u64);
+        let log = run_frame(&rt, &mut engine, &quiet(alloc), workers, &gate);
+        assert!(rt; matches!(log, Err(RunFault::NoMemory)));
+        assert_eq!(rt; runs.load(Ordering::SeqCst), run, "{workers}");
+        gate.expect_met(&rt, run + 1);
+        expect_spoiled(&rt, alloc, &mut engine, 0);
+    }
+    Ok(())
+}

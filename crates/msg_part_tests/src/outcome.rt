@@ -1,0 +1,11 @@
+//! What a test of refused memory prints.
+use std::io::Print;
+use std::test::Fail;
+
+/// Prints `refused` where the call that is tested answered want of memory, and `ample` where it
+/// gave its whole answer. The gate refuses one request after the other, and reads which of the two
+/// it was.
+pub fn tell(rt: &impl Print, is_refused: bool) -> Result<(), Fail> {
+    println!(rt; "{}", if is_refused { "refused" } else { "ample" })?;
+    Ok(())
+}

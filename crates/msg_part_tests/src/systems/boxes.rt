@@ -1,0 +1,112 @@
+// Boxed systems of the three kinds, run on a loan of its own.
+ghost use Rattle.std.specs.Prelude.{◌≤◌, length};
+
+use crate::numbers::{res_no, type_no};
+use msg_system::{
+    Items, NoMemory, Numbered, Op, Program, Relay, Reply, Scripted, Start, System, Tally,
+    open_loans_cover,
+};
+use msg_world::laws::{lent_parts_are_a_loan, lent_parts_may_come_home};
+use msg_world::{Lent, World};
+use std::alloc::Global;
+use std::process::Abort;
+use std::test::Fail;
+
+/// A script of these ops.
+fn script(ops: Vec<Op>) -> Scripted
+    requires few { length ops.items ≤ 64 }
+{
+    let program = Program {
+        ops: Items::from_vec(ops),
+        start: Start::Zero,
+    };
+    Scripted::new(program, 0)
+}
+
+/// Runs a system once, on a loan of what it uses.
+fn run_once<S: System>(
+    rt: &impl Abort,
+    alloc: Global,
+    world: &mut World,
+    system: &mut S,
+    out: &mut Vec<Reply>,
+) -> Result<(), NoMemory> {
+    let access = system.access();
+    assert!(rt; world.is_home(&access));
+    lent_parts_are_a_loan();
+    let taken = world.lend_out(&access)?;
+    let lent = Lent::open(world, &access, taken);
+    open_loans_cover();
+    let taken = system.run(alloc, lent, out)?;
+    lent_parts_may_come_home();
+    world.take_back(taken);
+    Ok(())
+}
+
+const REPLIES: &str = "[Wrote(Written { first: 0, n: 1 }), Wrote(Written { first: 1, n: 1 }), \
+     Forwarded { took: Took { missed: 0, first: 0, items: Items { items: [\
+     Record { writer: 0, value: 5 }, Record { writer: 0, value: 6 }] } }, \
+     wrote: Some(Written { first: 0, n: 2 }) }, \
+     Summed { took: Took { missed: 0, first: 0, items: Items { items: [\
+     Record { writer: 1, value: 5 }, Record { writer: 1, value: 6 }] } }, value: 18 }, \
+     Wrote(Written { first: 0, n: 1 }), Wrote(Written { first: 1, n: 1 }), \
+     Drained { first: 0, items: Items { items: [Record { writer: 4, value: 5 }, \
+     Record { writer: 4, value: -6 }] } }, Drained { first: 2, items: Items { items: [] } }]";
+
+/// A writer, a relay, a tally, and one that drains what it wrote.
+#[test]
+fn a_list_of_four_boxes(rt: HostRuntime) -> Result<(), Fail> {
+    let alloc = rt.alloc();
+    let (t, u, v, r) = (type_no(0), type_no(1), type_no(2), res_no(0));
+    let writer = script(vec![in alloc; Op::Write(t, 5), Op::Write(t, 6)]?);
+    let ops = vec![in alloc;
+        Op::Write(v, 5),
+        Op::Write(v, -6),
+        Op::Drain(v),
+        Op::Drain(v),
+    ]?;
+    let mut drain = script(ops);
+    drain.set_number(4);
+    let mut boxes: Vec<Box<dyn System>> = Vec::with_capacity(alloc, 4)?;
+    boxes.push(Box::new(alloc, writer)?)?;
+    boxes.push(Box::new(alloc, Relay::new(t, u, Start::Zero, 1))?)?;
+    boxes.push(Box::new(alloc, Tally::new(u, r, Start::Zero, 2))?)?;
+    boxes.push(Box::new(alloc, drain)?)?;
+    let mut world = World::new(alloc, &[9, 9, 9], &[7])?;
+    let mut replies = Vec::new(alloc);
+    for system in boxes.iter_mut() {
+        run_once(&rt, alloc, &mut world, system, &mut replies)?;
+    }
+    assert_eq!(rt; format!(in alloc; "{replies:?}")?.as_str(), REPLIES);
+    assert_eq!(rt; world.resource(r), Some(18));
+    Ok(())
+}
+
+/// Each op, copied.
+#[test]
+fn copies_of_every_op(rt: HostRuntime) -> Result<(), Fail> {
+    let alloc = rt.alloc();
+    let (t, u, r) = (type_no(0), type_no(1), res_no(0));
+    let values = Items::from_vec(vec![in alloc; 2, 3]?);
+    let ops = [
+        Op::Write(t, -5),
+        Op::Batch(t, values),
+        Op::Read(t, Some(u64::MAX)),
+        Op::Read(t, None),
+        Op::Len(t),
+        Op::Missed(t),
+        Op::Clear(t),
+        Op::Forward(t, u),
+        Op::Sum(t, r),
+        Op::Get(r),
+        Op::Set(r, 1),
+        Op::Add(r, 2),
+        Op::Drain(u),
+        Op::Signal,
+    ];
+    for op in &ops {
+        let copied = op.copy(alloc)?;
+        assert!(rt; copied == *op);
+    }
+    Ok(())
+}

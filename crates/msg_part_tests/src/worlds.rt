@@ -1,0 +1,241 @@
+// Lending, posts and held updates of worlds.
+ghost use Rattle.std.specs.Prelude.{OnOk};
+ghost use Rattle.msg_world.specs.Prelude.{IsWhole, SameLoan, SameShape};
+
+use crate::numbers::{res_no, type_no};
+use msg_buffer::{MessageId, NoMemory, WriteRefusal};
+use msg_world::laws::{
+    host_comes_after_systems, lent_parts_are_a_loan, lent_parts_may_come_home, loans_end,
+    loans_stand_side_by_side, writes_stand, written_parts_come_home,
+};
+use msg_world::{Access, HOST, Lent, Record, ResNo, TypeNo, World};
+use std::process::Abort;
+use std::test::Fail;
+
+/// Writes a message where its type is lent for writing; says what number it got.
+fn write(lent: &mut Lent, t: TypeNo, record: Record) -> Option<MessageId>
+    ensures same { SameLoan lent.old lent.new }
+{
+    writes_stand();
+    match lent.writer(t) {
+        Some(messages) => messages.write(record).ok(),
+        None => None,
+    }
+}
+
+/// Writes a value where its resource is lent for writing; says what was there.
+fn set(lent: &mut Lent, r: ResNo, value: i64) -> Option<i64>
+    ensures same { SameLoan lent.old lent.new }
+{
+    writes_stand();
+    match lent.res_mut(r) {
+        Some(place) => {
+            let old = *place;
+            *place = value;
+            Some(old)
+        }
+        None => None,
+    }
+}
+
+#[test]
+fn lending(rt: HostRuntime) -> Result<(), Fail> {
+    let (t, r) = (type_no(0), res_no(0));
+    let mut world = World::new(rt.alloc(), &[4], &[7])?;
+    let access = Access::none().with_write_type(t).with_read_res(r);
+    assert!(rt; world.is_home(&access));
+    lent_parts_are_a_loan();
+    let taken = world.lend_out(&access)?;
+    assert!(rt; !world.is_home(&access));
+    assert!(rt; world.messages(t).is_none());
+    let mut lent = Lent::open(&world, &access, taken);
+    let record = Record {
+        writer: 3,
+        value: 9,
+    };
+    assert_eq!(rt; write(&mut lent, t, record), Some(MessageId(0)));
+    lent_parts_may_come_home();
+    let taken = lent.into_taken();
+    world.take_back(taken);
+    match world.messages(t) {
+        Some(messages) => assert_eq!(rt; messages.get(MessageId(0)).copied(), Some(record)),
+        None => panic!(rt; "type 0 is home"),
+    }
+    assert_eq!(rt; world.resource(r), Some(7));
+    assert_eq!(rt; world.post(t, 5).ok(), Some(MessageId(1)));
+    Ok(())
+}
+
+#[test]
+fn a_loan_shows_what_its_access_uses(rt: HostRuntime) -> Result<(), Fail> {
+    let (t, u, none) = (type_no(0), type_no(1), type_no(2));
+    let r = res_no(0);
+    let mut world = World::new(rt.alloc(), &[4, 4], &[7])?;
+    let access = Access::none().with_write_type(t).with_read_res(r);
+    assert!(rt; world.is_home(&access));
+    lent_parts_are_a_loan();
+    let taken = world.lend_out(&access)?;
+    let mut lent = Lent::open(&world, &access, taken);
+    assert!(rt; !world.is_home(&Access::none().with_read_type(t)));
+    assert!(rt; world.is_home(&Access::none().with_read_type(u)));
+    assert!(rt; world.messages(t).is_none());
+    assert!(rt; world.messages(u).is_some());
+    assert!(rt; lent.reader(t).is_some());
+    assert!(rt; lent.reader(u).is_none() && lent.reader(none).is_none());
+    assert_eq!(rt; lent.res(r), Some(7));
+    assert!(rt; lent.writer(t).is_some());
+    assert!(rt; lent.writer(u).is_none() && lent.writer(none).is_none());
+    assert!(rt; lent.res_mut(r).is_none());
+    assert!(rt; !lent.signal());
+    Ok(())
+}
+
+#[test]
+fn a_written_resource_comes_home(rt: HostRuntime) -> Result<(), Fail> {
+    let (r, q) = (res_no(0), res_no(1));
+    let mut world = World::new(rt.alloc(), &[], &[7, 70])?;
+    let access = Access::none().with_write_res(r).with_registry();
+    assert!(rt; world.is_home(&access));
+    lent_parts_are_a_loan();
+    let taken = world.lend_out(&access)?;
+    assert!(rt; !world.is_home(&Access::none().with_registry()));
+    assert!(rt; world.is_home(&Access::none().with_read_res(q)));
+    assert_eq!(rt; world.resource(r), None);
+    let mut lent = Lent::open(&world, &access, taken);
+    assert_eq!(rt; set(&mut lent, r, 8), Some(7));
+    assert_eq!(rt; lent.res(r), Some(8));
+    assert_eq!(rt; set(&mut lent, q, 71), None);
+    lent_parts_may_come_home();
+    let taken = lent.into_taken();
+    world.take_back(taken);
+    assert!(rt; world.is_home(&access));
+    assert_eq!(rt; world.resource(r), Some(8));
+    assert_eq!(rt; world.resource(q), Some(70));
+    Ok(())
+}
+
+#[test]
+fn an_empty_world(rt: HostRuntime) -> Result<(), Fail> {
+    let world = World::new(rt.alloc(), &[], &[])?;
+    world.stands_for_some();
+    loans_stand_side_by_side();
+    assert!(rt; world.is_home(&Access::none()));
+    assert!(rt; !world.is_home(&Access::none().with_read_type(type_no(0))));
+    assert_eq!(rt; world.resource(res_no(0)), None);
+    assert_eq!(rt; world.counts().of(type_no(0)), None);
+    Ok(())
+}
+
+#[test]
+fn posts(rt: HostRuntime) -> Result<(), Fail> {
+    let (t, u) = (type_no(0), type_no(1));
+    let mut world = World::new(rt.alloc(), &[0, 2], &[])?;
+    assert!(rt; world.messages(t).is_some());
+    match world.post(t, 5) {
+        Err(WriteRefusal::NumbersSpent(record)) => {
+            assert_eq!(rt; record.writer, HOST);
+            assert_eq!(rt; record.value, 5);
+        }
+        _other => assert!(rt; false),
+    }
+    assert!(rt; world.messages(u).is_some());
+    assert_eq!(rt; world.post(u, 6).ok(), Some(MessageId(0)));
+    Ok(())
+}
+
+/// Lends the registry to a job that signals twice, and takes it back.
+fn signal_twice(world: &mut World) -> Result<bool, NoMemory>
+    requires whole { IsWhole world.old }
+    ensures shape { OnOk result (SameShape world.old world.new) }
+{
+    let access = Access::none().with_registry();
+    lent_parts_are_a_loan();
+    let taken = world.lend_out(&access)?;
+    let mut lent = Lent::open(world, &access, taken);
+    let first = lent.signal();
+    let second = lent.signal();
+    lent_parts_may_come_home();
+    written_parts_come_home();
+    let taken = lent.into_taken();
+    world.take_back(taken);
+    Ok(first && second)
+}
+
+/// How many messages the first type keeps.
+fn kept(rt: &impl Abort, world: &World) -> u64 {
+    match world.messages(type_no(0)) {
+        Some(messages) => messages.len(),
+        None => panic!(rt; "type 0 is home"),
+    }
+}
+
+#[test]
+fn held_updates(rt: HostRuntime) -> Result<(), Fail> {
+    let t = type_no(0);
+    let mut world = World::new(rt.alloc(), &[9], &[])?;
+    world.set_held();
+    assert!(rt; world.messages(t).is_some());
+    assert!(rt; world.post(t, 1).is_ok());
+    world.update_all();
+    world.update_all();
+    assert_eq!(rt; kept(&rt, &world), 1);
+    assert!(rt; signal_twice(&mut world)?);
+    world.update_all();
+    world.update_all();
+    assert_eq!(rt; kept(&rt, &world), 1, "two signals are one update");
+    assert!(rt; signal_twice(&mut world)?);
+    world.set_held();
+    world.update_all();
+    assert_eq!(rt; kept(&rt, &world), 1, "a signal that wasn't spent is lost");
+    assert!(rt; signal_twice(&mut world)?);
+    world.update_all();
+    assert_eq!(rt; kept(&rt, &world), 0);
+    assert_eq!(rt; world.counts().of(t), Some(1));
+    Ok(())
+}
+
+#[test]
+fn a_world_that_is_not_held(rt: HostRuntime) -> Result<(), Fail> {
+    let t = type_no(0);
+    let mut world = World::new(rt.alloc(), &[9], &[])?;
+    assert!(rt; world.messages(t).is_some());
+    assert!(rt; world.post(t, 1).is_ok());
+    world.update_all();
+    assert!(rt; signal_twice(&mut world)?);
+    assert_eq!(rt; kept(&rt, &world), 1);
+    world.update_all();
+    assert_eq!(rt; kept(&rt, &world), 0);
+    Ok(())
+}
+
+#[test]
+fn a_loan_that_ends_leaves_what_it_wrote(rt: HostRuntime) -> Result<(), Fail> {
+    let (t, u, r) = (type_no(0), type_no(1), res_no(0));
+    let mut world = World::new(rt.alloc(), &[4, 4], &[7])?;
+    let access = Access::none().with_write_type(t).with_read_res(r);
+    assert!(rt; world.is_home(&access));
+    lent_parts_are_a_loan();
+    let taken = world.lend_out(&access)?;
+    let mut lent = Lent::open(&world, &access, taken);
+    lent.stands_for_some();
+    let record = Record {
+        writer: 3,
+        value: 9,
+    };
+    assert_eq!(rt; write(&mut lent, t, record), Some(MessageId(0)));
+    loans_end();
+    let taken = lent.into_taken();
+    world.take_back(taken);
+    match world.messages(t) {
+        Some(messages) => assert_eq!(rt; messages.get(MessageId(0)).copied(), Some(record)),
+        None => panic!(rt; "type 0 is home"),
+    }
+    assert!(rt; world.messages(u).is_some());
+    assert_eq!(rt; world.resource(r), Some(7));
+    Ok(())
+}
+
+#[test]
+fn the_number_of_the_host() {
+    host_comes_after_systems();
+}
