@@ -20,6 +20,7 @@ use Rattle.msg_scenario.specs.Prelude.{HasPrinted, HasReported, HasRunOut, HasSt
 use Rattle.msg_reading.specs.Prelude.{PostsAreToTypes, state_of}
 use Rattle.msg_reading.specs.declared.scenario.Scenario.{Scenario}
 use Rattle.msg_files.proofs.Puts.{AppendsPrefix_after}
+use Rattle.msg_scenario.specs.inner.SoFar.{ReportSoFar}
 use Rattle.msg_scenario.proofs.ReportFrames.{frames_text-none, frames_text_more}
 
 -- ---- texts
@@ -77,19 +78,8 @@ module _ {X : Type 0} (meaning : X → Meaning) where
   not_spoiled e u stands spoiled = no_core e.core u stands.core spoiled
 
   module _ (s : Scenario) where
-    -- after the first k frames
-    pub record ReportSoFar (k : ℕ) (before now : Option (List ℕ)) (e : EngineOf X) : Type 0 where
-      pub logs : List Log
-      pub state : State
-      pub as_many : length logs ≡ k
-      pub is_run : IsRun (take k s.frames) (state_of s) logs state
-      pub frames : state.frames ≡ k
-      pub types : state.types ≡ length s.types
-      pub printed : Appends before now (frames_text s 1 s.frames logs)
-      pub stands : StandsFor meaning e state
-
     pub report_begun : (known : Option (List ℕ)) (e : EngineOf X) → StandsFor meaning e (state_of s)
-        → ReportSoFar 0 known known e
+        → ReportSoFar meaning s 0 known known e
     report_begun known e stands = record {
       logs = [];
       state = state_of s;
@@ -102,7 +92,7 @@ module _ {X : Type 0} (meaning : X → Meaning) where
     }
 
     pub posts_fit : (k : ℕ) (before now : Option (List ℕ)) (e : EngineOf X) (frame : Frame)
-        → ReportSoFar k before now e → PostsAreToTypes s frame → PostsFit e frame
+        → ReportSoFar meaning s k before now e → PostsAreToTypes s frame → PostsFit e frame
     posts_fit k before now e frame far fit =
         fits e.core far.state frame.posts far.stands.core (subst (λ n. All (λ p. p.0 < n) frame.posts) (sym far.types) fit)
 
@@ -122,7 +112,7 @@ module _ {X : Type 0} (meaning : X → Meaning) where
       pub stands : StandsFor meaning e state
 
     pub just_run : FramesKeepSystems → (k : ℕ) (before now : Option (List ℕ)) (e f : EngineOf X) (frame : Frame) (log : Log)
-        → ReportSoFar k before now e → k < length s.frames → frame ≡ get_or s.frames k frame
+        → ReportSoFar meaning s k before now e → k < length s.frames → frame ≡ get_or s.frames k frame
         → ((u : State) → StandsFor meaning e u → HasRunFrame meaning frame u log f) → JustRun k before now frame log f
     just_run keep k before now e f frame log far lt is ran =
         let one = ran far.state far.stands in
@@ -153,7 +143,7 @@ module _ {X : Type 0} (meaning : X → Meaning) where
         (just : JustRun k before now frame log e) (is : number ≡ k + 1) where
       -- its text was put
       pub frame_put : (f : EngineOf X) → ((u : State) → StandsFor meaning e u → StandsFor meaning f u)
-          → Appends now after (frame_text s number frame log) → ReportSoFar (k + 1) before after f
+          → Appends now after (frame_text s number frame log) → ReportSoFar meaning s (k + 1) before after f
       frame_put f stays puts =
           let sum = length-append just.earlier (log ∷ []) in
           let many = just.as_many in
@@ -202,7 +192,7 @@ module _ {X : Type 0} (meaning : X → Meaning) where
 
     -- ---- no memory
 
-    pub run_out : (k : ℕ) (before now : Option (List ℕ)) (e f : EngineOf X) → ReportSoFar k before now e → k < length s.frames
+    pub run_out : (k : ℕ) (before now : Option (List ℕ)) (e f : EngineOf X) → ReportSoFar meaning s k before now e → k < length s.frames
         → frames_of f ≡ frames_of e → IsSpoiled f → HasRunOut meaning s before now f
     run_out k before now e f far lt counted spoiled =
         let many = far.as_many in
@@ -217,7 +207,7 @@ module _ {X : Type 0} (meaning : X → Meaning) where
 
     -- a frame answers nothing else, as the engine wasn't spoiled
     pub no_memory_for_frame : (k : ℕ) (before now : Option (List ℕ)) (e f : EngineOf X) (r : Result Log RunFault) (fault : RunFault)
-        → ReportSoFar k before now e → k < length s.frames → r ≡ Err fault → (r ≡ Err Spoiled → IsSpoiled e)
+        → ReportSoFar meaning s k before now e → k < length s.frames → r ≡ Err fault → (r ≡ Err Spoiled → IsSpoiled e)
         → ¬ (r ≡ Err BadOrder) → (r ≡ Err NoMemory → IsSpoiled f) → (r ≡ Err NoMemory → frames_of f ≡ frames_of e) → HasRunOut meaning s before now f
     no_memory_for_frame k before now e f r Spoiled far lt is spoiled in_order out counted =
         absurd (not_spoiled e far.state far.stands (spoiled is))
@@ -225,7 +215,7 @@ module _ {X : Type 0} (meaning : X → Meaning) where
     no_memory_for_frame k before now e f r NoMemory far lt is spoiled in_order out counted =
         run_out k before now e f far lt (counted is) (out is)
 
-    pub accounts_out : (k : ℕ) (before now : Option (List ℕ)) (e : EngineOf X) → ReportSoFar k before now e
+    pub accounts_out : (k : ℕ) (before now : Option (List ℕ)) (e : EngineOf X) → ReportSoFar meaning s k before now e
         → k ≡ length s.frames → HasRunOut meaning s before now e
     accounts_out k before now e far all =
         let many = far.as_many in
@@ -241,7 +231,7 @@ module _ {X : Type 0} (meaning : X → Meaning) where
     -- ---- the readers
 
     module _ (k : ℕ) (before now after : Option (List ℕ)) (e : EngineOf X) (accounts : List Account)
-        (far : ReportSoFar k before now e) (all : k ≡ length s.frames)
+        (far : ReportSoFar meaning s k before now e) (all : k ≡ length s.frames)
         (are : (u : State) → StandsFor meaning e u → accounts ≡ accounts_of u) where
       -- their lines were put
       pub readers_put : ((frames : List Frame) (logs : List Log) (u : State) → IsRun frames (state_of s) logs u

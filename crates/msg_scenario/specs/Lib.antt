@@ -3,3 +3,4 @@ pub mod Prelude
 pub mod ReportText
 pub mod Reported
 pub mod Ran
+pub mod inner

@@ -1,10 +1,11 @@
 // The report of a scenario: frame by frame, and then the readers.
-ghost use Rattle.std.specs.Prelude.{◌≡◌, ◌≢◌, ◌⊎◌, All, Err, OnOk, OnErr, IfErr};
+ghost use Rattle.std.specs.Prelude.{◌≡◌, ◌≢◌, ◌⊎◌, ◌+◌, ◌<◌, ℕ, All, Err, List, OnOk, OnErr, Option, length};
 ghost use Rattle.msg_exec.specs.Prelude.{StandsFor};
 ghost use Rattle.msg_system.specs.declared.run_fault.RunFault.TheVariants.{BadOrder, NoMemory, Spoiled};
 ghost use Rattle.msg_scenario.specs.Prelude.{HasPrinted, HasReported, HasRunOut, HasStopped};
 ghost use Rattle.msg_reading.specs.Prelude.{PostsAreToTypes, state_of};
 ghost use Rattle.msg_files.specs.Prelude.{one_more};
+ghost use Rattle.msg_scenario.specs.inner.SoFar.{ReportSoFar};
 
 use crate::Scenario;
 use crate::reports::put::{put_accounts, put_frame};
@@ -14,6 +15,51 @@ use msg_files::{ReportFault, Sink};
 use msg_system::System;
 use std::alloc::Global;
 use std::thread::Threads;
+
+/// Runs the next frame of a scenario, after so many, and puts its text; it is made in `text` first.
+fn report_frame<R: Threads + Sync, X: System, S: Sink, G: Gate>(
+    rt: &R,
+    engine: &mut EngineOf<X>,
+    scenario: &Scenario,
+    reported: usize,
+    workers: Workers,
+    gate: &G,
+    text: &mut Vec<u8>,
+    sink: &mut S,
+) -> Result<(), ReportFault>
+    requires so_far { (before : Option (List ℕ))
+        × ReportSoFar X.meaning scenario.now reported before (S.contents sink.old) engine.old }
+    requires next { reported < length scenario.now.frames }
+    requires posts { All (PostsAreToTypes scenario.now) scenario.now.frames }
+    ensures ok { OnOk result ((before : Option (List ℕ))
+        → ReportSoFar X.meaning scenario.now reported before (S.contents sink.old) engine.old
+        → ReportSoFar X.meaning scenario.now (reported + 1) before (S.contents sink.new) engine.new) }
+    ensures prefix { OnErr result ((before : Option (List ℕ))
+        → ReportSoFar X.meaning scenario.now reported before (S.contents sink.old) engine.old
+        → HasPrinted scenario.now before (S.contents sink.new)) }
+    ensures run { result ≡ Err (ReportFault.Run NoMemory) → (before : Option (List ℕ))
+        → ReportSoFar X.meaning scenario.now reported before (S.contents sink.old) engine.old
+        → HasRunOut X.meaning scenario.now before (S.contents sink.new) engine.new }
+    ensures not_spoiled { result ≢ Err (ReportFault.Run Spoiled) }
+    ensures no_bad_order { result ≢ Err (ReportFault.Run BadOrder) }
+    ensures stopped { (result ≡ Err ReportFault.Write) ⊎ (result ≡ Err ReportFault.NoMemory)
+        → (before : Option (List ℕ))
+        → ReportSoFar X.meaning scenario.now reported before (S.contents sink.old) engine.old
+        → HasStopped X.meaning scenario.now before (S.contents sink.new) engine.new }
+    ensures write { result ≡ Err ReportFault.Write
+        → S.failures sink.new ≡ one_more (S.failures sink.old) }
+    ensures quiet { result ≢ Err ReportFault.Write → S.failures sink.new ≡ S.failures sink.old }
+{
+    frames_keep_the_systems();
+    let frame = &scenario.frames.as_slice()[reported];
+    let log = match engine.run_frame(rt, frame, workers, gate) {
+        Ok(log) => log,
+        Err(fault) => return Err(ReportFault::Run(fault)),
+    };
+    put_frame(scenario, reported as u64 + 1, frame, &log, text, sink)?;
+    engine.recycle(log);
+    Ok(())
+}
 
 /// Runs the frames of a scenario, and puts the text of each before it runs the next; and then a
 /// line for each reader. The engine is one of the scenario, which has run no frame.
@@ -53,18 +99,12 @@ pub fn report<R: Threads + Sync, X: System, S: Sink, G: Gate>(
         → S.failures sink.new ≡ one_more (S.failures sink.old) }
     ensures quiet { result ≢ Err ReportFault.Write → S.failures sink.new ≡ S.failures sink.old }
 {
-    frames_keep_the_systems();
     engine.has_one_run();
     let mut text = Vec::new(alloc);
-    let mut number = 0u64;
-    for frame in scenario.frames.as_slice() {
-        let log = match engine.run_frame(rt, frame, workers, gate) {
-            Ok(log) => log,
-            Err(fault) => return Err(ReportFault::Run(fault)),
-        };
-        number += 1;
-        put_frame(scenario, number, frame, &log, &mut text, sink)?;
-        engine.recycle(log);
+    for reported in 0..scenario.frames.as_slice().len() {
+        report_frame(
+            rt, engine, scenario, reported, workers, gate, &mut text, sink,
+        )?;
     }
     match engine.accounts() {
         Ok(accounts) => put_accounts(scenario, accounts.as_slice(), &mut text, sink),
