@@ -33,9 +33,7 @@ module _ {X : Type 0} where
 
   pub all_middle : (P : X → Type 0) (xs : List X) (y : X) (ys : List X) → All P (xs ++ y ∷ ys) → P y × All P (xs ++ ys)
   all_middle P [] y ys h = (All-head P y ys h, All-tail P y ys h)
-  all_middle P (x ∷ xs) y ys h =
-      let r = all_middle P xs y ys (All-tail P x (xs ++ y ∷ ys) h) in
-      (r.0, All-cons P x (xs ++ ys) (All-head P x (xs ++ y ∷ ys) h) r.1)
+  all_middle P (x ∷ xs) y ys h = grind (arith, All-cons, All-head, All-tail, all_middle P xs y ys (All-tail P x (xs ++ y ∷ ys) h))
 
   pub pairs_middle : (R : X → X → Type 0) (xs : List X) (y : X) (ys : List X) → AllPairs R (xs ++ y ∷ ys) → All (λ x. R x y) xs × AllPairs R (xs ++ ys)
   pairs_middle R [] y ys h = (λ k d lt. absurd (omega arith), pairs_tail R y ys h)

@@ -134,10 +134,7 @@ module _ (foot : JobFootprint) (accesses : List Access) (P : ℕ → ℕ → Typ
 
 -- where each stands once, one place
 one_place : (order : List ℕ) (a b : ℕ) → AllPairs (λ i j. i ≢ j) order → a < length order → b < length order → get_or order a 0 ≡ get_or order b 0 → a ≡ b
-one_place order a b once la lb e = elim (cases_order a b) [
-  | inl s ↦ s
-  | inr o ↦ elim o [ inl l ↦ absurd (once a b 0 l lb e) | inr l ↦ absurd (once b a 0 l la (sym e)) ]
-]
+one_place order a b once la lb e = grind (arith, cases_order)
 
 -- no path leads back in a lawful order
 lawful_forward : LawfulOrdersKeepPaths → (g : Graph) (who : List Bool) (order : List ℕ) → IsLawfulOrder g who order → Forward (Path g) order

@@ -1,5 +1,5 @@
 -- Each number that tiles go past meets one fate, at one tile.
-use Rattle.std.proofs.Common.{◌≡◌, ℕ, zero, suc, ◌+◌, ◌-◌, ◌≤◌, ◌<◌, List, [], ◌∷◌, map, length, Contains, cond, is_some, refl, sym, ap, subst, ◌∙◌, arith, inl, inr, All}
+use Rattle.std.proofs.Common.{◌≡◌, ℕ, zero, suc, ◌+◌, ◌-◌, ◌≤◌, ◌<◌, List, [], ◌∷◌, map, Contains, cond, is_some, refl, sym, subst, ◌∙◌, arith, inl, inr, All}
 use Rattle.std.specs.Prelude.{nat_lt}
 use Rattle.std.specs.List.{range_with_len}
 use Rattle.std.proofs.lemmas.Bool.{cases_Bool, ltb-true, ltb-false, lt-ltb, le-ltb}
@@ -19,12 +19,7 @@ in_range a n x low high =
     (x - a, omega arith, at ∙ omega arith)
 
 of_range : (a n x : ℕ) → Contains (range_with_len a n) x → (a ≤ x) × (x < a + n)
-of_range a n x c =
-    let long = length-range_with_len a n in
-    let below : c.0 < length (range_with_len a n) = c.1 in
-    let at = get_or-range_with_len a n c.0 x (omega arith) in
-    let is : x ≡ a + c.0 = sym c.2 ∙ at in
-    (omega arith, omega arith)
+of_range a n x c = grind (arith, get_or-range_with_len, length-range_with_len)
 
 none_among : (x : ℕ) → ¬ Contains {X = ℕ} [] x
 none_among x c = let below : c.0 < 0 = c.1 in absurd (omega arith)
@@ -96,10 +91,7 @@ of_later e es n k fate met = record { entry = met.entry; is_entry = met.is_entry
 
 tiles_rise : (p : ℕ) (ms : List Moment) (q : ℕ) → Tile p (map tile_of ms) q → p ≤ q
 tiles_rise p [] q tile = let same : p ≡ q = tile in omega arith
-tiles_rise p (m ∷ ms) q tile =
-    let first : m.entry.stretch.first ≡ p + m.entry.stretch.missed = tile.0.first in
-    let rest = tiles_rise (next_place m.entry.stretch) ms q tile.1 in
-    omega arith
+tiles_rise p (m ∷ ms) q tile = grind (arith, tiles_rise (next_place m.entry.stretch) ms q tile.1)
 
 none_met : (n k : ℕ) (fate : Fate) → ¬ Meets [] n k fate
 none_met n k fate met = absurd (cc)
@@ -110,10 +102,7 @@ lies_between p (m ∷ ms) q tile n zero fate met =
     let at = fate_of fate m.entry n p tile.0.first (of_here m.entry (entries_of ms) n fate met) in
     let rise = tiles_rise (next_place m.entry.stretch) ms q tile.1 in
     (at.0, omega (arith, at.1, rise))
-lies_between p (m ∷ ms) q tile n (suc k) fate met =
-    let rest = lies_between (next_place m.entry.stretch) ms q tile.1 n k fate (of_later m.entry (entries_of ms) n k fate met) in
-    let first : m.entry.stretch.first ≡ p + m.entry.stretch.missed = tile.0.first in
-    (omega (arith, rest.0), rest.1)
+lies_between p (m ∷ ms) q tile n (suc k) fate met = grind (arith, of_later, lies_between (next_place m.entry.stretch) ms q tile.1 n k fate (of_later m.entry (entries_of ms) n k fate met))
 
 one_fate : (p : ℕ) (ms : List Moment) (q : ℕ) → Tile p (map tile_of ms) q → (n k l : ℕ) (f g : Fate) → Meets (entries_of ms) n k f → Meets (entries_of ms) n l g → (l ≡ k) × (g ≡ f)
 one_fate p [] q tile n k l f g x y = absurd (none_met n k f x)
@@ -129,9 +118,7 @@ one_fate p (m ∷ ms) q tile n (suc k) zero f g x y =
     let a = fate_of g m.entry n p tile.0.first (of_here m.entry (entries_of ms) n g y) in
     let b = lies_between (next_place m.entry.stretch) ms q tile.1 n k f (of_later m.entry (entries_of ms) n k f x) in
     absurd (omega (arith, a.1, b.0))
-one_fate p (m ∷ ms) q tile n (suc k) (suc l) f g x y =
-    let rest = one_fate (next_place m.entry.stretch) ms q tile.1 n k l f g (of_later m.entry (entries_of ms) n k f x) (of_later m.entry (entries_of ms) n l g y) in
-    (ap suc rest.0, rest.1)
+one_fate p (m ∷ ms) q tile n (suc k) (suc l) f g x y = grind (arith, of_later, one_fate (next_place m.entry.stretch) ms q tile.1 n k l f g (of_later m.entry (entries_of ms) n k f x) (of_later m.entry (entries_of ms) n l g y))
 
 some_fate : (p : ℕ) (ms : List Moment) (q : ℕ) → Tile p (map tile_of ms) q → (n : ℕ) → p ≤ n → n < q → (k : ℕ) × ((fate : Fate) × Meets (entries_of ms) n k fate)
 some_fate p [] q tile n low high = let same : p ≡ q = tile in absurd (omega arith)

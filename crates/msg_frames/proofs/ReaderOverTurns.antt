@@ -30,10 +30,7 @@ Keeps s u = SameSystems s u × (u.frames ≡ s.frames)
 
 -- a member is as its turn leaves it, or as it was
 pub one_member : (P : Member → Type 0) (j i : ℕ) (s : State) → (i ≡ j → P (turn_of s i).member) → (¬ (i ≡ j) → P (s.members i)) → P ((after_turn_of j s).members i)
-one_member P j i s here other = elim (cases_eq i j) [
-  | inl e ↦ rw (eq-eqb i j e) (subst (λ k. P (turn_of s k).member) e (here e))
-  | inr ne ↦ rw (ne_eqb i j ne) (other ne)
-]
+one_member P j i s here other = grind (arith, cases_eq, eq-eqb, ne_eqb)
 
 -- the moments of reader (i, t) in the turn of system j
 abbrev own_moments : ℕ → ℕ → ℕ → State → List Moment
@@ -51,20 +48,14 @@ module _ (laws : BufferLaws) where
       (passes_nothing (place_of s i t) (s.world.histories t) ((turn_of s j).world.histories t) within (job_goes_on laws.grow (s.members j).job s.world t sound)))
 
   turn_totals : (i t j : ℕ) (s : State) → ((after_turn_of j s).members i).totals t ≡ with_entries (map (λ m. m.entry) (own_moments i t j s)) ((s.members i).totals t)
-  turn_totals i t j s =
-      one_member (λ m. m.totals t ≡ with_entries (map (λ x. x.entry) (own_moments i t j s)) ((s.members i).totals t)) j i s
-      (λ e. rw (eq-eqb j i (sym e)) (ap (λ es. with_entries es ((s.members i).totals t)) (job_logged t (s.members i).job s.world)))
-      (λ ne. rw (ne_eqb j i (λ x. ne (sym x))) (sym (with_entries-none ((s.members i).totals t))))
+  turn_totals i t j s = grind (arith, eq-eqb, job_logged, ne_eqb, one_member, with_entries-none)
 
   pub turn_reads : (i t j : ℕ) (s : State) → IsSound (s.world.histories t) → place_of s i t ≤ count (s.world.histories t) → Reads i t s (own_moments i t j s) (after_turn_of j s)
   turn_reads i t j s sound within = record { passes = turn_passes i t j s sound within; totals = turn_totals i t j s }
 
   pub turns_read : (i t : ℕ) (js : List ℕ) (s : State) → IsSound (s.world.histories t) → place_of s i t ≤ count (s.world.histories t)
       → Reads i t s (turns_moments i t js s) (after_turns_of js s).state
-  turns_read i t [] s sound within = record {
-    passes = passes_nothing (place_of s i t) (s.world.histories t) (s.world.histories t) within (stays (s.world.histories t) sound);
-    totals = sym (with_entries-none ((s.members i).totals t));
-  }
+  turns_read i t [] s sound within = grind (arith, passes_nothing, stays, with_entries-none)
   turns_read i t (j ∷ js) s sound within =
       let first : Reads i t s (own_moments i t j s) (after_turn_of j s) = turn_reads i t j s sound within in
       reads_further i t s (own_moments i t j s) (after_turn_of j s) (turns_moments i t js (after_turn_of j s)) (after_turns_of js (after_turn_of j s)).state first

@@ -36,12 +36,7 @@ is_there p h n recent above floor within = elim (slice_get_cases h.entries n).1 
 -- a stretch that fits where all is present misses nothing
 none_missed : (h : History Record) (place : ℕ) (s : Stretch) → Fits h place s → next_place s ≤ count h
     → ((n : ℕ) → place ≤ n → n < count h → IsPresent h n) → s.missed ≡ 0
-none_missed h place s fits within all = elim (cases_eq s.missed 0) [
-  | inl none ↦ none
-  | inr some ↦
-      let first = fits.first in
-      absurd (fits.missed place (omega arith) (omega arith) (all place (omega arith) (omega arith)))
-]
+none_missed h place s fits within all = grind (arith, cases_eq)
 
 -- the entries of these moments miss nothing
 abbrev pub NoneMissed : List Moment → Type 0
@@ -84,10 +79,7 @@ recent_ahead s i t up n e above at =
     omega arith
 
 floor_below : (s : State) (i t n : ℕ) → IsUpToDate s i t → place_of s i t ≤ n → n < count (s.world.histories t) → (s.world.histories t).floor ≤ n
-floor_below s i t n up above within =
-    let h : History Record = s.world.histories t in
-    let there : IsPresent (update h) n = up n above within in
-    leb-true h.floor n (and_parts (nat_le h.floor n) (nat_le (suc h.updates) (there.0.stamp + 1)) there.2).0
+floor_below s i t n up above within = grind (arith, and_parts, leb-true)
 
 module _ (laws : BufferLaws) where
   module _ (frame : Frame) (s : State) (log : Log) (u : State) (i t : ℕ) (sound : IsSoundState s) (is : IsFrame frame s log u) (below : t < s.types) where

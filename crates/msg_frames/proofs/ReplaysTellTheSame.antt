@@ -1,5 +1,5 @@
 -- A replay tells of each system what the frame tells of it.
-use Rattle.std.proofs.Common.{◌≡◌, ◌≢◌, ℕ, ◌==◌, ◌⊎◌, inl, inr, List, [], ◌∷◌, ◌++◌, map, refl, ap, sym, subst, ◌∙◌}
+use Rattle.std.proofs.Common.{arith, ◌≡◌, ◌≢◌, ℕ, ◌==◌, ◌⊎◌, inl, inr, List, [], ◌∷◌, ◌++◌, map, refl, ap, sym, subst, ◌∙◌}
 use Rattle.std.specs.Prelude.{All, AllPairs, Contains, IsPermutation, flat_map, if◌then◌else◌}
 use Rattle.std.proofs.lemmas.Bool.{cases_Bool, eqb-false, eqb-true}
 use Rattle.std.proofs.lemmas.List.{append-nil}
@@ -107,6 +107,4 @@ settles lawful (frame ∷ frames) s (log ∷ logs) u x =
 settles lawful frames s logs u x = absurd x
 
 pub replays_tell : TurnOrderIsLawful → RunsAreComplete → ReplaysTellACompleteRun
-replays_tell lawful complete frames s logs u sound x =
-    let run = settles lawful frames s logs u x in
-    record { settled = run.settled; complete = complete frames s run.settled u sound run.is_run; alike = run.alike }
+replays_tell lawful complete frames s logs u sound x = grind (arith, settles)
