@@ -44,8 +44,8 @@ module _ (systems : List Meaning) (places : List Place) (rules : List Rule) (typ
       let same : (first.members i).join ≡ (all_wait.members i).join = join_same i in
       absurd (ne (omega arith)))
 
-  first_sound : IsSoundState first
-  first_sound = record {
+  pub first_is_sound : IsSoundState first
+  first_is_sound = record {
     histories = new.histories;
     places = λ i t below.
         let within : place_of all_wait i t ≤ count (world.histories t) = rw (at_zero i t) (omega arith) in
@@ -55,6 +55,3 @@ module _ (systems : List Meaning) (places : List Place) (rules : List Rule) (typ
     waiting = first_waiting;
     balanced = λ i t below has. first_balanced i t has;
   }
-
-pub first_is_sound : FirstIsSound
-first_is_sound = first_sound

@@ -67,7 +67,7 @@ module _ (grow : OnlyGrows Record) where
   ops_go_on zero m w = world_stays w
   ops_go_on (suc n) m w =
       let far : AfterProgram = after_at_most n (next_op m) m.writer m.places w in
-      world_goes_further w far.state (one_more (next_op m far.replies) m.writer far).state (ops_go_on n m w) (more_goes_on (next_op m far.replies) m.writer far)
+      world_goes_further w far.state (one_more _ _ far).state (ops_go_on n m w) (more_goes_on _ _ _)
 
   turn_goes_on : (m : Meaning) (w : WorldState) → WorldGoesOn w (turn m w).state
   unfolding turn
@@ -87,8 +87,8 @@ module _ (grow : OnlyGrows Record) where
   posts_go_on : (posts : List (ℕ × ℤ)) (w : WorldState) → WorldGoesOn w (after_posts posts w)
   posts_go_on [] w = world_stays w
   posts_go_on (p ∷ ps) w =
-      let next = with_history w p.0 (write (by HOST p.1 ∷ []) (w.histories p.0)) in
-      world_goes_further w next (after_posts ps next) (written_goes_on w p.0 (by HOST p.1 ∷ [])) (posts_go_on ps next)
+      let next = with_history w p.0 (write (by _ p.1 ∷ []) (w.histories p.0)) in
+      world_goes_further w next (after_posts ps next) (written_goes_on w p.0 (by _ p.1 ∷ [])) (posts_go_on ps next)
 
   update_goes_on : (w : WorldState) → WorldGoesOn w (after_update w)
   update_goes_on w = grind (arith, cases_Bool, world_stays)

@@ -38,7 +38,7 @@ module _ (accesses : List Access) where
 
   run_later : (x : ℕ) (is js : List ℕ) → SameRun accesses is js → SameRun accesses (x ∷ is) (x ∷ js)
   run_later x is js a s are =
-      let r = a (after_turn_of x s) (accesses_stay s (after_turn_of x s) accesses (one_turn_keeps x s) are) in
+      let r = a (after_turn_of x s) (accesses_stay _ _ _ (one_turn_keeps _ _) are) in
       (r.0, IsPermutation-cons (logged_turn s x) _ _ r.1)
 
   run_swapped : JobFootprint → (x y : ℕ) (is : List ℕ) → x < length accesses → y < length accesses → x ≢ y → ¬ Conflict (access_of accesses x) (access_of accesses y)
@@ -162,7 +162,7 @@ frames_agree foot ordered keeps one is_lawful frame s u log settled order x is_o
     let b : State = before_turns frame.posts s in
     let same : x.in_order.settled ≡ settled = one_order one b x.in_order.settled settled x.in_order.is_order is_order in
     let turns : IsTurnOrder settled (join_flags b) (systems_in log) = subst (λ g. IsTurnOrder g (join_flags b) (systems_in log)) same x.in_order.in_order in
-    let own : IsLawfulOrder settled (join_flags b) (systems_in log) = is_lawful settled (join_flags b) (systems_in log) (order_is_among b settled is_order) turns in
+    let own : IsLawfulOrder settled (join_flags b) (systems_in log) = is_lawful settled (join_flags b) (systems_in log) (order_is_among _ _ is_order) turns in
     let agree = orders_agree foot ordered keeps b is_order.accesses settled order (systems_in log) is_order.of_systems is_order.is_settled lawful own in (
       agree.0 ∙ sym x.leaves,
       ap (λ (l : Log). l.posts) (sym x.tells),

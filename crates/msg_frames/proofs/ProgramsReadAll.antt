@@ -31,7 +31,7 @@ module _ (in_order : IsInOrder) (program : Program) (writer : ℕ) (few : length
 
   job_stays : (j : Job) (w : WorldState) → IsProgram j → IsProgram (after_job j w).job
   job_stays j w is = (
-    (turn (of_program program writer is.0) w).places,
+    (turn _ _).places,
     ap (λ (k : Job). (after_job k w).job) is.1
         ∙ ap (λ (m : Meaning). record { system = m; conditions = [] }) (in_order program writer is.0 w few).1,
   )

@@ -39,13 +39,13 @@ tile-append p (x ∷ xs) q ys r a b = (a.0, tile-append (next_place x.1) xs q ys
 pub passes_further : (p : ℕ) (a : History Record) (ms : List Moment) (q : ℕ) (b : History Record) (ns : List Moment) (r : ℕ) (c : History Record)
     → Passes p a ms q b → Passes q b ns r c → Passes p a (ms ++ ns) r c
 passes_further p a ms q b ns r c x y = record {
-  goes_on = goes_further a b c x.goes_on y.goes_on;
+  goes_on = goes_further _ _ _ x.goes_on y.goes_on;
   within = y.within;
-  tile = rw (map-append tile_of ms ns) (tile-append p (map tile_of ms) q (map tile_of ns) r x.tile y.tile);
-  gives = All-append GivesItsStretch ms ns x.gives y.gives;
-  earlier = All-append (λ m. GoesOn m.history c) ms ns
-      (All-weaker (λ m. GoesOn m.history b) (λ m. GoesOn m.history c) (λ m g. goes_further m.history b c g y.goes_on) ms x.earlier) y.earlier;
-  written = All-append IsWritten ms ns x.written y.written;
+  tile = rw (map-append tile_of ms ns) (tile-append _ _ _ _ _ x.tile y.tile);
+  gives = All-append GivesItsStretch _ _ x.gives y.gives;
+  earlier = All-append (λ m. GoesOn m.history c) _ _
+      (All-weaker (λ m. GoesOn m.history b) _ (λ m g. goes_further _ _ _ g y.goes_on) _ x.earlier) y.earlier;
+  written = All-append IsWritten _ _ x.written y.written;
 }
 
 -- nothing is gone past
@@ -71,9 +71,9 @@ module _ (laws : BufferLaws) where
   read_passes h b place limit sound within goes =
       let law = laws.reads h place limit sound in
       let long : length (map message_of (given h place limit)) ≡ length (given h place limit) = length-map (given h place limit) message_of in
-      let place_same : next_place (entry_of_read (took h place limit)).stretch ≡ next_place (read h place limit) = ap (λ n. (read h place limit).first + n) long in
+      let place_same : next_place (entry_of_read (took h place limit)).stretch ≡ next_place (read h place _) = ap (λ n. (read h place limit).first + n) long in
       subst (λ n. Passes place h (record { history = h; entry = entry_of_read (took h place limit) } ∷ []) n b) place_same
-      (passes_one place h (entry_of_read (took h place limit)) b
+      (passes_one _ _ _ _
       (subst (λ n. Fits h place (record { missed = (read h place limit).missed; first = (read h place limit).first; number = n })) (sym long) law.0)
       (subst (λ n. n ≤ count h) (sym place_same) (law.2 within))
       (subst (λ n. map message_of (given h place limit) ≡ map message_of (take n (drop (read h place limit).first (instances h)))) (sym long) (ap (map message_of) law.1))
@@ -88,7 +88,7 @@ module _ (laws : BufferLaws) where
       let law = laws.clears h place sound in
       let to : next_place (pass_over h place) ≡ count h = law.1 within in
       subst (λ n. Passes place h (record { history = h; entry = cleared_entry h place } ∷ []) n b) to
-      (passes_one place h (cleared_entry h place) b law.0 (omega arith) tt goes)
+      (passes_one _ _ _ _ law.0 (omega arith) tt goes)
 
   -- an op that reads type u
   of_type : (u t : ℕ) (w : WorldState) (v : History Record) (ps : ℕ → ℕ) (e : Entry) (q : ℕ) → ps t ≤ count (w.histories t) → GoesOn (w.histories t) v
@@ -97,7 +97,7 @@ module _ (laws : BufferLaws) where
   of_type u t w v ps e q within goes passes = elim (cases_eq u t) [
     | inl same ↦ rw (eq-eqb u t same, eq-eqb t u (sym same))
         (subst (λ x. Passes (ps x) (w.histories x) (record { history = w.histories x; entry = e } ∷ []) q v) same (passes same))
-    | inr other ↦ rw (ne_eqb u t other, ne_eqb t u (λ x. other (sym x))) (passes_nothing (ps t) (w.histories t) v within goes)
+    | inr other ↦ rw (ne_eqb u t other, ne_eqb t u (λ x. other (sym x))) (passes_nothing _ _ _ within goes)
   ]
 
   of_read : (u t : ℕ) (w : WorldState) (v : History Record) (ps : ℕ → ℕ) (limit : Option ℕ) → IsSound (w.histories t) → ps t ≤ count (w.histories t) → GoesOn (w.histories t) v

@@ -6,6 +6,7 @@ use Rattle.msg_buffer.specs.Prelude.{IsSound, count}
 use Rattle.msg_system.specs.declared.reply.Reply.{Reply}
 use Rattle.msg_system.specs.Prelude.{Needs, Rule}
 use Rattle.msg_frames.specs.Prelude.{Entry, Member, Moment, SameSystems, State, Turn, after_turn_of, after_turns_of, answers, entries_for, entries_told, job_moments, logged_turn, ops_by, place_of, turn_of, turns_moments, with_entries}
+use Rattle.msg_order.proofs.Elements.{Contains-tail}
 use Rattle.msg_frames.proofs.HistoriesGrow.{BufferLaws, job_goes_on, stays}
 use Rattle.msg_frames.proofs.SystemsStay.{one_turn_keeps}
 use Rattle.msg_frames.proofs.ReaderOverJob.{Passes, job_logged, job_passes, job_rule, passes_further, passes_nothing}
@@ -75,8 +76,7 @@ pub entries_told-append : (t : ℕ) (n : Needs) (rule : Rule) (xs ys : List (Lis
 entries_told-append t n rule [] ys = refl
 entries_told-append t n rule (x ∷ xs) ys =
     let here : List Entry = entries_for t (ops_by n rule x) x in
-    ap (λ es. here ++ es) (entries_told-append t n (λ later now. rule (x ∷ later) now) xs ys)
-    ∙ sym (append_assoc here (entries_told t n (λ later now. rule (x ∷ later) now) xs) (entries_told t n (after_told (x ∷ xs) rule) ys))
+    ap (λ es. here ++ es) (entries_told-append t n _ xs ys) ∙ sym (append_assoc here _ _)
 
 -- what was told one turn after the other
 after_both : (rule : Rule) (xs ys : List (List Reply)) → after_told ys (after_told xs rule) ≡ after_told (xs ++ ys) rule
@@ -125,21 +125,15 @@ turns_tell i t (j ∷ js) s =
     (answers_among i (after_turns_of js u).turns) (turns_moments i t js u) (after_turns_of js u).state (turn_tells i t j s) (turns_tell i t js u)
 
 -- one whose turn doesn't come
-in_rest : (i j : ℕ) (js : List ℕ) → Contains js i → Contains (j ∷ js) i
-in_rest i j js at = (suc at.0, omega (arith, at.1), at.2)
-
-at_front : (i j : ℕ) (js : List ℕ) → j ≡ i → Contains (j ∷ js) i
-at_front i j js e = (0, omega arith, e)
-
 pub turns_skip : (i : ℕ) (js : List ℕ) (s : State) → ¬ Contains js i → (after_turns_of js s).state.members i ≡ s.members i
 turns_skip i [] s out = refl
 turns_skip i (j ∷ js) s out =
-    turns_skip i js (after_turn_of j s) (λ at. out (in_rest i j js at))
-    ∙ one_member (λ m. m ≡ s.members i) j i s (λ e. absurd (out (at_front i j js (sym e)))) (λ ne. refl)
+    turns_skip i js (after_turn_of j s) (λ at. out (Contains-tail j js i at))
+    ∙ one_member (λ m. m ≡ s.members i) j i s (λ e. absurd (out (0, omega arith, sym e))) (λ ne. refl)
 
 pub no_moments : (i t : ℕ) (js : List ℕ) (s : State) → ¬ Contains js i → turns_moments i t js s ≡ []
 no_moments i t [] s out = refl
 no_moments i t (j ∷ js) s out = elim (cases_eq j i) [
-  | inl e ↦ absurd (out (at_front i j js e))
-  | inr ne ↦ rw (ne_eqb j i ne) (no_moments i t js (after_turn_of j s) (λ at. out (in_rest i j js at)))
+  | inl e ↦ absurd (out (0, omega arith, e))
+  | inr ne ↦ rw (ne_eqb j i ne) (no_moments i t js (after_turn_of j s) (λ at. out (Contains-tail j js i at)))
 ]

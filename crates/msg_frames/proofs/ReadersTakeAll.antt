@@ -14,15 +14,11 @@ use Rattle.msg_system.specs.Prelude.{AfterProgram, Job, Meaning, after_at_most, 
 use Rattle.msg_system.proofs.Turns.{ops_answered-snoc}
 use Rattle.msg_frames.specs.Prelude.{Moment, Skipped, State, after_turn_of, after_turns_of, first_moments, logged_turn, next_moments, outcome_of, place_of, reads_all}
 use Rattle.msg_frames.proofs.HistoriesGrow.{BufferLaws, counts_more}
+use Rattle.msg_frames.proofs.OneFateEach.{tiles_rise}
 use Rattle.msg_frames.proofs.ReaderOverJob.{Passes, first_passes, next_passes, tile_of}
 use Rattle.msg_frames.proofs.ReaderOverTurns.{one_member, turn_reads}
 
 -- ---- a turn that reads all
-
--- a tile only goes on
-pub goes_no_lower : (place : ℕ) (ms : List Moment) (to : ℕ) → Tile place (map tile_of ms) to → place ≤ to
-goes_no_lower place [] to tile = omega (arith, tile)
-goes_no_lower place (m ∷ ms) to tile = grind (arith, goes_no_lower (next_place m.entry.stretch) ms to tile.1)
 
 module _ (laws : BufferLaws) (t : ℕ) where
   takes : (u : ℕ) (ps : ℕ → ℕ) (w : WorldState) → IsSound (w.histories t) → ps t ≤ count (w.histories t) → IsTrue (u == t)
@@ -50,7 +46,7 @@ module _ (laws : BufferLaws) (t : ℕ) where
       elim (or_cases (list_any (reads_all t) ops) (reads_all t op || false) either) [
         | inl old ↦
             let was = so old in
-            let further = goes_no_lower (far.places t) (next_moments t (Some op) m.writer far) ((one_more (Some op) m.writer far).places t)
+            let further = tiles_rise (far.places t) (next_moments t (Some op) m.writer far) ((one_more (Some op) m.writer far).places t)
             (next_passes laws t (Some op) m.writer far sound within).tile in
             omega arith
         | inr new ↦ elim (or_cases (reads_all t op) false new) [

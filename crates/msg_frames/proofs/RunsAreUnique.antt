@@ -33,7 +33,7 @@ module _ (s : State) (a b : List Access) (are : AreAccessesOf s a) (are' : AreAc
       record {
         first_joined = h.first_joined;
         second_joined = h.second_joined;
-        conflict = conflict_stays _ _ _ _ (same_writes i li) (same_uses i li) (same_writes j lj) (same_uses j lj) h.conflict;
+        conflict = conflict_stays _ _ _ _ (same_writes _ li) (same_uses _ li) (same_writes _ lj) (same_uses _ lj) h.conflict;
       }
 
 -- ---- settled orders
@@ -41,8 +41,8 @@ module _ (s : State) (a b : List Access) (are : AreAccessesOf s a) (are' : AreAc
 settles_by : (C D : ℕ → ℕ → Type 0) → ((i j : ℕ) → C i j → D i j) → ((i j : ℕ) → D i j → C i j) → (ps : List (ℕ × ℕ)) (g h : Graph) → Settles C g ps h → Settles D g ps h
 settles_by C D to from [] g h e = e
 settles_by C D to from (p ∷ ps) g h x = elim x [
-  | inl gains ↦ inl ((to p.0 p.1 gains.0.0, gains.0.1), settles_by C D to from ps (p ∷ g) h gains.1)
-  | inr stays ↦ inr (λ d. stays.0 (from p.0 p.1 d.0, d.1), settles_by C D to from ps g h stays.1)
+  | inl gains ↦ inl ((to p.0 _ gains.0.0, gains.0.1), settles_by C D to from ps (p ∷ g) _ gains.1)
+  | inr stays ↦ inr (λ d. stays.0 (from p.0 _ d.0, d.1), settles_by C D to from ps g _ stays.1)
 ]
 
 settled_by_other : (s : State) (a b : List Access) → AreAccessesOf s a → AreAccessesOf s b → (g : Graph) → IsSettledOrder a s.rules (join_flags s) g → IsSettledOrder b s.rules (join_flags s) g
@@ -59,11 +59,11 @@ rules_are_among who rules i j e = grind (arith, All-contains, and_parts, filter_
 settles_among : (accesses : List Access) (who : List Bool) (ps : List (ℕ × ℕ)) (g h : Graph) → IsAmong who g → Settles (AreInConflict accesses who) g ps h → IsAmong who h
 settles_among accesses who [] g h among e = subst (IsAmong who) e among
 settles_among accesses who (p ∷ ps) g h among x = elim x [
-  | inl gains ↦ settles_among accesses who ps (p ∷ g) h (λ i j e. elim (Contains-cases p g (i, j) e) [
+  | inl gains ↦ settles_among _ who ps (p ∷ g) h (λ i j e. elim (Contains-cases _ _ _ e) [
     | inl is ↦ subst (λ (q : ℕ × ℕ). IsTrue (has_joined who q.0) × IsTrue (has_joined who q.1)) is (gains.0.0.first_joined, gains.0.0.second_joined)
-    | inr old ↦ among i j old
+    | inr old ↦ among _ _ old
   ]) gains.1
-  | inr stays ↦ settles_among accesses who ps g h among stays.1
+  | inr stays ↦ settles_among _ who ps g h among stays.1
 ]
 
 -- ---- frames and runs
@@ -82,7 +82,7 @@ module _ (one : SettledOrderIsUnique) (turns : TurnOrderIsUnique) where
 
   pub one_frame : FramesAreUnique
   one_frame frame s u v log other x y =
-      let order : systems_in log ≡ systems_in other = one_turn_order (before_turns frame.posts s) (systems_in log) (systems_in other) x.in_order y.in_order in (
+      let order : systems_in log ≡ systems_in other = one_turn_order _ _ _ x.in_order y.in_order in (
         x.tells ∙ ap (λ xs. (frame_in xs frame s).log) order ∙ sym y.tells,
         x.leaves ∙ ap (λ xs. (frame_in xs frame s).state) order ∙ sym y.leaves,
       )

@@ -84,8 +84,8 @@ module _ (k p t : ℕ) where
   first_recent (suc n) m w recent =
       let far : AfterProgram = after_at_most n (next_op m) m.writer m.places w in
       let so_far = first_recent n m w recent in
-      let next = next_recent (next_op m far.replies) m.writer far so_far.0 in
-      (next.0, All-append (λ m. AreRecent k p m.history) (first_moments t n m w) (next_moments t (next_op m far.replies) m.writer far) so_far.1 next.1)
+      let next = next_recent _ _ _ so_far.0 in
+      (next.0, All-append (λ m. AreRecent k p m.history) _ _ so_far.1 next.1)
 
   turn_recent : (m : Meaning) (w : WorldState) → InWorld w → InWorld (turn m w).state × AtMoments (turn_moments t m w)
   unfolding turn turn_moments
@@ -93,7 +93,7 @@ module _ (k p t : ℕ) where
 
   job_recent : (j : Job) (w : WorldState) → InWorld w → InWorld (after_job j w).state × AtMoments (job_moments t j w)
   job_recent j w recent = elim (cases_Bool (all_hold j.conditions w)) [
-    | inl e ↦ rw e (turn_recent j.system w recent)
+    | inl e ↦ rw e (turn_recent _ _ recent)
     | inr e ↦ rw e (recent, All-nil (λ m. AreRecent k p m.history))
   ]
 
@@ -101,12 +101,12 @@ module _ (k p t : ℕ) where
   turns_recent i [] s recent = (recent, All-nil (λ m. AreRecent k p m.history))
   turns_recent i (j ∷ js) s recent =
       let here = job_recent (s.members j).job s.world recent in
-      let rest = turns_recent i js (after_turn_of j s) here.0 in
+      let rest = turns_recent i js _ here.0 in
       let own : AtMoments (cond (j == i) (job_moments t (s.members i).job s.world) []) = elim (cases_eq j i) [
         | inl e ↦ rw (eq-eqb j i e) (job_recent (s.members i).job s.world recent).1
         | inr ne ↦ rw (ne_eqb j i ne) (All-nil (λ m. AreRecent k p m.history))
       ] in
-      (rest.0, All-append (λ m. AreRecent k p m.history) (cond (j == i) (job_moments t (s.members i).job s.world) []) (turns_moments i t js (after_turn_of j s)) own rest.1)
+      (rest.0, All-append (λ m. AreRecent k p m.history) _ _ own rest.1)
 
 -- ---- the update before them
 

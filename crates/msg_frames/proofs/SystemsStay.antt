@@ -66,8 +66,8 @@ joining_on_keeps k s = grind (arith, begun_keeps, cases_Bool, same_member)
 
 pub joining_keeps : (s : State) → SameSystems s (joining s)
 joining_keeps s = elim (cases_Bool (s.frames == 0)) [
-  | inl e ↦ rw e (same_systems s)
-  | inr e ↦ rw e (joining_on_keeps (suc s.frames) s)
+  | inl e ↦ rw e (same_systems _)
+  | inr e ↦ rw e (joining_on_keeps _ _)
 ]
 
 pub joining_makes_no_frame : (s : State) → (joining s).frames ≡ s.frames
@@ -80,8 +80,7 @@ pub before_keeps : (posts : List (ℕ × ℤ)) (s : State) → SameSystems s (be
 before_keeps posts s = grind (arith, joining_keeps)
 
 pub frame_keeps : (order : List ℕ) (frame : Frame) (s : State) → SameSystems s (frame_in order frame s).state
-frame_keeps order frame s = systems_along s (before_turns frame.posts s) (frame_in order frame s).state
-    (before_keeps frame.posts s) (turns_keep_systems order (before_turns frame.posts s))
+frame_keeps order frame s = systems_along _ _ _ (before_keeps frame.posts s) (turns_keep_systems order _)
 
 pub frame_counts : (order : List ℕ) (frame : Frame) (s : State) → (frame_in order frame s).state.frames ≡ suc s.frames
 frame_counts order frame s = turns_make_no_frame order (before_turns frame.posts s) ∙ ap suc (joining_makes_no_frame s)

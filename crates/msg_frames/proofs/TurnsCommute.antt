@@ -49,12 +49,12 @@ module _ {X : Type 0} {Y : Type 0} {Z : Type 0} {W : Type 0} where
       → HasFootprint m world given f → HasFootprint n world' given' g → Apart m n → (w : WorldState) → world' (g (world (f w))) ≡ world (f (world' (g w)))
   worlds_commute m n world given f world' given' g ff gg free w = same_world _ _ (λ p. elim (cases_Bool (m.writes p)) [
     | inl e ↦
-        let used : IsTrue (needs_any m p) = or_right (m.reads p) (m.writes p) e in
+        let used : IsTrue (needs_any m p) = or_right _ _ e in
         gg.kept (world (f w)) p (free.right p used)
         ∙ sym (ff.alike (needs_any m) (world' (g w)) w (λ q u. u) (λ q u. gg.kept w q (free.right q u)) p used)
     | inr e ↦ elim (cases_Bool (n.writes p)) [
       | inl e' ↦
-          let used : IsTrue (needs_any n p) = or_right (n.reads p) (n.writes p) e' in
+          let used : IsTrue (needs_any n p) = or_right _ _ e' in
           gg.alike (needs_any n) (world (f w)) w (λ q u. u) (λ q u. ff.kept w q (free.left q u)) p used
           ∙ sym (ff.kept (world' (g w)) p (free.left p used))
       | inr e' ↦ gg.kept (world (f w)) p e' ∙ ff.kept w p e ∙ sym (ff.kept (world' (g w)) p e ∙ gg.kept w p e')
