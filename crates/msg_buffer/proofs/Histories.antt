@@ -59,15 +59,12 @@ module _ {M : Type 0} where
   pub kept_after_update : (h : History M) (n low : ℕ) (es : List (Entry M)) → HasRisingStamps low es h.updates
       → kept (is_present (update h)) n es ≡ kept (is_current h) n es
   kept_after_update h n low [] rise = refl
-  kept_after_update h n low (e ∷ es) rise =
-      kept_alike (is_present (update h)) (is_current h) n e es
-      (present_after_update h n e (stamps_below e.stamp h.updates es rise.1)) (kept_after_update h (n + 1) e.stamp es rise.1)
+  kept_after_update h n low (e ∷ es) rise = grind (arith, kept_alike, present_after_update, stamps_below, kept_after_update h (n + 1) e.stamp es rise.1)
 
   pub none_current_after_update : (h : History M) (n low : ℕ) (es : List (Entry M)) → HasRisingStamps low es h.updates
       → kept (is_current (update h)) n es ≡ []
   none_current_after_update h n low [] rise = refl
-  none_current_after_update h n low (e ∷ es) rise =
-      grind (arith, nat_tests, none_current_after_update h (n + 1) e.stamp es rise.1, stamps_below e.stamp h.updates es rise.1)
+  none_current_after_update h n low (e ∷ es) rise = grind (arith, nat_tests, stamps_below, none_current_after_update h (n + 1) e.stamp es rise.1)
 
   -- ---- a write
 
@@ -103,9 +100,7 @@ module _ {M : Type 0} where
   pub all_present : (h : History M) (n low : ℕ) (es : List (Entry M)) → h.floor ≤ n → h.updates ≤ low + 1 → HasRisingStamps low es h.updates
       → (kept (is_present h) n es ≡ map instance_of (enumerate_from n es)) × (dropped (is_present h) n es ≡ 0)
   all_present h n low [] above young rise = (refl, refl)
-  all_present h n low (e ∷ es) above young rise =
-      let rest = all_present h (n + 1) e.stamp es (omega arith) (omega arith) rise.1 in
-      (grind (arith, nat_tests, rest.0), grind (arith, nat_tests, rest.1))
+  all_present h n low (e ∷ es) above young rise = grind (arith, nat_tests, all_present h (n + 1) e.stamp es (omega arith) (omega arith) rise.1)
 
   pub present_means : (h : History M) (n : ℕ) (e : Entry M) → is_present h (n, e) ≡ true → (h.floor ≤ n) × (h.updates ≤ e.stamp + 1)
   present_means h n e is = (grind (arith, nat_tests), grind (arith, nat_tests))
@@ -113,14 +108,10 @@ module _ {M : Type 0} where
   suffix_step : (h : History M) (n : ℕ) (e : Entry M) (es : List (Entry M)) (b : Bool) → HasRisingStamps e.stamp es h.updates → is_present h (n, e) ≡ b
       → drop (dropped (is_present h) (n + 1) es) (map instance_of (enumerate_from (n + 1) es)) ≡ kept (is_present h) (n + 1) es
       → drop (dropped (is_present h) n (e ∷ es)) (map instance_of (enumerate_from n (e ∷ es))) ≡ kept (is_present h) n (e ∷ es)
-  suffix_step h n e es true rise is later =
-      let means = present_means h n e is in
-      let all = all_present h (n + 1) e.stamp es (omega (arith, means.0)) means.1 rise in
-      rw (is, all.1, all.0) refl
+  suffix_step h n e es true rise is later = grind (arith, all_present, present_means)
   suffix_step h n e es false rise is later = rw is later
 
   pub present_is_suffix : (h : History M) (n low : ℕ) (es : List (Entry M)) → HasRisingStamps low es h.updates
       → drop (dropped (is_present h) n es) (map instance_of (enumerate_from n es)) ≡ kept (is_present h) n es
   present_is_suffix h n low [] rise = refl
-  present_is_suffix h n low (e ∷ es) rise =
-      suffix_step h n e es (is_present h (n, e)) rise.1 refl (present_is_suffix h (n + 1) e.stamp es rise.1)
+  present_is_suffix h n low (e ∷ es) rise = grind (arith, suffix_step, present_is_suffix h (n + 1) e.stamp es rise.1)

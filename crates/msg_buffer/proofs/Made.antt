@@ -12,9 +12,7 @@ module _ {X M : Type 0} (R : X → M → Type 0) where
   one_more (y ∷ xs) [] zero x m within at made is = (subst (λ z. R z m) at is, tt)
   one_more (y ∷ xs) (n ∷ ms) zero x m within at made is = absurd made
   one_more (y ∷ xs) [] (suc i) x m within at made is = absurd made
-  one_more (y ∷ xs) (n ∷ ms) (suc i) x m within at made is =
-      let next : suc i + 1 ≡ suc (i + 1) = omega arith in
-      rw next (made.0, one_more xs ms i x m (omega arith) at made.1 is)
+  one_more (y ∷ xs) (n ∷ ms) (suc i) x m within at made is = grind (arith, one_more xs ms i x m (omega arith) at made.1 is)
 
   pub as_many : (xs : List X) (ms : List M) → AllZip R xs ms → length ms ≡ length xs
   as_many [] [] made = refl
@@ -26,5 +24,4 @@ module _ {X M : Type 0} (R : X → M → Type 0) where
 pub one_appended : {M : Type 0} (old xs : List (Instance M)) (first next : ℕ) (ms : List M) (m : M)
     → xs ≡ old ++ numbered first ms → next ≡ first + length ms
     → xs ++ record { id = record { 0 = next }; message = m } ∷ [] ≡ old ++ numbered first (ms ++ m ∷ [])
-one_appended old xs first next ms m is at =
-    rw (is, numbered-append first ms (m ∷ []), ← at) (append_assoc old (numbered first ms) _)
+one_appended old xs first next ms m is at = grind (arith, append_assoc, numbered-append)

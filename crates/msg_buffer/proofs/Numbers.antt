@@ -1,5 +1,5 @@
 -- Lists whose elements have consecutive numbers.
-use Rattle.std.proofs.Common.{◌≡◌, ℕ, suc, zero, ◌+◌, List, [], ◌∷◌, ◌++◌, length, map, drop, refl, ap, arith, ◌∙◌}
+use Rattle.std.proofs.Common.{◌≡◌, ℕ, suc, zero, ◌+◌, List, [], ◌∷◌, ◌++◌, length, map, drop, refl, ap, arith}
 use Rattle.std.specs.Prelude.{slice_get}
 use Rattle.std.specs.List.{enumerate_from}
 use Rattle.std.proofs.lemmas.List.{length-map, map-append}
@@ -25,10 +25,7 @@ module _ {M : Type 0} where
 
   -- more messages, numbered on
   pub numbers-append : (n k : ℕ) (xs : List (Instance M)) (ms : List M) → HasNumbersFrom n xs → k ≡ n + length xs → HasNumbersFrom n (xs ++ numbered k ms)
-  numbers-append n k xs ms has at =
-      let long = length-map xs message_of in
-      let seam : k ≡ n + length (map message_of xs) = omega arith in
-      rw (map-append message_of xs (numbered k ms), messages-numbered k ms, numbered-append n (map message_of xs) ms, ← seam, ← has) refl
+  numbers-append n k xs ms has at = grind (arith, length-map, map-append, messages-numbered, numbered-append)
 
   -- a history's instances are its messages, numbered
   pub instances-numbered : (n : ℕ) (es : List (Entry M)) → map instance_of (enumerate_from n es) ≡ numbered n (map (λ e. e.message) es)
@@ -36,5 +33,4 @@ module _ {M : Type 0} where
   instances-numbered n (e ∷ es) = ap (λ xs. record { id = record { 0 = n }; message = e.message } ∷ xs) (instances-numbered (n + 1) es)
 
   pub length-instances : (h : History M) → length (instances h) ≡ count h
-  length-instances h =
-      ap length (instances-numbered 0 h.entries) ∙ length-numbered 0 (map (λ e. e.message) h.entries) ∙ length-map h.entries (λ e. e.message)
+  length-instances h = grind (arith, instances-numbered, length-map, length-numbered)

@@ -1,6 +1,6 @@
 -- Which entries are present: those from the oldest on.
-use Rattle.std.proofs.Common.{◌≡◌, ℕ, zero, suc, ◌+◌, ◌-◌, ◌<◌, ◌≤◌, true, false, List, [], ◌∷◌, map, drop, refl, sym, ◌∙◌, arith, inl, inr, Option, Some, None}
-use Rattle.std.specs.Prelude.{slice_get, option_map, nat_le}
+use Rattle.std.proofs.Common.{◌≡◌, ℕ, zero, suc, ◌+◌, ◌<◌, ◌≤◌, true, false, List, [], ◌∷◌, map, drop, refl, sym, ◌∙◌, arith, inl, inr, Option, Some}
+use Rattle.std.specs.Prelude.{slice_get, option_map}
 use Rattle.std.specs.List.{enumerate_from}
 use Rattle.std.proofs.lemmas.Bool.{cases_Bool, false≢true}
 use Rattle.std.proofs.lemmas.Bool.Decides.{nat_tests}
@@ -19,10 +19,7 @@ module _ {M : Type 0} where
   dropped_are_gone : (h : History M) (n low : ℕ) (es : List (Entry M)) (k : ℕ) (e : Entry M) → HasRisingStamps low es h.updates
       → k < dropped (is_present h) n es → slice_get es k ≡ Some e → is_present h (n + k, e) ≡ false
   dropped_are_gone h n low [] k e rise below at = absurd (omega arith)
-  dropped_are_gone h n low (d ∷ es) zero e rise below at = elim (cases_Bool (is_present h (n, d))) [
-    | inl is ↦ let none : dropped (is_present h) n (d ∷ es) ≡ 0 = none_dropped h n d es is rise.1 in absurd (omega arith)
-    | inr is ↦ rw (← same_Some d e at) (let same : n + 0 ≡ n = omega arith in rw same is)
-  ]
+  dropped_are_gone h n low (d ∷ es) zero e rise below at = grind (arith, cases_Bool, none_dropped, same_Some)
   dropped_are_gone h n low (d ∷ es) (suc k) e rise below at = elim (cases_Bool (is_present h (n, d))) [
     | inl is ↦ let none : dropped (is_present h) n (d ∷ es) ≡ 0 = none_dropped h n d es is rise.1 in absurd (omega arith)
     | inr is ↦
@@ -34,10 +31,7 @@ module _ {M : Type 0} where
   others_are_present : (h : History M) (n low : ℕ) (es : List (Entry M)) (k : ℕ) (e : Entry M) → HasRisingStamps low es h.updates
       → dropped (is_present h) n es ≤ k → slice_get es k ≡ Some e → is_present h (n + k, e) ≡ true
   others_are_present h n low [] k e rise above at = absurd (cc)
-  others_are_present h n low (d ∷ es) zero e rise above at = elim (cases_Bool (is_present h (n, d))) [
-    | inl is ↦ rw (← same_Some d e at) (let same : n + 0 ≡ n = omega arith in rw same is)
-    | inr is ↦ let here : dropped (is_present h) n (d ∷ es) ≡ suc (dropped (is_present h) (n + 1) es) = rw is refl in absurd (omega arith)
-  ]
+  others_are_present h n low (d ∷ es) zero e rise above at = grind (arith, cases_Bool, same_Some)
   others_are_present h n low (d ∷ es) (suc k) e rise above at =
       let same : n + suc k ≡ n + 1 + k = omega arith in
       elim (cases_Bool (is_present h (n, d))) [
@@ -82,25 +76,7 @@ module _ {M : Type 0} where
 
   found_in_history : (h : History M) (n : ℕ) (e : Option (Entry M)) → slice_get h.entries n ≡ e → IsSound h
       → option_map message_of (get_from (oldest h) (drop (oldest h) (instances h)) n) ≡ get h n
-  found_in_history h n e is sound = elim (cases_Bool (nat_le (oldest h) n)) [
-    | inl above ↦
-        let le : oldest h ≤ n = grind (arith, nat_tests) in
-        let at : oldest h + (n - oldest h) ≡ n = omega arith in
-        let same : 0 + n ≡ n = omega arith in
-        rw (above, slice_get-drop (oldest h) (instances h) (n - oldest h), at, slice_get-instances 0 h.entries n, same) (by_entry e is le)
-    | inr below ↦
-        let lt : n < oldest h = grind (arith, nat_tests) in
-        rw below (sym (gone e is lt))
-  ]
-    where
-      by_entry : (e : Option (Entry M)) → slice_get h.entries n ≡ e → oldest h ≤ n
-          → option_map message_of (option_map (λ x. instance_of (n, x)) (slice_get h.entries n)) ≡ get h n
-      by_entry None at le = rw at refl
-      by_entry (Some x) at le = rw at (rw (present_from_oldest h n x sound le at) refl)
-
-      gone : (e : Option (Entry M)) → slice_get h.entries n ≡ e → n < oldest h → get h n ≡ None
-      gone None at lt = rw at refl
-      gone (Some x) at lt = rw at (rw (gone_below_oldest h n x sound lt at) refl)
+  found_in_history h n e is sound = grind (arith, cases_Bool, gone_below_oldest, nat_tests, present_from_oldest, slice_get-drop, slice_get-instances)
 
   pub get_stands : (k : Kept M) (h : History M) (n : ℕ) → StandsFor k h → option_map message_of (get_from k.oldest (kept_instances k) n) ≡ get h n
   get_stands k h n s = rw (s.oldest, kept_stands k h s) (found_in_history h n (slice_get h.entries n) refl s.sound)

@@ -44,9 +44,7 @@ module _ {M : Type 0} where
   reads_up_to h place = (refl, λ limit. length-take limit (unread h place))
 
   pub clears_fit : ClearsFit M
-  clears_fit h place sound =
-      let long = length-unread h place in let old = oldest_at_most h in
-      (fits h place (length (unread h place)) sound (omega arith), λ within. omega arith)
+  clears_fit h place sound = grind (arith, fits, length-unread, oldest_at_most)
 
   one_fits : (h : History M) (place : ℕ) (pass : Pass) → IsSound h → Fits h place (stretch_of h place pass)
   one_fits h place (reads limit) sound = (reads_fit h place limit sound).0

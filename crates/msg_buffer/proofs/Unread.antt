@@ -1,5 +1,5 @@
 -- What is unread, in what a buffer keeps and in the history that it stands for.
-use Rattle.std.proofs.Common.{◌≡◌, ℕ, ◌+◌, ◌-◌, ◌≤◌, max, List, [], ◌∷◌, length, drop, sym, ap, ◌∙◌, arith, inl, inr, Some, None}
+use Rattle.std.proofs.Common.{◌≡◌, ℕ, ◌+◌, ◌-◌, ◌≤◌, max, List, [], ◌∷◌, length, drop, ap, ◌∙◌, arith, Some, None}
 use Rattle.std.specs.Prelude.{slice_get}
 use Rattle.std.proofs.lemmas.Option.{slice_get_within, slice_get_cases, get_or_from_slice_get, none-some}
 use Rattle.std.proofs.lemmas.List.{drop_more, drop_all, drop-drop, length-drop}
@@ -19,12 +19,7 @@ rest_more start xs n x is =
     drop_more xs (n - start) x within ∙ ap (λ y. y ∷ drop (n - start + 1) xs) value ∙ ap (λ i. x ∷ drop i xs) later
 
 pub rest_ends : {X : Type 0} (start : ℕ) (xs : List X) (n : ℕ) → start ≤ n → get_from start xs n ≡ None → drop (n - start) xs ≡ []
-rest_ends start xs n above is =
-    let at : slice_get xs (n - start) ≡ None = grind (arith, nat_tests) in
-    elim (slice_get_cases xs (n - start)).1 [
-      | inl found ↦ absurd (none-some found.0 (sym at ∙ found.2))
-      | inr past ↦ drop_all (n - start) xs past.0
-    ]
+rest_ends start xs n above is = grind (arith, drop_all, nat_tests, none-some, slice_get_cases)
 
 module _ {M : Type 0} where
   pub unread_stands : (k : Kept M) (h : History M) (place : ℕ) → StandsFor k h → drop (max place k.oldest - k.oldest) (kept_instances k) ≡ unread h place

@@ -1,12 +1,12 @@
 -- What comes before the turns of a frame: systems join, types are updated, posts are written.
-use Rattle.std.proofs.Common.{◌≡◌, ℕ, suc, ◌≤◌, ◌<◌, ℤ, max, List, Bool, true, false, not, ◌&&◌, cond, refl, sym, ap, subst, ◌∙◌, arith, inl, inr, ◌==◌, slice_get, unwrap_or}
+use Rattle.std.proofs.Common.{◌≡◌, ℕ, suc, ◌≤◌, ◌<◌, ℤ, max, List, Bool, true, false, not, ◌&&◌, cond, refl, sym, ap, subst, ◌∙◌, arith, ◌==◌}
 use Rattle.std.specs.Prelude.{IsTrue, IsFalse, nat_le}
 use Rattle.std.proofs.lemmas.Bool.{cases_eq, eq-eqb, ne_eqb, cases_Bool, leb-true, leb-false, le-leb, lt-leb, and_from, and_left, and_right, not_from_true, not_from_false}
 use Rattle.std.proofs.lemmas.Option.{unwrap_or-slice_get}
 use Rattle.std.proofs.lemmas.List.FromFn.{get_or-map-range_with_len}
 use Rattle.msg_buffer.specs.Prelude.{OnlyGrows, count}
 use Rattle.msg_world.specs.declared.record.Record.{Record}
-use Rattle.msg_world.specs.Prelude.{OfType, after_update}
+use Rattle.msg_world.specs.Prelude.{after_update}
 use Rattle.msg_system.specs.declared.start.Start.{Start}
 use Rattle.msg_system.specs.declared.start.Start.TheVariants.{Zero, Current}
 use Rattle.msg_system.specs.Prelude.{start_place}
@@ -54,34 +54,7 @@ begun_by : (posts : List (ℕ × ℤ)) (s : State) (i : ℕ) (m : Member) (b : B
 begun_by posts s i m b is by_join = ap (λ (x : Member). nat_le x.join (max 1 (suc s.frames))) is ∙ by_join
 
 arrival : (posts : List (ℕ × ℤ)) (s : State) (i : ℕ) → Arrival s (ready posts s) i
-arrival posts s i =
-    let join : ℕ = (s.members i).join in
-    elim (cases_Bool (has_begun s i)) [
-      | inl e ↦
-          let le : join ≤ max 1 s.frames = leb-true join (max 1 s.frames) e in
-          let same : arrived s i ≡ s.members i = quiet (not_yet le) in
-          stood e (begun_by posts s i (s.members i) true same (le-leb join (max 1 (suc s.frames)) (omega arith))) same
-      | inr e ↦
-          let lt : max 1 s.frames < join = leb-false join (max 1 s.frames) e in
-          elim (cases_eq join (suc s.frames)) [
-            | inl now ↦
-                let comes_now : arrives s i ≡ true = and_from (not (s.frames == 0)) (join == suc s.frames) (not_from_false (s.frames == 0) (ne_eqb s.frames 0 (λ z. omega arith))) (eq-eqb join (suc s.frames) now) in
-                let is : arrived s i ≡ joined_member (counts s) (s.members i) = rw comes_now refl in
-                comes e (begun_by posts s i (joined_member (counts s) (s.members i)) true is (le-leb join (max 1 (suc s.frames)) (omega arith))) is
-            | inr other ↦
-                let same : arrived s i ≡ s.members i = quiet (and_right (not (s.frames == 0)) (join == suc s.frames) (ne_eqb join (suc s.frames) other)) in
-                waits e (begun_by posts s i (s.members i) false same (lt-leb join (max 1 (suc s.frames)) (omega arith))) same
-          ]
-    ]
-  where
-    quiet : arrives s i ≡ false → arrived s i ≡ s.members i
-    quiet e = rw e refl
-
-    not_yet : (s.members i).join ≤ max 1 s.frames → arrives s i ≡ false
-    not_yet le = elim (cases_eq s.frames 0) [
-      | inl e ↦ and_left (not (s.frames == 0)) ((s.members i).join == suc s.frames) (not_from_true (s.frames == 0) (eq-eqb s.frames 0 e))
-      | inr ne ↦ and_right (not (s.frames == 0)) ((s.members i).join == suc s.frames) (ne_eqb (s.members i).join (suc s.frames) (λ z. omega arith))
-    ]
+arrival posts s i = grind (arith, and_from, and_left, and_right, begun_by, cases_Bool, cases_eq, eq-eqb, le-leb, leb-false, leb-true, lt-leb, ne_eqb, not_from_false, not_from_true)
 
 pub prepares : OnlyGrows Record → (posts : List (ℕ × ℤ)) (s : State) → Prepares s (before_turns posts s)
 prepares grow posts s = record {
@@ -94,24 +67,13 @@ prepares grow posts s = record {
 
 start_within : (start : Start) (s : State) (t : ℕ) → t < s.types → start_place start (counts s) t ≤ count (s.world.histories t)
 start_within Zero s t below = omega arith
-start_within Current s t below =
-    let read = unwrap_or-slice_get (counts s) t 0 in
-    let at = get_or-map-range_with_len (λ t. count (s.world.histories t)) 0 s.types t t 0 below (omega arith) in
-    let is : unwrap_or (slice_get (counts s) t) 0 ≡ count (s.world.histories t) = read ∙ at in
-    omega arith
+start_within Current s t below = grind (arith, get_or-map-range_with_len, unwrap_or-slice_get)
 
 pub begun_within : (s : State) (i t : ℕ) → t < s.types → place_of s i t ≤ count (s.world.histories t)
     → (joined_member (counts s) (s.members i)).job.system.places t ≤ count (s.world.histories t)
-begun_within s i t below within = elim (cases_Bool ((s.members i).job.system.needs.reads (OfType t))) [
-  | inl e ↦ rw e (start_within (s.members i).job.system.start s t below)
-  | inr e ↦ rw e within
-]
+begun_within s i t below within = grind (arith, cases_Bool, start_within)
 
 -- ---- what a system does stays as it was
 
 pub before_rule : (posts : List (ℕ × ℤ)) (s : State) (i : ℕ) → ((before_turns posts s).members i).job.system.rule ≡ (s.members i).job.system.rule
-before_rule posts s i = ap (λ (b : State). (b.members i).job.system.rule) (before_is posts s) ∙ at (arrives s i)
-  where
-    at : (b : Bool) → (cond b (joined_member (counts s) (s.members i)) (s.members i)).job.system.rule ≡ (s.members i).job.system.rule
-    at true = refl
-    at false = refl
+before_rule posts s i = grind (arith, before_is)

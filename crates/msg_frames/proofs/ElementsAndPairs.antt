@@ -33,16 +33,14 @@ module _ {X : Type 0} where
 
   pub all_middle : (P : X → Type 0) (xs : List X) (y : X) (ys : List X) → All P (xs ++ y ∷ ys) → P y × All P (xs ++ ys)
   all_middle P [] y ys h = (All-head P y ys h, All-tail P y ys h)
-  all_middle P (x ∷ xs) y ys h =
-      let r = all_middle P xs y ys (All-tail P x (xs ++ y ∷ ys) h) in
-      (r.0, All-cons P x (xs ++ ys) (All-head P x (xs ++ y ∷ ys) h) r.1)
+  all_middle P (x ∷ xs) y ys h = grind (arith, All-cons, All-head, All-tail, all_middle P xs y ys (All-tail P x (xs ++ y ∷ ys) h))
 
   pub pairs_middle : (R : X → X → Type 0) (xs : List X) (y : X) (ys : List X) → AllPairs R (xs ++ y ∷ ys) → All (λ x. R x y) xs × AllPairs R (xs ++ ys)
   pairs_middle R [] y ys h = (λ k d lt. absurd (omega arith), pairs_tail R y ys h)
   pairs_middle R (x ∷ xs) y ys h =
-      let r = pairs_middle R xs y ys (pairs_tail R x (xs ++ y ∷ ys) h) in
-      let e = all_middle (R x) xs y ys (pairs_head R x (xs ++ y ∷ ys) h) in
-      (All-cons (λ z. R z y) x xs e.0 r.0, AllPairs-cons R x (xs ++ ys) e.1 r.1)
+      let r = pairs_middle R xs y ys (pairs_tail R x _ h) in
+      let e = all_middle (R x) xs y ys (pairs_head R x _ h) in
+      (All-cons (λ z. R z y) _ _ e.0 r.0, AllPairs-cons R _ _ e.1 r.1)
 
   -- a list cut where an element stands
   pub record Cut (xs : List X) (x : X) : Type 0 where
@@ -52,7 +50,7 @@ module _ {X : Type 0} where
 
   pub cut : (xs : List X) (x : X) → Contains xs x → Cut xs x
   cut [] x h = absurd (not_in_none x h)
-  cut (y ∷ ys) x h = elim (Contains-cases y ys x h) [
+  cut (y ∷ ys) x h = elim (Contains-cases _ _ _ h) [
     | inl e ↦ record { before = []; rest = ys; is = ap (λ z. z ∷ ys) e }
     | inr later ↦
         let c : Cut ys x = cut ys x later in

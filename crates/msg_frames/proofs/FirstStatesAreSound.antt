@@ -1,13 +1,13 @@
 -- A first state is sound.
-use Rattle.std.proofs.Common.{◌≡◌, ℕ, ◌≤◌, List, length, refl, sym, ap, subst, ◌∙◌, arith, inl, inr}
-use Rattle.std.specs.Prelude.{IsTrue, IsFalse, nat_le}
+use Rattle.std.proofs.Common.{◌≡◌, ℕ, ◌≤◌, List, refl, sym, subst, arith}
+use Rattle.std.specs.Prelude.{IsTrue, IsFalse}
 use Rattle.std.proofs.lemmas.Bool.{cases_Bool, cases_eq, eq-eqb, leb-true, leb-false, ne_eqb, false≢true}
 use Rattle.std.proofs.lemmas.List.{get_or_past}
 use Rattle.msg_buffer.specs.Prelude.{count}
 use Rattle.msg_order.specs.declared.rule.Rule.{Rule}
 use Rattle.msg_world.specs.Prelude.{WorldState}
 use Rattle.msg_system.specs.Prelude.{Meaning}
-use Rattle.msg_frames.specs.Prelude.{AreNew, FirstIsSound, IsBalanced, IsSoundState, Member, Place, State, counts, first_state, has_begun, joined_member, no_totals, nobody, nowhere, place_of, unjoined}
+use Rattle.msg_frames.specs.Prelude.{AreNew, FirstIsSound, IsBalanced, IsSoundState, Member, Place, State, counts, first_state, has_begun, joined_member, no_totals, place_of, unjoined}
 use Rattle.msg_frames.proofs.BeforeTurns.{begun_within}
 use Rattle.msg_frames.proofs.StatesStaySound.{balanced_start}
 
@@ -19,32 +19,20 @@ module _ (systems : List Meaning) (places : List Place) (rules : List Rule) (typ
   first = first_state systems places rules types world
 
   at_zero : (i t : ℕ) → place_of all_wait i t ≡ 0
-  at_zero i t = elim (cases_Bool (nat_le (length systems) i)) [
-    | inl e ↦ ap (λ (m : Meaning). m.places t) (get_or_past systems i nobody (leb-true (length systems) i e))
-    | inr e ↦ (new.new i (leb-false (length systems) i e)).places t
-  ]
+  at_zero i t = grind (arith, cases_Bool, get_or_past, leb-false, leb-true)
 
   first_or_not : (P : Member → Type 0) (i : ℕ) → ((all_wait.members i).join ≡ 1 → P (joined_member (counts all_wait) (all_wait.members i)))
       → (¬ ((all_wait.members i).join ≡ 1) → P (all_wait.members i)) → P (first.members i)
-  first_or_not P i now later = elim (cases_eq (all_wait.members i).join 1) [
-    | inl e ↦ rw (eq-eqb (all_wait.members i).join 1 e) (now e)
-    | inr ne ↦ rw (ne_eqb (all_wait.members i).join 1 ne) (later ne)
-  ]
+  first_or_not P i now later = grind (arith, cases_eq, eq-eqb, ne_eqb)
 
   join_same : (i : ℕ) → (first.members i).join ≡ (all_wait.members i).join
   join_same i = first_or_not (λ m. m.join ≡ (all_wait.members i).join) i (λ e. refl) (λ ne. refl)
 
   join_from_one : (i : ℕ) → 1 ≤ (all_wait.members i).join
-  join_from_one i = elim (cases_Bool (nat_le (length places) i)) [
-    | inl e ↦ rw (get_or_past places i nowhere (leb-true (length places) i e)) (omega arith)
-    | inr e ↦ new.joins i nowhere (leb-false (length places) i e)
-  ]
+  join_from_one i = grind (arith, cases_Bool, get_or_past, leb-false, leb-true)
 
   first_waiting : (i t : ℕ) → IsFalse (has_begun first i) → (place_of first i t ≡ 0) × ((first.members i).totals t ≡ no_totals)
-  first_waiting i t isnt =
-      first_or_not (λ m. (m.job.system.places t ≡ 0) × (m.totals t ≡ no_totals)) i
-      (λ e. absurd (false≢true (sym isnt ∙ ap (λ j. nat_le j 1) (join_same i ∙ e))))
-      (λ ne. (at_zero i t, refl))
+  first_waiting i t isnt = grind (arith, at_zero, false≢true, first_or_not, join_same)
 
   first_balanced : (i t : ℕ) → IsTrue (has_begun first i) → IsBalanced ((first.members i).totals t) (place_of first i t)
   first_balanced i t has =
@@ -56,8 +44,8 @@ module _ (systems : List Meaning) (places : List Place) (rules : List Rule) (typ
       let same : (first.members i).join ≡ (all_wait.members i).join = join_same i in
       absurd (ne (omega arith)))
 
-  first_sound : IsSoundState first
-  first_sound = record {
+  pub first_is_sound : IsSoundState first
+  first_is_sound = record {
     histories = new.histories;
     places = λ i t below.
         let within : place_of all_wait i t ≤ count (world.histories t) = rw (at_zero i t) (omega arith) in
@@ -67,6 +55,3 @@ module _ (systems : List Meaning) (places : List Place) (rules : List Rule) (typ
     waiting = first_waiting;
     balanced = λ i t below has. first_balanced i t has;
   }
-
-pub first_is_sound : FirstIsSound
-first_is_sound = first_sound

@@ -1,5 +1,5 @@
 -- A frame whose turns are taken in an order: its log has them in that order.
-use Rattle.std.proofs.Common.{◌≡◌, ℕ, List, [], ◌∷◌, map, refl, sym, ap, subst, ◌∙◌}
+use Rattle.std.proofs.Common.{arith, ◌≡◌, ℕ, List, [], ◌∷◌, map, refl, ap, ◌∙◌}
 use Rattle.msg_world.specs.Prelude.{after_update}
 use Rattle.msg_system.specs.declared.reply.Reply.{Reply}
 use Rattle.msg_frames.specs.Prelude.{Frame, IsFrame, IsTurnOrderOf, Log, State, Turn, after_turn_of, after_turns_of, before_turns, frame_in, post_replies, systems_in}
@@ -20,10 +20,4 @@ in_that_order frame order s log told = ap systems_in told ∙ systems_logged ord
 -- the turns in their order are a frame
 pub frame_in_order : (frame : Frame) (s : State) (log : Log) (order : List ℕ) → IsTurnOrderOf (before_turns frame.posts s) order → log ≡ (frame_in order frame s).log
     → IsFrame frame s log (frame_in order frame s).state
-frame_in_order frame s log order in_order told =
-    let taken : systems_in log ≡ order = in_that_order frame order s log told in
-    record {
-      in_order = subst (IsTurnOrderOf (before_turns frame.posts s)) (sym taken) in_order;
-      tells = told ∙ ap (λ is. (frame_in is frame s).log) (sym taken);
-      leaves = ap (λ is. (frame_in is frame s).state) (sym taken);
-    }
+frame_in_order frame s log order in_order told = grind (arith, in_that_order)

@@ -1,13 +1,13 @@
 -- Whatever a run does, each type's history goes on.
-use Rattle.std.proofs.Common.{ℕ, zero, suc, ℤ, ◌≤◌, List, [], ◌∷◌, ◌++◌, map, Option, None, Some, refl, sym, ap, subst, ◌∙◌, append-nil, append_assoc, length-append, arith, inl, inr}
+use Rattle.std.proofs.Common.{ℕ, zero, suc, ℤ, ◌≤◌, List, [], ◌∷◌, map, Option, None, Some, refl, sym, subst, append-nil, append_assoc, length-append, arith}
 use Rattle.std.proofs.lemmas.Bool.{cases_Bool, cases_eq, eq-eqb, ne_eqb}
 use Rattle.msg_buffer.specs.Prelude.{ClearsFit, GoesOn, History, IsSound, OnlyGrows, ReadsFit, clear, count, write}
 use Rattle.msg_world.specs.declared.record.Record.{Record}
 use Rattle.msg_world.specs.declared.record.TheConstants.{HOST}
-use Rattle.msg_world.specs.Prelude.{WorldState, after_update, by, waits, with_history}
+use Rattle.msg_world.specs.Prelude.{WorldState, after_update, by, with_history}
 use Rattle.msg_system.specs.declared.op.Op.{Op}
 use Rattle.msg_system.specs.declared.op.Op.TheVariants.{Write, Batch, Forward, Drain}
-use Rattle.msg_system.specs.Prelude.{AfterProgram, Job, Meaning, after_at_most, after_job, after_op, again_by, all_hold, next_op, one_more, took, turn}
+use Rattle.msg_system.specs.Prelude.{AfterProgram, Job, Meaning, after_at_most, after_job, after_op, again_by, next_op, one_more, took, turn}
 use Rattle.msg_frames.specs.Prelude.{Frame, ListsOnlyGrow, State, after_posts, after_turn_of, after_turns_of, before_turns, frame_in, joining, systems_in}
 use Rattle.msg_frames.proofs.SystemsStay.{joining_world}
 
@@ -26,14 +26,7 @@ pub stays : (h : History Record) → IsSound h → GoesOn h h
 stays h sound = record { more = []; entries = sym (append-nil h.entries); limit = refl; updates = omega arith; floor = omega arith; sound = sound }
 
 pub goes_further : (a b c : History Record) → GoesOn a b → GoesOn b c → GoesOn a c
-goes_further a b c x y = record {
-  more = x.more ++ y.more;
-  entries = y.entries ∙ ap (λ es. es ++ y.more) x.entries ∙ append_assoc a.entries x.more y.more;
-  limit = y.limit ∙ x.limit;
-  updates = omega (arith, x.updates, y.updates);
-  floor = omega (arith, x.floor, y.floor);
-  sound = y.sound;
-}
+goes_further a b c x y = grind (arith, append_assoc)
 
 pub counts_more : (a b : History Record) → GoesOn a b → count a ≤ count b
 counts_more a b x = rw x.entries (omega (arith, length-append a.entries x.more))
@@ -48,14 +41,10 @@ world_stays : (w : WorldState) → WorldGoesOn w w
 world_stays w t sound = stays (w.histories t) sound
 
 world_goes_further : (a b c : WorldState) → WorldGoesOn a b → WorldGoesOn b c → WorldGoesOn a c
-world_goes_further a b c x y t sound =
-    goes_further (a.histories t) (b.histories t) (c.histories t) (x t sound) (y t (x t sound).sound)
+world_goes_further a b c x y t sound = grind (arith, goes_further)
 
 one_goes_on : (w : WorldState) (u : ℕ) (h : History Record) → (IsSound (w.histories u) → GoesOn (w.histories u) h) → WorldGoesOn w (with_history w u h)
-one_goes_on w u h goes t sound = elim (cases_eq t u) [
-  | inl e ↦ rw (eq-eqb t u e) (subst (λ v. GoesOn (w.histories v) h) (sym e) (goes (subst (λ v. IsSound (w.histories v)) e sound)))
-  | inr ne ↦ rw (ne_eqb t u ne) (stays (w.histories t) sound)
-]
+one_goes_on w u h goes t sound = grind (arith, cases_eq, eq-eqb, ne_eqb, stays)
 
 module _ (grow : OnlyGrows Record) where
   written_goes_on : (w : WorldState) (t : ℕ) (ms : List Record) → WorldGoesOn w (with_history w t (write ms (w.histories t)))
@@ -78,17 +67,14 @@ module _ (grow : OnlyGrows Record) where
   ops_go_on zero m w = world_stays w
   ops_go_on (suc n) m w =
       let far : AfterProgram = after_at_most n (next_op m) m.writer m.places w in
-      world_goes_further w far.state (one_more (next_op m far.replies) m.writer far).state (ops_go_on n m w) (more_goes_on (next_op m far.replies) m.writer far)
+      world_goes_further w far.state (one_more _ _ far).state (ops_go_on n m w) (more_goes_on _ _ _)
 
   turn_goes_on : (m : Meaning) (w : WorldState) → WorldGoesOn w (turn m w).state
   unfolding turn
   turn_goes_on m w = ops_go_on 64 m w
 
   pub job_goes_on : (j : Job) (w : WorldState) → WorldGoesOn w (after_job j w).state
-  job_goes_on j w = elim (cases_Bool (all_hold j.conditions w)) [
-    | inl e ↦ rw e (turn_goes_on j.system w)
-    | inr e ↦ rw e (world_stays w)
-  ]
+  job_goes_on j w = grind (arith, cases_Bool, turn_goes_on, world_stays)
 
   -- ---- turns, frames and runs
 
@@ -101,14 +87,11 @@ module _ (grow : OnlyGrows Record) where
   posts_go_on : (posts : List (ℕ × ℤ)) (w : WorldState) → WorldGoesOn w (after_posts posts w)
   posts_go_on [] w = world_stays w
   posts_go_on (p ∷ ps) w =
-      let next = with_history w p.0 (write (by HOST p.1 ∷ []) (w.histories p.0)) in
-      world_goes_further w next (after_posts ps next) (written_goes_on w p.0 (by HOST p.1 ∷ [])) (posts_go_on ps next)
+      let next = with_history w p.0 (write (by _ p.1 ∷ []) (w.histories p.0)) in
+      world_goes_further w next (after_posts ps next) (written_goes_on w p.0 (by _ p.1 ∷ [])) (posts_go_on ps next)
 
   update_goes_on : (w : WorldState) → WorldGoesOn w (after_update w)
-  update_goes_on w = elim (cases_Bool (waits w)) [
-    | inl e ↦ rw e (world_stays w)
-    | inr e ↦ rw e (λ t sound. (grow (w.histories t) sound).1)
-  ]
+  update_goes_on w = grind (arith, cases_Bool, world_stays)
 
   pub before_goes_on : (posts : List (ℕ × ℤ)) (s : State) → WorldGoesOn s.world (before_turns posts s).world
   before_goes_on posts s =

@@ -38,7 +38,7 @@ module _ (accesses : List Access) where
 
   run_later : (x : ℕ) (is js : List ℕ) → SameRun accesses is js → SameRun accesses (x ∷ is) (x ∷ js)
   run_later x is js a s are =
-      let r = a (after_turn_of x s) (accesses_stay s (after_turn_of x s) accesses (one_turn_keeps x s) are) in
+      let r = a (after_turn_of x s) (accesses_stay _ _ _ (one_turn_keeps _ _) are) in
       (r.0, IsPermutation-cons (logged_turn s x) _ _ r.1)
 
   run_swapped : JobFootprint → (x y : ℕ) (is : List ℕ) → x < length accesses → y < length accesses → x ≢ y → ¬ Conflict (access_of accesses x) (access_of accesses y)
@@ -134,10 +134,7 @@ module _ (foot : JobFootprint) (accesses : List Access) (P : ℕ → ℕ → Typ
 
 -- where each stands once, one place
 one_place : (order : List ℕ) (a b : ℕ) → AllPairs (λ i j. i ≢ j) order → a < length order → b < length order → get_or order a 0 ≡ get_or order b 0 → a ≡ b
-one_place order a b once la lb e = elim (cases_order a b) [
-  | inl s ↦ s
-  | inr o ↦ elim o [ inl l ↦ absurd (once a b 0 l lb e) | inr l ↦ absurd (once b a 0 l la (sym e)) ]
-]
+one_place order a b once la lb e = grind (arith, cases_order)
 
 -- no path leads back in a lawful order
 lawful_forward : LawfulOrdersKeepPaths → (g : Graph) (who : List Bool) (order : List ℕ) → IsLawfulOrder g who order → Forward (Path g) order
@@ -165,7 +162,7 @@ frames_agree foot ordered keeps one is_lawful frame s u log settled order x is_o
     let b : State = before_turns frame.posts s in
     let same : x.in_order.settled ≡ settled = one_order one b x.in_order.settled settled x.in_order.is_order is_order in
     let turns : IsTurnOrder settled (join_flags b) (systems_in log) = subst (λ g. IsTurnOrder g (join_flags b) (systems_in log)) same x.in_order.in_order in
-    let own : IsLawfulOrder settled (join_flags b) (systems_in log) = is_lawful settled (join_flags b) (systems_in log) (order_is_among b settled is_order) turns in
+    let own : IsLawfulOrder settled (join_flags b) (systems_in log) = is_lawful settled (join_flags b) (systems_in log) (order_is_among _ _ is_order) turns in
     let agree = orders_agree foot ordered keeps b is_order.accesses settled order (systems_in log) is_order.of_systems is_order.is_settled lawful own in (
       agree.0 ∙ sym x.leaves,
       ap (λ (l : Log). l.posts) (sym x.tells),

@@ -1,5 +1,5 @@
 -- Each number that tiles go past meets one fate, at one tile.
-use Rattle.std.proofs.Common.{◌≡◌, ℕ, zero, suc, ◌+◌, ◌-◌, ◌≤◌, ◌<◌, List, [], ◌∷◌, map, length, Contains, cond, is_some, refl, sym, ap, subst, ◌∙◌, arith, inl, inr, All}
+use Rattle.std.proofs.Common.{◌≡◌, ℕ, zero, suc, ◌+◌, ◌-◌, ◌≤◌, ◌<◌, List, [], ◌∷◌, map, Contains, cond, is_some, refl, sym, subst, ◌∙◌, arith, inl, inr, All}
 use Rattle.std.specs.Prelude.{nat_lt}
 use Rattle.std.specs.List.{range_with_len}
 use Rattle.std.proofs.lemmas.Bool.{cases_Bool, ltb-true, ltb-false, lt-ltb, le-ltb}
@@ -8,26 +8,8 @@ use Rattle.std.proofs.lemmas.List.FromFn.{get_or-range_with_len, length-range_wi
 use Rattle.std.proofs.lemmas.Option.{same_Some}
 use Rattle.msg_buffer.specs.Prelude.{IsPresent, Tile, count, next_place}
 use Rattle.msg_frames.specs.Prelude.{Entry, Fate, Meets, MeetsOneFate, Moment, cleared, given, missed, numbers_at, numbers_passed}
+use Rattle.msg_order.proofs.Elements.{Contains-range, not_in_none, range-Contains}
 use Rattle.msg_frames.proofs.ReaderOverJob.{IsWritten, tile_of}
-
--- ---- ranges
-
-in_range : (a n x : ℕ) → a ≤ x → x < a + n → Contains (range_with_len a n) x
-in_range a n x low high =
-    let long = length-range_with_len a n in
-    let at = get_or-range_with_len a n (x - a) x (omega arith) in
-    (x - a, omega arith, at ∙ omega arith)
-
-of_range : (a n x : ℕ) → Contains (range_with_len a n) x → (a ≤ x) × (x < a + n)
-of_range a n x c =
-    let long = length-range_with_len a n in
-    let below : c.0 < length (range_with_len a n) = c.1 in
-    let at = get_or-range_with_len a n c.0 x (omega arith) in
-    let is : x ≡ a + c.0 = sym c.2 ∙ at in
-    (omega arith, omega arith)
-
-none_among : (x : ℕ) → ¬ Contains {X = ℕ} [] x
-none_among x c = let below : c.0 < 0 = c.1 in absurd (omega arith)
 
 -- ---- at one entry
 
@@ -42,21 +24,21 @@ BeginsAt place e = e.stretch.first ≡ place + e.stretch.missed
 of_passed : (e : Entry) (n : ℕ) (fate : Fate) (place : ℕ) → BeginsAt place e → Contains (numbers_passed e) n → cond (is_some e.given) given cleared ≡ fate
     → (place ≤ n) × (n < next_place e.stretch) × (fate_at e n ≡ fate)
 of_passed e n fate place begins c is =
-    let bounds = of_range e.stretch.first e.stretch.number n c in
+    let bounds = range-Contains _ _ _ c in
     (omega (arith, bounds), bounds.1, rw (le-ltb n e.stretch.first bounds.0) is)
 
 -- a number that met a fate at an entry lies there, and met no other
 fate_of : (fate : Fate) (e : Entry) (n place : ℕ) → BeginsAt place e → Contains (numbers_at fate e) n → (place ≤ n) × (n < next_place e.stretch) × (fate_at e n ≡ fate)
 fate_of given e n place begins c = elim (cases_Bool (is_some e.given)) [
-  | inl is ↦ of_passed e n given place begins (subst (λ b. Contains (cond b (numbers_passed e) []) n) is c) (rw is refl)
-  | inr isnt ↦ absurd (none_among n (subst (λ b. Contains (cond b (numbers_passed e) []) n) isnt c))
+  | inl is ↦ of_passed _ _ _ _ begins (subst (λ b. Contains (cond b (numbers_passed e) []) n) is c) (rw is refl)
+  | inr isnt ↦ absurd (not_in_none n (subst (λ b. Contains (cond b (numbers_passed e) []) n) isnt c))
 ]
 fate_of cleared e n place begins c = elim (cases_Bool (is_some e.given)) [
-  | inl is ↦ absurd (none_among n (subst (λ b. Contains (cond b [] (numbers_passed e)) n) is c))
-  | inr isnt ↦ of_passed e n cleared place begins (subst (λ b. Contains (cond b [] (numbers_passed e)) n) isnt c) (rw isnt refl)
+  | inl is ↦ absurd (not_in_none n (subst (λ b. Contains (cond b [] (numbers_passed e)) n) is c))
+  | inr isnt ↦ of_passed _ _ _ _ begins (subst (λ b. Contains (cond b [] (numbers_passed e)) n) isnt c) (rw isnt refl)
 ]
 fate_of missed e n place begins c =
-    let bounds = of_range (e.stretch.first - e.stretch.missed) e.stretch.missed n c in
+    let bounds = range-Contains _ _ _ c in
     let low : e.stretch.first - e.stretch.missed ≤ n = bounds.0 in
     let high : n < (e.stretch.first - e.stretch.missed) + e.stretch.missed = bounds.1 in
     let below : n < e.stretch.first = omega arith in
@@ -67,10 +49,10 @@ has_fate : (e : Entry) (n place : ℕ) → BeginsAt place e → place ≤ n → 
 has_fate e n place begins low high = elim (cases_Bool (nat_lt n e.stretch.first)) [
   | inl is ↦
       let below : n < e.stretch.first = ltb-true n e.stretch.first is in
-      rw is (in_range (e.stretch.first - e.stretch.missed) e.stretch.missed n (omega arith) (omega arith))
+      rw is (Contains-range _ _ _ (omega arith) (omega arith))
   | inr isnt ↦
       let above : e.stretch.first ≤ n = ltb-false n e.stretch.first isnt in
-      let among : Contains (numbers_passed e) n = in_range e.stretch.first e.stretch.number n above high in
+      let among : Contains (numbers_passed e) n = Contains-range _ _ _ above high in
       rw isnt (elim (cases_Bool (is_some e.given)) [
         | inl some ↦ subst (λ b. Contains (numbers_at (cond b given cleared) e) n) (sym some) (rw some among)
         | inr none ↦ subst (λ b. Contains (numbers_at (cond b given cleared) e) n) (sym none) (rw none among)
@@ -94,12 +76,9 @@ later e es n k fate met = record { entry = met.entry; is_entry = met.is_entry; a
 of_later : (e : Entry) (es : List Entry) (n k : ℕ) (fate : Fate) → Meets (e ∷ es) n (suc k) fate → Meets es n k fate
 of_later e es n k fate met = record { entry = met.entry; is_entry = met.is_entry; among = met.among }
 
-tiles_rise : (p : ℕ) (ms : List Moment) (q : ℕ) → Tile p (map tile_of ms) q → p ≤ q
+pub tiles_rise : (p : ℕ) (ms : List Moment) (q : ℕ) → Tile p (map tile_of ms) q → p ≤ q
 tiles_rise p [] q tile = let same : p ≡ q = tile in omega arith
-tiles_rise p (m ∷ ms) q tile =
-    let first : m.entry.stretch.first ≡ p + m.entry.stretch.missed = tile.0.first in
-    let rest = tiles_rise (next_place m.entry.stretch) ms q tile.1 in
-    omega arith
+tiles_rise p (m ∷ ms) q tile = grind (arith, tiles_rise (next_place m.entry.stretch) ms q tile.1)
 
 none_met : (n k : ℕ) (fate : Fate) → ¬ Meets [] n k fate
 none_met n k fate met = absurd (cc)
@@ -107,31 +86,26 @@ none_met n k fate met = absurd (cc)
 pub lies_between : (p : ℕ) (ms : List Moment) (q : ℕ) → Tile p (map tile_of ms) q → (n k : ℕ) (fate : Fate) → Meets (entries_of ms) n k fate → (p ≤ n) × (n < q)
 lies_between p [] q tile n k fate met = absurd (none_met n k fate met)
 lies_between p (m ∷ ms) q tile n zero fate met =
-    let at = fate_of fate m.entry n p tile.0.first (of_here m.entry (entries_of ms) n fate met) in
-    let rise = tiles_rise (next_place m.entry.stretch) ms q tile.1 in
+    let at = fate_of _ _ _ _ tile.0.first (of_here _ _ _ _ met) in
+    let rise = tiles_rise _ _ _ tile.1 in
     (at.0, omega (arith, at.1, rise))
-lies_between p (m ∷ ms) q tile n (suc k) fate met =
-    let rest = lies_between (next_place m.entry.stretch) ms q tile.1 n k fate (of_later m.entry (entries_of ms) n k fate met) in
-    let first : m.entry.stretch.first ≡ p + m.entry.stretch.missed = tile.0.first in
-    (omega (arith, rest.0), rest.1)
+lies_between p (m ∷ ms) q tile n (suc k) fate met = grind (arith, of_later, lies_between (next_place m.entry.stretch) ms q tile.1 n k fate (of_later m.entry (entries_of ms) n k fate met))
 
 one_fate : (p : ℕ) (ms : List Moment) (q : ℕ) → Tile p (map tile_of ms) q → (n k l : ℕ) (f g : Fate) → Meets (entries_of ms) n k f → Meets (entries_of ms) n l g → (l ≡ k) × (g ≡ f)
 one_fate p [] q tile n k l f g x y = absurd (none_met n k f x)
 one_fate p (m ∷ ms) q tile n zero zero f g x y =
-    let a = fate_of f m.entry n p tile.0.first (of_here m.entry (entries_of ms) n f x) in
-    let b = fate_of g m.entry n p tile.0.first (of_here m.entry (entries_of ms) n g y) in
+    let a = fate_of _ _ _ _ tile.0.first (of_here _ _ _ _ x) in
+    let b = fate_of _ _ _ _ tile.0.first (of_here _ _ _ _ y) in
     (refl, sym b.2 ∙ a.2)
 one_fate p (m ∷ ms) q tile n zero (suc l) f g x y =
-    let a = fate_of f m.entry n p tile.0.first (of_here m.entry (entries_of ms) n f x) in
-    let b = lies_between (next_place m.entry.stretch) ms q tile.1 n l g (of_later m.entry (entries_of ms) n l g y) in
+    let a = fate_of _ _ _ _ tile.0.first (of_here _ _ _ _ x) in
+    let b = lies_between _ _ _ tile.1 _ _ _ (of_later _ _ _ _ _ y) in
     absurd (omega (arith, a.1, b.0))
 one_fate p (m ∷ ms) q tile n (suc k) zero f g x y =
-    let a = fate_of g m.entry n p tile.0.first (of_here m.entry (entries_of ms) n g y) in
-    let b = lies_between (next_place m.entry.stretch) ms q tile.1 n k f (of_later m.entry (entries_of ms) n k f x) in
+    let a = fate_of _ _ _ _ tile.0.first (of_here _ _ _ _ y) in
+    let b = lies_between _ _ _ tile.1 _ _ _ (of_later _ _ _ _ _ x) in
     absurd (omega (arith, a.1, b.0))
-one_fate p (m ∷ ms) q tile n (suc k) (suc l) f g x y =
-    let rest = one_fate (next_place m.entry.stretch) ms q tile.1 n k l f g (of_later m.entry (entries_of ms) n k f x) (of_later m.entry (entries_of ms) n l g y) in
-    (ap suc rest.0, rest.1)
+one_fate p (m ∷ ms) q tile n (suc k) (suc l) f g x y = grind (arith, of_later, one_fate (next_place m.entry.stretch) ms q tile.1 n k l f g (of_later m.entry (entries_of ms) n k f x) (of_later m.entry (entries_of ms) n l g y))
 
 some_fate : (p : ℕ) (ms : List Moment) (q : ℕ) → Tile p (map tile_of ms) q → (n : ℕ) → p ≤ n → n < q → (k : ℕ) × ((fate : Fate) × Meets (entries_of ms) n k fate)
 some_fate p [] q tile n low high = let same : p ≡ q = tile in absurd (omega arith)
@@ -156,12 +130,11 @@ pub missed_are_dropped : (p : ℕ) (ms : List Moment) (q : ℕ) → Tile p (map 
 missed_are_dropped p [] q tile written = All-nil MissesDropped
 missed_are_dropped p (m ∷ ms) q tile written =
     let e : Entry = m.entry in
-    All-cons MissesDropped m ms
-    (λ n c.
-    let bounds = of_range (e.stretch.first - e.stretch.missed) e.stretch.missed n c in
+    All-cons MissesDropped _ _ (λ n c.
+    let bounds = range-Contains _ _ _ c in
     let first : e.stretch.first ≡ p + e.stretch.missed = tile.0.first in
     let low : p ≤ n = omega (arith, bounds.0) in
     let high : n < e.stretch.first = omega (arith, bounds.1) in
-    let by_then = All-head IsWritten m ms written in
+    let by_then = All-head IsWritten _ _ written in
     (omega (arith, by_then), tile.0.missed n low high))
-    (missed_are_dropped (next_place e.stretch) ms q tile.1 (All-tail IsWritten m ms written))
+    (missed_are_dropped (next_place e.stretch) ms q tile.1 (All-tail IsWritten _ _ written))

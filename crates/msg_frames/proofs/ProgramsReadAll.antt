@@ -12,7 +12,7 @@ use Rattle.msg_system.specs.declared.program.Program.{Program}
 use Rattle.msg_system.specs.declared.reply.Reply.{Reply}
 use Rattle.msg_system.specs.Prelude.{IsInOrder, Job, Meaning, after_job, of_program, program_needs, started_places, turn}
 use Rattle.msg_order.specs.Prelude.{has_joined}
-use Rattle.msg_frames.specs.Prelude.{Log, Member, Outcome, Ran, Skipped, State, WhoseProgramReadsAll, after_turn_of, after_turns_of, before_turns, counts, has_begun, job_begun, join_flags, logged_turn, reads_all, systems_in}
+use Rattle.msg_frames.specs.Prelude.{Log, Member, Outcome, Ran, Skipped, State, WhoseProgramReadsAll, after_turn_of, after_turns_of, before_turns, counts, has_begun, job_begun, join_flags, reads_all, systems_in}
 use Rattle.msg_frames.proofs.BeforeTurns.{Prepares, comes, prepares, stood}
 use Rattle.msg_frames.proofs.BeforeTurns as before
 use Rattle.msg_frames.proofs.ReaderOverTurns.{one_member}
@@ -31,7 +31,7 @@ module _ (in_order : IsInOrder) (program : Program) (writer : ℕ) (few : length
 
   job_stays : (j : Job) (w : WorldState) → IsProgram j → IsProgram (after_job j w).job
   job_stays j w is = (
-    (turn (of_program program writer is.0) w).places,
+    (turn _ _).places,
     ap (λ (k : Job). (after_job k w).job) is.1
         ∙ ap (λ (m : Meaning). record { system = m; conditions = [] }) (in_order program writer is.0 w few).1,
   )
@@ -45,9 +45,7 @@ module _ (in_order : IsInOrder) (program : Program) (writer : ℕ) (few : length
 
   turns_ran : (i : ℕ) (order : List ℕ) (s : State) → IsProgram (s.members i).job → All (λ turn. turn.system ≡ i → turn.outcome ≢ Skipped) (after_turns_of order s).turns
   turns_ran i [] s is = All-nil (λ turn. turn.system ≡ i → turn.outcome ≢ Skipped)
-  turns_ran i (j ∷ js) s is = All-cons (λ turn. turn.system ≡ i → turn.outcome ≢ Skipped) (logged_turn s j) (after_turns_of js (after_turn_of j s)).turns
-      (λ e. subst (λ k. (logged_turn s k).outcome ≢ Skipped) (sym e) (rw is.1 (ran_isnt_skipped _)))
-      (turns_ran i js (after_turn_of j s) (turn_stays i j s is))
+  turns_ran i (j ∷ js) s is = grind (arith, All-cons, ran_isnt_skipped, turn_stays, turns_ran i js (after_turn_of j s) (turn_stays i j s is))
 
   before_stays : OnlyGrows Record → (posts : List (ℕ × ℤ)) (s : State) (i : ℕ) → IsProgram (s.members i).job → IsProgram ((before_turns posts s).members i).job
   before_stays grow posts s i is = elim ((prepares grow posts s).arrival i) [

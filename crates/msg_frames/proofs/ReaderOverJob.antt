@@ -1,6 +1,5 @@
 -- What a reader goes past by an op, by a turn and by a job.
-use Rattle.std.proofs.Common.{◌≡◌, ℕ, zero, suc, ◌+◌, ◌≤◌, List, [], ◌∷◌, ◌++◌, append_assoc, map, length, take, drop, All, Option, None, Some, refl, sym, ap, subst, ◌∙◌, arith, inl, inr, cond, ◌==◌}
-use Rattle.std.specs.Prelude.{option_to_list}
+use Rattle.std.proofs.Common.{◌≡◌, ℕ, zero, suc, ◌+◌, ◌≤◌, List, [], ◌∷◌, ◌++◌, append_assoc, map, length, take, drop, All, Option, None, Some, refl, sym, ap, subst, arith, inl, inr, cond, ◌==◌}
 use Rattle.std.proofs.lemmas.Bool.{cases_eq, eq-eqb, ne_eqb, cases_Bool}
 use Rattle.std.proofs.lemmas.List.{append-nil, length-append, length-map, map-append}
 use Rattle.std.proofs.lemmas.List.Elements.{All-append, All-cons, All-nil, All-weaker}
@@ -40,39 +39,23 @@ tile-append p (x ∷ xs) q ys r a b = (a.0, tile-append (next_place x.1) xs q ys
 pub passes_further : (p : ℕ) (a : History Record) (ms : List Moment) (q : ℕ) (b : History Record) (ns : List Moment) (r : ℕ) (c : History Record)
     → Passes p a ms q b → Passes q b ns r c → Passes p a (ms ++ ns) r c
 passes_further p a ms q b ns r c x y = record {
-  goes_on = goes_further a b c x.goes_on y.goes_on;
+  goes_on = goes_further _ _ _ x.goes_on y.goes_on;
   within = y.within;
-  tile = rw (map-append tile_of ms ns) (tile-append p (map tile_of ms) q (map tile_of ns) r x.tile y.tile);
-  gives = All-append GivesItsStretch ms ns x.gives y.gives;
-  earlier = All-append (λ m. GoesOn m.history c) ms ns
-      (All-weaker (λ m. GoesOn m.history b) (λ m. GoesOn m.history c) (λ m g. goes_further m.history b c g y.goes_on) ms x.earlier) y.earlier;
-  written = All-append IsWritten ms ns x.written y.written;
+  tile = rw (map-append tile_of ms ns) (tile-append _ _ _ _ _ x.tile y.tile);
+  gives = All-append GivesItsStretch _ _ x.gives y.gives;
+  earlier = All-append (λ m. GoesOn m.history c) _ _
+      (All-weaker (λ m. GoesOn m.history b) _ (λ m g. goes_further _ _ _ g y.goes_on) _ x.earlier) y.earlier;
+  written = All-append IsWritten _ _ x.written y.written;
 }
 
 -- nothing is gone past
 pub passes_nothing : (p : ℕ) (a b : History Record) → p ≤ count a → GoesOn a b → Passes p a [] p b
-passes_nothing p a b within goes = record {
-  goes_on = goes;
-  within = omega (arith, within, counts_more a b goes);
-  tile = refl;
-  gives = All-nil GivesItsStretch;
-  earlier = All-nil (λ m. GoesOn m.history b);
-  written = All-nil IsWritten;
-}
+passes_nothing p a b within goes = grind (arith, All-nil, counts_more)
 
 -- a single entry
 pub passes_one : (p : ℕ) (a : History Record) (e : Entry) (b : History Record) → Fits a p e.stretch → next_place e.stretch ≤ count a
     → GivesItsStretch (record { history = a; entry = e }) → GoesOn a b → Passes p a (record { history = a; entry = e } ∷ []) (next_place e.stretch) b
-passes_one p a e b fits within gives goes =
-    let m : Moment = record { history = a; entry = e } in
-    record {
-      goes_on = goes;
-      within = omega (arith, within, counts_more a b goes);
-      tile = (fits, refl);
-      gives = All-cons GivesItsStretch m [] gives (All-nil GivesItsStretch);
-      earlier = All-cons (λ x. GoesOn x.history b) m [] goes (All-nil (λ x. GoesOn x.history b));
-      written = All-cons IsWritten m [] within (All-nil IsWritten);
-    }
+passes_one p a e b fits within gives goes = grind (arith, All-cons, All-nil, counts_more)
 
 -- the moments of an op
 abbrev pub op_moments : ℕ → Op → ℕ → (ℕ → ℕ) → WorldState → List Moment
@@ -88,9 +71,9 @@ module _ (laws : BufferLaws) where
   read_passes h b place limit sound within goes =
       let law = laws.reads h place limit sound in
       let long : length (map message_of (given h place limit)) ≡ length (given h place limit) = length-map (given h place limit) message_of in
-      let place_same : next_place (entry_of_read (took h place limit)).stretch ≡ next_place (read h place limit) = ap (λ n. (read h place limit).first + n) long in
+      let place_same : next_place (entry_of_read (took h place limit)).stretch ≡ next_place (read h place _) = ap (λ n. (read h place limit).first + n) long in
       subst (λ n. Passes place h (record { history = h; entry = entry_of_read (took h place limit) } ∷ []) n b) place_same
-      (passes_one place h (entry_of_read (took h place limit)) b
+      (passes_one _ _ _ _
       (subst (λ n. Fits h place (record { missed = (read h place limit).missed; first = (read h place limit).first; number = n })) (sym long) law.0)
       (subst (λ n. n ≤ count h) (sym place_same) (law.2 within))
       (subst (λ n. map message_of (given h place limit) ≡ map message_of (take n (drop (read h place limit).first (instances h)))) (sym long) (ap (map message_of) law.1))
@@ -105,7 +88,7 @@ module _ (laws : BufferLaws) where
       let law = laws.clears h place sound in
       let to : next_place (pass_over h place) ≡ count h = law.1 within in
       subst (λ n. Passes place h (record { history = h; entry = cleared_entry h place } ∷ []) n b) to
-      (passes_one place h (cleared_entry h place) b law.0 (omega arith) tt goes)
+      (passes_one _ _ _ _ law.0 (omega arith) tt goes)
 
   -- an op that reads type u
   of_type : (u t : ℕ) (w : WorldState) (v : History Record) (ps : ℕ → ℕ) (e : Entry) (q : ℕ) → ps t ≤ count (w.histories t) → GoesOn (w.histories t) v
@@ -114,7 +97,7 @@ module _ (laws : BufferLaws) where
   of_type u t w v ps e q within goes passes = elim (cases_eq u t) [
     | inl same ↦ rw (eq-eqb u t same, eq-eqb t u (sym same))
         (subst (λ x. Passes (ps x) (w.histories x) (record { history = w.histories x; entry = e } ∷ []) q v) same (passes same))
-    | inr other ↦ rw (ne_eqb u t other, ne_eqb t u (λ x. other (sym x))) (passes_nothing (ps t) (w.histories t) v within goes)
+    | inr other ↦ rw (ne_eqb u t other, ne_eqb t u (λ x. other (sym x))) (passes_nothing _ _ _ within goes)
   ]
 
   of_read : (u t : ℕ) (w : WorldState) (v : History Record) (ps : ℕ → ℕ) (limit : Option ℕ) → IsSound (w.histories t) → ps t ≤ count (w.histories t) → GoesOn (w.histories t) v
@@ -134,10 +117,7 @@ module _ (laws : BufferLaws) where
   -- an op that reads type u and goes past nothing
   of_type_nothing : (u t : ℕ) (w : WorldState) (ps : ℕ → ℕ) → IsSound (w.histories t) → ps t ≤ count (w.histories t)
       → Passes (ps t) (w.histories t) (map (λ x. record { history = w.histories t; entry = x }) (cond (u == t) [] [])) (ps t) (w.histories t)
-  of_type_nothing u t w ps sound within = elim (cases_Bool (u == t)) [
-    | inl e ↦ rw e (passes_nothing (ps t) (w.histories t) (w.histories t) within (stays (w.histories t) sound))
-    | inr e ↦ rw e (passes_nothing (ps t) (w.histories t) (w.histories t) within (stays (w.histories t) sound))
-  ]
+  of_type_nothing u t w ps sound within = grind (arith, cases_Bool, passes_nothing, stays)
 
   pub op_passes : (t : ℕ) (op : Op) (writer : ℕ) (ps : ℕ → ℕ) (w : WorldState) → IsSound (w.histories t) → ps t ≤ count (w.histories t)
       → Passes (ps t) (w.histories t) (op_moments t op writer ps w) ((after_op op writer ps w).places t) ((after_op op writer ps w).state.histories t)
@@ -198,21 +178,11 @@ module _ (t : ℕ) (m : Meaning) (w : WorldState) where
   entries_snoc [] [] op r same = append-nil (entry_for t op r)
   entries_snoc [] (x ∷ rs) op r same = absurd (omega arith)
   entries_snoc (o ∷ ops) [] op r same = absurd (omega arith)
-  entries_snoc (o ∷ ops) (x ∷ rs) op r same =
-      ap (λ es. entry_for t o x ++ es) (entries_snoc ops rs op r (omega (arith, same)))
-      ∙ sym (append_assoc (entry_for t o x) (entries_for t ops rs) (entry_for t op r))
+  entries_snoc (o ∷ ops) (x ∷ rs) op r same = grind (arith, append_assoc, entries_snoc ops rs op r (omega (arith, same)))
 
   answered_more : (o : Option Op) (far : AfterProgram) (ms : List Moment) → next_op m far.replies ≡ o → AnsweredAs far ms → AnsweredAs (one_more o m.writer far) (ms ++ next_moments t o m.writer far)
   answered_more None far ms is so = subst (AnsweredAs far) (sym (append-nil ms)) so
-  answered_more (Some op) far ms is so =
-      let r : Reply = (after_op op m.writer far.places far.state).reply in
-      let ops : List Op = ops_answered (next_op m) far.replies in
-      let more : ops_answered (next_op m) (far.replies ++ r ∷ []) ≡ ops ++ op ∷ [] = ops_answered-snoc (next_op m) far.replies r ∙ ap (λ x. ops ++ option_to_list x) is in (
-        ap length more ∙ length-append ops (op ∷ []) ∙ ap (λ k. k + 1) so.0 ∙ sym (length-append far.replies (r ∷ [])),
-        ap (λ x. entries_for t x (far.replies ++ r ∷ [])) more ∙ entries_snoc ops far.replies op r so.0
-            ∙ ap (λ es. es ++ entry_for t op r) so.1 ∙ ap (λ es. map (λ x. x.entry) ms ++ es) (entries_again (far.state.histories t) (entry_for t op r))
-            ∙ sym (map-append (λ x. x.entry) ms (next_moments t (Some op) m.writer far)),
-      )
+  answered_more (Some op) far ms is so = grind (arith, entries_again, entries_snoc, length-append, map-append, ops_answered-snoc)
 
   answered : (n : ℕ) → AnsweredAs (so_far n) (first_moments t n m w)
   answered zero = (refl, refl)
@@ -224,10 +194,7 @@ module _ (t : ℕ) (m : Meaning) (w : WorldState) where
 
 -- those that the log has, and that the accounts get
 pub job_logged : (t : ℕ) (j : Job) (w : WorldState) → outcome_entries t j.system (outcome_of (after_job j w).replies) ≡ map (λ m. m.entry) (job_moments t j w)
-job_logged t j w = elim (cases_Bool (all_hold j.conditions w)) [
-  | inl e ↦ rw e (append-nil (entries_for t (ops_answered (next_op j.system) (turn j.system w).replies) (turn j.system w).replies) ∙ turn_entries t j.system w)
-  | inr e ↦ rw e refl
-]
+job_logged t j w = grind (arith, append-nil, cases_Bool, turn_entries)
 
 -- what it does after its job
 pub job_rule : (j : Job) (w : WorldState) → (after_job j w).job.system.rule ≡ (λ (later : List (List Reply)) (now : List Reply). j.system.rule (answers (outcome_of (after_job j w).replies) ++ later) now)

@@ -1,11 +1,11 @@
 -- What a reader goes past over a run of frames.
-use Rattle.std.proofs.Common.{◌≡◌, ℕ, ◌<◌, List, [], ◌∷◌, ◌++◌, map, refl, sym, ap, subst, ◌∙◌, unwrap_or}
+use Rattle.std.proofs.Common.{arith, ◌≡◌, ℕ, ◌<◌, List, [], ◌∷◌, ◌++◌, map, refl, sym, ap, subst, ◌∙◌}
 use Rattle.std.specs.Prelude.{IsTrue, IsFalse}
 use Rattle.std.proofs.lemmas.Bool.{false≢true}
 use Rattle.msg_buffer.specs.Prelude.{GoesOn, History}
 use Rattle.msg_world.specs.declared.record.Record.{Record}
 use Rattle.msg_system.specs.Prelude.{Needs, Rule}
-use Rattle.msg_frames.specs.Prelude.{Entry, Frame, IsGivenOnce, IsInOrderOf, IsRun, IsServed, IsSoundState, Log, Member, Moment, RunsAreComplete, State, Totals, answers_in, before_turns, counts, entries_told, found_at, found_totals, frame_in, has_begun, joined_member, log_entries, moments, place_of, systems_in, totals_from, turns_moments, with_entries}
+use Rattle.msg_frames.specs.Prelude.{Entry, Frame, IsGivenOnce, IsInOrderOf, IsRun, IsServed, IsSoundState, Log, Member, Moment, RunsAreComplete, State, answers_in, before_turns, counts, entries_told, found_at, found_totals, frame_in, has_begun, joined_member, log_entries, moments, place_of, systems_in, totals_from, turns_moments, with_entries}
 use Rattle.msg_frames.proofs.OneFateEach.{lies_between, meets_one_fate, missed_are_dropped}
 use Rattle.msg_frames.proofs.TilesGiveInOrder.{all_as_written, given_in_order, in_order_of}
 use Rattle.msg_frames.proofs.HistoriesGrow.{BufferLaws, goes_further, runs_go_on, stays}
@@ -38,11 +38,7 @@ frame_tells i t frame s log is =
     })
 
 pub run_tells : (i t : ℕ) (frames : List Frame) (s : State) (logs : List Log) (u : State) → IsRun frames s logs u → Tells i t s (answers_in i logs) (moments i t frames logs s) u
-run_tells i t [] s [] u is = record {
-  entries = refl;
-  rule = ap (λ (x : State). (x.members i).job.system.rule) is;
-  needs = ap (λ (x : State). (x.members i).job.system.needs) is;
-}
+run_tells i t [] s [] u is = grind arith
 run_tells i t (frame ∷ frames) s (log ∷ logs) u is =
     let m : State = (frame_in (systems_in log) frame s).state in
     tells_further i t s (answers_among i log.turns) (turns_moments i t (systems_in log) (before_turns frame.posts s)) m
@@ -53,22 +49,11 @@ run_tells i t frames s logs u is = absurd is
 -- ---- a reader that has joined
 
 passes_since : (a b c : History Record) (p : ℕ) (ms : List Moment) (q : ℕ) → GoesOn a b → Passes p b ms q c → Passes p a ms q c
-passes_since a b c p ms q goes x = record {
-  goes_on = goes_further a b c goes x.goes_on;
-  within = x.within;
-  tile = x.tile;
-  gives = x.gives;
-  earlier = x.earlier;
-  written = x.written;
-}
+passes_since a b c p ms q goes x = grind (arith, goes_further)
 
 -- what comes before the turns does nothing to it
 reads_since : (i t : ℕ) (s b : State) (ms : List Moment) (u : State) → GoesOn (s.world.histories t) (b.world.histories t) → b.members i ≡ s.members i → Reads i t b ms u → Reads i t s ms u
-reads_since i t s b ms u goes same x = record {
-  passes = subst (λ (m : Member). Passes (m.job.system.places t) (s.world.histories t) ms (place_of u i t) (u.world.histories t)) same
-      (passes_since (s.world.histories t) (b.world.histories t) (u.world.histories t) (place_of b i t) ms (place_of u i t) goes x.passes);
-  totals = subst (λ (m : Member). (u.members i).totals t ≡ with_entries (map (λ y. y.entry) ms) (m.totals t)) same x.totals;
-}
+reads_since i t s b ms u goes same x = grind (arith, passes_since)
 
 -- ---- a reader that joins in the run, or had joined
 
@@ -79,30 +64,16 @@ pub record Follows (i t : ℕ) (s : State) (ms : List Moment) (u : State) : Type
 
 module _ (i t : ℕ) where
   follows_joined : (s : State) (ms : List Moment) (u : State) → IsTrue (has_begun s i) → Reads i t s ms u → Follows i t s ms u
-  follows_joined s ms u has x = record {
-    passes = rw has x.passes;
-    totals = rw has x.totals;
-  }
+  follows_joined s ms u has x = grind arith
 
   -- from the place at which it joined
   follows_new : (s : State) (ms : List Moment) (u : State) (place : ℕ) → IsFalse (has_begun s i)
       → Passes place (s.world.histories t) ms (place_of u i t) (u.world.histories t) → (u.members i).totals t ≡ with_entries (map (λ m. m.entry) ms) (totals_from place) → Follows i t s ms u
-  follows_new s ms u place isnt passes totals =
-      let at : unwrap_or ((u.members i).totals t).start 0 ≡ place = ap (λ (x : Totals). unwrap_or x.start 0) totals in
-      record {
-        passes = rw isnt (rw at passes);
-        totals = rw isnt (rw at totals);
-      }
+  follows_new s ms u place isnt passes totals = grind arith
 
   -- where nothing was done to it yet
   follows_since : (s m : State) (ms : List Moment) (u : State) → IsFalse (has_begun s i) → IsFalse (has_begun m i) → GoesOn (s.world.histories t) (m.world.histories t) → Follows i t m ms u → Follows i t s ms u
-  follows_since s m ms u isnt wasnt goes x =
-      let same : found_at s u i t ≡ found_at m u i t = rw (isnt, wasnt) refl in
-      record {
-        passes = subst (λ p. Passes p (s.world.histories t) ms (place_of u i t) (u.world.histories t)) (sym same)
-            (passes_since (s.world.histories t) (m.world.histories t) (u.world.histories t) (found_at m u i t) ms (place_of u i t) goes x.passes);
-        totals = x.totals ∙ ap (with_entries (map (λ y. y.entry) ms)) (rw (isnt, wasnt) refl);
-      }
+  follows_since s m ms u isnt wasnt goes x = grind (arith, passes_since)
 
 module _ (laws : BufferLaws) (i t : ℕ) where
   -- the turns of a frame
@@ -117,11 +88,7 @@ module _ (laws : BufferLaws) (i t : ℕ) where
 
   run_reads : (frames : List Frame) (s : State) (logs : List Log) (u : State) → IsSoundState s → IsRun frames s logs u → t < s.types → IsTrue (has_begun s i)
       → Reads i t s (moments i t frames logs s) u
-  run_reads [] s [] u sound is below has =
-      subst (Reads i t s []) (sym is) (record {
-        passes = passes_nothing (place_of s i t) (s.world.histories t) (s.world.histories t) (sound.places i t below) (stays (s.world.histories t) (sound.histories t below));
-        totals = sym (with_entries-none ((s.members i).totals t));
-      })
+  run_reads [] s [] u sound is below has = grind (arith, passes_nothing, stays, with_entries-none)
   run_reads (frame ∷ frames) s (log ∷ logs) u sound is below has =
       let b : State = before_turns frame.posts s in
       let m : State = (frame_in (systems_in log) frame s).state in
@@ -141,9 +108,7 @@ module _ (laws : BufferLaws) (i t : ℕ) where
 
   pub run_follows : (frames : List Frame) (s : State) (logs : List Log) (u : State) → IsSoundState s → IsRun frames s logs u → t < s.types → IsTrue (has_begun u i)
       → Follows i t s (moments i t frames logs s) u
-  run_follows [] s [] u sound is below has =
-      let had : IsTrue (has_begun s i) = subst (λ x. IsTrue (has_begun x i)) is has in
-      follows_joined i t s [] u had (run_reads [] s [] u sound is below had)
+  run_follows [] s [] u sound is below has = grind (arith, follows_joined, run_reads)
   run_follows (frame ∷ frames) s (log ∷ logs) u sound is below has =
       let b : State = before_turns frame.posts s in
       let m : State = (frame_in (systems_in log) frame s).state in

@@ -6,6 +6,7 @@ use Rattle.msg_buffer.specs.Prelude.{IsSound, count}
 use Rattle.msg_system.specs.declared.reply.Reply.{Reply}
 use Rattle.msg_system.specs.Prelude.{Needs, Rule}
 use Rattle.msg_frames.specs.Prelude.{Entry, Member, Moment, SameSystems, State, Turn, after_turn_of, after_turns_of, answers, entries_for, entries_told, job_moments, logged_turn, ops_by, place_of, turn_of, turns_moments, with_entries}
+use Rattle.msg_order.proofs.Elements.{Contains-tail}
 use Rattle.msg_frames.proofs.HistoriesGrow.{BufferLaws, job_goes_on, stays}
 use Rattle.msg_frames.proofs.SystemsStay.{one_turn_keeps}
 use Rattle.msg_frames.proofs.ReaderOverJob.{Passes, job_logged, job_passes, job_rule, passes_further, passes_nothing}
@@ -30,10 +31,7 @@ Keeps s u = SameSystems s u × (u.frames ≡ s.frames)
 
 -- a member is as its turn leaves it, or as it was
 pub one_member : (P : Member → Type 0) (j i : ℕ) (s : State) → (i ≡ j → P (turn_of s i).member) → (¬ (i ≡ j) → P (s.members i)) → P ((after_turn_of j s).members i)
-one_member P j i s here other = elim (cases_eq i j) [
-  | inl e ↦ rw (eq-eqb i j e) (subst (λ k. P (turn_of s k).member) e (here e))
-  | inr ne ↦ rw (ne_eqb i j ne) (other ne)
-]
+one_member P j i s here other = grind (arith, cases_eq, eq-eqb, ne_eqb)
 
 -- the moments of reader (i, t) in the turn of system j
 abbrev own_moments : ℕ → ℕ → ℕ → State → List Moment
@@ -51,20 +49,14 @@ module _ (laws : BufferLaws) where
       (passes_nothing (place_of s i t) (s.world.histories t) ((turn_of s j).world.histories t) within (job_goes_on laws.grow (s.members j).job s.world t sound)))
 
   turn_totals : (i t j : ℕ) (s : State) → ((after_turn_of j s).members i).totals t ≡ with_entries (map (λ m. m.entry) (own_moments i t j s)) ((s.members i).totals t)
-  turn_totals i t j s =
-      one_member (λ m. m.totals t ≡ with_entries (map (λ x. x.entry) (own_moments i t j s)) ((s.members i).totals t)) j i s
-      (λ e. rw (eq-eqb j i (sym e)) (ap (λ es. with_entries es ((s.members i).totals t)) (job_logged t (s.members i).job s.world)))
-      (λ ne. rw (ne_eqb j i (λ x. ne (sym x))) (sym (with_entries-none ((s.members i).totals t))))
+  turn_totals i t j s = grind (arith, eq-eqb, job_logged, ne_eqb, one_member, with_entries-none)
 
   pub turn_reads : (i t j : ℕ) (s : State) → IsSound (s.world.histories t) → place_of s i t ≤ count (s.world.histories t) → Reads i t s (own_moments i t j s) (after_turn_of j s)
   turn_reads i t j s sound within = record { passes = turn_passes i t j s sound within; totals = turn_totals i t j s }
 
   pub turns_read : (i t : ℕ) (js : List ℕ) (s : State) → IsSound (s.world.histories t) → place_of s i t ≤ count (s.world.histories t)
       → Reads i t s (turns_moments i t js s) (after_turns_of js s).state
-  turns_read i t [] s sound within = record {
-    passes = passes_nothing (place_of s i t) (s.world.histories t) (s.world.histories t) within (stays (s.world.histories t) sound);
-    totals = sym (with_entries-none ((s.members i).totals t));
-  }
+  turns_read i t [] s sound within = grind (arith, passes_nothing, stays, with_entries-none)
   turns_read i t (j ∷ js) s sound within =
       let first : Reads i t s (own_moments i t j s) (after_turn_of j s) = turn_reads i t j s sound within in
       reads_further i t s (own_moments i t j s) (after_turn_of j s) (turns_moments i t js (after_turn_of j s)) (after_turns_of js (after_turn_of j s)).state first
@@ -84,8 +76,7 @@ pub entries_told-append : (t : ℕ) (n : Needs) (rule : Rule) (xs ys : List (Lis
 entries_told-append t n rule [] ys = refl
 entries_told-append t n rule (x ∷ xs) ys =
     let here : List Entry = entries_for t (ops_by n rule x) x in
-    ap (λ es. here ++ es) (entries_told-append t n (λ later now. rule (x ∷ later) now) xs ys)
-    ∙ sym (append_assoc here (entries_told t n (λ later now. rule (x ∷ later) now) xs) (entries_told t n (after_told (x ∷ xs) rule) ys))
+    ap (λ es. here ++ es) (entries_told-append t n _ xs ys) ∙ sym (append_assoc here _ _)
 
 -- what was told one turn after the other
 after_both : (rule : Rule) (xs ys : List (List Reply)) → after_told ys (after_told xs rule) ≡ after_told (xs ++ ys) rule
@@ -134,21 +125,15 @@ turns_tell i t (j ∷ js) s =
     (answers_among i (after_turns_of js u).turns) (turns_moments i t js u) (after_turns_of js u).state (turn_tells i t j s) (turns_tell i t js u)
 
 -- one whose turn doesn't come
-in_rest : (i j : ℕ) (js : List ℕ) → Contains js i → Contains (j ∷ js) i
-in_rest i j js at = (suc at.0, omega (arith, at.1), at.2)
-
-at_front : (i j : ℕ) (js : List ℕ) → j ≡ i → Contains (j ∷ js) i
-at_front i j js e = (0, omega arith, e)
-
 pub turns_skip : (i : ℕ) (js : List ℕ) (s : State) → ¬ Contains js i → (after_turns_of js s).state.members i ≡ s.members i
 turns_skip i [] s out = refl
 turns_skip i (j ∷ js) s out =
-    turns_skip i js (after_turn_of j s) (λ at. out (in_rest i j js at))
-    ∙ one_member (λ m. m ≡ s.members i) j i s (λ e. absurd (out (at_front i j js (sym e)))) (λ ne. refl)
+    turns_skip i js (after_turn_of j s) (λ at. out (Contains-tail j js i at))
+    ∙ one_member (λ m. m ≡ s.members i) j i s (λ e. absurd (out (0, omega arith, sym e))) (λ ne. refl)
 
 pub no_moments : (i t : ℕ) (js : List ℕ) (s : State) → ¬ Contains js i → turns_moments i t js s ≡ []
 no_moments i t [] s out = refl
 no_moments i t (j ∷ js) s out = elim (cases_eq j i) [
-  | inl e ↦ absurd (out (at_front i j js e))
-  | inr ne ↦ rw (ne_eqb j i ne) (no_moments i t js (after_turn_of j s) (λ at. out (in_rest i j js at)))
+  | inl e ↦ absurd (out (0, omega arith, e))
+  | inr ne ↦ rw (ne_eqb j i ne) (no_moments i t js (after_turn_of j s) (λ at. out (Contains-tail j js i at)))
 ]

@@ -36,12 +36,7 @@ is_there p h n recent above floor within = elim (slice_get_cases h.entries n).1 
 -- a stretch that fits where all is present misses nothing
 none_missed : (h : History Record) (place : ℕ) (s : Stretch) → Fits h place s → next_place s ≤ count h
     → ((n : ℕ) → place ≤ n → n < count h → IsPresent h n) → s.missed ≡ 0
-none_missed h place s fits within all = elim (cases_eq s.missed 0) [
-  | inl none ↦ none
-  | inr some ↦
-      let first = fits.first in
-      absurd (fits.missed place (omega arith) (omega arith) (all place (omega arith) (omega arith)))
-]
+none_missed h place s fits within all = grind (arith, cases_eq)
 
 -- the entries of these moments miss nothing
 abbrev pub NoneMissed : List Moment → Type 0
@@ -84,10 +79,7 @@ recent_ahead s i t up n e above at =
     omega arith
 
 floor_below : (s : State) (i t n : ℕ) → IsUpToDate s i t → place_of s i t ≤ n → n < count (s.world.histories t) → (s.world.histories t).floor ≤ n
-floor_below s i t n up above within =
-    let h : History Record = s.world.histories t in
-    let there : IsPresent (update h) n = up n above within in
-    leb-true h.floor n (and_parts (nat_le h.floor n) (nat_le (suc h.updates) (there.0.stamp + 1)) there.2).0
+floor_below s i t n up above within = grind (arith, and_parts, leb-true)
 
 module _ (laws : BufferLaws) where
   module _ (frame : Frame) (s : State) (log : Log) (u : State) (i t : ℕ) (sound : IsSoundState s) (is : IsFrame frame s log u) (below : t < s.types) where
@@ -106,7 +98,7 @@ module _ (laws : BufferLaws) where
     begins : GoesOn (s.world.histories t) (b.world.histories t)
     begins = prep.world t (sound.histories t below)
 
-    caught_up : ReadsAll i t log u → (earlier later : List ℕ) → systems_in log ≡ earlier ++ i ∷ later
+    pub caught_up : ReadsAll i t log u → (earlier later : List ℕ) → systems_in log ≡ earlier ++ i ∷ later
         → count ((after_turns_of earlier b).state.world.histories t) ≤ place_of u i t
     caught_up reads earlier later order =
         let leaves : u ≡ (after_turns_of (earlier ++ i ∷ later) b).state = is.leaves ∙ ap (λ xs. (frame_in xs frame s).state) order in
@@ -116,12 +108,12 @@ module _ (laws : BufferLaws) where
         let read_all = subst (λ (x : State). IsTrue (list_any (reads_all t) (x.members i).job.system.last)) leaves reads.read_all in
         subst (λ (x : State). count ((after_turns_of earlier b).state.world.histories t) ≤ place_of x i t) (sym leaves) (took read_all)
 
-    has_frame_before : ReadsAll i t log u → count (s.world.histories t) ≤ place_of u i t
+    pub has_frame_before : ReadsAll i t log u → count (s.world.histories t) ≤ place_of u i t
     has_frame_before reads =
-        let parts : Cut (systems_in log) i = cut (systems_in log) i reads.has_turn in
-        let up = caught_up reads parts.before parts.rest parts.is in
-        let first = counts_more (s.world.histories t) (b.world.histories t) begins in
-        let more = counts_more (b.world.histories t) ((after_turns_of parts.before b).state.world.histories t) (turns_go_on laws.grow parts.before b t (ready.histories t under)) in
+        let parts : Cut (systems_in log) i = cut _ _ reads.has_turn in
+        let up = caught_up reads _ _ parts.is in
+        let first = counts_more _ _ begins in
+        let more = counts_more _ _ (turns_go_on laws.grow parts.before b t (ready.histories t under)) in
         omega arith
 
     -- a frame keeps recent what its update leaves recent
@@ -133,7 +125,7 @@ module _ (laws : BufferLaws) where
         let turns = turns_recent k p t i (systems_in log) b begun in
         (subst (λ (x : State). AreRecent k p (x.world.histories t)) (sym is.leaves) turns.0, turns.1)
 
-    now_up_to_date : ReadsAll i t log u → NothingDrained t s u → IsUpToDate u i t
+    pub now_up_to_date : ReadsAll i t log u → NothingDrained t s u → IsUpToDate u i t
     now_up_to_date reads drained n above within =
         let p : ℕ = count (s.world.histories t) in
         let had = has_frame_before reads in
@@ -179,9 +171,9 @@ module _ (laws : BufferLaws) where
     joined_by_turn at =
         let now : IsTrue (has_begun b i) = elim (cases_Bool (has_begun b i)) [
           | inl has ↦ has
-          | inr isnt ↦ absurd (has_no_turn b (systems_in log) i is.in_order isnt at)
+          | inr isnt ↦ absurd (has_no_turn _ _ _ is.in_order isnt at)
         ] in
-        subst (λ (x : State). IsTrue (has_begun x i)) (sym is.leaves) (begun_alike b (after_turns_of (systems_in log) b).state i (turns_keep (systems_in log) b) ∙ now)
+        subst (λ (x : State). IsTrue (has_begun x i)) (sym is.leaves) (begun_alike _ _ _ (turns_keep (systems_in log) b) ∙ now)
 
   -- ---- a run
 
@@ -224,19 +216,10 @@ module _ (laws : BufferLaws) where
   -- as the logs tell it
   told_none_missed : (frames : List Frame) (s : State) (logs : List Log) (u : State) (i t : ℕ) → IsRun frames s logs u → NoneMissed (moments i t frames logs s) → MissesNothing i t s logs
   told_none_missed frames s logs u i t run none =
-      subst (All (λ e. e.stretch.missed ≡ 0)) (sym (run_tells i t frames s logs u run).entries)
-      (All-map (λ e. e.stretch.missed ≡ 0) (λ m. m.entry) (moments i t frames logs s) none)
+      subst (All (λ e. e.stretch.missed ≡ 0)) (sym (run_tells _ _ _ _ _ _ run).entries)
+      (All-map (λ e. e.stretch.missed ≡ 0) _ _ none)
 
   -- ---- the laws
-
-  pub catches_up : WhoReadsAllCatchesUp
-  catches_up frame s log u i t sound is below reads = caught_up frame s log u i t sound is below reads
-
-  pub has_the_frame_before : WhoReadsAllHasTheFrameBefore
-  has_the_frame_before frame s log u i t sound is below reads = has_frame_before frame s log u i t sound is below reads
-
-  pub is_up_to_date : WhoReadsAllIsUpToDate
-  is_up_to_date frame s log u i t sound is below reads drained = now_up_to_date frame s log u i t sound is below reads drained
 
   pub misses_nothing : WhoIsUpToDateMissesNothing
   misses_nothing frame s log u i t sound is below has up drained =

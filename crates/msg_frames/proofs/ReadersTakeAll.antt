@@ -1,5 +1,5 @@
 -- A reader whose turn reads all of a type goes past all that had been written by then.
-use Rattle.std.proofs.Common.{◌≡◌, ◌≢◌, ℕ, zero, suc, ◌≤◌, List, [], ◌∷◌, ◌++◌, map, All, true, false, ◌||◌, Option, None, Some, refl, sym, ap, subst, ◌∙◌, arith, inl, inr, ◌==◌}
+use Rattle.std.proofs.Common.{◌≡◌, ◌≢◌, ℕ, zero, suc, ◌≤◌, List, [], ◌∷◌, ◌++◌, map, All, true, false, ◌||◌, Option, None, Some, refl, sym, ap, ◌∙◌, arith, inl, inr, ◌==◌}
 use Rattle.std.specs.Prelude.{option_to_list, IsTrue}
 use Rattle.std.specs.List.{list_any}
 use Rattle.std.proofs.lemmas.Bool.{cases_Bool, eq-eqb, eqb-true, false≢true, or_cases}
@@ -10,30 +10,20 @@ use Rattle.msg_world.specs.Prelude.{WorldState}
 use Rattle.msg_system.specs.declared.op.Op.{Op}
 use Rattle.msg_system.specs.declared.op.Op.TheVariants.{Read, Forward, Sum}
 use Rattle.msg_system.specs.declared.reply.Reply.{Reply}
-use Rattle.msg_system.specs.Prelude.{AfterProgram, Job, Meaning, after_at_most, after_job, after_op, all_hold, next_op, one_more, ops_answered, place_after_read, turn, with_place}
+use Rattle.msg_system.specs.Prelude.{AfterProgram, Job, Meaning, after_at_most, after_job, after_op, next_op, one_more, ops_answered, place_after_read, turn, with_place}
 use Rattle.msg_system.proofs.Turns.{ops_answered-snoc}
 use Rattle.msg_frames.specs.Prelude.{Moment, Skipped, State, after_turn_of, after_turns_of, first_moments, logged_turn, next_moments, outcome_of, place_of, reads_all}
 use Rattle.msg_frames.proofs.HistoriesGrow.{BufferLaws, counts_more}
+use Rattle.msg_frames.proofs.OneFateEach.{tiles_rise}
 use Rattle.msg_frames.proofs.ReaderOverJob.{Passes, first_passes, next_passes, tile_of}
 use Rattle.msg_frames.proofs.ReaderOverTurns.{one_member, turn_reads}
 
 -- ---- a turn that reads all
 
--- a tile only goes on
-pub goes_no_lower : (place : ℕ) (ms : List Moment) (to : ℕ) → Tile place (map tile_of ms) to → place ≤ to
-goes_no_lower place [] to tile = omega (arith, tile)
-goes_no_lower place (m ∷ ms) to tile =
-    let rest = goes_no_lower (next_place m.entry.stretch) ms to tile.1 in
-    let first = tile.0.first in
-    omega arith
-
 module _ (laws : BufferLaws) (t : ℕ) where
   takes : (u : ℕ) (ps : ℕ → ℕ) (w : WorldState) → IsSound (w.histories t) → ps t ≤ count (w.histories t) → IsTrue (u == t)
       → with_place ps u (place_after_read (w.histories u) (ps u) None) t ≡ count (w.histories t)
-  takes u ps w sound within is =
-      let same : u ≡ t = eqb-true u t is in
-      rw (eq-eqb t u (sym same))
-      (subst (λ v. place_after_read (w.histories v) (ps v) None ≡ count (w.histories t)) (sym same) ((laws.clears (w.histories t) (ps t) sound).1 within))
+  takes u ps w sound within is = grind (arith, eq-eqb, eqb-true)
 
   op_takes_all : (op : Op) (writer : ℕ) (ps : ℕ → ℕ) (w : WorldState) → IsSound (w.histories t) → ps t ≤ count (w.histories t) → IsTrue (reads_all t op)
       → (after_op op writer ps w).places t ≡ count (w.histories t)
@@ -56,7 +46,7 @@ module _ (laws : BufferLaws) (t : ℕ) where
       elim (or_cases (list_any (reads_all t) ops) (reads_all t op || false) either) [
         | inl old ↦
             let was = so old in
-            let further = goes_no_lower (far.places t) (next_moments t (Some op) m.writer far) ((one_more (Some op) m.writer far).places t)
+            let further = tiles_rise (far.places t) (next_moments t (Some op) m.writer far) ((one_more (Some op) m.writer far).places t)
             (next_passes laws t (Some op) m.writer far sound within).tile in
             omega arith
         | inr new ↦ elim (or_cases (reads_all t op) false new) [
@@ -84,18 +74,12 @@ module _ (laws : BufferLaws) (t : ℕ) where
 
   job_takes : (j : Job) (w : WorldState) → IsSound (w.histories t) → j.system.places t ≤ count (w.histories t) → outcome_of (after_job j w).replies ≢ Skipped
       → IsTrue (list_any (reads_all t) (after_job j w).job.system.last) → count (w.histories t) ≤ (after_job j w).job.system.places t
-  job_takes j w sound within = elim (cases_Bool (all_hold j.conditions w)) [
-    | inl e ↦ rw e (λ ran is. turn_takes j.system w sound within is)
-    | inr e ↦ rw e (λ ran is. absurd (ran refl))
-  ]
+  job_takes j w sound within = grind (arith, cases_Bool, turn_takes)
 
   job_keeps : (c : ℕ) (j : Job) (w : WorldState) → IsSound (w.histories t) → j.system.places t ≤ count (w.histories t) → c ≤ count (w.histories t)
       → (IsTrue (list_any (reads_all t) j.system.last) → c ≤ j.system.places t)
       → IsTrue (list_any (reads_all t) (after_job j w).job.system.last) → c ≤ (after_job j w).job.system.places t
-  job_keeps c j w sound within less has = elim (cases_Bool (all_hold j.conditions w)) [
-    | inl e ↦ rw e (λ is. let all = turn_takes j.system w sound within is in omega arith)
-    | inr e ↦ rw e has
-  ]
+  job_keeps c j w sound within less has = grind (arith, cases_Bool, turn_takes)
 
   -- ---- turns
 
@@ -105,15 +89,11 @@ module _ (laws : BufferLaws) (t : ℕ) where
 
   own_turn_takes : (i : ℕ) (s : State) → IsSound (s.world.histories t) → place_of s i t ≤ count (s.world.histories t) → (logged_turn s i).outcome ≢ Skipped
       → Took i (count (s.world.histories t)) (after_turn_of i s)
-  own_turn_takes i s sound within ran =
-      one_member (λ m. IsTrue (list_any (reads_all t) m.job.system.last) → count (s.world.histories t) ≤ m.job.system.places t) i i s
-      (λ e. job_takes (s.members i).job s.world sound within ran) (λ ne. absurd (ne refl))
+  own_turn_takes i s sound within ran = grind (arith, job_takes, one_member)
 
   turn_keeps : (i j c : ℕ) (s : State) → IsSound (s.world.histories t) → place_of s i t ≤ count (s.world.histories t) → c ≤ count (s.world.histories t)
       → Took i c s → Took i c (after_turn_of j s)
-  turn_keeps i j c s sound within less has =
-      one_member (λ m. IsTrue (list_any (reads_all t) m.job.system.last) → c ≤ m.job.system.places t) j i s
-      (λ e. job_keeps c (s.members i).job s.world sound within less has) (λ ne. has)
+  turn_keeps i j c s sound within less has = grind (arith, job_keeps, one_member)
 
   turns_keep_it : (i c : ℕ) (js : List ℕ) (s : State) → IsSound (s.world.histories t) → place_of s i t ≤ count (s.world.histories t) → c ≤ count (s.world.histories t)
       → Took i c s → Took i c (after_turns_of js s).state
@@ -126,11 +106,7 @@ module _ (laws : BufferLaws) (t : ℕ) where
   pub takes_by_turn : (i : ℕ) (earlier later : List ℕ) (b : State) → IsSound (b.world.histories t) → place_of b i t ≤ count (b.world.histories t)
       → All (λ turn. turn.system ≡ i → turn.outcome ≢ Skipped) (after_turns_of (earlier ++ i ∷ later) b).turns
       → Took i (count ((after_turns_of earlier b).state.world.histories t)) (after_turns_of (earlier ++ i ∷ later) b).state
-  takes_by_turn i [] later b sound within ran =
-      let first = (turn_reads laws i t i b sound within).passes in
-      turns_keep_it i (count (b.world.histories t)) later (after_turn_of i b) first.goes_on.sound first.within
-      (counts_more (b.world.histories t) ((after_turn_of i b).world.histories t) first.goes_on)
-      (own_turn_takes i b sound within (All-head (λ turn. turn.system ≡ i → turn.outcome ≢ Skipped) (logged_turn b i) (after_turns_of later (after_turn_of i b)).turns ran refl))
+  takes_by_turn i [] later b sound within ran = grind (arith, All-head, counts_more, own_turn_takes, turn_reads, turns_keep_it)
   takes_by_turn i (j ∷ more) later b sound within ran =
       let first = (turn_reads laws i t j b sound within).passes in
       takes_by_turn i more later (after_turn_of j b) first.goes_on.sound first.within

@@ -1,5 +1,5 @@
 -- A replay tells of each system what the frame tells of it.
-use Rattle.std.proofs.Common.{◌≡◌, ◌≢◌, ℕ, ◌==◌, ◌⊎◌, inl, inr, List, [], ◌∷◌, ◌++◌, map, refl, ap, sym, subst, ◌∙◌}
+use Rattle.std.proofs.Common.{arith, ◌≡◌, ◌≢◌, ℕ, ◌==◌, ◌⊎◌, inl, inr, List, [], ◌∷◌, ◌++◌, map, refl, ap, sym, subst, ◌∙◌}
 use Rattle.std.specs.Prelude.{All, AllPairs, Contains, IsPermutation, flat_map, if◌then◌else◌}
 use Rattle.std.proofs.lemmas.Bool.{cases_Bool, eqb-false, eqb-true}
 use Rattle.std.proofs.lemmas.List.{append-nil}
@@ -9,7 +9,7 @@ use Rattle.msg_order.specs.Prelude.{TurnOrderIsLawful}
 use Rattle.msg_system.specs.declared.reply.Reply.{Reply}
 use Rattle.msg_frames.specs.Prelude.{Frame, IsMixedRun, IsReplay, IsRun, Log, ReplaysTellACompleteRun, ReplaysTellTheSame, RunsAreComplete, State, Turn, answers, answers_in, before_turns, join_flags, systems_in}
 use Rattle.msg_frames.proofs.ElementsAndPairs.{pairs_head, pairs_tail}
-use Rattle.msg_order.proofs.Elements.{Contains-cases, Contains-head, Contains-tail, not_in_none}
+use Rattle.msg_order.proofs.Elements.{Contains-cases, Contains-head, Contains-map, Contains-tail, not_in_none}
 use Rattle.msg_frames.proofs.RunsAreUnique.{order_is_among}
 
 -- ---- what is told under one key, in a list in which each key stands once
@@ -24,13 +24,6 @@ module _ {X Y : Type 0} (key : X → ℕ) (f : X → List Y) (i : ℕ) where
   not_own : (x : X) → key x ≢ i → own x ≡ []
   not_own x ne = elim (cases_Bool (key x == i)) [ inl t ↦ absurd (ne (eqb-true (key x) i t)) | inr n ↦ rw n refl ]
 
-  key_among : (xs : List X) (x : X) → Contains xs x → Contains (map key xs) (key x)
-  key_among [] x c = absurd (not_in_none x c)
-  key_among (y ∷ ys) x c = elim (Contains-cases y ys x c) [
-    | inl e ↦ subst (λ z. Contains (map key (y ∷ ys)) (key z)) e (Contains-head (key y) (map key ys))
-    | inr d ↦ Contains-tail (key y) (map key ys) (key x) (key_among ys x d)
-  ]
-
   none_told : (xs : List X) → ((x : X) → Contains xs x → key x ≢ i) → flat_map own xs ≡ []
   none_told [] h = refl
   none_told (x ∷ xs) h = ap (λ ys. ys ++ flat_map own xs) (not_own x (h x (Contains-head x xs))) ∙ none_told xs (λ y c. h y (Contains-tail x xs y c))
@@ -38,24 +31,24 @@ module _ {X Y : Type 0} (key : X → ℕ) (f : X → List Y) (i : ℕ) where
   one_told : (xs : List X) → AllPairs (λ a b. a ≢ b) (map key xs) → (x : X) → Contains xs x → key x ≡ i → flat_map own xs ≡ f x
   one_told [] once x c e = absurd (not_in_none x c)
   one_told (y ∷ ys) once x c e =
-      let apart : All (λ k. key y ≢ k) (map key ys) = pairs_head (λ a b. a ≢ b) (key y) (map key ys) once in
-      elim (Contains-cases y ys x c) [
+      let apart : All (λ k. key y ≢ k) (map key ys) = pairs_head (λ a b. a ≢ b) _ _ once in
+      elim (Contains-cases _ _ _ c) [
         | inl same ↦
             let is : key y ≡ i = ap key same ∙ e in
-            let rest : flat_map own ys ≡ [] = none_told ys (λ z d at. All-contains (λ k. key y ≢ k) (map key ys) (key z) apart (key_among ys z d) (is ∙ sym at)) in
-            ap (λ zs. own y ++ zs) rest ∙ append-nil (own y) ∙ its_own y is ∙ ap f same
+            let rest : flat_map own ys ≡ [] = none_told _ (λ z d at. All-contains (λ k. key y ≢ k) (map key ys) (key z) apart (Contains-map key _ _ d) (is ∙ sym at)) in
+            ap (λ zs. own y ++ zs) rest ∙ append-nil (own y) ∙ its_own _ is ∙ ap f same
         | inr later ↦
-            let ne : key y ≢ i = λ at. All-contains (λ k. key y ≢ k) (map key ys) (key x) apart (key_among ys x later) (at ∙ sym e) in
-            ap (λ zs. zs ++ flat_map own ys) (not_own y ne) ∙ one_told ys (pairs_tail (λ a b. a ≢ b) (key y) (map key ys) once) x later e
+            let ne : key y ≢ i = λ at. All-contains (λ k. key y ≢ k) (map key ys) (key x) apart (Contains-map key _ _ later) (at ∙ sym e) in
+            ap (λ zs. zs ++ flat_map own ys) (not_own _ ne) ∙ one_told ys (pairs_tail (λ a b. a ≢ b) _ _ once) x later e
       ]
 
   look : (xs : List X) → ((x : X) × (Contains xs x × (key x ≡ i))) ⊎ ((x : X) → Contains xs x → key x ≢ i)
   look [] = inr (λ x c. absurd (not_in_none x c))
   look (x ∷ xs) = elim (cases_Bool (key x == i)) [
-    | inl t ↦ inl (x, (Contains-head x xs, eqb-true (key x) i t))
+    | inl t ↦ inl (x, (Contains-head _ _, eqb-true (key x) i t))
     | inr n ↦ elim (look xs) [
-      | inl some ↦ inl (some.0, (Contains-tail x xs some.0 some.1.0, some.1.1))
-      | inr none ↦ inr (λ y c at. elim (Contains-cases x xs y c) [ inl e ↦ eqb-false (key x) i n (ap key e ∙ at) | inr d ↦ none y d at ])
+      | inl some ↦ inl (some.0, (Contains-tail _ _ _ some.1.0, some.1.1))
+      | inr none ↦ inr (λ y c at. elim (Contains-cases _ _ _ c) [ inl e ↦ eqb-false (key x) i n (ap key e ∙ at) | inr d ↦ none _ d at ])
     ]
   ]
 
@@ -73,9 +66,9 @@ turns_alike : TurnOrderIsLawful → (frame : Frame) (order : List ℕ) (s : Stat
 turns_alike lawful frame order s log u replay i =
     let b : State = before_turns frame.posts s in
     let settled = replay.is_frame.in_order in
-    told_alike (λ (turn : Turn). turn.system) (λ (turn : Turn). answers turn.outcome) i log.turns replay.settled.turns replay.turns
+    told_alike (λ (turn : Turn). turn.system) (λ (turn : Turn). answers _) i log.turns replay.settled.turns replay.turns
     (subst (AllPairs (λ a b. a ≢ b)) (sym replay.in_order) replay.lawful.lawful.once)
-    (lawful settled.settled (join_flags b) (systems_in replay.settled) (order_is_among b settled.settled settled.is_order) settled.in_order).once
+    (lawful settled.settled (join_flags b) (systems_in replay.settled) (order_is_among _ _ settled.is_order) settled.in_order).once
 
 pub replay_tells : TurnOrderIsLawful → ReplaysTellTheSame
 replay_tells lawful frame order s log u replay i = ap (λ xs. xs ++ []) (turns_alike lawful frame order s log u replay i)
@@ -107,6 +100,4 @@ settles lawful (frame ∷ frames) s (log ∷ logs) u x =
 settles lawful frames s logs u x = absurd x
 
 pub replays_tell : TurnOrderIsLawful → RunsAreComplete → ReplaysTellACompleteRun
-replays_tell lawful complete frames s logs u sound x =
-    let run = settles lawful frames s logs u x in
-    record { settled = run.settled; complete = complete frames s run.settled u sound run.is_run; alike = run.alike }
+replays_tell lawful complete frames s logs u sound x = grind (arith, settles)

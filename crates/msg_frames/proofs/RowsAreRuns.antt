@@ -16,7 +16,7 @@ use Rattle.msg_system.specs.declared.condition.Condition.{Condition}
 use Rattle.msg_system.specs.declared.op.Op.TheVariants.{Read}
 use Rattle.msg_system.specs.declared.program.Program.{Program}
 use Rattle.msg_system.specs.Prelude.{IsAccessOf, Needs, conditions_of, is_part, job_needs, op_parts, probe_part, program_needs, some_condition_reads, some_op_reads, turn, with_conditions}
-use Rattle.msg_frames.specs.Prelude.{AfterFrame, Frame, IsRunOf, IsTurnOrderOf, OrderedFrames, Setup, State, alone, before_turns, conditions_frames, contrary, contrary_frames, drained, drained_frames, early_frames, echo, echo_frames, fourth, fourth_frames, frame_in, gated, gated_frames, join_flags, lag, lag_frames, late, late_frames, needs_of, nobody, numbered, program, relay, relay_frames, signallers, signallers_frames, start_of, tally, tally_frames, two_conditions, unjoined, writers, writers_frames}
+use Rattle.msg_frames.specs.Prelude.{AfterFrame, Frame, IsRunOf, IsTurnOrderOf, OrderedFrames, Setup, State, alone, before_turns, conditions_frames, contrary, contrary_frames, drained, drained_frames, early_frames, echo, echo_frames, fourth, fourth_frames, frame_in, gated, gated_frames, join_flags, lag, lag_frames, late, late_frames, needs_of, nobody, numbered, program, relay, relay_frames, signallers, signallers_frames, start_of, tally, tally_frames, two_conditions, writers, writers_frames}
 use Rattle.msg_frames.proofs.SystemsStay.{before_keeps, frame_keeps, joining_on_keeps}
 use Rattle.msg_frames.proofs.FramesInOrder.{frame_in_order}
 
@@ -29,12 +29,7 @@ mask test (suc n) = cond (test n) (bit_or (mask test n) (1 * 2 ^ n % 2 ^ 64)) (m
 
 mask_above : (test : ℕ → Bool) (n k : ℕ) → n ≤ 64 → n ≤ k → has_bit (mask test n) k ≡ false
 mask_above test zero k few h = has_bit-zero k
-mask_above test (suc n) k few h =
-    let rest : has_bit (mask test n) k ≡ false = mask_above test n k (omega arith) (omega arith) in
-    elim (cases_Bool (test n)) [
-      | inl t ↦ rw t (has_bit-set (mask test n) n k (omega arith) ∙ rw (ne_eqb k n (omega arith)) rest)
-      | inr f ↦ rw f rest
-    ]
+mask_above test (suc n) k few h = grind (arith, cases_Bool, has_bit-set, ne_eqb, mask_above test n k (omega arith) (omega arith))
 
 mask_below : (test : ℕ → Bool) (n k : ℕ) → n ≤ 64 → k < n → has_bit (mask test n) k ≡ test k
 mask_below test zero k few h = absurd (omega arith)
@@ -52,10 +47,7 @@ mask_below test (suc n) k few h = elim (cases_eq k n) [
 ]
 
 mask_is : (test : ℕ → Bool) (n : ℕ) → n ≤ 64 → ((k : ℕ) → test k ≡ true → k < n) → (k : ℕ) → has_bit (mask test n) k ≡ test k
-mask_is test n few within k = elim (cases_lt k n) [
-  | inl l ↦ mask_below test n k few l
-  | inr l ↦ mask_above test n k few l ∙ sym (false_from_ne_true (test k) (λ t. let below : k < n = within k t in absurd (omega arith)))
-]
+mask_is test n few within k = grind (arith, cases_lt, false_from_ne_true, mask_above, mask_below)
 
 abbrev access_for : ℕ → Needs → Access
 access_for n needs = record {
@@ -70,22 +62,10 @@ bit_is_below : (test : ℕ → Bool) (n k : ℕ) → n ≤ 64 → has_bit (mask 
 bit_is_below test n k few t = elim (cases_lt k n) [ inl l ↦ l | inr l ↦ absurd (false≢true (sym (mask_above test n k few l) ∙ t)) ]
 
 access_fits : (n : ℕ) (needs : Needs) → n ≤ 64 → Fits n n (access_for n needs)
-access_fits n needs few = record {
-  types_below = λ t u. elim (or_cases (has_bit (mask (λ t. needs.reads (OfType t)) n) t) (has_bit (mask (λ t. needs.writes (OfType t)) n) t) u) [
-    | inl x ↦ bit_is_below (λ t. needs.reads (OfType t)) n t few x
-    | inr x ↦ bit_is_below (λ t. needs.writes (OfType t)) n t few x
-  ];
-  resources_below = λ r u. elim (or_cases (has_bit (mask (λ r. needs.reads (OfResource r)) n) r) (has_bit (mask (λ r. needs.writes (OfResource r)) n) r) u) [
-    | inl x ↦ bit_is_below (λ r. needs.reads (OfResource r)) n r few x
-    | inr x ↦ bit_is_below (λ r. needs.writes (OfResource r)) n r few x
-  ];
-}
+access_fits n needs few = grind (arith, bit_is_below, or_cases)
 
 nothing_fits : (n : ℕ) → Fits n n no_access
-nothing_fits n = record {
-  types_below = λ t u. absurd (elim (or_cases (has_bit 0 t) (has_bit 0 t) u) [ inl x ↦ false≢true (sym (has_bit-zero t) ∙ x) | inr x ↦ false≢true (sym (has_bit-zero t) ∙ x) ]);
-  resources_below = λ r u. absurd (elim (or_cases (has_bit 0 r) (has_bit 0 r) u) [ inl x ↦ false≢true (sym (has_bit-zero r) ∙ x) | inr x ↦ false≢true (sym (has_bit-zero r) ∙ x) ]);
-}
+nothing_fits n = grind (arith, false≢true, has_bit-zero, or_cases)
 
 -- ---- a job of types and resources below n
 
@@ -230,9 +210,7 @@ numbered_are n (p ∷ ps) zero = refl
 numbered_are n (p ∷ ps) (suc i) = numbered_are (suc n) ps i
 
 row : (x : Setup) (frames : OrderedFrames) → are_in_order x.programs frames (start_of x) ≡ true → IsRunOf frames (start_of x)
-row x frames t =
-    is_run x.programs frames (start_of x)
-    (λ i. ((joining_on_keeps 1 (unjoined (numbered 0 x.programs) x.places x.rules x.types x.world)).members i).needs ∙ numbered_are 0 x.programs i) t
+row x frames t = grind (arith, is_run, joining_on_keeps, numbered_are)
 
 no_frames_is_a_run : IsRunOf [] (start_of alone)
 unfolding turn

@@ -1,5 +1,5 @@
 -- The systems have one settled order, a frame has one log, and so has a run.
-use Rattle.std.proofs.Common.{◌≡◌, ℕ, ◌<◌, ◌&&◌, ◌||◌, inl, inr, Bool, true, List, [], ◌∷◌, length, map, refl, ap, sym, subst, ◌∙◌}
+use Rattle.std.proofs.Common.{arith, ◌≡◌, ℕ, ◌<◌, ◌||◌, inl, inr, Bool, List, [], ◌∷◌, length, refl, ap, sym, subst, ◌∙◌}
 use Rattle.std.specs.Prelude.{IsTrue}
 use Rattle.std.proofs.lemmas.Bool.{and_parts}
 use Rattle.std.proofs.lemmas.List.Elements.{All-contains, filter_passes}
@@ -17,13 +17,7 @@ use Rattle.msg_frames.proofs.SystemsStay.{joined_below}
 -- accesses with the same parts are in the same conflicts
 conflict_stays : (a b c d : Access) → ((p : Part) → writes a p ≡ writes c p) → ((p : Part) → uses a p ≡ uses c p) → ((p : Part) → writes b p ≡ writes d p)
     → ((p : Part) → uses b p ≡ uses d p) → Conflict a b → Conflict c d
-conflict_stays a b c d wa ua wb ub x = (
-  x.0,
-  elim x.1 [
-    | inl h ↦ inl (subst IsTrue (λ k. wa x.0 k && ub x.0 k) h)
-    | inr h ↦ inr (subst IsTrue (λ k. wb x.0 k && ua x.0 k) h)
-  ],
-)
+conflict_stays a b c d wa ua wb ub x = grind arith
 
 module _ (s : State) (a b : List Access) (are : AreAccessesOf s a) (are' : AreAccessesOf s b) where
   same_writes : (i : ℕ) → i < s.systems → (p : Part) → writes (access_of a i) p ≡ writes (access_of b i) p
@@ -39,7 +33,7 @@ module _ (s : State) (a b : List Access) (are : AreAccessesOf s a) (are' : AreAc
       record {
         first_joined = h.first_joined;
         second_joined = h.second_joined;
-        conflict = conflict_stays _ _ _ _ (same_writes i li) (same_uses i li) (same_writes j lj) (same_uses j lj) h.conflict;
+        conflict = conflict_stays _ _ _ _ (same_writes _ li) (same_uses _ li) (same_writes _ lj) (same_uses _ lj) h.conflict;
       }
 
 -- ---- settled orders
@@ -47,14 +41,12 @@ module _ (s : State) (a b : List Access) (are : AreAccessesOf s a) (are' : AreAc
 settles_by : (C D : ℕ → ℕ → Type 0) → ((i j : ℕ) → C i j → D i j) → ((i j : ℕ) → D i j → C i j) → (ps : List (ℕ × ℕ)) (g h : Graph) → Settles C g ps h → Settles D g ps h
 settles_by C D to from [] g h e = e
 settles_by C D to from (p ∷ ps) g h x = elim x [
-  | inl gains ↦ inl ((to p.0 p.1 gains.0.0, gains.0.1), settles_by C D to from ps (p ∷ g) h gains.1)
-  | inr stays ↦ inr (λ d. stays.0 (from p.0 p.1 d.0, d.1), settles_by C D to from ps g h stays.1)
+  | inl gains ↦ inl ((to p.0 _ gains.0.0, gains.0.1), settles_by C D to from ps (p ∷ g) _ gains.1)
+  | inr stays ↦ inr (λ d. stays.0 (from p.0 _ d.0, d.1), settles_by C D to from ps g _ stays.1)
 ]
 
 settled_by_other : (s : State) (a b : List Access) → AreAccessesOf s a → AreAccessesOf s b → (g : Graph) → IsSettledOrder a s.rules (join_flags s) g → IsSettledOrder b s.rules (join_flags s) g
-settled_by_other s a b are are' g settled = settles_by (AreInConflict a (join_flags s)) (AreInConflict b (join_flags s)) (same_conflict s a b are are') (same_conflict s b a are' are)
-    (pairs (length b)) (rules_among (join_flags s) s.rules) g
-    (subst (λ n. Settles (AreInConflict a (join_flags s)) (rules_among (join_flags s) s.rules) (pairs n) g) (are.each ∙ sym are'.each) settled)
+settled_by_other s a b are are' g settled = grind (arith, same_conflict, settles_by)
 
 pub one_order : SettledOrderIsUnique → SystemsHaveOneOrder
 one_order unique s g h x y = unique x.accesses s.rules (join_flags s) g h x.is_settled (settled_by_other s y.accesses x.accesses y.of_systems x.of_systems h y.is_settled)
@@ -62,17 +54,16 @@ one_order unique s g h x y = unique x.accesses s.rules (join_flags s) g h x.is_s
 -- ---- edges among those that have joined
 
 rules_are_among : (who : List Bool) (rules : List Rule) → IsAmong who (rules_among who rules)
-rules_are_among who rules i j e = and_parts (has_joined who i) (has_joined who j) (All-contains (λ (x : ℕ × ℕ). (has_joined who x.0 && has_joined who x.1) ≡ true) (rules_among who rules) (i, j)
-    (filter_passes (λ (x : ℕ × ℕ). has_joined who x.0 && has_joined who x.1) (map (λ (rule : Rule). (rule.earlier, rule.later)) rules)) e)
+rules_are_among who rules i j e = grind (arith, All-contains, and_parts, filter_passes)
 
 settles_among : (accesses : List Access) (who : List Bool) (ps : List (ℕ × ℕ)) (g h : Graph) → IsAmong who g → Settles (AreInConflict accesses who) g ps h → IsAmong who h
 settles_among accesses who [] g h among e = subst (IsAmong who) e among
 settles_among accesses who (p ∷ ps) g h among x = elim x [
-  | inl gains ↦ settles_among accesses who ps (p ∷ g) h (λ i j e. elim (Contains-cases p g (i, j) e) [
+  | inl gains ↦ settles_among _ who ps (p ∷ g) h (λ i j e. elim (Contains-cases _ _ _ e) [
     | inl is ↦ subst (λ (q : ℕ × ℕ). IsTrue (has_joined who q.0) × IsTrue (has_joined who q.1)) is (gains.0.0.first_joined, gains.0.0.second_joined)
-    | inr old ↦ among i j old
+    | inr old ↦ among _ _ old
   ]) gains.1
-  | inr stays ↦ settles_among accesses who ps g h among stays.1
+  | inr stays ↦ settles_among _ who ps g h among stays.1
 ]
 
 -- ---- frames and runs
@@ -91,7 +82,7 @@ module _ (one : SettledOrderIsUnique) (turns : TurnOrderIsUnique) where
 
   pub one_frame : FramesAreUnique
   one_frame frame s u v log other x y =
-      let order : systems_in log ≡ systems_in other = one_turn_order (before_turns frame.posts s) (systems_in log) (systems_in other) x.in_order y.in_order in (
+      let order : systems_in log ≡ systems_in other = one_turn_order _ _ _ x.in_order y.in_order in (
         x.tells ∙ ap (λ xs. (frame_in xs frame s).log) order ∙ sym y.tells,
         x.leaves ∙ ap (λ xs. (frame_in xs frame s).state) order ∙ sym y.leaves,
       )

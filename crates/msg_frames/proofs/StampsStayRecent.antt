@@ -1,12 +1,12 @@
 -- Where the messages from a number on have recent stamps, ops, turns and posts keep it so.
-use Rattle.std.proofs.Common.{◌≡◌, ℕ, zero, suc, ◌+◌, ◌≤◌, ℤ, ◌⊎◌, List, [], ◌∷◌, ◌++◌, map, All, Option, None, Some, cond, sym, ap, subst, arith, inl, inr, slice_get, length, ◌==◌}
+use Rattle.std.proofs.Common.{◌≡◌, ℕ, zero, suc, ◌+◌, ◌≤◌, ℤ, ◌⊎◌, List, [], ◌∷◌, ◌++◌, map, All, Option, None, Some, cond, sym, ap, arith, inl, inr, slice_get, ◌==◌}
 use Rattle.std.proofs.lemmas.Bool.{cases_Bool, cases_eq, eq-eqb, ne_eqb}
 use Rattle.std.proofs.lemmas.Option.{none-some, same_Some}
 use Rattle.std.proofs.lemmas.List.Elements.{All-append, All-cons, All-nil}
-use Rattle.msg_buffer.specs.Prelude.{Entry, History, clear, has_room, stamped, update, write}
+use Rattle.msg_buffer.specs.Prelude.{Entry, History, clear, stamped, update, write}
 use Rattle.msg_world.specs.declared.record.Record.{Record}
 use Rattle.msg_world.specs.declared.record.TheConstants.{HOST}
-use Rattle.msg_world.specs.Prelude.{WorldState, after_update, by, waits, with_history}
+use Rattle.msg_world.specs.Prelude.{WorldState, after_update, by, with_history}
 use Rattle.msg_system.specs.declared.op.Op.{Op}
 use Rattle.msg_system.specs.declared.op.Op.TheVariants.{Write, Batch, Forward, Drain}
 use Rattle.msg_system.specs.Prelude.{AfterProgram, Job, Meaning, after_at_most, after_job, after_op, again_by, all_hold, next_op, one_more, took, turn}
@@ -32,13 +32,7 @@ stamp_of u (m ∷ ms) (suc n) e at = stamp_of u ms n e at
 
 module _ (k p : ℕ) where
   write_recent : (h : History Record) (ms : List Record) → AreRecent k p h → AreRecent k p (write ms h)
-  write_recent h ms recent = elim (cases_Bool (has_room h (length ms))) [
-    | inl room ↦ rw room (λ n e above at. elim (at_append h.entries (stamped h.updates ms) n e at) [
-      | inl old ↦ recent n e above old
-      | inr new ↦ let stamp = stamp_of h.updates ms new.0 e new.1 in omega arith
-    ])
-    | inr full ↦ rw full recent
-  ]
+  write_recent h ms recent = grind (arith, at_append, cases_Bool, stamp_of)
 
 -- an update makes them one update older
 pub update_recent : (p : ℕ) (h : History Record) → AreRecent 0 p h → AreRecent 1 p (update h)
@@ -54,18 +48,14 @@ module _ (k p t : ℕ) where
   InWorld w = AreRecent k p (w.histories t)
 
   one_recent : (w : WorldState) (u : ℕ) (h : History Record) → (AreRecent k p (w.histories u) → AreRecent k p h) → InWorld w → InWorld (with_history w u h)
-  one_recent w u h keeps recent = elim (cases_eq t u) [
-    | inl e ↦ rw (eq-eqb t u e) (keeps (subst (λ v. AreRecent k p (w.histories v)) e recent))
-    | inr ne ↦ rw (ne_eqb t u ne) recent
-  ]
+  one_recent w u h keeps recent = grind (arith, cases_eq, eq-eqb, ne_eqb)
 
   written_recent : (w : WorldState) (u : ℕ) (ms : List Record) → InWorld w → InWorld (with_history w u (write ms (w.histories u)))
   written_recent w u ms = one_recent w u (write ms (w.histories u)) (write_recent k p (w.histories u) ms)
 
   pub posts_recent : (posts : List (ℕ × ℤ)) (w : WorldState) → InWorld w → InWorld (after_posts posts w)
   posts_recent [] w recent = recent
-  posts_recent (x ∷ xs) w recent =
-      posts_recent xs (with_history w x.0 (write (by HOST x.1 ∷ []) (w.histories x.0))) (written_recent w x.0 (by HOST x.1 ∷ []) recent)
+  posts_recent (x ∷ xs) w recent = grind (arith, written_recent, posts_recent xs (with_history w x.0 (write (by HOST x.1 ∷ []) (w.histories x.0))) (written_recent w x.0 (by HOST x.1 ∷ []) recent))
 
   -- ---- ops
 
@@ -87,16 +77,15 @@ module _ (k p t : ℕ) where
 
   next_recent : (o : Option Op) (writer : ℕ) (far : AfterProgram) → InWorld far.state → InWorld (one_more o writer far).state × AtMoments (next_moments t o writer far)
   next_recent None writer far recent = (recent, All-nil (λ m. AreRecent k p m.history))
-  next_recent (Some op) writer far recent =
-      (op_recent op writer far.places far.state recent, at_entries (far.state.histories t) (entries.entry_for t op (after_op op writer far.places far.state).reply) recent)
+  next_recent (Some op) writer far recent = grind (arith, at_entries, op_recent)
 
   first_recent : (n : ℕ) (m : Meaning) (w : WorldState) → InWorld w → InWorld (after_at_most n (next_op m) m.writer m.places w).state × AtMoments (first_moments t n m w)
   first_recent zero m w recent = (recent, All-nil (λ m. AreRecent k p m.history))
   first_recent (suc n) m w recent =
       let far : AfterProgram = after_at_most n (next_op m) m.writer m.places w in
       let so_far = first_recent n m w recent in
-      let next = next_recent (next_op m far.replies) m.writer far so_far.0 in
-      (next.0, All-append (λ m. AreRecent k p m.history) (first_moments t n m w) (next_moments t (next_op m far.replies) m.writer far) so_far.1 next.1)
+      let next = next_recent _ _ _ so_far.0 in
+      (next.0, All-append (λ m. AreRecent k p m.history) _ _ so_far.1 next.1)
 
   turn_recent : (m : Meaning) (w : WorldState) → InWorld w → InWorld (turn m w).state × AtMoments (turn_moments t m w)
   unfolding turn turn_moments
@@ -104,7 +93,7 @@ module _ (k p t : ℕ) where
 
   job_recent : (j : Job) (w : WorldState) → InWorld w → InWorld (after_job j w).state × AtMoments (job_moments t j w)
   job_recent j w recent = elim (cases_Bool (all_hold j.conditions w)) [
-    | inl e ↦ rw e (turn_recent j.system w recent)
+    | inl e ↦ rw e (turn_recent _ _ recent)
     | inr e ↦ rw e (recent, All-nil (λ m. AreRecent k p m.history))
   ]
 
@@ -112,17 +101,14 @@ module _ (k p t : ℕ) where
   turns_recent i [] s recent = (recent, All-nil (λ m. AreRecent k p m.history))
   turns_recent i (j ∷ js) s recent =
       let here = job_recent (s.members j).job s.world recent in
-      let rest = turns_recent i js (after_turn_of j s) here.0 in
+      let rest = turns_recent i js _ here.0 in
       let own : AtMoments (cond (j == i) (job_moments t (s.members i).job s.world) []) = elim (cases_eq j i) [
         | inl e ↦ rw (eq-eqb j i e) (job_recent (s.members i).job s.world recent).1
         | inr ne ↦ rw (ne_eqb j i ne) (All-nil (λ m. AreRecent k p m.history))
       ] in
-      (rest.0, All-append (λ m. AreRecent k p m.history) (cond (j == i) (job_moments t (s.members i).job s.world) []) (turns_moments i t js (after_turn_of j s)) own rest.1)
+      (rest.0, All-append (λ m. AreRecent k p m.history) _ _ own rest.1)
 
 -- ---- the update before them
 
 pub updated_recent : (p t : ℕ) (w : WorldState) → AreRecent 0 p (w.histories t) → AreRecent 1 p ((after_update w).histories t)
-updated_recent p t w recent = elim (cases_Bool (waits w)) [
-  | inl e ↦ rw e (less_recent p (w.histories t) recent)
-  | inr e ↦ rw e (update_recent p (w.histories t) recent)
-]
+updated_recent p t w recent = grind (arith, cases_Bool, less_recent, update_recent)

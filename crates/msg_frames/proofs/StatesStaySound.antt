@@ -1,6 +1,6 @@
 -- Frames keep states sound.
-use Rattle.std.proofs.Common.{◌≡◌, ℕ, suc, ◌≤◌, ◌<◌, max, List, [], ◌∷◌, Contains, refl, sym, ap₂, subst, ◌∙◌, arith, inl, inr}
-use Rattle.std.specs.Prelude.{IsTrue, IsFalse, nat_le, false}
+use Rattle.std.proofs.Common.{◌≡◌, ℕ, ◌≤◌, ◌<◌, max, List, [], ◌∷◌, Contains, refl, sym, ap₂, subst, ◌∙◌, arith}
+use Rattle.std.specs.Prelude.{IsTrue, IsFalse, nat_le}
 use Rattle.std.proofs.lemmas.Bool.{cases_Bool, false≢true, leb-false, leb-true}
 use Rattle.std.proofs.lemmas.List.{get_or_past}
 use Rattle.std.proofs.lemmas.List.FromFn.{get_or-map-range_with_len, length-map-range_with_len}
@@ -16,16 +16,7 @@ use Rattle.msg_frames.proofs.BeforeTurns.{Prepares, begun_within, comes, prepare
 -- ---- who has a turn
 
 has_joined_has_begun : (b : State) (i : ℕ) → IsTrue (has_joined (join_flags b) i) → IsTrue (has_begun b i)
-has_joined_has_begun b i is = elim (cases_Bool (nat_le (suc i) b.systems)) [
-  | inl e ↦ sym (get_or-map-range_with_len (has_begun b) 0 b.systems i i false (leb-true (suc i) b.systems e) (omega arith)) ∙ is
-  | inr e ↦ absurd (false≢true (sym (past e) ∙ is))
-]
-  where
-    past : IsFalse (nat_le (suc i) b.systems) → has_joined (join_flags b) i ≡ false
-    past e =
-        let lt = leb-false (suc i) b.systems e in
-        let long = length-map-range_with_len (has_begun b) 0 b.systems in
-        get_or_past (join_flags b) i false (omega arith)
+has_joined_has_begun b i is = grind (arith, cases_Bool, false≢true, get_or-map-range_with_len, get_or_past, leb-false, leb-true, length-map-range_with_len)
 
 -- one that waits has no turn
 pub has_no_turn : (b : State) (order : List ℕ) (i : ℕ) → IsTurnOrderOf b order → IsFalse (has_begun b i) → ¬ Contains order i
@@ -41,38 +32,16 @@ balanced_start m counts t = record { begin = (joined_member counts m).job.system
 
 module _ (s b : State) (sound : IsSoundState s) (prep : Prepares s b) where
   prepared_places : (i t : ℕ) → t < s.types → place_of b i t ≤ count (b.world.histories t)
-  prepared_places i t below =
-      let within : place_of s i t ≤ count (s.world.histories t) = sound.places i t below in
-      let more : count (s.world.histories t) ≤ count (b.world.histories t) = counts_more (s.world.histories t) (b.world.histories t) (prep.world t (sound.histories t below)) in
-      elim (prep.arrival i) [
-        | stood was has same ↦ rw (place_of, same) (omega arith)
-        | comes was has is ↦ let new = begun_within s i t below within in rw (place_of, is) (omega arith)
-        | waits was has same ↦ rw (place_of, same) (omega arith)
-      ]
+  prepared_places i t below = grind (arith, begun_within, comes, counts_more, stood, waits)
 
   prepared_waiting : (i t : ℕ) → IsFalse (has_begun b i) → (place_of b i t ≡ 0) × ((b.members i).totals t ≡ no_totals)
-  prepared_waiting i t isnt = elim (prep.arrival i) [
-    | stood was has same ↦ absurd (false≢true (sym isnt ∙ has))
-    | comes was has is ↦ absurd (false≢true (sym isnt ∙ has))
-    | waits was has same ↦ subst (λ (m : Member). (m.job.system.places t ≡ 0) × (m.totals t ≡ no_totals)) (sym same) (sound.waiting i t was)
-  ]
+  prepared_waiting i t isnt = grind (arith, comes, false≢true, stood, waits)
 
   prepared_balanced : (i t : ℕ) → t < s.types → IsTrue (has_begun b i) → IsBalanced ((b.members i).totals t) (place_of b i t)
-  prepared_balanced i t below is_begun = elim (prep.arrival i) [
-    | stood was has same ↦ subst (λ (m : Member). IsBalanced (m.totals t) (m.job.system.places t)) (sym same) (sound.balanced i t below was)
-    | comes was has is ↦ subst (λ (m : Member). IsBalanced (m.totals t) (m.job.system.places t)) (sym is) (balanced_start (s.members i) (counts s) t)
-    | waits was has same ↦ absurd (false≢true (sym has ∙ is_begun))
-  ]
+  prepared_balanced i t below is_begun = grind (arith, balanced_start, comes, false≢true, stood, waits)
 
   pub prepared_sound : IsSoundState b
-  prepared_sound = record {
-    histories = λ t below. (prep.world t (sound.histories t (subst (λ n. t < n) prep.same.types below))).sound;
-    places = λ i t below. prepared_places i t (subst (λ n. t < n) prep.same.types below);
-    joins = λ i. subst (λ n. 1 ≤ n) (sym (prep.same.members i).join) (sound.joins i);
-    writers = λ i below. (prep.same.members i).writer ∙ sound.writers i (subst (λ n. i < n) prep.same.systems below);
-    waiting = prepared_waiting;
-    balanced = λ i t below. prepared_balanced i t (subst (λ n. t < n) prep.same.types below);
-  }
+  prepared_sound = grind (arith, prepared_balanced, prepared_places, prepared_waiting)
 
 -- ---- the turns, frames and runs
 

@@ -1,16 +1,16 @@
 -- What turns and frames keep of the systems.
-use Rattle.std.proofs.Common.{◌≡◌, ℕ, ◌<◌, IsTrue, false, arith, List, [], ◌∷◌, map, refl, ap, sym, subst, ◌∙◌, inl, inr, suc, max, nat_le, ℤ, eq-eqb, ne_eqb}
+use Rattle.std.proofs.Common.{◌≡◌, ℕ, ◌<◌, IsTrue, arith, List, [], ◌∷◌, map, refl, ap, sym, subst, ◌∙◌, inl, inr, suc, max, nat_le, ℤ, eq-eqb, ne_eqb}
 use Rattle.std.specs.List.{range_with_len}
 use Rattle.std.proofs.lemmas.Bool.{cases_Bool, cases_eq, cases_lt, false≢true}
 use Rattle.std.proofs.lemmas.List.{get_or_past}
 use Rattle.std.proofs.lemmas.List.FromFn.{length-map-range_with_len}
-use Rattle.std.specs.Prelude.{if◌then◌else◌, ◌==◌}
+use Rattle.std.specs.Prelude.{◌==◌}
 use Rattle.msg_world.specs.declared.access.Access.{Access}
 use Rattle.msg_world.specs.Prelude.{WorldState}
-use Rattle.msg_order.specs.Prelude.{IsAcyclic, access_of, has_joined, rules_among}
-use Rattle.msg_system.specs.Prelude.{Asked, IsAccessOf, after_asking, all_hold, asked_started, with_conditions}
+use Rattle.msg_order.specs.Prelude.{IsAcyclic, has_joined, rules_among}
+use Rattle.msg_system.specs.Prelude.{Asked, after_asking, asked_started, with_conditions}
 use Rattle.msg_system.specs.declared.start.Start.{Start}
-use Rattle.msg_frames.specs.Prelude.{AreAccessesOf, Frame, FramesKeepSystems, Member, NoCycle, SameMember, SameSystems, SameSystemsHaveSameAccesses, State, TurnsKeepSystems, after_turn_of, after_turns_of, before_turns, counts, frame_in, has_begun, join_flags, joined_member, joining, member_turn, needs_of, turn_of, with_joining, with_member}
+use Rattle.msg_frames.specs.Prelude.{AreAccessesOf, Frame, FramesKeepSystems, Member, NoCycle, SameMember, SameSystems, SameSystemsHaveSameAccesses, State, TurnsKeepSystems, after_turn_of, after_turns_of, before_turns, counts, frame_in, join_flags, joined_member, joining, member_turn, needs_of, with_joining, with_member}
 
 -- ---- members
 
@@ -18,23 +18,14 @@ pub same_member : (m : Member) → SameMember m m
 same_member m = record { needs = refl; start = refl; writer = refl; conditions = refl; join = refl }
 
 pub members_along : (l m n : Member) → SameMember l m → SameMember m n → SameMember l n
-members_along l m n a b = record {
-  needs = b.needs ∙ a.needs;
-  start = b.start ∙ a.start;
-  writer = b.writer ∙ a.writer;
-  conditions = b.conditions ∙ a.conditions;
-  join = b.join ∙ a.join;
-}
+members_along l m n a b = grind arith
 
 asked_same : (w : WorldState) (asked : List Asked) → map (λ (a : Asked). a.condition) (map (after_asking w) asked) ≡ map (λ (a : Asked). a.condition) asked
 asked_same w [] = refl
 asked_same w (a ∷ asked) = ap (λ cs. a.condition ∷ cs) (asked_same w asked)
 
 pub turn_keeps : (m : Member) (w : WorldState) → SameMember m (member_turn m w).member
-turn_keeps m w = elim (cases_Bool (all_hold m.job.conditions w)) [
-  | inl e ↦ rw e (record { needs = refl; start = refl; writer = refl; conditions = asked_same w m.job.conditions; join = refl })
-  | inr e ↦ rw e (record { needs = refl; start = refl; writer = refl; conditions = asked_same w m.job.conditions; join = refl })
-]
+turn_keeps m w = grind (arith, asked_same, cases_Bool)
 
 started_same : (start : Start) (counts : List ℕ) (asked : List Asked) → map (λ (a : Asked). a.condition) (map (asked_started start counts) asked) ≡ map (λ (a : Asked). a.condition) asked
 started_same start counts [] = refl
@@ -49,26 +40,13 @@ pub same_systems : (s : State) → SameSystems s s
 same_systems s = record { systems = refl; members = λ i. same_member (s.members i); rules = refl; types = refl }
 
 pub systems_along : (s t u : State) → SameSystems s t → SameSystems t u → SameSystems s u
-systems_along s t u a b = record {
-  systems = b.systems ∙ a.systems;
-  members = λ i. members_along (s.members i) (t.members i) (u.members i) (a.members i) (b.members i);
-  rules = b.rules ∙ a.rules;
-  types = b.types ∙ a.types;
-}
+systems_along s t u a b = grind (arith, members_along)
 
 pub with_member_keeps : (members : ℕ → Member) (i : ℕ) (m : Member) (k : ℕ) → SameMember (members i) m → SameMember (members k) (with_member members i m k)
-with_member_keeps members i m k same = elim (cases_eq k i) [
-  | inl e ↦ rw (e, eq-eqb i i refl) same
-  | inr ne ↦ rw (ne_eqb k i ne) (same_member (members k))
-]
+with_member_keeps members i m k same = grind (arith, cases_eq, eq-eqb, ne_eqb, same_member)
 
 pub one_turn_keeps : (i : ℕ) (s : State) → SameSystems s (after_turn_of i s)
-one_turn_keeps i s = record {
-  systems = refl;
-  members = λ k. with_member_keeps s.members i (turn_of s i).member k (turn_keeps (s.members i) s.world);
-  rules = refl;
-  types = refl;
-}
+one_turn_keeps i s = grind (arith, turn_keeps, with_member_keeps)
 
 pub turns_keep_systems : (order : List ℕ) (s : State) → SameSystems s (after_turns_of order s).state
 turns_keep_systems [] s = same_systems s
@@ -84,18 +62,12 @@ turns_keep order s = (turns_keep_systems order s, turns_make_no_frame order s)
 -- ---- joining, and frames
 
 pub joining_on_keeps : (k : ℕ) (s : State) → SameSystems s (with_joining k s)
-joining_on_keeps k s = record { systems = refl; members = members; rules = refl; types = refl }
-  where
-    members : (i : ℕ) → SameMember (s.members i) (if (s.members i).join == k then joined_member (counts s) (s.members i) else s.members i)
-    members i = elim (cases_Bool ((s.members i).join == k)) [
-      | inl e ↦ rw e (begun_keeps (counts s) (s.members i))
-      | inr e ↦ rw e (same_member (s.members i))
-    ]
+joining_on_keeps k s = grind (arith, begun_keeps, cases_Bool, same_member)
 
 pub joining_keeps : (s : State) → SameSystems s (joining s)
 joining_keeps s = elim (cases_Bool (s.frames == 0)) [
-  | inl e ↦ rw e (same_systems s)
-  | inr e ↦ rw e (joining_on_keeps (suc s.frames) s)
+  | inl e ↦ rw e (same_systems _)
+  | inr e ↦ rw e (joining_on_keeps _ _)
 ]
 
 pub joining_makes_no_frame : (s : State) → (joining s).frames ≡ s.frames
@@ -105,16 +77,10 @@ pub joining_world : (s : State) → (joining s).world ≡ s.world
 joining_world s = elim (cases_Bool (s.frames == 0)) [ inl e ↦ rw e refl | inr e ↦ rw e refl ]
 
 pub before_keeps : (posts : List (ℕ × ℤ)) (s : State) → SameSystems s (before_turns posts s)
-before_keeps posts s = let h : SameSystems s (joining s) = joining_keeps s in record {
-  systems = h.systems;
-  members = h.members;
-  rules = h.rules;
-  types = h.types;
-}
+before_keeps posts s = grind (arith, joining_keeps)
 
 pub frame_keeps : (order : List ℕ) (frame : Frame) (s : State) → SameSystems s (frame_in order frame s).state
-frame_keeps order frame s = systems_along s (before_turns frame.posts s) (frame_in order frame s).state
-    (before_keeps frame.posts s) (turns_keep_systems order (before_turns frame.posts s))
+frame_keeps order frame s = systems_along _ _ _ (before_keeps frame.posts s) (turns_keep_systems order _)
 
 pub frame_counts : (order : List ℕ) (frame : Frame) (s : State) → (frame_in order frame s).state.frames ≡ suc s.frames
 frame_counts order frame s = turns_make_no_frame order (before_turns frame.posts s) ∙ ap suc (joining_makes_no_frame s)
@@ -135,11 +101,7 @@ needs_same : (m n : Member) → SameMember m n → needs_of n ≡ needs_of m
 needs_same m n h k = with_conditions (h.needs k) (h.conditions k)
 
 pub accesses_stay : (s u : State) (accesses : List Access) → SameSystems s u → AreAccessesOf s accesses → AreAccessesOf u accesses
-accesses_stay s u accesses h a = record {
-  each = a.each ∙ sym h.systems;
-  of_needs = λ i lt. subst (λ n. IsAccessOf n (access_of accesses i)) (sym (needs_same (s.members i) (u.members i) (h.members i)))
-      (a.of_needs i (subst (λ n. i < n) h.systems lt));
-}
+accesses_stay s u accesses h a = grind (arith, needs_same)
 
 pub joined_stay : (s u : State) → SameSystems s u → u.frames ≡ s.frames → join_flags u ≡ join_flags s
 joined_stay s u h e k = map (λ i. nat_le ((h.members i).join k) (max 1 (e k))) (range_with_len 0 (h.systems k))
@@ -149,10 +111,7 @@ same_accesses s u h = (λ accesses a. accesses_stay s u accesses h a, joined_sta
 
 -- one that has joined is one of the systems
 pub joined_below : (s : State) (i : ℕ) → IsTrue (has_joined (join_flags s) i) → i < s.systems
-joined_below s i h = elim (cases_lt i s.systems) [
-  | inl lt ↦ lt
-  | inr past ↦ absurd (false≢true (sym (get_or_past (join_flags s) i false (omega (arith, length-map-range_with_len (has_begun s) 0 s.systems))) ∙ h))
-]
+joined_below s i h = grind (arith, cases_lt, false≢true, get_or_past, length-map-range_with_len)
 
 -- the rules make no cycle among them
 pub no_cycle_stays : (s u : State) → SameSystems s u → NoCycle s → NoCycle u

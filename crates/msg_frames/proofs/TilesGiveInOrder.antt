@@ -32,16 +32,11 @@ is_increasing : (low : ℕ) (xs : List ℕ) → Rising low xs → IsStrictlyIncr
 is_increasing low [] rise k below = absurd (omega arith)
 is_increasing low (x ∷ []) rise k below = absurd (omega arith)
 is_increasing low (x ∷ y ∷ ys) rise zero below = omega (arith, rise.1.0)
-is_increasing low (x ∷ y ∷ ys) rise (suc k) below =
-    let next : suc k + 1 ≡ suc (k + 1) = omega arith in
-    rw next (is_increasing (x + 1) (y ∷ ys) rise.1 k (omega arith))
+is_increasing low (x ∷ y ∷ ys) rise (suc k) below = grind (arith, is_increasing (x + 1) (y ∷ ys) rise.1 k (omega arith))
 
 rising_filter : (p : ℕ → Bool) (low : ℕ) (xs : List ℕ) → Rising low xs → Rising low (filter p xs)
 rising_filter p low [] rise = tt
-rising_filter p low (x ∷ xs) rise = elim (cases_Bool (p x)) [
-  | inl e ↦ rw e (rise.0, rising_filter p (x + 1) xs rise.1)
-  | inr e ↦ rw e (rising_filter p low xs (rising_from low (x + 1) xs (omega (arith, rise.0)) rise.1))
-]
+rising_filter p low (x ∷ xs) rise = grind (arith, cases_Bool, rising_from, rising_filter p (x + 1) xs rise.1, rising_filter p low xs (rising_from low (x + 1) xs (omega (arith, rise.0)) rise.1))
 
 numbers_rise : (p : ℕ) (ms : List Moment) (q : ℕ) → Tile p (map tile_of ms) q → Rising p (numbers_of given (entries_of ms))
 numbers_rise p [] q tile = tt
@@ -76,11 +71,7 @@ messages_are h s =
 
 -- they stay where they are
 still_there : (h last : History Record) (a n : ℕ) → GoesOn h last → a + n ≤ count h → take n (drop a last.entries) ≡ take n (drop a h.entries)
-still_there h last a n goes below =
-    let long = length-drop a h.entries in
-    ap (λ es. take n (drop a es)) goes.entries
-    ∙ ap (take n) (drop-append-le a h.entries goes.more (omega arith))
-    ∙ take-append-le n (drop a h.entries) goes.more (omega arith)
+still_there h last a n goes below = grind (arith, drop-append-le, length-drop, take-append-le)
 
 read_one : (es : List (Written Record)) (a : ℕ) → a < length es → (e : Written Record) × (slice_get es a ≡ Some e) × (drop a es ≡ e ∷ drop (a + 1) es)
 read_one [] a below = absurd (omega arith)
@@ -125,13 +116,7 @@ of_one_kind : {X : Type 0} (f : ℕ → Option X) (p : X → Bool) (ns : List �
 of_one_kind f p [] [] same = refl
 of_one_kind f p [] (x ∷ xs) same = absurd (omega (arith, ap length same))
 of_one_kind f p (n ∷ ns) [] same = absurd (omega (arith, ap length same))
-of_one_kind f p (n ∷ ns) (x ∷ xs) same =
-    let here : f n ≡ Some x = ap (λ ys. get_or ys 0 None) same in
-    let rest = of_one_kind f p ns xs (ap (drop 1) same) in
-    elim (cases_Bool (p x)) [
-      | inl e ↦ rw (here, e) (ap (λ ys. f n ∷ ys) rest ∙ ap (λ o. o ∷ map Some (filter p xs)) here)
-      | inr e ↦ rw (here, e) rest
-    ]
+of_one_kind f p (n ∷ ns) (x ∷ xs) same = grind (arith, cases_Bool, of_one_kind f p ns xs (ap (drop 1) same))
 
 pub in_order_of : (writer p : ℕ) (ms : List Moment) (q : ℕ) (last : History Record) → Tile p (map tile_of ms) q → All GivesItsStretch ms → All (λ m. GoesOn m.history last) ms → All IsWritten ms
     → IsInOrderOf writer (entries_of ms) last

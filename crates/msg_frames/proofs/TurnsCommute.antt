@@ -1,5 +1,5 @@
 -- Turns of systems whose accesses don't conflict can be swapped.
-use Rattle.std.proofs.Common.{◌≡◌, ◌≢◌, ℕ, ◌<◌, false, ◌&&◌, List, Option, refl, ap, sym, ◌∙◌, inl, inr, eq-eqb, ne_eqb}
+use Rattle.std.proofs.Common.{arith, ◌≡◌, ◌≢◌, ℕ, ◌<◌, false, ◌&&◌, List, Option, refl, ap, sym, ◌∙◌, inl, inr, eq-eqb, ne_eqb}
 use Rattle.std.specs.Prelude.{IsTrue}
 use Rattle.std.proofs.lemmas.Bool.{and_from, cases_Bool, cases_eq, or_right}
 use Rattle.msg_world.specs.declared.access.Access.{Access}
@@ -25,10 +25,7 @@ with_member_other members i m k ne = rw (ne_eqb k i ne) refl
 
 members_swap : (members : ℕ → Member) (i j : ℕ) (m n : Member) (k : ℕ) → i ≢ j
     → with_member (with_member members i m) j n k ≡ with_member (with_member members j n) i m k
-members_swap members i j m n k ne = elim (cases_eq k i) [
-  | inl e ↦ rw (e, ne_eqb i j ne, eq-eqb i i refl) refl
-  | inr o ↦ rw (ne_eqb k i o) refl
-]
+members_swap members i j m n k ne = grind (arith, cases_eq, eq-eqb, ne_eqb)
 
 -- ---- apart
 
@@ -41,16 +38,10 @@ pub flip : (m n : Needs) → Apart m n → Apart n m
 flip m n h = record { left = h.right; right = h.left }
 
 unwritten : (m n : Needs) (a b : Access) → IsAccessOf m a → IsAccessOf n b → (p : Part) → (IsTrue (writes a p && uses b p) → ⊥) → IsTrue (needs_any n p) → m.writes p ≡ false
-unwritten m n a b ma nb p none used = elim (cases_Bool (m.writes p)) [
-  | inl e ↦ absurd (none (and_from (writes a p) (uses b p) (ma.writes p ∙ e) (uses_needs n b nb p ∙ used)))
-  | inr e ↦ e
-]
+unwritten m n a b ma nb p none used = grind (arith, and_from, cases_Bool, uses_needs)
 
 pub apart : (m n : Needs) (a b : Access) → IsAccessOf m a → IsAccessOf n b → ¬ Conflict a b → Apart m n
-apart m n a b ma nb none = record {
-  left = λ p used. unwritten m n a b ma nb p (λ h. none (p, inl h)) used;
-  right = λ p used. unwritten n m b a nb ma p (λ h. none (p, inr h)) used;
-}
+apart m n a b ma nb none = grind (arith, unwritten)
 
 -- what two do, neither of which writes what the other needs
 module _ {X : Type 0} {Y : Type 0} {Z : Type 0} {W : Type 0} where
@@ -58,12 +49,12 @@ module _ {X : Type 0} {Y : Type 0} {Z : Type 0} {W : Type 0} where
       → HasFootprint m world given f → HasFootprint n world' given' g → Apart m n → (w : WorldState) → world' (g (world (f w))) ≡ world (f (world' (g w)))
   worlds_commute m n world given f world' given' g ff gg free w = same_world _ _ (λ p. elim (cases_Bool (m.writes p)) [
     | inl e ↦
-        let used : IsTrue (needs_any m p) = or_right (m.reads p) (m.writes p) e in
+        let used : IsTrue (needs_any m p) = or_right _ _ e in
         gg.kept (world (f w)) p (free.right p used)
         ∙ sym (ff.alike (needs_any m) (world' (g w)) w (λ q u. u) (λ q u. gg.kept w q (free.right q u)) p used)
     | inr e ↦ elim (cases_Bool (n.writes p)) [
       | inl e' ↦
-          let used : IsTrue (needs_any n p) = or_right (n.reads p) (n.writes p) e' in
+          let used : IsTrue (needs_any n p) = or_right _ _ e' in
           gg.alike (needs_any n) (world (f w)) w (λ q u. u) (λ q u. ff.kept w q (free.left q u)) p used
           ∙ sym (ff.kept (world' (g w)) p (free.left p used))
       | inr e' ↦ gg.kept (world (f w)) p e' ∙ ff.kept w p e ∙ sym (ff.kept (world' (g w)) p e ∙ gg.kept w p e')

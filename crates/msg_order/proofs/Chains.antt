@@ -61,8 +61,7 @@ ends_at_most g (suc m) n j h e = elim (cases_eq n (suc m)) [
 -- a chain that goes on
 ends_on : (g : Graph) (m i : ℕ) (between : List ℕ) (j : ℕ) → Ends g m i → IsChain g (i ∷ (between ++ j ∷ [])) → Ends g (suc (m + length between)) j
 ends_on g m i [] j e c = let is : suc m ≡ suc (m + 0) = omega arith in subst (λ k. Ends g k j) is (i, (e, c.0))
-ends_on g m i (k ∷ more) j e c = let is : suc (suc m + length more) ≡ suc (m + suc (length more)) = omega arith in
-    subst (λ n. Ends g n j) is (ends_on g (suc m) k more j (i, (e, c.0)) c.1)
+ends_on g m i (k ∷ more) j e c = grind (arith, ends_on g (suc m) k more j (i, (e, c.0)) c.1)
 
 pub ends_along : (g : Graph) (n i j : ℕ) → Ends g n i → Path g i j → Ends g (suc n) j
 ends_along g n i j e p = ends_at_most g (suc (n + length p.0)) (suc n) j (omega arith) (ends_on g n i p.0 j e p.1)

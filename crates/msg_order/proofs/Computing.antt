@@ -71,13 +71,7 @@ settle test (p ∷ ps) g = cond (test p.0 p.1 && not (path g p.1 p.0)) (settle t
 
 settle_is : (C : ℕ → ℕ → Type 0) (test : ℕ → ℕ → Bool) → ((i j : ℕ) → IsTrue (test i j) ↔ C i j) → (ps g : Graph) → Settles C g ps (settle test ps g)
 settle_is C test is [] g = refl
-settle_is C test is (p ∷ ps) g = elim (cases_Bool (test p.0 p.1)) [
-  | inr f ↦ rw f (inr (λ e. false≢true (sym f ∙ (is p.0 p.1).1 e.0), settle_is C test is ps g))
-  | inl t ↦ elim (cases_Bool (path g p.1 p.0)) [
-    | inl back ↦ rw (t, back) (inr (λ e. e.1 (to_Path g p.1 p.0 back), settle_is C test is ps g))
-    | inr none ↦ rw (t, none) (inl (((is p.0 p.1).0 t, no_Path g p.1 p.0 none), settle_is C test is ps (p ∷ g)))
-  ]
-]
+settle_is C test is (p ∷ ps) g = grind (arith, cases_Bool, false≢true, no_Path, to_Path, settle_is C test is ps g, settle_is C test is ps (p ∷ g))
 
 are_in_conflict_is : (n : ℕ) (accesses : List Access) (joined : List Bool) → ((i : ℕ) → Fits n n (access_of accesses i)) → (i j : ℕ)
     → IsTrue (are_in_conflict n accesses joined i j) ↔ AreInConflict accesses joined i j

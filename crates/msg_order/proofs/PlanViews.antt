@@ -30,8 +30,7 @@ precedes-view before joined batches kept i j =
     )
 
 pub joined-view : (before : List SystemSet) (joined : SystemSet) (batches : List (List ℕ)) → AreKept before joined → (i : ℕ) → has_joined (view_of before joined batches).joined i ≡ has joined i
-joined-view before joined batches kept i =
-    grind (arith, cases_lt, get_or-map-range_with_len, length-map-range_with_len, get_or_past, false_from_ne_true)
+joined-view before joined batches kept i = grind (arith, cases_lt, false_from_ne_true, get_or-map-range_with_len, get_or_past, length-map-range_with_len)
 
 -- the same of a view that they are known to give
 pub seen_edges : (v : PlanView) (before : List SystemSet) (joined : SystemSet) (batches : List (List ℕ)) → view_of before joined batches ≡ v → AreKept before joined → (i j : ℕ) → IsEdge v.precedes i j ↔ (comes_before before i j ≡ true)

@@ -37,13 +37,11 @@ nothing b = grind arith
 -- it holds past the last set
 pub adds_past : (before new : List SystemSet) (from : ℕ) (to : SystemSet) (i j : ℕ) → length new ≡ length before → length before ≤ j → ((k : ℕ) → has to k ≡ true → k < length before)
     → comes_before new i j ≡ (comes_before before i j || ((i == from || comes_before before i from) && (has to j || meets (set_at before j) to)))
-adds_past before new from to i j len h within =
-    grind (arith, false_from_ne_true, set_past, meets-no_set, none_past, nothing)
+adds_past before new from to i j len h within = grind (arith, false_from_ne_true, meets-no_set, none_past, nothing, set_past)
 
 -- One edge.
 pub adds_edge : (g : Graph) (before new : List SystemSet) (from later : ℕ) (to : SystemSet) → ArePaths g before → AddsEdges before from to new → later < 256 → ((k : ℕ) → has to k ≡ (k == later)) → ArePaths ((from, later) ∷ g) new
-adds_edge g before new from later to h s few only i j =
-    grind (arith, same_test, or_cases, or_left, meets-true, eqb-true, or_right, meets-found, eq-eqb)
+adds_edge g before new from later to h s few only i j = grind (arith, eq-eqb, eqb-true, meets-found, meets-true, or_cases, or_left, or_right, same_test)
 
 -- The rules one by one.
 edge_at_end : (g : Graph) (e : ℕ × ℕ) (i j : ℕ) → IsEdge (g ++ e ∷ []) i j → IsEdge (e ∷ g) i j

@@ -1,14 +1,14 @@
 use Rattle.msg_frames.proofs.HistoriesGrow.{buffer_laws}
-use Rattle.msg_frames.proofs.ReadersStayUpToDate.{catches_up, has_the_frame_before, is_up_to_date, misses_nothing, never_misses}
+use Rattle.msg_frames.proofs.ReadersStayUpToDate.{caught_up, has_frame_before, misses_nothing, never_misses, now_up_to_date}
 use Rattle.msg_frames.proofs.reader_laws.who_reads_each_frame_misses_nothing.Goals as goal
 
 pub returns : goal.returns
 returns c =
     let laws = buffer_laws c.histories_only_grow.ensures.grows c.readers_tile.ensures.reads c.readers_tile.ensures.clears in
     record {
-      catches_up = catches_up laws;
-      frame_before = has_the_frame_before laws;
-      up_to_date = is_up_to_date laws;
+      catches_up = caught_up laws;
+      frame_before = has_frame_before laws;
+      up_to_date = now_up_to_date laws;
       next_frame = misses_nothing laws;
       law = never_misses laws;
     }
