@@ -3,8 +3,8 @@
 //!
 //! `Board::new` puts up to 256 jobs on a board and gives 1 to 64 passes. A worker with a pass draws
 //! jobs by `draw` and hands their results in by `hand_in`, until it draws None. Neither call takes
-//! memory, and neither can wait without a bound for another worker. `close` takes the board and all its passes, and
-//! gives the results in the order of the jobs.
+//! memory, and neither can wait without a bound for another worker. `close` takes the board and all
+//! its passes, and gives the results in the order of the jobs.
 //!
 //! `specs/Law.antt` has the law of the board: what its words and slots, and what its passes know,
 //! have to do with one another between any two steps.

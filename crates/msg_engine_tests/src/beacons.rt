@@ -25,7 +25,8 @@ impl System for Beacon {
     ghost use Rattle.msg_system.specs.declared.start.Start.TheVariants.{Zero};
     ghost use Rattle.msg_system.specs.Prelude.{of_program, only, places_of};
 
-    ghost meaning = { λ b. of_program (only (Write b.to b.value) Zero) b.writer (places_of b.cursors) };
+    ghost meaning = { λ b. of_program (only (Write b.to b.value) Zero) b.writer
+        (places_of b.cursors) };
 
     fn access(&self) -> Access {
         Access::none().with_write_type(self.to)

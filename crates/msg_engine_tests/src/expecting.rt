@@ -5,8 +5,8 @@ use msg_system::Reply;
 use msg_world::{HOST, Record};
 use std::process::Abort;
 
-/// What a system's turn came to: it wrote `n` messages, from the number `first` on, or it read these
-/// messages, from that number on, and missed so many before.
+/// What a system's turn came to: it wrote `n` messages, from the number `first` on, or it read
+/// these messages, from that number on, and missed so many before.
 #[derive(Clone, Copy)]
 pub struct Step<'a> {
     pub system: u32,

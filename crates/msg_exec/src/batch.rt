@@ -23,7 +23,8 @@ fn lend_out_all<S: System>(
     lender: &mut Lender<S>,
     batch: &[u32],
 ) -> Result<Vec<Job<S>>, NoMemory>
-    requires stands { (s : State) × (LenderStands S.meaning lender.old s × All (λ i. i < s.systems) batch.now) }
+    requires stands { (s : State) × (LenderStands S.meaning lender.old s
+        × All (λ i. i < s.systems) batch.now) }
     requires once { AllPairs (λ i j. i ≢ j) batch.now }
     requires apart { NoneConflict lender.old.accesses.items batch.now }
     ensures out { IfOk result (λ jobs. AreOut lender.old batch.now jobs.items lender.new) }
@@ -45,7 +46,8 @@ fn run_many<R: Threads + Sync, S: System, G: Gate>(
     gate: &G,
     turns: &mut Vec<Turn>,
 ) -> Result<(), NoMemory>
-    requires stands { (s : State) × (LenderStands S.meaning lender.old s × All (λ i. i < s.systems) batch.now) }
+    requires stands { (s : State) × (LenderStands S.meaning lender.old s
+        × All (λ i. i < s.systems) batch.now) }
     requires few { length lender.old.accesses.items ≤ 256 }
     requires once { AllPairs (λ i j. i ≢ j) batch.now }
     requires apart { NoneConflict lender.old.accesses.items batch.now }
@@ -75,7 +77,8 @@ pub(crate) fn run_turns<S: System, G: Gate>(
     spares: &mut Spares,
     turns: &mut Vec<Turn>,
 ) -> Result<(), NoMemory>
-    requires stands { (s : State) × (LenderStands S.meaning lender.old s × All (λ i. i < s.systems) systems.now) }
+    requires stands { (s : State) × (LenderStands S.meaning lender.old s
+        × All (λ i. i < s.systems) systems.now) }
     ensures state { OnOk result ((s : State) → LenderStands S.meaning lender.old s
         → LenderStands S.meaning lender.new (after_turns_of systems.now s).state) }
     ensures turns { OnOk result ((s : State) → LenderStands S.meaning lender.old s
@@ -102,7 +105,8 @@ fn run_batch<R: Threads + Sync, S: System, G: Gate>(
     spares: &mut Spares,
     turns: &mut Vec<Turn>,
 ) -> Result<(), NoMemory>
-    requires stands { (s : State) × (LenderStands S.meaning lender.old s × All (λ i. i < s.systems) batch.now) }
+    requires stands { (s : State) × (LenderStands S.meaning lender.old s
+        × All (λ i. i < s.systems) batch.now) }
     requires few { length lender.old.accesses.items ≤ 256 }
     requires once { AllPairs (λ i j. i ≢ j) batch.now }
     requires apart { NoneConflict lender.old.accesses.items batch.now }
@@ -133,9 +137,11 @@ pub(crate) fn run_batches<R: Threads + Sync, S: System, G: Gate>(
         × All (λ batch. All (λ i. i < s.systems) batch.items) batches.now) }
     requires few { length lender.old.accesses.items ≤ 256 }
     requires once { AllPairs (λ i j. i ≢ j) (concat (map (λ batch. batch.items) batches.now)) }
-    requires apart { All (NoneConflict lender.old.accesses.items) (map (λ batch. batch.items) batches.now) }
+    requires apart { All (NoneConflict lender.old.accesses.items)
+        (map (λ batch. batch.items) batches.now) }
     ensures state { IfOk result (λ turns. (s : State) → LenderStands S.meaning lender.old s
-        → LenderStands S.meaning lender.new (after_turns_of (concat (map (λ batch. batch.items) batches.now)) s).state) }
+        → LenderStands S.meaning lender.new (after_turns_of
+        (concat (map (λ batch. batch.items) batches.now)) s).state) }
     ensures turns { IfOk result (λ turns. (s : State) → LenderStands S.meaning lender.old s
         → turns.items ≡ (after_turns_of (concat (map (λ batch. batch.items) batches.now)) s).turns) }
     ensures accesses { OnOk result (lender.new.accesses.items ≡ lender.old.accesses.items) }

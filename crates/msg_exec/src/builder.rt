@@ -176,9 +176,9 @@ impl<S: Numbered> EngineBuilder<S> {
     ///
     /// # Errors
     ///
-    /// `Misfit` with the lowest system that the world lacks something for; else `UnknownSystem` with
-    /// the first rule without its systems; else what `EngineOf::new` refuses. The world and the
-    /// systems are dropped then.
+    /// `Misfit` with the lowest system that the world lacks something for; else `UnknownSystem`
+    /// with the first rule without its systems; else what `EngineOf::new` refuses. The world and
+    /// the systems are dropped then.
     pub fn build(self, world: World) -> Result<EngineOf<S>, BuildError>
         requires whole { IsWhole world }
         ensures meaning { IfOk result (λ e. (w : WorldState) → PartsStand world w

@@ -32,7 +32,8 @@ pub(crate) fn accesses_of<S: System>(
     requires few { length systems.now ≤ 256 }
     requires one_place_each { length places.now ≡ length systems.now }
     ensures as_many { IfOk result (λ v. length v.items ≡ length systems.now) }
-    ensures accesses { IfOk result (λ v. EachIs (IsAccessAt S.meaning systems.now places.now) v.items) }
+    ensures accesses { IfOk result (λ v. EachIs (IsAccessAt S.meaning systems.now places.now)
+        v.items) }
     ensures clash { IfErr result (RefusesForClash S.meaning systems.now) }
 {
     let mut accesses = Vec::new(alloc);
@@ -79,7 +80,8 @@ pub(crate) fn guarded_systems<S: System>(
 ) -> Result<Vec<Option<GuardedSystem<S>>>, NoMemory>
     requires one_place_each { length places.now ≡ length systems.items }
     ensures as_many { IfOk result (λ v. length v.items ≡ length systems.items) }
-    ensures guarded { IfOk result (λ v. EachIs (IsGuardedAt S.meaning systems.items places.now) v.items) }
+    ensures guarded { IfOk result (λ v. EachIs (IsGuardedAt S.meaning systems.items places.now)
+        v.items) }
 {
     let mut guarded = Vec::new(alloc);
     for system in systems {

@@ -76,7 +76,8 @@ impl<S: System> EngineOf<S> {
         requires each { EachIs (MayBeAdded S.meaning world places.items) systems.items }
         ensures meaning { IfOk result (λ e. (w : WorldState) → PartsStand world w
             → StandsFor S.meaning e
-            (first_state (map S.meaning systems.items) places.items rules.items (length world.types) w)) }
+            (first_state (map S.meaning systems.items) places.items rules.items
+            (length world.types) w)) }
         ensures engine { IfOk result (IsEngine S.meaning) }
         ensures fresh { IfOk result (λ e. ¬ IsSpoiled e) }
         ensures no_clash { OnOk result (EachIs (λ i x. ¬ HasClash (S.meaning x)) systems.items) }
@@ -181,7 +182,8 @@ impl<S: System> EngineOf<S> {
     /// Takes the memory of a log that is no longer needed, for the logs of frames to come: a loop
     /// that gives each log back asks for less.
     pub fn recycle(&mut self, log: Log)
-        ensures meaning { (s : State) → StandsFor S.meaning self.old s → StandsFor S.meaning self.new s }
+        ensures meaning { (s : State) → StandsFor S.meaning self.old s
+            → StandsFor S.meaning self.new s }
         ensures counted { frames_of self.new ≡ frames_of self.old }
         ensures world { world_of self.new ≡ world_of self.old }
         ensures spoiled { IsSpoiled self.new ↔ IsSpoiled self.old }
@@ -213,7 +215,8 @@ impl<S: System> EngineOf<S> {
             → HasRunFrames S.meaning frames.now s out.old.items out.new.items self.new) }
 
         // For each turn in the logs that were appended, as in `run_frame`.
-        ensures gate_passed { All (λ log. EachPassedGate (G.passed gate.now) workers (systems_in log))
+        ensures gate_passed { All (λ log. EachPassedGate (G.passed gate.now) workers
+            (systems_in log))
             (drop (length out.old.items) out.new.items) }
         ensures spoiled { (result ≡ Err Spoiled) ↔ IsSpoiled self.old }
         ensures unchanged { result ≡ Err Spoiled → self.new ≡ self.old }
@@ -245,9 +248,9 @@ impl<S: System> EngineOf<S> {
     ///
     /// # Errors
     ///
-    /// `Spoiled`; `BadOrder` where the order isn't lawful for those that will have joined by this frame:
-    /// each of them once, and each after those that the settled order puts before it. Then nothing
-    /// has changed: nobody has joined. `NoMemory`, and then the engine is spoiled.
+    /// `Spoiled`; `BadOrder` where the order isn't lawful for those that will have joined by this
+    /// frame: each of them once, and each after those that the settled order puts before it. Then
+    /// nothing has changed: nobody has joined. `NoMemory`, and then the engine is spoiled.
     pub fn replay_frame(&mut self, frame: &Frame, order: &[u32]) -> Result<Log, RunFault>
         requires engine { IsEngine S.meaning self.old }
         requires posts { PostsFit self.old frame.now }
@@ -326,8 +329,8 @@ impl<S: System> EngineOf<S> {
         }
     }
 
-    /// Whether each post of the frame is to a type of its world, as the calls that run it ask. Every
-    /// frame fits an engine that is spoiled.
+    /// Whether each post of the frame is to a type of its world, as the calls that run it ask.
+    /// Every frame fits an engine that is spoiled.
     pub fn fits(&self, frame: &Frame) -> bool
         ensures fits { IsTrue result ↔ PostsFit self.now frame.now }
     {

@@ -27,7 +27,8 @@ pub(crate) trait TakesTurns {
     // What its turn gave back, what came of it, and what it is now, are those of a turn.
     ghost took: { Self → Parts → Parts → Parts → Outcome → Self → Type 0 };
 
-    /// Takes the turn. Gives back what was lent, and what came of it; replies go into the empty list.
+    /// Takes the turn. Gives back what was lent, and what came of it; replies go into the empty
+    /// list.
     fn take_turn(
         &mut self,
         alloc: Global,

@@ -23,7 +23,8 @@ fn start_guards(guards: &mut [Guard], counts: &Counts, start: Start)
 
 /// Sets its cursors and those of its conditions to where they start.
 fn start<S: System>(guarded: &mut GuardedSystem<S>, counts: &Counts)
-    ensures begun { job_state S.meaning guarded.new ≡ job_begun counts.now (job_state S.meaning guarded.old) }
+    ensures begun { job_state S.meaning guarded.new
+        ≡ job_begun counts.now (job_state S.meaning guarded.old) }
 {
     let start = guarded.system.begins();
     guarded.system.start(counts);

@@ -104,7 +104,8 @@ fn settle_pairs(before: &mut [SystemSet], accesses: &[Access], joined: &[bool])
     requires few { length before.old ≤ 256 }
     requires one_each { length joined.now ≡ length before.old }
     requires all { length accesses.now ≡ length before.old }
-    ensures { (g : Graph) → ArePaths g before.old → AreSettled accesses.now joined.now g before.new }
+    ensures { (g : Graph) → ArePaths g before.old
+        → AreSettled accesses.now joined.now g before.new }
 {
     for i in 0..before.len() {
         let later = later_conflicts(accesses, joined, i, &before[i]);

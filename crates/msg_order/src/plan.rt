@@ -91,8 +91,8 @@ impl<A: Allocator + Copy> Plan<A> {
     ///
     /// # Errors
     ///
-    /// `Cycle` with the lowest joined system from which the rules among joined systems lead back to it,
-    /// and `NoMemory`.
+    /// `Cycle` with the lowest joined system from which the rules among joined systems lead back to
+    /// it, and `NoMemory`.
     pub fn build(
         alloc: A,
         accesses: &[Access],

@@ -20,7 +20,8 @@ use std::thread::Threads;
 ///
 /// # Errors
 ///
-/// `NoMemory` where there was no engine. What the report came to, a fault of it too, is within `Ok`.
+/// `NoMemory` where there was no engine. What the report came to, a fault of it too, is within
+/// `Ok`.
 pub fn run_scenario<R: Threads + Sync, X: System, S: Sink, G: Gate>(
     rt: &R,
     alloc: Global,
@@ -46,7 +47,8 @@ pub fn run_scenario<R: Threads + Sync, X: System, S: Sink, G: Gate>(
         → RanOut X.meaning scenario.now (S.contents sink.old) (S.contents sink.new) }
     ensures not_spoiled { result ≢ Ok (Err (ReportFault.Run Spoiled)) }
     ensures no_bad_order { result ≢ Ok (Err (ReportFault.Run BadOrder)) }
-    ensures stopped { (result ≡ Ok (Err ReportFault.Write)) ⊎ (result ≡ Ok (Err ReportFault.NoMemory))
+    ensures stopped { (result ≡ Ok (Err ReportFault.Write))
+        ⊎ (result ≡ Ok (Err ReportFault.NoMemory))
         → Stopped X.meaning scenario.now (S.contents sink.old) (S.contents sink.new) }
     ensures write { result ≡ Ok (Err ReportFault.Write)
         → S.failures sink.new ≡ one_more (S.failures sink.old) }

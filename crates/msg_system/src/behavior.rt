@@ -5,8 +5,8 @@ use std::alloc::Global;
 /// Decides what a system does, by a memory of its own and by what its ops are answered.
 ///
 /// `BehaviorSystem` makes a system of it. Whoever implements it says by its ghost equations what
-/// each call does, and proves nothing about loans, worlds or frames. `crates/duel/src/role.rt` has a
-/// longer example, with the `ghost use` lines that bring in the names of such equations.
+/// each call does, and proves nothing about loans, worlds or frames. `crates/duel/src/role.rt` has
+/// a longer example, with the `ghost use` lines that bring in the names of such equations.
 ///
 /// ```
 /// /// Answers each message of a type by one to another.

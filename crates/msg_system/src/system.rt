@@ -7,7 +7,7 @@ use std::alloc::Global;
 /// turns by what it is told, with the access that they keep to, the number that it writes as, and
 /// its place in each type.
 ///
-/// `Scripted`, `Relay`, `Tally` and `BehaviorSystem` are systems. An engine calls them; by hand it is
+/// `Scripted`, `Relay`, `Tally` and `BehaviorSystem` are systems. An engine calls them; by hand:
 ///
 /// ```
 /// system.start(&world.counts());

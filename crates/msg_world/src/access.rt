@@ -67,7 +67,8 @@ impl Access {
     /// This access, and writes to a resource.
     pub fn with_write_res(self, r: ResNo) -> Self
         ensures reads { (p : Part) → reads result p ≡ reads self p }
-        ensures writes { (p : Part) → writes result p ≡ (same_part p (OfResource r) || writes self p) }
+        ensures writes { (p : Part) → writes result p
+            ≡ (same_part p (OfResource r) || writes self p) }
     {
         Access {
             write_res: masks::with_bit(self.write_res, r.number()),

@@ -1,8 +1,8 @@
 //! The world that systems share, and the parts of it that are lent to a job.
 //!
-//! `World` has the messages of each type, the value of each resource and the registry of signals. An
-//! `Access` says what a job reads and writes. `World::lend_out` moves out what it writes, `Lent` shows
-//! that and what it only reads, and `World::take_back` moves it home: so jobs need no lock.
+//! `World` has the messages of each type, the value of each resource and the registry of signals.
+//! An `Access` says what a job reads and writes. `World::lend_out` moves out what it writes, `Lent`
+//! shows that and what it only reads, and `World::take_back` moves it home: so jobs need no lock.
 #![tactic(auto)]
 
 mod access;

@@ -84,8 +84,10 @@ fn move_slot<T: Drop>(from: &mut Vec<Option<T>>, parts: &mut Vec<Moved<T>>, slot
     requires free { at (placed (vec_len from.old) parts.old.items) slot ≡ None }
     ensures below { AreSlotsBelow (vec_len from.old) parts.new.items }
     ensures moved { (k : ℕ) → at (placed (vec_len from.old) parts.new.items) k
-        ≡ (if k == slot then at from.old.items k else at (placed (vec_len from.old) parts.old.items) k) }
-    ensures left { (k : ℕ) → at from.new.items k ≡ (if k == slot then None else at from.old.items k) }
+        ≡ (if k == slot then at from.old.items k
+        else at (placed (vec_len from.old) parts.old.items) k) }
+    ensures left { (k : ℕ) → at from.new.items k
+        ≡ (if k == slot then None else at from.old.items k) }
     ensures left_len { vec_len from.new ≡ vec_len from.old }
     ensures one_at_most { vec_len parts.new ≤ vec_len parts.old + 1 }
     ensures capacity { vec_capacity parts.new ≡ vec_capacity parts.old }

@@ -46,7 +46,11 @@ impl Model for World {
 
     ghost Value = { Parts };
 
-    ghost view = { λ w. record { types = w.types.items; resources = w.resources.items; marks = w.marks } };
+    ghost view = { λ w. record {
+      types = w.types.items;
+      resources = w.resources.items;
+      marks = w.marks;
+    } };
 
     ghost invariant = { λ w. (length w.types.items ≤ 64) × (length w.resources.items ≤ 64) };
 }
@@ -183,7 +187,8 @@ impl World {
     /// The update at the beginning of a frame: every type, or none where a held world waits.
     pub fn update_all(&mut self)
         requires whole { IsWhole self.old }
-        ensures meaning { (s : WorldState) → PartsStand self.old s → PartsStand self.new (after_update s) }
+        ensures meaning { (s : WorldState) → PartsStand self.old s
+            → PartsStand self.new (after_update s) }
         ensures shape { SameShape self.old self.new }
     {
         let Some(marks) = self.marks else {
@@ -200,7 +205,8 @@ impl World {
     /// lost.
     pub fn set_held(&mut self)
         requires whole { IsWhole self.old }
-        ensures meaning { (s : WorldState) → PartsStand self.old s → PartsStand self.new (held_world s) }
+        ensures meaning { (s : WorldState) → PartsStand self.old s
+            → PartsStand self.new (held_world s) }
         ensures shape { SameShape self.old self.new }
     {
         self.marks = Some(Marks {

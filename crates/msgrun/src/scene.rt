@@ -19,7 +19,8 @@ use std::thread::Threads;
 ///
 /// # Errors
 ///
-/// `NoMemory` where there was no engine. What the report came to, a fault of it too, is within `Ok`.
+/// `NoMemory` where there was no engine. What the report came to, a fault of it too, is within
+/// `Ok`.
 pub(crate) fn run_in_boxes<R: Threads + Sync, S: Sink>(
     rt: &R,
     alloc: Global,
@@ -39,7 +40,8 @@ pub(crate) fn run_in_boxes<R: Threads + Sync, S: Sink>(
         → PrintedFrames scenario.now (S.contents sink.old) (S.contents sink.new) }
     ensures not_spoiled { result ≢ Ok (Err (ReportFault.Run Spoiled)) }
     ensures no_bad_order { result ≢ Ok (Err (ReportFault.Run BadOrder)) }
-    ensures stopped { (result ≡ Ok (Err ReportFault.Write)) ⊎ (result ≡ Ok (Err ReportFault.NoMemory))
+    ensures stopped { (result ≡ Ok (Err ReportFault.Write))
+        ⊎ (result ≡ Ok (Err ReportFault.NoMemory))
         → PrintedSome scenario.now (S.contents sink.old) (S.contents sink.new) }
     ensures write { result ≡ Ok (Err ReportFault.Write)
         → S.failures sink.new ≡ one_more (S.failures sink.old) }

@@ -13,8 +13,8 @@ use std::alloc::Global;
 /// How many bytes are gathered before they are put.
 const FULL: usize = 65536;
 
-/// Makes the calls of a file on a new buffer, and puts the line of each into the sink; where there is
-/// no memory for a call, the lines of those before it.
+/// Makes the calls of a file on a new buffer, and puts the line of each into the sink; where there
+/// is no memory for a call, the lines of those before it.
 pub fn run_calls<S: Sink>(alloc: Global, calls: &Calls, sink: &mut S) -> Result<(), ReportFault>
     ensures ok { OnOk result
         (Appends (S.contents sink.old) (S.contents sink.new) (calls_text calls.now)) }

@@ -111,8 +111,8 @@ fn are_acyclic(alloc: Global, systems: usize, rules: &[Rule]) -> Result<bool, No
 }
 
 impl Scenario {
-    /// Whether an engine can be made of it and all its frames can be run, as a report asks. One that
-    /// was read can.
+    /// Whether an engine can be made of it and all its frames can be run, as a report asks. One
+    /// that was read can.
     ///
     /// # Errors
     ///

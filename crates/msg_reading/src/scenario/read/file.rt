@@ -134,7 +134,8 @@ fn read_resources(
 
 #[tactic(auto, unfolding(crate::specs::ScenarioChecks::held_checks))]
 fn read_held(file: &Value) -> Result<bool, Refusal>
-    ensures agrees { IsAnswer (held_checks (view file.now)) (as_bool (held_in (view file.now))) result }
+    ensures agrees { IsAnswer (held_checks (view file.now)) (as_bool (held_in (view file.now)))
+        result }
 {
     match file.get("held") {
         Some(held) => held.as_bool().ok_or(Refusal::Shape),

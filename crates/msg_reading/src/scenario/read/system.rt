@@ -48,7 +48,8 @@ fn read_program(
     ops: &Value,
 ) -> Result<(Kind, Program, Place), Refusal>
     requires { value_at (codes "ops") (view system.now) ≡ view ops.now }
-    ensures is { IfOk result (λ p. (first_refusal (program_checks names.now (view system.now)) ≡ None)
+    ensures is { IfOk result (λ p. (first_refusal (program_checks names.now (view system.now))
+        ≡ None)
         × (kind_of (kind_in (view system.now)) ≡ Some p.0)
         × (ops_of names.now (view system.now) ≡ Some p.1.ops)
         × (place_of names.now (view system.now) ≡ Some p.2)
@@ -134,7 +135,8 @@ fn read_ops(
 ) -> Result<Items<Op>, Refusal>
     ensures agrees { Agrees
         (list_checks 64 (op_checks names.now) (view ops.now)
-        ++ needs (option_map_or (fits_kind kind) (each_of (op_of names.now) (view ops.now)) false) Shape
+        ++ needs (option_map_or (fits_kind kind)
+        (each_of (op_of names.now) (view ops.now)) false) Shape
         ∷ [])
         (each_of (op_of names.now) (view ops.now)) result }
 {
