@@ -1,5 +1,5 @@
--- The history of a message type: one list of all messages ever written, which only grows. Nothing is
--- taken out of it, and nothing moves: which messages are still present is decided by their age.
+-- The history of a message type: one list of all messages ever written, which only grows. Nothing
+-- is taken out of it, and nothing moves: which messages are still present is decided by their age.
 use Rattle.std.specs.Prelude.{◌≡◌, ℕ, suc, ◌+◌, ◌≤◌, Bool, ◌&&◌, not, nat_le, ◌==◌, IsTrue, List, [], ◌∷◌, ◌++◌, length, map, filter, slice_get, Option, Some, None, option_and_then, if◌then◌else◌}
 use Rattle.std.specs.List.{enumerate_from}
 use Rattle.msg_buffer.specs.declared.instance.Instance.{Instance}
@@ -48,7 +48,8 @@ module _ {M : Type 0} where
   abbrev pub instances : History M → List (Instance M)
   instances h = map instance_of (numbered_entries h)
 
-  -- An entry is present: it isn't below the floor, and at most one update was made since it was written.
+  -- An entry is present: it isn't below the floor, and at most one update was made since it was
+  -- written.
   abbrev pub is_present : History M → ℕ × Entry M → Bool
   is_present h x = nat_le h.floor x.0 && nat_le h.updates (x.1.stamp + 1)
 
@@ -64,7 +65,8 @@ module _ {M : Type 0} where
   abbrev pub current : History M → List (Instance M)
   current h = map instance_of (filter (is_current h) (numbered_entries h))
 
-  -- how many entries aren't present: they are the first ones, so this is the number of the oldest that is
+  -- how many entries aren't present: they are the first ones, so this is the number of the oldest
+  -- that is
   abbrev pub oldest : History M → ℕ
   oldest h = length (filter (λ x. not (is_present h x)) (numbered_entries h))
 
@@ -74,7 +76,8 @@ module _ {M : Type 0} where
 
   -- message n, where entry n is present
   abbrev pub get : History M → ℕ → Option M
-  get h n = option_and_then (λ e. if is_present h (n, e) then Some e.message else None) (slice_get h.entries n)
+  get h n = option_and_then (λ e. if is_present h (n, e) then Some e.message else None)
+      (slice_get h.entries n)
 
   -- so many numbers are left
   abbrev pub has_room : History M → ℕ → Bool
@@ -84,9 +87,11 @@ module _ {M : Type 0} where
   abbrev pub stamped : ℕ → List M → List (Entry M)
   stamped updates ms = map (λ m. record { message = m; stamp = updates }) ms
 
-  -- The history after a write: all messages are added at the end, or none where there are too few numbers.
+  -- The history after a write: all messages are added at the end, or none where there are too few
+  -- numbers.
   abbrev pub write : List M → History M → History M
-  write ms h = if has_room h (length ms) then record h { entries = h.entries ++ stamped h.updates ms } else h
+  write ms h = if has_room h (length ms)
+      then record h { entries = h.entries ++ stamped h.updates ms } else h
 
   -- the history after an update: everything is one update older
   abbrev pub update : History M → History M

@@ -28,7 +28,8 @@ abbrev pub get_from : {X : Type 0} → ℕ → List X → ℕ → Option X
 get_from start xs n = if nat_le start n then slice_get xs (n - start) else None
 
 -- The bounds that every buffer keeps.
-pub record HasBounds {M : Type 0} (limit count older_start newer_start : ℕ) (older newer : List (Instance M))
+pub record HasBounds {M : Type 0} (limit count older_start newer_start : ℕ)
+    (older newer : List (Instance M))
     : Type 0 where
   pub halves_meet : older_start + length older ≡ newer_start
   pub ends_at_count : newer_start + length newer ≡ count

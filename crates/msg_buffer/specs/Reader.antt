@@ -3,7 +3,8 @@ use Rattle.std.specs.Prelude.{ℕ, ◌+◌, ◌-◌, max, List, length, take, dr
 use Rattle.msg_buffer.specs.declared.instance.Instance.{Instance}
 use Rattle.msg_buffer.specs.History.{History, instances, oldest, IsPresent}
 
--- What one read or clear goes past: some messages that it missed, and then `number` of them from `first` on.
+-- What one read or clear goes past: some messages that it missed, and then `number` of them from
+-- `first` on.
 pub record Stretch : Type 0 where
   pub missed : ℕ
   pub first : ℕ
@@ -37,7 +38,8 @@ module _ {M : Type 0} where
 
   -- it goes past these, after what it missed
   abbrev pub going_past : History M → ℕ → List (Instance M) → Stretch
-  going_past h place xs = record { missed = missed h place; first = first h place; number = length xs }
+  going_past h place xs =
+      record { missed = missed h place; first = first h place; number = length xs }
 
   -- what a read goes past: what it gives
   abbrev pub read : History M → ℕ → Option ℕ → Stretch

@@ -33,7 +33,8 @@ module _ {M A : Type 0} where
     pub messages : iter_messages new ≡ iter_messages old
 
   -- it gave the first message of what was left, and moved the place by one
-  pub record Gives (old : MessageIter M A) (item : MessageId × Bor M) (new : MessageIter M A) : Type 0 where
+  pub record Gives (old : MessageIter M A) (item : MessageId × Bor M)
+      (new : MessageIter M A) : Type 0 where
     pub rest : iter_rest old ≡ shown item ∷ iter_rest new
     pub place : iter_place new ≡ iter_place old + 1
     pub continues : Continues old new
@@ -49,7 +50,8 @@ module _ {M A : Type 0} where
   IterSteps old item new = MatchOption item (Ends old new) (λ x. Gives old x new)
 
 -- An iterator that was `start` is now `now`. In between it gave these, and left none out.
-pub record HasGiven {M A : Type 0} (start now : MessageIter M A) (taken : List (Instance M)) : Type 0 where
+pub record HasGiven {M A : Type 0} (start now : MessageIter M A)
+    (taken : List (Instance M)) : Type 0 where
   pub given : iter_rest start ≡ taken ++ iter_rest now
   pub place : iter_place now ≡ iter_place start + length taken
   pub continues : Continues start now

@@ -3,8 +3,8 @@ use Rattle.std.specs.Prelude.{◌≡◌}
 use Rattle.msg_buffer.specs.History.{History, IsSound, count, present, current, oldest}
 use Rattle.msg_buffer.specs.Kept.{Kept, kept_count, kept_instances}
 
--- A buffer stands for a history: its halves hold the present messages, the newer half the current ones.
--- Messages that aren't present may be any, since nothing depends on them.
+-- A buffer stands for a history: its halves hold the present messages, the newer half the current
+-- ones. Messages that aren't present may be any, since nothing depends on them.
 pub record StandsFor {M : Type 0} (k : Kept M) (h : History M) : Type 0 where
   pub sound : IsSound h
   pub limit : k.limit ≡ h.limit

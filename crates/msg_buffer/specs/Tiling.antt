@@ -1,5 +1,5 @@
--- How the reads and clears of one reader tile its history: nothing is gone past twice, and nothing is
--- left out but what was missed.
+-- How the reads and clears of one reader tile its history: nothing is gone past twice, and nothing
+-- is left out but what was missed.
 use Rattle.std.specs.Prelude.{◌≡◌, ℕ, ◌≤◌, min, List, [], ◌∷◌, length, take, drop, All, Option, Some, None}
 use Rattle.msg_buffer.specs.History.{History, IsSound, count, instances}
 use Rattle.msg_buffer.specs.Reader.{Stretch, next_place, given, read, pass_over, unread, Fits, Tile}
@@ -34,7 +34,8 @@ module _ (M : Type 0) where
       ≡ take (read h place limit).number (drop (read h place limit).first (instances h)))
       × (place ≤ count h → next_place (read h place limit) ≤ count h)
 
-  -- A read goes past all that is unread, or past as many messages as its limit where these are fewer.
+  -- A read goes past all that is unread, or past as many messages as its limit where these are
+  -- fewer.
   abbrev pub ReadsUpTo : Type 0
   ReadsUpTo = (h : History M) (place : ℕ)
       → ((read h place None).number ≡ length (unread h place))
@@ -43,7 +44,8 @@ module _ (M : Type 0) where
   -- Each clear fits, and ends at the count.
   abbrev pub ClearsFit : Type 0
   ClearsFit = (h : History M) (place : ℕ) → IsSound h
-      → Fits h place (pass_over h place) × (place ≤ count h → next_place (pass_over h place) ≡ count h)
+      → Fits h place (pass_over h place)
+      × (place ≤ count h → next_place (pass_over h place) ≡ count h)
 
   -- All reads and clears of one reader tile, whatever was written, updated or cleared in between.
   abbrev pub RunsTile : Type 0

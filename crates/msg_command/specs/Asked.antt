@@ -13,8 +13,8 @@ use Rattle.msg_command.specs.declared.words.Action.TheVariants.{Buffer, Run}
 use Rattle.msg_command.specs.declared.words.WordFault.{WordFault}
 use Rattle.msg_command.specs.declared.words.WordFault.TheVariants as word
 
--- a request: to answer the calls file of a name, or of standard input; or to run the scenario file of a name on so many
--- workers
+-- a request: to answer the calls file of a name, or of standard input; or to run the scenario file
+-- of a name on so many workers
 pub data Request : Type 0 where
   buffer : Option Text → Request
   run : Text → ℕ → Request
@@ -46,13 +46,15 @@ run_asked (Some file) (Some workers) = Some (run file workers)
 run_asked (Some file) None = None
 run_asked None workers = None
 
--- without a subcommand, standard input; with the subcommand `buffer`, its FILE; with `run`, its FILE and N
+-- without a subcommand, standard input; with the subcommand `buffer`, its FILE; with `run`, its
+-- FILE and N
 abbrev pub asked_by : Option (Text × List Row) → Option Request
 asked_by None = Some (buffer None)
 asked_by (Some (name, rows)) =
     if bytes_eq name (codes "buffer")
     then option_map (λ file. buffer (Some file)) (first_of (codes "FILE") rows)
-    else (if bytes_eq name (codes "run") then run_asked (first_of (codes "FILE") rows) (workers_asked rows) else None)
+    else (if bytes_eq name (codes "run")
+        then run_asked (first_of (codes "FILE") rows) (workers_asked rows) else None)
 
 -- what the words ask for, by the subcommand that clap finds in them
 abbrev pub asked : List Text → Option Request
@@ -60,14 +62,17 @@ asked words = asked_by (subcommand_of msgrun_app words)
 
 -- the words name `run`, and what they say of workers is no number of them
 abbrev pub IsRunOnNone : List Text → Type 0
-IsRunOnNone words = (rows : List Row) × (text : Text) × (subcommand_of msgrun_app words ≡ Some (codes "run", rows))
+IsRunOnNone words = (rows : List Row) × (text : Text)
+    × (subcommand_of msgrun_app words ≡ Some (codes "run", rows))
     × (first_of (codes "workers") rows ≡ Some text) × (workers_in text ≡ None)
 
--- Why words are refused in which clap finds these kinds of errors: for help where it finds that help is asked for; as bad
--- words where it finds nothing, or something else; and for want of memory at any words.
+-- Why words are refused in which clap finds these kinds of errors: for help where it finds that
+-- help is asked for; as bad words where it finds nothing, or something else; and for want of memory
+-- at any words.
 abbrev pub IsToldOf : Kinds → WordFault → Type 0
 IsToldOf kinds (word.Help text) = IsAmong kind.DisplayHelp kinds
-IsToldOf kinds word.Bad = (kinds ≡ []) ⊎ ((k : ErrorKind) × IsAmong k kinds × (k ≢ kind.DisplayHelp))
+IsToldOf kinds word.Bad = (kinds ≡ [])
+    ⊎ ((k : ErrorKind) × IsAmong k kinds × (k ≢ kind.DisplayHelp))
 IsToldOf kinds word.NoMemory = Unit {0}
 
 -- a run is on 1 to 64 workers

@@ -22,7 +22,8 @@ IsJoin join = (1 ≤ join) × (join ≤ 10000)
 
 -- the world has what a system and its conditions read and write
 abbrev pub FitsWorld : Parts → Meaning → Place → Type 0
-FitsWorld world m place = (p : Part) → IsTrue (needs_any (with_conditions m.needs place.conditions) p) → Has world p
+FitsWorld world m place = (p : Part)
+    → IsTrue (needs_any (with_conditions m.needs place.conditions) p) → Has world p
 
 module _ {S : Type 0} (meaning : S → Meaning) where
   -- system i, in its place, may be added to an engine over a world of these parts
@@ -41,10 +42,12 @@ module _ {S : Type 0} (meaning : S → Meaning) where
     pub clash : HasClash (meaning system)
     pub lowest : (r : ℕ) (x : S) → r < s → slice_get systems r ≡ Some x → ¬ HasClash (meaning x)
 
-  -- A refusal names the lowest system with a clash; or, where none has one, the lowest on a cycle of rules.
+  -- A refusal names the lowest system with a clash; or, where none has one, the lowest on a cycle
+  -- of rules.
   abbrev pub RefusesFor : List S → List Rule → BuildRefusal → Type 0
   RefusesFor systems rules (Clash s) = IsLowestClash systems s
-  RefusesFor systems rules (Cycle s) = EachIs (λ i x. ¬ HasClash (meaning x)) systems × IsLowestOnCycle (all_rules (length systems) rules) s
+  RefusesFor systems rules (Cycle s) = EachIs (λ i x. ¬ HasClash (meaning x)) systems
+      × IsLowestOnCycle (all_rules (length systems) rules) s
   RefusesFor systems rules NoMemory = ⊤
 
 -- ---- a builder
@@ -60,8 +63,8 @@ abbrev pub numbered_from : ℕ → List Meaning → List Meaning
 numbered_from n [] = []
 numbered_from n (m ∷ ms) = record m { writer = n; places = λ t. 0 } ∷ numbered_from (n + 1) ms
 
--- why a system isn't added to so many, to join with this frame: there are too many; else it can't join with that frame;
--- and only where it might be added there is no memory
+-- why a system isn't added to so many, to join with this frame: there are too many; else it can't
+-- join with that frame; and only where it might be added there is no memory
 abbrev pub RefusesToAdd : ℕ → ℕ → BuildError → Type 0
 RefusesToAdd systems join Full = 256 ≤ systems
 RefusesToAdd systems join (BadJoin frame) = (systems < 256) × (frame ≡ join) × ¬ IsJoin join
@@ -73,12 +76,14 @@ pub record IsFirstUnknown (n : ℕ) (rules : List Rule) (rule : Rule) : Type 0 w
   pub index : ℕ
   pub is : slice_get rules index ≡ Some rule
   pub unknown : ¬ ((rule.earlier < n) × (rule.later < n))
-  pub first : (k : ℕ) (r : Rule) → k < index → slice_get rules k ≡ Some r → (r.earlier < n) × (r.later < n)
+  pub first : (k : ℕ) (r : Rule) → k < index → slice_get rules k ≡ Some r → (r.earlier < n)
+      × (r.later < n)
 
 module _ {S : Type 0} (meaning : S → Meaning) where
   -- the systems below n fit the world in their places
   abbrev pub FitBelow : ℕ → Parts → List S → List Place → Type 0
-  FitBelow n world systems places = (i : ℕ) (x : S) (place : Place) → i < n → slice_get systems i ≡ Some x → slice_get places i ≡ Some place
+  FitBelow n world systems places = (i : ℕ) (x : S) (place : Place) → i < n → slice_get systems i
+      ≡ Some x → slice_get places i ≡ Some place
       → FitsWorld world (meaning x) place
 
   -- all systems fit the world in their places
@@ -86,7 +91,8 @@ module _ {S : Type 0} (meaning : S → Meaning) where
   AllFit world systems places = FitBelow (length systems) world systems places
 
   -- s is the lowest system that doesn't fit the world in its place
-  pub record IsLowestMisfit (world : Parts) (systems : List S) (places : List Place) (s : ℕ) : Type 0 where
+  pub record IsLowestMisfit (world : Parts) (systems : List S) (places : List Place)
+      (s : ℕ) : Type 0 where
     pub system : S
     pub place : Place
     pub is : slice_get systems s ≡ Some system
@@ -94,10 +100,13 @@ module _ {S : Type 0} (meaning : S → Meaning) where
     pub misfit : ¬ FitsWorld world (meaning system) place
     pub lowest : FitBelow s world systems places
 
-  -- Why no engine is made: a system that doesn't fit; else a rule without its system; else what `EngineOf::new` refuses.
+  -- Why no engine is made: a system that doesn't fit; else a rule without its system; else what
+  -- `EngineOf::new` refuses.
   abbrev pub RefusesToBuild : Parts → Added S → BuildError → Type 0
   RefusesToBuild world a (Misfit s) = IsLowestMisfit world a.systems a.places s
-  RefusesToBuild world a (UnknownSystem rule) = AllFit world a.systems a.places × IsFirstUnknown (length a.systems) a.rules rule
+  RefusesToBuild world a (UnknownSystem rule) = AllFit world a.systems a.places
+      × IsFirstUnknown (length a.systems) a.rules rule
   RefusesToBuild world a (Refused refusal) =
-      AllFit world a.systems a.places × NameSystemsBelow (length a.systems) a.rules × RefusesFor meaning a.systems a.rules refusal
+      AllFit world a.systems a.places × NameSystemsBelow (length a.systems) a.rules
+          × RefusesFor meaning a.systems a.rules refusal
   RefusesToBuild world a _ = ⊥

@@ -31,37 +31,43 @@ module _ {S : Type 0} (meaning : S → Meaning) where
     pub core : IsSomeAnd e.core (λ c. CoreStands meaning c s)
     pub frames : frames_of e ≡ frame_count s
 
-  -- An engine as `new` makes it, and as its calls leave it: it stands for a state, or it is spoiled.
+  -- An engine as `new` makes it, and as its calls leave it: it stands for a state, or it is
+  -- spoiled.
   abbrev pub IsEngine : EngineOf S → Type 0
   IsEngine e = IsSpoiled e ⊎ ((s : State) × StandsFor e s)
 
-  -- From the state s the engine ran a frame: the log is the frame's on one thread, with all that a run comes to, and the
-  -- engine stands for the state that the frame leaves.
+  -- From the state s the engine ran a frame: the log is the frame's on one thread, with all that a
+  -- run comes to, and the engine stands for the state that the frame leaves.
   pub record HasRunFrame (frame : Frame) (s : State) (log : Log) (e : EngineOf S) : Type 0 where
     pub state : State
     pub is_frame : IsFrame frame s log state
     pub complete : IsCompleteRun (frame ∷ []) s (log ∷ []) state
     pub stands : StandsFor e state
 
-  -- From the state s the engine replayed a frame in this order: the log is a replay's, it tells each system what the
-  -- frame tells it, with all that a run comes to, and the engine stands for the state that the frame leaves.
-  pub record HasReplayed (frame : Frame) (order : List ℕ) (s : State) (log : Log) (e : EngineOf S) : Type 0 where
+  -- From the state s the engine replayed a frame in this order: the log is a replay's, it tells
+  -- each system what the frame tells it, with all that a run comes to, and the engine stands for
+  -- the state that the frame leaves.
+  pub record HasReplayed (frame : Frame) (order : List ℕ) (s : State) (log : Log)
+      (e : EngineOf S) : Type 0 where
     pub state : State
     pub is_replay : IsReplay frame order s log state
     pub tells : TellsACompleteRun (frame ∷ []) s (log ∷ []) state
     pub stands : StandsFor e state
 
-  -- From the state s the engine ran frames: it appended the logs of a complete run, and stands for the state that is left.
-  pub record HasRunFrames (frames : List Frame) (s : State) (before after : List Log) (e : EngineOf S) : Type 0 where
+  -- From the state s the engine ran frames: it appended the logs of a complete run, and stands for
+  -- the state that is left.
+  pub record HasRunFrames (frames : List Frame) (s : State) (before after : List Log)
+      (e : EngineOf S) : Type 0 where
     pub logs : List Log
     pub state : State
     pub appended : after ≡ before ++ logs
     pub complete : IsCompleteRun frames s logs state
     pub stands : StandsFor e state
 
-  -- From the state s the engine ran some of the frames, the first ones, and then there was no memory: the logs of those
-  -- were appended, and it counted those.
-  pub record HasRunSome (frames : List Frame) (s : State) (before after : List Log) (e : EngineOf S) : Type 0 where
+  -- From the state s the engine ran some of the frames, the first ones, and then there was no
+  -- memory: the logs of those were appended, and it counted those.
+  pub record HasRunSome (frames : List Frame) (s : State) (before after : List Log)
+      (e : EngineOf S) : Type 0 where
     pub logs : List Log
     pub state : State
     pub appended : after ≡ before ++ logs

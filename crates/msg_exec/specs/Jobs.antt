@@ -17,17 +17,22 @@ module _ {S : Type 0} (meaning : S → Meaning) where
   abbrev pub guarded_needs : GuardedSystem S → Needs
   guarded_needs a = with_conditions (meaning a.system).needs (conditions_of (job_state a))
 
-  -- The job is done: its system, what it gives back and what came of it are what they mean to be after it.
-  pub record IsAfterJob (after : AfterJob) (guarded : GuardedSystem S) (taken : Parts) (came : Outcome) : Type 0 where
+  -- The job is done: its system, what it gives back and what came of it are what they mean to be
+  -- after it.
+  pub record IsAfterJob (after : AfterJob) (guarded : GuardedSystem S) (taken : Parts)
+      (came : Outcome) : Type 0 where
     pub job : job_state guarded ≡ after.job
     pub written : PartsStand taken after.state
     pub outcome : came ≡ outcome_of after.replies
 
-  -- A turn on a loan is the job of the system and its conditions, on each world that the loan stands for.
-  pub record HasTakenTurn (world taken : Parts) (old : GuardedSystem S) (later : Parts) (came : Outcome) (new : GuardedSystem S) : Type 0 where
+  -- A turn on a loan is the job of the system and its conditions, on each world that the loan
+  -- stands for.
+  pub record HasTakenTurn (world taken : Parts) (old : GuardedSystem S) (later : Parts)
+      (came : Outcome) (new : GuardedSystem S) : Type 0 where
     -- what is given back may be taken back
     pub shape : SameShape taken later
-    pub after : (w : WorldState) → PartsStand world w → PartsStand taken w → IsAfterJob (after_job (job_state old) w) new later came
+    pub after : (w : WorldState) → PartsStand world w → PartsStand taken w
+        → IsAfterJob (after_job (job_state old) w) new later came
 
   -- A lawful result of a job on a world.
   pub record IsDone (world : Parts) (j : Job S) (d : Done S) : Type 0 where
@@ -40,5 +45,6 @@ module _ {S : Type 0} (meaning : S → Meaning) where
     pub access : IsAccessOf (guarded_needs j.guarded) j.access
 
   -- a lawful result, or the word that memory was refused
-  pub record IsResult {E : Type 0} (world : Parts) (j : Job S) (r : Result (Done S) E) : Type 0 where
+  pub record IsResult {E : Type 0} (world : Parts) (j : Job S)
+      (r : Result (Done S) E) : Type 0 where
     pub done : IfOk r (IsDone world j)

@@ -1,4 +1,5 @@
--- How an engine keeps totals: each number within `u64`. No number of a run is past it, so that what callers see is exact.
+-- How an engine keeps totals: each number within `u64`. No number of a run is past it, so that what
+-- callers see is exact.
 use Rattle.std.specs.Prelude.{ℕ, ◌-◌, ◌^◌, min, List, slice_index_or}
 use Rattle.msg_frames.specs.declared.totals.Totals.{Totals}
 use Rattle.msg_frames.specs.Prelude.{no_totals}
@@ -8,7 +9,9 @@ within_u64 n = min n (2 ^ 64 - 1)
 
 -- the totals as they are kept
 abbrev pub kept : Totals → Totals
-kept x = record x { got = within_u64 x.got; missed = within_u64 x.missed; cleared = within_u64 x.cleared }
+kept x =
+    record x { got = within_u64 x.got; missed = within_u64 x.missed;
+    cleared = within_u64 x.cleared }
 
 -- those of type t
 abbrev pub totals_at : List Totals → ℕ → Totals

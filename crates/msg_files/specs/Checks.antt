@@ -133,7 +133,8 @@ is_known key = bytes_eq key (codes "limit") || bytes_eq key (codes "calls")
 
 -- an object with the keys `limit` and `calls`, and no others
 abbrev pub root_checks : Data → List Check
-root_checks d = object_checks is_known d ++ (has_key (codes "limit") d ∷ has_key (codes "calls") d ∷ [])
+root_checks d = object_checks is_known d
+    ++ (has_key (codes "limit") d ∷ has_key (codes "calls") d ∷ [])
 
 -- a list of at most 10,000 calls, before which cursor 0 is there
 abbrev pub list_checks : Data → List Check
@@ -146,4 +147,5 @@ list_checks d =
 abbrev pub checks_of : Data → List Check
 checks_of d =
     root_checks d
-    ++ ((a_number (value_at (codes "limit") d) ∷ a_limit (value_at (codes "limit") d) ∷ []) ++ list_checks (value_at (codes "calls") d))
+    ++ ((a_number (value_at (codes "limit") d) ∷ a_limit (value_at (codes "limit") d) ∷ [])
+    ++ list_checks (value_at (codes "calls") d))

@@ -6,7 +6,8 @@ use Rattle.msg_files.specs.declared.call.Call.{Call}
 use Rattle.msg_files.specs.declared.refusal.Refusal.{Refusal}
 use Rattle.msg_files.specs.declared.refusal.Refusal.TheVariants.{NotJson, NoMemory}
 
--- the answer of what takes no memory: what is denoted, or else the refusal of the first check that fails
+-- the answer of what takes no memory: what is denoted, or else the refusal of the first check that
+-- fails
 abbrev pub IsAnswer : {A : Type 0} → List Check → Option A → Result A Refusal → Type 0
 IsAnswer checks denoted (Ok a) = (first_refusal checks ≡ None) × (denoted ≡ Some a)
 IsAnswer checks denoted (Err e) = (e ≢ NotJson) × (first_refusal checks ≡ Some e)

@@ -35,8 +35,10 @@ messages_given es = flat_map (λ e. unwrap_or e.given []) es
 abbrev pub message_numbered : History Record → ℕ → Option Record
 message_numbered h n = option_map (λ e. e.message) (slice_get h.entries n)
 
--- What the entries of these moments say of the messages from one place to another; at the end the type's list is last.
-pub record IsGivenOnce (es : List Entry) (ms : List Moment) (from to : ℕ) (last : History Record) : Type 0 where
+-- What the entries of these moments say of the messages from one place to another; at the end the
+-- type's list is last.
+pub record IsGivenOnce (es : List Entry) (ms : List Moment) (from to : ℕ)
+    (last : History Record) : Type 0 where
   pub entries : es ≡ map (λ m. m.entry) ms
   -- each message was given, or cleared, or missed: one of these, and once
   pub each : (n : ℕ) → from ≤ n → n < to → MeetsOneFate es n
@@ -47,9 +49,11 @@ pub record IsGivenOnce (es : List Entry) (ms : List Moment) (from to : ℕ) (las
   -- and what was given is what was written
   pub as_written : map (message_numbered last) (numbers_of given es) ≡ map Some (messages_given es)
   -- a message that was missed had been written by that moment, and wasn't present any more
-  pub dropped : All (λ m. (n : ℕ) → Contains (numbers_at missed m.entry) n → (n < count m.history) × ¬ IsPresent m.history n) ms
+  pub dropped : All (λ m. (n : ℕ) → Contains (numbers_at missed m.entry) n → (n < count m.history)
+      × ¬ IsPresent m.history n) ms
   -- and so they add up
-  pub adds_up : from + length (numbers_of given es) + length (numbers_of missed es) + length (numbers_of cleared es) ≡ to
+  pub adds_up : from + length (numbers_of given es) + length (numbers_of missed es) + length
+      (numbers_of cleared es) ≡ to
 
 -- ---- writer by writer
 
@@ -65,18 +69,24 @@ pub record IsInOrderOf (writer : ℕ) (es : List Entry) (last : History Record) 
 
 -- ---- a run
 
--- The totals with which a run from s to u finds a reader: those that it has, or new ones where it joins.
+-- The totals with which a run from s to u finds a reader: those that it has, or new ones where it
+-- joins.
 abbrev pub found_totals : State → State → ℕ → ℕ → Totals
-found_totals s u i t = if has_begun s i then (s.members i).totals t else totals_from (found_at s u i t)
+found_totals s u i t = if has_begun s i then (s.members i).totals t
+    else totals_from (found_at s u i t)
 
--- What a run with these logs did for the reader of type t in system i, from where it was found to its place at the end.
-pub record IsServed (i t : ℕ) (frames : List Frame) (s : State) (logs : List Log) (u : State) : Type 0 where
-  -- it was given each message exactly once, in order of writing, but those that it cleared itself and those that were
-  -- dropped unread, which the missed counts add up to
-  pub given : IsGivenOnce (log_entries i t (s.members i).job.system logs) (moments i t frames logs s) (found_at s u i t)
+-- What a run with these logs did for the reader of type t in system i, from where it was found to
+-- its place at the end.
+pub record IsServed (i t : ℕ) (frames : List Frame) (s : State) (logs : List Log)
+    (u : State) : Type 0 where
+  -- it was given each message exactly once, in order of writing, but those that it cleared itself
+  -- and those that were dropped unread, which the missed counts add up to
+  pub given : IsGivenOnce (log_entries i t (s.members i).job.system logs)
+      (moments i t frames logs s) (found_at s u i t)
       (place_of u i t) (u.world.histories t)
   -- those of each writer in its order
-  pub by_writer : (writer : ℕ) → IsInOrderOf writer (log_entries i t (s.members i).job.system logs) (u.world.histories t)
+  pub by_writer : (writer : ℕ) → IsInOrderOf writer (log_entries i t (s.members i).job.system logs)
+      (u.world.histories t)
   -- its reads and clears tile
   pub tiled : IsTiled i t frames logs s u
   -- and its totals count what the logs tell
@@ -84,7 +94,8 @@ pub record IsServed (i t : ℕ) (frames : List Frame) (s : State) (logs : List L
       ≡ with_entries (log_entries i t (s.members i).job.system logs) (found_totals s u i t)
 
 -- From the state s the frames have these logs and leave the state u.
-pub record IsCompleteRun (frames : List Frame) (s : State) (logs : List Log) (u : State) : Type 0 where
+pub record IsCompleteRun (frames : List Frame) (s : State) (logs : List Log)
+    (u : State) : Type 0 where
   -- the logs and the state are those of one thread
   pub is_run : IsRun frames s logs u
   -- each type's list of messages only grew

@@ -1,5 +1,5 @@
--- What the replies of a system tell of its readers: what each read and each clear went past. A reader is a
--- system and a type that it reads.
+-- What the replies of a system tell of its readers: what each read and each clear went past. A
+-- reader is a system and a type that it reads.
 use Rattle.std.specs.Prelude.{ℕ, ◌+◌, ◌-◌, ◌==◌, false, Bool, List, [], ◌∷◌, ◌++◌, length, flat_map, Option, Some, None, is_some, option_to_list, if◌then◌else◌}
 use Rattle.std.specs.List.{range_with_len}
 use Rattle.msg_buffer.specs.Prelude.{Stretch}
@@ -13,7 +13,8 @@ use Rattle.msg_frames.specs.declared.log.Outcome.{Outcome}
 use Rattle.msg_frames.specs.declared.log.Outcome.TheVariants.{Skipped, Ran}
 use Rattle.msg_frames.specs.declared.totals.Totals.{Totals}
 
--- What a reader went past by one op: a stretch of messages, which it was given, or which it cleared.
+-- What a reader went past by one op: a stretch of messages, which it was given, or which it
+-- cleared.
 pub record Entry : Type 0 where
   pub stretch : Stretch
   -- the messages that it was given; none where it cleared them
@@ -31,7 +32,8 @@ abbrev pub entry_of : Reply → Option Entry
 entry_of (Read took) = Some (entry_of_read took)
 entry_of (Forwarded took wrote) = Some (entry_of_read took)
 entry_of (Summed took value) = Some (entry_of_read took)
-entry_of (Cleared missed first n) = Some (record { stretch = record { missed = missed; first = first; number = n }; given = None })
+entry_of (Cleared missed first n) =
+    Some (record { stretch = record { missed = missed; first = first; number = n }; given = None })
 entry_of _ = None
 
 -- the op reads the type
@@ -60,7 +62,8 @@ ops_by n rule replies = ops_answered (λ so_far. if_kept n (rule [] so_far)) rep
 abbrev pub entries_told : ℕ → Needs → Rule → List (List Reply) → List Entry
 entries_told t n rule [] = []
 entries_told t n rule (replies ∷ turns) =
-    entries_for t (ops_by n rule replies) replies ++ entries_told t n (λ later now. rule (replies ∷ later) now) turns
+    entries_for t (ops_by n rule replies) replies
+        ++ entries_told t n (λ later now. rule (replies ∷ later) now) turns
 
 -- those of one turn
 abbrev pub outcome_entries : ℕ → Meaning → Outcome → List Entry
@@ -78,7 +81,8 @@ pub data Fate : Type 0 where
 abbrev pub numbers_passed : Entry → List ℕ
 numbers_passed e = range_with_len e.stretch.first e.stretch.number
 
--- The numbers of the messages that met a fate at an entry. Those that it missed stand just before its first.
+-- The numbers of the messages that met a fate at an entry. Those that it missed stand just before
+-- its first.
 abbrev pub numbers_at : Fate → Entry → List ℕ
 numbers_at given e = if is_some e.given then numbers_passed e else []
 numbers_at cleared e = if is_some e.given then [] else numbers_passed e

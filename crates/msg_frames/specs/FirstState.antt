@@ -27,7 +27,8 @@ new_job system place = record { system = system; conditions = map new_asked plac
 
 -- a system that hasn't joined
 abbrev pub waiting : Meaning → Place → Member
-waiting system place = record { job = new_job system place; join = place.join; totals = λ t. no_totals }
+waiting system place =
+    record { job = new_job system place; join = place.join; totals = λ t. no_totals }
 
 -- No frame was run, and nobody has joined.
 abbrev pub unjoined : List Meaning → List Place → List Rule → ℕ → WorldState → State
@@ -42,7 +43,8 @@ unjoined systems places rules types world = record {
 
 -- No frame was run, and those of join 1 have joined.
 abbrev pub first_state : List Meaning → List Place → List Rule → ℕ → WorldState → State
-first_state systems places rules types world = with_joining 1 (unjoined systems places rules types world)
+first_state systems places rules types world =
+    with_joining 1 (unjoined systems places rules types world)
 
 -- ---- what makes none
 

@@ -58,7 +58,8 @@ job_begun counts j = record {
   conditions = map (asked_started j.system.start counts) j.conditions;
 }
 
--- A system joins: its cursors and those of its conditions stand where they start, and its accounts begin there.
+-- A system joins: its cursors and those of its conditions stand where they start, and its accounts
+-- begin there.
 abbrev pub joined_member : List ℕ → Member → Member
 joined_member counts m = record m {
   job = job_begun counts m.job;
@@ -67,9 +68,12 @@ joined_member counts m = record m {
 
 -- those that join with frame k have joined
 abbrev pub with_joining : ℕ → State → State
-with_joining k s = record s { members = λ i. if (s.members i).join == k then joined_member (counts s) (s.members i) else s.members i }
+with_joining k s =
+    record s { members = λ i. if (s.members i).join == k then joined_member (counts s) (s.members i)
+    else s.members i }
 
--- Those that join with the next frame do so. With the first frame none does, since they joined before.
+-- Those that join with the next frame do so. With the first frame none does, since they joined
+-- before.
 abbrev pub joining : State → State
 joining s = if s.frames == 0 then s else with_joining (suc s.frames) s
 
@@ -78,12 +82,14 @@ joining s = if s.frames == 0 then s else with_joining (suc s.frames) s
 -- the world after the posts, each of a value to a type
 abbrev pub after_posts : List (ℕ × ℤ) → WorldState → WorldState
 after_posts [] w = w
-after_posts (p ∷ ps) w = after_posts ps (with_history w p.0 (write (by HOST p.1 ∷ []) (w.histories p.0)))
+after_posts (p ∷ ps) w =
+    after_posts ps (with_history w p.0 (write (by HOST p.1 ∷ []) (w.histories p.0)))
 
 -- what they are answered
 abbrev pub post_replies : List (ℕ × ℤ) → WorldState → List Reply
 post_replies [] w = []
-post_replies (p ∷ ps) w = write_reply (numbers_for (w.histories p.0) 1) ∷ post_replies ps (after_posts (p ∷ []) w)
+post_replies (p ∷ ps) w = write_reply (numbers_for (w.histories p.0) 1)
+    ∷ post_replies ps (after_posts (p ∷ []) w)
 
 -- ---- turns
 
@@ -103,7 +109,10 @@ abbrev pub member_turn : Member → WorldState → AfterTurn
 member_turn m w =
     let after : AfterJob = after_job m.job w in
     record {
-      member = record m { job = after.job; totals = λ t. with_entries (outcome_entries t m.job.system (outcome_of after.replies)) (m.totals t) };
+      member =
+          record m { job = after.job;
+          totals = λ t. with_entries (outcome_entries t m.job.system (outcome_of after.replies))
+          (m.totals t) };
       world = after.state;
       outcome = outcome_of after.replies;
     }
@@ -116,7 +125,8 @@ abbrev pub with_member : (ℕ → Member) → ℕ → Member → ℕ → Member
 with_member members i m = λ k. if k == i then m else members k
 
 abbrev pub after_turn_of : ℕ → State → State
-after_turn_of i s = record s { members = with_member s.members i (turn_of s i).member; world = (turn_of s i).world }
+after_turn_of i s =
+    record s { members = with_member s.members i (turn_of s i).member; world = (turn_of s i).world }
 
 -- what the log says of it
 abbrev pub logged_turn : State → ℕ → Turn
@@ -136,7 +146,8 @@ after_turns_of (i ∷ is) s =
 
 -- ---- a frame
 
--- Before the turns some join, every type is updated (a held world where it was signalled), and the posts are written.
+-- Before the turns some join, every type is updated (a held world where it was signalled), and the
+-- posts are written.
 abbrev pub before_turns : List (ℕ × ℤ) → State → State
 before_turns posts s =
     let ready : State = joining s in
@@ -163,7 +174,8 @@ needs_of m = with_conditions m.job.system.needs (conditions_of m.job)
 -- the accesses of the systems, in order of addition
 pub record AreAccessesOf (s : State) (accesses : List Access) : Type 0 where
   pub each : length accesses ≡ s.systems
-  pub of_needs : (i : ℕ) → i < s.systems → IsAccessOf (needs_of (s.members i)) (access_of accesses i)
+  pub of_needs : (i : ℕ) → i < s.systems
+      → IsAccessOf (needs_of (s.members i)) (access_of accesses i)
 
 -- The order is settled among those that have joined, by their accesses and the rules.
 pub record IsOrderOf (s : State) (settled : Graph) : Type 0 where
@@ -181,7 +193,8 @@ pub record IsTurnOrderOf (s : State) (order : List ℕ) : Type 0 where
 abbrev pub systems_in : Log → List ℕ
 systems_in log = map (λ turn. turn.system) log.turns
 
--- A frame has this log and leaves u: its systems took their turns in the settled order, one by one, on one thread.
+-- A frame has this log and leaves u: its systems took their turns in the settled order, one by one,
+-- on one thread.
 pub record IsFrame (frame : Frame) (s : State) (log : Log) (u : State) : Type 0 where
   pub in_order : IsTurnOrderOf (before_turns frame.posts s) (systems_in log)
   pub tells : log ≡ (frame_in (systems_in log) frame s).log
@@ -190,5 +203,6 @@ pub record IsFrame (frame : Frame) (s : State) (log : Log) (u : State) : Type 0 
 -- Frames one after the other have these logs, and leave the state u.
 abbrev pub IsRun : List Frame → State → List Log → State → Type 0
 IsRun [] s [] u = u ≡ s
-IsRun (frame ∷ frames) s (log ∷ logs) u = (m : State) × IsFrame frame s log m × IsRun frames m logs u
+IsRun (frame ∷ frames) s (log ∷ logs) u = (m : State) × IsFrame frame s log m
+    × IsRun frames m logs u
 IsRun _ s _ u = ⊥

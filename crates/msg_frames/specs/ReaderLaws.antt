@@ -25,15 +25,19 @@ abbrev pub RunStaysSound : Type 0
 RunStaysSound = (frames : List Frame) (s : State) (logs : List Log) (u : State) → IsSoundState s
     → IsRun frames s logs u → IsSoundState u
 
--- Systems that were given nothing yet, each of its own number, and places for them, over a sound world.
-pub record AreNew (systems : List Meaning) (places : List Place) (types : ℕ) (world : WorldState) : Type 0 where
+-- Systems that were given nothing yet, each of its own number, and places for them, over a sound
+-- world.
+pub record AreNew (systems : List Meaning) (places : List Place) (types : ℕ)
+    (world : WorldState) : Type 0 where
   pub histories : (t : ℕ) → t < types → IsSound (world.histories t)
   pub new : EachIndex systems (λ i. IsNew i (slice_index_or systems i nobody))
   pub joins : All (λ place. 1 ≤ place.join) places
 
 abbrev pub FirstIsSound : Type 0
-FirstIsSound = (systems : List Meaning) (places : List Place) (rules : List Rule) (types : ℕ) (world : WorldState)
-    → AreNew systems places types world → IsSoundState (first_state systems places rules types world)
+FirstIsSound = (systems : List Meaning) (places : List Place) (rules : List Rule) (types : ℕ)
+    (world : WorldState)
+    → AreNew systems places types world
+    → IsSoundState (first_state systems places rules types world)
 
 -- ---- complete runs
 
@@ -52,12 +56,14 @@ ReplaysTellTheSame = (frame : Frame) (order : List ℕ) (s : State) (log : Log) 
 
 -- So it is with frames of which some are replayed.
 abbrev pub ReplaysTellACompleteRun : Type 0
-ReplaysTellACompleteRun = (frames : List Frame) (s : State) (logs : List Log) (u : State) → IsSoundState s
+ReplaysTellACompleteRun = (frames : List Frame) (s : State) (logs : List Log) (u : State)
+    → IsSoundState s
     → IsMixedRun frames s logs u → TellsACompleteRun frames s logs u
 
 -- ---- accounts
 
--- The start of a reader that has joined, with all that it got, missed and cleared since, leads to its place.
+-- The start of a reader that has joined, with all that it got, missed and cleared since, leads to
+-- its place.
 abbrev pub AccountsBalance : Type 0
 AccountsBalance = (s : State) (i t : ℕ) → IsSoundState s → t < s.types → IsTrue (has_begun s i)
     → IsBalanced ((s.members i).totals t) (place_of s i t)

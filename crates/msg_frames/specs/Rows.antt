@@ -1,5 +1,6 @@
--- Worked runs: systems, frames with the order of their turns, and the logs that come of them, by computation. Of each of
--- them it is proved that it is a run (`IsRunOf`), since its turns are in the settled order.
+-- Worked runs: systems, frames with the order of their turns, and the logs that come of them, by
+-- computation. Of each of them it is proved that it is a run (`IsRunOf`), since its turns are in
+-- the settled order.
 use Rattle.std.specs.Prelude.{◌≡◌, ℕ, suc, ℤ, pos, negsuc, List, [], ◌∷◌, ◌++◌, map, Some, None, refl}
 use Rattle.msg_world.specs.declared.record.Record.{Record}
 use Rattle.msg_order.specs.declared.rule.Rule.{Rule}
@@ -67,7 +68,8 @@ each_in_order order posts = map (λ ps. (ps, order)) posts
 
 -- these frames are a run, as the definition says
 abbrev pub IsRunOf : OrderedFrames → State → Type 0
-IsRunOf frames s = IsRun (map (λ f. record { posts = f.0 }) frames) s (run_from frames s).logs (run_from frames s).state
+IsRunOf frames s = IsRun (map (λ f. record { posts = f.0 }) frames) s (run_from frames s).logs
+    (run_from frames s).state
 
 -- one post, to type 0
 abbrev pub post : ℤ → List (ℕ × ℤ)
@@ -202,7 +204,8 @@ pub read_of_none : (fourth_run (Read 0 (Some 0) ∷ Read 0 None ∷ [])).logs
     ≡ told (wrote 0 1 ∷ []) (did 0 (reply.Value (pos 1)) ∷ skipped 1 ∷ [])
     ∷ told (wrote 1 1 ∷ []) (did 0 (reply.Value (pos 2)) ∷ skipped 1 ∷ [])
     ∷ told (wrote 2 1 ∷ []) (did 0 (reply.Value (pos 3)) ∷ skipped 1 ∷ [])
-    ∷ told [] (did 0 (reply.Value (pos 4)) ∷ ran 1 (read_of 2 2 [] ∷ read_of 0 2 (by HOST (pos 30) ∷ []) ∷ []) ∷ [])
+    ∷ told [] (did 0 (reply.Value (pos 4))
+        ∷ ran 1 (read_of 2 2 [] ∷ read_of 0 2 (by HOST (pos 30) ∷ []) ∷ []) ∷ [])
     ∷ []
 unfolding turn
 read_of_none = refl
@@ -228,8 +231,10 @@ abbrev pub writers_frames : OrderedFrames
 writers_frames = each_in_order (0 ∷ 1 ∷ 2 ∷ []) (post (pos 9) ∷ post (pos 8) ∷ [])
 
 pub host_and_two_writers : (run writers_frames writers).logs
-    ≡ told (wrote 0 1 ∷ []) (did 0 (wrote 1 1) ∷ did 1 (wrote 2 2) ∷ did 2 (read_of 0 0 (of_three (pos 9))) ∷ [])
-    ∷ told (wrote 4 1 ∷ []) (did 0 (wrote 5 1) ∷ did 1 (wrote 6 2) ∷ did 2 (read_of 0 4 (of_three (pos 8))) ∷ []) ∷ []
+    ≡ told (wrote 0 1 ∷ []) (did 0 (wrote 1 1) ∷ did 1 (wrote 2 2)
+        ∷ did 2 (read_of 0 0 (of_three (pos 9))) ∷ [])
+    ∷ told (wrote 4 1 ∷ []) (did 0 (wrote 5 1) ∷ did 1 (wrote 6 2)
+        ∷ did 2 (read_of 0 4 (of_three (pos 8))) ∷ []) ∷ []
 unfolding turn
 host_and_two_writers = refl
 
@@ -249,7 +254,8 @@ contrary = record {
 
 abbrev pub contrary_turns : List Turn
 contrary_turns =
-    did 2 (read_of 0 0 []) ∷ did 0 (wrote 0 1) ∷ did 3 (read_of 0 0 (by 0 (pos 1) ∷ [])) ∷ did 1 (wrote 0 1) ∷ []
+    did 2 (read_of 0 0 []) ∷ did 0 (wrote 0 1) ∷ did 3 (read_of 0 0 (by 0 (pos 1) ∷ []))
+        ∷ did 1 (wrote 0 1) ∷ []
 
 abbrev pub contrary_frames : OrderedFrames
 contrary_frames = each_in_order (2 ∷ 0 ∷ 3 ∷ 1 ∷ []) ([] ∷ [])
@@ -273,11 +279,13 @@ abbrev pub echo_frames : OrderedFrames
 echo_frames = each_in_order (0 ∷ []) ([] ∷ post (pos 5) ∷ [] ∷ [])
 
 pub own_message_asked : (run echo_frames echo).logs
-    ≡ told [] (skipped 0 ∷ []) ∷ told (wrote 0 1 ∷ []) (did 0 (wrote 1 1) ∷ []) ∷ told [] (did 0 (wrote 2 1) ∷ []) ∷ []
+    ≡ told [] (skipped 0 ∷ []) ∷ told (wrote 0 1 ∷ []) (did 0 (wrote 1 1) ∷ [])
+        ∷ told [] (did 0 (wrote 2 1) ∷ []) ∷ []
 unfolding turn
 own_message_asked = refl
 
--- ---- every condition is asked: the message of frame 1 was gone past as the first condition didn't hold
+-- ---- every condition is asked: the message of frame 1 was gone past as the first condition didn't
+-- hold
 
 abbrev pub two_conditions : Setup
 two_conditions = record {
@@ -316,7 +324,8 @@ abbrev pub tally_frames : OrderedFrames
 tally_frames = each_in_order (0 ∷ []) (((0, pos 1) ∷ (0, negsuc 4) ∷ []) ∷ [])
 
 pub saturation : (run tally_frames tally).logs
-    ≡ told (wrote 0 1 ∷ wrote 1 1 ∷ []) (did 0 (reply.Summed added (pos 9223372036854775802)) ∷ []) ∷ []
+    ≡ told (wrote 0 1 ∷ wrote 1 1 ∷ []) (did 0 (reply.Summed added (pos 9223372036854775802)) ∷ [])
+        ∷ []
 unfolding turn
 saturation = refl
 
@@ -348,7 +357,8 @@ pub late_systems : late_run.logs
 unfolding turn
 late_systems = refl
 
-pub late_systems_gave : (totals_of late_run.state 0 0 ≡ gave 0 2 1) × (totals_of late_run.state 1 0 ≡ gave 2 1 0)
+pub late_systems_gave : (totals_of late_run.state 0 0 ≡ gave 0 2 1)
+    × (totals_of late_run.state 1 0 ≡ gave 2 1 0)
 unfolding turn
 late_systems_gave = (refl, refl)
 
@@ -395,7 +405,8 @@ signallers_frames = each_in_order (0 ∷ 2 ∷ 1 ∷ []) (post (pos 1) ∷ [] �
 -- the turns of a frame, in which so many messages were missed
 abbrev pub signalled : ℕ → List Turn
 signalled missed =
-    ran 0 (reply.Signalled ∷ reply.Signalled ∷ []) ∷ did 2 (reply.Missed missed) ∷ did 1 reply.Signalled ∷ []
+    ran 0 (reply.Signalled ∷ reply.Signalled ∷ []) ∷ did 2 (reply.Missed missed)
+        ∷ did 1 reply.Signalled ∷ []
 
 pub several_signals : (run signallers_frames signallers).logs
     ≡ told (wrote 0 1 ∷ []) (signalled 0) ∷ told [] (signalled 0) ∷ told [] (signalled 1) ∷ []
@@ -406,7 +417,8 @@ several_signals = refl
 
 abbrev pub drained : Setup
 drained = record {
-  programs = program (Read 0 (Some 1) ∷ []) ∷ program (Drain 0 ∷ []) ∷ program (Read 0 None ∷ []) ∷ [];
+  programs = program (Read 0 (Some 1) ∷ []) ∷ program (Drain 0 ∷ [])
+      ∷ program (Read 0 None ∷ []) ∷ [];
   places = always ∷ always ∷ always ∷ [];
   rules = [];
   types = 1;
@@ -458,11 +470,13 @@ pub forward_at_the_limit : relay_run.logs
     did 0 (reply.Forwarded (took_from 0 (by HOST (pos 1) ∷ by HOST (pos 2) ∷ [])) None) ∷
     did 1 (read_of 0 0 []) ∷ [])
     ∷ told (wrote 2 1 ∷ []) (
-    did 0 (reply.Forwarded (took_from 2 (by HOST (pos 3) ∷ [])) (Some (record { first = 0; n = 1 }))) ∷
+    did 0 (reply.Forwarded (took_from 2 (by HOST (pos 3) ∷ []))
+        (Some (record { first = 0; n = 1 }))) ∷
     did 1 (read_of 0 0 (by 0 (pos 3) ∷ [])) ∷ []) ∷ []
 unfolding turn
 forward_at_the_limit = refl
 
-pub forward_at_the_limit_gave : (totals_of relay_run.state 0 0 ≡ gave 0 3 0) × (totals_of relay_run.state 1 1 ≡ gave 0 1 0)
+pub forward_at_the_limit_gave : (totals_of relay_run.state 0 0 ≡ gave 0 3 0)
+    × (totals_of relay_run.state 1 1 ≡ gave 0 1 0)
 unfolding turn
 forward_at_the_limit_gave = (refl, refl)

@@ -6,7 +6,8 @@ use Rattle.msg_frames.specs.Frames.{State, has_begun}
 use Rattle.msg_frames.specs.Tiling.{place_of}
 use Rattle.msg_frames.specs.declared.totals.Totals.{Totals}
 
--- The account begins at a start, and all that the reader got, missed and cleared since leads to its place.
+-- The account begins at a start, and all that the reader got, missed and cleared since leads to its
+-- place.
 pub record IsBalanced (x : Totals) (place : ℕ) : Type 0 where
   pub begin : ℕ
   pub start : x.start ≡ Some begin
@@ -21,5 +22,7 @@ pub record IsSoundState (s : State) : Type 0 where
   -- it writes as its number
   pub writers : (i : ℕ) → i < s.systems → (s.members i).job.system.writer ≡ i
   -- before it joins it was given nothing
-  pub waiting : (i t : ℕ) → IsFalse (has_begun s i) → (place_of s i t ≡ 0) × ((s.members i).totals t ≡ no_totals)
-  pub balanced : (i t : ℕ) → t < s.types → IsTrue (has_begun s i) → IsBalanced ((s.members i).totals t) (place_of s i t)
+  pub waiting : (i t : ℕ) → IsFalse (has_begun s i) → (place_of s i t ≡ 0)
+      × ((s.members i).totals t ≡ no_totals)
+  pub balanced : (i t : ℕ) → t < s.types → IsTrue (has_begun s i)
+      → IsBalanced ((s.members i).totals t) (place_of s i t)

@@ -15,7 +15,9 @@ use Rattle.msg_frames.specs.Frames.{after_turn_of, before_turns, frame_in, syste
 
 -- what system i was told: the replies of each turn that it took
 abbrev pub answers_in : ℕ → List Log → List (List Reply)
-answers_in i logs = flat_map (λ log. flat_map (λ turn. if turn.system == i then answers turn.outcome else []) log.turns) logs
+answers_in i logs =
+    flat_map (λ log. flat_map (λ turn. if turn.system == i then answers turn.outcome
+    else []) log.turns) logs
 
 -- the entries for type t of system i, which meant this before
 abbrev pub log_entries : ℕ → ℕ → Meaning → List Log → List Entry
@@ -32,7 +34,8 @@ pub record Moment : Type 0 where
 abbrev pub next_moments : ℕ → Option Op → ℕ → AfterProgram → List Moment
 next_moments t None writer far = []
 next_moments t (Some op) writer far =
-    map (λ e. record { history = far.state.histories t; entry = e }) (entry_for t op (after_op op writer far.places far.state).reply)
+    map (λ e. record { history = far.state.histories t; entry = e })
+        (entry_for t op (after_op op writer far.places far.state).reply)
 
 -- of at most so many ops of its turn
 abbrev pub first_moments : ℕ → ℕ → Meaning → WorldState → List Moment
@@ -53,7 +56,8 @@ job_moments t job w = if all_hold job.conditions w then turn_moments t job.syste
 abbrev pub turns_moments : ℕ → ℕ → List ℕ → State → List Moment
 turns_moments i t [] s = []
 turns_moments i t (j ∷ js) s =
-    (if j == i then job_moments t (s.members i).job s.world else []) ++ turns_moments i t js (after_turn_of j s)
+    (if j == i then job_moments t (s.members i).job s.world else [])
+        ++ turns_moments i t js (after_turn_of j s)
 
 -- of system i in a run of frames with these logs
 abbrev pub moments : ℕ → ℕ → List Frame → List Log → State → List Moment
@@ -70,7 +74,8 @@ place_of s i t = (s.members i).job.system.places t
 
 -- Where a run from s to u finds a reader: at its place, or where it starts as it joins.
 abbrev pub found_at : State → State → ℕ → ℕ → ℕ
-found_at s u i t = if has_begun s i then place_of s i t else unwrap_or ((u.members i).totals t).start 0
+found_at s u i t = if has_begun s i then place_of s i t
+    else unwrap_or ((u.members i).totals t).start 0
 
 -- the messages of a stretch
 abbrev pub messages_of : History Record → Stretch → List Record
@@ -80,8 +85,11 @@ messages_of h stretch = map message_of (take stretch.number (drop stretch.first 
 abbrev pub GivesItsStretch : Moment → Type 0
 GivesItsStretch m = IfSome m.entry.given (λ items. items ≡ messages_of m.history m.entry.stretch)
 
--- The entries that the logs have of a reader are its moments, which tile; what each gave is the messages there.
+-- The entries that the logs have of a reader are its moments, which tile; what each gave is the
+-- messages there.
 pub record IsTiled (i t : ℕ) (frames : List Frame) (logs : List Log) (s u : State) : Type 0 where
-  pub entries : log_entries i t (s.members i).job.system logs ≡ map (λ m. m.entry) (moments i t frames logs s)
-  pub tile : Tile (found_at s u i t) (map (λ m. (m.history, m.entry.stretch)) (moments i t frames logs s)) (place_of u i t)
+  pub entries : log_entries i t (s.members i).job.system logs
+      ≡ map (λ m. m.entry) (moments i t frames logs s)
+  pub tile : Tile (found_at s u i t)
+      (map (λ m. (m.history, m.entry.stretch)) (moments i t frames logs s)) (place_of u i t)
   pub gives : All GivesItsStretch (moments i t frames logs s)

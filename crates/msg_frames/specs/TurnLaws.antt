@@ -1,5 +1,5 @@
--- What holds of turns, side by side and in other orders, and of frames. Each law is the contract of a function in
--- src/laws.rt.
+-- What holds of turns, side by side and in other orders, and of frames. Each law is the contract of
+-- a function in src/laws.rt.
 use Rattle.std.specs.Prelude.{◌≡◌, ◌≢◌, ℕ, suc, ◌<◌, Bool, List, [], ◌∷◌, ◌++◌, map, length, All, AllPairs, IsPermutation}
 use Rattle.std.specs.List.{concat}
 use Rattle.msg_buffer.specs.Prelude.{GoesOn, IsSound}
@@ -13,8 +13,8 @@ use Rattle.msg_frames.specs.Frames.{AfterTurns, AreAccessesOf, IsFrame, IsOrderO
 
 -- ---- what stays
 
--- The same system: what it needs, where it starts, the number that it writes as, its conditions, and when it joins. Its
--- rule, its cursors and its accounts may be others.
+-- The same system: what it needs, where it starts, the number that it writes as, its conditions,
+-- and when it joins. Its rule, its cursors and its accounts may be others.
 pub record SameMember (m n : Member) : Type 0 where
   pub needs : n.job.system.needs ≡ m.job.system.needs
   pub start : n.job.system.start ≡ m.job.system.start
@@ -32,9 +32,11 @@ pub record SameSystems (s u : State) : Type 0 where
 -- Turns keep the systems, and make no frame.
 abbrev pub TurnsKeepSystems : Type 0
 TurnsKeepSystems = (order : List ℕ) (s : State)
-    → SameSystems s (after_turns_of order s).state × ((after_turns_of order s).state.frames ≡ s.frames)
+    → SameSystems s (after_turns_of order s).state
+    × ((after_turns_of order s).state.frames ≡ s.frames)
 
--- What a frame keeps: whoever joins, and whatever is done before the turns and by them. It counts as one frame.
+-- What a frame keeps: whoever joins, and whatever is done before the turns and by them. It counts
+-- as one frame.
 pub record FrameKeeps (order : List ℕ) (frame : Frame) (s : State) : Type 0 where
   pub with_joiners : (k : ℕ) → SameSystems s (with_joining k s)
   pub as_it_begins : SameSystems s (joining s)
@@ -54,12 +56,14 @@ SameSystemsHaveSameAccesses = (s u : State) → SameSystems s u
 
 -- ---- turns side by side
 
--- Where the accesses of two systems don't conflict, the turn of one doesn't change what comes of the other's, and it
--- doesn't matter which is first.
+-- Where the accesses of two systems don't conflict, the turn of one doesn't change what comes of
+-- the other's, and it doesn't matter which is first.
 abbrev pub TurnsOfOthersCommute : Type 0
 TurnsOfOthersCommute = (s : State) (accesses : List Access) (i j : ℕ) → AreAccessesOf s accesses
-    → i < s.systems → j < s.systems → i ≢ j → ¬ Conflict (access_of accesses i) (access_of accesses j)
-    → (logged_turn (after_turn_of i s) j ≡ logged_turn s j) × (logged_turn (after_turn_of j s) i ≡ logged_turn s i)
+    → i < s.systems → j < s.systems → i ≢ j
+    → ¬ Conflict (access_of accesses i) (access_of accesses j)
+    → (logged_turn (after_turn_of i s) j ≡ logged_turn s j)
+    × (logged_turn (after_turn_of j s) i ≡ logged_turn s i)
     × (after_turn_of j (after_turn_of i s) ≡ after_turn_of i (after_turn_of j s))
 
 -- the state s after what system i's job on the state `start` wrote has come home
@@ -74,10 +78,11 @@ abbrev pub all_home : List Access → State → List ℕ → State → State
 all_home accesses start [] s = s
 all_home accesses start (i ∷ is) s = all_home accesses start is (home accesses start i s)
 
--- Jobs of which no two conflict may each run on the state as it was at the start, if what they wrote comes home after
--- it: the log and the state are those of one turn after the other.
+-- Jobs of which no two conflict may each run on the state as it was at the start, if what they
+-- wrote comes home after it: the log and the state are those of one turn after the other.
 abbrev pub BatchesRunSideBySide : Type 0
-BatchesRunSideBySide = (s : State) (accesses : List Access) (batch : List ℕ) → AreAccessesOf s accesses
+BatchesRunSideBySide = (s : State) (accesses : List Access) (batch : List ℕ)
+    → AreAccessesOf s accesses
     → All (λ i. i < s.systems) batch → AllPairs (λ i j. i ≢ j) batch → NoneConflict accesses batch
     → ((after_turns_of batch s).turns ≡ map (logged_turn s) batch)
     × ((after_turns_of batch s).state ≡ all_home accesses s batch s)
@@ -89,18 +94,22 @@ by_batches accesses (batch ∷ batches) s =
     let rest : AfterTurns = by_batches accesses batches (all_home accesses s batch s) in
     record { state = rest.state; turns = map (logged_turn s) batch ++ rest.turns }
 
--- One batch after the other, each side by side, leaves the log and the state of one turn after the other.
+-- One batch after the other, each side by side, leaves the log and the state of one turn after the
+-- other.
 abbrev pub FramesRunByBatches : Type 0
-FramesRunByBatches = (s : State) (accesses : List Access) (batches : List (List ℕ)) → AreAccessesOf s accesses
+FramesRunByBatches = (s : State) (accesses : List Access) (batches : List (List ℕ))
+    → AreAccessesOf s accesses
     → All (λ i. i < s.systems) (concat batches) → AllPairs (λ i j. i ≢ j) (concat batches)
     → All (NoneConflict accesses) batches
     → after_turns_of (concat batches) s ≡ by_batches accesses batches s
 
 -- ---- turns in other orders
 
--- Two lawful orders of one settled order leave the same state and have the same turns: each system's comes out alike.
+-- Two lawful orders of one settled order leave the same state and have the same turns: each
+-- system's comes out alike.
 abbrev pub LawfulOrdersAgree : Type 0
-LawfulOrdersAgree = (s : State) (accesses : List Access) (settled : Graph) (a b : List ℕ) → AreAccessesOf s accesses
+LawfulOrdersAgree = (s : State) (accesses : List Access) (settled : Graph) (a b : List ℕ)
+    → AreAccessesOf s accesses
     → IsSettledOrder accesses s.rules (join_flags s) settled
     → IsLawfulOrder settled (join_flags s) a → IsLawfulOrder settled (join_flags s) b
     → ((after_turns_of a s).state ≡ (after_turns_of b s).state)
@@ -124,16 +133,19 @@ RunsAreUnique = (frames : List Frame) (s u v : State) (logs others : List Log)
 
 -- whichever systems have joined, the rules make no cycle among them
 abbrev pub NoCycle : State → Type 0
-NoCycle s = (join_flags : List Bool) → length join_flags ≡ s.systems → IsAcyclic (rules_among join_flags s.rules)
+NoCycle s = (join_flags : List Bool) → length join_flags ≡ s.systems
+    → IsAcyclic (rules_among join_flags s.rules)
 
 -- Where the rules make no cycle, and each system has an access for what it needs, there is a frame.
 abbrev pub FramesExist : Type 0
-FramesExist = (frame : Frame) (s : State) (accesses : List Access) → NoCycle s → AreAccessesOf s accesses
+FramesExist = (frame : Frame) (s : State) (accesses : List Access) → NoCycle s
+    → AreAccessesOf s accesses
     → (log : Log) × (u : State) × IsFrame frame s log u
 
 -- And so it is with frames one after the other.
 abbrev pub RunsExist : Type 0
-RunsExist = (frames : List Frame) (s : State) (accesses : List Access) → NoCycle s → AreAccessesOf s accesses
+RunsExist = (frames : List Frame) (s : State) (accesses : List Access) → NoCycle s
+    → AreAccessesOf s accesses
     → (logs : List Log) × (u : State) × IsRun frames s logs u
 
 -- These frames have one run from the state s, and no other.
@@ -141,11 +153,13 @@ pub record HasOneRun (frames : List Frame) (s : State) : Type 0 where
   pub logs : List Log
   pub state : State
   pub is_run : IsRun frames s logs state
-  pub only : (others : List Log) (u : State) → IsRun frames s others u → (others ≡ logs) × (u ≡ state)
+  pub only : (others : List Log) (u : State) → IsRun frames s others u → (others ≡ logs)
+      × (u ≡ state)
 
 -- In any lawful order a frame's turns come out alike, and it leaves the same state.
 abbrev pub FramesAgreeInLawfulOrders : Type 0
-FramesAgreeInLawfulOrders = (frame : Frame) (s u : State) (log : Log) (settled : Graph) (order : List ℕ)
+FramesAgreeInLawfulOrders = (frame : Frame) (s u : State) (log : Log) (settled : Graph)
+    (order : List ℕ)
     → IsFrame frame s log u → IsOrderOf (before_turns frame.posts s) settled
     → IsLawfulOrder settled (join_flags (before_turns frame.posts s)) order
     → ((frame_in order frame s).state ≡ u)

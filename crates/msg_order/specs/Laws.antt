@@ -32,7 +32,8 @@ SettledOrderExists = (accesses : List Access) (rules : List Rule) (joined : List
 
 -- There is one settled order.
 abbrev pub SettledOrderIsUnique : Type 0
-SettledOrderIsUnique = (accesses : List Access) (rules : List Rule) (joined : List Bool) (g h : Graph)
+SettledOrderIsUnique = (accesses : List Access) (rules : List Rule) (joined : List Bool)
+    (g h : Graph)
     → IsSettledOrder accesses rules joined g → IsSettledOrder accesses rules joined h → g ≡ h
 
 -- Where no path leads back, there is a list of batches.

@@ -25,7 +25,8 @@ edges_of rules = map (λ rule. (rule.earlier, rule.later)) rules
 
 -- the rules among the joined systems
 abbrev pub rules_among : List Bool → List Rule → Graph
-rules_among joined rules = filter (λ e. has_joined joined e.0 && has_joined joined e.1) (edges_of rules)
+rules_among joined rules = filter (λ e. has_joined joined e.0 && has_joined joined e.1)
+    (edges_of rules)
 
 -- each edge leads from a joined system to a joined system
 abbrev pub IsAmong : List Bool → Graph → Type 0
@@ -40,7 +41,8 @@ pub record AreInConflict (accesses : List Access) (joined : List Bool) (i j : �
 
 -- the pairs of numbers below n, the lower one first, taken by the first and then by the second
 abbrev pub pairs : ℕ → List (ℕ × ℕ)
-pairs n = flat_map (λ i. map (λ j. (i, j)) (range_with_len (i + 1) (n - (i + 1)))) (range_with_len 0 n)
+pairs n = flat_map (λ i. map (λ j. (i, j)) (range_with_len (i + 1) (n - (i + 1))))
+    (range_with_len 0 n)
 
 -- g gains the edge from i to j: they are in conflict, and no path of g leads from j to i
 abbrev pub GainsEdge : (ℕ → ℕ → Type 0) → Graph → ℕ → ℕ → Type 0

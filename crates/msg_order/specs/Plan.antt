@@ -21,9 +21,9 @@ abbrev pub NoneConflict : List Access → List ℕ → Type 0
 NoneConflict accesses batch =
     AllPairs (λ i j. ¬ Conflict (access_of accesses i) (access_of accesses j)) batch
 
--- The plan is that of the settled order of the joined systems: it has the paths of the order, and the
--- classes by batch number, in which no two systems conflict. The batches one after the other are the
--- turn order, which is lawful.
+-- The plan is that of the settled order of the joined systems: it has the paths of the order, and
+-- the classes by batch number, in which no two systems conflict. The batches one after the other
+-- are the turn order, which is lawful.
 pub record IsPlanOf (accesses : List Access) (rules : List Rule) (joined : List Bool)
     (plan : PlanView) : Type 0 where
   pub order : Graph

@@ -33,14 +33,16 @@ pub record IsReadAs (d : Data) (scenario : Scenario) : Type 0 where
   pub no_clash : All (λ x. ¬ IsClashing x) scenario.systems
   pub acyclic : IsAcyclic (edges_of scenario.rules)
 
--- A scenario is refused for its lowest clash; or, where no program clashes, for the lowest system on a
--- cycle of rules.
+-- A scenario is refused for its lowest clash; or, where no program clashes, for the lowest system
+-- on a cycle of rules.
 abbrev pub IsUnfit : Scenario → Refusal → Type 0
 IsUnfit scenario (Clash s) = IsLowestClash scenario.systems s
-IsUnfit scenario (Cycle s) = All (λ x. ¬ IsClashing x) scenario.systems × IsLowestOnCycle (edges_of scenario.rules) s
+IsUnfit scenario (Cycle s) = All (λ x. ¬ IsClashing x) scenario.systems
+    × IsLowestOnCycle (edges_of scenario.rules) s
 IsUnfit scenario _ = ⊥
 
--- a value is refused for the first check that fails, and where none fails as the scenario that it denotes
+-- a value is refused for the first check that fails, and where none fails as the scenario that it
+-- denotes
 abbrev pub IsRefusedFor : Data → Refusal → Type 0
 IsRefusedFor d refusal =
     (first_refusal (scenario_checks d) ≡ Some refusal)

@@ -1,4 +1,5 @@
--- The checks of a scenario file in reading order, each with the refusal that it gives where it fails.
+-- The checks of a scenario file in reading order, each with the refusal that it gives where it
+-- fails.
 use Rattle.std.specs.Prelude.{ℕ, ◌||◌, ◌&&◌, not, nat_le, Bool, true, false, List, [], ◌∷◌, ◌++◌, length, map, flat_map, is_some, codes, if◌then◌else◌}
 use Rattle.std.specs.List.{list_all}
 use Rattle.std.specs.Option.{option_map_or}
@@ -194,12 +195,14 @@ join_checks d =
 
 -- the conditions, and the frame to join with
 abbrev pub place_checks : Declared → Data → List Check
-place_checks names d = list_checks 8 (condition_checks names) (conditions_in d) ++ join_checks (join_in d)
+place_checks names d = list_checks 8 (condition_checks names) (conditions_in d)
+    ++ join_checks (join_in d)
 
 -- the ops, and that they fit the kind
 abbrev pub ops_checks : Declared → Data → List Check
 ops_checks names d =
-    list_checks 64 (op_checks names) (value_at (codes "ops") d) ++ needs (of_its_kind names d) Shape ∷ []
+    list_checks 64 (op_checks names) (value_at (codes "ops") d)
+        ++ needs (of_its_kind names d) Shape ∷ []
 
 -- the kind, and all that follows it
 abbrev pub program_checks : Declared → Data → List Check
@@ -218,7 +221,8 @@ system_checks names d =
 abbrev pub rule_checks : Declared → Data → List Check
 rule_checks names d =
     for_two (λ earlier later.
-    needs (is_text earlier && is_text later) Shape ∷ a_system names earlier ∷ a_system names later ∷ [])
+    needs (is_text earlier && is_text later) Shape ∷ a_system names earlier
+        ∷ a_system names later ∷ [])
     (elements d)
 
 abbrev pub post_checks : Declared → Data → List Check
@@ -235,7 +239,8 @@ frame_checks names d = list_checks 1024 (post_checks names) d
 abbrev pub is_root_key : Text → Bool
 is_root_key key =
     bytes_eq key (codes "types") || bytes_eq key (codes "resources") || bytes_eq key (codes "held")
-    || bytes_eq key (codes "systems") || bytes_eq key (codes "rules") || bytes_eq key (codes "frames")
+    || bytes_eq key (codes "systems") || bytes_eq key (codes "rules") || bytes_eq key
+        (codes "frames")
 
 -- an object with types, systems and frames, and with no other keys than those of scenarios
 unfoldable pub root_object : Data → List Check

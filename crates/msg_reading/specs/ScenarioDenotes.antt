@@ -70,10 +70,14 @@ abbrev pub op_with_one : Declared → Text → Data → Option Op
 op_with_one names head d =
     if bytes_eq head (codes "read") then option_map (λ t. Read t None) (type_number names (text d))
     else if bytes_eq head (codes "len") then option_map (λ t. Len t) (type_number names (text d))
-    else if bytes_eq head (codes "missed") then option_map (λ t. Missed t) (type_number names (text d))
-    else if bytes_eq head (codes "clear") then option_map (λ t. Clear t) (type_number names (text d))
-    else if bytes_eq head (codes "get") then option_map (λ r. Get r) (resource_number names (text d))
-    else if bytes_eq head (codes "drain") then option_map (λ t. Drain t) (type_number names (text d))
+    else if bytes_eq head (codes "missed")
+        then option_map (λ t. Missed t) (type_number names (text d))
+    else if bytes_eq head (codes "clear")
+        then option_map (λ t. Clear t) (type_number names (text d))
+    else if bytes_eq head (codes "get")
+        then option_map (λ r. Get r) (resource_number names (text d))
+    else if bytes_eq head (codes "drain")
+        then option_map (λ t. Drain t) (type_number names (text d))
     else None
 
 abbrev pub op_with_two : Declared → Text → Data → Data → Option Op
@@ -231,7 +235,8 @@ abbrev pub with_resource : Declared → Data → Declared
 with_resource names d = record names { resources = names.resources ++ first_text (elements d) ∷ [] }
 
 abbrev pub with_system : Declared → Data → Declared
-with_system names d = record names { systems = names.systems ++ text (value_at (codes "name") d) ∷ [] }
+with_system names d =
+    record names { systems = names.systems ++ text (value_at (codes "name") d) ∷ [] }
 
 -- the names, with those of all of these
 abbrev pub with_all : (Declared → Data → Declared) → Declared → List Data → Declared
@@ -283,7 +288,8 @@ unfoldable pub types_of : Data → Option (List (Text × ℕ))
 types_of d = each_in_turn (λ names. type_of) with_type no_names (elements (types_in d))
 
 unfoldable pub resources_of : Data → Option (List (Text × ℤ))
-resources_of d = each_in_turn (λ names. resource_of) with_resource (type_names d) (elements (resources_in d))
+resources_of d = each_in_turn (λ names. resource_of) with_resource (type_names d)
+    (elements (resources_in d))
 
 unfoldable pub systems_of : Data → Option (List SystemSpec)
 systems_of d = each_in_turn system_of with_system (part_names d) (elements (systems_in d))

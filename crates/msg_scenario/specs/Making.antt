@@ -6,4 +6,5 @@ use Rattle.msg_reading.specs.declared.scenario.SystemSpec.{SystemSpec}
 module _ {S : Type 0} (meaning : S → Meaning) where
   -- x is system i: it was given nothing yet, and writes as its number
   abbrev pub IsSystemAt : List SystemSpec → ℕ → S → Type 0
-  IsSystemAt specs i x = (spec : SystemSpec) → slice_get specs i ≡ Some spec → meaning x ≡ new_system spec.program i
+  IsSystemAt specs i x = (spec : SystemSpec) → slice_get specs i ≡ Some spec → meaning x
+      ≡ new_system spec.program i

@@ -11,7 +11,8 @@ use Rattle.msg_scenario.specs.Reported.{HasRunOut, HasStopped}
 use Rattle.msg_reading.specs.Prelude.{state_of}
 use Rattle.msg_reading.specs.declared.scenario.Scenario.{Scenario}
 
--- All frames were run, with all that a run comes to, and the sink took the report of the scenario, and no more.
+-- All frames were run, with all that a run comes to, and the sink took the report of the scenario,
+-- and no more.
 pub record IsReported (s : Scenario) (before after : Option (List ℕ)) : Type 0 where
   pub logs : List Log
   pub state : State

@@ -1,5 +1,5 @@
--- The text that a scenario prints: frame by frame what the host's posts and the systems' ops were answered,
--- and at the end what each reader got.
+-- The text that a scenario prints: frame by frame what the host's posts and the systems' ops were
+-- answered, and at the end what each reader got.
 use Rattle.std.specs.Prelude.{ℕ, ℤ, ◌+◌, ◌==◌, List, [], ◌∷◌, ◌++◌, Option, Some, None, length, slice_get, zip, flat_map, codes, decimal, if◌then◌else◌}
 use Rattle.std.specs.Fmt.{signed_decimal}
 use Rattle.std.specs.List.{enumerate_from}
@@ -131,7 +131,8 @@ outcome_text s system (Ran answers) = ops_text s system.name system.program.ops 
 -- a turn; one of a system that the scenario hasn't got prints nothing
 abbrev pub turn_text : Scenario → Turn → Text
 turn_text s turn =
-    option_map_or (λ system. outcome_text s system turn.outcome) (slice_get s.systems turn.system) []
+    option_map_or (λ system. outcome_text s system turn.outcome)
+        (slice_get s.systems turn.system) []
 
 -- the text of a frame: its number, the posts, and the turns
 abbrev pub frame_text : Scenario → ℕ → Frame → Log → Text
@@ -165,11 +166,14 @@ abbrev pub frames_text : Scenario → ℕ → List Frame → List Log → Text
 frames_text s number frames logs =
     flat_map (λ f. frame_text s f.0 f.1.0 f.1.1) (enumerate_from number (zip frames logs))
 
--- the text of a scenario whose frames had these logs, and whose readers had these accounts at the end
+-- the text of a scenario whose frames had these logs, and whose readers had these accounts at the
+-- end
 abbrev pub report_text : Scenario → List Log → List Account → Text
 report_text s logs accounts = frames_text s 1 s.frames logs ++ accounts_text s accounts
 
--- the text of the frames that had these logs; and the readers' lines too, where these are all frames
+-- the text of the frames that had these logs; and the readers' lines too, where these are all
+-- frames
 abbrev pub text_so_far : Scenario → List Log → List Account → Text
 text_so_far s logs accounts =
-    if length logs == length s.frames then report_text s logs accounts else frames_text s 1 s.frames logs
+    if length logs == length s.frames then report_text s logs accounts
+        else frames_text s 1 s.frames logs

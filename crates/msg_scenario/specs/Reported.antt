@@ -31,8 +31,9 @@ module _ {X : Type 0} (meaning : X → Meaning) (s : Scenario) where
     pub printed : Appends before after (report_text s logs (accounts_of state))
     pub stands : StandsFor meaning e state
 
-  -- The report ended after a whole frame, the last one that was run: the engine stands for the state after it. The
-  -- sink took all of the text of the frames before that one, and a front of what follows.
+  -- The report ended after a whole frame, the last one that was run: the engine stands for the
+  -- state after it. The sink took all of the text of the frames before that one, and a front of
+  -- what follows.
   pub record HasStopped (before after : Option (List ℕ)) (e : EngineOf X) : Type 0 where
     pub logs : List Log
     pub state : State
@@ -40,13 +41,17 @@ module _ {X : Type 0} (meaning : X → Meaning) (s : Scenario) where
     pub stands : StandsFor meaning e state
     pub counted : frames_of e ≡ min (length logs) (2 ^ 32 - 1)
     pub printed : AppendsPrefix before after (text_so_far s logs (accounts_of state))
-    pub earlier : AppendsAtLeast before after (frames_text s 1 s.frames (take (length logs - 1) logs))
-    -- it stopped in the text of that frame, or else all frames were run and their texts are there, the last one's too
+    pub earlier : AppendsAtLeast before after
+        (frames_text s 1 s.frames (take (length logs - 1) logs))
+    -- it stopped in the text of that frame, or else all frames were run and their texts are there,
+    -- the last one's too
     pub last : AppendsPrefix before after (frames_text s 1 s.frames logs)
-        ⊎ ((length logs ≡ length s.frames) × AppendsAtLeast before after (frames_text s 1 s.frames logs))
+        ⊎ ((length logs ≡ length s.frames)
+        × AppendsAtLeast before after (frames_text s 1 s.frames logs))
 
-  -- There was no memory for a frame or for the accounts: the sink took exactly the text of the frames that were run,
-  -- and that the engine counts. In a frame the engine is spoiled by it, and in the accounts it isn't.
+  -- There was no memory for a frame or for the accounts: the sink took exactly the text of the
+  -- frames that were run, and that the engine counts. In a frame the engine is spoiled by it, and
+  -- in the accounts it isn't.
   pub record HasRunOut (before after : Option (List ℕ)) (e : EngineOf X) : Type 0 where
     pub logs : List Log
     pub state : State

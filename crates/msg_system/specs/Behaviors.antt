@@ -8,7 +8,8 @@ use Rattle.msg_system.specs.declared.start.Start.{Start}
 use Rattle.msg_system.specs.Needs.{Needs}
 use Rattle.msg_system.specs.Systems.{Meaning, Rule}
 
--- Its rule: the next op by what it remembers of the turns that it took, one after the other, and by the replies so far.
+-- Its rule: the next op by what it remembers of the turns that it took, one after the other, and by
+-- the replies so far.
 abbrev pub behaves : {M : Type 0} → (M → List Reply → Option Op) → (M → List Reply → M) → M → Rule
 behaves next remember memory turns replies = next (fold remember memory turns) replies
 

@@ -49,7 +49,8 @@ probe_start (OnMessage t) start counts place = start_place start counts t
 probe_start (ResourceEquals r v) start counts place = place
 
 abbrev pub asked_started : Start → List ℕ → Asked → Asked
-asked_started start counts a = record a { place = probe_start a.condition.probe start counts a.place }
+asked_started start counts a =
+    record a { place = probe_start a.condition.probe start counts a.place }
 
 -- A job is a system and its conditions.
 pub record Job : Type 0 where
@@ -71,5 +72,7 @@ abbrev pub after_job : Job → WorldState → AfterJob
 after_job j s =
     let asked : List Asked = map (after_asking s) j.conditions in
     if all_hold j.conditions s then
-    record { job = record { system = after_turn j.system s; conditions = asked }; state = (turn j.system s).state; replies = Some (turn j.system s).replies }
-    else record { job = record { system = j.system; conditions = asked }; state = s; replies = None }
+    record { job = record { system = after_turn j.system s; conditions = asked };
+        state = (turn j.system s).state; replies = Some (turn j.system s).replies }
+    else record { job = record { system = j.system; conditions = asked }; state = s;
+        replies = None }

@@ -16,12 +16,17 @@ Agree m s t = (p : Part) → IsTrue (m p) → content p s ≡ content p t
 abbrev pub IsWithin : Needs → (Part → Bool) → Type 0
 IsWithin n m = (p : Part) → IsTrue (needs_any n p) → IsTrue (m p)
 
--- What is done to a world changes only the parts that are written. Take any parts, among them those that are needed: on two
--- worlds that agree there it gives the same, and the worlds that it leaves agree there.
-pub record HasFootprint {X Y : Type 0} (n : Needs) (state : X → WorldState) (given : X → Y) (f : WorldState → X) : Type 0 where
-  pub kept : (s : WorldState) (p : Part) → n.writes p ≡ false → content p (state (f s)) ≡ content p s
-  pub same : (m : Part → Bool) (s t : WorldState) → IsWithin n m → Agree m s t → given (f s) ≡ given (f t)
-  pub alike : (m : Part → Bool) (s t : WorldState) → IsWithin n m → Agree m s t → Agree m (state (f s)) (state (f t))
+-- What is done to a world changes only the parts that are written. Take any parts, among them those
+-- that are needed: on two worlds that agree there it gives the same, and the worlds that it leaves
+-- agree there.
+pub record HasFootprint {X Y : Type 0} (n : Needs) (state : X → WorldState) (given : X → Y)
+    (f : WorldState → X) : Type 0 where
+  pub kept : (s : WorldState) (p : Part) → n.writes p ≡ false → content p (state (f s))
+      ≡ content p s
+  pub same : (m : Part → Bool) (s t : WorldState) → IsWithin n m → Agree m s t → given (f s)
+      ≡ given (f t)
+  pub alike : (m : Part → Bool) (s t : WorldState) → IsWithin n m → Agree m s t
+      → Agree m (state (f s)) (state (f t))
 
 -- what each gives, beside the world
 abbrev pub given_by_op : AfterOp → (ℕ → ℕ) × Reply
@@ -34,19 +39,24 @@ abbrev pub given_by_job : AfterJob → Job × Option (List Reply)
 given_by_job e = (e.job, e.replies)
 
 abbrev pub OpFootprint : Type 0
-OpFootprint = (op : Op) (w : ℕ) (places : ℕ → ℕ) → HasFootprint (op_needs op) (λ (e : AfterOp). e.state) given_by_op (after_op op w places)
+OpFootprint = (op : Op) (w : ℕ) (places : ℕ → ℕ)
+    → HasFootprint (op_needs op) (λ (e : AfterOp). e.state) given_by_op (after_op op w places)
 
 abbrev pub ProgramFootprint : Type 0
 ProgramFootprint = (ops : List Op) (w : ℕ) (places : ℕ → ℕ)
-    → HasFootprint (program_needs ops) (λ (e : AfterProgram). e.state) given_by_program (after_program ops w places)
+    → HasFootprint (program_needs ops) (λ (e : AfterProgram). e.state) given_by_program
+    (after_program ops w places)
 
 abbrev pub TurnFootprint : Type 0
-TurnFootprint = (m : Meaning) → HasFootprint m.needs (λ (e : AfterProgram). e.state) given_by_program (turn m)
+TurnFootprint =
+    (m : Meaning) → HasFootprint m.needs (λ (e : AfterProgram). e.state) given_by_program (turn m)
 
 -- a condition changes nothing of the world
 abbrev pub ConditionFootprint : Type 0
-ConditionFootprint = (a : Asked) (m : Part → Bool) (s t : WorldState) → IsWithin (condition_needs a.condition) m → Agree m s t
+ConditionFootprint = (a : Asked) (m : Part → Bool) (s t : WorldState)
+    → IsWithin (condition_needs a.condition) m → Agree m s t
     → (answer a s ≡ answer a t) × (after_asking s a ≡ after_asking t a)
 
 abbrev pub JobFootprint : Type 0
-JobFootprint = (j : Job) → HasFootprint (with_conditions j.system.needs (conditions_of j)) (λ (e : AfterJob). e.state) given_by_job (after_job j)
+JobFootprint = (j : Job) → HasFootprint (with_conditions j.system.needs (conditions_of j))
+    (λ (e : AfterJob). e.state) given_by_job (after_job j)

@@ -77,8 +77,9 @@ abbrev pub is_resource : Part → Bool
 is_resource (OfResource r) = true
 is_resource _ = false
 
--- A program writes what an op of it writes, and reads what an op of it reads. A resource that is also written isn't listed as
--- read: it is used once, for writing. A type that is both read and written stays both: that is the clash.
+-- A program writes what an op of it writes, and reads what an op of it reads. A resource that is
+-- also written isn't listed as read: it is used once, for writing. A type that is both read and
+-- written stays both: that is the clash.
 abbrev pub program_needs : List Op → Needs
 program_needs ops = record {
   reads = λ p. some_op_reads ops p && not (is_resource p && some_op_writes ops p);
@@ -98,13 +99,15 @@ may_read n p = n.reads p || (is_resource p && n.writes p)
 
 -- the op reads and writes no more than these
 abbrev pub keeps_to : Needs → Op → Bool
-keeps_to n op = is_none_or (may_read n) (op_parts op).read && is_none_or n.writes (op_parts op).written
+keeps_to n op = is_none_or (may_read n) (op_parts op).read && is_none_or n.writes
+    (op_parts op).written
 
 -- one of the conditions reads the part
 abbrev pub some_condition_reads : List Condition → Part → Bool
 some_condition_reads cs p = list_any (λ c. (condition_needs c).reads p) cs
 
--- What is needed together with conditions: they write nothing, and what is written isn't listed as read.
+-- What is needed together with conditions: they write nothing, and what is written isn't listed as
+-- read.
 abbrev pub with_conditions : Needs → List Condition → Needs
 with_conditions n cs = record {
   reads = λ p. (n.reads p || some_condition_reads cs p) && not (n.writes p);

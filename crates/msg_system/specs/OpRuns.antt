@@ -14,7 +14,8 @@ abbrev pub places_of : Cursors → ℕ → ℕ
 places_of cursors t = slice_index cursors.by_type t
 
 -- the places, the loan and the reply are those after an op
-pub record IsAfterOp (after : AfterOp) (places : ℕ → ℕ) (lent : Lent) (answer : Reply) : Type 0 where
+pub record IsAfterOp (after : AfterOp) (places : ℕ → ℕ) (lent : Lent)
+    (answer : Reply) : Type 0 where
   pub same_places : places ≡ after.places
   pub stands : LoanStands lent after.state
   pub same_reply : answer ≡ after.reply
@@ -22,7 +23,8 @@ pub record IsAfterOp (after : AfterOp) (places : ℕ → ℕ) (lent : Lent) (ans
 -- for each state that the loan stood for, they are those after the op there
 abbrev pub OpRan : Op → ℕ → (ℕ → ℕ) → (ℕ → ℕ) → Lent → Lent → Reply → Type 0
 OpRan op writer old_places new_places old new answer =
-    (s : WorldState) → LoanStands old s → IsAfterOp (after_op op writer old_places s) new_places new answer
+    (s : WorldState) → LoanStands old s
+        → IsAfterOp (after_op op writer old_places s) new_places new answer
 
 -- An op asks for memory only where it writes, gives or drops something.
 abbrev pub AsksForMemory : Op → (ℕ → ℕ) → WorldState → Type 0

@@ -10,17 +10,20 @@ use Rattle.msg_system.specs.Needs.{IsAccessOf, Needs, condition_needs, op_needs,
 use Rattle.msg_system.specs.OpRuns.{OpRan}
 use Rattle.msg_system.specs.Systems.{Meaning, of_program, only, told, turn}
 
--- A loan covers what is needed: it shows what is read, and lets be written what is written. It may lend more.
+-- A loan covers what is needed: it shows what is read, and lets be written what is written. It may
+-- lend more.
 pub record Covers (n : Needs) (l : Lent) : Type 0 where
   pub reads : (p : Part) → IsTrue (n.reads p) → IsSome (shown p l)
   pub writes : (p : Part) → IsTrue (n.writes p) → IsSome (writable p l)
 
 -- What a loan's access writes stands, as it is given back, for that part of a world.
 abbrev pub WrittenStand : Lent → Parts → WorldState → Type 0
-WrittenStand l taken s = (p : Part) → IsTrue (writes (access_of l) p) → IfSome (slot p taken) (λ k. StuffStands p k (content p s))
+WrittenStand l taken s = (p : Part) → IsTrue (writes (access_of l) p)
+    → IfSome (slot p taken) (λ k. StuffStands p k (content p s))
 
 -- A run on a loan is the system's turn, on each world that the loan stands for.
-pub record Ran (old new : Meaning) (lent : Lent) (taken : Parts) (before after : List Reply) : Type 0 where
+pub record Ran (old new : Meaning) (lent : Lent) (taken : Parts)
+    (before after : List Reply) : Type 0 where
   -- the replies of this turn, one for each op
   pub replies : List Reply
   pub appended : after ≡ before ++ replies
@@ -35,23 +38,29 @@ pub record Ran (old new : Meaning) (lent : Lent) (taken : Parts) (before after :
 abbrev pub OneOpIsCovered : Type 0
 OneOpIsCovered = (op : Op) (l : Lent) → Covers (program_needs (op ∷ [])) l → Covers (op_needs op) l
 
--- One op that ran is the turn of a system whose program is that op, where its reply is appended and its loan given back.
+-- One op that ran is the turn of a system whose program is that op, where its reply is appended and
+-- its loan given back.
 abbrev pub OneOpIsATurn : Type 0
-OneOpIsATurn = (op : Op) (start : Start) (writer : ℕ) (old_places new_places : ℕ → ℕ) (old new : Lent) (before : List Reply) (reply : Reply)
+OneOpIsATurn = (op : Op) (start : Start) (writer : ℕ) (old_places new_places : ℕ → ℕ)
+    (old new : Lent) (before : List Reply) (reply : Reply)
     → OpRan op writer old_places new_places old new reply → SameLoan old new
-    → Ran (of_program (only op start) writer old_places) (of_program (only op start) writer new_places) old (taken_of new) before (before ++ reply ∷ [])
+    → Ran (of_program (only op start) writer old_places)
+    (of_program (only op start) writer new_places) old (taken_of new) before (before ++ reply ∷ [])
 
 -- Where nothing else is given back, that is all that is given back.
 abbrev pub WrittenIsAll : Type 0
-WrittenIsAll = (l : Lent) (taken : Parts) (s : WorldState) → ((p : Part) → writes (access_of l) p ≡ false → slot p taken ≡ None)
+WrittenIsAll = (l : Lent) (taken : Parts) (s : WorldState)
+    → ((p : Part) → writes (access_of l) p ≡ false → slot p taken ≡ None)
     → WrittenStand l taken s → PartsStand taken s
 
 -- A loan that has all that its access uses covers what is within that access.
 abbrev pub CompleteCovers : Type 0
-CompleteCovers = (n : Needs) (l : Lent) → IsComplete l → ((p : Part) → IsTrue (n.reads p) → IsTrue (uses (access_of l) p))
+CompleteCovers = (n : Needs) (l : Lent) → IsComplete l
+    → ((p : Part) → IsTrue (n.reads p) → IsTrue (uses (access_of l) p))
     → ((p : Part) → IsTrue (n.writes p) → IsTrue (writes (access_of l) p)) → Covers n l
 
 -- A loan that has all that a job needs covers its system and each of its conditions.
 abbrev pub JobsCover : Type 0
-JobsCover = (n : Needs) (cs : List Condition) (l : Lent) → IsComplete l → IsAccessOf (with_conditions n cs) (access_of l)
+JobsCover = (n : Needs) (cs : List Condition) (l : Lent) → IsComplete l
+    → IsAccessOf (with_conditions n cs) (access_of l)
     → Covers n l × All (λ c. Covers (condition_needs c) l) cs

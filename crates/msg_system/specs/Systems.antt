@@ -9,11 +9,13 @@ use Rattle.msg_system.specs.declared.start.Start.TheVariants.{Zero, Current}
 use Rattle.msg_system.specs.Needs.{Needs, keeps_to, program_needs}
 use Rattle.msg_system.specs.Programs.{AfterOp, AfterProgram, after_op, after_program}
 
--- What a system does next, by the replies of its turns from now on, and by those so far of this turn; None ends the turn.
+-- What a system does next, by the replies of its turns from now on, and by those so far of this
+-- turn; None ends the turn.
 abbrev pub Rule : Type 0
 Rule = List (List Reply) → List Reply → Option Op
 
--- A system is what it needs, where its cursors start, the number that it writes as, its place in each type, and its rule.
+-- A system is what it needs, where its cursors start, the number that it writes as, its place in
+-- each type, and its rule.
 pub record Meaning : Type 0 where
   pub needs : Needs
   pub start : Start
@@ -54,11 +56,14 @@ turn m s = after_at_most 64 (next_op m) m.writer m.places s
 -- the ops that these are the replies to
 abbrev pub ops_answered : (List Reply → Option Op) → List Reply → List Op
 ops_answered next [] = []
-ops_answered next (r ∷ rs) = option_to_list (next []) ++ ops_answered (λ replies. next (r ∷ replies)) rs
+ops_answered next (r ∷ rs) = option_to_list (next [])
+    ++ ops_answered (λ replies. next (r ∷ replies)) rs
 
 -- what it does from a turn on that was answered so
 abbrev pub told : List Reply → Meaning → Meaning
-told replies m = record m { rule = λ turns now. m.rule (replies ∷ turns) now; last = ops_answered (next_op m) replies }
+told replies m =
+    record m { rule = λ turns now. m.rule (replies ∷ turns) now;
+    last = ops_answered (next_op m) replies }
 
 -- what it means after its turn
 abbrev pub after_turn : Meaning → WorldState → Meaning
@@ -73,7 +78,8 @@ start_place Current counts t = unwrap_or (slice_get counts t) 0
 
 -- the places in the types that are read are where they start, the others as they were
 abbrev pub started_places : Needs → Start → List ℕ → (ℕ → ℕ) → ℕ → ℕ
-started_places n start counts places t = if n.reads (OfType t) then start_place start counts t else places t
+started_places n start counts places t = if n.reads (OfType t) then start_place start counts t
+    else places t
 
 abbrev pub started : List ℕ → Meaning → Meaning
 started counts m = record m { places = started_places m.needs m.start counts m.places }
@@ -105,6 +111,8 @@ only op start = record { ops = op ∷ []; start = start }
 
 -- The turn of a program is its ops in order, and after it the system is that program still.
 abbrev pub IsInOrder : Type 0
-IsInOrder = (program : Program) (writer : ℕ) (places : ℕ → ℕ) (s : WorldState) → length program.ops ≤ 64 →
+IsInOrder = (program : Program) (writer : ℕ) (places : ℕ → ℕ) (s : WorldState)
+    → length program.ops ≤ 64 →
     let m : Meaning = of_program program writer places in
-    (turn m s ≡ after_program program.ops writer places s) × (after_turn m s ≡ of_program program writer (turn m s).places)
+    (turn m s ≡ after_program program.ops writer places s)
+        × (after_turn m s ≡ of_program program writer (turn m s).places)

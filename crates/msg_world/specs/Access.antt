@@ -46,7 +46,8 @@ uses a p = reads a p || writes a p
 abbrev pub Conflict : Access → Access → Type 0
 Conflict a b = (p : Part) × (IsTrue (writes a p && uses b p) ⊎ IsTrue (writes b p && uses a p))
 
--- A part is among these and among those. Where the first are read and the second written it is a clash.
+-- A part is among these and among those. Where the first are read and the second written it is a
+-- clash.
 abbrev pub Overlap : (Part → Bool) → (Part → Bool) → Type 0
 Overlap these those = (p : Part) × IsTrue (these p && those p)
 
@@ -61,4 +62,5 @@ pub record Fits (types resources : ℕ) (a : Access) : Type 0 where
 
 -- the access that uses nothing
 abbrev pub no_access : Access
-no_access = record { read_types = 0; write_types = 0; read_res = 0; write_res = 0; registry = false }
+no_access =
+    record { read_types = 0; write_types = 0; read_res = 0; write_res = 0; registry = false }

@@ -1,5 +1,5 @@
--- What a loan shows of a world: what its access only reads by the world itself, and what it writes by
--- parts of its own.
+-- What a loan shows of a world: what its access only reads by the world itself, and what it writes
+-- by parts of its own.
 use Rattle.std.specs.Prelude.{◌≡◌, ℕ, ℤ, Option, None, IsSome, IfSome, IsTrue, is_some, false, [], if◌then◌else◌}
 use mir.Syntax.{named}
 use Rattle.std.specs.Borrow.{LendsIf, MutBor, Fml, i64}
@@ -23,13 +23,15 @@ taken_of l = l.taken
 
 -- what it shows of a part: nothing of what its access doesn't use
 abbrev pub shown : (p : Part) → Lent → Option (Stuff p)
-shown p l = if writes l.access p then slot p l.taken else if reads l.access p then slot p l.world.now else None
+shown p l = if writes l.access p then slot p l.taken else if reads l.access p
+    then slot p l.world.now else None
 
 -- what it lets be written of a part
 abbrev pub writable : (p : Part) → Lent → Option (Stuff p)
 writable p l = if writes l.access p then slot p l.taken else None
 
--- It shows every part that its access uses, lets every part be written that its access writes, and no other.
+-- It shows every part that its access uses, lets every part be written that its access writes, and
+-- no other.
 pub record IsComplete (l : Lent) : Type 0 where
   pub shows : (p : Part) → is_some (shown p l) ≡ uses l.access p
   pub writes : (p : Part) → is_some (writable p l) ≡ writes l.access p
@@ -44,8 +46,8 @@ pub record SameLoan (old new : Lent) : Type 0 where
   pub world : new.world ≡ old.world
   pub shape : SameShape old.taken new.taken
 
--- What was moved out fits an access and a world: it is what the access writes, and what the access only
--- reads is home.
+-- What was moved out fits an access and a world: it is what the access writes, and what the access
+-- only reads is home.
 pub record IsLoanOf (a : Access) (world taken : Parts) : Type 0 where
   pub size : SameSize world taken
   pub written : (p : Part) → is_some (slot p taken) ≡ writes a p
@@ -62,9 +64,11 @@ with_resource l r z = record l { taken = with_value l.taken r z }
 -- the loan ends with this type's messages as they were left
 abbrev pub LendsWriter : MutBor Lent → ℕ → Option (MutBor (Kept Record)) → Fml
 LendsWriter l t given =
-    LendsIf (lent_row (record { mir = named 0; lft = [] })) messages_row l given (with_messages l.now t) l.now
+    LendsIf (lent_row (record { mir = named 0; lft = [] })) messages_row l given
+        (with_messages l.now t) l.now
 
 -- the loan ends with this resource as it was left
 abbrev pub LendsResource : MutBor Lent → ℕ → Option (MutBor ℤ) → Fml
 LendsResource l r given =
-    LendsIf (lent_row (record { mir = named 0; lft = [] })) i64 l given (with_resource l.now r) l.now
+    LendsIf (lent_row (record { mir = named 0; lft = [] })) i64 l given
+        (with_resource l.now r) l.now

@@ -9,15 +9,15 @@ use Rattle.msg_world.specs.Loan.{IsComplete, IsLoanOf, LoanStands, SameLoan, acc
 use Rattle.msg_world.specs.Parts.{IsApart, IsHome, LendsOut, Parts, PartsStand, SameShape, TakesBack, slot}
 use Rattle.msg_world.specs.World.{WorldState, merge, with_history, with_value_of}
 
--- What was moved out is a loan of its access, and the world and the loan still stand for what the world
--- stood for.
+-- What was moved out is a loan of its access, and the world and the loan still stand for what the
+-- world stood for.
 abbrev pub LentIsLoan : Type 0
 LentIsLoan = (a : Access) (old left taken : Parts) → IsHome a old → LendsOut a old left taken
     → IsLoanOf a left taken
     × ((s : WorldState) → PartsStand old s → PartsStand left s × PartsStand taken s)
 
--- What is written through a loan leaves it the same loan, and it stands for the world in which that was
--- written.
+-- What is written through a loan leaves it the same loan, and it stands for the world in which that
+-- was written.
 abbrev pub WritesStand : Type 0
 WritesStand = (l : Lent) (t : ℕ) (k : Kept Record) → IsSome (writable (OfType t) l)
     → SameLoan l (with_messages l t k)
@@ -29,12 +29,14 @@ ValuesStand = (l : Lent) (r : ℕ) (z : ℤ) → IsSome (writable (OfResource r)
     → SameLoan l (with_resource l r z)
     × ((s : WorldState) → LoanStands l s → LoanStands (with_resource l r z) (with_value_of s r z))
 
--- A loan stays one while parts are moved out of its world for an access that doesn't conflict with its own.
+-- A loan stays one while parts are moved out of its world for an access that doesn't conflict with
+-- its own.
 abbrev pub LoanStays : Type 0
 LoanStays = (a b : Access) (world taken left others : Parts)
     → ¬ Conflict a b → IsLoanOf a world taken → LendsOut b world left others → IsLoanOf a left taken
 
--- What an access needs at home stays there while parts are moved out for one that doesn't conflict with it.
+-- What an access needs at home stays there while parts are moved out for one that doesn't conflict
+-- with it.
 abbrev pub OthersStayHome : Type 0
 OthersStayHome = (a b : Access) (old left taken : Parts)
     → ¬ Conflict a b → IsHome b old → LendsOut a old left taken → IsHome b left
@@ -49,7 +51,8 @@ abbrev pub StaysApart : Type 0
 StaysApart = (taken others world home : Parts) → IsApart taken world → TakesBack others world home
     → ((p : Part) → IsSome (slot p taken) → slot p others ≡ None) → IsApart taken home
 
--- Parts that an access wrote come home: the world then has them as they come, and all else as it was.
+-- Parts that an access wrote come home: the world then has them as they come, and all else as it
+-- was.
 abbrev pub HomeMerges : Type 0
 HomeMerges = (a : Access) (taken world home : Parts) (mine s : WorldState)
     → ((p : Part) → writes a p ≡ false → slot p taken ≡ None)
@@ -65,29 +68,35 @@ HomeWhereEither = (taken world home : Parts) → TakesBack taken world home
 -- Everything that was home is home again.
 abbrev pub HomeAgain : Type 0
 HomeAgain = (a : Access) (old left taken later home : Parts)
-    → LendsOut a old left taken → SameShape taken later → TakesBack later left home → SameShape old home
+    → LendsOut a old left taken → SameShape taken later → TakesBack later left home
+    → SameShape old home
 
--- A loan from its beginning to its end: what an access writes was moved out and opened, and used in any way. What the
--- loan owns then may be taken back; everything that was home is home again, and the world stands for the one
--- before, with what the access writes as the loan left it.
+-- A loan from its beginning to its end: what an access writes was moved out and opened, and used in
+-- any way. What the loan owns then may be taken back; everything that was home is home again, and
+-- the world stands for the one before, with what the access writes as the loan left it.
 abbrev pub LoanEnds : Type 0
 LoanEnds = (a : Access) (old left taken : Parts) (begun ended : Lent)
-    → LendsOut a old left taken → access_of begun ≡ a → taken_of begun ≡ taken → SameLoan begun ended
+    → LendsOut a old left taken → access_of begun ≡ a → taken_of begun ≡ taken
+    → SameLoan begun ended
     → IsApart (taken_of ended) left
     × ((home : Parts) → TakesBack (taken_of ended) left home
     → SameShape old home
-    × ((s mine : WorldState) → PartsStand old s → LoanStands ended mine → PartsStand home (merge a mine s)))
+    × ((s mine : WorldState) → PartsStand old s → LoanStands ended mine
+    → PartsStand home (merge a mine s)))
 
--- In any use a loan still shows all that its access uses, and lets all be written that its access writes.
+-- In any use a loan still shows all that its access uses, and lets all be written that its access
+-- writes.
 abbrev pub StaysComplete : Type 0
 StaysComplete = (old new : Lent) → SameLoan old new → IsComplete old → IsComplete new
 
 -- It owns what its access writes and nothing else, in any use.
 abbrev pub OwnsWhatItWrites : Type 0
-OwnsWhatItWrites = (a : Access) (world taken later : Parts) → IsLoanOf a world taken → SameShape taken later
+OwnsWhatItWrites = (a : Access) (world taken later : Parts) → IsLoanOf a world taken
+    → SameShape taken later
     → IsLoanOf a world later × ((p : Part) → writes a p ≡ false → slot p later ≡ None)
 
 -- What it owns stands for the world that the loan stands for.
 abbrev pub OwnedStands : Type 0
-OwnedStands = (l : Lent) (world : Parts) (s : WorldState) → IsLoanOf (access_of l) world (taken_of l)
+OwnedStands = (l : Lent) (world : Parts) (s : WorldState)
+    → IsLoanOf (access_of l) world (taken_of l)
     → LoanStands l s → PartsStand (taken_of l) s

@@ -8,7 +8,8 @@ use Rattle.msg_world.specs.declared.access.Access.{Access}
 use Rattle.msg_world.specs.Access.{HasPart, Part, OfType, OfResource, Registry, uses, writes}
 use Rattle.msg_world.specs.World.{WorldState, Content, content}
 
--- A slot for each type, for each resource, and for the registry's marks: empty where that part is elsewhere.
+-- A slot for each type, for each resource, and for the registry's marks: empty where that part is
+-- elsewhere.
 pub record Parts : Type 0 where
   pub types : List (Option (Kept Record))
   pub resources : List (Option ℤ)

@@ -1,5 +1,5 @@
--- The world that systems share: the history of each message type, the value of each resource, and the
--- registry of signals.
+-- The world that systems share: the history of each message type, the value of each resource, and
+-- the registry of signals.
 use Rattle.std.specs.Prelude.{ℕ, ℤ, pos, Bool, true, false, not, ◌&&◌, ◌||◌, ◌==◌, List, slice_index, slice_index_or, if◌then◌else◌}
 use Rattle.msg_buffer.specs.Prelude.{History, empty, update}
 use Rattle.msg_world.specs.declared.record.Record.{Record}
@@ -46,11 +46,13 @@ with_value_of s r z = record s { resources = λ q. if q == r then z else s.resou
 abbrev pub waits : WorldState → Bool
 waits s = s.marks.held && not s.marks.pending
 
--- The frame's update: every type is updated, and a signal is spent. A world that waits stays as it is.
+-- The frame's update: every type is updated, and a signal is spent. A world that waits stays as it
+-- is.
 abbrev pub after_update : WorldState → WorldState
 after_update s =
     if waits s then s
-    else record s { histories = λ t. update (s.histories t); marks = record s.marks { pending = false } }
+    else record s { histories = λ t. update (s.histories t);
+        marks = record s.marks { pending = false } }
 
 -- A signal makes a held world pending. It changes nothing where the world isn't held.
 abbrev pub signalled_marks : Marks → Marks

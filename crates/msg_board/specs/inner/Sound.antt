@@ -1,4 +1,5 @@
--- What each board and each pass keeps by itself: the invariant of its model. No public contract cites it.
+-- What each board and each pass keeps by itself: the invariant of its model. No public contract
+-- cites it.
 use Rattle.std.specs.Prelude.{◌≡◌, ℕ, ◌+◌, ◌<◌, ◌≤◌, List, [], ◌∷◌, ◌++◌, length, All, Some, true}
 use Rattle.msg_board.specs.declared.pass.Pass.TheInside.{Inside}
 use Rattle.msg_board.specs.declared.board.Board.TheInside as board

@@ -29,13 +29,15 @@ module _ {S : Type 0} (meaning : S → Meaning) where
 
   -- an access is that of system i with its conditions, and the system is no clash
   pub record IsAccessAt (systems : List S) (places : List Place) (i : ℕ) (a : Access) : Type 0 where
-    pub access : (x : S) (place : Place) → slice_get systems i ≡ Some x → slice_get places i ≡ Some place
+    pub access : (x : S) (place : Place) → slice_get systems i ≡ Some x → slice_get places i
+        ≡ Some place
         → IsAccessOf (with_conditions (meaning x).needs place.conditions) a
     pub no_clash : (x : S) → slice_get systems i ≡ Some x → ¬ HasClash (meaning x)
 
   -- it is system i, with its conditions
   abbrev pub IsGuardedAt : List S → List Place → ℕ → Option (GuardedSystem S) → Type 0
-  IsGuardedAt systems places i o = (x : S) (place : Place) → slice_get systems i ≡ Some x → slice_get places i ≡ Some place
+  IsGuardedAt systems places i o = (x : S) (place : Place) → slice_get systems i ≡ Some x
+      → slice_get places i ≡ Some place
       → IsSomeAnd o (λ a. job_state meaning a ≡ new_job (meaning x) place)
 
 -- totals of readers that haven't joined, one for each type

@@ -21,7 +21,8 @@ NobodyJoins s = (i : ℕ) → i < s.systems → ((s.members i).join ≢ suc s.fr
 module _ {S : Type 0} where
   -- the plan is that of those that will have joined by the next frame
   abbrev pub PlansNext : Core S → State → PlanView → Type 0
-  PlansNext c s plan = IsPlanOf c.lender.accesses.items s.rules (join_flags (counted (joining s))) plan
+  PlansNext c s plan = IsPlanOf c.lender.accesses.items s.rules
+      (join_flags (counted (joining s))) plan
 
   -- the number of the next frame and its plan, where some join with it; none where nobody does
   abbrev pub IsNextPlan : Core S → State → Option (ℕ × PlanView) → Type 0
@@ -33,16 +34,20 @@ module _ {S : Type 0} (meaning : S → Meaning) where
   pub record HasBegunFrame (c : Core S) (s : State) : Type 0 where
     pub lender : LenderStands meaning c.lender (joining s)
     pub schedule : Schedule c (joining s)
-    pub plan : IsPlanOf c.lender.accesses.items (joining s).rules (join_flags (counted (joining s))) c.plan
+    pub plan : IsPlanOf c.lender.accesses.items (joining s).rules
+        (join_flags (counted (joining s))) c.plan
 
   -- All is done that a frame on the state s does before its turns, and the posts were answered so.
-  pub record HasOpened (frame : Frame) (s : State) (c : Core S) (replies : List Reply) : Type 0 where
+  pub record HasOpened (frame : Frame) (s : State) (c : Core S)
+      (replies : List Reply) : Type 0 where
     pub lender : LenderStands meaning c.lender (before_turns frame.posts s)
     pub schedule : Schedule c (before_turns frame.posts s)
-    pub plan : IsPlanOf c.lender.accesses.items (before_turns frame.posts s).rules (join_flags (before_turns frame.posts s)) c.plan
+    pub plan : IsPlanOf c.lender.accesses.items (before_turns frame.posts s).rules
+        (join_flags (before_turns frame.posts s)) c.plan
     pub posts : replies ≡ post_replies frame.posts (after_update s.world)
 
-  -- A frame on the state s was run or replayed: the core stands for the state that it leaves, of which this holds.
+  -- A frame on the state s was run or replayed: the core stands for the state that it leaves, of
+  -- which this holds.
   pub record HasLeft (Leaves : State → Type 0) (s : State) (c : Core S) : Type 0 where
     pub state : State
     pub leaves : Leaves state

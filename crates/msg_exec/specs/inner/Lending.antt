@@ -37,14 +37,18 @@ module _ {S : Type 0} where
     pub guarded : system_at whole i ≡ Some job.guarded
     pub access : job.access ≡ access_of whole.accesses.items i
     pub size : SameSize whole.world job.taken
-    pub taken : (p : Part) → slot p job.taken ≡ (if writes job.access p then slot p whole.world else None)
+    pub taken : (p : Part) → slot p job.taken
+        ≡ (if writes job.access p then slot p whole.world else None)
 
-  -- The jobs of a batch are out. What none of its systems writes stays, and so do the other systems.
-  pub record AreOut (whole : Lender S) (batch : List ℕ) (jobs : List (Job S)) (left : Lender S) : Type 0 where
+  -- The jobs of a batch are out. What none of its systems writes stays, and so do the other
+  -- systems.
+  pub record AreOut (whole : Lender S) (batch : List ℕ) (jobs : List (Job S))
+      (left : Lender S) : Type 0 where
     pub each : AllZip (IsOut whole) batch jobs
     pub size : SameSize whole.world left.world
     pub world : (p : Part)
-        → slot p left.world ≡ (if any_writes whole.accesses.items batch p then None else slot p whole.world)
+        → slot p left.world ≡ (if any_writes whole.accesses.items batch p then None
+        else slot p whole.world)
     pub as_many : length left.systems.items ≡ length whole.systems.items
     pub others : (k : ℕ) → ¬ Contains batch k → system_at left k ≡ system_at whole k
     pub accesses : left.accesses.items ≡ whole.accesses.items
@@ -55,15 +59,18 @@ module _ {S : Type 0} (meaning : S → Meaning) where
   pub record HaveEntered (done : Done S) (old new : List Totals) : Type 0 where
     pub as_many : length new ≡ length old
     pub entered : (t : ℕ) (x : Totals) → t < length old → totals_at old t ≡ kept x
-        → totals_at new t ≡ kept (with_entries (entries_by t (meaning done.guarded.system).last done.outcome) x)
+        → totals_at new t ≡ kept
+        (with_entries (entries_by t (meaning done.guarded.system).last done.outcome) x)
 
-  -- A system comes home from its turn, with what it gives back, and its totals are those after it. All else stays.
+  -- A system comes home from its turn, with what it gives back, and its totals are those after it.
+  -- All else stays.
   pub record ComesHome (old : Lender S) (done : Done S) (new : Lender S) : Type 0 where
     pub systems : new.systems.items ≡ slice_set old.systems.items done.number (Some done.guarded)
     pub accesses : new.accesses.items ≡ old.accesses.items
     pub taken_back : TakesBack done.taken old.world new.world
     pub totals : (v : Vec Totals) × (new.totals.items ≡ slice_set old.totals.items done.number v)
-        × ((u : Vec Totals) → slice_get old.totals.items done.number ≡ Some u → HaveEntered done u.items v.items)
+        × ((u : Vec Totals) → slice_get old.totals.items done.number ≡ Some u
+        → HaveEntered done u.items v.items)
 
 -- those that join with this frame were given nothing yet
 abbrev pub HaveReadNothing : ℕ → State → Type 0

@@ -1,5 +1,5 @@
--- Paths as the sets of the code keep them: before each system those that precede it. No public contract
--- cites these; that they are the paths of the definitions is proved.
+-- Paths as the sets of the code keep them: before each system those that precede it. No public
+-- contract cites these; that they are the paths of the definitions is proved.
 use Rattle.std.specs.Prelude.{◌≡◌, ℕ, ◌≤◌, ◌<◌, Bool, true, false, not, ◌&&◌, ◌||◌, ◌==◌, List, [], ◌∷◌, map, length, filter, flat_map, slice_index_or}
 use Rattle.std.specs.List.{range_with_len}
 use Rattle.msg_world.specs.declared.access.Access.{Access}

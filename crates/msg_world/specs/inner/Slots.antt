@@ -20,4 +20,5 @@ BufferStands b h = IfSome b (λ k. StandsFor k h)
 pub record AllUpdated (old new : List (Option (Kept Record))) : Type 0 where
   pub length : length new ≡ length old
   pub there : (t : ℕ) → is_some (at new t) ≡ is_some (at old t)
-  pub updated : (t : ℕ) (h : History Record) → BufferStands (at old t) h → BufferStands (at new t) (update h)
+  pub updated : (t : ℕ) (h : History Record) → BufferStands (at old t) h
+      → BufferStands (at new t) (update h)
