@@ -7,7 +7,7 @@ use Rattle.msg_buffer.specs.Prelude.{count}
 use Rattle.msg_order.specs.declared.rule.Rule.{Rule}
 use Rattle.msg_world.specs.Prelude.{WorldState}
 use Rattle.msg_system.specs.Prelude.{Meaning}
-use Rattle.msg_frames.specs.Prelude.{AreNew, FirstIsSound, IsBalanced, IsSoundState, Member, Place, State, counts, first_state, has_begun, joined_member, no_totals, place_of, unjoined}
+use Rattle.msg_frames.specs.Prelude.{AreNew, IsBalanced, IsSoundState, Member, Place, State, counts, first_state, has_begun, joined_member, no_totals, place_of, unjoined}
 use Rattle.msg_frames.proofs.BeforeTurns.{begun_within}
 use Rattle.msg_frames.proofs.StatesStaySound.{balanced_start}
 

@@ -3,7 +3,6 @@ use Rattle.std.proofs.Common.{ℕ, zero, suc, ℤ, ◌≤◌, List, [], ◌∷�
 use Rattle.std.proofs.lemmas.Bool.{cases_Bool, cases_eq, eq-eqb, ne_eqb}
 use Rattle.msg_buffer.specs.Prelude.{ClearsFit, GoesOn, History, IsSound, OnlyGrows, ReadsFit, clear, count, write}
 use Rattle.msg_world.specs.declared.record.Record.{Record}
-use Rattle.msg_world.specs.declared.record.TheConstants.{HOST}
 use Rattle.msg_world.specs.Prelude.{WorldState, after_update, by, with_history}
 use Rattle.msg_system.specs.declared.op.Op.{Op}
 use Rattle.msg_system.specs.declared.op.Op.TheVariants.{Write, Batch, Forward, Drain}

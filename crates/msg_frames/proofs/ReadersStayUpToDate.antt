@@ -8,7 +8,7 @@ use Rattle.msg_buffer.specs.Prelude.{Entry, Fits, GoesOn, History, IsPresent, St
 use Rattle.msg_world.specs.declared.record.Record.{Record}
 use Rattle.msg_world.specs.Prelude.{WorldState, after_update, waits}
 use Rattle.msg_frames.proofs.ElementsAndPairs.{Cut, cut}
-use Rattle.msg_frames.specs.Prelude.{Frame, IsFrame, IsRun, IsSoundState, IsUpToDate, Log, MissesNothing, Moment, NothingDrained, ReadsAll, ReadsAllInEach, Skipped, State, WhoIsUpToDateMissesNothing, WhoReadsAllCatchesUp, WhoReadsAllHasTheFrameBefore, WhoReadsAllIsUpToDate, WhoReadsEachFrameMissesNothing, after_turns_of, before_turns, frame_in, has_begun, joining, moments, place_of, reads_all, systems_in, turns_moments}
+use Rattle.msg_frames.specs.Prelude.{Frame, IsFrame, IsRun, IsSoundState, IsUpToDate, Log, MissesNothing, Moment, NothingDrained, ReadsAll, ReadsAllInEach, Skipped, State, WhoIsUpToDateMissesNothing, WhoReadsEachFrameMissesNothing, after_turns_of, before_turns, frame_in, has_begun, joining, moments, place_of, reads_all, systems_in, turns_moments}
 use Rattle.std.specs.List.{list_any}
 use Rattle.msg_frames.proofs.HistoriesGrow.{BufferLaws, counts_more, frame_goes_on, runs_go_on, turns_go_on}
 use Rattle.msg_frames.proofs.SystemsStay.{before_keeps, joining_world, turns_keep}

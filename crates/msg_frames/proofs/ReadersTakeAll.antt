@@ -1,21 +1,21 @@
 -- A reader whose turn reads all of a type goes past all that had been written by then.
-use Rattle.std.proofs.Common.{◌≡◌, ◌≢◌, ℕ, zero, suc, ◌≤◌, List, [], ◌∷◌, ◌++◌, map, All, true, false, ◌||◌, Option, None, Some, refl, sym, ap, ◌∙◌, arith, inl, inr, ◌==◌}
+use Rattle.std.proofs.Common.{◌≡◌, ◌≢◌, ℕ, zero, suc, ◌≤◌, List, [], ◌∷◌, ◌++◌, All, true, false, ◌||◌, Option, None, Some, refl, sym, ap, ◌∙◌, arith, inl, inr, ◌==◌}
 use Rattle.std.specs.Prelude.{option_to_list, IsTrue}
 use Rattle.std.specs.List.{list_any}
 use Rattle.std.proofs.lemmas.Bool.{cases_Bool, eq-eqb, eqb-true, false≢true, or_cases}
 use Rattle.std.proofs.lemmas.List.Elements.{All-head, All-tail}
 use Rattle.std.proofs.lemmas.List.Folds.{list_any-append}
-use Rattle.msg_buffer.specs.Prelude.{IsSound, Tile, count, next_place}
+use Rattle.msg_buffer.specs.Prelude.{IsSound, count}
 use Rattle.msg_world.specs.Prelude.{WorldState}
 use Rattle.msg_system.specs.declared.op.Op.{Op}
 use Rattle.msg_system.specs.declared.op.Op.TheVariants.{Read, Forward, Sum}
 use Rattle.msg_system.specs.declared.reply.Reply.{Reply}
 use Rattle.msg_system.specs.Prelude.{AfterProgram, Job, Meaning, after_at_most, after_job, after_op, next_op, one_more, ops_answered, place_after_read, turn, with_place}
 use Rattle.msg_system.proofs.Turns.{ops_answered-snoc}
-use Rattle.msg_frames.specs.Prelude.{Moment, Skipped, State, after_turn_of, after_turns_of, first_moments, logged_turn, next_moments, outcome_of, place_of, reads_all}
+use Rattle.msg_frames.specs.Prelude.{Skipped, State, after_turn_of, after_turns_of, first_moments, logged_turn, next_moments, outcome_of, place_of, reads_all}
 use Rattle.msg_frames.proofs.HistoriesGrow.{BufferLaws, counts_more}
 use Rattle.msg_frames.proofs.OneFateEach.{tiles_rise}
-use Rattle.msg_frames.proofs.ReaderOverJob.{Passes, first_passes, next_passes, tile_of}
+use Rattle.msg_frames.proofs.ReaderOverJob.{Passes, first_passes, next_passes}
 use Rattle.msg_frames.proofs.ReaderOverTurns.{one_member, turn_reads}
 
 -- ---- a turn that reads all

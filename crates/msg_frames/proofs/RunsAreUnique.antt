@@ -8,7 +8,7 @@ use Rattle.msg_world.specs.declared.access.Access.{Access}
 use Rattle.msg_world.specs.Prelude.{Part, Conflict, uses, writes}
 use Rattle.msg_order.specs.declared.rule.Rule.{Rule}
 use Rattle.msg_order.specs.Prelude.{AreInConflict, Graph, IsAcyclic, IsAmong, IsSettledOrder, IsTurnOrder, SettledOrderIsUnique, Settles, SettlingMakesNoCycle, TurnOrderIsUnique, access_of, has_joined, pairs, rules_among}
-use Rattle.msg_frames.specs.Prelude.{AreAccessesOf, FramesAreUnique, IsOrderOf, IsRun, IsTurnOrderOf, NoCycle, RunsAreUnique, State, SystemsHaveOneOrder, before_turns, frame_in, has_begun, join_flags, systems_in}
+use Rattle.msg_frames.specs.Prelude.{AreAccessesOf, FramesAreUnique, IsOrderOf, IsRun, IsTurnOrderOf, NoCycle, RunsAreUnique, State, SystemsHaveOneOrder, frame_in, has_begun, join_flags, systems_in}
 use Rattle.msg_order.proofs.Elements.{Contains-cases}
 use Rattle.msg_frames.proofs.SystemsStay.{joined_below}
 

@@ -11,7 +11,7 @@ use Rattle.msg_system.specs.declared.op.Op.{Op}
 use Rattle.msg_system.specs.declared.op.Op.TheVariants.{Write, Batch, Forward, Drain}
 use Rattle.msg_system.specs.Prelude.{AfterProgram, Job, Meaning, after_at_most, after_job, after_op, again_by, all_hold, next_op, one_more, took, turn}
 use Rattle.msg_frames.specs.Entries as entries
-use Rattle.msg_frames.specs.Prelude.{Moment, State, after_posts, after_turn_of, after_turns_of, first_moments, job_moments, next_moments, turn_moments, turns_moments}
+use Rattle.msg_frames.specs.Prelude.{Moment, State, after_posts, after_turns_of, first_moments, job_moments, next_moments, turn_moments, turns_moments}
 
 -- the messages from number p on were written at most k updates ago
 abbrev pub AreRecent : ℕ → ℕ → History Record → Type 0
