@@ -35,8 +35,10 @@ module _ {J D : Type 0} (lawful : J → D → Type 0) (jobs : List J) (passes : 
       → ((k : ℕ) → k ≢ i → get_elem? homes k ≡ get_elem? s.homes k)
       → ((j : J) → get_elem? jobs i ≡ some j → IsSlotOf lawful j n (get_elem? homes i))
       → IsViewOf jobs (set s.words i n) w
-      → ((k : ℕ) → holds_one k w + holders_at (get_or s.words k 0) ≡ holds_one k v + holders_at (get_or (set s.words i n) k 0))
-      → ((k : ℕ) → times k w.drawn + draws_at (get_or s.words k 0) ≡ times k v.drawn + draws_at (get_or (set s.words i n) k 0))
+      → ((k : ℕ) → holds_one k w + holders_at (get_or s.words k 0)
+      ≡ holds_one k v + holders_at (get_or (set s.words i n) k 0))
+      → ((k : ℕ) → times k w.drawn + draws_at (get_or s.words k 0)
+      ≡ times k v.drawn + draws_at (get_or (set s.words i n) k 0))
       → w.weight ≡ v.weight → Lawful record { words = set s.words i n; homes = homes; views = set s.views id w }
   moved s r i n id v w homes inside at small rises long others here known holding drawing weigh =
       let wide = r.words in let near : i < length s.words = omega arith in
@@ -45,13 +47,16 @@ module _ {J D : Type 0} (lawful : J → D → Type 0) (jobs : List J) (passes : 
         slots = long ∙ r.slots;
         at_most_two = by_place s.words i n (λ k x. x ≤ 2) near small (λ k _. r.at_most_two k);
         further = get_or-set_other s.words i (length jobs) n 0 (λ e. omega arith) ∙ r.further;
-        each_slot = by_place s.words i n (λ k x. (j : J) → get_elem? jobs k ≡ some j → IsSlotOf lawful j x (get_elem? homes k)) near here
+        each_slot =
+            by_place s.words i n (λ k x. (j : J) → get_elem? jobs k ≡ some j
+            → IsSlotOf lawful j x (get_elem? homes k)) near here
             (λ k ne j is. subst (IsSlotOf lawful j (get_or s.words k 0)) (sym (others k ne)) (r.each_slot k j is));
         each_view = λ by u is. ⊎_elim (λ (t : (by ≡ id) × (w ≡ u)). subst (IsViewOf jobs (set s.words i n)) t.1 known)
             (λ (t : (by ≢ id) × (get_elem? s.views by ≡ some u)). let old = r.each_view by u t.1 in record {
               same_jobs = old.same_jobs;
               within = old.within;
-              tried = λ live k l. by_place s.words i n (λ k x. get_or s.words k 0 ≢ 0 → x ≢ 0) near rises (λ k _ h. h) k (old.tried live k l);
+              tried = λ live k l. by_place s.words i n (λ k x. get_or s.words k 0 ≢ 0 → x ≢ 0) near rises (λ k _ h. h) k
+                  (old.tried live k l);
               spent_drawn = old.spent_drawn;
               spent_held = old.spent_held;
             }) (at_set s.views id by w u is);
@@ -74,18 +79,21 @@ module _ {J D : Type 0} (lawful : J → D → Type 0) (jobs : List J) (passes : 
   tried_more ws i n v w old live near inside is rises same_jobs weigh next = record {
     same_jobs = λ _. same_jobs ∙ old.same_jobs live;
     within = λ _. omega arith;
-    tried = λ _ k l. by_place ws i n (λ k x. k < w.next → x ≢ 0) near (λ _. rises) (λ k ne l. old.tried live k (omega arith)) k l;
+    tried = λ _ k l. by_place ws i n (λ k x. k < w.next → x ≢ 0) near (λ _. rises)
+        (λ k ne l. old.tried live k (omega arith)) k l;
     spent_drawn = λ z. absurd (omega arith);
     spent_held = λ z. absurd (omega arith);
   }
 
   -- a draw is allowed where word i becomes n
   abbrev Draws : St → M → ℕ → ℕ → ℕ → ℕ → Type 0
-  Draws s me slots id i n = (w : View J) × (a : Act (Slot J D)) × Valid s.homes me.1 a × Lawful (stepped s i n id me.1 w a)
+  Draws s me slots id i n = (w : View J) × (a : Act (Slot J D)) × Valid s.homes me.1 a
+      × Lawful (stepped s i n id me.1 w a)
       × Drawing (step slots i 1 0 none) me (get_or s.words i 0) (w, carried_after me.1 a)
 
   -- A view that holds nothing tries word i, its next
-  module _ (s : St) (r : Lawful s) (id i : ℕ) (v : View J) (at : get_elem? s.views id ≡ some v) (live : 0 < v.weight) (free : v.held ≡ None) (is : v.next ≡ i) (inside : i < length jobs) where
+  module _ (s : St) (r : Lawful s) (id i : ℕ) (v : View J) (at : get_elem? s.views id ≡ some v) (live : 0 < v.weight)
+      (free : v.held ≡ None) (is : v.next ≡ i) (inside : i < length jobs) where
     -- word i is there
     near : i < length s.words
     near = let wide = r.words in omega arith
@@ -93,36 +101,48 @@ module _ {J D : Type 0} (lawful : J → D → Type 0) (jobs : List J) (passes : 
     -- it finds 0, and takes the job out
     finds_zero : get_or s.words i 0 ≡ 0
         → Lawful record { words = set s.words i 1; homes = set s.homes i none; views = set s.views id (taken i v) }
-    finds_zero zero_there = let long = r.slots in moved s r i 1 id v (taken i v) (set s.homes i none) inside at (omega arith) (λ _. (λ e. omega arith)) (length-set s.homes i none)
+    finds_zero zero_there = let long = r.slots in moved s r i 1 id v (taken i v) (set s.homes i none) inside at
+        (omega arith) (λ _. (λ e. omega arith)) (length-set s.homes i none)
         (λ k ne. set_else s.homes i k none ne)
-        (λ j' is'. record { waiting = λ e. absurd (omega arith); out = λ _. set_here s.homes i none (omega arith); done = λ e. absurd (omega arith) })
-        (tried_more s.words i 1 v (taken i v) (r.each_view id v at) live near inside is (λ e. omega arith) refl refl refl)
-        (by_place s.words i 1 (λ k y. holds_one k (taken i v) + holders_at (get_or s.words k 0) ≡ holds_one k v + holders_at y) near
+        (λ j' is'. record { waiting = λ e. absurd (omega arith); out = λ _. set_here s.homes i none (omega arith);
+            done = λ e. absurd (omega arith) })
+        (tried_more s.words i 1 v (taken i v) (r.each_view id v at) live near inside is
+            (λ e. omega arith) refl refl refl)
+        (by_place s.words i 1 (λ k y. holds_one k (taken i v) + holders_at (get_or s.words k 0)
+            ≡ holds_one k v + holders_at y) near
         (omega (arith, ap (λ o. one_if (is_held i o)) free, ap holders_at zero_there, one_at i i refl))
         (λ k ne. omega (arith, ap (λ o. one_if (is_held k o)) free, none_at k i (λ e. ne (sym e)))))
-        (by_place s.words i 1 (λ k y. times k (taken i v).drawn + draws_at (get_or s.words k 0) ≡ times k v.drawn + draws_at y) near
+        (by_place s.words i 1 (λ k y. times k (taken i v).drawn + draws_at (get_or s.words k 0)
+            ≡ times k v.drawn + draws_at y) near
         (omega (arith, times_push i v.drawn i, ap draws_at zero_there, one_at i i refl))
         (λ k ne. omega (arith, times_push k v.drawn i, none_at k i (λ e. ne (sym e)))))
         refl
 
     -- it finds another number, and leaves it there
     finds_more : get_or s.words i 0 ≢ 0
-        → Lawful record { words = set s.words i (get_or s.words i 0); homes = s.homes; views = set s.views id (tried v) }
-    finds_more more = let x = get_or s.words i 0 in moved s r i x id v (tried v) s.homes inside at (r.at_most_two i) (λ _. more) refl (λ k ne. refl)
+        → Lawful record { words = set s.words i (get_or s.words i 0); homes = s.homes;
+        views = set s.views id (tried v) }
+    finds_more more = let x = get_or s.words i 0 in moved s r i x id v (tried v) s.homes inside at (r.at_most_two i)
+        (λ _. more) refl (λ k ne. refl)
         (λ j' is'. r.each_slot i j' is')
-        (tried_more s.words i x v (tried v) (r.each_view id v at) live near inside is more refl refl (ap (λ n. n + 1) is))
-        (by_place s.words i x (λ k y. holds_one k v + holders_at (get_or s.words k 0) ≡ holds_one k v + holders_at y) near refl (λ k ne. refl))
-        (by_place s.words i x (λ k y. times k v.drawn + draws_at (get_or s.words k 0) ≡ times k v.drawn + draws_at y) near refl (λ k ne. refl))
+        (tried_more s.words i x v (tried v) (r.each_view id v at) live near inside is more refl refl
+            (ap (λ n. n + 1) is))
+        (by_place s.words i x (λ k y. holds_one k v + holders_at (get_or s.words k 0)
+            ≡ holds_one k v + holders_at y) near refl (λ k ne. refl))
+        (by_place s.words i x (λ k y. times k v.drawn + draws_at (get_or s.words k 0)
+            ≡ times k v.drawn + draws_at y) near refl (λ k ne. refl))
         refl
 
   -- what the step tells, where it finds 0 and where it doesn't
   tells_drawn : (st : Step (Slot J D)) (before after : M) (found : ℕ) → st.word ≡ before.0.next → st.first ≡ 1
       → found ≡ 0 → DrawsJob st.word before after → Drawing st before found after
-  tells_drawn st before after found is one hit drawn = record { word = is; operand = one; found_zero = λ _. drawn; found_more = λ miss. absurd (miss hit) }
+  tells_drawn st before after found is one hit drawn =
+      record { word = is; operand = one; found_zero = λ _. drawn; found_more = λ miss. absurd (miss hit) }
 
   tells_tried : (st : Step (Slot J D)) (before after : M) (found : ℕ) → st.word ≡ before.0.next → st.first ≡ 1
       → found ≢ 0 → after ≡ (tried before.0, []) → Drawing st before found after
-  tells_tried st before after found is one miss so = record { word = is; operand = one; found_zero = λ hit. absurd (miss hit); found_more = λ _. so }
+  tells_tried st before after found is one miss so =
+      record { word = is; operand = one; found_zero = λ hit. absurd (miss hit); found_more = λ _. so }
 
   -- a draw: `fetch_max` with 1 on the view's next word
   pub draws : (slots id : ℕ) (me : M) (i : ℕ) → me.1 ≡ [] → 0 < me.0.weight → me.0.held ≡ None → me.0.next ≡ i
@@ -137,14 +157,16 @@ module _ {J D : Type 0} (lawful : J → D → Type 0) (jobs : List J) (passes : 
         takes i (Job there_is.0),
         (r.each_slot i there_is.0 there_is.1).waiting hit,
         finds_zero s r id i me.0 at live free is inside hit,
-        tells_drawn (step slots i 1 0 none) me _ _ (sym is) refl hit (there_is.0, own, ap (λ (c : List (ℕ × Slot J D)). (taken i me.0, (i, Job there_is.0) ∷ c)) empty),
+        tells_drawn (step slots i 1 0 none) me _ _ (sym is) refl hit
+            (there_is.0, own, ap (λ (c : List (ℕ × Slot J D)). (taken i me.0, (i, Job there_is.0) ∷ c)) empty),
       ))
       (λ miss. subst (Draws s me slots id i) (sym (fetched_old (get_or s.words i 0) miss)) (
         tried me.0,
         keeps,
         tt,
         finds_more s r id i me.0 at live free is inside miss,
-        tells_tried (step slots i 1 0 none) me _ _ (sym is) refl miss (ap (λ (c : List (ℕ × Slot J D)). (tried me.0, c)) empty),
+        tells_tried (step slots i 1 0 none) me _ _ (sym is) refl miss
+            (ap (λ (c : List (ℕ × Slot J D)). (tried me.0, c)) empty),
       ))
 
   -- a word whose number is held is 1
@@ -155,10 +177,14 @@ module _ {J D : Type 0} (lawful : J → D → Type 0) (jobs : List J) (passes : 
 
   -- a number that a view holds is held by no other, and its slot is out
   pub held_alone : (s : St) (k : ℕ) → Lawful s → IsHeldAlone s k
-  held_alone s k r = let one : (by : ℕ) (v : View J) → get_elem? s.views by ≡ some v → v.held ≡ Some k → get_or s.words k 0 ≡ 1 = λ by v at has.
-      held_is_one (get_or s.words k 0) (omega (arith, term_le (holds_one k) s.views by v at, r.held k, ap (λ o. one_if (is_held k o)) has, one_at k k refl)) in
+  held_alone s k r = let one : (by : ℕ) (v : View J) → get_elem? s.views by ≡ some v → v.held ≡ Some k
+      → get_or s.words k 0 ≡ 1 = λ by v at has.
+      held_is_one (get_or s.words k 0)
+          (omega (arith, term_le (holds_one k) s.views by v at, r.held k, ap (λ o. one_if (is_held k o)) has,
+          one_at k k refl)) in
       record {
-        by_one = λ by other v w at there_is has also. dite (ℕ_discrete by other) (λ same. same) (λ apart. absurd (omega (
+        by_one = λ by other v w at there_is has also. dite (ℕ_discrete by other) (λ same. same)
+            (λ apart. absurd (omega (
           arith,
           terms_le (holds_one k) s.views by other v w (λ e. apart (sym e)) at there_is,
           r.held k,
@@ -169,7 +195,9 @@ module _ {J D : Type 0} (lawful : J → D → Type 0) (jobs : List J) (passes : 
         )));
         slot_out = λ by v at has. let is_one = one by v at has in let wide = r.words in
             let inside : k < length jobs = dite (dec_le (length jobs) k)
-            (λ far. absurd (dite (ℕ_discrete k (length jobs)) (λ e. omega (arith, r.further, ap (λ (n : ℕ). get_or s.words n 0) e)) (λ ne. omega (arith, past s.words k (omega arith)))))
+            (λ far. absurd (dite (ℕ_discrete k (length jobs))
+                (λ e. omega (arith, r.further, ap (λ (n : ℕ). get_or s.words n 0) e))
+                (λ ne. omega (arith, past s.words k (omega arith)))))
             (λ near. omega arith) in
             let job = there jobs k inside in (r.each_slot k job.0 job.1).out is_one;
       }
@@ -177,33 +205,43 @@ module _ {J D : Type 0} (lawful : J → D → Type 0) (jobs : List J) (passes : 
   -- a hand-in: a store of 2 on the word of the number that is held
   hands_in : (slots id : ℕ) (v : View J) (k : ℕ) (j : J) (d : D) → 0 < v.weight → v.held ≡ Some k
       → get_elem? v.jobs k ≡ some j → lawful j d
-      → Allows Lawful slots id (v, (k, Done d) ∷ []) k (λ _. 2) (λ _. HandingIn (step slots k 2 0 none) (v, (k, Done d) ∷ []) 2)
+      → Allows Lawful slots id (v, (k, Done d) ∷ []) k (λ _. 2)
+      (λ _. HandingIn (step slots k 2 0 none) (v, (k, Done d) ∷ []) 2)
   hands_in slots id v k j d live has is fair s r deep at small =
       let knows = r.each_view id v at in
       let is' : get_elem? jobs k ≡ some j = ap (λ (l : List J). get_elem? l k) (sym (knows.same_jobs live)) ∙ is in
       let inside = inside_of jobs k j is' in let wide = r.words in let long = r.slots in
       let near : k < length s.words = omega arith in
-      let one : get_or s.words k 0 ≡ 1 = held_is_one (get_or s.words k 0) (omega (arith, term_le (holds_one k) s.views id v at, r.held k, ap (λ o. one_if (is_held k o)) has, one_at k k refl)) in (
+      let one : get_or s.words k 0 ≡ 1 =
+          held_is_one (get_or s.words k 0)
+          (omega (arith, term_le (holds_one k) s.views id v at, r.held k, ap (λ o. one_if (is_held k o)) has,
+          one_at k k refl)) in (
         freed v,
         gives,
         tt,
-        moved s r k 2 id v (freed v) (set s.homes k (some (Done d))) inside at (omega arith) (λ _. (λ e. omega arith)) (length-set s.homes k (some (Done d))) (λ i ne. set_else s.homes k i (some (Done d)) ne)
+        moved s r k 2 id v (freed v) (set s.homes k (some (Done d))) inside at (omega arith) (λ _. (λ e. omega arith))
+            (length-set s.homes k (some (Done d))) (λ i ne. set_else s.homes k i (some (Done d)) ne)
             (λ j' is''. record {
               waiting = λ e. absurd (omega arith);
               out = λ e. absurd (omega arith);
-              done = λ _. (d, set_here s.homes k (some (Done d)) (omega arith), subst (λ (y : J). lawful y d) (some-injective j j' (sym is' ∙ is'')) fair);
+              done =
+                  λ _. (d, set_here s.homes k (some (Done d)) (omega arith),
+                  subst (λ (y : J). lawful y d) (some-injective j j' (sym is' ∙ is'')) fair);
             })
             (record {
               same_jobs = knows.same_jobs;
               within = knows.within;
-              tried = λ live i l. by_place s.words k 2 (λ i x. i < v.next → x ≢ 0) near (λ _. (λ e. omega arith)) (λ i ne l. knows.tried live i l) i l;
+              tried = λ live i l. by_place s.words k 2 (λ i x. i < v.next → x ≢ 0) near (λ _. (λ e. omega arith))
+                  (λ i ne l. knows.tried live i l) i l;
               spent_drawn = λ z. absurd (omega arith);
               spent_held = λ z. absurd (omega arith);
             })
-            (by_place s.words k 2 (λ i y. holds_one i (freed v) + holders_at (get_or s.words i 0) ≡ holds_one i v + holders_at y) near
+            (by_place s.words k 2 (λ i y. holds_one i (freed v) + holders_at (get_or s.words i 0)
+                ≡ holds_one i v + holders_at y) near
             (omega (arith, ap (λ o. one_if (is_held k o)) has, ap holders_at one, one_at k k refl))
             (λ i ne. omega (arith, ap (λ o. one_if (is_held i o)) has, none_at i k (λ e. ne (sym e)))))
-            (by_place s.words k 2 (λ i y. times i v.drawn + draws_at (get_or s.words i 0) ≡ times i v.drawn + draws_at y) near
+            (by_place s.words k 2 (λ i y. times i v.drawn + draws_at (get_or s.words i 0)
+                ≡ times i v.drawn + draws_at y) near
             (omega (arith, ap draws_at one))
             (λ i ne. refl))
             refl,
@@ -214,13 +252,16 @@ module _ {J D : Type 0} (lawful : J → D → Type 0) (jobs : List J) (passes : 
   pub hands_in_at : (slots id : ℕ) (m : M) (v : View J) (k : ℕ) (j : J) (d : D) → m ≡ (v, (k, Done d) ∷ [])
       → 0 < v.weight → v.held ≡ Some k → get_elem? v.jobs k ≡ some j → lawful j d
       → Allows Lawful slots id m k (λ _. 2) (λ _. HandingIn (step slots k 2 0 none) m 2)
-  hands_in_at slots id m v k j d e live has is fair = subst (λ (x : M). Allows Lawful slots id x k (λ _. 2) (λ _. HandingIn (step slots k 2 0 none) x 2)) (sym e) (hands_in slots id v k j d live has is fair)
+  hands_in_at slots id m v k j d e live has is fair =
+      subst (λ (x : M). Allows Lawful slots id x k (λ _. 2) (λ _. HandingIn (step slots k 2 0 none) x 2)) (sym e)
+      (hands_in slots id v k j d live has is fair)
 
   -- the first seat gives one pass away
   pub divides : (id : ℕ) (v : View J) → 1 < v.weight → Splits Lawful id v (without_one v) (one_of v)
   divides id v many s r at =
       let old = r.each_view id v at in let vs : List (View J) = set s.views id (without_one v) in
-      let both : (g : View J → ℕ) → sum_by g (vs ++ one_of v ∷ []) + g v ≡ sum_by g s.views + g (without_one v) + g (one_of v)
+      let both : (g : View J → ℕ) → sum_by g (vs ++ one_of v ∷ []) + g v
+          ≡ sum_by g s.views + g (without_one v) + g (one_of v)
       = λ g. omega (arith, sum_by-append g vs (one_of v ∷ []), sum_by-set g s.views id v (without_one v) at) in
       record {
         words = r.words;
@@ -237,7 +278,8 @@ module _ {J D : Type 0} (lawful : J → D → Type 0) (jobs : List J) (passes : 
               spent_drawn = λ z. absurd (omega arith);
               spent_held = λ z. absurd (omega arith);
             }))
-            (λ (q : (by ≢ id) × (get_elem? s.views by ≡ some u)). r.each_view by u q.1) (at_set s.views id by (without_one v) u t))
+            (λ (q : (by ≢ id) × (get_elem? s.views by ≡ some u)). r.each_view by u q.1)
+                (at_set s.views id by (without_one v) u t))
             (λ (t : one_of v ≡ u). subst (IsViewOf jobs s.words) t (record {
               same_jobs = λ _. old.same_jobs (omega arith);
               within = λ _. omega arith;
@@ -256,7 +298,8 @@ module _ {J D : Type 0} (lawful : J → D → Type 0) (jobs : List J) (passes : 
       → Joins Lawful id v other w (united v w) spent
   unites id v other w live free s r at apart them =
       let old = r.each_view id v at in let vs : List (View J) = set s.views id (united v w) in
-      let both : (g : View J → ℕ) → sum_by g (set vs other spent) + g w + g v ≡ sum_by g s.views + g (united v w) + g spent
+      let both : (g : View J → ℕ) → sum_by g (set vs other spent) + g w + g v
+          ≡ sum_by g s.views + g (united v w) + g spent
       = λ g. omega (arith, sum_by-set g s.views id v (united v w) at, sum_by-set g vs other w spent them) in
       record {
         words = r.words;
@@ -280,7 +323,8 @@ module _ {J D : Type 0} (lawful : J → D → Type 0) (jobs : List J) (passes : 
               spent_drawn = λ z. absurd (omega arith);
               spent_held = λ z. absurd (omega arith);
             }))
-            (λ (q : (by ≢ id) × (get_elem? s.views by ≡ some u)). r.each_view by u q.1) (at_set s.views id by (united v w) u t.1))
+            (λ (q : (by ≢ id) × (get_elem? s.views by ≡ some u)). r.each_view by u q.1)
+                (at_set s.views id by (united v w) u t.1))
             (at_set vs other by spent u is);
         held = λ k. omega (arith, both (holds_one k), r.held k, ap (λ o. one_if (is_held k o)) free);
         drawn = λ k. omega (arith, both (λ u. times k u.drawn), r.drawn k, times-append k v.drawn w.drawn);
@@ -301,7 +345,8 @@ module _ {J D : Type 0} (lawful : J → D → Type 0) (jobs : List J) (passes : 
       out = λ e. absurd (omega (arith, zeros k));
       done = λ e. absurd (omega (arith, zeros k));
     };
-    each_view = λ by u at. ⊎_elim (λ (t : get_elem? [] by ≡ some u). absurd (some-ne-none u (sym t))) (λ (t : whole jobs passes ≡ u). subst (IsViewOf jobs ws) t (record {
+    each_view = λ by u at. ⊎_elim (λ (t : get_elem? [] by ≡ some u). absurd (some-ne-none u (sym t)))
+        (λ (t : whole jobs passes ≡ u). subst (IsViewOf jobs ws) t (record {
       same_jobs = λ _. refl;
       within = λ _. omega arith;
       tried = λ _ i l. absurd (omega arith);
@@ -315,7 +360,8 @@ module _ {J D : Type 0} (lawful : J → D → Type 0) (jobs : List J) (passes : 
 
   -- each slot has a lawful result of its job
   abbrev AllDone : List (Slot J D) → Type 0
-  AllDone xs = (length xs ≡ length jobs) × ((k : ℕ) (j : J) → get_elem? jobs k ≡ some j → (d : D) × (get_elem? xs k ≡ some (Done d)) × lawful j d)
+  AllDone xs = (length xs ≡ length jobs)
+      × ((k : ℕ) (j : J) → get_elem? jobs k ≡ some j → (d : D) × (get_elem? xs k ≡ some (Done d)) × lawful j d)
 
   -- a word that is neither 0 nor 1 is 2
   word_two : (w : ℕ) → w ≤ 2 → w ≢ 0 → w ≢ 1 → w ≡ 2
@@ -326,27 +372,37 @@ module _ {J D : Type 0} (lawful : J → D → Type 0) (jobs : List J) (passes : 
   drawn_once zero n = absurd (n refl)
   drawn_once (suc w) n = refl
 
-  -- the last seat stands for all passes, has tried every word and holds nothing: every result is in, and it drew each number once
+  -- the last seat stands for all passes, has tried every word and holds nothing: every result is in, and it drew each
+  -- number once
   pub closes : (id : ℕ) (v : View J) (ws : List ℕ) (xs : List (Slot J D)) → Final (Seen Lawful id v) ws xs
       → v.weight ≡ passes → 0 < passes → v.next ≡ length jobs → v.held ≡ None
       → AllDone xs × HoldsEachOnce (length jobs) v.drawn
   closes id v ws xs f all some-pass done free =
       let s = f.0 in let r = f.1.0 in let at = f.1.1 in let live : 0 < v.weight = omega arith in
       let knows = r.each_view id v at in
-      let others : (k : ℕ) (u : View J) → k ≢ id → get_elem? s.views k ≡ some u → u.weight ≡ 0 = λ k u ne there. omega (arith, terms_le (λ u. u.weight) s.views id k v u ne at there, r.weights) in
+      let others : (k : ℕ) (u : View J) → k ≢ id → get_elem? s.views k ≡ some u → u.weight
+          ≡ 0 = λ k u ne there. omega (arith, terms_le (λ u. u.weight) s.views id k v u ne at there, r.weights) in
       let drawn_at : (k : ℕ) → times k v.drawn ≡ draws_at (get_or s.words k 0) = λ k.
-      sym (sole (λ u. times k u.drawn) s.views id v at (λ i u ne there. ap (times k) ((r.each_view i u there).spent_drawn (others i u ne there)))) ∙ r.drawn k in
+      sym (sole (λ u. times k u.drawn) s.views id v at
+          (λ i u ne there. ap (times k) ((r.each_view i u there).spent_drawn (others i u ne there)))) ∙ r.drawn k in
       let out_at : (k : ℕ) → holders_at (get_or s.words k 0) ≡ 0 = λ k.
-      sym (r.held k) ∙ (sole (holds_one k) s.views id v at (λ i u ne there. ap (λ o. one_if (is_held k o)) ((r.each_view i u there).spent_held (others i u ne there))) ∙ ap (λ o. one_if (is_held k o)) free) in
+      sym (r.held k) ∙ (sole (holds_one k) s.views id v at
+          (λ i u ne there. ap (λ o. one_if (is_held k o)) ((r.each_view i u there).spent_held (others i u ne there)))
+          ∙ ap (λ o. one_if (is_held k o)) free) in
       let deep = r.slots in let wide = r.words in let long = f.3 in (
         (
           omega arith,
           λ k j is. let inside = inside_of jobs k j is in
-              let ended = (r.each_slot k j is).done (word_two (get_or s.words k 0) (r.at_most_two k) (knows.tried live k (omega arith)) (λ e. omega (arith, out_at k, ap holders_at e))) in
+              let ended =
+                  (r.each_slot k j is).done
+                  (word_two (get_or s.words k 0) (r.at_most_two k) (knows.tried live k (omega arith))
+                  (λ e. omega (arith, out_at k, ap holders_at e))) in
               (ended.0, f.4 k (Done ended.0) ended.1, ended.2),
         ),
         record {
           once = λ k near. drawn_at k ∙ drawn_once (get_or s.words k 0) (knows.tried live k (omega arith));
-          no_other = λ k far. drawn_at k ∙ ap draws_at (dite (ℕ_discrete k (length jobs)) (λ e. ap (λ (y : ℕ). get_or s.words y 0) e ∙ r.further) (λ ne. past s.words k (omega arith)));
+          no_other = λ k far. drawn_at k
+              ∙ ap draws_at (dite (ℕ_discrete k (length jobs)) (λ e. ap (λ (y : ℕ). get_or s.words y 0) e ∙ r.further)
+              (λ ne. past s.words k (omega arith)));
         },
       )

@@ -12,7 +12,8 @@ module _ {A : Type 0} (g : A → ℕ) where
       → sum_by g (set l j w) + g v ≡ sum_by g l + g w
   sum_by-set [] j v w e = absurd (some-ne-none v (sym e))
   sum_by-set (x ∷ xs) zero v w e = omega (arith, ap g (some-injective x v e), sum_by-cons g x xs, sum_by-cons g w xs)
-  sum_by-set (x ∷ xs) (suc j) v w e = omega (arith, sum_by-set xs j v w e, sum_by-cons g x xs, sum_by-cons g x (set xs j w))
+  sum_by-set (x ∷ xs) (suc j) v w e =
+      omega (arith, sum_by-set xs j v w e, sum_by-cons g x xs, sum_by-cons g x (set xs j w))
 
   -- no term is above the sum
   pub term_le : (l : List A) (j : ℕ) (v : A) → get_elem? l j ≡ some v → g v ≤ sum_by g l
@@ -25,9 +26,12 @@ module _ {A : Type 0} (g : A → ℕ) where
       → g v + g u ≤ sum_by g l
   terms_le [] j k v u n e d = absurd (some-ne-none v (sym e))
   terms_le (x ∷ xs) zero zero v u n e d = absurd (n refl)
-  terms_le (x ∷ xs) zero (suc k) v u n e d = omega (arith, ap g (some-injective x v e), term_le xs k u d, sum_by-cons g x xs)
-  terms_le (x ∷ xs) (suc j) zero v u n e d = omega (arith, ap g (some-injective x u d), term_le xs j v e, sum_by-cons g x xs)
-  terms_le (x ∷ xs) (suc j) (suc k) v u n e d = omega (arith, terms_le xs j k v u (λ h. n (ap suc h)) e d, sum_by-cons g x xs)
+  terms_le (x ∷ xs) zero (suc k) v u n e d =
+      omega (arith, ap g (some-injective x v e), term_le xs k u d, sum_by-cons g x xs)
+  terms_le (x ∷ xs) (suc j) zero v u n e d =
+      omega (arith, ap g (some-injective x u d), term_le xs j v e, sum_by-cons g x xs)
+  terms_le (x ∷ xs) (suc j) (suc k) v u n e d =
+      omega (arith, terms_le xs j k v u (λ h. n (ap suc h)) e d, sum_by-cons g x xs)
 
   -- a sum of zeros is 0
   sum_by-zeros : (l : List A) → ((k : ℕ) (u : A) → get_elem? l k ≡ some u → g u ≡ 0) → sum_by g l ≡ 0
@@ -38,8 +42,12 @@ module _ {A : Type 0} (g : A → ℕ) where
   pub sole : (l : List A) (j : ℕ) (v : A) → get_elem? l j ≡ some v
       → ((k : ℕ) (u : A) → k ≢ j → get_elem? l k ≡ some u → g u ≡ 0) → sum_by g l ≡ g v
   sole [] j v e z = absurd (some-ne-none v (sym e))
-  sole (x ∷ xs) zero v e z = omega (arith, ap g (some-injective x v e), sum_by-zeros xs (λ k u d. z (suc k) u (λ h. omega arith) d), sum_by-cons g x xs)
-  sole (x ∷ xs) (suc j) v e z = omega (arith, z 0 x (λ h. omega arith) refl, sole xs j v e (λ k u n d. z (suc k) u (λ h. n (omega arith)) d), sum_by-cons g x xs)
+  sole (x ∷ xs) zero v e z =
+      omega (arith, ap g (some-injective x v e), sum_by-zeros xs (λ k u d. z (suc k) u (λ h. omega arith) d),
+      sum_by-cons g x xs)
+  sole (x ∷ xs) (suc j) v e z =
+      omega (arith, z 0 x (λ h. omega arith) refl, sole xs j v e (λ k u n d. z (suc k) u (λ h. n (omega arith)) d),
+      sum_by-cons g x xs)
 
 -- 1 where a test is true, as `count_by` adds it
 abbrev pub one_if : Bool → ℕ

@@ -14,7 +14,8 @@ use lib.ListN.{get_elem?}
 pub by_place : (ws : List ℕ) (i n : ℕ) (P : ℕ → ℕ → Type 0) → i < length ws → P i n
     → ((k : ℕ) → k ≢ i → P k (get_or ws k 0)) → (k : ℕ) → P k (get_or (set ws i n) k 0)
 by_place ws i n P inside here others k = dite (ℕ_discrete k i)
-    (λ e. subst (λ (x : ℕ). P x (get_or (set ws i n) x 0)) (sym e) (subst (P i) (sym (get_or-set_same ws i n 0 inside)) here))
+    (λ e. subst (λ (x : ℕ). P x (get_or (set ws i n) x 0)) (sym e)
+        (subst (P i) (sym (get_or-set_same ws i n 0 inside)) here))
     (λ ne. subst (P k) (sym (get_or-set_other ws i k n 0 ne)) (others k ne))
 
 -- past the end of a list of numbers there is 0
@@ -77,7 +78,8 @@ pub each_pushed : {A : Type 0} (P : ℕ → A → Type 0) (l now : List A) (a : 
     → length l ≡ n → P n a
     → ((k : ℕ) (b : A) → slice_get l k ≡ Some b → P k b) → (k : ℕ) (b : A) → slice_get now k ≡ Some b → P k b
 each_pushed P l now a n is long last others k b at = ⊎_elim (λ t. others k b t)
-    (λ t. subst (P k) t.1 (subst (λ (m : ℕ). P m a) (sym (t.0 ∙ long)) last)) (get_snoc l a b k (ap (λ m. slice_get m k) (sym is) ∙ at))
+    (λ t. subst (P k) t.1 (subst (λ (m : ℕ). P m a) (sym (t.0 ∙ long)) last))
+        (get_snoc l a b k (ap (λ m. slice_get m k) (sym is) ∙ at))
 
 -- a place that was set to false is false, also past the end
 set_false : (l : List Bool) (i : ℕ) → get_or (set l i false) i false ≡ false
@@ -88,5 +90,6 @@ set_false (x ∷ xs) (suc i) = set_false xs i
 -- where the places below i are false, and place i is set to false, so are those below i + 1
 pub false_below : (l now : List Bool) (i : ℕ) → now ≡ set l i false
     → ((k : ℕ) → k < i → get_or l k false ≡ false) → (k : ℕ) → k < i + 1 → get_or now k false ≡ false
-false_below l now i is below k h = ap (λ m. get_or m k false) is ∙ dite (ℕ_discrete k i) (λ e. ap (λ n. get_or (set l i false) n false) e ∙ set_false l i)
+false_below l now i is below k h = ap (λ m. get_or m k false) is
+    ∙ dite (ℕ_discrete k i) (λ e. ap (λ n. get_or (set l i false) n false) e ∙ set_false l i)
     (λ ne. get_or-set_other l i k false false ne ∙ below k (omega arith))

@@ -7,16 +7,20 @@ use Rattle.msg_buffer.proofs.Histories.{current-stamped, gone-stamped, kept, kep
 use Rattle.msg_buffer.proofs.Standing.{oldest_and_present}
 
 module _ {M : Type 0} where
-  stamps-stamped_then : (low u high : ℕ) (ms : List M) (es : List (Entry M)) → low ≤ u → HasRisingStamps u es high → HasRisingStamps low es high
+  stamps-stamped_then : (low u high : ℕ) (ms : List M) (es : List (Entry M)) → low ≤ u → HasRisingStamps u es high
+      → HasRisingStamps low es high
       → HasRisingStamps low (stamped u ms ++ es) high
   stamps-stamped_then low u high [] es le rise rise' = rise'
-  stamps-stamped_then low u high (m ∷ ms) es le rise rise' = (le, stamps-stamped_then u u high ms es (omega arith) rise rise)
+  stamps-stamped_then low u high (m ∷ ms) es le rise rise' =
+      (le, stamps-stamped_then u u high ms es (omega arith) rise rise)
 
-  stamps_lower : (low lower high : ℕ) (es : List (Entry M)) → lower ≤ low → HasRisingStamps low es high → HasRisingStamps lower es high
+  stamps_lower : (low lower high : ℕ) (es : List (Entry M)) → lower ≤ low → HasRisingStamps low es high
+      → HasRisingStamps lower es high
   stamps_lower low lower high [] le rise = omega arith
   stamps_lower low lower high (e ∷ es) le rise = (omega arith, rise.1)
 
-  -- as many messages of any one value as were dropped, two updates ago; then the older half, one update ago; then the newer half
+  -- as many messages of any one value as were dropped, two updates ago; then the older half, one update ago; then the
+  -- newer half
   abbrev lost : M → Kept M → List (Entry M)
   lost m k = stamped 0 (replicate k.oldest m)
 
@@ -29,43 +33,55 @@ module _ {M : Type 0} where
   length-lost : (m : M) (k : Kept M) → length (lost m k) ≡ k.oldest
   length-lost m k = length-stamped 0 (replicate k.oldest m) ∙ length-replicate k.oldest m
 
-  length-newer_messages : (k : Kept M) (xs : List (Instance M)) (u : ℕ) → length (stamped u (map message_of xs)) ≡ length xs
+  length-newer_messages : (k : Kept M) (xs : List (Instance M)) (u : ℕ) → length (stamped u (map message_of xs))
+      ≡ length xs
   length-newer_messages k xs u = length-stamped u (map message_of xs) ∙ length-map xs message_of
 
   pub stands_for_some : (m : M) (k : Kept M) → kept_count k ≤ k.limit
-      → k.older ≡ numbered k.oldest (map message_of k.older) → k.newer ≡ numbered (k.oldest + length k.older) (map message_of k.newer)
+      → k.older ≡ numbered k.oldest (map message_of k.older) → k.newer
+      ≡ numbered (k.oldest + length k.older) (map message_of k.newer)
       → StandsFor k (history_of m k)
   stands_for_some m k room older newer =
       let h = history_of m k in
       let a = map message_of k.older in let b = map message_of k.newer in
       let at : 0 + length (lost m k) ≡ k.oldest = ap (λ n. 0 + n) (length-lost m k) ∙ omega arith in
-      let at' : k.oldest + length (stamped 1 a) ≡ k.oldest + length k.older = ap (λ n. k.oldest + n) (length-newer_messages k k.older 1) in
+      let at' : k.oldest + length (stamped 1 a)
+          ≡ k.oldest + length k.older = ap (λ n. k.oldest + n) (length-newer_messages k k.older 1) in
       let present_is : present h ≡ kept_instances k =
       kept-append (is_present h) 0 (lost m k) (last k)
-      ∙ ap (λ xs. xs ++ kept (is_present h) (0 + length (lost m k)) (last k)) (gone-stamped h 0 0 (replicate k.oldest m) (omega arith))
+      ∙ ap (λ xs. xs ++ kept (is_present h) (0 + length (lost m k)) (last k))
+      (gone-stamped h 0 0 (replicate k.oldest m) (omega arith))
       ∙ ap (λ n. kept (is_present h) n (last k)) at
       ∙ kept-append (is_present h) k.oldest (stamped 1 a) (stamped 2 b)
-      ∙ ap (λ xs. xs ++ kept (is_present h) (k.oldest + length (stamped 1 a)) (stamped 2 b)) (present-stamped h k.oldest 1 a (omega arith) (omega arith) ∙ sym older)
+      ∙ ap (λ xs. xs ++ kept (is_present h) (k.oldest + length (stamped 1 a)) (stamped 2 b))
+      (present-stamped h k.oldest 1 a (omega arith) (omega arith) ∙ sym older)
       ∙ ap (λ n. k.older ++ kept (is_present h) n (stamped 2 b)) at'
-      ∙ ap (λ xs. k.older ++ xs) (present-stamped h (k.oldest + length k.older) 2 b (omega arith) (omega arith) ∙ sym newer) in
+      ∙ ap (λ xs. k.older ++ xs) (present-stamped h (k.oldest + length k.older) 2 b (omega arith) (omega arith)
+      ∙ sym newer) in
       let current_is : current h ≡ k.newer =
       kept-append (is_current h) 0 (lost m k) (last k)
-      ∙ ap (λ xs. xs ++ kept (is_current h) (0 + length (lost m k)) (last k)) (not_current-stamped h 0 0 (replicate k.oldest m) (omega arith))
+      ∙ ap (λ xs. xs ++ kept (is_current h) (0 + length (lost m k)) (last k))
+      (not_current-stamped h 0 0 (replicate k.oldest m) (omega arith))
       ∙ ap (λ n. kept (is_current h) n (last k)) at
       ∙ kept-append (is_current h) k.oldest (stamped 1 a) (stamped 2 b)
-      ∙ ap (λ xs. xs ++ kept (is_current h) (k.oldest + length (stamped 1 a)) (stamped 2 b)) (not_current-stamped h k.oldest 1 a (omega arith))
+      ∙ ap (λ xs. xs ++ kept (is_current h) (k.oldest + length (stamped 1 a)) (stamped 2 b))
+      (not_current-stamped h k.oldest 1 a (omega arith))
       ∙ ap (λ n. kept (is_current h) n (stamped 2 b)) at'
       ∙ (current-stamped h (k.oldest + length k.older) 2 b (omega arith) refl ∙ sym newer) in
       let long : count h ≡ kept_count k =
       length-append (lost m k) (last k) ∙ ap (λ n. length (lost m k) + n) (length-append (stamped 1 a) (stamped 2 b))
       ∙ omega (arith, length-lost m k, length-newer_messages k k.older 1, length-newer_messages k k.newer 2) in
       let all = oldest_and_present h in
-      let shown : length (present h) ≡ length k.older + length k.newer = ap length present_is ∙ length-append k.older k.newer in
+      let shown : length (present h) ≡ length k.older + length k.newer = ap length present_is
+          ∙ length-append k.older k.newer in
       let end : HasRisingStamps 2 (stamped 2 b) 2 = stamps-stamped 2 b in
-      let middle : HasRisingStamps 1 (last k) 2 = stamps-stamped_then 1 1 2 a (stamped 2 b) (omega arith) (stamps_lower 2 1 2 (stamped 2 b) (omega arith) end) (stamps_lower 2 1 2 (stamped 2 b) (omega arith) end) in
+      let middle : HasRisingStamps 1 (last k) 2 = stamps-stamped_then 1 1 2 a (stamped 2 b) (omega arith)
+          (stamps_lower 2 1 2 (stamped 2 b) (omega arith) end) (stamps_lower 2 1 2 (stamped 2 b) (omega arith) end) in
       let low : HasRisingStamps 0 (last k) 2 = stamps_lower 1 0 2 (last k) (omega arith) middle in
       record {
-        sound = record { stamps = stamps-stamped_then 0 0 2 (replicate k.oldest m) (last k) (omega arith) low low; floor = omega arith; within_limit = omega arith };
+        sound =
+            record { stamps = stamps-stamped_then 0 0 2 (replicate k.oldest m) (last k) (omega arith) low low;
+            floor = omega arith; within_limit = omega arith };
         limit = refl;
         count = sym long;
         oldest = omega arith;

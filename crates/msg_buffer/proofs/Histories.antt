@@ -14,11 +14,13 @@ module _ {M : Type 0} where
   abbrev pub dropped : (ℕ × Entry M → Bool) → ℕ → List (Entry M) → ℕ
   dropped test n es = length (filter (λ x. not (test x)) (enumerate_from n es))
 
-  pub dropped_and_kept : (test : ℕ × Entry M → Bool) (n : ℕ) (es : List (Entry M)) → dropped test n es + length (kept test n es) ≡ length es
+  pub dropped_and_kept : (test : ℕ × Entry M → Bool) (n : ℕ) (es : List (Entry M))
+      → dropped test n es + length (kept test n es) ≡ length es
   dropped_and_kept test n [] = refl
   dropped_and_kept test n (e ∷ es) = grind (arith, dropped_and_kept test (n + 1) es)
 
-  pub kept-append : (test : ℕ × Entry M → Bool) (n : ℕ) (es fs : List (Entry M)) → kept test n (es ++ fs) ≡ kept test n es ++ kept test (n + length es) fs
+  pub kept-append : (test : ℕ × Entry M → Bool) (n : ℕ) (es fs : List (Entry M)) → kept test n (es ++ fs)
+      ≡ kept test n es ++ kept test (n + length es) fs
   kept-append test n [] fs = grind arith
   kept-append test n (e ∷ es) fs = grind (arith, kept-append test (n + 1) es fs)
 
@@ -33,7 +35,8 @@ module _ {M : Type 0} where
   stamps_below low high [] rise = rise
   stamps_below low high (e ∷ es) rise = omega (arith, stamps_below e.stamp high es rise.1)
 
-  pub stamps_later : (low high later : ℕ) (es : List (Entry M)) → high ≤ later → HasRisingStamps low es high → HasRisingStamps low es later
+  pub stamps_later : (low high later : ℕ) (es : List (Entry M)) → high ≤ later → HasRisingStamps low es high
+      → HasRisingStamps low es later
   stamps_later low high later [] le rise = omega arith
   stamps_later low high later (e ∷ es) le rise = (rise.0, stamps_later e.stamp high later es le rise.1)
 
@@ -41,7 +44,8 @@ module _ {M : Type 0} where
   stamps-stamped u [] = omega arith
   stamps-stamped u (m ∷ ms) = (omega arith, stamps-stamped u ms)
 
-  pub stamps-append : (low u : ℕ) (es : List (Entry M)) (ms : List M) → HasRisingStamps low es u → HasRisingStamps low (es ++ stamped u ms) u
+  pub stamps-append : (low u : ℕ) (es : List (Entry M)) (ms : List M) → HasRisingStamps low es u
+      → HasRisingStamps low (es ++ stamped u ms) u
   stamps-append low u [] [] rise = rise
   stamps-append low u [] (m ∷ ms) rise = (rise, stamps-stamped u ms)
   stamps-append low u (e ∷ es) ms rise = (rise.0, stamps-append e.stamp u es ms rise.1)
@@ -53,61 +57,77 @@ module _ {M : Type 0} where
   -- ---- an update
 
   -- an entry that was current is present after one more update, and no other is
-  present_after_update : (h : History M) (n : ℕ) (e : Entry M) → e.stamp ≤ h.updates → is_present (update h) (n, e) ≡ is_current h (n, e)
+  present_after_update : (h : History M) (n : ℕ) (e : Entry M) → e.stamp ≤ h.updates → is_present (update h) (n, e)
+      ≡ is_current h (n, e)
   present_after_update h n e le = grind (arith, nat_tests)
 
   pub kept_after_update : (h : History M) (n low : ℕ) (es : List (Entry M)) → HasRisingStamps low es h.updates
       → kept (is_present (update h)) n es ≡ kept (is_current h) n es
   kept_after_update h n low [] rise = refl
-  kept_after_update h n low (e ∷ es) rise = grind (arith, kept_alike, present_after_update, stamps_below, kept_after_update h (n + 1) e.stamp es rise.1)
+  kept_after_update h n low (e ∷ es) rise =
+      grind (arith, kept_alike, present_after_update, stamps_below, kept_after_update h (n + 1) e.stamp es rise.1)
 
   pub none_current_after_update : (h : History M) (n low : ℕ) (es : List (Entry M)) → HasRisingStamps low es h.updates
       → kept (is_current (update h)) n es ≡ []
   none_current_after_update h n low [] rise = refl
-  none_current_after_update h n low (e ∷ es) rise = grind (arith, nat_tests, stamps_below, none_current_after_update h (n + 1) e.stamp es rise.1)
+  none_current_after_update h n low (e ∷ es) rise =
+      grind (arith, nat_tests, stamps_below, none_current_after_update h (n + 1) e.stamp es rise.1)
 
   -- ---- a write
 
   -- of messages that were all written at once
-  pub present-stamped : (h : History M) (n u : ℕ) (ms : List M) → h.floor ≤ n → h.updates ≤ u + 1 → kept (is_present h) n (stamped u ms) ≡ numbered n ms
+  pub present-stamped : (h : History M) (n u : ℕ) (ms : List M) → h.floor ≤ n → h.updates ≤ u + 1
+      → kept (is_present h) n (stamped u ms) ≡ numbered n ms
   present-stamped h n u [] above young = refl
-  present-stamped h n u (m ∷ ms) above young = grind (arith, nat_tests, present-stamped h (n + 1) u ms (omega arith) young)
+  present-stamped h n u (m ∷ ms) above young =
+      grind (arith, nat_tests, present-stamped h (n + 1) u ms (omega arith) young)
 
-  pub current-stamped : (h : History M) (n u : ℕ) (ms : List M) → h.floor ≤ n → u ≡ h.updates → kept (is_current h) n (stamped u ms) ≡ numbered n ms
+  pub current-stamped : (h : History M) (n u : ℕ) (ms : List M) → h.floor ≤ n → u ≡ h.updates
+      → kept (is_current h) n (stamped u ms) ≡ numbered n ms
   current-stamped h n u [] above now = refl
   current-stamped h n u (m ∷ ms) above now = grind (arith, nat_tests, current-stamped h (n + 1) u ms (omega arith) now)
 
-  pub gone-stamped : (h : History M) (n u : ℕ) (ms : List M) → u + 1 < h.updates → kept (is_present h) n (stamped u ms) ≡ []
+  pub gone-stamped : (h : History M) (n u : ℕ) (ms : List M) → u + 1 < h.updates
+      → kept (is_present h) n (stamped u ms) ≡ []
   gone-stamped h n u [] old = refl
   gone-stamped h n u (m ∷ ms) old = grind (arith, nat_tests, gone-stamped h (n + 1) u ms old)
 
-  pub not_current-stamped : (h : History M) (n u : ℕ) (ms : List M) → u < h.updates → kept (is_current h) n (stamped u ms) ≡ []
+  pub not_current-stamped : (h : History M) (n u : ℕ) (ms : List M) → u < h.updates
+      → kept (is_current h) n (stamped u ms) ≡ []
   not_current-stamped h n u [] old = refl
   not_current-stamped h n u (m ∷ ms) old = grind (arith, nat_tests, not_current-stamped h (n + 1) u ms old)
 
   -- ---- a clear
 
-  pub none_present_below : (h : History M) (n : ℕ) (es : List (Entry M)) → n + length es ≤ h.floor → kept (is_present h) n es ≡ []
+  pub none_present_below : (h : History M) (n : ℕ) (es : List (Entry M)) → n + length es ≤ h.floor
+      → kept (is_present h) n es ≡ []
   none_present_below h n [] le = refl
   none_present_below h n (e ∷ es) le = grind (arith, nat_tests, none_present_below h (n + 1) es (omega arith))
 
-  pub none_current_below : (h : History M) (n : ℕ) (es : List (Entry M)) → n + length es ≤ h.floor → kept (is_current h) n es ≡ []
+  pub none_current_below : (h : History M) (n : ℕ) (es : List (Entry M)) → n + length es ≤ h.floor
+      → kept (is_current h) n es ≡ []
   none_current_below h n [] le = refl
   none_current_below h n (e ∷ es) le = grind (arith, nat_tests, none_current_below h (n + 1) es (omega arith))
 
   -- ---- what isn't present is a prefix
 
-  pub all_present : (h : History M) (n low : ℕ) (es : List (Entry M)) → h.floor ≤ n → h.updates ≤ low + 1 → HasRisingStamps low es h.updates
+  pub all_present : (h : History M) (n low : ℕ) (es : List (Entry M)) → h.floor ≤ n → h.updates ≤ low + 1
+      → HasRisingStamps low es h.updates
       → (kept (is_present h) n es ≡ map instance_of (enumerate_from n es)) × (dropped (is_present h) n es ≡ 0)
   all_present h n low [] above young rise = (refl, refl)
-  all_present h n low (e ∷ es) above young rise = grind (arith, nat_tests, all_present h (n + 1) e.stamp es (omega arith) (omega arith) rise.1)
+  all_present h n low (e ∷ es) above young rise =
+      grind (arith, nat_tests, all_present h (n + 1) e.stamp es (omega arith) (omega arith) rise.1)
 
-  pub present_means : (h : History M) (n : ℕ) (e : Entry M) → is_present h (n, e) ≡ true → (h.floor ≤ n) × (h.updates ≤ e.stamp + 1)
+  pub present_means : (h : History M) (n : ℕ) (e : Entry M) → is_present h (n, e) ≡ true → (h.floor ≤ n)
+      × (h.updates ≤ e.stamp + 1)
   present_means h n e is = (grind (arith, nat_tests), grind (arith, nat_tests))
 
-  suffix_step : (h : History M) (n : ℕ) (e : Entry M) (es : List (Entry M)) (b : Bool) → HasRisingStamps e.stamp es h.updates → is_present h (n, e) ≡ b
-      → drop (dropped (is_present h) (n + 1) es) (map instance_of (enumerate_from (n + 1) es)) ≡ kept (is_present h) (n + 1) es
-      → drop (dropped (is_present h) n (e ∷ es)) (map instance_of (enumerate_from n (e ∷ es))) ≡ kept (is_present h) n (e ∷ es)
+  suffix_step : (h : History M) (n : ℕ) (e : Entry M) (es : List (Entry M)) (b : Bool)
+      → HasRisingStamps e.stamp es h.updates → is_present h (n, e) ≡ b
+      → drop (dropped (is_present h) (n + 1) es) (map instance_of (enumerate_from (n + 1) es))
+      ≡ kept (is_present h) (n + 1) es
+      → drop (dropped (is_present h) n (e ∷ es)) (map instance_of (enumerate_from n (e ∷ es)))
+      ≡ kept (is_present h) n (e ∷ es)
   suffix_step h n e es true rise is later = grind (arith, all_present, present_means)
   suffix_step h n e es false rise is later = rw is later
 

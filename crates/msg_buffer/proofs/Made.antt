@@ -12,7 +12,8 @@ module _ {X M : Type 0} (R : X → M → Type 0) where
   one_more (y ∷ xs) [] zero x m within at made is = (subst (λ z. R z m) at is, tt)
   one_more (y ∷ xs) (n ∷ ms) zero x m within at made is = absurd made
   one_more (y ∷ xs) [] (suc i) x m within at made is = absurd made
-  one_more (y ∷ xs) (n ∷ ms) (suc i) x m within at made is = grind (arith, one_more xs ms i x m (omega arith) at made.1 is)
+  one_more (y ∷ xs) (n ∷ ms) (suc i) x m within at made is =
+      grind (arith, one_more xs ms i x m (omega arith) at made.1 is)
 
   pub as_many : (xs : List X) (ms : List M) → AllZip R xs ms → length ms ≡ length xs
   as_many [] [] made = refl

@@ -24,13 +24,16 @@ module _ {M : Type 0} where
   messages-numbered n (x ∷ xs) = ap (λ ys. x ∷ ys) (messages-numbered (n + 1) xs)
 
   -- more messages, numbered on
-  pub numbers-append : (n k : ℕ) (xs : List (Instance M)) (ms : List M) → HasNumbersFrom n xs → k ≡ n + length xs → HasNumbersFrom n (xs ++ numbered k ms)
+  pub numbers-append : (n k : ℕ) (xs : List (Instance M)) (ms : List M) → HasNumbersFrom n xs → k ≡ n + length xs
+      → HasNumbersFrom n (xs ++ numbered k ms)
   numbers-append n k xs ms has at = grind (arith, length-map, map-append, messages-numbered, numbered-append)
 
   -- a history's instances are its messages, numbered
-  pub instances-numbered : (n : ℕ) (es : List (Entry M)) → map instance_of (enumerate_from n es) ≡ numbered n (map (λ e. e.message) es)
+  pub instances-numbered : (n : ℕ) (es : List (Entry M)) → map instance_of (enumerate_from n es)
+      ≡ numbered n (map (λ e. e.message) es)
   instances-numbered n [] = refl
-  instances-numbered n (e ∷ es) = ap (λ xs. record { id = record { 0 = n }; message = e.message } ∷ xs) (instances-numbered (n + 1) es)
+  instances-numbered n (e ∷ es) = ap (λ xs. record { id = record { 0 = n }; message = e.message } ∷ xs)
+      (instances-numbered (n + 1) es)
 
   pub length-instances : (h : History M) → length (instances h) ≡ count h
   length-instances h = grind (arith, instances-numbered, length-map, length-numbered)

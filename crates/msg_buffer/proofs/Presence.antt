@@ -10,25 +10,29 @@ use Rattle.msg_buffer.proofs.Histories.{all_present, dropped, present_is_suffix,
 use Rattle.msg_buffer.proofs.Numbers.{slice_get-drop}
 
 module _ {M : Type 0} where
-  none_dropped : (h : History M) (n : ℕ) (e : Entry M) (es : List (Entry M)) → is_present h (n, e) ≡ true → HasRisingStamps e.stamp es h.updates
+  none_dropped : (h : History M) (n : ℕ) (e : Entry M) (es : List (Entry M)) → is_present h (n, e) ≡ true
+      → HasRisingStamps e.stamp es h.updates
       → dropped (is_present h) n (e ∷ es) ≡ 0
   none_dropped h n e es is rise =
       let means = present_means h n e is in
       rw is (all_present h (n + 1) e.stamp es (omega (arith, means.0)) means.1 rise).1
 
-  dropped_are_gone : (h : History M) (n low : ℕ) (es : List (Entry M)) (k : ℕ) (e : Entry M) → HasRisingStamps low es h.updates
+  dropped_are_gone : (h : History M) (n low : ℕ) (es : List (Entry M)) (k : ℕ) (e : Entry M)
+      → HasRisingStamps low es h.updates
       → k < dropped (is_present h) n es → slice_get es k ≡ Some e → is_present h (n + k, e) ≡ false
   dropped_are_gone h n low [] k e rise below at = absurd (omega arith)
   dropped_are_gone h n low (d ∷ es) zero e rise below at = grind (arith, cases_Bool, none_dropped, same_Some)
   dropped_are_gone h n low (d ∷ es) (suc k) e rise below at = elim (cases_Bool (is_present h (n, d))) [
-    | inl is ↦ let none : dropped (is_present h) n (d ∷ es) ≡ 0 = none_dropped h n d es is rise.1 in absurd (omega arith)
+    | inl is ↦ let none : dropped (is_present h) n (d ∷ es)
+        ≡ 0 = none_dropped h n d es is rise.1 in absurd (omega arith)
     | inr is ↦
         let here : dropped (is_present h) n (d ∷ es) ≡ suc (dropped (is_present h) (n + 1) es) = rw is refl in
         let same : n + suc k ≡ n + 1 + k = omega arith in
         rw same (dropped_are_gone h (n + 1) d.stamp es k e rise.1 (omega arith) at)
   ]
 
-  others_are_present : (h : History M) (n low : ℕ) (es : List (Entry M)) (k : ℕ) (e : Entry M) → HasRisingStamps low es h.updates
+  others_are_present : (h : History M) (n low : ℕ) (es : List (Entry M)) (k : ℕ) (e : Entry M)
+      → HasRisingStamps low es h.updates
       → dropped (is_present h) n es ≤ k → slice_get es k ≡ Some e → is_present h (n + k, e) ≡ true
   others_are_present h n low [] k e rise above at = absurd (cc)
   others_are_present h n low (d ∷ es) zero e rise above at = grind (arith, cases_Bool, same_Some)
@@ -44,12 +48,14 @@ module _ {M : Type 0} where
             rw same (others_are_present h (n + 1) d.stamp es k e rise.1 (omega arith) at)
       ]
 
-  pub gone_below_oldest : (h : History M) (k : ℕ) (e : Entry M) → IsSound h → k < oldest h → slice_get h.entries k ≡ Some e → is_present h (k, e) ≡ false
+  pub gone_below_oldest : (h : History M) (k : ℕ) (e : Entry M) → IsSound h → k < oldest h → slice_get h.entries k
+      ≡ Some e → is_present h (k, e) ≡ false
   gone_below_oldest h k e sound below at =
       let same : 0 + k ≡ k = omega arith in
       rw (← same) (dropped_are_gone h 0 0 h.entries k e sound.stamps below at)
 
-  pub present_from_oldest : (h : History M) (k : ℕ) (e : Entry M) → IsSound h → oldest h ≤ k → slice_get h.entries k ≡ Some e → is_present h (k, e) ≡ true
+  pub present_from_oldest : (h : History M) (k : ℕ) (e : Entry M) → IsSound h → oldest h ≤ k → slice_get h.entries k
+      ≡ Some e → is_present h (k, e) ≡ true
   present_from_oldest h k e sound above at =
       let same : 0 + k ≡ k = omega arith in
       rw (← same) (others_are_present h 0 0 h.entries k e sound.stamps above at)
@@ -65,10 +71,12 @@ module _ {M : Type 0} where
 
   -- ---- the message of a number
 
-  slice_get-instances : (n : ℕ) (es : List (Entry M)) (k : ℕ) → slice_get (map instance_of (enumerate_from n es)) k ≡ option_map (λ e. instance_of (n + k, e)) (slice_get es k)
+  slice_get-instances : (n : ℕ) (es : List (Entry M)) (k : ℕ) → slice_get (map instance_of (enumerate_from n es)) k
+      ≡ option_map (λ e. instance_of (n + k, e)) (slice_get es k)
   slice_get-instances n [] k = refl
   slice_get-instances n (e ∷ es) zero = let same : n + 0 ≡ n = omega arith in rw same refl
-  slice_get-instances n (e ∷ es) (suc k) = let same : n + suc k ≡ n + 1 + k = omega arith in rw same (slice_get-instances (n + 1) es k)
+  slice_get-instances n (e ∷ es) (suc k) = let same : n + suc k
+      ≡ n + 1 + k = omega arith in rw same (slice_get-instances (n + 1) es k)
 
   -- the kept messages are the last ones
   pub kept_stands : (k : Kept M) (h : History M) → StandsFor k h → kept_instances k ≡ drop (oldest h) (instances h)
@@ -76,7 +84,9 @@ module _ {M : Type 0} where
 
   found_in_history : (h : History M) (n : ℕ) (e : Option (Entry M)) → slice_get h.entries n ≡ e → IsSound h
       → option_map message_of (get_from (oldest h) (drop (oldest h) (instances h)) n) ≡ get h n
-  found_in_history h n e is sound = grind (arith, cases_Bool, gone_below_oldest, nat_tests, present_from_oldest, slice_get-drop, slice_get-instances)
+  found_in_history h n e is sound =
+      grind (arith, cases_Bool, gone_below_oldest, nat_tests, present_from_oldest, slice_get-drop, slice_get-instances)
 
-  pub get_stands : (k : Kept M) (h : History M) (n : ℕ) → StandsFor k h → option_map message_of (get_from k.oldest (kept_instances k) n) ≡ get h n
+  pub get_stands : (k : Kept M) (h : History M) (n : ℕ) → StandsFor k h
+      → option_map message_of (get_from k.oldest (kept_instances k) n) ≡ get h n
   get_stands k h n s = rw (s.oldest, kept_stands k h s) (found_in_history h n (slice_get h.entries n) refl s.sound)

@@ -25,7 +25,9 @@ module _ {M : Type 0} where
       let same : length (present (update h)) ≡ length k.newer = ap length (now ∙ sym s.current) in
       let old = s.count in
       record {
-        sound = record { stamps = stamps_later 0 h.updates (suc h.updates) h.entries (omega arith) s.sound.stamps; floor = s.sound.floor; within_limit = s.sound.within_limit };
+        sound =
+            record { stamps = stamps_later 0 h.updates (suc h.updates) h.entries (omega arith) s.sound.stamps;
+            floor = s.sound.floor; within_limit = s.sound.within_limit };
         limit = is.limit ∙ s.limit;
         count = rw (is.older, is.newer) (omega (arith, is.oldest));
         oldest = omega (arith, is.oldest);
@@ -45,7 +47,8 @@ module _ {M : Type 0} where
   abbrev added : List M → History M → History M
   added ms h = record h { entries = h.entries ++ stamped h.updates ms }
 
-  stands_added : (ms : List M) (k k' : Kept M) (h : History M) → IsWritten ms k k' → count h + length ms ≤ h.limit → StandsFor k h → StandsFor k' (added ms h)
+  stands_added : (ms : List M) (k k' : Kept M) (h : History M) → IsWritten ms k k' → count h + length ms ≤ h.limit
+      → StandsFor k h → StandsFor k' (added ms h)
   stands_added ms k k' h is room s =
       let new = stamped h.updates ms in
       let long = length-append h.entries new in
@@ -54,24 +57,31 @@ module _ {M : Type 0} where
       let number : kept_count k ≡ count h = old in
       let here : present (added ms h) ≡ present h ++ numbered (kept_count k) ms =
       kept-append (is_present h) 0 h.entries new
-      ∙ ap (λ xs. present h ++ xs) (present-stamped h (0 + count h) h.updates ms (omega arith) (omega arith) ∙ ap (λ (n : ℕ). numbered n ms) (omega arith)) in
+      ∙ ap (λ xs. present h ++ xs) (present-stamped h (0 + count h) h.updates ms (omega arith) (omega arith)
+      ∙ ap (λ (n : ℕ). numbered n ms) (omega arith)) in
       let now : current (added ms h) ≡ current h ++ numbered (kept_count k) ms =
       kept-append (is_current h) 0 h.entries new
-      ∙ ap (λ xs. current h ++ xs) (current-stamped h (0 + count h) h.updates ms (omega arith) refl ∙ ap (λ (n : ℕ). numbered n ms) (omega arith)) in
+      ∙ ap (λ xs. current h ++ xs) (current-stamped h (0 + count h) h.updates ms (omega arith) refl
+      ∙ ap (λ (n : ℕ). numbered n ms) (omega arith)) in
       let more : length (present (added ms h)) ≡ length (present h) + length ms =
-      ap length here ∙ length-append (present h) (numbered (kept_count k) ms) ∙ ap (λ n. length (present h) + n) (length-numbered (kept_count k) ms) in
+      ap length here ∙ length-append (present h) (numbered (kept_count k) ms)
+          ∙ ap (λ n. length (present h) + n) (length-numbered (kept_count k) ms) in
       let all = oldest_and_present h in let all' = oldest_and_present (added ms h) in
       let numbers = length-numbered (kept_count k) ms in
       record {
-        sound = record { stamps = stamps-append 0 h.updates h.entries ms s.sound.stamps; floor = omega arith; within_limit = omega arith };
+        sound =
+            record { stamps = stamps-append 0 h.updates h.entries ms s.sound.stamps; floor = omega arith; within_limit =
+            omega arith };
         limit = is.limit ∙ s.limit;
         count = rw (is.older, is.newer) (omega (arith, length-append k.newer (numbered (kept_count k) ms), is.oldest));
         oldest = omega (arith, is.oldest);
-        present = rw (is.older, is.newer, ← append_assoc) (ap (λ xs. xs ++ numbered (kept_count k) ms) s.present ∙ sym here);
+        present =
+            rw (is.older, is.newer, ← append_assoc) (ap (λ xs. xs ++ numbered (kept_count k) ms) s.present ∙ sym here);
         current = is.newer ∙ ap (λ xs. xs ++ numbered (kept_count k) ms) s.current ∙ sym now;
       }
 
-  pub stands_written : (ms : List M) (k k' : Kept M) (h : History M) → IsWritten ms k k' → kept_count k + length ms ≤ k.limit → StandsFor k h → StandsFor k' (write ms h)
+  pub stands_written : (ms : List M) (k k' : Kept M) (h : History M) → IsWritten ms k k'
+      → kept_count k + length ms ≤ k.limit → StandsFor k h → StandsFor k' (write ms h)
   stands_written ms k k' h is room s =
       let n = s.count in let l = s.limit in
       let fits : count h + length ms ≤ h.limit = omega arith in

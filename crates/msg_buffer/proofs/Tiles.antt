@@ -23,7 +23,8 @@ module _ {M : Type 0} where
   take-at_most (Some k) xs = take-length-take k xs
 
   -- a stretch of so many of the unread messages
-  fits : (h : History M) (place n : ℕ) → IsSound h → n ≤ length (unread h place) → Fits h place (record { missed = oldest h - place; first = first h place; number = n })
+  fits : (h : History M) (place n : ℕ) → IsSound h → n ≤ length (unread h place)
+      → Fits h place (record { missed = oldest h - place; first = first h place; number = n })
   fits h place n sound le =
       let long = length-unread h place in record {
         first = omega arith;

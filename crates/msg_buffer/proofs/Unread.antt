@@ -9,7 +9,8 @@ use Rattle.msg_buffer.proofs.Presence.{kept_stands}
 use Rattle.msg_buffer.proofs.Numbers.{length-instances}
 
 -- the element under a number is the first of those from it on
-pub rest_more : {X : Type 0} (start : ℕ) (xs : List X) (n : ℕ) (x : X) → get_from start xs n ≡ Some x → drop (n - start) xs ≡ x ∷ drop (n + 1 - start) xs
+pub rest_more : {X : Type 0} (start : ℕ) (xs : List X) (n : ℕ) (x : X) → get_from start xs n ≡ Some x
+    → drop (n - start) xs ≡ x ∷ drop (n + 1 - start) xs
 rest_more start xs n x is =
     let above : start ≤ n = grind (arith, nat_tests) in
     let at : slice_get xs (n - start) ≡ Some x = grind (arith, nat_tests) in
@@ -18,11 +19,13 @@ rest_more start xs n x is =
     let later : n - start + 1 ≡ n + 1 - start = omega arith in
     drop_more xs (n - start) x within ∙ ap (λ y. y ∷ drop (n - start + 1) xs) value ∙ ap (λ i. x ∷ drop i xs) later
 
-pub rest_ends : {X : Type 0} (start : ℕ) (xs : List X) (n : ℕ) → start ≤ n → get_from start xs n ≡ None → drop (n - start) xs ≡ []
+pub rest_ends : {X : Type 0} (start : ℕ) (xs : List X) (n : ℕ) → start ≤ n → get_from start xs n ≡ None
+    → drop (n - start) xs ≡ []
 rest_ends start xs n above is = grind (arith, drop_all, nat_tests, none-some, slice_get_cases)
 
 module _ {M : Type 0} where
-  pub unread_stands : (k : Kept M) (h : History M) (place : ℕ) → StandsFor k h → drop (max place k.oldest - k.oldest) (kept_instances k) ≡ unread h place
+  pub unread_stands : (k : Kept M) (h : History M) (place : ℕ) → StandsFor k h
+      → drop (max place k.oldest - k.oldest) (kept_instances k) ≡ unread h place
   unread_stands k h place s =
       let o = s.oldest in
       let at : oldest h + (max place k.oldest - k.oldest) ≡ first h place = omega arith in

@@ -41,7 +41,8 @@ with_values_keeps : (id : Text) (how : Reading) (s : ValueSource) (vs : List Tex
 with_values_keeps id how s vs [] some all = and_from _ _ some refl
 with_values_keeps id how s vs (r ∷ rs) some all =
     let parts = and_parts (has_value r) (have_values rs) all in
-    elim (bytes_eq r.id id) as (λ b. have_values (if b then more_values s vs r ++ rs else r ∷ with_values id how s vs rs) ≡ true) [
+    elim (bytes_eq r.id id) as (λ b. have_values
+        (if b then more_values s vs r ++ rs else r ∷ with_values id how s vs rs) ≡ true) [
       | true ↦ and_from _ _ (longer r.values vs some) parts.1
       | false ↦ and_from _ _ parts.0 (with_values_keeps id how s vs rs some parts.1)
     ]
@@ -59,7 +60,8 @@ without_keeps id (r ∷ rs) all =
 
 -- a use that passes leaves rows that have values
 abbrev Valued : Rule → Type 0
-Valued a = (again : Bool) (vs : List Text) (rows : List Row) → use_passes again a vs rows ≡ true → have_values rows ≡ true
+Valued a = (again : Bool) (vs : List Text) (rows : List Row) → use_passes again a vs rows ≡ true
+    → have_values rows ≡ true
     → have_values (used a vs rows) ≡ true
 
 abbrev EachValued : List Rule → Type 0
@@ -104,10 +106,13 @@ by_id_keeps again (Some a) vs rows fine passes all = fine again vs rows passes a
 settled_keeps : (c : List Rule) (again : Bool) (h : Held) → EachValued c → settle_passes c again h ≡ true
     → have_values h.rows ≡ true → have_values (settled c h).rows ≡ true
 settled_keeps c again h fine passes all =
-    elim h.pending as (λ p. option_map_or (λ (p : Text × List Text). option_map_or (λ a. use_passes again a p.1 h.rows) (arg_by_id c p.0) true) p true ≡ true
+    elim h.pending as (λ p. option_map_or
+        (λ (p : Text × List Text). option_map_or (λ a. use_passes again a p.1 h.rows) (arg_by_id c p.0) true) p true
+        ≡ true
     → have_values (settled_rows c p h.rows) ≡ true) [
       | None ↦ λ _. all
-      | Some p ↦ λ ok. by_id_keeps again (arg_by_id c p.0) p.1 h.rows (found_valued (λ a. bytes_eq a.id p.0) c fine) ok all
+      | Some p ↦ λ ok. by_id_keeps again (arg_by_id c p.0) p.1 h.rows
+          (found_valued (λ a. bytes_eq a.id p.0) c fine) ok all
     ] passes
 
 reacted_keeps : (c : List Rule) (again : Bool) (a : Rule) (vs : List Text) (h : Held) → EachValued c → Valued a
@@ -125,13 +130,15 @@ long_keeps : (c : List Rule) (again : Bool) (o : Option Rule) (v : Option Text) 
     → long_passes c again o v h ≡ true → have_values h.rows ≡ true → have_values (long_met c o v h).0.rows ≡ true
 long_keeps c again None v h fine its passes all = cc
 long_keeps c again (Some a) (Some v) h fine its passes all =
-    elim (takes_values a) as (λ b. (if b then option_passes c again a (Some v) h else (not true && react_passes c again a [] h)) ≡ true
+    elim (takes_values a) as (λ b. (if b then option_passes c again a (Some v) h
+        else (not true && react_passes c again a [] h)) ≡ true
     → have_values (if b then option_met c a (Some v) h else flag_met c a (Some v) h).0.rows ≡ true) [
       | true ↦ λ ok. option_keeps c again a (Some v) h fine its ok all
       | false ↦ λ ok. all
     ] passes
 long_keeps c again (Some a) None h fine its passes all =
-    elim (takes_values a) as (λ b. (if b then option_passes c again a None h else (not false && react_passes c again a [] h)) ≡ true
+    elim (takes_values a) as (λ b. (if b then option_passes c again a None h
+        else (not false && react_passes c again a [] h)) ≡ true
     → have_values (if b then option_met c a None h else flag_met c a None h).0.rows ≡ true) [
       | true ↦ λ ok. option_keeps c again a None h fine its ok all
       | false ↦ λ ok. reacted_keeps c again a [] h fine its ok all
@@ -145,7 +152,8 @@ plain_rows c positional word h = refl
 plain_rows c (option id) word h =
     elim (arg_by_id c id) as (λ o. (option_word o id word h).0.rows ≡ h.rows) [ None ↦ refl | Some a ↦ refl ]
 
-after_flag_rows : (c : List Rule) (w : Waiting) (word : Text) (h : Held) (o : Outcome) → (after_flag c w word h o).0.rows ≡ h.rows
+after_flag_rows : (c : List Rule) (w : Waiting) (word : Text) (h : Held) (o : Outcome)
+    → (after_flag c w word h o).0.rows ≡ h.rows
 after_flag_rows c w word h done = refl
 after_flag_rows c w word h (waits id) = refl
 after_flag_rows c w word h plain = plain_rows c w word h
@@ -158,7 +166,8 @@ short_keeps : (c : List Rule) (again : Bool) (o : Option Rule) (rest : Text) (h 
     → have_values (short_met c o rest h met).0.rows ≡ true
 short_keeps c again None rest h passing met fine its more passes all = cc
 short_keeps c again (Some a) rest h passing met fine its more passes all =
-    elim (takes_values a) as (λ b. (if b then option_passes c again a (attached_value rest) h else (react_passes c again a [] h && passing (reacted c a [] h))) ≡ true
+    elim (takes_values a) as (λ b. (if b then option_passes c again a (attached_value rest) h
+        else (react_passes c again a [] h && passing (reacted c a [] h))) ≡ true
     → have_values (if b then option_met c a (attached_value rest) h else met (reacted c a [] h)).0.rows ≡ true) [
       | true ↦ λ ok. option_keeps c again a (attached_value rest) h fine its ok all
       | false ↦ λ ok.
@@ -192,7 +201,8 @@ flags_keep c again (suc k) fine flags skip so_far h passes all =
       | Some x ↦ λ ok. flag_keeps c again k fine (flags_keep c again k fine) flags skip so_far h x ok all
     ] passes
 
-short_word_keeps : (c : List Rule) (again : Bool) (w : Waiting) (word : Text) (flags : Option Text) (h : Held) → EachValued c
+short_word_keeps : (c : List Rule) (again : Bool) (w : Waiting) (word : Text) (flags : Option Text) (h : Held)
+    → EachValued c
     → option_map_or (λ f. bundle_passes c again f h) flags true ≡ true → have_values h.rows ≡ true
     → have_values (short_or_plain c w word flags h).0.rows ≡ true
 short_word_keeps c again w word None h fine passes all = ap have_values (plain_rows c w word h) ∙ all
@@ -200,27 +210,33 @@ short_word_keeps c again w word (Some f) h fine passes all =
     ap have_values (after_flag_rows c w word (bundle c f h).0 (bundle c f h).1)
     ∙ flags_keep c again (length f) fine f h.skip plain (record h { skip = 0 }) passes all
 
-flag_word_keeps : (c : List Rule) (again : Bool) (w : Waiting) (word : Text) (named : Option (Text × Option Text)) (h : Held)
+flag_word_keeps : (c : List Rule) (again : Bool) (w : Waiting) (word : Text)
+    (named : Option (Text × Option Text)) (h : Held)
     → EachValued c → flag_word_passes c again named word h ≡ true → have_values h.rows ≡ true
     → have_values (long_or_other c w word named h).0.rows ≡ true
-flag_word_keeps c again w word None h fine passes all = short_word_keeps c again w word (short_of word) h fine passes all
+flag_word_keeps c again w word None h fine passes all =
+    short_word_keeps c again w word (short_of word) h fine passes all
 flag_word_keeps c again w word (Some p) h fine passes all =
     let met = long_met c (arg_by_long c p.0) p.1 h in
     ap have_values (after_flag_rows c w word met.0 met.1)
-    ∙ long_keeps c again (arg_by_long c p.0) p.1 h fine (found_valued (λ a. not (is_some a.index) && has_long a p.0) c fine) passes all
+    ∙ long_keeps c again (arg_by_long c p.0) p.1 h fine
+    (found_valued (λ a. not (is_some a.index) && has_long a p.0) c fine) passes all
 
-other_keeps : (s : Shape) (name : Option Text) (w : Waiting) (position : ℕ) (word : Text) (h : Held) → EachValued s.rules
+other_keeps : (s : Shape) (name : Option Text) (w : Waiting) (position : ℕ) (word : Text) (h : Held)
+    → EachValued s.rules
     → other_passes s name word h ≡ true → have_values h.rows ≡ true
     → have_values (subcommand_or_other s.rules name w position word h).0.rows ≡ true
 other_keeps s (Some name) w position word h fine passes all = all
 other_keeps s None w position word h fine passes all =
-    elim (bytes_eq word (45 ∷ 45 ∷ [])) as (λ b. (b || flag_word_passes s.rules s.args_override_self (long_of word) word h) ≡ true
+    elim (bytes_eq word (45 ∷ 45 ∷ [])) as (λ b.
+        (b || flag_word_passes s.rules s.args_override_self (long_of word) word h) ≡ true
     → have_values (if b then (h, trailing position) else long_or_other s.rules w word (long_of word) h).0.rows ≡ true) [
       | true ↦ λ ok. all
       | false ↦ λ ok. flag_word_keeps s.rules s.args_override_self w word (long_of word) h fine ok all
     ] passes
 
-word_keeps : (s : Shape) (names : Names) (past : Bool) (w : Waiting) (position : ℕ) (word : Text) (h : Held) → EachValued s.rules
+word_keeps : (s : Shape) (names : Names) (past : Bool) (w : Waiting) (position : ℕ) (word : Text) (h : Held)
+    → EachValued s.rules
     → word_passes s names past w word h ≡ true → have_values h.rows ≡ true
     → have_values (word_met s.rules names past w position word h).0.rows ≡ true
 word_keeps s names true w position word h fine passes all = all
@@ -244,18 +260,21 @@ step_keeps s w word h (next waiting) fine passes all = all
 step_keeps s w word h (trailing position) fine passes all = all
 step_keeps s w word h (subcommand name) fine passes all = all
 step_keeps s w word h value fine passes all =
-    elim (arg_by_index s.rules w.position) as (λ o. option_map_or (λ a. positional_passes s.rules s.args_override_self a h) o false ≡ true
+    elim (arg_by_index s.rules w.position) as (λ o. option_map_or
+        (λ a. positional_passes s.rules s.args_override_self a h) o false ≡ true
     → have_values (to_positional s.rules o word w h).held.rows ≡ true) [
       | None ↦ λ ok. cc
       | Some a ↦ λ ok. positional_keeps s.rules s.args_override_self a word h fine ok all
     ] passes
 
-turn_keeps : (s : Shape) (names : Names) (w : Walk) (word : Text) → EachValued s.rules → turn_passes s names w word ≡ true
+turn_keeps : (s : Shape) (names : Names) (w : Walk) (word : Text) → EachValued s.rules
+    → turn_passes s names w word ≡ true
     → have_values w.held.rows ≡ true → have_values (walked s.rules names w word).held.rows ≡ true
 unfolding walked
 turn_keeps s names w word fine passes all =
     let met = word_met s.rules names w.is_trailing w.waiting w.position word w.held in
-    elim w.stopped as (λ o. (is_some o || (word_passes s names w.is_trailing w.waiting word w.held && step_passes s w.position met.0 met.1)) ≡ true
+    elim w.stopped as (λ o. (is_some o ||
+        (word_passes s names w.is_trailing w.waiting word w.held && step_passes s w.position met.0 met.1)) ≡ true
     → have_values (walked_from s.rules names o w word).held.rows ≡ true) [
       | Some p ↦ λ ok. all
       | None ↦ λ ok.
@@ -266,7 +285,8 @@ turn_keeps s names w word fine passes all =
 
 -- ---- all words
 
-walk_keeps : (s : Shape) (names : Names) (words : List Text) (w : Walk) → EachValued s.rules → walk_passes s names w words ≡ true
+walk_keeps : (s : Shape) (names : Names) (words : List Text) (w : Walk) → EachValued s.rules
+    → walk_passes s names w words ≡ true
     → have_values w.held.rows ≡ true → have_values (fold (walked s.rules names) w words).held.rows ≡ true
 unfolding walk_passes
 walk_keeps s names [] w fine passes all = all
@@ -276,7 +296,8 @@ walk_keeps s names (word ∷ rest) w fine passes all =
 
 default_keeps : (a : Rule) (rows : List Row) → have_values rows ≡ true → have_values (with_default rows a) ≡ true
 default_keeps a rows all =
-    elim (has_row a.id rows) as (λ b. have_values (if b then rows else default_rows a.id (reading_by a) a.defaults rows) ≡ true) [
+    elim (has_row a.id rows) as (λ b. have_values (if b then rows else default_rows a.id (reading_by a) a.defaults rows)
+        ≡ true) [
       | true ↦ all
       | false ↦ elim a.defaults as (λ vs. have_values (default_rows a.id (reading_by a) vs rows) ≡ true) [
         | [] ↦ all
@@ -284,7 +305,8 @@ default_keeps a rows all =
       ]
     ]
 
-defaults_keep : (c : List Rule) (rows : List Row) → have_values rows ≡ true → have_values (fold with_default rows c) ≡ true
+defaults_keep : (c : List Rule) (rows : List Row) → have_values rows ≡ true
+    → have_values (fold with_default rows c) ≡ true
 defaults_keep [] rows all = all
 defaults_keep (a ∷ rest) rows all = defaults_keep rest (with_default rows a) (default_keeps a rows all)
 
@@ -299,7 +321,8 @@ first_there id [] all there = cc
 first_there id (r ∷ rs) all there =
     let parts = and_parts (has_value r) (have_values rs) all in
     elim (bytes_eq r.id id) as (λ b. is_some (cond b (Some r) (find (λ r. bytes_eq r.id id) rs)) ≡ true
-    → (t : Text) × (option_and_then (λ r. slice_get r.values 0) (cond b (Some r) (find (λ r. bytes_eq r.id id) rs)) ≡ Some t)) [
+    → (t : Text) × (option_and_then (λ r. slice_get r.values 0) (cond b (Some r) (find (λ r. bytes_eq r.id id) rs))
+    ≡ Some t)) [
       | true ↦ λ ok. value_there r.values parts.0
       | false ↦ λ ok. first_there id rs parts.1 ok
     ] there
@@ -313,11 +336,14 @@ found_later true r o is = refl
 found_later false r o is = is
 
 -- a default that is given is there
-with_values_there : (id : Text) (how : Reading) (s : ValueSource) (vs : List Text) (rows : List Row) → bytes_eq id id ≡ true
+with_values_there : (id : Text) (how : Reading) (s : ValueSource) (vs : List Text) (rows : List Row)
+    → bytes_eq id id ≡ true
     → is_some (find (λ r. bytes_eq r.id id) (with_values id how s vs rows)) ≡ true
 with_values_there id how s vs [] same = found_first (bytes_eq id id) _ None same
 with_values_there id how s vs (r ∷ rs) same =
-    elim (bytes_eq r.id id) as (λ b. bytes_eq r.id id ≡ b → is_some (find (λ r. bytes_eq r.id id) (if b then more_values s vs r ++ rs else r ∷ with_values id how s vs rs)) ≡ true) [
+    elim (bytes_eq r.id id) as (λ b. bytes_eq r.id id ≡ b
+        → is_some (find (λ r. bytes_eq r.id id)
+        (if b then more_values s vs r ++ rs else r ∷ with_values id how s vs rs)) ≡ true) [
       | true ↦ λ is. found_first (bytes_eq r.id id) _ _ is
       | false ↦ λ is. found_later (bytes_eq r.id id) r _ (with_values_there id how s vs rs same)
     ] refl
@@ -325,7 +351,8 @@ with_values_there id how s vs (r ∷ rs) same =
 row_there : (id : Text) (rows : List Row) → has_row id rows ≡ true → is_some (find (λ r. bytes_eq r.id id) rows) ≡ true
 row_there id [] h = h
 row_there id (r ∷ rs) h =
-    elim (bytes_eq r.id id) as (λ b. (b || has_row id rs) ≡ true → is_some (cond b (Some r) (find (λ r. bytes_eq r.id id) rs)) ≡ true) [
+    elim (bytes_eq r.id id) as (λ b. (b || has_row id rs) ≡ true
+        → is_some (cond b (Some r) (find (λ r. bytes_eq r.id id) rs)) ≡ true) [
       | true ↦ λ ok. refl
       | false ↦ λ ok. row_there id rs ok
     ] h
@@ -333,17 +360,22 @@ row_there id (r ∷ rs) h =
 pub default_there : (a : Rule) (rows : List Row) → bytes_eq a.id a.id ≡ true → some_of a.defaults ≡ true
     → is_some (find (λ r. bytes_eq r.id a.id) (with_default rows a)) ≡ true
 default_there a rows same some =
-    elim (has_row a.id rows) as (λ b. has_row a.id rows ≡ b → is_some (find (λ r. bytes_eq r.id a.id) (if b then rows else default_rows a.id (reading_by a) a.defaults rows)) ≡ true) [
+    elim (has_row a.id rows) as (λ b. has_row a.id rows ≡ b
+        → is_some (find (λ r. bytes_eq r.id a.id)
+        (if b then rows else default_rows a.id (reading_by a) a.defaults rows)) ≡ true) [
       | true ↦ λ is. row_there a.id rows is
-      | false ↦ λ is. elim a.defaults as (λ vs. some_of vs ≡ true → is_some (find (λ r. bytes_eq r.id a.id) (default_rows a.id (reading_by a) vs rows)) ≡ true) [
+      | false ↦ λ is. elim a.defaults as (λ vs. some_of vs ≡ true
+          → is_some (find (λ r. bytes_eq r.id a.id) (default_rows a.id (reading_by a) vs rows)) ≡ true) [
         | [] ↦ λ bad. cc
         | v ∷ vs ↦ λ _. with_values_there a.id (reading_by a) DefaultValue (v ∷ vs) rows same
       ] some
     ] refl
 
-given_there : (id : Text) (rows : List Row) → is_given id rows ≡ true → is_some (find (λ r. bytes_eq r.id id) rows) ≡ true
+given_there : (id : Text) (rows : List Row) → is_given id rows ≡ true
+    → is_some (find (λ r. bytes_eq r.id id) rows) ≡ true
 given_there id rows h =
-    elim (find (λ r. bytes_eq r.id id) rows) as (λ o. option_map_or (λ r. explicit_source r.source) o false ≡ true → is_some o ≡ true) [
+    elim (find (λ r. bytes_eq r.id id) rows) as (λ o. option_map_or (λ r. explicit_source r.source) o false ≡ true
+        → is_some o ≡ true) [
       | None ↦ λ ok. ok
       | Some r ↦ λ ok. refl
     ] h
@@ -384,7 +416,8 @@ buffer_given words passes =
     (walk_keeps buffer_shape [] words (walk_from nothing_held) buffer_valued parts.0 refl) in
     let rows = finished buffer_shape.rules end in
     let all : have_values rows ≡ true = defaults_keep buffer_shape.rules (settled buffer_shape.rules end).rows kept in
-    first_there (codes "FILE") rows all (given_there (codes "FILE") rows (and_parts (is_given (codes "FILE") rows) _ valid).0)
+    first_there (codes "FILE") rows all
+        (given_there (codes "FILE") rows (and_parts (is_given (codes "FILE") rows) _ valid).0)
 
 -- ---- run FILE --workers N
 
@@ -416,6 +449,7 @@ run_given words passes =
     given_there (codes "FILE") rows (and_parts (is_given (codes "FILE") rows) _ valid).0 in
     let before = with_default first file_built in
     let workers_row : is_some (find (λ r. bytes_eq r.id (codes "workers")) rows) ≡ true =
-    ap (λ l. is_some (find (λ r. bytes_eq r.id (codes "workers")) l)) (either_way (has_row (codes "help") (with_default before workers_built)) (with_default before workers_built))
+    ap (λ l. is_some (find (λ r. bytes_eq r.id (codes "workers")) l))
+        (either_way (has_row (codes "help") (with_default before workers_built)) (with_default before workers_built))
     ∙ default_there workers_built before refl refl in
     (first_there (codes "FILE") rows all file_row, first_there (codes "workers") rows all workers_row)

@@ -1,5 +1,5 @@
--- Words that clap takes ask for something, or for a run on what is no number of workers: `buffer` has its FILE, `run` its
--- FILE and a number, and nothing else is entered.
+-- Words that clap takes ask for something, or for a run on what is no number of workers: `buffer` has its FILE, `run`
+-- its FILE and a number, and nothing else is entered.
 use Rattle.std.proofs.Common.{◌≡◌, ◌⊎◌, inl, inr, ℕ, get_or, List, [], ◌∷◌, refl, sym, ap, ◌∙◌, subst, Option, Some, None, Bool, true, false, codes, fold, is_some, ◌&&◌, ◌||◌, cond, if◌then◌else◌, not, option_and_then, option_map}
 use Rattle.std.specs.Str.{bytes_eq}
 use Rattle.std.specs.Option.{option_map_or}
@@ -86,7 +86,8 @@ word_stops false (Some n) w word none passes = not_help (bytes_eq n (codes "help
 word_stops false None w word none passes =
     let flag = long_or_other top.rules w.waiting word (long_of word) w.held in
     elim (bytes_eq word (45 ∷ 45 ∷ [])) as (λ b. NotHelp (after_step top.rules word w
-    (if b then (w.held, trailing w.position) else flag).0 (if b then (w.held, trailing w.position) else flag).1).stopped) [
+    (if b then (w.held, trailing w.position) else flag).0
+        (if b then (w.held, trailing w.position) else flag).1).stopped) [
       | true ↦ flag_goes_on word w w.held (trailing w.position) tt none
       | false ↦ flag_goes_on word w flag.0 flag.1 (flag_is top.rules w.waiting word (long_of word) w.held) none
     ]
@@ -97,7 +98,8 @@ unfolding walked
 turn_stops w word passes so_far =
     let here = word_met top.rules names w.is_trailing w.waiting w.position word w.held in
     elim w.stopped as (λ o. w.stopped ≡ o
-    → (is_some o || (word_passes top names w.is_trailing w.waiting word w.held && step_passes top w.position here.0 here.1)) ≡ true
+    → (is_some o || (word_passes top names w.is_trailing w.waiting word w.held && step_passes top w.position here.0
+    here.1)) ≡ true
     → NotHelp o → NotHelp (walked_from top.rules names o w word).stopped) [
       | Some p ↦ λ is ok isnt. isnt
       | None ↦ λ is ok isnt. word_stops w.is_trailing (subcommand_met names w.waiting word) w word is
@@ -179,4 +181,5 @@ unfolding clap_on_literals
 takes_asks words passes =
     let parts = and_parts (entered_passes (built msgrun_app) (stop_after top.rules names words)) _ passes in
     let walks = and_parts (walk_passes top names (walk_from nothing_held) words) _ parts.1 in
-    stopped_asks words (stop_after top.rules names words) refl parts.0 (walk_stops words (walk_from nothing_held) walks.0 tt)
+    stopped_asks words (stop_after top.rules names words) refl parts.0
+        (walk_stops words (walk_from nothing_held) walks.0 tt)

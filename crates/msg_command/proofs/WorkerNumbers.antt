@@ -40,10 +40,12 @@ is_named text n numeral is low high =
     let least : nat_le 1 v ≡ true = le-leb 1 v (subst (λ k. 1 ≤ k) is low) in
     let most : nat_le v 64 ≡ true = le-leb v 64 (subst (λ k. k ≤ 64) is high) in
     ap (λ k. Some k) is
-    ∙ sym (ap (λ b. if b then Some v else None) (and_from _ _ (numeral_passes digits numeral) (and_from _ _ least most)))
+    ∙ sym (ap (λ b. if b then Some v else None)
+    (and_from _ _ (numeral_passes digits numeral) (and_from _ _ least most)))
 
 -- what isn't a numeral of a number below 2 ^ 32 is none
-pub is_no_number : (text : Text) → (IsNumeral 10 (without_leading_plus text) × (digits_value 10 (without_leading_plus text) < 2 ^ 32) → ⊥)
+pub is_no_number : (text : Text) → (IsNumeral 10 (without_leading_plus text)
+    × (digits_value 10 (without_leading_plus text) < 2 ^ 32) → ⊥)
     → None ≡ workers_in text
 is_no_number text none =
     let digits = without_leading_plus text in

@@ -19,12 +19,14 @@ use Rattle.std.proofs.lemmas.Map.Views.{Contains-from_any}
 use Rattle.msg_frames.proofs.ElementsAndPairs.{pairs_left, pairs_right}
 
 abbrev and_then : AfterTurns → List ℕ → AfterTurns
-and_then x is = record { state = (after_turns_of is x.state).state; turns = x.turns ++ (after_turns_of is x.state).turns }
+and_then x is =
+    record { state = (after_turns_of is x.state).state; turns = x.turns ++ (after_turns_of is x.state).turns }
 
 pub turns_then_more : (is js : List ℕ) (s : State) → after_turns_of (is ++ js) s ≡ and_then (after_turns_of is s) js
 turns_then_more [] js s = refl
 turns_then_more (i ∷ is) js s =
-    ap (λ (x : AfterTurns). record { state = x.state; turns = logged_turn s i ∷ x.turns }) (turns_then_more is js (after_turn_of i s))
+    ap (λ (x : AfterTurns). record { state = x.state; turns = logged_turn s i ∷ x.turns })
+        (turns_then_more is js (after_turn_of i s))
 
 pub as_many_systems : (is : List ℕ) (s : State) → (after_turns_of is s).state.systems ≡ s.systems
 as_many_systems [] s = refl
@@ -35,7 +37,8 @@ abbrev pub HasTurned : {S : Type 0} → (S → Meaning) → List ℕ → State �
 HasTurned meaning is s lender before after =
     LenderStands meaning lender (after_turns_of is s).state × (after ≡ before ++ (after_turns_of is s).turns)
 
-pub turned_more : {S : Type 0} (meaning : S → Meaning) (is js : List ℕ) (s : State) (g h : Lender S) (before between after : List Turn)
+pub turned_more : {S : Type 0} (meaning : S → Meaning) (is js : List ℕ) (s : State) (g h : Lender S)
+    (before between after : List Turn)
     → HasTurned meaning is s g before between
     → ((s : State) → LenderStands meaning g s → LenderStands meaning h (after_turns_of js s).state)
     → ((s : State) → LenderStands meaning g s → after ≡ between ++ (after_turns_of js s).turns)
@@ -44,25 +47,31 @@ turned_more meaning is js s g h before between after far state turns =
     let x = after_turns_of is s in
     let all = turns_then_more is js s in (
       subst (λ (y : AfterTurns). LenderStands meaning h y.state) (sym all) (state x.state far.0),
-      turns x.state far.0 ∙ ap (λ ts. ts ++ (after_turns_of js x.state).turns) far.1 ∙ append_assoc before x.turns (after_turns_of js x.state).turns
+      turns x.state far.0 ∙ ap (λ ts. ts ++ (after_turns_of js x.state).turns) far.1
+          ∙ append_assoc before x.turns (after_turns_of js x.state).turns
           ∙ ap (λ (y : AfterTurns). before ++ y.turns) (sym all),
     )
 
-pub turned_all : {S : Type 0} (meaning : S → Meaning) (is : List ℕ) (k : ℕ) (s : State) (g : Lender S) (before after : List Turn) → k ≡ length is
+pub turned_all : {S : Type 0} (meaning : S → Meaning) (is : List ℕ) (k : ℕ) (s : State) (g : Lender S)
+    (before after : List Turn) → k ≡ length is
     → HasTurned meaning (take k is) s g before after → HasTurned meaning is s g before after
-turned_all meaning is k s g before after end far = subst (λ xs. HasTurned meaning xs s g before after) (ap (λ n. take n is) end ∙ take-length is) far
+turned_all meaning is k s g before after end far = subst (λ xs. HasTurned meaning xs s g before after)
+    (ap (λ n. take n is) end ∙ take-length is) far
 
 -- ---- batch by batch
 
 abbrev pub systems_of : List (Vec ℕ) → List ℕ
 systems_of batches = concat (map (λ batch. batch.items) batches)
 
-pub one_batch_more : (batches : List (Vec ℕ)) (k : ℕ) (batch : Vec ℕ) → k < length batches → batch ≡ get_or batches k batch
+pub one_batch_more : (batches : List (Vec ℕ)) (k : ℕ) (batch : Vec ℕ) → k < length batches → batch
+    ≡ get_or batches k batch
     → systems_of (take (k + 1) batches) ≡ systems_of (take k batches) ++ batch.items
 one_batch_more batches k batch lt is =
-    ap systems_of (take_more batches k batch lt) ∙ ap concat (map-append (λ b. b.items) (take k batches) (get_or batches k batch ∷ []))
+    ap systems_of (take_more batches k batch lt)
+        ∙ ap concat (map-append (λ b. b.items) (take k batches) (get_or batches k batch ∷ []))
     ∙ concat-append (map (λ b. b.items) (take k batches)) ((get_or batches k batch).items ∷ [])
-    ∙ ap (λ xs. systems_of (take k batches) ++ xs) (append-nil (get_or batches k batch).items) ∙ ap (λ (b : Vec ℕ). systems_of (take k batches) ++ b.items) (sym is)
+    ∙ ap (λ xs. systems_of (take k batches) ++ xs) (append-nil (get_or batches k batch).items)
+    ∙ ap (λ (b : Vec ℕ). systems_of (take k batches) ++ b.items) (sym is)
 
 -- ---- one batch of several, and how many systems it has
 
@@ -80,9 +89,12 @@ pub pairs_of_one : (R : ℕ → ℕ → Type 0) (batches : List (List ℕ)) (k :
     → AllPairs R (concat batches) → AllPairs R (get_or batches k d)
 pairs_of_one R [] k d lt pairs = absurd (omega (arith, lt))
 pairs_of_one R (b ∷ bs) zero d lt pairs = pairs_left R b (concat bs) pairs
-pairs_of_one R (b ∷ bs) (suc k) d lt pairs = pairs_of_one R bs k d (omega (arith, lt)) (pairs_right R b (concat bs) pairs)
+pairs_of_one R (b ∷ bs) (suc k) d lt pairs =
+    pairs_of_one R bs k d (omega (arith, lt)) (pairs_right R b (concat bs) pairs)
 
 -- the systems of batch k, as they are read
-pub its_systems : (batches : List (Vec ℕ)) (k : ℕ) (batch : Vec ℕ) (systems : List ℕ) → k < length batches → batch ≡ get_or batches k batch → systems ≡ batch.items
+pub its_systems : (batches : List (Vec ℕ)) (k : ℕ) (batch : Vec ℕ) (systems : List ℕ) → k < length batches → batch
+    ≡ get_or batches k batch → systems ≡ batch.items
     → get_or (map (λ (b : Vec ℕ). b.items) batches) k [] ≡ systems
-its_systems batches k batch systems lt is read = get_or-map (λ (b : Vec ℕ). b.items) batches k batch [] lt ∙ ap (λ (b : Vec ℕ). b.items) (sym is) ∙ sym read
+its_systems batches k batch systems lt is read = get_or-map (λ (b : Vec ℕ). b.items) batches k batch [] lt
+    ∙ ap (λ (b : Vec ℕ). b.items) (sym is) ∙ sym read

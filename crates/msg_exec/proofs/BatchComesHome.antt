@@ -61,18 +61,23 @@ module _ {S : Type 0} (meaning : S → Meaning) where
     pub there : (p : Part) → is_some (slot p d.taken) ≡ writes (access_of whole.accesses.items i) p
     pub after : IsAfterJob meaning (after_job (s.members i).job s.world) d.guarded d.taken d.outcome
 
-  is_back : (whole left : Lender S) (s : State) (i : ℕ) (j : Job S) (d : Done S) → LenderStands meaning whole s → i < s.systems
+  is_back : (whole left : Lender S) (s : State) (i : ℕ) (j : Job S) (d : Done S) → LenderStands meaning whole s
+      → i < s.systems
       → PartsStand left.world s.world → IsOut whole i j → IsDone meaning left.world j d → IsBack whole s i d
   is_back whole left s i j d stands lt world out done = record {
     number = done.number ∙ out.number;
     size = sizes_follow whole.world j.taken d.taken out.size done.turn.shape.size;
-    there = λ p. done.turn.shape.there p ∙ has_written meaning whole s i j stands lt out p ∙ ap (λ a. writes a p) out.access;
-    after = subst (λ (x : JobState). IsAfterJob meaning (after_job x s.world) d.guarded d.taken d.outcome) (its_member meaning whole s i j stands lt out)
+    there = λ p. done.turn.shape.there p ∙ has_written meaning whole s i j stands lt out p
+        ∙ ap (λ a. writes a p) out.access;
+    after = subst (λ (x : JobState). IsAfterJob meaning (after_job x s.world) d.guarded d.taken d.outcome)
+        (its_member meaning whole s i j stands lt out)
         (done.turn.after s.world world (taken_stands meaning whole s i j stands.world out));
   }
 
-  pub all_back : (whole left : Lender S) (s : State) (is : List ℕ) (js : List (Job S)) (ds : List (Done S)) → LenderStands meaning whole s → All (λ i. i < s.systems) is
-      → PartsStand left.world s.world → AllZip (IsOut whole) is js → AreDone meaning left.world js ds → AllZip (IsBack whole s) is ds
+  pub all_back : (whole left : Lender S) (s : State) (is : List ℕ) (js : List (Job S)) (ds : List (Done S))
+      → LenderStands meaning whole s → All (λ i. i < s.systems) is
+      → PartsStand left.world s.world → AllZip (IsOut whole) is js → AreDone meaning left.world js ds
+      → AllZip (IsBack whole s) is ds
   all_back whole left s [] [] [] stands below world out done = tt
   all_back whole left s [] [] (d ∷ ds) stands below world out done = absurd done
   all_back whole left s [] (j ∷ js) ds stands below world out done = absurd out
@@ -90,27 +95,34 @@ module _ {S : Type 0} (meaning : S → Meaning) where
     pub systems : length now.systems.items ≡ s.systems
     pub accesses : now.accesses.items ≡ whole.accesses.items
     pub as_many : length now.totals.items ≡ s.systems
-    pub members : (k : ℕ) → k < s.systems → ¬ Contains rest k → IsSomeAnd (system_at now k) (λ a. job_state meaning a ≡ (u.members k).job)
-    pub totals : (k : ℕ) → k < s.systems → IsSomeAnd (slice_get now.totals.items k) (λ v. TotalsStand s.types v.items (u.members k).totals)
+    pub members : (k : ℕ) → k < s.systems → ¬ Contains rest k
+        → IsSomeAnd (system_at now k) (λ a. job_state meaning a ≡ (u.members k).job)
+    pub totals : (k : ℕ) → k < s.systems
+        → IsSomeAnd (slice_get now.totals.items k) (λ v. TotalsStand s.types v.items (u.members k).totals)
     pub untouched : (k : ℕ) → Contains rest k → u.members k ≡ s.members k
     pub world : PartsStand now.world u.world
     pub size : SameSize whole.world now.world
-    pub there : (p : Part) → is_some (slot p now.world) ≡ (if any_writes whole.accesses.items rest p then false else is_some (slot p whole.world))
+    pub there : (p : Part) → is_some (slot p now.world)
+        ≡ (if any_writes whole.accesses.items rest p then false else is_some (slot p whole.world))
 
-  all_out : (whole left : Lender S) (s : State) (is : List ℕ) (js : List (Job S)) → LenderStands meaning whole s → AreOut whole is js left → Halfway whole s s is left
+  all_out : (whole left : Lender S) (s : State) (is : List ℕ) (js : List (Job S)) → LenderStands meaning whole s
+      → AreOut whole is js left → Halfway whole s s is left
   all_out whole left s is js stands out = record {
     systems = out.as_many ∙ stands.systems;
     accesses = out.accesses;
     as_many = ap length out.totals ∙ stands.totals;
-    members = λ k lt away. subst (λ x. IsSomeAnd x (λ a. job_state meaning a ≡ (s.members k).job)) (sym (out.others k away)) (stands.members k lt).guarded;
-    totals = λ k lt. subst (λ xs. IsSomeAnd (slice_get xs k) (λ v. TotalsStand s.types v.items (s.members k).totals)) (sym out.totals) (stands.members k lt).totals;
+    members = λ k lt away. subst (λ x. IsSomeAnd x (λ a. job_state meaning a ≡ (s.members k).job))
+        (sym (out.others k away)) (stands.members k lt).guarded;
+    totals = λ k lt. subst (λ xs. IsSomeAnd (slice_get xs k) (λ v. TotalsStand s.types v.items (s.members k).totals))
+        (sym out.totals) (stands.members k lt).totals;
     untouched = λ k there. refl;
     world = left_stands meaning whole left s is js stands.world out;
     size = out.size;
     there = λ p. ap is_some (out.world p) ∙ some_left (any_writes whole.accesses.items is p) (slot p whole.world);
   }
 
-  module _ (whole now : Lender S) (s u : State) (i : ℕ) (rest : List ℕ) (d : Done S) (stands : LenderStands meaning whole s) (lt : i < s.systems)
+  module _ (whole now : Lender S) (s u : State) (i : ℕ) (rest : List ℕ) (d : Done S)
+      (stands : LenderStands meaning whole s) (lt : i < s.systems)
       (half : Halfway whole s u (i ∷ rest) now) (back : IsBack whole s i d) where
     -- what it gives back is out of the world
     out_of_world : (p : Part) → IsTrue (writes (access_of whole.accesses.items i) p) → slot p now.world ≡ None
@@ -144,7 +156,8 @@ module _ {S : Type 0} (meaning : S → Meaning) where
 
       system_back : IsSomeAnd (system_at new i) (λ a. job_state meaning a ≡ its_turn.job)
       system_back =
-          let there : system_at new i ≡ Some d.guarded = ap (λ xs. slice_index_or xs i None) systems_set ∙ get_or-set_same now.systems.items i (Some d.guarded) None (omega (arith, lt, half.systems)) in
+          let there : system_at new i ≡ Some d.guarded = ap (λ xs. slice_index_or xs i None) systems_set
+              ∙ get_or-set_same now.systems.items i (Some d.guarded) None (omega (arith, lt, half.systems)) in
           subst (λ x. IsSomeAnd x (λ a. job_state meaning a ≡ its_turn.job)) (sym there) back.after.job
 
       totals_back : IsSomeAnd (slice_get new.totals.items i) (λ v. TotalsStand s.types v.items its_turn.totals)
@@ -152,14 +165,22 @@ module _ {S : Type 0} (meaning : S → Meaning) where
           let v : Vec Totals = comes.totals.0 in
           let m : Member = s.members i in
           let old = some_of (slice_get now.totals.items i) _ (half.totals i lt) in
-          let entered : HaveEntered meaning d old.0.items v.items = comes.totals.2 old.0 (ap (slice_get now.totals.items) back.number ∙ old.1) in
-          let before : TotalsStand s.types old.0.items m.totals = subst (λ (x : Member). TotalsStand s.types old.0.items x.totals) (half.untouched i (Contains-head i rest)) old.2 in
-          let there : slice_get new.totals.items i ≡ Some v = ap (λ xs. slice_get xs i) totals_set ∙ get_same now.totals.items i v (omega (arith, lt, half.as_many)) in
+          let entered : HaveEntered meaning d old.0.items v.items =
+              comes.totals.2 old.0 (ap (slice_get now.totals.items) back.number ∙ old.1) in
+          let before : TotalsStand s.types old.0.items m.totals =
+              subst (λ (x : Member). TotalsStand s.types old.0.items x.totals)
+              (half.untouched i (Contains-head i rest)) old.2 in
+          let there : slice_get new.totals.items i ≡ Some v = ap (λ xs. slice_get xs i) totals_set
+              ∙ get_same now.totals.items i v (omega (arith, lt, half.as_many)) in
           subst (λ x. IsSomeAnd x (λ v. TotalsStand s.types v.items its_turn.totals)) (sym there)
-          (totals_after s.types m s.world old.0.items v.items _ d.outcome (ap (λ (j : JobState). j.system.last) back.after.job) back.after.outcome before entered.as_many entered.entered)
+          (totals_after s.types m s.world old.0.items v.items _ d.outcome
+              (ap (λ (j : JobState). j.system.last) back.after.job) back.after.outcome before entered.as_many
+              entered.entered)
 
-      world_there : (p : Part) → is_some (slot p new.world) ≡ (if any_writes whole.accesses.items rest p then false else is_some (slot p whole.world))
-      world_there p = either d.taken now.world new.world comes.taken_back p ∙ elim (cases_Bool (writes (access_of whole.accesses.items i) p)) [
+      world_there : (p : Part) → is_some (slot p new.world)
+          ≡ (if any_writes whole.accesses.items rest p then false else is_some (slot p whole.world))
+      world_there p = either d.taken now.world new.world comes.taken_back p
+          ∙ elim (cases_Bool (writes (access_of whole.accesses.items i) p)) [
         | inl is ↦
             let none = later_write_not whole.accesses.items rest i p free (written_is_used _ p is) in
             rw (back.there p, is, none) (sym ((stands.members i lt).home p (written_is_used _ p is)))
@@ -173,33 +194,48 @@ module _ {S : Type 0} (meaning : S → Meaning) where
         accesses = comes.accesses ∙ half.accesses;
         as_many = ap length totals_set ∙ length-set now.totals.items i comes.totals.0 ∙ half.as_many;
         members = λ k below away. elim (eqb_tells k i) [
-          | inl same ↦ subst (λ n. IsSomeAnd (system_at new n) (λ a. job_state meaning a ≡ ((home whole.accesses.items s i u).members n).job)) (sym same.1)
-              (subst (λ (x : Member). IsSomeAnd (system_at new i) (λ a. job_state meaning a ≡ x.job)) (sym (its_own i its_turn u.members)) system_back)
+          | inl same ↦ subst (λ n. IsSomeAnd (system_at new n)
+              (λ a. job_state meaning a ≡ ((home whole.accesses.items s i u).members n).job)) (sym same.1)
+              (subst (λ (x : Member). IsSomeAnd (system_at new i) (λ a. job_state meaning a ≡ x.job))
+                  (sym (its_own i its_turn u.members)) system_back)
           | inr other ↦
-              let out : ¬ Contains (i ∷ rest) k = λ there. elim (Contains-cases i rest k there) [ inl same ↦ other.1 (sym same) | inr later ↦ away later ] in
-              let there : system_at new k ≡ system_at now k = ap (λ xs. slice_index_or xs k None) systems_set ∙ get_or-set_other now.systems.items i k (Some d.guarded) None other.1 in
-              subst (λ (x : Member). IsSomeAnd (system_at new k) (λ a. job_state meaning a ≡ x.job)) (sym (of_another i k its_turn u.members other.1))
-              (subst (λ x. IsSomeAnd x (λ a. job_state meaning a ≡ (u.members k).job)) (sym there) (half.members k below out))
+              let out : ¬ Contains (i ∷ rest) k =
+                  λ there. elim (Contains-cases i rest k there)
+                  [ inl same ↦ other.1 (sym same) | inr later ↦ away later ] in
+              let there : system_at new k ≡ system_at now k = ap (λ xs. slice_index_or xs k None) systems_set
+                  ∙ get_or-set_other now.systems.items i k (Some d.guarded) None other.1 in
+              subst (λ (x : Member). IsSomeAnd (system_at new k) (λ a. job_state meaning a ≡ x.job))
+                  (sym (of_another i k its_turn u.members other.1))
+              (subst (λ x. IsSomeAnd x (λ a. job_state meaning a ≡ (u.members k).job)) (sym there)
+                  (half.members k below out))
         ];
         totals = λ k below. elim (eqb_tells k i) [
-          | inl same ↦ subst (λ n. IsSomeAnd (slice_get new.totals.items n) (λ v. TotalsStand s.types v.items ((home whole.accesses.items s i u).members n).totals)) (sym same.1)
-              (subst (λ (x : Member). IsSomeAnd (slice_get new.totals.items i) (λ v. TotalsStand s.types v.items x.totals)) (sym (its_own i its_turn u.members)) totals_back)
+          | inl same ↦ subst (λ n. IsSomeAnd (slice_get new.totals.items n)
+              (λ v. TotalsStand s.types v.items ((home whole.accesses.items s i u).members n).totals)) (sym same.1)
+              (subst (λ (x : Member). IsSomeAnd (slice_get new.totals.items i)
+                  (λ v. TotalsStand s.types v.items x.totals)) (sym (its_own i its_turn u.members)) totals_back)
           | inr other ↦
-              let there : slice_get new.totals.items k ≡ slice_get now.totals.items k = ap (λ xs. slice_get xs k) totals_set ∙ get_other now.totals.items i k comes.totals.0 other.1 in
-              subst (λ (x : Member). IsSomeAnd (slice_get new.totals.items k) (λ v. TotalsStand s.types v.items x.totals)) (sym (of_another i k its_turn u.members other.1))
-              (subst (λ x. IsSomeAnd x (λ v. TotalsStand s.types v.items (u.members k).totals)) (sym there) (half.totals k below))
+              let there : slice_get new.totals.items k
+                  ≡ slice_get now.totals.items k = ap (λ xs. slice_get xs k) totals_set
+                  ∙ get_other now.totals.items i k comes.totals.0 other.1 in
+              subst (λ (x : Member). IsSomeAnd (slice_get new.totals.items k)
+                  (λ v. TotalsStand s.types v.items x.totals)) (sym (of_another i k its_turn u.members other.1))
+              (subst (λ x. IsSomeAnd x (λ v. TotalsStand s.types v.items (u.members k).totals)) (sym there)
+                  (half.totals k below))
         ];
         untouched = λ k there.
             let other : k ≢ i = λ same. fresh (subst (Contains rest) same there) in
             of_another i k its_turn u.members other ∙ half.untouched k (Contains-tail i rest k there);
         world = merges (access_of whole.accesses.items i) d.taken now.world new.world (turn_of s i).world u.world
-            (λ p isnt. none_there (slot p d.taken) (back.there p ∙ isnt)) out_of_world comes.taken_back back.after.written half.world;
+            (λ p isnt. none_there (slot p d.taken) (back.there p ∙ isnt)) out_of_world comes.taken_back
+                back.after.written half.world;
         size = sizes_follow whole.world now.world new.world half.size comes.taken_back.size;
         there = world_there;
       }
 
   -- all are home
-  stands_again : (whole now : Lender S) (s u : State) → LenderStands meaning whole s → SameSystems s u → Halfway whole s u [] now → LenderStands meaning now u
+  stands_again : (whole now : Lender S) (s u : State) → LenderStands meaning whole s → SameSystems s u
+      → Halfway whole s u [] now → LenderStands meaning now u
   stands_again whole now s u stands same half =
       let shape : SameShape whole.world now.world = record { size = half.size; there = half.there } in
       record {
@@ -209,26 +245,36 @@ module _ {S : Type 0} (meaning : S → Meaning) where
         members = λ k below.
             let lt : k < s.systems = omega (arith, below, same.systems) in
             let here : MemberStands meaning whole s.types k (s.members k) = stands.members k lt in
-            let its : access_of now.accesses.items k ≡ access_of whole.accesses.items k = ap (λ xs. access_of xs k) half.accesses in
-            let needs : needs_of (u.members k) ≡ needs_of (s.members k) = λ n. with_conditions ((same.members k).needs n) ((same.members k).conditions n) in
+            let its : access_of now.accesses.items k
+                ≡ access_of whole.accesses.items k = ap (λ xs. access_of xs k) half.accesses in
+            let needs : needs_of (u.members k)
+                ≡ needs_of (s.members k) =
+                λ n. with_conditions ((same.members k).needs n) ((same.members k).conditions n) in
             record {
               guarded = half.members k lt (not_in_none k);
-              access = subst (λ a. IsAccessOf (needs_of (u.members k)) a) (sym its) (subst (λ n. IsAccessOf n (access_of whole.accesses.items k)) (sym needs) here.access);
-              home = λ p used. still_there whole.world now.world p shape (here.home p (ap (λ a. uses a p) (sym its) ∙ used));
-              totals = subst (λ n. IsSomeAnd (slice_get now.totals.items k) (λ v. TotalsStand n v.items (u.members k).totals)) (sym same.types) (half.totals k lt);
+              access = subst (λ a. IsAccessOf (needs_of (u.members k)) a) (sym its)
+                  (subst (λ n. IsAccessOf n (access_of whole.accesses.items k)) (sym needs) here.access);
+              home = λ p used. still_there whole.world now.world p shape
+                  (here.home p (ap (λ a. uses a p) (sym its) ∙ used));
+              totals =
+                  subst (λ n. IsSomeAnd (slice_get now.totals.items k)
+                  (λ v. TotalsStand n v.items (u.members k).totals)) (sym same.types) (half.totals k lt);
             };
         world = half.world;
-        whole = λ p has. still_there whole.world now.world p shape (stands.whole p (still_has whole.world now.world p shape has));
+        whole = λ p has. still_there whole.world now.world p shape
+            (stands.whole p (still_has whole.world now.world p shape has));
         types = half.size.types ∙ stands.types ∙ sym same.types;
       }
 
   -- whichever state the lender stands for, it is of as many systems
-  pub below_alike : (g : Lender S) (s u : State) (is : List ℕ) → LenderStands meaning g s → LenderStands meaning g u → All (λ i. i < s.systems) is → All (λ i. i < u.systems) is
+  pub below_alike : (g : Lender S) (s u : State) (is : List ℕ) → LenderStands meaning g s → LenderStands meaning g u
+      → All (λ i. i < s.systems) is → All (λ i. i < u.systems) is
   below_alike g s u is here there below = subst (λ n. All (λ i. i < n) is) (sym here.accesses ∙ there.accesses) below
 
   -- ---- the batch, from its first system that comes home to its last
 
-  pub record ComingHome (whole : Lender S) (batch : List ℕ) (s : State) (ds : List (Done S)) (now : Lender S) (before turns : List Turn) : Type 0 where
+  pub record ComingHome (whole : Lender S) (batch : List ℕ) (s : State) (ds : List (Done S)) (now : Lender S)
+      (before turns : List Turn) : Type 0 where
     pub come : List ℕ
     pub rest : List ℕ
     pub all : come ++ rest ≡ batch
@@ -236,40 +282,59 @@ module _ {S : Type 0} (meaning : S → Meaning) where
     pub half : Halfway whole s (all_home whole.accesses.items s come s) rest now
     pub logged_so_far : turns ≡ before ++ map (logged_turn s) come
 
-  pub begin_home : (whole left : Lender S) (s : State) (batch : List ℕ) (js : List (Job S)) (ds : List (Done S)) (turns : List Turn) → LenderStands meaning whole s
-      → All (λ i. i < s.systems) batch → AreOut whole batch js left → AreDone meaning left.world js ds → ComingHome whole batch s ds left turns turns
+  pub begin_home : (whole left : Lender S) (s : State) (batch : List ℕ) (js : List (Job S)) (ds : List (Done S))
+      (turns : List Turn) → LenderStands meaning whole s
+      → All (λ i. i < s.systems) batch → AreOut whole batch js left → AreDone meaning left.world js ds
+      → ComingHome whole batch s ds left turns turns
   begin_home whole left s batch js ds turns stands below out done = record {
     come = [];
     rest = batch;
     all = refl;
-    back = all_back whole left s batch js ds stands below (left_stands meaning whole left s batch js stands.world out) out.each done;
+    back =
+        all_back whole left s batch js ds stands below
+        (left_stands meaning whole left s batch js stands.world out) out.each done;
     half = all_out whole left s batch js stands out;
     logged_so_far = sym (append-nil turns);
   }
 
-  module _ (whole now : Lender S) (batch : List ℕ) (s : State) (d : Done S) (ds : List (Done S)) (before turns : List Turn)
+  module _ (whole now : Lender S) (batch : List ℕ) (s : State) (d : Done S) (ds : List (Done S))
+      (before turns : List Turn)
       (stands : LenderStands meaning whole s) (below : All (λ i. i < s.systems) batch) where
-    goes_on : (come rest : List ℕ) → come ++ rest ≡ batch → AllZip (IsBack whole s) rest (d ∷ ds) → Halfway whole s (all_home whole.accesses.items s come s) rest now
+    goes_on : (come rest : List ℕ) → come ++ rest ≡ batch → AllZip (IsBack whole s) rest (d ∷ ds)
+        → Halfway whole s (all_home whole.accesses.items s come s) rest now
         → MayCome now d
     goes_on come [] all back half = absurd back
     goes_on come (i ∷ rest) all back half =
         may_come whole now s (all_home whole.accesses.items s come s) i rest d stands
-        (All-contains (λ i. i < s.systems) batch i below (subst (λ xs. Contains xs i) all (Contains-append_right come (i ∷ rest) i (Contains-head i rest)))) half back.0
+        (All-contains (λ i. i < s.systems) batch i below
+            (subst (λ xs. Contains xs i) all (Contains-append_right come (i ∷ rest) i (Contains-head i rest))))
+            half back.0
 
-    pub next_may_come : (left : List (Done S)) → left ≡ d ∷ ds → ComingHome whole batch s left now before turns → MayCome now d
-    next_may_come left is far = goes_on far.come far.rest far.all (subst (AllZip (IsBack whole s) far.rest) is far.back) far.half
+    pub next_may_come : (left : List (Done S)) → left ≡ d ∷ ds → ComingHome whole batch s left now before turns
+        → MayCome now d
+    next_may_come left is far =
+        goes_on far.come far.rest far.all (subst (AllZip (IsBack whole s) far.rest) is far.back) far.half
 
-    module _ (new : Lender S) (turn : Turn) (once : AllPairs (λ i j. i ≢ j) batch) (none : NoneConflict whole.accesses.items batch)
-        (comes : ComesHome meaning now d new) (tells : turn ≡ record { system = d.number; outcome = d.outcome }) (merges : HomeMerges) (either : HomeWhereEither) where
-      one_more : (come rest : List ℕ) → come ++ rest ≡ batch → AllZip (IsBack whole s) rest (d ∷ ds) → Halfway whole s (all_home whole.accesses.items s come s) rest now
+    module _ (new : Lender S) (turn : Turn) (once : AllPairs (λ i j. i ≢ j) batch)
+        (none : NoneConflict whole.accesses.items batch)
+        (comes : ComesHome meaning now d new) (tells : turn ≡ record { system = d.number; outcome = d.outcome })
+            (merges : HomeMerges) (either : HomeWhereEither) where
+      one_more : (come rest : List ℕ) → come ++ rest ≡ batch → AllZip (IsBack whole s) rest (d ∷ ds)
+          → Halfway whole s (all_home whole.accesses.items s come s) rest now
           → turns ≡ before ++ map (logged_turn s) come → ComingHome whole batch s ds new before (turns ++ turn ∷ [])
       one_more come [] all back half log = absurd back
       one_more come (i ∷ rest) all back half log =
-          let lt : i < s.systems = All-contains (λ i. i < s.systems) batch i below (subst (λ xs. Contains xs i) all (Contains-append_right come (i ∷ rest) i (Contains-head i rest))) in
-          let Free : ℕ → ℕ → Type 0 = λ i j. ¬ Conflict (access_of whole.accesses.items i) (access_of whole.accesses.items j) in
-          let others = pairs_head (λ i j. i ≢ j) i rest (pairs_right (λ i j. i ≢ j) come (i ∷ rest) (subst (AllPairs (λ i j. i ≢ j)) (sym all) once)) in
+          let lt : i < s.systems =
+              All-contains (λ i. i < s.systems) batch i below
+              (subst (λ xs. Contains xs i) all (Contains-append_right come (i ∷ rest) i (Contains-head i rest))) in
+          let Free : ℕ → ℕ → Type 0 = λ i j. ¬ Conflict (access_of whole.accesses.items i)
+              (access_of whole.accesses.items j) in
+          let others =
+              pairs_head (λ i j. i ≢ j) i rest
+              (pairs_right (λ i j. i ≢ j) come (i ∷ rest) (subst (AllPairs (λ i j. i ≢ j)) (sym all) once)) in
           let free = pairs_head Free i rest (pairs_right Free come (i ∷ rest) (subst (AllPairs Free) (sym all) none)) in
-          let same : turn ≡ logged_turn s i = tells ∙ (λ k. record { system = back.0.number k; outcome = back.0.after.outcome k }) in
+          let same : turn ≡ logged_turn s i = tells
+              ∙ (λ k. record { system = back.0.number k; outcome = back.0.after.outcome k }) in
           record {
             come = come ++ i ∷ [];
             rest = rest;
@@ -280,28 +345,41 @@ module _ {S : Type 0} (meaning : S → Meaning) where
                 (λ there. All-contains (λ j. i ≢ j) rest i others there refl) free merges either);
             logged_so_far =
                 ap (λ ts. ts ++ turn ∷ []) log ∙ append_assoc before (map (logged_turn s) come) (turn ∷ [])
-                ∙ ap (λ t. before ++ (map (logged_turn s) come ++ t ∷ [])) same ∙ ap (λ ts. before ++ ts) (sym (map-append (logged_turn s) come (i ∷ [])));
+                ∙ ap (λ t. before ++ (map (logged_turn s) come ++ t ∷ [])) same
+                ∙ ap (λ ts. before ++ ts) (sym (map-append (logged_turn s) come (i ∷ [])));
           }
 
-      pub next_comes : (left : List (Done S)) → left ≡ d ∷ ds → ComingHome whole batch s left now before turns → ComingHome whole batch s ds new before (turns ++ turn ∷ [])
-      next_comes left is far = one_more far.come far.rest far.all (subst (AllZip (IsBack whole s) far.rest) is far.back) far.half far.logged_so_far
+      pub next_comes : (left : List (Done S)) → left ≡ d ∷ ds → ComingHome whole batch s left now before turns
+          → ComingHome whole batch s ds new before (turns ++ turn ∷ [])
+      next_comes left is far =
+          one_more far.come far.rest far.all
+          (subst (AllZip (IsBack whole s) far.rest) is far.back) far.half far.logged_so_far
 
   -- it is one turn after the other
-  pub all_came : (whole now : Lender S) (batch : List ℕ) (s : State) (left : List (Done S)) (before turns : List Turn) → LenderStands meaning whole s
-      → All (λ i. i < s.systems) batch → AllPairs (λ i j. i ≢ j) batch → NoneConflict whole.accesses.items batch → BatchesRunSideBySide
+  pub all_came : (whole now : Lender S) (batch : List ℕ) (s : State) (left : List (Done S)) (before turns : List Turn)
+      → LenderStands meaning whole s
+      → All (λ i. i < s.systems) batch → AllPairs (λ i j. i ≢ j) batch → NoneConflict whole.accesses.items batch
+      → BatchesRunSideBySide
       → left ≡ [] → ComingHome whole batch s left now before turns
       → LenderStands meaning now (after_turns_of batch s).state × (turns ≡ before ++ (after_turns_of batch s).turns)
   all_came whole now batch s left before turns stands below once none law nobody far =
-      ended far.come far.rest far.all (subst (AllZip (IsBack whole s) far.rest) nobody far.back) far.half far.logged_so_far
+      ended far.come far.rest far.all
+          (subst (AllZip (IsBack whole s) far.rest) nobody far.back) far.half far.logged_so_far
     where
-      ended : (come rest : List ℕ) → come ++ rest ≡ batch → AllZip (IsBack whole s) rest [] → Halfway whole s (all_home whole.accesses.items s come s) rest now
-          → turns ≡ before ++ map (logged_turn s) come → LenderStands meaning now (after_turns_of batch s).state × (turns ≡ before ++ (after_turns_of batch s).turns)
+      ended : (come rest : List ℕ) → come ++ rest ≡ batch → AllZip (IsBack whole s) rest []
+          → Halfway whole s (all_home whole.accesses.items s come s) rest now
+          → turns ≡ before ++ map (logged_turn s) come → LenderStands meaning now (after_turns_of batch s).state
+          × (turns ≡ before ++ (after_turns_of batch s).turns)
       ended come (i ∷ rest) all back half log = absurd back
       ended come [] all back half log =
-          let are : AreAccessesOf s whole.accesses.items = record { each = stands.accesses; of_needs = λ i lt. (stands.members i lt).access } in
+          let are : AreAccessesOf s whole.accesses.items =
+              record { each = stands.accesses; of_needs = λ i lt. (stands.members i lt).access } in
           let side = law s whole.accesses.items batch are below once none in
           let whole_batch : come ≡ batch = sym (append-nil come) ∙ all in
-          let state : all_home whole.accesses.items s come s ≡ (after_turns_of batch s).state = ap (λ is. all_home whole.accesses.items s is s) whole_batch ∙ sym side.1 in (
-            stands_again whole now s (after_turns_of batch s).state stands (turns_keep_systems batch s) (subst (λ u. Halfway whole s u [] now) state half),
+          let state : all_home whole.accesses.items s come s
+              ≡ (after_turns_of batch s).state = ap (λ is. all_home whole.accesses.items s is s) whole_batch
+              ∙ sym side.1 in (
+            stands_again whole now s (after_turns_of batch s).state stands (turns_keep_systems batch s)
+                (subst (λ u. Halfway whole s u [] now) state half),
             log ∙ ap (λ is. before ++ map (logged_turn s) is) whole_batch ∙ ap (λ ts. before ++ ts) (sym side.0),
           )

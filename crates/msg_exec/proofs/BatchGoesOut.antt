@@ -17,13 +17,15 @@ use Rattle.msg_exec.proofs.BatchWritesApart.{any_more, earlier_write_not, others
 
 -- ---- lists side by side
 
-pub zip_more : {X Y : Type 0} (R : X → Y → Type 0) (xs : List X) (ys : List Y) (x : X) (y : Y) → AllZip R xs ys → R x y → AllZip R (xs ++ x ∷ []) (ys ++ y ∷ [])
+pub zip_more : {X Y : Type 0} (R : X → Y → Type 0) (xs : List X) (ys : List Y) (x : X) (y : Y) → AllZip R xs ys → R x y
+    → AllZip R (xs ++ x ∷ []) (ys ++ y ∷ [])
 zip_more R [] [] x y all one = (one, tt)
 zip_more R [] (b ∷ ys) x y all one = absurd all
 zip_more R (a ∷ xs) [] x y all one = absurd all
 zip_more R (a ∷ xs) (b ∷ ys) x y all one = (all.0, zip_more R xs ys x y all.1 one)
 
-pub beside : {X Y : Type 0} (R : X → Y → Type 0) (xs : List X) (ys : List Y) (k : ℕ) (y : Y) → AllZip R xs ys → slice_get ys k ≡ Some y → (x : X) × Contains xs x × R x y
+pub beside : {X Y : Type 0} (R : X → Y → Type 0) (xs : List X) (ys : List Y) (k : ℕ) (y : Y) → AllZip R xs ys
+    → slice_get ys k ≡ Some y → (x : X) × Contains xs x × R x y
 beside R [] [] k y all at = absurd cc
 beside R [] (b ∷ ys) k y all at = absurd all
 beside R (a ∷ xs) [] k y all at = absurd all
@@ -56,15 +58,18 @@ module _ {S : Type 0} where
     totals = refl;
   }
 
-  module _ (whole old new : Lender S) (is : List ℕ) (js : List (Job S)) (i : ℕ) (j : Job S) (out : AreOut whole is js old) (goes : GoesOut old i j new)
-      (fresh : ¬ Contains is i) (free : All (λ x. ¬ Conflict (access_of whole.accesses.items x) (access_of whole.accesses.items i)) is) where
+  module _ (whole old new : Lender S) (is : List ℕ) (js : List (Job S)) (i : ℕ) (j : Job S)
+      (out : AreOut whole is js old) (goes : GoesOut old i j new)
+      (fresh : ¬ Contains is i) (free : All
+          (λ x. ¬ Conflict (access_of whole.accesses.items x) (access_of whole.accesses.items i)) is) where
     its : j.access ≡ access_of whole.accesses.items i
     its = goes.access ∙ ap (λ xs. access_of xs i) out.accesses
 
     -- what it writes is still there
     unlent : (p : Part) → writes j.access p ≡ true → slot p old.world ≡ slot p whole.world
     unlent p is_written =
-        let none = earlier_write_not whole.accesses.items is i p free (written_is_used _ p (ap (λ a. writes a p) (sym its) ∙ is_written)) in
+        let none = earlier_write_not whole.accesses.items is i p free
+            (written_is_used _ p (ap (λ a. writes a p) (sym its) ∙ is_written)) in
         out.world p ∙ rw none refl
 
     is_out : IsOut whole i j
@@ -79,13 +84,16 @@ module _ {S : Type 0} where
       ];
     }
 
-    left_there : (p : Part) → slot p new.world ≡ (if any_writes whole.accesses.items (is ++ i ∷ []) p then None else slot p whole.world)
+    left_there : (p : Part) → slot p new.world
+        ≡ (if any_writes whole.accesses.items (is ++ i ∷ []) p then None else slot p whole.world)
     left_there p =
-        let more : any_writes whole.accesses.items (is ++ i ∷ []) p ≡ (any_writes whole.accesses.items is p || writes j.access p) =
+        let more : any_writes whole.accesses.items (is ++ i ∷ []) p
+            ≡ (any_writes whole.accesses.items is p || writes j.access p) =
         any_more whole.accesses.items is i p ∙ ap (λ a. any_writes whole.accesses.items is p || writes a p) (sym its) in
         goes.lent.stayed p ∙ elim (cases_Bool (writes j.access p)) [
           | inl is_written ↦
-              let none = earlier_write_not whole.accesses.items is i p free (written_is_used _ p (ap (λ a. writes a p) (sym its) ∙ is_written)) in
+              let none = earlier_write_not whole.accesses.items is i p free
+                  (written_is_used _ p (ap (λ a. writes a p) (sym its) ∙ is_written)) in
               rw (more, is_written, none) refl
           | inr isnt ↦ elim (cases_Bool (any_writes whole.accesses.items is p)) [
             | inl some ↦ rw (more, isnt, some) (out.world p ∙ rw some refl)
@@ -100,7 +108,9 @@ module _ {S : Type 0} where
       world = left_there;
       as_many = ap length goes.systems ∙ length-set old.systems.items i None ∙ out.as_many;
       others = λ k away.
-          let other : k ≢ i = λ same. away (Contains-append_right is (i ∷ []) k (subst (Contains (i ∷ [])) (sym same) (Contains-head i []))) in
+          let other : k ≢ i =
+              λ same. away (Contains-append_right is (i ∷ []) k
+              (subst (Contains (i ∷ [])) (sym same) (Contains-head i []))) in
           ap (λ xs. slice_index_or xs k None) goes.systems ∙ get_or-set_other old.systems.items i k None None other
           ∙ out.others k (λ there. away (Contains-append_left is (i ∷ []) k there));
       accesses = goes.accesses ∙ out.accesses;
@@ -119,23 +129,28 @@ module _ {S : Type 0} where
     pub home : IsHome (access_of g.accesses.items i) g.world
 
 module _ {S : Type 0} (meaning : S → Meaning) where
-  pub may_go : (whole old : Lender S) (s : State) (is : List ℕ) (js : List (Job S)) (i : ℕ) → LenderStands meaning whole s → i < s.systems → AreOut whole is js old
-      → ¬ Contains is i → All (λ x. ¬ Conflict (access_of whole.accesses.items x) (access_of whole.accesses.items i)) is → MayGo old i
+  pub may_go : (whole old : Lender S) (s : State) (is : List ℕ) (js : List (Job S)) (i : ℕ)
+      → LenderStands meaning whole s → i < s.systems → AreOut whole is js old
+      → ¬ Contains is i → All (λ x. ¬ Conflict (access_of whole.accesses.items x) (access_of whole.accesses.items i)) is
+      → MayGo old i
   may_go whole old s is js i stands lt out fresh free =
       let here : MemberStands meaning whole s.types i (s.members i) = stands.members i lt in
-      let its : access_of old.accesses.items i ≡ access_of whole.accesses.items i = ap (λ xs. access_of xs i) out.accesses in
+      let its : access_of old.accesses.items i
+          ≡ access_of whole.accesses.items i = ap (λ xs. access_of xs i) out.accesses in
       record {
         number = omega (arith, lt, stands.accesses, ap length out.accesses);
         there = ap is_some (out.others i fresh) ∙ some_there (system_at whole i) _ here.guarded;
         home = λ p used.
             let used_by : IsTrue (uses (access_of whole.accesses.items i) p) = ap (λ a. uses a p) (sym its) ∙ used in
-            ap is_some (out.world p ∙ rw (earlier_write_not whole.accesses.items is i p free used_by) refl) ∙ here.home p used_by;
+            ap is_some (out.world p ∙ rw (earlier_write_not whole.accesses.items is i p free used_by) refl)
+                ∙ here.home p used_by;
       }
 
   -- ---- what is out
 
   -- a job has all that its access writes
-  pub has_written : (whole : Lender S) (s : State) (i : ℕ) (j : Job S) → LenderStands meaning whole s → i < s.systems → IsOut whole i j
+  pub has_written : (whole : Lender S) (s : State) (i : ℕ) (j : Job S) → LenderStands meaning whole s → i < s.systems
+      → IsOut whole i j
       → (p : Part) → is_some (slot p j.taken) ≡ writes j.access p
   has_written whole s i j stands lt out p = ap is_some (out.taken p) ∙ elim (cases_Bool (writes j.access p)) [
     | inl is ↦ rw is ((stands.members i lt).home p (written_is_used _ p (ap (λ a. writes a p) (sym out.access) ∙ is)))
@@ -143,20 +158,26 @@ module _ {S : Type 0} (meaning : S → Meaning) where
   ]
 
   -- the systems of a batch and their jobs are one and the same
-  pub its_member : (whole : Lender S) (s : State) (i : ℕ) (j : Job S) → LenderStands meaning whole s → i < s.systems → IsOut whole i j
+  pub its_member : (whole : Lender S) (s : State) (i : ℕ) (j : Job S) → LenderStands meaning whole s → i < s.systems
+      → IsOut whole i j
       → job_state meaning j.guarded ≡ (s.members i).job
-  its_member whole s i j stands lt out = subst (λ x. IsSomeAnd x (λ b. job_state meaning b ≡ (s.members i).job)) out.guarded (stands.members i lt).guarded
+  its_member whole s i j stands lt out =
+      subst (λ x. IsSomeAnd x (λ b. job_state meaning b ≡ (s.members i).job)) out.guarded (stands.members i lt).guarded
 
-  may_run : (whole left : Lender S) (s : State) (is : List ℕ) (js : List (Job S)) (i : ℕ) (j : Job S) → LenderStands meaning whole s → i < s.systems
-      → AreOut whole is js left → NoneConflict whole.accesses.items is → Contains is i → IsOut whole i j → MayRun meaning left.world j
+  may_run : (whole left : Lender S) (s : State) (is : List ℕ) (js : List (Job S)) (i : ℕ) (j : Job S)
+      → LenderStands meaning whole s → i < s.systems
+      → AreOut whole is js left → NoneConflict whole.accesses.items is → Contains is i → IsOut whole i j
+      → MayRun meaning left.world j
   may_run whole left s is js i j stands lt all none there out = record {
     loan = record {
       size = sizes_meet whole.world left.world j.taken all.size out.size;
       written = has_written whole s i j stands lt out;
       read = λ p is_read isnt.
           let A : Access → Type 0 = λ a. IsTrue (uses a p) in
-          let used : IsTrue (uses (access_of whole.accesses.items i) p) = subst A out.access (or_left _ (writes j.access p) is_read) in
-          let none_write = others_write_not whole.accesses.items is i p none there used (ap (λ a. writes a p) (sym out.access) ∙ isnt) in
+          let used : IsTrue (uses (access_of whole.accesses.items i) p) =
+              subst A out.access (or_left _ (writes j.access p) is_read) in
+          let none_write = others_write_not whole.accesses.items is i p none there used
+              (ap (λ a. writes a p) (sym out.access) ∙ isnt) in
           ap is_some (all.world p ∙ rw none_write refl) ∙ (stands.members i lt).home p used;
     };
     access =
@@ -165,25 +186,31 @@ module _ {S : Type 0} (meaning : S → Meaning) where
         (subst (λ a. IsAccessOf (needs_of (s.members i)) a) (sym out.access) (stands.members i lt).access);
   }
 
-  pub all_may_run : (whole left : Lender S) (s : State) (is : List ℕ) (js : List (Job S)) → LenderStands meaning whole s → All (λ i. i < s.systems) is
+  pub all_may_run : (whole left : Lender S) (s : State) (is : List ℕ) (js : List (Job S)) → LenderStands meaning whole s
+      → All (λ i. i < s.systems) is
       → AreOut whole is js left → NoneConflict whole.accesses.items is → EachMay (MayRun meaning left.world) js
   all_may_run whole left s is js stands below out none k j at =
       let one = beside (IsOut whole) is js k j out.each at in
-      may_run whole left s is js one.0 j stands (All-contains (λ i. i < s.systems) is one.0 below one.1) out none one.1 one.2
+      may_run whole left s is js one.0 j stands
+          (All-contains (λ i. i < s.systems) is one.0 below one.1) out none one.1 one.2
 
   -- ---- what they stand for
 
   -- what is left stands for what stood there
-  pub left_stands : (whole left : Lender S) (s : State) (is : List ℕ) (js : List (Job S)) → PartsStand whole.world s.world → AreOut whole is js left → PartsStand left.world s.world
+  pub left_stands : (whole left : Lender S) (s : State) (is : List ℕ) (js : List (Job S))
+      → PartsStand whole.world s.world → AreOut whole is js left → PartsStand left.world s.world
   left_stands whole left s is js stands out p =
-      subst (λ o. IfSome o (λ k. StuffStands p k (content p s.world))) (sym (out.world p)) (elim (cases_Bool (any_writes whole.accesses.items is p)) [
+      subst (λ o. IfSome o (λ k. StuffStands p k (content p s.world))) (sym (out.world p))
+          (elim (cases_Bool (any_writes whole.accesses.items is p)) [
         | inl some ↦ rw some tt
         | inr none ↦ rw none (stands p)
       ])
 
-  pub taken_stands : (whole : Lender S) (s : State) (i : ℕ) (j : Job S) → PartsStand whole.world s.world → IsOut whole i j → PartsStand j.taken s.world
+  pub taken_stands : (whole : Lender S) (s : State) (i : ℕ) (j : Job S) → PartsStand whole.world s.world
+      → IsOut whole i j → PartsStand j.taken s.world
   taken_stands whole s i j stands out p =
-      subst (λ o. IfSome o (λ k. StuffStands p k (content p s.world))) (sym (out.taken p)) (elim (cases_Bool (writes j.access p)) [
+      subst (λ o. IfSome o (λ k. StuffStands p k (content p s.world))) (sym (out.taken p))
+          (elim (cases_Bool (writes j.access p)) [
         | inl is ↦ rw is (stands p)
         | inr isnt ↦ rw isnt tt
       ])

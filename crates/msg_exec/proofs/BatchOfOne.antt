@@ -19,7 +19,8 @@ use Rattle.msg_exec.proofs.ItemsOfLists.{read_or}
 no_pairs : (R : ℕ → ℕ → Type 0) (i : ℕ) → AllPairs R (i ∷ [])
 no_pairs R i = λ a b d lt l. absurd (omega arith)
 
-module _ {S : Type 0} (meaning : S → Meaning) (g : Lender S) (s : State) (i : ℕ) (stands : LenderStands meaning g s) (lt : i < s.systems) where
+module _ {S : Type 0} (meaning : S → Meaning) (g : Lender S) (s : State) (i : ℕ) (stands : LenderStands meaning g s)
+    (lt : i < s.systems) where
   below : All (λ k. k < s.systems) (i ∷ [])
   below = All-cons (λ k. k < s.systems) i [] lt (λ k d l. absurd (omega arith))
 
@@ -27,8 +28,10 @@ module _ {S : Type 0} (meaning : S → Meaning) (g : Lender S) (s : State) (i : 
   none = no_pairs (λ a b. ¬ Conflict (access_of g.accesses.items a) (access_of g.accesses.items b)) i
 
   -- What its access writes is out, and the system is where it was.
-  module _ (left taken : Parts) (a : Access) (held : Option (GuardedSystem S)) (guarded : GuardedSystem S) (is_its : a ≡ get_or g.accesses.items i a)
-      (is_there : held ≡ get_or g.systems.items i held) (is_some : held ≡ Some guarded) (lent : LendsOut a g.world left taken) where
+  module _ (left taken : Parts) (a : Access) (held : Option (GuardedSystem S)) (guarded : GuardedSystem S)
+      (is_its : a ≡ get_or g.accesses.items i a)
+      (is_there : held ≡ get_or g.systems.items i held) (is_some : held ≡ Some guarded)
+          (lent : LendsOut a g.world left taken) where
     its : a ≡ access_of g.accesses.items i
     its = sym (read_or g.accesses.items i _ a (omega (arith, lt, stands.accesses)) is_its)
 
@@ -45,7 +48,8 @@ module _ {S : Type 0} (meaning : S → Meaning) (g : Lender S) (s : State) (i : 
     out = record {
       each = (record { number = refl; guarded = there; access = its; size = lent.taken_size; taken = lent.moved }, tt);
       size = lent.left_size;
-      world = λ p. lent.stayed p ∙ ap (λ b. if b then None else slot p g.world) (ap (λ x. writes x p) its ∙ sym (or-false (writes (access_of g.accesses.items i) p)));
+      world = λ p. lent.stayed p ∙ ap (λ b. if b then None else slot p g.world)
+          (ap (λ x. writes x p) its ∙ sym (or-false (writes (access_of g.accesses.items i) p)));
       as_many = refl;
       others = λ k away. refl;
       accesses = refl;
@@ -55,26 +59,32 @@ module _ {S : Type 0} (meaning : S → Meaning) (g : Lender S) (s : State) (i : 
     pub may_take_turn : MayRun meaning left its_job
     may_take_turn = all_may_run meaning g mid s (i ∷ []) (its_job ∷ []) stands below out none 0 its_job refl
 
-    module _ (later : Parts) (came : Outcome) (after : GuardedSystem S) (took : HasTakenTurn meaning left taken guarded later came after) where
+    module _ (later : Parts) (came : Outcome) (after : GuardedSystem S)
+        (took : HasTakenTurn meaning left taken guarded later came after) where
       abbrev pub its_done : Done S
       its_done = record { number = i; guarded = after; taken = later; outcome = came }
 
       begun : ComingHome meaning g (i ∷ []) s (its_done ∷ []) mid [] []
-      begun = begin_home meaning g mid s (i ∷ []) (its_job ∷ []) (its_done ∷ []) [] stands below out (record { number = refl; turn = took }, tt)
+      begun = begin_home meaning g mid s (i ∷ []) (its_job ∷ []) (its_done ∷ []) [] stands below out
+          (record { number = refl; turn = took }, tt)
 
       pub may_come_home : MayCome mid its_done
       may_come_home = next_may_come meaning g mid (i ∷ []) s its_done [] [] [] stands below (its_done ∷ []) refl begun
 
-      pub turn_taken : (new : Lender S) → ComesHome meaning mid its_done new → HomeMerges → HomeWhereEither → BatchesRunSideBySide
+      pub turn_taken : (new : Lender S) → ComesHome meaning mid its_done new → HomeMerges → HomeWhereEither
+          → BatchesRunSideBySide
           → LenderStands meaning new (after_turn_of i s)
       turn_taken new comes merges either law =
           let turn : Turn = record { system = i; outcome = came } in
           let once = no_pairs (λ a b. a ≢ b) i in
-          let far = next_comes meaning g mid (i ∷ []) s its_done [] [] [] stands below new turn once none comes refl merges either (its_done ∷ []) refl begun in
+          let far = next_comes meaning g mid (i ∷ []) s its_done [] []
+              [] stands below new turn once none comes refl merges either (its_done ∷ []) refl begun in
           (all_came meaning g new (i ∷ []) s [] [] (turn ∷ []) stands below once none law refl far).0
 
       pub turn_is_logged : record { system = i; outcome = came } ≡ logged_turn s i
       turn_is_logged =
           let left_there = left_stands meaning g mid s (i ∷ []) (its_job ∷ []) stands.world out in
-          let back = (all_back meaning g mid s (i ∷ []) (its_job ∷ []) (its_done ∷ []) stands below left_there out.each (record { number = refl; turn = took }, tt)).0 in
+          let back =
+              (all_back meaning g mid s (i ∷ []) (its_job ∷ []) (its_done ∷ []) stands below left_there out.each
+              (record { number = refl; turn = took }, tt)).0 in
           λ k. record { system = i; outcome = back.after.outcome k }

@@ -15,10 +15,12 @@ use Rattle.msg_order.proofs.Elements.{Contains-cases}
 -- ---- a list up to an element
 
 -- what holds of each pair holds of each element before this one, and it
-pub each_before : {X : Type 0} (R : X → X → Type 0) (xs : List X) (k : ℕ) (d : X) → k < length xs → AllPairs R xs → All (λ x. R x (get_or xs k d)) (take k xs)
+pub each_before : {X : Type 0} (R : X → X → Type 0) (xs : List X) (k : ℕ) (d : X) → k < length xs → AllPairs R xs
+    → All (λ x. R x (get_or xs k d)) (take k xs)
 each_before R xs k d lt pairs = λ m e below.
     let earlier : m < k = omega (arith, below, length-take-le k xs (omega (arith, lt))) in
-    let same : R (get_or xs m e) (get_or xs k d) = subst (R (get_or xs m e)) (get_or_default xs k e d lt) (pairs m k e earlier lt) in
+    let same : R (get_or xs m e) (get_or xs k d) = subst (R (get_or xs m e)) (get_or_default xs k e d lt)
+        (pairs m k e earlier lt) in
     subst (λ x. R x (get_or xs k d)) (sym (get_or-take k xs m e earlier)) same
 
 pub not_before : (xs : List ℕ) (i : ℕ) → All (λ x. x ≢ i) xs → ¬ Contains xs i
@@ -48,32 +50,44 @@ module _ (accesses : List Access) where
   abbrev Free : ℕ → ℕ → Type 0
   Free i j = ¬ Conflict (access_of accesses i) (access_of accesses j)
 
-  none_writes : (is : List ℕ) (p : Part) → All (λ x. writes (access_of accesses x) p ≡ false) is → any_writes accesses is p ≡ false
+  none_writes : (is : List ℕ) (p : Part) → All (λ x. writes (access_of accesses x) p ≡ false) is
+      → any_writes accesses is p ≡ false
   none_writes [] p all = refl
   none_writes (x ∷ xs) p all =
-      rw (All-head (λ x. writes (access_of accesses x) p ≡ false) x xs all) (none_writes xs p (All-tail (λ x. writes (access_of accesses x) p ≡ false) x xs all))
+      rw (All-head (λ x. writes (access_of accesses x) p ≡ false) x xs all)
+          (none_writes xs p (All-tail (λ x. writes (access_of accesses x) p ≡ false) x xs all))
 
   -- what one of them uses none of the earlier ones writes, and none of the later ones
-  pub earlier_write_not : (is : List ℕ) (i : ℕ) (p : Part) → All (λ x. Free x i) is → IsTrue (uses (access_of accesses i) p) → any_writes accesses is p ≡ false
-  earlier_write_not is i p all used = none_writes is p (λ k d lt. first_unwritten _ (access_of accesses i) p (all k d lt) used)
+  pub earlier_write_not : (is : List ℕ) (i : ℕ) (p : Part) → All (λ x. Free x i) is
+      → IsTrue (uses (access_of accesses i) p) → any_writes accesses is p ≡ false
+  earlier_write_not is i p all used =
+      none_writes is p (λ k d lt. first_unwritten _ (access_of accesses i) p (all k d lt) used)
 
-  pub later_write_not : (is : List ℕ) (i : ℕ) (p : Part) → All (Free i) is → IsTrue (uses (access_of accesses i) p) → any_writes accesses is p ≡ false
-  later_write_not is i p all used = none_writes is p (λ k d lt. second_unwritten (access_of accesses i) _ p (all k d lt) used)
+  pub later_write_not : (is : List ℕ) (i : ℕ) (p : Part) → All (Free i) is → IsTrue (uses (access_of accesses i) p)
+      → any_writes accesses is p ≡ false
+  later_write_not is i p all used =
+      none_writes is p (λ k d lt. second_unwritten (access_of accesses i) _ p (all k d lt) used)
 
   -- what one of them only reads none of them writes
   pub others_write_not : (is : List ℕ) (i : ℕ) (p : Part) → NoneConflict accesses is → Contains is i
-      → IsTrue (uses (access_of accesses i) p) → writes (access_of accesses i) p ≡ false → any_writes accesses is p ≡ false
+      → IsTrue (uses (access_of accesses i) p) → writes (access_of accesses i) p ≡ false
+      → any_writes accesses is p ≡ false
   others_write_not [] i p none there used isnt = refl
   others_write_not (x ∷ xs) i p none there used isnt = elim (Contains-cases x xs i there) [
     | inl same ↦
         let here : writes (access_of accesses x) p ≡ false = ap (λ k. writes (access_of accesses k) p) same ∙ isnt in
-        rw here (later_write_not xs x p (pairs_head Free x xs none) (ap (λ k. uses (access_of accesses k) p) same ∙ used))
+        rw here (later_write_not xs x p (pairs_head Free x xs none)
+            (ap (λ k. uses (access_of accesses k) p) same ∙ used))
     | inr later ↦
-        let here : writes (access_of accesses x) p ≡ false = first_unwritten _ (access_of accesses i) p (All-contains (Free x) xs i (pairs_head Free x xs none) later) used in
+        let here : writes (access_of accesses x) p
+            ≡ false =
+            first_unwritten _ (access_of accesses i) p
+            (All-contains (Free x) xs i (pairs_head Free x xs none) later) used in
         rw here (others_write_not xs i p (pairs_tail Free x xs none) later used isnt)
   ]
 
-  pub any_more : (is : List ℕ) (i : ℕ) (p : Part) → any_writes accesses (is ++ i ∷ []) p ≡ (any_writes accesses is p || writes (access_of accesses i) p)
+  pub any_more : (is : List ℕ) (i : ℕ) (p : Part) → any_writes accesses (is ++ i ∷ []) p
+      ≡ (any_writes accesses is p || writes (access_of accesses i) p)
   any_more [] i p = or-false (writes (access_of accesses i) p)
   any_more (x ∷ xs) i p =
       ap (λ b. writes (access_of accesses x) p || b) (any_more xs i p)

@@ -19,31 +19,39 @@ use Rattle.msg_frames.proofs.SystemsStay.{accesses_stay, before_keeps, joined_be
 -- ---- which orders are lawful
 
 -- a lawful order has no system that isn't there
-pub lawful_below : (frame : Frame) (s : State) (order : List ℕ) → IsLawfulFor frame s order → All (λ i. i < (before_turns frame.posts s).systems) order
+pub lawful_below : (frame : Frame) (s : State) (order : List ℕ) → IsLawfulFor frame s order
+    → All (λ i. i < (before_turns frame.posts s).systems) order
 lawful_below frame s order x k d lt =
     joined_below (before_turns frame.posts s) _ ((x.lawful.of_joined _).0 (Contains-get_or order k d lt))
 
 module _ {S : Type 0} (meaning : S → Meaning) where
   -- where nobody joins, the plan stays
   pub plan_stays : (c : Core S) (s : State) → CoreStands meaning c s → NobodyJoins s → PlansNext c s c.plan
-  plan_stays c s stands none = subst (λ js. IsPlanOf c.lender.accesses.items s.rules js c.plan) (sym (nobody_more s none)) stands.plan
+  plan_stays c s stands none = subst (λ js. IsPlanOf c.lender.accesses.items s.rules js c.plan)
+      (sym (nobody_more s none)) stands.plan
 
   -- the plan settles the order of those that will have joined
-  settled_next : (c : Core S) (s : State) (frame : Frame) (g : Graph) → CoreStands meaning c s → IsSettledOrder c.lender.accesses.items s.rules (join_flags (counted (joining s))) g
+  settled_next : (c : Core S) (s : State) (frame : Frame) (g : Graph) → CoreStands meaning c s
+      → IsSettledOrder c.lender.accesses.items s.rules (join_flags (counted (joining s))) g
       → IsOrderOf (before_turns frame.posts s) g
   settled_next c s frame g stands settled =
       let b : State = before_turns frame.posts s in
       let same = before_keeps frame.posts s in
       record {
         accesses = c.lender.accesses.items;
-        of_systems = accesses_stay s b c.lender.accesses.items same (record { each = stands.lender.accesses; of_needs = λ i lt. (stands.lender.members i lt).access });
-        is_settled = subst (λ (rs : List Rule). IsSettledOrder c.lender.accesses.items rs (join_flags b) g) (sym same.rules) settled;
+        of_systems =
+            accesses_stay s b c.lender.accesses.items same
+            (record { each = stands.lender.accesses; of_needs = λ i lt. (stands.lender.members i lt).access });
+        is_settled = subst (λ (rs : List Rule). IsSettledOrder c.lender.accesses.items rs (join_flags b) g)
+            (sym same.rules) settled;
       }
 
   -- so what the plan accepts is what is lawful
-  pub accepted : (accepts : Bool) (c : Core S) (s : State) (frame : Frame) (order : List ℕ) (g : Graph) → SystemsHaveOneOrder → CoreStands meaning c s
+  pub accepted : (accepts : Bool) (c : Core S) (s : State) (frame : Frame) (order : List ℕ) (g : Graph)
+      → SystemsHaveOneOrder → CoreStands meaning c s
       → IsSettledOrder c.lender.accesses.items s.rules (join_flags (counted (joining s))) g
-      → (IsTrue accepts ↔ IsLawfulOrder g (join_flags (counted (joining s))) order) → IsTrue accepts ↔ IsLawfulFor frame s order
+      → (IsTrue accepts ↔ IsLawfulOrder g (join_flags (counted (joining s))) order) → IsTrue accepts
+      ↔ IsLawfulFor frame s order
   accepted accepts c s frame order g one stands settled tells =
       let b : State = before_turns frame.posts s in
       let is : IsOrderOf b g = settled_next c s frame g stands settled in (
@@ -53,16 +61,20 @@ module _ {S : Type 0} (meaning : S → Meaning) where
 
   -- ---- the frame
 
-  pub frame_replayed : (c b d : Core S) (s : State) (frame : Frame) (order : List ℕ) (log : Log) (replies : List Reply) → CoreStands meaning c s → HasOpened meaning frame s b replies
-      → FrameStaysSound → FramesAgreeInLawfulOrders → IsLawfulFor frame s order → LenderStands meaning d.lender (after_turns_of order (before_turns frame.posts s)).state
-      → log ≡ (frame_in order frame s).log → d.joins ≡ b.joins → d.rules ≡ b.rules → d.plan ≡ b.plan → d.lender.accesses.items ≡ b.lender.accesses.items
+  pub frame_replayed : (c b d : Core S) (s : State) (frame : Frame) (order : List ℕ) (log : Log) (replies : List Reply)
+      → CoreStands meaning c s → HasOpened meaning frame s b replies
+      → FrameStaysSound → FramesAgreeInLawfulOrders → IsLawfulFor frame s order
+      → LenderStands meaning d.lender (after_turns_of order (before_turns frame.posts s)).state
+      → log ≡ (frame_in order frame s).log → d.joins ≡ b.joins → d.rules ≡ b.rules → d.plan ≡ b.plan
+      → d.lender.accesses.items ≡ b.lender.accesses.items
       → HasLeft meaning (IsReplay frame order s log) s d
   frame_replayed c b d s frame order log replies stands has stays agree lawful lender told joins rules plan accesses =
       let turns : List ℕ = concat b.plan.batches in
       let settled : Log = (frame_in turns frame s).log in
       let own = is_frame_by meaning b s frame settled turns replies refl has refl in
       let alike = agree frame s _ settled lawful.settled order own lawful.is_order lawful.lawful in
-      let ran : HasLeft meaning (IsFrame frame s settled) s d = frame_ran meaning b d s frame settled turns replies refl has stands.sound stays
+      let ran : HasLeft meaning (IsFrame frame s settled) s d =
+          frame_ran meaning b d s frame settled turns replies refl has stands.sound stays
       (subst (LenderStands meaning d.lender) alike.0 lender) refl joins rules plan accesses in
       record {
         state = ran.state;

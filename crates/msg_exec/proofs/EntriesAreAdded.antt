@@ -21,17 +21,22 @@ pub kept_alike : {x y t : Totals} → x ≡ y → t ≡ kept y → t ≡ kept x
 kept_alike same is = is ∙ ap kept (sym same)
 
 of_its_type : (t : ℕ) (o : Option ℕ) (es : List Entry)
-    → (if (elim o [ None ↦ false | Some u ↦ u == t ]) then es else []) ≡ (elim o [ None ↦ [] | Some u ↦ if u == t then es else [] ])
+    → (if (elim o [ None ↦ false | Some u ↦ u == t ]) then es else [])
+    ≡ (elim o [ None ↦ [] | Some u ↦ if u == t then es else [] ])
 of_its_type t None es = refl
 of_its_type t (Some u) es = refl
 
 -- the entries from op k on are that of op k and those after it
-pub entries_from : (t : ℕ) (ops : List Op) (replies : List Reply) (k : ℕ) (reply : Reply) → slice_get replies k ≡ Some reply
-    → entries_for t (drop k ops) (drop k replies) ≡ entry_at t ops k reply ++ entries_for t (drop (suc k) ops) (drop (suc k) replies)
+pub entries_from : (t : ℕ) (ops : List Op) (replies : List Reply) (k : ℕ) (reply : Reply) → slice_get replies k
+    ≡ Some reply
+    → entries_for t (drop k ops) (drop k replies) ≡ entry_at t ops k reply
+    ++ entries_for t (drop (suc k) ops) (drop (suc k) replies)
 entries_from t ops [] k reply here = absurd (none-some reply here)
 entries_from t [] (r ∷ replies) zero reply here = refl
 entries_from t (op ∷ ops) (r ∷ replies) zero reply here =
-    ap (λ es. es ++ entries_for t ops replies) (of_its_type t (type_read op) (option_to_list (entry_of r)) ∙ ap (λ x. entry_at t (op ∷ ops) 0 x) (ap (λ o. unwrap_or o r) here))
+    ap (λ es. es ++ entries_for t ops replies)
+        (of_its_type t (type_read op) (option_to_list (entry_of r))
+        ∙ ap (λ x. entry_at t (op ∷ ops) 0 x) (ap (λ o. unwrap_or o r) here))
 entries_from t [] (r ∷ replies) (suc k) reply here = refl
 entries_from t (op ∷ ops) (r ∷ replies) (suc k) reply here = entries_from t ops replies k reply here
 
@@ -41,9 +46,11 @@ without_replies t (op ∷ ops) = refl
 
 -- ---- the loop over the replies
 
-pub entered_one_more : (t : ℕ) (ops : List Op) (replies : List Reply) (k : ℕ) (reply : Reply) (y z : Totals) → k < length replies → reply ≡ get_or replies k reply
+pub entered_one_more : (t : ℕ) (ops : List Op) (replies : List Reply) (k : ℕ) (reply : Reply) (y z : Totals)
+    → k < length replies → reply ≡ get_or replies k reply
     → with_entries (entries_for t (drop k ops) (drop k replies)) y ≡ z
-    → with_entries (entries_for t (drop (k + 1) ops) (drop (k + 1) replies)) (with_entries (entry_at t ops k reply) y) ≡ z
+    → with_entries (entries_for t (drop (k + 1) ops) (drop (k + 1) replies)) (with_entries (entry_at t ops k reply) y)
+    ≡ z
 entered_one_more t ops replies k reply y z lt is to =
     let here : slice_get replies k ≡ Some reply = slice_get-get_or replies k reply lt ∙ ap (λ r. Some r) (sym is) in
     let next : k + 1 ≡ suc k = omega arith in
@@ -55,15 +62,18 @@ pub entered_all : (t : ℕ) (ops : List Op) (replies : List Reply) (k : ℕ) (y 
     → with_entries (entries_for t (drop k ops) (drop k replies)) y ≡ z → y ≡ z
 entered_all t ops replies k y z le to =
     sym (with_entries-none y)
-    ∙ ap (λ es. with_entries es y) (sym (ap (λ rs. entries_for t (drop k ops) rs) (drop_of_length-le replies le) ∙ without_replies t (drop k ops))) ∙ to
+    ∙ ap (λ es. with_entries es y) (sym
+    (ap (λ rs. entries_for t (drop k ops) rs) (drop_of_length-le replies le) ∙ without_replies t (drop k ops))) ∙ to
 
 -- ---- the totals of a system, among those of all
 
 -- what its turn told is entered in its totals where they stand
-pub entered_there : {S : Type 0} (meaning : S → Meaning) (d : Done S) (all : List (Vec Totals)) (x : Vec Totals) (was now : List Totals)
+pub entered_there : {S : Type 0} (meaning : S → Meaning) (d : Done S) (all : List (Vec Totals)) (x : Vec Totals)
+    (was now : List Totals)
     → x ≡ get_or all d.number x → was ≡ x.items → length now ≡ x.len → HaveEntered meaning d was now
     → (u : Vec Totals) → slice_get all d.number ≡ Some u → HaveEntered meaning d u.items (with_items x now).items
 entered_there meaning d all x was now at there size entered u is =
     let same : u ≡ x = ap (λ o. unwrap_or o x) (sym is) ∙ unwrap_or-slice_get all d.number x ∙ sym at in
-    subst (λ xs. HaveEntered meaning d xs (with_items x now).items) (there ∙ ap (λ (v : Vec Totals). v.items) (sym same))
+    subst (λ xs. HaveEntered meaning d xs (with_items x now).items)
+        (there ∙ ap (λ (v : Vec Totals). v.items) (sym same))
     (subst (λ xs. HaveEntered meaning d was xs) (sym (with_items_is x now size)) entered)

@@ -14,7 +14,8 @@ use Rattle.msg_exec.specs.Prelude.{GuardedSystem, IsAfterJob, job_state}
 use Rattle.msg_frames.specs.declared.log.Outcome.TheVariants as outcome
 
 -- nothing is given back but what is written
-pub nothing_else : (a : Access) (taken later : Parts) → ((p : Part) → is_some (slot p taken) ≡ writes a p) → SameShape taken later
+pub nothing_else : (a : Access) (taken later : Parts) → ((p : Part) → is_some (slot p taken) ≡ writes a p)
+    → SameShape taken later
     → (p : Part) → writes a p ≡ false → slot p later ≡ None
 nothing_else a taken later written same p isnt = none (slot p later) (same.there p ∙ written p ∙ isnt)
   where
@@ -31,39 +32,49 @@ pub after_job_that_runs : (j : JobState) (w : WorldState) → true ≡ all_hold 
     }
 after_job_that_runs j w holds = rw (sym holds) refl
 
-pub ran_job : {S : Type 0} (meaning : S → Meaning) (before now : GuardedSystem S) (l : Lent) (taken : Parts) (w : WorldState) (none after replies : List Reply)
-    → none ≡ [] → replies ≡ after → true ≡ all_hold before.guards.items w → now.guards.items ≡ map (after_asking w) before.guards.items
+pub ran_job : {S : Type 0} (meaning : S → Meaning) (before now : GuardedSystem S) (l : Lent) (taken : Parts)
+    (w : WorldState) (none after replies : List Reply)
+    → none ≡ [] → replies ≡ after → true ≡ all_hold before.guards.items w → now.guards.items
+    ≡ map (after_asking w) before.guards.items
     → Ran (meaning before.system) (meaning now.system) l taken none after → LoanStands l w
     → PartsStand taken (turn (meaning before.system) w).state
     → IsAfterJob meaning (after_job (job_state meaning before) w) now taken (outcome.Ran replies)
 ran_job meaning before now l taken w none after replies nothing given holds asked ran stands written =
     let is = after_job_that_runs (job_state meaning before) w holds in
     let m : Meaning = meaning before.system in
-    let moved : meaning now.system ≡ after_turn m w = ran.means ∙ (λ k. record (told (ran.answers w stands k) m) { places = ran.places w stands k }) in
+    let moved : meaning now.system ≡ after_turn m w = ran.means
+        ∙ (λ k. record (told (ran.answers w stands k) m) { places = ran.places w stands k }) in
     subst (λ (after : AfterJob). IsAfterJob meaning after now taken (outcome.Ran replies)) (sym is) (record {
       job = λ k. record { system = moved k; conditions = asked k };
       written = written;
-      outcome = ap (λ rs. outcome.Ran rs) (given ∙ ran.appended ∙ ap (λ rs. rs ++ ran.replies) nothing ∙ ran.answers w stands);
+      outcome =
+          ap (λ rs. outcome.Ran rs) (given ∙ ran.appended ∙ ap (λ rs. rs ++ ran.replies) nothing
+          ∙ ran.answers w stands);
     })
 
 after_job_that_skips : (j : JobState) (w : WorldState) → false ≡ all_hold j.conditions w
-    → after_job j w ≡ record { job = record { system = j.system; conditions = map (after_asking w) j.conditions }; state = w; replies = None }
+    → after_job j w ≡ record { job = record { system = j.system; conditions = map (after_asking w) j.conditions };
+    state = w; replies = None }
 after_job_that_skips j w skips = rw (sym skips) refl
 
 pub skipped_job : {S : Type 0} (meaning : S → Meaning) (before now : GuardedSystem S) (taken : Parts) (w : WorldState)
-    → false ≡ all_hold before.guards.items w → now.system ≡ before.system → now.guards.items ≡ map (after_asking w) before.guards.items → PartsStand taken w
+    → false ≡ all_hold before.guards.items w → now.system ≡ before.system → now.guards.items
+    ≡ map (after_asking w) before.guards.items → PartsStand taken w
     → IsAfterJob meaning (after_job (job_state meaning before) w) now taken outcome.Skipped
 skipped_job meaning before now taken w skips same asked stand =
-    subst (λ (after : AfterJob). IsAfterJob meaning after now taken outcome.Skipped) (sym (after_job_that_skips (job_state meaning before) w skips)) (record {
+    subst (λ (after : AfterJob). IsAfterJob meaning after now taken outcome.Skipped)
+        (sym (after_job_that_skips (job_state meaning before) w skips)) (record {
       job = λ k. record { system = meaning (same k); conditions = asked k };
       written = stand;
       outcome = refl;
     })
 
 -- the conditions of a vector after they were asked through a slice of it
-pub asked_guards : {Z : Type 0} (guards : Vec Asked Z) (slice after : List Asked) (w : WorldState) → slice ≡ guards.items → map (λ (a : Asked). a.condition) after ≡ map (λ (a : Asked). a.condition) slice
+pub asked_guards : {Z : Type 0} (guards : Vec Asked Z) (slice after : List Asked) (w : WorldState) → slice
+    ≡ guards.items → map (λ (a : Asked). a.condition) after ≡ map (λ (a : Asked). a.condition) slice
     → after ≡ map (after_asking w) slice → (with_items guards after).items ≡ map (after_asking w) guards.items
 asked_guards guards slice after w there same moved =
     let f : Asked → Condition = λ a. a.condition in
-    let as_many : length after ≡ length guards.items = sym (length-map after f) ∙ ap length same ∙ length-map slice f ∙ ap length there in
+    let as_many : length after ≡ length guards.items = sym (length-map after f) ∙ ap length same ∙ length-map slice f
+        ∙ ap length there in
     with_items_is guards after (omega (arith, as_many)) ∙ moved ∙ ap (λ gs. map (after_asking w) gs) there

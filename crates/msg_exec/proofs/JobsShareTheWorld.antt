@@ -11,7 +11,8 @@ use Rattle.msg_system.specs.Prelude.{Meaning}
 -- B: a job with its world
 module _ {B J : Type 0} (may : Parts → J → Type 0) (job : B → J) (world : B → Parts) (w : Parts) where
   pub each_may : (bs : List B) (jobs : List J) → map job bs ≡ jobs → map world bs ≡ map (λ (b : B). w) bs
-      → ((k : ℕ) (j : J) → slice_get jobs k ≡ Some j → may w j) → (k : ℕ) (b : B) → slice_get bs k ≡ Some b → may (world b) (job b)
+      → ((k : ℕ) (j : J) → slice_get jobs k ≡ Some j → may w j) → (k : ℕ) (b : B) → slice_get bs k ≡ Some b
+      → may (world b) (job b)
   each_may [] jobs same one h k b at = absurd cc
   each_may (x ∷ bs) [] same one h k b at = absurd cc
   each_may (x ∷ bs) (j ∷ jobs) same one h zero b at =
@@ -52,4 +53,5 @@ module _ {B S E : Type 0} (meaning : S → Meaning) (job : B → Job S) (world :
       → AreDone meaning w jobs ds
   all_are_done bs jobs rs ds same one lawful ok =
       let l : IsLawfulOutcome Lawful bs (oks ds) = subst (IsLawfulOutcome Lawful bs) ok lawful in
-      subst (λ (js : List (Job S)). AreDone meaning w js ds) same (each_done bs ds (sym (length-map ds ok_of) ∙ l.as_many) l.each one)
+      subst (λ (js : List (Job S)). AreDone meaning w js ds) same
+          (each_done bs ds (sym (length-map ds ok_of) ∙ l.as_many) l.each one)

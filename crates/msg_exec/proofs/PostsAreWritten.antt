@@ -20,16 +20,20 @@ HasPosted ps w parts replies = PartsStand parts (after_posts ps w) × (replies �
 abbrev after_post : ℕ × ℤ → WorldState → WorldState
 after_post p w = with_history w p.0 (write (by HOST p.1 ∷ []) (w.histories p.0))
 
-posted_more : (ps : List (ℕ × ℤ)) (p : ℕ × ℤ) (w : WorldState) → after_posts (ps ++ p ∷ []) w ≡ after_post p (after_posts ps w)
+posted_more : (ps : List (ℕ × ℤ)) (p : ℕ × ℤ) (w : WorldState) → after_posts (ps ++ p ∷ []) w
+    ≡ after_post p (after_posts ps w)
 posted_more [] p w = refl
 posted_more (q ∷ ps) p w = posted_more ps p (after_post q w)
 
 replies_more : (ps : List (ℕ × ℤ)) (p : ℕ × ℤ) (w : WorldState)
-    → post_replies (ps ++ p ∷ []) w ≡ post_replies ps w ++ write_reply (numbers_for ((after_posts ps w).histories p.0) 1) ∷ []
+    → post_replies (ps ++ p ∷ []) w ≡ post_replies ps w
+    ++ write_reply (numbers_for ((after_posts ps w).histories p.0) 1) ∷ []
 replies_more [] p w = refl
-replies_more (q ∷ ps) p w = ap (λ rs. write_reply (numbers_for (w.histories q.0) 1) ∷ rs) (replies_more ps p (after_post q w))
+replies_more (q ∷ ps) p w = ap (λ rs. write_reply (numbers_for (w.histories q.0) 1) ∷ rs)
+    (replies_more ps p (after_post q w))
 
-pub one_post_more : (ps : List (ℕ × ℤ)) (k : ℕ) (p : ℕ × ℤ) (w : WorldState) (old new : Parts) (before : List Reply) (reply : Reply) → k < length ps → p ≡ get_or ps k p
+pub one_post_more : (ps : List (ℕ × ℤ)) (k : ℕ) (p : ℕ × ℤ) (w : WorldState) (old new : Parts) (before : List Reply)
+    (reply : Reply) → k < length ps → p ≡ get_or ps k p
     → HasPosted (take k ps) w old before
     → ((w : WorldState) → PartsStand old w → PartsStand new (after_post p w))
     → ((w : WorldState) → PartsStand old w → reply ≡ write_reply (numbers_for (w.histories p.0) 1))
@@ -39,5 +43,6 @@ one_post_more ps k p w old new before reply lt is far state said =
     let now : WorldState = after_posts (take k ps) w in
     subst (λ xs. HasPosted xs w new (before ++ reply ∷ [])) (sym longer) (
       subst (PartsStand new) (sym (posted_more (take k ps) p w)) (state now far.0),
-      ap (λ rs. rs ++ reply ∷ []) far.1 ∙ ap (λ r. post_replies (take k ps) w ++ r ∷ []) (said now far.0) ∙ sym (replies_more (take k ps) p w),
+      ap (λ rs. rs ++ reply ∷ []) far.1 ∙ ap (λ r. post_replies (take k ps) w ++ r ∷ []) (said now far.0)
+          ∙ sym (replies_more (take k ps) p w),
     )

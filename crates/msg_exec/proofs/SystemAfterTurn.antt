@@ -16,27 +16,33 @@ use Rattle.msg_exec.specs.inner.Totals.{HasFewReplies, entries_by}
 
 -- ---- a job doesn't change its conditions
 
-conditions_stay : (w : WorldState) (cs : List Asked) → map (λ a. a.condition) (map (after_asking w) cs) ≡ map (λ a. a.condition) cs
+conditions_stay : (w : WorldState) (cs : List Asked) → map (λ a. a.condition) (map (after_asking w) cs)
+    ≡ map (λ a. a.condition) cs
 conditions_stay w [] = refl
 conditions_stay w (a ∷ cs) = ap (λ rest. a.condition ∷ rest) (conditions_stay w cs)
 
 -- the entries of its last ops are those of its turn
 last_entries : (t : ℕ) (j : JobState) (w : WorldState)
-    → entries_by t (after_job j w).job.system.last (outcome_of (after_job j w).replies) ≡ outcome_entries t j.system (outcome_of (after_job j w).replies)
+    → entries_by t (after_job j w).job.system.last (outcome_of (after_job j w).replies)
+    ≡ outcome_entries t j.system (outcome_of (after_job j w).replies)
 last_entries t j w = elim (cases_Bool (all_hold j.conditions w)) [
-  | inl is ↦ rw is (sym (append-nil (entries_for t (ops_answered (next_op j.system) (turn j.system w).replies) (turn j.system w).replies)))
+  | inl is ↦ rw is (sym (append-nil (entries_for t (ops_answered (next_op j.system) (turn j.system w).replies)
+      (turn j.system w).replies)))
   | inr isnt ↦ rw isnt refl
 ]
 
-at_most_replies : (n : ℕ) (next : List Reply → Option Op) (writer : ℕ) (places : ℕ → ℕ) (w : WorldState) → length (after_at_most n next writer places w).replies ≤ n
+at_most_replies : (n : ℕ) (next : List Reply → Option Op) (writer : ℕ) (places : ℕ → ℕ) (w : WorldState)
+    → length (after_at_most n next writer places w).replies ≤ n
 at_most_replies zero next writer places w = omega arith
 at_most_replies (suc n) next writer places w =
     let far : AfterProgram = after_at_most n next writer places w in
     one_at_most (next far.replies) far (at_most_replies n next writer places w)
   where
-    one_at_most : (o : Option Op) (far : AfterProgram) → length far.replies ≤ n → length (one_more o writer far).replies ≤ suc n
+    one_at_most : (o : Option Op) (far : AfterProgram) → length far.replies ≤ n
+        → length (one_more o writer far).replies ≤ suc n
     one_at_most None far few = omega (arith, few)
-    one_at_most (Some op) far few = omega (arith, few, length-append far.replies ((after_op op writer far.places far.state).reply ∷ []))
+    one_at_most (Some op) far few =
+        omega (arith, few, length-append far.replies ((after_op op writer far.places far.state).reply ∷ []))
 
 few_of_turn : (m : Meaning) (w : WorldState) → length (turn m w).replies ≤ 64
 unfolding turn
@@ -72,8 +78,10 @@ of_another i k m members other = rw (ne_eqb k i other) refl
 
 module _ {S : Type 0} (meaning : S → Meaning) where
   -- a member that is kept as it was stands for what it stood for
-  pub member_stays : (g h : Lender S) (types k : ℕ) (m : Member) → system_at h k ≡ system_at g k → h.accesses.items ≡ g.accesses.items
-      → slice_get h.totals.items k ≡ slice_get g.totals.items k → SameShape g.world h.world → MemberStands meaning g types k m → MemberStands meaning h types k m
+  pub member_stays : (g h : Lender S) (types k : ℕ) (m : Member) → system_at h k ≡ system_at g k → h.accesses.items
+      ≡ g.accesses.items
+      → slice_get h.totals.items k ≡ slice_get g.totals.items k → SameShape g.world h.world
+      → MemberStands meaning g types k m → MemberStands meaning h types k m
   member_stays g h types k m guarded accesses totals shape stands =
       let access : access_of h.accesses.items k ≡ access_of g.accesses.items k = ap (λ xs. access_of xs k) accesses in
       record {
@@ -88,7 +96,8 @@ module _ {S : Type 0} (meaning : S → Meaning) where
 pub totals_after : (types : ℕ) (m : Member) (w : WorldState) (old new : List Totals) (ops : List Op) (o : Outcome)
     → ops ≡ (after_job m.job w).job.system.last → o ≡ outcome_of (after_job m.job w).replies
     → TotalsStand types old m.totals → length new ≡ length old
-    → ((t : ℕ) (x : Totals) → t < length old → totals_at old t ≡ kept x → totals_at new t ≡ kept (with_entries (entries_by t ops o) x))
+    → ((t : ℕ) (x : Totals) → t < length old → totals_at old t ≡ kept x → totals_at new t
+    ≡ kept (with_entries (entries_by t ops o) x))
     → TotalsStand types new (member_turn m w).member.totals
 totals_after types m w old new ops o its came stands as_many entered = record {
   as_many = as_many ∙ stands.as_many;

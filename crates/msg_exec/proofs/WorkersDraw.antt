@@ -18,7 +18,8 @@ use Rattle.msg_order.proofs.Elements.{Contains-head, Contains-tail, not_in_none}
 
 module _ {J : Type 0} (Such : J → Type 0) (jobs : List J) where
   -- one more is drawn, and its job is such
-  pub one_more : (old new : List ℕ) (k : ℕ) (job : J) → EachNewIs Such jobs old new → slice_get jobs k ≡ Some job → Such job → EachNewIs Such jobs old (new ++ k ∷ [])
+  pub one_more : (old new : List ℕ) (k : ℕ) (job : J) → EachNewIs Such jobs old new → slice_get jobs k ≡ Some job
+      → Such job → EachNewIs Such jobs old (new ++ k ∷ [])
   one_more old new k job each there such n m = elim (Contains-push_cases new k n m) [
     | inl x ↦ each n x
     | inr x ↦ inr (λ other is. subst Such (ap (λ o. unwrap_or o job) (sym there ∙ ap (slice_get jobs) x ∙ is)) such)
@@ -54,7 +55,8 @@ module _ {J : Type 0} where
   drawer (p ∷ ps) k some = elim (cases_lt 0 (times k p.drawn)) [
     | inl own ↦ record { index = 0; pass = p; there = refl; drew = found k p.drawn own }
     | inr none ↦
-        let sum : times k (p.drawn ++ drawn_by ps) ≡ times k p.drawn + times k (drawn_by ps) = sum_by-append (λ n. cond (n == k) 1 0) p.drawn (drawn_by ps) in
+        let sum : times k (p.drawn ++ drawn_by ps) ≡ times k p.drawn + times k (drawn_by ps) =
+            sum_by-append (λ n. cond (n == k) 1 0) p.drawn (drawn_by ps) in
         let d = drawer ps k (omega (arith, some, sum)) in
         record { index = suc d.index; pass = d.pass; there = d.there; drew = d.drew }
   ]
@@ -95,7 +97,8 @@ module _ {J : Type 0} (b : BoardView J) (Such : ℕ → J → Type 0) where
 -- ---- system by system
 
 module _ {B J : Type 0} (P : J → Type 0) (job : B → J) where
-  pub all_mapped : (bs : List B) (jobs : List J) → map job bs ≡ jobs → ((k : ℕ) (b : B) → slice_get bs k ≡ Some b → P (job b)) → All P jobs
+  pub all_mapped : (bs : List B) (jobs : List J) → map job bs ≡ jobs
+      → ((k : ℕ) (b : B) → slice_get bs k ≡ Some b → P (job b)) → All P jobs
   all_mapped bs jobs same h = subst (All P) same (each bs h)
     where
       each : (bs : List B) → ((k : ℕ) (b : B) → slice_get bs k ≡ Some b → P (job b)) → All P (map job bs)
@@ -104,18 +107,22 @@ module _ {B J : Type 0} (P : J → Type 0) (job : B → J) where
 
 module _ {S : Type 0} (P : ℕ → Type 0) (whole : Lender S) where
   -- the jobs that are out are those of the batch
-  pub of_batch : (batch : List ℕ) (jobs : List (Job S)) → AllZip (IsOut whole) batch jobs → All (λ (j : Job S). P j.number) jobs → All P batch
+  pub of_batch : (batch : List ℕ) (jobs : List (Job S)) → AllZip (IsOut whole) batch jobs
+      → All (λ (j : Job S). P j.number) jobs → All P batch
   of_batch [] jobs out told = λ k d lt. absurd (omega (arith, lt))
   of_batch (i ∷ batch) [] out told = absurd out
   of_batch (i ∷ batch) (j ∷ jobs) out told =
-      All-cons P i batch (subst P out.0.number (All-head (λ (j : Job S). P j.number) j jobs told)) (of_batch batch jobs out.1 (All-tail (λ (j : Job S). P j.number) j jobs told))
+      All-cons P i batch (subst P out.0.number (All-head (λ (j : Job S). P j.number) j jobs told))
+          (of_batch batch jobs out.1 (All-tail (λ (j : Job S). P j.number) j jobs told))
 
 module _ (passed : ℕ → ℕ → Type 0) where
-  more_workers : (n m : ℕ) (systems : List ℕ) → n ≤ m → All (PassedGate passed n) systems → All (PassedGate passed m) systems
+  more_workers : (n m : ℕ) (systems : List ℕ) → n ≤ m → All (PassedGate passed n) systems
+      → All (PassedGate passed m) systems
   more_workers n m systems le all = λ k d lt. let by = all k d lt in (by.0, omega (arith, le, by.1), by.2)
 
   -- the workers of some systems, and of more
-  pub more_passed : (n : ℕ) (some more : List ℕ) → EachPassedGate passed n some → EachPassedGate passed n more → EachPassedGate passed n (some ++ more)
+  pub more_passed : (n : ℕ) (some more : List ℕ) → EachPassedGate passed n some → EachPassedGate passed n more
+      → EachPassedGate passed n (some ++ more)
   more_passed n some more one other =
       let m : ℕ = min n (length (some ++ more)) in
       let sum = length-append some more in

@@ -20,7 +20,8 @@ more_items-push (y ∷ ys) x =
     ∙ sym (append_assoc (codes " " ++ item_text y) (more_items ys) (codes " " ++ item_text x))
 
 -- a text that one part more was added to
-pub one_more_part : (now next before made part all : List ℕ) → now ≡ before ++ made → next ≡ now ++ part → all ≡ made ++ part
+pub one_more_part : (now next before made part all : List ℕ) → now ≡ before ++ made → next ≡ now ++ part → all
+    ≡ made ++ part
     → next ≡ before ++ all
 one_more_part now next before made part all is added whole =
     added ∙ ap (λ l. l ++ part) is ∙ append_assoc before made part ∙ ap (λ l. before ++ l) (sym whole)
@@ -57,7 +58,8 @@ HasAdded_none start before = record {
 }
 
 -- one message more
-pub HasAdded_more : (start now next : MessageIter ℤ Global) (item : MessageId × Bor ℤ) (before text text' : List ℕ) (number : ℕ)
+pub HasAdded_more : (start now next : MessageIter ℤ Global) (item : MessageId × Bor ℤ) (before text text' : List ℕ)
+    (number : ℕ)
     → HasAdded start now before text number → Gives now item next
     → text' ≡ text ++ (codes " " ++ item_text (shown item)) → HasAdded start next before text' (number + 1)
 HasAdded_more start now next item before text text' number so_far gives added =
@@ -66,7 +68,8 @@ HasAdded_more start now next item before text text' number so_far gives added =
     let longer = length-append taken (shown item ∷ []) in record {
       taken = taken ++ shown item ∷ [];
       gave = record {
-        given = gave.given ∙ ap (λ l. taken ++ l) gives.rest ∙ sym (append_assoc taken (shown item ∷ []) (iter_rest next));
+        given = gave.given ∙ ap (λ l. taken ++ l) gives.rest
+            ∙ sym (append_assoc taken (shown item ∷ []) (iter_rest next));
         place = omega (arith, gave.place, gives.place, longer);
         continues = record {
           cursor = gives.continues.cursor ∙ gave.continues.cursor;
@@ -78,7 +81,8 @@ HasAdded_more start now next item before text text' number so_far gives added =
     }
 
 -- the first of them are as many as they are long
-at_most_take : {M : Type 0} (limit : Option ℕ) (xs : List (Instance M)) → at_most limit xs ≡ take (length (at_most limit xs)) xs
+at_most_take : {M : Type 0} (limit : Option ℕ) (xs : List (Instance M)) → at_most limit xs
+    ≡ take (length (at_most limit xs)) xs
 at_most_take None xs = sym (take_all (length xs) xs (omega arith))
 at_most_take (Some k) xs = grind (arith, common_steps)
 

@@ -144,12 +144,14 @@ list_denotes d xs calls e are =
 -- ---- the file
 
 -- the keys of an object, as its members are seen
-pub known_keys : (p : List ℕ → Bool) (d : Data) (ms : List (String Global × Value)) → Some (members_view ms) ≡ as_object d
+pub known_keys : (p : List ℕ → Bool) (d : Data) (ms : List (String Global × Value)) → Some (members_view ms)
+    ≡ as_object d
     → list_all p (keys d) ≡ list_all (λ m. p (string_bytes m.0)) ms
 known_keys p d ms is =
     ap (λ o. list_all p (unwrap_or (option_map keys_of o) [])) (sym is) ∙ list_all-keys p ms
 
-pub object_unknown : (p : List ℕ → Bool) (d : Data) (ms : List (String Global × Value)) → Some (members_view ms) ≡ as_object d
+pub object_unknown : (p : List ℕ → Bool) (d : Data) (ms : List (String Global × Value)) → Some (members_view ms)
+    ≡ as_object d
     → list_all (λ m. p (string_bytes m.0)) ms ≡ false → first_refusal (object_checks p d) ≡ Some UnknownKey
 object_unknown p d ms is unknown =
     let none : list_all p (keys d) ≡ false = known_keys p d ms is ∙ unknown in

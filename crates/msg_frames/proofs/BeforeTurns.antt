@@ -24,11 +24,15 @@ abbrev arrived : State → ℕ → Member
 arrived s i = cond (arrives s i) (joined_member (counts s) (s.members i)) (s.members i)
 
 abbrev ready : List (ℕ × ℤ) → State → State
-ready posts s = record s { members = arrived s; world = after_posts posts (after_update s.world); frames = suc s.frames }
+ready posts s =
+    record s { members = arrived s; world = after_posts posts (after_update s.world); frames = suc s.frames }
 
 ready_if : (first : Bool) (posts : List (ℕ × ℤ)) (s : State)
-    → (let b : State = cond first s (with_joining (suc s.frames) s) in record b { world = after_posts posts (after_update b.world); frames = suc b.frames })
-    ≡ record s { members = λ i. cond (not first && ((s.members i).join == suc s.frames)) (joined_member (counts s) (s.members i)) (s.members i); world = after_posts posts (after_update s.world); frames = suc s.frames }
+    → (let b : State = cond first s (with_joining (suc s.frames) s) in record b
+    { world = after_posts posts (after_update b.world); frames = suc b.frames })
+    ≡ record s { members = λ i. cond (not first && ((s.members i).join == suc s.frames))
+        (joined_member (counts s) (s.members i)) (s.members i); world = after_posts posts (after_update s.world);
+        frames = suc s.frames }
 ready_if true posts s = refl
 ready_if false posts s = refl
 
@@ -40,7 +44,8 @@ before_is posts s = ready_if (s.frames == 0) posts s
 -- Where system i stands among those that join: it had joined before, it joins now, or it still waits.
 pub data Arrival (s b : State) (i : ℕ) : Type 0 where
   stood : IsTrue (has_begun s i) → IsTrue (has_begun b i) → b.members i ≡ s.members i → Arrival s b i
-  comes : IsFalse (has_begun s i) → IsTrue (has_begun b i) → b.members i ≡ joined_member (counts s) (s.members i) → Arrival s b i
+  comes : IsFalse (has_begun s i) → IsTrue (has_begun b i) → b.members i ≡ joined_member (counts s) (s.members i)
+      → Arrival s b i
   waits : IsFalse (has_begun s i) → IsFalse (has_begun b i) → b.members i ≡ s.members i → Arrival s b i
 
 -- What comes before the turns leaves.
@@ -50,11 +55,14 @@ pub record Prepares (s b : State) : Type 0 where
   pub arrival : (i : ℕ) → Arrival s b i
 
 -- whether it has joined is told by its join
-begun_by : (posts : List (ℕ × ℤ)) (s : State) (i : ℕ) (m : Member) (b : Bool) → arrived s i ≡ m → nat_le m.join (max 1 (suc s.frames)) ≡ b → has_begun (ready posts s) i ≡ b
+begun_by : (posts : List (ℕ × ℤ)) (s : State) (i : ℕ) (m : Member) (b : Bool) → arrived s i ≡ m
+    → nat_le m.join (max 1 (suc s.frames)) ≡ b → has_begun (ready posts s) i ≡ b
 begun_by posts s i m b is by_join = ap (λ (x : Member). nat_le x.join (max 1 (suc s.frames))) is ∙ by_join
 
 arrival : (posts : List (ℕ × ℤ)) (s : State) (i : ℕ) → Arrival s (ready posts s) i
-arrival posts s i = grind (arith, and_from, and_left, and_right, begun_by, cases_Bool, cases_eq, eq-eqb, le-leb, leb-false, leb-true, lt-leb, ne_eqb, not_from_false, not_from_true)
+arrival posts s i =
+    grind (arith, and_from, and_left, and_right, begun_by, cases_Bool, cases_eq, eq-eqb, le-leb, leb-false, leb-true,
+    lt-leb, ne_eqb, not_from_false, not_from_true)
 
 pub prepares : OnlyGrows Record → (posts : List (ℕ × ℤ)) (s : State) → Prepares s (before_turns posts s)
 prepares grow posts s = record {
@@ -65,7 +73,8 @@ prepares grow posts s = record {
 
 -- ---- where one that joins starts
 
-start_within : (start : Start) (s : State) (t : ℕ) → t < s.types → start_place start (counts s) t ≤ count (s.world.histories t)
+start_within : (start : Start) (s : State) (t : ℕ) → t < s.types
+    → start_place start (counts s) t ≤ count (s.world.histories t)
 start_within Zero s t below = omega arith
 start_within Current s t below = grind (arith, get_or-map-range_with_len, unwrap_or-slice_get)
 
@@ -75,5 +84,6 @@ begun_within s i t below within = grind (arith, cases_Bool, start_within)
 
 -- ---- what a system does stays as it was
 
-pub before_rule : (posts : List (ℕ × ℤ)) (s : State) (i : ℕ) → ((before_turns posts s).members i).job.system.rule ≡ (s.members i).job.system.rule
+pub before_rule : (posts : List (ℕ × ℤ)) (s : State) (i : ℕ) → ((before_turns posts s).members i).job.system.rule
+    ≡ (s.members i).job.system.rule
 before_rule posts s i = grind (arith, before_is)

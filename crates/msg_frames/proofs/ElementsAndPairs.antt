@@ -19,11 +19,13 @@ module _ {X : Type 0} where
   all_left P xs ys h k d lt = subst P (get_or_append_left xs ys d k lt) (h k d (omega (arith, length-append xs ys)))
 
   pub all_right : (P : X → Type 0) (xs ys : List X) → All P (xs ++ ys) → All P ys
-  all_right P xs ys h k d lt = subst P (get_or-append-add xs ys k d) (h (length xs + k) d (omega (arith, length-append xs ys)))
+  all_right P xs ys h k d lt =
+      subst P (get_or-append-add xs ys k d) (h (length xs + k) d (omega (arith, length-append xs ys)))
 
   pub pairs_left : (R : X → X → Type 0) (xs ys : List X) → AllPairs R (xs ++ ys) → AllPairs R xs
   pairs_left R [] ys r = λ i j d lt l. absurd (omega arith)
-  pairs_left R (x ∷ xs) ys r = AllPairs-cons R x xs (all_left (R x) xs ys (pairs_head R x (xs ++ ys) r)) (pairs_left R xs ys (pairs_tail R x (xs ++ ys) r))
+  pairs_left R (x ∷ xs) ys r = AllPairs-cons R x xs (all_left (R x) xs ys (pairs_head R x (xs ++ ys) r))
+      (pairs_left R xs ys (pairs_tail R x (xs ++ ys) r))
 
   pub pairs_right : (R : X → X → Type 0) (xs ys : List X) → AllPairs R (xs ++ ys) → AllPairs R ys
   pairs_right R [] ys r = r
@@ -33,9 +35,11 @@ module _ {X : Type 0} where
 
   pub all_middle : (P : X → Type 0) (xs : List X) (y : X) (ys : List X) → All P (xs ++ y ∷ ys) → P y × All P (xs ++ ys)
   all_middle P [] y ys h = (All-head P y ys h, All-tail P y ys h)
-  all_middle P (x ∷ xs) y ys h = grind (arith, All-cons, All-head, All-tail, all_middle P xs y ys (All-tail P x (xs ++ y ∷ ys) h))
+  all_middle P (x ∷ xs) y ys h =
+      grind (arith, All-cons, All-head, All-tail, all_middle P xs y ys (All-tail P x (xs ++ y ∷ ys) h))
 
-  pub pairs_middle : (R : X → X → Type 0) (xs : List X) (y : X) (ys : List X) → AllPairs R (xs ++ y ∷ ys) → All (λ x. R x y) xs × AllPairs R (xs ++ ys)
+  pub pairs_middle : (R : X → X → Type 0) (xs : List X) (y : X) (ys : List X) → AllPairs R (xs ++ y ∷ ys)
+      → All (λ x. R x y) xs × AllPairs R (xs ++ ys)
   pairs_middle R [] y ys h = (λ k d lt. absurd (omega arith), pairs_tail R y ys h)
   pairs_middle R (x ∷ xs) y ys h =
       let r = pairs_middle R xs y ys (pairs_tail R x _ h) in

@@ -9,7 +9,8 @@ use Rattle.msg_frames.specs.Prelude.{Entry, Fate, IsBalanced, Moment, Totals, cl
 use Rattle.msg_frames.proofs.ReaderOverJob.{tile_of}
 
 -- what met a fate at these entries and at those
-more_of : (fate : Fate) (es fs : List Entry) → length (numbers_of fate (es ++ fs)) ≡ length (numbers_of fate es) + length (numbers_of fate fs)
+more_of : (fate : Fate) (es fs : List Entry) → length (numbers_of fate (es ++ fs))
+    ≡ length (numbers_of fate es) + length (numbers_of fate fs)
 more_of fate [] fs = omega arith
 more_of fate (e ∷ es) fs = grind (arith, length-append, more_of fate es fs)
 
@@ -19,12 +20,14 @@ same_totals x y a b c d = λ k. record { start = a k; got = b k; missed = c k; c
 pub with_entries-none : (x : Totals) → with_entries [] x ≡ x
 with_entries-none x = same_totals (with_entries [] x) x refl (omega arith) (omega arith) (omega arith)
 
-pub with_entries-append : (es fs : List Entry) (x : Totals) → with_entries (es ++ fs) x ≡ with_entries fs (with_entries es x)
+pub with_entries-append : (es fs : List Entry) (x : Totals) → with_entries (es ++ fs) x
+    ≡ with_entries fs (with_entries es x)
 with_entries-append es fs x = grind (arith, more_of, same_totals)
 
 -- what one op that read adds, and what one clear
 pub with_read : (took : Took) (x : Totals)
-    → with_entries (entry_of_read took ∷ []) x ≡ record x { got = x.got + length took.items; missed = x.missed + took.missed }
+    → with_entries (entry_of_read took ∷ []) x
+    ≡ record x { got = x.got + length took.items; missed = x.missed + took.missed }
 with_read took x = grind (arith, length-append, length-range_with_len, same_totals)
 
 pub with_clear : (gone first n : ℕ) (x : Totals)
@@ -33,15 +36,20 @@ pub with_clear : (gone first n : ℕ) (x : Totals)
 with_clear gone first n x = grind (arith, length-append, length-range_with_len, same_totals)
 
 -- all that an entry goes past was given or cleared
-given_or_cleared : (o : Option (List Record)) (ns : List ℕ) → length (cond (is_some o) ns []) + length (cond (is_some o) [] ns) ≡ length ns
+given_or_cleared : (o : Option (List Record)) (ns : List ℕ)
+    → length (cond (is_some o) ns []) + length (cond (is_some o) [] ns) ≡ length ns
 given_or_cleared None ns = omega arith
 given_or_cleared (Some items) ns = omega arith
 
 -- tiles lead as far as their entries add up to
 pub tiles_add_up : (p : ℕ) (ms : List Moment) (q : ℕ) → Tile p (map tile_of ms) q
-    → p + length (numbers_of given (map (λ m. m.entry) ms)) + length (numbers_of missed (map (λ m. m.entry) ms)) + length (numbers_of cleared (map (λ m. m.entry) ms)) ≡ q
+    → p + length (numbers_of given (map (λ m. m.entry) ms)) + length
+    (numbers_of missed (map (λ m. m.entry) ms)) + length (numbers_of cleared (map (λ m. m.entry) ms)) ≡ q
 tiles_add_up p [] q tile = let same : p ≡ q = tile in omega arith
-tiles_add_up p (m ∷ ms) q tile = grind (arith, given_or_cleared, length-append, length-range_with_len, tiles_add_up (next_place m.entry.stretch) ms q tile.1)
+tiles_add_up p (m ∷ ms) q tile =
+    grind (arith, given_or_cleared, length-append, length-range_with_len,
+    tiles_add_up (next_place m.entry.stretch) ms q tile.1)
 
-pub stays_balanced : (x : Totals) (p : ℕ) (ms : List Moment) (q : ℕ) → IsBalanced x p → Tile p (map tile_of ms) q → IsBalanced (with_entries (map (λ m. m.entry) ms) x) q
+pub stays_balanced : (x : Totals) (p : ℕ) (ms : List Moment) (q : ℕ) → IsBalanced x p → Tile p (map tile_of ms) q
+    → IsBalanced (with_entries (map (λ m. m.entry) ms) x) q
 stays_balanced x p ms q balanced tile = grind (arith, tiles_add_up)

@@ -11,7 +11,8 @@ use Rattle.msg_frames.specs.Prelude.{AreNew, IsBalanced, IsSoundState, Member, P
 use Rattle.msg_frames.proofs.BeforeTurns.{begun_within}
 use Rattle.msg_frames.proofs.StatesStaySound.{balanced_start}
 
-module _ (systems : List Meaning) (places : List Place) (rules : List Rule) (types : ℕ) (world : WorldState) (new : AreNew systems places types world) where
+module _ (systems : List Meaning) (places : List Place) (rules : List Rule) (types : ℕ) (world : WorldState)
+    (new : AreNew systems places types world) where
   abbrev all_wait : State
   all_wait = unjoined systems places rules types world
 
@@ -21,7 +22,8 @@ module _ (systems : List Meaning) (places : List Place) (rules : List Rule) (typ
   at_zero : (i t : ℕ) → place_of all_wait i t ≡ 0
   at_zero i t = grind (arith, cases_Bool, get_or_past, leb-false, leb-true)
 
-  first_or_not : (P : Member → Type 0) (i : ℕ) → ((all_wait.members i).join ≡ 1 → P (joined_member (counts all_wait) (all_wait.members i)))
+  first_or_not : (P : Member → Type 0) (i : ℕ)
+      → ((all_wait.members i).join ≡ 1 → P (joined_member (counts all_wait) (all_wait.members i)))
       → (¬ ((all_wait.members i).join ≡ 1) → P (all_wait.members i)) → P (first.members i)
   first_or_not P i now later = grind (arith, cases_eq, eq-eqb, ne_eqb)
 
@@ -31,7 +33,8 @@ module _ (systems : List Meaning) (places : List Place) (rules : List Rule) (typ
   join_from_one : (i : ℕ) → 1 ≤ (all_wait.members i).join
   join_from_one i = grind (arith, cases_Bool, get_or_past, leb-false, leb-true)
 
-  first_waiting : (i t : ℕ) → IsFalse (has_begun first i) → (place_of first i t ≡ 0) × ((first.members i).totals t ≡ no_totals)
+  first_waiting : (i t : ℕ) → IsFalse (has_begun first i) → (place_of first i t ≡ 0)
+      × ((first.members i).totals t ≡ no_totals)
   first_waiting i t isnt = grind (arith, at_zero, false≢true, first_or_not, join_same)
 
   first_balanced : (i t : ℕ) → IsTrue (has_begun first i) → IsBalanced ((first.members i).totals t) (place_of first i t)
@@ -49,9 +52,11 @@ module _ (systems : List Meaning) (places : List Place) (rules : List Rule) (typ
     histories = new.histories;
     places = λ i t below.
         let within : place_of all_wait i t ≤ count (world.histories t) = rw (at_zero i t) (omega arith) in
-        first_or_not (λ m. m.job.system.places t ≤ count (world.histories t)) i (λ e. begun_within all_wait i t below within) (λ ne. within);
+        first_or_not (λ m. m.job.system.places t ≤ count (world.histories t)) i
+            (λ e. begun_within all_wait i t below within) (λ ne. within);
     joins = λ i. subst (λ n. 1 ≤ n) (sym (join_same i)) (join_from_one i);
-    writers = λ i below. first_or_not (λ m. m.job.system.writer ≡ i) i (λ e. (new.new i below).writer) (λ ne. (new.new i below).writer);
+    writers = λ i below. first_or_not (λ m. m.job.system.writer ≡ i) i (λ e. (new.new i below).writer)
+        (λ ne. (new.new i below).writer);
     waiting = first_waiting;
     balanced = λ i t below has. first_balanced i t has;
   }

@@ -9,15 +9,18 @@ systems_logged [] s = refl
 systems_logged (i ∷ is) s = ap (λ rest. i ∷ rest) (systems_logged is (after_turn_of i s))
 
 -- the log of a frame in an order: the answers to its posts, and the turns
-pub logged_in : (frame : Frame) (order : List ℕ) (s : State) (log : Log) (replies : List Reply) → log.posts ≡ replies → replies ≡ post_replies frame.posts (after_update s.world)
+pub logged_in : (frame : Frame) (order : List ℕ) (s : State) (log : Log) (replies : List Reply) → log.posts ≡ replies
+    → replies ≡ post_replies frame.posts (after_update s.world)
     → log.turns ≡ (after_turns_of order (before_turns frame.posts s)).turns → log ≡ (frame_in order frame s).log
 logged_in frame order s log replies has answered turns = λ k. record { posts = (has ∙ answered) k; turns = turns k }
 
 -- the log has them in that order
-pub in_that_order : (frame : Frame) (order : List ℕ) (s : State) (log : Log) → log ≡ (frame_in order frame s).log → systems_in log ≡ order
+pub in_that_order : (frame : Frame) (order : List ℕ) (s : State) (log : Log) → log ≡ (frame_in order frame s).log
+    → systems_in log ≡ order
 in_that_order frame order s log told = ap systems_in told ∙ systems_logged order (before_turns frame.posts s)
 
 -- the turns in their order are a frame
-pub frame_in_order : (frame : Frame) (s : State) (log : Log) (order : List ℕ) → IsTurnOrderOf (before_turns frame.posts s) order → log ≡ (frame_in order frame s).log
+pub frame_in_order : (frame : Frame) (s : State) (log : Log) (order : List ℕ)
+    → IsTurnOrderOf (before_turns frame.posts s) order → log ≡ (frame_in order frame s).log
     → IsFrame frame s log (frame_in order frame s).state
 frame_in_order frame s log order in_order told = grind (arith, in_that_order)

@@ -22,7 +22,9 @@ buffer_laws grow reads clears = record { grow = grow; reads = reads; clears = cl
 -- ---- histories
 
 pub stays : (h : History Record) → IsSound h → GoesOn h h
-stays h sound = record { more = []; entries = sym (append-nil h.entries); limit = refl; updates = omega arith; floor = omega arith; sound = sound }
+stays h sound =
+    record { more = []; entries = sym (append-nil h.entries); limit = refl; updates = omega arith; floor = omega arith;
+    sound = sound }
 
 pub goes_further : (a b c : History Record) → GoesOn a b → GoesOn b c → GoesOn a c
 goes_further a b c x y = grind (arith, append_assoc)
@@ -42,27 +44,33 @@ world_stays w t sound = stays (w.histories t) sound
 world_goes_further : (a b c : WorldState) → WorldGoesOn a b → WorldGoesOn b c → WorldGoesOn a c
 world_goes_further a b c x y t sound = grind (arith, goes_further)
 
-one_goes_on : (w : WorldState) (u : ℕ) (h : History Record) → (IsSound (w.histories u) → GoesOn (w.histories u) h) → WorldGoesOn w (with_history w u h)
+one_goes_on : (w : WorldState) (u : ℕ) (h : History Record) → (IsSound (w.histories u) → GoesOn (w.histories u) h)
+    → WorldGoesOn w (with_history w u h)
 one_goes_on w u h goes t sound = grind (arith, cases_eq, eq-eqb, ne_eqb, stays)
 
 module _ (grow : OnlyGrows Record) where
-  written_goes_on : (w : WorldState) (t : ℕ) (ms : List Record) → WorldGoesOn w (with_history w t (write ms (w.histories t)))
+  written_goes_on : (w : WorldState) (t : ℕ) (ms : List Record)
+      → WorldGoesOn w (with_history w t (write ms (w.histories t)))
   written_goes_on w t ms = one_goes_on w t (write ms (w.histories t)) (λ sound. (grow (w.histories t) sound).0 ms)
 
   -- ---- jobs
 
-  pub op_goes_on : (op : Op) (writer : ℕ) (places : ℕ → ℕ) (w : WorldState) → WorldGoesOn w (after_op op writer places w).state
+  pub op_goes_on : (op : Op) (writer : ℕ) (places : ℕ → ℕ) (w : WorldState)
+      → WorldGoesOn w (after_op op writer places w).state
   op_goes_on (Write t v) writer places w = written_goes_on w t (by writer v ∷ [])
   op_goes_on (Batch t vs) writer places w = written_goes_on w t (map (by writer) vs)
-  op_goes_on (Forward t u) writer places w = written_goes_on w u (again_by writer (took (w.histories t) (places t) None).items)
-  op_goes_on (Drain t) writer places w = one_goes_on w t (clear (w.histories t)) (λ sound. (grow (w.histories t) sound).2)
+  op_goes_on (Forward t u) writer places w =
+      written_goes_on w u (again_by writer (took (w.histories t) (places t) None).items)
+  op_goes_on (Drain t) writer places w =
+      one_goes_on w t (clear (w.histories t)) (λ sound. (grow (w.histories t) sound).2)
   op_goes_on op writer places w = world_stays w
 
   more_goes_on : (o : Option Op) (writer : ℕ) (far : AfterProgram) → WorldGoesOn far.state (one_more o writer far).state
   more_goes_on None writer far = world_stays far.state
   more_goes_on (Some op) writer far = op_goes_on op writer far.places far.state
 
-  ops_go_on : (n : ℕ) (m : Meaning) (w : WorldState) → WorldGoesOn w (after_at_most n (next_op m) m.writer m.places w).state
+  ops_go_on : (n : ℕ) (m : Meaning) (w : WorldState)
+      → WorldGoesOn w (after_at_most n (next_op m) m.writer m.places w).state
   ops_go_on zero m w = world_stays w
   ops_go_on (suc n) m w =
       let far : AfterProgram = after_at_most n (next_op m) m.writer m.places w in
@@ -96,9 +104,11 @@ module _ (grow : OnlyGrows Record) where
   before_goes_on posts s =
       let ready : WorldState = (joining s).world in
       subst (λ w. WorldGoesOn w (after_posts posts (after_update ready))) (joining_world s)
-      (world_goes_further ready (after_update ready) (after_posts posts (after_update ready)) (update_goes_on ready) (posts_go_on posts (after_update ready)))
+      (world_goes_further ready (after_update ready) (after_posts posts (after_update ready)) (update_goes_on ready)
+          (posts_go_on posts (after_update ready)))
 
-  pub frame_goes_on : (order : List ℕ) (frame : Frame) (s : State) → WorldGoesOn s.world (frame_in order frame s).state.world
+  pub frame_goes_on : (order : List ℕ) (frame : Frame) (s : State)
+      → WorldGoesOn s.world (frame_in order frame s).state.world
   frame_goes_on order frame s =
       world_goes_further s.world (before_turns frame.posts s).world (frame_in order frame s).state.world
       (before_goes_on frame.posts s) (turns_go_on order (before_turns frame.posts s))

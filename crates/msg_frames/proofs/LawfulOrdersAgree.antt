@@ -23,7 +23,8 @@ use Rattle.msg_order.proofs.Elements.{Contains-cases, Contains-head, Contains-ta
 -- in either order of turns the same is left, and the turns are the same
 abbrev pub SameRun : List Access → List ℕ → List ℕ → Type 0
 SameRun accesses is js = (s : State) → AreAccessesOf s accesses
-    → ((after_turns_of is s).state ≡ (after_turns_of js s).state) × IsPermutation (after_turns_of is s).turns (after_turns_of js s).turns
+    → ((after_turns_of is s).state ≡ (after_turns_of js s).state)
+    × IsPermutation (after_turns_of is s).turns (after_turns_of js s).turns
 
 -- different systems in no conflict
 abbrev pub IsFree : List Access → ℕ → ℕ → Type 0
@@ -41,27 +42,33 @@ module _ (accesses : List Access) where
       let r = a (after_turn_of x s) (accesses_stay _ _ _ (one_turn_keeps _ _) are) in
       (r.0, IsPermutation-cons (logged_turn s x) _ _ r.1)
 
-  run_swapped : JobFootprint → (x y : ℕ) (is : List ℕ) → x < length accesses → y < length accesses → x ≢ y → ¬ Conflict (access_of accesses x) (access_of accesses y)
+  run_swapped : JobFootprint → (x y : ℕ) (is : List ℕ) → x < length accesses → y < length accesses → x ≢ y
+      → ¬ Conflict (access_of accesses x) (access_of accesses y)
       → SameRun accesses (x ∷ y ∷ is) (y ∷ x ∷ is)
   run_swapped foot x y is lx ly ne none s are =
-      let e = turns_commute foot s accesses x y are (subst (λ n. x < n) are.each lx) (subst (λ n. y < n) are.each ly) ne none in
+      let e = turns_commute foot s accesses x y are (subst (λ n. x < n) are.each lx)
+          (subst (λ n. y < n) are.each ly) ne none in
       let turns : List Turn = (after_turns_of is (after_turn_of y (after_turn_of x s))).turns in
-      let one : logged_turn s x ∷ logged_turn s y ∷ turns ≡ (after_turns_of (x ∷ y ∷ is) s).turns = ap (λ t. logged_turn s x ∷ t ∷ turns) (sym e.0) in
+      let one : logged_turn s x ∷ logged_turn s y ∷ turns ≡ (after_turns_of (x ∷ y ∷ is) s).turns =
+          ap (λ t. logged_turn s x ∷ t ∷ turns) (sym e.0) in
       let other : logged_turn s y ∷ logged_turn s x ∷ turns ≡ (after_turns_of (y ∷ x ∷ is) s).turns =
-      ap (λ t. logged_turn s y ∷ t ∷ turns) (sym e.1) ∙ ap (λ u. logged_turn s y ∷ logged_turn (after_turn_of y s) x ∷ (after_turns_of is u).turns) e.2 in (
+      ap (λ t. logged_turn s y ∷ t ∷ turns) (sym e.1)
+          ∙ ap (λ u. logged_turn s y ∷ logged_turn (after_turn_of y s) x ∷ (after_turns_of is u).turns) e.2 in (
         ap (λ u. (after_turns_of is u).state) e.2,
         subst₂ IsPermutation one other (IsPermutation-middle (logged_turn s x ∷ []) (logged_turn s y) turns),
       )
 
   -- what is free of all before it moves to the front
-  run_to_front : JobFootprint → (x : ℕ) (before rest : List ℕ) → x < length accesses → All (λ y. y < length accesses) before → All (IsFree accesses x) before
+  run_to_front : JobFootprint → (x : ℕ) (before rest : List ℕ) → x < length accesses
+      → All (λ y. y < length accesses) before → All (IsFree accesses x) before
       → SameRun accesses (before ++ x ∷ rest) (x ∷ before ++ rest)
   run_to_front foot x [] rest lx below free = same_run (x ∷ rest)
   run_to_front foot x (y ∷ before) rest lx below free =
       let here : IsFree accesses x y = All-head (IsFree accesses x) y before free in
       run_along (y ∷ before ++ x ∷ rest) (y ∷ x ∷ before ++ rest) (x ∷ y ∷ before ++ rest)
       (run_later y (before ++ x ∷ rest) (x ∷ before ++ rest)
-      (run_to_front foot x before rest lx (All-tail (λ y. y < length accesses) y before below) (All-tail (IsFree accesses x) y before free)))
+      (run_to_front foot x before rest lx (All-tail (λ y. y < length accesses) y before below)
+          (All-tail (IsFree accesses x) y before free)))
       (run_swapped foot y x (before ++ rest) (All-head (λ y. y < length accesses) y before below) lx here.0 here.1)
 
 -- ---- two orders of the same systems
@@ -90,31 +97,43 @@ with_middle xs y ys i h = elim (Contains-append_cases xs ys i h) [
 apart_from : (xs : List ℕ) (y : ℕ) (ys : List ℕ) → AllPairs (λ i j. i ≢ j) (xs ++ y ∷ ys) → Contains (xs ++ ys) y → ⊥
 apart_from xs y ys once h = elim (Contains-append_cases xs ys y h) [
   | inl l ↦ All-contains (λ x. x ≢ y) xs y (pairs_middle (λ i j. i ≢ j) xs y ys once).0 l refl
-  | inr r ↦ All-contains (λ x. y ≢ x) ys y (pairs_head (λ i j. i ≢ j) y ys (pairs_right (λ i j. i ≢ j) xs (y ∷ ys) once)) r refl
+  | inr r ↦ All-contains (λ x. y ≢ x) ys y
+      (pairs_head (λ i j. i ≢ j) y ys (pairs_right (λ i j. i ≢ j) xs (y ∷ ys) once)) r refl
 ]
 
 module _ (foot : JobFootprint) (accesses : List Access) (P : ℕ → ℕ → Type 0) where
   pub reordered : (settled order : List ℕ)
-      → ((i j : ℕ) → Contains settled i → Contains settled j → i ≢ j → Conflict (access_of accesses i) (access_of accesses j) → P i j ⊎ P j i)
+      → ((i j : ℕ) → Contains settled i → Contains settled j → i ≢ j
+      → Conflict (access_of accesses i) (access_of accesses j) → P i j ⊎ P j i)
       → ((i : ℕ) → Contains order i → Contains settled i) → ((i : ℕ) → Contains settled i → Contains order i)
       → ((i : ℕ) → Contains settled i → i < length accesses)
       → AllPairs (λ i j. i ≢ j) settled → AllPairs (λ i j. i ≢ j) order → Forward P settled → Forward P order
       → SameRun accesses order settled
-  reordered [] order joins to from below once once' a b = rw (none_contained order (λ i h. not_in_none i (to i h))) (same_run accesses [])
+  reordered [] order joins to from below once once' a b = rw (none_contained order (λ i h. not_in_none i (to i h)))
+      (same_run accesses [])
   reordered (x ∷ rest) order joins to from below once once' a b =
       let c : Cut order x = cut order x (from x (Contains-head x rest)) in
       let single : AllPairs (λ i j. i ≢ j) (c.before ++ x ∷ c.rest) = subst (AllPairs (λ i j. i ≢ j)) c.is once' in
       let parts = pairs_middle (λ i j. i ≢ j) c.before x c.rest single in
       let ahead = pairs_middle (λ i j. ¬ P j i) c.before x c.rest (subst (Forward P) c.is b) in
-      let to' : (i : ℕ) → Contains (c.before ++ c.rest) i → Contains rest i = λ i h. elim (Contains-cases x rest i (to i (subst (λ xs. Contains xs i) (sym c.is) (with_middle c.before x c.rest i h)))) [
+      let to' : (i : ℕ) → Contains (c.before ++ c.rest) i
+          → Contains rest i =
+          λ i h. elim (Contains-cases x rest i
+          (to i (subst (λ xs. Contains xs i) (sym c.is) (with_middle c.before x c.rest i h)))) [
         | inl e ↦ absurd (apart_from c.before x c.rest single (subst (Contains (c.before ++ c.rest)) (sym e) h))
         | inr later ↦ later
       ] in
-      let from' : (i : ℕ) → Contains rest i → Contains (c.before ++ c.rest) i = λ i h. elim (middle_or c.before x c.rest i (subst (λ xs. Contains xs i) c.is (from i (Contains-tail x rest i h)))) [
+      let from' : (i : ℕ) → Contains rest i
+          → Contains (c.before ++ c.rest) i =
+          λ i h. elim (middle_or c.before x c.rest i
+          (subst (λ xs. Contains xs i) c.is (from i (Contains-tail x rest i h)))) [
         | inl e ↦ absurd (All-contains (λ y. x ≢ y) rest i (pairs_head (λ i j. i ≢ j) x rest once) h e)
         | inr other ↦ other
       ] in
-      let in_rest : (k d : ℕ) → k < length c.before → Contains rest (get_or c.before k d) = λ k d lt. to' (get_or c.before k d) (Contains-append_left c.before c.rest (get_or c.before k d) (Contains-get_or c.before k d lt)) in
+      let in_rest : (k d : ℕ) → k < length c.before
+          → Contains rest (get_or c.before k d) =
+          λ k d lt. to' (get_or c.before k d)
+          (Contains-append_left c.before c.rest (get_or c.before k d) (Contains-get_or c.before k d lt)) in
       let free : All (IsFree accesses x) c.before = λ k d lt.
       let y : ℕ = get_or c.before k d in
       let inside : Contains rest y = in_rest k d lt in (
@@ -125,45 +144,59 @@ module _ (foot : JobFootprint) (accesses : List Access) (P : ℕ → ℕ → Typ
         ],
       ) in
       rw (c.is) (run_along accesses (c.before ++ x ∷ c.rest) (x ∷ c.before ++ c.rest) (x ∷ rest)
-      (run_to_front accesses foot x c.before c.rest (below x (Contains-head x rest)) (λ k d lt. below (get_or c.before k d) (Contains-tail x rest _ (in_rest k d lt))) free)
+      (run_to_front accesses foot x c.before c.rest (below x (Contains-head x rest))
+          (λ k d lt. below (get_or c.before k d) (Contains-tail x rest _ (in_rest k d lt))) free)
       (run_later accesses x (c.before ++ c.rest) rest
-      (reordered rest (c.before ++ c.rest) (λ i j p q. joins i j (Contains-tail x rest i p) (Contains-tail x rest j q)) to' from' (λ i h. below i (Contains-tail x rest i h))
+      (reordered rest (c.before ++ c.rest)
+          (λ i j p q. joins i j (Contains-tail x rest i p) (Contains-tail x rest j q)) to' from'
+          (λ i h. below i (Contains-tail x rest i h))
       (pairs_tail (λ i j. i ≢ j) x rest once) parts.1 (pairs_tail (λ i j. ¬ P j i) x rest a) ahead.1)))
 
 -- ---- lawful orders
 
 -- where each stands once, one place
-one_place : (order : List ℕ) (a b : ℕ) → AllPairs (λ i j. i ≢ j) order → a < length order → b < length order → get_or order a 0 ≡ get_or order b 0 → a ≡ b
+one_place : (order : List ℕ) (a b : ℕ) → AllPairs (λ i j. i ≢ j) order → a < length order → b < length order
+    → get_or order a 0 ≡ get_or order b 0 → a ≡ b
 one_place order a b once la lb e = grind (arith, cases_order)
 
 -- no path leads back in a lawful order
-lawful_forward : LawfulOrdersKeepPaths → (g : Graph) (who : List Bool) (order : List ℕ) → IsLawfulOrder g who order → Forward (Path g) order
+lawful_forward : LawfulOrdersKeepPaths → (g : Graph) (who : List Bool) (order : List ℕ) → IsLawfulOrder g who order
+    → Forward (Path g) order
 lawful_forward keeps g who order lawful a b d lt l p =
-    let s : StandsBefore order (get_or order b d) (get_or order a d) = keeps g who order lawful (get_or order b d) (get_or order a d) p in
+    let s : StandsBefore order (get_or order b d) (get_or order a d) =
+        keeps g who order lawful (get_or order b d) (get_or order a d) p in
     let is_b : s.earlier ≡ b = one_place order s.earlier b lawful.once (slice_get_within order s.earlier _ s.first) l
     (get_or_from_slice_get order s.earlier _ 0 s.first ∙ get_or_default_zero order b d l) in
-    let is_a : s.later ≡ a = one_place order s.later a lawful.once (slice_get_within order s.later _ s.second) (omega arith)
+    let is_a : s.later ≡ a = one_place order s.later a lawful.once (slice_get_within order s.later _ s.second)
+        (omega arith)
     (get_or_from_slice_get order s.later _ 0 s.second ∙ get_or_default_zero order a d (omega arith)) in
     absurd (omega (arith, s.in_order))
 
 pub orders_agree : JobFootprint → ConflictingSystemsAreOrdered → LawfulOrdersKeepPaths → LawfulOrdersAgree
 orders_agree foot ordered keeps s accesses settled a b are is_settled la lb =
     reordered foot accesses (Path settled) b a
-    (λ i j p q ne conflict. ordered accesses s.rules (join_flags s) settled (length-map-range_with_len (has_begun s) 0 s.systems ∙ sym are.each) is_settled i j ne ((lb.of_joined i).0 p) ((lb.of_joined j).0 q) conflict)
+    (λ i j p q ne conflict. ordered accesses s.rules (join_flags s) settled
+        (length-map-range_with_len (has_begun s) 0 s.systems ∙ sym are.each) is_settled i j ne ((lb.of_joined i).0 p)
+        ((lb.of_joined j).0 q) conflict)
     (λ i h. (lb.of_joined i).1 ((la.of_joined i).0 h))
     (λ i h. (la.of_joined i).1 ((lb.of_joined i).0 h))
     (λ i h. subst (λ n. i < n) (sym are.each) (joined_below s i ((lb.of_joined i).0 h)))
-    lb.once la.once (lawful_forward keeps settled (join_flags s) b lb) (lawful_forward keeps settled (join_flags s) a la) s are
+    lb.once la.once (lawful_forward keeps settled (join_flags s) b lb)
+        (lawful_forward keeps settled (join_flags s) a la) s are
 
 -- ---- frames
 
-pub frames_agree : JobFootprint → ConflictingSystemsAreOrdered → LawfulOrdersKeepPaths → SettledOrderIsUnique → TurnOrderIsLawful → FramesAgreeInLawfulOrders
+pub frames_agree : JobFootprint → ConflictingSystemsAreOrdered → LawfulOrdersKeepPaths → SettledOrderIsUnique
+    → TurnOrderIsLawful → FramesAgreeInLawfulOrders
 frames_agree foot ordered keeps one is_lawful frame s u log settled order x is_order lawful =
     let b : State = before_turns frame.posts s in
     let same : x.in_order.settled ≡ settled = one_order one b x.in_order.settled settled x.in_order.is_order is_order in
-    let turns : IsTurnOrder settled (join_flags b) (systems_in log) = subst (λ g. IsTurnOrder g (join_flags b) (systems_in log)) same x.in_order.in_order in
-    let own : IsLawfulOrder settled (join_flags b) (systems_in log) = is_lawful settled (join_flags b) (systems_in log) (order_is_among _ _ is_order) turns in
-    let agree = orders_agree foot ordered keeps b is_order.accesses settled order (systems_in log) is_order.of_systems is_order.is_settled lawful own in (
+    let turns : IsTurnOrder settled (join_flags b) (systems_in log) =
+        subst (λ g. IsTurnOrder g (join_flags b) (systems_in log)) same x.in_order.in_order in
+    let own : IsLawfulOrder settled (join_flags b) (systems_in log) = is_lawful settled (join_flags b) (systems_in log)
+        (order_is_among _ _ is_order) turns in
+    let agree = orders_agree foot ordered keeps b is_order.accesses settled order
+        (systems_in log) is_order.of_systems is_order.is_settled lawful own in (
       agree.0 ∙ sym x.leaves,
       ap (λ (l : Log). l.posts) (sym x.tells),
       subst (λ (l : Log). IsPermutation (frame_in order frame s).log.turns l.turns) (sym x.tells) agree.1,

@@ -19,14 +19,16 @@ abbrev BeginsAt : ℕ → Entry → Type 0
 BeginsAt place e = e.stretch.first ≡ place + e.stretch.missed
 
 -- a number of the stretch, given or cleared
-of_passed : (e : Entry) (n : ℕ) (fate : Fate) (place : ℕ) → BeginsAt place e → Contains (numbers_passed e) n → cond (is_some e.given) given cleared ≡ fate
+of_passed : (e : Entry) (n : ℕ) (fate : Fate) (place : ℕ) → BeginsAt place e → Contains (numbers_passed e) n
+    → cond (is_some e.given) given cleared ≡ fate
     → (place ≤ n) × (n < next_place e.stretch) × (fate_at e n ≡ fate)
 of_passed e n fate place begins c is =
     let bounds = range-Contains _ _ _ c in
     (omega (arith, bounds), bounds.1, rw (le-ltb n e.stretch.first bounds.0) is)
 
 -- a number that met a fate at an entry lies there, and met no other
-fate_of : (fate : Fate) (e : Entry) (n place : ℕ) → BeginsAt place e → Contains (numbers_at fate e) n → (place ≤ n) × (n < next_place e.stretch) × (fate_at e n ≡ fate)
+fate_of : (fate : Fate) (e : Entry) (n place : ℕ) → BeginsAt place e → Contains (numbers_at fate e) n → (place ≤ n)
+    × (n < next_place e.stretch) × (fate_at e n ≡ fate)
 fate_of given e n place begins c = elim (cases_Bool (is_some e.given)) [
   | inl is ↦ of_passed _ _ _ _ begins (subst (λ b. Contains (cond b (numbers_passed e) []) n) is c) (rw is refl)
   | inr isnt ↦ absurd (not_in_none n (subst (λ b. Contains (cond b (numbers_passed e) []) n) isnt c))
@@ -43,7 +45,8 @@ fate_of missed e n place begins c =
     (omega arith, omega arith, rw (lt-ltb n e.stretch.first below) refl)
 
 -- and each number there met one
-has_fate : (e : Entry) (n place : ℕ) → BeginsAt place e → place ≤ n → n < next_place e.stretch → Contains (numbers_at (fate_at e n) e) n
+has_fate : (e : Entry) (n place : ℕ) → BeginsAt place e → place ≤ n → n < next_place e.stretch
+    → Contains (numbers_at (fate_at e n) e) n
 has_fate e n place begins low high = elim (cases_Bool (nat_lt n e.stretch.first)) [
   | inl is ↦
       let below : n < e.stretch.first = ltb-true n e.stretch.first is in
@@ -66,7 +69,8 @@ here : (e : Entry) (es : List Entry) (n : ℕ) (fate : Fate) → Contains (numbe
 here e es n fate among = record { entry = e; is_entry = refl; among = among }
 
 of_here : (e : Entry) (es : List Entry) (n : ℕ) (fate : Fate) → Meets (e ∷ es) n 0 fate → Contains (numbers_at fate e) n
-of_here e es n fate met = subst (λ x. Contains (numbers_at fate x) n) (sym (same_Some e met.entry met.is_entry)) met.among
+of_here e es n fate met =
+    subst (λ x. Contains (numbers_at fate x) n) (sym (same_Some e met.entry met.is_entry)) met.among
 
 later : (e : Entry) (es : List Entry) (n k : ℕ) (fate : Fate) → Meets es n k fate → Meets (e ∷ es) n (suc k) fate
 later e es n k fate met = record { entry = met.entry; is_entry = met.is_entry; among = met.among }
@@ -81,15 +85,19 @@ tiles_rise p (m ∷ ms) q tile = grind (arith, tiles_rise (next_place m.entry.st
 none_met : (n k : ℕ) (fate : Fate) → ¬ Meets [] n k fate
 none_met n k fate met = absurd (cc)
 
-pub lies_between : (p : ℕ) (ms : List Moment) (q : ℕ) → Tile p (map tile_of ms) q → (n k : ℕ) (fate : Fate) → Meets (entries_of ms) n k fate → (p ≤ n) × (n < q)
+pub lies_between : (p : ℕ) (ms : List Moment) (q : ℕ) → Tile p (map tile_of ms) q → (n k : ℕ) (fate : Fate)
+    → Meets (entries_of ms) n k fate → (p ≤ n) × (n < q)
 lies_between p [] q tile n k fate met = absurd (none_met n k fate met)
 lies_between p (m ∷ ms) q tile n zero fate met =
     let at = fate_of _ _ _ _ tile.0.first (of_here _ _ _ _ met) in
     let rise = tiles_rise _ _ _ tile.1 in
     (at.0, omega (arith, at.1, rise))
-lies_between p (m ∷ ms) q tile n (suc k) fate met = grind (arith, of_later, lies_between (next_place m.entry.stretch) ms q tile.1 n k fate (of_later m.entry (entries_of ms) n k fate met))
+lies_between p (m ∷ ms) q tile n (suc k) fate met =
+    grind (arith, of_later, lies_between (next_place m.entry.stretch) ms q tile.1 n k fate
+    (of_later m.entry (entries_of ms) n k fate met))
 
-one_fate : (p : ℕ) (ms : List Moment) (q : ℕ) → Tile p (map tile_of ms) q → (n k l : ℕ) (f g : Fate) → Meets (entries_of ms) n k f → Meets (entries_of ms) n l g → (l ≡ k) × (g ≡ f)
+one_fate : (p : ℕ) (ms : List Moment) (q : ℕ) → Tile p (map tile_of ms) q → (n k l : ℕ) (f g : Fate)
+    → Meets (entries_of ms) n k f → Meets (entries_of ms) n l g → (l ≡ k) × (g ≡ f)
 one_fate p [] q tile n k l f g x y = absurd (none_met n k f x)
 one_fate p (m ∷ ms) q tile n zero zero f g x y =
     let a = fate_of _ _ _ _ tile.0.first (of_here _ _ _ _ x) in
@@ -103,28 +111,36 @@ one_fate p (m ∷ ms) q tile n (suc k) zero f g x y =
     let a = fate_of _ _ _ _ tile.0.first (of_here _ _ _ _ y) in
     let b = lies_between _ _ _ tile.1 _ _ _ (of_later _ _ _ _ _ x) in
     absurd (omega (arith, a.1, b.0))
-one_fate p (m ∷ ms) q tile n (suc k) (suc l) f g x y = grind (arith, of_later, one_fate (next_place m.entry.stretch) ms q tile.1 n k l f g (of_later m.entry (entries_of ms) n k f x) (of_later m.entry (entries_of ms) n l g y))
+one_fate p (m ∷ ms) q tile n (suc k) (suc l) f g x y =
+    grind (arith, of_later, one_fate (next_place m.entry.stretch) ms q tile.1 n k l f g
+    (of_later m.entry (entries_of ms) n k f x) (of_later m.entry (entries_of ms) n l g y))
 
-some_fate : (p : ℕ) (ms : List Moment) (q : ℕ) → Tile p (map tile_of ms) q → (n : ℕ) → p ≤ n → n < q → (k : ℕ) × ((fate : Fate) × Meets (entries_of ms) n k fate)
+some_fate : (p : ℕ) (ms : List Moment) (q : ℕ) → Tile p (map tile_of ms) q → (n : ℕ) → p ≤ n → n < q → (k : ℕ)
+    × ((fate : Fate) × Meets (entries_of ms) n k fate)
 some_fate p [] q tile n low high = let same : p ≡ q = tile in absurd (omega arith)
 some_fate p (m ∷ ms) q tile n low high = elim (cases_Bool (nat_lt n (next_place m.entry.stretch))) [
-  | inl is ↦ (0, (fate_at m.entry n, here m.entry (entries_of ms) n (fate_at m.entry n) (has_fate m.entry n p tile.0.first low (ltb-true n (next_place m.entry.stretch) is))))
+  | inl is ↦ (0, (fate_at m.entry n, here m.entry (entries_of ms) n (fate_at m.entry n)
+      (has_fate m.entry n p tile.0.first low (ltb-true n (next_place m.entry.stretch) is))))
   | inr isnt ↦
-      let rest = some_fate (next_place m.entry.stretch) ms q tile.1 n (ltb-false n (next_place m.entry.stretch) isnt) high in
+      let rest = some_fate (next_place m.entry.stretch) ms q tile.1 n
+          (ltb-false n (next_place m.entry.stretch) isnt) high in
       (suc rest.0, (rest.1.0, later m.entry (entries_of ms) n rest.0 rest.1.0 rest.1.1))
 ]
 
-pub meets_one_fate : (p : ℕ) (ms : List Moment) (q : ℕ) → Tile p (map tile_of ms) q → (n : ℕ) → p ≤ n → n < q → MeetsOneFate (entries_of ms) n
+pub meets_one_fate : (p : ℕ) (ms : List Moment) (q : ℕ) → Tile p (map tile_of ms) q → (n : ℕ) → p ≤ n → n < q
+    → MeetsOneFate (entries_of ms) n
 meets_one_fate p ms q tile n low high =
     let some = some_fate p ms q tile n low high in
-    record { entry = some.0; fate = some.1.0; met = some.1.1; only = λ k other met. one_fate p ms q tile n some.0 k some.1.0 other some.1.1 met }
+    record { entry = some.0; fate = some.1.0; met = some.1.1;
+        only = λ k other met. one_fate p ms q tile n some.0 k some.1.0 other some.1.1 met }
 
 -- ---- what was missed
 
 abbrev MissesDropped : Moment → Type 0
 MissesDropped m = (n : ℕ) → Contains (numbers_at missed m.entry) n → (n < count m.history) × (¬ IsPresent m.history n)
 
-pub missed_are_dropped : (p : ℕ) (ms : List Moment) (q : ℕ) → Tile p (map tile_of ms) q → All IsWritten ms → All MissesDropped ms
+pub missed_are_dropped : (p : ℕ) (ms : List Moment) (q : ℕ) → Tile p (map tile_of ms) q → All IsWritten ms
+    → All MissesDropped ms
 missed_are_dropped p [] q tile written = All-nil MissesDropped
 missed_are_dropped p (m ∷ ms) q tile written =
     let e : Entry = m.entry in

@@ -39,15 +39,19 @@ module _ (in_order : IsInOrder) (program : Program) (writer : ℕ) (few : length
   turn_stays : (i j : ℕ) (s : State) → IsProgram (s.members i).job → IsProgram ((after_turn_of j s).members i).job
   turn_stays i j s is = one_member (λ m. IsProgram m.job) j i s (λ e. job_stays (s.members i).job s.world is) (λ ne. is)
 
-  turns_stay : (i : ℕ) (order : List ℕ) (s : State) → IsProgram (s.members i).job → IsProgram ((after_turns_of order s).state.members i).job
+  turns_stay : (i : ℕ) (order : List ℕ) (s : State) → IsProgram (s.members i).job
+      → IsProgram ((after_turns_of order s).state.members i).job
   turns_stay i [] s is = is
   turns_stay i (j ∷ js) s is = turns_stay i js (after_turn_of j s) (turn_stays i j s is)
 
-  turns_ran : (i : ℕ) (order : List ℕ) (s : State) → IsProgram (s.members i).job → All (λ turn. turn.system ≡ i → turn.outcome ≢ Skipped) (after_turns_of order s).turns
+  turns_ran : (i : ℕ) (order : List ℕ) (s : State) → IsProgram (s.members i).job
+      → All (λ turn. turn.system ≡ i → turn.outcome ≢ Skipped) (after_turns_of order s).turns
   turns_ran i [] s is = All-nil (λ turn. turn.system ≡ i → turn.outcome ≢ Skipped)
-  turns_ran i (j ∷ js) s is = grind (arith, All-cons, ran_isnt_skipped, turn_stays, turns_ran i js (after_turn_of j s) (turn_stays i j s is))
+  turns_ran i (j ∷ js) s is =
+      grind (arith, All-cons, ran_isnt_skipped, turn_stays, turns_ran i js (after_turn_of j s) (turn_stays i j s is))
 
-  before_stays : OnlyGrows Record → (posts : List (ℕ × ℤ)) (s : State) (i : ℕ) → IsProgram (s.members i).job → IsProgram ((before_turns posts s).members i).job
+  before_stays : OnlyGrows Record → (posts : List (ℕ × ℤ)) (s : State) (i : ℕ) → IsProgram (s.members i).job
+      → IsProgram ((before_turns posts s).members i).job
   before_stays grow posts s i is = elim ((prepares grow posts s).arrival i) [
     | stood was now same ↦ subst (λ (m : Member). IsProgram m.job) (sym same) is
     | comes was now new ↦ subst (λ (m : Member). IsProgram m.job) (sym new)
@@ -60,19 +64,23 @@ programs_read_all grow in_order frame s log u i t program writer places is there
     let b : State = before_turns frame.posts s in
     let prep : Prepares s b = prepares grow frame.posts s in
     let order : List ℕ = systems_in log in
-    let ready : IsProgram in_order program writer few (b.members i).job = before_stays in_order program writer few grow frame.posts s i (places, was) in
+    let ready : IsProgram in_order program writer few (b.members i).job =
+        before_stays in_order program writer few grow frame.posts s i (places, was) in
     let stays : IsProgram in_order program writer few (u.members i).job =
-    subst (λ (x : State). IsProgram in_order program writer few (x.members i).job) (sym is.leaves) (turns_stay in_order program writer few i order b ready) in
+    subst (λ (x : State). IsProgram in_order program writer few (x.members i).job) (sym is.leaves)
+        (turns_stay in_order program writer few i order b ready) in
     let now : IsTrue (has_begun b i) = elim (prep.arrival i) [
       | stood old new same ↦ new
       | comes old new same ↦ new
       | before.waits old new same ↦ absurd (false≢true (sym old ∙ has))
     ] in
     let under : i < b.systems = subst (λ n. i < n) (sym prep.same.systems) there in
-    let joins : has_joined (join_flags b) i ≡ has_begun b i = get_or-map-range_with_len (has_begun b) 0 b.systems i i false under (omega arith) in (
+    let joins : has_joined (join_flags b) i
+        ≡ has_begun b i = get_or-map-range_with_len (has_begun b) 0 b.systems i i false under (omega arith) in (
       record {
         has_turn = (is.in_order.in_order.of_joined i).1 (joins ∙ now);
-        ran = subst (All (λ turn. turn.system ≡ i → turn.outcome ≢ Skipped)) (sym (ap (λ (l : Log). l.turns) is.tells)) (turns_ran in_order program writer few i order b ready);
+        ran = subst (All (λ turn. turn.system ≡ i → turn.outcome ≢ Skipped)) (sym (ap (λ (l : Log). l.turns) is.tells))
+            (turns_ran in_order program writer few i order b ready);
         read_all = ap (λ (j : Job). list_any (reads_all t) j.system.last) stays.1 ∙ reads;
       },
       stays,

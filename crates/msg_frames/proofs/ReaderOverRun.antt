@@ -17,27 +17,35 @@ use Rattle.msg_frames.proofs.BeforeTurns.{Prepares, before_rule, comes, prepares
 use Rattle.msg_frames.proofs.StatesStaySound.{begun_alike, frame_sound, has_no_turn, prepared_sound}
 
 -- a run of frames, as one frame and then the others, from the state that the frame leaves
-pub after_first : (frame : Frame) (frames : List Frame) (s : State) (log : Log) (logs : List Log) (u : State) → IsRun (frame ∷ frames) s (log ∷ logs) u
+pub after_first : (frame : Frame) (frames : List Frame) (s : State) (log : Log) (logs : List Log) (u : State)
+    → IsRun (frame ∷ frames) s (log ∷ logs) u
     → IsRun frames (frame_in (systems_in log) frame s).state logs u
 after_first frame frames s log logs u is = subst (λ m. IsRun frames m logs u) is.1.leaves is.2
 
 -- ---- the entries that the logs have
 
 frame_tells : (i t : ℕ) (frame : Frame) (s : State) (log : Log) → log ≡ (frame_in (systems_in log) frame s).log
-    → Tells i t s (answers_among i log.turns) (turns_moments i t (systems_in log) (before_turns frame.posts s)) (frame_in (systems_in log) frame s).state
+    → Tells i t s (answers_among i log.turns) (turns_moments i t (systems_in log) (before_turns frame.posts s))
+    (frame_in (systems_in log) frame s).state
 frame_tells i t frame s log is =
     let b : State = before_turns frame.posts s in
     let ms : List Moment = turns_moments i t (systems_in log) b in
     let own = turns_tell i t (systems_in log) b in
     let kept = ((before_keeps frame.posts s).members i).needs in
-    let same : answers_among i (frame_in (systems_in log) frame s).log.turns ≡ answers_among i log.turns = ap (λ (l : Log). answers_among i l.turns) (sym is) in
+    let same : answers_among i (frame_in (systems_in log) frame s).log.turns
+        ≡ answers_among i log.turns = ap (λ (l : Log). answers_among i l.turns) (sym is) in
     subst (λ turns. Tells i t s turns ms (frame_in (systems_in log) frame s).state) same (record {
-      entries = ap (λ (z : Needs × Rule). entries_told t z.0 z.1 (answers_among i (frame_in (systems_in log) frame s).log.turns)) (λ k. (sym kept k, sym (before_rule frame.posts s i) k)) ∙ own.entries;
-      rule = own.rule ∙ ap (after_told (answers_among i (frame_in (systems_in log) frame s).log.turns)) (before_rule frame.posts s i);
+      entries =
+          ap (λ (z : Needs × Rule). entries_told t z.0 z.1
+          (answers_among i (frame_in (systems_in log) frame s).log.turns))
+          (λ k. (sym kept k, sym (before_rule frame.posts s i) k)) ∙ own.entries;
+      rule = own.rule ∙ ap (after_told (answers_among i (frame_in (systems_in log) frame s).log.turns))
+          (before_rule frame.posts s i);
       needs = own.needs ∙ kept;
     })
 
-pub run_tells : (i t : ℕ) (frames : List Frame) (s : State) (logs : List Log) (u : State) → IsRun frames s logs u → Tells i t s (answers_in i logs) (moments i t frames logs s) u
+pub run_tells : (i t : ℕ) (frames : List Frame) (s : State) (logs : List Log) (u : State) → IsRun frames s logs u
+    → Tells i t s (answers_in i logs) (moments i t frames logs s) u
 run_tells i t [] s [] u is = grind arith
 run_tells i t (frame ∷ frames) s (log ∷ logs) u is =
     let m : State = (frame_in (systems_in log) frame s).state in
@@ -48,11 +56,14 @@ run_tells i t frames s logs u is = absurd is
 
 -- ---- a reader that has joined
 
-passes_since : (a b c : History Record) (p : ℕ) (ms : List Moment) (q : ℕ) → GoesOn a b → Passes p b ms q c → Passes p a ms q c
+passes_since : (a b c : History Record) (p : ℕ) (ms : List Moment) (q : ℕ) → GoesOn a b → Passes p b ms q c
+    → Passes p a ms q c
 passes_since a b c p ms q goes x = grind (arith, goes_further)
 
 -- what comes before the turns does nothing to it
-reads_since : (i t : ℕ) (s b : State) (ms : List Moment) (u : State) → GoesOn (s.world.histories t) (b.world.histories t) → b.members i ≡ s.members i → Reads i t b ms u → Reads i t s ms u
+reads_since : (i t : ℕ) (s b : State) (ms : List Moment) (u : State)
+    → GoesOn (s.world.histories t) (b.world.histories t) → b.members i ≡ s.members i → Reads i t b ms u
+    → Reads i t s ms u
 reads_since i t s b ms u goes same x = grind (arith, passes_since)
 
 -- ---- a reader that joins in the run, or had joined
@@ -63,22 +74,26 @@ pub record Follows (i t : ℕ) (s : State) (ms : List Moment) (u : State) : Type
   pub totals : (u.members i).totals t ≡ with_entries (map (λ m. m.entry) ms) (found_totals s u i t)
 
 module _ (i t : ℕ) where
-  follows_joined : (s : State) (ms : List Moment) (u : State) → IsTrue (has_begun s i) → Reads i t s ms u → Follows i t s ms u
+  follows_joined : (s : State) (ms : List Moment) (u : State) → IsTrue (has_begun s i) → Reads i t s ms u
+      → Follows i t s ms u
   follows_joined s ms u has x = grind arith
 
   -- from the place at which it joined
   follows_new : (s : State) (ms : List Moment) (u : State) (place : ℕ) → IsFalse (has_begun s i)
-      → Passes place (s.world.histories t) ms (place_of u i t) (u.world.histories t) → (u.members i).totals t ≡ with_entries (map (λ m. m.entry) ms) (totals_from place) → Follows i t s ms u
+      → Passes place (s.world.histories t) ms (place_of u i t) (u.world.histories t) → (u.members i).totals t
+      ≡ with_entries (map (λ m. m.entry) ms) (totals_from place) → Follows i t s ms u
   follows_new s ms u place isnt passes totals = grind arith
 
   -- where nothing was done to it yet
-  follows_since : (s m : State) (ms : List Moment) (u : State) → IsFalse (has_begun s i) → IsFalse (has_begun m i) → GoesOn (s.world.histories t) (m.world.histories t) → Follows i t m ms u → Follows i t s ms u
+  follows_since : (s m : State) (ms : List Moment) (u : State) → IsFalse (has_begun s i) → IsFalse (has_begun m i)
+      → GoesOn (s.world.histories t) (m.world.histories t) → Follows i t m ms u → Follows i t s ms u
   follows_since s m ms u isnt wasnt goes x = grind (arith, passes_since)
 
 module _ (laws : BufferLaws) (i t : ℕ) where
   -- the turns of a frame
   frame_reads : (frame : Frame) (order : List ℕ) (s : State) → IsSoundState s → t < s.types
-      → Reads i t (before_turns frame.posts s) (turns_moments i t order (before_turns frame.posts s)) (frame_in order frame s).state
+      → Reads i t (before_turns frame.posts s) (turns_moments i t order (before_turns frame.posts s))
+      (frame_in order frame s).state
   frame_reads frame order s sound below =
       let b : State = before_turns frame.posts s in
       let prep : Prepares s b = prepares laws.grow frame.posts s in
@@ -86,7 +101,8 @@ module _ (laws : BufferLaws) (i t : ℕ) where
       let under : t < b.types = subst (λ n. t < n) (sym prep.same.types) below in
       turns_read laws i t order b (ready.histories t under) (ready.places i t under)
 
-  run_reads : (frames : List Frame) (s : State) (logs : List Log) (u : State) → IsSoundState s → IsRun frames s logs u → t < s.types → IsTrue (has_begun s i)
+  run_reads : (frames : List Frame) (s : State) (logs : List Log) (u : State) → IsSoundState s → IsRun frames s logs u
+      → t < s.types → IsTrue (has_begun s i)
       → Reads i t s (moments i t frames logs s) u
   run_reads [] s [] u sound is below has = grind (arith, passes_nothing, stays, with_entries-none)
   run_reads (frame ∷ frames) s (log ∷ logs) u sound is below has =
@@ -94,19 +110,24 @@ module _ (laws : BufferLaws) (i t : ℕ) where
       let m : State = (frame_in (systems_in log) frame s).state in
       let prep : Prepares s b = prepares laws.grow frame.posts s in
       let keep : Keeps b m = turns_keep (systems_in log) b in
-      let here : Reads i t b (turns_moments i t (systems_in log) b) m = frame_reads frame (systems_in log) s sound below in
+      let here : Reads i t b (turns_moments i t (systems_in log) b) m =
+          frame_reads frame (systems_in log) s sound below in
       let msound : IsSoundState m = subst IsSoundState is.1.leaves (frame_sound laws frame s log is.0 sound is.1) in
-      let later : IsTrue (has_begun b i) → Reads i t m (moments i t frames logs m) u = λ now. run_reads frames m logs u msound (after_first frame frames s log logs u is)
+      let later : IsTrue (has_begun b i) → Reads i t m (moments i t frames logs m) u =
+          λ now. run_reads frames m logs u msound (after_first frame frames s log logs u is)
       (subst (λ n. t < n) (sym (keep.0.types ∙ prep.same.types)) below) (begun_alike b m i keep ∙ now) in
       elim (prep.arrival i) [
-        | stood was now same ↦ reads_further i t s (turns_moments i t (systems_in log) b) m (moments i t frames logs m) u
-            (reads_since i t s b (turns_moments i t (systems_in log) b) m (prep.world t (sound.histories t below)) same here) (later now)
+        | stood was now same ↦ reads_further i t s (turns_moments i t (systems_in log) b) m
+            (moments i t frames logs m) u
+            (reads_since i t s b (turns_moments i t (systems_in log) b) m
+                (prep.world t (sound.histories t below)) same here) (later now)
         | comes was now is_new ↦ absurd (false≢true (sym was ∙ has))
         | waits was now same ↦ absurd (false≢true (sym was ∙ has))
       ]
   run_reads frames s logs u sound is below has = absurd is
 
-  pub run_follows : (frames : List Frame) (s : State) (logs : List Log) (u : State) → IsSoundState s → IsRun frames s logs u → t < s.types → IsTrue (has_begun u i)
+  pub run_follows : (frames : List Frame) (s : State) (logs : List Log) (u : State) → IsSoundState s
+      → IsRun frames s logs u → t < s.types → IsTrue (has_begun u i)
       → Follows i t s (moments i t frames logs s) u
   run_follows [] s [] u sound is below has = grind (arith, follows_joined, run_reads)
   run_follows (frame ∷ frames) s (log ∷ logs) u sound is below has =
@@ -122,16 +143,23 @@ module _ (laws : BufferLaws) (i t : ℕ) where
       let goes : GoesOn (s.world.histories t) (b.world.histories t) = prep.world t (sound.histories t below) in
       let mrun : IsRun frames m logs u = after_first frame frames s log logs u is in
       elim (prep.arrival i) [
-        | stood was now same ↦ follows_joined i t s (ms ++ rest) u was (run_reads (frame ∷ frames) s (log ∷ logs) u sound is below was)
+        | stood was now same ↦ follows_joined i t s (ms ++ rest) u was
+            (run_reads (frame ∷ frames) s (log ∷ logs) u sound is below was)
         | comes was now new ↦
-            let all : Reads i t b (ms ++ rest) u = reads_further i t b ms m rest u here (run_reads frames m logs u msound mrun mbelow (begun_alike b m i keep ∙ now)) in
+            let all : Reads i t b (ms ++ rest) u =
+                reads_further i t b ms m rest u here
+                (run_reads frames m logs u msound mrun mbelow (begun_alike b m i keep ∙ now)) in
             let place : ℕ = (joined_member (counts s) (s.members i)).job.system.places t in
             follows_new i t s (ms ++ rest) u place was
-            (passes_since (s.world.histories t) (b.world.histories t) (u.world.histories t) place (ms ++ rest) (place_of u i t) goes
-            (subst (λ (x : Member). Passes (x.job.system.places t) (b.world.histories t) (ms ++ rest) (place_of u i t) (u.world.histories t)) new all.passes))
-            (subst (λ (x : Member). (u.members i).totals t ≡ with_entries (map (λ y. y.entry) (ms ++ rest)) (x.totals t)) new all.totals)
+            (passes_since (s.world.histories t) (b.world.histories t) (u.world.histories t) place (ms ++ rest)
+                (place_of u i t) goes
+            (subst (λ (x : Member). Passes (x.job.system.places t) (b.world.histories t) (ms ++ rest) (place_of u i t)
+                (u.world.histories t)) new all.passes))
+            (subst (λ (x : Member). (u.members i).totals t
+                ≡ with_entries (map (λ y. y.entry) (ms ++ rest)) (x.totals t)) new all.totals)
         | waits was now same ↦
-            let none : ms ≡ [] = no_moments i t (systems_in log) b (has_no_turn b (systems_in log) i is.1.in_order now) in
+            let none : ms ≡ [] =
+                no_moments i t (systems_in log) b (has_no_turn b (systems_in log) i is.1.in_order now) in
             subst (λ xs. Follows i t s (xs ++ rest) u) (sym none)
             (follows_since i t s m rest u was (begun_alike b m i keep ∙ now)
             (goes_further (s.world.histories t) (b.world.histories t) (m.world.histories t) goes here.passes.goes_on)
@@ -142,7 +170,8 @@ module _ (laws : BufferLaws) (i t : ℕ) where
 -- ---- what a run does for a reader
 
 module _ (laws : BufferLaws) where
-  module _ (i t : ℕ) (frames : List Frame) (s : State) (logs : List Log) (u : State) (sound : IsSoundState s) (is : IsRun frames s logs u) (below : t < s.types)
+  module _ (i t : ℕ) (frames : List Frame) (s : State) (logs : List Log) (u : State) (sound : IsSoundState s)
+      (is : IsRun frames s logs u) (below : t < s.types)
       (has : IsTrue (has_begun u i))
     where
       abbrev ms : List Moment

@@ -17,9 +17,11 @@ pub record Reads (i t : ℕ) (s : State) (ms : List Moment) (u : State) : Type 0
   pub passes : Passes (place_of s i t) (s.world.histories t) ms (place_of u i t) (u.world.histories t)
   pub totals : (u.members i).totals t ≡ with_entries (map (λ m. m.entry) ms) ((s.members i).totals t)
 
-pub reads_further : (i t : ℕ) (a : State) (ms : List Moment) (b : State) (ns : List Moment) (c : State) → Reads i t a ms b → Reads i t b ns c → Reads i t a (ms ++ ns) c
+pub reads_further : (i t : ℕ) (a : State) (ms : List Moment) (b : State) (ns : List Moment) (c : State)
+    → Reads i t a ms b → Reads i t b ns c → Reads i t a (ms ++ ns) c
 reads_further i t a ms b ns c x y = record {
-  passes = passes_further (place_of a i t) (a.world.histories t) ms (place_of b i t) (b.world.histories t) ns (place_of c i t) (c.world.histories t) x.passes y.passes;
+  passes = passes_further (place_of a i t) (a.world.histories t) ms (place_of b i t) (b.world.histories t) ns
+      (place_of c i t) (c.world.histories t) x.passes y.passes;
   totals = y.totals ∙ ap (with_entries (map (λ m. m.entry) ns)) x.totals
       ∙ sym (with_entries-append (map (λ m. m.entry) ms) (map (λ m. m.entry) ns) ((a.members i).totals t))
       ∙ ap (λ es. with_entries es ((a.members i).totals t)) (sym (map-append (λ m. m.entry) ms ns));
@@ -30,7 +32,8 @@ abbrev pub Keeps : State → State → Type 0
 Keeps s u = SameSystems s u × (u.frames ≡ s.frames)
 
 -- a member is as its turn leaves it, or as it was
-pub one_member : (P : Member → Type 0) (j i : ℕ) (s : State) → (i ≡ j → P (turn_of s i).member) → (¬ (i ≡ j) → P (s.members i)) → P ((after_turn_of j s).members i)
+pub one_member : (P : Member → Type 0) (j i : ℕ) (s : State) → (i ≡ j → P (turn_of s i).member)
+    → (¬ (i ≡ j) → P (s.members i)) → P ((after_turn_of j s).members i)
 one_member P j i s here other = grind (arith, cases_eq, eq-eqb, ne_eqb)
 
 -- the moments of reader (i, t) in the turn of system j
@@ -39,27 +42,35 @@ own_moments i t j s = cond (j == i) (job_moments t (s.members i).job s.world) []
 
 module _ (laws : BufferLaws) where
   turn_passes : (i t j : ℕ) (s : State) → IsSound (s.world.histories t) → place_of s i t ≤ count (s.world.histories t)
-      → Passes (place_of s i t) (s.world.histories t) (own_moments i t j s) (place_of (after_turn_of j s) i t) ((turn_of s j).world.histories t)
+      → Passes (place_of s i t) (s.world.histories t) (own_moments i t j s) (place_of (after_turn_of j s) i t)
+      ((turn_of s j).world.histories t)
   turn_passes i t j s sound within =
-      one_member (λ m. Passes (place_of s i t) (s.world.histories t) (own_moments i t j s) (m.job.system.places t) ((turn_of s j).world.histories t)) j i s
+      one_member (λ m. Passes (place_of s i t) (s.world.histories t) (own_moments i t j s) (m.job.system.places t)
+          ((turn_of s j).world.histories t)) j i s
       (λ e. rw (eq-eqb j i (sym e))
-      (subst (λ k. Passes (place_of s i t) (s.world.histories t) (job_moments t (s.members i).job s.world) ((turn_of s i).member.job.system.places t) ((turn_of s k).world.histories t)) e
+      (subst (λ k. Passes (place_of s i t) (s.world.histories t) (job_moments t (s.members i).job s.world)
+          ((turn_of s i).member.job.system.places t) ((turn_of s k).world.histories t)) e
       (job_passes laws t (s.members i).job s.world sound within)))
       (λ ne. rw (ne_eqb j i (λ x. ne (sym x)))
-      (passes_nothing (place_of s i t) (s.world.histories t) ((turn_of s j).world.histories t) within (job_goes_on laws.grow (s.members j).job s.world t sound)))
+      (passes_nothing (place_of s i t) (s.world.histories t) ((turn_of s j).world.histories t) within
+          (job_goes_on laws.grow (s.members j).job s.world t sound)))
 
-  turn_totals : (i t j : ℕ) (s : State) → ((after_turn_of j s).members i).totals t ≡ with_entries (map (λ m. m.entry) (own_moments i t j s)) ((s.members i).totals t)
+  turn_totals : (i t j : ℕ) (s : State) → ((after_turn_of j s).members i).totals t
+      ≡ with_entries (map (λ m. m.entry) (own_moments i t j s)) ((s.members i).totals t)
   turn_totals i t j s = grind (arith, eq-eqb, job_logged, ne_eqb, one_member, with_entries-none)
 
-  pub turn_reads : (i t j : ℕ) (s : State) → IsSound (s.world.histories t) → place_of s i t ≤ count (s.world.histories t) → Reads i t s (own_moments i t j s) (after_turn_of j s)
+  pub turn_reads : (i t j : ℕ) (s : State) → IsSound (s.world.histories t)
+      → place_of s i t ≤ count (s.world.histories t) → Reads i t s (own_moments i t j s) (after_turn_of j s)
   turn_reads i t j s sound within = record { passes = turn_passes i t j s sound within; totals = turn_totals i t j s }
 
-  pub turns_read : (i t : ℕ) (js : List ℕ) (s : State) → IsSound (s.world.histories t) → place_of s i t ≤ count (s.world.histories t)
+  pub turns_read : (i t : ℕ) (js : List ℕ) (s : State) → IsSound (s.world.histories t)
+      → place_of s i t ≤ count (s.world.histories t)
       → Reads i t s (turns_moments i t js s) (after_turns_of js s).state
   turns_read i t [] s sound within = grind (arith, passes_nothing, stays, with_entries-none)
   turns_read i t (j ∷ js) s sound within =
       let first : Reads i t s (own_moments i t j s) (after_turn_of j s) = turn_reads i t j s sound within in
-      reads_further i t s (own_moments i t j s) (after_turn_of j s) (turns_moments i t js (after_turn_of j s)) (after_turns_of js (after_turn_of j s)).state first
+      reads_further i t s (own_moments i t j s) (after_turn_of j s) (turns_moments i t js (after_turn_of j s))
+          (after_turns_of js (after_turn_of j s)).state first
       (turns_read i t js (after_turn_of j s) first.passes.goes_on.sound first.passes.within)
 
 -- ---- what the log has of system i among these turns
@@ -84,48 +95,57 @@ after_both rule xs ys = λ k later now. rule (sym (append_assoc xs ys later) k) 
 
 -- what the turn of system j tells of system i, and what system i does from then on
 pub record Tells (i t : ℕ) (s : State) (turns : List (List Reply)) (ms : List Moment) (u : State) : Type 0 where
-  pub entries : entries_told t (s.members i).job.system.needs (s.members i).job.system.rule turns ≡ map (λ m. m.entry) ms
+  pub entries : entries_told t (s.members i).job.system.needs (s.members i).job.system.rule turns
+      ≡ map (λ m. m.entry) ms
   pub rule : (u.members i).job.system.rule ≡ after_told turns (s.members i).job.system.rule
   pub needs : (u.members i).job.system.needs ≡ (s.members i).job.system.needs
 
-pub tells_further : (i t : ℕ) (a : State) (xs : List (List Reply)) (ms : List Moment) (b : State) (ys : List (List Reply)) (ns : List Moment) (c : State)
+pub tells_further : (i t : ℕ) (a : State) (xs : List (List Reply)) (ms : List Moment) (b : State)
+    (ys : List (List Reply)) (ns : List Moment) (c : State)
     → Tells i t a xs ms b → Tells i t b ys ns c → Tells i t a (xs ++ ys) (ms ++ ns) c
 tells_further i t a xs ms b ys ns c x y =
     let m = (a.members i).job.system in
     record {
       entries = entries_told-append t m.needs m.rule xs ys
           ∙ ap (λ es. es ++ entries_told t m.needs (after_told xs m.rule) ys) x.entries
-          ∙ ap (λ (z : Needs × Rule). map (λ m. m.entry) ms ++ entries_told t z.0 z.1 ys) (λ k. (sym x.needs k, sym x.rule k))
+          ∙ ap (λ (z : Needs × Rule). map (λ m. m.entry) ms ++ entries_told t z.0 z.1 ys)
+          (λ k. (sym x.needs k, sym x.rule k))
           ∙ ap (λ es. map (λ m. m.entry) ms ++ es) y.entries
           ∙ sym (map-append (λ m. m.entry) ms ns);
       rule = y.rule ∙ ap (after_told ys) x.rule ∙ after_both m.rule xs ys;
       needs = y.needs ∙ x.needs;
     }
 
-turn_tells : (i t j : ℕ) (s : State) → Tells i t s (cond (j == i) (answers (logged_turn s j).outcome) []) (own_moments i t j s) (after_turn_of j s)
+turn_tells : (i t j : ℕ) (s : State) → Tells i t s (cond (j == i) (answers (logged_turn s j).outcome) [])
+    (own_moments i t j s) (after_turn_of j s)
 turn_tells i t j s = record { entries = entries; rule = rule; needs = ((one_turn_keeps j s).members i).needs }
   where
-    entries : entries_told t (s.members i).job.system.needs (s.members i).job.system.rule (cond (j == i) (answers (logged_turn s j).outcome) []) ≡ map (λ x. x.entry) (own_moments i t j s)
+    entries : entries_told t (s.members i).job.system.needs (s.members i).job.system.rule
+        (cond (j == i) (answers (logged_turn s j).outcome) []) ≡ map (λ x. x.entry) (own_moments i t j s)
     entries = elim (cases_eq j i) [
       | inl e ↦ rw (eq-eqb j i e) (rw e (job_logged t (s.members i).job s.world))
       | inr ne ↦ rw (ne_eqb j i ne) refl
     ]
 
-    rule : ((after_turn_of j s).members i).job.system.rule ≡ after_told (cond (j == i) (answers (logged_turn s j).outcome) []) (s.members i).job.system.rule
+    rule : ((after_turn_of j s).members i).job.system.rule
+        ≡ after_told (cond (j == i) (answers (logged_turn s j).outcome) []) (s.members i).job.system.rule
     rule = elim (cases_eq j i) [
       | inl e ↦ rw (eq-eqb j i e, eq-eqb i j (sym e)) (rw e (job_rule (s.members i).job s.world))
       | inr ne ↦ rw (ne_eqb j i ne, ne_eqb i j (λ x. ne (sym x))) refl
     ]
 
-pub turns_tell : (i t : ℕ) (js : List ℕ) (s : State) → Tells i t s (answers_among i (after_turns_of js s).turns) (turns_moments i t js s) (after_turns_of js s).state
+pub turns_tell : (i t : ℕ) (js : List ℕ) (s : State)
+    → Tells i t s (answers_among i (after_turns_of js s).turns) (turns_moments i t js s) (after_turns_of js s).state
 turns_tell i t [] s = record { entries = refl; rule = refl; needs = refl }
 turns_tell i t (j ∷ js) s =
     let u : State = after_turn_of j s in
     tells_further i t s (cond (j == i) (answers (logged_turn s j).outcome) []) (own_moments i t j s) u
-    (answers_among i (after_turns_of js u).turns) (turns_moments i t js u) (after_turns_of js u).state (turn_tells i t j s) (turns_tell i t js u)
+    (answers_among i (after_turns_of js u).turns) (turns_moments i t js u) (after_turns_of js u).state
+        (turn_tells i t j s) (turns_tell i t js u)
 
 -- one whose turn doesn't come
-pub turns_skip : (i : ℕ) (js : List ℕ) (s : State) → ¬ Contains js i → (after_turns_of js s).state.members i ≡ s.members i
+pub turns_skip : (i : ℕ) (js : List ℕ) (s : State) → ¬ Contains js i → (after_turns_of js s).state.members i
+    ≡ s.members i
 turns_skip i [] s out = refl
 turns_skip i (j ∷ js) s out =
     turns_skip i js (after_turn_of j s) (λ at. out (Contains-tail j js i at))

@@ -21,11 +21,13 @@ use Rattle.msg_frames.proofs.ReaderOverTurns.{one_member, turn_reads}
 -- ---- a turn that reads all
 
 module _ (laws : BufferLaws) (t : ℕ) where
-  takes : (u : ℕ) (ps : ℕ → ℕ) (w : WorldState) → IsSound (w.histories t) → ps t ≤ count (w.histories t) → IsTrue (u == t)
+  takes : (u : ℕ) (ps : ℕ → ℕ) (w : WorldState) → IsSound (w.histories t) → ps t ≤ count (w.histories t)
+      → IsTrue (u == t)
       → with_place ps u (place_after_read (w.histories u) (ps u) None) t ≡ count (w.histories t)
   takes u ps w sound within is = grind (arith, eq-eqb, eqb-true)
 
-  op_takes_all : (op : Op) (writer : ℕ) (ps : ℕ → ℕ) (w : WorldState) → IsSound (w.histories t) → ps t ≤ count (w.histories t) → IsTrue (reads_all t op)
+  op_takes_all : (op : Op) (writer : ℕ) (ps : ℕ → ℕ) (w : WorldState) → IsSound (w.histories t)
+      → ps t ≤ count (w.histories t) → IsTrue (reads_all t op)
       → (after_op op writer ps w).places t ≡ count (w.histories t)
   op_takes_all (Read u None) writer ps w sound within is = takes u ps w sound within is
   op_takes_all (Forward u v) writer ps w sound within is = takes u ps w sound within is
@@ -33,20 +35,25 @@ module _ (laws : BufferLaws) (t : ℕ) where
   op_takes_all op writer ps w sound within is = cc
 
   -- so it does by one op more, or it did before
-  more_takes : (o : Option Op) (m : Meaning) (far : AfterProgram) (c : ℕ) → next_op m far.replies ≡ o → IsSound (far.state.histories t)
+  more_takes : (o : Option Op) (m : Meaning) (far : AfterProgram) (c : ℕ) → next_op m far.replies ≡ o
+      → IsSound (far.state.histories t)
       → far.places t ≤ count (far.state.histories t) → c ≤ count (far.state.histories t)
       → (IsTrue (list_any (reads_all t) (ops_answered (next_op m) far.replies)) → c ≤ far.places t)
-      → IsTrue (list_any (reads_all t) (ops_answered (next_op m) (one_more o m.writer far).replies)) → c ≤ (one_more o m.writer far).places t
+      → IsTrue (list_any (reads_all t) (ops_answered (next_op m) (one_more o m.writer far).replies))
+      → c ≤ (one_more o m.writer far).places t
   more_takes None m far c at sound within less so is = so is
   more_takes (Some op) m far c at sound within less so is =
       let r : Reply = (after_op op m.writer far.places far.state).reply in
       let ops : List Op = ops_answered (next_op m) far.replies in
-      let more : ops_answered (next_op m) (far.replies ++ r ∷ []) ≡ ops ++ op ∷ [] = ops_answered-snoc (next_op m) far.replies r ∙ ap (λ x. ops ++ option_to_list x) at in
-      let either : (list_any (reads_all t) ops || (reads_all t op || false)) ≡ true = sym (list_any-append (reads_all t) ops (op ∷ [])) ∙ ap (list_any (reads_all t)) (sym more) ∙ is in
+      let more : ops_answered (next_op m) (far.replies ++ r ∷ []) ≡ ops ++ op
+          ∷ [] = ops_answered-snoc (next_op m) far.replies r ∙ ap (λ x. ops ++ option_to_list x) at in
+      let either : (list_any (reads_all t) ops || (reads_all t op || false))
+          ≡ true = sym (list_any-append (reads_all t) ops (op ∷ [])) ∙ ap (list_any (reads_all t)) (sym more) ∙ is in
       elim (or_cases (list_any (reads_all t) ops) (reads_all t op || false) either) [
         | inl old ↦
             let was = so old in
-            let further = tiles_rise (far.places t) (next_moments t (Some op) m.writer far) ((one_more (Some op) m.writer far).places t)
+            let further = tiles_rise (far.places t) (next_moments t (Some op) m.writer far)
+                ((one_more (Some op) m.writer far).places t)
             (next_passes laws t (Some op) m.writer far sound within).tile in
             omega arith
         | inr new ↦ elim (or_cases (reads_all t op) false new) [
@@ -61,22 +68,27 @@ module _ (laws : BufferLaws) (t : ℕ) where
   first_takes zero m w sound within is = absurd (false≢true is)
   first_takes (suc n) m w sound within is =
       let far : AfterProgram = after_at_most n (next_op m) m.writer m.places w in
-      let so_far : Passes (m.places t) (w.histories t) (first_moments t n m w) (far.places t) (far.state.histories t) = first_passes laws t n m w sound within in
+      let so_far : Passes (m.places t) (w.histories t) (first_moments t n m w) (far.places t) (far.state.histories t) =
+          first_passes laws t n m w sound within in
       more_takes (next_op m far.replies) m far (count (w.histories t)) refl so_far.goes_on.sound so_far.within
       (counts_more (w.histories t) (far.state.histories t) so_far.goes_on) (first_takes n m w sound within) is
 
   turn_takes : (m : Meaning) (w : WorldState) → IsSound (w.histories t) → m.places t ≤ count (w.histories t)
-      → IsTrue (list_any (reads_all t) (ops_answered (next_op m) (turn m w).replies)) → count (w.histories t) ≤ (turn m w).places t
+      → IsTrue (list_any (reads_all t) (ops_answered (next_op m) (turn m w).replies))
+      → count (w.histories t) ≤ (turn m w).places t
   unfolding turn
   turn_takes m w sound within is = first_takes 64 m w sound within is
 
   -- ---- a job
 
-  job_takes : (j : Job) (w : WorldState) → IsSound (w.histories t) → j.system.places t ≤ count (w.histories t) → outcome_of (after_job j w).replies ≢ Skipped
-      → IsTrue (list_any (reads_all t) (after_job j w).job.system.last) → count (w.histories t) ≤ (after_job j w).job.system.places t
+  job_takes : (j : Job) (w : WorldState) → IsSound (w.histories t) → j.system.places t ≤ count (w.histories t)
+      → outcome_of (after_job j w).replies ≢ Skipped
+      → IsTrue (list_any (reads_all t) (after_job j w).job.system.last)
+      → count (w.histories t) ≤ (after_job j w).job.system.places t
   job_takes j w sound within = grind (arith, cases_Bool, turn_takes)
 
-  job_keeps : (c : ℕ) (j : Job) (w : WorldState) → IsSound (w.histories t) → j.system.places t ≤ count (w.histories t) → c ≤ count (w.histories t)
+  job_keeps : (c : ℕ) (j : Job) (w : WorldState) → IsSound (w.histories t) → j.system.places t ≤ count (w.histories t)
+      → c ≤ count (w.histories t)
       → (IsTrue (list_any (reads_all t) j.system.last) → c ≤ j.system.places t)
       → IsTrue (list_any (reads_all t) (after_job j w).job.system.last) → c ≤ (after_job j w).job.system.places t
   job_keeps c j w sound within less has = grind (arith, cases_Bool, turn_takes)
@@ -87,27 +99,35 @@ module _ (laws : BufferLaws) (t : ℕ) where
   abbrev Took : ℕ → ℕ → State → Type 0
   Took i c s = IsTrue (list_any (reads_all t) (s.members i).job.system.last) → c ≤ place_of s i t
 
-  own_turn_takes : (i : ℕ) (s : State) → IsSound (s.world.histories t) → place_of s i t ≤ count (s.world.histories t) → (logged_turn s i).outcome ≢ Skipped
+  own_turn_takes : (i : ℕ) (s : State) → IsSound (s.world.histories t) → place_of s i t ≤ count (s.world.histories t)
+      → (logged_turn s i).outcome ≢ Skipped
       → Took i (count (s.world.histories t)) (after_turn_of i s)
   own_turn_takes i s sound within ran = grind (arith, job_takes, one_member)
 
-  turn_keeps : (i j c : ℕ) (s : State) → IsSound (s.world.histories t) → place_of s i t ≤ count (s.world.histories t) → c ≤ count (s.world.histories t)
+  turn_keeps : (i j c : ℕ) (s : State) → IsSound (s.world.histories t) → place_of s i t ≤ count (s.world.histories t)
+      → c ≤ count (s.world.histories t)
       → Took i c s → Took i c (after_turn_of j s)
   turn_keeps i j c s sound within less has = grind (arith, job_keeps, one_member)
 
-  turns_keep_it : (i c : ℕ) (js : List ℕ) (s : State) → IsSound (s.world.histories t) → place_of s i t ≤ count (s.world.histories t) → c ≤ count (s.world.histories t)
+  turns_keep_it : (i c : ℕ) (js : List ℕ) (s : State) → IsSound (s.world.histories t)
+      → place_of s i t ≤ count (s.world.histories t) → c ≤ count (s.world.histories t)
       → Took i c s → Took i c (after_turns_of js s).state
   turns_keep_it i c [] s sound within less has = has
   turns_keep_it i c (j ∷ js) s sound within less has =
       let first = (turn_reads laws i t j s sound within).passes in
       let more = counts_more (s.world.histories t) ((after_turn_of j s).world.histories t) first.goes_on in
-      turns_keep_it i c js (after_turn_of j s) first.goes_on.sound first.within (omega arith) (turn_keeps i j c s sound within less has)
+      turns_keep_it i c js (after_turn_of j s) first.goes_on.sound first.within (omega arith)
+          (turn_keeps i j c s sound within less has)
 
-  pub takes_by_turn : (i : ℕ) (earlier later : List ℕ) (b : State) → IsSound (b.world.histories t) → place_of b i t ≤ count (b.world.histories t)
+  pub takes_by_turn : (i : ℕ) (earlier later : List ℕ) (b : State) → IsSound (b.world.histories t)
+      → place_of b i t ≤ count (b.world.histories t)
       → All (λ turn. turn.system ≡ i → turn.outcome ≢ Skipped) (after_turns_of (earlier ++ i ∷ later) b).turns
-      → Took i (count ((after_turns_of earlier b).state.world.histories t)) (after_turns_of (earlier ++ i ∷ later) b).state
-  takes_by_turn i [] later b sound within ran = grind (arith, All-head, counts_more, own_turn_takes, turn_reads, turns_keep_it)
+      → Took i (count ((after_turns_of earlier b).state.world.histories t))
+      (after_turns_of (earlier ++ i ∷ later) b).state
+  takes_by_turn i [] later b sound within ran =
+      grind (arith, All-head, counts_more, own_turn_takes, turn_reads, turns_keep_it)
   takes_by_turn i (j ∷ more) later b sound within ran =
       let first = (turn_reads laws i t j b sound within).passes in
       takes_by_turn i more later (after_turn_of j b) first.goes_on.sound first.within
-      (All-tail (λ turn. turn.system ≡ i → turn.outcome ≢ Skipped) (logged_turn b j) (after_turns_of (more ++ i ∷ later) (after_turn_of j b)).turns ran)
+      (All-tail (λ turn. turn.system ≡ i → turn.outcome ≢ Skipped) (logged_turn b j)
+          (after_turns_of (more ++ i ∷ later) (after_turn_of j b)).turns ran)

@@ -19,7 +19,9 @@ abbrev late : Place
 late = record { conditions = []; join = 3 }
 
 abbrev start : State
-start = first_state (new_system (record { ops = reader; start = Zero }) 0 ∷ new_system (record { ops = clearer; start = Zero }) 1 ∷ [])
+start =
+    first_state (new_system (record { ops = reader; start = Zero }) 0
+    ∷ new_system (record { ops = clearer; start = Zero }) 1 ∷ [])
     (nowhere ∷ late ∷ []) [] 1 (new_world (9 ∷ []) [])
 
 abbrev first : AfterFrame
@@ -39,7 +41,8 @@ abbrev read : List Entry
 read = log_entries 0 0 (start.members 0).job.system logs
 
 -- two are read before the third is dropped, and then the fourth
-read_row : (numbers_of given read ≡ 0 ∷ 1 ∷ 3 ∷ []) × (numbers_of missed read ≡ 2 ∷ []) × (numbers_of cleared read ≡ []) × (place_of third.state 0 0 ≡ 4)
+read_row : (numbers_of given read ≡ 0 ∷ 1 ∷ 3 ∷ []) × (numbers_of missed read ≡ 2 ∷ []) × (numbers_of cleared read ≡ [])
+    × (place_of third.state 0 0 ≡ 4)
 unfolding turn
 read_row = (refl, refl, refl, refl)
 
@@ -51,7 +54,8 @@ abbrev swept : List Entry
 swept = log_entries 1 0 (start.members 1).job.system logs
 
 -- the other begins at 0, too late for the first three
-swept_row : (found_at start third.state 1 0 ≡ 0) × (numbers_of missed swept ≡ 0 ∷ 1 ∷ 2 ∷ []) × (numbers_of cleared swept ≡ 3 ∷ []) × (numbers_of given swept ≡ [])
+swept_row : (found_at start third.state 1 0 ≡ 0) × (numbers_of missed swept ≡ 0 ∷ 1 ∷ 2 ∷ [])
+    × (numbers_of cleared swept ≡ 3 ∷ []) × (numbers_of given swept ≡ [])
 unfolding turn
 swept_row = (refl, refl, refl, refl)
 

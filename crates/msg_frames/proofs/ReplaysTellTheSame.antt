@@ -26,19 +26,25 @@ module _ {X Y : Type 0} (key : X → ℕ) (f : X → List Y) (i : ℕ) where
 
   none_told : (xs : List X) → ((x : X) → Contains xs x → key x ≢ i) → flat_map own xs ≡ []
   none_told [] h = refl
-  none_told (x ∷ xs) h = ap (λ ys. ys ++ flat_map own xs) (not_own x (h x (Contains-head x xs))) ∙ none_told xs (λ y c. h y (Contains-tail x xs y c))
+  none_told (x ∷ xs) h = ap (λ ys. ys ++ flat_map own xs) (not_own x (h x (Contains-head x xs)))
+      ∙ none_told xs (λ y c. h y (Contains-tail x xs y c))
 
-  one_told : (xs : List X) → AllPairs (λ a b. a ≢ b) (map key xs) → (x : X) → Contains xs x → key x ≡ i → flat_map own xs ≡ f x
+  one_told : (xs : List X) → AllPairs (λ a b. a ≢ b) (map key xs) → (x : X) → Contains xs x → key x ≡ i
+      → flat_map own xs ≡ f x
   one_told [] once x c e = absurd (not_in_none x c)
   one_told (y ∷ ys) once x c e =
       let apart : All (λ k. key y ≢ k) (map key ys) = pairs_head (λ a b. a ≢ b) _ _ once in
       elim (Contains-cases _ _ _ c) [
         | inl same ↦
             let is : key y ≡ i = ap key same ∙ e in
-            let rest : flat_map own ys ≡ [] = none_told _ (λ z d at. All-contains (λ k. key y ≢ k) (map key ys) (key z) apart (Contains-map key _ _ d) (is ∙ sym at)) in
+            let rest : flat_map own ys
+                ≡ [] =
+                none_told _ (λ z d at. All-contains (λ k. key y ≢ k) (map key ys) (key z) apart (Contains-map key _ _ d)
+                (is ∙ sym at)) in
             ap (λ zs. own y ++ zs) rest ∙ append-nil (own y) ∙ its_own _ is ∙ ap f same
         | inr later ↦
-            let ne : key y ≢ i = λ at. All-contains (λ k. key y ≢ k) (map key ys) (key x) apart (Contains-map key _ _ later) (at ∙ sym e) in
+            let ne : key y ≢ i = λ at. All-contains (λ k. key y ≢ k) (map key ys) (key x) apart
+                (Contains-map key _ _ later) (at ∙ sym e) in
             ap (λ zs. zs ++ flat_map own ys) (not_own _ ne) ∙ one_told ys (pairs_tail (λ a b. a ≢ b) _ _ once) x later e
       ]
 
@@ -48,19 +54,24 @@ module _ {X Y : Type 0} (key : X → ℕ) (f : X → List Y) (i : ℕ) where
     | inl t ↦ inl (x, (Contains-head _ _, eqb-true (key x) i t))
     | inr n ↦ elim (look xs) [
       | inl some ↦ inl (some.0, (Contains-tail _ _ _ some.1.0, some.1.1))
-      | inr none ↦ inr (λ y c at. elim (Contains-cases _ _ _ c) [ inl e ↦ eqb-false (key x) i n (ap key e ∙ at) | inr d ↦ none _ d at ])
+      | inr none ↦ inr (λ y c at. elim (Contains-cases _ _ _ c)
+          [ inl e ↦ eqb-false (key x) i n (ap key e ∙ at) | inr d ↦ none _ d at ])
     ]
   ]
 
-  told_alike : (xs ys : List X) → IsPermutation xs ys → AllPairs (λ a b. a ≢ b) (map key xs) → AllPairs (λ a b. a ≢ b) (map key ys) → flat_map own xs ≡ flat_map own ys
+  told_alike : (xs ys : List X) → IsPermutation xs ys → AllPairs (λ a b. a ≢ b) (map key xs)
+      → AllPairs (λ a b. a ≢ b) (map key ys) → flat_map own xs ≡ flat_map own ys
   told_alike xs ys moved once once' = elim (look xs) [
-    | inl some ↦ one_told xs once some.0 some.1.0 some.1.1 ∙ sym (one_told ys once' some.0 (Contains-permutation xs ys some.0 moved some.1.0) some.1.1)
-    | inr none ↦ none_told xs none ∙ sym (none_told ys (λ y c. none y (Contains-permutation ys xs y (IsPermutation-sym xs ys moved) c)))
+    | inl some ↦ one_told xs once some.0 some.1.0 some.1.1
+        ∙ sym (one_told ys once' some.0 (Contains-permutation xs ys some.0 moved some.1.0) some.1.1)
+    | inr none ↦ none_told xs none ∙ sym
+        (none_told ys (λ y c. none y (Contains-permutation ys xs y (IsPermutation-sym xs ys moved) c)))
   ]
 
 -- ---- replays
 
-turns_alike : TurnOrderIsLawful → (frame : Frame) (order : List ℕ) (s : State) (log : Log) (u : State) (replay : IsReplay frame order s log u) (i : ℕ)
+turns_alike : TurnOrderIsLawful → (frame : Frame) (order : List ℕ) (s : State) (log : Log) (u : State)
+    (replay : IsReplay frame order s log u) (i : ℕ)
     → flat_map (λ (turn : Turn). if turn.system == i then answers turn.outcome else []) log.turns
     ≡ flat_map (λ (turn : Turn). if turn.system == i then answers turn.outcome else []) replay.settled.turns
 turns_alike lawful frame order s log u replay i =
@@ -68,7 +79,8 @@ turns_alike lawful frame order s log u replay i =
     let settled = replay.is_frame.in_order in
     told_alike (λ (turn : Turn). turn.system) (λ (turn : Turn). answers _) i log.turns replay.settled.turns replay.turns
     (subst (AllPairs (λ a b. a ≢ b)) (sym replay.in_order) replay.lawful.lawful.once)
-    (lawful settled.settled (join_flags b) (systems_in replay.settled) (order_is_among _ _ settled.is_order) settled.in_order).once
+    (lawful settled.settled (join_flags b) (systems_in replay.settled)
+        (order_is_among _ _ settled.is_order) settled.in_order).once
 
 pub replay_tells : TurnOrderIsLawful → ReplaysTellTheSame
 replay_tells lawful frame order s log u replay i = ap (λ xs. xs ++ []) (turns_alike lawful frame order s log u replay i)
@@ -79,7 +91,8 @@ record Settled (frames : List Frame) (s : State) (logs : List Log) (u : State) :
   is_run : IsRun frames s settled u
   alike : (i : ℕ) → answers_in i logs ≡ answers_in i settled
 
-settles : TurnOrderIsLawful → (frames : List Frame) (s : State) (logs : List Log) (u : State) → IsMixedRun frames s logs u → Settled frames s logs u
+settles : TurnOrderIsLawful → (frames : List Frame) (s : State) (logs : List Log) (u : State)
+    → IsMixedRun frames s logs u → Settled frames s logs u
 settles lawful [] s [] u x = record { settled = []; is_run = x; alike = λ i. refl }
 settles lawful (frame ∷ frames) s (log ∷ logs) u x =
     let rest = settles lawful frames x.0 logs u x.2 in
@@ -88,13 +101,17 @@ settles lawful (frame ∷ frames) s (log ∷ logs) u x =
         settled = log ∷ rest.settled;
         is_run = (x.0, ran, rest.is_run);
         alike = λ i.
-            ap (λ (xs : List (List Reply)). flat_map (λ (turn : Turn). if turn.system == i then answers turn.outcome else []) log.turns ++ xs) (rest.alike i);
+            ap (λ (xs : List (List Reply)). flat_map
+                (λ (turn : Turn). if turn.system == i then answers turn.outcome else []) log.turns ++ xs)
+                (rest.alike i);
       }
       | inr replay ↦ record {
         settled = replay.1.settled ∷ rest.settled;
         is_run = (x.0, replay.1.is_frame, rest.is_run);
         alike = λ i. ap (λ xs. xs ++ answers_in i logs) (turns_alike lawful frame replay.0 s log x.0 replay.1 i)
-            ∙ ap (λ (xs : List (List Reply)). flat_map (λ (turn : Turn). if turn.system == i then answers turn.outcome else []) replay.1.settled.turns ++ xs) (rest.alike i);
+            ∙ ap (λ (xs : List (List Reply)). flat_map
+            (λ (turn : Turn). if turn.system == i then answers turn.outcome else []) replay.1.settled.turns ++ xs)
+            (rest.alike i);
       }
     ]
 settles lawful frames s logs u x = absurd x

@@ -29,7 +29,8 @@ mask test (suc n) = cond (test n) (bit_or (mask test n) (1 * 2 ^ n % 2 ^ 64)) (m
 
 mask_above : (test : ℕ → Bool) (n k : ℕ) → n ≤ 64 → n ≤ k → has_bit (mask test n) k ≡ false
 mask_above test zero k few h = has_bit-zero k
-mask_above test (suc n) k few h = grind (arith, cases_Bool, has_bit-set, ne_eqb, mask_above test n k (omega arith) (omega arith))
+mask_above test (suc n) k few h =
+    grind (arith, cases_Bool, has_bit-set, ne_eqb, mask_above test n k (omega arith) (omega arith))
 
 mask_below : (test : ℕ → Bool) (n k : ℕ) → n ≤ 64 → k < n → has_bit (mask test n) k ≡ test k
 mask_below test zero k few h = absurd (omega arith)
@@ -46,7 +47,8 @@ mask_below test (suc n) k few h = elim (cases_eq k n) [
       ]
 ]
 
-mask_is : (test : ℕ → Bool) (n : ℕ) → n ≤ 64 → ((k : ℕ) → test k ≡ true → k < n) → (k : ℕ) → has_bit (mask test n) k ≡ test k
+mask_is : (test : ℕ → Bool) (n : ℕ) → n ≤ 64 → ((k : ℕ) → test k ≡ true → k < n) → (k : ℕ)
+    → has_bit (mask test n) k ≡ test k
 mask_is test n few within k = grind (arith, cases_lt, false_from_ne_true, mask_above, mask_below)
 
 abbrev access_for : ℕ → Needs → Access
@@ -59,7 +61,8 @@ access_for n needs = record {
 }
 
 bit_is_below : (test : ℕ → Bool) (n k : ℕ) → n ≤ 64 → has_bit (mask test n) k ≡ true → k < n
-bit_is_below test n k few t = elim (cases_lt k n) [ inl l ↦ l | inr l ↦ absurd (false≢true (sym (mask_above test n k few l) ∙ t)) ]
+bit_is_below test n k few t =
+    elim (cases_lt k n) [ inl l ↦ l | inr l ↦ absurd (false≢true (sym (mask_above test n k few l) ∙ t)) ]
 
 access_fits : (n : ℕ) (needs : Needs) → n ≤ 64 → Fits n n (access_for n needs)
 access_fits n needs few = grind (arith, bit_is_below, or_cases)
@@ -89,11 +92,13 @@ same_is (OfResource r) (OfResource s) h = ap OfResource (eqb-true r s h)
 same_is Registry Registry h = refl
 same_is p q h = cc
 
-part_passes : (test : Part → Bool) (o : Option Part) (p : Part) → passes test o ≡ true → is_part o p ≡ true → test p ≡ true
+part_passes : (test : Part → Bool) (o : Option Part) (p : Part) → passes test o ≡ true → is_part o p ≡ true
+    → test p ≡ true
 part_passes test None p t h = absurd (false≢true h)
 part_passes test (Some q) p t h = subst (λ z. test z ≡ true) (sym (same_is p q h)) t
 
-any_passes : {X : Type 0} (test : Part → Bool) (part : X → Option Part) (xs : List X) (p : Part) → list_all (λ x. passes test (part x)) xs ≡ true → list_any (λ x. is_part (part x) p) xs ≡ true → test p ≡ true
+any_passes : {X : Type 0} (test : Part → Bool) (part : X → Option Part) (xs : List X) (p : Part)
+    → list_all (λ x. passes test (part x)) xs ≡ true → list_any (λ x. is_part (part x) p) xs ≡ true → test p ≡ true
 any_passes test part [] p all h = absurd (false≢true h)
 any_passes test part (x ∷ xs) p all h =
     let both = and_parts (passes test (part x)) (list_all (λ x. passes test (part x)) xs) all in
@@ -104,38 +109,57 @@ any_passes test part (x ∷ xs) p all h =
 
 abbrev is_within : ℕ → List Op → List Condition → Bool
 is_within n ops cs =
-    (list_all (λ op. passes (may_read n) (op_parts op).read) ops && list_all (λ op. passes (may_write n) (op_parts op).written) ops)
+    (list_all (λ op. passes (may_read n) (op_parts op).read) ops && list_all
+        (λ op. passes (may_write n) (op_parts op).written) ops)
     && list_all (λ c. passes (may_read n) (Some (probe_part c.probe))) cs
 
-reads_within : (n : ℕ) (ops : List Op) (cs : List Condition) → is_within n ops cs ≡ true → (p : Part) → (job_needs ops cs).reads p ≡ true → may_read n p ≡ true
+reads_within : (n : ℕ) (ops : List Op) (cs : List Condition) → is_within n ops cs ≡ true → (p : Part)
+    → (job_needs ops cs).reads p ≡ true → may_read n p ≡ true
 reads_within n ops cs w p h =
-    let all = and_parts (list_all (λ op. passes (may_read n) (op_parts op).read) ops && list_all (λ op. passes (may_write n) (op_parts op).written) ops) (list_all (λ c. passes (may_read n) (Some (probe_part c.probe))) cs) w in
-    let own = and_parts (list_all (λ op. passes (may_read n) (op_parts op).read) ops) (list_all (λ op. passes (may_write n) (op_parts op).written) ops) all.0 in
-    elim (or_cases ((program_needs ops).reads p) (some_condition_reads cs p) (and_parts ((program_needs ops).reads p || some_condition_reads cs p) _ h).0) [
+    let all =
+        and_parts (list_all (λ op. passes (may_read n) (op_parts op).read) ops && list_all
+        (λ op. passes (may_write n) (op_parts op).written) ops)
+        (list_all (λ c. passes (may_read n) (Some (probe_part c.probe))) cs) w in
+    let own = and_parts (list_all (λ op. passes (may_read n) (op_parts op).read) ops)
+        (list_all (λ op. passes (may_write n) (op_parts op).written) ops) all.0 in
+    elim (or_cases ((program_needs ops).reads p) (some_condition_reads cs p)
+        (and_parts ((program_needs ops).reads p || some_condition_reads cs p) _ h).0) [
       | inl x ↦ any_passes (may_read n) (λ op. (op_parts op).read) ops p own.0 (and_parts (some_op_reads ops p) _ x).0
       | inr x ↦ any_passes (may_read n) (λ c. Some (probe_part c.probe)) cs p all.1 x
     ]
 
-writes_within : (n : ℕ) (ops : List Op) (cs : List Condition) → is_within n ops cs ≡ true → (p : Part) → (job_needs ops cs).writes p ≡ true → may_write n p ≡ true
+writes_within : (n : ℕ) (ops : List Op) (cs : List Condition) → is_within n ops cs ≡ true → (p : Part)
+    → (job_needs ops cs).writes p ≡ true → may_write n p ≡ true
 writes_within n ops cs w p h =
-    let all = and_parts (list_all (λ op. passes (may_read n) (op_parts op).read) ops && list_all (λ op. passes (may_write n) (op_parts op).written) ops) (list_all (λ c. passes (may_read n) (Some (probe_part c.probe))) cs) w in
-    let own = and_parts (list_all (λ op. passes (may_read n) (op_parts op).read) ops) (list_all (λ op. passes (may_write n) (op_parts op).written) ops) all.0 in
+    let all =
+        and_parts (list_all (λ op. passes (may_read n) (op_parts op).read) ops && list_all
+        (λ op. passes (may_write n) (op_parts op).written) ops)
+        (list_all (λ c. passes (may_read n) (Some (probe_part c.probe))) cs) w in
+    let own = and_parts (list_all (λ op. passes (may_read n) (op_parts op).read) ops)
+        (list_all (λ op. passes (may_write n) (op_parts op).written) ops) all.0 in
     any_passes (may_write n) (λ op. (op_parts op).written) ops p own.1 h
 
-access_is : (n : ℕ) (ops : List Op) (cs : List Condition) → n ≤ 64 → is_within n ops cs ≡ true → IsAccessOf (job_needs ops cs) (access_for n (job_needs ops cs))
+access_is : (n : ℕ) (ops : List Op) (cs : List Condition) → n ≤ 64 → is_within n ops cs ≡ true
+    → IsAccessOf (job_needs ops cs) (access_for n (job_needs ops cs))
 access_is n ops cs few w = record { reads = read; writes = written }
   where
     needs : Needs
     needs = job_needs ops cs
 
     read : (p : Part) → reads (access_for n needs) p ≡ needs.reads p
-    read (OfType t) = mask_is (λ t. needs.reads (OfType t)) n few (λ k h. ltb-true k n (reads_within n ops cs w (OfType k) h)) t
-    read (OfResource r) = mask_is (λ r. needs.reads (OfResource r)) n few (λ k h. ltb-true k n (reads_within n ops cs w (OfResource k) h)) r
-    read Registry = sym (false_from_ne_true (needs.reads Registry) (λ h. absurd (false≢true (reads_within n ops cs w Registry h))))
+    read (OfType t) =
+        mask_is (λ t. needs.reads (OfType t)) n few (λ k h. ltb-true k n (reads_within n ops cs w (OfType k) h)) t
+    read (OfResource r) =
+        mask_is (λ r. needs.reads (OfResource r)) n few
+        (λ k h. ltb-true k n (reads_within n ops cs w (OfResource k) h)) r
+    read Registry =
+        sym (false_from_ne_true (needs.reads Registry) (λ h. absurd (false≢true (reads_within n ops cs w Registry h))))
 
     written : (p : Part) → writes (access_for n needs) p ≡ needs.writes p
-    written (OfType t) = mask_is (λ t. needs.writes (OfType t)) n few (λ k h. ltb-true k n (writes_within n ops cs w (OfType k) h)) t
-    written (OfResource r) = mask_is (λ r. needs.writes (OfResource r)) n few (λ k h. ltb-true k n (writes_within n ops cs w (OfResource k) h)) r
+    written (OfType t) =
+        mask_is (λ t. needs.writes (OfType t)) n few (λ k h. ltb-true k n (writes_within n ops cs w (OfType k) h)) t
+    written (OfResource r) = mask_is (λ r. needs.writes (OfResource r)) n few
+        (λ k h. ltb-true k n (writes_within n ops cs w (OfResource k) h)) r
     written Registry = refl
 
 -- ---- the turns of a frame
@@ -159,16 +183,22 @@ abbrev job_is_within : List Program → State → ℕ → Bool
 job_is_within programs s i = is_within most (ops_at programs i) (conditions_of (s.members i).job)
 
 abbrev are_turns_of : List Program → State → List ℕ → Bool
-are_turns_of programs s order = list_all (job_is_within programs s) (range_with_len 0 s.systems) && is_turn_order most (accesses_of s) s.rules (join_flags s) order
+are_turns_of programs s order = list_all (job_is_within programs s) (range_with_len 0 s.systems) && is_turn_order most
+    (accesses_of s) s.rules (join_flags s) order
 
-turns_of : (programs : List Program) (s : State) (order : List ℕ) → ArePrograms programs s → are_turns_of programs s order ≡ true → IsTurnOrderOf s order
+turns_of : (programs : List Program) (s : State) (order : List ℕ) → ArePrograms programs s
+    → are_turns_of programs s order ≡ true → IsTurnOrderOf s order
 turns_of programs s order are t =
-    let both = and_parts (list_all (job_is_within programs s) (range_with_len 0 s.systems)) (is_turn_order most (accesses_of s) s.rules (join_flags s) order) t in
+    let both = and_parts (list_all (job_is_within programs s) (range_with_len 0 s.systems))
+        (is_turn_order most (accesses_of s) s.rules (join_flags s) order) t in
     let access : ℕ → Access = λ i. access_for most (needs_of (s.members i)) in
-    let is : (i : ℕ) → i < s.systems → access_of (accesses_of s) i ≡ access i = λ i lt. get_or-map-range_with_len access 0 s.systems i i no_access lt (omega arith) in
+    let is : (i : ℕ) → i < s.systems → access_of (accesses_of s) i
+        ≡ access i = λ i lt. get_or-map-range_with_len access 0 s.systems i i no_access lt (omega arith) in
     let fit : (i : ℕ) → Fits most most (access_of (accesses_of s) i) = λ i. elim (cases_lt i s.systems) [
       | inl lt ↦ subst (Fits most most) (sym (is i lt)) (access_fits most (needs_of (s.members i)) (omega arith))
-      | inr past ↦ subst (Fits most most) (sym (get_or_past (accesses_of s) i no_access (omega (arith, length-map-range_with_len access 0 s.systems)))) (nothing_fits most)
+      | inr past ↦ subst (Fits most most)
+          (sym (get_or_past (accesses_of s) i no_access (omega (arith, length-map-range_with_len access 0 s.systems))))
+          (nothing_fits most)
     ] in
     let turn = in_turn_by_test most (accesses_of s) s.rules (join_flags s) order fit both.1 in
     record {
@@ -178,8 +208,10 @@ turns_of programs s order are t =
         of_systems = record {
           each = length-map-range_with_len access 0 s.systems;
           of_needs = λ i lt. subst (IsAccessOf (needs_of (s.members i))) (sym (is i lt))
-              (subst (λ (n : Needs). IsAccessOf (with_conditions n (conditions_of (s.members i).job)) (access_for most (with_conditions n (conditions_of (s.members i).job)))) (sym (are i))
-              (access_is most (ops_at programs i) (conditions_of (s.members i).job) (omega arith) (each_below (job_is_within programs s) s.systems i both.0 lt)));
+              (subst (λ (n : Needs). IsAccessOf (with_conditions n (conditions_of (s.members i).job))
+                  (access_for most (with_conditions n (conditions_of (s.members i).job)))) (sym (are i))
+              (access_is most (ops_at programs i) (conditions_of (s.members i).job) (omega arith)
+                  (each_below (job_is_within programs s) s.systems i both.0 lt)));
         };
         is_settled = turn.is_settled;
       };
@@ -191,25 +223,32 @@ turns_of programs s order are t =
 -- the order of each frame is the settled one
 abbrev are_in_order : List Program → OrderedFrames → State → Bool
 are_in_order programs [] s = true
-are_in_order programs (f ∷ fs) s = are_turns_of programs (before_turns f.0 s) f.1 && are_in_order programs fs (frame_in f.1 (record { posts = f.0 }) s).state
+are_in_order programs (f ∷ fs) s = are_turns_of programs (before_turns f.0 s) f.1 && are_in_order programs fs
+    (frame_in f.1 (record { posts = f.0 }) s).state
 
-is_run : (programs : List Program) (frames : OrderedFrames) (s : State) → ArePrograms programs s → are_in_order programs frames s ≡ true → IsRunOf frames s
+is_run : (programs : List Program) (frames : OrderedFrames) (s : State) → ArePrograms programs s
+    → are_in_order programs frames s ≡ true → IsRunOf frames s
 is_run programs [] s are t = refl
 is_run programs (f ∷ fs) s are t =
-    let both = and_parts (are_turns_of programs (before_turns f.0 s) f.1) (are_in_order programs fs (frame_in f.1 (record { posts = f.0 }) s).state) t in
+    let both = and_parts (are_turns_of programs (before_turns f.0 s) f.1)
+        (are_in_order programs fs (frame_in f.1 (record { posts = f.0 }) s).state) t in
     let frame : Frame = record { posts = f.0 } in
     let here : AfterFrame = frame_in f.1 frame s in (
       here.state,
-      frame_in_order frame s here.log f.1 (turns_of programs (before_turns f.0 s) f.1 (λ i. ((before_keeps f.0 s).members i).needs ∙ are i) both.0) refl,
+      frame_in_order frame s here.log f.1
+          (turns_of programs (before_turns f.0 s) f.1 (λ i. ((before_keeps f.0 s).members i).needs ∙ are i) both.0)
+          refl,
       is_run programs fs here.state (λ i. ((frame_keeps f.1 frame s).members i).needs ∙ are i) both.1,
     )
 
-numbered_are : (n : ℕ) (programs : List Program) (i : ℕ) → (slice_index_or (numbered n programs) i nobody).needs ≡ program_needs (ops_at programs i)
+numbered_are : (n : ℕ) (programs : List Program) (i : ℕ) → (slice_index_or (numbered n programs) i nobody).needs
+    ≡ program_needs (ops_at programs i)
 numbered_are n [] i = refl
 numbered_are n (p ∷ ps) zero = refl
 numbered_are n (p ∷ ps) (suc i) = numbered_are (suc n) ps i
 
-row : (x : Setup) (frames : OrderedFrames) → are_in_order x.programs frames (start_of x) ≡ true → IsRunOf frames (start_of x)
+row : (x : Setup) (frames : OrderedFrames) → are_in_order x.programs frames (start_of x) ≡ true
+    → IsRunOf frames (start_of x)
 row x frames t = grind (arith, is_run, joining_on_keeps, numbered_are)
 
 no_frames_is_a_run : IsRunOf [] (start_of alone)

@@ -15,7 +15,8 @@ use Rattle.msg_frames.proofs.SystemsStay.{joined_below}
 -- ---- conflicts
 
 -- accesses with the same parts are in the same conflicts
-conflict_stays : (a b c d : Access) → ((p : Part) → writes a p ≡ writes c p) → ((p : Part) → uses a p ≡ uses c p) → ((p : Part) → writes b p ≡ writes d p)
+conflict_stays : (a b c d : Access) → ((p : Part) → writes a p ≡ writes c p) → ((p : Part) → uses a p ≡ uses c p)
+    → ((p : Part) → writes b p ≡ writes d p)
     → ((p : Part) → uses b p ≡ uses d p) → Conflict a b → Conflict c d
 conflict_stays a b c d wa ua wb ub x = grind arith
 
@@ -33,34 +34,40 @@ module _ (s : State) (a b : List Access) (are : AreAccessesOf s a) (are' : AreAc
       record {
         first_joined = h.first_joined;
         second_joined = h.second_joined;
-        conflict = conflict_stays _ _ _ _ (same_writes _ li) (same_uses _ li) (same_writes _ lj) (same_uses _ lj) h.conflict;
+        conflict = conflict_stays _ _ _ _ (same_writes _ li) (same_uses _ li) (same_writes _ lj)
+            (same_uses _ lj) h.conflict;
       }
 
 -- ---- settled orders
 
-settles_by : (C D : ℕ → ℕ → Type 0) → ((i j : ℕ) → C i j → D i j) → ((i j : ℕ) → D i j → C i j) → (ps : List (ℕ × ℕ)) (g h : Graph) → Settles C g ps h → Settles D g ps h
+settles_by : (C D : ℕ → ℕ → Type 0) → ((i j : ℕ) → C i j → D i j) → ((i j : ℕ) → D i j → C i j)
+    → (ps : List (ℕ × ℕ)) (g h : Graph) → Settles C g ps h → Settles D g ps h
 settles_by C D to from [] g h e = e
 settles_by C D to from (p ∷ ps) g h x = elim x [
   | inl gains ↦ inl ((to p.0 _ gains.0.0, gains.0.1), settles_by C D to from ps (p ∷ g) _ gains.1)
   | inr stays ↦ inr (λ d. stays.0 (from p.0 _ d.0, d.1), settles_by C D to from ps g _ stays.1)
 ]
 
-settled_by_other : (s : State) (a b : List Access) → AreAccessesOf s a → AreAccessesOf s b → (g : Graph) → IsSettledOrder a s.rules (join_flags s) g → IsSettledOrder b s.rules (join_flags s) g
+settled_by_other : (s : State) (a b : List Access) → AreAccessesOf s a → AreAccessesOf s b → (g : Graph)
+    → IsSettledOrder a s.rules (join_flags s) g → IsSettledOrder b s.rules (join_flags s) g
 settled_by_other s a b are are' g settled = grind (arith, same_conflict, settles_by)
 
 pub one_order : SettledOrderIsUnique → SystemsHaveOneOrder
-one_order unique s g h x y = unique x.accesses s.rules (join_flags s) g h x.is_settled (settled_by_other s y.accesses x.accesses y.of_systems x.of_systems h y.is_settled)
+one_order unique s g h x y = unique x.accesses s.rules (join_flags s) g h x.is_settled
+    (settled_by_other s y.accesses x.accesses y.of_systems x.of_systems h y.is_settled)
 
 -- ---- edges among those that have joined
 
 rules_are_among : (who : List Bool) (rules : List Rule) → IsAmong who (rules_among who rules)
 rules_are_among who rules i j e = grind (arith, All-contains, and_parts, filter_passes)
 
-settles_among : (accesses : List Access) (who : List Bool) (ps : List (ℕ × ℕ)) (g h : Graph) → IsAmong who g → Settles (AreInConflict accesses who) g ps h → IsAmong who h
+settles_among : (accesses : List Access) (who : List Bool) (ps : List (ℕ × ℕ)) (g h : Graph) → IsAmong who g
+    → Settles (AreInConflict accesses who) g ps h → IsAmong who h
 settles_among accesses who [] g h among e = subst (IsAmong who) e among
 settles_among accesses who (p ∷ ps) g h among x = elim x [
   | inl gains ↦ settles_among _ who ps (p ∷ g) h (λ i j e. elim (Contains-cases _ _ _ e) [
-    | inl is ↦ subst (λ (q : ℕ × ℕ). IsTrue (has_joined who q.0) × IsTrue (has_joined who q.1)) is (gains.0.0.first_joined, gains.0.0.second_joined)
+    | inl is ↦ subst (λ (q : ℕ × ℕ). IsTrue (has_joined who q.0) × IsTrue (has_joined who q.1)) is
+        (gains.0.0.first_joined, gains.0.0.second_joined)
     | inr old ↦ among _ _ old
   ]) gains.1
   | inr stays ↦ settles_among _ who ps g h among stays.1
@@ -69,10 +76,12 @@ settles_among accesses who (p ∷ ps) g h among x = elim x [
 -- ---- frames and runs
 
 pub order_is_among : (s : State) (g : Graph) → IsOrderOf s g → IsAmong (join_flags s) g
-order_is_among s g o = settles_among o.accesses (join_flags s) (pairs (length o.accesses)) (rules_among (join_flags s) s.rules) g (rules_are_among (join_flags s) s.rules) o.is_settled
+order_is_among s g o = settles_among o.accesses (join_flags s) (pairs (length o.accesses))
+    (rules_among (join_flags s) s.rules) g (rules_are_among (join_flags s) s.rules) o.is_settled
 
 pub order_has_no_cycle : SettlingMakesNoCycle → (s : State) (g : Graph) → NoCycle s → IsOrderOf s g → IsAcyclic g
-order_has_no_cycle acyclic s g none o = acyclic o.accesses s.rules (join_flags s) g o.is_settled (none (join_flags s) (length-map-range_with_len (has_begun s) 0 s.systems))
+order_has_no_cycle acyclic s g none o = acyclic o.accesses s.rules (join_flags s) g o.is_settled
+    (none (join_flags s) (length-map-range_with_len (has_begun s) 0 s.systems))
 
 module _ (one : SettledOrderIsUnique) (turns : TurnOrderIsUnique) where
   pub one_turn_order : (s : State) (xs ys : List ℕ) → IsTurnOrderOf s xs → IsTurnOrderOf s ys → xs ≡ ys

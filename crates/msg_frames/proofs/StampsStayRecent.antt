@@ -47,22 +47,28 @@ module _ (k p t : ℕ) where
   abbrev pub InWorld : WorldState → Type 0
   InWorld w = AreRecent k p (w.histories t)
 
-  one_recent : (w : WorldState) (u : ℕ) (h : History Record) → (AreRecent k p (w.histories u) → AreRecent k p h) → InWorld w → InWorld (with_history w u h)
+  one_recent : (w : WorldState) (u : ℕ) (h : History Record) → (AreRecent k p (w.histories u) → AreRecent k p h)
+      → InWorld w → InWorld (with_history w u h)
   one_recent w u h keeps recent = grind (arith, cases_eq, eq-eqb, ne_eqb)
 
-  written_recent : (w : WorldState) (u : ℕ) (ms : List Record) → InWorld w → InWorld (with_history w u (write ms (w.histories u)))
+  written_recent : (w : WorldState) (u : ℕ) (ms : List Record) → InWorld w
+      → InWorld (with_history w u (write ms (w.histories u)))
   written_recent w u ms = one_recent w u (write ms (w.histories u)) (write_recent k p (w.histories u) ms)
 
   pub posts_recent : (posts : List (ℕ × ℤ)) (w : WorldState) → InWorld w → InWorld (after_posts posts w)
   posts_recent [] w recent = recent
-  posts_recent (x ∷ xs) w recent = grind (arith, written_recent, posts_recent xs (with_history w x.0 (write (by HOST x.1 ∷ []) (w.histories x.0))) (written_recent w x.0 (by HOST x.1 ∷ []) recent))
+  posts_recent (x ∷ xs) w recent =
+      grind (arith, written_recent, posts_recent xs (with_history w x.0 (write (by HOST x.1 ∷ []) (w.histories x.0)))
+      (written_recent w x.0 (by HOST x.1 ∷ []) recent))
 
   -- ---- ops
 
-  op_recent : (op : Op) (writer : ℕ) (places : ℕ → ℕ) (w : WorldState) → InWorld w → InWorld (after_op op writer places w).state
+  op_recent : (op : Op) (writer : ℕ) (places : ℕ → ℕ) (w : WorldState) → InWorld w
+      → InWorld (after_op op writer places w).state
   op_recent (Write u v) writer places w = written_recent w u (by writer v ∷ [])
   op_recent (Batch u vs) writer places w = written_recent w u (map (by writer) vs)
-  op_recent (Forward u v) writer places w = written_recent w v (again_by writer (took (w.histories u) (places u) None).items)
+  op_recent (Forward u v) writer places w =
+      written_recent w v (again_by writer (took (w.histories u) (places u) None).items)
   op_recent (Drain u) writer places w = one_recent w u (clear (w.histories u)) (λ recent. recent)
   op_recent op writer places w = λ recent. recent
 
@@ -71,15 +77,19 @@ module _ (k p t : ℕ) where
   abbrev pub AtMoments : List Moment → Type 0
   AtMoments ms = All (λ m. AreRecent k p m.history) ms
 
-  at_entries : (h : History Record) (es : List entries.Entry) → AreRecent k p h → AtMoments (map (λ e. record { history = h; entry = e }) es)
+  at_entries : (h : History Record) (es : List entries.Entry) → AreRecent k p h
+      → AtMoments (map (λ e. record { history = h; entry = e }) es)
   at_entries h [] recent = All-nil (λ m. AreRecent k p m.history)
-  at_entries h (e ∷ es) recent = All-cons (λ m. AreRecent k p m.history) (record { history = h; entry = e }) (map (λ e. record { history = h; entry = e }) es) recent (at_entries h es recent)
+  at_entries h (e ∷ es) recent = All-cons (λ m. AreRecent k p m.history) (record { history = h; entry = e })
+      (map (λ e. record { history = h; entry = e }) es) recent (at_entries h es recent)
 
-  next_recent : (o : Option Op) (writer : ℕ) (far : AfterProgram) → InWorld far.state → InWorld (one_more o writer far).state × AtMoments (next_moments t o writer far)
+  next_recent : (o : Option Op) (writer : ℕ) (far : AfterProgram) → InWorld far.state
+      → InWorld (one_more o writer far).state × AtMoments (next_moments t o writer far)
   next_recent None writer far recent = (recent, All-nil (λ m. AreRecent k p m.history))
   next_recent (Some op) writer far recent = grind (arith, at_entries, op_recent)
 
-  first_recent : (n : ℕ) (m : Meaning) (w : WorldState) → InWorld w → InWorld (after_at_most n (next_op m) m.writer m.places w).state × AtMoments (first_moments t n m w)
+  first_recent : (n : ℕ) (m : Meaning) (w : WorldState) → InWorld w
+      → InWorld (after_at_most n (next_op m) m.writer m.places w).state × AtMoments (first_moments t n m w)
   first_recent zero m w recent = (recent, All-nil (λ m. AreRecent k p m.history))
   first_recent (suc n) m w recent =
       let far : AfterProgram = after_at_most n (next_op m) m.writer m.places w in
@@ -97,7 +107,8 @@ module _ (k p t : ℕ) where
     | inr e ↦ rw e (recent, All-nil (λ m. AreRecent k p m.history))
   ]
 
-  pub turns_recent : (i : ℕ) (order : List ℕ) (s : State) → InWorld s.world → InWorld (after_turns_of order s).state.world × AtMoments (turns_moments i t order s)
+  pub turns_recent : (i : ℕ) (order : List ℕ) (s : State) → InWorld s.world
+      → InWorld (after_turns_of order s).state.world × AtMoments (turns_moments i t order s)
   turns_recent i [] s recent = (recent, All-nil (λ m. AreRecent k p m.history))
   turns_recent i (j ∷ js) s recent =
       let here = job_recent (s.members j).job s.world recent in
@@ -110,5 +121,6 @@ module _ (k p t : ℕ) where
 
 -- ---- the update before them
 
-pub updated_recent : (p t : ℕ) (w : WorldState) → AreRecent 0 p (w.histories t) → AreRecent 1 p ((after_update w).histories t)
+pub updated_recent : (p t : ℕ) (w : WorldState) → AreRecent 0 p (w.histories t)
+    → AreRecent 1 p ((after_update w).histories t)
 updated_recent p t w recent = grind (arith, cases_Bool, less_recent, update_recent)

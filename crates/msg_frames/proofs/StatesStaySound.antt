@@ -16,19 +16,25 @@ use Rattle.msg_frames.proofs.BeforeTurns.{Prepares, begun_within, comes, prepare
 -- ---- who has a turn
 
 has_joined_has_begun : (b : State) (i : ℕ) → IsTrue (has_joined (join_flags b) i) → IsTrue (has_begun b i)
-has_joined_has_begun b i is = grind (arith, cases_Bool, false≢true, get_or-map-range_with_len, get_or_past, leb-false, leb-true, length-map-range_with_len)
+has_joined_has_begun b i is =
+    grind (arith, cases_Bool, false≢true, get_or-map-range_with_len, get_or_past, leb-false, leb-true,
+    length-map-range_with_len)
 
 -- one that waits has no turn
-pub has_no_turn : (b : State) (order : List ℕ) (i : ℕ) → IsTurnOrderOf b order → IsFalse (has_begun b i) → ¬ Contains order i
-has_no_turn b order i ordered isnt at = false≢true (sym isnt ∙ has_joined_has_begun b i ((ordered.in_order.of_joined i).0 at))
+pub has_no_turn : (b : State) (order : List ℕ) (i : ℕ) → IsTurnOrderOf b order → IsFalse (has_begun b i)
+    → ¬ Contains order i
+has_no_turn b order i ordered isnt at =
+    false≢true (sym isnt ∙ has_joined_has_begun b i ((ordered.in_order.of_joined i).0 at))
 
 pub begun_alike : (b u : State) (i : ℕ) → Keeps b u → has_begun u i ≡ has_begun b i
 begun_alike b u i keep = ap₂ (λ j n. nat_le j (max 1 n)) (keep.0.members i).join keep.1
 
 -- ---- before the turns
 
-pub balanced_start : (m : Member) (counts : List ℕ) (t : ℕ) → IsBalanced ((joined_member counts m).totals t) ((joined_member counts m).job.system.places t)
-balanced_start m counts t = record { begin = (joined_member counts m).job.system.places t; start = refl; adds_up = omega arith }
+pub balanced_start : (m : Member) (counts : List ℕ) (t : ℕ)
+    → IsBalanced ((joined_member counts m).totals t) ((joined_member counts m).job.system.places t)
+balanced_start m counts t =
+    record { begin = (joined_member counts m).job.system.places t; start = refl; adds_up = omega arith }
 
 module _ (s b : State) (sound : IsSoundState s) (prep : Prepares s b) where
   prepared_places : (i t : ℕ) → t < s.types → place_of b i t ≤ count (b.world.histories t)
@@ -37,7 +43,8 @@ module _ (s b : State) (sound : IsSoundState s) (prep : Prepares s b) where
   prepared_waiting : (i t : ℕ) → IsFalse (has_begun b i) → (place_of b i t ≡ 0) × ((b.members i).totals t ≡ no_totals)
   prepared_waiting i t isnt = grind (arith, comes, false≢true, stood, waits)
 
-  prepared_balanced : (i t : ℕ) → t < s.types → IsTrue (has_begun b i) → IsBalanced ((b.members i).totals t) (place_of b i t)
+  prepared_balanced : (i t : ℕ) → t < s.types → IsTrue (has_begun b i)
+      → IsBalanced ((b.members i).totals t) (place_of b i t)
   prepared_balanced i t below is_begun = grind (arith, balanced_start, comes, false≢true, stood, waits)
 
   pub prepared_sound : IsSoundState b
@@ -46,12 +53,15 @@ module _ (s b : State) (sound : IsSoundState s) (prep : Prepares s b) where
 -- ---- the turns, frames and runs
 
 module _ (laws : BufferLaws) where
-  turns_sound : (b : State) (order : List ℕ) → IsSoundState b → IsTurnOrderOf b order → IsSoundState (after_turns_of order b).state
+  turns_sound : (b : State) (order : List ℕ) → IsSoundState b → IsTurnOrderOf b order
+      → IsSoundState (after_turns_of order b).state
   turns_sound b order sound ordered =
       let u : State = (after_turns_of order b).state in
       let keep : Keeps b u = turns_keep order b in
       record {
-        histories = λ t below. (turns_go_on laws.grow order b t (sound.histories t (subst (λ n. t < n) keep.0.types below))).sound;
+        histories =
+            λ t below. (turns_go_on laws.grow order b t
+            (sound.histories t (subst (λ n. t < n) keep.0.types below))).sound;
         places = λ i t below.
             let under : t < b.types = subst (λ n. t < n) keep.0.types below in
             (turns_read laws i t order b (sound.histories t under) (sound.places i t under)).passes.within;
@@ -65,15 +75,20 @@ module _ (laws : BufferLaws) where
             let under : t < b.types = subst (λ n. t < n) keep.0.types below in
             let reads = turns_read laws i t order b (sound.histories t under) (sound.places i t under) in
             subst (λ x. IsBalanced x (place_of u i t)) (sym reads.totals)
-            (stays_balanced ((b.members i).totals t) (place_of b i t) _ (place_of u i t) (sound.balanced i t under (sym (begun_alike b u i keep) ∙ is_begun)) reads.passes.tile);
+            (stays_balanced ((b.members i).totals t) (place_of b i t) _ (place_of u i t)
+                (sound.balanced i t under (sym (begun_alike b u i keep) ∙ is_begun)) reads.passes.tile);
       }
 
-  pub frame_sound : (frame : Frame) (s : State) (log : Log) (u : State) → IsSoundState s → IsFrame frame s log u → IsSoundState u
+  pub frame_sound : (frame : Frame) (s : State) (log : Log) (u : State) → IsSoundState s → IsFrame frame s log u
+      → IsSoundState u
   frame_sound frame s log u sound is =
       let b : State = before_turns frame.posts s in
-      subst IsSoundState (sym is.leaves) (turns_sound b (systems_in log) (prepared_sound s b sound (prepares laws.grow frame.posts s)) is.in_order)
+      subst IsSoundState (sym is.leaves)
+          (turns_sound b (systems_in log) (prepared_sound s b sound (prepares laws.grow frame.posts s)) is.in_order)
 
-  pub run_sound : (frames : List Frame) (s : State) (logs : List Log) (u : State) → IsSoundState s → IsRun frames s logs u → IsSoundState u
+  pub run_sound : (frames : List Frame) (s : State) (logs : List Log) (u : State) → IsSoundState s
+      → IsRun frames s logs u → IsSoundState u
   run_sound [] s [] u sound is = subst IsSoundState (sym is) sound
-  run_sound (frame ∷ frames) s (log ∷ logs) u sound is = run_sound frames is.0 logs u (frame_sound frame s log is.0 sound is.1) is.2
+  run_sound (frame ∷ frames) s (log ∷ logs) u sound is =
+      run_sound frames is.0 logs u (frame_sound frame s log is.0 sound is.1) is.2
   run_sound frames s logs u sound is = absurd is

@@ -20,19 +20,23 @@ same_member m = record { needs = refl; start = refl; writer = refl; conditions =
 pub members_along : (l m n : Member) → SameMember l m → SameMember m n → SameMember l n
 members_along l m n a b = grind arith
 
-asked_same : (w : WorldState) (asked : List Asked) → map (λ (a : Asked). a.condition) (map (after_asking w) asked) ≡ map (λ (a : Asked). a.condition) asked
+asked_same : (w : WorldState) (asked : List Asked) → map (λ (a : Asked). a.condition) (map (after_asking w) asked)
+    ≡ map (λ (a : Asked). a.condition) asked
 asked_same w [] = refl
 asked_same w (a ∷ asked) = ap (λ cs. a.condition ∷ cs) (asked_same w asked)
 
 pub turn_keeps : (m : Member) (w : WorldState) → SameMember m (member_turn m w).member
 turn_keeps m w = grind (arith, asked_same, cases_Bool)
 
-started_same : (start : Start) (counts : List ℕ) (asked : List Asked) → map (λ (a : Asked). a.condition) (map (asked_started start counts) asked) ≡ map (λ (a : Asked). a.condition) asked
+started_same : (start : Start) (counts : List ℕ) (asked : List Asked)
+    → map (λ (a : Asked). a.condition) (map (asked_started start counts) asked) ≡ map (λ (a : Asked). a.condition) asked
 started_same start counts [] = refl
 started_same start counts (a ∷ asked) = ap (λ cs. a.condition ∷ cs) (started_same start counts asked)
 
 begun_keeps : (counts : List ℕ) (m : Member) → SameMember m (joined_member counts m)
-begun_keeps counts m = record { needs = refl; start = refl; writer = refl; conditions = started_same m.job.system.start counts m.job.conditions; join = refl }
+begun_keeps counts m =
+    record { needs = refl; start = refl; writer = refl; conditions =
+    started_same m.job.system.start counts m.job.conditions; join = refl }
 
 -- ---- systems
 
@@ -42,7 +46,8 @@ same_systems s = record { systems = refl; members = λ i. same_member (s.members
 pub systems_along : (s t u : State) → SameSystems s t → SameSystems t u → SameSystems s u
 systems_along s t u a b = grind (arith, members_along)
 
-pub with_member_keeps : (members : ℕ → Member) (i : ℕ) (m : Member) (k : ℕ) → SameMember (members i) m → SameMember (members k) (with_member members i m k)
+pub with_member_keeps : (members : ℕ → Member) (i : ℕ) (m : Member) (k : ℕ) → SameMember (members i) m
+    → SameMember (members k) (with_member members i m k)
 with_member_keeps members i m k same = grind (arith, cases_eq, eq-eqb, ne_eqb, same_member)
 
 pub one_turn_keeps : (i : ℕ) (s : State) → SameSystems s (after_turn_of i s)
@@ -50,7 +55,8 @@ one_turn_keeps i s = grind (arith, turn_keeps, with_member_keeps)
 
 pub turns_keep_systems : (order : List ℕ) (s : State) → SameSystems s (after_turns_of order s).state
 turns_keep_systems [] s = same_systems s
-turns_keep_systems (i ∷ is) s = systems_along s (after_turn_of i s) (after_turns_of is (after_turn_of i s)).state (one_turn_keeps i s) (turns_keep_systems is (after_turn_of i s))
+turns_keep_systems (i ∷ is) s = systems_along s (after_turn_of i s) (after_turns_of is (after_turn_of i s)).state
+    (one_turn_keeps i s) (turns_keep_systems is (after_turn_of i s))
 
 pub turns_make_no_frame : (order : List ℕ) (s : State) → (after_turns_of order s).state.frames ≡ s.frames
 turns_make_no_frame [] s = refl
@@ -100,7 +106,8 @@ frames_keep order frame s = record {
 needs_same : (m n : Member) → SameMember m n → needs_of n ≡ needs_of m
 needs_same m n h k = with_conditions (h.needs k) (h.conditions k)
 
-pub accesses_stay : (s u : State) (accesses : List Access) → SameSystems s u → AreAccessesOf s accesses → AreAccessesOf u accesses
+pub accesses_stay : (s u : State) (accesses : List Access) → SameSystems s u → AreAccessesOf s accesses
+    → AreAccessesOf u accesses
 accesses_stay s u accesses h a = grind (arith, needs_same)
 
 pub joined_stay : (s u : State) → SameSystems s u → u.frames ≡ s.frames → join_flags u ≡ join_flags s
@@ -115,4 +122,5 @@ joined_below s i h = grind (arith, cases_lt, false≢true, get_or_past, length-m
 
 -- the rules make no cycle among them
 pub no_cycle_stays : (s u : State) → SameSystems s u → NoCycle s → NoCycle u
-no_cycle_stays s u same none who e = subst (λ rules. IsAcyclic (rules_among who rules)) (sym same.rules) (none who (e ∙ same.systems))
+no_cycle_stays s u same none who e = subst (λ rules. IsAcyclic (rules_among who rules)) (sym same.rules)
+    (none who (e ∙ same.systems))

@@ -26,7 +26,8 @@ rising_from low high (x ∷ xs) le rise = (omega (arith, rise.0), rise.1)
 
 rising_range : (a n : ℕ) (rest : List ℕ) → Rising (a + n) rest → Rising a (range_with_len a n ++ rest)
 rising_range a zero rest rise = rising_from a (a + 0) rest (omega arith) rise
-rising_range a (suc n) rest rise = (omega arith, rising_range (a + 1) n rest (subst (λ k. Rising k rest) (omega arith) rise))
+rising_range a (suc n) rest rise =
+    (omega arith, rising_range (a + 1) n rest (subst (λ k. Rising k rest) (omega arith) rise))
 
 is_increasing : (low : ℕ) (xs : List ℕ) → Rising low xs → IsStrictlyIncreasing xs
 is_increasing low [] rise k below = absurd (omega arith)
@@ -36,21 +37,26 @@ is_increasing low (x ∷ y ∷ ys) rise (suc k) below = grind (arith, is_increas
 
 rising_filter : (p : ℕ → Bool) (low : ℕ) (xs : List ℕ) → Rising low xs → Rising low (filter p xs)
 rising_filter p low [] rise = tt
-rising_filter p low (x ∷ xs) rise = grind (arith, cases_Bool, rising_from, rising_filter p (x + 1) xs rise.1, rising_filter p low xs (rising_from low (x + 1) xs (omega (arith, rise.0)) rise.1))
+rising_filter p low (x ∷ xs) rise =
+    grind (arith, cases_Bool, rising_from, rising_filter p (x + 1) xs rise.1,
+    rising_filter p low xs (rising_from low (x + 1) xs (omega (arith, rise.0)) rise.1))
 
-numbers_rise : (p : ℕ) (ms : List Moment) (q : ℕ) → Tile p (map tile_of ms) q → Rising p (numbers_of given (entries_of ms))
+numbers_rise : (p : ℕ) (ms : List Moment) (q : ℕ) → Tile p (map tile_of ms) q
+    → Rising p (numbers_of given (entries_of ms))
 numbers_rise p [] q tile = tt
 numbers_rise p (m ∷ ms) q tile =
     let e : Entry = m.entry in
     let first : e.stretch.first ≡ p + e.stretch.missed = tile.0.first in
     let rest = numbers_rise (next_place e.stretch) ms q tile.1 in
     elim (cases_Bool (is_some e.given)) [
-      | inl some ↦ rw some (rising_from p e.stretch.first (range_with_len e.stretch.first e.stretch.number ++ numbers_of given (entries_of ms)) (omega arith)
+      | inl some ↦ rw some (rising_from p e.stretch.first
+          (range_with_len e.stretch.first e.stretch.number ++ numbers_of given (entries_of ms)) (omega arith)
           (rising_range e.stretch.first e.stretch.number (numbers_of given (entries_of ms)) rest))
       | inr none ↦ rw none (rising_from p (next_place e.stretch) (numbers_of given (entries_of ms)) (omega arith) rest)
     ]
 
-pub given_in_order : (p : ℕ) (ms : List Moment) (q : ℕ) → Tile p (map tile_of ms) q → IsStrictlyIncreasing (numbers_of given (entries_of ms))
+pub given_in_order : (p : ℕ) (ms : List Moment) (q : ℕ) → Tile p (map tile_of ms) q
+    → IsStrictlyIncreasing (numbers_of given (entries_of ms))
 given_in_order p ms q tile = is_increasing p (numbers_of given (entries_of ms)) (numbers_rise p ms q tile)
 
 -- ---- the messages of a stretch
@@ -58,26 +64,33 @@ given_in_order p ms q tile = is_increasing p (numbers_of given (entries_of ms)) 
 abbrev message_in : Written Record → Record
 message_in e = e.message
 
-messages_in_instances : (n : ℕ) (es : List (Written Record)) → map message_of (map instance_of (enumerate_from n es)) ≡ map message_in es
+messages_in_instances : (n : ℕ) (es : List (Written Record)) → map message_of (map instance_of (enumerate_from n es))
+    ≡ map message_in es
 messages_in_instances n [] = refl
 messages_in_instances n (e ∷ es) = ap (λ ms. e.message ∷ ms) (messages_in_instances (n + 1) es)
 
 -- those of a stretch, among the entries of a history
-messages_are : (h : History Record) (s : Stretch) → messages_of h s ≡ map message_in (take s.number (drop s.first h.entries))
+messages_are : (h : History Record) (s : Stretch) → messages_of h s
+    ≡ map message_in (take s.number (drop s.first h.entries))
 messages_are h s =
     sym (take-map message_of s.number (drop s.first (instances h)))
-    ∙ ap (take s.number) (sym (drop-map message_of s.first (instances h)) ∙ ap (drop s.first) (messages_in_instances 0 h.entries) ∙ drop-map message_in s.first h.entries)
+    ∙ ap (take s.number) (sym (drop-map message_of s.first (instances h))
+    ∙ ap (drop s.first) (messages_in_instances 0 h.entries) ∙ drop-map message_in s.first h.entries)
     ∙ take-map message_in s.number (drop s.first h.entries)
 
 -- they stay where they are
-still_there : (h last : History Record) (a n : ℕ) → GoesOn h last → a + n ≤ count h → take n (drop a last.entries) ≡ take n (drop a h.entries)
+still_there : (h last : History Record) (a n : ℕ) → GoesOn h last → a + n ≤ count h → take n (drop a last.entries)
+    ≡ take n (drop a h.entries)
 still_there h last a n goes below = grind (arith, drop-append-le, length-drop, take-append-le)
 
-read_one : (es : List (Written Record)) (a : ℕ) → a < length es → (e : Written Record) × (slice_get es a ≡ Some e) × (drop a es ≡ e ∷ drop (a + 1) es)
+read_one : (es : List (Written Record)) (a : ℕ) → a < length es → (e : Written Record) × (slice_get es a ≡ Some e)
+    × (drop a es ≡ e ∷ drop (a + 1) es)
 read_one [] a below = absurd (omega arith)
 read_one (d ∷ es) a below = (get_or (d ∷ es) a d, slice_get-get_or (d ∷ es) a d below, drop_more (d ∷ es) a d below)
 
-read_range : (es : List (Written Record)) (a n : ℕ) → a + n ≤ length es → map (λ k. option_map message_in (slice_get es k)) (range_with_len a n) ≡ map Some (map message_in (take n (drop a es)))
+read_range : (es : List (Written Record)) (a n : ℕ) → a + n ≤ length es
+    → map (λ k. option_map message_in (slice_get es k)) (range_with_len a n)
+    ≡ map Some (map message_in (take n (drop a es)))
 read_range es a zero below = refl
 read_range es a (suc n) below =
     let one = read_one es a (omega arith) in
@@ -90,19 +103,23 @@ module _ (h last : History Record) (s : Stretch) (goes : GoesOn h last) (written
       → map (message_numbered last) (cond (is_some o) (range_with_len s.first s.number) []) ≡ map Some (unwrap_or o [])
   given_as_written None gives = refl
   given_as_written (Some items) gives =
-      read_range last.entries s.first s.number (omega (arith, ap length goes.entries, length-append h.entries goes.more))
+      read_range last.entries s.first s.number
+          (omega (arith, ap length goes.entries, length-append h.entries goes.more))
       ∙ ap (λ es. map Some (map message_in es)) (still_there h last s.first s.number goes written)
       ∙ ap (map Some) (sym (gives ∙ messages_are h s))
 
 -- ---- the messages of all entries
 
 module _ (last : History Record) where
-  pub all_as_written : (ms : List Moment) → All GivesItsStretch ms → All (λ m. GoesOn m.history last) ms → All IsWritten ms
+  pub all_as_written : (ms : List Moment) → All GivesItsStretch ms → All (λ m. GoesOn m.history last) ms
+      → All IsWritten ms
       → map (message_numbered last) (numbers_of given (entries_of ms)) ≡ map Some (messages_given (entries_of ms))
   all_as_written [] gives goes written = refl
   all_as_written (m ∷ ms) gives goes written =
-      let one = given_as_written m.history last m.entry.stretch (All-head (λ x. GoesOn x.history last) m ms goes) (All-head IsWritten m ms written) m.entry.given (All-head GivesItsStretch m ms gives) in
-      let rest = all_as_written ms (All-tail GivesItsStretch m ms gives) (All-tail (λ x. GoesOn x.history last) m ms goes) (All-tail IsWritten m ms written) in
+      let one = given_as_written m.history last m.entry.stretch (All-head (λ x. GoesOn x.history last) m ms goes)
+          (All-head IsWritten m ms written) m.entry.given (All-head GivesItsStretch m ms gives) in
+      let rest = all_as_written ms (All-tail GivesItsStretch m ms gives)
+          (All-tail (λ x. GoesOn x.history last) m ms goes) (All-tail IsWritten m ms written) in
       map-append (message_numbered last) (numbers_at given m.entry) (numbers_of given (entries_of ms))
       ∙ ap (λ xs. xs ++ map (message_numbered last) (numbers_of given (entries_of ms))) one
       ∙ ap (λ xs. map Some (unwrap_or m.entry.given []) ++ xs) rest
@@ -118,10 +135,12 @@ of_one_kind f p [] (x ∷ xs) same = absurd (omega (arith, ap length same))
 of_one_kind f p (n ∷ ns) [] same = absurd (omega (arith, ap length same))
 of_one_kind f p (n ∷ ns) (x ∷ xs) same = grind (arith, cases_Bool, of_one_kind f p ns xs (ap (drop 1) same))
 
-pub in_order_of : (writer p : ℕ) (ms : List Moment) (q : ℕ) (last : History Record) → Tile p (map tile_of ms) q → All GivesItsStretch ms → All (λ m. GoesOn m.history last) ms → All IsWritten ms
+pub in_order_of : (writer p : ℕ) (ms : List Moment) (q : ℕ) (last : History Record) → Tile p (map tile_of ms) q
+    → All GivesItsStretch ms → All (λ m. GoesOn m.history last) ms → All IsWritten ms
     → IsInOrderOf writer (entries_of ms) last
 in_order_of writer p ms q last tile gives goes written = record {
-  as_written = of_one_kind (message_numbered last) (λ m. m.writer == writer) (numbers_of given (entries_of ms)) (messages_given (entries_of ms))
+  as_written = of_one_kind (message_numbered last) (λ m. m.writer == writer) (numbers_of given (entries_of ms))
+      (messages_given (entries_of ms))
       (all_as_written last ms gives goes written);
   in_order = is_increasing p (filter (is_by writer last) (numbers_of given (entries_of ms)))
       (rising_filter (is_by writer last) p (numbers_of given (entries_of ms)) (numbers_rise p ms q tile));

@@ -20,7 +20,8 @@ same_world v w e = λ k. record {
   marks = e Registry k;
 }
 
-pub with_member_other : (members : ℕ → Member) (i : ℕ) (m : Member) (k : ℕ) → k ≢ i → with_member members i m k ≡ members k
+pub with_member_other : (members : ℕ → Member) (i : ℕ) (m : Member) (k : ℕ) → k ≢ i → with_member members i m k
+    ≡ members k
 with_member_other members i m k ne = rw (ne_eqb k i ne) refl
 
 members_swap : (members : ℕ → Member) (i j : ℕ) (m n : Member) (k : ℕ) → i ≢ j
@@ -37,7 +38,8 @@ pub record Apart (m n : Needs) : Type 0 where
 pub flip : (m n : Needs) → Apart m n → Apart n m
 flip m n h = record { left = h.right; right = h.left }
 
-unwritten : (m n : Needs) (a b : Access) → IsAccessOf m a → IsAccessOf n b → (p : Part) → (IsTrue (writes a p && uses b p) → ⊥) → IsTrue (needs_any n p) → m.writes p ≡ false
+unwritten : (m n : Needs) (a b : Access) → IsAccessOf m a → IsAccessOf n b → (p : Part)
+    → (IsTrue (writes a p && uses b p) → ⊥) → IsTrue (needs_any n p) → m.writes p ≡ false
 unwritten m n a b ma nb p none used = grind (arith, and_from, cases_Bool, uses_needs)
 
 pub apart : (m n : Needs) (a b : Access) → IsAccessOf m a → IsAccessOf n b → ¬ Conflict a b → Apart m n
@@ -45,8 +47,10 @@ apart m n a b ma nb none = grind (arith, unwritten)
 
 -- what two do, neither of which writes what the other needs
 module _ {X : Type 0} {Y : Type 0} {Z : Type 0} {W : Type 0} where
-  pub worlds_commute : (m n : Needs) (world : X → WorldState) (given : X → Y) (f : WorldState → X) (world' : Z → WorldState) (given' : Z → W) (g : WorldState → Z)
-      → HasFootprint m world given f → HasFootprint n world' given' g → Apart m n → (w : WorldState) → world' (g (world (f w))) ≡ world (f (world' (g w)))
+  pub worlds_commute : (m n : Needs) (world : X → WorldState) (given : X → Y) (f : WorldState → X)
+      (world' : Z → WorldState) (given' : Z → W) (g : WorldState → Z)
+      → HasFootprint m world given f → HasFootprint n world' given' g → Apart m n → (w : WorldState)
+      → world' (g (world (f w))) ≡ world (f (world' (g w)))
   worlds_commute m n world given f world' given' g ff gg free w = same_world _ _ (λ p. elim (cases_Bool (m.writes p)) [
     | inl e ↦
         let used : IsTrue (needs_any m p) = or_right _ _ e in
@@ -67,7 +71,8 @@ module _ {X : Type 0} {Y : Type 0} {Z : Type 0} {W : Type 0} where
 abbrev pub given_by_turn : AfterTurn → Member × Outcome
 given_by_turn e = (e.member, e.outcome)
 
-pub turn_footprint : JobFootprint → (m : Member) → HasFootprint (needs_of m) (λ (e : AfterTurn). e.world) given_by_turn (member_turn m)
+pub turn_footprint : JobFootprint → (m : Member)
+    → HasFootprint (needs_of m) (λ (e : AfterTurn). e.world) given_by_turn (member_turn m)
 turn_footprint foot m = record {
   kept = (foot m.job).kept;
   same = λ parts v w within agree. ap told ((foot m.job).same parts v w within agree);
@@ -75,7 +80,9 @@ turn_footprint foot m = record {
 }
   where
     told : Job × Option (List Reply) → Member × Outcome
-    told g = (record m { job = g.0; totals = λ t. with_entries (outcome_entries t m.job.system (outcome_of g.1)) (m.totals t) }, outcome_of g.1)
+    told g =
+        (record m { job = g.0; totals = λ t. with_entries (outcome_entries t m.job.system (outcome_of g.1))
+        (m.totals t) }, outcome_of g.1)
 
 -- the turn of a system after that of another from which it is apart is its turn before it
 pub turn_after : JobFootprint → (s : State) (i j : ℕ) → j ≢ i → Apart (needs_of (s.members i)) (needs_of (s.members j))
@@ -96,24 +103,30 @@ turns_swap foot s i j ne free = λ k. record s { members = λ n. members n k; wo
     second : (turn_of (after_turn_of j s) i).member ≡ (turn_of s i).member
     second = ap (λ (x : Member × Outcome). x.0) (turn_after foot s j i ne (flip _ _ free))
 
-    members : (n : ℕ) → (after_turn_of j (after_turn_of i s)).members n ≡ (after_turn_of i (after_turn_of j s)).members n
+    members : (n : ℕ) → (after_turn_of j (after_turn_of i s)).members n
+        ≡ (after_turn_of i (after_turn_of j s)).members n
     members n = ap (λ m. with_member (after_turn_of i s).members j m n) first
         ∙ members_swap s.members i j (turn_of s i).member (turn_of s j).member n ne
         ∙ ap (λ m. with_member (after_turn_of j s).members i m n) (sym second)
 
     worlds : (after_turn_of j (after_turn_of i s)).world ≡ (after_turn_of i (after_turn_of j s)).world
-    worlds = ap (λ m. (member_turn m (turn_of s i).world).world) (with_member_other s.members i (turn_of s i).member j (λ h. ne (sym h)))
-        ∙ worlds_commute _ _ _ _ _ _ _ _ (turn_footprint foot (s.members i)) (turn_footprint foot (s.members j)) free s.world
-        ∙ ap (λ m. (member_turn m (turn_of s j).world).world) (sym (with_member_other s.members j (turn_of s j).member i ne))
+    worlds = ap (λ m. (member_turn m (turn_of s i).world).world)
+        (with_member_other s.members i (turn_of s i).member j (λ h. ne (sym h)))
+        ∙ worlds_commute _ _ _ _ _ _ _ _ (turn_footprint foot (s.members i))
+        (turn_footprint foot (s.members j)) free s.world
+        ∙ ap (λ m. (member_turn m (turn_of s j).world).world)
+        (sym (with_member_other s.members j (turn_of s j).member i ne))
 
 of_access : (s : State) (accesses : List Access) → AreAccessesOf s accesses → (i j : ℕ) → i < s.systems → j < s.systems
     → ¬ Conflict (access_of accesses i) (access_of accesses j) → Apart (needs_of (s.members i)) (needs_of (s.members j))
-of_access s accesses are i j li lj none = apart _ _ (access_of accesses i) (access_of accesses j) (are.of_needs i li) (are.of_needs j lj) none
+of_access s accesses are i j li lj none = apart _ _ (access_of accesses i) (access_of accesses j) (are.of_needs i li)
+    (are.of_needs j lj) none
 
 pub turns_commute : JobFootprint → TurnsOfOthersCommute
 turns_commute foot s accesses i j are li lj ne none =
     let free : Apart (needs_of (s.members i)) (needs_of (s.members j)) = of_access s accesses are i j li lj none in (
-      ap (λ (x : Member × Outcome). record { system = j; outcome = x.1 }) (turn_after foot s i j (λ e. ne (sym e)) free),
+      ap (λ (x : Member × Outcome). record { system = j; outcome = x.1 })
+          (turn_after foot s i j (λ e. ne (sym e)) free),
       ap (λ (x : Member × Outcome). record { system = i; outcome = x.1 }) (turn_after foot s j i ne (flip _ _ free)),
       turns_swap foot s i j ne free,
     )

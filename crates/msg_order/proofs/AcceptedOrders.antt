@@ -7,13 +7,15 @@ use Rattle.msg_order.specs.Prelude.{Graph, IsEdge, IsLawfulOrder, StandsBefore, 
 use Rattle.msg_order.proofs.TurnOrders.{stands, places_of, place_of, of_place, one_place}
 
 -- i stands among the first k, or not
-pub find_place : (order : List ℕ) (i k : ℕ) → ((a : ℕ) × ((a < k) × (get_or order a 0 ≡ i))) ⊎ ((a : ℕ) → a < k → get_or order a 0 ≡ i → ⊥)
+pub find_place : (order : List ℕ) (i k : ℕ) → ((a : ℕ) × ((a < k) × (get_or order a 0 ≡ i)))
+    ⊎ ((a : ℕ) → a < k → get_or order a 0 ≡ i → ⊥)
 find_place order i zero = inr (λ a h e. absurd (omega arith))
 find_place order i (suc k) = elim (cases_eq (get_or order k 0) i) [
   | inl e ↦ inl (k, (omega arith, e))
   | inr e ↦ elim (find_place order i k) [
     | inl f ↦ inl (f.0, (omega (arith, f.1.0), f.1.1))
-    | inr f ↦ inr (λ a h x. elim (cases_eq a k) [ inl y ↦ e (subst (λ z. get_or order z 0 ≡ i) y x) | inr y ↦ f a (omega arith) x ])
+    | inr f ↦ inr (λ a h x. elim (cases_eq a k)
+        [ inl y ↦ e (subst (λ z. get_or order z 0 ≡ i) y x) | inr y ↦ f a (omega arith) x ])
   ]
 ]
 
@@ -23,13 +25,17 @@ pub record AreTaken (g : Graph) (joined : List Bool) (order : List ℕ) (k : ℕ
   pub stays : (i : ℕ) → has_joined joined i ≡ true → ((a : ℕ) → a < k → get_or order a 0 ≡ i → ⊥) → left i ≡ true
   pub among : (a : ℕ) → a < k → has_joined joined (get_or order a 0) ≡ true
   pub once : (a b : ℕ) → a < b → b < k → get_or order a 0 ≡ get_or order b 0 → ⊥
-  pub before : (b : ℕ) → b < k → (i : ℕ) → has_joined joined i ≡ true → IsEdge g i (get_or order b 0) → (a : ℕ) × ((a < b) × (get_or order a 0 ≡ i))
+  pub before : (b : ℕ) → b < k → (i : ℕ) → has_joined joined i ≡ true → IsEdge g i (get_or order b 0) → (a : ℕ)
+      × ((a < b) × (get_or order a 0 ≡ i))
 
-pub taken_first : (g : Graph) (joined : List Bool) (left : ℕ → Bool) (order : List ℕ) → ((i : ℕ) → has_joined joined i ≡ left i) → AreTaken g joined order 0 left
+pub taken_first : (g : Graph) (joined : List Bool) (left : ℕ → Bool) (order : List ℕ)
+    → ((i : ℕ) → has_joined joined i ≡ left i) → AreTaken g joined order 0 left
 taken_first g joined left order s = grind arith
 
-pub taken_next : (g : Graph) (joined : List Bool) (left next : ℕ → Bool) (order : List ℕ) (k s : ℕ) → s ≡ get_or order k 0 → left s ≡ true → ((i : ℕ) → left i ≡ true → IsEdge g i s → ⊥)
-    → ((i : ℕ) → next i ≡ (not (i == s) && left i)) → AreTaken g joined order k left → AreTaken g joined order (k + 1) next
+pub taken_next : (g : Graph) (joined : List Bool) (left next : ℕ → Bool) (order : List ℕ) (k s : ℕ) → s
+    ≡ get_or order k 0 → left s ≡ true → ((i : ℕ) → left i ≡ true → IsEdge g i s → ⊥)
+    → ((i : ℕ) → next i ≡ (not (i == s) && left i)) → AreTaken g joined order k left
+    → AreTaken g joined order (k + 1) next
 taken_next g joined left next order k s at on open_ step t = record {
   is_left = λ i e.
       let q = and_parts (not (i == s)) (left i) (sym (step i) ∙ e) in
@@ -44,7 +50,8 @@ taken_next g joined left next order k s at on open_ step t = record {
       let ne : i ≢ s = λ x. h k (omega arith) (sym at ∙ sym x) in
       step i ∙ ap (λ b. not b && left i) (ne_eqb i s ne) ∙ t.stays i e (λ a l. h a (omega arith));
   among = λ a h. elim (cases_eq a k) [
-    | inl y ↦ subst (λ z. has_joined joined (get_or order z 0) ≡ true) (sym y) (subst (λ z. has_joined joined z ≡ true) at (t.is_left s on).0)
+    | inl y ↦ subst (λ z. has_joined joined (get_or order z 0) ≡ true) (sym y)
+        (subst (λ z. has_joined joined z ≡ true) at (t.is_left s on).0)
     | inr y ↦ t.among a (omega arith)
   ];
   once = λ a b h l x. elim (cases_eq b k) [
@@ -61,10 +68,12 @@ taken_next g joined left next order k s at on open_ step t = record {
 }
 
 -- where all were taken and none is left, the order is lawful
-pub taken_all : (g : Graph) (joined : List Bool) (left : ℕ → Bool) (order : List ℕ) → ((i j : ℕ) → IsEdge g i j → (has_joined joined i ≡ true) × (has_joined joined j ≡ true))
+pub taken_all : (g : Graph) (joined : List Bool) (left : ℕ → Bool) (order : List ℕ)
+    → ((i j : ℕ) → IsEdge g i j → (has_joined joined i ≡ true) × (has_joined joined j ≡ true))
     → AreTaken g joined order (length order) left → ((i : ℕ) → left i ≡ false) → IsLawfulOrder g joined order
 taken_all g joined left order among t none =
-    let place : (i : ℕ) → has_joined joined i ≡ true → (a : ℕ) × ((a < length order) × (get_or order a 0 ≡ i)) = λ i e. elim (find_place order i (length order)) [
+    let place : (i : ℕ) → has_joined joined i ≡ true → (a : ℕ) × ((a < length order) × (get_or order a 0 ≡ i)) =
+        λ i e. elim (find_place order i (length order)) [
       | inl f ↦ f
       | inr f ↦ absurd (false≢true (sym (none i) ∙ t.stays i e f))
     ] in
@@ -73,7 +82,8 @@ taken_all g joined left order among t none =
         λ c. let a = place_of order i c in subst (λ z. has_joined joined z ≡ true) a.1.1 (t.among a.0 a.1.0),
         λ e. let a = place i e in of_place order i a.0 a.1.0 a.1.1,
       );
-      once = λ a b d lt l e. t.once a b lt l (get_or_default order a 0 d (omega arith) ∙ e ∙ get_or_default order b d 0 l);
+      once =
+          λ a b d lt l e. t.once a b lt l (get_or_default order a 0 d (omega arith) ∙ e ∙ get_or_default order b d 0 l);
       kept = λ i j e.
           let both = among i j e in
           let b = place j both.1 in
@@ -82,21 +92,27 @@ taken_all g joined left order among t none =
     }
 
 -- Why an order isn't lawful.
-pub not_joined : (g : Graph) (joined : List Bool) (order : List ℕ) (k s : ℕ) → s ≡ get_or order k 0 → k < length order → has_joined joined s ≡ false → IsLawfulOrder g joined order → ⊥
+pub not_joined : (g : Graph) (joined : List Bool) (order : List ℕ) (k s : ℕ) → s ≡ get_or order k 0 → k < length order
+    → has_joined joined s ≡ false → IsLawfulOrder g joined order → ⊥
 not_joined g joined order k s at l off w = false≢true (sym off ∙ (w.of_joined s).0 (of_place order s k l (sym at)))
 
-pub not_left : (g : Graph) (joined : List Bool) (left : ℕ → Bool) (order : List ℕ) (k s : ℕ) → s ≡ get_or order k 0 → k < length order → left s ≡ false → AreTaken g joined order k left → IsLawfulOrder g joined order → ⊥
+pub not_left : (g : Graph) (joined : List Bool) (left : ℕ → Bool) (order : List ℕ) (k s : ℕ) → s ≡ get_or order k 0
+    → k < length order → left s ≡ false → AreTaken g joined order k left → IsLawfulOrder g joined order → ⊥
 not_left g joined left order k s at l off t w = elim (find_place order s k) [
   | inl f ↦ w.once f.0 k 0 f.1.0 l (f.1.1 ∙ at)
   | inr f ↦ false≢true (sym off ∙ t.stays s ((w.of_joined s).0 (of_place order s k l (sym at))) f)
 ]
 
-pub not_open : (g : Graph) (joined : List Bool) (left : ℕ → Bool) (order : List ℕ) (k s i : ℕ) → s ≡ get_or order k 0 → k < length order → left i ≡ true → IsEdge g i s → AreTaken g joined order k left → IsLawfulOrder g joined order → ⊥
+pub not_open : (g : Graph) (joined : List Bool) (left : ℕ → Bool) (order : List ℕ) (k s i : ℕ) → s ≡ get_or order k 0
+    → k < length order → left i ≡ true → IsEdge g i s → AreTaken g joined order k left
+    → IsLawfulOrder g joined order → ⊥
 not_open g joined left order k s i at l on e t w =
     let b : StandsBefore order i s = w.kept i s e in
     let p = places_of order i s b in
     let same : b.later ≡ k = one_place order b.later k w.once p.below l (p.second ∙ at) in
     (t.is_left i on).1 b.earlier (omega (arith, p.in_order)) p.first
 
-pub not_all : (g : Graph) (joined : List Bool) (left : ℕ → Bool) (order : List ℕ) (i : ℕ) → left i ≡ true → AreTaken g joined order (length order) left → IsLawfulOrder g joined order → ⊥
-not_all g joined left order i on t w = let q = t.is_left i on in let a = place_of order i ((w.of_joined i).1 q.0) in q.1 a.0 a.1.0 a.1.1
+pub not_all : (g : Graph) (joined : List Bool) (left : ℕ → Bool) (order : List ℕ) (i : ℕ) → left i ≡ true
+    → AreTaken g joined order (length order) left → IsLawfulOrder g joined order → ⊥
+not_all g joined left order i on t w = let q = t.is_left i on in let a =
+    place_of order i ((w.of_joined i).1 q.0) in q.1 a.0 a.1.0 a.1.1

@@ -19,7 +19,8 @@ use Rattle.msg_order.proofs.PathTest.{edge_path, path_trans, to_Path, no_path}
 
 -- the systems that are left after m levels
 abbrev pub AreLeft : Graph → (ℕ → Bool) → (ℕ → Bool) → ℕ → Type 0
-AreLeft g start left m = (i : ℕ) → (left i ≡ true → (start i ≡ true) × Ends g m i) × (start i ≡ true → Ends g m i → left i ≡ true)
+AreLeft g start left m = (i : ℕ) → (left i ≡ true → (start i ≡ true) × Ends g m i)
+    × (start i ≡ true → Ends g m i → left i ≡ true)
 
 -- the test says which systems have one before them that is left
 pub record TellsBlocked (g : Graph) (left blocked : ℕ → Bool) : Type 0 where
@@ -30,48 +31,68 @@ pub record TellsBlocked (g : Graph) (left blocked : ℕ → Bool) : Type 0 where
 abbrev pub LeadAmong : Graph → (ℕ → Bool) → Type 0
 LeadAmong g start = (i j : ℕ) → IsEdge g i j → (start i ≡ true) × (start j ≡ true)
 
-blocked_ends : (g : Graph) (start left blocked : ℕ → Bool) (m i : ℕ) → AreLeft g start left m → TellsBlocked g left blocked → blocked i ≡ true → Ends g (suc m) i
+blocked_ends : (g : Graph) (start left blocked : ℕ → Bool) (m i : ℕ) → AreLeft g start left m
+    → TellsBlocked g left blocked → blocked i ≡ true → Ends g (suc m) i
 blocked_ends g start left blocked m i h t b =
     let f = t.by i b in
     ends_along g m f.0 i ((h f.0).0 f.1.1).1 (to_Path g f.0 i f.1.0)
 
-ends_blocked : (g : Graph) (start left blocked : ℕ → Bool) (m i : ℕ) → LeadAmong g start → AreLeft g start left m → TellsBlocked g left blocked → Ends g (suc m) i → blocked i ≡ true
+ends_blocked : (g : Graph) (start left blocked : ℕ → Bool) (m i : ℕ) → LeadAmong g start → AreLeft g start left m
+    → TellsBlocked g left blocked → Ends g (suc m) i → blocked i ≡ true
 ends_blocked g start left blocked m i a h t c =
     t.found i c.0 (edge_path g c.0 i c.1.1) ((h c.0).1 (a c.0 i c.1.1).0 c.1.0)
 
-left_next : (g : Graph) (start left blocked next : ℕ → Bool) (m : ℕ) → LeadAmong g start → AreLeft g start left m → TellsBlocked g left blocked
+left_next : (g : Graph) (start left blocked next : ℕ → Bool) (m : ℕ) → LeadAmong g start → AreLeft g start left m
+    → TellsBlocked g left blocked
     → ((i : ℕ) → next i ≡ (left i && blocked i)) → AreLeft g start next (suc m)
 left_next g start left blocked next m a h t s i = (
-  λ e. let q = and_parts (left i) (blocked i) (sym (s i) ∙ e) in (((h i).0 q.0).0, blocked_ends g start left blocked m i h t q.1),
-  λ e c. s i ∙ and_from (left i) (blocked i) ((h i).1 e (ends_less g m i c)) (ends_blocked g start left blocked m i a h t c),
+  λ e. let q =
+      and_parts (left i) (blocked i) (sym (s i)
+      ∙ e) in (((h i).0 q.0).0, blocked_ends g start left blocked m i h t q.1),
+  λ e c. s i ∙ and_from (left i) (blocked i) ((h i).1 e (ends_less g m i c))
+      (ends_blocked g start left blocked m i a h t c),
 )
 
 -- those that are ready have this batch number
-ready_number : (g : Graph) (start left blocked : ℕ → Bool) (m i : ℕ) → LeadAmong g start → AreLeft g start left m → TellsBlocked g left blocked
+ready_number : (g : Graph) (start left blocked : ℕ → Bool) (m i : ℕ) → LeadAmong g start → AreLeft g start left m
+    → TellsBlocked g left blocked
     → (left i && not (blocked i)) ≡ true → (start i ≡ true) × IsBatchNumber g i m
 ready_number g start left blocked m i a h t r =
     let q = and_parts (left i) (not (blocked i)) r in
     let e = (h i).0 q.0 in
-    (e.0, ends_number g i m e.1 (λ d. false≢true (sym (not-true (blocked i) q.1) ∙ ends_blocked g start left blocked m i a h t d)))
+    (e.0, ends_number g i m e.1 (λ d. false≢true
+        (sym (not-true (blocked i) q.1) ∙ ends_blocked g start left blocked m i a h t d)))
 
-number_ready : (g : Graph) (start left blocked : ℕ → Bool) (m i : ℕ) → AreLeft g start left m → TellsBlocked g left blocked → start i ≡ true → IsBatchNumber g i m → (left i && not (blocked i)) ≡ true
+number_ready : (g : Graph) (start left blocked : ℕ → Bool) (m i : ℕ) → AreLeft g start left m
+    → TellsBlocked g left blocked → start i ≡ true → IsBatchNumber g i m → (left i && not (blocked i)) ≡ true
 number_ready g start left blocked m i h t e b =
     let n = number_ends g i m b in
-    and_from (left i) (not (blocked i)) ((h i).1 e n.0) (not_from_false (blocked i) (false_from_ne_true (blocked i) (λ x. n.1 (blocked_ends g start left blocked m i h t x))))
+    and_from (left i) (not (blocked i)) ((h i).1 e n.0)
+        (not_from_false (blocked i) (false_from_ne_true (blocked i)
+        (λ x. n.1 (blocked_ends g start left blocked m i h t x))))
 
 -- Where no path leads back, one of those left has none before it.
-first_left : (p : ℕ → ℕ → Bool) (left : ℕ → Bool) → ((i j k : ℕ) → p i j ≡ true → p j k ≡ true → p i k ≡ true) → ((i : ℕ) → p i i ≡ false) → (n : ℕ)
-    → ((i : ℕ) → i < n → left i ≡ false) ⊎ ((c : ℕ) × ((c < n) × ((left c ≡ true) × ((k : ℕ) → k < n → left k ≡ true → p k c ≡ false))))
+first_left : (p : ℕ → ℕ → Bool) (left : ℕ → Bool) → ((i j k : ℕ) → p i j ≡ true → p j k ≡ true → p i k ≡ true)
+    → ((i : ℕ) → p i i ≡ false) → (n : ℕ)
+    → ((i : ℕ) → i < n → left i ≡ false)
+    ⊎ ((c : ℕ) × ((c < n) × ((left c ≡ true) × ((k : ℕ) → k < n → left k ≡ true → p k c ≡ false))))
 first_left p left trans acyclic zero = inl (λ i h. absurd (omega arith))
 first_left p left trans acyclic (suc n) = elim (cases_Bool (left n)) [
   | inr e ↦ elim (first_left p left trans acyclic n) [
-    | inl f ↦ inl (λ i h. elim (cases_eq i n) [ inl x ↦ subst (λ z. left z ≡ false) (sym x) e | inr x ↦ f i (omega arith) ])
-    | inr f ↦ inr (f.0, (omega arith, (f.1.1.0, λ k h l. elim (cases_eq k n) [ inl x ↦ absurd (false≢true (sym e ∙ subst (λ z. left z ≡ true) x l)) | inr x ↦ f.1.1.1 k (omega arith) l ])))
+    | inl f ↦ inl (λ i h. elim (cases_eq i n)
+        [ inl x ↦ subst (λ z. left z ≡ false) (sym x) e | inr x ↦ f i (omega arith) ])
+    | inr f ↦ inr (f.0, (omega arith,
+        (f.1.1.0, λ k h l. elim (cases_eq k n)
+        [ inl x ↦ absurd (false≢true (sym e ∙ subst (λ z. left z ≡ true) x l)) | inr x ↦ f.1.1.1 k (omega arith) l ])))
   ]
   | inl e ↦ elim (first_left p left trans acyclic n) [
-    | inl f ↦ inr (n, (omega arith, (e, λ k h l. elim (cases_eq k n) [ inl x ↦ subst (λ z. p z n ≡ false) (sym x) (acyclic n) | inr x ↦ absurd (false≢true (sym (f k (omega arith)) ∙ l)) ])))
+    | inl f ↦ inr (n, (omega arith, (e,
+        λ k h l. elim (cases_eq k n) [ inl x ↦ subst (λ z. p z n ≡ false) (sym x) (acyclic n) | inr x ↦ absurd
+        (false≢true (sym (f k (omega arith)) ∙ l)) ])))
     | inr f ↦ elim (cases_Bool (p n f.0)) [
-      | inr q ↦ inr (f.0, (omega arith, (f.1.1.0, λ k h l. elim (cases_eq k n) [ inl x ↦ subst (λ z. p z f.0 ≡ false) (sym x) q | inr x ↦ f.1.1.1 k (omega arith) l ])))
+      | inr q ↦ inr (f.0, (omega arith,
+          (f.1.1.0, λ k h l. elim (cases_eq k n)
+          [ inl x ↦ subst (λ z. p z f.0 ≡ false) (sym x) q | inr x ↦ f.1.1.1 k (omega arith) l ])))
       | inl q ↦ inr (
         n,
         (
@@ -80,7 +101,8 @@ first_left p left trans acyclic (suc n) = elim (cases_Bool (left n)) [
             e,
             λ k h l. elim (cases_eq k n) [
               | inl x ↦ subst (λ z. p z n ≡ false) (sym x) (acyclic n)
-              | inr x ↦ elim (cases_Bool (p k n)) [ inl y ↦ absurd (false≢true (sym (f.1.1.1 k (omega arith) l) ∙ trans k n f.0 y q)) | inr y ↦ y ]
+              | inr x ↦ elim (cases_Bool (p k n))
+                  [ inl y ↦ absurd (false≢true (sym (f.1.1.1 k (omega arith) l) ∙ trans k n f.0 y q)) | inr y ↦ y ]
             ],
           ),
         ),
@@ -97,14 +119,16 @@ count_left left (suc n) = cond (left n) 1 0 + count_left left n
 cond_le : (a b : Bool) → (a ≡ true → b ≡ true) → cond a 1 0 ≤ cond b 1 0
 cond_le z0 z1 h = grind (arith, false≢true)
 
-count_le : (left next : ℕ → Bool) (n : ℕ) → ((i : ℕ) → i < n → next i ≡ true → left i ≡ true) → count_left next n ≤ count_left left n
+count_le : (left next : ℕ → Bool) (n : ℕ) → ((i : ℕ) → i < n → next i ≡ true → left i ≡ true)
+    → count_left next n ≤ count_left left n
 count_le left next zero h = omega arith
 count_le left next (suc n) h =
     let a : cond (next n) 1 0 ≤ cond (left n) 1 0 = cond_le (next n) (left n) (h n (omega arith)) in
     let b : count_left next n ≤ count_left left n = count_le left next n (λ i l. h i (omega arith)) in
     omega arith
 
-count_falls : (left next : ℕ → Bool) (n : ℕ) → ((i : ℕ) → i < n → next i ≡ true → left i ≡ true) → (c : ℕ) → c < n → left c ≡ true → next c ≡ false → count_left next n < count_left left n
+count_falls : (left next : ℕ → Bool) (n : ℕ) → ((i : ℕ) → i < n → next i ≡ true → left i ≡ true) → (c : ℕ) → c < n
+    → left c ≡ true → next c ≡ false → count_left next n < count_left left n
 count_falls left next zero h c lt l x = absurd (omega arith)
 count_falls left next (suc n) h c lt l x = elim (cases_eq c n) [
   | inl e ↦
@@ -114,14 +138,16 @@ count_falls left next (suc n) h c lt l x = elim (cases_eq c n) [
       rw (l2, x2) (omega arith)
   | inr e ↦
       let a : cond (next n) 1 0 ≤ cond (left n) 1 0 = cond_le (next n) (left n) (h n (omega arith)) in
-      let b : count_left next n < count_left left n = count_falls left next n (λ i k. h i (omega arith)) c (omega arith) l x in
+      let b : count_left next n < count_left left n = count_falls left next n (λ i k. h i (omega arith)) c
+          (omega arith) l x in
       omega arith
 ]
 
 -- What holds after some levels.
 pub record ArePeeled (g : Graph) (start left : ℕ → Bool) (batches : List (List ℕ)) : Type 0 where
   pub left_is : AreLeft g start left (length batches)
-  pub of_number : (b : ℕ) → b < length batches → (i : ℕ) → Contains (batch_at batches b) i ↔ ((start i ≡ true) × IsBatchNumber g i b)
+  pub of_number : (b : ℕ) → b < length batches → (i : ℕ) → Contains (batch_at batches b) i
+      ↔ ((start i ≡ true) × IsBatchNumber g i b)
   pub filled : All (λ (batch : List ℕ). 0 < length batch) batches
   pub by_addition : All IsStrictlyIncreasing batches
   pub placed : (i : ℕ) → start i ≡ true → (left i ≡ true) ⊎ ((b : ℕ) × IsBatchNumber g i b)
@@ -139,60 +165,82 @@ increasing_range n k h = grind (arith, length-range_with_len, get_or-range_with_
 length_push : (bs : List (List ℕ)) (x : List ℕ) → length (bs ++ x ∷ []) ≡ suc (length bs)
 length_push bs x = omega (arith, length-append bs (x ∷ []))
 
-pub peeled_next : (g : Graph) (start left blocked next : ℕ → Bool) (n : ℕ) (batches : List (List ℕ)) (batch : List ℕ) → LeadAmong g start → ((i : ℕ) → start i ≡ true → i < n) → TellsBlocked g left blocked
-    → ArePeeled g start left batches → batch ≡ filter (λ i. left i && not (blocked i)) (range_with_len 0 n) → 0 < length batch
+pub peeled_next : (g : Graph) (start left blocked next : ℕ → Bool) (n : ℕ) (batches : List (List ℕ)) (batch : List ℕ)
+    → LeadAmong g start → ((i : ℕ) → start i ≡ true → i < n) → TellsBlocked g left blocked
+    → ArePeeled g start left batches → batch ≡ filter (λ i. left i && not (blocked i)) (range_with_len 0 n)
+    → 0 < length batch
     → ((i : ℕ) → next i ≡ (left i && blocked i)) → ArePeeled g start next (batches ++ batch ∷ [])
 peeled_next g start left blocked next n batches batch a within t h is some s =
     let m : ℕ = length batches in
     let ready : ℕ → Bool = λ i. left i && not (blocked i) in
     record {
-      left_is = subst (AreLeft g start next) (sym (length_push batches batch)) (left_next g start left blocked next m a h.left_is t s);
+      left_is = subst (AreLeft g start next) (sym (length_push batches batch))
+          (left_next g start left blocked next m a h.left_is t s);
       of_number = λ b l i. elim (cases_eq b m) [
         | inl e ↦
-            let last : batch_at (batches ++ batch ∷ []) b ≡ filter ready (range_with_len 0 n) = rw e (get_or-append_seam batches batch [] [] ∙ is) in (
+            let last : batch_at (batches ++ batch ∷ []) b
+                ≡ filter ready (range_with_len 0 n) = rw e (get_or-append_seam batches batch [] [] ∙ is) in (
               λ c.
                   let r = filter-Contains ready (range_with_len 0 n) i (subst (λ xs. Contains xs i) last c) in
-                  subst (λ k. (start i ≡ true) × IsBatchNumber g i k) (sym e) (ready_number g start left blocked m i a h.left_is t r.1),
+                  subst (λ k. (start i ≡ true) × IsBatchNumber g i k) (sym e)
+                      (ready_number g start left blocked m i a h.left_is t r.1),
               λ c.
                   let number : IsBatchNumber g i m = subst (IsBatchNumber g i) e c.1 in
                   let l2 : i < n = within i c.0 in
-                  subst (λ xs. Contains xs i) (sym last) (Contains-filter ready (range_with_len 0 n) i (Contains-range 0 n i (omega arith) (omega arith)) (number_ready g start left blocked m i h.left_is t c.0 number)),
+                  subst (λ xs. Contains xs i) (sym last)
+                      (Contains-filter ready (range_with_len 0 n) i (Contains-range 0 n i (omega arith) (omega arith))
+                      (number_ready g start left blocked m i h.left_is t c.0 number)),
             )
         | inr e ↦
             let l2 : b < m = omega (arith, length_push batches batch) in
-            subst (λ xs. Contains xs i ↔ ((start i ≡ true) × IsBatchNumber g i b)) (sym (get_or_append_left batches (batch ∷ []) [] b l2)) (h.of_number b l2 i)
+            subst (λ xs. Contains xs i ↔ ((start i ≡ true) × IsBatchNumber g i b))
+                (sym (get_or_append_left batches (batch ∷ []) [] b l2)) (h.of_number b l2 i)
       ];
       filled = All-push (λ (xs : List ℕ). 0 < length xs) batches batch h.filled some;
-      by_addition = All-push IsStrictlyIncreasing batches batch h.by_addition (subst IsStrictlyIncreasing (sym is) (IsStrictlyIncreasing-filter ready (range_with_len 0 n) (increasing_range n)));
+      by_addition = All-push IsStrictlyIncreasing batches batch h.by_addition
+          (subst IsStrictlyIncreasing (sym is)
+          (IsStrictlyIncreasing-filter ready (range_with_len 0 n) (increasing_range n)));
       placed = λ i e. elim (h.placed i e) [
         | inr x ↦ inr x
         | inl x ↦ elim (cases_Bool (blocked i)) [
           | inl y ↦ inl (s i ∙ and_from (left i) (blocked i) x y)
-          | inr y ↦ inr (m, (ready_number g start left blocked m i a h.left_is t (and_from (left i) (not (blocked i)) x (not_from_false (blocked i) y))).1)
+          | inr y ↦ inr (m, (ready_number g start left blocked m i a h.left_is t
+              (and_from (left i) (not (blocked i)) x (not_from_false (blocked i) y))).1)
         ]
       ];
     }
 
 -- where none is ready, none is left
-pub peeled_all : (g : Graph) (start left blocked : ℕ → Bool) (n : ℕ) (batch : List ℕ) (m : ℕ) → IsAcyclic g → ((i : ℕ) → start i ≡ true → i < n) → TellsBlocked g left blocked → AreLeft g start left m
+pub peeled_all : (g : Graph) (start left blocked : ℕ → Bool) (n : ℕ) (batch : List ℕ) (m : ℕ) → IsAcyclic g
+    → ((i : ℕ) → start i ≡ true → i < n) → TellsBlocked g left blocked → AreLeft g start left m
     → batch ≡ filter (λ i. left i && not (blocked i)) (range_with_len 0 n) → length batch ≡ 0 → (i : ℕ) → left i ≡ false
-peeled_all g start left blocked n batch m acyclic within t h is empty = elim (first_left (path g) left (path_trans g) (λ i. no_path g i i (acyclic i)) n) [
+peeled_all g start left blocked n batch m acyclic within t h is empty =
+    elim (first_left (path g) left (path_trans g) (λ i. no_path g i i (acyclic i)) n) [
   | inl f ↦ λ i. false_from_ne_true (left i) (λ e. false≢true (sym (f i (within i ((h i).0 e).0)) ∙ e))
   | inr f ↦ λ i.
       let c : ℕ = f.0 in
-      let open_ : blocked c ≡ false = false_from_ne_true (blocked c) (λ b. let w = t.by c b in false≢true (sym (f.1.1.1 w.0 (within w.0 ((h w.0).0 w.1.1).0) w.1.1) ∙ w.1.0)) in
-      let there = Contains-filter (λ k. left k && not (blocked k)) (range_with_len 0 n) c (Contains-range 0 n c (omega arith) (omega (arith, f.1.0))) (and_from (left c) (not (blocked c)) f.1.1.0 (not_from_false (blocked c) open_)) in
-      let none : length (filter (λ k. left k && not (blocked k)) (range_with_len 0 n)) ≡ 0 = ap length (sym is) ∙ empty in
+      let open_ : blocked c ≡ false =
+          false_from_ne_true (blocked c)
+          (λ b. let w = t.by c b in false≢true (sym (f.1.1.1 w.0 (within w.0 ((h w.0).0 w.1.1).0) w.1.1) ∙ w.1.0)) in
+      let there = Contains-filter (λ k. left k && not (blocked k)) (range_with_len 0 n) c
+          (Contains-range 0 n c (omega arith) (omega (arith, f.1.0)))
+          (and_from (left c) (not (blocked c)) f.1.1.0 (not_from_false (blocked c) open_)) in
+      let none : length (filter (λ k. left k && not (blocked k)) (range_with_len 0 n))
+          ≡ 0 = ap length (sym is) ∙ empty in
       absurd (omega (arith, there.1))
 ]
 
-pub peeled_done : (g : Graph) (systems : List Bool) (start left : ℕ → Bool) (batches : List (List ℕ)) → ((i : ℕ) → start i ≡ has_joined systems i) → ArePeeled g start left batches → ((i : ℕ) → left i ≡ false) → AreBatches g systems batches
+pub peeled_done : (g : Graph) (systems : List Bool) (start left : ℕ → Bool) (batches : List (List ℕ))
+    → ((i : ℕ) → start i ≡ has_joined systems i) → ArePeeled g start left batches → ((i : ℕ) → left i ≡ false)
+    → AreBatches g systems batches
 peeled_done g systems start left batches same h none = record {
   of_number = λ b i. elim (cases_lt b (length batches)) [
-    | inl l ↦ let r = h.of_number b l i in (λ c. let q = r.0 c in (sym (same i) ∙ q.0, q.1), λ c. r.1 (same i ∙ c.0, c.1))
+    | inl l ↦ let r =
+        h.of_number b l i in (λ c. let q = r.0 c in (sym (same i) ∙ q.0, q.1), λ c. r.1 (same i ∙ c.0, c.1))
     | inr l ↦ (
       λ c. absurd (not_in_none i (subst (λ xs. Contains xs i) (get_or_past batches b [] l) c)),
-      λ c. absurd (false≢true (sym (none i) ∙ (h.left_is i).1 (same i ∙ c.0) (ends_at_most g b (length batches) i l (number_ends g i b c.1).0))),
+      λ c. absurd (false≢true (sym (none i)
+          ∙ (h.left_is i).1 (same i ∙ c.0) (ends_at_most g b (length batches) i l (number_ends g i b c.1).0))),
     )
   ];
   all = λ i e. elim (h.placed i (same i ∙ e)) [ inl x ↦ absurd (false≢true (sym (none i) ∙ x)) | inr x ↦ x ];
@@ -204,16 +252,19 @@ right_false : (b : Bool) → (b && false) ≡ false
 right_false b = grind arith
 
 -- the measure
-pub left_falls : (left blocked next : ℕ → Bool) (n : ℕ) (batch : List ℕ) → batch ≡ filter (λ i. left i && not (blocked i)) (range_with_len 0 n) → 0 < length batch
+pub left_falls : (left blocked next : ℕ → Bool) (n : ℕ) (batch : List ℕ) → batch
+    ≡ filter (λ i. left i && not (blocked i)) (range_with_len 0 n) → 0 < length batch
     → ((i : ℕ) → next i ≡ (left i && blocked i)) → count_left next n < count_left left n
 left_falls left blocked next n batch is some s =
     let c : ℕ = get_or batch 0 0 in
-    let f = filter-Contains (λ i. left i && not (blocked i)) (range_with_len 0 n) c (subst (λ xs. Contains xs c) is (Contains-get_or batch 0 0 some)) in
+    let f = filter-Contains (λ i. left i && not (blocked i)) (range_with_len 0 n) c
+        (subst (λ xs. Contains xs c) is (Contains-get_or batch 0 0 some)) in
     let lt = (range-Contains 0 n c f.0).1 in
     let r = and_parts (left c) (not (blocked c)) f.1 in
     count_falls left next n (λ i l x. (and_parts (left i) (blocked i) (sym (s i) ∙ x)).0) c (omega (arith, lt)) r.0
     (s c ∙ ap (λ b. left c && b) (not-true (blocked c) r.1) ∙ right_false (left c))
 
 -- the sets tell which systems are blocked
-pub sets_tell : (g : Graph) (before : List SystemSet) (left : SystemSet) → ArePaths g before → ((k : ℕ) → has left k ≡ true → k < 256) → TellsBlocked g (has left) (λ i. meets (set_at before i) left)
+pub sets_tell : (g : Graph) (before : List SystemSet) (left : SystemSet) → ArePaths g before
+    → ((k : ℕ) → has left k ≡ true → k < 256) → TellsBlocked g (has left) (λ i. meets (set_at before i) left)
 sets_tell g before left h few = grind (arith, meets-found, meets-true)

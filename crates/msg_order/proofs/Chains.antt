@@ -4,7 +4,8 @@ use Rattle.std.proofs.lemmas.Bool.{cases_lt, cases_eq}
 use Rattle.msg_order.specs.Prelude.{Graph, IsEdge, IsChain, Path, IsBatchNumber}
 
 -- where each edge of g is one of h, so is each chain
-pub chain_grows : (g h : Graph) → ((i j : ℕ) → IsEdge g i j → IsEdge h i j) → (xs : List ℕ) → IsChain g xs → IsChain h xs
+pub chain_grows : (g h : Graph) → ((i j : ℕ) → IsEdge g i j → IsEdge h i j) → (xs : List ℕ) → IsChain g xs
+    → IsChain h xs
 chain_grows g h f [] c = tt
 chain_grows g h f (i ∷ []) c = tt
 chain_grows g h f (i ∷ (j ∷ more)) c = (f i j c.0, chain_grows g h f (j ∷ more) c.1)
@@ -12,7 +13,8 @@ chain_grows g h f (i ∷ (j ∷ more)) c = (f i j c.0, chain_grows g h f (j ∷ 
 pub path_grows : (g h : Graph) → ((i j : ℕ) → IsEdge g i j → IsEdge h i j) → (i j : ℕ) → Path g i j → Path h i j
 path_grows g h f i j p = (p.0, chain_grows g h f (i ∷ (p.0 ++ j ∷ [])) p.1)
 
-pub chain_join : (g : Graph) (xs ys : List ℕ) (j : ℕ) → IsChain g (xs ++ j ∷ []) → IsChain g (j ∷ ys) → IsChain g (xs ++ j ∷ ys)
+pub chain_join : (g : Graph) (xs ys : List ℕ) (j : ℕ) → IsChain g (xs ++ j ∷ []) → IsChain g (j ∷ ys)
+    → IsChain g (xs ++ j ∷ ys)
 chain_join g [] ys j a b = b
 chain_join g (x ∷ []) ys j a b = (a.0, b)
 chain_join g (x ∷ (y ∷ xs)) ys j a b = (a.0, chain_join g (y ∷ xs) ys j a.1 b)
@@ -23,7 +25,8 @@ edge_is_path g i j e = ([], (e, tt))
 pub paths_join : (g : Graph) (i j k : ℕ) → Path g i j → Path g j k → Path g i k
 paths_join g i j k p q = (
   p.0 ++ j ∷ q.0,
-  subst (λ xs. IsChain g (i ∷ xs)) (sym (append_assoc p.0 (j ∷ q.0) (k ∷ []))) (chain_join g (i ∷ p.0) (q.0 ++ k ∷ []) j p.1 q.1),
+  subst (λ xs. IsChain g (i ∷ xs)) (sym (append_assoc p.0 (j ∷ q.0) (k ∷ [])))
+      (chain_join g (i ∷ p.0) (q.0 ++ k ∷ []) j p.1 q.1),
 )
 
 -- a path has a first edge and a last one
@@ -59,7 +62,8 @@ ends_at_most g (suc m) n j h e = elim (cases_eq n (suc m)) [
 ]
 
 -- a chain that goes on
-ends_on : (g : Graph) (m i : ℕ) (between : List ℕ) (j : ℕ) → Ends g m i → IsChain g (i ∷ (between ++ j ∷ [])) → Ends g (suc (m + length between)) j
+ends_on : (g : Graph) (m i : ℕ) (between : List ℕ) (j : ℕ) → Ends g m i → IsChain g (i ∷ (between ++ j ∷ []))
+    → Ends g (suc (m + length between)) j
 ends_on g m i [] j e c = let is : suc m ≡ suc (m + 0) = omega arith in subst (λ k. Ends g k j) is (i, (e, c.0))
 ends_on g m i (k ∷ more) j e c = grind (arith, ends_on g (suc m) k more j (i, (e, c.0)) c.1)
 
@@ -69,9 +73,11 @@ ends_along g n i j e p = ends_at_most g (suc (n + length p.0)) (suc n) j (omega 
 -- a list of systems is such a chain
 chain_ends : (g : Graph) (before : List ℕ) (j : ℕ) → IsChain g (before ++ j ∷ []) → Ends g (length before) j
 chain_ends g [] j c = tt
-chain_ends g (x ∷ xs) j c = let is : suc (0 + length xs) ≡ suc (length xs) = omega arith in subst (λ k. Ends g k j) is (ends_on g 0 x xs j tt c)
+chain_ends g (x ∷ xs) j c = let is : suc (0 + length xs)
+    ≡ suc (length xs) = omega arith in subst (λ k. Ends g k j) is (ends_on g 0 x xs j tt c)
 
-ends_chain : (g : Graph) (n j : ℕ) (more : List ℕ) → Ends g n j → IsChain g (j ∷ more) → (before : List ℕ) × ((length before ≡ n) × IsChain g (before ++ j ∷ more))
+ends_chain : (g : Graph) (n j : ℕ) (more : List ℕ) → Ends g n j → IsChain g (j ∷ more) → (before : List ℕ)
+    × ((length before ≡ n) × IsChain g (before ++ j ∷ more))
 ends_chain g zero j more e c = ([], (refl, c))
 ends_chain g (suc n) j more e c =
     let r = ends_chain g n e.0 (j ∷ more) e.1.0 (e.1.1, c) in
@@ -82,7 +88,8 @@ ends_chain g (suc n) j more e c =
 pub number_ends : (g : Graph) (i n : ℕ) → IsBatchNumber g i n → Ends g n i × (Ends g (suc n) i → ⊥)
 number_ends g i n b = (
   subst (λ k. Ends g k i) b.reached.1.0 (chain_ends g b.reached.0 i b.reached.1.1),
-  λ e. let c = ends_chain g (suc n) i [] e tt in let most : length c.0 ≤ n = b.longest c.0 c.1.1 in omega (arith, c.1.0),
+  λ e. let c = ends_chain g (suc n) i [] e tt in let most : length c.0 ≤ n =
+      b.longest c.0 c.1.1 in omega (arith, c.1.0),
 )
 
 pub ends_number : (g : Graph) (i n : ℕ) → Ends g n i → (Ends g (suc n) i → ⊥) → IsBatchNumber g i n
@@ -101,5 +108,6 @@ number_once g i m n a b = grind arith
 pub number_rises : (g : Graph) (i j m n : ℕ) → Path g i j → IsBatchNumber g i m → IsBatchNumber g j n → m < n
 number_rises g i j m n p a b = elim (cases_lt m n) [
   | inl l ↦ l
-  | inr l ↦ absurd ((number_ends g j n b).1 (ends_at_most g (suc m) (suc n) j (omega arith) (ends_along g m i j (number_ends g i m a).0 p)))
+  | inr l ↦ absurd ((number_ends g j n b).1
+      (ends_at_most g (suc m) (suc n) j (omega arith) (ends_along g m i j (number_ends g i m a).0 p)))
 ]

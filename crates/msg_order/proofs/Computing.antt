@@ -16,7 +16,8 @@ use Rattle.msg_order.proofs.PathTest.{no_Path, to_Path}
 use Rattle.msg_order.proofs.SetPaths.{joined_in}
 
 pub each_below : (test : ℕ → Bool) (n i : ℕ) → list_all test (range_with_len 0 n) ≡ true → i < n → test i ≡ true
-each_below test n i all lt = list_all-Contains test (range_with_len 0 n) i all (Contains-range 0 n i (omega arith) (omega (arith, lt)))
+each_below test n i all lt = list_all-Contains test (range_with_len 0 n) i all
+    (Contains-range 0 n i (omega arith) (omega (arith, lt)))
 
 -- ---- conflicts
 
@@ -32,29 +33,36 @@ conflict_below n a b = list_any (meet_at a b) (parts_below n)
 
 -- a used part is one of them
 used_is_below : (n : ℕ) (a : Access) → Fits n n a → (p : Part) → uses a p ≡ true → Contains (parts_below n) p
-used_is_below n a fits Registry u = Contains-head Registry (map OfType (range_with_len 0 n) ++ map OfResource (range_with_len 0 n))
+used_is_below n a fits Registry u =
+    Contains-head Registry (map OfType (range_with_len 0 n) ++ map OfResource (range_with_len 0 n))
 used_is_below n a fits (OfType t) u =
     let below : t < n = fits.types_below t u in
     let types : List Part = map OfType (range_with_len 0 n) in
     let resources : List Part = map OfResource (range_with_len 0 n) in
     Contains-tail Registry (types ++ resources) (OfType t)
-    (Contains-append_left types resources (OfType t) (Contains-map OfType (range_with_len 0 n) t (Contains-range 0 n t (omega arith) (omega arith))))
+    (Contains-append_left types resources (OfType t)
+        (Contains-map OfType (range_with_len 0 n) t (Contains-range 0 n t (omega arith) (omega arith))))
 used_is_below n a fits (OfResource r) u =
     let below : r < n = fits.resources_below r u in
     let types : List Part = map OfType (range_with_len 0 n) in
     let resources : List Part = map OfResource (range_with_len 0 n) in
     Contains-tail Registry (types ++ resources) (OfResource r)
-    (Contains-append_right types resources (OfResource r) (Contains-map OfResource (range_with_len 0 n) r (Contains-range 0 n r (omega arith) (omega arith))))
+    (Contains-append_right types resources (OfResource r)
+        (Contains-map OfResource (range_with_len 0 n) r (Contains-range 0 n r (omega arith) (omega arith))))
 
 conflict_is : (n : ℕ) (a b : Access) → Fits n n a → Fits n n b → IsTrue (conflict_below n a b) ↔ Conflict a b
 conflict_is n a b fits_a fits_b = (
-  λ t. let f = Contains-list_any (meet_at a b) (parts_below n) t in (f.0, or_cases (writes a f.0 && uses b f.0) (writes b f.0 && uses a f.0) f.1.1),
+  λ t. let f =
+      Contains-list_any (meet_at a b)
+      (parts_below n) t in (f.0, or_cases (writes a f.0 && uses b f.0) (writes b f.0 && uses a f.0) f.1.1),
   λ c.
       let p : Part = c.0 in
       elim c.1 [
-        | inl x ↦ list_any-Contains (meet_at a b) (parts_below n) p (used_is_below n b fits_b p (and_parts (writes a p) (uses b p) x).1)
+        | inl x ↦ list_any-Contains (meet_at a b) (parts_below n) p
+            (used_is_below n b fits_b p (and_parts (writes a p) (uses b p) x).1)
             (or_left (writes a p && uses b p) (writes b p && uses a p) x)
-        | inr x ↦ list_any-Contains (meet_at a b) (parts_below n) p (used_is_below n a fits_a p (and_parts (writes b p) (uses a p) x).1)
+        | inr x ↦ list_any-Contains (meet_at a b) (parts_below n) p
+            (used_is_below n a fits_a p (and_parts (writes b p) (uses a p) x).1)
             (or_right (writes a p && uses b p) (writes b p && uses a p) x)
       ],
 )
@@ -69,11 +77,14 @@ abbrev pub settle : (ℕ → ℕ → Bool) → Graph → Graph → Graph
 settle test [] g = g
 settle test (p ∷ ps) g = cond (test p.0 p.1 && not (path g p.1 p.0)) (settle test ps (p ∷ g)) (settle test ps g)
 
-settle_is : (C : ℕ → ℕ → Type 0) (test : ℕ → ℕ → Bool) → ((i j : ℕ) → IsTrue (test i j) ↔ C i j) → (ps g : Graph) → Settles C g ps (settle test ps g)
+settle_is : (C : ℕ → ℕ → Type 0) (test : ℕ → ℕ → Bool) → ((i j : ℕ) → IsTrue (test i j) ↔ C i j) → (ps g : Graph)
+    → Settles C g ps (settle test ps g)
 settle_is C test is [] g = refl
-settle_is C test is (p ∷ ps) g = grind (arith, cases_Bool, false≢true, no_Path, to_Path, settle_is C test is ps g, settle_is C test is ps (p ∷ g))
+settle_is C test is (p ∷ ps) g =
+    grind (arith, cases_Bool, false≢true, no_Path, to_Path, settle_is C test is ps g, settle_is C test is ps (p ∷ g))
 
-are_in_conflict_is : (n : ℕ) (accesses : List Access) (joined : List Bool) → ((i : ℕ) → Fits n n (access_of accesses i)) → (i j : ℕ)
+are_in_conflict_is : (n : ℕ) (accesses : List Access) (joined : List Bool) → ((i : ℕ) → Fits n n (access_of accesses i))
+    → (i j : ℕ)
     → IsTrue (are_in_conflict n accesses joined i j) ↔ AreInConflict accesses joined i j
 are_in_conflict_is n accesses joined fit i j = grind (arith, conflict_is, and_parts, and_from)
 
@@ -96,10 +107,12 @@ rise_in g number = list_all (λ e. nat_lt (number e.0) (number e.1)) g
 greater_of : (a b : ℕ) → (max a b ≡ a) ⊎ (max a b ≡ b)
 greater_of a b = elim (cases_lt a b) [ inl l ↦ inr (omega arith) | inr l ↦ inl (omega arith) ]
 
-above_ends : (g : Graph) (value : ℕ → ℕ) → ((i : ℕ) → Ends g (value i) i) → (h : Graph) → ((i j : ℕ) → IsEdge h i j → IsEdge g i j) → (j : ℕ) → Ends g (above_all value h j) j
+above_ends : (g : Graph) (value : ℕ → ℕ) → ((i : ℕ) → Ends g (value i) i) → (h : Graph)
+    → ((i j : ℕ) → IsEdge h i j → IsEdge g i j) → (j : ℕ) → Ends g (above_all value h j) j
 above_ends g value ends [] within j = tt
 above_ends g value ends (e ∷ h) within j =
-    let rest : Ends g (above_all value h j) j = above_ends g value ends h (λ a b x. within a b (Contains-tail e h (a, b) x)) j in
+    let rest : Ends g (above_all value h j) j =
+        above_ends g value ends h (λ a b x. within a b (Contains-tail e h (a, b) x)) j in
     elim (cases_Bool (e.1 == j)) [
       | inr f ↦ rw f rest
       | inl t ↦
@@ -115,7 +128,9 @@ longest_ends g zero j = tt
 longest_ends g (suc n) j = above_ends g (longest g n) (longest_ends g n) g (λ a b e. e) j
 
 rises_to : (g : Graph) (number : ℕ → ℕ) → rise_in g number ≡ true → (i j : ℕ) → IsEdge g i j → number i < number j
-rises_to g number rises i j e = ltb-true (number i) (number j) (list_all-Contains (λ (x : ℕ × ℕ). nat_lt (number x.0) (number x.1)) g (i, j) rises e)
+rises_to g number rises i j e =
+    ltb-true (number i) (number j) (list_all-Contains (λ (x : ℕ × ℕ). nat_lt (number x.0) (number x.1)) g
+    (i, j) rises e)
 
 rise_bound : (g : Graph) (number : ℕ → ℕ) → rise_in g number ≡ true → (m j : ℕ) → Ends g (suc m) j → m < number j
 rise_bound g number rises zero j e = let up : number e.0 < number j = rises_to g number rises e.0 j e.1.1 in omega arith
@@ -139,10 +154,12 @@ are_in_turn number (i ∷ is) = list_all (runs_before number i) is && are_in_tur
 
 -- each that has joined is in the list
 abbrev pub none_is_left : List Bool → List ℕ → Bool
-none_is_left joined order = list_all (λ i. not (has_joined joined i) || list_any (λ k. k == i) order) (range_with_len 0 (length joined))
+none_is_left joined order = list_all (λ i. not (has_joined joined i) || list_any (λ k. k == i) order)
+    (range_with_len 0 (length joined))
 
 abbrev pub settled_by_test : ℕ → List Access → List Rule → List Bool → Graph
-settled_by_test n accesses rules joined = settle (are_in_conflict n accesses joined) (pairs (length accesses)) (rules_among joined rules)
+settled_by_test n accesses rules joined = settle (are_in_conflict n accesses joined) (pairs (length accesses))
+    (rules_among joined rules)
 
 -- the list is the turn order in the settled one
 abbrev pub is_turn_order : ℕ → List Access → List Rule → List Bool → List ℕ → Bool
@@ -151,7 +168,8 @@ is_turn_order n accesses rules joined order =
     let number : ℕ → ℕ = longest g (length accesses) in
     (rise_in g number && are_in_turn number order) && (list_all (has_joined joined) order && none_is_left joined order)
 
-before_is : (g : Graph) (number : ℕ → ℕ) → ((j : ℕ) → IsBatchNumber g j (number j)) → (i j : ℕ) → runs_before number i j ≡ true → RunsBefore g i j
+before_is : (g : Graph) (number : ℕ → ℕ) → ((j : ℕ) → IsBatchNumber g j (number j)) → (i j : ℕ) → runs_before number i j
+    ≡ true → RunsBefore g i j
 before_is g number is i j t m n a b =
     let same_m : m ≡ number i = number_once g i m (number i) a (is i) in
     let same_n : n ≡ number j = number_once g j n (number j) b (is j) in
@@ -162,7 +180,8 @@ before_is g number is i j t m n a b =
           inr (same_m ∙ eqb-true (number i) (number j) both.0 ∙ sym same_n, ltb-true i j both.1)
     ]
 
-turns_are : (g : Graph) (number : ℕ → ℕ) → ((j : ℕ) → IsBatchNumber g j (number j)) → (order : List ℕ) → are_in_turn number order ≡ true → AllPairs (RunsBefore g) order
+turns_are : (g : Graph) (number : ℕ → ℕ) → ((j : ℕ) → IsBatchNumber g j (number j)) → (order : List ℕ)
+    → are_in_turn number order ≡ true → AllPairs (RunsBefore g) order
 turns_are g number is [] t = λ i j d l m. absurd (omega arith)
 turns_are g number is (i ∷ order) t =
     let both = and_parts (list_all (runs_before number i) order) (are_in_turn number order) t in
@@ -176,25 +195,30 @@ pub record IsInTurn (accesses : List Access) (rules : List Rule) (joined : List 
   pub is_settled : IsSettledOrder accesses rules joined settled
   pub in_order : IsTurnOrder settled joined order
 
-pub in_turn_by_test : (n : ℕ) (accesses : List Access) (rules : List Rule) (joined : List Bool) (order : List ℕ) → ((i : ℕ) → Fits n n (access_of accesses i))
+pub in_turn_by_test : (n : ℕ) (accesses : List Access) (rules : List Rule) (joined : List Bool) (order : List ℕ)
+    → ((i : ℕ) → Fits n n (access_of accesses i))
     → is_turn_order n accesses rules joined order ≡ true → IsInTurn accesses rules joined order
 in_turn_by_test n accesses rules joined order fit t =
     let g : Graph = settled_by_test n accesses rules joined in
     let number : ℕ → ℕ = longest g (length accesses) in
-    let parts = and_parts (rise_in g number && are_in_turn number order) (list_all (has_joined joined) order && none_is_left joined order) t in
+    let parts = and_parts (rise_in g number && are_in_turn number order)
+        (list_all (has_joined joined) order && none_is_left joined order) t in
     let first = and_parts (rise_in g number) (are_in_turn number order) parts.0 in
     let second = and_parts (list_all (has_joined joined) order) (none_is_left joined order) parts.1 in
     record {
       settled = g;
-      is_settled = settle_is (AreInConflict accesses joined) (are_in_conflict n accesses joined) (are_in_conflict_is n accesses joined fit) (pairs (length accesses)) (rules_among joined rules);
+      is_settled = settle_is (AreInConflict accesses joined) (are_in_conflict n accesses joined)
+          (are_in_conflict_is n accesses joined fit) (pairs (length accesses)) (rules_among joined rules);
       in_order = record {
         of_joined = λ i. (
           λ h. list_all-Contains (has_joined joined) order i second.0 h,
           λ h.
               elim (or_cases (not (has_joined joined i)) (list_any (λ k. k == i) order)
-              (each_below (λ j. not (has_joined joined j) || list_any (λ k. k == j) order) (length joined) i second.1 (joined_in joined i h))) [
+              (each_below (λ j. not (has_joined joined j) || list_any (λ k. k == j) order) (length joined) i second.1
+                  (joined_in joined i h))) [
                 | inl f ↦ absurd (false≢true (sym (not-true (has_joined joined i) f) ∙ h))
-                | inr t ↦ let f = Contains-list_any (λ k. k == i) order t in subst (Contains order) (eqb-true f.0 i f.1.1) f.1.0
+                | inr t ↦ let f = Contains-list_any (λ k. k == i) order t in subst (Contains order)
+                    (eqb-true f.0 i f.1.1) f.1.0
               ],
         );
         all = λ i h. (number i, number_is g (length accesses) first.0 i);

@@ -17,7 +17,8 @@ module _ {X : Type 0} where
   pub Contains-tail : (x : X) (xs : List X) (y : X) → Contains xs y → Contains (x ∷ xs) y
   Contains-tail x xs y h = (suc h.0, omega (arith, h.1), h.2)
 
-  at_place : (x : X) (xs : List X) (y : X) (k : ℕ) → k < length (x ∷ xs) → get_or (x ∷ xs) k y ≡ y → (x ≡ y) ⊎ Contains xs y
+  at_place : (x : X) (xs : List X) (y : X) (k : ℕ) → k < length (x ∷ xs) → get_or (x ∷ xs) k y ≡ y → (x ≡ y)
+      ⊎ Contains xs y
   at_place x xs y k h e = grind arith
 
   pub Contains-cases : (x : X) (xs : List X) (y : X) → Contains (x ∷ xs) y → (x ≡ y) ⊎ Contains xs y
@@ -35,7 +36,8 @@ module _ {X : Type 0} where
       All-contains (λ x. p x ≡ true) (filter p xs) y (filter_passes p xs) h,
     )
 
-    kept : (b : Bool) (x : X) (us : List X) (y : X) → ((b ≡ true) × (x ≡ y)) ⊎ Contains us y → Contains (cond b (x ∷ us) us) y
+    kept : (b : Bool) (x : X) (us : List X) (y : X) → ((b ≡ true) × (x ≡ y)) ⊎ Contains us y
+        → Contains (cond b (x ∷ us) us) y
     kept true x us y (inl s) = (0, omega arith, s.1)
     kept true x us y (inr r) = Contains-tail x us y r
     kept false x us y (inl s) = absurd (false≢true s.0)
@@ -44,7 +46,8 @@ module _ {X : Type 0} where
     pub Contains-filter : (xs : List X) (y : X) → Contains xs y → p y ≡ true → Contains (filter p xs) y
     Contains-filter [] y h t = absurd (not_in_none y h)
     Contains-filter (x ∷ xs) y h t =
-        kept (p x) x (filter p xs) y (elim (Contains-cases x xs y h) [ inl s ↦ inl (ap p s ∙ t, s) | inr r ↦ inr (Contains-filter xs y r t) ])
+        kept (p x) x (filter p xs) y (elim (Contains-cases x xs y h)
+            [ inl s ↦ inl (ap p s ∙ t, s) | inr r ↦ inr (Contains-filter xs y r t) ])
 
     pub list_any-Contains : (xs : List X) (x : X) → Contains xs x → p x ≡ true → list_any p xs ≡ true
     list_any-Contains xs x h t = list_any_at p xs h.0 x h.1 (ap p h.2 ∙ t)
@@ -66,14 +69,16 @@ module _ {X Y : Type 0} where
   pub Contains-map : (f : X → Y) (xs : List X) (x : X) → Contains xs x → Contains (map f xs) (f x)
   Contains-map f xs x h = (h.0, omega (arith, length-map xs f, h.1), get_or-map f xs h.0 x (f x) h.1 ∙ ap f h.2)
 
-  pub flat_map-Contains : (f : X → List Y) (xs : List X) (y : Y) → Contains (flat_map f xs) y → (x : X) × (Contains xs x × Contains (f x) y)
+  pub flat_map-Contains : (f : X → List Y) (xs : List X) (y : Y) → Contains (flat_map f xs) y → (x : X)
+      × (Contains xs x × Contains (f x) y)
   flat_map-Contains f [] y h = absurd (not_in_none y h)
   flat_map-Contains f (x ∷ xs) y h = elim (Contains-append_cases (f x) (flat_map f xs) y h) [
     | inl s ↦ (x, (Contains-head x xs, s))
     | inr t ↦ let r = flat_map-Contains f xs y t in (r.0, (Contains-tail x xs r.0 r.1.0, r.1.1))
   ]
 
-  pub Contains-flat_map : (f : X → List Y) (xs : List X) (x : X) (y : Y) → Contains xs x → Contains (f x) y → Contains (flat_map f xs) y
+  pub Contains-flat_map : (f : X → List Y) (xs : List X) (x : X) (y : Y) → Contains xs x → Contains (f x) y
+      → Contains (flat_map f xs) y
   Contains-flat_map f [] x y h k = absurd (not_in_none x h)
   Contains-flat_map f (z ∷ xs) x y h k = elim (Contains-cases z xs x h) [
     | inl s ↦ Contains-append_left (f z) (flat_map f xs) y (rw s k)
@@ -110,7 +115,8 @@ range_more i = let is : 0 + i ≡ i = omega arith in simp map-id at (map-range_w
 -- a filter of a range, one number on
 module _ (p : ℕ → Bool) (i : ℕ) (xs : List ℕ) (so_far : xs ≡ filter p (range_with_len 0 i)) where
   filter_more : filter p (range_with_len 0 (i + 1)) ≡ xs ++ cond (p i) (i ∷ []) []
-  filter_more = ap (filter p) (range_more i) ∙ filter-append p (range_with_len 0 i) (i ∷ []) ∙ ap (λ ys. ys ++ cond (p i) (i ∷ []) []) (sym so_far)
+  filter_more = ap (filter p) (range_more i) ∙ filter-append p (range_with_len 0 i) (i ∷ [])
+      ∙ ap (λ ys. ys ++ cond (p i) (i ∷ []) []) (sym so_far)
 
   pub filter_takes : p i ≡ true → xs ++ i ∷ [] ≡ filter p (range_with_len 0 (i + 1))
   filter_takes t = rw (filter_more, t) refl

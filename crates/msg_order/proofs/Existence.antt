@@ -47,13 +47,15 @@ settles_some C d (p ∷ ps) g = elim (decide_edge C d g p.0 p.1) [
 ]
 
 pub settled_some : SettledOrderExists
-settled_some accesses rules joined = settles_some (AreInConflict accesses joined) (decide_pair accesses joined) (pairs (length accesses)) (rules_among joined rules)
+settled_some accesses rules joined = settles_some (AreInConflict accesses joined) (decide_pair accesses joined)
+    (pairs (length accesses)) (rules_among joined rules)
 
 -- one of those left has a path to it
 abbrev blocked : Graph → (ℕ → Bool) → ℕ → ℕ → Bool
 blocked g left n i = list_any (λ k. path g k i && left k) (range_with_len 0 n)
 
-tells : (g : Graph) (left : ℕ → Bool) (n : ℕ) → ((k : ℕ) → left k ≡ true → k < n) → TellsBlocked g left (blocked g left n)
+tells : (g : Graph) (left : ℕ → Bool) (n : ℕ) → ((k : ℕ) → left k ≡ true → k < n)
+    → TellsBlocked g left (blocked g left n)
 tells g left n within = record {
   found = λ i k p l. some_below (λ k. path g k i && left k) n k (within k l) (and_from (path g k i) (left k) p l);
   by = λ i b. let f = below_some (λ k. path g k i && left k) n b in (f.0, and_parts (path g f.0 i) (left f.0) f.1.1);
@@ -66,7 +68,8 @@ record MorePeeled (g : Graph) (joined : List Bool) (left : ℕ → Bool) : Type 
   peeled : ArePeeled g (has_joined joined) next batches
   fewer : count_left next (length joined) < count_left left (length joined)
 
-peel_more : (g : Graph) (joined : List Bool) → IsAcyclic g → LeadAmong g (has_joined joined) → (left : ℕ → Bool) (bs : List (List ℕ)) → ArePeeled g (has_joined joined) left bs
+peel_more : (g : Graph) (joined : List Bool) → IsAcyclic g → LeadAmong g (has_joined joined)
+    → (left : ℕ → Bool) (bs : List (List ℕ)) → ArePeeled g (has_joined joined) left bs
     → ((cs : List (List ℕ)) × AreBatches g joined cs) ⊎ MorePeeled g joined left
 peel_more g joined free lead left bs h =
     let n : ℕ = length joined in
@@ -77,7 +80,8 @@ peel_more g joined free lead left bs h =
     let t : TellsBlocked g left stops = tells g left n (λ k l. within k ((h.left_is k).0 l).0) in
     let batch : List ℕ = filter (λ i. left i && not (stops i)) (range_with_len 0 n) in
     elim (cases_eq (length batch) 0) [
-      | inl none ↦ inl (bs, peeled_done g joined start left bs (λ i. refl) h (peeled_all g start left stops n batch (length bs) free within t h.left_is refl none))
+      | inl none ↦ inl (bs, peeled_done g joined start left bs (λ i. refl) h
+          (peeled_all g start left stops n batch (length bs) free within t h.left_is refl none))
       | inr some ↦ inr (record {
         next = next;
         batches = bs ++ batch ∷ [];
@@ -86,7 +90,8 @@ peel_more g joined free lead left bs h =
       })
     ]
 
-peels : (g : Graph) (joined : List Bool) → IsAcyclic g → LeadAmong g (has_joined joined) → (steps : ℕ) (left : ℕ → Bool) (bs : List (List ℕ)) → ArePeeled g (has_joined joined) left bs
+peels : (g : Graph) (joined : List Bool) → IsAcyclic g → LeadAmong g (has_joined joined)
+    → (steps : ℕ) (left : ℕ → Bool) (bs : List (List ℕ)) → ArePeeled g (has_joined joined) left bs
     → count_left left (length joined) ≤ steps → (cs : List (List ℕ)) × AreBatches g joined cs
 peels g joined free lead zero left bs h few = elim (peel_more g joined free lead left bs h) [
   | inl r ↦ r
@@ -99,10 +104,12 @@ peels g joined free lead (suc steps) left bs h few = elim (peel_more g joined fr
 
 pub batches_some : BatchesExist
 batches_some g joined among free =
-    peels g joined free among (count_left (has_joined joined) (length joined)) (has_joined joined) [] (peeled_first g (has_joined joined)) (omega arith)
+    peels g joined free among (count_left (has_joined joined) (length joined)) (has_joined joined) []
+        (peeled_first g (has_joined joined)) (omega arith)
 
 pub turns_some : TurnOrderExists
-turns_some g joined among free = let bs = batches_some g joined among free in (concat bs.0, in_turn_order g joined bs.0 bs.1)
+turns_some g joined among free = let bs =
+    batches_some g joined among free in (concat bs.0, in_turn_order g joined bs.0 bs.1)
 
 -- a turn order holds one way only, since each joined system has one number
 pub turns_once : TurnOrderIsUnique

@@ -16,34 +16,47 @@ use Rattle.msg_world.specs.declared.access.Access.{Access}
 
 Contains-square : (n i j : ℕ) → i < n → j < n → Contains (square n) (i, j)
 Contains-square n i j h l =
-    Contains-flat_map (λ (a : ℕ). map (λ (b : ℕ). (a, b)) (range_with_len 0 n)) (range_with_len 0 n) i (i, j) (Contains-range 0 n i (omega arith) (omega arith))
+    Contains-flat_map (λ (a : ℕ). map (λ (b : ℕ). (a, b)) (range_with_len 0 n)) (range_with_len 0 n) i (i, j)
+        (Contains-range 0 n i (omega arith) (omega arith))
     (Contains-map (λ (b : ℕ). (i, b)) (range_with_len 0 n) j (Contains-range 0 n j (omega arith) (omega arith)))
 
 -- the pairs of the view are what the sets say
-pub precedes-view : (before : List SystemSet) (joined : SystemSet) (batches : List (List ℕ)) → AreKept before joined → (i j : ℕ) → IsEdge (view_of before joined batches).precedes i j ↔ (comes_before before i j ≡ true)
+pub precedes-view : (before : List SystemSet) (joined : SystemSet) (batches : List (List ℕ)) → AreKept before joined
+    → (i j : ℕ) → IsEdge (view_of before joined batches).precedes i j ↔ (comes_before before i j ≡ true)
 precedes-view before joined batches kept i j =
     let test : ℕ × ℕ → Bool = λ e. comes_before before e.0 e.1 in (
       λ h. (filter-Contains test (square (length before)) (i, j) h).1,
       λ t.
           let both = kept.among i j t in
-          Contains-filter test (square (length before)) (i, j) (Contains-square (length before) i j (kept.within i both.0) (kept.within j both.1)) t,
+          Contains-filter test (square (length before)) (i, j)
+              (Contains-square (length before) i j (kept.within i both.0) (kept.within j both.1)) t,
     )
 
-pub joined-view : (before : List SystemSet) (joined : SystemSet) (batches : List (List ℕ)) → AreKept before joined → (i : ℕ) → has_joined (view_of before joined batches).joined i ≡ has joined i
-joined-view before joined batches kept i = grind (arith, cases_lt, false_from_ne_true, get_or-map-range_with_len, get_or_past, length-map-range_with_len)
+pub joined-view : (before : List SystemSet) (joined : SystemSet) (batches : List (List ℕ)) → AreKept before joined
+    → (i : ℕ) → has_joined (view_of before joined batches).joined i ≡ has joined i
+joined-view before joined batches kept i =
+    grind (arith, cases_lt, false_from_ne_true, get_or-map-range_with_len, get_or_past, length-map-range_with_len)
 
 -- the same of a view that they are known to give
-pub seen_edges : (v : PlanView) (before : List SystemSet) (joined : SystemSet) (batches : List (List ℕ)) → view_of before joined batches ≡ v → AreKept before joined → (i j : ℕ) → IsEdge v.precedes i j ↔ (comes_before before i j ≡ true)
-seen_edges v before joined batches is kept i j = subst (λ w. IsEdge w.precedes i j ↔ (comes_before before i j ≡ true)) is (precedes-view before joined batches kept i j)
+pub seen_edges : (v : PlanView) (before : List SystemSet) (joined : SystemSet) (batches : List (List ℕ))
+    → view_of before joined batches ≡ v → AreKept before joined → (i j : ℕ) → IsEdge v.precedes i j
+    ↔ (comes_before before i j ≡ true)
+seen_edges v before joined batches is kept i j =
+    subst (λ w. IsEdge w.precedes i j ↔ (comes_before before i j ≡ true)) is
+    (precedes-view before joined batches kept i j)
 
-pub seen_joined : (v : PlanView) (before : List SystemSet) (joined : SystemSet) (batches : List (List ℕ)) → view_of before joined batches ≡ v → AreKept before joined → (i : ℕ) → has_joined v.joined i ≡ has joined i
-seen_joined v before joined batches is kept i = subst (λ w. has_joined w.joined i ≡ has joined i) is (joined-view before joined batches kept i)
+pub seen_joined : (v : PlanView) (before : List SystemSet) (joined : SystemSet) (batches : List (List ℕ))
+    → view_of before joined batches ≡ v → AreKept before joined → (i : ℕ) → has_joined v.joined i ≡ has joined i
+seen_joined v before joined batches is kept i = subst (λ w. has_joined w.joined i ≡ has joined i) is
+    (joined-view before joined batches kept i)
 
-pub systems-view : (joined : List Bool) (set : SystemSet) (n : ℕ) → length joined ≡ n → IsSetOf joined set → map (has set) (range_with_len 0 n) ≡ joined
+pub systems-view : (joined : List Bool) (set : SystemSet) (n : ℕ) → length joined ≡ n → IsSetOf joined set
+    → map (has set) (range_with_len 0 n) ≡ joined
 systems-view joined set n len is = sym (fill_by_all (has set) joined n false len (λ k lt. sym (is k)))
 
 -- the sets of a plan lead among the joined systems
-pub sets_kept : (g : Graph) (joined : List Bool) (before : List SystemSet) (set : SystemSet) → length before ≤ 256 → length joined ≡ length before → ArePaths g before → IsSetOf joined set → IsAmong joined g → AreKept before set
+pub sets_kept : (g : Graph) (joined : List Bool) (before : List SystemSet) (set : SystemSet) → length before ≤ 256
+    → length joined ≡ length before → ArePaths g before → IsSetOf joined set → IsAmong joined g → AreKept before set
 sets_kept g joined before set few len paths is among = record {
   few = few;
   within = λ i t. elim (cases_lt i (length before)) [
@@ -58,7 +71,9 @@ sets_kept g joined before set few len paths is among = record {
 }
 
 -- an order is lawful for the pairs of a plan where it is for the edges that it was settled by
-pub lawful_same : (accesses : List Access) (rules : List Rule) (joined : List Bool) (p : PlanView) (plan : IsPlanOf accesses rules joined p) (order : List ℕ) → IsLawfulOrder p.precedes p.joined order ↔ IsLawfulOrder plan.order joined order
+pub lawful_same : (accesses : List Access) (rules : List Rule) (joined : List Bool) (p : PlanView)
+    (plan : IsPlanOf accesses rules joined p) (order : List ℕ) → IsLawfulOrder p.precedes p.joined order
+    ↔ IsLawfulOrder plan.order joined order
 lawful_same accesses rules joined p plan order = (
   λ w. record {
     of_joined = λ i. subst (λ js. Contains order i ↔ IsTrue (has_joined js i)) plan.systems (w.of_joined i);

@@ -25,27 +25,38 @@ pub none_past : (before : List SystemSet) (i j : ℕ) → length before ≤ j �
 none_past before i j h = ap (λ s. has s i) (set_past before j h) ∙ has-no_set i
 
 pub meets-no_set : (t : SystemSet) → meets no_set t ≡ false
-meets-no_set t = false_from_ne_true (meets no_set t) (λ h. let f = meets-true no_set t h in false≢true (sym (has-no_set f.0) ∙ f.1.1.0))
+meets-no_set t =
+    false_from_ne_true (meets no_set t)
+    (λ h. let f = meets-true no_set t h in false≢true (sym (has-no_set f.0) ∙ f.1.1.0))
 
 -- what `add_edges` says of its sets
 abbrev pub AddsEdges : List SystemSet → ℕ → SystemSet → List SystemSet → Type 0
-AddsEdges before from to new = (i j : ℕ) → comes_before new i j ≡ (comes_before before i j || ((i == from || comes_before before i from) && (has to j || meets (set_at before j) to)))
+AddsEdges before from to new = (i j : ℕ) → comes_before new i j
+    ≡ (comes_before before i j || ((i == from || comes_before before i from) &&
+    (has to j || meets (set_at before j) to)))
 
 nothing : (b : Bool) → false ≡ (false || (b && (false || false)))
 nothing b = grind arith
 
 -- it holds past the last set
-pub adds_past : (before new : List SystemSet) (from : ℕ) (to : SystemSet) (i j : ℕ) → length new ≡ length before → length before ≤ j → ((k : ℕ) → has to k ≡ true → k < length before)
-    → comes_before new i j ≡ (comes_before before i j || ((i == from || comes_before before i from) && (has to j || meets (set_at before j) to)))
-adds_past before new from to i j len h within = grind (arith, false_from_ne_true, meets-no_set, none_past, nothing, set_past)
+pub adds_past : (before new : List SystemSet) (from : ℕ) (to : SystemSet) (i j : ℕ) → length new ≡ length before
+    → length before ≤ j → ((k : ℕ) → has to k ≡ true → k < length before)
+    → comes_before new i j ≡ (comes_before before i j ||
+    ((i == from || comes_before before i from) && (has to j || meets (set_at before j) to)))
+adds_past before new from to i j len h within =
+    grind (arith, false_from_ne_true, meets-no_set, none_past, nothing, set_past)
 
 -- One edge.
-pub adds_edge : (g : Graph) (before new : List SystemSet) (from later : ℕ) (to : SystemSet) → ArePaths g before → AddsEdges before from to new → later < 256 → ((k : ℕ) → has to k ≡ (k == later)) → ArePaths ((from, later) ∷ g) new
-adds_edge g before new from later to h s few only i j = grind (arith, eq-eqb, eqb-true, meets-found, meets-true, or_cases, or_left, or_right, same_test)
+pub adds_edge : (g : Graph) (before new : List SystemSet) (from later : ℕ) (to : SystemSet) → ArePaths g before
+    → AddsEdges before from to new → later < 256 → ((k : ℕ) → has to k ≡ (k == later))
+    → ArePaths ((from, later) ∷ g) new
+adds_edge g before new from later to h s few only i j =
+    grind (arith, eq-eqb, eqb-true, meets-found, meets-true, or_cases, or_left, or_right, same_test)
 
 -- The rules one by one.
 edge_at_end : (g : Graph) (e : ℕ × ℕ) (i j : ℕ) → IsEdge (g ++ e ∷ []) i j → IsEdge (e ∷ g) i j
-edge_at_end g e i j h = elim (Contains-push_cases g e (i, j) h) [ inl x ↦ Contains-tail e g (i, j) x | inr s ↦ (0, omega arith, s) ]
+edge_at_end g e i j h =
+    elim (Contains-push_cases g e (i, j) h) [ inl x ↦ Contains-tail e g (i, j) x | inr s ↦ (0, omega arith, s) ]
 
 edge_to_end : (g : Graph) (e : ℕ × ℕ) (i j : ℕ) → IsEdge (e ∷ g) i j → IsEdge (g ++ e ∷ []) i j
 edge_to_end g e i j h = elim (Contains-cases e g (i, j) h) [
@@ -62,27 +73,39 @@ path-again g a b p i j = grind (arith, same_test, or_left, or_cases, and_parts, 
 
 rules_more : (joined : List Bool) (rules : List Rule) (k : ℕ) (d : Rule) → k < length rules →
     rules_among joined (take (k + 1) rules)
-    ≡ rules_among joined (take k rules) ++ cond (has_joined joined (get_or rules k d).earlier && has_joined joined (get_or rules k d).later) (((get_or rules k d).earlier, (get_or rules k d).later) ∷ []) []
+    ≡ rules_among joined (take k rules)
+        ++ cond (has_joined joined (get_or rules k d).earlier && has_joined joined (get_or rules k d).later)
+        (((get_or rules k d).earlier, (get_or rules k d).later) ∷ []) []
 rules_more joined rules k d h =
     let f : Rule → ℕ × ℕ = λ r. (r.earlier, r.later) in
     let p : ℕ × ℕ → Bool = λ e. has_joined joined e.0 && has_joined joined e.1 in
-    rw (add-one, take-suc rules k d h) (ap (filter p) (map-append f (take k rules) (get_or rules k d ∷ [])) ∙ filter-append p (map f (take k rules)) (map f (get_or rules k d ∷ [])))
+    rw (add-one, take-suc rules k d h)
+        (ap (filter p) (map-append f (take k rules) (get_or rules k d ∷ []))
+        ∙ filter-append p (map f (take k rules)) (map f (get_or rules k d ∷ [])))
 
 -- a rule among the joined systems, which adds its edge, or whose path was there
 pub rule_adds : (joined : List Bool) (rules : List Rule) (k : ℕ) (d : Rule) (new : List SystemSet) → k < length rules
     → ArePaths (((get_or rules k d).earlier, (get_or rules k d).later) ∷ rules_among joined (take k rules)) new
-    → (has_joined joined (get_or rules k d).earlier && has_joined joined (get_or rules k d).later) ≡ true → ArePaths (rules_among joined (take (k + 1) rules)) new
+    → (has_joined joined (get_or rules k d).earlier && has_joined joined (get_or rules k d).later) ≡ true
+    → ArePaths (rules_among joined (take (k + 1) rules)) new
 rule_adds joined rules k d new h s t i j = let r : Rule = get_or rules k d in
-    rw (rules_more joined rules k d h, t) (s i j ∙ path-at_end (rules_among joined (take k rules)) (r.earlier, r.later) i j)
+    rw (rules_more joined rules k d h, t)
+        (s i j ∙ path-at_end (rules_among joined (take k rules)) (r.earlier, r.later) i j)
 
-pub rule_follows : (joined : List Bool) (rules : List Rule) (k : ℕ) (d : Rule) (before : List SystemSet) → k < length rules → ArePaths (rules_among joined (take k rules)) before
-    → (has_joined joined (get_or rules k d).earlier && has_joined joined (get_or rules k d).later) ≡ true → comes_before before (get_or rules k d).earlier (get_or rules k d).later ≡ true
+pub rule_follows : (joined : List Bool) (rules : List Rule) (k : ℕ) (d : Rule) (before : List SystemSet)
+    → k < length rules → ArePaths (rules_among joined (take k rules)) before
+    → (has_joined joined (get_or rules k d).earlier && has_joined joined (get_or rules k d).later) ≡ true
+    → comes_before before (get_or rules k d).earlier (get_or rules k d).later ≡ true
     → ArePaths (rules_among joined (take (k + 1) rules)) before
 rule_follows joined rules k d before h c t was = grind (arith, rule_adds, path-again)
 
-pub rule_passes : (joined : List Bool) (rules : List Rule) (k : ℕ) (d : Rule) (before : List SystemSet) → k < length rules → ArePaths (rules_among joined (take k rules)) before
-    → (has_joined joined (get_or rules k d).earlier && has_joined joined (get_or rules k d).later) ≡ false → ArePaths (rules_among joined (take (k + 1) rules)) before
-rule_passes joined rules k d before h c t = rw (rules_more joined rules k d h, t) (subst (λ g. ArePaths g before) (sym (append-nil (rules_among joined (take k rules)))) c)
+pub rule_passes : (joined : List Bool) (rules : List Rule) (k : ℕ) (d : Rule) (before : List SystemSet)
+    → k < length rules → ArePaths (rules_among joined (take k rules)) before
+    → (has_joined joined (get_or rules k d).earlier && has_joined joined (get_or rules k d).later) ≡ false
+    → ArePaths (rules_among joined (take (k + 1) rules)) before
+rule_passes joined rules k d before h c t =
+    rw (rules_more joined rules k d h, t)
+    (subst (λ g. ArePaths g before) (sym (append-nil (rules_among joined (take k rules)))) c)
 
 -- The pairs of one system after those of the systems before it.
 abbrev pub IsOnWay : (ℕ → ℕ → Type 0) → Graph → ℕ → ℕ → List SystemSet → Type 0
@@ -92,8 +115,10 @@ IsOnWay C g n i before = (h : Graph) × (ArePaths h before × Settles C g (pairs
 abbrev pub TellsLater : (ℕ → ℕ → Type 0) → SystemSet → ℕ → SystemSet → Type 0
 TellsLater C before i later = (j : ℕ) → IsTrue (has later j) ↔ ((i < j) × (C i j × IsFalse (has before j)))
 
-pub row_settles : (C : ℕ → ℕ → Type 0) (g : Graph) (n i : ℕ) (before new : List SystemSet) (later : SystemSet) → n ≤ 256 → i < n → ((j : ℕ) → C i j → j < n)
-    → TellsLater C (set_at before i) i later → AddsEdges before i later new → IsOnWay C g n i before → IsOnWay C g n (i + 1) new
+pub row_settles : (C : ℕ → ℕ → Type 0) (g : Graph) (n i : ℕ) (before new : List SystemSet) (later : SystemSet) → n ≤ 256
+    → i < n → ((j : ℕ) → C i j → j < n)
+    → TellsLater C (set_at before i) i later → AddsEdges before i later new → IsOnWay C g n i before
+    → IsOnWay C g n (i + 1) new
 row_settles C g n i before new later few lt below tells adds way = (
   grown i test js h,
   (
@@ -125,14 +150,16 @@ row_settles C g n i before new later few lt below tells adds way = (
     among k t e to =
         let q = found t e in
         let l : t < n = below t q.1.0 in
-        list_any-Contains (reaches test h k) js t (Contains-range (i + 1) (n - (i + 1)) t (omega (arith, q.0)) (omega (arith, q.0)))
+        list_any-Contains (reaches test h k) js t
+            (Contains-range (i + 1) (n - (i + 1)) t (omega (arith, q.0)) (omega (arith, q.0)))
         (and_from (test t) (k == t || path h t k) e to)
 
     tests : (k : ℕ) → (has later k || meets (set_at before k) later) ≡ list_any (reaches test h k) js
     tests k = same_test (has later k || meets (set_at before k) later) (list_any (reaches test h k) js)
         (λ e. elim (or_cases (has later k) (meets (set_at before k) later) e) [
           | inl x ↦ among k k x (or_left (k == k) (path h k k) (eq-eqb k k refl))
-          | inr x ↦ let f = meets-true (set_at before k) later x in among k f.0 f.1.1.1 (or_right (k == f.0) (path h f.0 k) (sym (way.1.0 f.0 k) ∙ f.1.1.0))
+          | inr x ↦ let f = meets-true (set_at before k) later x in among k f.0 f.1.1.1
+              (or_right (k == f.0) (path h f.0 k) (sym (way.1.0 f.0 k) ∙ f.1.1.0))
         ])
         (λ e.
         let r = Contains-list_any (reaches test h k) js e in
@@ -140,8 +167,10 @@ row_settles C g n i before new later few lt below tells adds way = (
         let b = and_parts (test t) (k == t || path h t k) r.1.1 in
         let l : t < n = below t (found t b.0).1.0 in
         elim (or_cases (k == t) (path h t k) b.1) [
-          | inl x ↦ or_left (has later k) (meets (set_at before k) later) (subst (λ z. test z ≡ true) (sym (eqb-true k t x)) b.0)
-          | inr x ↦ or_right (has later k) (meets (set_at before k) later) (meets-found (set_at before k) later t (omega arith) (way.1.0 t k ∙ x) b.0)
+          | inl x ↦ or_left (has later k) (meets (set_at before k) later)
+              (subst (λ z. test z ≡ true) (sym (eqb-true k t x)) b.0)
+          | inr x ↦ or_right (has later k) (meets (set_at before k) later)
+              (meets-found (set_at before k) later t (omega arith) (way.1.0 t k ∙ x) b.0)
         ])
 
 -- Systems below n on cycles.
@@ -149,7 +178,8 @@ pub joined_in : (joined : List Bool) (i : ℕ) → has_joined joined i ≡ true 
 joined_in joined i h = grind (arith, cases_lt, false≢true, get_or_past)
 
 pub lowest_by_sets : (g : Graph) (before : List SystemSet) (found : Option ℕ) → ArePaths g before
-    → MatchOption found ((s : ℕ) → comes_before before s s ≡ false) (λ s. (comes_before before s s ≡ true) × ((r : ℕ) → r < s → comes_before before r r ≡ false))
+    → MatchOption found ((s : ℕ) → comes_before before s s ≡ false)
+    (λ s. (comes_before before s s ≡ true) × ((r : ℕ) → r < s → comes_before before r r ≡ false))
     → MatchOption found (IsAcyclic g × ArePaths g before) (IsLowestOnCycle g)
 lowest_by_sets g before None h none = (λ i. no_Path g i i (sym (h i i) ∙ none i), h)
 lowest_by_sets g before (Some s) h found = record {
@@ -158,50 +188,68 @@ lowest_by_sets g before (Some s) h found = record {
 }
 
 -- rules among systems that have all joined are all the rules
-pub all_rules : (joined : List Bool) (rules : List Rule) → NameSystemsBelow (length joined) rules → ((i : ℕ) → i < length joined → has_joined joined i ≡ true)
+pub all_rules : (joined : List Bool) (rules : List Rule) → NameSystemsBelow (length joined) rules
+    → ((i : ℕ) → i < length joined → has_joined joined i ≡ true)
     → rules_among joined rules ≡ edges_of rules
 all_rules joined [] below all = refl
 all_rules joined (rule ∷ rules) below all =
     let P : Rule → Type 0 = λ r. (r.earlier < length joined) × (r.later < length joined) in
     let here = All-head P rule rules below in
-    rw (all rule.earlier here.0, all rule.later here.1) (ap (λ l. (rule.earlier, rule.later) ∷ l) (all_rules joined rules (All-tail P rule rules below) all))
+    rw (all rule.earlier here.0, all rule.later here.1)
+        (ap (λ l. (rule.earlier, rule.later) ∷ l) (all_rules joined rules (All-tail P rule rules below) all))
 
 -- the first n of systems that have all joined
-front_joined : (m n : ℕ) → n ≤ m → (length (take n (replicate m true)) ≡ n) × ((i : ℕ) → i < n → has_joined (take n (replicate m true)) i ≡ true)
-front_joined m n le = (grind (arith, common_steps), λ i lt. get_or-take n (replicate m true) i false lt ∙ get_or-replicate m i true false (omega arith))
+front_joined : (m n : ℕ) → n ≤ m → (length (take n (replicate m true)) ≡ n)
+    × ((i : ℕ) → i < n → has_joined (take n (replicate m true)) i ≡ true)
+front_joined m n le =
+    (grind (arith, common_steps), λ i lt. get_or-take n (replicate m true) i false lt
+    ∙ get_or-replicate m i true false (omega arith))
 
 -- what is found of the rules among the first n of them is found of all rules
-pub found_among_all : (m n : ℕ) (rules : List Rule) (before : List SystemSet) (found : Option ℕ) → n ≤ m → NameSystemsBelow n rules
-    → (let among : Graph = rules_among (take n (replicate m true)) rules in MatchOption found (IsAcyclic among × ArePaths among before) (IsLowestOnCycle among))
+pub found_among_all : (m n : ℕ) (rules : List Rule) (before : List SystemSet) (found : Option ℕ) → n ≤ m
+    → NameSystemsBelow n rules
+    → (let among : Graph = rules_among (take n (replicate m true)) rules in MatchOption found
+    (IsAcyclic among × ArePaths among before) (IsLowestOnCycle among))
     → IfSome found (IsLowestOnCycle (edges_of rules)) × IfNone found (IsAcyclic (edges_of rules))
 found_among_all m n rules before found le below h =
     let joined : List Bool = take n (replicate m true) in
     let front = front_joined m n le in
-    let all = all_rules joined rules (subst (λ k. NameSystemsBelow k rules) (sym front.0) below) (λ i lt. front.1 i (omega (arith, front.0))) in
+    let all = all_rules joined rules (subst (λ k. NameSystemsBelow k rules) (sym front.0) below)
+        (λ i lt. front.1 i (omega (arith, front.0))) in
     of_both found (subst (λ g. MatchOption found (IsAcyclic g × ArePaths g before) (IsLowestOnCycle g)) all h)
   where
-    of_both : (found : Option ℕ) → MatchOption found (IsAcyclic (edges_of rules) × ArePaths (edges_of rules) before) (IsLowestOnCycle (edges_of rules))
+    of_both : (found : Option ℕ) → MatchOption found (IsAcyclic (edges_of rules) × ArePaths (edges_of rules) before)
+        (IsLowestOnCycle (edges_of rules))
         → IfSome found (IsLowestOnCycle (edges_of rules)) × IfNone found (IsAcyclic (edges_of rules))
     of_both None h = (tt, h.0)
     of_both (Some s) h = (h, tt)
 
 pub rules_join : (joined : List Bool) (rules : List Rule) → IsAmong joined (rules_among joined rules)
 rules_join joined rules i j h =
-    and_parts (has_joined joined i) (has_joined joined j) (filter-Contains (λ (e : ℕ × ℕ). has_joined joined e.0 && has_joined joined e.1) (map (λ (r : Rule). (r.earlier, r.later)) rules) (i, j) h).1
+    and_parts (has_joined joined i) (has_joined joined j)
+        (filter-Contains (λ (e : ℕ × ℕ). has_joined joined e.0 && has_joined joined e.1)
+        (map (λ (r : Rule). (r.earlier, r.later)) rules) (i, j) h).1
 
-pub settled_joins : (accesses : List Access) (rules : List Rule) (joined : List Bool) (h : Graph) → Settles (AreInConflict accesses joined) (rules_among joined rules) (pairs (length accesses)) h → IsAmong joined h
-settled_joins accesses rules joined h s i j e = elim (settles_edges (AreInConflict accesses joined) (pairs (length accesses)) (rules_among joined rules) h s i j e) [
+pub settled_joins : (accesses : List Access) (rules : List Rule) (joined : List Bool) (h : Graph)
+    → Settles (AreInConflict accesses joined) (rules_among joined rules) (pairs (length accesses)) h → IsAmong joined h
+settled_joins accesses rules joined h s i j e =
+    elim (settles_edges (AreInConflict accesses joined) (pairs (length accesses)) (rules_among joined rules) h s i j e)
+    [
   | inl x ↦ rules_join joined rules i j x
   | inr x ↦ (x.1.first_joined, x.1.second_joined)
 ]
 
-pub settled_free : (accesses : List Access) (rules : List Rule) (joined : List Bool) (h : Graph) → Settles (AreInConflict accesses joined) (rules_among joined rules) (pairs (length accesses)) h → IsAcyclic (rules_among joined rules) → IsAcyclic h
+pub settled_free : (accesses : List Access) (rules : List Rule) (joined : List Bool) (h : Graph)
+    → Settles (AreInConflict accesses joined) (rules_among joined rules) (pairs (length accesses)) h
+    → IsAcyclic (rules_among joined rules) → IsAcyclic h
 settled_free accesses rules joined h s f i =
     let g : Graph = rules_among joined rules in
-    no_Path h i i (settles_free (AreInConflict accesses joined) (pairs (length accesses)) g h s (λ a b m. (pairs-Contains (length accesses) a b m).0) (λ k. no_path g k k (f k)) i)
+    no_Path h i i (settles_free (AreInConflict accesses joined) (pairs (length accesses)) g h s
+        (λ a b m. (pairs-Contains (length accesses) a b m).0) (λ k. no_path g k k (f k)) i)
 
 -- a set that was just made
-pub sets_push : (before : List SystemSet) (set : SystemSet) → ArePaths [] before → ((k : ℕ) → has set k ≡ false) → ArePaths [] (before ++ set ∷ [])
+pub sets_push : (before : List SystemSet) (set : SystemSet) → ArePaths [] before → ((k : ℕ) → has set k ≡ false)
+    → ArePaths [] (before ++ set ∷ [])
 sets_push before set h none i j = elim (cases_eq j (length before)) [
   | inl x ↦ rw x (ap (λ s. has s i) (get_or-append_seam before set [] no_set) ∙ none i)
   | inr x ↦ elim (cases_lt j (length before)) [

@@ -13,7 +13,8 @@ use Rattle.msg_order.proofs.Chains.{edge_is_path}
 use Rattle.msg_order.proofs.PathTest.{path_trans, to_Path, no_Path, no_path, path_more}
 
 -- Some pairs after others.
-pub settles_then : (C : ℕ → ℕ → Type 0) (ps qs g h k : Graph) → Settles C g ps h → Settles C h qs k → Settles C g (ps ++ qs) k
+pub settles_then : (C : ℕ → ℕ → Type 0) (ps qs g h k : Graph) → Settles C g ps h → Settles C h qs k
+    → Settles C g (ps ++ qs) k
 settles_then C [] qs g h k a b = subst (λ x. Settles C x qs k) (sym a) b
 settles_then C (p ∷ ps) qs g h k a b = elim a [
   | inl x ↦ inl (x.0, settles_then C ps qs (p ∷ g) h k x.1 b)
@@ -29,12 +30,14 @@ settles_once C (p ∷ ps) g h k a b = elim a [
 ]
 
 -- Each edge was there before, or is one of the pairs that are in conflict.
-pub settles_edges : (C : ℕ → ℕ → Type 0) (ps g h : Graph) → Settles C g ps h → (i j : ℕ) → IsEdge h i j → IsEdge g i j ⊎ (Contains ps (i, j) × C i j)
+pub settles_edges : (C : ℕ → ℕ → Type 0) (ps g h : Graph) → Settles C g ps h → (i j : ℕ) → IsEdge h i j → IsEdge g i j
+    ⊎ (Contains ps (i, j) × C i j)
 settles_edges C [] g h a i j e = inl (subst (λ x. IsEdge x i j) (sym a) e)
 settles_edges C (p ∷ ps) g h a i j e = elim a [
   | inl x ↦ elim (settles_edges C ps (p ∷ g) h x.1 i j e) [
     | inl y ↦ elim (Contains-cases p g (i, j) y) [
-      | inl s ↦ inr (subst (λ (q : ℕ × ℕ). Contains (p ∷ ps) q) s (Contains-head p ps), subst (λ (q : ℕ × ℕ). C q.0 q.1) s x.0.0)
+      | inl s ↦ inr (subst (λ (q : ℕ × ℕ). Contains (p ∷ ps) q) s (Contains-head p ps),
+          subst (λ (q : ℕ × ℕ). C q.0 q.1) s x.0.0)
       | inr t ↦ inl t
     ]
     | inr y ↦ inr (Contains-tail p ps (i, j) y.0, y.1)
@@ -51,11 +54,13 @@ settles_grows C (q ∷ ps) g h a i j p = elim a [
 ]
 
 -- Between each of the pairs that are in conflict there is a path one way or the other.
-pub settles_covers : (C : ℕ → ℕ → Type 0) (ps g h : Graph) → Settles C g ps h → (i j : ℕ) → Contains ps (i, j) → C i j → Path h i j ⊎ Path h j i
+pub settles_covers : (C : ℕ → ℕ → Type 0) (ps g h : Graph) → Settles C g ps h → (i j : ℕ) → Contains ps (i, j) → C i j
+    → Path h i j ⊎ Path h j i
 settles_covers C [] g h a i j m c = absurd (not_in_none (i, j) m)
 settles_covers C (p ∷ ps) g h a i j m c = elim (Contains-cases p ps (i, j) m) [
   | inl s ↦ elim a [
-    | inl x ↦ inl (settles_grows C ps (p ∷ g) h x.1 i j (edge_is_path (p ∷ g) i j (subst (λ (q : ℕ × ℕ). Contains (p ∷ g) q) s (Contains-head p g))))
+    | inl x ↦ inl (settles_grows C ps (p ∷ g) h x.1 i j
+        (edge_is_path (p ∷ g) i j (subst (λ (q : ℕ × ℕ). Contains (p ∷ g) q) s (Contains-head p g))))
     | inr x ↦ elim (cases_Bool (path g j i)) [
       | inl t ↦ inr (settles_grows C ps g h x.1 j i (to_Path g j i t))
       | inr f ↦ absurd (x.0 (subst (λ (q : ℕ × ℕ). GainsEdge C g q.0 q.1) (sym s) (c, no_Path g j i f)))
@@ -68,13 +73,16 @@ settles_covers C (p ∷ ps) g h a i j m c = elim (Contains-cases p ps (i, j) m) 
 ]
 
 -- An edge to which no path leads back makes no cycle.
-free_step : (p : ℕ × ℕ) (g : Graph) → p.0 < p.1 → path g p.1 p.0 ≡ false → ((s : ℕ) → path g s s ≡ false) → (s : ℕ) → path (p ∷ g) s s ≡ false
+free_step : (p : ℕ × ℕ) (g : Graph) → p.0 < p.1 → path g p.1 p.0 ≡ false → ((s : ℕ) → path g s s ≡ false) → (s : ℕ)
+    → path (p ∷ g) s s ≡ false
 free_step p g lt free h s = grind (arith, false_from_ne_true, false≢true, or_cases, and_parts, eqb-true, path_trans)
 
-pub settles_free : (C : ℕ → ℕ → Type 0) (ps g h : Graph) → Settles C g ps h → ((i j : ℕ) → Contains ps (i, j) → i < j) → ((s : ℕ) → path g s s ≡ false) → (s : ℕ) → path h s s ≡ false
+pub settles_free : (C : ℕ → ℕ → Type 0) (ps g h : Graph) → Settles C g ps h → ((i j : ℕ) → Contains ps (i, j) → i < j)
+    → ((s : ℕ) → path g s s ≡ false) → (s : ℕ) → path h s s ≡ false
 settles_free C [] g h a up f = subst (λ x. (s : ℕ) → path x s s ≡ false) a f
 settles_free C (p ∷ ps) g h a up f = elim a [
-  | inl x ↦ settles_free C ps (p ∷ g) h x.1 (λ i j m. up i j (Contains-tail p ps (i, j) m)) (free_step p g (up p.0 p.1 (Contains-head p ps)) (no_path g p.1 p.0 x.0.1) f)
+  | inl x ↦ settles_free C ps (p ∷ g) h x.1 (λ i j m. up i j (Contains-tail p ps (i, j) m))
+      (free_step p g (up p.0 p.1 (Contains-head p ps)) (no_path g p.1 p.0 x.0.1) f)
   | inr x ↦ settles_free C ps g h x.1 (λ i j m. up i j (Contains-tail p ps (i, j) m)) f
 ]
 
@@ -101,7 +109,8 @@ pairs-Contains n i j h =
 pub Contains-pairs : (n i j : ℕ) → i < j → j < n → Contains (pairs n) (i, j)
 Contains-pairs n i j h l =
     Contains-flat_map (row n) (range_with_len 0 n) i (i, j) (Contains-range 0 n i (omega arith) (omega arith))
-    (Contains-map (λ (k : ℕ). (i, k)) (range_with_len (i + 1) (n - (i + 1))) j (Contains-range (i + 1) (n - (i + 1)) j (omega arith) (omega arith)))
+    (Contains-map (λ (k : ℕ). (i, k)) (range_with_len (i + 1) (n - (i + 1))) j
+        (Contains-range (i + 1) (n - (i + 1)) j (omega arith) (omega arith)))
 
 -- The graph with an edge from i to each of these systems for which the test holds.
 abbrev pub grown : ℕ → (ℕ → Bool) → List ℕ → Graph → Graph
@@ -110,7 +119,8 @@ grown i test (j ∷ js) g = grown i test js (cond (test j) ((i, j) ∷ g) g)
 
 -- An edge from i adds no path to i, where no path leads back.
 same_to : (g : Graph) (i t x : ℕ) → t ≢ i → path g t i ≡ false → path ((i, t) ∷ g) x i ≡ path g x i
-same_to g i t x ne free = rw (free, ne_eqb i t (λ e. ne (sym e)), and-false (x == i || path g x i), or-false (path g x i)) refl
+same_to g i t x ne free =
+    rw (free, ne_eqb i t (λ e. ne (sym e)), and-false (x == i || path g x i), or-false (path g x i)) refl
 
 -- Nor does it to others from where no path leads to i.
 same_from : (g : Graph) (i t s k : ℕ) → s ≢ i → path g s i ≡ false → path ((i, t) ∷ g) s k ≡ path g s k
@@ -131,7 +141,8 @@ still_free g i j test f e t s = let q = f j e in let r = f t s in (r.0, same_to 
 abbrev pub reaches : (ℕ → Bool) → Graph → ℕ → ℕ → Bool
 reaches test g k t = test t && (k == t || path g t k)
 
-same_reach : (g : Graph) (i j k : ℕ) (test : ℕ → Bool) → AreFree g i test → (t : ℕ) → reaches test ((i, j) ∷ g) k t ≡ reaches test g k t
+same_reach : (g : Graph) (i j k : ℕ) (test : ℕ → Bool) → AreFree g i test → (t : ℕ) → reaches test ((i, j) ∷ g) k t
+    ≡ reaches test g k t
 same_reach g i j k test f t = grind (arith, cases_Bool, same_from)
 
 pub grown_paths : (g : Graph) (i : ℕ) (test : ℕ → Bool) (js : List ℕ) → AreFree g i test → (x k : ℕ)
@@ -144,15 +155,18 @@ grown_paths g i test (j ∷ js) f x k = elim (cases_Bool (test j)) [
       let q = f j e in
       rw e (grown_paths h i test js (still_free g i j test f e) x k
       ∙ ap (λ p. path h x k || ((x == i || p) && list_any (reaches test h k) js)) (same_to g i j x q.0 q.1)
-      ∙ ap (λ (p : ℕ → Bool). path h x k || ((x == i || path g x i) && list_any p js)) (λ n t. same_reach g i j k test f t n)
+      ∙ ap (λ (p : ℕ → Bool). path h x k || ((x == i || path g x i) && list_any p js))
+      (λ n t. same_reach g i j k test f t n)
       ∙ regroup (path g x k) (x == i || path g x i) (k == j || path g j k) (list_any (reaches test g k) js))
 ]
 
 -- The test tells which pairs of i and a later system gain their edge, whichever of them did before.
 abbrev pub TellsPairs : (ℕ → ℕ → Type 0) → Graph → ℕ → (ℕ → Bool) → Type 0
-TellsPairs C g i test = (t : ℕ) → i < t → (test t ≡ true → C i t × (path g t i ≡ false)) × (C i t → path g t i ≡ false → test t ≡ true)
+TellsPairs C g i test = (t : ℕ) → i < t → (test t ≡ true → C i t × (path g t i ≡ false))
+    × (C i t → path g t i ≡ false → test t ≡ true)
 
-pub settles_row : (C : ℕ → ℕ → Type 0) (g : Graph) (i : ℕ) (test : ℕ → Bool) (js : List ℕ) → ((j : ℕ) → Contains js j → i < j) → TellsPairs C g i test
+pub settles_row : (C : ℕ → ℕ → Type 0) (g : Graph) (i : ℕ) (test : ℕ → Bool) (js : List ℕ)
+    → ((j : ℕ) → Contains js j → i < j) → TellsPairs C g i test
     → Settles C g (map (λ k. (i, k)) js) (grown i test js g)
 settles_row C g i test [] up h = refl
 settles_row C g i test (j ∷ js) up h =
@@ -167,5 +181,6 @@ settles_row C g i test (j ∷ js) up h =
           let same : path ((i, j) ∷ g) t i ≡ path g t i = same_to g i j t ne at.1 in
           (λ s. let q = r.0 s in (q.0, same ∙ q.1), λ c f. r.1 c (sym same ∙ f)) in
           rw e (inl ((at.0, no_Path g j i at.1), settles_row C ((i, j) ∷ g) i test js later on))
-      | inr e ↦ rw e (inr (λ x. false≢true (sym e ∙ (h j lt).1 x.0 (no_path g j i x.1)), settles_row C g i test js later h))
+      | inr e ↦ rw e (inr (λ x. false≢true (sym e ∙ (h j lt).1 x.0 (no_path g j i x.1)),
+          settles_row C g i test js later h))
     ]

@@ -14,13 +14,18 @@ use Rattle.msg_order.proofs.Elements.{list_any-Contains, Contains-list_any, Cont
 
 -- whether a number is in both of two sets, told by one below 256
 pub some_below : (test : ℕ → Bool) (n k : ℕ) → k < n → test k ≡ true → list_any test (range_with_len 0 n) ≡ true
-some_below test n k lt t = list_any-Contains test (range_with_len 0 n) k (Contains-range 0 n k (omega arith) (omega arith)) t
+some_below test n k lt t =
+    list_any-Contains test (range_with_len 0 n) k (Contains-range 0 n k (omega arith) (omega arith)) t
 
-pub below_some : (test : ℕ → Bool) (n : ℕ) → list_any test (range_with_len 0 n) ≡ true → (k : ℕ) × ((k < n) × (test k ≡ true))
-below_some test n h = let f = Contains-list_any test (range_with_len 0 n) h in let lt = (range-Contains 0 n f.0 f.1.0).1 in (f.0, (omega arith, f.1.1))
+pub below_some : (test : ℕ → Bool) (n : ℕ) → list_any test (range_with_len 0 n) ≡ true → (k : ℕ)
+    × ((k < n) × (test k ≡ true))
+below_some test n h = let f = Contains-list_any test (range_with_len 0 n) h in let lt =
+    (range-Contains 0 n f.0 f.1.0).1 in (f.0, (omega arith, f.1.1))
 
-pub none_below : (test : ℕ → Bool) (n : ℕ) → ((k : ℕ) → k < n → test k ≡ false) → list_any test (range_with_len 0 n) ≡ false
-none_below test n none = false_from_ne_true (list_any test (range_with_len 0 n)) (λ t. let f = below_some test n t in false≢true (sym (none f.0 f.1.0) ∙ f.1.1))
+pub none_below : (test : ℕ → Bool) (n : ℕ) → ((k : ℕ) → k < n → test k ≡ false)
+    → list_any test (range_with_len 0 n) ≡ false
+none_below test n none = false_from_ne_true (list_any test (range_with_len 0 n))
+    (λ t. let f = below_some test n t in false≢true (sym (none f.0 f.1.0) ∙ f.1.1))
 
 same_place : (j k : ℕ) → j / 64 ≡ k / 64 → j % 64 ≡ k % 64 → j ≡ k
 same_place j k p q = omega arith
@@ -29,25 +34,32 @@ same_test : (j k : ℕ) → j / 64 ≡ k / 64 → (j % 64 == k % 64) ≡ (j == k
 same_test j k p = grind (arith, cases_eq, eq-eqb, ne_eqb, same_place)
 
 -- one word was changed in one bit
-words-set : (words : List ℕ) (new j k : ℕ) (f : Bool → Bool → Bool) → length words ≡ 4 → k < 256 → ((b : Bool) → f false b ≡ b)
+words-set : (words : List ℕ) (new j k : ℕ) (f : Bool → Bool → Bool) → length words ≡ 4 → k < 256
+    → ((b : Bool) → f false b ≡ b)
     → has_bit new (j % 64) ≡ f (j % 64 == k % 64) (has_bit (get_or words (k / 64) 0) (j % 64))
-    → has_bit (get_or (slice_set words (k / 64) new) (j / 64) 0) (j % 64) ≡ f (j == k) (has_bit (get_or words (j / 64) 0) (j % 64))
+    → has_bit (get_or (slice_set words (k / 64) new) (j / 64) 0) (j % 64)
+    ≡ f (j == k) (has_bit (get_or words (j / 64) 0) (j % 64))
 words-set words new j k f l h same is = grind (arith, cases_eq, get_or-set_same, same_test, ne_eqb, get_or-set_other)
 
 -- `words[k / 64] |= 1 << (k % 64)`
 pub words-insert : (words : List ℕ) (j k : ℕ) → length words ≡ 4 → k < 256 →
-    has_bit (get_or (slice_set words (k / 64) (bit_or (get_or words (k / 64) 0) (1 * 2 ^ (k % 64) % 2 ^ 64))) (j / 64) 0) (j % 64)
+    has_bit (get_or (slice_set words (k / 64) (bit_or (get_or words (k / 64) 0) (1 * 2 ^ (k % 64) % 2 ^ 64)))
+        (j / 64) 0) (j % 64)
     ≡ ((j == k) || has_bit (get_or words (j / 64) 0) (j % 64))
-words-insert words j k l h = words-set words _ j k (λ a b. a || b) l h (λ b. refl) (has_bit-set (get_or words (k / 64) 0) (k % 64) (j % 64) (omega arith))
+words-insert words j k l h = words-set words _ j k (λ a b. a || b) l h (λ b. refl)
+    (has_bit-set (get_or words (k / 64) 0) (k % 64) (j % 64) (omega arith))
 
 -- `words[k / 64] &= !(1 << (k % 64))`
 pub words-remove : (words : List ℕ) (j k : ℕ) → length words ≡ 4 → k < 256 →
-    has_bit (get_or (slice_set words (k / 64) (bit_and (get_or words (k / 64) 0) (bit_not w64 (1 * 2 ^ (k % 64) % 2 ^ 64)))) (j / 64) 0) (j % 64)
+    has_bit (get_or (slice_set words (k / 64)
+        (bit_and (get_or words (k / 64) 0) (bit_not w64 (1 * 2 ^ (k % 64) % 2 ^ 64)))) (j / 64) 0) (j % 64)
     ≡ (not (j == k) && has_bit (get_or words (j / 64) 0) (j % 64))
 words-remove words j k l h =
-    words-set words _ j k (λ a b. not a && b) l h (λ b. refl) (has_bit-unset (get_or words (k / 64) 0) (k % 64) (j % 64) (omega arith) (omega arith))
+    words-set words _ j k (λ a b. not a && b) l h (λ b. refl)
+        (has_bit-unset (get_or words (k / 64) 0) (k % 64) (j % 64) (omega arith) (omega arith))
 
-pub past_or : (a b c : List ℕ) (q r : ℕ) → length a ≤ q → length b ≤ q → length c ≤ q → has_bit (get_or a q 0) r ≡ (has_bit (get_or b q 0) r || has_bit (get_or c q 0) r)
+pub past_or : (a b c : List ℕ) (q r : ℕ) → length a ≤ q → length b ≤ q → length c ≤ q → has_bit (get_or a q 0) r
+    ≡ (has_bit (get_or b q 0) r || has_bit (get_or c q 0) r)
 past_or a b c q r h k l = rw (get_or_past a q 0 h, get_or_past b q 0 k, get_or_past c q 0 l, has_bit-zero r) refl
 
 -- four words of no bits
@@ -65,34 +77,42 @@ meets-found s t k h a b = some_below (λ i. has s i && has t i) 256 k h (and_fro
 
 pub meets-true : (s t : SystemSet) → meets s t ≡ true → (k : ℕ) × ((k < 256) × ((has s k ≡ true) × (has t k ≡ true)))
 unfolding meets
-meets-true s t h = let f = below_some (λ i. has s i && has t i) 256 h in (f.0, (f.1.0, and_parts (has s f.0) (has t f.0) f.1.1))
+meets-true s t h = let f =
+    below_some (λ i. has s i && has t i) 256 h in (f.0, (f.1.0, and_parts (has s f.0) (has t f.0) f.1.1))
 
 -- a set of four words has no number from 256 on
 pub has-above : (s : SystemSet) (k : ℕ) → length s.words ≡ 4 → 256 ≤ k → has s k ≡ false
 unfolding has
-has-above s k l h = let past : length s.words ≤ k / 64 = omega arith in ap (λ n. has_bit n (k % 64)) (get_or_past s.words (k / 64) 0 past) ∙ has_bit-zero (k % 64)
+has-above s k l h = let past : length s.words ≤ k / 64 =
+    omega arith in ap (λ n. has_bit n (k % 64)) (get_or_past s.words (k / 64) 0 past) ∙ has_bit-zero (k % 64)
 
 -- words with no bit in both
 pub has_bit-apart : (a b r : ℕ) → bit_and a b ≡ 0 → (has_bit a r && has_bit b r) ≡ false
 has_bit-apart a b r e = sym (has_bit-and a b r) ∙ ap (λ n. has_bit n r) e ∙ has_bit-zero r
 
 -- a bit in both, of the words that a number stands in
-pub words-share : (xs ys : List ℕ) (i r k : ℕ) → r < 64 → 64 * i + r ≡ k → has_bit (bit_and (get_or xs i 0) (get_or ys i 0)) r ≡ true
+pub words-share : (xs ys : List ℕ) (i r k : ℕ) → r < 64 → 64 * i + r ≡ k
+    → has_bit (bit_and (get_or xs i 0) (get_or ys i 0)) r ≡ true
     → (has_bit (get_or xs (k / 64) 0) (k % 64) && has_bit (get_or ys (k / 64) 0) (k % 64)) ≡ true
 words-share xs ys i r k h e t = grind (arith, has_bit-and)
 
 -- A set that was told up to i, and from there on is empty: i goes in, or stays out.
-pub told_with : (old new want : ℕ → Bool) (i : ℕ) → ((k : ℕ) → new k ≡ (k == i || old k)) → ((k : ℕ) → k < i → old k ≡ want k) → want i ≡ true → (k : ℕ) → k < i + 1 → new k ≡ want k
+pub told_with : (old new want : ℕ → Bool) (i : ℕ) → ((k : ℕ) → new k ≡ (k == i || old k))
+    → ((k : ℕ) → k < i → old k ≡ want k) → want i ≡ true → (k : ℕ) → k < i + 1 → new k ≡ want k
 told_with old new want i step told yes_ k h = grind (arith, cases_eq, eq-eqb, ne_eqb)
 
-pub empty_with : (old new : ℕ → Bool) (i : ℕ) → ((k : ℕ) → new k ≡ (k == i || old k)) → ((k : ℕ) → i ≤ k → old k ≡ false) → (k : ℕ) → i + 1 ≤ k → new k ≡ false
+pub empty_with : (old new : ℕ → Bool) (i : ℕ) → ((k : ℕ) → new k ≡ (k == i || old k))
+    → ((k : ℕ) → i ≤ k → old k ≡ false) → (k : ℕ) → i + 1 ≤ k → new k ≡ false
 empty_with old new i step none k h = let ne : k ≢ i = omega arith in step k ∙ rw (ne_eqb k i ne) (none k (omega arith))
 
-pub told_without : (old want : ℕ → Bool) (i : ℕ) → ((k : ℕ) → k < i → old k ≡ want k) → ((k : ℕ) → i ≤ k → old k ≡ false) → want i ≡ false → (k : ℕ) → k < i + 1 → old k ≡ want k
+pub told_without : (old want : ℕ → Bool) (i : ℕ) → ((k : ℕ) → k < i → old k ≡ want k)
+    → ((k : ℕ) → i ≤ k → old k ≡ false) → want i ≡ false → (k : ℕ) → k < i + 1 → old k ≡ want k
 told_without old want i told z4 no_ k h = grind (arith, cases_eq)
 
 -- what the functions of sets are proved by
-pub ruleset of_sets = (words-insert, words-remove, past_or, no_words, has_bit-zero, has_bit-or, shr_and_one, meets-found, meets-true, has-above)
+pub ruleset of_sets =
+    (words-insert, words-remove, past_or, no_words, has_bit-zero, has_bit-or, shr_and_one, meets-found,
+    meets-true, has-above)
 
 -- what the next set of a level is told by
 pub ruleset told = (told_with, told_without, empty_with)

@@ -15,7 +15,8 @@ use Rattle.msg_order.proofs.Chains.{number_once, number_rises, edge_is_path}
 use Rattle.msg_order.proofs.SettledPairs.{settles_covers, Contains-pairs}
 use Rattle.msg_order.proofs.SetPaths.{joined_in}
 
-pub stands : (order : List ℕ) (i j a b : ℕ) → a < b → b < length order → get_or order a 0 ≡ i → get_or order b 0 ≡ j → StandsBefore order i j
+pub stands : (order : List ℕ) (i j a b : ℕ) → a < b → b < length order → get_or order a 0 ≡ i → get_or order b 0 ≡ j
+    → StandsBefore order i j
 stands order i j a b lt l x y = grind (arith, slice_get-get_or)
 
 -- the places of the two, below the length
@@ -35,18 +36,22 @@ pub of_place : (order : List ℕ) (i a : ℕ) → a < length order → get_or or
 of_place order i a l e = (a, l, get_or_default_zero order a i l ∙ e)
 
 -- where each stands once, one place
-pub one_place : (order : List ℕ) (a b : ℕ) → AllPairs (λ i j. i ≢ j) order → a < length order → b < length order → get_or order a 0 ≡ get_or order b 0 → a ≡ b
+pub one_place : (order : List ℕ) (a b : ℕ) → AllPairs (λ i j. i ≢ j) order → a < length order → b < length order
+    → get_or order a 0 ≡ get_or order b 0 → a ≡ b
 one_place order a b once la lb e = grind (arith, cases_order)
 
-stands_along : (order : List ℕ) (i j k : ℕ) → AllPairs (λ i j. i ≢ j) order → StandsBefore order i k → StandsBefore order k j → StandsBefore order i j
+stands_along : (order : List ℕ) (i j k : ℕ) → AllPairs (λ i j. i ≢ j) order → StandsBefore order i k
+    → StandsBefore order k j → StandsBefore order i j
 stands_along order i j k once s t =
     let a = places_of order i k s in
     let b = places_of order k j t in
-    let same : s.later ≡ t.earlier = one_place order s.later t.earlier once a.below (omega (arith, b.in_order, b.below)) (a.second ∙ sym b.first) in
+    let same : s.later ≡ t.earlier = one_place order s.later t.earlier once a.below (omega (arith, b.in_order, b.below))
+        (a.second ∙ sym b.first) in
     stands order i j s.earlier t.later (omega (arith, a.in_order, b.in_order)) b.below a.first b.second
 
 -- a lawful order keeps paths too
-pub kept_along : (g : Graph) (joined : List Bool) (order : List ℕ) → IsLawfulOrder g joined order → (i j : ℕ) → Path g i j → StandsBefore order i j
+pub kept_along : (g : Graph) (joined : List Bool) (order : List ℕ) → IsLawfulOrder g joined order → (i j : ℕ)
+    → Path g i j → StandsBefore order i j
 kept_along g joined order w i j p = along i p.0 p.1
   where
     along : (i : ℕ) (between : List ℕ) → IsChain g (i ∷ (between ++ j ∷ [])) → StandsBefore order i j
@@ -54,7 +59,8 @@ kept_along g joined order w i j p = along i p.0 p.1
     along i (k ∷ more) c = stands_along order i j k w.once (w.kept i k c.0) (along k more c.1)
 
 -- Lists one after the other.
-pairs_append : (R : ℕ → ℕ → Type 0) (xs ys : List ℕ) → AllPairs R xs → AllPairs R ys → ((i j : ℕ) → Contains xs i → Contains ys j → R i j) → AllPairs R (xs ++ ys)
+pairs_append : (R : ℕ → ℕ → Type 0) (xs ys : List ℕ) → AllPairs R xs → AllPairs R ys
+    → ((i j : ℕ) → Contains xs i → Contains ys j → R i j) → AllPairs R (xs ++ ys)
 pairs_append R xs ys f h across a b d lt l =
     let sum : length (xs ++ ys) ≡ length xs + length ys = length-append xs ys in
     elim (cases_lt b (length xs)) [
@@ -62,26 +68,32 @@ pairs_append R xs ys f h across a b d lt l =
       | inr past_b ↦
           let b' : ℕ = b - length xs in
           let is_b : length xs + b' ≡ b = omega arith in
-          let at_b : get_or (xs ++ ys) b d ≡ get_or ys b' d = ap (λ k. get_or (xs ++ ys) k d) (sym is_b) ∙ get_or-append-add xs ys b' d in
+          let at_b : get_or (xs ++ ys) b d ≡ get_or ys b' d = ap (λ k. get_or (xs ++ ys) k d) (sym is_b)
+              ∙ get_or-append-add xs ys b' d in
           elim (cases_lt a (length xs)) [
-            | inl in_a ↦ rw (get_or_append_left xs ys d a in_a, at_b) (across (get_or xs a d) (get_or ys b' d) (Contains-get_or xs a d in_a) (Contains-get_or ys b' d (omega arith)))
+            | inl in_a ↦ rw (get_or_append_left xs ys d a in_a, at_b)
+                (across (get_or xs a d) (get_or ys b' d) (Contains-get_or xs a d in_a)
+                (Contains-get_or ys b' d (omega arith)))
             | inr past_a ↦
                 let a' : ℕ = a - length xs in
                 let is_a : length xs + a' ≡ a = omega arith in
-                let at_a : get_or (xs ++ ys) a d ≡ get_or ys a' d = ap (λ k. get_or (xs ++ ys) k d) (sym is_a) ∙ get_or-append-add xs ys a' d in
+                let at_a : get_or (xs ++ ys) a d ≡ get_or ys a' d = ap (λ k. get_or (xs ++ ys) k d) (sym is_a)
+                    ∙ get_or-append-add xs ys a' d in
                 rw (at_a, at_b) (h a' b' d (omega arith) (omega arith))
           ]
     ]
 
 -- what holds within each batch, and of an earlier one and a later one
-pairs_by_batch : (R : ℕ → ℕ → Type 0) (bs : List (List ℕ)) → All (AllPairs R) bs → ((a b i j : ℕ) → a < b → Contains (batch_at bs a) i → Contains (batch_at bs b) j → R i j) → AllPairs R (concat bs)
+pairs_by_batch : (R : ℕ → ℕ → Type 0) (bs : List (List ℕ)) → All (AllPairs R) bs
+    → ((a b i j : ℕ) → a < b → Contains (batch_at bs a) i → Contains (batch_at bs b) j → R i j) → AllPairs R (concat bs)
 pairs_by_batch R [] f h = λ a b d lt l. absurd (omega arith)
 pairs_by_batch R (xs ∷ bs) f h = pairs_append R xs (concat bs) (All-head (AllPairs R) xs bs f)
     (pairs_by_batch R bs (All-tail (AllPairs R) xs bs f) (λ a b i j lt p q. h (suc a) (suc b) i j (omega arith) p q))
     (λ i j p q. let r = concat-Contains bs j q in h 0 (suc r.0) i j (omega arith) p r.1)
 
 -- the batches one after the other are in order of batch number, and then of addition
-pub in_turn_order : (g : Graph) (joined : List Bool) (bs : List (List ℕ)) → AreBatches g joined bs → IsTurnOrder g joined (concat bs)
+pub in_turn_order : (g : Graph) (joined : List Bool) (bs : List (List ℕ)) → AreBatches g joined bs
+    → IsTurnOrder g joined (concat bs)
 in_turn_order g joined bs h = record {
   of_joined = λ i. (
     λ c. let r = concat-Contains bs i c in ((h.of_number r.0 i).0 r.1).0,
@@ -103,7 +115,8 @@ in_turn_order g joined bs h = record {
 }
 
 -- none runs before itself
-runs_once : (g : Graph) (joined : List Bool) (order : List ℕ) → IsTurnOrder g joined order → AllPairs (λ i j. i ≢ j) order
+runs_once : (g : Graph) (joined : List Bool) (order : List ℕ) → IsTurnOrder g joined order
+    → AllPairs (λ i j. i ≢ j) order
 runs_once g joined order t a b d lt l e =
     let i : ℕ = get_or order a d in
     let n = t.all i ((t.of_joined i).0 (Contains-get_or order a d (omega arith))) in
@@ -132,17 +145,23 @@ in_lawful_order g joined order among t = record {
         | inr o ↦ elim o [
           | inl lt ↦ lt
           | inr gt ↦
-              let back : RunsBefore g j i = subst (RunsBefore g j) a.1.1 (subst (λ k. RunsBefore g k (get_or order a.0 0)) b.1.1 (t.in_order b.0 a.0 0 gt a.1.0)) in
-              elim (back n.0 m.0 n.1 m.1) [ inl x ↦ absurd (omega arith) | inr x ↦ let one : n.0 ≡ m.0 = x.0 in absurd (omega arith) ]
+              let back : RunsBefore g j i =
+                  subst (RunsBefore g j) a.1.1
+                  (subst (λ k. RunsBefore g k (get_or order a.0 0)) b.1.1 (t.in_order b.0 a.0 0 gt a.1.0)) in
+              elim (back n.0 m.0 n.1 m.1)
+                  [ inl x ↦ absurd (omega arith) | inr x ↦ let one : n.0 ≡ m.0 = x.0 in absurd (omega arith) ]
         ]
       ] in
       stands order i j a.0 b.0 first b.1.0 a.1.1 b.1.1;
 }
 
 -- no two systems of a batch conflict
-pub none_conflict : (accesses : List Access) (rules : List Rule) (joined : List Bool) (g : Graph) (bs : List (List ℕ)) → length joined ≡ length accesses
-    → Settles (AreInConflict accesses joined) (rules_among joined rules) (pairs (length accesses)) g → AreBatches g joined bs → All (NoneConflict accesses) bs
-none_conflict accesses rules joined g bs len settled h = All-from_get_or (NoneConflict accesses) bs [] (λ b l a c d lt l2 x.
+pub none_conflict : (accesses : List Access) (rules : List Rule) (joined : List Bool) (g : Graph) (bs : List (List ℕ))
+    → length joined ≡ length accesses
+    → Settles (AreInConflict accesses joined) (rules_among joined rules) (pairs (length accesses)) g
+    → AreBatches g joined bs → All (NoneConflict accesses) bs
+none_conflict accesses rules joined g bs len settled h =
+    All-from_get_or (NoneConflict accesses) bs [] (λ b l a c d lt l2 x.
     let batch : List ℕ = batch_at bs b in
     let i : ℕ = get_or batch a d in
     let j : ℕ = get_or batch c d in
@@ -150,8 +169,11 @@ none_conflict accesses rules joined g bs len settled h = All-from_get_or (NoneCo
     let at_i = (h.of_number b i).0 (Contains-get_or batch a d (omega arith)) in
     let at_j = (h.of_number b j).0 (Contains-get_or batch c d l2) in
     let below : j < length joined = joined_in joined j at_j.0 in
-    let in_conflict : AreInConflict accesses joined i j = record { first_joined = at_i.0; second_joined = at_j.0; conflict = x } in
-    elim (settles_covers (AreInConflict accesses joined) (pairs (length accesses)) (rules_among joined rules) g settled i j (Contains-pairs (length accesses) i j rising (omega arith)) in_conflict) [
+    let in_conflict : AreInConflict accesses joined i j =
+        record { first_joined = at_i.0; second_joined = at_j.0; conflict = x } in
+    elim (settles_covers (AreInConflict accesses joined) (pairs (length accesses))
+        (rules_among joined rules) g settled i j
+        (Contains-pairs (length accesses) i j rising (omega arith)) in_conflict) [
       | inl p ↦ let r : b < b = number_rises g i j b b p at_i.1 at_j.1 in absurd (omega arith)
       | inr p ↦ let r : b < b = number_rises g j i b b p at_j.1 at_i.1 in absurd (omega arith)
     ])

@@ -13,11 +13,13 @@ use Rattle.msg_order.proofs.SettledPairs.{settles_once, settles_covers, Contains
 use Rattle.msg_order.proofs.SetPaths.{joined_in}
 
 pub fewer_make_none : FewerSystemsMakeNoCycle
-fewer_make_none rules joined fewer among free i p = free i (path_grows (rules_among fewer rules) (rules_among joined rules) (λ a b e.
+fewer_make_none rules joined fewer among free i p =
+    free i (path_grows (rules_among fewer rules) (rules_among joined rules) (λ a b e.
     let all : Graph = map (λ (r : Rule). (r.earlier, r.later)) rules in
     let q = filter-Contains (λ (e : ℕ × ℕ). has_joined fewer e.0 && has_joined fewer e.1) all (a, b) e in
     let both = and_parts (has_joined fewer a) (has_joined fewer b) q.1 in
-    Contains-filter (λ (e : ℕ × ℕ). has_joined joined e.0 && has_joined joined e.1) all (a, b) q.0 (and_from (has_joined joined a) (has_joined joined b) (among a both.0) (among b both.1))) i i p)
+    Contains-filter (λ (e : ℕ × ℕ). has_joined joined e.0 && has_joined joined e.1) all (a, b) q.0
+        (and_from (has_joined joined a) (has_joined joined b) (among a both.0) (among b both.1))) i i p)
 
 conflict_sym : (a b : Access) → Conflict a b → Conflict b a
 conflict_sym a b c = (c.0, elim c.1 [ inl x ↦ inr x | inr x ↦ inl x ])
@@ -30,15 +32,20 @@ conflicts_ordered accesses rules joined order len settled i j ne at_i at_j confl
     elim (cases_order i j) [
       | inl e ↦ absurd (ne e)
       | inr o ↦ elim o [
-        | inl l ↦ settles_covers C (pairs (length accesses)) (rules_among joined rules) order settled i j (Contains-pairs (length accesses) i j l (omega arith))
+        | inl l ↦ settles_covers C (pairs (length accesses)) (rules_among joined rules) order settled i j
+            (Contains-pairs (length accesses) i j l (omega arith))
             (record { first_joined = at_i; second_joined = at_j; conflict = conflict })
-        | inr l ↦ elim (settles_covers C (pairs (length accesses)) (rules_among joined rules) order settled j i (Contains-pairs (length accesses) j i l (omega arith))
-            (record { first_joined = at_j; second_joined = at_i; conflict = conflict_sym (access_of accesses i) (access_of accesses j) conflict })) [ inl p ↦ inr p | inr p ↦ inl p ]
+        | inr l ↦ elim (settles_covers C (pairs (length accesses)) (rules_among joined rules) order settled j i
+            (Contains-pairs (length accesses) j i l (omega arith))
+            (record { first_joined = at_j; second_joined = at_i;
+                conflict = conflict_sym (access_of accesses i) (access_of accesses j) conflict }))
+                [ inl p ↦ inr p | inr p ↦ inl p ]
       ]
     ]
 
 pub settled_once : SettledOrderIsUnique
-settled_once accesses rules joined g h a b = settles_once (AreInConflict accesses joined) (pairs (length accesses)) (rules_among joined rules) g h a b
+settled_once accesses rules joined g h a b = settles_once (AreInConflict accesses joined) (pairs (length accesses))
+    (rules_among joined rules) g h a b
 
 -- Lists of the same elements, in an order that holds one way only, are one list.
 ahead : (R : ℕ → ℕ → Type 0) (x : ℕ) (xs : List ℕ) → AllPairs R (x ∷ xs) → (i : ℕ) → Contains xs i → R x i
@@ -47,7 +54,8 @@ ahead R x xs r i c = subst (R x) c.2 (r 0 (suc c.0) i (omega arith) (omega (arit
 tail_pairs : (R : ℕ → ℕ → Type 0) (x : ℕ) (xs : List ℕ) → AllPairs R (x ∷ xs) → AllPairs R xs
 tail_pairs R x xs r a b d lt l = r (suc a) (suc b) d (omega arith) (omega arith)
 
-pub same_ordered : (R : ℕ → ℕ → Type 0) (xs ys : List ℕ) → ((i j : ℕ) → Contains xs i → Contains xs j → R i j → R j i → ⊥) → AllPairs R xs → AllPairs R ys
+pub same_ordered : (R : ℕ → ℕ → Type 0) (xs ys : List ℕ)
+    → ((i j : ℕ) → Contains xs i → Contains xs j → R i j → R j i → ⊥) → AllPairs R xs → AllPairs R ys
     → ((i : ℕ) → Contains xs i → Contains ys i) → ((i : ℕ) → Contains ys i → Contains xs i) → xs ≡ ys
 same_ordered R [] [] one_way r s f h = refl
 same_ordered R [] (y ∷ ys) one_way r s f h = absurd (not_in_none y (h y (Contains-head y ys)))
@@ -63,7 +71,8 @@ same_ordered R (x ∷ xs) (y ∷ ys) one_way r s f h =
         | inr d ↦ absurd (one_way x y x_in y_in (ahead R x xs r y d) (ahead R y ys s x c))
       ]
     ] in
-    let rest : xs ≡ ys = same_ordered R xs ys (λ i j p q. one_way i j (Contains-tail x xs i p) (Contains-tail x xs j q)) (tail_pairs R x xs r) (tail_pairs R y ys s)
+    let rest : xs ≡ ys = same_ordered R xs ys (λ i j p q. one_way i j (Contains-tail x xs i p) (Contains-tail x xs j q))
+        (tail_pairs R x xs r) (tail_pairs R y ys s)
     (λ i c. elim (Contains-cases y ys i (f i (Contains-tail x xs i c))) [
       | inl e ↦ absurd (once (subst (R x) (sym e ∙ sym first) (ahead R x xs r i c)))
       | inr d ↦ d
@@ -74,17 +83,21 @@ same_ordered R (x ∷ xs) (y ∷ ys) one_way r s f h =
     ]) in
     ap (λ k. k ∷ xs) first ∙ ap (λ ks. y ∷ ks) rest
 
-pub same_rising : (xs ys : List ℕ) → AllPairs (λ a b. a < b) xs → AllPairs (λ a b. a < b) ys → ((i : ℕ) → Contains xs i → Contains ys i) → ((i : ℕ) → Contains ys i → Contains xs i) → xs ≡ ys
+pub same_rising : (xs ys : List ℕ) → AllPairs (λ a b. a < b) xs → AllPairs (λ a b. a < b) ys
+    → ((i : ℕ) → Contains xs i → Contains ys i) → ((i : ℕ) → Contains ys i → Contains xs i) → xs ≡ ys
 same_rising xs ys r s f h = same_ordered (λ a b. a < b) xs ys (λ i j p q a b. omega arith) r s f h
 
 -- lists with the same element at each place
-same_at : (bs cs : List (List ℕ)) → length bs ≡ length cs → ((b : ℕ) → b < length bs → batch_at bs b ≡ batch_at cs b) → bs ≡ cs
+same_at : (bs cs : List (List ℕ)) → length bs ≡ length cs
+    → ((b : ℕ) → b < length bs → batch_at bs b ≡ batch_at cs b) → bs ≡ cs
 same_at [] [] e f = refl
 same_at [] (c ∷ cs) e f = absurd (omega arith)
 same_at (b ∷ bs) [] e f = absurd (omega arith)
-same_at (b ∷ bs) (c ∷ cs) e f = ap (λ k. k ∷ bs) (f 0 (omega arith)) ∙ ap (λ ks. c ∷ ks) (same_at bs cs (omega arith) (λ k l. f (suc k) (omega arith)))
+same_at (b ∷ bs) (c ∷ cs) e f = ap (λ k. k ∷ bs) (f 0 (omega arith))
+    ∙ ap (λ ks. c ∷ ks) (same_at bs cs (omega arith) (λ k l. f (suc k) (omega arith)))
 
-no_longer : (g : Graph) (joined : List Bool) (bs cs : List (List ℕ)) → AreBatches g joined bs → AreBatches g joined cs → length bs ≤ length cs
+no_longer : (g : Graph) (joined : List Bool) (bs cs : List (List ℕ)) → AreBatches g joined bs → AreBatches g joined cs
+    → length bs ≤ length cs
 no_longer g joined bs cs h k = elim (cases_lt (length cs) (length bs)) [
   | inr l ↦ l
   | inl l ↦
@@ -110,4 +123,5 @@ batches_once g joined bs cs h k =
     (λ i c. (h.of_number b i).1 ((k.of_number b i).0 c)))
 
 pub numbers_rise : BatchNumbersRise
-numbers_rise g i j m n a b = (λ e. number_once g j m n (subst (λ k. IsBatchNumber g k m) e a) b, λ p. number_rises g i j m n p a b)
+numbers_rise g i j m n a b =
+    (λ e. number_once g j m n (subst (λ k. IsBatchNumber g k m) e a) b, λ p. number_rises g i j m n p a b)

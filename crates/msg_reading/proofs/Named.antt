@@ -39,8 +39,10 @@ module _ {A : Type 0} (checks : Declared → Data → List Check) (denotes : Dec
             ∙ ap (λ l. first_refusal (checks_in_turn checks with_one names (map view l))) (drop_more items i d lt)
             ∙ first_refusal-passed (checks names here) (checks_in_turn checks with_one after rest) passes;
         denoted = left.denoted
-            ∙ ap (λ l. option_map (λ r. read ++ r) (each_in_turn denotes with_one names (map view l))) (drop_more items i d lt)
-            ∙ ap (λ o. option_map (λ r. read ++ r) (both (λ b r. b ∷ r) o (each_in_turn denotes with_one after rest))) is
+            ∙ ap (λ l. option_map (λ r. read ++ r) (each_in_turn denotes with_one names (map view l)))
+            (drop_more items i d lt)
+            ∙ ap (λ o. option_map (λ r. read ++ r) (both (λ b r. b ∷ r) o (each_in_turn denotes with_one after rest)))
+            is
             ∙ one_more_before read a (each_in_turn denotes with_one after rest);
         declared = left.declared ∙ ap (λ l. with_all with_one names (map view l)) (drop_more items i d lt);
       }

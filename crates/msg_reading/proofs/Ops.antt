@@ -23,7 +23,8 @@ op_of_many names head xs many = absurd (omega (arith, many))
 pub batch_passed : (names : Declared) (d e : Data) (xs : List Value) (name : Text) (t : ℕ)
     → as_str d ≡ Some name → is_list_of_numbers e ≡ true → as_array e ≡ Some (items_view xs)
     → type_number names name ≡ Some t
-    → first_refusal (needs (is_text d && is_list_of_numbers e) Shape ∷ a_type names d ∷ few_values e ∷ map a_value (elements e))
+    → first_refusal (needs (is_text d && is_list_of_numbers e) Shape ∷ a_type names d ∷ few_values e
+    ∷ map a_value (elements e))
     ≡ first_refusal (needs (nat_le (length xs) 1024) TooMany ∷ map a_value (map view xs))
 batch_passed names d e xs name t is all list found =
     let are = elements_are e xs (sym list) in

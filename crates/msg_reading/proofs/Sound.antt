@@ -42,7 +42,8 @@ as_many_systems d =
     let none : (part_names d).systems ≡ [] =
     names_keep (λ n. n.systems) with_resource (λ n e. refl) (type_names d) (elements (resources_in d))
     ∙ names_keep (λ n. n.systems) with_type (λ n e. refl) no_names (elements (types_in d)) in
-    names_grow (λ n. n.systems) with_system (λ n e. grind (arith, common_steps)) (part_names d) (elements (systems_in d))
+    names_grow (λ n. n.systems) with_system (λ n e. grind (arith, common_steps)) (part_names d)
+        (elements (systems_in d))
     ∙ ap (λ l. length l + length (elements (systems_in d))) none ∙ omega arith
 
 -- as many names of types as types, and of resources as resources
@@ -50,14 +51,16 @@ pub as_many_types : (d : Data) → length (part_names d).types ≡ length (eleme
 unfolding part_names type_names
 as_many_types d =
     ap length (names_keep (λ n. n.types) with_resource (λ n e. refl) (type_names d) (elements (resources_in d)))
-    ∙ names_grow (λ n. n.types) with_type (λ n e. grind (arith, common_steps)) no_names (elements (types_in d)) ∙ omega arith
+    ∙ names_grow (λ n. n.types) with_type (λ n e. grind (arith, common_steps)) no_names (elements (types_in d))
+    ∙ omega arith
 
 pub as_many_resources : (d : Data) → length (part_names d).resources ≡ length (elements (resources_in d))
 unfolding type_names part_names
 as_many_resources d =
     let none : (type_names d).resources ≡ [] =
     names_keep (λ n. n.resources) with_type (λ n e. refl) no_names (elements (types_in d)) in
-    names_grow (λ n. n.resources) with_resource (λ n e. grind (arith, common_steps)) (type_names d) (elements (resources_in d))
+    names_grow (λ n. n.resources) with_resource (λ n e. grind (arith, common_steps)) (type_names d)
+        (elements (resources_in d))
     ∙ ap (λ l. length l + length (elements (resources_in d))) none ∙ omega arith
 
 -- ---- rules
@@ -71,7 +74,8 @@ abbrev IsBelow : ℕ → Rule → Type 0
 IsBelow n rule = (rule.earlier < n) × (rule.later < n)
 
 rule_below : (names : Declared) (d : Data) → Holds (IsBelow (length names.systems)) (rule_of names d)
-rule_below names d = in_two _ _ (elements d) (λ a b. in_both _ _ (system_number names (text a)) (system_number names (text b))
+rule_below names d =
+    in_two _ _ (elements d) (λ a b. in_both _ _ (system_number names (text a)) (system_number names (text b))
     (λ i j is at. (system_below names a i is, system_below names b j at)))
 
 -- rules among systems that have all joined are all the rules

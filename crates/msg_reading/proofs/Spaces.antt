@@ -25,14 +25,16 @@ module _ {A : Type 0} (p : A → Bool) where
   found-any (x ∷ xs) =
       elim (p x) as (λ b. nat_lt (cond (not b) (1 + position_or_len p xs) 0) (length (x ∷ xs)) ≡ (b || list_any p xs)) [
         | true ↦ grind (arith, common_steps)
-        | false ↦ let one : nat_lt (1 + position_or_len p xs) (length (x ∷ xs)) ≡ nat_lt (position_or_len p xs) (length xs) = grind (arith, common_steps) in one ∙ found-any xs
+        | false ↦ let one : nat_lt (1 + position_or_len p xs) (length (x ∷ xs))
+            ≡ nat_lt (position_or_len p xs) (length xs) = grind (arith, common_steps) in one ∙ found-any xs
       ]
 
   -- where none is found, none passes
   pub none-any : (xs : List A) → position p xs ≡ None → list_any p xs ≡ false
   none-any xs none =
       sym (found-any xs)
-      ∙ (elim (nat_lt (position_or_len p xs) (length xs)) as (λ b. cond b (Some (position_or_len p xs)) None ≡ None → b ≡ false) [
+      ∙ (elim (nat_lt (position_or_len p xs) (length xs)) as (λ b. cond b (Some (position_or_len p xs)) None ≡ None
+      → b ≡ false) [
         | true ↦ λ e. cc
         | false ↦ λ e. refl
       ]) none

@@ -35,7 +35,8 @@ module _ (names : Declared) (d : Data) where
       → first_refusal (program_checks names d) ≡ first_refusal (ops_of_kind names k ops ++ after_ops)
   program_from k ops is at =
       ap (λ o. if is_some o then first_refusal (ops_checks names d ++ after_ops) else Some Shape) is
-      ∙ ap (λ b. first_refusal ((list_checks 64 (op_checks names) (value_at (codes "ops") d) ++ needs b Shape ∷ []) ++ after_ops))
+      ∙ ap (λ b. first_refusal ((list_checks 64 (op_checks names) (value_at (codes "ops") d) ++ needs b Shape ∷ [])
+      ++ after_ops))
       (kind_known k is)
       ∙ ap (λ o. first_refusal (ops_of_kind names k o ++ after_ops)) at
 
@@ -64,16 +65,21 @@ system_misnamed names d n e passed at bad =
     (refuses_by (name_checks names (value_at (codes "name") d)) (name_checks names n) e
     (ap (λ o. first_refusal (name_checks names o)) at) bad))
 
-pub system_denoted : (names : Declared) (d n : Data) (name : Text) (kind : Kind) (ops : List Op) (place : Place) (start : Start)
-    → value_at (codes "name") d ≡ n → Some (text n) ≡ Some name → kind_of (kind_in d) ≡ Some kind → ops_of names d ≡ Some ops
+pub system_denoted : (names : Declared) (d n : Data) (name : Text) (kind : Kind) (ops : List Op) (place : Place)
+    (start : Start)
+    → value_at (codes "name") d ≡ n → Some (text n) ≡ Some name → kind_of (kind_in d) ≡ Some kind
+    → ops_of names d ≡ Some ops
     → place_of names d ≡ Some place → start_of (start_in d) ≡ Some start
     → system_of names d
     ≡ Some (record { name = name; kind = kind; program = record { ops = ops; start = start }; place = place })
 system_denoted names d n name kind ops place start at named k o p s =
     let built : Text → Kind → List Op → Place → Start → SystemSpec
     = λ t y os pl st. record { name = t; kind = y; program = record { ops = os; start = st }; place = pl } in
-    ap (option_and_then (λ y. option_and_then (λ os. both (built (text (value_at (codes "name") d)) y os) (place_of names d) (start_of (start_in d))) (ops_of names d))) k
-    ∙ ap (option_and_then (λ os. both (built (text (value_at (codes "name") d)) kind os) (place_of names d) (start_of (start_in d)))) o
+    ap (option_and_then (λ y. option_and_then
+        (λ os. both (built (text (value_at (codes "name") d)) y os) (place_of names d) (start_of (start_in d)))
+        (ops_of names d))) k
+    ∙ ap (option_and_then (λ os. both (built (text (value_at (codes "name") d)) kind os) (place_of names d)
+    (start_of (start_in d)))) o
     ∙ both_denoted (built (text (value_at (codes "name") d)) kind ops) p s
     ∙ ap (λ v. Some (built (text v) kind ops place start)) at
     ∙ ap (option_map (λ t. built t kind ops place start)) named

@@ -10,7 +10,8 @@ use Rattle.msg_system.proofs.Accesses.{uses_needs}
 pub is_there : (n : Needs) (a : Access) (types resources : ℕ) → IsAccessOf n a → Fits types resources a
     → (p : Part) → IsTrue (needs_any n p) → HasPart types resources p
 is_there n a types resources of fits (OfType t) needed = fits.types_below t (uses_needs n a of (OfType t) ∙ needed)
-is_there n a types resources of fits (OfResource r) needed = fits.resources_below r (uses_needs n a of (OfResource r) ∙ needed)
+is_there n a types resources of fits (OfResource r) needed =
+    fits.resources_below r (uses_needs n a of (OfResource r) ∙ needed)
 is_there n a types resources of fits Registry needed = tt
 
 -- and the other way round

@@ -36,14 +36,16 @@ there_too xs ys i x same there =
 abbrev unheld : Scenario → WorldState
 unheld s = new_world (map (λ named. named.1) s.types) (map (λ named. named.1) s.resources)
 
-pub stands_unheld : (s : Scenario) (w : Parts) (limits : List ℕ) (values : List ℤ) → limits ≡ map (λ named. named.1) s.types
+pub stands_unheld : (s : Scenario) (w : Parts) (limits : List ℕ) (values : List ℤ) → limits
+    ≡ map (λ named. named.1) s.types
     → values ≡ map (λ named. named.1) s.resources → PartsStand w (new_world limits values) → PartsStand w (unheld s)
 stands_unheld s w limits values types resources stands =
     subst (λ ls. PartsStand w (new_world ls (map (λ named. named.1) s.resources))) types
     (subst (λ vs. PartsStand w (new_world limits vs)) resources stands)
 
 -- the first world is that, held or not
-pub stands_held : (s : Scenario) (w : Parts) (b : Bool) → s.held ≡ b → PartsStand w (if b then held_world (unheld s) else unheld s)
+pub stands_held : (s : Scenario) (w : Parts) (b : Bool) → s.held ≡ b
+    → PartsStand w (if b then held_world (unheld s) else unheld s)
     → PartsStand w (first_world s)
 stands_held s w b is stands = subst (λ k. PartsStand w (if k then held_world (unheld s) else unheld s)) (sym is) stands
 
@@ -83,7 +85,8 @@ module _ {S : Type 0} (m : S → Meaning) where
       → map m xs ≡ meanings_of s
   all_made s xs same each =
       all_from s.systems xs 0 same
-      (λ i j x spec is here there. subst (λ k. m x ≡ new_system spec.program k) (sym (zero-add i) ∙ is) (each i x here spec there))
+      (λ i j x spec is here there. subst (λ k. m x ≡ new_system spec.program k) (sym (zero-add i) ∙ is)
+          (each i x here spec there))
 
   -- each may be added
   pub may_add : (s : Scenario) (w : Parts) (xs : List S) → IsRunnable s → length w.types ≡ length s.types
@@ -96,11 +99,13 @@ module _ {S : Type 0} (m : S → Meaning) where
       let needs = ap (λ y. y.needs) is in
       let fine : IsRunnableSystem s spec = all_at (IsRunnableSystem s) s.systems i spec runnable.systems found.1 in
       let placed : (place : Place) → slice_get (places_of s) i ≡ Some place → spec.place ≡ place =
-      λ place sp. some_same (sym (slice_get-map (λ (y : SystemSpec). y.place) s.systems i ∙ ap (option_map (λ y. y.place)) found.1) ∙ sp) in
+      λ place sp. some_same (sym (slice_get-map (λ (y : SystemSpec). y.place) s.systems i
+          ∙ ap (option_map (λ y. y.place)) found.1) ∙ sp) in
       record {
         new = subst (IsNew i) (sym is) (record { writer = refl; places = λ t. refl });
         fits = λ place sp p needed. rw (types, resources)
-            (fine.fits p (subst (λ (y : Place). IsTrue (needs_any (job_needs spec.program.ops y.conditions) p)) (sym (placed place sp))
+            (fine.fits p (subst (λ (y : Place). IsTrue (needs_any (job_needs spec.program.ops y.conditions) p))
+                (sym (placed place sp))
             (subst (λ n. IsTrue (needs_any (with_conditions n place.conditions) p)) needs needed)));
         joins = λ place sp. subst (λ (y : Place). (1 ≤ y.join) × (y.join ≤ 10000)) (placed place sp) fine.joins;
       }

@@ -30,7 +30,8 @@ text_so_far_parts : (s : Scenario) (logs : List Log) (accounts : List Account)
     → (rest : Text) × (text_so_far s logs accounts ≡ frames_text s 1 s.frames logs ++ rest)
 text_so_far_parts s logs accounts =
     elim (length logs == length s.frames) as (λ b. (rest : Text)
-    × ((if b then report_text s logs accounts else frames_text s 1 s.frames logs) ≡ frames_text s 1 s.frames logs ++ rest)) [
+    × ((if b then report_text s logs accounts else frames_text s 1 s.frames logs) ≡ frames_text s 1 s.frames logs
+    ++ rest)) [
       | true ↦ (accounts_text s accounts, refl)
       | false ↦ ([], sym (append-nil (frames_text s 1 s.frames logs)))
     ]
@@ -39,7 +40,8 @@ text_so_far_parts s logs accounts =
 text_so_far_whole : (s : Scenario) (logs : List Log) (accounts : List Account) → length logs ≡ length s.frames
     → text_so_far s logs accounts ≡ report_text s logs accounts
 text_so_far_whole s logs accounts all =
-    ap (λ b. if b then report_text s logs accounts else frames_text s 1 s.frames logs) (eq-eqb (length logs) (length s.frames) all)
+    ap (λ b. if b then report_text s logs accounts else frames_text s 1 s.frames logs)
+        (eq-eqb (length logs) (length s.frames) all)
 
 -- the text of frames begins with that of the first of them
 frames_text_front : (s : Scenario) (number n : ℕ) (frames : List Frame) (logs : List Log)
@@ -50,7 +52,8 @@ frames_text_front s number (suc n) (frame ∷ frames) [] = ([], refl)
 frames_text_front s number (suc n) (frame ∷ frames) (log ∷ logs) =
     let here = frame_text s number frame log in
     let more = frames_text_front s (number + 1) n frames logs in
-    (more.0, ap (λ l. here ++ l) more.1 ∙ sym (append_assoc here (frames_text s (number + 1) frames (take n logs)) more.0))
+    (more.0, ap (λ l. here ++ l) more.1
+        ∙ sym (append_assoc here (frames_text s (number + 1) frames (take n logs)) more.0))
 
 -- ---- runs
 
@@ -94,12 +97,14 @@ module _ {X : Type 0} (meaning : X → Meaning) where
     pub posts_fit : (k : ℕ) (before now : Option (List ℕ)) (e : EngineOf X) (frame : Frame)
         → ReportSoFar meaning s k before now e → PostsAreToTypes s frame → PostsFit e frame
     posts_fit k before now e frame far fit =
-        fits e.core far.state frame.posts far.stands.core (subst (λ n. All (λ p. p.0 < n) frame.posts) (sym far.types) fit)
+        fits e.core far.state frame.posts far.stands.core
+            (subst (λ n. All (λ p. p.0 < n) frame.posts) (sym far.types) fit)
 
     -- ---- a frame
 
     -- the frame after the first k was run, and its text isn't put yet
-    pub record JustRun (k : ℕ) (before now : Option (List ℕ)) (frame : Frame) (log : Log) (e : EngineOf X) : Type 0 where
+    pub record JustRun (k : ℕ) (before now : Option (List ℕ)) (frame : Frame) (log : Log)
+        (e : EngineOf X) : Type 0 where
       pub earlier : List Log
       pub state : State
       pub as_many : length earlier ≡ k
@@ -111,7 +116,8 @@ module _ {X : Type 0} (meaning : X → Meaning) where
           ≡ frames_text s 1 s.frames earlier ++ frame_text s (k + 1) frame log
       pub stands : StandsFor meaning e state
 
-    pub just_run : FramesKeepSystems → (k : ℕ) (before now : Option (List ℕ)) (e f : EngineOf X) (frame : Frame) (log : Log)
+    pub just_run : FramesKeepSystems → (k : ℕ) (before now : Option (List ℕ)) (e f : EngineOf X) (frame : Frame)
+        (log : Log)
         → ReportSoFar meaning s k before now e → k < length s.frames → frame ≡ get_or s.frames k frame
         → ((u : State) → StandsFor meaning e u → HasRunFrame meaning frame u log f) → JustRun k before now frame log f
     just_run keep k before now e f frame log far lt is ran =
@@ -167,7 +173,8 @@ module _ {X : Type 0} (meaning : X → Meaning) where
           let first = frames_text s 1 s.frames just.earlier in
           let here = frame_text s (k + 1) frame log in
           let rest = text_so_far_parts s (just.earlier ++ log ∷ []) (accounts_of just.state) in
-          let part : AppendsPrefix now after here = subst (λ n. AppendsPrefix now after (frame_text s n frame log)) is puts in
+          let part : AppendsPrefix now after here =
+              subst (λ n. AppendsPrefix now after (frame_text s n frame log)) is puts in
           let sum = length-append just.earlier (log ∷ []) in
           let many = just.as_many in
           let length_is : length (just.earlier ++ log ∷ []) ≡ k + 1 = omega (arith, sum, many) in
@@ -177,12 +184,15 @@ module _ {X : Type 0} (meaning : X → Meaning) where
           record {
             logs = just.earlier ++ log ∷ [];
             state = just.state;
-            is_run = subst (λ n. IsRun (take n s.frames) (state_of s) (just.earlier ++ log ∷ []) just.state) (sym length_is) just.is_run;
+            is_run = subst (λ n. IsRun (take n s.frames) (state_of s) (just.earlier ++ log ∷ []) just.state)
+                (sym length_is) just.is_run;
             stands = just.stands;
             counted = just.stands.frames ∙ ap (λ n. min n (2 ^ 32 - 1)) (just.frames ∙ sym length_is);
             printed = AppendsPrefix_after before now after first here rest.0 _
                 (rest.1 ∙ ap (λ l. l ++ rest.0) just.next) just.printed part;
-            last = inl (AppendsPrefix_after before now after first here [] _ (just.next ∙ sym (append-nil (first ++ here))) just.printed part);
+            last =
+                inl (AppendsPrefix_after before now after first here [] _
+                (just.next ∙ sym (append-nil (first ++ here))) just.printed part);
             earlier = (
               part.0,
               subst (λ l. Appends before after (frames_text s 1 s.frames l ++ part.0)) (sym earlier)
@@ -192,7 +202,8 @@ module _ {X : Type 0} (meaning : X → Meaning) where
 
     -- ---- no memory
 
-    pub run_out : (k : ℕ) (before now : Option (List ℕ)) (e f : EngineOf X) → ReportSoFar meaning s k before now e → k < length s.frames
+    pub run_out : (k : ℕ) (before now : Option (List ℕ)) (e f : EngineOf X) → ReportSoFar meaning s k before now e
+        → k < length s.frames
         → frames_of f ≡ frames_of e → IsSpoiled f → HasRunOut meaning s before now f
     run_out k before now e f far lt counted spoiled =
         let many = far.as_many in
@@ -206,9 +217,11 @@ module _ {X : Type 0} (meaning : X → Meaning) where
         }
 
     -- a frame answers nothing else, as the engine wasn't spoiled
-    pub no_memory_for_frame : (k : ℕ) (before now : Option (List ℕ)) (e f : EngineOf X) (r : Result Log RunFault) (fault : RunFault)
+    pub no_memory_for_frame : (k : ℕ) (before now : Option (List ℕ)) (e f : EngineOf X) (r : Result Log RunFault)
+        (fault : RunFault)
         → ReportSoFar meaning s k before now e → k < length s.frames → r ≡ Err fault → (r ≡ Err Spoiled → IsSpoiled e)
-        → ¬ (r ≡ Err BadOrder) → (r ≡ Err NoMemory → IsSpoiled f) → (r ≡ Err NoMemory → frames_of f ≡ frames_of e) → HasRunOut meaning s before now f
+        → ¬ (r ≡ Err BadOrder) → (r ≡ Err NoMemory → IsSpoiled f) → (r ≡ Err NoMemory → frames_of f ≡ frames_of e)
+        → HasRunOut meaning s before now f
     no_memory_for_frame k before now e f r Spoiled far lt is spoiled in_order out counted =
         absurd (not_spoiled e far.state far.stands (spoiled is))
     no_memory_for_frame k before now e f r BadOrder far lt is spoiled in_order out counted = absurd (in_order is)
@@ -241,8 +254,10 @@ module _ {X : Type 0} (meaning : X → Meaning) where
         logs = far.logs;
         state = far.state;
         complete = complete s.frames far.logs far.state
-            (subst (λ fs. IsRun fs (state_of s) far.logs far.state) (ap (λ n. take n s.frames) all ∙ take-length s.frames) far.is_run);
-        printed = Appends-trans before now after (frames_text s 1 s.frames far.logs) (accounts_text s (accounts_of far.state))
+            (subst (λ fs. IsRun fs (state_of s) far.logs far.state)
+                (ap (λ n. take n s.frames) all ∙ take-length s.frames) far.is_run);
+        printed = Appends-trans before now after (frames_text s 1 s.frames far.logs)
+            (accounts_text s (accounts_of far.state))
             far.printed (subst (λ l. Appends now after (accounts_text s l)) (are far.state far.stands) puts);
         stands = far.stands;
       }

@@ -3,7 +3,8 @@ use Rattle.std.proofs.Common.{◌≡◌, ℕ, ◌+◌, ◌<◌, ◌++◌, List, 
 use Rattle.std.proofs.lemmas.List.{drop-set-lt, drop_more, map-append, take_more, take_more_set}
 use Rattle.std.proofs.lemmas.Grind.{drop_more_same}
 
-module _ {X : Type 0} (xs ys : List X) (i : ℕ) (rest : drop i ys ≡ drop i xs) (lx : i < length xs) (ly : i < length ys) where
+module _ {X : Type 0} (xs ys : List X) (i : ℕ) (rest : drop i ys ≡ drop i xs) (lx : i < length xs)
+    (ly : i < length ys) where
   -- what isn't reached yet is as it was
   pub not_reached : (d : X) → get_or ys i d ≡ get_or xs i d
   not_reached d = let p = drop_more xs i d lx in let q = drop_more ys i d ly in cc
@@ -11,6 +12,8 @@ module _ {X : Type 0} (xs ys : List X) (i : ℕ) (rest : drop i ys ≡ drop i xs
   pub rest_later : (y : X) → drop (i + 1) (set ys i y) ≡ drop (i + 1) xs
   rest_later y = drop-set-lt (i + 1) ys i y (omega arith) ∙ drop_more_same ys xs i rest
 
-  pub changed_later : (f : X → X) (y d : X) → take i ys ≡ map f (take i xs) → y ≡ f (get_or xs i d) → take (i + 1) (set ys i y) ≡ map f (take (i + 1) xs)
-  changed_later f y d changed is = take_more_set ys i y ly ∙ ap (λ zs. zs ++ y ∷ []) changed ∙ ap (λ z. map f (take i xs) ++ z ∷ []) is
+  pub changed_later : (f : X → X) (y d : X) → take i ys ≡ map f (take i xs) → y ≡ f (get_or xs i d)
+      → take (i + 1) (set ys i y) ≡ map f (take (i + 1) xs)
+  changed_later f y d changed is = take_more_set ys i y ly ∙ ap (λ zs. zs ++ y ∷ []) changed
+      ∙ ap (λ z. map f (take i xs) ++ z ∷ []) is
       ∙ sym (ap (map f) (take_more xs i d lx) ∙ map-append f (take i xs) (get_or xs i d ∷ []))

@@ -18,15 +18,21 @@ writable_is_shown p l there = grind (arith, cases_Bool, false≢true)
 pub can_be_shown : (p : Part) (l : Lent) → IsSome (writable p l) → IsSome (shown p l)
 can_be_shown p l there = rw (writable_is_shown p l there) there
 
-pub messages_stand : (l : Lent) (s : WorldState) (t : ℕ) (k : Kept Record) → Some k ≡ shown (OfType t) l → LoanStands l s → StandsFor k (s.histories t)
-messages_stand l s t k is stand = let P : Option (Kept Record) → Type 0 = λ o. IfSome o (λ x. StandsFor x (s.histories t)) in subst P (sym is) (stand (OfType t))
+pub messages_stand : (l : Lent) (s : WorldState) (t : ℕ) (k : Kept Record) → Some k ≡ shown (OfType t) l
+    → LoanStands l s → StandsFor k (s.histories t)
+messages_stand l s t k is stand = let P : Option (Kept Record)
+    → Type 0 = λ o. IfSome o (λ x. StandsFor x (s.histories t)) in subst P (sym is) (stand (OfType t))
 
-pub value_stands : (l : Lent) (s : WorldState) (r : ℕ) (z : ℤ) → Some z ≡ shown (OfResource r) l → LoanStands l s → z ≡ s.resources r
-value_stands l s r z is stand = let P : Option ℤ → Type 0 = λ o. IfSome o (λ x. x ≡ s.resources r) in subst P (sym is) (stand (OfResource r))
+pub value_stands : (l : Lent) (s : WorldState) (r : ℕ) (z : ℤ) → Some z ≡ shown (OfResource r) l → LoanStands l s → z
+    ≡ s.resources r
+value_stands l s r z is stand = let P : Option ℤ
+    → Type 0 = λ o. IfSome o (λ x. x ≡ s.resources r) in subst P (sym is) (stand (OfResource r))
 
-pub written_messages_stand : (l : Lent) (s : WorldState) (t : ℕ) (k : Kept Record) → IsSome (writable (OfType t) l) → Some k ≡ writable (OfType t) l → LoanStands l s
+pub written_messages_stand : (l : Lent) (s : WorldState) (t : ℕ) (k : Kept Record) → IsSome (writable (OfType t) l)
+    → Some k ≡ writable (OfType t) l → LoanStands l s
     → StandsFor k (s.histories t)
-written_messages_stand l s t k there is stand = messages_stand l s t k (is ∙ sym (writable_is_shown (OfType t) l there)) stand
+written_messages_stand l s t k there is stand =
+    messages_stand l s t k (is ∙ sym (writable_is_shown (OfType t) l there)) stand
 
 module _ (h : History Record) (n : ℕ) where
   room_true : count h + n ≤ h.limit → has_room h n ≡ true
@@ -52,11 +58,13 @@ pub on_err : {T E : Type 0} (r : Result T E) (P : Type 0) → P → OnErr r P
 on_err r P z2 = grind arith
 
 -- a write that doesn't fit changes nothing
-pub spent_stands : (h : History Record) (ms : List Record) (k : Kept Record) → h.limit < count h + length ms → StandsFor k h → StandsFor k (write ms h)
+pub spent_stands : (h : History Record) (ms : List Record) (k : Kept Record) → h.limit < count h + length ms
+    → StandsFor k h → StandsFor k (write ms h)
 spent_stands h ms k spent stands = grind (arith, room_false)
 
 -- what a function makes of items, where it gives what `f` gives
-pub made_by : {X M : Type 0} (R : X → M → Type 0) (f : X → M) → ((x : X) (m : M) → R x m → m ≡ f x) → (xs : List X) (ms : List M) → AllZip R xs ms → ms ≡ map f xs
+pub made_by : {X M : Type 0} (R : X → M → Type 0) (f : X → M) → ((x : X) (m : M) → R x m → m ≡ f x)
+    → (xs : List X) (ms : List M) → AllZip R xs ms → ms ≡ map f xs
 made_by R f is [] [] made = refl
 made_by R f is [] (m ∷ ms) made = absurd made
 made_by R f is (x ∷ xs) [] made = absurd made

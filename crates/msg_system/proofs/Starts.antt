@@ -20,7 +20,8 @@ module _ (R : ℕ → Bool) (start : Start) (counts : List ℕ) (old : Cursors) 
     pub later : (t : ℕ) → n ≤ t → places_of new t ≡ places_of old t
 
   module _ (n : ℕ) (new : Cursors) (far : StartedBelow n new) where
-    pub set_started : (place : ℕ) → n < length new.by_type → R n ≡ true → place ≡ start_place start counts n → StartedBelow (n + 1) (moved new n place)
+    pub set_started : (place : ℕ) → n < length new.by_type → R n ≡ true → place ≡ start_place start counts n
+        → StartedBelow (n + 1) (moved new n place)
     set_started place lt read at = grind (arith, cases_eq, get_or-set_same, get_or-set_other)
 
     pub not_started : R n ≡ false → StartedBelow (n + 1) new

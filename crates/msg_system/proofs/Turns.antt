@@ -14,7 +14,8 @@ use Rattle.msg_system.proofs.Runs.{after_program-snoc, same_part_refl, written_s
 
 -- ---- a program keeps to what it needs
 
-none_or_all : (holds : Part → Bool) (o : Option Part) → ((p : Part) → IsTrue (is_part o p) → IsTrue (holds p)) → IsTrue (is_none_or holds o)
+none_or_all : (holds : Part → Bool) (o : Option Part) → ((p : Part) → IsTrue (is_part o p) → IsTrue (holds p))
+    → IsTrue (is_none_or holds o)
 none_or_all holds o p = grind (arith, same_part_refl)
 
 listed : (r k w : Bool) → IsTrue r → IsTrue ((r && not (k && w)) || (k && w))
@@ -26,21 +27,27 @@ op_kept ops i op is =
     let at = get_or_from_slice_get ops i op op is in
     let n : Needs = program_needs ops in
     and_from _ _
-    (none_or_all (may_read n) (op_parts op).read (λ p h. listed (some_op_reads ops p) (is_resource p) (some_op_writes ops p)
+    (none_or_all (may_read n) (op_parts op).read
+        (λ p h. listed (some_op_reads ops p) (is_resource p) (some_op_writes ops p)
     (list_any_at (λ o. (op_needs o).reads p) ops i op lt (ap (λ o. (op_needs o).reads p) at ∙ h))))
-    (none_or_all n.writes (op_parts op).written (λ p h. list_any_at (λ o. (op_needs o).writes p) ops i op lt (ap (λ o. (op_needs o).writes p) at ∙ h)))
+    (none_or_all n.writes (op_parts op).written
+        (λ p h. list_any_at (λ o. (op_needs o).writes p) ops i op lt (ap (λ o. (op_needs o).writes p) at ∙ h)))
 
-program_next : (program : Program) (w : ℕ) (ps : ℕ → ℕ) (rs : List Reply) → next_op (of_program program w ps) rs ≡ slice_get program.ops (length rs)
+program_next : (program : Program) (w : ℕ) (ps : ℕ → ℕ) (rs : List Reply) → next_op (of_program program w ps) rs
+    ≡ slice_get program.ops (length rs)
 program_next program w ps rs = grind (arith, op_kept)
 
-program_nexts : (program : Program) (w : ℕ) (ps : ℕ → ℕ) → next_op (of_program program w ps) ≡ (λ (rs : List Reply). slice_get program.ops (length rs))
+program_nexts : (program : Program) (w : ℕ) (ps : ℕ → ℕ) → next_op (of_program program w ps)
+    ≡ (λ (rs : List Reply). slice_get program.ops (length rs))
 program_nexts program w ps = λ k rs. program_next program w ps rs k
 
 -- ---- a program is its ops in order
 
-pub one_reply_each : (ops : List Op) (w : ℕ) (ps : ℕ → ℕ) (s : WorldState) → length (after_program ops w ps s).replies ≡ length ops
+pub one_reply_each : (ops : List Op) (w : ℕ) (ps : ℕ → ℕ) (s : WorldState) → length (after_program ops w ps s).replies
+    ≡ length ops
 one_reply_each [] w ps s = refl
-one_reply_each (op ∷ ops) w ps s = let e : AfterOp = after_op op w ps s in ap suc (one_reply_each ops w e.places e.state)
+one_reply_each (op ∷ ops) w ps s = let e : AfterOp =
+    after_op op w ps s in ap suc (one_reply_each ops w e.places e.state)
 
 -- as far as so many ops
 so_far : (ops : List Op) (n w : ℕ) (ps : ℕ → ℕ) (s : WorldState)
@@ -48,15 +55,18 @@ so_far : (ops : List Op) (n w : ℕ) (ps : ℕ → ℕ) (s : WorldState)
 so_far ops zero w ps s = refl
 so_far ops (suc n) w ps s =
     let far : AfterProgram = after_program (take n ops) w ps s in
-    let more : (e : AfterProgram) → e ≡ far → one_more (slice_get ops (length e.replies)) w e ≡ one_more (slice_get ops (length (take n ops))) w far =
-    λ e is. ap (λ x. one_more (slice_get ops (length x.replies)) w x) is ∙ ap (λ k. one_more (slice_get ops k) w far) (one_reply_each (take n ops) w ps s) in
+    let more : (e : AfterProgram) → e ≡ far → one_more (slice_get ops (length e.replies)) w e
+        ≡ one_more (slice_get ops (length (take n ops))) w far =
+    λ e is. ap (λ x. one_more (slice_get ops (length x.replies)) w x) is
+        ∙ ap (λ k. one_more (slice_get ops k) w far) (one_reply_each (take n ops) w ps s) in
     more (after_at_most n (λ replies. slice_get ops (length replies)) w ps s) (so_far ops n w ps s)
     ∙ elim (slice_get_cases ops n).1 [
       | inl h ↦
           ap (λ k. one_more (slice_get ops k) w far) (length-take-le n ops (omega (arith, h.1)))
           ∙ ap (λ o. one_more o w far) h.2
           ∙ sym (after_program-snoc (take n ops) h.0 w ps s)
-          ∙ ap (λ xs. after_program xs w ps s) (sym (ap (λ k. take k ops) (the_suc n) ∙ take_more ops n h.0 h.1 ∙ ap (λ x. take n ops ++ x ∷ []) h.3))
+          ∙ ap (λ xs. after_program xs w ps s)
+          (sym (ap (λ k. take k ops) (the_suc n) ∙ take_more ops n h.0 h.1 ∙ ap (λ x. take n ops ++ x ∷ []) h.3))
       | inr h ↦
           ap (λ (o : Option Op). one_more o w far) (slice_get_past ops (length (take n ops)) (whole n ops h.0))
           ∙ ap (λ xs. after_program xs w ps s) (take_all n ops h.0 ∙ sym (take_all (suc n) ops (omega (arith, h.0))))
@@ -75,13 +85,16 @@ program_so_far program n w ps s few =
     ap (λ next. after_at_most n next w ps s) (program_nexts program w ps) ∙ so_far program.ops n w ps s
     ∙ ap (λ xs. after_program xs w ps s) (take_all n program.ops few)
 
-pub ops_answered-snoc : (next : List Reply → Option Op) (rs : List Reply) (r : Reply) → ops_answered next (rs ++ r ∷ []) ≡ ops_answered next rs ++ option_to_list (next rs)
+pub ops_answered-snoc : (next : List Reply → Option Op) (rs : List Reply) (r : Reply) → ops_answered next (rs ++ r ∷ [])
+    ≡ ops_answered next rs ++ option_to_list (next rs)
 ops_answered-snoc next [] r = append-nil (option_to_list (next []))
 ops_answered-snoc next (x ∷ rs) r =
     ap (λ xs. option_to_list (next []) ++ xs) (ops_answered-snoc (λ now. next (x ∷ now)) rs r)
-    ∙ sym (append_assoc (option_to_list (next [])) (ops_answered (λ now. next (x ∷ now)) rs) (option_to_list (next (x ∷ rs))))
+    ∙ sym (append_assoc (option_to_list (next [])) (ops_answered (λ now. next (x ∷ now)) rs)
+    (option_to_list (next (x ∷ rs))))
 
-answered_first : (ops : List Op) (rs : List Reply) → ops_answered (λ replies. slice_get ops (length replies)) rs ≡ take (length rs) ops
+answered_first : (ops : List Op) (rs : List Reply) → ops_answered (λ replies. slice_get ops (length replies)) rs
+    ≡ take (length rs) ops
 answered_first ops [] = refl
 answered_first [] (r ∷ rs) = answered_first [] rs ∙ no_more (length rs)
   where
@@ -103,7 +116,8 @@ in_order program w ps s few =
     let m : Meaning = of_program program w ps in
     let is : turn m s ≡ after_program program.ops w ps s = program_so_far program 64 w ps s few in
     let all : ops_answered (next_op m) (turn m s).replies ≡ program.ops =
-    answered_all program w ps (turn m s).replies (ap (λ (e : AfterProgram). length e.replies) is ∙ one_reply_each program.ops w ps s) in
+    answered_all program w ps (turn m s).replies
+        (ap (λ (e : AfterProgram). length e.replies) is ∙ one_reply_each program.ops w ps s) in
     (is, ap (λ ops. record (of_program program w (turn m s).places) { last = ops }) all)
 
 -- ---- an op that keeps to what is needed
@@ -116,7 +130,8 @@ pub record IsKept (n : Needs) (op : Op) : Type 0 where
 same_part_is : (p q : Part) → IsTrue (same_part p q) → p ≡ q
 same_part_is p q z2 = grind (arith, eqb-true, false≢true)
 
-at_part : (holds : Part → Bool) (o : Option Part) (p : Part) → IsTrue (is_none_or holds o) → IsTrue (is_part o p) → IsTrue (holds p)
+at_part : (holds : Part → Bool) (o : Option Part) (p : Part) → IsTrue (is_none_or holds o) → IsTrue (is_part o p)
+    → IsTrue (holds p)
 at_part holds o p z3 z4 = grind (arith, false≢true, same_part_is)
 
 pub kept : (n : Needs) (op : Op) → IsTrue (keeps_to n op) → IsKept n op
@@ -132,20 +147,26 @@ next_kept_to n (Some x) op is = elim (cases_Bool (keeps_to n x)) [
 
 -- ---- a run of a program
 
-pub ran_program : (program : Program) (w : ℕ) (ps qs : ℕ → ℕ) (l m : Lent) (taken : Parts) (before after : List Reply) → length program.ops ≤ 64
-    → ProgramRan program.ops w ps qs l m before after → HasReplies before after (length program.ops) → SameLoan l m → taken ≡ taken_of m
+pub ran_program : (program : Program) (w : ℕ) (ps qs : ℕ → ℕ) (l m : Lent) (taken : Parts) (before after : List Reply)
+    → length program.ops ≤ 64
+    → ProgramRan program.ops w ps qs l m before after → HasReplies before after (length program.ops) → SameLoan l m
+    → taken ≡ taken_of m
     → Ran (of_program program w ps) (of_program program w qs) l taken before after
 ran_program program w ps qs l m taken before after few ran replies same is =
-    let as_turn : (s : WorldState) → turn (of_program program w ps) s ≡ after_program program.ops w ps s = λ s. (in_order program w ps s few).0 in
+    let as_turn : (s : WorldState) → turn (of_program program w ps) s
+        ≡ after_program program.ops w ps s = λ s. (in_order program w ps s few).0 in
     record {
       replies = replies.0;
       appended = replies.1;
       one_each = sym replies.2;
-      means = ap (λ ops. record (of_program program w qs) { last = ops }) (sym (answered_all program w ps replies.0 replies.2));
+      means = ap (λ ops. record (of_program program w qs) { last = ops })
+          (sym (answered_all program w ps replies.0 replies.2));
       state = λ s stands. subst (λ (e : AfterProgram). WrittenStand l taken e.state) (sym (as_turn s))
           (written_stand l m taken (after_program program.ops w ps s).state same is (ran s stands).stands);
-      answers = λ s stands. sym (drop-append_seam before replies.0) ∙ ap (drop (length before)) (sym replies.1 ∙ (ran s stands).same_replies)
-          ∙ drop-append_seam before (after_program program.ops w ps s).replies ∙ ap (λ (e : AfterProgram). e.replies) (sym (as_turn s));
+      answers = λ s stands. sym (drop-append_seam before replies.0)
+          ∙ ap (drop (length before)) (sym replies.1 ∙ (ran s stands).same_replies)
+          ∙ drop-append_seam before (after_program program.ops w ps s).replies
+          ∙ ap (λ (e : AfterProgram). e.replies) (sym (as_turn s));
       places = λ s stands. (ran s stands).same_places ∙ ap (λ (e : AfterProgram). e.places) (sym (as_turn s));
     }
 

@@ -25,19 +25,24 @@ pub has_bit-zero : (k : ℕ) → has_bit 0 k ≡ false
 has_bit-zero k = ap (λ n. n == 1) (bit_at-zero k)
 
 pub has_bit-or : (a b k : ℕ) → has_bit (bit_or a b) k ≡ (has_bit a k || has_bit b k)
-has_bit-or a b k = ap (λ n. n == 1) (bit_at_or a b k) ∙ or_test (bit_at a k) (bit_at b k) (bit_at-lt a k) (bit_at-lt b k)
+has_bit-or a b k = ap (λ n. n == 1) (bit_at_or a b k)
+    ∙ or_test (bit_at a k) (bit_at b k) (bit_at-lt a k) (bit_at-lt b k)
 
 pub has_bit-and : (a b k : ℕ) → has_bit (bit_and a b) k ≡ (has_bit a k && has_bit b k)
-has_bit-and a b k = ap (λ n. n == 1) (bit_at_and a b k) ∙ and_test (bit_at a k) (bit_at b k) (bit_at-lt a k) (bit_at-lt b k)
+has_bit-and a b k = ap (λ n. n == 1) (bit_at_and a b k)
+    ∙ and_test (bit_at a k) (bit_at b k) (bit_at-lt a k) (bit_at-lt b k)
 
 -- a mask of 64 bits has none from 64 on
 pub has_bit-above : (a k : ℕ) → a < 2 ^ 64 → 64 ≤ k → has_bit a k ≡ false
 has_bit-above a k h l = ap (λ n. n == 1) (bit_at_above a 64 k h l)
 
-pub has_bit-clear : (a b k : ℕ) → a < 2 ^ 64 → b < 2 ^ 64 → has_bit (bit_and a (bit_not w64 b)) k ≡ (has_bit a k && not (has_bit b k))
+pub has_bit-clear : (a b k : ℕ) → a < 2 ^ 64 → b < 2 ^ 64 → has_bit (bit_and a (bit_not w64 b)) k
+    ≡ (has_bit a k && not (has_bit b k))
 has_bit-clear a b k la lb = has_bit-and a (bit_not w64 b) k ∙ elim (cases_lt k 64) [
-  | inl l ↦ ap (λ x. has_bit a k && x) (ap (λ n. n == 1) (bit_at_not w64 b k lb l) ∙ not_test (bit_at b k) (bit_at-lt b k))
-  | inr l ↦ ap (λ x. x && has_bit (bit_not w64 b) k) (has_bit-above a k la l) ∙ ap (λ x. x && not (has_bit b k)) (sym (has_bit-above a k la l))
+  | inl l ↦ ap (λ x. has_bit a k && x)
+      (ap (λ n. n == 1) (bit_at_not w64 b k lb l) ∙ not_test (bit_at b k) (bit_at-lt b k))
+  | inr l ↦ ap (λ x. x && has_bit (bit_not w64 b) k) (has_bit-above a k la l)
+      ∙ ap (λ x. x && not (has_bit b k)) (sym (has_bit-above a k la l))
 ]
 
 -- `mask | (1 << k)`
@@ -48,7 +53,8 @@ has_bit-set mask k j h = elim (cases_eq j k) [
 ]
 
 -- `mask & !(1 << k)`
-pub has_bit-unset : (mask k j : ℕ) → k < 64 → j < 64 → has_bit (bit_and mask (bit_not w64 (1 * 2 ^ k % 2 ^ 64))) j ≡ (not (j == k) && has_bit mask j)
+pub has_bit-unset : (mask k j : ℕ) → k < 64 → j < 64 → has_bit (bit_and mask (bit_not w64 (1 * 2 ^ k % 2 ^ 64))) j
+    ≡ (not (j == k) && has_bit mask j)
 has_bit-unset mask k j h l = elim (cases_eq j k) [
   | inl e ↦ rw (e, eq-eqb k k refl) (ap (λ n. n == 1) (bit_at_clear_same w64 mask k h))
   | inr ne ↦ rw (ne_eqb j k ne) (ap (λ n. n == 1) (bit_at_clear_other w64 mask k h j l ne))
@@ -67,7 +73,8 @@ share_bit-and a b fits =
       λ t. let bit = some_bit (bit_and a b) (omega arith) (eqb-false (bit_and a b) 0 (not-true (bit_and a b == 0) t)) in
           (bit.0, sym (has_bit-and a b bit.0) ∙ bit.1.1),
       λ s. elim (cases_eq (bit_and a b) 0) [
-        | inl e ↦ absurd (false≢true (sym (has_bit-zero s.0) ∙ ap (λ n. has_bit n s.0) (sym e) ∙ has_bit-and a b s.0 ∙ s.1))
+        | inl e ↦ absurd (false≢true (sym (has_bit-zero s.0) ∙ ap (λ n. has_bit n s.0) (sym e)
+            ∙ has_bit-and a b s.0 ∙ s.1))
         | inr ne ↦ ap not (ne_eqb (bit_and a b) 0 ne)
       ],
     )
@@ -81,7 +88,8 @@ shr-is_below mask n fits = (
         let k' : ℕ = k - n in
         let is : n + k' ≡ k = omega arith in
         let gone : mask / 2 ^ n ≡ 0 = eqb-true (mask / 2 ^ n) 0 t in
-        absurd (false≢true (sym (has_bit-zero k') ∙ ap (λ m. has_bit m k') (sym gone) ∙ ap (λ m. m % 2 == 1) (shr-shr mask n k') ∙ ap (has_bit mask) is ∙ bit))
+        absurd (false≢true (sym (has_bit-zero k') ∙ ap (λ m. has_bit m k') (sym gone)
+            ∙ ap (λ m. m % 2 == 1) (shr-shr mask n k') ∙ ap (has_bit mask) is ∙ bit))
   ],
   λ below. elim (cases_eq (mask / 2 ^ n) 0) [
     | inl e ↦ eq-eqb (mask / 2 ^ n) 0 e
@@ -106,7 +114,8 @@ some_bit_of (suc fuel) n h ne = elim (cases_eq (n % 2) 1) [
 pub decide_share : (a b : ℕ) → ShareBit a b ⊎ (ShareBit a b → ⊥)
 decide_share a b = elim (cases_eq (bit_and a b) 0) [
   | inl e ↦ inr (λ s. false≢true (sym (has_bit-zero s.0) ∙ ap (λ n. has_bit n s.0) (sym e) ∙ has_bit-and a b s.0 ∙ s.1))
-  | inr ne ↦ let r = some_bit_of (bit_and a b) (bit_and a b) (omega arith) ne in inl (r.0, sym (has_bit-and a b r.0) ∙ r.1)
+  | inr ne ↦ let r = some_bit_of (bit_and a b) (bit_and a b) (omega arith) ne in inl
+      (r.0, sym (has_bit-and a b r.0) ∙ r.1)
 ]
 
 -- bit k of a mask that was shifted
@@ -114,7 +123,8 @@ shifted : (mask n k : ℕ) → has_bit (mask / 2 ^ n) k ≡ has_bit mask (n + k)
 shifted mask n k = ap (λ m. m % 2 == 1) (shr-shr mask n k)
 
 shifted-from : (mask n k : ℕ) → n ≤ k → has_bit mask k ≡ has_bit (mask / 2 ^ n) (k - n)
-shifted-from mask n k le = let e : n + (k - n) ≡ k = omega arith in ap (has_bit mask) (sym e) ∙ sym (shifted mask n (k - n))
+shifted-from mask n k le = let e : n + (k - n) ≡ k = omega arith in ap (has_bit mask) (sym e)
+    ∙ sym (shifted mask n (k - n))
 
 -- no bit is set from n on where nothing is left of the mask
 pub none_from : (mask n : ℕ) → mask / 2 ^ n ≡ 0 → (k : ℕ) → n ≤ k → has_bit mask k ≡ false
@@ -125,11 +135,14 @@ module _ (mask n : ℕ) (fits : mask < 2 ^ 64) (some : mask / 2 ^ n ≢ 0) where
   rest_fits : mask / 2 ^ n < 2 ^ 64
   rest_fits = let le : mask / 2 ^ n ≤ mask = div-le_self mask (2 ^ n) in omega arith
 
-  lowest : (trailing_zeros w64 (mask / 2 ^ n) < 64) × (bit_at (mask / 2 ^ n) (trailing_zeros w64 (mask / 2 ^ n)) ≡ 1) × ((i : ℕ) → i < trailing_zeros w64 (mask / 2 ^ n) → bit_at (mask / 2 ^ n) i ≡ 0)
+  lowest : (trailing_zeros w64 (mask / 2 ^ n) < 64) × (bit_at (mask / 2 ^ n) (trailing_zeros w64 (mask / 2 ^ n)) ≡ 1)
+      × ((i : ℕ) → i < trailing_zeros w64 (mask / 2 ^ n) → bit_at (mask / 2 ^ n) i ≡ 0)
   lowest = bit_at-trailing_zeros w64 (mask / 2 ^ n) (omega arith) rest_fits
 
   pub next_is_set : IsTrue (has_bit mask (n + trailing_zeros w64 (mask / 2 ^ n)))
-  next_is_set = sym (sym (eq-eqb (bit_at (mask / 2 ^ n) (trailing_zeros w64 (mask / 2 ^ n))) 1 lowest.1) ∙ shifted mask n (trailing_zeros w64 (mask / 2 ^ n)))
+  next_is_set =
+      sym (sym (eq-eqb (bit_at (mask / 2 ^ n) (trailing_zeros w64 (mask / 2 ^ n))) 1 lowest.1)
+      ∙ shifted mask n (trailing_zeros w64 (mask / 2 ^ n)))
 
   pub next_is_below : n + trailing_zeros w64 (mask / 2 ^ n) < 64
   next_is_below = grind (arith, cases_lt, false≢true, has_bit-above, next_is_set)
@@ -144,15 +157,18 @@ ones_from mask n = ones_step (mask / 2 ^ n) ∙ ap (λ m. mask / 2 ^ n % 2 + cou
 
 -- one less from the next number on, where the bit is set
 pub one_less : (mask n : ℕ) → IsTrue (has_bit mask n) → count_ones (mask / 2 ^ n) ≡ count_ones (mask / 2 ^ (n + 1)) + 1
-one_less mask n set = let step = ones_from mask n in let one : mask / 2 ^ n % 2 ≡ 1 = eqb-true (mask / 2 ^ n % 2) 1 set in omega arith
+one_less mask n set = let step = ones_from mask n in let one : mask / 2 ^ n % 2
+    ≡ 1 = eqb-true (mask / 2 ^ n % 2) 1 set in omega arith
 
 -- as many, where none is set before the next number
-pub as_many_ones : (mask n d : ℕ) → ((k : ℕ) → n ≤ k → k < n + d → has_bit mask k ≡ false) → count_ones (mask / 2 ^ (n + d)) ≡ count_ones (mask / 2 ^ n)
+pub as_many_ones : (mask n d : ℕ) → ((k : ℕ) → n ≤ k → k < n + d → has_bit mask k ≡ false)
+    → count_ones (mask / 2 ^ (n + d)) ≡ count_ones (mask / 2 ^ n)
 as_many_ones mask n zero none = let same : n + 0 ≡ n = omega arith in ap (λ k. count_ones (mask / 2 ^ k)) same
 as_many_ones mask n (suc d) none =
     let step = ones_from mask (n + d) in
     let lt : mask / 2 ^ (n + d) % 2 < 2 = bit_at-lt mask (n + d) in
-    let unset : mask / 2 ^ (n + d) % 2 ≢ 1 = eqb-false (mask / 2 ^ (n + d) % 2) 1 (none (n + d) (omega arith) (omega arith)) in
+    let unset : mask / 2 ^ (n + d) % 2 ≢ 1 =
+        eqb-false (mask / 2 ^ (n + d) % 2) 1 (none (n + d) (omega arith) (omega arith)) in
     let rest = as_many_ones mask n d (λ k le l. none k le (omega arith)) in
     let next : n + suc d ≡ n + d + 1 = omega arith in
     ap (λ k. count_ones (mask / 2 ^ k)) next ∙ omega arith
@@ -160,7 +176,8 @@ as_many_ones mask n (suc d) none =
 -- ---- the bits below a number
 
 -- below the next bit after n are those below n, and n
-pub below_next : (mask n next : ℕ) → IsTrue (has_bit mask n) → n < next → ((k : ℕ) → n + 1 ≤ k → k < next → has_bit mask k ≡ false)
+pub below_next : (mask n next : ℕ) → IsTrue (has_bit mask n) → n < next
+    → ((k : ℕ) → n + 1 ≤ k → k < next → has_bit mask k ≡ false)
     → (k : ℕ) → (has_bit mask k && nat_lt k next) ≡ (k == n || (has_bit mask k && nat_lt k n))
 below_next mask n next set lt none k = grind (arith, cases_eq, eq-eqb, lt-ltb, cases_lt, ne_eqb, le-ltb)
 
@@ -169,4 +186,6 @@ pub all_below : (mask n : ℕ) → mask < 2 ^ 64 → 64 ≤ n → (k : ℕ) → 
 all_below mask n fits past k = grind (arith, cases_lt, lt-ltb, and-true, has_bit-above)
 
 -- what the functions of masks are proved by
-pub ruleset of_masks = (has_bit-or, has_bit-set, has_bit-clear, has_bit-above, share_bit-and, shr-is_below, none_from, next_is_set, next_is_below, none_before_next, as_many_ones)
+pub ruleset of_masks =
+    (has_bit-or, has_bit-set, has_bit-clear, has_bit-above, share_bit-and, shr-is_below, none_from, next_is_set,
+    next_is_below, none_before_next, as_many_ones)

@@ -7,15 +7,18 @@ use Rattle.msg_world.specs.inner.Masks.{ShareBit, Collide, IsBelow}
 use Rattle.msg_world.proofs.Bits.{has_bit-or, decide_share}
 
 -- a bit of one mask and of either of two
-pub share_bit-or : (w s v : ℕ) → ShareBit w (bit_or s v) ↔ ((k : ℕ) × IsTrue (has_bit w k && (has_bit s k || has_bit v k)))
+pub share_bit-or : (w s v : ℕ) → ShareBit w (bit_or s v)
+    ↔ ((k : ℕ) × IsTrue (has_bit w k && (has_bit s k || has_bit v k)))
 share_bit-or w s v = grind (arith, has_bit-or)
 
 pub is_below-or : (r w n : ℕ) → IsBelow (bit_or r w) n ↔ ((k : ℕ) → IsTrue (has_bit r k || has_bit w k) → k < n)
 is_below-or r w n = (λ b k u. b k (has_bit-or r w k ∙ u), λ b k u. b k (sym (has_bit-or r w k) ∙ u))
 
 -- the tests of the masks say whether there is such a part
-pub conflicts_lem : (a b : Access) (types resources : Bool) → IsTrue types ↔ Collide a.read_types a.write_types b.read_types b.write_types
-    → IsTrue resources ↔ Collide a.read_res a.write_res b.read_res b.write_res → IsTrue ((types || resources) || (a.registry && b.registry)) ↔ Conflict a b
+pub conflicts_lem : (a b : Access) (types resources : Bool) → IsTrue types
+    ↔ Collide a.read_types a.write_types b.read_types b.write_types
+    → IsTrue resources ↔ Collide a.read_res a.write_res b.read_res b.write_res
+    → IsTrue ((types || resources) || (a.registry && b.registry)) ↔ Conflict a b
 conflicts_lem a b types resources t r = (
   λ h. elim (or_cases (types || resources) (a.registry && b.registry) h) [
     | inr g ↦ (Registry, inl g)
@@ -27,13 +30,16 @@ conflicts_lem a b types resources t r = (
   λ c. found c.0 c.1,
 )
   where
-    of_masks : (p : Part) → IsTrue (writes a p && uses b p) ⊎ IsTrue (writes b p && uses a p) → IsTrue types ⊎ (IsTrue resources ⊎ IsTrue (a.registry && b.registry))
+    of_masks : (p : Part) → IsTrue (writes a p && uses b p) ⊎ IsTrue (writes b p && uses a p) → IsTrue types
+        ⊎ (IsTrue resources ⊎ IsTrue (a.registry && b.registry))
     of_masks (OfType k) h = inl (t.1 (k, h))
     of_masks (OfResource k) h = inr (inl (r.1 (k, h)))
     of_masks Registry (inl h) = inr (inr h)
-    of_masks Registry (inr h) = let both = and_parts b.registry a.registry h in inr (inr (and_from a.registry b.registry both.1 both.0))
+    of_masks Registry (inr h) = let both =
+        and_parts b.registry a.registry h in inr (inr (and_from a.registry b.registry both.1 both.0))
 
-    found : (p : Part) → IsTrue (writes a p && uses b p) ⊎ IsTrue (writes b p && uses a p) → IsTrue ((types || resources) || (a.registry && b.registry))
+    found : (p : Part) → IsTrue (writes a p && uses b p) ⊎ IsTrue (writes b p && uses a p)
+        → IsTrue ((types || resources) || (a.registry && b.registry))
     found p h = elim (of_masks p h) [
       | inl x ↦ or_left (types || resources) (a.registry && b.registry) (or_left types resources x)
       | inr x ↦ elim x [
@@ -50,7 +56,8 @@ decide_masks r w s v = elim (decide_share w (bit_or s v)) [
   | inl x ↦ let c = (share_bit-or w s v).0 x in inl (c.0, inl c.1)
   | inr no_first ↦ elim (decide_share v (bit_or r w)) [
     | inl x ↦ let c = (share_bit-or v r w).0 x in inl (c.0, inr c.1)
-    | inr no_second ↦ inr (λ c. elim c.1 [ inl x ↦ no_first ((share_bit-or w s v).1 (c.0, x)) | inr x ↦ no_second ((share_bit-or v r w).1 (c.0, x)) ])
+    | inr no_second ↦ inr (λ c. elim c.1
+        [ inl x ↦ no_first ((share_bit-or w s v).1 (c.0, x)) | inr x ↦ no_second ((share_bit-or v r w).1 (c.0, x)) ])
   ]
 ]
 
@@ -67,9 +74,11 @@ decide_conflict a b = elim (decide_masks a.read_types a.write_types b.read_types
   ]
 ]
   where
-    none : (p : Part) → (Collide a.read_types a.write_types b.read_types b.write_types → ⊥) → (Collide a.read_res a.write_res b.read_res b.write_res → ⊥)
+    none : (p : Part) → (Collide a.read_types a.write_types b.read_types b.write_types → ⊥)
+        → (Collide a.read_res a.write_res b.read_res b.write_res → ⊥)
         → (a.registry && b.registry) ≡ false → IsTrue (writes a p && uses b p) ⊎ IsTrue (writes b p && uses a p) → ⊥
     none (OfType k) x y f h = x (k, h)
     none (OfResource k) x y f h = y (k, h)
     none Registry x y f (inl h) = false≢true (sym f ∙ h)
-    none Registry x y f (inr h) = let both = and_parts b.registry a.registry h in false≢true (sym f ∙ and_from a.registry b.registry both.1 both.0)
+    none Registry x y f (inr h) = let both =
+        and_parts b.registry a.registry h in false≢true (sym f ∙ and_from a.registry b.registry both.1 both.0)

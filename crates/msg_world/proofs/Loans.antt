@@ -10,7 +10,8 @@ use Rattle.msg_world.specs.Prelude.{Access, HomeAgain, HomeMerges, LendsOut, Len
 use Rattle.msg_world.proofs.Worlds.{type_shape}
 use Rattle.std.proofs.lemmas.Option.{none-some}
 
-same_marks : (m : Option Marks) (n : Marks) → IfSome m (λ k. k ≡ n) → IfSome (option_map signalled_marks m) (λ k. k ≡ signalled_marks n)
+same_marks : (m : Option Marks) (n : Marks) → IfSome m (λ k. k ≡ n)
+    → IfSome (option_map signalled_marks m) (λ k. k ≡ signalled_marks n)
 same_marks m n z2 = grind arith
 
 still_some : (m : Option Marks) → is_some (option_map signalled_marks m) ≡ is_some m
@@ -28,11 +29,13 @@ with_signal_shape w = record { size = record { types = refl; resources = refl };
     there Registry = still_some w.marks
 
 -- a loan of the registry, after a signal
-pub signal_stands : (l : Lent) (s : WorldState) → l.access.registry ≡ true → LoanStands l s → LoanStands (record l { taken = with_signal l.taken }) (after_signal s)
+pub signal_stands : (l : Lent) (s : WorldState) → l.access.registry ≡ true → LoanStands l s
+    → LoanStands (record l { taken = with_signal l.taken }) (after_signal s)
 signal_stands l s lent stand (OfType t) = stand (OfType t)
 signal_stands l s lent stand (OfResource r) = stand (OfResource r)
 signal_stands l s lent stand Registry =
-    let P : Bool → Type 0 = λ b. IfSome (if b then option_map signalled_marks l.taken.marks else None) (λ k. k ≡ signalled_marks s.marks) in
+    let P : Bool → Type 0 = λ b. IfSome (if b then option_map signalled_marks l.taken.marks else None)
+        (λ k. k ≡ signalled_marks s.marks) in
     let Q : Bool → Type 0 = λ b. IfSome (if b then l.taken.marks else None) (λ k. k ≡ s.marks) in
     subst P (sym lent) (same_marks l.taken.marks s.marks (subst Q lent (stand Registry)))
 
@@ -56,7 +59,9 @@ writes_are l t k there =
       λ s h here stand. stands s h here stand written.0 lt,
     )
   where
-    stands : (s : WorldState) (h : History Record) → StandsFor k h → LoanStands l s → IsTrue (writes l.access (OfType t)) → t < length l.taken.types → LoanStands (with_messages l t k) (with_history s t h)
+    stands : (s : WorldState) (h : History Record) → StandsFor k h → LoanStands l s
+        → IsTrue (writes l.access (OfType t)) → t < length l.taken.types
+        → LoanStands (with_messages l t k) (with_history s t h)
     stands s h here stand written lt (OfType u) = elim (cases_eq u t) [
       | inl e ↦ rw (e, written, get_or-set_same l.taken.types t (Some k) None lt, eq-eqb t t refl) here
       | inr ne ↦ rw (get_or-set_other l.taken.types t u (Some k) None ne, ne_eqb u t ne) (stand (OfType u))
@@ -64,8 +69,10 @@ writes_are l t k there =
     stands s h here stand written lt (OfResource r) = stand (OfResource r)
     stands s h here stand written lt Registry = stand Registry
 
-value_shape : (w : Parts) (r : ℕ) (z : ℤ) → r < length w.resources → IsSome (slot (OfResource r) w) → SameShape w (with_value w r z)
-value_shape w r z lt there = record { size = record { types = refl; resources = length-set w.resources r (Some z) }; there = same }
+value_shape : (w : Parts) (r : ℕ) (z : ℤ) → r < length w.resources → IsSome (slot (OfResource r) w)
+    → SameShape w (with_value w r z)
+value_shape w r z lt there =
+    record { size = record { types = refl; resources = length-set w.resources r (Some z) }; there = same }
   where
     same : (p : Part) → is_some (slot p (with_value w r z)) ≡ is_some (slot p w)
     same (OfType t) = refl
@@ -83,7 +90,8 @@ values_are_written l r z there =
       λ s stand. stands s stand written.0 lt,
     )
   where
-    stands : (s : WorldState) → LoanStands l s → IsTrue (writes l.access (OfResource r)) → r < length l.taken.resources → LoanStands (with_resource l r z) (with_value_of s r z)
+    stands : (s : WorldState) → LoanStands l s → IsTrue (writes l.access (OfResource r)) → r < length l.taken.resources
+        → LoanStands (with_resource l r z) (with_value_of s r z)
     stands s stand written lt (OfType t) = stand (OfType t)
     stands s stand written lt (OfResource q) = elim (cases_eq q r) [
       | inl e ↦ rw (e, written, get_or-set_same l.taken.resources r (Some z) None lt, eq-eqb r r refl) refl
@@ -94,15 +102,19 @@ values_are_written l r z there =
 -- ---- lending out
 
 -- what is one of two slots, or nothing, stands where they do
-chosen_stands : (p : Part) (s : WorldState) (b : Bool) (o : Option (Stuff p)) → IfSome o (λ k. StuffStands p k (content p s))
-    → IfSome (if b then o else None) (λ k. StuffStands p k (content p s)) × IfSome (if b then None else o) (λ k. StuffStands p k (content p s))
+chosen_stands : (p : Part) (s : WorldState) (b : Bool) (o : Option (Stuff p))
+    → IfSome o (λ k. StuffStands p k (content p s))
+    → IfSome (if b then o else None) (λ k. StuffStands p k (content p s))
+    × IfSome (if b then None else o) (λ k. StuffStands p k (content p s))
 chosen_stands p s b o z4 = grind arith
 
 -- ---- side by side
 
 pub loan_stays : LoanStays
 loan_stays a b world taken left others apart loan lends = record {
-  size = record { types = loan.size.types ∙ sym lends.left_size.types; resources = loan.size.resources ∙ sym lends.left_size.resources };
+  size =
+      record { types = loan.size.types ∙ sym lends.left_size.types; resources = loan.size.resources
+      ∙ sym lends.left_size.resources };
   written = loan.written;
   read = λ p read isnt. elim (cases_Bool (writes b p)) [
     | inl is ↦ absurd (apart (p, inr (and_from (writes b p) (uses a p) is (or_left (reads a p) (writes a p) read))))
@@ -112,18 +124,21 @@ loan_stays a b world taken left others apart loan lends = record {
 
 -- ---- coming home
 
-taken_is_out : (a : Access) (old left taken later : Parts) → LendsOut a old left taken → SameShape taken later → (p : Part) → IsSome (slot p later) → slot p left ≡ None
+taken_is_out : (a : Access) (old left taken later : Parts) → LendsOut a old left taken → SameShape taken later
+    → (p : Part) → IsSome (slot p later) → slot p left ≡ None
 taken_is_out a old left taken later lends same p there = grind (arith, cases_Bool, false≢true)
 
 pub may_come_home : MayComeHome
 may_come_home a old left taken later lends same = grind (arith, taken_is_out)
 
-content_merged : (a : Access) (mine s : WorldState) (p : Part) → content p (merge a mine s) ≡ (if writes a p then content p mine else content p s)
+content_merged : (a : Access) (mine s : WorldState) (p : Part) → content p (merge a mine s)
+    ≡ (if writes a p then content p mine else content p s)
 content_merged a mine s (OfType t) = refl
 content_merged a mine s (OfResource r) = refl
 content_merged a mine s Registry = refl
 
-merged_slot : (p : Part) (b : Bool) (x y : Option (Stuff p)) (mine s : WorldState) → (b ≡ false → x ≡ None) → (b ≡ true → y ≡ None)
+merged_slot : (p : Part) (b : Bool) (x y : Option (Stuff p)) (mine s : WorldState) → (b ≡ false → x ≡ None)
+    → (b ≡ true → y ≡ None)
     → IfSome x (λ k. StuffStands p k (content p mine)) → IfSome y (λ k. StuffStands p k (content p s))
     → IfSome (option_or x y) (λ k. StuffStands p k (if b then content p mine else content p s))
 merged_slot p z1 z2 y mine s z6 out here there = grind (arith, none-some)
@@ -131,7 +146,8 @@ merged_slot p z1 z2 y mine s z6 out here there = grind (arith, none-some)
 pub home_merges : HomeMerges
 home_merges a taken world home mine s z6 out back here there p = grind (arith, content_merged, merged_slot)
 
-home_slot : (b : Bool) {X : Type 0} (old left taken later home : Option X) → taken ≡ (if b then old else None) → left ≡ (if b then None else old)
+home_slot : (b : Bool) {X : Type 0} (old left taken later home : Option X) → taken ≡ (if b then old else None) → left
+    ≡ (if b then None else old)
     → is_some later ≡ is_some taken → home ≡ option_or later left → is_some home ≡ is_some old
 home_slot z0 old left taken z4 home moved stayed same back = grind (arith, false≢true)
 
@@ -149,7 +165,8 @@ shown_stands : (p : Part) (w r : Bool) (x y : Option (Stuff p)) (mine s : WorldS
     → IfSome (if w then x else if r then y else None) (λ k. StuffStands p k (if w then content p mine else content p s))
 shown_stands p z1 r x y mine s here there = grind arith
 
-pub loan_stands : (l : Lent) (mine s : WorldState) → PartsStand l.taken mine → PartsStand l.world.now s → LoanStands l (merge l.access mine s)
+pub loan_stands : (l : Lent) (mine s : WorldState) → PartsStand l.taken mine → PartsStand l.world.now s
+    → LoanStands l (merge l.access mine s)
 loan_stands l mine s here there p = grind (arith, content_merged, shown_stands)
 
 owned_part : (p : Part) (w r : Bool) (x y : Option (Stuff p)) (s : WorldState)
@@ -157,8 +174,10 @@ owned_part : (p : Part) (w r : Bool) (x y : Option (Stuff p)) (s : WorldState)
     → IfSome x (λ k. StuffStands p k (content p s))
 owned_part p w r x y s z6 z7 = grind arith
 
-owned_where_written : (l : Lent) (s : WorldState) → ((p : Part) → writes l.access p ≡ false → slot p l.taken ≡ None) → LoanStands l s → PartsStand l.taken s
-owned_where_written l s none stand p = owned_part p (writes l.access p) (reads l.access p) (slot p l.taken) (slot p l.world.now) s (stand p) (none p)
+owned_where_written : (l : Lent) (s : WorldState) → ((p : Part) → writes l.access p ≡ false → slot p l.taken ≡ None)
+    → LoanStands l s → PartsStand l.taken s
+owned_where_written l s none stand p = owned_part p (writes l.access p) (reads l.access p) (slot p l.taken)
+    (slot p l.world.now) s (stand p) (none p)
 
 pub loan_ends : LoanEnds
 loan_ends a old left taken begun ended lends of owns same =
@@ -169,8 +188,10 @@ loan_ends a old left taken begun ended lends of owns same =
       may_come_home a old left taken ended.taken lends shape,
       λ home back. (
         home_again a old left taken ended.taken home lends shape back,
-        λ s mine before after. home_merges a ended.taken left home mine s none (λ p is. lends.stayed p ∙ rw is refl) back
-            (owned_where_written ended mine (λ p isnt. none p (sym (ap (λ (b : Access). writes b p) same_access) ∙ isnt)) after)
+        λ s mine before after. home_merges a ended.taken left home mine s none
+            (λ p is. lends.stayed p ∙ rw is refl) back
+            (owned_where_written ended mine
+                (λ p isnt. none p (sym (ap (λ (b : Access). writes b p) same_access) ∙ isnt)) after)
             (λ p. let P : Option (Stuff p) → Type 0 = λ o. IfSome o (λ k. StuffStands p k (content p s)) in
             subst P (sym (lends.stayed p)) (chosen_stands p s (writes a p) (slot p old) (before p)).1),
       ),

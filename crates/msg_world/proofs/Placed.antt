@@ -10,7 +10,8 @@ use Rattle.msg_world.specs.inner.Moved.{IsFirstOf, NoneOf, placed}
 use Rattle.msg_world.specs.inner.Slots.{at}
 
 -- a borrow that gives back alike
-pub lends_alike : {G A B : Type 0} (name : G) (f h : A → B) → ((w : A) → f w ≡ h w) → ◌≡◌ {A = (G × (A → B)) ⊎ B} (inl (name, f)) (inl (name, h))
+pub lends_alike : {G A B : Type 0} (name : G) (f h : A → B) → ((w : A) → f w ≡ h w)
+    → ◌≡◌ {A = (G × (A → B)) ⊎ B} (inl (name, f)) (inl (name, h))
 lends_alike name f h same = λ i. inl (name, λ w. same w i)
 
 module _ {X : Type 0} where
@@ -33,10 +34,13 @@ module _ {X : Type 0} where
 
   -- the first part of a slot, with the next one's place
   rest_first : (slot i : ℕ) (m : Moved X) (ms : List (Moved X)) → IsFirstOf slot (m ∷ ms) (suc i) → IsFirstOf slot ms i
-  rest_first slot i m ms f = record { there = let lt : suc i < length (m ∷ ms) = f.there in omega arith; its = f.its; first = λ j k lt is. f.first (suc j) k (omega arith) is }
+  rest_first slot i m ms f =
+      record { there = let lt : suc i < length (m ∷ ms) = f.there in omega arith; its = f.its;
+      first = λ j k lt is. f.first (suc j) k (omega arith) is }
 
   -- a slot whose part stands at place i
-  pub at_first : (n slot : ℕ) (ms : List (Moved X)) (i : ℕ) (m : Moved X) → slot < n → IsFirstOf slot ms i → slice_get ms i ≡ Some m → at (placed n ms) slot ≡ Some m.part
+  pub at_first : (n slot : ℕ) (ms : List (Moved X)) (i : ℕ) (m : Moved X) → slot < n → IsFirstOf slot ms i
+      → slice_get ms i ≡ Some m → at (placed n ms) slot ≡ Some m.part
   at_first n slot [] i m lt f is = absurd (let no : i < 0 = f.there in omega arith)
   at_first n slot (k ∷ ms) zero m lt f is =
       let same : k.slot ≡ slot = f.its k refl in
@@ -52,7 +56,8 @@ module _ {X : Type 0} where
       ∙ at_first n slot ms i m lt (rest_first slot i k ms f) is
 
   -- another part at the place of the first one of its slot
-  pub set_first : (n slot : ℕ) (ms : List (Moved X)) (i : ℕ) (m : Moved X) → IsFirstOf slot ms i → m.slot ≡ slot → placed n (slice_set ms i m) ≡ slice_set (placed n ms) slot (Some m.part)
+  pub set_first : (n slot : ℕ) (ms : List (Moved X)) (i : ℕ) (m : Moved X) → IsFirstOf slot ms i → m.slot ≡ slot
+      → placed n (slice_set ms i m) ≡ slice_set (placed n ms) slot (Some m.part)
   set_first n slot [] i m f its = absurd (let no : i < 0 = f.there in omega arith)
   set_first n slot (k ∷ ms) zero m f its =
       ap (λ s. slice_set (placed n ms) s (Some m.part)) its
@@ -63,16 +68,21 @@ module _ {X : Type 0} where
       ∙ set_comm (placed n ms) slot k.slot (Some m.part) (Some k.part) (λ e. f.first 0 k (omega arith) refl (sym e))
 
   -- one part more, of a slot that had none
-  pub one_more : (n : ℕ) (ms : List (Moved X)) (m : Moved X) → All (λ k. k.slot < n) ms → at (placed n ms) m.slot ≡ None → placed n (ms ++ m ∷ []) ≡ slice_set (placed n ms) m.slot (Some m.part)
+  pub one_more : (n : ℕ) (ms : List (Moved X)) (m : Moved X) → All (λ k. k.slot < n) ms → at (placed n ms) m.slot ≡ None
+      → placed n (ms ++ m ∷ []) ≡ slice_set (placed n ms) m.slot (Some m.part)
   one_more n [] m below none = refl
   one_more n (k ∷ ms) m below none = elim (cases_eq m.slot k.slot) [
     | inl e ↦
-        let within : k.slot < length (placed n ms) = subst (λ z. k.slot < z) (sym (placed_length n ms)) (below 0 k (omega arith)) in
-        let some : at (slice_set (placed n ms) k.slot (Some k.part)) k.slot ≡ Some k.part = get_or-set_same (placed n ms) k.slot (Some k.part) None within in
-        let gone : at (slice_set (placed n ms) k.slot (Some k.part)) k.slot ≡ None = subst (λ s. at (slice_set (placed n ms) k.slot (Some k.part)) s ≡ None) e none in
+        let within : k.slot < length (placed n ms) = subst (λ z. k.slot < z) (sym (placed_length n ms))
+            (below 0 k (omega arith)) in
+        let some : at (slice_set (placed n ms) k.slot (Some k.part)) k.slot
+            ≡ Some k.part = get_or-set_same (placed n ms) k.slot (Some k.part) None within in
+        let gone : at (slice_set (placed n ms) k.slot (Some k.part)) k.slot
+            ≡ None = subst (λ s. at (slice_set (placed n ms) k.slot (Some k.part)) s ≡ None) e none in
         absurd (none_is (sym gone ∙ some))
     | inr ne ↦
-        let before : at (placed n ms) m.slot ≡ None = sym (get_or-set_other (placed n ms) k.slot m.slot (Some k.part) None ne) ∙ none in
+        let before : at (placed n ms) m.slot
+            ≡ None = sym (get_or-set_other (placed n ms) k.slot m.slot (Some k.part) None ne) ∙ none in
         ap (λ xs. slice_set xs k.slot (Some k.part)) (one_more n ms m (λ j d l. below (suc j) d (omega arith)) before)
         ∙ set_comm (placed n ms) m.slot k.slot (Some m.part) (Some k.part) ne
   ]
@@ -81,23 +91,32 @@ module _ {X : Type 0} where
       none_is e = absurd (cc)
 
   -- the last part goes home: what is at a slot, of those that are left or at home, stays
-  pub last_home : (n : ℕ) (ms : List (Moved X)) (m : Moved X) (home : List (Option X)) → m.slot < n → n ≡ length home → (k : ℕ)
-      → option_or (at (placed n (ms ++ m ∷ [])) k) (at home k) ≡ option_or (at (placed n ms) k) (at (slice_set home m.slot (Some m.part)) k)
+  pub last_home : (n : ℕ) (ms : List (Moved X)) (m : Moved X) (home : List (Option X)) → m.slot < n → n
+      ≡ length home → (k : ℕ)
+      → option_or (at (placed n (ms ++ m ∷ [])) k) (at home k)
+      ≡ option_or (at (placed n ms) k) (at (slice_set home m.slot (Some m.part)) k)
   last_home n [] m home lt as_many k = elim (cases_eq k m.slot) [
     | inl e ↦
-        let empty : m.slot < length (replicate n (none_of)) = subst (λ z. m.slot < z) (sym (length-replicate n None)) lt in
-        rw (e, get_or-set_same (replicate n None) m.slot (Some m.part) None empty, get_or-set_same home m.slot (Some m.part) None (omega arith), at_empty n m.slot) refl
-    | inr ne ↦ rw (get_or-set_other (replicate n None) m.slot k (Some m.part) None ne, get_or-set_other home m.slot k (Some m.part) None ne) refl
+        let empty : m.slot < length (replicate n (none_of)) =
+            subst (λ z. m.slot < z) (sym (length-replicate n None)) lt in
+        rw (e, get_or-set_same (replicate n None) m.slot (Some m.part) None empty,
+            get_or-set_same home m.slot (Some m.part) None (omega arith), at_empty n m.slot) refl
+    | inr ne ↦ rw (get_or-set_other (replicate n None) m.slot k (Some m.part) None ne,
+        get_or-set_other home m.slot k (Some m.part) None ne) refl
   ]
   last_home n (j ∷ ms) m home lt as_many k = elim (cases_eq k j.slot) [
     | inl e ↦ elim (cases_lt j.slot n) [
       | inl l ↦
-          let left : j.slot < length (placed n (ms ++ m ∷ [])) = subst (λ z. j.slot < z) (sym (placed_length n (ms ++ m ∷ []))) l in
+          let left : j.slot < length (placed n (ms ++ m ∷ [])) =
+              subst (λ z. j.slot < z) (sym (placed_length n (ms ++ m ∷ []))) l in
           let right : j.slot < length (placed n ms) = subst (λ z. j.slot < z) (sym (placed_length n ms)) l in
-          rw (e, get_or-set_same (placed n (ms ++ m ∷ [])) j.slot (Some j.part) None left, get_or-set_same (placed n ms) j.slot (Some j.part) None right) refl
+          rw (e, get_or-set_same (placed n (ms ++ m ∷ [])) j.slot (Some j.part) None left,
+              get_or-set_same (placed n ms) j.slot (Some j.part) None right) refl
       | inr l ↦
           let out : (xs : List (Option X)) → length xs ≡ n → at (slice_set xs j.slot (Some j.part)) j.slot ≡ None =
-          λ xs same. get_or_past (slice_set xs j.slot (Some j.part)) j.slot None (let s : length (slice_set xs j.slot (Some j.part)) ≡ length xs = length-set xs j.slot (Some j.part) in omega arith) in
+          λ xs same. get_or_past (slice_set xs j.slot (Some j.part)) j.slot None
+              (let s : length (slice_set xs j.slot (Some j.part))
+              ≡ length xs = length-set xs j.slot (Some j.part) in omega arith) in
           rw (
             e,
             out (placed n (ms ++ m ∷ [])) (placed_length n (ms ++ m ∷ [])),
@@ -105,26 +124,34 @@ module _ {X : Type 0} where
             get_or-set_other home m.slot j.slot (Some m.part) None (λ s. absurd (omega arith)),
           ) refl
     ]
-    | inr ne ↦ rw (get_or-set_other (placed n (ms ++ m ∷ [])) j.slot k (Some j.part) None ne, get_or-set_other (placed n ms) j.slot k (Some j.part) None ne) (last_home n ms m home lt as_many k)
+    | inr ne ↦ rw (get_or-set_other (placed n (ms ++ m ∷ [])) j.slot k (Some j.part) None ne,
+        get_or-set_other (placed n ms) j.slot k (Some j.part) None ne) (last_home n ms m home lt as_many k)
   ]
 
   -- the same, where the part was read at its place
-  pub its_slot : (slot : ℕ) (ms : List (Moved X)) (i : ℕ) (m : Moved X) → IsFirstOf slot ms i → m ≡ get_or ms i m → m.slot ≡ slot
+  pub its_slot : (slot : ℕ) (ms : List (Moved X)) (i : ℕ) (m : Moved X) → IsFirstOf slot ms i → m ≡ get_or ms i m
+      → m.slot ≡ slot
   its_slot slot ms i m f read = f.its m (slice_get-get_or ms i m f.there ∙ ap Some (sym read))
 
-  pub first_part : (n slot : ℕ) (ms : List (Moved X)) (i : ℕ) (m : Moved X) → All (λ k. k.slot < n) ms → IsFirstOf slot ms i → m ≡ get_or ms i m → at (placed n ms) slot ≡ Some m.part
+  pub first_part : (n slot : ℕ) (ms : List (Moved X)) (i : ℕ) (m : Moved X) → All (λ k. k.slot < n) ms
+      → IsFirstOf slot ms i → m ≡ get_or ms i m → at (placed n ms) slot ≡ Some m.part
   first_part n slot ms i m below f read = grind (arith, at_first, its_slot, slice_get-get_or)
 
   -- what is at each slot after one part more, of what the slots had that it left
-  pub one_more_at : (n : ℕ) (ms : List (Moved X)) (m : Moved X) (from : List (Option X)) → m.slot < n → at from m.slot ≡ Some m.part → All (λ k. k.slot < n) ms → at (placed n ms) m.slot ≡ None
+  pub one_more_at : (n : ℕ) (ms : List (Moved X)) (m : Moved X) (from : List (Option X)) → m.slot < n → at from m.slot
+      ≡ Some m.part → All (λ k. k.slot < n) ms → at (placed n ms) m.slot ≡ None
       → (k : ℕ) → at (placed n (ms ++ m ∷ [])) k ≡ (if k == m.slot then at from k else at (placed n ms) k)
-  one_more_at n ms m from lt had below none k = grind (arith, one_more, cases_eq, placed_length, eq-eqb, get_or-set_same, ne_eqb, get_or-set_other)
+  one_more_at n ms m from lt had below none k =
+      grind (arith, one_more, cases_eq, placed_length, eq-eqb, get_or-set_same, ne_eqb, get_or-set_other)
 
   -- what a slot holds after one slot was moved out, which wasn't among those before
-  pub one_moves : (bit same : Bool) (after from before first : Option X) → (same ≡ true → bit ≡ false) → after ≡ (if same then from else before)
-      → before ≡ (if bit then first else None) → from ≡ (if bit then None else first) → after ≡ (if same || bit then first else None)
+  pub one_moves : (bit same : Bool) (after from before first : Option X) → (same ≡ true → bit ≡ false) → after
+      ≡ (if same then from else before)
+      → before ≡ (if bit then first else None) → from ≡ (if bit then None else first) → after
+      ≡ (if same || bit then first else None)
   one_moves bit same after from before first z6 z7 z8 z9 = grind arith
 
-  pub one_leaves : (bit same : Bool) (after before first : Option X) → after ≡ (if same then None else before) → before ≡ (if bit then None else first)
+  pub one_leaves : (bit same : Bool) (after before first : Option X) → after ≡ (if same then None else before) → before
+      ≡ (if bit then None else first)
       → after ≡ (if same || bit then None else first)
   one_leaves bit same after before first z5 z6 = grind arith

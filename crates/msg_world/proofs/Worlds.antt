@@ -11,7 +11,8 @@ use Rattle.msg_world.specs.Prelude.{Access, IsHome, IsWhole, Marks, OfResource, 
 use Rattle.msg_world.specs.inner.Slots.{AllUpdated, BufferStands, HaveEach, at}
 
 -- a world and parts of which the marks were set
-pub marks_stand : (w : Parts) (s : WorldState) (m n : Marks) → m ≡ n → PartsStand w s → PartsStand (record w { marks = Some m }) (record s { marks = n })
+pub marks_stand : (w : Parts) (s : WorldState) (m n : Marks) → m ≡ n → PartsStand w s
+    → PartsStand (record w { marks = Some m }) (record s { marks = n })
 marks_stand w s m n same stand (OfType t) = stand (OfType t)
 marks_stand w s m n same stand (OfResource r) = stand (OfResource r)
 marks_stand w s m n same stand Registry = same
@@ -29,39 +30,54 @@ same_shape w = record { size = record { types = refl; resources = refl }; there 
 
 -- the marks of a whole world are those that it stands for
 marks_are : (w : Parts) (s : WorldState) (m : Marks) → w.marks ≡ Some m → PartsStand w s → m ≡ s.marks
-marks_are w s m is stand = let P : Option Marks → Type 0 = λ o. IfSome o (λ k. k ≡ s.marks) in subst P is (stand Registry)
+marks_are w s m is stand = let P : Option Marks
+    → Type 0 = λ o. IfSome o (λ k. k ≡ s.marks) in subst P is (stand Registry)
 
-pub waiting_stays : (w : Parts) (s : WorldState) (m : Marks) → w.marks ≡ Some m → true ≡ (m.held && not m.pending) → PartsStand w s → PartsStand w (after_update s)
+pub waiting_stays : (w : Parts) (s : WorldState) (m : Marks) → w.marks ≡ Some m → true ≡ (m.held && not m.pending)
+    → PartsStand w s → PartsStand w (after_update s)
 waiting_stays w s m is waiting stand =
-    let same : (m.held && not m.pending) ≡ waits s = ap (λ (k : Marks). k.held && not k.pending) (marks_are w s m is stand) in
+    let same : (m.held && not m.pending)
+        ≡ waits s = ap (λ (k : Marks). k.held && not k.pending) (marks_are w s m is stand) in
     let P : WorldState → Type 0 = λ t. PartsStand w t in
-    let Q : Bool → Type 0 = λ b. PartsStand w (if b then s else record s { histories = λ t. update (s.histories t); marks = record s.marks { pending = false } }) in
+    let Q : Bool → Type 0 =
+        λ b. PartsStand w (if b then s
+        else record s { histories = λ t. update (s.histories t); marks = record s.marks { pending = false } }) in
     subst Q (waiting ∙ same) stand
 
 -- every type was updated, and the marks set
-pub types_updated : (w : Parts) (s : WorldState) (types : List (Option (Kept Record))) (m n : Marks) → m ≡ n → AllUpdated w.types types → PartsStand w s
-    → PartsStand (record { types = types; resources = w.resources; marks = Some m }) (record s { histories = λ t. update (s.histories t); marks = n })
+pub types_updated : (w : Parts) (s : WorldState) (types : List (Option (Kept Record))) (m n : Marks) → m ≡ n
+    → AllUpdated w.types types → PartsStand w s
+    → PartsStand (record { types = types; resources = w.resources; marks = Some m })
+    (record s { histories = λ t. update (s.histories t); marks = n })
 types_updated w s types m n same all stand (OfType t) = all.updated t (s.histories t) (stand (OfType t))
 types_updated w s types m n same all stand (OfResource r) = stand (OfResource r)
 types_updated w s types m n same all stand Registry = same
 
-pub types_updated_shape : (w : Parts) (types : List (Option (Kept Record))) (m : Marks) → IsSome w.marks → AllUpdated w.types types
+pub types_updated_shape : (w : Parts) (types : List (Option (Kept Record))) (m : Marks) → IsSome w.marks
+    → AllUpdated w.types types
     → SameShape w (record { types = types; resources = w.resources; marks = Some m })
-types_updated_shape w types m there all = record { size = record { types = all.length; resources = refl }; there = same }
+types_updated_shape w types m there all =
+    record { size = record { types = all.length; resources = refl }; there = same }
   where
-    same : (p : Part) → is_some (slot p (record { types = types; resources = w.resources; marks = Some m })) ≡ is_some (slot p w)
+    same : (p : Part) → is_some (slot p (record { types = types; resources = w.resources; marks = Some m }))
+        ≡ is_some (slot p w)
     same (OfType t) = all.there t
     same (OfResource r) = refl
     same Registry = sym there
 
 -- what isn't waiting is updated
-pub others_update : (w : Parts) (s : WorldState) (types : List (Option (Kept Record))) (m n : Marks) → w.marks ≡ Some m → false ≡ (m.held && not m.pending) → n ≡ record m { pending = false }
-    → AllUpdated w.types types → PartsStand w s → PartsStand (record { types = types; resources = w.resources; marks = Some n }) (after_update s)
+pub others_update : (w : Parts) (s : WorldState) (types : List (Option (Kept Record))) (m n : Marks) → w.marks ≡ Some m
+    → false ≡ (m.held && not m.pending) → n ≡ record m { pending = false }
+    → AllUpdated w.types types → PartsStand w s
+    → PartsStand (record { types = types; resources = w.resources; marks = Some n }) (after_update s)
 others_update w s types m n is waiting spent all stand =
     let marks = marks_are w s m is stand in
     let same : (m.held && not m.pending) ≡ waits s = ap (λ (k : Marks). k.held && not k.pending) marks in
-    let next : n ≡ record s.marks { pending = false } = spent ∙ ap (λ (k : Marks). record k { pending = false }) marks in
-    let Q : Bool → Type 0 = λ b. PartsStand (record { types = types; resources = w.resources; marks = Some n }) (if b then s else record s { histories = λ t. update (s.histories t); marks = record s.marks { pending = false } }) in
+    let next : n ≡ record s.marks { pending = false } = spent
+        ∙ ap (λ (k : Marks). record k { pending = false }) marks in
+    let Q : Bool → Type 0 = λ b. PartsStand (record { types = types; resources = w.resources; marks = Some n })
+        (if b then s else record s { histories = λ t. update (s.histories t);
+        marks = record s.marks { pending = false } }) in
     subst Q (waiting ∙ same) (types_updated w s types n (record s.marks { pending = false }) next all stand)
 
 -- ---- a new world
@@ -76,21 +92,27 @@ none_stands : {X : Type 0} (o : Option X) (P : X → Type 0) → o ≡ None → 
 none_stands o P z2 = grind arith
 
 -- each resource has its value, and there are no others
-values_are : (values : List ℤ) (r : ℕ) → IfSome (at (map (λ z. Some z) values) r) (λ y. y ≡ slice_index_or values r (pos 0))
+values_are : (values : List ℤ) (r : ℕ)
+    → IfSome (at (map (λ z. Some z) values) r) (λ y. y ≡ slice_index_or values r (pos 0))
 values_are [] r = tt
 values_are (z ∷ values) zero = refl
 values_are (z ∷ values) (suc r) = values_are values r
 
-values_there : (values : List ℤ) (r : ℕ) → r < length (map {B = Option ℤ} (λ z. Some z) values) → IsSome (at (map (λ z. Some z) values) r)
+values_there : (values : List ℤ) (r : ℕ) → r < length (map {B = Option ℤ} (λ z. Some z) values)
+    → IsSome (at (map (λ z. Some z) values) r)
 values_there [] r lt = absurd (omega arith)
 values_there (z ∷ values) zero lt = refl
 values_there (z ∷ values) (suc r) lt = values_there values r (omega arith)
 
 -- what `World::new` made
-module _ (limits : List ℕ) (values : List ℤ) (types : List (Option (Kept Record))) (as_many : length types ≡ length limits)
-    (stand : (t : ℕ) → t < length limits → IsSomeAnd (at types t) (λ k. StandsFor k (empty (slice_index limits t)))) where
+module _ (limits : List ℕ) (values : List ℤ) (types : List (Option (Kept Record)))
+    (as_many : length types ≡ length limits)
+    (stand : (t : ℕ) → t < length limits
+        → IsSomeAnd (at types t) (λ k. StandsFor k (empty (slice_index limits t)))) where
   abbrev made : Parts
-  made = record { types = types; resources = map (λ z. Some z) values; marks = Some (record { held = false; pending = false }) }
+  made =
+      record { types = types; resources = map (λ z. Some z) values;
+      marks = Some (record { held = false; pending = false }) }
 
   pub new_stands : PartsStand made (new_world limits values)
   new_stands (OfType t) = elim (cases_lt t (length limits)) [
@@ -108,11 +130,14 @@ module _ (limits : List ℕ) (values : List ℤ) (types : List (Option (Kept Rec
 -- ---- a post
 
 -- what is read at a slot
-pub item_at : {X : Type 0} (xs : List (Option X)) (i : ℕ) (o : Option X) → i < length xs → o ≡ get_or xs i o → at xs i ≡ o
-item_at xs i o lt read = same_Some (at xs i) o (sym (slice_get-get_or xs i None lt) ∙ slice_get-get_or xs i o lt ∙ ap Some (sym read))
+pub item_at : {X : Type 0} (xs : List (Option X)) (i : ℕ) (o : Option X) → i < length xs → o ≡ get_or xs i o
+    → at xs i ≡ o
+item_at xs i o lt read =
+    same_Some (at xs i) o (sym (slice_get-get_or xs i None lt) ∙ slice_get-get_or xs i o lt ∙ ap Some (sym read))
 
 -- what is read at a slot that isn't empty
-pub found_at : {X : Type 0} (xs : List (Option X)) (i : ℕ) (o : Option X) → IsSome (at xs i) → o ≡ get_or xs i o → (at xs i ≡ o) × (i < length xs)
+pub found_at : {X : Type 0} (xs : List (Option X)) (i : ℕ) (o : Option X) → IsSome (at xs i) → o ≡ get_or xs i o
+    → (at xs i ≡ o) × (i < length xs)
 found_at xs i o there read = grind (arith, cases_lt, item_at, false≢true, get_or_past)
 
 pub on_ok : {T E : Type 0} (r : Result T E) (P Q : Type 0) → (P → Q) → OnOk r P → OnOk r Q
@@ -125,10 +150,13 @@ pub if_err : {T E : Type 0} (r : Result T E) (P Q : E → Type 0) → ((e : E) �
 if_err r P Q e z4 = grind arith
 
 -- the buffer of a type stands for its history
-pub buffer_stands : (w : Parts) (s : WorldState) (t : ℕ) (k : Kept Record) → at w.types t ≡ Some k → PartsStand w s → StandsFor k (s.histories t)
-buffer_stands w s t k is stand = let P : Option (Kept Record) → Type 0 = λ o. BufferStands o (s.histories t) in subst P is (stand (OfType t))
+pub buffer_stands : (w : Parts) (s : WorldState) (t : ℕ) (k : Kept Record) → at w.types t ≡ Some k → PartsStand w s
+    → StandsFor k (s.histories t)
+buffer_stands w s t k is stand = let P : Option (Kept Record)
+    → Type 0 = λ o. BufferStands o (s.histories t) in subst P is (stand (OfType t))
 
-pub type_stands : (w : Parts) (s : WorldState) (t : ℕ) (k : Kept Record) (h : History Record) → t < length w.types → StandsFor k h → PartsStand w s
+pub type_stands : (w : Parts) (s : WorldState) (t : ℕ) (k : Kept Record) (h : History Record) → t < length w.types
+    → StandsFor k h → PartsStand w s
     → PartsStand (record w { types = slice_set w.types t (Some k) }) (with_history s t h)
 type_stands w s t k h lt here stand (OfType u) = elim (cases_eq u t) [
   | inl e ↦ rw (e, get_or-set_same w.types t (Some k) None lt, eq-eqb t t refl) here
@@ -137,8 +165,10 @@ type_stands w s t k h lt here stand (OfType u) = elim (cases_eq u t) [
 type_stands w s t k h lt here stand (OfResource r) = stand (OfResource r)
 type_stands w s t k h lt here stand Registry = stand Registry
 
-pub type_shape : (w : Parts) (t : ℕ) (k : Kept Record) → t < length w.types → IsSome (at w.types t) → SameShape w (record w { types = slice_set w.types t (Some k) })
-type_shape w t k lt there = record { size = record { types = length-set w.types t (Some k); resources = refl }; there = same }
+pub type_shape : (w : Parts) (t : ℕ) (k : Kept Record) → t < length w.types → IsSome (at w.types t)
+    → SameShape w (record w { types = slice_set w.types t (Some k) })
+type_shape w t k lt there =
+    record { size = record { types = length-set w.types t (Some k); resources = refl }; there = same }
   where
     same : (p : Part) → is_some (slot p (record w { types = slice_set w.types t (Some k) })) ≡ is_some (slot p w)
     same (OfType u) = elim (cases_eq u t) [
@@ -150,23 +180,29 @@ type_shape w t k lt there = record { size = record { types = length-set w.types 
 
 -- ---- lending and taking back
 
-module _ (a : Access) (old : Parts) (types types' : List (Option (Kept Record))) (resources resources' : List (Option ℤ)) (marks marks' : Option Marks)
+module _ (a : Access) (old : Parts) (types types' : List (Option (Kept Record)))
+    (resources resources' : List (Option ℤ)) (marks marks' : Option Marks)
     (types_taken : (t : ℕ) → at types' t ≡ (if has_bit a.write_types t then at old.types t else None))
     (types_left : (t : ℕ) → at types t ≡ (if has_bit a.write_types t then None else at old.types t))
     (resources_taken : (r : ℕ) → at resources' r ≡ (if has_bit a.write_res r then at old.resources r else None))
     (resources_left : (r : ℕ) → at resources r ≡ (if has_bit a.write_res r then None else at old.resources r))
-    (marks_taken : marks' ≡ (if a.registry then old.marks else None)) (marks_left : marks ≡ (if a.registry then None else old.marks)) where
-  pub lent_out_taken : (p : Part) → slot p (record { types = types'; resources = resources'; marks = marks' }) ≡ (if writes a p then slot p old else None)
+    (marks_taken : marks' ≡ (if a.registry then old.marks else None))
+        (marks_left : marks ≡ (if a.registry then None else old.marks)) where
+  pub lent_out_taken : (p : Part) → slot p (record { types = types'; resources = resources'; marks = marks' })
+      ≡ (if writes a p then slot p old else None)
   lent_out_taken (OfType t) = types_taken t
   lent_out_taken (OfResource r) = resources_taken r
   lent_out_taken Registry = marks_taken
 
-  pub lent_out_left : (p : Part) → slot p (record { types = types; resources = resources; marks = marks }) ≡ (if writes a p then None else slot p old)
+  pub lent_out_left : (p : Part) → slot p (record { types = types; resources = resources; marks = marks })
+      ≡ (if writes a p then None else slot p old)
   lent_out_left (OfType t) = types_left t
   lent_out_left (OfResource r) = resources_left r
   lent_out_left Registry = marks_left
 
-pub taken_back_joined : (taken old new : Parts) → ((t : ℕ) → at new.types t ≡ option_or (at taken.types t) (at old.types t)) → ((r : ℕ) → at new.resources r ≡ option_or (at taken.resources r) (at old.resources r))
+pub taken_back_joined : (taken old new : Parts)
+    → ((t : ℕ) → at new.types t ≡ option_or (at taken.types t) (at old.types t))
+    → ((r : ℕ) → at new.resources r ≡ option_or (at taken.resources r) (at old.resources r))
     → new.marks ≡ option_or taken.marks old.marks → (p : Part) → slot p new ≡ option_or (slot p taken) (slot p old)
 taken_back_joined taken old new types resources marks (OfType t) = types t
 taken_back_joined taken old new types resources marks (OfResource r) = resources r
@@ -176,8 +212,10 @@ taken_back_joined taken old new types resources marks Registry = marks
 
 -- The masks of what is used say whether all is home.
 pub home_by_masks : (a : Access) (w : Parts) (types resources : ℕ) (types_home resources_home marks_there : Bool)
-    → ((k : ℕ) → has_bit types k ≡ (has_bit a.read_types k || has_bit a.write_types k)) → ((k : ℕ) → has_bit resources k ≡ (has_bit a.read_res k || has_bit a.write_res k))
-    → IsTrue types_home ↔ HaveEach w.types types → IsTrue resources_home ↔ HaveEach w.resources resources → marks_there ≡ is_some w.marks
+    → ((k : ℕ) → has_bit types k ≡ (has_bit a.read_types k || has_bit a.write_types k))
+    → ((k : ℕ) → has_bit resources k ≡ (has_bit a.read_res k || has_bit a.write_res k))
+    → IsTrue types_home ↔ HaveEach w.types types → IsTrue resources_home ↔ HaveEach w.resources resources → marks_there
+    ≡ is_some w.marks
     → IsTrue ((types_home && resources_home) && (not a.registry || marks_there)) ↔ IsHome a w
 home_by_masks a w types resources types_home resources_home marks_there t r th rh m = (
   λ all.
@@ -211,8 +249,11 @@ some_value : {X : Type 0} (o : Option X) (d : X) → IfSome o (λ y. y ≡ unwra
 some_value o d = grind arith
 
 -- Parts stand for some world where each of their buffers stands for some history.
-pub world_stands : (w : Parts) → ((t : ℕ) → t < length w.types → (h : History Record) × BufferStands (at w.types t) h) → (s : WorldState) × PartsStand w s
-world_stands w each = (record { histories = λ t. (chosen t).0; resources = λ r. unwrap_or (at w.resources r) (pos 0); marks = unwrap_or w.marks none }, stand)
+pub world_stands : (w : Parts) → ((t : ℕ) → t < length w.types → (h : History Record) × BufferStands (at w.types t) h)
+    → (s : WorldState) × PartsStand w s
+world_stands w each =
+    (record { histories = λ t. (chosen t).0; resources = λ r. unwrap_or (at w.resources r) (pos 0);
+    marks = unwrap_or w.marks none }, stand)
   where
     none : Marks
     none = record { held = false; pending = false }
@@ -223,14 +264,17 @@ world_stands w each = (record { histories = λ t. (chosen t).0; resources = λ r
       | inr past ↦ (empty 0, none_stands (at w.types t) _ (get_or_past w.types t None past))
     ]
 
-    stand : PartsStand w (record { histories = λ t. (chosen t).0; resources = λ r. unwrap_or (at w.resources r) (pos 0); marks = unwrap_or w.marks none })
+    stand : PartsStand w (record { histories = λ t. (chosen t).0; resources = λ r. unwrap_or (at w.resources r) (pos 0);
+        marks = unwrap_or w.marks none })
     stand (OfType t) = (chosen t).1
     stand (OfResource r) = some_value (at w.resources r) (pos 0)
     stand Registry = some_value w.marks none
 
 -- the same of a view of parts, and of its types as they were read
-pub some_state : (v w : Parts) (types : List (Option (Kept Record))) → w ≡ v → types ≡ w.types → ((t : ℕ) → t < length types → (h : History Record) × BufferStands (at types t) h)
+pub some_state : (v w : Parts) (types : List (Option (Kept Record))) → w ≡ v → types ≡ w.types
+    → ((t : ℕ) → t < length types → (h : History Record) × BufferStands (at types t) h)
     → (s : WorldState) × PartsStand v s
 some_state v w types same read each =
-    let P : List (Option (Kept Record)) → Type 0 = λ xs. (t : ℕ) → t < length xs → (h : History Record) × BufferStands (at xs t) h in
+    let P : List (Option (Kept Record)) → Type 0 = λ xs. (t : ℕ) → t < length xs → (h : History Record)
+        × BufferStands (at xs t) h in
     subst (λ (x : Parts). (s : WorldState) × PartsStand x s) same (world_stands w (subst P read each))

@@ -7,5 +7,6 @@ use Rattle.job_board.proofs.squares.Goals as goal
 pub returns : goal.returns
 returns g c = record {
   squares = IfOk-weaker c.close.result _ _ (λ all told. are_squares _ all.items
-      (subst (λ jobs. IsLawfulOutcome (λ n s. s ≡ n * n) jobs all.items) c.in_ok-board.ensures.jobs told)) c.close.ensures.lawful;
+      (subst (λ jobs. IsLawfulOutcome (λ n s. s ≡ n * n) jobs all.items) c.in_ok-board.ensures.jobs told))
+          c.close.ensures.lawful;
 }

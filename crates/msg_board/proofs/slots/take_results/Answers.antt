@@ -10,7 +10,8 @@ pub unreachable-requires : goal.unreachable-requires
 unreachable-requires g c = let inv = c.loop-i.invariant in let is = c.slot_count.ensures in
     let test = c.loop-i-test.true in let long = inv.same_len in
     let t = c.requires.done c.loop-i.i (omega arith) in
-    c.in_default.not-Done t.0 (one_value _ _ _ c.take.ensures.value (ap (λ l. get_elem? l c.loop-i.i) inv.same_items ∙ t.1))
+    c.in_default.not-Done t.0 (one_value _ _ _ c.take.ensures.value
+        (ap (λ l. get_elem? l c.loop-i.i) inv.same_items ∙ t.1))
 
 pub loop-i-preserved : goal.loop-i-preserved
 loop-i-preserved g c = let inv = c.loop-i.invariant in let is = c.slot_count.ensures in
@@ -24,6 +25,9 @@ loop-i-preserved g c = let inv = c.loop-i.invariant in let is = c.slot_count.ens
       taken = false_below _ _ c.loop-i.i took.1 inv.taken;
       count = omega (arith, ap length pushed, length-append c.loop-i.results.items (c.in-Done.done ∷ []));
       room = omega (arith, c.push_reserved.ensures.capacity, inv.room);
-      items = each_pushed (λ k d. get_elem? (slots_items c.args.closed.slots) k ≡ some (Done d)) _ _ c.in-Done.done c.loop-i.i pushed inv.count
-          (ap (λ l. get_elem? l c.loop-i.i) (sym inv.same_items) ∙ (c.take.ensures.value ∙ ap some c.in-Done.is)) inv.items;
+      items =
+          each_pushed (λ k d. get_elem? (slots_items c.args.closed.slots) k
+          ≡ some (Done d)) _ _ c.in-Done.done c.loop-i.i pushed inv.count
+          (ap (λ l. get_elem? l c.loop-i.i) (sym inv.same_items)
+              ∙ (c.take.ensures.value ∙ ap some c.in-Done.is)) inv.items;
     }

@@ -5,8 +5,10 @@ use Rattle.msg_frames.specs.Prelude.{IsCompleteRun, Meets, State, has_begun, log
 use Rattle.msg_frames.specs.Entries.Fate.{given}
 use Rattle.msg_engine_tests.proofs.clients.run_once.Goals as goal
 
-once : (frames : List Frame) (s : State) (logs : List Log) (u : State) → IsCompleteRun frames s logs u → (i t n j k : ℕ) → t < s.types → IsTrue (has_begun u i)
-    → Meets (log_entries i t (s.members i).job.system logs) n j given → Meets (log_entries i t (s.members i).job.system logs) n k given → j ≡ k
+once : (frames : List Frame) (s : State) (logs : List Log) (u : State) → IsCompleteRun frames s logs u → (i t n j k : ℕ)
+    → t < s.types → IsTrue (has_begun u i)
+    → Meets (log_entries i t (s.members i).job.system logs) n j given
+    → Meets (log_entries i t (s.members i).job.system logs) n k given → j ≡ k
 once frames s logs u run i t n j k below has first second =
     let told = (run.served i t below has).given in
     let within = told.no_other n j given first in
@@ -19,5 +21,6 @@ returns g c = record {
       let ran = c.in_ok-run_frames.ensures.ran s stands in
       let logs : List Log = c.run_frames.new.out.items in
       let all : c.run_frames.new.out.items ≡ ran.logs = search rules in
-      (ran.state, ran.stands, once c.args.frames.now s logs ran.state (subst (λ ls. IsCompleteRun c.args.frames.now s ls ran.state) (sym all) ran.complete));
+      (ran.state, ran.stands, once c.args.frames.now s logs ran.state
+          (subst (λ ls. IsCompleteRun c.args.frames.now s ls ran.state) (sym all) ran.complete));
 }

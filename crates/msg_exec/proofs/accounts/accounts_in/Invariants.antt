@@ -7,5 +7,6 @@ use Rattle.msg_exec.proofs.accounts.accounts_in.Given as goal
 
 abbrev pub invariant-loop-i : goal.invariant-loop-i
 invariant-loop-i g l = record {
-  so_far : (s : State) → CoreStands g.S.System.meaning l.core s → l.accounts.items ≡ flat_map (accounts_of_system s) (range_with_len 0 l.i);
+  so_far : (s : State) → CoreStands g.S.System.meaning l.core s → l.accounts.items
+      ≡ flat_map (accounts_of_system s) (range_with_len 0 l.i);
 }

@@ -8,7 +8,9 @@ use Rattle.msg_exec.proofs.batch.run_batches.Given as goal
 abbrev pub invariant-loop-batch : goal.invariant-loop-batch
 invariant-loop-batch g l = record {
   turned : (s : State) → LenderStands g.S.System.meaning l.initial.lender s
-      → HasTurned g.S.System.meaning (concat (map (λ batch. batch.items) (take l.batch-index l.batches))) s l.lender [] l.turns.items;
-  gate_passed : EachPassedGate (g.G.Gate.passed l.gate) l.workers (concat (map (λ batch. batch.items) (take l.batch-index l.batches)));
+      → HasTurned g.S.System.meaning (concat (map (λ batch. batch.items) (take l.batch-index l.batches))) s l.lender
+      [] l.turns.items;
+  gate_passed : EachPassedGate (g.G.Gate.passed l.gate) l.workers
+      (concat (map (λ batch. batch.items) (take l.batch-index l.batches)));
   accesses : l.lender.accesses.items ≡ l.initial.lender.accesses.items;
 }

@@ -6,4 +6,5 @@ use Rattle.msg_exec.proofs.batch.run_many.Given as goal
 abbrev pub invariant-loop-done : goal.invariant-loop-done
 invariant-loop-done g l =
     (s : State) → LenderStands g.S.System.meaning l.fn.lender s
-    → ComingHome g.S.System.meaning l.fn.lender l.batch s l.done-iterator.rest.items l.lender l.initial.turns.items l.turns.items
+    → ComingHome g.S.System.meaning l.fn.lender l.batch s l.done-iterator.rest.items l.lender l.initial.turns.items
+    l.turns.items

@@ -14,9 +14,14 @@ returns-then-rule-systems-clause-unknown g c =
         index = i;
         is = slice_get-get_or rules i _ c.loop-rule-test.true;
         unknown = elim c.then-rule-systems.branch [
-          | then-rule-systems-via-then-rule-systems w ↦ λ named. (let at_least = w.if-rule-systems.true in let below = named.0 in omega (arith, at_least, below))
-          | then-rule-systems-via-else-rule-systems+then-rule-systems-2 w ↦ λ named. (let at_least = w.if-rule-systems-2.true in let below = named.1 in omega (arith, at_least, below))
+          | then-rule-systems-via-then-rule-systems w ↦ λ named.
+              (let at_least = w.if-rule-systems.true in let below = named.0 in omega (arith, at_least, below))
+          | then-rule-systems-via-else-rule-systems+then-rule-systems-2 w ↦ λ named.
+              (let at_least = w.if-rule-systems-2.true in let below = named.1 in omega (arith, at_least, below))
         ];
-        first = λ k r lt there. subst (λ (x : Rule). (x.earlier < length c.args.systems.now) × (x.later < length c.args.systems.now)) (get_or_from_slice_get rules k r r there) (c.loop-rule.invariant k r lt);
+        first =
+            λ k r lt there. subst (λ (x : Rule). (x.earlier < length c.args.systems.now)
+            × (x.later < length c.args.systems.now)) (get_or_from_slice_get rules k r r there)
+            (c.loop-rule.invariant k r lt);
       },
     )

@@ -5,7 +5,8 @@ use Rattle.msg_exec.proofs.posts.post_all.Given as goal
 
 abbrev pub invariant-loop-t : goal.invariant-loop-t
 invariant-loop-t l = record {
-  so_far : (w : WorldState) → PartsStand l.initial.world w → HasPosted (take l.t-index l.posts) w l.world l.replies.items;
+  so_far : (w : WorldState) → PartsStand l.initial.world w
+      → HasPosted (take l.t-index l.posts) w l.world l.replies.items;
   shape : SameShape l.initial.world l.world;
   as_many : length l.replies.items ≡ l.t-index;
   room : length l.posts ≤ vec_capacity l.replies;

@@ -4,7 +4,9 @@ use Rattle.msg_exec.specs.Prelude.{EachNewIs}
 use Rattle.msg_exec.proofs.runs.work.Given as goal
 
 abbrev pub invariant-loop-k : goal.invariant-loop-k
-invariant-loop-k g l = IsIdle l.board l.pass × EachNewIs (λ job. g.G.Gate.passed l.gate l.worker (g.W.Runs.system_of job)) (jobs_of l.board) l.initial.pass.drawn l.pass.drawn
+invariant-loop-k g l = IsIdle l.board l.pass
+    × EachNewIs (λ job. g.G.Gate.passed l.gate l.worker (g.W.Runs.system_of job))
+    (jobs_of l.board) l.initial.pass.drawn l.pass.drawn
 
 abbrev pub decreases-loop-k : goal.decreases-loop-k
 decreases-loop-k g l = length (jobs_of l.board) - l.pass.tried

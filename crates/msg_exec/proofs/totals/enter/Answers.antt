@@ -17,8 +17,10 @@ loop-reply-preserved g c =
           let far = inv.entered t x lt is in
           let y = with_entries (entry_at t ops k c.reply-item.result) far.0 in (
             y,
-            c.enter_reply.ensures.entered t far.0 (omega (arith, lt, inv.as_many)) far.1 ∙ ap (λ n. kept (with_entries (entry_at t ops n c.reply-item.result) far.0)) inv.op,
-            entered_one_more t ops c.as_slice-reply-items.result.now k c.reply-item.result far.0 _ c.loop-reply-test.true c.reply-item.is far.2,
+            c.enter_reply.ensures.entered t far.0 (omega (arith, lt, inv.as_many)) far.1
+                ∙ ap (λ n. kept (with_entries (entry_at t ops n c.reply-item.result) far.0)) inv.op,
+            entered_one_more t ops c.as_slice-reply-items.result.now k c.reply-item.result far.0 _
+                c.loop-reply-test.true c.reply-item.is far.2,
           );
     }
 
@@ -26,6 +28,7 @@ pub returns-clause-entered : goal.returns-clause-entered
 returns-clause-entered g c t x lt is =
     let ops = (g.S.System.meaning c.args.system.now).last in
     let far = c.loop-reply.invariant.entered t x lt is in
-    far.1 ∙ ap kept (entered_all t ops c.as_slice-reply-items.result.now c.loop-reply.reply-index far.0 _ c.loop-reply-test.false far.2)
+    far.1 ∙ ap kept (entered_all t ops c.as_slice-reply-items.result.now c.loop-reply.reply-index far.0 _
+        c.loop-reply-test.false far.2)
     ∙ ap (λ rs. kept (with_entries (entries_for t ops rs) x)) c.as_slice-reply-items.ensures.items
     ∙ ap (λ o. kept (with_entries (entries_by t ops o) x)) (sym c.in-Ran.is)

@@ -11,11 +11,13 @@ no_minus (pos n) e = refl
 no_minus (negsuc n) e = cc
 
 pub write_digits-start-requires : goal.write_digits-start-requires
-write_digits-start-requires c = (omega (arith, length-decimal-le 19 c.unsigned_abs.result (omega arith) (omega arith) (omega arith)), search rules)
+write_digits-start-requires c =
+    (omega (arith, length-decimal-le 19 c.unsigned_abs.result (omega arith) (omega arith) (omega arith)), search rules)
 
 pub returns-then-value-ge0-clause-short : goal.returns-then-value-ge0-clause-short
 returns-then-value-ge0-clause-short c =
-    let long = length-decimal-le 19 c.unsigned_abs.result (omega arith) (omega arith) (omega arith) in (omega arith, omega arith)
+    let long = length-decimal-le 19 c.unsigned_abs.result (omega arith) (omega arith)
+        (omega arith) in (omega arith, omega arith)
 
 pub returns-then-value-ge0-clause-written : goal.returns-then-value-ge0-clause-written
 returns-then-value-ge0-clause-written c =
@@ -25,14 +27,17 @@ returns-then-value-ge0-clause-written c =
     (no_minus c.args.value (rw back at c.if-value-ge0.true))
 
 pub overflow_sub-pair : goal.overflow_sub-pair
-overflow_sub-pair c = omega (arith, length-decimal-le 19 c.unsigned_abs.result (omega arith) (omega arith) (omega arith))
+overflow_sub-pair c =
+    omega (arith, length-decimal-le 19 c.unsigned_abs.result (omega arith) (omega arith) (omega arith))
 
 pub overflow_sub-result : goal.overflow_sub-result
-overflow_sub-result c = omega (arith, length-decimal-le 19 c.unsigned_abs.result (omega arith) (omega arith) (omega arith))
+overflow_sub-result c =
+    omega (arith, length-decimal-le 19 c.unsigned_abs.result (omega arith) (omega arith) (omega arith))
 
 pub returns-clause-short : goal.returns-clause-short
 returns-clause-short c =
-    let long = length-decimal-le 19 c.unsigned_abs.result (omega arith) (omega arith) (omega arith) in (omega arith, omega arith)
+    let long = length-decimal-le 19 c.unsigned_abs.result (omega arith) (omega arith)
+        (omega arith) in (omega arith, omega arith)
 
 pub returns-clause-written : goal.returns-clause-written
 returns-clause-written c =
@@ -40,5 +45,6 @@ returns-clause-written c =
     let long = length-decimal-le 19 c.unsigned_abs.result (omega arith) (omega arith) (omega arith) in
     let e : w.result - 1 + 1 ≡ w.result = omega arith in
     let back = to_z-of_z c.ranges.value in
-    rw (drop-set w.new.buf (w.result - 1) 45 (omega arith), e, w.ensures.written, drop_all 61 c.args.pair.now (omega arith), append-nil, c.unsigned_abs.ensures.value, back)
+    rw (drop-set w.new.buf (w.result - 1) 45 (omega arith), e, w.ensures.written,
+        drop_all 61 c.args.pair.now (omega arith), append-nil, c.unsigned_abs.ensures.value, back)
     (minus_first c.args.value (rw back at c.if-value-ge0.false))

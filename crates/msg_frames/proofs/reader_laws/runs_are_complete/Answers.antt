@@ -4,5 +4,7 @@ use Rattle.msg_frames.proofs.reader_laws.runs_are_complete.Goals as goal
 
 pub returns : goal.returns
 returns c = record {
-  law = runs_are_complete (buffer_laws c.histories_only_grow.ensures.grows c.readers_tile.ensures.reads c.readers_tile.ensures.clears);
+  law =
+      runs_are_complete (buffer_laws c.histories_only_grow.ensures.grows c.readers_tile.ensures.reads
+      c.readers_tile.ensures.clears);
 }

@@ -8,7 +8,8 @@ use Rattle.msg_order.proofs.levels.batches_of.Given as goal
 abbrev pub invariant-levels : goal.invariant-levels
 invariant-levels _g l = record {
   within : (k : ℕ) → has l.left k ≡ true → k < length l.before;
-  peeled : (g : Graph) → ArePaths g l.before → LeadAmong g (has l.joined) → ArePeeled g (has l.joined) (has l.left) (map (λ b. b.items) l.batches.items);
+  peeled : (g : Graph) → ArePaths g l.before → LeadAmong g (has l.joined)
+      → ArePeeled g (has l.joined) (has l.left) (map (λ b. b.items) l.batches.items);
 }
 
 abbrev pub decreases-levels : goal.decreases-levels

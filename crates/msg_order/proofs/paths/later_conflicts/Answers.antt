@@ -20,7 +20,8 @@ loop-j-preserved c =
                 (
                   omega arith,
                   (
-                    subst (AreInConflict c.args.accesses.now c.args.joined.now i) is (c.are_in_conflict.ensures.0 w.if-are_in_conflict.true),
+                    subst (AreInConflict c.args.accesses.now c.args.joined.now i) is
+                        (c.are_in_conflict.ensures.0 w.if-are_in_conflict.true),
                     subst (λ x. has c.args.before.now x ≡ false) is (sym w.contains.ensures ∙ w.if-not-contains.true),
                   ),
                 ),
@@ -37,11 +38,14 @@ loop-j-preserved c =
         all = λ k l m x f. elim (cases_eq k j) [
           | inr e ↦ old.all k l (omega arith) x f
           | inl e ↦
-              let at : AreInConflict c.args.accesses.now c.args.joined.now i j = subst (AreInConflict c.args.accesses.now c.args.joined.now i) e x in
+              let at : AreInConflict c.args.accesses.now c.args.joined.now i j =
+                  subst (AreInConflict c.args.accesses.now c.args.joined.now i) e x in
               let free : has c.args.before.now j ≡ false = subst (λ z. has c.args.before.now z ≡ false) e f in
               absurd (elim w.else-are_in_conflict.branch [
-                | else-are_in_conflict-via-then-are_in_conflict+else-not-contains v ↦ false≢true (sym free ∙ sym v.contains.ensures ∙ v.if-not-contains.false)
-                | else-are_in_conflict-via-else-are_in_conflict v ↦ false≢true (sym v.if-are_in_conflict.false ∙ c.are_in_conflict.ensures.1 at)
+                | else-are_in_conflict-via-then-are_in_conflict+else-not-contains v ↦ false≢true
+                    (sym free ∙ sym v.contains.ensures ∙ v.if-not-contains.false)
+                | else-are_in_conflict-via-else-are_in_conflict v ↦ false≢true
+                    (sym v.if-are_in_conflict.false ∙ c.are_in_conflict.ensures.1 at)
               ])
         ];
       })

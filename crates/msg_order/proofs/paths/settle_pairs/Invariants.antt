@@ -5,4 +5,5 @@ use Rattle.msg_order.proofs.SetPaths.{IsOnWay}
 use Rattle.msg_order.proofs.paths.settle_pairs.Given as goal
 
 abbrev pub invariant-loop-i : goal.invariant-loop-i
-invariant-loop-i l = (g : Graph) → ArePaths g l.fn.before → IsOnWay (AreInConflict l.accesses l.joined) g (length l.accesses) l.i l.before
+invariant-loop-i l = (g : Graph) → ArePaths g l.fn.before
+    → IsOnWay (AreInConflict l.accesses l.joined) g (length l.accesses) l.i l.before

@@ -7,5 +7,6 @@ take_back-requires g c =
     let Q : Parts → Type 0 = λ w. IsApart w c.lend_out.new.self in
     record {
       apart = subst Q (sym c.into_taken-taken.ensures.taken)
-          (c.loans_end.ensures.ends _ _ _ _ c.open-lent.result c.write.new.lent c.in_ok-taken.ensures.lent c.open-lent.ensures.access c.open-lent.ensures.taken c.write.ensures.same).0;
+          (c.loans_end.ensures.ends _ _ _ _ c.open-lent.result c.write.new.lent c.in_ok-taken.ensures.lent
+              c.open-lent.ensures.access c.open-lent.ensures.taken c.write.ensures.same).0;
     }

@@ -9,7 +9,8 @@ invariant-loop-done g l =
     let b = g.B.Behavior in let next = next_kept (needs_of l.access) b.next_op (b.memory l.behavior) in
     record {
       so_far : (s : WorldState) → LoanStands l.initial.lent s
-          → IsAfterProgram (after_at_most l._done next l.writer (places_of l.initial.cursors) s) (places_of l.cursors) l.lent l.initial.out.items l.out.items;
+          → IsAfterProgram (after_at_most l._done next l.writer (places_of l.initial.cursors) s)
+          (places_of l.cursors) l.lent l.initial.out.items l.out.items;
       long : l.before ≡ length l.initial.out.items;
       answered : AreAnswered next l.ops.items l.initial.out.items l.out.items;
       same : SameLoan l.initial.lent l.lent;

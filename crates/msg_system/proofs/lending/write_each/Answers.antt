@@ -12,17 +12,21 @@ returns-in-Ok-clause-numbers g c = grind (arith, common_steps, written_messages_
 pub returns-in-Ok-clause-written : goal.returns-in-Ok-clause-written
 returns-in-Ok-clause-written g c f is s stand =
     let h = s.histories c.args.t in
-    let here = written_messages_stand c.args.lent.now s c.args.t c.in-Some.messages.now c.requires.lent c.in-Some.ensures.writable stand in
+    let here =
+        written_messages_stand c.args.lent.now s c.args.t c.in-Some.messages.now c.requires.lent
+        c.in-Some.ensures.writable stand in
     let made = c.in-Ok.ensures.meaning in
     let P : List Record → Type 0 = λ ms. StandsFor c.write_each.new.self (write ms h) in
-    (c.writes_stand.ensures.messages c.args.lent.now c.args.t c.write_each.new.self c.requires.lent).1 s (write (map f c.args.items.now) h)
+    (c.writes_stand.ensures.messages c.args.lent.now c.args.t c.write_each.new.self c.requires.lent).1 s
+        (write (map f c.args.items.now) h)
     (subst P (made_by _ f is c.args.items.now made.0 made.1) (made.2 h here)) stand
 
 pub returns-in-Err-NumbersSpent-clause-numbers : goal.returns-in-Err-NumbersSpent-clause-numbers
 returns-in-Err-NumbersSpent-clause-numbers g c = grind (arith, common_steps, written_messages_stand, numbers_spent)
 
 pub returns-in-Err-NumbersSpent-clause-written : goal.returns-in-Err-NumbersSpent-clause-written
-returns-in-Err-NumbersSpent-clause-written g c = grind (arith, common_steps, written_messages_stand, length-map, spent_stands)
+returns-in-Err-NumbersSpent-clause-written g c =
+    grind (arith, common_steps, written_messages_stand, length-map, spent_stands)
 
 pub returns-in-Err-NoMemory-clause-refused : goal.returns-in-Err-NoMemory-clause-refused
 returns-in-Err-NoMemory-clause-refused g c = grind (arith, common_steps, written_messages_stand, numbers_left)

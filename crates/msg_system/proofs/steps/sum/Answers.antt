@@ -16,7 +16,9 @@ returns-clause-ran c w places at s stand =
     let new = to_z w64 (of_z w64 c.added_up-value.result) in
     let sum : new ≡ sum_onto (s.resources c.args.r) items =
     to_z-of_z w64 c.added_up-value.result sum_fits ∙ c.added_up-value.ensures.sum
-    ∙ ap (λ x. sum_onto x c.as_slice.result.now) (to_z-of_z w64 c.value_of.result old_fits ∙ c.value_of.ensures.value s stand)
+    ∙ ap (λ x. sum_onto x c.as_slice.result.now)
+    (to_z-of_z w64 c.value_of.result old_fits ∙ c.value_of.ensures.value s stand)
     ∙ ap (sum_onto (s.resources c.args.r)) c.as_slice.ensures.items in
     after_sum places s c.set_value.new.lent c.args.t c.read_unread.new.cursor c.args.cursor.now c.in_ok-took.took at
-    (c.in_ok-took.ensures.took h here) (c.in_ok-took.ensures.place h here) w c.args.r new new sum refl (c.set_value.ensures.written s stand)
+    (c.in_ok-took.ensures.took h here) (c.in_ok-took.ensures.place h here) w c.args.r new new sum refl
+        (c.set_value.ensures.written s stand)

@@ -19,7 +19,8 @@ loop-slot-preserved g c =
     let n = vec_len c.args.home.now in
     let m = c.in-Some.field-0 in
     let i = c.loop-slot.invariant in
-    let popped = All-pop (λ m. m.slot < n) c.loop-slot.parts.items c.pop.new.self.items (Some m) c.in-Some.ensures.items i.below in
+    let popped = All-pop (λ m. m.slot < n) c.loop-slot.parts.items c.pop.new.self.items
+        (Some m) c.in-Some.ensures.items i.below in
     record {
       home_len = c.put_home.ensures.len ∙ i.home_len;
       below = popped.0;

@@ -8,7 +8,8 @@ abbrev pub invariant-loop-slot : goal.invariant-loop-slot
 invariant-loop-slot g l = record {
   home_len : vec_len l.home ≡ vec_len l.initial.home;
   below : AreSlotsBelow (vec_len l.initial.home) l.parts.items;
-  joined : (k : ℕ) → option_or (at (placed (vec_len l.initial.home) l.parts.items) k) (at l.home.items k) ≡ option_or (at (placed (vec_len l.initial.home) l.initial.parts.items) k) (at l.initial.home.items k);
+  joined : (k : ℕ) → option_or (at (placed (vec_len l.initial.home) l.parts.items) k) (at l.home.items k)
+      ≡ option_or (at (placed (vec_len l.initial.home) l.initial.parts.items) k) (at l.initial.home.items k);
 }
 
 abbrev pub decreases-loop-slot : goal.decreases-loop-slot

@@ -18,22 +18,28 @@ loop-k-preserved g c =
     let set = i.is_set c.loop-k-test.true in
     let next = c.next_bit-k-in-loop-k.ensures in
     let m = c.move_slot.ensures in
-    let bits = below_next c.args.mask c.loop-k.k c.next_bit-k-in-loop-k.result set (omega (arith, next.from_there)) next.none_before in
+    let bits = below_next c.args.mask c.loop-k.k c.next_bit-k-in-loop-k.result set
+        (omega (arith, next.from_there)) next.none_before in
     record {
       at_most = next.at_most;
       is_set = next.is_set;
       below = search rules;
-      room = let less = one_less c.args.mask c.loop-k.k set in let as_many = next.as_many in let one = m.one_at_most in let room = i.room in let same = m.capacity in omega arith;
-      moved = λ k. subst (λ b. at (placed (vec_len c.move_slot.new.from) c.move_slot.new.parts.items) k ≡ (if b then at c.args.from.now.items k else None)) (sym (bits k))
+      room = let less = one_less c.args.mask c.loop-k.k set in let as_many = next.as_many in let one =
+          m.one_at_most in let room = i.room in let same = m.capacity in omega arith;
+      moved =
+          λ k. subst (λ b. at (placed (vec_len c.move_slot.new.from) c.move_slot.new.parts.items) k
+          ≡ (if b then at c.args.from.now.items k else None)) (sym (bits k))
           (one_moves (has_bit c.args.mask k && nat_lt k c.loop-k.k) (k == c.loop-k.k) _ _ _ _ (λ same. apart k same)
           (ap (λ n. at (placed n c.move_slot.new.parts.items) k) m.left_len ∙ m.moved k) (i.moved k) (i.left k));
-      left = λ k. subst (λ b. at c.move_slot.new.from.items k ≡ (if b then None else at c.args.from.now.items k)) (sym (bits k))
+      left = λ k. subst (λ b. at c.move_slot.new.from.items k ≡ (if b then None else at c.args.from.now.items k))
+          (sym (bits k))
           (one_leaves (has_bit c.args.mask k && nat_lt k c.loop-k.k) (k == c.loop-k.k) _ _ _ (m.left k) (i.left k));
       left_len = m.left_len ∙ i.left_len;
     }
   where
     apart : (k : ℕ) → (k == c.loop-k.k) ≡ true → (has_bit c.args.mask k && nat_lt k c.loop-k.k) ≡ false
-    apart k same = let e = eqb-true k c.loop-k.k same in and_right (has_bit c.args.mask k) (nat_lt k c.loop-k.k) (le-ltb k c.loop-k.k (omega arith))
+    apart k same = let e = eqb-true k c.loop-k.k same in and_right (has_bit c.args.mask k) (nat_lt k c.loop-k.k)
+        (le-ltb k c.loop-k.k (omega arith))
 
 pub returns-clause-moved : goal.returns-clause-moved
 returns-clause-moved g c = grind (arith, common_steps, all_below)

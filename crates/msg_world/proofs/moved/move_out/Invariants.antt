@@ -11,7 +11,8 @@ invariant-loop-k g l = record {
   is_set : l.k < 64 → IsTrue (has_bit l.mask l.k);
   below : AreSlotsBelow (vec_len l.from) l.parts.items;
   room : vec_len l.parts + count_ones (l.mask / 2 ^ l.k) ≤ vec_capacity l.parts;
-  moved : (k : ℕ) → at (placed (vec_len l.from) l.parts.items) k ≡ (if has_bit l.mask k && nat_lt k l.k then at l.initial.from.items k else None);
+  moved : (k : ℕ) → at (placed (vec_len l.from) l.parts.items) k
+      ≡ (if has_bit l.mask k && nat_lt k l.k then at l.initial.from.items k else None);
   left : (k : ℕ) → at l.from.items k ≡ (if has_bit l.mask k && nat_lt k l.k then None else at l.initial.from.items k);
   left_len : vec_len l.from ≡ vec_len l.initial.from;
 }

@@ -8,5 +8,6 @@ use Rattle.msg_world.proofs.world.counts_of.Given as goal
 abbrev pub invariant-loop-slot : goal.invariant-loop-slot
 invariant-loop-slot l = record {
   types : length l.counts ≡ l.slot-index;
-  counts : (t : ℕ) → t < l.slot-index → IsSome (at l.types t) → (h : History Record) → BufferStands (at l.types t) h → slice_get l.counts t ≡ Some (count h);
+  counts : (t : ℕ) → t < l.slot-index → IsSome (at l.types t) → (h : History Record) → BufferStands (at l.types t) h
+      → slice_get l.counts t ≡ Some (count h);
 }

@@ -11,6 +11,7 @@ loop-slot-preserved c t lt =
     let i = c.loop-slot.slot-index in
     let P : Option (Kept Record) → Type 0 = λ o. (h : History Record) × BufferStands o h in
     elim (cases_eq t i) [
-      | inl e ↦ rw (e, item_at c.args.types.now i c.slot-item.result c.loop-slot-test.true c.slot-item.is) c.slot_stands.ensures.history
+      | inl e ↦ rw (e, item_at c.args.types.now i c.slot-item.result c.loop-slot-test.true c.slot-item.is)
+          c.slot_stands.ensures.history
       | inr ne ↦ c.loop-slot.invariant t (omega arith)
     ]

@@ -7,5 +7,6 @@ use Rattle.msg_world.proofs.world.new_types.Given as goal
 abbrev pub invariant-loop-limit : goal.invariant-loop-limit
 invariant-loop-limit l = record {
   as_many : length l.types.items ≡ l.limit-index;
-  empty : (t : ℕ) → t < l.limit-index → IsSomeAnd (at l.types.items t) (λ k. StandsFor k (empty (slice_index l.limits t)));
+  empty : (t : ℕ) → t < l.limit-index
+      → IsSomeAnd (at l.types.items t) (λ k. StandsFor k (empty (slice_index l.limits t)));
 }

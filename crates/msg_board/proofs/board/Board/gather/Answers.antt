@@ -8,11 +8,14 @@ use Rattle.msg_board.proofs.PassSeats.{gathers_first, gathers, gathered}
 use Rattle.msg_board.proofs.board.Board.gather.Goals as goal
 
 pub loop-pass-init : goal.loop-pass-init
-loop-pass-init g c = gathers_first c.args.self.now _ _ c.in-Some.first _ c.requires.ended c.in-Some.ensures.items c.into_seat-seat.ensures.seat c.into_seat-seat.ensures.all_tried
+loop-pass-init g c =
+    gathers_first c.args.self.now _ _ c.in-Some.first _ c.requires.ended c.in-Some.ensures.items
+    c.into_seat-seat.ensures.seat c.into_seat-seat.ensures.all_tried
 
 pub join_seat-requires : goal.join_seat-requires
 join_seat-requires g c = let inv = c.loop-pass.invariant in let b = c.args.self.now in
-    let of = c.into_seat-other.ensures.seat in let words = c.self.invariant.words in let table = sym (ap (λ v. v.table) c.self.view_is) in
+    let of = c.into_seat-other.ensures.seat in let words = c.self.invariant.words in let table =
+        sym (ap (λ v. v.table) c.self.view_is) in
     let parts = All-split_last (HasEnded b) _ _ (subst (All (HasEnded b)) c.in-Some-pop.ensures.items inv.ended) in (
       inv.table ∙ table,
       of.table ∙ (parts.1.own.table ∙ table),
@@ -22,7 +25,9 @@ join_seat-requires g c = let inv = c.loop-pass.invariant in let b = c.args.self.
     )
 
 pub loop-pass-preserved : goal.loop-pass-preserved
-loop-pass-preserved g c = gathers c.args.self.now _ _ _ c.in-Some-pop.pass _ _ _ c.loop-pass.invariant c.in-Some-pop.ensures.items c.into_seat-other.ensures.seat c.join_seat.ensures.0 c.join_seat.ensures.2
+loop-pass-preserved g c =
+    gathers c.args.self.now _ _ _ c.in-Some-pop.pass _ _ _ c.loop-pass.invariant c.in-Some-pop.ensures.items
+    c.into_seat-other.ensures.seat c.join_seat.ensures.0 c.join_seat.ensures.2
 
 pub returns : goal.returns
 returns g c = gathered c.args.self.now _ _ _ c.loop-pass.invariant (search rules)

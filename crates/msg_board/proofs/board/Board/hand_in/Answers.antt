@@ -12,17 +12,23 @@ store-requires g c = let b = c.args.self.now in let seat = c.pass.invariant.seat
     let here = c.self.view_is in let long = ap (λ v. length v.jobs) here in let jobs = jobs_of b in
     let has = ap (λ p. p.holding) is ∙ c.requires.holds in
     let own = ap (λ p. p.jobs) is ∙ c.requires.own.jobs in
-    let inside : c.args.k < length jobs = omega (arith, held_within c.pass.inside c.args.k c.pass.invariant has, ap (λ l. length l) own) in
+    let inside : c.args.k < length jobs =
+        omega (arith, held_within c.pass.inside c.args.k c.pass.invariant has, ap (λ l. length l) own) in
     let t = there jobs c.args.k inside in (
       c.put_in.ensures.table ∙ (ap (λ p. p.table) is ∙ c.requires.own.table) ∙ sym (ap (λ v. v.table) here),
       omega arith,
-      hands_in_at g.W.Work.lawful _ _ _ _ _ c.pass.inside.seat.me.0 c.args.k t.0 c.args.done c.put_in.ensures.now (omega (arith, seat.weight)) (seat.held ∙ has)
+      hands_in_at g.W.Work.lawful _ _ _ _ _ c.pass.inside.seat.me.0 c.args.k t.0 c.args.done c.put_in.ensures.now
+          (omega (arith, seat.weight)) (seat.held ∙ has)
           (ap (λ l. get_elem? l c.args.k) own ∙ t.1) (c.requires.lawful t.0 (got jobs c.args.k t.0 t.1)),
     )
 
 pub invariant_of-pass : goal.invariant_of-pass
-invariant_of-pass g c = handed_sound c.pass.inside c.put_in.new.seat c.store.new.seat c.args.k c.args.done c.pass.invariant c.put_in.ensures.now c.store.ensures.2.given_back
+invariant_of-pass g c =
+    handed_sound c.pass.inside c.put_in.new.seat c.store.new.seat c.args.k c.args.done c.pass.invariant
+    c.put_in.ensures.now c.store.ensures.2.given_back
 
 pub returns-clause-handed_in : goal.returns-clause-handed_in
-returns-clause-handed_in g c = handed_said c.pass.inside c.put_in.new.seat c.store.new.seat c.args.k c.args.done c.pass.invariant c.put_in.ensures.now c.store.ensures.2.given_back
+returns-clause-handed_in g c =
+    handed_said c.pass.inside c.put_in.new.seat c.store.new.seat c.args.k c.args.done c.pass.invariant
+    c.put_in.ensures.now c.store.ensures.2.given_back
     c.args.pass.now c.pass.view_is c.requires.holds

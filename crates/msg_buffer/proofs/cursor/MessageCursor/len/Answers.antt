@@ -3,4 +3,6 @@ use Rattle.msg_buffer.proofs.Unread.{length-unread}
 use Rattle.msg_buffer.proofs.cursor.MessageCursor.len.Goals as goal
 
 pub returns : goal.returns
-returns g c = record { meaning = λ h s. grind (arith, length-unread h c.args.self.now, c.oldest.ensures.meaning h s, c.count.ensures.meaning h s) }
+returns g c =
+    record { meaning =
+    λ h s. grind (arith, length-unread h c.args.self.now, c.oldest.ensures.meaning h s, c.count.ensures.meaning h s) }

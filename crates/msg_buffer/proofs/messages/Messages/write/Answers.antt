@@ -14,7 +14,9 @@ invariant_of-self g c =
       ends_at_count = rw items (omega (arith, length-append xs (numbered c.self.inside.count (c.args.message ∷ []))));
       within_limit = omega arith;
       older_numbers = i.older_numbers;
-      newer_numbers = rw items (numbers-append c.self.inside.newer.start c.self.inside.count xs (c.args.message ∷ []) i.newer_numbers (omega arith));
+      newer_numbers =
+          rw items (numbers-append c.self.inside.newer.start c.self.inside.count xs
+          (c.args.message ∷ []) i.newer_numbers (omega arith));
     }
 
 pub returns-in-Ok-clause-meaning : goal.returns-in-Ok-clause-meaning

@@ -5,8 +5,8 @@ use Rattle.msg_command.specs.Prelude.{IsToldOf, asked_by, msgrun_app, texts_of}
 use Rattle.msg_command.proofs.ClapTakesAsk.{takes_asks}
 use Rattle.msg_command.proofs.words.parse.parse_words.Goals as goal
 
--- words that clap takes ask for something, or for a run on what is no number of workers, so that else only want of memory
--- is left
+-- words that clap takes ask for something, or for a run on what is no number of workers, so that else only want of
+-- memory is left
 pub returns-clause-refused : goal.returns-clause-refused
 returns-clause-refused c =
     IfErr-weaker c.action_of.result _ _

@@ -15,7 +15,8 @@ both_put a b c now line old rest same none first second = record {
 }
 
 -- a front of the first is one of both
-front_of : (a b : Option (List ℕ)) (now line old : List ℕ) → now ≡ old → AppendsPrefix a b now → AppendsPrefix a b (old ++ line)
+front_of : (a b : Option (List ℕ)) (now line old : List ℕ) → now ≡ old → AppendsPrefix a b now
+    → AppendsPrefix a b (old ++ line)
 front_of a b now line old same q =
     (q.0, q.1 ++ line, ap (λ l. l ++ line) (sym same ∙ q.2) ∙ append_assoc q.0 q.1 line, q.3)
 

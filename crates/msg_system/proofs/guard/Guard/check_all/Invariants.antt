@@ -6,7 +6,8 @@ use Rattle.msg_system.proofs.guard.Guard.check_all.Given as goal
 abbrev pub invariant-loop-guard : goal.invariant-loop-guard
 invariant-loop-guard l = record {
   answer : (s : WorldState) → LoanStands l.lent s → l.all ≡ all_hold (take l.guard-index l.initial.guards) s;
-  moved : (s : WorldState) → LoanStands l.lent s → take l.guard-index l.guards ≡ map (after_asking s) (take l.guard-index l.initial.guards);
+  moved : (s : WorldState) → LoanStands l.lent s → take l.guard-index l.guards
+      ≡ map (after_asking s) (take l.guard-index l.initial.guards);
   same : map (λ g. g.condition) l.guards ≡ map (λ g. g.condition) l.initial.guards;
   rest : drop l.guard-index l.guards ≡ drop l.guard-index l.initial.guards;
 }

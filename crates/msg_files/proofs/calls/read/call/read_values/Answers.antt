@@ -39,5 +39,6 @@ returns c =
     let short = batch_short (view c.args.part.now) c.as_slice-items.result.now list
     (sym c.if-not-are_numbers.ensures) c.if-items-gt-MAX_VALUES.false in (
       short ∙ is.0,
-      batch_denotes (view c.args.part.now) c.as_slice-items.result.now _ list is.1 ∙ ap (λ vs. Some vs) (sym c.from_vec.ensures.items),
+      batch_denotes (view c.args.part.now) c.as_slice-items.result.now _ list is.1
+          ∙ ap (λ vs. Some vs) (sym c.from_vec.ensures.items),
     )
