@@ -132,6 +132,23 @@ fn expect_frame<R: Threads + Sync + Abort, S: System>(
     Ok(())
 }
 
+/// Three frames, of which the second is another and may be replayed, in which the systems write so.
+fn expect_turns<R: Threads + Sync + Abort, S: System>(
+    rt: &R,
+    engine: &mut EngineOf<S>,
+    frames: [&Frame; 2],
+    number: u32,
+    is_replayed: bool,
+    wrote: [Wrote; 3],
+) -> Result<(), RunFault>
+    requires engine { IsEngine S.meaning engine.old }
+    ensures engine { IsEngine S.meaning engine.new }
+{
+    expect_frame(rt, engine, frames[0], number, false, wrote[0])?;
+    expect_frame(rt, engine, frames[1], number, is_replayed, wrote[1])?;
+    expect_frame(rt, engine, frames[0], number, false, wrote[2])
+}
+
 /// How often they write in a turn, the frame that they join with, whether they ask for a message,
 /// whether the second frame is replayed, and what they write in each of three frames, of which the
 /// second has no message.
@@ -159,11 +176,17 @@ fn they_take_turns(rt: HostRuntime) -> Result<(), Fail> {
         // a replayed turn is told
         (1, 1, 0, true, [Some((1, 0)), Some((0, 1)), Some((1, 0))]),
     ] {
+        let asked = &asked[..asks];
         for number in NUMBERS {
-            let mut engine = engine_of_two(&rt, alloc, writes, &asked[..asks], join)?;
-            expect_frame(&rt, &mut engine, &came, number, false, first)?;
-            expect_frame(&rt, &mut engine, &none, number, replays, second)?;
-            expect_frame(&rt, &mut engine, &came, number, false, third)?;
+            let mut engine = engine_of_two(&rt, alloc, writes, asked, join)?;
+            expect_turns(
+                &rt,
+                &mut engine,
+                [&came, &none],
+                number,
+                replays,
+                [first, second, third],
+            )?;
         }
     }
     Ok(())

@@ -1,8 +1,8 @@
 // A system of one's own, whose turn is one write.
-use crate::expecting::{expect_log, wrote};
-use crate::making::{quiet, run_frame};
+use crate::expecting::{expect_frame, wrote};
+use crate::making::quiet;
 use crate::prefaced::{Before, Prefaced};
-use msg_exec::{EngineBuilder, NoGate};
+use msg_exec::EngineBuilder;
 use msg_part_tests::numbers::type_no;
 use msg_system::{Access, Cursors, NoMemory, Numbered, Op, Reply, Start, System, one_op_is_a_turn};
 use msg_world::{Counts, Lent, Taken, TypeNo, World};
@@ -76,10 +76,10 @@ fn a_system_of_ones_own(rt: HostRuntime) -> Result<(), Fail> {
             systems.add_system(Prefaced { system, before }, Vec::new(alloc), 1)?;
         }
         let mut engine = systems.build(World::new(alloc, &[10, 10], &[])?)?;
-        let log = run_frame(&rt, &mut engine, &frame, number, &NoGate)?;
-        expect_log(&rt, &log, &[], &[wrote(0, 0), wrote(1, 0)]);
-        let log = run_frame(&rt, &mut engine, &frame, number, &NoGate)?;
-        expect_log(&rt, &log, &[], &[wrote(0, 1), wrote(1, 1)]);
+        let steps = [wrote(0, 0), wrote(1, 0)];
+        expect_frame(&rt, &mut engine, &frame, number, &[], &steps)?;
+        let steps = [wrote(0, 1), wrote(1, 1)];
+        expect_frame(&rt, &mut engine, &frame, number, &[], &steps)?;
         assert_eq!(rt; runs.load(Ordering::SeqCst), 4);
     }
     Ok(())

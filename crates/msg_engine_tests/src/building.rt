@@ -1,32 +1,44 @@
 // Where systems of a new engine start, engines that there are not, and numbers of workers.
-use crate::expecting::{expect_log, posted, read};
-use crate::making::{engine_of, quiet, run_frame, script};
-use msg_exec::{BuildRefusal, EngineBuilder, NoGate, Workers};
+ghost use Rattle.std.specs.Prelude.{IfOk};
+ghost use Rattle.msg_exec.specs.Prelude.{IsEngine};
+
+use crate::expecting::{expect_frame, posted, read};
+use crate::making::{engine_of, quiet, script};
+use msg_exec::{BuildRefusal, EngineBuilder, EngineOf, Workers};
 use msg_order::Rule;
 use msg_part_tests::numbers::type_no;
-use msg_system::{Op, Start};
+use msg_system::{Op, Scripted, Start, System};
 use msg_world::World;
+use std::alloc::Global;
+use std::process::Abort;
 use std::test::Fail;
+
+/// An engine of a reader that starts so, in a world with one message.
+fn reader_after_a_post(
+    rt: &impl Abort,
+    alloc: Global,
+    start_at: Start,
+) -> Result<EngineOf<Scripted>, Fail>
+    ensures engine { IfOk result (IsEngine ⟦<Scripted as System>⟧.meaning) }
+{
+    let t = type_no(0);
+    let mut systems = EngineBuilder::new(alloc);
+    let reading = script(rt, alloc, &[Op::Read(t, None)], start_at)?;
+    systems.add_system(reading, Vec::new(alloc), 1)?;
+    let mut world = World::new(alloc, &[10], &[])?;
+    assert!(rt; world.messages(t).is_some());
+    assert!(rt; world.post(t, 5).is_ok());
+    Ok(systems.build(world)?)
+}
 
 /// The first read of a system in a world that had a message before the engine was made.
 #[test]
 fn starts_in_a_world_with_a_message(rt: HostRuntime) -> Result<(), Fail> {
-    let (alloc, t) = (rt.alloc(), type_no(0));
+    let (frame, five) = (quiet(rt.alloc()), [posted(5)]);
     for (start_at, first) in [(Start::Zero, 0), (Start::Current, 1)] {
-        let mut world = World::new(alloc, &[10], &[])?;
-        assert!(rt; world.messages(t).is_some());
-        assert!(rt; world.post(t, 5).is_ok());
-        let mut systems = EngineBuilder::new(alloc);
-        let reading = script(&rt, alloc, &[Op::Read(t, None)], start_at)?;
-        systems.add_system(reading, Vec::new(alloc), 1)?;
-        let mut engine = systems.build(world)?;
-        let log = run_frame(&rt, &mut engine, &quiet(alloc), 1, &NoGate)?;
-        expect_log(
-            &rt,
-            &log,
-            &[],
-            &[read(0, first, &[posted(5)][first as usize..])],
-        );
+        let mut engine = reader_after_a_post(&rt, rt.alloc(), start_at)?;
+        let steps = [read(0, first, &five[first as usize..])];
+        expect_frame(&rt, &mut engine, &frame, 1, &[], &steps)?;
     }
     Ok(())
 }

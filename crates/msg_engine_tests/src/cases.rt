@@ -1,7 +1,6 @@
 // Worked runs that `run_frame` keeps, each on 1, 2, 7 and 64 workers.
-use crate::expecting::{Step, by, expect_log, posted, read, wrote};
-use crate::making::{engine_of, frame_of, quiet, run_frame};
-use msg_exec::NoGate;
+use crate::expecting::{Step, by, expect_frame, posted, read, wrote};
+use crate::making::{engine_of, frame_of, quiet};
 use msg_order::Rule;
 use msg_part_tests::numbers::type_no;
 use msg_system::{Items, Op};
@@ -16,10 +15,11 @@ fn one_frames_lag(rt: HostRuntime) -> Result<(), Fail> {
     let frame = quiet(alloc);
     for number in NUMBERS {
         let mut engine = engine_of(&rt, alloc, &[10], &ops, &[Rule::before(0, 1)])?;
-        let log = run_frame(&rt, &mut engine, &frame, number, &NoGate)?;
-        expect_log(&rt, &log, &[], &[read(0, 0, &[]), wrote(1, 0)]);
-        let log = run_frame(&rt, &mut engine, &frame, number, &NoGate)?;
-        expect_log(&rt, &log, &[], &[read(0, 0, &[by(1, 5)]), wrote(1, 1)]);
+        let steps = [read(0, 0, &[]), wrote(1, 0)];
+        expect_frame(&rt, &mut engine, &frame, number, &[], &steps)?;
+        let five = [by(1, 5)];
+        let steps = [read(0, 0, &five), wrote(1, 1)];
+        expect_frame(&rt, &mut engine, &frame, number, &[], &steps)?;
     }
     Ok(())
 }
@@ -41,22 +41,12 @@ fn host_and_two_writers(rt: HostRuntime) -> Result<(), Fail> {
     let eight = frame_of(alloc, &[(t, 8)])?;
     for number in NUMBERS {
         let mut engine = engine_of(&rt, alloc, &[20], &ops, &[])?;
-        let log = run_frame(&rt, &mut engine, &nine, number, &NoGate)?;
         let all = [posted(9), by(0, 1), by(1, 2), by(1, 3)];
-        expect_log(
-            &rt,
-            &log,
-            &[0],
-            &[wrote(0, 1), wrote_two(2), read(2, 0, &all)],
-        );
-        let log = run_frame(&rt, &mut engine, &eight, number, &NoGate)?;
+        let steps = [wrote(0, 1), wrote_two(2), read(2, 0, &all)];
+        expect_frame(&rt, &mut engine, &nine, number, &[0], &steps)?;
         let all = [posted(8), by(0, 1), by(1, 2), by(1, 3)];
-        expect_log(
-            &rt,
-            &log,
-            &[4],
-            &[wrote(0, 5), wrote_two(6), read(2, 4, &all)],
-        );
+        let steps = [wrote(0, 5), wrote_two(6), read(2, 4, &all)];
+        expect_frame(&rt, &mut engine, &eight, number, &[4], &steps)?;
     }
     Ok(())
 }
@@ -74,14 +64,9 @@ fn contradictory_order(rt: HostRuntime) -> Result<(), Fail> {
     let frame = quiet(alloc);
     for number in NUMBERS {
         let mut engine = engine_of(&rt, alloc, &[10, 10], &ops, &rules)?;
-        let log = run_frame(&rt, &mut engine, &frame, number, &NoGate)?;
         let (none, one) = (read(2, 0, &[]), [by(0, 1)]);
-        expect_log(
-            &rt,
-            &log,
-            &[],
-            &[none, wrote(0, 0), read(3, 0, &one), wrote(1, 0)],
-        );
+        let steps = [none, wrote(0, 0), read(3, 0, &one), wrote(1, 0)];
+        expect_frame(&rt, &mut engine, &frame, number, &[], &steps)?;
     }
     Ok(())
 }

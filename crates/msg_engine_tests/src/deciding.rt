@@ -1,4 +1,5 @@
 // Systems that decide: each on 1, 2, 7 and 64 workers.
+ghost use Rattle.std.specs.Prelude.{IfOk};
 ghost use Rattle.msg_exec.specs.Prelude.{IsEngine};
 
 use crate::adders::Adder;
@@ -38,24 +39,26 @@ fn expect_frame_writes<R: Threads + Sync + Abort>(
     Ok(())
 }
 
+/// An engine of one adder, from the first type to the second.
+fn engine_of_one(alloc: Global) -> Result<EngineOf<BehaviorSystem<Adder>>, Fail>
+    ensures engine { IfOk result (IsEngine ⟦<BehaviorSystem<Adder> as System>⟧.meaning) }
+{
+    let (from, to) = (type_no(0), type_no(1));
+    let access = Access::none().with_read_type(from).with_write_type(to);
+    let adder = Adder { from, to, total: 0 };
+    let adder = BehaviorSystem::new(alloc, adder, access, Start::Zero, 0);
+    let mut systems = EngineBuilder::new(alloc);
+    systems.add_system(adder, Vec::new(alloc), 1)?;
+    Ok(systems.build(World::new(alloc, &[10, 10], &[])?)?)
+}
+
 #[test]
 fn a_sum_goes_out_in_its_turn(rt: HostRuntime) -> Result<(), Fail> {
-    let (alloc, from, to) = (rt.alloc(), type_no(0), type_no(1));
-    let access = Access::none().with_read_type(from).with_write_type(to);
+    let (alloc, from) = (rt.alloc(), type_no(0));
+    let two = [(from, 5), (from, 6)];
     for number in [1, 2, 7, 64] {
-        let adder = Adder { from, to, total: 0 };
-        let adder = BehaviorSystem::new(alloc, adder, access, Start::Zero, 0);
-        let mut systems = EngineBuilder::new(alloc);
-        systems.add_system(adder, Vec::new(alloc), 1)?;
-        let mut engine = systems.build(World::new(alloc, &[10, 10], &[])?)?;
-        expect_frame_writes(
-            &rt,
-            alloc,
-            &mut engine,
-            number,
-            &[(from, 5), (from, 6)],
-            &[11],
-        )?;
+        let mut engine = engine_of_one(alloc)?;
+        expect_frame_writes(&rt, alloc, &mut engine, number, &two, &[11])?;
         expect_frame_writes(&rt, alloc, &mut engine, number, &[], &[])?;
         expect_frame_writes(&rt, alloc, &mut engine, number, &[(from, 1)], &[12])?;
     }

@@ -1,9 +1,13 @@
 // What is expected of frames whose systems have one op each and no conditions.
+ghost use Rattle.msg_exec.specs.Prelude.{IsEngine};
+
+use crate::making::{replay, run_frame};
 use msg_buffer::Written;
-use msg_exec::{Log, Outcome, Turn};
-use msg_system::Reply;
+use msg_exec::{EngineOf, Frame, Log, NoGate, Outcome, RunFault, Turn};
+use msg_system::{Reply, System};
 use msg_world::{HOST, Record};
 use std::process::Abort;
+use std::thread::Threads;
 
 /// What a system's turn came to: it wrote `n` messages, from the number `first` on, or it read
 /// these messages, from that number on, and missed so many before.
@@ -80,4 +84,38 @@ pub fn expect_log(rt: &impl Abort, log: &Log, posts: &[u64], steps: &[Step<'_>])
     for (turn, step) in turns.iter().zip(steps) {
         expect_step(rt, turn, *step);
     }
+}
+
+/// Runs a frame on so many workers, whose posts get these numbers and whose turns are these.
+pub fn expect_frame<R: Threads + Sync + Abort, S: System>(
+    rt: &R,
+    engine: &mut EngineOf<S>,
+    frame: &Frame,
+    number: u32,
+    posts: &[u64],
+    steps: &[Step],
+) -> Result<(), RunFault>
+    requires engine { IsEngine S.meaning engine.old }
+    ensures engine { IsEngine S.meaning engine.new }
+{
+    let log = run_frame(rt, engine, frame, number, &NoGate)?;
+    expect_log(rt, &log, posts, steps);
+    Ok(())
+}
+
+/// Replays a frame in this order, whose posts get these numbers and whose turns are these.
+pub fn expect_replay<S: System>(
+    rt: &impl Abort,
+    engine: &mut EngineOf<S>,
+    frame: &Frame,
+    order: &[u32],
+    posts: &[u64],
+    steps: &[Step],
+) -> Result<(), RunFault>
+    requires engine { IsEngine S.meaning engine.old }
+    ensures engine { IsEngine S.meaning engine.new }
+{
+    let log = replay(rt, engine, frame, order)?;
+    expect_log(rt, &log, posts, steps);
+    Ok(())
 }

@@ -1,7 +1,7 @@
 // Frames in a given order.
 ghost use Rattle.msg_exec.specs.Prelude.{IsEngine};
 
-use crate::expecting::{Step, by, expect_log, posted, read, wrote};
+use crate::expecting::{Step, by, expect_log, expect_replay, posted, read, wrote};
 use crate::making::{frame_of, quiet, replay, run_frames};
 use crate::prefaced::{Prefaced, noting_engine};
 use msg_exec::{Account, EngineOf, Frame, NoGate, RunFault};
@@ -87,9 +87,8 @@ fn a_replay_takes_lawful_orders_alone(rt: HostRuntime) -> Result<(), Fail> {
     assert_eq!(rt; noted.load(Ordering::SeqCst), 0);
     let accounts = [account(1, t, 2), account(2, t, 2)];
     expect_after(&rt, &engine, 2, (0, 2), &accounts)?;
-    let log = replay(&rt, &mut engine, &frames[0], &[0, 2, 1])?;
     let steps = [wrote(0, 2), read(2, 2, &one), read(1, 2, &one)];
-    expect_log(&rt, &log, &[], &steps);
+    expect_replay(&rt, &mut engine, &frames[0], &[0, 2, 1], &[], &steps)?;
     assert_eq!(rt; noted.load(Ordering::SeqCst), 132);
     let accounts = [account(1, t, 3), account(2, t, 3)];
     expect_after(&rt, &engine, 3, (1, 3), &accounts)?;
@@ -109,8 +108,7 @@ fn expect_post_alone<S: System>(
 {
     let frame = frame_of(alloc, &[(type_no(0), value)])?;
     expect_unlawful(rt, engine, &frame, &[0]);
-    let log = replay(rt, engine, &frame, &[])?;
-    expect_log(rt, &log, &[number], &[]);
+    expect_replay(rt, engine, &frame, &[], &[number], &[])?;
     Ok(())
 }
 
@@ -134,13 +132,13 @@ fn late_systems(rt: HostRuntime) -> Result<(), Fail> {
     expect_unlawful(&rt, &mut engine, &third, &[0]);
     expect_unlawful(&rt, &mut engine, &third, &[]);
     expect_after(&rt, &engine, 2, (0, 2), &waiting)?;
-    let log = replay(&rt, &mut engine, &third, &[1, 0])?;
     let both = [posted(2), posted(3)];
     let missing = Step {
         missed: 1,
         ..read(0, 1, &both)
     };
-    expect_log(&rt, &log, &[2], &[read(1, 2, &both[1..]), missing]);
+    let steps = [read(1, 2, &both[1..]), missing];
+    expect_replay(&rt, &mut engine, &third, &[1, 0], &[2], &steps)?;
     let from_zero = Account {
         got: 2,
         missed: 1,
