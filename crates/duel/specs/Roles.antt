@@ -19,7 +19,7 @@ next_op (Fighter f) replies =
     if length replies == 0 then (if int_lt (pos 0) f.health then Some (Read f.blows None) else None)
     else if length replies == 1 then
     (if int_lt (pos 0) (health_after f.health replies) then Some (Write f.rival BLOW)
-        else Some (Write f.falls (pos 1)))
+    else Some (Write f.falls (pos 1)))
     else None
 next_op (Referee falls fallen) replies = if length replies == 0
     then Some (Sum falls fallen) else None

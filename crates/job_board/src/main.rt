@@ -41,7 +41,8 @@ fn squares<R: Threads + Sync>(
 ) -> Result<Vec<u64>, NoMemory>
     requires few { length numbers.items ≤ 256 }
     requires threads { (0 < threads) × (threads ≤ 64) }
-    ensures squares { IfOk result (λ all. all.items ≡ map (λ number. number * number) numbers.items) }
+    ensures squares { IfOk result
+        (λ all. all.items ≡ map (λ number. number * number) numbers.items) }
 {
     let (board, passes) = Board::<Squaring>::new(alloc, numbers, threads)?;
     let shared = &board;

@@ -33,11 +33,11 @@ handed_in_and_held : (earlier : List ℕ) (k : ℕ) → All (λ n. n < k) earlie
     → earlier ++ k ∷ [] ≡ filter (λ n. not (is_held n (Some k))) (earlier ++ k ∷ []) ++ k ∷ []
 handed_in_and_held earlier k below = let other : ℕ → Bool = λ n. not (is_held n (Some k)) in
     let kept : filter other earlier ≡ earlier =
-        filter_all other earlier (All-weaker (λ n. n < k) (λ n. other n ≡ true)
-        (λ n l. ap not (ne_eqb k n (λ e. omega arith))) earlier below) in
+    filter_all other earlier (All-weaker (λ n. n < k) (λ n. other n ≡ true)
+    (λ n l. ap not (ne_eqb k n (λ e. omega arith))) earlier below) in
     let gone : filter other (k ∷ []) ≡ [] = ap (λ b. cond (not b) (k ∷ []) []) (eq-eqb k k refl) in
     sym (ap (λ l. l ++ k ∷ []) (filter-append other earlier (k ∷ [])
-        ∙ (ap (λ l. l ++ filter other (k ∷ [])) kept ∙ (ap (λ l. earlier ++ l) gone ∙ append-nil earlier))))
+    ∙ (ap (λ l. l ++ filter other (k ∷ [])) kept ∙ (ap (λ l. earlier ++ l) gone ∙ append-nil earlier))))
 
 -- a pass that holds nothing has handed in all that it drew
 pub handed_in-idle : {J : Type 0} (p : PassState J) → p.holding ≡ None → handed_in p ≡ p.drawn
@@ -97,11 +97,13 @@ module _ {J D : Type 0} where
         all_tried = λ done. absurd (omega (arith, order.all_tried done));
         below = subst (All (λ n. n < p.next + 1)) (sym (ap (λ (v : View J). v.drawn) drew_view))
             (All-push (λ n. n < p.next + 1) p.seat.me.0.drawn p.next
-                (All-weaker (λ n. n < p.next) (λ n. n < p.next + 1) (λ n l. omega arith) p.seat.me.0.drawn order.below)
-                (omega arith));
-        last = λ k e. let same : p.next ≡ k = some_same p.next k e in
-            (p.seat.me.0.drawn, ap (λ (v : View J). v.drawn) drew_view ∙ ap (λ n. p.seat.me.0.drawn ++ n ∷ []) same,
-                subst (λ n. All (λ m. m < n) p.seat.me.0.drawn) same order.below);
+            (All-weaker (λ n. n < p.next) (λ n. n < p.next + 1) (λ n l. omega arith) p.seat.me.0.drawn order.below)
+            (omega arith));
+        last = λ k e. let same : p.next ≡ k = some_same p.next k e in (
+          p.seat.me.0.drawn,
+          ap (λ (v : View J). v.drawn) drew_view ∙ ap (λ n. p.seat.me.0.drawn ++ n ∷ []) same,
+          subst (λ n. All (λ m. m < n) p.seat.me.0.drawn) same order.below,
+        );
       };
     }
 
@@ -132,7 +134,7 @@ module _ {J D : Type 0} where
     drew_said before jobs job is own more at was =
         subst (λ (q : PassState J). Drew jobs q (state_of drew_pass) q.tried job) is
         (drew_from jobs job (ap (λ (q : PassState J). q.jobs) is ∙ own)
-            (omega (arith, ap (λ (q : PassState J). q.tried) is)) at was)
+        (omega (arith, ap (λ (q : PassState J). q.tried) is)) at was)
 
   -- A pass handed in what it held: `full` is its seat after it put the result into the slot, and `seat` after the step
   module _ (p : Inside J D) (full seat : Seat (Slot J D) (View J)) (k : ℕ) (d : D) (sound : IsSound p)
@@ -191,7 +193,7 @@ pub held_within : {J D : Type 0} (p : Inside J D) (k : ℕ) → IsSound p → p.
     → k < length p.seat.me.0.jobs
 held_within p k sound has = let last = sound.order.last k has in
     let l : k < p.next =
-        (All-split_last (λ n. n < p.next) last.0 k (subst (All (λ n. n < p.next)) last.1 sound.order.below)).1 in
+    (All-split_last (λ n. n < p.next) last.0 k (subst (All (λ n. n < p.next)) last.1 sound.order.below)).1 in
     let within = sound.order.within in omega arith
 
 -- a pass that has a number left to try isn't finished
@@ -199,8 +201,12 @@ pub unfinished_more : {J D : Type 0} (p : Inside J D) (q : PassState J) → IsSo
     → q.tried < length q.jobs → q.finished ≡ false
 unfinished_more p q sound is more =
     not_true q.finished (λ done. absurd
-    (omega (arith, sound.order.all_tried (ap (λ q. q.finished) is ∙ done), ap (λ q. q.tried) is,
-    ap (λ q. length q.jobs) is)))
+    (omega (
+      arith,
+      sound.order.all_tried (ap (λ q. q.finished) is ∙ done),
+      ap (λ q. q.tried) is,
+      ap (λ q. length q.jobs) is,
+    )))
 
 -- passes that have ended have handed in all that they drew
 pub all_handed_in : {J : Type 0} (ps : List (PassState J)) → All (λ p. p.holding ≡ None) ps
@@ -208,14 +214,14 @@ pub all_handed_in : {J : Type 0} (ps : List (PassState J)) → All (λ p. p.hold
 all_handed_in [] all = refl
 all_handed_in {J = J} (p ∷ ps) all = let idle : PassState J → Type 0 = λ p. p.holding ≡ None in
     ap (λ l. l ++ flat_map handed_in ps) (handed_in-idle p (All-head idle p ps all))
-        ∙ ap (λ l. p.drawn ++ l) (all_handed_in ps (All-tail idle p ps all))
+    ∙ ap (λ l. p.drawn ++ l) (all_handed_in ps (All-tail idle p ps all))
 
 -- how often k was drawn by the passes, with one more pass
 times_more : {J : Type 0} (k : ℕ) (qs ps : List (PassState J)) (p : PassState J) → qs ≡ ps ++ p ∷ []
     → times k (flat_map (λ p. p.drawn) qs) ≡ times k (flat_map (λ p. p.drawn) ps) + times k p.drawn
 times_more {J = J} k qs ps p is = let drawn : PassState J → List ℕ = λ p. p.drawn in
     ap (λ l. times k (flat_map drawn l)) is
-        ∙ (ap (times k) (flat_map_push drawn ps p) ∙ times-append k (flat_map drawn ps) p.drawn)
+    ∙ (ap (times k) (flat_map_push drawn ps p) ∙ times-append k (flat_map drawn ps) p.drawn)
 
 module _ {J D : Type 0} where
   -- the seat has the views of all passes but ps
@@ -256,15 +262,21 @@ module _ {J D : Type 0} where
       All-split_last (HasEnded b) ps p (subst (All (HasEnded b)) is before.ended) in
       let weight = of.weight in let live = before.live in
       let sum : next.me.0.weight ≡ seat.me.0.weight + other.me.0.weight =
-          ap (λ (m : Me (Slot J D) (View J)). m.0.weight) now in record {
+      ap (λ (m : Me (Slot J D) (View J)). m.0.weight) now in record {
         table = here ∙ before.table;
         count = omega (arith, before.count, ap (λ (l : List (PassState J)). length l) is, length-append ps (p ∷ []));
         live = omega arith;
         next = ap (λ (m : Me (Slot J D) (View J)). m.0.next) now ∙ before.next;
         held = ap (λ (m : Me (Slot J D) (View J)). m.0.held) now ∙ before.held;
         drawn =
-            λ k. omega (arith, before.drawn k, ap (λ (m : Me (Slot J D) (View J)). times k m.0.drawn) now,
-            times-append k seat.me.0.drawn other.me.0.drawn, ap (times k) of.drawn, times_more k qs ps p is);
+            λ k. omega (
+              arith,
+              before.drawn k,
+              ap (λ (m : Me (Slot J D) (View J)). times k m.0.drawn) now,
+              times-append k seat.me.0.drawn other.me.0.drawn,
+              ap (times k) of.drawn,
+              times_more k qs ps p is,
+            );
         ended = parts.0;
       }
 

@@ -104,33 +104,39 @@ module _ {J D : Type 0} (lawful : J → D → Type 0) (jobs : List J) (passes : 
     finds_zero zero_there = let long = r.slots in moved s r i 1 id v (taken i v) (set s.homes i none) inside at
         (omega arith) (λ _. (λ e. omega arith)) (length-set s.homes i none)
         (λ k ne. set_else s.homes i k none ne)
-        (λ j' is'. record { waiting = λ e. absurd (omega arith); out = λ _. set_here s.homes i none (omega arith);
-            done = λ e. absurd (omega arith) })
+        (λ j' is'. record {
+          waiting = λ e. absurd (omega arith);
+          out = λ _. set_here s.homes i none (omega arith);
+          done = λ e. absurd (omega arith);
+        })
         (tried_more s.words i 1 v (taken i v) (r.each_view id v at) live near inside is
-            (λ e. omega arith) refl refl refl)
+        (λ e. omega arith) refl refl refl)
         (by_place s.words i 1 (λ k y. holds_one k (taken i v) + holders_at (get_or s.words k 0)
-            ≡ holds_one k v + holders_at y) near
+        ≡ holds_one k v + holders_at y) near
         (omega (arith, ap (λ o. one_if (is_held i o)) free, ap holders_at zero_there, one_at i i refl))
         (λ k ne. omega (arith, ap (λ o. one_if (is_held k o)) free, none_at k i (λ e. ne (sym e)))))
         (by_place s.words i 1 (λ k y. times k (taken i v).drawn + draws_at (get_or s.words k 0)
-            ≡ times k v.drawn + draws_at y) near
+        ≡ times k v.drawn + draws_at y) near
         (omega (arith, times_push i v.drawn i, ap draws_at zero_there, one_at i i refl))
         (λ k ne. omega (arith, times_push k v.drawn i, none_at k i (λ e. ne (sym e)))))
         refl
 
     -- it finds another number, and leaves it there
     finds_more : get_or s.words i 0 ≢ 0
-        → Lawful record { words = set s.words i (get_or s.words i 0); homes = s.homes;
-        views = set s.views id (tried v) }
+        → Lawful record {
+          words = set s.words i (get_or s.words i 0);
+          homes = s.homes;
+          views = set s.views id (tried v);
+        }
     finds_more more = let x = get_or s.words i 0 in moved s r i x id v (tried v) s.homes inside at (r.at_most_two i)
         (λ _. more) refl (λ k ne. refl)
         (λ j' is'. r.each_slot i j' is')
         (tried_more s.words i x v (tried v) (r.each_view id v at) live near inside is more refl refl
-            (ap (λ n. n + 1) is))
+        (ap (λ n. n + 1) is))
         (by_place s.words i x (λ k y. holds_one k v + holders_at (get_or s.words k 0)
-            ≡ holds_one k v + holders_at y) near refl (λ k ne. refl))
+        ≡ holds_one k v + holders_at y) near refl (λ k ne. refl))
         (by_place s.words i x (λ k y. times k v.drawn + draws_at (get_or s.words k 0)
-            ≡ times k v.drawn + draws_at y) near refl (λ k ne. refl))
+        ≡ times k v.drawn + draws_at y) near refl (λ k ne. refl))
         refl
 
   -- what the step tells, where it finds 0 and where it doesn't
@@ -180,24 +186,29 @@ module _ {J D : Type 0} (lawful : J → D → Type 0) (jobs : List J) (passes : 
   held_alone s k r = let one : (by : ℕ) (v : View J) → get_elem? s.views by ≡ some v → v.held ≡ Some k
       → get_or s.words k 0 ≡ 1 = λ by v at has.
       held_is_one (get_or s.words k 0)
-          (omega (arith, term_le (holds_one k) s.views by v at, r.held k, ap (λ o. one_if (is_held k o)) has,
-          one_at k k refl)) in
+      (omega (
+        arith,
+        term_le (holds_one k) s.views by v at,
+        r.held k,
+        ap (λ o. one_if (is_held k o)) has,
+        one_at k k refl,
+      )) in
       record {
         by_one = λ by other v w at there_is has also. dite (ℕ_discrete by other) (λ same. same)
             (λ apart. absurd (omega (
-          arith,
-          terms_le (holds_one k) s.views by other v w (λ e. apart (sym e)) at there_is,
-          r.held k,
-          ap holders_at (one by v at has),
-          ap (λ o. one_if (is_held k o)) has,
-          ap (λ o. one_if (is_held k o)) also,
-          one_at k k refl,
-        )));
+              arith,
+              terms_le (holds_one k) s.views by other v w (λ e. apart (sym e)) at there_is,
+              r.held k,
+              ap holders_at (one by v at has),
+              ap (λ o. one_if (is_held k o)) has,
+              ap (λ o. one_if (is_held k o)) also,
+              one_at k k refl,
+            )));
         slot_out = λ by v at has. let is_one = one by v at has in let wide = r.words in
             let inside : k < length jobs = dite (dec_le (length jobs) k)
             (λ far. absurd (dite (ℕ_discrete k (length jobs))
-                (λ e. omega (arith, r.further, ap (λ (n : ℕ). get_or s.words n 0) e))
-                (λ ne. omega (arith, past s.words k (omega arith)))))
+            (λ e. omega (arith, r.further, ap (λ (n : ℕ). get_or s.words n 0) e))
+            (λ ne. omega (arith, past s.words k (omega arith)))))
             (λ near. omega arith) in
             let job = there jobs k inside in (r.each_slot k job.0 job.1).out is_one;
       }
@@ -213,9 +224,14 @@ module _ {J D : Type 0} (lawful : J → D → Type 0) (jobs : List J) (passes : 
       let inside = inside_of jobs k j is' in let wide = r.words in let long = r.slots in
       let near : k < length s.words = omega arith in
       let one : get_or s.words k 0 ≡ 1 =
-          held_is_one (get_or s.words k 0)
-          (omega (arith, term_le (holds_one k) s.views id v at, r.held k, ap (λ o. one_if (is_held k o)) has,
-          one_at k k refl)) in (
+      held_is_one (get_or s.words k 0)
+      (omega (
+        arith,
+        term_le (holds_one k) s.views id v at,
+        r.held k,
+        ap (λ o. one_if (is_held k o)) has,
+        one_at k k refl,
+      )) in (
         freed v,
         gives,
         tt,
@@ -225,8 +241,11 @@ module _ {J D : Type 0} (lawful : J → D → Type 0) (jobs : List J) (passes : 
               waiting = λ e. absurd (omega arith);
               out = λ e. absurd (omega arith);
               done =
-                  λ _. (d, set_here s.homes k (some (Done d)) (omega arith),
-                  subst (λ (y : J). lawful y d) (some-injective j j' (sym is' ∙ is'')) fair);
+                  λ _. (
+                    d,
+                    set_here s.homes k (some (Done d)) (omega arith),
+                    subst (λ (y : J). lawful y d) (some-injective j j' (sym is' ∙ is'')) fair,
+                  );
             })
             (record {
               same_jobs = knows.same_jobs;
@@ -237,11 +256,11 @@ module _ {J D : Type 0} (lawful : J → D → Type 0) (jobs : List J) (passes : 
               spent_held = λ z. absurd (omega arith);
             })
             (by_place s.words k 2 (λ i y. holds_one i (freed v) + holders_at (get_or s.words i 0)
-                ≡ holds_one i v + holders_at y) near
+            ≡ holds_one i v + holders_at y) near
             (omega (arith, ap (λ o. one_if (is_held k o)) has, ap holders_at one, one_at k k refl))
             (λ i ne. omega (arith, ap (λ o. one_if (is_held i o)) has, none_at i k (λ e. ne (sym e)))))
             (by_place s.words k 2 (λ i y. times i v.drawn + draws_at (get_or s.words i 0)
-                ≡ times i v.drawn + draws_at y) near
+            ≡ times i v.drawn + draws_at y) near
             (omega (arith, ap draws_at one))
             (λ i ne. refl))
             refl,
@@ -261,7 +280,7 @@ module _ {J D : Type 0} (lawful : J → D → Type 0) (jobs : List J) (passes : 
   divides id v many s r at =
       let old = r.each_view id v at in let vs : List (View J) = set s.views id (without_one v) in
       let both : (g : View J → ℕ) → sum_by g (vs ++ one_of v ∷ []) + g v
-          ≡ sum_by g s.views + g (without_one v) + g (one_of v)
+      ≡ sum_by g s.views + g (without_one v) + g (one_of v)
       = λ g. omega (arith, sum_by-append g vs (one_of v ∷ []), sum_by-set g s.views id v (without_one v) at) in
       record {
         words = r.words;
@@ -279,7 +298,7 @@ module _ {J D : Type 0} (lawful : J → D → Type 0) (jobs : List J) (passes : 
               spent_held = λ z. absurd (omega arith);
             }))
             (λ (q : (by ≢ id) × (get_elem? s.views by ≡ some u)). r.each_view by u q.1)
-                (at_set s.views id by (without_one v) u t))
+            (at_set s.views id by (without_one v) u t))
             (λ (t : one_of v ≡ u). subst (IsViewOf jobs s.words) t (record {
               same_jobs = λ _. old.same_jobs (omega arith);
               within = λ _. omega arith;
@@ -299,7 +318,7 @@ module _ {J D : Type 0} (lawful : J → D → Type 0) (jobs : List J) (passes : 
   unites id v other w live free s r at apart them =
       let old = r.each_view id v at in let vs : List (View J) = set s.views id (united v w) in
       let both : (g : View J → ℕ) → sum_by g (set vs other spent) + g w + g v
-          ≡ sum_by g s.views + g (united v w) + g spent
+      ≡ sum_by g s.views + g (united v w) + g spent
       = λ g. omega (arith, sum_by-set g s.views id v (united v w) at, sum_by-set g vs other w spent them) in
       record {
         words = r.words;
@@ -324,7 +343,7 @@ module _ {J D : Type 0} (lawful : J → D → Type 0) (jobs : List J) (passes : 
               spent_held = λ z. absurd (omega arith);
             }))
             (λ (q : (by ≢ id) × (get_elem? s.views by ≡ some u)). r.each_view by u q.1)
-                (at_set s.views id by (united v w) u t.1))
+            (at_set s.views id by (united v w) u t.1))
             (at_set vs other by spent u is);
         held = λ k. omega (arith, both (holds_one k), r.held k, ap (λ o. one_if (is_held k o)) free);
         drawn = λ k. omega (arith, both (λ u. times k u.drawn), r.drawn k, times-append k v.drawn w.drawn);
@@ -347,12 +366,12 @@ module _ {J D : Type 0} (lawful : J → D → Type 0) (jobs : List J) (passes : 
     };
     each_view = λ by u at. ⊎_elim (λ (t : get_elem? [] by ≡ some u). absurd (some-ne-none u (sym t)))
         (λ (t : whole jobs passes ≡ u). subst (IsViewOf jobs ws) t (record {
-      same_jobs = λ _. refl;
-      within = λ _. omega arith;
-      tried = λ _ i l. absurd (omega arith);
-      spent_drawn = λ _. refl;
-      spent_held = λ _. refl;
-    })) (at_snoc [] (whole jobs passes) u by at);
+          same_jobs = λ _. refl;
+          within = λ _. omega arith;
+          tried = λ _ i l. absurd (omega arith);
+          spent_drawn = λ _. refl;
+          spent_held = λ _. refl;
+        })) (at_snoc [] (whole jobs passes) u by at);
     held = λ k. sym (ap holders_at (zeros k));
     drawn = λ k. sym (ap draws_at (zeros k));
     weights = omega arith;
@@ -381,22 +400,22 @@ module _ {J D : Type 0} (lawful : J → D → Type 0) (jobs : List J) (passes : 
       let s = f.0 in let r = f.1.0 in let at = f.1.1 in let live : 0 < v.weight = omega arith in
       let knows = r.each_view id v at in
       let others : (k : ℕ) (u : View J) → k ≢ id → get_elem? s.views k ≡ some u → u.weight
-          ≡ 0 = λ k u ne there. omega (arith, terms_le (λ u. u.weight) s.views id k v u ne at there, r.weights) in
+      ≡ 0 = λ k u ne there. omega (arith, terms_le (λ u. u.weight) s.views id k v u ne at there, r.weights) in
       let drawn_at : (k : ℕ) → times k v.drawn ≡ draws_at (get_or s.words k 0) = λ k.
       sym (sole (λ u. times k u.drawn) s.views id v at
-          (λ i u ne there. ap (times k) ((r.each_view i u there).spent_drawn (others i u ne there)))) ∙ r.drawn k in
+      (λ i u ne there. ap (times k) ((r.each_view i u there).spent_drawn (others i u ne there)))) ∙ r.drawn k in
       let out_at : (k : ℕ) → holders_at (get_or s.words k 0) ≡ 0 = λ k.
       sym (r.held k) ∙ (sole (holds_one k) s.views id v at
-          (λ i u ne there. ap (λ o. one_if (is_held k o)) ((r.each_view i u there).spent_held (others i u ne there)))
-          ∙ ap (λ o. one_if (is_held k o)) free) in
+      (λ i u ne there. ap (λ o. one_if (is_held k o)) ((r.each_view i u there).spent_held (others i u ne there)))
+      ∙ ap (λ o. one_if (is_held k o)) free) in
       let deep = r.slots in let wide = r.words in let long = f.3 in (
         (
           omega arith,
           λ k j is. let inside = inside_of jobs k j is in
               let ended =
-                  (r.each_slot k j is).done
-                  (word_two (get_or s.words k 0) (r.at_most_two k) (knows.tried live k (omega arith))
-                  (λ e. omega (arith, out_at k, ap holders_at e))) in
+              (r.each_slot k j is).done
+              (word_two (get_or s.words k 0) (r.at_most_two k) (knows.tried live k (omega arith))
+              (λ e. omega (arith, out_at k, ap holders_at e))) in
               (ended.0, f.4 k (Done ended.0) ended.1, ended.2),
         ),
         record {

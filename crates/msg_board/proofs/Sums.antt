@@ -43,11 +43,19 @@ module _ {A : Type 0} (g : A → ℕ) where
       → ((k : ℕ) (u : A) → k ≢ j → get_elem? l k ≡ some u → g u ≡ 0) → sum_by g l ≡ g v
   sole [] j v e z = absurd (some-ne-none v (sym e))
   sole (x ∷ xs) zero v e z =
-      omega (arith, ap g (some-injective x v e), sum_by-zeros xs (λ k u d. z (suc k) u (λ h. omega arith) d),
-      sum_by-cons g x xs)
+      omega (
+        arith,
+        ap g (some-injective x v e),
+        sum_by-zeros xs (λ k u d. z (suc k) u (λ h. omega arith) d),
+        sum_by-cons g x xs,
+      )
   sole (x ∷ xs) (suc j) v e z =
-      omega (arith, z 0 x (λ h. omega arith) refl, sole xs j v e (λ k u n d. z (suc k) u (λ h. n (omega arith)) d),
-      sum_by-cons g x xs)
+      omega (
+        arith,
+        z 0 x (λ h. omega arith) refl,
+        sole xs j v e (λ k u n d. z (suc k) u (λ h. n (omega arith)) d),
+        sum_by-cons g x xs,
+      )
 
 -- 1 where a test is true, as `count_by` adds it
 abbrev pub one_if : Bool → ℕ

@@ -15,7 +15,7 @@ pub by_place : (ws : List ℕ) (i n : ℕ) (P : ℕ → ℕ → Type 0) → i < 
     → ((k : ℕ) → k ≢ i → P k (get_or ws k 0)) → (k : ℕ) → P k (get_or (set ws i n) k 0)
 by_place ws i n P inside here others k = dite (ℕ_discrete k i)
     (λ e. subst (λ (x : ℕ). P x (get_or (set ws i n) x 0)) (sym e)
-        (subst (P i) (sym (get_or-set_same ws i n 0 inside)) here))
+    (subst (P i) (sym (get_or-set_same ws i n 0 inside)) here))
     (λ ne. subst (P k) (sym (get_or-set_other ws i k n 0 ne)) (others k ne))
 
 -- past the end of a list of numbers there is 0
@@ -79,7 +79,7 @@ pub each_pushed : {A : Type 0} (P : ℕ → A → Type 0) (l now : List A) (a : 
     → ((k : ℕ) (b : A) → slice_get l k ≡ Some b → P k b) → (k : ℕ) (b : A) → slice_get now k ≡ Some b → P k b
 each_pushed P l now a n is long last others k b at = ⊎_elim (λ t. others k b t)
     (λ t. subst (P k) t.1 (subst (λ (m : ℕ). P m a) (sym (t.0 ∙ long)) last))
-        (get_snoc l a b k (ap (λ m. slice_get m k) (sym is) ∙ at))
+    (get_snoc l a b k (ap (λ m. slice_get m k) (sym is) ∙ at))
 
 -- a place that was set to false is false, also past the end
 set_false : (l : List Bool) (i : ℕ) → get_or (set l i false) i false ≡ false

@@ -46,7 +46,7 @@ module _ {M : Type 0} where
       let a = map message_of k.older in let b = map message_of k.newer in
       let at : 0 + length (lost m k) ≡ k.oldest = ap (λ n. 0 + n) (length-lost m k) ∙ omega arith in
       let at' : k.oldest + length (stamped 1 a)
-          ≡ k.oldest + length k.older = ap (λ n. k.oldest + n) (length-newer_messages k k.older 1) in
+      ≡ k.oldest + length k.older = ap (λ n. k.oldest + n) (length-newer_messages k k.older 1) in
       let present_is : present h ≡ kept_instances k =
       kept-append (is_present h) 0 (lost m k) (last k)
       ∙ ap (λ xs. xs ++ kept (is_present h) (0 + length (lost m k)) (last k))
@@ -73,15 +73,18 @@ module _ {M : Type 0} where
       ∙ omega (arith, length-lost m k, length-newer_messages k k.older 1, length-newer_messages k k.newer 2) in
       let all = oldest_and_present h in
       let shown : length (present h) ≡ length k.older + length k.newer = ap length present_is
-          ∙ length-append k.older k.newer in
+      ∙ length-append k.older k.newer in
       let end : HasRisingStamps 2 (stamped 2 b) 2 = stamps-stamped 2 b in
       let middle : HasRisingStamps 1 (last k) 2 = stamps-stamped_then 1 1 2 a (stamped 2 b) (omega arith)
-          (stamps_lower 2 1 2 (stamped 2 b) (omega arith) end) (stamps_lower 2 1 2 (stamped 2 b) (omega arith) end) in
+      (stamps_lower 2 1 2 (stamped 2 b) (omega arith) end) (stamps_lower 2 1 2 (stamped 2 b) (omega arith) end) in
       let low : HasRisingStamps 0 (last k) 2 = stamps_lower 1 0 2 (last k) (omega arith) middle in
       record {
         sound =
-            record { stamps = stamps-stamped_then 0 0 2 (replicate k.oldest m) (last k) (omega arith) low low;
-            floor = omega arith; within_limit = omega arith };
+            record {
+              stamps = stamps-stamped_then 0 0 2 (replicate k.oldest m) (last k) (omega arith) low low;
+              floor = omega arith;
+              within_limit = omega arith;
+            };
         limit = refl;
         count = sym long;
         oldest = omega arith;

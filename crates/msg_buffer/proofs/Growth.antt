@@ -15,6 +15,8 @@ module _ {M : Type 0} where
 
   pub outlive_one_update : OutliveOneUpdate M
   outlive_one_update h sound =
-      let later = stamps_later 0 h.updates (suc h.updates) h.entries (omega arith) sound.stamps in
-      (kept_after_update h 0 0 h.entries sound.stamps, kept_after_update (update h) 0 0 h.entries later
-          ∙ none_current_after_update h 0 0 h.entries sound.stamps)
+      let later = stamps_later 0 h.updates (suc h.updates) h.entries (omega arith) sound.stamps in (
+        kept_after_update h 0 0 h.entries sound.stamps,
+        kept_after_update (update h) 0 0 h.entries later
+            ∙ none_current_after_update h 0 0 h.entries sound.stamps,
+      )

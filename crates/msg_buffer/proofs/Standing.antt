@@ -26,8 +26,11 @@ module _ {M : Type 0} where
       let old = s.count in
       record {
         sound =
-            record { stamps = stamps_later 0 h.updates (suc h.updates) h.entries (omega arith) s.sound.stamps;
-            floor = s.sound.floor; within_limit = s.sound.within_limit };
+            record {
+              stamps = stamps_later 0 h.updates (suc h.updates) h.entries (omega arith) s.sound.stamps;
+              floor = s.sound.floor;
+              within_limit = s.sound.within_limit;
+            };
         limit = is.limit ∙ s.limit;
         count = rw (is.older, is.newer) (omega (arith, is.oldest));
         oldest = omega (arith, is.oldest);
@@ -65,13 +68,17 @@ module _ {M : Type 0} where
       ∙ ap (λ (n : ℕ). numbered n ms) (omega arith)) in
       let more : length (present (added ms h)) ≡ length (present h) + length ms =
       ap length here ∙ length-append (present h) (numbered (kept_count k) ms)
-          ∙ ap (λ n. length (present h) + n) (length-numbered (kept_count k) ms) in
+      ∙ ap (λ n. length (present h) + n) (length-numbered (kept_count k) ms) in
       let all = oldest_and_present h in let all' = oldest_and_present (added ms h) in
       let numbers = length-numbered (kept_count k) ms in
       record {
         sound =
-            record { stamps = stamps-append 0 h.updates h.entries ms s.sound.stamps; floor = omega arith; within_limit =
-            omega arith };
+            record {
+              stamps = stamps-append 0 h.updates h.entries ms s.sound.stamps;
+              floor = omega arith;
+              within_limit =
+                  omega arith;
+            };
         limit = is.limit ∙ s.limit;
         count = rw (is.older, is.newer) (omega (arith, length-append k.newer (numbered (kept_count k) ms), is.oldest));
         oldest = omega (arith, is.oldest);

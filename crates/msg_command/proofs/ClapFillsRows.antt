@@ -42,7 +42,7 @@ with_values_keeps id how s vs [] some all = and_from _ _ some refl
 with_values_keeps id how s vs (r ∷ rs) some all =
     let parts = and_parts (has_value r) (have_values rs) all in
     elim (bytes_eq r.id id) as (λ b. have_values
-        (if b then more_values s vs r ++ rs else r ∷ with_values id how s vs rs) ≡ true) [
+    (if b then more_values s vs r ++ rs else r ∷ with_values id how s vs rs) ≡ true) [
       | true ↦ and_from _ _ (longer r.values vs some) parts.1
       | false ↦ and_from _ _ parts.0 (with_values_keeps id how s vs rs some parts.1)
     ]
@@ -107,8 +107,8 @@ settled_keeps : (c : List Rule) (again : Bool) (h : Held) → EachValued c → s
     → have_values h.rows ≡ true → have_values (settled c h).rows ≡ true
 settled_keeps c again h fine passes all =
     elim h.pending as (λ p. option_map_or
-        (λ (p : Text × List Text). option_map_or (λ a. use_passes again a p.1 h.rows) (arg_by_id c p.0) true) p true
-        ≡ true
+    (λ (p : Text × List Text). option_map_or (λ a. use_passes again a p.1 h.rows) (arg_by_id c p.0) true) p true
+    ≡ true
     → have_values (settled_rows c p h.rows) ≡ true) [
       | None ↦ λ _. all
       | Some p ↦ λ ok. by_id_keeps again (arg_by_id c p.0) p.1 h.rows
@@ -131,14 +131,14 @@ long_keeps : (c : List Rule) (again : Bool) (o : Option Rule) (v : Option Text) 
 long_keeps c again None v h fine its passes all = cc
 long_keeps c again (Some a) (Some v) h fine its passes all =
     elim (takes_values a) as (λ b. (if b then option_passes c again a (Some v) h
-        else (not true && react_passes c again a [] h)) ≡ true
+    else (not true && react_passes c again a [] h)) ≡ true
     → have_values (if b then option_met c a (Some v) h else flag_met c a (Some v) h).0.rows ≡ true) [
       | true ↦ λ ok. option_keeps c again a (Some v) h fine its ok all
       | false ↦ λ ok. all
     ] passes
 long_keeps c again (Some a) None h fine its passes all =
     elim (takes_values a) as (λ b. (if b then option_passes c again a None h
-        else (not false && react_passes c again a [] h)) ≡ true
+    else (not false && react_passes c again a [] h)) ≡ true
     → have_values (if b then option_met c a None h else flag_met c a None h).0.rows ≡ true) [
       | true ↦ λ ok. option_keeps c again a None h fine its ok all
       | false ↦ λ ok. reacted_keeps c again a [] h fine its ok all
@@ -167,7 +167,7 @@ short_keeps : (c : List Rule) (again : Bool) (o : Option Rule) (rest : Text) (h 
 short_keeps c again None rest h passing met fine its more passes all = cc
 short_keeps c again (Some a) rest h passing met fine its more passes all =
     elim (takes_values a) as (λ b. (if b then option_passes c again a (attached_value rest) h
-        else (react_passes c again a [] h && passing (reacted c a [] h))) ≡ true
+    else (react_passes c again a [] h && passing (reacted c a [] h))) ≡ true
     → have_values (if b then option_met c a (attached_value rest) h else met (reacted c a [] h)).0.rows ≡ true) [
       | true ↦ λ ok. option_keeps c again a (attached_value rest) h fine its ok all
       | false ↦ λ ok.
@@ -229,7 +229,7 @@ other_keeps : (s : Shape) (name : Option Text) (w : Waiting) (position : ℕ) (w
 other_keeps s (Some name) w position word h fine passes all = all
 other_keeps s None w position word h fine passes all =
     elim (bytes_eq word (45 ∷ 45 ∷ [])) as (λ b.
-        (b || flag_word_passes s.rules s.args_override_self (long_of word) word h) ≡ true
+    (b || flag_word_passes s.rules s.args_override_self (long_of word) word h) ≡ true
     → have_values (if b then (h, trailing position) else long_or_other s.rules w word (long_of word) h).0.rows ≡ true) [
       | true ↦ λ ok. all
       | false ↦ λ ok. flag_word_keeps s.rules s.args_override_self w word (long_of word) h fine ok all
@@ -261,7 +261,7 @@ step_keeps s w word h (trailing position) fine passes all = all
 step_keeps s w word h (subcommand name) fine passes all = all
 step_keeps s w word h value fine passes all =
     elim (arg_by_index s.rules w.position) as (λ o. option_map_or
-        (λ a. positional_passes s.rules s.args_override_self a h) o false ≡ true
+    (λ a. positional_passes s.rules s.args_override_self a h) o false ≡ true
     → have_values (to_positional s.rules o word w h).held.rows ≡ true) [
       | None ↦ λ ok. cc
       | Some a ↦ λ ok. positional_keeps s.rules s.args_override_self a word h fine ok all
@@ -274,7 +274,7 @@ unfolding walked
 turn_keeps s names w word fine passes all =
     let met = word_met s.rules names w.is_trailing w.waiting w.position word w.held in
     elim w.stopped as (λ o. (is_some o ||
-        (word_passes s names w.is_trailing w.waiting word w.held && step_passes s w.position met.0 met.1)) ≡ true
+    (word_passes s names w.is_trailing w.waiting word w.held && step_passes s w.position met.0 met.1)) ≡ true
     → have_values (walked_from s.rules names o w word).held.rows ≡ true) [
       | Some p ↦ λ ok. all
       | None ↦ λ ok.
@@ -297,7 +297,7 @@ walk_keeps s names (word ∷ rest) w fine passes all =
 default_keeps : (a : Rule) (rows : List Row) → have_values rows ≡ true → have_values (with_default rows a) ≡ true
 default_keeps a rows all =
     elim (has_row a.id rows) as (λ b. have_values (if b then rows else default_rows a.id (reading_by a) a.defaults rows)
-        ≡ true) [
+    ≡ true) [
       | true ↦ all
       | false ↦ elim a.defaults as (λ vs. have_values (default_rows a.id (reading_by a) vs rows) ≡ true) [
         | [] ↦ all
@@ -342,8 +342,8 @@ with_values_there : (id : Text) (how : Reading) (s : ValueSource) (vs : List Tex
 with_values_there id how s vs [] same = found_first (bytes_eq id id) _ None same
 with_values_there id how s vs (r ∷ rs) same =
     elim (bytes_eq r.id id) as (λ b. bytes_eq r.id id ≡ b
-        → is_some (find (λ r. bytes_eq r.id id)
-        (if b then more_values s vs r ++ rs else r ∷ with_values id how s vs rs)) ≡ true) [
+    → is_some (find (λ r. bytes_eq r.id id)
+    (if b then more_values s vs r ++ rs else r ∷ with_values id how s vs rs)) ≡ true) [
       | true ↦ λ is. found_first (bytes_eq r.id id) _ _ is
       | false ↦ λ is. found_later (bytes_eq r.id id) r _ (with_values_there id how s vs rs same)
     ] refl
@@ -352,7 +352,7 @@ row_there : (id : Text) (rows : List Row) → has_row id rows ≡ true → is_so
 row_there id [] h = h
 row_there id (r ∷ rs) h =
     elim (bytes_eq r.id id) as (λ b. (b || has_row id rs) ≡ true
-        → is_some (cond b (Some r) (find (λ r. bytes_eq r.id id) rs)) ≡ true) [
+    → is_some (cond b (Some r) (find (λ r. bytes_eq r.id id) rs)) ≡ true) [
       | true ↦ λ ok. refl
       | false ↦ λ ok. row_there id rs ok
     ] h
@@ -361,21 +361,21 @@ pub default_there : (a : Rule) (rows : List Row) → bytes_eq a.id a.id ≡ true
     → is_some (find (λ r. bytes_eq r.id a.id) (with_default rows a)) ≡ true
 default_there a rows same some =
     elim (has_row a.id rows) as (λ b. has_row a.id rows ≡ b
-        → is_some (find (λ r. bytes_eq r.id a.id)
-        (if b then rows else default_rows a.id (reading_by a) a.defaults rows)) ≡ true) [
+    → is_some (find (λ r. bytes_eq r.id a.id)
+    (if b then rows else default_rows a.id (reading_by a) a.defaults rows)) ≡ true) [
       | true ↦ λ is. row_there a.id rows is
       | false ↦ λ is. elim a.defaults as (λ vs. some_of vs ≡ true
           → is_some (find (λ r. bytes_eq r.id a.id) (default_rows a.id (reading_by a) vs rows)) ≡ true) [
-        | [] ↦ λ bad. cc
-        | v ∷ vs ↦ λ _. with_values_there a.id (reading_by a) DefaultValue (v ∷ vs) rows same
-      ] some
+            | [] ↦ λ bad. cc
+            | v ∷ vs ↦ λ _. with_values_there a.id (reading_by a) DefaultValue (v ∷ vs) rows same
+          ] some
     ] refl
 
 given_there : (id : Text) (rows : List Row) → is_given id rows ≡ true
     → is_some (find (λ r. bytes_eq r.id id) rows) ≡ true
 given_there id rows h =
     elim (find (λ r. bytes_eq r.id id) rows) as (λ o. option_map_or (λ r. explicit_source r.source) o false ≡ true
-        → is_some o ≡ true) [
+    → is_some o ≡ true) [
       | None ↦ λ ok. ok
       | Some r ↦ λ ok. refl
     ] h
@@ -417,7 +417,7 @@ buffer_given words passes =
     let rows = finished buffer_shape.rules end in
     let all : have_values rows ≡ true = defaults_keep buffer_shape.rules (settled buffer_shape.rules end).rows kept in
     first_there (codes "FILE") rows all
-        (given_there (codes "FILE") rows (and_parts (is_given (codes "FILE") rows) _ valid).0)
+    (given_there (codes "FILE") rows (and_parts (is_given (codes "FILE") rows) _ valid).0)
 
 -- ---- run FILE --workers N
 
@@ -450,6 +450,6 @@ run_given words passes =
     let before = with_default first file_built in
     let workers_row : is_some (find (λ r. bytes_eq r.id (codes "workers")) rows) ≡ true =
     ap (λ l. is_some (find (λ r. bytes_eq r.id (codes "workers")) l))
-        (either_way (has_row (codes "help") (with_default before workers_built)) (with_default before workers_built))
+    (either_way (has_row (codes "help") (with_default before workers_built)) (with_default before workers_built))
     ∙ default_there workers_built before refl refl in
     (first_there (codes "FILE") rows all file_row, first_there (codes "workers") rows all workers_row)

@@ -87,7 +87,7 @@ word_stops false None w word none passes =
     let flag = long_or_other top.rules w.waiting word (long_of word) w.held in
     elim (bytes_eq word (45 ∷ 45 ∷ [])) as (λ b. NotHelp (after_step top.rules word w
     (if b then (w.held, trailing w.position) else flag).0
-        (if b then (w.held, trailing w.position) else flag).1).stopped) [
+    (if b then (w.held, trailing w.position) else flag).1).stopped) [
       | true ↦ flag_goes_on word w w.held (trailing w.position) tt none
       | false ↦ flag_goes_on word w flag.0 flag.1 (flag_is top.rules w.waiting word (long_of word) w.held) none
     ]
@@ -182,4 +182,4 @@ takes_asks words passes =
     let parts = and_parts (entered_passes (built msgrun_app) (stop_after top.rules names words)) _ passes in
     let walks = and_parts (walk_passes top names (walk_from nothing_held) words) _ parts.1 in
     stopped_asks words (stop_after top.rules names words) refl parts.0
-        (walk_stops words (walk_from nothing_held) walks.0 tt)
+    (walk_stops words (walk_from nothing_held) walks.0 tt)

@@ -54,7 +54,7 @@ asked_by (Some (name, rows)) =
     if bytes_eq name (codes "buffer")
     then option_map (λ file. buffer (Some file)) (first_of (codes "FILE") rows)
     else (if bytes_eq name (codes "run")
-        then run_asked (first_of (codes "FILE") rows) (workers_asked rows) else None)
+    then run_asked (first_of (codes "FILE") rows) (workers_asked rows) else None)
 
 -- what the words ask for, by the subcommand that clap finds in them
 abbrev pub asked : List Text → Option Request

@@ -16,7 +16,7 @@ next_op a replies =
     if length replies == 0 then Some (Read a.from None)
     else if length replies == 1 then
     (if length (brought (slice_get replies 0)) == 0 then None
-        else Some (Write a.to (total_after a.total replies)))
+    else Some (Write a.to (total_after a.total replies)))
     else None
 
 abbrev pub remembered : Adder → List Reply → Adder

@@ -38,7 +38,8 @@ fn the_last_of_64_types(rt: HostRuntime) -> Result<(), Fail> {
     Ok(())
 }
 
-/// Runs a frame of two posts, for which there is one number: the second is told that they are spent.
+/// Runs a frame of two posts, for which there is one number: the second is told that they are
+/// spent.
 fn expect_spent<R: Threads + Sync + Abort, S: System>(
     rt: &R,
     engine: &mut EngineOf<S>,

@@ -36,12 +36,19 @@ kept_whole x got missed cleared =
     let m : within_u64 x.missed ≡ x.missed = omega (arith, missed) in
     let c : within_u64 x.cleared ≡ x.cleared = omega (arith, cleared) in
     ap (λ n. record (kept x) { got = n }) g ∙ ap (λ n. record (kept x) { got = x.got; missed = n }) m
-        ∙ ap (λ n. record x { cleared = n }) c
+    ∙ ap (λ n. record x { cleared = n }) c
 
 abbrev pub account_with : ℕ → ℕ → Totals → ℕ → Account
 account_with i t x place =
-    record { system = i; of_type = t; start = x.start; got = x.got; missed = x.missed; cleared = x.cleared;
-    place = place }
+    record {
+      system = i;
+      of_type = t;
+      start = x.start;
+      got = x.got;
+      missed = x.missed;
+      cleared = x.cleared;
+      place = place;
+    }
 
 -- what is kept of a reader, and the sum of it, are its account
 pub told : (s : State) (i t : ℕ) (y : Totals) (begin first second place : ℕ) → t < s.types → IsSoundState s
@@ -53,7 +60,7 @@ told s i t y begin first second place lt sound few is zeroth one two three =
     let x : Totals = (s.members i).totals t in
     let sum = adds_up s i t lt sound in
     let same : y ≡ x = is ∙ kept_whole x (omega (arith, sum, few)) (omega (arith, sum, few))
-        (omega (arith, sum, few)) in
+    (omega (arith, sum, few)) in
     let start : begin ≡ unwrap_or x.start 0 = zeroth ∙ ap (λ (z : Totals). unwrap_or z.start 0) same in
     let got : y.got ≡ x.got = ap (λ (z : Totals). z.got) same in
     let missed : y.missed ≡ x.missed = ap (λ (z : Totals). z.missed) same in
@@ -75,7 +82,7 @@ module _ {S : Type 0} (meaning : S → Meaning) where
       let lender = stands.lender in
       let within = stands.sound.places i t lt in
       let few = count_below (slot (OfType t) c.lender.world) (s.world.histories t)
-          (lender.whole (OfType t) (omega (arith, lt, lender.types))) (lender.world (OfType t)) below in
+      (lender.whole (OfType t) (omega (arith, lt, lender.types))) (lender.world (OfType t)) below in
       omega (arith, within, few)
 
 -- ---- those of one system, and of all
@@ -111,7 +118,7 @@ pub reader_more : (s : State) (i n : ℕ) (xs before after : List Account) (a : 
     → before ≡ xs ++ accounts_below s i n → after ≡ before ++ a ∷ [] → after ≡ xs ++ accounts_below s i (n + 1)
 reader_more s i n xs before after a is told far pushed =
     pushed ∙ ap (λ ys. ys ++ a ∷ []) far ∙ append_assoc xs (accounts_below s i n) (a ∷ [])
-        ∙ ap (λ y. xs ++ (accounts_below s i n ++ y ∷ [])) told
+    ∙ ap (λ y. xs ++ (accounts_below s i n ++ y ∷ [])) told
     ∙ ap (λ ts. xs ++ (accounts_below s i n ++ map (account_of s i) ts)) (sym (only_if (is_reader s i) n is))
     ∙ ap (λ ys. xs ++ ys) (sym (below_one_more s i n))
 
@@ -120,8 +127,8 @@ pub no_reader_more : (s : State) (i n : ℕ) (xs before : List Account) → is_r
     ++ accounts_below s i n → before ≡ xs ++ accounts_below s i (n + 1)
 no_reader_more s i n xs before isnt far =
     far ∙ ap (λ ys. xs ++ ys) (sym (append-nil (accounts_below s i n))
-        ∙ ap (λ ts. accounts_below s i n ++ map (account_of s i) ts) (sym (none_if (is_reader s i) n isnt))
-        ∙ sym (below_one_more s i n))
+    ∙ ap (λ ts. accounts_below s i n ++ map (account_of s i) ts) (sym (none_if (is_reader s i) n isnt))
+    ∙ sym (below_one_more s i n))
 
 -- the accounts of one system more
 pub system_more : (s : State) (i : ℕ) (before after : List Account) → before
@@ -129,7 +136,7 @@ pub system_more : (s : State) (i : ℕ) (before after : List Account) → before
     → after ≡ flat_map (accounts_of_system s) (range_with_len 0 (i + 1))
 system_more s i before after far added =
     added ∙ ap (λ xs. xs ++ accounts_of_system s i) far ∙ flat_map_more (accounts_of_system s) [] (range_with_len 0 i) i
-        ∙ ap (flat_map (accounts_of_system s)) (sym (one_more i))
+    ∙ ap (flat_map (accounts_of_system s)) (sym (one_more i))
 
 module _ {S : Type 0} (meaning : S → Meaning) where
   -- the access tells who reads
@@ -144,7 +151,7 @@ pub reader_told : (s : State) (i t j u : ℕ) (y : Totals) (a : Account) → t <
     → (u < s.types → y ≡ kept ((s.members j).totals u) → a ≡ account_of s j u) → a ≡ account_of s i t
 reader_told s i t j u y a lt system type is tells =
     tells (omega (arith, lt, type)) (is ∙ ap₂ (λ k v. kept ((s.members k).totals v)) (sym system) (sym type))
-        ∙ ap₂ (account_of s) system type
+    ∙ ap₂ (account_of s) system type
 
 -- ---- all of them add up
 
@@ -163,7 +170,7 @@ pub all_add_up : (s : State) → IsSoundState s → All AddsUp (accounts_of s)
 all_add_up s sound = all_of_each AddsUp (accounts_of_system s) (range_with_len 0 s.systems) (λ i.
     All-map AddsUp (account_of s i) (filter (is_reader s i) (range_with_len 0 s.types))
     (All-filter (is_reader s i) (λ t. AddsUp (account_of s i t)) (range_with_len 0 s.types)
-        (λ k d lt. adds_up s i _ (below_end s.types k d lt) sound)))
+    (λ k d lt. adds_up s i _ (below_end s.types k d lt) sound)))
 
 -- the guarded that was read stands for the member's job
 pub taken_system : {S : Type 0} (meaning : S → Meaning) (g : Lender S) (i n : ℕ) (x r : Option (GuardedSystem S))
@@ -172,4 +179,4 @@ pub taken_system : {S : Type 0} (meaning : S → Meaning) (g : Lender S) (i n : 
     → IsSomeAnd (system_at g i) (λ b. job_state meaning b ≡ j) → job_state meaning a ≡ j
 taken_system meaning g i n x r a j lt size is found some there =
     subst (λ y. IsSomeAnd y (λ b. job_state meaning b ≡ j))
-        (get_or_default g.systems.items i None x (omega (arith, lt, size)) ∙ sym is ∙ sym found ∙ some) there
+    (get_or_default g.systems.items i None x (omega (arith, lt, size)) ∙ sym is ∙ sym found ∙ some) there

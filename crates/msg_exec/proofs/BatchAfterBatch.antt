@@ -26,7 +26,7 @@ pub turns_then_more : (is js : List ℕ) (s : State) → after_turns_of (is ++ j
 turns_then_more [] js s = refl
 turns_then_more (i ∷ is) js s =
     ap (λ (x : AfterTurns). record { state = x.state; turns = logged_turn s i ∷ x.turns })
-        (turns_then_more is js (after_turn_of i s))
+    (turns_then_more is js (after_turn_of i s))
 
 pub as_many_systems : (is : List ℕ) (s : State) → (after_turns_of is s).state.systems ≡ s.systems
 as_many_systems [] s = refl
@@ -68,7 +68,7 @@ pub one_batch_more : (batches : List (Vec ℕ)) (k : ℕ) (batch : Vec ℕ) → 
     → systems_of (take (k + 1) batches) ≡ systems_of (take k batches) ++ batch.items
 one_batch_more batches k batch lt is =
     ap systems_of (take_more batches k batch lt)
-        ∙ ap concat (map-append (λ b. b.items) (take k batches) (get_or batches k batch ∷ []))
+    ∙ ap concat (map-append (λ b. b.items) (take k batches) (get_or batches k batch ∷ []))
     ∙ concat-append (map (λ b. b.items) (take k batches)) ((get_or batches k batch).items ∷ [])
     ∙ ap (λ xs. systems_of (take k batches) ++ xs) (append-nil (get_or batches k batch).items)
     ∙ ap (λ (b : Vec ℕ). systems_of (take k batches) ++ b.items) (sym is)

@@ -157,7 +157,7 @@ module _ {S : Type 0} (meaning : S → Meaning) where
       system_back : IsSomeAnd (system_at new i) (λ a. job_state meaning a ≡ its_turn.job)
       system_back =
           let there : system_at new i ≡ Some d.guarded = ap (λ xs. slice_index_or xs i None) systems_set
-              ∙ get_or-set_same now.systems.items i (Some d.guarded) None (omega (arith, lt, half.systems)) in
+          ∙ get_or-set_same now.systems.items i (Some d.guarded) None (omega (arith, lt, half.systems)) in
           subst (λ x. IsSomeAnd x (λ a. job_state meaning a ≡ its_turn.job)) (sym there) back.after.job
 
       totals_back : IsSomeAnd (slice_get new.totals.items i) (λ v. TotalsStand s.types v.items its_turn.totals)
@@ -166,26 +166,26 @@ module _ {S : Type 0} (meaning : S → Meaning) where
           let m : Member = s.members i in
           let old = some_of (slice_get now.totals.items i) _ (half.totals i lt) in
           let entered : HaveEntered meaning d old.0.items v.items =
-              comes.totals.2 old.0 (ap (slice_get now.totals.items) back.number ∙ old.1) in
+          comes.totals.2 old.0 (ap (slice_get now.totals.items) back.number ∙ old.1) in
           let before : TotalsStand s.types old.0.items m.totals =
-              subst (λ (x : Member). TotalsStand s.types old.0.items x.totals)
-              (half.untouched i (Contains-head i rest)) old.2 in
+          subst (λ (x : Member). TotalsStand s.types old.0.items x.totals)
+          (half.untouched i (Contains-head i rest)) old.2 in
           let there : slice_get new.totals.items i ≡ Some v = ap (λ xs. slice_get xs i) totals_set
-              ∙ get_same now.totals.items i v (omega (arith, lt, half.as_many)) in
+          ∙ get_same now.totals.items i v (omega (arith, lt, half.as_many)) in
           subst (λ x. IsSomeAnd x (λ v. TotalsStand s.types v.items its_turn.totals)) (sym there)
           (totals_after s.types m s.world old.0.items v.items _ d.outcome
-              (ap (λ (j : JobState). j.system.last) back.after.job) back.after.outcome before entered.as_many
-              entered.entered)
+          (ap (λ (j : JobState). j.system.last) back.after.job) back.after.outcome before entered.as_many
+          entered.entered)
 
       world_there : (p : Part) → is_some (slot p new.world)
           ≡ (if any_writes whole.accesses.items rest p then false else is_some (slot p whole.world))
       world_there p = either d.taken now.world new.world comes.taken_back p
           ∙ elim (cases_Bool (writes (access_of whole.accesses.items i) p)) [
-        | inl is ↦
-            let none = later_write_not whole.accesses.items rest i p free (written_is_used _ p is) in
-            rw (back.there p, is, none) (sym ((stands.members i lt).home p (written_is_used _ p is)))
-        | inr isnt ↦ rw (back.there p, isnt) (half.there p ∙ rw isnt refl)
-      ]
+            | inl is ↦
+                let none = later_write_not whole.accesses.items rest i p free (written_is_used _ p is) in
+                rw (back.there p, is, none) (sym ((stands.members i lt).home p (written_is_used _ p is)))
+            | inr isnt ↦ rw (back.there p, isnt) (half.there p ∙ rw isnt refl)
+          ]
 
       -- one more is home
       pub one_home : Halfway whole s (home whole.accesses.items s i u) rest new
@@ -197,38 +197,38 @@ module _ {S : Type 0} (meaning : S → Meaning) where
           | inl same ↦ subst (λ n. IsSomeAnd (system_at new n)
               (λ a. job_state meaning a ≡ ((home whole.accesses.items s i u).members n).job)) (sym same.1)
               (subst (λ (x : Member). IsSomeAnd (system_at new i) (λ a. job_state meaning a ≡ x.job))
-                  (sym (its_own i its_turn u.members)) system_back)
+              (sym (its_own i its_turn u.members)) system_back)
           | inr other ↦
               let out : ¬ Contains (i ∷ rest) k =
-                  λ there. elim (Contains-cases i rest k there)
-                  [ inl same ↦ other.1 (sym same) | inr later ↦ away later ] in
+              λ there. elim (Contains-cases i rest k there)
+              [ inl same ↦ other.1 (sym same) | inr later ↦ away later ] in
               let there : system_at new k ≡ system_at now k = ap (λ xs. slice_index_or xs k None) systems_set
-                  ∙ get_or-set_other now.systems.items i k (Some d.guarded) None other.1 in
+              ∙ get_or-set_other now.systems.items i k (Some d.guarded) None other.1 in
               subst (λ (x : Member). IsSomeAnd (system_at new k) (λ a. job_state meaning a ≡ x.job))
-                  (sym (of_another i k its_turn u.members other.1))
+              (sym (of_another i k its_turn u.members other.1))
               (subst (λ x. IsSomeAnd x (λ a. job_state meaning a ≡ (u.members k).job)) (sym there)
-                  (half.members k below out))
+              (half.members k below out))
         ];
         totals = λ k below. elim (eqb_tells k i) [
           | inl same ↦ subst (λ n. IsSomeAnd (slice_get new.totals.items n)
               (λ v. TotalsStand s.types v.items ((home whole.accesses.items s i u).members n).totals)) (sym same.1)
               (subst (λ (x : Member). IsSomeAnd (slice_get new.totals.items i)
-                  (λ v. TotalsStand s.types v.items x.totals)) (sym (its_own i its_turn u.members)) totals_back)
+              (λ v. TotalsStand s.types v.items x.totals)) (sym (its_own i its_turn u.members)) totals_back)
           | inr other ↦
               let there : slice_get new.totals.items k
-                  ≡ slice_get now.totals.items k = ap (λ xs. slice_get xs k) totals_set
-                  ∙ get_other now.totals.items i k comes.totals.0 other.1 in
+              ≡ slice_get now.totals.items k = ap (λ xs. slice_get xs k) totals_set
+              ∙ get_other now.totals.items i k comes.totals.0 other.1 in
               subst (λ (x : Member). IsSomeAnd (slice_get new.totals.items k)
-                  (λ v. TotalsStand s.types v.items x.totals)) (sym (of_another i k its_turn u.members other.1))
+              (λ v. TotalsStand s.types v.items x.totals)) (sym (of_another i k its_turn u.members other.1))
               (subst (λ x. IsSomeAnd x (λ v. TotalsStand s.types v.items (u.members k).totals)) (sym there)
-                  (half.totals k below))
+              (half.totals k below))
         ];
         untouched = λ k there.
             let other : k ≢ i = λ same. fresh (subst (Contains rest) same there) in
             of_another i k its_turn u.members other ∙ half.untouched k (Contains-tail i rest k there);
         world = merges (access_of whole.accesses.items i) d.taken now.world new.world (turn_of s i).world u.world
             (λ p isnt. none_there (slot p d.taken) (back.there p ∙ isnt)) out_of_world comes.taken_back
-                back.after.written half.world;
+            back.after.written half.world;
         size = sizes_follow whole.world now.world new.world half.size comes.taken_back.size;
         there = world_there;
       }
@@ -246,10 +246,10 @@ module _ {S : Type 0} (meaning : S → Meaning) where
             let lt : k < s.systems = omega (arith, below, same.systems) in
             let here : MemberStands meaning whole s.types k (s.members k) = stands.members k lt in
             let its : access_of now.accesses.items k
-                ≡ access_of whole.accesses.items k = ap (λ xs. access_of xs k) half.accesses in
+            ≡ access_of whole.accesses.items k = ap (λ xs. access_of xs k) half.accesses in
             let needs : needs_of (u.members k)
-                ≡ needs_of (s.members k) =
-                λ n. with_conditions ((same.members k).needs n) ((same.members k).conditions n) in
+            ≡ needs_of (s.members k) =
+            λ n. with_conditions ((same.members k).needs n) ((same.members k).conditions n) in
             record {
               guarded = half.members k lt (not_in_none k);
               access = subst (λ a. IsAccessOf (needs_of (u.members k)) a) (sym its)
@@ -307,8 +307,8 @@ module _ {S : Type 0} (meaning : S → Meaning) where
     goes_on come (i ∷ rest) all back half =
         may_come whole now s (all_home whole.accesses.items s come s) i rest d stands
         (All-contains (λ i. i < s.systems) batch i below
-            (subst (λ xs. Contains xs i) all (Contains-append_right come (i ∷ rest) i (Contains-head i rest))))
-            half back.0
+        (subst (λ xs. Contains xs i) all (Contains-append_right come (i ∷ rest) i (Contains-head i rest))))
+        half back.0
 
     pub next_may_come : (left : List (Done S)) → left ≡ d ∷ ds → ComingHome whole batch s left now before turns
         → MayCome now d
@@ -318,23 +318,23 @@ module _ {S : Type 0} (meaning : S → Meaning) where
     module _ (new : Lender S) (turn : Turn) (once : AllPairs (λ i j. i ≢ j) batch)
         (none : NoneConflict whole.accesses.items batch)
         (comes : ComesHome meaning now d new) (tells : turn ≡ record { system = d.number; outcome = d.outcome })
-            (merges : HomeMerges) (either : HomeWhereEither) where
+        (merges : HomeMerges) (either : HomeWhereEither) where
       one_more : (come rest : List ℕ) → come ++ rest ≡ batch → AllZip (IsBack whole s) rest (d ∷ ds)
           → Halfway whole s (all_home whole.accesses.items s come s) rest now
           → turns ≡ before ++ map (logged_turn s) come → ComingHome whole batch s ds new before (turns ++ turn ∷ [])
       one_more come [] all back half log = absurd back
       one_more come (i ∷ rest) all back half log =
           let lt : i < s.systems =
-              All-contains (λ i. i < s.systems) batch i below
-              (subst (λ xs. Contains xs i) all (Contains-append_right come (i ∷ rest) i (Contains-head i rest))) in
+          All-contains (λ i. i < s.systems) batch i below
+          (subst (λ xs. Contains xs i) all (Contains-append_right come (i ∷ rest) i (Contains-head i rest))) in
           let Free : ℕ → ℕ → Type 0 = λ i j. ¬ Conflict (access_of whole.accesses.items i)
-              (access_of whole.accesses.items j) in
+          (access_of whole.accesses.items j) in
           let others =
-              pairs_head (λ i j. i ≢ j) i rest
-              (pairs_right (λ i j. i ≢ j) come (i ∷ rest) (subst (AllPairs (λ i j. i ≢ j)) (sym all) once)) in
+          pairs_head (λ i j. i ≢ j) i rest
+          (pairs_right (λ i j. i ≢ j) come (i ∷ rest) (subst (AllPairs (λ i j. i ≢ j)) (sym all) once)) in
           let free = pairs_head Free i rest (pairs_right Free come (i ∷ rest) (subst (AllPairs Free) (sym all) none)) in
           let same : turn ≡ logged_turn s i = tells
-              ∙ (λ k. record { system = back.0.number k; outcome = back.0.after.outcome k }) in
+          ∙ (λ k. record { system = back.0.number k; outcome = back.0.after.outcome k }) in
           record {
             come = come ++ i ∷ [];
             rest = rest;
@@ -364,7 +364,7 @@ module _ {S : Type 0} (meaning : S → Meaning) where
       → LenderStands meaning now (after_turns_of batch s).state × (turns ≡ before ++ (after_turns_of batch s).turns)
   all_came whole now batch s left before turns stands below once none law nobody far =
       ended far.come far.rest far.all
-          (subst (AllZip (IsBack whole s) far.rest) nobody far.back) far.half far.logged_so_far
+      (subst (AllZip (IsBack whole s) far.rest) nobody far.back) far.half far.logged_so_far
     where
       ended : (come rest : List ℕ) → come ++ rest ≡ batch → AllZip (IsBack whole s) rest []
           → Halfway whole s (all_home whole.accesses.items s come s) rest now
@@ -373,12 +373,12 @@ module _ {S : Type 0} (meaning : S → Meaning) where
       ended come (i ∷ rest) all back half log = absurd back
       ended come [] all back half log =
           let are : AreAccessesOf s whole.accesses.items =
-              record { each = stands.accesses; of_needs = λ i lt. (stands.members i lt).access } in
+          record { each = stands.accesses; of_needs = λ i lt. (stands.members i lt).access } in
           let side = law s whole.accesses.items batch are below once none in
           let whole_batch : come ≡ batch = sym (append-nil come) ∙ all in
           let state : all_home whole.accesses.items s come s
-              ≡ (after_turns_of batch s).state = ap (λ is. all_home whole.accesses.items s is s) whole_batch
-              ∙ sym side.1 in (
+          ≡ (after_turns_of batch s).state = ap (λ is. all_home whole.accesses.items s is s) whole_batch
+          ∙ sym side.1 in (
             stands_again whole now s (after_turns_of batch s).state stands (turns_keep_systems batch s)
                 (subst (λ u. Halfway whole s u [] now) state half),
             log ∙ ap (λ is. before ++ map (logged_turn s) is) whole_batch ∙ ap (λ ts. before ++ ts) (sym side.0),

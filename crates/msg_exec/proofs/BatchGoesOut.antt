@@ -61,7 +61,7 @@ module _ {S : Type 0} where
   module _ (whole old new : Lender S) (is : List ℕ) (js : List (Job S)) (i : ℕ) (j : Job S)
       (out : AreOut whole is js old) (goes : GoesOut old i j new)
       (fresh : ¬ Contains is i) (free : All
-          (λ x. ¬ Conflict (access_of whole.accesses.items x) (access_of whole.accesses.items i)) is) where
+      (λ x. ¬ Conflict (access_of whole.accesses.items x) (access_of whole.accesses.items i)) is) where
     its : j.access ≡ access_of whole.accesses.items i
     its = goes.access ∙ ap (λ xs. access_of xs i) out.accesses
 
@@ -69,7 +69,7 @@ module _ {S : Type 0} where
     unlent : (p : Part) → writes j.access p ≡ true → slot p old.world ≡ slot p whole.world
     unlent p is_written =
         let none = earlier_write_not whole.accesses.items is i p free
-            (written_is_used _ p (ap (λ a. writes a p) (sym its) ∙ is_written)) in
+        (written_is_used _ p (ap (λ a. writes a p) (sym its) ∙ is_written)) in
         out.world p ∙ rw none refl
 
     is_out : IsOut whole i j
@@ -88,12 +88,12 @@ module _ {S : Type 0} where
         ≡ (if any_writes whole.accesses.items (is ++ i ∷ []) p then None else slot p whole.world)
     left_there p =
         let more : any_writes whole.accesses.items (is ++ i ∷ []) p
-            ≡ (any_writes whole.accesses.items is p || writes j.access p) =
+        ≡ (any_writes whole.accesses.items is p || writes j.access p) =
         any_more whole.accesses.items is i p ∙ ap (λ a. any_writes whole.accesses.items is p || writes a p) (sym its) in
         goes.lent.stayed p ∙ elim (cases_Bool (writes j.access p)) [
           | inl is_written ↦
               let none = earlier_write_not whole.accesses.items is i p free
-                  (written_is_used _ p (ap (λ a. writes a p) (sym its) ∙ is_written)) in
+              (written_is_used _ p (ap (λ a. writes a p) (sym its) ∙ is_written)) in
               rw (more, is_written, none) refl
           | inr isnt ↦ elim (cases_Bool (any_writes whole.accesses.items is p)) [
             | inl some ↦ rw (more, isnt, some) (out.world p ∙ rw some refl)
@@ -109,8 +109,8 @@ module _ {S : Type 0} where
       as_many = ap length goes.systems ∙ length-set old.systems.items i None ∙ out.as_many;
       others = λ k away.
           let other : k ≢ i =
-              λ same. away (Contains-append_right is (i ∷ []) k
-              (subst (Contains (i ∷ [])) (sym same) (Contains-head i []))) in
+          λ same. away (Contains-append_right is (i ∷ []) k
+          (subst (Contains (i ∷ [])) (sym same) (Contains-head i []))) in
           ap (λ xs. slice_index_or xs k None) goes.systems ∙ get_or-set_other old.systems.items i k None None other
           ∙ out.others k (λ there. away (Contains-append_left is (i ∷ []) k there));
       accesses = goes.accesses ∙ out.accesses;
@@ -136,14 +136,14 @@ module _ {S : Type 0} (meaning : S → Meaning) where
   may_go whole old s is js i stands lt out fresh free =
       let here : MemberStands meaning whole s.types i (s.members i) = stands.members i lt in
       let its : access_of old.accesses.items i
-          ≡ access_of whole.accesses.items i = ap (λ xs. access_of xs i) out.accesses in
+      ≡ access_of whole.accesses.items i = ap (λ xs. access_of xs i) out.accesses in
       record {
         number = omega (arith, lt, stands.accesses, ap length out.accesses);
         there = ap is_some (out.others i fresh) ∙ some_there (system_at whole i) _ here.guarded;
         home = λ p used.
             let used_by : IsTrue (uses (access_of whole.accesses.items i) p) = ap (λ a. uses a p) (sym its) ∙ used in
             ap is_some (out.world p ∙ rw (earlier_write_not whole.accesses.items is i p free used_by) refl)
-                ∙ here.home p used_by;
+            ∙ here.home p used_by;
       }
 
   -- ---- what is out
@@ -175,9 +175,9 @@ module _ {S : Type 0} (meaning : S → Meaning) where
       read = λ p is_read isnt.
           let A : Access → Type 0 = λ a. IsTrue (uses a p) in
           let used : IsTrue (uses (access_of whole.accesses.items i) p) =
-              subst A out.access (or_left _ (writes j.access p) is_read) in
+          subst A out.access (or_left _ (writes j.access p) is_read) in
           let none_write = others_write_not whole.accesses.items is i p none there used
-              (ap (λ a. writes a p) (sym out.access) ∙ isnt) in
+          (ap (λ a. writes a p) (sym out.access) ∙ isnt) in
           ap is_some (all.world p ∙ rw none_write refl) ∙ (stands.members i lt).home p used;
     };
     access =
@@ -192,7 +192,7 @@ module _ {S : Type 0} (meaning : S → Meaning) where
   all_may_run whole left s is js stands below out none k j at =
       let one = beside (IsOut whole) is js k j out.each at in
       may_run whole left s is js one.0 j stands
-          (All-contains (λ i. i < s.systems) is one.0 below one.1) out none one.1 one.2
+      (All-contains (λ i. i < s.systems) is one.0 below one.1) out none one.1 one.2
 
   -- ---- what they stand for
 
@@ -201,7 +201,7 @@ module _ {S : Type 0} (meaning : S → Meaning) where
       → PartsStand whole.world s.world → AreOut whole is js left → PartsStand left.world s.world
   left_stands whole left s is js stands out p =
       subst (λ o. IfSome o (λ k. StuffStands p k (content p s.world))) (sym (out.world p))
-          (elim (cases_Bool (any_writes whole.accesses.items is p)) [
+      (elim (cases_Bool (any_writes whole.accesses.items is p)) [
         | inl some ↦ rw some tt
         | inr none ↦ rw none (stands p)
       ])
@@ -210,7 +210,7 @@ module _ {S : Type 0} (meaning : S → Meaning) where
       → IsOut whole i j → PartsStand j.taken s.world
   taken_stands whole s i j stands out p =
       subst (λ o. IfSome o (λ k. StuffStands p k (content p s.world))) (sym (out.taken p))
-          (elim (cases_Bool (writes j.access p)) [
+      (elim (cases_Bool (writes j.access p)) [
         | inl is ↦ rw is (stands p)
         | inr isnt ↦ rw isnt tt
       ])

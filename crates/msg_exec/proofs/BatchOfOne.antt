@@ -31,7 +31,7 @@ module _ {S : Type 0} (meaning : S → Meaning) (g : Lender S) (s : State) (i : 
   module _ (left taken : Parts) (a : Access) (held : Option (GuardedSystem S)) (guarded : GuardedSystem S)
       (is_its : a ≡ get_or g.accesses.items i a)
       (is_there : held ≡ get_or g.systems.items i held) (is_some : held ≡ Some guarded)
-          (lent : LendsOut a g.world left taken) where
+      (lent : LendsOut a g.world left taken) where
     its : a ≡ access_of g.accesses.items i
     its = sym (read_or g.accesses.items i _ a (omega (arith, lt, stands.accesses)) is_its)
 
@@ -78,13 +78,13 @@ module _ {S : Type 0} (meaning : S → Meaning) (g : Lender S) (s : State) (i : 
           let turn : Turn = record { system = i; outcome = came } in
           let once = no_pairs (λ a b. a ≢ b) i in
           let far = next_comes meaning g mid (i ∷ []) s its_done [] []
-              [] stands below new turn once none comes refl merges either (its_done ∷ []) refl begun in
+          [] stands below new turn once none comes refl merges either (its_done ∷ []) refl begun in
           (all_came meaning g new (i ∷ []) s [] [] (turn ∷ []) stands below once none law refl far).0
 
       pub turn_is_logged : record { system = i; outcome = came } ≡ logged_turn s i
       turn_is_logged =
           let left_there = left_stands meaning g mid s (i ∷ []) (its_job ∷ []) stands.world out in
           let back =
-              (all_back meaning g mid s (i ∷ []) (its_job ∷ []) (its_done ∷ []) stands below left_there out.each
-              (record { number = refl; turn = took }, tt)).0 in
+          (all_back meaning g mid s (i ∷ []) (its_job ∷ []) (its_done ∷ []) stands below left_there out.each
+          (record { number = refl; turn = took }, tt)).0 in
           λ k. record { system = i; outcome = back.after.outcome k }

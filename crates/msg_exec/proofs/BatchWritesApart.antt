@@ -20,7 +20,7 @@ pub each_before : {X : Type 0} (R : X → X → Type 0) (xs : List X) (k : ℕ) 
 each_before R xs k d lt pairs = λ m e below.
     let earlier : m < k = omega (arith, below, length-take-le k xs (omega (arith, lt))) in
     let same : R (get_or xs m e) (get_or xs k d) = subst (R (get_or xs m e)) (get_or_default xs k e d lt)
-        (pairs m k e earlier lt) in
+    (pairs m k e earlier lt) in
     subst (λ x. R x (get_or xs k d)) (sym (get_or-take k xs m e earlier)) same
 
 pub not_before : (xs : List ℕ) (i : ℕ) → All (λ x. x ≢ i) xs → ¬ Contains xs i
@@ -55,7 +55,7 @@ module _ (accesses : List Access) where
   none_writes [] p all = refl
   none_writes (x ∷ xs) p all =
       rw (All-head (λ x. writes (access_of accesses x) p ≡ false) x xs all)
-          (none_writes xs p (All-tail (λ x. writes (access_of accesses x) p ≡ false) x xs all))
+      (none_writes xs p (All-tail (λ x. writes (access_of accesses x) p ≡ false) x xs all))
 
   -- what one of them uses none of the earlier ones writes, and none of the later ones
   pub earlier_write_not : (is : List ℕ) (i : ℕ) (p : Part) → All (λ x. Free x i) is
@@ -77,12 +77,12 @@ module _ (accesses : List Access) where
     | inl same ↦
         let here : writes (access_of accesses x) p ≡ false = ap (λ k. writes (access_of accesses k) p) same ∙ isnt in
         rw here (later_write_not xs x p (pairs_head Free x xs none)
-            (ap (λ k. uses (access_of accesses k) p) same ∙ used))
+        (ap (λ k. uses (access_of accesses k) p) same ∙ used))
     | inr later ↦
         let here : writes (access_of accesses x) p
-            ≡ false =
-            first_unwritten _ (access_of accesses i) p
-            (All-contains (Free x) xs i (pairs_head Free x xs none) later) used in
+        ≡ false =
+        first_unwritten _ (access_of accesses i) p
+        (All-contains (Free x) xs i (pairs_head Free x xs none) later) used in
         rw here (others_write_not xs i p (pairs_tail Free x xs none) later used isnt)
   ]
 

@@ -38,7 +38,7 @@ pub numbered_more : (n : ℕ) (ms : List Meaning) (m : Meaning) → numbered_fro
 numbered_more n [] m = ap (λ k. as_number k m ∷ []) (omega arith)
 numbered_more n (x ∷ ms) m =
     ap (λ rest. as_number n x ∷ rest)
-        (numbered_more (n + 1) ms m ∙ ap (λ k. numbered_from (n + 1) ms ++ as_number k m ∷ []) (omega arith))
+    (numbered_more (n + 1) ms m ∙ ap (λ k. numbered_from (n + 1) ms ++ as_number k m ∷ []) (omega arith))
 
 as_many : (n : ℕ) (ms : List Meaning) → length (numbered_from n ms) ≡ length ms
 as_many n [] = refl
@@ -80,9 +80,14 @@ module _ {S : Type 0} (meaning : S → Meaning) (old new : List S)
   after i y there =
       let lt = slice_get_within old i y there in
       let x = item_at new i (omega (arith, lt, same_length)) in
-      let was = before i x.0 x.1 in
-      (x.0, (x.1, ap (λ (m : Meaning). m.needs) was.1.1
-          ∙ ap (λ z. (meaning z).needs) (same_Some was.0 y (sym was.1.0 ∙ there))))
+      let was = before i x.0 x.1 in (
+        x.0,
+        (
+          x.1,
+          ap (λ (m : Meaning). m.needs) was.1.1
+              ∙ ap (λ z. (meaning z).needs) (same_Some was.0 y (sym was.1.0 ∙ there)),
+        ),
+      )
 
   clashes_still : (x y : S) → (meaning x).needs ≡ (meaning y).needs → HasClash (meaning x) → HasClash (meaning y)
   clashes_still x y same clash = subst (λ (n : Needs). (p : Part) × IsTrue (n.reads p && n.writes p)) same clash
@@ -112,8 +117,10 @@ module _ {S : Type 0} (meaning : S → Meaning) (old new : List S)
   may_be_added world places one_each joins fit i x there =
       let y = before i x there in record {
         new =
-            record { writer = ap (λ (m : Meaning). m.writer) y.1.1;
-            places = λ t. ap (λ (m : Meaning). m.places t) y.1.1 };
+            record {
+              writer = ap (λ (m : Meaning). m.writer) y.1.1;
+              places = λ t. ap (λ (m : Meaning). m.places t) y.1.1;
+            };
         fits = λ place sp p needed. fit i y.0 place (slice_get_within old i y.0 y.1.0) y.1.0 sp p
             (subst (λ (m : Meaning). IsTrue (needs_any (with_conditions m.needs place.conditions) p)) y.1.1 needed);
         joins = λ place sp. subst (λ (q : Place). IsJoin q.join) (get_or_from_slice_get places i place place sp)

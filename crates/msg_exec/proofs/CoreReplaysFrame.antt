@@ -74,7 +74,7 @@ module _ {S : Type 0} (meaning : S → Meaning) where
       let own = is_frame_by meaning b s frame settled turns replies refl has refl in
       let alike = agree frame s _ settled lawful.settled order own lawful.is_order lawful.lawful in
       let ran : HasLeft meaning (IsFrame frame s settled) s d =
-          frame_ran meaning b d s frame settled turns replies refl has stands.sound stays
+      frame_ran meaning b d s frame settled turns replies refl has stands.sound stays
       (subst (LenderStands meaning d.lender) alike.0 lender) refl joins rules plan accesses in
       record {
         state = ran.state;

@@ -49,14 +49,14 @@ joins_listed : (js : List ℕ) (s : State) → AreJoins js s → js
     ≡ map (λ i. (s.members i).join) (range_with_len 0 s.systems)
 joins_listed js s are = listed (λ i. (s.members i).join) js 0 s.systems are.as_many
     (λ k lt. slice_get-get_or js k 0 (omega (arith, lt, are.as_many)) ∙ ap (λ j. Some j) (are.each k lt)
-        ∙ ap (λ m. Some (s.members m).join) (omega arith))
+    ∙ ap (λ m. Some (s.members m).join) (omega arith))
 
 -- those that have joined by a frame, where so many frames and one more are counted
 pub joined_by_frame : (js : List ℕ) (s : State) (frame : ℕ) → AreJoins js s → max 1 s.frames ≡ frame
     → map (λ j. nat_le j frame) js ≡ join_flags s
 joined_by_frame js s frame are is =
     ap (map (λ j. nat_le j frame)) (joins_listed js s are)
-        ∙ map-map (λ j. nat_le j frame) (λ i. (s.members i).join) (range_with_len 0 s.systems)
+    ∙ map-map (λ j. nat_le j frame) (λ i. (s.members i).join) (range_with_len 0 s.systems)
     ∙ ap (λ n. map (λ i. nat_le (s.members i).join n) (range_with_len 0 s.systems)) (sym is)
 
 alike_below : (f g : ℕ → Bool) (from n : ℕ) → ((k : ℕ) → from ≤ k → k < from + n → f k ≡ g k)
@@ -85,15 +85,17 @@ one_more j (suc f) (inl waits) = ap (λ n. nat_le j n) (later (suc f)) ∙ beyon
       where
         above : (j f : ℕ) → f < j → j ≢ suc f → suc f < j
         above j f lt waits =
-            elim (cases_Bool (j == suc f))
-            [ inl is ↦ absurd (waits (eqb-true j (suc f) is)) | inr isnt ↦
-            (let other = eqb-false j (suc f) isnt in omega (arith, lt, other)) ]
+            elim (cases_Bool (j == suc f)) [
+              | inl is ↦ absurd (waits (eqb-true j (suc f) is))
+              | inr isnt ↦
+                  (let other = eqb-false j (suc f) isnt in omega (arith, lt, other))
+            ]
 
 pub nobody_more : (s : State) → NobodyJoins s → join_flags (counted (joining s)) ≡ join_flags s
 nobody_more s none =
     let same = joining_keeps s in
     let counted_alike : SameSystems (counted s) (counted (joining s)) =
-        record { systems = same.systems; members = same.members; rules = same.rules; types = same.types } in
+    record { systems = same.systems; members = same.members; rules = same.rules; types = same.types } in
     joined_stay (counted s) (counted (joining s)) counted_alike (ap suc (joining_makes_no_frame s))
     ∙ alike_below (has_begun (counted s)) (has_begun s) 0 s.systems
     (λ k _ lt. one_more (s.members k).join s.frames (none k (omega (arith, lt))))
@@ -137,7 +139,7 @@ plan_next c s next plan has is plans =
     let at : max 1 now.frames ≡ next = omega (arith, is, joining_makes_no_frame s) in
     subst (λ (rs : List Rule). IsPlanOf c.lender.accesses.items rs (join_flags now) plan) has.rules
     (subst (λ bs. IsPlanOf c.lender.accesses.items c.rules.items bs plan)
-        (joined_by_frame c.joins.items now next are at) plans)
+    (joined_by_frame c.joins.items now next are at) plans)
 
 -- those that join with it do so
 pub those_begin : {S : Type 0} (meaning : S → Meaning) (c d : Core S) (s : State) (next : ℕ) → CoreStands meaning c s
@@ -146,7 +148,7 @@ pub those_begin : {S : Type 0} (meaning : S → Meaning) (c d : Core S) (s : Sta
     ≡ c.lender.accesses → PlansNext c s d.plan → HasBegunFrame meaning d s
 those_begin meaning c d s next stands some is lender joins rules accesses plan =
     let begins : joining s ≡ with_joining next s = rw (ne_eqb s.frames 0 (λ none. absurd (omega (arith, some, none))))
-        (ap (λ k. with_joining k s) (sym is)) in
+    (ap (λ k. with_joining k s) (sym is)) in
     let has : Schedule c (joining s) = schedule_along c s (joining s) (joining_keeps s) stands.schedule in
     record {
       lender = subst (LenderStands meaning d.lender) (sym begins) lender;
@@ -161,7 +163,7 @@ those_begin meaning c d s next stands some is lender joins rules accesses plan =
       plan = subst (λ (rs : List Rule). IsPlanOf d.lender.accesses.items rs (join_flags (counted (joining s))) d.plan)
           (sym (joining_keeps s).rules)
           (subst (λ (v : Vec Access). IsPlanOf v.items s.rules (join_flags (counted (joining s))) d.plan)
-              (sym accesses) plan);
+          (sym accesses) plan);
     }
 
 -- ---- the frame opens, and its turns are taken
@@ -189,10 +191,10 @@ module _ {S : Type 0} (meaning : S → Meaning) where
   batches_below batches u order classes k d lt j e below =
       let batch : List ℕ = (get_or batches k d).items in
       let at : batch_at (map (λ (b : Vec ℕ). b.items) batches) k
-          ≡ batch = get_or-map (λ (b : Vec ℕ). b.items) batches k d [] lt in
+      ≡ batch = get_or-map (λ (b : Vec ℕ). b.items) batches k d [] lt in
       joined_below u (get_or batch j e)
-          ((classes.of_number k (get_or batch j e)).0
-          (subst (λ xs. Contains xs (get_or batch j e)) (sym at) (Contains-get_or batch j e below))).0
+      ((classes.of_number k (get_or batch j e)).0
+      (subst (λ xs. Contains xs (get_or batch j e)) (sym at) (Contains-get_or batch j e below))).0
 
   -- the updates and the posts leave the rest of the core
   pub opened : (b d : Core S) (s : State) (frame : Frame) (replies : List Reply) → HasBegunFrame meaning b s
@@ -262,7 +264,7 @@ module _ {S : Type 0} (meaning : S → Meaning) where
           plan = subst (λ xs. IsPlanOf xs u.rules (join_flags u) d.plan) (sym accesses)
               (subst (λ p. IsPlanOf b.lender.accesses.items u.rules (join_flags u) p) (sym plan)
               (subst (λ rs. IsPlanOf b.lender.accesses.items rs (join_flags u) b.plan) (sym same.rules)
-                  (subst (λ js. IsPlanOf b.lender.accesses.items bt.rules js b.plan)
+              (subst (λ js. IsPlanOf b.lender.accesses.items bt.rules js b.plan)
               (sym (joined_stay bt u same (turns_make_no_frame order bt))) has.plan)));
           sound = stays frame s log u sound ran;
         };

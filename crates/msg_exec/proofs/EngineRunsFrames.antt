@@ -88,7 +88,7 @@ module _ {S : Type 0} (meaning : S → Meaning) where
   one_frame_more frames k frame s before between after log e f lt is far ran pushed =
       let one = ran far.state far.stands in
       let longer : take (k + 1) frames ≡ take k frames ++ frame ∷ [] = take_more frames k frame lt
-          ∙ ap (λ x. take k frames ++ x ∷ []) (sym is) in
+      ∙ ap (λ x. take k frames ++ x ∷ []) (sym is) in
       let more = ap (λ ls. ls ++ log ∷ []) far.appended in
       record {
         logs = far.logs ++ log ∷ [];
@@ -136,10 +136,14 @@ module _ {S : Type 0} (meaning : S → Meaning) where
   one_run_of exist unique None s stands frames = absurd stands
   one_run_of exist unique (Some c) s stands frames =
       let are : AreAccessesOf s c.lender.accesses.items =
-          record { each = stands.lender.accesses; of_needs = λ i lt. (stands.lender.members i lt).access } in
+      record { each = stands.lender.accesses; of_needs = λ i lt. (stands.lender.members i lt).access } in
       let some = exist frames s c.lender.accesses.items stands.schedule.no_cycle are in
-      record { logs = some.0; state = some.1; is_run = some.2;
-          only = λ others u other. unique frames s u some.1 others some.0 other some.2 }
+      record {
+        logs = some.0;
+        state = some.1;
+        is_run = some.2;
+        only = λ others u other. unique frames s u some.1 others some.0 other some.2;
+      }
 
   pub has_one_run : RunsExist → RunsAreUnique → (e : EngineOf S) (s : State) → StandsFor meaning e s
       → (frames : List Frame) → HasOneRun frames s
@@ -176,7 +180,7 @@ pub one_log_more : {X : Type 0} (P : X → Type 0) (n : ℕ) (before after : Lis
     ≡ before ++ x ∷ [] → All P (drop n before) → P x → All P (drop n after)
 one_log_more P n before after x few is all one =
     subst (All P) (sym (ap (drop n) is ∙ drop-append-le n before (x ∷ []) few))
-        (All-append P (drop n before) (x ∷ []) all (All-cons P x [] one (All-nil P)))
+    (All-append P (drop n before) (x ∷ []) all (All-cons P x [] one (All-nil P)))
 
 pub some_there : {X : Type 0} (P : X → Type 0) (o : Option X) → IsSomeAnd o P → IsSome o
 some_there P (Some x) there = refl

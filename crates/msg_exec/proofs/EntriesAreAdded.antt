@@ -35,8 +35,8 @@ entries_from t ops [] k reply here = absurd (none-some reply here)
 entries_from t [] (r ∷ replies) zero reply here = refl
 entries_from t (op ∷ ops) (r ∷ replies) zero reply here =
     ap (λ es. es ++ entries_for t ops replies)
-        (of_its_type t (type_read op) (option_to_list (entry_of r))
-        ∙ ap (λ x. entry_at t (op ∷ ops) 0 x) (ap (λ o. unwrap_or o r) here))
+    (of_its_type t (type_read op) (option_to_list (entry_of r))
+    ∙ ap (λ x. entry_at t (op ∷ ops) 0 x) (ap (λ o. unwrap_or o r) here))
 entries_from t [] (r ∷ replies) (suc k) reply here = refl
 entries_from t (op ∷ ops) (r ∷ replies) (suc k) reply here = entries_from t ops replies k reply here
 
@@ -75,5 +75,5 @@ pub entered_there : {S : Type 0} (meaning : S → Meaning) (d : Done S) (all : L
 entered_there meaning d all x was now at there size entered u is =
     let same : u ≡ x = ap (λ o. unwrap_or o x) (sym is) ∙ unwrap_or-slice_get all d.number x ∙ sym at in
     subst (λ xs. HaveEntered meaning d xs (with_items x now).items)
-        (there ∙ ap (λ (v : Vec Totals). v.items) (sym same))
+    (there ∙ ap (λ (v : Vec Totals). v.items) (sym same))
     (subst (λ xs. HaveEntered meaning d was xs) (sym (with_items_is x now size)) entered)

@@ -52,10 +52,10 @@ module _ {S : Type 0} (meaning : S → Meaning) where
     member_first g i x place sx sp same na nc nt guarded accesses totals lt =
         let total = item_at g.totals.items i (omega (arith, lt, nt)) in
         let access =
-            (accesses i (access_of g.accesses.items i)
-            (slice_get-get_or g.accesses.items i _ (omega (arith, lt, nc)))) in
+        (accesses i (access_of g.accesses.items i)
+        (slice_get-get_or g.accesses.items i _ (omega (arith, lt, nc)))) in
         let needs : needs_of (waiting (meaning x) place) ≡ with_conditions (meaning x).needs place.conditions =
-            ap (with_conditions (meaning x).needs) (conditions_new place.conditions) in
+        ap (with_conditions (meaning x).needs) (conditions_new place.conditions) in
         record {
           guarded = guarded i _ (slice_get-get_or g.systems.items i None (omega (arith, lt, na))) x place sx sp;
           access = subst (λ n. IsAccessOf n (access_of g.accesses.items i)) (sym needs) (access.access x place sx sp);
@@ -69,9 +69,9 @@ module _ {S : Type 0} (meaning : S → Meaning) where
 
     module _ (g : Lender S) (rules : List Rule) (same : g.world ≡ world)
         (na : length g.systems.items ≡ length systems) (nc : length g.accesses.items ≡ length systems)
-            (nt : length g.totals.items ≡ length systems)
+        (nt : length g.totals.items ≡ length systems)
         (guarded : EachIs (IsGuardedAt meaning systems places) g.systems.items)
-            (accesses : EachIs (IsAccessAt meaning systems places) g.accesses.items)
+        (accesses : EachIs (IsAccessAt meaning systems places) g.accesses.items)
         (totals : EachIs (λ k w. AreNoTotals (length world.types) w.items) g.totals.items) where
       first : WorldState → State
       first w = unjoined (map meaning systems) places rules (length world.types) w
@@ -88,9 +88,9 @@ module _ {S : Type 0} (meaning : S → Meaning) where
                 let x = item_at systems i (omega (arith, lt, n)) in
                 let q = item_at places i (omega (arith, lt, n, as_many)) in
                 subst (λ m. MemberStands meaning g (length world.types) i (waiting m (slice_index_or places i nowhere)))
-                    (sym (found_system i x.0 x.1))
+                (sym (found_system i x.0 x.1))
                 (subst (λ place. MemberStands meaning g (length world.types) i (waiting (meaning x.0) place))
-                    (sym (found_place i q.0 q.1))
+                (sym (found_place i q.0 q.1))
                 (member_first g i x.0 q.0 x.1 q.1 same na nc nt guarded accesses totals (omega (arith, lt, n))));
             world = subst (λ p. PartsStand p w) (sym same) stands;
             whole = subst IsWhole (sym same) whole;
@@ -128,7 +128,7 @@ module _ {S : Type 0} (meaning : S → Meaning) where
           let q = item_at places k lt in
           let x = item_at systems k (omega (arith, lt, as_many)) in
           subst (λ (place : Place). 1 ≤ place.join) (sym (get_or_from_slice_get places k q.0 d q.1))
-              ((each k x.0 x.1).joins q.0 q.1).0;
+          ((each k x.0 x.1).joins q.0 q.1).0;
     }
 
 pub all_has : (n i : ℕ) → i < n → IsTrue (has_joined (replicate n true) i)
@@ -179,7 +179,7 @@ module _ {S : Type 0} (meaning : S → Meaning) where
             let q = item_at places i (omega (arith, lt, n, as_many)) in
             let x = item_at systems i (omega (arith, lt, n)) in
             subst (λ (place : Place). place.join ≤ 10000) (sym (get_or_from_slice_get places i q.0 nowhere q.1))
-                ((each i x.0 x.1).joins q.0 q.1).1;
+            ((each i x.0 x.1).joins q.0 q.1).1;
         named = subst (λ k. NameSystemsBelow k rules) (sym n) named;
         no_cycle = λ joined size. none joined (size ∙ n);
       }

@@ -43,7 +43,7 @@ ran_job meaning before now l taken w none after replies nothing given holds aske
     let is = after_job_that_runs (job_state meaning before) w holds in
     let m : Meaning = meaning before.system in
     let moved : meaning now.system ≡ after_turn m w = ran.means
-        ∙ (λ k. record (told (ran.answers w stands k) m) { places = ran.places w stands k }) in
+    ∙ (λ k. record (told (ran.answers w stands k) m) { places = ran.places w stands k }) in
     subst (λ (after : AfterJob). IsAfterJob meaning after now taken (outcome.Ran replies)) (sym is) (record {
       job = λ k. record { system = moved k; conditions = asked k };
       written = written;
@@ -53,8 +53,11 @@ ran_job meaning before now l taken w none after replies nothing given holds aske
     })
 
 after_job_that_skips : (j : JobState) (w : WorldState) → false ≡ all_hold j.conditions w
-    → after_job j w ≡ record { job = record { system = j.system; conditions = map (after_asking w) j.conditions };
-    state = w; replies = None }
+    → after_job j w ≡ record {
+      job = record { system = j.system; conditions = map (after_asking w) j.conditions };
+      state = w;
+      replies = None;
+    }
 after_job_that_skips j w skips = rw (sym skips) refl
 
 pub skipped_job : {S : Type 0} (meaning : S → Meaning) (before now : GuardedSystem S) (taken : Parts) (w : WorldState)
@@ -63,7 +66,7 @@ pub skipped_job : {S : Type 0} (meaning : S → Meaning) (before now : GuardedSy
     → IsAfterJob meaning (after_job (job_state meaning before) w) now taken outcome.Skipped
 skipped_job meaning before now taken w skips same asked stand =
     subst (λ (after : AfterJob). IsAfterJob meaning after now taken outcome.Skipped)
-        (sym (after_job_that_skips (job_state meaning before) w skips)) (record {
+    (sym (after_job_that_skips (job_state meaning before) w skips)) (record {
       job = λ k. record { system = meaning (same k); conditions = asked k };
       written = stand;
       outcome = refl;
@@ -76,5 +79,5 @@ pub asked_guards : {Z : Type 0} (guards : Vec Asked Z) (slice after : List Asked
 asked_guards guards slice after w there same moved =
     let f : Asked → Condition = λ a. a.condition in
     let as_many : length after ≡ length guards.items = sym (length-map after f) ∙ ap length same ∙ length-map slice f
-        ∙ ap length there in
+    ∙ ap length there in
     with_items_is guards after (omega (arith, as_many)) ∙ moved ∙ ap (λ gs. map (after_asking w) gs) there

@@ -54,4 +54,4 @@ module _ {B S E : Type 0} (meaning : S → Meaning) (job : B → Job S) (world :
   all_are_done bs jobs rs ds same one lawful ok =
       let l : IsLawfulOutcome Lawful bs (oks ds) = subst (IsLawfulOutcome Lawful bs) ok lawful in
       subst (λ (js : List (Job S)). AreDone meaning w js ds) same
-          (each_done bs ds (sym (length-map ds ok_of) ∙ l.as_many) l.each one)
+      (each_done bs ds (sym (length-map ds ok_of) ∙ l.as_many) l.each one)

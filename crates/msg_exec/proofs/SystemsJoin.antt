@@ -114,11 +114,11 @@ module _ {S : Type 0} (meaning : S → Meaning) where
       → MemberStands meaning h types i (joined_member cs m)
   begun_stands g h types i cs x v m lt lv many fresh has stands =
       let access : access_of h.accesses.items i
-          ≡ access_of g.accesses.items i = ap (λ xs. access_of xs i) has.accesses in
+      ≡ access_of g.accesses.items i = ap (λ xs. access_of xs i) has.accesses in
       let needs : needs_of (joined_member cs m)
-          ≡ needs_of m =
-          ap (with_conditions m.job.system.needs)
-          (conditions_alike (asked_started m.job.system.start cs) (λ a. refl) m.job.conditions) in
+      ≡ needs_of m =
+      ap (with_conditions m.job.system.needs)
+      (conditions_alike (asked_started m.job.system.start cs) (λ a. refl) m.job.conditions) in
       record {
         guarded = subst (λ o. IsSomeAnd o (λ b. job_state meaning b ≡ (joined_member cs m).job))
             (sym (ap (λ xs. slice_index_or xs i None) has.systems ∙ get_or-set_same g.systems.items i x None lt))
@@ -129,10 +129,10 @@ module _ {S : Type 0} (meaning : S → Meaning) where
             (stands.home p (ap (λ a. uses a p) (sym access) ∙ used));
         totals = subst (λ o. IsSomeAnd o (λ w. TotalsStand types w.items (joined_member cs m).totals))
             (sym (ap (λ xs. slice_get xs i) has.totals ∙ get_same g.totals.items i v lv)) (record {
-          as_many = many;
-          each = λ t below. opened_totals (system_at g i) v.items cs m.job has.opened stands.guarded t
-              (omega (arith, below, many)) ∙ ap totals_from (first_is_started cs m.job.system t (fresh t));
-        });
+              as_many = many;
+              each = λ t below. opened_totals (system_at g i) v.items cs m.job has.opened stands.guarded t
+                  (omega (arith, below, many)) ∙ ap totals_from (first_is_started cs m.job.system t (fresh t));
+            });
       }
 
   -- one system more has joined
@@ -143,11 +143,11 @@ module _ {S : Type 0} (meaning : S → Meaning) where
   one_joins g h s i frame cs x v lt joins fresh same many has stands =
       let shape : SameShape g.world h.world = subst (SameShape g.world) (sym has.world) (same_shape g.world) in
       let here : MemberStands meaning g s.types i (s.members i) =
-          subst (λ m. MemberStands meaning g s.types i m) (not_yet s i frame) (stands.members i lt) in
+      subst (λ m. MemberStands meaning g s.types i m) (not_yet s i frame) (stands.members i lt) in
       let its : MemberStands meaning h s.types i (joined_member (counts s) (s.members i)) =
-          subst (λ c. MemberStands meaning h s.types i (joined_member c (s.members i))) same
+      subst (λ c. MemberStands meaning h s.types i (joined_member c (s.members i))) same
       (begun_stands g h s.types i cs x v (s.members i) (omega (arith, lt, stands.systems))
-          (omega (arith, lt, stands.totals)) many (λ t. fresh i t joins) has here) in
+      (omega (arith, lt, stands.totals)) many (λ t. fresh i t joins) has here) in
       record {
         systems = ap length has.systems ∙ length-set g.systems.items i x ∙ stands.systems;
         accesses = ap length has.accesses ∙ stands.accesses;
@@ -158,9 +158,9 @@ module _ {S : Type 0} (meaning : S → Meaning) where
           | inr other ↦ subst (λ m. MemberStands meaning h s.types j m) (sym (still s i j frame other.1))
               (member_stays meaning g h s.types j ((joined_below i frame s).members j)
               (ap (λ xs. slice_index_or xs j None) has.systems
-                  ∙ get_or-set_other g.systems.items i j x None other.1) has.accesses
+              ∙ get_or-set_other g.systems.items i j x None other.1) has.accesses
               (ap (λ xs. slice_get xs j) has.totals ∙ get_other g.totals.items i j v other.1) shape
-                  (stands.members j below))
+              (stands.members j below))
         ];
         world = subst (λ w. PartsStand w s.world) (sym has.world) stands.world;
         whole = subst IsWhole (sym has.world) stands.whole;
@@ -172,17 +172,17 @@ module _ {S : Type 0} (meaning : S → Meaning) where
       → LenderStands meaning g (joined_below i frame s) → LenderStands meaning g (joined_below (i + 1) frame s)
   one_waits g s i frame waits stands = members_alike g (joined_below i frame s) (joined_below (i + 1) frame s).members
       (λ j lt. elim (eqb_tells j i) [
-    | inl is ↦ subst (λ k. (joined_below (i + 1) frame s).members k ≡ (joined_below i frame s).members k) (sym is.1)
-        (ap (pick s i) (and_false (nat_lt i (i + 1)) _ (ne_eqb (s.members i).join frame waits))
-        ∙ sym (not_yet s i frame))
-    | inr other ↦ still s i j frame other.1
-  ]) stands
+        | inl is ↦ subst (λ k. (joined_below (i + 1) frame s).members k ≡ (joined_below i frame s).members k) (sym is.1)
+            (ap (pick s i) (and_false (nat_lt i (i + 1)) _ (ne_eqb (s.members i).join frame waits))
+            ∙ sym (not_yet s i frame))
+        | inr other ↦ still s i j frame other.1
+      ]) stands
 
   pub all_joined : (g : Lender S) (s : State) (n frame : ℕ) → s.systems ≤ n
       → LenderStands meaning g (joined_below n frame s) → LenderStands meaning g (with_joining frame s)
   all_joined g s n frame le stands = members_alike g (joined_below n frame s) (with_joining frame s).members
       (λ j lt. ap (λ b. pick s j (b && ((s.members j).join == frame))) (sym (lt-ltb j n (omega (arith, lt, le)))))
-          stands
+      stands
 
 -- ---- the counts
 
@@ -194,8 +194,8 @@ listed f (x ∷ xs) from zero size each = absurd (omega (arith, size))
 listed f (x ∷ xs) from (suc n) size each =
     let first : x ≡ f from = ap (λ o. unwrap_or o x) (each 0 (omega arith)) ∙ ap f (no_more from) in
     let rest : xs ≡ map f (range_with_len (from + 1) n) =
-        listed f xs (from + 1) n (omega (arith, size))
-        (λ k lt. each (suc k) (omega (arith, lt)) ∙ ap (λ m. Some (f m)) (omega arith)) in
+    listed f xs (from + 1) n (omega (arith, size))
+    (λ k lt. each (suc k) (omega (arith, lt)) ∙ ap (λ m. Some (f m)) (omega arith)) in
     ap (λ y. y ∷ xs) first ∙ ap (λ ys. f from ∷ ys) rest
   where
     no_more : (m : ℕ) → m + 0 ≡ m
@@ -205,4 +205,4 @@ pub counts_are : (cs : List ℕ) (s : State) (n : ℕ) → length cs ≡ n → n
     → ((t : ℕ) → t < n → slice_get cs t ≡ Some (count (s.world.histories t))) → cs ≡ counts s
 counts_are cs s n size same each =
     listed (λ t. count (s.world.histories t)) cs 0 s.types (size ∙ same)
-        (λ k lt. each k (omega (arith, lt, same)) ∙ ap (λ m. Some (count (s.world.histories m))) (omega arith))
+    (λ k lt. each k (omega (arith, lt, same)) ∙ ap (λ m. Some (count (s.world.histories m))) (omega arith))

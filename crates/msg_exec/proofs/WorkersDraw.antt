@@ -56,7 +56,7 @@ module _ {J : Type 0} where
     | inl own ↦ record { index = 0; pass = p; there = refl; drew = found k p.drawn own }
     | inr none ↦
         let sum : times k (p.drawn ++ drawn_by ps) ≡ times k p.drawn + times k (drawn_by ps) =
-            sum_by-append (λ n. cond (n == k) 1 0) p.drawn (drawn_by ps) in
+        sum_by-append (λ n. cond (n == k) 1 0) p.drawn (drawn_by ps) in
         let d = drawer ps k (omega (arith, some, sum)) in
         record { index = suc d.index; pass = d.pass; there = d.there; drew = d.drew }
   ]
@@ -113,7 +113,7 @@ module _ {S : Type 0} (P : ℕ → Type 0) (whole : Lender S) where
   of_batch (i ∷ batch) [] out told = absurd out
   of_batch (i ∷ batch) (j ∷ jobs) out told =
       All-cons P i batch (subst P out.0.number (All-head (λ (j : Job S). P j.number) j jobs told))
-          (of_batch batch jobs out.1 (All-tail (λ (j : Job S). P j.number) j jobs told))
+      (of_batch batch jobs out.1 (All-tail (λ (j : Job S). P j.number) j jobs told))
 
 module _ (passed : ℕ → ℕ → Type 0) where
   more_workers : (n m : ℕ) (systems : List ℕ) → n ≤ m → All (PassedGate passed n) systems

@@ -108,5 +108,5 @@ module _ {S : Type 0} (meaning : S → Meaning) where
       × IsFirstUnknown (length a.systems) a.rules rule
   RefusesToBuild world a (Refused refusal) =
       AllFit world a.systems a.places × NameSystemsBelow (length a.systems) a.rules
-          × RefusesFor meaning a.systems a.rules refusal
+      × RefusesFor meaning a.systems a.rules refusal
   RefusesToBuild world a _ = ⊥

@@ -10,8 +10,11 @@ within_u64 n = min n (2 ^ 64 - 1)
 -- the totals as they are kept
 abbrev pub kept : Totals → Totals
 kept x =
-    record x { got = within_u64 x.got; missed = within_u64 x.missed;
-    cleared = within_u64 x.cleared }
+    record x {
+      got = within_u64 x.got;
+      missed = within_u64 x.missed;
+      cleared = within_u64 x.cleared;
+    }
 
 -- those of type t
 abbrev pub totals_at : List Totals → ℕ → Totals

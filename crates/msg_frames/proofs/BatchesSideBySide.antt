@@ -67,7 +67,7 @@ module _ (foot : JobFootprint) (accesses : List Access) (start : State) (are : A
       → Untouched start s i → Untouched start s j → Untouched start (after_turn_of i s) j
   still s i j li lj ne none hi hj =
       let free : Apart (needs_of (start.members i)) (needs_of (start.members j)) =
-          apart _ _ (access_of accesses i) (access_of accesses j) (are.of_needs i li) (are.of_needs j lj) none in
+      apart _ _ (access_of accesses i) (access_of accesses j) (are.of_needs i li) (are.of_needs j lj) none in
       record {
         member = with_member_other s.members i (turn_of s i).member j (λ e. ne (sym e)) ∙ hj.member;
         world = λ p used.
@@ -86,12 +86,12 @@ module _ (foot : JobFootprint) (accesses : List Access) (start : State) (are : A
       let here : Untouched start s i = All-head (Untouched start s) i is same in
       let li : i < start.systems = All-head (λ i. i < start.systems) i is below in
       let rest = from_start is (after_turn_of i s) (All-tail (λ i. i < start.systems) i is below)
-          (pairs_tail (λ i j. i ≢ j) i is once)
+      (pairs_tail (λ i j. i ≢ j) i is once)
       (pairs_tail (λ i j. ¬ Conflict (access_of accesses i) (access_of accesses j)) i is none)
       (λ k d lt. still s i (slice_index_or is k d) li (below (suc k) d (omega arith))
-          (pairs_head (λ i j. i ≢ j) i is once k d lt)
+      (pairs_head (λ i j. i ≢ j) i is once k d lt)
       (pairs_head (λ i j. ¬ Conflict (access_of accesses i) (access_of accesses j)) i is none k d lt) here
-          (same (suc k) d (omega arith))) in (
+      (same (suc k) d (omega arith))) in (
         ap (λ (g : Member × Outcome). record { system = i; outcome = g.1 }
             ∷ (after_turns_of is (after_turn_of i s)).turns) (given_same s i here)
             ∙ ap (λ turns. logged_turn start i ∷ turns) rest.0,
@@ -118,16 +118,16 @@ pub batch_by_batch : JobFootprint → FramesRunByBatches
 batch_by_batch foot s accesses [] are below once apart = refl
 batch_by_batch foot s accesses (batch ∷ batches) are below once apart =
     let first = side_by_side foot s accesses batch are (all_left (λ i. i < s.systems) batch (concat batches) below)
-        (pairs_left (λ i j. i ≢ j) batch (concat batches) once)
-        (All-head (NoneConflict accesses) batch batches apart) in
+    (pairs_left (λ i j. i ≢ j) batch (concat batches) once)
+    (All-head (NoneConflict accesses) batch batches apart) in
     let kept : SameSystems s (after_turns_of batch s).state = turns_keep_systems batch s in
     let left : State = (after_turns_of batch s).state in
     let rest = batch_by_batch foot left accesses batches (accesses_stay s left accesses kept are)
     (subst (λ n. All (λ i. i < n) (concat batches)) (sym kept.systems)
-        (all_right (λ i. i < s.systems) batch (concat batches) below))
+    (all_right (λ i. i < s.systems) batch (concat batches) below))
     (pairs_right (λ i j. i ≢ j) batch (concat batches) once) (All-tail (NoneConflict accesses) batch batches apart) in
     let next : after_turns_of (concat batches) left ≡ by_batches accesses batches (all_home accesses s batch s) = rest
-        ∙ ap (by_batches accesses batches) first.1 in
+    ∙ ap (by_batches accesses batches) first.1 in
     λ k. record {
       state = (states_follow batch (concat batches) s ∙ ap (λ (t : AfterTurns). t.state) next) k;
       turns =

@@ -30,9 +30,12 @@ ready posts s =
 ready_if : (first : Bool) (posts : List (ℕ × ℤ)) (s : State)
     → (let b : State = cond first s (with_joining (suc s.frames) s) in record b
     { world = after_posts posts (after_update b.world); frames = suc b.frames })
-    ≡ record s { members = λ i. cond (not first && ((s.members i).join == suc s.frames))
-        (joined_member (counts s) (s.members i)) (s.members i); world = after_posts posts (after_update s.world);
-        frames = suc s.frames }
+    ≡ record s {
+      members = λ i. cond (not first && ((s.members i).join == suc s.frames))
+          (joined_member (counts s) (s.members i)) (s.members i);
+      world = after_posts posts (after_update s.world);
+      frames = suc s.frames;
+    }
 ready_if true posts s = refl
 ready_if false posts s = refl
 
@@ -61,8 +64,23 @@ begun_by posts s i m b is by_join = ap (λ (x : Member). nat_le x.join (max 1 (s
 
 arrival : (posts : List (ℕ × ℤ)) (s : State) (i : ℕ) → Arrival s (ready posts s) i
 arrival posts s i =
-    grind (arith, and_from, and_left, and_right, begun_by, cases_Bool, cases_eq, eq-eqb, le-leb, leb-false, leb-true,
-    lt-leb, ne_eqb, not_from_false, not_from_true)
+    grind (
+      arith,
+      and_from,
+      and_left,
+      and_right,
+      begun_by,
+      cases_Bool,
+      cases_eq,
+      eq-eqb,
+      le-leb,
+      leb-false,
+      leb-true,
+      lt-leb,
+      ne_eqb,
+      not_from_false,
+      not_from_true,
+    )
 
 pub prepares : OnlyGrows Record → (posts : List (ℕ × ℤ)) (s : State) → Prepares s (before_turns posts s)
 prepares grow posts s = record {

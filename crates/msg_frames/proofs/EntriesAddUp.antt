@@ -47,8 +47,13 @@ pub tiles_add_up : (p : ℕ) (ms : List Moment) (q : ℕ) → Tile p (map tile_o
     (numbers_of missed (map (λ m. m.entry) ms)) + length (numbers_of cleared (map (λ m. m.entry) ms)) ≡ q
 tiles_add_up p [] q tile = let same : p ≡ q = tile in omega arith
 tiles_add_up p (m ∷ ms) q tile =
-    grind (arith, given_or_cleared, length-append, length-range_with_len,
-    tiles_add_up (next_place m.entry.stretch) ms q tile.1)
+    grind (
+      arith,
+      given_or_cleared,
+      length-append,
+      length-range_with_len,
+      tiles_add_up (next_place m.entry.stretch) ms q tile.1,
+    )
 
 pub stays_balanced : (x : Totals) (p : ℕ) (ms : List Moment) (q : ℕ) → IsBalanced x p → Tile p (map tile_of ms) q
     → IsBalanced (with_entries (map (λ m. m.entry) ms) x) q

@@ -53,7 +53,7 @@ module _ (systems : List Meaning) (places : List Place) (rules : List Rule) (typ
     places = λ i t below.
         let within : place_of all_wait i t ≤ count (world.histories t) = rw (at_zero i t) (omega arith) in
         first_or_not (λ m. m.job.system.places t ≤ count (world.histories t)) i
-            (λ e. begun_within all_wait i t below within) (λ ne. within);
+        (λ e. begun_within all_wait i t below within) (λ ne. within);
     joins = λ i. subst (λ n. 1 ≤ n) (sym (join_same i)) (join_from_one i);
     writers = λ i below. first_or_not (λ m. m.job.system.writer ≡ i) i (λ e. (new.new i below).writer)
         (λ ne. (new.new i below).writer);

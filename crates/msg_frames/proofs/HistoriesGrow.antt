@@ -23,8 +23,14 @@ buffer_laws grow reads clears = record { grow = grow; reads = reads; clears = cl
 
 pub stays : (h : History Record) → IsSound h → GoesOn h h
 stays h sound =
-    record { more = []; entries = sym (append-nil h.entries); limit = refl; updates = omega arith; floor = omega arith;
-    sound = sound }
+    record {
+      more = [];
+      entries = sym (append-nil h.entries);
+      limit = refl;
+      updates = omega arith;
+      floor = omega arith;
+      sound = sound;
+    }
 
 pub goes_further : (a b c : History Record) → GoesOn a b → GoesOn b c → GoesOn a c
 goes_further a b c x y = grind (arith, append_assoc)
@@ -105,7 +111,7 @@ module _ (grow : OnlyGrows Record) where
       let ready : WorldState = (joining s).world in
       subst (λ w. WorldGoesOn w (after_posts posts (after_update ready))) (joining_world s)
       (world_goes_further ready (after_update ready) (after_posts posts (after_update ready)) (update_goes_on ready)
-          (posts_go_on posts (after_update ready)))
+      (posts_go_on posts (after_update ready)))
 
   pub frame_goes_on : (order : List ℕ) (frame : Frame) (s : State)
       → WorldGoesOn s.world (frame_in order frame s).state.world

@@ -47,13 +47,13 @@ module _ (accesses : List Access) where
       → SameRun accesses (x ∷ y ∷ is) (y ∷ x ∷ is)
   run_swapped foot x y is lx ly ne none s are =
       let e = turns_commute foot s accesses x y are (subst (λ n. x < n) are.each lx)
-          (subst (λ n. y < n) are.each ly) ne none in
+      (subst (λ n. y < n) are.each ly) ne none in
       let turns : List Turn = (after_turns_of is (after_turn_of y (after_turn_of x s))).turns in
       let one : logged_turn s x ∷ logged_turn s y ∷ turns ≡ (after_turns_of (x ∷ y ∷ is) s).turns =
-          ap (λ t. logged_turn s x ∷ t ∷ turns) (sym e.0) in
+      ap (λ t. logged_turn s x ∷ t ∷ turns) (sym e.0) in
       let other : logged_turn s y ∷ logged_turn s x ∷ turns ≡ (after_turns_of (y ∷ x ∷ is) s).turns =
       ap (λ t. logged_turn s y ∷ t ∷ turns) (sym e.1)
-          ∙ ap (λ u. logged_turn s y ∷ logged_turn (after_turn_of y s) x ∷ (after_turns_of is u).turns) e.2 in (
+      ∙ ap (λ u. logged_turn s y ∷ logged_turn (after_turn_of y s) x ∷ (after_turns_of is u).turns) e.2 in (
         ap (λ u. (after_turns_of is u).state) e.2,
         subst₂ IsPermutation one other (IsPermutation-middle (logged_turn s x ∷ []) (logged_turn s y) turns),
       )
@@ -68,7 +68,7 @@ module _ (accesses : List Access) where
       run_along (y ∷ before ++ x ∷ rest) (y ∷ x ∷ before ++ rest) (x ∷ y ∷ before ++ rest)
       (run_later y (before ++ x ∷ rest) (x ∷ before ++ rest)
       (run_to_front foot x before rest lx (All-tail (λ y. y < length accesses) y before below)
-          (All-tail (IsFree accesses x) y before free)))
+      (All-tail (IsFree accesses x) y before free)))
       (run_swapped foot y x (before ++ rest) (All-head (λ y. y < length accesses) y before below) lx here.0 here.1)
 
 -- ---- two orders of the same systems
@@ -117,23 +117,23 @@ module _ (foot : JobFootprint) (accesses : List Access) (P : ℕ → ℕ → Typ
       let parts = pairs_middle (λ i j. i ≢ j) c.before x c.rest single in
       let ahead = pairs_middle (λ i j. ¬ P j i) c.before x c.rest (subst (Forward P) c.is b) in
       let to' : (i : ℕ) → Contains (c.before ++ c.rest) i
-          → Contains rest i =
-          λ i h. elim (Contains-cases x rest i
-          (to i (subst (λ xs. Contains xs i) (sym c.is) (with_middle c.before x c.rest i h)))) [
+      → Contains rest i =
+      λ i h. elim (Contains-cases x rest i
+      (to i (subst (λ xs. Contains xs i) (sym c.is) (with_middle c.before x c.rest i h)))) [
         | inl e ↦ absurd (apart_from c.before x c.rest single (subst (Contains (c.before ++ c.rest)) (sym e) h))
         | inr later ↦ later
       ] in
       let from' : (i : ℕ) → Contains rest i
-          → Contains (c.before ++ c.rest) i =
-          λ i h. elim (middle_or c.before x c.rest i
-          (subst (λ xs. Contains xs i) c.is (from i (Contains-tail x rest i h)))) [
+      → Contains (c.before ++ c.rest) i =
+      λ i h. elim (middle_or c.before x c.rest i
+      (subst (λ xs. Contains xs i) c.is (from i (Contains-tail x rest i h)))) [
         | inl e ↦ absurd (All-contains (λ y. x ≢ y) rest i (pairs_head (λ i j. i ≢ j) x rest once) h e)
         | inr other ↦ other
       ] in
       let in_rest : (k d : ℕ) → k < length c.before
-          → Contains rest (get_or c.before k d) =
-          λ k d lt. to' (get_or c.before k d)
-          (Contains-append_left c.before c.rest (get_or c.before k d) (Contains-get_or c.before k d lt)) in
+      → Contains rest (get_or c.before k d) =
+      λ k d lt. to' (get_or c.before k d)
+      (Contains-append_left c.before c.rest (get_or c.before k d) (Contains-get_or c.before k d lt)) in
       let free : All (IsFree accesses x) c.before = λ k d lt.
       let y : ℕ = get_or c.before k d in
       let inside : Contains rest y = in_rest k d lt in (
@@ -145,11 +145,11 @@ module _ (foot : JobFootprint) (accesses : List Access) (P : ℕ → ℕ → Typ
       ) in
       rw (c.is) (run_along accesses (c.before ++ x ∷ c.rest) (x ∷ c.before ++ c.rest) (x ∷ rest)
       (run_to_front accesses foot x c.before c.rest (below x (Contains-head x rest))
-          (λ k d lt. below (get_or c.before k d) (Contains-tail x rest _ (in_rest k d lt))) free)
+      (λ k d lt. below (get_or c.before k d) (Contains-tail x rest _ (in_rest k d lt))) free)
       (run_later accesses x (c.before ++ c.rest) rest
       (reordered rest (c.before ++ c.rest)
-          (λ i j p q. joins i j (Contains-tail x rest i p) (Contains-tail x rest j q)) to' from'
-          (λ i h. below i (Contains-tail x rest i h))
+      (λ i j p q. joins i j (Contains-tail x rest i p) (Contains-tail x rest j q)) to' from'
+      (λ i h. below i (Contains-tail x rest i h))
       (pairs_tail (λ i j. i ≢ j) x rest once) parts.1 (pairs_tail (λ i j. ¬ P j i) x rest a) ahead.1)))
 
 -- ---- lawful orders
@@ -164,11 +164,11 @@ lawful_forward : LawfulOrdersKeepPaths → (g : Graph) (who : List Bool) (order 
     → Forward (Path g) order
 lawful_forward keeps g who order lawful a b d lt l p =
     let s : StandsBefore order (get_or order b d) (get_or order a d) =
-        keeps g who order lawful (get_or order b d) (get_or order a d) p in
+    keeps g who order lawful (get_or order b d) (get_or order a d) p in
     let is_b : s.earlier ≡ b = one_place order s.earlier b lawful.once (slice_get_within order s.earlier _ s.first) l
     (get_or_from_slice_get order s.earlier _ 0 s.first ∙ get_or_default_zero order b d l) in
     let is_a : s.later ≡ a = one_place order s.later a lawful.once (slice_get_within order s.later _ s.second)
-        (omega arith)
+    (omega arith)
     (get_or_from_slice_get order s.later _ 0 s.second ∙ get_or_default_zero order a d (omega arith)) in
     absurd (omega (arith, s.in_order))
 
@@ -176,13 +176,13 @@ pub orders_agree : JobFootprint → ConflictingSystemsAreOrdered → LawfulOrder
 orders_agree foot ordered keeps s accesses settled a b are is_settled la lb =
     reordered foot accesses (Path settled) b a
     (λ i j p q ne conflict. ordered accesses s.rules (join_flags s) settled
-        (length-map-range_with_len (has_begun s) 0 s.systems ∙ sym are.each) is_settled i j ne ((lb.of_joined i).0 p)
-        ((lb.of_joined j).0 q) conflict)
+    (length-map-range_with_len (has_begun s) 0 s.systems ∙ sym are.each) is_settled i j ne ((lb.of_joined i).0 p)
+    ((lb.of_joined j).0 q) conflict)
     (λ i h. (lb.of_joined i).1 ((la.of_joined i).0 h))
     (λ i h. (la.of_joined i).1 ((lb.of_joined i).0 h))
     (λ i h. subst (λ n. i < n) (sym are.each) (joined_below s i ((lb.of_joined i).0 h)))
     lb.once la.once (lawful_forward keeps settled (join_flags s) b lb)
-        (lawful_forward keeps settled (join_flags s) a la) s are
+    (lawful_forward keeps settled (join_flags s) a la) s are
 
 -- ---- frames
 
@@ -192,11 +192,11 @@ frames_agree foot ordered keeps one is_lawful frame s u log settled order x is_o
     let b : State = before_turns frame.posts s in
     let same : x.in_order.settled ≡ settled = one_order one b x.in_order.settled settled x.in_order.is_order is_order in
     let turns : IsTurnOrder settled (join_flags b) (systems_in log) =
-        subst (λ g. IsTurnOrder g (join_flags b) (systems_in log)) same x.in_order.in_order in
+    subst (λ g. IsTurnOrder g (join_flags b) (systems_in log)) same x.in_order.in_order in
     let own : IsLawfulOrder settled (join_flags b) (systems_in log) = is_lawful settled (join_flags b) (systems_in log)
-        (order_is_among _ _ is_order) turns in
+    (order_is_among _ _ is_order) turns in
     let agree = orders_agree foot ordered keeps b is_order.accesses settled order
-        (systems_in log) is_order.of_systems is_order.is_settled lawful own in (
+    (systems_in log) is_order.of_systems is_order.is_settled lawful own in (
       agree.0 ∙ sym x.leaves,
       ap (λ (l : Log). l.posts) (sym x.tells),
       subst (λ (l : Log). IsPermutation (frame_in order frame s).log.turns l.turns) (sym x.tells) agree.1,

@@ -93,8 +93,12 @@ lies_between p (m ∷ ms) q tile n zero fate met =
     let rise = tiles_rise _ _ _ tile.1 in
     (at.0, omega (arith, at.1, rise))
 lies_between p (m ∷ ms) q tile n (suc k) fate met =
-    grind (arith, of_later, lies_between (next_place m.entry.stretch) ms q tile.1 n k fate
-    (of_later m.entry (entries_of ms) n k fate met))
+    grind (
+      arith,
+      of_later,
+      lies_between (next_place m.entry.stretch) ms q tile.1 n k fate
+          (of_later m.entry (entries_of ms) n k fate met),
+    )
 
 one_fate : (p : ℕ) (ms : List Moment) (q : ℕ) → Tile p (map tile_of ms) q → (n k l : ℕ) (f g : Fate)
     → Meets (entries_of ms) n k f → Meets (entries_of ms) n l g → (l ≡ k) × (g ≡ f)
@@ -112,18 +116,28 @@ one_fate p (m ∷ ms) q tile n (suc k) zero f g x y =
     let b = lies_between _ _ _ tile.1 _ _ _ (of_later _ _ _ _ _ x) in
     absurd (omega (arith, a.1, b.0))
 one_fate p (m ∷ ms) q tile n (suc k) (suc l) f g x y =
-    grind (arith, of_later, one_fate (next_place m.entry.stretch) ms q tile.1 n k l f g
-    (of_later m.entry (entries_of ms) n k f x) (of_later m.entry (entries_of ms) n l g y))
+    grind (
+      arith,
+      of_later,
+      one_fate (next_place m.entry.stretch) ms q tile.1 n k l f g
+          (of_later m.entry (entries_of ms) n k f x) (of_later m.entry (entries_of ms) n l g y),
+    )
 
 some_fate : (p : ℕ) (ms : List Moment) (q : ℕ) → Tile p (map tile_of ms) q → (n : ℕ) → p ≤ n → n < q → (k : ℕ)
     × ((fate : Fate) × Meets (entries_of ms) n k fate)
 some_fate p [] q tile n low high = let same : p ≡ q = tile in absurd (omega arith)
 some_fate p (m ∷ ms) q tile n low high = elim (cases_Bool (nat_lt n (next_place m.entry.stretch))) [
-  | inl is ↦ (0, (fate_at m.entry n, here m.entry (entries_of ms) n (fate_at m.entry n)
-      (has_fate m.entry n p tile.0.first low (ltb-true n (next_place m.entry.stretch) is))))
+  | inl is ↦ (
+    0,
+    (
+      fate_at m.entry n,
+      here m.entry (entries_of ms) n (fate_at m.entry n)
+          (has_fate m.entry n p tile.0.first low (ltb-true n (next_place m.entry.stretch) is)),
+    ),
+  )
   | inr isnt ↦
       let rest = some_fate (next_place m.entry.stretch) ms q tile.1 n
-          (ltb-false n (next_place m.entry.stretch) isnt) high in
+      (ltb-false n (next_place m.entry.stretch) isnt) high in
       (suc rest.0, (rest.1.0, later m.entry (entries_of ms) n rest.0 rest.1.0 rest.1.1))
 ]
 
@@ -131,8 +145,12 @@ pub meets_one_fate : (p : ℕ) (ms : List Moment) (q : ℕ) → Tile p (map tile
     → MeetsOneFate (entries_of ms) n
 meets_one_fate p ms q tile n low high =
     let some = some_fate p ms q tile n low high in
-    record { entry = some.0; fate = some.1.0; met = some.1.1;
-        only = λ k other met. one_fate p ms q tile n some.0 k some.1.0 other some.1.1 met }
+    record {
+      entry = some.0;
+      fate = some.1.0;
+      met = some.1.1;
+      only = λ k other met. one_fate p ms q tile n some.0 k some.1.0 other some.1.1 met;
+    }
 
 -- ---- what was missed
 

@@ -65,10 +65,10 @@ programs_read_all grow in_order frame s log u i t program writer places is there
     let prep : Prepares s b = prepares grow frame.posts s in
     let order : List ℕ = systems_in log in
     let ready : IsProgram in_order program writer few (b.members i).job =
-        before_stays in_order program writer few grow frame.posts s i (places, was) in
+    before_stays in_order program writer few grow frame.posts s i (places, was) in
     let stays : IsProgram in_order program writer few (u.members i).job =
     subst (λ (x : State). IsProgram in_order program writer few (x.members i).job) (sym is.leaves)
-        (turns_stay in_order program writer few i order b ready) in
+    (turns_stay in_order program writer few i order b ready) in
     let now : IsTrue (has_begun b i) = elim (prep.arrival i) [
       | stood old new same ↦ new
       | comes old new same ↦ new
@@ -76,7 +76,7 @@ programs_read_all grow in_order frame s log u i t program writer places is there
     ] in
     let under : i < b.systems = subst (λ n. i < n) (sym prep.same.systems) there in
     let joins : has_joined (join_flags b) i
-        ≡ has_begun b i = get_or-map-range_with_len (has_begun b) 0 b.systems i i false under (omega arith) in (
+    ≡ has_begun b i = get_or-map-range_with_len (has_begun b) 0 b.systems i i false under (omega arith) in (
       record {
         has_turn = (is.in_order.in_order.of_joined i).1 (joins ∙ now);
         ran = subst (All (λ turn. turn.system ≡ i → turn.outcome ≢ Skipped)) (sym (ap (λ (l : Log). l.turns) is.tells))

@@ -77,18 +77,18 @@ module _ (laws : BufferLaws) where
   read_passes h b place limit sound within goes =
       let law = laws.reads h place limit sound in
       let long : length (map message_of (given h place limit))
-          ≡ length (given h place limit) = length-map (given h place limit) message_of in
+      ≡ length (given h place limit) = length-map (given h place limit) message_of in
       let place_same : next_place (entry_of_read (took h place limit)).stretch
-          ≡ next_place (read h place _) = ap (λ n. (read h place limit).first + n) long in
+      ≡ next_place (read h place _) = ap (λ n. (read h place limit).first + n) long in
       subst (λ n. Passes place h (record { history = h; entry = entry_of_read (took h place limit) } ∷ []) n b)
-          place_same
+      place_same
       (passes_one _ _ _ _
       (subst (λ n. Fits h place (record
-          { missed = (read h place limit).missed; first = (read h place limit).first; number = n })) (sym long) law.0)
+      { missed = (read h place limit).missed; first = (read h place limit).first; number = n })) (sym long) law.0)
       (subst (λ n. n ≤ count h) (sym place_same) (law.2 within))
       (subst (λ n. map message_of (given h place limit)
-          ≡ map message_of (take n (drop (read h place limit).first (instances h)))) (sym long)
-          (ap (map message_of) law.1))
+      ≡ map message_of (take n (drop (read h place limit).first (instances h)))) (sym long)
+      (ap (map message_of) law.1))
       goes)
 
   abbrev cleared_entry : History Record → ℕ → Entry
@@ -110,7 +110,7 @@ module _ (laws : BufferLaws) where
   of_type u t w v ps e q within goes passes = elim (cases_eq u t) [
     | inl same ↦ rw (eq-eqb u t same, eq-eqb t u (sym same))
         (subst (λ x. Passes (ps x) (w.histories x) (record { history = w.histories x; entry = e } ∷ []) q v) same
-            (passes same))
+        (passes same))
     | inr other ↦ rw (ne_eqb u t other, ne_eqb t u (λ x. other (sym x))) (passes_nothing _ _ _ within goes)
   ]
 
@@ -120,7 +120,7 @@ module _ (laws : BufferLaws) where
       (with_place ps u (next_place (read (w.histories u) (ps u) limit)) t) v
   of_read u t w v ps limit sound within goes =
       of_type u t w v ps (entry_of_read (took (w.histories u) (ps u) limit))
-          (next_place (read (w.histories u) (ps u) limit)) within goes
+      (next_place (read (w.histories u) (ps u) limit)) within goes
       (λ e. read_passes (w.histories u) v (ps u) limit (subst (λ x. IsSound (w.histories x)) (sym e) sound)
       (subst (λ x. ps x ≤ count (w.histories x)) (sym e) within) (subst (λ x. GoesOn (w.histories x) v) (sym e) goes))
 
@@ -129,10 +129,10 @@ module _ (laws : BufferLaws) where
       (with_place ps u (count (w.histories u)) t) (w.histories t)
   of_clear u t w ps sound within =
       of_type u t w (w.histories t) ps (cleared_entry (w.histories u) (ps u)) (count (w.histories u)) within
-          (stays (w.histories t) sound)
+      (stays (w.histories t) sound)
       (λ e. clear_passes (w.histories u) (w.histories t) (ps u) (subst (λ x. IsSound (w.histories x)) (sym e) sound)
       (subst (λ x. ps x ≤ count (w.histories x)) (sym e) within)
-          (subst (λ x. GoesOn (w.histories x) (w.histories t)) (sym e) (stays (w.histories t) sound)))
+      (subst (λ x. GoesOn (w.histories x) (w.histories t)) (sym e) (stays (w.histories t) sound)))
 
   -- an op that reads type u and goes past nothing
   of_type_nothing : (u t : ℕ) (w : WorldState) (ps : ℕ → ℕ) → IsSound (w.histories t) → ps t ≤ count (w.histories t)
@@ -167,17 +167,17 @@ module _ (laws : BufferLaws) where
   pub first_passes : (t n : ℕ) (m : Meaning) (w : WorldState) → IsSound (w.histories t)
       → m.places t ≤ count (w.histories t) →
       let far : AfterProgram = after_at_most n (next_op m) m.writer m.places w in Passes (m.places t) (w.histories t)
-          (first_moments t n m w) (far.places t) (far.state.histories t)
+      (first_moments t n m w) (far.places t) (far.state.histories t)
   first_passes t zero m w sound within = passes_nothing (m.places t) (w.histories t) (w.histories t) within
       (stays (w.histories t) sound)
   first_passes t (suc n) m w sound within =
       let far : AfterProgram = after_at_most n (next_op m) m.writer m.places w in
       let next : Option Op = next_op m far.replies in
       let so_far : Passes (m.places t) (w.histories t) (first_moments t n m w) (far.places t) (far.state.histories t) =
-          first_passes t n m w sound within in
+      first_passes t n m w sound within in
       passes_further (m.places t) (w.histories t) (first_moments t n m w) (far.places t) (far.state.histories t)
       (next_moments t next m.writer far) ((one_more next m.writer far).places t)
-          ((one_more next m.writer far).state.histories t) so_far
+      ((one_more next m.writer far).state.histories t) so_far
       (next_passes t next m.writer far so_far.goes_on.sound so_far.within)
 
   turn_passes : (t : ℕ) (m : Meaning) (w : WorldState) → IsSound (w.histories t) → m.places t ≤ count (w.histories t)

@@ -33,7 +33,7 @@ frame_tells i t frame s log is =
     let own = turns_tell i t (systems_in log) b in
     let kept = ((before_keeps frame.posts s).members i).needs in
     let same : answers_among i (frame_in (systems_in log) frame s).log.turns
-        ≡ answers_among i log.turns = ap (λ (l : Log). answers_among i l.turns) (sym is) in
+    ≡ answers_among i log.turns = ap (λ (l : Log). answers_among i l.turns) (sym is) in
     subst (λ turns. Tells i t s turns ms (frame_in (systems_in log) frame s).state) same (record {
       entries =
           ap (λ (z : Needs × Rule). entries_told t z.0 z.1
@@ -111,16 +111,16 @@ module _ (laws : BufferLaws) (i t : ℕ) where
       let prep : Prepares s b = prepares laws.grow frame.posts s in
       let keep : Keeps b m = turns_keep (systems_in log) b in
       let here : Reads i t b (turns_moments i t (systems_in log) b) m =
-          frame_reads frame (systems_in log) s sound below in
+      frame_reads frame (systems_in log) s sound below in
       let msound : IsSoundState m = subst IsSoundState is.1.leaves (frame_sound laws frame s log is.0 sound is.1) in
       let later : IsTrue (has_begun b i) → Reads i t m (moments i t frames logs m) u =
-          λ now. run_reads frames m logs u msound (after_first frame frames s log logs u is)
+      λ now. run_reads frames m logs u msound (after_first frame frames s log logs u is)
       (subst (λ n. t < n) (sym (keep.0.types ∙ prep.same.types)) below) (begun_alike b m i keep ∙ now) in
       elim (prep.arrival i) [
         | stood was now same ↦ reads_further i t s (turns_moments i t (systems_in log) b) m
             (moments i t frames logs m) u
             (reads_since i t s b (turns_moments i t (systems_in log) b) m
-                (prep.world t (sound.histories t below)) same here) (later now)
+            (prep.world t (sound.histories t below)) same here) (later now)
         | comes was now is_new ↦ absurd (false≢true (sym was ∙ has))
         | waits was now same ↦ absurd (false≢true (sym was ∙ has))
       ]
@@ -147,19 +147,19 @@ module _ (laws : BufferLaws) (i t : ℕ) where
             (run_reads (frame ∷ frames) s (log ∷ logs) u sound is below was)
         | comes was now new ↦
             let all : Reads i t b (ms ++ rest) u =
-                reads_further i t b ms m rest u here
-                (run_reads frames m logs u msound mrun mbelow (begun_alike b m i keep ∙ now)) in
+            reads_further i t b ms m rest u here
+            (run_reads frames m logs u msound mrun mbelow (begun_alike b m i keep ∙ now)) in
             let place : ℕ = (joined_member (counts s) (s.members i)).job.system.places t in
             follows_new i t s (ms ++ rest) u place was
             (passes_since (s.world.histories t) (b.world.histories t) (u.world.histories t) place (ms ++ rest)
-                (place_of u i t) goes
+            (place_of u i t) goes
             (subst (λ (x : Member). Passes (x.job.system.places t) (b.world.histories t) (ms ++ rest) (place_of u i t)
-                (u.world.histories t)) new all.passes))
+            (u.world.histories t)) new all.passes))
             (subst (λ (x : Member). (u.members i).totals t
-                ≡ with_entries (map (λ y. y.entry) (ms ++ rest)) (x.totals t)) new all.totals)
+            ≡ with_entries (map (λ y. y.entry) (ms ++ rest)) (x.totals t)) new all.totals)
         | waits was now same ↦
             let none : ms ≡ [] =
-                no_moments i t (systems_in log) b (has_no_turn b (systems_in log) i is.1.in_order now) in
+            no_moments i t (systems_in log) b (has_no_turn b (systems_in log) i is.1.in_order now) in
             subst (λ xs. Follows i t s (xs ++ rest) u) (sym none)
             (follows_since i t s m rest u was (begun_alike b m i keep ∙ now)
             (goes_further (s.world.histories t) (b.world.histories t) (m.world.histories t) goes here.passes.goes_on)

@@ -46,14 +46,14 @@ module _ (laws : BufferLaws) where
       ((turn_of s j).world.histories t)
   turn_passes i t j s sound within =
       one_member (λ m. Passes (place_of s i t) (s.world.histories t) (own_moments i t j s) (m.job.system.places t)
-          ((turn_of s j).world.histories t)) j i s
+      ((turn_of s j).world.histories t)) j i s
       (λ e. rw (eq-eqb j i (sym e))
       (subst (λ k. Passes (place_of s i t) (s.world.histories t) (job_moments t (s.members i).job s.world)
-          ((turn_of s i).member.job.system.places t) ((turn_of s k).world.histories t)) e
+      ((turn_of s i).member.job.system.places t) ((turn_of s k).world.histories t)) e
       (job_passes laws t (s.members i).job s.world sound within)))
       (λ ne. rw (ne_eqb j i (λ x. ne (sym x)))
       (passes_nothing (place_of s i t) (s.world.histories t) ((turn_of s j).world.histories t) within
-          (job_goes_on laws.grow (s.members j).job s.world t sound)))
+      (job_goes_on laws.grow (s.members j).job s.world t sound)))
 
   turn_totals : (i t j : ℕ) (s : State) → ((after_turn_of j s).members i).totals t
       ≡ with_entries (map (λ m. m.entry) (own_moments i t j s)) ((s.members i).totals t)
@@ -70,7 +70,7 @@ module _ (laws : BufferLaws) where
   turns_read i t (j ∷ js) s sound within =
       let first : Reads i t s (own_moments i t j s) (after_turn_of j s) = turn_reads i t j s sound within in
       reads_further i t s (own_moments i t j s) (after_turn_of j s) (turns_moments i t js (after_turn_of j s))
-          (after_turns_of js (after_turn_of j s)).state first
+      (after_turns_of js (after_turn_of j s)).state first
       (turns_read i t js (after_turn_of j s) first.passes.goes_on.sound first.passes.within)
 
 -- ---- what the log has of system i among these turns
@@ -141,7 +141,7 @@ turns_tell i t (j ∷ js) s =
     let u : State = after_turn_of j s in
     tells_further i t s (cond (j == i) (answers (logged_turn s j).outcome) []) (own_moments i t j s) u
     (answers_among i (after_turns_of js u).turns) (turns_moments i t js u) (after_turns_of js u).state
-        (turn_tells i t j s) (turns_tell i t js u)
+    (turn_tells i t j s) (turns_tell i t js u)
 
 -- one whose turn doesn't come
 pub turns_skip : (i : ℕ) (js : List ℕ) (s : State) → ¬ Contains js i → (after_turns_of js s).state.members i

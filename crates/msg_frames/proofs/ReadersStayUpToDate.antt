@@ -52,11 +52,11 @@ pub tile_misses_none : (p place : ℕ) (ms : List Moment) (to : ℕ) → Tile pl
 tile_misses_none p place [] to tile written there above = All-nil (λ m. m.entry.stretch.missed ≡ 0)
 tile_misses_none p place (m ∷ ms) to tile written there above =
     let all : (n : ℕ) → p ≤ n → n < count m.history
-        → IsPresent m.history n =
-        All-head (λ m. (n : ℕ) → p ≤ n → n < count m.history → IsPresent m.history n) m ms there in
+    → IsPresent m.history n =
+    All-head (λ m. (n : ℕ) → p ≤ n → n < count m.history → IsPresent m.history n) m ms there in
     let none : m.entry.stretch.missed
-        ≡ 0 = none_missed m.history place m.entry.stretch tile.0 (All-head IsWritten m ms written)
-        (λ n at within. all n (omega (arith, at, above)) within) in
+    ≡ 0 = none_missed m.history place m.entry.stretch tile.0 (All-head IsWritten m ms written)
+    (λ n at within. all n (omega (arith, at, above)) within) in
     let first = tile.0.first in
     All-cons (λ m. m.entry.stretch.missed ≡ 0) m ms none
     (tile_misses_none p (next_place m.entry.stretch) ms to tile.1 (All-tail IsWritten m ms written)
@@ -81,8 +81,8 @@ recent_ahead s i t up n e above at =
     let there : IsPresent (update h) n = up n above (slice_get_within h.entries n e at) in
     let same : there.0 ≡ e = same_Some there.0 e (sym there.1 ∙ at) in
     let stamp =
-        leb-true (suc h.updates) (there.0.stamp + 1)
-        (and_parts (nat_le h.floor n) (nat_le (suc h.updates) (there.0.stamp + 1)) there.2).1 in
+    leb-true (suc h.updates) (there.0.stamp + 1)
+    (and_parts (nat_le h.floor n) (nat_le (suc h.updates) (there.0.stamp + 1)) there.2).1 in
     let stamps : there.0.stamp ≡ e.stamp = ap (λ (x : Entry Record). x.stamp) same in
     omega arith
 
@@ -112,16 +112,16 @@ module _ (laws : BufferLaws) where
         → count ((after_turns_of earlier b).state.world.histories t) ≤ place_of u i t
     caught_up reads earlier later order =
         let leaves : u ≡ (after_turns_of (earlier ++ i ∷ later) b).state = is.leaves
-            ∙ ap (λ xs. (frame_in xs frame s).state) order in
+        ∙ ap (λ xs. (frame_in xs frame s).state) order in
         let turns : log.turns ≡ (after_turns_of (earlier ++ i ∷ later) b).turns = ap (λ (l : Log). l.turns) is.tells
-            ∙ ap (λ xs. (frame_in xs frame s).log.turns) order in
+        ∙ ap (λ xs. (frame_in xs frame s).log.turns) order in
         let ran = subst (λ xs. All (λ turn. turn.system ≡ i → turn.outcome ≢ Skipped) xs) turns reads.ran in
         let took = takes_by_turn laws t i earlier later b (ready.histories t under) (ready.places i t under) ran in
         let read_all =
-            subst (λ (x : State). IsTrue (list_any (reads_all t) (x.members i).job.system.last)) leaves
-            reads.read_all in
+        subst (λ (x : State). IsTrue (list_any (reads_all t) (x.members i).job.system.last)) leaves
+        reads.read_all in
         subst (λ (x : State). count ((after_turns_of earlier b).state.world.histories t) ≤ place_of x i t) (sym leaves)
-            (took read_all)
+        (took read_all)
 
     pub has_frame_before : ReadsAll i t log u → count (s.world.histories t) ≤ place_of u i t
     has_frame_before reads =
@@ -136,7 +136,7 @@ module _ (laws : BufferLaws) where
         → AreRecent k p (u.world.histories t) × AtMoments k p t (turns_moments i t (systems_in log) b)
     frame_recent k p recent =
         let begun : AreRecent k p (b.world.histories t) =
-            posts_recent k p t frame.posts (after_update (joining s).world)
+        posts_recent k p t frame.posts (after_update (joining s).world)
         (subst (λ w. AreRecent k p ((after_update w).histories t)) (sym (joining_world s)) recent) in
         let turns = turns_recent k p t i (systems_in log) b begun in
         (subst (λ (x : State). AreRecent k p (x.world.histories t)) (sym is.leaves) turns.0, turns.1)
@@ -147,9 +147,9 @@ module _ (laws : BufferLaws) where
         let had = has_frame_before reads in
         let floor = (sound.histories t below).floor in
         let recent : AreRecent 0 p (u.world.histories t) =
-            (frame_recent 0 p (none_yet_updated p t s.world (omega arith))).0 in
+        (frame_recent 0 p (none_yet_updated p t s.world (omega arith))).0 in
         is_there p (update (u.world.histories t)) n (update_recent p (u.world.histories t) recent) (omega arith)
-            (omega (arith, drained)) within
+        (omega (arith, drained)) within
 
     present_at : (ms : List Moment) → IsUpToDate s i t → NothingDrained t s u → AtMoments 1 (place_of s i t) t ms
         → All (λ m. GoesOn m.history (u.world.histories t)) ms
@@ -159,7 +159,7 @@ module _ (laws : BufferLaws) where
     present_at (m ∷ ms) up drained recent goes =
         let p : ℕ = place_of s i t in
         let on : GoesOn m.history (u.world.histories t) =
-            All-head (λ m. GoesOn m.history (u.world.histories t)) m ms goes in
+        All-head (λ m. GoesOn m.history (u.world.histories t)) m ms goes in
         let now : AreRecent 1 p m.history = All-head (λ m. AreRecent 1 p m.history) m ms recent in
         let lower = on.floor in
         let floor = (sound.histories t below).floor in
@@ -173,26 +173,26 @@ module _ (laws : BufferLaws) where
               is_there p m.history n now above (omega (arith, drained)) within
         ])
         (present_at ms up drained (All-tail (λ m. AreRecent 1 p m.history) m ms recent)
-            (All-tail (λ m. GoesOn m.history (u.world.histories t)) m ms goes))
+        (All-tail (λ m. GoesOn m.history (u.world.histories t)) m ms goes))
 
     frame_misses_none : IsTrue (has_begun s i) → IsUpToDate s i t → NothingDrained t s u
         → NoneMissed (turns_moments i t (systems_in log) b)
     frame_misses_none has up drained =
         let ms : List Moment = turns_moments i t (systems_in log) b in
         let reads =
-            (turns_read laws i t (systems_in log) b (ready.histories t under) (ready.places i t under)).passes in
+        (turns_read laws i t (systems_in log) b (ready.histories t under) (ready.places i t under)).passes in
         let goes : All (λ m. GoesOn m.history (u.world.histories t)) ms =
-            subst (λ (x : State). All (λ m. GoesOn m.history (x.world.histories t)) ms) (sym is.leaves) reads.earlier in
+        subst (λ (x : State). All (λ m. GoesOn m.history (x.world.histories t)) ms) (sym is.leaves) reads.earlier in
         let recent =
-            (frame_recent 1 (place_of s i t) (updated_recent (place_of s i t) t s.world (recent_ahead s i t up))).1 in
+        (frame_recent 1 (place_of s i t) (updated_recent (place_of s i t) t s.world (recent_ahead s i t up))).1 in
         let same : place_of s i t ≤ place_of b i t = elim (prep.arrival i) [
           | stood was now is ↦ rw (place_of, is) (omega arith)
           | comes was now is ↦ absurd (false≢true (sym was ∙ has))
           | before.waits was now is ↦ absurd (false≢true (sym was ∙ has))
         ] in
         tile_misses_none (place_of s i t) (place_of b i t) ms
-            (place_of (after_turns_of (systems_in log) b).state i t) reads.tile reads.written
-            (present_at ms up drained recent goes) same
+        (place_of (after_turns_of (systems_in log) b).state i t) reads.tile reads.written
+        (present_at ms up drained recent goes) same
 
     -- who has a turn has joined
     joined_by_turn : Contains (systems_in log) i → IsTrue (has_begun u i)
@@ -202,7 +202,7 @@ module _ (laws : BufferLaws) where
           | inr isnt ↦ absurd (has_no_turn _ _ _ is.in_order isnt at)
         ] in
         subst (λ (x : State). IsTrue (has_begun x i)) (sym is.leaves)
-            (begun_alike _ _ _ (turns_keep (systems_in log) b) ∙ now)
+        (begun_alike _ _ _ (turns_keep (systems_in log) b) ∙ now)
 
   -- ---- a run
 
@@ -222,13 +222,13 @@ module _ (laws : BufferLaws) where
       let msound : IsSoundState m = frame_sound laws frame s log m sound is in
       let goes : GoesOn (s.world.histories t) (m.world.histories t) =
       subst (λ (x : State). GoesOn (s.world.histories t) (x.world.histories t)) (sym is.leaves)
-          (frame_goes_on laws.grow order frame s t (sound.histories t below)) in
+      (frame_goes_on laws.grow order frame s t (sound.histories t below)) in
       let types : (frame_in order frame s).state.types
-          ≡ s.types = (turns_keep order (before_turns frame.posts s)).0.types ∙ (before_keeps frame.posts s).types in
+      ≡ s.types = (turns_keep order (before_turns frame.posts s)).0.types ∙ (before_keeps frame.posts s).types in
       let mbelow : t < m.types = subst (λ (x : State). t < x.types) (sym is.leaves)
-          (subst (λ n. t < n) (sym types) below) in
+      (subst (λ n. t < n) (sym types) below) in
       let later : GoesOn (m.world.histories t) (u.world.histories t) =
-          runs_go_on laws.grow frames m u logs run t (msound.histories t mbelow) in
+      runs_go_on laws.grow frames m u logs run t (msound.histories t mbelow) in
       let rises = goes.floor in
       let rises_on = later.floor in
       record { sound = msound; below = mbelow; first = omega (arith, drained); rest = omega (arith, drained) }
@@ -246,11 +246,11 @@ module _ (laws : BufferLaws) where
       let next : Between t m v u = between f fs m v u l ls t mid.sound run.1 run.2 mid.below mid.rest in
       let ms : List Moment = turns_moments i t (systems_in l) (before_turns f.posts m) in
       let here : NoneMissed ms = frame_misses_none f m l v i t mid.sound run.1 mid.below
-          (joined_by_turn frame s log m i t sound is below reads.has_turn)
+      (joined_by_turn frame s log m i t sound is below reads.has_turn)
       (now_up_to_date frame s log m i t sound is below reads mid.first) next.first in
       All-append (λ x. x.entry.stretch.missed ≡ 0) ms (moments i t fs ls (frame_in (systems_in l) f m).state) here
       (subst (λ x. NoneMissed (moments i t fs ls x)) run.1.leaves
-          (missed_after f fs m v u l ls i t mid.sound run.1 run.2 mid.below each.0 each.1 mid.rest))
+      (missed_after f fs m v u l ls i t mid.sound run.1 run.2 mid.below each.0 each.1 mid.rest))
   missed_after frame frames s m u log logs i t sound is run below reads each drained = absurd run
 
   -- as the logs tell it
@@ -267,10 +267,10 @@ module _ (laws : BufferLaws) where
       let ms : List Moment = turns_moments i t (systems_in log) (before_turns frame.posts s) in
       told_none_missed (frame ∷ []) s (log ∷ []) u i t (u, is, refl)
       (All-append (λ m. m.entry.stretch.missed ≡ 0) ms []
-          (frame_misses_none frame s log u i t sound is below has up drained)
-          (All-nil (λ m. m.entry.stretch.missed ≡ 0)))
+      (frame_misses_none frame s log u i t sound is below has up drained)
+      (All-nil (λ m. m.entry.stretch.missed ≡ 0)))
 
   pub never_misses : WhoReadsEachFrameMissesNothing
   never_misses frame frames s m u log logs i t sound is run below first each drained =
       told_none_missed frames m logs u i t run
-          (missed_after frame frames s m u log logs i t sound is run below first each drained)
+      (missed_after frame frames s m u log logs i t sound is run below first each drained)

@@ -46,14 +46,14 @@ module _ (laws : BufferLaws) (t : ℕ) where
       let r : Reply = (after_op op m.writer far.places far.state).reply in
       let ops : List Op = ops_answered (next_op m) far.replies in
       let more : ops_answered (next_op m) (far.replies ++ r ∷ []) ≡ ops ++ op
-          ∷ [] = ops_answered-snoc (next_op m) far.replies r ∙ ap (λ x. ops ++ option_to_list x) at in
+      ∷ [] = ops_answered-snoc (next_op m) far.replies r ∙ ap (λ x. ops ++ option_to_list x) at in
       let either : (list_any (reads_all t) ops || (reads_all t op || false))
-          ≡ true = sym (list_any-append (reads_all t) ops (op ∷ [])) ∙ ap (list_any (reads_all t)) (sym more) ∙ is in
+      ≡ true = sym (list_any-append (reads_all t) ops (op ∷ [])) ∙ ap (list_any (reads_all t)) (sym more) ∙ is in
       elim (or_cases (list_any (reads_all t) ops) (reads_all t op || false) either) [
         | inl old ↦
             let was = so old in
             let further = tiles_rise (far.places t) (next_moments t (Some op) m.writer far)
-                ((one_more (Some op) m.writer far).places t)
+            ((one_more (Some op) m.writer far).places t)
             (next_passes laws t (Some op) m.writer far sound within).tile in
             omega arith
         | inr new ↦ elim (or_cases (reads_all t op) false new) [
@@ -69,7 +69,7 @@ module _ (laws : BufferLaws) (t : ℕ) where
   first_takes (suc n) m w sound within is =
       let far : AfterProgram = after_at_most n (next_op m) m.writer m.places w in
       let so_far : Passes (m.places t) (w.histories t) (first_moments t n m w) (far.places t) (far.state.histories t) =
-          first_passes laws t n m w sound within in
+      first_passes laws t n m w sound within in
       more_takes (next_op m far.replies) m far (count (w.histories t)) refl so_far.goes_on.sound so_far.within
       (counts_more (w.histories t) (far.state.histories t) so_far.goes_on) (first_takes n m w sound within) is
 
@@ -117,7 +117,7 @@ module _ (laws : BufferLaws) (t : ℕ) where
       let first = (turn_reads laws i t j s sound within).passes in
       let more = counts_more (s.world.histories t) ((after_turn_of j s).world.histories t) first.goes_on in
       turns_keep_it i c js (after_turn_of j s) first.goes_on.sound first.within (omega arith)
-          (turn_keeps i j c s sound within less has)
+      (turn_keeps i j c s sound within less has)
 
   pub takes_by_turn : (i : ℕ) (earlier later : List ℕ) (b : State) → IsSound (b.world.histories t)
       → place_of b i t ≤ count (b.world.histories t)
@@ -130,4 +130,4 @@ module _ (laws : BufferLaws) (t : ℕ) where
       let first = (turn_reads laws i t j b sound within).passes in
       takes_by_turn i more later (after_turn_of j b) first.goes_on.sound first.within
       (All-tail (λ turn. turn.system ≡ i → turn.outcome ≢ Skipped) (logged_turn b j)
-          (after_turns_of (more ++ i ∷ later) (after_turn_of j b)).turns ran)
+      (after_turns_of (more ++ i ∷ later) (after_turn_of j b)).turns ran)

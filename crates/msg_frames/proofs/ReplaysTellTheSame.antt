@@ -38,13 +38,13 @@ module _ {X Y : Type 0} (key : X → ℕ) (f : X → List Y) (i : ℕ) where
         | inl same ↦
             let is : key y ≡ i = ap key same ∙ e in
             let rest : flat_map own ys
-                ≡ [] =
-                none_told _ (λ z d at. All-contains (λ k. key y ≢ k) (map key ys) (key z) apart (Contains-map key _ _ d)
-                (is ∙ sym at)) in
+            ≡ [] =
+            none_told _ (λ z d at. All-contains (λ k. key y ≢ k) (map key ys) (key z) apart (Contains-map key _ _ d)
+            (is ∙ sym at)) in
             ap (λ zs. own y ++ zs) rest ∙ append-nil (own y) ∙ its_own _ is ∙ ap f same
         | inr later ↦
             let ne : key y ≢ i = λ at. All-contains (λ k. key y ≢ k) (map key ys) (key x) apart
-                (Contains-map key _ _ later) (at ∙ sym e) in
+            (Contains-map key _ _ later) (at ∙ sym e) in
             ap (λ zs. zs ++ flat_map own ys) (not_own _ ne) ∙ one_told ys (pairs_tail (λ a b. a ≢ b) _ _ once) x later e
       ]
 
@@ -80,7 +80,7 @@ turns_alike lawful frame order s log u replay i =
     told_alike (λ (turn : Turn). turn.system) (λ (turn : Turn). answers _) i log.turns replay.settled.turns replay.turns
     (subst (AllPairs (λ a b. a ≢ b)) (sym replay.in_order) replay.lawful.lawful.once)
     (lawful settled.settled (join_flags b) (systems_in replay.settled)
-        (order_is_among _ _ settled.is_order) settled.in_order).once
+    (order_is_among _ _ settled.is_order) settled.in_order).once
 
 pub replay_tells : TurnOrderIsLawful → ReplaysTellTheSame
 replay_tells lawful frame order s log u replay i = ap (λ xs. xs ++ []) (turns_alike lawful frame order s log u replay i)
@@ -102,8 +102,8 @@ settles lawful (frame ∷ frames) s (log ∷ logs) u x =
         is_run = (x.0, ran, rest.is_run);
         alike = λ i.
             ap (λ (xs : List (List Reply)). flat_map
-                (λ (turn : Turn). if turn.system == i then answers turn.outcome else []) log.turns ++ xs)
-                (rest.alike i);
+            (λ (turn : Turn). if turn.system == i then answers turn.outcome else []) log.turns ++ xs)
+            (rest.alike i);
       }
       | inr replay ↦ record {
         settled = replay.1.settled ∷ rest.settled;

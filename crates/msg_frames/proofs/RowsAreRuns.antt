@@ -110,20 +110,20 @@ any_passes test part (x ∷ xs) p all h =
 abbrev is_within : ℕ → List Op → List Condition → Bool
 is_within n ops cs =
     (list_all (λ op. passes (may_read n) (op_parts op).read) ops && list_all
-        (λ op. passes (may_write n) (op_parts op).written) ops)
+    (λ op. passes (may_write n) (op_parts op).written) ops)
     && list_all (λ c. passes (may_read n) (Some (probe_part c.probe))) cs
 
 reads_within : (n : ℕ) (ops : List Op) (cs : List Condition) → is_within n ops cs ≡ true → (p : Part)
     → (job_needs ops cs).reads p ≡ true → may_read n p ≡ true
 reads_within n ops cs w p h =
     let all =
-        and_parts (list_all (λ op. passes (may_read n) (op_parts op).read) ops && list_all
-        (λ op. passes (may_write n) (op_parts op).written) ops)
-        (list_all (λ c. passes (may_read n) (Some (probe_part c.probe))) cs) w in
+    and_parts (list_all (λ op. passes (may_read n) (op_parts op).read) ops && list_all
+    (λ op. passes (may_write n) (op_parts op).written) ops)
+    (list_all (λ c. passes (may_read n) (Some (probe_part c.probe))) cs) w in
     let own = and_parts (list_all (λ op. passes (may_read n) (op_parts op).read) ops)
-        (list_all (λ op. passes (may_write n) (op_parts op).written) ops) all.0 in
+    (list_all (λ op. passes (may_write n) (op_parts op).written) ops) all.0 in
     elim (or_cases ((program_needs ops).reads p) (some_condition_reads cs p)
-        (and_parts ((program_needs ops).reads p || some_condition_reads cs p) _ h).0) [
+    (and_parts ((program_needs ops).reads p || some_condition_reads cs p) _ h).0) [
       | inl x ↦ any_passes (may_read n) (λ op. (op_parts op).read) ops p own.0 (and_parts (some_op_reads ops p) _ x).0
       | inr x ↦ any_passes (may_read n) (λ c. Some (probe_part c.probe)) cs p all.1 x
     ]
@@ -132,11 +132,11 @@ writes_within : (n : ℕ) (ops : List Op) (cs : List Condition) → is_within n 
     → (job_needs ops cs).writes p ≡ true → may_write n p ≡ true
 writes_within n ops cs w p h =
     let all =
-        and_parts (list_all (λ op. passes (may_read n) (op_parts op).read) ops && list_all
-        (λ op. passes (may_write n) (op_parts op).written) ops)
-        (list_all (λ c. passes (may_read n) (Some (probe_part c.probe))) cs) w in
+    and_parts (list_all (λ op. passes (may_read n) (op_parts op).read) ops && list_all
+    (λ op. passes (may_write n) (op_parts op).written) ops)
+    (list_all (λ c. passes (may_read n) (Some (probe_part c.probe))) cs) w in
     let own = and_parts (list_all (λ op. passes (may_read n) (op_parts op).read) ops)
-        (list_all (λ op. passes (may_write n) (op_parts op).written) ops) all.0 in
+    (list_all (λ op. passes (may_write n) (op_parts op).written) ops) all.0 in
     any_passes (may_write n) (λ op. (op_parts op).written) ops p own.1 h
 
 access_is : (n : ℕ) (ops : List Op) (cs : List Condition) → n ≤ 64 → is_within n ops cs ≡ true
@@ -190,10 +190,10 @@ turns_of : (programs : List Program) (s : State) (order : List ℕ) → AreProgr
     → are_turns_of programs s order ≡ true → IsTurnOrderOf s order
 turns_of programs s order are t =
     let both = and_parts (list_all (job_is_within programs s) (range_with_len 0 s.systems))
-        (is_turn_order most (accesses_of s) s.rules (join_flags s) order) t in
+    (is_turn_order most (accesses_of s) s.rules (join_flags s) order) t in
     let access : ℕ → Access = λ i. access_for most (needs_of (s.members i)) in
     let is : (i : ℕ) → i < s.systems → access_of (accesses_of s) i
-        ≡ access i = λ i lt. get_or-map-range_with_len access 0 s.systems i i no_access lt (omega arith) in
+    ≡ access i = λ i lt. get_or-map-range_with_len access 0 s.systems i i no_access lt (omega arith) in
     let fit : (i : ℕ) → Fits most most (access_of (accesses_of s) i) = λ i. elim (cases_lt i s.systems) [
       | inl lt ↦ subst (Fits most most) (sym (is i lt)) (access_fits most (needs_of (s.members i)) (omega arith))
       | inr past ↦ subst (Fits most most)
@@ -209,9 +209,9 @@ turns_of programs s order are t =
           each = length-map-range_with_len access 0 s.systems;
           of_needs = λ i lt. subst (IsAccessOf (needs_of (s.members i))) (sym (is i lt))
               (subst (λ (n : Needs). IsAccessOf (with_conditions n (conditions_of (s.members i).job))
-                  (access_for most (with_conditions n (conditions_of (s.members i).job)))) (sym (are i))
+              (access_for most (with_conditions n (conditions_of (s.members i).job)))) (sym (are i))
               (access_is most (ops_at programs i) (conditions_of (s.members i).job) (omega arith)
-                  (each_below (job_is_within programs s) s.systems i both.0 lt)));
+              (each_below (job_is_within programs s) s.systems i both.0 lt)));
         };
         is_settled = turn.is_settled;
       };
@@ -231,7 +231,7 @@ is_run : (programs : List Program) (frames : OrderedFrames) (s : State) → AreP
 is_run programs [] s are t = refl
 is_run programs (f ∷ fs) s are t =
     let both = and_parts (are_turns_of programs (before_turns f.0 s) f.1)
-        (are_in_order programs fs (frame_in f.1 (record { posts = f.0 }) s).state) t in
+    (are_in_order programs fs (frame_in f.1 (record { posts = f.0 }) s).state) t in
     let frame : Frame = record { posts = f.0 } in
     let here : AfterFrame = frame_in f.1 frame s in (
       here.state,

@@ -13,9 +13,9 @@ module _ (settled : SettledOrderExists) (acyclic : SettlingMakesNoCycle) (turns 
       let same : SameSystems s b = before_keeps frame.posts s in
       let g = settled accesses b.rules (join_flags b) in
       let is_order : IsOrderOf b g.0 =
-          record { accesses = accesses; of_systems = accesses_stay _ _ _ same are; is_settled = g.1 } in
+      record { accesses = accesses; of_systems = accesses_stay _ _ _ same are; is_settled = g.1 } in
       let order = turns g.0 (join_flags b) (order_is_among _ _ is_order)
-          (order_has_no_cycle acyclic _ _ (no_cycle_stays _ _ same none) is_order) in
+      (order_has_no_cycle acyclic _ _ (no_cycle_stays _ _ same none) is_order) in
       let in_order : IsTurnOrderOf b order.0 = record { settled = g.0; is_order = is_order; in_order = order.1 } in
       ((frame_in order.0 frame s).log, (frame_in order.0 frame s).state, frame_in_order _ _ _ _ in_order refl)
 
@@ -28,5 +28,5 @@ module _ (settled : SettledOrderExists) (acyclic : SettlingMakesNoCycle) (turns 
       let here = some_frame frame s accesses none are in
       let same : SameSystems s here.1 = after_frame frame s here.1 here.0 here.2 in
       let rest = some_run frames here.1 accesses (no_cycle_stays s here.1 same none)
-          (accesses_stay s here.1 accesses same are) in
+      (accesses_stay s here.1 accesses same are) in
       (here.0 ∷ rest.0, rest.1, (here.1, here.2, rest.2))

@@ -58,8 +58,12 @@ module _ (k p t : ℕ) where
   pub posts_recent : (posts : List (ℕ × ℤ)) (w : WorldState) → InWorld w → InWorld (after_posts posts w)
   posts_recent [] w recent = recent
   posts_recent (x ∷ xs) w recent =
-      grind (arith, written_recent, posts_recent xs (with_history w x.0 (write (by HOST x.1 ∷ []) (w.histories x.0)))
-      (written_recent w x.0 (by HOST x.1 ∷ []) recent))
+      grind (
+        arith,
+        written_recent,
+        posts_recent xs (with_history w x.0 (write (by HOST x.1 ∷ []) (w.histories x.0)))
+            (written_recent w x.0 (by HOST x.1 ∷ []) recent),
+      )
 
   -- ---- ops
 

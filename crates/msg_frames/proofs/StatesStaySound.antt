@@ -17,8 +17,16 @@ use Rattle.msg_frames.proofs.BeforeTurns.{Prepares, begun_within, comes, prepare
 
 has_joined_has_begun : (b : State) (i : ℕ) → IsTrue (has_joined (join_flags b) i) → IsTrue (has_begun b i)
 has_joined_has_begun b i is =
-    grind (arith, cases_Bool, false≢true, get_or-map-range_with_len, get_or_past, leb-false, leb-true,
-    length-map-range_with_len)
+    grind (
+      arith,
+      cases_Bool,
+      false≢true,
+      get_or-map-range_with_len,
+      get_or_past,
+      leb-false,
+      leb-true,
+      length-map-range_with_len,
+    )
 
 -- one that waits has no turn
 pub has_no_turn : (b : State) (order : List ℕ) (i : ℕ) → IsTurnOrderOf b order → IsFalse (has_begun b i)
@@ -76,7 +84,7 @@ module _ (laws : BufferLaws) where
             let reads = turns_read laws i t order b (sound.histories t under) (sound.places i t under) in
             subst (λ x. IsBalanced x (place_of u i t)) (sym reads.totals)
             (stays_balanced ((b.members i).totals t) (place_of b i t) _ (place_of u i t)
-                (sound.balanced i t under (sym (begun_alike b u i keep) ∙ is_begun)) reads.passes.tile);
+            (sound.balanced i t under (sym (begun_alike b u i keep) ∙ is_begun)) reads.passes.tile);
       }
 
   pub frame_sound : (frame : Frame) (s : State) (log : Log) (u : State) → IsSoundState s → IsFrame frame s log u
@@ -84,7 +92,7 @@ module _ (laws : BufferLaws) where
   frame_sound frame s log u sound is =
       let b : State = before_turns frame.posts s in
       subst IsSoundState (sym is.leaves)
-          (turns_sound b (systems_in log) (prepared_sound s b sound (prepares laws.grow frame.posts s)) is.in_order)
+      (turns_sound b (systems_in log) (prepared_sound s b sound (prepares laws.grow frame.posts s)) is.in_order)
 
   pub run_sound : (frames : List Frame) (s : State) (logs : List Log) (u : State) → IsSoundState s
       → IsRun frames s logs u → IsSoundState u

@@ -35,8 +35,14 @@ started_same start counts (a ∷ asked) = ap (λ cs. a.condition ∷ cs) (starte
 
 begun_keeps : (counts : List ℕ) (m : Member) → SameMember m (joined_member counts m)
 begun_keeps counts m =
-    record { needs = refl; start = refl; writer = refl; conditions =
-    started_same m.job.system.start counts m.job.conditions; join = refl }
+    record {
+      needs = refl;
+      start = refl;
+      writer = refl;
+      conditions =
+          started_same m.job.system.start counts m.job.conditions;
+      join = refl;
+    }
 
 -- ---- systems
 

@@ -38,8 +38,13 @@ is_increasing low (x ∷ y ∷ ys) rise (suc k) below = grind (arith, is_increas
 rising_filter : (p : ℕ → Bool) (low : ℕ) (xs : List ℕ) → Rising low xs → Rising low (filter p xs)
 rising_filter p low [] rise = tt
 rising_filter p low (x ∷ xs) rise =
-    grind (arith, cases_Bool, rising_from, rising_filter p (x + 1) xs rise.1,
-    rising_filter p low xs (rising_from low (x + 1) xs (omega (arith, rise.0)) rise.1))
+    grind (
+      arith,
+      cases_Bool,
+      rising_from,
+      rising_filter p (x + 1) xs rise.1,
+      rising_filter p low xs (rising_from low (x + 1) xs (omega (arith, rise.0)) rise.1),
+    )
 
 numbers_rise : (p : ℕ) (ms : List Moment) (q : ℕ) → Tile p (map tile_of ms) q
     → Rising p (numbers_of given (entries_of ms))
@@ -104,7 +109,7 @@ module _ (h last : History Record) (s : Stretch) (goes : GoesOn h last) (written
   given_as_written None gives = refl
   given_as_written (Some items) gives =
       read_range last.entries s.first s.number
-          (omega (arith, ap length goes.entries, length-append h.entries goes.more))
+      (omega (arith, ap length goes.entries, length-append h.entries goes.more))
       ∙ ap (λ es. map Some (map message_in es)) (still_there h last s.first s.number goes written)
       ∙ ap (map Some) (sym (gives ∙ messages_are h s))
 
@@ -117,9 +122,9 @@ module _ (last : History Record) where
   all_as_written [] gives goes written = refl
   all_as_written (m ∷ ms) gives goes written =
       let one = given_as_written m.history last m.entry.stretch (All-head (λ x. GoesOn x.history last) m ms goes)
-          (All-head IsWritten m ms written) m.entry.given (All-head GivesItsStretch m ms gives) in
+      (All-head IsWritten m ms written) m.entry.given (All-head GivesItsStretch m ms gives) in
       let rest = all_as_written ms (All-tail GivesItsStretch m ms gives)
-          (All-tail (λ x. GoesOn x.history last) m ms goes) (All-tail IsWritten m ms written) in
+      (All-tail (λ x. GoesOn x.history last) m ms goes) (All-tail IsWritten m ms written) in
       map-append (message_numbered last) (numbers_at given m.entry) (numbers_of given (entries_of ms))
       ∙ ap (λ xs. xs ++ map (message_numbered last) (numbers_of given (entries_of ms))) one
       ∙ ap (λ xs. map Some (unwrap_or m.entry.given []) ++ xs) rest

@@ -80,9 +80,14 @@ turn_footprint foot m = record {
 }
   where
     told : Job × Option (List Reply) → Member × Outcome
-    told g =
-        (record m { job = g.0; totals = λ t. with_entries (outcome_entries t m.job.system (outcome_of g.1))
-        (m.totals t) }, outcome_of g.1)
+    told g = (
+      record m {
+        job = g.0;
+        totals = λ t. with_entries (outcome_entries t m.job.system (outcome_of g.1))
+            (m.totals t);
+      },
+      outcome_of g.1,
+    )
 
 -- the turn of a system after that of another from which it is apart is its turn before it
 pub turn_after : JobFootprint → (s : State) (i j : ℕ) → j ≢ i → Apart (needs_of (s.members i)) (needs_of (s.members j))

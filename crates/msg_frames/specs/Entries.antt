@@ -63,7 +63,7 @@ abbrev pub entries_told : ℕ → Needs → Rule → List (List Reply) → List 
 entries_told t n rule [] = []
 entries_told t n rule (replies ∷ turns) =
     entries_for t (ops_by n rule replies) replies
-        ++ entries_told t n (λ later now. rule (replies ∷ later) now) turns
+    ++ entries_told t n (λ later now. rule (replies ∷ later) now) turns
 
 -- those of one turn
 abbrev pub outcome_entries : ℕ → Meaning → Outcome → List Entry

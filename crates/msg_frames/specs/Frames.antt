@@ -69,8 +69,10 @@ joined_member counts m = record m {
 -- those that join with frame k have joined
 abbrev pub with_joining : ℕ → State → State
 with_joining k s =
-    record s { members = λ i. if (s.members i).join == k then joined_member (counts s) (s.members i)
-    else s.members i }
+    record s {
+      members = λ i. if (s.members i).join == k then joined_member (counts s) (s.members i)
+          else s.members i;
+    }
 
 -- Those that join with the next frame do so. With the first frame none does, since they joined
 -- before.
@@ -110,9 +112,11 @@ member_turn m w =
     let after : AfterJob = after_job m.job w in
     record {
       member =
-          record m { job = after.job;
-          totals = λ t. with_entries (outcome_entries t m.job.system (outcome_of after.replies))
-          (m.totals t) };
+          record m {
+            job = after.job;
+            totals = λ t. with_entries (outcome_entries t m.job.system (outcome_of after.replies))
+                (m.totals t);
+          };
       world = after.state;
       outcome = outcome_of after.replies;
     }

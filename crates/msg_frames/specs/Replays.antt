@@ -42,4 +42,4 @@ IsMixedRun [] s (log ∷ logs) u = ⊥
 IsMixedRun (frame ∷ frames) s [] u = ⊥
 IsMixedRun (frame ∷ frames) s (log ∷ logs) u =
     (m : State) × (IsFrame frame s log m ⊎ ((order : List ℕ) × IsReplay frame order s log m))
-        × IsMixedRun frames m logs u
+    × IsMixedRun frames m logs u

@@ -205,7 +205,7 @@ pub read_of_none : (fourth_run (Read 0 (Some 0) ∷ Read 0 None ∷ [])).logs
     ∷ told (wrote 1 1 ∷ []) (did 0 (reply.Value (pos 2)) ∷ skipped 1 ∷ [])
     ∷ told (wrote 2 1 ∷ []) (did 0 (reply.Value (pos 3)) ∷ skipped 1 ∷ [])
     ∷ told [] (did 0 (reply.Value (pos 4))
-        ∷ ran 1 (read_of 2 2 [] ∷ read_of 0 2 (by HOST (pos 30) ∷ []) ∷ []) ∷ [])
+    ∷ ran 1 (read_of 2 2 [] ∷ read_of 0 2 (by HOST (pos 30) ∷ []) ∷ []) ∷ [])
     ∷ []
 unfolding turn
 read_of_none = refl
@@ -232,9 +232,9 @@ writers_frames = each_in_order (0 ∷ 1 ∷ 2 ∷ []) (post (pos 9) ∷ post (po
 
 pub host_and_two_writers : (run writers_frames writers).logs
     ≡ told (wrote 0 1 ∷ []) (did 0 (wrote 1 1) ∷ did 1 (wrote 2 2)
-        ∷ did 2 (read_of 0 0 (of_three (pos 9))) ∷ [])
+    ∷ did 2 (read_of 0 0 (of_three (pos 9))) ∷ [])
     ∷ told (wrote 4 1 ∷ []) (did 0 (wrote 5 1) ∷ did 1 (wrote 6 2)
-        ∷ did 2 (read_of 0 4 (of_three (pos 8))) ∷ []) ∷ []
+    ∷ did 2 (read_of 0 4 (of_three (pos 8))) ∷ []) ∷ []
 unfolding turn
 host_and_two_writers = refl
 
@@ -255,7 +255,7 @@ contrary = record {
 abbrev pub contrary_turns : List Turn
 contrary_turns =
     did 2 (read_of 0 0 []) ∷ did 0 (wrote 0 1) ∷ did 3 (read_of 0 0 (by 0 (pos 1) ∷ []))
-        ∷ did 1 (wrote 0 1) ∷ []
+    ∷ did 1 (wrote 0 1) ∷ []
 
 abbrev pub contrary_frames : OrderedFrames
 contrary_frames = each_in_order (2 ∷ 0 ∷ 3 ∷ 1 ∷ []) ([] ∷ [])
@@ -280,7 +280,7 @@ echo_frames = each_in_order (0 ∷ []) ([] ∷ post (pos 5) ∷ [] ∷ [])
 
 pub own_message_asked : (run echo_frames echo).logs
     ≡ told [] (skipped 0 ∷ []) ∷ told (wrote 0 1 ∷ []) (did 0 (wrote 1 1) ∷ [])
-        ∷ told [] (did 0 (wrote 2 1) ∷ []) ∷ []
+    ∷ told [] (did 0 (wrote 2 1) ∷ []) ∷ []
 unfolding turn
 own_message_asked = refl
 
@@ -325,7 +325,7 @@ tally_frames = each_in_order (0 ∷ []) (((0, pos 1) ∷ (0, negsuc 4) ∷ []) �
 
 pub saturation : (run tally_frames tally).logs
     ≡ told (wrote 0 1 ∷ wrote 1 1 ∷ []) (did 0 (reply.Summed added (pos 9223372036854775802)) ∷ [])
-        ∷ []
+    ∷ []
 unfolding turn
 saturation = refl
 
@@ -406,7 +406,7 @@ signallers_frames = each_in_order (0 ∷ 2 ∷ 1 ∷ []) (post (pos 1) ∷ [] �
 abbrev pub signalled : ℕ → List Turn
 signalled missed =
     ran 0 (reply.Signalled ∷ reply.Signalled ∷ []) ∷ did 2 (reply.Missed missed)
-        ∷ did 1 reply.Signalled ∷ []
+    ∷ did 1 reply.Signalled ∷ []
 
 pub several_signals : (run signallers_frames signallers).logs
     ≡ told (wrote 0 1 ∷ []) (signalled 0) ∷ told [] (signalled 0) ∷ told [] (signalled 1) ∷ []
@@ -471,7 +471,7 @@ pub forward_at_the_limit : relay_run.logs
     did 1 (read_of 0 0 []) ∷ [])
     ∷ told (wrote 2 1 ∷ []) (
     did 0 (reply.Forwarded (took_from 2 (by HOST (pos 3) ∷ []))
-        (Some (record { first = 0; n = 1 }))) ∷
+    (Some (record { first = 0; n = 1 }))) ∷
     did 1 (read_of 0 0 (by 0 (pos 3) ∷ [])) ∷ []) ∷ []
 unfolding turn
 forward_at_the_limit = refl

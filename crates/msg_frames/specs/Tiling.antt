@@ -35,7 +35,7 @@ abbrev pub next_moments : ℕ → Option Op → ℕ → AfterProgram → List Mo
 next_moments t None writer far = []
 next_moments t (Some op) writer far =
     map (λ e. record { history = far.state.histories t; entry = e })
-        (entry_for t op (after_op op writer far.places far.state).reply)
+    (entry_for t op (after_op op writer far.places far.state).reply)
 
 -- of at most so many ops of its turn
 abbrev pub first_moments : ℕ → ℕ → Meaning → WorldState → List Moment
@@ -57,7 +57,7 @@ abbrev pub turns_moments : ℕ → ℕ → List ℕ → State → List Moment
 turns_moments i t [] s = []
 turns_moments i t (j ∷ js) s =
     (if j == i then job_moments t (s.members i).job s.world else [])
-        ++ turns_moments i t js (after_turn_of j s)
+    ++ turns_moments i t js (after_turn_of j s)
 
 -- of system i in a run of frames with these logs
 abbrev pub moments : ℕ → ℕ → List Frame → List Log → State → List Moment

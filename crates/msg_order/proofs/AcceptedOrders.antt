@@ -73,7 +73,7 @@ pub taken_all : (g : Graph) (joined : List Bool) (left : ℕ → Bool) (order : 
     → AreTaken g joined order (length order) left → ((i : ℕ) → left i ≡ false) → IsLawfulOrder g joined order
 taken_all g joined left order among t none =
     let place : (i : ℕ) → has_joined joined i ≡ true → (a : ℕ) × ((a < length order) × (get_or order a 0 ≡ i)) =
-        λ i e. elim (find_place order i (length order)) [
+    λ i e. elim (find_place order i (length order)) [
       | inl f ↦ f
       | inr f ↦ absurd (false≢true (sym (none i) ∙ t.stays i e f))
     ] in

@@ -59,17 +59,19 @@ ready_number : (g : Graph) (start left blocked : ℕ → Bool) (m i : ℕ) → L
     → (left i && not (blocked i)) ≡ true → (start i ≡ true) × IsBatchNumber g i m
 ready_number g start left blocked m i a h t r =
     let q = and_parts (left i) (not (blocked i)) r in
-    let e = (h i).0 q.0 in
-    (e.0, ends_number g i m e.1 (λ d. false≢true
-        (sym (not-true (blocked i) q.1) ∙ ends_blocked g start left blocked m i a h t d)))
+    let e = (h i).0 q.0 in (
+      e.0,
+      ends_number g i m e.1 (λ d. false≢true
+          (sym (not-true (blocked i) q.1) ∙ ends_blocked g start left blocked m i a h t d)),
+    )
 
 number_ready : (g : Graph) (start left blocked : ℕ → Bool) (m i : ℕ) → AreLeft g start left m
     → TellsBlocked g left blocked → start i ≡ true → IsBatchNumber g i m → (left i && not (blocked i)) ≡ true
 number_ready g start left blocked m i h t e b =
     let n = number_ends g i m b in
     and_from (left i) (not (blocked i)) ((h i).1 e n.0)
-        (not_from_false (blocked i) (false_from_ne_true (blocked i)
-        (λ x. n.1 (blocked_ends g start left blocked m i h t x))))
+    (not_from_false (blocked i) (false_from_ne_true (blocked i)
+    (λ x. n.1 (blocked_ends g start left blocked m i h t x))))
 
 -- Where no path leads back, one of those left has none before it.
 first_left : (p : ℕ → ℕ → Bool) (left : ℕ → Bool) → ((i j k : ℕ) → p i j ≡ true → p j k ≡ true → p i k ≡ true)
@@ -81,18 +83,45 @@ first_left p left trans acyclic (suc n) = elim (cases_Bool (left n)) [
   | inr e ↦ elim (first_left p left trans acyclic n) [
     | inl f ↦ inl (λ i h. elim (cases_eq i n)
         [ inl x ↦ subst (λ z. left z ≡ false) (sym x) e | inr x ↦ f i (omega arith) ])
-    | inr f ↦ inr (f.0, (omega arith,
-        (f.1.1.0, λ k h l. elim (cases_eq k n)
-        [ inl x ↦ absurd (false≢true (sym e ∙ subst (λ z. left z ≡ true) x l)) | inr x ↦ f.1.1.1 k (omega arith) l ])))
+    | inr f ↦ inr (
+      f.0,
+      (
+        omega arith,
+        (
+          f.1.1.0,
+          λ k h l. elim (cases_eq k n)
+              [ inl x ↦ absurd (false≢true (sym e ∙ subst (λ z. left z ≡ true) x l)) | inr x ↦ f.1.1.1 k (omega arith) l ],
+        ),
+      ),
+    )
   ]
   | inl e ↦ elim (first_left p left trans acyclic n) [
-    | inl f ↦ inr (n, (omega arith, (e,
-        λ k h l. elim (cases_eq k n) [ inl x ↦ subst (λ z. p z n ≡ false) (sym x) (acyclic n) | inr x ↦ absurd
-        (false≢true (sym (f k (omega arith)) ∙ l)) ])))
+    | inl f ↦ inr (
+      n,
+      (
+        omega arith,
+        (
+          e,
+          λ k h l. elim (cases_eq k n) [
+            | inl x ↦ subst (λ z. p z n ≡ false) (sym x) (acyclic n)
+            | inr x ↦ absurd
+                (false≢true (sym (f k (omega arith)) ∙ l))
+          ],
+        ),
+      ),
+    )
     | inr f ↦ elim (cases_Bool (p n f.0)) [
-      | inr q ↦ inr (f.0, (omega arith,
-          (f.1.1.0, λ k h l. elim (cases_eq k n)
-          [ inl x ↦ subst (λ z. p z f.0 ≡ false) (sym x) q | inr x ↦ f.1.1.1 k (omega arith) l ])))
+      | inr q ↦ inr (
+        f.0,
+        (
+          omega arith,
+          (
+            f.1.1.0,
+            λ k h l. elim (cases_eq k n)
+                [ inl x ↦ subst (λ z. p z f.0 ≡ false) (sym x) q | inr x ↦ f.1.1.1 k (omega arith) l ],
+          ),
+        ),
+      )
       | inl q ↦ inr (
         n,
         (
@@ -139,7 +168,7 @@ count_falls left next (suc n) h c lt l x = elim (cases_eq c n) [
   | inr e ↦
       let a : cond (next n) 1 0 ≤ cond (left n) 1 0 = cond_le (next n) (left n) (h n (omega arith)) in
       let b : count_left next n < count_left left n = count_falls left next n (λ i k. h i (omega arith)) c
-          (omega arith) l x in
+      (omega arith) l x in
       omega arith
 ]
 
@@ -179,22 +208,22 @@ peeled_next g start left blocked next n batches batch a within t h is some s =
       of_number = λ b l i. elim (cases_eq b m) [
         | inl e ↦
             let last : batch_at (batches ++ batch ∷ []) b
-                ≡ filter ready (range_with_len 0 n) = rw e (get_or-append_seam batches batch [] [] ∙ is) in (
+            ≡ filter ready (range_with_len 0 n) = rw e (get_or-append_seam batches batch [] [] ∙ is) in (
               λ c.
                   let r = filter-Contains ready (range_with_len 0 n) i (subst (λ xs. Contains xs i) last c) in
                   subst (λ k. (start i ≡ true) × IsBatchNumber g i k) (sym e)
-                      (ready_number g start left blocked m i a h.left_is t r.1),
+                  (ready_number g start left blocked m i a h.left_is t r.1),
               λ c.
                   let number : IsBatchNumber g i m = subst (IsBatchNumber g i) e c.1 in
                   let l2 : i < n = within i c.0 in
                   subst (λ xs. Contains xs i) (sym last)
-                      (Contains-filter ready (range_with_len 0 n) i (Contains-range 0 n i (omega arith) (omega arith))
-                      (number_ready g start left blocked m i h.left_is t c.0 number)),
+                  (Contains-filter ready (range_with_len 0 n) i (Contains-range 0 n i (omega arith) (omega arith))
+                  (number_ready g start left blocked m i h.left_is t c.0 number)),
             )
         | inr e ↦
             let l2 : b < m = omega (arith, length_push batches batch) in
             subst (λ xs. Contains xs i ↔ ((start i ≡ true) × IsBatchNumber g i b))
-                (sym (get_or_append_left batches (batch ∷ []) [] b l2)) (h.of_number b l2 i)
+            (sym (get_or_append_left batches (batch ∷ []) [] b l2)) (h.of_number b l2 i)
       ];
       filled = All-push (λ (xs : List ℕ). 0 < length xs) batches batch h.filled some;
       by_addition = All-push IsStrictlyIncreasing batches batch h.by_addition
@@ -204,8 +233,11 @@ peeled_next g start left blocked next n batches batch a within t h is some s =
         | inr x ↦ inr x
         | inl x ↦ elim (cases_Bool (blocked i)) [
           | inl y ↦ inl (s i ∙ and_from (left i) (blocked i) x y)
-          | inr y ↦ inr (m, (ready_number g start left blocked m i a h.left_is t
-              (and_from (left i) (not (blocked i)) x (not_from_false (blocked i) y))).1)
+          | inr y ↦ inr (
+            m,
+            (ready_number g start left blocked m i a h.left_is t
+                (and_from (left i) (not (blocked i)) x (not_from_false (blocked i) y))).1,
+          )
         ]
       ];
     }
@@ -216,19 +248,19 @@ pub peeled_all : (g : Graph) (start left blocked : ℕ → Bool) (n : ℕ) (batc
     → batch ≡ filter (λ i. left i && not (blocked i)) (range_with_len 0 n) → length batch ≡ 0 → (i : ℕ) → left i ≡ false
 peeled_all g start left blocked n batch m acyclic within t h is empty =
     elim (first_left (path g) left (path_trans g) (λ i. no_path g i i (acyclic i)) n) [
-  | inl f ↦ λ i. false_from_ne_true (left i) (λ e. false≢true (sym (f i (within i ((h i).0 e).0)) ∙ e))
-  | inr f ↦ λ i.
-      let c : ℕ = f.0 in
-      let open_ : blocked c ≡ false =
+      | inl f ↦ λ i. false_from_ne_true (left i) (λ e. false≢true (sym (f i (within i ((h i).0 e).0)) ∙ e))
+      | inr f ↦ λ i.
+          let c : ℕ = f.0 in
+          let open_ : blocked c ≡ false =
           false_from_ne_true (blocked c)
           (λ b. let w = t.by c b in false≢true (sym (f.1.1.1 w.0 (within w.0 ((h w.0).0 w.1.1).0) w.1.1) ∙ w.1.0)) in
-      let there = Contains-filter (λ k. left k && not (blocked k)) (range_with_len 0 n) c
+          let there = Contains-filter (λ k. left k && not (blocked k)) (range_with_len 0 n) c
           (Contains-range 0 n c (omega arith) (omega (arith, f.1.0)))
           (and_from (left c) (not (blocked c)) f.1.1.0 (not_from_false (blocked c) open_)) in
-      let none : length (filter (λ k. left k && not (blocked k)) (range_with_len 0 n))
+          let none : length (filter (λ k. left k && not (blocked k)) (range_with_len 0 n))
           ≡ 0 = ap length (sym is) ∙ empty in
-      absurd (omega (arith, there.1))
-]
+          absurd (omega (arith, there.1))
+    ]
 
 pub peeled_done : (g : Graph) (systems : List Bool) (start left : ℕ → Bool) (batches : List (List ℕ))
     → ((i : ℕ) → start i ≡ has_joined systems i) → ArePeeled g start left batches → ((i : ℕ) → left i ≡ false)
@@ -258,7 +290,7 @@ pub left_falls : (left blocked next : ℕ → Bool) (n : ℕ) (batch : List ℕ)
 left_falls left blocked next n batch is some s =
     let c : ℕ = get_or batch 0 0 in
     let f = filter-Contains (λ i. left i && not (blocked i)) (range_with_len 0 n) c
-        (subst (λ xs. Contains xs c) is (Contains-get_or batch 0 0 some)) in
+    (subst (λ xs. Contains xs c) is (Contains-get_or batch 0 0 some)) in
     let lt = (range-Contains 0 n c f.0).1 in
     let r = and_parts (left c) (not (blocked c)) f.1 in
     count_falls left next n (λ i l x. (and_parts (left i) (blocked i) (sym (s i) ∙ x)).0) c (omega (arith, lt)) r.0

@@ -41,14 +41,14 @@ used_is_below n a fits (OfType t) u =
     let resources : List Part = map OfResource (range_with_len 0 n) in
     Contains-tail Registry (types ++ resources) (OfType t)
     (Contains-append_left types resources (OfType t)
-        (Contains-map OfType (range_with_len 0 n) t (Contains-range 0 n t (omega arith) (omega arith))))
+    (Contains-map OfType (range_with_len 0 n) t (Contains-range 0 n t (omega arith) (omega arith))))
 used_is_below n a fits (OfResource r) u =
     let below : r < n = fits.resources_below r u in
     let types : List Part = map OfType (range_with_len 0 n) in
     let resources : List Part = map OfResource (range_with_len 0 n) in
     Contains-tail Registry (types ++ resources) (OfResource r)
     (Contains-append_right types resources (OfResource r)
-        (Contains-map OfResource (range_with_len 0 n) r (Contains-range 0 n r (omega arith) (omega arith))))
+    (Contains-map OfResource (range_with_len 0 n) r (Contains-range 0 n r (omega arith) (omega arith))))
 
 conflict_is : (n : ℕ) (a b : Access) → Fits n n a → Fits n n b → IsTrue (conflict_below n a b) ↔ Conflict a b
 conflict_is n a b fits_a fits_b = (
@@ -112,7 +112,7 @@ above_ends : (g : Graph) (value : ℕ → ℕ) → ((i : ℕ) → Ends g (value 
 above_ends g value ends [] within j = tt
 above_ends g value ends (e ∷ h) within j =
     let rest : Ends g (above_all value h j) j =
-        above_ends g value ends h (λ a b x. within a b (Contains-tail e h (a, b) x)) j in
+    above_ends g value ends h (λ a b x. within a b (Contains-tail e h (a, b) x)) j in
     elim (cases_Bool (e.1 == j)) [
       | inr f ↦ rw f rest
       | inl t ↦
@@ -202,7 +202,7 @@ in_turn_by_test n accesses rules joined order fit t =
     let g : Graph = settled_by_test n accesses rules joined in
     let number : ℕ → ℕ = longest g (length accesses) in
     let parts = and_parts (rise_in g number && are_in_turn number order)
-        (list_all (has_joined joined) order && none_is_left joined order) t in
+    (list_all (has_joined joined) order && none_is_left joined order) t in
     let first = and_parts (rise_in g number) (are_in_turn number order) parts.0 in
     let second = and_parts (list_all (has_joined joined) order) (none_is_left joined order) parts.1 in
     record {
@@ -215,7 +215,7 @@ in_turn_by_test n accesses rules joined order fit t =
           λ h.
               elim (or_cases (not (has_joined joined i)) (list_any (λ k. k == i) order)
               (each_below (λ j. not (has_joined joined j) || list_any (λ k. k == j) order) (length joined) i second.1
-                  (joined_in joined i h))) [
+              (joined_in joined i h))) [
                 | inl f ↦ absurd (false≢true (sym (not-true (has_joined joined i) f) ∙ h))
                 | inr t ↦ let f = Contains-list_any (λ k. k == i) order t in subst (Contains order)
                     (eqb-true f.0 i f.1.1) f.1.0

@@ -47,7 +47,7 @@ module _ {X : Type 0} where
     Contains-filter [] y h t = absurd (not_in_none y h)
     Contains-filter (x ∷ xs) y h t =
         kept (p x) x (filter p xs) y (elim (Contains-cases x xs y h)
-            [ inl s ↦ inl (ap p s ∙ t, s) | inr r ↦ inr (Contains-filter xs y r t) ])
+        [ inl s ↦ inl (ap p s ∙ t, s) | inr r ↦ inr (Contains-filter xs y r t) ])
 
     pub list_any-Contains : (xs : List X) (x : X) → Contains xs x → p x ≡ true → list_any p xs ≡ true
     list_any-Contains xs x h t = list_any_at p xs h.0 x h.1 (ap p h.2 ∙ t)

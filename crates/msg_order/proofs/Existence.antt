@@ -80,8 +80,11 @@ peel_more g joined free lead left bs h =
     let t : TellsBlocked g left stops = tells g left n (λ k l. within k ((h.left_is k).0 l).0) in
     let batch : List ℕ = filter (λ i. left i && not (stops i)) (range_with_len 0 n) in
     elim (cases_eq (length batch) 0) [
-      | inl none ↦ inl (bs, peeled_done g joined start left bs (λ i. refl) h
-          (peeled_all g start left stops n batch (length bs) free within t h.left_is refl none))
+      | inl none ↦ inl (
+        bs,
+        peeled_done g joined start left bs (λ i. refl) h
+            (peeled_all g start left stops n batch (length bs) free within t h.left_is refl none),
+      )
       | inr some ↦ inr (record {
         next = next;
         batches = bs ++ batch ∷ [];
@@ -105,7 +108,7 @@ peels g joined free lead (suc steps) left bs h few = elim (peel_more g joined fr
 pub batches_some : BatchesExist
 batches_some g joined among free =
     peels g joined free among (count_left (has_joined joined) (length joined)) (has_joined joined) []
-        (peeled_first g (has_joined joined)) (omega arith)
+    (peeled_first g (has_joined joined)) (omega arith)
 
 pub turns_some : TurnOrderExists
 turns_some g joined among free = let bs =

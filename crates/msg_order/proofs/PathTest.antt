@@ -23,7 +23,7 @@ edge_path [] i j h = absurd (not_in_none (i, j) h)
 edge_path (e ∷ g) i j h = elim (edge_cases e g i j h) [
   | inl x ↦ or_right (path g i j) (to e g i && from e g j)
       (and_from (to e g i) (from e g j) (or_left (i == e.0) (path g i e.0) (eq-eqb i e.0 (sym x.0)))
-          (or_left (j == e.1) (path g e.1 j) (eq-eqb j e.1 (sym x.1))))
+      (or_left (j == e.1) (path g e.1 j) (eq-eqb j e.1 (sym x.1))))
   | inr x ↦ or_left (path g i j) (to e g i && from e g j) (edge_path g i j x)
 ]
 
@@ -31,12 +31,12 @@ pub path_trans : (g : Graph) (i j k : ℕ) → path g i j ≡ true → path g j 
 path_trans [] i j k p q = p
 path_trans (e ∷ g) i j k p q =
     let old_to : (a b : ℕ) → path g a b ≡ true → to e g b ≡ true → to e g a
-        ≡ true = λ a b r t. elim (or_cases (b == e.0) (path g b e.0) t) [
+    ≡ true = λ a b r t. elim (or_cases (b == e.0) (path g b e.0) t) [
       | inl x ↦ or_right (a == e.0) (path g a e.0) (subst (λ z. path g a z ≡ true) (eqb-true b e.0 x) r)
       | inr x ↦ or_right (a == e.0) (path g a e.0) (path_trans g a b e.0 r x)
     ] in
     let old_from : (a b : ℕ) → from e g a ≡ true → path g a b ≡ true → from e g b
-        ≡ true = λ a b t r. elim (or_cases (a == e.1) (path g e.1 a) t) [
+    ≡ true = λ a b t r. elim (or_cases (a == e.1) (path g e.1 a) t) [
       | inl x ↦ or_right (b == e.1) (path g e.1 b) (subst (λ z. path g z b ≡ true) (eqb-true a e.1 x) r)
       | inr x ↦ or_right (b == e.1) (path g e.1 b) (path_trans g e.1 a b x r)
     ] in

@@ -17,7 +17,7 @@ use Rattle.msg_world.specs.declared.access.Access.{Access}
 Contains-square : (n i j : ℕ) → i < n → j < n → Contains (square n) (i, j)
 Contains-square n i j h l =
     Contains-flat_map (λ (a : ℕ). map (λ (b : ℕ). (a, b)) (range_with_len 0 n)) (range_with_len 0 n) i (i, j)
-        (Contains-range 0 n i (omega arith) (omega arith))
+    (Contains-range 0 n i (omega arith) (omega arith))
     (Contains-map (λ (b : ℕ). (i, b)) (range_with_len 0 n) j (Contains-range 0 n j (omega arith) (omega arith)))
 
 -- the pairs of the view are what the sets say
@@ -29,7 +29,7 @@ precedes-view before joined batches kept i j =
       λ t.
           let both = kept.among i j t in
           Contains-filter test (square (length before)) (i, j)
-              (Contains-square (length before) i j (kept.within i both.0) (kept.within j both.1)) t,
+          (Contains-square (length before) i j (kept.within i both.0) (kept.within j both.1)) t,
     )
 
 pub joined-view : (before : List SystemSet) (joined : SystemSet) (batches : List (List ℕ)) → AreKept before joined

@@ -74,14 +74,14 @@ path-again g a b p i j = grind (arith, same_test, or_left, or_cases, and_parts, 
 rules_more : (joined : List Bool) (rules : List Rule) (k : ℕ) (d : Rule) → k < length rules →
     rules_among joined (take (k + 1) rules)
     ≡ rules_among joined (take k rules)
-        ++ cond (has_joined joined (get_or rules k d).earlier && has_joined joined (get_or rules k d).later)
-        (((get_or rules k d).earlier, (get_or rules k d).later) ∷ []) []
+    ++ cond (has_joined joined (get_or rules k d).earlier && has_joined joined (get_or rules k d).later)
+    (((get_or rules k d).earlier, (get_or rules k d).later) ∷ []) []
 rules_more joined rules k d h =
     let f : Rule → ℕ × ℕ = λ r. (r.earlier, r.later) in
     let p : ℕ × ℕ → Bool = λ e. has_joined joined e.0 && has_joined joined e.1 in
     rw (add-one, take-suc rules k d h)
-        (ap (filter p) (map-append f (take k rules) (get_or rules k d ∷ []))
-        ∙ filter-append p (map f (take k rules)) (map f (get_or rules k d ∷ [])))
+    (ap (filter p) (map-append f (take k rules) (get_or rules k d ∷ []))
+    ∙ filter-append p (map f (take k rules)) (map f (get_or rules k d ∷ [])))
 
 -- a rule among the joined systems, which adds its edge, or whose path was there
 pub rule_adds : (joined : List Bool) (rules : List Rule) (k : ℕ) (d : Rule) (new : List SystemSet) → k < length rules
@@ -90,7 +90,7 @@ pub rule_adds : (joined : List Bool) (rules : List Rule) (k : ℕ) (d : Rule) (n
     → ArePaths (rules_among joined (take (k + 1) rules)) new
 rule_adds joined rules k d new h s t i j = let r : Rule = get_or rules k d in
     rw (rules_more joined rules k d h, t)
-        (s i j ∙ path-at_end (rules_among joined (take k rules)) (r.earlier, r.later) i j)
+    (s i j ∙ path-at_end (rules_among joined (take k rules)) (r.earlier, r.later) i j)
 
 pub rule_follows : (joined : List Bool) (rules : List Rule) (k : ℕ) (d : Rule) (before : List SystemSet)
     → k < length rules → ArePaths (rules_among joined (take k rules)) before
@@ -151,7 +151,7 @@ row_settles C g n i before new later few lt below tells adds way = (
         let q = found t e in
         let l : t < n = below t q.1.0 in
         list_any-Contains (reaches test h k) js t
-            (Contains-range (i + 1) (n - (i + 1)) t (omega (arith, q.0)) (omega (arith, q.0)))
+        (Contains-range (i + 1) (n - (i + 1)) t (omega (arith, q.0)) (omega (arith, q.0)))
         (and_from (test t) (k == t || path h t k) e to)
 
     tests : (k : ℕ) → (has later k || meets (set_at before k) later) ≡ list_any (reaches test h k) js
@@ -196,14 +196,16 @@ all_rules joined (rule ∷ rules) below all =
     let P : Rule → Type 0 = λ r. (r.earlier < length joined) × (r.later < length joined) in
     let here = All-head P rule rules below in
     rw (all rule.earlier here.0, all rule.later here.1)
-        (ap (λ l. (rule.earlier, rule.later) ∷ l) (all_rules joined rules (All-tail P rule rules below) all))
+    (ap (λ l. (rule.earlier, rule.later) ∷ l) (all_rules joined rules (All-tail P rule rules below) all))
 
 -- the first n of systems that have all joined
 front_joined : (m n : ℕ) → n ≤ m → (length (take n (replicate m true)) ≡ n)
     × ((i : ℕ) → i < n → has_joined (take n (replicate m true)) i ≡ true)
-front_joined m n le =
-    (grind (arith, common_steps), λ i lt. get_or-take n (replicate m true) i false lt
-    ∙ get_or-replicate m i true false (omega arith))
+front_joined m n le = (
+  grind (arith, common_steps),
+  λ i lt. get_or-take n (replicate m true) i false lt
+      ∙ get_or-replicate m i true false (omega arith),
+)
 
 -- what is found of the rules among the first n of them is found of all rules
 pub found_among_all : (m n : ℕ) (rules : List Rule) (before : List SystemSet) (found : Option ℕ) → n ≤ m
@@ -215,7 +217,7 @@ found_among_all m n rules before found le below h =
     let joined : List Bool = take n (replicate m true) in
     let front = front_joined m n le in
     let all = all_rules joined rules (subst (λ k. NameSystemsBelow k rules) (sym front.0) below)
-        (λ i lt. front.1 i (omega (arith, front.0))) in
+    (λ i lt. front.1 i (omega (arith, front.0))) in
     of_both found (subst (λ g. MatchOption found (IsAcyclic g × ArePaths g before) (IsLowestOnCycle g)) all h)
   where
     of_both : (found : Option ℕ) → MatchOption found (IsAcyclic (edges_of rules) × ArePaths (edges_of rules) before)
@@ -227,17 +229,16 @@ found_among_all m n rules before found le below h =
 pub rules_join : (joined : List Bool) (rules : List Rule) → IsAmong joined (rules_among joined rules)
 rules_join joined rules i j h =
     and_parts (has_joined joined i) (has_joined joined j)
-        (filter-Contains (λ (e : ℕ × ℕ). has_joined joined e.0 && has_joined joined e.1)
-        (map (λ (r : Rule). (r.earlier, r.later)) rules) (i, j) h).1
+    (filter-Contains (λ (e : ℕ × ℕ). has_joined joined e.0 && has_joined joined e.1)
+    (map (λ (r : Rule). (r.earlier, r.later)) rules) (i, j) h).1
 
 pub settled_joins : (accesses : List Access) (rules : List Rule) (joined : List Bool) (h : Graph)
     → Settles (AreInConflict accesses joined) (rules_among joined rules) (pairs (length accesses)) h → IsAmong joined h
 settled_joins accesses rules joined h s i j e =
-    elim (settles_edges (AreInConflict accesses joined) (pairs (length accesses)) (rules_among joined rules) h s i j e)
-    [
-  | inl x ↦ rules_join joined rules i j x
-  | inr x ↦ (x.1.first_joined, x.1.second_joined)
-]
+    elim (settles_edges (AreInConflict accesses joined) (pairs (length accesses)) (rules_among joined rules) h s i j e) [
+      | inl x ↦ rules_join joined rules i j x
+      | inr x ↦ (x.1.first_joined, x.1.second_joined)
+    ]
 
 pub settled_free : (accesses : List Access) (rules : List Rule) (joined : List Bool) (h : Graph)
     → Settles (AreInConflict accesses joined) (rules_among joined rules) (pairs (length accesses)) h
@@ -245,7 +246,7 @@ pub settled_free : (accesses : List Access) (rules : List Rule) (joined : List B
 settled_free accesses rules joined h s f i =
     let g : Graph = rules_among joined rules in
     no_Path h i i (settles_free (AreInConflict accesses joined) (pairs (length accesses)) g h s
-        (λ a b m. (pairs-Contains (length accesses) a b m).0) (λ k. no_path g k k (f k)) i)
+    (λ a b m. (pairs-Contains (length accesses) a b m).0) (λ k. no_path g k k (f k)) i)
 
 -- a set that was just made
 pub sets_push : (before : List SystemSet) (set : SystemSet) → ArePaths [] before → ((k : ℕ) → has set k ≡ false)

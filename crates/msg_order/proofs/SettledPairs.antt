@@ -36,8 +36,10 @@ settles_edges C [] g h a i j e = inl (subst (λ x. IsEdge x i j) (sym a) e)
 settles_edges C (p ∷ ps) g h a i j e = elim a [
   | inl x ↦ elim (settles_edges C ps (p ∷ g) h x.1 i j e) [
     | inl y ↦ elim (Contains-cases p g (i, j) y) [
-      | inl s ↦ inr (subst (λ (q : ℕ × ℕ). Contains (p ∷ ps) q) s (Contains-head p ps),
-          subst (λ (q : ℕ × ℕ). C q.0 q.1) s x.0.0)
+      | inl s ↦ inr (
+        subst (λ (q : ℕ × ℕ). Contains (p ∷ ps) q) s (Contains-head p ps),
+        subst (λ (q : ℕ × ℕ). C q.0 q.1) s x.0.0,
+      )
       | inr t ↦ inl t
     ]
     | inr y ↦ inr (Contains-tail p ps (i, j) y.0, y.1)
@@ -110,7 +112,7 @@ pub Contains-pairs : (n i j : ℕ) → i < j → j < n → Contains (pairs n) (i
 Contains-pairs n i j h l =
     Contains-flat_map (row n) (range_with_len 0 n) i (i, j) (Contains-range 0 n i (omega arith) (omega arith))
     (Contains-map (λ (k : ℕ). (i, k)) (range_with_len (i + 1) (n - (i + 1))) j
-        (Contains-range (i + 1) (n - (i + 1)) j (omega arith) (omega arith)))
+    (Contains-range (i + 1) (n - (i + 1)) j (omega arith) (omega arith)))
 
 -- The graph with an edge from i to each of these systems for which the test holds.
 abbrev pub grown : ℕ → (ℕ → Bool) → List ℕ → Graph → Graph
@@ -181,6 +183,8 @@ settles_row C g i test (j ∷ js) up h =
           let same : path ((i, j) ∷ g) t i ≡ path g t i = same_to g i j t ne at.1 in
           (λ s. let q = r.0 s in (q.0, same ∙ q.1), λ c f. r.1 c (sym same ∙ f)) in
           rw e (inl ((at.0, no_Path g j i at.1), settles_row C ((i, j) ∷ g) i test js later on))
-      | inr e ↦ rw e (inr (λ x. false≢true (sym e ∙ (h j lt).1 x.0 (no_path g j i x.1)),
-          settles_row C g i test js later h))
+      | inr e ↦ rw e (inr (
+        λ x. false≢true (sym e ∙ (h j lt).1 x.0 (no_path g j i x.1)),
+        settles_row C g i test js later h,
+      ))
     ]

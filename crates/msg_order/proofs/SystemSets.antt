@@ -44,7 +44,7 @@ words-set words new j k f l h same is = grind (arith, cases_eq, get_or-set_same,
 -- `words[k / 64] |= 1 << (k % 64)`
 pub words-insert : (words : List ℕ) (j k : ℕ) → length words ≡ 4 → k < 256 →
     has_bit (get_or (slice_set words (k / 64) (bit_or (get_or words (k / 64) 0) (1 * 2 ^ (k % 64) % 2 ^ 64)))
-        (j / 64) 0) (j % 64)
+    (j / 64) 0) (j % 64)
     ≡ ((j == k) || has_bit (get_or words (j / 64) 0) (j % 64))
 words-insert words j k l h = words-set words _ j k (λ a b. a || b) l h (λ b. refl)
     (has_bit-set (get_or words (k / 64) 0) (k % 64) (j % 64) (omega arith))
@@ -52,11 +52,11 @@ words-insert words j k l h = words-set words _ j k (λ a b. a || b) l h (λ b. r
 -- `words[k / 64] &= !(1 << (k % 64))`
 pub words-remove : (words : List ℕ) (j k : ℕ) → length words ≡ 4 → k < 256 →
     has_bit (get_or (slice_set words (k / 64)
-        (bit_and (get_or words (k / 64) 0) (bit_not w64 (1 * 2 ^ (k % 64) % 2 ^ 64)))) (j / 64) 0) (j % 64)
+    (bit_and (get_or words (k / 64) 0) (bit_not w64 (1 * 2 ^ (k % 64) % 2 ^ 64)))) (j / 64) 0) (j % 64)
     ≡ (not (j == k) && has_bit (get_or words (j / 64) 0) (j % 64))
 words-remove words j k l h =
     words-set words _ j k (λ a b. not a && b) l h (λ b. refl)
-        (has_bit-unset (get_or words (k / 64) 0) (k % 64) (j % 64) (omega arith) (omega arith))
+    (has_bit-unset (get_or words (k / 64) 0) (k % 64) (j % 64) (omega arith) (omega arith))
 
 pub past_or : (a b c : List ℕ) (q r : ℕ) → length a ≤ q → length b ≤ q → length c ≤ q → has_bit (get_or a q 0) r
     ≡ (has_bit (get_or b q 0) r || has_bit (get_or c q 0) r)
@@ -110,9 +110,18 @@ pub told_without : (old want : ℕ → Bool) (i : ℕ) → ((k : ℕ) → k < i 
 told_without old want i told z4 no_ k h = grind (arith, cases_eq)
 
 -- what the functions of sets are proved by
-pub ruleset of_sets =
-    (words-insert, words-remove, past_or, no_words, has_bit-zero, has_bit-or, shr_and_one, meets-found,
-    meets-true, has-above)
+pub ruleset of_sets = (
+  words-insert,
+  words-remove,
+  past_or,
+  no_words,
+  has_bit-zero,
+  has_bit-or,
+  shr_and_one,
+  meets-found,
+  meets-true,
+  has-above,
+)
 
 -- what the next set of a level is told by
 pub ruleset told = (told_with, told_without, empty_with)

@@ -46,7 +46,7 @@ stands_along order i j k once s t =
     let a = places_of order i k s in
     let b = places_of order k j t in
     let same : s.later ≡ t.earlier = one_place order s.later t.earlier once a.below (omega (arith, b.in_order, b.below))
-        (a.second ∙ sym b.first) in
+    (a.second ∙ sym b.first) in
     stands order i j s.earlier t.later (omega (arith, a.in_order, b.in_order)) b.below a.first b.second
 
 -- a lawful order keeps paths too
@@ -69,7 +69,7 @@ pairs_append R xs ys f h across a b d lt l =
           let b' : ℕ = b - length xs in
           let is_b : length xs + b' ≡ b = omega arith in
           let at_b : get_or (xs ++ ys) b d ≡ get_or ys b' d = ap (λ k. get_or (xs ++ ys) k d) (sym is_b)
-              ∙ get_or-append-add xs ys b' d in
+          ∙ get_or-append-add xs ys b' d in
           elim (cases_lt a (length xs)) [
             | inl in_a ↦ rw (get_or_append_left xs ys d a in_a, at_b)
                 (across (get_or xs a d) (get_or ys b' d) (Contains-get_or xs a d in_a)
@@ -78,7 +78,7 @@ pairs_append R xs ys f h across a b d lt l =
                 let a' : ℕ = a - length xs in
                 let is_a : length xs + a' ≡ a = omega arith in
                 let at_a : get_or (xs ++ ys) a d ≡ get_or ys a' d = ap (λ k. get_or (xs ++ ys) k d) (sym is_a)
-                    ∙ get_or-append-add xs ys a' d in
+                ∙ get_or-append-add xs ys a' d in
                 rw (at_a, at_b) (h a' b' d (omega arith) (omega arith))
           ]
     ]
@@ -146,10 +146,10 @@ in_lawful_order g joined order among t = record {
           | inl lt ↦ lt
           | inr gt ↦
               let back : RunsBefore g j i =
-                  subst (RunsBefore g j) a.1.1
-                  (subst (λ k. RunsBefore g k (get_or order a.0 0)) b.1.1 (t.in_order b.0 a.0 0 gt a.1.0)) in
+              subst (RunsBefore g j) a.1.1
+              (subst (λ k. RunsBefore g k (get_or order a.0 0)) b.1.1 (t.in_order b.0 a.0 0 gt a.1.0)) in
               elim (back n.0 m.0 n.1 m.1)
-                  [ inl x ↦ absurd (omega arith) | inr x ↦ let one : n.0 ≡ m.0 = x.0 in absurd (omega arith) ]
+              [ inl x ↦ absurd (omega arith) | inr x ↦ let one : n.0 ≡ m.0 = x.0 in absurd (omega arith) ]
         ]
       ] in
       stands order i j a.0 b.0 first b.1.0 a.1.1 b.1.1;
@@ -170,10 +170,10 @@ none_conflict accesses rules joined g bs len settled h =
     let at_j = (h.of_number b j).0 (Contains-get_or batch c d l2) in
     let below : j < length joined = joined_in joined j at_j.0 in
     let in_conflict : AreInConflict accesses joined i j =
-        record { first_joined = at_i.0; second_joined = at_j.0; conflict = x } in
+    record { first_joined = at_i.0; second_joined = at_j.0; conflict = x } in
     elim (settles_covers (AreInConflict accesses joined) (pairs (length accesses))
-        (rules_among joined rules) g settled i j
-        (Contains-pairs (length accesses) i j rising (omega arith)) in_conflict) [
+    (rules_among joined rules) g settled i j
+    (Contains-pairs (length accesses) i j rising (omega arith)) in_conflict) [
       | inl p ↦ let r : b < b = number_rises g i j b b p at_i.1 at_j.1 in absurd (omega arith)
       | inr p ↦ let r : b < b = number_rises g j i b b p at_j.1 at_i.1 in absurd (omega arith)
     ])

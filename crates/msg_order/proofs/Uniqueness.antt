@@ -19,7 +19,7 @@ fewer_make_none rules joined fewer among free i p =
     let q = filter-Contains (λ (e : ℕ × ℕ). has_joined fewer e.0 && has_joined fewer e.1) all (a, b) e in
     let both = and_parts (has_joined fewer a) (has_joined fewer b) q.1 in
     Contains-filter (λ (e : ℕ × ℕ). has_joined joined e.0 && has_joined joined e.1) all (a, b) q.0
-        (and_from (has_joined joined a) (has_joined joined b) (among a both.0) (among b both.1))) i i p)
+    (and_from (has_joined joined a) (has_joined joined b) (among a both.0) (among b both.1))) i i p)
 
 conflict_sym : (a b : Access) → Conflict a b → Conflict b a
 conflict_sym a b c = (c.0, elim c.1 [ inl x ↦ inr x | inr x ↦ inl x ])
@@ -37,9 +37,12 @@ conflicts_ordered accesses rules joined order len settled i j ne at_i at_j confl
             (record { first_joined = at_i; second_joined = at_j; conflict = conflict })
         | inr l ↦ elim (settles_covers C (pairs (length accesses)) (rules_among joined rules) order settled j i
             (Contains-pairs (length accesses) j i l (omega arith))
-            (record { first_joined = at_j; second_joined = at_i;
-                conflict = conflict_sym (access_of accesses i) (access_of accesses j) conflict }))
-                [ inl p ↦ inr p | inr p ↦ inl p ]
+            (record {
+              first_joined = at_j;
+              second_joined = at_i;
+              conflict = conflict_sym (access_of accesses i) (access_of accesses j) conflict;
+            }))
+            [ inl p ↦ inr p | inr p ↦ inl p ]
       ]
     ]
 
@@ -72,7 +75,7 @@ same_ordered R (x ∷ xs) (y ∷ ys) one_way r s f h =
       ]
     ] in
     let rest : xs ≡ ys = same_ordered R xs ys (λ i j p q. one_way i j (Contains-tail x xs i p) (Contains-tail x xs j q))
-        (tail_pairs R x xs r) (tail_pairs R y ys s)
+    (tail_pairs R x xs r) (tail_pairs R y ys s)
     (λ i c. elim (Contains-cases y ys i (f i (Contains-tail x xs i c))) [
       | inl e ↦ absurd (once (subst (R x) (sym e ∙ sym first) (ahead R x xs r i c)))
       | inr d ↦ d

@@ -43,7 +43,7 @@ as_many_systems d =
     names_keep (λ n. n.systems) with_resource (λ n e. refl) (type_names d) (elements (resources_in d))
     ∙ names_keep (λ n. n.systems) with_type (λ n e. refl) no_names (elements (types_in d)) in
     names_grow (λ n. n.systems) with_system (λ n e. grind (arith, common_steps)) (part_names d)
-        (elements (systems_in d))
+    (elements (systems_in d))
     ∙ ap (λ l. length l + length (elements (systems_in d))) none ∙ omega arith
 
 -- as many names of types as types, and of resources as resources
@@ -60,7 +60,7 @@ as_many_resources d =
     let none : (type_names d).resources ≡ [] =
     names_keep (λ n. n.resources) with_type (λ n e. refl) no_names (elements (types_in d)) in
     names_grow (λ n. n.resources) with_resource (λ n e. grind (arith, common_steps)) (type_names d)
-        (elements (resources_in d))
+    (elements (resources_in d))
     ∙ ap (λ l. length l + length (elements (resources_in d))) none ∙ omega arith
 
 -- ---- rules

@@ -76,8 +76,8 @@ system_denoted names d n name kind ops place start at named k o p s =
     let built : Text → Kind → List Op → Place → Start → SystemSpec
     = λ t y os pl st. record { name = t; kind = y; program = record { ops = os; start = st }; place = pl } in
     ap (option_and_then (λ y. option_and_then
-        (λ os. both (built (text (value_at (codes "name") d)) y os) (place_of names d) (start_of (start_in d)))
-        (ops_of names d))) k
+    (λ os. both (built (text (value_at (codes "name") d)) y os) (place_of names d) (start_of (start_in d)))
+    (ops_of names d))) k
     ∙ ap (option_and_then (λ os. both (built (text (value_at (codes "name") d)) kind os) (place_of names d)
     (start_of (start_in d)))) o
     ∙ both_denoted (built (text (value_at (codes "name") d)) kind ops) p s

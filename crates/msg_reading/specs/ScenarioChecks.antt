@@ -202,7 +202,7 @@ place_checks names d = list_checks 8 (condition_checks names) (conditions_in d)
 abbrev pub ops_checks : Declared → Data → List Check
 ops_checks names d =
     list_checks 64 (op_checks names) (value_at (codes "ops") d)
-        ++ needs (of_its_kind names d) Shape ∷ []
+    ++ needs (of_its_kind names d) Shape ∷ []
 
 -- the kind, and all that follows it
 abbrev pub program_checks : Declared → Data → List Check
@@ -222,7 +222,7 @@ abbrev pub rule_checks : Declared → Data → List Check
 rule_checks names d =
     for_two (λ earlier later.
     needs (is_text earlier && is_text later) Shape ∷ a_system names earlier
-        ∷ a_system names later ∷ [])
+    ∷ a_system names later ∷ [])
     (elements d)
 
 abbrev pub post_checks : Declared → Data → List Check
@@ -240,7 +240,7 @@ abbrev pub is_root_key : Text → Bool
 is_root_key key =
     bytes_eq key (codes "types") || bytes_eq key (codes "resources") || bytes_eq key (codes "held")
     || bytes_eq key (codes "systems") || bytes_eq key (codes "rules") || bytes_eq key
-        (codes "frames")
+    (codes "frames")
 
 -- an object with types, systems and frames, and with no other keys than those of scenarios
 unfoldable pub root_object : Data → List Check

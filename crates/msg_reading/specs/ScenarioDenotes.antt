@@ -71,13 +71,13 @@ op_with_one names head d =
     if bytes_eq head (codes "read") then option_map (λ t. Read t None) (type_number names (text d))
     else if bytes_eq head (codes "len") then option_map (λ t. Len t) (type_number names (text d))
     else if bytes_eq head (codes "missed")
-        then option_map (λ t. Missed t) (type_number names (text d))
+    then option_map (λ t. Missed t) (type_number names (text d))
     else if bytes_eq head (codes "clear")
-        then option_map (λ t. Clear t) (type_number names (text d))
+    then option_map (λ t. Clear t) (type_number names (text d))
     else if bytes_eq head (codes "get")
-        then option_map (λ r. Get r) (resource_number names (text d))
+    then option_map (λ r. Get r) (resource_number names (text d))
     else if bytes_eq head (codes "drain")
-        then option_map (λ t. Drain t) (type_number names (text d))
+    then option_map (λ t. Drain t) (type_number names (text d))
     else None
 
 abbrev pub op_with_two : Declared → Text → Data → Data → Option Op

@@ -73,7 +73,8 @@ fn add(
     systems: &mut Vec<Sparing>,
     system: Sparing,
 ) -> Result<(), NoMemory>
-    requires so_far { EachIs (IsSystemAt ⟦<Sparing as System>⟧.meaning specs.now) systems.old.items }
+    requires so_far { EachIs (IsSystemAt ⟦<Sparing as System>⟧.meaning specs.now)
+        systems.old.items }
     requires next { slice_get specs.now (length systems.old.items) ≡ Some spec.now }
     requires its { ⟦<Sparing as System>⟧.meaning system
         ≡ new_system spec.now.program (length systems.old.items) }

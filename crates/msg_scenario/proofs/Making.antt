@@ -86,7 +86,7 @@ module _ {S : Type 0} (m : S → Meaning) where
   all_made s xs same each =
       all_from s.systems xs 0 same
       (λ i j x spec is here there. subst (λ k. m x ≡ new_system spec.program k) (sym (zero-add i) ∙ is)
-          (each i x here spec there))
+      (each i x here spec there))
 
   -- each may be added
   pub may_add : (s : Scenario) (w : Parts) (xs : List S) → IsRunnable s → length w.types ≡ length s.types
@@ -100,12 +100,12 @@ module _ {S : Type 0} (m : S → Meaning) where
       let fine : IsRunnableSystem s spec = all_at (IsRunnableSystem s) s.systems i spec runnable.systems found.1 in
       let placed : (place : Place) → slice_get (places_of s) i ≡ Some place → spec.place ≡ place =
       λ place sp. some_same (sym (slice_get-map (λ (y : SystemSpec). y.place) s.systems i
-          ∙ ap (option_map (λ y. y.place)) found.1) ∙ sp) in
+      ∙ ap (option_map (λ y. y.place)) found.1) ∙ sp) in
       record {
         new = subst (IsNew i) (sym is) (record { writer = refl; places = λ t. refl });
         fits = λ place sp p needed. rw (types, resources)
             (fine.fits p (subst (λ (y : Place). IsTrue (needs_any (job_needs spec.program.ops y.conditions) p))
-                (sym (placed place sp))
+            (sym (placed place sp))
             (subst (λ n. IsTrue (needs_any (with_conditions n place.conditions) p)) needs needed)));
         joins = λ place sp. subst (λ (y : Place). (1 ≤ y.join) × (y.join ≤ 10000)) (placed place sp) fine.joins;
       }

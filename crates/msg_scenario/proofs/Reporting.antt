@@ -41,7 +41,7 @@ text_so_far_whole : (s : Scenario) (logs : List Log) (accounts : List Account) �
     → text_so_far s logs accounts ≡ report_text s logs accounts
 text_so_far_whole s logs accounts all =
     ap (λ b. if b then report_text s logs accounts else frames_text s 1 s.frames logs)
-        (eq-eqb (length logs) (length s.frames) all)
+    (eq-eqb (length logs) (length s.frames) all)
 
 -- the text of frames begins with that of the first of them
 frames_text_front : (s : Scenario) (number n : ℕ) (frames : List Frame) (logs : List Log)
@@ -51,9 +51,11 @@ frames_text_front s number zero (frame ∷ frames) logs = (frames_text s number 
 frames_text_front s number (suc n) (frame ∷ frames) [] = ([], refl)
 frames_text_front s number (suc n) (frame ∷ frames) (log ∷ logs) =
     let here = frame_text s number frame log in
-    let more = frames_text_front s (number + 1) n frames logs in
-    (more.0, ap (λ l. here ++ l) more.1
-        ∙ sym (append_assoc here (frames_text s (number + 1) frames (take n logs)) more.0))
+    let more = frames_text_front s (number + 1) n frames logs in (
+      more.0,
+      ap (λ l. here ++ l) more.1
+          ∙ sym (append_assoc here (frames_text s (number + 1) frames (take n logs)) more.0),
+    )
 
 -- ---- runs
 
@@ -98,7 +100,7 @@ module _ {X : Type 0} (meaning : X → Meaning) where
         → ReportSoFar meaning s k before now e → PostsAreToTypes s frame → PostsFit e frame
     posts_fit k before now e frame far fit =
         fits e.core far.state frame.posts far.stands.core
-            (subst (λ n. All (λ p. p.0 < n) frame.posts) (sym far.types) fit)
+        (subst (λ n. All (λ p. p.0 < n) frame.posts) (sym far.types) fit)
 
     -- ---- a frame
 
@@ -174,7 +176,7 @@ module _ {X : Type 0} (meaning : X → Meaning) where
           let here = frame_text s (k + 1) frame log in
           let rest = text_so_far_parts s (just.earlier ++ log ∷ []) (accounts_of just.state) in
           let part : AppendsPrefix now after here =
-              subst (λ n. AppendsPrefix now after (frame_text s n frame log)) is puts in
+          subst (λ n. AppendsPrefix now after (frame_text s n frame log)) is puts in
           let sum = length-append just.earlier (log ∷ []) in
           let many = just.as_many in
           let length_is : length (just.earlier ++ log ∷ []) ≡ k + 1 = omega (arith, sum, many) in
@@ -255,7 +257,7 @@ module _ {X : Type 0} (meaning : X → Meaning) where
         state = far.state;
         complete = complete s.frames far.logs far.state
             (subst (λ fs. IsRun fs (state_of s) far.logs far.state)
-                (ap (λ n. take n s.frames) all ∙ take-length s.frames) far.is_run);
+            (ap (λ n. take n s.frames) all ∙ take-length s.frames) far.is_run);
         printed = Appends-trans before now after (frames_text s 1 s.frames far.logs)
             (accounts_text s (accounts_of far.state))
             far.printed (subst (λ l. Appends now after (accounts_text s l)) (are far.state far.stands) puts);

@@ -132,7 +132,7 @@ outcome_text s system (Ran answers) = ops_text s system.name system.program.ops 
 abbrev pub turn_text : Scenario → Turn → Text
 turn_text s turn =
     option_map_or (λ system. outcome_text s system turn.outcome)
-        (slice_get s.systems turn.system) []
+    (slice_get s.systems turn.system) []
 
 -- the text of a frame: its number, the posts, and the turns
 abbrev pub frame_text : Scenario → ℕ → Frame → Log → Text
@@ -176,4 +176,4 @@ report_text s logs accounts = frames_text s 1 s.frames logs ++ accounts_text s a
 abbrev pub text_so_far : Scenario → List Log → List Account → Text
 text_so_far s logs accounts =
     if length logs == length s.frames then report_text s logs accounts
-        else frames_text s 1 s.frames logs
+    else frames_text s 1 s.frames logs

@@ -14,7 +14,7 @@ or_nothing false b h = h
 -- an access of what some ops use, after a union with nothing has taken the written resources from the read ones
 module _ (ops : List Op) (a none u : Access) (nothing : (p : Part) → uses none p ≡ false)
     (are_read : (p : Part) → reads a p ≡ some_op_reads ops p)
-        (are_written : (p : Part) → writes a p ≡ some_op_writes ops p)
+    (are_written : (p : Part) → writes a p ≡ some_op_writes ops p)
     (reads_are : (p : Part) → reads u p ≡ ((reads a p || reads none p) && not (writes u p)))
     (writes_are : (p : Part) → writes u p ≡ (writes a p || writes none p)) where
   settled_writes : (p : Part) → writes u p ≡ some_op_writes ops p
@@ -28,20 +28,33 @@ module _ (ops : List Op) (a none u : Access) (nothing : (p : Part) → uses none
       ∙ ap (λ b. some_op_reads ops p && not b) (settled_writes p)
 
   pub program_access : IsAccessOf (program_needs ops)
-      (record { read_types = a.read_types; write_types = u.write_types; read_res = u.read_res; write_res = u.write_res;
-      registry = u.registry })
+      (record {
+        read_types = a.read_types;
+        write_types = u.write_types;
+        read_res = u.read_res;
+        write_res = u.write_res;
+        registry = u.registry;
+      })
   program_access = record { reads = of_part; writes = written }
     where
-      of_part : (p : Part) → reads (record
-          { read_types = a.read_types; write_types = u.write_types; read_res = u.read_res; write_res = u.write_res;
-          registry = u.registry }) p ≡ (program_needs ops).reads p
+      of_part : (p : Part) → reads (record {
+        read_types = a.read_types;
+        write_types = u.write_types;
+        read_res = u.read_res;
+        write_res = u.write_res;
+        registry = u.registry;
+      }) p ≡ (program_needs ops).reads p
       of_part (OfType t) = are_read (OfType t) ∙ sym (and-true (some_op_reads ops (OfType t)))
       of_part (OfResource r) = settled_reads (OfResource r)
       of_part Registry = are_read Registry ∙ sym (and-true (some_op_reads ops Registry))
 
-      written : (p : Part) → writes (record
-          { read_types = a.read_types; write_types = u.write_types; read_res = u.read_res; write_res = u.write_res;
-          registry = u.registry }) p ≡ some_op_writes ops p
+      written : (p : Part) → writes (record {
+        read_types = a.read_types;
+        write_types = u.write_types;
+        read_res = u.read_res;
+        write_res = u.write_res;
+        registry = u.registry;
+      }) p ≡ some_op_writes ops p
       written (OfType t) = settled_writes (OfType t)
       written (OfResource r) = settled_writes (OfResource r)
       written Registry = settled_writes Registry

@@ -14,7 +14,7 @@ module _ {M X : Type 0} (f : Instance M → X) (unread : List (Instance M)) (cop
       ∙ take_all (length unread) (map f unread) (omega (arith, length-map unread f))
   enough_copied (Some k) rest split long =
       let total : length (map f unread) ≡ length copied + length (map f rest) = ap length split
-          ∙ length-append copied (map f rest) in
+      ∙ length-append copied (map f rest) in
       elim (min_cases k (length unread)) [
         | inl e ↦ sym (take_at copied (map f rest) k (long ∙ e)) ∙ ap (take k) (sym split) ∙ take-map f k unread
         | inr e ↦ sym (take_at copied (map f rest) (length unread) (long ∙ e.0)) ∙ ap (take (length unread)) (sym split)

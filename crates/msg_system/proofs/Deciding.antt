@@ -57,7 +57,7 @@ module _ (next : List Reply → Option Op) (w : ℕ) (ps : ℕ → ℕ) (s : Wor
         let e : AfterProgram = after_at_most k next w ps s in
         let here : IsAfterOp (after_op op w e.places e.state) rs m r =
         subst (λ (places : ℕ → ℕ). IsAfterOp (after_op op w places e.state) rs m r) far.same_places
-            (ran e.state far.stands) in
+        (ran e.state far.stands) in
         let longer : after_at_most (k + 1) next w ps s ≡ one_more (Some op) w e =
         one_longer k ∙ ap (λ o. one_more o w e) (sym (ap next asked) ∙ sym is) in
         subst (λ (x : AfterProgram). IsAfterProgram x rs m before (out ++ r ∷ [])) (sym longer) (record {
@@ -108,8 +108,14 @@ module _ {M : Type 0} (n : Needs) (next : M → List Reply → Option Op) (remem
         appended = are.1;
         one_each = are.3;
         means =
-            λ i. record { needs = n; start = start; writer = w; places = qs;
-            rule = behaves next remember ((learnt ∙ ap (remember m) rest) i); last = are.2 i };
+            λ i. record {
+              needs = n;
+              start = start;
+              writer = w;
+              places = qs;
+              rule = behaves next remember ((learnt ∙ ap (remember m) rest) i);
+              last = are.2 i;
+            };
         state = λ s stands. written_stand l k taken (after_at_most 64 (next_kept n next m) w ps s).state alike is
             (ran s stands).stands;
         answers = λ s stands. sym rest ∙ ap (drop (length before)) (ran s stands).same_replies

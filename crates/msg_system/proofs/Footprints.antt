@@ -86,7 +86,7 @@ module _ (m : Part → Bool) (s t : WorldState) (agree : Agree m s t) where
       (written_agrees (Batch k vs) within (OfType k) refl)
   op_same (Read k l) w ps within =
       ap (λ h. (with_place ps k (place_after_read h (ps k) l), reply.Read (took h (ps k) l)))
-          (read_agrees (Read k l) within (OfType k) refl)
+      (read_agrees (Read k l) within (OfType k) refl)
   op_same (Len k) w ps within = ap (λ h. (ps, reply.Len (length (unread h (ps k)))))
       (read_agrees (Len k) within (OfType k) refl)
   op_same (Missed k) w ps within =
@@ -95,20 +95,28 @@ module _ (m : Part → Bool) (s t : WorldState) (agree : Agree m s t) where
       ap (λ h. (with_place ps k (count h), reply.Cleared (missed h (ps k)) (first h (ps k)) (length (unread h (ps k)))))
       (read_agrees (Clear k) within (OfType k) refl)
   op_same (Forward k u) w ps within =
-      ap (λ h. (with_place ps k (place_after_read h (ps k) None),
-          reply.Forwarded (took h (ps k) None)
-          (numbers_for (s.histories u) (length (again_by w (took h (ps k) None).items)))))
+      ap (λ h. (
+        with_place ps k (place_after_read h (ps k) None),
+        reply.Forwarded (took h (ps k) None)
+            (numbers_for (s.histories u) (length (again_by w (took h (ps k) None).items))),
+      ))
       (read_agrees (Forward k u) within (OfType k) refl)
-      ∙ ap (λ g. (with_place ps k (place_after_read (t.histories k) (ps k) None),
-      reply.Forwarded (took (t.histories k) (ps k) None)
-      (numbers_for g (length (again_by w (took (t.histories k) (ps k) None).items)))))
+      ∙ ap (λ g. (
+        with_place ps k (place_after_read (t.histories k) (ps k) None),
+        reply.Forwarded (took (t.histories k) (ps k) None)
+            (numbers_for g (length (again_by w (took (t.histories k) (ps k) None).items))),
+      ))
       (written_agrees (Forward k u) within (OfType u) refl)
   op_same (Sum k r) w ps within =
-      ap (λ h. (with_place ps k (place_after_read h (ps k) None),
-          reply.Summed (took h (ps k) None) (sum_onto (s.resources r) (took h (ps k) None).items)))
+      ap (λ h. (
+        with_place ps k (place_after_read h (ps k) None),
+        reply.Summed (took h (ps k) None) (sum_onto (s.resources r) (took h (ps k) None).items),
+      ))
       (read_agrees (Sum k r) within (OfType k) refl)
-      ∙ ap (λ z. (with_place ps k (place_after_read (t.histories k) (ps k) None),
-      reply.Summed (took (t.histories k) (ps k) None) (sum_onto z (took (t.histories k) (ps k) None).items)))
+      ∙ ap (λ z. (
+        with_place ps k (place_after_read (t.histories k) (ps k) None),
+        reply.Summed (took (t.histories k) (ps k) None) (sum_onto z (took (t.histories k) (ps k) None).items),
+      ))
       (written_agrees (Sum k r) within (OfResource r) refl)
   op_same (Get r) w ps within = ap (λ z. (ps, reply.Value z)) (read_agrees (Get r) within (OfResource r) refl)
   op_same (Set r v) w ps within = refl
@@ -130,7 +138,7 @@ module _ (m : Part → Bool) (s t : WorldState) (agree : Agree m s t) where
   op_alike (Clear k) w ps within = agree
   op_alike (Forward k u) w ps within = histories_alike u _ _ (
       ap (λ h. write (again_by w (took h (ps k) None).items) (s.histories u))
-          (read_agrees (Forward k u) within (OfType k) refl)
+      (read_agrees (Forward k u) within (OfType k) refl)
       ∙ ap (write (again_by w (took (t.histories k) (ps k) None).items))
       (written_agrees (Forward k u) within (OfType u) refl))
   op_alike (Sum k r) w ps within = values_alike r _ _ (
@@ -203,7 +211,7 @@ module _ (n : Needs) (next : List Reply → Option Op)
         let b : AfterProgram = after_at_most k next w ps t in
         let far = turn_alike k s t agree in
         subst (λ (g : (ℕ → ℕ) × List Reply). AreAlike (one_more (next a.replies) w a) (one_more (next g.1) w b))
-            far.same (more_alike (next a.replies) a b (keeps a.replies) far)
+        far.same (more_alike (next a.replies) a b (keeps a.replies) far)
 
   as_far : (k : ℕ) → HasFootprint n (λ (e : AfterProgram). e.state) given_by_program (after_at_most k next w ps)
   as_far k = record {
@@ -227,7 +235,7 @@ program_footprint ops w ps =
     let program : Program = record { ops = ops; start = Zero } in
     subst (λ f. HasFootprint (program_needs ops) (λ (e : AfterProgram). e.state) given_by_program f)
     (λ k s. program_so_far program (length ops) w ps s (omega arith) k)
-        (first_ops (length ops) (of_program program w ps))
+    (first_ops (length ops) (of_program program w ps))
 
 -- ---- conditions
 
@@ -291,8 +299,11 @@ all_asked_same (a ∷ asked) m s t within agree =
 -- a job whose conditions gave this answer and went to these places
 abbrev job_by : Bool → List Asked → Meaning → WorldState → AfterJob
 job_by b asked m s =
-    if b then record { job = record { system = after_turn m s; conditions = asked }; state = (turn m s).state;
-        replies = Some (turn m s).replies }
+    if b then record {
+      job = record { system = after_turn m s; conditions = asked };
+      state = (turn m s).state;
+      replies = Some (turn m s).replies;
+    }
     else record { job = record { system = m; conditions = asked }; state = s; replies = None }
 
 module _ (system : Meaning) where
@@ -305,7 +316,7 @@ module _ (system : Meaning) where
       → given_by_job (job_by b asked system s) ≡ given_by_job (job_by b asked system t)
   same_by true asked m s t within agree =
       ap (λ (x : (ℕ → ℕ) × List Reply).
-          (record { system = record (told x.1 system) { places = x.0 }; conditions = asked }, Some x.1))
+      (record { system = record (told x.1 system) { places = x.0 }; conditions = asked }, Some x.1))
       ((turn_footprint system).same m s t within agree)
   same_by false asked m s t within agree = refl
 
@@ -344,7 +355,7 @@ job_footprint j = record {
       (all_asked_same j.conditions m s t (conditions_in j m within) agree);
   alike = λ m s t within agree p h.
       alike_by j.system (all_hold j.conditions s) (map (after_asking s) j.conditions) m s t
-          (system_in j m within) agree p h
+      (system_in j m within) agree p h
       ∙ ap (λ b. content p (job_by b (map (after_asking s) j.conditions) j.system t).state)
       (all_hold_same j.conditions m s t (conditions_in j m within) agree)
       ∙ ap (λ asked. content p (job_by (all_hold j.conditions t) asked j.system t).state)

@@ -47,7 +47,7 @@ module _ (cs : Cursors) (t k d : ℕ) (long : length cs.by_type ≡ 64) (is : k 
   ran_at op w new l m r ran =
       let within : t < length cs.by_type = omega (arith, long, lt) in
       rw is (subst (λ (places : ℕ → ℕ). OpRan op w (places_of cs) places l m r) (sym (moved_place cs t new within))
-          (ran (places_of cs) place_at))
+      (ran (places_of cs) place_at))
 
 -- ---- a loan that covers, after a change of what it lets be written
 
@@ -81,7 +81,7 @@ after_program-snoc [] op w ps s = refl
 after_program-snoc (x ∷ ops) op w ps s =
     let here : AfterOp = after_op x w ps s in
     ap (λ (e : AfterProgram). record { places = e.places; state = e.state; replies = here.reply ∷ e.replies })
-        (after_program-snoc ops op w here.places here.state)
+    (after_program-snoc ops op w here.places here.state)
 
 pub op_more : (ops : List Op) (i : ℕ) (op : Op) (w : ℕ) (ps qs rs : ℕ → ℕ) (s : WorldState) (l m : Lent)
     (before after : List Reply) (r : Reply)
@@ -91,10 +91,10 @@ op_more ops i op w ps qs rs s l m before after r lt is far ran =
     let e : AfterProgram = after_program (take i ops) w ps s in
     let here : IsAfterOp (after_op op w e.places e.state) rs m r =
     subst (λ (places : ℕ → ℕ). IsAfterOp (after_op op w places e.state) rs m r) far.same_places
-        (ran e.state far.stands) in
+    (ran e.state far.stands) in
     let longer : after_program (take (i + 1) ops) w ps s ≡ and_then e (after_op op w e.places e.state) =
     ap (λ xs. after_program xs w ps s) (take_more ops i op lt ∙ ap (λ x. take i ops ++ x ∷ []) (sym is))
-        ∙ after_program-snoc (take i ops) op w ps s in
+    ∙ after_program-snoc (take i ops) op w ps s in
     subst (λ (x : AfterProgram). IsAfterProgram x rs m before (after ++ r ∷ [])) (sym longer) (record {
       same_places = here.same_places;
       stands = here.stands;

@@ -28,10 +28,10 @@ op_kept ops i op is =
     let n : Needs = program_needs ops in
     and_from _ _
     (none_or_all (may_read n) (op_parts op).read
-        (λ p h. listed (some_op_reads ops p) (is_resource p) (some_op_writes ops p)
+    (λ p h. listed (some_op_reads ops p) (is_resource p) (some_op_writes ops p)
     (list_any_at (λ o. (op_needs o).reads p) ops i op lt (ap (λ o. (op_needs o).reads p) at ∙ h))))
     (none_or_all n.writes (op_parts op).written
-        (λ p h. list_any_at (λ o. (op_needs o).writes p) ops i op lt (ap (λ o. (op_needs o).writes p) at ∙ h)))
+    (λ p h. list_any_at (λ o. (op_needs o).writes p) ops i op lt (ap (λ o. (op_needs o).writes p) at ∙ h)))
 
 program_next : (program : Program) (w : ℕ) (ps : ℕ → ℕ) (rs : List Reply) → next_op (of_program program w ps) rs
     ≡ slice_get program.ops (length rs)
@@ -56,9 +56,9 @@ so_far ops zero w ps s = refl
 so_far ops (suc n) w ps s =
     let far : AfterProgram = after_program (take n ops) w ps s in
     let more : (e : AfterProgram) → e ≡ far → one_more (slice_get ops (length e.replies)) w e
-        ≡ one_more (slice_get ops (length (take n ops))) w far =
+    ≡ one_more (slice_get ops (length (take n ops))) w far =
     λ e is. ap (λ x. one_more (slice_get ops (length x.replies)) w x) is
-        ∙ ap (λ k. one_more (slice_get ops k) w far) (one_reply_each (take n ops) w ps s) in
+    ∙ ap (λ k. one_more (slice_get ops k) w far) (one_reply_each (take n ops) w ps s) in
     more (after_at_most n (λ replies. slice_get ops (length replies)) w ps s) (so_far ops n w ps s)
     ∙ elim (slice_get_cases ops n).1 [
       | inl h ↦
@@ -117,7 +117,7 @@ in_order program w ps s few =
     let is : turn m s ≡ after_program program.ops w ps s = program_so_far program 64 w ps s few in
     let all : ops_answered (next_op m) (turn m s).replies ≡ program.ops =
     answered_all program w ps (turn m s).replies
-        (ap (λ (e : AfterProgram). length e.replies) is ∙ one_reply_each program.ops w ps s) in
+    (ap (λ (e : AfterProgram). length e.replies) is ∙ one_reply_each program.ops w ps s) in
     (is, ap (λ ops. record (of_program program w (turn m s).places) { last = ops }) all)
 
 -- ---- an op that keeps to what is needed
@@ -154,7 +154,7 @@ pub ran_program : (program : Program) (w : ℕ) (ps qs : ℕ → ℕ) (l m : Len
     → Ran (of_program program w ps) (of_program program w qs) l taken before after
 ran_program program w ps qs l m taken before after few ran replies same is =
     let as_turn : (s : WorldState) → turn (of_program program w ps) s
-        ≡ after_program program.ops w ps s = λ s. (in_order program w ps s few).0 in
+    ≡ after_program program.ops w ps s = λ s. (in_order program w ps s few).0 in
     record {
       replies = replies.0;
       appended = replies.1;

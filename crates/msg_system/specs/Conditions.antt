@@ -72,7 +72,13 @@ abbrev pub after_job : Job → WorldState → AfterJob
 after_job j s =
     let asked : List Asked = map (after_asking s) j.conditions in
     if all_hold j.conditions s then
-    record { job = record { system = after_turn j.system s; conditions = asked };
-        state = (turn j.system s).state; replies = Some (turn j.system s).replies }
-    else record { job = record { system = j.system; conditions = asked }; state = s;
-        replies = None }
+    record {
+      job = record { system = after_turn j.system s; conditions = asked };
+      state = (turn j.system s).state;
+      replies = Some (turn j.system s).replies;
+    }
+    else record {
+      job = record { system = j.system; conditions = asked };
+      state = s;
+      replies = None;
+    }

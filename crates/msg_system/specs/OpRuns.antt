@@ -24,7 +24,7 @@ pub record IsAfterOp (after : AfterOp) (places : ℕ → ℕ) (lent : Lent)
 abbrev pub OpRan : Op → ℕ → (ℕ → ℕ) → (ℕ → ℕ) → Lent → Lent → Reply → Type 0
 OpRan op writer old_places new_places old new answer =
     (s : WorldState) → LoanStands old s
-        → IsAfterOp (after_op op writer old_places s) new_places new answer
+    → IsAfterOp (after_op op writer old_places s) new_places new answer
 
 -- An op asks for memory only where it writes, gives or drops something.
 abbrev pub AsksForMemory : Op → (ℕ → ℕ) → WorldState → Type 0

@@ -25,8 +25,11 @@ with_place places t place = λ u. if u == t then place else places u
 -- what a read from a place takes: what was missed, the first number, and the messages
 abbrev pub took : History Record → ℕ → Option ℕ → Took
 took h place limit =
-    record { missed = missed h place; first = first h place;
-    items = map message_of (given h place limit) }
+    record {
+      missed = missed h place;
+      first = first h place;
+      items = map message_of (given h place limit);
+    }
 
 -- the place after it
 abbrev pub place_after_read : History Record → ℕ → Option ℕ → ℕ
@@ -76,13 +79,13 @@ after_op (Write t v) w ps s = writes_all t (by w v ∷ []) ps s
 after_op (Batch t vs) w ps s = writes_all t (map (by w) vs) ps s
 after_op (Read t limit) w ps s =
     answers (reply.Read (took (s.histories t) (ps t) limit))
-        (with_place ps t (place_after_read (s.histories t) (ps t) limit)) s
+    (with_place ps t (place_after_read (s.histories t) (ps t) limit)) s
 after_op (Len t) w ps s = answers (reply.Len (length (unread (s.histories t) (ps t)))) ps s
 after_op (Missed t) w ps s = answers (reply.Missed (missed (s.histories t) (ps t))) ps s
 after_op (Clear t) w ps s =
     let h : History Record = s.histories t in
     answers (reply.Cleared (missed h (ps t)) (first h (ps t)) (length (unread h (ps t))))
-        (with_place ps t (count h)) s
+    (with_place ps t (count h)) s
 after_op (Forward t u) w ps s =
     let taken : Took = took (s.histories t) (ps t) None in
     let ms : List Record = again_by w taken.items in

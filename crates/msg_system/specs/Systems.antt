@@ -62,8 +62,10 @@ ops_answered next (r ∷ rs) = option_to_list (next [])
 -- what it does from a turn on that was answered so
 abbrev pub told : List Reply → Meaning → Meaning
 told replies m =
-    record m { rule = λ turns now. m.rule (replies ∷ turns) now;
-    last = ops_answered (next_op m) replies }
+    record m {
+      rule = λ turns now. m.rule (replies ∷ turns) now;
+      last = ops_answered (next_op m) replies;
+    }
 
 -- what it means after its turn
 abbrev pub after_turn : Meaning → WorldState → Meaning
@@ -115,4 +117,4 @@ IsInOrder = (program : Program) (writer : ℕ) (places : ℕ → ℕ) (s : World
     → length program.ops ≤ 64 →
     let m : Meaning = of_program program writer places in
     (turn m s ≡ after_program program.ops writer places s)
-        × (after_turn m s ≡ of_program program writer (turn m s).places)
+    × (after_turn m s ≡ of_program program writer (turn m s).places)

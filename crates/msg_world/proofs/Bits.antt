@@ -89,7 +89,7 @@ shr-is_below mask n fits = (
         let is : n + k' ≡ k = omega arith in
         let gone : mask / 2 ^ n ≡ 0 = eqb-true (mask / 2 ^ n) 0 t in
         absurd (false≢true (sym (has_bit-zero k') ∙ ap (λ m. has_bit m k') (sym gone)
-            ∙ ap (λ m. m % 2 == 1) (shr-shr mask n k') ∙ ap (has_bit mask) is ∙ bit))
+        ∙ ap (λ m. m % 2 == 1) (shr-shr mask n k') ∙ ap (has_bit mask) is ∙ bit))
   ],
   λ below. elim (cases_eq (mask / 2 ^ n) 0) [
     | inl e ↦ eq-eqb (mask / 2 ^ n) 0 e
@@ -168,7 +168,7 @@ as_many_ones mask n (suc d) none =
     let step = ones_from mask (n + d) in
     let lt : mask / 2 ^ (n + d) % 2 < 2 = bit_at-lt mask (n + d) in
     let unset : mask / 2 ^ (n + d) % 2 ≢ 1 =
-        eqb-false (mask / 2 ^ (n + d) % 2) 1 (none (n + d) (omega arith) (omega arith)) in
+    eqb-false (mask / 2 ^ (n + d) % 2) 1 (none (n + d) (omega arith) (omega arith)) in
     let rest = as_many_ones mask n d (λ k le l. none k le (omega arith)) in
     let next : n + suc d ≡ n + d + 1 = omega arith in
     ap (λ k. count_ones (mask / 2 ^ k)) next ∙ omega arith
@@ -186,6 +186,16 @@ pub all_below : (mask n : ℕ) → mask < 2 ^ 64 → 64 ≤ n → (k : ℕ) → 
 all_below mask n fits past k = grind (arith, cases_lt, lt-ltb, and-true, has_bit-above)
 
 -- what the functions of masks are proved by
-pub ruleset of_masks =
-    (has_bit-or, has_bit-set, has_bit-clear, has_bit-above, share_bit-and, shr-is_below, none_from, next_is_set,
-    next_is_below, none_before_next, as_many_ones)
+pub ruleset of_masks = (
+  has_bit-or,
+  has_bit-set,
+  has_bit-clear,
+  has_bit-above,
+  share_bit-and,
+  shr-is_below,
+  none_from,
+  next_is_set,
+  next_is_below,
+  none_before_next,
+  as_many_ones,
+)

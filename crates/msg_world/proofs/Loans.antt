@@ -35,7 +35,7 @@ signal_stands l s lent stand (OfType t) = stand (OfType t)
 signal_stands l s lent stand (OfResource r) = stand (OfResource r)
 signal_stands l s lent stand Registry =
     let P : Bool → Type 0 = λ b. IfSome (if b then option_map signalled_marks l.taken.marks else None)
-        (λ k. k ≡ signalled_marks s.marks) in
+    (λ k. k ≡ signalled_marks s.marks) in
     let Q : Bool → Type 0 = λ b. IfSome (if b then l.taken.marks else None) (λ k. k ≡ s.marks) in
     subst P (sym lent) (same_marks l.taken.marks s.marks (subst Q lent (stand Registry)))
 
@@ -113,8 +113,11 @@ chosen_stands p s b o z4 = grind arith
 pub loan_stays : LoanStays
 loan_stays a b world taken left others apart loan lends = record {
   size =
-      record { types = loan.size.types ∙ sym lends.left_size.types; resources = loan.size.resources
-      ∙ sym lends.left_size.resources };
+      record {
+        types = loan.size.types ∙ sym lends.left_size.types;
+        resources = loan.size.resources
+            ∙ sym lends.left_size.resources;
+      };
   written = loan.written;
   read = λ p read isnt. elim (cases_Bool (writes b p)) [
     | inl is ↦ absurd (apart (p, inr (and_from (writes b p) (uses a p) is (or_left (reads a p) (writes a p) read))))
@@ -191,7 +194,7 @@ loan_ends a old left taken begun ended lends of owns same =
         λ s mine before after. home_merges a ended.taken left home mine s none
             (λ p is. lends.stayed p ∙ rw is refl) back
             (owned_where_written ended mine
-                (λ p isnt. none p (sym (ap (λ (b : Access). writes b p) same_access) ∙ isnt)) after)
+            (λ p isnt. none p (sym (ap (λ (b : Access). writes b p) same_access) ∙ isnt)) after)
             (λ p. let P : Option (Stuff p) → Type 0 = λ o. IfSome o (λ k. StuffStands p k (content p s)) in
             subst P (sym (lends.stayed p)) (chosen_stands p s (writes a p) (slot p old) (before p)).1),
       ),

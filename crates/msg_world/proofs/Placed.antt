@@ -35,8 +35,11 @@ module _ {X : Type 0} where
   -- the first part of a slot, with the next one's place
   rest_first : (slot i : ℕ) (m : Moved X) (ms : List (Moved X)) → IsFirstOf slot (m ∷ ms) (suc i) → IsFirstOf slot ms i
   rest_first slot i m ms f =
-      record { there = let lt : suc i < length (m ∷ ms) = f.there in omega arith; its = f.its;
-      first = λ j k lt is. f.first (suc j) k (omega arith) is }
+      record {
+        there = let lt : suc i < length (m ∷ ms) = f.there in omega arith;
+        its = f.its;
+        first = λ j k lt is. f.first (suc j) k (omega arith) is;
+      }
 
   -- a slot whose part stands at place i
   pub at_first : (n slot : ℕ) (ms : List (Moved X)) (i : ℕ) (m : Moved X) → slot < n → IsFirstOf slot ms i
@@ -74,15 +77,15 @@ module _ {X : Type 0} where
   one_more n (k ∷ ms) m below none = elim (cases_eq m.slot k.slot) [
     | inl e ↦
         let within : k.slot < length (placed n ms) = subst (λ z. k.slot < z) (sym (placed_length n ms))
-            (below 0 k (omega arith)) in
+        (below 0 k (omega arith)) in
         let some : at (slice_set (placed n ms) k.slot (Some k.part)) k.slot
-            ≡ Some k.part = get_or-set_same (placed n ms) k.slot (Some k.part) None within in
+        ≡ Some k.part = get_or-set_same (placed n ms) k.slot (Some k.part) None within in
         let gone : at (slice_set (placed n ms) k.slot (Some k.part)) k.slot
-            ≡ None = subst (λ s. at (slice_set (placed n ms) k.slot (Some k.part)) s ≡ None) e none in
+        ≡ None = subst (λ s. at (slice_set (placed n ms) k.slot (Some k.part)) s ≡ None) e none in
         absurd (none_is (sym gone ∙ some))
     | inr ne ↦
         let before : at (placed n ms) m.slot
-            ≡ None = sym (get_or-set_other (placed n ms) k.slot m.slot (Some k.part) None ne) ∙ none in
+        ≡ None = sym (get_or-set_other (placed n ms) k.slot m.slot (Some k.part) None ne) ∙ none in
         ap (λ xs. slice_set xs k.slot (Some k.part)) (one_more n ms m (λ j d l. below (suc j) d (omega arith)) before)
         ∙ set_comm (placed n ms) m.slot k.slot (Some m.part) (Some k.part) ne
   ]
@@ -98,25 +101,34 @@ module _ {X : Type 0} where
   last_home n [] m home lt as_many k = elim (cases_eq k m.slot) [
     | inl e ↦
         let empty : m.slot < length (replicate n (none_of)) =
-            subst (λ z. m.slot < z) (sym (length-replicate n None)) lt in
-        rw (e, get_or-set_same (replicate n None) m.slot (Some m.part) None empty,
-            get_or-set_same home m.slot (Some m.part) None (omega arith), at_empty n m.slot) refl
-    | inr ne ↦ rw (get_or-set_other (replicate n None) m.slot k (Some m.part) None ne,
-        get_or-set_other home m.slot k (Some m.part) None ne) refl
+        subst (λ z. m.slot < z) (sym (length-replicate n None)) lt in
+        rw (
+          e,
+          get_or-set_same (replicate n None) m.slot (Some m.part) None empty,
+          get_or-set_same home m.slot (Some m.part) None (omega arith),
+          at_empty n m.slot,
+        ) refl
+    | inr ne ↦ rw (
+      get_or-set_other (replicate n None) m.slot k (Some m.part) None ne,
+      get_or-set_other home m.slot k (Some m.part) None ne,
+    ) refl
   ]
   last_home n (j ∷ ms) m home lt as_many k = elim (cases_eq k j.slot) [
     | inl e ↦ elim (cases_lt j.slot n) [
       | inl l ↦
           let left : j.slot < length (placed n (ms ++ m ∷ [])) =
-              subst (λ z. j.slot < z) (sym (placed_length n (ms ++ m ∷ []))) l in
+          subst (λ z. j.slot < z) (sym (placed_length n (ms ++ m ∷ []))) l in
           let right : j.slot < length (placed n ms) = subst (λ z. j.slot < z) (sym (placed_length n ms)) l in
-          rw (e, get_or-set_same (placed n (ms ++ m ∷ [])) j.slot (Some j.part) None left,
-              get_or-set_same (placed n ms) j.slot (Some j.part) None right) refl
+          rw (
+            e,
+            get_or-set_same (placed n (ms ++ m ∷ [])) j.slot (Some j.part) None left,
+            get_or-set_same (placed n ms) j.slot (Some j.part) None right,
+          ) refl
       | inr l ↦
           let out : (xs : List (Option X)) → length xs ≡ n → at (slice_set xs j.slot (Some j.part)) j.slot ≡ None =
           λ xs same. get_or_past (slice_set xs j.slot (Some j.part)) j.slot None
-              (let s : length (slice_set xs j.slot (Some j.part))
-              ≡ length xs = length-set xs j.slot (Some j.part) in omega arith) in
+          (let s : length (slice_set xs j.slot (Some j.part))
+          ≡ length xs = length-set xs j.slot (Some j.part) in omega arith) in
           rw (
             e,
             out (placed n (ms ++ m ∷ [])) (placed_length n (ms ++ m ∷ [])),
@@ -124,8 +136,10 @@ module _ {X : Type 0} where
             get_or-set_other home m.slot j.slot (Some m.part) None (λ s. absurd (omega arith)),
           ) refl
     ]
-    | inr ne ↦ rw (get_or-set_other (placed n (ms ++ m ∷ [])) j.slot k (Some j.part) None ne,
-        get_or-set_other (placed n ms) j.slot k (Some j.part) None ne) (last_home n ms m home lt as_many k)
+    | inr ne ↦ rw (
+      get_or-set_other (placed n (ms ++ m ∷ [])) j.slot k (Some j.part) None ne,
+      get_or-set_other (placed n ms) j.slot k (Some j.part) None ne,
+    ) (last_home n ms m home lt as_many k)
   ]
 
   -- the same, where the part was read at its place

@@ -37,11 +37,11 @@ pub waiting_stays : (w : Parts) (s : WorldState) (m : Marks) → w.marks ≡ Som
     → PartsStand w s → PartsStand w (after_update s)
 waiting_stays w s m is waiting stand =
     let same : (m.held && not m.pending)
-        ≡ waits s = ap (λ (k : Marks). k.held && not k.pending) (marks_are w s m is stand) in
+    ≡ waits s = ap (λ (k : Marks). k.held && not k.pending) (marks_are w s m is stand) in
     let P : WorldState → Type 0 = λ t. PartsStand w t in
     let Q : Bool → Type 0 =
-        λ b. PartsStand w (if b then s
-        else record s { histories = λ t. update (s.histories t); marks = record s.marks { pending = false } }) in
+    λ b. PartsStand w (if b then s
+    else record s { histories = λ t. update (s.histories t); marks = record s.marks { pending = false } }) in
     subst Q (waiting ∙ same) stand
 
 -- every type was updated, and the marks set
@@ -74,10 +74,12 @@ others_update w s types m n is waiting spent all stand =
     let marks = marks_are w s m is stand in
     let same : (m.held && not m.pending) ≡ waits s = ap (λ (k : Marks). k.held && not k.pending) marks in
     let next : n ≡ record s.marks { pending = false } = spent
-        ∙ ap (λ (k : Marks). record k { pending = false }) marks in
+    ∙ ap (λ (k : Marks). record k { pending = false }) marks in
     let Q : Bool → Type 0 = λ b. PartsStand (record { types = types; resources = w.resources; marks = Some n })
-        (if b then s else record s { histories = λ t. update (s.histories t);
-        marks = record s.marks { pending = false } }) in
+    (if b then s else record s {
+      histories = λ t. update (s.histories t);
+      marks = record s.marks { pending = false };
+    }) in
     subst Q (waiting ∙ same) (types_updated w s types n (record s.marks { pending = false }) next all stand)
 
 -- ---- a new world
@@ -108,11 +110,14 @@ values_there (z ∷ values) (suc r) lt = values_there values r (omega arith)
 module _ (limits : List ℕ) (values : List ℤ) (types : List (Option (Kept Record)))
     (as_many : length types ≡ length limits)
     (stand : (t : ℕ) → t < length limits
-        → IsSomeAnd (at types t) (λ k. StandsFor k (empty (slice_index limits t)))) where
+    → IsSomeAnd (at types t) (λ k. StandsFor k (empty (slice_index limits t)))) where
   abbrev made : Parts
   made =
-      record { types = types; resources = map (λ z. Some z) values;
-      marks = Some (record { held = false; pending = false }) }
+      record {
+        types = types;
+        resources = map (λ z. Some z) values;
+        marks = Some (record { held = false; pending = false });
+      }
 
   pub new_stands : PartsStand made (new_world limits values)
   new_stands (OfType t) = elim (cases_lt t (length limits)) [
@@ -187,7 +192,7 @@ module _ (a : Access) (old : Parts) (types types' : List (Option (Kept Record)))
     (resources_taken : (r : ℕ) → at resources' r ≡ (if has_bit a.write_res r then at old.resources r else None))
     (resources_left : (r : ℕ) → at resources r ≡ (if has_bit a.write_res r then None else at old.resources r))
     (marks_taken : marks' ≡ (if a.registry then old.marks else None))
-        (marks_left : marks ≡ (if a.registry then None else old.marks)) where
+    (marks_left : marks ≡ (if a.registry then None else old.marks)) where
   pub lent_out_taken : (p : Part) → slot p (record { types = types'; resources = resources'; marks = marks' })
       ≡ (if writes a p then slot p old else None)
   lent_out_taken (OfType t) = types_taken t
@@ -251,9 +256,14 @@ some_value o d = grind arith
 -- Parts stand for some world where each of their buffers stands for some history.
 pub world_stands : (w : Parts) → ((t : ℕ) → t < length w.types → (h : History Record) × BufferStands (at w.types t) h)
     → (s : WorldState) × PartsStand w s
-world_stands w each =
-    (record { histories = λ t. (chosen t).0; resources = λ r. unwrap_or (at w.resources r) (pos 0);
-    marks = unwrap_or w.marks none }, stand)
+world_stands w each = (
+  record {
+    histories = λ t. (chosen t).0;
+    resources = λ r. unwrap_or (at w.resources r) (pos 0);
+    marks = unwrap_or w.marks none;
+  },
+  stand,
+)
   where
     none : Marks
     none = record { held = false; pending = false }
@@ -264,8 +274,11 @@ world_stands w each =
       | inr past ↦ (empty 0, none_stands (at w.types t) _ (get_or_past w.types t None past))
     ]
 
-    stand : PartsStand w (record { histories = λ t. (chosen t).0; resources = λ r. unwrap_or (at w.resources r) (pos 0);
-        marks = unwrap_or w.marks none })
+    stand : PartsStand w (record {
+      histories = λ t. (chosen t).0;
+      resources = λ r. unwrap_or (at w.resources r) (pos 0);
+      marks = unwrap_or w.marks none;
+    })
     stand (OfType t) = (chosen t).1
     stand (OfResource r) = some_value (at w.resources r) (pos 0)
     stand Registry = some_value w.marks none
@@ -276,5 +289,5 @@ pub some_state : (v w : Parts) (types : List (Option (Kept Record))) → w ≡ v
     → (s : WorldState) × PartsStand v s
 some_state v w types same read each =
     let P : List (Option (Kept Record)) → Type 0 = λ xs. (t : ℕ) → t < length xs → (h : History Record)
-        × BufferStands (at xs t) h in
+    × BufferStands (at xs t) h in
     subst (λ (x : Parts). (s : WorldState) × PartsStand x s) same (world_stands w (subst P read each))

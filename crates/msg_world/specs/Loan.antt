@@ -65,10 +65,10 @@ with_resource l r z = record l { taken = with_value l.taken r z }
 abbrev pub LendsWriter : MutBor Lent → ℕ → Option (MutBor (Kept Record)) → Fml
 LendsWriter l t given =
     LendsIf (lent_row (record { mir = named 0; lft = [] })) messages_row l given
-        (with_messages l.now t) l.now
+    (with_messages l.now t) l.now
 
 -- the loan ends with this resource as it was left
 abbrev pub LendsResource : MutBor Lent → ℕ → Option (MutBor ℤ) → Fml
 LendsResource l r given =
     LendsIf (lent_row (record { mir = named 0; lft = [] })) i64 l given
-        (with_resource l.now r) l.now
+    (with_resource l.now r) l.now

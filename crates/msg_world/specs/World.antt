@@ -51,8 +51,10 @@ waits s = s.marks.held && not s.marks.pending
 abbrev pub after_update : WorldState → WorldState
 after_update s =
     if waits s then s
-    else record s { histories = λ t. update (s.histories t);
-        marks = record s.marks { pending = false } }
+    else record s {
+      histories = λ t. update (s.histories t);
+      marks = record s.marks { pending = false };
+    }
 
 -- A signal makes a held world pending. It changes nothing where the world isn't held.
 abbrev pub signalled_marks : Marks → Marks

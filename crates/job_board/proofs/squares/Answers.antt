@@ -8,5 +8,5 @@ pub returns : goal.returns
 returns g c = record {
   squares = IfOk-weaker c.close.result _ _ (λ all told. are_squares _ all.items
       (subst (λ jobs. IsLawfulOutcome (λ n s. s ≡ n * n) jobs all.items) c.in_ok-board.ensures.jobs told))
-          c.close.ensures.lawful;
+      c.close.ensures.lawful;
 }

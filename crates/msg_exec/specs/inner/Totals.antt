@@ -20,8 +20,11 @@ entries_by t ops (Ran replies) = entries_for t ops replies
 -- the entry for type t that the reply to op k tells of
 abbrev pub entry_at : ℕ → List Op → ℕ → Reply → List Entry
 entry_at t ops k reply =
-    elim (type_read_by ops k) [ None ↦ [] | Some u ↦ if u == t
-    then option_to_list (entry_of reply) else [] ]
+    elim (type_read_by ops k) [
+      | None ↦ []
+      | Some u ↦ if u == t
+          then option_to_list (entry_of reply) else []
+    ]
 
 -- as many replies as a turn has at most
 abbrev pub HasFewReplies : Outcome → Type 0

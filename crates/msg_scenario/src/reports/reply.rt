@@ -102,7 +102,8 @@ fn add_items(
     items: &[Record],
 ) -> Result<(), NoMemory>
     ensures { OnOk result
-        (text.new.items ≡ text.old.items ++ (codes " " ++ items_text scenario.now first items.now)) }
+        (text.new.items ≡ text.old.items
+        ++ (codes " " ++ items_text scenario.now first items.now)) }
 {
     match items {
         [] => text.extend_from_slice(b" none"),

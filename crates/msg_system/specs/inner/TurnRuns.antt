@@ -19,7 +19,7 @@ abbrev pub ProgramRan : List Op → ℕ → (ℕ → ℕ) → (ℕ → ℕ) → 
     → List Reply → Type 0
 ProgramRan ops writer old_places new_places old new before answers =
     (s : WorldState) → LoanStands old s
-        → IsAfterProgram (after_program ops writer old_places s) new_places new before answers
+    → IsAfterProgram (after_program ops writer old_places s) new_places new before answers
 
 -- so many replies were appended
 abbrev pub HasReplies : List Reply → List Reply → ℕ → Type 0
@@ -35,10 +35,10 @@ abbrev pub TurnRan : (List Reply → Option Op) → ℕ → (ℕ → ℕ) → (�
     → List Reply → Type 0
 TurnRan next writer old_places new_places old new before answers =
     (s : WorldState) → LoanStands old s
-        → IsAfterProgram (after_at_most 64 next writer old_places s) new_places new before answers
+    → IsAfterProgram (after_at_most 64 next writer old_places s) new_places new before answers
 
 -- replies were appended, and these are the ops that they are answers to, one each
 abbrev pub AreAnswered : (List Reply → Option Op) → List Op → List Reply → List Reply → Type 0
 AreAnswered next ops before answers =
     (more : List Reply) × (answers ≡ before ++ more) × (ops ≡ ops_answered next more)
-        × (length ops ≡ length more)
+    × (length ops ≡ length more)

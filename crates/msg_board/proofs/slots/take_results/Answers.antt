@@ -11,7 +11,7 @@ unreachable-requires g c = let inv = c.loop-i.invariant in let is = c.slot_count
     let test = c.loop-i-test.true in let long = inv.same_len in
     let t = c.requires.done c.loop-i.i (omega arith) in
     c.in_default.not-Done t.0 (one_value _ _ _ c.take.ensures.value
-        (ap (λ l. get_elem? l c.loop-i.i) inv.same_items ∙ t.1))
+    (ap (λ l. get_elem? l c.loop-i.i) inv.same_items ∙ t.1))
 
 pub loop-i-preserved : goal.loop-i-preserved
 loop-i-preserved g c = let inv = c.loop-i.invariant in let is = c.slot_count.ensures in
@@ -29,5 +29,5 @@ loop-i-preserved g c = let inv = c.loop-i.invariant in let is = c.slot_count.ens
           each_pushed (λ k d. get_elem? (slots_items c.args.closed.slots) k
           ≡ some (Done d)) _ _ c.in-Done.done c.loop-i.i pushed inv.count
           (ap (λ l. get_elem? l c.loop-i.i) (sym inv.same_items)
-              ∙ (c.take.ensures.value ∙ ap some c.in-Done.is)) inv.items;
+          ∙ (c.take.ensures.value ∙ ap some c.in-Done.is)) inv.items;
     }

@@ -13,7 +13,7 @@ loop-item-preserved g c =
     let within = c.loop-item-test.true in
     let result = says_at g.F.Fn c.message_of-message.ensures refl in
     let more =
-        one_more _ c.args.items.now made.0 at.item-index c.item-item.result m within c.item-item.is made.1 result in
+    one_more _ c.args.items.now made.0 at.item-index c.item-item.result m within c.item-item.is made.1 result in
     let long = as_many _ _ made.0 made.1 ∙ length-take at.item-index c.args.items.now in (
       omega arith,
       omega (arith, put.len),

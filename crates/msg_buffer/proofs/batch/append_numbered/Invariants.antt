@@ -9,7 +9,7 @@ invariant-loop-message g l =
     (goal.iterator-loop-message g).is_finite l.message-iterator ×
     (l.next + into_iter_len l.message-iterator ≡ l.initial.next + into_iter_len l.initial.message-iterator) ×
     (vec_len l.instances + into_iter_len l.message-iterator
-        ≡ vec_len l.initial.instances + into_iter_len l.initial.message-iterator) ×
+    ≡ vec_len l.initial.instances + into_iter_len l.initial.message-iterator) ×
     (vec_len l.instances + into_iter_len l.message-iterator ≤ vec_capacity l.instances) ×
     (l.instances.items ++ numbered l.next (into_iter_items l.message-iterator) ≡ l.initial.instances.items
-        ++ numbered l.initial.next (into_iter_items l.initial.message-iterator))
+    ++ numbered l.initial.next (into_iter_items l.initial.message-iterator))

@@ -20,7 +20,10 @@ returns g c = record {
   never_twice = λ s stands.
       let ran = c.in_ok-run_frames.ensures.ran s stands in
       let logs : List Log = c.run_frames.new.out.items in
-      let all : c.run_frames.new.out.items ≡ ran.logs = search rules in
-      (ran.state, ran.stands, once c.args.frames.now s logs ran.state
-          (subst (λ ls. IsCompleteRun c.args.frames.now s ls ran.state) (sym all) ran.complete));
+      let all : c.run_frames.new.out.items ≡ ran.logs = search rules in (
+        ran.state,
+        ran.stands,
+        once c.args.frames.now s logs ran.state
+            (subst (λ ls. IsCompleteRun c.args.frames.now s ls ran.state) (sym all) ran.complete),
+      );
 }

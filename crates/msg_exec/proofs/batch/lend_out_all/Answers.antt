@@ -14,12 +14,12 @@ lend_out-requires-clause-there g c κs within =
     let k = c.loop-system.system-index in
     let batch = c.args.batch.now in
     (may_go g.S.System.meaning c.args.lender.now c.loop-system.lender c.requires.stands.0
-        (take k batch) c.loop-system.jobs.items (slice_index_or batch k 0) c.requires.stands.1.0
+    (take k batch) c.loop-system.jobs.items (slice_index_or batch k 0) c.requires.stands.1.0
     (c.requires.stands.1.1 k 0 c.loop-system-test.true) c.loop-system.invariant
     (not_before (take k batch) (slice_index_or batch k 0)
-        (each_before (λ i j. i ≢ j) batch k 0 c.loop-system-test.true c.requires.once))
+    (each_before (λ i j. i ≢ j) batch k 0 c.loop-system-test.true c.requires.once))
     (each_before (λ i j. ¬ Conflict (access_of accesses i) (access_of accesses j)) batch k 0 c.loop-system-test.true
-        c.requires.apart)).there
+    c.requires.apart)).there
 
 pub lend_out-requires-clause-home : goal.lend_out-requires-clause-home
 lend_out-requires-clause-home g c κs within =
@@ -27,12 +27,12 @@ lend_out-requires-clause-home g c κs within =
     let k = c.loop-system.system-index in
     let batch = c.args.batch.now in
     (may_go g.S.System.meaning c.args.lender.now c.loop-system.lender c.requires.stands.0
-        (take k batch) c.loop-system.jobs.items (slice_index_or batch k 0) c.requires.stands.1.0
+    (take k batch) c.loop-system.jobs.items (slice_index_or batch k 0) c.requires.stands.1.0
     (c.requires.stands.1.1 k 0 c.loop-system-test.true) c.loop-system.invariant
     (not_before (take k batch) (slice_index_or batch k 0)
-        (each_before (λ i j. i ≢ j) batch k 0 c.loop-system-test.true c.requires.once))
+    (each_before (λ i j. i ≢ j) batch k 0 c.loop-system-test.true c.requires.once))
     (each_before (λ i j. ¬ Conflict (access_of accesses i) (access_of accesses j)) batch k 0 c.loop-system-test.true
-        c.requires.apart)).home
+    c.requires.apart)).home
 
 pub loop-system-preserved : goal.loop-system-preserved
 loop-system-preserved g c =
@@ -40,13 +40,13 @@ loop-system-preserved g c =
     let k = c.loop-system.system-index in
     let batch = c.args.batch.now in
     let more = one_more_out whole c.loop-system.lender c.lend_out.new.self (take k batch) c.loop-system.jobs.items
-        (slice_index_or batch k 0) c.in_ok-lend_out.field-0
+    (slice_index_or batch k 0) c.in_ok-lend_out.field-0
     c.loop-system.invariant c.in_ok-lend_out.ensures.out
     (not_before (take k batch) (slice_index_or batch k 0)
-        (each_before (λ i j. i ≢ j) batch k 0 c.loop-system-test.true c.requires.once))
+    (each_before (λ i j. i ≢ j) batch k 0 c.loop-system-test.true c.requires.once))
     (each_before (λ i j. ¬ Conflict (access_of whole.accesses.items i) (access_of whole.accesses.items j)) batch k 0
-        c.loop-system-test.true c.requires.apart) in
+    c.loop-system-test.true c.requires.apart) in
     subst (λ is. AreOut whole is c.push.new.self.items c.lend_out.new.self)
-        (sym (take_more batch k 0 c.loop-system-test.true))
+    (sym (take_more batch k 0 c.loop-system-test.true))
     (subst (λ js. AreOut whole (take k batch ++ slice_index_or batch k 0 ∷ []) js c.lend_out.new.self)
-        (sym c.in_ok-push.ensures.items) more)
+    (sym c.in_ok-push.ensures.items) more)

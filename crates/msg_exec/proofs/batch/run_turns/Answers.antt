@@ -13,8 +13,10 @@ run_turn-requires-clause-stands g c κs within =
     let before = take k c.args.systems.now in
     let i = slice_index_or c.args.systems.now k 0 in (
       (after_turns_of before s).state,
-      ((c.loop-system.invariant.turned s c.requires.stands.1.0).0,
-          subst (λ n. i < n) (sym (as_many_systems before s)) (c.requires.stands.1.1 k 0 c.loop-system-test.true)),
+      (
+        (c.loop-system.invariant.turned s c.requires.stands.1.0).0,
+        subst (λ n. i < n) (sym (as_many_systems before s)) (c.requires.stands.1.1 k 0 c.loop-system-test.true),
+      ),
     )
 
 pub loop-system-preserved : goal.loop-system-preserved
@@ -32,21 +34,21 @@ loop-system-preserved g c =
           (take k systems) i c.loop-system.invariant.passed c.pass.ensures.passed);
       turned = λ s stands.
           subst (λ xs. HasTurned g.S.System.meaning xs s c.run_turn.new.lender c.args.turns.now.items
-              c.push.new.self.items) next
+          c.push.new.self.items) next
           (turned_more g.S.System.meaning (take k systems)
-              (i ∷ []) s c.loop-system.lender c.run_turn.new.lender c.args.turns.now.items c.loop-system.turns.items
-              c.push.new.self.items
+          (i ∷ []) s c.loop-system.lender c.run_turn.new.lender c.args.turns.now.items c.loop-system.turns.items
+          c.push.new.self.items
           (c.loop-system.invariant.turned s stands) ran.state
           (λ u here. c.in_ok-push.ensures.items
-              ∙ ap (λ turn. c.loop-system.turns.items ++ turn ∷ []) (ran.logged u here)));
+          ∙ ap (λ turn. c.loop-system.turns.items ++ turn ∷ []) (ran.logged u here)));
     }
 
 pub returns-clause-state : goal.returns-clause-state
 returns-clause-state g c s stands =
     (turned_all g.S.System.meaning c.args.systems.now c.loop-system.system-index s c.loop-system.lender
-        c.args.turns.now.items c.loop-system.turns.items (omega arith) (c.loop-system.invariant.turned s stands)).0
+    c.args.turns.now.items c.loop-system.turns.items (omega arith) (c.loop-system.invariant.turned s stands)).0
 
 pub returns-clause-turns : goal.returns-clause-turns
 returns-clause-turns g c s stands =
     (turned_all g.S.System.meaning c.args.systems.now c.loop-system.system-index s c.loop-system.lender
-        c.args.turns.now.items c.loop-system.turns.items (omega arith) (c.loop-system.invariant.turned s stands)).1
+    c.args.turns.now.items c.loop-system.turns.items (omega arith) (c.loop-system.invariant.turned s stands)).1

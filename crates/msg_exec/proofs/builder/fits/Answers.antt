@@ -8,8 +8,8 @@ pub returns : goal.returns
 returns g c =
     let needs = (g.S.System.meaning c.args.system.now).needs in
     let used =
-        uses_needs _ _ (subst (λ cs. IsAccessOf (with_conditions needs cs) c.job_access.result) c.as_slice.ensures.items
-        (c.job_access.ensures.needs needs c.access.ensures.needs)) in
+    uses_needs _ _ (subst (λ cs. IsAccessOf (with_conditions needs cs) c.job_access.result) c.as_slice.ensures.items
+    (c.job_access.ensures.needs needs c.access.ensures.needs)) in
     record {
       fit = (
         λ home p needed. has_part c.args.world.now p (c.is_home.ensures.home.0 home p (used p ∙ needed)),

@@ -14,8 +14,8 @@ loop-system-preserved g c =
     let x = c.in-Some.system in
     let now = c.set_number.new.self in
     let number : c.len.result ≡ 0 + length (map m ys) =
-        (let done = inv.as_many in let len = c.len.ensures in let same =
-        length-map ys m in omega (arith, done, len, same)) in
+    (let done = inv.as_many in let len = c.len.ensures in let same =
+    length-map ys m in omega (arith, done, len, same)) in
     record {
       as_many = ap length c.in_ok-push.ensures.items ∙ length-append done (now ∷ []) ∙ ap (λ n. n + 1) inv.as_many
           ∙ sym (length-append ys (x ∷ []));

@@ -34,9 +34,9 @@ loop-i-preserved g c =
     let P = IsAccessAt m c.args.systems.now c.args.places.now in
     let pushed : c.push.new.self.items ≡ xs ++ c.job_access-access.result ∷ [] = search rules in
     let system : (x : g.row.S.Denot) → slice_get c.args.systems.now i ≡ Some x → c.index-systems-i.result
-        ≡ x =
-        λ x there. read_is c.args.systems.now i c.index-systems-i.result x c.loop-i-test.true
-        c.index-systems-i.is there in
+    ≡ x =
+    λ x there. read_is c.args.systems.now i c.index-systems-i.result x c.loop-i-test.true
+    c.index-systems-i.is there in
     let own = c.own_access-clash.ensures in
     record {
       as_many = ap length pushed ∙ length-append xs (c.job_access-access.result ∷ []) ∙ ap (λ n. n + 1) inv.as_many;
@@ -44,18 +44,18 @@ loop-i-preserved g c =
           subst (EachIs P) (sym pushed)
           (each_pushed P P xs c.job_access-access.result inv.accesses (λ k a lt is. is)
           (subst (λ k. P k c.job_access-access.result) (sym inv.as_many) (record {
-        access =
-            λ x place sx sp. subst (λ y. IsAccessOf
-            (with_conditions (m y).needs place.conditions) c.job_access-access.result) (system x sx)
-            (subst (λ cs. IsAccessOf (with_conditions (m c.index-systems-i.result).needs cs) c.job_access-access.result)
-            (c.as_slice.ensures.items
+            access =
+                λ x place sx sp. subst (λ y. IsAccessOf
+                (with_conditions (m y).needs place.conditions) c.job_access-access.result) (system x sx)
+                (subst (λ cs. IsAccessOf (with_conditions (m c.index-systems-i.result).needs cs) c.job_access-access.result)
+                (c.as_slice.ensures.items
                 ∙ ap (λ (q : Place). q.conditions)
                 (sym c.index-places-i.is
                 ∙ read_is c.args.places.now i c.index-places-i.result place
                 (omega (arith, c.requires.one_place_each)) c.index-places-i.is sp))
-            (c.job_access-access.ensures.needs (m c.index-systems-i.result).needs own.access));
-        no_clash =
-            λ x sx has. false≢true (sym c.if-clash.false
-            ∙ own.clash.1 (subst (λ y. HasClash (m y)) (sym (system x sx)) has));
-      })));
+                (c.job_access-access.ensures.needs (m c.index-systems-i.result).needs own.access));
+            no_clash =
+                λ x sx has. false≢true (sym c.if-clash.false
+                ∙ own.clash.1 (subst (λ y. HasClash (m y)) (sym (system x sx)) has));
+          })));
     }

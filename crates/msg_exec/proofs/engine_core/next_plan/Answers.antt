@@ -25,7 +25,7 @@ returns-then-not-contains g c = record {
       let each = stands.schedule.joins.each i lt in
       let next = c.in-Some.ensures in
       eqb-false _ _ (c.if-not-contains.ensures.cases i 0 (omega arith) (omega (arith, lt, size, ap length here)))
-          (ap (λ xs. slice_index_or xs i 0) here ∙ each ∙ joins ∙ omega (arith, is, next))));
+      (ap (λ xs. slice_index_or xs i 0) here ∙ each ∙ joins ∙ omega (arith, is, next))));
 }
 
 pub plan_by-requires-clause-in_range : goal.plan_by-requires-clause-in_range
@@ -33,18 +33,18 @@ plan_by-requires-clause-in_range g c =
     let s : State = c.requires.stands.0 in
     let has = c.requires.stands.1.0.schedule in
     let size : length c.deref-2.result.now ≡ s.systems = ap length c.deref-2.ensures.value
-        ∙ c.requires.stands.1.0.lender.accesses in
+    ∙ c.requires.stands.1.0.lender.accesses in
     subst (λ rs. NameSystemsBelow (length c.deref-2.result.now) rs) (sym (c.deref-3.ensures.value ∙ has.rules))
-        (subst (λ n. NameSystemsBelow n s.rules) (sym size) has.named)
+    (subst (λ n. NameSystemsBelow n s.rules) (sym size) has.named)
 
 pub plan_by-requires-clause-no_cycle : goal.plan_by-requires-clause-no_cycle
 plan_by-requires-clause-no_cycle g c joined as_many =
     let s : State = c.requires.stands.0 in
     let has = c.requires.stands.1.0.schedule in
     let size : length c.deref-2.result.now ≡ s.systems = ap length c.deref-2.ensures.value
-        ∙ c.requires.stands.1.0.lender.accesses in
+    ∙ c.requires.stands.1.0.lender.accesses in
     subst (λ rs. IsAcyclic (rules_among joined rs)) (sym (c.deref-3.ensures.value ∙ has.rules))
-        (has.no_cycle joined (as_many ∙ size))
+    (has.no_cycle joined (as_many ∙ size))
 
 pub returns : goal.returns
 returns g c = record {
@@ -57,10 +57,10 @@ returns g c = record {
         next,
         plan_next core s c.in-Some.next plan stands.schedule next
             (subst (λ as_is. IsPlanOf as_is core.rules.items (map (λ j. nat_le j c.in-Some.next) core.joins.items) plan)
-                c.deref-2.ensures.value
+            c.deref-2.ensures.value
             (subst (λ rs. IsPlanOf c.deref-2.result.now rs (map (λ j. nat_le j c.in-Some.next) core.joins.items) plan)
-                c.deref-3.ensures.value
+            c.deref-3.ensures.value
             (subst (λ js. IsPlanOf c.deref-2.result.now c.deref-3.result.now
-                (map (λ j. nat_le j c.in-Some.next) js) plan) c.deref-4.ensures.value c.in_ok-plan.ensures.plan))),
+            (map (λ j. nat_le j c.in-Some.next) js) plan) c.deref-4.ensures.value c.in_ok-plan.ensures.plan))),
       );
 }

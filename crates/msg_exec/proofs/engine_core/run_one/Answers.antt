@@ -19,7 +19,7 @@ run_batches-requires-clause-stands g c κs within =
         has.lender,
         batches_below g.S.System.meaning c.batches-batches.result.now bt has.plan.order
             (subst (λ bs. AreBatches has.plan.order (join_flags bt) bs)
-                (sym c.batches-batches.ensures.items) has.plan.classes),
+            (sym c.batches-batches.ensures.items) has.plan.classes),
       ),
     )
 
@@ -37,7 +37,7 @@ pub run_batches-requires-clause-apart : goal.run_batches-requires-clause-apart
 run_batches-requires-clause-apart g c κs within =
     let has = c.in_ok-core.ensures.opened c.requires.stands.0 c.requires.stands.1.0 c.requires.stands.1.1 in
     subst (All (NoneConflict c.in_ok-core.core.lender.accesses.items))
-        (sym c.batches-batches.ensures.items) has.plan.apart
+    (sym c.batches-batches.ensures.items) has.plan.apart
 
 pub returns : goal.returns
 returns g c = record {
@@ -46,10 +46,10 @@ returns g c = record {
       let bt : State = before_turns c.args.frame.now.posts s in
       let order : List ℕ = concat (map (λ (batch : Vec ℕ). batch.items) c.batches-batches.result.now) in
       frame_ran g.S.System.meaning c.in_ok-core.core _ s c.args.frame.now _ order c.in_ok-core.posts.items
-          (ap concat c.batches-batches.ensures.items) has stands.sound
+      (ap concat c.batches-batches.ensures.items) has stands.sound
       c.states_stay_sound.ensures.frame (c.in_ok-turns.ensures.state bt has.lender)
       (logged_in c.args.frame.now order s _ c.in_ok-core.posts.items c.from_vec.ensures.items has.posts
-          (c.from_vec-2.ensures.items ∙ c.in_ok-turns.ensures.turns bt has.lender))
+      (c.from_vec-2.ensures.items ∙ c.in_ok-turns.ensures.turns bt has.lender))
       refl refl refl c.in_ok-turns.ensures.accesses;
   gate_passed =
       let s : State = c.requires.stands.0 in
@@ -58,7 +58,7 @@ returns g c = record {
       let order : List ℕ = concat (map (λ (batch : Vec ℕ). batch.items) c.batches-batches.result.now) in
       subst (EachPassedGate (g.G.Gate.passed c.args.gate.now) c.args.workers)
       (sym (in_that_order c.args.frame.now order s _
-          (logged_in c.args.frame.now order s _ c.in_ok-core.posts.items c.from_vec.ensures.items has.posts
-          (c.from_vec-2.ensures.items ∙ c.in_ok-turns.ensures.turns bt has.lender))))
+      (logged_in c.args.frame.now order s _ c.in_ok-core.posts.items c.from_vec.ensures.items has.posts
+      (c.from_vec-2.ensures.items ∙ c.in_ok-turns.ensures.turns bt has.lender))))
       c.in_ok-turns.ensures.gate_passed;
 }

@@ -5,4 +5,4 @@ use Rattle.msg_exec.proofs.joining.start_guards.Given as goal
 abbrev pub invariant-loop-guard : goal.invariant-loop-guard
 invariant-loop-guard l =
     l.guards ≡ map (asked_started l.start l.counts) (take l.guard-index l.initial.guards)
-        ++ drop l.guard-index l.initial.guards
+    ++ drop l.guard-index l.initial.guards

@@ -9,7 +9,7 @@ take_turn-requires-clause-may g c =
     let s = c.requires.stands in
     let may = may_take_turn g.S.System.meaning c.args.lender.now s.0 c.args.number s.1.0 s.1.1
     c.lend_out.new.self c.in_ok-taken.taken c.index.result.now c.index_mut.result.now c.in-Some.guarded c.index.ensures
-        c.index_mut.ensures.value c.in-Some.is
+    c.index_mut.ensures.value c.in-Some.is
     c.in_ok-taken.ensures.lent in
     (may.loan, may.access)
 
@@ -18,7 +18,7 @@ enter-requires-clause-few g c κs within =
     let s = c.requires.stands in
     (may_come_home g.S.System.meaning c.args.lender.now s.0 c.args.number s.1.0 s.1.1
     c.lend_out.new.self c.in_ok-taken.taken c.index.result.now c.index_mut.result.now c.in-Some.guarded c.index.ensures
-        c.index_mut.ensures.value c.in-Some.is
+    c.index_mut.ensures.value c.in-Some.is
     c.in_ok-taken.ensures.lent
     c.in_ok-taken-2.taken c.in_ok-taken-2.outcome c.take_turn.new.self c.in_ok-taken-2.ensures.took).few
 
@@ -27,13 +27,17 @@ returns-clause-state g c s stands =
     let old = c.args.lender.now in
     let i = c.args.number in
     let lt : i < s.systems =
-        subst (λ n. i < n) (sym c.requires.stands.1.0.accesses ∙ stands.accesses) c.requires.stands.1.1 in
+    subst (λ n. i < n) (sym c.requires.stands.1.0.accesses ∙ stands.accesses) c.requires.stands.1.1 in
     let done : Done g.row.S.Denot =
-        record { number = i; guarded = c.take_turn.new.self; taken = c.in_ok-taken-2.taken;
-        outcome = c.in_ok-taken-2.outcome } in
+    record {
+      number = i;
+      guarded = c.take_turn.new.self;
+      taken = c.in_ok-taken-2.taken;
+      outcome = c.in_ok-taken-2.outcome;
+    } in
     turn_taken g.S.System.meaning old s i stands lt
     c.lend_out.new.self c.in_ok-taken.taken c.index.result.now c.index_mut.result.now c.in-Some.guarded c.index.ensures
-        c.index_mut.ensures.value c.in-Some.is
+    c.index_mut.ensures.value c.in-Some.is
     c.in_ok-taken.ensures.lent
     c.in_ok-taken-2.taken c.in_ok-taken-2.outcome c.take_turn.new.self c.in_ok-taken-2.ensures.took _
     (record {
@@ -46,20 +50,20 @@ returns-clause-state g c s stands =
         entered_there g.S.System.meaning done old.totals.items c.index_mut-2.result.now c.deref_mut.result.now
             c.enter.new.totals
             c.index_mut-2.ensures.value c.deref_mut.ensures.value
-                (omega (arith, c.enter.ensures.as_many, c.deref_mut.ensures.len))
+            (omega (arith, c.enter.ensures.as_many, c.deref_mut.ensures.len))
             (record { as_many = c.enter.ensures.as_many; entered = c.enter.ensures.entered }),
       );
     })
     c.written_parts_come_home.ensures.meaning c.written_parts_come_home.ensures.either
-        c.batches_run_side_by_side.ensures.law
+    c.batches_run_side_by_side.ensures.law
 
 pub returns-clause-logged : goal.returns-clause-logged
 returns-clause-logged g c s stands =
     let i = c.args.number in
     let lt : i < s.systems =
-        subst (λ n. i < n) (sym c.requires.stands.1.0.accesses ∙ stands.accesses) c.requires.stands.1.1 in
+    subst (λ n. i < n) (sym c.requires.stands.1.0.accesses ∙ stands.accesses) c.requires.stands.1.1 in
     turn_is_logged g.S.System.meaning c.args.lender.now s i stands lt
     c.lend_out.new.self c.in_ok-taken.taken c.index.result.now c.index_mut.result.now c.in-Some.guarded c.index.ensures
-        c.index_mut.ensures.value c.in-Some.is
+    c.index_mut.ensures.value c.in-Some.is
     c.in_ok-taken.ensures.lent
     c.in_ok-taken-2.taken c.in_ok-taken-2.outcome c.take_turn.new.self c.in_ok-taken-2.ensures.took

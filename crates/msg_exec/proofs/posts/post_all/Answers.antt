@@ -16,7 +16,7 @@ pub post-requires : goal.post-requires
 post-requires c =
     let p : ℕ × ℤ = c.loop-t-item.result in
     let below : p.0 < length c.args.world.now.types = subst (λ (q : ℕ × ℤ). q.0 < length c.args.world.now.types)
-        (sym c.loop-t-item.is) (c.requires.types c.loop-t.t-index p c.loop-t-test.true) in
+    (sym c.loop-t-item.is) (c.requires.types c.loop-t.t-index p c.loop-t-test.true) in
     record { home = c.loop-t.invariant.shape.there (OfType p.0) ∙ c.requires.whole (OfType p.0) below }
 
 pub loop-t-preserved : goal.loop-t-preserved
@@ -26,22 +26,32 @@ loop-t-preserved c =
     let old = c.loop-t.invariant.shape in
     let fits : SFits w64 p.1 = search rules in
     let R : ℤ → Type 0 = λ z. (w : WorldState) → PartsStand c.loop-t.world w
-        → PartsStand c.post.new.world (with_history w p.0 (write (by HOST z ∷ []) (w.histories p.0))) in
+    → PartsStand c.post.new.world (with_history w p.0 (write (by HOST z ∷ []) (w.histories p.0))) in
     let pushed : c.push.new.self.items ≡ c.loop-t.replies.items ++ c.in_ok-reply.reply ∷ [] = c.in-Ok.ensures.items in
     record {
       so_far =
           λ w stands. subst (λ (rs : List Reply). HasPosted
           (take (c.loop-t.t-index + 1) c.args.posts.now) w c.post.new.world rs) (sym pushed)
           (one_post_more c.args.posts.now c.loop-t.t-index p w c.loop-t.world c.post.new.world c.loop-t.replies.items
-              c.in_ok-reply.reply c.loop-t-test.true c.loop-t-item.is
+          c.in_ok-reply.reply c.loop-t-test.true c.loop-t-item.is
           (c.loop-t.invariant.so_far w stands) (subst R (to_z-of_z w64 p.1 fits) did.state) did.reply);
       shape =
-          record { size =
-          record { types = did.shape.size.types ∙ old.size.types; resources = did.shape.size.resources
-          ∙ old.size.resources }; there = λ q. did.shape.there q ∙ old.there q };
+          record {
+            size =
+                record {
+                  types = did.shape.size.types ∙ old.size.types;
+                  resources = did.shape.size.resources
+                      ∙ old.size.resources;
+                };
+            there = λ q. did.shape.there q ∙ old.there q;
+          };
       as_many =
-          omega (arith, ap length pushed, length-append c.loop-t.replies.items (c.in_ok-reply.reply ∷ []),
-          c.loop-t.invariant.as_many);
+          omega (
+            arith,
+            ap length pushed,
+            length-append c.loop-t.replies.items (c.in_ok-reply.reply ∷ []),
+            c.loop-t.invariant.as_many,
+          );
       room = omega (arith, c.loop-t.invariant.room, c.in-Ok.ensures.capacity);
     }
 
@@ -63,5 +73,5 @@ pub returns-clause-state : goal.returns-clause-state
 returns-clause-state c w stands =
     let end : c.loop-t.t-index ≡ length c.args.posts.now = omega arith in
     let whole : take c.loop-t.t-index c.args.posts.now ≡ c.args.posts.now = ap (λ k. take k c.args.posts.now) end
-        ∙ take-length c.args.posts.now in
+    ∙ take-length c.args.posts.now in
     (subst (λ xs. HasPosted xs w c.loop-t.world c.loop-t.replies.items) whole (c.loop-t.invariant.so_far w stands)).0

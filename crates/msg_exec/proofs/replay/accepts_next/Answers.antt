@@ -10,7 +10,7 @@ returns-in-Some g c = record {
       let core = c.args.core.now in
       let next = subst (IsNextPlan core s) c.in-Some.is (c.in_ok-plan.ensures.plan s stands is) in
       accepted g.S.System.meaning c.accepts.result core s frame c.args.order.now next.2.order
-          c.systems_have_one_order.ensures.law stands next.2.settled
+      c.systems_have_one_order.ensures.law stands next.2.settled
       (c.accepts.ensures.lawful core.lender.accesses.items s.rules (join_flags (counted (joining s))) next.2);
 }
 
@@ -19,9 +19,9 @@ returns-in-None g c = record {
   lawful = λ s stands is frame.
       let core = c.args.core.now in
       let plan =
-          plan_stays g.S.System.meaning core s stands
-          (subst (IsNextPlan core s) c.in-None.is (c.in_ok-plan.ensures.plan s stands is)) in
+      plan_stays g.S.System.meaning core s stands
+      (subst (IsNextPlan core s) c.in-None.is (c.in_ok-plan.ensures.plan s stands is)) in
       accepted g.S.System.meaning c.accepts-in-None.result core s frame c.args.order.now plan.order
-          c.systems_have_one_order.ensures.law stands plan.settled
+      c.systems_have_one_order.ensures.law stands plan.settled
       (c.accepts-in-None.ensures.lawful core.lender.accesses.items s.rules (join_flags (counted (joining s))) plan);
 }

@@ -8,10 +8,14 @@ pub run_turns-requires-clause-stands : goal.run_turns-requires-clause-stands
 run_turns-requires-clause-stands g c κs within =
     let s : State = c.requires.stands.0 in
     let stands = c.requires.stands.1.0 in
-    let has = c.in_ok-core.ensures.opened s stands c.requires.stands.1.1 in
-    (before_turns c.args.frame.now.posts s,
-        (has.lender, lawful_below c.args.frame.now s c.args.order.now
-        (c.requires.lawful s stands c.requires.stands.1.1)))
+    let has = c.in_ok-core.ensures.opened s stands c.requires.stands.1.1 in (
+      before_turns c.args.frame.now.posts s,
+      (
+        has.lender,
+        lawful_below c.args.frame.now s c.args.order.now
+            (c.requires.lawful s stands c.requires.stands.1.1),
+      ),
+    )
 
 pub returns : goal.returns
 returns g c = record {
@@ -20,11 +24,11 @@ returns g c = record {
       let bt : State = before_turns c.args.frame.now.posts s in
       let order = c.args.order.now in
       frame_replayed g.S.System.meaning c.args.core c.in_ok-core.core _ s c.args.frame.now order _
-          c.in_ok-core.posts.items stands has
+      c.in_ok-core.posts.items stands has
       c.states_stay_sound.ensures.frame c.frames_agree_in_lawful_orders.ensures.law (c.requires.lawful s stands is)
-          (c.in_ok-run_turns.ensures.state bt has.lender)
+      (c.in_ok-run_turns.ensures.state bt has.lender)
       (logged_in c.args.frame.now order s _ c.in_ok-core.posts.items c.from_vec.ensures.items has.posts
-          (c.from_vec-2.ensures.items ∙ c.in_ok-run_turns.ensures.turns bt has.lender
-          ∙ ap (λ ts. ts ++ (after_turns_of order bt).turns) c.in_ok-turns.ensures.empty))
+      (c.from_vec-2.ensures.items ∙ c.in_ok-run_turns.ensures.turns bt has.lender
+      ∙ ap (λ ts. ts ++ (after_turns_of order bt).turns) c.in_ok-turns.ensures.empty))
       refl refl refl c.in_ok-run_turns.ensures.accesses;
 }

@@ -10,25 +10,25 @@ use Rattle.msg_exec.proofs.side_by_side.run_side_by_side.Goals as goal
 pub run_jobs-requires-clause-may : goal.run_jobs-requires-clause-may
 run_jobs-requires-clause-may g c κs within =
     each_may (MayRun g.S.System.meaning) (λ b. b.job)
-        (λ b. b.world.now) c.args.world.now _ c.args.jobs.items c.in_ok-jobs.ensures.jobs c.in_ok-jobs.ensures.world
-        c.requires.may
+    (λ b. b.world.now) c.args.world.now _ c.args.jobs.items c.in_ok-jobs.ensures.jobs c.in_ok-jobs.ensures.world
+    c.requires.may
 
 pub returns : goal.returns
 returns g c = record {
   done = IfOk-weaker c.all_done.result _ _
       (λ done ok. all_are_done g.S.System.meaning (λ b. b.job)
-          (λ b. b.world.now) c.args.world.now c.in_ok-jobs.jobs.items c.args.jobs.items _ done.items
-          c.in_ok-jobs.ensures.jobs c.in_ok-jobs.ensures.world c.in_ok-results.ensures.lawful ok)
+      (λ b. b.world.now) c.args.world.now c.in_ok-jobs.jobs.items c.args.jobs.items _ done.items
+      c.in_ok-jobs.ensures.jobs c.in_ok-jobs.ensures.world c.in_ok-results.ensures.lawful ok)
       c.all_done.ensures.done;
   gate_passed = IfOk-weaker c.all_done.result _ _
       (λ done ok.
       let as_many : length c.in_ok-jobs.jobs.items
-          ≡ length c.args.jobs.items = sym (length-map c.in_ok-jobs.jobs.items (λ b. b.job))
-          ∙ ap length c.in_ok-jobs.ensures.jobs in
+      ≡ length c.args.jobs.items = sym (length-map c.in_ok-jobs.jobs.items (λ b. b.job))
+      ∙ ap length c.in_ok-jobs.ensures.jobs in
       subst (λ n. All (λ (j : Job g.row.S.Denot). PassedGate (g.G.Gate.passed c.args.gate.now)
-          (min c.args.workers n) j.number) c.args.jobs.items) as_many
+      (min c.args.workers n) j.number) c.args.jobs.items) as_many
       (all_mapped (λ (j : Job g.row.S.Denot). PassedGate (g.G.Gate.passed c.args.gate.now)
-          (min c.args.workers (length c.in_ok-jobs.jobs.items)) j.number) (λ b. b.job) c.in_ok-jobs.jobs.items
+      (min c.args.workers (length c.in_ok-jobs.jobs.items)) j.number) (λ b. b.job) c.in_ok-jobs.jobs.items
       c.args.jobs.items c.in_ok-jobs.ensures.jobs c.in_ok-results.ensures.gate_passed))
       c.all_done.ensures.done;
 }

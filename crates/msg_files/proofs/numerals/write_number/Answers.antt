@@ -6,8 +6,11 @@ use Rattle.msg_files.proofs.numerals.write_number.Goals as goal
 
 pub overflow_sub-at : goal.overflow_sub-at
 overflow_sub-at c =
-    omega (arith, length_wide c.args.number c.ranges.number.fits,
-        length_step_wide c.loop-left.left (omega arith) c.loop-left.auto.left-fits.fits)
+    omega (
+      arith,
+      length_wide c.args.number c.ranges.number.fits,
+      length_step_wide c.loop-left.left (omega arith) c.loop-left.auto.left-fits.fits,
+    )
 
 pub loop-left-preserved : goal.loop-left-preserved
 loop-left-preserved c =
@@ -19,8 +22,10 @@ loop-left-preserved c =
       omega (arith, length-set l.pair (l.at - 1) (48 + l.left % 10)),
       omega arith,
       rw (drop-set l.pair (l.at - 1) _ (omega arith), e)
-          (rw (decimal_step_wide l.left (omega arith) (omega (arith, l.auto.left-fits.fits)),
-              append_assoc) at l.invariant.3),
+          (rw (
+            decimal_step_wide l.left (omega arith) (omega (arith, l.auto.left-fits.fits)),
+            append_assoc,
+          ) at l.invariant.3),
     )
 
 pub write_digits-requires : goal.write_digits-requires

@@ -17,7 +17,7 @@ write_digits-start-requires c =
 pub returns-then-value-ge0-clause-short : goal.returns-then-value-ge0-clause-short
 returns-then-value-ge0-clause-short c =
     let long = length-decimal-le 19 c.unsigned_abs.result (omega arith) (omega arith)
-        (omega arith) in (omega arith, omega arith)
+    (omega arith) in (omega arith, omega arith)
 
 pub returns-then-value-ge0-clause-written : goal.returns-then-value-ge0-clause-written
 returns-then-value-ge0-clause-written c =
@@ -37,7 +37,7 @@ overflow_sub-result c =
 pub returns-clause-short : goal.returns-clause-short
 returns-clause-short c =
     let long = length-decimal-le 19 c.unsigned_abs.result (omega arith) (omega arith)
-        (omega arith) in (omega arith, omega arith)
+    (omega arith) in (omega arith, omega arith)
 
 pub returns-clause-written : goal.returns-clause-written
 returns-clause-written c =
@@ -45,6 +45,13 @@ returns-clause-written c =
     let long = length-decimal-le 19 c.unsigned_abs.result (omega arith) (omega arith) (omega arith) in
     let e : w.result - 1 + 1 ≡ w.result = omega arith in
     let back = to_z-of_z c.ranges.value in
-    rw (drop-set w.new.buf (w.result - 1) 45 (omega arith), e, w.ensures.written,
-        drop_all 61 c.args.pair.now (omega arith), append-nil, c.unsigned_abs.ensures.value, back)
+    rw (
+      drop-set w.new.buf (w.result - 1) 45 (omega arith),
+      e,
+      w.ensures.written,
+      drop_all 61 c.args.pair.now (omega arith),
+      append-nil,
+      c.unsigned_abs.ensures.value,
+      back,
+    )
     (minus_first c.args.value (rw back at c.if-value-ge0.false))

@@ -5,7 +5,7 @@ use Rattle.msg_frames.proofs.reader_laws.who_reads_each_frame_misses_nothing.Goa
 pub returns : goal.returns
 returns c =
     let laws =
-        buffer_laws c.histories_only_grow.ensures.grows c.readers_tile.ensures.reads c.readers_tile.ensures.clears in
+    buffer_laws c.histories_only_grow.ensures.grows c.readers_tile.ensures.reads c.readers_tile.ensures.clears in
     record {
       catches_up = caught_up laws;
       frame_before = has_frame_before laws;

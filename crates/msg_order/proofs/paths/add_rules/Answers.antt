@@ -19,15 +19,15 @@ loop-rule-preserved c =
       | then-joined-earlier+then-joined-later+then-not-contains w ↦ rw w.before-is
           (rule_adds joined rules k no_rule w.add_edges.new.before (omega arith)
           (adds_edge (rules_among joined (take k rules)) c.loop-rule.before w.add_edges.new.before r.earlier r.later
-              w.only.result c.loop-rule.invariant w.add_edges.ensures (omega arith) w.only.ensures)
+          w.only.result c.loop-rule.invariant w.add_edges.ensures (omega arith) w.only.ensures)
           (and_from (has_joined joined r.earlier)
-              (has_joined joined r.later) w.if-joined-earlier.true w.if-joined-later.true))
+          (has_joined joined r.later) w.if-joined-earlier.true w.if-joined-later.true))
       | else-joined-earlier w ↦ rw w.before-is (elim w.else-joined-earlier.branch [
         | else-joined-earlier-via-then-joined-earlier+then-joined-later+else-not-contains v ↦ rule_follows joined rules
             k no_rule c.loop-rule.before (omega arith) c.loop-rule.invariant
             (and_from (has_joined joined r.earlier)
-                (has_joined joined r.later) v.if-joined-earlier.true v.if-joined-later.true)
-                (sym v.contains.ensures ∙ v.if-not-contains.false)
+            (has_joined joined r.later) v.if-joined-earlier.true v.if-joined-later.true)
+            (sym v.contains.ensures ∙ v.if-not-contains.false)
         | else-joined-earlier-via-then-joined-earlier+else-joined-later v ↦ rule_passes joined rules k no_rule
             c.loop-rule.before (omega arith) c.loop-rule.invariant
             (and_right (has_joined joined r.earlier) (has_joined joined r.later) v.if-joined-later.false)

@@ -39,7 +39,7 @@ loop-j-preserved c =
           | inr e ↦ old.all k l (omega arith) x f
           | inl e ↦
               let at : AreInConflict c.args.accesses.now c.args.joined.now i j =
-                  subst (AreInConflict c.args.accesses.now c.args.joined.now i) e x in
+              subst (AreInConflict c.args.accesses.now c.args.joined.now i) e x in
               let free : has c.args.before.now j ≡ false = subst (λ z. has c.args.before.now z ≡ false) e f in
               absurd (elim w.else-are_in_conflict.branch [
                 | else-are_in_conflict-via-then-are_in_conflict+else-not-contains v ↦ false≢true

@@ -8,7 +8,7 @@ loop-i-preserved c = λ g h.
     let accesses = c.args.accesses.now in
     let joined = c.args.joined.now in
     row_settles (AreInConflict accesses joined) g
-        (length accesses) c.loop-i.i c.loop-i.before c.add_edges.new.before c.later_conflicts-later.result (omega arith)
-        (omega arith)
+    (length accesses) c.loop-i.i c.loop-i.before c.add_edges.new.before c.later_conflicts-later.result (omega arith)
+    (omega arith)
     (λ j x. let l : j < length joined = joined_in joined j x.second_joined in omega arith)
     c.later_conflicts-later.ensures c.add_edges.ensures (c.loop-i.invariant g h)

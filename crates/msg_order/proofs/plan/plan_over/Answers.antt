@@ -19,7 +19,7 @@ invariant_of-result _g c =
     let is : (with_items c.args.before before).items ≡ before = with_items_is c.args.before before (omega arith) in
     subst (λ xs. AreKept xs c.set_of-joined.result) (sym is)
     (sets_kept settled.0 joined before c.set_of-joined.result (omega (arith, c.requires.as_many))
-        (omega (arith, c.requires.as_many)) settled.1.0 c.set_of-joined.ensures
+    (omega (arith, c.requires.as_many)) settled.1.0 c.set_of-joined.ensures
     (settled_joins accesses c.args.rules.now joined settled.0 settled.1.1))
 
 pub returns-clause-plan : goal.returns-clause-plan
@@ -35,13 +35,13 @@ returns-clause-plan _g c =
     let settled = c.in_default.ensures.1.1.1 in
     let is : (with_items c.args.before before).items ≡ before = with_items_is c.args.before before (omega arith) in
     let size : length (with_items c.args.before before).items
-        ≡ length joined = omega (arith, c.requires.as_many, ap length is) in
+    ≡ length joined = omega (arith, c.requires.as_many, ap length is) in
     let read : c.deref.result.now ≡ before = c.deref.ensures.value ∙ is in
     let among : IsAmong joined order = settled_joins accesses rules joined order settled in
     let free : IsAcyclic order = settled_free accesses rules joined order settled c.in_default.ensures.0 in
     let classes : AreBatches order joined batches =
-        c.in_ok-batches.ensures.batches order joined
-        (subst (ArePaths order) (sym read) paths) c.set_of-joined.ensures among free in
+    c.in_ok-batches.ensures.batches order joined
+    (subst (ArePaths order) (sym read) paths) c.set_of-joined.ensures among free in
     let kept : AreKept (with_items c.args.before before).items set = invariant_of-result _g c in
     record {
       order = order;

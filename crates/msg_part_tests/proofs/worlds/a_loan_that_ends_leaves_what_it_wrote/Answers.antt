@@ -8,5 +8,5 @@ take_back-requires g c =
     record {
       apart = subst Q (sym c.into_taken-taken.ensures.taken)
           (c.loans_end.ensures.ends _ _ _ _ c.open-lent.result c.write.new.lent c.in_ok-taken.ensures.lent
-              c.open-lent.ensures.access c.open-lent.ensures.taken c.write.ensures.same).0;
+          c.open-lent.ensures.access c.open-lent.ensures.taken c.write.ensures.same).0;
     }

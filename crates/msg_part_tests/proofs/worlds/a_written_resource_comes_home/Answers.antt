@@ -11,10 +11,10 @@ then_same x y z a b = record {
 pub take_back-requires : goal.take_back-requires
 take_back-requires g c =
     let both =
-        then_same c.open-lent.result.taken c.set.new.lent.taken c.set-2.new.lent.taken c.set.ensures.same.shape
-        c.set-2.ensures.same.shape in
+    then_same c.open-lent.result.taken c.set.new.lent.taken c.set-2.new.lent.taken c.set.ensures.same.shape
+    c.set-2.ensures.same.shape in
     let used : SameShape c.in_ok-taken.taken c.set-2.new.lent.taken =
-        subst (λ x. SameShape x c.set-2.new.lent.taken) c.open-lent.ensures.taken both in
+    subst (λ x. SameShape x c.set-2.new.lent.taken) c.open-lent.ensures.taken both in
     record {
       apart = c.lent_parts_may_come_home.ensures.alone _ _ _ _ _ c.in_ok-taken.ensures.lent
           (subst (λ x. SameShape c.in_ok-taken.taken x) (sym c.into_taken-taken.ensures.taken) used);

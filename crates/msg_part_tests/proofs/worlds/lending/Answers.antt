@@ -7,7 +7,9 @@ take_back-requires g c =
     let later = taken_of c.write.new.lent in
     let P : Parts → Type 0 = λ w. SameShape w later in
     let Q : Parts → Type 0 = λ w. IsApart w c.lend_out.new.self in
-    record { apart =
-        subst Q (sym c.into_taken-taken.ensures.taken)
-        (c.lent_parts_may_come_home.ensures.alone _ _ _ c.in_ok-taken.taken later c.in_ok-taken.ensures.lent
-        (subst P c.open-lent.ensures.taken c.write.ensures.same.shape)) }
+    record {
+      apart =
+          subst Q (sym c.into_taken-taken.ensures.taken)
+          (c.lent_parts_may_come_home.ensures.alone _ _ _ c.in_ok-taken.taken later c.in_ok-taken.ensures.lent
+          (subst P c.open-lent.ensures.taken c.write.ensures.same.shape));
+    }

@@ -28,7 +28,8 @@ struct Sections<'a> {
 /// The sections of a file one after another.
 #[tactic(auto, using(crate::proofs::Files::refusal_of_both))]
 pub fn read_sections(alloc: Global, value: &Value) -> Result<Scenario, Refusal>
-    ensures agrees { Agrees (scenario_checks (view value.now)) (scenario_of (view value.now)) result }
+    ensures agrees { Agrees (scenario_checks (view value.now))
+        (scenario_of (view value.now)) result }
 {
     let needed = needed(value)?;
     let mut names = Declarations::new(alloc);
@@ -123,7 +124,8 @@ fn read_resources(
     file: &Value,
 ) -> Result<Items<(Name, i64)>, Refusal>
     requires types { names.old ≡ type_names (view file.now) }
-    ensures agrees { Agrees (resources_checks (view file.now)) (resources_of (view file.now)) result }
+    ensures agrees { Agrees (resources_checks (view file.now))
+        (resources_of (view file.now)) result }
     ensures declares { OnOk result (names.new ≡ part_names (view file.now)) }
 {
     match file.get("resources") {

@@ -30,7 +30,7 @@ unreachable-requires g c =
     no_clash m c.args.scenario.now c.args.systems.items c.in-Err-Clash.field-0-0 c.requires.runnable c.requires.as_many
     c.requires.each
     (subst (RefusesFor m c.args.systems.items c.in_ok-rules.rules.items) c.in-Err-Clash.field-0-is
-        c.in-Err-Clash.ensures.refusal)
+    c.in-Err-Clash.ensures.refusal)
 
 pub unreachable-requires-in-Err-Cycle : goal.unreachable-requires-in-Err-Cycle
 unreachable-requires-in-Err-Cycle g c =

@@ -13,12 +13,12 @@ pub returns-in-Ok-clause-written : goal.returns-in-Ok-clause-written
 returns-in-Ok-clause-written g c f is s stand =
     let h = s.histories c.args.t in
     let here =
-        written_messages_stand c.args.lent.now s c.args.t c.in-Some.messages.now c.requires.lent
-        c.in-Some.ensures.writable stand in
+    written_messages_stand c.args.lent.now s c.args.t c.in-Some.messages.now c.requires.lent
+    c.in-Some.ensures.writable stand in
     let made = c.in-Ok.ensures.meaning in
     let P : List Record → Type 0 = λ ms. StandsFor c.write_each.new.self (write ms h) in
     (c.writes_stand.ensures.messages c.args.lent.now c.args.t c.write_each.new.self c.requires.lent).1 s
-        (write (map f c.args.items.now) h)
+    (write (map f c.args.items.now) h)
     (subst P (made_by _ f is c.args.items.now made.0 made.1) (made.2 h here)) stand
 
 pub returns-in-Err-NumbersSpent-clause-numbers : goal.returns-in-Err-NumbersSpent-clause-numbers

@@ -14,8 +14,8 @@ loop-op-preserved c =
           λ s stands. rw c.in_ok-push.ensures.items
           (op_more c.args.ops.now c.loop-op.op-index c.op-item.result c.args.writer (places_of c.args.cursors.now)
           (places_of c.loop-op.cursors)
-              (places_of c.run.new.cursors) s c.loop-op.lent c.run.new.lent c.args.out.now.items c.loop-op.out.items
-              c.in_ok-run.field-0
+          (places_of c.run.new.cursors) s c.loop-op.lent c.run.new.lent c.args.out.now.items c.loop-op.out.items
+          c.in_ok-run.field-0
           lt c.op-item.is (inv.so_far s stands) c.in_ok-run.ensures.ran);
       replies =
           rw c.in_ok-push.ensures.items
@@ -28,5 +28,5 @@ returns-clause-ran c s stands =
     let test = c.loop-op-test.false in
     let whole = take_all c.loop-op.op-index c.args.ops.now (omega arith) in
     subst (λ (ops : List Op). IsAfterProgram (after_program ops c.args.writer (places_of c.args.cursors.now) s)
-        (places_of c.loop-op.cursors) c.loop-op.lent
+    (places_of c.loop-op.cursors) c.loop-op.lent
     c.args.out.now.items c.loop-op.out.items) whole (c.loop-op.invariant.so_far s stands)

@@ -18,4 +18,4 @@ returns-clause-ran c w places s stand =
     (to_z-of_z w64 c.value_of.result old_fits ∙ c.value_of.ensures.value s stand)
     ∙ ap (plus (s.resources c.args.r)) (to_z-of_z w64 c.args.value value_fits) in
     after_set places s c.set_value.new.lent c.args.r (plus (s.resources c.args.r) c.args.value) new new sum sum
-        (c.set_value.ensures.written s stand)
+    (c.set_value.ensures.written s stand)

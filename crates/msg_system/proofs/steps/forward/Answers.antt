@@ -17,6 +17,6 @@ returns-clause-ran c places at s stand =
     let numbers = c.in_ok-wrote.ensures.numbers s stand ∙ ap (numbers_for (s.histories c.args.u)) (sym long) in
     let written = c.in_ok-wrote.ensures.written (λ (m : Record). by w m.value) (λ x m made. search rules) s stand in
     after_forward places s c.write_each.new.lent c.args.t c.read_unread.new.cursor c.args.cursor.now
-        c.in_ok-took.took at
+    c.in_ok-took.took at
     (c.in_ok-took.ensures.took h here) (c.in_ok-took.ensures.place h here) w c.args.u
-        (again_by w items) c.in_ok-wrote.wrote again numbers written
+    (again_by w items) c.in_ok-wrote.wrote again numbers written

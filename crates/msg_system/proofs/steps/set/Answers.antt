@@ -10,5 +10,5 @@ returns-clause-ran c w places s stand =
     let fits : SFits w64 c.args.value = search rules in
     let same = to_z-of_z w64 c.args.value fits in
     after_set places s c.set_value.new.lent c.args.r c.args.value (to_z w64 (of_z w64 c.args.value))
-        (to_z w64 (of_z w64 c.args.value)) same same
+    (to_z w64 (of_z w64 c.args.value)) same same
     (c.set_value.ensures.written s stand)

@@ -21,4 +21,4 @@ returns-clause-ran c w places at s stand =
     ∙ ap (sum_onto (s.resources c.args.r)) c.as_slice.ensures.items in
     after_sum places s c.set_value.new.lent c.args.t c.read_unread.new.cursor c.args.cursor.now c.in_ok-took.took at
     (c.in_ok-took.ensures.took h here) (c.in_ok-took.ensures.place h here) w c.args.r new new sum refl
-        (c.set_value.ensures.written s stand)
+    (c.set_value.ensures.written s stand)

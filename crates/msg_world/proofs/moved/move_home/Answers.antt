@@ -20,7 +20,7 @@ loop-slot-preserved g c =
     let m = c.in-Some.field-0 in
     let i = c.loop-slot.invariant in
     let popped = All-pop (λ m. m.slot < n) c.loop-slot.parts.items c.pop.new.self.items
-        (Some m) c.in-Some.ensures.items i.below in
+    (Some m) c.in-Some.ensures.items i.below in
     record {
       home_len = c.put_home.ensures.len ∙ i.home_len;
       below = popped.0;

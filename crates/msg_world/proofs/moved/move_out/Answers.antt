@@ -19,7 +19,7 @@ loop-k-preserved g c =
     let next = c.next_bit-k-in-loop-k.ensures in
     let m = c.move_slot.ensures in
     let bits = below_next c.args.mask c.loop-k.k c.next_bit-k-in-loop-k.result set
-        (omega (arith, next.from_there)) next.none_before in
+    (omega (arith, next.from_there)) next.none_before in
     record {
       at_most = next.at_most;
       is_set = next.is_set;

@@ -11,7 +11,7 @@ returns-in-Some-take-clause-moved g c k =
     let item = c.in-Some.ensures.item in
     let had : at from.items c.args.slot ≡ Some c.in-Some-take.part =
     item_at from.items c.args.slot c.in-Some.held.now (search (rules, item)) (search (rules, item))
-        ∙ sym c.take.ensures.value ∙ c.in-Some-take.is in
+    ∙ sym c.take.ensures.value ∙ c.in-Some-take.is in
     ap (λ ms. at (placed (vec_len from) ms) k) c.push_reserved.ensures.items
     ∙ one_more_at (vec_len from) c.args.parts.now.items
     (record { slot = c.args.slot; part = c.in-Some-take.part }) from.items

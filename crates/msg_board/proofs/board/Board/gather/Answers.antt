@@ -15,7 +15,7 @@ loop-pass-init g c =
 pub join_seat-requires : goal.join_seat-requires
 join_seat-requires g c = let inv = c.loop-pass.invariant in let b = c.args.self.now in
     let of = c.into_seat-other.ensures.seat in let words = c.self.invariant.words in let table =
-        sym (ap (λ v. v.table) c.self.view_is) in
+    sym (ap (λ v. v.table) c.self.view_is) in
     let parts = All-split_last (HasEnded b) _ _ (subst (All (HasEnded b)) c.in-Some-pop.ensures.items inv.ended) in (
       inv.table ∙ table,
       of.table ∙ (parts.1.own.table ∙ table),

@@ -13,7 +13,7 @@ store-requires g c = let b = c.args.self.now in let seat = c.pass.invariant.seat
     let has = ap (λ p. p.holding) is ∙ c.requires.holds in
     let own = ap (λ p. p.jobs) is ∙ c.requires.own.jobs in
     let inside : c.args.k < length jobs =
-        omega (arith, held_within c.pass.inside c.args.k c.pass.invariant has, ap (λ l. length l) own) in
+    omega (arith, held_within c.pass.inside c.args.k c.pass.invariant has, ap (λ l. length l) own) in
     let t = there jobs c.args.k inside in (
       c.put_in.ensures.table ∙ (ap (λ p. p.table) is ∙ c.requires.own.table) ∙ sym (ap (λ v. v.table) here),
       omega arith,

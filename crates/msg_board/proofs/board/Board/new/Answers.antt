@@ -10,6 +10,6 @@ new-requires g c = let zeros = c.as_slice.ensures.value
     ∙ c.in_ok-words.ensures.items_if_clones_equal (λ y h. search rules) in
     let told = c.of.ensures in
     starts g.W.Work.lawful c.of.result.value.items c.args.passes _ _
-        (omega (arith, ap length zeros, length-replicate {A = ℕ} (c.len.result + 1) 0, ap (λ v. length v.items) told))
+    (omega (arith, ap length zeros, length-replicate {A = ℕ} (c.len.result + 1) 0, ap (λ v. length v.items) told))
     (λ k. ap (λ ws. get_or ws k 0) zeros ∙ zero_at _ k) (c.in_ok-slots.ensures ∙ sym (ap (λ v. map Job v.items) told))
-        (c.requires.passes.0)
+    (c.requires.passes.0)

@@ -22,15 +22,15 @@ invariant_of-pass g c = let is = c.pass.view_is in
     let told = c.fetch_max-found.ensures.2.found_zero c.if-found-eq0.true in let more = c.requires.more in
     let tried = ap (λ p. p.tried) is in
     drew_sound c.pass.inside c.fetch_max-found.new.seat c.take_out-job.new.seat told.0 c.pass.invariant told.2
-        c.take_out-job.ensures.now
+    c.take_out-job.ensures.now
     (omega (arith, ap (λ p. length p.jobs) is, ap (λ l. length l) c.requires.idle.own.jobs))
 
 pub returns-then-found-eq0-clause-some : goal.returns-then-found-eq0-clause-some
 returns-then-found-eq0-clause-some g c = let told = c.fetch_max-found.ensures.2.found_zero c.if-found-eq0.true in
     drew_said c.pass.inside c.fetch_max-found.new.seat c.take_out-job.new.seat told.0 c.pass.invariant told.2
-        c.take_out-job.ensures.now
+    c.take_out-job.ensures.now
     c.args.pass.now (jobs_of c.args.self.now) c.take_out-job.result c.pass.view_is c.requires.idle.own.jobs
-        c.requires.more told.1 c.take_out-job.ensures.was
+    c.requires.more told.1 c.take_out-job.ensures.was
 
 pub returns-then-found-eq0-clause-unfinished : goal.returns-then-found-eq0-clause-unfinished
 returns-then-found-eq0-clause-unfinished g c =

@@ -7,10 +7,14 @@ use Rattle.msg_buffer.proofs.messages.Messages.get.Goals as goal
 
 pub returns-in_err-instance : goal.returns-in_err-instance
 returns-in_err-instance g c =
-    record { meaning = λ h s. ap option_copied c.from_residual.ensures
-    ∙ ap (option_map message_of) c.in_err-instance.ensures ∙ get_stands c.args.self.now h c.args.id.0 s }
+    record {
+      meaning = λ h s. ap option_copied c.from_residual.ensures
+          ∙ ap (option_map message_of) c.in_err-instance.ensures ∙ get_stands c.args.self.now h c.args.id.0 s;
+    }
 
 pub returns : goal.returns
 returns g c =
-    record { meaning = λ h s. ap (option_map message_of) c.in_ok-instance.ensures
-    ∙ get_stands c.args.self.now h c.args.id.0 s }
+    record {
+      meaning = λ h s. ap (option_map message_of) c.in_ok-instance.ensures
+          ∙ get_stands c.args.self.now h c.args.id.0 s;
+    }

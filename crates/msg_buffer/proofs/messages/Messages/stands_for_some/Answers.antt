@@ -10,5 +10,5 @@ returns g c =
     let room : kept_count k ≤ k.limit = rw (← c.self.view_is) (omega arith) in
     let older : k.older ≡ numbered k.oldest (map message_of k.older) = rw (← c.self.view_is) i.older_numbers in
     let newer : k.newer ≡ numbered (k.oldest + length k.older) (map message_of k.newer) =
-        rw (← c.self.view_is) (rw meet i.newer_numbers) in
+    rw (← c.self.view_is) (rw meet i.newer_numbers) in
     record { history = λ m. (_, stands_for_some m k room older newer) }

@@ -9,13 +9,16 @@ invariant_of-self-2 g c =
     let i = c.self.invariant in let end = i.ends_at_count in
     let xs = c.self.inside.newer.instances.items in let ms = c.args.batch.items in
     let items : c.append_numbered.new.instances.items ≡ xs
-        ++ numbered c.self.inside.count ms = rw c.reserve.ensures.items at c.append_numbered.ensures.appended in
+    ++ numbered c.self.inside.count ms = rw c.reserve.ensures.items at c.append_numbered.ensures.appended in
     let long : c.len-n.result ≡ length ms = search rules in
     record {
       halves_meet = i.halves_meet;
       ends_at_count =
-          rw items (omega (arith, length-append xs (numbered c.self.inside.count ms),
-          length-numbered c.self.inside.count ms));
+          rw items (omega (
+            arith,
+            length-append xs (numbered c.self.inside.count ms),
+            length-numbered c.self.inside.count ms,
+          ));
       within_limit = omega arith;
       older_numbers = i.older_numbers;
       newer_numbers =
@@ -27,7 +30,7 @@ returns-clause-meaning g c h s =
     let i = c.self.invariant in let end = i.ends_at_count in let meet = i.halves_meet in
     let xs = c.self.inside.newer.instances.items in let ms = c.args.batch.items in
     let items : c.append_numbered.new.instances.items ≡ xs
-        ++ numbered c.self.inside.count ms = rw c.reserve.ensures.items at c.append_numbered.ensures.appended in
+    ++ numbered c.self.inside.count ms = rw c.reserve.ensures.items at c.append_numbered.ensures.appended in
     let long : c.len-n.result ≡ length ms = search rules in
     let number : kept_count c.args.self.now ≡ c.self.inside.count = rw (← c.self.view_is) (omega arith) in
     stands_written ms c.args.self.now _ h (record {

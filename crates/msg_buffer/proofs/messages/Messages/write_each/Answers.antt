@@ -10,13 +10,16 @@ invariant_of-self-2 g c =
     let i = c.self.invariant in let end = i.ends_at_count in let room = c.if-n-self.false in
     let xs = c.self.inside.newer.instances.items in let made = c.append_each.ensures.appended in
     let items : c.append_each.new.instances.items ≡ xs
-        ++ numbered c.self.inside.count made.0 = rw c.reserve.ensures.items at made.2 in
+    ++ numbered c.self.inside.count made.0 = rw c.reserve.ensures.items at made.2 in
     let long = as_many _ _ made.0 made.1 in
     record {
       halves_meet = i.halves_meet;
       ends_at_count =
-          rw items (omega (arith, length-append xs (numbered c.self.inside.count made.0),
-          length-numbered c.self.inside.count made.0));
+          rw items (omega (
+            arith,
+            length-append xs (numbered c.self.inside.count made.0),
+            length-numbered c.self.inside.count made.0,
+          ));
       within_limit = omega arith;
       older_numbers = i.older_numbers;
       newer_numbers =
@@ -29,7 +32,7 @@ returns-clause-meaning g c =
     let i = c.self.invariant in let end = i.ends_at_count in let meet = i.halves_meet in let room = c.if-n-self.false in
     let xs = c.self.inside.newer.instances.items in let made = c.append_each.ensures.appended in
     let items : c.append_each.new.instances.items ≡ xs
-        ++ numbered c.self.inside.count made.0 = rw c.reserve.ensures.items at made.2 in
+    ++ numbered c.self.inside.count made.0 = rw c.reserve.ensures.items at made.2 in
     let long = as_many _ _ made.0 made.1 in
     let number : kept_count c.args.self.now ≡ c.self.inside.count = rw (← c.self.view_is) (omega arith) in (
       made.0,

@@ -6,7 +6,7 @@ use Rattle.msg_command.proofs.words.parse.workers_of.Goals as goal
 pub returns-clause-number : goal.returns-clause-number
 returns-clause-number c =
     ap (option_and_then workers_in) (first_value_rows c.args.inner.now
-        (codes "workers") c.in-Some.text.now c.in-Some.ensures)
+    (codes "workers") c.in-Some.text.now c.in-Some.ensures)
     ∙ sym c.in-Some-workers_in.ensures.number
 
 pub returns-in_default-workers_in-clause-refused : goal.returns-in_default-workers_in-clause-refused

@@ -19,7 +19,7 @@ returns-then-not-check_all g c =
             (sym c.if-not-check_all.true ∙ c.check_all.ensures.answer w stands ∙ ap (λ gs. all_hold gs w) there)
             refl
             (asked_guards old.guards c.deref_mut.result.now c.check_all.new.guards w there c.check_all.ensures.same
-                (c.check_all.ensures.moved w stands))
+            (c.check_all.ensures.moved w stands))
             (subst (λ p. PartsStand p w) kept lent);
       };
     }
@@ -42,10 +42,10 @@ returns g c =
             ran_job g.S.System.meaning old _ l taken w _ _ _ c.requires.empty c.from_vec.ensures.items
             (sym c.if-not-check_all.false ∙ c.check_all.ensures.answer w stands ∙ ap (λ gs. all_hold gs w) there)
             (asked_guards old.guards c.deref_mut.result.now c.check_all.new.guards w there c.check_all.ensures.same
-                (c.check_all.ensures.moved w stands))
+            (c.check_all.ensures.moved w stands))
             ran stands
             (c.what_is_given_back_stands.ensures.law l taken (turn (g.S.System.meaning old.system) w).state
             (λ p isnt. none p (ap (λ (a : Access). writes a p) (sym c.open-lent.ensures.access) ∙ isnt))
-                (ran.state w stands));
+            (ran.state w stands));
       };
     }

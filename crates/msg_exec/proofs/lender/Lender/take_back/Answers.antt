@@ -13,7 +13,7 @@ returns-clause-home g c = record {
     entered_there g.S.System.meaning c.args.done c.args.self.now.totals.items c.index_mut.result.now
         c.deref_mut.result.now c.enter.new.totals
         c.index_mut.ensures.value c.deref_mut.ensures.value
-            (omega (arith, c.enter.ensures.as_many, c.deref_mut.ensures.len))
+        (omega (arith, c.enter.ensures.as_many, c.deref_mut.ensures.len))
         (record { as_many = c.enter.ensures.as_many; entered = c.enter.ensures.entered }),
   );
 }

@@ -25,7 +25,7 @@ returns-in_err-gather-in-Ok-clause-prefix g c =
     on_err _ c.from_residual.result _
     (OnTheWay_fails _ _ _ _ _ _ _ c.call-item.result _ c.loop-call.invariant.0 c.loop-call-test.true _ _
     (λ s are. rw (← c.call-item.is) (alone _ _ _ _ c.as_slice.ensures.value
-        (c.in-Ok.ensures.line s are) c.clear.ensures.items))
+    (c.in-Ok.ensures.line s are) c.clear.ensures.items))
     c.in_err-gather-in-Ok.ensures.prefix)
 
 pub loop-call-preserved : goal.loop-call-preserved
@@ -33,7 +33,7 @@ loop-call-preserved g c = (
   OnTheWay_more _ _ _ _ _ _ _ c.call-item.result _ c.loop-call.invariant.0 c.loop-call-test.true _ _ _ _ _
       (λ s are. rw (← c.call-item.is) (c.in-Ok.ensures.state s are))
       (λ s are. rw (← c.call-item.is)
-          (alone _ _ _ _ c.as_slice.ensures.value (c.in-Ok.ensures.line s are) c.clear.ensures.items))
+      (alone _ _ _ _ c.as_slice.ensures.value (c.in-Ok.ensures.line s are) c.clear.ensures.items))
       c.in_ok-gather-in-Ok.ensures.ok,
   c.in_ok-gather-in-Ok.ensures.quiet ∙ c.loop-call.invariant.1,
 )
@@ -43,13 +43,13 @@ returns-clause-ok g c =
     on_ok_then c.put_text-2.result
     (Appends (g.S.Sink.contents c.loop-call.sink) (g.S.Sink.contents c.put_text-2.new.sink) c.as_slice-2.result.now) _
     (λ h. OnTheWay_ends _ _ _ _ _ _ _ _ _ c.loop-call.invariant.0 c.loop-call-test.false
-        (rw c.as_slice-2.ensures.value at h))
+    (rw c.as_slice-2.ensures.value at h))
     c.put_text-2.ensures.ok
 
 pub returns-clause-prefix : goal.returns-clause-prefix
 returns-clause-prefix g c =
     on_err_then c.put_text-2.result
     (AppendsPrefix (g.S.Sink.contents c.loop-call.sink)
-        (g.S.Sink.contents c.put_text-2.new.sink) c.as_slice-2.result.now) _
+    (g.S.Sink.contents c.put_text-2.new.sink) c.as_slice-2.result.now) _
     (λ h. OnTheWay_stops _ _ _ _ _ _ _ _ c.loop-call.invariant.0 (rw c.as_slice-2.ensures.value at h))
     c.put_text-2.ensures.prefix

@@ -26,7 +26,7 @@ returns-after-loop-clause-appends c = λ h stands.
     let so_far = c.loop.invariant in
     let are =
     HasAdded_given _ _ _ _ _ c.args.limit (unread h place) so_far (c.read-unread.ensures.unread h stands)
-        (counted c h stands) in
+    (counted c h stands) in
     let some : 0 < length (given h place c.args.limit) = omega (arith, c.if-number-eq0.false, counted c h stands) in
     so_far.made ∙ ap (λ l. c.args.text.now.items ++ l) (ap more_items are ∙ spaced_items _ some)
 

@@ -14,7 +14,7 @@ pub loop-system-init : goal.loop-system-init
 loop-system-init _g c = taken_first c.args.self.now.precedes c.args.self.now.joined
     (has c.self.inside.joined) c.args.order.now
     (seen_joined c.args.self.now c.self.inside.before.items c.self.inside.joined
-        (map (λ b. b.items) c.self.inside.batches.items) c.self.view_is c.self.invariant)
+    (map (λ b. b.items) c.self.inside.batches.items) c.self.view_is c.self.invariant)
 
 pub loop-system-preserved : goal.loop-system-preserved
 loop-system-preserved _g c =
@@ -27,13 +27,13 @@ loop-system-preserved _g c =
     let s : ℕ = get_or c.args.order.now k 0 in
     let at : c.index.result.now ≡ set_at before s = get_or_read before s _ (omega arith) c.index.ensures no_set in
     taken_next c.args.self.now.precedes c.args.self.now.joined (has c.loop-system.left)
-        (has c.remove.new.self) c.args.order.now k s refl (sym c.contains.ensures ∙ c.if-not-contains.false)
+    (has c.remove.new.self) c.args.order.now k s refl (sym c.contains.ensures ∙ c.if-not-contains.false)
     (λ i on e.
     let in_ : i < length before =
-        c.self.invariant.within i (sym (joined i) ∙ (c.loop-system.invariant.is_left i on).0) in
+    c.self.invariant.within i (sym (joined i) ∙ (c.loop-system.invariant.is_left i on).0) in
     let few : length before ≤ 256 = c.self.invariant.few in
     false≢true (sym c.if-meets.false ∙ c.meets.ensures ∙ ap (λ x. meets x c.loop-system.left) at
-        ∙ meets-found (set_at before s) c.loop-system.left i (omega arith) ((edges i s).0 e) on))
+    ∙ meets-found (set_at before s) c.loop-system.left i (omega arith) ((edges i s).0 e) on))
     c.remove.ensures c.loop-system.invariant
 
 pub returns-then-system-len-clause-keeps_what_precedes : goal.returns-then-system-len-clause-keeps_what_precedes
@@ -52,19 +52,19 @@ returns-then-system-len-clause-keeps_what_precedes _g c =
       λ w. absurd (elim c.then-system-len.branch [
         | then-system-len-via-then-system-len v ↦
             not_joined g systems order k s refl c.loop-system-test.true
-                (false_from_ne_true (has_joined systems s)
-                (λ t. let l : s < length before = c.self.invariant.within s (sym (joined s) ∙ t) in omega arith)) w
+            (false_from_ne_true (has_joined systems s)
+            (λ t. let l : s < length before = c.self.invariant.within s (sym (joined s) ∙ t) in omega arith)) w
         | then-system-len-via-else-system-len+then-not-contains v ↦
             not_left g systems (has c.loop-system.left) order k s refl c.loop-system-test.true
-                (sym v.contains.ensures ∙ v.if-not-contains.true) c.loop-system.invariant w
+            (sym v.contains.ensures ∙ v.if-not-contains.true) c.loop-system.invariant w
         | then-system-len-via-else-system-len+else-not-contains+then-meets v ↦
             let at : v.index.result.now
-                ≡ set_at before s = get_or_read before s _ (omega arith) v.index.ensures no_set in
+            ≡ set_at before s = get_or_read before s _ (omega arith) v.index.ensures no_set in
             let f =
-                meets-true (set_at before s) c.loop-system.left
-                (sym (v.meets.ensures ∙ ap (λ x. meets x c.loop-system.left) at) ∙ v.if-meets.true) in
+            meets-true (set_at before s) c.loop-system.left
+            (sym (v.meets.ensures ∙ ap (λ x. meets x c.loop-system.left) at) ∙ v.if-meets.true) in
             not_open g systems (has c.loop-system.left) order k s f.0 refl c.loop-system-test.true f.1.1.1
-                ((edges f.0 s).1 f.1.1.0) c.loop-system.invariant w
+            ((edges f.0 s).1 f.1.1.0) c.loop-system.invariant w
       ]),
     )
 
@@ -88,7 +88,7 @@ returns-clause-keeps_what_precedes _g c =
     let left : ℕ → Bool = has c.loop-system.left in
     let all : c.loop-system.system-index ≡ length order = omega arith in
     let taken : AreTaken g systems order (length order) left =
-        subst (λ k. AreTaken g systems order k left) all c.loop-system.invariant in (
+    subst (λ k. AreTaken g systems order k left) all c.loop-system.invariant in (
       λ t. taken_all g systems left order
           (λ i j e. let both = c.self.invariant.among i j ((edges i j).0 e) in (joined i ∙ both.0, joined j ∙ both.1))
           taken (c.is_empty.ensures.0 t),

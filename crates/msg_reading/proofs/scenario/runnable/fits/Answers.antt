@@ -7,7 +7,7 @@ pub returns : goal.returns
 returns c =
     let needs = program_needs c.args.system.now.program.ops in
     let of = subst (λ cs. IsAccessOf (with_conditions needs cs) c.job_access.result) c.as_slice-conditions.ensures.items
-        (c.job_access.ensures.needs needs c.access.ensures.needs) in
+    (c.job_access.ensures.needs needs c.access.ensures.needs) in
     record {
       fit = (
         λ is. is_there _ c.job_access.result c.args.types c.args.resources of (c.fits.ensures.fit.0 is),

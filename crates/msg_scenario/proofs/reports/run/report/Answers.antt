@@ -33,10 +33,10 @@ pub returns-in-Ok-clause-ok : goal.returns-in-Ok-clause-ok
 returns-in-Ok-clause-ok g c =
     on_ok_then c.put_accounts.result _ _
     (readers_put g.X.System.meaning c.args.scenario.now c.loop-reported.reported _ _ _ c.loop-reported.engine
-        c.as_slice.result.now
+    c.as_slice.result.now
     c.loop-reported.invariant.so_far
     (all_run c.args.scenario.now.frames _ _ c.as_slice-reported-end.ensures.items c.loop-reported.auto.reported-end
-        c.loop-reported-test.false)
+    c.loop-reported-test.false)
     (λ u stands. c.as_slice.ensures.value ∙ c.in-Ok.ensures.accounts u stands)
     (c.has_one_run.ensures.complete (state_of c.args.scenario.now) c.requires.engine))
     c.put_accounts.ensures.ok
@@ -44,10 +44,10 @@ returns-in-Ok-clause-ok g c =
 pub returns-in-Ok-clause-stopped : goal.returns-in-Ok-clause-stopped
 returns-in-Ok-clause-stopped g c cause =
     readers_stopped g.X.System.meaning c.args.scenario.now c.loop-reported.reported _ _ _ c.loop-reported.engine
-        c.as_slice.result.now
+    c.as_slice.result.now
     c.loop-reported.invariant.so_far
     (all_run c.args.scenario.now.frames _ _ c.as_slice-reported-end.ensures.items c.loop-reported.auto.reported-end
-        c.loop-reported-test.false)
+    c.loop-reported-test.false)
     (λ u stands. c.as_slice.ensures.value ∙ c.in-Ok.ensures.accounts u stands)
     (elim cause [
       | inl write ↦ of_err c.put_accounts.result _ _ write c.put_accounts.ensures.prefix
@@ -59,10 +59,10 @@ returns-in-Ok-clause-prefix g c =
     on_err_then c.put_accounts.result _ _
     (λ prefix. stopped_printed g.X.System.meaning c.args.scenario.now _ _ c.loop-reported.engine
     (readers_stopped g.X.System.meaning c.args.scenario.now c.loop-reported.reported _ _ _ c.loop-reported.engine
-        c.as_slice.result.now
+    c.as_slice.result.now
     c.loop-reported.invariant.so_far
     (all_run c.args.scenario.now.frames _ _ c.as_slice-reported-end.ensures.items c.loop-reported.auto.reported-end
-        c.loop-reported-test.false)
+    c.loop-reported-test.false)
     (λ u stands. c.as_slice.ensures.value ∙ c.in-Ok.ensures.accounts u stands) prefix))
     c.put_accounts.ensures.prefix
 
@@ -72,11 +72,11 @@ returns-clause-prefix g c =
     (accounts_out g.X.System.meaning c.args.scenario.now c.loop-reported.reported _ _ c.loop-reported.engine
     c.loop-reported.invariant.so_far
     (all_run c.args.scenario.now.frames _ _ c.as_slice-reported-end.ensures.items c.loop-reported.auto.reported-end
-        c.loop-reported-test.false))
+    c.loop-reported-test.false))
 
 pub returns-clause-run : goal.returns-clause-run
 returns-clause-run g c same =
     accounts_out g.X.System.meaning c.args.scenario.now c.loop-reported.reported _ _ c.loop-reported.engine
     c.loop-reported.invariant.so_far
     (all_run c.args.scenario.now.frames _ _ c.as_slice-reported-end.ensures.items c.loop-reported.auto.reported-end
-        c.loop-reported-test.false)
+    c.loop-reported-test.false)

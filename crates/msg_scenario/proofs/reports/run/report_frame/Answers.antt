@@ -27,7 +27,7 @@ returns-in_err-put_frame-clause-stopped g c cause before far =
     let just = just_run meaning s c.frames_keep_the_systems.ensures.law k before _ _ c.run_frame.new.self frame log far
     c.requires.next is c.in-Ok.ensures.ran in
     frame_stopped meaning s k before _ _ frame log c.run_frame.new.self
-        (k + 1) just refl c.in_err-put_frame.ensures.prefix
+    (k + 1) just refl c.in_err-put_frame.ensures.prefix
 
 pub returns-in_err-put_frame-clause-prefix : goal.returns-in_err-put_frame-clause-prefix
 returns-in_err-put_frame-clause-prefix g c =
@@ -42,7 +42,7 @@ returns-in_err-put_frame-clause-prefix g c =
     c.requires.next is c.in-Ok.ensures.ran in
     stopped_printed meaning s before _ c.run_frame.new.self
     (frame_stopped meaning s k before _ _ frame log c.run_frame.new.self
-        (k + 1) just refl c.in_err-put_frame.ensures.prefix))
+    (k + 1) just refl c.in_err-put_frame.ensures.prefix))
 
 pub returns-clause-ok : goal.returns-clause-ok
 returns-clause-ok g c before far =
@@ -55,4 +55,4 @@ returns-clause-ok g c before far =
     let just = just_run meaning s c.frames_keep_the_systems.ensures.law k before _ _ c.run_frame.new.self frame log far
     c.requires.next is c.in-Ok.ensures.ran in
     frame_put meaning s k before _ _ frame log c.run_frame.new.self
-        (k + 1) just refl c.recycle.new.self c.recycle.ensures.meaning c.in_ok-put_frame.ensures.ok
+    (k + 1) just refl c.recycle.new.self c.recycle.ensures.meaning c.in_ok-put_frame.ensures.ok

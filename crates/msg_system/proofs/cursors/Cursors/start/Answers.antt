@@ -11,7 +11,7 @@ returns c = record {
   started = λ n of k t.
       let old = places_of c.args.self.now in
       let at : places_of c.loop-number.self t
-          ≡ (if reads c.args.access (OfType t) then start_place c.args.start c.args.counts.now t else old t) =
+      ≡ (if reads c.args.access (OfType t) then start_place c.args.start c.args.counts.now t else old t) =
       elim (cases_lt t 64) [
         | inl l ↦ c.loop-number.invariant.done t (omega (arith, l))
         | inr m ↦ rw (ap (λ n. n == 1) (bit_at_above c.args.access.read_types 64 t (search rules) m))

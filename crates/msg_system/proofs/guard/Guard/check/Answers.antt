@@ -10,7 +10,7 @@ messages_of-messages-requires c =
     record {
       lent = c.requires.covers.reads p
           (ap (λ (a : Asked). same_part p (probe_part a.condition.probe)) (sym c.self.view_is)
-              ∙ ap (λ q. same_part p (probe_part q)) c.in-OnMessage.is ∙ same_part_refl p);
+          ∙ ap (λ q. same_part p (probe_part q)) c.in-OnMessage.is ∙ same_part_refl p);
     }
 
 pub value_of-requires : goal.value_of-requires
@@ -19,5 +19,5 @@ value_of-requires c =
     record {
       lent = c.requires.covers.reads p
           (ap (λ (a : Asked). same_part p (probe_part a.condition.probe)) (sym c.self.view_is)
-              ∙ ap (λ q. same_part p (probe_part q)) c.in-ResourceEquals.is ∙ same_part_refl p);
+          ∙ ap (λ q. same_part p (probe_part q)) c.in-ResourceEquals.is ∙ same_part_refl p);
     }

@@ -9,7 +9,7 @@ use Rattle.msg_system.proofs.guard.Guard.check_all.Goals as goal
 pub check-all-requires : goal.check-all-requires
 check-all-requires c =
     let xs = c.args.guards.now in let ys = c.loop-guard.guards in let i = c.loop-guard.guard-index in let d =
-        c.guard-item.result in
+    c.guard-item.result in
     let lx : i < length xs = omega arith in
     let ly : i < length ys = omega arith in
     record {
@@ -21,7 +21,7 @@ check-all-requires c =
 pub loop-guard-preserved : goal.loop-guard-preserved
 loop-guard-preserved c =
     let xs = c.args.guards.now in let ys = c.loop-guard.guards in let i = c.loop-guard.guard-index in let d =
-        c.guard-item.result in
+    c.guard-item.result in
     let lx : i < length xs = omega arith in
     let ly : i < length ys = omega arith in
     let inv = c.loop-guard.invariant in

@@ -9,58 +9,80 @@ use Rattle.msg_system.proofs.op.Op.run.Goals as goal
 
 pub write-requires : goal.write-requires
 write-requires c =
-    record { lent = covers_written c.args.self.now c.args.lent.now (OfType c.in-Write.t) c.requires.covers
-    (ap (λ o. (op_parts o).written) c.in-Write.is) }
+    record {
+      lent = covers_written c.args.self.now c.args.lent.now (OfType c.in-Write.t) c.requires.covers
+          (ap (λ o. (op_parts o).written) c.in-Write.is);
+    }
 
 pub batch-requires : goal.batch-requires
 batch-requires c =
-    record { lent = covers_written c.args.self.now c.args.lent.now (OfType c.in-Batch.t) c.requires.covers
-    (ap (λ o. (op_parts o).written) c.in-Batch.is) }
+    record {
+      lent = covers_written c.args.self.now c.args.lent.now (OfType c.in-Batch.t) c.requires.covers
+          (ap (λ o. (op_parts o).written) c.in-Batch.is);
+    }
 
 pub drain-requires : goal.drain-requires
 drain-requires c =
-    record { lent = covers_written c.args.self.now c.args.lent.now (OfType c.in-Drain.t) c.requires.covers
-    (ap (λ o. (op_parts o).written) c.in-Drain.is) }
+    record {
+      lent = covers_written c.args.self.now c.args.lent.now (OfType c.in-Drain.t) c.requires.covers
+          (ap (λ o. (op_parts o).written) c.in-Drain.is);
+    }
 
 pub set-requires : goal.set-requires
 set-requires c =
-    record { lent = covers_written c.args.self.now c.args.lent.now (OfResource c.in-Set.r) c.requires.covers
-    (ap (λ o. (op_parts o).written) c.in-Set.is) }
+    record {
+      lent = covers_written c.args.self.now c.args.lent.now (OfResource c.in-Set.r) c.requires.covers
+          (ap (λ o. (op_parts o).written) c.in-Set.is);
+    }
 
 pub add-requires : goal.add-requires
 add-requires c =
-    record { lent = covers_written c.args.self.now c.args.lent.now (OfResource c.in-Add.r) c.requires.covers
-    (ap (λ o. (op_parts o).written) c.in-Add.is) }
+    record {
+      lent = covers_written c.args.self.now c.args.lent.now (OfResource c.in-Add.r) c.requires.covers
+          (ap (λ o. (op_parts o).written) c.in-Add.is);
+    }
 
 pub signal-requires : goal.signal-requires
 signal-requires c =
-    record { lent = covers_written c.args.self.now c.args.lent.now (Registry) c.requires.covers
-    (ap (λ o. (op_parts o).written) c.in-Signal.is) }
+    record {
+      lent = covers_written c.args.self.now c.args.lent.now (Registry) c.requires.covers
+          (ap (λ o. (op_parts o).written) c.in-Signal.is);
+    }
 
 pub read-requires : goal.read-requires
 read-requires c =
-    record { lent = covers_read c.args.self.now c.args.lent.now (OfType c.in-Read.t) c.requires.covers
-    (ap (λ o. (op_parts o).read) c.in-Read.is) }
+    record {
+      lent = covers_read c.args.self.now c.args.lent.now (OfType c.in-Read.t) c.requires.covers
+          (ap (λ o. (op_parts o).read) c.in-Read.is);
+    }
 
 pub len-requires : goal.len-requires
 len-requires c =
-    record { lent = covers_read c.args.self.now c.args.lent.now (OfType c.in-Len.t) c.requires.covers
-    (ap (λ o. (op_parts o).read) c.in-Len.is) }
+    record {
+      lent = covers_read c.args.self.now c.args.lent.now (OfType c.in-Len.t) c.requires.covers
+          (ap (λ o. (op_parts o).read) c.in-Len.is);
+    }
 
 pub missed-requires : goal.missed-requires
 missed-requires c =
-    record { lent = covers_read c.args.self.now c.args.lent.now (OfType c.in-Missed.t) c.requires.covers
-    (ap (λ o. (op_parts o).read) c.in-Missed.is) }
+    record {
+      lent = covers_read c.args.self.now c.args.lent.now (OfType c.in-Missed.t) c.requires.covers
+          (ap (λ o. (op_parts o).read) c.in-Missed.is);
+    }
 
 pub clear-requires : goal.clear-requires
 clear-requires c =
-    record { lent = covers_read c.args.self.now c.args.lent.now (OfType c.in-Clear.t) c.requires.covers
-    (ap (λ o. (op_parts o).read) c.in-Clear.is) }
+    record {
+      lent = covers_read c.args.self.now c.args.lent.now (OfType c.in-Clear.t) c.requires.covers
+          (ap (λ o. (op_parts o).read) c.in-Clear.is);
+    }
 
 pub get-requires : goal.get-requires
 get-requires c =
-    record { lent = covers_read c.args.self.now c.args.lent.now (OfResource c.in-Get.r) c.requires.covers
-    (ap (λ o. (op_parts o).read) c.in-Get.is) }
+    record {
+      lent = covers_read c.args.self.now c.args.lent.now (OfResource c.in-Get.r) c.requires.covers
+          (ap (λ o. (op_parts o).read) c.in-Get.is);
+    }
 
 pub forward-requires-clause-read : goal.forward-requires-clause-read
 forward-requires-clause-read c = covers_read c.args.self.now c.args.lent.now (OfType c.in-Forward.t) c.requires.covers
@@ -99,21 +121,21 @@ returns-in-Write-clause-ran c =
     let fits : SFits w64 c.in-Write.value = search rules in
     rw c.in-Write.is (if_ok c.write.result _ _ (λ reply ran.
     subst (λ v. OpRan (Write c.in-Write.t v) c.args.writer (places_of c.args.cursors.now)
-        (places_of c.args.cursors.now) c.args.lent.now c.write.new.lent reply) (to_z-of_z w64 c.in-Write.value fits)
-        (ran (places_of c.args.cursors.now))) c.write.ensures.ran)
+    (places_of c.args.cursors.now) c.args.lent.now c.write.new.lent reply) (to_z-of_z w64 c.in-Write.value fits)
+    (ran (places_of c.args.cursors.now))) c.write.ensures.ran)
 
 pub returns-in-Set-clause-ran : goal.returns-in-Set-clause-ran
 returns-in-Set-clause-ran c =
     let fits : SFits w64 c.in-Set.value = search rules in
     rw c.in-Set.is (subst (λ v. OpRan (Set c.in-Set.r v) c.args.writer (places_of c.args.cursors.now)
-        (places_of c.args.cursors.now) c.args.lent.now c.set.new.lent c.set.result)
+    (places_of c.args.cursors.now) c.args.lent.now c.set.new.lent c.set.result)
     (to_z-of_z w64 c.in-Set.value fits) (c.set.ensures.ran c.args.writer (places_of c.args.cursors.now)))
 
 pub returns-in-Add-clause-ran : goal.returns-in-Add-clause-ran
 returns-in-Add-clause-ran c =
     let fits : SFits w64 c.in-Add.value = search rules in
     rw c.in-Add.is (subst (λ v. OpRan (Add c.in-Add.r v) c.args.writer (places_of c.args.cursors.now)
-        (places_of c.args.cursors.now) c.args.lent.now c.add.new.lent c.add.result)
+    (places_of c.args.cursors.now) c.args.lent.now c.add.new.lent c.add.result)
     (to_z-of_z w64 c.in-Add.value fits) (c.add.ensures.ran c.args.writer (places_of c.args.cursors.now)))
 
 pub returns-in-Read-clause-ran : goal.returns-in-Read-clause-ran

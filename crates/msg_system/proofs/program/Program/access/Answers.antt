@@ -9,7 +9,7 @@ returns-clause-needs c =
     let ops : List Op = c.args.self.now.ops in
     let whole : take c.loop-op.op-index c.as_slice-op-items.result.now ≡ ops =
     ap (λ n. take n c.as_slice-op-items.result.now) (omega arith) ∙ take-length c.as_slice-op-items.result.now
-        ∙ c.as_slice-op-items.ensures.items in
+    ∙ c.as_slice-op-items.ensures.items in
     let inv = c.loop-op.invariant in
     program_access ops c.loop-op.access c.none.result c.union-settled.result c.none.ensures.nothing
     (λ p. inv.reads p ∙ ap (λ xs. some_op_reads xs p) whole) (λ p. inv.writes p ∙ ap (λ xs. some_op_writes xs p) whole)

@@ -15,13 +15,16 @@ returns-in-Some g c =
     let n = c.self.inside.slots in
     let place = c.in_ok-place.place in
     let first : IsFirstOf c.args.slot parts place =
-        subst (λ ms. IsFirstOf c.args.slot ms place) c.deref.ensures.value c.in_ok-place.ensures.found in
+    subst (λ ms. IsFirstOf c.args.slot ms place) c.deref.ensures.value c.in_ok-place.ensures.found in
     let m = c.in-Some.moved.now in
     let read = c.in-Some.ensures.item.1 in (
       lends_alike _ _ _ (λ w. set_first n c.args.slot parts place (record { slot = m.slot; part = w }) first
           (its_slot c.args.slot parts place m first read)
           ∙ ap (λ xs. slice_set xs c.args.slot (Some w)) c.self.view_is),
-      record { writes_back = tt; held =
-          sym (ap (λ xs. at xs c.args.slot) (sym c.self.view_is)
-          ∙ first_part n c.args.slot parts place m c.self.invariant first read) },
+      record {
+        writes_back = tt;
+        held =
+            sym (ap (λ xs. at xs c.args.slot) (sym c.self.view_is)
+            ∙ first_part n c.args.slot parts place m c.self.invariant first read);
+      },
     )

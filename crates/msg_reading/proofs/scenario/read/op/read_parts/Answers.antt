@@ -11,7 +11,7 @@ returns-in-len1 c =
     let head = c.args.head.now in
     let parts = map view c.args.parts.now in
     let one =
-        one_of c.args.parts.now c.part-item.result c.in-len1.len_at_least c.in-len1.len_below c.part-item.is in record {
+    one_of c.args.parts.now c.part-item.result c.in-len1.len_at_least c.in-len1.len_below c.part-item.is in record {
       agrees = Agrees_of (op_checks_with names head parts) (op_with names head parts) c.read_with_one.result
           (rw one c.read_with_one.ensures.agrees);
     }
