@@ -44,6 +44,7 @@ fn run_many<R: Threads + Sync, S: System, G: Gate>(
     batch: &[u32],
     workers: Workers,
     gate: &G,
+    spares: &mut Spares,
     turns: &mut Vec<Turn>,
 ) -> Result<(), NoMemory>
     requires stands { (s : State) × (LenderStands S.meaning lender.old s
@@ -61,7 +62,7 @@ fn run_many<R: Threads + Sync, S: System, G: Gate>(
     batches_run_side_by_side();
     written_parts_come_home();
     let jobs = lend_out_all(alloc, lender, batch)?;
-    let all = run_side_by_side(rt, alloc, &lender.world, gate, workers, jobs)?;
+    let all = run_side_by_side(rt, alloc, &lender.world, gate, workers, jobs, spares)?;
     for done in all {
         turns.push(lender.take_back(done))?;
     }
@@ -120,7 +121,7 @@ fn run_batch<R: Threads + Sync, S: System, G: Gate>(
     if workers.number() == 1 || batch.len() <= 1 {
         return run_turns(alloc, lender, batch, gate, spares, turns);
     }
-    run_many(rt, alloc, lender, batch, workers, gate, turns)
+    run_many(rt, alloc, lender, batch, workers, gate, spares, turns)
 }
 
 /// Runs the batches one after the other.

@@ -1,5 +1,5 @@
 // The jobs of a batch, side by side on one world.
-ghost use Rattle.std.specs.Prelude.{◌≡◌, ◌≤◌, All, IfOk, Ok, OnOk, length, map, min};
+ghost use Rattle.std.specs.Prelude.{◌≡◌, ◌≤◌, [], All, IfOk, Ok, OnOk, length, map, min};
 ghost use Rattle.msg_exec.specs.Jobs.{IsResult, MayRun};
 ghost use Rattle.msg_exec.specs.inner.Batches.{AreDone};
 ghost use Rattle.msg_exec.specs.Work.{EachMay, PassedGate};
@@ -7,19 +7,21 @@ ghost use Rattle.msg_exec.specs.Work.{EachMay, PassedGate};
 use crate::job::{Done, Job, TakesTurns};
 use crate::run_workers::run_jobs;
 use crate::runs::Runs;
+use crate::spares::Spares;
 use crate::{Gate, NoMemory, Workers};
 use msg_board::Work;
-use msg_system::System;
+use msg_system::{Reply, System};
 use msg_world::World;
 use std::alloc::Global;
 use std::marker::PhantomData;
 use std::thread::Threads;
 
-/// A job, and the world that it was lent from.
+/// A job, the world that it was lent from, and an empty list for its replies.
 #[derive(Drop)]
 pub struct BatchJob<'a, S> {
     pub job: Job<S>,
     pub world: &'a World,
+    pub replies: Vec<Reply>,
 }
 
 /// The work of a batch: what its jobs give is what they mean on the world as it stands while they
@@ -37,7 +39,7 @@ impl<'a, S: System> Work for Batch<'a, S> {
 }
 
 impl<'a, S: System> Runs for Batch<'a, S> {
-    ghost may = { λ j. MayRun S.meaning j.world.now j.job };
+    ghost may = { λ j. MayRun S.meaning j.world.now j.job × (j.replies.items ≡ []) };
 
     ghost system_of = { λ j. j.job.number };
 
@@ -46,14 +48,18 @@ impl<'a, S: System> Runs for Batch<'a, S> {
     }
 
     fn run(alloc: Global, job: BatchJob<'a, S>) -> Result<Done<S>, NoMemory> {
-        let BatchJob { job, world } = job;
+        let BatchJob {
+            job,
+            world,
+            replies,
+        } = job;
         let Job {
             number,
             mut guarded,
             access,
             taken,
         } = job;
-        let (taken, outcome) = guarded.take_turn(alloc, world, &access, taken, Vec::new(alloc))?;
+        let (taken, outcome) = guarded.take_turn(alloc, world, &access, taken, replies)?;
         Ok(Done {
             number,
             guarded,
@@ -63,19 +69,26 @@ impl<'a, S: System> Runs for Batch<'a, S> {
     }
 }
 
-/// The jobs, each with the world.
+/// The jobs, each with the world and a list.
 fn with_world<'a, S: System>(
     alloc: Global,
     world: &'a World,
     jobs: Vec<Job<S>>,
+    spares: &mut Spares,
 ) -> Result<Vec<BatchJob<'a, S>>, NoMemory>
     ensures jobs { IfOk result (λ all. map (λ j. j.job) all.items ≡ jobs.items) }
     ensures world { IfOk result
         (λ all. map (λ j. j.world.now) all.items ≡ map (λ j. world.now) all.items) }
+    ensures empty { IfOk result (λ all. All (λ j. j.replies.items ≡ []) all.items) }
 {
     let mut all = Vec::with_capacity(alloc, jobs.len())?;
     for job in jobs {
-        all.push(BatchJob { job, world })?;
+        let replies = spares.replies(alloc);
+        all.push(BatchJob {
+            job,
+            world,
+            replies,
+        })?;
     }
     Ok(all)
 }
@@ -103,6 +116,7 @@ pub(crate) fn run_side_by_side<R: Threads + Sync, S: System, G: Gate>(
     gate: &G,
     workers: Workers,
     jobs: Vec<Job<S>>,
+    spares: &mut Spares,
 ) -> Result<Vec<Done<S>>, NoMemory>
     requires few { length jobs.items ≤ 256 }
     requires may { EachMay (MayRun S.meaning world.now) jobs.items }
@@ -111,7 +125,7 @@ pub(crate) fn run_side_by_side<R: Threads + Sync, S: System, G: Gate>(
         (All (λ job. PassedGate (G.passed gate.now) (min workers (length jobs.items)) job.number)
         jobs.items) }
 {
-    let jobs = with_world(alloc, world, jobs)?;
+    let jobs = with_world(alloc, world, jobs, spares)?;
     let results = run_jobs::<R, Batch<S>, G>(rt, alloc, gate, workers, jobs)?;
     all_done(alloc, results)
 }

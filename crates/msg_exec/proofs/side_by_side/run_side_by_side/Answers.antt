@@ -1,5 +1,7 @@
-use Rattle.std.proofs.Common.{◌≡◌, ◌∙◌, length, min, ap, sym, subst}
+use Rattle.std.proofs.Common.{◌≡◌, ◌∙◌, [], length, min, ap, sym, subst}
 use Rattle.std.proofs.lemmas.List.{length-map}
+use Rattle.std.proofs.lemmas.List.Elements.{All-get_or}
+use Rattle.std.proofs.lemmas.Option.{get_or_from_slice_get, slice_get_within}
 use Rattle.std.proofs.lemmas.Result.{IfOk-weaker}
 use Rattle.std.specs.Prelude.{All}
 use Rattle.msg_exec.specs.Prelude.{Job, MayRun, PassedGate}
@@ -8,10 +10,14 @@ use Rattle.msg_exec.proofs.JobsShareTheWorld.{all_are_done, each_may}
 use Rattle.msg_exec.proofs.side_by_side.run_side_by_side.Goals as goal
 
 pub run_jobs-requires-clause-may : goal.run_jobs-requires-clause-may
-run_jobs-requires-clause-may g c κs within =
-    each_may (MayRun g.S.System.meaning) (λ b. b.job)
-    (λ b. b.world.now) c.args.world.now _ c.args.jobs.items c.in_ok-jobs.ensures.jobs c.in_ok-jobs.ensures.world
-    c.requires.may
+run_jobs-requires-clause-may g c κs within k b at = (
+  each_may (MayRun g.S.System.meaning) (λ b. b.job)
+      (λ b. b.world.now) c.args.world.now _ c.args.jobs.items c.in_ok-jobs.ensures.jobs c.in_ok-jobs.ensures.world
+      c.requires.may k b at,
+  (let jobs = c.in_ok-jobs.jobs.items in
+  ap (λ j. j.replies.items) (sym (get_or_from_slice_get jobs k b b at))
+  ∙ All-get_or (λ j. j.replies.items ≡ []) jobs k b (slice_get_within jobs k b at) c.in_ok-jobs.ensures.empty),
+)
 
 pub returns : goal.returns
 returns g c = record {
