@@ -96,6 +96,23 @@ module _ {X : Type 0} (meaning : X → Meaning) where
       stands = stands;
     }
 
+    -- nothing was run, and nothing put
+    pub stopped_before_all : (known : Option (List ℕ)) (e : EngineOf X) → StandsFor meaning e (state_of s)
+        → HasStopped meaning s known known e
+    stopped_before_all known e stands = record {
+      logs = [];
+      state = state_of s;
+      is_run = refl;
+      stands = stands;
+      counted = stands.frames;
+      printed = ([], text_so_far s [] (accounts_of (state_of s)), refl, Appends-nil known);
+      earlier = (
+        [],
+        subst (λ l. Appends known known (l ++ [])) (sym (frames_text-none s 1 s.frames)) (Appends-nil known),
+      );
+      last = inl ([], frames_text s 1 s.frames [], refl, Appends-nil known);
+    }
+
     pub posts_fit : (k : ℕ) (before now : Option (List ℕ)) (e : EngineOf X) (frame : Frame)
         → ReportSoFar meaning s k before now e → PostsAreToTypes s frame → PostsFit e frame
     posts_fit k before now e frame far fit =

@@ -114,10 +114,13 @@ post_line s t answer = codes "host post " ++ type_name s t ++ reply_text s answe
 abbrev pub posts_text : Scenario → List (ℕ × ℤ) → List Reply → Text
 posts_text s posts answers = flat_map (λ p. post_line s p.0.0 p.1) (zip posts answers)
 
+-- how the line of an op begins, of the system with this name
+abbrev pub op_start : Scenario → Text → Op → Text
+op_start s name op = name ++ codes " " ++ op_text s op
+
 -- an op of the system with this name
 abbrev pub op_line : Scenario → Text → Op → Reply → Text
-op_line s name op answer =
-    name ++ codes " " ++ op_text s op ++ reply_text s answer ++ codes "\n"
+op_line s name op answer = op_start s name op ++ reply_text s answer ++ codes "\n"
 
 -- a line for each op
 abbrev pub ops_text : Scenario → Text → List Op → List Reply → Text

@@ -1,6 +1,7 @@
 // The text of a report, frame by frame.
 mod accounts;
 mod frame;
+mod lines;
 mod names;
 mod op;
 mod put;

@@ -1,25 +1,28 @@
 // The text of one frame.
-ghost use Rattle.std.specs.Prelude.{◌≡◌, ◌<◌, ◌++◌, [], IsOk, OnErr, OnOk, codes, flat_map, length};
-ghost use Rattle.msg_scenario.specs.Prelude.{frame_text, op_line, ops_text, outcome_text, post_line, posts_text, turn_text};
+ghost use Rattle.std.specs.Prelude.{◌≡◌, ◌<◌, ◌++◌, [], IsOk, OnErr, OnOk, flat_map, length, zip};
+ghost use Rattle.msg_scenario.specs.Prelude.{frame_text, post_line, posts_text, turn_text};
+ghost use Rattle.msg_scenario.specs.inner.Lines.{AreLines, finished_line, finished_outcome, finished_turn};
 
-use crate::reports::names::{add_name, add_type};
-use crate::reports::op::add_op;
+use crate::Scenario;
+use crate::reports::lines::SystemLines;
+use crate::reports::names::add_type;
 use crate::reports::reply::add_reply;
-use crate::{Name, Scenario, SystemSpec};
 use msg_buffer::NoMemory;
 use msg_exec::{Frame, Log, Outcome, Turn};
 use msg_files::numerals::add_number;
-use msg_system::{Op, Reply};
+use msg_system::Reply;
 use msg_world::TypeNo;
 
 /// The text of a frame that had this log.
 pub fn add_frame(
     text: &mut Vec<u8>,
     scenario: &Scenario,
+    lines: &[SystemLines],
     number: u64,
     frame: &Frame,
     log: &Log,
 ) -> Result<(), NoMemory>
+    requires lines { AreLines scenario.now lines.now }
     ensures appends { OnOk result
         (text.new.items ≡ text.old.items ++ frame_text scenario.now number frame.now log.now) }
 {
@@ -27,7 +30,7 @@ pub fn add_frame(
     add_number(text, number)?;
     text.extend_from_slice(b"\n")?;
     add_posts(text, scenario, frame.posts.as_slice(), log.posts.as_slice())?;
-    add_turns(text, scenario, log.turns.as_slice())
+    add_turns(text, scenario, lines, log.turns.as_slice())
 }
 
 fn add_posts(
@@ -62,23 +65,34 @@ fn add_post(
     text.extend_from_slice(b"\n")
 }
 
-fn add_turns(text: &mut Vec<u8>, scenario: &Scenario, turns: &[Turn]) -> Result<(), NoMemory>
+fn add_turns(
+    text: &mut Vec<u8>,
+    scenario: &Scenario,
+    lines: &[SystemLines],
+    turns: &[Turn],
+) -> Result<(), NoMemory>
+    requires lines { AreLines scenario.now lines.now }
     ensures appends { OnOk result
         (text.new.items ≡ text.old.items ++ flat_map (turn_text scenario.now) turns.now) }
     ensures no_memory { turns.now ≡ [] → IsOk result }
 {
     for turn in turns {
-        add_turn(text, scenario, turn)?;
+        add_turn(text, scenario, lines, turn)?;
     }
     Ok(())
 }
 
-fn add_turn(text: &mut Vec<u8>, scenario: &Scenario, turn: &Turn) -> Result<(), NoMemory>
+fn add_turn(
+    text: &mut Vec<u8>,
+    scenario: &Scenario,
+    lines: &[SystemLines],
+    turn: &Turn,
+) -> Result<(), NoMemory>
     ensures { OnOk result
-        (text.new.items ≡ text.old.items ++ turn_text scenario.now turn.now) }
+        (text.new.items ≡ text.old.items ++ finished_turn scenario.now lines.now turn.now) }
 {
-    match scenario.systems.as_slice().get(turn.system as usize) {
-        Some(system) => add_outcome(text, scenario, system, &turn.outcome),
+    match lines.get(turn.system as usize) {
+        Some(lines) => add_outcome(text, scenario, lines, &turn.outcome),
         None => Ok(()),
     }
 }
@@ -87,37 +101,33 @@ fn add_turn(text: &mut Vec<u8>, scenario: &Scenario, turn: &Turn) -> Result<(), 
 fn add_outcome(
     text: &mut Vec<u8>,
     scenario: &Scenario,
-    system: &SystemSpec,
+    lines: &SystemLines,
     outcome: &Outcome,
 ) -> Result<(), NoMemory>
     ensures { OnOk result
-        (text.new.items ≡ text.old.items ++ outcome_text scenario.now system.now outcome.now) }
+        (text.new.items ≡ text.old.items ++ finished_outcome scenario.now lines.now outcome.now) }
 {
     match outcome {
-        Outcome::Skipped => {
-            add_name(text, &system.name)?;
-            text.extend_from_slice(b" skipped\n")
-        }
+        Outcome::Skipped => text.extend_from_slice(lines.skipped.as_slice()),
         Outcome::Ran(replies) => {
-            let ops = system.program.ops.as_slice();
-            add_ops(text, scenario, &system.name, ops, replies.as_slice())
+            add_ops(text, scenario, lines.starts.as_slice(), replies.as_slice())
         }
     }
 }
 
+/// The line of each op, by its start.
 fn add_ops(
     text: &mut Vec<u8>,
     scenario: &Scenario,
-    name: &Name,
-    ops: &[Op],
+    starts: &[Vec<u8>],
     replies: &[Reply],
 ) -> Result<(), NoMemory>
-    ensures appends { OnOk result
-        (text.new.items ≡ text.old.items ++ ops_text scenario.now name.now ops.now replies.now) }
-    ensures refused { OnErr result ((0 < length ops.now) × (0 < length replies.now)) }
+    ensures appends { OnOk result (text.new.items ≡ text.old.items
+        ++ flat_map (λ p. finished_line scenario.now p.0.items p.1) (zip starts.now replies.now)) }
+    ensures refused { OnErr result ((0 < length starts.now) × (0 < length replies.now)) }
 {
-    for (op, reply) in ops.iter().zip(replies) {
-        add_line(text, scenario, name, op, reply)?;
+    for (start, reply) in starts.iter().zip(replies) {
+        add_line(text, scenario, start.as_slice(), reply)?;
     }
     Ok(())
 }
@@ -126,16 +136,13 @@ fn add_ops(
 fn add_line(
     text: &mut Vec<u8>,
     scenario: &Scenario,
-    name: &Name,
-    op: &Op,
+    start: &[u8],
     reply: &Reply,
 ) -> Result<(), NoMemory>
     ensures { OnOk result
-        (text.new.items ≡ text.old.items ++ op_line scenario.now name.now op.now reply.now) }
+        (text.new.items ≡ text.old.items ++ finished_line scenario.now start.now reply.now) }
 {
-    add_name(text, name)?;
-    text.extend_from_slice(b" ")?;
-    add_op(text, scenario, op)?;
+    text.extend_from_slice(start)?;
     add_reply(text, scenario, reply)?;
     text.extend_from_slice(b"\n")
 }

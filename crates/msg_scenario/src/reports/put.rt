@@ -2,23 +2,27 @@
 ghost use Rattle.std.specs.Prelude.{◌≡◌, ◌≢◌, ◌⊎◌, [], Err, IfErr, OnOk, OnErr};
 ghost use Rattle.std.specs.Io.KnownBytes.{Appends};
 ghost use Rattle.msg_scenario.specs.Prelude.{accounts_text, frame_text};
+ghost use Rattle.msg_scenario.specs.inner.Lines.{AreLines};
 ghost use Rattle.msg_files.specs.Prelude.{AppendsPrefix, one_more};
 
 use crate::Scenario;
 use crate::reports::accounts::add_accounts;
 use crate::reports::frame::add_frame;
+use crate::reports::lines::SystemLines;
 use msg_exec::{Account, Frame, Log};
 use msg_files::{ReportFault, Sink, put_text};
 
 /// Puts the text of a frame that had this log; it is made in `text` first.
 pub fn put_frame<S: Sink>(
     scenario: &Scenario,
+    lines: &[SystemLines],
     number: u64,
     frame: &Frame,
     log: &Log,
     text: &mut Vec<u8>,
     sink: &mut S,
 ) -> Result<(), ReportFault>
+    requires lines { AreLines scenario.now lines.now }
     ensures ok { OnOk result (Appends (S.contents sink.old) (S.contents sink.new)
         (frame_text scenario.now number frame.now log.now)) }
     ensures quiet { OnOk result (S.failures sink.new ≡ S.failures sink.old) }
@@ -33,7 +37,7 @@ pub fn put_frame<S: Sink>(
         (λ fault. (fault ≡ ReportFault.Write) ⊎ (fault ≡ ReportFault.NoMemory)) }
 {
     text.clear();
-    if add_frame(text, scenario, number, frame, log).is_err() {
+    if add_frame(text, scenario, lines, number, frame, log).is_err() {
         return Err(ReportFault::NoMemory);
     }
     put_text(text.as_slice(), sink)

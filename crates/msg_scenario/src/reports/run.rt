@@ -5,9 +5,11 @@ ghost use Rattle.msg_system.specs.declared.run_fault.RunFault.TheVariants.{BadOr
 ghost use Rattle.msg_scenario.specs.Prelude.{HasPrinted, HasReported, HasRunOut, HasStopped};
 ghost use Rattle.msg_reading.specs.Prelude.{PostsAreToTypes, state_of};
 ghost use Rattle.msg_files.specs.Prelude.{one_more};
+ghost use Rattle.msg_scenario.specs.inner.Lines.{AreLines};
 ghost use Rattle.msg_scenario.specs.inner.SoFar.{ReportSoFar};
 
 use crate::Scenario;
+use crate::reports::lines::{SystemLines, make_lines};
 use crate::reports::put::{put_accounts, put_frame};
 use msg_exec::laws::frames_keep_the_systems;
 use msg_exec::{EngineOf, Gate, Workers};
@@ -21,6 +23,7 @@ fn report_frame<R: Threads + Sync, X: System, S: Sink, G: Gate>(
     rt: &R,
     engine: &mut EngineOf<X>,
     scenario: &Scenario,
+    lines: &[SystemLines],
     reported: usize,
     workers: Workers,
     gate: &G,
@@ -29,6 +32,7 @@ fn report_frame<R: Threads + Sync, X: System, S: Sink, G: Gate>(
 ) -> Result<(), ReportFault>
     requires so_far { (before : Option (List ℕ))
         × ReportSoFar X.meaning scenario.now reported before (S.contents sink.old) engine.old }
+    requires lines { AreLines scenario.now lines.now }
     requires next { reported < length scenario.now.frames }
     requires posts { All (PostsAreToTypes scenario.now) scenario.now.frames }
     ensures ok { OnOk result ((before : Option (List ℕ))
@@ -56,7 +60,15 @@ fn report_frame<R: Threads + Sync, X: System, S: Sink, G: Gate>(
         Ok(log) => log,
         Err(fault) => return Err(ReportFault::Run(fault)),
     };
-    put_frame(scenario, reported as u64 + 1, frame, &log, text, sink)?;
+    put_frame(
+        scenario,
+        lines,
+        reported as u64 + 1,
+        frame,
+        &log,
+        text,
+        sink,
+    )?;
     engine.recycle(log);
     Ok(())
 }
@@ -67,7 +79,7 @@ fn report_frame<R: Threads + Sync, X: System, S: Sink, G: Gate>(
 /// # Errors
 ///
 /// `Run` where a frame or the accounts had no memory, `Write` where the sink failed, and `NoMemory`
-/// where a text had none.
+/// where a text had none: that of a frame or of the readers, or what is made once for all frames.
 pub fn report<R: Threads + Sync, X: System, S: Sink, G: Gate>(
     rt: &R,
     alloc: Global,
@@ -100,10 +112,21 @@ pub fn report<R: Threads + Sync, X: System, S: Sink, G: Gate>(
     ensures quiet { result ≢ Err ReportFault.Write → S.failures sink.new ≡ S.failures sink.old }
 {
     engine.has_one_run();
+    let Ok(lines) = make_lines(alloc, scenario) else {
+        return Err(ReportFault::NoMemory);
+    };
     let mut text = Vec::new(alloc);
     for reported in 0..scenario.frames.as_slice().len() {
         report_frame(
-            rt, engine, scenario, reported, workers, gate, &mut text, sink,
+            rt,
+            engine,
+            scenario,
+            lines.as_slice(),
+            reported,
+            workers,
+            gate,
+            &mut text,
+            sink,
         )?;
     }
     match engine.accounts() {

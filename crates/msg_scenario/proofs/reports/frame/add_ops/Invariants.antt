@@ -1,10 +1,11 @@
 use Rattle.std.proofs.Common.{◌≡◌, ◌++◌}
-use Rattle.msg_scenario.specs.Prelude.{op_line, ops_text}
+use Rattle.std.specs.Prelude.{flat_map, zip}
+use Rattle.msg_scenario.specs.inner.Lines.{finished_line}
 use Rattle.msg_scenario.proofs.ReportLines.{LeftWithin, pieces_left}
 use Rattle.msg_scenario.proofs.reports.frame.add_ops.Given as goal
 
-abbrev pub invariant-loop-op : goal.invariant-loop-op
-invariant-loop-op l =
-    (l.text.items ++ pieces_left (λ p. op_line l.scenario l.name p.0 p.1) l.op-iterator
-    ≡ l.initial.text.items ++ ops_text l.scenario l.name l.ops l.replies)
-    × LeftWithin l.op-iterator l.ops l.replies
+abbrev pub invariant-loop-start : goal.invariant-loop-start
+invariant-loop-start l =
+    (l.text.items ++ pieces_left (λ p. finished_line l.scenario p.0.items p.1) l.start-iterator
+    ≡ l.initial.text.items ++ flat_map (λ p. finished_line l.scenario p.0.items p.1) (zip l.starts l.replies))
+    × LeftWithin l.start-iterator l.starts l.replies

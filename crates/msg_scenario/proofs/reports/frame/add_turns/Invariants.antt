@@ -1,8 +1,8 @@
 use Rattle.std.proofs.Common.{◌≡◌, ◌++◌, take}
 use Rattle.std.specs.Prelude.{flat_map}
-use Rattle.msg_scenario.specs.Prelude.{turn_text}
+use Rattle.msg_scenario.specs.inner.Lines.{finished_turn}
 use Rattle.msg_scenario.proofs.reports.frame.add_turns.Given as goal
 
 abbrev pub invariant-loop-turn : goal.invariant-loop-turn
 invariant-loop-turn l =
-    l.text.items ≡ l.initial.text.items ++ flat_map (turn_text l.scenario) (take l.turn-index l.turns)
+    l.text.items ≡ l.initial.text.items ++ flat_map (finished_turn l.scenario l.lines) (take l.turn-index l.turns)

@@ -1,10 +1,10 @@
-use Rattle.std.proofs.Common.{◌≡◌, ◌≤◌, ℕ, List, Err, ap, arith, inl, inr, length, refl, subst, sym, ◌∙◌, ◌⊎◌}
+use Rattle.std.proofs.Common.{rules, ◌≡◌, ◌≤◌, ℕ, List, Err, ap, arith, inl, inr, length, refl, subst, sym, ◌∙◌, ◌⊎◌}
 use Rattle.msg_files.specs.declared.report_fault.ReportFault.{ReportFault}
 use Rattle.std.proofs.lemmas.Result.{err_from_is_err_and}
 use Rattle.msg_frames.specs.declared.frame.Frame.{Frame}
 use Rattle.msg_reading.specs.Prelude.{state_of}
 use Rattle.msg_files.proofs.Puts.{of_err, on_err_then, on_ok_then}
-use Rattle.msg_scenario.proofs.Reporting.{accounts_out, out_printed, readers_put, readers_stopped, report_begun, stopped_printed}
+use Rattle.msg_scenario.proofs.Reporting.{accounts_out, out_printed, readers_put, readers_stopped, report_begun, stopped_before_all, stopped_printed}
 use Rattle.msg_scenario.proofs.reports.run.report.Goals as goal
 
 pub loop-reported-init : goal.loop-reported-init
@@ -12,6 +12,23 @@ loop-reported-init g c = record {
   so_far = report_begun g.X.System.meaning c.args.scenario.now
       (g.S.Sink.contents c.args.sink.now) c.args.engine.now c.requires.engine;
   failures = refl;
+}
+
+pub returns-in_default-clause-stopped : goal.returns-in_default-clause-stopped
+returns-in_default-clause-stopped g c cause =
+    stopped_before_all g.X.System.meaning c.args.scenario.now (g.S.Sink.contents c.args.sink.now) c.args.engine.now
+    c.requires.engine
+
+pub returns-in_default-clause-prefix : goal.returns-in_default-clause-prefix
+returns-in_default-clause-prefix g c =
+    stopped_printed g.X.System.meaning c.args.scenario.now _ _ c.args.engine.now
+    (stopped_before_all g.X.System.meaning c.args.scenario.now (g.S.Sink.contents c.args.sink.now) c.args.engine.now
+    c.requires.engine)
+
+pub loop-reported-preserved : goal.loop-reported-preserved
+loop-reported-preserved g c = record {
+  so_far = c.in_ok-report_frame.ensures.ok _ c.loop-reported.invariant.so_far;
+  failures = search rules;
 }
 
 pub returns-in_err-report_frame-clause-run : goal.returns-in_err-report_frame-clause-run
@@ -29,41 +46,41 @@ returns-in_err-report_frame-clause-stopped g c cause =
 all_run : (frames items : List Frame) (k : ℕ) → items ≡ frames → k ≤ length items → length items ≤ k → k ≡ length frames
 all_run frames items k same within past = let equal : k ≡ length items = omega arith in equal ∙ ap length same
 
-pub returns-in-Ok-clause-ok : goal.returns-in-Ok-clause-ok
-returns-in-Ok-clause-ok g c =
+pub returns-in-Ok-accounts-clause-ok : goal.returns-in-Ok-accounts-clause-ok
+returns-in-Ok-accounts-clause-ok g c =
     on_ok_then c.put_accounts.result _ _
     (readers_put g.X.System.meaning c.args.scenario.now c.loop-reported.reported _ _ _ c.loop-reported.engine
-    c.as_slice.result.now
+    c.as_slice-in-Ok-accounts.result.now
     c.loop-reported.invariant.so_far
     (all_run c.args.scenario.now.frames _ _ c.as_slice-reported-end.ensures.items c.loop-reported.auto.reported-end
     c.loop-reported-test.false)
-    (λ u stands. c.as_slice.ensures.value ∙ c.in-Ok.ensures.accounts u stands)
+    (λ u stands. c.as_slice-in-Ok-accounts.ensures.value ∙ c.in-Ok-accounts.ensures.accounts u stands)
     (c.has_one_run.ensures.complete (state_of c.args.scenario.now) c.requires.engine))
     c.put_accounts.ensures.ok
 
-pub returns-in-Ok-clause-stopped : goal.returns-in-Ok-clause-stopped
-returns-in-Ok-clause-stopped g c cause =
+pub returns-in-Ok-accounts-clause-stopped : goal.returns-in-Ok-accounts-clause-stopped
+returns-in-Ok-accounts-clause-stopped g c cause =
     readers_stopped g.X.System.meaning c.args.scenario.now c.loop-reported.reported _ _ _ c.loop-reported.engine
-    c.as_slice.result.now
+    c.as_slice-in-Ok-accounts.result.now
     c.loop-reported.invariant.so_far
     (all_run c.args.scenario.now.frames _ _ c.as_slice-reported-end.ensures.items c.loop-reported.auto.reported-end
     c.loop-reported-test.false)
-    (λ u stands. c.as_slice.ensures.value ∙ c.in-Ok.ensures.accounts u stands)
+    (λ u stands. c.as_slice-in-Ok-accounts.ensures.value ∙ c.in-Ok-accounts.ensures.accounts u stands)
     (elim cause [
       | inl write ↦ of_err c.put_accounts.result _ _ write c.put_accounts.ensures.prefix
       | inr memory ↦ of_err c.put_accounts.result _ _ memory c.put_accounts.ensures.prefix
     ])
 
-pub returns-in-Ok-clause-prefix : goal.returns-in-Ok-clause-prefix
-returns-in-Ok-clause-prefix g c =
+pub returns-in-Ok-accounts-clause-prefix : goal.returns-in-Ok-accounts-clause-prefix
+returns-in-Ok-accounts-clause-prefix g c =
     on_err_then c.put_accounts.result _ _
     (λ prefix. stopped_printed g.X.System.meaning c.args.scenario.now _ _ c.loop-reported.engine
     (readers_stopped g.X.System.meaning c.args.scenario.now c.loop-reported.reported _ _ _ c.loop-reported.engine
-    c.as_slice.result.now
+    c.as_slice-in-Ok-accounts.result.now
     c.loop-reported.invariant.so_far
     (all_run c.args.scenario.now.frames _ _ c.as_slice-reported-end.ensures.items c.loop-reported.auto.reported-end
     c.loop-reported-test.false)
-    (λ u stands. c.as_slice.ensures.value ∙ c.in-Ok.ensures.accounts u stands) prefix))
+    (λ u stands. c.as_slice-in-Ok-accounts.ensures.value ∙ c.in-Ok-accounts.ensures.accounts u stands) prefix))
     c.put_accounts.ensures.prefix
 
 pub returns-clause-prefix : goal.returns-clause-prefix

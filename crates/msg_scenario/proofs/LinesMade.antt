@@ -1,0 +1,56 @@
+-- The lines of turns, by what was made of each system once.
+use Rattle.std.proofs.Common.{◌≡◌, ℕ, zero, suc, List, [], ◌∷◌, ◌++◌, map, refl, ap, ◌∙◌}
+use Rattle.std.specs.Prelude.{codes, flat_map, slice_get, zip}
+use Rattle.std.specs.Global.{Vec}
+use Rattle.std.specs.Option.{option_map_or}
+use Rattle.msg_system.specs.declared.op.Op.{Op}
+use Rattle.msg_system.specs.declared.reply.Reply.{Reply}
+use Rattle.msg_frames.specs.declared.log.Outcome.{Outcome}
+use Rattle.msg_frames.specs.declared.log.Outcome.TheVariants.{Skipped, Ran}
+use Rattle.msg_frames.specs.declared.log.Turn.{Turn}
+use Rattle.msg_files.specs.Prelude.{Text}
+use Rattle.msg_reading.specs.declared.scenario.Scenario.{Scenario}
+use Rattle.msg_reading.specs.declared.scenario.SystemSpec.{SystemSpec}
+use Rattle.msg_scenario.specs.Prelude.{op_start, ops_text, outcome_text, reply_text, turn_text}
+use Rattle.msg_scenario.specs.declared.reports.lines.SystemLines.{SystemLines}
+use Rattle.msg_scenario.specs.inner.Lines.{AreLines, finished_line, finished_outcome, finished_turn, lines_of, made}
+
+-- the lines of ops, by their starts
+ops_of_starts : (s : Scenario) (name : Text) (starts : List (Vec ℕ)) (ops : List Op) (answers : List Reply)
+    → map (λ (start : Vec ℕ). start.items) starts ≡ map (op_start s name) ops
+    → flat_map (λ p. finished_line s p.0.items p.1) (zip starts answers) ≡ ops_text s name ops answers
+ops_of_starts s name [] [] answers same = refl
+ops_of_starts s name [] (op ∷ ops) answers same = absurd cc
+ops_of_starts s name (start ∷ starts) [] answers same = absurd cc
+ops_of_starts s name (start ∷ starts) (op ∷ ops) [] same = refl
+ops_of_starts s name (start ∷ starts) (op ∷ ops) (answer ∷ answers) same =
+    let here : start.items ≡ op_start s name op = cc in
+    let rest : map (λ (start : Vec ℕ). start.items) starts ≡ map (op_start s name) ops = cc in
+    ap (λ text. (text ++ reply_text s answer ++ codes "\n")
+    ++ flat_map (λ p. finished_line s p.0.items p.1) (zip starts answers)) here
+    ∙ ap (λ text. (op_start s name op ++ reply_text s answer ++ codes "\n") ++ text)
+    (ops_of_starts s name starts ops answers rest)
+
+outcome_of_lines : (s : Scenario) (lines : SystemLines) (system : SystemSpec) (outcome : Outcome)
+    → made lines ≡ lines_of s system → finished_outcome s lines outcome ≡ outcome_text s system outcome
+outcome_of_lines s lines system Skipped same = ap (λ m. m.0) same
+outcome_of_lines s lines system (Ran answers) same =
+    ops_of_starts s system.name lines.starts.items system.program.ops answers (ap (λ m. m.1) same)
+
+outcome_of_number : (s : Scenario) (lines : List SystemLines) (systems : List SystemSpec) (n : ℕ) (outcome : Outcome)
+    → map made lines ≡ map (lines_of s) systems
+    → option_map_or (λ l. finished_outcome s l outcome) (slice_get lines n) []
+    ≡ option_map_or (λ system. outcome_text s system outcome) (slice_get systems n) []
+outcome_of_number s [] [] n outcome same = refl
+outcome_of_number s [] (system ∷ systems) n outcome same = absurd cc
+outcome_of_number s (l ∷ lines) [] n outcome same = absurd cc
+outcome_of_number s (l ∷ lines) (system ∷ systems) zero outcome same =
+    let here : made l ≡ lines_of s system = cc in outcome_of_lines s l system outcome here
+outcome_of_number s (l ∷ lines) (system ∷ systems) (suc n) outcome same =
+    let rest : map made lines ≡ map (lines_of s) systems = cc in
+    outcome_of_number s lines systems n outcome rest
+
+pub turns_of_lines : (s : Scenario) (lines : List SystemLines) (turns : List Turn) → AreLines s lines
+    → flat_map (finished_turn s lines) turns ≡ flat_map (turn_text s) turns
+turns_of_lines s lines turns are =
+    λ k. flat_map (λ turn. outcome_of_number s lines s.systems turn.system turn.outcome are k) turns

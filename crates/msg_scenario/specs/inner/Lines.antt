@@ -1,0 +1,40 @@
+-- What the lines of turns begin with, made once: the words of private functions.
+use Rattle.std.specs.Prelude.{◌≡◌, ◌++◌, ℕ, List, [], codes, flat_map, map, slice_get, zip}
+use Rattle.std.specs.Option.{option_map_or}
+use Rattle.msg_files.specs.Prelude.{Text}
+use Rattle.msg_system.specs.declared.reply.Reply.{Reply}
+use Rattle.msg_frames.specs.declared.log.Outcome.{Outcome}
+use Rattle.msg_frames.specs.declared.log.Outcome.TheVariants.{Skipped, Ran}
+use Rattle.msg_frames.specs.declared.log.Turn.{Turn}
+use Rattle.msg_reading.specs.declared.scenario.Scenario.{Scenario}
+use Rattle.msg_reading.specs.declared.scenario.SystemSpec.{SystemSpec}
+use Rattle.msg_scenario.specs.declared.reports.lines.SystemLines.{SystemLines}
+use Rattle.msg_scenario.specs.ReportText.{op_start, reply_text}
+
+-- the line of a turn that a system skips, and how the line of each of its ops begins
+abbrev pub lines_of : Scenario → SystemSpec → Text × List Text
+lines_of s system =
+    (system.name ++ codes " skipped\n", map (op_start s system.name) system.program.ops)
+
+-- what was made of a system
+abbrev pub made : SystemLines → Text × List Text
+made lines = (lines.skipped.items, map (λ start. start.items) lines.starts.items)
+
+-- they are those of the systems of the scenario
+abbrev pub AreLines : Scenario → List SystemLines → Type 0
+AreLines s lines = map made lines ≡ map (lines_of s) s.systems
+
+-- a line by its start
+abbrev pub finished_line : Scenario → Text → Reply → Text
+finished_line s start answer = start ++ reply_text s answer ++ codes "\n"
+
+-- what came of a system's turn, by what was made of the system
+abbrev pub finished_outcome : Scenario → SystemLines → Outcome → Text
+finished_outcome s lines Skipped = lines.skipped.items
+finished_outcome s lines (Ran answers) =
+    flat_map (λ p. finished_line s p.0.items p.1) (zip lines.starts.items answers)
+
+-- a turn likewise
+abbrev pub finished_turn : Scenario → List SystemLines → Turn → Text
+finished_turn s lines turn =
+    option_map_or (λ l. finished_outcome s l turn.outcome) (slice_get lines turn.system) []
