@@ -31,9 +31,9 @@ module _ {X : Type 0} (meaning : X → Meaning) (s : Scenario) where
     pub printed : Appends before after (report_text s logs (accounts_of state))
     pub stands : StandsFor meaning e state
 
-  -- The report ended after a whole frame, the last one that was run: the engine stands for the
-  -- state after it. The sink took all of the text of the frames before that one, and a front of
-  -- what follows.
+  -- The report ended after a whole frame, the last one that was run, or before the first one: the
+  -- engine stands for the state after it. The sink took all of the text of the frames before that
+  -- one, and a front of what follows.
   pub record HasStopped (before after : Option (List ℕ)) (e : EngineOf X) : Type 0 where
     pub logs : List Log
     pub state : State
