@@ -1,5 +1,6 @@
 // A reply at the end of a text.
 ghost use Rattle.std.specs.Prelude.{◌≡◌, ◌+◌, ◌++◌, [], List, IsOk, OnOk, codes, decimal};
+ghost use Rattle.std.specs.Fmt.{signed_decimal};
 ghost use Rattle.msg_scenario.specs.Prelude.{item_text, items_text, more_items, numbers_text, reply_text, took_text, written_text};
 
 use crate::Scenario;
@@ -15,38 +16,81 @@ pub fn add_reply(text: &mut Vec<u8>, scenario: &Scenario, reply: &Reply) -> Resu
         (text.new.items ≡ text.old.items ++ reply_text scenario.now reply.now) }
 {
     match reply {
-        Reply::Wrote(numbers) => {
-            text.extend_from_slice(b" ")?;
-            add_numbers(text, *numbers)
-        }
+        Reply::Wrote(numbers) => add_wrote(text, *numbers),
         Reply::Spent => text.extend_from_slice(b" spent"),
         Reply::Read(took) => add_took(text, scenario, took),
         Reply::Len(n) => add_count(text, b" ", *n),
         Reply::Missed(n) => add_count(text, b" ", *n),
-        Reply::Cleared { missed, n, .. } => {
-            add_count(text, b" missed ", *missed)?;
-            add_count(text, b" cleared ", *n)
-        }
-        Reply::Forwarded { took, wrote } => {
-            add_took(text, scenario, took)?;
-            text.extend_from_slice(b"; ")?;
-            add_written(text, *wrote)
-        }
-        Reply::Summed { took, value } => {
-            add_took(text, scenario, took)?;
-            text.extend_from_slice(b"; ")?;
-            add_value(text, *value)
-        }
-        Reply::Value(value) => {
-            text.extend_from_slice(b" ")?;
-            add_value(text, *value)
-        }
-        Reply::Drained { first, items } => {
-            text.extend_from_slice(b":")?;
-            add_items(text, scenario, *first, items.as_slice())
-        }
+        Reply::Cleared { missed, n, .. } => add_cleared(text, *missed, *n),
+        Reply::Forwarded { took, wrote } => add_forwarded(text, scenario, took, *wrote),
+        Reply::Summed { took, value } => add_summed(text, scenario, took, *value),
+        Reply::Value(value) => add_answer(text, *value),
+        Reply::Drained { first, items } => add_drained(text, scenario, *first, items.as_slice()),
         Reply::Signalled => Ok(()),
     }
+}
+
+fn add_wrote(text: &mut Vec<u8>, numbers: Written) -> Result<(), NoMemory>
+    ensures { OnOk result (text.new.items ≡ text.old.items ++ (codes " " ++ numbers_text numbers)) }
+{
+    text.extend_from_slice(b" ")?;
+    add_numbers(text, numbers)
+}
+
+fn add_cleared(text: &mut Vec<u8>, missed: u64, n: u64) -> Result<(), NoMemory>
+    ensures { OnOk result (text.new.items ≡ text.old.items
+        ++ (codes " missed " ++ decimal missed ++ codes " cleared " ++ decimal n)) }
+{
+    add_count(text, b" missed ", missed)?;
+    add_count(text, b" cleared ", n)
+}
+
+fn add_forwarded(
+    text: &mut Vec<u8>,
+    scenario: &Scenario,
+    took: &Took,
+    wrote: Option<Written>,
+) -> Result<(), NoMemory>
+    ensures { OnOk result (text.new.items ≡ text.old.items
+        ++ (codes " " ++ took_text scenario.now took.now ++ codes "; " ++ written_text wrote)) }
+{
+    add_took(text, scenario, took)?;
+    text.extend_from_slice(b"; ")?;
+    add_written(text, wrote)
+}
+
+fn add_summed(
+    text: &mut Vec<u8>,
+    scenario: &Scenario,
+    took: &Took,
+    value: i64,
+) -> Result<(), NoMemory>
+    ensures { OnOk result (text.new.items ≡ text.old.items
+        ++ (codes " " ++ took_text scenario.now took.now ++ codes "; " ++ signed_decimal value)) }
+{
+    add_took(text, scenario, took)?;
+    text.extend_from_slice(b"; ")?;
+    add_value(text, value)
+}
+
+fn add_answer(text: &mut Vec<u8>, value: i64) -> Result<(), NoMemory>
+    ensures { OnOk result (text.new.items ≡ text.old.items ++ (codes " " ++ signed_decimal value)) }
+{
+    text.extend_from_slice(b" ")?;
+    add_value(text, value)
+}
+
+fn add_drained(
+    text: &mut Vec<u8>,
+    scenario: &Scenario,
+    first: u64,
+    items: &[Record],
+) -> Result<(), NoMemory>
+    ensures { OnOk result (text.new.items ≡ text.old.items
+        ++ (codes ": " ++ items_text scenario.now first items.now)) }
+{
+    text.extend_from_slice(b":")?;
+    add_items(text, scenario, first, items)
 }
 
 /// A number after a head.
