@@ -1,17 +1,16 @@
 -- A frame in a lawful order leaves a core that stands for the state after the frame.
-use Rattle.std.proofs.Common.{◌≡◌, ℕ, ◌<◌, Bool, List, refl, sym, ap, subst, ◌∙◌}
-use Rattle.std.specs.Prelude.{All, IsPermutation, IsTrue, ◌↔◌}
+use Rattle.std.proofs.Common.{◌≡◌, ℕ, ◌<◌, Bool, List, refl, ap, ◌∙◌}
+use Rattle.std.specs.Prelude.{All, IsTrue, ◌↔◌}
 use Rattle.std.specs.List.{concat}
 use Rattle.std.proofs.lemmas.List.Elements.{Contains-get_or}
-use Rattle.msg_order.specs.Prelude.{Graph, IsLawfulOrder, IsPlanOf, IsSettledOrder}
-use Rattle.msg_order.specs.declared.rule.Rule.{Rule}
+use Rattle.msg_order.specs.Prelude.{Graph, IsLawfulOrder, IsSettledOrder}
 use Rattle.msg_system.specs.declared.reply.Reply.{Reply}
 use Rattle.msg_system.specs.Prelude.{Meaning}
 use Rattle.msg_exec.specs.Prelude.{Core, CoreStands, LenderStands}
 use Rattle.msg_frames.specs.declared.frame.Frame.{Frame}
 use Rattle.msg_frames.specs.declared.log.Log.{Log}
 use Rattle.msg_exec.specs.inner.FrameSteps.{HasLeft, HasOpened, NobodyJoins, PlansNext, counted}
-use Rattle.msg_frames.specs.Prelude.{FrameStaysSound, FramesAgreeInLawfulOrders, IsFrame, IsLawfulFor, IsOrderOf, IsReplay, State, SystemsHaveOneOrder, after_turns_of, before_turns, frame_in, join_flags, joining}
+use Rattle.msg_frames.specs.Prelude.{FrameStaysSound, FramesAgreeInLawfulOrders, IsLawfulFor, IsOrderOf, IsReplay, State, SystemsHaveOneOrder, after_turns_of, before_turns, frame_in, join_flags, joining}
 use Rattle.msg_exec.proofs.CoreRunsFrame.{frame_ran, is_frame_by, nobody_more}
 use Rattle.msg_frames.proofs.FramesInOrder.{in_that_order}
 use Rattle.msg_frames.proofs.SystemsStay.{accesses_stay, before_keeps, joined_below}
@@ -27,23 +26,20 @@ lawful_below frame s order x k d lt =
 module _ {S : Type 0} (meaning : S → Meaning) where
   -- where nobody joins, the plan stays
   pub plan_stays : (c : Core S) (s : State) → CoreStands meaning c s → NobodyJoins s → PlansNext c s c.plan
-  plan_stays c s stands none = subst (λ js. IsPlanOf c.lender.accesses.items s.rules js c.plan)
-      (sym (nobody_more s none)) stands.plan
+  plan_stays c s stands none = rw (nobody_more s none) stands.plan
 
   -- the plan settles the order of those that will have joined
   settled_next : (c : Core S) (s : State) (frame : Frame) (g : Graph) → CoreStands meaning c s
       → IsSettledOrder c.lender.accesses.items s.rules (join_flags (counted (joining s))) g
       → IsOrderOf (before_turns frame.posts s) g
   settled_next c s frame g stands settled =
-      let b : State = before_turns frame.posts s in
       let same = before_keeps frame.posts s in
       record {
         accesses = c.lender.accesses.items;
         of_systems =
-            accesses_stay s b c.lender.accesses.items same
+            accesses_stay s (before_turns frame.posts s) c.lender.accesses.items same
             (record { each = stands.lender.accesses; of_needs = λ i lt. (stands.lender.members i lt).access });
-        is_settled = subst (λ (rs : List Rule). IsSettledOrder c.lender.accesses.items rs (join_flags b) g)
-            (sym same.rules) settled;
+        is_settled = rw same.rules settled;
       }
 
   -- so what the plan accepts is what is lawful
@@ -53,10 +49,9 @@ module _ {S : Type 0} (meaning : S → Meaning) where
       → (IsTrue accepts ↔ IsLawfulOrder g (join_flags (counted (joining s))) order) → IsTrue accepts
       ↔ IsLawfulFor frame s order
   accepted accepts c s frame order g one stands settled tells =
-      let b : State = before_turns frame.posts s in
-      let is : IsOrderOf b g = settled_next c s frame g stands settled in (
+      let is = settled_next c s frame g stands settled in (
         λ yes. record { settled = g; is_order = is; lawful = tells.0 yes },
-        λ x. tells.1 (subst (λ h. IsLawfulOrder h (join_flags b) order) (one b x.settled g x.is_order is) x.lawful),
+        λ x. tells.1 (rw (one _ x.settled g x.is_order is) at x.lawful),
       )
 
   -- ---- the frame
@@ -73,9 +68,9 @@ module _ {S : Type 0} (meaning : S → Meaning) where
       let settled : Log = (frame_in turns frame s).log in
       let own = is_frame_by meaning b s frame settled turns replies refl has refl in
       let alike = agree frame s _ settled lawful.settled order own lawful.is_order lawful.lawful in
-      let ran : HasLeft meaning (IsFrame frame s settled) s d =
-      frame_ran meaning b d s frame settled turns replies refl has stands.sound stays
-      (subst (LenderStands meaning d.lender) alike.0 lender) refl joins rules plan accesses in
+      let ran =
+      frame_ran meaning b d s frame settled turns replies refl has stands.sound stays (rw alike.0 at lender) refl joins
+      rules plan accesses in
       record {
         state = ran.state;
         leaves = record {
@@ -83,7 +78,7 @@ module _ {S : Type 0} (meaning : S → Meaning) where
           settled = settled;
           is_frame = ran.leaves;
           posts = ap (λ (l : Log). l.posts) told ∙ alike.1;
-          turns = subst (λ (l : Log). IsPermutation l.turns settled.turns) (sym told) alike.2;
+          turns = rw told alike.2;
           in_order = in_that_order frame order s log told;
         };
         stands = ran.stands;

@@ -1,5 +1,5 @@
 -- Posts one after the other.
-use Rattle.std.proofs.Common.{◌≡◌, ℕ, ℤ, ◌+◌, ◌<◌, List, [], ◌∷◌, ◌++◌, length, take, get_or, Result, Ok, Err, refl, sym, ap, subst, ◌∙◌}
+use Rattle.std.proofs.Common.{◌≡◌, ℕ, ℤ, ◌+◌, ◌<◌, List, [], ◌∷◌, ◌++◌, length, take, get_or, Result, Ok, Err, refl, ap}
 use Rattle.std.specs.Prelude.{OnErr}
 use Rattle.std.proofs.lemmas.List.{take_more}
 use Rattle.msg_buffer.specs.Prelude.{write}
@@ -39,10 +39,8 @@ pub one_post_more : (ps : List (ℕ × ℤ)) (k : ℕ) (p : ℕ × ℤ) (w : Wor
     → ((w : WorldState) → PartsStand old w → reply ≡ write_reply (numbers_for (w.histories p.0) 1))
     → HasPosted (take (k + 1) ps) w new (before ++ reply ∷ [])
 one_post_more ps k p w old new before reply lt is far state said =
-    let longer : take (k + 1) ps ≡ take k ps ++ p ∷ [] = take_more ps k p lt ∙ ap (λ x. take k ps ++ x ∷ []) (sym is) in
     let now : WorldState = after_posts (take k ps) w in
-    subst (λ xs. HasPosted xs w new (before ++ reply ∷ [])) (sym longer) (
-      subst (PartsStand new) (sym (posted_more (take k ps) p w)) (state now far.0),
-      ap (λ rs. rs ++ reply ∷ []) far.1 ∙ ap (λ r. post_replies (take k ps) w ++ r ∷ []) (said now far.0)
-          ∙ sym (replies_more (take k ps) p w),
+    rw (take_more ps k p lt, ← is) (
+      rw (posted_more (take k ps) p w) (state now far.0),
+      rw (replies_more (take k ps) p w, ← said now far.0, far.1),
     )

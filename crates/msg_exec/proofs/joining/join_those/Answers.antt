@@ -1,12 +1,9 @@
-use Rattle.std.proofs.Common.{◌≡◌, ℕ, ◌<◌, None, IfSome, length, sym, ap, subst, ◌∙◌, arith, refl}
+use Rattle.std.proofs.Common.{◌≡◌, ◌<◌, None, length, sym, ap, ◌∙◌, arith, refl}
 use Rattle.std.specs.Global.{Vec}
-use Rattle.std.specs.Prelude.{IsSomeAnd}
 use Rattle.std.specs.Vec.{with_items}
 use Rattle.std.proofs.lemmas.List.{get_or_default, length-set, with_items_is}
-use Rattle.msg_frames.specs.declared.totals.Totals.{Totals}
-use Rattle.msg_frames.specs.Prelude.{State, job_begun, totals_from}
-use Rattle.msg_exec.specs.Prelude.{TotalsStand, job_state, system_at, totals_at}
-use Rattle.msg_exec.specs.inner.Totals.{first_place}
+use Rattle.msg_frames.specs.Prelude.{State}
+use Rattle.msg_exec.specs.Prelude.{TotalsStand, system_at}
 use Rattle.msg_exec.proofs.SystemsJoin.{all_joined, counts_are, joined_below, one_joins, one_waits}
 use Rattle.msg_exec.proofs.ItemsOfLists.{taken_from}
 use Rattle.msg_exec.proofs.joining.join_those.Goals as goal
@@ -33,16 +30,12 @@ begin-requires-clause-few g c κs within =
     let i = c.loop-i.i in
     let now = c.loop-i.invariant.so_far s c.requires.stands.1.0 joins c.requires.stands.1.2 in
     let lt : i < s.systems = omega (arith, joins.as_many) in
-    let here = now.members i lt in
     let its =
-    taken_from (λ (v : Vec Totals). TotalsStand s.types v.items ((joined_below i c.args.frame s).members i).totals)
+    taken_from (λ (v : Vec _). TotalsStand s.types v.items ((joined_below i c.args.frame s).members i).totals)
     c.loop-i.lender.totals.items i _ c.index_mut-in-loop-i.result.now
-    lt now.totals c.index_mut-in-loop-i.ensures.value here.totals in
-    let types = c.requires.stands.1.0.types in
-    let few = c.counts-counts.ensures.few in
-    let same = ap length c.deref_mut.ensures.value in
-    let counted = c.counts-counts.ensures.types in
-    omega (arith, its.as_many, types, few, same, counted)
+    lt now.totals c.index_mut-in-loop-i.ensures.value (now.members i lt).totals in
+    rw (c.deref_mut.ensures.value, its.as_many)
+    (omega (arith, c.requires.stands.1.0.types, c.counts-counts.ensures.few, c.counts-counts.ensures.types))
 
 pub loop-i-preserved : goal.loop-i-preserved
 loop-i-preserved g c =
@@ -53,16 +46,13 @@ loop-i-preserved g c =
           let lt : i < s.systems = omega (arith, joins.as_many) in
           let now = inv.so_far s stands joins fresh in
           let its =
-          taken_from (λ (v : Vec Totals). TotalsStand s.types v.items
-          ((joined_below i c.args.frame s).members i).totals) c.loop-i.lender.totals.items i _
-          c.index_mut-in-loop-i.result.now
+          taken_from (λ (v : Vec _). TotalsStand s.types v.items ((joined_below i c.args.frame s).members i).totals)
+          c.loop-i.lender.totals.items i _ c.index_mut-in-loop-i.result.now
           lt now.totals c.index_mut-in-loop-i.ensures.value (now.members i lt).totals in
-          let size : length c.begin.new.totals
-          ≡ c.index_mut-in-loop-i.result.now.len =
-          omega (arith, c.begin.ensures.as_many, c.deref_mut.ensures.len) in
-          let w : Vec Totals = with_items c.index_mut-in-loop-i.result.now c.begin.new.totals in
+          let w = with_items c.index_mut-in-loop-i.result.now c.begin.new.totals in
           let read : w.items ≡ c.begin.new.totals =
-          with_items_is c.index_mut-in-loop-i.result.now c.begin.new.totals size in
+          with_items_is c.index_mut-in-loop-i.result.now c.begin.new.totals
+          (omega (arith, c.begin.ensures.as_many, c.deref_mut.ensures.len)) in
           let guarded : system_at c.loop-i.lender i ≡ c.index_mut.result.now =
           get_or_default c.loop-i.lender.systems.items i None c.index_mut.result.now (omega (arith, lt, now.systems))
           ∙ sym c.index_mut.ensures.value in
@@ -76,21 +66,8 @@ loop-i-preserved g c =
             accesses = refl;
             totals = refl;
             world = refl;
-            begun =
-                subst (λ o. IfSome o (λ a. IsSomeAnd c.begin.new.slot
-                (λ b. job_state g.S.System.meaning b
-                ≡ job_begun c.counts-counts.result (job_state g.S.System.meaning a))))
-                (sym guarded) c.begin.ensures.begun;
-            opened =
-                subst (λ o. IfSome o (λ a. (t : ℕ) → t < length w.items → totals_at w.items t
-                ≡ totals_from (first_place (g.S.System.meaning a.system) c.counts-counts.result t))) (sym guarded)
-                (subst (λ xs. IfSome c.index_mut.result.now
-                (λ a. (t : ℕ) → t < length xs → totals_at xs t
-                ≡ totals_from (first_place (g.S.System.meaning a.system) c.counts-counts.result t))) (sym read)
-                (subst (λ n. IfSome c.index_mut.result.now
-                (λ a. (t : ℕ) → t < n → totals_at c.begin.new.totals t
-                ≡ totals_from (first_place (g.S.System.meaning a.system) c.counts-counts.result t)))
-                (sym c.begin.ensures.as_many) c.begin.ensures.opened));
+            begun = rw guarded c.begin.ensures.begun;
+            opened = rw (guarded, read, c.begin.ensures.as_many) c.begin.ensures.opened;
           })
           now;
       systems = length-set c.loop-i.lender.systems.items i c.begin.new.slot ∙ inv.systems;

@@ -1,7 +1,7 @@
-use Rattle.std.proofs.Common.{refl, sym, ap, ◌∙◌, inr}
+use Rattle.std.proofs.Common.{◌∷◌, [], refl, sym, ap, ◌∙◌, arith, inr}
 use Rattle.std.proofs.lemmas.Bool.{false≢true}
 use Rattle.std.specs.Result.{is_ok}
-use Rattle.msg_exec.proofs.EngineRunsFrames.{core_taken, replayed, stood_for}
+use Rattle.msg_exec.proofs.EngineRunsFrames.{core_taken, stood_for}
 use Rattle.msg_exec.proofs.engine.EngineOf.replay_frame.Goals as goal
 
 pub returns-clause-replayed : goal.returns-clause-replayed
@@ -9,9 +9,15 @@ returns-clause-replayed g c s stands =
     let core =
     core_taken g.S.System.meaning c.args.self.now c.take.result c.in-Some.core s c.take.ensures.value
     c.in-Some.is stands in
-    replayed g.S.System.meaning c.args.self.now _ c.in-Ok-replay_one.core c.args.frame.now c.args.order.now s
-    c.in-Ok-replay_one.log stands.frames c.end_frame.ensures.core c.end_frame.ensures.counted
-    c.replays_tell_a_complete_run.ensures.law core.sound (c.in-Ok-replay_one.ensures.replayed s core stands.frames)
+    let ran = c.in-Ok-replay_one.ensures.replayed s core stands.frames in
+    record {
+      state = ran.state;
+      is_replay = ran.leaves;
+      tells = c.replays_tell_a_complete_run.ensures.law (c.args.frame.now ∷ []) s (c.in-Ok-replay_one.log ∷ []) _
+          core.sound (ran.state, inr (c.args.order.now, ran.leaves), refl);
+      stands =
+          record { core = rw c.end_frame.ensures.core ran.stands; frames = omega (arith, stands.frames, ran.frames) };
+    }
 
 pub returns-clause-engine : goal.returns-clause-engine
 returns-clause-engine g c =

@@ -1,5 +1,5 @@
-use Rattle.std.proofs.Common.{inr}
-use Rattle.msg_exec.proofs.EngineRunsFrames.{core_taken, frame_run, stood_for}
+use Rattle.std.proofs.Common.{◌∷◌, [], refl, inr, arith}
+use Rattle.msg_exec.proofs.EngineRunsFrames.{core_taken, stood_for}
 use Rattle.msg_exec.proofs.engine.EngineOf.run_frame.Goals as goal
 
 pub returns-clause-ran : goal.returns-clause-ran
@@ -7,9 +7,15 @@ returns-clause-ran g c s stands =
     let core =
     core_taken g.S.System.meaning c.args.self.now c.take.result c.in-Some.core s c.take.ensures.value
     c.in-Some.is stands in
-    frame_run g.S.System.meaning c.args.self.now _ c.in-Ok.core c.args.frame.now s c.in-Ok.log stands.frames
-    c.end_frame.ensures.core c.end_frame.ensures.counted c.runs_are_complete.ensures.law core.sound
-    (c.in-Ok.ensures.ran s core stands.frames)
+    let ran = c.in-Ok.ensures.ran s core stands.frames in
+    record {
+      state = ran.state;
+      is_frame = ran.leaves;
+      complete = c.runs_are_complete.ensures.law (c.args.frame.now ∷ []) s (c.in-Ok.log ∷ []) ran.state core.sound
+          (ran.state, ran.leaves, refl);
+      stands =
+          record { core = rw c.end_frame.ensures.core ran.stands; frames = omega (arith, stands.frames, ran.frames) };
+    }
 
 pub returns-clause-engine : goal.returns-clause-engine
 returns-clause-engine g c =
