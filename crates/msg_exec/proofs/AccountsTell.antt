@@ -4,10 +4,10 @@ use Rattle.std.specs.Prelude.{All, IfSome, IsSome, IsTrue, flat_map, unwrap_or, 
 use Rattle.std.specs.List.{filter, range_with_len}
 use Rattle.std.proofs.lemmas.Bool.{cases_Bool, false≢true}
 use Rattle.std.proofs.lemmas.List.{flat_map_more, map_push, get_or_default}
-use Rattle.std.proofs.lemmas.List.Elements.{All-append, All-filter, All-map, All-nil}
+use Rattle.std.proofs.lemmas.List.Elements.{Contains-get_or}
 use Rattle.std.proofs.lemmas.List.FromFn.{get_or-range_with_len, length-range_with_len}
 use Rattle.msg_buffer.specs.Prelude.{History, Kept, StandsFor as BufferStandsFor, count}
-use Rattle.msg_order.proofs.Elements.{filter_drops, filter_takes, range_more}
+use Rattle.msg_order.proofs.Elements.{filter-Contains, filter_drops, filter_takes, flat_map-Contains, map-Contains, range-Contains, range_more}
 use Rattle.msg_world.specs.declared.access.Access.{Access}
 use Rattle.msg_world.specs.declared.record.Record.{Record}
 use Rattle.msg_world.specs.Prelude.{OfType, reads, slot}
@@ -48,8 +48,7 @@ told s i t y begin first second place lt sound few is zeroth one two three = gri
 
 count_below : (o : Option (Kept Record)) (h : History Record) → IsSome o → IfSome o (λ k. BufferStandsFor k h)
     → IfSome o (λ k. (g : History Record) → BufferStandsFor k g → count g < 2 ^ 64) → count h < 2 ^ 64
-count_below (Some k) h some stands below = below h stands
-count_below None h some stands below = absurd (false≢true some)
+count_below o h some stands below = grind (arith, false≢true)
 
 module _ {S : Type 0} (meaning : S → Meaning) where
   -- a place is no further than the count, which is a `u64`
@@ -88,40 +87,11 @@ pub system_more : (s : State) (i : ℕ) (before after : List Account) → before
 system_more s i before after far added =
     rw (range_more i, ← flat_map_more (accounts_of_system s) [] (range_with_len 0 i) i) (cc)
 
-module _ {S : Type 0} (meaning : S → Meaning) where
-  -- the access tells who reads
-  pub reader_is : (s : State) (i t : ℕ) (x : GuardedSystem S) (a : Access) → job_state meaning x ≡ (s.members i).job
-      → IsAccessOf (meaning x.system).needs a
-      → reads a (OfType t) ≡ is_reader s i t
-  reader_is s i t x a job of = of.reads (OfType t) ∙ ap (λ (j : Job). j.system.needs.reads (OfType t)) job
-
--- its numbers are those of the reader
-pub reader_told : (s : State) (i t j u : ℕ) (y : Totals) (a : Account) → t < s.types → j ≡ i → u ≡ t → y
-    ≡ kept ((s.members i).totals t)
-    → (u < s.types → y ≡ kept ((s.members j).totals u) → a ≡ account_of s j u) → a ≡ account_of s i t
-reader_told s i t j u y a lt system type is tells = grind arith
-
 -- ---- all of them add up
 
-below_end : (n : ℕ) → All (λ k. k < n) (range_with_len 0 n)
-below_end n k d lt = grind (arith, get_or-range_with_len, length-range_with_len)
-
-all_of_each : {X Y : Type 0} (P : Y → Type 0) (f : X → List Y) (xs : List X) → ((x : X) → All P (f x))
-    → All P (flat_map f xs)
-all_of_each P f [] each = All-nil P
-all_of_each P f (x ∷ xs) each = All-append P (f x) (flat_map f xs) (each x) (all_of_each P f xs each)
-
 pub all_add_up : (s : State) → IsSoundState s → All AddsUp (accounts_of s)
-all_add_up s sound = all_of_each AddsUp (accounts_of_system s) (range_with_len 0 s.systems) (λ i.
-    All-map AddsUp (account_of s i) (filter (is_reader s i) (range_with_len 0 s.types))
-    (All-filter (is_reader s i) (λ t. AddsUp (account_of s i t)) (range_with_len 0 s.types)
-    (λ k d lt. adds_up s i _ (below_end s.types k d lt) sound)))
-
--- the guarded that was read stands for the member's job
-pub taken_system : {S : Type 0} (meaning : S → Meaning) (g : Lender S) (i n : ℕ) (x r : Option (GuardedSystem S))
-    (a : GuardedSystem S) (j : Job)
-    → i < n → length g.systems.items ≡ n → x ≡ get_or g.systems.items i x → r ≡ x → r ≡ Some a
-    → IsSomeAnd (system_at g i) (λ b. job_state meaning b ≡ j) → job_state meaning a ≡ j
-taken_system meaning g i n x r a j lt size is found some there =
-    subst (λ y. IsSomeAnd y (λ b. job_state meaning b ≡ j))
-    (get_or_default g.systems.items i None x (omega (arith, lt, size)) ∙ sym is ∙ sym found ∙ some) there
+all_add_up s sound k d lt =
+    let i = flat_map-Contains (accounts_of_system s) (range_with_len 0 s.systems) _ (Contains-get_or (accounts_of s) k d lt) in
+    let t = map-Contains (account_of s i.0) _ _ i.1.1 in
+    let below = range-Contains 0 s.types t.0 (filter-Contains (is_reader s i.0) _ _ t.1.0).0 in
+    subst AddsUp t.1.1 (adds_up s i.0 t.0 (omega (arith, below.1)) sound)

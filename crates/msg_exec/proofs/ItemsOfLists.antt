@@ -28,12 +28,6 @@ read_is xs i r x lt is there = is ∙ get_or_from_slice_get xs i x r there
 pub read_or : {X : Type 0} (xs : List X) (i : ℕ) (d r : X) → i < length xs → r ≡ get_or xs i r → get_or xs i d ≡ r
 read_or xs i d r lt is = sym (get_or_read xs i r lt is d)
 
--- what holds of the item that is there holds of the one that was read
-pub taken_from : {X : Type 0} (P : X → Type 0) (xs : List X) (i n : ℕ) (x : X) → i < n → length xs ≡ n → x
-    ≡ get_or xs i x
-    → IsSomeAnd (slice_get xs i) P → P x
-taken_from P xs i n x lt size is there = rw (slice_get_read xs n i x (sym size) lt is) at there
-
 -- ---- a list with one item set
 
 pub get_other : {X : Type 0} (xs : List X) (i k : ℕ) (x : X) → k ≢ i → slice_get (set xs i x) k ≡ slice_get xs k

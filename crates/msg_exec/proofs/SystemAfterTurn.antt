@@ -1,5 +1,7 @@
 -- What a system's turn leaves of it: its conditions, its place on the lender, and its totals.
-use Rattle.std.proofs.Common.{◌≡◌, ◌≢◌, zero, suc, Option, Some, None, append-nil, length-append, ℕ, ◌<◌, ◌≤◌, List, [], ◌∷◌, length, map, refl, ap, ◌∙◌, arith}
+use Rattle.std.proofs.Common.{sym, get_or, ◌≡◌, ◌≢◌, zero, suc, Option, Some, None, append-nil, length-append, ℕ, ◌<◌, ◌≤◌, List, [], ◌∷◌, length, map, refl, ap, ◌∙◌, arith}
+use Rattle.std.specs.Global.{Vec}
+use Rattle.std.proofs.lemmas.Option.{slice_get_read}
 use Rattle.std.specs.Prelude.{IsSome, slice_get}
 use Rattle.std.proofs.lemmas.Bool.{cases_Bool, eq-eqb, ne_eqb}
 use Rattle.msg_world.specs.Prelude.{Has, Part, Parts, SameShape, WorldState, slot}
@@ -8,8 +10,8 @@ use Rattle.msg_system.specs.Prelude.{AfterProgram, Asked, Job as JobState, Meani
 use Rattle.msg_system.specs.declared.reply.Reply.{Reply}
 use Rattle.msg_frames.specs.declared.log.Outcome.{Outcome}
 use Rattle.msg_frames.specs.declared.totals.Totals.{Totals}
-use Rattle.msg_frames.specs.Prelude.{Member, member_turn, outcome_entries, outcome_of, with_entries, with_member}
-use Rattle.msg_exec.specs.Prelude.{Lender, MemberStands, TotalsStand, kept, system_at, totals_at}
+use Rattle.msg_frames.specs.Prelude.{Member, State, member_turn, outcome_entries, outcome_of, with_entries, with_member}
+use Rattle.msg_exec.specs.Prelude.{Lender, LenderStands, MemberStands, TotalsStand, kept, system_at, totals_at}
 use Rattle.msg_exec.specs.inner.Totals.{HasFewReplies, entries_by}
 
 -- ---- a job doesn't change its conditions
@@ -69,6 +71,12 @@ module _ {S : Type 0} (meaning : S → Meaning) where
       → slice_get h.totals.items k ≡ slice_get g.totals.items k → SameShape g.world h.world
       → MemberStands meaning g types k m → MemberStands meaning h types k m
   member_stays g h types k m guarded accesses totals shape stands = grind (arith, still_there)
+
+  -- the totals of a system, as they are read
+  pub totals_there : (g : Lender S) (s : State) (i : ℕ) (v : Vec Totals) → i < s.systems → v ≡ get_or g.totals.items i v
+      → LenderStands meaning g s → TotalsStand s.types v.items (s.members i).totals
+  totals_there g s i v lt is stands =
+      rw (slice_get_read g.totals.items s.systems i v (sym stands.totals) lt is) at (stands.members i lt).totals
 
 -- ---- the totals after a turn
 

@@ -19,12 +19,12 @@ use Rattle.msg_exec.proofs.SystemAfterTurn.{member_stays}
 use Rattle.msg_exec.proofs.ItemsOfLists.{get_other, get_same, some_of}
 
 -- those of the first n systems that join with a frame have joined
-abbrev pub joins_below : ℕ → ℕ → State → ℕ → Bool
-joins_below n frame s j = nat_lt j n && ((s.members j).join == frame)
-
 abbrev pub joined_below : ℕ → ℕ → State → State
 joined_below n frame s =
-    record s { members = λ j. if joins_below n frame s j then joined_member (counts s) (s.members j) else s.members j }
+    record s {
+      members = λ j. if nat_lt j n && ((s.members j).join == frame) then joined_member (counts s) (s.members j)
+          else s.members j;
+    }
 
 not_yet : (s : State) (i frame : ℕ) → (joined_below i frame s).members i ≡ s.members i
 not_yet s i frame = rw (le-ltb i i (omega arith))
@@ -46,9 +46,6 @@ conditions_start : (start : Start) (cs : List ℕ) (asked : List Asked)
 conditions_start start cs [] = refl
 conditions_start start cs (a ∷ asked) = ap (λ rest. a.condition ∷ rest) (conditions_start start cs asked)
 
-same_shape : (w : Parts) → SameShape w w
-same_shape w = record { size = record { types = refl; resources = refl }; there = λ p. refl }
-
 module _ {S : Type 0} (meaning : S → Meaning) where
   -- only the members that there are count
   pub members_alike : (g : Lender S) (s : State) (f : ℕ → Member) → ((i : ℕ) → i < s.systems → f i ≡ s.members i)
@@ -67,35 +64,29 @@ module _ {S : Type 0} (meaning : S → Meaning) where
     pub opened : IfSome (system_at g i)
         (λ a. (t : ℕ) → t < length v.items → totals_at v.items t ≡ totals_from (first_place (meaning a.system) cs t))
 
-  begun_stands : (g h : Lender S) (types i : ℕ) (cs : List ℕ) (x : Option (GuardedSystem S)) (v : Vec Totals)
-      (m : Member) → i < length g.systems.items → i < length g.totals.items → length v.items ≡ types
-      → ((t : ℕ) → m.job.system.places t ≡ 0) → HasBegun g h i cs x v → MemberStands meaning g types i m
-      → MemberStands meaning h types i (joined_member cs m)
-  begun_stands g h types i cs x v m lt lv many fresh has stands =
-      let a = some_of (system_at g i) stands.guarded in
-      let b = some_of x (rw a.1.0 at has.begun) in
-      let opened = rw a.1.0 at has.opened in
-      record {
-        guarded = rw (has.systems, get_or-set_same g.systems.items i x None lt, b.1.0)
-            (b.1.1 ∙ ap (job_begun cs) a.1.1);
-        access = rw (has.accesses, conditions_start m.job.system.start cs m.job.conditions) stands.access;
-        home = λ p used. rw has.world (stands.home p (rw has.accesses at used));
-        totals = rw (has.totals, get_same g.totals.items i v lv) (record {
-          as_many = many;
-          each = λ t below. opened t (rw many below)
-              ∙ ap (λ (j : JobState). totals_from (first_place j.system cs t)) a.1.1 ∙ rw (fresh t) refl;
-        });
-      }
-
   -- one system more has joined
   pub one_joins : (g h : Lender S) (s : State) (i frame : ℕ) (cs : List ℕ) (x : Option (GuardedSystem S))
       (v : Vec Totals) → i < s.systems → (s.members i).join ≡ frame → HaveReadNothing frame s
       → cs ≡ counts s → length v.items ≡ s.types → HasBegun g h i cs x v
       → LenderStands meaning g (joined_below i frame s) → LenderStands meaning h (joined_below (i + 1) frame s)
   one_joins g h s i frame cs x v lt joins fresh same many has stands =
+      let m : Member = s.members i in
       let here = rw (not_yet s i frame) at (stands.members i lt) in
-      let its = begun_stands g h s.types i cs x v (s.members i) (omega (arith, lt, stands.systems))
-      (omega (arith, lt, stands.totals)) many (λ t. fresh i t joins) has here in
+      let a = some_of (system_at g i) here.guarded in
+      let b = some_of x (rw a.1.0 at has.begun) in
+      let opened = rw a.1.0 at has.opened in
+      let its : MemberStands meaning h s.types i (joined_member cs m) =
+      record {
+        guarded = rw (has.systems, get_or-set_same g.systems.items i x None (omega (arith, lt, stands.systems)), b.1.0)
+            (b.1.1 ∙ ap (job_begun cs) a.1.1);
+        access = rw (has.accesses, conditions_start m.job.system.start cs m.job.conditions) here.access;
+        home = λ p used. rw has.world (here.home p (rw has.accesses at used));
+        totals = rw (has.totals, get_same g.totals.items i v (omega (arith, lt, stands.totals))) (record {
+          as_many = many;
+          each = λ t below. opened t (rw many below)
+              ∙ ap (λ (j : JobState). totals_from (first_place j.system cs t)) a.1.1 ∙ rw (fresh i t joins) refl;
+        });
+      } in
       record {
         systems = rw (has.systems, length-set) stands.systems;
         accesses = rw has.accesses stands.accesses;
@@ -105,7 +96,8 @@ module _ {S : Type 0} (meaning : S → Meaning) where
           | inr other ↦ rw (still s i j frame other)
               (member_stays meaning g h s.types j ((joined_below i frame s).members j)
               (rw (has.systems, get_or-set_other g.systems.items i j x None other) refl) has.accesses
-              (rw (has.totals, get_other g.totals.items i j v other) refl) (rw has.world (same_shape g.world))
+              (rw (has.totals, get_other g.totals.items i j v other) refl)
+              (rw has.world (record { size = record { types = refl; resources = refl }; there = λ p. refl }))
               (stands.members j below))
         ];
         world = rw has.world stands.world;

@@ -1,10 +1,12 @@
-use Rattle.std.proofs.Common.{◌≡◌, ◌<◌, None, sym, ◌∙◌, arith}
+use Rattle.std.proofs.Common.{◌≡◌, ◌<◌, None, ap, sym, ◌∙◌, arith}
 use Rattle.std.specs.Global.{Vec}
 use Rattle.std.proofs.lemmas.List.{get_or_default}
+use Rattle.msg_world.specs.Prelude.{OfType}
+use Rattle.msg_system.specs.Prelude.{Job}
 use Rattle.msg_frames.specs.Prelude.{is_reader, no_totals}
 use Rattle.msg_exec.specs.Prelude.{TotalsStand}
-use Rattle.msg_exec.proofs.ItemsOfLists.{taken_from}
-use Rattle.msg_exec.proofs.AccountsTell.{no_reader_more, reader_is, reader_more, reader_told}
+use Rattle.msg_exec.proofs.SystemAfterTurn.{totals_there}
+use Rattle.msg_exec.proofs.AccountsTell.{no_reader_more, reader_more}
 use Rattle.msg_exec.proofs.accounts.add_accounts.Goals as goal
 use Rattle.msg_exec.proofs.accounts.add_accounts.Goals.{then-reads_type+in_ok-push, else-reads_type}
 
@@ -21,24 +23,19 @@ loop-t-preserved g c = record {
       let read = get_or_default core.lender.systems.items i None c.index.result.now (omega (arith, lt, lender.systems)) in
       let job = rw (read, ← c.index.ensures, c.in-Some-Some.is-0) at here.guarded in
       let reader : c.reads_type.result ≡ is_reader s i t = c.reads_type.ensures.read
-      ∙ rw c.in-Some-Some-2.ensures.value
-      (reader_is g.S.System.meaning s i t c.in-Some-Some.guarded c.access-access.result job
-      c.access-access.ensures.needs) in
+      ∙ rw c.in-Some-Some-2.ensures.value (c.access-access.ensures.needs.reads (OfType t))
+      ∙ ap (λ (j : Job). j.system.needs.reads (OfType t)) job in
       let far = c.loop-t.invariant.so_far s stands in
       elim c.if-reads_type.branch [
         | then-reads_type+in_ok-push w ↦
             (let its =
-            taken_from (λ (v : Vec _). TotalsStand s.types v.items (s.members i).totals)
-            core.lender.totals.items i s.systems c.in-Some-Some.totals.now lt lender.totals
-            (rw c.deref.ensures.value at c.in-Some-Some.ensures.lookup.1)
-            here.totals in
+            totals_there g.S.System.meaning core.lender s i c.in-Some-Some.totals.now lt
+            (rw c.deref.ensures.value at c.in-Some-Some.ensures.lookup.1) lender in
             let is = rw c.deref-in-loop-t.ensures.value at (c.in-Some-Some-2.ensures'.lookup.3.1 no_totals)
             ∙ its.each t within in
             reader_more s i t c.args.accounts.now.items c.loop-t.accounts.items c.if-reads_type.accounts.items
             w.account.result (sym reader ∙ w.if-reads_type.true)
-            (reader_told s i t c.in-Ok.system c.in-Some-Some-2.of_type c.in-Some-Some-2.of_it.now w.account.result
-            within c.in-Ok.ensures.1 c.in-Some-Some-2.ensures.value is
-            (w.account.ensures.account s stands))
+            ((rw (c.in-Ok.ensures.1, c.in-Some-Some-2.ensures.value) at (w.account.ensures.account s stands)) within is)
             far (rw w.accounts-is w.in_ok-push.ensures.items))
         | else-reads_type w ↦ rw w.accounts-is
             (no_reader_more s i t c.args.accounts.now.items c.loop-t.accounts.items

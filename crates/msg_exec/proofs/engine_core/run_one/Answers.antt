@@ -19,11 +19,6 @@ run_batches-requires-clause-stands g c κs within =
       ),
     )
 
-pub run_batches-requires-clause-few : goal.run_batches-requires-clause-few
-run_batches-requires-clause-few g c κs within =
-    let has = c.in_ok-core.ensures.opened c.requires.stands.0 c.requires.stands.1.0 c.requires.stands.1.1 in
-    omega (arith, has.lender.accesses, has.schedule.few)
-
 pub run_batches-requires-clause-once : goal.run_batches-requires-clause-once
 run_batches-requires-clause-once g c κs within =
     let has = c.in_ok-core.ensures.opened c.requires.stands.0 c.requires.stands.1.0 c.requires.stands.1.1 in

@@ -5,7 +5,7 @@ use Rattle.std.proofs.lemmas.List.{get_or_default, length-set, with_items_is}
 use Rattle.msg_frames.specs.Prelude.{State}
 use Rattle.msg_exec.specs.Prelude.{TotalsStand, system_at}
 use Rattle.msg_exec.proofs.SystemsJoin.{all_joined, counts_are, joined_below, one_joins, one_waits}
-use Rattle.msg_exec.proofs.ItemsOfLists.{taken_from}
+use Rattle.msg_exec.proofs.SystemAfterTurn.{totals_there}
 use Rattle.msg_exec.proofs.joining.join_those.Goals as goal
 
 pub loop-i-preserved-then-joins-i : goal.loop-i-preserved-then-joins-i
@@ -31,9 +31,8 @@ begin-requires-clause-few g c κs within =
     let now = c.loop-i.invariant.so_far s c.requires.stands.1.0 joins c.requires.stands.1.2 in
     let lt : i < s.systems = omega (arith, joins.as_many) in
     let its =
-    taken_from (λ (v : Vec _). TotalsStand s.types v.items ((joined_below i c.args.frame s).members i).totals)
-    c.loop-i.lender.totals.items i _ c.index_mut-in-loop-i.result.now
-    lt now.totals c.index_mut-in-loop-i.ensures.value (now.members i lt).totals in
+    totals_there g.S.System.meaning c.loop-i.lender (joined_below i c.args.frame s) i c.index_mut-in-loop-i.result.now lt
+    c.index_mut-in-loop-i.ensures.value now in
     rw (c.deref_mut.ensures.value, its.as_many)
     (omega (arith, c.requires.stands.1.0.types, c.counts-counts.ensures.few, c.counts-counts.ensures.types))
 
@@ -46,9 +45,8 @@ loop-i-preserved g c =
           let lt : i < s.systems = omega (arith, joins.as_many) in
           let now = inv.so_far s stands joins fresh in
           let its =
-          taken_from (λ (v : Vec _). TotalsStand s.types v.items ((joined_below i c.args.frame s).members i).totals)
-          c.loop-i.lender.totals.items i _ c.index_mut-in-loop-i.result.now
-          lt now.totals c.index_mut-in-loop-i.ensures.value (now.members i lt).totals in
+          totals_there g.S.System.meaning c.loop-i.lender (joined_below i c.args.frame s) i
+          c.index_mut-in-loop-i.result.now lt c.index_mut-in-loop-i.ensures.value now in
           let w = with_items c.index_mut-in-loop-i.result.now c.begin.new.totals in
           let read : w.items ≡ c.begin.new.totals =
           with_items_is c.index_mut-in-loop-i.result.now c.begin.new.totals
