@@ -1,19 +1,17 @@
 -- Accounts tell what readers were given, and the numbers in them are exact.
-use Rattle.std.proofs.Common.{◌≡◌, ℕ, ◌+◌, ◌^◌, ◌<◌, false, List, [], ◌∷◌, ◌++◌, map, append_assoc, Option, Some, None, refl, sym, ap, ◌∙◌, arith, length, get_or, subst}
-use Rattle.std.specs.Prelude.{All, IfSome, IsSome, IsTrue, flat_map, unwrap_or, IsSomeAnd}
+use Rattle.std.proofs.Common.{◌≡◌, ℕ, ◌+◌, ◌^◌, ◌<◌, false, List, [], ◌∷◌, ◌++◌, map, append_assoc, Option, refl, arith, subst}
+use Rattle.std.specs.Prelude.{All, IfSome, IsSome, IsTrue, flat_map, unwrap_or}
 use Rattle.std.specs.List.{filter, range_with_len}
 use Rattle.std.proofs.lemmas.Bool.{cases_Bool, false≢true}
-use Rattle.std.proofs.lemmas.List.{flat_map_more, map_push, get_or_default}
+use Rattle.std.proofs.lemmas.List.{flat_map_more, map_push}
 use Rattle.std.proofs.lemmas.List.Elements.{Contains-get_or}
-use Rattle.std.proofs.lemmas.List.FromFn.{get_or-range_with_len, length-range_with_len}
 use Rattle.msg_buffer.specs.Prelude.{History, Kept, StandsFor as BufferStandsFor, count}
 use Rattle.msg_order.proofs.Elements.{filter-Contains, filter_drops, filter_takes, flat_map-Contains, map-Contains, range-Contains, range_more}
-use Rattle.msg_world.specs.declared.access.Access.{Access}
 use Rattle.msg_world.specs.declared.record.Record.{Record}
-use Rattle.msg_world.specs.Prelude.{OfType, reads, slot}
-use Rattle.msg_system.specs.Prelude.{IsAccessOf, Job, Meaning}
+use Rattle.msg_world.specs.Prelude.{OfType, slot}
+use Rattle.msg_system.specs.Prelude.{Meaning}
 use Rattle.msg_frames.specs.declared.account.Account.{Account}
-use Rattle.msg_exec.specs.Prelude.{Core, CoreStands, GuardedSystem, Lender, job_state, kept, system_at, within_u64}
+use Rattle.msg_exec.specs.Prelude.{Core, CoreStands, kept, within_u64}
 use Rattle.msg_frames.specs.declared.totals.Totals.{Totals}
 use Rattle.msg_frames.specs.Prelude.{AddsUp, IsSoundState, State, account_of, accounts_of, accounts_of_system, is_reader, place_of}
 
@@ -91,7 +89,7 @@ system_more s i before after far added =
 
 pub all_add_up : (s : State) → IsSoundState s → All AddsUp (accounts_of s)
 all_add_up s sound k d lt =
-    let i = flat_map-Contains (accounts_of_system s) (range_with_len 0 s.systems) _ (Contains-get_or (accounts_of s) k d lt) in
+    let i = flat_map-Contains (accounts_of_system s) _ _ (Contains-get_or (accounts_of s) k d lt) in
     let t = map-Contains (account_of s i.0) _ _ i.1.1 in
     let below = range-Contains 0 s.types t.0 (filter-Contains (is_reader s i.0) _ _ t.1.0).0 in
     subst AddsUp t.1.1 (adds_up s i.0 t.0 (omega (arith, below.1)) sound)

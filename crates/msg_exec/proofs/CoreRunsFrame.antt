@@ -1,24 +1,22 @@
 -- A frame begins, takes its turns, and leaves a core that stands for the state after it.
-use Rattle.std.proofs.Common.{◌≡◌, ◌≢◌, ◌⊎◌, ℕ, suc, ◌<◌, ◌==◌, false, List, [], map, get_or, max, refl, sym, ap, ◌∙◌, arith, inl, inr}
-use Rattle.std.specs.Prelude.{All, nat_le}
-use Rattle.std.specs.Global.{Vec}
+use Rattle.std.proofs.Common.{◌≡◌, ◌≢◌, ◌⊎◌, ℕ, suc, ◌<◌, Bool, false, List, map, max, sym, ap, ◌∙◌, arith}
+use Rattle.std.specs.Prelude.{IsTrue, ◌↔◌, nat_le}
 use Rattle.std.specs.List.{concat}
 use Rattle.std.proofs.lemmas.Bool.{cases_Bool, eqb-false, lt-leb, ne_eqb}
 use Rattle.std.proofs.lemmas.Bool.Decides.{nat_tests}
 use Rattle.std.proofs.lemmas.List.FromFn.{fill_by_all, get_or-map-range_with_len, length-map-range_with_len}
-use Rattle.msg_world.specs.Prelude.{Parts, PartsStand, SameShape, WorldState, after_update}
-use Rattle.msg_order.specs.Prelude.{AreBatches, Graph, IsPlanOf, PlanView}
+use Rattle.msg_world.specs.Prelude.{Parts, PartsStand, SameShape, WorldState}
+use Rattle.msg_order.specs.Prelude.{IsLawfulOrder, IsSettledOrder, Graph}
 use Rattle.msg_system.specs.declared.reply.Reply.{Reply}
 use Rattle.msg_system.specs.Prelude.{Meaning}
 use Rattle.msg_exec.specs.Prelude.{AreJoins, Core, CoreStands, Lender, LenderStands, Schedule}
 use Rattle.msg_frames.specs.declared.frame.Frame.{Frame}
 use Rattle.msg_frames.specs.declared.log.Log.{Log}
-use Rattle.msg_exec.specs.inner.FrameSteps.{HasBegunFrame, HasLeft, HasOpened, NobodyJoins, PlansNext, counted}
-use Rattle.msg_frames.specs.Prelude.{FrameStaysSound, IsFrame, IsSoundState, SameSystems, State, after_posts, after_turns_of, before_turns, frame_in, has_begun, join_flags, joining, post_replies, with_joining}
+use Rattle.msg_exec.specs.inner.FrameSteps.{HasLeft, HasOpened, NobodyJoins, counted}
+use Rattle.msg_frames.specs.Prelude.{IsLawfulFor, IsOrderOf, SystemsHaveOneOrder, FrameStaysSound, IsFrame, IsSoundState, SameSystems, State, after_turns_of, before_turns, frame_in, has_begun, join_flags, joining}
 use Rattle.msg_exec.specs.inner.Lending.{HaveReadNothing}
 use Rattle.msg_exec.proofs.SystemsJoin.{members_alike}
-use Rattle.msg_frames.proofs.SystemsStay.{joined_below, joined_stay, joining_keeps, joining_makes_no_frame, joining_world, no_cycle_stays, turns_keep_systems, turns_make_no_frame}
-use Rattle.std.proofs.lemmas.List.Elements.{Contains-get_or}
+use Rattle.msg_frames.proofs.SystemsStay.{accesses_stay, before_keeps, joined_stay, joining_keeps, joining_makes_no_frame, no_cycle_stays, turns_keep_systems, turns_make_no_frame}
 use Rattle.std.proofs.lemmas.List.{get_or-map, length-map}
 use Rattle.msg_frames.proofs.FramesInOrder.{frame_in_order}
 use Rattle.msg_exec.proofs.SystemAfterTurn.{member_stays, still_has, still_there}
@@ -65,91 +63,23 @@ nobody_more s none =
 
 -- ---- the frame begins
 
-unchanged : {S : Type 0} (meaning : S → Meaning) (g : Lender S) (s : State) → NobodyJoins s → LenderStands meaning g s
+pub unchanged : {S : Type 0} (meaning : S → Meaning) (g : Lender S) (s : State) → NobodyJoins s → LenderStands meaning g s
     → LenderStands meaning g (joining s)
-unchanged meaning g s none stands = elim (cases_Bool (s.frames == 0)) [
-  | inl first ↦ rw first stands
-  | inr later ↦ rw later (members_alike meaning g s (with_joining (suc s.frames) s).members (λ i lt. elim (none i lt) [
-    | inl waits ↦ rw (ne_eqb (s.members i).join (suc s.frames) waits) refl
-    | inr first ↦ absurd (eqb-false s.frames 0 later first)
-  ]) stands)
-]
-
-pub none_begins : {S : Type 0} (meaning : S → Meaning) (c : Core S) (s : State) → CoreStands meaning c s → NobodyJoins s
-    → HasBegunFrame meaning c s
-none_begins meaning c s stands none = record {
-  lender = unchanged meaning c.lender s none stands.lender;
-  schedule = schedule_along c c s (joining s) refl refl (joining_keeps s) stands.schedule;
-  plan = rw ((joining_keeps s).rules, nobody_more s none) stands.plan;
-}
+unchanged meaning g s none stands = grind (arith, cases_Bool, eqb-false, members_alike, ne_eqb)
 
 -- those that are about to join were given nothing
 pub about_to_join : (s : State) → IsSoundState s → 0 < s.frames → HaveReadNothing (suc s.frames) s
 about_to_join s sound some i t joins =
     (sound.waiting i t (rw joins (lt-leb (suc s.frames) (max 1 s.frames) (omega (arith, some))))).0
 
--- the plan of those that will have joined by the next frame
-pub plan_next : {S : Type 0} (c : Core S) (s : State) (next : ℕ) (plan : PlanView) → Schedule c s → next ≡ suc s.frames
-    → IsPlanOf c.lender.accesses.items c.rules.items (map (λ j. nat_le j next) c.joins.items) plan → PlansNext c s plan
-plan_next c s next plan has is plans =
-    let now : State = counted (joining s) in
-    let later : Schedule c now = schedule_along c c s now refl refl (grind (arith, joining_keeps)) has in
-    let flags = joined_by_frame c.joins.items now next later.joins (omega (arith, is, joining_makes_no_frame s)) in
-    rw (has.rules, flags) at plans
-
--- those that join with it do so
-pub those_begin : {S : Type 0} (meaning : S → Meaning) (c d : Core S) (s : State) (next : ℕ) → CoreStands meaning c s
-    → 0 < s.frames → next ≡ suc s.frames
-    → LenderStands meaning d.lender (with_joining next s) → d.joins ≡ c.joins → d.rules ≡ c.rules → d.lender.accesses
-    ≡ c.lender.accesses → PlansNext c s d.plan → HasBegunFrame meaning d s
-those_begin meaning c d s next stands some is lender joins rules accesses plan =
-    record {
-      lender = rw (ne_eqb s.frames 0 (λ none. absurd (omega (arith, some, none))), ← is) lender;
-      schedule = schedule_along c d s (joining s) joins rules (joining_keeps s) stands.schedule;
-      plan = rw ((joining_keeps s).rules, accesses) plan;
-    }
-
 -- ---- the frame opens, and its turns are taken
 
 module _ {S : Type 0} (meaning : S → Meaning) where
   -- another world of the same parts
-  world_stands : (g : Lender S) (s : State) (parts : Parts) (w : WorldState) (frames : ℕ) → LenderStands meaning g s
+  pub world_stands : (g : Lender S) (s : State) (parts : Parts) (w : WorldState) (frames : ℕ) → LenderStands meaning g s
       → SameShape g.world parts → PartsStand parts w
       → LenderStands meaning (record g { world = parts }) (record s { world = w; frames = frames })
-  world_stands g s parts w frames stands shape is = record {
-    systems = stands.systems;
-    accesses = stands.accesses;
-    totals = stands.totals;
-    members = λ i lt. member_stays meaning g (record g { world = parts }) s.types i (s.members i) refl refl refl shape
-        (stands.members i lt);
-    world = is;
-    whole = λ p has. still_there g.world parts p shape (stands.whole p (still_has g.world parts p shape has));
-    types = shape.size.types ∙ stands.types;
-  }
-
-  -- each system of a batch is one of those that there are
-  pub batches_below : (batches : List (Vec ℕ)) (u : State) (order : Graph)
-      → AreBatches order (join_flags u) (map (λ b. b.items) batches)
-      → All (λ (batch : Vec ℕ). All (λ i. i < u.systems) batch.items) batches
-  batches_below batches u order classes k d lt j e below =
-      let i = get_or (get_or batches k d).items j e in
-      joined_below u i ((classes.of_number k i).0
-      (rw (get_or-map (λ (b : Vec ℕ). b.items) batches k d [] lt) (Contains-get_or _ j e below))).0
-
-  -- the updates and the posts leave the rest of the core
-  pub opened : (b d : Core S) (s : State) (frame : Frame) (replies : List Reply) → HasBegunFrame meaning b s
-      → SameShape b.lender.world d.lender.world
-      → PartsStand d.lender.world (after_posts frame.posts (after_update (joining s).world)) → replies
-      ≡ post_replies frame.posts (after_update (joining s).world)
-      → d ≡ record b { lender = record b.lender { world = d.lender.world } } → HasOpened meaning frame s d replies
-  opened b d s frame replies has shape world posts only =
-      rw only (record {
-        lender = world_stands b.lender (joining s) d.lender.world _ (suc (joining s).frames) has.lender shape world;
-        schedule = schedule_along b (record b { lender = record b.lender { world = d.lender.world } }) (joining s)
-            (before_turns frame.posts s) refl refl (grind arith) has.schedule;
-        plan = has.plan;
-        posts = rw joining_world at posts;
-      })
+  world_stands g s parts w frames stands shape is = grind (arith, member_stays, still_has, still_there)
 
   -- one turn after the other, batch by batch, is a frame
   pub is_frame_by : (b : Core S) (s : State) (frame : Frame) (log : Log) (order : List ℕ) (replies : List Reply) → order
@@ -190,3 +120,25 @@ module _ {S : Type 0} (meaning : S → Meaning) where
         };
         frames = turns_make_no_frame order bt ∙ ap suc (joining_makes_no_frame s);
       }
+
+  -- ---- which orders are lawful
+
+  -- what the plan of those that will have joined accepts is what is lawful
+  pub accepted : (accepts : Bool) (c : Core S) (s : State) (frame : Frame) (order : List ℕ) (g : Graph)
+      → SystemsHaveOneOrder → CoreStands meaning c s
+      → IsSettledOrder c.lender.accesses.items s.rules (join_flags (counted (joining s))) g
+      → (IsTrue accepts ↔ IsLawfulOrder g (join_flags (counted (joining s))) order) → IsTrue accepts
+      ↔ IsLawfulFor frame s order
+  accepted accepts c s frame order g one stands settled tells =
+      let b : State = before_turns frame.posts s in
+      let same = before_keeps frame.posts s in
+      let is : IsOrderOf b g = record {
+        accesses = c.lender.accesses.items;
+        of_systems =
+            accesses_stay s b c.lender.accesses.items same
+            (record { each = stands.lender.accesses; of_needs = λ i lt. (stands.lender.members i lt).access });
+        is_settled = rw same.rules settled;
+      } in (
+        λ yes. record { settled = g; is_order = is; lawful = tells.0 yes },
+        λ x. tells.1 (rw (one b x.settled g x.is_order is) at x.lawful),
+      )

@@ -1,18 +1,14 @@
 -- Systems join one after the other.
-use Rattle.std.proofs.Common.{◌≡◌, ◌≢◌, ℕ, ◌+◌, ◌<◌, ◌≤◌, ◌==◌, ◌&&◌, Bool, List, [], ◌∷◌, length, map, Option, Some, None, refl, ap, ◌∙◌, arith, inl, inr}
-use Rattle.std.specs.Prelude.{IfSome, IsSomeAnd, nat_lt, slice_get, slice_set, if◌then◌else◌}
+use Rattle.std.proofs.Common.{◌≡◌, ◌≢◌, ℕ, ◌+◌, ◌<◌, ◌==◌, ◌&&◌, List, [], ◌∷◌, length, map, Option, None, refl, ap, ◌∙◌, arith, inl, inr}
+use Rattle.std.specs.Prelude.{IfSome, IsSomeAnd, nat_lt, slice_set, if◌then◌else◌}
 use Rattle.std.specs.Global.{Vec}
-use Rattle.std.proofs.lemmas.Bool.{and_right, cases_eq, cases_lt, eq-eqb, le-ltb, lt-ltb, ne_eqb}
+use Rattle.std.proofs.lemmas.Bool.{cases_eq, cases_lt, eq-eqb, le-ltb, lt-ltb}
 use Rattle.std.proofs.lemmas.List.{get_or-set_same, get_or-set_other, length-set}
-use Rattle.std.proofs.lemmas.List.FromFn.{fill_by_all}
-use Rattle.std.proofs.lemmas.Option.{get_or_from_slice_get}
-use Rattle.msg_buffer.specs.Prelude.{count}
-use Rattle.msg_world.specs.Prelude.{Parts, SameShape}
 use Rattle.msg_system.specs.declared.start.Start.{Start}
 use Rattle.msg_system.specs.Prelude.{Asked, Job as JobState, Meaning, asked_started}
 use Rattle.msg_exec.specs.Prelude.{GuardedSystem, Lender, LenderStands, MemberStands, job_state, system_at, totals_at}
 use Rattle.msg_frames.specs.declared.totals.Totals.{Totals}
-use Rattle.msg_frames.specs.Prelude.{Member, State, counts, job_begun, joined_member, totals_from, with_joining}
+use Rattle.msg_frames.specs.Prelude.{Member, State, counts, job_begun, joined_member, totals_from}
 use Rattle.msg_exec.specs.inner.Totals.{first_place}
 use Rattle.msg_exec.specs.inner.Lending.{HaveReadNothing}
 use Rattle.msg_exec.proofs.SystemAfterTurn.{member_stays}
@@ -26,7 +22,7 @@ joined_below n frame s =
           else s.members j;
     }
 
-not_yet : (s : State) (i frame : ℕ) → (joined_below i frame s).members i ≡ s.members i
+pub not_yet : (s : State) (i frame : ℕ) → (joined_below i frame s).members i ≡ s.members i
 not_yet s i frame = rw (le-ltb i i (omega arith))
 
 now : (s : State) (i frame : ℕ) → (s.members i).join ≡ frame → (joined_below (i + 1) frame s).members i
@@ -34,7 +30,7 @@ now : (s : State) (i frame : ℕ) → (s.members i).join ≡ frame → (joined_b
 now s i frame joins = rw (lt-ltb i (i + 1) (omega arith), eq-eqb (s.members i).join frame joins)
 
 -- the other systems aren't asked
-still : (s : State) (i j frame : ℕ) → j ≢ i → (joined_below (i + 1) frame s).members j
+pub still : (s : State) (i j frame : ℕ) → j ≢ i → (joined_below (i + 1) frame s).members j
     ≡ (joined_below i frame s).members j
 still s i j frame other = elim (cases_lt j i) [
   | inl lt ↦ rw (lt-ltb j i lt, lt-ltb j (i + 1) (omega (arith, lt)))
@@ -104,24 +100,3 @@ module _ {S : Type 0} (meaning : S → Meaning) where
         whole = rw has.world stands.whole;
         types = rw has.world stands.types;
       }
-
-  -- one system more was asked, and doesn't join
-  pub one_waits : (g : Lender S) (s : State) (i frame : ℕ) → ((s.members i).join ≢ frame)
-      → LenderStands meaning g (joined_below i frame s) → LenderStands meaning g (joined_below (i + 1) frame s)
-  one_waits g s i frame waits stands = members_alike g (joined_below i frame s) (joined_below (i + 1) frame s).members
-      (λ j lt. elim (cases_eq j i) [
-        | inl is ↦ rw (is, ne_eqb (s.members i).join frame waits, and_right, and_right) refl
-        | inr other ↦ still s i j frame other
-      ]) stands
-
-  pub all_joined : (g : Lender S) (s : State) (n frame : ℕ) → s.systems ≤ n
-      → LenderStands meaning g (joined_below n frame s) → LenderStands meaning g (with_joining frame s)
-  all_joined g s n frame le stands = members_alike g (joined_below n frame s) (with_joining frame s).members
-      (λ j lt. rw (lt-ltb j n (omega (arith, lt, le))) refl) stands
-
--- ---- the counts
-
-pub counts_are : (cs : List ℕ) (s : State) (n : ℕ) → length cs ≡ n → n ≡ s.types
-    → ((t : ℕ) → t < n → slice_get cs t ≡ Some (count (s.world.histories t))) → cs ≡ counts s
-counts_are cs s n size same each = fill_by_all (λ t. count (s.world.histories t)) cs s.types 0 (size ∙ same)
-    (λ k lt. get_or_from_slice_get cs k (count (s.world.histories k)) 0 (each k (omega (arith, lt, same))))

@@ -1,10 +1,8 @@
 use Rattle.std.proofs.Common.{◌≡◌, ◌<◌, None, ap, sym, ◌∙◌, arith}
-use Rattle.std.specs.Global.{Vec}
 use Rattle.std.proofs.lemmas.List.{get_or_default}
 use Rattle.msg_world.specs.Prelude.{OfType}
 use Rattle.msg_system.specs.Prelude.{Job}
 use Rattle.msg_frames.specs.Prelude.{is_reader, no_totals}
-use Rattle.msg_exec.specs.Prelude.{TotalsStand}
 use Rattle.msg_exec.proofs.SystemAfterTurn.{totals_there}
 use Rattle.msg_exec.proofs.AccountsTell.{no_reader_more, reader_more}
 use Rattle.msg_exec.proofs.accounts.add_accounts.Goals as goal
@@ -20,7 +18,8 @@ loop-t-preserved g c = record {
       let lt : i < s.systems = omega (arith, c.requires.there, lender.systems) in
       let within : t < s.types = omega (arith, c.loop-t-test.true, c.types-t-end.ensures.types, lender.types) in
       let here = lender.members i lt in
-      let read = get_or_default core.lender.systems.items i None c.index.result.now (omega (arith, lt, lender.systems)) in
+      let read =
+      get_or_default core.lender.systems.items i None c.index.result.now (omega (arith, lt, lender.systems)) in
       let job = rw (read, ← c.index.ensures, c.in-Some-Some.is-0) at here.guarded in
       let reader : c.reads_type.result ≡ is_reader s i t = c.reads_type.ensures.read
       ∙ rw c.in-Some-Some-2.ensures.value (c.access-access.ensures.needs.reads (OfType t))

@@ -1,7 +1,9 @@
-use Rattle.std.proofs.Common.{◌≡◌, length, ap, ◌∙◌, arith, inl, inr}
-use Rattle.std.specs.Prelude.{slice_index_or, suc}
-use Rattle.std.proofs.lemmas.Bool.{eqb-false}
-use Rattle.msg_exec.proofs.CoreRunsFrame.{plan_next}
+use Rattle.std.proofs.Common.{refl, ◌≡◌, length, ap, ◌∙◌, arith}
+use Rattle.std.specs.Prelude.{suc}
+use Rattle.msg_frames.specs.Prelude.{joining}
+use Rattle.msg_frames.proofs.SystemsStay.{joining_keeps, joining_makes_no_frame}
+use Rattle.msg_exec.specs.inner.FrameSteps.{counted}
+use Rattle.msg_exec.proofs.CoreRunsFrame.{joined_by_frame, schedule_along}
 use Rattle.msg_exec.proofs.engine_core.next_plan.Goals as goal
 
 pub plan_by-requires-clause-no_cycle : goal.plan_by-requires-clause-no_cycle
@@ -13,11 +15,19 @@ plan_by-requires-clause-no_cycle g c joined as_many =
 pub returns : goal.returns
 returns g c = record {
   plan = λ s stands is.
-      let next : c.in-Some.next ≡ suc s.frames = omega (arith, is, c.in-Some.ensures) in (
+      let core = c.args.core.now in
+      let next : c.in-Some.next ≡ suc s.frames = omega (arith, is, c.in-Some.ensures) in
+      let later = schedule_along core core s (counted (joining s)) refl refl (grind (arith, joining_keeps)) stands.schedule in
+      let flags = joined_by_frame core.joins.items (counted (joining s)) c.in-Some.next later.joins
+      (omega (arith, next, joining_makes_no_frame s)) in (
         omega (arith, is, c.if-frames-eq0.false),
         next,
-        plan_next c.args.core.now s c.in-Some.next c.in_ok-plan.plan stands.schedule next
-            (rw (c.deref-2.ensures.value, c.deref-3.ensures.value, c.deref-4.ensures.value)
-            at c.in_ok-plan.ensures.plan),
+        rw (
+          c.deref-2.ensures.value,
+          c.deref-3.ensures.value,
+          stands.schedule.rules,
+          c.deref-4.ensures.value,
+          flags,
+        ) at c.in_ok-plan.ensures.plan,
       );
 }

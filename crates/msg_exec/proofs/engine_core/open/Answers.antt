@@ -1,7 +1,8 @@
-use Rattle.std.proofs.Common.{◌∙◌, refl}
+use Rattle.std.proofs.Common.{◌∙◌, arith, refl, suc}
 use Rattle.msg_world.specs.Prelude.{WorldState, after_update}
-use Rattle.msg_frames.specs.Prelude.{joining}
-use Rattle.msg_exec.proofs.CoreRunsFrame.{opened}
+use Rattle.msg_frames.specs.Prelude.{before_turns, joining}
+use Rattle.msg_frames.proofs.SystemsStay.{joining_world}
+use Rattle.msg_exec.proofs.CoreRunsFrame.{schedule_along, world_stands}
 use Rattle.msg_exec.proofs.engine_core.open.Goals as goal
 
 pub post_all-requires-clause-types : goal.post_all-requires-clause-types
@@ -17,11 +18,16 @@ returns g c = record {
       let new = c.in_ok-post_all.ensures.shape in
       let w : WorldState = after_update (joining s).world in
       let now = c.update_all.ensures.meaning (joining s).world has.lender.world in
-      opened g.S.System.meaning c.in_ok-core.core _ s c.args.frame.now c.post_all.new.replies.items has
-      (record {
-        size = record { types = new.size.types ∙ old.size.types; resources = new.size.resources ∙ old.size.resources };
-        there = λ p. new.there p ∙ old.there p;
-      })
-      (rw c.as_slice-posts.ensures.items at (c.in_ok-post_all.ensures.state w now))
-      (rw c.as_slice-posts.ensures.items at (c.in_ok-post_all.ensures.replies w now)) refl;
+      record {
+        lender = world_stands g.S.System.meaning c.in_ok-core.core.lender (joining s) _ _ (suc (joining s).frames)
+            has.lender (record {
+              size =
+                  record { types = new.size.types ∙ old.size.types; resources = new.size.resources ∙ old.size.resources };
+              there = λ p. new.there p ∙ old.there p;
+            }) (rw c.as_slice-posts.ensures.items at (c.in_ok-post_all.ensures.state w now));
+        schedule = schedule_along c.in_ok-core.core _ (joining s) (before_turns c.args.frame.now.posts s) refl refl
+            (grind arith) has.schedule;
+        plan = has.plan;
+        posts = rw (c.as_slice-posts.ensures.items, joining_world) at (c.in_ok-post_all.ensures.replies w now);
+      };
 }

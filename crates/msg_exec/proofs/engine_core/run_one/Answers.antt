@@ -1,21 +1,29 @@
-use Rattle.std.proofs.Common.{◌∙◌, List, ℕ, refl, ap, arith, map}
+use Rattle.std.proofs.Common.{get_or, [], ◌∙◌, List, ℕ, refl, ap, map}
 use Rattle.std.specs.List.{concat}
 use Rattle.std.specs.Global.{Vec}
 use Rattle.msg_frames.specs.Prelude.{before_turns, State}
+use Rattle.std.proofs.lemmas.List.{get_or-map}
+use Rattle.std.proofs.lemmas.List.Elements.{Contains-get_or}
+use Rattle.msg_frames.proofs.SystemsStay.{joined_below}
 use Rattle.msg_frames.proofs.FramesInOrder.{in_that_order, logged_in}
-use Rattle.msg_exec.proofs.CoreRunsFrame.{batches_below, frame_ran}
+use Rattle.msg_exec.proofs.CoreRunsFrame.{frame_ran}
 use Rattle.msg_exec.proofs.engine_core.run_one.Goals as goal
 
 pub run_batches-requires-clause-stands : goal.run_batches-requires-clause-stands
 run_batches-requires-clause-stands g c κs within =
     let s : State = c.requires.stands.0 in
     let has = c.in_ok-core.ensures.opened s c.requires.stands.1.0 c.requires.stands.1.1 in
-    let bt : State = before_turns c.args.frame.now.posts s in (
+    let bt : State = before_turns c.args.frame.now.posts s in
+    let batches = c.batches-batches.result.now in (
       bt,
       (
         has.lender,
-        batches_below g.S.System.meaning c.batches-batches.result.now bt has.plan.order
-            (rw c.batches-batches.ensures.items has.plan.classes),
+        λ k d lt j e below.
+            let there = Contains-get_or (get_or batches k d).items j e below in
+            joined_below bt _ ((has.plan.classes.of_number k _).0 (rw (
+              ← c.batches-batches.ensures.items,
+              get_or-map (λ (b : Vec ℕ). b.items) batches k d [] lt,
+            ) there)).0,
       ),
     )
 

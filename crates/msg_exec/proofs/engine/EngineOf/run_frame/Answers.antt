@@ -1,12 +1,10 @@
-use Rattle.std.proofs.Common.{◌∷◌, [], refl, inr, arith}
-use Rattle.msg_exec.proofs.EngineRunsFrames.{core_taken, stood_for}
+use Rattle.std.proofs.Common.{◌∷◌, [], refl, inr, arith, sym, ap, ◌∙◌, is_some}
+use Rattle.msg_exec.proofs.EngineRunsFrames.{stood}
 use Rattle.msg_exec.proofs.engine.EngineOf.run_frame.Goals as goal
 
 pub returns-clause-ran : goal.returns-clause-ran
 returns-clause-ran g c s stands =
-    let core =
-    core_taken g.S.System.meaning c.args.self.now c.take.result c.in-Some.core s c.take.ensures.value
-    c.in-Some.is stands in
+    let core = rw (sym c.take.ensures.value ∙ c.in-Some.is) at stands.core in
     let ran = c.in-Ok.ensures.ran s core stands.frames in
     record {
       state = ran.state;
@@ -19,8 +17,7 @@ returns-clause-ran g c s stands =
 
 pub returns-clause-engine : goal.returns-clause-engine
 returns-clause-engine g c =
-    let was =
-    stood_for g.S.System.meaning c.args.self.now c.take.result c.in-Some.core c.take.ensures.value c.in-Some.is
-    c.requires.engine in
+    let some = ap is_some (sym c.take.ensures.value ∙ c.in-Some.is) in
+    let was = stood g.S.System.meaning c.args.self.now some c.requires.engine in
     let ran = returns-clause-ran g c was.0 was.1 in
     inr (ran.state, ran.stands)
