@@ -67,12 +67,8 @@ module _ {S : Type 0} (meaning : S → Meaning) where
         let needs = ap (λ (m : Meaning). m.needs) y'.1.1 in
         (x.0, (x.1, needs ∙ ap (λ z. (meaning z).needs) (same_Some y'.0 y (sym y'.1.0 ∙ there))))
 
-    clashes_still : (x y : S) → (meaning x).needs ≡ (meaning y).needs → HasClash (meaning x) → HasClash (meaning y)
-    clashes_still x y same clash = subst (λ (n : Needs). (p : Part) × IsTrue (n.reads p && n.writes p)) same clash
-
     pub no_clash_before : EachIs (λ i x. ¬ HasClash (meaning x)) new → EachIs (λ i x. ¬ HasClash (meaning x)) old
-    no_clash_before none i y there clash = let x =
-        after i y there in none i x.0 x.1.0 (clashes_still y x.0 (sym x.1.1) clash)
+    no_clash_before none i y there clash = let x = after i y there in none i x.0 x.1.0 (rw (← x.1.1) at clash)
 
     pub refusal_before : (rules : List Rule) (refusal : BuildRefusal) → RefusesFor meaning new rules refusal
         → RefusesFor meaning old rules refusal
@@ -80,13 +76,12 @@ module _ {S : Type 0} (meaning : S → Meaning) where
         let y = before s lowest.system lowest.is in record {
           system = y.0;
           is = y.1.0;
-          clash = clashes_still lowest.system y.0 (ap (λ (m : Meaning). m.needs) y.1.1) lowest.clash;
-          lowest =
-              λ r z lt there clash. (let x =
-              after r z there in lowest.lowest r x.0 lt x.1.0 (clashes_still z x.0 (sym x.1.1) clash));
+          clash = rw y.1.1 at lowest.clash;
+          lowest = λ r z lt there clash.
+              let x = after r z there in
+              lowest.lowest r x.0 lt x.1.0 (rw (← x.1.1) at clash);
         }
-    refusal_before rules (Cycle s) refused =
-        (no_clash_before refused.0, subst (λ n. IsLowestOnCycle (all_rules n rules) s) as_many refused.1)
+    refusal_before rules (Cycle s) refused = (no_clash_before refused.0, rw as_many at refused.1)
     refusal_before rules NoMemory refused = refused
 
     pub may_be_added : (world : Parts) (places : List Place) → length places ≡ length old
@@ -99,8 +94,8 @@ module _ {S : Type 0} (meaning : S → Meaning) where
                 writer = ap (λ (m : Meaning). m.writer) y.1.1;
                 places = λ t. ap (λ (m : Meaning). m.places t) y.1.1;
               };
-          fits = λ place sp p needed. fit i y.0 place (slice_get_within old i y.0 y.1.0) y.1.0 sp p
-              (subst (λ (m : Meaning). IsTrue (needs_any (with_conditions m.needs place.conditions) p)) y.1.1 needed);
-          joins = λ place sp. subst (λ (q : Place). IsJoin q.join) (get_or_from_slice_get places i place place sp)
-              (All-get_or (λ (q : Place). IsJoin q.join) places i place (slice_get_within places i place sp) joins);
+          fits = λ place sp p needed.
+              fit i y.0 place (slice_get_within old i y.0 y.1.0) y.1.0 sp p (rw y.1.1 at needed);
+          joins = λ place sp. rw (get_or_from_slice_get places i place place sp)
+              at (joins i place (slice_get_within places i place sp));
         }

@@ -63,8 +63,8 @@ nobody_more s none =
 
 -- ---- the frame begins
 
-pub unchanged : {S : Type 0} (meaning : S → Meaning) (g : Lender S) (s : State) → NobodyJoins s → LenderStands meaning g s
-    → LenderStands meaning g (joining s)
+pub unchanged : {S : Type 0} (meaning : S → Meaning) (g : Lender S) (s : State) → NobodyJoins s
+    → LenderStands meaning g s → LenderStands meaning g (joining s)
 unchanged meaning g s none stands = grind (arith, cases_Bool, eqb-false, members_alike, ne_eqb)
 
 -- those that are about to join were given nothing

@@ -55,63 +55,49 @@ module _ {S : Type 0} (meaning : S → Meaning) where
           may = each i x.0 x.1;
         }
 
-    joins_are : (js : List ℕ) (rules : List Rule) (w : WorldState) → js ≡ map (λ (place : Place). place.join) places
-        → AreJoins js (unjoined (map meaning systems) places rules (length world.types) w)
-    joins_are js rules w is = grind (arith, get_or-map, length-map)
-
-    nothing_read : (rules : List Rule) (w : WorldState)
-        → HaveReadNothing 1 (unjoined (map meaning systems) places rules (length world.types) w)
-    nothing_read rules w i t joins = elim (cases_lt i (length systems)) [
-      | inl lt ↦ (let f = found i lt in ap (λ (m : Meaning). m.places t) f.is ∙ f.may.new.places t)
-      | inr past ↦ ap (λ (m : Meaning). m.places t)
-          (get_or_past (map meaning systems) i nobody (omega (arith, past, length-map systems meaning)))
-    ]
-
     module _ (g : Lender S) (rules : List Rule) (same : g.world ≡ world)
         (na : length g.systems.items ≡ length systems) (nc : length g.accesses.items ≡ length systems)
         (nt : length g.totals.items ≡ length systems)
         (guarded : EachIs (IsGuardedAt meaning systems places) g.systems.items)
         (accesses : EachIs (IsAccessAt meaning systems places) g.accesses.items)
         (totals : EachIs (λ k w. AreNoTotals (length world.types) w.items) g.totals.items) where
-      member_first : (i : ℕ) (f : Found i) → i < length systems
-          → MemberStands meaning g (length world.types) i (waiting (meaning f.x) f.place)
-      member_first i f lt =
-          let total = item_at g.totals.items i (omega (arith, lt, nt)) in
-          let none = totals i total.0 total.1 in
-          let access =
-          (accesses i (access_of g.accesses.items i)
-          (slice_get-get_or g.accesses.items i _ (omega (arith, lt, nc)))).access f.x f.place f.sx f.sp in
-          record {
-            guarded =
-                guarded i _ (slice_get-get_or g.systems.items i None (omega (arith, lt, na))) f.x f.place f.sx f.sp;
-            access = rw (conditions_new f.place.conditions) access;
-            home = λ p used. rw same (whole p (f.may.fits f.place f.sp p (sym (uses_needs _ _ access p) ∙ used)));
-            totals = rw total.1 (record { as_many = none.as_many; each = none.each });
-          }
-
-      lender_is_first : (w : WorldState) → PartsStand world w
-          → LenderStands meaning g (unjoined (map meaning systems) places rules (length world.types) w)
-      lender_is_first w stands =
-          let n : length (map meaning systems) ≡ length systems = length-map systems meaning in
-          record {
-            systems = na ∙ sym n;
-            accesses = nc ∙ sym n;
-            totals = nt ∙ sym n;
-            members = λ i lt.
-                let below : i < length systems = omega (arith, lt, n) in
-                let f = found i below in
-                rw (f.is, f.at) (member_first i f below);
-            world = rw same stands;
-            whole = rw same whole;
-            types = ap (λ (p : Parts). length p.types) same;
-          }
-
       pub parts_stand : (js : List ℕ) → js ≡ map (λ (place : Place). place.join) places → (w : WorldState)
           → PartsStand world w
           → LenderStands meaning g (unjoined (map meaning systems) places rules (length world.types) w)
           × AreJoins js (unjoined (map meaning systems) places rules (length world.types) w)
           × HaveReadNothing 1 (unjoined (map meaning systems) places rules (length world.types) w)
-      parts_stand js is w stands = (lender_is_first w stands, joins_are js rules w is, nothing_read rules w)
+      parts_stand js is w stands =
+          let n : length (map meaning systems) ≡ length systems = length-map systems meaning in (
+            record {
+              systems = na ∙ sym n;
+              accesses = nc ∙ sym n;
+              totals = nt ∙ sym n;
+              members = λ i lt.
+                  let f = found i (omega (arith, lt, n)) in
+                  let total = item_at g.totals.items i (omega (arith, lt, n, nt)) in
+                  let none = totals i total.0 total.1 in
+                  let system = slice_get-get_or g.systems.items i None (omega (arith, lt, n, na)) in
+                  let access =
+                  (accesses i (access_of g.accesses.items i)
+                  (slice_get-get_or g.accesses.items i _ (omega (arith, lt, n, nc)))).access f.x f.place f.sx f.sp in
+                  rw (f.is, f.at) (record {
+                    guarded = guarded i _ system f.x f.place f.sx f.sp;
+                    access = rw (conditions_new f.place.conditions) access;
+                    home =
+                        λ p used. rw same (whole p (f.may.fits f.place f.sp p (sym (uses_needs _ _ access p) ∙ used)));
+                    totals = rw total.1 (record { as_many = none.as_many; each = none.each });
+                  });
+              world = rw same stands;
+              whole = rw same whole;
+              types = ap (λ (p : Parts). length p.types) same;
+            },
+            grind (arith, get_or-map, length-map),
+            λ i t joins. elim (cases_lt i (length systems)) [
+              | inl lt ↦ (let f = found i lt in ap (λ (m : Meaning). m.places t) f.is ∙ f.may.new.places t)
+              | inr past ↦ ap (λ (m : Meaning). m.places t)
+                  (get_or_past (map meaning systems) i nobody (omega (arith, past, n)))
+            ],
+          )
 
     pub are_new : (w : WorldState) → PartsStand world w → AreNew (map meaning systems) places (length world.types) w
     are_new w stands = record {
@@ -144,10 +130,8 @@ module _ {S : Type 0} (meaning : S → Meaning) where
 pub none_more : FewerSystemsMakeNoCycle → (n : ℕ) (rules : List Rule) → IsAcyclic (all_rules n rules)
     → (joined : List Bool) → length joined ≡ n → IsAcyclic (rules_among joined rules)
 none_more law n rules none joined size =
-    law rules (replicate n true) joined (λ i has. get_or-replicate n i true false (within joined n i size has)) none
-  where
-    within : (joined : List Bool) (n i : ℕ) → length joined ≡ n → IsTrue (has_joined joined i) → i < n
-    within joined n i size has = grind (arith, cases_lt, false≢true, get_or_past)
+    law rules (replicate n true) joined
+    (λ i has. get_or-replicate n i true false (grind (arith, cases_lt, false≢true, get_or_past))) none
 
 module _ {S : Type 0} (meaning : S → Meaning) where
   pub none_clashes : (systems : List S) (places : List Place) (xs : List Access) → length xs ≡ length systems

@@ -20,11 +20,6 @@ item_at xs i lt = elim (slice_get_cases xs i).1 [
   | inr past ↦ absurd (omega (arith, lt, past.0))
 ]
 
--- the item that was read is the one that is there
-pub read_is : {X : Type 0} (xs : List X) (i : ℕ) (r x : X) → i < length xs → r ≡ get_or xs i r → slice_get xs i
-    ≡ Some x → r ≡ x
-read_is xs i r x lt is there = is ∙ get_or_from_slice_get xs i x r there
-
 pub read_or : {X : Type 0} (xs : List X) (i : ℕ) (d r : X) → i < length xs → r ≡ get_or xs i r → get_or xs i d ≡ r
 read_or xs i d r lt is = sym (get_or_read xs i r lt is d)
 

@@ -1,4 +1,4 @@
--- What a system's turn leaves of it: its conditions, its place on the lender, and its totals.
+-- What a system's turn leaves: what came of it, its place on the lender, and its totals.
 use Rattle.std.proofs.Common.{sym, get_or, ◌≡◌, ◌≢◌, zero, suc, Option, Some, None, append-nil, length-append, ℕ, ◌<◌, ◌≤◌, List, [], ◌∷◌, length, map, refl, ap, ◌∙◌, arith}
 use Rattle.std.specs.Global.{Vec}
 use Rattle.std.proofs.lemmas.Option.{slice_get_read}
@@ -14,12 +14,7 @@ use Rattle.msg_frames.specs.Prelude.{Member, State, member_turn, outcome_entries
 use Rattle.msg_exec.specs.Prelude.{Lender, LenderStands, MemberStands, TotalsStand, kept, system_at, totals_at}
 use Rattle.msg_exec.specs.inner.Totals.{HasFewReplies, entries_by}
 
--- ---- a job doesn't change its conditions
-
-conditions_stay : (w : WorldState) (cs : List Asked) → map (λ a. a.condition) (map (after_asking w) cs)
-    ≡ map (λ a. a.condition) cs
-conditions_stay w [] = refl
-conditions_stay w (a ∷ cs) = ap (λ rest. a.condition ∷ rest) (conditions_stay w cs)
+-- ---- what came of it
 
 -- the entries of its last ops are those of its turn
 last_entries : (t : ℕ) (j : JobState) (w : WorldState)
@@ -27,18 +22,15 @@ last_entries : (t : ℕ) (j : JobState) (w : WorldState)
     ≡ outcome_entries t j.system (outcome_of (after_job j w).replies)
 last_entries t j w = grind (arith, append-nil, cases_Bool)
 
+one_at_most : (n writer : ℕ) (o : Option Op) (far : AfterProgram) → length far.replies ≤ n
+    → length (one_more o writer far).replies ≤ suc n
+one_at_most n writer o far few = grind (arith, length-append)
+
 at_most_replies : (n : ℕ) (next : List Reply → Option Op) (writer : ℕ) (places : ℕ → ℕ) (w : WorldState)
     → length (after_at_most n next writer places w).replies ≤ n
 at_most_replies zero next writer places w = omega arith
 at_most_replies (suc n) next writer places w =
-    let far : AfterProgram = after_at_most n next writer places w in
-    one_at_most (next far.replies) far (at_most_replies n next writer places w)
-  where
-    one_at_most : (o : Option Op) (far : AfterProgram) → length far.replies ≤ n
-        → length (one_more o writer far).replies ≤ suc n
-    one_at_most None far few = omega (arith, few)
-    one_at_most (Some op) far few =
-        omega (arith, few, length-append far.replies ((after_op op writer far.places far.state).reply ∷ []))
+    one_at_most n writer _ (after_at_most n next writer places w) (at_most_replies n next writer places w)
 
 few_of_turn : (m : Meaning) (w : WorldState) → length (turn m w).replies ≤ 64
 unfolding turn

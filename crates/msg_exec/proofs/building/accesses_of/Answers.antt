@@ -1,11 +1,11 @@
-use Rattle.std.proofs.Common.{◌≡◌, ◌∷◌, [], ◌++◌, Some, refl, arith, rules}
+use Rattle.std.proofs.Common.{◌≡◌, ◌∙◌, ◌∷◌, [], ◌++◌, Some, refl, arith, rules}
 use Rattle.std.specs.Prelude.{slice_get}
 use Rattle.std.proofs.lemmas.Bool.{both_ways}
 use Rattle.std.proofs.lemmas.List.{length_push}
 use Rattle.std.proofs.lemmas.Option.{get_or_from_slice_get, slice_get-get_or, slice_get_read}
 use Rattle.msg_world.specs.Prelude.{no_access}
 use Rattle.msg_exec.specs.inner.Building.{IsAccessAt}
-use Rattle.msg_exec.proofs.ItemsOfLists.{each_pushed, read_is}
+use Rattle.msg_exec.proofs.ItemsOfLists.{each_pushed}
 use Rattle.msg_exec.proofs.building.accesses_of.Goals as goal
 
 pub returns-then-clash-clause-clash : goal.returns-then-clash-clause-clash
@@ -27,10 +27,8 @@ loop-i-preserved g c =
     let xs = c.loop-i.accesses.items in
     let m = g.S.System.meaning in
     let pushed : c.push.new.self.items ≡ xs ++ c.job_access-access.result ∷ [] = search rules in
-    let system : (x : g.row.S.Denot) → slice_get c.args.systems.now i ≡ Some x → c.index-systems-i.result
-    ≡ x =
-    λ x there. read_is c.args.systems.now i c.index-systems-i.result x c.loop-i-test.true
-    c.index-systems-i.is there in
+    let system : (x : g.row.S.Denot) → slice_get c.args.systems.now i ≡ Some x → c.index-systems-i.result ≡ x =
+    λ x there. c.index-systems-i.is ∙ get_or_from_slice_get c.args.systems.now i x _ there in
     let own = c.own_access-clash.ensures in
     record {
       as_many = rw (pushed, length_push, inv.as_many) refl;

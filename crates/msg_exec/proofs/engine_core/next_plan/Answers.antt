@@ -17,7 +17,8 @@ returns g c = record {
   plan = λ s stands is.
       let core = c.args.core.now in
       let next : c.in-Some.next ≡ suc s.frames = omega (arith, is, c.in-Some.ensures) in
-      let later = schedule_along core core s (counted (joining s)) refl refl (grind (arith, joining_keeps)) stands.schedule in
+      let later =
+      schedule_along core core s (counted (joining s)) refl refl (grind (arith, joining_keeps)) stands.schedule in
       let flags = joined_by_frame core.joins.items (counted (joining s)) c.in-Some.next later.joins
       (omega (arith, next, joining_makes_no_frame s)) in (
         omega (arith, is, c.if-frames-eq0.false),

@@ -21,8 +21,10 @@ returns g c = record {
       record {
         lender = world_stands g.S.System.meaning c.in_ok-core.core.lender (joining s) _ _ (suc (joining s).frames)
             has.lender (record {
-              size =
-                  record { types = new.size.types ∙ old.size.types; resources = new.size.resources ∙ old.size.resources };
+              size = record {
+                types = new.size.types ∙ old.size.types;
+                resources = new.size.resources ∙ old.size.resources;
+              };
               there = λ p. new.there p ∙ old.there p;
             }) (rw c.as_slice-posts.ensures.items at (c.in_ok-post_all.ensures.state w now));
         schedule = schedule_along c.in_ok-core.core _ (joining s) (before_turns c.args.frame.now.posts s) refl refl

@@ -28,7 +28,6 @@ pub returns-clause-entered : goal.returns-clause-entered
 returns-clause-entered g c t x lt is =
     let ops = (g.S.System.meaning c.args.system.now).last in
     let far = c.loop-reply.invariant.entered t x lt is in
-    far.1 ∙ ap kept (entered_all t ops c.as_slice-reply-items.result.now c.loop-reply.reply-index far.0 _
-    c.loop-reply-test.false far.2)
-    ∙ ap (λ rs. kept (with_entries (entries_for t ops rs) x)) c.as_slice-reply-items.ensures.items
-    ∙ ap (λ o. kept (with_entries (entries_by t ops o) x)) (sym c.in-Ran.is)
+    rw (c.in-Ran.is, ← c.as_slice-reply-items.ensures.items)
+    (far.1 ∙ ap kept (entered_all t ops c.as_slice-reply-items.result.now c.loop-reply.reply-index far.0 _
+    c.loop-reply-test.false far.2))
