@@ -21,44 +21,12 @@ pub adds_up : (s : State) (i t : ℕ) → t < s.types → IsSoundState s → Add
 adds_up s i t lt sound = grind (arith, cases_Bool)
 
 -- small numbers are kept as they are
-kept_whole : (x : Totals) → x.got < 2 ^ 64 → x.missed < 2 ^ 64 → x.cleared < 2 ^ 64 → kept x ≡ x
+pub kept_whole : (x : Totals) → x.got < 2 ^ 64 → x.missed < 2 ^ 64 → x.cleared < 2 ^ 64 → kept x ≡ x
 kept_whole x got missed cleared = grind arith
 
-abbrev pub account_with : ℕ → ℕ → Totals → ℕ → Account
-account_with i t x place =
-    record {
-      system = i;
-      of_type = t;
-      start = x.start;
-      got = x.got;
-      missed = x.missed;
-      cleared = x.cleared;
-      place = place;
-    }
-
--- what is kept of a reader, and the sum of it, are its account
-pub told : (s : State) (i t : ℕ) (y : Totals) (begin first second place : ℕ) → t < s.types → IsSoundState s
-    → place_of s i t < 2 ^ 64 → y ≡ kept ((s.members i).totals t)
-    → begin ≡ unwrap_or y.start 0 → first ≡ within_u64 (begin + y.got) → second ≡ within_u64 (first + y.missed) → place
-    ≡ within_u64 (second + y.cleared)
-    → account_with i t y place ≡ account_of s i t
-told s i t y begin first second place lt sound few is zeroth one two three = grind (arith, adds_up, kept_whole)
-
-count_below : (o : Option (Kept Record)) (h : History Record) → IsSome o → IfSome o (λ k. BufferStandsFor k h)
+pub count_below : (o : Option (Kept Record)) (h : History Record) → IsSome o → IfSome o (λ k. BufferStandsFor k h)
     → IfSome o (λ k. (g : History Record) → BufferStandsFor k g → count g < 2 ^ 64) → count h < 2 ^ 64
 count_below o h some stands below = grind (arith, false≢true)
-
-module _ {S : Type 0} (meaning : S → Meaning) where
-  -- a place is no further than the count, which is a `u64`
-  pub place_below : (c : Core S) (s : State) (i t : ℕ) → CoreStands meaning c s → t < s.types
-      → IfSome (slot (OfType t) c.lender.world) (λ k. (g : History Record) → BufferStandsFor k g → count g < 2 ^ 64)
-      → place_of s i t < 2 ^ 64
-  place_below c s i t stands lt below =
-      let lender = stands.lender in
-      let within = stands.sound.places i t lt in
-      let few = count_below (slot (OfType t) c.lender.world) (s.world.histories t)
-      (lender.whole (OfType t) (omega (arith, lt, lender.types))) (lender.world (OfType t)) below in
-      omega (arith, within, few)
 
 -- ---- those of one system, and of all
 
@@ -72,18 +40,6 @@ pub reader_more : (s : State) (i n : ℕ) (xs before after : List Account) (a : 
     → before ≡ xs ++ accounts_below s i n → after ≡ before ++ a ∷ [] → after ≡ xs ++ accounts_below s i (n + 1)
 reader_more s i n xs before after a is told far pushed =
     rw (← filter_takes (is_reader s i) n _ refl is, map_push, ← append_assoc) (cc)
-
--- and for a type that isn't read there is none
-pub no_reader_more : (s : State) (i n : ℕ) (xs before : List Account) → is_reader s i n ≡ false → before ≡ xs
-    ++ accounts_below s i n → before ≡ xs ++ accounts_below s i (n + 1)
-no_reader_more s i n xs before isnt far = rw (← filter_drops (is_reader s i) n _ refl isnt) far
-
--- the accounts of one system more
-pub system_more : (s : State) (i : ℕ) (before after : List Account) → before
-    ≡ flat_map (accounts_of_system s) (range_with_len 0 i) → after ≡ before ++ accounts_of_system s i
-    → after ≡ flat_map (accounts_of_system s) (range_with_len 0 (i + 1))
-system_more s i before after far added =
-    rw (range_more i, ← flat_map_more (accounts_of_system s) [] (range_with_len 0 i) i) (cc)
 
 -- ---- all of them add up
 

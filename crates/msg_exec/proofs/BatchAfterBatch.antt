@@ -15,6 +15,7 @@ use Rattle.std.proofs.lemmas.List.Elements.{All-contains}
 use Rattle.std.proofs.lemmas.Map.Made.{IsDistinct-from_AllPairs}
 use Rattle.std.proofs.lemmas.Map.Steps.{length-le_from_distinct_below}
 use Rattle.std.proofs.lemmas.Map.Views.{Contains-from_any}
+use Rattle.msg_frames.proofs.SystemsStay.{turns_keep_systems}
 use Rattle.msg_frames.proofs.ElementsAndPairs.{pairs_left, pairs_right}
 
 abbrev and_then : AfterTurns → List ℕ → AfterTurns
@@ -28,8 +29,7 @@ turns_then_more (i ∷ is) js s =
     (turns_then_more is js (after_turn_of i s))
 
 pub as_many_systems : (is : List ℕ) (s : State) → (after_turns_of is s).state.systems ≡ s.systems
-as_many_systems [] s = refl
-as_many_systems (i ∷ is) s = as_many_systems is (after_turn_of i s)
+as_many_systems is s = (turns_keep_systems is s).systems
 
 -- what holds after the turns of some systems
 abbrev pub HasTurned : {S : Type 0} → (S → Meaning) → List ℕ → State → Lender S → List Turn → List Turn → Type 0

@@ -41,16 +41,3 @@ module _ {S : Type 0} (meaning : S → Meaning) where
     pub is_run : IsRun (take k frames) s logs state
     pub stands : StandsFor meaning e state
     pub types : state.types ≡ s.types
-
-  pub has_one_run : RunsExist → RunsAreUnique → (e : EngineOf S) (s : State) → StandsFor meaning e s
-      → (frames : List Frame) → HasOneRun frames s
-  has_one_run exist unique e s stands frames =
-      let core = (core_of meaning e s stands).1.1 in
-      let some = exist frames s _ core.schedule.no_cycle
-      (record { each = core.lender.accesses; of_needs = λ i lt. (core.lender.members i lt).access }) in
-      record {
-        logs = some.0;
-        state = some.1;
-        is_run = some.2;
-        only = λ others u other. unique frames s u some.1 others some.0 other some.2;
-      }

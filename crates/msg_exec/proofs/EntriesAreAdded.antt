@@ -39,24 +39,9 @@ entries_from t (op ∷ ops) (r ∷ replies) zero reply here =
 entries_from t [] (r ∷ replies) (suc k) reply here = refl
 entries_from t (op ∷ ops) (r ∷ replies) (suc k) reply here = entries_from t ops replies k reply here
 
-without_replies : (t : ℕ) (ops : List Op) → entries_for t ops [] ≡ []
+pub without_replies : (t : ℕ) (ops : List Op) → entries_for t ops [] ≡ []
 without_replies t [] = refl
 without_replies t (op ∷ ops) = refl
-
--- ---- the loop over the replies
-
-pub entered_one_more : (t : ℕ) (ops : List Op) (replies : List Reply) (k : ℕ) (reply : Reply) (y z : Totals)
-    → k < length replies → reply ≡ get_or replies k reply
-    → with_entries (entries_for t (drop k ops) (drop k replies)) y ≡ z
-    → with_entries (entries_for t (drop (k + 1) ops) (drop (k + 1) replies)) (with_entries (entry_at t ops k reply) y)
-    ≡ z
-entered_one_more t ops replies k reply y z lt is to =
-    let here = slice_get_read replies _ k reply refl lt is in
-    rw (add-one, ← with_entries-append (entry_at t ops k reply), ← entries_from t ops replies k reply here) to
-
-pub entered_all : (t : ℕ) (ops : List Op) (replies : List Reply) (k : ℕ) (y z : Totals) → length replies ≤ k
-    → with_entries (entries_for t (drop k ops) (drop k replies)) y ≡ z → y ≡ z
-entered_all t ops replies k y z le to = grind (arith, drop_all, with_entries-none, without_replies)
 
 -- ---- the totals of a system, among those of all
 

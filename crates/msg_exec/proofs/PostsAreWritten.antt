@@ -20,27 +20,14 @@ HasPosted ps w parts replies = PartsStand parts (after_posts ps w) × (replies �
 abbrev after_post : ℕ × ℤ → WorldState → WorldState
 after_post p w = with_history w p.0 (write (by HOST p.1 ∷ []) (w.histories p.0))
 
-posted_more : (ps : List (ℕ × ℤ)) (p : ℕ × ℤ) (w : WorldState) → after_posts (ps ++ p ∷ []) w
+pub posted_more : (ps : List (ℕ × ℤ)) (p : ℕ × ℤ) (w : WorldState) → after_posts (ps ++ p ∷ []) w
     ≡ after_post p (after_posts ps w)
 posted_more [] p w = refl
 posted_more (q ∷ ps) p w = posted_more ps p (after_post q w)
 
-replies_more : (ps : List (ℕ × ℤ)) (p : ℕ × ℤ) (w : WorldState)
+pub replies_more : (ps : List (ℕ × ℤ)) (p : ℕ × ℤ) (w : WorldState)
     → post_replies (ps ++ p ∷ []) w ≡ post_replies ps w
     ++ write_reply (numbers_for ((after_posts ps w).histories p.0) 1) ∷ []
 replies_more [] p w = refl
 replies_more (q ∷ ps) p w = ap (λ rs. write_reply (numbers_for (w.histories q.0) 1) ∷ rs)
     (replies_more ps p (after_post q w))
-
-pub one_post_more : (ps : List (ℕ × ℤ)) (k : ℕ) (p : ℕ × ℤ) (w : WorldState) (old new : Parts) (before : List Reply)
-    (reply : Reply) → k < length ps → p ≡ get_or ps k p
-    → HasPosted (take k ps) w old before
-    → ((w : WorldState) → PartsStand old w → PartsStand new (after_post p w))
-    → ((w : WorldState) → PartsStand old w → reply ≡ write_reply (numbers_for (w.histories p.0) 1))
-    → HasPosted (take (k + 1) ps) w new (before ++ reply ∷ [])
-one_post_more ps k p w old new before reply lt is far state said =
-    let now : WorldState = after_posts (take k ps) w in
-    rw (take_more ps k p lt, ← is) (
-      rw (posted_more (take k ps) p w) (state now far.0),
-      rw (replies_more (take k ps) p w, ← said now far.0, far.1),
-    )

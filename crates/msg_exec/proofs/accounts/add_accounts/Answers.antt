@@ -1,10 +1,11 @@
-use Rattle.std.proofs.Common.{◌≡◌, ◌<◌, None, ap, sym, ◌∙◌, arith}
+use Rattle.std.proofs.Common.{refl, ◌≡◌, ◌<◌, None, ap, sym, ◌∙◌, arith}
 use Rattle.std.proofs.lemmas.List.{get_or_default}
+use Rattle.msg_order.proofs.Elements.{filter_drops}
 use Rattle.msg_world.specs.Prelude.{OfType}
 use Rattle.msg_system.specs.Prelude.{Job}
 use Rattle.msg_frames.specs.Prelude.{is_reader, no_totals}
 use Rattle.msg_exec.proofs.SystemAfterTurn.{totals_there}
-use Rattle.msg_exec.proofs.AccountsTell.{no_reader_more, reader_more}
+use Rattle.msg_exec.proofs.AccountsTell.{reader_more}
 use Rattle.msg_exec.proofs.accounts.add_accounts.Goals as goal
 use Rattle.msg_exec.proofs.accounts.add_accounts.Goals.{then-reads_type+in_ok-push, else-reads_type}
 
@@ -36,8 +37,9 @@ loop-t-preserved g c = record {
             w.account.result (sym reader ∙ w.if-reads_type.true)
             ((rw (c.in-Ok.ensures.1, c.in-Some-Some-2.ensures.value) at (w.account.ensures.account s stands)) within is)
             far (rw w.accounts-is w.in_ok-push.ensures.items))
-        | else-reads_type w ↦ rw w.accounts-is
-            (no_reader_more s i t c.args.accounts.now.items c.loop-t.accounts.items
-            (sym reader ∙ w.if-reads_type.false) far)
+        | else-reads_type w ↦ rw (
+          w.accounts-is,
+          ← filter_drops (is_reader s i) t _ refl (sym reader ∙ w.if-reads_type.false),
+        ) far
       ];
 }

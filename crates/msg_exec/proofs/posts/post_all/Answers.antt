@@ -1,12 +1,12 @@
 use Rattle.std.proofs.Common.{ℕ, ℤ, ◌∙◌, refl, arith, take, rules}
-use Rattle.std.proofs.lemmas.List.{length_push, take_all}
+use Rattle.std.proofs.lemmas.List.{length_push, take_all, take_more}
 use mir.Val.{SFits}
 use mir.Syntax.{w64}
 use Rattle.std.proofs.lemmas.Int.{to_z-of_z}
 use Rattle.msg_world.specs.Prelude.{OfType}
 use Rattle.std.proofs.lemmas.Option.{slice_get_read}
 use Rattle.msg_frames.specs.Prelude.{after_posts}
-use Rattle.msg_exec.proofs.PostsAreWritten.{if_refused, one_post_more}
+use Rattle.msg_exec.proofs.PostsAreWritten.{if_refused, posted_more, replies_more}
 use Rattle.msg_exec.proofs.posts.post_all.Goals as goal
 
 pub post-requires : goal.post-requires
@@ -24,10 +24,14 @@ loop-t-preserved c =
     let old = c.loop-t.invariant.shape in
     let fits : SFits w64 p.1 = search rules in
     record {
-      so_far = λ w stands. rw c.in-Ok.ensures.items
-          (one_post_more c.args.posts.now c.loop-t.t-index p w c.loop-t.world c.post.new.world c.loop-t.replies.items
-          c.in_ok-reply.reply c.loop-t-test.true c.loop-t-item.is
-          (c.loop-t.invariant.so_far w stands) (rw (to_z-of_z w64 p.1 fits) at did.state) did.reply);
+      so_far = λ w stands.
+          let k = c.loop-t.t-index in
+          let ps = c.args.posts.now in
+          let far = c.loop-t.invariant.so_far w stands in
+          rw (c.in-Ok.ensures.items, take_more ps k p c.loop-t-test.true, ← c.loop-t-item.is) (
+            rw (posted_more (take k ps) p w) ((rw (to_z-of_z w64 p.1 fits) at did.state) _ far.0),
+            rw (replies_more (take k ps) p w, ← did.reply _ far.0, far.1) refl,
+          );
       shape =
           record {
             size =
