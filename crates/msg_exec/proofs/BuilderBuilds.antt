@@ -54,7 +54,7 @@ module _ {S : Type 0} (meaning : S → Meaning) where
 
   module _ (old new : List S) (as_many : length new ≡ length old)
       (numbered : map meaning new ≡ numbered_from 0 (map meaning old)) where
-    before : (i : ℕ) (x : S) → slice_get new i ≡ Some x → (y : S)
+    pub before : (i : ℕ) (x : S) → slice_get new i ≡ Some x → (y : S)
         × ((slice_get old i ≡ Some y) × (meaning x ≡ as_number i (meaning y)))
     before i x there = let at : 0 + i ≡ i = omega arith in rw at at (was 0 new old numbered i x there)
 
@@ -83,19 +83,3 @@ module _ {S : Type 0} (meaning : S → Meaning) where
         }
     refusal_before rules (Cycle s) refused = (no_clash_before refused.0, rw as_many at refused.1)
     refusal_before rules NoMemory refused = refused
-
-    pub may_be_added : (world : Parts) (places : List Place) → length places ≡ length old
-        → All (λ place. IsJoin place.join) places
-        → AllFit meaning world old places → EachIs (MayBeAdded meaning world places) new
-    may_be_added world places one_each joins fit i x there =
-        let y = before i x there in record {
-          new =
-              record {
-                writer = ap (λ (m : Meaning). m.writer) y.1.1;
-                places = λ t. ap (λ (m : Meaning). m.places t) y.1.1;
-              };
-          fits = λ place sp p needed.
-              fit i y.0 place (slice_get_within old i y.0 y.1.0) y.1.0 sp p (rw y.1.1 at needed);
-          joins = λ place sp. rw (get_or_from_slice_get places i place place sp)
-              at (joins i place (slice_get_within places i place sp));
-        }

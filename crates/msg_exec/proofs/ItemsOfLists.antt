@@ -1,5 +1,5 @@
 -- What stands in a list or an option, in a list with an item set, and in a longer one.
-use Rattle.std.proofs.Common.{◌≡◌, ◌≢◌, ◌⊎◌, ℕ, ◌<◌, ◌++◌, List, [], ◌∷◌, length, get_or, set, Option, None, Some, refl, sym, ◌∙◌, arith, inl, inr}
+use Rattle.std.proofs.Common.{◌≡◌, ◌≢◌, ◌⊎◌, ℕ, ◌<◌, ◌++◌, List, [], ◌∷◌, length, get_or, set, Option, None, Some, refl, sym, ◌∙◌, arith, inl, inr, zero, suc}
 use Rattle.std.specs.Prelude.{IsSomeAnd, slice_get}
 use Rattle.std.proofs.lemmas.Bool.{cases_order}
 use Rattle.std.proofs.lemmas.List.{get_or-set_other, get_or-set_same, get_or_append_left, get_or_default, get_or_push, get_or_read, length-set, length_push}
@@ -15,10 +15,9 @@ some_of None is = absurd is
 
 -- there is an item at each index below the length
 pub item_at : {X : Type 0} (xs : List X) (i : ℕ) → i < length xs → (x : X) × (slice_get xs i ≡ Some x)
-item_at xs i lt = elim (slice_get_cases xs i).1 [
-  | inl is ↦ (is.0, is.2)
-  | inr past ↦ absurd (omega (arith, lt, past.0))
-]
+item_at [] i lt = absurd (omega (arith, lt))
+item_at (x ∷ xs) zero lt = (x, refl)
+item_at (x ∷ xs) (suc i) lt = item_at xs i (omega (arith, lt))
 
 pub read_or : {X : Type 0} (xs : List X) (i : ℕ) (d r : X) → i < length xs → r ≡ get_or xs i r → get_or xs i d ≡ r
 read_or xs i d r lt is = sym (get_or_read xs i r lt is d)
@@ -41,7 +40,4 @@ module _ {X : Type 0} where
       grind (arith, cases_order, get_or_append_left, get_or_default, get_or_push, length_push, slice_get_cases)
 
   pub each_pushed : (P : ℕ → X → Type 0) (xs : List X) (y : X) → EachIs P xs → P (length xs) y → EachIs P (xs ++ y ∷ [])
-  each_pushed P xs y each here i x is = elim (found_in_longer xs y i x is) [
-    | inl there ↦ each i x there
-    | inr last ↦ rw last.0 (rw last.1 at here)
-  ]
+  each_pushed P xs y each here i x is = grind (arith, found_in_longer)

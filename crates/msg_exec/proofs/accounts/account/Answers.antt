@@ -10,8 +10,9 @@ returns g c = record {
       let lender = stands.lender in
       let within = stands.sound.places c.args.system t lt in
       -- a place is no further than the count, which is a `u64`
-      let few = count_below (slot (OfType t) c.args.core.now.lender.world) (s.world.histories t)
-      (lender.whole (OfType t) (omega (arith, lt, lender.types))) (lender.world (OfType t)) c.count_is_told.ensures.told in
+      let home = lender.whole (OfType t) (omega (arith, lt, lender.types)) in
+      let few = count_below (slot (OfType t) c.args.core.now.lender.world) (s.world.histories t) home
+      (lender.world (OfType t)) c.count_is_told.ensures.told in
       let sum = adds_up s c.args.system t lt stands.sound in
       grind (arith, kept_whole);
 }

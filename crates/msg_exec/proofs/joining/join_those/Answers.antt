@@ -1,14 +1,17 @@
 use Rattle.std.proofs.Common.{◌+◌, inl, inr, ◌≡◌, ◌<◌, None, length, sym, ap, ◌∙◌, arith, refl}
 use Rattle.std.specs.Vec.{with_items}
 use Rattle.msg_buffer.specs.Prelude.{count}
-use Rattle.std.proofs.lemmas.Bool.{and_right, cases_eq, lt-ltb, ne_eqb}
+use Rattle.std.proofs.lemmas.Bool.{and_right, cases_eq, eq-eqb, le-ltb, lt-ltb, ne_eqb}
 use Rattle.std.proofs.lemmas.List.FromFn.{fill_by_all}
 use Rattle.std.proofs.lemmas.Option.{get_or_from_slice_get}
-use Rattle.std.proofs.lemmas.List.{get_or_default, length-set, with_items_is}
-use Rattle.msg_frames.specs.Prelude.{State, with_joining}
+use Rattle.std.proofs.lemmas.List.{get_or_default, get_or-set_other, get_or-set_same, length-set, with_items_is}
+use Rattle.msg_frames.specs.Prelude.{Member, State, counts, job_begun, totals_from, with_joining}
 use Rattle.msg_exec.specs.Prelude.{system_at}
-use Rattle.msg_exec.proofs.SystemsJoin.{joined_below, members_alike, one_joins, still}
-use Rattle.msg_exec.proofs.SystemAfterTurn.{totals_there}
+use Rattle.msg_exec.proofs.SystemsJoin.{conditions_start, joined_below, members_alike, still}
+use Rattle.msg_exec.proofs.SystemAfterTurn.{member_stays, totals_there}
+use Rattle.msg_exec.proofs.ItemsOfLists.{get_other, get_same, some_of}
+use Rattle.msg_exec.specs.inner.Totals.{first_place}
+use Rattle.msg_system.specs.Prelude.{Job as JobState}
 use Rattle.msg_exec.proofs.joining.join_those.Goals as goal
 
 pub loop-i-preserved-then-joins-i : goal.loop-i-preserved-then-joins-i
@@ -56,33 +59,61 @@ loop-i-preserved g c =
     record {
       so_far = λ s stands joins fresh.
           let lt : i < s.systems = omega (arith, joins.as_many) in
-          let now = inv.so_far s stands joins fresh in
+          let m = g.S.System.meaning in
+          let lender = c.loop-i.lender in
+          let cs = c.counts-counts.result in
+          let x = c.begin.new.slot in
+          let member : Member = s.members i in
+          let far = inv.so_far s stands joins fresh in
           let its =
-          totals_there g.S.System.meaning c.loop-i.lender (joined_below i c.args.frame s) i
-          c.index_mut-in-loop-i.result.now lt c.index_mut-in-loop-i.ensures.value now in
+          totals_there m lender (joined_below i c.args.frame s) i c.index_mut-in-loop-i.result.now lt
+          c.index_mut-in-loop-i.ensures.value far in
           let w = with_items c.index_mut-in-loop-i.result.now c.begin.new.totals in
           let read : w.items ≡ c.begin.new.totals =
           with_items_is c.index_mut-in-loop-i.result.now c.begin.new.totals
           (omega (arith, c.begin.ensures.as_many, c.deref_mut.ensures.len)) in
-          let guarded : system_at c.loop-i.lender i ≡ c.index_mut.result.now =
-          get_or_default c.loop-i.lender.systems.items i None c.index_mut.result.now (omega (arith, lt, now.systems))
+          let many : length w.items ≡ s.types =
+          ap length read ∙ c.begin.ensures.as_many ∙ ap length c.deref_mut.ensures.value ∙ its.as_many in
+          let guarded : system_at lender i ≡ c.index_mut.result.now =
+          get_or_default lender.systems.items i None c.index_mut.result.now (omega (arith, lt, far.systems))
           ∙ sym c.index_mut.ensures.value in
-          one_joins g.S.System.meaning c.loop-i.lender _ s i c.args.frame c.counts-counts.result c.begin.new.slot _ lt
-          (sym (joins.each i lt) ∙ c.if-joins-i.false) fresh
-          (fill_by_all (λ t. count (s.world.histories t)) c.counts-counts.result s.types 0
-          (c.counts-counts.ensures.types ∙ stands.types) (λ k lt. get_or_from_slice_get c.counts-counts.result k
+          let same : cs ≡ counts s = fill_by_all (λ t. count (s.world.histories t)) cs s.types 0
+          (c.counts-counts.ensures.types ∙ stands.types) (λ k lt. get_or_from_slice_get cs k
           (count (s.world.histories k)) 0
-          (c.counts-counts.ensures.meaning s.world stands.world k (omega (arith, lt, stands.types)))))
-          (ap length read ∙ c.begin.ensures.as_many ∙ ap length c.deref_mut.ensures.value ∙ its.as_many)
-          (record {
-            systems = refl;
-            accesses = refl;
-            totals = refl;
-            world = refl;
-            begun = rw guarded c.begin.ensures.begun;
-            opened = rw (guarded, read, c.begin.ensures.as_many) c.begin.ensures.opened;
-          })
-          now;
+          (c.counts-counts.ensures.meaning s.world stands.world k (omega (arith, lt, stands.types)))) in
+          let here = rw (le-ltb i i (omega arith)) at (far.members i lt) in
+          let a = some_of (system_at lender i) here.guarded in
+          let b = some_of x (rw (← guarded, a.1.0) at c.begin.ensures.begun) in
+          let opened = rw (← guarded, a.1.0) at c.begin.ensures.opened in
+          let joined : (s.members i).join ≡ c.args.frame = sym (joins.each i lt) ∙ c.if-joins-i.false in
+          record {
+            systems = rw length-set far.systems;
+            accesses = far.accesses;
+            totals = rw length-set far.totals;
+            members = λ j below. elim (cases_eq j i) [
+              | inl is ↦ rw (is, lt-ltb i (i + 1) (omega arith), eq-eqb _ _ joined, ← same) (record {
+                guarded = rw (get_or-set_same lender.systems.items i x None (omega (arith, lt, far.systems)), b.1.0)
+                    (b.1.1 ∙ ap (job_begun cs) a.1.1);
+                access = rw (conditions_start member.job.system.start cs member.job.conditions) here.access;
+                home = here.home;
+                totals = rw (get_same lender.totals.items i w (omega (arith, lt, far.totals))) (record {
+                  as_many = many;
+                  each = λ t below. rw read (opened t (omega (arith, below, many, ap length read, c.begin.ensures.as_many))
+                      ∙ ap (λ (j : JobState). totals_from (first_place j.system cs t)) a.1.1
+                      ∙ rw (fresh i t joined) refl);
+                });
+              })
+              | inr other ↦ rw (still s i j c.args.frame other)
+                  (member_stays m lender _ s.types j ((joined_below i c.args.frame s).members j)
+                  (get_or-set_other lender.systems.items i j x None other) refl
+                  (get_other lender.totals.items i j w other)
+                  (record { size = record { types = refl; resources = refl }; there = λ p. refl })
+                  (far.members j below))
+            ];
+            world = far.world;
+            whole = far.whole;
+            types = far.types;
+          };
       systems = length-set c.loop-i.lender.systems.items i c.begin.new.slot ∙ inv.systems;
       totals = length-set c.loop-i.lender.totals.items i _ ∙ inv.totals;
       accesses = inv.accesses;

@@ -1,12 +1,28 @@
-use Rattle.msg_exec.proofs.BuilderBuilds.{may_be_added, no_clash_before, refusal_before}
+use Rattle.std.proofs.Common.{ap}
+use Rattle.std.proofs.lemmas.Option.{get_or_from_slice_get, slice_get_within}
+use Rattle.msg_system.specs.Prelude.{Meaning}
+use Rattle.msg_exec.proofs.BuilderBuilds.{before, no_clash_before, refusal_before}
 use Rattle.msg_exec.proofs.builder.EngineBuilder.build.Goals as goal
 
 pub new-requires-clause-each : goal.new-requires-clause-each
-new-requires-clause-each g c κs within =
-    may_be_added g.S.System.meaning c.self.inside.systems.items c.in_ok-systems.systems.items
-    c.in_ok-systems.ensures.as_many c.in_ok-systems.ensures.numbered c.args.world c.self.inside.places.items
-    c.self.invariant.1 c.self.invariant.2
-    (rw (c.deref.ensures.value, c.deref-2.ensures.value) at c.in_ok-check_systems.ensures.fit)
+new-requires-clause-each g c κs within i x there =
+    let old = c.self.inside.systems.items in
+    let places = c.self.inside.places.items in
+    let y = before g.S.System.meaning old c.in_ok-systems.systems.items c.in_ok-systems.ensures.as_many
+    c.in_ok-systems.ensures.numbered i x there in
+    let fit = rw (c.deref.ensures.value, c.deref-2.ensures.value) at c.in_ok-check_systems.ensures.fit in
+    record {
+      new =
+          record {
+            writer = ap (λ (m : Meaning). m.writer) y.1.1;
+            places = λ t. ap (λ (m : Meaning). m.places t) y.1.1;
+          };
+      fits = λ place sp p needed.
+          fit i y.0 place (slice_get_within old i y.0 y.1.0) y.1.0 sp p (rw y.1.1 at needed);
+      joins = λ place sp.
+          rw (get_or_from_slice_get places i place place sp)
+          at (c.self.invariant.2 i place (slice_get_within places i place sp));
+    }
 
 pub returns-in-Ok-clause-meaning : goal.returns-in-Ok-clause-meaning
 returns-in-Ok-clause-meaning g c w stands =
