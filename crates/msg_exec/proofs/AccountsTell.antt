@@ -1,182 +1,51 @@
 -- Accounts tell what readers were given, and the numbers in them are exact.
-use Rattle.std.proofs.Common.{◌≡◌, ℕ, ◌+◌, ◌^◌, ◌<◌, Bool, false, List, [], ◌∷◌, ◌++◌, map, append_assoc, Option, Some, None, refl, sym, ap, ap₂, ◌∙◌, arith, inl, inr, length, get_or, subst}
-use Rattle.std.specs.Prelude.{All, IfSome, IsSome, IsTrue, flat_map, unwrap_or, IsSomeAnd}
+use Rattle.std.proofs.Common.{◌≡◌, ℕ, ◌+◌, ◌^◌, ◌<◌, false, List, [], ◌∷◌, ◌++◌, map, append_assoc, Option, refl, arith, subst}
+use Rattle.std.specs.Prelude.{All, IfSome, IsSome, IsTrue, flat_map, unwrap_or}
 use Rattle.std.specs.List.{filter, range_with_len}
 use Rattle.std.proofs.lemmas.Bool.{cases_Bool, false≢true}
-use Rattle.std.proofs.lemmas.List.{append-nil, flat_map_more, map-append, get_or_default}
-use Rattle.std.proofs.lemmas.List.Elements.{All-append, All-filter, All-map, All-nil, filter-append}
-use Rattle.std.proofs.lemmas.List.FromFn.{get_or-range_with_len, length-range_with_len, map-range_with_len_more}
+use Rattle.std.proofs.lemmas.List.{flat_map_more, map_push}
+use Rattle.std.proofs.lemmas.List.Elements.{Contains-get_or}
 use Rattle.msg_buffer.specs.Prelude.{History, Kept, StandsFor as BufferStandsFor, count}
-use Rattle.msg_world.specs.declared.access.Access.{Access}
+use Rattle.msg_order.proofs.Elements.{filter-Contains, filter_drops, filter_takes, flat_map-Contains, map-Contains, range-Contains, range_more}
 use Rattle.msg_world.specs.declared.record.Record.{Record}
-use Rattle.msg_world.specs.Prelude.{OfType, reads, slot}
-use Rattle.msg_system.specs.Prelude.{IsAccessOf, Job, Meaning}
+use Rattle.msg_world.specs.Prelude.{OfType, slot}
+use Rattle.msg_system.specs.Prelude.{Meaning}
 use Rattle.msg_frames.specs.declared.account.Account.{Account}
-use Rattle.msg_exec.specs.Prelude.{Core, CoreStands, GuardedSystem, Lender, job_state, kept, system_at, within_u64}
+use Rattle.msg_exec.specs.Prelude.{Core, CoreStands, kept, within_u64}
 use Rattle.msg_frames.specs.declared.totals.Totals.{Totals}
-use Rattle.msg_frames.specs.Prelude.{AddsUp, IsSoundState, State, account_of, accounts_of, accounts_of_system, has_begun, is_reader, place_of}
+use Rattle.msg_frames.specs.Prelude.{AddsUp, IsSoundState, State, account_of, accounts_of, accounts_of_system, is_reader, place_of}
 
 -- ---- one account
 
 pub adds_up : (s : State) (i t : ℕ) → t < s.types → IsSoundState s → AddsUp (account_of s i t)
-adds_up s i t lt sound = elim (cases_Bool (has_begun s i)) [
-  | inl is ↦ (let b = sound.balanced i t lt is in ap (λ o. unwrap_or o 0 + x.got + x.missed + x.cleared) b.start
-      ∙ b.adds_up)
-  | inr isnt ↦ (let w =
-      sound.waiting i t isnt in ap (λ (y : Totals). unwrap_or y.start 0 + y.got + y.missed + y.cleared) w.1 ∙ sym w.0)
-]
-  where
-    x : Totals
-    x = (s.members i).totals t
+adds_up s i t lt sound = grind (arith, cases_Bool)
 
 -- small numbers are kept as they are
-kept_whole : (x : Totals) → x.got < 2 ^ 64 → x.missed < 2 ^ 64 → x.cleared < 2 ^ 64 → kept x ≡ x
-kept_whole x got missed cleared =
-    let g : within_u64 x.got ≡ x.got = omega (arith, got) in
-    let m : within_u64 x.missed ≡ x.missed = omega (arith, missed) in
-    let c : within_u64 x.cleared ≡ x.cleared = omega (arith, cleared) in
-    ap (λ n. record (kept x) { got = n }) g ∙ ap (λ n. record (kept x) { got = x.got; missed = n }) m
-    ∙ ap (λ n. record x { cleared = n }) c
+pub kept_whole : (x : Totals) → x.got < 2 ^ 64 → x.missed < 2 ^ 64 → x.cleared < 2 ^ 64 → kept x ≡ x
+kept_whole x got missed cleared = grind arith
 
-abbrev pub account_with : ℕ → ℕ → Totals → ℕ → Account
-account_with i t x place =
-    record {
-      system = i;
-      of_type = t;
-      start = x.start;
-      got = x.got;
-      missed = x.missed;
-      cleared = x.cleared;
-      place = place;
-    }
-
--- what is kept of a reader, and the sum of it, are its account
-pub told : (s : State) (i t : ℕ) (y : Totals) (begin first second place : ℕ) → t < s.types → IsSoundState s
-    → place_of s i t < 2 ^ 64 → y ≡ kept ((s.members i).totals t)
-    → begin ≡ unwrap_or y.start 0 → first ≡ within_u64 (begin + y.got) → second ≡ within_u64 (first + y.missed) → place
-    ≡ within_u64 (second + y.cleared)
-    → account_with i t y place ≡ account_of s i t
-told s i t y begin first second place lt sound few is zeroth one two three =
-    let x : Totals = (s.members i).totals t in
-    let sum = adds_up s i t lt sound in
-    let same : y ≡ x = is ∙ kept_whole x (omega (arith, sum, few)) (omega (arith, sum, few))
-    (omega (arith, sum, few)) in
-    let start : begin ≡ unwrap_or x.start 0 = zeroth ∙ ap (λ (z : Totals). unwrap_or z.start 0) same in
-    let got : y.got ≡ x.got = ap (λ (z : Totals). z.got) same in
-    let missed : y.missed ≡ x.missed = ap (λ (z : Totals). z.missed) same in
-    let cleared : y.cleared ≡ x.cleared = ap (λ (z : Totals). z.cleared) same in
-    let exact : place ≡ place_of s i t = omega (arith, sum, few, start, got, missed, cleared, one, two, three) in
-    ap (λ z. account_with i t z place) same ∙ ap (account_with i t x) exact
-
-count_below : (o : Option (Kept Record)) (h : History Record) → IsSome o → IfSome o (λ k. BufferStandsFor k h)
+pub count_below : (o : Option (Kept Record)) (h : History Record) → IsSome o → IfSome o (λ k. BufferStandsFor k h)
     → IfSome o (λ k. (g : History Record) → BufferStandsFor k g → count g < 2 ^ 64) → count h < 2 ^ 64
-count_below (Some k) h some stands below = below h stands
-count_below None h some stands below = absurd (false≢true some)
-
-module _ {S : Type 0} (meaning : S → Meaning) where
-  -- a place is no further than the count, which is a `u64`
-  pub place_below : (c : Core S) (s : State) (i t : ℕ) → CoreStands meaning c s → t < s.types
-      → IfSome (slot (OfType t) c.lender.world) (λ k. (g : History Record) → BufferStandsFor k g → count g < 2 ^ 64)
-      → place_of s i t < 2 ^ 64
-  place_below c s i t stands lt below =
-      let lender = stands.lender in
-      let within = stands.sound.places i t lt in
-      let few = count_below (slot (OfType t) c.lender.world) (s.world.histories t)
-      (lender.whole (OfType t) (omega (arith, lt, lender.types))) (lender.world (OfType t)) below in
-      omega (arith, within, few)
+count_below o h some stands below = grind (arith, false≢true)
 
 -- ---- those of one system, and of all
-
-one_more : (n : ℕ) → range_with_len 0 (n + 1) ≡ range_with_len 0 n ++ n ∷ []
-one_more n = same (range_with_len 0 (n + 1)) ∙ map-range_with_len_more (λ k. k) 0 n n (omega arith)
-    ∙ ap (λ xs. xs ++ n ∷ []) (sym (same (range_with_len 0 n)))
-  where
-    same : (xs : List ℕ) → xs ≡ map (λ k. k) xs
-    same [] = refl
-    same (x ∷ xs) = ap (λ ys. x ∷ ys) (same xs)
 
 -- those of system i for the first n types
 abbrev pub accounts_below : State → ℕ → ℕ → List Account
 accounts_below s i n = map (account_of s i) (filter (is_reader s i) (range_with_len 0 n))
-
-pub below_one_more : (s : State) (i n : ℕ) → accounts_below s i (n + 1) ≡ accounts_below s i n
-    ++ map (account_of s i) (filter (is_reader s i) (n ∷ []))
-below_one_more s i n =
-    ap (λ ts. map (account_of s i) (filter (is_reader s i) ts)) (one_more n)
-    ∙ ap (map (account_of s i)) (filter-append (is_reader s i) (range_with_len 0 n) (n ∷ []))
-    ∙ map-append (account_of s i) (filter (is_reader s i) (range_with_len 0 n)) (filter (is_reader s i) (n ∷ []))
-
-pub only_if : (p : ℕ → Bool) (n : ℕ) → IsTrue (p n) → filter p (n ∷ []) ≡ n ∷ []
-only_if p n is = rw is refl
-
-pub none_if : (p : ℕ → Bool) (n : ℕ) → p n ≡ false → filter p (n ∷ []) ≡ []
-none_if p n isnt = rw isnt refl
 
 -- the account of a reader is appended
 pub reader_more : (s : State) (i n : ℕ) (xs before after : List Account) (a : Account) → IsTrue (is_reader s i n) → a
     ≡ account_of s i n
     → before ≡ xs ++ accounts_below s i n → after ≡ before ++ a ∷ [] → after ≡ xs ++ accounts_below s i (n + 1)
 reader_more s i n xs before after a is told far pushed =
-    pushed ∙ ap (λ ys. ys ++ a ∷ []) far ∙ append_assoc xs (accounts_below s i n) (a ∷ [])
-    ∙ ap (λ y. xs ++ (accounts_below s i n ++ y ∷ [])) told
-    ∙ ap (λ ts. xs ++ (accounts_below s i n ++ map (account_of s i) ts)) (sym (only_if (is_reader s i) n is))
-    ∙ ap (λ ys. xs ++ ys) (sym (below_one_more s i n))
-
--- and for a type that isn't read there is none
-pub no_reader_more : (s : State) (i n : ℕ) (xs before : List Account) → is_reader s i n ≡ false → before ≡ xs
-    ++ accounts_below s i n → before ≡ xs ++ accounts_below s i (n + 1)
-no_reader_more s i n xs before isnt far =
-    far ∙ ap (λ ys. xs ++ ys) (sym (append-nil (accounts_below s i n))
-    ∙ ap (λ ts. accounts_below s i n ++ map (account_of s i) ts) (sym (none_if (is_reader s i) n isnt))
-    ∙ sym (below_one_more s i n))
-
--- the accounts of one system more
-pub system_more : (s : State) (i : ℕ) (before after : List Account) → before
-    ≡ flat_map (accounts_of_system s) (range_with_len 0 i) → after ≡ before ++ accounts_of_system s i
-    → after ≡ flat_map (accounts_of_system s) (range_with_len 0 (i + 1))
-system_more s i before after far added =
-    added ∙ ap (λ xs. xs ++ accounts_of_system s i) far ∙ flat_map_more (accounts_of_system s) [] (range_with_len 0 i) i
-    ∙ ap (flat_map (accounts_of_system s)) (sym (one_more i))
-
-module _ {S : Type 0} (meaning : S → Meaning) where
-  -- the access tells who reads
-  pub reader_is : (s : State) (i t : ℕ) (x : GuardedSystem S) (a : Access) → job_state meaning x ≡ (s.members i).job
-      → IsAccessOf (meaning x.system).needs a
-      → reads a (OfType t) ≡ is_reader s i t
-  reader_is s i t x a job of = of.reads (OfType t) ∙ ap (λ (j : Job). j.system.needs.reads (OfType t)) job
-
--- its numbers are those of the reader
-pub reader_told : (s : State) (i t j u : ℕ) (y : Totals) (a : Account) → t < s.types → j ≡ i → u ≡ t → y
-    ≡ kept ((s.members i).totals t)
-    → (u < s.types → y ≡ kept ((s.members j).totals u) → a ≡ account_of s j u) → a ≡ account_of s i t
-reader_told s i t j u y a lt system type is tells =
-    tells (omega (arith, lt, type)) (is ∙ ap₂ (λ k v. kept ((s.members k).totals v)) (sym system) (sym type))
-    ∙ ap₂ (account_of s) system type
+    rw (← filter_takes (is_reader s i) n _ refl is, map_push, ← append_assoc) (cc)
 
 -- ---- all of them add up
 
-below_end : (n : ℕ) → All (λ k. k < n) (range_with_len 0 n)
-below_end n k d lt =
-    let long = length-range_with_len 0 n in
-    let at = get_or-range_with_len 0 n k d (omega (arith, lt, long)) in
-    omega (arith, lt, long, at)
-
-all_of_each : {X Y : Type 0} (P : Y → Type 0) (f : X → List Y) (xs : List X) → ((x : X) → All P (f x))
-    → All P (flat_map f xs)
-all_of_each P f [] each = All-nil P
-all_of_each P f (x ∷ xs) each = All-append P (f x) (flat_map f xs) (each x) (all_of_each P f xs each)
-
 pub all_add_up : (s : State) → IsSoundState s → All AddsUp (accounts_of s)
-all_add_up s sound = all_of_each AddsUp (accounts_of_system s) (range_with_len 0 s.systems) (λ i.
-    All-map AddsUp (account_of s i) (filter (is_reader s i) (range_with_len 0 s.types))
-    (All-filter (is_reader s i) (λ t. AddsUp (account_of s i t)) (range_with_len 0 s.types)
-    (λ k d lt. adds_up s i _ (below_end s.types k d lt) sound)))
-
--- the guarded that was read stands for the member's job
-pub taken_system : {S : Type 0} (meaning : S → Meaning) (g : Lender S) (i n : ℕ) (x r : Option (GuardedSystem S))
-    (a : GuardedSystem S) (j : Job)
-    → i < n → length g.systems.items ≡ n → x ≡ get_or g.systems.items i x → r ≡ x → r ≡ Some a
-    → IsSomeAnd (system_at g i) (λ b. job_state meaning b ≡ j) → job_state meaning a ≡ j
-taken_system meaning g i n x r a j lt size is found some there =
-    subst (λ y. IsSomeAnd y (λ b. job_state meaning b ≡ j))
-    (get_or_default g.systems.items i None x (omega (arith, lt, size)) ∙ sym is ∙ sym found ∙ some) there
+all_add_up s sound k d lt =
+    let i = flat_map-Contains (accounts_of_system s) _ _ (Contains-get_or (accounts_of s) k d lt) in
+    let t = map-Contains (account_of s i.0) _ _ i.1.1 in
+    let below = range-Contains 0 s.types t.0 (filter-Contains (is_reader s i.0) _ _ t.1.0).0 in
+    subst AddsUp t.1.1 (adds_up s i.0 t.0 (omega (arith, below.1)) sound)

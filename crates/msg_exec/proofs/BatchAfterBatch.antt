@@ -1,21 +1,21 @@
 -- Turns one after the other, batch after batch.
-use Rattle.std.proofs.Common.{◌≡◌, ℕ, ◌+◌, ◌<◌, List, [], ◌∷◌, ◌++◌, length, map, take, get_or, refl, sym, ap, subst, ◌∙◌, append_assoc, ◌≢◌, zero, suc, ◌≤◌, ◌==◌, true, inl, inr, arith}
+use Rattle.std.proofs.Common.{◌≡◌, ℕ, ◌+◌, ◌<◌, List, [], ◌∷◌, ◌++◌, length, map, take, get_or, refl, sym, ap, ◌∙◌, append_assoc, ◌≢◌, zero, suc, ◌≤◌, arith}
 use Rattle.std.specs.Global.{Vec}
 use Rattle.std.specs.List.{concat}
-use Rattle.std.proofs.lemmas.List.{append-nil, map-append, take_more, get_or-map}
+use Rattle.std.proofs.lemmas.List.{append-nil, map_push, take_all, take_more, get_or-map}
 use Rattle.std.proofs.lemmas.List.Folds.{concat-append}
-use Rattle.std.proofs.Math.Seq.{take-length}
 use Rattle.msg_system.specs.Prelude.{Meaning}
 use Rattle.msg_frames.specs.declared.log.Turn.{Turn}
 use Rattle.msg_exec.specs.Prelude.{Lender, LenderStands}
 use Rattle.msg_frames.specs.Prelude.{AfterTurns, after_turn_of, after_turns_of, logged_turn, State}
-use Rattle.std.proofs.lemmas.Bool.{false≢true}
+use Rattle.std.proofs.lemmas.Bool.{eqb-true}
 use Rattle.std.specs.Prelude.{All, AllPairs}
-use Rattle.std.proofs.lemmas.Bool.Decides.{Decides-eqb, eqb_tells}
+use Rattle.std.proofs.lemmas.Bool.Decides.{Decides-eqb}
 use Rattle.std.proofs.lemmas.List.Elements.{All-contains}
 use Rattle.std.proofs.lemmas.Map.Made.{IsDistinct-from_AllPairs}
 use Rattle.std.proofs.lemmas.Map.Steps.{length-le_from_distinct_below}
 use Rattle.std.proofs.lemmas.Map.Views.{Contains-from_any}
+use Rattle.msg_frames.proofs.SystemsStay.{turns_keep_systems}
 use Rattle.msg_frames.proofs.ElementsAndPairs.{pairs_left, pairs_right}
 
 abbrev and_then : AfterTurns → List ℕ → AfterTurns
@@ -29,8 +29,7 @@ turns_then_more (i ∷ is) js s =
     (turns_then_more is js (after_turn_of i s))
 
 pub as_many_systems : (is : List ℕ) (s : State) → (after_turns_of is s).state.systems ≡ s.systems
-as_many_systems [] s = refl
-as_many_systems (i ∷ is) s = as_many_systems is (after_turn_of i s)
+as_many_systems is s = (turns_keep_systems is s).systems
 
 -- what holds after the turns of some systems
 abbrev pub HasTurned : {S : Type 0} → (S → Meaning) → List ℕ → State → Lender S → List Turn → List Turn → Type 0
@@ -45,18 +44,16 @@ pub turned_more : {S : Type 0} (meaning : S → Meaning) (is js : List ℕ) (s :
     → HasTurned meaning (is ++ js) s h before after
 turned_more meaning is js s g h before between after far state turns =
     let x = after_turns_of is s in
-    let all = turns_then_more is js s in (
-      subst (λ (y : AfterTurns). LenderStands meaning h y.state) (sym all) (state x.state far.0),
+    rw (turns_then_more is js s) (
+      state x.state far.0,
       turns x.state far.0 ∙ ap (λ ts. ts ++ (after_turns_of js x.state).turns) far.1
-          ∙ append_assoc before x.turns (after_turns_of js x.state).turns
-          ∙ ap (λ (y : AfterTurns). before ++ y.turns) (sym all),
+          ∙ append_assoc before x.turns (after_turns_of js x.state).turns,
     )
 
 pub turned_all : {S : Type 0} (meaning : S → Meaning) (is : List ℕ) (k : ℕ) (s : State) (g : Lender S)
     (before after : List Turn) → k ≡ length is
     → HasTurned meaning (take k is) s g before after → HasTurned meaning is s g before after
-turned_all meaning is k s g before after end far = subst (λ xs. HasTurned meaning xs s g before after)
-    (ap (λ n. take n is) end ∙ take-length is) far
+turned_all meaning is k s g before after end far = rw (take_all k is (omega (arith, end))) at far
 
 -- ---- batch by batch
 
@@ -66,23 +63,15 @@ systems_of batches = concat (map (λ batch. batch.items) batches)
 pub one_batch_more : (batches : List (Vec ℕ)) (k : ℕ) (batch : Vec ℕ) → k < length batches → batch
     ≡ get_or batches k batch
     → systems_of (take (k + 1) batches) ≡ systems_of (take k batches) ++ batch.items
-one_batch_more batches k batch lt is =
-    ap systems_of (take_more batches k batch lt)
-    ∙ ap concat (map-append (λ b. b.items) (take k batches) (get_or batches k batch ∷ []))
-    ∙ concat-append (map (λ b. b.items) (take k batches)) ((get_or batches k batch).items ∷ [])
-    ∙ ap (λ xs. systems_of (take k batches) ++ xs) (append-nil (get_or batches k batch).items)
-    ∙ ap (λ (b : Vec ℕ). systems_of (take k batches) ++ b.items) (sym is)
+one_batch_more batches k batch lt is = rw (take_more batches k batch lt, ← is, map_push, concat-append, append-nil)
 
 -- ---- one batch of several, and how many systems it has
-
-same : (x y : ℕ) → (x == y) ≡ true → x ≡ y
-same x y is = elim (eqb_tells x y) [ inl both ↦ both.1 | inr other ↦ absurd (false≢true (sym other.0 ∙ is)) ]
 
 -- numbers below n, each once, are no more than n
 pub no_more_than : (is : List ℕ) (n : ℕ) → All (λ i. i < n) is → AllPairs (λ i j. i ≢ j) is → length is ≤ n
 no_more_than is n below once =
     length-le_from_distinct_below is n (IsDistinct-from_AllPairs Decides-eqb is once)
-    (λ q found. All-contains (λ i. i < n) is q below (Contains-from_any same q is found))
+    (λ q found. All-contains (λ i. i < n) is q below (Contains-from_any eqb-true q is found))
 
 -- what holds of all pairs holds of those of one batch
 pub pairs_of_one : (R : ℕ → ℕ → Type 0) (batches : List (List ℕ)) (k : ℕ) (d : List ℕ) → k < length batches
@@ -96,5 +85,5 @@ pairs_of_one R (b ∷ bs) (suc k) d lt pairs =
 pub its_systems : (batches : List (Vec ℕ)) (k : ℕ) (batch : Vec ℕ) (systems : List ℕ) → k < length batches → batch
     ≡ get_or batches k batch → systems ≡ batch.items
     → get_or (map (λ (b : Vec ℕ). b.items) batches) k [] ≡ systems
-its_systems batches k batch systems lt is read = get_or-map (λ (b : Vec ℕ). b.items) batches k batch [] lt
-    ∙ ap (λ (b : Vec ℕ). b.items) (sym is) ∙ sym read
+its_systems batches k batch systems lt is read =
+    rw (get_or-map (λ (b : Vec ℕ). b.items) batches k batch [] lt, ← is) (sym read)

@@ -2,7 +2,7 @@
 use Rattle.std.proofs.Common.{◌≡◌, ◌≢◌, ℕ, ◌<◌, ◌||◌, false, List, [], ◌∷◌, ◌++◌, length, get_or, take, refl, sym, ap, subst, ◌∙◌, inl, inr, arith}
 use Rattle.std.specs.Prelude.{All, AllPairs, Contains, IsTrue}
 use Rattle.std.proofs.Math.Bool.{or-false, or_assoc}
-use Rattle.std.proofs.lemmas.Bool.{and_from, cases_Bool, or_right}
+use Rattle.std.proofs.lemmas.Bool.{and_from, false_from_ne_true, or_right}
 use Rattle.std.proofs.lemmas.List.{get_or-take, get_or_default, length-take-le}
 use Rattle.std.proofs.lemmas.List.Elements.{All-contains, All-head, All-tail}
 use Rattle.msg_world.specs.declared.access.Access.{Access}
@@ -17,11 +17,9 @@ use Rattle.msg_order.proofs.Elements.{Contains-cases}
 -- what holds of each pair holds of each element before this one, and it
 pub each_before : {X : Type 0} (R : X → X → Type 0) (xs : List X) (k : ℕ) (d : X) → k < length xs → AllPairs R xs
     → All (λ x. R x (get_or xs k d)) (take k xs)
-each_before R xs k d lt pairs = λ m e below.
+each_before R xs k d lt pairs m e below =
     let earlier : m < k = omega (arith, below, length-take-le k xs (omega (arith, lt))) in
-    let same : R (get_or xs m e) (get_or xs k d) = subst (R (get_or xs m e)) (get_or_default xs k e d lt)
-    (pairs m k e earlier lt) in
-    subst (λ x. R x (get_or xs k d)) (sym (get_or-take k xs m e earlier)) same
+    rw (get_or-take k xs m e earlier, ← get_or_default xs k e d lt) (pairs m k e earlier lt)
 
 pub not_before : (xs : List ℕ) (i : ℕ) → All (λ x. x ≢ i) xs → ¬ Contains xs i
 not_before xs i all there = All-contains (λ x. x ≢ i) xs i all there refl
@@ -30,16 +28,12 @@ not_before xs i all there = All-contains (λ x. x ≢ i) xs i all there refl
 
 -- neither writes what the other uses
 pub first_unwritten : (a b : Access) (p : Part) → ¬ Conflict a b → IsTrue (uses b p) → writes a p ≡ false
-first_unwritten a b p none used = elim (cases_Bool (writes a p)) [
-  | inl is ↦ absurd (none (p, inl (and_from (writes a p) (uses b p) is used)))
-  | inr isnt ↦ isnt
-]
+first_unwritten a b p none used =
+    false_from_ne_true (writes a p) (λ is. none (p, inl (and_from (writes a p) (uses b p) is used)))
 
 pub second_unwritten : (a b : Access) (p : Part) → ¬ Conflict a b → IsTrue (uses a p) → writes b p ≡ false
-second_unwritten a b p none used = elim (cases_Bool (writes b p)) [
-  | inl is ↦ absurd (none (p, inr (and_from (writes b p) (uses a p) is used)))
-  | inr isnt ↦ isnt
-]
+second_unwritten a b p none used =
+    false_from_ne_true (writes b p) (λ is. none (p, inr (and_from (writes b p) (uses a p) is used)))
 
 pub written_is_used : (a : Access) (p : Part) → IsTrue (writes a p) → IsTrue (uses a p)
 written_is_used a p is = or_right (reads a p) (writes a p) is
@@ -74,21 +68,13 @@ module _ (accesses : List Access) where
       → any_writes accesses is p ≡ false
   others_write_not [] i p none there used isnt = refl
   others_write_not (x ∷ xs) i p none there used isnt = elim (Contains-cases x xs i there) [
-    | inl same ↦
-        let here : writes (access_of accesses x) p ≡ false = ap (λ k. writes (access_of accesses k) p) same ∙ isnt in
-        rw here (later_write_not xs x p (pairs_head Free x xs none)
-        (ap (λ k. uses (access_of accesses k) p) same ∙ used))
-    | inr later ↦
-        let here : writes (access_of accesses x) p
-        ≡ false =
-        first_unwritten _ (access_of accesses i) p
-        (All-contains (Free x) xs i (pairs_head Free x xs none) later) used in
-        rw here (others_write_not xs i p (pairs_tail Free x xs none) later used isnt)
+    | inl same ↦ rw (same, isnt) (later_write_not xs i p (rw same at (pairs_head Free x xs none)) used)
+    | inr later ↦ rw (first_unwritten (access_of accesses x) (access_of accesses i) p
+        (All-contains (Free x) xs i (pairs_head Free x xs none) later) used)
+        (others_write_not xs i p (pairs_tail Free x xs none) later used isnt)
   ]
 
   pub any_more : (is : List ℕ) (i : ℕ) (p : Part) → any_writes accesses (is ++ i ∷ []) p
       ≡ (any_writes accesses is p || writes (access_of accesses i) p)
   any_more [] i p = or-false (writes (access_of accesses i) p)
-  any_more (x ∷ xs) i p =
-      ap (λ b. writes (access_of accesses x) p || b) (any_more xs i p)
-      ∙ sym (or_assoc (writes (access_of accesses x) p) (any_writes accesses xs p) (writes (access_of accesses i) p))
+  any_more (x ∷ xs) i p = rw (any_more xs i p, or_assoc) refl

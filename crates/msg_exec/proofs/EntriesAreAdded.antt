@@ -1,11 +1,10 @@
 -- Entries are added to totals one by one.
-use Rattle.std.proofs.Common.{◌≡◌, ℕ, zero, suc, ◌+◌, ◌<◌, ◌≤◌, ◌==◌, List, [], ◌∷◌, ◌++◌, length, drop, get_or, Option, Some, None, refl, sym, ap, subst, ◌∙◌, arith}
+use Rattle.std.proofs.Common.{add-one, ◌≡◌, ℕ, zero, suc, ◌+◌, ◌<◌, ◌≤◌, ◌==◌, List, [], ◌∷◌, ◌++◌, length, drop, get_or, Option, Some, None, refl, sym, ap, subst, ◌∙◌, arith}
 use Rattle.std.specs.Prelude.{false, slice_get, option_to_list, unwrap_or, if◌then◌else◌}
-use Rattle.std.proofs.Math.ListN.{drop_of_length-le}
 use Rattle.std.specs.Global.{Vec}
 use Rattle.std.specs.Vec.{with_items}
-use Rattle.std.proofs.lemmas.List.{with_items_is}
-use Rattle.std.proofs.lemmas.Option.{none-some, slice_get-get_or, unwrap_or-slice_get}
+use Rattle.std.proofs.lemmas.List.{drop_all, with_items_is}
+use Rattle.std.proofs.lemmas.Option.{none-some, slice_get_read, unwrap_or-slice_get}
 use Rattle.msg_system.specs.declared.op.Op.{Op}
 use Rattle.msg_system.specs.declared.reply.Reply.{Reply}
 use Rattle.msg_system.specs.Prelude.{Meaning, type_read}
@@ -40,30 +39,9 @@ entries_from t (op ∷ ops) (r ∷ replies) zero reply here =
 entries_from t [] (r ∷ replies) (suc k) reply here = refl
 entries_from t (op ∷ ops) (r ∷ replies) (suc k) reply here = entries_from t ops replies k reply here
 
-without_replies : (t : ℕ) (ops : List Op) → entries_for t ops [] ≡ []
+pub without_replies : (t : ℕ) (ops : List Op) → entries_for t ops [] ≡ []
 without_replies t [] = refl
 without_replies t (op ∷ ops) = refl
-
--- ---- the loop over the replies
-
-pub entered_one_more : (t : ℕ) (ops : List Op) (replies : List Reply) (k : ℕ) (reply : Reply) (y z : Totals)
-    → k < length replies → reply ≡ get_or replies k reply
-    → with_entries (entries_for t (drop k ops) (drop k replies)) y ≡ z
-    → with_entries (entries_for t (drop (k + 1) ops) (drop (k + 1) replies)) (with_entries (entry_at t ops k reply) y)
-    ≡ z
-entered_one_more t ops replies k reply y z lt is to =
-    let here : slice_get replies k ≡ Some reply = slice_get-get_or replies k reply lt ∙ ap (λ r. Some r) (sym is) in
-    let next : k + 1 ≡ suc k = omega arith in
-    ap (λ n. with_entries (entries_for t (drop n ops) (drop n replies)) (with_entries (entry_at t ops k reply) y)) next
-    ∙ sym (with_entries-append (entry_at t ops k reply) (entries_for t (drop (suc k) ops) (drop (suc k) replies)) y)
-    ∙ ap (λ es. with_entries es y) (sym (entries_from t ops replies k reply here)) ∙ to
-
-pub entered_all : (t : ℕ) (ops : List Op) (replies : List Reply) (k : ℕ) (y z : Totals) → length replies ≤ k
-    → with_entries (entries_for t (drop k ops) (drop k replies)) y ≡ z → y ≡ z
-entered_all t ops replies k y z le to =
-    sym (with_entries-none y)
-    ∙ ap (λ es. with_entries es y) (sym
-    (ap (λ rs. entries_for t (drop k ops) rs) (drop_of_length-le replies le) ∙ without_replies t (drop k ops))) ∙ to
 
 -- ---- the totals of a system, among those of all
 

@@ -17,7 +17,6 @@ mod BatchAfterBatch
 mod SystemsJoin
 mod PostsAreWritten
 mod CoreRunsFrame
-mod CoreReplaysFrame
 -- ---- an engine
 mod FirstEngineStands
 mod BuilderBuilds

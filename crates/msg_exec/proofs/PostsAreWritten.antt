@@ -1,5 +1,5 @@
 -- Posts one after the other.
-use Rattle.std.proofs.Common.{◌≡◌, ℕ, ℤ, ◌+◌, ◌<◌, List, [], ◌∷◌, ◌++◌, length, take, get_or, Result, Ok, Err, refl, sym, ap, subst, ◌∙◌}
+use Rattle.std.proofs.Common.{◌≡◌, ℕ, ℤ, ◌+◌, ◌<◌, List, [], ◌∷◌, ◌++◌, length, take, get_or, Result, Ok, Err, refl, ap}
 use Rattle.std.specs.Prelude.{OnErr}
 use Rattle.std.proofs.lemmas.List.{take_more}
 use Rattle.msg_buffer.specs.Prelude.{write}
@@ -20,29 +20,14 @@ HasPosted ps w parts replies = PartsStand parts (after_posts ps w) × (replies �
 abbrev after_post : ℕ × ℤ → WorldState → WorldState
 after_post p w = with_history w p.0 (write (by HOST p.1 ∷ []) (w.histories p.0))
 
-posted_more : (ps : List (ℕ × ℤ)) (p : ℕ × ℤ) (w : WorldState) → after_posts (ps ++ p ∷ []) w
+pub posted_more : (ps : List (ℕ × ℤ)) (p : ℕ × ℤ) (w : WorldState) → after_posts (ps ++ p ∷ []) w
     ≡ after_post p (after_posts ps w)
 posted_more [] p w = refl
 posted_more (q ∷ ps) p w = posted_more ps p (after_post q w)
 
-replies_more : (ps : List (ℕ × ℤ)) (p : ℕ × ℤ) (w : WorldState)
+pub replies_more : (ps : List (ℕ × ℤ)) (p : ℕ × ℤ) (w : WorldState)
     → post_replies (ps ++ p ∷ []) w ≡ post_replies ps w
     ++ write_reply (numbers_for ((after_posts ps w).histories p.0) 1) ∷ []
 replies_more [] p w = refl
 replies_more (q ∷ ps) p w = ap (λ rs. write_reply (numbers_for (w.histories q.0) 1) ∷ rs)
     (replies_more ps p (after_post q w))
-
-pub one_post_more : (ps : List (ℕ × ℤ)) (k : ℕ) (p : ℕ × ℤ) (w : WorldState) (old new : Parts) (before : List Reply)
-    (reply : Reply) → k < length ps → p ≡ get_or ps k p
-    → HasPosted (take k ps) w old before
-    → ((w : WorldState) → PartsStand old w → PartsStand new (after_post p w))
-    → ((w : WorldState) → PartsStand old w → reply ≡ write_reply (numbers_for (w.histories p.0) 1))
-    → HasPosted (take (k + 1) ps) w new (before ++ reply ∷ [])
-one_post_more ps k p w old new before reply lt is far state said =
-    let longer : take (k + 1) ps ≡ take k ps ++ p ∷ [] = take_more ps k p lt ∙ ap (λ x. take k ps ++ x ∷ []) (sym is) in
-    let now : WorldState = after_posts (take k ps) w in
-    subst (λ xs. HasPosted xs w new (before ++ reply ∷ [])) (sym longer) (
-      subst (PartsStand new) (sym (posted_more (take k ps) p w)) (state now far.0),
-      ap (λ rs. rs ++ reply ∷ []) far.1 ∙ ap (λ r. post_replies (take k ps) w ++ r ∷ []) (said now far.0)
-          ∙ sym (replies_more (take k ps) p w),
-    )

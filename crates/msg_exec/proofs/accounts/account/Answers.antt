@@ -1,12 +1,18 @@
-use Rattle.msg_exec.proofs.AccountsTell.{place_below, told}
+use Rattle.std.proofs.Common.{arith}
+use Rattle.msg_world.specs.Prelude.{OfType, slot}
+use Rattle.msg_exec.proofs.AccountsTell.{adds_up, count_below, kept_whole}
 use Rattle.msg_exec.proofs.accounts.account.Goals as goal
 
 pub returns : goal.returns
 returns g c = record {
   account = λ s stands lt is.
-      told s c.args.system c.args.of_type c.args.totals.now c.unwrap_or.result c.saturating_add.result
-      c.saturating_add-2.result c.saturating_add-place.result lt stands.sound
-      (place_below g.S.System.meaning c.args.core.now s c.args.system c.args.of_type stands lt
-      c.count_is_told.ensures.told) is
-      c.unwrap_or.ensures c.saturating_add.ensures c.saturating_add-2.ensures c.saturating_add-place.ensures;
+      let t = c.args.of_type in
+      let lender = stands.lender in
+      let within = stands.sound.places c.args.system t lt in
+      -- a place is no further than the count, which is a `u64`
+      let home = lender.whole (OfType t) (omega (arith, lt, lender.types)) in
+      let few = count_below (slot (OfType t) c.args.core.now.lender.world) (s.world.histories t) home
+      (lender.world (OfType t)) c.count_is_told.ensures.told in
+      let sum = adds_up s c.args.system t lt stands.sound in
+      grind (arith, kept_whole);
 }

@@ -1,8 +1,18 @@
-use Rattle.msg_exec.proofs.AccountsTell.{system_more}
+use Rattle.std.proofs.Common.{[]}
+use Rattle.std.specs.List.{range_with_len}
+use Rattle.std.proofs.lemmas.List.{flat_map_more}
+use Rattle.msg_order.proofs.Elements.{range_more}
+use Rattle.msg_frames.specs.Prelude.{accounts_of_system}
 use Rattle.msg_exec.proofs.accounts.accounts_in.Goals as goal
 
 pub loop-i-preserved : goal.loop-i-preserved
-loop-i-preserved g c = record {
-  so_far = λ s stands. system_more s c.loop-i.i c.loop-i.accounts.items c.add_accounts.new.accounts.items
-      (c.loop-i.invariant.so_far s stands) (c.in_ok-add_accounts.ensures.added s stands);
-}
+loop-i-preserved g c =
+    let i = c.loop-i.i in
+    record {
+      so_far = λ s stands.
+          rw (
+            range_more i,
+            ← flat_map_more (accounts_of_system s) [] (range_with_len 0 i) i,
+            ← c.loop-i.invariant.so_far s stands,
+          ) (c.in_ok-add_accounts.ensures.added s stands);
+    }

@@ -1,11 +1,11 @@
-use Rattle.std.proofs.Common.{◌≡◌, ◌<◌, refl, sym, ap, get_or, ◌∙◌, arith}
-use Rattle.std.specs.Global.{Vec}
-use Rattle.msg_world.specs.Prelude.{OfType, reads}
-use Rattle.msg_frames.specs.declared.totals.Totals.{Totals}
+use Rattle.std.proofs.Common.{refl, ◌≡◌, ◌<◌, None, ap, sym, ◌∙◌, arith}
+use Rattle.std.proofs.lemmas.List.{get_or_default}
+use Rattle.msg_order.proofs.Elements.{filter_drops}
+use Rattle.msg_world.specs.Prelude.{OfType}
+use Rattle.msg_system.specs.Prelude.{Job}
 use Rattle.msg_frames.specs.Prelude.{is_reader, no_totals}
-use Rattle.msg_exec.specs.Prelude.{TotalsStand}
-use Rattle.msg_exec.proofs.ItemsOfLists.{taken_from}
-use Rattle.msg_exec.proofs.AccountsTell.{no_reader_more, reader_is, reader_more, reader_told, taken_system}
+use Rattle.msg_exec.proofs.SystemAfterTurn.{totals_there}
+use Rattle.msg_exec.proofs.AccountsTell.{reader_more}
 use Rattle.msg_exec.proofs.accounts.add_accounts.Goals as goal
 use Rattle.msg_exec.proofs.accounts.add_accounts.Goals.{then-reads_type+in_ok-push, else-reads_type}
 
@@ -19,32 +19,27 @@ loop-t-preserved g c = record {
       let lt : i < s.systems = omega (arith, c.requires.there, lender.systems) in
       let within : t < s.types = omega (arith, c.loop-t-test.true, c.types-t-end.ensures.types, lender.types) in
       let here = lender.members i lt in
-      let job =
-      taken_system g.S.System.meaning core.lender i s.systems c.index.result.now c.index.result.now
-      c.in-Some-Some.guarded (s.members i).job lt lender.systems c.index.ensures refl c.in-Some-Some.is-0
-      here.guarded in
+      let read =
+      get_or_default core.lender.systems.items i None c.index.result.now (omega (arith, lt, lender.systems)) in
+      let job = rw (read, ← c.index.ensures, c.in-Some-Some.is-0) at here.guarded in
       let reader : c.reads_type.result ≡ is_reader s i t = c.reads_type.ensures.read
-      ∙ ap (λ u. reads c.access-access.result (OfType u)) c.in-Some-Some-2.ensures.value
-      ∙ reader_is g.S.System.meaning s i t c.in-Some-Some.guarded c.access-access.result job
-      c.access-access.ensures.needs in
+      ∙ rw c.in-Some-Some-2.ensures.value (c.access-access.ensures.needs.reads (OfType t))
+      ∙ ap (λ (j : Job). j.system.needs.reads (OfType t)) job in
       let far = c.loop-t.invariant.so_far s stands in
       elim c.if-reads_type.branch [
         | then-reads_type+in_ok-push w ↦
             (let its =
-            taken_from (λ (v : Vec Totals). TotalsStand s.types v.items (s.members i).totals)
-            core.lender.totals.items i s.systems c.in-Some-Some.totals.now lt lender.totals
-            (c.in-Some-Some.ensures.lookup.1 ∙ ap (λ xs. get_or xs i c.in-Some-Some.totals.now) c.deref.ensures.value)
-            here.totals in
-            let is = c.in-Some-Some-2.ensures'.lookup.3.1 no_totals
-            ∙ ap (λ xs. get_or xs t no_totals) c.deref-in-loop-t.ensures.value ∙ its.each t within in
+            totals_there g.S.System.meaning core.lender s i c.in-Some-Some.totals.now lt
+            (rw c.deref.ensures.value at c.in-Some-Some.ensures.lookup.1) lender in
+            let is = rw c.deref-in-loop-t.ensures.value at (c.in-Some-Some-2.ensures'.lookup.3.1 no_totals)
+            ∙ its.each t within in
             reader_more s i t c.args.accounts.now.items c.loop-t.accounts.items c.if-reads_type.accounts.items
             w.account.result (sym reader ∙ w.if-reads_type.true)
-            (reader_told s i t c.in-Ok.system c.in-Some-Some-2.of_type c.in-Some-Some-2.of_it.now w.account.result
-            within c.in-Ok.ensures.1 c.in-Some-Some-2.ensures.value is
-            (w.account.ensures.account s stands))
-            far (ap (λ (v : Vec _). v.items) w.accounts-is ∙ w.in_ok-push.ensures.items))
-        | else-reads_type w ↦ ap (λ (v : Vec _). v.items) w.accounts-is
-            ∙ no_reader_more s i t c.args.accounts.now.items c.loop-t.accounts.items
-            (sym reader ∙ w.if-reads_type.false) far
+            ((rw (c.in-Ok.ensures.1, c.in-Some-Some-2.ensures.value) at (w.account.ensures.account s stands)) within is)
+            far (rw w.accounts-is w.in_ok-push.ensures.items))
+        | else-reads_type w ↦ rw (
+          w.accounts-is,
+          ← filter_drops (is_reader s i) t _ refl (sym reader ∙ w.if-reads_type.false),
+        ) far
       ];
 }

@@ -1,34 +1,34 @@
-use Rattle.std.proofs.Common.{sym, subst, refl}
-use Rattle.msg_exec.specs.inner.FrameSteps.{IsNextPlan}
-use Rattle.msg_exec.specs.Prelude.{AreJoins}
-use Rattle.msg_exec.specs.inner.Lending.{HaveReadNothing}
-use Rattle.msg_frames.specs.Prelude.{State}
-use Rattle.msg_exec.proofs.CoreRunsFrame.{about_to_join, none_begins, those_begin}
+use Rattle.std.proofs.Common.{arith, refl}
+use Rattle.std.proofs.lemmas.Bool.{ne_eqb}
+use Rattle.msg_frames.specs.Prelude.{joining}
+use Rattle.msg_frames.proofs.SystemsStay.{joining_keeps}
+use Rattle.msg_exec.proofs.CoreRunsFrame.{about_to_join, nobody_more, schedule_along, unchanged}
 use Rattle.msg_exec.proofs.engine_core.begin.Goals as goal
 
 pub returns-in_default-clause-begun : goal.returns-in_default-clause-begun
 returns-in_default-clause-begun g c s stands is =
-    none_begins g.S.System.meaning c.args.core s stands
-    (subst (IsNextPlan c.args.core s) c.in_default.is (c.in_ok-next.ensures.plan s stands is))
+    let none = rw c.in_default.is at (c.in_ok-next.ensures.plan s stands is) in
+    record {
+      lender = unchanged g.S.System.meaning c.args.core.lender s none stands.lender;
+      schedule = schedule_along c.args.core c.args.core s (joining s) refl refl (joining_keeps s) stands.schedule;
+      plan = rw ((joining_keeps s).rules, nobody_more s none) stands.plan;
+    }
 
 pub join_those-requires-clause-stands : goal.join_those-requires-clause-stands
 join_those-requires-clause-stands g c κs within =
-    let s : State = c.requires.stands.0 in
+    let s = c.requires.stands.0 in
     let stands = c.requires.stands.1.0 in
-    let next =
-    subst (IsNextPlan c.args.core s) c.in-Some.is (c.in_ok-next.ensures.plan s stands c.requires.stands.1.1) in (
-      s,
-      (
-        stands.lender,
-        subst (λ js. AreJoins js s) (sym c.deref.ensures.value) stands.schedule.joins,
-        subst (λ n. HaveReadNothing n s) (sym next.1) (about_to_join s stands.sound next.0),
-      ),
-    )
+    let next = rw c.in-Some.is at (c.in_ok-next.ensures.plan s stands c.requires.stands.1.1) in
+    let fresh = about_to_join s stands.sound next.0 in
+    (s, (stands.lender, rw c.deref.ensures.value stands.schedule.joins, rw next.1 fresh))
 
 pub returns-clause-begun : goal.returns-clause-begun
 returns-clause-begun g c s stands is =
-    let next = subst (IsNextPlan c.args.core s) c.in-Some.is (c.in_ok-next.ensures.plan s stands is) in
-    let fresh = subst (λ n. HaveReadNothing n s) (sym next.1) (about_to_join s stands.sound next.0) in
-    let joins = subst (λ js. AreJoins js s) (sym c.deref.ensures.value) stands.schedule.joins in
-    those_begin g.S.System.meaning c.args.core _ s _ stands next.0 next.1
-    (c.join_those.ensures.joined s stands.lender joins fresh) refl refl c.join_those.ensures.accesses next.2
+    let next = rw c.in-Some.is at (c.in_ok-next.ensures.plan s stands is) in
+    let lender = c.join_those.ensures.joined s stands.lender (rw c.deref.ensures.value stands.schedule.joins)
+    (rw next.1 (about_to_join s stands.sound next.0)) in
+    record {
+      lender = rw (ne_eqb s.frames 0 (λ none. absurd (omega (arith, next.0, none))), ← next.1) lender;
+      schedule = schedule_along c.args.core _ s (joining s) refl refl (joining_keeps s) stands.schedule;
+      plan = rw ((joining_keeps s).rules, c.join_those.ensures.accesses) next.2;
+    }

@@ -1,43 +1,41 @@
-use Rattle.std.proofs.Common.{◌≢◌, ◌∙◌, ℕ, List, refl, ap, sym, subst, arith, map}
-use Rattle.std.specs.Prelude.{All, AllPairs}
+use Rattle.std.proofs.Common.{get_or, [], ◌∙◌, List, ℕ, refl, ap, map}
 use Rattle.std.specs.List.{concat}
 use Rattle.std.specs.Global.{Vec}
-use Rattle.msg_order.specs.Prelude.{AreBatches, NoneConflict}
-use Rattle.msg_frames.specs.Prelude.{before_turns, State, join_flags}
-use Rattle.msg_exec.specs.Prelude.{EachPassedGate}
+use Rattle.msg_frames.specs.Prelude.{before_turns, State}
+use Rattle.std.proofs.lemmas.List.{get_or-map}
+use Rattle.std.proofs.lemmas.List.Elements.{Contains-get_or}
+use Rattle.msg_frames.proofs.SystemsStay.{joined_below}
 use Rattle.msg_frames.proofs.FramesInOrder.{in_that_order, logged_in}
-use Rattle.msg_exec.proofs.CoreRunsFrame.{batches_below, frame_ran}
+use Rattle.msg_exec.proofs.CoreRunsFrame.{frame_ran}
 use Rattle.msg_exec.proofs.engine_core.run_one.Goals as goal
 
 pub run_batches-requires-clause-stands : goal.run_batches-requires-clause-stands
 run_batches-requires-clause-stands g c κs within =
     let s : State = c.requires.stands.0 in
     let has = c.in_ok-core.ensures.opened s c.requires.stands.1.0 c.requires.stands.1.1 in
-    let bt : State = before_turns c.args.frame.now.posts s in (
+    let bt : State = before_turns c.args.frame.now.posts s in
+    let batches = c.batches-batches.result.now in (
       bt,
       (
         has.lender,
-        batches_below g.S.System.meaning c.batches-batches.result.now bt has.plan.order
-            (subst (λ bs. AreBatches has.plan.order (join_flags bt) bs)
-            (sym c.batches-batches.ensures.items) has.plan.classes),
+        λ k d lt j e below.
+            let there = Contains-get_or (get_or batches k d).items j e below in
+            joined_below bt _ ((has.plan.classes.of_number k _).0 (rw (
+              ← c.batches-batches.ensures.items,
+              get_or-map (λ (b : Vec ℕ). b.items) batches k d [] lt,
+            ) there)).0,
       ),
     )
-
-pub run_batches-requires-clause-few : goal.run_batches-requires-clause-few
-run_batches-requires-clause-few g c κs within =
-    let has = c.in_ok-core.ensures.opened c.requires.stands.0 c.requires.stands.1.0 c.requires.stands.1.1 in
-    omega (arith, has.lender.accesses, has.schedule.few)
 
 pub run_batches-requires-clause-once : goal.run_batches-requires-clause-once
 run_batches-requires-clause-once g c κs within =
     let has = c.in_ok-core.ensures.opened c.requires.stands.0 c.requires.stands.1.0 c.requires.stands.1.1 in
-    subst (λ bs. AllPairs (λ i j. i ≢ j) (concat bs)) (sym c.batches-batches.ensures.items) has.plan.lawful.once
+    rw c.batches-batches.ensures.items has.plan.lawful.once
 
 pub run_batches-requires-clause-apart : goal.run_batches-requires-clause-apart
 run_batches-requires-clause-apart g c κs within =
     let has = c.in_ok-core.ensures.opened c.requires.stands.0 c.requires.stands.1.0 c.requires.stands.1.1 in
-    subst (All (NoneConflict c.in_ok-core.core.lender.accesses.items))
-    (sym c.batches-batches.ensures.items) has.plan.apart
+    rw c.batches-batches.ensures.items has.plan.apart
 
 pub returns : goal.returns
 returns g c = record {
@@ -54,11 +52,8 @@ returns g c = record {
   gate_passed =
       let s : State = c.requires.stands.0 in
       let has = c.in_ok-core.ensures.opened s c.requires.stands.1.0 c.requires.stands.1.1 in
-      let bt : State = before_turns c.args.frame.now.posts s in
       let order : List ℕ = concat (map (λ (batch : Vec ℕ). batch.items) c.batches-batches.result.now) in
-      subst (EachPassedGate (g.G.Gate.passed c.args.gate.now) c.args.workers)
-      (sym (in_that_order c.args.frame.now order s _
+      rw (in_that_order c.args.frame.now order s _
       (logged_in c.args.frame.now order s _ c.in_ok-core.posts.items c.from_vec.ensures.items has.posts
-      (c.from_vec-2.ensures.items ∙ c.in_ok-turns.ensures.turns bt has.lender))))
-      c.in_ok-turns.ensures.gate_passed;
+      (c.from_vec-2.ensures.items ∙ c.in_ok-turns.ensures.turns _ has.lender))) c.in_ok-turns.ensures.gate_passed;
 }

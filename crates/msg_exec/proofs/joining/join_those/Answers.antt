@@ -1,14 +1,17 @@
-use Rattle.std.proofs.Common.{◌≡◌, ℕ, ◌<◌, None, IfSome, length, sym, ap, subst, ◌∙◌, arith, refl}
-use Rattle.std.specs.Global.{Vec}
-use Rattle.std.specs.Prelude.{IsSomeAnd}
+use Rattle.std.proofs.Common.{◌+◌, inl, inr, ◌≡◌, ◌<◌, None, length, sym, ap, ◌∙◌, arith, refl}
 use Rattle.std.specs.Vec.{with_items}
-use Rattle.std.proofs.lemmas.List.{get_or_default, length-set, with_items_is}
-use Rattle.msg_frames.specs.declared.totals.Totals.{Totals}
-use Rattle.msg_frames.specs.Prelude.{State, job_begun, totals_from}
-use Rattle.msg_exec.specs.Prelude.{TotalsStand, job_state, system_at, totals_at}
+use Rattle.msg_buffer.specs.Prelude.{count}
+use Rattle.std.proofs.lemmas.Bool.{and_right, cases_eq, eq-eqb, le-ltb, lt-ltb, ne_eqb}
+use Rattle.std.proofs.lemmas.List.FromFn.{fill_by_all}
+use Rattle.std.proofs.lemmas.Option.{get_or_from_slice_get}
+use Rattle.std.proofs.lemmas.List.{get_or_default, get_or-set_other, get_or-set_same, length-set, with_items_is}
+use Rattle.msg_frames.specs.Prelude.{Member, State, counts, job_begun, totals_from, with_joining}
+use Rattle.msg_exec.specs.Prelude.{system_at}
+use Rattle.msg_exec.proofs.SystemsJoin.{conditions_start, joined_below, members_alike, still}
+use Rattle.msg_exec.proofs.SystemAfterTurn.{member_stays, totals_there}
+use Rattle.msg_exec.proofs.ItemsOfLists.{get_other, get_same, some_of}
 use Rattle.msg_exec.specs.inner.Totals.{first_place}
-use Rattle.msg_exec.proofs.SystemsJoin.{all_joined, counts_are, joined_below, one_joins, one_waits}
-use Rattle.msg_exec.proofs.ItemsOfLists.{taken_from}
+use Rattle.msg_system.specs.Prelude.{Job as JobState}
 use Rattle.msg_exec.proofs.joining.join_those.Goals as goal
 
 pub loop-i-preserved-then-joins-i : goal.loop-i-preserved-then-joins-i
@@ -17,8 +20,18 @@ loop-i-preserved-then-joins-i g c =
     let i = c.loop-i.i in
     record {
       so_far = λ s stands joins fresh.
-          one_waits g.S.System.meaning c.loop-i.lender s i c.args.frame
-          (λ is. c.if-joins-i.true (joins.each i (omega (arith, joins.as_many)) ∙ is))
+          members_alike g.S.System.meaning c.loop-i.lender (joined_below i c.args.frame s)
+          (joined_below (i + 1) c.args.frame s).members
+          (λ j lt. elim (cases_eq j i) [
+            | inl is ↦ rw (
+              is,
+              ne_eqb (s.members i).join c.args.frame (λ same. c.if-joins-i.true
+                  (joins.each i (omega (arith, joins.as_many)) ∙ same)),
+              and_right,
+              and_right,
+            ) refl
+            | inr other ↦ still s i j c.args.frame other
+          ])
           (inv.so_far s stands joins fresh);
       systems = inv.systems;
       totals = inv.totals;
@@ -33,16 +46,11 @@ begin-requires-clause-few g c κs within =
     let i = c.loop-i.i in
     let now = c.loop-i.invariant.so_far s c.requires.stands.1.0 joins c.requires.stands.1.2 in
     let lt : i < s.systems = omega (arith, joins.as_many) in
-    let here = now.members i lt in
     let its =
-    taken_from (λ (v : Vec Totals). TotalsStand s.types v.items ((joined_below i c.args.frame s).members i).totals)
-    c.loop-i.lender.totals.items i _ c.index_mut-in-loop-i.result.now
-    lt now.totals c.index_mut-in-loop-i.ensures.value here.totals in
-    let types = c.requires.stands.1.0.types in
-    let few = c.counts-counts.ensures.few in
-    let same = ap length c.deref_mut.ensures.value in
-    let counted = c.counts-counts.ensures.types in
-    omega (arith, its.as_many, types, few, same, counted)
+    totals_there g.S.System.meaning c.loop-i.lender (joined_below i c.args.frame s) i
+    c.index_mut-in-loop-i.result.now lt c.index_mut-in-loop-i.ensures.value now in
+    rw (c.deref_mut.ensures.value, its.as_many)
+    (omega (arith, c.requires.stands.1.0.types, c.counts-counts.ensures.few, c.counts-counts.ensures.types))
 
 pub loop-i-preserved : goal.loop-i-preserved
 loop-i-preserved g c =
@@ -51,48 +59,61 @@ loop-i-preserved g c =
     record {
       so_far = λ s stands joins fresh.
           let lt : i < s.systems = omega (arith, joins.as_many) in
-          let now = inv.so_far s stands joins fresh in
+          let m = g.S.System.meaning in
+          let lender = c.loop-i.lender in
+          let cs = c.counts-counts.result in
+          let x = c.begin.new.slot in
+          let member : Member = s.members i in
+          let far = inv.so_far s stands joins fresh in
           let its =
-          taken_from (λ (v : Vec Totals). TotalsStand s.types v.items
-          ((joined_below i c.args.frame s).members i).totals) c.loop-i.lender.totals.items i _
-          c.index_mut-in-loop-i.result.now
-          lt now.totals c.index_mut-in-loop-i.ensures.value (now.members i lt).totals in
-          let size : length c.begin.new.totals
-          ≡ c.index_mut-in-loop-i.result.now.len =
-          omega (arith, c.begin.ensures.as_many, c.deref_mut.ensures.len) in
-          let w : Vec Totals = with_items c.index_mut-in-loop-i.result.now c.begin.new.totals in
+          totals_there m lender (joined_below i c.args.frame s) i c.index_mut-in-loop-i.result.now lt
+          c.index_mut-in-loop-i.ensures.value far in
+          let w = with_items c.index_mut-in-loop-i.result.now c.begin.new.totals in
           let read : w.items ≡ c.begin.new.totals =
-          with_items_is c.index_mut-in-loop-i.result.now c.begin.new.totals size in
-          let guarded : system_at c.loop-i.lender i ≡ c.index_mut.result.now =
-          get_or_default c.loop-i.lender.systems.items i None c.index_mut.result.now (omega (arith, lt, now.systems))
+          with_items_is c.index_mut-in-loop-i.result.now c.begin.new.totals
+          (omega (arith, c.begin.ensures.as_many, c.deref_mut.ensures.len)) in
+          let many : length w.items ≡ s.types =
+          ap length read ∙ c.begin.ensures.as_many ∙ ap length c.deref_mut.ensures.value ∙ its.as_many in
+          let guarded : system_at lender i ≡ c.index_mut.result.now =
+          get_or_default lender.systems.items i None c.index_mut.result.now (omega (arith, lt, far.systems))
           ∙ sym c.index_mut.ensures.value in
-          one_joins g.S.System.meaning c.loop-i.lender _ s i c.args.frame c.counts-counts.result c.begin.new.slot _ lt
-          (sym (joins.each i lt) ∙ c.if-joins-i.false) fresh
-          (counts_are c.counts-counts.result s _ c.counts-counts.ensures.types stands.types
-          (c.counts-counts.ensures.meaning s.world stands.world))
-          (ap length read ∙ c.begin.ensures.as_many ∙ ap length c.deref_mut.ensures.value ∙ its.as_many)
-          (record {
-            systems = refl;
-            accesses = refl;
-            totals = refl;
-            world = refl;
-            begun =
-                subst (λ o. IfSome o (λ a. IsSomeAnd c.begin.new.slot
-                (λ b. job_state g.S.System.meaning b
-                ≡ job_begun c.counts-counts.result (job_state g.S.System.meaning a))))
-                (sym guarded) c.begin.ensures.begun;
-            opened =
-                subst (λ o. IfSome o (λ a. (t : ℕ) → t < length w.items → totals_at w.items t
-                ≡ totals_from (first_place (g.S.System.meaning a.system) c.counts-counts.result t))) (sym guarded)
-                (subst (λ xs. IfSome c.index_mut.result.now
-                (λ a. (t : ℕ) → t < length xs → totals_at xs t
-                ≡ totals_from (first_place (g.S.System.meaning a.system) c.counts-counts.result t))) (sym read)
-                (subst (λ n. IfSome c.index_mut.result.now
-                (λ a. (t : ℕ) → t < n → totals_at c.begin.new.totals t
-                ≡ totals_from (first_place (g.S.System.meaning a.system) c.counts-counts.result t)))
-                (sym c.begin.ensures.as_many) c.begin.ensures.opened));
-          })
-          now;
+          let same : cs ≡ counts s = fill_by_all (λ t. count (s.world.histories t)) cs s.types 0
+          (c.counts-counts.ensures.types ∙ stands.types) (λ k lt. get_or_from_slice_get cs k
+          (count (s.world.histories k)) 0
+          (c.counts-counts.ensures.meaning s.world stands.world k (omega (arith, lt, stands.types)))) in
+          let here = rw (le-ltb i i (omega arith)) at (far.members i lt) in
+          let a = some_of (system_at lender i) here.guarded in
+          let b = some_of x (rw (← guarded, a.1.0) at c.begin.ensures.begun) in
+          let opened = rw (← guarded, a.1.0) at c.begin.ensures.opened in
+          let joined : (s.members i).join ≡ c.args.frame = sym (joins.each i lt) ∙ c.if-joins-i.false in
+          record {
+            systems = rw length-set far.systems;
+            accesses = far.accesses;
+            totals = rw length-set far.totals;
+            members = λ j below. elim (cases_eq j i) [
+              | inl is ↦ rw (is, lt-ltb i (i + 1) (omega arith), eq-eqb _ _ joined, ← same) (record {
+                guarded = rw (get_or-set_same lender.systems.items i x None (omega (arith, lt, far.systems)), b.1.0)
+                    (b.1.1 ∙ ap (job_begun cs) a.1.1);
+                access = rw (conditions_start member.job.system.start cs member.job.conditions) here.access;
+                home = here.home;
+                totals = rw (get_same lender.totals.items i w (omega (arith, lt, far.totals))) (record {
+                  as_many = many;
+                  each = λ t below. rw read (opened t (omega (arith, below, many, ap length read, c.begin.ensures.as_many))
+                      ∙ ap (λ (j : JobState). totals_from (first_place j.system cs t)) a.1.1
+                      ∙ rw (fresh i t joined) refl);
+                });
+              })
+              | inr other ↦ rw (still s i j c.args.frame other)
+                  (member_stays m lender _ s.types j ((joined_below i c.args.frame s).members j)
+                  (get_or-set_other lender.systems.items i j x None other) refl
+                  (get_other lender.totals.items i j w other)
+                  (record { size = record { types = refl; resources = refl }; there = λ p. refl })
+                  (far.members j below))
+            ];
+            world = far.world;
+            whole = far.whole;
+            types = far.types;
+          };
       systems = length-set c.loop-i.lender.systems.items i c.begin.new.slot ∙ inv.systems;
       totals = length-set c.loop-i.lender.totals.items i _ ∙ inv.totals;
       accesses = inv.accesses;
@@ -101,5 +122,7 @@ loop-i-preserved g c =
 
 pub returns-clause-joined : goal.returns-clause-joined
 returns-clause-joined g c s stands joins fresh =
-    all_joined g.S.System.meaning c.loop-i.lender s c.loop-i.i c.args.frame (omega (arith, joins.as_many))
+    members_alike g.S.System.meaning c.loop-i.lender (joined_below c.loop-i.i c.args.frame s)
+    (with_joining c.args.frame s).members
+    (λ j lt. rw (lt-ltb j c.loop-i.i (omega (arith, lt, joins.as_many))) refl)
     (c.loop-i.invariant.so_far s stands joins fresh)

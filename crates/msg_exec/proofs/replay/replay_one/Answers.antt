@@ -1,34 +1,61 @@
-use Rattle.std.proofs.Common.{◌++◌, ◌∙◌, ap, refl}
-use Rattle.msg_frames.specs.Prelude.{after_turns_of, before_turns, State}
-use Rattle.msg_frames.proofs.FramesInOrder.{logged_in}
-use Rattle.msg_exec.proofs.CoreReplaysFrame.{frame_replayed, lawful_below}
+use Rattle.std.proofs.Common.{◌++◌, ◌∙◌, List, ℕ, ap, refl}
+use Rattle.std.specs.List.{concat}
+use Rattle.std.proofs.lemmas.List.Elements.{Contains-get_or}
+use Rattle.msg_frames.specs.declared.log.Log.{Log}
+use Rattle.msg_frames.specs.Prelude.{after_turns_of, before_turns, frame_in, State}
+use Rattle.msg_frames.proofs.FramesInOrder.{in_that_order, logged_in}
+use Rattle.msg_frames.proofs.SystemsStay.{joined_below}
+use Rattle.msg_exec.proofs.CoreRunsFrame.{frame_ran, is_frame_by}
 use Rattle.msg_exec.proofs.replay.replay_one.Goals as goal
 
 pub run_turns-requires-clause-stands : goal.run_turns-requires-clause-stands
 run_turns-requires-clause-stands g c κs within =
     let s : State = c.requires.stands.0 in
     let stands = c.requires.stands.1.0 in
-    let has = c.in_ok-core.ensures.opened s stands c.requires.stands.1.1 in (
-      before_turns c.args.frame.now.posts s,
+    let has = c.in_ok-core.ensures.opened s stands c.requires.stands.1.1 in
+    let lawful = c.requires.lawful s stands c.requires.stands.1.1 in
+    let bt : State = before_turns c.args.frame.now.posts s in (
+      bt,
       (
         has.lender,
-        lawful_below c.args.frame.now s c.args.order.now
-            (c.requires.lawful s stands c.requires.stands.1.1),
+        λ k d lt. joined_below bt _ ((lawful.lawful.of_joined _).0 (Contains-get_or c.args.order.now k d lt)),
       ),
     )
 
 pub returns : goal.returns
 returns g c = record {
   replayed = λ s stands is.
-      let has = c.in_ok-core.ensures.opened s stands is in
-      let bt : State = before_turns c.args.frame.now.posts s in
+      let m = g.S.System.meaning in
+      let b = c.in_ok-core.core in
+      let frame = c.args.frame.now in
       let order = c.args.order.now in
-      frame_replayed g.S.System.meaning c.args.core c.in_ok-core.core _ s c.args.frame.now order _
-      c.in_ok-core.posts.items stands has
-      c.states_stay_sound.ensures.frame c.frames_agree_in_lawful_orders.ensures.law (c.requires.lawful s stands is)
-      (c.in_ok-run_turns.ensures.state bt has.lender)
-      (logged_in c.args.frame.now order s _ c.in_ok-core.posts.items c.from_vec.ensures.items has.posts
+      let replies = c.in_ok-core.posts.items in
+      let has = c.in_ok-core.ensures.opened s stands is in
+      let lawful = c.requires.lawful s stands is in
+      let bt : State = before_turns frame.posts s in
+      let told = logged_in frame order s _ replies c.from_vec.ensures.items has.posts
       (c.from_vec-2.ensures.items ∙ c.in_ok-run_turns.ensures.turns bt has.lender
-      ∙ ap (λ ts. ts ++ (after_turns_of order bt).turns) c.in_ok-turns.ensures.empty))
-      refl refl refl c.in_ok-run_turns.ensures.accesses;
+      ∙ ap (λ ts. ts ++ (after_turns_of order bt).turns) c.in_ok-turns.ensures.empty) in
+      let turns : List ℕ = concat b.plan.batches in
+      let settled : Log = (frame_in turns frame s).log in
+      let own = is_frame_by m b s frame settled turns replies refl has refl in
+      let alike = c.frames_agree_in_lawful_orders.ensures.law frame s _ settled lawful.settled order own lawful.is_order
+      lawful.lawful in
+      let ran =
+      frame_ran m b _ s frame settled turns replies refl has stands.sound c.states_stay_sound.ensures.frame
+      (rw alike.0 at (c.in_ok-run_turns.ensures.state bt has.lender)) refl refl refl refl
+      c.in_ok-run_turns.ensures.accesses in
+      record {
+        state = ran.state;
+        leaves = record {
+          lawful = lawful;
+          settled = settled;
+          is_frame = ran.leaves;
+          posts = ap (λ (l : Log). l.posts) told ∙ alike.1;
+          turns = rw (ap (λ (l : Log). l.turns) told) alike.2;
+          in_order = in_that_order frame order s _ told;
+        };
+        stands = ran.stands;
+        frames = ran.frames;
+      };
 }

@@ -1,8 +1,11 @@
-use Rattle.std.proofs.Common.{arith, ap, sym, ◌∙◌}
+use Rattle.std.proofs.Common.{add-one, refl, arith, ap, sym, ◌∙◌}
 use Rattle.msg_frames.specs.Prelude.{entries_for, with_entries}
 use Rattle.msg_exec.specs.Prelude.{kept}
 use Rattle.msg_exec.specs.inner.Totals.{entries_by, entry_at}
-use Rattle.msg_exec.proofs.EntriesAreAdded.{entered_all, entered_one_more}
+use Rattle.std.proofs.lemmas.List.{drop_all}
+use Rattle.std.proofs.lemmas.Option.{slice_get_read}
+use Rattle.msg_frames.proofs.EntriesAddUp.{with_entries-append, with_entries-none}
+use Rattle.msg_exec.proofs.EntriesAreAdded.{entries_from, without_replies}
 use Rattle.msg_exec.proofs.totals.enter.Goals as goal
 
 pub loop-reply-preserved : goal.loop-reply-preserved
@@ -10,6 +13,7 @@ loop-reply-preserved g c =
     let inv = c.loop-reply.invariant in
     let ops = (g.S.System.meaning c.args.system.now).last in
     let k = c.loop-reply.reply-index in
+    let replies = c.as_slice-reply-items.result.now in
     record {
       op = omega (arith, inv.op);
       as_many = c.enter_reply.ensures.as_many ∙ inv.as_many;
@@ -19,8 +23,12 @@ loop-reply-preserved g c =
             y,
             c.enter_reply.ensures.entered t far.0 (omega (arith, lt, inv.as_many)) far.1
                 ∙ ap (λ n. kept (with_entries (entry_at t ops n c.reply-item.result) far.0)) inv.op,
-            entered_one_more t ops c.as_slice-reply-items.result.now k c.reply-item.result far.0 _
-                c.loop-reply-test.true c.reply-item.is far.2,
+            rw (
+              add-one,
+              ← with_entries-append (entry_at t ops k c.reply-item.result),
+              ← entries_from t ops replies k
+                  c.reply-item.result (slice_get_read replies _ k _ refl c.loop-reply-test.true c.reply-item.is),
+            ) far.2,
           );
     }
 
@@ -28,7 +36,6 @@ pub returns-clause-entered : goal.returns-clause-entered
 returns-clause-entered g c t x lt is =
     let ops = (g.S.System.meaning c.args.system.now).last in
     let far = c.loop-reply.invariant.entered t x lt is in
-    far.1 ∙ ap kept (entered_all t ops c.as_slice-reply-items.result.now c.loop-reply.reply-index far.0 _
-    c.loop-reply-test.false far.2)
-    ∙ ap (λ rs. kept (with_entries (entries_for t ops rs) x)) c.as_slice-reply-items.ensures.items
-    ∙ ap (λ o. kept (with_entries (entries_by t ops o) x)) (sym c.in-Ran.is)
+    let end = drop_all c.loop-reply.reply-index c.as_slice-reply-items.result.now c.loop-reply-test.false in
+    rw (c.in-Ran.is, ← c.as_slice-reply-items.ensures.items)
+    (far.1 ∙ ap kept (rw (end, without_replies, with_entries-none) at far.2))

@@ -1,39 +1,38 @@
-use Rattle.std.proofs.Common.{refl, sym, ap, ◌∙◌, inr}
+use Rattle.std.proofs.Common.{◌∷◌, [], refl, sym, ap, ◌∙◌, arith, inr, is_some}
 use Rattle.std.proofs.lemmas.Bool.{false≢true}
 use Rattle.std.specs.Result.{is_ok}
-use Rattle.msg_exec.proofs.EngineRunsFrames.{core_taken, replayed, stood_for}
+use Rattle.msg_exec.proofs.EngineRunsFrames.{stood}
 use Rattle.msg_exec.proofs.engine.EngineOf.replay_frame.Goals as goal
 
 pub returns-clause-replayed : goal.returns-clause-replayed
 returns-clause-replayed g c s stands =
-    let core =
-    core_taken g.S.System.meaning c.args.self.now c.take.result c.in-Some.core s c.take.ensures.value
-    c.in-Some.is stands in
-    replayed g.S.System.meaning c.args.self.now _ c.in-Ok-replay_one.core c.args.frame.now c.args.order.now s
-    c.in-Ok-replay_one.log stands.frames c.end_frame.ensures.core c.end_frame.ensures.counted
-    c.replays_tell_a_complete_run.ensures.law core.sound (c.in-Ok-replay_one.ensures.replayed s core stands.frames)
+    let core = rw (sym c.take.ensures.value ∙ c.in-Some.is) at stands.core in
+    let ran = c.in-Ok-replay_one.ensures.replayed s core stands.frames in
+    record {
+      state = ran.state;
+      is_replay = ran.leaves;
+      tells = c.replays_tell_a_complete_run.ensures.law (c.args.frame.now ∷ []) s (c.in-Ok-replay_one.log ∷ []) _
+          core.sound (ran.state, inr (c.args.order.now, ran.leaves), refl);
+      stands =
+          record { core = rw c.end_frame.ensures.core ran.stands; frames = omega (arith, stands.frames, ran.frames) };
+    }
 
 pub returns-clause-engine : goal.returns-clause-engine
 returns-clause-engine g c =
-    let was =
-    stood_for g.S.System.meaning c.args.self.now c.take.result c.in-Some.core c.take.ensures.value c.in-Some.is
-    c.requires.engine in
+    let some = ap is_some (sym c.take.ensures.value ∙ c.in-Some.is) in
+    let was = stood g.S.System.meaning c.args.self.now some c.requires.engine in
     let ran = returns-clause-replayed g c was.0 was.1 in
     inr (ran.state, ran.stands)
 
 pub returns-then-not-is_lawful-clause-bad_order : goal.returns-then-not-is_lawful-clause-bad_order
 returns-then-not-is_lawful-clause-bad_order g c s stands some =
-    let core =
-    core_taken g.S.System.meaning c.args.self.now c.take.result c.in-Some.core s c.take.ensures.value
-    c.in-Some.is stands in
+    let core = rw (sym c.take.ensures.value ∙ c.in-Some.is) at stands.core in
     let tells = c.in-Ok.ensures.lawful s core stands.frames c.args.frame.now in
     (λ same lawful. false≢true (sym c.if-not-is_lawful.true ∙ tells.1 lawful), λ unlawful. refl)
 
 pub returns-clause-bad_order : goal.returns-clause-bad_order
 returns-clause-bad_order g c s stands some =
-    let core =
-    core_taken g.S.System.meaning c.args.self.now c.take.result c.in-Some.core s c.take.ensures.value
-    c.in-Some.is stands in
+    let core = rw (sym c.take.ensures.value ∙ c.in-Some.is) at stands.core in
     let tells = c.in-Ok.ensures.lawful s core stands.frames c.args.frame.now in (
       λ same. absurd (false≢true (ap is_ok (sym same))),
       λ unlawful. absurd (unlawful (tells.0 c.if-not-is_lawful.false)),

@@ -1,20 +1,23 @@
-use Rattle.std.proofs.Common.{inr}
-use Rattle.msg_exec.proofs.EngineRunsFrames.{core_taken, frame_run, stood_for}
+use Rattle.std.proofs.Common.{◌∷◌, [], refl, inr, arith, sym, ap, ◌∙◌, is_some}
+use Rattle.msg_exec.proofs.EngineRunsFrames.{stood}
 use Rattle.msg_exec.proofs.engine.EngineOf.run_frame.Goals as goal
 
 pub returns-clause-ran : goal.returns-clause-ran
 returns-clause-ran g c s stands =
-    let core =
-    core_taken g.S.System.meaning c.args.self.now c.take.result c.in-Some.core s c.take.ensures.value
-    c.in-Some.is stands in
-    frame_run g.S.System.meaning c.args.self.now _ c.in-Ok.core c.args.frame.now s c.in-Ok.log stands.frames
-    c.end_frame.ensures.core c.end_frame.ensures.counted c.runs_are_complete.ensures.law core.sound
-    (c.in-Ok.ensures.ran s core stands.frames)
+    let core = rw (sym c.take.ensures.value ∙ c.in-Some.is) at stands.core in
+    let ran = c.in-Ok.ensures.ran s core stands.frames in
+    record {
+      state = ran.state;
+      is_frame = ran.leaves;
+      complete = c.runs_are_complete.ensures.law (c.args.frame.now ∷ []) s (c.in-Ok.log ∷ []) ran.state core.sound
+          (ran.state, ran.leaves, refl);
+      stands =
+          record { core = rw c.end_frame.ensures.core ran.stands; frames = omega (arith, stands.frames, ran.frames) };
+    }
 
 pub returns-clause-engine : goal.returns-clause-engine
 returns-clause-engine g c =
-    let was =
-    stood_for g.S.System.meaning c.args.self.now c.take.result c.in-Some.core c.take.ensures.value c.in-Some.is
-    c.requires.engine in
+    let some = ap is_some (sym c.take.ensures.value ∙ c.in-Some.is) in
+    let was = stood g.S.System.meaning c.args.self.now some c.requires.engine in
     let ran = returns-clause-ran g c was.0 was.1 in
     inr (ran.state, ran.stands)

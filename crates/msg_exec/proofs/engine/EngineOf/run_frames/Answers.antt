@@ -1,69 +1,81 @@
-use Rattle.std.proofs.Common.{◌≡◌, ◌++◌, ◌∷◌, [], length, drop, ap, sym, subst, arith, rules}
-use Rattle.std.specs.Prelude.{All, IsSome}
-use Rattle.std.proofs.lemmas.List.{length-append}
-use Rattle.msg_exec.specs.Prelude.{CoreStands, EachPassedGate, PostsFit}
-use Rattle.msg_frames.specs.Prelude.{systems_in}
-use Rattle.msg_exec.proofs.EngineRunsFrames.{all_run, one_frame_more, one_log_more, posts_still_fit, some_there, stood}
+use Rattle.std.proofs.Common.{◌≡◌, ◌+◌, ◌++◌, ◌∷◌, [], ap, length, append_assoc, refl, arith, rules, ◌∙◌}
+use Rattle.std.specs.Prelude.{IsSome}
+use Rattle.std.proofs.lemmas.List.{drop-append-le, length_push, take_all, take_more}
+use Rattle.std.proofs.lemmas.List.Elements.{All-push}
+use Rattle.msg_exec.specs.Prelude.{EachPassedGate}
+use Rattle.msg_frames.specs.Prelude.{State, systems_in}
+use Rattle.msg_frames.proofs.SystemsStay.{frame_keeps}
+use Rattle.msg_exec.proofs.EngineRunsFrames.{core_of, run_more, stood}
 use Rattle.msg_exec.proofs.engine.EngineOf.run_frames.Goals as goal
 
 pub run_frame-requires-clause-posts : goal.run_frame-requires-clause-posts
 run_frame-requires-clause-posts g c κs within =
+    let m = g.S.System.meaning in
     let some : IsSome c.args.self.now.core = search rules in
-    let was = stood g.S.System.meaning c.args.self.now some c.requires.engine in
+    let was = stood m c.args.self.now some c.requires.engine in
     let far = c.loop-frame.invariant.so_far was.0 was.1 in
-    let frame = c.frame-item.result in
-    posts_still_fit g.S.System.meaning c.args.self.now c.loop-frame.self frame was.0 far.state was.1
-    far.stands far.types
-    (subst (PostsFit c.args.self.now) (sym c.frame-item.is)
-    (c.requires.posts c.loop-frame.frame-index frame c.loop-frame-test.true))
+    let old = core_of m c.args.self.now was.0 was.1 in
+    let new = core_of m c.loop-frame.self far.state far.stands in
+    let fit = rw (← c.frame-item.is, old.1.0)
+    at (c.requires.posts c.loop-frame.frame-index c.frame-item.result c.loop-frame-test.true) in
+    rw new.1.0 (λ k d lt. omega (arith, fit k d lt, old.1.1.lender.types, new.1.1.lender.types, far.types))
 
 pub loop-frame-preserved : goal.loop-frame-preserved
 loop-frame-preserved g c =
+    let m = g.S.System.meaning in
     let some : IsSome c.args.self.now.core = search rules in
-    let was = stood g.S.System.meaning c.args.self.now some c.requires.engine in
-    let far = c.loop-frame.invariant.so_far was.0 was.1 in
-    let ran = c.in_ok-log.ensures.ran in
-    let pushed : c.push.new.self.items ≡ c.loop-frame.out.items ++ c.in_ok-log.log ∷ [] = search rules in
+    let was = stood m c.args.self.now some c.requires.engine in
+    let inv = c.loop-frame.invariant in
+    let frames = c.args.frames.now in
+    let k = c.loop-frame.frame-index in
+    let frame = c.frame-item.result in
+    let log = c.in_ok-log.log in
+    let before = c.loop-frame.out.items in
+    let pushed : c.push.new.self.items ≡ before ++ log ∷ [] = search rules in
     record {
-      so_far =
-          λ s stands. one_frame_more g.S.System.meaning c.args.frames.now c.loop-frame.frame-index c.frame-item.result s
-          c.args.out.now.items c.loop-frame.out.items c.push.new.self.items c.in_ok-log.log
-          c.loop-frame.self c.run_frame.new.self c.loop-frame-test.true c.frame-item.is
-          (c.loop-frame.invariant.so_far s stands) ran pushed;
-      longer =
-          omega (
-            arith,
-            c.loop-frame.invariant.longer,
-            ap length pushed,
-            length-append c.loop-frame.out.items (c.in_ok-log.log ∷ []),
-          );
-      gate_passed =
-          one_log_more (λ log. EachPassedGate (g.G.Gate.passed c.args.gate.now) c.args.workers (systems_in log))
-          (length c.args.out.now.items) c.loop-frame.out.items
-          c.push.new.self.items c.in_ok-log.log c.loop-frame.invariant.longer pushed c.loop-frame.invariant.gate_passed
-          c.in_ok-log.ensures.gate_passed;
+      so_far = λ s stands.
+          let far = inv.so_far s stands in
+          let one = c.in_ok-log.ensures.ran far.state far.stands in
+          record {
+            logs = far.logs ++ log ∷ [];
+            state = one.state;
+            as_many = length_push far.logs log ∙ ap (λ n. n + 1) far.as_many;
+            appended = pushed ∙ ap (λ ls. ls ++ log ∷ []) far.appended ∙ append_assoc _ far.logs (log ∷ []);
+            is_run = rw (take_more frames k frame c.loop-frame-test.true, ← c.frame-item.is)
+                (run_more _ frame s far.logs log far.state one.state far.is_run one.is_frame);
+            stands = one.stands;
+            types = ap (λ (x : State). x.types) one.is_frame.leaves
+                ∙ (frame_keeps (systems_in log) frame far.state).types ∙ far.types;
+          };
+      longer = rw (pushed, length_push) (omega (arith, inv.longer));
+      gate_passed = rw (pushed, drop-append-le (length c.args.out.now.items) before (log ∷ []) inv.longer)
+          (All-push (λ l. EachPassedGate (g.G.Gate.passed c.args.gate.now) c.args.workers (systems_in l)) _ log
+          inv.gate_passed c.in_ok-log.ensures.gate_passed);
       engine = c.in_ok-log.ensures.engine;
       core =
-          some_there (λ x. CoreStands g.S.System.meaning x (ran far.state far.stands).state) c.run_frame.new.self.core
-          (ran far.state far.stands).stands.core;
+          let far = inv.so_far was.0 was.1 in
+          rw (core_of m c.run_frame.new.self _ (c.in_ok-log.ensures.ran far.state far.stands).stands).1.0 refl;
     }
 
 pub returns-clause-ran : goal.returns-clause-ran
 returns-clause-ran g c s stands =
-    all_run g.S.System.meaning c.args.frames.now c.loop-frame.frame-index s c.args.out.now.items c.loop-frame.out.items
-    c.args.self.now c.loop-frame.self (omega arith) c.runs_are_complete.ensures.law stands
-    (c.loop-frame.invariant.so_far s stands)
+    let far = c.loop-frame.invariant.so_far s stands in
+    record {
+      logs = far.logs;
+      state = far.state;
+      appended = far.appended;
+      complete = c.runs_are_complete.ensures.law c.args.frames.now s far.logs far.state
+          (core_of g.S.System.meaning c.args.self.now s stands).1.1.sound
+          (rw (take_all c.loop-frame.frame-index c.args.frames.now (omega arith)) at far.is_run);
+      stands = far.stands;
+    }
 
 pub returns-then-is_err-clause-gate_passed : goal.returns-then-is_err-clause-gate_passed
 returns-then-is_err-clause-gate_passed g c =
     let kept : c.reserve.new.self.items ≡ c.loop-frame.out.items = search rules in
-    subst (λ logs. All (λ log. EachPassedGate (g.G.Gate.passed c.args.gate.now) c.args.workers (systems_in log))
-    (drop (length c.args.out.now.items) logs)) (sym kept)
-    c.loop-frame.invariant.gate_passed
+    rw kept c.loop-frame.invariant.gate_passed
 
 pub returns-in_err-log-clause-gate_passed : goal.returns-in_err-log-clause-gate_passed
 returns-in_err-log-clause-gate_passed g c =
     let kept : c.reserve.new.self.items ≡ c.loop-frame.out.items = search rules in
-    subst (λ logs. All (λ log. EachPassedGate (g.G.Gate.passed c.args.gate.now) c.args.workers (systems_in log))
-    (drop (length c.args.out.now.items) logs)) (sym kept)
-    c.loop-frame.invariant.gate_passed
+    rw kept c.loop-frame.invariant.gate_passed
