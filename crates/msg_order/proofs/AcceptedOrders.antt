@@ -1,23 +1,22 @@
 -- Taking the systems of an order one after the other.
 use Rattle.std.proofs.Common.{◌≡◌, ◌≢◌, ℕ, zero, suc, ◌+◌, ◌<◌, ◌⊎◌, inl, inr, Bool, true, false, not, ◌&&◌, List, length, get_or, ap, sym, subst, ◌∙◌, arith}
 use Rattle.std.specs.Prelude.{◌==◌}
-use Rattle.std.proofs.lemmas.Bool.{cases_eq, false≢true, and_parts, ne_eqb, not-true, eqb-false}
+use Rattle.std.specs.List.{list_any, range_with_len}
+use Rattle.std.proofs.lemmas.Bool.{cases_Bool, cases_eq, eqb-true, eq-eqb, false≢true, and_parts, ne_eqb, not-true, eqb-false}
 use Rattle.std.proofs.lemmas.List.{get_or_default}
 use Rattle.msg_order.specs.Prelude.{Graph, IsEdge, IsLawfulOrder, StandsBefore, has_joined}
+use Rattle.msg_order.proofs.SystemSets.{below_some, some_below}
 use Rattle.msg_order.proofs.TurnOrders.{stands, places_of, place_of, of_place, one_place}
 
 -- i stands among the first k, or not
 pub find_place : (order : List ℕ) (i k : ℕ) → ((a : ℕ) × ((a < k) × (get_or order a 0 ≡ i)))
     ⊎ ((a : ℕ) → a < k → get_or order a 0 ≡ i → ⊥)
-find_place order i zero = inr (λ a h e. absurd (omega arith))
-find_place order i (suc k) = elim (cases_eq (get_or order k 0) i) [
-  | inl e ↦ inl (k, (omega arith, e))
-  | inr e ↦ elim (find_place order i k) [
-    | inl f ↦ inl (f.0, (omega (arith, f.1.0), f.1.1))
-    | inr f ↦ inr (λ a h x. elim (cases_eq a k)
-        [ inl y ↦ e (subst (λ z. get_or order z 0 ≡ i) y x) | inr y ↦ f a (omega arith) x ])
-  ]
-]
+find_place order i k =
+    let test : ℕ → Bool = λ a. get_or order a 0 == i in
+    elim (cases_Bool (list_any test (range_with_len 0 k))) [
+      | inl t ↦ let f = below_some test k t in inl (f.0, (f.1.0, eqb-true (get_or order f.0 0) i f.1.1))
+      | inr e ↦ inr (λ a l x. false≢true (sym e ∙ some_below test k a l (eq-eqb (get_or order a 0) i x)))
+    ]
 
 -- the first k of the order were taken, and these are left
 pub record AreTaken (g : Graph) (joined : List Bool) (order : List ℕ) (k : ℕ) (left : ℕ → Bool) : Type 0 where

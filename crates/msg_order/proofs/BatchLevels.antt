@@ -1,6 +1,7 @@
 -- Batches, level by level: what is left after m of them are the systems in which a chain of m edges ends.
 use Rattle.std.proofs.Common.{◌≡◌, ℕ, zero, suc, ◌+◌, ◌<◌, ◌≤◌, ◌⊎◌, inl, inr, Bool, true, false, not, cond, ◌&&◌, List, [], ◌∷◌, ◌++◌, length, get_or, ap, sym, subst, ◌∙◌, arith, length-append}
-use Rattle.std.specs.Prelude.{◌↔◌, Contains, All, filter}
+use Rattle.std.specs.Prelude.{◌↔◌, Contains, All, count_by, filter}
+use Rattle.std.proofs.lemmas.List.Sums.{length-filter, sum_by-cons}
 use Rattle.std.specs.List.{range_with_len}
 use Rattle.std.specs.List.Sorted.{IsStrictlyIncreasing}
 use Rattle.std.proofs.lemmas.Bool.{cases_Bool, cases_eq, cases_lt, and_parts, and_from, false≢true, not-true, not_from_false, false_from_ne_true}
@@ -73,104 +74,17 @@ number_ready g start left blocked m i h t e b =
     (not_from_false (blocked i) (false_from_ne_true (blocked i)
     (λ x. n.1 (blocked_ends g start left blocked m i h t x))))
 
--- Where no path leads back, one of those left has none before it.
+-- Where no path leads back, one of those left has none below n before it.
 first_left : (p : ℕ → ℕ → Bool) (left : ℕ → Bool) → ((i j k : ℕ) → p i j ≡ true → p j k ≡ true → p i k ≡ true)
-    → ((i : ℕ) → p i i ≡ false) → (n : ℕ)
-    → ((i : ℕ) → i < n → left i ≡ false)
-    ⊎ ((c : ℕ) × ((c < n) × ((left c ≡ true) × ((k : ℕ) → k < n → left k ≡ true → p k c ≡ false))))
-first_left p left trans acyclic zero = inl (λ i h. absurd (omega arith))
-first_left p left trans acyclic (suc n) = elim (cases_Bool (left n)) [
-  | inr e ↦ elim (first_left p left trans acyclic n) [
-    | inl f ↦ inl (λ i h. elim (cases_eq i n)
-        [ inl x ↦ subst (λ z. left z ≡ false) (sym x) e | inr x ↦ f i (omega arith) ])
-    | inr f ↦ inr (
-      f.0,
-      (
-        omega arith,
-        (
-          f.1.1.0,
-          λ k h l. elim (cases_eq k n)
-              [ inl x ↦ absurd (false≢true (sym e ∙ subst (λ z. left z ≡ true) x l)) | inr x ↦ f.1.1.1 k (omega arith) l ],
-        ),
-      ),
-    )
-  ]
-  | inl e ↦ elim (first_left p left trans acyclic n) [
-    | inl f ↦ inr (
-      n,
-      (
-        omega arith,
-        (
-          e,
-          λ k h l. elim (cases_eq k n) [
-            | inl x ↦ subst (λ z. p z n ≡ false) (sym x) (acyclic n)
-            | inr x ↦ absurd
-                (false≢true (sym (f k (omega arith)) ∙ l))
-          ],
-        ),
-      ),
-    )
-    | inr f ↦ elim (cases_Bool (p n f.0)) [
-      | inr q ↦ inr (
-        f.0,
-        (
-          omega arith,
-          (
-            f.1.1.0,
-            λ k h l. elim (cases_eq k n)
-                [ inl x ↦ subst (λ z. p z f.0 ≡ false) (sym x) q | inr x ↦ f.1.1.1 k (omega arith) l ],
-          ),
-        ),
-      )
-      | inl q ↦ inr (
-        n,
-        (
-          omega arith,
-          (
-            e,
-            λ k h l. elim (cases_eq k n) [
-              | inl x ↦ subst (λ z. p z n ≡ false) (sym x) (acyclic n)
-              | inr x ↦ elim (cases_Bool (p k n))
-                  [ inl y ↦ absurd (false≢true (sym (f.1.1.1 k (omega arith) l) ∙ trans k n f.0 y q)) | inr y ↦ y ]
-            ],
-          ),
-        ),
-      )
+    → ((i : ℕ) → p i i ≡ false) → (n i : ℕ) → left i ≡ true
+    → (c : ℕ) × ((left c ≡ true) × ((k : ℕ) → k < n → left k ≡ true → p k c ≡ false))
+first_left p left trans acyclic zero i e = (i, (e, λ k h. absurd (omega arith)))
+first_left p left trans acyclic (suc n) i e =
+    let f = first_left p left trans acyclic n i e in
+    elim (cases_Bool (left n && p n f.0)) [
+      | inl q ↦ (n, grind (arith, cases_eq, f.1.0, f.1.1, trans))
+      | inr q ↦ (f.0, grind (arith, cases_eq, f.1.0, f.1.1))
     ]
-  ]
-]
-
--- How many are left falls.
-abbrev pub count_left : (ℕ → Bool) → ℕ → ℕ
-count_left left zero = 0
-count_left left (suc n) = cond (left n) 1 0 + count_left left n
-
-cond_le : (a b : Bool) → (a ≡ true → b ≡ true) → cond a 1 0 ≤ cond b 1 0
-cond_le z0 z1 h = grind (arith, false≢true)
-
-count_le : (left next : ℕ → Bool) (n : ℕ) → ((i : ℕ) → i < n → next i ≡ true → left i ≡ true)
-    → count_left next n ≤ count_left left n
-count_le left next zero h = omega arith
-count_le left next (suc n) h =
-    let a : cond (next n) 1 0 ≤ cond (left n) 1 0 = cond_le (next n) (left n) (h n (omega arith)) in
-    let b : count_left next n ≤ count_left left n = count_le left next n (λ i l. h i (omega arith)) in
-    omega arith
-
-count_falls : (left next : ℕ → Bool) (n : ℕ) → ((i : ℕ) → i < n → next i ≡ true → left i ≡ true) → (c : ℕ) → c < n
-    → left c ≡ true → next c ≡ false → count_left next n < count_left left n
-count_falls left next zero h c lt l x = absurd (omega arith)
-count_falls left next (suc n) h c lt l x = elim (cases_eq c n) [
-  | inl e ↦
-      let b : count_left next n ≤ count_left left n = count_le left next n (λ i k. h i (omega arith)) in
-      let l2 : left n ≡ true = subst (λ z. left z ≡ true) e l in
-      let x2 : next n ≡ false = subst (λ z. next z ≡ false) e x in
-      rw (l2, x2) (omega arith)
-  | inr e ↦
-      let a : cond (next n) 1 0 ≤ cond (left n) 1 0 = cond_le (next n) (left n) (h n (omega arith)) in
-      let b : count_left next n < count_left left n = count_falls left next n (λ i k. h i (omega arith)) c
-      (omega arith) l x in
-      omega arith
-]
 
 -- What holds after some levels.
 pub record ArePeeled (g : Graph) (start left : ℕ → Bool) (batches : List (List ℕ)) : Type 0 where
@@ -246,21 +160,17 @@ peeled_next g start left blocked next n batches batch a within t h is some s =
 pub peeled_all : (g : Graph) (start left blocked : ℕ → Bool) (n : ℕ) (batch : List ℕ) (m : ℕ) → IsAcyclic g
     → ((i : ℕ) → start i ≡ true → i < n) → TellsBlocked g left blocked → AreLeft g start left m
     → batch ≡ filter (λ i. left i && not (blocked i)) (range_with_len 0 n) → length batch ≡ 0 → (i : ℕ) → left i ≡ false
-peeled_all g start left blocked n batch m acyclic within t h is empty =
-    elim (first_left (path g) left (path_trans g) (λ i. no_path g i i (acyclic i)) n) [
-      | inl f ↦ λ i. false_from_ne_true (left i) (λ e. false≢true (sym (f i (within i ((h i).0 e).0)) ∙ e))
-      | inr f ↦ λ i.
-          let c : ℕ = f.0 in
-          let open_ : blocked c ≡ false =
-          false_from_ne_true (blocked c)
-          (λ b. let w = t.by c b in false≢true (sym (f.1.1.1 w.0 (within w.0 ((h w.0).0 w.1.1).0) w.1.1) ∙ w.1.0)) in
-          let there = Contains-filter (λ k. left k && not (blocked k)) (range_with_len 0 n) c
-          (Contains-range 0 n c (omega arith) (omega (arith, f.1.0)))
-          (and_from (left c) (not (blocked c)) f.1.1.0 (not_from_false (blocked c) open_)) in
-          let none : length (filter (λ k. left k && not (blocked k)) (range_with_len 0 n))
-          ≡ 0 = ap length (sym is) ∙ empty in
-          absurd (omega (arith, there.1))
-    ]
+peeled_all g start left blocked n batch m acyclic within t h is empty i = false_from_ne_true (left i) (λ e.
+    let f = first_left (path g) left (path_trans g) (λ i. no_path g i i (acyclic i)) n i e in
+    let c : ℕ = f.0 in
+    let open_ : blocked c ≡ false =
+    false_from_ne_true (blocked c)
+    (λ b. let w = t.by c b in false≢true (sym (f.1.1 w.0 (within w.0 ((h w.0).0 w.1.1).0) w.1.1) ∙ w.1.0)) in
+    let below : c < n = within c ((h c).0 f.1.0).0 in
+    let there = Contains-filter (λ k. left k && not (blocked k)) (range_with_len 0 n) c
+    (Contains-range 0 n c (omega arith) (omega arith))
+    (and_from (left c) (not (blocked c)) f.1.0 (not_from_false (blocked c) open_)) in
+    omega (arith, there.1, ap length is))
 
 pub peeled_done : (g : Graph) (systems : List Bool) (start left : ℕ → Bool) (batches : List (List ℕ))
     → ((i : ℕ) → start i ≡ has_joined systems i) → ArePeeled g start left batches → ((i : ℕ) → left i ≡ false)
@@ -280,21 +190,37 @@ peeled_done g systems start left batches same h none = record {
   by_addition = h.by_addition;
 }
 
-right_false : (b : Bool) → (b && false) ≡ false
-right_false b = grind arith
+-- the measure: how many are left below n
+abbrev pub count_left : (ℕ → Bool) → ℕ → ℕ
+count_left left n = count_by left (range_with_len 0 n)
 
--- the measure
+one_of_two : (a b : Bool) → cond (a && b) 1 0 + cond (a && not b) 1 0 ≡ cond a 1 0
+one_of_two a b = grind arith
+
+count_splits : (p q : ℕ → Bool) (xs : List ℕ) → count_by (λ i. p i && q i) xs + count_by (λ i. p i && not (q i)) xs
+    ≡ count_by p xs
+count_splits p q [] = omega arith
+count_splits p q (x ∷ xs) =
+    omega (
+      arith,
+      count_splits p q xs,
+      one_of_two (p x) (q x),
+      sum_by-cons (λ i. cond (p i && q i) 1 0) x xs,
+      sum_by-cons (λ i. cond (p i && not (q i)) 1 0) x xs,
+      sum_by-cons (λ i. cond (p i) 1 0) x xs,
+    )
+
 pub left_falls : (left blocked next : ℕ → Bool) (n : ℕ) (batch : List ℕ) → batch
     ≡ filter (λ i. left i && not (blocked i)) (range_with_len 0 n) → 0 < length batch
     → ((i : ℕ) → next i ≡ (left i && blocked i)) → count_left next n < count_left left n
 left_falls left blocked next n batch is some s =
-    let c : ℕ = get_or batch 0 0 in
-    let f = filter-Contains (λ i. left i && not (blocked i)) (range_with_len 0 n) c
-    (subst (λ xs. Contains xs c) is (Contains-get_or batch 0 0 some)) in
-    let lt = (range-Contains 0 n c f.0).1 in
-    let r = and_parts (left c) (not (blocked c)) f.1 in
-    count_falls left next n (λ i l x. (and_parts (left i) (blocked i) (sym (s i) ∙ x)).0) c (omega (arith, lt)) r.0
-    (s c ∙ ap (λ b. left c && b) (not-true (blocked c) r.1) ∙ right_false (left c))
+    omega (
+      arith,
+      count_splits left blocked (range_with_len 0 n),
+      ap (λ (p : ℕ → Bool). count_left p n) (λ k i. s i k),
+      ap length is,
+      length-filter (λ i. left i && not (blocked i)) (range_with_len 0 n),
+    )
 
 -- the sets tell which systems are blocked
 pub sets_tell : (g : Graph) (before : List SystemSet) (left : SystemSet) → ArePaths g before

@@ -1,7 +1,8 @@
 -- Chains, joined end to end, and counted from their end.
-use Rattle.std.proofs.Common.{◌≡◌, ℕ, zero, suc, ◌+◌, ◌<◌, ◌≤◌, inl, inr, List, [], ◌∷◌, ◌++◌, length, refl, sym, subst, arith, append_assoc, length-append}
+use Rattle.std.proofs.Common.{◌≡◌, ℕ, Bool, zero, suc, ◌+◌, ◌<◌, ◌≤◌, inl, inr, List, [], ◌∷◌, ◌++◌, length, refl, sym, subst, arith, append_assoc, length-append}
+use Rattle.std.specs.Prelude.{IsTrue}
 use Rattle.std.proofs.lemmas.Bool.{cases_lt, cases_eq}
-use Rattle.msg_order.specs.Prelude.{Graph, IsEdge, IsChain, Path, IsBatchNumber}
+use Rattle.msg_order.specs.Prelude.{Graph, IsAmong, IsBatchNumber, IsChain, IsEdge, Path, has_joined}
 
 -- where each edge of g is one of h, so is each chain
 pub chain_grows : (g h : Graph) → ((i j : ℕ) → IsEdge g i j → IsEdge h i j) → (xs : List ℕ) → IsChain g xs
@@ -29,20 +30,12 @@ paths_join g i j k p q = (
       (chain_join g (i ∷ p.0) (q.0 ++ k ∷ []) j p.1 q.1),
 )
 
--- a path has a first edge and a last one
-pub first_edge : (g : Graph) (i j : ℕ) → Path g i j → (k : ℕ) × IsEdge g i k
-first_edge g i j p = first p.0 p.1
-  where
-    first : (between : List ℕ) → IsChain g (i ∷ (between ++ j ∷ [])) → (k : ℕ) × IsEdge g i k
-    first [] c = (j, c.0)
-    first (k ∷ more) c = (k, c.0)
-
-pub last_edge : (g : Graph) (i j : ℕ) → Path g i j → (k : ℕ) × IsEdge g k j
-last_edge g i j p = last i p.0 p.1
-  where
-    last : (i : ℕ) (between : List ℕ) → IsChain g (i ∷ (between ++ j ∷ [])) → (k : ℕ) × IsEdge g k j
-    last i [] c = (i, c.0)
-    last i (k ∷ more) c = last k more c.1
+-- where each edge leads among these systems, so does a path
+pub path_among : (g : Graph) (joined : List Bool) → IsAmong joined g → (i j : ℕ) → Path g i j
+    → IsTrue (has_joined joined i) × IsTrue (has_joined joined j)
+path_among g joined among i j ([], c) = among i j c.0
+path_among g joined among i j (k ∷ more, c) =
+    ((among i k c.0).0, (path_among g joined among k j (more, c.1)).1)
 
 -- a chain of n edges ends in j, told from its last edge
 abbrev pub Ends : Graph → ℕ → ℕ → Type 0

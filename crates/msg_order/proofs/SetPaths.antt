@@ -3,7 +3,7 @@ use Rattle.std.proofs.Common.{◌≡◌, ◌≢◌, ℕ, ◌+◌, ◌-◌, ◌<�
 use Rattle.std.specs.Prelude.{◌==◌, Contains, filter, IfNone, IfSome, IsTrue, IsFalse, MatchOption, ◌↔◌}
 use Rattle.std.specs.List.{list_any, range_with_len}
 use Rattle.std.proofs.Math.Seq.{take-suc, get_or-append_seam}
-use Rattle.std.proofs.lemmas.List.{append-nil, get_or-take, get_or_past, map-append, get_or_append_left}
+use Rattle.std.proofs.lemmas.List.{append-nil, get_or-take, get_or_past, get_or_push, map-append, get_or_append_left}
 use Rattle.std.proofs.lemmas.Grind.{common_steps}
 use Rattle.std.proofs.lemmas.Simd.{get_or-replicate}
 use Rattle.std.proofs.lemmas.List.Elements.{All-head, All-tail, filter-append, Contains-append_left, Contains-push, Contains-push_cases}
@@ -25,9 +25,7 @@ pub none_past : (before : List SystemSet) (i j : ℕ) → length before ≤ j �
 none_past before i j h = ap (λ s. has s i) (set_past before j h) ∙ has-no_set i
 
 pub meets-no_set : (t : SystemSet) → meets no_set t ≡ false
-meets-no_set t =
-    false_from_ne_true (meets no_set t)
-    (λ h. let f = meets-true no_set t h in false≢true (sym (has-no_set f.0) ∙ f.1.1.0))
+meets-no_set t = grind (arith, false_from_ne_true, has-no_set, meets-true)
 
 -- what `add_edges` says of its sets
 abbrev pub AddsEdges : List SystemSet → ℕ → SystemSet → List SystemSet → Type 0
@@ -35,16 +33,13 @@ AddsEdges before from to new = (i j : ℕ) → comes_before new i j
     ≡ (comes_before before i j || ((i == from || comes_before before i from) &&
     (has to j || meets (set_at before j) to)))
 
-nothing : (b : Bool) → false ≡ (false || (b && (false || false)))
-nothing b = grind arith
-
 -- it holds past the last set
 pub adds_past : (before new : List SystemSet) (from : ℕ) (to : SystemSet) (i j : ℕ) → length new ≡ length before
     → length before ≤ j → ((k : ℕ) → has to k ≡ true → k < length before)
     → comes_before new i j ≡ (comes_before before i j ||
     ((i == from || comes_before before i from) && (has to j || meets (set_at before j) to)))
 adds_past before new from to i j len h within =
-    grind (arith, false_from_ne_true, meets-no_set, none_past, nothing, set_past)
+    grind (arith, false_from_ne_true, meets-no_set, none_past, set_past)
 
 -- One edge.
 pub adds_edge : (g : Graph) (before new : List SystemSet) (from later : ℕ) (to : SystemSet) → ArePaths g before
@@ -55,8 +50,7 @@ adds_edge g before new from later to h s few only i j =
 
 -- The rules one by one.
 edge_at_end : (g : Graph) (e : ℕ × ℕ) (i j : ℕ) → IsEdge (g ++ e ∷ []) i j → IsEdge (e ∷ g) i j
-edge_at_end g e i j h =
-    elim (Contains-push_cases g e (i, j) h) [ inl x ↦ Contains-tail e g (i, j) x | inr s ↦ (0, omega arith, s) ]
+edge_at_end g e i j h = grind (arith, Contains-push_cases g e (i, j) h, Contains-tail e g (i, j))
 
 edge_to_end : (g : Graph) (e : ℕ × ℕ) (i j : ℕ) → IsEdge (e ∷ g) i j → IsEdge (g ++ e ∷ []) i j
 edge_to_end g e i j h = elim (Contains-cases e g (i, j) h) [
@@ -229,8 +223,7 @@ found_among_all m n rules before found le below h =
 pub rules_join : (joined : List Bool) (rules : List Rule) → IsAmong joined (rules_among joined rules)
 rules_join joined rules i j h =
     and_parts (has_joined joined i) (has_joined joined j)
-    (filter-Contains (λ (e : ℕ × ℕ). has_joined joined e.0 && has_joined joined e.1)
-    (map (λ (r : Rule). (r.earlier, r.later)) rules) (i, j) h).1
+    (filter-Contains (λ (e : ℕ × ℕ). has_joined joined e.0 && has_joined joined e.1) (edges_of rules) (i, j) h).1
 
 pub settled_joins : (accesses : List Access) (rules : List Rule) (joined : List Bool) (h : Graph)
     → Settles (AreInConflict accesses joined) (rules_among joined rules) (pairs (length accesses)) h → IsAmong joined h
@@ -251,10 +244,12 @@ settled_free accesses rules joined h s f i =
 -- a set that was just made
 pub sets_push : (before : List SystemSet) (set : SystemSet) → ArePaths [] before → ((k : ℕ) → has set k ≡ false)
     → ArePaths [] (before ++ set ∷ [])
-sets_push before set h none i j = elim (cases_eq j (length before)) [
-  | inl x ↦ rw x (ap (λ s. has s i) (get_or-append_seam before set [] no_set) ∙ none i)
-  | inr x ↦ elim (cases_lt j (length before)) [
-    | inl l ↦ ap (λ s. has s i) (get_or_append_left before (set ∷ []) no_set j l) ∙ h i j
-    | inr l ↦ none_past (before ++ set ∷ []) i j (omega (arith, length-append before (set ∷ [])))
-  ]
-]
+sets_push before set h none i j =
+    grind (
+      arith,
+      h i j,
+      get_or_push before set no_set j,
+      get_or_append_left before (set ∷ []) no_set j,
+      none_past (before ++ set ∷ []) i j,
+      length-append before (set ∷ []),
+    )

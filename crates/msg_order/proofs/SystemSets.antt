@@ -24,8 +24,7 @@ below_some test n h = let f = Contains-list_any test (range_with_len 0 n) h in l
 
 pub none_below : (test : ℕ → Bool) (n : ℕ) → ((k : ℕ) → k < n → test k ≡ false)
     → list_any test (range_with_len 0 n) ≡ false
-none_below test n none = false_from_ne_true (list_any test (range_with_len 0 n))
-    (λ t. let f = below_some test n t in false≢true (sym (none f.0 f.1.0) ∙ f.1.1))
+none_below test n none = grind (arith, false_from_ne_true, below_some)
 
 same_place : (j k : ℕ) → j / 64 ≡ k / 64 → j % 64 ≡ k % 64 → j ≡ k
 same_place j k p q = omega arith

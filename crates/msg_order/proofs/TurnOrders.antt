@@ -5,12 +5,12 @@ use Rattle.std.specs.List.{concat}
 use Rattle.std.proofs.lemmas.Bool.{cases_lt, cases_order}
 use Rattle.std.proofs.lemmas.Grind.{get_or_default_zero}
 use Rattle.std.proofs.lemmas.List.{get_or_append_left, get_or-append-add}
-use Rattle.std.proofs.lemmas.List.Elements.{All-head, All-tail, All-from_get_or, Contains-get_or}
-use Rattle.std.proofs.lemmas.List.Kept.{AllPairs-from_increasing}
+use Rattle.std.proofs.lemmas.List.Elements.{All-append, All-head, All-tail, All-from_get_or, Contains-get_or}
+use Rattle.std.proofs.lemmas.List.Kept.{AllPairs-cons, AllPairs-from_increasing}
 use Rattle.std.proofs.lemmas.Option.{slice_get-get_or, slice_get_within, get_or_from_slice_get}
 use Rattle.msg_world.specs.declared.access.Access.{Access}
 use Rattle.msg_order.specs.Prelude.{AreBatches, AreInConflict, Graph, IsBatchNumber, IsChain, IsLawfulOrder, IsTurnOrder, NoneConflict, Path, Rule, RunsBefore, Settles, StandsBefore, TurnOrderIsLawful, batch_at, pairs, rules_among}
-use Rattle.msg_order.proofs.Elements.{concat-Contains, Contains-concat}
+use Rattle.msg_order.proofs.Elements.{AllPairs-head, AllPairs-tail, Contains-concat, Contains-head, Contains-tail, concat-Contains}
 use Rattle.msg_order.proofs.Chains.{number_once, number_rises, edge_is_path}
 use Rattle.msg_order.proofs.SettledPairs.{settles_covers, Contains-pairs}
 use Rattle.msg_order.proofs.SetPaths.{joined_in}
@@ -61,27 +61,11 @@ kept_along g joined order w i j p = along i p.0 p.1
 -- Lists one after the other.
 pairs_append : (R : ℕ → ℕ → Type 0) (xs ys : List ℕ) → AllPairs R xs → AllPairs R ys
     → ((i j : ℕ) → Contains xs i → Contains ys j → R i j) → AllPairs R (xs ++ ys)
-pairs_append R xs ys f h across a b d lt l =
-    let sum : length (xs ++ ys) ≡ length xs + length ys = length-append xs ys in
-    elim (cases_lt b (length xs)) [
-      | inl in_b ↦ rw (get_or_append_left xs ys d a (omega arith), get_or_append_left xs ys d b in_b) (f a b d lt in_b)
-      | inr past_b ↦
-          let b' : ℕ = b - length xs in
-          let is_b : length xs + b' ≡ b = omega arith in
-          let at_b : get_or (xs ++ ys) b d ≡ get_or ys b' d = ap (λ k. get_or (xs ++ ys) k d) (sym is_b)
-          ∙ get_or-append-add xs ys b' d in
-          elim (cases_lt a (length xs)) [
-            | inl in_a ↦ rw (get_or_append_left xs ys d a in_a, at_b)
-                (across (get_or xs a d) (get_or ys b' d) (Contains-get_or xs a d in_a)
-                (Contains-get_or ys b' d (omega arith)))
-            | inr past_a ↦
-                let a' : ℕ = a - length xs in
-                let is_a : length xs + a' ≡ a = omega arith in
-                let at_a : get_or (xs ++ ys) a d ≡ get_or ys a' d = ap (λ k. get_or (xs ++ ys) k d) (sym is_a)
-                ∙ get_or-append-add xs ys a' d in
-                rw (at_a, at_b) (h a' b' d (omega arith) (omega arith))
-          ]
-    ]
+pairs_append R [] ys f h across = h
+pairs_append R (x ∷ xs) ys f h across = AllPairs-cons R x (xs ++ ys)
+    (All-append (R x) xs ys (AllPairs-head R x xs f)
+    (λ k d l. across x (get_or ys k d) (Contains-head x xs) (Contains-get_or ys k d l)))
+    (pairs_append R xs ys (AllPairs-tail R x xs f) h (λ i j p q. across i j (Contains-tail x xs i p) q))
 
 -- what holds within each batch, and of an earlier one and a later one
 pairs_by_batch : (R : ℕ → ℕ → Type 0) (bs : List (List ℕ)) → All (AllPairs R) bs

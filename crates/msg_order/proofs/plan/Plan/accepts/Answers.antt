@@ -13,16 +13,13 @@ use Rattle.msg_order.proofs.plan.Plan.accepts.Goals.{then-system-len-via-then-sy
 pub loop-system-init : goal.loop-system-init
 loop-system-init _g c = taken_first c.args.self.now.precedes c.args.self.now.joined
     (has c.self.inside.joined) c.args.order.now
-    (seen_joined c.args.self.now c.self.inside.before.items c.self.inside.joined
-    (map (λ b. b.items) c.self.inside.batches.items) c.self.view_is c.self.invariant)
+    (seen_joined _ _ _ _ c.self.view_is c.self.invariant)
 
 pub loop-system-preserved : goal.loop-system-preserved
 loop-system-preserved _g c =
     let before = c.self.inside.before.items in
-    let set = c.self.inside.joined in
-    let bs = map (λ b. b.items) c.self.inside.batches.items in
-    let edges = seen_edges c.args.self.now before set bs c.self.view_is c.self.invariant in
-    let joined = seen_joined c.args.self.now before set bs c.self.view_is c.self.invariant in
+    let edges = seen_edges _ _ _ _ c.self.view_is c.self.invariant in
+    let joined = seen_joined _ _ _ _ c.self.view_is c.self.invariant in
     let k : ℕ = c.loop-system.system-index in
     let s : ℕ = get_or c.args.order.now k 0 in
     let at : c.index.result.now ≡ set_at before s = get_or_read before s _ (omega arith) c.index.ensures no_set in
@@ -39,12 +36,10 @@ loop-system-preserved _g c =
 pub returns-then-system-len-clause-keeps_what_precedes : goal.returns-then-system-len-clause-keeps_what_precedes
 returns-then-system-len-clause-keeps_what_precedes _g c =
     let before = c.self.inside.before.items in
-    let set = c.self.inside.joined in
-    let bs = map (λ b. b.items) c.self.inside.batches.items in
     let g = c.args.self.now.precedes in
     let systems = c.args.self.now.joined in
-    let edges = seen_edges c.args.self.now before set bs c.self.view_is c.self.invariant in
-    let joined = seen_joined c.args.self.now before set bs c.self.view_is c.self.invariant in
+    let edges = seen_edges _ _ _ _ c.self.view_is c.self.invariant in
+    let joined = seen_joined _ _ _ _ c.self.view_is c.self.invariant in
     let order = c.args.order.now in
     let k : ℕ = c.loop-system.system-index in
     let s : ℕ = get_or order k 0 in (
@@ -78,12 +73,10 @@ returns-then-system-len-clause-lawful _g c = λ accesses rules joined plan. (
 pub returns-clause-keeps_what_precedes : goal.returns-clause-keeps_what_precedes
 returns-clause-keeps_what_precedes _g c =
     let before = c.self.inside.before.items in
-    let set = c.self.inside.joined in
-    let bs = map (λ b. b.items) c.self.inside.batches.items in
     let g = c.args.self.now.precedes in
     let systems = c.args.self.now.joined in
-    let edges = seen_edges c.args.self.now before set bs c.self.view_is c.self.invariant in
-    let joined = seen_joined c.args.self.now before set bs c.self.view_is c.self.invariant in
+    let edges = seen_edges _ _ _ _ c.self.view_is c.self.invariant in
+    let joined = seen_joined _ _ _ _ c.self.view_is c.self.invariant in
     let order = c.args.order.now in
     let left : ℕ → Bool = has c.loop-system.left in
     let all : c.loop-system.system-index ≡ length order = omega arith in

@@ -12,8 +12,7 @@ returns-then-earlier-len _g c =
     let before = c.self.inside.before.items in
     let i : ℕ = c.args.earlier in
     let j : ℕ = c.args.later in
-    let edges = seen_edges c.args.self.now before c.self.inside.joined
-    (map (λ b. b.items) c.self.inside.batches.items) c.self.view_is c.self.invariant i j in record {
+    let edges = seen_edges _ _ _ _ c.self.view_is c.self.invariant i j in record {
       edge = (
         λ t. absurd (false≢true t),
         λ e.
@@ -32,8 +31,7 @@ returns _g c =
     let before = c.self.inside.before.items in
     let i : ℕ = c.args.earlier in
     let j : ℕ = c.args.later in
-    let edges = seen_edges c.args.self.now before c.self.inside.joined
-    (map (λ b. b.items) c.self.inside.batches.items) c.self.view_is c.self.invariant i j in
+    let edges = seen_edges _ _ _ _ c.self.view_is c.self.invariant i j in
     let is : c.contains.result ≡ comes_before before i j = c.contains.ensures
     ∙ ap (λ s. has s i) (get_or_read before j _ (omega arith) c.index.ensures no_set) in record {
       edge = (
