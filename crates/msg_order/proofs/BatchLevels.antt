@@ -1,20 +1,19 @@
 -- Batches, level by level: what is left after m of them are the systems in which a chain of m edges ends.
-use Rattle.std.proofs.Common.{◌≡◌, ℕ, zero, suc, ◌+◌, ◌<◌, ◌≤◌, ◌⊎◌, inl, inr, Bool, true, false, not, cond, ◌&&◌, List, [], ◌∷◌, ◌++◌, length, get_or, ap, sym, subst, ◌∙◌, arith, length-append}
+use Rattle.std.proofs.Common.{◌≡◌, ℕ, zero, suc, ◌+◌, ◌<◌, ◌⊎◌, inl, inr, Bool, true, false, not, cond, ◌&&◌, List, [], ◌∷◌, ◌++◌, length, ap, sym, subst, ◌∙◌, arith, length-append}
 use Rattle.std.specs.Prelude.{◌↔◌, Contains, All, count_by, filter}
 use Rattle.std.proofs.lemmas.List.Sums.{length-filter, sum_by-cons}
 use Rattle.std.specs.List.{range_with_len}
 use Rattle.std.specs.List.Sorted.{IsStrictlyIncreasing}
-use Rattle.std.proofs.lemmas.Bool.{cases_Bool, cases_eq, cases_lt, and_parts, and_from, false≢true, not-true, not_from_false, false_from_ne_true}
-use Rattle.std.proofs.lemmas.List.{get_or_past, get_or_append_left}
-use Rattle.std.proofs.lemmas.List.Elements.{All-push, Contains-get_or}
+use Rattle.std.proofs.lemmas.Bool.{cases_Bool, cases_eq, cases_lt, and_from, false≢true, not_from_false, false_from_ne_true}
+use Rattle.std.proofs.lemmas.List.{get_or_past, get_or_push, get_or_append_left}
+use Rattle.std.proofs.lemmas.List.Elements.{All-push}
 use Rattle.std.proofs.lemmas.List.Kept.{IsStrictlyIncreasing-filter}
 use Rattle.std.proofs.lemmas.List.FromFn.{length-range_with_len, get_or-range_with_len}
-use Rattle.std.proofs.Math.Seq.{get_or-append_seam}
 use Rattle.msg_order.specs.Prelude.{AreBatches, Graph, IsAcyclic, IsBatchNumber, IsEdge, SystemSet, batch_at, has_joined}
 use Rattle.msg_order.specs.inner.Paths.{path, set_at, ArePaths}
 use Rattle.msg_order.specs.inner.SystemSet.{has, meets}
 use Rattle.msg_order.proofs.SystemSets.{meets-found, meets-true}
-use Rattle.msg_order.proofs.Elements.{not_in_none, filter-Contains, Contains-filter, range-Contains, Contains-range}
+use Rattle.msg_order.proofs.Elements.{not_in_none, filter-Contains, Contains-filter, Contains-range}
 use Rattle.msg_order.proofs.Chains.{Ends, ends_less, ends_at_most, ends_along, number_ends, ends_number}
 use Rattle.msg_order.proofs.PathTest.{edge_path, path_trans, to_Path, no_path}
 
@@ -46,33 +45,27 @@ ends_blocked g start left blocked m i a h t c =
 left_next : (g : Graph) (start left blocked next : ℕ → Bool) (m : ℕ) → LeadAmong g start → AreLeft g start left m
     → TellsBlocked g left blocked
     → ((i : ℕ) → next i ≡ (left i && blocked i)) → AreLeft g start next (suc m)
-left_next g start left blocked next m a h t s i = (
-  λ e. let q =
-      and_parts (left i) (blocked i) (sym (s i)
-      ∙ e) in (((h i).0 q.0).0, blocked_ends g start left blocked m i h t q.1),
-  λ e c. s i ∙ and_from (left i) (blocked i) ((h i).1 e (ends_less g m i c))
-      (ends_blocked g start left blocked m i a h t c),
-)
+left_next g start left blocked next m a h t s i =
+    grind (
+      arith,
+      s i,
+      h i,
+      ends_less g m i,
+      blocked_ends g start left blocked m i h t,
+      ends_blocked g start left blocked m i a h t,
+    )
 
 -- those that are ready have this batch number
 ready_number : (g : Graph) (start left blocked : ℕ → Bool) (m i : ℕ) → LeadAmong g start → AreLeft g start left m
     → TellsBlocked g left blocked
     → (left i && not (blocked i)) ≡ true → (start i ≡ true) × IsBatchNumber g i m
 ready_number g start left blocked m i a h t r =
-    let q = and_parts (left i) (not (blocked i)) r in
-    let e = (h i).0 q.0 in (
-      e.0,
-      ends_number g i m e.1 (λ d. false≢true
-          (sym (not-true (blocked i) q.1) ∙ ends_blocked g start left blocked m i a h t d)),
-    )
+    grind (arith, h i, ends_number g i m, ends_blocked g start left blocked m i a h t)
 
 number_ready : (g : Graph) (start left blocked : ℕ → Bool) (m i : ℕ) → AreLeft g start left m
     → TellsBlocked g left blocked → start i ≡ true → IsBatchNumber g i m → (left i && not (blocked i)) ≡ true
 number_ready g start left blocked m i h t e b =
-    let n = number_ends g i m b in
-    and_from (left i) (not (blocked i)) ((h i).1 e n.0)
-    (not_from_false (blocked i) (false_from_ne_true (blocked i)
-    (λ x. n.1 (blocked_ends g start left blocked m i h t x))))
+    grind (arith, h i, number_ends g i m b, blocked_ends g start left blocked m i h t)
 
 -- Where no path leads back, one of those left has none below n before it.
 first_left : (p : ℕ → ℕ → Bool) (left : ℕ → Bool) → ((i j k : ℕ) → p i j ≡ true → p j k ≡ true → p i k ≡ true)
@@ -120,40 +113,28 @@ peeled_next g start left blocked next n batches batch a within t h is some s =
       left_is = subst (AreLeft g start next) (sym (length_push batches batch))
           (left_next g start left blocked next m a h.left_is t s);
       of_number = λ b l i. elim (cases_eq b m) [
-        | inl e ↦
-            let last : batch_at (batches ++ batch ∷ []) b
-            ≡ filter ready (range_with_len 0 n) = rw e (get_or-append_seam batches batch [] [] ∙ is) in (
-              λ c.
-                  let r = filter-Contains ready (range_with_len 0 n) i (subst (λ xs. Contains xs i) last c) in
-                  subst (λ k. (start i ≡ true) × IsBatchNumber g i k) (sym e)
-                  (ready_number g start left blocked m i a h.left_is t r.1),
-              λ c.
-                  let number : IsBatchNumber g i m = subst (IsBatchNumber g i) e c.1 in
-                  let l2 : i < n = within i c.0 in
-                  subst (λ xs. Contains xs i) (sym last)
-                  (Contains-filter ready (range_with_len 0 n) i (Contains-range 0 n i (omega arith) (omega arith))
-                  (number_ready g start left blocked m i h.left_is t c.0 number)),
-            )
+        | inl e ↦ (
+          λ c. grind (
+            arith,
+            get_or_push batches batch [] b,
+            filter-Contains ready (range_with_len 0 n) i,
+            ready_number g start left blocked m i a h.left_is t,
+          ),
+          λ c. rw (get_or_push batches batch [] b (sym e) ∙ is)
+              (let number : IsBatchNumber g i m = subst (IsBatchNumber g i) e c.1 in
+              let l2 : i < n = within i c.0 in
+              Contains-filter ready (range_with_len 0 n) i (Contains-range 0 n i (omega arith) (omega arith))
+              (number_ready g start left blocked m i h.left_is t c.0 number)),
+        )
         | inr e ↦
             let l2 : b < m = omega (arith, length_push batches batch) in
-            subst (λ xs. Contains xs i ↔ ((start i ≡ true) × IsBatchNumber g i b))
-            (sym (get_or_append_left batches (batch ∷ []) [] b l2)) (h.of_number b l2 i)
+            rw (get_or_append_left batches (batch ∷ []) [] b l2) (h.of_number b l2 i)
       ];
       filled = All-push (λ (xs : List ℕ). 0 < length xs) batches batch h.filled some;
       by_addition = All-push IsStrictlyIncreasing batches batch h.by_addition
           (subst IsStrictlyIncreasing (sym is)
           (IsStrictlyIncreasing-filter ready (range_with_len 0 n) (increasing_range n)));
-      placed = λ i e. elim (h.placed i e) [
-        | inr x ↦ inr x
-        | inl x ↦ elim (cases_Bool (blocked i)) [
-          | inl y ↦ inl (s i ∙ and_from (left i) (blocked i) x y)
-          | inr y ↦ inr (
-            m,
-            (ready_number g start left blocked m i a h.left_is t
-                (and_from (left i) (not (blocked i)) x (not_from_false (blocked i) y))).1,
-          )
-        ]
-      ];
+      placed = λ i e. grind (arith, s i, h.placed i e, ready_number g start left blocked m i a h.left_is t);
     }
 
 -- where none is ready, none is left
@@ -176,16 +157,20 @@ pub peeled_done : (g : Graph) (systems : List Bool) (start left : ℕ → Bool) 
     → ((i : ℕ) → start i ≡ has_joined systems i) → ArePeeled g start left batches → ((i : ℕ) → left i ≡ false)
     → AreBatches g systems batches
 peeled_done g systems start left batches same h none = record {
-  of_number = λ b i. elim (cases_lt b (length batches)) [
-    | inl l ↦ let r =
-        h.of_number b l i in (λ c. let q = r.0 c in (sym (same i) ∙ q.0, q.1), λ c. r.1 (same i ∙ c.0, c.1))
-    | inr l ↦ (
-      λ c. absurd (not_in_none i (subst (λ xs. Contains xs i) (get_or_past batches b [] l) c)),
-      λ c. absurd (false≢true (sym (none i)
-          ∙ (h.left_is i).1 (same i ∙ c.0) (ends_at_most g b (length batches) i l (number_ends g i b c.1).0))),
-    )
-  ];
-  all = λ i e. elim (h.placed i (same i ∙ e)) [ inl x ↦ absurd (false≢true (sym (none i) ∙ x)) | inr x ↦ x ];
+  of_number = λ b i. (
+    λ c. grind (arith, cases_lt, same i, h.of_number b, get_or_past batches b [], not_in_none),
+    λ c. grind (
+      arith,
+      cases_lt,
+      same i,
+      h.of_number b,
+      none i,
+      h.left_is i,
+      ends_at_most g b (length batches) i,
+      number_ends g i b c.1,
+    ),
+  );
+  all = λ i e. grind (arith, same i, none i, h.placed i);
   filled = h.filled;
   by_addition = h.by_addition;
 }

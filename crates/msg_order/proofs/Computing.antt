@@ -2,7 +2,8 @@
 use Rattle.std.proofs.Common.{◌≡◌, ℕ, zero, suc, ◌<◌, ◌⊎◌, inl, inr, Bool, true, cond, not, max, ◌&&◌, ◌||◌, List, [], ◌∷◌, ◌++◌, map, length, refl, sym, subst, ◌∙◌, arith}
 use Rattle.std.specs.Prelude.{◌==◌, ◌↔◌, nat_lt, IsTrue, Contains, AllPairs}
 use Rattle.std.specs.List.{range_with_len, list_all, list_any}
-use Rattle.std.proofs.lemmas.Bool.{cases_Bool, cases_lt, and_parts, and_from, or_cases, or_left, or_right, not-true, false≢true, eqb-true, ltb-true}
+use Rattle.std.proofs.lemmas.Bool.Decides.{nat_tests}
+use Rattle.std.proofs.lemmas.Bool.{cases_Bool, and_parts, and_from, or_cases, or_left, or_right, not-true, false≢true, eqb-true, ltb-true}
 use Rattle.std.proofs.lemmas.List.Elements.{Contains-append_left, Contains-append_right}
 use Rattle.std.proofs.lemmas.List.Kept.{AllPairs-cons}
 use Rattle.std.proofs.lemmas.List.Sums.{AllPass-from_list_all}
@@ -105,7 +106,7 @@ abbrev pub rise_in : Graph → (ℕ → ℕ) → Bool
 rise_in g number = list_all (λ e. nat_lt (number e.0) (number e.1)) g
 
 greater_of : (a b : ℕ) → (max a b ≡ a) ⊎ (max a b ≡ b)
-greater_of a b = elim (cases_lt a b) [ inl l ↦ inr (omega arith) | inr l ↦ inl (omega arith) ]
+greater_of a b = grind arith
 
 above_ends : (g : Graph) (value : ℕ → ℕ) → ((i : ℕ) → Ends g (value i) i) → (h : Graph)
     → ((i j : ℕ) → IsEdge h i j → IsEdge g i j) → (j : ℕ) → Ends g (above_all value h j) j
@@ -171,14 +172,7 @@ is_turn_order n accesses rules joined order =
 before_is : (g : Graph) (number : ℕ → ℕ) → ((j : ℕ) → IsBatchNumber g j (number j)) → (i j : ℕ) → runs_before number i j
     ≡ true → RunsBefore g i j
 before_is g number is i j t m n a b =
-    let same_m : m ≡ number i = number_once g i m (number i) a (is i) in
-    let same_n : n ≡ number j = number_once g j n (number j) b (is j) in
-    elim (or_cases (nat_lt (number i) (number j)) ((number i == number j) && nat_lt i j) t) [
-      | inl l ↦ let lt : number i < number j = ltb-true (number i) (number j) l in inl (omega arith)
-      | inr x ↦
-          let both = and_parts (number i == number j) (nat_lt i j) x in
-          inr (same_m ∙ eqb-true (number i) (number j) both.0 ∙ sym same_n, ltb-true i j both.1)
-    ]
+    grind (arith, nat_tests, number_once g i m (number i) a (is i), number_once g j n (number j) b (is j))
 
 turns_are : (g : Graph) (number : ℕ → ℕ) → ((j : ℕ) → IsBatchNumber g j (number j)) → (order : List ℕ)
     → are_in_turn number order ≡ true → AllPairs (RunsBefore g) order

@@ -1,8 +1,8 @@
 -- That there is a settled order, and a list of its batches, for all systems whose rules make no cycle.
-use Rattle.std.proofs.Common.{◌≡◌, ℕ, zero, suc, ◌<◌, ◌≤◌, ◌⊎◌, inl, inr, Bool, true, not, ◌&&◌, List, [], ◌∷◌, ◌++◌, length, refl, sym, ◌∙◌, arith}
+use Rattle.std.proofs.Common.{◌≡◌, ℕ, zero, suc, ◌<◌, ◌⊎◌, inl, inr, Bool, true, not, ◌&&◌, List, [], ◌∷◌, ◌++◌, length, refl, arith}
 use Rattle.std.specs.Prelude.{filter}
 use Rattle.std.specs.List.{concat, list_any, range_with_len}
-use Rattle.std.proofs.lemmas.Bool.{cases_Bool, cases_eq, and_parts, and_from, false≢true}
+use Rattle.std.proofs.lemmas.Bool.{cases_eq, and_parts, and_from}
 use Rattle.msg_world.specs.declared.access.Access.{Access}
 use Rattle.msg_world.proofs.Conflicts.{decide_conflict}
 use Rattle.msg_order.specs.Prelude.{AreBatches, AreInConflict, BatchesExist, GainsEdge, Graph, IsAcyclic, RunsBefore, SettledOrderExists, Settles, TurnOrderExists, TurnOrderIsUnique, access_of, has_joined, pairs, rules_among}
@@ -102,11 +102,7 @@ turns_once g joined xs ys r s =
     same_ordered (RunsBefore g) xs ys
     (λ i j p q a b.
     let m = r.all i ((r.of_joined i).0 p) in
-    let n = r.all j ((r.of_joined j).0 q) in
-    elim (a m.0 n.0 m.1 n.1) [
-      | inl x ↦ elim (b n.0 m.0 n.1 m.1) [ inl y ↦ omega arith | inr y ↦ omega (arith, y.0) ]
-      | inr x ↦ elim (b n.0 m.0 n.1 m.1) [ inl y ↦ omega (arith, x.0) | inr y ↦ omega (arith, x.1, y.1) ]
-    ])
+    let n = r.all j ((r.of_joined j).0 q) in grind (arith, a m.0 n.0 m.1 n.1, b n.0 m.0 n.1 m.1))
     r.in_order s.in_order
     (λ i c. (s.of_joined i).1 ((r.of_joined i).0 c))
     (λ i c. (r.of_joined i).1 ((s.of_joined i).0 c))

@@ -1,11 +1,11 @@
 -- The test for a path, which grows edge by edge, says whether there is one.
-use Rattle.std.proofs.Common.{arith, ◌≡◌, ℕ, ◌⊎◌, inl, inr, Bool, true, false, ◌&&◌, ◌||◌, List, [], ◌∷◌, ◌++◌, ap, sym, subst, ◌∙◌}
+use Rattle.std.proofs.Common.{arith, ◌≡◌, ℕ, ◌⊎◌, inl, inr, Bool, true, false, ◌&&◌, ◌||◌, List, [], ◌∷◌, ◌++◌, sym, subst, ◌∙◌}
 use Rattle.std.specs.Prelude.{◌==◌}
 use Rattle.std.proofs.lemmas.Bool.Decides.{eqb_tells}
-use Rattle.std.proofs.lemmas.Bool.{eqb-true, eq-eqb, or_cases, or_left, or_right, and_parts, and_from, false≢true, false_from_ne_true}
+use Rattle.std.proofs.lemmas.Bool.{eqb-true, or_cases, and_parts, false≢true, false_from_ne_true}
 use Rattle.msg_order.specs.Prelude.{Graph, IsEdge, IsChain, Path}
 use Rattle.msg_order.specs.inner.Paths.{path}
-use Rattle.msg_order.proofs.Elements.{Contains-head, Contains-tail, Contains-cases, not_in_none}
+use Rattle.msg_order.proofs.Elements.{Contains-head, Contains-tail, not_in_none}
 use Rattle.msg_order.proofs.Chains.{edge_is_path, paths_join, path_grows}
 
 pub edge_cases : (e : ℕ × ℕ) (g : Graph) (i j : ℕ) → IsEdge (e ∷ g) i j → ((e.0 ≡ i) × (e.1 ≡ j)) ⊎ IsEdge g i j

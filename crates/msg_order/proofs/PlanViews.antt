@@ -5,7 +5,7 @@ use Rattle.std.specs.List.{range_with_len}
 use Rattle.std.proofs.lemmas.Bool.{cases_lt, false≢true, false_from_ne_true}
 use Rattle.std.proofs.lemmas.List.{get_or_past}
 use Rattle.std.proofs.lemmas.List.FromFn.{fill_by_all, get_or-map-range_with_len, length-map-range_with_len}
-use Rattle.msg_order.specs.Prelude.{Graph, IsAmong, IsEdge, IsLawfulOrder, IsPlanOf, Path, PlanView, Rule, SystemSet, has_joined}
+use Rattle.msg_order.specs.Prelude.{Graph, IsAmong, IsEdge, IsLawfulOrder, IsPlanOf, PlanView, Rule, SystemSet, has_joined}
 use Rattle.msg_order.specs.inner.SystemSet.{has}
 use Rattle.msg_order.specs.inner.Paths.{comes_before, ArePaths, AreKept, IsSetOf, square, view_of}
 use Rattle.msg_order.proofs.Elements.{filter-Contains, Contains-filter, Contains-flat_map, Contains-map, Contains-range}

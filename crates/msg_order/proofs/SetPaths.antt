@@ -2,12 +2,12 @@
 use Rattle.std.proofs.Common.{◌≡◌, ◌≢◌, ℕ, ◌+◌, ◌-◌, ◌<◌, ◌≤◌, inl, inr, Bool, true, false, cond, ◌&&◌, ◌||◌, List, [], ◌∷◌, ◌++◌, length, take, map, get_or, replicate, Option, None, Some, refl, ap, sym, subst, ◌∙◌, arith, add-one, length-append}
 use Rattle.std.specs.Prelude.{◌==◌, Contains, filter, IfNone, IfSome, IsTrue, IsFalse, MatchOption, ◌↔◌}
 use Rattle.std.specs.List.{list_any, range_with_len}
-use Rattle.std.proofs.Math.Seq.{take-suc, get_or-append_seam}
+use Rattle.std.proofs.Math.Seq.{take-suc}
 use Rattle.std.proofs.lemmas.List.{append-nil, get_or-take, get_or_past, get_or_push, map-append, get_or_append_left}
 use Rattle.std.proofs.lemmas.Grind.{common_steps}
 use Rattle.std.proofs.lemmas.Simd.{get_or-replicate}
 use Rattle.std.proofs.lemmas.List.Elements.{All-head, All-tail, filter-append, Contains-append_left, Contains-push, Contains-push_cases}
-use Rattle.std.proofs.lemmas.Bool.{cases_eq, cases_lt, or_left, or_right, or_cases, and_parts, and_from, false≢true, false_from_ne_true, eqb-true, eq-eqb}
+use Rattle.std.proofs.lemmas.Bool.{cases_lt, or_left, or_right, or_cases, and_parts, and_from, false≢true, false_from_ne_true, eqb-true, eq-eqb}
 use Rattle.msg_world.specs.declared.access.Access.{Access}
 use Rattle.msg_order.specs.Prelude.{AreInConflict, Graph, IsAcyclic, IsAmong, IsEdge, IsLowestOnCycle, NameSystemsBelow, Rule, Settles, SystemSet, edges_of, has_joined, pairs, rules_among}
 use Rattle.msg_order.specs.inner.SystemSet.{has, meets, no_set}
@@ -212,13 +212,11 @@ found_among_all m n rules before found le below h =
     let front = front_joined m n le in
     let all = all_rules joined rules (subst (λ k. NameSystemsBelow k rules) (sym front.0) below)
     (λ i lt. front.1 i (omega (arith, front.0))) in
-    of_both found (subst (λ g. MatchOption found (IsAcyclic g × ArePaths g before) (IsLowestOnCycle g)) all h)
+    of_both _ _ _ found (subst (λ g. MatchOption found (IsAcyclic g × ArePaths g before) (IsLowestOnCycle g)) all h)
   where
-    of_both : (found : Option ℕ) → MatchOption found (IsAcyclic (edges_of rules) × ArePaths (edges_of rules) before)
-        (IsLowestOnCycle (edges_of rules))
-        → IfSome found (IsLowestOnCycle (edges_of rules)) × IfNone found (IsAcyclic (edges_of rules))
-    of_both None h = (tt, h.0)
-    of_both (Some s) h = (h, tt)
+    of_both : (P Q : Type 0) (R : ℕ → Type 0) (found : Option ℕ) → MatchOption found (P × Q) R
+        → IfSome found R × IfNone found P
+    of_both P Q R found h = grind arith
 
 pub rules_join : (joined : List Bool) (rules : List Rule) → IsAmong joined (rules_among joined rules)
 rules_join joined rules i j h =

@@ -3,7 +3,7 @@ use Rattle.std.proofs.Common.{[], ◌∷◌, ◌≡◌, ◌≢◌, ℕ, ◌+◌,
 use Rattle.std.specs.Prelude.{◌==◌, bit_and, bit_or}
 use Rattle.std.specs.Int.{bit_not}
 use Rattle.std.specs.List.{list_any, range_with_len}
-use Rattle.std.proofs.lemmas.Bool.{cases_eq, and_parts, and_from, eq-eqb, ne_eqb, false≢true, false_from_ne_true}
+use Rattle.std.proofs.lemmas.Bool.{cases_eq, and_parts, and_from, eq-eqb, ne_eqb, false_from_ne_true}
 use Rattle.std.proofs.lemmas.List.{get_or_past}
 use Rattle.std.proofs.lemmas.Nat.Bits.{shr_and_one}
 use Rattle.msg_world.specs.Prelude.{has_bit}
@@ -68,7 +68,7 @@ no_words q = grind (arith, get_or_past)
 -- nothing is in a set of no words
 pub has-no_set : (k : ℕ) → has no_set k ≡ false
 unfolding has
-has-no_set k = has_bit-zero (k % 64)
+has-no_set k = grind arith
 
 pub meets-found : (s t : SystemSet) (k : ℕ) → k < 256 → has s k ≡ true → has t k ≡ true → meets s t ≡ true
 unfolding meets

@@ -1,16 +1,16 @@
 -- Places in an order, and the batches one after the other.
-use Rattle.std.proofs.Common.{◌≡◌, ◌≢◌, ℕ, suc, ◌+◌, ◌-◌, ◌<◌, inl, inr, Bool, List, [], ◌∷◌, ◌++◌, length, get_or, ap, sym, subst, ◌∙◌, arith, length-append}
+use Rattle.std.proofs.Common.{◌≡◌, ◌≢◌, ℕ, suc, ◌-◌, ◌<◌, inl, inr, Bool, List, [], ◌∷◌, ◌++◌, length, get_or, sym, ◌∙◌, arith, length-append}
 use Rattle.std.specs.Prelude.{Contains, All, AllPairs}
 use Rattle.std.specs.List.{concat}
 use Rattle.std.proofs.lemmas.Bool.{cases_lt, cases_order}
 use Rattle.std.proofs.lemmas.Grind.{get_or_default_zero}
-use Rattle.std.proofs.lemmas.List.{get_or_append_left, get_or-append-add}
-use Rattle.std.proofs.lemmas.List.Elements.{All-append, All-head, All-tail, All-from_get_or, Contains-get_or}
-use Rattle.std.proofs.lemmas.List.Kept.{AllPairs-cons, AllPairs-from_increasing}
+use Rattle.std.proofs.lemmas.List.{get_or_append_left, get_or-append_right}
+use Rattle.std.proofs.lemmas.List.Elements.{All-head, All-tail, All-from_get_or, Contains-get_or}
+use Rattle.std.proofs.lemmas.List.Kept.{AllPairs-from_increasing}
 use Rattle.std.proofs.lemmas.Option.{slice_get-get_or, slice_get_within, get_or_from_slice_get}
 use Rattle.msg_world.specs.declared.access.Access.{Access}
-use Rattle.msg_order.specs.Prelude.{AreBatches, AreInConflict, Graph, IsBatchNumber, IsChain, IsLawfulOrder, IsTurnOrder, NoneConflict, Path, Rule, RunsBefore, Settles, StandsBefore, TurnOrderIsLawful, batch_at, pairs, rules_among}
-use Rattle.msg_order.proofs.Elements.{AllPairs-head, AllPairs-tail, Contains-concat, Contains-head, Contains-tail, concat-Contains}
+use Rattle.msg_order.specs.Prelude.{AreBatches, AreInConflict, Graph, IsBatchNumber, IsChain, IsEdge, IsLawfulOrder, IsTurnOrder, NoneConflict, Path, Rule, RunsBefore, Settles, StandsBefore, TurnOrderIsLawful, batch_at, pairs, rules_among}
+use Rattle.msg_order.proofs.Elements.{Contains-concat, concat-Contains}
 use Rattle.msg_order.proofs.Chains.{number_once, number_rises, edge_is_path}
 use Rattle.msg_order.proofs.SettledPairs.{settles_covers, Contains-pairs}
 use Rattle.msg_order.proofs.SetPaths.{joined_in}
@@ -61,11 +61,16 @@ kept_along g joined order w i j p = along i p.0 p.1
 -- Lists one after the other.
 pairs_append : (R : ℕ → ℕ → Type 0) (xs ys : List ℕ) → AllPairs R xs → AllPairs R ys
     → ((i j : ℕ) → Contains xs i → Contains ys j → R i j) → AllPairs R (xs ++ ys)
-pairs_append R [] ys f h across = h
-pairs_append R (x ∷ xs) ys f h across = AllPairs-cons R x (xs ++ ys)
-    (All-append (R x) xs ys (AllPairs-head R x xs f)
-    (λ k d l. across x (get_or ys k d) (Contains-head x xs) (Contains-get_or ys k d l)))
-    (pairs_append R xs ys (AllPairs-tail R x xs f) h (λ i j p q. across i j (Contains-tail x xs i p) q))
+pairs_append R xs ys f h across a b d lt l =
+    grind (
+      arith,
+      cases_lt,
+      get_or_append_left xs ys d,
+      get_or-append_right xs ys (length xs),
+      length-append xs ys,
+      Contains-get_or xs a d,
+      Contains-get_or ys (b - length xs) d,
+    )
 
 -- what holds within each batch, and of an earlier one and a later one
 pairs_by_batch : (R : ℕ → ℕ → Type 0) (bs : List (List ℕ)) → All (AllPairs R) bs
@@ -93,9 +98,7 @@ in_turn_order g joined bs h = record {
       let is_n : b ≡ n = number_once g j b n ((h.of_number b j).0 (Contains-get_or batch y d in_)).1 at_n in
       inr (sym is_m ∙ is_n, AllPairs-from_increasing batch (h.by_addition b [] l) x y d lt in_)))
       (λ a b i j lt p q m n at_m at_n.
-      let is_m : a ≡ m = number_once g i a m ((h.of_number a i).0 p).1 at_m in
-      let is_n : b ≡ n = number_once g j b n ((h.of_number b j).0 q).1 at_n in
-      inl (omega arith));
+      grind (arith, number_once g i a m, number_once g j b n, h.of_number a i, h.of_number b j));
 }
 
 -- none runs before itself
@@ -104,10 +107,17 @@ runs_once : (g : Graph) (joined : List Bool) (order : List ℕ) → IsTurnOrder 
 runs_once g joined order t a b d lt l e =
     let i : ℕ = get_or order a d in
     let n = t.all i ((t.of_joined i).0 (Contains-get_or order a d (omega arith))) in
-    elim (t.in_order a b d lt l n.0 n.0 n.1 (subst (λ k. IsBatchNumber g k n.0) e n.1)) [
-      | inl x ↦ omega arith
-      | inr x ↦ let below : i < get_or order b d = x.1 in omega arith
-    ]
+    let before : RunsBefore g i (get_or order b d) = t.in_order a b d lt l in
+    grind (arith, before n.0 n.0 n.1)
+
+-- the place of i, from which an edge leads to j, is before that of j
+before : (g : Graph) (i j m n : ℕ) (order : List ℕ) → IsEdge g i j → IsBatchNumber g i m → IsBatchNumber g j n
+    → (a b : ℕ) → get_or order a 0 ≡ i → get_or order b 0 ≡ j
+    → (b < a → RunsBefore g (get_or order b 0) (get_or order a 0)) → a < b
+before g i j m n order e p q a b x y f =
+    let rise : m < n = number_rises g i j m n (edge_is_path g i j e) p q in
+    let back : b < a → RunsBefore g j i = λ l. rw (← x, ← y) (f l) in
+    grind (arith, cases_order, λ (l : b < a). back l n m q p, number_once g j m n)
 
 -- it keeps the order
 pub in_lawful_order : TurnOrderIsLawful
@@ -118,24 +128,10 @@ in_lawful_order g joined order among t = record {
       let both = among i j e in
       let m = t.all i both.0 in
       let n = t.all j both.1 in
-      let rise : m.0 < n.0 = number_rises g i j m.0 n.0 (edge_is_path g i j e) m.1 n.1 in
       let a = place_of order i ((t.of_joined i).1 both.0) in
       let b = place_of order j ((t.of_joined j).1 both.1) in
-      let first : a.0 < b.0 = elim (cases_order a.0 b.0) [
-        | inl same ↦
-            let is : i ≡ j = sym a.1.1 ∙ ap (λ k. get_or order k 0) same ∙ b.1.1 in
-            let one : m.0 ≡ n.0 = number_once g j m.0 n.0 (subst (λ k. IsBatchNumber g k m.0) is m.1) n.1 in
-            absurd (omega arith)
-        | inr o ↦ elim o [
-          | inl lt ↦ lt
-          | inr gt ↦
-              let back : RunsBefore g j i =
-              subst (RunsBefore g j) a.1.1
-              (subst (λ k. RunsBefore g k (get_or order a.0 0)) b.1.1 (t.in_order b.0 a.0 0 gt a.1.0)) in
-              elim (back n.0 m.0 n.1 m.1)
-              [ inl x ↦ absurd (omega arith) | inr x ↦ let one : n.0 ≡ m.0 = x.0 in absurd (omega arith) ]
-        ]
-      ] in
+      let first : a.0 < b.0 =
+      before g i j m.0 n.0 order e m.1 n.1 a.0 b.0 a.1.1 b.1.1 (λ l. t.in_order b.0 a.0 0 l a.1.0) in
       stands order i j a.0 b.0 first b.1.0 a.1.1 b.1.1;
 }
 

@@ -1,5 +1,5 @@
 -- That there is one settled order and one list of batches, and what holds of each.
-use Rattle.std.proofs.Common.{◌≡◌, ℕ, suc, ◌<◌, ◌≤◌, inl, inr, Bool, ◌&&◌, List, [], ◌∷◌, length, map, get_or, refl, ap, sym, subst, ◌∙◌, arith}
+use Rattle.std.proofs.Common.{◌≡◌, ℕ, ◌<◌, ◌≤◌, inl, inr, Bool, ◌&&◌, List, [], ◌∷◌, length, map, get_or, refl, ap, sym, subst, ◌∙◌, arith}
 use Rattle.std.specs.Prelude.{Contains, AllPairs}
 use Rattle.std.proofs.lemmas.Bool.{cases_lt, cases_order, and_parts, and_from}
 use Rattle.std.proofs.lemmas.List.{ext_get_or, get_or_past}
@@ -88,15 +88,19 @@ same_rising xs ys r s f h = same_ordered (λ a b. a < b) xs ys (λ i j p q a b. 
 
 no_longer : (g : Graph) (joined : List Bool) (bs cs : List (List ℕ)) → AreBatches g joined bs → AreBatches g joined cs
     → length bs ≤ length cs
-no_longer g joined bs cs h k = elim (cases_lt (length cs) (length bs)) [
-  | inr l ↦ l
-  | inl l ↦
-      let b : ℕ = length cs in
-      let some : 0 < length (batch_at bs b) = h.filled b [] l in
-      let i : ℕ = get_or (batch_at bs b) 0 0 in
-      let at = (k.of_number b i).1 ((h.of_number b i).0 (Contains-get_or (batch_at bs b) 0 0 some)) in
-      absurd (not_in_none i (subst (λ xs. Contains xs i) (get_or_past cs b [] (omega arith)) at))
-]
+no_longer g joined bs cs h k =
+    let b : ℕ = length cs in
+    let i : ℕ = get_or (batch_at bs b) 0 0 in
+    grind (
+      arith,
+      cases_lt,
+      h.filled b [],
+      h.of_number b i,
+      k.of_number b i,
+      Contains-get_or (batch_at bs b) 0 0,
+      get_or_past cs b [],
+      not_in_none,
+    )
 
 pub batches_once : BatchesAreUnique
 batches_once g joined bs cs h k =
