@@ -3,11 +3,12 @@ use Rattle.std.proofs.Common.{◌≡◌, ◌≢◌, ℕ, ◌+◌, ◌-◌, ◌<�
 use Rattle.std.specs.Prelude.{◌==◌, Contains, filter, IfNone, IfSome, IsTrue, IsFalse, MatchOption, ◌↔◌}
 use Rattle.std.specs.List.{list_any, range_with_len}
 use Rattle.std.proofs.Math.Seq.{take-suc}
-use Rattle.std.proofs.lemmas.List.{append-nil, get_or-take, get_or_past, get_or_push, map-append, get_or_append_left}
+use Rattle.std.proofs.lemmas.List.{append-nil, get_or-map, length-map, take-map, get_or-take, get_or_past, get_or_push, map-append, get_or_append_left}
 use Rattle.std.proofs.lemmas.Grind.{common_steps}
 use Rattle.std.proofs.lemmas.Simd.{get_or-replicate}
-use Rattle.std.proofs.lemmas.List.Elements.{All-head, All-tail, filter-append, Contains-append_left, Contains-push, Contains-push_cases}
-use Rattle.std.proofs.lemmas.Bool.{cases_lt, or_left, or_right, or_cases, and_parts, and_from, false≢true, false_from_ne_true, eqb-true, eq-eqb}
+use Rattle.std.proofs.lemmas.List.Elements.{All-head, All-tail, filter-append, filter_more, Contains-append_left, Contains-push, Contains-push_cases}
+use Rattle.std.proofs.lemmas.Bool.Decides.{eqb_tells}
+use Rattle.std.proofs.lemmas.Bool.{cases_eq, cases_lt, or_left, or_right, or_cases, and_parts, and_from, false≢true, false_from_ne_true, eqb-true, eq-eqb}
 use Rattle.msg_world.specs.declared.access.Access.{Access}
 use Rattle.msg_order.specs.Prelude.{AreInConflict, Graph, IsAcyclic, IsAmong, IsEdge, IsLowestOnCycle, NameSystemsBelow, Rule, Settles, SystemSet, edges_of, has_joined, pairs, rules_among}
 use Rattle.msg_order.specs.inner.SystemSet.{has, meets, no_set}
@@ -65,45 +66,38 @@ path-at_end g e = same_paths (e ∷ g) (g ++ e ∷ []) (edge_to_end g e) (edge_a
 pub path-again : (g : Graph) (a b : ℕ) → path g a b ≡ true → (i j : ℕ) → path g i j ≡ path ((a, b) ∷ g) i j
 path-again g a b p i j = grind (arith, same_test, or_left, or_cases, and_parts, eqb-true, path_trans)
 
-rules_more : (joined : List Bool) (rules : List Rule) (k : ℕ) (d : Rule) → k < length rules →
-    rules_among joined (take (k + 1) rules)
-    ≡ rules_among joined (take k rules)
-    ++ cond (has_joined joined (get_or rules k d).earlier && has_joined joined (get_or rules k d).later)
-    (((get_or rules k d).earlier, (get_or rules k d).later) ∷ []) []
-rules_more joined rules k d h =
+-- a rule among the joined systems adds its edge
+pub rule_more : (joined : List Bool) (rules : List Rule) (k : ℕ) (d : Rule) → k < length rules → (i j : ℕ) →
+    path (rules_among joined (take (k + 1) rules)) i j
+    ≡ path (cond (has_joined joined (get_or rules k d).earlier && has_joined joined (get_or rules k d).later)
+    (((get_or rules k d).earlier, (get_or rules k d).later) ∷ rules_among joined (take k rules))
+    (rules_among joined (take k rules))) i j
+rule_more joined rules k d h i j =
     let f : Rule → ℕ × ℕ = λ r. (r.earlier, r.later) in
     let p : ℕ × ℕ → Bool = λ e. has_joined joined e.0 && has_joined joined e.1 in
-    rw (add-one, take-suc rules k d h)
-    (ap (filter p) (map-append f (take k rules) (get_or rules k d ∷ []))
-    ∙ filter-append p (map f (take k rules)) (map f (get_or rules k d ∷ [])))
-
--- a rule among the joined systems, which adds its edge, or whose path was there
-pub rule_adds : (joined : List Bool) (rules : List Rule) (k : ℕ) (d : Rule) (new : List SystemSet) → k < length rules
-    → ArePaths (((get_or rules k d).earlier, (get_or rules k d).later) ∷ rules_among joined (take k rules)) new
-    → (has_joined joined (get_or rules k d).earlier && has_joined joined (get_or rules k d).later) ≡ true
-    → ArePaths (rules_among joined (take (k + 1) rules)) new
-rule_adds joined rules k d new h s t i j = let r : Rule = get_or rules k d in
-    rw (rules_more joined rules k d h, t)
-    (s i j ∙ path-at_end (rules_among joined (take k rules)) (r.earlier, r.later) i j)
-
-pub rule_follows : (joined : List Bool) (rules : List Rule) (k : ℕ) (d : Rule) (before : List SystemSet)
-    → k < length rules → ArePaths (rules_among joined (take k rules)) before
-    → (has_joined joined (get_or rules k d).earlier && has_joined joined (get_or rules k d).later) ≡ true
-    → comes_before before (get_or rules k d).earlier (get_or rules k d).later ≡ true
-    → ArePaths (rules_among joined (take (k + 1) rules)) before
-rule_follows joined rules k d before h c t was = grind (arith, rule_adds, path-again)
-
-pub rule_passes : (joined : List Bool) (rules : List Rule) (k : ℕ) (d : Rule) (before : List SystemSet)
-    → k < length rules → ArePaths (rules_among joined (take k rules)) before
-    → (has_joined joined (get_or rules k d).earlier && has_joined joined (get_or rules k d).later) ≡ false
-    → ArePaths (rules_among joined (take (k + 1) rules)) before
-rule_passes joined rules k d before h c t =
-    rw (rules_more joined rules k d h, t)
-    (subst (λ g. ArePaths g before) (sym (append-nil (rules_among joined (take k rules)))) c)
+    grind (
+      arith,
+      filter_more p (map f rules) k (f d),
+      length-map rules f,
+      get_or-map f rules k d (f d) h,
+      take-map f k rules,
+      take-map f (k + 1) rules,
+      path-at_end (rules_among joined (take k rules)) (f (get_or rules k d)) i j,
+      append-nil (rules_among joined (take k rules)),
+    )
 
 -- The pairs of one system after those of the systems before it.
 abbrev pub IsOnWay : (ℕ → ℕ → Type 0) → Graph → ℕ → ℕ → List SystemSet → Type 0
 IsOnWay C g n i before = (h : Graph) × (ArePaths h before × Settles C g (pairs_until n i) h)
+
+-- one more number is in the set, or is not, as the property says
+pub gains_one : (P : ℕ → Type 0) {old new : ℕ → Bool} (j : ℕ) → ((k : ℕ) → new k ≡ (k == j || old k))
+    → ((k : ℕ) → IsTrue (old k) ↔ ((k < j) × P k)) → P j → (k : ℕ) → IsTrue (new k) ↔ ((k < j + 1) × P k)
+gains_one P j step told holds k = grind (arith, eqb_tells, cases_eq, step k, told k)
+
+pub gains_none : (P : ℕ → Type 0) {old : ℕ → Bool} (j : ℕ) → ((k : ℕ) → IsTrue (old k) ↔ ((k < j) × P k)) → (P j → ⊥)
+    → (k : ℕ) → IsTrue (old k) ↔ ((k < j + 1) × P k)
+gains_none P j told fails k = grind (arith, cases_eq, told k)
 
 -- what `later_conflicts` says
 abbrev pub TellsLater : (ℕ → ℕ → Type 0) → SystemSet → ℕ → SystemSet → Type 0
