@@ -68,25 +68,21 @@ taken_all g joined left order among t none =
           stands order i j a.0 b.0 a.1.0 b.1.0 a.1.1 b.1.1;
     }
 
--- Why an order isn't lawful.
-pub not_joined : (g : Graph) (joined : List Bool) (order : List ℕ) (k s : ℕ) → s ≡ get_or order k 0 → k < length order
-    → has_joined joined s ≡ false → IsLawfulOrder g joined order → ⊥
-not_joined g joined order k s at l off w = grind (arith, w.of_joined s, of_place order s k)
+-- a lawful order goes on with one that is left, before which none is left
+pub goes_on : (g : Graph) (joined : List Bool) (left : ℕ → Bool) (order : List ℕ) (k : ℕ) → k < length order
+    → AreTaken g joined order k left → IsLawfulOrder g joined order
+    → (left (get_or order k 0) ≡ true) × ((i : ℕ) → left i ≡ true → IsEdge g i (get_or order k 0) → ⊥)
+goes_on g joined left order k l t w =
+    let s : ℕ = get_or order k 0 in (
+      grind (arith, find_place order s k, t.stays s, w.of_joined s, of_place order s k, w.once),
+      λ i on e.
+          let b : StandsBefore order i s = w.kept i s e in
+          let p = places_of order i s b in
+          let same : b.later ≡ k = one_place order b.later k w.once p.below l p.second in
+          (t.is_left i on).1 b.earlier (omega (arith, p.in_order)) p.first,
+    )
 
-pub not_left : (g : Graph) (joined : List Bool) (left : ℕ → Bool) (order : List ℕ) (k s : ℕ) → s ≡ get_or order k 0
-    → k < length order → left s ≡ false → AreTaken g joined order k left → IsLawfulOrder g joined order → ⊥
-not_left g joined left order k s at l off t w =
-    grind (arith, find_place order s k, t.stays s, w.of_joined s, of_place order s k, w.once)
-
-pub not_open : (g : Graph) (joined : List Bool) (left : ℕ → Bool) (order : List ℕ) (k s i : ℕ) → s ≡ get_or order k 0
-    → k < length order → left i ≡ true → IsEdge g i s → AreTaken g joined order k left
-    → IsLawfulOrder g joined order → ⊥
-not_open g joined left order k s i at l on e t w =
-    let b : StandsBefore order i s = w.kept i s e in
-    let p = places_of order i s b in
-    let same : b.later ≡ k = one_place order b.later k w.once p.below l (p.second ∙ at) in
-    (t.is_left i on).1 b.earlier (omega (arith, p.in_order)) p.first
-
+-- and has none left at its end
 pub not_all : (g : Graph) (joined : List Bool) (left : ℕ → Bool) (order : List ℕ) (i : ℕ) → left i ≡ true
     → AreTaken g joined order (length order) left → IsLawfulOrder g joined order → ⊥
 not_all g joined left order i on t w = grind (arith, t.is_left i, w.of_joined i, place_of order i)
