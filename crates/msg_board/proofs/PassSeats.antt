@@ -1,7 +1,10 @@
 -- From what a step tells of a seat to what a clause says of the pass.
 use Rattle.std.specs.List.{All, filter, flat_map}
-use Rattle.std.proofs.Common.{Bool, true, false, not, cond, ◌≡◌, ℕ, ◌+◌, ◌<◌, List, [], ◌∷◌, ◌++◌, length, sym, refl, ap, ◌∙◌, subst, arith, Option, Some, None, length-append, append-nil, eq-eqb, ne_eqb}
-use Rattle.std.proofs.lemmas.List.Elements.{All-head, All-tail, All-push, All-weaker, filter-append}
+use Rattle.std.proofs.Common.{Bool, true, false, not, cond, ◌≡◌, ℕ, ◌+◌, ◌<◌, List, [], ◌∷◌, ◌++◌, length, sym, refl, ap, ◌∙◌, subst, arith, Some, None, length-append, append-nil, eq-eqb, ne_eqb}
+use Rattle.std.proofs.lemmas.List.Elements.{All-head, All-pop, All-push, All-tail, All-weaker, filter-append}
+use Rattle.std.proofs.lemmas.List.{flat_map_more}
+use Rattle.std.proofs.lemmas.Bool.{false_from_ne_true}
+use Rattle.std.proofs.lemmas.Option.{same_Some}
 use mathlib.Core.Option.{some}
 use lib.ListN.{get_elem?}
 use Rattle.atomic_table.specs.declared.shared.Seat.{Seat}
@@ -10,17 +13,8 @@ use Rattle.msg_board.specs.Prelude.{BoardView, Done, Drew, Empty, HandedIn, HasE
 use Rattle.msg_board.specs.inner.Closing.{IsGathered}
 use Rattle.msg_board.specs.inner.Seats.{IsSeatOf}
 use Rattle.msg_board.specs.inner.Sound.{state_of, IsSound}
-use Rattle.msg_board.proofs.TableLists.{got, All-split_last}
-use Rattle.msg_board.proofs.Sums.{times-append, flat_map_push}
-
--- a truth value that isn't true is false
-not_true : (b : Bool) → (b ≡ true → ⊥) → b ≡ false
-not_true true = λ no. absurd (no refl)
-not_true false = λ _. refl
-
--- equal options have equal numbers
-some_same : (m n : ℕ) → Some m ≡ Some n → m ≡ n
-some_same m n e = ap (λ (o : Option ℕ). elim o as (λ _. ℕ) [ Some y ↦ y | None ↦ 0 ]) e
+use Rattle.msg_board.proofs.TableLists.{got}
+use Rattle.msg_board.proofs.Sums.{times-append}
 
 -- a filter that every element passes keeps the list
 filter_all : {X : Type 0} (p : X → Bool) (xs : List X) → All (λ x. p x ≡ true) xs → filter p xs ≡ xs
@@ -45,28 +39,15 @@ handed_in-idle p idle = ap (λ o. filter (λ k. not (is_held k o)) p.drawn) idle
     ∙ filter_all (λ _. true) p.drawn (λ k d l. refl)
 
 module _ {J D : Type 0} where
-  -- the result in a slot, or another
-  done_or : D → Slot J D → D
-  done_or d (Done e) = e
-  done_or d (Job j) = d
-  done_or d Empty = d
-
   -- equal results lie in equal slots
   pub done_same : (d e : D) → (let x : Slot J D = Done d in let y : Slot J D = Done e in x ≡ y) → d ≡ e
-  unfolding done_or
-  done_same d e h = ap (done_or d) h
-
-  -- the job in the first slot, or another
-  job_or : J → List (ℕ × Slot J D) → J
-  job_or d [] = d
-  job_or d (x ∷ xs) = elim (x.1) as (λ _. J) [ Empty ↦ d | Job j ↦ j | Done e ↦ d ]
+  done_same d e h = cc
 
   -- equal jobs lie in equal slots that are out
   pub job_same : (k : ℕ) (i j : J)
       → (let xs : List (ℕ × Slot J D) = (k, Job i) ∷ [] in let ys : List (ℕ × Slot J D) = (k, Job j) ∷ [] in xs ≡ ys)
       → i ≡ j
-  unfolding job_or
-  job_same k i j e = ap (job_or i) e
+  job_same k i j e = grind arith
 
   -- A pass drew its next number: `drawn` is its seat after the step, and `seat` after it took the job out of the slot
   module _ (p : Inside J D) (drawn seat : Seat (Slot J D) (View J)) (j : J) (sound : IsSound p)
@@ -99,7 +80,7 @@ module _ {J D : Type 0} where
             (All-push (λ n. n < p.next + 1) p.seat.me.0.drawn p.next
             (All-weaker (λ n. n < p.next) (λ n. n < p.next + 1) (λ n l. omega arith) p.seat.me.0.drawn order.below)
             (omega arith));
-        last = λ k e. let same : p.next ≡ k = some_same p.next k e in (
+        last = λ k e. let same : p.next ≡ k = same_Some p.next k e in (
           p.seat.me.0.drawn,
           ap (λ (v : View J). v.drawn) drew_view ∙ ap (λ n. p.seat.me.0.drawn ++ n ∷ []) same,
           subst (λ n. All (λ m. m < n) p.seat.me.0.drawn) same order.below,
@@ -123,7 +104,7 @@ module _ {J D : Type 0} where
           holding = refl;
           tried = refl;
           unfinished =
-              not_true p.finished (λ done. absurd
+              false_from_ne_true p.finished (λ done. absurd
               (omega (arith, order.all_tried done, ap (λ (l : List J). length l) own)));
         }
 
@@ -193,14 +174,14 @@ pub held_within : {J D : Type 0} (p : Inside J D) (k : ℕ) → IsSound p → p.
     → k < length p.seat.me.0.jobs
 held_within p k sound has = let last = sound.order.last k has in
     let l : k < p.next =
-    (All-split_last (λ n. n < p.next) last.0 k (subst (All (λ n. n < p.next)) last.1 sound.order.below)).1 in
+    (All-pop (λ n. n < p.next) p.seat.me.0.drawn last.0 (Some k) last.1 sound.order.below).1 in
     let within = sound.order.within in omega arith
 
 -- a pass that has a number left to try isn't finished
 pub unfinished_more : {J D : Type 0} (p : Inside J D) (q : PassState J) → IsSound p → state_of p ≡ q
     → q.tried < length q.jobs → q.finished ≡ false
 unfinished_more p q sound is more =
-    not_true q.finished (λ done. absurd
+    false_from_ne_true q.finished (λ done. absurd
     (omega (
       arith,
       sound.order.all_tried (ap (λ q. q.finished) is ∙ done),
@@ -221,7 +202,7 @@ times_more : {J : Type 0} (k : ℕ) (qs ps : List (PassState J)) (p : PassState 
     → times k (flat_map (λ p. p.drawn) qs) ≡ times k (flat_map (λ p. p.drawn) ps) + times k p.drawn
 times_more {J = J} k qs ps p is = let drawn : PassState J → List ℕ = λ p. p.drawn in
     ap (λ l. times k (flat_map drawn l)) is
-    ∙ (ap (times k) (flat_map_push drawn ps p) ∙ times-append k (flat_map drawn ps) p.drawn)
+    ∙ (ap (times k) (sym (flat_map_more drawn [] ps p)) ∙ times-append k (flat_map drawn ps) p.drawn)
 
 module _ {J D : Type 0} where
   -- the seat has the views of all passes but ps
@@ -241,7 +222,7 @@ module _ {J D : Type 0} where
       → All (HasEnded b) all → all ≡ ps ++ p ∷ []
       → IsSeatOf p seat → (p.finished ≡ true → p.tried ≡ length p.jobs) → Gathering b all ps seat
   gathers_first b all ps p seat every is of all_tried = let parts =
-      All-split_last (HasEnded b) ps p (subst (All (HasEnded b)) is every) in
+      All-pop (HasEnded b) all ps (Some p) is every in
       let weight = of.weight in record {
         table = of.table ∙ parts.1.own.table;
         count = omega (arith, ap (λ (l : List (PassState J)). length l) is, length-append ps (p ∷ []));
@@ -259,7 +240,7 @@ module _ {J D : Type 0} where
       → next.table_id ≡ seat.table_id → next.me ≡ (united seat.me.0 other.me.0, seat.me.1)
       → Gathering b all ps next
   gathers b all qs ps p seat other next before is of here now = let parts =
-      All-split_last (HasEnded b) ps p (subst (All (HasEnded b)) is before.ended) in
+      All-pop (HasEnded b) qs ps (Some p) is before.ended in
       let weight = of.weight in let live = before.live in
       let sum : next.me.0.weight ≡ seat.me.0.weight + other.me.0.weight =
       ap (λ (m : Me (Slot J D) (View J)). m.0.weight) now in record {

@@ -1,17 +1,21 @@
 -- Each step keeps the law.
 use Rattle.std.specs.List.{sum_by}
-use Rattle.std.proofs.Common.{◌≡◌, ◌≢◌, ℕ, zero, suc, ◌+◌, ◌<◌, ◌≤◌, max, List, [], ◌∷◌, ◌++◌, map, length, get_or, set, sym, refl, ap, ◌∙◌, subst, ⊎_elim, arith, Some, None, length-set, get_or-set_other}
+use Rattle.std.proofs.Common.{◌≡◌, ◌≢◌, ℕ, zero, suc, ◌+◌, ◌<◌, ◌≤◌, max, List, [], ◌∷◌, ◌++◌, map, length, get_or, set, sym, refl, ap, ◌∙◌, subst, inl, inr, ⊎_elim, arith, Some, None, length-set, get_or-set_other}
+use Rattle.std.proofs.lemmas.Bool.{cases_eq, cases_lt}
+use Rattle.std.proofs.lemmas.List.{get_or_past}
 use Rattle.std.proofs.lemmas.List.Sums.{sum_by-append}
 use mathlib.Core.Logic.{dite}
 use mathlib.Core.Option.{none, some, some-injective, some-ne-none}
 use mathlib.Core.Option as maybe
-use native.Mathlib.Decide.{ℕ_discrete, dec_le}
+use native.Mathlib.Decide.{ℕ_discrete}
 use lib.ListN.{get_elem?, length-map}
+use Rattle.atomic_table.specs.declared.shared.Seat.{Seat}
 use Rattle.atomic_table.specs.Table.{State, Me, Step, step, Act, keeps, takes, gives, Valid, carried_after, stepped, Allows, Splits, Joins, Final, Seen, opening}
 use Rattle.atomic_table.proofs.Lists.{at_set, set_here, set_else, at_snoc, at_map}
-use Rattle.msg_board.specs.Prelude.{Done, Drawing, DrawsJob, HandingIn, Holds, HoldsEachOnce, IsHeldAlone, IsSlotOf, IsViewOf, Job, Slot, View, draws_at, freed, holders_at, is_held, one_of, spent, taken, times, tried, united, whole, without_one}
-use Rattle.msg_board.proofs.TableLists.{by_place, there, inside_of, past}
-use Rattle.msg_board.proofs.Sums.{sum_by-set, term_le, terms_le, sole, one_if, one_at, none_at, times-append, times_push}
+use Rattle.msg_board.specs.Prelude.{BoardView, Done, Drawing, DrawsJob, HandingIn, Holds, HoldsEachOnce, IsHeldAlone, IsSlotOf, IsViewOf, Job, PassState, Slot, View, draws_at, drawn_by, freed, holders_at, is_held, jobs_of, one_of, passes_of, spent, taken, times, tried, united, whole, without_one}
+use Rattle.msg_board.specs.inner.Closing.{IsGathered}
+use Rattle.msg_board.proofs.TableLists.{by_place, there, read_at}
+use Rattle.msg_board.proofs.Sums.{sum_by-set_at, term_le, terms_le, sole, one_if, one_at, none_at, times-append, times_push}
 
 module _ {J D : Type 0} (lawful : J → D → Type 0) (jobs : List J) (passes : ℕ) where
   -- states of the table, seats, and the law
@@ -27,6 +31,10 @@ module _ {J D : Type 0} (lawful : J → D → Type 0) (jobs : List J) (passes : 
   -- 1 where the view holds k
   abbrev holds_one : ℕ → View J → ℕ
   holds_one k v = one_if (is_held k v.held)
+
+  -- a view that holds k holds one
+  one_held : (k : ℕ) (v : View J) → v.held ≡ Some k → holds_one k v ≡ 1
+  one_held k v has = ap (λ o. one_if (is_held k o)) has ∙ one_at k k refl
 
   -- the law is kept where word i becomes n, view v becomes w, and no slot but i changes
   moved : (s : St) (r : Lawful s) (i n id : ℕ) (v w : View J) (homes : List (maybe.Option (Slot J D)))
@@ -60,9 +68,9 @@ module _ {J D : Type 0} (lawful : J → D → Type 0) (jobs : List J) (passes : 
               spent_drawn = old.spent_drawn;
               spent_held = old.spent_held;
             }) (at_set s.views id by w u is);
-        held = λ k. omega (arith, sum_by-set (holds_one k) s.views id v w at, r.held k, holding k);
-        drawn = λ k. omega (arith, sum_by-set (λ u. times k u.drawn) s.views id v w at, r.drawn k, drawing k);
-        weights = omega (arith, sum_by-set (λ u. u.weight) s.views id v w at, r.weights);
+        held = λ k. omega (arith, sum_by-set_at (holds_one k) s.views id v w at, r.held k, holding k);
+        drawn = λ k. omega (arith, sum_by-set_at (λ u. times k u.drawn) s.views id v w at, r.drawn k, drawing k);
+        weights = omega (arith, sum_by-set_at (λ u. u.weight) s.views id v w at, r.weights);
       }
 
   -- `fetch_max` with 1 makes 0 a 1, and leaves all else
@@ -181,37 +189,37 @@ module _ {J D : Type 0} (lawful : J → D → Type 0) (jobs : List J) (passes : 
   held_is_one (suc zero) h = refl
   held_is_one (suc (suc w)) h = absurd (omega arith)
 
+  -- and so is that of a number that a view holds
+  word_is_one : (s : St) (k : ℕ) → Lawful s → (by : ℕ) (v : View J) → get_elem? s.views by ≡ some v → v.held ≡ Some k
+      → get_or s.words k 0 ≡ 1
+  word_is_one s k r by v at has = held_is_one (get_or s.words k 0)
+      (omega (arith, term_le (holds_one k) s.views by v at, r.held k, one_held k v has))
+
+  -- past the words of the jobs there is 0
+  zero_far : (s : St) (k : ℕ) → Lawful s → length jobs ≤ k → get_or s.words k 0 ≡ 0
+  zero_far s k r far = let wide = r.words in elim (cases_eq k (length jobs)) [
+    | inl e ↦ ap (λ n. get_or s.words n 0) e ∙ r.further
+    | inr ne ↦ get_or_past s.words k 0 (omega arith)
+  ]
+
   -- a number that a view holds is held by no other, and its slot is out
   pub held_alone : (s : St) (k : ℕ) → Lawful s → IsHeldAlone s k
-  held_alone s k r = let one : (by : ℕ) (v : View J) → get_elem? s.views by ≡ some v → v.held ≡ Some k
-      → get_or s.words k 0 ≡ 1 = λ by v at has.
-      held_is_one (get_or s.words k 0)
-      (omega (
-        arith,
-        term_le (holds_one k) s.views by v at,
-        r.held k,
-        ap (λ o. one_if (is_held k o)) has,
-        one_at k k refl,
-      )) in
-      record {
-        by_one = λ by other v w at there_is has also. dite (ℕ_discrete by other) (λ same. same)
-            (λ apart. absurd (omega (
-              arith,
-              terms_le (holds_one k) s.views by other v w (λ e. apart (sym e)) at there_is,
-              r.held k,
-              ap holders_at (one by v at has),
-              ap (λ o. one_if (is_held k o)) has,
-              ap (λ o. one_if (is_held k o)) also,
-              one_at k k refl,
-            )));
-        slot_out = λ by v at has. let is_one = one by v at has in let wide = r.words in
-            let inside : k < length jobs = dite (dec_le (length jobs) k)
-            (λ far. absurd (dite (ℕ_discrete k (length jobs))
-            (λ e. omega (arith, r.further, ap (λ (n : ℕ). get_or s.words n 0) e))
-            (λ ne. omega (arith, past s.words k (omega arith)))))
-            (λ near. omega arith) in
-            let job = there jobs k inside in (r.each_slot k job.0 job.1).out is_one;
-      }
+  held_alone s k r = record {
+    by_one = λ by other v w at there_is has also. dite (ℕ_discrete by other) (λ same. same)
+        (λ apart. absurd (omega (
+          arith,
+          terms_le (holds_one k) s.views by other v w (λ e. apart (sym e)) at there_is,
+          r.held k,
+          ap holders_at (word_is_one s k r by v at has),
+          one_held k v has,
+          one_held k w also,
+        )));
+    slot_out = λ by v at has. let is_one = word_is_one s k r by v at has in
+        elim (cases_lt k (length jobs)) [
+          | inl near ↦ let job = there jobs k near in (r.each_slot k job.0 job.1).out is_one
+          | inr far ↦ absurd (omega (arith, zero_far s k r far))
+        ];
+  }
 
   -- a hand-in: a store of 2 on the word of the number that is held
   hands_in : (slots id : ℕ) (v : View J) (k : ℕ) (j : J) (d : D) → 0 < v.weight → v.held ≡ Some k
@@ -221,17 +229,9 @@ module _ {J D : Type 0} (lawful : J → D → Type 0) (jobs : List J) (passes : 
   hands_in slots id v k j d live has is fair s r deep at small =
       let knows = r.each_view id v at in
       let is' : get_elem? jobs k ≡ some j = ap (λ (l : List J). get_elem? l k) (sym (knows.same_jobs live)) ∙ is in
-      let inside = inside_of jobs k j is' in let wide = r.words in let long = r.slots in
+      let inside = (read_at jobs k j is').0 in let wide = r.words in let long = r.slots in
       let near : k < length s.words = omega arith in
-      let one : get_or s.words k 0 ≡ 1 =
-      held_is_one (get_or s.words k 0)
-      (omega (
-        arith,
-        term_le (holds_one k) s.views id v at,
-        r.held k,
-        ap (λ o. one_if (is_held k o)) has,
-        one_at k k refl,
-      )) in (
+      let one = word_is_one s k r id v at has in (
         freed v,
         gives,
         tt,
@@ -257,7 +257,7 @@ module _ {J D : Type 0} (lawful : J → D → Type 0) (jobs : List J) (passes : 
             })
             (by_place s.words k 2 (λ i y. holds_one i (freed v) + holders_at (get_or s.words i 0)
             ≡ holds_one i v + holders_at y) near
-            (omega (arith, ap (λ o. one_if (is_held k o)) has, ap holders_at one, one_at k k refl))
+            (omega (arith, one_held k v has, ap holders_at one))
             (λ i ne. omega (arith, ap (λ o. one_if (is_held i o)) has, none_at i k (λ e. ne (sym e)))))
             (by_place s.words k 2 (λ i y. times i v.drawn + draws_at (get_or s.words i 0)
             ≡ times i v.drawn + draws_at y) near
@@ -281,7 +281,7 @@ module _ {J D : Type 0} (lawful : J → D → Type 0) (jobs : List J) (passes : 
       let old = r.each_view id v at in let vs : List (View J) = set s.views id (without_one v) in
       let both : (g : View J → ℕ) → sum_by g (vs ++ one_of v ∷ []) + g v
       ≡ sum_by g s.views + g (without_one v) + g (one_of v)
-      = λ g. omega (arith, sum_by-append g vs (one_of v ∷ []), sum_by-set g s.views id v (without_one v) at) in
+      = λ g. omega (arith, sum_by-append g vs (one_of v ∷ []), sum_by-set_at g s.views id v (without_one v) at) in
       record {
         words = r.words;
         slots = r.slots;
@@ -319,7 +319,7 @@ module _ {J D : Type 0} (lawful : J → D → Type 0) (jobs : List J) (passes : 
       let old = r.each_view id v at in let vs : List (View J) = set s.views id (united v w) in
       let both : (g : View J → ℕ) → sum_by g (set vs other spent) + g w + g v
       ≡ sum_by g s.views + g (united v w) + g spent
-      = λ g. omega (arith, sum_by-set g s.views id v (united v w) at, sum_by-set g vs other w spent them) in
+      = λ g. omega (arith, sum_by-set_at g s.views id v (united v w) at, sum_by-set_at g vs other w spent them) in
       record {
         words = r.words;
         slots = r.slots;
@@ -393,16 +393,16 @@ module _ {J D : Type 0} (lawful : J → D → Type 0) (jobs : List J) (passes : 
 
   -- the last seat stands for all passes, has tried every word and holds nothing: every result is in, and it drew each
   -- number once
-  pub closes : (id : ℕ) (v : View J) (ws : List ℕ) (xs : List (Slot J D)) → Final (Seen Lawful id v) ws xs
-      → v.weight ≡ passes → 0 < passes → v.next ≡ length jobs → v.held ≡ None
-      → AllDone xs × HoldsEachOnce (length jobs) v.drawn
-  closes id v ws xs f all some-pass done free =
+  closes : (id : ℕ) (v : View J) (ws : List ℕ) (xs : List (Slot J D)) (numbers : List ℕ)
+      → Final (Seen Lawful id v) ws xs → v.weight ≡ passes → 0 < passes → v.next ≡ length jobs → v.held ≡ None
+      → ((k : ℕ) → times k v.drawn ≡ times k numbers) → AllDone xs × HoldsEachOnce (length jobs) numbers
+  closes id v ws xs numbers f all some-pass done free same =
       let s = f.0 in let r = f.1.0 in let at = f.1.1 in let live : 0 < v.weight = omega arith in
       let knows = r.each_view id v at in
       let others : (k : ℕ) (u : View J) → k ≢ id → get_elem? s.views k ≡ some u → u.weight
       ≡ 0 = λ k u ne there. omega (arith, terms_le (λ u. u.weight) s.views id k v u ne at there, r.weights) in
-      let drawn_at : (k : ℕ) → times k v.drawn ≡ draws_at (get_or s.words k 0) = λ k.
-      sym (sole (λ u. times k u.drawn) s.views id v at
+      let drawn_at : (k : ℕ) → times k numbers ≡ draws_at (get_or s.words k 0) = λ k.
+      sym (same k) ∙ sym (sole (λ u. times k u.drawn) s.views id v at
       (λ i u ne there. ap (times k) ((r.each_view i u there).spent_drawn (others i u ne there)))) ∙ r.drawn k in
       let out_at : (k : ℕ) → holders_at (get_or s.words k 0) ≡ 0 = λ k.
       sym (r.held k) ∙ (sole (holds_one k) s.views id v at
@@ -411,7 +411,7 @@ module _ {J D : Type 0} (lawful : J → D → Type 0) (jobs : List J) (passes : 
       let deep = r.slots in let wide = r.words in let long = f.3 in (
         (
           omega arith,
-          λ k j is. let inside = inside_of jobs k j is in
+          λ k j is. let inside = (read_at jobs k j is).0 in
               let ended =
               (r.each_slot k j is).done
               (word_two (get_or s.words k 0) (r.at_most_two k) (knows.tried live k (omega arith))
@@ -420,8 +420,17 @@ module _ {J D : Type 0} (lawful : J → D → Type 0) (jobs : List J) (passes : 
         ),
         record {
           once = λ k near. drawn_at k ∙ drawn_once (get_or s.words k 0) (knows.tried live k (omega arith));
-          no_other = λ k far. drawn_at k
-              ∙ ap draws_at (dite (ℕ_discrete k (length jobs)) (λ e. ap (λ (y : ℕ). get_or s.words y 0) e ∙ r.further)
-              (λ ne. past s.words k (omega arith)));
+          no_other = λ k far. drawn_at k ∙ ap draws_at (zero_far s k r far);
         },
       )
+
+-- the same, of the board that callers see
+pub closes_board : {J D : Type 0} (lawful : J → D → Type 0) (b view : BoardView J) (ps : List (PassState J))
+    (seat : Seat (Slot J D) (View J)) (ws : List ℕ) (xs : List (Slot J D))
+    → Final (Seen (Holds lawful (jobs_of b) (passes_of b)) seat.id seat.me.0) ws xs → 0 < passes_of b → b ≡ view
+    → length ps ≡ passes_of view → IsGathered view ps seat
+    → AllDone lawful (jobs_of view) (passes_of view) xs × HoldsEachOnce (length (jobs_of view)) (drawn_by ps)
+closes_board lawful b view ps seat ws xs final some-pass is all of =
+    closes lawful (jobs_of view) (passes_of view) seat.id seat.me.0 ws xs (drawn_by ps)
+    (subst (λ v. Final (Seen (Holds lawful (jobs_of v) (passes_of v)) seat.id seat.me.0) ws xs) is final)
+    (of.weight ∙ all) (omega (arith, ap passes_of is)) of.next of.held of.drawn
