@@ -1,10 +1,10 @@
 -- From what a step tells of a seat to what a clause says of the pass.
 use Rattle.std.specs.List.{All, filter, flat_map}
-use Rattle.std.proofs.Common.{Bool, true, false, not, cond, ◌≡◌, ℕ, ◌+◌, ◌<◌, List, [], ◌∷◌, ◌++◌, length, sym, refl, ap, ◌∙◌, subst, arith, Some, None, length-append, append-nil, eq-eqb, ne_eqb}
+use Rattle.std.proofs.Common.{Bool, true, false, not, cond, ◌≡◌, ℕ, ◌+◌, ◌<◌, List, [], ◌∷◌, ◌++◌, length, sym, refl, ap, ◌∙◌, subst, arith, Some, None, length-append, append-nil}
 use Rattle.std.proofs.lemmas.List.Elements.{All-head, All-pop, All-push, All-tail, All-weaker, filter-append}
 use Rattle.std.proofs.lemmas.List.{flat_map_more}
+use Rattle.std.proofs.lemmas.Bool.Decides.{eqb_tells}
 use Rattle.std.proofs.lemmas.Bool.{false_from_ne_true}
-use Rattle.std.proofs.lemmas.Option.{same_Some}
 use mathlib.Core.Option.{some}
 use lib.ListN.{get_elem?}
 use Rattle.atomic_table.specs.declared.shared.Seat.{Seat}
@@ -25,13 +25,11 @@ filter_all p (x ∷ xs) all = ap (λ b. cond b (x ∷ filter p xs) (filter p xs)
 -- what was handed in and then the number that is held is what was drawn
 handed_in_and_held : (earlier : List ℕ) (k : ℕ) → All (λ n. n < k) earlier
     → earlier ++ k ∷ [] ≡ filter (λ n. not (is_held n (Some k))) (earlier ++ k ∷ []) ++ k ∷ []
-handed_in_and_held earlier k below = let other : ℕ → Bool = λ n. not (is_held n (Some k)) in
-    let kept : filter other earlier ≡ earlier =
-    filter_all other earlier (All-weaker (λ n. n < k) (λ n. other n ≡ true)
-    (λ n l. ap not (ne_eqb k n (λ e. omega arith))) earlier below) in
-    let gone : filter other (k ∷ []) ≡ [] = ap (λ b. cond (not b) (k ∷ []) []) (eq-eqb k k refl) in
-    sym (ap (λ l. l ++ k ∷ []) (filter-append other earlier (k ∷ [])
-    ∙ (ap (λ l. l ++ filter other (k ∷ [])) kept ∙ (ap (λ l. earlier ++ l) gone ∙ append-nil earlier))))
+handed_in_and_held earlier k below =
+    let other : ℕ → Bool = λ n. not (is_held n (Some k)) in
+    let kept = filter_all other earlier (All-weaker (λ n. n < k) (λ n. other n ≡ true)
+    (λ n l. grind (arith, eqb_tells)) earlier below) in
+    grind (arith, eqb_tells, kept, filter-append other earlier (k ∷ []), append-nil earlier)
 
 -- a pass that holds nothing has handed in all that it drew
 pub handed_in-idle : {J : Type 0} (p : PassState J) → p.holding ≡ None → handed_in p ≡ p.drawn
@@ -63,30 +61,9 @@ module _ {J D : Type 0} where
 
     -- it is sound
     pub drew_sound : p.next < length p.seat.me.0.jobs → IsSound drew_pass
-    drew_sound more = let order = sound.order in record {
-      seat = record {
-        table = refl;
-        jobs = refl;
-        weight = ap (λ (v : View J). v.weight) drew_view ∙ sound.seat.weight;
-        next = ap (λ (v : View J). v.next) drew_view;
-        drawn = refl;
-        held = ap (λ (v : View J). v.held) drew_view;
-        out = ap (λ (m : Me (Slot J D) (View J)). m.1) took;
-      };
-      order = record {
-        within = omega (arith, ap (λ (v : View J). length v.jobs) drew_view);
-        all_tried = λ done. absurd (omega (arith, order.all_tried done));
-        below = subst (All (λ n. n < p.next + 1)) (sym (ap (λ (v : View J). v.drawn) drew_view))
-            (All-push (λ n. n < p.next + 1) p.seat.me.0.drawn p.next
-            (All-weaker (λ n. n < p.next) (λ n. n < p.next + 1) (λ n l. omega arith) p.seat.me.0.drawn order.below)
-            (omega arith));
-        last = λ k e. let same : p.next ≡ k = same_Some p.next k e in (
-          p.seat.me.0.drawn,
-          ap (λ (v : View J). v.drawn) drew_view ∙ ap (λ n. p.seat.me.0.drawn ++ n ∷ []) same,
-          subst (λ n. All (λ m. m < n) p.seat.me.0.drawn) same order.below,
-        );
-      };
-    }
+    drew_sound more =
+        let seat_was = sound.seat in let order = sound.order in
+        grind (arith, drew_view, took, All-push (λ n. n < p.next + 1) p.seat.me.0.drawn p.next, All-weaker (λ n. n < p.next) (λ n. n < p.next + 1) (λ n l. omega arith) p.seat.me.0.drawn order.below)
 
     -- and this is what it drew
     drew_from : (jobs : List J) (job : J) → p.seat.me.0.jobs ≡ jobs → p.next < length jobs
@@ -130,23 +107,9 @@ module _ {J D : Type 0} where
 
     -- it is sound
     pub handed_sound : IsSound handed_pass
-    handed_sound = let order = sound.order in record {
-      seat = record {
-        table = refl;
-        jobs = refl;
-        weight = ap (λ (v : View J). v.weight) handed_view ∙ sound.seat.weight;
-        next = ap (λ (v : View J). v.next) handed_view ∙ sound.seat.next;
-        drawn = refl;
-        held = ap (λ (v : View J). v.held) handed_view;
-        out = ap (λ (m : Me (Slot J D) (View J)). m.1) told;
-      };
-      order = record {
-        within = omega (arith, ap (λ (v : View J). length v.jobs) handed_view);
-        all_tried = λ done. omega (arith, order.all_tried done, ap (λ (v : View J). length v.jobs) handed_view);
-        below = subst (All (λ n. n < p.next)) (sym (ap (λ (v : View J). v.drawn) handed_view)) order.below;
-        last = λ k e. absurd (cc);
-      };
-    }
+    handed_sound =
+        let seat_was = sound.seat in let order = sound.order in
+        grind (arith, handed_view, told)
 
     -- and this is what the hand-in did
     handed_from : p.held ≡ Some k → HandedIn (state_of p) (state_of handed_pass) k

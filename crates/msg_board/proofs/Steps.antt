@@ -1,6 +1,6 @@
 -- Each step keeps the law.
 use Rattle.std.specs.List.{sum_by}
-use Rattle.std.proofs.Common.{◌≡◌, ◌≢◌, ℕ, zero, suc, ◌+◌, ◌<◌, ◌≤◌, max, List, [], ◌∷◌, ◌++◌, map, length, get_or, set, sym, refl, ap, ◌∙◌, subst, inl, inr, ⊎_elim, arith, Some, None, length-set, get_or-set_other}
+use Rattle.std.proofs.Common.{◌≡◌, ◌≢◌, ℕ, ◌+◌, ◌<◌, ◌≤◌, max, List, [], ◌∷◌, ◌++◌, map, length, get_or, set, sym, refl, ap, ◌∙◌, subst, inl, inr, ⊎_elim, arith, Some, None, length-set, get_or-set_other}
 use Rattle.std.proofs.lemmas.Bool.{cases_eq, cases_lt}
 use Rattle.std.proofs.lemmas.List.{get_or_past}
 use Rattle.std.proofs.lemmas.List.Sums.{sum_by-append}
@@ -150,13 +150,11 @@ module _ {J D : Type 0} (lawful : J → D → Type 0) (jobs : List J) (passes : 
   -- what the step tells, where it finds 0 and where it doesn't
   tells_drawn : (st : Step (Slot J D)) (before after : M) (found : ℕ) → st.word ≡ before.0.next → st.first ≡ 1
       → found ≡ 0 → DrawsJob st.word before after → Drawing st before found after
-  tells_drawn st before after found is one hit drawn =
-      record { word = is; operand = one; found_zero = λ _. drawn; found_more = λ miss. absurd (miss hit) }
+  tells_drawn st before after found is one hit drawn = grind arith
 
   tells_tried : (st : Step (Slot J D)) (before after : M) (found : ℕ) → st.word ≡ before.0.next → st.first ≡ 1
       → found ≢ 0 → after ≡ (tried before.0, []) → Drawing st before found after
-  tells_tried st before after found is one miss so =
-      record { word = is; operand = one; found_zero = λ hit. absurd (miss hit); found_more = λ _. so }
+  tells_tried st before after found is one miss so = grind arith
 
   -- a draw: `fetch_max` with 1 on the view's next word
   pub draws : (slots id : ℕ) (me : M) (i : ℕ) → me.1 ≡ [] → 0 < me.0.weight → me.0.held ≡ None → me.0.next ≡ i
@@ -185,9 +183,7 @@ module _ {J D : Type 0} (lawful : J → D → Type 0) (jobs : List J) (passes : 
 
   -- a word whose number is held is 1
   held_is_one : (w : ℕ) → 0 < holders_at w → w ≡ 1
-  held_is_one zero h = absurd (omega arith)
-  held_is_one (suc zero) h = refl
-  held_is_one (suc (suc w)) h = absurd (omega arith)
+  held_is_one w h = grind arith
 
   -- and so is that of a number that a view holds
   word_is_one : (s : St) (k : ℕ) → Lawful s → (by : ℕ) (v : View J) → get_elem? s.views by ≡ some v → v.held ≡ Some k
@@ -290,22 +286,10 @@ module _ {J D : Type 0} (lawful : J → D → Type 0) (jobs : List J) (passes : 
         each_slot = r.each_slot;
         each_view = λ by u is. ⊎_elim
             (λ (t : get_elem? vs by ≡ some u). ⊎_elim
-            (λ (q : (by ≡ id) × (without_one v ≡ u)). subst (IsViewOf jobs s.words) q.1 (record {
-              same_jobs = λ _. old.same_jobs (omega arith);
-              within = λ _. old.within (omega arith);
-              tried = λ _. old.tried (omega arith);
-              spent_drawn = λ z. absurd (omega arith);
-              spent_held = λ z. absurd (omega arith);
-            }))
+            (λ (q : (by ≡ id) × (without_one v ≡ u)). subst (IsViewOf jobs s.words) q.1 (grind (arith, old)))
             (λ (q : (by ≢ id) × (get_elem? s.views by ≡ some u)). r.each_view by u q.1)
             (at_set s.views id by (without_one v) u t))
-            (λ (t : one_of v ≡ u). subst (IsViewOf jobs s.words) t (record {
-              same_jobs = λ _. old.same_jobs (omega arith);
-              within = λ _. omega arith;
-              tried = λ _ i l. absurd (omega arith);
-              spent_drawn = λ _. refl;
-              spent_held = λ _. refl;
-            }))
+            (λ (t : one_of v ≡ u). subst (IsViewOf jobs s.words) t (grind (arith, old.same_jobs)))
             (at_snoc vs (one_of v) u by is);
         held = λ k. omega (arith, both (holds_one k), r.held k);
         drawn = λ k. omega (arith, both (λ u. times k u.drawn), r.drawn k);
@@ -327,21 +311,9 @@ module _ {J D : Type 0} (lawful : J → D → Type 0) (jobs : List J) (passes : 
         further = r.further;
         each_slot = r.each_slot;
         each_view = λ by u is. ⊎_elim
-            (λ (t : (by ≡ other) × (spent ≡ u)). subst (IsViewOf jobs s.words) t.1 (record {
-              same_jobs = λ z. absurd (omega arith);
-              within = λ z. absurd (omega arith);
-              tried = λ z. absurd (omega arith);
-              spent_drawn = λ _. refl;
-              spent_held = λ _. refl;
-            }))
+            (λ (t : (by ≡ other) × (spent ≡ u)). subst (IsViewOf jobs s.words) t.1 (grind arith))
             (λ (t : (by ≢ other) × (get_elem? vs by ≡ some u)). ⊎_elim
-            (λ (q : (by ≡ id) × (united v w ≡ u)). subst (IsViewOf jobs s.words) q.1 (record {
-              same_jobs = λ _. old.same_jobs live;
-              within = λ _. old.within live;
-              tried = λ _. old.tried live;
-              spent_drawn = λ z. absurd (omega arith);
-              spent_held = λ z. absurd (omega arith);
-            }))
+            (λ (q : (by ≡ id) × (united v w ≡ u)). subst (IsViewOf jobs s.words) q.1 (grind (arith, old)))
             (λ (q : (by ≢ id) × (get_elem? s.views by ≡ some u)). r.each_view by u q.1)
             (at_set s.views id by (united v w) u t.1))
             (at_set vs other by spent u is);
@@ -365,13 +337,7 @@ module _ {J D : Type 0} (lawful : J → D → Type 0) (jobs : List J) (passes : 
       done = λ e. absurd (omega (arith, zeros k));
     };
     each_view = λ by u at. ⊎_elim (λ (t : get_elem? [] by ≡ some u). absurd (some-ne-none u (sym t)))
-        (λ (t : whole jobs passes ≡ u). subst (IsViewOf jobs ws) t (record {
-          same_jobs = λ _. refl;
-          within = λ _. omega arith;
-          tried = λ _ i l. absurd (omega arith);
-          spent_drawn = λ _. refl;
-          spent_held = λ _. refl;
-        })) (at_snoc [] (whole jobs passes) u by at);
+        (λ (t : whole jobs passes ≡ u). subst (IsViewOf jobs ws) t (grind arith)) (at_snoc [] (whole jobs passes) u by at);
     held = λ k. sym (ap holders_at (zeros k));
     drawn = λ k. sym (ap draws_at (zeros k));
     weights = omega arith;
@@ -388,8 +354,7 @@ module _ {J D : Type 0} (lawful : J → D → Type 0) (jobs : List J) (passes : 
 
   -- a word above 0 was drawn once
   drawn_once : (w : ℕ) → w ≢ 0 → draws_at w ≡ 1
-  drawn_once zero n = absurd (n refl)
-  drawn_once (suc w) n = refl
+  drawn_once w n = grind arith
 
   -- the last seat stands for all passes, has tried every word and holds nothing: every result is in, and it drew each
   -- number once
