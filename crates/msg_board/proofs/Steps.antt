@@ -1,8 +1,9 @@
 -- Each step keeps the law.
 use Rattle.std.specs.List.{sum_by}
-use Rattle.std.proofs.Common.{◌≡◌, ◌≢◌, ℕ, ◌+◌, ◌<◌, ◌≤◌, max, List, [], ◌∷◌, ◌++◌, map, length, get_or, set, sym, refl, ap, ◌∙◌, subst, inl, inr, ⊎_elim, arith, Some, None, length-set, get_or-set_other}
+use Rattle.std.proofs.Common.{◌≡◌, ◌≢◌, ℕ, ◌+◌, ◌<◌, ◌≤◌, max, List, [], ◌∷◌, ◌++◌, map, length, get_or, set, sym, refl, ap, ◌∙◌, subst, inl, inr, ⊎_elim, arith, Some, None, length-set, get_or-set_other, get_or-set_same}
 use Rattle.std.proofs.lemmas.Bool.{cases_eq, cases_lt}
-use Rattle.std.proofs.lemmas.List.{get_or_past}
+use Rattle.std.proofs.lemmas.Bool.Decides.{eqb_tells}
+use Rattle.std.proofs.lemmas.List.{get_or_past, set-get_or}
 use Rattle.std.proofs.lemmas.List.Sums.{sum_by-append}
 use mathlib.Core.Logic.{dite}
 use mathlib.Core.Option.{none, some, some-injective, some-ne-none}
@@ -15,7 +16,7 @@ use Rattle.atomic_table.proofs.Lists.{at_set, set_here, set_else, at_snoc, at_ma
 use Rattle.msg_board.specs.Prelude.{BoardView, Done, Drawing, DrawsJob, HandingIn, Holds, HoldsEachOnce, IsHeldAlone, IsSlotOf, IsViewOf, Job, PassState, Slot, View, draws_at, drawn_by, freed, holders_at, is_held, jobs_of, one_of, passes_of, spent, taken, times, tried, united, whole, without_one}
 use Rattle.msg_board.specs.inner.Closing.{IsGathered}
 use Rattle.msg_board.proofs.TableLists.{by_place, there, read_at}
-use Rattle.msg_board.proofs.Sums.{sum_by-set_at, term_le, terms_le, sole, one_if, one_at, none_at, times-append, times_push}
+use Rattle.msg_board.proofs.Sums.{sum_by-set_at, term_le, terms_le, sole, one_if, one_at, times-append, times_push}
 
 module _ {J D : Type 0} (lawful : J → D → Type 0) (jobs : List J) (passes : ℕ) where
   -- states of the table, seats, and the law
@@ -60,14 +61,9 @@ module _ {J D : Type 0} (lawful : J → D → Type 0) (jobs : List J) (passes : 
             → IsSlotOf lawful j x (get_elem? homes k)) near here
             (λ k ne j is. subst (IsSlotOf lawful j (get_or s.words k 0)) (sym (others k ne)) (r.each_slot k j is));
         each_view = λ by u is. ⊎_elim (λ (t : (by ≡ id) × (w ≡ u)). subst (IsViewOf jobs (set s.words i n)) t.1 known)
-            (λ (t : (by ≢ id) × (get_elem? s.views by ≡ some u)). let old = r.each_view by u t.1 in record {
-              same_jobs = old.same_jobs;
-              within = old.within;
-              tried = λ live k l. by_place s.words i n (λ k x. get_or s.words k 0 ≢ 0 → x ≢ 0) near rises (λ k _ h. h) k
-                  (old.tried live k l);
-              spent_drawn = old.spent_drawn;
-              spent_held = old.spent_held;
-            }) (at_set s.views id by w u is);
+            (λ (t : (by ≢ id) × (get_elem? s.views by ≡ some u)). let old = r.each_view by u t.1 in
+            grind (arith, cases_eq, get_or-set_same s.words i n 0 near, get_or-set_other s.words i, rises, old))
+            (at_set s.views id by w u is);
         held = λ k. omega (arith, sum_by-set_at (holds_one k) s.views id v w at, r.held k, holding k);
         drawn = λ k. omega (arith, sum_by-set_at (λ u. times k u.drawn) s.views id v w at, r.drawn k, drawing k);
         weights = omega (arith, sum_by-set_at (λ u. u.weight) s.views id v w at, r.weights);
@@ -84,14 +80,8 @@ module _ {J D : Type 0} (lawful : J → D → Type 0) (jobs : List J) (passes : 
   tried_more : (ws : List ℕ) (i n : ℕ) (v w : View J) → IsViewOf jobs ws v → 0 < v.weight → i < length ws
       → i < length jobs → v.next ≡ i → n ≢ 0 → w.jobs ≡ v.jobs → w.weight ≡ v.weight → w.next ≡ i + 1
       → IsViewOf jobs (set ws i n) w
-  tried_more ws i n v w old live near inside is rises same_jobs weigh next = record {
-    same_jobs = λ _. same_jobs ∙ old.same_jobs live;
-    within = λ _. omega arith;
-    tried = λ _ k l. by_place ws i n (λ k x. k < w.next → x ≢ 0) near (λ _. rises)
-        (λ k ne l. old.tried live k (omega arith)) k l;
-    spent_drawn = λ z. absurd (omega arith);
-    spent_held = λ z. absurd (omega arith);
-  }
+  tried_more ws i n v w old live near inside is rises same_jobs weigh next =
+      grind (arith, cases_eq, get_or-set_same ws i n 0 near, get_or-set_other ws i, old)
 
   -- a draw is allowed where word i becomes n
   abbrev Draws : St → M → ℕ → ℕ → ℕ → ℕ → Type 0
@@ -112,21 +102,18 @@ module _ {J D : Type 0} (lawful : J → D → Type 0) (jobs : List J) (passes : 
     finds_zero zero_there = let long = r.slots in moved s r i 1 id v (taken i v) (set s.homes i none) inside at
         (omega arith) (λ _. (λ e. omega arith)) (length-set s.homes i none)
         (λ k ne. set_else s.homes i k none ne)
-        (λ j' is'. record {
-          waiting = λ e. absurd (omega arith);
-          out = λ _. set_here s.homes i none (omega arith);
-          done = λ e. absurd (omega arith);
-        })
+        (λ j' is'. grind (arith, set_here s.homes i none))
         (tried_more s.words i 1 v (taken i v) (r.each_view id v at) live near inside is
         (λ e. omega arith) refl refl refl)
-        (by_place s.words i 1 (λ k y. holds_one k (taken i v) + holders_at (get_or s.words k 0)
-        ≡ holds_one k v + holders_at y) near
-        (omega (arith, ap (λ o. one_if (is_held i o)) free, ap holders_at zero_there, one_at i i refl))
-        (λ k ne. omega (arith, ap (λ o. one_if (is_held k o)) free, none_at k i (λ e. ne (sym e)))))
-        (by_place s.words i 1 (λ k y. times k (taken i v).drawn + draws_at (get_or s.words k 0)
-        ≡ times k v.drawn + draws_at y) near
-        (omega (arith, times_push i v.drawn i, ap draws_at zero_there, one_at i i refl))
-        (λ k ne. omega (arith, times_push k v.drawn i, none_at k i (λ e. ne (sym e)))))
+        (λ k. grind (arith, eqb_tells, cases_eq k i, get_or-set_same s.words i 1 0 near, get_or-set_other s.words i k 1 0))
+        (λ k. grind (
+          arith,
+          eqb_tells,
+          times_push k v.drawn i,
+          cases_eq k i,
+          get_or-set_same s.words i 1 0 near,
+          get_or-set_other s.words i k 1 0,
+        ))
         refl
 
     -- it finds another number, and leaves it there
@@ -141,10 +128,8 @@ module _ {J D : Type 0} (lawful : J → D → Type 0) (jobs : List J) (passes : 
         (λ j' is'. r.each_slot i j' is')
         (tried_more s.words i x v (tried v) (r.each_view id v at) live near inside is more refl refl
         (ap (λ n. n + 1) is))
-        (by_place s.words i x (λ k y. holds_one k v + holders_at (get_or s.words k 0)
-        ≡ holds_one k v + holders_at y) near refl (λ k ne. refl))
-        (by_place s.words i x (λ k y. times k v.drawn + draws_at (get_or s.words k 0)
-        ≡ times k v.drawn + draws_at y) near refl (λ k ne. refl))
+        (λ k. ap (λ ws. holds_one k v + holders_at (get_or ws k 0)) (sym (set-get_or s.words i 0)))
+        (λ k. ap (λ ws. times k v.drawn + draws_at (get_or ws k 0)) (sym (set-get_or s.words i 0)))
         refl
 
   -- what the step tells, where it finds 0 and where it doesn't
@@ -188,28 +173,24 @@ module _ {J D : Type 0} (lawful : J → D → Type 0) (jobs : List J) (passes : 
   -- and so is that of a number that a view holds
   word_is_one : (s : St) (k : ℕ) → Lawful s → (by : ℕ) (v : View J) → get_elem? s.views by ≡ some v → v.held ≡ Some k
       → get_or s.words k 0 ≡ 1
-  word_is_one s k r by v at has = held_is_one (get_or s.words k 0)
-      (omega (arith, term_le (holds_one k) s.views by v at, r.held k, one_held k v has))
+  word_is_one s k r by v at has =
+      grind (arith, term_le (holds_one k) s.views by v at, r.held k, one_held k v has)
 
   -- past the words of the jobs there is 0
   zero_far : (s : St) (k : ℕ) → Lawful s → length jobs ≤ k → get_or s.words k 0 ≡ 0
-  zero_far s k r far = let wide = r.words in elim (cases_eq k (length jobs)) [
-    | inl e ↦ ap (λ n. get_or s.words n 0) e ∙ r.further
-    | inr ne ↦ get_or_past s.words k 0 (omega arith)
-  ]
+  zero_far s k r far = grind (arith, cases_eq k (length jobs), r.further, r.words, get_or_past s.words k 0)
 
   -- a number that a view holds is held by no other, and its slot is out
   pub held_alone : (s : St) (k : ℕ) → Lawful s → IsHeldAlone s k
   held_alone s k r = record {
-    by_one = λ by other v w at there_is has also. dite (ℕ_discrete by other) (λ same. same)
-        (λ apart. absurd (omega (
-          arith,
-          terms_le (holds_one k) s.views by other v w (λ e. apart (sym e)) at there_is,
-          r.held k,
-          ap holders_at (word_is_one s k r by v at has),
-          one_held k v has,
-          one_held k w also,
-        )));
+    by_one = λ by other v w at there_is has also. grind (
+      arith,
+      terms_le (holds_one k) s.views by other v w,
+      r.held k,
+      word_is_one s k r by v at has,
+      one_held k v has,
+      one_held k w also,
+    );
     slot_out = λ by v at has. let is_one = word_is_one s k r by v at has in
         elim (cases_lt k (length jobs)) [
           | inl near ↦ let job = there jobs k near in (r.each_slot k job.0 job.1).out is_one
@@ -243,22 +224,16 @@ module _ {J D : Type 0} (lawful : J → D → Type 0) (jobs : List J) (passes : 
                     subst (λ (y : J). lawful y d) (some-injective j j' (sym is' ∙ is'')) fair,
                   );
             })
-            (record {
-              same_jobs = knows.same_jobs;
-              within = knows.within;
-              tried = λ live i l. by_place s.words k 2 (λ i x. i < v.next → x ≢ 0) near (λ _. (λ e. omega arith))
-                  (λ i ne l. knows.tried live i l) i l;
-              spent_drawn = λ z. absurd (omega arith);
-              spent_held = λ z. absurd (omega arith);
-            })
-            (by_place s.words k 2 (λ i y. holds_one i (freed v) + holders_at (get_or s.words i 0)
-            ≡ holds_one i v + holders_at y) near
-            (omega (arith, one_held k v has, ap holders_at one))
-            (λ i ne. omega (arith, ap (λ o. one_if (is_held i o)) has, none_at i k (λ e. ne (sym e)))))
-            (by_place s.words k 2 (λ i y. times i v.drawn + draws_at (get_or s.words i 0)
-            ≡ times i v.drawn + draws_at y) near
-            (omega (arith, ap draws_at one))
-            (λ i ne. refl))
+            (grind (arith, cases_eq, get_or-set_same s.words k 2 0 near, get_or-set_other s.words k, knows))
+            (λ i. grind (
+              arith,
+              eqb_tells,
+              cases_eq i k,
+              one,
+              get_or-set_same s.words k 2 0 near,
+              get_or-set_other s.words k i 2 0,
+            ))
+            (λ i. grind (arith, cases_eq i k, one, get_or-set_same s.words k 2 0 near, get_or-set_other s.words k i 2 0))
             refl,
         record { word = has; operand = (refl, refl); result = (d, refl); given_back = refl },
       )
@@ -331,11 +306,7 @@ module _ {J D : Type 0} (lawful : J → D → Type 0) (jobs : List J) (passes : 
     slots = length-map xs some ∙ (ap length is ∙ length-map jobs Job);
     at_most_two = λ k. omega (arith, zeros k);
     further = zeros (length jobs);
-    each_slot = λ k j at. record {
-      waiting = λ _. at_map some xs k (Job j) (ap (λ (l : List (Slot J D)). get_elem? l k) is ∙ at_map Job jobs k j at);
-      out = λ e. absurd (omega (arith, zeros k));
-      done = λ e. absurd (omega (arith, zeros k));
-    };
+    each_slot = λ k j at. grind (arith, zeros k, at_map {B = maybe.Option (Slot J D)} some xs k (Job j), at_map {B = Slot J D} Job jobs k j at);
     each_view = λ by u at. ⊎_elim (λ (t : get_elem? [] by ≡ some u). absurd (some-ne-none u (sym t)))
         (λ (t : whole jobs passes ≡ u). subst (IsViewOf jobs ws) t (grind arith)) (at_snoc [] (whole jobs passes) u by at);
     held = λ k. sym (ap holders_at (zeros k));
