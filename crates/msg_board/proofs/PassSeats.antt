@@ -1,6 +1,6 @@
 -- From what a step tells of a seat to what a clause says of the pass.
 use Rattle.std.specs.List.{All, filter, flat_map}
-use Rattle.std.proofs.Common.{Bool, true, false, not, ◌≡◌, ℕ, ◌+◌, ◌<◌, List, [], ◌∷◌, ◌++◌, length, sym, refl, ap, ◌∙◌, arith, Some, None, length-append, append-nil}
+use Rattle.std.proofs.Common.{Bool, true, false, not, ◌≡◌, ℕ, ◌+◌, ◌<◌, List, [], ◌∷◌, ◌++◌, length, refl, ap, ◌∙◌, arith, Some, None, length-append, append-nil}
 use Rattle.std.proofs.lemmas.List.Elements.{All-head, All-pop, All-push, All-tail, All-weaker, filter-append}
 use Rattle.std.proofs.lemmas.List.{flat_map_more}
 use Rattle.std.proofs.lemmas.Bool.Decides.{eqb_tells}
@@ -37,24 +37,10 @@ handed_in-idle p idle = ap (λ o. filter (λ k. not (is_held k o)) p.drawn) idle
     ∙ filter_all (λ _. true) p.drawn (λ k d l. refl)
 
 module _ {J D : Type 0} where
-  -- equal results lie in equal slots
-  pub done_same : (d e : D) → (let x : Slot J D = Done d in let y : Slot J D = Done e in x ≡ y) → d ≡ e
-  done_same d e h = cc
-
-  -- equal jobs lie in equal slots that are out
-  pub job_same : (k : ℕ) (i j : J)
-      → (let xs : List (ℕ × Slot J D) = (k, Job i) ∷ [] in let ys : List (ℕ × Slot J D) = (k, Job j) ∷ [] in xs ≡ ys)
-      → i ≡ j
-  job_same k i j e = grind arith
-
   -- A pass drew its next number: `drawn` is its seat after the step, and `seat` after it took the job out of the slot
   module _ (p : Inside J D) (drawn seat : Seat (Slot J D) (View J)) (j : J) (sound : IsSound p)
       (told : drawn.me ≡ (taken p.next p.seat.me.0, (p.next, Job j) ∷ []))
       (took : seat.me ≡ (drawn.me.0, (p.next, Empty) ∷ [])) where
-    -- its view is the one that the step gave
-    drew_view : seat.me.0 ≡ taken p.next p.seat.me.0
-    drew_view = ap (λ (m : Me (Slot J D) (View J)). m.0) took ∙ ap (λ (m : Me (Slot J D) (View J)). m.0) told
-
     -- its fields
     abbrev drew_pass : Inside J D
     drew_pass = record { seat = seat; next = p.next + 1; held = Some p.next; finished = p.finished }
@@ -63,24 +49,22 @@ module _ {J D : Type 0} where
     pub drew_sound : p.next < length p.seat.me.0.jobs → IsSound drew_pass
     drew_sound more =
         let seat_was = sound.seat in let order = sound.order in
-        grind (arith, drew_view, took, All-push (λ n. n < p.next + 1) p.seat.me.0.drawn p.next, All-weaker (λ n. n < p.next) (λ n. n < p.next + 1) (λ n l. omega arith) p.seat.me.0.drawn order.below)
+        let drawn_below = All-push (λ n. n < p.next + 1) p.seat.me.0.drawn p.next
+        (All-weaker (λ n. n < p.next) (λ n. n < p.next + 1) (λ n l. omega arith) p.seat.me.0.drawn order.below)
+        (omega arith) in
+        grind (arith, told, took, drawn_below)
 
     -- and this is what it drew, of the state that callers see
     pub drew_said : (before : PassState J) (jobs : List J) (job : J) → state_of p ≡ before → before.jobs ≡ jobs
         → before.tried < length jobs → get_elem? p.seat.me.0.jobs p.next ≡ some j
         → drawn.me.1 ≡ (p.next, Job job) ∷ [] → Drew jobs before (state_of drew_pass) before.tried job
     drew_said before jobs job is own more at was =
-        let same : job ≡ j = job_same p.next job j (sym was ∙ ap (λ (m : Me (Slot J D) (View J)). m.1) told) in
         let order = sound.order in
-        grind (arith, drew_view, same, false_from_ne_true, got p.seat.me.0.jobs p.next j at)
+        grind (arith, told, took, was, false_from_ne_true, got p.seat.me.0.jobs p.next j at)
 
   -- A pass handed in what it held: `full` is its seat after it put the result into the slot, and `seat` after the step
   module _ (p : Inside J D) (full seat : Seat (Slot J D) (View J)) (k : ℕ) (d : D) (sound : IsSound p)
       (put : full.me ≡ (p.seat.me.0, (k, Done d) ∷ [])) (told : seat.me ≡ (freed full.me.0, [])) where
-    -- its view is the one that the step gave
-    handed_view : seat.me.0 ≡ freed p.seat.me.0
-    handed_view = ap (λ (m : Me (Slot J D) (View J)). m.0) told ∙ ap (λ (m : Me (Slot J D) (View J)). freed m.0) put
-
     -- its fields
     abbrev handed_pass : Inside J D
     handed_pass = record { seat = seat; next = p.next; held = None; finished = p.finished }
@@ -89,21 +73,22 @@ module _ {J D : Type 0} where
     pub handed_sound : IsSound handed_pass
     handed_sound =
         let seat_was = sound.seat in let order = sound.order in
-        grind (arith, handed_view, told)
+        grind (arith, put, told)
 
     -- and this is what the hand-in did, of the state that callers see
     pub handed_said : (before : PassState J) → state_of p ≡ before → before.holding ≡ Some k
         → HandedIn before (state_of handed_pass) k
     handed_said before is has =
         let last = sound.order.last k (ap (λ q. q.holding) is ∙ has) in
-        grind (arith, handed_view, last, handed_in_and_held last.0 k last.2, handed_in-idle (state_of handed_pass))
+        grind (arith, put, told, last, handed_in_and_held last.0 k last.2, handed_in-idle (state_of handed_pass))
 
 -- a pass holds a number below the number of jobs
 pub held_within : {J D : Type 0} (p : Inside J D) (k : ℕ) → IsSound p → p.held ≡ Some k
     → k < length p.seat.me.0.jobs
 held_within p k sound has =
     let last = sound.order.last k has in
-    grind (arith, sound.order.within, All-pop (λ n. n < p.next) p.seat.me.0.drawn last.0 (Some k) last.1 sound.order.below)
+    let below = All-pop (λ n. n < p.next) p.seat.me.0.drawn last.0 (Some k) last.1 sound.order.below in
+    grind (arith, sound.order.within, below)
 
 -- a pass that has a number left to try isn't finished
 pub unfinished_more : {J D : Type 0} (p : Inside J D) (q : PassState J) → IsSound p → state_of p ≡ q

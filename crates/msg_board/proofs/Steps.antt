@@ -15,8 +15,8 @@ use Rattle.atomic_table.specs.Table.{State, Me, Step, step, Act, keeps, takes, g
 use Rattle.atomic_table.proofs.Lists.{at_set, set_here, set_else, at_snoc, at_map}
 use Rattle.msg_board.specs.Prelude.{BoardView, Done, Drawing, DrawsJob, HandingIn, Holds, HoldsEachOnce, IsHeldAlone, IsSlotOf, IsViewOf, Job, PassState, Slot, View, draws_at, drawn_by, freed, holders_at, is_held, jobs_of, one_of, passes_of, spent, taken, times, tried, united, whole, without_one}
 use Rattle.msg_board.specs.inner.Closing.{IsGathered}
-use Rattle.msg_board.proofs.TableLists.{by_place, there, read_at}
-use Rattle.msg_board.proofs.Sums.{sum_by-set_at, term_le, terms_le, sole, one_if, one_at, times-append, times_push}
+use Rattle.msg_board.proofs.TableLists.{there, read_at}
+use Rattle.msg_board.proofs.Sums.{sum_by-set_at, term_le, terms_le, sole, one_if, times-append, times_push}
 
 module _ {J D : Type 0} (lawful : J → D → Type 0) (jobs : List J) (passes : ℕ) where
   -- states of the table, seats, and the law
@@ -33,10 +33,6 @@ module _ {J D : Type 0} (lawful : J → D → Type 0) (jobs : List J) (passes : 
   abbrev holds_one : ℕ → View J → ℕ
   holds_one k v = one_if (is_held k v.held)
 
-  -- a view that holds k holds one
-  one_held : (k : ℕ) (v : View J) → v.held ≡ Some k → holds_one k v ≡ 1
-  one_held k v has = ap (λ o. one_if (is_held k o)) has ∙ one_at k k refl
-
   -- the law is kept where word i becomes n, view v becomes w, and no slot but i changes
   moved : (s : St) (r : Lawful s) (i n id : ℕ) (v w : View J) (homes : List (maybe.Option (Slot J D)))
       → i < length jobs → get_elem? s.views id ≡ some v
@@ -51,15 +47,16 @@ module _ {J D : Type 0} (lawful : J → D → Type 0) (jobs : List J) (passes : 
       → w.weight ≡ v.weight → Lawful record { words = set s.words i n; homes = homes; views = set s.views id w }
   moved s r i n id v w homes inside at small rises long others here known holding drawing weigh =
       let wide = r.words in let near : i < length s.words = omega arith in
+      let set_there = get_or-set_same s.words i n 0 near in
       record {
         words = length-set s.words i n ∙ wide;
         slots = long ∙ r.slots;
-        at_most_two = by_place s.words i n (λ k x. x ≤ 2) near small (λ k _. r.at_most_two k);
+        at_most_two = λ k. grind (arith, cases_eq k i, set_there, get_or-set_other s.words i k n 0, r.at_most_two k);
         further = get_or-set_other s.words i (length jobs) n 0 (λ e. omega arith) ∙ r.further;
-        each_slot =
-            by_place s.words i n (λ k x. (j : J) → get_elem? jobs k ≡ some j
-            → IsSlotOf lawful j x (get_elem? homes k)) near here
-            (λ k ne j is. subst (IsSlotOf lawful j (get_or s.words k 0)) (sym (others k ne)) (r.each_slot k j is));
+        each_slot = λ k j is. elim (cases_eq k i) [
+          | inl e ↦ rw (e, set_there) (here j (rw e at is))
+          | inr ne ↦ rw (get_or-set_other s.words i k n 0 ne, others k ne) (r.each_slot k j is)
+        ];
         each_view = λ by u is. ⊎_elim (λ (t : (by ≡ id) × (w ≡ u)). subst (IsViewOf jobs (set s.words i n)) t.1 known)
             (λ (t : (by ≢ id) × (get_elem? s.views by ≡ some u)). let old = r.each_view by u t.1 in
             grind (arith, cases_eq, get_or-set_same s.words i n 0 near, get_or-set_other s.words i, rises, old))
@@ -99,19 +96,21 @@ module _ {J D : Type 0} (lawful : J → D → Type 0) (jobs : List J) (passes : 
     -- it finds 0, and takes the job out
     finds_zero : get_or s.words i 0 ≡ 0
         → Lawful record { words = set s.words i 1; homes = set s.homes i none; views = set s.views id (taken i v) }
-    finds_zero zero_there = let long = r.slots in moved s r i 1 id v (taken i v) (set s.homes i none) inside at
+    finds_zero zero_there =
+        let long = r.slots in let set_there = get_or-set_same s.words i 1 0 near in
+        moved s r i 1 id v (taken i v) (set s.homes i none) inside at
         (omega arith) (λ _. (λ e. omega arith)) (length-set s.homes i none)
         (λ k ne. set_else s.homes i k none ne)
         (λ j' is'. grind (arith, set_here s.homes i none))
         (tried_more s.words i 1 v (taken i v) (r.each_view id v at) live near inside is
         (λ e. omega arith) refl refl refl)
-        (λ k. grind (arith, eqb_tells, cases_eq k i, get_or-set_same s.words i 1 0 near, get_or-set_other s.words i k 1 0))
+        (λ k. grind (arith, eqb_tells, cases_eq k i, set_there, get_or-set_other s.words i k 1 0))
         (λ k. grind (
           arith,
           eqb_tells,
           times_push k v.drawn i,
           cases_eq k i,
-          get_or-set_same s.words i 1 0 near,
+          set_there,
           get_or-set_other s.words i k 1 0,
         ))
         refl
@@ -167,14 +166,9 @@ module _ {J D : Type 0} (lawful : J → D → Type 0) (jobs : List J) (passes : 
       ))
 
   -- a word whose number is held is 1
-  held_is_one : (w : ℕ) → 0 < holders_at w → w ≡ 1
-  held_is_one w h = grind arith
-
-  -- and so is that of a number that a view holds
   word_is_one : (s : St) (k : ℕ) → Lawful s → (by : ℕ) (v : View J) → get_elem? s.views by ≡ some v → v.held ≡ Some k
       → get_or s.words k 0 ≡ 1
-  word_is_one s k r by v at has =
-      grind (arith, term_le (holds_one k) s.views by v at, r.held k, one_held k v has)
+  word_is_one s k r by v at has = grind (arith, eqb_tells, term_le (holds_one k) s.views by v at, r.held k)
 
   -- past the words of the jobs there is 0
   zero_far : (s : St) (k : ℕ) → Lawful s → length jobs ≤ k → get_or s.words k 0 ≡ 0
@@ -188,8 +182,7 @@ module _ {J D : Type 0} (lawful : J → D → Type 0) (jobs : List J) (passes : 
       terms_le (holds_one k) s.views by other v w,
       r.held k,
       word_is_one s k r by v at has,
-      one_held k v has,
-      one_held k w also,
+      eqb_tells,
     );
     slot_out = λ by v at has. let is_one = word_is_one s k r by v at has in
         elim (cases_lt k (length jobs)) [
@@ -208,7 +201,7 @@ module _ {J D : Type 0} (lawful : J → D → Type 0) (jobs : List J) (passes : 
       let is' : get_elem? jobs k ≡ some j = ap (λ (l : List J). get_elem? l k) (sym (knows.same_jobs live)) ∙ is in
       let inside = (read_at jobs k j is').0 in let wide = r.words in let long = r.slots in
       let near : k < length s.words = omega arith in
-      let one = word_is_one s k r id v at has in (
+      let one = word_is_one s k r id v at has in let set_there = get_or-set_same s.words k 2 0 near in (
         freed v,
         gives,
         tt,
@@ -224,16 +217,16 @@ module _ {J D : Type 0} (lawful : J → D → Type 0) (jobs : List J) (passes : 
                     subst (λ (y : J). lawful y d) (some-injective j j' (sym is' ∙ is'')) fair,
                   );
             })
-            (grind (arith, cases_eq, get_or-set_same s.words k 2 0 near, get_or-set_other s.words k, knows))
+            (grind (arith, cases_eq, set_there, get_or-set_other s.words k, knows))
             (λ i. grind (
               arith,
               eqb_tells,
               cases_eq i k,
               one,
-              get_or-set_same s.words k 2 0 near,
+              set_there,
               get_or-set_other s.words k i 2 0,
             ))
-            (λ i. grind (arith, cases_eq i k, one, get_or-set_same s.words k 2 0 near, get_or-set_other s.words k i 2 0))
+            (λ i. grind (arith, cases_eq i k, one, set_there, get_or-set_other s.words k i 2 0))
             refl,
         record { word = has; operand = (refl, refl); result = (d, refl); given_back = refl },
       )
@@ -306,9 +299,12 @@ module _ {J D : Type 0} (lawful : J → D → Type 0) (jobs : List J) (passes : 
     slots = length-map xs some ∙ (ap length is ∙ length-map jobs Job);
     at_most_two = λ k. omega (arith, zeros k);
     further = zeros (length jobs);
-    each_slot = λ k j at. grind (arith, zeros k, at_map {B = maybe.Option (Slot J D)} some xs k (Job j), at_map {B = Slot J D} Job jobs k j at);
+    each_slot = λ k j at.
+        let home = at_map {B = maybe.Option (Slot J D)} some xs k (Job j) in
+        grind (arith, zeros k, home, at_map {B = Slot J D} Job jobs k j at);
     each_view = λ by u at. ⊎_elim (λ (t : get_elem? [] by ≡ some u). absurd (some-ne-none u (sym t)))
-        (λ (t : whole jobs passes ≡ u). subst (IsViewOf jobs ws) t (grind arith)) (at_snoc [] (whole jobs passes) u by at);
+        (λ (t : whole jobs passes ≡ u). subst (IsViewOf jobs ws) t (grind arith))
+        (at_snoc [] (whole jobs passes) u by at);
     held = λ k. sym (ap holders_at (zeros k));
     drawn = λ k. sym (ap draws_at (zeros k));
     weights = omega arith;
@@ -318,14 +314,6 @@ module _ {J D : Type 0} (lawful : J → D → Type 0) (jobs : List J) (passes : 
   abbrev AllDone : List (Slot J D) → Type 0
   AllDone xs = (length xs ≡ length jobs)
       × ((k : ℕ) (j : J) → get_elem? jobs k ≡ some j → (d : D) × (get_elem? xs k ≡ some (Done d)) × lawful j d)
-
-  -- a word that is neither 0 nor 1 is 2
-  word_two : (w : ℕ) → w ≤ 2 → w ≢ 0 → w ≢ 1 → w ≡ 2
-  word_two w h a b = omega arith
-
-  -- a word above 0 was drawn once
-  drawn_once : (w : ℕ) → w ≢ 0 → draws_at w ≡ 1
-  drawn_once w n = grind arith
 
   -- the last seat stands for all passes, has tried every word and holds nothing: every result is in, and it drew each
   -- number once
@@ -349,13 +337,11 @@ module _ {J D : Type 0} (lawful : J → D → Type 0) (jobs : List J) (passes : 
           omega arith,
           λ k j is. let inside = (read_at jobs k j is).0 in
               let ended =
-              (r.each_slot k j is).done
-              (word_two (get_or s.words k 0) (r.at_most_two k) (knows.tried live k (omega arith))
-              (λ e. omega (arith, out_at k, ap holders_at e))) in
+              (r.each_slot k j is).done (grind (arith, r.at_most_two k, knows.tried live k, out_at k)) in
               (ended.0, f.4 k (Done ended.0) ended.1, ended.2),
         ),
         record {
-          once = λ k near. drawn_at k ∙ drawn_once (get_or s.words k 0) (knows.tried live k (omega arith));
+          once = λ k near. grind (arith, drawn_at k, knows.tried live k);
           no_other = λ k far. drawn_at k ∙ ap draws_at (zero_far s k r far);
         },
       )

@@ -1,6 +1,6 @@
 -- Sums and counts over lists that change at one place.
 use Rattle.std.specs.List.{sum_by}
-use Rattle.std.proofs.Common.{Bool, ◌≡◌, ◌≢◌, ℕ, zero, suc, ◌+◌, ◌≤◌, List, [], ◌∷◌, ◌++◌, set, sym, refl, ap, arith, cond, eq-eqb, ne_eqb, ◌==◌}
+use Rattle.std.proofs.Common.{Bool, ◌≡◌, ◌≢◌, ℕ, zero, suc, ◌+◌, ◌≤◌, List, [], ◌∷◌, ◌++◌, set, sym, refl, ap, arith, cond, ◌==◌}
 use Rattle.std.proofs.lemmas.List.Sums.{get_or-le-sum_by, sum_by-append, sum_by-cons, sum_by-set, sum_by_push}
 use mathlib.Core.Option.{some, some-injective, some-ne-none}
 use lib.ListN.{get_elem?}
@@ -39,30 +39,15 @@ module _ {A : Type 0} (g : A → ℕ) where
       → ((k : ℕ) (u : A) → k ≢ j → get_elem? l k ≡ some u → g u ≡ 0) → sum_by g l ≡ g v
   sole [] j v e z = absurd (some-ne-none v (sym e))
   sole (x ∷ xs) zero v e z =
-      omega (
-        arith,
-        ap g (some-injective x v e),
-        sum_by-zeros xs (λ k u d. z (suc k) u (λ h. omega arith) d),
-        sum_by-cons g x xs,
-      )
+      let rest = sum_by-zeros xs (λ k u d. z (suc k) u (λ h. omega arith) d) in
+      omega (arith, ap g (some-injective x v e), sum_by-cons g x xs)
   sole (x ∷ xs) (suc j) v e z =
-      omega (
-        arith,
-        z 0 x (λ h. omega arith) refl,
-        sole xs j v e (λ k u n d. z (suc k) u (λ h. n (omega arith)) d),
-        sum_by-cons g x xs,
-      )
+      let rest = sole xs j v e (λ k u n d. z (suc k) u (λ h. n (omega arith)) d) in
+      omega (arith, z 0 x (λ h. omega arith) refl, sum_by-cons g x xs)
 
 -- 1 where a test is true, as `count_by` adds it
 abbrev pub one_if : Bool → ℕ
 one_if b = cond b 1 0
-
--- a number counts once at itself, and not at another
-pub one_at : (k n : ℕ) → n ≡ k → one_if (n == k) ≡ 1
-one_at k n e = ap one_if (eq-eqb n k e)
-
-pub none_at : (k n : ℕ) → n ≢ k → one_if (n == k) ≡ 0
-none_at k n ne = ap one_if (ne_eqb n k ne)
 
 -- how often a number stands in two lists, one after the other
 pub times-append : (k : ℕ) (xs ys : List ℕ) → times k (xs ++ ys) ≡ times k xs + times k ys

@@ -1,9 +1,9 @@
 -- Elements of lists, as the table names them (`get_elem?`) and as clauses do (`slice_get`).
 use Rattle.std.specs.Prelude.{slice_get}
-use Rattle.std.proofs.Common.{Bool, false, ◌∙◌, ◌+◌, ◌⊎◌, inl, inr, ⊎_elim, Option, Some, None, ◌≡◌, ◌≢◌, ℕ, zero, suc, ◌<◌, List, [], ◌∷◌, ◌++◌, length, get_or, set, replicate, sym, refl, ap, subst, arith, get_or-set_other, get_or-set_same, length-set}
+use Rattle.std.proofs.Common.{Bool, false, ◌∙◌, ◌+◌, ◌⊎◌, inl, inr, ⊎_elim, Some, ◌≡◌, ◌≢◌, ℕ, zero, suc, ◌<◌, List, [], ◌∷◌, ◌++◌, length, get_or, set, replicate, sym, refl, ap, subst, arith, get_or-set_other, get_or-set_same, length-set}
 use Rattle.std.proofs.lemmas.Bool.{cases_eq, cases_lt}
-use Rattle.std.proofs.lemmas.List.{get_or-replicate, get_or_past, length-replicate}
-use Rattle.std.proofs.lemmas.Option.{get_or_from_slice_get, slice_get_read, slice_get_within}
+use Rattle.std.proofs.lemmas.List.{get_or-replicate, get_or_append_left, get_or_past, get_or_push, length-append, length-replicate}
+use Rattle.std.proofs.lemmas.Option.{get_or_from_slice_get, slice_get-get_or, slice_get_read, slice_get_within}
 use mathlib.Core.Option.{some, some-injective, some-ne-none}
 use mathlib.Core.Option as maybe
 use lib.ListN.{get_elem?}
@@ -48,10 +48,17 @@ get_there l i a e = at_index l i a (slice_get_within l i a e) (sym (get_or_from_
 -- an element of a list with one more at its end is an old one or that one
 get_snoc : {A : Type 0} (l : List A) (a b : A) (k : ℕ) → slice_get (l ++ a ∷ []) k ≡ Some b
     → (slice_get l k ≡ Some b) ⊎ ((k ≡ length l) × (a ≡ b))
-get_snoc {A = A} [] a b zero e = inr (refl, ap (λ (o : Option A). elim o as (λ _. A) [ Some y ↦ y | None ↦ a ]) e)
-get_snoc [] a b (suc k) e = absurd (cc)
-get_snoc (x ∷ xs) a b zero e = inl e
-get_snoc (x ∷ xs) a b (suc k) e = ⊎_elim (λ t. inl t) (λ t. inr (ap suc t.0, t.1)) (get_snoc xs a b k e)
+get_snoc l a b k e =
+    grind (
+      arith,
+      cases_lt k (length l),
+      slice_get_within (l ++ a ∷ []) k b e,
+      get_or_from_slice_get (l ++ a ∷ []) k b b e,
+      slice_get-get_or l k b,
+      get_or_append_left l (a ∷ []) b k,
+      get_or_push l a b k,
+      length-append l (a ∷ []),
+    )
 
 -- a fact of each place holds after a push, if it holds of what was pushed
 pub each_pushed : {A : Type 0} (P : ℕ → A → Type 0) (l now : List A) (a : A) (n : ℕ) → now ≡ l ++ a ∷ []
@@ -61,15 +68,17 @@ each_pushed P l now a n is long last others k b at = ⊎_elim (λ t. others k b 
     (λ t. subst (P k) t.1 (subst (λ (m : ℕ). P m a) (sym (t.0 ∙ long)) last))
     (get_snoc l a b k (ap (λ m. slice_get m k) (sym is) ∙ at))
 
--- a place that was set to false is false, also past the end
-set_false : (l : List Bool) (i : ℕ) → get_or (set l i false) i false ≡ false
-set_false l i = grind (arith, cases_lt, get_or-set_same, get_or_past, length-set)
-
 -- where the places below i are false, and place i is set to false, so are those below i + 1
 pub false_below : (l now : List Bool) (i : ℕ) → now ≡ set l i false
     → ((k : ℕ) → k < i → get_or l k false ≡ false) → (k : ℕ) → k < i + 1 → get_or now k false ≡ false
-false_below l now i is below k h = ap (λ m. get_or m k false) is
-    ∙ elim (cases_eq k i) [
-      | inl e ↦ ap (λ n. get_or (set l i false) n false) e ∙ set_false l i
-      | inr ne ↦ get_or-set_other l i k false false ne ∙ below k (omega arith)
-    ]
+false_below l now i is below k h =
+    grind (
+      arith,
+      below k,
+      cases_eq k i,
+      cases_lt i (length l),
+      get_or-set_same l i false false,
+      get_or-set_other l i k,
+      get_or_past (set l i false) i false,
+      length-set l i false,
+    )

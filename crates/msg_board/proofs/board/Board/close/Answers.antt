@@ -4,9 +4,9 @@ use Rattle.std.proofs.lemmas.Result.{IfOk-weaker}
 use Rattle.std.specs.Prelude.{OnErr}
 use Rattle.msg_board.specs.Prelude.{HasEnded, HoldsEachOnce, jobs_of}
 use Rattle.msg_board.specs.inner.Sound.{board_of}
-use Rattle.msg_board.proofs.TableLists.{there, get_there, one_value}
+use Rattle.msg_board.proofs.TableLists.{there, get_there}
 use Rattle.msg_board.proofs.Steps.{closes_board}
-use Rattle.msg_board.proofs.PassSeats.{done_same, all_handed_in}
+use Rattle.msg_board.proofs.PassSeats.{all_handed_in}
 use Rattle.msg_board.proofs.board.Board.close.Goals as goal
 
 pub results_of-requires-clause-done : goal.results_of-requires-clause-done
@@ -27,7 +27,7 @@ returns-clause-lawful g c =
     IfOk-weaker c.results_of.result _ _ (λ results taken. record {
       as_many = taken.as_many ∙ many;
       each = λ k j d at gives. let t = closed.0.1 k j (get_there (jobs_of c.args.self) k j at) in
-          subst (g.W.Work.lawful j) (done_same t.0 d (one_value _ _ _ t.1 (taken.each k d gives))) t.2;
+          let same : t.0 ≡ d = grind (arith, t.1, taken.each k d gives) in subst (g.W.Work.lawful j) same t.2;
     }) c.results_of.ensures.results
 
 pub returns-clause-refused : goal.returns-clause-refused
