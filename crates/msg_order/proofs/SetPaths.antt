@@ -219,10 +219,9 @@ rules_join joined rules i j h =
 pub settled_joins : (accesses : List Access) (rules : List Rule) (joined : List Bool) (h : Graph)
     → Settles (AreInConflict accesses joined) (rules_among joined rules) (pairs (length accesses)) h → IsAmong joined h
 settled_joins accesses rules joined h s i j e =
-    elim (settles_edges (AreInConflict accesses joined) (pairs (length accesses)) (rules_among joined rules) h s i j e) [
-      | inl x ↦ rules_join joined rules i j x
-      | inr x ↦ (x.1.first_joined, x.1.second_joined)
-    ]
+    let from = settles_edges (AreInConflict accesses joined) (pairs (length accesses)) (rules_among joined rules) h s
+    i j e in
+    grind (arith, from, rules_join joined rules i j)
 
 pub settled_free : (accesses : List Access) (rules : List Rule) (joined : List Bool) (h : Graph)
     → Settles (AreInConflict accesses joined) (rules_among joined rules) (pairs (length accesses)) h

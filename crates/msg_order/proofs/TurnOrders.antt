@@ -1,5 +1,5 @@
 -- Places in an order, and the batches one after the other.
-use Rattle.std.proofs.Common.{◌≡◌, ◌≢◌, ℕ, suc, ◌-◌, ◌<◌, inl, inr, Bool, List, [], ◌∷◌, ◌++◌, length, get_or, sym, ◌∙◌, arith, length-append}
+use Rattle.std.proofs.Common.{◌≡◌, ◌≢◌, ℕ, suc, ◌-◌, ◌<◌, inr, Bool, List, [], ◌∷◌, ◌++◌, length, get_or, sym, ◌∙◌, arith, length-append}
 use Rattle.std.specs.Prelude.{Contains, All, AllPairs}
 use Rattle.std.specs.List.{concat}
 use Rattle.std.proofs.lemmas.Bool.{cases_lt, cases_order}
@@ -45,9 +45,8 @@ stands_along : (order : List ℕ) (i j k : ℕ) → AllPairs (λ i j. i ≢ j) o
 stands_along order i j k once s t =
     let a = places_of order i k s in
     let b = places_of order k j t in
-    let same : s.later ≡ t.earlier = one_place order s.later t.earlier once a.below (omega (arith, b.in_order, b.below))
-    (a.second ∙ sym b.first) in
-    stands order i j s.earlier t.later (omega (arith, a.in_order, b.in_order)) b.below a.first b.second
+    let before : s.earlier < t.later = grind (arith, a, b, one_place order s.later t.earlier once) in
+    stands order i j s.earlier t.later before b.below a.first b.second
 
 -- a lawful order keeps paths too
 pub kept_along : (g : Graph) (joined : List Bool) (order : List ℕ) → IsLawfulOrder g joined order → (i j : ℕ)
@@ -151,9 +150,8 @@ none_conflict accesses rules joined g bs len settled h =
     let below : j < length joined = joined_in joined j at_j.0 in
     let in_conflict : AreInConflict accesses joined i j =
     record { first_joined = at_i.0; second_joined = at_j.0; conflict = x } in
-    elim (settles_covers (AreInConflict accesses joined) (pairs (length accesses))
-    (rules_among joined rules) g settled i j
-    (Contains-pairs (length accesses) i j rising (omega arith)) in_conflict) [
-      | inl p ↦ let r : b < b = number_rises g i j b b p at_i.1 at_j.1 in absurd (omega arith)
-      | inr p ↦ let r : b < b = number_rises g j i b b p at_j.1 at_i.1 in absurd (omega arith)
-    ])
+    let paths = settles_covers (AreInConflict accesses joined) (pairs (length accesses)) (rules_among joined rules) g
+    settled i j (Contains-pairs (length accesses) i j rising (omega arith)) in_conflict in
+    let up = λ (p : Path g i j). number_rises g i j b b p at_i.1 at_j.1 in
+    let down = λ (p : Path g j i). number_rises g j i b b p at_j.1 at_i.1 in
+    grind (arith, paths, up, down))

@@ -1,6 +1,6 @@
 -- That there is one settled order and one list of batches, and what holds of each.
-use Rattle.std.proofs.Common.{◌≡◌, ℕ, ◌<◌, ◌≤◌, inl, inr, Bool, ◌&&◌, List, [], ◌∷◌, length, map, get_or, refl, ap, sym, subst, ◌∙◌, arith}
-use Rattle.std.specs.Prelude.{Contains, AllPairs}
+use Rattle.std.proofs.Common.{◌≡◌, ℕ, ◌<◌, ◌≤◌, ◌⊎◌, inl, inr, Bool, ◌&&◌, List, [], ◌∷◌, length, map, get_or, refl, ap, sym, subst, ◌∙◌, arith}
+use Rattle.std.specs.Prelude.{All, AllPairs, Contains}
 use Rattle.std.proofs.lemmas.Bool.{cases_lt, cases_order, and_parts, and_from}
 use Rattle.std.proofs.lemmas.List.{ext_get_or, get_or_past}
 use Rattle.std.proofs.lemmas.List.Elements.{All-contains, Contains-get_or}
@@ -52,6 +52,14 @@ settled_once accesses rules joined g h a b = settles_once (AreInConflict accesse
     (rules_among joined rules) g h a b
 
 -- Lists of the same elements, in an order that holds one way only, are one list.
+first_same : (R : ℕ → ℕ → Type 0) (x y : ℕ) (xs ys : List ℕ) → (R x y → R y x → ⊥) → All (R x) xs → All (R y) ys
+    → (y ≡ x) ⊎ Contains ys x → (x ≡ y) ⊎ Contains xs y → x ≡ y
+first_same R x y xs ys one_way r s f h = grind (arith, All-contains (R x) xs y r, All-contains (R y) ys x s)
+
+not_first : (R : ℕ → ℕ → Type 0) (x y i : ℕ) (xs ys : List ℕ) → x ≡ y → (R x x → ⊥) → All (R x) xs → Contains xs i
+    → (y ≡ i) ⊎ Contains ys i → Contains ys i
+not_first R x y i xs ys same once r c f = grind (arith, All-contains (R x) xs i r c)
+
 pub same_ordered : (R : ℕ → ℕ → Type 0) (xs ys : List ℕ)
     → ((i j : ℕ) → Contains xs i → Contains xs j → R i j → R j i → ⊥) → AllPairs R xs → AllPairs R ys
     → ((i : ℕ) → Contains xs i → Contains ys i) → ((i : ℕ) → Contains ys i → Contains xs i) → xs ≡ ys
@@ -61,25 +69,17 @@ same_ordered R (x ∷ xs) [] one_way r s f h = absurd (not_in_none x (f x (Conta
 same_ordered R (x ∷ xs) (y ∷ ys) one_way r s f h =
     let x_in : Contains (x ∷ xs) x = Contains-head x xs in
     let y_in : Contains (x ∷ xs) y = h y (Contains-head y ys) in
+    let after_x = AllPairs-head R x xs r in
+    let after_y = AllPairs-head R y ys s in
+    let first : x ≡ y =
+    first_same R x y xs ys (one_way x y x_in y_in) after_x after_y (Contains-cases y ys x (f x x_in))
+    (Contains-cases x xs y y_in) in
     let once : R x x → ⊥ = λ e. one_way x x x_in x_in e e in
-    let first : x ≡ y = elim (Contains-cases y ys x (f x x_in)) [
-      | inl e ↦ sym e
-      | inr c ↦ elim (Contains-cases x xs y y_in) [
-        | inl e ↦ e
-        | inr d ↦ absurd (one_way x y x_in y_in (All-contains (R x) xs y (AllPairs-head R x xs r) d)
-            (All-contains (R y) ys x (AllPairs-head R y ys s) c))
-      ]
-    ] in
     let rest : xs ≡ ys = same_ordered R xs ys (λ i j p q. one_way i j (Contains-tail x xs i p) (Contains-tail x xs j q))
     (AllPairs-tail R x xs r) (AllPairs-tail R y ys s)
-    (λ i c. elim (Contains-cases y ys i (f i (Contains-tail x xs i c))) [
-      | inl e ↦ absurd (once (subst (R x) (sym e ∙ sym first) (All-contains (R x) xs i (AllPairs-head R x xs r) c)))
-      | inr d ↦ d
-    ])
-    (λ i c. elim (Contains-cases x xs i (h i (Contains-tail y ys i c))) [
-      | inl e ↦ absurd (once (subst (λ k. R k x) (sym first) (subst (R y) (sym e) (All-contains (R y) ys i (AllPairs-head R y ys s) c))))
-      | inr d ↦ d
-    ]) in
+    (λ i c. not_first R x y i xs ys first once after_x c (Contains-cases y ys i (f i (Contains-tail x xs i c))))
+    (λ i c. not_first R y x i ys xs (sym first) (subst (λ k. R k k → ⊥) first once) after_y c
+    (Contains-cases x xs i (h i (Contains-tail y ys i c)))) in
     ap (λ k. k ∷ xs) first ∙ ap (λ ks. y ∷ ks) rest
 
 pub same_rising : (xs ys : List ℕ) → AllPairs (λ a b. a < b) xs → AllPairs (λ a b. a < b) ys

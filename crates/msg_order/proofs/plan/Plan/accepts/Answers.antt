@@ -23,7 +23,8 @@ loop-system-preserved _g c =
     let edges = seen_edges _ _ _ _ c.self.view_is c.self.invariant i s in
     let joined = seen_joined _ _ _ _ c.self.view_is c.self.invariant i in
     let within = c.self.invariant.within i in
-    grind (arith, edges, joined, within, c.loop-system.invariant.is_left i, meets-found (set_at before s) c.loop-system.left i))
+    let is_left = c.loop-system.invariant.is_left i in
+    grind (arith, edges, joined, within, is_left, meets-found (set_at before s) c.loop-system.left i))
     c.remove.ensures c.loop-system.invariant
 
 pub returns-then-system-len-clause-keeps_what_precedes : goal.returns-then-system-len-clause-keeps_what_precedes
