@@ -2,7 +2,8 @@
 use Rattle.std.proofs.Common.{arith, ◌≡◌, ℕ, ◌<◌, length, Bool, true, false, refl, sym, ap, subst, ◌∙◌, inl, inr, Option, Some, None}
 use Rattle.std.specs.Prelude.{ℤ, IfSome, IsSome, IsTrue, is_some, option_map, if◌then◌else◌}
 use Rattle.std.specs.Option.{option_or}
-use Rattle.std.proofs.lemmas.Bool.{and_from, cases_Bool, cases_eq, cases_lt, eq-eqb, ne_eqb, false≢true, or_left}
+use Rattle.std.proofs.lemmas.Bool.Decides.{eqb_tells}
+use Rattle.std.proofs.lemmas.Bool.{and_from, cases_Bool, cases_eq, cases_lt, false≢true, or_left}
 use Rattle.std.proofs.Math.ListN.{length-set}
 use Rattle.std.proofs.lemmas.List.{get_or-set_same, get_or-set_other, get_or_past}
 use Rattle.msg_buffer.specs.Prelude.{History, StandsFor}
@@ -21,23 +22,17 @@ abbrev pub with_signal : Parts → Parts
 with_signal w = record w { marks = option_map signalled_marks w.marks }
 
 pub with_signal_shape : (w : Parts) → SameShape w (with_signal w)
-with_signal_shape w = record { size = record { types = refl; resources = refl }; there = there }
-  where
-    there : (p : Part) → is_some (slot p (with_signal w)) ≡ is_some (slot p w)
-    there (OfType t) = refl
-    there (OfResource r) = refl
-    there Registry = still_some w.marks
+with_signal_shape w = record {
+  size = record { types = refl; resources = refl };
+  there = elim [ OfType t ↦ refl | OfResource r ↦ refl | Registry ↦ still_some w.marks ];
+}
 
 -- a loan of the registry, after a signal
 pub signal_stands : (l : Lent) (s : WorldState) → l.access.registry ≡ true → LoanStands l s
     → LoanStands (record l { taken = with_signal l.taken }) (after_signal s)
 signal_stands l s lent stand (OfType t) = stand (OfType t)
 signal_stands l s lent stand (OfResource r) = stand (OfResource r)
-signal_stands l s lent stand Registry =
-    let P : Bool → Type 0 = λ b. IfSome (if b then option_map signalled_marks l.taken.marks else None)
-    (λ k. k ≡ signalled_marks s.marks) in
-    let Q : Bool → Type 0 = λ b. IfSome (if b then l.taken.marks else None) (λ k. k ≡ s.marks) in
-    subst P (sym lent) (same_marks l.taken.marks s.marks (subst Q lent (stand Registry)))
+signal_stands l s lent stand Registry = grind (arith, same_marks l.taken.marks s.marks, stand Registry)
 
 -- ---- writing
 
@@ -62,25 +57,24 @@ writes_are l t k there =
     stands : (s : WorldState) (h : History Record) → StandsFor k h → LoanStands l s
         → IsTrue (writes l.access (OfType t)) → t < length l.taken.types
         → LoanStands (with_messages l t k) (with_history s t h)
-    stands s h here stand written lt (OfType u) = elim (cases_eq u t) [
-      | inl e ↦ rw (e, written, get_or-set_same l.taken.types t (Some k) None lt, eq-eqb t t refl) here
-      | inr ne ↦ rw (get_or-set_other l.taken.types t u (Some k) None ne, ne_eqb u t ne) (stand (OfType u))
-    ]
+    stands s h here stand written lt (OfType u) =
+        let set_there = get_or-set_same l.taken.types t (Some k) None lt in
+        grind (arith, eqb_tells, set_there, get_or-set_other l.taken.types t u (Some k) None, stand (OfType u))
     stands s h here stand written lt (OfResource r) = stand (OfResource r)
     stands s h here stand written lt Registry = stand Registry
 
 value_shape : (w : Parts) (r : ℕ) (z : ℤ) → r < length w.resources → IsSome (slot (OfResource r) w)
     → SameShape w (with_value w r z)
-value_shape w r z lt there =
-    record { size = record { types = refl; resources = length-set w.resources r (Some z) }; there = same }
-  where
-    same : (p : Part) → is_some (slot p (with_value w r z)) ≡ is_some (slot p w)
-    same (OfType t) = refl
-    same (OfResource q) = elim (cases_eq q r) [
-      | inl e ↦ rw (e, get_or-set_same w.resources r (Some z) None lt) (sym there)
-      | inr ne ↦ ap is_some (get_or-set_other w.resources r q (Some z) None ne)
-    ]
-    same Registry = refl
+value_shape w r z lt there = record {
+  size = record { types = refl; resources = length-set w.resources r (Some z) };
+  there = elim [
+    | OfType t ↦ refl
+    | OfResource q ↦
+        let set_there = get_or-set_same w.resources r (Some z) None lt in
+        grind (arith, cases_eq q r, set_there, get_or-set_other w.resources r q)
+    | Registry ↦ refl
+  ];
+}
 
 pub values_are_written : ValuesStand
 values_are_written l r z there =
@@ -93,10 +87,9 @@ values_are_written l r z there =
     stands : (s : WorldState) → LoanStands l s → IsTrue (writes l.access (OfResource r)) → r < length l.taken.resources
         → LoanStands (with_resource l r z) (with_value_of s r z)
     stands s stand written lt (OfType t) = stand (OfType t)
-    stands s stand written lt (OfResource q) = elim (cases_eq q r) [
-      | inl e ↦ rw (e, written, get_or-set_same l.taken.resources r (Some z) None lt, eq-eqb r r refl) refl
-      | inr ne ↦ rw (get_or-set_other l.taken.resources r q (Some z) None ne, ne_eqb q r ne) (stand (OfResource q))
-    ]
+    stands s stand written lt (OfResource q) =
+        let set_there = get_or-set_same l.taken.resources r (Some z) None lt in
+        grind (arith, eqb_tells, set_there, get_or-set_other l.taken.resources r q (Some z) None, stand (OfResource q))
     stands s stand written lt Registry = stand Registry
 
 -- ---- lending out
