@@ -128,7 +128,8 @@ shr-is_below mask n fits = (
   λ below. elim (cases_eq (mask / 2 ^ n) 0) [
     | inl e ↦ eq-eqb (mask / 2 ^ n) 0 e
     | inr ne ↦
-        let past : n + trailing_zeros w64 (mask / 2 ^ n) < n = below _ (next_is_set mask n fits ne) in absurd (omega arith)
+        let past : n + trailing_zeros w64 (mask / 2 ^ n) < n = below _ (next_is_set mask n fits ne) in
+        absurd (omega arith)
   ],
 )
 
