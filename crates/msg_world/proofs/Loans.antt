@@ -1,13 +1,13 @@
 -- What loans stand for.
-use Rattle.std.proofs.Common.{arith, ◌≡◌, ℕ, ◌<◌, length, Bool, true, false, refl, sym, ap, subst, ◌∙◌, inl, inr, Option, Some, None}
+use Rattle.std.proofs.Common.{arith, ◌≡◌, ℕ, ◌<◌, length, Bool, true, false, refl, subst, ◌∙◌, inr, Option, Some, None}
 use Rattle.std.specs.Prelude.{ℤ, IfSome, IsSome, IsTrue, is_some, option_map, if◌then◌else◌}
 use Rattle.std.specs.Option.{option_or}
 use Rattle.std.proofs.lemmas.Bool.Decides.{eqb_tells}
-use Rattle.std.proofs.lemmas.Bool.{and_from, cases_Bool, cases_eq, cases_lt, false≢true, or_left}
+use Rattle.std.proofs.lemmas.Bool.{false_from_ne_true, cases_Bool, cases_eq, cases_lt, false≢true}
 use Rattle.std.proofs.Math.ListN.{length-set}
 use Rattle.std.proofs.lemmas.List.{get_or-set_same, get_or-set_other, get_or_past}
 use Rattle.msg_buffer.specs.Prelude.{History, StandsFor}
-use Rattle.msg_world.specs.Prelude.{Access, HomeAgain, HomeMerges, LendsOut, Lent, LoanEnds, LoanStands, LoanStays, Marks, MayComeHome, OfResource, OfType, Part, Parts, PartsStand, Record, Registry, SameShape, Stuff, StuffStands, ValuesStand, WorldState, WritesStand, after_signal, content, merge, reads, signalled_marks, slot, uses, with_history, with_messages, with_resource, with_value, with_value_of, writable, writes}
+use Rattle.msg_world.specs.Prelude.{Access, HomeAgain, HomeMerges, LendsOut, Lent, LoanEnds, LoanStands, LoanStays, Marks, MayComeHome, OfResource, OfType, Part, Parts, PartsStand, Record, Registry, SameShape, Stuff, StuffStands, ValuesStand, WorldState, WritesStand, after_signal, content, merge, reads, signalled_marks, slot, with_history, with_messages, with_resource, with_value, with_value_of, writable, writes}
 use Rattle.msg_world.proofs.Worlds.{type_shape}
 use Rattle.std.proofs.lemmas.Option.{none-some}
 
@@ -105,17 +105,12 @@ chosen_stands p s b o z4 = grind arith
 
 pub loan_stays : LoanStays
 loan_stays a b world taken left others apart loan lends = record {
-  size =
-      record {
-        types = loan.size.types ∙ sym lends.left_size.types;
-        resources = loan.size.resources
-            ∙ sym lends.left_size.resources;
-      };
+  size = grind (arith, loan.size, lends.left_size);
   written = loan.written;
-  read = λ p read isnt. elim (cases_Bool (writes b p)) [
-    | inl is ↦ absurd (apart (p, inr (and_from (writes b p) (uses a p) is (or_left (reads a p) (writes a p) read))))
-    | inr free ↦ ap is_some (lends.stayed p) ∙ rw free (loan.read p read isnt)
-  ];
+  read = λ p read isnt.
+      let free : writes b p ≡ false = false_from_ne_true (writes b p) (λ is.
+      apart (p, inr (grind arith))) in
+      grind (arith, free, lends.stayed p, loan.read p read isnt);
 }
 
 -- ---- coming home
@@ -179,16 +174,13 @@ pub loan_ends : LoanEnds
 loan_ends a old left taken begun ended lends of owns same =
     let shape : SameShape taken ended.taken = subst (λ (w : Parts). SameShape w ended.taken) owns same.shape in
     let none : (p : Part) → writes a p ≡ false → slot p ended.taken ≡ None =
-    λ p isnt. no_slot (slot p ended.taken) (shape.there p ∙ (ap is_some (lends.moved p) ∙ rw isnt refl)) in
+    λ p isnt. no_slot (slot p ended.taken) (grind (arith, shape.there p, lends.moved p)) in
     let same_access : ended.access ≡ a = same.access ∙ of in (
       may_come_home a old left taken ended.taken lends shape,
       λ home back. (
         home_again a old left taken ended.taken home lends shape back,
-        λ s mine before after. home_merges a ended.taken left home mine s none
-            (λ p is. lends.stayed p ∙ rw is refl) back
-            (owned_where_written ended mine
-            (λ p isnt. none p (sym (ap (λ (b : Access). writes b p) same_access) ∙ isnt)) after)
-            (λ p. let P : Option (Stuff p) → Type 0 = λ o. IfSome o (λ k. StuffStands p k (content p s)) in
-            subst P (sym (lends.stayed p)) (chosen_stands p s (writes a p) (slot p old) (before p)).1),
+        λ s mine before after. home_merges a ended.taken left home mine s none (λ p is. grind (arith, lends.stayed p))
+            back (owned_where_written ended mine (λ p isnt. none p (grind (arith, same_access))) after)
+            (λ p. rw (lends.stayed p) (chosen_stands p s (writes a p) (slot p old) (before p)).1),
       ),
     )

@@ -24,8 +24,7 @@ loop-k-preserved g c =
       at_most = next.at_most;
       is_set = next.is_set;
       below = search rules;
-      room = let less = one_less c.args.mask c.loop-k.k set in let as_many = next.as_many in let one =
-          m.one_at_most in let room = i.room in let same = m.capacity in omega arith;
+      room = grind (arith, one_less c.args.mask c.loop-k.k set, next.as_many, m.one_at_most, i.room, m.capacity);
       moved =
           λ k. subst (λ b. at (placed (vec_len c.move_slot.new.from) c.move_slot.new.parts.items) k
           ≡ (if b then at c.args.from.now.items k else None)) (sym (bits k))

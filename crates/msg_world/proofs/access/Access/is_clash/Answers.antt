@@ -11,6 +11,8 @@ pub returns-else-share_bit : goal.returns-else-share_bit
 returns-else-share_bit c = record {
   clash = (
     λ t. let b = c.share_bit-else-share_bit.ensures.0 t in (OfResource b.0, b.1),
-    λ clash. grind (arith, is_clash-masks c.args.self.now clash, c.share_bit.ensures.1, c.share_bit-else-share_bit.ensures.1),
+    λ clash.
+        let masks = is_clash-masks c.args.self.now clash in
+        grind (arith, masks, c.share_bit.ensures.1, c.share_bit-else-share_bit.ensures.1),
   );
 }

@@ -13,7 +13,8 @@ pub returns : goal.returns
 returns c =
     let t = c.args.t in let number = c.number.ensures.number in let kept = c.in-Some.messages in
     let home = subst (λ (v : Parts). IsSome (slot (OfType t) v)) (sym c.self.view_is) c.requires.home in
-    let found = found_at c.self.inside.types.items t (Some kept) home (rw (number, c.in-Some.is) at c.index_mut-slot.ensures.value) in
+    let found = found_at c.self.inside.types.items t (Some kept) home
+    (rw (number, c.in-Some.is) at c.index_mut-slot.ensures.value) in
     let all = λ (s : WorldState) (stand : PartsStand c.args.self.now s).
     subst (λ (v : Parts). PartsStand v s) (sym c.self.view_is) stand in
     let here : (s : WorldState) → PartsStand c.args.self.now s
