@@ -1,5 +1,5 @@
 -- Bits of masks, as tests.
-use Rattle.std.proofs.Common.{◌≡◌, ◌≢◌, ℕ, zero, suc, ◌+◌, ◌*◌, ◌-◌, ◌/◌, ◌^◌, ◌%◌, ◌<◌, ◌≤◌, min, max, false, not, ◌&&◌, ◌||◌, inl, inr, ap, sym, ◌∙◌, arith, w64}
+use Rattle.std.proofs.Common.{◌≡◌, ◌≢◌, ℕ, zero, suc, ◌+◌, ◌*◌, ◌-◌, ◌/◌, ◌^◌, ◌%◌, ◌<◌, ◌≤◌, min, max, Bool, true, false, not, ◌&&◌, ◌||◌, inl, inr, ap, sym, ◌∙◌, arith, w64}
 use lib.Count.{ones_step}
 use Rattle.std.specs.Prelude.{◌==◌, ◌↔◌, IsTrue, bit_and, bit_or, count_ones, nat_lt, ◌⊎◌}
 use Rattle.std.proofs.Math.Bool.{and-true}
@@ -163,6 +163,10 @@ pub below_next : (mask n next : ℕ) → IsTrue (has_bit mask n) → n < next
     → ((k : ℕ) → n + 1 ≤ k → k < next → has_bit mask k ≡ false)
     → (k : ℕ) → (has_bit mask k && nat_lt k next) ≡ (k == n || (has_bit mask k && nat_lt k n))
 below_next mask n next set lt none k = grind (arith, cases_eq, eq-eqb, lt-ltb, cases_lt, ne_eqb, le-ltb)
+
+-- n itself isn't one of them
+pub none_itself : (bit : Bool) (k n : ℕ) → (k == n) ≡ true → (bit && nat_lt k n) ≡ false
+none_itself bit k n is = grind (arith, nat_tests)
 
 -- there are no others than those below 64
 pub all_below : (mask n : ℕ) → mask < 2 ^ 64 → 64 ≤ n → (k : ℕ) → (has_bit mask k && nat_lt k n) ≡ has_bit mask k

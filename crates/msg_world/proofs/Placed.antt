@@ -133,13 +133,13 @@ module _ {X : Type 0} where
       grind (arith, one_more, cases_eq, placed_length, eq-eqb, get_or-set_same, ne_eqb, get_or-set_other)
 
   -- what a slot holds after one slot was moved out, which wasn't among those before
-  pub one_moves : (bit same : Bool) (after from before first : Option X) → (same ≡ true → bit ≡ false) → after
-      ≡ (if same then from else before)
+  pub one_moves : (bit same next : Bool) (after from before first : Option X) → next ≡ (same || bit)
+      → (same ≡ true → bit ≡ false) → after ≡ (if same then from else before)
       → before ≡ (if bit then first else None) → from ≡ (if bit then None else first) → after
-      ≡ (if same || bit then first else None)
-  one_moves bit same after from before first z6 z7 z8 z9 = grind arith
+      ≡ (if next then first else None)
+  one_moves bit same next after from before first z5 z6 z7 z8 z9 = grind arith
 
-  pub one_leaves : (bit same : Bool) (after before first : Option X) → after ≡ (if same then None else before) → before
-      ≡ (if bit then None else first)
-      → after ≡ (if same || bit then None else first)
-  one_leaves bit same after before first z5 z6 = grind arith
+  pub one_leaves : (bit same next : Bool) (after before first : Option X) → next ≡ (same || bit)
+      → after ≡ (if same then None else before) → before ≡ (if bit then None else first)
+      → after ≡ (if next then None else first)
+  one_leaves bit same next after before first z4 z5 z6 = grind arith

@@ -1,6 +1,6 @@
 -- What a world stands for after each change, part by part.
-use Rattle.std.proofs.Common.{◌≡◌, ℕ, zero, suc, ◌<◌, Bool, true, false, List, [], ◌∷◌, length, map, refl, sym, subst, ◌∙◌, arith, inl, inr, Option, Some, None, Result, get_or}
-use Rattle.std.specs.Prelude.{ℤ, pos, IfErr, IfOk, OnOk, ◌&&◌, ◌||◌, ◌↔◌, not, IfSome, IsSome, IsSomeAnd, IsTrue, is_some, unwrap_or, slice_index, slice_index_or, slice_set, if◌then◌else◌}
+use Rattle.std.proofs.Common.{◌≡◌, ℕ, zero, suc, ◌<◌, Bool, true, false, List, [], ◌∷◌, length, map, refl, sym, subst, ◌∙◌, arith, inl, inr, Option, Some, None, get_or}
+use Rattle.std.specs.Prelude.{ℤ, pos, ◌&&◌, ◌||◌, ◌↔◌, not, IfSome, IsSome, IsSomeAnd, IsTrue, is_some, unwrap_or, slice_index, slice_index_or, slice_set, if◌then◌else◌}
 use Rattle.std.specs.Option.{option_or}
 use Rattle.std.proofs.Math.ListN.{length-set}
 use Rattle.std.proofs.lemmas.Bool.Decides.{eqb_tells}
@@ -63,12 +63,6 @@ others_update w s types m n is waiting spent all stand p =
 
 -- ---- a new world
 
-some_and : {X : Type 0} (o : Option X) (P : X → Type 0) → IsSomeAnd o P → IfSome o P
-some_and o P z2 = grind arith
-
-some_there : {X : Type 0} (o : Option X) (P : X → Type 0) → IsSomeAnd o P → IsSome o
-some_there o P z2 = grind arith
-
 none_stands : {X : Type 0} (o : Option X) (P : X → Type 0) → o ≡ None → IfSome o P
 none_stands o P z2 = grind arith
 
@@ -104,7 +98,7 @@ module _ (limits : List ℕ) (values : List ℤ) (types : List (Option (Kept Rec
   new_stands Registry = refl
 
   pub new_whole : IsWhole made
-  new_whole (OfType t) lt = some_there (at types t) _ (stand t (omega arith))
+  new_whole (OfType t) lt = grind (arith, stand t)
   new_whole (OfResource r) lt = values_there values r lt
   new_whole Registry has = refl
 
@@ -119,15 +113,6 @@ item_at xs i o lt read = get_or_default xs i None o lt ∙ sym read
 pub found_at : {X : Type 0} (xs : List (Option X)) (i : ℕ) (o : Option X) → IsSome (at xs i) → o ≡ get_or xs i o
     → (at xs i ≡ o) × (i < length xs)
 found_at xs i o there read = grind (arith, cases_lt, item_at, false≢true, get_or_past)
-
-pub on_ok : {T E : Type 0} (r : Result T E) (P Q : Type 0) → (P → Q) → OnOk r P → OnOk r Q
-on_ok r P Q z3 z4 = grind arith
-
-pub if_ok : {T E : Type 0} (r : Result T E) (P Q : T → Type 0) → ((x : T) → P x → Q x) → IfOk r P → IfOk r Q
-if_ok r P Q x z4 = grind arith
-
-pub if_err : {T E : Type 0} (r : Result T E) (P Q : E → Type 0) → ((e : E) → P e → Q e) → IfErr r P → IfErr r Q
-if_err r P Q e z4 = grind arith
 
 -- the buffer of a type stands for its history
 pub buffer_stands : (w : Parts) (s : WorldState) (t : ℕ) (k : Kept Record) → at w.types t ≡ Some k → PartsStand w s

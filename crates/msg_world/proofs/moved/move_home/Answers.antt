@@ -22,7 +22,8 @@ loop-slot-preserved g c =
       home_len = c.put_home.ensures.len ∙ i.home_len;
       below = popped.0;
       joined = λ k.
-          let home = last_home n c.pop.new.self.items m c.loop-slot.home.items popped.1 (search (rules, i.home_len)) k in
+          let home = last_home n c.pop.new.self.items m c.loop-slot.home.items popped.1
+          (search (rules, i.home_len)) k in
           grind (arith, home, c.put_home.ensures.items, c.in-Some.ensures.items, i.joined k);
     }
 

@@ -2,11 +2,12 @@ use Rattle.std.proofs.Common.{arith, rules, ◌∷◌, [], ap, sym, subst, Some,
 use mir.Val.{SFits}
 use mir.Syntax.{w64}
 use Rattle.std.proofs.lemmas.Int.{to_z-of_z}
+use Rattle.std.proofs.lemmas.Result.{IfErr-weaker, IfOk-weaker, on_ok_weaker}
 use Rattle.std.proofs.lemmas.Grind.{common_steps}
 use Rattle.std.specs.Prelude.{ℤ, IsSome}
 use Rattle.msg_buffer.specs.Prelude.{StandsFor, write}
 use Rattle.msg_world.specs.Prelude.{HOST, OfType, Parts, PartsStand, WorldState, by, slot}
-use Rattle.msg_world.proofs.Worlds.{buffer_stands, found_at, if_err, if_ok, on_ok, type_shape, type_stands}
+use Rattle.msg_world.proofs.Worlds.{buffer_stands, found_at, type_shape, type_stands}
 use Rattle.msg_world.proofs.world.World.post.Goals as goal
 
 pub returns : goal.returns
@@ -21,17 +22,17 @@ returns c =
     → StandsFor kept (s.histories t) = λ s stand. buffer_stands _ s t kept found.0 (all s stand) in
     let fits : SFits w64 c.args.value = search rules in
     rw number (record {
-      meaning = on_ok c.write.result _ _ (λ meaning s stand.
+      meaning = on_ok_weaker c.write.result (λ meaning s stand.
           let R : ℤ → Type 0 = λ z. StandsFor c.write.new.self (write (by HOST z ∷ []) (s.histories t)) in
           type_stands _ s t c.write.new.self _ found.1
           (subst R (to_z-of_z w64 c.args.value fits) (meaning (s.histories t) (here s stand))) (all s stand))
           c.write.ensures.meaning;
-      number = if_ok c.write.result _ _ (λ id is s stand. is (s.histories t) (here s stand)) c.write.ensures.number;
-      room = on_ok c.write.result _ _ (λ room s stand. room (s.histories t) (here s stand)) c.write.ensures.room;
-      spent = if_err c.write.result _ _ (λ e spent s stand. spent (s.histories t) (here s stand)) c.write.ensures.spent;
+      number = IfOk-weaker c.write.result _ _ (λ id is s stand. is (s.histories t) (here s stand)) c.write.ensures.number;
+      room = on_ok_weaker c.write.result (λ room s stand. room (s.histories t) (here s stand)) c.write.ensures.room;
+      spent = IfErr-weaker c.write.result _ _ (λ e spent s stand. spent (s.histories t) (here s stand)) c.write.ensures.spent;
       shape = rw (← c.self.view_is) (type_shape _ t c.write.new.self found.1 home);
       err = grind (arith, common_steps);
       handed_back =
-          if_err c.write.result _ _ (λ e same. same
+          IfErr-weaker c.write.result _ _ (λ e same. same
           ∙ ap (by HOST) (to_z-of_z w64 c.args.value fits)) c.write.ensures.handed_back;
     })
