@@ -27,9 +27,11 @@ returns c =
           type_stands _ s t c.write.new.self _ found.1
           (subst R (to_z-of_z w64 c.args.value fits) (meaning (s.histories t) (here s stand))) (all s stand))
           c.write.ensures.meaning;
-      number = IfOk-weaker c.write.result _ _ (λ id is s stand. is (s.histories t) (here s stand)) c.write.ensures.number;
+      number = IfOk-weaker c.write.result _ _ (λ id is s stand. is (s.histories t) (here s stand))
+          c.write.ensures.number;
       room = on_ok_weaker c.write.result (λ room s stand. room (s.histories t) (here s stand)) c.write.ensures.room;
-      spent = IfErr-weaker c.write.result _ _ (λ e spent s stand. spent (s.histories t) (here s stand)) c.write.ensures.spent;
+      spent = IfErr-weaker c.write.result _ _ (λ e spent s stand. spent (s.histories t) (here s stand))
+          c.write.ensures.spent;
       shape = rw (← c.self.view_is) (type_shape _ t c.write.new.self found.1 home);
       err = grind (arith, common_steps);
       handed_back =
