@@ -1,6 +1,6 @@
 -- Elements of lists, as the table names them (`get_elem?`) and as clauses do (`slice_get`).
 use Rattle.std.specs.Prelude.{slice_get}
-use Rattle.std.proofs.Common.{Bool, false, ◌∙◌, ◌+◌, ◌⊎◌, inl, inr, ⊎_elim, Some, ◌≡◌, ◌≢◌, ℕ, zero, suc, ◌<◌, List, [], ◌∷◌, ◌++◌, length, get_or, set, replicate, sym, refl, ap, subst, arith, get_or-set_other, get_or-set_same, length-set}
+use Rattle.std.proofs.Common.{Bool, false, ◌∙◌, ◌+◌, ◌⊎◌, ⊎_elim, Some, ◌≡◌, ℕ, zero, suc, ◌<◌, List, [], ◌∷◌, ◌++◌, length, get_or, set, replicate, sym, refl, ap, subst, arith, get_or-set_other, get_or-set_same, length-set}
 use Rattle.std.proofs.lemmas.Bool.{cases_eq, cases_lt}
 use Rattle.std.proofs.lemmas.List.{get_or-replicate, get_or_append_left, get_or_past, get_or_push, length-append, length-replicate}
 use Rattle.std.proofs.lemmas.Option.{get_or_from_slice_get, slice_get-get_or, slice_get_read, slice_get_within}
@@ -8,14 +8,6 @@ use mathlib.Core.Option.{some, some-injective, some-ne-none}
 use mathlib.Core.Option as maybe
 use lib.ListN.{get_elem?}
 use Rattle.atomic_table.proofs.Lists.{at_index}
-
--- a fact of each place holds after one word has changed, if it holds of the new word and held of the others
-pub by_place : (ws : List ℕ) (i n : ℕ) (P : ℕ → ℕ → Type 0) → i < length ws → P i n
-    → ((k : ℕ) → k ≢ i → P k (get_or ws k 0)) → (k : ℕ) → P k (get_or (set ws i n) k 0)
-by_place ws i n P inside here others k = elim (cases_eq k i) [
-  | inl e ↦ rw (e, get_or-set_same ws i n 0 inside) here
-  | inr ne ↦ rw (get_or-set_other ws i k n 0 ne) (others k ne)
-]
 
 -- a list of zeros has 0 at each place
 pub zero_at : (n k : ℕ) → (let zeros : List ℕ = replicate n 0 in get_or zeros k 0 ≡ 0)
