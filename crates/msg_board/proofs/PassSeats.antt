@@ -1,43 +1,35 @@
 -- From what a step tells of a seat to what a clause says of the pass.
 use Rattle.std.specs.List.{All, filter, flat_map}
-use Rattle.std.proofs.Common.{Bool, true, false, not, cond, ◌≡◌, ℕ, ◌+◌, ◌<◌, List, [], ◌∷◌, ◌++◌, length, sym, refl, ap, ◌∙◌, subst, arith, Option, Some, None, length-append, append-nil, eq-eqb, ne_eqb}
-use Rattle.std.proofs.lemmas.List.Elements.{All-head, All-tail, All-push, All-weaker, filter-append}
+use Rattle.std.proofs.Common.{Bool, true, false, not, ◌≡◌, ℕ, ◌+◌, ◌<◌, List, [], ◌∷◌, ◌++◌, length, refl, ap, ◌∙◌, arith, Some, None, length-append, append-nil}
+use Rattle.std.proofs.lemmas.List.Elements.{All-head, All-pop, All-push, All-tail, All-weaker, filter-append}
+use Rattle.std.proofs.lemmas.List.{flat_map_more}
+use Rattle.std.proofs.lemmas.Bool.Decides.{eqb_tells}
+use Rattle.std.proofs.lemmas.Bool.{false_from_ne_true}
 use mathlib.Core.Option.{some}
 use lib.ListN.{get_elem?}
 use Rattle.atomic_table.specs.declared.shared.Seat.{Seat}
 use Rattle.atomic_table.specs.Table.{Me}
-use Rattle.msg_board.specs.Prelude.{BoardView, Done, Drew, Empty, HandedIn, HasEnded, Inside, Job, PassState, Slot, View, freed, handed_in, is_held, jobs_of, taken, times, united}
+use Rattle.msg_board.specs.Prelude.{BoardView, Done, Drew, Empty, HandedIn, HasEnded, Inside, Job, PassState, Slot, View, drawn_by, freed, handed_in, is_held, jobs_of, taken, times, united}
 use Rattle.msg_board.specs.inner.Closing.{IsGathered}
 use Rattle.msg_board.specs.inner.Seats.{IsSeatOf}
 use Rattle.msg_board.specs.inner.Sound.{state_of, IsSound}
-use Rattle.msg_board.proofs.TableLists.{got, All-split_last}
-use Rattle.msg_board.proofs.Sums.{times-append, flat_map_push}
-
--- a truth value that isn't true is false
-not_true : (b : Bool) → (b ≡ true → ⊥) → b ≡ false
-not_true true = λ no. absurd (no refl)
-not_true false = λ _. refl
-
--- equal options have equal numbers
-some_same : (m n : ℕ) → Some m ≡ Some n → m ≡ n
-some_same m n e = ap (λ (o : Option ℕ). elim o as (λ _. ℕ) [ Some y ↦ y | None ↦ 0 ]) e
+use Rattle.msg_board.proofs.TableLists.{got}
+use Rattle.msg_board.proofs.Sums.{times-append}
 
 -- a filter that every element passes keeps the list
 filter_all : {X : Type 0} (p : X → Bool) (xs : List X) → All (λ x. p x ≡ true) xs → filter p xs ≡ xs
 filter_all p [] all = refl
-filter_all p (x ∷ xs) all = ap (λ b. cond b (x ∷ filter p xs) (filter p xs)) (All-head (λ x. p x ≡ true) x xs all)
-    ∙ ap (λ l. x ∷ l) (filter_all p xs (All-tail (λ x. p x ≡ true) x xs all))
+filter_all p (x ∷ xs) all =
+    grind (arith, All-head (λ x. p x ≡ true) x xs all, filter_all p xs (All-tail (λ x. p x ≡ true) x xs all))
 
 -- what was handed in and then the number that is held is what was drawn
 handed_in_and_held : (earlier : List ℕ) (k : ℕ) → All (λ n. n < k) earlier
     → earlier ++ k ∷ [] ≡ filter (λ n. not (is_held n (Some k))) (earlier ++ k ∷ []) ++ k ∷ []
-handed_in_and_held earlier k below = let other : ℕ → Bool = λ n. not (is_held n (Some k)) in
-    let kept : filter other earlier ≡ earlier =
-    filter_all other earlier (All-weaker (λ n. n < k) (λ n. other n ≡ true)
-    (λ n l. ap not (ne_eqb k n (λ e. omega arith))) earlier below) in
-    let gone : filter other (k ∷ []) ≡ [] = ap (λ b. cond (not b) (k ∷ []) []) (eq-eqb k k refl) in
-    sym (ap (λ l. l ++ k ∷ []) (filter-append other earlier (k ∷ [])
-    ∙ (ap (λ l. l ++ filter other (k ∷ [])) kept ∙ (ap (λ l. earlier ++ l) gone ∙ append-nil earlier))))
+handed_in_and_held earlier k below =
+    let other : ℕ → Bool = λ n. not (is_held n (Some k)) in
+    let kept = filter_all other earlier (All-weaker (λ n. n < k) (λ n. other n ≡ true)
+    (λ n l. grind (arith, eqb_tells)) earlier below) in
+    grind (arith, eqb_tells, kept, filter-append other earlier (k ∷ []), append-nil earlier)
 
 -- a pass that holds nothing has handed in all that it drew
 pub handed_in-idle : {J : Type 0} (p : PassState J) → p.holding ≡ None → handed_in p ≡ p.drawn
@@ -45,183 +37,78 @@ handed_in-idle p idle = ap (λ o. filter (λ k. not (is_held k o)) p.drawn) idle
     ∙ filter_all (λ _. true) p.drawn (λ k d l. refl)
 
 module _ {J D : Type 0} where
-  -- the result in a slot, or another
-  done_or : D → Slot J D → D
-  done_or d (Done e) = e
-  done_or d (Job j) = d
-  done_or d Empty = d
-
-  -- equal results lie in equal slots
-  pub done_same : (d e : D) → (let x : Slot J D = Done d in let y : Slot J D = Done e in x ≡ y) → d ≡ e
-  unfolding done_or
-  done_same d e h = ap (done_or d) h
-
-  -- the job in the first slot, or another
-  job_or : J → List (ℕ × Slot J D) → J
-  job_or d [] = d
-  job_or d (x ∷ xs) = elim (x.1) as (λ _. J) [ Empty ↦ d | Job j ↦ j | Done e ↦ d ]
-
-  -- equal jobs lie in equal slots that are out
-  pub job_same : (k : ℕ) (i j : J)
-      → (let xs : List (ℕ × Slot J D) = (k, Job i) ∷ [] in let ys : List (ℕ × Slot J D) = (k, Job j) ∷ [] in xs ≡ ys)
-      → i ≡ j
-  unfolding job_or
-  job_same k i j e = ap (job_or i) e
-
   -- A pass drew its next number: `drawn` is its seat after the step, and `seat` after it took the job out of the slot
   module _ (p : Inside J D) (drawn seat : Seat (Slot J D) (View J)) (j : J) (sound : IsSound p)
       (told : drawn.me ≡ (taken p.next p.seat.me.0, (p.next, Job j) ∷ []))
       (took : seat.me ≡ (drawn.me.0, (p.next, Empty) ∷ [])) where
-    -- its view is the one that the step gave
-    drew_view : seat.me.0 ≡ taken p.next p.seat.me.0
-    drew_view = ap (λ (m : Me (Slot J D) (View J)). m.0) took ∙ ap (λ (m : Me (Slot J D) (View J)). m.0) told
-
     -- its fields
     abbrev drew_pass : Inside J D
     drew_pass = record { seat = seat; next = p.next + 1; held = Some p.next; finished = p.finished }
 
     -- it is sound
     pub drew_sound : p.next < length p.seat.me.0.jobs → IsSound drew_pass
-    drew_sound more = let order = sound.order in record {
-      seat = record {
-        table = refl;
-        jobs = refl;
-        weight = ap (λ (v : View J). v.weight) drew_view ∙ sound.seat.weight;
-        next = ap (λ (v : View J). v.next) drew_view;
-        drawn = refl;
-        held = ap (λ (v : View J). v.held) drew_view;
-        out = ap (λ (m : Me (Slot J D) (View J)). m.1) took;
-      };
-      order = record {
-        within = omega (arith, ap (λ (v : View J). length v.jobs) drew_view);
-        all_tried = λ done. absurd (omega (arith, order.all_tried done));
-        below = subst (All (λ n. n < p.next + 1)) (sym (ap (λ (v : View J). v.drawn) drew_view))
-            (All-push (λ n. n < p.next + 1) p.seat.me.0.drawn p.next
-            (All-weaker (λ n. n < p.next) (λ n. n < p.next + 1) (λ n l. omega arith) p.seat.me.0.drawn order.below)
-            (omega arith));
-        last = λ k e. let same : p.next ≡ k = some_same p.next k e in (
-          p.seat.me.0.drawn,
-          ap (λ (v : View J). v.drawn) drew_view ∙ ap (λ n. p.seat.me.0.drawn ++ n ∷ []) same,
-          subst (λ n. All (λ m. m < n) p.seat.me.0.drawn) same order.below,
-        );
-      };
-    }
+    drew_sound more =
+        let seat_was = sound.seat in let order = sound.order in
+        let drawn_below = All-push (λ n. n < p.next + 1) p.seat.me.0.drawn p.next
+        (All-weaker (λ n. n < p.next) (λ n. n < p.next + 1) (λ n l. omega arith) p.seat.me.0.drawn order.below)
+        (omega arith) in
+        grind (arith, told, took, drawn_below)
 
-    -- and this is what it drew
-    drew_from : (jobs : List J) (job : J) → p.seat.me.0.jobs ≡ jobs → p.next < length jobs
-        → get_elem? p.seat.me.0.jobs p.next ≡ some j → drawn.me.1 ≡ (p.next, Job job) ∷ []
-        → Drew jobs (state_of p) (state_of drew_pass) p.next job
-    drew_from jobs job own more at was = let order = sound.order in
-        let same : job ≡ j = job_same p.next job j (sym was ∙ ap (λ (m : Me (Slot J D) (View J)). m.1) told) in record {
-          job_there =
-              got jobs p.next job (ap (λ (l : List J). get_elem? l p.next) (sym own)
-              ∙ (at ∙ ap (λ (y : J). some y) (sym same)));
-          within = more;
-          above = order.below;
-          untried = omega arith;
-          drawn = ap (λ (v : View J). v.drawn) drew_view;
-          holding = refl;
-          tried = refl;
-          unfinished =
-              not_true p.finished (λ done. absurd
-              (omega (arith, order.all_tried done, ap (λ (l : List J). length l) own)));
-        }
-
-    -- the same, of the state that callers see
+    -- and this is what it drew, of the state that callers see
     pub drew_said : (before : PassState J) (jobs : List J) (job : J) → state_of p ≡ before → before.jobs ≡ jobs
         → before.tried < length jobs → get_elem? p.seat.me.0.jobs p.next ≡ some j
         → drawn.me.1 ≡ (p.next, Job job) ∷ [] → Drew jobs before (state_of drew_pass) before.tried job
     drew_said before jobs job is own more at was =
-        subst (λ (q : PassState J). Drew jobs q (state_of drew_pass) q.tried job) is
-        (drew_from jobs job (ap (λ (q : PassState J). q.jobs) is ∙ own)
-        (omega (arith, ap (λ (q : PassState J). q.tried) is)) at was)
+        let order = sound.order in
+        grind (arith, told, took, was, false_from_ne_true, got p.seat.me.0.jobs p.next j at)
 
   -- A pass handed in what it held: `full` is its seat after it put the result into the slot, and `seat` after the step
   module _ (p : Inside J D) (full seat : Seat (Slot J D) (View J)) (k : ℕ) (d : D) (sound : IsSound p)
       (put : full.me ≡ (p.seat.me.0, (k, Done d) ∷ [])) (told : seat.me ≡ (freed full.me.0, [])) where
-    -- its view is the one that the step gave
-    handed_view : seat.me.0 ≡ freed p.seat.me.0
-    handed_view = ap (λ (m : Me (Slot J D) (View J)). m.0) told ∙ ap (λ (m : Me (Slot J D) (View J)). freed m.0) put
-
     -- its fields
     abbrev handed_pass : Inside J D
     handed_pass = record { seat = seat; next = p.next; held = None; finished = p.finished }
 
     -- it is sound
     pub handed_sound : IsSound handed_pass
-    handed_sound = let order = sound.order in record {
-      seat = record {
-        table = refl;
-        jobs = refl;
-        weight = ap (λ (v : View J). v.weight) handed_view ∙ sound.seat.weight;
-        next = ap (λ (v : View J). v.next) handed_view ∙ sound.seat.next;
-        drawn = refl;
-        held = ap (λ (v : View J). v.held) handed_view;
-        out = ap (λ (m : Me (Slot J D) (View J)). m.1) told;
-      };
-      order = record {
-        within = omega (arith, ap (λ (v : View J). length v.jobs) handed_view);
-        all_tried = λ done. omega (arith, order.all_tried done, ap (λ (v : View J). length v.jobs) handed_view);
-        below = subst (All (λ n. n < p.next)) (sym (ap (λ (v : View J). v.drawn) handed_view)) order.below;
-        last = λ k e. absurd (cc);
-      };
-    }
+    handed_sound =
+        let seat_was = sound.seat in let order = sound.order in
+        grind (arith, put, told)
 
-    -- and this is what the hand-in did
-    handed_from : p.held ≡ Some k → HandedIn (state_of p) (state_of handed_pass) k
-    handed_from has = let last = sound.order.last k has in
-        let drawn : seat.me.0.drawn ≡ p.seat.me.0.drawn = ap (λ (v : View J). v.drawn) handed_view in
-        record {
-          handed_in = handed_in-idle (state_of handed_pass) refl
-              ∙ (drawn ∙ (last.1 ∙ (handed_in_and_held last.0 k last.2
-              ∙ (ap (λ l. filter (λ n. not (is_held n (Some k))) l ++ k ∷ []) (sym last.1)
-              ∙ ap (λ o. filter (λ n. not (is_held n o)) p.seat.me.0.drawn ++ k ∷ []) (sym has)))));
-          holding = refl;
-          drawn = drawn;
-          tried = refl;
-          finished = refl;
-        }
-
-    -- the same, of the state that callers see
+    -- and this is what the hand-in did, of the state that callers see
     pub handed_said : (before : PassState J) → state_of p ≡ before → before.holding ≡ Some k
         → HandedIn before (state_of handed_pass) k
-    handed_said before is has = subst (λ (q : PassState J). HandedIn q (state_of handed_pass) k) is
-        (handed_from (ap (λ (q : PassState J). q.holding) is ∙ has))
+    handed_said before is has =
+        let last = sound.order.last k (ap (λ q. q.holding) is ∙ has) in
+        grind (arith, put, told, last, handed_in_and_held last.0 k last.2, handed_in-idle (state_of handed_pass))
 
 -- a pass holds a number below the number of jobs
 pub held_within : {J D : Type 0} (p : Inside J D) (k : ℕ) → IsSound p → p.held ≡ Some k
     → k < length p.seat.me.0.jobs
-held_within p k sound has = let last = sound.order.last k has in
-    let l : k < p.next =
-    (All-split_last (λ n. n < p.next) last.0 k (subst (All (λ n. n < p.next)) last.1 sound.order.below)).1 in
-    let within = sound.order.within in omega arith
+held_within p k sound has =
+    let last = sound.order.last k has in
+    let below = All-pop (λ n. n < p.next) p.seat.me.0.drawn last.0 (Some k) last.1 sound.order.below in
+    grind (arith, sound.order.within, below)
 
 -- a pass that has a number left to try isn't finished
 pub unfinished_more : {J D : Type 0} (p : Inside J D) (q : PassState J) → IsSound p → state_of p ≡ q
     → q.tried < length q.jobs → q.finished ≡ false
-unfinished_more p q sound is more =
-    not_true q.finished (λ done. absurd
-    (omega (
-      arith,
-      sound.order.all_tried (ap (λ q. q.finished) is ∙ done),
-      ap (λ q. q.tried) is,
-      ap (λ q. length q.jobs) is,
-    )))
+unfinished_more p q sound is more = grind (arith, false_from_ne_true, sound.order.all_tried)
 
 -- passes that have ended have handed in all that they drew
 pub all_handed_in : {J : Type 0} (ps : List (PassState J)) → All (λ p. p.holding ≡ None) ps
     → flat_map handed_in ps ≡ flat_map (λ p. p.drawn) ps
 all_handed_in [] all = refl
-all_handed_in {J = J} (p ∷ ps) all = let idle : PassState J → Type 0 = λ p. p.holding ≡ None in
-    ap (λ l. l ++ flat_map handed_in ps) (handed_in-idle p (All-head idle p ps all))
-    ∙ ap (λ l. p.drawn ++ l) (all_handed_in ps (All-tail idle p ps all))
+all_handed_in {J = J} (p ∷ ps) all =
+    let idle : PassState J → Type 0 = λ p. p.holding ≡ None in
+    grind (arith, handed_in-idle p (All-head idle p ps all), all_handed_in ps (All-tail idle p ps all))
 
 -- how often k was drawn by the passes, with one more pass
 times_more : {J : Type 0} (k : ℕ) (qs ps : List (PassState J)) (p : PassState J) → qs ≡ ps ++ p ∷ []
     → times k (flat_map (λ p. p.drawn) qs) ≡ times k (flat_map (λ p. p.drawn) ps) + times k p.drawn
-times_more {J = J} k qs ps p is = let drawn : PassState J → List ℕ = λ p. p.drawn in
-    ap (λ l. times k (flat_map drawn l)) is
-    ∙ (ap (times k) (flat_map_push drawn ps p) ∙ times-append k (flat_map drawn ps) p.drawn)
+times_more {J = J} k qs ps p is =
+    let drawn : PassState J → List ℕ = λ p. p.drawn in
+    grind (arith, flat_map_more drawn [] ps p, times-append k (flat_map drawn ps) p.drawn)
 
 module _ {J D : Type 0} where
   -- the seat has the views of all passes but ps
@@ -240,17 +127,11 @@ module _ {J D : Type 0} where
       (seat : Seat (Slot J D) (View J))
       → All (HasEnded b) all → all ≡ ps ++ p ∷ []
       → IsSeatOf p seat → (p.finished ≡ true → p.tried ≡ length p.jobs) → Gathering b all ps seat
-  gathers_first b all ps p seat every is of all_tried = let parts =
-      All-split_last (HasEnded b) ps p (subst (All (HasEnded b)) is every) in
-      let weight = of.weight in record {
-        table = of.table ∙ parts.1.own.table;
-        count = omega (arith, ap (λ (l : List (PassState J)). length l) is, length-append ps (p ∷ []));
-        live = omega arith;
-        next = of.next ∙ (all_tried parts.1.finished ∙ ap (λ (l : List J). length l) parts.1.own.jobs);
-        held = of.held ∙ parts.1.holding;
-        drawn = λ k. omega (arith, ap (times k) of.drawn, times_more k all ps p is);
-        ended = parts.0;
-      }
+  gathers_first b all ps p seat every is of all_tried =
+      let parts = All-pop (HasEnded b) all ps (Some p) is every in
+      let drawn : (k : ℕ) → times k seat.me.0.drawn + times k (drawn_by ps) ≡ times k (drawn_by all)
+      = λ k. omega (arith, ap (times k) of.drawn, times_more k all ps p is) in
+      grind (arith, parts, of, all_tried, length-append ps (p ∷ []), drawn)
 
   -- and takes in the others, one by one
   pub gathers : (b : BoardView J) (all qs ps : List (PassState J)) (p : PassState J)
@@ -258,27 +139,18 @@ module _ {J D : Type 0} where
       → Gathering b all qs seat → qs ≡ ps ++ p ∷ [] → IsSeatOf p other
       → next.table_id ≡ seat.table_id → next.me ≡ (united seat.me.0 other.me.0, seat.me.1)
       → Gathering b all ps next
-  gathers b all qs ps p seat other next before is of here now = let parts =
-      All-split_last (HasEnded b) ps p (subst (All (HasEnded b)) is before.ended) in
-      let weight = of.weight in let live = before.live in
-      let sum : next.me.0.weight ≡ seat.me.0.weight + other.me.0.weight =
-      ap (λ (m : Me (Slot J D) (View J)). m.0.weight) now in record {
-        table = here ∙ before.table;
-        count = omega (arith, before.count, ap (λ (l : List (PassState J)). length l) is, length-append ps (p ∷ []));
-        live = omega arith;
-        next = ap (λ (m : Me (Slot J D) (View J)). m.0.next) now ∙ before.next;
-        held = ap (λ (m : Me (Slot J D) (View J)). m.0.held) now ∙ before.held;
-        drawn =
-            λ k. omega (
-              arith,
-              before.drawn k,
-              ap (λ (m : Me (Slot J D) (View J)). times k m.0.drawn) now,
-              times-append k seat.me.0.drawn other.me.0.drawn,
-              ap (times k) of.drawn,
-              times_more k qs ps p is,
-            );
-        ended = parts.0;
-      }
+  gathers b all qs ps p seat other next before is of here now =
+      let parts = All-pop (HasEnded b) qs ps (Some p) is before.ended in
+      let drawn : (k : ℕ) → times k next.me.0.drawn + times k (drawn_by ps) ≡ times k (drawn_by all)
+      = λ k. omega (
+        arith,
+        before.drawn k,
+        ap (λ (m : Me (Slot J D) (View J)). times k m.0.drawn) now,
+        times-append k seat.me.0.drawn other.me.0.drawn,
+        ap (times k) of.drawn,
+        times_more k qs ps p is,
+      ) in
+      grind (arith, parts, of, before, now, length-append ps (p ∷ []), drawn)
 
   -- until there are none left
   pub gathered : (b : BoardView J) (all ps : List (PassState J)) (seat : Seat (Slot J D) (View J))

@@ -1,17 +1,22 @@
 -- Each step keeps the law.
 use Rattle.std.specs.List.{sum_by}
-use Rattle.std.proofs.Common.{◌≡◌, ◌≢◌, ℕ, zero, suc, ◌+◌, ◌<◌, ◌≤◌, max, List, [], ◌∷◌, ◌++◌, map, length, get_or, set, sym, refl, ap, ◌∙◌, subst, ⊎_elim, arith, Some, None, length-set, get_or-set_other}
+use Rattle.std.proofs.Common.{◌≡◌, ◌≢◌, ℕ, ◌+◌, ◌<◌, ◌≤◌, max, List, [], ◌∷◌, ◌++◌, map, length, get_or, set, sym, refl, ap, ◌∙◌, subst, inl, inr, ⊎_elim, arith, Some, None, length-set, get_or-set_other, get_or-set_same}
+use Rattle.std.proofs.lemmas.Bool.{cases_eq, cases_lt}
+use Rattle.std.proofs.lemmas.Bool.Decides.{eqb_tells}
+use Rattle.std.proofs.lemmas.List.{get_or_past, set-get_or}
 use Rattle.std.proofs.lemmas.List.Sums.{sum_by-append}
 use mathlib.Core.Logic.{dite}
 use mathlib.Core.Option.{none, some, some-injective, some-ne-none}
 use mathlib.Core.Option as maybe
-use native.Mathlib.Decide.{ℕ_discrete, dec_le}
+use native.Mathlib.Decide.{ℕ_discrete}
 use lib.ListN.{get_elem?, length-map}
+use Rattle.atomic_table.specs.declared.shared.Seat.{Seat}
 use Rattle.atomic_table.specs.Table.{State, Me, Step, step, Act, keeps, takes, gives, Valid, carried_after, stepped, Allows, Splits, Joins, Final, Seen, opening}
 use Rattle.atomic_table.proofs.Lists.{at_set, set_here, set_else, at_snoc, at_map}
-use Rattle.msg_board.specs.Prelude.{Done, Drawing, DrawsJob, HandingIn, Holds, HoldsEachOnce, IsHeldAlone, IsSlotOf, IsViewOf, Job, Slot, View, draws_at, freed, holders_at, is_held, one_of, spent, taken, times, tried, united, whole, without_one}
-use Rattle.msg_board.proofs.TableLists.{by_place, there, inside_of, past}
-use Rattle.msg_board.proofs.Sums.{sum_by-set, term_le, terms_le, sole, one_if, one_at, none_at, times-append, times_push}
+use Rattle.msg_board.specs.Prelude.{BoardView, Done, Drawing, DrawsJob, HandingIn, Holds, HoldsEachOnce, IsHeldAlone, IsSlotOf, IsViewOf, Job, PassState, Slot, View, draws_at, drawn_by, freed, holders_at, is_held, jobs_of, one_of, passes_of, spent, taken, times, tried, united, whole, without_one}
+use Rattle.msg_board.specs.inner.Closing.{IsGathered}
+use Rattle.msg_board.proofs.TableLists.{there, read_at}
+use Rattle.msg_board.proofs.Sums.{sum_by-set_at, term_le, terms_le, sole, one_if, times-append, times_push}
 
 module _ {J D : Type 0} (lawful : J → D → Type 0) (jobs : List J) (passes : ℕ) where
   -- states of the table, seats, and the law
@@ -42,27 +47,23 @@ module _ {J D : Type 0} (lawful : J → D → Type 0) (jobs : List J) (passes : 
       → w.weight ≡ v.weight → Lawful record { words = set s.words i n; homes = homes; views = set s.views id w }
   moved s r i n id v w homes inside at small rises long others here known holding drawing weigh =
       let wide = r.words in let near : i < length s.words = omega arith in
+      let set_there = get_or-set_same s.words i n 0 near in
       record {
         words = length-set s.words i n ∙ wide;
         slots = long ∙ r.slots;
-        at_most_two = by_place s.words i n (λ k x. x ≤ 2) near small (λ k _. r.at_most_two k);
+        at_most_two = λ k. grind (arith, cases_eq k i, set_there, get_or-set_other s.words i k n 0, r.at_most_two k);
         further = get_or-set_other s.words i (length jobs) n 0 (λ e. omega arith) ∙ r.further;
-        each_slot =
-            by_place s.words i n (λ k x. (j : J) → get_elem? jobs k ≡ some j
-            → IsSlotOf lawful j x (get_elem? homes k)) near here
-            (λ k ne j is. subst (IsSlotOf lawful j (get_or s.words k 0)) (sym (others k ne)) (r.each_slot k j is));
+        each_slot = λ k j is. elim (cases_eq k i) [
+          | inl e ↦ rw (e, set_there) (here j (rw e at is))
+          | inr ne ↦ rw (get_or-set_other s.words i k n 0 ne, others k ne) (r.each_slot k j is)
+        ];
         each_view = λ by u is. ⊎_elim (λ (t : (by ≡ id) × (w ≡ u)). subst (IsViewOf jobs (set s.words i n)) t.1 known)
-            (λ (t : (by ≢ id) × (get_elem? s.views by ≡ some u)). let old = r.each_view by u t.1 in record {
-              same_jobs = old.same_jobs;
-              within = old.within;
-              tried = λ live k l. by_place s.words i n (λ k x. get_or s.words k 0 ≢ 0 → x ≢ 0) near rises (λ k _ h. h) k
-                  (old.tried live k l);
-              spent_drawn = old.spent_drawn;
-              spent_held = old.spent_held;
-            }) (at_set s.views id by w u is);
-        held = λ k. omega (arith, sum_by-set (holds_one k) s.views id v w at, r.held k, holding k);
-        drawn = λ k. omega (arith, sum_by-set (λ u. times k u.drawn) s.views id v w at, r.drawn k, drawing k);
-        weights = omega (arith, sum_by-set (λ u. u.weight) s.views id v w at, r.weights);
+            (λ (t : (by ≢ id) × (get_elem? s.views by ≡ some u)). let old = r.each_view by u t.1 in
+            grind (arith, cases_eq, get_or-set_same s.words i n 0 near, get_or-set_other s.words i, rises, old))
+            (at_set s.views id by w u is);
+        held = λ k. omega (arith, sum_by-set_at (holds_one k) s.views id v w at, r.held k, holding k);
+        drawn = λ k. omega (arith, sum_by-set_at (λ u. times k u.drawn) s.views id v w at, r.drawn k, drawing k);
+        weights = omega (arith, sum_by-set_at (λ u. u.weight) s.views id v w at, r.weights);
       }
 
   -- `fetch_max` with 1 makes 0 a 1, and leaves all else
@@ -76,14 +77,8 @@ module _ {J D : Type 0} (lawful : J → D → Type 0) (jobs : List J) (passes : 
   tried_more : (ws : List ℕ) (i n : ℕ) (v w : View J) → IsViewOf jobs ws v → 0 < v.weight → i < length ws
       → i < length jobs → v.next ≡ i → n ≢ 0 → w.jobs ≡ v.jobs → w.weight ≡ v.weight → w.next ≡ i + 1
       → IsViewOf jobs (set ws i n) w
-  tried_more ws i n v w old live near inside is rises same_jobs weigh next = record {
-    same_jobs = λ _. same_jobs ∙ old.same_jobs live;
-    within = λ _. omega arith;
-    tried = λ _ k l. by_place ws i n (λ k x. k < w.next → x ≢ 0) near (λ _. rises)
-        (λ k ne l. old.tried live k (omega arith)) k l;
-    spent_drawn = λ z. absurd (omega arith);
-    spent_held = λ z. absurd (omega arith);
-  }
+  tried_more ws i n v w old live near inside is rises same_jobs weigh next =
+      grind (arith, cases_eq, get_or-set_same ws i n 0 near, get_or-set_other ws i, old)
 
   -- a draw is allowed where word i becomes n
   abbrev Draws : St → M → ℕ → ℕ → ℕ → ℕ → Type 0
@@ -101,24 +96,23 @@ module _ {J D : Type 0} (lawful : J → D → Type 0) (jobs : List J) (passes : 
     -- it finds 0, and takes the job out
     finds_zero : get_or s.words i 0 ≡ 0
         → Lawful record { words = set s.words i 1; homes = set s.homes i none; views = set s.views id (taken i v) }
-    finds_zero zero_there = let long = r.slots in moved s r i 1 id v (taken i v) (set s.homes i none) inside at
+    finds_zero zero_there =
+        let long = r.slots in let set_there = get_or-set_same s.words i 1 0 near in
+        moved s r i 1 id v (taken i v) (set s.homes i none) inside at
         (omega arith) (λ _. (λ e. omega arith)) (length-set s.homes i none)
         (λ k ne. set_else s.homes i k none ne)
-        (λ j' is'. record {
-          waiting = λ e. absurd (omega arith);
-          out = λ _. set_here s.homes i none (omega arith);
-          done = λ e. absurd (omega arith);
-        })
+        (λ j' is'. grind (arith, set_here s.homes i none))
         (tried_more s.words i 1 v (taken i v) (r.each_view id v at) live near inside is
         (λ e. omega arith) refl refl refl)
-        (by_place s.words i 1 (λ k y. holds_one k (taken i v) + holders_at (get_or s.words k 0)
-        ≡ holds_one k v + holders_at y) near
-        (omega (arith, ap (λ o. one_if (is_held i o)) free, ap holders_at zero_there, one_at i i refl))
-        (λ k ne. omega (arith, ap (λ o. one_if (is_held k o)) free, none_at k i (λ e. ne (sym e)))))
-        (by_place s.words i 1 (λ k y. times k (taken i v).drawn + draws_at (get_or s.words k 0)
-        ≡ times k v.drawn + draws_at y) near
-        (omega (arith, times_push i v.drawn i, ap draws_at zero_there, one_at i i refl))
-        (λ k ne. omega (arith, times_push k v.drawn i, none_at k i (λ e. ne (sym e)))))
+        (λ k. grind (arith, eqb_tells, cases_eq k i, set_there, get_or-set_other s.words i k 1 0))
+        (λ k. grind (
+          arith,
+          eqb_tells,
+          times_push k v.drawn i,
+          cases_eq k i,
+          set_there,
+          get_or-set_other s.words i k 1 0,
+        ))
         refl
 
     -- it finds another number, and leaves it there
@@ -133,22 +127,18 @@ module _ {J D : Type 0} (lawful : J → D → Type 0) (jobs : List J) (passes : 
         (λ j' is'. r.each_slot i j' is')
         (tried_more s.words i x v (tried v) (r.each_view id v at) live near inside is more refl refl
         (ap (λ n. n + 1) is))
-        (by_place s.words i x (λ k y. holds_one k v + holders_at (get_or s.words k 0)
-        ≡ holds_one k v + holders_at y) near refl (λ k ne. refl))
-        (by_place s.words i x (λ k y. times k v.drawn + draws_at (get_or s.words k 0)
-        ≡ times k v.drawn + draws_at y) near refl (λ k ne. refl))
+        (λ k. ap (λ ws. holds_one k v + holders_at (get_or ws k 0)) (sym (set-get_or s.words i 0)))
+        (λ k. ap (λ ws. times k v.drawn + draws_at (get_or ws k 0)) (sym (set-get_or s.words i 0)))
         refl
 
   -- what the step tells, where it finds 0 and where it doesn't
   tells_drawn : (st : Step (Slot J D)) (before after : M) (found : ℕ) → st.word ≡ before.0.next → st.first ≡ 1
       → found ≡ 0 → DrawsJob st.word before after → Drawing st before found after
-  tells_drawn st before after found is one hit drawn =
-      record { word = is; operand = one; found_zero = λ _. drawn; found_more = λ miss. absurd (miss hit) }
+  tells_drawn st before after found is one hit drawn = grind arith
 
   tells_tried : (st : Step (Slot J D)) (before after : M) (found : ℕ) → st.word ≡ before.0.next → st.first ≡ 1
       → found ≢ 0 → after ≡ (tried before.0, []) → Drawing st before found after
-  tells_tried st before after found is one miss so =
-      record { word = is; operand = one; found_zero = λ hit. absurd (miss hit); found_more = λ _. so }
+  tells_tried st before after found is one miss so = grind arith
 
   -- a draw: `fetch_max` with 1 on the view's next word
   pub draws : (slots id : ℕ) (me : M) (i : ℕ) → me.1 ≡ [] → 0 < me.0.weight → me.0.held ≡ None → me.0.next ≡ i
@@ -176,42 +166,30 @@ module _ {J D : Type 0} (lawful : J → D → Type 0) (jobs : List J) (passes : 
       ))
 
   -- a word whose number is held is 1
-  held_is_one : (w : ℕ) → 0 < holders_at w → w ≡ 1
-  held_is_one zero h = absurd (omega arith)
-  held_is_one (suc zero) h = refl
-  held_is_one (suc (suc w)) h = absurd (omega arith)
+  word_is_one : (s : St) (k : ℕ) → Lawful s → (by : ℕ) (v : View J) → get_elem? s.views by ≡ some v → v.held ≡ Some k
+      → get_or s.words k 0 ≡ 1
+  word_is_one s k r by v at has = grind (arith, eqb_tells, term_le (holds_one k) s.views by v at, r.held k)
+
+  -- past the words of the jobs there is 0
+  zero_far : (s : St) (k : ℕ) → Lawful s → length jobs ≤ k → get_or s.words k 0 ≡ 0
+  zero_far s k r far = grind (arith, cases_eq k (length jobs), r.further, r.words, get_or_past s.words k 0)
 
   -- a number that a view holds is held by no other, and its slot is out
   pub held_alone : (s : St) (k : ℕ) → Lawful s → IsHeldAlone s k
-  held_alone s k r = let one : (by : ℕ) (v : View J) → get_elem? s.views by ≡ some v → v.held ≡ Some k
-      → get_or s.words k 0 ≡ 1 = λ by v at has.
-      held_is_one (get_or s.words k 0)
-      (omega (
-        arith,
-        term_le (holds_one k) s.views by v at,
-        r.held k,
-        ap (λ o. one_if (is_held k o)) has,
-        one_at k k refl,
-      )) in
-      record {
-        by_one = λ by other v w at there_is has also. dite (ℕ_discrete by other) (λ same. same)
-            (λ apart. absurd (omega (
-              arith,
-              terms_le (holds_one k) s.views by other v w (λ e. apart (sym e)) at there_is,
-              r.held k,
-              ap holders_at (one by v at has),
-              ap (λ o. one_if (is_held k o)) has,
-              ap (λ o. one_if (is_held k o)) also,
-              one_at k k refl,
-            )));
-        slot_out = λ by v at has. let is_one = one by v at has in let wide = r.words in
-            let inside : k < length jobs = dite (dec_le (length jobs) k)
-            (λ far. absurd (dite (ℕ_discrete k (length jobs))
-            (λ e. omega (arith, r.further, ap (λ (n : ℕ). get_or s.words n 0) e))
-            (λ ne. omega (arith, past s.words k (omega arith)))))
-            (λ near. omega arith) in
-            let job = there jobs k inside in (r.each_slot k job.0 job.1).out is_one;
-      }
+  held_alone s k r = record {
+    by_one = λ by other v w at there_is has also. grind (
+      arith,
+      terms_le (holds_one k) s.views by other v w,
+      r.held k,
+      word_is_one s k r by v at has,
+      eqb_tells,
+    );
+    slot_out = λ by v at has. let is_one = word_is_one s k r by v at has in
+        elim (cases_lt k (length jobs)) [
+          | inl near ↦ let job = there jobs k near in (r.each_slot k job.0 job.1).out is_one
+          | inr far ↦ absurd (omega (arith, zero_far s k r far))
+        ];
+  }
 
   -- a hand-in: a store of 2 on the word of the number that is held
   hands_in : (slots id : ℕ) (v : View J) (k : ℕ) (j : J) (d : D) → 0 < v.weight → v.held ≡ Some k
@@ -221,17 +199,9 @@ module _ {J D : Type 0} (lawful : J → D → Type 0) (jobs : List J) (passes : 
   hands_in slots id v k j d live has is fair s r deep at small =
       let knows = r.each_view id v at in
       let is' : get_elem? jobs k ≡ some j = ap (λ (l : List J). get_elem? l k) (sym (knows.same_jobs live)) ∙ is in
-      let inside = inside_of jobs k j is' in let wide = r.words in let long = r.slots in
+      let inside = (read_at jobs k j is').0 in let wide = r.words in let long = r.slots in
       let near : k < length s.words = omega arith in
-      let one : get_or s.words k 0 ≡ 1 =
-      held_is_one (get_or s.words k 0)
-      (omega (
-        arith,
-        term_le (holds_one k) s.views id v at,
-        r.held k,
-        ap (λ o. one_if (is_held k o)) has,
-        one_at k k refl,
-      )) in (
+      let one = word_is_one s k r id v at has in let set_there = get_or-set_same s.words k 2 0 near in (
         freed v,
         gives,
         tt,
@@ -247,22 +217,16 @@ module _ {J D : Type 0} (lawful : J → D → Type 0) (jobs : List J) (passes : 
                     subst (λ (y : J). lawful y d) (some-injective j j' (sym is' ∙ is'')) fair,
                   );
             })
-            (record {
-              same_jobs = knows.same_jobs;
-              within = knows.within;
-              tried = λ live i l. by_place s.words k 2 (λ i x. i < v.next → x ≢ 0) near (λ _. (λ e. omega arith))
-                  (λ i ne l. knows.tried live i l) i l;
-              spent_drawn = λ z. absurd (omega arith);
-              spent_held = λ z. absurd (omega arith);
-            })
-            (by_place s.words k 2 (λ i y. holds_one i (freed v) + holders_at (get_or s.words i 0)
-            ≡ holds_one i v + holders_at y) near
-            (omega (arith, ap (λ o. one_if (is_held k o)) has, ap holders_at one, one_at k k refl))
-            (λ i ne. omega (arith, ap (λ o. one_if (is_held i o)) has, none_at i k (λ e. ne (sym e)))))
-            (by_place s.words k 2 (λ i y. times i v.drawn + draws_at (get_or s.words i 0)
-            ≡ times i v.drawn + draws_at y) near
-            (omega (arith, ap draws_at one))
-            (λ i ne. refl))
+            (grind (arith, cases_eq, set_there, get_or-set_other s.words k, knows))
+            (λ i. grind (
+              arith,
+              eqb_tells,
+              cases_eq i k,
+              one,
+              set_there,
+              get_or-set_other s.words k i 2 0,
+            ))
+            (λ i. grind (arith, cases_eq i k, one, set_there, get_or-set_other s.words k i 2 0))
             refl,
         record { word = has; operand = (refl, refl); result = (d, refl); given_back = refl },
       )
@@ -281,7 +245,7 @@ module _ {J D : Type 0} (lawful : J → D → Type 0) (jobs : List J) (passes : 
       let old = r.each_view id v at in let vs : List (View J) = set s.views id (without_one v) in
       let both : (g : View J → ℕ) → sum_by g (vs ++ one_of v ∷ []) + g v
       ≡ sum_by g s.views + g (without_one v) + g (one_of v)
-      = λ g. omega (arith, sum_by-append g vs (one_of v ∷ []), sum_by-set g s.views id v (without_one v) at) in
+      = λ g. omega (arith, sum_by-append g vs (one_of v ∷ []), sum_by-set_at g s.views id v (without_one v) at) in
       record {
         words = r.words;
         slots = r.slots;
@@ -290,22 +254,10 @@ module _ {J D : Type 0} (lawful : J → D → Type 0) (jobs : List J) (passes : 
         each_slot = r.each_slot;
         each_view = λ by u is. ⊎_elim
             (λ (t : get_elem? vs by ≡ some u). ⊎_elim
-            (λ (q : (by ≡ id) × (without_one v ≡ u)). subst (IsViewOf jobs s.words) q.1 (record {
-              same_jobs = λ _. old.same_jobs (omega arith);
-              within = λ _. old.within (omega arith);
-              tried = λ _. old.tried (omega arith);
-              spent_drawn = λ z. absurd (omega arith);
-              spent_held = λ z. absurd (omega arith);
-            }))
+            (λ (q : (by ≡ id) × (without_one v ≡ u)). subst (IsViewOf jobs s.words) q.1 (grind (arith, old)))
             (λ (q : (by ≢ id) × (get_elem? s.views by ≡ some u)). r.each_view by u q.1)
             (at_set s.views id by (without_one v) u t))
-            (λ (t : one_of v ≡ u). subst (IsViewOf jobs s.words) t (record {
-              same_jobs = λ _. old.same_jobs (omega arith);
-              within = λ _. omega arith;
-              tried = λ _ i l. absurd (omega arith);
-              spent_drawn = λ _. refl;
-              spent_held = λ _. refl;
-            }))
+            (λ (t : one_of v ≡ u). subst (IsViewOf jobs s.words) t (grind (arith, old.same_jobs)))
             (at_snoc vs (one_of v) u by is);
         held = λ k. omega (arith, both (holds_one k), r.held k);
         drawn = λ k. omega (arith, both (λ u. times k u.drawn), r.drawn k);
@@ -319,7 +271,7 @@ module _ {J D : Type 0} (lawful : J → D → Type 0) (jobs : List J) (passes : 
       let old = r.each_view id v at in let vs : List (View J) = set s.views id (united v w) in
       let both : (g : View J → ℕ) → sum_by g (set vs other spent) + g w + g v
       ≡ sum_by g s.views + g (united v w) + g spent
-      = λ g. omega (arith, sum_by-set g s.views id v (united v w) at, sum_by-set g vs other w spent them) in
+      = λ g. omega (arith, sum_by-set_at g s.views id v (united v w) at, sum_by-set_at g vs other w spent them) in
       record {
         words = r.words;
         slots = r.slots;
@@ -327,21 +279,9 @@ module _ {J D : Type 0} (lawful : J → D → Type 0) (jobs : List J) (passes : 
         further = r.further;
         each_slot = r.each_slot;
         each_view = λ by u is. ⊎_elim
-            (λ (t : (by ≡ other) × (spent ≡ u)). subst (IsViewOf jobs s.words) t.1 (record {
-              same_jobs = λ z. absurd (omega arith);
-              within = λ z. absurd (omega arith);
-              tried = λ z. absurd (omega arith);
-              spent_drawn = λ _. refl;
-              spent_held = λ _. refl;
-            }))
+            (λ (t : (by ≡ other) × (spent ≡ u)). subst (IsViewOf jobs s.words) t.1 (grind arith))
             (λ (t : (by ≢ other) × (get_elem? vs by ≡ some u)). ⊎_elim
-            (λ (q : (by ≡ id) × (united v w ≡ u)). subst (IsViewOf jobs s.words) q.1 (record {
-              same_jobs = λ _. old.same_jobs live;
-              within = λ _. old.within live;
-              tried = λ _. old.tried live;
-              spent_drawn = λ z. absurd (omega arith);
-              spent_held = λ z. absurd (omega arith);
-            }))
+            (λ (q : (by ≡ id) × (united v w ≡ u)). subst (IsViewOf jobs s.words) q.1 (grind (arith, old)))
             (λ (q : (by ≢ id) × (get_elem? s.views by ≡ some u)). r.each_view by u q.1)
             (at_set s.views id by (united v w) u t.1))
             (at_set vs other by spent u is);
@@ -359,19 +299,12 @@ module _ {J D : Type 0} (lawful : J → D → Type 0) (jobs : List J) (passes : 
     slots = length-map xs some ∙ (ap length is ∙ length-map jobs Job);
     at_most_two = λ k. omega (arith, zeros k);
     further = zeros (length jobs);
-    each_slot = λ k j at. record {
-      waiting = λ _. at_map some xs k (Job j) (ap (λ (l : List (Slot J D)). get_elem? l k) is ∙ at_map Job jobs k j at);
-      out = λ e. absurd (omega (arith, zeros k));
-      done = λ e. absurd (omega (arith, zeros k));
-    };
+    each_slot = λ k j at.
+        let home = at_map {B = maybe.Option (Slot J D)} some xs k (Job j) in
+        grind (arith, zeros k, home, at_map {B = Slot J D} Job jobs k j at);
     each_view = λ by u at. ⊎_elim (λ (t : get_elem? [] by ≡ some u). absurd (some-ne-none u (sym t)))
-        (λ (t : whole jobs passes ≡ u). subst (IsViewOf jobs ws) t (record {
-          same_jobs = λ _. refl;
-          within = λ _. omega arith;
-          tried = λ _ i l. absurd (omega arith);
-          spent_drawn = λ _. refl;
-          spent_held = λ _. refl;
-        })) (at_snoc [] (whole jobs passes) u by at);
+        (λ (t : whole jobs passes ≡ u). subst (IsViewOf jobs ws) t (grind arith))
+        (at_snoc [] (whole jobs passes) u by at);
     held = λ k. sym (ap holders_at (zeros k));
     drawn = λ k. sym (ap draws_at (zeros k));
     weights = omega arith;
@@ -382,27 +315,18 @@ module _ {J D : Type 0} (lawful : J → D → Type 0) (jobs : List J) (passes : 
   AllDone xs = (length xs ≡ length jobs)
       × ((k : ℕ) (j : J) → get_elem? jobs k ≡ some j → (d : D) × (get_elem? xs k ≡ some (Done d)) × lawful j d)
 
-  -- a word that is neither 0 nor 1 is 2
-  word_two : (w : ℕ) → w ≤ 2 → w ≢ 0 → w ≢ 1 → w ≡ 2
-  word_two w h a b = omega arith
-
-  -- a word above 0 was drawn once
-  drawn_once : (w : ℕ) → w ≢ 0 → draws_at w ≡ 1
-  drawn_once zero n = absurd (n refl)
-  drawn_once (suc w) n = refl
-
   -- the last seat stands for all passes, has tried every word and holds nothing: every result is in, and it drew each
   -- number once
-  pub closes : (id : ℕ) (v : View J) (ws : List ℕ) (xs : List (Slot J D)) → Final (Seen Lawful id v) ws xs
-      → v.weight ≡ passes → 0 < passes → v.next ≡ length jobs → v.held ≡ None
-      → AllDone xs × HoldsEachOnce (length jobs) v.drawn
-  closes id v ws xs f all some-pass done free =
+  closes : (id : ℕ) (v : View J) (ws : List ℕ) (xs : List (Slot J D)) (numbers : List ℕ)
+      → Final (Seen Lawful id v) ws xs → v.weight ≡ passes → 0 < passes → v.next ≡ length jobs → v.held ≡ None
+      → ((k : ℕ) → times k v.drawn ≡ times k numbers) → AllDone xs × HoldsEachOnce (length jobs) numbers
+  closes id v ws xs numbers f all some-pass done free same =
       let s = f.0 in let r = f.1.0 in let at = f.1.1 in let live : 0 < v.weight = omega arith in
       let knows = r.each_view id v at in
       let others : (k : ℕ) (u : View J) → k ≢ id → get_elem? s.views k ≡ some u → u.weight
       ≡ 0 = λ k u ne there. omega (arith, terms_le (λ u. u.weight) s.views id k v u ne at there, r.weights) in
-      let drawn_at : (k : ℕ) → times k v.drawn ≡ draws_at (get_or s.words k 0) = λ k.
-      sym (sole (λ u. times k u.drawn) s.views id v at
+      let drawn_at : (k : ℕ) → times k numbers ≡ draws_at (get_or s.words k 0) = λ k.
+      sym (same k) ∙ sym (sole (λ u. times k u.drawn) s.views id v at
       (λ i u ne there. ap (times k) ((r.each_view i u there).spent_drawn (others i u ne there)))) ∙ r.drawn k in
       let out_at : (k : ℕ) → holders_at (get_or s.words k 0) ≡ 0 = λ k.
       sym (r.held k) ∙ (sole (holds_one k) s.views id v at
@@ -411,17 +335,24 @@ module _ {J D : Type 0} (lawful : J → D → Type 0) (jobs : List J) (passes : 
       let deep = r.slots in let wide = r.words in let long = f.3 in (
         (
           omega arith,
-          λ k j is. let inside = inside_of jobs k j is in
+          λ k j is. let inside = (read_at jobs k j is).0 in
               let ended =
-              (r.each_slot k j is).done
-              (word_two (get_or s.words k 0) (r.at_most_two k) (knows.tried live k (omega arith))
-              (λ e. omega (arith, out_at k, ap holders_at e))) in
+              (r.each_slot k j is).done (grind (arith, r.at_most_two k, knows.tried live k, out_at k)) in
               (ended.0, f.4 k (Done ended.0) ended.1, ended.2),
         ),
         record {
-          once = λ k near. drawn_at k ∙ drawn_once (get_or s.words k 0) (knows.tried live k (omega arith));
-          no_other = λ k far. drawn_at k
-              ∙ ap draws_at (dite (ℕ_discrete k (length jobs)) (λ e. ap (λ (y : ℕ). get_or s.words y 0) e ∙ r.further)
-              (λ ne. past s.words k (omega arith)));
+          once = λ k near. grind (arith, drawn_at k, knows.tried live k);
+          no_other = λ k far. drawn_at k ∙ ap draws_at (zero_far s k r far);
         },
       )
+
+-- the same, of the board that callers see
+pub closes_board : {J D : Type 0} (lawful : J → D → Type 0) (b view : BoardView J) (ps : List (PassState J))
+    (seat : Seat (Slot J D) (View J)) (ws : List ℕ) (xs : List (Slot J D))
+    → Final (Seen (Holds lawful (jobs_of b) (passes_of b)) seat.id seat.me.0) ws xs → 0 < passes_of b → b ≡ view
+    → length ps ≡ passes_of view → IsGathered view ps seat
+    → AllDone lawful (jobs_of view) (passes_of view) xs × HoldsEachOnce (length (jobs_of view)) (drawn_by ps)
+closes_board lawful b view ps seat ws xs final some-pass is all of =
+    closes lawful (jobs_of view) (passes_of view) seat.id seat.me.0 ws xs (drawn_by ps)
+    (subst (λ v. Final (Seen (Holds lawful (jobs_of v) (passes_of v)) seat.id seat.me.0) ws xs) is final)
+    (of.weight ∙ all) (omega (arith, ap passes_of is)) of.next of.held of.drawn

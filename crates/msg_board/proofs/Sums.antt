@@ -1,25 +1,21 @@
 -- Sums and counts over lists that change at one place.
-use Rattle.std.specs.List.{sum_by, flat_map}
-use Rattle.std.proofs.Common.{Bool, ◌≡◌, ◌≢◌, ℕ, zero, suc, ◌+◌, ◌≤◌, List, [], ◌∷◌, ◌++◌, set, sym, refl, ap, ◌∙◌, arith, cond, eq-eqb, ne_eqb, ◌==◌, append-nil, append_assoc}
-use Rattle.std.proofs.lemmas.List.Sums.{sum_by-cons, sum_by-append}
+use Rattle.std.specs.List.{sum_by}
+use Rattle.std.proofs.Common.{Bool, ◌≡◌, ◌≢◌, ℕ, zero, suc, ◌+◌, ◌≤◌, List, [], ◌∷◌, ◌++◌, set, sym, refl, ap, arith, cond, ◌==◌}
+use Rattle.std.proofs.lemmas.List.Sums.{get_or-le-sum_by, sum_by-append, sum_by-cons, sum_by-set, sum_by_push}
 use mathlib.Core.Option.{some, some-injective, some-ne-none}
 use lib.ListN.{get_elem?}
 use Rattle.msg_board.specs.Prelude.{times}
+use Rattle.msg_board.proofs.TableLists.{read_at}
 
 module _ {A : Type 0} (g : A → ℕ) where
   -- the sum after one element has changed
-  pub sum_by-set : (l : List A) (j : ℕ) (v w : A) → get_elem? l j ≡ some v
+  pub sum_by-set_at : (l : List A) (j : ℕ) (v w : A) → get_elem? l j ≡ some v
       → sum_by g (set l j w) + g v ≡ sum_by g l + g w
-  sum_by-set [] j v w e = absurd (some-ne-none v (sym e))
-  sum_by-set (x ∷ xs) zero v w e = omega (arith, ap g (some-injective x v e), sum_by-cons g x xs, sum_by-cons g w xs)
-  sum_by-set (x ∷ xs) (suc j) v w e =
-      omega (arith, sum_by-set xs j v w e, sum_by-cons g x xs, sum_by-cons g x (set xs j w))
+  sum_by-set_at l j v w e = let at = read_at l j v e in omega (arith, sum_by-set g l j w v at.0, ap g at.1)
 
   -- no term is above the sum
   pub term_le : (l : List A) (j : ℕ) (v : A) → get_elem? l j ≡ some v → g v ≤ sum_by g l
-  term_le [] j v e = absurd (some-ne-none v (sym e))
-  term_le (x ∷ xs) zero v e = omega (arith, ap g (some-injective x v e), sum_by-cons g x xs)
-  term_le (x ∷ xs) (suc j) v e = omega (arith, term_le xs j v e, sum_by-cons g x xs)
+  term_le l j v e = let at = read_at l j v e in omega (arith, get_or-le-sum_by g l j v at.0, ap g at.1)
 
   -- nor are two terms together
   pub terms_le : (l : List A) (j k : ℕ) (v u : A) → k ≢ j → get_elem? l j ≡ some v → get_elem? l k ≡ some u
@@ -43,30 +39,15 @@ module _ {A : Type 0} (g : A → ℕ) where
       → ((k : ℕ) (u : A) → k ≢ j → get_elem? l k ≡ some u → g u ≡ 0) → sum_by g l ≡ g v
   sole [] j v e z = absurd (some-ne-none v (sym e))
   sole (x ∷ xs) zero v e z =
-      omega (
-        arith,
-        ap g (some-injective x v e),
-        sum_by-zeros xs (λ k u d. z (suc k) u (λ h. omega arith) d),
-        sum_by-cons g x xs,
-      )
+      let rest = sum_by-zeros xs (λ k u d. z (suc k) u (λ h. omega arith) d) in
+      omega (arith, ap g (some-injective x v e), sum_by-cons g x xs)
   sole (x ∷ xs) (suc j) v e z =
-      omega (
-        arith,
-        z 0 x (λ h. omega arith) refl,
-        sole xs j v e (λ k u n d. z (suc k) u (λ h. n (omega arith)) d),
-        sum_by-cons g x xs,
-      )
+      let rest = sole xs j v e (λ k u n d. z (suc k) u (λ h. n (omega arith)) d) in
+      omega (arith, z 0 x (λ h. omega arith) refl, sum_by-cons g x xs)
 
 -- 1 where a test is true, as `count_by` adds it
 abbrev pub one_if : Bool → ℕ
 one_if b = cond b 1 0
-
--- a number counts once at itself, and not at another
-pub one_at : (k n : ℕ) → n ≡ k → one_if (n == k) ≡ 1
-one_at k n e = ap one_if (eq-eqb n k e)
-
-pub none_at : (k n : ℕ) → n ≢ k → one_if (n == k) ≡ 0
-none_at k n ne = ap one_if (ne_eqb n k ne)
 
 -- how often a number stands in two lists, one after the other
 pub times-append : (k : ℕ) (xs ys : List ℕ) → times k (xs ++ ys) ≡ times k xs + times k ys
@@ -74,10 +55,4 @@ times-append k xs ys = sum_by-append (λ n. one_if (n == k)) xs ys
 
 -- and in a list with one more number at its end
 pub times_push : (k : ℕ) (xs : List ℕ) (n : ℕ) → times k (xs ++ n ∷ []) ≡ times k xs + one_if (n == k)
-times_push k xs n = omega (arith, times-append k xs (n ∷ []))
-
--- the lists of all but the last, and then the last
-pub flat_map_push : {X : Type 0} (f : X → List ℕ) (xs : List X) (x : X)
-    → flat_map f (xs ++ x ∷ []) ≡ flat_map f xs ++ f x
-flat_map_push f [] x = append-nil (f x)
-flat_map_push f (y ∷ ys) x = ap (λ l. f y ++ l) (flat_map_push f ys x) ∙ sym (append_assoc (f y) (flat_map f ys) (f x))
+times_push k xs n = sum_by_push (λ m. one_if (m == k)) xs n

@@ -1,23 +1,23 @@
 -- Taking the systems of an order one after the other.
-use Rattle.std.proofs.Common.{◌≡◌, ◌≢◌, ℕ, zero, suc, ◌+◌, ◌<◌, ◌⊎◌, inl, inr, Bool, true, false, not, ◌&&◌, List, length, get_or, ap, sym, subst, ◌∙◌, arith}
+use Rattle.std.proofs.Common.{◌≡◌, ℕ, ◌+◌, ◌<◌, ◌⊎◌, inl, inr, Bool, true, false, not, ◌&&◌, List, length, get_or, sym, subst, ◌∙◌, arith}
 use Rattle.std.specs.Prelude.{◌==◌}
-use Rattle.std.proofs.lemmas.Bool.{cases_eq, false≢true, and_parts, ne_eqb, not-true, eqb-false}
+use Rattle.std.specs.List.{list_any, range_with_len}
+use Rattle.std.proofs.lemmas.Bool.Decides.{eqb_tells}
+use Rattle.std.proofs.lemmas.Bool.{cases_Bool, cases_eq, eqb-true, eq-eqb, false≢true}
 use Rattle.std.proofs.lemmas.List.{get_or_default}
 use Rattle.msg_order.specs.Prelude.{Graph, IsEdge, IsLawfulOrder, StandsBefore, has_joined}
+use Rattle.msg_order.proofs.SystemSets.{below_some, some_below}
 use Rattle.msg_order.proofs.TurnOrders.{stands, places_of, place_of, of_place, one_place}
 
 -- i stands among the first k, or not
 pub find_place : (order : List ℕ) (i k : ℕ) → ((a : ℕ) × ((a < k) × (get_or order a 0 ≡ i)))
     ⊎ ((a : ℕ) → a < k → get_or order a 0 ≡ i → ⊥)
-find_place order i zero = inr (λ a h e. absurd (omega arith))
-find_place order i (suc k) = elim (cases_eq (get_or order k 0) i) [
-  | inl e ↦ inl (k, (omega arith, e))
-  | inr e ↦ elim (find_place order i k) [
-    | inl f ↦ inl (f.0, (omega (arith, f.1.0), f.1.1))
-    | inr f ↦ inr (λ a h x. elim (cases_eq a k)
-        [ inl y ↦ e (subst (λ z. get_or order z 0 ≡ i) y x) | inr y ↦ f a (omega arith) x ])
-  ]
-]
+find_place order i k =
+    let test : ℕ → Bool = λ a. get_or order a 0 == i in
+    elim (cases_Bool (list_any test (range_with_len 0 k))) [
+      | inl t ↦ let f = below_some test k t in inl (f.0, (f.1.0, eqb-true (get_or order f.0 0) i f.1.1))
+      | inr e ↦ inr (λ a l x. false≢true (sym e ∙ some_below test k a l (eq-eqb (get_or order a 0) i x)))
+    ]
 
 -- the first k of the order were taken, and these are left
 pub record AreTaken (g : Graph) (joined : List Bool) (order : List ℕ) (k : ℕ) (left : ℕ → Bool) : Type 0 where
@@ -37,34 +37,11 @@ pub taken_next : (g : Graph) (joined : List Bool) (left next : ℕ → Bool) (or
     → ((i : ℕ) → next i ≡ (not (i == s) && left i)) → AreTaken g joined order k left
     → AreTaken g joined order (k + 1) next
 taken_next g joined left next order k s at on open_ step t = record {
-  is_left = λ i e.
-      let q = and_parts (not (i == s)) (left i) (sym (step i) ∙ e) in
-      let l = t.is_left i q.1 in (
-        l.0,
-        λ a h x. elim (cases_eq a k) [
-          | inl y ↦ eqb-false i s (not-true (i == s) q.0) (sym x ∙ ap (λ z. get_or order z 0) y ∙ sym at)
-          | inr y ↦ l.1 a (omega arith) x
-        ],
-      );
-  stays = λ i e h.
-      let ne : i ≢ s = λ x. h k (omega arith) (sym at ∙ sym x) in
-      step i ∙ ap (λ b. not b && left i) (ne_eqb i s ne) ∙ t.stays i e (λ a l. h a (omega arith));
-  among = λ a h. elim (cases_eq a k) [
-    | inl y ↦ subst (λ z. has_joined joined (get_or order z 0) ≡ true) (sym y)
-        (subst (λ z. has_joined joined z ≡ true) at (t.is_left s on).0)
-    | inr y ↦ t.among a (omega arith)
-  ];
-  once = λ a b h l x. elim (cases_eq b k) [
-    | inl y ↦ (t.is_left s on).1 a (omega arith) (x ∙ ap (λ z. get_or order z 0) y ∙ sym at)
-    | inr y ↦ t.once a b h (omega arith) x
-  ];
-  before = λ b h i e p. elim (cases_eq b k) [
-    | inl y ↦ elim (find_place order i k) [
-      | inl f ↦ (f.0, (omega (arith, f.1.0), f.1.1))
-      | inr f ↦ absurd (open_ i (t.stays i e f) (subst (λ z. IsEdge g i z) (ap (λ z. get_or order z 0) y ∙ sym at) p))
-    ]
-    | inr y ↦ t.before b (omega arith) i e p
-  ];
+  is_left = λ i e. grind (arith, eqb_tells, cases_eq, step i, t.is_left i);
+  stays = λ i e h. grind (arith, eqb_tells, step i, t.stays i, h k);
+  among = λ a h. grind (arith, cases_eq, t.among, t.is_left s);
+  once = λ a b h l x. grind (arith, cases_eq, t.is_left s, t.once a b);
+  before = λ b h i e p. grind (arith, cases_eq, find_place order i k, open_ i, t.stays i, t.before b);
 }
 
 -- where all were taken and none is left, the order is lawful
@@ -91,28 +68,21 @@ taken_all g joined left order among t none =
           stands order i j a.0 b.0 a.1.0 b.1.0 a.1.1 b.1.1;
     }
 
--- Why an order isn't lawful.
-pub not_joined : (g : Graph) (joined : List Bool) (order : List ℕ) (k s : ℕ) → s ≡ get_or order k 0 → k < length order
-    → has_joined joined s ≡ false → IsLawfulOrder g joined order → ⊥
-not_joined g joined order k s at l off w = false≢true (sym off ∙ (w.of_joined s).0 (of_place order s k l (sym at)))
+-- a lawful order goes on with one that is left, before which none is left
+pub goes_on : (g : Graph) (joined : List Bool) (left : ℕ → Bool) (order : List ℕ) (k : ℕ) → k < length order
+    → AreTaken g joined order k left → IsLawfulOrder g joined order
+    → (left (get_or order k 0) ≡ true) × ((i : ℕ) → left i ≡ true → IsEdge g i (get_or order k 0) → ⊥)
+goes_on g joined left order k l t w =
+    let s : ℕ = get_or order k 0 in (
+      grind (arith, find_place order s k, t.stays s, w.of_joined s, of_place order s k, w.once),
+      λ i on e.
+          let b : StandsBefore order i s = w.kept i s e in
+          let p = places_of order i s b in
+          let same : b.later ≡ k = one_place order b.later k w.once p.below l p.second in
+          (t.is_left i on).1 b.earlier (omega (arith, p.in_order)) p.first,
+    )
 
-pub not_left : (g : Graph) (joined : List Bool) (left : ℕ → Bool) (order : List ℕ) (k s : ℕ) → s ≡ get_or order k 0
-    → k < length order → left s ≡ false → AreTaken g joined order k left → IsLawfulOrder g joined order → ⊥
-not_left g joined left order k s at l off t w = elim (find_place order s k) [
-  | inl f ↦ w.once f.0 k 0 f.1.0 l (f.1.1 ∙ at)
-  | inr f ↦ false≢true (sym off ∙ t.stays s ((w.of_joined s).0 (of_place order s k l (sym at))) f)
-]
-
-pub not_open : (g : Graph) (joined : List Bool) (left : ℕ → Bool) (order : List ℕ) (k s i : ℕ) → s ≡ get_or order k 0
-    → k < length order → left i ≡ true → IsEdge g i s → AreTaken g joined order k left
-    → IsLawfulOrder g joined order → ⊥
-not_open g joined left order k s i at l on e t w =
-    let b : StandsBefore order i s = w.kept i s e in
-    let p = places_of order i s b in
-    let same : b.later ≡ k = one_place order b.later k w.once p.below l (p.second ∙ at) in
-    (t.is_left i on).1 b.earlier (omega (arith, p.in_order)) p.first
-
+-- and has none left at its end
 pub not_all : (g : Graph) (joined : List Bool) (left : ℕ → Bool) (order : List ℕ) (i : ℕ) → left i ≡ true
     → AreTaken g joined order (length order) left → IsLawfulOrder g joined order → ⊥
-not_all g joined left order i on t w = let q = t.is_left i on in let a =
-    place_of order i ((w.of_joined i).1 q.0) in q.1 a.0 a.1.0 a.1.1
+not_all g joined left order i on t w = grind (arith, t.is_left i, w.of_joined i, place_of order i)

@@ -1,19 +1,19 @@
 -- Batches, level by level: what is left after m of them are the systems in which a chain of m edges ends.
-use Rattle.std.proofs.Common.{◌≡◌, ℕ, zero, suc, ◌+◌, ◌<◌, ◌≤◌, ◌⊎◌, inl, inr, Bool, true, false, not, cond, ◌&&◌, List, [], ◌∷◌, ◌++◌, length, get_or, ap, sym, subst, ◌∙◌, arith, length-append}
-use Rattle.std.specs.Prelude.{◌↔◌, Contains, All, filter}
+use Rattle.std.proofs.Common.{◌≡◌, ℕ, zero, suc, ◌+◌, ◌<◌, ◌⊎◌, inl, inr, Bool, true, false, not, cond, ◌&&◌, List, [], ◌∷◌, ◌++◌, length, ap, sym, subst, ◌∙◌, arith, length-append}
+use Rattle.std.specs.Prelude.{◌↔◌, Contains, All, count_by, filter}
+use Rattle.std.proofs.lemmas.List.Sums.{length-filter, sum_by-cons}
 use Rattle.std.specs.List.{range_with_len}
 use Rattle.std.specs.List.Sorted.{IsStrictlyIncreasing}
-use Rattle.std.proofs.lemmas.Bool.{cases_Bool, cases_eq, cases_lt, and_parts, and_from, false≢true, not-true, not_from_false, false_from_ne_true}
-use Rattle.std.proofs.lemmas.List.{get_or_past, get_or_append_left}
-use Rattle.std.proofs.lemmas.List.Elements.{All-push, Contains-get_or}
+use Rattle.std.proofs.lemmas.Bool.{cases_Bool, cases_eq, cases_lt, and_from, false≢true, not_from_false, false_from_ne_true}
+use Rattle.std.proofs.lemmas.List.{get_or_past, get_or_push, get_or_append_left}
+use Rattle.std.proofs.lemmas.List.Elements.{All-push}
 use Rattle.std.proofs.lemmas.List.Kept.{IsStrictlyIncreasing-filter}
 use Rattle.std.proofs.lemmas.List.FromFn.{length-range_with_len, get_or-range_with_len}
-use Rattle.std.proofs.Math.Seq.{get_or-append_seam}
 use Rattle.msg_order.specs.Prelude.{AreBatches, Graph, IsAcyclic, IsBatchNumber, IsEdge, SystemSet, batch_at, has_joined}
 use Rattle.msg_order.specs.inner.Paths.{path, set_at, ArePaths}
 use Rattle.msg_order.specs.inner.SystemSet.{has, meets}
 use Rattle.msg_order.proofs.SystemSets.{meets-found, meets-true}
-use Rattle.msg_order.proofs.Elements.{not_in_none, filter-Contains, Contains-filter, range-Contains, Contains-range}
+use Rattle.msg_order.proofs.Elements.{not_in_none, filter-Contains, Contains-filter, Contains-range}
 use Rattle.msg_order.proofs.Chains.{Ends, ends_less, ends_at_most, ends_along, number_ends, ends_number}
 use Rattle.msg_order.proofs.PathTest.{edge_path, path_trans, to_Path, no_path}
 
@@ -45,132 +45,39 @@ ends_blocked g start left blocked m i a h t c =
 left_next : (g : Graph) (start left blocked next : ℕ → Bool) (m : ℕ) → LeadAmong g start → AreLeft g start left m
     → TellsBlocked g left blocked
     → ((i : ℕ) → next i ≡ (left i && blocked i)) → AreLeft g start next (suc m)
-left_next g start left blocked next m a h t s i = (
-  λ e. let q =
-      and_parts (left i) (blocked i) (sym (s i)
-      ∙ e) in (((h i).0 q.0).0, blocked_ends g start left blocked m i h t q.1),
-  λ e c. s i ∙ and_from (left i) (blocked i) ((h i).1 e (ends_less g m i c))
-      (ends_blocked g start left blocked m i a h t c),
-)
+left_next g start left blocked next m a h t s i =
+    grind (
+      arith,
+      s i,
+      h i,
+      ends_less g m i,
+      blocked_ends g start left blocked m i h t,
+      ends_blocked g start left blocked m i a h t,
+    )
 
 -- those that are ready have this batch number
 ready_number : (g : Graph) (start left blocked : ℕ → Bool) (m i : ℕ) → LeadAmong g start → AreLeft g start left m
     → TellsBlocked g left blocked
     → (left i && not (blocked i)) ≡ true → (start i ≡ true) × IsBatchNumber g i m
 ready_number g start left blocked m i a h t r =
-    let q = and_parts (left i) (not (blocked i)) r in
-    let e = (h i).0 q.0 in (
-      e.0,
-      ends_number g i m e.1 (λ d. false≢true
-          (sym (not-true (blocked i) q.1) ∙ ends_blocked g start left blocked m i a h t d)),
-    )
+    grind (arith, h i, ends_number g i m, ends_blocked g start left blocked m i a h t)
 
 number_ready : (g : Graph) (start left blocked : ℕ → Bool) (m i : ℕ) → AreLeft g start left m
     → TellsBlocked g left blocked → start i ≡ true → IsBatchNumber g i m → (left i && not (blocked i)) ≡ true
 number_ready g start left blocked m i h t e b =
-    let n = number_ends g i m b in
-    and_from (left i) (not (blocked i)) ((h i).1 e n.0)
-    (not_from_false (blocked i) (false_from_ne_true (blocked i)
-    (λ x. n.1 (blocked_ends g start left blocked m i h t x))))
+    grind (arith, h i, number_ends g i m b, blocked_ends g start left blocked m i h t)
 
--- Where no path leads back, one of those left has none before it.
+-- Where no path leads back, one of those left has none below n before it.
 first_left : (p : ℕ → ℕ → Bool) (left : ℕ → Bool) → ((i j k : ℕ) → p i j ≡ true → p j k ≡ true → p i k ≡ true)
-    → ((i : ℕ) → p i i ≡ false) → (n : ℕ)
-    → ((i : ℕ) → i < n → left i ≡ false)
-    ⊎ ((c : ℕ) × ((c < n) × ((left c ≡ true) × ((k : ℕ) → k < n → left k ≡ true → p k c ≡ false))))
-first_left p left trans acyclic zero = inl (λ i h. absurd (omega arith))
-first_left p left trans acyclic (suc n) = elim (cases_Bool (left n)) [
-  | inr e ↦ elim (first_left p left trans acyclic n) [
-    | inl f ↦ inl (λ i h. elim (cases_eq i n)
-        [ inl x ↦ subst (λ z. left z ≡ false) (sym x) e | inr x ↦ f i (omega arith) ])
-    | inr f ↦ inr (
-      f.0,
-      (
-        omega arith,
-        (
-          f.1.1.0,
-          λ k h l. elim (cases_eq k n)
-              [ inl x ↦ absurd (false≢true (sym e ∙ subst (λ z. left z ≡ true) x l)) | inr x ↦ f.1.1.1 k (omega arith) l ],
-        ),
-      ),
-    )
-  ]
-  | inl e ↦ elim (first_left p left trans acyclic n) [
-    | inl f ↦ inr (
-      n,
-      (
-        omega arith,
-        (
-          e,
-          λ k h l. elim (cases_eq k n) [
-            | inl x ↦ subst (λ z. p z n ≡ false) (sym x) (acyclic n)
-            | inr x ↦ absurd
-                (false≢true (sym (f k (omega arith)) ∙ l))
-          ],
-        ),
-      ),
-    )
-    | inr f ↦ elim (cases_Bool (p n f.0)) [
-      | inr q ↦ inr (
-        f.0,
-        (
-          omega arith,
-          (
-            f.1.1.0,
-            λ k h l. elim (cases_eq k n)
-                [ inl x ↦ subst (λ z. p z f.0 ≡ false) (sym x) q | inr x ↦ f.1.1.1 k (omega arith) l ],
-          ),
-        ),
-      )
-      | inl q ↦ inr (
-        n,
-        (
-          omega arith,
-          (
-            e,
-            λ k h l. elim (cases_eq k n) [
-              | inl x ↦ subst (λ z. p z n ≡ false) (sym x) (acyclic n)
-              | inr x ↦ elim (cases_Bool (p k n))
-                  [ inl y ↦ absurd (false≢true (sym (f.1.1.1 k (omega arith) l) ∙ trans k n f.0 y q)) | inr y ↦ y ]
-            ],
-          ),
-        ),
-      )
+    → ((i : ℕ) → p i i ≡ false) → (n i : ℕ) → left i ≡ true
+    → (c : ℕ) × ((left c ≡ true) × ((k : ℕ) → k < n → left k ≡ true → p k c ≡ false))
+first_left p left trans acyclic zero i e = (i, (e, λ k h. absurd (omega arith)))
+first_left p left trans acyclic (suc n) i e =
+    let f = first_left p left trans acyclic n i e in
+    elim (cases_Bool (left n && p n f.0)) [
+      | inl q ↦ (n, grind (arith, cases_eq, f.1.0, f.1.1, trans))
+      | inr q ↦ (f.0, grind (arith, cases_eq, f.1.0, f.1.1))
     ]
-  ]
-]
-
--- How many are left falls.
-abbrev pub count_left : (ℕ → Bool) → ℕ → ℕ
-count_left left zero = 0
-count_left left (suc n) = cond (left n) 1 0 + count_left left n
-
-cond_le : (a b : Bool) → (a ≡ true → b ≡ true) → cond a 1 0 ≤ cond b 1 0
-cond_le z0 z1 h = grind (arith, false≢true)
-
-count_le : (left next : ℕ → Bool) (n : ℕ) → ((i : ℕ) → i < n → next i ≡ true → left i ≡ true)
-    → count_left next n ≤ count_left left n
-count_le left next zero h = omega arith
-count_le left next (suc n) h =
-    let a : cond (next n) 1 0 ≤ cond (left n) 1 0 = cond_le (next n) (left n) (h n (omega arith)) in
-    let b : count_left next n ≤ count_left left n = count_le left next n (λ i l. h i (omega arith)) in
-    omega arith
-
-count_falls : (left next : ℕ → Bool) (n : ℕ) → ((i : ℕ) → i < n → next i ≡ true → left i ≡ true) → (c : ℕ) → c < n
-    → left c ≡ true → next c ≡ false → count_left next n < count_left left n
-count_falls left next zero h c lt l x = absurd (omega arith)
-count_falls left next (suc n) h c lt l x = elim (cases_eq c n) [
-  | inl e ↦
-      let b : count_left next n ≤ count_left left n = count_le left next n (λ i k. h i (omega arith)) in
-      let l2 : left n ≡ true = subst (λ z. left z ≡ true) e l in
-      let x2 : next n ≡ false = subst (λ z. next z ≡ false) e x in
-      rw (l2, x2) (omega arith)
-  | inr e ↦
-      let a : cond (next n) 1 0 ≤ cond (left n) 1 0 = cond_le (next n) (left n) (h n (omega arith)) in
-      let b : count_left next n < count_left left n = count_falls left next n (λ i k. h i (omega arith)) c
-      (omega arith) l x in
-      omega arith
-]
 
 -- What holds after some levels.
 pub record ArePeeled (g : Graph) (start left : ℕ → Bool) (batches : List (List ℕ)) : Type 0 where
@@ -206,95 +113,99 @@ peeled_next g start left blocked next n batches batch a within t h is some s =
       left_is = subst (AreLeft g start next) (sym (length_push batches batch))
           (left_next g start left blocked next m a h.left_is t s);
       of_number = λ b l i. elim (cases_eq b m) [
-        | inl e ↦
-            let last : batch_at (batches ++ batch ∷ []) b
-            ≡ filter ready (range_with_len 0 n) = rw e (get_or-append_seam batches batch [] [] ∙ is) in (
-              λ c.
-                  let r = filter-Contains ready (range_with_len 0 n) i (subst (λ xs. Contains xs i) last c) in
-                  subst (λ k. (start i ≡ true) × IsBatchNumber g i k) (sym e)
-                  (ready_number g start left blocked m i a h.left_is t r.1),
-              λ c.
-                  let number : IsBatchNumber g i m = subst (IsBatchNumber g i) e c.1 in
-                  let l2 : i < n = within i c.0 in
-                  subst (λ xs. Contains xs i) (sym last)
-                  (Contains-filter ready (range_with_len 0 n) i (Contains-range 0 n i (omega arith) (omega arith))
-                  (number_ready g start left blocked m i h.left_is t c.0 number)),
-            )
+        | inl e ↦ (
+          λ c. grind (
+            arith,
+            get_or_push batches batch [] b,
+            filter-Contains ready (range_with_len 0 n) i,
+            ready_number g start left blocked m i a h.left_is t,
+          ),
+          λ c. rw (get_or_push batches batch [] b (sym e) ∙ is)
+              (let number : IsBatchNumber g i m = subst (IsBatchNumber g i) e c.1 in
+              let l2 : i < n = within i c.0 in
+              Contains-filter ready (range_with_len 0 n) i (Contains-range 0 n i (omega arith) (omega arith))
+              (number_ready g start left blocked m i h.left_is t c.0 number)),
+        )
         | inr e ↦
             let l2 : b < m = omega (arith, length_push batches batch) in
-            subst (λ xs. Contains xs i ↔ ((start i ≡ true) × IsBatchNumber g i b))
-            (sym (get_or_append_left batches (batch ∷ []) [] b l2)) (h.of_number b l2 i)
+            rw (get_or_append_left batches (batch ∷ []) [] b l2) (h.of_number b l2 i)
       ];
       filled = All-push (λ (xs : List ℕ). 0 < length xs) batches batch h.filled some;
       by_addition = All-push IsStrictlyIncreasing batches batch h.by_addition
           (subst IsStrictlyIncreasing (sym is)
           (IsStrictlyIncreasing-filter ready (range_with_len 0 n) (increasing_range n)));
-      placed = λ i e. elim (h.placed i e) [
-        | inr x ↦ inr x
-        | inl x ↦ elim (cases_Bool (blocked i)) [
-          | inl y ↦ inl (s i ∙ and_from (left i) (blocked i) x y)
-          | inr y ↦ inr (
-            m,
-            (ready_number g start left blocked m i a h.left_is t
-                (and_from (left i) (not (blocked i)) x (not_from_false (blocked i) y))).1,
-          )
-        ]
-      ];
+      placed = λ i e. grind (arith, s i, h.placed i e, ready_number g start left blocked m i a h.left_is t);
     }
 
 -- where none is ready, none is left
 pub peeled_all : (g : Graph) (start left blocked : ℕ → Bool) (n : ℕ) (batch : List ℕ) (m : ℕ) → IsAcyclic g
     → ((i : ℕ) → start i ≡ true → i < n) → TellsBlocked g left blocked → AreLeft g start left m
     → batch ≡ filter (λ i. left i && not (blocked i)) (range_with_len 0 n) → length batch ≡ 0 → (i : ℕ) → left i ≡ false
-peeled_all g start left blocked n batch m acyclic within t h is empty =
-    elim (first_left (path g) left (path_trans g) (λ i. no_path g i i (acyclic i)) n) [
-      | inl f ↦ λ i. false_from_ne_true (left i) (λ e. false≢true (sym (f i (within i ((h i).0 e).0)) ∙ e))
-      | inr f ↦ λ i.
-          let c : ℕ = f.0 in
-          let open_ : blocked c ≡ false =
-          false_from_ne_true (blocked c)
-          (λ b. let w = t.by c b in false≢true (sym (f.1.1.1 w.0 (within w.0 ((h w.0).0 w.1.1).0) w.1.1) ∙ w.1.0)) in
-          let there = Contains-filter (λ k. left k && not (blocked k)) (range_with_len 0 n) c
-          (Contains-range 0 n c (omega arith) (omega (arith, f.1.0)))
-          (and_from (left c) (not (blocked c)) f.1.1.0 (not_from_false (blocked c) open_)) in
-          let none : length (filter (λ k. left k && not (blocked k)) (range_with_len 0 n))
-          ≡ 0 = ap length (sym is) ∙ empty in
-          absurd (omega (arith, there.1))
-    ]
+peeled_all g start left blocked n batch m acyclic within t h is empty i = false_from_ne_true (left i) (λ e.
+    let f = first_left (path g) left (path_trans g) (λ i. no_path g i i (acyclic i)) n i e in
+    let c : ℕ = f.0 in
+    let open_ : blocked c ≡ false =
+    false_from_ne_true (blocked c)
+    (λ b. let w = t.by c b in false≢true (sym (f.1.1 w.0 (within w.0 ((h w.0).0 w.1.1).0) w.1.1) ∙ w.1.0)) in
+    let below : c < n = within c ((h c).0 f.1.0).0 in
+    let there = Contains-filter (λ k. left k && not (blocked k)) (range_with_len 0 n) c
+    (Contains-range 0 n c (omega arith) (omega arith))
+    (and_from (left c) (not (blocked c)) f.1.0 (not_from_false (blocked c) open_)) in
+    omega (arith, there.1, ap length is))
 
 pub peeled_done : (g : Graph) (systems : List Bool) (start left : ℕ → Bool) (batches : List (List ℕ))
     → ((i : ℕ) → start i ≡ has_joined systems i) → ArePeeled g start left batches → ((i : ℕ) → left i ≡ false)
     → AreBatches g systems batches
 peeled_done g systems start left batches same h none = record {
-  of_number = λ b i. elim (cases_lt b (length batches)) [
-    | inl l ↦ let r =
-        h.of_number b l i in (λ c. let q = r.0 c in (sym (same i) ∙ q.0, q.1), λ c. r.1 (same i ∙ c.0, c.1))
-    | inr l ↦ (
-      λ c. absurd (not_in_none i (subst (λ xs. Contains xs i) (get_or_past batches b [] l) c)),
-      λ c. absurd (false≢true (sym (none i)
-          ∙ (h.left_is i).1 (same i ∙ c.0) (ends_at_most g b (length batches) i l (number_ends g i b c.1).0))),
-    )
-  ];
-  all = λ i e. elim (h.placed i (same i ∙ e)) [ inl x ↦ absurd (false≢true (sym (none i) ∙ x)) | inr x ↦ x ];
+  of_number = λ b i. (
+    λ c. grind (arith, cases_lt, same i, h.of_number b, get_or_past batches b [], not_in_none),
+    λ c. grind (
+      arith,
+      cases_lt,
+      same i,
+      h.of_number b,
+      none i,
+      h.left_is i,
+      ends_at_most g b (length batches) i,
+      number_ends g i b c.1,
+    ),
+  );
+  all = λ i e. grind (arith, same i, none i, h.placed i);
   filled = h.filled;
   by_addition = h.by_addition;
 }
 
-right_false : (b : Bool) → (b && false) ≡ false
-right_false b = grind arith
+-- the measure: how many are left below n
+abbrev pub count_left : (ℕ → Bool) → ℕ → ℕ
+count_left left n = count_by left (range_with_len 0 n)
 
--- the measure
+one_of_two : (a b : Bool) → cond (a && b) 1 0 + cond (a && not b) 1 0 ≡ cond a 1 0
+one_of_two a b = grind arith
+
+count_splits : (p q : ℕ → Bool) (xs : List ℕ) → count_by (λ i. p i && q i) xs + count_by (λ i. p i && not (q i)) xs
+    ≡ count_by p xs
+count_splits p q [] = omega arith
+count_splits p q (x ∷ xs) =
+    omega (
+      arith,
+      count_splits p q xs,
+      one_of_two (p x) (q x),
+      sum_by-cons (λ i. cond (p i && q i) 1 0) x xs,
+      sum_by-cons (λ i. cond (p i && not (q i)) 1 0) x xs,
+      sum_by-cons (λ i. cond (p i) 1 0) x xs,
+    )
+
 pub left_falls : (left blocked next : ℕ → Bool) (n : ℕ) (batch : List ℕ) → batch
     ≡ filter (λ i. left i && not (blocked i)) (range_with_len 0 n) → 0 < length batch
     → ((i : ℕ) → next i ≡ (left i && blocked i)) → count_left next n < count_left left n
 left_falls left blocked next n batch is some s =
-    let c : ℕ = get_or batch 0 0 in
-    let f = filter-Contains (λ i. left i && not (blocked i)) (range_with_len 0 n) c
-    (subst (λ xs. Contains xs c) is (Contains-get_or batch 0 0 some)) in
-    let lt = (range-Contains 0 n c f.0).1 in
-    let r = and_parts (left c) (not (blocked c)) f.1 in
-    count_falls left next n (λ i l x. (and_parts (left i) (blocked i) (sym (s i) ∙ x)).0) c (omega (arith, lt)) r.0
-    (s c ∙ ap (λ b. left c && b) (not-true (blocked c) r.1) ∙ right_false (left c))
+    omega (
+      arith,
+      count_splits left blocked (range_with_len 0 n),
+      ap (λ (p : ℕ → Bool). count_left p n) (λ k i. s i k),
+      ap length is,
+      length-filter (λ i. left i && not (blocked i)) (range_with_len 0 n),
+    )
 
 -- the sets tell which systems are blocked
 pub sets_tell : (g : Graph) (before : List SystemSet) (left : SystemSet) → ArePaths g before

@@ -1,7 +1,8 @@
 -- Chains, joined end to end, and counted from their end.
-use Rattle.std.proofs.Common.{◌≡◌, ℕ, zero, suc, ◌+◌, ◌<◌, ◌≤◌, inl, inr, List, [], ◌∷◌, ◌++◌, length, refl, sym, subst, arith, append_assoc, length-append}
-use Rattle.std.proofs.lemmas.Bool.{cases_lt, cases_eq}
-use Rattle.msg_order.specs.Prelude.{Graph, IsEdge, IsChain, Path, IsBatchNumber}
+use Rattle.std.proofs.Common.{◌≡◌, ℕ, Bool, zero, suc, ◌+◌, ◌<◌, ◌≤◌, inl, inr, List, [], ◌∷◌, ◌++◌, length, refl, sym, subst, arith, append_assoc, length-append}
+use Rattle.std.specs.Prelude.{IsTrue}
+use Rattle.std.proofs.lemmas.Bool.{cases_eq}
+use Rattle.msg_order.specs.Prelude.{Graph, IsAmong, IsBatchNumber, IsChain, IsEdge, Path, has_joined}
 
 -- where each edge of g is one of h, so is each chain
 pub chain_grows : (g h : Graph) → ((i j : ℕ) → IsEdge g i j → IsEdge h i j) → (xs : List ℕ) → IsChain g xs
@@ -29,20 +30,12 @@ paths_join g i j k p q = (
       (chain_join g (i ∷ p.0) (q.0 ++ k ∷ []) j p.1 q.1),
 )
 
--- a path has a first edge and a last one
-pub first_edge : (g : Graph) (i j : ℕ) → Path g i j → (k : ℕ) × IsEdge g i k
-first_edge g i j p = first p.0 p.1
-  where
-    first : (between : List ℕ) → IsChain g (i ∷ (between ++ j ∷ [])) → (k : ℕ) × IsEdge g i k
-    first [] c = (j, c.0)
-    first (k ∷ more) c = (k, c.0)
-
-pub last_edge : (g : Graph) (i j : ℕ) → Path g i j → (k : ℕ) × IsEdge g k j
-last_edge g i j p = last i p.0 p.1
-  where
-    last : (i : ℕ) (between : List ℕ) → IsChain g (i ∷ (between ++ j ∷ [])) → (k : ℕ) × IsEdge g k j
-    last i [] c = (i, c.0)
-    last i (k ∷ more) c = last k more c.1
+-- where each edge leads among these systems, so does a path
+pub path_among : (g : Graph) (joined : List Bool) → IsAmong joined g → (i j : ℕ) → Path g i j
+    → IsTrue (has_joined joined i) × IsTrue (has_joined joined j)
+path_among g joined among i j ([], c) = among i j c.0
+path_among g joined among i j (k ∷ more, c) =
+    ((among i k c.0).0, (path_among g joined among k j (more, c.1)).1)
 
 -- a chain of n edges ends in j, told from its last edge
 abbrev pub Ends : Graph → ℕ → ℕ → Type 0
@@ -55,7 +48,7 @@ ends_less g zero j e = tt
 ends_less g (suc n) j e = (e.0, (ends_less g n e.0 e.1.0, e.1.1))
 
 pub ends_at_most : (g : Graph) (m n j : ℕ) → n ≤ m → Ends g m j → Ends g n j
-ends_at_most g zero n j h e = let is : 0 ≡ n = omega arith in subst (λ k. Ends g k j) is e
+ends_at_most g zero n j h e = grind arith
 ends_at_most g (suc m) n j h e = elim (cases_eq n (suc m)) [
   | inl s ↦ subst (λ k. Ends g k j) (sym s) e
   | inr s ↦ ends_at_most g m n j (omega arith) (ends_less g m j e)
@@ -64,7 +57,7 @@ ends_at_most g (suc m) n j h e = elim (cases_eq n (suc m)) [
 -- a chain that goes on
 ends_on : (g : Graph) (m i : ℕ) (between : List ℕ) (j : ℕ) → Ends g m i → IsChain g (i ∷ (between ++ j ∷ []))
     → Ends g (suc (m + length between)) j
-ends_on g m i [] j e c = let is : suc m ≡ suc (m + 0) = omega arith in subst (λ k. Ends g k j) is (i, (e, c.0))
+ends_on g m i [] j e c = grind arith
 ends_on g m i (k ∷ more) j e c = grind (arith, ends_on g (suc m) k more j (i, (e, c.0)) c.1)
 
 pub ends_along : (g : Graph) (n i j : ℕ) → Ends g n i → Path g i j → Ends g (suc n) j
@@ -73,8 +66,7 @@ ends_along g n i j e p = ends_at_most g (suc (n + length p.0)) (suc n) j (omega 
 -- a list of systems is such a chain
 chain_ends : (g : Graph) (before : List ℕ) (j : ℕ) → IsChain g (before ++ j ∷ []) → Ends g (length before) j
 chain_ends g [] j c = tt
-chain_ends g (x ∷ xs) j c = let is : suc (0 + length xs)
-    ≡ suc (length xs) = omega arith in subst (λ k. Ends g k j) is (ends_on g 0 x xs j tt c)
+chain_ends g (x ∷ xs) j c = grind (arith, ends_on g 0 x xs j tt c)
 
 ends_chain : (g : Graph) (n j : ℕ) (more : List ℕ) → Ends g n j → IsChain g (j ∷ more) → (before : List ℕ)
     × ((length before ≡ n) × IsChain g (before ++ j ∷ more))
@@ -95,10 +87,7 @@ number_ends g i n b = (
 pub ends_number : (g : Graph) (i n : ℕ) → Ends g n i → (Ends g (suc n) i → ⊥) → IsBatchNumber g i n
 ends_number g i n e none = record {
   reached = ends_chain g n i [] e tt;
-  longest = λ before c. elim (cases_lt n (length before)) [
-    | inl l ↦ absurd (none (ends_at_most g (length before) (suc n) i l (chain_ends g before i c)))
-    | inr l ↦ l
-  ];
+  longest = λ before c. grind (arith, ends_at_most g (length before) (suc n) i, chain_ends g before i c);
 }
 
 -- a system has one batch number, and it rises along a path
@@ -106,8 +95,5 @@ pub number_once : (g : Graph) (i m n : ℕ) → IsBatchNumber g i m → IsBatchN
 number_once g i m n a b = grind arith
 
 pub number_rises : (g : Graph) (i j m n : ℕ) → Path g i j → IsBatchNumber g i m → IsBatchNumber g j n → m < n
-number_rises g i j m n p a b = elim (cases_lt m n) [
-  | inl l ↦ l
-  | inr l ↦ absurd ((number_ends g j n b).1
-      (ends_at_most g (suc m) (suc n) j (omega arith) (ends_along g m i j (number_ends g i m a).0 p)))
-]
+number_rises g i j m n p a b =
+    grind (arith, number_ends g i m a, number_ends g j n b, ends_along g m i j, ends_at_most g (suc m) (suc n) j)

@@ -1,8 +1,9 @@
 -- The settled order and the turns in it by tests alone, for worked rows.
-use Rattle.std.proofs.Common.{◌≡◌, ℕ, zero, suc, ◌<◌, ◌⊎◌, inl, inr, Bool, true, cond, not, max, ◌&&◌, ◌||◌, List, [], ◌∷◌, ◌++◌, map, length, refl, sym, subst, ◌∙◌, arith}
+use Rattle.std.proofs.Common.{◌≡◌, ℕ, zero, suc, ◌<◌, ◌⊎◌, inl, inr, Bool, true, cond, not, max, ◌&&◌, ◌||◌, List, [], ◌∷◌, ◌++◌, map, length, refl, subst, arith}
 use Rattle.std.specs.Prelude.{◌==◌, ◌↔◌, nat_lt, IsTrue, Contains, AllPairs}
 use Rattle.std.specs.List.{range_with_len, list_all, list_any}
-use Rattle.std.proofs.lemmas.Bool.{cases_Bool, cases_lt, and_parts, and_from, or_cases, or_left, or_right, not-true, false≢true, eqb-true, ltb-true}
+use Rattle.std.proofs.lemmas.Bool.Decides.{nat_tests}
+use Rattle.std.proofs.lemmas.Bool.{cases_Bool, and_parts, and_from, or_cases, false≢true, eqb-true, ltb-true}
 use Rattle.std.proofs.lemmas.List.Elements.{Contains-append_left, Contains-append_right}
 use Rattle.std.proofs.lemmas.List.Kept.{AllPairs-cons}
 use Rattle.std.proofs.lemmas.List.Sums.{AllPass-from_list_all}
@@ -33,38 +34,26 @@ conflict_below n a b = list_any (meet_at a b) (parts_below n)
 
 -- a used part is one of them
 used_is_below : (n : ℕ) (a : Access) → Fits n n a → (p : Part) → uses a p ≡ true → Contains (parts_below n) p
-used_is_below n a fits Registry u =
-    Contains-head Registry (map OfType (range_with_len 0 n) ++ map OfResource (range_with_len 0 n))
+used_is_below n a fits Registry u = Contains-head Registry _
 used_is_below n a fits (OfType t) u =
     let below : t < n = fits.types_below t u in
-    let types : List Part = map OfType (range_with_len 0 n) in
-    let resources : List Part = map OfResource (range_with_len 0 n) in
-    Contains-tail Registry (types ++ resources) (OfType t)
-    (Contains-append_left types resources (OfType t)
+    Contains-tail Registry _ (OfType t) (Contains-append_left _ _ (OfType t)
     (Contains-map OfType (range_with_len 0 n) t (Contains-range 0 n t (omega arith) (omega arith))))
 used_is_below n a fits (OfResource r) u =
     let below : r < n = fits.resources_below r u in
-    let types : List Part = map OfType (range_with_len 0 n) in
-    let resources : List Part = map OfResource (range_with_len 0 n) in
-    Contains-tail Registry (types ++ resources) (OfResource r)
-    (Contains-append_right types resources (OfResource r)
+    Contains-tail Registry _ (OfResource r) (Contains-append_right _ _ (OfResource r)
     (Contains-map OfResource (range_with_len 0 n) r (Contains-range 0 n r (omega arith) (omega arith))))
 
 conflict_is : (n : ℕ) (a b : Access) → Fits n n a → Fits n n b → IsTrue (conflict_below n a b) ↔ Conflict a b
 conflict_is n a b fits_a fits_b = (
-  λ t. let f =
-      Contains-list_any (meet_at a b)
-      (parts_below n) t in (f.0, or_cases (writes a f.0 && uses b f.0) (writes b f.0 && uses a f.0) f.1.1),
+  λ t. let f = Contains-list_any (meet_at a b) (parts_below n) t in (f.0, or_cases _ _ f.1.1),
   λ c.
       let p : Part = c.0 in
-      elim c.1 [
-        | inl x ↦ list_any-Contains (meet_at a b) (parts_below n) p
-            (used_is_below n b fits_b p (and_parts (writes a p) (uses b p) x).1)
-            (or_left (writes a p && uses b p) (writes b p && uses a p) x)
-        | inr x ↦ list_any-Contains (meet_at a b) (parts_below n) p
-            (used_is_below n a fits_a p (and_parts (writes b p) (uses a p) x).1)
-            (or_right (writes a p && uses b p) (writes b p && uses a p) x)
-      ],
+      let there : Contains (parts_below n) p = elim c.1 [
+        | inl x ↦ used_is_below n b fits_b p (and_parts (writes a p) (uses b p) x).1
+        | inr x ↦ used_is_below n a fits_a p (and_parts (writes b p) (uses a p) x).1
+      ] in
+      list_any-Contains (meet_at a b) (parts_below n) p there (grind (arith, c.1)),
 )
 
 -- ---- the settled order
@@ -105,7 +94,7 @@ abbrev pub rise_in : Graph → (ℕ → ℕ) → Bool
 rise_in g number = list_all (λ e. nat_lt (number e.0) (number e.1)) g
 
 greater_of : (a b : ℕ) → (max a b ≡ a) ⊎ (max a b ≡ b)
-greater_of a b = elim (cases_lt a b) [ inl l ↦ inr (omega arith) | inr l ↦ inl (omega arith) ]
+greater_of a b = grind arith
 
 above_ends : (g : Graph) (value : ℕ → ℕ) → ((i : ℕ) → Ends g (value i) i) → (h : Graph)
     → ((i j : ℕ) → IsEdge h i j → IsEdge g i j) → (j : ℕ) → Ends g (above_all value h j) j
@@ -117,10 +106,8 @@ above_ends g value ends (e ∷ h) within j =
       | inr f ↦ rw f rest
       | inl t ↦
           let edge : IsEdge g e.0 j = subst (IsEdge g e.0) (eqb-true e.1 j t) (within e.0 e.1 (Contains-head e h)) in
-          rw t (elim (greater_of (suc (value e.0)) (above_all value h j)) [
-            | inl is ↦ subst (λ k. Ends g k j) (sym is) (e.0, (ends e.0, edge))
-            | inr is ↦ subst (λ k. Ends g k j) (sym is) rest
-          ])
+          rw t (elim (greater_of (suc (value e.0)) (above_all value h j))
+          [ inl is ↦ rw is (e.0, (ends e.0, edge)) | inr is ↦ rw is rest ])
     ]
 
 longest_ends : (g : Graph) (n j : ℕ) → Ends g (longest g n j) j
@@ -171,14 +158,7 @@ is_turn_order n accesses rules joined order =
 before_is : (g : Graph) (number : ℕ → ℕ) → ((j : ℕ) → IsBatchNumber g j (number j)) → (i j : ℕ) → runs_before number i j
     ≡ true → RunsBefore g i j
 before_is g number is i j t m n a b =
-    let same_m : m ≡ number i = number_once g i m (number i) a (is i) in
-    let same_n : n ≡ number j = number_once g j n (number j) b (is j) in
-    elim (or_cases (nat_lt (number i) (number j)) ((number i == number j) && nat_lt i j) t) [
-      | inl l ↦ let lt : number i < number j = ltb-true (number i) (number j) l in inl (omega arith)
-      | inr x ↦
-          let both = and_parts (number i == number j) (nat_lt i j) x in
-          inr (same_m ∙ eqb-true (number i) (number j) both.0 ∙ sym same_n, ltb-true i j both.1)
-    ]
+    grind (arith, nat_tests, number_once g i m (number i) a (is i), number_once g j n (number j) b (is j))
 
 turns_are : (g : Graph) (number : ℕ → ℕ) → ((j : ℕ) → IsBatchNumber g j (number j)) → (order : List ℕ)
     → are_in_turn number order ≡ true → AllPairs (RunsBefore g) order
@@ -213,13 +193,11 @@ in_turn_by_test n accesses rules joined order fit t =
         of_joined = λ i. (
           λ h. list_all-Contains (has_joined joined) order i second.0 h,
           λ h.
-              elim (or_cases (not (has_joined joined i)) (list_any (λ k. k == i) order)
-              (each_below (λ j. not (has_joined joined j) || list_any (λ k. k == j) order) (length joined) i second.1
-              (joined_in joined i h))) [
-                | inl f ↦ absurd (false≢true (sym (not-true (has_joined joined i) f) ∙ h))
-                | inr t ↦ let f = Contains-list_any (λ k. k == i) order t in subst (Contains order)
-                    (eqb-true f.0 i f.1.1) f.1.0
-              ],
+              let below = each_below (λ j. not (has_joined joined j) || list_any (λ k. k == j) order) (length joined) i
+              second.1 (joined_in joined i h) in
+              let here : list_any (λ k. k == i) order ≡ true = grind (arith, below) in
+              let f = Contains-list_any (λ k. k == i) order here in
+              subst (Contains order) (eqb-true f.0 i f.1.1) f.1.0,
         );
         all = λ i h. (number i, number_is g (length accesses) first.0 i);
         in_order = turns_are g number (number_is g (length accesses) first.0) order first.1;

@@ -1,8 +1,8 @@
 -- What stands in a list that was made from others.
-use Rattle.std.proofs.Common.{◌≡◌, ℕ, zero, suc, ◌+◌, ◌-◌, ◌<◌, ◌≤◌, ◌⊎◌, inl, inr, Bool, true, false, cond, List, [], ◌∷◌, ◌++◌, length, map, get_or, refl, ap, sym, ◌∙◌, arith}
-use Rattle.std.specs.Prelude.{Contains, filter, flat_map}
+use Rattle.std.proofs.Common.{◌≡◌, ℕ, zero, suc, ◌+◌, ◌-◌, ◌<◌, ◌≤◌, ◌⊎◌, inl, inr, Bool, true, false, cond, List, [], ◌∷◌, ◌++◌, map, get_or, refl, ap, sym, ◌∙◌, arith}
+use Rattle.std.specs.Prelude.{All, AllPairs, Contains, filter, flat_map}
 use Rattle.std.specs.List.{range_with_len, concat, list_all, list_any}
-use Rattle.std.proofs.lemmas.Bool.{false≢true}
+use Rattle.std.proofs.lemmas.Bool.{cond_both}
 use Rattle.std.proofs.lemmas.List.{append-nil, get_or-map, length-map, map-id}
 use Rattle.std.proofs.lemmas.List.Elements.{All-contains, All-contains_itself, All-filter, All-map, Contains-append_cases, Contains-append_left, Contains-append_right, Contains-get_or, filter-append, filter_passes}
 use Rattle.std.proofs.lemmas.List.Folds.{Any-from_list_any, list_any_at}
@@ -17,12 +17,8 @@ module _ {X : Type 0} where
   pub Contains-tail : (x : X) (xs : List X) (y : X) → Contains xs y → Contains (x ∷ xs) y
   Contains-tail x xs y h = (suc h.0, omega (arith, h.1), h.2)
 
-  at_place : (x : X) (xs : List X) (y : X) (k : ℕ) → k < length (x ∷ xs) → get_or (x ∷ xs) k y ≡ y → (x ≡ y)
-      ⊎ Contains xs y
-  at_place x xs y k h e = grind arith
-
   pub Contains-cases : (x : X) (xs : List X) (y : X) → Contains (x ∷ xs) y → (x ≡ y) ⊎ Contains xs y
-  Contains-cases x xs y h = at_place x xs y h.0 h.1 h.2
+  Contains-cases x xs y h = grind arith
 
   pub not_in_none : (y : X) → Contains {X = X} [] y → ⊥
   not_in_none y h = absurd (omega (arith, h.1))
@@ -36,18 +32,13 @@ module _ {X : Type 0} where
       All-contains (λ x. p x ≡ true) (filter p xs) y (filter_passes p xs) h,
     )
 
-    kept : (b : Bool) (x : X) (us : List X) (y : X) → ((b ≡ true) × (x ≡ y)) ⊎ Contains us y
-        → Contains (cond b (x ∷ us) us) y
-    kept true x us y (inl s) = (0, omega arith, s.1)
-    kept true x us y (inr r) = Contains-tail x us y r
-    kept false x us y (inl s) = absurd (false≢true s.0)
-    kept false x us y (inr r) = r
-
     pub Contains-filter : (xs : List X) (y : X) → Contains xs y → p y ≡ true → Contains (filter p xs) y
     Contains-filter [] y h t = absurd (not_in_none y h)
-    Contains-filter (x ∷ xs) y h t =
-        kept (p x) x (filter p xs) y (elim (Contains-cases x xs y h)
-        [ inl s ↦ inl (ap p s ∙ t, s) | inr r ↦ inr (Contains-filter xs y r t) ])
+    Contains-filter (x ∷ xs) y h t = elim (Contains-cases x xs y h) [
+      | inl s ↦ rw (ap p s ∙ t) (0, omega arith, s)
+      | inr r ↦ cond_both (p x) (x ∷ filter p xs) (filter p xs) (λ us. Contains us y)
+          (λ _. Contains-tail x (filter p xs) y (Contains-filter xs y r t)) (λ _. Contains-filter xs y r t)
+    ]
 
     pub list_any-Contains : (xs : List X) (x : X) → Contains xs x → p x ≡ true → list_any p xs ≡ true
     list_any-Contains xs x h t = list_any_at p xs h.0 x h.1 (ap p h.2 ∙ t)
@@ -85,6 +76,15 @@ module _ {X Y : Type 0} where
     | inr t ↦ Contains-append_right (f z) (flat_map f xs) y (Contains-flat_map f xs x y t k)
   ]
 
+-- ---- lists in order
+
+module _ (R : ℕ → ℕ → Type 0) (x : ℕ) (xs : List ℕ) (r : AllPairs R (x ∷ xs)) where
+  pub AllPairs-head : All (R x) xs
+  AllPairs-head k d l = r 0 (suc k) d (omega arith) (omega arith)
+
+  pub AllPairs-tail : AllPairs R xs
+  AllPairs-tail a b d lt l = r (suc a) (suc b) d (omega arith) (omega arith)
+
 -- what stands in some batch
 pub concat-Contains : (xss : List (List ℕ)) (y : ℕ) → Contains (concat xss) y → (b : ℕ) × Contains (batch_at xss b) y
 concat-Contains [] y h = absurd (not_in_none y h)
@@ -105,9 +105,7 @@ range-Contains a n k h = grind (arith, length-range_with_len, get_or-range_with_
 
 pub Contains-range : (a n k : ℕ) → a ≤ k → k < a + n → Contains (range_with_len a n) k
 Contains-range a n k h l =
-    let lt : k - a < n = omega arith in
-    let is : a + (k - a) ≡ k = omega arith in
-    (k - a, omega (arith, length-range_with_len a n), get_or-range_with_len a n (k - a) k lt ∙ is)
+    (k - a, grind (arith, length-range_with_len), grind (arith, get_or-range_with_len))
 
 pub range_more : (i : ℕ) → range_with_len 0 (i + 1) ≡ range_with_len 0 i ++ i ∷ []
 range_more i = let is : 0 + i ≡ i = omega arith in simp map-id at (map-range_with_len_more (λ k. k) 0 i i is)

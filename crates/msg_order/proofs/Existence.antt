@@ -1,8 +1,8 @@
 -- That there is a settled order, and a list of its batches, for all systems whose rules make no cycle.
-use Rattle.std.proofs.Common.{◌≡◌, ℕ, zero, suc, ◌<◌, ◌≤◌, ◌⊎◌, inl, inr, Bool, true, not, ◌&&◌, List, [], ◌∷◌, ◌++◌, length, refl, sym, ◌∙◌, arith}
+use Rattle.std.proofs.Common.{◌≡◌, ℕ, zero, suc, ◌<◌, ◌⊎◌, inl, inr, Bool, true, not, ◌&&◌, List, [], ◌∷◌, ◌++◌, length, refl, arith}
 use Rattle.std.specs.Prelude.{filter}
 use Rattle.std.specs.List.{concat, list_any, range_with_len}
-use Rattle.std.proofs.lemmas.Bool.{cases_Bool, cases_eq, and_parts, and_from, false≢true}
+use Rattle.std.proofs.lemmas.Bool.{cases_eq, and_parts, and_from}
 use Rattle.msg_world.specs.declared.access.Access.{Access}
 use Rattle.msg_world.proofs.Conflicts.{decide_conflict}
 use Rattle.msg_order.specs.Prelude.{AreBatches, AreInConflict, BatchesExist, GainsEdge, Graph, IsAcyclic, RunsBefore, SettledOrderExists, Settles, TurnOrderExists, TurnOrderIsUnique, access_of, has_joined, pairs, rules_among}
@@ -19,25 +19,10 @@ abbrev Decided : Type 0 → Type 0
 Decided P = P ⊎ (P → ⊥)
 
 decide_pair : (accesses : List Access) (joined : List Bool) (i j : ℕ) → Decided (AreInConflict accesses joined i j)
-decide_pair accesses joined i j = elim (cases_Bool (has_joined joined i)) [
-  | inr e ↦ inr (λ c. false≢true (sym e ∙ c.first_joined))
-  | inl a ↦ elim (cases_Bool (has_joined joined j)) [
-    | inr e ↦ inr (λ c. false≢true (sym e ∙ c.second_joined))
-    | inl b ↦ elim (decide_conflict (access_of accesses i) (access_of accesses j)) [
-      | inl c ↦ inl (record { first_joined = a; second_joined = b; conflict = c })
-      | inr n ↦ inr (λ c. n c.conflict)
-    ]
-  ]
-]
+decide_pair accesses joined i j = grind (arith, decide_conflict (access_of accesses i) (access_of accesses j))
 
 decide_edge : (C : ℕ → ℕ → Type 0) → ((i j : ℕ) → Decided (C i j)) → (g : Graph) (i j : ℕ) → Decided (GainsEdge C g i j)
-decide_edge C d g i j = elim (d i j) [
-  | inr n ↦ inr (λ e. n e.0)
-  | inl c ↦ elim (cases_Bool (path g j i)) [
-    | inl t ↦ inr (λ e. e.1 (to_Path g j i t))
-    | inr f ↦ inl (c, no_Path g j i f)
-  ]
-]
+decide_edge C d g i j = grind (arith, d i j, to_Path g j i, no_Path g j i)
 
 settles_some : (C : ℕ → ℕ → Type 0) → ((i j : ℕ) → Decided (C i j)) → (ps g : Graph) → (h : Graph) × Settles C g ps h
 settles_some C d [] g = (g, refl)
@@ -95,11 +80,8 @@ peel_more g joined free lead left bs h =
 
 peels : (g : Graph) (joined : List Bool) → IsAcyclic g → LeadAmong g (has_joined joined)
     → (steps : ℕ) (left : ℕ → Bool) (bs : List (List ℕ)) → ArePeeled g (has_joined joined) left bs
-    → count_left left (length joined) ≤ steps → (cs : List (List ℕ)) × AreBatches g joined cs
-peels g joined free lead zero left bs h few = elim (peel_more g joined free lead left bs h) [
-  | inl r ↦ r
-  | inr m ↦ let fewer = m.fewer in absurd (omega arith)
-]
+    → count_left left (length joined) < steps → (cs : List (List ℕ)) × AreBatches g joined cs
+peels g joined free lead zero left bs h few = absurd (omega arith)
 peels g joined free lead (suc steps) left bs h few = elim (peel_more g joined free lead left bs h) [
   | inl r ↦ r
   | inr m ↦ let fewer = m.fewer in peels g joined free lead steps m.next m.batches m.peeled (omega arith)
@@ -107,7 +89,7 @@ peels g joined free lead (suc steps) left bs h few = elim (peel_more g joined fr
 
 pub batches_some : BatchesExist
 batches_some g joined among free =
-    peels g joined free among (count_left (has_joined joined) (length joined)) (has_joined joined) []
+    peels g joined free among (suc (count_left (has_joined joined) (length joined))) (has_joined joined) []
     (peeled_first g (has_joined joined)) (omega arith)
 
 pub turns_some : TurnOrderExists
@@ -120,11 +102,7 @@ turns_once g joined xs ys r s =
     same_ordered (RunsBefore g) xs ys
     (λ i j p q a b.
     let m = r.all i ((r.of_joined i).0 p) in
-    let n = r.all j ((r.of_joined j).0 q) in
-    elim (a m.0 n.0 m.1 n.1) [
-      | inl x ↦ elim (b n.0 m.0 n.1 m.1) [ inl y ↦ omega arith | inr y ↦ omega (arith, y.0) ]
-      | inr x ↦ elim (b n.0 m.0 n.1 m.1) [ inl y ↦ omega (arith, x.0) | inr y ↦ omega (arith, x.1, y.1) ]
-    ])
+    let n = r.all j ((r.of_joined j).0 q) in grind (arith, a m.0 n.0 m.1 n.1, b n.0 m.0 n.1 m.1))
     r.in_order s.in_order
     (λ i c. (s.of_joined i).1 ((r.of_joined i).0 c))
     (λ i c. (r.of_joined i).1 ((s.of_joined i).0 c))

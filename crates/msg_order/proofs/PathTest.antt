@@ -1,16 +1,15 @@
 -- The test for a path, which grows edge by edge, says whether there is one.
-use Rattle.std.proofs.Common.{arith, ◌≡◌, ℕ, ◌⊎◌, inl, inr, Bool, true, false, ◌&&◌, ◌||◌, List, [], ◌∷◌, ◌++◌, ap, sym, subst, ◌∙◌}
+use Rattle.std.proofs.Common.{arith, ◌≡◌, ℕ, ◌⊎◌, inl, inr, Bool, true, false, ◌&&◌, ◌||◌, List, [], ◌∷◌, ◌++◌, sym, subst, ◌∙◌}
 use Rattle.std.specs.Prelude.{◌==◌}
-use Rattle.std.proofs.lemmas.Bool.{eqb-true, eq-eqb, or_cases, or_left, or_right, and_parts, and_from, false≢true, false_from_ne_true}
+use Rattle.std.proofs.lemmas.Bool.Decides.{eqb_tells}
+use Rattle.std.proofs.lemmas.Bool.{eqb-true, or_cases, and_parts, false≢true, false_from_ne_true}
 use Rattle.msg_order.specs.Prelude.{Graph, IsEdge, IsChain, Path}
 use Rattle.msg_order.specs.inner.Paths.{path}
-use Rattle.msg_order.proofs.Elements.{Contains-head, Contains-tail, Contains-cases, not_in_none}
+use Rattle.msg_order.proofs.Elements.{Contains-head, Contains-tail, not_in_none}
 use Rattle.msg_order.proofs.Chains.{edge_is_path, paths_join, path_grows}
 
 pub edge_cases : (e : ℕ × ℕ) (g : Graph) (i j : ℕ) → IsEdge (e ∷ g) i j → ((e.0 ≡ i) × (e.1 ≡ j)) ⊎ IsEdge g i j
-edge_cases e g i j h =
-    elim (Contains-cases e g (i, j) h)
-    [ inl s ↦ inl (ap (λ (x : ℕ × ℕ). x.0) s, ap (λ (x : ℕ × ℕ). x.1) s) | inr t ↦ inr t ]
+edge_cases e g i j h = grind arith
 
 abbrev to : (ℕ × ℕ) → Graph → ℕ → Bool
 to e g a = a == e.0 || path g a e.0
@@ -20,39 +19,11 @@ from e g b = b == e.1 || path g e.1 b
 
 pub edge_path : (g : Graph) (i j : ℕ) → IsEdge g i j → path g i j ≡ true
 edge_path [] i j h = absurd (not_in_none (i, j) h)
-edge_path (e ∷ g) i j h = elim (edge_cases e g i j h) [
-  | inl x ↦ or_right (path g i j) (to e g i && from e g j)
-      (and_from (to e g i) (from e g j) (or_left (i == e.0) (path g i e.0) (eq-eqb i e.0 (sym x.0)))
-      (or_left (j == e.1) (path g e.1 j) (eq-eqb j e.1 (sym x.1))))
-  | inr x ↦ or_left (path g i j) (to e g i && from e g j) (edge_path g i j x)
-]
+edge_path (e ∷ g) i j h = grind (arith, eqb_tells, edge_cases e g i j h, edge_path g i j)
 
 pub path_trans : (g : Graph) (i j k : ℕ) → path g i j ≡ true → path g j k ≡ true → path g i k ≡ true
 path_trans [] i j k p q = p
-path_trans (e ∷ g) i j k p q =
-    let old_to : (a b : ℕ) → path g a b ≡ true → to e g b ≡ true → to e g a
-    ≡ true = λ a b r t. elim (or_cases (b == e.0) (path g b e.0) t) [
-      | inl x ↦ or_right (a == e.0) (path g a e.0) (subst (λ z. path g a z ≡ true) (eqb-true b e.0 x) r)
-      | inr x ↦ or_right (a == e.0) (path g a e.0) (path_trans g a b e.0 r x)
-    ] in
-    let old_from : (a b : ℕ) → from e g a ≡ true → path g a b ≡ true → from e g b
-    ≡ true = λ a b t r. elim (or_cases (a == e.1) (path g e.1 a) t) [
-      | inl x ↦ or_right (b == e.1) (path g e.1 b) (subst (λ z. path g z b ≡ true) (eqb-true a e.1 x) r)
-      | inr x ↦ or_right (b == e.1) (path g e.1 b) (path_trans g e.1 a b x r)
-    ] in
-    elim (or_cases (path g i j) (to e g i && from e g j) p) [
-      | inl x ↦ elim (or_cases (path g j k) (to e g j && from e g k) q) [
-        | inl y ↦ or_left (path g i k) (to e g i && from e g k) (path_trans g i j k x y)
-        | inr y ↦ let b = and_parts (to e g j) (from e g k) y in or_right (path g i k) (to e g i && from e g k)
-            (and_from (to e g i) (from e g k) (old_to i j x b.0) b.1)
-      ]
-      | inr x ↦ let a = and_parts (to e g i) (from e g j) x in elim (or_cases (path g j k) (to e g j && from e g k) q) [
-        | inl y ↦ or_right (path g i k) (to e g i && from e g k)
-            (and_from (to e g i) (from e g k) a.0 (old_from j k a.1 y))
-        | inr y ↦ let b = and_parts (to e g j) (from e g k) y in or_right (path g i k) (to e g i && from e g k)
-            (and_from (to e g i) (from e g k) a.0 b.1)
-      ]
-    ]
+path_trans (e ∷ g) i j k p q = grind (arith, eqb_tells, path_trans g)
 
 chain_path : (g : Graph) (i : ℕ) (between : List ℕ) (j : ℕ) → IsChain g (i ∷ (between ++ j ∷ [])) → path g i j ≡ true
 chain_path g i [] j c = edge_path g i j c.0
@@ -96,6 +67,4 @@ same_test a b f h = grind arith
 -- graphs with the same edges have the same paths
 pub same_paths : (g h : Graph) → ((i j : ℕ) → IsEdge g i j → IsEdge h i j) → ((i j : ℕ) → IsEdge h i j → IsEdge g i j)
     → (i j : ℕ) → path g i j ≡ path h i j
-same_paths g h f k i j = same_test (path g i j) (path h i j)
-    (λ p. from_Path h i j (path_grows g h f i j (to_Path g i j p)))
-    (λ p. from_Path g i j (path_grows h g k i j (to_Path h i j p)))
+same_paths g h f k i j = grind (arith, same_test, from_Path, path_grows g h f, path_grows h g k, to_Path)

@@ -5,11 +5,11 @@ use Rattle.std.specs.List.{range_with_len}
 use Rattle.std.proofs.lemmas.Bool.{cases_lt, false≢true, false_from_ne_true}
 use Rattle.std.proofs.lemmas.List.{get_or_past}
 use Rattle.std.proofs.lemmas.List.FromFn.{fill_by_all, get_or-map-range_with_len, length-map-range_with_len}
-use Rattle.msg_order.specs.Prelude.{Graph, IsAmong, IsEdge, IsLawfulOrder, IsPlanOf, Path, PlanView, Rule, SystemSet, has_joined}
+use Rattle.msg_order.specs.Prelude.{Graph, IsAmong, IsEdge, IsLawfulOrder, IsPlanOf, PlanView, Rule, SystemSet, has_joined}
 use Rattle.msg_order.specs.inner.SystemSet.{has}
 use Rattle.msg_order.specs.inner.Paths.{comes_before, ArePaths, AreKept, IsSetOf, square, view_of}
 use Rattle.msg_order.proofs.Elements.{filter-Contains, Contains-filter, Contains-flat_map, Contains-map, Contains-range}
-use Rattle.msg_order.proofs.Chains.{first_edge, last_edge, edge_is_path}
+use Rattle.msg_order.proofs.Chains.{edge_is_path, path_among}
 use Rattle.msg_order.proofs.PathTest.{to_Path}
 use Rattle.msg_order.proofs.TurnOrders.{kept_along}
 use Rattle.msg_world.specs.declared.access.Access.{Access}
@@ -64,10 +64,8 @@ sets_kept g joined before set few len paths is among = record {
     | inr l ↦ absurd (false≢true (sym (get_or_past joined i false (omega arith)) ∙ sym (is i) ∙ t))
   ];
   among = λ i j t.
-      let p : Path g i j = to_Path g i j (sym (paths i j) ∙ t) in
-      let first = first_edge g i j p in
-      let last = last_edge g i j p in
-      (is i ∙ (among i first.0 first.1).0, is j ∙ (among last.0 j last.1).1);
+      let both = path_among g joined among i j (to_Path g i j (sym (paths i j) ∙ t)) in
+      (is i ∙ both.0, is j ∙ both.1);
 }
 
 -- an order is lawful for the pairs of a plan where it is for the edges that it was settled by

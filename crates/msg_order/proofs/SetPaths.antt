@@ -1,12 +1,12 @@
 -- The code's sets as the paths of a graph.
-use Rattle.std.proofs.Common.{◌≡◌, ◌≢◌, ℕ, ◌+◌, ◌-◌, ◌<◌, ◌≤◌, inl, inr, Bool, true, false, cond, ◌&&◌, ◌||◌, List, [], ◌∷◌, ◌++◌, length, take, map, get_or, replicate, Option, None, Some, refl, ap, sym, subst, ◌∙◌, arith, add-one, length-append}
-use Rattle.std.specs.Prelude.{◌==◌, Contains, filter, IfNone, IfSome, IsTrue, IsFalse, MatchOption, ◌↔◌}
+use Rattle.std.proofs.Common.{◌≡◌, ◌≢◌, ℕ, ◌+◌, ◌-◌, ◌<◌, ◌≤◌, inl, inr, Bool, true, false, cond, ◌&&◌, ◌||◌, List, [], ◌∷◌, ◌++◌, length, take, map, get_or, replicate, Option, None, Some, refl, ap, sym, subst, ◌∙◌, arith, length-append}
+use Rattle.std.specs.Prelude.{◌==◌, Contains, IfNone, IfSome, IsTrue, IsFalse, MatchOption, ◌↔◌}
 use Rattle.std.specs.List.{list_any, range_with_len}
-use Rattle.std.proofs.Math.Seq.{take-suc, get_or-append_seam}
-use Rattle.std.proofs.lemmas.List.{append-nil, get_or-take, get_or_past, map-append, get_or_append_left}
+use Rattle.std.proofs.lemmas.List.{append-nil, get_or-map, length-map, take-map, get_or-take, get_or_past, get_or_push, get_or_append_left}
 use Rattle.std.proofs.lemmas.Grind.{common_steps}
 use Rattle.std.proofs.lemmas.Simd.{get_or-replicate}
-use Rattle.std.proofs.lemmas.List.Elements.{All-head, All-tail, filter-append, Contains-append_left, Contains-push, Contains-push_cases}
+use Rattle.std.proofs.lemmas.List.Elements.{All-head, All-tail, filter_more, Contains-append_left, Contains-push, Contains-push_cases}
+use Rattle.std.proofs.lemmas.Bool.Decides.{eqb_tells}
 use Rattle.std.proofs.lemmas.Bool.{cases_eq, cases_lt, or_left, or_right, or_cases, and_parts, and_from, false≢true, false_from_ne_true, eqb-true, eq-eqb}
 use Rattle.msg_world.specs.declared.access.Access.{Access}
 use Rattle.msg_order.specs.Prelude.{AreInConflict, Graph, IsAcyclic, IsAmong, IsEdge, IsLowestOnCycle, NameSystemsBelow, Rule, Settles, SystemSet, edges_of, has_joined, pairs, rules_among}
@@ -25,9 +25,7 @@ pub none_past : (before : List SystemSet) (i j : ℕ) → length before ≤ j �
 none_past before i j h = ap (λ s. has s i) (set_past before j h) ∙ has-no_set i
 
 pub meets-no_set : (t : SystemSet) → meets no_set t ≡ false
-meets-no_set t =
-    false_from_ne_true (meets no_set t)
-    (λ h. let f = meets-true no_set t h in false≢true (sym (has-no_set f.0) ∙ f.1.1.0))
+meets-no_set t = grind (arith, false_from_ne_true, has-no_set, meets-true)
 
 -- what `add_edges` says of its sets
 abbrev pub AddsEdges : List SystemSet → ℕ → SystemSet → List SystemSet → Type 0
@@ -35,16 +33,13 @@ AddsEdges before from to new = (i j : ℕ) → comes_before new i j
     ≡ (comes_before before i j || ((i == from || comes_before before i from) &&
     (has to j || meets (set_at before j) to)))
 
-nothing : (b : Bool) → false ≡ (false || (b && (false || false)))
-nothing b = grind arith
-
 -- it holds past the last set
 pub adds_past : (before new : List SystemSet) (from : ℕ) (to : SystemSet) (i j : ℕ) → length new ≡ length before
     → length before ≤ j → ((k : ℕ) → has to k ≡ true → k < length before)
     → comes_before new i j ≡ (comes_before before i j ||
     ((i == from || comes_before before i from) && (has to j || meets (set_at before j) to)))
 adds_past before new from to i j len h within =
-    grind (arith, false_from_ne_true, meets-no_set, none_past, nothing, set_past)
+    grind (arith, false_from_ne_true, meets-no_set, none_past, set_past)
 
 -- One edge.
 pub adds_edge : (g : Graph) (before new : List SystemSet) (from later : ℕ) (to : SystemSet) → ArePaths g before
@@ -55,8 +50,7 @@ adds_edge g before new from later to h s few only i j =
 
 -- The rules one by one.
 edge_at_end : (g : Graph) (e : ℕ × ℕ) (i j : ℕ) → IsEdge (g ++ e ∷ []) i j → IsEdge (e ∷ g) i j
-edge_at_end g e i j h =
-    elim (Contains-push_cases g e (i, j) h) [ inl x ↦ Contains-tail e g (i, j) x | inr s ↦ (0, omega arith, s) ]
+edge_at_end g e i j h = grind (arith, Contains-push_cases g e (i, j) h, Contains-tail e g (i, j))
 
 edge_to_end : (g : Graph) (e : ℕ × ℕ) (i j : ℕ) → IsEdge (e ∷ g) i j → IsEdge (g ++ e ∷ []) i j
 edge_to_end g e i j h = elim (Contains-cases e g (i, j) h) [
@@ -71,45 +65,38 @@ path-at_end g e = same_paths (e ∷ g) (g ++ e ∷ []) (edge_to_end g e) (edge_a
 pub path-again : (g : Graph) (a b : ℕ) → path g a b ≡ true → (i j : ℕ) → path g i j ≡ path ((a, b) ∷ g) i j
 path-again g a b p i j = grind (arith, same_test, or_left, or_cases, and_parts, eqb-true, path_trans)
 
-rules_more : (joined : List Bool) (rules : List Rule) (k : ℕ) (d : Rule) → k < length rules →
-    rules_among joined (take (k + 1) rules)
-    ≡ rules_among joined (take k rules)
-    ++ cond (has_joined joined (get_or rules k d).earlier && has_joined joined (get_or rules k d).later)
-    (((get_or rules k d).earlier, (get_or rules k d).later) ∷ []) []
-rules_more joined rules k d h =
+-- a rule among the joined systems adds its edge
+pub rule_more : (joined : List Bool) (rules : List Rule) (k : ℕ) (d : Rule) → k < length rules → (i j : ℕ) →
+    path (rules_among joined (take (k + 1) rules)) i j
+    ≡ path (cond (has_joined joined (get_or rules k d).earlier && has_joined joined (get_or rules k d).later)
+    (((get_or rules k d).earlier, (get_or rules k d).later) ∷ rules_among joined (take k rules))
+    (rules_among joined (take k rules))) i j
+rule_more joined rules k d h i j =
     let f : Rule → ℕ × ℕ = λ r. (r.earlier, r.later) in
     let p : ℕ × ℕ → Bool = λ e. has_joined joined e.0 && has_joined joined e.1 in
-    rw (add-one, take-suc rules k d h)
-    (ap (filter p) (map-append f (take k rules) (get_or rules k d ∷ []))
-    ∙ filter-append p (map f (take k rules)) (map f (get_or rules k d ∷ [])))
-
--- a rule among the joined systems, which adds its edge, or whose path was there
-pub rule_adds : (joined : List Bool) (rules : List Rule) (k : ℕ) (d : Rule) (new : List SystemSet) → k < length rules
-    → ArePaths (((get_or rules k d).earlier, (get_or rules k d).later) ∷ rules_among joined (take k rules)) new
-    → (has_joined joined (get_or rules k d).earlier && has_joined joined (get_or rules k d).later) ≡ true
-    → ArePaths (rules_among joined (take (k + 1) rules)) new
-rule_adds joined rules k d new h s t i j = let r : Rule = get_or rules k d in
-    rw (rules_more joined rules k d h, t)
-    (s i j ∙ path-at_end (rules_among joined (take k rules)) (r.earlier, r.later) i j)
-
-pub rule_follows : (joined : List Bool) (rules : List Rule) (k : ℕ) (d : Rule) (before : List SystemSet)
-    → k < length rules → ArePaths (rules_among joined (take k rules)) before
-    → (has_joined joined (get_or rules k d).earlier && has_joined joined (get_or rules k d).later) ≡ true
-    → comes_before before (get_or rules k d).earlier (get_or rules k d).later ≡ true
-    → ArePaths (rules_among joined (take (k + 1) rules)) before
-rule_follows joined rules k d before h c t was = grind (arith, rule_adds, path-again)
-
-pub rule_passes : (joined : List Bool) (rules : List Rule) (k : ℕ) (d : Rule) (before : List SystemSet)
-    → k < length rules → ArePaths (rules_among joined (take k rules)) before
-    → (has_joined joined (get_or rules k d).earlier && has_joined joined (get_or rules k d).later) ≡ false
-    → ArePaths (rules_among joined (take (k + 1) rules)) before
-rule_passes joined rules k d before h c t =
-    rw (rules_more joined rules k d h, t)
-    (subst (λ g. ArePaths g before) (sym (append-nil (rules_among joined (take k rules)))) c)
+    grind (
+      arith,
+      filter_more p (map f rules) k (f d),
+      length-map rules f,
+      get_or-map f rules k d (f d) h,
+      take-map f k rules,
+      take-map f (k + 1) rules,
+      path-at_end (rules_among joined (take k rules)) (f (get_or rules k d)) i j,
+      append-nil (rules_among joined (take k rules)),
+    )
 
 -- The pairs of one system after those of the systems before it.
 abbrev pub IsOnWay : (ℕ → ℕ → Type 0) → Graph → ℕ → ℕ → List SystemSet → Type 0
 IsOnWay C g n i before = (h : Graph) × (ArePaths h before × Settles C g (pairs_until n i) h)
+
+-- one more number is in the set, or is not, as the property says
+pub gains_one : (P : ℕ → Type 0) {old new : ℕ → Bool} (j : ℕ) → ((k : ℕ) → new k ≡ (k == j || old k))
+    → ((k : ℕ) → IsTrue (old k) ↔ ((k < j) × P k)) → P j → (k : ℕ) → IsTrue (new k) ↔ ((k < j + 1) × P k)
+gains_one P j step told holds k = grind (arith, eqb_tells, cases_eq, step k, told k)
+
+pub gains_none : (P : ℕ → Type 0) {old : ℕ → Bool} (j : ℕ) → ((k : ℕ) → IsTrue (old k) ↔ ((k < j) × P k)) → (P j → ⊥)
+    → (k : ℕ) → IsTrue (old k) ↔ ((k < j + 1) × P k)
+gains_none P j told fails k = grind (arith, cases_eq, told k)
 
 -- what `later_conflicts` says
 abbrev pub TellsLater : (ℕ → ℕ → Type 0) → SystemSet → ℕ → SystemSet → Type 0
@@ -218,27 +205,23 @@ found_among_all m n rules before found le below h =
     let front = front_joined m n le in
     let all = all_rules joined rules (subst (λ k. NameSystemsBelow k rules) (sym front.0) below)
     (λ i lt. front.1 i (omega (arith, front.0))) in
-    of_both found (subst (λ g. MatchOption found (IsAcyclic g × ArePaths g before) (IsLowestOnCycle g)) all h)
+    of_both _ _ _ found (subst (λ g. MatchOption found (IsAcyclic g × ArePaths g before) (IsLowestOnCycle g)) all h)
   where
-    of_both : (found : Option ℕ) → MatchOption found (IsAcyclic (edges_of rules) × ArePaths (edges_of rules) before)
-        (IsLowestOnCycle (edges_of rules))
-        → IfSome found (IsLowestOnCycle (edges_of rules)) × IfNone found (IsAcyclic (edges_of rules))
-    of_both None h = (tt, h.0)
-    of_both (Some s) h = (h, tt)
+    of_both : (P Q : Type 0) (R : ℕ → Type 0) (found : Option ℕ) → MatchOption found (P × Q) R
+        → IfSome found R × IfNone found P
+    of_both P Q R found h = grind arith
 
 pub rules_join : (joined : List Bool) (rules : List Rule) → IsAmong joined (rules_among joined rules)
 rules_join joined rules i j h =
     and_parts (has_joined joined i) (has_joined joined j)
-    (filter-Contains (λ (e : ℕ × ℕ). has_joined joined e.0 && has_joined joined e.1)
-    (map (λ (r : Rule). (r.earlier, r.later)) rules) (i, j) h).1
+    (filter-Contains (λ (e : ℕ × ℕ). has_joined joined e.0 && has_joined joined e.1) (edges_of rules) (i, j) h).1
 
 pub settled_joins : (accesses : List Access) (rules : List Rule) (joined : List Bool) (h : Graph)
     → Settles (AreInConflict accesses joined) (rules_among joined rules) (pairs (length accesses)) h → IsAmong joined h
 settled_joins accesses rules joined h s i j e =
-    elim (settles_edges (AreInConflict accesses joined) (pairs (length accesses)) (rules_among joined rules) h s i j e) [
-      | inl x ↦ rules_join joined rules i j x
-      | inr x ↦ (x.1.first_joined, x.1.second_joined)
-    ]
+    let from = settles_edges (AreInConflict accesses joined) (pairs (length accesses)) (rules_among joined rules) h s
+    i j e in
+    grind (arith, from, rules_join joined rules i j)
 
 pub settled_free : (accesses : List Access) (rules : List Rule) (joined : List Bool) (h : Graph)
     → Settles (AreInConflict accesses joined) (rules_among joined rules) (pairs (length accesses)) h
@@ -251,10 +234,12 @@ settled_free accesses rules joined h s f i =
 -- a set that was just made
 pub sets_push : (before : List SystemSet) (set : SystemSet) → ArePaths [] before → ((k : ℕ) → has set k ≡ false)
     → ArePaths [] (before ++ set ∷ [])
-sets_push before set h none i j = elim (cases_eq j (length before)) [
-  | inl x ↦ rw x (ap (λ s. has s i) (get_or-append_seam before set [] no_set) ∙ none i)
-  | inr x ↦ elim (cases_lt j (length before)) [
-    | inl l ↦ ap (λ s. has s i) (get_or_append_left before (set ∷ []) no_set j l) ∙ h i j
-    | inr l ↦ none_past (before ++ set ∷ []) i j (omega (arith, length-append before (set ∷ [])))
-  ]
-]
+sets_push before set h none i j =
+    grind (
+      arith,
+      h i j,
+      get_or_push before set no_set j,
+      get_or_append_left before (set ∷ []) no_set j,
+      none_past (before ++ set ∷ []) i j,
+      length-append before (set ∷ []),
+    )

@@ -3,7 +3,8 @@ use Rattle.std.proofs.Common.{◌≡◌, ◌≢◌, ℕ, ◌+◌, ◌-◌, ◌<�
 use Rattle.std.specs.Prelude.{◌==◌, Contains, flat_map}
 use Rattle.std.specs.List.{list_any, range_with_len}
 use Rattle.std.proofs.Math.Bool.{and-false, or-false}
-use Rattle.std.proofs.lemmas.Bool.{cases_Bool, or_cases, and_parts, false≢true, false_from_ne_true, eqb-true, ne_eqb}
+use Rattle.std.proofs.lemmas.Bool.Decides.{eqb_tells}
+use Rattle.std.proofs.lemmas.Bool.{cases_Bool, or_cases, and_parts, false≢true, false_from_ne_true, eqb-true}
 use Rattle.std.proofs.lemmas.Grind.{flat_map-append}
 use Rattle.std.proofs.lemmas.List.{append-nil}
 use Rattle.msg_order.specs.Prelude.{GainsEdge, Graph, IsEdge, Path, Settles, pairs}
@@ -121,12 +122,11 @@ grown i test (j ∷ js) g = grown i test js (cond (test j) ((i, j) ∷ g) g)
 
 -- An edge from i adds no path to i, where no path leads back.
 same_to : (g : Graph) (i t x : ℕ) → t ≢ i → path g t i ≡ false → path ((i, t) ∷ g) x i ≡ path g x i
-same_to g i t x ne free =
-    rw (free, ne_eqb i t (λ e. ne (sym e)), and-false (x == i || path g x i), or-false (path g x i)) refl
+same_to g i t x ne free = grind (arith, eqb_tells)
 
 -- Nor does it to others from where no path leads to i.
 same_from : (g : Graph) (i t s k : ℕ) → s ≢ i → path g s i ≡ false → path ((i, t) ∷ g) s k ≡ path g s k
-same_from g i t s k ne free = rw (free, ne_eqb s i ne, or-false (path g s k)) refl
+same_from g i t s k ne free = grind (arith, eqb_tells)
 
 regroup : (p b q a : Bool) → ((p || (b && q)) || (b && a)) ≡ (p || (b && (q || a)))
 regroup z0 b q a = grind arith
@@ -137,7 +137,7 @@ AreFree g i test = (t : ℕ) → test t ≡ true → (t ≢ i) × (path g t i �
 
 -- an edge to one of them leaves it so
 still_free : (g : Graph) (i j : ℕ) (test : ℕ → Bool) → AreFree g i test → test j ≡ true → AreFree ((i, j) ∷ g) i test
-still_free g i j test f e t s = let q = f j e in let r = f t s in (r.0, same_to g i j t q.0 q.1 ∙ r.1)
+still_free g i j test f e t s = grind (arith, eqb_tells, f j, f t)
 
 -- the test holds of k, or of one from which a path leads to k
 abbrev pub reaches : (ℕ → Bool) → Graph → ℕ → ℕ → Bool
@@ -154,12 +154,8 @@ grown_paths g i test (j ∷ js) f x k = elim (cases_Bool (test j)) [
   | inr e ↦ rw e (grown_paths g i test js f x k)
   | inl e ↦
       let h : Graph = (i, j) ∷ g in
-      let q = f j e in
-      rw e (grown_paths h i test js (still_free g i j test f e) x k
-      ∙ ap (λ p. path h x k || ((x == i || p) && list_any (reaches test h k) js)) (same_to g i j x q.0 q.1)
-      ∙ ap (λ (p : ℕ → Bool). path h x k || ((x == i || path g x i) && list_any p js))
-      (λ n t. same_reach g i j k test f t n)
-      ∙ regroup (path g x k) (x == i || path g x i) (k == j || path g j k) (list_any (reaches test g k) js))
+      let same = ap (λ (p : ℕ → Bool). list_any p js) (λ n t. same_reach g i j k test f t n) in
+      grind (arith, e, grown_paths h i test js (still_free g i j test f e) x k, same, same_to g i j x, f j)
 ]
 
 -- The test tells which pairs of i and a later system gain their edge, whichever of them did before.
@@ -178,10 +174,7 @@ settles_row C g i test (j ∷ js) up h =
       | inl e ↦
           let at = (h j lt).0 e in
           let ne : j ≢ i = omega arith in
-          let on : TellsPairs C ((i, j) ∷ g) i test = λ t l.
-          let r = h t l in
-          let same : path ((i, j) ∷ g) t i ≡ path g t i = same_to g i j t ne at.1 in
-          (λ s. let q = r.0 s in (q.0, same ∙ q.1), λ c f. r.1 c (sym same ∙ f)) in
+          let on : TellsPairs C ((i, j) ∷ g) i test = λ t l. grind (arith, h t l, same_to g i j t ne at.1) in
           rw e (inl ((at.0, no_Path g j i at.1), settles_row C ((i, j) ∷ g) i test js later on))
       | inr e ↦ rw e (inr (
         λ x. false≢true (sym e ∙ (h j lt).1 x.0 (no_path g j i x.1)),

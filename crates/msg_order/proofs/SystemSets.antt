@@ -3,7 +3,7 @@ use Rattle.std.proofs.Common.{[], ◌∷◌, ◌≡◌, ◌≢◌, ℕ, ◌+◌,
 use Rattle.std.specs.Prelude.{◌==◌, bit_and, bit_or}
 use Rattle.std.specs.Int.{bit_not}
 use Rattle.std.specs.List.{list_any, range_with_len}
-use Rattle.std.proofs.lemmas.Bool.{cases_eq, and_parts, and_from, eq-eqb, ne_eqb, false≢true, false_from_ne_true}
+use Rattle.std.proofs.lemmas.Bool.{cases_eq, and_parts, and_from, eq-eqb, ne_eqb, false_from_ne_true}
 use Rattle.std.proofs.lemmas.List.{get_or_past}
 use Rattle.std.proofs.lemmas.Nat.Bits.{shr_and_one}
 use Rattle.msg_world.specs.Prelude.{has_bit}
@@ -24,8 +24,7 @@ below_some test n h = let f = Contains-list_any test (range_with_len 0 n) h in l
 
 pub none_below : (test : ℕ → Bool) (n : ℕ) → ((k : ℕ) → k < n → test k ≡ false)
     → list_any test (range_with_len 0 n) ≡ false
-none_below test n none = false_from_ne_true (list_any test (range_with_len 0 n))
-    (λ t. let f = below_some test n t in false≢true (sym (none f.0 f.1.0) ∙ f.1.1))
+none_below test n none = grind (arith, false_from_ne_true, below_some)
 
 same_place : (j k : ℕ) → j / 64 ≡ k / 64 → j % 64 ≡ k % 64 → j ≡ k
 same_place j k p q = omega arith
@@ -69,7 +68,7 @@ no_words q = grind (arith, get_or_past)
 -- nothing is in a set of no words
 pub has-no_set : (k : ℕ) → has no_set k ≡ false
 unfolding has
-has-no_set k = has_bit-zero (k % 64)
+has-no_set k = grind arith
 
 pub meets-found : (s t : SystemSet) (k : ℕ) → k < 256 → has s k ≡ true → has t k ≡ true → meets s t ≡ true
 unfolding meets

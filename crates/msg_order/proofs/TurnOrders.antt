@@ -1,16 +1,16 @@
 -- Places in an order, and the batches one after the other.
-use Rattle.std.proofs.Common.{◌≡◌, ◌≢◌, ℕ, suc, ◌+◌, ◌-◌, ◌<◌, inl, inr, Bool, List, [], ◌∷◌, ◌++◌, length, get_or, ap, sym, subst, ◌∙◌, arith, length-append}
+use Rattle.std.proofs.Common.{◌≡◌, ◌≢◌, ℕ, suc, ◌-◌, ◌<◌, inr, Bool, List, [], ◌∷◌, ◌++◌, length, get_or, sym, ◌∙◌, arith, length-append}
 use Rattle.std.specs.Prelude.{Contains, All, AllPairs}
 use Rattle.std.specs.List.{concat}
 use Rattle.std.proofs.lemmas.Bool.{cases_lt, cases_order}
 use Rattle.std.proofs.lemmas.Grind.{get_or_default_zero}
-use Rattle.std.proofs.lemmas.List.{get_or_append_left, get_or-append-add}
+use Rattle.std.proofs.lemmas.List.{get_or_append_left, get_or-append_right}
 use Rattle.std.proofs.lemmas.List.Elements.{All-head, All-tail, All-from_get_or, Contains-get_or}
 use Rattle.std.proofs.lemmas.List.Kept.{AllPairs-from_increasing}
 use Rattle.std.proofs.lemmas.Option.{slice_get-get_or, slice_get_within, get_or_from_slice_get}
 use Rattle.msg_world.specs.declared.access.Access.{Access}
-use Rattle.msg_order.specs.Prelude.{AreBatches, AreInConflict, Graph, IsBatchNumber, IsChain, IsLawfulOrder, IsTurnOrder, NoneConflict, Path, Rule, RunsBefore, Settles, StandsBefore, TurnOrderIsLawful, batch_at, pairs, rules_among}
-use Rattle.msg_order.proofs.Elements.{concat-Contains, Contains-concat}
+use Rattle.msg_order.specs.Prelude.{AreBatches, AreInConflict, Graph, IsBatchNumber, IsChain, IsEdge, IsLawfulOrder, IsTurnOrder, NoneConflict, Path, Rule, RunsBefore, Settles, StandsBefore, TurnOrderIsLawful, batch_at, pairs, rules_among}
+use Rattle.msg_order.proofs.Elements.{Contains-concat, concat-Contains}
 use Rattle.msg_order.proofs.Chains.{number_once, number_rises, edge_is_path}
 use Rattle.msg_order.proofs.SettledPairs.{settles_covers, Contains-pairs}
 use Rattle.msg_order.proofs.SetPaths.{joined_in}
@@ -45,9 +45,8 @@ stands_along : (order : List ℕ) (i j k : ℕ) → AllPairs (λ i j. i ≢ j) o
 stands_along order i j k once s t =
     let a = places_of order i k s in
     let b = places_of order k j t in
-    let same : s.later ≡ t.earlier = one_place order s.later t.earlier once a.below (omega (arith, b.in_order, b.below))
-    (a.second ∙ sym b.first) in
-    stands order i j s.earlier t.later (omega (arith, a.in_order, b.in_order)) b.below a.first b.second
+    let before : s.earlier < t.later = grind (arith, a, b, one_place order s.later t.earlier once) in
+    stands order i j s.earlier t.later before b.below a.first b.second
 
 -- a lawful order keeps paths too
 pub kept_along : (g : Graph) (joined : List Bool) (order : List ℕ) → IsLawfulOrder g joined order → (i j : ℕ)
@@ -62,26 +61,15 @@ kept_along g joined order w i j p = along i p.0 p.1
 pairs_append : (R : ℕ → ℕ → Type 0) (xs ys : List ℕ) → AllPairs R xs → AllPairs R ys
     → ((i j : ℕ) → Contains xs i → Contains ys j → R i j) → AllPairs R (xs ++ ys)
 pairs_append R xs ys f h across a b d lt l =
-    let sum : length (xs ++ ys) ≡ length xs + length ys = length-append xs ys in
-    elim (cases_lt b (length xs)) [
-      | inl in_b ↦ rw (get_or_append_left xs ys d a (omega arith), get_or_append_left xs ys d b in_b) (f a b d lt in_b)
-      | inr past_b ↦
-          let b' : ℕ = b - length xs in
-          let is_b : length xs + b' ≡ b = omega arith in
-          let at_b : get_or (xs ++ ys) b d ≡ get_or ys b' d = ap (λ k. get_or (xs ++ ys) k d) (sym is_b)
-          ∙ get_or-append-add xs ys b' d in
-          elim (cases_lt a (length xs)) [
-            | inl in_a ↦ rw (get_or_append_left xs ys d a in_a, at_b)
-                (across (get_or xs a d) (get_or ys b' d) (Contains-get_or xs a d in_a)
-                (Contains-get_or ys b' d (omega arith)))
-            | inr past_a ↦
-                let a' : ℕ = a - length xs in
-                let is_a : length xs + a' ≡ a = omega arith in
-                let at_a : get_or (xs ++ ys) a d ≡ get_or ys a' d = ap (λ k. get_or (xs ++ ys) k d) (sym is_a)
-                ∙ get_or-append-add xs ys a' d in
-                rw (at_a, at_b) (h a' b' d (omega arith) (omega arith))
-          ]
-    ]
+    grind (
+      arith,
+      cases_lt,
+      get_or_append_left xs ys d,
+      get_or-append_right xs ys (length xs),
+      length-append xs ys,
+      Contains-get_or xs a d,
+      Contains-get_or ys (b - length xs) d,
+    )
 
 -- what holds within each batch, and of an earlier one and a later one
 pairs_by_batch : (R : ℕ → ℕ → Type 0) (bs : List (List ℕ)) → All (AllPairs R) bs
@@ -109,9 +97,7 @@ in_turn_order g joined bs h = record {
       let is_n : b ≡ n = number_once g j b n ((h.of_number b j).0 (Contains-get_or batch y d in_)).1 at_n in
       inr (sym is_m ∙ is_n, AllPairs-from_increasing batch (h.by_addition b [] l) x y d lt in_)))
       (λ a b i j lt p q m n at_m at_n.
-      let is_m : a ≡ m = number_once g i a m ((h.of_number a i).0 p).1 at_m in
-      let is_n : b ≡ n = number_once g j b n ((h.of_number b j).0 q).1 at_n in
-      inl (omega arith));
+      grind (arith, number_once g i a m, number_once g j b n, h.of_number a i, h.of_number b j));
 }
 
 -- none runs before itself
@@ -120,10 +106,17 @@ runs_once : (g : Graph) (joined : List Bool) (order : List ℕ) → IsTurnOrder 
 runs_once g joined order t a b d lt l e =
     let i : ℕ = get_or order a d in
     let n = t.all i ((t.of_joined i).0 (Contains-get_or order a d (omega arith))) in
-    elim (t.in_order a b d lt l n.0 n.0 n.1 (subst (λ k. IsBatchNumber g k n.0) e n.1)) [
-      | inl x ↦ omega arith
-      | inr x ↦ let below : i < get_or order b d = x.1 in omega arith
-    ]
+    let before : RunsBefore g i (get_or order b d) = t.in_order a b d lt l in
+    grind (arith, before n.0 n.0 n.1)
+
+-- the place of i, from which an edge leads to j, is before that of j
+before : (g : Graph) (i j m n : ℕ) (order : List ℕ) → IsEdge g i j → IsBatchNumber g i m → IsBatchNumber g j n
+    → (a b : ℕ) → get_or order a 0 ≡ i → get_or order b 0 ≡ j
+    → (b < a → RunsBefore g (get_or order b 0) (get_or order a 0)) → a < b
+before g i j m n order e p q a b x y f =
+    let rise : m < n = number_rises g i j m n (edge_is_path g i j e) p q in
+    let back : b < a → RunsBefore g j i = λ l. rw (← x, ← y) (f l) in
+    grind (arith, cases_order, λ (l : b < a). back l n m q p, number_once g j m n)
 
 -- it keeps the order
 pub in_lawful_order : TurnOrderIsLawful
@@ -134,24 +127,10 @@ in_lawful_order g joined order among t = record {
       let both = among i j e in
       let m = t.all i both.0 in
       let n = t.all j both.1 in
-      let rise : m.0 < n.0 = number_rises g i j m.0 n.0 (edge_is_path g i j e) m.1 n.1 in
       let a = place_of order i ((t.of_joined i).1 both.0) in
       let b = place_of order j ((t.of_joined j).1 both.1) in
-      let first : a.0 < b.0 = elim (cases_order a.0 b.0) [
-        | inl same ↦
-            let is : i ≡ j = sym a.1.1 ∙ ap (λ k. get_or order k 0) same ∙ b.1.1 in
-            let one : m.0 ≡ n.0 = number_once g j m.0 n.0 (subst (λ k. IsBatchNumber g k m.0) is m.1) n.1 in
-            absurd (omega arith)
-        | inr o ↦ elim o [
-          | inl lt ↦ lt
-          | inr gt ↦
-              let back : RunsBefore g j i =
-              subst (RunsBefore g j) a.1.1
-              (subst (λ k. RunsBefore g k (get_or order a.0 0)) b.1.1 (t.in_order b.0 a.0 0 gt a.1.0)) in
-              elim (back n.0 m.0 n.1 m.1)
-              [ inl x ↦ absurd (omega arith) | inr x ↦ let one : n.0 ≡ m.0 = x.0 in absurd (omega arith) ]
-        ]
-      ] in
+      let first : a.0 < b.0 =
+      before g i j m.0 n.0 order e m.1 n.1 a.0 b.0 a.1.1 b.1.1 (λ l. t.in_order b.0 a.0 0 l a.1.0) in
       stands order i j a.0 b.0 first b.1.0 a.1.1 b.1.1;
 }
 
@@ -171,9 +150,8 @@ none_conflict accesses rules joined g bs len settled h =
     let below : j < length joined = joined_in joined j at_j.0 in
     let in_conflict : AreInConflict accesses joined i j =
     record { first_joined = at_i.0; second_joined = at_j.0; conflict = x } in
-    elim (settles_covers (AreInConflict accesses joined) (pairs (length accesses))
-    (rules_among joined rules) g settled i j
-    (Contains-pairs (length accesses) i j rising (omega arith)) in_conflict) [
-      | inl p ↦ let r : b < b = number_rises g i j b b p at_i.1 at_j.1 in absurd (omega arith)
-      | inr p ↦ let r : b < b = number_rises g j i b b p at_j.1 at_i.1 in absurd (omega arith)
-    ])
+    let paths = settles_covers (AreInConflict accesses joined) (pairs (length accesses)) (rules_among joined rules) g
+    settled i j (Contains-pairs (length accesses) i j rising (omega arith)) in_conflict in
+    let up = λ (p : Path g i j). number_rises g i j b b p at_i.1 at_j.1 in
+    let down = λ (p : Path g j i). number_rises g j i b b p at_j.1 at_i.1 in
+    grind (arith, paths, up, down))

@@ -1,13 +1,14 @@
 -- That there is one settled order and one list of batches, and what holds of each.
-use Rattle.std.proofs.Common.{◌≡◌, ℕ, suc, ◌<◌, ◌≤◌, inl, inr, Bool, ◌&&◌, List, [], ◌∷◌, length, map, get_or, refl, ap, sym, subst, ◌∙◌, arith}
-use Rattle.std.specs.Prelude.{Contains, AllPairs}
+use Rattle.std.proofs.Common.{◌≡◌, ℕ, ◌<◌, ◌≤◌, ◌⊎◌, inl, inr, Bool, ◌&&◌, List, [], ◌∷◌, length, map, get_or, refl, ap, sym, subst, ◌∙◌, arith}
+use Rattle.std.specs.Prelude.{All, AllPairs, Contains}
 use Rattle.std.proofs.lemmas.Bool.{cases_lt, cases_order, and_parts, and_from}
-use Rattle.std.proofs.lemmas.List.Elements.{Contains-get_or}
+use Rattle.std.proofs.lemmas.List.{ext_get_or, get_or_past}
+use Rattle.std.proofs.lemmas.List.Elements.{All-contains, Contains-get_or}
 use Rattle.std.proofs.lemmas.List.Kept.{AllPairs-from_increasing}
 use Rattle.msg_world.specs.declared.access.Access.{Access}
 use Rattle.msg_world.specs.Prelude.{Conflict}
 use Rattle.msg_order.specs.Prelude.{AreBatches, AreInConflict, BatchNumbersRise, BatchesAreUnique, ConflictingSystemsAreOrdered, FewerSystemsMakeNoCycle, Graph, IsBatchNumber, Rule, SettledOrderIsUnique, access_of, batch_at, has_joined, pairs, rules_among}
-use Rattle.msg_order.proofs.Elements.{Contains-head, Contains-tail, Contains-cases, not_in_none, filter-Contains, Contains-filter}
+use Rattle.msg_order.proofs.Elements.{AllPairs-head, AllPairs-tail, Contains-head, Contains-tail, Contains-cases, not_in_none, filter-Contains, Contains-filter}
 use Rattle.msg_order.proofs.Chains.{path_grows, number_once, number_rises}
 use Rattle.msg_order.proofs.SettledPairs.{settles_once, settles_covers, Contains-pairs}
 use Rattle.msg_order.proofs.SetPaths.{joined_in}
@@ -51,11 +52,13 @@ settled_once accesses rules joined g h a b = settles_once (AreInConflict accesse
     (rules_among joined rules) g h a b
 
 -- Lists of the same elements, in an order that holds one way only, are one list.
-ahead : (R : ℕ → ℕ → Type 0) (x : ℕ) (xs : List ℕ) → AllPairs R (x ∷ xs) → (i : ℕ) → Contains xs i → R x i
-ahead R x xs r i c = subst (R x) c.2 (r 0 (suc c.0) i (omega arith) (omega (arith, c.1)))
+first_same : (R : ℕ → ℕ → Type 0) (x y : ℕ) (xs ys : List ℕ) → (R x y → R y x → ⊥) → All (R x) xs → All (R y) ys
+    → (y ≡ x) ⊎ Contains ys x → (x ≡ y) ⊎ Contains xs y → x ≡ y
+first_same R x y xs ys one_way r s f h = grind (arith, All-contains (R x) xs y r, All-contains (R y) ys x s)
 
-tail_pairs : (R : ℕ → ℕ → Type 0) (x : ℕ) (xs : List ℕ) → AllPairs R (x ∷ xs) → AllPairs R xs
-tail_pairs R x xs r a b d lt l = r (suc a) (suc b) d (omega arith) (omega arith)
+not_first : (R : ℕ → ℕ → Type 0) (x y i : ℕ) (xs ys : List ℕ) → x ≡ y → (R x x → ⊥) → All (R x) xs → Contains xs i
+    → (y ≡ i) ⊎ Contains ys i → Contains ys i
+not_first R x y i xs ys same once r c f = grind (arith, All-contains (R x) xs i r c)
 
 pub same_ordered : (R : ℕ → ℕ → Type 0) (xs ys : List ℕ)
     → ((i j : ℕ) → Contains xs i → Contains xs j → R i j → R j i → ⊥) → AllPairs R xs → AllPairs R ys
@@ -66,60 +69,44 @@ same_ordered R (x ∷ xs) [] one_way r s f h = absurd (not_in_none x (f x (Conta
 same_ordered R (x ∷ xs) (y ∷ ys) one_way r s f h =
     let x_in : Contains (x ∷ xs) x = Contains-head x xs in
     let y_in : Contains (x ∷ xs) y = h y (Contains-head y ys) in
+    let after_x = AllPairs-head R x xs r in
+    let after_y = AllPairs-head R y ys s in
+    let first : x ≡ y =
+    first_same R x y xs ys (one_way x y x_in y_in) after_x after_y (Contains-cases y ys x (f x x_in))
+    (Contains-cases x xs y y_in) in
     let once : R x x → ⊥ = λ e. one_way x x x_in x_in e e in
-    let first : x ≡ y = elim (Contains-cases y ys x (f x x_in)) [
-      | inl e ↦ sym e
-      | inr c ↦ elim (Contains-cases x xs y y_in) [
-        | inl e ↦ e
-        | inr d ↦ absurd (one_way x y x_in y_in (ahead R x xs r y d) (ahead R y ys s x c))
-      ]
-    ] in
     let rest : xs ≡ ys = same_ordered R xs ys (λ i j p q. one_way i j (Contains-tail x xs i p) (Contains-tail x xs j q))
-    (tail_pairs R x xs r) (tail_pairs R y ys s)
-    (λ i c. elim (Contains-cases y ys i (f i (Contains-tail x xs i c))) [
-      | inl e ↦ absurd (once (subst (R x) (sym e ∙ sym first) (ahead R x xs r i c)))
-      | inr d ↦ d
-    ])
-    (λ i c. elim (Contains-cases x xs i (h i (Contains-tail y ys i c))) [
-      | inl e ↦ absurd (once (subst (λ k. R k x) (sym first) (subst (R y) (sym e) (ahead R y ys s i c))))
-      | inr d ↦ d
-    ]) in
+    (AllPairs-tail R x xs r) (AllPairs-tail R y ys s)
+    (λ i c. not_first R x y i xs ys first once after_x c (Contains-cases y ys i (f i (Contains-tail x xs i c))))
+    (λ i c. not_first R y x i ys xs (sym first) (subst (λ k. R k k → ⊥) first once) after_y c
+    (Contains-cases x xs i (h i (Contains-tail y ys i c)))) in
     ap (λ k. k ∷ xs) first ∙ ap (λ ks. y ∷ ks) rest
 
 pub same_rising : (xs ys : List ℕ) → AllPairs (λ a b. a < b) xs → AllPairs (λ a b. a < b) ys
     → ((i : ℕ) → Contains xs i → Contains ys i) → ((i : ℕ) → Contains ys i → Contains xs i) → xs ≡ ys
 same_rising xs ys r s f h = same_ordered (λ a b. a < b) xs ys (λ i j p q a b. omega arith) r s f h
 
--- lists with the same element at each place
-same_at : (bs cs : List (List ℕ)) → length bs ≡ length cs
-    → ((b : ℕ) → b < length bs → batch_at bs b ≡ batch_at cs b) → bs ≡ cs
-same_at [] [] e f = refl
-same_at [] (c ∷ cs) e f = absurd (omega arith)
-same_at (b ∷ bs) [] e f = absurd (omega arith)
-same_at (b ∷ bs) (c ∷ cs) e f = ap (λ k. k ∷ bs) (f 0 (omega arith))
-    ∙ ap (λ ks. c ∷ ks) (same_at bs cs (omega arith) (λ k l. f (suc k) (omega arith)))
-
 no_longer : (g : Graph) (joined : List Bool) (bs cs : List (List ℕ)) → AreBatches g joined bs → AreBatches g joined cs
     → length bs ≤ length cs
-no_longer g joined bs cs h k = elim (cases_lt (length cs) (length bs)) [
-  | inr l ↦ l
-  | inl l ↦
-      let b : ℕ = length cs in
-      let some : 0 < length (batch_at bs b) = h.filled b [] l in
-      let i : ℕ = get_or (batch_at bs b) 0 0 in
-      let at = (k.of_number b i).1 ((h.of_number b i).0 (Contains-get_or (batch_at bs b) 0 0 some)) in
-      absurd (not_in_none i (subst (λ xs. Contains xs i) (past cs) at))
-]
-  where
-    past : (cs : List (List ℕ)) → batch_at cs (length cs) ≡ []
-    past [] = refl
-    past (c ∷ cs) = past cs
+no_longer g joined bs cs h k =
+    let b : ℕ = length cs in
+    let i : ℕ = get_or (batch_at bs b) 0 0 in
+    grind (
+      arith,
+      cases_lt,
+      h.filled b [],
+      h.of_number b i,
+      k.of_number b i,
+      Contains-get_or (batch_at bs b) 0 0,
+      get_or_past cs b [],
+      not_in_none,
+    )
 
 pub batches_once : BatchesAreUnique
 batches_once g joined bs cs h k =
     let one : length bs ≤ length cs = no_longer g joined bs cs h k in
     let other : length cs ≤ length bs = no_longer g joined cs bs k h in
-    same_at bs cs (omega arith) (λ b l. same_rising (batch_at bs b) (batch_at cs b)
+    ext_get_or [] bs cs (omega arith) (λ b l. same_rising (batch_at bs b) (batch_at cs b)
     (AllPairs-from_increasing (batch_at bs b) (h.by_addition b [] l))
     (AllPairs-from_increasing (batch_at cs b) (k.by_addition b [] (omega arith)))
     (λ i c. (k.of_number b i).1 ((h.of_number b i).0 c))

@@ -1,11 +1,11 @@
 -- Bits of masks, as tests.
-use Rattle.std.proofs.Common.{◌≡◌, ◌≢◌, ℕ, zero, suc, ◌+◌, ◌*◌, ◌-◌, ◌/◌, ◌^◌, ◌%◌, ◌<◌, ◌≤◌, min, max, false, not, ◌&&◌, ◌||◌, inl, inr, refl, ap, sym, ◌∙◌, arith, w64}
+use Rattle.std.proofs.Common.{◌≡◌, ◌≢◌, ℕ, zero, suc, ◌+◌, ◌*◌, ◌-◌, ◌/◌, ◌^◌, ◌%◌, ◌<◌, ◌≤◌, min, max, Bool, true, false, not, ◌&&◌, ◌||◌, inl, inr, ap, sym, ◌∙◌, arith, w64}
 use lib.Count.{ones_step}
 use Rattle.std.specs.Prelude.{◌==◌, ◌↔◌, IsTrue, bit_and, bit_or, count_ones, nat_lt, ◌⊎◌}
 use Rattle.std.proofs.Math.Bool.{and-true}
 use Rattle.std.specs.Int.{bit_at, bit_not, trailing_zeros}
 use Rattle.std.proofs.lemmas.Bool.{cases_lt, cases_eq, eqb-true, eq-eqb, ne_eqb, eqb-false, le-ltb, lt-ltb, not-true, false≢true}
-use Rattle.std.proofs.lemmas.Bool.Decides.{nat_tests}
+use Rattle.std.proofs.lemmas.Bool.Decides.{eqb_tells, nat_tests}
 use Rattle.std.proofs.lemmas.Nat.{and_le_l, shr-shr}
 use Rattle.std.proofs.Math.Nat.{div-le_self}
 use Rattle.std.proofs.lemmas.Nat.Bits.{bit_at_lowest, bit_at-suc, bit_at_and, bit_at_or, bit_at_not, bit_at_above, bit_at-zero, bit_at-lt, bit_at_set_same, bit_at_set_other, bit_at_clear_same, bit_at_clear_other, bit_at-trailing_zeros}
@@ -38,27 +38,26 @@ has_bit-above a k h l = ap (λ n. n == 1) (bit_at_above a 64 k h l)
 
 pub has_bit-clear : (a b k : ℕ) → a < 2 ^ 64 → b < 2 ^ 64 → has_bit (bit_and a (bit_not w64 b)) k
     ≡ (has_bit a k && not (has_bit b k))
-has_bit-clear a b k la lb = has_bit-and a (bit_not w64 b) k ∙ elim (cases_lt k 64) [
-  | inl l ↦ ap (λ x. has_bit a k && x)
-      (ap (λ n. n == 1) (bit_at_not w64 b k lb l) ∙ not_test (bit_at b k) (bit_at-lt b k))
-  | inr l ↦ ap (λ x. x && has_bit (bit_not w64 b) k) (has_bit-above a k la l)
-      ∙ ap (λ x. x && not (has_bit b k)) (sym (has_bit-above a k la l))
-]
+has_bit-clear a b k la lb =
+    grind (
+      arith,
+      cases_lt k 64,
+      has_bit-and a (bit_not w64 b) k,
+      bit_at_not w64 b k lb,
+      not_test (bit_at b k) (bit_at-lt b k),
+      has_bit-above a k la,
+    )
 
 -- `mask | (1 << k)`
 pub has_bit-set : (mask k j : ℕ) → k < 64 → has_bit (bit_or mask (1 * 2 ^ k % 2 ^ 64)) j ≡ (j == k || has_bit mask j)
-has_bit-set mask k j h = elim (cases_eq j k) [
-  | inl e ↦ rw (e, eq-eqb k k refl) (ap (λ n. n == 1) (bit_at_set_same w64 mask k h))
-  | inr ne ↦ rw (ne_eqb j k ne) (ap (λ n. n == 1) (bit_at_set_other w64 mask k h j ne))
-]
+has_bit-set mask k j h =
+    grind (arith, eqb_tells, cases_eq j k, bit_at_set_same w64 mask k h, bit_at_set_other w64 mask k h j)
 
 -- `mask & !(1 << k)`
 pub has_bit-unset : (mask k j : ℕ) → k < 64 → j < 64 → has_bit (bit_and mask (bit_not w64 (1 * 2 ^ k % 2 ^ 64))) j
     ≡ (not (j == k) && has_bit mask j)
-has_bit-unset mask k j h l = elim (cases_eq j k) [
-  | inl e ↦ rw (e, eq-eqb k k refl) (ap (λ n. n == 1) (bit_at_clear_same w64 mask k h))
-  | inr ne ↦ rw (ne_eqb j k ne) (ap (λ n. n == 1) (bit_at_clear_other w64 mask k h j l ne))
-]
+has_bit-unset mask k j h l =
+    grind (arith, eqb_tells, cases_eq j k, bit_at_clear_same w64 mask k h, bit_at_clear_other w64 mask k h j l)
 
 -- a mask that isn't 0 has a bit
 pub some_bit : (n : ℕ) → n < 2 ^ 64 → n ≢ 0 → (k : ℕ) × ((k < 64) × IsTrue (has_bit n k))
@@ -72,34 +71,8 @@ share_bit-and a b fits =
     let le : bit_and a b ≤ a = and_le_l a b in (
       λ t. let bit = some_bit (bit_and a b) (omega arith) (eqb-false (bit_and a b) 0 (not-true (bit_and a b == 0) t)) in
           (bit.0, sym (has_bit-and a b bit.0) ∙ bit.1.1),
-      λ s. elim (cases_eq (bit_and a b) 0) [
-        | inl e ↦ absurd (false≢true (sym (has_bit-zero s.0) ∙ ap (λ n. has_bit n s.0) (sym e)
-            ∙ has_bit-and a b s.0 ∙ s.1))
-        | inr ne ↦ ap not (ne_eqb (bit_and a b) 0 ne)
-      ],
+      λ s. grind (arith, eqb_tells, has_bit-zero s.0, has_bit-and a b s.0, s.1),
     )
-
--- the test `mask >> n == 0`
-pub shr-is_below : (mask n : ℕ) → mask < 2 ^ 64 → IsTrue (mask / 2 ^ n == 0) ↔ IsBelow mask n
-shr-is_below mask n fits = (
-  λ t k bit. elim (cases_lt k n) [
-    | inl l ↦ l
-    | inr l ↦
-        let k' : ℕ = k - n in
-        let is : n + k' ≡ k = omega arith in
-        let gone : mask / 2 ^ n ≡ 0 = eqb-true (mask / 2 ^ n) 0 t in
-        absurd (false≢true (sym (has_bit-zero k') ∙ ap (λ m. has_bit m k') (sym gone)
-        ∙ ap (λ m. m % 2 == 1) (shr-shr mask n k') ∙ ap (has_bit mask) is ∙ bit))
-  ],
-  λ below. elim (cases_eq (mask / 2 ^ n) 0) [
-    | inl e ↦ eq-eqb (mask / 2 ^ n) 0 e
-    | inr ne ↦
-        let le : mask / 2 ^ n ≤ mask = div-le_self mask (2 ^ n) in
-        let bit = some_bit (mask / 2 ^ n) (omega arith) ne in
-        let past : n + bit.0 < n = below (n + bit.0) (sym (ap (λ m. m % 2 == 1) (shr-shr mask n bit.0)) ∙ bit.1.1) in
-        absurd (omega arith)
-  ],
-)
 
 -- whatever its size
 some_bit_of : (fuel n : ℕ) → n ≤ fuel → n ≢ 0 → (k : ℕ) × IsTrue (has_bit n k)
@@ -113,7 +86,7 @@ some_bit_of (suc fuel) n h ne = elim (cases_eq (n % 2) 1) [
 
 pub decide_share : (a b : ℕ) → ShareBit a b ⊎ (ShareBit a b → ⊥)
 decide_share a b = elim (cases_eq (bit_and a b) 0) [
-  | inl e ↦ inr (λ s. false≢true (sym (has_bit-zero s.0) ∙ ap (λ n. has_bit n s.0) (sym e) ∙ has_bit-and a b s.0 ∙ s.1))
+  | inl e ↦ inr (λ s. grind (arith, has_bit-zero s.0, has_bit-and a b s.0, s.1))
   | inr ne ↦ let r = some_bit_of (bit_and a b) (bit_and a b) (omega arith) ne in inl
       (r.0, sym (has_bit-and a b r.0) ∙ r.1)
 ]
@@ -140,15 +113,25 @@ module _ (mask n : ℕ) (fits : mask < 2 ^ 64) (some : mask / 2 ^ n ≢ 0) where
   lowest = bit_at-trailing_zeros w64 (mask / 2 ^ n) (omega arith) rest_fits
 
   pub next_is_set : IsTrue (has_bit mask (n + trailing_zeros w64 (mask / 2 ^ n)))
-  next_is_set =
-      sym (sym (eq-eqb (bit_at (mask / 2 ^ n) (trailing_zeros w64 (mask / 2 ^ n))) 1 lowest.1)
-      ∙ shifted mask n (trailing_zeros w64 (mask / 2 ^ n)))
+  next_is_set = grind (arith, eqb_tells, lowest.1, shifted mask n (trailing_zeros w64 (mask / 2 ^ n)))
 
   pub next_is_below : n + trailing_zeros w64 (mask / 2 ^ n) < 64
   next_is_below = grind (arith, cases_lt, false≢true, has_bit-above, next_is_set)
 
   pub none_before_next : (k : ℕ) → n ≤ k → k < n + trailing_zeros w64 (mask / 2 ^ n) → has_bit mask k ≡ false
   none_before_next k le lt = shifted-from mask n k le ∙ ap (λ b. b == 1) (lowest.2 (k - n) (omega arith))
+
+-- the test `mask >> n == 0`
+pub shr-is_below : (mask n : ℕ) → mask < 2 ^ 64 → IsTrue (mask / 2 ^ n == 0) ↔ IsBelow mask n
+shr-is_below mask n fits = (
+  λ t k bit. grind (arith, cases_lt k n, eqb-true (mask / 2 ^ n) 0 t, none_from mask n),
+  λ below. elim (cases_eq (mask / 2 ^ n) 0) [
+    | inl e ↦ eq-eqb (mask / 2 ^ n) 0 e
+    | inr ne ↦
+        let past : n + trailing_zeros w64 (mask / 2 ^ n) < n = below _ (next_is_set mask n fits ne) in
+        absurd (omega arith)
+  ],
+)
 
 -- ---- how many bits are set from a number on
 
@@ -180,6 +163,10 @@ pub below_next : (mask n next : ℕ) → IsTrue (has_bit mask n) → n < next
     → ((k : ℕ) → n + 1 ≤ k → k < next → has_bit mask k ≡ false)
     → (k : ℕ) → (has_bit mask k && nat_lt k next) ≡ (k == n || (has_bit mask k && nat_lt k n))
 below_next mask n next set lt none k = grind (arith, cases_eq, eq-eqb, lt-ltb, cases_lt, ne_eqb, le-ltb)
+
+-- n itself isn't one of them
+pub none_itself : (bit : Bool) (k n : ℕ) → (k == n) ≡ true → (bit && nat_lt k n) ≡ false
+none_itself bit k n is = grind (arith, nat_tests)
 
 -- there are no others than those below 64
 pub all_below : (mask n : ℕ) → mask < 2 ^ 64 → 64 ≤ n → (k : ℕ) → (has_bit mask k && nat_lt k n) ≡ has_bit mask k

@@ -1,7 +1,7 @@
 -- Conflicts, clashes and limits of accesses by their masks.
 use Rattle.std.proofs.Common.{arith, ◌≡◌, ℕ, ◌<◌, Bool, false, ◌&&◌, ◌||◌, inl, inr, ◌⊎◌, sym, ◌∙◌}
 use Rattle.std.specs.Prelude.{◌↔◌, IsTrue, bit_or}
-use Rattle.std.proofs.lemmas.Bool.{cases_Bool, or_cases, or_left, or_right, and_parts, and_from, false≢true}
+use Rattle.std.proofs.lemmas.Bool.{cases_Bool, or_cases, false≢true}
 use Rattle.msg_world.specs.Prelude.{Access, Conflict, IsClash, OfResource, OfType, Part, Registry, has_bit, uses, writes}
 use Rattle.msg_world.specs.inner.Masks.{ShareBit, Collide, IsBelow}
 use Rattle.msg_world.proofs.Bits.{has_bit-or, decide_share}
@@ -30,23 +30,11 @@ conflicts_lem a b types resources t r = (
   λ c. found c.0 c.1,
 )
   where
-    of_masks : (p : Part) → IsTrue (writes a p && uses b p) ⊎ IsTrue (writes b p && uses a p) → IsTrue types
-        ⊎ (IsTrue resources ⊎ IsTrue (a.registry && b.registry))
-    of_masks (OfType k) h = inl (t.1 (k, h))
-    of_masks (OfResource k) h = inr (inl (r.1 (k, h)))
-    of_masks Registry (inl h) = inr (inr h)
-    of_masks Registry (inr h) = let both =
-        and_parts b.registry a.registry h in inr (inr (and_from a.registry b.registry both.1 both.0))
-
     found : (p : Part) → IsTrue (writes a p && uses b p) ⊎ IsTrue (writes b p && uses a p)
         → IsTrue ((types || resources) || (a.registry && b.registry))
-    found p h = elim (of_masks p h) [
-      | inl x ↦ or_left (types || resources) (a.registry && b.registry) (or_left types resources x)
-      | inr x ↦ elim x [
-        | inl y ↦ or_left (types || resources) (a.registry && b.registry) (or_right types resources y)
-        | inr y ↦ or_right (types || resources) (a.registry && b.registry) y
-      ]
-    ]
+    found (OfType k) h = let x = t.1 (k, h) in grind arith
+    found (OfResource k) h = let x = r.1 (k, h) in grind arith
+    found Registry h = grind arith
 
 pub is_clash-masks : (a : Access) → IsClash a → ShareBit a.read_types a.write_types ⊎ ShareBit a.read_res a.write_res
 is_clash-masks a c = grind (arith, false≢true)
@@ -79,6 +67,4 @@ decide_conflict a b = elim (decide_masks a.read_types a.write_types b.read_types
         → (a.registry && b.registry) ≡ false → IsTrue (writes a p && uses b p) ⊎ IsTrue (writes b p && uses a p) → ⊥
     none (OfType k) x y f h = x (k, h)
     none (OfResource k) x y f h = y (k, h)
-    none Registry x y f (inl h) = false≢true (sym f ∙ h)
-    none Registry x y f (inr h) = let both =
-        and_parts b.registry a.registry h in false≢true (sym f ∙ and_from a.registry b.registry both.1 both.0)
+    none Registry x y f h = grind arith

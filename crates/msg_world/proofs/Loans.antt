@@ -1,12 +1,13 @@
 -- What loans stand for.
-use Rattle.std.proofs.Common.{arith, ◌≡◌, ℕ, ◌<◌, length, Bool, true, false, refl, sym, ap, subst, ◌∙◌, inl, inr, Option, Some, None}
+use Rattle.std.proofs.Common.{arith, ◌≡◌, ℕ, ◌<◌, length, Bool, true, false, refl, subst, ◌∙◌, inr, Option, Some, None}
 use Rattle.std.specs.Prelude.{ℤ, IfSome, IsSome, IsTrue, is_some, option_map, if◌then◌else◌}
 use Rattle.std.specs.Option.{option_or}
-use Rattle.std.proofs.lemmas.Bool.{and_from, cases_Bool, cases_eq, cases_lt, eq-eqb, ne_eqb, false≢true, or_left}
+use Rattle.std.proofs.lemmas.Bool.Decides.{eqb_tells}
+use Rattle.std.proofs.lemmas.Bool.{false_from_ne_true, cases_Bool, cases_eq, cases_lt, false≢true}
 use Rattle.std.proofs.Math.ListN.{length-set}
 use Rattle.std.proofs.lemmas.List.{get_or-set_same, get_or-set_other, get_or_past}
 use Rattle.msg_buffer.specs.Prelude.{History, StandsFor}
-use Rattle.msg_world.specs.Prelude.{Access, HomeAgain, HomeMerges, LendsOut, Lent, LoanEnds, LoanStands, LoanStays, Marks, MayComeHome, OfResource, OfType, Part, Parts, PartsStand, Record, Registry, SameShape, Stuff, StuffStands, ValuesStand, WorldState, WritesStand, after_signal, content, merge, reads, signalled_marks, slot, uses, with_history, with_messages, with_resource, with_value, with_value_of, writable, writes}
+use Rattle.msg_world.specs.Prelude.{Access, HomeAgain, HomeMerges, LendsOut, Lent, LoanEnds, LoanStands, LoanStays, Marks, MayComeHome, OfResource, OfType, Part, Parts, PartsStand, Record, Registry, SameShape, Stuff, StuffStands, ValuesStand, WorldState, WritesStand, after_signal, content, merge, reads, signalled_marks, slot, with_history, with_messages, with_resource, with_value, with_value_of, writable, writes}
 use Rattle.msg_world.proofs.Worlds.{type_shape}
 use Rattle.std.proofs.lemmas.Option.{none-some}
 
@@ -21,23 +22,17 @@ abbrev pub with_signal : Parts → Parts
 with_signal w = record w { marks = option_map signalled_marks w.marks }
 
 pub with_signal_shape : (w : Parts) → SameShape w (with_signal w)
-with_signal_shape w = record { size = record { types = refl; resources = refl }; there = there }
-  where
-    there : (p : Part) → is_some (slot p (with_signal w)) ≡ is_some (slot p w)
-    there (OfType t) = refl
-    there (OfResource r) = refl
-    there Registry = still_some w.marks
+with_signal_shape w = record {
+  size = record { types = refl; resources = refl };
+  there = elim [ OfType t ↦ refl | OfResource r ↦ refl | Registry ↦ still_some w.marks ];
+}
 
 -- a loan of the registry, after a signal
 pub signal_stands : (l : Lent) (s : WorldState) → l.access.registry ≡ true → LoanStands l s
     → LoanStands (record l { taken = with_signal l.taken }) (after_signal s)
 signal_stands l s lent stand (OfType t) = stand (OfType t)
 signal_stands l s lent stand (OfResource r) = stand (OfResource r)
-signal_stands l s lent stand Registry =
-    let P : Bool → Type 0 = λ b. IfSome (if b then option_map signalled_marks l.taken.marks else None)
-    (λ k. k ≡ signalled_marks s.marks) in
-    let Q : Bool → Type 0 = λ b. IfSome (if b then l.taken.marks else None) (λ k. k ≡ s.marks) in
-    subst P (sym lent) (same_marks l.taken.marks s.marks (subst Q lent (stand Registry)))
+signal_stands l s lent stand Registry = grind (arith, same_marks l.taken.marks s.marks, stand Registry)
 
 -- ---- writing
 
@@ -62,25 +57,24 @@ writes_are l t k there =
     stands : (s : WorldState) (h : History Record) → StandsFor k h → LoanStands l s
         → IsTrue (writes l.access (OfType t)) → t < length l.taken.types
         → LoanStands (with_messages l t k) (with_history s t h)
-    stands s h here stand written lt (OfType u) = elim (cases_eq u t) [
-      | inl e ↦ rw (e, written, get_or-set_same l.taken.types t (Some k) None lt, eq-eqb t t refl) here
-      | inr ne ↦ rw (get_or-set_other l.taken.types t u (Some k) None ne, ne_eqb u t ne) (stand (OfType u))
-    ]
+    stands s h here stand written lt (OfType u) =
+        let set_there = get_or-set_same l.taken.types t (Some k) None lt in
+        grind (arith, eqb_tells, set_there, get_or-set_other l.taken.types t u (Some k) None, stand (OfType u))
     stands s h here stand written lt (OfResource r) = stand (OfResource r)
     stands s h here stand written lt Registry = stand Registry
 
 value_shape : (w : Parts) (r : ℕ) (z : ℤ) → r < length w.resources → IsSome (slot (OfResource r) w)
     → SameShape w (with_value w r z)
-value_shape w r z lt there =
-    record { size = record { types = refl; resources = length-set w.resources r (Some z) }; there = same }
-  where
-    same : (p : Part) → is_some (slot p (with_value w r z)) ≡ is_some (slot p w)
-    same (OfType t) = refl
-    same (OfResource q) = elim (cases_eq q r) [
-      | inl e ↦ rw (e, get_or-set_same w.resources r (Some z) None lt) (sym there)
-      | inr ne ↦ ap is_some (get_or-set_other w.resources r q (Some z) None ne)
-    ]
-    same Registry = refl
+value_shape w r z lt there = record {
+  size = record { types = refl; resources = length-set w.resources r (Some z) };
+  there = elim [
+    | OfType t ↦ refl
+    | OfResource q ↦
+        let set_there = get_or-set_same w.resources r (Some z) None lt in
+        grind (arith, cases_eq q r, set_there, get_or-set_other w.resources r q)
+    | Registry ↦ refl
+  ];
+}
 
 pub values_are_written : ValuesStand
 values_are_written l r z there =
@@ -93,10 +87,9 @@ values_are_written l r z there =
     stands : (s : WorldState) → LoanStands l s → IsTrue (writes l.access (OfResource r)) → r < length l.taken.resources
         → LoanStands (with_resource l r z) (with_value_of s r z)
     stands s stand written lt (OfType t) = stand (OfType t)
-    stands s stand written lt (OfResource q) = elim (cases_eq q r) [
-      | inl e ↦ rw (e, written, get_or-set_same l.taken.resources r (Some z) None lt, eq-eqb r r refl) refl
-      | inr ne ↦ rw (get_or-set_other l.taken.resources r q (Some z) None ne, ne_eqb q r ne) (stand (OfResource q))
-    ]
+    stands s stand written lt (OfResource q) =
+        let set_there = get_or-set_same l.taken.resources r (Some z) None lt in
+        grind (arith, eqb_tells, set_there, get_or-set_other l.taken.resources r q (Some z) None, stand (OfResource q))
     stands s stand written lt Registry = stand Registry
 
 -- ---- lending out
@@ -112,17 +105,12 @@ chosen_stands p s b o z4 = grind arith
 
 pub loan_stays : LoanStays
 loan_stays a b world taken left others apart loan lends = record {
-  size =
-      record {
-        types = loan.size.types ∙ sym lends.left_size.types;
-        resources = loan.size.resources
-            ∙ sym lends.left_size.resources;
-      };
+  size = grind (arith, loan.size, lends.left_size);
   written = loan.written;
-  read = λ p read isnt. elim (cases_Bool (writes b p)) [
-    | inl is ↦ absurd (apart (p, inr (and_from (writes b p) (uses a p) is (or_left (reads a p) (writes a p) read))))
-    | inr free ↦ ap is_some (lends.stayed p) ∙ rw free (loan.read p read isnt)
-  ];
+  read = λ p read isnt.
+      let free : writes b p ≡ false = false_from_ne_true (writes b p) (λ is.
+      apart (p, inr (grind arith))) in
+      grind (arith, free, lends.stayed p, loan.read p read isnt);
 }
 
 -- ---- coming home
@@ -186,16 +174,13 @@ pub loan_ends : LoanEnds
 loan_ends a old left taken begun ended lends of owns same =
     let shape : SameShape taken ended.taken = subst (λ (w : Parts). SameShape w ended.taken) owns same.shape in
     let none : (p : Part) → writes a p ≡ false → slot p ended.taken ≡ None =
-    λ p isnt. no_slot (slot p ended.taken) (shape.there p ∙ (ap is_some (lends.moved p) ∙ rw isnt refl)) in
+    λ p isnt. no_slot (slot p ended.taken) (grind (arith, shape.there p, lends.moved p)) in
     let same_access : ended.access ≡ a = same.access ∙ of in (
       may_come_home a old left taken ended.taken lends shape,
       λ home back. (
         home_again a old left taken ended.taken home lends shape back,
-        λ s mine before after. home_merges a ended.taken left home mine s none
-            (λ p is. lends.stayed p ∙ rw is refl) back
-            (owned_where_written ended mine
-            (λ p isnt. none p (sym (ap (λ (b : Access). writes b p) same_access) ∙ isnt)) after)
-            (λ p. let P : Option (Stuff p) → Type 0 = λ o. IfSome o (λ k. StuffStands p k (content p s)) in
-            subst P (sym (lends.stayed p)) (chosen_stands p s (writes a p) (slot p old) (before p)).1),
+        λ s mine before after. home_merges a ended.taken left home mine s none (λ p is. grind (arith, lends.stayed p))
+            back (owned_where_written ended mine (λ p isnt. none p (grind (arith, same_access))) after)
+            (λ p. rw (lends.stayed p) (chosen_stands p s (writes a p) (slot p old) (before p)).1),
       ),
     )

@@ -1,5 +1,5 @@
 -- Parts in their slots, one part after the other.
-use Rattle.std.proofs.Common.{◌≡◌, ℕ, zero, suc, ◌<◌, List, [], ◌∷◌, ◌++◌, length, get_or, refl, sym, ap, subst, ◌∙◌, arith, inl, inr, ◌⊎◌, Option, Some, None}
+use Rattle.std.proofs.Common.{◌≡◌, ℕ, zero, suc, ◌<◌, List, [], ◌∷◌, ◌++◌, length, get_or, refl, sym, ap, ◌∙◌, arith, inl, ◌⊎◌, Option, Some, None}
 use Rattle.std.specs.Prelude.{◌==◌, ◌||◌, if◌then◌else◌, All, Bool, true, false, replicate, slice_get, slice_set}
 use Rattle.std.specs.Option.{option_or}
 use Rattle.std.proofs.lemmas.Bool.{cases_lt, cases_eq, eq-eqb, ne_eqb}
@@ -29,8 +29,8 @@ module _ {X : Type 0} where
   pub at_none : (n slot : ℕ) (ms : List (Moved X)) → NoneOf slot ms → at (placed n ms) slot ≡ None
   at_none n slot [] none = at_empty n slot
   at_none n slot (m ∷ ms) none =
-      get_or-set_other (placed n ms) m.slot slot (Some m.part) None (λ e. none 0 m refl (sym e))
-      ∙ at_none n slot ms (λ j k is. none (suc j) k is)
+      let rest = at_none n slot ms (λ j k is. none (suc j) k is) in
+      grind (arith, rest, none 0 m refl, get_or-set_other (placed n ms) m.slot slot (Some m.part) None)
 
   -- the first part of a slot, with the next one's place
   rest_first : (slot i : ℕ) (m : Moved X) (ms : List (Moved X)) → IsFirstOf slot (m ∷ ms) (suc i) → IsFirstOf slot ms i
@@ -46,101 +46,75 @@ module _ {X : Type 0} where
       → slice_get ms i ≡ Some m → at (placed n ms) slot ≡ Some m.part
   at_first n slot [] i m lt f is = absurd (let no : i < 0 = f.there in omega arith)
   at_first n slot (k ∷ ms) zero m lt f is =
-      let same : k.slot ≡ slot = f.its k refl in
-      let within : slot < length (placed n ms) = subst (λ z. slot < z) (sym (placed_length n ms)) lt in
-      ap (λ s. at (slice_set (placed n ms) s (Some k.part)) slot) same
-      ∙ get_or-set_same (placed n ms) slot (Some k.part) None within ∙ ap (λ o. some_part o) is
-    where
-      some_part : Option (Moved X) → Option X
-      some_part None = None
-      some_part (Some o) = Some o.part
+      grind (arith, f.its k refl, get_or-set_same (placed n ms) slot (Some k.part) None, placed_length n ms)
   at_first n slot (k ∷ ms) (suc i) m lt f is =
-      get_or-set_other (placed n ms) k.slot slot (Some k.part) None (λ e. f.first 0 k (omega arith) refl (sym e))
-      ∙ at_first n slot ms i m lt (rest_first slot i k ms f) is
+      let rest = at_first n slot ms i m lt (rest_first slot i k ms f) is in
+      let apart = f.first 0 k (omega arith) refl in
+      grind (arith, rest, apart, get_or-set_other (placed n ms) k.slot slot (Some k.part) None)
 
   -- another part at the place of the first one of its slot
   pub set_first : (n slot : ℕ) (ms : List (Moved X)) (i : ℕ) (m : Moved X) → IsFirstOf slot ms i → m.slot ≡ slot
       → placed n (slice_set ms i m) ≡ slice_set (placed n ms) slot (Some m.part)
   set_first n slot [] i m f its = absurd (let no : i < 0 = f.there in omega arith)
   set_first n slot (k ∷ ms) zero m f its =
-      ap (λ s. slice_set (placed n ms) s (Some m.part)) its
-      ∙ sym (set-set (placed n ms) slot (Some k.part) (Some m.part))
-      ∙ ap (λ s. slice_set (slice_set (placed n ms) s (Some k.part)) slot (Some m.part)) (sym (f.its k refl))
+      grind (arith, f.its k refl, set-set (placed n ms) slot (Some k.part) (Some m.part))
   set_first n slot (k ∷ ms) (suc i) m f its =
-      ap (λ xs. slice_set xs k.slot (Some k.part)) (set_first n slot ms i m (rest_first slot i k ms f) its)
-      ∙ set_comm (placed n ms) slot k.slot (Some m.part) (Some k.part) (λ e. f.first 0 k (omega arith) refl (sym e))
+      let rest = set_first n slot ms i m (rest_first slot i k ms f) its in
+      let apart = f.first 0 k (omega arith) refl in
+      grind (arith, rest, apart, set_comm (placed n ms) slot k.slot (Some m.part) (Some k.part))
 
   -- one part more, of a slot that had none
   pub one_more : (n : ℕ) (ms : List (Moved X)) (m : Moved X) → All (λ k. k.slot < n) ms → at (placed n ms) m.slot ≡ None
       → placed n (ms ++ m ∷ []) ≡ slice_set (placed n ms) m.slot (Some m.part)
   one_more n [] m below none = refl
-  one_more n (k ∷ ms) m below none = elim (cases_eq m.slot k.slot) [
-    | inl e ↦
-        let within : k.slot < length (placed n ms) = subst (λ z. k.slot < z) (sym (placed_length n ms))
-        (below 0 k (omega arith)) in
-        let some : at (slice_set (placed n ms) k.slot (Some k.part)) k.slot
-        ≡ Some k.part = get_or-set_same (placed n ms) k.slot (Some k.part) None within in
-        let gone : at (slice_set (placed n ms) k.slot (Some k.part)) k.slot
-        ≡ None = subst (λ s. at (slice_set (placed n ms) k.slot (Some k.part)) s ≡ None) e none in
-        absurd (none_is (sym gone ∙ some))
-    | inr ne ↦
-        let before : at (placed n ms) m.slot
-        ≡ None = sym (get_or-set_other (placed n ms) k.slot m.slot (Some k.part) None ne) ∙ none in
-        ap (λ xs. slice_set xs k.slot (Some k.part)) (one_more n ms m (λ j d l. below (suc j) d (omega arith)) before)
-        ∙ set_comm (placed n ms) m.slot k.slot (Some m.part) (Some k.part) ne
-  ]
-    where
-      none_is : {x : X} → None ≡ Some x → ⊥
-      none_is e = absurd (cc)
+  one_more n (k ∷ ms) m below none =
+      let under : k.slot < n = below 0 k (omega arith) in
+      grind (
+        arith,
+        none,
+        cases_eq m.slot k.slot,
+        placed_length n ms,
+        get_or-set_same (placed n ms) k.slot (Some k.part) None,
+        get_or-set_other (placed n ms) k.slot m.slot (Some k.part) None,
+        one_more n ms m (λ j d l. below (suc j) d (omega arith)),
+        set_comm (placed n ms) m.slot k.slot (Some m.part) (Some k.part),
+      )
 
   -- the last part goes home: what is at a slot, of those that are left or at home, stays
   pub last_home : (n : ℕ) (ms : List (Moved X)) (m : Moved X) (home : List (Option X)) → m.slot < n → n
       ≡ length home → (k : ℕ)
       → option_or (at (placed n (ms ++ m ∷ [])) k) (at home k)
       ≡ option_or (at (placed n ms) k) (at (slice_set home m.slot (Some m.part)) k)
-  last_home n [] m home lt as_many k = elim (cases_eq k m.slot) [
-    | inl e ↦
-        let empty : m.slot < length (replicate n (none_of)) =
-        subst (λ z. m.slot < z) (sym (length-replicate n None)) lt in
-        rw (
-          e,
-          get_or-set_same (replicate n None) m.slot (Some m.part) None empty,
-          get_or-set_same home m.slot (Some m.part) None (omega arith),
-          at_empty n m.slot,
-        ) refl
-    | inr ne ↦ rw (
-      get_or-set_other (replicate n None) m.slot k (Some m.part) None ne,
-      get_or-set_other home m.slot k (Some m.part) None ne,
-    ) refl
-  ]
-  last_home n (j ∷ ms) m home lt as_many k = elim (cases_eq k j.slot) [
-    | inl e ↦ elim (cases_lt j.slot n) [
-      | inl l ↦
-          let left : j.slot < length (placed n (ms ++ m ∷ [])) =
-          subst (λ z. j.slot < z) (sym (placed_length n (ms ++ m ∷ []))) l in
-          let right : j.slot < length (placed n ms) = subst (λ z. j.slot < z) (sym (placed_length n ms)) l in
-          rw (
-            e,
-            get_or-set_same (placed n (ms ++ m ∷ [])) j.slot (Some j.part) None left,
-            get_or-set_same (placed n ms) j.slot (Some j.part) None right,
-          ) refl
-      | inr l ↦
-          let out : (xs : List (Option X)) → length xs ≡ n → at (slice_set xs j.slot (Some j.part)) j.slot ≡ None =
-          λ xs same. get_or_past (slice_set xs j.slot (Some j.part)) j.slot None
-          (let s : length (slice_set xs j.slot (Some j.part))
-          ≡ length xs = length-set xs j.slot (Some j.part) in omega arith) in
-          rw (
-            e,
-            out (placed n (ms ++ m ∷ [])) (placed_length n (ms ++ m ∷ [])),
-            out (placed n ms) (placed_length n ms),
-            get_or-set_other home m.slot j.slot (Some m.part) None (λ s. absurd (omega arith)),
-          ) refl
-    ]
-    | inr ne ↦ rw (
-      get_or-set_other (placed n (ms ++ m ∷ [])) j.slot k (Some j.part) None ne,
-      get_or-set_other (placed n ms) j.slot k (Some j.part) None ne,
-    ) (last_home n ms m home lt as_many k)
-  ]
+  last_home n [] m home lt as_many k =
+      grind (
+        arith,
+        cases_eq k m.slot,
+        at_empty n m.slot,
+        length-replicate n (none_of),
+        get_or-set_same (replicate n (none_of)) m.slot (Some m.part) None,
+        get_or-set_same home m.slot (Some m.part) None,
+        get_or-set_other (replicate n (none_of)) m.slot k (Some m.part) None,
+        get_or-set_other home m.slot k (Some m.part) None,
+      )
+  last_home n (j ∷ ms) m home lt as_many k =
+      let more : List (Option X) = placed n (ms ++ m ∷ []) in
+      grind (
+        arith,
+        cases_eq k j.slot,
+        cases_lt j.slot n,
+        placed_length n ms,
+        placed_length n (ms ++ m ∷ []),
+        length-set more j.slot (Some j.part),
+        length-set (placed n ms) j.slot (Some j.part),
+        get_or_past (slice_set more j.slot (Some j.part)) j.slot None,
+        get_or_past (slice_set (placed n ms) j.slot (Some j.part)) j.slot None,
+        get_or-set_same more j.slot (Some j.part) None,
+        get_or-set_same (placed n ms) j.slot (Some j.part) None,
+        get_or-set_other more j.slot k (Some j.part) None,
+        get_or-set_other (placed n ms) j.slot k (Some j.part) None,
+        get_or-set_other home m.slot k (Some m.part) None,
+        last_home n ms m home lt as_many k,
+      )
 
   -- the same, where the part was read at its place
   pub its_slot : (slot : ℕ) (ms : List (Moved X)) (i : ℕ) (m : Moved X) → IsFirstOf slot ms i → m ≡ get_or ms i m
@@ -159,13 +133,13 @@ module _ {X : Type 0} where
       grind (arith, one_more, cases_eq, placed_length, eq-eqb, get_or-set_same, ne_eqb, get_or-set_other)
 
   -- what a slot holds after one slot was moved out, which wasn't among those before
-  pub one_moves : (bit same : Bool) (after from before first : Option X) → (same ≡ true → bit ≡ false) → after
-      ≡ (if same then from else before)
+  pub one_moves : (bit same next : Bool) (after from before first : Option X) → next ≡ (same || bit)
+      → (same ≡ true → bit ≡ false) → after ≡ (if same then from else before)
       → before ≡ (if bit then first else None) → from ≡ (if bit then None else first) → after
-      ≡ (if same || bit then first else None)
-  one_moves bit same after from before first z6 z7 z8 z9 = grind arith
+      ≡ (if next then first else None)
+  one_moves bit same next after from before first z5 z6 z7 z8 z9 = grind arith
 
-  pub one_leaves : (bit same : Bool) (after before first : Option X) → after ≡ (if same then None else before) → before
-      ≡ (if bit then None else first)
-      → after ≡ (if same || bit then None else first)
-  one_leaves bit same after before first z5 z6 = grind arith
+  pub one_leaves : (bit same next : Bool) (after before first : Option X) → next ≡ (same || bit)
+      → after ≡ (if same then None else before) → before ≡ (if bit then None else first)
+      → after ≡ (if next then None else first)
+  one_leaves bit same next after before first z4 z5 z6 = grind arith

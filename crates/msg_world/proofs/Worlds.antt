@@ -1,13 +1,13 @@
 -- What a world stands for after each change, part by part.
-use Rattle.std.proofs.Common.{◌≡◌, ℕ, zero, suc, ◌<◌, Bool, true, false, List, [], ◌∷◌, length, map, refl, sym, ap, subst, ◌∙◌, arith, inl, inr, Option, Some, None, Result, get_or}
-use Rattle.std.specs.Prelude.{ℤ, pos, IfErr, IfOk, OnOk, ◌&&◌, ◌||◌, ◌↔◌, not, IfSome, IsSome, IsSomeAnd, IsTrue, is_some, unwrap_or, slice_index, slice_index_or, slice_set, if◌then◌else◌}
+use Rattle.std.proofs.Common.{◌≡◌, ℕ, zero, suc, ◌<◌, Bool, true, false, List, [], ◌∷◌, length, map, refl, sym, subst, ◌∙◌, arith, inl, inr, Option, Some, None, get_or}
+use Rattle.std.specs.Prelude.{ℤ, pos, ◌&&◌, ◌||◌, ◌↔◌, not, IfSome, IsSome, IsSomeAnd, IsTrue, is_some, unwrap_or, slice_index, slice_index_or, slice_set, if◌then◌else◌}
 use Rattle.std.specs.Option.{option_or}
 use Rattle.std.proofs.Math.ListN.{length-set}
-use Rattle.std.proofs.lemmas.Bool.{and_from, and_parts, cases_Bool, cases_eq, cases_lt, false≢true, or_cases, or_left, or_right, eq-eqb, ne_eqb}
-use Rattle.std.proofs.lemmas.Option.{same_Some, slice_get-get_or}
-use Rattle.std.proofs.lemmas.List.{get_or-set_same, get_or-set_other, get_or_past}
+use Rattle.std.proofs.lemmas.Bool.Decides.{eqb_tells}
+use Rattle.std.proofs.lemmas.Bool.{and_parts, cases_eq, cases_lt, false≢true}
+use Rattle.std.proofs.lemmas.List.{get_or_default, get_or-set_same, get_or-set_other, get_or_past}
 use Rattle.msg_buffer.specs.Prelude.{History, Kept, StandsFor, empty, update}
-use Rattle.msg_world.specs.Prelude.{Access, IsHome, IsWhole, Marks, OfResource, OfType, Part, Parts, PartsStand, Record, Registry, SameShape, WorldState, after_update, has_bit, new_world, slot, uses, waits, with_history, writes}
+use Rattle.msg_world.specs.Prelude.{Access, IsHome, IsWhole, Marks, OfResource, OfType, Part, Parts, PartsStand, Record, Registry, SameShape, WorldState, after_update, has_bit, new_world, slot, uses, with_history, writes}
 use Rattle.msg_world.specs.inner.Slots.{AllUpdated, BufferStands, HaveEach, at}
 
 -- a world and parts of which the marks were set
@@ -18,31 +18,21 @@ marks_stand w s m n same stand (OfResource r) = stand (OfResource r)
 marks_stand w s m n same stand Registry = same
 
 pub marks_shape : (w : Parts) (m : Marks) → IsSome w.marks → SameShape w (record w { marks = Some m })
-marks_shape w m there = record { size = record { types = refl; resources = refl }; there = same }
-  where
-    same : (p : Part) → is_some (slot p (record w { marks = Some m })) ≡ is_some (slot p w)
-    same (OfType t) = refl
-    same (OfResource r) = refl
-    same Registry = sym there
+marks_shape w m there = record {
+  size = record { types = refl; resources = refl };
+  there = elim [ OfType t ↦ refl | OfResource r ↦ refl | Registry ↦ sym there ];
+}
 
 pub same_shape : (w : Parts) → SameShape w w
 same_shape w = record { size = record { types = refl; resources = refl }; there = λ p. refl }
 
 -- the marks of a whole world are those that it stands for
 marks_are : (w : Parts) (s : WorldState) (m : Marks) → w.marks ≡ Some m → PartsStand w s → m ≡ s.marks
-marks_are w s m is stand = let P : Option Marks
-    → Type 0 = λ o. IfSome o (λ k. k ≡ s.marks) in subst P is (stand Registry)
+marks_are w s m is stand = grind (arith, stand Registry)
 
 pub waiting_stays : (w : Parts) (s : WorldState) (m : Marks) → w.marks ≡ Some m → true ≡ (m.held && not m.pending)
     → PartsStand w s → PartsStand w (after_update s)
-waiting_stays w s m is waiting stand =
-    let same : (m.held && not m.pending)
-    ≡ waits s = ap (λ (k : Marks). k.held && not k.pending) (marks_are w s m is stand) in
-    let P : WorldState → Type 0 = λ t. PartsStand w t in
-    let Q : Bool → Type 0 =
-    λ b. PartsStand w (if b then s
-    else record s { histories = λ t. update (s.histories t); marks = record s.marks { pending = false } }) in
-    subst Q (waiting ∙ same) stand
+waiting_stays w s m is waiting stand p = grind (arith, marks_are w s m is stand, stand p)
 
 -- every type was updated, and the marks set
 pub types_updated : (w : Parts) (s : WorldState) (types : List (Option (Kept Record))) (m n : Marks) → m ≡ n
@@ -56,39 +46,22 @@ types_updated w s types m n same all stand Registry = same
 pub types_updated_shape : (w : Parts) (types : List (Option (Kept Record))) (m : Marks) → IsSome w.marks
     → AllUpdated w.types types
     → SameShape w (record { types = types; resources = w.resources; marks = Some m })
-types_updated_shape w types m there all =
-    record { size = record { types = all.length; resources = refl }; there = same }
-  where
-    same : (p : Part) → is_some (slot p (record { types = types; resources = w.resources; marks = Some m }))
-        ≡ is_some (slot p w)
-    same (OfType t) = all.there t
-    same (OfResource r) = refl
-    same Registry = sym there
+types_updated_shape w types m there all = record {
+  size = record { types = all.length; resources = refl };
+  there = elim [ OfType t ↦ all.there t | OfResource r ↦ refl | Registry ↦ sym there ];
+}
 
 -- what isn't waiting is updated
 pub others_update : (w : Parts) (s : WorldState) (types : List (Option (Kept Record))) (m n : Marks) → w.marks ≡ Some m
     → false ≡ (m.held && not m.pending) → n ≡ record m { pending = false }
     → AllUpdated w.types types → PartsStand w s
     → PartsStand (record { types = types; resources = w.resources; marks = Some n }) (after_update s)
-others_update w s types m n is waiting spent all stand =
+others_update w s types m n is waiting spent all stand p =
     let marks = marks_are w s m is stand in
-    let same : (m.held && not m.pending) ≡ waits s = ap (λ (k : Marks). k.held && not k.pending) marks in
-    let next : n ≡ record s.marks { pending = false } = spent
-    ∙ ap (λ (k : Marks). record k { pending = false }) marks in
-    let Q : Bool → Type 0 = λ b. PartsStand (record { types = types; resources = w.resources; marks = Some n })
-    (if b then s else record s {
-      histories = λ t. update (s.histories t);
-      marks = record s.marks { pending = false };
-    }) in
-    subst Q (waiting ∙ same) (types_updated w s types n (record s.marks { pending = false }) next all stand)
+    let next : n ≡ record s.marks { pending = false } = grind arith in
+    grind (arith, marks, types_updated w s types n (record s.marks { pending = false }) next all stand p)
 
 -- ---- a new world
-
-some_and : {X : Type 0} (o : Option X) (P : X → Type 0) → IsSomeAnd o P → IfSome o P
-some_and o P z2 = grind arith
-
-some_there : {X : Type 0} (o : Option X) (P : X → Type 0) → IsSomeAnd o P → IsSome o
-some_there o P z2 = grind arith
 
 none_stands : {X : Type 0} (o : Option X) (P : X → Type 0) → o ≡ None → IfSome o P
 none_stands o P z2 = grind arith
@@ -120,15 +93,12 @@ module _ (limits : List ℕ) (values : List ℤ) (types : List (Option (Kept Rec
       }
 
   pub new_stands : PartsStand made (new_world limits values)
-  new_stands (OfType t) = elim (cases_lt t (length limits)) [
-    | inl lt ↦ some_and (at types t) _ (stand t lt)
-    | inr past ↦ none_stands (at types t) _ (get_or_past types t None (omega arith))
-  ]
+  new_stands (OfType t) = grind (arith, cases_lt t (length limits), stand t, get_or_past types t None)
   new_stands (OfResource r) = values_are values r
   new_stands Registry = refl
 
   pub new_whole : IsWhole made
-  new_whole (OfType t) lt = some_there (at types t) _ (stand t (omega arith))
+  new_whole (OfType t) lt = grind (arith, stand t)
   new_whole (OfResource r) lt = values_there values r lt
   new_whole Registry has = refl
 
@@ -137,51 +107,37 @@ module _ (limits : List ℕ) (values : List ℤ) (types : List (Option (Kept Rec
 -- what is read at a slot
 pub item_at : {X : Type 0} (xs : List (Option X)) (i : ℕ) (o : Option X) → i < length xs → o ≡ get_or xs i o
     → at xs i ≡ o
-item_at xs i o lt read =
-    same_Some (at xs i) o (sym (slice_get-get_or xs i None lt) ∙ slice_get-get_or xs i o lt ∙ ap Some (sym read))
+item_at xs i o lt read = get_or_default xs i None o lt ∙ sym read
 
 -- what is read at a slot that isn't empty
 pub found_at : {X : Type 0} (xs : List (Option X)) (i : ℕ) (o : Option X) → IsSome (at xs i) → o ≡ get_or xs i o
     → (at xs i ≡ o) × (i < length xs)
 found_at xs i o there read = grind (arith, cases_lt, item_at, false≢true, get_or_past)
 
-pub on_ok : {T E : Type 0} (r : Result T E) (P Q : Type 0) → (P → Q) → OnOk r P → OnOk r Q
-on_ok r P Q z3 z4 = grind arith
-
-pub if_ok : {T E : Type 0} (r : Result T E) (P Q : T → Type 0) → ((x : T) → P x → Q x) → IfOk r P → IfOk r Q
-if_ok r P Q x z4 = grind arith
-
-pub if_err : {T E : Type 0} (r : Result T E) (P Q : E → Type 0) → ((e : E) → P e → Q e) → IfErr r P → IfErr r Q
-if_err r P Q e z4 = grind arith
-
 -- the buffer of a type stands for its history
 pub buffer_stands : (w : Parts) (s : WorldState) (t : ℕ) (k : Kept Record) → at w.types t ≡ Some k → PartsStand w s
     → StandsFor k (s.histories t)
-buffer_stands w s t k is stand = let P : Option (Kept Record)
-    → Type 0 = λ o. BufferStands o (s.histories t) in subst P is (stand (OfType t))
+buffer_stands w s t k is stand = grind (arith, stand (OfType t))
 
 pub type_stands : (w : Parts) (s : WorldState) (t : ℕ) (k : Kept Record) (h : History Record) → t < length w.types
     → StandsFor k h → PartsStand w s
     → PartsStand (record w { types = slice_set w.types t (Some k) }) (with_history s t h)
-type_stands w s t k h lt here stand (OfType u) = elim (cases_eq u t) [
-  | inl e ↦ rw (e, get_or-set_same w.types t (Some k) None lt, eq-eqb t t refl) here
-  | inr ne ↦ rw (get_or-set_other w.types t u (Some k) None ne, ne_eqb u t ne) (stand (OfType u))
-]
+type_stands w s t k h lt here stand (OfType u) =
+    let set_there = get_or-set_same w.types t (Some k) None lt in
+    grind (arith, eqb_tells, set_there, get_or-set_other w.types t u (Some k) None, stand (OfType u))
 type_stands w s t k h lt here stand (OfResource r) = stand (OfResource r)
 type_stands w s t k h lt here stand Registry = stand Registry
 
 pub type_shape : (w : Parts) (t : ℕ) (k : Kept Record) → t < length w.types → IsSome (at w.types t)
     → SameShape w (record w { types = slice_set w.types t (Some k) })
-type_shape w t k lt there =
-    record { size = record { types = length-set w.types t (Some k); resources = refl }; there = same }
-  where
-    same : (p : Part) → is_some (slot p (record w { types = slice_set w.types t (Some k) })) ≡ is_some (slot p w)
-    same (OfType u) = elim (cases_eq u t) [
-      | inl e ↦ rw (e, get_or-set_same w.types t (Some k) None lt) (sym there)
-      | inr ne ↦ ap is_some (get_or-set_other w.types t u (Some k) None ne)
-    ]
-    same (OfResource r) = refl
-    same Registry = refl
+type_shape w t k lt there = record {
+  size = record { types = length-set w.types t (Some k); resources = refl };
+  there = elim [
+    | OfType u ↦ grind (arith, cases_eq u t, get_or-set_same w.types t (Some k) None lt, get_or-set_other w.types t u)
+    | OfResource r ↦ refl
+    | Registry ↦ refl
+  ];
+}
 
 -- ---- lending and taking back
 
@@ -227,26 +183,16 @@ home_by_masks a w types resources types_home resources_home marks_there t r th r
       let both = and_parts (types_home && resources_home) (not a.registry || marks_there) all in
       let parts = and_parts types_home resources_home both.0 in
       is_home parts.0 parts.1 both.1,
-  λ home. and_from (types_home && resources_home) (not a.registry || marks_there)
-      (and_from types_home resources_home
-      (th.1 (λ k bit. home (OfType k) (sym (t k) ∙ bit)))
-      (rh.1 (λ k bit. home (OfResource k) (sym (r k) ∙ bit))))
-      (by_registry home),
+  λ home.
+      let types_there = th.1 (λ k bit. home (OfType k) (sym (t k) ∙ bit)) in
+      let resources_there = rh.1 (λ k bit. home (OfResource k) (sym (r k) ∙ bit)) in
+      grind (arith, types_there, resources_there, home Registry),
 )
   where
     is_home : IsTrue types_home → IsTrue resources_home → IsTrue (not a.registry || marks_there) → IsHome a w
     is_home x y z (OfType k) uses = th.0 x k (t k ∙ uses)
     is_home x y z (OfResource k) uses = rh.0 y k (r k ∙ uses)
-    is_home x y z Registry uses = elim (or_cases (not a.registry) marks_there z) [
-      | inl n ↦ absurd (false≢true (ap not (sym uses) ∙ n))
-      | inr there ↦ sym m ∙ there
-    ]
-
-    by_registry : IsHome a w → IsTrue (not a.registry || marks_there)
-    by_registry home = elim (cases_Bool a.registry) [
-      | inl is ↦ or_right (not a.registry) marks_there (m ∙ home Registry is)
-      | inr isnt ↦ or_left (not a.registry) marks_there (ap not isnt)
-    ]
+    is_home x y z Registry uses = grind arith
 
 -- ---- what a world stands for
 

@@ -1,5 +1,5 @@
-use Rattle.std.proofs.Common.{◌≡◌, ◌<◌, ◌≢◌, ℕ, Bool, map, length, sym, ◌∙◌, arith, vec_len}
-use Rattle.std.proofs.lemmas.Bool.{eqb-true, eqb-false, and_parts}
+use Rattle.std.proofs.Common.{◌≡◌, ◌<◌, ◌≢◌, length, sym, ◌∙◌, arith, vec_len}
+use Rattle.std.proofs.lemmas.Bool.{eqb-true, eqb-false}
 use Rattle.std.proofs.lemmas.List.{map-append}
 use Rattle.msg_order.specs.inner.SystemSet.{has, meets}
 use Rattle.msg_order.specs.inner.Paths.{set_at}
@@ -10,42 +10,30 @@ pub returns-then-is_empty-clause-batches : goal.returns-then-is_empty-clause-bat
 returns-then-is_empty-clause-batches _g c = λ g systems h set among free.
     let empty : vec_len c.in_ok-batch.batch
     ≡ 0 = eqb-true (vec_len c.in_ok-batch.batch) 0 (sym c.is_empty.ensures ∙ c.if-is_empty.true) in
-    let start : ℕ → Bool = has c.args.joined.now in
-    let lead : LeadAmong g start = λ i j e. let q = among i j e in (set i ∙ q.0, set j ∙ q.1) in
-    let tells =
-    sets_tell g c.args.before.now c.levels.left h
+    let lead : LeadAmong g (has c.args.joined.now) = λ i j e. let q = among i j e in (set i ∙ q.0, set j ∙ q.1) in
+    let tells = sets_tell g c.args.before.now c.levels.left h
     (λ k l. let w : k < length c.args.before.now = c.levels.invariant.within k l in omega arith) in
     let peeled = c.levels.invariant.peeled g h lead in
-    peeled_done g systems start (has c.levels.left) (map (λ b. b.items) c.levels.batches.items) set peeled
-    (peeled_all g start (has c.levels.left) (λ i. meets (set_at c.args.before.now i) c.levels.left)
-    (length c.args.before.now) c.in_ok-batch.batch.items (length (map (λ b. b.items) c.levels.batches.items))
-    free c.requires.within tells peeled.left_is c.in_ok-batch.ensures.ready (omega arith))
+    peeled_done g systems _ _ _ set peeled
+    (peeled_all g _ _ _ _ _ _ free c.requires.within tells peeled.left_is c.in_ok-batch.ensures.ready (omega arith))
 
 pub levels-smaller : goal.levels-smaller
 levels-smaller _g c =
     let some : vec_len c.in_ok-batch.batch ≢ 0 =
     eqb-false (vec_len c.in_ok-batch.batch) 0 (sym c.is_empty.ensures ∙ c.if-is_empty.false) in
-    left_falls (has c.levels.left) (λ i. meets (set_at c.args.before.now i) c.levels.left) (has c.in_ok-batch.next)
-    (length c.args.before.now) c.in_ok-batch.batch.items c.in_ok-batch.ensures.ready
-    (omega arith) c.in_ok-batch.ensures.next
+    left_falls (has c.levels.left) (λ i. meets (set_at c.args.before.now i) c.levels.left) (has c.in_ok-batch.next) _ _
+    c.in_ok-batch.ensures.ready (omega arith) c.in_ok-batch.ensures.next
 
 pub levels-preserved : goal.levels-preserved
 levels-preserved _g c =
     let some : vec_len c.in_ok-batch.batch ≢ 0 =
     eqb-false (vec_len c.in_ok-batch.batch) 0 (sym c.is_empty.ensures ∙ c.if-is_empty.false) in
     record {
-      within =
-          λ k e. c.levels.invariant.within k
-          (and_parts (has c.levels.left k) (meets (set_at c.args.before.now k) c.levels.left)
-          (sym (c.in_ok-batch.ensures.next k) ∙ e)).0;
+      within = λ k e. grind (arith, c.levels.invariant.within k, c.in_ok-batch.ensures.next k);
       peeled = λ g h lead.
-          let tells =
-          sets_tell g c.args.before.now c.levels.left h
+          let tells = sets_tell g c.args.before.now c.levels.left h
           (λ k l. let w : k < length c.args.before.now = c.levels.invariant.within k l in omega arith) in
-          let more = peeled_next g (has c.args.joined.now) (has c.levels.left)
-          (λ i. meets (set_at c.args.before.now i) c.levels.left) (has c.in_ok-batch.next)
-          (length c.args.before.now) (map (λ b. b.items) c.levels.batches.items) c.in_ok-batch.batch.items
-          lead c.requires.within tells (c.levels.invariant.peeled g h lead) c.in_ok-batch.ensures.ready
-          (omega arith) c.in_ok-batch.ensures.next in
-          rw c.in_ok-push.ensures.items (rw map-append more);
+          rw (c.in_ok-push.ensures.items, map-append)
+          (peeled_next g _ _ _ _ _ _ _ lead c.requires.within tells (c.levels.invariant.peeled g h lead)
+          c.in_ok-batch.ensures.ready (omega arith) c.in_ok-batch.ensures.next);
     }

@@ -1,12 +1,9 @@
-use Rattle.std.proofs.Common.{◌≡◌, ℕ, ◌<◌, true, false}
+use Rattle.std.proofs.Common.{ℕ, ◌<◌}
+use Rattle.std.specs.Prelude.{IsFalse, IsTrue, ◌↔◌}
 use Rattle.msg_order.specs.inner.SystemSet.{has}
 use Rattle.msg_order.specs.Prelude.{AreInConflict}
 use Rattle.msg_order.proofs.paths.later_conflicts.Given as goal
 
 abbrev pub invariant-loop-j : goal.invariant-loop-j
-invariant-loop-j l = record {
-  found : (k : ℕ) → has l.later k ≡ true → (l.i < k)
-      × ((k < l.j) × (AreInConflict l.accesses l.joined l.i k × (has l.before k ≡ false)));
-  all : (k : ℕ) → l.i < k → k < l.j → AreInConflict l.accesses l.joined l.i k → has l.before k ≡ false
-      → has l.later k ≡ true;
-}
+invariant-loop-j l = (k : ℕ) → IsTrue (has l.later k)
+    ↔ ((k < l.j) × ((l.i < k) × (AreInConflict l.accesses l.joined l.i k × IsFalse (has l.before k))))

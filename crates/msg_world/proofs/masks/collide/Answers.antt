@@ -14,10 +14,11 @@ pub returns-else-share_bit : goal.returns-else-share_bit
 returns-else-share_bit c = (
   λ t. let b = (share_bit-or c.args.other_write c.args.read c.args.write).0
       (c.share_bit-else-share_bit.ensures.0 t) in (b.0, inr b.1),
-  λ s. elim s.1 [
-    | inl x ↦ absurd (false≢true (sym c.if-share_bit.false
-        ∙ c.share_bit.ensures.1 ((share_bit-or c.args.write c.args.other_read c.args.other_write).1 (s.0, x))))
-    | inr x ↦ c.share_bit-else-share_bit.ensures.1
-        ((share_bit-or c.args.other_write c.args.read c.args.write).1 (s.0, x))
-  ],
+  λ s.
+      let first = (share_bit-or c.args.write c.args.other_read c.args.other_write).1 in
+      let second = (share_bit-or c.args.other_write c.args.read c.args.write).1 in
+      elim s.1 [
+        | inl x ↦ absurd (false≢true (sym c.if-share_bit.false ∙ c.share_bit.ensures.1 (first (s.0, x))))
+        | inr x ↦ c.share_bit-else-share_bit.ensures.1 (second (s.0, x))
+      ],
 )

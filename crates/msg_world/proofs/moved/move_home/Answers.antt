@@ -1,10 +1,7 @@
 use Rattle.std.proofs.lemmas.Grind.{common_steps}
-use Rattle.std.proofs.Common.{◌<◌, Some, vec_len, rules, sym, ap, ◌∙◌, arith}
+use Rattle.std.proofs.Common.{◌<◌, Some, vec_len, rules, ◌∙◌, arith}
 use Rattle.std.proofs.lemmas.List.{nil_from_length}
 use Rattle.std.proofs.lemmas.List.Elements.{All-pop}
-use Rattle.std.specs.Option.{option_or}
-use Rattle.msg_world.specs.inner.Moved.{placed}
-use Rattle.msg_world.specs.inner.Slots.{at}
 use Rattle.msg_world.proofs.Placed.{at_empty, last_home, placed_length}
 use Rattle.msg_world.proofs.moved.move_home.Goals as goal
 
@@ -25,10 +22,9 @@ loop-slot-preserved g c =
       home_len = c.put_home.ensures.len ∙ i.home_len;
       below = popped.0;
       joined = λ k.
-          ap (λ xs. option_or (at (placed n c.pop.new.self.items) k) (at xs k)) c.put_home.ensures.items
-          ∙ sym (last_home n c.pop.new.self.items m c.loop-slot.home.items popped.1 (search (rules, i.home_len)) k)
-          ∙ ap (λ ms. option_or (at (placed n ms) k) (at c.loop-slot.home.items k)) (sym c.in-Some.ensures.items)
-          ∙ i.joined k;
+          let home = last_home n c.pop.new.self.items m c.loop-slot.home.items popped.1
+          (search (rules, i.home_len)) k in
+          grind (arith, home, c.put_home.ensures.items, c.in-Some.ensures.items, i.joined k);
     }
 
 pub returns-clause-joined : goal.returns-clause-joined

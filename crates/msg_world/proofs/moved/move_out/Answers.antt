@@ -1,11 +1,9 @@
 use Rattle.std.proofs.lemmas.Grind.{common_steps}
-use Rattle.std.proofs.Common.{◌≡◌, ℕ, None, rules, sym, subst, ap, ◌∙◌, arith, false, true, vec_len}
-use Rattle.std.specs.Prelude.{nat_lt, ◌&&◌, ◌==◌, if◌then◌else◌}
-use Rattle.std.proofs.lemmas.Bool.{and_right, eqb-true, le-ltb}
-use Rattle.msg_world.specs.Prelude.{has_bit}
+use Rattle.std.proofs.Common.{rules, ap, ◌∙◌, arith}
+use Rattle.std.specs.Prelude.{◌==◌}
 use Rattle.msg_world.specs.inner.Moved.{placed}
 use Rattle.msg_world.specs.inner.Slots.{at}
-use Rattle.msg_world.proofs.Bits.{all_below, below_next, one_less}
+use Rattle.msg_world.proofs.Bits.{none_itself, all_below, below_next, one_less}
 use Rattle.msg_world.proofs.Placed.{placed_length, one_leaves, one_moves}
 use Rattle.msg_world.proofs.moved.move_out.Goals as goal
 
@@ -24,22 +22,12 @@ loop-k-preserved g c =
       at_most = next.at_most;
       is_set = next.is_set;
       below = search rules;
-      room = let less = one_less c.args.mask c.loop-k.k set in let as_many = next.as_many in let one =
-          m.one_at_most in let room = i.room in let same = m.capacity in omega arith;
-      moved =
-          λ k. subst (λ b. at (placed (vec_len c.move_slot.new.from) c.move_slot.new.parts.items) k
-          ≡ (if b then at c.args.from.now.items k else None)) (sym (bits k))
-          (one_moves (has_bit c.args.mask k && nat_lt k c.loop-k.k) (k == c.loop-k.k) _ _ _ _ (λ same. apart k same)
-          (ap (λ n. at (placed n c.move_slot.new.parts.items) k) m.left_len ∙ m.moved k) (i.moved k) (i.left k));
-      left = λ k. subst (λ b. at c.move_slot.new.from.items k ≡ (if b then None else at c.args.from.now.items k))
-          (sym (bits k))
-          (one_leaves (has_bit c.args.mask k && nat_lt k c.loop-k.k) (k == c.loop-k.k) _ _ _ (m.left k) (i.left k));
+      room = grind (arith, one_less c.args.mask c.loop-k.k set, next.as_many, m.one_at_most, i.room, m.capacity);
+      moved = λ k. one_moves _ (k == c.loop-k.k) _ _ _ _ _ (bits k) (none_itself _ k _)
+          (ap (λ n. at (placed n c.move_slot.new.parts.items) k) m.left_len ∙ m.moved k) (i.moved k) (i.left k);
+      left = λ k. one_leaves _ (k == c.loop-k.k) _ _ _ _ (bits k) (m.left k) (i.left k);
       left_len = m.left_len ∙ i.left_len;
     }
-  where
-    apart : (k : ℕ) → (k == c.loop-k.k) ≡ true → (has_bit c.args.mask k && nat_lt k c.loop-k.k) ≡ false
-    apart k same = let e = eqb-true k c.loop-k.k same in and_right (has_bit c.args.mask k) (nat_lt k c.loop-k.k)
-        (le-ltb k c.loop-k.k (omega arith))
 
 pub returns-clause-moved : goal.returns-clause-moved
 returns-clause-moved g c = grind (arith, common_steps, all_below)

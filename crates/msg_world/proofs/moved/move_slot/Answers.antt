@@ -1,5 +1,4 @@
-use Rattle.std.proofs.Common.{◌≡◌, Some, vec_len, rules, sym, ◌∙◌, ap}
-use Rattle.msg_world.specs.inner.Moved.{placed}
+use Rattle.std.proofs.Common.{◌≡◌, Some, vec_len, rules, sym, ◌∙◌}
 use Rattle.msg_world.specs.inner.Slots.{at}
 use Rattle.msg_world.proofs.Placed.{one_more_at}
 use Rattle.msg_world.proofs.Worlds.{item_at}
@@ -12,7 +11,6 @@ returns-in-Some-take-clause-moved g c k =
     let had : at from.items c.args.slot ≡ Some c.in-Some-take.part =
     item_at from.items c.args.slot c.in-Some.held.now (search (rules, item)) (search (rules, item))
     ∙ sym c.take.ensures.value ∙ c.in-Some-take.is in
-    ap (λ ms. at (placed (vec_len from) ms) k) c.push_reserved.ensures.items
-    ∙ one_more_at (vec_len from) c.args.parts.now.items
+    rw c.push_reserved.ensures.items (one_more_at (vec_len from) c.args.parts.now.items
     (record { slot = c.args.slot; part = c.in-Some-take.part }) from.items
-    (search (rules, item)) had c.requires.below c.requires.free k
+    (search (rules, item)) had c.requires.below c.requires.free k)

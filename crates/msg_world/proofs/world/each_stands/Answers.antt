@@ -1,15 +1,11 @@
-use Rattle.std.proofs.Common.{inl, inr, arith, Option}
+use Rattle.std.proofs.Common.{inl, inr, arith}
 use Rattle.std.proofs.lemmas.Bool.{cases_eq}
-use Rattle.msg_buffer.specs.Prelude.{History, Kept}
-use Rattle.msg_world.specs.Prelude.{Record}
-use Rattle.msg_world.specs.inner.Slots.{BufferStands}
 use Rattle.msg_world.proofs.Worlds.{item_at}
 use Rattle.msg_world.proofs.world.each_stands.Goals as goal
 
 pub loop-slot-preserved : goal.loop-slot-preserved
 loop-slot-preserved c t lt =
     let i = c.loop-slot.slot-index in
-    let P : Option (Kept Record) → Type 0 = λ o. (h : History Record) × BufferStands o h in
     elim (cases_eq t i) [
       | inl e ↦ rw (e, item_at c.args.types.now i c.slot-item.result c.loop-slot-test.true c.slot-item.is)
           c.slot_stands.ensures.history

@@ -1,8 +1,7 @@
-use Rattle.std.proofs.Common.{rules, ap, sym, ◌∙◌, arith, subst}
-use Rattle.std.specs.List.{All}
+use Rattle.std.proofs.Common.{rules, ap, ◌∙◌, arith, Some}
 use Rattle.msg_board.specs.Prelude.{HasEnded}
 use Rattle.msg_board.specs.inner.Seats.{carried}
-use Rattle.msg_board.proofs.TableLists.{All-split_last}
+use Rattle.std.proofs.lemmas.List.Elements.{All-pop}
 use Rattle.msg_board.proofs.Steps.{unites}
 use Rattle.msg_board.proofs.PassSeats.{gathers_first, gathers, gathered}
 use Rattle.msg_board.proofs.board.Board.gather.Goals as goal
@@ -14,13 +13,12 @@ loop-pass-init g c =
 
 pub join_seat-requires : goal.join_seat-requires
 join_seat-requires g c = let inv = c.loop-pass.invariant in let b = c.args.self.now in
-    let of = c.into_seat-other.ensures.seat in let words = c.self.invariant.words in let table =
-    sym (ap (λ v. v.table) c.self.view_is) in
-    let parts = All-split_last (HasEnded b) _ _ (subst (All (HasEnded b)) c.in-Some-pop.ensures.items inv.ended) in (
-      inv.table ∙ table,
-      of.table ∙ (parts.1.own.table ∙ table),
+    let of = c.into_seat-other.ensures.seat in
+    let parts = All-pop (HasEnded b) _ _ (Some c.in-Some-pop.pass) c.in-Some-pop.ensures.items inv.ended in (
+      grind (arith, inv.table),
+      grind (arith, parts),
       of.out ∙ ap carried parts.1.holding,
-      omega arith,
+      grind arith,
       unites g.W.Work.lawful _ _ _ _ _ _ inv.live (of.held ∙ parts.1.holding),
     )
 

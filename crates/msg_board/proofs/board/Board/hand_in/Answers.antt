@@ -1,4 +1,4 @@
-use Rattle.std.proofs.Common.{ap, sym, ◌∙◌, arith, length, ◌<◌}
+use Rattle.std.proofs.Common.{ap, ◌∙◌, arith, length, ◌<◌}
 use lib.ListN.{get_elem?}
 use Rattle.msg_board.specs.Prelude.{jobs_of}
 use Rattle.msg_board.proofs.TableLists.{there, got}
@@ -7,16 +7,15 @@ use Rattle.msg_board.proofs.PassSeats.{handed_sound, handed_said, held_within}
 use Rattle.msg_board.proofs.board.Board.hand_in.Goals as goal
 
 pub store-requires : goal.store-requires
-store-requires g c = let b = c.args.self.now in let seat = c.pass.invariant.seat in let is = c.pass.view_is in
-    let words = c.self.invariant.words in let slots = c.self.invariant.slots in
-    let here = c.self.view_is in let long = ap (λ v. length v.jobs) here in let jobs = jobs_of b in
+store-requires g c = let seat = c.pass.invariant.seat in let is = c.pass.view_is in
+    let jobs = jobs_of c.args.self.now in
     let has = ap (λ p. p.holding) is ∙ c.requires.holds in
     let own = ap (λ p. p.jobs) is ∙ c.requires.own.jobs in
     let inside : c.args.k < length jobs =
-    omega (arith, held_within c.pass.inside c.args.k c.pass.invariant has, ap (λ l. length l) own) in
+    grind (arith, held_within c.pass.inside c.args.k c.pass.invariant has, own) in
     let t = there jobs c.args.k inside in (
-      c.put_in.ensures.table ∙ (ap (λ p. p.table) is ∙ c.requires.own.table) ∙ sym (ap (λ v. v.table) here),
-      omega arith,
+      grind arith,
+      grind arith,
       hands_in_at g.W.Work.lawful _ _ _ _ _ c.pass.inside.seat.me.0 c.args.k t.0 c.args.done c.put_in.ensures.now
           (omega (arith, seat.weight)) (seat.held ∙ has)
           (ap (λ l. get_elem? l c.args.k) own ∙ t.1) (c.requires.lawful t.0 (got jobs c.args.k t.0 t.1)),

@@ -1,4 +1,4 @@
-use Rattle.std.proofs.Common.{◌<◌, ◌≤◌, ℕ, ◌+◌, ◌*◌, ◌/◌, ◌%◌, ◌^◌, ◌&&◌, get_or, sym, refl, arith, rules}
+use Rattle.std.proofs.Common.{◌<◌, ℕ, ◌+◌, ◌*◌, ◌/◌, ◌^◌, ◌&&◌, get_or, sym, refl, arith, rules}
 use Rattle.std.specs.Prelude.{bit_and}
 use Rattle.std.proofs.lemmas.Nat.{and_le_l}
 use Rattle.msg_world.proofs.Bits.{some_bit}
@@ -9,10 +9,8 @@ use Rattle.msg_order.proofs.system_set.SystemSet.meets.Goals as goal
 pub returns : goal.returns
 unfolding has meets
 returns c =
-    let xs = c.args.self.now.words in
-    let ys = c.args.other.now.words in
     sym (none_below (λ k. has c.args.self.now k && has c.args.other.now k) 256 (λ k h.
-    has_bit-apart (get_or xs (k / 64) 0) (get_or ys (k / 64) 0) (k % 64) (c.loop-i.invariant (k / 64) (omega arith))))
+    grind (arith, has_bit-apart, c.loop-i.invariant (k / 64))))
 
 pub returns-then-self-i-ne0 : goal.returns-then-self-i-ne0
 unfolding has meets
@@ -21,9 +19,7 @@ returns-then-self-i-ne0 c =
     let ys = c.args.other.now.words in
     let i : ℕ = c.loop-i.i in
     let a : ℕ = get_or xs i 0 in
-    let b : ℕ = get_or ys i 0 in
     let fits : a < 2 ^ 64 = search rules in
-    let le : bit_and a b ≤ a = and_le_l a b in
-    let bit = some_bit (bit_and a b) (omega arith) c.if-self-i-ne0.true in
+    let bit = some_bit (bit_and a (get_or ys i 0)) (omega (arith, and_le_l a (get_or ys i 0))) c.if-self-i-ne0.true in
     sym (some_below (λ k. has c.args.self.now k && has c.args.other.now k) 256 (64 * i + bit.0) (omega (arith, bit.1.0))
     (words-share xs ys i bit.0 (64 * i + bit.0) bit.1.0 refl bit.1.1))

@@ -1,5 +1,4 @@
-use Rattle.std.proofs.Common.{inl, inr, sym, ◌∙◌}
-use Rattle.std.proofs.lemmas.Bool.{false≢true}
+use Rattle.std.proofs.Common.{arith}
 use Rattle.msg_world.specs.Prelude.{OfType, OfResource}
 use Rattle.msg_world.proofs.Conflicts.{is_clash-masks}
 use Rattle.msg_world.proofs.access.Access.is_clash.Goals as goal
@@ -12,9 +11,8 @@ pub returns-else-share_bit : goal.returns-else-share_bit
 returns-else-share_bit c = record {
   clash = (
     λ t. let b = c.share_bit-else-share_bit.ensures.0 t in (OfResource b.0, b.1),
-    λ clash. elim (is_clash-masks c.args.self.now clash) [
-      | inl x ↦ absurd (false≢true (sym c.if-share_bit.false ∙ c.share_bit.ensures.1 x))
-      | inr x ↦ c.share_bit-else-share_bit.ensures.1 x
-    ],
+    λ clash.
+        let masks = is_clash-masks c.args.self.now clash in
+        grind (arith, masks, c.share_bit.ensures.1, c.share_bit-else-share_bit.ensures.1),
   );
 }

@@ -2,45 +2,39 @@ use Rattle.std.proofs.Common.{arith, rules, ◌∷◌, [], ap, sym, subst, Some,
 use mir.Val.{SFits}
 use mir.Syntax.{w64}
 use Rattle.std.proofs.lemmas.Int.{to_z-of_z}
+use Rattle.std.proofs.lemmas.Result.{IfErr-weaker, IfOk-weaker, on_ok_weaker}
 use Rattle.std.proofs.lemmas.Grind.{common_steps}
-use Rattle.std.specs.Prelude.{ℤ, IsSome, slice_set}
+use Rattle.std.specs.Prelude.{ℤ, IsSome}
 use Rattle.msg_buffer.specs.Prelude.{StandsFor, write}
-use Rattle.msg_world.specs.Prelude.{HOST, OfType, Parts, PartsStand, SameShape, WorldState, by, slot}
-use Rattle.msg_world.proofs.Worlds.{buffer_stands, found_at, if_err, if_ok, on_ok, type_shape, type_stands}
+use Rattle.msg_world.specs.Prelude.{HOST, OfType, Parts, PartsStand, WorldState, by, slot}
+use Rattle.msg_world.proofs.Worlds.{buffer_stands, found_at, type_shape, type_stands}
 use Rattle.msg_world.proofs.world.World.post.Goals as goal
 
 pub returns : goal.returns
 returns c =
-    let w : Parts =
-    record {
-      types = c.self.inside.types.items;
-      resources = c.self.inside.resources.items;
-      marks = c.self.inside.marks;
-    } in
     let t = c.args.t in let number = c.number.ensures.number in let kept = c.in-Some.messages in
-    let P : Parts → Type 0 = λ v. IsSome (slot (OfType t) v) in
-    let home = subst P (sym c.self.view_is) c.requires.home in
-    let found = found_at w.types t (Some kept) home (rw (number, c.in-Some.is) at c.index_mut-slot.ensures.value) in
-    let all : (s : WorldState) → PartsStand c.args.self.now s → PartsStand w s = λ s stand.
-    let Q : Parts → Type 0 = λ v. PartsStand v s in subst Q (sym c.self.view_is) stand in
+    let home = subst (λ (v : Parts). IsSome (slot (OfType t) v)) (sym c.self.view_is) c.requires.home in
+    let found = found_at c.self.inside.types.items t (Some kept) home
+    (rw (number, c.in-Some.is) at c.index_mut-slot.ensures.value) in
+    let all = λ (s : WorldState) (stand : PartsStand c.args.self.now s).
+    subst (λ (v : Parts). PartsStand v s) (sym c.self.view_is) stand in
     let here : (s : WorldState) → PartsStand c.args.self.now s
-    → StandsFor kept (s.histories t) = λ s stand. buffer_stands w s t kept found.0 (all s stand) in
+    → StandsFor kept (s.histories t) = λ s stand. buffer_stands _ s t kept found.0 (all s stand) in
     let fits : SFits w64 c.args.value = search rules in
     rw number (record {
-      meaning = on_ok c.write.result _ _ (λ meaning s stand.
+      meaning = on_ok_weaker c.write.result (λ meaning s stand.
           let R : ℤ → Type 0 = λ z. StandsFor c.write.new.self (write (by HOST z ∷ []) (s.histories t)) in
-          type_stands w s t c.write.new.self _ found.1
+          type_stands _ s t c.write.new.self _ found.1
           (subst R (to_z-of_z w64 c.args.value fits) (meaning (s.histories t) (here s stand))) (all s stand))
           c.write.ensures.meaning;
-      number = if_ok c.write.result _ _ (λ id is s stand. is (s.histories t) (here s stand)) c.write.ensures.number;
-      room = on_ok c.write.result _ _ (λ room s stand. room (s.histories t) (here s stand)) c.write.ensures.room;
-      spent = if_err c.write.result _ _ (λ e spent s stand. spent (s.histories t) (here s stand)) c.write.ensures.spent;
-      shape =
-          let S : Parts → Type 0 =
-          λ v. SameShape v (record w { types = slice_set w.types t (Some c.write.new.self) }) in
-          subst S c.self.view_is (type_shape w t c.write.new.self found.1 home);
+      number = IfOk-weaker c.write.result _ _ (λ id is s stand. is (s.histories t) (here s stand))
+          c.write.ensures.number;
+      room = on_ok_weaker c.write.result (λ room s stand. room (s.histories t) (here s stand)) c.write.ensures.room;
+      spent = IfErr-weaker c.write.result _ _ (λ e spent s stand. spent (s.histories t) (here s stand))
+          c.write.ensures.spent;
+      shape = rw (← c.self.view_is) (type_shape _ t c.write.new.self found.1 home);
       err = grind (arith, common_steps);
       handed_back =
-          if_err c.write.result _ _ (λ e same. same
+          IfErr-weaker c.write.result _ _ (λ e same. same
           ∙ ap (by HOST) (to_z-of_z w64 c.args.value fits)) c.write.ensures.handed_back;
     })
