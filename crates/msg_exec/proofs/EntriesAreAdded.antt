@@ -1,16 +1,15 @@
 -- Entries are added to totals one by one.
-use Rattle.std.proofs.Common.{add-one, ◌≡◌, ℕ, zero, suc, ◌+◌, ◌<◌, ◌≤◌, ◌==◌, List, [], ◌∷◌, ◌++◌, length, drop, get_or, Option, Some, None, refl, sym, ap, subst, ◌∙◌, arith}
+use Rattle.std.proofs.Common.{◌≡◌, ℕ, zero, suc, ◌==◌, List, [], ◌∷◌, ◌++◌, length, drop, get_or, Option, Some, None, refl, sym, ap, ◌∙◌}
 use Rattle.std.specs.Prelude.{false, slice_get, option_to_list, unwrap_or, if◌then◌else◌}
 use Rattle.std.specs.Global.{Vec}
 use Rattle.std.specs.Vec.{with_items}
-use Rattle.std.proofs.lemmas.List.{drop_all, with_items_is}
-use Rattle.std.proofs.lemmas.Option.{none-some, slice_get_read, unwrap_or-slice_get}
+use Rattle.std.proofs.lemmas.List.{with_items_is}
+use Rattle.std.proofs.lemmas.Option.{get_or_from_slice_get, none-some}
 use Rattle.msg_system.specs.declared.op.Op.{Op}
 use Rattle.msg_system.specs.declared.reply.Reply.{Reply}
 use Rattle.msg_system.specs.Prelude.{Meaning, type_read}
 use Rattle.msg_frames.specs.declared.totals.Totals.{Totals}
-use Rattle.msg_frames.specs.Prelude.{Entry, entries_for, entry_of, with_entries}
-use Rattle.msg_frames.proofs.EntriesAddUp.{with_entries-append, with_entries-none}
+use Rattle.msg_frames.specs.Prelude.{Entry, entries_for, entry_of}
 use Rattle.msg_exec.specs.Prelude.{Done, kept}
 use Rattle.msg_exec.specs.inner.Lending.{HaveEntered}
 use Rattle.msg_exec.specs.inner.Totals.{entry_at}
@@ -51,7 +50,5 @@ pub entered_there : {S : Type 0} (meaning : S → Meaning) (d : Done S) (all : L
     → x ≡ get_or all d.number x → was ≡ x.items → length now ≡ x.len → HaveEntered meaning d was now
     → (u : Vec Totals) → slice_get all d.number ≡ Some u → HaveEntered meaning d u.items (with_items x now).items
 entered_there meaning d all x was now at there size entered u is =
-    let same : u ≡ x = ap (λ o. unwrap_or o x) (sym is) ∙ unwrap_or-slice_get all d.number x ∙ sym at in
-    subst (λ xs. HaveEntered meaning d xs (with_items x now).items)
-    (there ∙ ap (λ (v : Vec Totals). v.items) (sym same))
-    (subst (λ xs. HaveEntered meaning d was xs) (sym (with_items_is x now size)) entered)
+    let same : u ≡ x = sym (get_or_from_slice_get all d.number u x is) ∙ sym at in
+    rw (same, with_items_is x now size, ← there) entered
