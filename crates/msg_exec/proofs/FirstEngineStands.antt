@@ -14,7 +14,7 @@ use Rattle.msg_system.specs.declared.condition.Condition.{Condition}
 use Rattle.msg_system.specs.Prelude.{Meaning, new_asked}
 use Rattle.msg_system.proofs.Accesses.{uses_needs}
 use Rattle.msg_frames.specs.declared.place.Place.{Place}
-use Rattle.msg_exec.specs.Prelude.{AreJoins, BuildRefusal, Clash, Core, Cycle, EachIs, Lender, LenderStands, MayBeAdded, NoMemory, RefusesFor, Schedule}
+use Rattle.msg_exec.specs.Prelude.{AreJoins, BuildRefusal, Core, EachIs, Lender, LenderStands, MayBeAdded, RefusesFor, Schedule}
 use Rattle.msg_exec.specs.inner.Building.{AreNoTotals, IsAccessAt, IsGuardedAt, RefusesForCycle}
 use Rattle.msg_frames.specs.Prelude.{AreNew, HasClash, all_rules, nobody, nowhere, unjoined}
 use Rattle.msg_exec.specs.inner.Lending.{HaveReadNothing}
@@ -143,6 +143,4 @@ module _ {S : Type 0} (meaning : S → Meaning) where
   pub refusal_for_rules : (systems : List S) (rules : List Rule) (e : BuildRefusal)
       → EachIs (λ i x. ¬ HasClash (meaning x)) systems → RefusesForCycle (length systems) rules e
       → RefusesFor meaning systems rules e
-  refusal_for_rules systems rules (Clash s) none refuses = absurd refuses
-  refusal_for_rules systems rules (Cycle s) none refuses = (none, refuses)
-  refusal_for_rules systems rules NoMemory none refuses = tt
+  refusal_for_rules systems rules e none refuses = grind arith

@@ -1,7 +1,7 @@
 -- Systems join one after the other.
-use Rattle.std.proofs.Common.{◌≡◌, ◌≢◌, ℕ, ◌+◌, ◌<◌, ◌==◌, ◌&&◌, List, [], ◌∷◌, map, refl, ap, arith, inl, inr}
+use Rattle.std.proofs.Common.{◌≡◌, ◌≢◌, ℕ, ◌+◌, ◌<◌, ◌==◌, ◌&&◌, List, [], ◌∷◌, map, refl, ap, arith}
 use Rattle.std.specs.Prelude.{nat_lt, if◌then◌else◌}
-use Rattle.std.proofs.lemmas.Bool.{cases_lt, le-ltb, lt-ltb}
+use Rattle.std.proofs.lemmas.Bool.Decides.{nat_tests}
 use Rattle.msg_system.specs.declared.start.Start.{Start}
 use Rattle.msg_system.specs.Prelude.{Asked, Meaning, asked_started}
 use Rattle.msg_exec.specs.Prelude.{Lender, LenderStands}
@@ -18,10 +18,7 @@ joined_below n frame s =
 -- the other systems aren't asked
 pub still : (s : State) (i j frame : ℕ) → j ≢ i → (joined_below (i + 1) frame s).members j
     ≡ (joined_below i frame s).members j
-still s i j frame other = elim (cases_lt j i) [
-  | inl lt ↦ rw (lt-ltb j i lt, lt-ltb j (i + 1) (omega (arith, lt)))
-  | inr le ↦ rw (le-ltb j i le, le-ltb j (i + 1) (omega (arith, le, other)))
-]
+still s i j frame other = grind (arith, nat_tests)
 
 pub conditions_start : (start : Start) (cs : List ℕ) (asked : List Asked)
     → map (λ a. a.condition) (map (asked_started start cs) asked) ≡ map (λ a. a.condition) asked
