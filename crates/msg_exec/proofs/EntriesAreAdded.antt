@@ -29,7 +29,7 @@ pub entries_from : (t : ℕ) (ops : List Op) (replies : List Reply) (k : ℕ) (r
     ++ entries_for t (drop (suc k) ops) (drop (suc k) replies)
 entries_from t ops [] k reply here = absurd (none-some reply here)
 entries_from t [] (r ∷ replies) zero reply here = refl
-entries_from t (op ∷ ops) (r ∷ replies) zero reply here = first_entries t op ops r replies reply (same_Some r reply here)
+entries_from t (op ∷ ops) (r ∷ replies) zero reply here = first_entries t op ops r replies _ (same_Some r reply here)
 entries_from t [] (r ∷ replies) (suc k) reply here = refl
 entries_from t (op ∷ ops) (r ∷ replies) (suc k) reply here = entries_from t ops replies k reply here
 
