@@ -1,19 +1,17 @@
 -- Accounts tell what readers were given, and the numbers in them are exact.
-use Rattle.std.proofs.Common.{◌≡◌, ℕ, ◌+◌, ◌^◌, ◌<◌, false, List, [], ◌∷◌, ◌++◌, map, append_assoc, Option, refl, arith, subst}
-use Rattle.std.specs.Prelude.{All, IfSome, IsSome, IsTrue, flat_map, unwrap_or}
+use Rattle.std.proofs.Common.{◌≡◌, ℕ, ◌+◌, ◌^◌, ◌<◌, List, [], ◌∷◌, ◌++◌, map, append_assoc, Option, refl, arith, subst}
+use Rattle.std.specs.Prelude.{All, IfSome, IsSome, IsTrue}
 use Rattle.std.specs.List.{filter, range_with_len}
 use Rattle.std.proofs.lemmas.Bool.{cases_Bool, false≢true}
-use Rattle.std.proofs.lemmas.List.{flat_map_more, map_push}
+use Rattle.std.proofs.lemmas.List.{map_push}
 use Rattle.std.proofs.lemmas.List.Elements.{Contains-get_or}
 use Rattle.msg_buffer.specs.Prelude.{History, Kept, StandsFor as BufferStandsFor, count}
-use Rattle.msg_order.proofs.Elements.{filter-Contains, filter_drops, filter_takes, flat_map-Contains, map-Contains, range-Contains, range_more}
+use Rattle.msg_order.proofs.Elements.{filter-Contains, filter_takes, flat_map-Contains, map-Contains, range-Contains}
 use Rattle.msg_world.specs.declared.record.Record.{Record}
-use Rattle.msg_world.specs.Prelude.{OfType, slot}
-use Rattle.msg_system.specs.Prelude.{Meaning}
 use Rattle.msg_frames.specs.declared.account.Account.{Account}
-use Rattle.msg_exec.specs.Prelude.{Core, CoreStands, kept, within_u64}
+use Rattle.msg_exec.specs.Prelude.{kept}
 use Rattle.msg_frames.specs.declared.totals.Totals.{Totals}
-use Rattle.msg_frames.specs.Prelude.{AddsUp, IsSoundState, State, account_of, accounts_of, accounts_of_system, is_reader, place_of}
+use Rattle.msg_frames.specs.Prelude.{AddsUp, IsSoundState, State, account_of, accounts_of, accounts_of_system, is_reader}
 
 -- ---- one account
 

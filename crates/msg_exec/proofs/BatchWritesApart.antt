@@ -1,5 +1,5 @@
 -- What no system of a batch writes, where no two of them conflict.
-use Rattle.std.proofs.Common.{◌≡◌, ◌≢◌, ℕ, ◌<◌, ◌||◌, false, List, [], ◌∷◌, ◌++◌, length, get_or, take, refl, sym, ap, subst, ◌∙◌, inl, inr, arith}
+use Rattle.std.proofs.Common.{◌≡◌, ◌≢◌, ℕ, ◌<◌, ◌||◌, false, List, [], ◌∷◌, ◌++◌, length, get_or, take, refl, inl, inr, arith}
 use Rattle.std.specs.Prelude.{All, AllPairs, Contains, IsTrue}
 use Rattle.std.proofs.Math.Bool.{or-false, or_assoc}
 use Rattle.std.proofs.lemmas.Bool.{and_from, false_from_ne_true, or_right}

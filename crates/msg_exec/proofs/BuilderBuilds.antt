@@ -1,17 +1,14 @@
 -- What a builder tests of systems and a world, and systems that were given their numbers.
-use Rattle.std.proofs.Common.{◌≡◌, ℕ, zero, suc, ◌+◌, ◌<◌, ◌++◌, ◌&&◌, All, List, [], ◌∷◌, length, map, Option, None, Some, refl, sym, ap, subst, ◌∙◌, arith}
-use Rattle.std.specs.Prelude.{IsSome, IsTrue, slice_get, slice_index_or}
+use Rattle.std.proofs.Common.{◌≡◌, ℕ, zero, suc, ◌+◌, ◌<◌, ◌++◌, List, [], ◌∷◌, length, map, Option, None, Some, refl, sym, ap, ◌∙◌, arith}
+use Rattle.std.specs.Prelude.{IsSome, slice_get, slice_index_or}
 use Rattle.std.proofs.lemmas.Bool.{cases_lt, false≢true}
 use Rattle.std.proofs.lemmas.List.{get_or_past}
-use Rattle.std.proofs.lemmas.List.Elements.{All-get_or}
-use Rattle.std.proofs.lemmas.Option.{get_or_from_slice_get, none-some, same_Some, slice_get_within}
+use Rattle.std.proofs.lemmas.Option.{none-some, same_Some, slice_get_within}
 use Rattle.msg_world.specs.Prelude.{Has, OfResource, OfType, Part, Parts, Registry, slot}
 use Rattle.msg_order.specs.declared.rule.Rule.{Rule}
-use Rattle.msg_order.specs.Prelude.{IsLowestOnCycle}
-use Rattle.msg_system.specs.Prelude.{Meaning, Needs, needs_any, with_conditions}
-use Rattle.msg_frames.specs.declared.place.Place.{Place}
-use Rattle.msg_frames.specs.Prelude.{HasClash, all_rules}
-use Rattle.msg_exec.specs.Prelude.{AllFit, BuildRefusal, Clash, Cycle, EachIs, IsJoin, MayBeAdded, NoMemory, RefusesFor, numbered_from}
+use Rattle.msg_system.specs.Prelude.{Meaning}
+use Rattle.msg_frames.specs.Prelude.{HasClash}
+use Rattle.msg_exec.specs.Prelude.{BuildRefusal, Clash, Cycle, EachIs, NoMemory, RefusesFor, numbered_from}
 use Rattle.msg_exec.proofs.ItemsOfLists.{item_at}
 
 -- ---- what a world has

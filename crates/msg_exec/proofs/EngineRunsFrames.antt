@@ -6,7 +6,7 @@ use Rattle.msg_system.specs.Prelude.{Meaning}
 use Rattle.msg_exec.specs.Prelude.{Core, CoreStands, EngineOf, IsEngine, StandsFor}
 use Rattle.msg_frames.specs.declared.frame.Frame.{Frame}
 use Rattle.msg_frames.specs.declared.log.Log.{Log}
-use Rattle.msg_frames.specs.Prelude.{HasOneRun, IsFrame, IsRun, RunsAreUnique, RunsExist, State}
+use Rattle.msg_frames.specs.Prelude.{IsFrame, IsRun, State}
 use Rattle.msg_exec.proofs.ItemsOfLists.{some_of}
 
 module _ {S : Type 0} (meaning : S → Meaning) where

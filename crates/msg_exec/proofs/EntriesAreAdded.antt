@@ -1,16 +1,15 @@
 -- Entries are added to totals one by one.
-use Rattle.std.proofs.Common.{add-one, ◌≡◌, ℕ, zero, suc, ◌+◌, ◌<◌, ◌≤◌, ◌==◌, List, [], ◌∷◌, ◌++◌, length, drop, get_or, Option, Some, None, refl, sym, ap, subst, ◌∙◌, arith}
-use Rattle.std.specs.Prelude.{false, slice_get, option_to_list, unwrap_or, if◌then◌else◌}
+use Rattle.std.proofs.Common.{arith, ◌≡◌, ℕ, zero, suc, List, [], ◌∷◌, ◌++◌, length, drop, get_or, Some, refl, sym, ap, ◌∙◌}
+use Rattle.std.specs.Prelude.{slice_get}
 use Rattle.std.specs.Global.{Vec}
 use Rattle.std.specs.Vec.{with_items}
-use Rattle.std.proofs.lemmas.List.{drop_all, with_items_is}
-use Rattle.std.proofs.lemmas.Option.{none-some, slice_get_read, unwrap_or-slice_get}
+use Rattle.std.proofs.lemmas.List.{with_items_is}
+use Rattle.std.proofs.lemmas.Option.{get_or_from_slice_get, none-some, same_Some}
 use Rattle.msg_system.specs.declared.op.Op.{Op}
 use Rattle.msg_system.specs.declared.reply.Reply.{Reply}
-use Rattle.msg_system.specs.Prelude.{Meaning, type_read}
+use Rattle.msg_system.specs.Prelude.{Meaning}
 use Rattle.msg_frames.specs.declared.totals.Totals.{Totals}
-use Rattle.msg_frames.specs.Prelude.{Entry, entries_for, entry_of, with_entries}
-use Rattle.msg_frames.proofs.EntriesAddUp.{with_entries-append, with_entries-none}
+use Rattle.msg_frames.specs.Prelude.{entries_for}
 use Rattle.msg_exec.specs.Prelude.{Done, kept}
 use Rattle.msg_exec.specs.inner.Lending.{HaveEntered}
 use Rattle.msg_exec.specs.inner.Totals.{entry_at}
@@ -19,11 +18,9 @@ use Rattle.msg_exec.specs.inner.Totals.{entry_at}
 pub kept_alike : {x y t : Totals} → x ≡ y → t ≡ kept y → t ≡ kept x
 kept_alike same is = is ∙ ap kept (sym same)
 
-of_its_type : (t : ℕ) (o : Option ℕ) (es : List Entry)
-    → (if (elim o [ None ↦ false | Some u ↦ u == t ]) then es else [])
-    ≡ (elim o [ None ↦ [] | Some u ↦ if u == t then es else [] ])
-of_its_type t None es = refl
-of_its_type t (Some u) es = refl
+first_entries : (t : ℕ) (op : Op) (ops : List Op) (r : Reply) (replies : List Reply) (reply : Reply) → r ≡ reply
+    → entries_for t (op ∷ ops) (r ∷ replies) ≡ entry_at t (op ∷ ops) 0 reply ++ entries_for t ops replies
+first_entries t op ops r replies reply is = grind arith
 
 -- the entries from op k on are that of op k and those after it
 pub entries_from : (t : ℕ) (ops : List Op) (replies : List Reply) (k : ℕ) (reply : Reply) → slice_get replies k
@@ -32,10 +29,7 @@ pub entries_from : (t : ℕ) (ops : List Op) (replies : List Reply) (k : ℕ) (r
     ++ entries_for t (drop (suc k) ops) (drop (suc k) replies)
 entries_from t ops [] k reply here = absurd (none-some reply here)
 entries_from t [] (r ∷ replies) zero reply here = refl
-entries_from t (op ∷ ops) (r ∷ replies) zero reply here =
-    ap (λ es. es ++ entries_for t ops replies)
-    (of_its_type t (type_read op) (option_to_list (entry_of r))
-    ∙ ap (λ x. entry_at t (op ∷ ops) 0 x) (ap (λ o. unwrap_or o r) here))
+entries_from t (op ∷ ops) (r ∷ replies) zero reply here = first_entries t op ops r replies _ (same_Some r reply here)
 entries_from t [] (r ∷ replies) (suc k) reply here = refl
 entries_from t (op ∷ ops) (r ∷ replies) (suc k) reply here = entries_from t ops replies k reply here
 
@@ -51,7 +45,5 @@ pub entered_there : {S : Type 0} (meaning : S → Meaning) (d : Done S) (all : L
     → x ≡ get_or all d.number x → was ≡ x.items → length now ≡ x.len → HaveEntered meaning d was now
     → (u : Vec Totals) → slice_get all d.number ≡ Some u → HaveEntered meaning d u.items (with_items x now).items
 entered_there meaning d all x was now at there size entered u is =
-    let same : u ≡ x = ap (λ o. unwrap_or o x) (sym is) ∙ unwrap_or-slice_get all d.number x ∙ sym at in
-    subst (λ xs. HaveEntered meaning d xs (with_items x now).items)
-    (there ∙ ap (λ (v : Vec Totals). v.items) (sym same))
-    (subst (λ xs. HaveEntered meaning d was xs) (sym (with_items_is x now size)) entered)
+    let same : u ≡ x = sym (get_or_from_slice_get all d.number u x is) ∙ sym at in
+    rw (same, with_items_is x now size, ← there) entered

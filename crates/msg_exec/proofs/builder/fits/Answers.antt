@@ -1,15 +1,12 @@
-use Rattle.std.proofs.Common.{subst, sym, ◌∙◌}
-use Rattle.msg_system.specs.Prelude.{IsAccessOf, with_conditions}
+use Rattle.std.proofs.Common.{sym, ◌∙◌}
 use Rattle.msg_system.proofs.Accesses.{uses_needs}
 use Rattle.msg_exec.proofs.BuilderBuilds.{has_part}
 use Rattle.msg_exec.proofs.builder.fits.Goals as goal
 
 pub returns : goal.returns
 returns g c =
-    let needs = (g.S.System.meaning c.args.system.now).needs in
-    let used =
-    uses_needs _ _ (subst (λ cs. IsAccessOf (with_conditions needs cs) c.job_access.result) c.as_slice.ensures.items
-    (c.job_access.ensures.needs needs c.access.ensures.needs)) in
+    let access = c.job_access.ensures.needs (g.S.System.meaning c.args.system.now).needs c.access.ensures.needs in
+    let used = uses_needs _ _ (rw c.as_slice.ensures.items at access) in
     record {
       fit = (
         λ home p needed. has_part c.args.world.now p (c.is_home.ensures.home.0 home p (used p ∙ needed)),

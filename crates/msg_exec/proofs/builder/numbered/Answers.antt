@@ -1,7 +1,5 @@
-use Rattle.std.proofs.Common.{refl, ◌∷◌, ◌++◌, ◌+◌, [], length, map, sym, ap, ◌≡◌, ◌∙◌, arith}
+use Rattle.std.proofs.Common.{refl, ◌+◌, length, map, ◌≡◌, arith}
 use Rattle.std.proofs.lemmas.List.{length-map, length_push, map_push}
-use Rattle.msg_system.specs.Prelude.{Meaning}
-use Rattle.msg_exec.specs.Prelude.{numbered_from}
 use Rattle.msg_exec.proofs.BuilderBuilds.{numbered_more}
 use Rattle.msg_exec.proofs.builder.numbered.Goals as goal
 

@@ -1,4 +1,4 @@
-use Rattle.std.proofs.Common.{◌∙◌, arith, refl, suc}
+use Rattle.std.proofs.Common.{arith, refl, suc}
 use Rattle.msg_world.specs.Prelude.{WorldState, after_update}
 use Rattle.msg_frames.specs.Prelude.{before_turns, joining}
 use Rattle.msg_frames.proofs.SystemsStay.{joining_world}
@@ -14,19 +14,11 @@ pub returns : goal.returns
 returns g c = record {
   opened = λ s stands is.
       let has = c.in_ok-core.ensures.begun s stands is in
-      let old = c.update_all.ensures.shape in
-      let new = c.in_ok-post_all.ensures.shape in
       let w : WorldState = after_update (joining s).world in
       let now = c.update_all.ensures.meaning (joining s).world has.lender.world in
       record {
         lender = world_stands g.S.System.meaning c.in_ok-core.core.lender (joining s) _ _ (suc (joining s).frames)
-            has.lender (record {
-              size = record {
-                types = new.size.types ∙ old.size.types;
-                resources = new.size.resources ∙ old.size.resources;
-              };
-              there = λ p. new.there p ∙ old.there p;
-            }) (rw c.as_slice-posts.ensures.items at (c.in_ok-post_all.ensures.state w now));
+            has.lender (grind arith) (rw c.as_slice-posts.ensures.items at (c.in_ok-post_all.ensures.state w now));
         schedule = schedule_along c.in_ok-core.core _ (joining s) (before_turns c.args.frame.now.posts s) refl refl
             (grind arith) has.schedule;
         plan = has.plan;

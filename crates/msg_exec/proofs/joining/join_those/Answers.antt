@@ -98,7 +98,7 @@ loop-i-preserved g c =
                 home = here.home;
                 totals = rw (get_same lender.totals.items i w (omega (arith, lt, far.totals))) (record {
                   as_many = many;
-                  each = λ t below. rw read (opened t (omega (arith, below, many, ap length read, c.begin.ensures.as_many))
+                  each = λ t below. rw read (opened t (rw (← c.begin.ensures.as_many, ← read, many) below)
                       ∙ ap (λ (j : JobState). totals_from (first_place j.system cs t)) a.1.1
                       ∙ rw (fresh i t joined) refl);
                 });

@@ -21,7 +21,6 @@ pub loop-t-preserved : goal.loop-t-preserved
 loop-t-preserved c =
     let p : ℕ × ℤ = c.loop-t-item.result in
     let did = c.in_ok-reply.ensures in
-    let old = c.loop-t.invariant.shape in
     let fits : SFits w64 p.1 = search rules in
     record {
       so_far = λ w stands.
@@ -32,16 +31,7 @@ loop-t-preserved c =
             rw (posted_more (take k ps) p w) ((rw (to_z-of_z w64 p.1 fits) at did.state) _ far.0),
             rw (replies_more (take k ps) p w, ← did.reply _ far.0, far.1) refl,
           );
-      shape =
-          record {
-            size =
-                record {
-                  types = did.shape.size.types ∙ old.size.types;
-                  resources = did.shape.size.resources
-                      ∙ old.size.resources;
-                };
-            there = λ q. did.shape.there q ∙ old.there q;
-          };
+      shape = grind arith;
       as_many = rw (c.in-Ok.ensures.items, length_push, c.loop-t.invariant.as_many) refl;
       room = omega (arith, c.loop-t.invariant.room, c.in-Ok.ensures.capacity);
     }
