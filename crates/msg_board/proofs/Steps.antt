@@ -66,13 +66,6 @@ module _ {J D : Type 0} (lawful : J → D → Type 0) (jobs : List J) (passes : 
         weights = omega (arith, sum_by-set_at (λ u. u.weight) s.views id v w at, r.weights);
       }
 
-  -- `fetch_max` with 1 makes 0 a 1, and leaves all else
-  fetched_new : (x : ℕ) → x ≡ 0 → max x 1 ≡ 1
-  fetched_new x e = omega arith
-
-  fetched_old : (x : ℕ) → x ≢ 0 → max x 1 ≡ x
-  fetched_old x n = omega arith
-
   -- a view that has tried one word more is right once that word i is above 0
   tried_more : (ws : List ℕ) (i n : ℕ) (v w : View J) → IsViewOf jobs ws v → 0 < v.weight → i < length ws
       → i < length jobs → v.next ≡ i → n ≢ 0 → w.jobs ≡ v.jobs → w.weight ≡ v.weight → w.next ≡ i + 1
@@ -148,7 +141,7 @@ module _ {J D : Type 0} (lawful : J → D → Type 0) (jobs : List J) (passes : 
       let inside : i < length jobs = omega (arith, r.slots) in let there_is = there jobs i inside in
       let own = ap (λ (l : List J). get_elem? l i) ((r.each_view id me.0 at).same_jobs live) ∙ there_is.1 in
       dite (ℕ_discrete (get_or s.words i 0) 0)
-      (λ hit. subst (Draws s me slots id i) (sym (fetched_new (get_or s.words i 0) hit)) (
+      (λ hit. let one : 1 ≡ max (get_or s.words i 0) 1 = omega arith in subst (Draws s me slots id i) one (
         taken i me.0,
         takes i (Job there_is.0),
         (r.each_slot i there_is.0 there_is.1).waiting hit,
@@ -156,7 +149,8 @@ module _ {J D : Type 0} (lawful : J → D → Type 0) (jobs : List J) (passes : 
         tells_drawn (step slots i 1 0 none) me _ _ (sym is) refl hit
             (there_is.0, own, ap (λ (c : List (ℕ × Slot J D)). (taken i me.0, (i, Job there_is.0) ∷ c)) empty),
       ))
-      (λ miss. subst (Draws s me slots id i) (sym (fetched_old (get_or s.words i 0) miss)) (
+      (λ miss. let same : get_or s.words i 0 ≡ max (get_or s.words i 0) 1 = omega arith in
+      subst (Draws s me slots id i) same (
         tried me.0,
         keeps,
         tt,

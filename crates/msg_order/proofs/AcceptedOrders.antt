@@ -50,13 +50,10 @@ pub taken_all : (g : Graph) (joined : List Bool) (left : ℕ → Bool) (order : 
     → AreTaken g joined order (length order) left → ((i : ℕ) → left i ≡ false) → IsLawfulOrder g joined order
 taken_all g joined left order among t none =
     let place : (i : ℕ) → has_joined joined i ≡ true → (a : ℕ) × ((a < length order) × (get_or order a 0 ≡ i)) =
-    λ i e. elim (find_place order i (length order)) [
-      | inl f ↦ f
-      | inr f ↦ absurd (false≢true (sym (none i) ∙ t.stays i e f))
-    ] in
+    λ i e. grind (arith, find_place order i (length order), none i, t.stays i e) in
     record {
       of_joined = λ i. (
-        λ c. let a = place_of order i c in subst (λ z. has_joined joined z ≡ true) a.1.1 (t.among a.0 a.1.0),
+        λ c. let a = place_of order i c in grind (arith, a, t.among a.0),
         λ e. let a = place i e in of_place order i a.0 a.1.0 a.1.1,
       );
       once =

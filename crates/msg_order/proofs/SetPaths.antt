@@ -151,14 +151,7 @@ row_settles C g n i before new later few lt below tells adds way = (
         (λ e.
         let r = Contains-list_any (reaches test h k) js e in
         let t : ℕ = r.0 in
-        let b = and_parts (test t) (k == t || path h t k) r.1.1 in
-        let l : t < n = below t (found t b.0).1.0 in
-        elim (or_cases (k == t) (path h t k) b.1) [
-          | inl x ↦ or_left (has later k) (meets (set_at before k) later)
-              (subst (λ z. test z ≡ true) (sym (eqb-true k t x)) b.0)
-          | inr x ↦ or_right (has later k) (meets (set_at before k) later)
-              (meets-found (set_at before k) later t (omega arith) (way.1.0 t k ∙ x) b.0)
-        ])
+        grind (arith, eqb_tells, r.1.1, found t, below t, way.1.0 t k, meets-found (set_at before k) later t))
 
 -- Systems below n on cycles.
 pub joined_in : (joined : List Bool) (i : ℕ) → has_joined joined i ≡ true → i < length joined

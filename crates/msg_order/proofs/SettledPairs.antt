@@ -7,7 +7,7 @@ use Rattle.std.proofs.lemmas.Bool.Decides.{eqb_tells}
 use Rattle.std.proofs.lemmas.Bool.{cases_Bool, or_cases, and_parts, false≢true, false_from_ne_true, eqb-true}
 use Rattle.std.proofs.lemmas.Grind.{flat_map-append}
 use Rattle.std.proofs.lemmas.List.{append-nil}
-use Rattle.msg_order.specs.Prelude.{GainsEdge, Graph, IsEdge, Path, Settles, pairs}
+use Rattle.msg_order.specs.Prelude.{Graph, IsEdge, Path, Settles, pairs}
 use Rattle.msg_order.specs.inner.Paths.{path}
 use Rattle.msg_order.proofs.Elements.{Contains-head, Contains-tail, Contains-cases, not_in_none, range_more, flat_map-Contains, Contains-flat_map, map-Contains, Contains-map, range-Contains, Contains-range}
 use Rattle.msg_order.proofs.Chains.{edge_is_path}
@@ -17,18 +17,14 @@ use Rattle.msg_order.proofs.PathTest.{path_trans, to_Path, no_Path, no_path, pat
 pub settles_then : (C : ℕ → ℕ → Type 0) (ps qs g h k : Graph) → Settles C g ps h → Settles C h qs k
     → Settles C g (ps ++ qs) k
 settles_then C [] qs g h k a b = subst (λ x. Settles C x qs k) (sym a) b
-settles_then C (p ∷ ps) qs g h k a b = elim a [
-  | inl x ↦ inl (x.0, settles_then C ps qs (p ∷ g) h k x.1 b)
-  | inr x ↦ inr (x.0, settles_then C ps qs g h k x.1 b)
-]
+settles_then C (p ∷ ps) qs g h k a b =
+    grind (arith, settles_then C ps qs (p ∷ g) h k, settles_then C ps qs g h k)
 
 -- Only one graph comes of them.
 pub settles_once : (C : ℕ → ℕ → Type 0) (ps g h k : Graph) → Settles C g ps h → Settles C g ps k → h ≡ k
 settles_once C [] g h k a b = sym a ∙ b
-settles_once C (p ∷ ps) g h k a b = elim a [
-  | inl x ↦ elim b [ inl y ↦ settles_once C ps (p ∷ g) h k x.1 y.1 | inr y ↦ absurd (y.0 x.0) ]
-  | inr x ↦ elim b [ inl y ↦ absurd (x.0 y.0) | inr y ↦ settles_once C ps g h k x.1 y.1 ]
-]
+settles_once C (p ∷ ps) g h k a b =
+    grind (arith, settles_once C ps (p ∷ g) h k, settles_once C ps g h k)
 
 -- Each edge was there before, or is one of the pairs that are in conflict.
 pub settles_edges : (C : ℕ → ℕ → Type 0) (ps g h : Graph) → Settles C g ps h → (i j : ℕ) → IsEdge h i j → IsEdge g i j
@@ -62,12 +58,8 @@ pub settles_covers : (C : ℕ → ℕ → Type 0) (ps g h : Graph) → Settles C
 settles_covers C [] g h a i j m c = absurd (not_in_none (i, j) m)
 settles_covers C (p ∷ ps) g h a i j m c = elim (Contains-cases p ps (i, j) m) [
   | inl s ↦ elim a [
-    | inl x ↦ inl (settles_grows C ps (p ∷ g) h x.1 i j
-        (edge_is_path (p ∷ g) i j (subst (λ (q : ℕ × ℕ). Contains (p ∷ g) q) s (Contains-head p g))))
-    | inr x ↦ elim (cases_Bool (path g j i)) [
-      | inl t ↦ inr (settles_grows C ps g h x.1 j i (to_Path g j i t))
-      | inr f ↦ absurd (x.0 (subst (λ (q : ℕ × ℕ). GainsEdge C g q.0 q.1) (sym s) (c, no_Path g j i f)))
-    ]
+    | inl x ↦ inl (settles_grows C ps (p ∷ g) h x.1 i j (edge_is_path (p ∷ g) i j (0, omega arith, s)))
+    | inr x ↦ grind (arith, x, to_Path g j i, no_Path g j i, settles_grows C ps g h x.1 j i)
   ]
   | inr t ↦ elim a [
     | inl x ↦ settles_covers C ps (p ∷ g) h x.1 i j t c
@@ -83,11 +75,13 @@ free_step p g lt free h s = grind (arith, false_from_ne_true, false≢true, or_c
 pub settles_free : (C : ℕ → ℕ → Type 0) (ps g h : Graph) → Settles C g ps h → ((i j : ℕ) → Contains ps (i, j) → i < j)
     → ((s : ℕ) → path g s s ≡ false) → (s : ℕ) → path h s s ≡ false
 settles_free C [] g h a up f = subst (λ x. (s : ℕ) → path x s s ≡ false) a f
-settles_free C (p ∷ ps) g h a up f = elim a [
-  | inl x ↦ settles_free C ps (p ∷ g) h x.1 (λ i j m. up i j (Contains-tail p ps (i, j) m))
-      (free_step p g (up p.0 p.1 (Contains-head p ps)) (no_path g p.1 p.0 x.0.1) f)
-  | inr x ↦ settles_free C ps g h x.1 (λ i j m. up i j (Contains-tail p ps (i, j) m)) f
-]
+settles_free C (p ∷ ps) g h a up f =
+    let later = λ (i j : ℕ) (m : Contains ps (i, j)). up i j (Contains-tail p ps (i, j) m) in
+    elim a [
+      | inl x ↦ settles_free C ps (p ∷ g) h x.1 later
+          (free_step p g (up p.0 p.1 (Contains-head p ps)) (no_path g p.1 p.0 x.0.1) f)
+      | inr x ↦ settles_free C ps g h x.1 later f
+    ]
 
 -- All pairs of numbers below n, up to those of i.
 abbrev pub row : ℕ → ℕ → Graph
@@ -127,9 +121,6 @@ same_to g i t x ne free = grind (arith, eqb_tells)
 -- Nor does it to others from where no path leads to i.
 same_from : (g : Graph) (i t s k : ℕ) → s ≢ i → path g s i ≡ false → path ((i, t) ∷ g) s k ≡ path g s k
 same_from g i t s k ne free = grind (arith, eqb_tells)
-
-regroup : (p b q a : Bool) → ((p || (b && q)) || (b && a)) ≡ (p || (b && (q || a)))
-regroup z0 b q a = grind arith
 
 -- What the test holds of has no path to i, and isn't i.
 abbrev pub AreFree : Graph → ℕ → (ℕ → Bool) → Type 0

@@ -30,22 +30,14 @@ conflicts_ordered accesses rules joined order len settled i j ne at_i at_j confl
     let C : ℕ → ℕ → Type 0 = AreInConflict accesses joined in
     let in_i : i < length joined = joined_in joined i at_i in
     let in_j : j < length joined = joined_in joined j at_j in
-    elim (cases_order i j) [
-      | inl e ↦ absurd (ne e)
-      | inr o ↦ elim o [
-        | inl l ↦ settles_covers C (pairs (length accesses)) (rules_among joined rules) order settled i j
-            (Contains-pairs (length accesses) i j l (omega arith))
-            (record { first_joined = at_i; second_joined = at_j; conflict = conflict })
-        | inr l ↦ elim (settles_covers C (pairs (length accesses)) (rules_among joined rules) order settled j i
-            (Contains-pairs (length accesses) j i l (omega arith))
-            (record {
-              first_joined = at_j;
-              second_joined = at_i;
-              conflict = conflict_sym (access_of accesses i) (access_of accesses j) conflict;
-            }))
-            [ inl p ↦ inr p | inr p ↦ inl p ]
-      ]
-    ]
+    let up = λ (l : i < j). settles_covers C (pairs (length accesses)) (rules_among joined rules) order settled i j
+    (Contains-pairs (length accesses) i j l (omega arith))
+    (record { first_joined = at_i; second_joined = at_j; conflict = conflict }) in
+    let back = conflict_sym (access_of accesses i) (access_of accesses j) conflict in
+    let down = λ (l : j < i). settles_covers C (pairs (length accesses)) (rules_among joined rules) order settled j i
+    (Contains-pairs (length accesses) j i l (omega arith))
+    (record { first_joined = at_j; second_joined = at_i; conflict = back }) in
+    grind (arith, cases_order i j, up, down)
 
 pub settled_once : SettledOrderIsUnique
 settled_once accesses rules joined g h a b = settles_once (AreInConflict accesses joined) (pairs (length accesses))

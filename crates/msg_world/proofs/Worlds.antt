@@ -208,7 +208,11 @@ world_stands w each = (
     resources = λ r. unwrap_or (at w.resources r) (pos 0);
     marks = unwrap_or w.marks none;
   },
-  stand,
+  elim [
+    | OfType t ↦ (chosen t).1
+    | OfResource r ↦ some_value (at w.resources r) (pos 0)
+    | Registry ↦ some_value w.marks none
+  ],
 )
   where
     none : Marks
@@ -219,15 +223,6 @@ world_stands w each = (
       | inl lt ↦ each t lt
       | inr past ↦ (empty 0, none_stands (at w.types t) _ (get_or_past w.types t None past))
     ]
-
-    stand : PartsStand w (record {
-      histories = λ t. (chosen t).0;
-      resources = λ r. unwrap_or (at w.resources r) (pos 0);
-      marks = unwrap_or w.marks none;
-    })
-    stand (OfType t) = (chosen t).1
-    stand (OfResource r) = some_value (at w.resources r) (pos 0)
-    stand Registry = some_value w.marks none
 
 -- the same of a view of parts, and of its types as they were read
 pub some_state : (v w : Parts) (types : List (Option (Kept Record))) → w ≡ v → types ≡ w.types
