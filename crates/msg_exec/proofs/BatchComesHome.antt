@@ -23,16 +23,9 @@ use Rattle.msg_frames.proofs.SystemsStay.{turns_keep_systems}
 use Rattle.msg_frames.proofs.ElementsAndPairs.{pairs_head, pairs_right}
 use Rattle.msg_order.proofs.Elements.{Contains-cases, Contains-head, Contains-tail, not_in_none}
 use Rattle.msg_exec.proofs.SystemAfterTurn.{few_replies, its_own, of_another, still_has, still_there, totals_after}
-use Rattle.msg_exec.proofs.ItemsOfLists.{get_other, get_same}
+use Rattle.msg_exec.proofs.ItemsOfLists.{get_other, get_same, some_of}
+use Rattle.msg_exec.proofs.JobsAreDone.{none_there}
 use Rattle.msg_exec.proofs.BatchWritesApart.{later_write_not, written_is_used}
-
-some_of : {X : Type 0} (o : Option X) (P : X → Type 0) → IsSomeAnd o P → (x : X) × (o ≡ Some x) × P x
-some_of None P h = absurd h
-some_of (Some x) P h = (x, refl, h)
-
-none_there : {X : Type 0} (o : Option X) → is_some o ≡ false → o ≡ None
-none_there None h = refl
-none_there (Some x) h = absurd cc
 
 some_left : {X : Type 0} (b : _) (o : Option X) → is_some (if b then None else o) ≡ (if b then false else is_some o)
 some_left true o = refl
@@ -111,10 +104,8 @@ module _ {S : Type 0} (meaning : S → Meaning) where
     systems = out.as_many ∙ stands.systems;
     accesses = out.accesses;
     as_many = ap length out.totals ∙ stands.totals;
-    members = λ k lt away. subst (λ x. IsSomeAnd x (λ a. job_state meaning a ≡ (s.members k).job))
-        (sym (out.others k away)) (stands.members k lt).guarded;
-    totals = λ k lt. subst (λ xs. IsSomeAnd (slice_get xs k) (λ v. TotalsStand s.types v.items (s.members k).totals))
-        (sym out.totals) (stands.members k lt).totals;
+    members = λ k lt away. rw (out.others k away) (stands.members k lt).guarded;
+    totals = λ k lt. rw out.totals (stands.members k lt).totals;
     untouched = λ k there. refl;
     world = left_stands meaning whole left s is js stands.world out;
     size = out.size;
@@ -136,7 +127,7 @@ module _ {S : Type 0} (meaning : S → Meaning) where
         size = sizes_meet whole.world now.world d.taken half.size back.size;
         out = λ p there. out_of_world p (sym (back.there p) ∙ there);
       };
-      few = subst HasFewReplies (sym back.after.outcome) (few_replies (s.members i).job s.world);
+      few = rw back.after.outcome (few_replies (s.members i).job s.world);
     }
 
     module _ (new : Lender S) (comes : ComesHome meaning now d new) (fresh : ¬ Contains rest i)
@@ -156,26 +147,21 @@ module _ {S : Type 0} (meaning : S → Meaning) where
 
       system_back : IsSomeAnd (system_at new i) (λ a. job_state meaning a ≡ its_turn.job)
       system_back =
-          let there : system_at new i ≡ Some d.guarded = ap (λ xs. slice_index_or xs i None) systems_set
-          ∙ get_or-set_same now.systems.items i (Some d.guarded) None (omega (arith, lt, half.systems)) in
-          subst (λ x. IsSomeAnd x (λ a. job_state meaning a ≡ its_turn.job)) (sym there) back.after.job
+          rw (systems_set, get_or-set_same now.systems.items i (Some d.guarded) None (omega (arith, lt, half.systems)))
+          back.after.job
 
       totals_back : IsSomeAnd (slice_get new.totals.items i) (λ v. TotalsStand s.types v.items its_turn.totals)
       totals_back =
           let v : Vec Totals = comes.totals.0 in
           let m : Member = s.members i in
-          let old = some_of (slice_get now.totals.items i) _ (half.totals i lt) in
+          let old = some_of (slice_get now.totals.items i) (half.totals i lt) in
           let entered : HaveEntered meaning d old.0.items v.items =
-          comes.totals.2 old.0 (ap (slice_get now.totals.items) back.number ∙ old.1) in
-          let before : TotalsStand s.types old.0.items m.totals =
-          subst (λ (x : Member). TotalsStand s.types old.0.items x.totals)
-          (half.untouched i (Contains-head i rest)) old.2 in
-          let there : slice_get new.totals.items i ≡ Some v = ap (λ xs. slice_get xs i) totals_set
-          ∙ get_same now.totals.items i v (omega (arith, lt, half.as_many)) in
-          subst (λ x. IsSomeAnd x (λ v. TotalsStand s.types v.items its_turn.totals)) (sym there)
+          comes.totals.2 old.0 (rw back.number old.1.0) in
+          rw (totals_set, get_same now.totals.items i v (omega (arith, lt, half.as_many)))
           (totals_after s.types m s.world old.0.items v.items _ d.outcome
-          (ap (λ (j : JobState). j.system.last) back.after.job) back.after.outcome before entered.as_many
-          entered.entered)
+          (ap (λ (j : JobState). j.system.last) back.after.job) back.after.outcome
+          (subst (λ (x : Member). TotalsStand s.types old.0.items x.totals)
+          (half.untouched i (Contains-head i rest)) old.1.1) entered.as_many entered.entered)
 
       world_there : (p : Part) → is_some (slot p new.world)
           ≡ (if any_writes whole.accesses.items rest p then false else is_some (slot p whole.world))
@@ -194,37 +180,21 @@ module _ {S : Type 0} (meaning : S → Meaning) where
         accesses = comes.accesses ∙ half.accesses;
         as_many = ap length totals_set ∙ length-set now.totals.items i comes.totals.0 ∙ half.as_many;
         members = λ k below away. elim (eqb_tells k i) [
-          | inl same ↦ subst (λ n. IsSomeAnd (system_at new n)
-              (λ a. job_state meaning a ≡ ((home whole.accesses.items s i u).members n).job)) (sym same.1)
-              (subst (λ (x : Member). IsSomeAnd (system_at new i) (λ a. job_state meaning a ≡ x.job))
-              (sym (its_own i its_turn u.members)) system_back)
+          | inl same ↦ rw (same.1, its_own i its_turn u.members) system_back
           | inr other ↦
               let out : ¬ Contains (i ∷ rest) k =
               λ there. elim (Contains-cases i rest k there)
               [ inl same ↦ other.1 (sym same) | inr later ↦ away later ] in
-              let there : system_at new k ≡ system_at now k = ap (λ xs. slice_index_or xs k None) systems_set
-              ∙ get_or-set_other now.systems.items i k (Some d.guarded) None other.1 in
-              subst (λ (x : Member). IsSomeAnd (system_at new k) (λ a. job_state meaning a ≡ x.job))
-              (sym (of_another i k its_turn u.members other.1))
-              (subst (λ x. IsSomeAnd x (λ a. job_state meaning a ≡ (u.members k).job)) (sym there)
-              (half.members k below out))
+              rw (of_another i k its_turn u.members other.1, systems_set,
+              get_or-set_other now.systems.items i k (Some d.guarded) None other.1) (half.members k below out)
         ];
         totals = λ k below. elim (eqb_tells k i) [
-          | inl same ↦ subst (λ n. IsSomeAnd (slice_get new.totals.items n)
-              (λ v. TotalsStand s.types v.items ((home whole.accesses.items s i u).members n).totals)) (sym same.1)
-              (subst (λ (x : Member). IsSomeAnd (slice_get new.totals.items i)
-              (λ v. TotalsStand s.types v.items x.totals)) (sym (its_own i its_turn u.members)) totals_back)
-          | inr other ↦
-              let there : slice_get new.totals.items k
-              ≡ slice_get now.totals.items k = ap (λ xs. slice_get xs k) totals_set
-              ∙ get_other now.totals.items i k comes.totals.0 other.1 in
-              subst (λ (x : Member). IsSomeAnd (slice_get new.totals.items k)
-              (λ v. TotalsStand s.types v.items x.totals)) (sym (of_another i k its_turn u.members other.1))
-              (subst (λ x. IsSomeAnd x (λ v. TotalsStand s.types v.items (u.members k).totals)) (sym there)
-              (half.totals k below))
+          | inl same ↦ rw (same.1, its_own i its_turn u.members) totals_back
+          | inr other ↦ rw (of_another i k its_turn u.members other.1, totals_set,
+              get_other now.totals.items i k comes.totals.0 other.1) (half.totals k below)
         ];
         untouched = λ k there.
-            let other : k ≢ i = λ same. fresh (subst (Contains rest) same there) in
+            let other : k ≢ i = λ same. fresh (rw same at there) in
             of_another i k its_turn u.members other ∙ half.untouched k (Contains-tail i rest k there);
         world = merges (access_of whole.accesses.items i) d.taken now.world new.world (turn_of s i).world u.world
             (λ p isnt. none_there (slot p d.taken) (back.there p ∙ isnt)) out_of_world comes.taken_back
@@ -245,20 +215,11 @@ module _ {S : Type 0} (meaning : S → Meaning) where
         members = λ k below.
             let lt : k < s.systems = omega (arith, below, same.systems) in
             let here : MemberStands meaning whole s.types k (s.members k) = stands.members k lt in
-            let its : access_of now.accesses.items k
-            ≡ access_of whole.accesses.items k = ap (λ xs. access_of xs k) half.accesses in
-            let needs : needs_of (u.members k)
-            ≡ needs_of (s.members k) =
-            λ n. with_conditions ((same.members k).needs n) ((same.members k).conditions n) in
             record {
               guarded = half.members k lt (not_in_none k);
-              access = subst (λ a. IsAccessOf (needs_of (u.members k)) a) (sym its)
-                  (subst (λ n. IsAccessOf n (access_of whole.accesses.items k)) (sym needs) here.access);
-              home = λ p used. still_there whole.world now.world p shape
-                  (here.home p (ap (λ a. uses a p) (sym its) ∙ used));
-              totals =
-                  subst (λ n. IsSomeAnd (slice_get now.totals.items k)
-                  (λ v. TotalsStand n v.items (u.members k).totals)) (sym same.types) (half.totals k lt);
+              access = rw (half.accesses, (same.members k).needs, (same.members k).conditions) here.access;
+              home = λ p used. still_there whole.world now.world p shape (here.home p (rw half.accesses at used));
+              totals = rw same.types (half.totals k lt);
             };
         world = half.world;
         whole = λ p has. still_there whole.world now.world p shape
@@ -269,7 +230,7 @@ module _ {S : Type 0} (meaning : S → Meaning) where
   -- whichever state the lender stands for, it is of as many systems
   pub below_alike : (g : Lender S) (s u : State) (is : List ℕ) → LenderStands meaning g s → LenderStands meaning g u
       → All (λ i. i < s.systems) is → All (λ i. i < u.systems) is
-  below_alike g s u is here there below = subst (λ n. All (λ i. i < n) is) (sym here.accesses ∙ there.accesses) below
+  below_alike g s u is here there below = rw (sym here.accesses ∙ there.accesses) at below
 
   -- ---- the batch, from its first system that comes home to its last
 
@@ -300,20 +261,20 @@ module _ {S : Type 0} (meaning : S → Meaning) where
   module _ (whole now : Lender S) (batch : List ℕ) (s : State) (d : Done S) (ds : List (Done S))
       (before turns : List Turn)
       (stands : LenderStands meaning whole s) (below : All (λ i. i < s.systems) batch) where
+    in_batch : (come rest : List ℕ) (i : ℕ) → come ++ i ∷ rest ≡ batch → i < s.systems
+    in_batch come rest i all = All-contains (λ i. i < s.systems) batch i below
+        (rw all at (Contains-append_right come (i ∷ rest) i (Contains-head i rest)))
+
     goes_on : (come rest : List ℕ) → come ++ rest ≡ batch → AllZip (IsBack whole s) rest (d ∷ ds)
         → Halfway whole s (all_home whole.accesses.items s come s) rest now
         → MayCome now d
     goes_on come [] all back half = absurd back
     goes_on come (i ∷ rest) all back half =
-        may_come whole now s (all_home whole.accesses.items s come s) i rest d stands
-        (All-contains (λ i. i < s.systems) batch i below
-        (subst (λ xs. Contains xs i) all (Contains-append_right come (i ∷ rest) i (Contains-head i rest))))
-        half back.0
+        may_come whole now s _ i rest d stands (in_batch come rest i all) half back.0
 
     pub next_may_come : (left : List (Done S)) → left ≡ d ∷ ds → ComingHome whole batch s left now before turns
         → MayCome now d
-    next_may_come left is far =
-        goes_on far.come far.rest far.all (subst (AllZip (IsBack whole s) far.rest) is far.back) far.half
+    next_may_come left is far = goes_on far.come far.rest far.all (rw is at far.back) far.half
 
     module _ (new : Lender S) (turn : Turn) (once : AllPairs (λ i j. i ≢ j) batch)
         (none : NoneConflict whole.accesses.items batch)
@@ -324,15 +285,12 @@ module _ {S : Type 0} (meaning : S → Meaning) where
           → turns ≡ before ++ map (logged_turn s) come → ComingHome whole batch s ds new before (turns ++ turn ∷ [])
       one_more come [] all back half log = absurd back
       one_more come (i ∷ rest) all back half log =
-          let lt : i < s.systems =
-          All-contains (λ i. i < s.systems) batch i below
-          (subst (λ xs. Contains xs i) all (Contains-append_right come (i ∷ rest) i (Contains-head i rest))) in
           let Free : ℕ → ℕ → Type 0 = λ i j. ¬ Conflict (access_of whole.accesses.items i)
           (access_of whole.accesses.items j) in
           let others =
           pairs_head (λ i j. i ≢ j) i rest
-          (pairs_right (λ i j. i ≢ j) come (i ∷ rest) (subst (AllPairs (λ i j. i ≢ j)) (sym all) once)) in
-          let free = pairs_head Free i rest (pairs_right Free come (i ∷ rest) (subst (AllPairs Free) (sym all) none)) in
+          (pairs_right (λ i j. i ≢ j) come (i ∷ rest) (rw all once)) in
+          let free = pairs_head Free i rest (pairs_right Free come (i ∷ rest) (rw all none)) in
           let same : turn ≡ logged_turn s i = tells
           ∙ (λ k. record { system = back.0.number k; outcome = back.0.after.outcome k }) in
           record {
@@ -340,8 +298,8 @@ module _ {S : Type 0} (meaning : S → Meaning) where
             rest = rest;
             all = append_assoc come (i ∷ []) rest ∙ all;
             back = back.1;
-            half = subst (λ u. Halfway whole s u rest new) (sym (all_home_more whole.accesses.items s come i s))
-                (one_home whole now s (all_home whole.accesses.items s come s) i rest d stands lt half back.0 new comes
+            half = rw (all_home_more whole.accesses.items s come i s)
+                (one_home whole now s _ i rest d stands (in_batch come rest i all) half back.0 new comes
                 (λ there. All-contains (λ j. i ≢ j) rest i others there refl) free merges either);
             logged_so_far =
                 ap (λ ts. ts ++ turn ∷ []) log ∙ append_assoc before (map (logged_turn s) come) (turn ∷ [])
@@ -352,8 +310,7 @@ module _ {S : Type 0} (meaning : S → Meaning) where
       pub next_comes : (left : List (Done S)) → left ≡ d ∷ ds → ComingHome whole batch s left now before turns
           → ComingHome whole batch s ds new before (turns ++ turn ∷ [])
       next_comes left is far =
-          one_more far.come far.rest far.all
-          (subst (AllZip (IsBack whole s) far.rest) is far.back) far.half far.logged_so_far
+          one_more far.come far.rest far.all (rw is at far.back) far.half far.logged_so_far
 
   -- it is one turn after the other
   pub all_came : (whole now : Lender S) (batch : List ℕ) (s : State) (left : List (Done S)) (before turns : List Turn)
@@ -363,8 +320,7 @@ module _ {S : Type 0} (meaning : S → Meaning) where
       → left ≡ [] → ComingHome whole batch s left now before turns
       → LenderStands meaning now (after_turns_of batch s).state × (turns ≡ before ++ (after_turns_of batch s).turns)
   all_came whole now batch s left before turns stands below once none law nobody far =
-      ended far.come far.rest far.all
-      (subst (AllZip (IsBack whole s) far.rest) nobody far.back) far.half far.logged_so_far
+      ended far.come far.rest far.all (rw nobody at far.back) far.half far.logged_so_far
     where
       ended : (come rest : List ℕ) → come ++ rest ≡ batch → AllZip (IsBack whole s) rest []
           → Halfway whole s (all_home whole.accesses.items s come s) rest now
@@ -379,7 +335,6 @@ module _ {S : Type 0} (meaning : S → Meaning) where
           let state : all_home whole.accesses.items s come s
           ≡ (after_turns_of batch s).state = ap (λ is. all_home whole.accesses.items s is s) whole_batch
           ∙ sym side.1 in (
-            stands_again whole now s (after_turns_of batch s).state stands (turns_keep_systems batch s)
-                (subst (λ u. Halfway whole s u [] now) state half),
+            stands_again whole now s (after_turns_of batch s).state stands (turns_keep_systems batch s) (rw state at half),
             log ∙ ap (λ is. before ++ map (logged_turn s) is) whole_batch ∙ ap (λ ts. before ++ ts) (sym side.0),
           )

@@ -68,9 +68,8 @@ module _ {S : Type 0} where
     -- what it writes is still there
     unlent : (p : Part) → writes j.access p ≡ true → slot p old.world ≡ slot p whole.world
     unlent p is_written =
-        let none = earlier_write_not whole.accesses.items is i p free
-        (written_is_used _ p (ap (λ a. writes a p) (sym its) ∙ is_written)) in
-        out.world p ∙ rw none refl
+        out.world p ∙ rw (earlier_write_not whole.accesses.items is i p free (written_is_used _ p (rw its at is_written)))
+        refl
 
     is_out : IsOut whole i j
     is_out = record {
@@ -89,12 +88,10 @@ module _ {S : Type 0} where
     left_there p =
         let more : any_writes whole.accesses.items (is ++ i ∷ []) p
         ≡ (any_writes whole.accesses.items is p || writes j.access p) =
-        any_more whole.accesses.items is i p ∙ ap (λ a. any_writes whole.accesses.items is p || writes a p) (sym its) in
+        rw its (any_more whole.accesses.items is i p) in
         goes.lent.stayed p ∙ elim (cases_Bool (writes j.access p)) [
-          | inl is_written ↦
-              let none = earlier_write_not whole.accesses.items is i p free
-              (written_is_used _ p (ap (λ a. writes a p) (sym its) ∙ is_written)) in
-              rw (more, is_written, none) refl
+          | inl is_written ↦ rw (more, is_written, earlier_write_not whole.accesses.items is i p free
+              (written_is_used _ p (rw its at is_written))) refl
           | inr isnt ↦ elim (cases_Bool (any_writes whole.accesses.items is p)) [
             | inl some ↦ rw (more, isnt, some) (out.world p ∙ rw some refl)
             | inr none ↦ rw (more, isnt, none) (out.world p ∙ rw none refl)
@@ -109,10 +106,9 @@ module _ {S : Type 0} where
       as_many = ap length goes.systems ∙ length-set old.systems.items i None ∙ out.as_many;
       others = λ k away.
           let other : k ≢ i =
-          λ same. away (Contains-append_right is (i ∷ []) k
-          (subst (Contains (i ∷ [])) (sym same) (Contains-head i []))) in
-          ap (λ xs. slice_index_or xs k None) goes.systems ∙ get_or-set_other old.systems.items i k None None other
-          ∙ out.others k (λ there. away (Contains-append_left is (i ∷ []) k there));
+          λ same. away (Contains-append_right is (i ∷ []) k (rw same (Contains-head i []))) in
+          rw (goes.systems, get_or-set_other old.systems.items i k None None other)
+          (out.others k (λ there. away (Contains-append_left is (i ∷ []) k there)));
       accesses = goes.accesses ∙ out.accesses;
       totals = goes.totals ∙ out.totals;
     }
@@ -135,15 +131,12 @@ module _ {S : Type 0} (meaning : S → Meaning) where
       → MayGo old i
   may_go whole old s is js i stands lt out fresh free =
       let here : MemberStands meaning whole s.types i (s.members i) = stands.members i lt in
-      let its : access_of old.accesses.items i
-      ≡ access_of whole.accesses.items i = ap (λ xs. access_of xs i) out.accesses in
       record {
         number = omega (arith, lt, stands.accesses, ap length out.accesses);
-        there = ap is_some (out.others i fresh) ∙ some_there (system_at whole i) _ here.guarded;
+        there = rw (out.others i fresh) (some_there (system_at whole i) _ here.guarded);
         home = λ p used.
-            let used_by : IsTrue (uses (access_of whole.accesses.items i) p) = ap (λ a. uses a p) (sym its) ∙ used in
-            ap is_some (out.world p ∙ rw (earlier_write_not whole.accesses.items is i p free used_by) refl)
-            ∙ here.home p used_by;
+            let used_by : IsTrue (uses (access_of whole.accesses.items i) p) = rw out.accesses at used in
+            rw (out.world p, earlier_write_not whole.accesses.items is i p free used_by) (here.home p used_by);
       }
 
   -- ---- what is out
@@ -152,17 +145,16 @@ module _ {S : Type 0} (meaning : S → Meaning) where
   pub has_written : (whole : Lender S) (s : State) (i : ℕ) (j : Job S) → LenderStands meaning whole s → i < s.systems
       → IsOut whole i j
       → (p : Part) → is_some (slot p j.taken) ≡ writes j.access p
-  has_written whole s i j stands lt out p = ap is_some (out.taken p) ∙ elim (cases_Bool (writes j.access p)) [
-    | inl is ↦ rw is ((stands.members i lt).home p (written_is_used _ p (ap (λ a. writes a p) (sym out.access) ∙ is)))
+  has_written whole s i j stands lt out p = rw (out.taken p) (elim (cases_Bool (writes j.access p)) [
+    | inl is ↦ rw is ((stands.members i lt).home p (written_is_used _ p (rw out.access at is)))
     | inr isnt ↦ rw isnt refl
-  ]
+  ])
 
   -- the systems of a batch and their jobs are one and the same
   pub its_member : (whole : Lender S) (s : State) (i : ℕ) (j : Job S) → LenderStands meaning whole s → i < s.systems
       → IsOut whole i j
       → job_state meaning j.guarded ≡ (s.members i).job
-  its_member whole s i j stands lt out =
-      subst (λ x. IsSomeAnd x (λ b. job_state meaning b ≡ (s.members i).job)) out.guarded (stands.members i lt).guarded
+  its_member whole s i j stands lt out = rw out.guarded at (stands.members i lt).guarded
 
   may_run : (whole left : Lender S) (s : State) (is : List ℕ) (js : List (Job S)) (i : ℕ) (j : Job S)
       → LenderStands meaning whole s → i < s.systems
@@ -173,17 +165,14 @@ module _ {S : Type 0} (meaning : S → Meaning) where
       size = sizes_meet whole.world left.world j.taken all.size out.size;
       written = has_written whole s i j stands lt out;
       read = λ p is_read isnt.
-          let A : Access → Type 0 = λ a. IsTrue (uses a p) in
           let used : IsTrue (uses (access_of whole.accesses.items i) p) =
-          subst A out.access (or_left _ (writes j.access p) is_read) in
-          let none_write = others_write_not whole.accesses.items is i p none there used
-          (ap (λ a. writes a p) (sym out.access) ∙ isnt) in
-          ap is_some (all.world p ∙ rw none_write refl) ∙ (stands.members i lt).home p used;
+          rw out.access at (or_left _ (writes j.access p) is_read) in
+          rw (all.world p, others_write_not whole.accesses.items is i p none there used (rw out.access at isnt))
+          ((stands.members i lt).home p used);
     };
     access =
-        let its = its_member whole s i j stands lt out in
-        subst (λ (x : JobState). IsAccessOf (with_conditions x.system.needs (conditions_of x)) j.access) (sym its)
-        (subst (λ a. IsAccessOf (needs_of (s.members i)) a) (sym out.access) (stands.members i lt).access);
+        subst (λ (x : JobState). IsAccessOf (with_conditions x.system.needs (conditions_of x)) j.access)
+        (sym (its_member whole s i j stands lt out)) (rw out.access (stands.members i lt).access);
   }
 
   pub all_may_run : (whole left : Lender S) (s : State) (is : List ℕ) (js : List (Job S)) → LenderStands meaning whole s
@@ -200,8 +189,7 @@ module _ {S : Type 0} (meaning : S → Meaning) where
   pub left_stands : (whole left : Lender S) (s : State) (is : List ℕ) (js : List (Job S))
       → PartsStand whole.world s.world → AreOut whole is js left → PartsStand left.world s.world
   left_stands whole left s is js stands out p =
-      subst (λ o. IfSome o (λ k. StuffStands p k (content p s.world))) (sym (out.world p))
-      (elim (cases_Bool (any_writes whole.accesses.items is p)) [
+      rw (out.world p) (elim (cases_Bool (any_writes whole.accesses.items is p)) [
         | inl some ↦ rw some tt
         | inr none ↦ rw none (stands p)
       ])
@@ -209,8 +197,7 @@ module _ {S : Type 0} (meaning : S → Meaning) where
   pub taken_stands : (whole : Lender S) (s : State) (i : ℕ) (j : Job S) → PartsStand whole.world s.world
       → IsOut whole i j → PartsStand j.taken s.world
   taken_stands whole s i j stands out p =
-      subst (λ o. IfSome o (λ k. StuffStands p k (content p s.world))) (sym (out.taken p))
-      (elim (cases_Bool (writes j.access p)) [
+      rw (out.taken p) (elim (cases_Bool (writes j.access p)) [
         | inl is ↦ rw is (stands p)
         | inr isnt ↦ rw isnt tt
       ])

@@ -13,15 +13,15 @@ use Rattle.msg_system.specs.Prelude.{AfterJob, Asked, Job as JobState, Meaning, 
 use Rattle.msg_exec.specs.Prelude.{GuardedSystem, IsAfterJob, job_state}
 use Rattle.msg_frames.specs.declared.log.Outcome.TheVariants as outcome
 
+pub none_there : {X : Type 0} (o : Option X) → is_some o ≡ false → o ≡ None
+none_there None h = refl
+none_there (Some x) h = absurd (false≢true (sym h))
+
 -- nothing is given back but what is written
 pub nothing_else : (a : Access) (taken later : Parts) → ((p : Part) → is_some (slot p taken) ≡ writes a p)
     → SameShape taken later
     → (p : Part) → writes a p ≡ false → slot p later ≡ None
-nothing_else a taken later written same p isnt = none (slot p later) (same.there p ∙ written p ∙ isnt)
-  where
-    none : {X : Type 0} (o : Option X) → is_some o ≡ false → o ≡ None
-    none None h = refl
-    none (Some x) h = absurd (false≢true (sym h))
+nothing_else a taken later written same p isnt = none_there (slot p later) (same.there p ∙ written p ∙ isnt)
 
 -- a job whose conditions hold
 pub after_job_that_runs : (j : JobState) (w : WorldState) → true ≡ all_hold j.conditions w
@@ -40,16 +40,14 @@ pub ran_job : {S : Type 0} (meaning : S → Meaning) (before now : GuardedSystem
     → PartsStand taken (turn (meaning before.system) w).state
     → IsAfterJob meaning (after_job (job_state meaning before) w) now taken (outcome.Ran replies)
 ran_job meaning before now l taken w none after replies nothing given holds asked ran stands written =
-    let is = after_job_that_runs (job_state meaning before) w holds in
     let m : Meaning = meaning before.system in
     let moved : meaning now.system ≡ after_turn m w = ran.means
     ∙ (λ k. record (told (ran.answers w stands k) m) { places = ran.places w stands k }) in
-    subst (λ (after : AfterJob). IsAfterJob meaning after now taken (outcome.Ran replies)) (sym is) (record {
+    rw (after_job_that_runs (job_state meaning before) w holds) (record {
       job = λ k. record { system = moved k; conditions = asked k };
       written = written;
       outcome =
-          ap (λ rs. outcome.Ran rs) (given ∙ ran.appended ∙ ap (λ rs. rs ++ ran.replies) nothing
-          ∙ ran.answers w stands);
+          ap (λ rs. outcome.Ran rs) (rw (given, ran.appended, nothing) (ran.answers w stands));
     })
 
 after_job_that_skips : (j : JobState) (w : WorldState) → false ≡ all_hold j.conditions w
@@ -65,8 +63,7 @@ pub skipped_job : {S : Type 0} (meaning : S → Meaning) (before now : GuardedSy
     ≡ map (after_asking w) before.guards.items → PartsStand taken w
     → IsAfterJob meaning (after_job (job_state meaning before) w) now taken outcome.Skipped
 skipped_job meaning before now taken w skips same asked stand =
-    subst (λ (after : AfterJob). IsAfterJob meaning after now taken outcome.Skipped)
-    (sym (after_job_that_skips (job_state meaning before) w skips)) (record {
+    rw (after_job_that_skips (job_state meaning before) w skips) (record {
       job = λ k. record { system = meaning (same k); conditions = asked k };
       written = stand;
       outcome = refl;

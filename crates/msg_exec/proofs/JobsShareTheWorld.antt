@@ -16,14 +16,10 @@ module _ {B J : Type 0} (may : Parts → J → Type 0) (job : B → J) (world : 
   each_may [] jobs same one h k b at = absurd cc
   each_may (x ∷ bs) [] same one h k b at = absurd cc
   each_may (x ∷ bs) (j ∷ jobs) same one h zero b at =
-      let here : x ≡ b = cc in
       let its : j ≡ job b = cc in
       let there : w ≡ world b = cc in
-      subst (λ (v : Parts). may v (job b)) there (subst (may w) its (h 0 j refl))
-  each_may (x ∷ bs) (j ∷ jobs) same one h (suc k) b at =
-      let rest : map job bs ≡ jobs = cc in
-      let worlds : map world bs ≡ map (λ (b : B). w) bs = cc in
-      each_may bs jobs rest worlds (λ m. h (suc m)) k b at
+      rw (← there, ← its) (h 0 j refl)
+  each_may (x ∷ bs) (j ∷ jobs) same one h (suc k) b at = each_may bs jobs (cc) (cc) (λ m. h (suc m)) k b at
 
 module _ {B S E : Type 0} (meaning : S → Meaning) (job : B → Job S) (world : B → Parts) (w : Parts) where
   abbrev ok_of : Done S → Result (Done S) E
@@ -43,15 +39,11 @@ module _ {B S E : Type 0} (meaning : S → Meaning) (job : B → Job S) (world :
   each_done (b ∷ bs) [] many h one = absurd (omega (arith, many))
   each_done (b ∷ bs) (d ∷ ds) many h one =
       let there : world b ≡ w = cc in
-      let rest : map world bs ≡ map (λ (b : B). w) bs = cc in (
-        subst (λ (v : Parts). IsDone meaning v (job b) d) there (h 0 b (Ok d) refl refl).done,
-        each_done bs ds (omega (arith, many)) (λ m. h (suc m)) rest,
-      )
+      (rw there at (h 0 b (Ok d) refl refl).done, each_done bs ds (omega (arith, many)) (λ m. h (suc m)) (cc))
 
   pub all_are_done : (bs : List B) (jobs : List (Job S)) (rs : List (Result (Done S) E)) (ds : List (Done S))
       → map job bs ≡ jobs → map world bs ≡ map (λ (b : B). w) bs → IsLawfulOutcome Lawful bs rs → rs ≡ oks ds
       → AreDone meaning w jobs ds
   all_are_done bs jobs rs ds same one lawful ok =
-      let l : IsLawfulOutcome Lawful bs (oks ds) = subst (IsLawfulOutcome Lawful bs) ok lawful in
-      subst (λ (js : List (Job S)). AreDone meaning w js ds) same
-      (each_done bs ds (sym (length-map ds ok_of) ∙ l.as_many) l.each one)
+      let l : IsLawfulOutcome Lawful bs (oks ds) = rw ok at lawful in
+      rw (← same) (each_done bs ds (sym (length-map ds ok_of) ∙ l.as_many) l.each one)

@@ -22,7 +22,7 @@ module _ {J : Type 0} (Such : J → Type 0) (jobs : List J) where
       → Such job → EachNewIs Such jobs old (new ++ k ∷ [])
   one_more old new k job each there such n m = elim (Contains-push_cases new k n m) [
     | inl x ↦ each n x
-    | inr x ↦ inr (λ other is. subst Such (ap (λ o. unwrap_or o job) (sym there ∙ ap (slice_get jobs) x ∙ is)) such)
+    | inr x ↦ inr (λ other is. grind (arith, there, x, is, such))
   ]
 
   -- what is so of those drawn first, and of those drawn then, is so of all
@@ -86,13 +86,10 @@ module _ {J : Type 0} (b : BoardView J) (Such : ℕ → J → Type 0) where
       each : (k : ℕ) (q : PassState J) → slice_get (p ∷ ps) k ≡ Some q
           → EachNewIs (Such (worker + k)) (jobs_of b) [] q.drawn
       each zero q at =
-          let its : worker ≡ worker + 0 = omega arith in
           let same : p ≡ q = ap (λ o. unwrap_or o p) at in
-          subst (λ w. EachNewIs (Such w) (jobs_of b) [] q.drawn) its
-          (subst (λ (r : PassState J). EachNewIs (Such worker) (jobs_of b) [] r.drawn) same one.each)
+          subst (λ w. EachNewIs (Such w) (jobs_of b) [] q.drawn) (omega arith) (rw same at one.each)
       each (suc k) q at =
-          let its : (worker + 1) + k ≡ worker + suc k = omega arith in
-          subst (λ w. EachNewIs (Such w) (jobs_of b) [] q.drawn) its (others.each k q at)
+          subst (λ w. EachNewIs (Such w) (jobs_of b) [] q.drawn) (omega arith) (others.each k q at)
 
 -- ---- system by system
 
