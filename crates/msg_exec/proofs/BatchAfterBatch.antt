@@ -2,7 +2,7 @@
 use Rattle.std.proofs.Common.{◌≡◌, ℕ, ◌+◌, ◌<◌, List, [], ◌∷◌, ◌++◌, length, map, take, get_or, refl, sym, ap, ◌∙◌, append_assoc, ◌≢◌, zero, suc, ◌≤◌, arith}
 use Rattle.std.specs.Global.{Vec}
 use Rattle.std.specs.List.{concat}
-use Rattle.std.proofs.lemmas.List.{append-nil, map_push, take_all, take_more, get_or-map}
+use Rattle.std.proofs.lemmas.List.{append-nil, map_push, take_more, get_or-map}
 use Rattle.std.proofs.lemmas.List.Folds.{concat-append}
 use Rattle.msg_system.specs.Prelude.{Meaning}
 use Rattle.msg_frames.specs.declared.log.Turn.{Turn}
@@ -49,11 +49,6 @@ turned_more meaning is js s g h before between after far state turns =
       turns x.state far.0 ∙ ap (λ ts. ts ++ (after_turns_of js x.state).turns) far.1
           ∙ append_assoc before x.turns (after_turns_of js x.state).turns,
     )
-
-pub turned_all : {S : Type 0} (meaning : S → Meaning) (is : List ℕ) (k : ℕ) (s : State) (g : Lender S)
-    (before after : List Turn) → k ≡ length is
-    → HasTurned meaning (take k is) s g before after → HasTurned meaning is s g before after
-turned_all meaning is k s g before after end far = rw (take_all k is (omega (arith, end))) at far
 
 -- ---- batch by batch
 

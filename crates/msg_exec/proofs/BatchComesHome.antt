@@ -1,20 +1,20 @@
 -- The systems of a batch come home, one after the other.
 use Rattle.std.proofs.Common.{◌≡◌, ◌≢◌, ℕ, ◌<◌, false, true, List, [], ◌∷◌, ◌++◌, length, map, Option, Some, None, append_assoc, refl, sym, ap, subst, ◌∙◌, inl, inr, arith}
 use Rattle.std.specs.Global.{Vec}
-use Rattle.std.specs.Prelude.{All, AllPairs, Contains, IsSomeAnd, IsTrue, is_some, slice_get, slice_index_or, slice_set, if◌then◌else◌}
+use Rattle.std.specs.Prelude.{All, AllPairs, Contains, IsSomeAnd, IsTrue, is_some, slice_get, slice_set, if◌then◌else◌}
 use Rattle.std.proofs.lemmas.Bool.{cases_Bool}
 use Rattle.std.proofs.lemmas.Bool.Decides.{eqb_tells}
 use Rattle.std.proofs.lemmas.List.{append-nil, get_or-set_other, get_or-set_same, length-set, map-append}
 use Rattle.std.proofs.lemmas.List.Elements.{All-contains, All-head, All-tail, Contains-append_right}
 use Rattle.std.specs.List.{AllZip}
 use Rattle.msg_world.specs.declared.access.Access.{Access}
-use Rattle.msg_world.specs.Prelude.{Conflict, HomeMerges, HomeWhereEither, IsApart, Part, PartsStand, SameShape, SameSize, slot, uses, writes}
+use Rattle.msg_world.specs.Prelude.{Conflict, HomeMerges, HomeWhereEither, IsApart, Part, PartsStand, SameShape, SameSize, slot, writes}
 use Rattle.msg_order.specs.Prelude.{NoneConflict, access_of}
-use Rattle.msg_system.specs.Prelude.{IsAccessOf, Job as JobState, Meaning, after_job, with_conditions}
+use Rattle.msg_system.specs.Prelude.{Job as JobState, Meaning, after_job}
 use Rattle.msg_exec.specs.Prelude.{Done, IsAfterJob, IsDone, Job, Lender, LenderStands, MemberStands, TotalsStand, job_state, system_at}
 use Rattle.msg_frames.specs.declared.log.Turn.{Turn}
 use Rattle.msg_frames.specs.declared.totals.Totals.{Totals}
-use Rattle.msg_frames.specs.Prelude.{AreAccessesOf, BatchesRunSideBySide, Member, SameSystems, State, after_turns_of, all_home, home, logged_turn, needs_of, turn_of}
+use Rattle.msg_frames.specs.Prelude.{AreAccessesOf, BatchesRunSideBySide, Member, SameSystems, State, after_turns_of, all_home, home, logged_turn, turn_of}
 use Rattle.msg_exec.specs.inner.Batches.{AreDone}
 use Rattle.msg_exec.specs.inner.Totals.{HasFewReplies}
 use Rattle.msg_exec.specs.inner.Lending.{AreOut, ComesHome, HaveEntered, IsOut, any_writes}
@@ -185,13 +185,19 @@ module _ {S : Type 0} (meaning : S → Meaning) where
               let out : ¬ Contains (i ∷ rest) k =
               λ there. elim (Contains-cases i rest k there)
               [ inl same ↦ other.1 (sym same) | inr later ↦ away later ] in
-              rw (of_another i k its_turn u.members other.1, systems_set,
-              get_or-set_other now.systems.items i k (Some d.guarded) None other.1) (half.members k below out)
+              rw (
+                of_another i k its_turn u.members other.1,
+                systems_set,
+                get_or-set_other now.systems.items i k (Some d.guarded) None other.1,
+              ) (half.members k below out)
         ];
         totals = λ k below. elim (eqb_tells k i) [
           | inl same ↦ rw (same.1, its_own i its_turn u.members) totals_back
-          | inr other ↦ rw (of_another i k its_turn u.members other.1, totals_set,
-              get_other now.totals.items i k comes.totals.0 other.1) (half.totals k below)
+          | inr other ↦ rw (
+            of_another i k its_turn u.members other.1,
+            totals_set,
+            get_other now.totals.items i k comes.totals.0 other.1,
+          ) (half.totals k below)
         ];
         untouched = λ k there.
             let other : k ≢ i = λ same. fresh (rw same at there) in

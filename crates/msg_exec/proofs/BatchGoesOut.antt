@@ -1,16 +1,15 @@
 -- The systems of a batch go out, one after the other, and their jobs may be run.
 use Rattle.std.proofs.Common.{◌≡◌, ◌≢◌, ℕ, zero, suc, ◌<◌, ◌||◌, true, List, [], ◌∷◌, ◌++◌, length, Option, Some, None, refl, sym, ap, subst, ◌∙◌, inl, inr, arith}
-use Rattle.std.specs.Prelude.{All, Contains, IfSome, IsSome, IsSomeAnd, IsTrue, is_some, slice_get, slice_index_or, if◌then◌else◌}
+use Rattle.std.specs.Prelude.{All, Contains, IsSome, IsSomeAnd, IsTrue, is_some, slice_get, if◌then◌else◌}
 use Rattle.std.proofs.lemmas.Bool.{cases_Bool, or_left}
 use Rattle.std.proofs.lemmas.List.{get_or-set_other, length-set}
 use Rattle.std.proofs.lemmas.List.Elements.{Contains-append_left, Contains-append_right, All-contains}
 use Rattle.std.specs.List.{AllZip}
-use Rattle.msg_world.specs.declared.access.Access.{Access}
-use Rattle.msg_world.specs.Prelude.{Conflict, IsHome, Part, Parts, PartsStand, SameSize, StuffStands, content, slot, uses, writes}
+use Rattle.msg_world.specs.Prelude.{Conflict, IsHome, Part, Parts, PartsStand, SameSize, slot, uses, writes}
 use Rattle.msg_order.specs.Prelude.{NoneConflict, access_of}
 use Rattle.msg_system.specs.Prelude.{IsAccessOf, Job as JobState, Meaning, conditions_of, with_conditions}
 use Rattle.msg_exec.specs.Prelude.{EachMay, Job, Lender, LenderStands, MayRun, MemberStands, job_state, system_at}
-use Rattle.msg_frames.specs.Prelude.{needs_of, State}
+use Rattle.msg_frames.specs.Prelude.{State}
 use Rattle.msg_exec.specs.inner.Lending.{AreOut, GoesOut, IsOut, any_writes}
 use Rattle.msg_order.proofs.Elements.{Contains-head, Contains-tail}
 use Rattle.msg_exec.proofs.BatchWritesApart.{any_more, earlier_write_not, others_write_not, written_is_used}
@@ -90,8 +89,12 @@ module _ {S : Type 0} where
         ≡ (any_writes whole.accesses.items is p || writes j.access p) =
         rw its (any_more whole.accesses.items is i p) in
         goes.lent.stayed p ∙ elim (cases_Bool (writes j.access p)) [
-          | inl is_written ↦ rw (more, is_written, earlier_write_not whole.accesses.items is i p free
-              (written_is_used _ p (rw its at is_written))) refl
+          | inl is_written ↦ rw (
+            more,
+            is_written,
+            earlier_write_not whole.accesses.items is i p free
+                (written_is_used _ p (rw its at is_written)),
+          ) refl
           | inr isnt ↦ elim (cases_Bool (any_writes whole.accesses.items is p)) [
             | inl some ↦ rw (more, isnt, some) (out.world p ∙ rw some refl)
             | inr none ↦ rw (more, isnt, none) (out.world p ∙ rw none refl)

@@ -1,15 +1,14 @@
 -- A turn is a batch of one system.
-use Rattle.std.proofs.Common.{◌≡◌, ◌≢◌, ℕ, ◌<◌, [], ◌∷◌, Option, None, Some, get_or, refl, sym, ap, ◌∙◌, arith}
-use Rattle.std.specs.Prelude.{All, AllPairs, if◌then◌else◌}
+use Rattle.std.proofs.Common.{◌≡◌, ◌≢◌, ℕ, ◌<◌, [], ◌∷◌, Option, None, Some, get_or, refl, sym, ◌∙◌, arith}
+use Rattle.std.specs.Prelude.{All, AllPairs}
 use Rattle.std.proofs.Math.Bool.{or-false}
 use Rattle.std.proofs.lemmas.List.Elements.{All-cons}
 use Rattle.msg_world.specs.declared.access.Access.{Access}
-use Rattle.msg_world.specs.Prelude.{Conflict, HomeMerges, HomeWhereEither, LendsOut, Parts, slot, writes}
+use Rattle.msg_world.specs.Prelude.{Conflict, HomeMerges, HomeWhereEither, LendsOut, Parts}
 use Rattle.msg_order.specs.Prelude.{NoneConflict, access_of}
 use Rattle.msg_system.specs.Prelude.{Meaning}
 use Rattle.msg_exec.specs.Prelude.{Done, GuardedSystem, HasTakenTurn, Job, Lender, LenderStands, MayRun, system_at}
 use Rattle.msg_frames.specs.declared.log.Outcome.{Outcome}
-use Rattle.msg_frames.specs.declared.log.Turn.{Turn}
 use Rattle.msg_frames.specs.Prelude.{BatchesRunSideBySide, State, after_turn_of, logged_turn}
 use Rattle.msg_exec.specs.inner.Lending.{AreOut, ComesHome}
 use Rattle.msg_exec.proofs.BatchComesHome.{ComingHome, MayCome, all_back, all_came, begin_home, next_comes, next_may_come}
@@ -48,8 +47,7 @@ module _ {S : Type 0} (meaning : S → Meaning) (g : Lender S) (s : State) (i : 
     out = record {
       each = (record { number = refl; guarded = there; access = its; size = lent.taken_size; taken = lent.moved }, tt);
       size = lent.left_size;
-      world = λ p. lent.stayed p ∙ ap (λ b. if b then None else slot p g.world)
-          (ap (λ x. writes x p) its ∙ sym (or-false (writes (access_of g.accesses.items i) p)));
+      world = λ p. rw (or-false, ← its) (lent.stayed p);
       as_many = refl;
       others = λ k away. refl;
       accesses = refl;
@@ -75,16 +73,15 @@ module _ {S : Type 0} (meaning : S → Meaning) (g : Lender S) (s : State) (i : 
           → BatchesRunSideBySide
           → LenderStands meaning new (after_turn_of i s)
       turn_taken new comes merges either law =
-          let turn : Turn = record { system = i; outcome = came } in
           let once = no_pairs (λ a b. a ≢ b) i in
-          let far = next_comes meaning g mid (i ∷ []) s its_done [] []
-          [] stands below new turn once none comes refl merges either (its_done ∷ []) refl begun in
-          (all_came meaning g new (i ∷ []) s [] [] (turn ∷ []) stands below once none law refl far).0
+          (all_came meaning g new (i ∷ []) s [] [] _ stands below once none law refl
+          (next_comes meaning g mid (i ∷ []) s its_done [] [] [] stands below new _ once none comes refl merges either
+          (its_done ∷ []) refl begun)).0
 
       pub turn_is_logged : record { system = i; outcome = came } ≡ logged_turn s i
       turn_is_logged =
-          let left_there = left_stands meaning g mid s (i ∷ []) (its_job ∷ []) stands.world out in
           let back =
-          (all_back meaning g mid s (i ∷ []) (its_job ∷ []) (its_done ∷ []) stands below left_there out.each
+          (all_back meaning g mid s (i ∷ []) (its_job ∷ []) (its_done ∷ []) stands below
+          (left_stands meaning g mid s (i ∷ []) (its_job ∷ []) stands.world out) out.each
           (record { number = refl; turn = took }, tt)).0 in
           λ k. record { system = i; outcome = back.after.outcome k }

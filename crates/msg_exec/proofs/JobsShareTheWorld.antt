@@ -1,10 +1,10 @@
 -- What holds of jobs, each with the world that it was lent from, where that is one world.
-use Rattle.std.proofs.Common.{◌≡◌, ℕ, zero, suc, List, [], ◌∷◌, length, map, Result, Ok, refl, subst, sym, ◌∙◌, Some, arith}
+use Rattle.std.proofs.Common.{◌≡◌, ℕ, zero, suc, List, [], ◌∷◌, length, map, Result, Ok, refl, sym, ◌∙◌, Some, arith}
 use Rattle.std.specs.Prelude.{slice_get}
 use Rattle.std.proofs.lemmas.List.{length-map}
 use Rattle.msg_world.specs.Prelude.{Parts}
 use Rattle.msg_board.specs.Prelude.{IsLawfulOutcome}
-use Rattle.msg_exec.specs.Prelude.{Done, IsDone, IsResult, Job}
+use Rattle.msg_exec.specs.Prelude.{Done, IsResult, Job}
 use Rattle.msg_exec.specs.inner.Batches.{AreDone}
 use Rattle.msg_system.specs.Prelude.{Meaning}
 

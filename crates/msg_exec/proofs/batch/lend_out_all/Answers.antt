@@ -1,9 +1,8 @@
-use Rattle.std.proofs.Common.{◌≢◌, ◌++◌, ◌∷◌, [], subst, sym, take}
+use Rattle.std.proofs.Common.{◌≢◌, take}
 use Rattle.std.specs.Prelude.{slice_index_or}
 use Rattle.std.proofs.lemmas.List.{take_more}
 use Rattle.msg_world.specs.Prelude.{Conflict}
 use Rattle.msg_order.specs.Prelude.{access_of}
-use Rattle.msg_exec.specs.inner.Lending.{AreOut}
 use Rattle.msg_exec.proofs.BatchGoesOut.{may_go, one_more_out}
 use Rattle.msg_exec.proofs.BatchWritesApart.{each_before, not_before}
 use Rattle.msg_exec.proofs.batch.lend_out_all.Goals as goal
@@ -13,11 +12,10 @@ lend_out-requires-clause-there g c κs within =
     let accesses = c.args.lender.now.accesses.items in
     let k = c.loop-system.system-index in
     let batch = c.args.batch.now in
-    (may_go g.S.System.meaning c.args.lender.now c.loop-system.lender c.requires.stands.0
-    (take k batch) c.loop-system.jobs.items (slice_index_or batch k 0) c.requires.stands.1.0
-    (c.requires.stands.1.1 k 0 c.loop-system-test.true) c.loop-system.invariant
-    (not_before (take k batch) (slice_index_or batch k 0)
-    (each_before (λ i j. i ≢ j) batch k 0 c.loop-system-test.true c.requires.once))
+    (may_go g.S.System.meaning c.args.lender.now c.loop-system.lender c.requires.stands.0 (take k batch) _
+    (slice_index_or batch k 0) c.requires.stands.1.0 (c.requires.stands.1.1 k 0 c.loop-system-test.true)
+    c.loop-system.invariant
+    (not_before (take k batch) _ (each_before (λ i j. i ≢ j) batch k 0 c.loop-system-test.true c.requires.once))
     (each_before (λ i j. ¬ Conflict (access_of accesses i) (access_of accesses j)) batch k 0 c.loop-system-test.true
     c.requires.apart)).there
 
@@ -26,11 +24,10 @@ lend_out-requires-clause-home g c κs within =
     let accesses = c.args.lender.now.accesses.items in
     let k = c.loop-system.system-index in
     let batch = c.args.batch.now in
-    (may_go g.S.System.meaning c.args.lender.now c.loop-system.lender c.requires.stands.0
-    (take k batch) c.loop-system.jobs.items (slice_index_or batch k 0) c.requires.stands.1.0
-    (c.requires.stands.1.1 k 0 c.loop-system-test.true) c.loop-system.invariant
-    (not_before (take k batch) (slice_index_or batch k 0)
-    (each_before (λ i j. i ≢ j) batch k 0 c.loop-system-test.true c.requires.once))
+    (may_go g.S.System.meaning c.args.lender.now c.loop-system.lender c.requires.stands.0 (take k batch) _
+    (slice_index_or batch k 0) c.requires.stands.1.0 (c.requires.stands.1.1 k 0 c.loop-system-test.true)
+    c.loop-system.invariant
+    (not_before (take k batch) _ (each_before (λ i j. i ≢ j) batch k 0 c.loop-system-test.true c.requires.once))
     (each_before (λ i j. ¬ Conflict (access_of accesses i) (access_of accesses j)) batch k 0 c.loop-system-test.true
     c.requires.apart)).home
 
@@ -39,14 +36,9 @@ loop-system-preserved g c =
     let whole = c.args.lender.now in
     let k = c.loop-system.system-index in
     let batch = c.args.batch.now in
-    let more = one_more_out whole c.loop-system.lender c.lend_out.new.self (take k batch) c.loop-system.jobs.items
-    (slice_index_or batch k 0) c.in_ok-lend_out.field-0
+    rw (take_more batch k 0 c.loop-system-test.true, c.in_ok-push.ensures.items)
+    (one_more_out whole c.loop-system.lender c.lend_out.new.self (take k batch) _ (slice_index_or batch k 0) _
     c.loop-system.invariant c.in_ok-lend_out.ensures.out
-    (not_before (take k batch) (slice_index_or batch k 0)
-    (each_before (λ i j. i ≢ j) batch k 0 c.loop-system-test.true c.requires.once))
+    (not_before (take k batch) _ (each_before (λ i j. i ≢ j) batch k 0 c.loop-system-test.true c.requires.once))
     (each_before (λ i j. ¬ Conflict (access_of whole.accesses.items i) (access_of whole.accesses.items j)) batch k 0
-    c.loop-system-test.true c.requires.apart) in
-    subst (λ is. AreOut whole is c.push.new.self.items c.lend_out.new.self)
-    (sym (take_more batch k 0 c.loop-system-test.true))
-    (subst (λ js. AreOut whole (take k batch ++ slice_index_or batch k 0 ∷ []) js c.lend_out.new.self)
-    (sym c.in_ok-push.ensures.items) more)
+    c.loop-system-test.true c.requires.apart))

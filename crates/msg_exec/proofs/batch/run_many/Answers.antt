@@ -7,7 +7,7 @@ use Rattle.msg_exec.specs.inner.Lending.{IsOut}
 use Rattle.msg_frames.specs.Prelude.{State}
 use Rattle.msg_exec.proofs.WorkersDraw.{of_batch}
 use Rattle.msg_exec.proofs.BatchAfterBatch.{no_more_than}
-use Rattle.msg_exec.proofs.BatchComesHome.{ComingHome, all_came, begin_home, below_alike, next_comes, next_may_come}
+use Rattle.msg_exec.proofs.BatchComesHome.{all_came, begin_home, below_alike, next_comes, next_may_come}
 use Rattle.msg_exec.proofs.BatchGoesOut.{all_may_run}
 use Rattle.msg_exec.proofs.batch.run_many.Goals as goal
 
@@ -30,9 +30,7 @@ loop-done-init g c s stands =
     let below =
     below_alike g.S.System.meaning c.args.lender.now c.requires.stands.0 s c.args.batch.now c.requires.stands.1.0
     stands c.requires.stands.1.1 in
-    subst (λ ds. ComingHome g.S.System.meaning c.args.lender.now c.args.batch.now s ds c.lend_out_all.new.lender
-    c.args.turns.now.items c.args.turns.now.items)
-    (sym c.into_iter-done-iterator.ensures.into_iter_gives.0)
+    rw c.into_iter-done-iterator.ensures.into_iter_gives.0
     (begin_home g.S.System.meaning c.args.lender.now c.lend_out_all.new.lender s c.args.batch.now
     c.in_ok-jobs.jobs.items c.in_ok-all.all.items c.args.turns.now.items
     stands below c.in_ok-jobs.ensures.out c.in_ok-all.ensures.done)
@@ -70,9 +68,7 @@ loop-done-preserved g c s stands =
     let below =
     below_alike g.S.System.meaning c.args.lender.now c.requires.stands.0 s c.args.batch.now c.requires.stands.1.0
     stands c.requires.stands.1.1 in
-    subst (λ turns. ComingHome g.S.System.meaning c.args.lender.now c.args.batch.now s c.next.new.self.rest.items
-    c.take_back.new.self c.args.turns.now.items turns)
-    (sym c.in_ok-push.ensures.items)
+    rw c.in_ok-push.ensures.items
     (next_comes g.S.System.meaning c.args.lender.now c.loop-done.lender c.args.batch.now s c.in-Some.done
     c.next.new.self.rest.items _ _ stands below
     c.take_back.new.self c.take_back.result c.requires.once c.requires.apart c.take_back.ensures.home

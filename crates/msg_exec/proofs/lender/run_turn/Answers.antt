@@ -1,4 +1,4 @@
-use Rattle.std.proofs.Common.{◌<◌, refl, subst, sym, ◌∙◌, arith}
+use Rattle.std.proofs.Common.{◌<◌, refl, sym, ◌∙◌, arith}
 use Rattle.msg_exec.specs.Prelude.{Done}
 use Rattle.msg_exec.proofs.BatchOfOne.{may_come_home, may_take_turn, turn_is_logged, turn_taken}
 use Rattle.msg_exec.proofs.EntriesAreAdded.{entered_there}
@@ -26,8 +26,7 @@ pub returns-clause-state : goal.returns-clause-state
 returns-clause-state g c s stands =
     let old = c.args.lender.now in
     let i = c.args.number in
-    let lt : i < s.systems =
-    subst (λ n. i < n) (sym c.requires.stands.1.0.accesses ∙ stands.accesses) c.requires.stands.1.1 in
+    let lt : i < s.systems = rw (sym c.requires.stands.1.0.accesses ∙ stands.accesses) at c.requires.stands.1.1 in
     let done : Done g.row.S.Denot =
     record {
       number = i;
@@ -60,8 +59,7 @@ returns-clause-state g c s stands =
 pub returns-clause-logged : goal.returns-clause-logged
 returns-clause-logged g c s stands =
     let i = c.args.number in
-    let lt : i < s.systems =
-    subst (λ n. i < n) (sym c.requires.stands.1.0.accesses ∙ stands.accesses) c.requires.stands.1.1 in
+    let lt : i < s.systems = rw (sym c.requires.stands.1.0.accesses ∙ stands.accesses) at c.requires.stands.1.1 in
     turn_is_logged g.S.System.meaning c.args.lender.now s i stands lt
     c.lend_out.new.self c.in_ok-taken.taken c.index.result.now c.index_mut.result.now c.in-Some.guarded c.index.ensures
     c.index_mut.ensures.value c.in-Some.is

@@ -15,8 +15,8 @@ run_jobs-requires-clause-may g c κs within k b at = (
       (λ b. b.world.now) c.args.world.now _ c.args.jobs.items c.in_ok-jobs.ensures.jobs c.in_ok-jobs.ensures.world
       c.requires.may k b at,
   (let jobs = c.in_ok-jobs.jobs.items in
-  ap (λ j. j.replies.items) (sym (get_or_from_slice_get jobs k b b at))
-  ∙ All-get_or (λ j. j.replies.items ≡ []) jobs k b (slice_get_within jobs k b at) c.in_ok-jobs.ensures.empty),
+      ap (λ j. j.replies.items) (sym (get_or_from_slice_get jobs k b b at))
+      ∙ All-get_or (λ j. j.replies.items ≡ []) jobs k b (slice_get_within jobs k b at) c.in_ok-jobs.ensures.empty),
 )
 
 pub returns : goal.returns

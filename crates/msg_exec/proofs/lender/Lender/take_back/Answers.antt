@@ -1,4 +1,4 @@
-use Rattle.std.proofs.Common.{refl, ◌∙◌, arith}
+use Rattle.std.proofs.Common.{refl, arith}
 use Rattle.msg_exec.proofs.EntriesAreAdded.{entered_there}
 use Rattle.msg_exec.proofs.lender.Lender.take_back.Goals as goal
 
