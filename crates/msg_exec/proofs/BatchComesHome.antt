@@ -341,6 +341,7 @@ module _ {S : Type 0} (meaning : S → Meaning) where
           let state : all_home whole.accesses.items s come s
           ≡ (after_turns_of batch s).state = ap (λ is. all_home whole.accesses.items s is s) whole_batch
           ∙ sym side.1 in (
-            stands_again whole now s (after_turns_of batch s).state stands (turns_keep_systems batch s) (rw state at half),
+            stands_again whole now s (after_turns_of batch s).state stands (turns_keep_systems batch s)
+                (rw state at half),
             log ∙ ap (λ is. before ++ map (logged_turn s) is) whole_batch ∙ ap (λ ts. before ++ ts) (sym side.0),
           )

@@ -67,8 +67,8 @@ module _ {S : Type 0} where
     -- what it writes is still there
     unlent : (p : Part) → writes j.access p ≡ true → slot p old.world ≡ slot p whole.world
     unlent p is_written =
-        out.world p ∙ rw (earlier_write_not whole.accesses.items is i p free (written_is_used _ p (rw its at is_written)))
-        refl
+        out.world p
+        ∙ rw (earlier_write_not whole.accesses.items is i p free (written_is_used _ p (rw its at is_written))) refl
 
     is_out : IsOut whole i j
     is_out = record {

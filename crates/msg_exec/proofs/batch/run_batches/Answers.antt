@@ -55,11 +55,13 @@ loop-batch-preserved g c =
 
 pub returns-clause-state : goal.returns-clause-state
 returns-clause-state g c s stands =
-    rw (take_all c.loop-batch.batch-index c.args.batches.now (omega arith)) at (c.loop-batch.invariant.turned s stands).0
+    rw (take_all c.loop-batch.batch-index c.args.batches.now (omega arith)) at
+    (c.loop-batch.invariant.turned s stands).0
 
 pub returns-clause-turns : goal.returns-clause-turns
 returns-clause-turns g c s stands =
-    rw (take_all c.loop-batch.batch-index c.args.batches.now (omega arith)) at (c.loop-batch.invariant.turned s stands).1
+    rw (take_all c.loop-batch.batch-index c.args.batches.now (omega arith)) at
+    (c.loop-batch.invariant.turned s stands).1
 
 pub returns-clause-gate_passed : goal.returns-clause-gate_passed
 returns-clause-gate_passed g c =

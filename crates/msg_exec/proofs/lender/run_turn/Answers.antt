@@ -1,5 +1,4 @@
 use Rattle.std.proofs.Common.{◌<◌, refl, sym, ◌∙◌, arith}
-use Rattle.msg_exec.specs.Prelude.{Done}
 use Rattle.msg_exec.proofs.BatchOfOne.{may_come_home, may_take_turn, turn_is_logged, turn_taken}
 use Rattle.msg_exec.proofs.EntriesAreAdded.{entered_there}
 use Rattle.msg_exec.proofs.lender.run_turn.Goals as goal
@@ -8,37 +7,24 @@ pub take_turn-requires-clause-may : goal.take_turn-requires-clause-may
 take_turn-requires-clause-may g c =
     let s = c.requires.stands in
     let may = may_take_turn g.S.System.meaning c.args.lender.now s.0 c.args.number s.1.0 s.1.1
-    c.lend_out.new.self c.in_ok-taken.taken c.index.result.now c.index_mut.result.now c.in-Some.guarded c.index.ensures
-    c.index_mut.ensures.value c.in-Some.is
-    c.in_ok-taken.ensures.lent in
+    _ _ _ _ _ c.index.ensures c.index_mut.ensures.value c.in-Some.is c.in_ok-taken.ensures.lent in
     (may.loan, may.access)
 
 pub enter-requires-clause-few : goal.enter-requires-clause-few
 enter-requires-clause-few g c κs within =
     let s = c.requires.stands in
     (may_come_home g.S.System.meaning c.args.lender.now s.0 c.args.number s.1.0 s.1.1
-    c.lend_out.new.self c.in_ok-taken.taken c.index.result.now c.index_mut.result.now c.in-Some.guarded c.index.ensures
-    c.index_mut.ensures.value c.in-Some.is
-    c.in_ok-taken.ensures.lent
-    c.in_ok-taken-2.taken c.in_ok-taken-2.outcome c.take_turn.new.self c.in_ok-taken-2.ensures.took).few
+    _ _ _ _ _ c.index.ensures c.index_mut.ensures.value c.in-Some.is c.in_ok-taken.ensures.lent _ _ _
+    c.in_ok-taken-2.ensures.took).few
 
 pub returns-clause-state : goal.returns-clause-state
 returns-clause-state g c s stands =
     let old = c.args.lender.now in
     let i = c.args.number in
     let lt : i < s.systems = rw (sym c.requires.stands.1.0.accesses ∙ stands.accesses) at c.requires.stands.1.1 in
-    let done : Done g.row.S.Denot =
-    record {
-      number = i;
-      guarded = c.take_turn.new.self;
-      taken = c.in_ok-taken-2.taken;
-      outcome = c.in_ok-taken-2.outcome;
-    } in
     turn_taken g.S.System.meaning old s i stands lt
-    c.lend_out.new.self c.in_ok-taken.taken c.index.result.now c.index_mut.result.now c.in-Some.guarded c.index.ensures
-    c.index_mut.ensures.value c.in-Some.is
-    c.in_ok-taken.ensures.lent
-    c.in_ok-taken-2.taken c.in_ok-taken-2.outcome c.take_turn.new.self c.in_ok-taken-2.ensures.took _
+    _ _ _ _ _ c.index.ensures c.index_mut.ensures.value c.in-Some.is c.in_ok-taken.ensures.lent _ _ _
+    c.in_ok-taken-2.ensures.took _
     (record {
       systems = refl;
       accesses = refl;
@@ -46,7 +32,7 @@ returns-clause-state g c s stands =
       totals = (
         _,
         refl,
-        entered_there g.S.System.meaning done old.totals.items c.index_mut-2.result.now c.deref_mut.result.now
+        entered_there g.S.System.meaning _ old.totals.items c.index_mut-2.result.now c.deref_mut.result.now
             c.enter.new.totals
             c.index_mut-2.ensures.value c.deref_mut.ensures.value
             (omega (arith, c.enter.ensures.as_many, c.deref_mut.ensures.len))
@@ -61,7 +47,5 @@ returns-clause-logged g c s stands =
     let i = c.args.number in
     let lt : i < s.systems = rw (sym c.requires.stands.1.0.accesses ∙ stands.accesses) at c.requires.stands.1.1 in
     turn_is_logged g.S.System.meaning c.args.lender.now s i stands lt
-    c.lend_out.new.self c.in_ok-taken.taken c.index.result.now c.index_mut.result.now c.in-Some.guarded c.index.ensures
-    c.index_mut.ensures.value c.in-Some.is
-    c.in_ok-taken.ensures.lent
-    c.in_ok-taken-2.taken c.in_ok-taken-2.outcome c.take_turn.new.self c.in_ok-taken-2.ensures.took
+    _ _ _ _ _ c.index.ensures c.index_mut.ensures.value c.in-Some.is c.in_ok-taken.ensures.lent _ _ _
+    c.in_ok-taken-2.ensures.took
