@@ -22,20 +22,17 @@ counted c h stands =
 
 pub returns-after-loop-clause-appends : goal.returns-after-loop-clause-appends
 returns-after-loop-clause-appends c = λ h stands.
-    let place = c.args.cursor.now in
-    let so_far = c.loop.invariant in
-    let are =
-    HasAdded_given _ _ _ _ _ c.args.limit (unread h place) so_far (c.read-unread.ensures.unread h stands)
-    (counted c h stands) in
-    let some : 0 < length (given h place c.args.limit) = omega (arith, c.if-number-eq0.false, counted c h stands) in
-    so_far.made ∙ ap (λ l. c.args.text.now.items ++ l) (ap more_items are ∙ spaced_items _ some)
+    grind (
+      arith,
+      c.loop.invariant,
+      c.if-number-eq0,
+      c.read-unread.ensures.unread h stands,
+      counted c h stands,
+      spaced_items,
+      HasAdded_given _ _ _ _ _ c.args.limit (unread h c.args.cursor.now) c.loop.invariant (c.read-unread.ensures.unread h stands)
+          (counted c h stands),
+    )
 
 pub returns-after-loop-clause-place : goal.returns-after-loop-clause-place
 returns-after-loop-clause-place c = λ h stands.
-    let so_far = c.loop.invariant in
-    let gave = so_far.gave in
-    let at : iter_place c.loop.unread ≡ next_place (read h c.args.cursor.now c.args.limit) =
-    gave.place ∙ ap (λ n. n + length so_far.taken) (c.read-unread.ensures.first h stands)
-    ∙ ap (λ n. first h c.args.cursor.now + n) (so_far.counted ∙ counted c h stands) in
-    let same = gave.continues.cursor ∙ c.read-unread.ensures.cursor in
-    search (rules, at, same)
+    grind (arith, c.loop.invariant, c.read-unread.ensures, counted c h stands)
