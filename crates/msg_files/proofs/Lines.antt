@@ -32,10 +32,6 @@ pub record HasAdded (start now : MessageIter ℤ Global) (before text : List ℕ
   pub counted : length taken ≡ number
   pub made : text ≡ before ++ more_items taken
 
--- nothing was given yet
-pub HasAdded_none : (start : MessageIter ℤ Global) (before : List ℕ) → HasAdded start start before before 0
-HasAdded_none start before = grind (arith, common_steps)
-
 -- one message more
 pub HasAdded_more : (start now next : MessageIter ℤ Global) (item : MessageId × Bor ℤ) (before text text' : List ℕ)
     (number : ℕ)

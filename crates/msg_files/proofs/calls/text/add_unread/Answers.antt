@@ -1,12 +1,13 @@
+use Rattle.std.proofs.lemmas.Grind.{common_steps}
 use Rattle.std.proofs.Common.{◌≡◌, ◌+◌, ◌<◌, ◌++◌, length, ap, sym, ◌∙◌, arith, rules}
 use Rattle.std.specs.Prelude.{ℤ}
 use Rattle.msg_buffer.specs.Prelude.{History, StandsFor, first, given, iter_place, next_place, read, unread}
 use Rattle.msg_files.specs.Prelude.{more_items}
-use Rattle.msg_files.proofs.Lines.{HasAdded_none, HasAdded_more, HasAdded_given, spaced_items}
+use Rattle.msg_files.proofs.Lines.{HasAdded_more, HasAdded_given, spaced_items}
 use Rattle.msg_files.proofs.calls.text.add_unread.Goals as goal
 
 pub loop-init : goal.loop-init
-loop-init c = HasAdded_none _ _
+loop-init c = grind (arith, common_steps)
 
 pub loop-preserved : goal.loop-preserved
 loop-preserved c =
@@ -16,9 +17,7 @@ loop-preserved c =
 -- as many were given as the read gives
 counted : (c : goal.After-cursor-in-loop-1) (h : History ℤ) → StandsFor c.args.messages.now h
     → c.loop.counter ≡ length (given h c.args.cursor.now c.args.limit)
-counted c h stands =
-    let all : c.loop.counter ≡ c.number_given-number.result = omega arith in
-    all ∙ c.number_given-number.ensures (unread h c.args.cursor.now) (sym (c.len.ensures.meaning h stands))
+counted c h stands = grind (arith, c.number_given-number.ensures (unread h c.args.cursor.now), c.len.ensures.meaning h stands)
 
 pub returns-after-loop-clause-appends : goal.returns-after-loop-clause-appends
 returns-after-loop-clause-appends c = λ h stands.
