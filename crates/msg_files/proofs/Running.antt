@@ -1,12 +1,12 @@
 -- The calls of a file, one after another.
-use Rattle.std.proofs.Common.{◌≡◌, ℕ, ◌+◌, ◌<◌, ◌≤◌, List, [], ◌++◌, length, get_or, drop, refl, ap, ◌∙◌, sym, append_assoc, append-nil, Option, Some, None, Bool, true, false, arith}
-use Rattle.std.specs.Prelude.{ℤ, ◌&&◌}
-use Rattle.std.proofs.lemmas.List.{drop_all, drop_more}
+use Rattle.std.proofs.Common.{◌≡◌, ℕ, ◌+◌, ◌<◌, ◌≤◌, List, [], ◌++◌, length, get_or, drop, sym, append_assoc, append-nil, Option, true, arith}
+use Rattle.std.specs.Prelude.{ℤ}
+use Rattle.std.proofs.lemmas.List.{drop_more}
 use Rattle.std.proofs.lemmas.Grind.{common_steps}
 use Rattle.std.specs.Io.KnownBytes.{Appends}
 use Rattle.std.proofs.KnownBytes.{Appends-trans}
 use Rattle.msg_buffer.specs.Prelude.{Kept}
-use Rattle.msg_files.specs.Prelude.{AppendsPrefix, AreIn, Batch, Call, Clear, ClearAll, Count, Current, Cursor, CursorCurrent, Drain, Get, Len, Missed, Oldest, Read, State, TakesFront, Total, Update, Write, after, cursors_exist, line, made_by, text_of}
+use Rattle.msg_files.specs.Prelude.{AppendsPrefix, AreIn, Call, State, TakesFront, after, cursors_exist, line, made_by, text_of}
 use Rattle.msg_files.proofs.Puts.{AppendsPrefix_after}
 
 -- a call makes as many places as it makes cursors

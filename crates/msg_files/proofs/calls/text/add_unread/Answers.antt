@@ -1,8 +1,7 @@
 use Rattle.std.proofs.lemmas.Grind.{common_steps}
-use Rattle.std.proofs.Common.{◌≡◌, ◌+◌, ◌<◌, ◌++◌, length, ap, sym, ◌∙◌, arith, rules}
+use Rattle.std.proofs.Common.{◌≡◌, length, arith}
 use Rattle.std.specs.Prelude.{ℤ}
-use Rattle.msg_buffer.specs.Prelude.{History, StandsFor, first, given, iter_place, next_place, read, unread}
-use Rattle.msg_files.specs.Prelude.{more_items}
+use Rattle.msg_buffer.specs.Prelude.{History, StandsFor, given, unread}
 use Rattle.msg_files.proofs.Lines.{HasAdded_more, HasAdded_given, spaced_items}
 use Rattle.msg_files.proofs.calls.text.add_unread.Goals as goal
 
