@@ -12,8 +12,6 @@ returns-clause-meaning c =
     (c.deref.ensures.value ∙ c.in_ok-limits.ensures.limits) (c.deref-2.ensures.value ∙ c.in_ok-values.ensures.values)
     c.in_ok-world.ensures.meaning in
     elim c.if-scenario.branch [
-      | then-scenario w ↦ subst (λ x. PartsStand x (first_world s)) (sym w.world-is)
-          (stands_held s _ true w.if-scenario.true (w.set_held.ensures.meaning _ made))
-      | else-scenario w ↦ subst (λ x. PartsStand x (first_world s)) (sym w.world-is)
-          (stands_held s _ false w.if-scenario.false made)
+      | then-scenario w ↦ rw w.world-is (stands_held s _ true w.if-scenario.true (w.set_held.ensures.meaning _ made))
+      | else-scenario w ↦ rw w.world-is (stands_held s _ false w.if-scenario.false made)
     ]
