@@ -1,6 +1,6 @@
 -- The lines of turns, by what was made of each system once.
-use Rattle.std.proofs.Common.{arith, ◌≡◌, ℕ, zero, suc, List, [], ◌∷◌, ◌++◌, map, refl, ap, ◌∙◌}
-use Rattle.std.specs.Prelude.{codes, flat_map, slice_get, zip}
+use Rattle.std.proofs.Common.{arith, ◌≡◌, ℕ, zero, suc, List, [], ◌∷◌, map, refl, ap}
+use Rattle.std.specs.Prelude.{flat_map, slice_get, zip}
 use Rattle.std.specs.Global.{Vec}
 use Rattle.std.specs.Option.{option_map_or}
 use Rattle.msg_system.specs.declared.op.Op.{Op}
@@ -11,7 +11,7 @@ use Rattle.msg_frames.specs.declared.log.Turn.{Turn}
 use Rattle.msg_files.specs.Prelude.{Text}
 use Rattle.msg_reading.specs.declared.scenario.Scenario.{Scenario}
 use Rattle.msg_reading.specs.declared.scenario.SystemSpec.{SystemSpec}
-use Rattle.msg_scenario.specs.Prelude.{op_start, ops_text, outcome_text, reply_text, turn_text}
+use Rattle.msg_scenario.specs.Prelude.{op_start, ops_text, outcome_text, turn_text}
 use Rattle.msg_scenario.specs.declared.reports.lines.SystemLines.{SystemLines}
 use Rattle.msg_scenario.specs.inner.Lines.{AreLines, finished_line, finished_outcome, finished_turn, lines_of, made}
 

@@ -1,8 +1,8 @@
 -- A text that is made piece by piece.
-use Rattle.std.proofs.Common.{◌≡◌, ◌⊎◌, inl, inr, ℕ, ◌+◌, ◌<◌, ◌≤◌, List, [], ◌∷◌, ◌++◌, length, get_or, take, refl, ap, ◌∙◌, sym, append-nil, Option, None, arith}
+use Rattle.std.proofs.Common.{◌≡◌, ◌⊎◌, inl, inr, ℕ, ◌+◌, ◌<◌, ◌≤◌, List, [], ◌∷◌, ◌++◌, length, get_or, take, refl, append-nil, Option, None, arith}
 use Rattle.std.specs.List.{enumerate_from}
 use Rattle.std.specs.Prelude.{flat_map, zip}
-use Rattle.std.proofs.lemmas.List.{flat_map_more, take_all, take_more}
+use Rattle.std.proofs.lemmas.List.{flat_map_more, take_more}
 use Rattle.std.specs.declared.iter.Zip.{Zip}
 use Rattle.std.specs.declared.slice.Iter.{Iter}
 use Rattle.std.specs.Borrow.{Bor}
@@ -21,8 +21,13 @@ pub numbered_more : {X : Type 0} (piece : ℕ × X → List ℕ) (n : ℕ) (xs :
     → i < length xs → next ≡ before ++ flat_map piece (take (i + 1) (enumerate_from n xs))
 numbered_more piece n xs i number x before now next made added at lt =
     let pieces = enumerate_from n xs in
-    grind (arith, flat_map_more piece before (take i pieces) (get_or pieces i (n, x)), take_more pieces i (n, x),
-    length-enumerate_from n xs, get_or-enumerate_from n xs i (n, x) lt)
+    grind (
+      arith,
+      flat_map_more piece before (take i pieces) (get_or pieces i (n, x)),
+      take_more pieces i (n, x),
+      length-enumerate_from n xs,
+      get_or-enumerate_from n xs i (n, x) lt,
+    )
 
 -- ---- a loop over two lists side by side
 
@@ -41,14 +46,12 @@ module _ {A B : Type 0} (piece : A × B → List ℕ) where
   pub no_pair_left : (both both' : Zip (Iter A) (Iter B)) (next : Option (Bor A × Bor B)) (now all : List ℕ)
       → next ≡ None → zips fronts fronts both next both' → now ++ pieces_left both ≡ all → now ≡ all
   no_pair_left both both' next now all is step made =
-      sym (append-nil now) ∙ ap (λ l. now ++ l) (sym (empty (either_empty_from_Zip both both' next is step))) ∙ made
+      rw (empty (either_empty_from_Zip both both' next is step), append-nil) at made
     where
       zip-nil : (ks : List A) → zip {X = B} ks [] ≡ []
       zip-nil [] = refl
       zip-nil (k ∷ ks) = refl
 
       empty : (iter_rest (zip_first both) ≡ []) ⊎ (iter_rest (zip_second both) ≡ []) → pieces_left both ≡ []
-      empty (inl h) = ap (λ ks. flat_map piece (zip ks (iter_rest (zip_second both)))) h
-      empty (inr h) =
-          ap (λ vs. flat_map piece (zip (iter_rest (zip_first both)) vs)) h
-          ∙ ap (flat_map piece) (zip-nil (iter_rest (zip_first both)))
+      empty (inl h) = rw h refl
+      empty (inr h) = rw (h, zip-nil) refl

@@ -1,5 +1,4 @@
-use Rattle.std.proofs.Common.{length, subst, sym}
-use Rattle.msg_exec.specs.Prelude.{EachIs, MayBeAdded, RefusesFor, StandsFor}
+use Rattle.std.proofs.Common.{length}
 use Rattle.msg_reading.specs.Prelude.{first_world}
 use Rattle.msg_scenario.proofs.Making.{all_made, may_add, no_clash, no_cycle, same_state}
 use Rattle.msg_scenario.proofs.building.engine_of.Goals as goal

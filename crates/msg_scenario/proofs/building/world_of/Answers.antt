@@ -1,6 +1,4 @@
-use Rattle.std.proofs.Common.{◌∙◌, false, subst, sym, true}
-use Rattle.msg_world.specs.Prelude.{PartsStand}
-use Rattle.msg_reading.specs.Prelude.{first_world}
+use Rattle.std.proofs.Common.{◌∙◌, false, true}
 use Rattle.msg_scenario.proofs.Making.{stands_held, stands_unheld}
 use Rattle.msg_scenario.proofs.building.world_of.Goals as goal
 use Rattle.msg_scenario.proofs.building.world_of.Goals.{then-scenario, else-scenario}

@@ -1,4 +1,3 @@
-use Rattle.std.proofs.Common.{arith}
 use Rattle.std.proofs.lemmas.List.{take_all}
 use Rattle.msg_scenario.proofs.LinesMade.{turns_of_lines}
 use Rattle.msg_scenario.proofs.reports.frame.add_turns.Goals as goal

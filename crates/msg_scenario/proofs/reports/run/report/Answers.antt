@@ -1,7 +1,5 @@
-use Rattle.std.proofs.Common.{rules, ◌≡◌, ◌≤◌, ℕ, List, Err, ap, arith, inl, inr, length, refl, subst, sym, ◌∙◌, ◌⊎◌}
-use Rattle.msg_files.specs.declared.report_fault.ReportFault.{ReportFault}
+use Rattle.std.proofs.Common.{rules, Err, ap, arith, inl, inr, length, refl, sym, ◌∙◌}
 use Rattle.std.proofs.lemmas.Result.{err_from_is_err_and}
-use Rattle.msg_frames.specs.declared.frame.Frame.{Frame}
 use Rattle.msg_reading.specs.Prelude.{state_of}
 use Rattle.msg_files.proofs.Puts.{of_err, on_err_then, on_ok_then}
 use Rattle.msg_scenario.proofs.Reporting.{accounts_out, out_printed, readers_put, readers_stopped, report_begun, stopped_before_all, stopped_printed}
