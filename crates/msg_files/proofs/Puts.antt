@@ -7,16 +7,11 @@ use Rattle.std.specs.Io.KnownBytes.{Appends, Keeps}
 use Rattle.std.proofs.KnownBytes.{Appends-trans, Appends-kept}
 use Rattle.msg_files.specs.Prelude.{failures_after, AppendsPrefix}
 
--- a put that took something is no failure
-pub failures_after_some : (E : Type 0) (k n : ℕ) (xs : List ℕ) → n ≢ 0
-    → failures_after {E = E} k (Ok n) xs ≡ k
-failures_after_some E k n [] h = refl
-failures_after_some E k n (x ∷ xs) h = grind (arith, h)
-
--- and leaves the failures where they were
+-- a put that took something leaves the failures where they were
 pub failures_kept : (E : Type 0) (before old new n : ℕ) (xs : List ℕ) → new ≡ failures_after {E = E} old (Ok n) xs
     → n ≢ 0 → old ≡ before → new ≡ before
-failures_kept E before old new n xs counts some kept = counts ∙ failures_after_some E old n xs some ∙ kept
+failures_kept E before old new n [] counts some kept = grind arith
+failures_kept E before old new n (x ∷ xs) counts some kept = grind arith
 
 -- what is left of a piece, as a range of it
 pub rest_whole : (d : ℕ) (p : List ℕ) → take (length p - d) (drop d p) ≡ drop d p
@@ -34,8 +29,7 @@ pub AppendsPrefix_after : (a b c : Option (List ℕ)) (x y z text : List ℕ) �
 AppendsPrefix_after a b c x y z text e p q = (
   x ++ q.0,
   q.1 ++ z,
-  e ∙ ap (λ l. (x ++ l) ++ z) q.2 ∙ ap (λ l. l ++ z) (sym (append_assoc x q.0 q.1))
-      ∙ append_assoc (x ++ q.0) q.1 z,
+  simp append_assoc (simp append_assoc at (e ∙ ap (λ l. (x ++ l) ++ z) q.2)),
   Appends-trans a b c x q.0 p q.3,
 )
 
@@ -51,8 +45,7 @@ pub AppendsPrefix_zero : (a b c : Option (List ℕ)) (p xs : List ℕ) (d n : �
 AppendsPrefix_zero a b c p xs d n e h k = (
   take d p ++ take n xs,
   drop d p,
-  sym (take-append-drop d p)
-      ∙ ap (λ l. l ++ drop d p) (sym (append-nil (take d p)) ∙ ap (λ j. take d p ++ take j xs) (sym e)),
+  rw (e, append-nil, take-append-drop) refl,
   Appends-trans a b c (take d p) (take n xs) h k,
 )
 

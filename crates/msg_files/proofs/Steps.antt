@@ -16,10 +16,6 @@ stops cs ds e h = (h.0, λ m. first_refusal-stands cs ds e (h.1 m))
 pub goes_on : (cs ds : List Check) (e : Refusal) → first_refusal cs ≡ None → Refuses ds e → Refuses (cs ++ ds) e
 goes_on cs ds e passed h = (h.0, λ m. first_refusal-passed cs ds passed ∙ h.1 m)
 
--- all pass
-pub also : (cs ds : List Check) → first_refusal cs ≡ None → first_refusal ds ≡ None → first_refusal (cs ++ ds) ≡ None
-also cs ds first second = first_refusal-passed cs ds first ∙ second
-
 -- checks that refuse as others do
 pub refuses_by : (cs ds : List Check) (e : Refusal) → first_refusal cs ≡ first_refusal ds → Refuses ds e → Refuses cs e
 refuses_by cs ds e same h = (h.0, λ m. same ∙ h.1 m)

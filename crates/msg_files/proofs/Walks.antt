@@ -1,13 +1,12 @@
 -- One step of a walk over a list of JSON values.
-use Rattle.std.proofs.Common.{◌≡◌, ℕ, ◌+◌, ◌≤◌, ◌<◌, List, [], ◌∷◌, ◌++◌, length, get_or, drop, refl, sym, ap, ◌∙◌, append_assoc, append-nil, Some, None, Bool, true, false, map, string_bytes, String}
-use Rattle.std.proofs.lemmas.List.{map-append, drop_more, drop_all}
+use Rattle.std.proofs.Common.{◌≡◌, ℕ, ◌≤◌, List, [], ◌∷◌, ◌++◌, drop, refl, ap, arith, Some, None, Bool, map, string_bytes, String}
 use Rattle.std.specs.List.{list_all}
-use Rattle.std.specs.Prelude.{ℤ, ◌&&◌, if◌then◌else◌}
+use Rattle.std.specs.Prelude.{ℤ, ◌&&◌}
 use Rattle.std.specs.declared.alloc.Global.{Global}
 use Rattle.serde_json.specs.Data.{Data}
 use Rattle.serde_json.specs.View.{view, items_of, members_view}
 use Rattle.serde_json.specs.declared.value.Value.{Value}
-use Rattle.msg_files.specs.Prelude.{Call, Check, Refusal, a_value, all_some, call_checks, call_of, calls_checks, cursors_exist, first_refusal, has_cursor, keys_of, list_of, made_by, whole}
+use Rattle.msg_files.specs.Prelude.{Call, Check, Refusal, a_value, all_some, call_of, calls_checks, cursors_exist, first_refusal, keys_of, list_of, whole}
 
 -- ---- lists in serde_json's form, and in ours
 
@@ -33,25 +32,13 @@ all_some-map (x ∷ xs) = rw (all_some-map xs) refl
 pub first_refusal-passed : (cs ds : List Check) → first_refusal cs ≡ None
     → first_refusal (cs ++ ds) ≡ first_refusal ds
 first_refusal-passed [] ds h = refl
-first_refusal-passed (c ∷ cs) ds h =
-    elim c.passes as (λ b.
-    (if b then first_refusal cs else Some c.refusal) ≡ None
-    → (if b then first_refusal (cs ++ ds) else Some c.refusal) ≡ first_refusal ds) [
-      | true ↦ λ h. first_refusal-passed cs ds h
-      | false ↦ λ h. cc
-    ] h
+first_refusal-passed (c ∷ cs) ds h = grind (arith, first_refusal-passed cs ds)
 
 -- a refusal stands, whatever follows
 pub first_refusal-stands : (cs ds : List Check) (r : Refusal) → first_refusal cs ≡ Some r
     → first_refusal (cs ++ ds) ≡ Some r
 first_refusal-stands [] ds r h = cc
-first_refusal-stands (c ∷ cs) ds r h =
-    elim c.passes as (λ b.
-    (if b then first_refusal cs else Some c.refusal) ≡ Some r
-    → (if b then first_refusal (cs ++ ds) else Some c.refusal) ≡ Some r) [
-      | true ↦ λ h. first_refusal-stands cs ds r h
-      | false ↦ λ h. h
-    ] h
+first_refusal-stands (c ∷ cs) ds r h = grind (arith, first_refusal-stands cs ds r)
 
 -- ---- the values of a batch
 
@@ -72,42 +59,3 @@ pub record CallsLeft (items : List Value) (i : ℕ) (calls : List Call) (made : 
       ≡ map (λ c. Some c) calls ++ map call_of (map view (drop i items))
   pub cursors : (rest : List Call) → cursors_exist 1 (calls ++ rest) ≡ cursors_exist made rest
   pub room : made ≤ 64
-
-pub CallsLeft-more : (items : List Value) (i : ℕ) (d : Value) (calls : List Call) (made : ℕ) (call : Call)
-    → CallsLeft items i calls made → i < length items
-    → first_refusal (call_checks made (view (get_or items i d))) ≡ None
-    → call_of (view (get_or items i d)) ≡ Some call
-    → has_cursor made call ≡ true → made + made_by call ≤ 64
-    → CallsLeft items (i + 1) (calls ++ call ∷ []) (made + made_by call)
-CallsLeft-more items i d calls made call left lt passes is has room =
-    let rest = map view (drop (i + 1) items) in record {
-      passed = left.passed ∙ ap (λ l. first_refusal (calls_checks made (map view l))) (drop_more items i d lt)
-          ∙ first_refusal-passed (call_checks made (view (get_or items i d))) _ passes
-          ∙ rw is refl;
-      denoted = left.denoted ∙ ap (λ l. map (λ c. Some c) calls ++ map call_of (map view l)) (drop_more items i d lt)
-          ∙ ap (λ o. map (λ c. Some c) calls ++ (o ∷ map call_of rest)) is
-          ∙ sym (append_assoc (map (λ c. Some c) calls) (Some call ∷ []) (map call_of rest))
-          ∙ ap (λ l. l ++ map call_of rest) (sym (map-append (λ c. Some c) calls (call ∷ [])));
-      cursors = λ more. ap (cursors_exist 1) (append_assoc calls (call ∷ []) more) ∙ left.cursors (call ∷ more)
-          ∙ ap (λ b. b && cursors_exist (made + made_by call) more) has;
-      room = room;
-    }
-
-pub CallsLeft-bad : (items : List Value) (i : ℕ) (d : Value) (calls : List Call) (made : ℕ) (r : Refusal)
-    → CallsLeft items i calls made → i < length items
-    → first_refusal (call_checks made (view (get_or items i d))) ≡ Some r
-    → first_refusal (calls_checks 1 (map view items)) ≡ Some r
-CallsLeft-bad items i d calls made r left lt is =
-    left.passed ∙ ap (λ l. first_refusal (calls_checks made (map view l))) (drop_more items i d lt)
-    ∙ first_refusal-stands (call_checks made (view (get_or items i d))) _ r is
-
-pub CallsLeft-end : (items : List Value) (i : ℕ) (calls : List Call) (made : ℕ)
-    → CallsLeft items i calls made → length items ≤ i
-    → (first_refusal (calls_checks 1 (map view items)) ≡ None)
-    × (map call_of (map view items) ≡ map (λ c. Some c) calls)
-    × (cursors_exist 1 calls ≡ true)
-CallsLeft-end items i calls made left le = (
-  left.passed ∙ ap (λ l. first_refusal (calls_checks made (map view l))) (drop_all i items le),
-  left.denoted ∙ ap (λ l. map (λ c. Some c) calls ++ map call_of (map view l)) (drop_all i items le) ∙ append-nil _,
-  ap (cursors_exist 1) (sym (append-nil calls)) ∙ left.cursors [],
-)

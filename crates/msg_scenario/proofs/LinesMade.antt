@@ -1,6 +1,6 @@
 -- The lines of turns, by what was made of each system once.
-use Rattle.std.proofs.Common.{◌≡◌, ℕ, zero, suc, List, [], ◌∷◌, ◌++◌, map, refl, ap, ◌∙◌}
-use Rattle.std.specs.Prelude.{codes, flat_map, slice_get, zip}
+use Rattle.std.proofs.Common.{arith, ◌≡◌, ℕ, zero, suc, List, [], ◌∷◌, map, refl, ap}
+use Rattle.std.specs.Prelude.{flat_map, slice_get, zip}
 use Rattle.std.specs.Global.{Vec}
 use Rattle.std.specs.Option.{option_map_or}
 use Rattle.msg_system.specs.declared.op.Op.{Op}
@@ -11,7 +11,7 @@ use Rattle.msg_frames.specs.declared.log.Turn.{Turn}
 use Rattle.msg_files.specs.Prelude.{Text}
 use Rattle.msg_reading.specs.declared.scenario.Scenario.{Scenario}
 use Rattle.msg_reading.specs.declared.scenario.SystemSpec.{SystemSpec}
-use Rattle.msg_scenario.specs.Prelude.{op_start, ops_text, outcome_text, reply_text, turn_text}
+use Rattle.msg_scenario.specs.Prelude.{op_start, ops_text, outcome_text, turn_text}
 use Rattle.msg_scenario.specs.declared.reports.lines.SystemLines.{SystemLines}
 use Rattle.msg_scenario.specs.inner.Lines.{AreLines, finished_line, finished_outcome, finished_turn, lines_of, made}
 
@@ -24,12 +24,7 @@ ops_of_starts s name [] (op ∷ ops) answers same = absurd cc
 ops_of_starts s name (start ∷ starts) [] answers same = absurd cc
 ops_of_starts s name (start ∷ starts) (op ∷ ops) [] same = refl
 ops_of_starts s name (start ∷ starts) (op ∷ ops) (answer ∷ answers) same =
-    let here : start.items ≡ op_start s name op = cc in
-    let rest : map (λ (start : Vec ℕ). start.items) starts ≡ map (op_start s name) ops = cc in
-    ap (λ text. (text ++ reply_text s answer ++ codes "\n")
-    ++ flat_map (λ p. finished_line s p.0.items p.1) (zip starts answers)) here
-    ∙ ap (λ text. (op_start s name op ++ reply_text s answer ++ codes "\n") ++ text)
-    (ops_of_starts s name starts ops answers rest)
+    grind (arith, ops_of_starts s name starts ops answers)
 
 outcome_of_lines : (s : Scenario) (lines : SystemLines) (system : SystemSpec) (outcome : Outcome)
     → made lines ≡ lines_of s system → finished_outcome s lines outcome ≡ outcome_text s system outcome
@@ -44,11 +39,8 @@ outcome_of_number : (s : Scenario) (lines : List SystemLines) (systems : List Sy
 outcome_of_number s [] [] n outcome same = refl
 outcome_of_number s [] (system ∷ systems) n outcome same = absurd cc
 outcome_of_number s (l ∷ lines) [] n outcome same = absurd cc
-outcome_of_number s (l ∷ lines) (system ∷ systems) zero outcome same =
-    let here : made l ≡ lines_of s system = cc in outcome_of_lines s l system outcome here
-outcome_of_number s (l ∷ lines) (system ∷ systems) (suc n) outcome same =
-    let rest : map made lines ≡ map (lines_of s) systems = cc in
-    outcome_of_number s lines systems n outcome rest
+outcome_of_number s (l ∷ lines) (system ∷ systems) zero outcome same = outcome_of_lines s l system outcome cc
+outcome_of_number s (l ∷ lines) (system ∷ systems) (suc n) outcome same = outcome_of_number s lines systems n outcome cc
 
 pub turns_of_lines : (s : Scenario) (lines : List SystemLines) (turns : List Turn) → AreLines s lines
     → flat_map (finished_turn s lines) turns ≡ flat_map (turn_text s) turns

@@ -1,14 +1,14 @@
 -- The systems of an engine that is made of a scenario.
-use Rattle.std.proofs.Common.{◌≡◌, ℕ, suc, ◌+◌, ◌≤◌, List, [], ◌∷◌, length, map, zero-add, Some, refl, sym, ap, subst, ◌∙◌, inl, inr, arith}
-use Rattle.std.specs.Prelude.{Bool, ℤ, if◌then◌else◌, IsTrue, option_map, slice_get, ◌&&◌}
+use Rattle.std.proofs.Common.{◌≡◌, ℕ, suc, ◌+◌, List, [], ◌∷◌, length, map, zero-add, Some, refl, sym, ap, ◌∙◌, inl, inr, arith}
+use Rattle.std.specs.Prelude.{Bool, ℤ, if◌then◌else◌, option_map, slice_get}
 use Rattle.std.specs.List.{All, enumerate_from}
 use Rattle.std.proofs.lemmas.List.Elements.{All-get_or}
 use Rattle.std.proofs.lemmas.Option.{get_or_from_slice_get, slice_get_cases, slice_get_within, slice_get-map}
 use Rattle.msg_world.specs.Prelude.{Parts, PartsStand, WorldState, held_world, new_world}
 use Rattle.msg_order.specs.declared.rule.Rule.{Rule}
-use Rattle.msg_frames.specs.Prelude.{IsNew, all_rules, first_state}
-use Rattle.msg_system.specs.Prelude.{Meaning, job_needs, needs_any, new_system, with_conditions}
-use Rattle.msg_order.specs.Prelude.{IsAcyclic, IsLowestOnCycle}
+use Rattle.msg_frames.specs.Prelude.{all_rules, first_state}
+use Rattle.msg_system.specs.Prelude.{Meaning, new_system}
+use Rattle.msg_order.specs.Prelude.{IsLowestOnCycle}
 use Rattle.msg_frames.specs.declared.place.Place.{Place}
 use Rattle.msg_exec.specs.Prelude.{EachIs, IsLowestClash, MayBeAdded}
 use Rattle.msg_reading.specs.declared.scenario.Scenario.{Scenario}
@@ -20,7 +20,7 @@ use Rattle.msg_reading.proofs.There.{some_same}
 -- what holds of all of a list holds of what is found in it
 all_at : {X : Type 0} (P : X → Type 0) (xs : List X) (i : ℕ) (x : X) → All P xs → slice_get xs i ≡ Some x → P x
 all_at P xs i x all there =
-    subst P (get_or_from_slice_get xs i x x there) (All-get_or P xs i x (slice_get_within xs i x there) all)
+    rw (get_or_from_slice_get xs i x x there) at (All-get_or P xs i x (slice_get_within xs i x there) all)
 
 -- lists of one length have something at the same places
 there_too : {X Y : Type 0} (xs : List X) (ys : List Y) (i : ℕ) (x : X) → length xs ≡ length ys
@@ -40,31 +40,27 @@ pub stands_unheld : (s : Scenario) (w : Parts) (limits : List ℕ) (values : Lis
     ≡ map (λ named. named.1) s.types
     → values ≡ map (λ named. named.1) s.resources → PartsStand w (new_world limits values) → PartsStand w (unheld s)
 stands_unheld s w limits values types resources stands =
-    subst (λ ls. PartsStand w (new_world ls (map (λ named. named.1) s.resources))) types
-    (subst (λ vs. PartsStand w (new_world limits vs)) resources stands)
+    rw (types, resources) at stands
 
 -- the first world is that, held or not
 pub stands_held : (s : Scenario) (w : Parts) (b : Bool) → s.held ≡ b
     → PartsStand w (if b then held_world (unheld s) else unheld s)
     → PartsStand w (first_world s)
-stands_held s w b is stands = subst (λ k. PartsStand w (if k then held_world (unheld s) else unheld s)) (sym is) stands
+stands_held s w b is stands = rw is stands
 
 -- the state of its parts is the scenario's
 pub same_state : (s : Scenario) (systems : List Meaning) (places : List Place) (rules : List Rule) (types : ℕ)
     → systems ≡ meanings_of s → places ≡ places_of s → rules ≡ s.rules → types ≡ length s.types
     → first_state systems places rules types (first_world s) ≡ state_of s
 same_state s systems places rules types a b c d =
-    ap (λ x. first_state x places rules types (first_world s)) a
-    ∙ ap (λ x. first_state (meanings_of s) x rules types (first_world s)) b
-    ∙ ap (λ x. first_state (meanings_of s) (places_of s) x types (first_world s)) c
-    ∙ ap (λ x. first_state (meanings_of s) (places_of s) s.rules x (first_world s)) d
+    rw (a, b, c, d) refl
 
 module _ {S : Type 0} (m : S → Meaning) where
   -- the system of the spec at a place is the one at that place
   pub is_system_at : (specs : List SystemSpec) (n : ℕ) (x : S) (spec : SystemSpec) → slice_get specs n ≡ Some spec
       → m x ≡ new_system spec.program n → IsSystemAt m specs n x
   is_system_at specs n x spec there is other found =
-      subst (λ (y : SystemSpec). m x ≡ new_system y.program n) (some_same (sym there ∙ found)) is
+      rw (some_same (sym there ∙ found)) at is
 
   -- systems that are each the one at its place are all of them
   all_from : (specs : List SystemSpec) (xs : List S) (n : ℕ) → length xs ≡ length specs
@@ -77,16 +73,13 @@ module _ {S : Type 0} (m : S → Meaning) where
   all_from (spec ∷ specs) (x ∷ xs) n same each =
       let rest = all_from specs xs (n + 1) (omega (arith, same))
       (λ i j y t is here there. each (suc i) j y t (omega (arith, is)) here there) in
-      let first : m x ≡ new_system spec.program n = each 0 n x spec (omega arith) refl refl in
-      ap (λ y. y ∷ map m xs) first
-      ∙ ap (λ l. new_system spec.program n ∷ l) rest
+      grind (arith, rest, each 0 n x spec)
 
   pub all_made : (s : Scenario) (xs : List S) → length xs ≡ length s.systems → EachIs (IsSystemAt m s.systems) xs
       → map m xs ≡ meanings_of s
   all_made s xs same each =
       all_from s.systems xs 0 same
-      (λ i j x spec is here there. subst (λ k. m x ≡ new_system spec.program k) (sym (zero-add i) ∙ is)
-      (each i x here spec there))
+      (λ i j x spec is here there. rw (← is, zero-add) (each i x here spec there))
 
   -- each may be added
   pub may_add : (s : Scenario) (w : Parts) (xs : List S) → IsRunnable s → length w.types ≡ length s.types
@@ -95,19 +88,16 @@ module _ {S : Type 0} (m : S → Meaning) where
   may_add s w xs runnable types resources same each i x here =
       let found = there_too xs s.systems i x same here in
       let spec = found.0 in
-      let is : m x ≡ new_system spec.program i = each i x here spec found.1 in
-      let needs = ap (λ y. y.needs) is in
+      let is = each i x here spec found.1 in
       let fine : IsRunnableSystem s spec = all_at (IsRunnableSystem s) s.systems i spec runnable.systems found.1 in
       let placed : (place : Place) → slice_get (places_of s) i ≡ Some place → spec.place ≡ place =
       λ place sp. some_same (sym (slice_get-map (λ (y : SystemSpec). y.place) s.systems i
       ∙ ap (option_map (λ y. y.place)) found.1) ∙ sp) in
       record {
-        new = subst (IsNew i) (sym is) (record { writer = refl; places = λ t. refl });
+        new = rw is (record { writer = refl; places = λ t. refl });
         fits = λ place sp p needed. rw (types, resources)
-            (fine.fits p (subst (λ (y : Place). IsTrue (needs_any (job_needs spec.program.ops y.conditions) p))
-            (sym (placed place sp))
-            (subst (λ n. IsTrue (needs_any (with_conditions n place.conditions) p)) needs needed)));
-        joins = λ place sp. subst (λ (y : Place). (1 ≤ y.join) × (y.join ≤ 10000)) (placed place sp) fine.joins;
+            (fine.fits p (rw (is, ← placed place sp) at needed));
+        joins = λ place sp. rw (placed place sp) at fine.joins;
       }
 
   -- none reads and writes one part
@@ -117,14 +107,12 @@ module _ {S : Type 0} (m : S → Meaning) where
       let x = lowest.system in
       let found = there_too xs s.systems i x same lowest.is in
       let spec = found.0 in
-      let needs = ap (λ y. y.needs) (each i x lowest.is spec found.1) in
       let fine : IsRunnableSystem s spec = all_at (IsRunnableSystem s) s.systems i spec runnable.systems found.1 in
       fine.no_clash
-      (lowest.clash.0, subst (λ n. IsTrue (n.reads lowest.clash.0 && n.writes lowest.clash.0)) needs lowest.clash.1)
+      (lowest.clash.0, rw (each i x lowest.is spec found.1) at lowest.clash.1)
 
 -- no system is on a cycle of rules
 pub no_cycle : (s : Scenario) (rules : List Rule) (n i : ℕ) → IsRunnable s → rules ≡ s.rules → n ≡ length s.systems
     → IsLowestOnCycle (all_rules n rules) i → ⊥
 no_cycle s rules n i runnable same many lowest =
-    subst (λ k. IsAcyclic (all_rules k rules)) (sym many)
-    (subst (λ r. IsAcyclic (all_rules (length s.systems) r)) (sym same) runnable.acyclic) i lowest.on_cycle
+    (rw (← many, ← same) at runnable.acyclic) i lowest.on_cycle

@@ -1,5 +1,5 @@
 -- The text of frames one after another.
-use Rattle.std.proofs.Common.{◌≡◌, ℕ, ◌+◌, ◌<◌, List, [], ◌∷◌, ◌++◌, length, get_or, refl, ap, ◌∙◌, sym, append_assoc, append-nil, arith}
+use Rattle.std.proofs.Common.{◌≡◌, ℕ, ◌+◌, ◌<◌, List, [], ◌∷◌, ◌++◌, length, get_or, refl, append_assoc, append-nil, arith}
 use Rattle.msg_frames.specs.declared.frame.Frame.{Frame}
 use Rattle.msg_frames.specs.declared.log.Log.{Log}
 use Rattle.msg_scenario.specs.Prelude.{frame_text, frames_text}
@@ -17,13 +17,6 @@ pub frames_text_more : (s : Scenario) (number : ℕ) (frames : List Frame) (logs
     ≡ frames_text s number frames logs ++ frame_text s (number + length logs) (get_or frames (length logs) d) log
 frames_text_more s number [] logs log d h = absurd (omega arith)
 frames_text_more s number (frame ∷ frames) [] log d h =
-    ap (λ l. frame_text s number frame log ++ l) (frames_text-none s (number + 1) frames)
-    ∙ append-nil (frame_text s number frame log)
-    ∙ ap (λ n. frame_text s n frame log) (omega arith)
+    grind (arith, frames_text-none s (number + 1) frames, append-nil (frame_text s number frame log))
 frames_text_more s number (frame ∷ frames) (first ∷ logs) log d h =
-    let here = frame_text s number frame first in
-    let rest = frames_text s (number + 1) frames logs in
-    let next = get_or frames (length logs) d in
-    ap (λ l. here ++ l) (frames_text_more s (number + 1) frames logs log d (omega arith))
-    ∙ ap (λ n. here ++ (rest ++ frame_text s n next log)) (omega arith)
-    ∙ sym (append_assoc here rest (frame_text s (number + length (first ∷ logs)) next log))
+    grind (arith, append_assoc, frames_text_more s (number + 1) frames logs log d)

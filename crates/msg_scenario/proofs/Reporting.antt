@@ -1,8 +1,10 @@
 -- The frames of a scenario, run one after another, and what the sink took of their text.
-use Rattle.std.proofs.Common.{◌≡◌, ℕ, zero, suc, ◌+◌, ◌-◌, ◌^◌, ◌<◌, List, [], ◌∷◌, ◌++◌, length, get_or, take, refl, sym, ap, subst, ◌∙◌, append_assoc, append-nil, min, Option, Some, None, Result, Err, true, false, arith, inl, inr, eq-eqb}
-use Rattle.std.specs.Prelude.{All, IfSome, IsNone, IsSomeAnd, ◌==◌, ℤ, if◌then◌else◌}
+use Rattle.std.proofs.Common.{◌≡◌, ℕ, zero, suc, ◌+◌, ◌-◌, ◌<◌, List, [], ◌∷◌, ◌++◌, length, get_or, take, refl, sym, ◌∙◌, append_assoc, append-nil, Option, Some, None, Result, Err, true, false, arith, inl, inr, eq-eqb}
+use Rattle.std.specs.Prelude.{All, IfSome, IsSomeAnd, ◌==◌, ℤ, if◌then◌else◌}
+use Rattle.std.specs.Prelude.{◌⊎◌}
+use Rattle.std.proofs.lemmas.Grind.{common_steps}
 use Rattle.std.proofs.Math.Seq.{take-append_seam, take-length}
-use Rattle.std.proofs.lemmas.List.{length-append, take_more}
+use Rattle.std.proofs.lemmas.List.{take_more}
 use Rattle.std.specs.Io.KnownBytes.{Appends}
 use Rattle.std.proofs.KnownBytes.{Appends-nil, Appends-trans}
 use Rattle.msg_system.specs.Prelude.{Meaning}
@@ -39,9 +41,7 @@ text_so_far_parts s logs accounts =
 -- where all frames were run it is the whole report
 text_so_far_whole : (s : Scenario) (logs : List Log) (accounts : List Account) → length logs ≡ length s.frames
     → text_so_far s logs accounts ≡ report_text s logs accounts
-text_so_far_whole s logs accounts all =
-    ap (λ b. if b then report_text s logs accounts else frames_text s 1 s.frames logs)
-    (eq-eqb (length logs) (length s.frames) all)
+text_so_far_whole s logs accounts all = rw (eq-eqb (length logs) (length s.frames) all)
 
 -- the text of frames begins with that of the first of them
 frames_text_front : (s : Scenario) (number n : ℕ) (frames : List Frame) (logs : List Log)
@@ -50,19 +50,14 @@ frames_text_front s number n [] logs = ([], refl)
 frames_text_front s number zero (frame ∷ frames) logs = (frames_text s number (frame ∷ frames) logs, refl)
 frames_text_front s number (suc n) (frame ∷ frames) [] = ([], refl)
 frames_text_front s number (suc n) (frame ∷ frames) (log ∷ logs) =
-    let here = frame_text s number frame log in
-    let more = frames_text_front s (number + 1) n frames logs in (
-      more.0,
-      ap (λ l. here ++ l) more.1
-          ∙ sym (append_assoc here (frames_text s (number + 1) frames (take n logs)) more.0),
-    )
+    let more = frames_text_front s (number + 1) n frames logs in (more.0, grind (arith, more.1, append_assoc))
 
 -- ---- runs
 
 -- one frame more
 run_more : (frames : List Frame) (frame : Frame) (s : State) (logs : List Log) (log : Log) (m u : State)
     → IsRun frames s logs m → IsFrame frame m log u → IsRun (frames ++ frame ∷ []) s (logs ++ log ∷ []) u
-run_more [] frame s [] log m u none one = (u, subst (λ x. IsFrame frame x log u) none one, refl)
+run_more [] frame s [] log m u none one = (u, rw (← none) one, refl)
 run_more [] frame s (l ∷ logs) log m u none one = absurd none
 run_more (f ∷ frames) frame s [] log m u none one = absurd none
 run_more (f ∷ frames) frame s (l ∷ logs) log m u some one =
@@ -71,16 +66,12 @@ run_more (f ∷ frames) frame s (l ∷ logs) log m u some one =
 module _ {X : Type 0} (meaning : X → Meaning) where
   fits : (o : Option (Core X)) (u : State) (posts : List (ℕ × ℤ)) → IsSomeAnd o (λ c. CoreStands meaning c u)
       → All (λ p. p.0 < u.types) posts → IfSome o (λ c. All (λ p. p.0 < length c.lender.world.types) posts)
-  fits (Some c) u posts stands fit = subst (λ n. All (λ p. p.0 < n) posts) (sym stands.lender.types) fit
+  fits (Some c) u posts stands fit = rw stands.lender.types fit
   fits None u posts stands fit = absurd stands
-
-  no_core : (o : Option (Core X)) (u : State) → IsSomeAnd o (λ c. CoreStands meaning c u) → IsNone o → ⊥
-  no_core (Some c) u stands none = cc
-  no_core None u stands none = absurd stands
 
   -- what stands for a state isn't spoiled
   pub not_spoiled : (e : EngineOf X) (u : State) → StandsFor meaning e u → ¬ IsSpoiled e
-  not_spoiled e u stands spoiled = no_core e.core u stands.core spoiled
+  not_spoiled e u stands spoiled = grind (arith, stands.core)
 
   module _ (s : Scenario) where
     pub report_begun : (known : Option (List ℕ)) (e : EngineOf X) → StandsFor meaning e (state_of s)
@@ -92,7 +83,7 @@ module _ {X : Type 0} (meaning : X → Meaning) where
       is_run = refl;
       frames = refl;
       types = refl;
-      printed = subst (Appends known known) (sym (frames_text-none s 1 s.frames)) (Appends-nil known);
+      printed = rw (frames_text-none s 1 s.frames) (Appends-nil known);
       stands = stands;
     }
 
@@ -106,18 +97,14 @@ module _ {X : Type 0} (meaning : X → Meaning) where
       stands = stands;
       counted = stands.frames;
       printed = ([], text_so_far s [] (accounts_of (state_of s)), refl, Appends-nil known);
-      earlier = (
-        [],
-        subst (λ l. Appends known known (l ++ [])) (sym (frames_text-none s 1 s.frames)) (Appends-nil known),
-      );
+      earlier = ([], rw (frames_text-none s 1 s.frames) (Appends-nil known));
       last = inl ([], frames_text s 1 s.frames [], refl, Appends-nil known);
     }
 
     pub posts_fit : (k : ℕ) (before now : Option (List ℕ)) (e : EngineOf X) (frame : Frame)
         → ReportSoFar meaning s k before now e → PostsAreToTypes s frame → PostsFit e frame
     posts_fit k before now e frame far fit =
-        fits e.core far.state frame.posts far.stands.core
-        (subst (λ n. All (λ p. p.0 < n) frame.posts) (sym far.types) fit)
+        fits e.core far.state frame.posts far.stands.core (rw far.types fit)
 
     -- ---- a frame
 
@@ -142,25 +129,16 @@ module _ {X : Type 0} (meaning : X → Meaning) where
     just_run keep k before now e f frame log far lt is ran =
         let one = ran far.state far.stands in
         let kept : FrameKeeps (systems_in log) frame far.state = keep (systems_in log) frame far.state in
-        let longer : take (k + 1) s.frames ≡ take k s.frames ++ frame ∷ [] =
-        take_more s.frames k frame lt ∙ ap (λ x. take k s.frames ++ x ∷ []) (sym is) in
-        let many = far.as_many in
-        let there : length far.logs < length s.frames = omega (arith, lt, many) in
-        let at : get_or s.frames (length far.logs) frame ≡ frame = ap (λ n. get_or s.frames n frame) many ∙ sym is in
-        let number : 1 + length far.logs ≡ k + 1 = omega (arith, many) in
-        let suc_is : suc k ≡ k + 1 = omega arith in
         record {
           earlier = far.logs;
           state = one.state;
-          as_many = many;
-          is_run = subst (λ fs. IsRun fs (state_of s) (far.logs ++ log ∷ []) one.state) (sym longer)
+          as_many = far.as_many;
+          is_run = rw (take_more s.frames k frame lt, ← is)
               (run_more (take k s.frames) frame (state_of s) far.logs log far.state one.state far.is_run one.is_frame);
-          frames = ap (λ (u : State). u.frames) one.is_frame.leaves ∙ kept.counted ∙ ap suc far.frames ∙ suc_is;
-          types = ap (λ (u : State). u.types) one.is_frame.leaves ∙ kept.after.types ∙ far.types;
+          frames = grind (arith, one.is_frame.leaves, kept.counted, far.frames);
+          types = grind (arith, one.is_frame.leaves, kept.after.types, far.types);
           printed = far.printed;
-          next = frames_text_more s 1 s.frames far.logs log frame there
-              ∙ ap (λ x. frames_text s 1 s.frames far.logs ++ frame_text s (1 + length far.logs) x log) at
-              ∙ ap (λ n. frames_text s 1 s.frames far.logs ++ frame_text s n frame log) number;
+          next = grind (arith, frames_text_more s 1 s.frames far.logs log frame, far.as_many, is);
           stands = one.stands;
         }
 
@@ -169,71 +147,57 @@ module _ {X : Type 0} (meaning : X → Meaning) where
       -- its text was put
       pub frame_put : (f : EngineOf X) → ((u : State) → StandsFor meaning e u → StandsFor meaning f u)
           → Appends now after (frame_text s number frame log) → ReportSoFar meaning s (k + 1) before after f
-      frame_put f stays puts =
-          let sum = length-append just.earlier (log ∷ []) in
-          let many = just.as_many in
-          record {
-            logs = just.earlier ++ log ∷ [];
-            state = just.state;
-            as_many = omega (arith, sum, many);
-            is_run = just.is_run;
-            frames = just.frames;
-            types = just.types;
-            printed = subst (Appends before after) (sym just.next)
-                (Appends-trans before now after (frames_text s 1 s.frames just.earlier) (frame_text s (k + 1) frame log)
-                just.printed (subst (λ n. Appends now after (frame_text s n frame log)) is puts));
-            stands = stays just.state just.stands;
-          }
+      frame_put f stays puts = record {
+        logs = just.earlier ++ log ∷ [];
+        state = just.state;
+        as_many = grind (arith, common_steps, just.as_many);
+        is_run = just.is_run;
+        frames = just.frames;
+        types = just.types;
+        printed = rw just.next (Appends-trans before now after (frames_text s 1 s.frames just.earlier)
+            (frame_text s (k + 1) frame log) just.printed (rw is at puts));
+        stands = stays just.state just.stands;
+      }
 
       -- its text was put in part
       pub frame_stopped : AppendsPrefix now after (frame_text s number frame log) → HasStopped meaning s before after e
       frame_stopped puts =
-          let logs : List Log = just.earlier ++ log ∷ [] in
           let first = frames_text s 1 s.frames just.earlier in
           let here = frame_text s (k + 1) frame log in
           let rest = text_so_far_parts s (just.earlier ++ log ∷ []) (accounts_of just.state) in
-          let part : AppendsPrefix now after here =
-          subst (λ n. AppendsPrefix now after (frame_text s n frame log)) is puts in
-          let sum = length-append just.earlier (log ∷ []) in
-          let many = just.as_many in
-          let length_is : length (just.earlier ++ log ∷ []) ≡ k + 1 = omega (arith, sum, many) in
-          let one_less : length (just.earlier ++ log ∷ []) - 1 ≡ length just.earlier = omega (arith, sum) in
+          let part : AppendsPrefix now after here = rw (← is) puts in
+          let length_is : length (just.earlier ++ log ∷ []) ≡ k + 1 = grind (arith, common_steps, just.as_many) in
           let earlier : take (length (just.earlier ++ log ∷ []) - 1) (just.earlier ++ log ∷ []) ≡ just.earlier =
-          ap (λ n. take n (just.earlier ++ log ∷ [])) one_less ∙ take-append_seam just.earlier (log ∷ []) in
+          grind (arith, common_steps, take-append_seam just.earlier (log ∷ [])) in
           record {
             logs = just.earlier ++ log ∷ [];
             state = just.state;
-            is_run = subst (λ n. IsRun (take n s.frames) (state_of s) (just.earlier ++ log ∷ []) just.state)
-                (sym length_is) just.is_run;
+            is_run = rw length_is just.is_run;
             stands = just.stands;
-            counted = just.stands.frames ∙ ap (λ n. min n (2 ^ 32 - 1)) (just.frames ∙ sym length_is);
-            printed = AppendsPrefix_after before now after first here rest.0 _
-                (rest.1 ∙ ap (λ l. l ++ rest.0) just.next) just.printed part;
+            counted = grind (arith, just.stands.frames, just.frames, length_is);
+            printed = AppendsPrefix_after before now after first here rest.0 _ (rw (← just.next) rest.1)
+                just.printed part;
             last =
                 inl (AppendsPrefix_after before now after first here [] _
                 (just.next ∙ sym (append-nil (first ++ here))) just.printed part);
-            earlier = (
-              part.0,
-              subst (λ l. Appends before after (frames_text s 1 s.frames l ++ part.0)) (sym earlier)
-                  (Appends-trans before now after first part.0 just.printed part.3),
-            );
+            earlier = (part.0, rw earlier (Appends-trans before now after first part.0 just.printed part.3));
           }
 
     -- ---- no memory
 
-    pub run_out : (k : ℕ) (before now : Option (List ℕ)) (e f : EngineOf X) → ReportSoFar meaning s k before now e
-        → k < length s.frames
-        → frames_of f ≡ frames_of e → IsSpoiled f → HasRunOut meaning s before now f
-    run_out k before now e f far lt counted spoiled =
-        let many = far.as_many in
-        record {
-          logs = far.logs;
-          state = far.state;
-          is_run = subst (λ n. IsRun (take n s.frames) (state_of s) far.logs far.state) (sym many) far.is_run;
-          printed = far.printed;
-          counted = counted ∙ far.stands.frames ∙ ap (λ n. min n (2 ^ 32 - 1)) (far.frames ∙ sym many);
-          left = inl (spoiled, omega (arith, lt, many));
-        }
+    -- what was run and put so far is all that was
+    out_after : (k : ℕ) (before now : Option (List ℕ)) (e f : EngineOf X) (far : ReportSoFar meaning s k before now e)
+        → frames_of f ≡ frames_of e
+        → (IsSpoiled f × (length far.logs < length s.frames)) ⊎ (StandsFor meaning f far.state × (length far.logs ≡ length s.frames))
+        → HasRunOut meaning s before now f
+    out_after k before now e f far counted left = record {
+      logs = far.logs;
+      state = far.state;
+      is_run = rw far.as_many far.is_run;
+      printed = far.printed;
+      counted = grind (arith, counted, far.stands.frames, far.frames, far.as_many);
+      left = left;
+    }
 
     -- a frame answers nothing else, as the engine wasn't spoiled
     pub no_memory_for_frame : (k : ℕ) (before now : Option (List ℕ)) (e f : EngineOf X) (r : Result Log RunFault)
@@ -245,20 +209,12 @@ module _ {X : Type 0} (meaning : X → Meaning) where
         absurd (not_spoiled e far.state far.stands (spoiled is))
     no_memory_for_frame k before now e f r BadOrder far lt is spoiled in_order out counted = absurd (in_order is)
     no_memory_for_frame k before now e f r NoMemory far lt is spoiled in_order out counted =
-        run_out k before now e f far lt (counted is) (out is)
+        out_after k before now e f far (counted is) (inl (out is, omega (arith, lt, far.as_many)))
 
     pub accounts_out : (k : ℕ) (before now : Option (List ℕ)) (e : EngineOf X) → ReportSoFar meaning s k before now e
         → k ≡ length s.frames → HasRunOut meaning s before now e
     accounts_out k before now e far all =
-        let many = far.as_many in
-        record {
-          logs = far.logs;
-          state = far.state;
-          is_run = subst (λ n. IsRun (take n s.frames) (state_of s) far.logs far.state) (sym many) far.is_run;
-          printed = far.printed;
-          counted = far.stands.frames ∙ ap (λ n. min n (2 ^ 32 - 1)) (far.frames ∙ sym many);
-          left = inr (far.stands, many ∙ all);
-        }
+        out_after k before now e e far refl (inr (far.stands, far.as_many ∙ all))
 
     -- ---- the readers
 
@@ -272,12 +228,10 @@ module _ {X : Type 0} (meaning : X → Meaning) where
       readers_put complete puts = record {
         logs = far.logs;
         state = far.state;
-        complete = complete s.frames far.logs far.state
-            (subst (λ fs. IsRun fs (state_of s) far.logs far.state)
-            (ap (λ n. take n s.frames) all ∙ take-length s.frames) far.is_run);
+        complete = complete s.frames far.logs far.state (rw (all, take-length) at far.is_run);
         printed = Appends-trans before now after (frames_text s 1 s.frames far.logs)
             (accounts_text s (accounts_of far.state))
-            far.printed (subst (λ l. Appends now after (accounts_text s l)) (are far.state far.stands) puts);
+            far.printed (rw (are far.state far.stands) at puts);
         stands = far.stands;
       }
 
@@ -287,25 +241,21 @@ module _ {X : Type 0} (meaning : X → Meaning) where
           let many = far.as_many in
           let first = frames_text s 1 s.frames far.logs in
           let lines = accounts_text s (accounts_of far.state) in
-          let part : AppendsPrefix now after (accounts_text s (accounts_of far.state)) =
-          subst (λ l. AppendsPrefix now after (accounts_text s l)) (are far.state far.stands) puts in
+          let part : AppendsPrefix now after lines = rw (← are far.state far.stands) puts in
           let front = frames_text_front s 1 (length far.logs - 1) s.frames far.logs in
-          let earlier = frames_text s 1 s.frames (take (length far.logs - 1) far.logs) in
           record {
             logs = far.logs;
             state = far.state;
-            is_run = subst (λ n. IsRun (take n s.frames) (state_of s) far.logs far.state) (sym many) far.is_run;
+            is_run = rw many far.is_run;
             stands = far.stands;
-            counted = far.stands.frames ∙ ap (λ n. min n (2 ^ 32 - 1)) (far.frames ∙ sym many);
+            counted = grind (arith, far.stands.frames, far.frames, many);
             printed = AppendsPrefix_after before now after first lines [] _
                 (text_so_far_whole s far.logs (accounts_of far.state) (many ∙ all) ∙ sym (append-nil (first ++ lines)))
                 far.printed part;
             last = inr (many ∙ all, (part.0, Appends-trans before now after first part.0 far.printed part.3));
             earlier = (
               front.0 ++ part.0,
-              subst (Appends before after)
-                  (ap (λ l. l ++ part.0) front.1 ∙ append_assoc earlier front.0 part.0)
-                  (Appends-trans before now after first part.0 far.printed part.3),
+              rw (← append_assoc, ← front.1) (Appends-trans before now after first part.0 far.printed part.3),
             );
           }
 

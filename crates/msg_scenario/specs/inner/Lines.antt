@@ -1,5 +1,5 @@
 -- What the lines of turns begin with, made once: the words of private functions.
-use Rattle.std.specs.Prelude.{◌≡◌, ◌++◌, ℕ, List, [], codes, flat_map, map, slice_get, zip}
+use Rattle.std.specs.Prelude.{◌≡◌, ◌++◌, List, [], codes, flat_map, map, slice_get, zip}
 use Rattle.std.specs.Option.{option_map_or}
 use Rattle.msg_files.specs.Prelude.{Text}
 use Rattle.msg_system.specs.declared.reply.Reply.{Reply}

@@ -1,6 +1,6 @@
-use Rattle.std.proofs.Common.{◌≡◌, ◌+◌, ◌-◌, ◌%◌, arith, append_assoc}
+use Rattle.std.proofs.Common.{arith, append_assoc}
+use Rattle.std.proofs.lemmas.Grind.{common_steps}
 use Rattle.std.proofs.lemmas.Fmt.{decimal_step_wide}
-use Rattle.std.proofs.lemmas.List.{drop-set, length-set}
 use Rattle.itoa.proofs.Decimal.{length_wide, length_step_wide}
 use Rattle.msg_files.proofs.numerals.write_number.Goals as goal
 
@@ -17,16 +17,7 @@ loop-left-preserved c =
     let l = c.loop-left in
     let long = length_wide c.args.number c.ranges.number.fits in
     let step = length_step_wide l.left (omega arith) l.auto.left-fits.fits in
-    let e : l.at - 1 + 1 ≡ l.at = omega arith in (
-      omega arith,
-      omega (arith, length-set l.pair (l.at - 1) (48 + l.left % 10)),
-      omega arith,
-      rw (drop-set l.pair (l.at - 1) _ (omega arith), e)
-          (rw (
-            decimal_step_wide l.left (omega arith) (omega (arith, l.auto.left-fits.fits)),
-            append_assoc,
-          ) at l.invariant.3),
-    )
+    grind (arith, common_steps, long, step, decimal_step_wide l.left, append_assoc)
 
 pub write_digits-requires : goal.write_digits-requires
 write_digits-requires c = omega (arith, length_wide c.args.number c.ranges.number.fits)

@@ -20,6 +20,5 @@ returns-in_err-n-clause-prefix g c =
 
 pub returns-then-n-eq0-clause-prefix : goal.returns-then-n-eq0-clause-prefix
 returns-then-n-eq0-clause-prefix g c =
-    let done = c.loop-done.done in
-    AppendsPrefix_zero _ _ _ c.args.piece.now _ done c.in_ok-n.n c.if-n-eq0.true
+    AppendsPrefix_zero _ _ _ c.args.piece.now _ c.loop-done.done c.in_ok-n.n c.if-n-eq0.true
     c.loop-done.invariant.1 c.in_ok-n.ensures.bytes

@@ -1,41 +1,32 @@
-use Rattle.std.proofs.Common.{length, subst, sym}
-use Rattle.msg_exec.specs.Prelude.{EachIs, MayBeAdded, RefusesFor, StandsFor}
+use Rattle.std.proofs.Common.{length}
 use Rattle.msg_reading.specs.Prelude.{first_world}
 use Rattle.msg_scenario.proofs.Making.{all_made, may_add, no_clash, no_cycle, same_state}
 use Rattle.msg_scenario.proofs.building.engine_of.Goals as goal
 
 pub new-requires-clause-each : goal.new-requires-clause-each
 new-requires-clause-each g c κs within =
-    let m = g.S.System.meaning in
     let s = c.args.scenario.now in
-    subst (λ ps. EachIs (MayBeAdded m c.in_ok-world.world ps) c.args.systems.items) (sym c.in_ok-places.ensures.places)
-    (may_add m s c.in_ok-world.world c.args.systems.items c.requires.runnable c.in_ok-world.ensures.types
-    c.in_ok-world.ensures.resources c.requires.as_many c.requires.each)
+    rw c.in_ok-places.ensures.places (may_add g.S.System.meaning s c.in_ok-world.world c.args.systems.items
+    c.requires.runnable c.in_ok-world.ensures.types c.in_ok-world.ensures.resources c.requires.as_many c.requires.each)
 
 pub returns-in-Ok : goal.returns-in-Ok
 returns-in-Ok g c =
     let m = g.S.System.meaning in
     let s = c.args.scenario.now in
     record {
-      meaning = subst (λ x. StandsFor m c.in-Ok.engine x)
-          (same_state s _ c.in_ok-places.places.items c.in_ok-rules.rules.items (length c.in_ok-world.world.types)
+      meaning = rw (same_state s _ c.in_ok-places.places.items c.in_ok-rules.rules.items (length c.in_ok-world.world.types)
           (all_made m s c.args.systems.items c.requires.as_many c.requires.each) c.in_ok-places.ensures.places
           c.in_ok-rules.ensures.rules c.in_ok-world.ensures.types)
-          (c.in-Ok.ensures.meaning (first_world s) c.in_ok-world.ensures.meaning);
+          at (c.in-Ok.ensures.meaning (first_world s) c.in_ok-world.ensures.meaning);
     }
 
 pub unreachable-requires : goal.unreachable-requires
 unreachable-requires g c =
-    let m = g.S.System.meaning in
-    no_clash m c.args.scenario.now c.args.systems.items c.in-Err-Clash.field-0-0 c.requires.runnable c.requires.as_many
-    c.requires.each
-    (subst (RefusesFor m c.args.systems.items c.in_ok-rules.rules.items) c.in-Err-Clash.field-0-is
-    c.in-Err-Clash.ensures.refusal)
+    no_clash g.S.System.meaning c.args.scenario.now c.args.systems.items c.in-Err-Clash.field-0-0 c.requires.runnable
+    c.requires.as_many c.requires.each (rw c.in-Err-Clash.field-0-is at c.in-Err-Clash.ensures.refusal)
 
 pub unreachable-requires-in-Err-Cycle : goal.unreachable-requires-in-Err-Cycle
 unreachable-requires-in-Err-Cycle g c =
-    let m = g.S.System.meaning in
-    let refused = subst (RefusesFor m c.args.systems.items c.in_ok-rules.rules.items) c.in-Err-Cycle.field-0-is
-    c.in-Err-Cycle.ensures.refusal in
     no_cycle c.args.scenario.now c.in_ok-rules.rules.items (length c.args.systems.items) c.in-Err-Cycle.field-0-0
-    c.requires.runnable c.in_ok-rules.ensures.rules c.requires.as_many refused.1
+    c.requires.runnable c.in_ok-rules.ensures.rules c.requires.as_many
+    (rw c.in-Err-Cycle.field-0-is at c.in-Err-Cycle.ensures.refusal).1

@@ -1,6 +1,4 @@
-use Rattle.std.proofs.Common.{◌∙◌, false, subst, sym, true}
-use Rattle.msg_world.specs.Prelude.{PartsStand}
-use Rattle.msg_reading.specs.Prelude.{first_world}
+use Rattle.std.proofs.Common.{◌∙◌, false, true}
 use Rattle.msg_scenario.proofs.Making.{stands_held, stands_unheld}
 use Rattle.msg_scenario.proofs.building.world_of.Goals as goal
 use Rattle.msg_scenario.proofs.building.world_of.Goals.{then-scenario, else-scenario}
@@ -12,8 +10,6 @@ returns-clause-meaning c =
     (c.deref.ensures.value ∙ c.in_ok-limits.ensures.limits) (c.deref-2.ensures.value ∙ c.in_ok-values.ensures.values)
     c.in_ok-world.ensures.meaning in
     elim c.if-scenario.branch [
-      | then-scenario w ↦ subst (λ x. PartsStand x (first_world s)) (sym w.world-is)
-          (stands_held s _ true w.if-scenario.true (w.set_held.ensures.meaning _ made))
-      | else-scenario w ↦ subst (λ x. PartsStand x (first_world s)) (sym w.world-is)
-          (stands_held s _ false w.if-scenario.false made)
+      | then-scenario w ↦ rw w.world-is (stands_held s _ true w.if-scenario.true (w.set_held.ensures.meaning _ made))
+      | else-scenario w ↦ rw w.world-is (stands_held s _ false w.if-scenario.false made)
     ]

@@ -1,13 +1,10 @@
-use Rattle.std.proofs.Common.{◌∙◌, ◌++◌, ◌≡◌, ℕ, List, [], ap}
+use Rattle.std.proofs.lemmas.Grind.{common_steps}
+use Rattle.std.proofs.Common.{arith, ◌∙◌}
 use Rattle.std.specs.Io.KnownBytes.{Appends}
 use Rattle.msg_files.specs.Prelude.{AppendsPrefix}
 use Rattle.msg_files.proofs.Puts.{on_err, on_err_then, on_ok_then}
 use Rattle.msg_files.proofs.Running.{AppendsPrefix_whole, OnTheWay_ends, OnTheWay_fails, OnTheWay_more, OnTheWay_stops}
 use Rattle.msg_files.proofs.calls.run.run_calls.Goals as goal
-
--- what is added to nothing stands alone
-alone : (a b c line : List ℕ) → a ≡ b → b ≡ c ++ line → c ≡ [] → a ≡ line
-alone a b c line same added none = same ∙ added ∙ ap (λ l. l ++ line) none
 
 pub returns-in_err-put_text-in-Err-clause-prefix : goal.returns-in_err-put_text-in-Err-clause-prefix
 returns-in_err-put_text-in-Err-clause-prefix g c =
@@ -24,16 +21,14 @@ pub returns-in_err-gather-in-Ok-clause-prefix : goal.returns-in_err-gather-in-Ok
 returns-in_err-gather-in-Ok-clause-prefix g c =
     on_err _ c.from_residual.result _
     (OnTheWay_fails _ _ _ _ _ _ _ c.call-item.result _ c.loop-call.invariant.0 c.loop-call-test.true _ _
-    (λ s are. rw (← c.call-item.is) (alone _ _ _ _ c.as_slice.ensures.value
-    (c.in-Ok.ensures.line s are) c.clear.ensures.items))
+    (λ s are. grind (arith, common_steps, c.call-item.is, c.as_slice.ensures, c.in-Ok.ensures.line s are, c.clear.ensures))
     c.in_err-gather-in-Ok.ensures.prefix)
 
 pub loop-call-preserved : goal.loop-call-preserved
 loop-call-preserved g c = (
   OnTheWay_more _ _ _ _ _ _ _ c.call-item.result _ c.loop-call.invariant.0 c.loop-call-test.true _ _ _ _ _
       (λ s are. rw (← c.call-item.is) (c.in-Ok.ensures.state s are))
-      (λ s are. rw (← c.call-item.is)
-      (alone _ _ _ _ c.as_slice.ensures.value (c.in-Ok.ensures.line s are) c.clear.ensures.items))
+      (λ s are. grind (arith, common_steps, c.call-item.is, c.as_slice.ensures, c.in-Ok.ensures.line s are, c.clear.ensures))
       c.in_ok-gather-in-Ok.ensures.ok,
   c.in_ok-gather-in-Ok.ensures.quiet ∙ c.loop-call.invariant.1,
 )

@@ -1,6 +1,9 @@
 use Rattle.std.proofs.Common.{arith}
+use Rattle.std.proofs.lemmas.Grind.{common_steps}
+use Rattle.std.proofs.lemmas.List.{take_all}
+use Rattle.std.proofs.lemmas.List.FromFn.{length-enumerate_from}
 use Rattle.msg_scenario.specs.Prelude.{next_item}
-use Rattle.msg_scenario.proofs.ReportLines.{numbered_all, numbered_more}
+use Rattle.msg_scenario.proofs.ReportLines.{numbered_more}
 use Rattle.msg_scenario.proofs.reports.reply.add_more.Goals as goal
 
 pub loop-k-preserved : goal.loop-k-preserved
@@ -9,6 +12,4 @@ loop-k-preserved c =
     c.loop-k.invariant c.in_ok-add_item.ensures (omega (arith, c.from-first.ensures)) c.loop-k-test.true
 
 pub returns-clause-appends : goal.returns-clause-appends
-returns-clause-appends c =
-    numbered_all (next_item c.args.scenario.now) c.args.first c.args.items.now c.loop-k.k _ _
-    c.loop-k.invariant (omega (arith, c.loop-k-test.false))
+returns-clause-appends c = grind (arith, common_steps, take_all, length-enumerate_from)

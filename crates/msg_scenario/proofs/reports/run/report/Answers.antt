@@ -1,7 +1,5 @@
-use Rattle.std.proofs.Common.{rules, ◌≡◌, ◌≤◌, ℕ, List, Err, ap, arith, inl, inr, length, refl, subst, sym, ◌∙◌, ◌⊎◌}
-use Rattle.msg_files.specs.declared.report_fault.ReportFault.{ReportFault}
+use Rattle.std.proofs.Common.{rules, Err, ap, arith, inl, inr, length, refl, sym, ◌∙◌}
 use Rattle.std.proofs.lemmas.Result.{err_from_is_err_and}
-use Rattle.msg_frames.specs.declared.frame.Frame.{Frame}
 use Rattle.msg_reading.specs.Prelude.{state_of}
 use Rattle.msg_files.proofs.Puts.{of_err, on_err_then, on_ok_then}
 use Rattle.msg_scenario.proofs.Reporting.{accounts_out, out_printed, readers_put, readers_stopped, report_begun, stopped_before_all, stopped_printed}
@@ -9,21 +7,17 @@ use Rattle.msg_scenario.proofs.reports.run.report.Goals as goal
 
 pub loop-reported-init : goal.loop-reported-init
 loop-reported-init g c = record {
-  so_far = report_begun g.X.System.meaning c.args.scenario.now
-      (g.S.Sink.contents c.args.sink.now) c.args.engine.now c.requires.engine;
+  so_far = report_begun _ _ _ _ c.requires.engine;
   failures = refl;
 }
 
 pub returns-in_default-clause-stopped : goal.returns-in_default-clause-stopped
 returns-in_default-clause-stopped g c cause =
-    stopped_before_all g.X.System.meaning c.args.scenario.now (g.S.Sink.contents c.args.sink.now) c.args.engine.now
-    c.requires.engine
+    stopped_before_all _ _ _ _ c.requires.engine
 
 pub returns-in_default-clause-prefix : goal.returns-in_default-clause-prefix
 returns-in_default-clause-prefix g c =
-    stopped_printed g.X.System.meaning c.args.scenario.now _ _ c.args.engine.now
-    (stopped_before_all g.X.System.meaning c.args.scenario.now (g.S.Sink.contents c.args.sink.now) c.args.engine.now
-    c.requires.engine)
+    stopped_printed _ _ _ _ _ (stopped_before_all g.X.System.meaning _ _ _ c.requires.engine)
 
 pub loop-reported-preserved : goal.loop-reported-preserved
 loop-reported-preserved g c = record {
@@ -40,31 +34,22 @@ pub returns-in_err-report_frame-clause-stopped : goal.returns-in_err-report_fram
 returns-in_err-report_frame-clause-stopped g c cause =
     let passed = err_from_is_err_and c.from_residual.result c.from_residual.ensures.1 in
     c.in_err-report_frame.ensures.stopped
-    (subst (λ r. (r ≡ Err ReportFault.Write) ⊎ (r ≡ Err ReportFault.NoMemory)) (passed.1 ∙ ap Err passed.2) cause)
+    (rw (passed.1 ∙ ap Err passed.2) at cause)
     _ c.loop-reported.invariant.so_far
-
-all_run : (frames items : List Frame) (k : ℕ) → items ≡ frames → k ≤ length items → length items ≤ k → k ≡ length frames
-all_run frames items k same within past = let equal : k ≡ length items = omega arith in equal ∙ ap length same
 
 pub returns-in-Ok-accounts-clause-ok : goal.returns-in-Ok-accounts-clause-ok
 returns-in-Ok-accounts-clause-ok g c =
     on_ok_then c.put_accounts.result _ _
-    (readers_put g.X.System.meaning c.args.scenario.now c.loop-reported.reported _ _ _ c.loop-reported.engine
-    c.as_slice-in-Ok-accounts.result.now
-    c.loop-reported.invariant.so_far
-    (all_run c.args.scenario.now.frames _ _ c.as_slice-reported-end.ensures.items c.loop-reported.auto.reported-end
-    c.loop-reported-test.false)
+    (readers_put _ _ _ _ _ _ _ c.as_slice-in-Ok-accounts.result.now c.loop-reported.invariant.so_far
+    (omega (arith, ap length c.as_slice-reported-end.ensures.items))
     (λ u stands. c.as_slice-in-Ok-accounts.ensures.value ∙ c.in-Ok-accounts.ensures.accounts u stands)
     (c.has_one_run.ensures.complete (state_of c.args.scenario.now) c.requires.engine))
     c.put_accounts.ensures.ok
 
 pub returns-in-Ok-accounts-clause-stopped : goal.returns-in-Ok-accounts-clause-stopped
 returns-in-Ok-accounts-clause-stopped g c cause =
-    readers_stopped g.X.System.meaning c.args.scenario.now c.loop-reported.reported _ _ _ c.loop-reported.engine
-    c.as_slice-in-Ok-accounts.result.now
-    c.loop-reported.invariant.so_far
-    (all_run c.args.scenario.now.frames _ _ c.as_slice-reported-end.ensures.items c.loop-reported.auto.reported-end
-    c.loop-reported-test.false)
+    readers_stopped _ _ _ _ _ _ _ c.as_slice-in-Ok-accounts.result.now c.loop-reported.invariant.so_far
+    (omega (arith, ap length c.as_slice-reported-end.ensures.items))
     (λ u stands. c.as_slice-in-Ok-accounts.ensures.value ∙ c.in-Ok-accounts.ensures.accounts u stands)
     (elim cause [
       | inl write ↦ of_err c.put_accounts.result _ _ write c.put_accounts.ensures.prefix
@@ -74,26 +59,19 @@ returns-in-Ok-accounts-clause-stopped g c cause =
 pub returns-in-Ok-accounts-clause-prefix : goal.returns-in-Ok-accounts-clause-prefix
 returns-in-Ok-accounts-clause-prefix g c =
     on_err_then c.put_accounts.result _ _
-    (λ prefix. stopped_printed g.X.System.meaning c.args.scenario.now _ _ c.loop-reported.engine
-    (readers_stopped g.X.System.meaning c.args.scenario.now c.loop-reported.reported _ _ _ c.loop-reported.engine
-    c.as_slice-in-Ok-accounts.result.now
-    c.loop-reported.invariant.so_far
-    (all_run c.args.scenario.now.frames _ _ c.as_slice-reported-end.ensures.items c.loop-reported.auto.reported-end
-    c.loop-reported-test.false)
+    (λ prefix. stopped_printed _ _ _ _ _
+    (readers_stopped _ _ _ _ _ _ _ c.as_slice-in-Ok-accounts.result.now c.loop-reported.invariant.so_far
+    (omega (arith, ap length c.as_slice-reported-end.ensures.items))
     (λ u stands. c.as_slice-in-Ok-accounts.ensures.value ∙ c.in-Ok-accounts.ensures.accounts u stands) prefix))
     c.put_accounts.ensures.prefix
 
 pub returns-clause-prefix : goal.returns-clause-prefix
 returns-clause-prefix g c =
-    out_printed g.X.System.meaning c.args.scenario.now _ _ c.loop-reported.engine
-    (accounts_out g.X.System.meaning c.args.scenario.now c.loop-reported.reported _ _ c.loop-reported.engine
-    c.loop-reported.invariant.so_far
-    (all_run c.args.scenario.now.frames _ _ c.as_slice-reported-end.ensures.items c.loop-reported.auto.reported-end
-    c.loop-reported-test.false))
+    out_printed _ _ _ _ _
+    (accounts_out _ _ _ _ _ _ c.loop-reported.invariant.so_far
+    (omega (arith, ap length c.as_slice-reported-end.ensures.items)))
 
 pub returns-clause-run : goal.returns-clause-run
 returns-clause-run g c same =
-    accounts_out g.X.System.meaning c.args.scenario.now c.loop-reported.reported _ _ c.loop-reported.engine
-    c.loop-reported.invariant.so_far
-    (all_run c.args.scenario.now.frames _ _ c.as_slice-reported-end.ensures.items c.loop-reported.auto.reported-end
-    c.loop-reported-test.false)
+    accounts_out _ _ _ _ _ _ c.loop-reported.invariant.so_far
+    (omega (arith, ap length c.as_slice-reported-end.ensures.items))

@@ -1,43 +1,32 @@
-use Rattle.std.proofs.Common.{◌∙◌, ap, sym, Err, ◌++◌, ◌∷◌, []}
-use Rattle.std.specs.Prelude.{if◌then◌else◌}
-use Rattle.std.proofs.lemmas.Result.{err_from_is_err_and}
+use Rattle.std.proofs.Common.{arith, append_assoc, [], ◌≡◌, ◌<◌, ℕ, List, length, get_or, drop, map, Some, ap, Err, ◌∙◌}
+use Rattle.std.proofs.lemmas.Grind.{common_steps}
+use Rattle.std.proofs.lemmas.List.{map-append, drop_more}
 use Rattle.serde_json.specs.View.{view}
-use Rattle.msg_files.specs.Prelude.{call_checks, call_of, first_refusal}
+use Rattle.serde_json.specs.declared.value.Value.{Value}
+use Rattle.msg_files.specs.Prelude.{Refusal, call_checks, calls_checks, first_refusal}
+use Rattle.std.proofs.lemmas.Result.{err_from_is_err_and}
 use Rattle.msg_files.proofs.Shapes.{IfErr_at}
-use Rattle.msg_files.proofs.Walks.{CallsLeft-more, CallsLeft-bad, CallsLeft-end}
+use Rattle.msg_files.proofs.Walks.{first_refusal-stands, first_refusal-passed}
 use Rattle.msg_files.proofs.calls.read.file.read_items.Goals as goal
+
+-- a call that is refused refuses the list from it on
+call_refused : (d : Value) (items : List Value) (i made : ℕ) (e : Refusal) → i < length items
+    → first_refusal (call_checks made (view (get_or items i d))) ≡ Some e
+    → first_refusal (calls_checks made (map view (drop i items))) ≡ Some e
+call_refused d items i made e lt is =
+    rw (drop_more items i d lt) (first_refusal-stands (call_checks made (view (get_or items i d))) _ e is)
 
 pub returns-in_err-call-clause-refused : goal.returns-in_err-call-clause-refused
 returns-in_err-call-clause-refused c =
     let passed = err_from_is_err_and c.from_residual.result c.from_residual.ensures.1 in
-    let refused = c.in_err-call.ensures.is in
-    let left = c.loop-item.invariant in
-    let value = c.item-item.result in
-    let e = c.in_err-call.field-0.0 in
-    IfErr_at c.from_residual.result e _ (passed.1 ∙ ap (λ f. Err f) passed.2) (
-      refused.0,
-      λ m. CallsLeft-bad c.args.items.now c.loop-item.item-index value c.loop-item.calls.items
-          c.loop-item.made e left c.loop-item-test.true
-          (ap (λ v. first_refusal (call_checks c.loop-item.made (view v))) (sym c.item-item.is) ∙ refused.1 m),
+    IfErr_at c.from_residual.result c.in_err-call.field-0.0 _ (passed.1 ∙ ap (λ f. Err f) passed.2) (
+      c.in_err-call.ensures.is.0,
+      λ m. c.loop-item.invariant.passed ∙ call_refused c.item-item.result _ _ _ _ c.loop-item-test.true (rw (← c.item-item.is) (c.in_err-call.ensures.is.1 m)),
     )
 
 pub loop-item-preserved : goal.loop-item-preserved
 loop-item-preserved c =
-    let value = c.item-item.result in
-    let call = c.in_ok-call.call in
-    let calls = c.loop-item.calls.items in
-    let made = c.loop-item.made in
-    let is = c.in_ok-call.ensures.is in
-    let fits = c.in_ok-call.ensures.fits in
-    let pushed = c.push.ensures.items
-    ∙ ap (λ b. if b then calls ++ call ∷ [] else calls) c.if-is_err.ensures.negation in
-    rw (pushed, c.cursors_made-made.ensures) (CallsLeft-more c.args.items.now
-    c.loop-item.item-index value calls made call c.loop-item.invariant c.loop-item-test.true
-    (ap (λ v. first_refusal (call_checks made (view v))) (sym c.item-item.is) ∙ is.0)
-    (ap (λ v. call_of (view v)) (sym c.item-item.is) ∙ is.1)
-    fits.0 (fits.1 c.loop-item.invariant.room))
+    grind (arith, common_steps, c.item-item.is, drop_more, map-append, first_refusal-passed, append_assoc)
 
 pub returns-clause-exist : goal.returns-clause-exist
-returns-clause-exist c =
-    (CallsLeft-end c.args.items.now c.loop-item.item-index c.loop-item.calls.items c.loop-item.made
-    c.loop-item.invariant c.loop-item-test.false).2
+returns-clause-exist c = grind (arith, common_steps, c.loop-item.invariant.cursors [])
