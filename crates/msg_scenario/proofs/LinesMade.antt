@@ -13,7 +13,7 @@ use Rattle.msg_reading.specs.declared.scenario.Scenario.{Scenario}
 use Rattle.msg_reading.specs.declared.scenario.SystemSpec.{SystemSpec}
 use Rattle.msg_scenario.specs.Prelude.{op_start, ops_text, outcome_text, turn_text}
 use Rattle.msg_scenario.specs.declared.reports.lines.SystemLines.{SystemLines}
-use Rattle.msg_scenario.specs.inner.Lines.{AreLines, finished_line, finished_outcome, finished_turn, lines_of, made}
+use Rattle.msg_scenario.specs.inner.Lines.{AreLines, finished_line, finished_outcome, finished_turn, lines_of, texts_in}
 
 -- the lines of ops, by their starts
 ops_of_starts : (s : Scenario) (name : Text) (starts : List (Vec ℕ)) (ops : List Op) (answers : List Reply)
@@ -27,13 +27,13 @@ ops_of_starts s name (start ∷ starts) (op ∷ ops) (answer ∷ answers) same =
     grind (arith, ops_of_starts s name starts ops answers)
 
 outcome_of_lines : (s : Scenario) (lines : SystemLines) (system : SystemSpec) (outcome : Outcome)
-    → made lines ≡ lines_of s system → finished_outcome s lines outcome ≡ outcome_text s system outcome
+    → texts_in lines ≡ lines_of s system → finished_outcome s lines outcome ≡ outcome_text s system outcome
 outcome_of_lines s lines system Skipped same = ap (λ m. m.0) same
 outcome_of_lines s lines system (Ran answers) same =
     ops_of_starts s system.name lines.starts.items system.program.ops answers (ap (λ m. m.1) same)
 
 outcome_of_number : (s : Scenario) (lines : List SystemLines) (systems : List SystemSpec) (n : ℕ) (outcome : Outcome)
-    → map made lines ≡ map (lines_of s) systems
+    → map texts_in lines ≡ map (lines_of s) systems
     → option_map_or (λ l. finished_outcome s l outcome) (slice_get lines n) []
     ≡ option_map_or (λ system. outcome_text s system outcome) (slice_get systems n) []
 outcome_of_number s [] [] n outcome same = refl

@@ -16,13 +16,13 @@ abbrev pub lines_of : Scenario → SystemSpec → Text × List Text
 lines_of s system =
     (system.name ++ codes " skipped\n", map (op_start s system.name) system.program.ops)
 
--- what was made of a system
-abbrev pub made : SystemLines → Text × List Text
-made lines = (lines.skipped.items, map (λ start. start.items) lines.starts.items)
+-- the texts that were made of a system
+abbrev pub texts_in : SystemLines → Text × List Text
+texts_in lines = (lines.skipped.items, map (λ start. start.items) lines.starts.items)
 
 -- they are those of the systems of the scenario
 abbrev pub AreLines : Scenario → List SystemLines → Type 0
-AreLines s lines = map made lines ≡ map (lines_of s) s.systems
+AreLines s lines = map texts_in lines ≡ map (lines_of s) s.systems
 
 -- a line by its start
 abbrev pub finished_line : Scenario → Text → Reply → Text

@@ -1,7 +1,7 @@
 // What the lines of a system's turns begin with, which is the same in each frame.
 ghost use Rattle.std.specs.Prelude.{◌≡◌, ◌++◌, IfOk, codes, map};
 ghost use Rattle.msg_scenario.specs.Prelude.{op_start};
-ghost use Rattle.msg_scenario.specs.inner.Lines.{AreLines, lines_of, made};
+ghost use Rattle.msg_scenario.specs.inner.Lines.{AreLines, lines_of, texts_in};
 
 use crate::reports::names::add_name;
 use crate::reports::op::add_op;
@@ -61,7 +61,7 @@ fn system_lines(
     scenario: &Scenario,
     system: &SystemSpec,
 ) -> Result<SystemLines, NoMemory>
-    ensures made { IfOk result (λ lines. made lines ≡ lines_of scenario.now system.now) }
+    ensures made { IfOk result (λ lines. texts_in lines ≡ lines_of scenario.now system.now) }
 {
     let skipped = skipped_of(alloc, &system.name)?;
     let starts = starts_of(alloc, scenario, &system.name, system.program.ops.as_slice())?;

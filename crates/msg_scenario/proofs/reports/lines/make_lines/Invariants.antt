@@ -1,7 +1,7 @@
 use Rattle.std.proofs.Common.{◌≡◌, map, take}
-use Rattle.msg_scenario.specs.inner.Lines.{lines_of, made}
+use Rattle.msg_scenario.specs.inner.Lines.{lines_of, texts_in}
 use Rattle.msg_scenario.proofs.reports.lines.make_lines.Given as goal
 
 abbrev pub invariant-loop-system : goal.invariant-loop-system
 invariant-loop-system l =
-    map made l.lines.items ≡ map (lines_of l.scenario) (take l.system-index l.systems)
+    map texts_in l.lines.items ≡ map (lines_of l.scenario) (take l.system-index l.systems)
