@@ -10,7 +10,7 @@ use Rattle.msg_order.specs.Prelude.{NoneConflict, access_of}
 use Rattle.msg_system.specs.Prelude.{Agree, HasFootprint, IsAccessOf, JobFootprint, needs_any}
 use Rattle.msg_frames.specs.Prelude.{AfterTurn, AfterTurns, AreAccessesOf, BatchesRunSideBySide, FramesRunByBatches, Member, Outcome, SameSystems, State, after_turn_of, after_turns_of, all_home, by_batches, home, logged_turn, member_turn, needs_of, turn_of, with_member}
 use Rattle.msg_frames.proofs.SystemsStay.{accesses_stay, turns_keep_systems}
-use Rattle.msg_frames.proofs.ElementsAndPairs.{all_left, all_right, pairs_head, pairs_left, pairs_right, pairs_tail}
+use Rattle.msg_frames.proofs.ElementsAndPairs.{all_left, all_right, pairs_left, pairs_right, pairs_tail}
 use Rattle.msg_frames.proofs.TurnsCommute.{Apart, apart, given_by_turn, same_world, turn_footprint, with_member_other}
 
 -- ---- what comes home
@@ -29,9 +29,9 @@ record Untouched (start s : State) (i : ℕ) : Type 0 where
 module _ (foot : JobFootprint) (accesses : List Access) (start : State) (are : AreAccessesOf start accesses) where
   given_same : (s : State) (i : ℕ) → Untouched start s i → given_by_turn (turn_of s i) ≡ given_by_turn (turn_of start i)
   given_same s i h =
-      ap (λ m. given_by_turn (member_turn m s.world)) h.member
-      ∙ (turn_footprint foot (start.members i)).same (needs_any (needs_of (start.members i))) s.world start.world
-      (λ p u. u) h.world
+      rw (h.member)
+      ((turn_footprint foot (start.members i)).same (needs_any (needs_of (start.members i))) s.world start.world
+      (λ p u. u) h.world)
 
   -- what the access writes is as the turn on `start` leaves it, and all else as it was
   world_same : (s : State) (i : ℕ) → i < start.systems → Untouched start s i → (turn_of s i).world
@@ -83,19 +83,18 @@ module _ (foot : JobFootprint) (accesses : List Access) (start : State) (are : A
       × ((after_turns_of batch s).state ≡ all_home accesses start batch s)
   from_start [] s below once none same = (refl, refl)
   from_start (i ∷ is) s below once none same =
-      let here : Untouched start s i = All-head (Untouched start s) i is same in
-      let li : i < start.systems = All-head (λ i. i < start.systems) i is below in
-      let rest = from_start is (after_turn_of i s) (All-tail (λ i. i < start.systems) i is below)
+      let here : Untouched start s i = same 0 i (omega arith) in
+      let li : i < start.systems = below 0 i (omega arith) in
+      let rest = from_start is (after_turn_of i s) (λ k d lt. below (suc k) d (omega arith))
       (pairs_tail (λ i j. i ≢ j) i is once)
       (pairs_tail (λ i j. ¬ Conflict (access_of accesses i) (access_of accesses j)) i is none)
       (λ k d lt. still s i (slice_index_or is k d) li (below (suc k) d (omega arith))
-      (pairs_head (λ i j. i ≢ j) i is once k d lt)
-      (pairs_head (λ i j. ¬ Conflict (access_of accesses i) (access_of accesses j)) i is none k d lt) here
-      (same (suc k) d (omega arith))) in (
-        ap (λ (g : Member × Outcome). record { system = i; outcome = g.1 }
-            ∷ (after_turns_of is (after_turn_of i s)).turns) (given_same s i here)
-            ∙ ap (λ turns. logged_turn start i ∷ turns) rest.0,
-        rest.1 ∙ ap (all_home accesses start is) (turn_is_home s i li here),
+      (once 0 (suc k) d (omega arith) (omega arith)) (none 0 (suc k) d (omega arith) (omega arith)) here
+      (same (suc k) d (omega arith))) in
+      rw (← turn_is_home s i li here, rest.0, rest.1) (
+        ap (λ (g : Member × Outcome). record { system = i; outcome = g.1 } ∷ map (logged_turn start) is)
+            (given_same s i here),
+        refl,
       )
 
 pub side_by_side : JobFootprint → BatchesRunSideBySide

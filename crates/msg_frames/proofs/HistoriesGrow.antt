@@ -1,5 +1,5 @@
 -- Whatever a run does, each type's history goes on.
-use Rattle.std.proofs.Common.{ℕ, zero, suc, ℤ, ◌≤◌, List, [], ◌∷◌, map, Option, None, Some, refl, sym, subst, append-nil, append_assoc, length-append, arith}
+use Rattle.std.proofs.Common.{ℕ, zero, suc, ℤ, ◌≤◌, List, [], ◌∷◌, map, Option, None, Some, refl, sym, append-nil, append_assoc, length-append, arith}
 use Rattle.std.proofs.lemmas.Bool.{cases_Bool, cases_eq, eq-eqb, ne_eqb}
 use Rattle.msg_buffer.specs.Prelude.{ClearsFit, GoesOn, History, IsSound, OnlyGrows, ReadsFit, clear, count, write}
 use Rattle.msg_world.specs.declared.record.Record.{Record}
@@ -7,7 +7,7 @@ use Rattle.msg_world.specs.Prelude.{WorldState, after_update, by, with_history}
 use Rattle.msg_system.specs.declared.op.Op.{Op}
 use Rattle.msg_system.specs.declared.op.Op.TheVariants.{Write, Batch, Forward, Drain}
 use Rattle.msg_system.specs.Prelude.{AfterProgram, Job, Meaning, after_at_most, after_job, after_op, again_by, next_op, one_more, took, turn}
-use Rattle.msg_frames.specs.Prelude.{Frame, ListsOnlyGrow, State, after_posts, after_turn_of, after_turns_of, before_turns, frame_in, joining, systems_in}
+use Rattle.msg_frames.specs.Prelude.{Frame, ListsOnlyGrow, State, after_posts, after_turn_of, after_turns_of, before_turns, frame_in, systems_in}
 use Rattle.msg_frames.proofs.SystemsStay.{joining_world}
 
 -- What the laws of buffers say of the world's types.
@@ -107,11 +107,8 @@ module _ (grow : OnlyGrows Record) where
   update_goes_on w = grind (arith, cases_Bool, world_stays)
 
   pub before_goes_on : (posts : List (ℕ × ℤ)) (s : State) → WorldGoesOn s.world (before_turns posts s).world
-  before_goes_on posts s =
-      let ready : WorldState = (joining s).world in
-      subst (λ w. WorldGoesOn w (after_posts posts (after_update ready))) (joining_world s)
-      (world_goes_further ready (after_update ready) (after_posts posts (after_update ready)) (update_goes_on ready)
-      (posts_go_on posts (after_update ready)))
+  before_goes_on posts s = rw (joining_world s) (world_goes_further s.world (after_update s.world)
+      (after_posts posts (after_update s.world)) (update_goes_on s.world) (posts_go_on posts (after_update s.world)))
 
   pub frame_goes_on : (order : List ℕ) (frame : Frame) (s : State)
       → WorldGoesOn s.world (frame_in order frame s).state.world
@@ -120,10 +117,8 @@ module _ (grow : OnlyGrows Record) where
       (before_goes_on frame.posts s) (turns_go_on order (before_turns frame.posts s))
 
   pub runs_go_on : ListsOnlyGrow
-  runs_go_on [] s u [] run = subst (λ (x : State). WorldGoesOn s.world x.world) (sym run) (world_stays s.world)
+  runs_go_on [] s u [] run = rw run (world_stays s.world)
   runs_go_on (frame ∷ frames) s u (log ∷ logs) run =
-      let next : State = run.0 in
-      world_goes_further s.world next.world u.world
-      (subst (λ (x : State). WorldGoesOn s.world x.world) (sym run.1.leaves) (frame_goes_on (systems_in log) frame s))
-      (runs_go_on frames next u logs run.2)
+      world_goes_further s.world (run.0).world u.world (rw (run.1.leaves) (frame_goes_on (systems_in log) frame s))
+      (runs_go_on frames run.0 u logs run.2)
   runs_go_on frames s u logs run = absurd run

@@ -1,9 +1,9 @@
 -- What a reader goes past by an op, by a turn and by a job.
-use Rattle.std.proofs.Common.{◌≡◌, ℕ, zero, suc, ◌+◌, ◌≤◌, List, [], ◌∷◌, ◌++◌, append_assoc, map, length, take, drop, All, Option, None, Some, refl, sym, ap, subst, arith, inl, inr, cond, ◌==◌}
-use Rattle.std.proofs.lemmas.Bool.{cases_eq, eq-eqb, ne_eqb, cases_Bool}
+use Rattle.std.proofs.Common.{◌≡◌, ℕ, zero, suc, ◌≤◌, List, [], ◌∷◌, ◌++◌, append_assoc, map, length, All, Option, None, Some, refl, sym, ap, subst, arith, inl, inr, cond, ◌==◌}
+use Rattle.std.proofs.lemmas.Bool.{cases_Bool}
 use Rattle.std.proofs.lemmas.List.{append-nil, length-append, length-map, map-append}
 use Rattle.std.proofs.lemmas.List.Elements.{All-append, All-cons, All-nil, All-weaker}
-use Rattle.msg_buffer.specs.Prelude.{Fits, GoesOn, History, IsSound, Stretch, Tile, count, given, instances, message_of, next_place, pass_over, read}
+use Rattle.msg_buffer.specs.Prelude.{Fits, GoesOn, History, IsSound, Stretch, Tile, count, given, message_of, next_place, pass_over, read}
 use Rattle.msg_world.specs.declared.record.Record.{Record}
 use Rattle.msg_world.specs.Prelude.{WorldState}
 use Rattle.msg_system.specs.declared.op.Op.{Op}
@@ -13,6 +13,7 @@ use Rattle.msg_system.specs.Prelude.{AfterProgram, Job, Meaning, after_at_most, 
 use Rattle.msg_system.proofs.Turns.{ops_answered-snoc}
 use Rattle.msg_frames.specs.Prelude.{Entry, GivesItsStretch, Moment, answers, entries_for, entry_for, entry_of_read, first_moments, job_moments, next_moments, outcome_entries, outcome_of, turn_moments}
 use Rattle.msg_frames.proofs.HistoriesGrow.{BufferLaws, counts_more, goes_further, op_goes_on, stays}
+use Rattle.std.proofs.lemmas.Bool.Decides.{eqb_tells}
 
 -- a moment, as a tile of the buffers' laws
 abbrev pub tile_of : Moment → History Record × Stretch
@@ -33,8 +34,8 @@ pub record Passes (place : ℕ) (old : History Record) (ms : List Moment) (next 
 
 tile-append : (p : ℕ) (xs : List (History Record × Stretch)) (q : ℕ) (ys : List (History Record × Stretch)) (r : ℕ)
     → Tile p xs q → Tile q ys r → Tile p (xs ++ ys) r
-tile-append p [] q ys r a b = subst (λ n. Tile n ys r) (sym a) b
-tile-append p (x ∷ xs) q ys r a b = (a.0, tile-append (next_place x.1) xs q ys r a.1 b)
+tile-append p [] q ys r a b = rw a b
+tile-append p (x ∷ xs) q ys r a b = grind (arith, tile-append (next_place x.1) xs q ys r)
 
 -- first these moments, and then those
 pub passes_further : (p : ℕ) (a : History Record) (ms : List Moment) (q : ℕ) (b : History Record) (ns : List Moment)
@@ -76,20 +77,9 @@ module _ (laws : BufferLaws) where
       (next_place (read h place limit)) b
   read_passes h b place limit sound within goes =
       let law = laws.reads h place limit sound in
-      let long : length (map message_of (given h place limit))
-      ≡ length (given h place limit) = length-map (given h place limit) message_of in
-      let place_same : next_place (entry_of_read (took h place limit)).stretch
-      ≡ next_place (read h place _) = ap (λ n. (read h place limit).first + n) long in
-      subst (λ n. Passes place h (record { history = h; entry = entry_of_read (took h place limit) } ∷ []) n b)
-      place_same
-      (passes_one _ _ _ _
-      (subst (λ n. Fits h place (record
-      { missed = (read h place limit).missed; first = (read h place limit).first; number = n })) (sym long) law.0)
-      (subst (λ n. n ≤ count h) (sym place_same) (law.2 within))
-      (subst (λ n. map message_of (given h place limit)
-      ≡ map message_of (take n (drop (read h place limit).first (instances h)))) (sym long)
-      (ap (map message_of) law.1))
-      goes)
+      rw (length-map (given h place limit) message_of)
+      (passes_one place h (record { stretch = read h place limit; given = Some _ }) b law.0 (law.2 within)
+      (ap (map message_of) law.1) goes)
 
   abbrev cleared_entry : History Record → ℕ → Entry
   cleared_entry h place = record { stretch = pass_over h place; given = None }
@@ -98,41 +88,28 @@ module _ (laws : BufferLaws) where
       → Passes place h (record { history = h; entry = cleared_entry h place } ∷ []) (count h) b
   clear_passes h b place sound within goes =
       let law = laws.clears h place sound in
-      let to : next_place (pass_over h place) ≡ count h = law.1 within in
-      subst (λ n. Passes place h (record { history = h; entry = cleared_entry h place } ∷ []) n b) to
-      (passes_one _ _ _ _ law.0 (omega arith) tt goes)
+      rw (law.1 within) at (passes_one place h (cleared_entry h place) b law.0 (omega (arith, law.1 within)) tt goes)
 
   -- an op that reads type u
   of_type : (u t : ℕ) (w : WorldState) (v : History Record) (ps : ℕ → ℕ) (e : Entry) (q : ℕ)
       → ps t ≤ count (w.histories t) → GoesOn (w.histories t) v
-      → (u ≡ t → Passes (ps u) (w.histories u) (record { history = w.histories u; entry = e } ∷ []) q v)
+      → (u ≡ t → Passes (ps t) (w.histories t) (record { history = w.histories t; entry = e } ∷ []) q v)
       → Passes (ps t) (w.histories t) (moments_if u t w e) (with_place ps u q t) v
-  of_type u t w v ps e q within goes passes = elim (cases_eq u t) [
-    | inl same ↦ rw (eq-eqb u t same, eq-eqb t u (sym same))
-        (subst (λ x. Passes (ps x) (w.histories x) (record { history = w.histories x; entry = e } ∷ []) q v) same
-        (passes same))
-    | inr other ↦ rw (ne_eqb u t other, ne_eqb t u (λ x. other (sym x))) (passes_nothing _ _ _ within goes)
-  ]
+  of_type u t w v ps e q within goes passes =
+      grind (arith, eqb_tells, passes_nothing (ps t) (w.histories t) v within goes)
 
   of_read : (u t : ℕ) (w : WorldState) (v : History Record) (ps : ℕ → ℕ) (limit : Option ℕ) → IsSound (w.histories t)
       → ps t ≤ count (w.histories t) → GoesOn (w.histories t) v
       → Passes (ps t) (w.histories t) (moments_if u t w (entry_of_read (took (w.histories u) (ps u) limit)))
       (with_place ps u (next_place (read (w.histories u) (ps u) limit)) t) v
   of_read u t w v ps limit sound within goes =
-      of_type u t w v ps (entry_of_read (took (w.histories u) (ps u) limit))
-      (next_place (read (w.histories u) (ps u) limit)) within goes
-      (λ e. read_passes (w.histories u) v (ps u) limit (subst (λ x. IsSound (w.histories x)) (sym e) sound)
-      (subst (λ x. ps x ≤ count (w.histories x)) (sym e) within) (subst (λ x. GoesOn (w.histories x) v) (sym e) goes))
+      of_type u t w v ps _ _ within goes (λ e. rw e (read_passes _ v _ limit sound within goes))
 
   of_clear : (u t : ℕ) (w : WorldState) (ps : ℕ → ℕ) → IsSound (w.histories t) → ps t ≤ count (w.histories t)
       → Passes (ps t) (w.histories t) (moments_if u t w (cleared_entry (w.histories u) (ps u)))
       (with_place ps u (count (w.histories u)) t) (w.histories t)
   of_clear u t w ps sound within =
-      of_type u t w (w.histories t) ps (cleared_entry (w.histories u) (ps u)) (count (w.histories u)) within
-      (stays (w.histories t) sound)
-      (λ e. clear_passes (w.histories u) (w.histories t) (ps u) (subst (λ x. IsSound (w.histories x)) (sym e) sound)
-      (subst (λ x. ps x ≤ count (w.histories x)) (sym e) within)
-      (subst (λ x. GoesOn (w.histories x) (w.histories t)) (sym e) (stays (w.histories t) sound)))
+      of_type u t w _ ps _ _ within (stays _ sound) (λ e. rw e (clear_passes _ _ _ sound within (stays _ sound)))
 
   -- an op that reads type u and goes past nothing
   of_type_nothing : (u t : ℕ) (w : WorldState) (ps : ℕ → ℕ) → IsSound (w.histories t) → ps t ≤ count (w.histories t)
@@ -160,25 +137,19 @@ module _ (laws : BufferLaws) where
       → far.places t ≤ count (far.state.histories t)
       → Passes (far.places t) (far.state.histories t) (next_moments t o writer far) ((one_more o writer far).places t)
       ((one_more o writer far).state.histories t)
-  next_passes t None writer far sound within = passes_nothing (far.places t) (far.state.histories t)
-      (far.state.histories t) within (stays (far.state.histories t) sound)
+  next_passes t None writer far sound within = passes_nothing _ _ _ within (stays _ sound)
   next_passes t (Some op) writer far sound within = op_passes t op writer far.places far.state sound within
 
   pub first_passes : (t n : ℕ) (m : Meaning) (w : WorldState) → IsSound (w.histories t)
       → m.places t ≤ count (w.histories t) →
       let far : AfterProgram = after_at_most n (next_op m) m.writer m.places w in Passes (m.places t) (w.histories t)
       (first_moments t n m w) (far.places t) (far.state.histories t)
-  first_passes t zero m w sound within = passes_nothing (m.places t) (w.histories t) (w.histories t) within
-      (stays (w.histories t) sound)
+  first_passes t zero m w sound within = passes_nothing _ _ _ within (stays _ sound)
   first_passes t (suc n) m w sound within =
       let far : AfterProgram = after_at_most n (next_op m) m.writer m.places w in
-      let next : Option Op = next_op m far.replies in
-      let so_far : Passes (m.places t) (w.histories t) (first_moments t n m w) (far.places t) (far.state.histories t) =
-      first_passes t n m w sound within in
-      passes_further (m.places t) (w.histories t) (first_moments t n m w) (far.places t) (far.state.histories t)
-      (next_moments t next m.writer far) ((one_more next m.writer far).places t)
-      ((one_more next m.writer far).state.histories t) so_far
-      (next_passes t next m.writer far so_far.goes_on.sound so_far.within)
+      let so_far = first_passes t n m w sound within in
+      passes_further _ _ _ _ _ _ _ _ so_far
+      (next_passes t (next_op m far.replies) m.writer far so_far.goes_on.sound so_far.within)
 
   turn_passes : (t : ℕ) (m : Meaning) (w : WorldState) → IsSound (w.histories t) → m.places t ≤ count (w.histories t)
       → Passes (m.places t) (w.histories t) (turn_moments t m w) ((turn m w).places t) ((turn m w).state.histories t)
@@ -193,8 +164,7 @@ module _ (laws : BufferLaws) where
       ((after_job j w).state.histories t)
   job_passes t j w sound within = elim (cases_Bool (all_hold j.conditions w)) [
     | inl e ↦ rw e (turn_passes t j.system w sound within)
-    | inr e ↦ rw e (passes_nothing (j.system.places t) (w.histories t) (w.histories t) within
-        (stays (w.histories t) sound))
+    | inr e ↦ rw e (passes_nothing _ _ _ within (stays _ sound))
   ]
 
 -- ---- the entries that the replies of a turn tell of are its moments
@@ -245,4 +215,4 @@ job_logged t j w = grind (arith, append-nil, cases_Bool, turn_entries)
 pub job_rule : (j : Job) (w : WorldState) → (after_job j w).job.system.rule
     ≡ (λ (later : List (List Reply)) (now : List Reply). j.system.rule
     (answers (outcome_of (after_job j w).replies) ++ later) now)
-job_rule j w = elim (cases_Bool (all_hold j.conditions w)) [ inl e ↦ rw e refl | inr e ↦ rw e refl ]
+job_rule j w = grind (arith, cases_Bool)

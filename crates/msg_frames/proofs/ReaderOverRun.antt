@@ -1,20 +1,19 @@
 -- What a reader goes past over a run of frames.
 use Rattle.std.proofs.Common.{arith, ◌≡◌, ℕ, ◌<◌, List, [], ◌∷◌, ◌++◌, map, refl, sym, ap, subst, ◌∙◌}
 use Rattle.std.specs.Prelude.{IsTrue, IsFalse}
-use Rattle.std.proofs.lemmas.Bool.{false≢true}
 use Rattle.msg_buffer.specs.Prelude.{GoesOn, History}
 use Rattle.msg_world.specs.declared.record.Record.{Record}
-use Rattle.msg_system.specs.Prelude.{Needs, Rule}
-use Rattle.msg_frames.specs.Prelude.{Entry, Frame, IsGivenOnce, IsInOrderOf, IsRun, IsServed, IsSoundState, Log, Member, Moment, RunsAreComplete, State, answers_in, before_turns, counts, entries_told, found_at, found_totals, frame_in, has_begun, joined_member, log_entries, moments, place_of, systems_in, totals_from, turns_moments, with_entries}
+use Rattle.msg_frames.specs.Prelude.{Entry, Frame, IsGivenOnce, IsInOrderOf, IsRun, IsServed, IsSoundState, Log, Moment, RunsAreComplete, State, answers_in, before_turns, found_at, found_totals, frame_in, has_begun, log_entries, moments, place_of, systems_in, totals_from, turns_moments, with_entries, SameSystems}
 use Rattle.msg_frames.proofs.OneFateEach.{lies_between, meets_one_fate, missed_are_dropped}
 use Rattle.msg_frames.proofs.TilesGiveInOrder.{all_as_written, given_in_order, in_order_of}
 use Rattle.msg_frames.proofs.HistoriesGrow.{BufferLaws, goes_further, runs_go_on, stays}
 use Rattle.msg_frames.proofs.SystemsStay.{before_keeps, turns_keep}
 use Rattle.msg_frames.proofs.ReaderOverJob.{Passes, passes_nothing}
 use Rattle.msg_frames.proofs.EntriesAddUp.{tiles_add_up, with_entries-none}
-use Rattle.msg_frames.proofs.ReaderOverTurns.{Keeps, Reads, Tells, after_told, answers_among, no_moments, reads_further, tells_further, turns_read, turns_tell}
+use Rattle.msg_frames.proofs.ReaderOverTurns.{Keeps, Reads, Tells, answers_among, no_moments, reads_further, tells_further, turns_read, turns_tell}
 use Rattle.msg_frames.proofs.BeforeTurns.{Prepares, before_rule, comes, prepares, stood, waits}
 use Rattle.msg_frames.proofs.StatesStaySound.{begun_alike, frame_sound, has_no_turn, prepared_sound}
+use Rattle.msg_system.specs.declared.reply.Reply.{Reply}
 
 -- a run of frames, as one frame and then the others, from the state that the frame leaves
 pub after_first : (frame : Frame) (frames : List Frame) (s : State) (log : Log) (logs : List Log) (u : State)
@@ -24,34 +23,22 @@ after_first frame frames s log logs u is = subst (λ m. IsRun frames m logs u) i
 
 -- ---- the entries that the logs have
 
-frame_tells : (i t : ℕ) (frame : Frame) (s : State) (log : Log) → log ≡ (frame_in (systems_in log) frame s).log
-    → Tells i t s (answers_among i log.turns) (turns_moments i t (systems_in log) (before_turns frame.posts s))
-    (frame_in (systems_in log) frame s).state
-frame_tells i t frame s log is =
-    let b : State = before_turns frame.posts s in
-    let ms : List Moment = turns_moments i t (systems_in log) b in
-    let own = turns_tell i t (systems_in log) b in
-    let kept = ((before_keeps frame.posts s).members i).needs in
-    let same : answers_among i (frame_in (systems_in log) frame s).log.turns
-    ≡ answers_among i log.turns = ap (λ (l : Log). answers_among i l.turns) (sym is) in
-    subst (λ turns. Tells i t s turns ms (frame_in (systems_in log) frame s).state) same (record {
-      entries =
-          ap (λ (z : Needs × Rule). entries_told t z.0 z.1
-          (answers_among i (frame_in (systems_in log) frame s).log.turns))
-          (λ k. (sym kept k, sym (before_rule frame.posts s i) k)) ∙ own.entries;
-      rule = own.rule ∙ ap (after_told (answers_among i (frame_in (systems_in log) frame s).log.turns))
-          (before_rule frame.posts s i);
-      needs = own.needs ∙ kept;
-    })
+tells_since : (i t : ℕ) (s b : State) (turns : List (List Reply)) (ms : List Moment) (u : State)
+    → SameSystems s b → (b.members i).job.system.rule ≡ (s.members i).job.system.rule → Tells i t b turns ms u
+    → Tells i t s turns ms u
+tells_since i t s b turns ms u same rule x = grind (arith, (same.members i).needs)
 
 pub run_tells : (i t : ℕ) (frames : List Frame) (s : State) (logs : List Log) (u : State) → IsRun frames s logs u
     → Tells i t s (answers_in i logs) (moments i t frames logs s) u
 run_tells i t [] s [] u is = grind arith
 run_tells i t (frame ∷ frames) s (log ∷ logs) u is =
-    let m : State = (frame_in (systems_in log) frame s).state in
-    tells_further i t s (answers_among i log.turns) (turns_moments i t (systems_in log) (before_turns frame.posts s)) m
-    (answers_in i logs) (moments i t frames logs m) u (frame_tells i t frame s log is.1.tells)
-    (run_tells i t frames m logs u (after_first frame frames s log logs u is))
+    let b : State = before_turns frame.posts s in
+    let here = tells_since i t s b _ _ _ (before_keeps frame.posts s) (before_rule frame.posts s i)
+    (turns_tell i t (systems_in log) b) in
+    tells_further i t s _ _ _ _ _ u
+    (subst (λ (l : Log). Tells i t s (answers_among i l.turns) (turns_moments i t (systems_in log) b)
+    (frame_in (systems_in log) frame s).state) (sym is.1.tells) here)
+    (run_tells i t frames _ logs u (after_first frame frames s log logs u is))
 run_tells i t frames s logs u is = absurd is
 
 -- ---- a reader that has joined
@@ -74,6 +61,10 @@ pub record Follows (i t : ℕ) (s : State) (ms : List Moment) (u : State) : Type
   pub totals : (u.members i).totals t ≡ with_entries (map (λ m. m.entry) ms) (found_totals s u i t)
 
 module _ (i t : ℕ) where
+  reads_joined : (s : State) (ms : List Moment) (u : State) → IsTrue (has_begun s i) → Follows i t s ms u
+      → Reads i t s ms u
+  reads_joined s ms u has x = grind arith
+
   follows_joined : (s : State) (ms : List Moment) (u : State) → IsTrue (has_begun s i) → Reads i t s ms u
       → Follows i t s ms u
   follows_joined s ms u has x = grind arith
@@ -90,46 +81,10 @@ module _ (i t : ℕ) where
   follows_since s m ms u isnt wasnt goes x = grind (arith, passes_since)
 
 module _ (laws : BufferLaws) (i t : ℕ) where
-  -- the turns of a frame
-  frame_reads : (frame : Frame) (order : List ℕ) (s : State) → IsSoundState s → t < s.types
-      → Reads i t (before_turns frame.posts s) (turns_moments i t order (before_turns frame.posts s))
-      (frame_in order frame s).state
-  frame_reads frame order s sound below =
-      let b : State = before_turns frame.posts s in
-      let prep : Prepares s b = prepares laws.grow frame.posts s in
-      let ready : IsSoundState b = prepared_sound s b sound prep in
-      let under : t < b.types = subst (λ n. t < n) (sym prep.same.types) below in
-      turns_read laws i t order b (ready.histories t under) (ready.places i t under)
-
-  run_reads : (frames : List Frame) (s : State) (logs : List Log) (u : State) → IsSoundState s → IsRun frames s logs u
-      → t < s.types → IsTrue (has_begun s i)
-      → Reads i t s (moments i t frames logs s) u
-  run_reads [] s [] u sound is below has = grind (arith, passes_nothing, stays, with_entries-none)
-  run_reads (frame ∷ frames) s (log ∷ logs) u sound is below has =
-      let b : State = before_turns frame.posts s in
-      let m : State = (frame_in (systems_in log) frame s).state in
-      let prep : Prepares s b = prepares laws.grow frame.posts s in
-      let keep : Keeps b m = turns_keep (systems_in log) b in
-      let here : Reads i t b (turns_moments i t (systems_in log) b) m =
-      frame_reads frame (systems_in log) s sound below in
-      let msound : IsSoundState m = subst IsSoundState is.1.leaves (frame_sound laws frame s log is.0 sound is.1) in
-      let later : IsTrue (has_begun b i) → Reads i t m (moments i t frames logs m) u =
-      λ now. run_reads frames m logs u msound (after_first frame frames s log logs u is)
-      (subst (λ n. t < n) (sym (keep.0.types ∙ prep.same.types)) below) (begun_alike b m i keep ∙ now) in
-      elim (prep.arrival i) [
-        | stood was now same ↦ reads_further i t s (turns_moments i t (systems_in log) b) m
-            (moments i t frames logs m) u
-            (reads_since i t s b (turns_moments i t (systems_in log) b) m
-            (prep.world t (sound.histories t below)) same here) (later now)
-        | comes was now is_new ↦ absurd (false≢true (sym was ∙ has))
-        | waits was now same ↦ absurd (false≢true (sym was ∙ has))
-      ]
-  run_reads frames s logs u sound is below has = absurd is
-
   pub run_follows : (frames : List Frame) (s : State) (logs : List Log) (u : State) → IsSoundState s
       → IsRun frames s logs u → t < s.types → IsTrue (has_begun u i)
       → Follows i t s (moments i t frames logs s) u
-  run_follows [] s [] u sound is below has = grind (arith, follows_joined, run_reads)
+  run_follows [] s [] u sound is below has = grind (arith, follows_joined, passes_nothing, stays, with_entries-none)
   run_follows (frame ∷ frames) s (log ∷ logs) u sound is below has =
       let b : State = before_turns frame.posts s in
       let m : State = (frame_in (systems_in log) frame s).state in
@@ -137,33 +92,26 @@ module _ (laws : BufferLaws) (i t : ℕ) where
       let rest : List Moment = moments i t frames logs m in
       let prep : Prepares s b = prepares laws.grow frame.posts s in
       let keep : Keeps b m = turns_keep (systems_in log) b in
-      let here : Reads i t b ms m = frame_reads frame (systems_in log) s sound below in
-      let msound : IsSoundState m = subst IsSoundState is.1.leaves (frame_sound laws frame s log is.0 sound is.1) in
-      let mbelow : t < m.types = subst (λ n. t < n) (sym (keep.0.types ∙ prep.same.types)) below in
+      let ready : IsSoundState b = prepared_sound s b sound prep in
+      let under : t < b.types = rw (prep.same.types) below in
+      let here : Reads i t b ms m =
+      turns_read laws i t (systems_in log) b (ready.histories t under) (ready.places i t under) in
       let goes : GoesOn (s.world.histories t) (b.world.histories t) = prep.world t (sound.histories t below) in
-      let mrun : IsRun frames m logs u = after_first frame frames s log logs u is in
+      let later : Follows i t m rest u =
+      run_follows frames m logs u (rw (is.1.leaves) at (frame_sound laws frame s log is.0 sound is.1))
+      (after_first frame frames s log logs u is) (rw (keep.0.types) under) has in
+      let all : IsTrue (has_begun b i) → Reads i t b (ms ++ rest) u =
+      λ now. reads_further i t b ms m rest u here (reads_joined i t m rest u (begun_alike b m i keep ∙ now) later) in
       elim (prep.arrival i) [
         | stood was now same ↦ follows_joined i t s (ms ++ rest) u was
-            (run_reads (frame ∷ frames) s (log ∷ logs) u sound is below was)
-        | comes was now new ↦
-            let all : Reads i t b (ms ++ rest) u =
-            reads_further i t b ms m rest u here
-            (run_reads frames m logs u msound mrun mbelow (begun_alike b m i keep ∙ now)) in
-            let place : ℕ = (joined_member (counts s) (s.members i)).job.system.places t in
-            follows_new i t s (ms ++ rest) u place was
-            (passes_since (s.world.histories t) (b.world.histories t) (u.world.histories t) place (ms ++ rest)
-            (place_of u i t) goes
-            (subst (λ (x : Member). Passes (x.job.system.places t) (b.world.histories t) (ms ++ rest) (place_of u i t)
-            (u.world.histories t)) new all.passes))
-            (subst (λ (x : Member). (u.members i).totals t
-            ≡ with_entries (map (λ y. y.entry) (ms ++ rest)) (x.totals t)) new all.totals)
-        | waits was now same ↦
-            let none : ms ≡ [] =
-            no_moments i t (systems_in log) b (has_no_turn b (systems_in log) i is.1.in_order now) in
-            subst (λ xs. Follows i t s (xs ++ rest) u) (sym none)
+            (reads_since i t s b (ms ++ rest) u goes same (all now))
+        | comes was now new ↦ follows_new i t s (ms ++ rest) u _ was
+            (passes_since _ _ _ _ _ _ goes (rw (place_of, new) at ((all now).passes))) (rw new at ((all now).totals))
+        | waits was now same ↦ rw
+            (no_moments i t (systems_in log) b (has_no_turn b (systems_in log) i is.1.in_order now))
             (follows_since i t s m rest u was (begun_alike b m i keep ∙ now)
-            (goes_further (s.world.histories t) (b.world.histories t) (m.world.histories t) goes here.passes.goes_on)
-            (run_follows frames m logs u msound mrun mbelow has))
+            (goes_further _ _ _ goes here.passes.goes_on)
+            later)
       ]
   run_follows frames s logs u sound is below has = absurd is
 

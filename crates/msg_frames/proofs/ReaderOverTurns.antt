@@ -1,16 +1,17 @@
 -- What a reader goes past in the turns of systems, its own and those of others.
-use Rattle.std.proofs.Common.{◌≡◌, ℕ, ◌≤◌, List, [], ◌∷◌, ◌++◌, map, Contains, flat_map, cond, append_assoc, refl, sym, ap, subst, ◌∙◌, arith, inl, inr, ◌==◌}
+use Rattle.std.proofs.Common.{◌≡◌, ℕ, ◌≤◌, List, [], ◌∷◌, ◌++◌, map, Contains, flat_map, cond, append_assoc, refl, sym, ap, ◌∙◌, arith, inl, inr, ◌==◌}
 use Rattle.std.proofs.lemmas.Bool.{cases_eq, eq-eqb, ne_eqb}
 use Rattle.std.proofs.lemmas.List.{map-append}
 use Rattle.msg_buffer.specs.Prelude.{IsSound, count}
 use Rattle.msg_system.specs.declared.reply.Reply.{Reply}
 use Rattle.msg_system.specs.Prelude.{Needs, Rule}
 use Rattle.msg_frames.specs.Prelude.{Entry, Member, Moment, SameSystems, State, Turn, after_turn_of, after_turns_of, answers, entries_for, entries_told, job_moments, logged_turn, ops_by, place_of, turn_of, turns_moments, with_entries}
-use Rattle.msg_order.proofs.Elements.{Contains-tail}
+use Rattle.msg_order.proofs.Elements.{Contains-tail, Contains-head}
 use Rattle.msg_frames.proofs.HistoriesGrow.{BufferLaws, job_goes_on, stays}
 use Rattle.msg_frames.proofs.SystemsStay.{one_turn_keeps}
 use Rattle.msg_frames.proofs.ReaderOverJob.{Passes, job_logged, job_passes, job_rule, passes_further, passes_nothing}
 use Rattle.msg_frames.proofs.EntriesAddUp.{with_entries-append, with_entries-none}
+use Rattle.std.proofs.lemmas.Bool.Decides.{eqb_tells}
 
 -- Reader (i, t) goes past these moments between two states.
 pub record Reads (i t : ℕ) (s : State) (ms : List Moment) (u : State) : Type 0 where
@@ -20,11 +21,13 @@ pub record Reads (i t : ℕ) (s : State) (ms : List Moment) (u : State) : Type 0
 pub reads_further : (i t : ℕ) (a : State) (ms : List Moment) (b : State) (ns : List Moment) (c : State)
     → Reads i t a ms b → Reads i t b ns c → Reads i t a (ms ++ ns) c
 reads_further i t a ms b ns c x y = record {
-  passes = passes_further (place_of a i t) (a.world.histories t) ms (place_of b i t) (b.world.histories t) ns
-      (place_of c i t) (c.world.histories t) x.passes y.passes;
-  totals = y.totals ∙ ap (with_entries (map (λ m. m.entry) ns)) x.totals
-      ∙ sym (with_entries-append (map (λ m. m.entry) ms) (map (λ m. m.entry) ns) ((a.members i).totals t))
-      ∙ ap (λ es. with_entries es ((a.members i).totals t)) (sym (map-append (λ m. m.entry) ms ns));
+  passes = passes_further _ _ _ _ _ _ _ _ x.passes y.passes;
+  totals = rw (
+    y.totals,
+    x.totals,
+    map-append (λ (m : Moment). m.entry) ms ns,
+    with_entries-append (map (λ m. m.entry) ms) (map (λ m. m.entry) ns) ((a.members i).totals t),
+  ) refl;
 }
 
 -- the same systems, and as many frames: so turns leave them
@@ -34,7 +37,7 @@ Keeps s u = SameSystems s u × (u.frames ≡ s.frames)
 -- a member is as its turn leaves it, or as it was
 pub one_member : (P : Member → Type 0) (j i : ℕ) (s : State) → (i ≡ j → P (turn_of s i).member)
     → (¬ (i ≡ j) → P (s.members i)) → P ((after_turn_of j s).members i)
-one_member P j i s here other = grind (arith, cases_eq, eq-eqb, ne_eqb)
+one_member P j i s here other = grind (arith, eqb_tells)
 
 -- the moments of reader (i, t) in the turn of system j
 abbrev own_moments : ℕ → ℕ → ℕ → State → List Moment
@@ -45,19 +48,16 @@ module _ (laws : BufferLaws) where
       → Passes (place_of s i t) (s.world.histories t) (own_moments i t j s) (place_of (after_turn_of j s) i t)
       ((turn_of s j).world.histories t)
   turn_passes i t j s sound within =
-      one_member (λ m. Passes (place_of s i t) (s.world.histories t) (own_moments i t j s) (m.job.system.places t)
-      ((turn_of s j).world.histories t)) j i s
-      (λ e. rw (eq-eqb j i (sym e))
-      (subst (λ k. Passes (place_of s i t) (s.world.histories t) (job_moments t (s.members i).job s.world)
-      ((turn_of s i).member.job.system.places t) ((turn_of s k).world.histories t)) e
-      (job_passes laws t (s.members i).job s.world sound within)))
-      (λ ne. rw (ne_eqb j i (λ x. ne (sym x)))
-      (passes_nothing (place_of s i t) (s.world.histories t) ((turn_of s j).world.histories t) within
-      (job_goes_on laws.grow (s.members j).job s.world t sound)))
+      grind (
+        arith,
+        eqb_tells,
+        job_passes laws t (s.members i).job s.world sound within,
+        passes_nothing (place_of s i t) _ _ within (job_goes_on laws.grow (s.members j).job s.world t sound),
+      )
 
   turn_totals : (i t j : ℕ) (s : State) → ((after_turn_of j s).members i).totals t
       ≡ with_entries (map (λ m. m.entry) (own_moments i t j s)) ((s.members i).totals t)
-  turn_totals i t j s = grind (arith, eq-eqb, job_logged, ne_eqb, one_member, with_entries-none)
+  turn_totals i t j s = grind (arith, eqb_tells, job_logged, one_member, with_entries-none)
 
   pub turn_reads : (i t j : ℕ) (s : State) → IsSound (s.world.histories t)
       → place_of s i t ≤ count (s.world.histories t) → Reads i t s (own_moments i t j s) (after_turn_of j s)
@@ -118,21 +118,14 @@ tells_further i t a xs ms b ys ns c x y =
 
 turn_tells : (i t j : ℕ) (s : State) → Tells i t s (cond (j == i) (answers (logged_turn s j).outcome) [])
     (own_moments i t j s) (after_turn_of j s)
-turn_tells i t j s = record { entries = entries; rule = rule; needs = ((one_turn_keeps j s).members i).needs }
-  where
-    entries : entries_told t (s.members i).job.system.needs (s.members i).job.system.rule
-        (cond (j == i) (answers (logged_turn s j).outcome) []) ≡ map (λ x. x.entry) (own_moments i t j s)
-    entries = elim (cases_eq j i) [
-      | inl e ↦ rw (eq-eqb j i e) (rw e (job_logged t (s.members i).job s.world))
-      | inr ne ↦ rw (ne_eqb j i ne) refl
-    ]
-
-    rule : ((after_turn_of j s).members i).job.system.rule
-        ≡ after_told (cond (j == i) (answers (logged_turn s j).outcome) []) (s.members i).job.system.rule
-    rule = elim (cases_eq j i) [
-      | inl e ↦ rw (eq-eqb j i e, eq-eqb i j (sym e)) (rw e (job_rule (s.members i).job s.world))
-      | inr ne ↦ rw (ne_eqb j i ne, ne_eqb i j (λ x. ne (sym x))) refl
-    ]
+turn_tells i t j s = record {
+  entries = grind (arith, eqb_tells, job_logged t (s.members i).job s.world);
+  rule = elim (cases_eq j i) [
+    | inl e ↦ rw (eq-eqb j i e, eq-eqb i j (sym e)) (rw e (job_rule (s.members i).job s.world))
+    | inr ne ↦ rw (ne_eqb j i ne, ne_eqb i j (λ x. ne (sym x))) refl
+  ];
+  needs = ((one_turn_keeps j s).members i).needs;
+}
 
 pub turns_tell : (i t : ℕ) (js : List ℕ) (s : State)
     → Tells i t s (answers_among i (after_turns_of js s).turns) (turns_moments i t js s) (after_turns_of js s).state
@@ -148,12 +141,20 @@ pub turns_skip : (i : ℕ) (js : List ℕ) (s : State) → ¬ Contains js i → 
     ≡ s.members i
 turns_skip i [] s out = refl
 turns_skip i (j ∷ js) s out =
-    turns_skip i js (after_turn_of j s) (λ at. out (Contains-tail j js i at))
-    ∙ one_member (λ m. m ≡ s.members i) j i s (λ e. absurd (out (0, omega arith, sym e))) (λ ne. refl)
+    grind (
+      arith,
+      eqb_tells j i,
+      eqb_tells i j,
+      Contains-head j js,
+      turns_skip i js (after_turn_of j s) (λ at. out (Contains-tail j js i at)),
+    )
 
 pub no_moments : (i t : ℕ) (js : List ℕ) (s : State) → ¬ Contains js i → turns_moments i t js s ≡ []
 no_moments i t [] s out = refl
-no_moments i t (j ∷ js) s out = elim (cases_eq j i) [
-  | inl e ↦ absurd (out (0, omega arith, e))
-  | inr ne ↦ rw (ne_eqb j i ne) (no_moments i t js (after_turn_of j s) (λ at. out (Contains-tail j js i at)))
-]
+no_moments i t (j ∷ js) s out =
+    grind (
+      arith,
+      eqb_tells j i,
+      Contains-head j js,
+      no_moments i t js (after_turn_of j s) (λ at. out (Contains-tail j js i at)),
+    )

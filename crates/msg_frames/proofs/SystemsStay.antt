@@ -1,5 +1,5 @@
 -- What turns and frames keep of the systems.
-use Rattle.std.proofs.Common.{◌≡◌, ℕ, ◌<◌, IsTrue, arith, List, [], ◌∷◌, map, refl, ap, sym, subst, ◌∙◌, inl, inr, suc, max, nat_le, ℤ, eq-eqb, ne_eqb}
+use Rattle.std.proofs.Common.{◌≡◌, ℕ, ◌<◌, IsTrue, arith, List, [], ◌∷◌, map, refl, ap, ◌∙◌, inl, inr, suc, max, nat_le, ℤ, eq-eqb, ne_eqb}
 use Rattle.std.specs.List.{range_with_len}
 use Rattle.std.proofs.lemmas.Bool.{cases_Bool, cases_eq, cases_lt, false≢true}
 use Rattle.std.proofs.lemmas.List.{get_or_past}
@@ -7,7 +7,7 @@ use Rattle.std.proofs.lemmas.List.FromFn.{length-map-range_with_len}
 use Rattle.std.specs.Prelude.{◌==◌}
 use Rattle.msg_world.specs.declared.access.Access.{Access}
 use Rattle.msg_world.specs.Prelude.{WorldState}
-use Rattle.msg_order.specs.Prelude.{IsAcyclic, has_joined, rules_among}
+use Rattle.msg_order.specs.Prelude.{has_joined}
 use Rattle.msg_system.specs.Prelude.{Asked, after_asking, asked_started, with_conditions}
 use Rattle.msg_system.specs.declared.start.Start.{Start}
 use Rattle.msg_frames.specs.Prelude.{AreAccessesOf, Frame, FramesKeepSystems, Member, NoCycle, SameMember, SameSystems, SameSystemsHaveSameAccesses, State, TurnsKeepSystems, after_turn_of, after_turns_of, before_turns, counts, frame_in, join_flags, joined_member, joining, member_turn, needs_of, with_joining, with_member}
@@ -34,15 +34,7 @@ started_same start counts [] = refl
 started_same start counts (a ∷ asked) = ap (λ cs. a.condition ∷ cs) (started_same start counts asked)
 
 begun_keeps : (counts : List ℕ) (m : Member) → SameMember m (joined_member counts m)
-begun_keeps counts m =
-    record {
-      needs = refl;
-      start = refl;
-      writer = refl;
-      conditions =
-          started_same m.job.system.start counts m.job.conditions;
-      join = refl;
-    }
+begun_keeps counts m = grind (arith, started_same)
 
 -- ---- systems
 
@@ -83,10 +75,10 @@ joining_keeps s = elim (cases_Bool (s.frames == 0)) [
 ]
 
 pub joining_makes_no_frame : (s : State) → (joining s).frames ≡ s.frames
-joining_makes_no_frame s = elim (cases_Bool (s.frames == 0)) [ inl e ↦ rw e refl | inr e ↦ rw e refl ]
+joining_makes_no_frame s = grind (arith, cases_Bool)
 
 pub joining_world : (s : State) → (joining s).world ≡ s.world
-joining_world s = elim (cases_Bool (s.frames == 0)) [ inl e ↦ rw e refl | inr e ↦ rw e refl ]
+joining_world s = grind (arith, cases_Bool)
 
 pub before_keeps : (posts : List (ℕ × ℤ)) (s : State) → SameSystems s (before_turns posts s)
 before_keeps posts s = grind (arith, joining_keeps)
@@ -128,5 +120,4 @@ joined_below s i h = grind (arith, cases_lt, false≢true, get_or_past, length-m
 
 -- the rules make no cycle among them
 pub no_cycle_stays : (s u : State) → SameSystems s u → NoCycle s → NoCycle u
-no_cycle_stays s u same none who e = subst (λ rules. IsAcyclic (rules_among who rules)) (sym same.rules)
-    (none who (e ∙ same.systems))
+no_cycle_stays s u same none who e = rw (same.rules) (none who (e ∙ same.systems))

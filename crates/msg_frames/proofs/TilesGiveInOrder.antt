@@ -1,5 +1,5 @@
 -- What tiles give: messages in order of writing.
-use Rattle.std.proofs.Common.{◌≡◌, ℕ, zero, suc, ◌+◌, ◌≤◌, ◌<◌, List, [], ◌∷◌, ◌++◌, map, length, take, drop, Bool, cond, Option, Some, None, is_some, option_map, IfSome, unwrap_or, filter, refl, sym, ap, subst, ◌∙◌, arith, inl, inr, slice_get, get_or, All}
+use Rattle.std.proofs.Common.{◌≡◌, ℕ, zero, suc, ◌+◌, ◌≤◌, ◌<◌, List, [], ◌∷◌, ◌++◌, map, length, take, drop, Bool, cond, Option, Some, None, is_some, option_map, IfSome, unwrap_or, filter, refl, ap, arith, inl, inr, slice_get, get_or, All}
 use Rattle.std.specs.Prelude.{false, ◌==◌}
 use Rattle.std.specs.List.{range_with_len, enumerate_from}
 use Rattle.std.specs.List.Sorted.{IsStrictlyIncreasing}
@@ -9,9 +9,10 @@ use Rattle.std.proofs.lemmas.List.Elements.{All-head, All-tail}
 use Rattle.std.proofs.lemmas.Option.{slice_get-get_or}
 use Rattle.msg_buffer.specs.Prelude.{Entry as Written, GoesOn, History, Stretch, Tile, count, instance_of, instances, message_of, next_place}
 use Rattle.msg_world.specs.declared.record.Record.{Record}
-use Rattle.msg_frames.specs.Prelude.{Entry, GivesItsStretch, IsInOrderOf, Moment, given, is_by, message_numbered, messages_given, messages_of, numbers_at, numbers_of}
+use Rattle.msg_frames.specs.Prelude.{GivesItsStretch, IsInOrderOf, Moment, given, is_by, message_numbered, messages_given, messages_of, numbers_of}
 use Rattle.msg_frames.proofs.OneFateEach.{entries_of}
 use Rattle.msg_frames.proofs.ReaderOverJob.{IsWritten, tile_of}
+use Rattle.std.proofs.lemmas.List.Kept.{IsStrictlyIncreasing-filter}
 
 -- ---- rising numbers
 
@@ -26,8 +27,7 @@ rising_from low high (x ∷ xs) le rise = (omega (arith, rise.0), rise.1)
 
 rising_range : (a n : ℕ) (rest : List ℕ) → Rising (a + n) rest → Rising a (range_with_len a n ++ rest)
 rising_range a zero rest rise = rising_from a (a + 0) rest (omega arith) rise
-rising_range a (suc n) rest rise =
-    (omega arith, rising_range (a + 1) n rest (subst (λ k. Rising k rest) (omega arith) rise))
+rising_range a (suc n) rest rise = grind (arith, rising_range (a + 1) n rest)
 
 is_increasing : (low : ℕ) (xs : List ℕ) → Rising low xs → IsStrictlyIncreasing xs
 is_increasing low [] rise k below = absurd (omega arith)
@@ -35,29 +35,15 @@ is_increasing low (x ∷ []) rise k below = absurd (omega arith)
 is_increasing low (x ∷ y ∷ ys) rise zero below = omega (arith, rise.1.0)
 is_increasing low (x ∷ y ∷ ys) rise (suc k) below = grind (arith, is_increasing (x + 1) (y ∷ ys) rise.1 k (omega arith))
 
-rising_filter : (p : ℕ → Bool) (low : ℕ) (xs : List ℕ) → Rising low xs → Rising low (filter p xs)
-rising_filter p low [] rise = tt
-rising_filter p low (x ∷ xs) rise =
-    grind (
-      arith,
-      cases_Bool,
-      rising_from,
-      rising_filter p (x + 1) xs rise.1,
-      rising_filter p low xs (rising_from low (x + 1) xs (omega (arith, rise.0)) rise.1),
-    )
-
 numbers_rise : (p : ℕ) (ms : List Moment) (q : ℕ) → Tile p (map tile_of ms) q
     → Rising p (numbers_of given (entries_of ms))
 numbers_rise p [] q tile = tt
 numbers_rise p (m ∷ ms) q tile =
-    let e : Entry = m.entry in
-    let first : e.stretch.first ≡ p + e.stretch.missed = tile.0.first in
-    let rest = numbers_rise (next_place e.stretch) ms q tile.1 in
-    elim (cases_Bool (is_some e.given)) [
-      | inl some ↦ rw some (rising_from p e.stretch.first
-          (range_with_len e.stretch.first e.stretch.number ++ numbers_of given (entries_of ms)) (omega arith)
-          (rising_range e.stretch.first e.stretch.number (numbers_of given (entries_of ms)) rest))
-      | inr none ↦ rw none (rising_from p (next_place e.stretch) (numbers_of given (entries_of ms)) (omega arith) rest)
+    let rest = numbers_rise (next_place m.entry.stretch) ms q tile.1 in
+    elim (cases_Bool (is_some m.entry.given)) [
+      | inl some ↦ rw some (rising_from p m.entry.stretch.first _ (omega (arith, tile.0.first))
+          (rising_range m.entry.stretch.first m.entry.stretch.number _ rest))
+      | inr none ↦ rw none (rising_from p (next_place m.entry.stretch) _ (omega (arith, tile.0.first)) rest)
     ]
 
 pub given_in_order : (p : ℕ) (ms : List Moment) (q : ℕ) → Tile p (map tile_of ms) q
@@ -78,10 +64,13 @@ messages_in_instances n (e ∷ es) = ap (λ ms. e.message ∷ ms) (messages_in_i
 messages_are : (h : History Record) (s : Stretch) → messages_of h s
     ≡ map message_in (take s.number (drop s.first h.entries))
 messages_are h s =
-    sym (take-map message_of s.number (drop s.first (instances h)))
-    ∙ ap (take s.number) (sym (drop-map message_of s.first (instances h))
-    ∙ ap (drop s.first) (messages_in_instances 0 h.entries) ∙ drop-map message_in s.first h.entries)
-    ∙ take-map message_in s.number (drop s.first h.entries)
+    rw (
+      ← take-map message_of s.number (drop s.first (instances h)),
+      ← drop-map message_of s.first (instances h),
+      messages_in_instances 0 h.entries,
+      drop-map message_in s.first h.entries,
+      take-map message_in s.number (drop s.first h.entries),
+    ) refl
 
 -- they stay where they are
 still_there : (h last : History Record) (a n : ℕ) → GoesOn h last → a + n ≤ count h → take n (drop a last.entries)
@@ -97,9 +86,7 @@ read_range : (es : List (Written Record)) (a n : ℕ) → a + n ≤ length es
     → map (λ k. option_map message_in (slice_get es k)) (range_with_len a n)
     ≡ map Some (map message_in (take n (drop a es)))
 read_range es a zero below = refl
-read_range es a (suc n) below =
-    let one = read_one es a (omega arith) in
-    rw (one.1, one.2) (ap (λ xs. Some (one.0).message ∷ xs) (read_range es (a + 1) n (omega arith)))
+read_range es a (suc n) below = grind (arith, read_one es a (omega arith), read_range es (a + 1) n (omega arith))
 
 -- ---- the messages of an entry
 
@@ -108,10 +95,9 @@ module _ (h last : History Record) (s : Stretch) (goes : GoesOn h last) (written
       → map (message_numbered last) (cond (is_some o) (range_with_len s.first s.number) []) ≡ map Some (unwrap_or o [])
   given_as_written None gives = refl
   given_as_written (Some items) gives =
-      read_range last.entries s.first s.number
-      (omega (arith, ap length goes.entries, length-append h.entries goes.more))
-      ∙ ap (λ es. map Some (map message_in es)) (still_there h last s.first s.number goes written)
-      ∙ ap (map Some) (sym (gives ∙ messages_are h s))
+      rw (gives, messages_are h s, ← still_there h last s.first s.number goes written)
+      (read_range last.entries s.first s.number
+      (omega (arith, ap length goes.entries, length-append h.entries goes.more)))
 
 -- ---- the messages of all entries
 
@@ -121,14 +107,14 @@ module _ (last : History Record) where
       → map (message_numbered last) (numbers_of given (entries_of ms)) ≡ map Some (messages_given (entries_of ms))
   all_as_written [] gives goes written = refl
   all_as_written (m ∷ ms) gives goes written =
-      let one = given_as_written m.history last m.entry.stretch (All-head (λ x. GoesOn x.history last) m ms goes)
-      (All-head IsWritten m ms written) m.entry.given (All-head GivesItsStretch m ms gives) in
-      let rest = all_as_written ms (All-tail GivesItsStretch m ms gives)
-      (All-tail (λ x. GoesOn x.history last) m ms goes) (All-tail IsWritten m ms written) in
-      map-append (message_numbered last) (numbers_at given m.entry) (numbers_of given (entries_of ms))
-      ∙ ap (λ xs. xs ++ map (message_numbered last) (numbers_of given (entries_of ms))) one
-      ∙ ap (λ xs. map Some (unwrap_or m.entry.given []) ++ xs) rest
-      ∙ sym (map-append Some (unwrap_or m.entry.given []) (messages_given (entries_of ms)))
+      grind (
+        arith,
+        map-append,
+        given_as_written m.history last m.entry.stretch (All-head (λ x. GoesOn x.history last) m ms goes)
+            (All-head IsWritten m ms written) m.entry.given (All-head GivesItsStretch m ms gives),
+        all_as_written ms (All-tail GivesItsStretch m ms gives)
+            (All-tail (λ x. GoesOn x.history last) m ms goes) (All-tail IsWritten m ms written),
+      )
 
 -- ---- writer by writer
 
@@ -147,6 +133,5 @@ in_order_of writer p ms q last tile gives goes written = record {
   as_written = of_one_kind (message_numbered last) (λ m. m.writer == writer) (numbers_of given (entries_of ms))
       (messages_given (entries_of ms))
       (all_as_written last ms gives goes written);
-  in_order = is_increasing p (filter (is_by writer last) (numbers_of given (entries_of ms)))
-      (rising_filter (is_by writer last) p (numbers_of given (entries_of ms)) (numbers_rise p ms q tile));
+  in_order = IsStrictlyIncreasing-filter (is_by writer last) _ (given_in_order p ms q tile);
 }
