@@ -1,5 +1,5 @@
 -- The jobs of a batch, side by side.
-use Rattle.std.proofs.Common.{◌≡◌, ◌≢◌, ℕ, suc, ◌<◌, List, [], ◌∷◌, ◌++◌, map, slice_index_or, refl, ap, sym, ◌∙◌, inl, inr, arith, subst}
+use Rattle.std.proofs.Common.{◌≡◌, ◌≢◌, ℕ, suc, ◌<◌, List, [], ◌∷◌, ◌++◌, map, slice_index_or, refl, ap, sym, ◌∙◌, inl, inr, arith}
 use Rattle.std.specs.Prelude.{All, AllPairs, if◌then◌else◌}
 use Rattle.std.specs.List.{concat}
 use Rattle.std.proofs.lemmas.Bool.{cases_Bool, or_right}
@@ -8,7 +8,7 @@ use Rattle.msg_world.specs.declared.access.Access.{Access}
 use Rattle.msg_world.specs.Prelude.{Conflict, OfResource, OfType, Part, Registry, WorldState, content, merge, writes}
 use Rattle.msg_order.specs.Prelude.{NoneConflict, access_of}
 use Rattle.msg_system.specs.Prelude.{Agree, HasFootprint, IsAccessOf, JobFootprint, needs_any}
-use Rattle.msg_frames.specs.Prelude.{AfterTurn, AfterTurns, AreAccessesOf, BatchesRunSideBySide, FramesRunByBatches, Member, Outcome, SameSystems, State, after_turn_of, after_turns_of, all_home, by_batches, home, logged_turn, member_turn, needs_of, turn_of, with_member}
+use Rattle.msg_frames.specs.Prelude.{AfterTurn, AreAccessesOf, BatchesRunSideBySide, FramesRunByBatches, Member, Outcome, SameSystems, State, after_turn_of, after_turns_of, all_home, home, logged_turn, member_turn, needs_of, turn_of, with_member}
 use Rattle.msg_frames.proofs.SystemsStay.{accesses_stay, turns_keep_systems}
 use Rattle.msg_frames.proofs.ElementsAndPairs.{all_left, all_right, pairs_left, pairs_right, pairs_tail}
 use Rattle.msg_frames.proofs.TurnsCommute.{Apart, apart, given_by_turn, same_world, turn_footprint, with_member_other}
@@ -119,18 +119,9 @@ batch_by_batch foot s accesses (batch ∷ batches) are below once apart =
     let first = side_by_side foot s accesses batch are (all_left (λ i. i < s.systems) batch (concat batches) below)
     (pairs_left (λ i j. i ≢ j) batch (concat batches) once)
     (All-head (NoneConflict accesses) batch batches apart) in
-    let kept : SameSystems s (after_turns_of batch s).state = turns_keep_systems batch s in
     let left : State = (after_turns_of batch s).state in
+    let kept : SameSystems s left = turns_keep_systems batch s in
     let rest = batch_by_batch foot left accesses batches (accesses_stay s left accesses kept are)
-    (subst (λ n. All (λ i. i < n) (concat batches)) (sym kept.systems)
-    (all_right (λ i. i < s.systems) batch (concat batches) below))
+    (rw (kept.systems) (all_right (λ i. i < s.systems) batch (concat batches) below))
     (pairs_right (λ i j. i ≢ j) batch (concat batches) once) (All-tail (NoneConflict accesses) batch batches apart) in
-    let next : after_turns_of (concat batches) left ≡ by_batches accesses batches (all_home accesses s batch s) = rest
-    ∙ ap (by_batches accesses batches) first.1 in
-    λ k. record {
-      state = (states_follow batch (concat batches) s ∙ ap (λ (t : AfterTurns). t.state) next) k;
-      turns =
-          (turns_follow batch (concat batches) s
-          ∙ ap (λ turns. turns ++ (after_turns_of (concat batches) left).turns) first.0
-          ∙ ap (λ (t : AfterTurns). map (logged_turn s) batch ++ t.turns) next) k;
-    }
+    grind (arith, first, rest, states_follow batch (concat batches) s, turns_follow batch (concat batches) s)

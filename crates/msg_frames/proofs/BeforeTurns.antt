@@ -1,7 +1,7 @@
 -- What comes before the turns of a frame: systems join, types are updated, posts are written.
 use Rattle.std.proofs.Common.{◌≡◌, ℕ, suc, ◌≤◌, ◌<◌, ℤ, max, List, Bool, true, false, not, ◌&&◌, cond, refl, sym, ap, subst, ◌∙◌, arith, ◌==◌}
 use Rattle.std.specs.Prelude.{IsTrue, IsFalse, nat_le}
-use Rattle.std.proofs.lemmas.Bool.{cases_eq, eq-eqb, ne_eqb, cases_Bool, leb-true, leb-false, le-leb, lt-leb, and_from, and_left, and_right, not_from_true, not_from_false}
+use Rattle.std.proofs.lemmas.Bool.{cases_Bool}
 use Rattle.std.proofs.lemmas.Option.{unwrap_or-slice_get}
 use Rattle.std.proofs.lemmas.List.FromFn.{get_or-map-range_with_len}
 use Rattle.msg_buffer.specs.Prelude.{OnlyGrows, count}
@@ -13,6 +13,7 @@ use Rattle.msg_system.specs.Prelude.{start_place}
 use Rattle.msg_frames.specs.Prelude.{Member, SameSystems, State, after_posts, before_turns, counts, has_begun, joined_member, place_of, with_joining}
 use Rattle.msg_frames.proofs.HistoriesGrow.{WorldGoesOn, before_goes_on}
 use Rattle.msg_frames.proofs.SystemsStay.{before_keeps}
+use Rattle.std.proofs.lemmas.Bool.Decides.{nat_tests}
 
 -- ---- the state before the turns, as one record
 
@@ -40,7 +41,7 @@ ready_if true posts s = refl
 ready_if false posts s = refl
 
 before_is : (posts : List (ℕ × ℤ)) (s : State) → before_turns posts s ≡ ready posts s
-before_is posts s = ready_if (s.frames == 0) posts s
+before_is posts s = grind (arith, cases_Bool)
 
 -- ---- each member
 
@@ -63,24 +64,7 @@ begun_by : (posts : List (ℕ × ℤ)) (s : State) (i : ℕ) (m : Member) (b : B
 begun_by posts s i m b is by_join = ap (λ (x : Member). nat_le x.join (max 1 (suc s.frames))) is ∙ by_join
 
 arrival : (posts : List (ℕ × ℤ)) (s : State) (i : ℕ) → Arrival s (ready posts s) i
-arrival posts s i =
-    grind (
-      arith,
-      and_from,
-      and_left,
-      and_right,
-      begun_by,
-      cases_Bool,
-      cases_eq,
-      eq-eqb,
-      le-leb,
-      leb-false,
-      leb-true,
-      lt-leb,
-      ne_eqb,
-      not_from_false,
-      not_from_true,
-    )
+arrival posts s i = grind (arith, begun_by, cases_Bool, nat_tests)
 
 pub prepares : OnlyGrows Record → (posts : List (ℕ × ℤ)) (s : State) → Prepares s (before_turns posts s)
 prepares grow posts s = record {

@@ -1,5 +1,5 @@
 -- How entries add up in an account.
-use Rattle.std.proofs.Common.{◌≡◌, ℕ, ◌+◌, List, [], ◌∷◌, ◌++◌, length, map, cond, Option, Some, None, is_some, refl, arith}
+use Rattle.std.proofs.Common.{◌≡◌, ℕ, ◌+◌, List, [], ◌∷◌, ◌++◌, length, map, cond, Option, Some, None, is_some, arith}
 use Rattle.std.proofs.lemmas.List.{length-append}
 use Rattle.std.proofs.lemmas.List.FromFn.{length-range_with_len}
 use Rattle.msg_buffer.specs.Prelude.{next_place, Tile}
@@ -14,26 +14,23 @@ more_of : (fate : Fate) (es fs : List Entry) → length (numbers_of fate (es ++ 
 more_of fate [] fs = omega arith
 more_of fate (e ∷ es) fs = grind (arith, length-append, more_of fate es fs)
 
-same_totals : (x y : Totals) → x.start ≡ y.start → x.got ≡ y.got → x.missed ≡ y.missed → x.cleared ≡ y.cleared → x ≡ y
-same_totals x y a b c d = λ k. record { start = a k; got = b k; missed = c k; cleared = d k }
-
 pub with_entries-none : (x : Totals) → with_entries [] x ≡ x
-with_entries-none x = same_totals (with_entries [] x) x refl (omega arith) (omega arith) (omega arith)
+with_entries-none x = grind arith
 
 pub with_entries-append : (es fs : List Entry) (x : Totals) → with_entries (es ++ fs) x
     ≡ with_entries fs (with_entries es x)
-with_entries-append es fs x = grind (arith, more_of, same_totals)
+with_entries-append es fs x = grind (arith, more_of)
 
 -- what one op that read adds, and what one clear
 pub with_read : (took : Took) (x : Totals)
     → with_entries (entry_of_read took ∷ []) x
     ≡ record x { got = x.got + length took.items; missed = x.missed + took.missed }
-with_read took x = grind (arith, length-append, length-range_with_len, same_totals)
+with_read took x = grind (arith, length-append, length-range_with_len)
 
 pub with_clear : (gone first n : ℕ) (x : Totals)
     → with_entries (record { stretch = record { missed = gone; first = first; number = n }; given = None } ∷ []) x
     ≡ record x { missed = x.missed + gone; cleared = x.cleared + n }
-with_clear gone first n x = grind (arith, length-append, length-range_with_len, same_totals)
+with_clear gone first n x = grind (arith, length-append, length-range_with_len)
 
 -- all that an entry goes past was given or cleared
 given_or_cleared : (o : Option (List Record)) (ns : List ℕ)

@@ -1,17 +1,17 @@
 -- Two lawful orders of turns leave the same.
-use Rattle.std.proofs.Common.{◌≡◌, ◌≢◌, ℕ, ◌<◌, ◌⊎◌, inl, inr, Bool, List, [], ◌∷◌, ◌++◌, length, get_or, refl, ap, sym, subst, subst₂, ◌∙◌, arith}
+use Rattle.std.proofs.Common.{◌≡◌, ◌≢◌, ℕ, ◌<◌, ◌⊎◌, inl, inr, Bool, List, [], ◌∷◌, ◌++◌, length, get_or, refl, ap, sym, subst, ◌∙◌, arith, slice_get, Some, suc}
 use Rattle.std.specs.Prelude.{All, AllPairs, Contains, IsPermutation}
 use Rattle.std.proofs.lemmas.Bool.{cases_order}
 use Rattle.std.proofs.lemmas.Grind.{get_or_default_zero}
-use Rattle.std.proofs.lemmas.List.Elements.{All-contains, All-head, All-tail, Contains-append_cases, Contains-append_left, Contains-append_right, Contains-get_or}
+use Rattle.std.proofs.lemmas.List.Elements.{All-contains, Contains-append_left, Contains-get_or, All-append}
 use Rattle.std.proofs.lemmas.List.FromFn.{length-map-range_with_len}
-use Rattle.std.proofs.lemmas.List.Sorted.{IsPermutation-cons, IsPermutation-middle, IsPermutation-refl, IsPermutation-trans}
+use Rattle.std.proofs.lemmas.List.Sorted.{IsPermutation-cons, IsPermutation-middle, IsPermutation-refl, IsPermutation-trans, Contains-permutation, IsPermutation-sym}
 use Rattle.std.proofs.lemmas.Option.{get_or_from_slice_get, slice_get_within}
 use Rattle.msg_world.specs.declared.access.Access.{Access}
 use Rattle.msg_world.specs.Prelude.{Conflict}
-use Rattle.msg_order.specs.Prelude.{ConflictingSystemsAreOrdered, Graph, IsLawfulOrder, IsTurnOrder, LawfulOrdersKeepPaths, Path, SettledOrderIsUnique, StandsBefore, TurnOrderIsLawful, access_of}
+use Rattle.msg_order.specs.Prelude.{ConflictingSystemsAreOrdered, Graph, IsLawfulOrder, LawfulOrdersKeepPaths, Path, SettledOrderIsUnique, StandsBefore, TurnOrderIsLawful, access_of}
 use Rattle.msg_system.specs.Prelude.{JobFootprint}
-use Rattle.msg_frames.specs.Prelude.{AreAccessesOf, FramesAgreeInLawfulOrders, LawfulOrdersAgree, Log, State, Turn, after_turn_of, after_turns_of, before_turns, frame_in, has_begun, join_flags, logged_turn, systems_in}
+use Rattle.msg_frames.specs.Prelude.{AreAccessesOf, FramesAgreeInLawfulOrders, LawfulOrdersAgree, Log, State, after_turn_of, after_turns_of, before_turns, frame_in, has_begun, join_flags, logged_turn, systems_in}
 use Rattle.msg_frames.proofs.RunsAreUnique.{one_order, order_is_among}
 use Rattle.msg_frames.proofs.TurnsCommute.{turns_commute}
 use Rattle.msg_frames.proofs.SystemsStay.{accesses_stay, joined_below, one_turn_keeps}
@@ -46,16 +46,14 @@ module _ (accesses : List Access) where
       → ¬ Conflict (access_of accesses x) (access_of accesses y)
       → SameRun accesses (x ∷ y ∷ is) (y ∷ x ∷ is)
   run_swapped foot x y is lx ly ne none s are =
-      let e = turns_commute foot s accesses x y are (subst (λ n. x < n) are.each lx)
-      (subst (λ n. y < n) are.each ly) ne none in
-      let turns : List Turn = (after_turns_of is (after_turn_of y (after_turn_of x s))).turns in
-      let one : logged_turn s x ∷ logged_turn s y ∷ turns ≡ (after_turns_of (x ∷ y ∷ is) s).turns =
-      ap (λ t. logged_turn s x ∷ t ∷ turns) (sym e.0) in
-      let other : logged_turn s y ∷ logged_turn s x ∷ turns ≡ (after_turns_of (y ∷ x ∷ is) s).turns =
-      ap (λ t. logged_turn s y ∷ t ∷ turns) (sym e.1)
-      ∙ ap (λ u. logged_turn s y ∷ logged_turn (after_turn_of y s) x ∷ (after_turns_of is u).turns) e.2 in (
-        ap (λ u. (after_turns_of is u).state) e.2,
-        subst₂ IsPermutation one other (IsPermutation-middle (logged_turn s x ∷ []) (logged_turn s y) turns),
+      let e = turns_commute foot s accesses x y are (rw (are.each) at lx) (rw (are.each) at ly) ne none in
+      grind (
+        arith,
+        e.0,
+        e.1,
+        e.2,
+        IsPermutation-middle (logged_turn s x ∷ []) (logged_turn s y)
+            (after_turns_of is (after_turn_of y (after_turn_of x s))).turns,
       )
 
   -- what is free of all before it moves to the front
@@ -64,12 +62,12 @@ module _ (accesses : List Access) where
       → SameRun accesses (before ++ x ∷ rest) (x ∷ before ++ rest)
   run_to_front foot x [] rest lx below free = same_run (x ∷ rest)
   run_to_front foot x (y ∷ before) rest lx below free =
-      let here : IsFree accesses x y = All-head (IsFree accesses x) y before free in
+      let here : IsFree accesses x y = free 0 y (omega arith) in
       run_along (y ∷ before ++ x ∷ rest) (y ∷ x ∷ before ++ rest) (x ∷ y ∷ before ++ rest)
       (run_later y (before ++ x ∷ rest) (x ∷ before ++ rest)
-      (run_to_front foot x before rest lx (All-tail (λ y. y < length accesses) y before below)
-      (All-tail (IsFree accesses x) y before free)))
-      (run_swapped foot y x (before ++ rest) (All-head (λ y. y < length accesses) y before below) lx here.0 here.1)
+      (run_to_front foot x before rest lx (λ k d lt. below (suc k) d (omega arith))
+      (λ k d lt. free (suc k) d (omega arith))))
+      (run_swapped foot y x (before ++ rest) (below 0 y (omega arith)) lx here.0 here.1)
 
 -- ---- two orders of the same systems
 
@@ -82,24 +80,19 @@ none_contained [] h = refl
 none_contained (x ∷ xs) h = absurd (h x (Contains-head x xs))
 
 middle_or : (xs : List ℕ) (y : ℕ) (ys : List ℕ) (i : ℕ) → Contains (xs ++ y ∷ ys) i → (y ≡ i) ⊎ Contains (xs ++ ys) i
-middle_or xs y ys i h = elim (Contains-append_cases xs (y ∷ ys) i h) [
-  | inl l ↦ inr (Contains-append_left xs ys i l)
-  | inr r ↦ elim (Contains-cases y ys i r) [ inl e ↦ inl e | inr l ↦ inr (Contains-append_right xs ys i l) ]
-]
+middle_or xs y ys i h =
+    Contains-cases y (xs ++ ys) i (Contains-permutation _ _ i (IsPermutation-middle xs y ys) h)
 
 with_middle : (xs : List ℕ) (y : ℕ) (ys : List ℕ) (i : ℕ) → Contains (xs ++ ys) i → Contains (xs ++ y ∷ ys) i
-with_middle xs y ys i h = elim (Contains-append_cases xs ys i h) [
-  | inl l ↦ Contains-append_left xs (y ∷ ys) i l
-  | inr r ↦ Contains-append_right xs (y ∷ ys) i (Contains-tail y ys i r)
-]
+with_middle xs y ys i h =
+    Contains-permutation _ _ i (IsPermutation-sym _ _ (IsPermutation-middle xs y ys)) (Contains-tail y (xs ++ ys) i h)
 
 -- what stands once isn't among the others
 apart_from : (xs : List ℕ) (y : ℕ) (ys : List ℕ) → AllPairs (λ i j. i ≢ j) (xs ++ y ∷ ys) → Contains (xs ++ ys) y → ⊥
-apart_from xs y ys once h = elim (Contains-append_cases xs ys y h) [
-  | inl l ↦ All-contains (λ x. x ≢ y) xs y (pairs_middle (λ i j. i ≢ j) xs y ys once).0 l refl
-  | inr r ↦ All-contains (λ x. y ≢ x) ys y
-      (pairs_head (λ i j. i ≢ j) y ys (pairs_right (λ i j. i ≢ j) xs (y ∷ ys) once)) r refl
-]
+apart_from xs y ys once h =
+    let after = pairs_head (λ i j. i ≢ j) y ys (pairs_right (λ i j. i ≢ j) xs (y ∷ ys) once) in
+    All-contains (λ x. x ≢ y) (xs ++ ys) y (All-append (λ x. x ≢ y) xs ys
+    (pairs_middle (λ i j. i ≢ j) xs y ys once).0 (λ k d lt e. after k d lt (sym e))) h refl
 
 module _ (foot : JobFootprint) (accesses : List Access) (P : ℕ → ℕ → Type 0) where
   pub reordered : (settled order : List ℕ)
@@ -155,22 +148,22 @@ module _ (foot : JobFootprint) (accesses : List Access) (P : ℕ → ℕ → Typ
 -- ---- lawful orders
 
 -- where each stands once, one place
-one_place : (order : List ℕ) (a b : ℕ) → AllPairs (λ i j. i ≢ j) order → a < length order → b < length order
-    → get_or order a 0 ≡ get_or order b 0 → a ≡ b
-one_place order a b once la lb e = grind (arith, cases_order)
+one_place : (order : List ℕ) (a b d : ℕ) → AllPairs (λ i j. i ≢ j) order → b < length order
+    → slice_get order a ≡ Some (get_or order b d) → a ≡ b
+one_place order a b d once lb at =
+    grind (arith, cases_order, get_or_default_zero, get_or_from_slice_get, slice_get_within)
 
 -- no path leads back in a lawful order
 lawful_forward : LawfulOrdersKeepPaths → (g : Graph) (who : List Bool) (order : List ℕ) → IsLawfulOrder g who order
     → Forward (Path g) order
 lawful_forward keeps g who order lawful a b d lt l p =
-    let s : StandsBefore order (get_or order b d) (get_or order a d) =
-    keeps g who order lawful (get_or order b d) (get_or order a d) p in
-    let is_b : s.earlier ≡ b = one_place order s.earlier b lawful.once (slice_get_within order s.earlier _ s.first) l
-    (get_or_from_slice_get order s.earlier _ 0 s.first ∙ get_or_default_zero order b d l) in
-    let is_a : s.later ≡ a = one_place order s.later a lawful.once (slice_get_within order s.later _ s.second)
-    (omega arith)
-    (get_or_from_slice_get order s.later _ 0 s.second ∙ get_or_default_zero order a d (omega arith)) in
-    absurd (omega (arith, s.in_order))
+    let s : StandsBefore order (get_or order b d) (get_or order a d) = keeps g who order lawful _ _ p in
+    absurd (omega (
+      arith,
+      s.in_order,
+      one_place order s.earlier b d lawful.once l s.first,
+      one_place order s.later a d lawful.once (omega arith) s.second,
+    ))
 
 pub orders_agree : JobFootprint → ConflictingSystemsAreOrdered → LawfulOrdersKeepPaths → LawfulOrdersAgree
 orders_agree foot ordered keeps s accesses settled a b are is_settled la lb =
@@ -190,11 +183,9 @@ pub frames_agree : JobFootprint → ConflictingSystemsAreOrdered → LawfulOrder
     → TurnOrderIsLawful → FramesAgreeInLawfulOrders
 frames_agree foot ordered keeps one is_lawful frame s u log settled order x is_order lawful =
     let b : State = before_turns frame.posts s in
-    let same : x.in_order.settled ≡ settled = one_order one b x.in_order.settled settled x.in_order.is_order is_order in
-    let turns : IsTurnOrder settled (join_flags b) (systems_in log) =
-    subst (λ g. IsTurnOrder g (join_flags b) (systems_in log)) same x.in_order.in_order in
-    let own : IsLawfulOrder settled (join_flags b) (systems_in log) = is_lawful settled (join_flags b) (systems_in log)
-    (order_is_among _ _ is_order) turns in
+    let same = one_order one b x.in_order.settled settled x.in_order.is_order is_order in
+    let own = is_lawful settled (join_flags b) (systems_in log) (order_is_among _ _ is_order)
+    (rw same at x.in_order.in_order) in
     let agree = orders_agree foot ordered keeps b is_order.accesses settled order
     (systems_in log) is_order.of_systems is_order.is_settled lawful own in (
       agree.0 ∙ sym x.leaves,

@@ -1,14 +1,13 @@
 -- The systems have one settled order, a frame has one log, and so has a run.
-use Rattle.std.proofs.Common.{arith, ◌≡◌, ℕ, ◌<◌, ◌||◌, inl, inr, Bool, List, [], ◌∷◌, length, refl, ap, sym, subst, ◌∙◌}
-use Rattle.std.specs.Prelude.{IsTrue}
+use Rattle.std.proofs.Common.{arith, ◌≡◌, ℕ, ◌<◌, ◌||◌, inl, inr, Bool, List, [], ◌∷◌, length, refl, sym, ◌∙◌}
 use Rattle.std.proofs.lemmas.Bool.{and_parts}
 use Rattle.std.proofs.lemmas.List.Elements.{All-contains, filter_passes}
 use Rattle.std.proofs.lemmas.List.FromFn.{length-map-range_with_len}
 use Rattle.msg_world.specs.declared.access.Access.{Access}
 use Rattle.msg_world.specs.Prelude.{Part, Conflict, uses, writes}
 use Rattle.msg_order.specs.declared.rule.Rule.{Rule}
-use Rattle.msg_order.specs.Prelude.{AreInConflict, Graph, IsAcyclic, IsAmong, IsSettledOrder, IsTurnOrder, SettledOrderIsUnique, Settles, SettlingMakesNoCycle, TurnOrderIsUnique, access_of, has_joined, pairs, rules_among}
-use Rattle.msg_frames.specs.Prelude.{AreAccessesOf, FramesAreUnique, IsOrderOf, IsRun, IsTurnOrderOf, NoCycle, RunsAreUnique, State, SystemsHaveOneOrder, frame_in, has_begun, join_flags, systems_in}
+use Rattle.msg_order.specs.Prelude.{AreInConflict, Graph, IsAcyclic, IsAmong, IsSettledOrder, SettledOrderIsUnique, Settles, SettlingMakesNoCycle, TurnOrderIsUnique, access_of, pairs, rules_among}
+use Rattle.msg_frames.specs.Prelude.{AreAccessesOf, FramesAreUnique, IsOrderOf, IsTurnOrderOf, NoCycle, RunsAreUnique, State, SystemsHaveOneOrder, has_begun, join_flags}
 use Rattle.msg_order.proofs.Elements.{Contains-cases}
 use Rattle.msg_frames.proofs.SystemsStay.{joined_below}
 
@@ -43,10 +42,7 @@ module _ (s : State) (a b : List Access) (are : AreAccessesOf s a) (are' : AreAc
 settles_by : (C D : ℕ → ℕ → Type 0) → ((i j : ℕ) → C i j → D i j) → ((i j : ℕ) → D i j → C i j)
     → (ps : List (ℕ × ℕ)) (g h : Graph) → Settles C g ps h → Settles D g ps h
 settles_by C D to from [] g h e = e
-settles_by C D to from (p ∷ ps) g h x = elim x [
-  | inl gains ↦ inl ((to p.0 _ gains.0.0, gains.0.1), settles_by C D to from ps (p ∷ g) _ gains.1)
-  | inr stays ↦ inr (λ d. stays.0 (from p.0 _ d.0, d.1), settles_by C D to from ps g _ stays.1)
-]
+settles_by C D to from (p ∷ ps) g h x = grind (arith, to, from, settles_by C D to from ps)
 
 settled_by_other : (s : State) (a b : List Access) → AreAccessesOf s a → AreAccessesOf s b → (g : Graph)
     → IsSettledOrder a s.rules (join_flags s) g → IsSettledOrder b s.rules (join_flags s) g
@@ -63,11 +59,10 @@ rules_are_among who rules i j e = grind (arith, All-contains, and_parts, filter_
 
 settles_among : (accesses : List Access) (who : List Bool) (ps : List (ℕ × ℕ)) (g h : Graph) → IsAmong who g
     → Settles (AreInConflict accesses who) g ps h → IsAmong who h
-settles_among accesses who [] g h among e = subst (IsAmong who) e among
+settles_among accesses who [] g h among e = rw (← e) among
 settles_among accesses who (p ∷ ps) g h among x = elim x [
   | inl gains ↦ settles_among _ who ps (p ∷ g) h (λ i j e. elim (Contains-cases _ _ _ e) [
-    | inl is ↦ subst (λ (q : ℕ × ℕ). IsTrue (has_joined who q.0) × IsTrue (has_joined who q.1)) is
-        (gains.0.0.first_joined, gains.0.0.second_joined)
+    | inl is ↦ grind (arith, is, gains.0.0.first_joined, gains.0.0.second_joined)
     | inr old ↦ among _ _ old
   ]) gains.1
   | inr stays ↦ settles_among _ who ps g h among stays.1
@@ -86,22 +81,15 @@ order_has_no_cycle acyclic s g none o = acyclic o.accesses s.rules (join_flags s
 module _ (one : SettledOrderIsUnique) (turns : TurnOrderIsUnique) where
   pub one_turn_order : (s : State) (xs ys : List ℕ) → IsTurnOrderOf s xs → IsTurnOrderOf s ys → xs ≡ ys
   one_turn_order s xs ys x y =
-      let same : y.settled ≡ x.settled = one_order one s y.settled x.settled y.is_order x.is_order in
-      turns x.settled (join_flags s) xs ys x.in_order (subst (λ g. IsTurnOrder g (join_flags s) ys) same y.in_order)
+      turns x.settled (join_flags s) xs ys x.in_order
+      (rw (one_order one s y.settled x.settled y.is_order x.is_order) at y.in_order)
 
   pub one_frame : FramesAreUnique
-  one_frame frame s u v log other x y =
-      let order : systems_in log ≡ systems_in other = one_turn_order _ _ _ x.in_order y.in_order in (
-        x.tells ∙ ap (λ xs. (frame_in xs frame s).log) order ∙ sym y.tells,
-        x.leaves ∙ ap (λ xs. (frame_in xs frame s).state) order ∙ sym y.leaves,
-      )
+  one_frame frame s u v log other x y = grind (arith, one_turn_order _ _ _ x.in_order y.in_order)
 
   pub one_run : RunsAreUnique
   one_run [] s u v [] [] x y = (refl, x ∙ sym y)
-  one_run [] s u v [] (other ∷ others) x y = absurd y
-  one_run (frame ∷ frames) s u v (log ∷ logs) [] x y = absurd y
   one_run (frame ∷ frames) s u v (log ∷ logs) (other ∷ others) x y =
       let here = one_frame frame s x.0 y.0 log other x.1 y.1 in
-      let rest = one_run frames x.0 u v logs others x.2 (subst (λ m. IsRun frames m others v) (sym here.1) y.2) in
-      (ap (λ l. l ∷ logs) here.0 ∙ ap (λ ls. other ∷ ls) rest.0, rest.1)
-  one_run frames s u v logs others x y = absurd x
+      grind (arith, here, one_run frames x.0 u v logs others x.2 (rw (here.1) y.2))
+  one_run frames s u v logs others x y = grind arith

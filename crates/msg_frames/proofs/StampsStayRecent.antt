@@ -1,8 +1,8 @@
 -- Where the messages from a number on have recent stamps, ops, turns and posts keep it so.
 use Rattle.std.proofs.Common.{◌≡◌, ℕ, zero, suc, ◌+◌, ◌≤◌, ℤ, ◌⊎◌, List, [], ◌∷◌, ◌++◌, map, All, Option, None, Some, cond, sym, ap, arith, inl, inr, slice_get, ◌==◌}
-use Rattle.std.proofs.lemmas.Bool.{cases_Bool, cases_eq, eq-eqb, ne_eqb}
+use Rattle.std.proofs.lemmas.Bool.{cases_Bool}
 use Rattle.std.proofs.lemmas.Option.{none-some, same_Some}
-use Rattle.std.proofs.lemmas.List.Elements.{All-append, All-cons, All-nil}
+use Rattle.std.proofs.lemmas.List.Elements.{All-append, All-nil, All-map}
 use Rattle.msg_buffer.specs.Prelude.{Entry, History, clear, stamped, update, write}
 use Rattle.msg_world.specs.declared.record.Record.{Record}
 use Rattle.msg_world.specs.declared.record.TheConstants.{HOST}
@@ -12,6 +12,7 @@ use Rattle.msg_system.specs.declared.op.Op.TheVariants.{Write, Batch, Forward, D
 use Rattle.msg_system.specs.Prelude.{AfterProgram, Job, Meaning, after_at_most, after_job, after_op, again_by, all_hold, next_op, one_more, took, turn}
 use Rattle.msg_frames.specs.Entries as entries
 use Rattle.msg_frames.specs.Prelude.{Moment, State, after_posts, after_turns_of, first_moments, job_moments, next_moments, turn_moments, turns_moments}
+use Rattle.std.proofs.lemmas.Bool.Decides.{eqb_tells}
 
 -- the messages from number p on were written at most k updates ago
 abbrev pub AreRecent : ℕ → ℕ → History Record → Type 0
@@ -49,7 +50,7 @@ module _ (k p t : ℕ) where
 
   one_recent : (w : WorldState) (u : ℕ) (h : History Record) → (AreRecent k p (w.histories u) → AreRecent k p h)
       → InWorld w → InWorld (with_history w u h)
-  one_recent w u h keeps recent = grind (arith, cases_eq, eq-eqb, ne_eqb)
+  one_recent w u h keeps recent = grind (arith, eqb_tells)
 
   written_recent : (w : WorldState) (u : ℕ) (ms : List Record) → InWorld w
       → InWorld (with_history w u (write ms (w.histories u)))
@@ -83,9 +84,7 @@ module _ (k p t : ℕ) where
 
   at_entries : (h : History Record) (es : List entries.Entry) → AreRecent k p h
       → AtMoments (map (λ e. record { history = h; entry = e }) es)
-  at_entries h [] recent = All-nil (λ m. AreRecent k p m.history)
-  at_entries h (e ∷ es) recent = All-cons (λ m. AreRecent k p m.history) (record { history = h; entry = e })
-      (map (λ e. record { history = h; entry = e }) es) recent (at_entries h es recent)
+  at_entries h es recent = All-map (λ m. AreRecent k p m.history) _ es (λ j d lt. recent)
 
   next_recent : (o : Option Op) (writer : ℕ) (far : AfterProgram) → InWorld far.state
       → InWorld (one_more o writer far).state × AtMoments (next_moments t o writer far)
@@ -117,10 +116,8 @@ module _ (k p t : ℕ) where
   turns_recent i (j ∷ js) s recent =
       let here = job_recent (s.members j).job s.world recent in
       let rest = turns_recent i js _ here.0 in
-      let own : AtMoments (cond (j == i) (job_moments t (s.members i).job s.world) []) = elim (cases_eq j i) [
-        | inl e ↦ rw (eq-eqb j i e) (job_recent (s.members i).job s.world recent).1
-        | inr ne ↦ rw (ne_eqb j i ne) (All-nil (λ m. AreRecent k p m.history))
-      ] in
+      let own : AtMoments (cond (j == i) (job_moments t (s.members i).job s.world) []) =
+      grind (arith, eqb_tells j i, All-nil, (job_recent (s.members i).job s.world recent).1) in
       (rest.0, All-append (λ m. AreRecent k p m.history) _ _ own rest.1)
 
 -- ---- the update before them

@@ -1,14 +1,13 @@
 -- Frames keep states sound.
 use Rattle.std.proofs.Common.{◌≡◌, ℕ, ◌≤◌, ◌<◌, max, List, [], ◌∷◌, Contains, refl, sym, ap₂, subst, ◌∙◌, arith}
 use Rattle.std.specs.Prelude.{IsTrue, IsFalse, nat_le}
-use Rattle.std.proofs.lemmas.Bool.{cases_Bool, false≢true, leb-false, leb-true}
-use Rattle.std.proofs.lemmas.List.{get_or_past}
-use Rattle.std.proofs.lemmas.List.FromFn.{get_or-map-range_with_len, length-map-range_with_len}
+use Rattle.std.proofs.lemmas.Bool.{false≢true}
+use Rattle.std.proofs.lemmas.List.FromFn.{get_or-map-range_with_len}
 use Rattle.msg_buffer.specs.Prelude.{count}
 use Rattle.msg_order.specs.Prelude.{has_joined}
 use Rattle.msg_frames.specs.Prelude.{Frame, IsBalanced, IsFrame, IsRun, IsSoundState, IsTurnOrderOf, Log, Member, State, after_turns_of, before_turns, counts, has_begun, join_flags, joined_member, no_totals, place_of, systems_in, turns_moments}
 use Rattle.msg_frames.proofs.HistoriesGrow.{BufferLaws, counts_more}
-use Rattle.msg_frames.proofs.SystemsStay.{turns_keep}
+use Rattle.msg_frames.proofs.SystemsStay.{turns_keep, joined_below}
 use Rattle.msg_frames.proofs.EntriesAddUp.{stays_balanced}
 use Rattle.msg_frames.proofs.ReaderOverTurns.{Keeps, Reads, turns_read, turns_skip}
 use Rattle.msg_frames.proofs.BeforeTurns.{Prepares, begun_within, comes, prepares, stood, waits}
@@ -16,17 +15,7 @@ use Rattle.msg_frames.proofs.BeforeTurns.{Prepares, begun_within, comes, prepare
 -- ---- who has a turn
 
 has_joined_has_begun : (b : State) (i : ℕ) → IsTrue (has_joined (join_flags b) i) → IsTrue (has_begun b i)
-has_joined_has_begun b i is =
-    grind (
-      arith,
-      cases_Bool,
-      false≢true,
-      get_or-map-range_with_len,
-      get_or_past,
-      leb-false,
-      leb-true,
-      length-map-range_with_len,
-    )
+has_joined_has_begun b i is = grind (arith, get_or-map-range_with_len, joined_below)
 
 -- one that waits has no turn
 pub has_no_turn : (b : State) (order : List ℕ) (i : ℕ) → IsTurnOrderOf b order → IsFalse (has_begun b i)

@@ -1,16 +1,17 @@
 -- What turns and frames keep of the systems.
-use Rattle.std.proofs.Common.{◌≡◌, ℕ, ◌<◌, IsTrue, arith, List, [], ◌∷◌, map, refl, ap, ◌∙◌, inl, inr, suc, max, nat_le, ℤ, eq-eqb, ne_eqb}
+use Rattle.std.proofs.Common.{◌≡◌, ℕ, ◌<◌, IsTrue, arith, List, [], ◌∷◌, map, refl, ap, ◌∙◌, inl, inr, suc, max, nat_le, ℤ}
 use Rattle.std.specs.List.{range_with_len}
-use Rattle.std.proofs.lemmas.Bool.{cases_Bool, cases_eq, cases_lt, false≢true}
+use Rattle.std.proofs.lemmas.Bool.{cases_Bool, cases_lt, false≢true}
 use Rattle.std.proofs.lemmas.List.{get_or_past}
 use Rattle.std.proofs.lemmas.List.FromFn.{length-map-range_with_len}
 use Rattle.std.specs.Prelude.{◌==◌}
 use Rattle.msg_world.specs.declared.access.Access.{Access}
 use Rattle.msg_world.specs.Prelude.{WorldState}
 use Rattle.msg_order.specs.Prelude.{has_joined}
-use Rattle.msg_system.specs.Prelude.{Asked, after_asking, asked_started, with_conditions}
-use Rattle.msg_system.specs.declared.start.Start.{Start}
+use Rattle.msg_system.specs.Prelude.{with_conditions}
 use Rattle.msg_frames.specs.Prelude.{AreAccessesOf, Frame, FramesKeepSystems, Member, NoCycle, SameMember, SameSystems, SameSystemsHaveSameAccesses, State, TurnsKeepSystems, after_turn_of, after_turns_of, before_turns, counts, frame_in, join_flags, joined_member, joining, member_turn, needs_of, with_joining, with_member}
+use Rattle.std.proofs.lemmas.Bool.Decides.{eqb_tells}
+use Rattle.std.proofs.lemmas.Simd.{map-map}
 
 -- ---- members
 
@@ -20,21 +21,11 @@ same_member m = record { needs = refl; start = refl; writer = refl; conditions =
 pub members_along : (l m n : Member) → SameMember l m → SameMember m n → SameMember l n
 members_along l m n a b = grind arith
 
-asked_same : (w : WorldState) (asked : List Asked) → map (λ (a : Asked). a.condition) (map (after_asking w) asked)
-    ≡ map (λ (a : Asked). a.condition) asked
-asked_same w [] = refl
-asked_same w (a ∷ asked) = ap (λ cs. a.condition ∷ cs) (asked_same w asked)
-
 pub turn_keeps : (m : Member) (w : WorldState) → SameMember m (member_turn m w).member
-turn_keeps m w = grind (arith, asked_same, cases_Bool)
-
-started_same : (start : Start) (counts : List ℕ) (asked : List Asked)
-    → map (λ (a : Asked). a.condition) (map (asked_started start counts) asked) ≡ map (λ (a : Asked). a.condition) asked
-started_same start counts [] = refl
-started_same start counts (a ∷ asked) = ap (λ cs. a.condition ∷ cs) (started_same start counts asked)
+turn_keeps m w = grind (arith, cases_Bool, map-map)
 
 begun_keeps : (counts : List ℕ) (m : Member) → SameMember m (joined_member counts m)
-begun_keeps counts m = grind (arith, started_same)
+begun_keeps counts m = grind (arith, map-map)
 
 -- ---- systems
 
@@ -46,7 +37,7 @@ systems_along s t u a b = grind (arith, members_along)
 
 pub with_member_keeps : (members : ℕ → Member) (i : ℕ) (m : Member) (k : ℕ) → SameMember (members i) m
     → SameMember (members k) (with_member members i m k)
-with_member_keeps members i m k same = grind (arith, cases_eq, eq-eqb, ne_eqb, same_member)
+with_member_keeps members i m k same = grind (arith, eqb_tells, same_member)
 
 pub one_turn_keeps : (i : ℕ) (s : State) → SameSystems s (after_turn_of i s)
 one_turn_keeps i s = grind (arith, turn_keeps, with_member_keeps)

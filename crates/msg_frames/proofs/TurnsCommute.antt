@@ -1,14 +1,14 @@
 -- Turns of systems whose accesses don't conflict can be swapped.
-use Rattle.std.proofs.Common.{arith, ◌≡◌, ◌≢◌, ℕ, ◌<◌, false, ◌&&◌, List, Option, refl, ap, sym, ◌∙◌, inl, inr, eq-eqb, ne_eqb}
+use Rattle.std.proofs.Common.{arith, ◌≡◌, ◌≢◌, ℕ, ◌<◌, false, ◌&&◌, List, refl, ap, sym, ◌∙◌, inl, inr, ne_eqb}
 use Rattle.std.specs.Prelude.{IsTrue}
-use Rattle.std.proofs.lemmas.Bool.{and_from, cases_Bool, cases_eq, or_right}
+use Rattle.std.proofs.lemmas.Bool.{and_from, cases_Bool, or_right}
 use Rattle.msg_world.specs.declared.access.Access.{Access}
 use Rattle.msg_world.specs.Prelude.{Conflict, OfResource, OfType, Part, Registry, WorldState, content, uses, writes}
 use Rattle.msg_order.specs.Prelude.{access_of}
-use Rattle.msg_system.specs.declared.reply.Reply.{Reply}
-use Rattle.msg_system.specs.Prelude.{HasFootprint, IsAccessOf, Job, JobFootprint, Needs, needs_any}
+use Rattle.msg_system.specs.Prelude.{HasFootprint, IsAccessOf, JobFootprint, Needs, needs_any}
 use Rattle.msg_system.proofs.Accesses.{uses_needs}
-use Rattle.msg_frames.specs.Prelude.{AfterTurn, AreAccessesOf, Member, Outcome, State, TurnsOfOthersCommute, after_turn_of, member_turn, needs_of, outcome_entries, outcome_of, turn_of, with_entries, with_member}
+use Rattle.msg_frames.specs.Prelude.{AfterTurn, AreAccessesOf, Member, Outcome, State, TurnsOfOthersCommute, after_turn_of, member_turn, needs_of, turn_of, with_member}
+use Rattle.std.proofs.lemmas.Bool.Decides.{eqb_tells}
 
 -- ---- worlds and states
 
@@ -26,7 +26,7 @@ with_member_other members i m k ne = rw (ne_eqb k i ne) refl
 
 members_swap : (members : ℕ → Member) (i j : ℕ) (m n : Member) (k : ℕ) → i ≢ j
     → with_member (with_member members i m) j n k ≡ with_member (with_member members j n) i m k
-members_swap members i j m n k ne = grind (arith, cases_eq, eq-eqb, ne_eqb)
+members_swap members i j m n k ne = grind (arith, eqb_tells)
 
 -- ---- apart
 
@@ -75,28 +75,17 @@ pub turn_footprint : JobFootprint → (m : Member)
     → HasFootprint (needs_of m) (λ (e : AfterTurn). e.world) given_by_turn (member_turn m)
 turn_footprint foot m = record {
   kept = (foot m.job).kept;
-  same = λ parts v w within agree. ap told ((foot m.job).same parts v w within agree);
+  same = λ parts v w within agree. grind (arith, (foot m.job).same parts v w within agree);
   alike = (foot m.job).alike;
 }
-  where
-    told : Job × Option (List Reply) → Member × Outcome
-    told g = (
-      record m {
-        job = g.0;
-        totals = λ t. with_entries (outcome_entries t m.job.system (outcome_of g.1))
-            (m.totals t);
-      },
-      outcome_of g.1,
-    )
 
 -- the turn of a system after that of another from which it is apart is its turn before it
 pub turn_after : JobFootprint → (s : State) (i j : ℕ) → j ≢ i → Apart (needs_of (s.members i)) (needs_of (s.members j))
     → given_by_turn (turn_of (after_turn_of i s) j) ≡ given_by_turn (turn_of s j)
 turn_after foot s i j ne free =
-    let w : WorldState = (turn_of s i).world in
-    ap (λ m. given_by_turn (member_turn m w)) (with_member_other s.members i (turn_of s i).member j ne)
-    ∙ (turn_footprint foot (s.members j)).same (needs_any (needs_of (s.members j))) w s.world (λ p u. u)
-    (λ p u. (turn_footprint foot (s.members i)).kept s.world p (free.left p u))
+    rw (with_member_other s.members i (turn_of s i).member j ne)
+    ((turn_footprint foot (s.members j)).same (needs_any (needs_of (s.members j))) (turn_of s i).world s.world
+    (λ p u. u) (λ p u. (turn_footprint foot (s.members i)).kept s.world p (free.left p u)))
 
 pub turns_swap : JobFootprint → (s : State) (i j : ℕ) → i ≢ j → Apart (needs_of (s.members i)) (needs_of (s.members j))
     → after_turn_of j (after_turn_of i s) ≡ after_turn_of i (after_turn_of j s)
@@ -124,14 +113,11 @@ turns_swap foot s i j ne free = λ k. record s { members = λ n. members n k; wo
 
 of_access : (s : State) (accesses : List Access) → AreAccessesOf s accesses → (i j : ℕ) → i < s.systems → j < s.systems
     → ¬ Conflict (access_of accesses i) (access_of accesses j) → Apart (needs_of (s.members i)) (needs_of (s.members j))
-of_access s accesses are i j li lj none = apart _ _ (access_of accesses i) (access_of accesses j) (are.of_needs i li)
-    (are.of_needs j lj) none
+of_access s accesses are i j li lj none = apart _ _ _ _ (are.of_needs i li) (are.of_needs j lj) none
 
 pub turns_commute : JobFootprint → TurnsOfOthersCommute
 turns_commute foot s accesses i j are li lj ne none =
-    let free : Apart (needs_of (s.members i)) (needs_of (s.members j)) = of_access s accesses are i j li lj none in (
-      ap (λ (x : Member × Outcome). record { system = j; outcome = x.1 })
-          (turn_after foot s i j (λ e. ne (sym e)) free),
-      ap (λ (x : Member × Outcome). record { system = i; outcome = x.1 }) (turn_after foot s j i ne (flip _ _ free)),
-      turns_swap foot s i j ne free,
-    )
+    let free = of_access s accesses are i j li lj none in
+    let first = turn_after foot s i j (λ e. ne (sym e)) free in
+    let second = turn_after foot s j i ne (flip _ _ free) in
+    grind (arith, first, second, turns_swap foot s i j ne free)
