@@ -79,9 +79,8 @@ none_contained : (xs : List ℕ) → ((i : ℕ) → Contains xs i → ⊥) → x
 none_contained [] h = refl
 none_contained (x ∷ xs) h = absurd (h x (Contains-head x xs))
 
-middle_or : (xs : List ℕ) (y : ℕ) (ys : List ℕ) (i : ℕ) → Contains (xs ++ y ∷ ys) i → (y ≡ i) ⊎ Contains (xs ++ ys) i
-middle_or xs y ys i h =
-    Contains-cases y (xs ++ ys) i (Contains-permutation _ _ i (IsPermutation-middle xs y ys) h)
+not_first : (x : ℕ) (xs : List ℕ) (i : ℕ) → x ≢ i → Contains (x ∷ xs) i → Contains xs i
+not_first x xs i ne h = elim (Contains-cases x xs i h) [ inl e ↦ absurd (ne e) | inr later ↦ later ]
 
 with_middle : (xs : List ℕ) (y : ℕ) (ys : List ℕ) (i : ℕ) → Contains (xs ++ ys) i → Contains (xs ++ y ∷ ys) i
 with_middle xs y ys i h =
@@ -106,23 +105,18 @@ module _ (foot : JobFootprint) (accesses : List Access) (P : ℕ → ℕ → Typ
       (same_run accesses [])
   reordered (x ∷ rest) order joins to from below once once' a b =
       let c : Cut order x = cut order x (from x (Contains-head x rest)) in
-      let single : AllPairs (λ i j. i ≢ j) (c.before ++ x ∷ c.rest) = subst (AllPairs (λ i j. i ≢ j)) c.is once' in
+      let single : AllPairs (λ i j. i ≢ j) (c.before ++ x ∷ c.rest) = rw (c.is) at once' in
       let parts = pairs_middle (λ i j. i ≢ j) c.before x c.rest single in
-      let ahead = pairs_middle (λ i j. ¬ P j i) c.before x c.rest (subst (Forward P) c.is b) in
-      let to' : (i : ℕ) → Contains (c.before ++ c.rest) i
-      → Contains rest i =
-      λ i h. elim (Contains-cases x rest i
-      (to i (subst (λ xs. Contains xs i) (sym c.is) (with_middle c.before x c.rest i h)))) [
-        | inl e ↦ absurd (apart_from c.before x c.rest single (subst (Contains (c.before ++ c.rest)) (sym e) h))
-        | inr later ↦ later
-      ] in
-      let from' : (i : ℕ) → Contains rest i
-      → Contains (c.before ++ c.rest) i =
-      λ i h. elim (middle_or c.before x c.rest i
-      (subst (λ xs. Contains xs i) c.is (from i (Contains-tail x rest i h)))) [
-        | inl e ↦ absurd (All-contains (λ y. x ≢ y) rest i (pairs_head (λ i j. i ≢ j) x rest once) h e)
-        | inr other ↦ other
-      ] in
+      let ahead = pairs_middle (λ i j. ¬ P j i) c.before x c.rest (rw (c.is) at b) in
+      let to' : (i : ℕ) → Contains (c.before ++ c.rest) i → Contains rest i =
+      λ i h. not_first x rest i
+      (λ e. apart_from c.before x c.rest single (subst (Contains (c.before ++ c.rest)) (sym e) h))
+      (to i (rw (c.is) (with_middle c.before x c.rest i h))) in
+      let from' : (i : ℕ) → Contains rest i → Contains (c.before ++ c.rest) i =
+      λ i h. not_first x (c.before ++ c.rest) i
+      (All-contains (λ y. x ≢ y) rest i (pairs_head (λ i j. i ≢ j) x rest once) h)
+      (Contains-permutation (c.before ++ x ∷ c.rest) _ i (IsPermutation-middle c.before x c.rest)
+      (rw (c.is) at (from i (Contains-tail x rest i h)))) in
       let in_rest : (k d : ℕ) → k < length c.before
       → Contains rest (get_or c.before k d) =
       λ k d lt. to' (get_or c.before k d)

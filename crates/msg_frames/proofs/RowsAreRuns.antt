@@ -1,13 +1,13 @@
 -- Each worked run is a run as the definitions say: the order of its turns is the settled one. The accesses, the settled
 -- order and the batch numbers are computed.
-use Rattle.std.proofs.Common.{◌≡◌, ℕ, zero, suc, ◌*◌, ◌^◌, ◌%◌, ◌<◌, ◌≤◌, inl, inr, Bool, true, false, cond, ◌&&◌, List, [], ◌∷◌, Option, Some, None, map, refl, sym, subst, ◌∙◌, arith}
+use Rattle.std.proofs.Common.{◌≡◌, ℕ, zero, suc, ◌*◌, ◌^◌, ◌%◌, ◌<◌, ◌≤◌, inl, inr, Bool, true, false, cond, ◌&&◌, List, [], ◌∷◌, Option, Some, None, map, refl, ◌∙◌, arith}
 use Rattle.std.specs.Prelude.{nat_lt, bit_or, slice_index_or}
 use Rattle.std.specs.List.{range_with_len, list_all, list_any}
-use Rattle.std.proofs.lemmas.Bool.{cases_Bool, cases_lt, and_parts, or_cases, false≢true, false_from_ne_true, ne_eqb, ltb-true}
+use Rattle.std.proofs.lemmas.Bool.{cases_Bool, cases_lt, and_parts, or_cases, false≢true}
 use Rattle.std.proofs.lemmas.List.{get_or_past}
 use Rattle.std.proofs.lemmas.List.FromFn.{get_or-map-range_with_len, length-map-range_with_len}
 use Rattle.msg_world.specs.declared.access.Access.{Access}
-use Rattle.msg_world.specs.Prelude.{Part, OfType, OfResource, Registry, same_part, has_bit, reads, writes, no_access, Fits}
+use Rattle.msg_world.specs.Prelude.{Part, OfType, OfResource, Registry, has_bit, reads, writes, no_access, Fits}
 use Rattle.msg_world.proofs.Bits.{has_bit-zero, has_bit-set}
 use Rattle.msg_order.specs.Prelude.{access_of}
 use Rattle.msg_order.proofs.Computing.{each_below, is_turn_order, in_turn_by_test}
@@ -15,11 +15,11 @@ use Rattle.msg_system.specs.declared.op.Op.{Op}
 use Rattle.msg_system.specs.declared.condition.Condition.{Condition}
 use Rattle.msg_system.specs.declared.op.Op.TheVariants.{Read}
 use Rattle.msg_system.specs.declared.program.Program.{Program}
-use Rattle.msg_system.specs.Prelude.{IsAccessOf, Needs, conditions_of, is_part, job_needs, op_parts, probe_part, program_needs, turn, with_conditions}
+use Rattle.msg_system.specs.Prelude.{IsAccessOf, Needs, conditions_of, is_part, job_needs, op_parts, probe_part, program_needs, turn}
 use Rattle.msg_frames.specs.Prelude.{AfterFrame, Frame, IsRunOf, IsTurnOrderOf, OrderedFrames, Setup, State, alone, before_turns, conditions_frames, contrary, contrary_frames, drained, drained_frames, early_frames, echo, echo_frames, fourth, fourth_frames, frame_in, gated, gated_frames, join_flags, lag, lag_frames, late, late_frames, needs_of, nobody, numbered, program, relay, relay_frames, signallers, signallers_frames, start_of, tally, tally_frames, two_conditions, writers, writers_frames}
 use Rattle.msg_frames.proofs.SystemsStay.{before_keeps, frame_keeps, joining_on_keeps}
 use Rattle.msg_frames.proofs.FramesInOrder.{frame_in_order}
-use Rattle.std.proofs.lemmas.Bool.Decides.{eqb_tells}
+use Rattle.std.proofs.lemmas.Bool.Decides.{eqb_tells, nat_tests}
 
 -- ---- accesses, computed
 
@@ -28,26 +28,13 @@ abbrev mask : (ℕ → Bool) → ℕ → ℕ
 mask test zero = 0
 mask test (suc n) = cond (test n) (bit_or (mask test n) (1 * 2 ^ n % 2 ^ 64)) (mask test n)
 
-mask_above : (test : ℕ → Bool) (n k : ℕ) → n ≤ 64 → n ≤ k → has_bit (mask test n) k ≡ false
-mask_above test zero k few h = has_bit-zero k
-mask_above test (suc n) k few h =
-    grind (arith, cases_Bool, has_bit-set, ne_eqb, mask_above test n k (omega arith) (omega arith))
-
-mask_below : (test : ℕ → Bool) (n k : ℕ) → n ≤ 64 → k < n → has_bit (mask test n) k ≡ test k
-mask_below test zero k few h = absurd (omega arith)
-mask_below test (suc n) k few h =
-    grind (
-      arith,
-      cases_Bool,
-      eqb_tells,
-      has_bit-set,
-      mask_above test n n (omega arith) (omega arith),
-      mask_below test n k (omega arith),
-    )
+mask_at : (test : ℕ → Bool) (n k : ℕ) → n ≤ 64 → has_bit (mask test n) k ≡ (nat_lt k n && test k)
+mask_at test zero k few = grind (arith, has_bit-zero, nat_tests)
+mask_at test (suc n) k few = grind (arith, cases_Bool, has_bit-set, nat_tests, mask_at test n k (omega arith))
 
 mask_is : (test : ℕ → Bool) (n : ℕ) → n ≤ 64 → ((k : ℕ) → test k ≡ true → k < n) → (k : ℕ)
     → has_bit (mask test n) k ≡ test k
-mask_is test n few within k = grind (arith, cases_lt, false_from_ne_true, mask_above, mask_below)
+mask_is test n few within k = grind (arith, cases_Bool, mask_at, nat_tests)
 
 abbrev access_for : ℕ → Needs → Access
 access_for n needs = record {
@@ -59,7 +46,7 @@ access_for n needs = record {
 }
 
 bit_is_below : (test : ℕ → Bool) (n k : ℕ) → n ≤ 64 → has_bit (mask test n) k ≡ true → k < n
-bit_is_below test n k few t = grind (arith, cases_lt, mask_above)
+bit_is_below test n k few t = grind (arith, cases_Bool, mask_at, nat_tests)
 
 access_fits : (n : ℕ) (needs : Needs) → n ≤ 64 → Fits n n (access_for n needs)
 access_fits n needs few = grind (arith, bit_is_below, or_cases)
@@ -83,12 +70,9 @@ abbrev passes : (Part → Bool) → Option Part → Bool
 passes test None = true
 passes test (Some p) = test p
 
-same_is : (p q : Part) → same_part p q ≡ true → p ≡ q
-same_is p q h = grind (arith, eqb_tells)
-
 part_passes : (test : Part → Bool) (o : Option Part) (p : Part) → passes test o ≡ true → is_part o p ≡ true
     → test p ≡ true
-part_passes test o p t h = grind (arith, same_is)
+part_passes test o p t h = grind (arith, eqb_tells)
 
 any_passes : {X : Type 0} (test : Part → Bool) (part : X → Option Part) (xs : List X) (p : Part)
     → list_all (λ x. passes test (part x)) xs ≡ true → list_any (λ x. is_part (part x) p) xs ≡ true → test p ≡ true
@@ -124,20 +108,10 @@ access_is n ops cs few w = record { reads = read; writes = written }
     needs = job_needs ops cs
 
     read : (p : Part) → reads (access_for n needs) p ≡ needs.reads p
-    read (OfType t) =
-        mask_is (λ t. needs.reads (OfType t)) n few (λ k h. ltb-true k n (reads_within n ops cs w (OfType k) h)) t
-    read (OfResource r) =
-        mask_is (λ r. needs.reads (OfResource r)) n few
-        (λ k h. ltb-true k n (reads_within n ops cs w (OfResource k) h)) r
-    read Registry =
-        sym (false_from_ne_true (needs.reads Registry) (λ h. absurd (false≢true (reads_within n ops cs w Registry h))))
+    read p = grind (arith, cases_Bool, mask_at, nat_tests, reads_within n ops cs w p)
 
     written : (p : Part) → writes (access_for n needs) p ≡ needs.writes p
-    written (OfType t) =
-        mask_is (λ t. needs.writes (OfType t)) n few (λ k h. ltb-true k n (writes_within n ops cs w (OfType k) h)) t
-    written (OfResource r) = mask_is (λ r. needs.writes (OfResource r)) n few
-        (λ k h. ltb-true k n (writes_within n ops cs w (OfResource k) h)) r
-    written Registry = refl
+    written p = grind (arith, cases_Bool, mask_at, nat_tests, writes_within n ops cs w p)
 
 -- ---- the turns of a frame
 
@@ -171,11 +145,10 @@ turns_of programs s order are t =
     let access : ℕ → Access = λ i. access_for most (needs_of (s.members i)) in
     let is : (i : ℕ) → i < s.systems → access_of (accesses_of s) i
     ≡ access i = λ i lt. get_or-map-range_with_len access 0 s.systems i i no_access lt (omega arith) in
+    let all = length-map-range_with_len access 0 s.systems in
     let fit : (i : ℕ) → Fits most most (access_of (accesses_of s) i) = λ i. elim (cases_lt i s.systems) [
-      | inl lt ↦ subst (Fits most most) (sym (is i lt)) (access_fits most (needs_of (s.members i)) (omega arith))
-      | inr past ↦ subst (Fits most most)
-          (sym (get_or_past (accesses_of s) i no_access (omega (arith, length-map-range_with_len access 0 s.systems))))
-          (nothing_fits most)
+      | inl lt ↦ rw (is i lt) (access_fits most (needs_of (s.members i)) (omega arith))
+      | inr past ↦ rw (get_or_past (accesses_of s) i no_access (omega (arith, all))) (nothing_fits most)
     ] in
     let turn = in_turn_by_test most (accesses_of s) s.rules (join_flags s) order fit both.1 in
     record {
@@ -183,12 +156,10 @@ turns_of programs s order are t =
       is_order = record {
         accesses = accesses_of s;
         of_systems = record {
-          each = length-map-range_with_len access 0 s.systems;
-          of_needs = λ i lt. subst (IsAccessOf (needs_of (s.members i))) (sym (is i lt))
-              (subst (λ (n : Needs). IsAccessOf (with_conditions n (conditions_of (s.members i).job))
-              (access_for most (with_conditions n (conditions_of (s.members i).job)))) (sym (are i))
-              (access_is most (ops_at programs i) (conditions_of (s.members i).job) (omega arith)
-              (each_below (job_is_within programs s) s.systems i both.0 lt)));
+          each = all;
+          of_needs = λ i lt. rw (is i lt, are i) (access_is most (ops_at programs i)
+              (conditions_of (s.members i).job) (omega arith)
+              (each_below (job_is_within programs s) s.systems i both.0 lt));
         };
         is_settled = turn.is_settled;
       };

@@ -1,7 +1,7 @@
 -- Turns of systems whose accesses don't conflict can be swapped.
-use Rattle.std.proofs.Common.{arith, ◌≡◌, ◌≢◌, ℕ, ◌<◌, false, ◌&&◌, List, refl, ap, sym, ◌∙◌, inl, inr, ne_eqb}
+use Rattle.std.proofs.Common.{arith, ◌≡◌, ◌≢◌, ℕ, ◌<◌, false, ◌&&◌, List, refl, sym, ne_eqb}
 use Rattle.std.specs.Prelude.{IsTrue}
-use Rattle.std.proofs.lemmas.Bool.{and_from, cases_Bool, or_right}
+use Rattle.std.proofs.lemmas.Bool.{and_from, cases_Bool}
 use Rattle.msg_world.specs.declared.access.Access.{Access}
 use Rattle.msg_world.specs.Prelude.{Conflict, OfResource, OfType, Part, Registry, WorldState, content, uses, writes}
 use Rattle.msg_order.specs.Prelude.{access_of}
@@ -24,10 +24,6 @@ pub with_member_other : (members : ℕ → Member) (i : ℕ) (m : Member) (k : �
     ≡ members k
 with_member_other members i m k ne = rw (ne_eqb k i ne) refl
 
-members_swap : (members : ℕ → Member) (i j : ℕ) (m n : Member) (k : ℕ) → i ≢ j
-    → with_member (with_member members i m) j n k ≡ with_member (with_member members j n) i m k
-members_swap members i j m n k ne = grind (arith, eqb_tells)
-
 -- ---- apart
 
 -- neither writes what the other needs
@@ -45,26 +41,6 @@ unwritten m n a b ma nb p none used = grind (arith, and_from, cases_Bool, uses_n
 pub apart : (m n : Needs) (a b : Access) → IsAccessOf m a → IsAccessOf n b → ¬ Conflict a b → Apart m n
 apart m n a b ma nb none = grind (arith, unwritten)
 
--- what two do, neither of which writes what the other needs
-module _ {X : Type 0} {Y : Type 0} {Z : Type 0} {W : Type 0} where
-  pub worlds_commute : (m n : Needs) (world : X → WorldState) (given : X → Y) (f : WorldState → X)
-      (world' : Z → WorldState) (given' : Z → W) (g : WorldState → Z)
-      → HasFootprint m world given f → HasFootprint n world' given' g → Apart m n → (w : WorldState)
-      → world' (g (world (f w))) ≡ world (f (world' (g w)))
-  worlds_commute m n world given f world' given' g ff gg free w = same_world _ _ (λ p. elim (cases_Bool (m.writes p)) [
-    | inl e ↦
-        let used : IsTrue (needs_any m p) = or_right _ _ e in
-        gg.kept (world (f w)) p (free.right p used)
-        ∙ sym (ff.alike (needs_any m) (world' (g w)) w (λ q u. u) (λ q u. gg.kept w q (free.right q u)) p used)
-    | inr e ↦ elim (cases_Bool (n.writes p)) [
-      | inl e' ↦
-          let used : IsTrue (needs_any n p) = or_right _ _ e' in
-          gg.alike (needs_any n) (world (f w)) w (λ q u. u) (λ q u. ff.kept w q (free.left q u)) p used
-          ∙ sym (ff.kept (world' (g w)) p (free.left p used))
-      | inr e' ↦ gg.kept (world (f w)) p e' ∙ ff.kept w p e ∙ sym (ff.kept (world' (g w)) p e ∙ gg.kept w p e')
-    ]
-  ])
-
 -- ---- turns
 
 -- what a turn gives beside the world
@@ -79,6 +55,27 @@ turn_footprint foot m = record {
   alike = (foot m.job).alike;
 }
 
+-- two turns, neither of which writes what the other needs
+worlds_commute : JobFootprint → (m n : Member) (w : WorldState) → Apart (needs_of m) (needs_of n)
+    → (member_turn n (member_turn m w).world).world ≡ (member_turn m (member_turn n w).world).world
+worlds_commute foot m n w free =
+    let f = turn_footprint foot m in
+    let g = turn_footprint foot n in
+    let v : WorldState = (member_turn m w).world in
+    let u : WorldState = (member_turn n w).world in
+    same_world _ _ (λ p. grind (
+      arith,
+      cases_Bool,
+      f.kept w p,
+      f.kept u p,
+      g.kept w p,
+      g.kept v p,
+      free.left p,
+      free.right p,
+      f.alike (needs_any (needs_of m)) u w (λ q used. used) (λ q used. g.kept w q (free.right q used)) p,
+      g.alike (needs_any (needs_of n)) v w (λ q used. used) (λ q used. f.kept w q (free.left q used)) p,
+    ))
+
 -- the turn of a system after that of another from which it is apart is its turn before it
 pub turn_after : JobFootprint → (s : State) (i j : ℕ) → j ≢ i → Apart (needs_of (s.members i)) (needs_of (s.members j))
     → given_by_turn (turn_of (after_turn_of i s) j) ≡ given_by_turn (turn_of s j)
@@ -91,25 +88,21 @@ pub turns_swap : JobFootprint → (s : State) (i j : ℕ) → i ≢ j → Apart 
     → after_turn_of j (after_turn_of i s) ≡ after_turn_of i (after_turn_of j s)
 turns_swap foot s i j ne free = λ k. record s { members = λ n. members n k; world = worlds k }
   where
-    first : (turn_of (after_turn_of i s) j).member ≡ (turn_of s j).member
-    first = ap (λ (x : Member × Outcome). x.0) (turn_after foot s i j (λ h. ne (sym h)) free)
-
-    second : (turn_of (after_turn_of j s) i).member ≡ (turn_of s i).member
-    second = ap (λ (x : Member × Outcome). x.0) (turn_after foot s j i ne (flip _ _ free))
-
     members : (n : ℕ) → (after_turn_of j (after_turn_of i s)).members n
         ≡ (after_turn_of i (after_turn_of j s)).members n
-    members n = ap (λ m. with_member (after_turn_of i s).members j m n) first
-        ∙ members_swap s.members i j (turn_of s i).member (turn_of s j).member n ne
-        ∙ ap (λ m. with_member (after_turn_of j s).members i m n) (sym second)
+    members n =
+        grind (
+          arith,
+          eqb_tells,
+          turn_after foot s i j (λ h. ne (sym h)) free,
+          turn_after foot s j i ne (flip _ _ free),
+        )
 
     worlds : (after_turn_of j (after_turn_of i s)).world ≡ (after_turn_of i (after_turn_of j s)).world
-    worlds = ap (λ m. (member_turn m (turn_of s i).world).world)
-        (with_member_other s.members i (turn_of s i).member j (λ h. ne (sym h)))
-        ∙ worlds_commute _ _ _ _ _ _ _ _ (turn_footprint foot (s.members i))
-        (turn_footprint foot (s.members j)) free s.world
-        ∙ ap (λ m. (member_turn m (turn_of s j).world).world)
-        (sym (with_member_other s.members j (turn_of s j).member i ne))
+    worlds = rw (
+      with_member_other s.members i (turn_of s i).member j (λ h. ne (sym h)),
+      with_member_other s.members j (turn_of s j).member i ne,
+    ) (worlds_commute foot (s.members i) (s.members j) s.world free)
 
 of_access : (s : State) (accesses : List Access) → AreAccessesOf s accesses → (i j : ℕ) → i < s.systems → j < s.systems
     → ¬ Conflict (access_of accesses i) (access_of accesses j) → Apart (needs_of (s.members i)) (needs_of (s.members j))
