@@ -12,7 +12,7 @@ use Rattle.msg_system.specs.declared.reply.Reply.{Reply}
 use Rattle.msg_system.specs.Prelude.{AfterProgram, Job, Meaning, after_at_most, after_job, after_op, all_hold, next_op, one_more, ops_answered, took, turn, with_place}
 use Rattle.msg_system.proofs.Turns.{ops_answered-snoc}
 use Rattle.msg_frames.specs.Prelude.{Entry, GivesItsStretch, Moment, answers, entries_for, entry_for, entry_of_read, first_moments, job_moments, next_moments, outcome_entries, outcome_of, turn_moments}
-use Rattle.msg_frames.proofs.HistoriesGrow.{BufferLaws, counts_more, goes_further, op_goes_on, stays}
+use Rattle.msg_frames.proofs.HistoriesGrow.{BufferLaws, counts_more, Grows, goes_further, grown, op_changes, stays}
 use Rattle.std.proofs.lemmas.Bool.Decides.{eqb_tells}
 
 -- a moment, as a tile of the buffers' laws
@@ -127,11 +127,11 @@ module _ (laws : BufferLaws) where
   op_passes t (Missed u) writer ps w sound within = of_type_nothing u t w ps sound within
   op_passes t (Clear u) writer ps w sound within = of_clear u t w ps sound within
   op_passes t (Forward u v) writer ps w sound within =
-      of_read u t w _ ps None sound within (op_goes_on laws.grow (Forward u v) writer ps w t sound)
+      of_read u t w _ ps None sound within (op_changes Grows (grown laws.grow) (Forward u v) writer ps w t sound)
   op_passes t (Sum u r) writer ps w sound within = of_read u t w (w.histories t) ps None sound within
       (stays (w.histories t) sound)
   op_passes t op writer ps w sound within =
-      passes_nothing (ps t) (w.histories t) _ within (op_goes_on laws.grow op writer ps w t sound)
+      passes_nothing (ps t) (w.histories t) _ within (op_changes Grows (grown laws.grow) op writer ps w t sound)
 
   pub next_passes : (t : ℕ) (o : Option Op) (writer : ℕ) (far : AfterProgram) → IsSound (far.state.histories t)
       → far.places t ≤ count (far.state.histories t)

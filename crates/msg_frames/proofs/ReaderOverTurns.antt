@@ -7,7 +7,7 @@ use Rattle.msg_system.specs.declared.reply.Reply.{Reply}
 use Rattle.msg_system.specs.Prelude.{Needs, Rule}
 use Rattle.msg_frames.specs.Prelude.{Entry, Member, Moment, SameSystems, State, Turn, after_turn_of, after_turns_of, answers, entries_for, entries_told, job_moments, logged_turn, ops_by, place_of, turn_of, turns_moments, with_entries}
 use Rattle.msg_order.proofs.Elements.{Contains-tail, Contains-head}
-use Rattle.msg_frames.proofs.HistoriesGrow.{BufferLaws, job_goes_on, stays}
+use Rattle.msg_frames.proofs.HistoriesGrow.{BufferLaws, Grows, grown, job_changes, stays}
 use Rattle.msg_frames.proofs.SystemsStay.{one_turn_keeps}
 use Rattle.msg_frames.proofs.ReaderOverJob.{Passes, job_logged, job_passes, job_rule, passes_further, passes_nothing}
 use Rattle.msg_frames.proofs.EntriesAddUp.{with_entries-append, with_entries-none}
@@ -52,7 +52,8 @@ module _ (laws : BufferLaws) where
         arith,
         eqb_tells,
         job_passes laws t (s.members i).job s.world sound within,
-        passes_nothing (place_of s i t) _ _ within (job_goes_on laws.grow (s.members j).job s.world t sound),
+        passes_nothing (place_of s i t) _ _ within
+            (job_changes Grows (grown laws.grow) (s.members j).job s.world t sound),
       )
 
   turn_totals : (i t j : ℕ) (s : State) → ((after_turn_of j s).members i).totals t

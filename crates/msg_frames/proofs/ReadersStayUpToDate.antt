@@ -9,14 +9,14 @@ use Rattle.msg_world.specs.declared.record.Record.{Record}
 use Rattle.msg_world.specs.Prelude.{WorldState, after_update}
 use Rattle.msg_frames.proofs.ElementsAndPairs.{Cut, cut}
 use Rattle.msg_frames.specs.Prelude.{Frame, IsFrame, IsRun, IsSoundState, IsUpToDate, Log, MissesNothing, Moment, NothingDrained, ReadsAll, ReadsAllInEach, State, WhoIsUpToDateMissesNothing, WhoReadsEachFrameMissesNothing, after_turns_of, before_turns, has_begun, joining, moments, place_of, systems_in, turns_moments}
-use Rattle.msg_frames.proofs.HistoriesGrow.{BufferLaws, counts_more, frame_goes_on, runs_go_on, turns_go_on}
+use Rattle.msg_frames.proofs.HistoriesGrow.{BufferLaws, counts_more, Grows, frame_goes_on, grown, posts_change, runs_go_on, turns_change}
 use Rattle.msg_frames.proofs.SystemsStay.{joining_world, turns_keep, frame_keeps}
 use Rattle.msg_frames.proofs.ReaderOverJob.{IsWritten, tile_of}
 use Rattle.msg_frames.proofs.ReaderOverTurns.{turns_read}
 use Rattle.msg_frames.proofs.BeforeTurns.{Prepares, prepares}
 use Rattle.msg_frames.proofs.StatesStaySound.{begun_alike, frame_sound, has_no_turn, prepared_sound}
 use Rattle.msg_frames.proofs.ReaderOverRun.{run_tells}
-use Rattle.msg_frames.proofs.StampsStayRecent.{AreRecent, AtMoments, posts_recent, turns_recent, update_recent, updated_recent}
+use Rattle.msg_frames.proofs.StampsStayRecent.{AreRecent, StaysRecent, earlier_recent, stays_recent, update_recent, updated_recent}
 use Rattle.msg_frames.proofs.ReadersTakeAll.{takes_by_turn}
 use Rattle.std.proofs.lemmas.Bool.Decides.{nat_tests}
 
@@ -102,33 +102,30 @@ module _ (laws : BufferLaws) where
         let parts : Cut (systems_in log) i = cut _ _ reads.has_turn in
         let up = caught_up reads _ _ parts.is in
         let first = counts_more _ _ begins in
-        let more = counts_more _ _ (turns_go_on laws.grow parts.before b t (ready.histories t under)) in
+        let more = counts_more _ _ (turns_change Grows (grown laws.grow) parts.before b t (ready.histories t under)) in
         omega arith
 
     -- a frame keeps recent what its update leaves recent
-    frame_recent : (k p : ℕ) → AreRecent k p ((after_update s.world).histories t)
-        → AreRecent k p (u.world.histories t) × AtMoments k p t (turns_moments i t (systems_in log) b)
+    frame_recent : (k p : ℕ) → AreRecent k p ((after_update s.world).histories t) → AreRecent k p (u.world.histories t)
     frame_recent k p recent =
-        grind (
-          arith,
-          joining_world,
-          posts_recent k p t frame.posts (after_update (joining s).world),
-          turns_recent k p t i (systems_in log) b,
-        )
+        rw (is.leaves) (turns_change (StaysRecent k p) (stays_recent k p) (systems_in log) b t
+        (posts_change (StaysRecent k p) (stays_recent k p) frame.posts (after_update (joining s).world) t
+        (rw (joining_world s) recent)))
 
     pub now_up_to_date : ReadsAll i t log u → NothingDrained t s u → IsUpToDate u i t
     now_up_to_date reads drained n above within =
         let p : ℕ = count (s.world.histories t) in
         let had = has_frame_before reads in
         is_there p (update (u.world.histories t)) n
-        (update_recent p (u.world.histories t) (frame_recent 0 p (none_yet_updated p t s.world (omega arith))).0)
+        (update_recent p (u.world.histories t) (frame_recent 0 p (none_yet_updated p t s.world (omega arith))))
         (omega arith) (omega (arith, drained, (sound.histories t below).floor)) within
 
-    present_at : (ms : List Moment) → IsUpToDate s i t → NothingDrained t s u → AtMoments 1 (place_of s i t) t ms
-        → All (λ m. GoesOn m.history (u.world.histories t)) ms
-        → AllPresent (place_of s i t) ms
-    present_at ms up drained recent goes k d lt n above within =
-        is_there (place_of s i t) (get_or ms k d).history n (recent k d lt) above
+    present_at : (ms : List Moment) → IsUpToDate s i t → NothingDrained t s u
+        → All (λ m. GoesOn m.history (u.world.histories t)) ms → AllPresent (place_of s i t) ms
+    present_at ms up drained goes k d lt n above within =
+        let p : ℕ = place_of s i t in
+        let recent = frame_recent 1 p (updated_recent p t s.world (recent_ahead s i t up)) in
+        is_there p (get_or ms k d).history n (earlier_recent 1 p _ _ (goes k d lt) recent) above
         (grind (arith, drained, floor_below s i t n up above, (sound.histories t below).floor, (goes k d lt).floor))
         within
 
@@ -137,11 +134,9 @@ module _ (laws : BufferLaws) where
     frame_misses_none has up drained =
         let reads =
         (turns_read laws i t (systems_in log) b (ready.histories t under) (ready.places i t under)).passes in
-        let recent =
-        (frame_recent 1 (place_of s i t) (updated_recent (place_of s i t) t s.world (recent_ahead s i t up))).1 in
         let same : place_of s i t ≤ place_of b i t = grind (arith, false≢true, prep.arrival i) in
         tile_misses_none (place_of s i t) _ _ _ reads.tile reads.written
-        (present_at _ up drained recent (rw (is.leaves) reads.earlier)) same
+        (present_at _ up drained (rw (is.leaves) reads.earlier)) same
 
     -- who has a turn has joined
     joined_by_turn : Contains (systems_in log) i → IsTrue (has_begun u i)
