@@ -1,5 +1,5 @@
 -- A reader that reads all in each frame is up to date, and so it misses nothing.
-use Rattle.std.proofs.Common.{◌≡◌, ℕ, suc, ◌<◌, ◌≤◌, List, [], ◌∷◌, ◌++◌, map, All, Contains, refl, sym, subst, ◌∙◌, arith, inl, inr, get_or}
+use Rattle.std.proofs.Common.{◌≡◌, ℕ, suc, ◌<◌, ◌≤◌, List, [], ◌∷◌, ◌++◌, map, All, Contains, refl, sym, ◌∙◌, arith, inl, inr, get_or}
 use Rattle.std.specs.Prelude.{IsTrue}
 use Rattle.std.proofs.lemmas.Bool.{cases_Bool, cases_eq, false≢true}
 use Rattle.std.proofs.lemmas.Option.{same_Some, slice_get_cases, slice_get_within}
@@ -86,7 +86,7 @@ module _ (laws : BufferLaws) where
     ready = prepared_sound s b sound prep
 
     under : t < b.types
-    under = subst (λ n. t < n) (sym prep.same.types) below
+    under = rw (prep.same.types) below
 
     begins : GoesOn (s.world.histories t) (b.world.histories t)
     begins = prep.world t (sound.histories t below)
@@ -100,10 +100,8 @@ module _ (laws : BufferLaws) where
     pub has_frame_before : ReadsAll i t log u → count (s.world.histories t) ≤ place_of u i t
     has_frame_before reads =
         let parts : Cut (systems_in log) i = cut _ _ reads.has_turn in
-        let up = caught_up reads _ _ parts.is in
-        let first = counts_more _ _ begins in
-        let more = counts_more _ _ (turns_change Grows (grown laws.grow) parts.before b t (ready.histories t under)) in
-        omega arith
+        let more = turns_change Grows (grown laws.grow) parts.before b t (ready.histories t under) in
+        omega (arith, caught_up reads _ _ parts.is, counts_more _ _ begins, counts_more _ _ more)
 
     -- a frame keeps recent what its update leaves recent
     frame_recent : (k p : ℕ) → AreRecent k p ((after_update s.world).histories t) → AreRecent k p (u.world.histories t)
@@ -204,9 +202,8 @@ module _ (laws : BufferLaws) where
 
   pub misses_nothing : WhoIsUpToDateMissesNothing
   misses_nothing frame s log u i t sound is below has up drained =
-      let ms : List Moment = turns_moments i t (systems_in log) (before_turns frame.posts s) in
       told_none_missed (frame ∷ []) s (log ∷ []) u i t (u, is, refl)
-      (All-append (λ m. m.entry.stretch.missed ≡ 0) ms []
+      (All-append (λ m. m.entry.stretch.missed ≡ 0) _ []
       (frame_misses_none frame s log u i t sound is below has up drained)
       (All-nil (λ m. m.entry.stretch.missed ≡ 0)))
 
