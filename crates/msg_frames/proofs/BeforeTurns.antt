@@ -1,5 +1,5 @@
 -- What comes before the turns of a frame: systems join, types are updated, posts are written.
-use Rattle.std.proofs.Common.{◌≡◌, ℕ, suc, ◌≤◌, ◌<◌, ℤ, max, List, Bool, true, false, not, ◌&&◌, cond, refl, sym, ap, subst, ◌∙◌, arith, ◌==◌}
+use Rattle.std.proofs.Common.{◌≡◌, ℕ, suc, ◌≤◌, ◌<◌, ℤ, max, List, Bool, not, ◌&&◌, cond, sym, ap, subst, ◌∙◌, arith, ◌==◌}
 use Rattle.std.specs.Prelude.{IsTrue, IsFalse, nat_le}
 use Rattle.std.proofs.lemmas.Bool.{cases_Bool}
 use Rattle.std.proofs.lemmas.Option.{unwrap_or-slice_get}
@@ -10,7 +10,7 @@ use Rattle.msg_world.specs.Prelude.{after_update}
 use Rattle.msg_system.specs.declared.start.Start.{Start}
 use Rattle.msg_system.specs.declared.start.Start.TheVariants.{Zero, Current}
 use Rattle.msg_system.specs.Prelude.{start_place}
-use Rattle.msg_frames.specs.Prelude.{Member, SameSystems, State, after_posts, before_turns, counts, has_begun, joined_member, place_of, with_joining}
+use Rattle.msg_frames.specs.Prelude.{Member, SameSystems, State, after_posts, before_turns, counts, has_begun, joined_member, place_of}
 use Rattle.msg_frames.proofs.HistoriesGrow.{WorldGoesOn, before_goes_on}
 use Rattle.msg_frames.proofs.SystemsStay.{before_keeps}
 use Rattle.std.proofs.lemmas.Bool.Decides.{nat_tests}
@@ -27,18 +27,6 @@ arrived s i = cond (arrives s i) (joined_member (counts s) (s.members i)) (s.mem
 abbrev ready : List (ℕ × ℤ) → State → State
 ready posts s =
     record s { members = arrived s; world = after_posts posts (after_update s.world); frames = suc s.frames }
-
-ready_if : (first : Bool) (posts : List (ℕ × ℤ)) (s : State)
-    → (let b : State = cond first s (with_joining (suc s.frames) s) in record b
-    { world = after_posts posts (after_update b.world); frames = suc b.frames })
-    ≡ record s {
-      members = λ i. cond (not first && ((s.members i).join == suc s.frames))
-          (joined_member (counts s) (s.members i)) (s.members i);
-      world = after_posts posts (after_update s.world);
-      frames = suc s.frames;
-    }
-ready_if true posts s = refl
-ready_if false posts s = refl
 
 before_is : (posts : List (ℕ × ℤ)) (s : State) → before_turns posts s ≡ ready posts s
 before_is posts s = grind (arith, cases_Bool)

@@ -1,12 +1,12 @@
 -- How entries add up in an account.
-use Rattle.std.proofs.Common.{◌≡◌, ℕ, ◌+◌, List, [], ◌∷◌, ◌++◌, length, map, cond, Option, Some, None, is_some, arith}
+use Rattle.std.proofs.Common.{◌≡◌, ℕ, ◌+◌, List, [], ◌∷◌, ◌++◌, length, map, None, arith}
 use Rattle.std.proofs.lemmas.List.{length-append}
 use Rattle.std.proofs.lemmas.List.FromFn.{length-range_with_len}
 use Rattle.msg_buffer.specs.Prelude.{next_place, Tile}
-use Rattle.msg_world.specs.declared.record.Record.{Record}
 use Rattle.msg_system.specs.declared.reply.Took.{Took}
 use Rattle.msg_frames.specs.Prelude.{Entry, Fate, IsBalanced, Moment, Totals, cleared, entry_of_read, given, missed, numbers_of, with_entries}
 use Rattle.msg_frames.proofs.ReaderOverJob.{tile_of}
+use Rattle.std.proofs.lemmas.Bool.{cases_Bool}
 
 -- what met a fate at these entries and at those
 more_of : (fate : Fate) (es fs : List Entry) → length (numbers_of fate (es ++ fs))
@@ -32,25 +32,14 @@ pub with_clear : (gone first n : ℕ) (x : Totals)
     ≡ record x { missed = x.missed + gone; cleared = x.cleared + n }
 with_clear gone first n x = grind (arith, length-append, length-range_with_len)
 
--- all that an entry goes past was given or cleared
-given_or_cleared : (o : Option (List Record)) (ns : List ℕ)
-    → length (cond (is_some o) ns []) + length (cond (is_some o) [] ns) ≡ length ns
-given_or_cleared None ns = omega arith
-given_or_cleared (Some items) ns = omega arith
-
 -- tiles lead as far as their entries add up to
 pub tiles_add_up : (p : ℕ) (ms : List Moment) (q : ℕ) → Tile p (map tile_of ms) q
     → p + length (numbers_of given (map (λ m. m.entry) ms)) + length
     (numbers_of missed (map (λ m. m.entry) ms)) + length (numbers_of cleared (map (λ m. m.entry) ms)) ≡ q
 tiles_add_up p [] q tile = let same : p ≡ q = tile in omega arith
 tiles_add_up p (m ∷ ms) q tile =
-    grind (
-      arith,
-      given_or_cleared,
-      length-append,
-      length-range_with_len,
-      tiles_add_up (next_place m.entry.stretch) ms q tile.1,
-    )
+    let rest = tiles_add_up (next_place m.entry.stretch) ms q tile.1 in
+    grind (arith, cases_Bool, length-append, length-range_with_len, rest)
 
 pub stays_balanced : (x : Totals) (p : ℕ) (ms : List Moment) (q : ℕ) → IsBalanced x p → Tile p (map tile_of ms) q
     → IsBalanced (with_entries (map (λ m. m.entry) ms) x) q

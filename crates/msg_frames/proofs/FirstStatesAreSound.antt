@@ -1,12 +1,11 @@
 -- A first state is sound.
 use Rattle.std.proofs.Common.{◌≡◌, ℕ, ◌≤◌, List, refl, arith}
-use Rattle.std.specs.Prelude.{IsTrue, IsFalse}
-use Rattle.std.proofs.lemmas.Bool.{false≢true}
+use Rattle.std.specs.Prelude.{IsTrue}
 use Rattle.std.proofs.lemmas.List.{get_or_past}
 use Rattle.msg_order.specs.declared.rule.Rule.{Rule}
 use Rattle.msg_world.specs.Prelude.{WorldState}
 use Rattle.msg_system.specs.Prelude.{Meaning}
-use Rattle.msg_frames.specs.Prelude.{AreNew, IsBalanced, IsSoundState, Member, Place, State, counts, first_state, has_begun, joined_member, no_totals, place_of, unjoined}
+use Rattle.msg_frames.specs.Prelude.{AreNew, IsBalanced, IsSoundState, Member, Place, State, counts, first_state, has_begun, joined_member, place_of, unjoined}
 use Rattle.msg_frames.proofs.BeforeTurns.{begun_within}
 use Rattle.msg_frames.proofs.StatesStaySound.{balanced_start}
 use Rattle.std.proofs.lemmas.Bool.Decides.{nat_tests, eqb_tells}
@@ -33,10 +32,6 @@ module _ (systems : List Meaning) (places : List Place) (rules : List Rule) (typ
   join_from_one : (i : ℕ) → 1 ≤ (all_wait.members i).join
   join_from_one i = grind (arith, get_or_past, nat_tests)
 
-  first_waiting : (i t : ℕ) → IsFalse (has_begun first i) → (place_of first i t ≡ 0)
-      × ((first.members i).totals t ≡ no_totals)
-  first_waiting i t isnt = grind (arith, at_zero, false≢true, first_or_not, join_same)
-
   first_balanced : (i t : ℕ) → IsTrue (has_begun first i) → IsBalanced ((first.members i).totals t) (place_of first i t)
   first_balanced i t has =
       grind (
@@ -55,6 +50,6 @@ module _ (systems : List Meaning) (places : List Place) (rules : List Rule) (typ
     joins = λ i. rw (join_same i) (join_from_one i);
     writers = λ i below. first_or_not (λ m. m.job.system.writer ≡ i) i (λ e. (new.new i below).writer)
         (λ ne. (new.new i below).writer);
-    waiting = first_waiting;
+    waiting = λ i t isnt. grind (arith, at_zero i t, eqb_tells, nat_tests, isnt);
     balanced = λ i t below has. first_balanced i t has;
   }

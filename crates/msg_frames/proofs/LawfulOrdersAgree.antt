@@ -75,10 +75,6 @@ module _ (accesses : List Access) where
 abbrev pub Forward : (ℕ → ℕ → Type 0) → List ℕ → Type 0
 Forward P order = AllPairs (λ i j. ¬ P j i) order
 
-none_contained : (xs : List ℕ) → ((i : ℕ) → Contains xs i → ⊥) → xs ≡ []
-none_contained [] h = refl
-none_contained (x ∷ xs) h = absurd (h x (Contains-head x xs))
-
 not_first : (x : ℕ) (xs : List ℕ) (i : ℕ) → x ≢ i → Contains (x ∷ xs) i → Contains xs i
 not_first x xs i ne h = elim (Contains-cases x xs i h) [ inl e ↦ absurd (ne e) | inr later ↦ later ]
 
@@ -101,8 +97,8 @@ module _ (foot : JobFootprint) (accesses : List Access) (P : ℕ → ℕ → Typ
       → ((i : ℕ) → Contains settled i → i < length accesses)
       → AllPairs (λ i j. i ≢ j) settled → AllPairs (λ i j. i ≢ j) order → Forward P settled → Forward P order
       → SameRun accesses order settled
-  reordered [] order joins to from below once once' a b = rw (none_contained order (λ i h. not_in_none i (to i h)))
-      (same_run accesses [])
+  reordered [] [] joins to from below once once' a b = same_run accesses []
+  reordered [] (y ∷ ys) joins to from below once once' a b = absurd (not_in_none y (to y (Contains-head y ys)))
   reordered (x ∷ rest) order joins to from below once once' a b =
       let c : Cut order x = cut order x (from x (Contains-head x rest)) in
       let single : AllPairs (λ i j. i ≢ j) (c.before ++ x ∷ c.rest) = rw (c.is) at once' in

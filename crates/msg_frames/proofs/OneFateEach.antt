@@ -4,7 +4,7 @@ use Rattle.std.specs.Prelude.{nat_lt}
 use Rattle.std.proofs.lemmas.Bool.{cases_Bool, lt-ltb, le-ltb, cases_lt}
 use Rattle.std.proofs.lemmas.List.Elements.{All-cons, All-head, All-nil, All-tail}
 use Rattle.msg_buffer.specs.Prelude.{IsPresent, Tile, count, next_place}
-use Rattle.msg_frames.specs.Prelude.{Entry, Fate, Meets, MeetsOneFate, Moment, cleared, given, missed, numbers_at, numbers_passed}
+use Rattle.msg_frames.specs.Prelude.{Entry, Fate, Meets, MeetsOneFate, Moment, cleared, given, missed, numbers_at}
 use Rattle.msg_order.proofs.Elements.{Contains-range, not_in_none, range-Contains}
 use Rattle.msg_frames.proofs.ReaderOverJob.{IsWritten, tile_of}
 use Rattle.std.proofs.lemmas.Bool.Decides.{nat_tests}
@@ -17,14 +17,6 @@ fate_at e n = cond (nat_lt n e.stretch.first) missed (cond (is_some e.given) giv
 -- the entry begins at this place
 abbrev BeginsAt : ℕ → Entry → Type 0
 BeginsAt place e = e.stretch.first ≡ place + e.stretch.missed
-
--- a number of the stretch, given or cleared
-of_passed : (e : Entry) (n : ℕ) (fate : Fate) (place : ℕ) → BeginsAt place e → Contains (numbers_passed e) n
-    → cond (is_some e.given) given cleared ≡ fate
-    → (place ≤ n) × (n < next_place e.stretch) × (fate_at e n ≡ fate)
-of_passed e n fate place begins c is =
-    let bounds = range-Contains _ _ _ c in
-    (omega (arith, bounds), bounds.1, rw (le-ltb n e.stretch.first bounds.0) is)
 
 -- a number that met a fate at an entry lies there, and met no other
 fate_of : (fate : Fate) (e : Entry) (n place : ℕ) → BeginsAt place e → Contains (numbers_at fate e) n → (place ≤ n)

@@ -1,5 +1,5 @@
 -- A system without conditions whose program reads all of a type reads all in each frame.
-use Rattle.std.proofs.Common.{◌≡◌, ◌≢◌, ℕ, ℤ, ◌≤◌, List, [], ◌∷◌, All, length, Bool, true, false, ap, ◌∙◌, arith}
+use Rattle.std.proofs.Common.{◌≡◌, ◌≢◌, ℕ, ℤ, ◌≤◌, List, [], ◌∷◌, All, length, false, ap, ◌∙◌, arith}
 use Rattle.std.specs.Prelude.{IsTrue}
 use Rattle.std.proofs.lemmas.Bool.{false≢true}
 use Rattle.std.proofs.lemmas.List.Elements.{All-cons, All-nil}
@@ -8,20 +8,12 @@ use Rattle.msg_buffer.specs.Prelude.{OnlyGrows}
 use Rattle.msg_world.specs.declared.record.Record.{Record}
 use Rattle.msg_world.specs.Prelude.{WorldState}
 use Rattle.msg_system.specs.declared.program.Program.{Program}
-use Rattle.msg_system.specs.declared.reply.Reply.{Reply}
 use Rattle.msg_system.specs.Prelude.{IsInOrder, Job, Meaning, after_job, of_program, program_needs, started_places, turn}
 use Rattle.msg_order.specs.Prelude.{has_joined}
-use Rattle.msg_frames.specs.Prelude.{Outcome, Ran, Skipped, State, WhoseProgramReadsAll, after_turn_of, after_turns_of, before_turns, counts, has_begun, job_begun, join_flags, systems_in}
+use Rattle.msg_frames.specs.Prelude.{Skipped, State, WhoseProgramReadsAll, after_turn_of, after_turns_of, before_turns, counts, has_begun, job_begun, join_flags, systems_in}
 use Rattle.msg_frames.proofs.BeforeTurns.{Prepares, comes, prepares, stood}
 use Rattle.msg_frames.proofs.BeforeTurns as before
 use Rattle.msg_frames.proofs.ReaderOverTurns.{one_member}
-
-abbrev is_skipped : Outcome → Bool
-is_skipped Skipped = true
-is_skipped (Ran replies) = false
-
-ran_isnt_skipped : (replies : List Reply) → Ran replies ≢ Skipped
-ran_isnt_skipped replies e = false≢true (ap is_skipped e)
 
 module _ (in_order : IsInOrder) (program : Program) (writer : ℕ) (few : length program.ops ≤ 64) where
   -- the job is that program, without conditions
@@ -47,7 +39,7 @@ module _ (in_order : IsInOrder) (program : Program) (writer : ℕ) (few : length
       → All (λ turn. turn.system ≡ i → turn.outcome ≢ Skipped) (after_turns_of order s).turns
   turns_ran i [] s is = All-nil (λ turn. turn.system ≡ i → turn.outcome ≢ Skipped)
   turns_ran i (j ∷ js) s is =
-      grind (arith, All-cons, ran_isnt_skipped, turn_stays, turns_ran i js (after_turn_of j s) (turn_stays i j s is))
+      grind (arith, All-cons, turn_stays, turns_ran i js (after_turn_of j s) (turn_stays i j s is))
 
   before_stays : OnlyGrows Record → (posts : List (ℕ × ℤ)) (s : State) (i : ℕ) → IsProgram (s.members i).job
       → IsProgram ((before_turns posts s).members i).job

@@ -2,21 +2,26 @@
 use Rattle.std.proofs.Common.{◌≡◌, ℕ, ◌≤◌, List, [], ◌∷◌, ◌++◌, map, Contains, flat_map, cond, append_assoc, refl, sym, ap, ◌∙◌, arith, inl, inr, ◌==◌}
 use Rattle.std.proofs.lemmas.Bool.{cases_eq, eq-eqb, ne_eqb}
 use Rattle.std.proofs.lemmas.List.{map-append}
-use Rattle.msg_buffer.specs.Prelude.{IsSound, count}
+use Rattle.msg_buffer.specs.Prelude.{IsSound, count, History}
 use Rattle.msg_system.specs.declared.reply.Reply.{Reply}
 use Rattle.msg_system.specs.Prelude.{Needs, Rule}
-use Rattle.msg_frames.specs.Prelude.{Entry, Member, Moment, SameSystems, State, Turn, after_turn_of, after_turns_of, answers, entries_for, entries_told, job_moments, logged_turn, ops_by, place_of, turn_of, turns_moments, with_entries}
+use Rattle.msg_frames.specs.Prelude.{Member, Moment, SameSystems, State, Turn, after_turn_of, after_turns_of, answers, entries_told, job_moments, logged_turn, place_of, turn_of, turns_moments, with_entries, Totals}
 use Rattle.msg_order.proofs.Elements.{Contains-tail, Contains-head}
 use Rattle.msg_frames.proofs.HistoriesGrow.{BufferLaws, Grows, grown, job_changes, stays}
 use Rattle.msg_frames.proofs.SystemsStay.{one_turn_keeps}
 use Rattle.msg_frames.proofs.ReaderOverJob.{Passes, job_logged, job_passes, job_rule, passes_further, passes_nothing}
 use Rattle.msg_frames.proofs.EntriesAddUp.{with_entries-append, with_entries-none}
 use Rattle.std.proofs.lemmas.Bool.Decides.{eqb_tells}
+use Rattle.msg_world.specs.declared.record.Record.{Record}
 
--- Reader (i, t) goes past these moments between two states.
-pub record Reads (i t : ℕ) (s : State) (ms : List Moment) (u : State) : Type 0 where
-  pub passes : Passes (place_of s i t) (s.world.histories t) ms (place_of u i t) (u.world.histories t)
-  pub totals : (u.members i).totals t ≡ with_entries (map (λ m. m.entry) ms) ((s.members i).totals t)
+-- Reader (i, t), which was given so much, goes past these moments from a place in a history on, up to a state.
+pub record ReadsFrom (i t place : ℕ) (had : Totals) (old : History Record) (ms : List Moment) (u : State) : Type 0 where
+  pub passes : Passes place old ms (place_of u i t) (u.world.histories t)
+  pub totals : (u.members i).totals t ≡ with_entries (map (λ m. m.entry) ms) had
+
+-- it does so between two states
+abbrev pub Reads : ℕ → ℕ → State → List Moment → State → Type 0
+Reads i t s ms u = ReadsFrom i t (place_of s i t) ((s.members i).totals t) (s.world.histories t) ms u
 
 pub reads_further : (i t : ℕ) (a : State) (ms : List Moment) (b : State) (ns : List Moment) (c : State)
     → Reads i t a ms b → Reads i t b ns c → Reads i t a (ms ++ ns) c
@@ -44,25 +49,13 @@ abbrev own_moments : ℕ → ℕ → ℕ → State → List Moment
 own_moments i t j s = cond (j == i) (job_moments t (s.members i).job s.world) []
 
 module _ (laws : BufferLaws) where
-  turn_passes : (i t j : ℕ) (s : State) → IsSound (s.world.histories t) → place_of s i t ≤ count (s.world.histories t)
-      → Passes (place_of s i t) (s.world.histories t) (own_moments i t j s) (place_of (after_turn_of j s) i t)
-      ((turn_of s j).world.histories t)
-  turn_passes i t j s sound within =
-      grind (
-        arith,
-        eqb_tells,
-        job_passes laws t (s.members i).job s.world sound within,
-        passes_nothing (place_of s i t) _ _ within
-            (job_changes Grows (grown laws.grow) (s.members j).job s.world t sound),
-      )
-
-  turn_totals : (i t j : ℕ) (s : State) → ((after_turn_of j s).members i).totals t
-      ≡ with_entries (map (λ m. m.entry) (own_moments i t j s)) ((s.members i).totals t)
-  turn_totals i t j s = grind (arith, eqb_tells, job_logged, one_member, with_entries-none)
-
   pub turn_reads : (i t j : ℕ) (s : State) → IsSound (s.world.histories t)
       → place_of s i t ≤ count (s.world.histories t) → Reads i t s (own_moments i t j s) (after_turn_of j s)
-  turn_reads i t j s sound within = record { passes = turn_passes i t j s sound within; totals = turn_totals i t j s }
+  turn_reads i t j s sound within =
+      let own = job_passes laws t (s.members i).job s.world sound within in
+      let goes = job_changes Grows (grown laws.grow) (s.members j).job s.world t sound in
+      let none = passes_nothing (place_of s i t) _ _ within goes in
+      grind (arith, eqb_tells, job_logged, none, own, with_entries-none)
 
   pub turns_read : (i t : ℕ) (js : List ℕ) (s : State) → IsSound (s.world.histories t)
       → place_of s i t ≤ count (s.world.histories t)
@@ -87,8 +80,7 @@ pub entries_told-append : (t : ℕ) (n : Needs) (rule : Rule) (xs ys : List (Lis
     → entries_told t n rule (xs ++ ys) ≡ entries_told t n rule xs ++ entries_told t n (after_told xs rule) ys
 entries_told-append t n rule [] ys = refl
 entries_told-append t n rule (x ∷ xs) ys =
-    let here : List Entry = entries_for t (ops_by n rule x) x in
-    ap (λ es. here ++ es) (entries_told-append t n _ xs ys) ∙ sym (append_assoc here _ _)
+    grind (arith, append_assoc, entries_told-append t n (after_told (x ∷ []) rule) xs ys)
 
 -- what was told one turn after the other
 after_both : (rule : Rule) (xs ys : List (List Reply)) → after_told ys (after_told xs rule) ≡ after_told (xs ++ ys) rule
@@ -107,12 +99,7 @@ pub tells_further : (i t : ℕ) (a : State) (xs : List (List Reply)) (ms : List 
 tells_further i t a xs ms b ys ns c x y =
     let m = (a.members i).job.system in
     record {
-      entries = entries_told-append t m.needs m.rule xs ys
-          ∙ ap (λ es. es ++ entries_told t m.needs (after_told xs m.rule) ys) x.entries
-          ∙ ap (λ (z : Needs × Rule). map (λ m. m.entry) ms ++ entries_told t z.0 z.1 ys)
-          (λ k. (sym x.needs k, sym x.rule k))
-          ∙ ap (λ es. map (λ m. m.entry) ms ++ es) y.entries
-          ∙ sym (map-append (λ m. m.entry) ms ns);
+      entries = grind (arith, entries_told-append t m.needs m.rule xs ys, map-append);
       rule = y.rule ∙ ap (after_told ys) x.rule ∙ after_both m.rule xs ys;
       needs = y.needs ∙ x.needs;
     }
@@ -142,20 +129,11 @@ pub turns_skip : (i : ℕ) (js : List ℕ) (s : State) → ¬ Contains js i → 
     ≡ s.members i
 turns_skip i [] s out = refl
 turns_skip i (j ∷ js) s out =
-    grind (
-      arith,
-      eqb_tells j i,
-      eqb_tells i j,
-      Contains-head j js,
-      turns_skip i js (after_turn_of j s) (λ at. out (Contains-tail j js i at)),
-    )
+    let rest = turns_skip i js (after_turn_of j s) (λ at. out (Contains-tail j js i at)) in
+    grind (arith, eqb_tells j i, eqb_tells i j, Contains-head j js, rest)
 
 pub no_moments : (i t : ℕ) (js : List ℕ) (s : State) → ¬ Contains js i → turns_moments i t js s ≡ []
 no_moments i t [] s out = refl
 no_moments i t (j ∷ js) s out =
-    grind (
-      arith,
-      eqb_tells j i,
-      Contains-head j js,
-      no_moments i t js (after_turn_of j s) (λ at. out (Contains-tail j js i at)),
-    )
+    let rest = no_moments i t js (after_turn_of j s) (λ at. out (Contains-tail j js i at)) in
+    grind (arith, eqb_tells j i, Contains-head j js, rest)

@@ -2,20 +2,21 @@
 use Rattle.std.proofs.Common.{◌≡◌, ◌≢◌, ℕ, zero, suc, ◌≤◌, List, [], ◌∷◌, ◌++◌, All, Option, None, Some, refl, arith, ◌==◌}
 use Rattle.std.specs.Prelude.{IsTrue}
 use Rattle.std.specs.List.{list_any}
-use Rattle.std.proofs.lemmas.Bool.{cases_Bool, eq-eqb, eqb-true, false≢true, or_cases}
+use Rattle.std.proofs.lemmas.Bool.{cases_Bool, false≢true, or_cases}
 use Rattle.std.proofs.lemmas.List.Elements.{All-head}
 use Rattle.std.proofs.lemmas.List.Folds.{list_any-append}
 use Rattle.msg_buffer.specs.Prelude.{IsSound, count}
 use Rattle.msg_world.specs.Prelude.{WorldState}
 use Rattle.msg_system.specs.declared.op.Op.{Op}
 use Rattle.msg_system.specs.declared.op.Op.TheVariants.{Read, Forward, Sum}
-use Rattle.msg_system.specs.Prelude.{AfterProgram, Job, Meaning, after_at_most, after_job, after_op, next_op, one_more, ops_answered, place_after_read, turn, with_place}
+use Rattle.msg_system.specs.Prelude.{AfterProgram, Meaning, after_at_most, after_op, next_op, one_more, ops_answered, place_after_read, turn, with_place}
 use Rattle.msg_system.proofs.Turns.{ops_answered-snoc}
-use Rattle.msg_frames.specs.Prelude.{Skipped, State, after_turn_of, after_turns_of, logged_turn, next_moments, outcome_of, place_of, reads_all}
+use Rattle.msg_frames.specs.Prelude.{Skipped, State, after_turn_of, after_turns_of, logged_turn, next_moments, place_of, reads_all}
 use Rattle.msg_frames.proofs.HistoriesGrow.{BufferLaws, counts_more}
 use Rattle.msg_frames.proofs.OneFateEach.{tiles_rise}
 use Rattle.msg_frames.proofs.ReaderOverJob.{first_passes, next_passes}
 use Rattle.msg_frames.proofs.ReaderOverTurns.{one_member, turn_reads}
+use Rattle.std.proofs.lemmas.Bool.Decides.{eqb_tells}
 
 -- ---- a turn that reads all
 
@@ -23,7 +24,7 @@ module _ (laws : BufferLaws) (t : ℕ) where
   takes : (u : ℕ) (ps : ℕ → ℕ) (w : WorldState) → IsSound (w.histories t) → ps t ≤ count (w.histories t)
       → IsTrue (u == t)
       → with_place ps u (place_after_read (w.histories u) (ps u) None) t ≡ count (w.histories t)
-  takes u ps w sound within is = grind (arith, eq-eqb, eqb-true)
+  takes u ps w sound within is = grind (arith, eqb_tells)
 
   op_takes_all : (op : Op) (writer : ℕ) (ps : ℕ → ℕ) (w : WorldState) → IsSound (w.histories t)
       → ps t ≤ count (w.histories t) → IsTrue (reads_all t op)
@@ -70,18 +71,6 @@ module _ (laws : BufferLaws) (t : ℕ) where
 
   -- ---- a job
 
-  job_takes : (j : Job) (w : WorldState) → IsSound (w.histories t) → j.system.places t ≤ count (w.histories t)
-      → outcome_of (after_job j w).replies ≢ Skipped
-      → IsTrue (list_any (reads_all t) (after_job j w).job.system.last)
-      → count (w.histories t) ≤ (after_job j w).job.system.places t
-  job_takes j w sound within = grind (arith, cases_Bool, turn_takes)
-
-  job_keeps : (c : ℕ) (j : Job) (w : WorldState) → IsSound (w.histories t) → j.system.places t ≤ count (w.histories t)
-      → c ≤ count (w.histories t)
-      → (IsTrue (list_any (reads_all t) j.system.last) → c ≤ j.system.places t)
-      → IsTrue (list_any (reads_all t) (after_job j w).job.system.last) → c ≤ (after_job j w).job.system.places t
-  job_keeps c j w sound within less has = grind (arith, cases_Bool, turn_takes)
-
   -- ---- turns
 
   -- where the last ops of system i read all, it stands at c or after it
@@ -91,12 +80,12 @@ module _ (laws : BufferLaws) (t : ℕ) where
   own_turn_takes : (i : ℕ) (s : State) → IsSound (s.world.histories t) → place_of s i t ≤ count (s.world.histories t)
       → (logged_turn s i).outcome ≢ Skipped
       → Took i (count (s.world.histories t)) (after_turn_of i s)
-  own_turn_takes i s sound within ran = grind (arith, job_takes, one_member)
+  own_turn_takes i s sound within ran = grind (arith, cases_Bool, one_member, turn_takes)
 
   turn_keeps : (i j c : ℕ) (s : State) → IsSound (s.world.histories t) → place_of s i t ≤ count (s.world.histories t)
       → c ≤ count (s.world.histories t)
       → Took i c s → Took i c (after_turn_of j s)
-  turn_keeps i j c s sound within less has = grind (arith, job_keeps, one_member)
+  turn_keeps i j c s sound within less has = grind (arith, cases_Bool, one_member, turn_takes)
 
   turns_keep_it : (i c : ℕ) (js : List ℕ) (s : State) → IsSound (s.world.histories t)
       → place_of s i t ≤ count (s.world.histories t) → c ≤ count (s.world.histories t)

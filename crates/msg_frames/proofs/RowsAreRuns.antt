@@ -32,10 +32,6 @@ mask_at : (test : ℕ → Bool) (n k : ℕ) → n ≤ 64 → has_bit (mask test 
 mask_at test zero k few = grind (arith, has_bit-zero, nat_tests)
 mask_at test (suc n) k few = grind (arith, cases_Bool, has_bit-set, nat_tests, mask_at test n k (omega arith))
 
-mask_is : (test : ℕ → Bool) (n : ℕ) → n ≤ 64 → ((k : ℕ) → test k ≡ true → k < n) → (k : ℕ)
-    → has_bit (mask test n) k ≡ test k
-mask_is test n few within k = grind (arith, cases_Bool, mask_at, nat_tests)
-
 abbrev access_for : ℕ → Needs → Access
 access_for n needs = record {
   read_types = mask (λ t. needs.reads (OfType t)) n;

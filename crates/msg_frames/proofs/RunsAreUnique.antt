@@ -4,7 +4,7 @@ use Rattle.std.proofs.lemmas.Bool.{and_parts}
 use Rattle.std.proofs.lemmas.List.Elements.{All-contains, filter_passes}
 use Rattle.std.proofs.lemmas.List.FromFn.{length-map-range_with_len}
 use Rattle.msg_world.specs.declared.access.Access.{Access}
-use Rattle.msg_world.specs.Prelude.{Part, Conflict, uses, writes}
+use Rattle.msg_world.specs.Prelude.{Part, uses, writes}
 use Rattle.msg_order.specs.declared.rule.Rule.{Rule}
 use Rattle.msg_order.specs.Prelude.{AreInConflict, Graph, IsAcyclic, IsAmong, IsSettledOrder, SettledOrderIsUnique, Settles, SettlingMakesNoCycle, TurnOrderIsUnique, access_of, pairs, rules_among}
 use Rattle.msg_frames.specs.Prelude.{AreAccessesOf, FramesAreUnique, IsOrderOf, IsTurnOrderOf, NoCycle, RunsAreUnique, State, SystemsHaveOneOrder, has_begun, join_flags}
@@ -12,12 +12,6 @@ use Rattle.msg_order.proofs.Elements.{Contains-cases}
 use Rattle.msg_frames.proofs.SystemsStay.{joined_below}
 
 -- ---- conflicts
-
--- accesses with the same parts are in the same conflicts
-conflict_stays : (a b c d : Access) → ((p : Part) → writes a p ≡ writes c p) → ((p : Part) → uses a p ≡ uses c p)
-    → ((p : Part) → writes b p ≡ writes d p)
-    → ((p : Part) → uses b p ≡ uses d p) → Conflict a b → Conflict c d
-conflict_stays a b c d wa ua wb ub x = grind arith
 
 module _ (s : State) (a b : List Access) (are : AreAccessesOf s a) (are' : AreAccessesOf s b) where
   same_writes : (i : ℕ) → i < s.systems → (p : Part) → writes (access_of a i) p ≡ writes (access_of b i) p
@@ -30,12 +24,7 @@ module _ (s : State) (a b : List Access) (are : AreAccessesOf s a) (are' : AreAc
   same_conflict i j h =
       let li : i < s.systems = joined_below s i h.first_joined in
       let lj : j < s.systems = joined_below s j h.second_joined in
-      record {
-        first_joined = h.first_joined;
-        second_joined = h.second_joined;
-        conflict = conflict_stays _ _ _ _ (same_writes _ li) (same_uses _ li) (same_writes _ lj)
-            (same_uses _ lj) h.conflict;
-      }
+      grind (arith, same_writes i li, same_uses i li, same_writes j lj, same_uses j lj)
 
 -- ---- settled orders
 

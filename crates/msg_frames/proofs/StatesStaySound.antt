@@ -1,11 +1,10 @@
 -- Frames keep states sound.
-use Rattle.std.proofs.Common.{◌≡◌, ℕ, ◌≤◌, ◌<◌, max, List, [], ◌∷◌, Contains, refl, sym, ap₂, subst, ◌∙◌, arith}
+use Rattle.std.proofs.Common.{◌≡◌, ℕ, ◌<◌, max, List, [], ◌∷◌, Contains, refl, sym, ap₂, subst, ◌∙◌, arith}
 use Rattle.std.specs.Prelude.{IsTrue, IsFalse, nat_le}
 use Rattle.std.proofs.lemmas.Bool.{false≢true}
 use Rattle.std.proofs.lemmas.List.FromFn.{get_or-map-range_with_len}
-use Rattle.msg_buffer.specs.Prelude.{count}
 use Rattle.msg_order.specs.Prelude.{has_joined}
-use Rattle.msg_frames.specs.Prelude.{Frame, IsBalanced, IsFrame, IsRun, IsSoundState, IsTurnOrderOf, Log, Member, State, after_turns_of, before_turns, counts, has_begun, join_flags, joined_member, no_totals, place_of, systems_in, turns_moments}
+use Rattle.msg_frames.specs.Prelude.{Frame, IsBalanced, IsFrame, IsRun, IsSoundState, IsTurnOrderOf, Log, Member, State, after_turns_of, before_turns, counts, has_begun, join_flags, joined_member, systems_in, turns_moments}
 use Rattle.msg_frames.proofs.HistoriesGrow.{BufferLaws, counts_more}
 use Rattle.msg_frames.proofs.SystemsStay.{turns_keep, joined_below}
 use Rattle.msg_frames.proofs.EntriesAddUp.{stays_balanced}
@@ -34,18 +33,8 @@ balanced_start m counts t =
     record { begin = (joined_member counts m).job.system.places t; start = refl; adds_up = omega arith }
 
 module _ (s b : State) (sound : IsSoundState s) (prep : Prepares s b) where
-  prepared_places : (i t : ℕ) → t < s.types → place_of b i t ≤ count (b.world.histories t)
-  prepared_places i t below = grind (arith, begun_within, comes, counts_more, stood, waits)
-
-  prepared_waiting : (i t : ℕ) → IsFalse (has_begun b i) → (place_of b i t ≡ 0) × ((b.members i).totals t ≡ no_totals)
-  prepared_waiting i t isnt = grind (arith, comes, false≢true, stood, waits)
-
-  prepared_balanced : (i t : ℕ) → t < s.types → IsTrue (has_begun b i)
-      → IsBalanced ((b.members i).totals t) (place_of b i t)
-  prepared_balanced i t below is_begun = grind (arith, balanced_start, comes, false≢true, stood, waits)
-
   pub prepared_sound : IsSoundState b
-  prepared_sound = grind (arith, prepared_balanced, prepared_places, prepared_waiting)
+  prepared_sound = grind (arith, balanced_start, begun_within, comes, counts_more, false≢true, stood, waits)
 
 -- ---- the turns, frames and runs
 

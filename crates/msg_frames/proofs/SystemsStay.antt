@@ -8,8 +8,7 @@ use Rattle.std.specs.Prelude.{◌==◌}
 use Rattle.msg_world.specs.declared.access.Access.{Access}
 use Rattle.msg_world.specs.Prelude.{WorldState}
 use Rattle.msg_order.specs.Prelude.{has_joined}
-use Rattle.msg_system.specs.Prelude.{with_conditions}
-use Rattle.msg_frames.specs.Prelude.{AreAccessesOf, Frame, FramesKeepSystems, Member, NoCycle, SameMember, SameSystems, SameSystemsHaveSameAccesses, State, TurnsKeepSystems, after_turn_of, after_turns_of, before_turns, counts, frame_in, join_flags, joined_member, joining, member_turn, needs_of, with_joining, with_member}
+use Rattle.msg_frames.specs.Prelude.{AreAccessesOf, Frame, FramesKeepSystems, Member, NoCycle, SameMember, SameSystems, SameSystemsHaveSameAccesses, State, TurnsKeepSystems, after_turn_of, after_turns_of, before_turns, counts, frame_in, join_flags, joined_member, joining, member_turn, with_joining}
 use Rattle.std.proofs.lemmas.Bool.Decides.{eqb_tells}
 use Rattle.std.proofs.lemmas.Simd.{map-map}
 
@@ -17,9 +16,6 @@ use Rattle.std.proofs.lemmas.Simd.{map-map}
 
 pub same_member : (m : Member) → SameMember m m
 same_member m = record { needs = refl; start = refl; writer = refl; conditions = refl; join = refl }
-
-pub members_along : (l m n : Member) → SameMember l m → SameMember m n → SameMember l n
-members_along l m n a b = grind arith
 
 pub turn_keeps : (m : Member) (w : WorldState) → SameMember m (member_turn m w).member
 turn_keeps m w = grind (arith, cases_Bool, map-map)
@@ -33,14 +29,10 @@ pub same_systems : (s : State) → SameSystems s s
 same_systems s = record { systems = refl; members = λ i. same_member (s.members i); rules = refl; types = refl }
 
 pub systems_along : (s t u : State) → SameSystems s t → SameSystems t u → SameSystems s u
-systems_along s t u a b = grind (arith, members_along)
-
-pub with_member_keeps : (members : ℕ → Member) (i : ℕ) (m : Member) (k : ℕ) → SameMember (members i) m
-    → SameMember (members k) (with_member members i m k)
-with_member_keeps members i m k same = grind (arith, eqb_tells, same_member)
+systems_along s t u a b = grind arith
 
 pub one_turn_keeps : (i : ℕ) (s : State) → SameSystems s (after_turn_of i s)
-one_turn_keeps i s = grind (arith, turn_keeps, with_member_keeps)
+one_turn_keeps i s = grind (arith, eqb_tells, same_member, turn_keeps)
 
 pub turns_keep_systems : (order : List ℕ) (s : State) → SameSystems s (after_turns_of order s).state
 turns_keep_systems [] s = same_systems s
@@ -77,9 +69,6 @@ before_keeps posts s = grind (arith, joining_keeps)
 pub frame_keeps : (order : List ℕ) (frame : Frame) (s : State) → SameSystems s (frame_in order frame s).state
 frame_keeps order frame s = systems_along _ _ _ (before_keeps frame.posts s) (turns_keep_systems order _)
 
-pub frame_counts : (order : List ℕ) (frame : Frame) (s : State) → (frame_in order frame s).state.frames ≡ suc s.frames
-frame_counts order frame s = turns_make_no_frame order (before_turns frame.posts s) ∙ ap suc (joining_makes_no_frame s)
-
 pub frames_keep : FramesKeepSystems
 frames_keep order frame s = record {
   with_joiners = λ k. joining_on_keeps k s;
@@ -87,17 +76,14 @@ frames_keep order frame s = record {
   before = before_keeps frame.posts s;
   after = frame_keeps order frame s;
   counted_before = ap suc (joining_makes_no_frame s);
-  counted = frame_counts order frame s;
+  counted = turns_make_no_frame order (before_turns frame.posts s) ∙ ap suc (joining_makes_no_frame s);
 }
 
 -- ---- accesses, and who has joined
 
-needs_same : (m n : Member) → SameMember m n → needs_of n ≡ needs_of m
-needs_same m n h k = with_conditions (h.needs k) (h.conditions k)
-
 pub accesses_stay : (s u : State) (accesses : List Access) → SameSystems s u → AreAccessesOf s accesses
     → AreAccessesOf u accesses
-accesses_stay s u accesses h a = grind (arith, needs_same)
+accesses_stay s u accesses h a = grind arith
 
 pub joined_stay : (s u : State) → SameSystems s u → u.frames ≡ s.frames → join_flags u ≡ join_flags s
 joined_stay s u h e k = map (λ i. nat_le ((h.members i).join k) (max 1 (e k))) (range_with_len 0 (h.systems k))

@@ -1,9 +1,9 @@
 -- Turns of systems whose accesses don't conflict can be swapped.
-use Rattle.std.proofs.Common.{arith, ◌≡◌, ◌≢◌, ℕ, ◌<◌, false, ◌&&◌, List, refl, sym, ne_eqb}
+use Rattle.std.proofs.Common.{arith, ◌≡◌, ◌≢◌, ℕ, ◌<◌, false, List, refl, sym, ne_eqb}
 use Rattle.std.specs.Prelude.{IsTrue}
 use Rattle.std.proofs.lemmas.Bool.{and_from, cases_Bool}
 use Rattle.msg_world.specs.declared.access.Access.{Access}
-use Rattle.msg_world.specs.Prelude.{Conflict, OfResource, OfType, Part, Registry, WorldState, content, uses, writes}
+use Rattle.msg_world.specs.Prelude.{Conflict, OfResource, OfType, Part, Registry, WorldState, content}
 use Rattle.msg_order.specs.Prelude.{access_of}
 use Rattle.msg_system.specs.Prelude.{HasFootprint, IsAccessOf, JobFootprint, Needs, needs_any}
 use Rattle.msg_system.proofs.Accesses.{uses_needs}
@@ -34,12 +34,8 @@ pub record Apart (m n : Needs) : Type 0 where
 pub flip : (m n : Needs) → Apart m n → Apart n m
 flip m n h = record { left = h.right; right = h.left }
 
-unwritten : (m n : Needs) (a b : Access) → IsAccessOf m a → IsAccessOf n b → (p : Part)
-    → (IsTrue (writes a p && uses b p) → ⊥) → IsTrue (needs_any n p) → m.writes p ≡ false
-unwritten m n a b ma nb p none used = grind (arith, and_from, cases_Bool, uses_needs)
-
 pub apart : (m n : Needs) (a b : Access) → IsAccessOf m a → IsAccessOf n b → ¬ Conflict a b → Apart m n
-apart m n a b ma nb none = grind (arith, unwritten)
+apart m n a b ma nb none = grind (arith, and_from, cases_Bool, uses_needs)
 
 -- ---- turns
 
