@@ -47,14 +47,8 @@ has_fate e n place begins low high = elim (cases_lt n e.stretch.first) [
 abbrev pub entries_of : List Moment → List Entry
 entries_of ms = map (λ m. m.entry) ms
 
-here : (e : Entry) (es : List Entry) (n : ℕ) (fate : Fate) → Contains (numbers_at fate e) n → Meets (e ∷ es) n 0 fate
-here e es n fate among = record { entry = e; is_entry = refl; among = among }
-
 of_here : (e : Entry) (es : List Entry) (n : ℕ) (fate : Fate) → Meets (e ∷ es) n 0 fate → Contains (numbers_at fate e) n
 of_here e es n fate met = grind arith
-
-later : (e : Entry) (es : List Entry) (n k : ℕ) (fate : Fate) → Meets es n k fate → Meets (e ∷ es) n (suc k) fate
-later e es n k fate met = grind arith
 
 of_later : (e : Entry) (es : List Entry) (n k : ℕ) (fate : Fate) → Meets (e ∷ es) n (suc k) fate → Meets es n k fate
 of_later e es n k fate met = grind arith
@@ -105,10 +99,11 @@ some_fate : (p : ℕ) (ms : List Moment) (q : ℕ) → Tile p (map tile_of ms) q
     × ((fate : Fate) × Meets (entries_of ms) n k fate)
 some_fate p [] q tile n low high = let same : p ≡ q = tile in absurd (omega arith)
 some_fate p (m ∷ ms) q tile n low high = elim (cases_lt n (next_place m.entry.stretch)) [
-  | inl before ↦ (0, (_, here m.entry (entries_of ms) n _ (has_fate m.entry n p tile.0.first low before)))
+  | inl before ↦
+      (0, (_, record { entry = m.entry; is_entry = refl; among = has_fate m.entry n p tile.0.first low before }))
   | inr past ↦
       let rest = some_fate (next_place m.entry.stretch) ms q tile.1 n past high in
-      (suc rest.0, (rest.1.0, later m.entry (entries_of ms) n rest.0 rest.1.0 rest.1.1))
+      (suc rest.0, (rest.1.0, grind (arith, rest.1.1)))
 ]
 
 pub meets_one_fate : (p : ℕ) (ms : List Moment) (q : ℕ) → Tile p (map tile_of ms) q → (n : ℕ) → p ≤ n → n < q

@@ -55,13 +55,9 @@ tile_misses_none p place (m ∷ ms) to tile written there above =
 
 -- ---- a frame
 
--- what was written before p is no matter
-none_yet : (k p : ℕ) (h : History Record) → count h ≤ p → AreRecent k p h
-none_yet k p h less = grind (arith, slice_get_within)
-
 none_yet_updated : (p t : ℕ) (w : WorldState) → count (w.histories t) ≤ p → AreRecent 0 p ((after_update w).histories t)
-none_yet_updated p t w less =
-    grind (arith, cases_Bool, none_yet 0 p (w.histories t) less, none_yet 0 p (update (w.histories t)) less)
+none_yet_updated p t w less n e above at =
+    let within = slice_get_within ((after_update w).histories t).entries n e at in grind (arith, cases_Bool, within)
 
 -- who is up to date has only recent messages before it
 recent_ahead : (s : State) (i t : ℕ) → IsUpToDate s i t → AreRecent 0 (place_of s i t) (s.world.histories t)

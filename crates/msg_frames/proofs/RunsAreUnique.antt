@@ -1,12 +1,11 @@
 -- The systems have one settled order, a frame has one log, and so has a run.
-use Rattle.std.proofs.Common.{arith, ◌≡◌, ℕ, ◌<◌, ◌||◌, inl, inr, Bool, List, [], ◌∷◌, length, refl, sym, ◌∙◌}
+use Rattle.std.proofs.Common.{arith, ◌≡◌, ℕ, ◌<◌, inl, inr, Bool, List, [], ◌∷◌, length, refl, sym, ◌∙◌}
 use Rattle.std.proofs.lemmas.Bool.{and_parts}
 use Rattle.std.proofs.lemmas.List.Elements.{All-contains, filter_passes}
 use Rattle.std.proofs.lemmas.List.FromFn.{length-map-range_with_len}
 use Rattle.msg_world.specs.declared.access.Access.{Access}
-use Rattle.msg_world.specs.Prelude.{Part, uses, writes}
 use Rattle.msg_order.specs.declared.rule.Rule.{Rule}
-use Rattle.msg_order.specs.Prelude.{AreInConflict, Graph, IsAcyclic, IsAmong, IsSettledOrder, SettledOrderIsUnique, Settles, SettlingMakesNoCycle, TurnOrderIsUnique, access_of, pairs, rules_among}
+use Rattle.msg_order.specs.Prelude.{AreInConflict, Graph, IsAcyclic, IsAmong, SettledOrderIsUnique, Settles, SettlingMakesNoCycle, TurnOrderIsUnique, pairs, rules_among}
 use Rattle.msg_frames.specs.Prelude.{AreAccessesOf, FramesAreUnique, IsOrderOf, IsTurnOrderOf, NoCycle, RunsAreUnique, State, SystemsHaveOneOrder, has_begun, join_flags}
 use Rattle.msg_order.proofs.Elements.{Contains-cases}
 use Rattle.msg_frames.proofs.SystemsStay.{joined_below}
@@ -14,17 +13,11 @@ use Rattle.msg_frames.proofs.SystemsStay.{joined_below}
 -- ---- conflicts
 
 module _ (s : State) (a b : List Access) (are : AreAccessesOf s a) (are' : AreAccessesOf s b) where
-  same_writes : (i : ℕ) → i < s.systems → (p : Part) → writes (access_of a i) p ≡ writes (access_of b i) p
-  same_writes i lt p = (are.of_needs i lt).writes p ∙ sym ((are'.of_needs i lt).writes p)
-
-  same_uses : (i : ℕ) → i < s.systems → (p : Part) → uses (access_of a i) p ≡ uses (access_of b i) p
-  same_uses i lt p k = ((are.of_needs i lt).reads p ∙ sym ((are'.of_needs i lt).reads p)) k || same_writes i lt p k
-
   same_conflict : (i j : ℕ) → AreInConflict a (join_flags s) i j → AreInConflict b (join_flags s) i j
   same_conflict i j h =
       let li : i < s.systems = joined_below s i h.first_joined in
       let lj : j < s.systems = joined_below s j h.second_joined in
-      grind (arith, same_writes i li, same_uses i li, same_writes j lj, same_uses j lj)
+      grind (arith, are.of_needs i li, are'.of_needs i li, are.of_needs j lj, are'.of_needs j lj)
 
 -- ---- settled orders
 
@@ -33,13 +26,9 @@ settles_by : (C D : ℕ → ℕ → Type 0) → ((i j : ℕ) → C i j → D i j
 settles_by C D to from [] g h e = e
 settles_by C D to from (p ∷ ps) g h x = grind (arith, to, from, settles_by C D to from ps)
 
-settled_by_other : (s : State) (a b : List Access) → AreAccessesOf s a → AreAccessesOf s b → (g : Graph)
-    → IsSettledOrder a s.rules (join_flags s) g → IsSettledOrder b s.rules (join_flags s) g
-settled_by_other s a b are are' g settled = grind (arith, same_conflict, settles_by)
-
 pub one_order : SettledOrderIsUnique → SystemsHaveOneOrder
 one_order unique s g h x y = unique x.accesses s.rules (join_flags s) g h x.is_settled
-    (settled_by_other s y.accesses x.accesses y.of_systems x.of_systems h y.is_settled)
+    (grind (arith, same_conflict, settles_by, x.of_systems, y.of_systems, y.is_settled))
 
 -- ---- edges among those that have joined
 

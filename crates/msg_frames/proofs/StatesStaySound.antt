@@ -1,10 +1,9 @@
 -- Frames keep states sound.
 use Rattle.std.proofs.Common.{◌≡◌, ℕ, ◌<◌, max, List, [], ◌∷◌, Contains, refl, sym, ap₂, subst, ◌∙◌, arith}
-use Rattle.std.specs.Prelude.{IsTrue, IsFalse, nat_le}
+use Rattle.std.specs.Prelude.{IsFalse, nat_le}
 use Rattle.std.proofs.lemmas.Bool.{false≢true}
 use Rattle.std.proofs.lemmas.List.FromFn.{get_or-map-range_with_len}
-use Rattle.msg_order.specs.Prelude.{has_joined}
-use Rattle.msg_frames.specs.Prelude.{Frame, IsBalanced, IsFrame, IsRun, IsSoundState, IsTurnOrderOf, Log, Member, State, after_turns_of, before_turns, counts, has_begun, join_flags, joined_member, systems_in, turns_moments}
+use Rattle.msg_frames.specs.Prelude.{Frame, IsBalanced, IsFrame, IsRun, IsSoundState, IsTurnOrderOf, Log, Member, State, after_turns_of, before_turns, counts, has_begun, joined_member, systems_in, turns_moments}
 use Rattle.msg_frames.proofs.HistoriesGrow.{BufferLaws, counts_more}
 use Rattle.msg_frames.proofs.SystemsStay.{turns_keep, joined_below}
 use Rattle.msg_frames.proofs.EntriesAddUp.{stays_balanced}
@@ -13,14 +12,11 @@ use Rattle.msg_frames.proofs.BeforeTurns.{Prepares, begun_within, comes, prepare
 
 -- ---- who has a turn
 
-has_joined_has_begun : (b : State) (i : ℕ) → IsTrue (has_joined (join_flags b) i) → IsTrue (has_begun b i)
-has_joined_has_begun b i is = grind (arith, get_or-map-range_with_len, joined_below)
-
 -- one that waits has no turn
 pub has_no_turn : (b : State) (order : List ℕ) (i : ℕ) → IsTurnOrderOf b order → IsFalse (has_begun b i)
     → ¬ Contains order i
 has_no_turn b order i ordered isnt at =
-    false≢true (sym isnt ∙ has_joined_has_begun b i ((ordered.in_order.of_joined i).0 at))
+    grind (arith, false≢true, get_or-map-range_with_len, joined_below, (ordered.in_order.of_joined i).0 at)
 
 pub begun_alike : (b u : State) (i : ℕ) → Keeps b u → has_begun u i ≡ has_begun b i
 begun_alike b u i keep = ap₂ (λ j n. nat_le j (max 1 n)) (keep.0.members i).join keep.1

@@ -8,7 +8,7 @@ use Rattle.std.specs.Prelude.{◌==◌}
 use Rattle.msg_world.specs.declared.access.Access.{Access}
 use Rattle.msg_world.specs.Prelude.{WorldState}
 use Rattle.msg_order.specs.Prelude.{has_joined}
-use Rattle.msg_frames.specs.Prelude.{AreAccessesOf, Frame, FramesKeepSystems, Member, NoCycle, SameMember, SameSystems, SameSystemsHaveSameAccesses, State, TurnsKeepSystems, after_turn_of, after_turns_of, before_turns, counts, frame_in, join_flags, joined_member, joining, member_turn, with_joining}
+use Rattle.msg_frames.specs.Prelude.{AreAccessesOf, Frame, FramesKeepSystems, Member, NoCycle, SameMember, SameSystems, SameSystemsHaveSameAccesses, State, TurnsKeepSystems, after_turn_of, after_turns_of, before_turns, frame_in, join_flags, joining, member_turn, with_joining}
 use Rattle.std.proofs.lemmas.Bool.Decides.{eqb_tells}
 use Rattle.std.proofs.lemmas.Simd.{map-map}
 
@@ -19,9 +19,6 @@ same_member m = record { needs = refl; start = refl; writer = refl; conditions =
 
 pub turn_keeps : (m : Member) (w : WorldState) → SameMember m (member_turn m w).member
 turn_keeps m w = grind (arith, cases_Bool, map-map)
-
-begun_keeps : (counts : List ℕ) (m : Member) → SameMember m (joined_member counts m)
-begun_keeps counts m = grind (arith, map-map)
 
 -- ---- systems
 
@@ -49,7 +46,7 @@ turns_keep order s = (turns_keep_systems order s, turns_make_no_frame order s)
 -- ---- joining, and frames
 
 pub joining_on_keeps : (k : ℕ) (s : State) → SameSystems s (with_joining k s)
-joining_on_keeps k s = grind (arith, begun_keeps, cases_Bool, same_member)
+joining_on_keeps k s = grind (arith, cases_Bool, map-map)
 
 pub joining_keeps : (s : State) → SameSystems s (joining s)
 joining_keeps s = elim (cases_Bool (s.frames == 0)) [

@@ -30,10 +30,9 @@ rising_range a zero rest rise = rising_from a (a + 0) rest (omega arith) rise
 rising_range a (suc n) rest rise = grind (arith, rising_range (a + 1) n rest)
 
 is_increasing : (low : ℕ) (xs : List ℕ) → Rising low xs → IsStrictlyIncreasing xs
-is_increasing low [] rise k below = absurd (omega arith)
-is_increasing low (x ∷ []) rise k below = absurd (omega arith)
 is_increasing low (x ∷ y ∷ ys) rise zero below = omega (arith, rise.1.0)
 is_increasing low (x ∷ y ∷ ys) rise (suc k) below = grind (arith, is_increasing (x + 1) (y ∷ ys) rise.1 k (omega arith))
+is_increasing low xs rise k below = absurd (omega arith)
 
 numbers_rise : (p : ℕ) (ms : List Moment) (q : ℕ) → Tile p (map tile_of ms) q
     → Rising p (numbers_of given (entries_of ms))
@@ -122,9 +121,8 @@ module _ (last : History Record) where
 of_one_kind : {X : Type 0} (f : ℕ → Option X) (p : X → Bool) (ns : List ℕ) (xs : List X) → map f ns ≡ map Some xs
     → map f (filter (λ n. elim (f n) [ None ↦ false | Some x ↦ p x ]) ns) ≡ map Some (filter p xs)
 of_one_kind f p [] [] same = refl
-of_one_kind f p [] (x ∷ xs) same = absurd (omega (arith, ap length same))
-of_one_kind f p (n ∷ ns) [] same = absurd (omega (arith, ap length same))
 of_one_kind f p (n ∷ ns) (x ∷ xs) same = grind (arith, cases_Bool, of_one_kind f p ns xs (ap (drop 1) same))
+of_one_kind f p ns xs same = absurd (omega (arith, ap length same))
 
 pub in_order_of : (writer p : ℕ) (ms : List Moment) (q : ℕ) (last : History Record) → Tile p (map tile_of ms) q
     → All GivesItsStretch ms → All (λ m. GoesOn m.history last) ms → All IsWritten ms
