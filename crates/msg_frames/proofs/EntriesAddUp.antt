@@ -7,12 +7,12 @@ use Rattle.msg_system.specs.declared.reply.Took.{Took}
 use Rattle.msg_frames.specs.Prelude.{Entry, Fate, IsBalanced, Moment, Totals, cleared, entry_of_read, given, missed, numbers_of, with_entries}
 use Rattle.msg_frames.proofs.ReaderOverJob.{tile_of}
 use Rattle.std.proofs.lemmas.Bool.{cases_Bool}
+use Rattle.std.proofs.lemmas.Grind.{flat_map-append}
 
 -- what met a fate at these entries and at those
 more_of : (fate : Fate) (es fs : List Entry) → length (numbers_of fate (es ++ fs))
     ≡ length (numbers_of fate es) + length (numbers_of fate fs)
-more_of fate [] fs = omega arith
-more_of fate (e ∷ es) fs = grind (arith, length-append, more_of fate es fs)
+more_of fate es fs = grind (arith, flat_map-append, length-append)
 
 pub with_entries-none : (x : Totals) → with_entries [] x ≡ x
 with_entries-none x = grind arith

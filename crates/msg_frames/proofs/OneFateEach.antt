@@ -1,10 +1,10 @@
 -- Each number that tiles go past meets one fate, at one tile.
 use Rattle.std.proofs.Common.{◌≡◌, ℕ, zero, suc, ◌+◌, ◌≤◌, ◌<◌, List, [], ◌∷◌, map, Contains, cond, is_some, refl, arith, inl, inr, All}
 use Rattle.std.specs.Prelude.{nat_lt}
-use Rattle.std.proofs.lemmas.Bool.{cases_Bool, lt-ltb, le-ltb, cases_lt}
+use Rattle.std.proofs.lemmas.Bool.{cases_Bool, lt-ltb, cases_lt}
 use Rattle.std.proofs.lemmas.List.Elements.{All-cons, All-head, All-nil, All-tail}
 use Rattle.msg_buffer.specs.Prelude.{IsPresent, Tile, count, next_place}
-use Rattle.msg_frames.specs.Prelude.{Entry, Fate, Meets, MeetsOneFate, Moment, cleared, given, missed, numbers_at}
+use Rattle.msg_frames.specs.Prelude.{Entry, Fate, Meets, MeetsOneFate, Moment, cleared, given, missed, numbers_at, numbers_passed}
 use Rattle.msg_order.proofs.Elements.{Contains-range, not_in_none, range-Contains}
 use Rattle.msg_frames.proofs.ReaderOverJob.{IsWritten, tile_of}
 use Rattle.std.proofs.lemmas.Bool.Decides.{nat_tests}
@@ -36,10 +36,9 @@ has_fate : (e : Entry) (n place : ℕ) → BeginsAt place e → place ≤ n → 
     → Contains (numbers_at (fate_at e n) e) n
 has_fate e n place begins low high = elim (cases_lt n e.stretch.first) [
   | inl below ↦ rw (lt-ltb _ _ below) (Contains-range _ _ _ (omega arith) (omega arith))
-  | inr above ↦ rw (le-ltb _ _ above) (elim (cases_Bool (is_some e.given)) [
-    | inl some ↦ rw (some, some) (Contains-range _ _ _ above high)
-    | inr none ↦ rw (none, none) (Contains-range _ _ _ above high)
-  ])
+  | inr above ↦
+      let among : Contains (numbers_passed e) n = Contains-range _ _ _ above high in
+      grind (arith, above, among, cases_Bool, nat_tests)
 ]
 
 -- ---- at the entries of tiles

@@ -90,13 +90,6 @@ module _ (laws : BufferLaws) where
   abbrev cleared_entry : History Record → ℕ → Entry
   cleared_entry h place = record { stretch = pass_over h place; given = None }
 
-  clear_passes : (h : History Record) (place : ℕ) → IsSound h → place ≤ count h
-      → Passes place h (record { history = h; entry = cleared_entry h place } ∷ []) (count h) h
-  clear_passes h place sound within =
-      let law = laws.clears h place sound in
-      rw (law.1 within) at (passes_one place h (cleared_entry h place) h law.0 (omega (arith, law.1 within)) tt
-      (stays h sound))
-
   module _ (t : ℕ) where
     -- an op that reads type u
     of_type : (u : ℕ) (w : WorldState) (v : History Record) (ps : ℕ → ℕ) (e : Entry) (q : ℕ)
@@ -116,7 +109,10 @@ module _ (laws : BufferLaws) where
         let done = after_op op writer ps w in GoesPast t ps w (op_moments t op writer ps w) done.places done.state
     op_passes (Read u limit) writer ps w = of_read u w w ps limit (stays _)
     op_passes (Clear u) writer ps w = λ sound within.
-        of_type u w _ ps _ _ within (stays _ sound) (λ e. rw e (clear_passes _ _ sound within))
+        let law = laws.clears (w.histories t) (ps t) sound in
+        let to = law.1 within in
+        of_type u w _ ps _ _ within (stays _ sound) (λ e. rw (e, ← to) (passes_one (ps t) (w.histories t)
+        (cleared_entry (w.histories t) (ps t)) _ law.0 (omega (arith, to)) tt (stays _ sound)))
     op_passes (Forward u v) writer ps w =
         of_read u w (after_op (Forward u v) writer ps w).state ps None
         (op_changes Grows (grown laws.grow) (Forward u v) writer ps w t)

@@ -66,15 +66,10 @@ abbrev passes : (Part → Bool) → Option Part → Bool
 passes test None = true
 passes test (Some p) = test p
 
-part_passes : (test : Part → Bool) (o : Option Part) (p : Part) → passes test o ≡ true → is_part o p ≡ true
-    → test p ≡ true
-part_passes test o p t h = grind (arith, eqb_tells)
-
 any_passes : {X : Type 0} (test : Part → Bool) (part : X → Option Part) (xs : List X) (p : Part)
     → list_all (λ x. passes test (part x)) xs ≡ true → list_any (λ x. is_part (part x) p) xs ≡ true → test p ≡ true
 any_passes test part [] p all h = absurd (false≢true h)
-any_passes test part (x ∷ xs) p all h =
-    grind (arith, cases_Bool, part_passes test (part x) p, any_passes test part xs p)
+any_passes test part (x ∷ xs) p all h = grind (arith, cases_Bool, eqb_tells, any_passes test part xs p)
 
 abbrev is_within : ℕ → List Op → List Condition → Bool
 is_within n ops cs =

@@ -1,14 +1,12 @@
 -- What turns and frames keep of the systems.
-use Rattle.std.proofs.Common.{◌≡◌, ℕ, ◌<◌, IsTrue, arith, List, [], ◌∷◌, map, refl, ap, ◌∙◌, inl, inr, suc, max, nat_le, ℤ}
+use Rattle.std.proofs.Common.{◌≡◌, ℕ, ◌<◌, IsTrue, arith, List, [], ◌∷◌, map, refl, ap, ◌∙◌, suc, max, nat_le, ℤ}
 use Rattle.std.specs.List.{range_with_len}
 use Rattle.std.proofs.lemmas.Bool.{cases_Bool, cases_lt, false≢true}
 use Rattle.std.proofs.lemmas.List.{get_or_past}
 use Rattle.std.proofs.lemmas.List.FromFn.{length-map-range_with_len}
-use Rattle.std.specs.Prelude.{◌==◌}
 use Rattle.msg_world.specs.declared.access.Access.{Access}
-use Rattle.msg_world.specs.Prelude.{WorldState}
 use Rattle.msg_order.specs.Prelude.{has_joined}
-use Rattle.msg_frames.specs.Prelude.{AreAccessesOf, Frame, FramesKeepSystems, Member, NoCycle, SameMember, SameSystems, SameSystemsHaveSameAccesses, State, TurnsKeepSystems, after_turn_of, after_turns_of, before_turns, frame_in, join_flags, joining, member_turn, with_joining}
+use Rattle.msg_frames.specs.Prelude.{AreAccessesOf, Frame, FramesKeepSystems, Member, NoCycle, SameMember, SameSystems, SameSystemsHaveSameAccesses, State, TurnsKeepSystems, after_turn_of, after_turns_of, before_turns, frame_in, join_flags, joining, with_joining}
 use Rattle.std.proofs.lemmas.Bool.Decides.{eqb_tells}
 use Rattle.std.proofs.lemmas.Simd.{map-map}
 
@@ -16,9 +14,6 @@ use Rattle.std.proofs.lemmas.Simd.{map-map}
 
 pub same_member : (m : Member) → SameMember m m
 same_member m = record { needs = refl; start = refl; writer = refl; conditions = refl; join = refl }
-
-pub turn_keeps : (m : Member) (w : WorldState) → SameMember m (member_turn m w).member
-turn_keeps m w = grind (arith, cases_Bool, map-map)
 
 -- ---- systems
 
@@ -29,7 +24,7 @@ pub systems_along : (s t u : State) → SameSystems s t → SameSystems t u → 
 systems_along s t u a b = grind arith
 
 pub one_turn_keeps : (i : ℕ) (s : State) → SameSystems s (after_turn_of i s)
-one_turn_keeps i s = grind (arith, eqb_tells, same_member, turn_keeps)
+one_turn_keeps i s = grind (arith, cases_Bool, eqb_tells, map-map, same_member)
 
 pub turns_keep_systems : (order : List ℕ) (s : State) → SameSystems s (after_turns_of order s).state
 turns_keep_systems [] s = same_systems s
@@ -49,10 +44,7 @@ pub joining_on_keeps : (k : ℕ) (s : State) → SameSystems s (with_joining k s
 joining_on_keeps k s = grind (arith, cases_Bool, map-map)
 
 pub joining_keeps : (s : State) → SameSystems s (joining s)
-joining_keeps s = elim (cases_Bool (s.frames == 0)) [
-  | inl e ↦ rw e (same_systems _)
-  | inr e ↦ rw e (joining_on_keeps _ _)
-]
+joining_keeps s = grind (arith, cases_Bool, map-map)
 
 pub joining_makes_no_frame : (s : State) → (joining s).frames ≡ s.frames
 joining_makes_no_frame s = grind (arith, cases_Bool)

@@ -1,13 +1,12 @@
 -- Turns of systems whose accesses don't conflict can be swapped.
-use Rattle.std.proofs.Common.{arith, ◌≡◌, ◌≢◌, ℕ, ◌<◌, false, List, refl, sym, ne_eqb}
+use Rattle.std.proofs.Common.{arith, ◌≡◌, ◌≢◌, ℕ, false, refl, sym, ne_eqb}
 use Rattle.std.specs.Prelude.{IsTrue}
 use Rattle.std.proofs.lemmas.Bool.{and_from, cases_Bool}
 use Rattle.msg_world.specs.declared.access.Access.{Access}
 use Rattle.msg_world.specs.Prelude.{Conflict, OfResource, OfType, Part, Registry, WorldState, content}
-use Rattle.msg_order.specs.Prelude.{access_of}
 use Rattle.msg_system.specs.Prelude.{HasFootprint, IsAccessOf, JobFootprint, Needs, needs_any}
 use Rattle.msg_system.proofs.Accesses.{uses_needs}
-use Rattle.msg_frames.specs.Prelude.{AfterTurn, AreAccessesOf, Member, Outcome, State, TurnsOfOthersCommute, after_turn_of, member_turn, needs_of, turn_of, with_member}
+use Rattle.msg_frames.specs.Prelude.{AfterTurn, Member, Outcome, State, TurnsOfOthersCommute, after_turn_of, member_turn, needs_of, turn_of, with_member}
 use Rattle.std.proofs.lemmas.Bool.Decides.{eqb_tells}
 
 -- ---- worlds and states
@@ -100,13 +99,9 @@ turns_swap foot s i j ne free = λ k. record s { members = λ n. members n k; wo
       with_member_other s.members j (turn_of s j).member i ne,
     ) (worlds_commute foot (s.members i) (s.members j) s.world free)
 
-of_access : (s : State) (accesses : List Access) → AreAccessesOf s accesses → (i j : ℕ) → i < s.systems → j < s.systems
-    → ¬ Conflict (access_of accesses i) (access_of accesses j) → Apart (needs_of (s.members i)) (needs_of (s.members j))
-of_access s accesses are i j li lj none = apart _ _ _ _ (are.of_needs i li) (are.of_needs j lj) none
-
 pub turns_commute : JobFootprint → TurnsOfOthersCommute
 turns_commute foot s accesses i j are li lj ne none =
-    let free = of_access s accesses are i j li lj none in
+    let free = apart _ _ _ _ (are.of_needs i li) (are.of_needs j lj) none in
     let first = turn_after foot s i j (λ e. ne (sym e)) free in
     let second = turn_after foot s j i ne (flip _ _ free) in
     grind (arith, first, second, turns_swap foot s i j ne free)
