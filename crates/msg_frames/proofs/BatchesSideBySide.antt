@@ -58,11 +58,10 @@ module _ (foot : JobFootprint) (accesses : List Access) (start : State) (are : A
       → Untouched start s i → Untouched start s j → Untouched start (after_turn_of i s) j
   still s i j li lj ne none hi hj =
       let free = apart _ _ _ _ (are.of_needs i li) (are.of_needs j lj) none in
+      let f = turn_footprint foot (start.members i) in
       record {
         member = grind (arith, eqb_tells, hj.member);
-        world = λ p used.
-            rw (hi.member) ((turn_footprint foot (start.members i)).kept s.world p (free.left p used)) ∙ hj.world p
-            used;
+        world = λ p used. rw (hi.member) (f.kept s.world p (free.left p used)) ∙ hj.world p used;
       }
 
   from_start : (batch : List ℕ) (s : State) → All (λ i. i < start.systems) batch → AllPairs (λ i j. i ≢ j) batch

@@ -1,5 +1,5 @@
 -- A reader whose turn reads all of a type goes past all that had been written by then.
-use Rattle.std.proofs.Common.{◌≡◌, ◌≢◌, ℕ, zero, suc, ◌≤◌, List, [], ◌∷◌, ◌++◌, All, Option, None, Some, refl, arith, ◌==◌}
+use Rattle.std.proofs.Common.{◌≡◌, ◌≢◌, ℕ, zero, suc, ◌≤◌, List, [], ◌∷◌, ◌++◌, All, Option, None, Some, refl, arith}
 use Rattle.std.specs.Prelude.{IsTrue}
 use Rattle.std.specs.List.{list_any}
 use Rattle.std.proofs.lemmas.Bool.{cases_Bool, false≢true, or_cases}
@@ -8,8 +8,7 @@ use Rattle.std.proofs.lemmas.List.Folds.{list_any-append}
 use Rattle.msg_buffer.specs.Prelude.{IsSound, count}
 use Rattle.msg_world.specs.Prelude.{WorldState}
 use Rattle.msg_system.specs.declared.op.Op.{Op}
-use Rattle.msg_system.specs.declared.op.Op.TheVariants.{Read, Forward, Sum}
-use Rattle.msg_system.specs.Prelude.{AfterProgram, Meaning, after_at_most, after_op, next_op, one_more, ops_answered, place_after_read, turn, with_place}
+use Rattle.msg_system.specs.Prelude.{AfterProgram, Meaning, after_at_most, after_op, next_op, one_more, ops_answered, turn}
 use Rattle.msg_system.proofs.Turns.{ops_answered-snoc}
 use Rattle.msg_frames.specs.Prelude.{Skipped, State, after_turn_of, after_turns_of, logged_turn, next_moments, place_of, reads_all}
 use Rattle.msg_frames.proofs.HistoriesGrow.{BufferLaws, counts_more}
@@ -21,18 +20,10 @@ use Rattle.std.proofs.lemmas.Bool.Decides.{eqb_tells}
 -- ---- a turn that reads all
 
 module _ (laws : BufferLaws) (t : ℕ) where
-  takes : (u : ℕ) (ps : ℕ → ℕ) (w : WorldState) → IsSound (w.histories t) → ps t ≤ count (w.histories t)
-      → IsTrue (u == t)
-      → with_place ps u (place_after_read (w.histories u) (ps u) None) t ≡ count (w.histories t)
-  takes u ps w sound within is = grind (arith, eqb_tells)
-
   op_takes_all : (op : Op) (writer : ℕ) (ps : ℕ → ℕ) (w : WorldState) → IsSound (w.histories t)
       → ps t ≤ count (w.histories t) → IsTrue (reads_all t op)
       → (after_op op writer ps w).places t ≡ count (w.histories t)
-  op_takes_all (Read u None) writer ps w sound within is = takes u ps w sound within is
-  op_takes_all (Forward u v) writer ps w sound within is = takes u ps w sound within is
-  op_takes_all (Sum u r) writer ps w sound within is = takes u ps w sound within is
-  op_takes_all op writer ps w sound within is = cc
+  op_takes_all op writer ps w sound within is = grind (arith, eqb_tells)
 
   -- so it does by one op more, or it did before
   more_takes : (o : Option Op) (m : Meaning) (far : AfterProgram) (c : ℕ) → next_op m far.replies ≡ o

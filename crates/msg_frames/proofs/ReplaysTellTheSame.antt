@@ -1,17 +1,17 @@
 -- A replay tells of each system what the frame tells of it.
-use Rattle.std.proofs.Common.{arith, ◌≡◌, ◌≢◌, ℕ, ◌==◌, inl, inr, List, [], ◌∷◌, ◌++◌, map, refl, ap, sym, subst, ◌∙◌, Bool, false, suc, eq-eqb, ne_eqb}
+use Rattle.std.proofs.Common.{arith, ◌≡◌, ◌≢◌, ℕ, ◌==◌, inl, inr, List, [], ◌∷◌, ◌++◌, map, refl, ap, sym, subst, ◌∙◌, Bool, false, suc, eq-eqb, ne_eqb, ap₂}
 use Rattle.std.specs.Prelude.{AllPairs, Contains, IsPermutation, flat_map, if◌then◌else◌}
 use Rattle.std.proofs.lemmas.Bool.{cases_Bool, eqb-true}
 use Rattle.std.proofs.lemmas.List.{append-nil, get_or-map, length-map}
 use Rattle.std.proofs.lemmas.List.Sorted.{Contains-permutation, list_any-IsPermutation}
 use Rattle.msg_order.specs.Prelude.{TurnOrderIsLawful}
-use Rattle.msg_system.specs.declared.reply.Reply.{Reply}
 use Rattle.msg_frames.specs.Prelude.{Frame, IsMixedRun, IsReplay, IsRun, Log, ReplaysTellACompleteRun, ReplaysTellTheSame, RunsAreComplete, State, Turn, answers, answers_in, before_turns, join_flags, systems_in}
 use Rattle.msg_frames.proofs.ElementsAndPairs.{pairs_tail}
 use Rattle.msg_order.proofs.Elements.{Contains-cases, not_in_none, Contains-list_any}
 use Rattle.msg_frames.proofs.RunsAreUnique.{order_is_among}
 use Rattle.std.specs.List.{list_any}
 use Rattle.std.proofs.lemmas.List.Folds.{list_any_none}
+use Rattle.msg_frames.proofs.ReaderOverTurns.{answers_among}
 
 -- ---- what is told under one key, in a list in which each key stands once
 
@@ -63,8 +63,7 @@ module _ {X Y : Type 0} (key : X → ℕ) (f : X → List Y) (i : ℕ) where
 
 turns_alike : TurnOrderIsLawful → (frame : Frame) (order : List ℕ) (s : State) (log : Log) (u : State)
     (replay : IsReplay frame order s log u) (i : ℕ)
-    → flat_map (λ (turn : Turn). if turn.system == i then answers turn.outcome else []) log.turns
-    ≡ flat_map (λ (turn : Turn). if turn.system == i then answers turn.outcome else []) replay.settled.turns
+    → answers_among i log.turns ≡ answers_among i replay.settled.turns
 turns_alike lawful frame order s log u replay i =
     let b : State = before_turns frame.posts s in
     let settled = replay.is_frame.in_order in
@@ -91,18 +90,12 @@ settles lawful (frame ∷ frames) s (log ∷ logs) u x =
       | inl ran ↦ record {
         settled = log ∷ rest.settled;
         is_run = (x.0, ran, rest.is_run);
-        alike = λ i.
-            ap (λ (xs : List (List Reply)). flat_map
-            (λ (turn : Turn). if turn.system == i then answers turn.outcome else []) log.turns ++ xs)
-            (rest.alike i);
+        alike = λ i. ap (λ xs. answers_among i log.turns ++ xs) (rest.alike i);
       }
       | inr replay ↦ record {
         settled = replay.1.settled ∷ rest.settled;
         is_run = (x.0, replay.1.is_frame, rest.is_run);
-        alike = λ i. ap (λ xs. xs ++ answers_in i logs) (turns_alike lawful frame replay.0 s log x.0 replay.1 i)
-            ∙ ap (λ (xs : List (List Reply)). flat_map
-            (λ (turn : Turn). if turn.system == i then answers turn.outcome else []) replay.1.settled.turns ++ xs)
-            (rest.alike i);
+        alike = λ i. ap₂ (λ xs ys. xs ++ ys) (turns_alike lawful frame replay.0 s log x.0 replay.1 i) (rest.alike i);
       }
     ]
 settles lawful frames s logs u x = absurd x

@@ -39,10 +39,8 @@ settles_among : (accesses : List Access) (who : List Bool) (ps : List (ℕ × �
     → Settles (AreInConflict accesses who) g ps h → IsAmong who h
 settles_among accesses who [] g h among e = rw (← e) among
 settles_among accesses who (p ∷ ps) g h among x = elim x [
-  | inl gains ↦ settles_among _ who ps (p ∷ g) h (λ i j e. elim (Contains-cases _ _ _ e) [
-    | inl is ↦ grind (arith, is, gains.0.0.first_joined, gains.0.0.second_joined)
-    | inr old ↦ among _ _ old
-  ]) gains.1
+  | inl gains ↦ settles_among _ who ps (p ∷ g) h
+      (λ i j e. grind (arith, among i j, Contains-cases p g (i, j) e, gains.0.0)) gains.1
   | inr stays ↦ settles_among _ who ps g h among stays.1
 ]
 

@@ -1,5 +1,5 @@
 -- Where the messages from a number on have recent stamps, ops, turns and posts keep it so.
-use Rattle.std.proofs.Common.{◌≡◌, ℕ, zero, suc, ◌+◌, ◌≤◌, ◌⊎◌, List, [], ◌∷◌, ◌++◌, Some, sym, ap, arith, inl, inr, slice_get}
+use Rattle.std.proofs.Common.{◌≡◌, ℕ, zero, suc, ◌+◌, ◌≤◌, ◌⊎◌, List, [], ◌∷◌, ◌++◌, Some, arith, inl, inr, slice_get}
 use Rattle.std.proofs.lemmas.Bool.{cases_Bool}
 use Rattle.std.proofs.lemmas.Option.{none-some, same_Some, get_or_from_slice_get, slice_get-get_or, slice_get_within}
 use Rattle.msg_buffer.specs.Prelude.{Entry, History, stamped, update, write, GoesOn}
@@ -22,7 +22,7 @@ at_append (x ∷ xs) ys (suc n) e at = at_append xs ys n e at
 
 stamp_of : (u : ℕ) (ms : List Record) (n : ℕ) (e : Entry Record) → slice_get (stamped u ms) n ≡ Some e → e.stamp ≡ u
 stamp_of u [] n e at = absurd (none-some e at)
-stamp_of u (m ∷ ms) zero e at = ap (λ (x : Entry Record). x.stamp) (sym (same_Some _ e at))
+stamp_of u (m ∷ ms) zero e at = grind (arith, same_Some)
 stamp_of u (m ∷ ms) (suc n) e at = stamp_of u ms n e at
 
 module _ (k p : ℕ) where

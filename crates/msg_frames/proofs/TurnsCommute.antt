@@ -81,23 +81,11 @@ turn_after foot s i j ne free =
 
 pub turns_swap : JobFootprint → (s : State) (i j : ℕ) → i ≢ j → Apart (needs_of (s.members i)) (needs_of (s.members j))
     → after_turn_of j (after_turn_of i s) ≡ after_turn_of i (after_turn_of j s)
-turns_swap foot s i j ne free = λ k. record s { members = λ n. members n k; world = worlds k }
-  where
-    members : (n : ℕ) → (after_turn_of j (after_turn_of i s)).members n
-        ≡ (after_turn_of i (after_turn_of j s)).members n
-    members n =
-        grind (
-          arith,
-          eqb_tells,
-          turn_after foot s i j (λ h. ne (sym h)) free,
-          turn_after foot s j i ne (flip _ _ free),
-        )
-
-    worlds : (after_turn_of j (after_turn_of i s)).world ≡ (after_turn_of i (after_turn_of j s)).world
-    worlds = rw (
-      with_member_other s.members i (turn_of s i).member j (λ h. ne (sym h)),
-      with_member_other s.members j (turn_of s j).member i ne,
-    ) (worlds_commute foot (s.members i) (s.members j) s.world free)
+turns_swap foot s i j ne free =
+    let first = turn_after foot s i j (λ h. ne (sym h)) free in
+    let second = turn_after foot s j i ne (flip _ _ free) in
+    let worlds = worlds_commute foot (s.members i) (s.members j) s.world free in
+    grind (arith, eqb_tells, first, second, worlds)
 
 pub turns_commute : JobFootprint → TurnsOfOthersCommute
 turns_commute foot s accesses i j are li lj ne none =
