@@ -11,7 +11,7 @@ use Rattle.msg_world.specs.declared.access.Access.{Access}
 use Rattle.msg_world.specs.Prelude.{Conflict}
 use Rattle.msg_order.specs.Prelude.{ConflictingSystemsAreOrdered, Graph, IsLawfulOrder, LawfulOrdersKeepPaths, Path, SettledOrderIsUnique, StandsBefore, TurnOrderIsLawful, access_of}
 use Rattle.msg_system.specs.Prelude.{JobFootprint}
-use Rattle.msg_frames.specs.Prelude.{AreAccessesOf, FramesAgreeInLawfulOrders, LawfulOrdersAgree, Log, State, after_turn_of, after_turns_of, before_turns, frame_in, has_begun, join_flags, logged_turn, systems_in}
+use Rattle.msg_frames.specs.Prelude.{AreAccessesOf, FramesAgreeInLawfulOrders, LawfulOrdersAgree, Log, State, after_turn_of, after_turns_of, before_turns, frame_in, has_begun, join_flags, logged_turn, systems_in, Turn}
 use Rattle.msg_frames.proofs.RunsAreUnique.{one_order, order_is_among}
 use Rattle.msg_frames.proofs.TurnsCommute.{turns_commute}
 use Rattle.msg_frames.proofs.SystemsStay.{accesses_stay, joined_below, one_turn_keeps}
@@ -47,14 +47,8 @@ module _ (accesses : List Access) where
       → SameRun accesses (x ∷ y ∷ is) (y ∷ x ∷ is)
   run_swapped foot x y is lx ly ne none s are =
       let e = turns_commute foot s accesses x y are (rw (are.each) at lx) (rw (are.each) at ly) ne none in
-      grind (
-        arith,
-        e.0,
-        e.1,
-        e.2,
-        IsPermutation-middle (logged_turn s x ∷ []) (logged_turn s y)
-            (after_turns_of is (after_turn_of y (after_turn_of x s))).turns,
-      )
+      let turns : List Turn = (after_turns_of is (after_turn_of y (after_turn_of x s))).turns in
+      grind (arith, e.0, e.1, e.2, IsPermutation-middle (logged_turn s x ∷ []) (logged_turn s y) turns)
 
   -- what is free of all before it moves to the front
   run_to_front : JobFootprint → (x : ℕ) (before rest : List ℕ) → x < length accesses

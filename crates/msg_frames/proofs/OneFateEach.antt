@@ -65,34 +65,27 @@ lies_between p [] q tile n k fate met = absurd (none_met n k fate met)
 lies_between p (m ∷ ms) q tile n zero fate met =
     grind (arith, tiles_rise _ _ _ tile.1, fate_of _ _ _ _ tile.0.first (of_here _ _ _ _ met))
 lies_between p (m ∷ ms) q tile n (suc k) fate met =
-    grind (arith, lies_between (next_place m.entry.stretch) _ _ tile.1 n k fate (of_later _ _ _ _ _ met))
+    grind (arith, lies_between (next_place m.entry.stretch) ms q tile.1 n k fate (of_later _ _ _ _ _ met))
 
 one_fate : (p : ℕ) (ms : List Moment) (q : ℕ) → Tile p (map tile_of ms) q → (n k l : ℕ) (f g : Fate)
     → Meets (entries_of ms) n k f → Meets (entries_of ms) n l g → (l ≡ k) × (g ≡ f)
 one_fate p [] q tile n k l f g x y = absurd (none_met n k f x)
 one_fate p (m ∷ ms) q tile n zero zero f g x y =
-    grind (
-      arith,
-      fate_of _ _ _ _ tile.0.first (of_here _ _ _ _ x),
-      fate_of _ _ _ _ tile.0.first (of_here _ _ _ _ y),
-    )
+    let one = fate_of f m.entry n p tile.0.first (of_here _ _ _ _ x) in
+    let other = fate_of g m.entry n p tile.0.first (of_here _ _ _ _ y) in
+    grind (arith, one, other)
 one_fate p (m ∷ ms) q tile n zero (suc l) f g x y =
-    grind (
-      arith,
-      fate_of _ _ _ _ tile.0.first (of_here _ _ _ _ x),
-      lies_between _ _ _ tile.1 _ _ _ (of_later _ _ _ _ _ y),
-    )
+    let one = fate_of f m.entry n p tile.0.first (of_here _ _ _ _ x) in
+    let other = lies_between _ ms q tile.1 n l g (of_later _ _ _ _ _ y) in
+    grind (arith, one, other)
 one_fate p (m ∷ ms) q tile n (suc k) zero f g x y =
-    grind (
-      arith,
-      fate_of _ _ _ _ tile.0.first (of_here _ _ _ _ y),
-      lies_between _ _ _ tile.1 _ _ _ (of_later _ _ _ _ _ x),
-    )
+    let one = lies_between _ ms q tile.1 n k f (of_later _ _ _ _ _ x) in
+    let other = fate_of g m.entry n p tile.0.first (of_here _ _ _ _ y) in
+    grind (arith, one, other)
 one_fate p (m ∷ ms) q tile n (suc k) (suc l) f g x y =
-    grind (
-      arith,
-      one_fate (next_place m.entry.stretch) _ _ tile.1 n k l f g (of_later _ _ _ _ _ x) (of_later _ _ _ _ _ y),
-    )
+    let same =
+    one_fate (next_place m.entry.stretch) ms q tile.1 n k l f g (of_later _ _ _ _ _ x) (of_later _ _ _ _ _ y) in
+    grind (arith, same)
 
 some_fate : (p : ℕ) (ms : List Moment) (q : ℕ) → Tile p (map tile_of ms) q → (n : ℕ) → p ≤ n → n < q → (k : ℕ)
     × ((fate : Fate) × Meets (entries_of ms) n k fate)

@@ -53,8 +53,7 @@ module _ (laws : BufferLaws) where
       → place_of s i t ≤ count (s.world.histories t) → Reads i t s (own_moments i t j s) (after_turn_of j s)
   turn_reads i t j s sound within =
       let own = job_passes laws t (s.members i).job s.world sound within in
-      let goes = job_changes Grows (grown laws.grow) (s.members j).job s.world t sound in
-      let none = passes_nothing (place_of s i t) _ _ within goes in
+      let none = passes_nothing _ _ _ within (job_changes Grows (grown laws.grow) (s.members j).job s.world t sound) in
       grind (arith, eqb_tells, job_logged, none, own, with_entries-none)
 
   pub turns_read : (i t : ℕ) (js : List ℕ) (s : State) → IsSound (s.world.histories t)
@@ -62,9 +61,8 @@ module _ (laws : BufferLaws) where
       → Reads i t s (turns_moments i t js s) (after_turns_of js s).state
   turns_read i t [] s sound within = grind (arith, passes_nothing, stays, with_entries-none)
   turns_read i t (j ∷ js) s sound within =
-      let first : Reads i t s (own_moments i t j s) (after_turn_of j s) = turn_reads i t j s sound within in
-      reads_further i t s (own_moments i t j s) (after_turn_of j s) (turns_moments i t js (after_turn_of j s))
-      (after_turns_of js (after_turn_of j s)).state first
+      let first = turn_reads i t j s sound within in
+      reads_further i t s (own_moments i t j s) (after_turn_of j s) _ _ first
       (turns_read i t js (after_turn_of j s) first.passes.goes_on.sound first.passes.within)
 
 -- ---- what the log has of system i among these turns
@@ -119,10 +117,8 @@ pub turns_tell : (i t : ℕ) (js : List ℕ) (s : State)
     → Tells i t s (answers_among i (after_turns_of js s).turns) (turns_moments i t js s) (after_turns_of js s).state
 turns_tell i t [] s = record { entries = refl; rule = refl; needs = refl }
 turns_tell i t (j ∷ js) s =
-    let u : State = after_turn_of j s in
-    tells_further i t s (cond (j == i) (answers (logged_turn s j).outcome) []) (own_moments i t j s) u
-    (answers_among i (after_turns_of js u).turns) (turns_moments i t js u) (after_turns_of js u).state
-    (turn_tells i t j s) (turns_tell i t js u)
+    tells_further i t s (cond (j == i) (answers (logged_turn s j).outcome) []) (own_moments i t j s) _ _ _ _
+    (turn_tells i t j s) (turns_tell i t js (after_turn_of j s))
 
 -- one whose turn doesn't come
 pub turns_skip : (i : ℕ) (js : List ℕ) (s : State) → ¬ Contains js i → (after_turns_of js s).state.members i

@@ -135,13 +135,8 @@ module _ (laws : BufferLaws) where
     -- who has a turn has joined
     joined_by_turn : Contains (systems_in log) i → IsTrue (has_begun u i)
     joined_by_turn at =
-        grind (
-          arith,
-          at,
-          cases_Bool,
-          begun_alike b _ i (turns_keep (systems_in log) b),
-          has_no_turn b (systems_in log) i is.in_order,
-        )
+        let alike = begun_alike b _ i (turns_keep (systems_in log) b) in
+        grind (arith, alike, at, cases_Bool, has_no_turn b (systems_in log) i is.in_order)
 
   -- ---- a run
 

@@ -80,12 +80,9 @@ is_within n ops cs =
 reads_within : (n : ℕ) (ops : List Op) (cs : List Condition) → is_within n ops cs ≡ true → (p : Part)
     → (job_needs ops cs).reads p ≡ true → may_read n p ≡ true
 reads_within n ops cs w p h =
-    grind (
-      arith,
-      cases_Bool,
-      any_passes (may_read n) (λ op. (op_parts op).read) ops p,
-      any_passes (may_read n) (λ c. Some (probe_part c.probe)) cs p,
-    )
+    let by_ops = any_passes (may_read n) (λ op. (op_parts op).read) ops p in
+    let by_conditions = any_passes (may_read n) (λ c. Some (probe_part c.probe)) cs p in
+    grind (arith, by_conditions, by_ops, cases_Bool)
 
 writes_within : (n : ℕ) (ops : List Op) (cs : List Condition) → is_within n ops cs ≡ true → (p : Part)
     → (job_needs ops cs).writes p ≡ true → may_write n p ≡ true

@@ -48,15 +48,9 @@ module _ (laws : BufferLaws) where
         places = λ i t below. (reads i t below).passes.within;
         joins = λ i. rw ((keep.0.members i).join) (sound.joins i);
         writers = λ i below. (keep.0.members i).writer ∙ sound.writers i (rw (keep.0.systems) at below);
-        waiting =
-            λ i t isnt. grind (
-              arith,
-              isnt,
-              begun_alike b _ i keep,
-              turns_skip i order b,
-              has_no_turn b order i ordered,
-              sound.waiting i t,
-            );
+        waiting = λ i t isnt.
+            let skips = turns_skip i order b in
+            grind (arith, begun_alike b _ i keep, has_no_turn b order i ordered, isnt, skips, sound.waiting i t);
         balanced = λ i t below has. rw ((reads i t below).totals)
             (stays_balanced _ _ _ _
             (sound.balanced i t (rw (keep.0.types) at below) (sym (begun_alike b _ i keep) ∙ has))

@@ -5,7 +5,6 @@ use Rattle.std.specs.List.{range_with_len, enumerate_from}
 use Rattle.std.specs.List.Sorted.{IsStrictlyIncreasing}
 use Rattle.std.proofs.lemmas.Bool.{cases_Bool}
 use Rattle.std.proofs.lemmas.List.{drop-append-le, drop-map, drop_more, length-append, length-drop, map-append, take-append-le, take-map}
-use Rattle.std.proofs.lemmas.List.Elements.{All-head, All-tail}
 use Rattle.std.proofs.lemmas.Option.{slice_get-get_or}
 use Rattle.msg_buffer.specs.Prelude.{Entry as Written, GoesOn, History, Stretch, Tile, count, instance_of, instances, message_of, next_place}
 use Rattle.msg_world.specs.declared.record.Record.{Record}
@@ -106,14 +105,11 @@ module _ (last : History Record) where
       → map (message_numbered last) (numbers_of given (entries_of ms)) ≡ map Some (messages_given (entries_of ms))
   all_as_written [] gives goes written = refl
   all_as_written (m ∷ ms) gives goes written =
-      grind (
-        arith,
-        map-append,
-        given_as_written m.history last m.entry.stretch (All-head (λ x. GoesOn x.history last) m ms goes)
-            (All-head IsWritten m ms written) m.entry.given (All-head GivesItsStretch m ms gives),
-        all_as_written ms (All-tail GivesItsStretch m ms gives)
-            (All-tail (λ x. GoesOn x.history last) m ms goes) (All-tail IsWritten m ms written),
-      )
+      let here = given_as_written m.history last m.entry.stretch (goes 0 m (omega arith)) (written 0 m (omega arith))
+      m.entry.given (gives 0 m (omega arith)) in
+      let rest = all_as_written ms (λ k d lt. gives (suc k) d (omega arith)) (λ k d lt. goes (suc k) d (omega arith))
+      (λ k d lt. written (suc k) d (omega arith)) in
+      grind (arith, here, map-append, rest)
 
 -- ---- writer by writer
 
