@@ -26,9 +26,9 @@ SameRun accesses is js = (s : State) → AreAccessesOf s accesses
     → ((after_turns_of is s).state ≡ (after_turns_of js s).state)
     × IsPermutation (after_turns_of is s).turns (after_turns_of js s).turns
 
--- different systems in no conflict
+-- y is a system other than x, with which it isn't in conflict
 abbrev pub IsFree : List Access → ℕ → ℕ → Type 0
-IsFree accesses x y = (y ≢ x) × ¬ Conflict (access_of accesses y) (access_of accesses x)
+IsFree accesses x y = (y < length accesses) × (y ≢ x) × ¬ Conflict (access_of accesses y) (access_of accesses x)
 
 module _ (accesses : List Access) where
   same_run : (is : List ℕ) → SameRun accesses is is
@@ -52,16 +52,14 @@ module _ (accesses : List Access) where
 
   -- what is free of all before it moves to the front
   run_to_front : JobFootprint → (x : ℕ) (before rest : List ℕ) → x < length accesses
-      → All (λ y. y < length accesses) before → All (IsFree accesses x) before
-      → SameRun accesses (before ++ x ∷ rest) (x ∷ before ++ rest)
-  run_to_front foot x [] rest lx below free = same_run (x ∷ rest)
-  run_to_front foot x (y ∷ before) rest lx below free =
+      → All (IsFree accesses x) before → SameRun accesses (before ++ x ∷ rest) (x ∷ before ++ rest)
+  run_to_front foot x [] rest lx free = same_run (x ∷ rest)
+  run_to_front foot x (y ∷ before) rest lx free =
       let here : IsFree accesses x y = free 0 y (omega arith) in
       run_along (y ∷ before ++ x ∷ rest) (y ∷ x ∷ before ++ rest) (x ∷ y ∷ before ++ rest)
       (run_later y (before ++ x ∷ rest) (x ∷ before ++ rest)
-      (run_to_front foot x before rest lx (λ k d lt. below (suc k) d (omega arith))
-      (λ k d lt. free (suc k) d (omega arith))))
-      (run_swapped foot y x (before ++ rest) (below 0 y (omega arith)) lx here.0 here.1)
+      (run_to_front foot x before rest lx (λ k d lt. free (suc k) d (omega arith))))
+      (run_swapped foot y x (before ++ rest) here.0 lx here.1 here.2)
 
 -- ---- two orders of the same systems
 
@@ -107,13 +105,11 @@ module _ (foot : JobFootprint) (accesses : List Access) (P : ℕ → ℕ → Typ
       (All-contains (λ y. x ≢ y) rest i (pairs_head (λ i j. i ≢ j) x rest once) h)
       (Contains-permutation (c.before ++ x ∷ c.rest) _ i (IsPermutation-middle c.before x c.rest)
       (rw (c.is) at (from i (Contains-tail x rest i h)))) in
-      let in_rest : (k d : ℕ) → k < length c.before
-      → Contains rest (get_or c.before k d) =
-      λ k d lt. to' (get_or c.before k d)
-      (Contains-append_left c.before c.rest (get_or c.before k d) (Contains-get_or c.before k d lt)) in
       let free : All (IsFree accesses x) c.before = λ k d lt.
       let y : ℕ = get_or c.before k d in
-      let inside : Contains rest y = in_rest k d lt in (
+      let inside : Contains rest y =
+      to' y (Contains-append_left c.before c.rest y (Contains-get_or c.before k d lt)) in (
+        below y (Contains-tail x rest y inside),
         parts.0 k d lt,
         λ conflict. elim (joins y x (Contains-tail x rest y inside) (Contains-head x rest) (parts.0 k d lt) conflict) [
           | inl p ↦ All-contains (λ z. ¬ P z x) rest y (pairs_head (λ i j. ¬ P j i) x rest a) inside p
@@ -121,8 +117,7 @@ module _ (foot : JobFootprint) (accesses : List Access) (P : ℕ → ℕ → Typ
         ],
       ) in
       rw (c.is) (run_along accesses (c.before ++ x ∷ c.rest) (x ∷ c.before ++ c.rest) (x ∷ rest)
-      (run_to_front accesses foot x c.before c.rest (below x (Contains-head x rest))
-      (λ k d lt. below (get_or c.before k d) (Contains-tail x rest _ (in_rest k d lt))) free)
+      (run_to_front accesses foot x c.before c.rest (below x (Contains-head x rest)) free)
       (run_later accesses x (c.before ++ c.rest) rest
       (reordered rest (c.before ++ c.rest)
       (λ i j p q. joins i j (Contains-tail x rest i p) (Contains-tail x rest j q)) to' from'
@@ -157,7 +152,7 @@ orders_agree foot ordered keeps s accesses settled a b are is_settled la lb =
     ((lb.of_joined j).0 q) conflict)
     (λ i h. (lb.of_joined i).1 ((la.of_joined i).0 h))
     (λ i h. (la.of_joined i).1 ((lb.of_joined i).0 h))
-    (λ i h. subst (λ n. i < n) (sym are.each) (joined_below s i ((lb.of_joined i).0 h)))
+    (λ i h. rw (are.each) (joined_below s i ((lb.of_joined i).0 h)))
     lb.once la.once (lawful_forward keeps settled (join_flags s) b lb)
     (lawful_forward keeps settled (join_flags s) a la) s are
 

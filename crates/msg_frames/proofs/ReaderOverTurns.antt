@@ -1,5 +1,5 @@
 -- What a reader goes past in the turns of systems, its own and those of others.
-use Rattle.std.proofs.Common.{◌≡◌, ℕ, ◌≤◌, List, [], ◌∷◌, ◌++◌, map, Contains, flat_map, cond, append_assoc, refl, sym, ap, ◌∙◌, arith, inl, inr, ◌==◌}
+use Rattle.std.proofs.Common.{◌≡◌, ℕ, ◌≤◌, List, [], ◌∷◌, ◌++◌, map, Contains, flat_map, cond, append_assoc, refl, sym, arith, inl, inr, ◌==◌}
 use Rattle.std.proofs.lemmas.Bool.{cases_eq, eq-eqb, ne_eqb}
 use Rattle.std.proofs.lemmas.List.{map-append}
 use Rattle.msg_buffer.specs.Prelude.{IsSound, count, History}
@@ -80,10 +80,6 @@ entries_told-append t n rule [] ys = refl
 entries_told-append t n rule (x ∷ xs) ys =
     grind (arith, append_assoc, entries_told-append t n (after_told (x ∷ []) rule) xs ys)
 
--- what was told one turn after the other
-after_both : (rule : Rule) (xs ys : List (List Reply)) → after_told ys (after_told xs rule) ≡ after_told (xs ++ ys) rule
-after_both rule xs ys = λ k later now. rule (sym (append_assoc xs ys later) k) now
-
 -- what the turn of system j tells of system i, and what system i does from then on
 pub record Tells (i t : ℕ) (s : State) (turns : List (List Reply)) (ms : List Moment) (u : State) : Type 0 where
   pub entries : entries_told t (s.members i).job.system.needs (s.members i).job.system.rule turns
@@ -96,11 +92,7 @@ pub tells_further : (i t : ℕ) (a : State) (xs : List (List Reply)) (ms : List 
     → Tells i t a xs ms b → Tells i t b ys ns c → Tells i t a (xs ++ ys) (ms ++ ns) c
 tells_further i t a xs ms b ys ns c x y =
     let m = (a.members i).job.system in
-    record {
-      entries = grind (arith, entries_told-append t m.needs m.rule xs ys, map-append);
-      rule = y.rule ∙ ap (after_told ys) x.rule ∙ after_both m.rule xs ys;
-      needs = y.needs ∙ x.needs;
-    }
+    grind (arith, append_assoc, entries_told-append t m.needs m.rule xs ys, map-append)
 
 turn_tells : (i t j : ℕ) (s : State) → Tells i t s (cond (j == i) (answers (logged_turn s j).outcome) [])
     (own_moments i t j s) (after_turn_of j s)

@@ -7,7 +7,7 @@ use Rattle.std.proofs.lemmas.Bool.{cases_Bool, cases_lt, and_parts, or_cases, fa
 use Rattle.std.proofs.lemmas.List.{get_or_past}
 use Rattle.std.proofs.lemmas.List.FromFn.{get_or-map-range_with_len, length-map-range_with_len}
 use Rattle.msg_world.specs.declared.access.Access.{Access}
-use Rattle.msg_world.specs.Prelude.{Part, OfType, OfResource, Registry, has_bit, reads, writes, no_access, Fits}
+use Rattle.msg_world.specs.Prelude.{Part, OfType, OfResource, Registry, has_bit, no_access, Fits}
 use Rattle.msg_world.proofs.Bits.{has_bit-zero, has_bit-set}
 use Rattle.msg_order.specs.Prelude.{access_of}
 use Rattle.msg_order.proofs.Computing.{each_below, is_turn_order, in_turn_by_test}
@@ -41,11 +41,8 @@ access_for n needs = record {
   registry = needs.writes Registry;
 }
 
-bit_is_below : (test : ℕ → Bool) (n k : ℕ) → n ≤ 64 → has_bit (mask test n) k ≡ true → k < n
-bit_is_below test n k few t = grind (arith, cases_Bool, mask_at, nat_tests)
-
 access_fits : (n : ℕ) (needs : Needs) → n ≤ 64 → Fits n n (access_for n needs)
-access_fits n needs few = grind (arith, bit_is_below, or_cases)
+access_fits n needs few = grind (arith, cases_Bool, mask_at, nat_tests)
 
 nothing_fits : (n : ℕ) → Fits n n no_access
 nothing_fits n = grind (arith, false≢true, has_bit-zero, or_cases)
@@ -90,16 +87,10 @@ writes_within n ops cs w p h = grind (arith, cases_Bool, any_passes (may_write n
 
 access_is : (n : ℕ) (ops : List Op) (cs : List Condition) → n ≤ 64 → is_within n ops cs ≡ true
     → IsAccessOf (job_needs ops cs) (access_for n (job_needs ops cs))
-access_is n ops cs few w = record { reads = read; writes = written }
-  where
-    needs : Needs
-    needs = job_needs ops cs
-
-    read : (p : Part) → reads (access_for n needs) p ≡ needs.reads p
-    read p = grind (arith, cases_Bool, mask_at, nat_tests, reads_within n ops cs w p)
-
-    written : (p : Part) → writes (access_for n needs) p ≡ needs.writes p
-    written p = grind (arith, cases_Bool, mask_at, nat_tests, writes_within n ops cs w p)
+access_is n ops cs few w = record {
+  reads = λ p. grind (arith, cases_Bool, mask_at, nat_tests, reads_within n ops cs w p);
+  writes = λ p. grind (arith, cases_Bool, mask_at, nat_tests, writes_within n ops cs w p);
+}
 
 -- ---- the turns of a frame
 
