@@ -6,9 +6,6 @@ use Rattle.std.proofs.lemmas.Option.{unwrap_or-slice_get}
 use Rattle.std.proofs.lemmas.List.FromFn.{get_or-map-range_with_len}
 use Rattle.msg_buffer.specs.Prelude.{OnlyGrows, count}
 use Rattle.msg_world.specs.declared.record.Record.{Record}
-use Rattle.msg_system.specs.declared.start.Start.{Start}
-use Rattle.msg_system.specs.declared.start.Start.TheVariants.{Zero, Current}
-use Rattle.msg_system.specs.Prelude.{start_place}
 use Rattle.msg_frames.specs.Prelude.{SameSystems, State, before_turns, counts, has_begun, joined_member, place_of}
 use Rattle.msg_frames.proofs.HistoriesGrow.{WorldGoesOn, before_goes_on}
 use Rattle.msg_frames.proofs.SystemsStay.{before_keeps}
@@ -29,26 +26,18 @@ pub record Prepares (s b : State) : Type 0 where
   pub world : WorldGoesOn s.world b.world
   pub arrival : (i : ℕ) → Arrival s b i
 
-arrival : (posts : List (ℕ × ℤ)) (s : State) (i : ℕ) → Arrival s (before_turns posts s) i
-arrival posts s i = grind (arith, cases_Bool, nat_tests)
-
 pub prepares : OnlyGrows Record → (posts : List (ℕ × ℤ)) (s : State) → Prepares s (before_turns posts s)
 prepares grow posts s = record {
   same = before_keeps posts s;
   world = before_goes_on grow posts s;
-  arrival = arrival posts s;
+  arrival = λ i. grind (arith, cases_Bool, nat_tests);
 }
 
 -- ---- where one that joins starts
 
-start_within : (start : Start) (s : State) (t : ℕ) → t < s.types
-    → start_place start (counts s) t ≤ count (s.world.histories t)
-start_within Zero s t below = omega arith
-start_within Current s t below = grind (arith, get_or-map-range_with_len, unwrap_or-slice_get)
-
 pub begun_within : (s : State) (i t : ℕ) → t < s.types → place_of s i t ≤ count (s.world.histories t)
     → (joined_member (counts s) (s.members i)).job.system.places t ≤ count (s.world.histories t)
-begun_within s i t below within = grind (arith, cases_Bool, start_within)
+begun_within s i t below within = grind (arith, cases_Bool, get_or-map-range_with_len, unwrap_or-slice_get)
 
 -- ---- what a system does stays as it was
 

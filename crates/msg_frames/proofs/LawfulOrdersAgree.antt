@@ -137,12 +137,9 @@ lawful_forward : LawfulOrdersKeepPaths → (g : Graph) (who : List Bool) (order 
     → Forward (Path g) order
 lawful_forward keeps g who order lawful a b d lt l p =
     let s : StandsBefore order (get_or order b d) (get_or order a d) = keeps g who order lawful _ _ p in
-    absurd (omega (
-      arith,
-      s.in_order,
-      one_place order s.earlier b d lawful.once l s.first,
-      one_place order s.later a d lawful.once (omega arith) s.second,
-    ))
+    let second = one_place order s.earlier b d lawful.once l s.first in
+    let first = one_place order s.later a d lawful.once (omega arith) s.second in
+    absurd (omega (arith, first, second, s.in_order))
 
 pub orders_agree : JobFootprint → ConflictingSystemsAreOrdered → LawfulOrdersKeepPaths → LawfulOrdersAgree
 orders_agree foot ordered keeps s accesses settled a b are is_settled la lb =

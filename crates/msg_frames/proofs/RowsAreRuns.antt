@@ -3,7 +3,7 @@
 use Rattle.std.proofs.Common.{◌≡◌, ℕ, zero, suc, ◌*◌, ◌^◌, ◌%◌, ◌<◌, ◌≤◌, inl, inr, Bool, true, false, cond, ◌&&◌, List, [], ◌∷◌, Option, Some, None, map, refl, ◌∙◌, arith}
 use Rattle.std.specs.Prelude.{nat_lt, bit_or, slice_index_or}
 use Rattle.std.specs.List.{range_with_len, list_all, list_any}
-use Rattle.std.proofs.lemmas.Bool.{cases_Bool, cases_lt, and_parts, or_cases, false≢true}
+use Rattle.std.proofs.lemmas.Bool.{cases_Bool, cases_lt, and_parts, false≢true}
 use Rattle.std.proofs.lemmas.List.{get_or_past}
 use Rattle.std.proofs.lemmas.List.FromFn.{get_or-map-range_with_len, length-map-range_with_len}
 use Rattle.msg_world.specs.declared.access.Access.{Access}
@@ -45,7 +45,7 @@ access_fits : (n : ℕ) (needs : Needs) → n ≤ 64 → Fits n n (access_for n 
 access_fits n needs few = grind (arith, cases_Bool, mask_at, nat_tests)
 
 nothing_fits : (n : ℕ) → Fits n n no_access
-nothing_fits n = grind (arith, false≢true, has_bit-zero, or_cases)
+nothing_fits n = grind (arith, has_bit-zero, nat_tests)
 
 -- ---- a job of types and resources below n
 

@@ -4,7 +4,6 @@ use Rattle.std.proofs.lemmas.Bool.{and_parts}
 use Rattle.std.proofs.lemmas.List.Elements.{All-contains, filter_passes}
 use Rattle.std.proofs.lemmas.List.FromFn.{length-map-range_with_len}
 use Rattle.msg_world.specs.declared.access.Access.{Access}
-use Rattle.msg_order.specs.declared.rule.Rule.{Rule}
 use Rattle.msg_order.specs.Prelude.{AreInConflict, Graph, IsAcyclic, IsAmong, SettledOrderIsUnique, Settles, SettlingMakesNoCycle, TurnOrderIsUnique, pairs, rules_among}
 use Rattle.msg_frames.specs.Prelude.{AreAccessesOf, FramesAreUnique, IsOrderOf, IsTurnOrderOf, NoCycle, RunsAreUnique, State, SystemsHaveOneOrder, has_begun, join_flags}
 use Rattle.msg_order.proofs.Elements.{Contains-cases}
@@ -32,9 +31,6 @@ one_order unique s g h x y = unique x.accesses s.rules (join_flags s) g h x.is_s
 
 -- ---- edges among those that have joined
 
-rules_are_among : (who : List Bool) (rules : List Rule) → IsAmong who (rules_among who rules)
-rules_are_among who rules i j e = grind (arith, All-contains, and_parts, filter_passes)
-
 settles_among : (accesses : List Access) (who : List Bool) (ps : List (ℕ × ℕ)) (g h : Graph) → IsAmong who g
     → Settles (AreInConflict accesses who) g ps h → IsAmong who h
 settles_among accesses who [] g h among e = rw (← e) among
@@ -47,8 +43,9 @@ settles_among accesses who (p ∷ ps) g h among x = elim x [
 -- ---- frames and runs
 
 pub order_is_among : (s : State) (g : Graph) → IsOrderOf s g → IsAmong (join_flags s) g
-order_is_among s g o = settles_among o.accesses (join_flags s) (pairs (length o.accesses))
-    (rules_among (join_flags s) s.rules) g (rules_are_among (join_flags s) s.rules) o.is_settled
+order_is_among s g o =
+    settles_among o.accesses (join_flags s) (pairs (length o.accesses)) (rules_among (join_flags s) s.rules) g
+    (λ i j e. grind (arith, All-contains, and_parts, filter_passes)) o.is_settled
 
 pub order_has_no_cycle : SettlingMakesNoCycle → (s : State) (g : Graph) → NoCycle s → IsOrderOf s g → IsAcyclic g
 order_has_no_cycle acyclic s g none o = acyclic o.accesses s.rules (join_flags s) g o.is_settled
