@@ -123,13 +123,12 @@ module _ (grow : OnlyGrows Record) where
     drained = λ h sound. (grow h sound).2;
   }
 
-  update_goes_on : (w : WorldState) → WorldGoesOn w (after_update w)
-  update_goes_on w t sound = grind (arith, cases_Bool, stays (w.histories t) sound, grow (w.histories t) sound)
-
   pub before_goes_on : (posts : List (ℕ × ℤ)) (s : State) → WorldGoesOn s.world (before_turns posts s).world
-  before_goes_on posts s = rw (joining_world s) (both_change Grows grown s.world (after_update s.world)
-      (after_posts posts (after_update s.world)) (update_goes_on s.world)
-      (posts_change Grows grown posts (after_update s.world)))
+  before_goes_on posts s =
+      let update : WorldGoesOn s.world (after_update s.world) =
+      λ t sound. grind (arith, cases_Bool, stays (s.world.histories t) sound, grow (s.world.histories t) sound) in
+      rw (joining_world s) (both_change Grows grown s.world (after_update s.world)
+      (after_posts posts (after_update s.world)) update (posts_change Grows grown posts (after_update s.world)))
 
   pub frame_goes_on : (order : List ℕ) (frame : Frame) (s : State)
       → WorldGoesOn s.world (frame_in order frame s).state.world

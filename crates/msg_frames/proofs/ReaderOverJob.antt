@@ -2,7 +2,7 @@
 use Rattle.std.proofs.Common.{◌≡◌, ℕ, zero, suc, ◌≤◌, List, [], ◌∷◌, ◌++◌, append_assoc, map, length, All, Option, None, Some, refl, sym, ap, subst, arith, inl, inr, cond, ◌==◌}
 use Rattle.std.proofs.lemmas.Bool.{cases_Bool}
 use Rattle.std.proofs.lemmas.List.{append-nil, length-append, length-map, map-append, map-id}
-use Rattle.std.proofs.lemmas.List.Elements.{All-append, All-cons, All-nil, All-weaker}
+use Rattle.std.proofs.lemmas.List.Elements.{All-append, All-cons, All-nil}
 use Rattle.msg_buffer.specs.Prelude.{Fits, GoesOn, History, IsSound, Stretch, Tile, count, given, message_of, next_place, pass_over, read}
 use Rattle.msg_world.specs.declared.record.Record.{Record}
 use Rattle.msg_world.specs.Prelude.{WorldState}
@@ -48,7 +48,7 @@ passes_further p a ms q b ns r c x y = record {
   tile = rw (map-append tile_of ms ns) (tile-append _ _ _ _ _ x.tile y.tile);
   gives = All-append GivesItsStretch _ _ x.gives y.gives;
   earlier = All-append (λ m. GoesOn m.history c) _ _
-      (All-weaker (λ m. GoesOn m.history b) _ (λ m g. goes_further _ _ _ g y.goes_on) _ x.earlier) y.earlier;
+      (λ k d lt. goes_further _ _ _ (x.earlier k d lt) y.goes_on) y.earlier;
   written = All-append IsWritten _ _ x.written y.written;
 }
 

@@ -19,7 +19,7 @@ use Rattle.msg_system.specs.declared.reply.Reply.{Reply}
 pub after_first : (frame : Frame) (frames : List Frame) (s : State) (log : Log) (logs : List Log) (u : State)
     → IsRun (frame ∷ frames) s (log ∷ logs) u
     → IsRun frames (frame_in (systems_in log) frame s).state logs u
-after_first frame frames s log logs u is = subst (λ m. IsRun frames m logs u) is.1.leaves is.2
+after_first frame frames s log logs u is = rw (← is.1.leaves) is.2
 
 -- ---- the entries that the logs have
 

@@ -84,9 +84,6 @@ module _ (laws : BufferLaws) where
     under : t < b.types
     under = rw (prep.same.types) below
 
-    begins : GoesOn (s.world.histories t) (b.world.histories t)
-    begins = prep.world t (sound.histories t below)
-
     pub caught_up : ReadsAll i t log u → (earlier later : List ℕ) → systems_in log ≡ earlier ++ i ∷ later
         → count ((after_turns_of earlier b).state.world.histories t) ≤ place_of u i t
     caught_up reads earlier later order =
@@ -97,7 +94,12 @@ module _ (laws : BufferLaws) where
     has_frame_before reads =
         let parts : Cut (systems_in log) i = cut _ _ reads.has_turn in
         let more = turns_change Grows (grown laws.grow) parts.before b t (ready.histories t under) in
-        omega (arith, caught_up reads _ _ parts.is, counts_more _ _ begins, counts_more _ _ more)
+        omega (
+          arith,
+          caught_up reads _ _ parts.is,
+          counts_more _ _ (prep.world t (sound.histories t below)),
+          counts_more _ _ more,
+        )
 
     -- a frame keeps recent what its update leaves recent
     frame_recent : (k p : ℕ) → AreRecent k p ((after_update s.world).histories t) → AreRecent k p (u.world.histories t)

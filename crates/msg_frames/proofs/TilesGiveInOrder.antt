@@ -1,5 +1,5 @@
 -- What tiles give: messages in order of writing.
-use Rattle.std.proofs.Common.{◌≡◌, ℕ, zero, suc, ◌+◌, ◌≤◌, ◌<◌, List, [], ◌∷◌, ◌++◌, map, length, take, drop, Bool, cond, Option, Some, None, is_some, option_map, IfSome, unwrap_or, filter, refl, ap, arith, inl, inr, slice_get, get_or, All}
+use Rattle.std.proofs.Common.{◌≡◌, ℕ, zero, suc, ◌+◌, ◌≤◌, ◌<◌, List, [], ◌∷◌, ◌++◌, map, length, take, drop, Bool, cond, Option, Some, None, is_some, option_map, IfSome, unwrap_or, filter, refl, ap, arith, slice_get, get_or, All}
 use Rattle.std.specs.Prelude.{false, ◌==◌}
 use Rattle.std.specs.List.{range_with_len, enumerate_from}
 use Rattle.std.specs.List.Sorted.{IsStrictlyIncreasing}
@@ -38,11 +38,10 @@ numbers_rise : (p : ℕ) (ms : List Moment) (q : ℕ) → Tile p (map tile_of ms
 numbers_rise p [] q tile = tt
 numbers_rise p (m ∷ ms) q tile =
     let rest = numbers_rise (next_place m.entry.stretch) ms q tile.1 in
-    elim (cases_Bool (is_some m.entry.given)) [
-      | inl some ↦ rw some (rising_from p m.entry.stretch.first _ (omega (arith, tile.0.first))
-          (rising_range m.entry.stretch.first m.entry.stretch.number _ rest))
-      | inr none ↦ rw none (rising_from p (next_place m.entry.stretch) _ (omega (arith, tile.0.first)) rest)
-    ]
+    let ranged = rising_range m.entry.stretch.first m.entry.stretch.number _ rest in
+    let here = rising_from p m.entry.stretch.first _ (omega (arith, tile.0.first)) ranged in
+    let past = rising_from p (next_place m.entry.stretch) _ (omega (arith, tile.0.first)) rest in
+    grind (arith, cases_Bool, here, past)
 
 pub given_in_order : (p : ℕ) (ms : List Moment) (q : ℕ) → Tile p (map tile_of ms) q
     → IsStrictlyIncreasing (numbers_of given (entries_of ms))

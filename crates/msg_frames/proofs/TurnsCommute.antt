@@ -1,12 +1,12 @@
 -- Turns of systems whose accesses don't conflict can be swapped.
-use Rattle.std.proofs.Common.{arith, ◌≡◌, ◌≢◌, ℕ, false, refl, sym, ne_eqb}
+use Rattle.std.proofs.Common.{arith, ◌≡◌, ◌≢◌, ℕ, false, sym, ne_eqb}
 use Rattle.std.specs.Prelude.{IsTrue}
 use Rattle.std.proofs.lemmas.Bool.{and_from, cases_Bool}
 use Rattle.msg_world.specs.declared.access.Access.{Access}
 use Rattle.msg_world.specs.Prelude.{Conflict, OfResource, OfType, Part, Registry, WorldState, content}
 use Rattle.msg_system.specs.Prelude.{HasFootprint, IsAccessOf, JobFootprint, Needs, needs_any}
 use Rattle.msg_system.proofs.Accesses.{uses_needs}
-use Rattle.msg_frames.specs.Prelude.{AfterTurn, Member, Outcome, State, TurnsOfOthersCommute, after_turn_of, member_turn, needs_of, turn_of, with_member}
+use Rattle.msg_frames.specs.Prelude.{AfterTurn, Member, Outcome, State, TurnsOfOthersCommute, after_turn_of, member_turn, needs_of, turn_of}
 use Rattle.std.proofs.lemmas.Bool.Decides.{eqb_tells}
 
 -- ---- worlds and states
@@ -18,10 +18,6 @@ same_world v w e = λ k. record {
   resources = λ r. e (OfResource r) k;
   marks = e Registry k;
 }
-
-pub with_member_other : (members : ℕ → Member) (i : ℕ) (m : Member) (k : ℕ) → k ≢ i → with_member members i m k
-    ≡ members k
-with_member_other members i m k ne = rw (ne_eqb k i ne) refl
 
 -- ---- apart
 
@@ -75,7 +71,7 @@ worlds_commute foot m n w free =
 pub turn_after : JobFootprint → (s : State) (i j : ℕ) → j ≢ i → Apart (needs_of (s.members i)) (needs_of (s.members j))
     → given_by_turn (turn_of (after_turn_of i s) j) ≡ given_by_turn (turn_of s j)
 turn_after foot s i j ne free =
-    rw (with_member_other s.members i (turn_of s i).member j ne)
+    rw (ne_eqb j i ne)
     ((turn_footprint foot (s.members j)).same (needs_any (needs_of (s.members j))) (turn_of s i).world s.world
     (λ p u. u) (λ p u. (turn_footprint foot (s.members i)).kept s.world p (free.left p u)))
 
