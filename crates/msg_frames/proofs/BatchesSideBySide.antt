@@ -40,14 +40,9 @@ module _ (foot : JobFootprint) (accesses : List Access) (start : State) (are : A
   world_same s i lt h =
       let needs = needs_any (needs_of (start.members i)) in
       let f = turn_footprint foot (start.members i) in
-      rw (h.member) (same_world _ _ (λ p. grind (
-        arith,
-        cases_Bool,
-        content_merge,
-        (are.of_needs i lt).writes p,
-        f.kept s.world p,
-        f.alike needs s.world start.world (λ q u. u) h.world p,
-      )))
+      rw (h.member) (same_world _ _ (λ p.
+      let own = f.alike needs s.world start.world (λ q u. u) h.world p in
+      grind (arith, cases_Bool, content_merge, (are.of_needs i lt).writes p, f.kept s.world p, own)))
 
   turn_is_home : (s : State) (i : ℕ) → i < start.systems → Untouched start s i → after_turn_of i s
       ≡ home accesses start i s

@@ -118,12 +118,8 @@ module _ (laws : BufferLaws) where
         (op_changes Grows (grown laws.grow) (Forward u v) writer ps w t)
     op_passes (Sum u r) writer ps w = of_read u w w ps None (stays _)
     op_passes op writer ps w = λ sound within.
-        grind (
-          arith,
-          cases_Bool,
-          passes_nothing (ps t) (w.histories t) _ within
-              (op_changes Grows (grown laws.grow) op writer ps w t sound),
-        )
+        let goes = op_changes Grows (grown laws.grow) op writer ps w t sound in
+        grind (arith, cases_Bool, passes_nothing (ps t) (w.histories t) _ within goes)
 
     pub next_passes : (o : Option Op) (writer : ℕ) (far : AfterProgram) →
         let more = one_more o writer far in

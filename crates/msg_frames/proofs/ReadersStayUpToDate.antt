@@ -93,13 +93,9 @@ module _ (laws : BufferLaws) where
     pub has_frame_before : ReadsAll i t log u → count (s.world.histories t) ≤ place_of u i t
     has_frame_before reads =
         let parts : Cut (systems_in log) i = cut _ _ reads.has_turn in
-        let more = turns_change Grows (grown laws.grow) parts.before b t (ready.histories t under) in
-        omega (
-          arith,
-          caught_up reads _ _ parts.is,
-          counts_more _ _ (prep.world t (sound.histories t below)),
-          counts_more _ _ more,
-        )
+        let first = counts_more _ _ (prep.world t (sound.histories t below)) in
+        let more = counts_more _ _ (turns_change Grows (grown laws.grow) parts.before b t (ready.histories t under)) in
+        omega (arith, caught_up reads _ _ parts.is, first, more)
 
     -- a frame keeps recent what its update leaves recent
     frame_recent : (k p : ℕ) → AreRecent k p ((after_update s.world).histories t) → AreRecent k p (u.world.histories t)

@@ -34,15 +34,9 @@ module _ (laws : BufferLaws) (t : ℕ) where
       → c ≤ (one_more o m.writer far).places t
   more_takes None m far c at sound within less so is = so is
   more_takes (Some op) m far c at sound within less so is =
-      grind (
-        arith,
-        list_any-append,
-        op_takes_all,
-        ops_answered-snoc,
-        or_cases,
-        tiles_rise (far.places t) (next_moments t (Some op) m.writer far) _
-            (next_passes laws t (Some op) m.writer far sound within).tile,
-      )
+      let next = next_passes laws t (Some op) m.writer far sound within in
+      let rise = tiles_rise (far.places t) (next_moments t (Some op) m.writer far) _ next.tile in
+      grind (arith, list_any-append, op_takes_all, ops_answered-snoc, or_cases, rise)
 
   first_takes : (n : ℕ) (m : Meaning) (w : WorldState) → IsSound (w.histories t) → m.places t ≤ count (w.histories t) →
       let far : AfterProgram = after_at_most n (next_op m) m.writer m.places w in

@@ -54,18 +54,10 @@ worlds_commute foot m n w free =
     let g = turn_footprint foot n in
     let v : WorldState = (member_turn m w).world in
     let u : WorldState = (member_turn n w).world in
-    same_world _ _ (λ p. grind (
-      arith,
-      cases_Bool,
-      f.kept w p,
-      f.kept u p,
-      g.kept w p,
-      g.kept v p,
-      free.left p,
-      free.right p,
-      f.alike (needs_any (needs_of m)) u w (λ q used. used) (λ q used. g.kept w q (free.right q used)) p,
-      g.alike (needs_any (needs_of n)) v w (λ q used. used) (λ q used. f.kept w q (free.left q used)) p,
-    ))
+    same_world _ _ (λ p.
+    let by_f = f.alike (needs_any (needs_of m)) u w (λ q used. used) (λ q used. g.kept w q (free.right q used)) p in
+    let by_g = g.alike (needs_any (needs_of n)) v w (λ q used. used) (λ q used. f.kept w q (free.left q used)) p in
+    grind (arith, by_f, by_g, cases_Bool, f.kept w p, f.kept u p, free.left p, free.right p, g.kept w p, g.kept v p))
 
 -- the turn of a system after that of another from which it is apart is its turn before it
 pub turn_after : JobFootprint → (s : State) (i j : ℕ) → j ≢ i → Apart (needs_of (s.members i)) (needs_of (s.members j))
