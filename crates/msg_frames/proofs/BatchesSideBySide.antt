@@ -1,17 +1,18 @@
 -- The jobs of a batch, side by side.
-use Rattle.std.proofs.Common.{◌≡◌, ◌≢◌, ℕ, suc, ◌<◌, List, [], ◌∷◌, ◌++◌, map, slice_index_or, refl, ap, sym, ◌∙◌, inl, inr, arith, subst}
+use Rattle.std.proofs.Common.{◌≡◌, ◌≢◌, ℕ, suc, ◌<◌, List, [], ◌∷◌, ◌++◌, map, slice_index_or, refl, ap, ◌∙◌, arith}
 use Rattle.std.specs.Prelude.{All, AllPairs, if◌then◌else◌}
 use Rattle.std.specs.List.{concat}
-use Rattle.std.proofs.lemmas.Bool.{cases_Bool, or_right}
+use Rattle.std.proofs.lemmas.Bool.{cases_Bool}
 use Rattle.std.proofs.lemmas.List.Elements.{All-head, All-tail}
 use Rattle.msg_world.specs.declared.access.Access.{Access}
 use Rattle.msg_world.specs.Prelude.{Conflict, OfResource, OfType, Part, Registry, WorldState, content, merge, writes}
 use Rattle.msg_order.specs.Prelude.{NoneConflict, access_of}
-use Rattle.msg_system.specs.Prelude.{Agree, HasFootprint, IsAccessOf, JobFootprint, needs_any}
-use Rattle.msg_frames.specs.Prelude.{AfterTurn, AfterTurns, AreAccessesOf, BatchesRunSideBySide, FramesRunByBatches, Member, Outcome, SameSystems, State, after_turn_of, after_turns_of, all_home, by_batches, home, logged_turn, member_turn, needs_of, turn_of, with_member}
+use Rattle.msg_system.specs.Prelude.{Agree, JobFootprint, needs_any}
+use Rattle.msg_frames.specs.Prelude.{AreAccessesOf, BatchesRunSideBySide, FramesRunByBatches, Member, Outcome, SameSystems, State, after_turn_of, after_turns_of, all_home, home, logged_turn, needs_of, turn_of, AfterTurns}
 use Rattle.msg_frames.proofs.SystemsStay.{accesses_stay, turns_keep_systems}
-use Rattle.msg_frames.proofs.ElementsAndPairs.{all_left, all_right, pairs_head, pairs_left, pairs_right, pairs_tail}
-use Rattle.msg_frames.proofs.TurnsCommute.{Apart, apart, given_by_turn, same_world, turn_footprint, with_member_other}
+use Rattle.msg_frames.proofs.ElementsAndPairs.{all_left, all_right, pairs_left, pairs_right, pairs_tail}
+use Rattle.msg_frames.proofs.TurnsCommute.{apart, given_by_turn, same_world, turn_footprint}
+use Rattle.std.proofs.lemmas.Bool.Decides.{eqb_tells}
 
 -- ---- what comes home
 
@@ -29,51 +30,33 @@ record Untouched (start s : State) (i : ℕ) : Type 0 where
 module _ (foot : JobFootprint) (accesses : List Access) (start : State) (are : AreAccessesOf start accesses) where
   given_same : (s : State) (i : ℕ) → Untouched start s i → given_by_turn (turn_of s i) ≡ given_by_turn (turn_of start i)
   given_same s i h =
-      ap (λ m. given_by_turn (member_turn m s.world)) h.member
-      ∙ (turn_footprint foot (start.members i)).same (needs_any (needs_of (start.members i))) s.world start.world
-      (λ p u. u) h.world
+      rw (h.member)
+      ((turn_footprint foot (start.members i)).same (needs_any (needs_of (start.members i))) s.world start.world
+      (λ p u. u) h.world)
 
   -- what the access writes is as the turn on `start` leaves it, and all else as it was
   world_same : (s : State) (i : ℕ) → i < start.systems → Untouched start s i → (turn_of s i).world
       ≡ merge (access_of accesses i) (turn_of start i).world s.world
-  world_same s i lt h = ap (λ m. (member_turn m s.world).world) h.member ∙ same_world _ _ part
-    where
-      f : HasFootprint (needs_of (start.members i)) (λ (e : AfterTurn). e.world) given_by_turn
-          (member_turn (start.members i))
-      f = turn_footprint foot (start.members i)
-
-      a : IsAccessOf (needs_of (start.members i)) (access_of accesses i)
-      a = are.of_needs i lt
-
-      part : (p : Part) → content p (member_turn (start.members i) s.world).world
-          ≡ content p (merge (access_of accesses i) (turn_of start i).world s.world)
-      part p = elim (cases_Bool (writes (access_of accesses i) p)) [
-        | inl e ↦ f.alike (needs_any (needs_of (start.members i))) s.world start.world (λ q u. u) h.world p
-            (or_right _ _ (sym (a.writes p) ∙ e))
-            ∙ sym (content_merge (access_of accesses i) (turn_of start i).world s.world p ∙ rw e refl)
-        | inr e ↦ f.kept s.world p (sym (a.writes p) ∙ e)
-            ∙ sym (content_merge (access_of accesses i) (turn_of start i).world s.world p ∙ rw e refl)
-      ]
+  world_same s i lt h =
+      let needs = needs_any (needs_of (start.members i)) in
+      let f = turn_footprint foot (start.members i) in
+      rw (h.member) (same_world _ _ (λ p.
+      let own = f.alike needs s.world start.world (λ q u. u) h.world p in
+      grind (arith, cases_Bool, content_merge, (are.of_needs i lt).writes p, f.kept s.world p, own)))
 
   turn_is_home : (s : State) (i : ℕ) → i < start.systems → Untouched start s i → after_turn_of i s
       ≡ home accesses start i s
-  turn_is_home s i lt h k = record s {
-    members = with_member s.members i (given_same s i h k).0;
-    world = world_same s i lt h k;
-  }
+  turn_is_home s i lt h = grind (arith, given_same s i h, world_same s i lt h)
 
   still : (s : State) (i j : ℕ) → i < start.systems → j < start.systems → i ≢ j
       → ¬ Conflict (access_of accesses i) (access_of accesses j)
       → Untouched start s i → Untouched start s j → Untouched start (after_turn_of i s) j
   still s i j li lj ne none hi hj =
-      let free : Apart (needs_of (start.members i)) (needs_of (start.members j)) =
-      apart _ _ (access_of accesses i) (access_of accesses j) (are.of_needs i li) (are.of_needs j lj) none in
+      let free = apart _ _ _ _ (are.of_needs i li) (are.of_needs j lj) none in
+      let f = turn_footprint foot (start.members i) in
       record {
-        member = with_member_other s.members i (turn_of s i).member j (λ e. ne (sym e)) ∙ hj.member;
-        world = λ p used.
-            ap (λ m. content p (member_turn m s.world).world) hi.member
-            ∙ (turn_footprint foot (start.members i)).kept s.world p (free.left p used)
-            ∙ hj.world p used;
+        member = grind (arith, eqb_tells, hj.member);
+        world = λ p used. rw (hi.member) (f.kept s.world p (free.left p used)) ∙ hj.world p used;
       }
 
   from_start : (batch : List ℕ) (s : State) → All (λ i. i < start.systems) batch → AllPairs (λ i j. i ≢ j) batch
@@ -83,19 +66,18 @@ module _ (foot : JobFootprint) (accesses : List Access) (start : State) (are : A
       × ((after_turns_of batch s).state ≡ all_home accesses start batch s)
   from_start [] s below once none same = (refl, refl)
   from_start (i ∷ is) s below once none same =
-      let here : Untouched start s i = All-head (Untouched start s) i is same in
-      let li : i < start.systems = All-head (λ i. i < start.systems) i is below in
-      let rest = from_start is (after_turn_of i s) (All-tail (λ i. i < start.systems) i is below)
+      let here : Untouched start s i = same 0 i (omega arith) in
+      let li : i < start.systems = below 0 i (omega arith) in
+      let rest = from_start is (after_turn_of i s) (λ k d lt. below (suc k) d (omega arith))
       (pairs_tail (λ i j. i ≢ j) i is once)
       (pairs_tail (λ i j. ¬ Conflict (access_of accesses i) (access_of accesses j)) i is none)
       (λ k d lt. still s i (slice_index_or is k d) li (below (suc k) d (omega arith))
-      (pairs_head (λ i j. i ≢ j) i is once k d lt)
-      (pairs_head (λ i j. ¬ Conflict (access_of accesses i) (access_of accesses j)) i is none k d lt) here
-      (same (suc k) d (omega arith))) in (
-        ap (λ (g : Member × Outcome). record { system = i; outcome = g.1 }
-            ∷ (after_turns_of is (after_turn_of i s)).turns) (given_same s i here)
-            ∙ ap (λ turns. logged_turn start i ∷ turns) rest.0,
-        rest.1 ∙ ap (all_home accesses start is) (turn_is_home s i li here),
+      (once 0 (suc k) d (omega arith) (omega arith)) (none 0 (suc k) d (omega arith) (omega arith)) here
+      (same (suc k) d (omega arith))) in
+      rw (← turn_is_home s i li here, rest.0, rest.1) (
+        ap (λ (g : Member × Outcome). record { system = i; outcome = g.1 } ∷ map (logged_turn start) is)
+            (given_same s i here),
+        refl,
       )
 
 pub side_by_side : JobFootprint → BatchesRunSideBySide
@@ -104,15 +86,12 @@ side_by_side foot s accesses batch are below once none =
 
 -- ---- batch by batch
 
-pub turns_follow : (xs ys : List ℕ) (s : State) → (after_turns_of (xs ++ ys) s).turns ≡ (after_turns_of xs s).turns
-    ++ (after_turns_of ys (after_turns_of xs s).state).turns
-turns_follow [] ys s = refl
-turns_follow (x ∷ xs) ys s = ap (λ turns. logged_turn s x ∷ turns) (turns_follow xs ys (after_turn_of x s))
-
-pub states_follow : (xs ys : List ℕ) (s : State) → (after_turns_of (xs ++ ys) s).state
-    ≡ (after_turns_of ys (after_turns_of xs s).state).state
-states_follow [] ys s = refl
-states_follow (x ∷ xs) ys s = states_follow xs ys (after_turn_of x s)
+follow : (xs ys : List ℕ) (s : State) → after_turns_of (xs ++ ys) s ≡
+    (let first : AfterTurns = after_turns_of xs s in
+    let rest : AfterTurns = after_turns_of ys first.state in
+    record { state = rest.state; turns = first.turns ++ rest.turns })
+follow [] ys s = refl
+follow (x ∷ xs) ys s = grind (arith, follow xs ys (after_turn_of x s))
 
 pub batch_by_batch : JobFootprint → FramesRunByBatches
 batch_by_batch foot s accesses [] are below once apart = refl
@@ -120,18 +99,9 @@ batch_by_batch foot s accesses (batch ∷ batches) are below once apart =
     let first = side_by_side foot s accesses batch are (all_left (λ i. i < s.systems) batch (concat batches) below)
     (pairs_left (λ i j. i ≢ j) batch (concat batches) once)
     (All-head (NoneConflict accesses) batch batches apart) in
-    let kept : SameSystems s (after_turns_of batch s).state = turns_keep_systems batch s in
     let left : State = (after_turns_of batch s).state in
+    let kept : SameSystems s left = turns_keep_systems batch s in
     let rest = batch_by_batch foot left accesses batches (accesses_stay s left accesses kept are)
-    (subst (λ n. All (λ i. i < n) (concat batches)) (sym kept.systems)
-    (all_right (λ i. i < s.systems) batch (concat batches) below))
+    (rw (kept.systems) (all_right (λ i. i < s.systems) batch (concat batches) below))
     (pairs_right (λ i j. i ≢ j) batch (concat batches) once) (All-tail (NoneConflict accesses) batch batches apart) in
-    let next : after_turns_of (concat batches) left ≡ by_batches accesses batches (all_home accesses s batch s) = rest
-    ∙ ap (by_batches accesses batches) first.1 in
-    λ k. record {
-      state = (states_follow batch (concat batches) s ∙ ap (λ (t : AfterTurns). t.state) next) k;
-      turns =
-          (turns_follow batch (concat batches) s
-          ∙ ap (λ turns. turns ++ (after_turns_of (concat batches) left).turns) first.0
-          ∙ ap (λ (t : AfterTurns). map (logged_turn s) batch ++ t.turns) next) k;
-    }
+    grind (arith, first, rest, follow batch (concat batches) s)

@@ -1,46 +1,15 @@
 -- What comes before the turns of a frame: systems join, types are updated, posts are written.
-use Rattle.std.proofs.Common.{◌≡◌, ℕ, suc, ◌≤◌, ◌<◌, ℤ, max, List, Bool, true, false, not, ◌&&◌, cond, refl, sym, ap, subst, ◌∙◌, arith, ◌==◌}
-use Rattle.std.specs.Prelude.{IsTrue, IsFalse, nat_le}
-use Rattle.std.proofs.lemmas.Bool.{cases_eq, eq-eqb, ne_eqb, cases_Bool, leb-true, leb-false, le-leb, lt-leb, and_from, and_left, and_right, not_from_true, not_from_false}
+use Rattle.std.proofs.Common.{◌≡◌, ℕ, ◌≤◌, ◌<◌, ℤ, List, arith}
+use Rattle.std.specs.Prelude.{IsTrue, IsFalse}
+use Rattle.std.proofs.lemmas.Bool.{cases_Bool}
 use Rattle.std.proofs.lemmas.Option.{unwrap_or-slice_get}
 use Rattle.std.proofs.lemmas.List.FromFn.{get_or-map-range_with_len}
 use Rattle.msg_buffer.specs.Prelude.{OnlyGrows, count}
 use Rattle.msg_world.specs.declared.record.Record.{Record}
-use Rattle.msg_world.specs.Prelude.{after_update}
-use Rattle.msg_system.specs.declared.start.Start.{Start}
-use Rattle.msg_system.specs.declared.start.Start.TheVariants.{Zero, Current}
-use Rattle.msg_system.specs.Prelude.{start_place}
-use Rattle.msg_frames.specs.Prelude.{Member, SameSystems, State, after_posts, before_turns, counts, has_begun, joined_member, place_of, with_joining}
+use Rattle.msg_frames.specs.Prelude.{SameSystems, State, before_turns, counts, has_begun, joined_member, place_of}
 use Rattle.msg_frames.proofs.HistoriesGrow.{WorldGoesOn, before_goes_on}
 use Rattle.msg_frames.proofs.SystemsStay.{before_keeps}
-
--- ---- the state before the turns, as one record
-
--- system i joins with the frame that comes next
-abbrev arrives : State → ℕ → Bool
-arrives s i = not (s.frames == 0) && ((s.members i).join == suc s.frames)
-
-abbrev arrived : State → ℕ → Member
-arrived s i = cond (arrives s i) (joined_member (counts s) (s.members i)) (s.members i)
-
-abbrev ready : List (ℕ × ℤ) → State → State
-ready posts s =
-    record s { members = arrived s; world = after_posts posts (after_update s.world); frames = suc s.frames }
-
-ready_if : (first : Bool) (posts : List (ℕ × ℤ)) (s : State)
-    → (let b : State = cond first s (with_joining (suc s.frames) s) in record b
-    { world = after_posts posts (after_update b.world); frames = suc b.frames })
-    ≡ record s {
-      members = λ i. cond (not first && ((s.members i).join == suc s.frames))
-          (joined_member (counts s) (s.members i)) (s.members i);
-      world = after_posts posts (after_update s.world);
-      frames = suc s.frames;
-    }
-ready_if true posts s = refl
-ready_if false posts s = refl
-
-before_is : (posts : List (ℕ × ℤ)) (s : State) → before_turns posts s ≡ ready posts s
-before_is posts s = ready_if (s.frames == 0) posts s
+use Rattle.std.proofs.lemmas.Bool.Decides.{nat_tests}
 
 -- ---- each member
 
@@ -57,51 +26,21 @@ pub record Prepares (s b : State) : Type 0 where
   pub world : WorldGoesOn s.world b.world
   pub arrival : (i : ℕ) → Arrival s b i
 
--- whether it has joined is told by its join
-begun_by : (posts : List (ℕ × ℤ)) (s : State) (i : ℕ) (m : Member) (b : Bool) → arrived s i ≡ m
-    → nat_le m.join (max 1 (suc s.frames)) ≡ b → has_begun (ready posts s) i ≡ b
-begun_by posts s i m b is by_join = ap (λ (x : Member). nat_le x.join (max 1 (suc s.frames))) is ∙ by_join
-
-arrival : (posts : List (ℕ × ℤ)) (s : State) (i : ℕ) → Arrival s (ready posts s) i
-arrival posts s i =
-    grind (
-      arith,
-      and_from,
-      and_left,
-      and_right,
-      begun_by,
-      cases_Bool,
-      cases_eq,
-      eq-eqb,
-      le-leb,
-      leb-false,
-      leb-true,
-      lt-leb,
-      ne_eqb,
-      not_from_false,
-      not_from_true,
-    )
-
 pub prepares : OnlyGrows Record → (posts : List (ℕ × ℤ)) (s : State) → Prepares s (before_turns posts s)
 prepares grow posts s = record {
   same = before_keeps posts s;
   world = before_goes_on grow posts s;
-  arrival = λ i. subst (λ b. Arrival s b i) (sym (before_is posts s)) (arrival posts s i);
+  arrival = λ i. grind (arith, cases_Bool, nat_tests);
 }
 
 -- ---- where one that joins starts
 
-start_within : (start : Start) (s : State) (t : ℕ) → t < s.types
-    → start_place start (counts s) t ≤ count (s.world.histories t)
-start_within Zero s t below = omega arith
-start_within Current s t below = grind (arith, get_or-map-range_with_len, unwrap_or-slice_get)
-
 pub begun_within : (s : State) (i t : ℕ) → t < s.types → place_of s i t ≤ count (s.world.histories t)
     → (joined_member (counts s) (s.members i)).job.system.places t ≤ count (s.world.histories t)
-begun_within s i t below within = grind (arith, cases_Bool, start_within)
+begun_within s i t below within = grind (arith, cases_Bool, get_or-map-range_with_len, unwrap_or-slice_get)
 
 -- ---- what a system does stays as it was
 
 pub before_rule : (posts : List (ℕ × ℤ)) (s : State) (i : ℕ) → ((before_turns posts s).members i).job.system.rule
     ≡ (s.members i).job.system.rule
-before_rule posts s i = grind (arith, before_is)
+before_rule posts s i = grind (arith, cases_Bool)

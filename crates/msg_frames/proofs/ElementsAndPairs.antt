@@ -2,7 +2,7 @@
 use Rattle.std.proofs.Common.{◌≡◌, suc, ◌+◌, inl, inr, List, [], ◌∷◌, ◌++◌, length, ap, subst, arith, length-append, get_or-append-add}
 use Rattle.std.specs.Prelude.{All, AllPairs, Contains}
 use Rattle.std.proofs.lemmas.List.{get_or_append_left}
-use Rattle.std.proofs.lemmas.List.Elements.{All-cons, All-head, All-tail}
+use Rattle.std.proofs.lemmas.List.Elements.{All-cons, All-tail}
 use Rattle.std.proofs.lemmas.List.Kept.{AllPairs-cons}
 use Rattle.msg_order.proofs.Elements.{Contains-cases, not_in_none}
 
@@ -34,9 +34,10 @@ module _ {X : Type 0} where
   -- ---- of a list without an element in the middle
 
   pub all_middle : (P : X → Type 0) (xs : List X) (y : X) (ys : List X) → All P (xs ++ y ∷ ys) → P y × All P (xs ++ ys)
-  all_middle P [] y ys h = (All-head P y ys h, All-tail P y ys h)
+  all_middle P [] y ys h = (h 0 y (omega arith), All-tail P y ys h)
   all_middle P (x ∷ xs) y ys h =
-      grind (arith, All-cons, All-head, All-tail, all_middle P xs y ys (All-tail P x (xs ++ y ∷ ys) h))
+      let rest = all_middle P xs y ys (All-tail P x (xs ++ y ∷ ys) h) in
+      (rest.0, All-cons P x _ (h 0 x (omega arith)) rest.1)
 
   pub pairs_middle : (R : X → X → Type 0) (xs : List X) (y : X) (ys : List X) → AllPairs R (xs ++ y ∷ ys)
       → All (λ x. R x y) xs × AllPairs R (xs ++ ys)
@@ -56,7 +57,5 @@ module _ {X : Type 0} where
   cut [] x h = absurd (not_in_none x h)
   cut (y ∷ ys) x h = elim (Contains-cases _ _ _ h) [
     | inl e ↦ record { before = []; rest = ys; is = ap (λ z. z ∷ ys) e }
-    | inr later ↦
-        let c : Cut ys x = cut ys x later in
-        record { before = y ∷ c.before; rest = c.rest; is = ap (λ zs. y ∷ zs) c.is }
+    | inr later ↦ let c = cut ys x later in record { before = y ∷ c.before; rest = c.rest; is = ap (λ zs. y ∷ zs) c.is }
   ]

@@ -1,45 +1,36 @@
 -- How entries add up in an account.
-use Rattle.std.proofs.Common.{◌≡◌, ℕ, ◌+◌, List, [], ◌∷◌, ◌++◌, length, map, cond, Option, Some, None, is_some, refl, arith}
+use Rattle.std.proofs.Common.{◌≡◌, ℕ, ◌+◌, List, [], ◌∷◌, ◌++◌, length, map, None, arith}
 use Rattle.std.proofs.lemmas.List.{length-append}
 use Rattle.std.proofs.lemmas.List.FromFn.{length-range_with_len}
 use Rattle.msg_buffer.specs.Prelude.{next_place, Tile}
-use Rattle.msg_world.specs.declared.record.Record.{Record}
 use Rattle.msg_system.specs.declared.reply.Took.{Took}
 use Rattle.msg_frames.specs.Prelude.{Entry, Fate, IsBalanced, Moment, Totals, cleared, entry_of_read, given, missed, numbers_of, with_entries}
 use Rattle.msg_frames.proofs.ReaderOverJob.{tile_of}
+use Rattle.std.proofs.lemmas.Bool.{cases_Bool}
+use Rattle.std.proofs.lemmas.Grind.{flat_map-append}
 
 -- what met a fate at these entries and at those
 more_of : (fate : Fate) (es fs : List Entry) → length (numbers_of fate (es ++ fs))
     ≡ length (numbers_of fate es) + length (numbers_of fate fs)
-more_of fate [] fs = omega arith
-more_of fate (e ∷ es) fs = grind (arith, length-append, more_of fate es fs)
-
-same_totals : (x y : Totals) → x.start ≡ y.start → x.got ≡ y.got → x.missed ≡ y.missed → x.cleared ≡ y.cleared → x ≡ y
-same_totals x y a b c d = λ k. record { start = a k; got = b k; missed = c k; cleared = d k }
+more_of fate es fs = grind (arith, flat_map-append, length-append)
 
 pub with_entries-none : (x : Totals) → with_entries [] x ≡ x
-with_entries-none x = same_totals (with_entries [] x) x refl (omega arith) (omega arith) (omega arith)
+with_entries-none x = grind arith
 
 pub with_entries-append : (es fs : List Entry) (x : Totals) → with_entries (es ++ fs) x
     ≡ with_entries fs (with_entries es x)
-with_entries-append es fs x = grind (arith, more_of, same_totals)
+with_entries-append es fs x = grind (arith, more_of)
 
 -- what one op that read adds, and what one clear
 pub with_read : (took : Took) (x : Totals)
     → with_entries (entry_of_read took ∷ []) x
     ≡ record x { got = x.got + length took.items; missed = x.missed + took.missed }
-with_read took x = grind (arith, length-append, length-range_with_len, same_totals)
+with_read took x = grind (arith, length-append, length-range_with_len)
 
 pub with_clear : (gone first n : ℕ) (x : Totals)
     → with_entries (record { stretch = record { missed = gone; first = first; number = n }; given = None } ∷ []) x
     ≡ record x { missed = x.missed + gone; cleared = x.cleared + n }
-with_clear gone first n x = grind (arith, length-append, length-range_with_len, same_totals)
-
--- all that an entry goes past was given or cleared
-given_or_cleared : (o : Option (List Record)) (ns : List ℕ)
-    → length (cond (is_some o) ns []) + length (cond (is_some o) [] ns) ≡ length ns
-given_or_cleared None ns = omega arith
-given_or_cleared (Some items) ns = omega arith
+with_clear gone first n x = grind (arith, length-append, length-range_with_len)
 
 -- tiles lead as far as their entries add up to
 pub tiles_add_up : (p : ℕ) (ms : List Moment) (q : ℕ) → Tile p (map tile_of ms) q
@@ -47,13 +38,8 @@ pub tiles_add_up : (p : ℕ) (ms : List Moment) (q : ℕ) → Tile p (map tile_o
     (numbers_of missed (map (λ m. m.entry) ms)) + length (numbers_of cleared (map (λ m. m.entry) ms)) ≡ q
 tiles_add_up p [] q tile = let same : p ≡ q = tile in omega arith
 tiles_add_up p (m ∷ ms) q tile =
-    grind (
-      arith,
-      given_or_cleared,
-      length-append,
-      length-range_with_len,
-      tiles_add_up (next_place m.entry.stretch) ms q tile.1,
-    )
+    let rest = tiles_add_up (next_place m.entry.stretch) ms q tile.1 in
+    grind (arith, cases_Bool, length-append, length-range_with_len, rest)
 
 pub stays_balanced : (x : Totals) (p : ℕ) (ms : List Moment) (q : ℕ) → IsBalanced x p → Tile p (map tile_of ms) q
     → IsBalanced (with_entries (map (λ m. m.entry) ms) x) q

@@ -1,15 +1,13 @@
 -- A first state is sound.
-use Rattle.std.proofs.Common.{◌≡◌, ℕ, ◌≤◌, List, refl, sym, subst, arith}
-use Rattle.std.specs.Prelude.{IsTrue, IsFalse}
-use Rattle.std.proofs.lemmas.Bool.{cases_Bool, cases_eq, eq-eqb, leb-true, leb-false, ne_eqb, false≢true}
+use Rattle.std.proofs.Common.{◌≡◌, ℕ, ◌≤◌, List, arith}
 use Rattle.std.proofs.lemmas.List.{get_or_past}
-use Rattle.msg_buffer.specs.Prelude.{count}
 use Rattle.msg_order.specs.declared.rule.Rule.{Rule}
 use Rattle.msg_world.specs.Prelude.{WorldState}
 use Rattle.msg_system.specs.Prelude.{Meaning}
-use Rattle.msg_frames.specs.Prelude.{AreNew, IsBalanced, IsSoundState, Member, Place, State, counts, first_state, has_begun, joined_member, no_totals, place_of, unjoined}
+use Rattle.msg_frames.specs.Prelude.{AreNew, IsSoundState, Place, State, counts, first_state, place_of, unjoined}
 use Rattle.msg_frames.proofs.BeforeTurns.{begun_within}
 use Rattle.msg_frames.proofs.StatesStaySound.{balanced_start}
+use Rattle.std.proofs.lemmas.Bool.Decides.{nat_tests, eqb_tells}
 
 module _ (systems : List Meaning) (places : List Place) (rules : List Rule) (types : ℕ) (world : WorldState)
     (new : AreNew systems places types world) where
@@ -20,43 +18,19 @@ module _ (systems : List Meaning) (places : List Place) (rules : List Rule) (typ
   first = first_state systems places rules types world
 
   at_zero : (i t : ℕ) → place_of all_wait i t ≡ 0
-  at_zero i t = grind (arith, cases_Bool, get_or_past, leb-false, leb-true)
-
-  first_or_not : (P : Member → Type 0) (i : ℕ)
-      → ((all_wait.members i).join ≡ 1 → P (joined_member (counts all_wait) (all_wait.members i)))
-      → (¬ ((all_wait.members i).join ≡ 1) → P (all_wait.members i)) → P (first.members i)
-  first_or_not P i now later = grind (arith, cases_eq, eq-eqb, ne_eqb)
-
-  join_same : (i : ℕ) → (first.members i).join ≡ (all_wait.members i).join
-  join_same i = first_or_not (λ m. m.join ≡ (all_wait.members i).join) i (λ e. refl) (λ ne. refl)
+  at_zero i t = grind (arith, get_or_past, nat_tests)
 
   join_from_one : (i : ℕ) → 1 ≤ (all_wait.members i).join
-  join_from_one i = grind (arith, cases_Bool, get_or_past, leb-false, leb-true)
-
-  first_waiting : (i t : ℕ) → IsFalse (has_begun first i) → (place_of first i t ≡ 0)
-      × ((first.members i).totals t ≡ no_totals)
-  first_waiting i t isnt = grind (arith, at_zero, false≢true, first_or_not, join_same)
-
-  first_balanced : (i t : ℕ) → IsTrue (has_begun first i) → IsBalanced ((first.members i).totals t) (place_of first i t)
-  first_balanced i t has =
-      first_or_not (λ m. IsBalanced (m.totals t) (m.job.system.places t)) i
-      (λ e. balanced_start (all_wait.members i) (counts all_wait) t)
-      (λ ne.
-      let above : 1 ≤ (all_wait.members i).join = join_from_one i in
-      let below : (first.members i).join ≤ 1 = leb-true (first.members i).join 1 has in
-      let same : (first.members i).join ≡ (all_wait.members i).join = join_same i in
-      absurd (ne (omega arith)))
+  join_from_one i = grind (arith, get_or_past, nat_tests)
 
   pub first_is_sound : IsSoundState first
   first_is_sound = record {
     histories = new.histories;
-    places = λ i t below.
-        let within : place_of all_wait i t ≤ count (world.histories t) = rw (at_zero i t) (omega arith) in
-        first_or_not (λ m. m.job.system.places t ≤ count (world.histories t)) i
-        (λ e. begun_within all_wait i t below within) (λ ne. within);
-    joins = λ i. subst (λ n. 1 ≤ n) (sym (join_same i)) (join_from_one i);
-    writers = λ i below. first_or_not (λ m. m.job.system.writer ≡ i) i (λ e. (new.new i below).writer)
-        (λ ne. (new.new i below).writer);
-    waiting = first_waiting;
-    balanced = λ i t below has. first_balanced i t has;
+    places = λ i t below. grind (arith, at_zero i t, begun_within all_wait i t below, eqb_tells);
+    joins = λ i. grind (arith, eqb_tells, join_from_one i);
+    writers = λ i below. grind (arith, eqb_tells, (new.new i below).writer);
+    waiting = λ i t isnt. grind (arith, at_zero i t, eqb_tells, nat_tests, isnt);
+    balanced = λ i t below has.
+        let began = balanced_start (all_wait.members i) (counts all_wait) t in
+        grind (arith, began, eqb_tells, has, join_from_one i, nat_tests);
   }

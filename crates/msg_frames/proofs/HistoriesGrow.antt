@@ -1,14 +1,15 @@
 -- Whatever a run does, each type's history goes on.
-use Rattle.std.proofs.Common.{ℕ, zero, suc, ℤ, ◌≤◌, List, [], ◌∷◌, map, Option, None, Some, refl, sym, subst, append-nil, append_assoc, length-append, arith}
-use Rattle.std.proofs.lemmas.Bool.{cases_Bool, cases_eq, eq-eqb, ne_eqb}
+use Rattle.std.proofs.Common.{ℕ, zero, suc, ℤ, ◌≤◌, List, [], ◌∷◌, map, Option, None, Some, refl, sym, append-nil, append_assoc, length-append, arith}
+use Rattle.std.proofs.lemmas.Bool.{cases_Bool}
 use Rattle.msg_buffer.specs.Prelude.{ClearsFit, GoesOn, History, IsSound, OnlyGrows, ReadsFit, clear, count, write}
 use Rattle.msg_world.specs.declared.record.Record.{Record}
 use Rattle.msg_world.specs.Prelude.{WorldState, after_update, by, with_history}
 use Rattle.msg_system.specs.declared.op.Op.{Op}
 use Rattle.msg_system.specs.declared.op.Op.TheVariants.{Write, Batch, Forward, Drain}
 use Rattle.msg_system.specs.Prelude.{AfterProgram, Job, Meaning, after_at_most, after_job, after_op, again_by, next_op, one_more, took, turn}
-use Rattle.msg_frames.specs.Prelude.{Frame, ListsOnlyGrow, State, after_posts, after_turn_of, after_turns_of, before_turns, frame_in, joining, systems_in}
+use Rattle.msg_frames.specs.Prelude.{Frame, ListsOnlyGrow, State, after_posts, after_turn_of, after_turns_of, before_turns, frame_in, systems_in}
 use Rattle.msg_frames.proofs.SystemsStay.{joining_world}
+use Rattle.std.proofs.lemmas.Bool.Decides.{eqb_tells}
 
 -- What the laws of buffers say of the world's types.
 pub record BufferLaws : Type 0 where
@@ -38,92 +39,106 @@ goes_further a b c x y = grind (arith, append_assoc)
 pub counts_more : (a b : History Record) → GoesOn a b → count a ≤ count b
 counts_more a b x = rw x.entries (omega (arith, length-append a.entries x.more))
 
--- ---- worlds
+-- ---- what changes keep
+
+-- What a change may do to a history: a write and a drain do it, and one after the other.
+pub record IsKept (R : History Record → History Record → Type 0) : Type 0 where
+  pub same : (h : History Record) → R h h
+  pub further : (a b c : History Record) → R a b → R b c → R a c
+  pub written : (h : History Record) (ms : List Record) → R h (write ms h)
+  pub drained : (h : History Record) → R h (clear h)
+
+-- of each type
+abbrev pub InEach : (History Record → History Record → Type 0) → WorldState → WorldState → Type 0
+InEach R w v = (t : ℕ) → R (w.histories t) (v.histories t)
+
+module _ (R : History Record → History Record → Type 0) (kept : IsKept R) where
+  none_changes : (w : WorldState) → InEach R w w
+  none_changes w t = kept.same (w.histories t)
+
+  both_change : (a b c : WorldState) → InEach R a b → InEach R b c → InEach R a c
+  both_change a b c x y t = kept.further _ _ _ (x t) (y t)
+
+  one_changes : (w : WorldState) (u : ℕ) (h : History Record) → R (w.histories u) h → InEach R w (with_history w u h)
+  one_changes w u h r t = grind (arith, eqb_tells, none_changes w t)
+
+  write_changes : (w : WorldState) (t : ℕ) (ms : List Record)
+      → InEach R w (with_history w t (write ms (w.histories t)))
+  write_changes w t ms = one_changes w t _ (kept.written (w.histories t) ms)
+
+  pub op_changes : (op : Op) (writer : ℕ) (places : ℕ → ℕ) (w : WorldState)
+      → InEach R w (after_op op writer places w).state
+  op_changes (Write t v) writer places w = write_changes w t (by writer v ∷ [])
+  op_changes (Batch t vs) writer places w = write_changes w t (map (by writer) vs)
+  op_changes (Forward t u) writer places w =
+      write_changes w u (again_by writer (took (w.histories t) (places t) None).items)
+  op_changes (Drain t) writer places w = one_changes w t _ (kept.drained (w.histories t))
+  op_changes op writer places w = none_changes w
+
+  more_changes : (o : Option Op) (writer : ℕ) (far : AfterProgram) → InEach R far.state (one_more o writer far).state
+  more_changes None writer far = none_changes far.state
+  more_changes (Some op) writer far = op_changes op writer far.places far.state
+
+  ops_change : (n : ℕ) (m : Meaning) (w : WorldState)
+      → InEach R w (after_at_most n (next_op m) m.writer m.places w).state
+  ops_change zero m w = none_changes w
+  ops_change (suc n) m w =
+      let far : AfterProgram = after_at_most n (next_op m) m.writer m.places w in
+      both_change w far.state (one_more _ _ far).state (ops_change n m w) (more_changes _ _ _)
+
+  turn_changes : (m : Meaning) (w : WorldState) → InEach R w (turn m w).state
+  unfolding turn
+  turn_changes m w = ops_change 64 m w
+
+  pub job_changes : (j : Job) (w : WorldState) → InEach R w (after_job j w).state
+  job_changes j w t = grind (arith, cases_Bool, none_changes w t, turn_changes j.system w t)
+
+  pub turns_change : (order : List ℕ) (s : State) → InEach R s.world (after_turns_of order s).state.world
+  turns_change [] s = none_changes s.world
+  turns_change (i ∷ is) s =
+      both_change s.world (after_turn_of i s).world (after_turns_of is (after_turn_of i s)).state.world
+      (job_changes (s.members i).job s.world) (turns_change is (after_turn_of i s))
+
+  pub posts_change : (posts : List (ℕ × ℤ)) (w : WorldState) → InEach R w (after_posts posts w)
+  posts_change [] w = none_changes w
+  posts_change (p ∷ ps) w =
+      let next = with_history w p.0 (write (by _ p.1 ∷ []) (w.histories p.0)) in
+      both_change w next (after_posts ps next) (write_changes w p.0 (by _ p.1 ∷ [])) (posts_change ps next)
+
+-- ---- sound histories go on
+
+abbrev pub Grows : History Record → History Record → Type 0
+Grows a b = IsSound a → GoesOn a b
 
 -- each sound history of the first world goes on in the second
 abbrev pub WorldGoesOn : WorldState → WorldState → Type 0
-WorldGoesOn w v = (t : ℕ) → IsSound (w.histories t) → GoesOn (w.histories t) (v.histories t)
-
-world_stays : (w : WorldState) → WorldGoesOn w w
-world_stays w t sound = stays (w.histories t) sound
-
-world_goes_further : (a b c : WorldState) → WorldGoesOn a b → WorldGoesOn b c → WorldGoesOn a c
-world_goes_further a b c x y t sound = grind (arith, goes_further)
-
-one_goes_on : (w : WorldState) (u : ℕ) (h : History Record) → (IsSound (w.histories u) → GoesOn (w.histories u) h)
-    → WorldGoesOn w (with_history w u h)
-one_goes_on w u h goes t sound = grind (arith, cases_eq, eq-eqb, ne_eqb, stays)
+WorldGoesOn w v = InEach Grows w v
 
 module _ (grow : OnlyGrows Record) where
-  written_goes_on : (w : WorldState) (t : ℕ) (ms : List Record)
-      → WorldGoesOn w (with_history w t (write ms (w.histories t)))
-  written_goes_on w t ms = one_goes_on w t (write ms (w.histories t)) (λ sound. (grow (w.histories t) sound).0 ms)
-
-  -- ---- jobs
-
-  pub op_goes_on : (op : Op) (writer : ℕ) (places : ℕ → ℕ) (w : WorldState)
-      → WorldGoesOn w (after_op op writer places w).state
-  op_goes_on (Write t v) writer places w = written_goes_on w t (by writer v ∷ [])
-  op_goes_on (Batch t vs) writer places w = written_goes_on w t (map (by writer) vs)
-  op_goes_on (Forward t u) writer places w =
-      written_goes_on w u (again_by writer (took (w.histories t) (places t) None).items)
-  op_goes_on (Drain t) writer places w =
-      one_goes_on w t (clear (w.histories t)) (λ sound. (grow (w.histories t) sound).2)
-  op_goes_on op writer places w = world_stays w
-
-  more_goes_on : (o : Option Op) (writer : ℕ) (far : AfterProgram) → WorldGoesOn far.state (one_more o writer far).state
-  more_goes_on None writer far = world_stays far.state
-  more_goes_on (Some op) writer far = op_goes_on op writer far.places far.state
-
-  ops_go_on : (n : ℕ) (m : Meaning) (w : WorldState)
-      → WorldGoesOn w (after_at_most n (next_op m) m.writer m.places w).state
-  ops_go_on zero m w = world_stays w
-  ops_go_on (suc n) m w =
-      let far : AfterProgram = after_at_most n (next_op m) m.writer m.places w in
-      world_goes_further w far.state (one_more _ _ far).state (ops_go_on n m w) (more_goes_on _ _ _)
-
-  turn_goes_on : (m : Meaning) (w : WorldState) → WorldGoesOn w (turn m w).state
-  unfolding turn
-  turn_goes_on m w = ops_go_on 64 m w
-
-  pub job_goes_on : (j : Job) (w : WorldState) → WorldGoesOn w (after_job j w).state
-  job_goes_on j w = grind (arith, cases_Bool, turn_goes_on, world_stays)
-
-  -- ---- turns, frames and runs
-
-  pub turns_go_on : (order : List ℕ) (s : State) → WorldGoesOn s.world (after_turns_of order s).state.world
-  turns_go_on [] s = world_stays s.world
-  turns_go_on (i ∷ is) s =
-      world_goes_further s.world (after_turn_of i s).world (after_turns_of is (after_turn_of i s)).state.world
-      (job_goes_on (s.members i).job s.world) (turns_go_on is (after_turn_of i s))
-
-  posts_go_on : (posts : List (ℕ × ℤ)) (w : WorldState) → WorldGoesOn w (after_posts posts w)
-  posts_go_on [] w = world_stays w
-  posts_go_on (p ∷ ps) w =
-      let next = with_history w p.0 (write (by _ p.1 ∷ []) (w.histories p.0)) in
-      world_goes_further w next (after_posts ps next) (written_goes_on w p.0 (by _ p.1 ∷ [])) (posts_go_on ps next)
-
-  update_goes_on : (w : WorldState) → WorldGoesOn w (after_update w)
-  update_goes_on w = grind (arith, cases_Bool, world_stays)
+  pub grown : IsKept Grows
+  grown = record {
+    same = stays;
+    further = λ a b c x y sound. goes_further a b c (x sound) (y (x sound).sound);
+    written = λ h ms sound. (grow h sound).0 ms;
+    drained = λ h sound. (grow h sound).2;
+  }
 
   pub before_goes_on : (posts : List (ℕ × ℤ)) (s : State) → WorldGoesOn s.world (before_turns posts s).world
   before_goes_on posts s =
-      let ready : WorldState = (joining s).world in
-      subst (λ w. WorldGoesOn w (after_posts posts (after_update ready))) (joining_world s)
-      (world_goes_further ready (after_update ready) (after_posts posts (after_update ready)) (update_goes_on ready)
-      (posts_go_on posts (after_update ready)))
+      let update : WorldGoesOn s.world (after_update s.world) =
+      λ t sound. grind (arith, cases_Bool, stays (s.world.histories t) sound, grow (s.world.histories t) sound) in
+      rw (joining_world s) (both_change Grows grown s.world (after_update s.world)
+      (after_posts posts (after_update s.world)) update (posts_change Grows grown posts (after_update s.world)))
 
   pub frame_goes_on : (order : List ℕ) (frame : Frame) (s : State)
       → WorldGoesOn s.world (frame_in order frame s).state.world
   frame_goes_on order frame s =
-      world_goes_further s.world (before_turns frame.posts s).world (frame_in order frame s).state.world
-      (before_goes_on frame.posts s) (turns_go_on order (before_turns frame.posts s))
+      both_change Grows grown s.world (before_turns frame.posts s).world (frame_in order frame s).state.world
+      (before_goes_on frame.posts s) (turns_change Grows grown order (before_turns frame.posts s))
 
   pub runs_go_on : ListsOnlyGrow
-  runs_go_on [] s u [] run = subst (λ (x : State). WorldGoesOn s.world x.world) (sym run) (world_stays s.world)
+  runs_go_on [] s u [] run = rw run (none_changes Grows grown s.world)
   runs_go_on (frame ∷ frames) s u (log ∷ logs) run =
-      let next : State = run.0 in
-      world_goes_further s.world next.world u.world
-      (subst (λ (x : State). WorldGoesOn s.world x.world) (sym run.1.leaves) (frame_goes_on (systems_in log) frame s))
-      (runs_go_on frames next u logs run.2)
+      both_change Grows grown s.world (run.0).world u.world
+      (rw (run.1.leaves) (frame_goes_on (systems_in log) frame s)) (runs_go_on frames run.0 u logs run.2)
   runs_go_on frames s u logs run = absurd run

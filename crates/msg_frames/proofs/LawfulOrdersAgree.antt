@@ -1,17 +1,17 @@
 -- Two lawful orders of turns leave the same.
-use Rattle.std.proofs.Common.{◌≡◌, ◌≢◌, ℕ, ◌<◌, ◌⊎◌, inl, inr, Bool, List, [], ◌∷◌, ◌++◌, length, get_or, refl, ap, sym, subst, subst₂, ◌∙◌, arith}
+use Rattle.std.proofs.Common.{◌≡◌, ◌≢◌, ℕ, ◌<◌, ◌⊎◌, inl, inr, Bool, List, [], ◌∷◌, ◌++◌, length, get_or, refl, ap, sym, subst, ◌∙◌, arith, slice_get, Some, suc}
 use Rattle.std.specs.Prelude.{All, AllPairs, Contains, IsPermutation}
 use Rattle.std.proofs.lemmas.Bool.{cases_order}
 use Rattle.std.proofs.lemmas.Grind.{get_or_default_zero}
-use Rattle.std.proofs.lemmas.List.Elements.{All-contains, All-head, All-tail, Contains-append_cases, Contains-append_left, Contains-append_right, Contains-get_or}
+use Rattle.std.proofs.lemmas.List.Elements.{All-contains, Contains-append_left, Contains-get_or, All-append}
 use Rattle.std.proofs.lemmas.List.FromFn.{length-map-range_with_len}
-use Rattle.std.proofs.lemmas.List.Sorted.{IsPermutation-cons, IsPermutation-middle, IsPermutation-refl, IsPermutation-trans}
+use Rattle.std.proofs.lemmas.List.Sorted.{IsPermutation-cons, IsPermutation-middle, IsPermutation-refl, IsPermutation-trans, Contains-permutation, IsPermutation-sym}
 use Rattle.std.proofs.lemmas.Option.{get_or_from_slice_get, slice_get_within}
 use Rattle.msg_world.specs.declared.access.Access.{Access}
 use Rattle.msg_world.specs.Prelude.{Conflict}
-use Rattle.msg_order.specs.Prelude.{ConflictingSystemsAreOrdered, Graph, IsLawfulOrder, IsTurnOrder, LawfulOrdersKeepPaths, Path, SettledOrderIsUnique, StandsBefore, TurnOrderIsLawful, access_of}
+use Rattle.msg_order.specs.Prelude.{ConflictingSystemsAreOrdered, Graph, IsLawfulOrder, LawfulOrdersKeepPaths, Path, SettledOrderIsUnique, StandsBefore, TurnOrderIsLawful, access_of}
 use Rattle.msg_system.specs.Prelude.{JobFootprint}
-use Rattle.msg_frames.specs.Prelude.{AreAccessesOf, FramesAgreeInLawfulOrders, LawfulOrdersAgree, Log, State, Turn, after_turn_of, after_turns_of, before_turns, frame_in, has_begun, join_flags, logged_turn, systems_in}
+use Rattle.msg_frames.specs.Prelude.{AreAccessesOf, FramesAgreeInLawfulOrders, LawfulOrdersAgree, Log, State, after_turn_of, after_turns_of, before_turns, frame_in, has_begun, join_flags, logged_turn, systems_in, Turn}
 use Rattle.msg_frames.proofs.RunsAreUnique.{one_order, order_is_among}
 use Rattle.msg_frames.proofs.TurnsCommute.{turns_commute}
 use Rattle.msg_frames.proofs.SystemsStay.{accesses_stay, joined_below, one_turn_keeps}
@@ -26,9 +26,9 @@ SameRun accesses is js = (s : State) → AreAccessesOf s accesses
     → ((after_turns_of is s).state ≡ (after_turns_of js s).state)
     × IsPermutation (after_turns_of is s).turns (after_turns_of js s).turns
 
--- different systems in no conflict
+-- y is a system other than x, with which it isn't in conflict
 abbrev pub IsFree : List Access → ℕ → ℕ → Type 0
-IsFree accesses x y = (y ≢ x) × ¬ Conflict (access_of accesses y) (access_of accesses x)
+IsFree accesses x y = (y < length accesses) × (y ≢ x) × ¬ Conflict (access_of accesses y) (access_of accesses x)
 
 module _ (accesses : List Access) where
   same_run : (is : List ℕ) → SameRun accesses is is
@@ -46,30 +46,20 @@ module _ (accesses : List Access) where
       → ¬ Conflict (access_of accesses x) (access_of accesses y)
       → SameRun accesses (x ∷ y ∷ is) (y ∷ x ∷ is)
   run_swapped foot x y is lx ly ne none s are =
-      let e = turns_commute foot s accesses x y are (subst (λ n. x < n) are.each lx)
-      (subst (λ n. y < n) are.each ly) ne none in
+      let e = turns_commute foot s accesses x y are (rw (are.each) at lx) (rw (are.each) at ly) ne none in
       let turns : List Turn = (after_turns_of is (after_turn_of y (after_turn_of x s))).turns in
-      let one : logged_turn s x ∷ logged_turn s y ∷ turns ≡ (after_turns_of (x ∷ y ∷ is) s).turns =
-      ap (λ t. logged_turn s x ∷ t ∷ turns) (sym e.0) in
-      let other : logged_turn s y ∷ logged_turn s x ∷ turns ≡ (after_turns_of (y ∷ x ∷ is) s).turns =
-      ap (λ t. logged_turn s y ∷ t ∷ turns) (sym e.1)
-      ∙ ap (λ u. logged_turn s y ∷ logged_turn (after_turn_of y s) x ∷ (after_turns_of is u).turns) e.2 in (
-        ap (λ u. (after_turns_of is u).state) e.2,
-        subst₂ IsPermutation one other (IsPermutation-middle (logged_turn s x ∷ []) (logged_turn s y) turns),
-      )
+      grind (arith, e.0, e.1, e.2, IsPermutation-middle (logged_turn s x ∷ []) (logged_turn s y) turns)
 
   -- what is free of all before it moves to the front
   run_to_front : JobFootprint → (x : ℕ) (before rest : List ℕ) → x < length accesses
-      → All (λ y. y < length accesses) before → All (IsFree accesses x) before
-      → SameRun accesses (before ++ x ∷ rest) (x ∷ before ++ rest)
-  run_to_front foot x [] rest lx below free = same_run (x ∷ rest)
-  run_to_front foot x (y ∷ before) rest lx below free =
-      let here : IsFree accesses x y = All-head (IsFree accesses x) y before free in
+      → All (IsFree accesses x) before → SameRun accesses (before ++ x ∷ rest) (x ∷ before ++ rest)
+  run_to_front foot x [] rest lx free = same_run (x ∷ rest)
+  run_to_front foot x (y ∷ before) rest lx free =
+      let here : IsFree accesses x y = free 0 y (omega arith) in
       run_along (y ∷ before ++ x ∷ rest) (y ∷ x ∷ before ++ rest) (x ∷ y ∷ before ++ rest)
       (run_later y (before ++ x ∷ rest) (x ∷ before ++ rest)
-      (run_to_front foot x before rest lx (All-tail (λ y. y < length accesses) y before below)
-      (All-tail (IsFree accesses x) y before free)))
-      (run_swapped foot y x (before ++ rest) (All-head (λ y. y < length accesses) y before below) lx here.0 here.1)
+      (run_to_front foot x before rest lx (λ k d lt. free (suc k) d (omega arith))))
+      (run_swapped foot y x (before ++ rest) here.0 lx here.1 here.2)
 
 -- ---- two orders of the same systems
 
@@ -77,29 +67,19 @@ module _ (accesses : List Access) where
 abbrev pub Forward : (ℕ → ℕ → Type 0) → List ℕ → Type 0
 Forward P order = AllPairs (λ i j. ¬ P j i) order
 
-none_contained : (xs : List ℕ) → ((i : ℕ) → Contains xs i → ⊥) → xs ≡ []
-none_contained [] h = refl
-none_contained (x ∷ xs) h = absurd (h x (Contains-head x xs))
-
-middle_or : (xs : List ℕ) (y : ℕ) (ys : List ℕ) (i : ℕ) → Contains (xs ++ y ∷ ys) i → (y ≡ i) ⊎ Contains (xs ++ ys) i
-middle_or xs y ys i h = elim (Contains-append_cases xs (y ∷ ys) i h) [
-  | inl l ↦ inr (Contains-append_left xs ys i l)
-  | inr r ↦ elim (Contains-cases y ys i r) [ inl e ↦ inl e | inr l ↦ inr (Contains-append_right xs ys i l) ]
-]
+not_first : (x : ℕ) (xs : List ℕ) (i : ℕ) → x ≢ i → Contains (x ∷ xs) i → Contains xs i
+not_first x xs i ne h = elim (Contains-cases x xs i h) [ inl e ↦ absurd (ne e) | inr later ↦ later ]
 
 with_middle : (xs : List ℕ) (y : ℕ) (ys : List ℕ) (i : ℕ) → Contains (xs ++ ys) i → Contains (xs ++ y ∷ ys) i
-with_middle xs y ys i h = elim (Contains-append_cases xs ys i h) [
-  | inl l ↦ Contains-append_left xs (y ∷ ys) i l
-  | inr r ↦ Contains-append_right xs (y ∷ ys) i (Contains-tail y ys i r)
-]
+with_middle xs y ys i h =
+    Contains-permutation _ _ i (IsPermutation-sym _ _ (IsPermutation-middle xs y ys)) (Contains-tail y (xs ++ ys) i h)
 
 -- what stands once isn't among the others
 apart_from : (xs : List ℕ) (y : ℕ) (ys : List ℕ) → AllPairs (λ i j. i ≢ j) (xs ++ y ∷ ys) → Contains (xs ++ ys) y → ⊥
-apart_from xs y ys once h = elim (Contains-append_cases xs ys y h) [
-  | inl l ↦ All-contains (λ x. x ≢ y) xs y (pairs_middle (λ i j. i ≢ j) xs y ys once).0 l refl
-  | inr r ↦ All-contains (λ x. y ≢ x) ys y
-      (pairs_head (λ i j. i ≢ j) y ys (pairs_right (λ i j. i ≢ j) xs (y ∷ ys) once)) r refl
-]
+apart_from xs y ys once h =
+    let after = pairs_head (λ i j. i ≢ j) y ys (pairs_right (λ i j. i ≢ j) xs (y ∷ ys) once) in
+    All-contains (λ x. x ≢ y) (xs ++ ys) y (All-append (λ x. x ≢ y) xs ys
+    (pairs_middle (λ i j. i ≢ j) xs y ys once).0 (λ k d lt e. after k d lt (sym e))) h refl
 
 module _ (foot : JobFootprint) (accesses : List Access) (P : ℕ → ℕ → Type 0) where
   pub reordered : (settled order : List ℕ)
@@ -109,34 +89,27 @@ module _ (foot : JobFootprint) (accesses : List Access) (P : ℕ → ℕ → Typ
       → ((i : ℕ) → Contains settled i → i < length accesses)
       → AllPairs (λ i j. i ≢ j) settled → AllPairs (λ i j. i ≢ j) order → Forward P settled → Forward P order
       → SameRun accesses order settled
-  reordered [] order joins to from below once once' a b = rw (none_contained order (λ i h. not_in_none i (to i h)))
-      (same_run accesses [])
+  reordered [] [] joins to from below once once' a b = same_run accesses []
+  reordered [] (y ∷ ys) joins to from below once once' a b = absurd (not_in_none y (to y (Contains-head y ys)))
   reordered (x ∷ rest) order joins to from below once once' a b =
       let c : Cut order x = cut order x (from x (Contains-head x rest)) in
-      let single : AllPairs (λ i j. i ≢ j) (c.before ++ x ∷ c.rest) = subst (AllPairs (λ i j. i ≢ j)) c.is once' in
+      let single : AllPairs (λ i j. i ≢ j) (c.before ++ x ∷ c.rest) = rw (c.is) at once' in
       let parts = pairs_middle (λ i j. i ≢ j) c.before x c.rest single in
-      let ahead = pairs_middle (λ i j. ¬ P j i) c.before x c.rest (subst (Forward P) c.is b) in
-      let to' : (i : ℕ) → Contains (c.before ++ c.rest) i
-      → Contains rest i =
-      λ i h. elim (Contains-cases x rest i
-      (to i (subst (λ xs. Contains xs i) (sym c.is) (with_middle c.before x c.rest i h)))) [
-        | inl e ↦ absurd (apart_from c.before x c.rest single (subst (Contains (c.before ++ c.rest)) (sym e) h))
-        | inr later ↦ later
-      ] in
-      let from' : (i : ℕ) → Contains rest i
-      → Contains (c.before ++ c.rest) i =
-      λ i h. elim (middle_or c.before x c.rest i
-      (subst (λ xs. Contains xs i) c.is (from i (Contains-tail x rest i h)))) [
-        | inl e ↦ absurd (All-contains (λ y. x ≢ y) rest i (pairs_head (λ i j. i ≢ j) x rest once) h e)
-        | inr other ↦ other
-      ] in
-      let in_rest : (k d : ℕ) → k < length c.before
-      → Contains rest (get_or c.before k d) =
-      λ k d lt. to' (get_or c.before k d)
-      (Contains-append_left c.before c.rest (get_or c.before k d) (Contains-get_or c.before k d lt)) in
+      let ahead = pairs_middle (λ i j. ¬ P j i) c.before x c.rest (rw (c.is) at b) in
+      let to' : (i : ℕ) → Contains (c.before ++ c.rest) i → Contains rest i =
+      λ i h. not_first x rest i
+      (λ e. apart_from c.before x c.rest single (subst (Contains (c.before ++ c.rest)) (sym e) h))
+      (to i (rw (c.is) (with_middle c.before x c.rest i h))) in
+      let from' : (i : ℕ) → Contains rest i → Contains (c.before ++ c.rest) i =
+      λ i h. not_first x (c.before ++ c.rest) i
+      (All-contains (λ y. x ≢ y) rest i (pairs_head (λ i j. i ≢ j) x rest once) h)
+      (Contains-permutation (c.before ++ x ∷ c.rest) _ i (IsPermutation-middle c.before x c.rest)
+      (rw (c.is) at (from i (Contains-tail x rest i h)))) in
       let free : All (IsFree accesses x) c.before = λ k d lt.
       let y : ℕ = get_or c.before k d in
-      let inside : Contains rest y = in_rest k d lt in (
+      let inside : Contains rest y =
+      to' y (Contains-append_left c.before c.rest y (Contains-get_or c.before k d lt)) in (
+        below y (Contains-tail x rest y inside),
         parts.0 k d lt,
         λ conflict. elim (joins y x (Contains-tail x rest y inside) (Contains-head x rest) (parts.0 k d lt) conflict) [
           | inl p ↦ All-contains (λ z. ¬ P z x) rest y (pairs_head (λ i j. ¬ P j i) x rest a) inside p
@@ -144,8 +117,7 @@ module _ (foot : JobFootprint) (accesses : List Access) (P : ℕ → ℕ → Typ
         ],
       ) in
       rw (c.is) (run_along accesses (c.before ++ x ∷ c.rest) (x ∷ c.before ++ c.rest) (x ∷ rest)
-      (run_to_front accesses foot x c.before c.rest (below x (Contains-head x rest))
-      (λ k d lt. below (get_or c.before k d) (Contains-tail x rest _ (in_rest k d lt))) free)
+      (run_to_front accesses foot x c.before c.rest (below x (Contains-head x rest)) free)
       (run_later accesses x (c.before ++ c.rest) rest
       (reordered rest (c.before ++ c.rest)
       (λ i j p q. joins i j (Contains-tail x rest i p) (Contains-tail x rest j q)) to' from'
@@ -155,22 +127,19 @@ module _ (foot : JobFootprint) (accesses : List Access) (P : ℕ → ℕ → Typ
 -- ---- lawful orders
 
 -- where each stands once, one place
-one_place : (order : List ℕ) (a b : ℕ) → AllPairs (λ i j. i ≢ j) order → a < length order → b < length order
-    → get_or order a 0 ≡ get_or order b 0 → a ≡ b
-one_place order a b once la lb e = grind (arith, cases_order)
+one_place : (order : List ℕ) (a b d : ℕ) → AllPairs (λ i j. i ≢ j) order → b < length order
+    → slice_get order a ≡ Some (get_or order b d) → a ≡ b
+one_place order a b d once lb at =
+    grind (arith, cases_order, get_or_default_zero, get_or_from_slice_get, slice_get_within)
 
 -- no path leads back in a lawful order
 lawful_forward : LawfulOrdersKeepPaths → (g : Graph) (who : List Bool) (order : List ℕ) → IsLawfulOrder g who order
     → Forward (Path g) order
 lawful_forward keeps g who order lawful a b d lt l p =
-    let s : StandsBefore order (get_or order b d) (get_or order a d) =
-    keeps g who order lawful (get_or order b d) (get_or order a d) p in
-    let is_b : s.earlier ≡ b = one_place order s.earlier b lawful.once (slice_get_within order s.earlier _ s.first) l
-    (get_or_from_slice_get order s.earlier _ 0 s.first ∙ get_or_default_zero order b d l) in
-    let is_a : s.later ≡ a = one_place order s.later a lawful.once (slice_get_within order s.later _ s.second)
-    (omega arith)
-    (get_or_from_slice_get order s.later _ 0 s.second ∙ get_or_default_zero order a d (omega arith)) in
-    absurd (omega (arith, s.in_order))
+    let s : StandsBefore order (get_or order b d) (get_or order a d) = keeps g who order lawful _ _ p in
+    let second = one_place order s.earlier b d lawful.once l s.first in
+    let first = one_place order s.later a d lawful.once (omega arith) s.second in
+    absurd (omega (arith, first, second, s.in_order))
 
 pub orders_agree : JobFootprint → ConflictingSystemsAreOrdered → LawfulOrdersKeepPaths → LawfulOrdersAgree
 orders_agree foot ordered keeps s accesses settled a b are is_settled la lb =
@@ -180,7 +149,7 @@ orders_agree foot ordered keeps s accesses settled a b are is_settled la lb =
     ((lb.of_joined j).0 q) conflict)
     (λ i h. (lb.of_joined i).1 ((la.of_joined i).0 h))
     (λ i h. (la.of_joined i).1 ((lb.of_joined i).0 h))
-    (λ i h. subst (λ n. i < n) (sym are.each) (joined_below s i ((lb.of_joined i).0 h)))
+    (λ i h. rw (are.each) (joined_below s i ((lb.of_joined i).0 h)))
     lb.once la.once (lawful_forward keeps settled (join_flags s) b lb)
     (lawful_forward keeps settled (join_flags s) a la) s are
 
@@ -190,11 +159,9 @@ pub frames_agree : JobFootprint → ConflictingSystemsAreOrdered → LawfulOrder
     → TurnOrderIsLawful → FramesAgreeInLawfulOrders
 frames_agree foot ordered keeps one is_lawful frame s u log settled order x is_order lawful =
     let b : State = before_turns frame.posts s in
-    let same : x.in_order.settled ≡ settled = one_order one b x.in_order.settled settled x.in_order.is_order is_order in
-    let turns : IsTurnOrder settled (join_flags b) (systems_in log) =
-    subst (λ g. IsTurnOrder g (join_flags b) (systems_in log)) same x.in_order.in_order in
-    let own : IsLawfulOrder settled (join_flags b) (systems_in log) = is_lawful settled (join_flags b) (systems_in log)
-    (order_is_among _ _ is_order) turns in
+    let same = one_order one b x.in_order.settled settled x.in_order.is_order is_order in
+    let own = is_lawful settled (join_flags b) (systems_in log) (order_is_among _ _ is_order)
+    (rw same at x.in_order.in_order) in
     let agree = orders_agree foot ordered keeps b is_order.accesses settled order
     (systems_in log) is_order.of_systems is_order.is_settled lawful own in (
       agree.0 ∙ sym x.leaves,

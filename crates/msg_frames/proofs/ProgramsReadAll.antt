@@ -1,7 +1,6 @@
 -- A system without conditions whose program reads all of a type reads all in each frame.
-use Rattle.std.proofs.Common.{◌≡◌, ◌≢◌, ℕ, ℤ, ◌<◌, ◌≤◌, List, [], ◌∷◌, All, length, Bool, true, false, sym, ap, subst, ◌∙◌, arith}
+use Rattle.std.proofs.Common.{◌≡◌, ◌≢◌, ℕ, ℤ, ◌≤◌, List, [], ◌∷◌, All, length, false, ap, ◌∙◌, arith}
 use Rattle.std.specs.Prelude.{IsTrue}
-use Rattle.std.specs.List.{list_any}
 use Rattle.std.proofs.lemmas.Bool.{false≢true}
 use Rattle.std.proofs.lemmas.List.Elements.{All-cons, All-nil}
 use Rattle.std.proofs.lemmas.List.FromFn.{get_or-map-range_with_len}
@@ -9,20 +8,12 @@ use Rattle.msg_buffer.specs.Prelude.{OnlyGrows}
 use Rattle.msg_world.specs.declared.record.Record.{Record}
 use Rattle.msg_world.specs.Prelude.{WorldState}
 use Rattle.msg_system.specs.declared.program.Program.{Program}
-use Rattle.msg_system.specs.declared.reply.Reply.{Reply}
 use Rattle.msg_system.specs.Prelude.{IsInOrder, Job, Meaning, after_job, of_program, program_needs, started_places, turn}
 use Rattle.msg_order.specs.Prelude.{has_joined}
-use Rattle.msg_frames.specs.Prelude.{Log, Member, Outcome, Ran, Skipped, State, WhoseProgramReadsAll, after_turn_of, after_turns_of, before_turns, counts, has_begun, job_begun, join_flags, reads_all, systems_in}
+use Rattle.msg_frames.specs.Prelude.{Skipped, State, WhoseProgramReadsAll, after_turn_of, after_turns_of, before_turns, counts, has_begun, job_begun, join_flags, systems_in}
 use Rattle.msg_frames.proofs.BeforeTurns.{Prepares, comes, prepares, stood}
 use Rattle.msg_frames.proofs.BeforeTurns as before
 use Rattle.msg_frames.proofs.ReaderOverTurns.{one_member}
-
-abbrev is_skipped : Outcome → Bool
-is_skipped Skipped = true
-is_skipped (Ran replies) = false
-
-ran_isnt_skipped : (replies : List Reply) → Ran replies ≢ Skipped
-ran_isnt_skipped replies e = false≢true (ap is_skipped e)
 
 module _ (in_order : IsInOrder) (program : Program) (writer : ℕ) (few : length program.ops ≤ 64) where
   -- the job is that program, without conditions
@@ -48,40 +39,32 @@ module _ (in_order : IsInOrder) (program : Program) (writer : ℕ) (few : length
       → All (λ turn. turn.system ≡ i → turn.outcome ≢ Skipped) (after_turns_of order s).turns
   turns_ran i [] s is = All-nil (λ turn. turn.system ≡ i → turn.outcome ≢ Skipped)
   turns_ran i (j ∷ js) s is =
-      grind (arith, All-cons, ran_isnt_skipped, turn_stays, turns_ran i js (after_turn_of j s) (turn_stays i j s is))
+      grind (arith, All-cons, turn_stays, turns_ran i js (after_turn_of j s) (turn_stays i j s is))
 
   before_stays : OnlyGrows Record → (posts : List (ℕ × ℤ)) (s : State) (i : ℕ) → IsProgram (s.members i).job
       → IsProgram ((before_turns posts s).members i).job
   before_stays grow posts s i is = elim ((prepares grow posts s).arrival i) [
-    | stood was now same ↦ subst (λ (m : Member). IsProgram m.job) (sym same) is
-    | comes was now new ↦ subst (λ (m : Member). IsProgram m.job) (sym new)
+    | stood was now same ↦ rw same is
+    | comes was now new ↦ rw new
         (started_places (program_needs program.ops) program.start (counts s) is.0, ap (job_begun (counts s)) is.1)
-    | before.waits was now same ↦ subst (λ (m : Member). IsProgram m.job) (sym same) is
+    | before.waits was now same ↦ rw same is
   ]
 
 pub programs_read_all : OnlyGrows Record → IsInOrder → WhoseProgramReadsAll
 programs_read_all grow in_order frame s log u i t program writer places is there has was few reads =
     let b : State = before_turns frame.posts s in
     let prep : Prepares s b = prepares grow frame.posts s in
-    let order : List ℕ = systems_in log in
     let ready : IsProgram in_order program writer few (b.members i).job =
     before_stays in_order program writer few grow frame.posts s i (places, was) in
     let stays : IsProgram in_order program writer few (u.members i).job =
-    subst (λ (x : State). IsProgram in_order program writer few (x.members i).job) (sym is.leaves)
-    (turns_stay in_order program writer few i order b ready) in
-    let now : IsTrue (has_begun b i) = elim (prep.arrival i) [
-      | stood old new same ↦ new
-      | comes old new same ↦ new
-      | before.waits old new same ↦ absurd (false≢true (sym old ∙ has))
-    ] in
-    let under : i < b.systems = subst (λ n. i < n) (sym prep.same.systems) there in
-    let joins : has_joined (join_flags b) i
-    ≡ has_begun b i = get_or-map-range_with_len (has_begun b) 0 b.systems i i false under (omega arith) in (
+    rw (is.leaves) (turns_stay in_order program writer few i (systems_in log) b ready) in
+    let now : IsTrue (has_begun b i) = grind (arith, false≢true, prep.arrival i) in
+    let joins : has_joined (join_flags b) i ≡ has_begun b i =
+    get_or-map-range_with_len (has_begun b) 0 b.systems i i false (rw (prep.same.systems) there) (omega arith) in (
       record {
         has_turn = (is.in_order.in_order.of_joined i).1 (joins ∙ now);
-        ran = subst (All (λ turn. turn.system ≡ i → turn.outcome ≢ Skipped)) (sym (ap (λ (l : Log). l.turns) is.tells))
-            (turns_ran in_order program writer few i order b ready);
-        read_all = ap (λ (j : Job). list_any (reads_all t) j.system.last) stays.1 ∙ reads;
+        ran = rw (is.tells) (turns_ran in_order program writer few i (systems_in log) b ready);
+        read_all = rw (stays.1) reads;
       },
       stays,
     )

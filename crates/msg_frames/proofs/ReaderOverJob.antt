@@ -1,18 +1,20 @@
 -- What a reader goes past by an op, by a turn and by a job.
-use Rattle.std.proofs.Common.{◌≡◌, ℕ, zero, suc, ◌+◌, ◌≤◌, List, [], ◌∷◌, ◌++◌, append_assoc, map, length, take, drop, All, Option, None, Some, refl, sym, ap, subst, arith, inl, inr, cond, ◌==◌}
-use Rattle.std.proofs.lemmas.Bool.{cases_eq, eq-eqb, ne_eqb, cases_Bool}
-use Rattle.std.proofs.lemmas.List.{append-nil, length-append, length-map, map-append}
-use Rattle.std.proofs.lemmas.List.Elements.{All-append, All-cons, All-nil, All-weaker}
-use Rattle.msg_buffer.specs.Prelude.{Fits, GoesOn, History, IsSound, Stretch, Tile, count, given, instances, message_of, next_place, pass_over, read}
+use Rattle.std.proofs.Common.{◌≡◌, ℕ, zero, suc, ◌≤◌, List, [], ◌∷◌, ◌++◌, append_assoc, map, length, All, Option, None, Some, refl, sym, ap, subst, arith, inl, inr, cond, ◌==◌}
+use Rattle.std.proofs.lemmas.Bool.{cases_Bool}
+use Rattle.std.proofs.lemmas.List.{append-nil, length-append, length-map, map-append, map-id}
+use Rattle.std.proofs.lemmas.List.Elements.{All-append, All-cons, All-nil}
+use Rattle.msg_buffer.specs.Prelude.{Fits, GoesOn, History, IsSound, Stretch, Tile, count, given, message_of, next_place, pass_over, read}
 use Rattle.msg_world.specs.declared.record.Record.{Record}
 use Rattle.msg_world.specs.Prelude.{WorldState}
 use Rattle.msg_system.specs.declared.op.Op.{Op}
-use Rattle.msg_system.specs.declared.op.Op.TheVariants.{Read, Len, Missed, Clear, Forward, Sum}
+use Rattle.msg_system.specs.declared.op.Op.TheVariants.{Read, Clear, Forward, Sum}
 use Rattle.msg_system.specs.declared.reply.Reply.{Reply}
 use Rattle.msg_system.specs.Prelude.{AfterProgram, Job, Meaning, after_at_most, after_job, after_op, all_hold, next_op, one_more, ops_answered, took, turn, with_place}
 use Rattle.msg_system.proofs.Turns.{ops_answered-snoc}
 use Rattle.msg_frames.specs.Prelude.{Entry, GivesItsStretch, Moment, answers, entries_for, entry_for, entry_of_read, first_moments, job_moments, next_moments, outcome_entries, outcome_of, turn_moments}
-use Rattle.msg_frames.proofs.HistoriesGrow.{BufferLaws, counts_more, goes_further, op_goes_on, stays}
+use Rattle.msg_frames.proofs.HistoriesGrow.{BufferLaws, counts_more, Grows, goes_further, grown, op_changes, stays}
+use Rattle.std.proofs.lemmas.Bool.Decides.{eqb_tells}
+use Rattle.std.proofs.lemmas.Simd.{map-map}
 
 -- a moment, as a tile of the buffers' laws
 abbrev pub tile_of : Moment → History Record × Stretch
@@ -33,8 +35,8 @@ pub record Passes (place : ℕ) (old : History Record) (ms : List Moment) (next 
 
 tile-append : (p : ℕ) (xs : List (History Record × Stretch)) (q : ℕ) (ys : List (History Record × Stretch)) (r : ℕ)
     → Tile p xs q → Tile q ys r → Tile p (xs ++ ys) r
-tile-append p [] q ys r a b = subst (λ n. Tile n ys r) (sym a) b
-tile-append p (x ∷ xs) q ys r a b = (a.0, tile-append (next_place x.1) xs q ys r a.1 b)
+tile-append p [] q ys r a b = rw a b
+tile-append p (x ∷ xs) q ys r a b = grind (arith, tile-append (next_place x.1) xs q ys r)
 
 -- first these moments, and then those
 pub passes_further : (p : ℕ) (a : History Record) (ms : List Moment) (q : ℕ) (b : History Record) (ns : List Moment)
@@ -46,7 +48,7 @@ passes_further p a ms q b ns r c x y = record {
   tile = rw (map-append tile_of ms ns) (tile-append _ _ _ _ _ x.tile y.tile);
   gives = All-append GivesItsStretch _ _ x.gives y.gives;
   earlier = All-append (λ m. GoesOn m.history c) _ _
-      (All-weaker (λ m. GoesOn m.history b) _ (λ m g. goes_further _ _ _ g y.goes_on) _ x.earlier) y.earlier;
+      (λ k d lt. goes_further _ _ _ (x.earlier k d lt) y.goes_on) y.earlier;
   written = All-append IsWritten _ _ x.written y.written;
 }
 
@@ -70,132 +72,84 @@ op_moments t op writer ps w = map (λ e. record { history = w.histories t; entry
 abbrev moments_if : ℕ → ℕ → WorldState → Entry → List Moment
 moments_if u t w e = map (λ x. record { history = w.histories t; entry = x }) (cond (u == t) (e ∷ []) [])
 
+-- a reader of type t goes past these moments, from these places in a world to those in another
+abbrev pub GoesPast : ℕ → (ℕ → ℕ) → WorldState → List Moment → (ℕ → ℕ) → WorldState → Type 0
+GoesPast t ps w ms qs v = IsSound (w.histories t) → ps t ≤ count (w.histories t)
+    → Passes (ps t) (w.histories t) ms (qs t) (v.histories t)
+
 module _ (laws : BufferLaws) where
   read_passes : (h b : History Record) (place : ℕ) (limit : Option ℕ) → IsSound h → place ≤ count h → GoesOn h b
       → Passes place h (record { history = h; entry = entry_of_read (took h place limit) } ∷ [])
       (next_place (read h place limit)) b
   read_passes h b place limit sound within goes =
       let law = laws.reads h place limit sound in
-      let long : length (map message_of (given h place limit))
-      ≡ length (given h place limit) = length-map (given h place limit) message_of in
-      let place_same : next_place (entry_of_read (took h place limit)).stretch
-      ≡ next_place (read h place _) = ap (λ n. (read h place limit).first + n) long in
-      subst (λ n. Passes place h (record { history = h; entry = entry_of_read (took h place limit) } ∷ []) n b)
-      place_same
-      (passes_one _ _ _ _
-      (subst (λ n. Fits h place (record
-      { missed = (read h place limit).missed; first = (read h place limit).first; number = n })) (sym long) law.0)
-      (subst (λ n. n ≤ count h) (sym place_same) (law.2 within))
-      (subst (λ n. map message_of (given h place limit)
-      ≡ map message_of (take n (drop (read h place limit).first (instances h)))) (sym long)
-      (ap (map message_of) law.1))
-      goes)
+      rw (length-map (given h place limit) message_of)
+      (passes_one place h (record { stretch = read h place limit; given = Some _ }) b law.0 (law.2 within)
+      (ap (map message_of) law.1) goes)
 
   abbrev cleared_entry : History Record → ℕ → Entry
   cleared_entry h place = record { stretch = pass_over h place; given = None }
 
-  clear_passes : (h b : History Record) (place : ℕ) → IsSound h → place ≤ count h → GoesOn h b
-      → Passes place h (record { history = h; entry = cleared_entry h place } ∷ []) (count h) b
-  clear_passes h b place sound within goes =
-      let law = laws.clears h place sound in
-      let to : next_place (pass_over h place) ≡ count h = law.1 within in
-      subst (λ n. Passes place h (record { history = h; entry = cleared_entry h place } ∷ []) n b) to
-      (passes_one _ _ _ _ law.0 (omega arith) tt goes)
+  module _ (t : ℕ) where
+    -- an op that reads type u
+    of_type : (u : ℕ) (w : WorldState) (v : History Record) (ps : ℕ → ℕ) (e : Entry) (q : ℕ)
+        → ps t ≤ count (w.histories t) → GoesOn (w.histories t) v
+        → (u ≡ t → Passes (ps t) (w.histories t) (record { history = w.histories t; entry = e } ∷ []) q v)
+        → Passes (ps t) (w.histories t) (moments_if u t w e) (with_place ps u q t) v
+    of_type u w v ps e q within goes passes =
+        grind (arith, eqb_tells, passes_nothing (ps t) (w.histories t) v within goes)
 
-  -- an op that reads type u
-  of_type : (u t : ℕ) (w : WorldState) (v : History Record) (ps : ℕ → ℕ) (e : Entry) (q : ℕ)
-      → ps t ≤ count (w.histories t) → GoesOn (w.histories t) v
-      → (u ≡ t → Passes (ps u) (w.histories u) (record { history = w.histories u; entry = e } ∷ []) q v)
-      → Passes (ps t) (w.histories t) (moments_if u t w e) (with_place ps u q t) v
-  of_type u t w v ps e q within goes passes = elim (cases_eq u t) [
-    | inl same ↦ rw (eq-eqb u t same, eq-eqb t u (sym same))
-        (subst (λ x. Passes (ps x) (w.histories x) (record { history = w.histories x; entry = e } ∷ []) q v) same
-        (passes same))
-    | inr other ↦ rw (ne_eqb u t other, ne_eqb t u (λ x. other (sym x))) (passes_nothing _ _ _ within goes)
-  ]
+    of_read : (u : ℕ) (w v : WorldState) (ps : ℕ → ℕ) (limit : Option ℕ) → Grows (w.histories t) (v.histories t)
+        → GoesPast t ps w (moments_if u t w (entry_of_read (took (w.histories u) (ps u) limit)))
+        (with_place ps u (next_place (read (w.histories u) (ps u) limit))) v
+    of_read u w v ps limit grows sound within =
+        of_type u w _ ps _ _ within (grows sound) (λ e. rw e (read_passes _ _ _ limit sound within (grows sound)))
 
-  of_read : (u t : ℕ) (w : WorldState) (v : History Record) (ps : ℕ → ℕ) (limit : Option ℕ) → IsSound (w.histories t)
-      → ps t ≤ count (w.histories t) → GoesOn (w.histories t) v
-      → Passes (ps t) (w.histories t) (moments_if u t w (entry_of_read (took (w.histories u) (ps u) limit)))
-      (with_place ps u (next_place (read (w.histories u) (ps u) limit)) t) v
-  of_read u t w v ps limit sound within goes =
-      of_type u t w v ps (entry_of_read (took (w.histories u) (ps u) limit))
-      (next_place (read (w.histories u) (ps u) limit)) within goes
-      (λ e. read_passes (w.histories u) v (ps u) limit (subst (λ x. IsSound (w.histories x)) (sym e) sound)
-      (subst (λ x. ps x ≤ count (w.histories x)) (sym e) within) (subst (λ x. GoesOn (w.histories x) v) (sym e) goes))
+    op_passes : (op : Op) (writer : ℕ) (ps : ℕ → ℕ) (w : WorldState) →
+        let done = after_op op writer ps w in GoesPast t ps w (op_moments t op writer ps w) done.places done.state
+    op_passes (Read u limit) writer ps w = of_read u w w ps limit (stays _)
+    op_passes (Clear u) writer ps w = λ sound within.
+        let law = laws.clears (w.histories t) (ps t) sound in
+        let to = law.1 within in
+        of_type u w _ ps _ _ within (stays _ sound) (λ e. rw (e, ← to) (passes_one (ps t) (w.histories t)
+        (cleared_entry (w.histories t) (ps t)) _ law.0 (omega (arith, to)) tt (stays _ sound)))
+    op_passes (Forward u v) writer ps w =
+        of_read u w (after_op (Forward u v) writer ps w).state ps None
+        (op_changes Grows (grown laws.grow) (Forward u v) writer ps w t)
+    op_passes (Sum u r) writer ps w = of_read u w w ps None (stays _)
+    op_passes op writer ps w = λ sound within.
+        let goes = op_changes Grows (grown laws.grow) op writer ps w t sound in
+        grind (arith, cases_Bool, passes_nothing (ps t) (w.histories t) _ within goes)
 
-  of_clear : (u t : ℕ) (w : WorldState) (ps : ℕ → ℕ) → IsSound (w.histories t) → ps t ≤ count (w.histories t)
-      → Passes (ps t) (w.histories t) (moments_if u t w (cleared_entry (w.histories u) (ps u)))
-      (with_place ps u (count (w.histories u)) t) (w.histories t)
-  of_clear u t w ps sound within =
-      of_type u t w (w.histories t) ps (cleared_entry (w.histories u) (ps u)) (count (w.histories u)) within
-      (stays (w.histories t) sound)
-      (λ e. clear_passes (w.histories u) (w.histories t) (ps u) (subst (λ x. IsSound (w.histories x)) (sym e) sound)
-      (subst (λ x. ps x ≤ count (w.histories x)) (sym e) within)
-      (subst (λ x. GoesOn (w.histories x) (w.histories t)) (sym e) (stays (w.histories t) sound)))
+    pub next_passes : (o : Option Op) (writer : ℕ) (far : AfterProgram) →
+        let more = one_more o writer far in
+        GoesPast t far.places far.state (next_moments t o writer far) more.places more.state
+    next_passes None writer far = λ sound within. passes_nothing _ _ _ within (stays _ sound)
+    next_passes (Some op) writer far = op_passes op writer far.places far.state
 
-  -- an op that reads type u and goes past nothing
-  of_type_nothing : (u t : ℕ) (w : WorldState) (ps : ℕ → ℕ) → IsSound (w.histories t) → ps t ≤ count (w.histories t)
-      → Passes (ps t) (w.histories t) (map (λ x. record { history = w.histories t; entry = x }) (cond (u == t) [] []))
-      (ps t) (w.histories t)
-  of_type_nothing u t w ps sound within = grind (arith, cases_Bool, passes_nothing, stays)
+    pub first_passes : (n : ℕ) (m : Meaning) (w : WorldState) →
+        let far = after_at_most n (next_op m) m.writer m.places w in
+        GoesPast t m.places w (first_moments t n m w) far.places far.state
+    first_passes zero m w sound within = passes_nothing _ _ _ within (stays _ sound)
+    first_passes (suc n) m w sound within =
+        let far : AfterProgram = after_at_most n (next_op m) m.writer m.places w in
+        let so_far = first_passes n m w sound within in
+        passes_further _ _ _ _ _ _ _ _ so_far
+        (next_passes (next_op m far.replies) m.writer far so_far.goes_on.sound so_far.within)
 
-  pub op_passes : (t : ℕ) (op : Op) (writer : ℕ) (ps : ℕ → ℕ) (w : WorldState) → IsSound (w.histories t)
-      → ps t ≤ count (w.histories t)
-      → Passes (ps t) (w.histories t) (op_moments t op writer ps w) ((after_op op writer ps w).places t)
-      ((after_op op writer ps w).state.histories t)
-  op_passes t (Read u limit) writer ps w sound within = of_read u t w (w.histories t) ps limit sound within
-      (stays (w.histories t) sound)
-  op_passes t (Len u) writer ps w sound within = of_type_nothing u t w ps sound within
-  op_passes t (Missed u) writer ps w sound within = of_type_nothing u t w ps sound within
-  op_passes t (Clear u) writer ps w sound within = of_clear u t w ps sound within
-  op_passes t (Forward u v) writer ps w sound within =
-      of_read u t w _ ps None sound within (op_goes_on laws.grow (Forward u v) writer ps w t sound)
-  op_passes t (Sum u r) writer ps w sound within = of_read u t w (w.histories t) ps None sound within
-      (stays (w.histories t) sound)
-  op_passes t op writer ps w sound within =
-      passes_nothing (ps t) (w.histories t) _ within (op_goes_on laws.grow op writer ps w t sound)
+    turn_passes : (m : Meaning) (w : WorldState)
+        → GoesPast t m.places w (turn_moments t m w) (turn m w).places (turn m w).state
+    unfolding turn turn_moments
+    turn_passes m w = first_passes 64 m w
 
-  pub next_passes : (t : ℕ) (o : Option Op) (writer : ℕ) (far : AfterProgram) → IsSound (far.state.histories t)
-      → far.places t ≤ count (far.state.histories t)
-      → Passes (far.places t) (far.state.histories t) (next_moments t o writer far) ((one_more o writer far).places t)
-      ((one_more o writer far).state.histories t)
-  next_passes t None writer far sound within = passes_nothing (far.places t) (far.state.histories t)
-      (far.state.histories t) within (stays (far.state.histories t) sound)
-  next_passes t (Some op) writer far sound within = op_passes t op writer far.places far.state sound within
+    -- ---- a job
 
-  pub first_passes : (t n : ℕ) (m : Meaning) (w : WorldState) → IsSound (w.histories t)
-      → m.places t ≤ count (w.histories t) →
-      let far : AfterProgram = after_at_most n (next_op m) m.writer m.places w in Passes (m.places t) (w.histories t)
-      (first_moments t n m w) (far.places t) (far.state.histories t)
-  first_passes t zero m w sound within = passes_nothing (m.places t) (w.histories t) (w.histories t) within
-      (stays (w.histories t) sound)
-  first_passes t (suc n) m w sound within =
-      let far : AfterProgram = after_at_most n (next_op m) m.writer m.places w in
-      let next : Option Op = next_op m far.replies in
-      let so_far : Passes (m.places t) (w.histories t) (first_moments t n m w) (far.places t) (far.state.histories t) =
-      first_passes t n m w sound within in
-      passes_further (m.places t) (w.histories t) (first_moments t n m w) (far.places t) (far.state.histories t)
-      (next_moments t next m.writer far) ((one_more next m.writer far).places t)
-      ((one_more next m.writer far).state.histories t) so_far
-      (next_passes t next m.writer far so_far.goes_on.sound so_far.within)
-
-  turn_passes : (t : ℕ) (m : Meaning) (w : WorldState) → IsSound (w.histories t) → m.places t ≤ count (w.histories t)
-      → Passes (m.places t) (w.histories t) (turn_moments t m w) ((turn m w).places t) ((turn m w).state.histories t)
-  unfolding turn turn_moments
-  turn_passes t m w sound within = first_passes t 64 m w sound within
-
-  -- ---- a job
-
-  pub job_passes : (t : ℕ) (j : Job) (w : WorldState) → IsSound (w.histories t)
-      → j.system.places t ≤ count (w.histories t)
-      → Passes (j.system.places t) (w.histories t) (job_moments t j w) ((after_job j w).job.system.places t)
-      ((after_job j w).state.histories t)
-  job_passes t j w sound within = elim (cases_Bool (all_hold j.conditions w)) [
-    | inl e ↦ rw e (turn_passes t j.system w sound within)
-    | inr e ↦ rw e (passes_nothing (j.system.places t) (w.histories t) (w.histories t) within
-        (stays (w.histories t) sound))
-  ]
+    pub job_passes : (j : Job) (w : WorldState)
+        → GoesPast t j.system.places w (job_moments t j w) (after_job j w).job.system.places (after_job j w).state
+    job_passes j w sound within = elim (cases_Bool (all_hold j.conditions w)) [
+      | inl e ↦ rw e (turn_passes j.system w sound within)
+      | inr e ↦ rw e (passes_nothing _ _ _ within (stays _ sound))
+    ]
 
 -- ---- the entries that the replies of a turn tell of are its moments
 
@@ -208,24 +162,18 @@ module _ (t : ℕ) (m : Meaning) (w : WorldState) where
   AnsweredAs e ms = (length (ops_answered (next_op m) e.replies) ≡ length e.replies)
       × (entries_for t (ops_answered (next_op m) e.replies) e.replies ≡ map (λ x. x.entry) ms)
 
-  entries_again : (h : History Record) (es : List Entry) → es
-      ≡ map (λ (x : Moment). x.entry) (map (λ e. record { history = h; entry = e }) es)
-  entries_again h [] = refl
-  entries_again h (e ∷ es) = ap (λ fs. e ∷ fs) (entries_again h es)
-
   entries_snoc : (ops : List Op) (rs : List Reply) (op : Op) (r : Reply) → length ops ≡ length rs
       → entries_for t (ops ++ op ∷ []) (rs ++ r ∷ []) ≡ entries_for t ops rs ++ entry_for t op r
   entries_snoc [] [] op r same = append-nil (entry_for t op r)
-  entries_snoc [] (x ∷ rs) op r same = absurd (omega arith)
-  entries_snoc (o ∷ ops) [] op r same = absurd (omega arith)
   entries_snoc (o ∷ ops) (x ∷ rs) op r same =
       grind (arith, append_assoc, entries_snoc ops rs op r (omega (arith, same)))
+  entries_snoc ops rs op r same = absurd (omega (arith, same))
 
   answered_more : (o : Option Op) (far : AfterProgram) (ms : List Moment) → next_op m far.replies ≡ o
       → AnsweredAs far ms → AnsweredAs (one_more o m.writer far) (ms ++ next_moments t o m.writer far)
   answered_more None far ms is so = subst (AnsweredAs far) (sym (append-nil ms)) so
   answered_more (Some op) far ms is so =
-      grind (arith, entries_again, entries_snoc, length-append, map-append, ops_answered-snoc)
+      grind (arith, map-id, map-map, entries_snoc, length-append, map-append, ops_answered-snoc)
 
   answered : (n : ℕ) → AnsweredAs (so_far n) (first_moments t n m w)
   answered zero = (refl, refl)
@@ -245,4 +193,4 @@ job_logged t j w = grind (arith, append-nil, cases_Bool, turn_entries)
 pub job_rule : (j : Job) (w : WorldState) → (after_job j w).job.system.rule
     ≡ (λ (later : List (List Reply)) (now : List Reply). j.system.rule
     (answers (outcome_of (after_job j w).replies) ++ later) now)
-job_rule j w = elim (cases_Bool (all_hold j.conditions w)) [ inl e ↦ rw e refl | inr e ↦ rw e refl ]
+job_rule j w = grind (arith, cases_Bool)

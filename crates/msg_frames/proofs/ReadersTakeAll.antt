@@ -1,38 +1,29 @@
 -- A reader whose turn reads all of a type goes past all that had been written by then.
-use Rattle.std.proofs.Common.{◌≡◌, ◌≢◌, ℕ, zero, suc, ◌≤◌, List, [], ◌∷◌, ◌++◌, All, true, false, ◌||◌, Option, None, Some, refl, sym, ap, ◌∙◌, arith, inl, inr, ◌==◌}
-use Rattle.std.specs.Prelude.{option_to_list, IsTrue}
+use Rattle.std.proofs.Common.{◌≡◌, ◌≢◌, ℕ, zero, suc, ◌≤◌, List, [], ◌∷◌, ◌++◌, All, Option, None, Some, refl, arith}
+use Rattle.std.specs.Prelude.{IsTrue}
 use Rattle.std.specs.List.{list_any}
-use Rattle.std.proofs.lemmas.Bool.{cases_Bool, eq-eqb, eqb-true, false≢true, or_cases}
-use Rattle.std.proofs.lemmas.List.Elements.{All-head, All-tail}
+use Rattle.std.proofs.lemmas.Bool.{cases_Bool, false≢true, or_cases}
+use Rattle.std.proofs.lemmas.List.Elements.{All-head}
 use Rattle.std.proofs.lemmas.List.Folds.{list_any-append}
 use Rattle.msg_buffer.specs.Prelude.{IsSound, count}
 use Rattle.msg_world.specs.Prelude.{WorldState}
 use Rattle.msg_system.specs.declared.op.Op.{Op}
-use Rattle.msg_system.specs.declared.op.Op.TheVariants.{Read, Forward, Sum}
-use Rattle.msg_system.specs.declared.reply.Reply.{Reply}
-use Rattle.msg_system.specs.Prelude.{AfterProgram, Job, Meaning, after_at_most, after_job, after_op, next_op, one_more, ops_answered, place_after_read, turn, with_place}
+use Rattle.msg_system.specs.Prelude.{AfterProgram, Meaning, after_at_most, after_op, next_op, one_more, ops_answered, turn}
 use Rattle.msg_system.proofs.Turns.{ops_answered-snoc}
-use Rattle.msg_frames.specs.Prelude.{Skipped, State, after_turn_of, after_turns_of, first_moments, logged_turn, next_moments, outcome_of, place_of, reads_all}
+use Rattle.msg_frames.specs.Prelude.{Skipped, State, after_turn_of, after_turns_of, logged_turn, next_moments, place_of, reads_all}
 use Rattle.msg_frames.proofs.HistoriesGrow.{BufferLaws, counts_more}
 use Rattle.msg_frames.proofs.OneFateEach.{tiles_rise}
-use Rattle.msg_frames.proofs.ReaderOverJob.{Passes, first_passes, next_passes}
+use Rattle.msg_frames.proofs.ReaderOverJob.{first_passes, next_passes}
 use Rattle.msg_frames.proofs.ReaderOverTurns.{one_member, turn_reads}
+use Rattle.std.proofs.lemmas.Bool.Decides.{eqb_tells}
 
 -- ---- a turn that reads all
 
 module _ (laws : BufferLaws) (t : ℕ) where
-  takes : (u : ℕ) (ps : ℕ → ℕ) (w : WorldState) → IsSound (w.histories t) → ps t ≤ count (w.histories t)
-      → IsTrue (u == t)
-      → with_place ps u (place_after_read (w.histories u) (ps u) None) t ≡ count (w.histories t)
-  takes u ps w sound within is = grind (arith, eq-eqb, eqb-true)
-
   op_takes_all : (op : Op) (writer : ℕ) (ps : ℕ → ℕ) (w : WorldState) → IsSound (w.histories t)
       → ps t ≤ count (w.histories t) → IsTrue (reads_all t op)
       → (after_op op writer ps w).places t ≡ count (w.histories t)
-  op_takes_all (Read u None) writer ps w sound within is = takes u ps w sound within is
-  op_takes_all (Forward u v) writer ps w sound within is = takes u ps w sound within is
-  op_takes_all (Sum u r) writer ps w sound within is = takes u ps w sound within is
-  op_takes_all op writer ps w sound within is = cc
+  op_takes_all op writer ps w sound within is = grind (arith, eqb_tells)
 
   -- so it does by one op more, or it did before
   more_takes : (o : Option Op) (m : Meaning) (far : AfterProgram) (c : ℕ) → next_op m far.replies ≡ o
@@ -43,24 +34,9 @@ module _ (laws : BufferLaws) (t : ℕ) where
       → c ≤ (one_more o m.writer far).places t
   more_takes None m far c at sound within less so is = so is
   more_takes (Some op) m far c at sound within less so is =
-      let r : Reply = (after_op op m.writer far.places far.state).reply in
-      let ops : List Op = ops_answered (next_op m) far.replies in
-      let more : ops_answered (next_op m) (far.replies ++ r ∷ []) ≡ ops ++ op
-      ∷ [] = ops_answered-snoc (next_op m) far.replies r ∙ ap (λ x. ops ++ option_to_list x) at in
-      let either : (list_any (reads_all t) ops || (reads_all t op || false))
-      ≡ true = sym (list_any-append (reads_all t) ops (op ∷ [])) ∙ ap (list_any (reads_all t)) (sym more) ∙ is in
-      elim (or_cases (list_any (reads_all t) ops) (reads_all t op || false) either) [
-        | inl old ↦
-            let was = so old in
-            let further = tiles_rise (far.places t) (next_moments t (Some op) m.writer far)
-            ((one_more (Some op) m.writer far).places t)
-            (next_passes laws t (Some op) m.writer far sound within).tile in
-            omega arith
-        | inr new ↦ elim (or_cases (reads_all t op) false new) [
-          | inl is ↦ let all = op_takes_all op m.writer far.places far.state sound within is in omega arith
-          | inr none ↦ absurd (false≢true none)
-        ]
-      ]
+      let next = next_passes laws t (Some op) m.writer far sound within in
+      let rise = tiles_rise (far.places t) (next_moments t (Some op) m.writer far) _ next.tile in
+      grind (arith, list_any-append, op_takes_all, ops_answered-snoc, or_cases, rise)
 
   first_takes : (n : ℕ) (m : Meaning) (w : WorldState) → IsSound (w.histories t) → m.places t ≤ count (w.histories t) →
       let far : AfterProgram = after_at_most n (next_op m) m.writer m.places w in
@@ -68,10 +44,9 @@ module _ (laws : BufferLaws) (t : ℕ) where
   first_takes zero m w sound within is = absurd (false≢true is)
   first_takes (suc n) m w sound within is =
       let far : AfterProgram = after_at_most n (next_op m) m.writer m.places w in
-      let so_far : Passes (m.places t) (w.histories t) (first_moments t n m w) (far.places t) (far.state.histories t) =
-      first_passes laws t n m w sound within in
-      more_takes (next_op m far.replies) m far (count (w.histories t)) refl so_far.goes_on.sound so_far.within
-      (counts_more (w.histories t) (far.state.histories t) so_far.goes_on) (first_takes n m w sound within) is
+      let so_far = first_passes laws t n m w sound within in
+      more_takes (next_op m far.replies) m far _ refl so_far.goes_on.sound so_far.within
+      (counts_more _ _ so_far.goes_on) (first_takes n m w sound within) is
 
   turn_takes : (m : Meaning) (w : WorldState) → IsSound (w.histories t) → m.places t ≤ count (w.histories t)
       → IsTrue (list_any (reads_all t) (ops_answered (next_op m) (turn m w).replies))
@@ -80,18 +55,6 @@ module _ (laws : BufferLaws) (t : ℕ) where
   turn_takes m w sound within is = first_takes 64 m w sound within is
 
   -- ---- a job
-
-  job_takes : (j : Job) (w : WorldState) → IsSound (w.histories t) → j.system.places t ≤ count (w.histories t)
-      → outcome_of (after_job j w).replies ≢ Skipped
-      → IsTrue (list_any (reads_all t) (after_job j w).job.system.last)
-      → count (w.histories t) ≤ (after_job j w).job.system.places t
-  job_takes j w sound within = grind (arith, cases_Bool, turn_takes)
-
-  job_keeps : (c : ℕ) (j : Job) (w : WorldState) → IsSound (w.histories t) → j.system.places t ≤ count (w.histories t)
-      → c ≤ count (w.histories t)
-      → (IsTrue (list_any (reads_all t) j.system.last) → c ≤ j.system.places t)
-      → IsTrue (list_any (reads_all t) (after_job j w).job.system.last) → c ≤ (after_job j w).job.system.places t
-  job_keeps c j w sound within less has = grind (arith, cases_Bool, turn_takes)
 
   -- ---- turns
 
@@ -102,12 +65,12 @@ module _ (laws : BufferLaws) (t : ℕ) where
   own_turn_takes : (i : ℕ) (s : State) → IsSound (s.world.histories t) → place_of s i t ≤ count (s.world.histories t)
       → (logged_turn s i).outcome ≢ Skipped
       → Took i (count (s.world.histories t)) (after_turn_of i s)
-  own_turn_takes i s sound within ran = grind (arith, job_takes, one_member)
+  own_turn_takes i s sound within ran = grind (arith, cases_Bool, one_member, turn_takes)
 
   turn_keeps : (i j c : ℕ) (s : State) → IsSound (s.world.histories t) → place_of s i t ≤ count (s.world.histories t)
       → c ≤ count (s.world.histories t)
       → Took i c s → Took i c (after_turn_of j s)
-  turn_keeps i j c s sound within less has = grind (arith, job_keeps, one_member)
+  turn_keeps i j c s sound within less has = grind (arith, cases_Bool, one_member, turn_takes)
 
   turns_keep_it : (i c : ℕ) (js : List ℕ) (s : State) → IsSound (s.world.histories t)
       → place_of s i t ≤ count (s.world.histories t) → c ≤ count (s.world.histories t)
@@ -115,9 +78,8 @@ module _ (laws : BufferLaws) (t : ℕ) where
   turns_keep_it i c [] s sound within less has = has
   turns_keep_it i c (j ∷ js) s sound within less has =
       let first = (turn_reads laws i t j s sound within).passes in
-      let more = counts_more (s.world.histories t) ((after_turn_of j s).world.histories t) first.goes_on in
-      turns_keep_it i c js (after_turn_of j s) first.goes_on.sound first.within (omega arith)
-      (turn_keeps i j c s sound within less has)
+      turns_keep_it i c js (after_turn_of j s) first.goes_on.sound first.within
+      (omega (arith, less, counts_more _ _ first.goes_on)) (turn_keeps i j c s sound within less has)
 
   pub takes_by_turn : (i : ℕ) (earlier later : List ℕ) (b : State) → IsSound (b.world.histories t)
       → place_of b i t ≤ count (b.world.histories t)
@@ -129,5 +91,4 @@ module _ (laws : BufferLaws) (t : ℕ) where
   takes_by_turn i (j ∷ more) later b sound within ran =
       let first = (turn_reads laws i t j b sound within).passes in
       takes_by_turn i more later (after_turn_of j b) first.goes_on.sound first.within
-      (All-tail (λ turn. turn.system ≡ i → turn.outcome ≢ Skipped) (logged_turn b j)
-      (after_turns_of (more ++ i ∷ later) (after_turn_of j b)).turns ran)
+      (λ k d lt. ran (suc k) d (omega arith))

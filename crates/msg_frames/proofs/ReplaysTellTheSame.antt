@@ -1,16 +1,17 @@
 -- A replay tells of each system what the frame tells of it.
-use Rattle.std.proofs.Common.{arith, ◌≡◌, ◌≢◌, ℕ, ◌==◌, ◌⊎◌, inl, inr, List, [], ◌∷◌, ◌++◌, map, refl, ap, sym, subst, ◌∙◌}
-use Rattle.std.specs.Prelude.{All, AllPairs, Contains, IsPermutation, flat_map, if◌then◌else◌}
-use Rattle.std.proofs.lemmas.Bool.{cases_Bool, eqb-false, eqb-true}
-use Rattle.std.proofs.lemmas.List.{append-nil}
-use Rattle.std.proofs.lemmas.List.Elements.{All-contains}
-use Rattle.std.proofs.lemmas.List.Sorted.{Contains-permutation, IsPermutation-sym}
+use Rattle.std.proofs.Common.{arith, ◌≡◌, ◌≢◌, ℕ, ◌==◌, inl, inr, List, [], ◌∷◌, ◌++◌, map, refl, ap, sym, subst, ◌∙◌, Bool, false, suc, eq-eqb, ne_eqb, ap₂}
+use Rattle.std.specs.Prelude.{AllPairs, Contains, IsPermutation, flat_map, if◌then◌else◌, All}
+use Rattle.std.proofs.lemmas.Bool.{cases_Bool, eqb-true}
+use Rattle.std.proofs.lemmas.List.{append-nil, get_or-map, length-map}
+use Rattle.std.proofs.lemmas.List.Sorted.{Contains-permutation, list_any-IsPermutation}
 use Rattle.msg_order.specs.Prelude.{TurnOrderIsLawful}
-use Rattle.msg_system.specs.declared.reply.Reply.{Reply}
 use Rattle.msg_frames.specs.Prelude.{Frame, IsMixedRun, IsReplay, IsRun, Log, ReplaysTellACompleteRun, ReplaysTellTheSame, RunsAreComplete, State, Turn, answers, answers_in, before_turns, join_flags, systems_in}
-use Rattle.msg_frames.proofs.ElementsAndPairs.{pairs_head, pairs_tail}
-use Rattle.msg_order.proofs.Elements.{Contains-cases, Contains-head, Contains-map, Contains-tail, not_in_none}
+use Rattle.msg_frames.proofs.ElementsAndPairs.{pairs_tail}
+use Rattle.msg_order.proofs.Elements.{Contains-cases, not_in_none, Contains-list_any}
 use Rattle.msg_frames.proofs.RunsAreUnique.{order_is_among}
+use Rattle.std.specs.List.{list_any}
+use Rattle.std.proofs.lemmas.List.Folds.{list_any_none}
+use Rattle.msg_frames.proofs.ReaderOverTurns.{answers_among}
 
 -- ---- what is told under one key, in a list in which each key stands once
 
@@ -18,62 +19,46 @@ module _ {X Y : Type 0} (key : X → ℕ) (f : X → List Y) (i : ℕ) where
   abbrev own : X → List Y
   own x = if key x == i then f x else []
 
-  its_own : (x : X) → key x ≡ i → own x ≡ f x
-  its_own x e = elim (cases_Bool (key x == i)) [ inl t ↦ rw t refl | inr n ↦ absurd (eqb-false (key x) i n e) ]
+  abbrev test : X → Bool
+  test x = key x == i
 
-  not_own : (x : X) → key x ≢ i → own x ≡ []
-  not_own x ne = elim (cases_Bool (key x == i)) [ inl t ↦ absurd (ne (eqb-true (key x) i t)) | inr n ↦ rw n refl ]
+  none_told : (xs : List X) → list_any test xs ≡ false → flat_map own xs ≡ []
+  none_told [] none = refl
+  none_told (x ∷ xs) none = grind (arith, cases_Bool, none_told xs)
 
-  none_told : (xs : List X) → ((x : X) → Contains xs x → key x ≢ i) → flat_map own xs ≡ []
-  none_told [] h = refl
-  none_told (x ∷ xs) h = ap (λ ys. ys ++ flat_map own xs) (not_own x (h x (Contains-head x xs)))
-      ∙ none_told xs (λ y c. h y (Contains-tail x xs y c))
-
-  one_told : (xs : List X) → AllPairs (λ a b. a ≢ b) (map key xs) → (x : X) → Contains xs x → key x ≡ i
+  one_told : (xs : List X) → AllPairs (λ a b. key a ≢ key b) xs → (x : X) → Contains xs x → key x ≡ i
       → flat_map own xs ≡ f x
   one_told [] once x c e = absurd (not_in_none x c)
-  one_told (y ∷ ys) once x c e =
-      let apart : All (λ k. key y ≢ k) (map key ys) = pairs_head (λ a b. a ≢ b) _ _ once in
-      elim (Contains-cases _ _ _ c) [
-        | inl same ↦
-            let is : key y ≡ i = ap key same ∙ e in
-            let rest : flat_map own ys
-            ≡ [] =
-            none_told _ (λ z d at. All-contains (λ k. key y ≢ k) (map key ys) (key z) apart (Contains-map key _ _ d)
-            (is ∙ sym at)) in
-            ap (λ zs. own y ++ zs) rest ∙ append-nil (own y) ∙ its_own _ is ∙ ap f same
-        | inr later ↦
-            let ne : key y ≢ i = λ at. All-contains (λ k. key y ≢ k) (map key ys) (key x) apart
-            (Contains-map key _ _ later) (at ∙ sym e) in
-            ap (λ zs. zs ++ flat_map own ys) (not_own _ ne) ∙ one_told ys (pairs_tail (λ a b. a ≢ b) _ _ once) x later e
-      ]
-
-  look : (xs : List X) → ((x : X) × (Contains xs x × (key x ≡ i))) ⊎ ((x : X) → Contains xs x → key x ≢ i)
-  look [] = inr (λ x c. absurd (not_in_none x c))
-  look (x ∷ xs) = elim (cases_Bool (key x == i)) [
-    | inl t ↦ inl (x, (Contains-head _ _, eqb-true (key x) i t))
-    | inr n ↦ elim (look xs) [
-      | inl some ↦ inl (some.0, (Contains-tail _ _ _ some.1.0, some.1.1))
-      | inr none ↦ inr (λ y c at. elim (Contains-cases _ _ _ c)
-          [ inl e ↦ eqb-false (key x) i n (ap key e ∙ at) | inr d ↦ none _ d at ])
-    ]
+  one_told (y ∷ ys) once x c e = elim (Contains-cases y ys x c) [
+    | inl same ↦
+        let is : key y ≡ i = ap key same ∙ e in
+        let others : All (λ z. test z ≡ false) ys =
+        λ k d lt. ne_eqb _ i (λ at. once 0 (suc k) d (omega arith) (omega arith) (is ∙ sym at)) in
+        rw (eq-eqb (key y) i is, none_told ys (list_any_none test ys others), append-nil, same) refl
+    | inr later ↦
+        let ne : key y ≢ i = λ at. once 0 (suc later.0) x (omega arith) (omega (arith, later.1))
+        (at ∙ sym (ap key later.2 ∙ e)) in
+        rw (ne_eqb (key y) i ne) (one_told ys (pairs_tail (λ a b. key a ≢ key b) y ys once) x later e)
   ]
+
+  keys_once : (xs : List X) → AllPairs (λ a b. a ≢ b) (map key xs) → AllPairs (λ a b. key a ≢ key b) xs
+  keys_once xs once j k d lt l e = once j k (key d) lt (omega (arith, length-map xs key, l)) (grind (arith, get_or-map))
 
   told_alike : (xs ys : List X) → IsPermutation xs ys → AllPairs (λ a b. a ≢ b) (map key xs)
       → AllPairs (λ a b. a ≢ b) (map key ys) → flat_map own xs ≡ flat_map own ys
-  told_alike xs ys moved once once' = elim (look xs) [
-    | inl some ↦ one_told xs once some.0 some.1.0 some.1.1
-        ∙ sym (one_told ys once' some.0 (Contains-permutation xs ys some.0 moved some.1.0) some.1.1)
-    | inr none ↦ none_told xs none ∙ sym
-        (none_told ys (λ y c. none y (Contains-permutation ys xs y (IsPermutation-sym xs ys moved) c)))
+  told_alike xs ys moved once once' = elim (cases_Bool (list_any test xs)) [
+    | inl some ↦
+        let x = Contains-list_any test xs some in
+        one_told xs (keys_once xs once) x.0 x.1.0 (eqb-true _ _ x.1.1)
+        ∙ sym (one_told ys (keys_once ys once') x.0 (Contains-permutation xs ys x.0 moved x.1.0) (eqb-true _ _ x.1.1))
+    | inr none ↦ none_told xs none ∙ sym (none_told ys (sym (list_any-IsPermutation test xs ys moved) ∙ none))
   ]
 
 -- ---- replays
 
 turns_alike : TurnOrderIsLawful → (frame : Frame) (order : List ℕ) (s : State) (log : Log) (u : State)
     (replay : IsReplay frame order s log u) (i : ℕ)
-    → flat_map (λ (turn : Turn). if turn.system == i then answers turn.outcome else []) log.turns
-    ≡ flat_map (λ (turn : Turn). if turn.system == i then answers turn.outcome else []) replay.settled.turns
+    → answers_among i log.turns ≡ answers_among i replay.settled.turns
 turns_alike lawful frame order s log u replay i =
     let b : State = before_turns frame.posts s in
     let settled = replay.is_frame.in_order in
@@ -100,18 +85,12 @@ settles lawful (frame ∷ frames) s (log ∷ logs) u x =
       | inl ran ↦ record {
         settled = log ∷ rest.settled;
         is_run = (x.0, ran, rest.is_run);
-        alike = λ i.
-            ap (λ (xs : List (List Reply)). flat_map
-            (λ (turn : Turn). if turn.system == i then answers turn.outcome else []) log.turns ++ xs)
-            (rest.alike i);
+        alike = λ i. ap (λ xs. answers_among i log.turns ++ xs) (rest.alike i);
       }
       | inr replay ↦ record {
         settled = replay.1.settled ∷ rest.settled;
         is_run = (x.0, replay.1.is_frame, rest.is_run);
-        alike = λ i. ap (λ xs. xs ++ answers_in i logs) (turns_alike lawful frame replay.0 s log x.0 replay.1 i)
-            ∙ ap (λ (xs : List (List Reply)). flat_map
-            (λ (turn : Turn). if turn.system == i then answers turn.outcome else []) replay.1.settled.turns ++ xs)
-            (rest.alike i);
+        alike = λ i. ap₂ (λ xs ys. xs ++ ys) (turns_alike lawful frame replay.0 s log x.0 replay.1 i) (rest.alike i);
       }
     ]
 settles lawful frames s logs u x = absurd x

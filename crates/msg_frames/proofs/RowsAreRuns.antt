@@ -1,13 +1,13 @@
 -- Each worked run is a run as the definitions say: the order of its turns is the settled one. The accesses, the settled
 -- order and the batch numbers are computed.
-use Rattle.std.proofs.Common.{◌≡◌, ℕ, zero, suc, ◌*◌, ◌^◌, ◌%◌, ◌<◌, ◌≤◌, inl, inr, Bool, true, false, cond, ◌&&◌, ◌||◌, List, [], ◌∷◌, Option, Some, None, map, refl, ap, sym, subst, ◌∙◌, arith}
+use Rattle.std.proofs.Common.{◌≡◌, ℕ, zero, suc, ◌*◌, ◌^◌, ◌%◌, ◌<◌, ◌≤◌, inl, inr, Bool, true, false, cond, ◌&&◌, List, [], ◌∷◌, Option, Some, None, map, refl, ◌∙◌, arith}
 use Rattle.std.specs.Prelude.{nat_lt, bit_or, slice_index_or}
 use Rattle.std.specs.List.{range_with_len, list_all, list_any}
-use Rattle.std.proofs.lemmas.Bool.{cases_Bool, cases_eq, cases_lt, and_parts, or_cases, false≢true, false_from_ne_true, eqb-true, eq-eqb, ne_eqb, ltb-true}
+use Rattle.std.proofs.lemmas.Bool.{cases_Bool, cases_lt, and_parts, false≢true}
 use Rattle.std.proofs.lemmas.List.{get_or_past}
 use Rattle.std.proofs.lemmas.List.FromFn.{get_or-map-range_with_len, length-map-range_with_len}
 use Rattle.msg_world.specs.declared.access.Access.{Access}
-use Rattle.msg_world.specs.Prelude.{Part, OfType, OfResource, Registry, same_part, has_bit, reads, writes, no_access, Fits}
+use Rattle.msg_world.specs.Prelude.{Part, OfType, OfResource, Registry, has_bit, no_access, Fits}
 use Rattle.msg_world.proofs.Bits.{has_bit-zero, has_bit-set}
 use Rattle.msg_order.specs.Prelude.{access_of}
 use Rattle.msg_order.proofs.Computing.{each_below, is_turn_order, in_turn_by_test}
@@ -15,10 +15,11 @@ use Rattle.msg_system.specs.declared.op.Op.{Op}
 use Rattle.msg_system.specs.declared.condition.Condition.{Condition}
 use Rattle.msg_system.specs.declared.op.Op.TheVariants.{Read}
 use Rattle.msg_system.specs.declared.program.Program.{Program}
-use Rattle.msg_system.specs.Prelude.{IsAccessOf, Needs, conditions_of, is_part, job_needs, op_parts, probe_part, program_needs, some_condition_reads, some_op_reads, turn, with_conditions}
+use Rattle.msg_system.specs.Prelude.{IsAccessOf, Needs, conditions_of, is_part, job_needs, op_parts, probe_part, program_needs, turn}
 use Rattle.msg_frames.specs.Prelude.{AfterFrame, Frame, IsRunOf, IsTurnOrderOf, OrderedFrames, Setup, State, alone, before_turns, conditions_frames, contrary, contrary_frames, drained, drained_frames, early_frames, echo, echo_frames, fourth, fourth_frames, frame_in, gated, gated_frames, join_flags, lag, lag_frames, late, late_frames, needs_of, nobody, numbered, program, relay, relay_frames, signallers, signallers_frames, start_of, tally, tally_frames, two_conditions, writers, writers_frames}
 use Rattle.msg_frames.proofs.SystemsStay.{before_keeps, frame_keeps, joining_on_keeps}
 use Rattle.msg_frames.proofs.FramesInOrder.{frame_in_order}
+use Rattle.std.proofs.lemmas.Bool.Decides.{eqb_tells, nat_tests}
 
 -- ---- accesses, computed
 
@@ -27,29 +28,9 @@ abbrev mask : (ℕ → Bool) → ℕ → ℕ
 mask test zero = 0
 mask test (suc n) = cond (test n) (bit_or (mask test n) (1 * 2 ^ n % 2 ^ 64)) (mask test n)
 
-mask_above : (test : ℕ → Bool) (n k : ℕ) → n ≤ 64 → n ≤ k → has_bit (mask test n) k ≡ false
-mask_above test zero k few h = has_bit-zero k
-mask_above test (suc n) k few h =
-    grind (arith, cases_Bool, has_bit-set, ne_eqb, mask_above test n k (omega arith) (omega arith))
-
-mask_below : (test : ℕ → Bool) (n k : ℕ) → n ≤ 64 → k < n → has_bit (mask test n) k ≡ test k
-mask_below test zero k few h = absurd (omega arith)
-mask_below test (suc n) k few h = elim (cases_eq k n) [
-  | inl e ↦ elim (cases_Bool (test n)) [
-    | inl t ↦ rw (t, e) (has_bit-set (mask test n) n n (omega arith) ∙ rw (eq-eqb n n refl, t) refl)
-    | inr f ↦ rw (f, e) (mask_above test n n (omega arith) (omega arith) ∙ sym f)
-  ]
-  | inr ne ↦
-      let rest : has_bit (mask test n) k ≡ test k = mask_below test n k (omega arith) (omega arith) in
-      elim (cases_Bool (test n)) [
-        | inl t ↦ rw t (has_bit-set (mask test n) n k (omega arith) ∙ rw (ne_eqb k n ne) rest)
-        | inr f ↦ rw f rest
-      ]
-]
-
-mask_is : (test : ℕ → Bool) (n : ℕ) → n ≤ 64 → ((k : ℕ) → test k ≡ true → k < n) → (k : ℕ)
-    → has_bit (mask test n) k ≡ test k
-mask_is test n few within k = grind (arith, cases_lt, false_from_ne_true, mask_above, mask_below)
+mask_at : (test : ℕ → Bool) (n k : ℕ) → n ≤ 64 → has_bit (mask test n) k ≡ (nat_lt k n && test k)
+mask_at test zero k few = grind (arith, has_bit-zero, nat_tests)
+mask_at test (suc n) k few = grind (arith, cases_Bool, has_bit-set, nat_tests, mask_at test n k (omega arith))
 
 abbrev access_for : ℕ → Needs → Access
 access_for n needs = record {
@@ -60,15 +41,11 @@ access_for n needs = record {
   registry = needs.writes Registry;
 }
 
-bit_is_below : (test : ℕ → Bool) (n k : ℕ) → n ≤ 64 → has_bit (mask test n) k ≡ true → k < n
-bit_is_below test n k few t =
-    elim (cases_lt k n) [ inl l ↦ l | inr l ↦ absurd (false≢true (sym (mask_above test n k few l) ∙ t)) ]
-
 access_fits : (n : ℕ) (needs : Needs) → n ≤ 64 → Fits n n (access_for n needs)
-access_fits n needs few = grind (arith, bit_is_below, or_cases)
+access_fits n needs few = grind (arith, cases_Bool, mask_at, nat_tests)
 
 nothing_fits : (n : ℕ) → Fits n n no_access
-nothing_fits n = grind (arith, false≢true, has_bit-zero, or_cases)
+nothing_fits n = grind (arith, has_bit-zero, nat_tests)
 
 -- ---- a job of types and resources below n
 
@@ -86,26 +63,10 @@ abbrev passes : (Part → Bool) → Option Part → Bool
 passes test None = true
 passes test (Some p) = test p
 
-same_is : (p q : Part) → same_part p q ≡ true → p ≡ q
-same_is (OfType t) (OfType u) h = ap OfType (eqb-true t u h)
-same_is (OfResource r) (OfResource s) h = ap OfResource (eqb-true r s h)
-same_is Registry Registry h = refl
-same_is p q h = cc
-
-part_passes : (test : Part → Bool) (o : Option Part) (p : Part) → passes test o ≡ true → is_part o p ≡ true
-    → test p ≡ true
-part_passes test None p t h = absurd (false≢true h)
-part_passes test (Some q) p t h = subst (λ z. test z ≡ true) (sym (same_is p q h)) t
-
 any_passes : {X : Type 0} (test : Part → Bool) (part : X → Option Part) (xs : List X) (p : Part)
     → list_all (λ x. passes test (part x)) xs ≡ true → list_any (λ x. is_part (part x) p) xs ≡ true → test p ≡ true
 any_passes test part [] p all h = absurd (false≢true h)
-any_passes test part (x ∷ xs) p all h =
-    let both = and_parts (passes test (part x)) (list_all (λ x. passes test (part x)) xs) all in
-    elim (or_cases (is_part (part x) p) (list_any (λ x. is_part (part x) p) xs) h) [
-      | inl a ↦ part_passes test (part x) p both.0 a
-      | inr a ↦ any_passes test part xs p both.1 a
-    ]
+any_passes test part (x ∷ xs) p all h = grind (arith, cases_Bool, eqb_tells, any_passes test part xs p)
 
 abbrev is_within : ℕ → List Op → List Condition → Bool
 is_within n ops cs =
@@ -116,51 +77,20 @@ is_within n ops cs =
 reads_within : (n : ℕ) (ops : List Op) (cs : List Condition) → is_within n ops cs ≡ true → (p : Part)
     → (job_needs ops cs).reads p ≡ true → may_read n p ≡ true
 reads_within n ops cs w p h =
-    let all =
-    and_parts (list_all (λ op. passes (may_read n) (op_parts op).read) ops && list_all
-    (λ op. passes (may_write n) (op_parts op).written) ops)
-    (list_all (λ c. passes (may_read n) (Some (probe_part c.probe))) cs) w in
-    let own = and_parts (list_all (λ op. passes (may_read n) (op_parts op).read) ops)
-    (list_all (λ op. passes (may_write n) (op_parts op).written) ops) all.0 in
-    elim (or_cases ((program_needs ops).reads p) (some_condition_reads cs p)
-    (and_parts ((program_needs ops).reads p || some_condition_reads cs p) _ h).0) [
-      | inl x ↦ any_passes (may_read n) (λ op. (op_parts op).read) ops p own.0 (and_parts (some_op_reads ops p) _ x).0
-      | inr x ↦ any_passes (may_read n) (λ c. Some (probe_part c.probe)) cs p all.1 x
-    ]
+    let by_ops = any_passes (may_read n) (λ op. (op_parts op).read) ops p in
+    let by_conditions = any_passes (may_read n) (λ c. Some (probe_part c.probe)) cs p in
+    grind (arith, by_conditions, by_ops, cases_Bool)
 
 writes_within : (n : ℕ) (ops : List Op) (cs : List Condition) → is_within n ops cs ≡ true → (p : Part)
     → (job_needs ops cs).writes p ≡ true → may_write n p ≡ true
-writes_within n ops cs w p h =
-    let all =
-    and_parts (list_all (λ op. passes (may_read n) (op_parts op).read) ops && list_all
-    (λ op. passes (may_write n) (op_parts op).written) ops)
-    (list_all (λ c. passes (may_read n) (Some (probe_part c.probe))) cs) w in
-    let own = and_parts (list_all (λ op. passes (may_read n) (op_parts op).read) ops)
-    (list_all (λ op. passes (may_write n) (op_parts op).written) ops) all.0 in
-    any_passes (may_write n) (λ op. (op_parts op).written) ops p own.1 h
+writes_within n ops cs w p h = grind (arith, cases_Bool, any_passes (may_write n) (λ op. (op_parts op).written) ops p)
 
 access_is : (n : ℕ) (ops : List Op) (cs : List Condition) → n ≤ 64 → is_within n ops cs ≡ true
     → IsAccessOf (job_needs ops cs) (access_for n (job_needs ops cs))
-access_is n ops cs few w = record { reads = read; writes = written }
-  where
-    needs : Needs
-    needs = job_needs ops cs
-
-    read : (p : Part) → reads (access_for n needs) p ≡ needs.reads p
-    read (OfType t) =
-        mask_is (λ t. needs.reads (OfType t)) n few (λ k h. ltb-true k n (reads_within n ops cs w (OfType k) h)) t
-    read (OfResource r) =
-        mask_is (λ r. needs.reads (OfResource r)) n few
-        (λ k h. ltb-true k n (reads_within n ops cs w (OfResource k) h)) r
-    read Registry =
-        sym (false_from_ne_true (needs.reads Registry) (λ h. absurd (false≢true (reads_within n ops cs w Registry h))))
-
-    written : (p : Part) → writes (access_for n needs) p ≡ needs.writes p
-    written (OfType t) =
-        mask_is (λ t. needs.writes (OfType t)) n few (λ k h. ltb-true k n (writes_within n ops cs w (OfType k) h)) t
-    written (OfResource r) = mask_is (λ r. needs.writes (OfResource r)) n few
-        (λ k h. ltb-true k n (writes_within n ops cs w (OfResource k) h)) r
-    written Registry = refl
+access_is n ops cs few w = record {
+  reads = λ p. grind (arith, cases_Bool, mask_at, nat_tests, reads_within n ops cs w p);
+  writes = λ p. grind (arith, cases_Bool, mask_at, nat_tests, writes_within n ops cs w p);
+}
 
 -- ---- the turns of a frame
 
@@ -194,11 +124,10 @@ turns_of programs s order are t =
     let access : ℕ → Access = λ i. access_for most (needs_of (s.members i)) in
     let is : (i : ℕ) → i < s.systems → access_of (accesses_of s) i
     ≡ access i = λ i lt. get_or-map-range_with_len access 0 s.systems i i no_access lt (omega arith) in
+    let all = length-map-range_with_len access 0 s.systems in
     let fit : (i : ℕ) → Fits most most (access_of (accesses_of s) i) = λ i. elim (cases_lt i s.systems) [
-      | inl lt ↦ subst (Fits most most) (sym (is i lt)) (access_fits most (needs_of (s.members i)) (omega arith))
-      | inr past ↦ subst (Fits most most)
-          (sym (get_or_past (accesses_of s) i no_access (omega (arith, length-map-range_with_len access 0 s.systems))))
-          (nothing_fits most)
+      | inl lt ↦ rw (is i lt) (access_fits most (needs_of (s.members i)) (omega arith))
+      | inr past ↦ rw (get_or_past (accesses_of s) i no_access (omega (arith, all))) (nothing_fits most)
     ] in
     let turn = in_turn_by_test most (accesses_of s) s.rules (join_flags s) order fit both.1 in
     record {
@@ -206,12 +135,10 @@ turns_of programs s order are t =
       is_order = record {
         accesses = accesses_of s;
         of_systems = record {
-          each = length-map-range_with_len access 0 s.systems;
-          of_needs = λ i lt. subst (IsAccessOf (needs_of (s.members i))) (sym (is i lt))
-              (subst (λ (n : Needs). IsAccessOf (with_conditions n (conditions_of (s.members i).job))
-              (access_for most (with_conditions n (conditions_of (s.members i).job)))) (sym (are i))
-              (access_is most (ops_at programs i) (conditions_of (s.members i).job) (omega arith)
-              (each_below (job_is_within programs s) s.systems i both.0 lt)));
+          each = all;
+          of_needs = λ i lt. rw (is i lt, are i) (access_is most (ops_at programs i)
+              (conditions_of (s.members i).job) (omega arith)
+              (each_below (job_is_within programs s) s.systems i both.0 lt));
         };
         is_settled = turn.is_settled;
       };

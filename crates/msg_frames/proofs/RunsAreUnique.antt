@@ -1,83 +1,51 @@
 -- The systems have one settled order, a frame has one log, and so has a run.
-use Rattle.std.proofs.Common.{arith, ◌≡◌, ℕ, ◌<◌, ◌||◌, inl, inr, Bool, List, [], ◌∷◌, length, refl, ap, sym, subst, ◌∙◌}
-use Rattle.std.specs.Prelude.{IsTrue}
+use Rattle.std.proofs.Common.{arith, ◌≡◌, ℕ, ◌<◌, inl, inr, Bool, List, [], ◌∷◌, length, refl, sym, ◌∙◌}
 use Rattle.std.proofs.lemmas.Bool.{and_parts}
 use Rattle.std.proofs.lemmas.List.Elements.{All-contains, filter_passes}
 use Rattle.std.proofs.lemmas.List.FromFn.{length-map-range_with_len}
 use Rattle.msg_world.specs.declared.access.Access.{Access}
-use Rattle.msg_world.specs.Prelude.{Part, Conflict, uses, writes}
-use Rattle.msg_order.specs.declared.rule.Rule.{Rule}
-use Rattle.msg_order.specs.Prelude.{AreInConflict, Graph, IsAcyclic, IsAmong, IsSettledOrder, IsTurnOrder, SettledOrderIsUnique, Settles, SettlingMakesNoCycle, TurnOrderIsUnique, access_of, has_joined, pairs, rules_among}
-use Rattle.msg_frames.specs.Prelude.{AreAccessesOf, FramesAreUnique, IsOrderOf, IsRun, IsTurnOrderOf, NoCycle, RunsAreUnique, State, SystemsHaveOneOrder, frame_in, has_begun, join_flags, systems_in}
+use Rattle.msg_order.specs.Prelude.{AreInConflict, Graph, IsAcyclic, IsAmong, SettledOrderIsUnique, Settles, SettlingMakesNoCycle, TurnOrderIsUnique, pairs, rules_among}
+use Rattle.msg_frames.specs.Prelude.{AreAccessesOf, FramesAreUnique, IsOrderOf, IsTurnOrderOf, NoCycle, RunsAreUnique, State, SystemsHaveOneOrder, has_begun, join_flags}
 use Rattle.msg_order.proofs.Elements.{Contains-cases}
 use Rattle.msg_frames.proofs.SystemsStay.{joined_below}
 
 -- ---- conflicts
 
--- accesses with the same parts are in the same conflicts
-conflict_stays : (a b c d : Access) → ((p : Part) → writes a p ≡ writes c p) → ((p : Part) → uses a p ≡ uses c p)
-    → ((p : Part) → writes b p ≡ writes d p)
-    → ((p : Part) → uses b p ≡ uses d p) → Conflict a b → Conflict c d
-conflict_stays a b c d wa ua wb ub x = grind arith
-
 module _ (s : State) (a b : List Access) (are : AreAccessesOf s a) (are' : AreAccessesOf s b) where
-  same_writes : (i : ℕ) → i < s.systems → (p : Part) → writes (access_of a i) p ≡ writes (access_of b i) p
-  same_writes i lt p = (are.of_needs i lt).writes p ∙ sym ((are'.of_needs i lt).writes p)
-
-  same_uses : (i : ℕ) → i < s.systems → (p : Part) → uses (access_of a i) p ≡ uses (access_of b i) p
-  same_uses i lt p k = ((are.of_needs i lt).reads p ∙ sym ((are'.of_needs i lt).reads p)) k || same_writes i lt p k
-
   same_conflict : (i j : ℕ) → AreInConflict a (join_flags s) i j → AreInConflict b (join_flags s) i j
   same_conflict i j h =
       let li : i < s.systems = joined_below s i h.first_joined in
       let lj : j < s.systems = joined_below s j h.second_joined in
-      record {
-        first_joined = h.first_joined;
-        second_joined = h.second_joined;
-        conflict = conflict_stays _ _ _ _ (same_writes _ li) (same_uses _ li) (same_writes _ lj)
-            (same_uses _ lj) h.conflict;
-      }
+      grind (arith, are.of_needs i li, are'.of_needs i li, are.of_needs j lj, are'.of_needs j lj)
 
 -- ---- settled orders
 
 settles_by : (C D : ℕ → ℕ → Type 0) → ((i j : ℕ) → C i j → D i j) → ((i j : ℕ) → D i j → C i j)
     → (ps : List (ℕ × ℕ)) (g h : Graph) → Settles C g ps h → Settles D g ps h
 settles_by C D to from [] g h e = e
-settles_by C D to from (p ∷ ps) g h x = elim x [
-  | inl gains ↦ inl ((to p.0 _ gains.0.0, gains.0.1), settles_by C D to from ps (p ∷ g) _ gains.1)
-  | inr stays ↦ inr (λ d. stays.0 (from p.0 _ d.0, d.1), settles_by C D to from ps g _ stays.1)
-]
-
-settled_by_other : (s : State) (a b : List Access) → AreAccessesOf s a → AreAccessesOf s b → (g : Graph)
-    → IsSettledOrder a s.rules (join_flags s) g → IsSettledOrder b s.rules (join_flags s) g
-settled_by_other s a b are are' g settled = grind (arith, same_conflict, settles_by)
+settles_by C D to from (p ∷ ps) g h x = grind (arith, to, from, settles_by C D to from ps)
 
 pub one_order : SettledOrderIsUnique → SystemsHaveOneOrder
 one_order unique s g h x y = unique x.accesses s.rules (join_flags s) g h x.is_settled
-    (settled_by_other s y.accesses x.accesses y.of_systems x.of_systems h y.is_settled)
+    (grind (arith, same_conflict, settles_by, x.of_systems, y.of_systems, y.is_settled))
 
 -- ---- edges among those that have joined
 
-rules_are_among : (who : List Bool) (rules : List Rule) → IsAmong who (rules_among who rules)
-rules_are_among who rules i j e = grind (arith, All-contains, and_parts, filter_passes)
-
 settles_among : (accesses : List Access) (who : List Bool) (ps : List (ℕ × ℕ)) (g h : Graph) → IsAmong who g
     → Settles (AreInConflict accesses who) g ps h → IsAmong who h
-settles_among accesses who [] g h among e = subst (IsAmong who) e among
+settles_among accesses who [] g h among e = rw (← e) among
 settles_among accesses who (p ∷ ps) g h among x = elim x [
-  | inl gains ↦ settles_among _ who ps (p ∷ g) h (λ i j e. elim (Contains-cases _ _ _ e) [
-    | inl is ↦ subst (λ (q : ℕ × ℕ). IsTrue (has_joined who q.0) × IsTrue (has_joined who q.1)) is
-        (gains.0.0.first_joined, gains.0.0.second_joined)
-    | inr old ↦ among _ _ old
-  ]) gains.1
+  | inl gains ↦ settles_among _ who ps (p ∷ g) h
+      (λ i j e. grind (arith, among i j, Contains-cases p g (i, j) e, gains.0.0)) gains.1
   | inr stays ↦ settles_among _ who ps g h among stays.1
 ]
 
 -- ---- frames and runs
 
 pub order_is_among : (s : State) (g : Graph) → IsOrderOf s g → IsAmong (join_flags s) g
-order_is_among s g o = settles_among o.accesses (join_flags s) (pairs (length o.accesses))
-    (rules_among (join_flags s) s.rules) g (rules_are_among (join_flags s) s.rules) o.is_settled
+order_is_among s g o =
+    settles_among o.accesses (join_flags s) (pairs (length o.accesses)) (rules_among (join_flags s) s.rules) g
+    (λ i j e. grind (arith, All-contains, and_parts, filter_passes)) o.is_settled
 
 pub order_has_no_cycle : SettlingMakesNoCycle → (s : State) (g : Graph) → NoCycle s → IsOrderOf s g → IsAcyclic g
 order_has_no_cycle acyclic s g none o = acyclic o.accesses s.rules (join_flags s) g o.is_settled
@@ -86,22 +54,15 @@ order_has_no_cycle acyclic s g none o = acyclic o.accesses s.rules (join_flags s
 module _ (one : SettledOrderIsUnique) (turns : TurnOrderIsUnique) where
   pub one_turn_order : (s : State) (xs ys : List ℕ) → IsTurnOrderOf s xs → IsTurnOrderOf s ys → xs ≡ ys
   one_turn_order s xs ys x y =
-      let same : y.settled ≡ x.settled = one_order one s y.settled x.settled y.is_order x.is_order in
-      turns x.settled (join_flags s) xs ys x.in_order (subst (λ g. IsTurnOrder g (join_flags s) ys) same y.in_order)
+      turns x.settled (join_flags s) xs ys x.in_order
+      (rw (one_order one s y.settled x.settled y.is_order x.is_order) at y.in_order)
 
   pub one_frame : FramesAreUnique
-  one_frame frame s u v log other x y =
-      let order : systems_in log ≡ systems_in other = one_turn_order _ _ _ x.in_order y.in_order in (
-        x.tells ∙ ap (λ xs. (frame_in xs frame s).log) order ∙ sym y.tells,
-        x.leaves ∙ ap (λ xs. (frame_in xs frame s).state) order ∙ sym y.leaves,
-      )
+  one_frame frame s u v log other x y = grind (arith, one_turn_order _ _ _ x.in_order y.in_order)
 
   pub one_run : RunsAreUnique
   one_run [] s u v [] [] x y = (refl, x ∙ sym y)
-  one_run [] s u v [] (other ∷ others) x y = absurd y
-  one_run (frame ∷ frames) s u v (log ∷ logs) [] x y = absurd y
   one_run (frame ∷ frames) s u v (log ∷ logs) (other ∷ others) x y =
       let here = one_frame frame s x.0 y.0 log other x.1 y.1 in
-      let rest = one_run frames x.0 u v logs others x.2 (subst (λ m. IsRun frames m others v) (sym here.1) y.2) in
-      (ap (λ l. l ∷ logs) here.0 ∙ ap (λ ls. other ∷ ls) rest.0, rest.1)
-  one_run frames s u v logs others x y = absurd x
+      grind (arith, here, one_run frames x.0 u v logs others x.2 (rw (here.1) y.2))
+  one_run frames s u v logs others x y = grind arith

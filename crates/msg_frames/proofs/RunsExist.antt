@@ -1,7 +1,7 @@
 -- A state has a frame, and so a run, where its rules make no cycle.
-use Rattle.std.proofs.Common.{[], ◌∷◌, refl, sym, subst}
+use Rattle.std.proofs.Common.{[], ◌∷◌, refl}
 use Rattle.msg_order.specs.Prelude.{SettledOrderExists, SettlingMakesNoCycle, TurnOrderExists}
-use Rattle.msg_frames.specs.Prelude.{Frame, FramesExist, IsFrame, IsOrderOf, IsTurnOrderOf, Log, RunsExist, SameSystems, State, before_turns, frame_in, join_flags, systems_in}
+use Rattle.msg_frames.specs.Prelude.{FramesExist, IsOrderOf, IsTurnOrderOf, RunsExist, SameSystems, State, before_turns, frame_in, join_flags, systems_in}
 use Rattle.msg_frames.proofs.FramesInOrder.{frame_in_order}
 use Rattle.msg_frames.proofs.SystemsStay.{accesses_stay, before_keeps, frame_keeps, no_cycle_stays}
 use Rattle.msg_frames.proofs.RunsAreUnique.{order_has_no_cycle, order_is_among}
@@ -19,14 +19,11 @@ module _ (settled : SettledOrderExists) (acyclic : SettlingMakesNoCycle) (turns 
       let in_order : IsTurnOrderOf b order.0 = record { settled = g.0; is_order = is_order; in_order = order.1 } in
       ((frame_in order.0 frame s).log, (frame_in order.0 frame s).state, frame_in_order _ _ _ _ in_order refl)
 
-  after_frame : (frame : Frame) (s u : State) (log : Log) → IsFrame frame s log u → SameSystems s u
-  after_frame frame s u log is = subst (SameSystems s) (sym is.leaves) (frame_keeps (systems_in log) frame s)
-
   pub some_run : RunsExist
   some_run [] s accesses none are = ([], s, refl)
   some_run (frame ∷ frames) s accesses none are =
       let here = some_frame frame s accesses none are in
-      let same : SameSystems s here.1 = after_frame frame s here.1 here.0 here.2 in
+      let same : SameSystems s here.1 = rw (here.2.leaves) (frame_keeps (systems_in here.0) frame s) in
       let rest = some_run frames here.1 accesses (no_cycle_stays s here.1 same none)
       (accesses_stay s here.1 accesses same are) in
       (here.0 ∷ rest.0, rest.1, (here.1, here.2, rest.2))

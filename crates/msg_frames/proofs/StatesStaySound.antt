@@ -1,38 +1,22 @@
 -- Frames keep states sound.
-use Rattle.std.proofs.Common.{◌≡◌, ℕ, ◌≤◌, ◌<◌, max, List, [], ◌∷◌, Contains, refl, sym, ap₂, subst, ◌∙◌, arith}
-use Rattle.std.specs.Prelude.{IsTrue, IsFalse, nat_le}
-use Rattle.std.proofs.lemmas.Bool.{cases_Bool, false≢true, leb-false, leb-true}
-use Rattle.std.proofs.lemmas.List.{get_or_past}
-use Rattle.std.proofs.lemmas.List.FromFn.{get_or-map-range_with_len, length-map-range_with_len}
-use Rattle.msg_buffer.specs.Prelude.{count}
-use Rattle.msg_order.specs.Prelude.{has_joined}
-use Rattle.msg_frames.specs.Prelude.{Frame, IsBalanced, IsFrame, IsRun, IsSoundState, IsTurnOrderOf, Log, Member, State, after_turns_of, before_turns, counts, has_begun, join_flags, joined_member, no_totals, place_of, systems_in}
-use Rattle.msg_frames.proofs.HistoriesGrow.{BufferLaws, counts_more, turns_go_on}
-use Rattle.msg_frames.proofs.SystemsStay.{turns_keep}
+use Rattle.std.proofs.Common.{◌≡◌, ℕ, ◌<◌, max, List, [], ◌∷◌, Contains, refl, sym, ap₂, subst, ◌∙◌, arith}
+use Rattle.std.specs.Prelude.{IsFalse, nat_le}
+use Rattle.std.proofs.lemmas.Bool.{false≢true}
+use Rattle.std.proofs.lemmas.List.FromFn.{get_or-map-range_with_len}
+use Rattle.msg_frames.specs.Prelude.{Frame, IsBalanced, IsFrame, IsRun, IsSoundState, IsTurnOrderOf, Log, Member, State, after_turns_of, before_turns, counts, has_begun, joined_member, systems_in, turns_moments}
+use Rattle.msg_frames.proofs.HistoriesGrow.{BufferLaws, counts_more}
+use Rattle.msg_frames.proofs.SystemsStay.{turns_keep, joined_below}
 use Rattle.msg_frames.proofs.EntriesAddUp.{stays_balanced}
-use Rattle.msg_frames.proofs.ReaderOverTurns.{Keeps, turns_read, turns_skip}
+use Rattle.msg_frames.proofs.ReaderOverTurns.{Keeps, Reads, turns_read, turns_skip}
 use Rattle.msg_frames.proofs.BeforeTurns.{Prepares, begun_within, comes, prepares, stood, waits}
 
 -- ---- who has a turn
-
-has_joined_has_begun : (b : State) (i : ℕ) → IsTrue (has_joined (join_flags b) i) → IsTrue (has_begun b i)
-has_joined_has_begun b i is =
-    grind (
-      arith,
-      cases_Bool,
-      false≢true,
-      get_or-map-range_with_len,
-      get_or_past,
-      leb-false,
-      leb-true,
-      length-map-range_with_len,
-    )
 
 -- one that waits has no turn
 pub has_no_turn : (b : State) (order : List ℕ) (i : ℕ) → IsTurnOrderOf b order → IsFalse (has_begun b i)
     → ¬ Contains order i
 has_no_turn b order i ordered isnt at =
-    false≢true (sym isnt ∙ has_joined_has_begun b i ((ordered.in_order.of_joined i).0 at))
+    grind (arith, false≢true, get_or-map-range_with_len, joined_below, (ordered.in_order.of_joined i).0 at)
 
 pub begun_alike : (b u : State) (i : ℕ) → Keeps b u → has_begun u i ≡ has_begun b i
 begun_alike b u i keep = ap₂ (λ j n. nat_le j (max 1 n)) (keep.0.members i).join keep.1
@@ -45,18 +29,8 @@ balanced_start m counts t =
     record { begin = (joined_member counts m).job.system.places t; start = refl; adds_up = omega arith }
 
 module _ (s b : State) (sound : IsSoundState s) (prep : Prepares s b) where
-  prepared_places : (i t : ℕ) → t < s.types → place_of b i t ≤ count (b.world.histories t)
-  prepared_places i t below = grind (arith, begun_within, comes, counts_more, stood, waits)
-
-  prepared_waiting : (i t : ℕ) → IsFalse (has_begun b i) → (place_of b i t ≡ 0) × ((b.members i).totals t ≡ no_totals)
-  prepared_waiting i t isnt = grind (arith, comes, false≢true, stood, waits)
-
-  prepared_balanced : (i t : ℕ) → t < s.types → IsTrue (has_begun b i)
-      → IsBalanced ((b.members i).totals t) (place_of b i t)
-  prepared_balanced i t below is_begun = grind (arith, balanced_start, comes, false≢true, stood, waits)
-
   pub prepared_sound : IsSoundState b
-  prepared_sound = grind (arith, prepared_balanced, prepared_places, prepared_waiting)
+  prepared_sound = grind (arith, balanced_start, begun_within, comes, counts_more, false≢true, stood, waits)
 
 -- ---- the turns, frames and runs
 
@@ -64,27 +38,23 @@ module _ (laws : BufferLaws) where
   turns_sound : (b : State) (order : List ℕ) → IsSoundState b → IsTurnOrderOf b order
       → IsSoundState (after_turns_of order b).state
   turns_sound b order sound ordered =
+      let keep = turns_keep order b in
       let u : State = (after_turns_of order b).state in
-      let keep : Keeps b u = turns_keep order b in
+      let reads : (i t : ℕ) → t < u.types → Reads i t b (turns_moments i t order b) u =
+      λ i t below. turns_read laws i t order b (sound.histories t (rw (keep.0.types) at below))
+      (sound.places i t (rw (keep.0.types) at below)) in
       record {
-        histories =
-            λ t below. (turns_go_on laws.grow order b t
-            (sound.histories t (subst (λ n. t < n) keep.0.types below))).sound;
-        places = λ i t below.
-            let under : t < b.types = subst (λ n. t < n) keep.0.types below in
-            (turns_read laws i t order b (sound.histories t under) (sound.places i t under)).passes.within;
-        joins = λ i. subst (λ n. 1 ≤ n) (sym (keep.0.members i).join) (sound.joins i);
-        writers = λ i below. (keep.0.members i).writer ∙ sound.writers i (subst (λ n. i < n) keep.0.systems below);
+        histories = λ t below. (reads 0 t below).passes.goes_on.sound;
+        places = λ i t below. (reads i t below).passes.within;
+        joins = λ i. rw ((keep.0.members i).join) (sound.joins i);
+        writers = λ i below. (keep.0.members i).writer ∙ sound.writers i (rw (keep.0.systems) at below);
         waiting = λ i t isnt.
-            let was : IsFalse (has_begun b i) = sym (begun_alike b u i keep) ∙ isnt in
-            subst (λ (m : Member). (m.job.system.places t ≡ 0) × (m.totals t ≡ no_totals))
-            (sym (turns_skip i order b (has_no_turn b order i ordered was))) (sound.waiting i t was);
-        balanced = λ i t below is_begun.
-            let under : t < b.types = subst (λ n. t < n) keep.0.types below in
-            let reads = turns_read laws i t order b (sound.histories t under) (sound.places i t under) in
-            subst (λ x. IsBalanced x (place_of u i t)) (sym reads.totals)
-            (stays_balanced ((b.members i).totals t) (place_of b i t) _ (place_of u i t)
-            (sound.balanced i t under (sym (begun_alike b u i keep) ∙ is_begun)) reads.passes.tile);
+            let skips = turns_skip i order b in
+            grind (arith, begun_alike b _ i keep, has_no_turn b order i ordered, isnt, skips, sound.waiting i t);
+        balanced = λ i t below has. rw ((reads i t below).totals)
+            (stays_balanced _ _ _ _
+            (sound.balanced i t (rw (keep.0.types) at below) (sym (begun_alike b _ i keep) ∙ has))
+            (reads i t below).passes.tile);
       }
 
   pub frame_sound : (frame : Frame) (s : State) (log : Log) (u : State) → IsSoundState s → IsFrame frame s log u

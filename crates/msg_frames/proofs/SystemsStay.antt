@@ -1,48 +1,19 @@
 -- What turns and frames keep of the systems.
-use Rattle.std.proofs.Common.{◌≡◌, ℕ, ◌<◌, IsTrue, arith, List, [], ◌∷◌, map, refl, ap, sym, subst, ◌∙◌, inl, inr, suc, max, nat_le, ℤ, eq-eqb, ne_eqb}
+use Rattle.std.proofs.Common.{◌≡◌, ℕ, ◌<◌, IsTrue, arith, List, [], ◌∷◌, map, refl, ap, ◌∙◌, suc, max, nat_le, ℤ}
 use Rattle.std.specs.List.{range_with_len}
-use Rattle.std.proofs.lemmas.Bool.{cases_Bool, cases_eq, cases_lt, false≢true}
+use Rattle.std.proofs.lemmas.Bool.{cases_Bool, cases_lt, false≢true}
 use Rattle.std.proofs.lemmas.List.{get_or_past}
 use Rattle.std.proofs.lemmas.List.FromFn.{length-map-range_with_len}
-use Rattle.std.specs.Prelude.{◌==◌}
 use Rattle.msg_world.specs.declared.access.Access.{Access}
-use Rattle.msg_world.specs.Prelude.{WorldState}
-use Rattle.msg_order.specs.Prelude.{IsAcyclic, has_joined, rules_among}
-use Rattle.msg_system.specs.Prelude.{Asked, after_asking, asked_started, with_conditions}
-use Rattle.msg_system.specs.declared.start.Start.{Start}
-use Rattle.msg_frames.specs.Prelude.{AreAccessesOf, Frame, FramesKeepSystems, Member, NoCycle, SameMember, SameSystems, SameSystemsHaveSameAccesses, State, TurnsKeepSystems, after_turn_of, after_turns_of, before_turns, counts, frame_in, join_flags, joined_member, joining, member_turn, needs_of, with_joining, with_member}
+use Rattle.msg_order.specs.Prelude.{has_joined}
+use Rattle.msg_frames.specs.Prelude.{AreAccessesOf, Frame, FramesKeepSystems, Member, NoCycle, SameMember, SameSystems, SameSystemsHaveSameAccesses, State, TurnsKeepSystems, after_turn_of, after_turns_of, before_turns, frame_in, join_flags, joining, with_joining}
+use Rattle.std.proofs.lemmas.Bool.Decides.{eqb_tells}
+use Rattle.std.proofs.lemmas.Simd.{map-map}
 
 -- ---- members
 
 pub same_member : (m : Member) → SameMember m m
 same_member m = record { needs = refl; start = refl; writer = refl; conditions = refl; join = refl }
-
-pub members_along : (l m n : Member) → SameMember l m → SameMember m n → SameMember l n
-members_along l m n a b = grind arith
-
-asked_same : (w : WorldState) (asked : List Asked) → map (λ (a : Asked). a.condition) (map (after_asking w) asked)
-    ≡ map (λ (a : Asked). a.condition) asked
-asked_same w [] = refl
-asked_same w (a ∷ asked) = ap (λ cs. a.condition ∷ cs) (asked_same w asked)
-
-pub turn_keeps : (m : Member) (w : WorldState) → SameMember m (member_turn m w).member
-turn_keeps m w = grind (arith, asked_same, cases_Bool)
-
-started_same : (start : Start) (counts : List ℕ) (asked : List Asked)
-    → map (λ (a : Asked). a.condition) (map (asked_started start counts) asked) ≡ map (λ (a : Asked). a.condition) asked
-started_same start counts [] = refl
-started_same start counts (a ∷ asked) = ap (λ cs. a.condition ∷ cs) (started_same start counts asked)
-
-begun_keeps : (counts : List ℕ) (m : Member) → SameMember m (joined_member counts m)
-begun_keeps counts m =
-    record {
-      needs = refl;
-      start = refl;
-      writer = refl;
-      conditions =
-          started_same m.job.system.start counts m.job.conditions;
-      join = refl;
-    }
 
 -- ---- systems
 
@@ -50,14 +21,10 @@ pub same_systems : (s : State) → SameSystems s s
 same_systems s = record { systems = refl; members = λ i. same_member (s.members i); rules = refl; types = refl }
 
 pub systems_along : (s t u : State) → SameSystems s t → SameSystems t u → SameSystems s u
-systems_along s t u a b = grind (arith, members_along)
-
-pub with_member_keeps : (members : ℕ → Member) (i : ℕ) (m : Member) (k : ℕ) → SameMember (members i) m
-    → SameMember (members k) (with_member members i m k)
-with_member_keeps members i m k same = grind (arith, cases_eq, eq-eqb, ne_eqb, same_member)
+systems_along s t u a b = grind arith
 
 pub one_turn_keeps : (i : ℕ) (s : State) → SameSystems s (after_turn_of i s)
-one_turn_keeps i s = grind (arith, turn_keeps, with_member_keeps)
+one_turn_keeps i s = grind (arith, cases_Bool, eqb_tells, map-map, same_member)
 
 pub turns_keep_systems : (order : List ℕ) (s : State) → SameSystems s (after_turns_of order s).state
 turns_keep_systems [] s = same_systems s
@@ -74,28 +41,22 @@ turns_keep order s = (turns_keep_systems order s, turns_make_no_frame order s)
 -- ---- joining, and frames
 
 pub joining_on_keeps : (k : ℕ) (s : State) → SameSystems s (with_joining k s)
-joining_on_keeps k s = grind (arith, begun_keeps, cases_Bool, same_member)
+joining_on_keeps k s = grind (arith, cases_Bool, map-map)
 
 pub joining_keeps : (s : State) → SameSystems s (joining s)
-joining_keeps s = elim (cases_Bool (s.frames == 0)) [
-  | inl e ↦ rw e (same_systems _)
-  | inr e ↦ rw e (joining_on_keeps _ _)
-]
+joining_keeps s = grind (arith, cases_Bool, map-map)
 
 pub joining_makes_no_frame : (s : State) → (joining s).frames ≡ s.frames
-joining_makes_no_frame s = elim (cases_Bool (s.frames == 0)) [ inl e ↦ rw e refl | inr e ↦ rw e refl ]
+joining_makes_no_frame s = grind (arith, cases_Bool)
 
 pub joining_world : (s : State) → (joining s).world ≡ s.world
-joining_world s = elim (cases_Bool (s.frames == 0)) [ inl e ↦ rw e refl | inr e ↦ rw e refl ]
+joining_world s = grind (arith, cases_Bool)
 
 pub before_keeps : (posts : List (ℕ × ℤ)) (s : State) → SameSystems s (before_turns posts s)
 before_keeps posts s = grind (arith, joining_keeps)
 
 pub frame_keeps : (order : List ℕ) (frame : Frame) (s : State) → SameSystems s (frame_in order frame s).state
 frame_keeps order frame s = systems_along _ _ _ (before_keeps frame.posts s) (turns_keep_systems order _)
-
-pub frame_counts : (order : List ℕ) (frame : Frame) (s : State) → (frame_in order frame s).state.frames ≡ suc s.frames
-frame_counts order frame s = turns_make_no_frame order (before_turns frame.posts s) ∙ ap suc (joining_makes_no_frame s)
 
 pub frames_keep : FramesKeepSystems
 frames_keep order frame s = record {
@@ -104,17 +65,14 @@ frames_keep order frame s = record {
   before = before_keeps frame.posts s;
   after = frame_keeps order frame s;
   counted_before = ap suc (joining_makes_no_frame s);
-  counted = frame_counts order frame s;
+  counted = turns_make_no_frame order (before_turns frame.posts s) ∙ ap suc (joining_makes_no_frame s);
 }
 
 -- ---- accesses, and who has joined
 
-needs_same : (m n : Member) → SameMember m n → needs_of n ≡ needs_of m
-needs_same m n h k = with_conditions (h.needs k) (h.conditions k)
-
 pub accesses_stay : (s u : State) (accesses : List Access) → SameSystems s u → AreAccessesOf s accesses
     → AreAccessesOf u accesses
-accesses_stay s u accesses h a = grind (arith, needs_same)
+accesses_stay s u accesses h a = grind arith
 
 pub joined_stay : (s u : State) → SameSystems s u → u.frames ≡ s.frames → join_flags u ≡ join_flags s
 joined_stay s u h e k = map (λ i. nat_le ((h.members i).join k) (max 1 (e k))) (range_with_len 0 (h.systems k))
@@ -128,5 +86,4 @@ joined_below s i h = grind (arith, cases_lt, false≢true, get_or_past, length-m
 
 -- the rules make no cycle among them
 pub no_cycle_stays : (s u : State) → SameSystems s u → NoCycle s → NoCycle u
-no_cycle_stays s u same none who e = subst (λ rules. IsAcyclic (rules_among who rules)) (sym same.rules)
-    (none who (e ∙ same.systems))
+no_cycle_stays s u same none who e = rw (same.rules) (none who (e ∙ same.systems))

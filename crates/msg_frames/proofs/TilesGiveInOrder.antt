@@ -1,17 +1,17 @@
 -- What tiles give: messages in order of writing.
-use Rattle.std.proofs.Common.{◌≡◌, ℕ, zero, suc, ◌+◌, ◌≤◌, ◌<◌, List, [], ◌∷◌, ◌++◌, map, length, take, drop, Bool, cond, Option, Some, None, is_some, option_map, IfSome, unwrap_or, filter, refl, sym, ap, subst, ◌∙◌, arith, inl, inr, slice_get, get_or, All}
+use Rattle.std.proofs.Common.{◌≡◌, ℕ, zero, suc, ◌+◌, ◌≤◌, ◌<◌, List, [], ◌∷◌, ◌++◌, map, length, take, drop, Bool, cond, Option, Some, None, is_some, option_map, IfSome, unwrap_or, filter, refl, ap, arith, slice_get, get_or, All}
 use Rattle.std.specs.Prelude.{false, ◌==◌}
 use Rattle.std.specs.List.{range_with_len, enumerate_from}
 use Rattle.std.specs.List.Sorted.{IsStrictlyIncreasing}
 use Rattle.std.proofs.lemmas.Bool.{cases_Bool}
 use Rattle.std.proofs.lemmas.List.{drop-append-le, drop-map, drop_more, length-append, length-drop, map-append, take-append-le, take-map}
-use Rattle.std.proofs.lemmas.List.Elements.{All-head, All-tail}
 use Rattle.std.proofs.lemmas.Option.{slice_get-get_or}
 use Rattle.msg_buffer.specs.Prelude.{Entry as Written, GoesOn, History, Stretch, Tile, count, instance_of, instances, message_of, next_place}
 use Rattle.msg_world.specs.declared.record.Record.{Record}
-use Rattle.msg_frames.specs.Prelude.{Entry, GivesItsStretch, IsInOrderOf, Moment, given, is_by, message_numbered, messages_given, messages_of, numbers_at, numbers_of}
+use Rattle.msg_frames.specs.Prelude.{GivesItsStretch, IsInOrderOf, Moment, given, is_by, message_numbered, messages_given, messages_of, numbers_of}
 use Rattle.msg_frames.proofs.OneFateEach.{entries_of}
 use Rattle.msg_frames.proofs.ReaderOverJob.{IsWritten, tile_of}
+use Rattle.std.proofs.lemmas.List.Kept.{IsStrictlyIncreasing-filter}
 
 -- ---- rising numbers
 
@@ -26,39 +26,22 @@ rising_from low high (x ∷ xs) le rise = (omega (arith, rise.0), rise.1)
 
 rising_range : (a n : ℕ) (rest : List ℕ) → Rising (a + n) rest → Rising a (range_with_len a n ++ rest)
 rising_range a zero rest rise = rising_from a (a + 0) rest (omega arith) rise
-rising_range a (suc n) rest rise =
-    (omega arith, rising_range (a + 1) n rest (subst (λ k. Rising k rest) (omega arith) rise))
+rising_range a (suc n) rest rise = grind (arith, rising_range (a + 1) n rest)
 
 is_increasing : (low : ℕ) (xs : List ℕ) → Rising low xs → IsStrictlyIncreasing xs
-is_increasing low [] rise k below = absurd (omega arith)
-is_increasing low (x ∷ []) rise k below = absurd (omega arith)
 is_increasing low (x ∷ y ∷ ys) rise zero below = omega (arith, rise.1.0)
 is_increasing low (x ∷ y ∷ ys) rise (suc k) below = grind (arith, is_increasing (x + 1) (y ∷ ys) rise.1 k (omega arith))
-
-rising_filter : (p : ℕ → Bool) (low : ℕ) (xs : List ℕ) → Rising low xs → Rising low (filter p xs)
-rising_filter p low [] rise = tt
-rising_filter p low (x ∷ xs) rise =
-    grind (
-      arith,
-      cases_Bool,
-      rising_from,
-      rising_filter p (x + 1) xs rise.1,
-      rising_filter p low xs (rising_from low (x + 1) xs (omega (arith, rise.0)) rise.1),
-    )
+is_increasing low xs rise k below = absurd (omega arith)
 
 numbers_rise : (p : ℕ) (ms : List Moment) (q : ℕ) → Tile p (map tile_of ms) q
     → Rising p (numbers_of given (entries_of ms))
 numbers_rise p [] q tile = tt
 numbers_rise p (m ∷ ms) q tile =
-    let e : Entry = m.entry in
-    let first : e.stretch.first ≡ p + e.stretch.missed = tile.0.first in
-    let rest = numbers_rise (next_place e.stretch) ms q tile.1 in
-    elim (cases_Bool (is_some e.given)) [
-      | inl some ↦ rw some (rising_from p e.stretch.first
-          (range_with_len e.stretch.first e.stretch.number ++ numbers_of given (entries_of ms)) (omega arith)
-          (rising_range e.stretch.first e.stretch.number (numbers_of given (entries_of ms)) rest))
-      | inr none ↦ rw none (rising_from p (next_place e.stretch) (numbers_of given (entries_of ms)) (omega arith) rest)
-    ]
+    let rest = numbers_rise (next_place m.entry.stretch) ms q tile.1 in
+    let ranged = rising_range m.entry.stretch.first m.entry.stretch.number _ rest in
+    let here = rising_from p m.entry.stretch.first _ (omega (arith, tile.0.first)) ranged in
+    let past = rising_from p (next_place m.entry.stretch) _ (omega (arith, tile.0.first)) rest in
+    grind (arith, cases_Bool, here, past)
 
 pub given_in_order : (p : ℕ) (ms : List Moment) (q : ℕ) → Tile p (map tile_of ms) q
     → IsStrictlyIncreasing (numbers_of given (entries_of ms))
@@ -78,10 +61,13 @@ messages_in_instances n (e ∷ es) = ap (λ ms. e.message ∷ ms) (messages_in_i
 messages_are : (h : History Record) (s : Stretch) → messages_of h s
     ≡ map message_in (take s.number (drop s.first h.entries))
 messages_are h s =
-    sym (take-map message_of s.number (drop s.first (instances h)))
-    ∙ ap (take s.number) (sym (drop-map message_of s.first (instances h))
-    ∙ ap (drop s.first) (messages_in_instances 0 h.entries) ∙ drop-map message_in s.first h.entries)
-    ∙ take-map message_in s.number (drop s.first h.entries)
+    rw (
+      ← take-map message_of s.number (drop s.first (instances h)),
+      ← drop-map message_of s.first (instances h),
+      messages_in_instances 0 h.entries,
+      drop-map message_in s.first h.entries,
+      take-map message_in s.number (drop s.first h.entries),
+    ) refl
 
 -- they stay where they are
 still_there : (h last : History Record) (a n : ℕ) → GoesOn h last → a + n ≤ count h → take n (drop a last.entries)
@@ -97,9 +83,7 @@ read_range : (es : List (Written Record)) (a n : ℕ) → a + n ≤ length es
     → map (λ k. option_map message_in (slice_get es k)) (range_with_len a n)
     ≡ map Some (map message_in (take n (drop a es)))
 read_range es a zero below = refl
-read_range es a (suc n) below =
-    let one = read_one es a (omega arith) in
-    rw (one.1, one.2) (ap (λ xs. Some (one.0).message ∷ xs) (read_range es (a + 1) n (omega arith)))
+read_range es a (suc n) below = grind (arith, read_one es a (omega arith), read_range es (a + 1) n (omega arith))
 
 -- ---- the messages of an entry
 
@@ -108,10 +92,9 @@ module _ (h last : History Record) (s : Stretch) (goes : GoesOn h last) (written
       → map (message_numbered last) (cond (is_some o) (range_with_len s.first s.number) []) ≡ map Some (unwrap_or o [])
   given_as_written None gives = refl
   given_as_written (Some items) gives =
-      read_range last.entries s.first s.number
-      (omega (arith, ap length goes.entries, length-append h.entries goes.more))
-      ∙ ap (λ es. map Some (map message_in es)) (still_there h last s.first s.number goes written)
-      ∙ ap (map Some) (sym (gives ∙ messages_are h s))
+      rw (gives, messages_are h s, ← still_there h last s.first s.number goes written)
+      (read_range last.entries s.first s.number
+      (omega (arith, ap length goes.entries, length-append h.entries goes.more)))
 
 -- ---- the messages of all entries
 
@@ -121,14 +104,11 @@ module _ (last : History Record) where
       → map (message_numbered last) (numbers_of given (entries_of ms)) ≡ map Some (messages_given (entries_of ms))
   all_as_written [] gives goes written = refl
   all_as_written (m ∷ ms) gives goes written =
-      let one = given_as_written m.history last m.entry.stretch (All-head (λ x. GoesOn x.history last) m ms goes)
-      (All-head IsWritten m ms written) m.entry.given (All-head GivesItsStretch m ms gives) in
-      let rest = all_as_written ms (All-tail GivesItsStretch m ms gives)
-      (All-tail (λ x. GoesOn x.history last) m ms goes) (All-tail IsWritten m ms written) in
-      map-append (message_numbered last) (numbers_at given m.entry) (numbers_of given (entries_of ms))
-      ∙ ap (λ xs. xs ++ map (message_numbered last) (numbers_of given (entries_of ms))) one
-      ∙ ap (λ xs. map Some (unwrap_or m.entry.given []) ++ xs) rest
-      ∙ sym (map-append Some (unwrap_or m.entry.given []) (messages_given (entries_of ms)))
+      let here = given_as_written m.history last m.entry.stretch (goes 0 m (omega arith)) (written 0 m (omega arith))
+      m.entry.given (gives 0 m (omega arith)) in
+      let rest = all_as_written ms (λ k d lt. gives (suc k) d (omega arith)) (λ k d lt. goes (suc k) d (omega arith))
+      (λ k d lt. written (suc k) d (omega arith)) in
+      grind (arith, here, map-append, rest)
 
 -- ---- writer by writer
 
@@ -136,9 +116,8 @@ module _ (last : History Record) where
 of_one_kind : {X : Type 0} (f : ℕ → Option X) (p : X → Bool) (ns : List ℕ) (xs : List X) → map f ns ≡ map Some xs
     → map f (filter (λ n. elim (f n) [ None ↦ false | Some x ↦ p x ]) ns) ≡ map Some (filter p xs)
 of_one_kind f p [] [] same = refl
-of_one_kind f p [] (x ∷ xs) same = absurd (omega (arith, ap length same))
-of_one_kind f p (n ∷ ns) [] same = absurd (omega (arith, ap length same))
 of_one_kind f p (n ∷ ns) (x ∷ xs) same = grind (arith, cases_Bool, of_one_kind f p ns xs (ap (drop 1) same))
+of_one_kind f p ns xs same = absurd (omega (arith, ap length same))
 
 pub in_order_of : (writer p : ℕ) (ms : List Moment) (q : ℕ) (last : History Record) → Tile p (map tile_of ms) q
     → All GivesItsStretch ms → All (λ m. GoesOn m.history last) ms → All IsWritten ms
@@ -147,6 +126,5 @@ in_order_of writer p ms q last tile gives goes written = record {
   as_written = of_one_kind (message_numbered last) (λ m. m.writer == writer) (numbers_of given (entries_of ms))
       (messages_given (entries_of ms))
       (all_as_written last ms gives goes written);
-  in_order = is_increasing p (filter (is_by writer last) (numbers_of given (entries_of ms)))
-      (rising_filter (is_by writer last) p (numbers_of given (entries_of ms)) (numbers_rise p ms q tile));
+  in_order = IsStrictlyIncreasing-filter (is_by writer last) _ (given_in_order p ms q tile);
 }

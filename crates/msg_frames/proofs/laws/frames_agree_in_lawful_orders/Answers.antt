@@ -6,5 +6,6 @@ returns c =
     record {
       law =
           frames_agree c.nothing_else_is_used.ensures.jobs c.conflicting_systems_are_ordered.ensures.law
-          c.lawful_orders_keep_paths.ensures.law c.settled_order_is_unique.ensures.law c.turn_order_is_lawful.ensures.law;
+          c.lawful_orders_keep_paths.ensures.law c.settled_order_is_unique.ensures.law
+          c.turn_order_is_lawful.ensures.law;
     }
