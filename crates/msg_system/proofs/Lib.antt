@@ -4,7 +4,6 @@ mod JobAccesses
 -- What an op does to its loan and its cursor
 mod Lendings
 mod CopiedReads
-mod OpsDone
 -- Programs op by op, and systems
 mod Runs
 pub mod Turns
