@@ -6,14 +6,10 @@ use Rattle.msg_world.specs.Prelude.{WorldState}
 use Rattle.msg_system.specs.Prelude.{Asked, all_hold, answer}
 use Rattle.msg_system.proofs.InPlace.{not_reached}
 
-and_assoc : (a b c : Bool) → (a && (b && c)) ≡ ((a && b) && c)
-and_assoc a b c = grind arith
-
 all_hold-snoc : (xs : List Asked) (x : Asked) (s : WorldState) → all_hold (xs ++ x ∷ []) s
     ≡ (all_hold xs s && answer x s)
 all_hold-snoc [] x s = and-true (answer x s)
-all_hold-snoc (y ∷ xs) x s = ap (λ b. answer y s && b) (all_hold-snoc xs x s)
-    ∙ and_assoc (answer y s) (all_hold xs s) (answer x s)
+all_hold-snoc (y ∷ xs) x s = grind (arith, all_hold-snoc xs x s)
 
 -- one condition more
 pub all_hold_more : (xs : List Asked) (i : ℕ) (d : Asked) (s : WorldState) → i < length xs

@@ -20,13 +20,11 @@ can_be_shown p l there = rw (writable_is_shown p l there) there
 
 pub messages_stand : (l : Lent) (s : WorldState) (t : ℕ) (k : Kept Record) → Some k ≡ shown (OfType t) l
     → LoanStands l s → StandsFor k (s.histories t)
-messages_stand l s t k is stand = let P : Option (Kept Record)
-    → Type 0 = λ o. IfSome o (λ x. StandsFor x (s.histories t)) in subst P (sym is) (stand (OfType t))
+messages_stand l s t k is stand = rw (← is) at (stand (OfType t))
 
 pub value_stands : (l : Lent) (s : WorldState) (r : ℕ) (z : ℤ) → Some z ≡ shown (OfResource r) l → LoanStands l s → z
     ≡ s.resources r
-value_stands l s r z is stand = let P : Option ℤ
-    → Type 0 = λ o. IfSome o (λ x. x ≡ s.resources r) in subst P (sym is) (stand (OfResource r))
+value_stands l s r z is stand = rw (← is) at (stand (OfResource r))
 
 pub written_messages_stand : (l : Lent) (s : WorldState) (t : ℕ) (k : Kept Record) → IsSome (writable (OfType t) l)
     → Some k ≡ writable (OfType t) l → LoanStands l s

@@ -1,6 +1,5 @@
 -- What programs, conditions and jobs read and write
 pub mod Accesses
-mod JobAccesses
 -- What an op does to its loan and its cursor
 mod Lendings
 mod CopiedReads
