@@ -158,3 +158,5 @@ job_footprint j = record {
       let all = all_alike j.conditions m s t (conditions_in j m within) agree in
       grind (arith, all, agree p h, (turn_footprint j.system).alike m s t (system_in j m within) agree p h);
 }
+
+pub ruleset footprints = (op_footprint, program_footprint, turn_footprint, condition_footprint, job_footprint)

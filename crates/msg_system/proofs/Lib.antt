@@ -6,7 +6,6 @@ mod CopiedReads
 -- Programs op by op, and systems
 mod Runs
 pub mod Turns
-mod Starts
 -- Conditions one after the other
 pub mod InPlace
 mod AllConditions

@@ -46,8 +46,7 @@ module _ (cs : Cursors) (t k d : ℕ) (long : length cs.by_type ≡ 64) (is : k 
       → OpRan op w (places_of cs) (places_of (moved cs k new)) l m r
   ran_at op w new l m r ran =
       let within : t < length cs.by_type = omega (arith, long, lt) in
-      rw is (subst (λ (places : ℕ → ℕ). OpRan op w (places_of cs) places l m r) (sym (moved_place cs t new within))
-      (ran (places_of cs) place_at))
+      rw (is, moved_place cs t new within) (ran (places_of cs) place_at)
 
 -- ---- a loan that covers, after a change of what it lets be written
 
@@ -59,8 +58,7 @@ pub shown_later : (p : Part) (l m : Lent) → SameLoan l m → is_some (shown p 
 shown_later p l m same = grind (arith, still_there)
 
 pub writable_later : (p : Part) (l m : Lent) → SameLoan l m → is_some (writable p m) ≡ is_some (writable p l)
-writable_later p l m same =
-    rw same.access (still_there (writes l.access p) (slot p m.taken) (slot p l.taken) None (same.shape.there p))
+writable_later p l m same = grind (arith, still_there)
 
 pub covers_later : (n : Needs) (l m : Lent) → SameLoan l m → Covers n l → Covers n m
 covers_later n l m same covers = grind (arith, shown_later, writable_later)

@@ -98,6 +98,7 @@ pub(crate) fn write_each<T, F: Fn(&T) -> Record>(
 }
 
 /// Drops all messages of a type; gives them, and the number of the first.
+#[tactic(auto, using(crate::proofs::Lendings::of_written))]
 pub(crate) fn drain_all(
     alloc: Global,
     lent: &mut Lent,

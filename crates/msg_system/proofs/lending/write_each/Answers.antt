@@ -16,10 +16,9 @@ returns-in-Ok-clause-written g c f is s stand =
     written_messages_stand c.args.lent.now s c.args.t c.in-Some.messages.now c.requires.lent
     c.in-Some.ensures.writable stand in
     let made = c.in-Ok.ensures.meaning in
-    let P : List Record → Type 0 = λ ms. StandsFor c.write_each.new.self (write ms h) in
-    (c.writes_stand.ensures.messages c.args.lent.now c.args.t c.write_each.new.self c.requires.lent).1 s
-    (write (map f c.args.items.now) h)
-    (subst P (made_by _ f is c.args.items.now made.0 made.1) (made.2 h here)) stand
+    let same = made_by _ f is c.args.items.now made.0 made.1 in
+    (c.writes_stand.ensures.messages c.args.lent.now c.args.t c.write_each.new.self c.requires.lent).1 s _
+    (rw same at (made.2 h here)) stand
 
 pub returns-in-Err-NumbersSpent-clause-numbers : goal.returns-in-Err-NumbersSpent-clause-numbers
 returns-in-Err-NumbersSpent-clause-numbers g c = grind (arith, common_steps, written_messages_stand, numbers_spent)
