@@ -8,7 +8,7 @@ use Rattle.msg_world.specs.declared.lent.Lent.{Lent}
 use Rattle.msg_world.specs.Prelude.{Parts, SameLoan, WorldState, taken_of}
 use Rattle.msg_system.specs.Prelude.{AfterProgram, Covers, IsAfterOp, Meaning, Needs, Op, OpRan, Ran, Reply, Start, after_at_most, after_op, behaves, one_more, op_needs, ops_answered, turn}
 use Rattle.msg_system.specs.inner.TurnRuns.{AreAnswered, IsAfterProgram, TurnRan, next_kept}
-use Rattle.msg_system.proofs.Lendings.{can_be_shown}
+use Rattle.msg_system.proofs.Lendings.{writable_is_shown}
 use Rattle.msg_system.proofs.Runs.{op_more, written_stand}
 use Rattle.msg_system.proofs.Turns.{IsKept, ops_answered-snoc}
 
@@ -16,7 +16,7 @@ use Rattle.msg_system.proofs.Turns.{IsKept, ops_answered-snoc}
 
 -- a loan that covers what is needed covers each op that keeps to it
 pub covers_kept : (op : Op) (n : Needs) (l : Lent) → IsKept n op → Covers n l → Covers (op_needs op) l
-covers_kept op n l keeps covers = grind (arith, cases_Bool, can_be_shown, false≢true)
+covers_kept op n l keeps covers = grind (arith, cases_Bool, writable_is_shown, false≢true)
 
 module _ (next : List Reply → Option Op) (w : ℕ) (ps : ℕ → ℕ) (s : WorldState) where
   -- where the rule says that the turn is over, it stays as it is

@@ -159,4 +159,4 @@ job_footprint j = record {
       grind (arith, all, agree p h, (turn_footprint j.system).alike m s t (system_in j m within) agree p h);
 }
 
-pub ruleset footprints = (op_footprint, program_footprint, turn_footprint, condition_footprint, job_footprint)
+pub ruleset footprints = (op_footprint, program_footprint, turn_footprint, job_footprint)

@@ -4,6 +4,8 @@ use Rattle.std.specs.Prelude.{ℤ, Result, IfSome, IsSome, OnErr}
 use Rattle.std.specs.List.{AllZip}
 use Rattle.std.proofs.lemmas.Bool.{cases_Bool, cases_lt, false≢true}
 use Rattle.std.proofs.lemmas.Grind.{common_steps}
+use Rattle.std.proofs.lemmas.Int.{to_z-of_z}
+use Rattle.std.proofs.lemmas.List.{length-map}
 use Rattle.std.proofs.lemmas.Bool.Decides.{nat_tests}
 use Rattle.msg_buffer.specs.declared.instance.Written.{Written}
 use Rattle.msg_buffer.specs.Prelude.{History, Kept, StandsFor, count, has_room, write}
@@ -63,4 +65,17 @@ made_by R f is [] (m ∷ ms) made = absurd made
 made_by R f is (x ∷ xs) [] made = absurd made
 made_by R f is (x ∷ xs) (m ∷ ms) made = rw (is x m made.0, made_by R f is xs ms made.1) refl
 
-pub ruleset of_written = (common_steps, on_err, written_messages_stand)
+-- what functions on a loan go by
+pub ruleset of_loans = (
+  common_steps,
+  to_z-of_z,
+  length-map,
+  on_err,
+  messages_stand,
+  value_stands,
+  written_messages_stand,
+  numbers_fit,
+  numbers_spent,
+  numbers_left,
+  spent_stands,
+)
