@@ -40,10 +40,7 @@ module _ (s : Scenario) where
   ConditionFits c = Has (probe_part c.probe)
 
   part_there : (o : Option Part) (p : Part) → IfSome o Has → is_part o p ≡ true → Has p
-  part_there (Some (OfType t)) (OfType u) has is = rw (eqb-true u t is) has
-  part_there (Some (OfResource t)) (OfResource u) has is = rw (eqb-true u t is) has
-  part_there o Registry has is = tt
-  part_there o p has is = cc
+  part_there o p has is = grind (arith, eqb-true)
 
   some_there : {X : Type 0} (part : X → Option Part) (xs : List X) (p : Part) → All (λ x. IfSome (part x) Has) xs
       → list_any (λ x. is_part (part x) p) xs ≡ true → Has p
@@ -72,13 +69,10 @@ module _ (s : Scenario) where
 
 module _ (s : Scenario) (names : Declared) (of : NamesOf s names) where
   has_type : (d : Data) → Holds (λ t. t < length s.types) (type_number names (text d))
-  has_type d t h = subst (λ n. t < n) of.types
-      (position-Some (bytes_eq (text d)) names.types t [] (below_there (position_of names.types (text d)) 64 t h)).0
+  has_type d t h = rw of.types at (position-Some (bytes_eq (text d)) names.types t [] (below_there _ 64 t h)).0
 
   has_resource : (d : Data) → Holds (λ r. r < length s.resources) (resource_number names (text d))
-  has_resource d r h = subst (λ n. r < n) of.resources
-      (position-Some (bytes_eq (text d)) names.resources r []
-      (below_there (position_of names.resources (text d)) 64 r h)).0
+  has_resource d r h = rw of.resources at (position-Some (bytes_eq (text d)) names.resources r [] (below_there _ 64 r h)).0
 
   op_with_one_fits : (head : Text) (d : Data) → Holds (OpFits s) (op_with_one names head d)
   op_with_one_fits head d =
@@ -151,8 +145,7 @@ kind_fits kind ops h = cc
 
 join_there : (n : ℕ) (b : Bool) → nat_lt n 10001 ≡ b
     → option_map_or (nat_le 1) (if b then Some n else None) false ≡ true → (1 ≤ n) × (n ≤ 10000)
-join_there n true below h = let least : nat_le 1 n ≡ true = h in (grind (arith, least), grind (arith, below))
-join_there n false below h = cc
+join_there n b below h = grind arith
 
 joins_fit : (d : Data) (n : ℕ) → first_refusal (join_checks d) ≡ None → natural d ≡ Some n → (1 ≤ n) × (n ≤ 10000)
 joins_fit d n passed is =

@@ -6,7 +6,6 @@ use Rattle.msg_reading.proofs.scenario.read.names.NameSpace.place.Goals as goal
 
 pub returns : goal.returns
 returns c = record {
-  place = c.get_index_of.ensures.index
-      ∙ sym (position-map (bytes_eq c.args.name.now) string_bytes c.self.inside.names.keys)
-      ∙ ap (λ s. position_of s c.args.name.now) c.self.view_is;
+  place = rw (← c.self.view_is, position-map (bytes_eq c.args.name.now) string_bytes c.self.inside.names.keys)
+      c.get_index_of.ensures.index;
 }
