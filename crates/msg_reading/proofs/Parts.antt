@@ -5,8 +5,7 @@ use Rattle.serde_json.specs.Find.{as_array, as_str}
 use Rattle.serde_json.specs.View.{view, items_view}
 use Rattle.serde_json.specs.declared.value.Value.{Value}
 use Rattle.msg_files.specs.Prelude.{Check, Text, elements, first_refusal}
-use Rattle.msg_reading.specs.Prelude.{both, for_headed, of_headed}
-use Rattle.msg_files.specs.declared.refusal.Refusal.{Refusal}
+use Rattle.msg_reading.specs.Prelude.{for_headed, of_headed}
 use Rattle.msg_files.specs.declared.refusal.Refusal.TheVariants.{Shape}
 use Rattle.msg_files.proofs.Shapes.{elements_are, range_to_end}
 use Rattle.msg_files.proofs.Steps.{Refuses}
@@ -47,12 +46,3 @@ headed_denoted f d head ps name is are = rw (are, is) refl
 -- a wrong shape is no want of memory
 pub is_shape : (cs : List Check) → first_refusal cs ≡ Some Shape → Refuses cs Shape
 is_shape cs is = (λ same. cc, λ _. is)
-
-pub refuses_as : (cs : List Check) (e f : Refusal) → e ≡ f → Refuses cs f → Refuses cs e
-refuses_as cs e f is h = rw is h
-
--- ---- both of two
-
-pub both_denoted : {A B C : Type 0} (f : A → B → C) {o : Option A} {p : Option B} {a : A} {b : B}
-    → o ≡ Some a → p ≡ Some b → both f o p ≡ Some (f a b)
-both_denoted f is is' = rw (is, is') refl

@@ -1,10 +1,10 @@
 -- Names in order, and the set of texts that keeps them.
 use Rattle.std.proofs.lemmas.List.{map_push}
-use Rattle.std.proofs.Common.{◌≡◌, ◌+◌, List, [], ◌∷◌, ◌++◌, length, refl, sym, ap, ◌∙◌, Option, Some, None, Bool, true, false, not, map, nat_lt, string_bytes, String, arith}
+use Rattle.std.proofs.Common.{◌≡◌, ◌+◌, List, [], ◌∷◌, ◌++◌, length, refl, sym, ap, ◌∙◌, Option, None, Bool, false, not, map, nat_lt, string_bytes, String, arith}
 use Rattle.std.proofs.lemmas.Grind.{common_steps}
-use Rattle.std.proofs.lemmas.List.{length-map, map-append}
+use Rattle.std.proofs.lemmas.List.{length-map}
 use Rattle.std.specs.List.{list_any, position_or_len}
-use Rattle.std.specs.Prelude.{cond, position, is_some, is_err, Result, Ok, Err, IfOk, ◌||◌}
+use Rattle.std.specs.Prelude.{cond, position, is_some, is_err, Result, IfOk}
 use Rattle.std.specs.Str.{bytes_eq}
 use Rattle.std.specs.declared.alloc.Global.{Global}
 use Rattle.indexmap.specs.IndexSet.{insert_key}

@@ -1,19 +1,18 @@
 -- The systems of a scenario file.
 use Rattle.std.proofs.Common.{refl}
 use Rattle.std.proofs.lemmas.Option.{same_Some}
-use Rattle.std.proofs.Common.{◌≡◌, List, [], ◌∷◌, ◌++◌, ap, ◌∙◌, Option, Some, None, false}
-use Rattle.std.specs.Prelude.{codes, is_some, if◌then◌else◌, option_and_then, option_map}
+use Rattle.std.proofs.Common.{◌≡◌, List, [], ◌∷◌, ◌++◌, ◌∙◌, Option, Some, None, false}
+use Rattle.std.specs.Prelude.{codes, is_some, if◌then◌else◌}
 use Rattle.std.specs.Option.{option_map_or}
 use Rattle.serde_json.specs.Data.{Data}
 use Rattle.msg_system.specs.declared.op.Op.{Op}
 use Rattle.msg_files.specs.Prelude.{Check, Text, first_refusal, needs, value_at}
-use Rattle.msg_reading.specs.Prelude.{Declared, Kind, SystemSpec, both, each_of, fits_kind, kind_in, kind_of, list_checks, name_checks, of_its_kind, op_checks, op_of, ops_checks, ops_of, place_checks, place_of, program_checks, start_in, start_of, system_checks, system_object, system_of, text}
+use Rattle.msg_reading.specs.Prelude.{Declared, Kind, each_of, fits_kind, kind_in, kind_of, list_checks, name_checks, op_checks, op_of, ops_of, place_checks, place_of, program_checks, start_in, start_of, system_checks, system_object, system_of, text}
 use Rattle.msg_system.specs.declared.start.Start.{Start}
 use Rattle.msg_frames.specs.declared.place.Place.{Place}
 use Rattle.msg_files.specs.declared.refusal.Refusal.{Refusal}
 use Rattle.msg_files.specs.declared.refusal.Refusal.TheVariants.{Shape}
-use Rattle.msg_files.proofs.Steps.{Refuses, goes_on, refuses_by, stops}
-use Rattle.msg_reading.proofs.Parts.{both_denoted}
+use Rattle.msg_files.proofs.Steps.{Refuses, goes_on, stops}
 use Rattle.msg_files.proofs.Walks.{first_refusal-passed}
 
 -- ---- kind and ops

@@ -1,7 +1,5 @@
-use Rattle.std.proofs.Common.{length, refl, subst, sym}
+use Rattle.std.proofs.Common.{refl}
 use Rattle.std.proofs.lemmas.Result.{IfOk-weaker}
-use Rattle.msg_frames.specs.Prelude.{all_rules}
-use Rattle.msg_order.specs.Prelude.{IsAcyclic, NameSystemsBelow}
 use Rattle.msg_reading.proofs.scenario.Scenario.is_runnable.Goals as goal
 
 pub returns : goal.returns

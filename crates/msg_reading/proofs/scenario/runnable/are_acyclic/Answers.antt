@@ -1,7 +1,5 @@
-use Rattle.std.proofs.Common.{refl, subst, sym}
+use Rattle.std.proofs.Common.{refl}
 use Rattle.std.proofs.lemmas.Bool.{false≢true}
-use Rattle.std.specs.Prelude.{IfNone, IfSome}
-use Rattle.msg_order.specs.Prelude.{IsAcyclic, IsLowestOnCycle, edges_of}
 use Rattle.msg_reading.proofs.Sound.{rules_among_all}
 use Rattle.msg_reading.proofs.scenario.runnable.are_acyclic.Goals as goal
 

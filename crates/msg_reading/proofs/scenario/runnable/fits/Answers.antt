@@ -1,5 +1,4 @@
-use Rattle.std.proofs.Common.{subst}
-use Rattle.msg_system.specs.Prelude.{IsAccessOf, program_needs, with_conditions}
+use Rattle.msg_system.specs.Prelude.{program_needs}
 use Rattle.msg_reading.proofs.Tested.{fits_there, is_there}
 use Rattle.msg_reading.proofs.scenario.runnable.fits.Goals as goal
 

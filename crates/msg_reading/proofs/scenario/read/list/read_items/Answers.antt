@@ -1,9 +1,4 @@
-use Rattle.std.proofs.Common.{◌∙◌, ap, sym, Err, ◌++◌, ◌∷◌, []}
-use Rattle.std.specs.Prelude.{if◌then◌else◌}
 use Rattle.std.proofs.lemmas.Result.{err_from_is_err_and}
-use Rattle.serde_json.specs.View.{view}
-use Rattle.msg_files.specs.Prelude.{first_refusal}
-use Rattle.msg_files.proofs.Shapes.{IfErr_at}
 use Rattle.msg_reading.proofs.Lists.{ElementsLeft-more, ElementsLeft-bad}
 use Rattle.msg_reading.proofs.scenario.read.list.read_items.Goals as goal
 

@@ -1,4 +1,4 @@
-use Rattle.std.proofs.Common.{◌∙◌, ◌++◌, ap, Err, None, Some, ◌∷◌, []}
+use Rattle.std.proofs.Common.{◌∙◌, ◌++◌, ap, None, Some, ◌∷◌, []}
 use Rattle.std.specs.Prelude.{is_some}
 use Rattle.std.proofs.lemmas.Result.{err_from_is_err_and}
 use Rattle.serde_json.specs.View.{view}
@@ -6,8 +6,7 @@ use Rattle.msg_files.specs.Prelude.{needs}
 use Rattle.msg_reading.specs.Prelude.{each_of, op_of, place_checks, program_checks, start_in, start_of}
 use Rattle.msg_files.specs.declared.refusal.Refusal.TheVariants.{Shape}
 use Rattle.msg_files.proofs.Steps.{goes_on, refuses_by, stops}
-use Rattle.msg_reading.proofs.Parts.{is_shape, refuses_as}
-use Rattle.msg_files.proofs.Shapes.{IfErr_at}
+use Rattle.msg_reading.proofs.Parts.{is_shape}
 use Rattle.msg_reading.proofs.Systems.{after_ops, ops_of_kind, program_from, start_is}
 use Rattle.msg_files.proofs.Walks.{first_refusal-passed}
 use Rattle.msg_reading.proofs.scenario.read.system.read_program.Goals as goal

@@ -1,6 +1,5 @@
-use Rattle.std.proofs.Common.{sym, ap, ◌∙◌, string_bytes}
+use Rattle.std.proofs.Common.{string_bytes}
 use Rattle.std.specs.Str.{bytes_eq}
-use Rattle.msg_reading.specs.Prelude.{position_of}
 use Rattle.msg_reading.proofs.Spaces.{position-map}
 use Rattle.msg_reading.proofs.scenario.read.names.NameSpace.place.Goals as goal
 
