@@ -1,10 +1,8 @@
 -- The access of a program, from what its ops read and write; an access uses what is needed.
-use Rattle.std.proofs.Common.{arith, ◌≡◌, Bool, true, false, not, ◌&&◌, ◌||◌, List, refl, sym, ap, ◌∙◌}
+use Rattle.std.proofs.Common.{arith, ◌≡◌, false, not, ◌&&◌, ◌||◌, List}
 use Rattle.std.specs.Prelude.{◌↔◌}
-use Rattle.std.proofs.Math.Bool.{and-true}
-use Rattle.std.proofs.lemmas.Bool.{or_parts}
 use Rattle.msg_world.specs.declared.access.Access.{Access}
-use Rattle.msg_world.specs.Prelude.{IsClash, Part, OfType, OfResource, Registry, reads, writes, uses}
+use Rattle.msg_world.specs.Prelude.{IsClash, Part, reads, writes, uses}
 use Rattle.msg_system.specs.Prelude.{HasClash, IsAccessOf, Needs, Op, needs_any, program_needs, some_op_reads, some_op_writes}
 
 -- an access of what some ops use, after a union with nothing has taken the written resources from the read ones

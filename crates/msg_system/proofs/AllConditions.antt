@@ -1,10 +1,8 @@
 -- Conditions asked one after the other.
-use Rattle.std.proofs.Common.{arith, ◌≡◌, ℕ, ◌+◌, ◌<◌, ◌++◌, Bool, ◌&&◌, List, [], ◌∷◌, length, map, take, drop, get_or, sym, ap, ◌∙◌}
+use Rattle.std.proofs.Common.{arith, ◌≡◌, ◌++◌, ◌&&◌, List, [], ◌∷◌}
 use Rattle.std.proofs.Math.Bool.{and-true}
-use Rattle.std.proofs.lemmas.List.{get_or-map, take_more}
 use Rattle.msg_world.specs.Prelude.{WorldState}
 use Rattle.msg_system.specs.Prelude.{Asked, all_hold, answer}
-use Rattle.msg_system.proofs.InPlace.{not_reached}
 
 -- one condition more
 pub all_hold-snoc : (xs : List Asked) (x : Asked) (s : WorldState) → all_hold (xs ++ x ∷ []) s

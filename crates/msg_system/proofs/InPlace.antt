@@ -1,5 +1,5 @@
 -- A list whose items are changed one after the other, in place.
-use Rattle.std.proofs.Common.{refl, ◌≡◌, ℕ, ◌+◌, ◌<◌, ◌++◌, List, [], ◌∷◌, length, map, take, drop, get_or, set, sym, ap, ◌∙◌, arith}
+use Rattle.std.proofs.Common.{refl, ◌≡◌, ℕ, ◌+◌, ◌<◌, List, length, map, take, drop, get_or, set, ◌∙◌, arith}
 use Rattle.std.proofs.lemmas.List.{drop-set-lt, drop_more, map_push, take_more, take_more_set}
 use Rattle.std.proofs.lemmas.Grind.{drop_more_same}
 

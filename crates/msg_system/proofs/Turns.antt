@@ -1,14 +1,14 @@
 -- Turns by rules.
-use Rattle.std.proofs.Common.{◌≡◌, ℕ, zero, suc, ◌+◌, ◌≤◌, ◌++◌, Bool, true, not, ◌&&◌, ◌||◌, List, [], ◌∷◌, length, Option, Some, None, take, drop, refl, sym, ap, subst, ◌∙◌, arith, inl, inr, append_assoc}
-use Rattle.std.specs.Prelude.{option_to_list, IsTrue, slice_get, if◌then◌else◌}
+use Rattle.std.proofs.Common.{◌≡◌, ℕ, zero, suc, ◌≤◌, ◌++◌, Bool, true, List, [], ◌∷◌, length, Option, Some, None, take, refl, sym, ap, ◌∙◌, arith, inl, inr, append_assoc}
+use Rattle.std.specs.Prelude.{option_to_list, IsTrue, slice_get}
 use Rattle.std.proofs.Math.Seq.{drop-append_seam}
-use Rattle.std.proofs.lemmas.Bool.{and_from, and_parts, cases_Bool, eqb-true, false≢true}
+use Rattle.std.proofs.lemmas.Bool.{and_from, and_parts, eqb-true, false≢true}
 use Rattle.std.proofs.lemmas.List.{append-nil, length-take-le, take_more, take_all}
 use Rattle.std.proofs.lemmas.List.Folds.{list_any_at}
 use Rattle.std.proofs.lemmas.Option.{get_or_from_slice_get, none-some, same_Some, slice_get_cases, slice_get_past, slice_get_within}
 use Rattle.msg_world.specs.Prelude.{Part, Parts, SameLoan, WorldState, same_part, taken_of}
 use Rattle.msg_world.specs.declared.lent.Lent.{Lent}
-use Rattle.msg_system.specs.Prelude.{AfterOp, AfterProgram, IsInOrder, Meaning, Needs, OneOpIsATurn, Op, Program, Ran, Reply, WrittenStand, after_at_most, after_op, after_program, if_kept, is_none_or, is_part, is_resource, keeps_to, may_read, next_op, of_program, one_more, only, op_needs, op_parts, ops_answered, program_needs, some_op_reads, some_op_writes, turn}
+use Rattle.msg_system.specs.Prelude.{IsInOrder, Meaning, Needs, OneOpIsATurn, Op, Program, Ran, Reply, after_at_most, after_op, after_program, if_kept, is_none_or, is_part, keeps_to, may_read, next_op, of_program, only, op_needs, op_parts, ops_answered, program_needs, turn}
 use Rattle.msg_system.specs.inner.TurnRuns.{HasReplies, ProgramRan}
 use Rattle.msg_system.proofs.Runs.{after_program-snoc, same_part_refl, written_stand}
 
@@ -120,8 +120,12 @@ ran_program program w ps qs l m taken before after few ran replies same is =
       means = rw (answered_all program w ps replies.0 replies.2) refl;
       state = λ s stands. rw (in_order program w ps s few).0
           (written_stand l m taken (after_program program.ops w ps s).state same is (ran s stands).stands);
-      answers = λ s stands. rw ((in_order program w ps s few).0, ← drop-append_seam before replies.0, ← replies.1,
-      (ran s stands).same_replies) (drop-append_seam before _);
+      answers = λ s stands. rw (
+        (in_order program w ps s few).0,
+        ← drop-append_seam before replies.0,
+        ← replies.1,
+        (ran s stands).same_replies,
+      ) (drop-append_seam before _);
       places = λ s stands. rw (in_order program w ps s few).0 (ran s stands).same_places;
     }
 

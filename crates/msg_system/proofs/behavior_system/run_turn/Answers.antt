@@ -1,6 +1,4 @@
-use Rattle.std.proofs.Common.{◌≡◌, drop, arith, ap, sym, ◌∙◌}
-use Rattle.msg_system.specs.Prelude.{needs_of, op_needs, places_of}
-use Rattle.msg_system.specs.inner.TurnRuns.{next_kept}
+use Rattle.std.proofs.Common.{◌≡◌, arith, sym, ◌∙◌}
 use Rattle.msg_system.proofs.Deciding.{answered_more, appended, covers_kept, turn_more, turn_over}
 use Rattle.msg_system.proofs.Runs.{covers_later, same_loan_trans}
 use Rattle.msg_system.proofs.Turns.{next_kept_to}

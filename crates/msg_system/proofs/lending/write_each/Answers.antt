@@ -1,9 +1,4 @@
-use Rattle.std.proofs.lemmas.Grind.{common_steps}
-use Rattle.std.proofs.Common.{List, map, subst, arith}
-use Rattle.std.proofs.lemmas.List.{length-map}
-use Rattle.msg_buffer.specs.Prelude.{StandsFor, write}
-use Rattle.msg_world.specs.declared.record.Record.{Record}
-use Rattle.msg_system.proofs.Lendings.{made_by, numbers_fit, numbers_left, numbers_spent, spent_stands, written_messages_stand}
+use Rattle.msg_system.proofs.Lendings.{made_by, written_messages_stand}
 use Rattle.msg_system.proofs.lending.write_each.Goals as goal
 
 pub returns-in-Ok-clause-written : goal.returns-in-Ok-clause-written

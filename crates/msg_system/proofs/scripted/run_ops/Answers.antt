@@ -1,7 +1,5 @@
 use Rattle.std.proofs.Common.{◌≡◌, ◌+◌, ◌++◌, ◌∷◌, [], arith, refl, take}
 use Rattle.std.proofs.lemmas.List.{take_all, take_more}
-use Rattle.msg_system.specs.Prelude.{Op}
-use Rattle.msg_system.specs.inner.TurnRuns.{IsAfterProgram}
 use Rattle.msg_system.proofs.Runs.{after_program-snoc, one_reply_more, op_more, same_loan_trans}
 use Rattle.msg_system.proofs.scripted.run_ops.Goals as goal
 

@@ -1,6 +1,4 @@
-use Rattle.std.proofs.Common.{◌≡◌, length, rules, ap, subst, sym, ◌∙◌, drop}
-use Rattle.msg_system.specs.Prelude.{needs_of, places_of}
-use Rattle.msg_system.specs.inner.TurnRuns.{AreAnswered, next_kept}
+use Rattle.std.proofs.Common.{◌≡◌, length, rules}
 use Rattle.msg_system.proofs.Deciding.{ran_behavior}
 use Rattle.msg_system.proofs.behavior_system.BehaviorSystemSystem.run.Goals as goal
 

@@ -1,6 +1,5 @@
-use Rattle.std.proofs.Common.{ℕ, refl, ap}
+use Rattle.std.proofs.Common.{refl}
 use Rattle.msg_system.specs.Prelude.{needs_of}
-use Rattle.msg_system.proofs.Deciding.{meaning_by}
 use Rattle.msg_system.proofs.behavior_system.BehaviorSystemSystem.start.Goals as goal
 
 pub returns : goal.returns

@@ -1,6 +1,4 @@
-use Rattle.std.proofs.Common.{ap, sym, ◌∙◌}
-use Rattle.msg_world.specs.Prelude.{OfResource, OfType, same_part}
-use Rattle.msg_system.specs.Prelude.{Asked, probe_part}
+use Rattle.msg_world.specs.Prelude.{OfResource, OfType}
 use Rattle.msg_system.proofs.Runs.{same_part_refl}
 use Rattle.msg_system.proofs.guard.Guard.check.Goals as goal
 

@@ -1,7 +1,7 @@
-use Rattle.std.proofs.Common.{refl, ◌<◌, ◌&&◌, ap, arith, length, sym, ◌∙◌, subst, take}
+use Rattle.std.proofs.Common.{refl, ◌<◌, arith, length, ◌∙◌}
 use Rattle.std.proofs.Math.Seq.{map-set_same}
 use Rattle.std.proofs.lemmas.List.{get_or-map, length-map, take_more}
-use Rattle.msg_system.specs.Prelude.{Asked, Condition, Covers, after_asking, all_hold, answer, condition_needs}
+use Rattle.msg_system.specs.Prelude.{Asked, after_asking}
 use Rattle.msg_system.proofs.AllConditions.{all_hold-snoc}
 use Rattle.msg_system.proofs.InPlace.{changed_later, not_reached, rest_later}
 use Rattle.msg_system.proofs.guard.Guard.check_all.Goals as goal

@@ -1,6 +1,6 @@
-use Rattle.std.proofs.Common.{◌≡◌, List, take, arith, ap, ◌∙◌}
+use Rattle.std.proofs.Common.{◌≡◌, take, arith, ◌∙◌}
 use Rattle.std.proofs.lemmas.List.{take_all}
-use Rattle.msg_system.specs.Prelude.{Op, program_needs, some_op_reads, some_op_writes}
+use Rattle.msg_system.specs.Prelude.{program_needs}
 use Rattle.msg_system.proofs.Accesses.{program_access, same_clash}
 use Rattle.msg_system.proofs.program.Program.access.Goals as goal
 
