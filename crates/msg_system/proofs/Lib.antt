@@ -8,7 +8,6 @@ mod Runs
 pub mod Turns
 -- Conditions one after the other
 pub mod InPlace
-mod AllConditions
 -- Nothing else is used
 mod Footprints
 -- Turns that a behavior decides

@@ -54,14 +54,8 @@ still_there : {X : Type 0} (b : Bool) (x y z : Option X) → is_some x ≡ is_so
     ≡ is_some (if b then y else z)
 still_there b x y z z4 = grind arith
 
-pub shown_later : (p : Part) (l m : Lent) → SameLoan l m → is_some (shown p m) ≡ is_some (shown p l)
-shown_later p l m same = grind (arith, still_there)
-
-pub writable_later : (p : Part) (l m : Lent) → SameLoan l m → is_some (writable p m) ≡ is_some (writable p l)
-writable_later p l m same = grind (arith, still_there)
-
 pub covers_later : (n : Needs) (l m : Lent) → SameLoan l m → Covers n l → Covers n m
-covers_later n l m same covers = grind (arith, shown_later, writable_later)
+covers_later n l m same covers = grind (arith, still_there)
 
 pub same_loan_trans : (l m n : Lent) → SameLoan l m → SameLoan m n → SameLoan l n
 same_loan_trans l m n a b = grind arith

@@ -51,13 +51,15 @@ so_far ops (suc n) w ps s =
           let more : take (suc n) ops ≡ take n ops ++ h.0 ∷ [] = grind (arith, take_more ops n h.0 h.1, h.3) in
           rw (more, after_program-snoc, length-take-le n ops (omega (arith, h.1)), h.2) refl
       | inr h ↦
-          rw (take_all n ops h.0, take_all (suc n) ops (omega (arith, h.0)), slice_get_past ops (length ops) (omega arith)) refl
+          let over = slice_get_past ops (length ops) (omega arith) in
+          rw (take_all n ops h.0, take_all (suc n) ops (omega (arith, h.0)), over) refl
     ])
 
 -- as many ops as are asked for, or all
 pub program_so_far : (program : Program) (n w : ℕ) (ps : ℕ → ℕ) (s : WorldState) → length program.ops ≤ n
     → after_at_most n (next_op (of_program program w ps)) w ps s ≡ after_program program.ops w ps s
-program_so_far program n w ps s few = rw (program_nexts program w ps, so_far program.ops n w ps s, take_all n program.ops few) refl
+program_so_far program n w ps s few =
+    rw (program_nexts program w ps, so_far program.ops n w ps s, take_all n program.ops few) refl
 
 pub ops_answered-snoc : (next : List Reply → Option Op) (rs : List Reply) (r : Reply) → ops_answered next (rs ++ r ∷ [])
     ≡ ops_answered next rs ++ option_to_list (next rs)
@@ -74,7 +76,7 @@ answered_first (op ∷ ops) (r ∷ rs) = ap (λ xs. op ∷ xs) (answered_first o
 pub answered_all : (program : Program) (w : ℕ) (ps : ℕ → ℕ) (rs : List Reply) → length rs ≡ length program.ops
     → ops_answered (next_op (of_program program w ps)) rs ≡ program.ops
 answered_all program w ps rs all =
-    rw (program_nexts program w ps, answered_first program.ops rs, take_all (length rs) program.ops (omega (arith, all))) refl
+    rw (program_nexts program w ps, answered_first program.ops rs) (take_all (length rs) program.ops (omega (arith, all)))
 
 pub in_order : IsInOrder
 unfolding turn
@@ -132,8 +134,4 @@ ran_program program w ps qs l m taken before after few ran replies same is =
 pub one_op_is_a_turn : OneOpIsATurn
 one_op_is_a_turn op start w ps qs l m before r ran same =
     ran_program (only op start) w ps qs l m (taken_of m) before (before ++ r ∷ []) (omega arith)
-    (λ s stands. record {
-      same_places = (ran s stands).same_places;
-      stands = (ran s stands).stands;
-      same_replies = ap (λ x. before ++ x ∷ []) (ran s stands).same_reply;
-    }) (r ∷ [], refl, refl) same refl
+    (λ s stands. grind (arith, ran s stands)) (r ∷ [], refl, refl) same refl

@@ -13,8 +13,7 @@ use Rattle.msg_reading.proofs.scenario.read.system.read_program.Goals as goal
 
 pub returns-in_err-ops-clause-refused : goal.returns-in_err-ops-clause-refused
 returns-in_err-ops-clause-refused c =
-    let residual = c.from_residual-in_err-ops in
-    let passed = err_from_is_err_and residual.result residual.ensures.1 in
+    let passed = err_from_is_err_and c.from_residual-in_err-ops.result c.from_residual-in_err-ops.ensures.1 in
     let names = c.args.names.now in
     let d = view c.args.system.now in
     let from = program_from names d c.in_ok-kind.kind (view c.args.ops.now) c.in_ok-kind.ensures.is c.requires in
@@ -23,8 +22,7 @@ returns-in_err-ops-clause-refused c =
 
 pub returns-in_err-place-clause-refused : goal.returns-in_err-place-clause-refused
 returns-in_err-place-clause-refused c =
-    let residual = c.from_residual-in_err-place in
-    let passed = err_from_is_err_and residual.result residual.ensures.1 in
+    let passed = err_from_is_err_and c.from_residual-in_err-place.result c.from_residual-in_err-place.ensures.1 in
     let names = c.args.names.now in
     let d = view c.args.system.now in
     let from = program_from names d c.in_ok-kind.kind (view c.args.ops.now) c.in_ok-kind.ensures.is c.requires in
@@ -35,8 +33,7 @@ returns-in_err-place-clause-refused c =
 
 pub returns-in_err-start-clause-refused : goal.returns-in_err-start-clause-refused
 returns-in_err-start-clause-refused c =
-    let residual = c.from_residual-in_err-start in
-    let passed = err_from_is_err_and residual.result residual.ensures.1 in
+    let passed = err_from_is_err_and c.from_residual-in_err-start.result c.from_residual-in_err-start.ensures.1 in
     let names = c.args.names.now in
     let d = view c.args.system.now in
     let from = program_from names d c.in_ok-kind.kind (view c.args.ops.now) c.in_ok-kind.ensures.is c.requires in
