@@ -63,7 +63,8 @@ module _ (s : Scenario) (names : Declared) (of : NamesOf s names) where
   has_type d t h = rw of.types at (position-Some (bytes_eq (text d)) names.types t [] (below_there _ 64 t h)).0
 
   has_resource : (d : Data) → Holds (λ r. r < length s.resources) (resource_number names (text d))
-  has_resource d r h = rw of.resources at (position-Some (bytes_eq (text d)) names.resources r [] (below_there _ 64 r h)).0
+  has_resource d r h =
+      rw of.resources at (position-Some (bytes_eq (text d)) names.resources r [] (below_there _ 64 r h)).0
 
   op_with_one_fits : (head : Text) (d : Data) → Holds (OpFits s) (op_with_one names head d)
   op_with_one_fits head d =

@@ -52,7 +52,8 @@ pub system_misnamed : (names : Declared) (d n : Data) (e : Refusal) → first_re
     → value_at (codes "name") d ≡ n → Refuses (name_checks names n) e → Refuses (system_checks names d) e
 system_misnamed names d n e passed at bad =
     let name = name_checks names (value_at (codes "name") d) in
-    goes_on (system_object d) (name ++ program_checks names d) e passed (stops name (program_checks names d) e (rw at bad))
+    goes_on (system_object d) (name ++ program_checks names d) e passed
+    (stops name (program_checks names d) e (rw at bad))
 
 pub system_denoted : (names : Declared) (d n : Data) (name : Text) (kind : Kind) (ops : List Op) (place : Place)
     (start : Start)

@@ -59,7 +59,8 @@ in_cons P (Some a) os good xs h = in_map P (λ rest. a ∷ rest) (all_some os) (
 pub in_each : {A : Type 0} (P : A → Type 0) (f : Data → Option A) → ((d : Data) → Holds P (f d)) → (ds : List Data)
     → Holds (λ xs. All P xs × (length xs ≡ length ds)) (all_some (map f ds))
 in_each P f good [] xs h = subst (λ ys. All P ys × (length ys ≡ 0)) (same_Some [] xs h) (All-nil P, refl)
-in_each P f good (d ∷ ds) xs h = in_cons (λ ys. All P ys × (length ys ≡ length (d ∷ ds))) (f d) (map f ds) (λ a rest is are.
+in_each P f good (d ∷ ds) xs h =
+    in_cons (λ ys. All P ys × (length ys ≡ length (d ∷ ds))) (f d) (map f ds) (λ a rest is are.
     let all = in_each P f good ds rest are in
     (All-cons P a rest (good d a is) all.0, grind (arith, common_steps, all.1))) xs h
 

@@ -76,7 +76,8 @@ answered_first (op ∷ ops) (r ∷ rs) = ap (λ xs. op ∷ xs) (answered_first o
 pub answered_all : (program : Program) (w : ℕ) (ps : ℕ → ℕ) (rs : List Reply) → length rs ≡ length program.ops
     → ops_answered (next_op (of_program program w ps)) rs ≡ program.ops
 answered_all program w ps rs all =
-    rw (program_nexts program w ps, answered_first program.ops rs) (take_all (length rs) program.ops (omega (arith, all)))
+    rw (program_nexts program w ps, answered_first program.ops rs)
+    (take_all (length rs) program.ops (omega (arith, all)))
 
 pub in_order : IsInOrder
 unfolding turn

@@ -13,13 +13,15 @@ run-requires g c =
 pub returns-in-None-clause-ran : goal.returns-in-None-clause-ran
 returns-in-None-clause-ran g c s stands =
     let inv = c.loop-done.invariant in
-    let over = rw (c.since.ensures.rest, c.as_slice.ensures.value) at (sym c.in-None.is ∙ c.in_ok-next_within.ensures.next) in
+    let over =
+    rw (c.since.ensures.rest, c.as_slice.ensures.value) at (sym c.in-None.is ∙ c.in_ok-next_within.ensures.next) in
     turn_over _ _ _ s _ c.loop-done._done _ _ _ _ inv.long (inv.so_far s stands) (omega arith) over
 
 pub loop-done-preserved : goal.loop-done-preserved
 loop-done-preserved g c =
     let inv = c.loop-done.invariant in
-    let is = rw (c.since.ensures.rest, c.as_slice.ensures.value) at (sym c.in-Some.is ∙ c.in_ok-next_within.ensures.next) in
+    let is =
+    rw (c.since.ensures.rest, c.as_slice.ensures.value) at (sym c.in-Some.is ∙ c.in_ok-next_within.ensures.next) in
     record {
       so_far = λ s stands. rw c.in_ok-push-in-Some.ensures.items
           (turn_more _ _ _ s _ c.loop-done._done _ _ _ _ inv.long (inv.so_far s stands) c.in-Some.op _ _ _ is

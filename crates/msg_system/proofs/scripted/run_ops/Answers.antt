@@ -6,8 +6,9 @@ use Rattle.msg_system.proofs.scripted.run_ops.Goals as goal
 pub loop-op-preserved : goal.loop-op-preserved
 loop-op-preserved c =
     let inv = c.loop-op.invariant in
-    let one : take (c.loop-op.op-index + 1) c.args.ops.now ≡ take c.loop-op.op-index c.args.ops.now ++ c.op-item.result ∷ [] =
-    rw (take_more c.args.ops.now c.loop-op.op-index c.op-item.result (omega arith), ← c.op-item.is) refl in
+    let ops = c.args.ops.now in
+    let one : take (c.loop-op.op-index + 1) ops ≡ take c.loop-op.op-index ops ++ c.op-item.result ∷ [] =
+    rw (take_more ops c.loop-op.op-index c.op-item.result (omega arith), ← c.op-item.is) refl in
     record {
       so_far = λ s stands. rw (c.in_ok-push.ensures.items, one, after_program-snoc)
           (op_more c.op-item.result _ _ _ _ _ _ _ _ _ (inv.so_far s stands) c.in_ok-run.ensures.ran);

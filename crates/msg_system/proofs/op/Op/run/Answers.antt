@@ -44,7 +44,8 @@ pub forward-requires-clause-read : goal.forward-requires-clause-read
 forward-requires-clause-read c = covers_read _ _ (OfType c.in-Forward.t) c.requires.covers (rw c.in-Forward.is refl)
 
 pub forward-requires-clause-written : goal.forward-requires-clause-written
-forward-requires-clause-written c = covers_written _ _ (OfType c.in-Forward.u) c.requires.covers (rw c.in-Forward.is refl)
+forward-requires-clause-written c =
+    covers_written _ _ (OfType c.in-Forward.u) c.requires.covers (rw c.in-Forward.is refl)
 
 pub sum-requires-clause-read : goal.sum-requires-clause-read
 sum-requires-clause-read c = covers_read _ _ (OfType c.in-Sum.t) c.requires.covers (rw c.in-Sum.is refl)
@@ -53,11 +54,13 @@ pub sum-requires-clause-written : goal.sum-requires-clause-written
 sum-requires-clause-written c = covers_written _ _ (OfResource c.in-Sum.r) c.requires.covers (rw c.in-Sum.is refl)
 
 pub returns-in-Batch-clause-ran : goal.returns-in-Batch-clause-ran
-returns-in-Batch-clause-ran c = rw c.in-Batch.is (if_ok c.batch.result _ _ (λ reply ran. ran (places_of c.args.cursors.now)) c.batch.ensures.ran)
+returns-in-Batch-clause-ran c =
+    rw c.in-Batch.is (if_ok c.batch.result _ _ (λ reply ran. ran (places_of c.args.cursors.now)) c.batch.ensures.ran)
 
 pub returns-in-Drain-clause-ran : goal.returns-in-Drain-clause-ran
 returns-in-Drain-clause-ran c =
-    rw c.in-Drain.is (if_ok c.drain.result _ _ (λ reply ran. ran c.args.writer (places_of c.args.cursors.now)) c.drain.ensures.ran)
+    rw c.in-Drain.is
+    (if_ok c.drain.result _ _ (λ reply ran. ran c.args.writer (places_of c.args.cursors.now)) c.drain.ensures.ran)
 
 pub returns-in-Get-clause-ran : goal.returns-in-Get-clause-ran
 returns-in-Get-clause-ran c = rw c.in-Get.is (c.get.ensures.ran c.args.writer (places_of c.args.cursors.now))
@@ -74,18 +77,21 @@ returns-in-Write-clause-ran c =
 pub returns-in-Set-clause-ran : goal.returns-in-Set-clause-ran
 returns-in-Set-clause-ran c =
     let fits : SFits w64 c.in-Set.value = search rules in
-    rw (c.in-Set.is, ← to_z-of_z w64 c.in-Set.value fits) (c.set.ensures.ran c.args.writer (places_of c.args.cursors.now))
+    rw (c.in-Set.is, ← to_z-of_z w64 c.in-Set.value fits)
+    (c.set.ensures.ran c.args.writer (places_of c.args.cursors.now))
 
 pub returns-in-Add-clause-ran : goal.returns-in-Add-clause-ran
 returns-in-Add-clause-ran c =
     let fits : SFits w64 c.in-Add.value = search rules in
-    rw (c.in-Add.is, ← to_z-of_z w64 c.in-Add.value fits) (c.add.ensures.ran c.args.writer (places_of c.args.cursors.now))
+    rw (c.in-Add.is, ← to_z-of_z w64 c.in-Add.value fits)
+    (c.add.ensures.ran c.args.writer (places_of c.args.cursors.now))
 
 pub returns-in-Read-clause-ran : goal.returns-in-Read-clause-ran
 returns-in-Read-clause-ran c =
     rw c.in-Read.is (if_ok c.read.result _ _
     (λ reply ran. ran_at c.args.cursors.now _ _ _ (search rules) c.number.ensures.number c.number.ensures.within
-    (Read c.in-Read.t c.in-Read.limit) c.args.writer c.read.new.cursor c.args.lent.now _ _ (ran c.args.writer)) c.read.ensures.ran)
+    (Read c.in-Read.t c.in-Read.limit) c.args.writer c.read.new.cursor c.args.lent.now _ _
+    (ran c.args.writer)) c.read.ensures.ran)
 
 pub returns-in-Len-clause-ran : goal.returns-in-Len-clause-ran
 returns-in-Len-clause-ran c =
@@ -100,28 +106,34 @@ returns-in-Missed-clause-ran c =
 pub returns-in-Clear-clause-ran : goal.returns-in-Clear-clause-ran
 returns-in-Clear-clause-ran c =
     rw c.in-Clear.is (ran_at c.args.cursors.now _ _ _ (search rules) c.number-in-Clear.ensures.number
-    c.number-in-Clear.ensures.within (Clear c.in-Clear.t) c.args.writer c.clear.new.cursor c.args.lent.now _ _ (c.clear.ensures.ran c.args.writer))
+    c.number-in-Clear.ensures.within (Clear c.in-Clear.t) c.args.writer c.clear.new.cursor c.args.lent.now _ _
+    (c.clear.ensures.ran c.args.writer))
 
 pub returns-in-Forward-clause-ran : goal.returns-in-Forward-clause-ran
 returns-in-Forward-clause-ran c =
     rw c.in-Forward.is (if_ok c.forward.result _ _
     (λ reply ran. ran_at c.args.cursors.now _ _ _ (search rules) c.number-in-Forward.ensures.number
-    c.number-in-Forward.ensures.within (Forward c.in-Forward.t c.in-Forward.u) c.args.writer c.forward.new.cursor c.args.lent.now _ _ ran) c.forward.ensures.ran)
+    c.number-in-Forward.ensures.within (Forward c.in-Forward.t c.in-Forward.u)
+    c.args.writer c.forward.new.cursor c.args.lent.now _ _ ran) c.forward.ensures.ran)
 
 pub returns-in-Sum-clause-ran : goal.returns-in-Sum-clause-ran
 returns-in-Sum-clause-ran c =
     rw c.in-Sum.is (if_ok c.sum.result _ _
     (λ reply ran. ran_at c.args.cursors.now _ _ _ (search rules) c.number-in-Sum.ensures.number
-    c.number-in-Sum.ensures.within (Sum c.in-Sum.t c.in-Sum.r) c.args.writer c.sum.new.cursor c.args.lent.now _ _ (ran c.args.writer)) c.sum.ensures.ran)
+    c.number-in-Sum.ensures.within (Sum c.in-Sum.t c.in-Sum.r)
+    c.args.writer c.sum.new.cursor c.args.lent.now _ _ (ran c.args.writer)) c.sum.ensures.ran)
 
 pub returns-in-Write-clause-refused : goal.returns-in-Write-clause-refused
 returns-in-Write-clause-refused c =
-    rw c.in-Write.is (on_err_then c.write.result _ _ (λ refused. refused (places_of c.args.cursors.now)) c.write.ensures.refused)
+    rw c.in-Write.is
+    (on_err_then c.write.result _ _ (λ refused. refused (places_of c.args.cursors.now)) c.write.ensures.refused)
 
 pub returns-in-Batch-clause-refused : goal.returns-in-Batch-clause-refused
 returns-in-Batch-clause-refused c =
-    rw c.in-Batch.is (on_err_then c.batch.result _ _ (λ refused. refused (places_of c.args.cursors.now)) c.batch.ensures.refused)
+    rw c.in-Batch.is
+    (on_err_then c.batch.result _ _ (λ refused. refused (places_of c.args.cursors.now)) c.batch.ensures.refused)
 
 pub returns-in-Drain-clause-refused : goal.returns-in-Drain-clause-refused
 returns-in-Drain-clause-refused c =
-    rw c.in-Drain.is (on_err_then c.drain.result _ _ (λ refused. refused (places_of c.args.cursors.now)) c.drain.ensures.refused)
+    rw c.in-Drain.is
+    (on_err_then c.drain.result _ _ (λ refused. refused (places_of c.args.cursors.now)) c.drain.ensures.refused)

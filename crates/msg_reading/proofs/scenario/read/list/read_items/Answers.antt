@@ -9,8 +9,8 @@ returns-in_err-read-clause-refused g c =
     let names = c.args.names.now in
     rw (passed.1, passed.2) (
       refused.0,
-      λ m. ElementsLeft-bad (g.T.Element.checks names) (g.T.Element.denotes names) c.args.items.now c.loop-item.item-index
-          c.item-item.result c.loop-item.read.items _ c.loop-item.invariant c.loop-item-test.true
+      λ m. ElementsLeft-bad (g.T.Element.checks names) (g.T.Element.denotes names) c.args.items.now
+          c.loop-item.item-index c.item-item.result c.loop-item.read.items _ c.loop-item.invariant c.loop-item-test.true
           (rw (← c.item-item.is) (refused.1 m)),
     )
 

@@ -18,7 +18,8 @@ returns-in_err-ops-clause-refused c =
     let d = view c.args.system.now in
     let from = program_from names d c.in_ok-kind.kind (view c.args.ops.now) c.in_ok-kind.ensures.is c.requires in
     let ops = ops_of_kind names c.in_ok-kind.kind (view c.args.ops.now) in
-    rw (passed.1, passed.2) (refuses_by (program_checks names d) (ops ++ after_ops names d) _ from (stops ops (after_ops names d) _ c.in_err-ops.ensures.agrees))
+    rw (passed.1, passed.2) (refuses_by (program_checks names d) (ops ++ after_ops names d) _ from
+    (stops ops (after_ops names d) _ c.in_err-ops.ensures.agrees))
 
 pub returns-in_err-place-clause-refused : goal.returns-in_err-place-clause-refused
 returns-in_err-place-clause-refused c =
@@ -28,7 +29,8 @@ returns-in_err-place-clause-refused c =
     let from = program_from names d c.in_ok-kind.kind (view c.args.ops.now) c.in_ok-kind.ensures.is c.requires in
     let ops = ops_of_kind names c.in_ok-kind.kind (view c.args.ops.now) in
     let start = needs (is_some (start_of (start_in d))) Shape ∷ [] in
-    rw (passed.1, passed.2) (refuses_by (program_checks names d) (ops ++ after_ops names d) _ from (goes_on ops (after_ops names d) _ c.in_ok-ops.ensures.agrees.0
+    rw (passed.1, passed.2) (refuses_by (program_checks names d) (ops ++ after_ops names d) _ from
+    (goes_on ops (after_ops names d) _ c.in_ok-ops.ensures.agrees.0
     (stops (place_checks names d) start _ c.in_err-place.ensures.agrees)))
 
 pub returns-in_err-start-clause-refused : goal.returns-in_err-start-clause-refused
@@ -39,7 +41,8 @@ returns-in_err-start-clause-refused c =
     let from = program_from names d c.in_ok-kind.kind (view c.args.ops.now) c.in_ok-kind.ensures.is c.requires in
     let ops = ops_of_kind names c.in_ok-kind.kind (view c.args.ops.now) in
     let start = needs (is_some (start_of (start_in d))) Shape ∷ [] in
-    rw (passed.1, passed.2, c.in_err-start.ensures.is.0) (refuses_by (program_checks names d) (ops ++ after_ops names d) _ from
+    rw (passed.1, passed.2, c.in_err-start.ensures.is.0)
+    (refuses_by (program_checks names d) (ops ++ after_ops names d) _ from
     (goes_on ops (after_ops names d) _ c.in_ok-ops.ensures.agrees.0
     (goes_on (place_checks names d) start _ c.in_ok-place.ensures.agrees.0
     (is_shape start (start_is names d None c.in_err-start.ensures.is.1)))))
