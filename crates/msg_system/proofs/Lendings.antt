@@ -18,13 +18,6 @@ use Rattle.msg_system.specs.Prelude.{numbers_for}
 pub writable_is_shown : (p : Part) (l : Lent) → IsSome (writable p l) → shown p l ≡ writable p l
 writable_is_shown p l there = grind (arith, cases_Bool, false≢true)
 
-pub can_be_shown : (p : Part) (l : Lent) → IsSome (writable p l) → IsSome (shown p l)
-can_be_shown p l there = rw (writable_is_shown p l there) there
-
-pub messages_stand : (l : Lent) (s : WorldState) (t : ℕ) (k : Kept Record) → Some k ≡ shown (OfType t) l
-    → LoanStands l s → StandsFor k (s.histories t)
-messages_stand l s t k is stand = rw (← is) at (stand (OfType t))
-
 pub value_stands : (l : Lent) (s : WorldState) (r : ℕ) (z : ℤ) → Some z ≡ shown (OfResource r) l → LoanStands l s → z
     ≡ s.resources r
 value_stands l s r z is stand = rw (← is) at (stand (OfResource r))
@@ -61,9 +54,8 @@ spent_stands h ms k spent stands = grind (arith, nat_tests)
 pub made_by : {X M : Type 0} (R : X → M → Type 0) (f : X → M) → ((x : X) (m : M) → R x m → m ≡ f x)
     → (xs : List X) (ms : List M) → AllZip R xs ms → ms ≡ map f xs
 made_by R f is [] [] made = refl
-made_by R f is [] (m ∷ ms) made = absurd made
-made_by R f is (x ∷ xs) [] made = absurd made
 made_by R f is (x ∷ xs) (m ∷ ms) made = rw (is x m made.0, made_by R f is xs ms made.1) refl
+made_by R f is xs ms made = absurd made
 
 -- what functions on a loan go by
 pub ruleset of_loans = (
@@ -71,7 +63,6 @@ pub ruleset of_loans = (
   to_z-of_z,
   length-map,
   on_err,
-  messages_stand,
   value_stands,
   written_messages_stand,
   numbers_fit,
