@@ -81,9 +81,3 @@ op_more op w qs rs l m e before after r far ran = grind (arith, append_assoc, fa
 pub written_stand : (l m : Lent) (taken : Parts) (s : WorldState) → SameLoan l m → taken ≡ taken_of m → LoanStands m s
     → WrittenStand l taken s
 written_stand l m taken s same is stands p written = grind arith
-
--- one reply more
-pub one_reply_more : (before after : List Reply) (n : ℕ) (r : Reply) → HasReplies before after n
-    → HasReplies before (after ++ r ∷ []) (n + 1)
-one_reply_more before after n r has =
-    (has.0 ++ r ∷ [], rw (has.1, append_assoc) refl, rw (length_push, has.2) refl)

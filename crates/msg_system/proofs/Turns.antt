@@ -96,12 +96,8 @@ pub record IsKept (n : Needs) (op : Op) : Type 0 where
 same_part_is : (p q : Part) → IsTrue (same_part p q) → p ≡ q
 same_part_is p q z2 = grind (arith, eqb-true, false≢true)
 
-at_part : (holds : Part → Bool) (o : Option Part) (p : Part) → IsTrue (is_none_or holds o) → IsTrue (is_part o p)
-    → IsTrue (holds p)
-at_part holds o p z3 z4 = grind (arith, false≢true, same_part_is)
-
 pub kept : (n : Needs) (op : Op) → IsTrue (keeps_to n op) → IsKept n op
-kept n op h = grind (arith, and_parts, at_part)
+kept n op h = grind (arith, and_parts, false≢true, same_part_is)
 
 -- what comes next keeps to what is needed
 pub next_kept_to : (n : Needs) (o : Option Op) (op : Op) → if_kept n o ≡ Some op → IsKept n op

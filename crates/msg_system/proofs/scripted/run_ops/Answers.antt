@@ -1,6 +1,6 @@
-use Rattle.std.proofs.Common.{◌≡◌, ◌+◌, ◌++◌, ◌∷◌, [], arith, refl, take}
-use Rattle.std.proofs.lemmas.List.{take_all, take_more}
-use Rattle.msg_system.proofs.Runs.{after_program-snoc, one_reply_more, op_more, same_loan_trans}
+use Rattle.std.proofs.Common.{append_assoc, ◌≡◌, ◌+◌, ◌++◌, ◌∷◌, [], arith, refl, take}
+use Rattle.std.proofs.lemmas.List.{length_push, take_all, take_more}
+use Rattle.msg_system.proofs.Runs.{after_program-snoc, op_more, same_loan_trans}
 use Rattle.msg_system.proofs.scripted.run_ops.Goals as goal
 
 pub loop-op-preserved : goal.loop-op-preserved
@@ -12,7 +12,11 @@ loop-op-preserved c =
     record {
       so_far = λ s stands. rw (c.in_ok-push.ensures.items, one, after_program-snoc)
           (op_more c.op-item.result _ _ _ _ _ _ _ _ _ (inv.so_far s stands) c.in_ok-run.ensures.ran);
-      replies = rw c.in_ok-push.ensures.items (one_reply_more _ _ _ _ inv.replies);
+      replies = (
+        inv.replies.0 ++ c.in_ok-run.field-0 ∷ [],
+        rw (c.in_ok-push.ensures.items, inv.replies.1, append_assoc) refl,
+        rw (length_push, inv.replies.2) refl,
+      );
       same = same_loan_trans _ _ _ inv.same c.in_ok-run.ensures.same;
     }
 
