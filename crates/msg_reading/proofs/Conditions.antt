@@ -1,5 +1,5 @@
 -- The conditions of a scenario file.
-use Rattle.std.proofs.Common.{◌≡◌, ℕ, suc, ◌+◌, ◌-◌, ◌≤◌, ◌<◌, List, ◌∷◌, length, refl, sym, ap, ◌∙◌, arith, Option, Some, None, map}
+use Rattle.std.proofs.Common.{◌≡◌, ℕ, suc, ◌+◌, ◌-◌, ◌≤◌, ◌<◌, List, ◌∷◌, length, refl, sym, ◌∙◌, arith, Some, None, map}
 use Rattle.serde_json.specs.Data.{Data}
 use Rattle.serde_json.specs.View.{view}
 use Rattle.serde_json.specs.declared.value.Value.{Value}
@@ -18,28 +18,19 @@ pub record NotsSeen (most : ℕ) (d : Data) (seen : ℕ) (inside : Data) : Type 
   pub round : nots_round most d ≡ seen + nots_round (most - seen) inside
   pub inner : inside_nots most d ≡ inside_nots (most - seen) inside
 
--- one `not` more that is looked for, by what is in it
-round_by : (n : ℕ) (d : Data) {o : Option Data} → in_not d ≡ o
-    → nots_round (suc n) d ≡ elim o as (λ x. ℕ) [ None ↦ 0 | Some e ↦ nots_round n e + 1 ]
-round_by n d is = ap (λ o. elim o as (λ x. ℕ) [ None ↦ 0 | Some e ↦ nots_round n e + 1 ]) is
-
-inside_by : (n : ℕ) (d : Data) {o : Option Data} → in_not d ≡ o
-    → inside_nots (suc n) d ≡ elim o as (λ x. Data) [ None ↦ d | Some e ↦ inside_nots n e ]
-inside_by n d is = ap (λ o. elim o as (λ x. Data) [ None ↦ d | Some e ↦ inside_nots n e ]) is
-
 module _ {most seen : ℕ} {d inside : Data} (so_far : NotsSeen most d seen inside) where
   pub NotsSeen-more : {inner : Data} → seen < most → in_not inside ≡ Some inner → NotsSeen most d (seen + 1) inner
   NotsSeen-more {inner} lt is =
       let left : most - seen ≡ suc (most - (seen + 1)) = omega arith in
       let deeper : nots_round (most - seen) inside ≡ nots_round (most - (seen + 1)) inner + 1
-      = rw left (round_by _ inside is) in
-      record { round = omega (arith, so_far.round, deeper); inner = so_far.inner ∙ rw left (inside_by _ inside is) }
+      = rw (left, nots_round, is) refl in
+      record { round = omega (arith, so_far.round, deeper); inner = so_far.inner ∙ rw (left, inside_nots, is) refl }
 
   pub NotsSeen-end : seen < most → in_not inside ≡ None → (seen ≡ nots_round most d) × (inside ≡ inside_nots most d)
   NotsSeen-end lt is =
       let left : most - seen ≡ suc (most - (seen + 1)) = omega arith in
-      let none : nots_round (most - seen) inside ≡ 0 = rw left (round_by _ inside is) in
-      (omega (arith, so_far.round, none), sym (so_far.inner ∙ rw left (inside_by _ inside is)))
+      let none : nots_round (most - seen) inside ≡ 0 = rw (left, nots_round, is) refl in
+      (omega (arith, so_far.round, none), sym (so_far.inner ∙ rw (left, inside_nots, is) refl))
 
   pub NotsSeen-all : most ≤ seen → seen ≤ most → (most ≡ nots_round most d) × (inside ≡ inside_nots most d)
   NotsSeen-all le ge =

@@ -1,6 +1,5 @@
 -- The whole of a scenario file.
-use Rattle.std.proofs.Common.{◌≡◌, List, [], ◌∷◌, ◌++◌, Some, true, false, refl}
-use Rattle.std.specs.Prelude.{if◌then◌else◌}
+use Rattle.std.proofs.Common.{arith, ◌≡◌, List, [], ◌∷◌, ◌++◌, refl}
 use Rattle.std.specs.Option.{option_or}
 use Rattle.serde_json.specs.Data.{Data}
 use Rattle.msg_files.specs.Prelude.{Check, first_refusal}
@@ -26,9 +25,4 @@ from_resources d = resources_checks d ++ from_held d
 pub refusal_of_both : (cs ds : List Check)
     → first_refusal (cs ++ ds) ≡ option_or (first_refusal cs) (first_refusal ds)
 refusal_of_both [] ds = refl
-refusal_of_both (c ∷ cs) ds =
-    elim c.passes as (λ b. (if b then first_refusal (cs ++ ds) else Some c.refusal)
-    ≡ option_or (if b then first_refusal cs else Some c.refusal) (first_refusal ds)) [
-      | true ↦ refusal_of_both cs ds
-      | false ↦ refl
-    ]
+refusal_of_both (c ∷ cs) ds = grind (arith, refusal_of_both cs ds)

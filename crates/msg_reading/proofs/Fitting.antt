@@ -1,23 +1,20 @@
 -- What the systems of a scenario file use is there, and so are the types that its frames post to.
-use Rattle.std.proofs.Common.{◌≡◌, ℕ, ◌≤◌, ◌<◌, List, [], ◌∷◌, ◌++◌, length, refl, sym, ap, ◌∙◌, subst, Option, Some, None, true, false, arith, inl, inr}
-use Rattle.std.proofs.lemmas.Bool.{and_parts, eqb-true, or_cases}
+use Rattle.std.proofs.Common.{◌≡◌, ℕ, ◌≤◌, ◌<◌, List, [], ◌∷◌, ◌++◌, length, Option, Some, None, true, arith}
+use Rattle.std.proofs.lemmas.Bool.{eqb-true}
 use Rattle.std.proofs.lemmas.List.Elements.{All-head, All-tail, All-weaker}
 use Rattle.std.proofs.lemmas.List.Quantifiers.{position-Some}
-use Rattle.std.proofs.lemmas.Option.{same_Some}
-use Rattle.std.specs.Prelude.{All, Bool, IfSome, IsTrue, ◌||◌, codes, flat_map, if◌then◌else◌, is_some, nat_le, nat_lt, option_and_then}
+use Rattle.std.specs.Prelude.{All, IfSome, IsTrue, codes, flat_map, is_some}
 use Rattle.std.specs.List.{list_any}
-use Rattle.std.specs.Option.{option_map_or}
 use Rattle.std.specs.Str.{bytes_eq}
 use Rattle.serde_json.specs.Data.{Data}
-use Rattle.msg_world.specs.Prelude.{HasPart, Part, OfType, OfResource, Registry}
-use Rattle.msg_system.specs.Prelude.{is_part, job_needs, needs_any, op_parts, probe_part, program_needs, some_condition_reads, some_op_reads, some_op_writes}
+use Rattle.msg_world.specs.Prelude.{HasPart, Part}
+use Rattle.msg_system.specs.Prelude.{is_part, job_needs, needs_any, op_parts, probe_part}
 use Rattle.msg_system.specs.declared.condition.Condition.{Condition}
 use Rattle.msg_system.specs.declared.op.Op.{Op}
-use Rattle.msg_system.specs.declared.op.Op.TheVariants.{Forward, Sum}
 use Rattle.msg_frames.specs.declared.place.Place.{Place}
-use Rattle.msg_files.specs.Prelude.{Text, elements, first_refusal, is_number, natural, needs, number_up_to, only_below, value_at, values_of, whole}
-use Rattle.msg_reading.specs.Prelude.{Declared, FitKind, IsClashing, IsRunnableSystem, Kind, PostsAreToTypes, Relay, Scenario, Script, SystemSpec, Tally, checks_in_turn, condition_checks, condition_of, conditions_in, each_in_turn, each_of, fits_kind, frame_of, inside_nots, join_checks, join_in, kind_in, kind_of, list_checks, name_checks, of_headed, of_its_kind, op_checks, op_of, op_with, op_with_one, op_with_two, ops_checks, ops_of, place_checks, place_of, position_of, post_of, probe_with, program_checks, resource_number, start_in, start_of, system_checks, system_object, system_of, text, type_number, with_system}
-use Rattle.msg_files.specs.declared.refusal.Refusal.TheVariants.{BadNumber, Shape}
+use Rattle.msg_files.specs.Prelude.{Text, elements, first_refusal, natural, needs, value_at, values_of, whole}
+use Rattle.msg_reading.specs.Prelude.{Declared, FitKind, IsClashing, IsRunnableSystem, Kind, PostsAreToTypes, Scenario, SystemSpec, checks_in_turn, condition_checks, condition_of, conditions_in, each_in_turn, each_of, fits_kind, frame_of, inside_nots, join_checks, join_in, kind_in, kind_of, list_checks, name_checks, of_headed, of_its_kind, op_checks, op_of, op_with, op_with_one, op_with_two, ops_checks, ops_of, place_checks, place_of, post_of, probe_with, program_checks, resource_number, start_in, start_of, system_checks, system_object, system_of, text, type_number, with_system}
+use Rattle.msg_files.specs.declared.refusal.Refusal.TheVariants.{Shape}
 use Rattle.msg_reading.proofs.There.{Holds, below_there, both_pass, choice, first_passes, in_both, in_each, in_headed, in_map, in_then, in_turn_all, in_two, passed_length}
 
 -- ---- parts that are there
@@ -40,45 +37,34 @@ module _ (s : Scenario) where
   ConditionFits c = Has (probe_part c.probe)
 
   part_there : (o : Option Part) (p : Part) → IfSome o Has → is_part o p ≡ true → Has p
-  part_there (Some (OfType t)) (OfType u) has is = rw (eqb-true u t is) has
-  part_there (Some (OfResource t)) (OfResource u) has is = rw (eqb-true u t is) has
-  part_there o Registry has is = tt
-  part_there o p has is = cc
+  part_there o p has is = grind (arith, eqb-true)
 
   some_there : {X : Type 0} (part : X → Option Part) (xs : List X) (p : Part) → All (λ x. IfSome (part x) Has) xs
       → list_any (λ x. is_part (part x) p) xs ≡ true → Has p
   some_there part [] p fit h = cc
-  some_there part (x ∷ xs) p fit h = elim (or_cases (is_part (part x) p) (list_any (λ y. is_part (part y) p) xs) h) [
-    | inl here ↦ part_there (part x) p (All-head (λ y. IfSome (part y) Has) x xs fit) here
-    | inr later ↦ some_there part xs p (All-tail (λ y. IfSome (part y) Has) x xs fit) later
-  ]
+  some_there part (x ∷ xs) p fit h =
+      let here = part_there (part x) p (All-head (λ y. IfSome (part y) Has) x xs fit) in
+      let later = some_there part xs p (All-tail (λ y. IfSome (part y) Has) x xs fit) in
+      grind (arith, here, later)
 
   -- so a job needs nothing else
   job_fits : (ops : List Op) (cs : List Condition) → All OpFits ops → All ConditionFits cs
       → (p : Part) → IsTrue (needs_any (job_needs ops cs) p) → Has p
-  job_fits ops cs ops_fit cs_fit p h = elim (or_cases ((job_needs ops cs).reads p) (some_op_writes ops p) h) [
-    | inl reads ↦ elim (or_cases ((program_needs ops).reads p) (some_condition_reads cs p)
-        (and_parts ((program_needs ops).reads p || some_condition_reads cs p) _ reads).0) [
-          | inl read ↦ some_there (λ op. (op_parts op).read) ops p
-              (All-weaker OpFits (λ op. IfSome (op_parts op).read Has) (λ op fits. fits.0) ops ops_fit)
-              (and_parts (some_op_reads ops p) _ read).0
-          | inr asked ↦ some_there (λ c. Some (probe_part c.probe)) cs p cs_fit asked
-        ]
-    | inr written ↦ some_there (λ op. (op_parts op).written) ops p
-        (All-weaker OpFits (λ op. IfSome (op_parts op).written Has) (λ op fits. fits.1) ops ops_fit) written
-  ]
+  job_fits ops cs ops_fit cs_fit p h =
+      let read = some_there (λ op. (op_parts op).read) ops p (All-weaker OpFits _ (λ op fits. fits.0) ops ops_fit) in
+      let written = some_there (λ op. (op_parts op).written) ops p
+      (All-weaker OpFits _ (λ op fits. fits.1) ops ops_fit) in
+      grind (arith, read, written, some_there (λ c. Some (probe_part c.probe)) cs p cs_fit)
 
 -- ---- ops and conditions
 
 module _ (s : Scenario) (names : Declared) (of : NamesOf s names) where
   has_type : (d : Data) → Holds (λ t. t < length s.types) (type_number names (text d))
-  has_type d t h = subst (λ n. t < n) of.types
-      (position-Some (bytes_eq (text d)) names.types t [] (below_there (position_of names.types (text d)) 64 t h)).0
+  has_type d t h = rw of.types at (position-Some (bytes_eq (text d)) names.types t [] (below_there _ 64 t h)).0
 
   has_resource : (d : Data) → Holds (λ r. r < length s.resources) (resource_number names (text d))
-  has_resource d r h = subst (λ n. r < n) of.resources
-      (position-Some (bytes_eq (text d)) names.resources r []
-      (below_there (position_of names.resources (text d)) 64 r h)).0
+  has_resource d r h =
+      rw of.resources at (position-Some (bytes_eq (text d)) names.resources r [] (below_there _ 64 r h)).0
 
   op_with_one_fits : (head : Text) (d : Data) → Holds (OpFits s) (op_with_one names head d)
   op_with_one_fits head d =
@@ -108,21 +94,18 @@ module _ (s : Scenario) (names : Declared) (of : NamesOf s names) where
       (λ op h. cc)))))))
 
   op_with_fits : (head : Text) (ds : List Data) → Holds (OpFits s) (op_with names head ds)
-  op_with_fits head [] = choice _ (bytes_eq head (codes "signal")) _ _ (λ op is. rw (← same_Some _ op is) (tt, tt))
-      (λ op h. cc)
-  op_with_fits head (d ∷ []) = op_with_one_fits head d
-  op_with_fits head (d ∷ e ∷ []) = op_with_two_fits head d e
-  op_with_fits head (d ∷ e ∷ f ∷ rest) = λ op h. cc
+  op_with_fits head [] op h = grind arith
+  op_with_fits head (d ∷ []) op h = op_with_one_fits head d op h
+  op_with_fits head (d ∷ e ∷ []) op h = op_with_two_fits head d e op h
+  op_with_fits head (d ∷ e ∷ f ∷ rest) op h = cc
 
   op_fits : (d : Data) → Holds (OpFits s) (op_of names d)
   op_fits d = in_headed _ (op_with names) (elements d) op_with_fits
 
   probe_fits : (head : Text) (ds : List Data) → Holds (λ probe. Has s (probe_part probe)) (probe_with names head ds)
-  probe_fits head (d ∷ []) = choice _ (bytes_eq head (codes "on_message")) _ _
-      (in_map _ _ (type_number names (text d)) (has_type d)) (λ p h. cc)
-  probe_fits head (d ∷ e ∷ []) = choice _ (bytes_eq head (codes "resource_equals")) _ _
-      (in_both _ _ (resource_number names (text d)) (whole e) (λ r v is _. has_resource d r is)) (λ p h. cc)
-  probe_fits head ds = λ p h. cc
+  probe_fits head (d ∷ []) probe h = grind (arith, has_type d)
+  probe_fits head (d ∷ e ∷ []) probe h = grind (arith, has_resource d)
+  probe_fits head ds probe h = cc
 
   condition_fits : (d : Data) → Holds (ConditionFits s) (condition_of names d)
   condition_fits d = in_map _ _ (of_headed (probe_with names) (elements (inside_nots 128 d)))
@@ -144,23 +127,10 @@ module _ (s : Scenario) (names : Declared) (of : NamesOf s names) where
 -- ---- kinds and joins
 
 kind_fits : (kind : Kind) (ops : List Op) → fits_kind kind ops ≡ true → FitKind kind ops
-kind_fits Script ops h = tt
-kind_fits Relay (Forward t u ∷ []) h = (t, u, refl)
-kind_fits Tally (Sum t r ∷ []) h = (t, r, refl)
-kind_fits kind ops h = cc
-
-join_there : (n : ℕ) (b : Bool) → nat_lt n 10001 ≡ b
-    → option_map_or (nat_le 1) (if b then Some n else None) false ≡ true → (1 ≤ n) × (n ≤ 10000)
-join_there n true below h = let least : nat_le 1 n ≡ true = h in (grind (arith, least), grind (arith, below))
-join_there n false below h = cc
+kind_fits kind ops h = grind arith
 
 joins_fit : (d : Data) (n : ℕ) → first_refusal (join_checks d) ≡ None → natural d ≡ Some n → (1 ≤ n) × (n ≤ 10000)
-joins_fit d n passed is =
-    let in_range = option_map_or (nat_le 1) (number_up_to 10000 d) false in
-    let range = (first_passes in_range BadNumber []
-    (first_passes (is_number d) Shape (needs in_range BadNumber ∷ []) passed).1).0 in
-    join_there n (nat_lt n 10001) refl
-    (ap (λ o. option_map_or (nat_le 1) (option_and_then (only_below 10001) o) false) (sym is) ∙ range)
+joins_fit d n passed is = grind arith
 
 -- ---- systems
 

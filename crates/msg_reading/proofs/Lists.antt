@@ -1,5 +1,7 @@
 -- Lists of a scenario file, and one step of a walk over their elements.
-use Rattle.std.proofs.Common.{◌≡◌, ℕ, ◌+◌, ◌<◌, List, [], ◌∷◌, ◌++◌, length, get_or, drop, sym, ap, ◌∙◌, append_assoc, Option, Some, None, map}
+use Rattle.std.proofs.Common.{refl}
+use Rattle.std.proofs.lemmas.List.{map_push}
+use Rattle.std.proofs.Common.{◌≡◌, ℕ, ◌+◌, ◌<◌, List, [], ◌∷◌, ◌++◌, length, get_or, drop, ◌∙◌, append_assoc, Option, Some, None, map}
 use Rattle.std.proofs.lemmas.List.{length-map, map-append, drop_more, drop_all}
 use Rattle.std.specs.Prelude.{flat_map}
 use Rattle.serde_json.specs.Data.{Data}
@@ -25,14 +27,11 @@ module _ {A : Type 0} (checks : Data → List Check) (denotes : Data → Option 
       → denotes (view (get_or items i d)) ≡ Some a
       → ElementsLeft checks denotes items (i + 1) (read ++ a ∷ [])
   ElementsLeft-more i d read a left lt passes is =
-      let rest = map view (drop (i + 1) items) in record {
-        passed = left.passed ∙ ap (λ l. first_refusal (flat_map checks (map view l))) (drop_more items i d lt)
-            ∙ first_refusal-passed (checks (view (get_or items i d))) (flat_map checks rest) passes;
-        denoted = left.denoted
-            ∙ ap (λ l. map (λ b. Some b) read ++ map denotes (map view l)) (drop_more items i d lt)
-            ∙ ap (λ o. map (λ b. Some b) read ++ o ∷ map denotes rest) is
-            ∙ sym (ap (λ l. l ++ map denotes rest) (map-append (λ b. Some b) read (a ∷ []))
-            ∙ append_assoc (map (λ b. Some b) read) (Some a ∷ []) (map denotes rest));
+      let here = checks (view (get_or items i d)) in
+      let rest = flat_map checks (map view (drop (i + 1) items)) in
+      record {
+        passed = left.passed ∙ rw (drop_more items i d lt) (first_refusal-passed here rest passes);
+        denoted = left.denoted ∙ rw (drop_more items i d lt, is, map_push, append_assoc) refl;
       }
 
   pub ElementsLeft-bad : (i : ℕ) (d : Value) (read : List A) (e : Refusal)
@@ -40,8 +39,8 @@ module _ {A : Type 0} (checks : Data → List Check) (denotes : Data → Option 
       → first_refusal (checks (view (get_or items i d))) ≡ Some e
       → first_refusal (flat_map checks (map view items)) ≡ Some e
   ElementsLeft-bad i d read e left lt bad =
-      left.passed ∙ ap (λ l. first_refusal (flat_map checks (map view l))) (drop_more items i d lt)
-      ∙ first_refusal-stands (checks (view (get_or items i d))) (flat_map checks (map view (drop (i + 1) items))) e bad
+      let rest = flat_map checks (map view (drop (i + 1) items)) in
+      left.passed ∙ rw (drop_more items i d lt) (first_refusal-stands (checks (view (get_or items i d))) rest e bad)
 
 -- ---- steps that the check takes by itself
 

@@ -1,12 +1,12 @@
 -- One step of a walk over elements that declare names.
-use Rattle.std.proofs.Common.{◌≡◌, ℕ, ◌+◌, ◌<◌, List, [], ◌∷◌, ◌++◌, length, get_or, drop, refl, sym, ap, ◌∙◌, append_assoc, Option, Some, None, map}
+use Rattle.std.proofs.Common.{◌≡◌, ℕ, ◌+◌, ◌<◌, List, [], ◌∷◌, ◌++◌, length, get_or, drop, refl, ◌∙◌, append_assoc, Option, Some, None, map}
 use Rattle.std.proofs.lemmas.List.{drop_more}
 use Rattle.std.specs.Prelude.{option_map}
 use Rattle.serde_json.specs.Data.{Data}
 use Rattle.serde_json.specs.View.{view}
 use Rattle.serde_json.specs.declared.value.Value.{Value}
 use Rattle.msg_files.specs.Prelude.{Check, first_refusal}
-use Rattle.msg_reading.specs.Prelude.{Declared, both, checks_in_turn, each_in_turn, with_all}
+use Rattle.msg_reading.specs.Prelude.{Declared, checks_in_turn, each_in_turn, with_all}
 use Rattle.msg_files.specs.declared.refusal.Refusal.{Refusal}
 use Rattle.msg_files.proofs.Walks.{first_refusal-passed, first_refusal-stands}
 
@@ -24,7 +24,7 @@ module _ {A : Type 0} (checks : Declared → Data → List Check) (denotes : Dec
       → option_map (λ rest. read ++ rest) (option_map (λ rest. a ∷ rest) o)
       ≡ option_map (λ rest. (read ++ a ∷ []) ++ rest) o
   one_more_before read a None = refl
-  one_more_before read a (Some rest) = ap (λ l. Some l) (sym (append_assoc read (a ∷ []) rest))
+  one_more_before read a (Some rest) = rw append_assoc refl
 
   pub NamedLeft-more : (i : ℕ) (d : Value) (names : Declared) (read : List A) (a : A)
       → NamedLeft i names read → i < length items
@@ -32,19 +32,12 @@ module _ {A : Type 0} (checks : Declared → Data → List Check) (denotes : Dec
       → denotes names (view (get_or items i d)) ≡ Some a
       → NamedLeft (i + 1) (with_one names (view (get_or items i d))) (read ++ a ∷ [])
   NamedLeft-more i d names read a left lt passes is =
-      let rest = map view (drop (i + 1) items) in
       let here = view (get_or items i d) in
-      let after = with_one names here in record {
-        passed = left.passed
-            ∙ ap (λ l. first_refusal (checks_in_turn checks with_one names (map view l))) (drop_more items i d lt)
-            ∙ first_refusal-passed (checks names here) (checks_in_turn checks with_one after rest) passes;
-        denoted = left.denoted
-            ∙ ap (λ l. option_map (λ r. read ++ r) (each_in_turn denotes with_one names (map view l)))
-            (drop_more items i d lt)
-            ∙ ap (λ o. option_map (λ r. read ++ r) (both (λ b r. b ∷ r) o (each_in_turn denotes with_one after rest)))
-            is
-            ∙ one_more_before read a (each_in_turn denotes with_one after rest);
-        declared = left.declared ∙ ap (λ l. with_all with_one names (map view l)) (drop_more items i d lt);
+      let rest = checks_in_turn checks with_one (with_one names here) (map view (drop (i + 1) items)) in
+      record {
+        passed = left.passed ∙ rw (drop_more items i d lt) (first_refusal-passed (checks names here) rest passes);
+        denoted = left.denoted ∙ rw (drop_more items i d lt, is) (one_more_before read a _);
+        declared = left.declared ∙ rw (drop_more items i d lt) refl;
       }
 
   pub NamedLeft-bad : (i : ℕ) (d : Value) (names : Declared) (read : List A) (e : Refusal)
@@ -53,7 +46,5 @@ module _ {A : Type 0} (checks : Declared → Data → List Check) (denotes : Dec
       → first_refusal (checks_in_turn checks with_one first (map view items)) ≡ Some e
   NamedLeft-bad i d names read e left lt bad =
       let here = view (get_or items i d) in
-      left.passed
-      ∙ ap (λ l. first_refusal (checks_in_turn checks with_one names (map view l))) (drop_more items i d lt)
-      ∙ first_refusal-stands (checks names here)
-      (checks_in_turn checks with_one (with_one names here) (map view (drop (i + 1) items))) e bad
+      let rest = checks_in_turn checks with_one (with_one names here) (map view (drop (i + 1) items)) in
+      left.passed ∙ rw (drop_more items i d lt) (first_refusal-stands (checks names here) rest e bad)

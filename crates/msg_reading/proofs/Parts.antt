@@ -5,8 +5,7 @@ use Rattle.serde_json.specs.Find.{as_array, as_str}
 use Rattle.serde_json.specs.View.{view, items_view}
 use Rattle.serde_json.specs.declared.value.Value.{Value}
 use Rattle.msg_files.specs.Prelude.{Check, Text, elements, first_refusal}
-use Rattle.msg_reading.specs.Prelude.{both, for_headed, of_headed}
-use Rattle.msg_files.specs.declared.refusal.Refusal.{Refusal}
+use Rattle.msg_reading.specs.Prelude.{for_headed, of_headed}
 use Rattle.msg_files.specs.declared.refusal.Refusal.TheVariants.{Shape}
 use Rattle.msg_files.proofs.Shapes.{elements_are, range_to_end}
 use Rattle.msg_files.proofs.Steps.{Refuses}
@@ -15,12 +14,12 @@ use Rattle.msg_files.proofs.Steps.{Refuses}
 
 module _ {A : Type 0} where
   pub one_of : (xs : List A) (v : A) → 1 ≤ length xs → length xs < 2 → v ≡ get_or xs 0 v → xs ≡ v ∷ []
-  one_of (x ∷ []) v least below is = ap (λ y. y ∷ []) (sym is)
+  one_of (x ∷ []) v least below is = rw is refl
   one_of xs v least below is = absurd (omega (arith, least, below))
 
   pub two_of : (xs : List A) (v w : A) → 2 ≤ length xs → length xs < 3 → v ≡ get_or xs 0 v → w ≡ get_or xs 1 w
       → xs ≡ v ∷ w ∷ []
-  two_of (x ∷ y ∷ []) v w least below is is' = ap (λ z. z ∷ y ∷ []) (sym is) ∙ ap (λ z. v ∷ z ∷ []) (sym is')
+  two_of (x ∷ y ∷ []) v w least below is is' = rw (is, is') refl
   two_of xs v w least below is is' = absurd (omega (arith, least, below))
 
 -- a list is its first item and the range of the others
@@ -36,23 +35,14 @@ first_and_rest d (x ∷ xs) v list least is =
 pub headed_checked : (f : Text → List Data → List Check) (d head : Data) (ps : List Data) (name : Text)
     → as_str head ≡ Some name → elements d ≡ head ∷ ps
     → first_refusal (for_headed f (elements d)) ≡ first_refusal (f name ps)
-headed_checked f d head ps name is are = ap (λ ds. first_refusal (for_headed f ds)) are ∙ rw is refl
+headed_checked f d head ps name is are = rw (are, is) refl
 
 pub headed_denoted : {A : Type 0} (f : Text → List Data → Option A) (d head : Data) (ps : List Data) (name : Text)
     → as_str head ≡ Some name → elements d ≡ head ∷ ps → of_headed f (elements d) ≡ f name ps
-headed_denoted f d head ps name is are = ap (of_headed f) are ∙ rw is refl
+headed_denoted f d head ps name is are = rw (are, is) refl
 
 -- ---- checks one after another, where one of them fails
 
 -- a wrong shape is no want of memory
 pub is_shape : (cs : List Check) → first_refusal cs ≡ Some Shape → Refuses cs Shape
 is_shape cs is = (λ same. cc, λ _. is)
-
-pub refuses_as : (cs : List Check) (e f : Refusal) → e ≡ f → Refuses cs f → Refuses cs e
-refuses_as cs e f is h = rw is h
-
--- ---- both of two
-
-pub both_denoted : {A B C : Type 0} (f : A → B → C) {o : Option A} {p : Option B} {a : A} {b : B}
-    → o ≡ Some a → p ≡ Some b → both f o p ≡ Some (f a b)
-both_denoted f {o} {p} {a} {b} is is' = ap (λ x. both f x p) is ∙ ap (λ x. both f (Some a) x) is'

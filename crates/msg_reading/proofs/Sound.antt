@@ -32,8 +32,7 @@ names_grow : (part : Declared → List Text) (with_one : Declared → Data → D
     → (names : Declared) (ds : List Data) → length (part (with_all with_one names ds)) ≡ length (part names) + length ds
 names_grow part with_one grows names [] = omega arith
 names_grow part with_one grows names (d ∷ ds) =
-    let here = grows names d in
-    let more = names_grow part with_one grows (with_one names d) ds in grind (arith, common_steps, here, more)
+    grind (arith, common_steps, grows names d, names_grow part with_one grows (with_one names d) ds)
 
 -- there are as many names of systems as systems
 pub as_many_systems : (d : Data) → length (all_names d).systems ≡ length (elements (systems_in d))
@@ -87,8 +86,11 @@ pub rules_among_all : (n : ℕ) (rules : List Rule) → NameSystemsBelow n rules
 rules_among_all n [] below = refl
 rules_among_all n (rule ∷ rules) below =
     let here = All-head (IsBelow n) rule rules below in
-    rw (all_joined n rule.earlier here.0, all_joined n rule.later here.1)
-    (ap (λ l. (rule.earlier, rule.later) ∷ l) (rules_among_all n rules (All-tail (IsBelow n) rule rules below)))
+    rw (
+      all_joined n rule.earlier here.0,
+      all_joined n rule.later here.1,
+      rules_among_all n rules (All-tail (IsBelow n) rule rules below),
+    ) refl
 
 -- ---- the whole
 

@@ -1,9 +1,10 @@
 -- Names in order, and the set of texts that keeps them.
-use Rattle.std.proofs.Common.{◌≡◌, ◌+◌, List, [], ◌∷◌, ◌++◌, length, refl, sym, ap, ◌∙◌, Option, Some, None, Bool, true, false, not, map, nat_lt, string_bytes, String, arith}
+use Rattle.std.proofs.lemmas.List.{map_push}
+use Rattle.std.proofs.Common.{◌≡◌, ◌+◌, List, [], ◌∷◌, ◌++◌, length, refl, sym, ap, ◌∙◌, Option, None, Bool, false, not, map, nat_lt, string_bytes, String, arith}
 use Rattle.std.proofs.lemmas.Grind.{common_steps}
-use Rattle.std.proofs.lemmas.List.{length-map, map-append}
+use Rattle.std.proofs.lemmas.List.{length-map}
 use Rattle.std.specs.List.{list_any, position_or_len}
-use Rattle.std.specs.Prelude.{cond, position, is_some, is_err, Result, Ok, Err, IfOk, ◌||◌}
+use Rattle.std.specs.Prelude.{cond, position, is_some, is_err, Result, IfOk}
 use Rattle.std.specs.Str.{bytes_eq}
 use Rattle.std.specs.declared.alloc.Global.{Global}
 use Rattle.indexmap.specs.IndexSet.{insert_key}
@@ -22,31 +23,11 @@ module _ {A B : Type 0} (p : B → Bool) (f : A → B) where
 module _ {A : Type 0} (p : A → Bool) where
   found-any : (xs : List A) → nat_lt (position_or_len p xs) (length xs) ≡ list_any p xs
   found-any [] = refl
-  found-any (x ∷ xs) =
-      elim (p x) as (λ b. nat_lt (cond (not b) (1 + position_or_len p xs) 0) (length (x ∷ xs)) ≡ (b || list_any p xs)) [
-        | true ↦ grind (arith, common_steps)
-        | false ↦ let one : nat_lt (1 + position_or_len p xs) (length (x ∷ xs))
-            ≡ nat_lt (position_or_len p xs) (length xs) = grind (arith, common_steps) in one ∙ found-any xs
-      ]
+  found-any (x ∷ xs) = grind (arith, common_steps, found-any xs)
 
   -- where none is found, none passes
   pub none-any : (xs : List A) → position p xs ≡ None → list_any p xs ≡ false
-  none-any xs none =
-      sym (found-any xs)
-      ∙ (elim (nat_lt (position_or_len p xs) (length xs)) as (λ b. cond b (Some (position_or_len p xs)) None ≡ None
-      → b ≡ false) [
-        | true ↦ λ e. cc
-        | false ↦ λ e. refl
-      ]) none
-
-insert-own : (keys : List (String Global)) (key : String Global)
-    → position_of (map string_bytes keys) (string_bytes key) ≡ None
-    → map string_bytes (insert_key (λ a b. bytes_eq (string_bytes a) (string_bytes b)) keys key)
-    ≡ map string_bytes keys ++ string_bytes key ∷ []
-insert-own keys key new =
-    let missing = none-any (λ k. bytes_eq (string_bytes key) (string_bytes k)) keys
-    (sym (position-map (bytes_eq (string_bytes key)) string_bytes keys) ∙ new) in
-    rw missing (map-append string_bytes keys (key ∷ []))
+  none-any xs none = grind (arith, found-any)
 
 -- a text that isn't there yet goes last
 pub insert-new : (keys : List (String Global)) (key : String Global) (name : Text) → string_bytes key ≡ name
@@ -54,15 +35,13 @@ pub insert-new : (keys : List (String Global)) (key : String Global) (name : Tex
     → map string_bytes (insert_key (λ a b. bytes_eq (string_bytes a) (string_bytes b)) keys key)
     ≡ map string_bytes keys ++ name ∷ []
 insert-new keys key name is new =
-    insert-own keys key (ap (position_of (map string_bytes keys)) is ∙ new)
-    ∙ ap (λ t. map string_bytes keys ++ t ∷ []) is
+    let none = sym (position-map (bytes_eq (string_bytes key)) string_bytes keys) ∙ rw is new in
+    rw (none-any (λ k. bytes_eq (string_bytes key) (string_bytes k)) keys none, ← is, map_push) refl
 
 -- what holds of no error holds
 pub of_ok : {T E : Type 0} (r : Result T E) (P : Type 0) → IfOk r (λ x. P) → false ≡ is_err r → P
-of_ok (Ok x) P h e = h
-of_ok (Err x) P h e = cc
+of_ok r P h e = grind arith
 
 -- what isn't there is absent
 pub is_absent : {A : Type 0} (o : Option A) → false ≡ is_some o → o ≡ None
-is_absent None e = refl
-is_absent (Some a) e = cc
+is_absent o e = grind arith

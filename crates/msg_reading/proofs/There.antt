@@ -3,8 +3,8 @@ use Rattle.std.proofs.Common.{◌≡◌, ℕ, ◌≤◌, List, [], ◌∷◌, �
 use Rattle.std.proofs.lemmas.Bool.{leb-true}
 use Rattle.std.proofs.lemmas.Grind.{common_steps}
 use Rattle.std.proofs.lemmas.List.Elements.{All-cons, All-nil}
-use Rattle.std.proofs.lemmas.Option.{cond_some, same_Some}
-use Rattle.std.specs.Prelude.{All, if◌then◌else◌, nat_le, nat_lt, option_and_then, option_map}
+use Rattle.std.proofs.lemmas.Option.{same_Some}
+use Rattle.std.specs.Prelude.{All, if◌then◌else◌, nat_le, option_and_then, option_map}
 use Rattle.serde_json.specs.Data.{Data}
 use Rattle.msg_files.specs.Prelude.{Check, Text, all_some, elements, first_refusal, is_list, needs, only_below}
 use Rattle.msg_reading.specs.Prelude.{Declared, both, checks_in_turn, each_in_turn, of_headed, of_two, text}
@@ -59,15 +59,13 @@ in_cons P (Some a) os good xs h = in_map P (λ rest. a ∷ rest) (all_some os) (
 pub in_each : {A : Type 0} (P : A → Type 0) (f : Data → Option A) → ((d : Data) → Holds P (f d)) → (ds : List Data)
     → Holds (λ xs. All P xs × (length xs ≡ length ds)) (all_some (map f ds))
 in_each P f good [] xs h = subst (λ ys. All P ys × (length ys ≡ 0)) (same_Some [] xs h) (All-nil P, refl)
-in_each P f good (d ∷ ds) xs h = in_cons (λ ys. All P ys × (length ys ≡ length (d ∷ ds))) (f d) (map f ds)
-    (λ a rest is are.
+in_each P f good (d ∷ ds) xs h =
+    in_cons (λ ys. All P ys × (length ys ≡ length (d ∷ ds))) (f d) (map f ds) (λ a rest is are.
     let all = in_each P f good ds rest are in
-    let long = all.1 in
-    (All-cons P a rest (good d a is) all.0, grind (arith, common_steps, long))) xs h
+    (All-cons P a rest (good d a is) all.0, grind (arith, common_steps, all.1))) xs h
 
 pub below_there : (o : Option ℕ) (end : ℕ) → (n : ℕ) → option_and_then (only_below end) o ≡ Some n → o ≡ Some n
-below_there None end n h = cc
-below_there (Some k) end n h = ap (λ m. Some m) (cond_some (nat_lt k end) k n h).1
+below_there o end n h = grind arith
 
 -- ---- elements that declare names
 
@@ -78,8 +76,7 @@ module _ {A : Type 0} (f : Declared → Data → Option A) (with_one : Declared 
   in_turn_length names [] xs h = ap length (sym (same_Some [] xs h))
   in_turn_length names (d ∷ ds) xs h =
       in_both (λ ys. length ys ≡ length (d ∷ ds)) _ (f names d) (each_in_turn f with_one (with_one names d) ds)
-      (λ a rest is are. let long = in_turn_length (with_one names d) ds rest are in grind (arith, common_steps, long))
-      xs h
+      (λ a rest is are. grind (arith, common_steps, in_turn_length (with_one names d) ds rest are)) xs h
 
 -- ---- checks
 
@@ -87,17 +84,11 @@ module _ {A : Type 0} (f : Declared → Data → Option A) (with_one : Declared 
 pub both_pass : (cs ds : List Check) → first_refusal (cs ++ ds) ≡ None
     → (first_refusal cs ≡ None) × (first_refusal ds ≡ None)
 both_pass [] ds h = (refl, h)
-both_pass (c ∷ cs) ds h =
-    elim c.passes as (λ b. (if b then first_refusal (cs ++ ds) else Some c.refusal) ≡ None
-    → ((if b then first_refusal cs else Some c.refusal) ≡ None) × (first_refusal ds ≡ None)) [
-      | true ↦ λ e. both_pass cs ds e
-      | false ↦ λ e. cc
-    ] h
+both_pass (c ∷ cs) ds h = grind (arith, both_pass cs ds)
 
 pub first_passes : (b : Bool) (e : Refusal) (cs : List Check) → first_refusal (needs b e ∷ cs) ≡ None
     → (b ≡ true) × (first_refusal cs ≡ None)
-first_passes true e cs h = (refl, h)
-first_passes false e cs h = cc
+first_passes b e cs h = grind arith
 
 -- a list that passed its checks is short enough
 pub passed_length : (d : Data) (most : ℕ) (checks : List Check)

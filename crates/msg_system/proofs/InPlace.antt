@@ -1,6 +1,6 @@
 -- A list whose items are changed one after the other, in place.
-use Rattle.std.proofs.Common.{◌≡◌, ℕ, ◌+◌, ◌<◌, ◌++◌, List, [], ◌∷◌, length, map, take, drop, get_or, set, sym, ap, ◌∙◌, arith}
-use Rattle.std.proofs.lemmas.List.{drop-set-lt, drop_more, map-append, take_more, take_more_set}
+use Rattle.std.proofs.Common.{refl, ◌≡◌, ℕ, ◌+◌, ◌<◌, List, length, map, take, drop, get_or, set, ◌∙◌, arith}
+use Rattle.std.proofs.lemmas.List.{drop-set-lt, drop_more, map_push, take_more, take_more_set}
 use Rattle.std.proofs.lemmas.Grind.{drop_more_same}
 
 module _ {X : Type 0} (xs ys : List X) (i : ℕ) (rest : drop i ys ≡ drop i xs) (lx : i < length xs)
@@ -14,6 +14,4 @@ module _ {X : Type 0} (xs ys : List X) (i : ℕ) (rest : drop i ys ≡ drop i xs
 
   pub changed_later : (f : X → X) (y d : X) → take i ys ≡ map f (take i xs) → y ≡ f (get_or xs i d)
       → take (i + 1) (set ys i y) ≡ map f (take (i + 1) xs)
-  changed_later f y d changed is = take_more_set ys i y ly ∙ ap (λ zs. zs ++ y ∷ []) changed
-      ∙ ap (λ z. map f (take i xs) ++ z ∷ []) is
-      ∙ sym (ap (map f) (take_more xs i d lx) ∙ map-append f (take i xs) (get_or xs i d ∷ []))
+  changed_later f y d changed is = rw (take_more_set ys i y ly, take_more xs i d lx, map_push, changed, is) refl

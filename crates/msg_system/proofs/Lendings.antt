@@ -1,11 +1,14 @@
 -- What is read from a loan, and written through it.
-use Rattle.std.proofs.Common.{◌≡◌, ℕ, ◌+◌, ◌≤◌, ◌<◌, true, false, List, [], ◌∷◌, length, map, Option, Some, None, refl, sym, subst, ◌∙◌, arith}
-use Rattle.std.specs.Prelude.{ℤ, Result, IfSome, IsSome, OnErr}
+use Rattle.std.proofs.Common.{◌≡◌, ℕ, ◌+◌, ◌≤◌, ◌<◌, List, [], ◌∷◌, length, map, Some, None, refl, arith}
+use Rattle.std.specs.Prelude.{ℤ, Result, IsSome, OnErr}
 use Rattle.std.specs.List.{AllZip}
 use Rattle.std.proofs.lemmas.Bool.{cases_Bool, cases_lt, false≢true}
+use Rattle.std.proofs.lemmas.Grind.{common_steps}
+use Rattle.std.proofs.lemmas.Int.{to_z-of_z}
+use Rattle.std.proofs.lemmas.List.{length-map}
 use Rattle.std.proofs.lemmas.Bool.Decides.{nat_tests}
 use Rattle.msg_buffer.specs.declared.instance.Written.{Written}
-use Rattle.msg_buffer.specs.Prelude.{History, Kept, StandsFor, count, has_room, write}
+use Rattle.msg_buffer.specs.Prelude.{History, Kept, StandsFor, count, write}
 use Rattle.msg_world.specs.declared.lent.Lent.{Lent}
 use Rattle.msg_world.specs.declared.record.Record.{Record}
 use Rattle.msg_world.specs.Prelude.{LoanStands, OfResource, OfType, Part, WorldState, shown, writable}
@@ -15,43 +18,28 @@ use Rattle.msg_system.specs.Prelude.{numbers_for}
 pub writable_is_shown : (p : Part) (l : Lent) → IsSome (writable p l) → shown p l ≡ writable p l
 writable_is_shown p l there = grind (arith, cases_Bool, false≢true)
 
-pub can_be_shown : (p : Part) (l : Lent) → IsSome (writable p l) → IsSome (shown p l)
-can_be_shown p l there = rw (writable_is_shown p l there) there
-
-pub messages_stand : (l : Lent) (s : WorldState) (t : ℕ) (k : Kept Record) → Some k ≡ shown (OfType t) l
-    → LoanStands l s → StandsFor k (s.histories t)
-messages_stand l s t k is stand = let P : Option (Kept Record)
-    → Type 0 = λ o. IfSome o (λ x. StandsFor x (s.histories t)) in subst P (sym is) (stand (OfType t))
-
 pub value_stands : (l : Lent) (s : WorldState) (r : ℕ) (z : ℤ) → Some z ≡ shown (OfResource r) l → LoanStands l s → z
     ≡ s.resources r
-value_stands l s r z is stand = let P : Option ℤ
-    → Type 0 = λ o. IfSome o (λ x. x ≡ s.resources r) in subst P (sym is) (stand (OfResource r))
+value_stands l s r z is stand = rw (← is) at (stand (OfResource r))
 
 pub written_messages_stand : (l : Lent) (s : WorldState) (t : ℕ) (k : Kept Record) → IsSome (writable (OfType t) l)
     → Some k ≡ writable (OfType t) l → LoanStands l s
     → StandsFor k (s.histories t)
 written_messages_stand l s t k there is stand =
-    messages_stand l s t k (is ∙ sym (writable_is_shown (OfType t) l there)) stand
+    rw (writable_is_shown (OfType t) l there, ← is) at (stand (OfType t))
 
 module _ (h : History Record) (n : ℕ) where
-  room_true : count h + n ≤ h.limit → has_room h n ≡ true
-  room_true room = grind (arith, nat_tests)
-
-  room_false : h.limit < count h + n → has_room h n ≡ false
-  room_false spent = grind (arith, nat_tests)
-
   -- the numbers of a write that fits
   pub numbers_fit : (w : Written) → count h + n ≤ h.limit → w.first ≡ count h → w.n ≡ n → Some w ≡ numbers_for h n
-  numbers_fit w room first number = rw (room_true room, ← first, ← number) refl
+  numbers_fit w room first number = grind (arith, nat_tests)
 
   -- and of one that doesn't
   pub numbers_spent : h.limit < count h + n → None ≡ numbers_for h n
-  numbers_spent spent = rw (room_false spent) refl
+  numbers_spent spent = grind (arith, nat_tests)
 
   -- where they aren't spent, there are numbers
   pub numbers_left : ¬ (h.limit < count h + n) → IsSome (numbers_for h n)
-  numbers_left not_spent = grind (arith, cases_lt, room_true)
+  numbers_left not_spent = grind (arith, cases_lt, nat_tests)
 
 -- what holds in any case holds after a refusal
 pub on_err : {T E : Type 0} (r : Result T E) (P : Type 0) → P → OnErr r P
@@ -60,12 +48,25 @@ on_err r P z2 = grind arith
 -- a write that doesn't fit changes nothing
 pub spent_stands : (h : History Record) (ms : List Record) (k : Kept Record) → h.limit < count h + length ms
     → StandsFor k h → StandsFor k (write ms h)
-spent_stands h ms k spent stands = grind (arith, room_false)
+spent_stands h ms k spent stands = grind (arith, nat_tests)
 
 -- what a function makes of items, where it gives what `f` gives
 pub made_by : {X M : Type 0} (R : X → M → Type 0) (f : X → M) → ((x : X) (m : M) → R x m → m ≡ f x)
     → (xs : List X) (ms : List M) → AllZip R xs ms → ms ≡ map f xs
 made_by R f is [] [] made = refl
-made_by R f is [] (m ∷ ms) made = absurd made
-made_by R f is (x ∷ xs) [] made = absurd made
 made_by R f is (x ∷ xs) (m ∷ ms) made = rw (is x m made.0, made_by R f is xs ms made.1) refl
+made_by R f is xs ms made = absurd made
+
+-- what functions on a loan go by
+pub ruleset of_loans = (
+  common_steps,
+  to_z-of_z,
+  length-map,
+  on_err,
+  value_stands,
+  written_messages_stand,
+  numbers_fit,
+  numbers_spent,
+  numbers_left,
+  spent_stands,
+)

@@ -1,17 +1,13 @@
 -- What programs, conditions and jobs read and write
 pub mod Accesses
-mod JobAccesses
 -- What an op does to its loan and its cursor
 mod Lendings
 mod CopiedReads
-mod OpsDone
 -- Programs op by op, and systems
 mod Runs
 pub mod Turns
-mod Starts
 -- Conditions one after the other
 pub mod InPlace
-mod AllConditions
 -- Nothing else is used
 mod Footprints
 -- Turns that a behavior decides

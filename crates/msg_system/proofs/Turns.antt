@@ -1,14 +1,14 @@
 -- Turns by rules.
-use Rattle.std.proofs.Common.{◌≡◌, ℕ, zero, suc, ◌+◌, ◌≤◌, ◌++◌, Bool, true, not, ◌&&◌, ◌||◌, List, [], ◌∷◌, length, Option, Some, None, take, drop, refl, sym, ap, subst, ◌∙◌, arith, inl, inr, append_assoc}
-use Rattle.std.specs.Prelude.{option_to_list, IsTrue, slice_get, if◌then◌else◌}
+use Rattle.std.proofs.Common.{◌≡◌, ℕ, zero, suc, ◌≤◌, ◌++◌, Bool, true, List, [], ◌∷◌, length, Option, Some, None, take, refl, sym, ap, ◌∙◌, arith, inl, inr, append_assoc}
+use Rattle.std.specs.Prelude.{option_to_list, IsTrue, slice_get}
 use Rattle.std.proofs.Math.Seq.{drop-append_seam}
-use Rattle.std.proofs.lemmas.Bool.{and_from, and_parts, cases_Bool, eqb-true, false≢true}
+use Rattle.std.proofs.lemmas.Bool.{and_from, and_parts, eqb-true, false≢true}
 use Rattle.std.proofs.lemmas.List.{append-nil, length-take-le, take_more, take_all}
 use Rattle.std.proofs.lemmas.List.Folds.{list_any_at}
 use Rattle.std.proofs.lemmas.Option.{get_or_from_slice_get, none-some, same_Some, slice_get_cases, slice_get_past, slice_get_within}
 use Rattle.msg_world.specs.Prelude.{Part, Parts, SameLoan, WorldState, same_part, taken_of}
 use Rattle.msg_world.specs.declared.lent.Lent.{Lent}
-use Rattle.msg_system.specs.Prelude.{AfterOp, AfterProgram, IsInOrder, Meaning, Needs, OneOpIsATurn, Op, Program, Ran, Reply, WrittenStand, after_at_most, after_op, after_program, if_kept, is_none_or, is_part, is_resource, keeps_to, may_read, next_op, of_program, one_more, only, op_needs, op_parts, ops_answered, program_needs, some_op_reads, some_op_writes, turn}
+use Rattle.msg_system.specs.Prelude.{IsInOrder, Meaning, Needs, OneOpIsATurn, Op, Program, Ran, Reply, after_at_most, after_op, after_program, if_kept, is_none_or, is_part, keeps_to, may_read, next_op, of_program, only, op_needs, op_parts, ops_answered, program_needs, turn}
 use Rattle.msg_system.specs.inner.TurnRuns.{HasReplies, ProgramRan}
 use Rattle.msg_system.proofs.Runs.{after_program-snoc, same_part_refl, written_stand}
 
@@ -18,107 +18,73 @@ none_or_all : (holds : Part → Bool) (o : Option Part) → ((p : Part) → IsTr
     → IsTrue (is_none_or holds o)
 none_or_all holds o p = grind (arith, same_part_refl)
 
-listed : (r k w : Bool) → IsTrue r → IsTrue ((r && not (k && w)) || (k && w))
-listed r k w z3 = grind (arith, false≢true)
-
 op_kept : (ops : List Op) (i : ℕ) (op : Op) → slice_get ops i ≡ Some op → keeps_to (program_needs ops) op ≡ true
 op_kept ops i op is =
     let lt = slice_get_within ops i op is in
     let at = get_or_from_slice_get ops i op op is in
-    let n : Needs = program_needs ops in
     and_from _ _
-    (none_or_all (may_read n) (op_parts op).read
-    (λ p h. listed (some_op_reads ops p) (is_resource p) (some_op_writes ops p)
-    (list_any_at (λ o. (op_needs o).reads p) ops i op lt (ap (λ o. (op_needs o).reads p) at ∙ h))))
-    (none_or_all n.writes (op_parts op).written
-    (λ p h. list_any_at (λ o. (op_needs o).writes p) ops i op lt (ap (λ o. (op_needs o).writes p) at ∙ h)))
-
-program_next : (program : Program) (w : ℕ) (ps : ℕ → ℕ) (rs : List Reply) → next_op (of_program program w ps) rs
-    ≡ slice_get program.ops (length rs)
-program_next program w ps rs = grind (arith, op_kept)
+    (none_or_all _ (op_parts op).read
+    (λ p h. grind (arith, false≢true, list_any_at (λ o. (op_needs o).reads p) ops i op lt (rw at h))))
+    (none_or_all _ (op_parts op).written (λ p h. list_any_at (λ o. (op_needs o).writes p) ops i op lt (rw at h)))
 
 program_nexts : (program : Program) (w : ℕ) (ps : ℕ → ℕ) → next_op (of_program program w ps)
     ≡ (λ (rs : List Reply). slice_get program.ops (length rs))
-program_nexts program w ps = λ k rs. program_next program w ps rs k
+program_nexts program w ps = λ k rs. program_next rs k
+  where
+    program_next : (rs : List Reply) → next_op (of_program program w ps) rs ≡ slice_get program.ops (length rs)
+    program_next rs = grind (arith, op_kept)
 
 -- ---- a program is its ops in order
 
 pub one_reply_each : (ops : List Op) (w : ℕ) (ps : ℕ → ℕ) (s : WorldState) → length (after_program ops w ps s).replies
     ≡ length ops
 one_reply_each [] w ps s = refl
-one_reply_each (op ∷ ops) w ps s = let e : AfterOp =
-    after_op op w ps s in ap suc (one_reply_each ops w e.places e.state)
+one_reply_each (op ∷ ops) w ps s = ap suc (one_reply_each ops w _ (after_op op w ps s).state)
 
 -- as far as so many ops
 so_far : (ops : List Op) (n w : ℕ) (ps : ℕ → ℕ) (s : WorldState)
     → after_at_most n (λ replies. slice_get ops (length replies)) w ps s ≡ after_program (take n ops) w ps s
 so_far ops zero w ps s = refl
 so_far ops (suc n) w ps s =
-    let far : AfterProgram = after_program (take n ops) w ps s in
-    let more : (e : AfterProgram) → e ≡ far → one_more (slice_get ops (length e.replies)) w e
-    ≡ one_more (slice_get ops (length (take n ops))) w far =
-    λ e is. ap (λ x. one_more (slice_get ops (length x.replies)) w x) is
-    ∙ ap (λ k. one_more (slice_get ops k) w far) (one_reply_each (take n ops) w ps s) in
-    more (after_at_most n (λ replies. slice_get ops (length replies)) w ps s) (so_far ops n w ps s)
-    ∙ elim (slice_get_cases ops n).1 [
+    rw (so_far ops n w ps s, one_reply_each) (elim (slice_get_cases ops n).1 [
       | inl h ↦
-          ap (λ k. one_more (slice_get ops k) w far) (length-take-le n ops (omega (arith, h.1)))
-          ∙ ap (λ o. one_more o w far) h.2
-          ∙ sym (after_program-snoc (take n ops) h.0 w ps s)
-          ∙ ap (λ xs. after_program xs w ps s)
-          (sym (ap (λ k. take k ops) (the_suc n) ∙ take_more ops n h.0 h.1 ∙ ap (λ x. take n ops ++ x ∷ []) h.3))
+          let more : take (suc n) ops ≡ take n ops ++ h.0 ∷ [] = grind (arith, take_more ops n h.0 h.1, h.3) in
+          rw (more, after_program-snoc, length-take-le n ops (omega (arith, h.1)), h.2) refl
       | inr h ↦
-          ap (λ (o : Option Op). one_more o w far) (slice_get_past ops (length (take n ops)) (whole n ops h.0))
-          ∙ ap (λ xs. after_program xs w ps s) (take_all n ops h.0 ∙ sym (take_all (suc n) ops (omega (arith, h.0))))
-    ]
-  where
-    the_suc : (n : ℕ) → suc n ≡ n + 1
-    the_suc n = omega arith
-
-    whole : (n : ℕ) (xs : List Op) → length xs ≤ n → length xs ≤ length (take n xs)
-    whole n xs h = rw (take_all n xs h) (omega arith)
+          let over = slice_get_past ops (length ops) (omega arith) in
+          rw (take_all n ops h.0, take_all (suc n) ops (omega (arith, h.0)), over) refl
+    ])
 
 -- as many ops as are asked for, or all
 pub program_so_far : (program : Program) (n w : ℕ) (ps : ℕ → ℕ) (s : WorldState) → length program.ops ≤ n
     → after_at_most n (next_op (of_program program w ps)) w ps s ≡ after_program program.ops w ps s
 program_so_far program n w ps s few =
-    ap (λ next. after_at_most n next w ps s) (program_nexts program w ps) ∙ so_far program.ops n w ps s
-    ∙ ap (λ xs. after_program xs w ps s) (take_all n program.ops few)
+    rw (program_nexts program w ps, so_far program.ops n w ps s, take_all n program.ops few) refl
 
 pub ops_answered-snoc : (next : List Reply → Option Op) (rs : List Reply) (r : Reply) → ops_answered next (rs ++ r ∷ [])
     ≡ ops_answered next rs ++ option_to_list (next rs)
 ops_answered-snoc next [] r = append-nil (option_to_list (next []))
-ops_answered-snoc next (x ∷ rs) r =
-    ap (λ xs. option_to_list (next []) ++ xs) (ops_answered-snoc (λ now. next (x ∷ now)) rs r)
-    ∙ sym (append_assoc (option_to_list (next [])) (ops_answered (λ now. next (x ∷ now)) rs)
-    (option_to_list (next (x ∷ rs))))
+ops_answered-snoc next (x ∷ rs) r = rw (ops_answered-snoc (λ now. next (x ∷ now)) rs r, append_assoc) refl
 
 answered_first : (ops : List Op) (rs : List Reply) → ops_answered (λ replies. slice_get ops (length replies)) rs
     ≡ take (length rs) ops
 answered_first ops [] = refl
-answered_first [] (r ∷ rs) = answered_first [] rs ∙ no_more (length rs)
-  where
-    no_more : (n : ℕ) → take {A = Op} n [] ≡ take {A = Op} (suc n) []
-    no_more zero = refl
-    no_more (suc n) = refl
+answered_first [] (r ∷ rs) = answered_first [] rs ∙ take_all (length rs) [] (omega arith)
 answered_first (op ∷ ops) (r ∷ rs) = ap (λ xs. op ∷ xs) (answered_first ops rs)
 
 -- the replies to a whole program are answers to its ops
 pub answered_all : (program : Program) (w : ℕ) (ps : ℕ → ℕ) (rs : List Reply) → length rs ≡ length program.ops
     → ops_answered (next_op (of_program program w ps)) rs ≡ program.ops
 answered_all program w ps rs all =
-    ap (λ next. ops_answered next rs) (program_nexts program w ps) ∙ answered_first program.ops rs
-    ∙ take_all (length rs) program.ops (omega (arith, all))
+    rw (program_nexts program w ps, answered_first program.ops rs)
+    (take_all (length rs) program.ops (omega (arith, all)))
 
 pub in_order : IsInOrder
 unfolding turn
 in_order program w ps s few =
     let m : Meaning = of_program program w ps in
     let is : turn m s ≡ after_program program.ops w ps s = program_so_far program 64 w ps s few in
-    let all : ops_answered (next_op m) (turn m s).replies ≡ program.ops =
-    answered_all program w ps (turn m s).replies
-    (ap (λ (e : AfterProgram). length e.replies) is ∙ one_reply_each program.ops w ps s) in
-    (is, ap (λ ops. record (of_program program w (turn m s).places) { last = ops }) all)
+    (is, rw (answered_all program w ps (turn m s).replies (rw is (one_reply_each program.ops w ps s))) refl)
 
 -- ---- an op that keeps to what is needed
 
@@ -130,20 +96,13 @@ pub record IsKept (n : Needs) (op : Op) : Type 0 where
 same_part_is : (p q : Part) → IsTrue (same_part p q) → p ≡ q
 same_part_is p q z2 = grind (arith, eqb-true, false≢true)
 
-at_part : (holds : Part → Bool) (o : Option Part) (p : Part) → IsTrue (is_none_or holds o) → IsTrue (is_part o p)
-    → IsTrue (holds p)
-at_part holds o p z3 z4 = grind (arith, false≢true, same_part_is)
-
 pub kept : (n : Needs) (op : Op) → IsTrue (keeps_to n op) → IsKept n op
-kept n op h = grind (arith, and_parts, at_part)
+kept n op h = grind (arith, and_parts, false≢true, same_part_is)
 
 -- what comes next keeps to what is needed
 pub next_kept_to : (n : Needs) (o : Option Op) (op : Op) → if_kept n o ≡ Some op → IsKept n op
 next_kept_to n None op is = absurd (none-some op is)
-next_kept_to n (Some x) op is = elim (cases_Bool (keeps_to n x)) [
-  | inl holds ↦ rw (sym (same_Some x op (ap (λ b. if b then Some x else None) (sym holds) ∙ is))) (kept n x holds)
-  | inr isnt ↦ absurd (none-some op (ap (λ b. if b then Some x else None) (sym isnt) ∙ is))
-]
+next_kept_to n (Some x) op is = grind (arith, none-some, same_Some, kept n x)
 
 -- ---- a run of a program
 
@@ -153,28 +112,23 @@ pub ran_program : (program : Program) (w : ℕ) (ps qs : ℕ → ℕ) (l m : Len
     → taken ≡ taken_of m
     → Ran (of_program program w ps) (of_program program w qs) l taken before after
 ran_program program w ps qs l m taken before after few ran replies same is =
-    let as_turn : (s : WorldState) → turn (of_program program w ps) s
-    ≡ after_program program.ops w ps s = λ s. (in_order program w ps s few).0 in
     record {
       replies = replies.0;
       appended = replies.1;
       one_each = sym replies.2;
-      means = ap (λ ops. record (of_program program w qs) { last = ops })
-          (sym (answered_all program w ps replies.0 replies.2));
-      state = λ s stands. subst (λ (e : AfterProgram). WrittenStand l taken e.state) (sym (as_turn s))
+      means = rw (answered_all program w ps replies.0 replies.2) refl;
+      state = λ s stands. rw (in_order program w ps s few).0
           (written_stand l m taken (after_program program.ops w ps s).state same is (ran s stands).stands);
-      answers = λ s stands. sym (drop-append_seam before replies.0)
-          ∙ ap (drop (length before)) (sym replies.1 ∙ (ran s stands).same_replies)
-          ∙ drop-append_seam before (after_program program.ops w ps s).replies
-          ∙ ap (λ (e : AfterProgram). e.replies) (sym (as_turn s));
-      places = λ s stands. (ran s stands).same_places ∙ ap (λ (e : AfterProgram). e.places) (sym (as_turn s));
+      answers = λ s stands. rw (
+        (in_order program w ps s few).0,
+        ← drop-append_seam before replies.0,
+        ← replies.1,
+        (ran s stands).same_replies,
+      ) (drop-append_seam before _);
+      places = λ s stands. rw (in_order program w ps s few).0 (ran s stands).same_places;
     }
 
 pub one_op_is_a_turn : OneOpIsATurn
 one_op_is_a_turn op start w ps qs l m before r ran same =
     ran_program (only op start) w ps qs l m (taken_of m) before (before ++ r ∷ []) (omega arith)
-    (λ s stands. record {
-      same_places = (ran s stands).same_places;
-      stands = (ran s stands).stands;
-      same_replies = ap (λ x. before ++ x ∷ []) (ran s stands).same_reply;
-    }) (r ∷ [], refl, refl) same refl
+    (λ s stands. grind (arith, ran s stands)) (r ∷ [], refl, refl) same refl

@@ -3,6 +3,7 @@ ghost use Rattle.msg_system.specs.Prelude.{CompleteCovers, ConditionFootprint, I
 
 /// What is done depends on no part but those that are needed, and changes no part but those that
 /// are written.
+#[tactic(auto, using(crate::proofs::Footprints::footprints))]
 pub fn nothing_else_is_used()
     ensures ops { OpFootprint }
     ensures programs { ProgramFootprint }
@@ -19,6 +20,7 @@ pub fn a_program_is_its_ops_in_order()
 
 /// One op that ran on a loan is the turn of the system whose program is that op, and a loan that
 /// covers that system covers the op.
+#[tactic(auto, using(crate::proofs::Turns::one_op_is_a_turn))]
 pub fn one_op_is_a_turn()
     ensures covered { OneOpIsCovered }
     ensures law { OneOpIsATurn }

@@ -24,6 +24,7 @@ pub(crate) fn messages_of<'a>(lent: &'a Lent<'_>, t: TypeNo) -> &'a Messages<Rec
 }
 
 /// The value of a resource that is lent.
+#[tactic(auto, using(crate::proofs::Lendings::of_loans))]
 pub(crate) fn value_of(lent: &Lent, r: ResNo) -> i64
     requires lent { IsSome (shown (OfResource r) lent.now) }
     ensures value { (s : WorldState) → LoanStands lent.now s → result ≡ s.resources r }
@@ -35,6 +36,7 @@ pub(crate) fn value_of(lent: &Lent, r: ResNo) -> i64
 }
 
 /// Writes one message, or none where no number is left.
+#[tactic(auto, using(crate::proofs::Lendings::of_loans))]
 pub(crate) fn write_one(
     lent: &mut Lent,
     t: TypeNo,
@@ -63,6 +65,7 @@ pub(crate) fn write_one(
 }
 
 /// Writes what the function makes of each item, or nothing where too few numbers are left.
+#[tactic(auto, using(crate::proofs::Lendings::of_loans))]
 pub(crate) fn write_each<T, F: Fn(&T) -> Record>(
     lent: &mut Lent,
     t: TypeNo,
@@ -98,6 +101,7 @@ pub(crate) fn write_each<T, F: Fn(&T) -> Record>(
 }
 
 /// Drops all messages of a type; gives them, and the number of the first.
+#[tactic(auto, using(crate::proofs::Lendings::of_loans))]
 pub(crate) fn drain_all(
     alloc: Global,
     lent: &mut Lent,

@@ -81,6 +81,7 @@ impl System for Scripted {
             .start(self.program.access(), self.program.start, counts);
     }
 
+    #[tactic(auto, using(crate::proofs::Turns::ran_program))]
     fn run(
         &mut self,
         alloc: Global,

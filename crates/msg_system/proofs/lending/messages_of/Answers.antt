@@ -1,9 +1,5 @@
-use Rattle.msg_system.proofs.Lendings.{messages_stand}
+use Rattle.msg_world.specs.Prelude.{OfType}
 use Rattle.msg_system.proofs.lending.messages_of.Goals as goal
 
 pub returns : goal.returns
-returns c =
-    record {
-      stands =
-          λ s stand. messages_stand c.args.lent.now s c.args.t c.in-Some.messages.now c.in-Some.ensures.shown stand;
-    }
+returns c = record { stands = λ s stand. rw (← c.in-Some.ensures.shown) at (stand (OfType c.args.t)) }

@@ -1,13 +1,5 @@
-use Rattle.std.proofs.lemmas.Grind.{common_steps}
-use Rattle.std.proofs.Common.{List, map, subst, arith}
-use Rattle.std.proofs.lemmas.List.{length-map}
-use Rattle.msg_buffer.specs.Prelude.{StandsFor, write}
-use Rattle.msg_world.specs.declared.record.Record.{Record}
-use Rattle.msg_system.proofs.Lendings.{made_by, numbers_fit, numbers_left, numbers_spent, spent_stands, written_messages_stand}
+use Rattle.msg_system.proofs.Lendings.{made_by, written_messages_stand}
 use Rattle.msg_system.proofs.lending.write_each.Goals as goal
-
-pub returns-in-Ok-clause-numbers : goal.returns-in-Ok-clause-numbers
-returns-in-Ok-clause-numbers g c = grind (arith, common_steps, written_messages_stand, numbers_fit)
 
 pub returns-in-Ok-clause-written : goal.returns-in-Ok-clause-written
 returns-in-Ok-clause-written g c f is s stand =
@@ -16,17 +8,6 @@ returns-in-Ok-clause-written g c f is s stand =
     written_messages_stand c.args.lent.now s c.args.t c.in-Some.messages.now c.requires.lent
     c.in-Some.ensures.writable stand in
     let made = c.in-Ok.ensures.meaning in
-    let P : List Record → Type 0 = λ ms. StandsFor c.write_each.new.self (write ms h) in
-    (c.writes_stand.ensures.messages c.args.lent.now c.args.t c.write_each.new.self c.requires.lent).1 s
-    (write (map f c.args.items.now) h)
-    (subst P (made_by _ f is c.args.items.now made.0 made.1) (made.2 h here)) stand
-
-pub returns-in-Err-NumbersSpent-clause-numbers : goal.returns-in-Err-NumbersSpent-clause-numbers
-returns-in-Err-NumbersSpent-clause-numbers g c = grind (arith, common_steps, written_messages_stand, numbers_spent)
-
-pub returns-in-Err-NumbersSpent-clause-written : goal.returns-in-Err-NumbersSpent-clause-written
-returns-in-Err-NumbersSpent-clause-written g c =
-    grind (arith, common_steps, written_messages_stand, length-map, spent_stands)
-
-pub returns-in-Err-NoMemory-clause-refused : goal.returns-in-Err-NoMemory-clause-refused
-returns-in-Err-NoMemory-clause-refused g c = grind (arith, common_steps, written_messages_stand, numbers_left)
+    let same = made_by _ f is c.args.items.now made.0 made.1 in
+    (c.writes_stand.ensures.messages c.args.lent.now c.args.t c.write_each.new.self c.requires.lent).1 s _
+    (rw same at (made.2 h here)) stand

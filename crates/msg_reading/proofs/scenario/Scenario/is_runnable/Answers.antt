@@ -1,17 +1,12 @@
-use Rattle.std.proofs.Common.{length, refl, subst, sym}
+use Rattle.std.proofs.Common.{refl}
 use Rattle.std.proofs.lemmas.Result.{IfOk-weaker}
-use Rattle.msg_frames.specs.Prelude.{all_rules}
-use Rattle.msg_order.specs.Prelude.{IsAcyclic, NameSystemsBelow}
 use Rattle.msg_reading.proofs.scenario.Scenario.is_runnable.Goals as goal
 
 pub returns : goal.returns
 returns c =
-    let s = c.args.self.now in
-    let n = length c.as_slice-systems.result.now in
     let systems = c.as_slice-systems.ensures.items in
     let rules = c.as_slice-rules.ensures.items in
     let small = c.if-not-is_small.ensures.small.0 refl in
-    let named = c.if-not-name_systems_below.ensures.named.0 refl in
     record {
       runnable = IfOk-weaker c.are_acyclic.result _ _ (λ is acyclic. (
         λ yes. record {
@@ -19,13 +14,10 @@ returns c =
           few_resources = small.1;
           few_systems = small.2;
           systems = c.if-not-are_runnable_systems.ensures.runnable.0 refl;
-          rules_in_range = subst (λ xs. NameSystemsBelow (length xs) s.rules) systems
-              (subst (NameSystemsBelow _) rules named);
-          acyclic = subst (λ xs. IsAcyclic (all_rules (length xs) s.rules)) systems
-              (subst (λ rs. IsAcyclic (all_rules n rs)) rules (acyclic.0 yes));
+          rules_in_range = rw (systems, rules) at (c.if-not-name_systems_below.ensures.named.0 refl);
+          acyclic = rw (systems, rules) at (acyclic.0 yes);
           posts = c.if-not-all_posts_are_to_types.ensures.posts.0 refl;
         },
-        λ runnable. acyclic.1 (subst (λ rs. IsAcyclic (all_rules n rs)) (sym rules)
-            (subst (λ xs. IsAcyclic (all_rules (length xs) s.rules)) (sym systems) runnable.acyclic)),
+        λ runnable. acyclic.1 (rw (systems, rules) runnable.acyclic),
       )) c.are_acyclic.ensures.acyclic;
     }

@@ -16,8 +16,8 @@ check_clashes-requires c =
 
 pub returns-in_err-check_clashes-clause-refused : goal.returns-in_err-check_clashes-clause-refused
 returns-in_err-check_clashes-clause-refused c =
-    let residual = c.from_residual-in_err-check_clashes in
-    let p = err_from_is_err_and residual.result residual.ensures.1 in
+    let p =
+    err_from_is_err_and c.from_residual-in_err-check_clashes.result c.from_residual-in_err-check_clashes.ensures.1 in
     let agrees = c.in_ok-scenario.ensures.agrees in
     let refused = c.in_err-check_clashes.ensures.refused in rw (p.1, p.2, refused.1) (
       λ same. cc,
@@ -38,8 +38,8 @@ check_cycles-requires c =
 
 pub returns-in_err-check_cycles-clause-refused : goal.returns-in_err-check_cycles-clause-refused
 returns-in_err-check_cycles-clause-refused c =
-    let residual = c.from_residual-in_err-check_cycles in
-    let p = err_from_is_err_and residual.result residual.ensures.1 in
+    let p =
+    err_from_is_err_and c.from_residual-in_err-check_cycles.result c.from_residual-in_err-check_cycles.ensures.1 in
     let agrees = c.in_ok-scenario.ensures.agrees in
     let refused = c.in_err-check_cycles.ensures.refused in rw (p.1, p.2) (
       refused.0,

@@ -1,13 +1,12 @@
-use Rattle.std.proofs.Common.{subst}
-use Rattle.msg_system.specs.Prelude.{IsAccessOf, program_needs, with_conditions}
+use Rattle.msg_system.specs.Prelude.{program_needs}
 use Rattle.msg_reading.proofs.Tested.{fits_there, is_there}
 use Rattle.msg_reading.proofs.scenario.runnable.fits.Goals as goal
 
 pub returns : goal.returns
 returns c =
     let needs = program_needs c.args.system.now.program.ops in
-    let of = subst (λ cs. IsAccessOf (with_conditions needs cs) c.job_access.result) c.as_slice-conditions.ensures.items
-    (c.job_access.ensures.needs needs c.access.ensures.needs) in
+    let of =
+    rw c.as_slice-conditions.ensures.items at (c.job_access.ensures.needs needs c.access.ensures.needs) in
     record {
       fit = (
         λ is. is_there _ c.job_access.result c.args.types c.args.resources of (c.fits.ensures.fit.0 is),

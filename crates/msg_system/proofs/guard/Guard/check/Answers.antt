@@ -1,23 +1,13 @@
-use Rattle.std.proofs.Common.{ap, sym, ◌∙◌}
-use Rattle.msg_world.specs.Prelude.{OfResource, OfType, same_part}
-use Rattle.msg_system.specs.Prelude.{Asked, probe_part}
+use Rattle.msg_world.specs.Prelude.{OfResource, OfType}
 use Rattle.msg_system.proofs.Runs.{same_part_refl}
 use Rattle.msg_system.proofs.guard.Guard.check.Goals as goal
 
 pub messages_of-messages-requires : goal.messages_of-messages-requires
 messages_of-messages-requires c =
     let p = OfType c.in-OnMessage.t in
-    record {
-      lent = c.requires.covers.reads p
-          (ap (λ (a : Asked). same_part p (probe_part a.condition.probe)) (sym c.self.view_is)
-          ∙ ap (λ q. same_part p (probe_part q)) c.in-OnMessage.is ∙ same_part_refl p);
-    }
+    record { lent = c.requires.covers.reads p (rw (← c.self.view_is, c.in-OnMessage.is) (same_part_refl p)) }
 
 pub value_of-requires : goal.value_of-requires
 value_of-requires c =
     let p = OfResource c.in-ResourceEquals.r in
-    record {
-      lent = c.requires.covers.reads p
-          (ap (λ (a : Asked). same_part p (probe_part a.condition.probe)) (sym c.self.view_is)
-          ∙ ap (λ q. same_part p (probe_part q)) c.in-ResourceEquals.is ∙ same_part_refl p);
-    }
+    record { lent = c.requires.covers.reads p (rw (← c.self.view_is, c.in-ResourceEquals.is) (same_part_refl p)) }

@@ -1,105 +1,57 @@
-use Rattle.std.proofs.Common.{rules, ap, subst}
+use Rattle.std.proofs.Common.{rules, refl}
 use mir.Val.{SFits}
 use mir.Syntax.{w64}
 use Rattle.std.proofs.lemmas.Int.{to_z-of_z}
 use Rattle.msg_world.specs.Prelude.{OfResource, OfType, Registry}
-use Rattle.msg_system.specs.Prelude.{Add, Clear, Forward, OpRan, Read, Set, Sum, Write, op_parts, places_of}
+use Rattle.msg_system.specs.Prelude.{Clear, Forward, Read, Sum, places_of}
 use Rattle.msg_system.proofs.Runs.{covers_read, covers_written, if_ok, on_err_then, place_at, ran_at}
 use Rattle.msg_system.proofs.op.Op.run.Goals as goal
 
 pub write-requires : goal.write-requires
-write-requires c =
-    record {
-      lent = covers_written c.args.self.now c.args.lent.now (OfType c.in-Write.t) c.requires.covers
-          (ap (λ o. (op_parts o).written) c.in-Write.is);
-    }
+write-requires c = record { lent = covers_written _ _ (OfType c.in-Write.t) c.requires.covers (rw c.in-Write.is refl) }
 
 pub batch-requires : goal.batch-requires
-batch-requires c =
-    record {
-      lent = covers_written c.args.self.now c.args.lent.now (OfType c.in-Batch.t) c.requires.covers
-          (ap (λ o. (op_parts o).written) c.in-Batch.is);
-    }
+batch-requires c = record { lent = covers_written _ _ (OfType c.in-Batch.t) c.requires.covers (rw c.in-Batch.is refl) }
 
 pub drain-requires : goal.drain-requires
-drain-requires c =
-    record {
-      lent = covers_written c.args.self.now c.args.lent.now (OfType c.in-Drain.t) c.requires.covers
-          (ap (λ o. (op_parts o).written) c.in-Drain.is);
-    }
+drain-requires c = record { lent = covers_written _ _ (OfType c.in-Drain.t) c.requires.covers (rw c.in-Drain.is refl) }
 
 pub set-requires : goal.set-requires
-set-requires c =
-    record {
-      lent = covers_written c.args.self.now c.args.lent.now (OfResource c.in-Set.r) c.requires.covers
-          (ap (λ o. (op_parts o).written) c.in-Set.is);
-    }
+set-requires c = record { lent = covers_written _ _ (OfResource c.in-Set.r) c.requires.covers (rw c.in-Set.is refl) }
 
 pub add-requires : goal.add-requires
-add-requires c =
-    record {
-      lent = covers_written c.args.self.now c.args.lent.now (OfResource c.in-Add.r) c.requires.covers
-          (ap (λ o. (op_parts o).written) c.in-Add.is);
-    }
+add-requires c = record { lent = covers_written _ _ (OfResource c.in-Add.r) c.requires.covers (rw c.in-Add.is refl) }
 
 pub signal-requires : goal.signal-requires
-signal-requires c =
-    record {
-      lent = covers_written c.args.self.now c.args.lent.now (Registry) c.requires.covers
-          (ap (λ o. (op_parts o).written) c.in-Signal.is);
-    }
+signal-requires c = record { lent = covers_written _ _ Registry c.requires.covers (rw c.in-Signal.is refl) }
 
 pub read-requires : goal.read-requires
-read-requires c =
-    record {
-      lent = covers_read c.args.self.now c.args.lent.now (OfType c.in-Read.t) c.requires.covers
-          (ap (λ o. (op_parts o).read) c.in-Read.is);
-    }
+read-requires c = record { lent = covers_read _ _ (OfType c.in-Read.t) c.requires.covers (rw c.in-Read.is refl) }
 
 pub len-requires : goal.len-requires
-len-requires c =
-    record {
-      lent = covers_read c.args.self.now c.args.lent.now (OfType c.in-Len.t) c.requires.covers
-          (ap (λ o. (op_parts o).read) c.in-Len.is);
-    }
+len-requires c = record { lent = covers_read _ _ (OfType c.in-Len.t) c.requires.covers (rw c.in-Len.is refl) }
 
 pub missed-requires : goal.missed-requires
-missed-requires c =
-    record {
-      lent = covers_read c.args.self.now c.args.lent.now (OfType c.in-Missed.t) c.requires.covers
-          (ap (λ o. (op_parts o).read) c.in-Missed.is);
-    }
+missed-requires c = record { lent = covers_read _ _ (OfType c.in-Missed.t) c.requires.covers (rw c.in-Missed.is refl) }
 
 pub clear-requires : goal.clear-requires
-clear-requires c =
-    record {
-      lent = covers_read c.args.self.now c.args.lent.now (OfType c.in-Clear.t) c.requires.covers
-          (ap (λ o. (op_parts o).read) c.in-Clear.is);
-    }
+clear-requires c = record { lent = covers_read _ _ (OfType c.in-Clear.t) c.requires.covers (rw c.in-Clear.is refl) }
 
 pub get-requires : goal.get-requires
-get-requires c =
-    record {
-      lent = covers_read c.args.self.now c.args.lent.now (OfResource c.in-Get.r) c.requires.covers
-          (ap (λ o. (op_parts o).read) c.in-Get.is);
-    }
+get-requires c = record { lent = covers_read _ _ (OfResource c.in-Get.r) c.requires.covers (rw c.in-Get.is refl) }
 
 pub forward-requires-clause-read : goal.forward-requires-clause-read
-forward-requires-clause-read c = covers_read c.args.self.now c.args.lent.now (OfType c.in-Forward.t) c.requires.covers
-    (ap (λ o. (op_parts o).read) c.in-Forward.is)
+forward-requires-clause-read c = covers_read _ _ (OfType c.in-Forward.t) c.requires.covers (rw c.in-Forward.is refl)
 
 pub forward-requires-clause-written : goal.forward-requires-clause-written
 forward-requires-clause-written c =
-    covers_written c.args.self.now c.args.lent.now (OfType c.in-Forward.u) c.requires.covers
-    (ap (λ o. (op_parts o).written) c.in-Forward.is)
+    covers_written _ _ (OfType c.in-Forward.u) c.requires.covers (rw c.in-Forward.is refl)
 
 pub sum-requires-clause-read : goal.sum-requires-clause-read
-sum-requires-clause-read c = covers_read c.args.self.now c.args.lent.now (OfType c.in-Sum.t) c.requires.covers
-    (ap (λ o. (op_parts o).read) c.in-Sum.is)
+sum-requires-clause-read c = covers_read _ _ (OfType c.in-Sum.t) c.requires.covers (rw c.in-Sum.is refl)
 
 pub sum-requires-clause-written : goal.sum-requires-clause-written
-sum-requires-clause-written c = covers_written c.args.self.now c.args.lent.now (OfResource c.in-Sum.r) c.requires.covers
-    (ap (λ o. (op_parts o).written) c.in-Sum.is)
+sum-requires-clause-written c = covers_written _ _ (OfResource c.in-Sum.r) c.requires.covers (rw c.in-Sum.is refl)
 
 pub returns-in-Batch-clause-ran : goal.returns-in-Batch-clause-ran
 returns-in-Batch-clause-ran c =
@@ -107,8 +59,8 @@ returns-in-Batch-clause-ran c =
 
 pub returns-in-Drain-clause-ran : goal.returns-in-Drain-clause-ran
 returns-in-Drain-clause-ran c =
-    rw c.in-Drain.is (if_ok c.drain.result _ _
-    (λ reply ran. ran c.args.writer (places_of c.args.cursors.now)) c.drain.ensures.ran)
+    rw c.in-Drain.is
+    (if_ok c.drain.result _ _ (λ reply ran. ran c.args.writer (places_of c.args.cursors.now)) c.drain.ensures.ran)
 
 pub returns-in-Get-clause-ran : goal.returns-in-Get-clause-ran
 returns-in-Get-clause-ran c = rw c.in-Get.is (c.get.ensures.ran c.args.writer (places_of c.args.cursors.now))
@@ -119,80 +71,69 @@ returns-in-Signal-clause-ran c = rw c.in-Signal.is (c.signal.ensures.ran c.args.
 pub returns-in-Write-clause-ran : goal.returns-in-Write-clause-ran
 returns-in-Write-clause-ran c =
     let fits : SFits w64 c.in-Write.value = search rules in
-    rw c.in-Write.is (if_ok c.write.result _ _ (λ reply ran.
-    subst (λ v. OpRan (Write c.in-Write.t v) c.args.writer (places_of c.args.cursors.now)
-    (places_of c.args.cursors.now) c.args.lent.now c.write.new.lent reply) (to_z-of_z w64 c.in-Write.value fits)
-    (ran (places_of c.args.cursors.now))) c.write.ensures.ran)
+    rw (c.in-Write.is, ← to_z-of_z w64 c.in-Write.value fits)
+    (if_ok c.write.result _ _ (λ reply ran. ran (places_of c.args.cursors.now)) c.write.ensures.ran)
 
 pub returns-in-Set-clause-ran : goal.returns-in-Set-clause-ran
 returns-in-Set-clause-ran c =
     let fits : SFits w64 c.in-Set.value = search rules in
-    rw c.in-Set.is (subst (λ v. OpRan (Set c.in-Set.r v) c.args.writer (places_of c.args.cursors.now)
-    (places_of c.args.cursors.now) c.args.lent.now c.set.new.lent c.set.result)
-    (to_z-of_z w64 c.in-Set.value fits) (c.set.ensures.ran c.args.writer (places_of c.args.cursors.now)))
+    rw (c.in-Set.is, ← to_z-of_z w64 c.in-Set.value fits)
+    (c.set.ensures.ran c.args.writer (places_of c.args.cursors.now))
 
 pub returns-in-Add-clause-ran : goal.returns-in-Add-clause-ran
 returns-in-Add-clause-ran c =
     let fits : SFits w64 c.in-Add.value = search rules in
-    rw c.in-Add.is (subst (λ v. OpRan (Add c.in-Add.r v) c.args.writer (places_of c.args.cursors.now)
-    (places_of c.args.cursors.now) c.args.lent.now c.add.new.lent c.add.result)
-    (to_z-of_z w64 c.in-Add.value fits) (c.add.ensures.ran c.args.writer (places_of c.args.cursors.now)))
+    rw (c.in-Add.is, ← to_z-of_z w64 c.in-Add.value fits)
+    (c.add.ensures.ran c.args.writer (places_of c.args.cursors.now))
 
 pub returns-in-Read-clause-ran : goal.returns-in-Read-clause-ran
 returns-in-Read-clause-ran c =
     rw c.in-Read.is (if_ok c.read.result _ _
-    (λ reply ran. ran_at c.args.cursors.now c.in-Read.t c.number.result c.index-cursors-number.result c.told-cursors
-    c.number.ensures.number c.number.ensures.within
-    (Read c.in-Read.t c.in-Read.limit) c.args.writer c.read.new.cursor c.args.lent.now c.args.lent.now reply
+    (λ reply ran. ran_at c.args.cursors.now _ _ _ (search rules) c.number.ensures.number c.number.ensures.within
+    (Read c.in-Read.t c.in-Read.limit) c.args.writer c.read.new.cursor c.args.lent.now _ _
     (ran c.args.writer)) c.read.ensures.ran)
 
 pub returns-in-Len-clause-ran : goal.returns-in-Len-clause-ran
 returns-in-Len-clause-ran c =
-    rw c.in-Len.is (c.len.ensures.ran c.args.writer (places_of c.args.cursors.now)
-    (place_at c.args.cursors.now c.in-Len.t c.number-in-Len.result c.index-cursors-number-in-Len.result c.told-cursors
+    rw c.in-Len.is (c.len.ensures.ran c.args.writer _ (place_at c.args.cursors.now _ _ _ (search rules)
     c.number-in-Len.ensures.number c.number-in-Len.ensures.within))
 
 pub returns-in-Missed-clause-ran : goal.returns-in-Missed-clause-ran
 returns-in-Missed-clause-ran c =
-    rw c.in-Missed.is (c.missed.ensures.ran c.args.writer (places_of c.args.cursors.now)
-    (place_at c.args.cursors.now c.in-Missed.t c.number-in-Missed.result c.index-cursors-number-in-Missed.result
-    c.told-cursors c.number-in-Missed.ensures.number c.number-in-Missed.ensures.within))
+    rw c.in-Missed.is (c.missed.ensures.ran c.args.writer _ (place_at c.args.cursors.now _ _ _ (search rules)
+    c.number-in-Missed.ensures.number c.number-in-Missed.ensures.within))
 
 pub returns-in-Clear-clause-ran : goal.returns-in-Clear-clause-ran
 returns-in-Clear-clause-ran c =
-    rw c.in-Clear.is (ran_at c.args.cursors.now c.in-Clear.t c.number-in-Clear.result
-    c.index-cursors-number-in-Clear.result c.told-cursors c.number-in-Clear.ensures.number
-    c.number-in-Clear.ensures.within (Clear c.in-Clear.t) c.args.writer c.clear.new.cursor c.args.lent.now
-    c.args.lent.now c.clear.result (c.clear.ensures.ran c.args.writer))
+    rw c.in-Clear.is (ran_at c.args.cursors.now _ _ _ (search rules) c.number-in-Clear.ensures.number
+    c.number-in-Clear.ensures.within (Clear c.in-Clear.t) c.args.writer c.clear.new.cursor c.args.lent.now _ _
+    (c.clear.ensures.ran c.args.writer))
 
 pub returns-in-Forward-clause-ran : goal.returns-in-Forward-clause-ran
 returns-in-Forward-clause-ran c =
     rw c.in-Forward.is (if_ok c.forward.result _ _
-    (λ reply ran. ran_at c.args.cursors.now c.in-Forward.t c.number-in-Forward.result
-    c.index-cursors-number-in-Forward.result c.told-cursors c.number-in-Forward.ensures.number
-    c.number-in-Forward.ensures.within
-    (Forward c.in-Forward.t c.in-Forward.u) c.args.writer c.forward.new.cursor c.args.lent.now c.forward.new.lent reply
-    ran) c.forward.ensures.ran)
+    (λ reply ran. ran_at c.args.cursors.now _ _ _ (search rules) c.number-in-Forward.ensures.number
+    c.number-in-Forward.ensures.within (Forward c.in-Forward.t c.in-Forward.u)
+    c.args.writer c.forward.new.cursor c.args.lent.now _ _ ran) c.forward.ensures.ran)
 
 pub returns-in-Sum-clause-ran : goal.returns-in-Sum-clause-ran
 returns-in-Sum-clause-ran c =
     rw c.in-Sum.is (if_ok c.sum.result _ _
-    (λ reply ran. ran_at c.args.cursors.now c.in-Sum.t c.number-in-Sum.result c.index-cursors-number-in-Sum.result
-    c.told-cursors c.number-in-Sum.ensures.number c.number-in-Sum.ensures.within
-    (Sum c.in-Sum.t c.in-Sum.r) c.args.writer c.sum.new.cursor c.args.lent.now c.sum.new.lent reply (ran c.args.writer))
-    c.sum.ensures.ran)
+    (λ reply ran. ran_at c.args.cursors.now _ _ _ (search rules) c.number-in-Sum.ensures.number
+    c.number-in-Sum.ensures.within (Sum c.in-Sum.t c.in-Sum.r)
+    c.args.writer c.sum.new.cursor c.args.lent.now _ _ (ran c.args.writer)) c.sum.ensures.ran)
 
 pub returns-in-Write-clause-refused : goal.returns-in-Write-clause-refused
 returns-in-Write-clause-refused c =
-    rw c.in-Write.is (on_err_then c.write.result _ _
-    (λ refused. refused (places_of c.args.cursors.now)) c.write.ensures.refused)
+    rw c.in-Write.is
+    (on_err_then c.write.result _ _ (λ refused. refused (places_of c.args.cursors.now)) c.write.ensures.refused)
 
 pub returns-in-Batch-clause-refused : goal.returns-in-Batch-clause-refused
 returns-in-Batch-clause-refused c =
-    rw c.in-Batch.is (on_err_then c.batch.result _ _
-    (λ refused. refused (places_of c.args.cursors.now)) c.batch.ensures.refused)
+    rw c.in-Batch.is
+    (on_err_then c.batch.result _ _ (λ refused. refused (places_of c.args.cursors.now)) c.batch.ensures.refused)
 
 pub returns-in-Drain-clause-refused : goal.returns-in-Drain-clause-refused
 returns-in-Drain-clause-refused c =
-    rw c.in-Drain.is (on_err_then c.drain.result _ _
-    (λ refused. refused (places_of c.args.cursors.now)) c.drain.ensures.refused)
+    rw c.in-Drain.is
+    (on_err_then c.drain.result _ _ (λ refused. refused (places_of c.args.cursors.now)) c.drain.ensures.refused)

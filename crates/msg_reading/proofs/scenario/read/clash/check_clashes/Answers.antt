@@ -1,5 +1,4 @@
-use Rattle.std.proofs.Common.{◌∙◌, ap, sym, subst, refl, ◌+◌}
-use Rattle.std.specs.Prelude.{All}
+use Rattle.std.proofs.Common.{◌∙◌, ap, sym, refl, ◌+◌}
 use Rattle.std.proofs.lemmas.Bool.{false≢true}
 use Rattle.std.proofs.lemmas.List.{take_all}
 use Rattle.std.proofs.lemmas.List.Elements.{All-more}
@@ -12,7 +11,7 @@ pub loop-system-preserved : goal.loop-system-preserved
 loop-system-preserved c = record {
   number = ap (λ n. n + 1) c.loop-system.invariant.number;
   none = All-more (λ y. ¬ IsClashing y) c.args.systems.now c.loop-system.system-index c.system-item.result
-      c.loop-system-test.true c.loop-system.invariant.none (subst (λ y. ¬ IsClashing y) c.system-item.is (λ has.
+      c.loop-system-test.true c.loop-system.invariant.none (rw (← c.system-item.is) (λ has.
       false≢true (sym c.if-is_clash.false ∙ c.is_clash.ensures.clash.1 (c.access.ensures.clash.1 has))));
 }
 
@@ -31,5 +30,4 @@ returns-then-is_clash-clause-refused c =
 
 pub returns-clause-passed : goal.returns-clause-passed
 returns-clause-passed c =
-    subst (All (λ y. ¬ IsClashing y)) (take_all c.loop-system.system-index c.args.systems.now c.loop-system-test.false)
-    c.loop-system.invariant.none
+    rw (take_all c.loop-system.system-index c.args.systems.now c.loop-system-test.false) at c.loop-system.invariant.none

@@ -6,8 +6,8 @@ use Rattle.msg_reading.proofs.scenario.read.op.read_batch.Goals as goal
 
 pub returns-in_err-read_values : goal.returns-in_err-read_values
 returns-in_err-read_values c =
-    let residual = c.from_residual-in_err-read_values in
-    let p = err_from_is_err_and residual.result residual.ensures.1 in
+    let p =
+    err_from_is_err_and c.from_residual-in_err-read_values.result c.from_residual-in_err-read_values.ensures.1 in
     let are = c.in_ok-name.ensures.are in
     let refused = c.in_err-read_values.ensures.agrees in record {
       agrees = rw (p.1, p.2) (

@@ -1,19 +1,16 @@
 use Rattle.std.proofs.Common.{map}
 use Rattle.serde_json.specs.View.{view}
-use Rattle.msg_reading.specs.Prelude.{op_checks_with, op_with}
+use Rattle.msg_reading.specs.Prelude.{op_checks_with}
 use Rattle.msg_files.proofs.Shapes.{Agrees_of}
 use Rattle.msg_reading.proofs.Parts.{one_of, two_of}
 use Rattle.msg_reading.proofs.scenario.read.op.read_parts.Goals as goal
 
 pub returns-in-len1 : goal.returns-in-len1
 returns-in-len1 c =
-    let names = c.args.names.now in
-    let head = c.args.head.now in
-    let parts = map view c.args.parts.now in
-    let one =
-    one_of c.args.parts.now c.part-item.result c.in-len1.len_at_least c.in-len1.len_below c.part-item.is in record {
-      agrees = Agrees_of (op_checks_with names head parts) (op_with names head parts) c.read_with_one.result
-          (rw one c.read_with_one.ensures.agrees);
+    let one = one_of c.args.parts.now c.part-item.result c.in-len1.len_at_least c.in-len1.len_below c.part-item.is in
+    record {
+      agrees = Agrees_of (op_checks_with c.args.names.now c.args.head.now (map view c.args.parts.now)) _
+          c.read_with_one.result (rw one c.read_with_one.ensures.agrees);
     }
 
 pub returns-in-len2 : goal.returns-in-len2

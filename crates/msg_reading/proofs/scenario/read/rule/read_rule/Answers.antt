@@ -4,8 +4,8 @@ use Rattle.msg_reading.proofs.scenario.read.rule.read_rule.Goals as goal
 
 pub returns-in_err-system_no-2 : goal.returns-in_err-system_no-2
 returns-in_err-system_no-2 c =
-    let residual = c.from_residual-in_err-system_no-2 in
-    let p = err_from_is_err_and residual.result residual.ensures.1 in
+    let p =
+    err_from_is_err_and c.from_residual-in_err-system_no-2.result c.from_residual-in_err-system_no-2.ensures.1 in
     let found = c.in_err-system_no-2.ensures.found in
     let are = c.in_ok-earlier.ensures.are in
     let earlier = c.in_ok-system_no.ensures.found in

@@ -1,12 +1,10 @@
-use Rattle.std.proofs.Common.{sym, ap, ◌∙◌, string_bytes}
+use Rattle.std.proofs.Common.{string_bytes}
 use Rattle.std.specs.Str.{bytes_eq}
-use Rattle.msg_reading.specs.Prelude.{position_of}
 use Rattle.msg_reading.proofs.Spaces.{position-map}
 use Rattle.msg_reading.proofs.scenario.read.names.NameSpace.place.Goals as goal
 
 pub returns : goal.returns
 returns c = record {
-  place = c.get_index_of.ensures.index
-      ∙ sym (position-map (bytes_eq c.args.name.now) string_bytes c.self.inside.names.keys)
-      ∙ ap (λ s. position_of s c.args.name.now) c.self.view_is;
+  place = rw (← c.self.view_is, position-map (bytes_eq c.args.name.now) string_bytes c.self.inside.names.keys)
+      c.get_index_of.ensures.index;
 }

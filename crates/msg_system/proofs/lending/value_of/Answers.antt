@@ -1,8 +1,0 @@
-use Rattle.std.proofs.lemmas.Grind.{common_steps}
-use Rattle.std.proofs.Common.{arith}
-use Rattle.std.proofs.lemmas.Int.{to_z-of_z}
-use Rattle.msg_system.proofs.Lendings.{value_stands}
-use Rattle.msg_system.proofs.lending.value_of.Goals as goal
-
-pub returns : goal.returns
-returns c = grind (arith, common_steps, to_z-of_z, value_stands)
