@@ -1,6 +1,6 @@
 -- Words that clap takes ask for something, or for a run on what is no number of workers: `buffer` has its FILE, `run`
 -- its FILE and a number, and nothing else is entered.
-use Rattle.std.proofs.Common.{◌≡◌, ◌⊎◌, inl, inr, ℕ, get_or, List, [], ◌∷◌, refl, sym, ap, ◌∙◌, subst, Option, Some, None, Bool, true, false, codes, fold, is_some, ◌&&◌, ◌||◌, cond, if◌then◌else◌, not, option_and_then, option_map}
+use Rattle.std.proofs.Common.{arith, ◌≡◌, ◌⊎◌, inl, inr, ℕ, get_or, List, [], ◌∷◌, refl, sym, ap, ◌∙◌, subst, Option, Some, None, Bool, true, false, codes, fold, is_some, ◌&&◌, ◌||◌, cond, if◌then◌else◌, not, option_and_then, option_map}
 use Rattle.std.specs.Str.{bytes_eq}
 use Rattle.std.specs.Option.{option_map_or}
 use Rattle.std.proofs.lemmas.Slice.Eq.{bytes_eq-Decides}
@@ -116,13 +116,7 @@ walk_stops (word ∷ rest) w passes so_far =
 
 -- the name of the subcommand `help`, the other way round
 help_named : (name : Text) → bytes_eq name (codes "help") ≡ false → bytes_eq (codes "help") name ≡ false
-help_named name isnt =
-    elim (bytes_eq (codes "help") name) as (λ b. bytes_eq (codes "help") name ≡ b → b ≡ false) [
-      | true ↦ λ is.
-          let same = (bytes_eq-Decides (codes "help") name).0 is in
-          let bad : false ≡ true = sym isnt ∙ (bytes_eq-Decides name (codes "help")).1 (sym same) in cc
-      | false ↦ λ is. refl
-    ] refl
+help_named name isnt = grind (arith, bytes_eq-Decides (codes "help") name, bytes_eq-Decides name (codes "help"))
 
 -- ---- what is asked for
 
