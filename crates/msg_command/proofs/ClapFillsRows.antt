@@ -104,8 +104,7 @@ settled_keeps c again h fine passes all =
 reacted_keeps : (c : List Rule) (again : Bool) (a : Rule) (vs : List Text) (h : Held) → EachValued c → Valued a
     → react_passes c again a vs h ≡ true → have_values h.rows ≡ true → have_values (reacted c a vs h).rows ≡ true
 reacted_keeps c again a vs h fine its passes all =
-    let parts = and_parts (settle_passes c again h) _ passes in
-    its again vs (settled c h).rows parts.1 (settled_keeps c again h fine parts.0 all)
+    grind (arith, its again vs (settled c h).rows, settled_keeps c again h fine)
 
 option_keeps : (c : List Rule) (again : Bool) (a : Rule) (v : Option Text) (h : Held) → EachValued c → Valued a
     → option_passes c again a v h ≡ true → have_values h.rows ≡ true → have_values (option_met c a v h).0.rows ≡ true
@@ -327,11 +326,6 @@ run_valued : EachValued run_shape.rules
 unfolding clap_on_literals
 run_valued = (set_valued file_built refl refl, (set_valued workers_built refl refl, (help_valued help_built refl, tt)))
 
--- the same whichever way it goes
-either_way : {X : Type 0} (b : Bool) (x : X) → (if b then x else x) ≡ x
-either_way true x = refl
-either_way false x = refl
-
 -- `run` takes words only with a FILE, and a number of workers is there, given or by default
 pub run_given : (words : List Text) → level_passes run_shape [] nothing_held words false ≡ true
     → ((file : Text) × (first_of (codes "FILE") (rows_after run_shape.rules [] words) ≡ Some file))
@@ -347,11 +341,7 @@ run_given words passes =
     let first = (settled run_shape.rules end).rows in
     let rows = finished run_shape.rules end in
     let all : have_values rows ≡ true = defaults_keep run_shape.rules first kept in
-    let file_row : is_some (find (λ r. bytes_eq r.id (codes "FILE")) rows) ≡ true =
-    given_there (codes "FILE") rows (and_parts (is_given (codes "FILE") rows) _ valid).0 in
-    let before = with_default first file_built in
+    let file_row = given_there (codes "FILE") rows (and_parts (is_given (codes "FILE") rows) _ valid).0 in
     let workers_row : is_some (find (λ r. bytes_eq r.id (codes "workers")) rows) ≡ true =
-    ap (λ l. is_some (find (λ r. bytes_eq r.id (codes "workers")) l))
-    (either_way (has_row (codes "help") (with_default before workers_built)) (with_default before workers_built))
-    ∙ default_there workers_built before refl refl in
+    grind (arith, default_there workers_built (with_default first file_built) refl refl) in
     (first_there (codes "FILE") rows all file_row, first_there (codes "workers") rows all workers_row)
