@@ -57,20 +57,14 @@ module _ {M : Type 0} where
       let long = length-append h.entries new in
       let as_many = length-stamped h.updates ms in
       let floor = s.sound.floor in let old = s.count in let first = s.oldest in
-      let number : kept_count k ≡ count h = old in
-      let here : present (added ms h) ≡ present h ++ numbered (kept_count k) ms =
-      kept-append (is_present h) 0 h.entries new
-      ∙ ap (λ xs. present h ++ xs) (present-stamped h (0 + count h) h.updates ms (omega arith) (omega arith)
-      ∙ ap (λ (n : ℕ). numbered n ms) (omega arith)) in
-      let now : current (added ms h) ≡ current h ++ numbered (kept_count k) ms =
-      kept-append (is_current h) 0 h.entries new
-      ∙ ap (λ xs. current h ++ xs) (current-stamped h (0 + count h) h.updates ms (omega arith) refl
-      ∙ ap (λ (n : ℕ). numbered n ms) (omega arith)) in
-      let more : length (present (added ms h)) ≡ length (present h) + length ms =
-      ap length here ∙ length-append (present h) (numbered (kept_count k) ms)
-      ∙ ap (λ n. length (present h) + n) (length-numbered (kept_count k) ms) in
-      let all = oldest_and_present h in let all' = oldest_and_present (added ms h) in
       let numbers = length-numbered (kept_count k) ms in
+      let here : present (added ms h) ≡ present h ++ numbered (kept_count k) ms =
+      grind (arith, kept-append (is_present h) 0 h.entries new, present-stamped h (count h) h.updates ms) in
+      let now : current (added ms h) ≡ current h ++ numbered (kept_count k) ms =
+      grind (arith, kept-append (is_current h) 0 h.entries new, current-stamped h (count h) h.updates ms) in
+      let more : length (present (added ms h)) ≡ length (present h) + length ms =
+      grind (arith, here, length-append (present h) (numbered (kept_count k) ms), numbers) in
+      let all = oldest_and_present h in let all' = oldest_and_present (added ms h) in
       record {
         sound =
             record {
@@ -82,9 +76,8 @@ module _ {M : Type 0} where
         limit = is.limit ∙ s.limit;
         count = rw (is.older, is.newer) (omega (arith, length-append k.newer (numbered (kept_count k) ms), is.oldest));
         oldest = omega (arith, is.oldest);
-        present =
-            rw (is.older, is.newer, ← append_assoc) (ap (λ xs. xs ++ numbered (kept_count k) ms) s.present ∙ sym here);
-        current = is.newer ∙ ap (λ xs. xs ++ numbered (kept_count k) ms) s.current ∙ sym now;
+        present = grind (arith, is.older, is.newer, s.present, here, append_assoc);
+        current = grind (arith, is.newer, s.current, now);
       }
 
   pub stands_written : (ms : List M) (k k' : Kept M) (h : History M) → IsWritten ms k k'
