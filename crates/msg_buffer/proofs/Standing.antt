@@ -20,10 +20,7 @@ module _ {M : Type 0} where
 
   pub stands_updated : (k k' : Kept M) (h : History M) → IsUpdated k k' → StandsFor k h → StandsFor k' (update h)
   stands_updated k k' h is s =
-      let all = oldest_and_present (update h) in
       let now : present (update h) ≡ current h = kept_after_update h 0 0 h.entries s.sound.stamps in
-      let same : length (present (update h)) ≡ length k.newer = ap length (now ∙ sym s.current) in
-      let old = s.count in
       record {
         sound =
             record {
@@ -32,10 +29,10 @@ module _ {M : Type 0} where
               within_limit = s.sound.within_limit;
             };
         limit = is.limit ∙ s.limit;
-        count = rw (is.older, is.newer) (omega (arith, is.oldest));
-        oldest = omega (arith, is.oldest);
-        present = rw (is.older, is.newer, append-nil) (s.current ∙ sym now);
-        current = is.newer ∙ sym (none_current_after_update h 0 0 h.entries s.sound.stamps);
+        count = grind (arith, is, s.count);
+        oldest = grind (arith, is, s, now, oldest_and_present (update h));
+        present = grind (arith, is, s.current, now, append-nil);
+        current = grind (arith, is.newer, none_current_after_update h 0 0 h.entries s.sound.stamps);
       }
 
   -- ---- a write

@@ -4,10 +4,5 @@ use Rattle.msg_buffer.proofs.messages.Messages.update.Goals as goal
 
 pub returns : goal.returns
 returns g c = record {
-  meaning = λ h s. stands_updated c.args.self.now _ h (record {
-    limit = search rules;
-    oldest = grind (arith, c.self.view_is, c.self.invariant.halves_meet);
-    older = search rules;
-    newer = search rules;
-  }) s;
+  meaning = λ h s. stands_updated c.args.self.now _ h (grind (arith, c.self.view_is, c.self.invariant.halves_meet)) s;
 }
