@@ -1,5 +1,6 @@
 -- What a buffer stands for after each change.
 use Rattle.std.proofs.Common.{◌≡◌, ℕ, suc, ◌+◌, ◌≤◌, List, [], ◌++◌, length, true, refl, sym, ap, ◌∙◌, arith, length-append, append_assoc, append-nil}
+use Rattle.std.proofs.lemmas.Bool.Decides.{nat_tests}
 use Rattle.std.proofs.lemmas.Bool.{le-leb}
 use Rattle.msg_buffer.specs.Prelude.{History, Kept, StandsFor, clear, count, current, has_room, is_current, is_present, kept_count, numbered, oldest, present, stamped, update, write}
 use Rattle.msg_buffer.proofs.Histories.{dropped_and_kept, kept-append, kept_after_update, none_current_after_update, stamps_later, stamps-append, length-stamped, present-stamped, current-stamped, none_present_below, none_current_below}
@@ -20,20 +21,16 @@ module _ {M : Type 0} where
 
   pub stands_updated : (k k' : Kept M) (h : History M) → IsUpdated k k' → StandsFor k h → StandsFor k' (update h)
   stands_updated k k' h is s =
-      let now : present (update h) ≡ current h = kept_after_update h 0 0 h.entries s.sound.stamps in
-      record {
-        sound =
-            record {
-              stamps = stamps_later 0 h.updates (suc h.updates) h.entries (omega arith) s.sound.stamps;
-              floor = s.sound.floor;
-              within_limit = s.sound.within_limit;
-            };
-        limit = is.limit ∙ s.limit;
-        count = grind (arith, is, s.count);
-        oldest = grind (arith, is, s, now, oldest_and_present (update h));
-        present = grind (arith, is, s.current, now, append-nil);
-        current = grind (arith, is.newer, none_current_after_update h 0 0 h.entries s.sound.stamps);
-      }
+      grind (
+        arith,
+        is,
+        s,
+        stamps_later 0 h.updates (suc h.updates) h.entries,
+        kept_after_update h 0 0 h.entries,
+        none_current_after_update h 0 0 h.entries,
+        oldest_and_present (update h),
+        append-nil,
+      )
 
   -- ---- a write
 
@@ -61,29 +58,27 @@ module _ {M : Type 0} where
       grind (arith, kept-append (is_current h) 0 h.entries new, current-stamped h (count h) h.updates ms) in
       let more : length (present (added ms h)) ≡ length (present h) + length ms =
       grind (arith, here, length-append (present h) (numbered (kept_count k) ms), numbers) in
-      let all = oldest_and_present h in let all' = oldest_and_present (added ms h) in
-      record {
-        sound =
-            record {
-              stamps = stamps-append 0 h.updates h.entries ms s.sound.stamps;
-              floor = omega arith;
-              within_limit =
-                  omega arith;
-            };
-        limit = is.limit ∙ s.limit;
-        count = rw (is.older, is.newer) (omega (arith, length-append k.newer (numbered (kept_count k) ms), is.oldest));
-        oldest = omega (arith, is.oldest);
-        present = grind (arith, is.older, is.newer, s.present, here, append_assoc);
-        current = grind (arith, is.newer, s.current, now);
-      }
+      grind (
+        arith,
+        is,
+        s,
+        here,
+        now,
+        more,
+        oldest_and_present h,
+        oldest_and_present (added ms h),
+        numbers,
+        long,
+        as_many,
+        stamps-append 0 h.updates h.entries ms s.sound.stamps,
+        append_assoc,
+        length-append k.newer (numbered (kept_count k) ms),
+      )
 
   pub stands_written : (ms : List M) (k k' : Kept M) (h : History M) → IsWritten ms k k'
       → kept_count k + length ms ≤ k.limit → StandsFor k h → StandsFor k' (write ms h)
   stands_written ms k k' h is room s =
-      let n = s.count in let l = s.limit in
-      let fits : count h + length ms ≤ h.limit = omega arith in
-      let has : has_room h (length ms) ≡ true = le-leb (count h + length ms) h.limit fits in
-      rw has (stands_added ms k k' h is fits s)
+      grind (arith, nat_tests, s, stands_added ms k k' h is)
 
   -- ---- a clear
 
@@ -95,16 +90,11 @@ module _ {M : Type 0} where
 
   pub stands_cleared : (k k' : Kept M) (h : History M) → IsCleared k k' → StandsFor k h → StandsFor k' (clear h)
   stands_cleared k k' h is s =
-      let le : 0 + length h.entries ≤ (clear h).floor = omega arith in
-      let none = none_present_below (clear h) 0 h.entries le in
-      let all = oldest_and_present (clear h) in
-      let nothing : length (present (clear h)) ≡ 0 = ap length none in
-      let old = s.count in let first = is.oldest in
-      record {
-        sound = record { stamps = s.sound.stamps; floor = omega arith; within_limit = s.sound.within_limit };
-        limit = is.limit ∙ s.limit;
-        count = rw (is.older, is.newer) (omega arith);
-        oldest = omega arith;
-        present = rw (is.older, is.newer) (sym none);
-        current = is.newer ∙ sym (none_current_below (clear h) 0 h.entries le);
-      }
+      grind (
+        arith,
+        is,
+        s,
+        none_present_below (clear h) 0 h.entries,
+        none_current_below (clear h) 0 h.entries,
+        oldest_and_present (clear h),
+      )
