@@ -80,23 +80,18 @@ module _ {M : Type 0} where
         olds,
         length-newer_messages k k.newer 2,
       ) in
-      let all = oldest_and_present h in
-      let shown : length (present h) ≡ length k.older + length k.newer = ap length present_is
-      ∙ length-append k.older k.newer in
       let end : HasRisingStamps 2 (stamped 2 b) 2 = stamps-stamped 2 b in
       let middle : HasRisingStamps 1 (last k) 2 = stamps-stamped_then 1 1 2 a (stamped 2 b) (omega arith)
       (stamps_lower 2 1 2 (stamped 2 b) (omega arith) end) (stamps_lower 2 1 2 (stamped 2 b) (omega arith) end) in
       let low : HasRisingStamps 0 (last k) 2 = stamps_lower 1 0 2 (last k) (omega arith) middle in
-      record {
-        sound =
-            record {
-              stamps = stamps-stamped_then 0 0 2 (replicate k.oldest m) (last k) (omega arith) low low;
-              floor = omega arith;
-              within_limit = omega arith;
-            };
-        limit = refl;
-        count = sym long;
-        oldest = omega arith;
-        present = sym present_is;
-        current = sym current_is;
-      }
+      grind (
+        arith,
+        present_is,
+        current_is,
+        long,
+        oldest_and_present h,
+        length-append k.older k.newer,
+        low,
+        room,
+        stamps-stamped_then 0 0 2 (replicate k.oldest m) (last k),
+      )

@@ -48,31 +48,24 @@ module _ {M : Type 0} where
       → StandsFor k h → StandsFor k' (added ms h)
   stands_added ms k k' h is room s =
       let new = stamped h.updates ms in
-      let long = length-append h.entries new in
-      let as_many = length-stamped h.updates ms in
-      let floor = s.sound.floor in let old = s.count in let first = s.oldest in
-      let numbers = length-numbered (kept_count k) ms in
-      let here : present (added ms h) ≡ present h ++ numbered (kept_count k) ms =
-      grind (arith, kept-append (is_present h) 0 h.entries new, present-stamped h (count h) h.updates ms) in
-      let now : current (added ms h) ≡ current h ++ numbered (kept_count k) ms =
-      grind (arith, kept-append (is_current h) 0 h.entries new, current-stamped h (count h) h.updates ms) in
-      let more : length (present (added ms h)) ≡ length (present h) + length ms =
-      grind (arith, here, length-append (present h) (numbered (kept_count k) ms), numbers) in
+      let numbers = numbered (kept_count k) ms in
       grind (
         arith,
         is,
         s,
-        here,
-        now,
-        more,
+        append_assoc,
         oldest_and_present h,
         oldest_and_present (added ms h),
-        numbers,
-        long,
-        as_many,
+        length-numbered (kept_count k) ms,
+        length-append h.entries new,
+        length-stamped h.updates ms,
         stamps-append 0 h.updates h.entries ms s.sound.stamps,
-        append_assoc,
-        length-append k.newer (numbered (kept_count k) ms),
+        kept-append (is_present h) 0 h.entries new,
+        present-stamped h (count h) h.updates ms,
+        kept-append (is_current h) 0 h.entries new,
+        current-stamped h (count h) h.updates ms,
+        length-append (present h) numbers,
+        length-append k.newer numbers,
       )
 
   pub stands_written : (ms : List M) (k k' : Kept M) (h : History M) → IsWritten ms k k'

@@ -12,11 +12,13 @@ use Rattle.msg_buffer.proofs.Numbers.{length-instances}
 pub rest_more : {X : Type 0} (start : ℕ) (xs : List X) (n : ℕ) (x : X) → get_from start xs n ≡ Some x
     → drop (n - start) xs ≡ x ∷ drop (n + 1 - start) xs
 rest_more start xs n x is =
-    let above : start ≤ n = grind (arith, nat_tests) in
-    let at : slice_get xs (n - start) ≡ Some x = grind (arith, nat_tests) in
-    let within = slice_get_within xs (n - start) x at in
-    let value = get_or_from_slice_get xs (n - start) x x at in
-    grind (arith, drop_more xs (n - start) x within, value)
+    grind (
+      arith,
+      nat_tests,
+      slice_get_within xs (n - start) x,
+      get_or_from_slice_get xs (n - start) x x,
+      drop_more xs (n - start) x,
+    )
 
 pub rest_ends : {X : Type 0} (start : ℕ) (xs : List X) (n : ℕ) → start ≤ n → get_from start xs n ≡ None
     → drop (n - start) xs ≡ []
