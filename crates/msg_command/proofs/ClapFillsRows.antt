@@ -10,7 +10,7 @@ use Rattle.clap.proofs.OnLiterals.{clap_on_literals}
 use Rattle.clap.specs.Simple.{built_leaf, filled, help_rule, with_index}
 use Rattle.msg_command.specs.Prelude.{buffer_app, file_rule, run_app, workers_rule}
 use Rattle.clap.specs.Walk.{Step, next, trailing, subcommand, value, has_long, has_short, bundle, option_word, reading_by, after_step, walked_from, default_rows, nothing_held, rows_after, walk, walk_from, Held, Names, Outcome, Waiting, Walk, done, waits, plain, refused, idle, option, positional, action_of, after_flag, arg_by_id, arg_by_index, arg_by_long, arg_by_short, attached_value, bundle_met, bundle_step, finished, flag_met, has_row, is_pending, long_met, long_or_other, more_values, option_met, plain_word, positional_held, reacted, settled, settled_rows, short_met, short_or_plain, subcommand_met, subcommand_or_other, takes_several, takes_values, to_positional, used, used_as, used_by_id, values_or_missing, walked, with_default, with_values, without, word_met}
-use Rattle.clap.specs.Takes.{default_passes, action_passes, bundle_passes, bundle_step_passes, flag_word_passes, flags_pass, is_given, level_passes, long_passes, option_passes, other_passes, positional_passes, react_passes, settle_passes, short_passes, step_passes, turn_passes, use_passes, walk_passes, word_passes}
+use Rattle.clap.specs.Takes.{is_valid, default_passes, action_passes, bundle_passes, bundle_step_passes, flag_word_passes, flags_pass, is_given, level_passes, long_passes, option_passes, other_passes, positional_passes, react_passes, settle_passes, short_passes, step_passes, turn_passes, use_passes, walk_passes, word_passes}
 use Rattle.clap.specs.declared.parser.matches.ValueSource.{ValueSource}
 use Rattle.clap.specs.declared.parser.matches.ValueSource.TheVariants.{DefaultValue, CommandLine}
 use Rattle.clap.specs.declared.builder.value_parser.Reading.{Reading}
@@ -281,6 +281,19 @@ given_there : (id : Text) (rows : List Row) → is_given id rows ≡ true
     → is_some (find (λ r. bytes_eq r.id id) rows) ≡ true
 given_there id rows h = grind arith
 
+-- words that pass leave rows that each have a value, and are valid
+valued_rows : (s : Shape) (words : List Text) → EachValued s.rules → level_passes s [] nothing_held words false ≡ true
+    → (have_values (rows_after s.rules [] words) ≡ true) × (is_valid s (rows_after s.rules [] words) false ≡ true)
+valued_rows s words valued passes =
+    let end = (walk s.rules [] nothing_held words).held in
+    let parts = and_parts (walk_passes s [] (walk_from nothing_held) words) _ passes in
+    let settles = and_parts (settle_passes s.rules s.args_override_self end) _ parts.1 in
+    let kept = settled_keeps s.rules s.args_override_self end valued settles.0
+    (walk_keeps s [] words (walk_from nothing_held) valued parts.0 refl) in (
+      defaults_keep s.rules (settled s.rules end).rows kept,
+      (and_parts (list_all default_passes s.rules) _ settles.1).1,
+    )
+
 -- ---- the commands
 
 abbrev pub run_shape : Shape
@@ -309,16 +322,10 @@ pub buffer_given : (words : List Text) → level_passes buffer_shape [] nothing_
     → (file : Text) × (first_of (codes "FILE") (rows_after buffer_shape.rules [] words) ≡ Some file)
 unfolding clap_on_literals
 buffer_given words passes =
-    let parts = and_parts (walk_passes buffer_shape [] (walk_from nothing_held) words) _ passes in
-    let end = (walk buffer_shape.rules [] nothing_held words).held in
-    let settles = and_parts (settle_passes buffer_shape.rules false end) _ parts.1 in
-    let valid = (and_parts (list_all default_passes buffer_shape.rules) _ settles.1).1 in
-    let kept = settled_keeps buffer_shape.rules false end buffer_valued settles.0
-    (walk_keeps buffer_shape [] words (walk_from nothing_held) buffer_valued parts.0 refl) in
-    let rows = finished buffer_shape.rules end in
-    let all : have_values rows ≡ true = defaults_keep buffer_shape.rules (settled buffer_shape.rules end).rows kept in
-    first_there (codes "FILE") rows all
-    (given_there (codes "FILE") rows (and_parts (is_given (codes "FILE") rows) _ valid).0)
+    let rows = rows_after buffer_shape.rules [] words in
+    let are = valued_rows buffer_shape words buffer_valued passes in
+    first_there (codes "FILE") rows are.0
+    (given_there (codes "FILE") rows (and_parts (is_given (codes "FILE") rows) _ are.1).0)
 
 -- ---- run FILE --workers N
 
@@ -332,16 +339,10 @@ pub run_given : (words : List Text) → level_passes run_shape [] nothing_held w
     × ((text : Text) × (first_of (codes "workers") (rows_after run_shape.rules [] words) ≡ Some text))
 unfolding clap_on_literals
 run_given words passes =
-    let parts = and_parts (walk_passes run_shape [] (walk_from nothing_held) words) _ passes in
-    let end = (walk run_shape.rules [] nothing_held words).held in
-    let settles = and_parts (settle_passes run_shape.rules false end) _ parts.1 in
-    let valid = (and_parts (list_all default_passes run_shape.rules) _ settles.1).1 in
-    let kept = settled_keeps run_shape.rules false end run_valued settles.0
-    (walk_keeps run_shape [] words (walk_from nothing_held) run_valued parts.0 refl) in
-    let first = (settled run_shape.rules end).rows in
-    let rows = finished run_shape.rules end in
-    let all : have_values rows ≡ true = defaults_keep run_shape.rules first kept in
-    let file_row = given_there (codes "FILE") rows (and_parts (is_given (codes "FILE") rows) _ valid).0 in
+    let rows = rows_after run_shape.rules [] words in
+    let are = valued_rows run_shape words run_valued passes in
+    let first = (settled run_shape.rules (walk run_shape.rules [] nothing_held words).held).rows in
+    let file_row = given_there (codes "FILE") rows (and_parts (is_given (codes "FILE") rows) _ are.1).0 in
     let workers_row : is_some (find (λ r. bytes_eq r.id (codes "workers")) rows) ≡ true =
     grind (arith, default_there workers_built (with_default first file_built) refl refl) in
-    (first_there (codes "FILE") rows all file_row, first_there (codes "workers") rows all workers_row)
+    (first_there (codes "FILE") rows are.0 file_row, first_there (codes "workers") rows are.0 workers_row)
