@@ -33,7 +33,13 @@ module _ {M : Type 0} where
   others_are_present h n low (d ∷ es) zero e rise above at = grind (arith, cases_Bool, same_Some)
   others_are_present h n low (d ∷ es) (suc k) e rise above at =
       let same : n + suc k ≡ n + 1 + k = omega arith in
-      rw same (grind (arith, cases_Bool (is_present h (n, d)), none_dropped h n d es, rise.1, others_are_present h (n + 1) d.stamp es k e rise.1))
+      rw same (grind (
+        arith,
+        cases_Bool (is_present h (n, d)),
+        none_dropped h n d es,
+        rise.1,
+        others_are_present h (n + 1) d.stamp es k e rise.1,
+      ))
 
   pub gone_below_oldest : (h : History M) (k : ℕ) (e : Entry M) → IsSound h → k < oldest h → slice_get h.entries k
       ≡ Some e → is_present h (k, e) ≡ false

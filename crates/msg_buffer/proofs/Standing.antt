@@ -1,8 +1,7 @@
 -- What a buffer stands for after each change.
-use Rattle.std.proofs.Common.{◌≡◌, ℕ, suc, ◌+◌, ◌≤◌, List, [], ◌++◌, length, true, refl, sym, ap, ◌∙◌, arith, length-append, append_assoc, append-nil}
+use Rattle.std.proofs.Common.{◌≡◌, suc, ◌+◌, ◌≤◌, List, [], ◌++◌, length, arith, length-append, append_assoc, append-nil}
 use Rattle.std.proofs.lemmas.Bool.Decides.{nat_tests}
-use Rattle.std.proofs.lemmas.Bool.{le-leb}
-use Rattle.msg_buffer.specs.Prelude.{History, Kept, StandsFor, clear, count, current, has_room, is_current, is_present, kept_count, numbered, oldest, present, stamped, update, write}
+use Rattle.msg_buffer.specs.Prelude.{History, Kept, StandsFor, clear, count, is_current, is_present, kept_count, numbered, oldest, present, stamped, update, write}
 use Rattle.msg_buffer.proofs.Histories.{dropped_and_kept, kept-append, kept_after_update, none_current_after_update, stamps_later, stamps-append, length-stamped, present-stamped, current-stamped, none_present_below, none_current_below}
 use Rattle.msg_buffer.proofs.Numbers.{length-numbered}
 

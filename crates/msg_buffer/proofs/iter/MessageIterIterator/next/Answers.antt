@@ -1,13 +1,19 @@
-use Rattle.std.proofs.Common.{◌≡◌, ◌<◌, ◌-◌, ◌∷◌, length, drop, refl, sym, ap, ◌∙◌, arith, length-append, Some, None}
+use Rattle.std.proofs.Common.{◌<◌, ◌-◌, length, drop, arith, length-append}
 use Rattle.std.proofs.lemmas.List.{drop_all}
-use Rattle.msg_buffer.specs.Prelude.{get_from, kept_instances}
+use Rattle.msg_buffer.specs.Prelude.{kept_instances}
 use Rattle.msg_buffer.proofs.Unread.{rest_ends, rest_more}
 use Rattle.msg_buffer.proofs.iter.MessageIterIterator.next.Goals as goal
 
 pub returns-then-place-count-clause-steps : goal.returns-then-place-count-clause-steps
 returns-then-place-count-clause-steps g c =
     let it = c.args.self.now in let k = it.messages.now in
-    grind (arith, drop_all (it.cursor.now - k.oldest) (kept_instances k), length-append k.older k.newer, c.place-place.ensures, c.count.ensures)
+    grind (
+      arith,
+      drop_all (it.cursor.now - k.oldest) (kept_instances k),
+      length-append k.older k.newer,
+      c.place-place.ensures,
+      c.count.ensures,
+    )
 
 pub returns-in_err-instance-clause-steps : goal.returns-in_err-instance-clause-steps
 returns-in_err-instance-clause-steps g c =

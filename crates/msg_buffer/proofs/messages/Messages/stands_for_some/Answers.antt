@@ -1,5 +1,4 @@
-use Rattle.std.proofs.Common.{◌≡◌, ◌+◌, ◌≤◌, length, map, arith}
-use Rattle.msg_buffer.specs.Prelude.{kept_count, message_of, numbered}
+use Rattle.std.proofs.Common.{arith}
 use Rattle.msg_buffer.proofs.Exists.{stands_for_some}
 use Rattle.msg_buffer.proofs.messages.Messages.stands_for_some.Goals as goal
 

@@ -1,4 +1,4 @@
-use Rattle.std.proofs.Common.{rules, arith}
+use Rattle.std.proofs.Common.{arith}
 use Rattle.msg_buffer.proofs.Standing.{stands_updated}
 use Rattle.msg_buffer.proofs.messages.Messages.update.Goals as goal
 

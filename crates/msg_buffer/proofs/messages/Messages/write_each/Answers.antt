@@ -1,4 +1,4 @@
-use Rattle.std.proofs.Common.{rules, ◌≡◌, ◌++◌, arith, length-append}
+use Rattle.std.proofs.Common.{◌≡◌, arith, length-append}
 use Rattle.msg_buffer.specs.Prelude.{kept_count, numbered}
 use Rattle.msg_buffer.proofs.Made.{as_many}
 use Rattle.msg_buffer.proofs.Numbers.{length-numbered, numbers-append}
