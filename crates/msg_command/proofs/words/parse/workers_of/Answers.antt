@@ -3,7 +3,8 @@ use Rattle.msg_command.proofs.RowValues.{first_value_rows}
 use Rattle.msg_command.proofs.words.parse.workers_of.Goals as goal
 
 pub returns-clause-number : goal.returns-clause-number
-returns-clause-number c = grind (arith, first_value_rows c.args.inner.now (codes "workers"), c.in-Some-workers_in.ensures)
+returns-clause-number c =
+    grind (arith, first_value_rows c.args.inner.now (codes "workers"), c.in-Some-workers_in.ensures)
 
 pub returns-in_default-workers_in-clause-refused : goal.returns-in_default-workers_in-clause-refused
 returns-in_default-workers_in-clause-refused c =
