@@ -1,9 +1,9 @@
 -- Each buffer stands for some history, where its messages have a value.
-use Rattle.std.proofs.Common.{◌≡◌, ℕ, ◌+◌, ◌≤◌, List, [], ◌∷◌, ◌++◌, length, map, refl, sym, ap, ◌∙◌, arith, length-append}
+use Rattle.std.proofs.Common.{◌≡◌, ℕ, ◌+◌, ◌≤◌, List, [], ◌∷◌, ◌++◌, length, map, ◌∙◌, arith, length-append}
 use Rattle.std.specs.Prelude.{replicate}
 use Rattle.std.proofs.lemmas.List.{length-map, length-replicate}
 use Rattle.msg_buffer.specs.Prelude.{Entry, HasRisingStamps, History, Instance, Kept, StandsFor, count, current, is_current, is_present, kept_count, kept_instances, message_of, numbered, present, stamped}
-use Rattle.msg_buffer.proofs.Histories.{current-stamped, gone-stamped, kept, kept-append, length-stamped, not_current-stamped, present-stamped, stamps-stamped}
+use Rattle.msg_buffer.proofs.Histories.{current-stamped, gone-stamped, kept-append, length-stamped, not_current-stamped, present-stamped, stamps-stamped}
 use Rattle.msg_buffer.proofs.Standing.{oldest_and_present}
 
 module _ {M : Type 0} where
@@ -44,50 +44,54 @@ module _ {M : Type 0} where
   stands_for_some m k room older newer =
       let h = history_of m k in
       let a = map message_of k.older in let b = map message_of k.newer in
-      let at : 0 + length (lost m k) ≡ k.oldest = ap (λ n. 0 + n) (length-lost m k) ∙ omega arith in
-      let at' : k.oldest + length (stamped 1 a)
-      ≡ k.oldest + length k.older = ap (λ n. k.oldest + n) (length-newer_messages k k.older 1) in
+      let first = length-lost m k in
+      let olds = length-newer_messages k k.older 1 in
       let present_is : present h ≡ kept_instances k =
-      kept-append (is_present h) 0 (lost m k) (last k)
-      ∙ ap (λ xs. xs ++ kept (is_present h) (0 + length (lost m k)) (last k))
-      (gone-stamped h 0 0 (replicate k.oldest m) (omega arith))
-      ∙ ap (λ n. kept (is_present h) n (last k)) at
-      ∙ kept-append (is_present h) k.oldest (stamped 1 a) (stamped 2 b)
-      ∙ ap (λ xs. xs ++ kept (is_present h) (k.oldest + length (stamped 1 a)) (stamped 2 b))
-      (present-stamped h k.oldest 1 a (omega arith) (omega arith) ∙ sym older)
-      ∙ ap (λ n. k.older ++ kept (is_present h) n (stamped 2 b)) at'
-      ∙ ap (λ xs. k.older ++ xs) (present-stamped h (k.oldest + length k.older) 2 b (omega arith) (omega arith)
-      ∙ sym newer) in
+      grind (
+        arith,
+        older,
+        newer,
+        first,
+        olds,
+        kept-append (is_present h) 0 (lost m k) (last k),
+        gone-stamped h 0 0 (replicate k.oldest m),
+        kept-append (is_present h) k.oldest (stamped 1 a) (stamped 2 b),
+        present-stamped h k.oldest 1 a,
+        present-stamped h (k.oldest + length k.older) 2 b,
+      ) in
       let current_is : current h ≡ k.newer =
-      kept-append (is_current h) 0 (lost m k) (last k)
-      ∙ ap (λ xs. xs ++ kept (is_current h) (0 + length (lost m k)) (last k))
-      (not_current-stamped h 0 0 (replicate k.oldest m) (omega arith))
-      ∙ ap (λ n. kept (is_current h) n (last k)) at
-      ∙ kept-append (is_current h) k.oldest (stamped 1 a) (stamped 2 b)
-      ∙ ap (λ xs. xs ++ kept (is_current h) (k.oldest + length (stamped 1 a)) (stamped 2 b))
-      (not_current-stamped h k.oldest 1 a (omega arith))
-      ∙ ap (λ n. kept (is_current h) n (stamped 2 b)) at'
-      ∙ (current-stamped h (k.oldest + length k.older) 2 b (omega arith) refl ∙ sym newer) in
+      grind (
+        arith,
+        newer,
+        first,
+        olds,
+        kept-append (is_current h) 0 (lost m k) (last k),
+        not_current-stamped h 0 0 (replicate k.oldest m),
+        kept-append (is_current h) k.oldest (stamped 1 a) (stamped 2 b),
+        not_current-stamped h k.oldest 1 a,
+        current-stamped h (k.oldest + length k.older) 2 b,
+      ) in
       let long : count h ≡ kept_count k =
-      length-append (lost m k) (last k) ∙ ap (λ n. length (lost m k) + n) (length-append (stamped 1 a) (stamped 2 b))
-      ∙ omega (arith, length-lost m k, length-newer_messages k k.older 1, length-newer_messages k k.newer 2) in
-      let all = oldest_and_present h in
-      let shown : length (present h) ≡ length k.older + length k.newer = ap length present_is
-      ∙ length-append k.older k.newer in
+      grind (
+        arith,
+        length-append (lost m k) (last k),
+        length-append (stamped 1 a) (stamped 2 b),
+        first,
+        olds,
+        length-newer_messages k k.newer 2,
+      ) in
       let end : HasRisingStamps 2 (stamped 2 b) 2 = stamps-stamped 2 b in
       let middle : HasRisingStamps 1 (last k) 2 = stamps-stamped_then 1 1 2 a (stamped 2 b) (omega arith)
       (stamps_lower 2 1 2 (stamped 2 b) (omega arith) end) (stamps_lower 2 1 2 (stamped 2 b) (omega arith) end) in
       let low : HasRisingStamps 0 (last k) 2 = stamps_lower 1 0 2 (last k) (omega arith) middle in
-      record {
-        sound =
-            record {
-              stamps = stamps-stamped_then 0 0 2 (replicate k.oldest m) (last k) (omega arith) low low;
-              floor = omega arith;
-              within_limit = omega arith;
-            };
-        limit = refl;
-        count = sym long;
-        oldest = omega arith;
-        present = sym present_is;
-        current = sym current_is;
-      }
+      grind (
+        arith,
+        present_is,
+        current_is,
+        long,
+        oldest_and_present h,
+        length-append k.older k.newer,
+        low,
+        room,
+        stamps-stamped_then 0 0 2 (replicate k.oldest m) (last k),
+      )

@@ -1,5 +1,5 @@
 -- Messages that were made of items, one of each.
-use Rattle.std.proofs.Common.{◌≡◌, ℕ, zero, suc, ◌+◌, ◌<◌, List, [], ◌∷◌, ◌++◌, length, take, refl, ap, subst, arith, append_assoc}
+use Rattle.std.proofs.Common.{◌≡◌, ℕ, zero, suc, ◌+◌, ◌<◌, List, [], ◌∷◌, ◌++◌, length, take, refl, ap, arith, append_assoc}
 use Rattle.std.specs.Prelude.{get_or}
 use Rattle.std.specs.List.{AllZip}
 use Rattle.msg_buffer.specs.Prelude.{Instance, numbered}
@@ -9,7 +9,7 @@ module _ {X M : Type 0} (R : X → M → Type 0) where
   pub one_more : (xs : List X) (ms : List M) (i : ℕ) (x : X) (m : M) → i < length xs → x ≡ get_or xs i x
       → AllZip R (take i xs) ms → R x m → AllZip R (take (i + 1) xs) (ms ++ m ∷ [])
   one_more [] ms i x m within at made is = absurd (omega arith)
-  one_more (y ∷ xs) [] zero x m within at made is = (subst (λ z. R z m) at is, tt)
+  one_more (y ∷ xs) [] zero x m within at made is = (rw at at is, tt)
   one_more (y ∷ xs) (n ∷ ms) zero x m within at made is = absurd made
   one_more (y ∷ xs) [] (suc i) x m within at made is = absurd made
   one_more (y ∷ xs) (n ∷ ms) (suc i) x m within at made is =

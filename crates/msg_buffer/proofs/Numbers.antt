@@ -32,8 +32,7 @@ module _ {M : Type 0} where
   pub instances-numbered : (n : ℕ) (es : List (Entry M)) → map instance_of (enumerate_from n es)
       ≡ numbered n (map (λ e. e.message) es)
   instances-numbered n [] = refl
-  instances-numbered n (e ∷ es) = ap (λ xs. record { id = record { 0 = n }; message = e.message } ∷ xs)
-      (instances-numbered (n + 1) es)
+  instances-numbered n (e ∷ es) = grind (arith, instances-numbered (n + 1) es)
 
   pub length-instances : (h : History M) → length (instances h) ≡ count h
   length-instances h = grind (arith, instances-numbered, length-map, length-numbered)

@@ -22,14 +22,9 @@ module _ {M : Type 0} where
       → k < dropped (is_present h) n es → slice_get es k ≡ Some e → is_present h (n + k, e) ≡ false
   dropped_are_gone h n low [] k e rise below at = absurd (omega arith)
   dropped_are_gone h n low (d ∷ es) zero e rise below at = grind (arith, cases_Bool, none_dropped, same_Some)
-  dropped_are_gone h n low (d ∷ es) (suc k) e rise below at = elim (cases_Bool (is_present h (n, d))) [
-    | inl is ↦ let none : dropped (is_present h) n (d ∷ es)
-        ≡ 0 = none_dropped h n d es is rise.1 in absurd (omega arith)
-    | inr is ↦
-        let here : dropped (is_present h) n (d ∷ es) ≡ suc (dropped (is_present h) (n + 1) es) = rw is refl in
-        let same : n + suc k ≡ n + 1 + k = omega arith in
-        rw same (dropped_are_gone h (n + 1) d.stamp es k e rise.1 (omega arith) at)
-  ]
+  dropped_are_gone h n low (d ∷ es) (suc k) e rise below at =
+      let same : n + suc k ≡ n + 1 + k = omega arith in
+      rw same (grind (arith, cases_Bool, none_dropped, dropped_are_gone h (n + 1) d.stamp es k e rise.1))
 
   others_are_present : (h : History M) (n low : ℕ) (es : List (Entry M)) (k : ℕ) (e : Entry M)
       → HasRisingStamps low es h.updates
@@ -38,27 +33,23 @@ module _ {M : Type 0} where
   others_are_present h n low (d ∷ es) zero e rise above at = grind (arith, cases_Bool, same_Some)
   others_are_present h n low (d ∷ es) (suc k) e rise above at =
       let same : n + suc k ≡ n + 1 + k = omega arith in
-      elim (cases_Bool (is_present h (n, d))) [
-        | inl is ↦
-            let means = present_means h n d is in
-            let none = (all_present h (n + 1) d.stamp es (omega (arith, means.0)) means.1 rise.1).1 in
-            rw same (others_are_present h (n + 1) d.stamp es k e rise.1 (omega (arith, none)) at)
-        | inr is ↦
-            let here : dropped (is_present h) n (d ∷ es) ≡ suc (dropped (is_present h) (n + 1) es) = rw is refl in
-            rw same (others_are_present h (n + 1) d.stamp es k e rise.1 (omega arith) at)
-      ]
+      rw same (grind (
+        arith,
+        cases_Bool (is_present h (n, d)),
+        none_dropped h n d es,
+        rise.1,
+        others_are_present h (n + 1) d.stamp es k e rise.1,
+      ))
 
   pub gone_below_oldest : (h : History M) (k : ℕ) (e : Entry M) → IsSound h → k < oldest h → slice_get h.entries k
       ≡ Some e → is_present h (k, e) ≡ false
   gone_below_oldest h k e sound below at =
-      let same : 0 + k ≡ k = omega arith in
-      rw (← same) (dropped_are_gone h 0 0 h.entries k e sound.stamps below at)
+      grind (arith, dropped_are_gone h 0 0 h.entries k e sound.stamps)
 
   pub present_from_oldest : (h : History M) (k : ℕ) (e : Entry M) → IsSound h → oldest h ≤ k → slice_get h.entries k
       ≡ Some e → is_present h (k, e) ≡ true
   present_from_oldest h k e sound above at =
-      let same : 0 + k ≡ k = omega arith in
-      rw (← same) (others_are_present h 0 0 h.entries k e sound.stamps above at)
+      grind (arith, others_are_present h 0 0 h.entries k e sound.stamps)
 
   pub not_present : (h : History M) (k : ℕ) → IsSound h → k < oldest h → ¬ IsPresent h k
   not_present h k sound below p = false≢true (sym (gone_below_oldest h k p.0 sound below p.1) ∙ p.2)
@@ -74,9 +65,8 @@ module _ {M : Type 0} where
   slice_get-instances : (n : ℕ) (es : List (Entry M)) (k : ℕ) → slice_get (map instance_of (enumerate_from n es)) k
       ≡ option_map (λ e. instance_of (n + k, e)) (slice_get es k)
   slice_get-instances n [] k = refl
-  slice_get-instances n (e ∷ es) zero = let same : n + 0 ≡ n = omega arith in rw same refl
-  slice_get-instances n (e ∷ es) (suc k) = let same : n + suc k
-      ≡ n + 1 + k = omega arith in rw same (slice_get-instances (n + 1) es k)
+  slice_get-instances n (e ∷ es) zero = grind arith
+  slice_get-instances n (e ∷ es) (suc k) = grind (arith, slice_get-instances (n + 1) es k)
 
   -- the kept messages are the last ones
   pub kept_stands : (k : Kept M) (h : History M) → StandsFor k h → kept_instances k ≡ drop (oldest h) (instances h)

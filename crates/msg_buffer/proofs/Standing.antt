@@ -1,7 +1,7 @@
 -- What a buffer stands for after each change.
-use Rattle.std.proofs.Common.{◌≡◌, ℕ, suc, ◌+◌, ◌≤◌, List, [], ◌++◌, length, true, refl, sym, ap, ◌∙◌, arith, length-append, append_assoc, append-nil}
-use Rattle.std.proofs.lemmas.Bool.{le-leb}
-use Rattle.msg_buffer.specs.Prelude.{History, Kept, StandsFor, clear, count, current, has_room, is_current, is_present, kept_count, numbered, oldest, present, stamped, update, write}
+use Rattle.std.proofs.Common.{◌≡◌, suc, ◌+◌, ◌≤◌, List, [], ◌++◌, length, arith, length-append, append_assoc, append-nil}
+use Rattle.std.proofs.lemmas.Bool.Decides.{nat_tests}
+use Rattle.msg_buffer.specs.Prelude.{History, Kept, StandsFor, clear, count, is_current, is_present, kept_count, numbered, oldest, present, stamped, update, write}
 use Rattle.msg_buffer.proofs.Histories.{dropped_and_kept, kept-append, kept_after_update, none_current_after_update, stamps_later, stamps-append, length-stamped, present-stamped, current-stamped, none_present_below, none_current_below}
 use Rattle.msg_buffer.proofs.Numbers.{length-numbered}
 
@@ -20,23 +20,16 @@ module _ {M : Type 0} where
 
   pub stands_updated : (k k' : Kept M) (h : History M) → IsUpdated k k' → StandsFor k h → StandsFor k' (update h)
   stands_updated k k' h is s =
-      let all = oldest_and_present (update h) in
-      let now : present (update h) ≡ current h = kept_after_update h 0 0 h.entries s.sound.stamps in
-      let same : length (present (update h)) ≡ length k.newer = ap length (now ∙ sym s.current) in
-      let old = s.count in
-      record {
-        sound =
-            record {
-              stamps = stamps_later 0 h.updates (suc h.updates) h.entries (omega arith) s.sound.stamps;
-              floor = s.sound.floor;
-              within_limit = s.sound.within_limit;
-            };
-        limit = is.limit ∙ s.limit;
-        count = rw (is.older, is.newer) (omega (arith, is.oldest));
-        oldest = omega (arith, is.oldest);
-        present = rw (is.older, is.newer, append-nil) (s.current ∙ sym now);
-        current = is.newer ∙ sym (none_current_after_update h 0 0 h.entries s.sound.stamps);
-      }
+      grind (
+        arith,
+        is,
+        s,
+        stamps_later 0 h.updates (suc h.updates) h.entries,
+        kept_after_update h 0 0 h.entries,
+        none_current_after_update h 0 0 h.entries,
+        oldest_and_present (update h),
+        append-nil,
+      )
 
   -- ---- a write
 
@@ -54,46 +47,30 @@ module _ {M : Type 0} where
       → StandsFor k h → StandsFor k' (added ms h)
   stands_added ms k k' h is room s =
       let new = stamped h.updates ms in
-      let long = length-append h.entries new in
-      let as_many = length-stamped h.updates ms in
-      let floor = s.sound.floor in let old = s.count in let first = s.oldest in
-      let number : kept_count k ≡ count h = old in
-      let here : present (added ms h) ≡ present h ++ numbered (kept_count k) ms =
-      kept-append (is_present h) 0 h.entries new
-      ∙ ap (λ xs. present h ++ xs) (present-stamped h (0 + count h) h.updates ms (omega arith) (omega arith)
-      ∙ ap (λ (n : ℕ). numbered n ms) (omega arith)) in
-      let now : current (added ms h) ≡ current h ++ numbered (kept_count k) ms =
-      kept-append (is_current h) 0 h.entries new
-      ∙ ap (λ xs. current h ++ xs) (current-stamped h (0 + count h) h.updates ms (omega arith) refl
-      ∙ ap (λ (n : ℕ). numbered n ms) (omega arith)) in
-      let more : length (present (added ms h)) ≡ length (present h) + length ms =
-      ap length here ∙ length-append (present h) (numbered (kept_count k) ms)
-      ∙ ap (λ n. length (present h) + n) (length-numbered (kept_count k) ms) in
-      let all = oldest_and_present h in let all' = oldest_and_present (added ms h) in
-      let numbers = length-numbered (kept_count k) ms in
-      record {
-        sound =
-            record {
-              stamps = stamps-append 0 h.updates h.entries ms s.sound.stamps;
-              floor = omega arith;
-              within_limit =
-                  omega arith;
-            };
-        limit = is.limit ∙ s.limit;
-        count = rw (is.older, is.newer) (omega (arith, length-append k.newer (numbered (kept_count k) ms), is.oldest));
-        oldest = omega (arith, is.oldest);
-        present =
-            rw (is.older, is.newer, ← append_assoc) (ap (λ xs. xs ++ numbered (kept_count k) ms) s.present ∙ sym here);
-        current = is.newer ∙ ap (λ xs. xs ++ numbered (kept_count k) ms) s.current ∙ sym now;
-      }
+      let numbers = numbered (kept_count k) ms in
+      grind (
+        arith,
+        is,
+        s,
+        append_assoc,
+        oldest_and_present h,
+        oldest_and_present (added ms h),
+        length-numbered (kept_count k) ms,
+        length-append h.entries new,
+        length-stamped h.updates ms,
+        stamps-append 0 h.updates h.entries ms s.sound.stamps,
+        kept-append (is_present h) 0 h.entries new,
+        present-stamped h (count h) h.updates ms,
+        kept-append (is_current h) 0 h.entries new,
+        current-stamped h (count h) h.updates ms,
+        length-append (present h) numbers,
+        length-append k.newer numbers,
+      )
 
   pub stands_written : (ms : List M) (k k' : Kept M) (h : History M) → IsWritten ms k k'
       → kept_count k + length ms ≤ k.limit → StandsFor k h → StandsFor k' (write ms h)
   stands_written ms k k' h is room s =
-      let n = s.count in let l = s.limit in
-      let fits : count h + length ms ≤ h.limit = omega arith in
-      let has : has_room h (length ms) ≡ true = le-leb (count h + length ms) h.limit fits in
-      rw has (stands_added ms k k' h is fits s)
+      grind (arith, nat_tests, s, stands_added ms k k' h is)
 
   -- ---- a clear
 
@@ -105,16 +82,11 @@ module _ {M : Type 0} where
 
   pub stands_cleared : (k k' : Kept M) (h : History M) → IsCleared k k' → StandsFor k h → StandsFor k' (clear h)
   stands_cleared k k' h is s =
-      let le : 0 + length h.entries ≤ (clear h).floor = omega arith in
-      let none = none_present_below (clear h) 0 h.entries le in
-      let all = oldest_and_present (clear h) in
-      let nothing : length (present (clear h)) ≡ 0 = ap length none in
-      let old = s.count in let first = is.oldest in
-      record {
-        sound = record { stamps = s.sound.stamps; floor = omega arith; within_limit = s.sound.within_limit };
-        limit = is.limit ∙ s.limit;
-        count = rw (is.older, is.newer) (omega arith);
-        oldest = omega arith;
-        present = rw (is.older, is.newer) (sym none);
-        current = is.newer ∙ sym (none_current_below (clear h) 0 h.entries le);
-      }
+      grind (
+        arith,
+        is,
+        s,
+        none_present_below (clear h) 0 h.entries,
+        none_current_below (clear h) 0 h.entries,
+        oldest_and_present (clear h),
+      )

@@ -1,5 +1,6 @@
 -- Reads and clears fit one behind the other.
-use Rattle.std.proofs.Common.{◌≡◌, ℕ, ◌-◌, ◌≤◌, List, [], ◌∷◌, length, take, zero, suc, refl, sym, ap, arith, Option, Some, None}
+use Rattle.std.proofs.Common.{◌≡◌, ℕ, ◌-◌, ◌≤◌, List, [], ◌∷◌, length, take, refl, sym, arith, Option, Some, None}
+use Rattle.std.proofs.lemmas.Grind.{common_steps}
 use Rattle.std.proofs.lemmas.List.{length-take}
 use Rattle.std.proofs.lemmas.List.Elements.{All-head, All-tail}
 use Rattle.std.proofs.Math.Seq.{take-length}
@@ -11,16 +12,11 @@ use Rattle.msg_buffer.proofs.Unread.{length-unread}
 module _ {M : Type 0} where
   length-at_most : (limit : Option ℕ) (xs : List (Instance M)) → length (at_most limit xs) ≤ length xs
   length-at_most None xs = omega arith
-  length-at_most (Some k) xs = rw (length-take k xs) (omega arith)
-
-  take-length-take : (k : ℕ) (xs : List (Instance M)) → take k xs ≡ take (length (take k xs)) xs
-  take-length-take zero xs = refl
-  take-length-take (suc k) [] = refl
-  take-length-take (suc k) (x ∷ xs) = ap (λ ys. x ∷ ys) (take-length-take k xs)
+  length-at_most (Some k) xs = grind (arith, common_steps)
 
   take-at_most : (limit : Option ℕ) (xs : List (Instance M)) → at_most limit xs ≡ take (length (at_most limit xs)) xs
   take-at_most None xs = sym (take-length xs)
-  take-at_most (Some k) xs = take-length-take k xs
+  take-at_most (Some k) xs = grind (arith, common_steps)
 
   -- a stretch of so many of the unread messages
   fits : (h : History M) (place n : ℕ) → IsSound h → n ≤ length (unread h place)

@@ -1,6 +1,5 @@
 -- What is unread, in what a buffer keeps and in the history that it stands for.
-use Rattle.std.proofs.Common.{◌≡◌, ℕ, ◌+◌, ◌-◌, ◌≤◌, max, List, [], ◌∷◌, length, drop, ap, ◌∙◌, arith, Some, None}
-use Rattle.std.specs.Prelude.{slice_get}
+use Rattle.std.proofs.Common.{◌≡◌, ℕ, ◌+◌, ◌-◌, ◌≤◌, max, List, [], ◌∷◌, length, drop, arith, Some, None}
 use Rattle.std.proofs.lemmas.Option.{slice_get_within, slice_get_cases, get_or_from_slice_get, none-some}
 use Rattle.std.proofs.lemmas.List.{drop_more, drop_all, drop-drop, length-drop}
 use Rattle.std.proofs.lemmas.Bool.Decides.{nat_tests}
@@ -12,12 +11,13 @@ use Rattle.msg_buffer.proofs.Numbers.{length-instances}
 pub rest_more : {X : Type 0} (start : ℕ) (xs : List X) (n : ℕ) (x : X) → get_from start xs n ≡ Some x
     → drop (n - start) xs ≡ x ∷ drop (n + 1 - start) xs
 rest_more start xs n x is =
-    let above : start ≤ n = grind (arith, nat_tests) in
-    let at : slice_get xs (n - start) ≡ Some x = grind (arith, nat_tests) in
-    let within = slice_get_within xs (n - start) x at in
-    let value = get_or_from_slice_get xs (n - start) x x at in
-    let later : n - start + 1 ≡ n + 1 - start = omega arith in
-    drop_more xs (n - start) x within ∙ ap (λ y. y ∷ drop (n - start + 1) xs) value ∙ ap (λ i. x ∷ drop i xs) later
+    grind (
+      arith,
+      nat_tests,
+      slice_get_within xs (n - start) x,
+      get_or_from_slice_get xs (n - start) x x,
+      drop_more xs (n - start) x,
+    )
 
 pub rest_ends : {X : Type 0} (start : ℕ) (xs : List X) (n : ℕ) → start ≤ n → get_from start xs n ≡ None
     → drop (n - start) xs ≡ []
@@ -27,10 +27,7 @@ module _ {M : Type 0} where
   pub unread_stands : (k : Kept M) (h : History M) (place : ℕ) → StandsFor k h
       → drop (max place k.oldest - k.oldest) (kept_instances k) ≡ unread h place
   unread_stands k h place s =
-      let o = s.oldest in
-      let at : oldest h + (max place k.oldest - k.oldest) ≡ first h place = omega arith in
-      ap (drop (max place k.oldest - k.oldest)) (kept_stands k h s)
-      ∙ drop-drop (max place k.oldest - k.oldest) (oldest h) (instances h) ∙ ap (λ n. drop n (instances h)) at
+      grind (arith, s.oldest, kept_stands k h s, drop-drop (max place k.oldest - k.oldest) (oldest h) (instances h))
 
   pub length-unread : (h : History M) (place : ℕ) → length (unread h place) ≡ count h - first h place
-  length-unread h place = length-drop (first h place) (instances h) ∙ ap (λ n. n - first h place) (length-instances h)
+  length-unread h place = rw (length-drop, length-instances)

@@ -1,5 +1,5 @@
 -- What words that clap takes leave of a subcommand: each row has a value.
-use Rattle.std.proofs.Common.{◌≡◌, ℕ, zero, suc, length, List, [], ◌∷◌, ◌++◌, refl, sym, ap, ◌∙◌, Option, Some, None, Bool, true, false, codes, subst, fold, find, if◌then◌else◌, encode_utf8, drop, is_some, ◌&&◌, ◌||◌, cond, slice_get, not, nat_le, option_and_then}
+use Rattle.std.proofs.Common.{arith, ◌≡◌, ℕ, zero, suc, length, List, [], ◌∷◌, ◌++◌, refl, sym, ap, ◌∙◌, Option, Some, None, Bool, true, false, codes, subst, fold, find, if◌then◌else◌, encode_utf8, drop, is_some, ◌&&◌, ◌||◌, cond, slice_get, not, nat_le, option_and_then}
 use Rattle.std.specs.Str.{bytes_eq, chars}
 use Rattle.std.specs.List.{list_all}
 use Rattle.std.specs.Option.{option_map_or}
@@ -10,7 +10,7 @@ use Rattle.clap.proofs.OnLiterals.{clap_on_literals}
 use Rattle.clap.specs.Simple.{built_leaf, filled, help_rule, with_index}
 use Rattle.msg_command.specs.Prelude.{buffer_app, file_rule, run_app, workers_rule}
 use Rattle.clap.specs.Walk.{Step, next, trailing, subcommand, value, has_long, has_short, bundle, option_word, reading_by, after_step, walked_from, default_rows, nothing_held, rows_after, walk, walk_from, Held, Names, Outcome, Waiting, Walk, done, waits, plain, refused, idle, option, positional, action_of, after_flag, arg_by_id, arg_by_index, arg_by_long, arg_by_short, attached_value, bundle_met, bundle_step, finished, flag_met, has_row, is_pending, long_met, long_or_other, more_values, option_met, plain_word, positional_held, reacted, settled, settled_rows, short_met, short_or_plain, subcommand_met, subcommand_or_other, takes_several, takes_values, to_positional, used, used_as, used_by_id, values_or_missing, walked, with_default, with_values, without, word_met}
-use Rattle.clap.specs.Takes.{default_passes, action_passes, bundle_passes, bundle_step_passes, flag_word_passes, flags_pass, is_given, level_passes, long_passes, option_passes, other_passes, positional_passes, react_passes, settle_passes, short_passes, step_passes, turn_passes, use_passes, walk_passes, word_passes}
+use Rattle.clap.specs.Takes.{is_valid, default_passes, action_passes, bundle_passes, bundle_step_passes, flag_word_passes, flags_pass, is_given, level_passes, long_passes, option_passes, other_passes, positional_passes, react_passes, settle_passes, short_passes, step_passes, turn_passes, use_passes, walk_passes, word_passes}
 use Rattle.clap.specs.declared.parser.matches.ValueSource.{ValueSource}
 use Rattle.clap.specs.declared.parser.matches.ValueSource.TheVariants.{DefaultValue, CommandLine}
 use Rattle.clap.specs.declared.builder.value_parser.Reading.{Reading}
@@ -40,21 +40,11 @@ with_values_keeps : (id : Text) (how : Reading) (s : ValueSource) (vs : List Tex
     → some_of vs ≡ true → have_values rows ≡ true → have_values (with_values id how s vs rows) ≡ true
 with_values_keeps id how s vs [] some all = and_from _ _ some refl
 with_values_keeps id how s vs (r ∷ rs) some all =
-    let parts = and_parts (has_value r) (have_values rs) all in
-    elim (bytes_eq r.id id) as (λ b. have_values
-    (if b then more_values s vs r ++ rs else r ∷ with_values id how s vs rs) ≡ true) [
-      | true ↦ and_from _ _ (longer r.values vs some) parts.1
-      | false ↦ and_from _ _ parts.0 (with_values_keeps id how s vs rs some parts.1)
-    ]
+    grind (arith, longer r.values vs some, with_values_keeps id how s vs rs some)
 
 without_keeps : (id : Text) (rows : List Row) → have_values rows ≡ true → have_values (without id rows) ≡ true
 without_keeps id [] all = refl
-without_keeps id (r ∷ rs) all =
-    let parts = and_parts (has_value r) (have_values rs) all in
-    elim (bytes_eq r.id id) as (λ b. have_values (if b then rs else r ∷ without id rs) ≡ true) [
-      | true ↦ parts.1
-      | false ↦ and_from _ _ parts.0 (without_keeps id rs parts.1)
-    ]
+without_keeps id (r ∷ rs) all = grind (arith, without_keeps id rs)
 
 -- ---- uses
 
@@ -85,15 +75,11 @@ set_valued : (a : Rule) → action_of a ≡ Set → nat_le (unwrap_or_range a.ra
 set_valued a set least again [] rows passes all =
     let parts = and_parts (nat_le (unwrap_or_range a.range).start_inclusive 0) _ passes in cc
 set_valued a set least again (v ∷ vs) rows passes all =
-    subst (λ k. have_values (used_as k a.id (reading_by a) (v ∷ vs) rows) ≡ true) (sym set)
-    (with_values_keeps a.id _ CommandLine (v ∷ vs) (without a.id rows) refl (without_keeps a.id rows all))
+    rw set (with_values_keeps a.id _ CommandLine (v ∷ vs) (without a.id rows) refl (without_keeps a.id rows all))
 
 -- help never passes
 help_valued : (a : Rule) → action_of a ≡ Help → Valued a
-help_valued a help again vs rows passes all =
-    let parts = and_parts (nat_le (unwrap_or_range a.range).start_inclusive (length vs)) _ passes in
-    let rest = and_parts (nat_le (length vs) _) _ parts.1 in
-    let bad : false ≡ true = sym (ap (λ k. action_passes k again a (values_or_missing a vs) rows) help) ∙ rest.1 in cc
+help_valued a help again vs rows passes all = grind (arith, help)
 
 -- ---- what is held
 
@@ -118,8 +104,7 @@ settled_keeps c again h fine passes all =
 reacted_keeps : (c : List Rule) (again : Bool) (a : Rule) (vs : List Text) (h : Held) → EachValued c → Valued a
     → react_passes c again a vs h ≡ true → have_values h.rows ≡ true → have_values (reacted c a vs h).rows ≡ true
 reacted_keeps c again a vs h fine its passes all =
-    let parts = and_parts (settle_passes c again h) _ passes in
-    its again vs (settled c h).rows parts.1 (settled_keeps c again h fine parts.0 all)
+    grind (arith, its again vs (settled c h).rows, settled_keeps c again h fine)
 
 option_keeps : (c : List Rule) (again : Bool) (a : Rule) (v : Option Text) (h : Held) → EachValued c → Valued a
     → option_passes c again a v h ≡ true → have_values h.rows ≡ true → have_values (option_met c a v h).0.rows ≡ true
@@ -129,35 +114,17 @@ option_keeps c again a None h fine its passes all = settled_keeps c again h fine
 long_keeps : (c : List Rule) (again : Bool) (o : Option Rule) (v : Option Text) (h : Held) → EachValued c → IfValued o
     → long_passes c again o v h ≡ true → have_values h.rows ≡ true → have_values (long_met c o v h).0.rows ≡ true
 long_keeps c again None v h fine its passes all = cc
-long_keeps c again (Some a) (Some v) h fine its passes all =
-    elim (takes_values a) as (λ b. (if b then option_passes c again a (Some v) h
-    else (not true && react_passes c again a [] h)) ≡ true
-    → have_values (if b then option_met c a (Some v) h else flag_met c a (Some v) h).0.rows ≡ true) [
-      | true ↦ λ ok. option_keeps c again a (Some v) h fine its ok all
-      | false ↦ λ ok. all
-    ] passes
-long_keeps c again (Some a) None h fine its passes all =
-    elim (takes_values a) as (λ b. (if b then option_passes c again a None h
-    else (not false && react_passes c again a [] h)) ≡ true
-    → have_values (if b then option_met c a None h else flag_met c a None h).0.rows ≡ true) [
-      | true ↦ λ ok. option_keeps c again a None h fine its ok all
-      | false ↦ λ ok. reacted_keeps c again a [] h fine its ok all
-    ] passes
+long_keeps c again (Some a) v h fine its passes all =
+    grind (arith, option_keeps c again a v h fine its, reacted_keeps c again a [] h fine its)
 
 -- ---- a word
 
 plain_rows : (c : List Rule) (w : Waiting) (word : Text) (h : Held) → (plain_word c w word h).0.rows ≡ h.rows
-plain_rows c idle word h = refl
-plain_rows c positional word h = refl
-plain_rows c (option id) word h =
-    elim (arg_by_id c id) as (λ o. (option_word o id word h).0.rows ≡ h.rows) [ None ↦ refl | Some a ↦ refl ]
+plain_rows c w word h = grind arith
 
 after_flag_rows : (c : List Rule) (w : Waiting) (word : Text) (h : Held) (o : Outcome)
     → (after_flag c w word h o).0.rows ≡ h.rows
-after_flag_rows c w word h done = refl
-after_flag_rows c w word h (waits id) = refl
-after_flag_rows c w word h plain = plain_rows c w word h
-after_flag_rows c w word h refused = plain_rows c w word h
+after_flag_rows c w word h o = grind (arith, plain_rows c w word h)
 
 short_keeps : (c : List Rule) (again : Bool) (o : Option Rule) (rest : Text) (h : Held) (passing : Held → Bool)
     (met : Held → Held × Outcome) → EachValued c → IfValued o
@@ -166,14 +133,12 @@ short_keeps : (c : List Rule) (again : Bool) (o : Option Rule) (rest : Text) (h 
     → have_values (short_met c o rest h met).0.rows ≡ true
 short_keeps c again None rest h passing met fine its more passes all = cc
 short_keeps c again (Some a) rest h passing met fine its more passes all =
-    elim (takes_values a) as (λ b. (if b then option_passes c again a (attached_value rest) h
-    else (react_passes c again a [] h && passing (reacted c a [] h))) ≡ true
-    → have_values (if b then option_met c a (attached_value rest) h else met (reacted c a [] h)).0.rows ≡ true) [
-      | true ↦ λ ok. option_keeps c again a (attached_value rest) h fine its ok all
-      | false ↦ λ ok.
-          let parts = and_parts (react_passes c again a [] h) _ ok in
-          more (reacted c a [] h) parts.1 (reacted_keeps c again a [] h fine its parts.0 all)
-    ] passes
+    grind (
+      arith,
+      option_keeps c again a (attached_value rest) h fine its,
+      reacted_keeps c again a [] h fine its,
+      more (reacted c a [] h),
+    )
 
 -- the flags of a bundle, at most k of them, leave rows with values
 abbrev FlagsKeep : List Rule → Bool → ℕ → Type 0
@@ -195,11 +160,7 @@ flags_keep : (c : List Rule) (again : Bool) (k : ℕ) → EachValued c → Flags
 unfolding flags_pass bundle_met
 flags_keep c again zero fine flags skip so_far h passes all = all
 flags_keep c again (suc k) fine flags skip so_far h passes all =
-    elim (slice_get (chars flags) 0) as (λ o. bundle_step_passes c again o flags skip h (flags_pass c again k) ≡ true
-    → have_values (bundle_step c o flags skip so_far h (bundle_met c k)).0.rows ≡ true) [
-      | None ↦ λ ok. all
-      | Some x ↦ λ ok. flag_keeps c again k fine (flags_keep c again k fine) flags skip so_far h x ok all
-    ] passes
+    grind (arith, flag_keeps c again k fine (flags_keep c again k fine) flags skip so_far h)
 
 short_word_keeps : (c : List Rule) (again : Bool) (w : Waiting) (word : Text) (flags : Option Text) (h : Held)
     → EachValued c
@@ -228,12 +189,7 @@ other_keeps : (s : Shape) (name : Option Text) (w : Waiting) (position : ℕ) (w
     → have_values (subcommand_or_other s.rules name w position word h).0.rows ≡ true
 other_keeps s (Some name) w position word h fine passes all = all
 other_keeps s None w position word h fine passes all =
-    elim (bytes_eq word (45 ∷ 45 ∷ [])) as (λ b.
-    (b || flag_word_passes s.rules s.args_override_self (long_of word) word h) ≡ true
-    → have_values (if b then (h, trailing position) else long_or_other s.rules w word (long_of word) h).0.rows ≡ true) [
-      | true ↦ λ ok. all
-      | false ↦ λ ok. flag_word_keeps s.rules s.args_override_self w word (long_of word) h fine ok all
-    ] passes
+    grind (arith, flag_word_keeps s.rules s.args_override_self w word (long_of word) h fine)
 
 word_keeps : (s : Shape) (names : Names) (past : Bool) (w : Waiting) (position : ℕ) (word : Text) (h : Held)
     → EachValued s.rules
@@ -246,12 +202,7 @@ word_keeps s names false w position word h fine passes all =
 positional_keeps : (c : List Rule) (again : Bool) (a : Rule) (word : Text) (h : Held) → EachValued c
     → positional_passes c again a h ≡ true → have_values h.rows ≡ true
     → have_values (positional_held c a word h).rows ≡ true
-positional_keeps c again a word h fine passes all =
-    elim (is_pending a h.pending && takes_several a) as (λ b. (b || settle_passes c again h) ≡ true
-    → have_values (if b then h else settled c h).rows ≡ true) [
-      | true ↦ λ ok. all
-      | false ↦ λ ok. settled_keeps c again h fine ok all
-    ] passes
+positional_keeps c again a word h fine passes all = grind (arith, settled_keeps c again h fine)
 
 step_keeps : (s : Shape) (w : Walk) (word : Text) (h : Held) (step : Step) → EachValued s.rules
     → step_passes s w.position h step ≡ true → have_values h.rows ≡ true
@@ -260,12 +211,7 @@ step_keeps s w word h (next waiting) fine passes all = all
 step_keeps s w word h (trailing position) fine passes all = all
 step_keeps s w word h (subcommand name) fine passes all = all
 step_keeps s w word h value fine passes all =
-    elim (arg_by_index s.rules w.position) as (λ o. option_map_or
-    (λ a. positional_passes s.rules s.args_override_self a h) o false ≡ true
-    → have_values (to_positional s.rules o word w h).held.rows ≡ true) [
-      | None ↦ λ ok. cc
-      | Some a ↦ λ ok. positional_keeps s.rules s.args_override_self a word h fine ok all
-    ] passes
+    grind (arith, λ (a : Rule). positional_keeps s.rules s.args_override_self a word h fine)
 
 turn_keeps : (s : Shape) (names : Names) (w : Walk) (word : Text) → EachValued s.rules
     → turn_passes s names w word ≡ true
@@ -273,15 +219,11 @@ turn_keeps : (s : Shape) (names : Names) (w : Walk) (word : Text) → EachValued
 unfolding walked
 turn_keeps s names w word fine passes all =
     let met = word_met s.rules names w.is_trailing w.waiting w.position word w.held in
-    elim w.stopped as (λ o. (is_some o ||
-    (word_passes s names w.is_trailing w.waiting word w.held && step_passes s w.position met.0 met.1)) ≡ true
-    → have_values (walked_from s.rules names o w word).held.rows ≡ true) [
-      | Some p ↦ λ ok. all
-      | None ↦ λ ok.
-          let parts = and_parts (word_passes s names w.is_trailing w.waiting word w.held) _ ok in
-          step_keeps s w word met.0 met.1 fine parts.1
-          (word_keeps s names w.is_trailing w.waiting w.position word w.held fine parts.0 all)
-    ] passes
+    grind (
+      arith,
+      step_keeps s w word met.0 met.1 fine,
+      word_keeps s names w.is_trailing w.waiting w.position word w.held fine,
+    )
 
 -- ---- all words
 
@@ -295,15 +237,7 @@ walk_keeps s names (word ∷ rest) w fine passes all =
     walk_keeps s names rest (walked s.rules names w word) fine parts.1 (turn_keeps s names w word fine parts.0 all)
 
 default_keeps : (a : Rule) (rows : List Row) → have_values rows ≡ true → have_values (with_default rows a) ≡ true
-default_keeps a rows all =
-    elim (has_row a.id rows) as (λ b. have_values (if b then rows else default_rows a.id (reading_by a) a.defaults rows)
-    ≡ true) [
-      | true ↦ all
-      | false ↦ elim a.defaults as (λ vs. have_values (default_rows a.id (reading_by a) vs rows) ≡ true) [
-        | [] ↦ all
-        | v ∷ vs ↦ with_values_keeps a.id (reading_by a) DefaultValue (v ∷ vs) rows refl all
-      ]
-    ]
+default_keeps a rows all = grind (arith, with_values_keeps a.id (reading_by a) DefaultValue a.defaults rows)
 
 defaults_keep : (c : List Rule) (rows : List Row) → have_values rows ≡ true
     → have_values (fold with_default rows c) ≡ true
@@ -327,58 +261,38 @@ first_there id (r ∷ rs) all there =
       | false ↦ λ ok. first_there id rs parts.1 ok
     ] there
 
-found_first : (b : Bool) (r : Row) (o : Option Row) → b ≡ true → is_some (cond b (Some r) o) ≡ true
-found_first true r o is = refl
-found_first false r o is = cc
-
-found_later : (b : Bool) (r : Row) (o : Option Row) → is_some o ≡ true → is_some (cond b (Some r) o) ≡ true
-found_later true r o is = refl
-found_later false r o is = is
-
 -- a default that is given is there
 with_values_there : (id : Text) (how : Reading) (s : ValueSource) (vs : List Text) (rows : List Row)
     → bytes_eq id id ≡ true
     → is_some (find (λ r. bytes_eq r.id id) (with_values id how s vs rows)) ≡ true
-with_values_there id how s vs [] same = found_first (bytes_eq id id) _ None same
-with_values_there id how s vs (r ∷ rs) same =
-    elim (bytes_eq r.id id) as (λ b. bytes_eq r.id id ≡ b
-    → is_some (find (λ r. bytes_eq r.id id)
-    (if b then more_values s vs r ++ rs else r ∷ with_values id how s vs rs)) ≡ true) [
-      | true ↦ λ is. found_first (bytes_eq r.id id) _ _ is
-      | false ↦ λ is. found_later (bytes_eq r.id id) r _ (with_values_there id how s vs rs same)
-    ] refl
+with_values_there id how s vs [] same = grind arith
+with_values_there id how s vs (r ∷ rs) same = grind (arith, with_values_there id how s vs rs same)
 
 row_there : (id : Text) (rows : List Row) → has_row id rows ≡ true → is_some (find (λ r. bytes_eq r.id id) rows) ≡ true
 row_there id [] h = h
-row_there id (r ∷ rs) h =
-    elim (bytes_eq r.id id) as (λ b. (b || has_row id rs) ≡ true
-    → is_some (cond b (Some r) (find (λ r. bytes_eq r.id id) rs)) ≡ true) [
-      | true ↦ λ ok. refl
-      | false ↦ λ ok. row_there id rs ok
-    ] h
+row_there id (r ∷ rs) h = grind (arith, row_there id rs)
 
 pub default_there : (a : Rule) (rows : List Row) → bytes_eq a.id a.id ≡ true → some_of a.defaults ≡ true
     → is_some (find (λ r. bytes_eq r.id a.id) (with_default rows a)) ≡ true
 default_there a rows same some =
-    elim (has_row a.id rows) as (λ b. has_row a.id rows ≡ b
-    → is_some (find (λ r. bytes_eq r.id a.id)
-    (if b then rows else default_rows a.id (reading_by a) a.defaults rows)) ≡ true) [
-      | true ↦ λ is. row_there a.id rows is
-      | false ↦ λ is. elim a.defaults as (λ vs. some_of vs ≡ true
-          → is_some (find (λ r. bytes_eq r.id a.id) (default_rows a.id (reading_by a) vs rows)) ≡ true) [
-            | [] ↦ λ bad. cc
-            | v ∷ vs ↦ λ _. with_values_there a.id (reading_by a) DefaultValue (v ∷ vs) rows same
-          ] some
-    ] refl
+    grind (arith, row_there a.id rows, with_values_there a.id (reading_by a) DefaultValue a.defaults rows same)
 
 given_there : (id : Text) (rows : List Row) → is_given id rows ≡ true
     → is_some (find (λ r. bytes_eq r.id id) rows) ≡ true
-given_there id rows h =
-    elim (find (λ r. bytes_eq r.id id) rows) as (λ o. option_map_or (λ r. explicit_source r.source) o false ≡ true
-    → is_some o ≡ true) [
-      | None ↦ λ ok. ok
-      | Some r ↦ λ ok. refl
-    ] h
+given_there id rows h = grind arith
+
+-- words that pass leave rows that each have a value, and are valid
+valued_rows : (s : Shape) (words : List Text) → EachValued s.rules → level_passes s [] nothing_held words false ≡ true
+    → (have_values (rows_after s.rules [] words) ≡ true) × (is_valid s (rows_after s.rules [] words) false ≡ true)
+valued_rows s words valued passes =
+    let end = (walk s.rules [] nothing_held words).held in
+    let parts = and_parts (walk_passes s [] (walk_from nothing_held) words) _ passes in
+    let settles = and_parts (settle_passes s.rules s.args_override_self end) _ parts.1 in
+    let kept = settled_keeps s.rules s.args_override_self end valued settles.0
+    (walk_keeps s [] words (walk_from nothing_held) valued parts.0 refl) in (
+      defaults_keep s.rules (settled s.rules end).rows kept,
+      (and_parts (list_all default_passes s.rules) _ settles.1).1,
+    )
 
 -- ---- the commands
 
@@ -408,16 +322,10 @@ pub buffer_given : (words : List Text) → level_passes buffer_shape [] nothing_
     → (file : Text) × (first_of (codes "FILE") (rows_after buffer_shape.rules [] words) ≡ Some file)
 unfolding clap_on_literals
 buffer_given words passes =
-    let parts = and_parts (walk_passes buffer_shape [] (walk_from nothing_held) words) _ passes in
-    let end = (walk buffer_shape.rules [] nothing_held words).held in
-    let settles = and_parts (settle_passes buffer_shape.rules false end) _ parts.1 in
-    let valid = (and_parts (list_all default_passes buffer_shape.rules) _ settles.1).1 in
-    let kept = settled_keeps buffer_shape.rules false end buffer_valued settles.0
-    (walk_keeps buffer_shape [] words (walk_from nothing_held) buffer_valued parts.0 refl) in
-    let rows = finished buffer_shape.rules end in
-    let all : have_values rows ≡ true = defaults_keep buffer_shape.rules (settled buffer_shape.rules end).rows kept in
-    first_there (codes "FILE") rows all
-    (given_there (codes "FILE") rows (and_parts (is_given (codes "FILE") rows) _ valid).0)
+    let rows = rows_after buffer_shape.rules [] words in
+    let are = valued_rows buffer_shape words buffer_valued passes in
+    first_there (codes "FILE") rows are.0
+    (given_there (codes "FILE") rows (and_parts (is_given (codes "FILE") rows) _ are.1).0)
 
 -- ---- run FILE --workers N
 
@@ -425,31 +333,16 @@ run_valued : EachValued run_shape.rules
 unfolding clap_on_literals
 run_valued = (set_valued file_built refl refl, (set_valued workers_built refl refl, (help_valued help_built refl, tt)))
 
--- the same whichever way it goes
-either_way : {X : Type 0} (b : Bool) (x : X) → (if b then x else x) ≡ x
-either_way true x = refl
-either_way false x = refl
-
 -- `run` takes words only with a FILE, and a number of workers is there, given or by default
 pub run_given : (words : List Text) → level_passes run_shape [] nothing_held words false ≡ true
     → ((file : Text) × (first_of (codes "FILE") (rows_after run_shape.rules [] words) ≡ Some file))
     × ((text : Text) × (first_of (codes "workers") (rows_after run_shape.rules [] words) ≡ Some text))
 unfolding clap_on_literals
 run_given words passes =
-    let parts = and_parts (walk_passes run_shape [] (walk_from nothing_held) words) _ passes in
-    let end = (walk run_shape.rules [] nothing_held words).held in
-    let settles = and_parts (settle_passes run_shape.rules false end) _ parts.1 in
-    let valid = (and_parts (list_all default_passes run_shape.rules) _ settles.1).1 in
-    let kept = settled_keeps run_shape.rules false end run_valued settles.0
-    (walk_keeps run_shape [] words (walk_from nothing_held) run_valued parts.0 refl) in
-    let first = (settled run_shape.rules end).rows in
-    let rows = finished run_shape.rules end in
-    let all : have_values rows ≡ true = defaults_keep run_shape.rules first kept in
-    let file_row : is_some (find (λ r. bytes_eq r.id (codes "FILE")) rows) ≡ true =
-    given_there (codes "FILE") rows (and_parts (is_given (codes "FILE") rows) _ valid).0 in
-    let before = with_default first file_built in
+    let rows = rows_after run_shape.rules [] words in
+    let are = valued_rows run_shape words run_valued passes in
+    let first = (settled run_shape.rules (walk run_shape.rules [] nothing_held words).held).rows in
+    let file_row = given_there (codes "FILE") rows (and_parts (is_given (codes "FILE") rows) _ are.1).0 in
     let workers_row : is_some (find (λ r. bytes_eq r.id (codes "workers")) rows) ≡ true =
-    ap (λ l. is_some (find (λ r. bytes_eq r.id (codes "workers")) l))
-    (either_way (has_row (codes "help") (with_default before workers_built)) (with_default before workers_built))
-    ∙ default_there workers_built before refl refl in
-    (first_there (codes "FILE") rows all file_row, first_there (codes "workers") rows all workers_row)
+    grind (arith, default_there workers_built (with_default first file_built) refl refl) in
+    (first_there (codes "FILE") rows are.0 file_row, first_there (codes "workers") rows are.0 workers_row)

@@ -1,6 +1,6 @@
 -- Words that clap takes ask for something, or for a run on what is no number of workers: `buffer` has its FILE, `run`
 -- its FILE and a number, and nothing else is entered.
-use Rattle.std.proofs.Common.{◌≡◌, ◌⊎◌, inl, inr, ℕ, get_or, List, [], ◌∷◌, refl, sym, ap, ◌∙◌, subst, Option, Some, None, Bool, true, false, codes, fold, is_some, ◌&&◌, ◌||◌, cond, if◌then◌else◌, not, option_and_then, option_map}
+use Rattle.std.proofs.Common.{arith, ◌≡◌, ◌⊎◌, inl, inr, ℕ, get_or, List, [], ◌∷◌, refl, sym, ap, ◌∙◌, subst, Option, Some, None, Bool, true, false, codes, fold, is_some, ◌&&◌, ◌||◌, cond, if◌then◌else◌, not, option_and_then, option_map}
 use Rattle.std.specs.Str.{bytes_eq}
 use Rattle.std.specs.Option.{option_map_or}
 use Rattle.std.proofs.lemmas.Slice.Eq.{bytes_eq-Decides}
@@ -63,12 +63,12 @@ not_help false h = refl
 -- a flag doesn't stop it
 flag_goes_on : (word : Text) (w : Walk) (h : Held) (step : Step) → IsFlag step → w.stopped ≡ None
     → NotHelp (after_step top.rules word w h step).stopped
-flag_goes_on word w h (next waiting) is none = subst NotHelp (sym none) tt
-flag_goes_on word w h (trailing position) is none = subst NotHelp (sym none) tt
+flag_goes_on word w h (next waiting) is none = rw none tt
+flag_goes_on word w h (trailing position) is none = rw none tt
 flag_goes_on word w h (subcommand name) is none = absurd is
 flag_goes_on word w h value is none =
     elim (arg_by_index top.rules w.position) as (λ o. NotHelp (to_positional top.rules o word w h).stopped) [
-      | None ↦ subst NotHelp (sym none) tt
+      | None ↦ rw none tt
       | Some a ↦ tt
     ]
 
@@ -116,13 +116,7 @@ walk_stops (word ∷ rest) w passes so_far =
 
 -- the name of the subcommand `help`, the other way round
 help_named : (name : Text) → bytes_eq name (codes "help") ≡ false → bytes_eq (codes "help") name ≡ false
-help_named name isnt =
-    elim (bytes_eq (codes "help") name) as (λ b. bytes_eq (codes "help") name ≡ b → b ≡ false) [
-      | true ↦ λ is.
-          let same = (bytes_eq-Decides (codes "help") name).0 is in
-          let bad : false ≡ true = sym isnt ∙ (bytes_eq-Decides name (codes "help")).1 (sym same) in cc
-      | false ↦ λ is. refl
-    ] refl
+help_named name isnt = grind (arith, bytes_eq-Decides (codes "help") name, bytes_eq-Decides name (codes "help"))
 
 -- ---- what is asked for
 
@@ -148,10 +142,7 @@ run_asks words rest sub passes =
     let file = given.0.0 in
     let text = given.1.0 in
     elim (workers_in text) as (λ o. workers_in text ≡ o → Asks words) [
-      | Some n ↦ λ is. inl (ap (λ o. is_some (asked_by o)) sub
-          ∙ ap (λ o. is_some (run_asked o (workers_asked rows))) given.0.1
-          ∙ ap (λ o. is_some (run_asked (Some file) (option_and_then workers_in o))) given.1.1
-          ∙ ap (λ o. is_some (run_asked (Some file) o)) is)
+      | Some n ↦ λ is. inl (rw (sub, given.0.1, given.1.1, is) refl)
       | None ↦ λ is. inr (rows, text, sub, given.1.1, is)
     ] refl
 
@@ -161,15 +152,15 @@ found_asks : (words rest : List Text) (a b c : Bool) → c ≡ false
 unfolding clap_on_literals
 found_asks words rest true b c isnt sub passes =
     let file = buffer_given rest passes in
-    inl (ap (λ o. is_some (asked_by o)) sub ∙ ap (λ o. is_some (option_map (λ f. buffer_of (Some f)) o)) file.1)
+    inl (rw (sub, file.1) refl)
 found_asks words rest false true c isnt sub passes = run_asks words rest sub passes
 found_asks words rest false false true isnt sub passes = cc
-found_asks words rest false false false isnt sub passes = inl (ap (λ o. is_some (asked_by o)) sub)
+found_asks words rest false false false isnt sub passes = inl (rw sub refl)
 
 stopped_asks : (words : List Text) (o : Option (Text × List Text)) → stop_after top.rules names words ≡ o
     → entered_passes (built msgrun_app) o ≡ true → NotHelp o → Asks words
 unfolding clap_on_literals
-stopped_asks words None is passes isnt = inl (ap (λ o. is_some (asked_by (entered (built msgrun_app) o))) is)
+stopped_asks words None is passes isnt = inl (rw is refl)
 stopped_asks words (Some (name, rest)) is passes isnt =
     found_asks words rest (bytes_eq (codes "buffer") name || false) (bytes_eq (codes "run") name || false)
     (bytes_eq (codes "help") name || false) (ap (λ b. b || false) (help_named name isnt))

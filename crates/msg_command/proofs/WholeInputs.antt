@@ -9,10 +9,8 @@ use Rattle.msg_command.specs.Prelude.{IsAllOf, GaveMoreThan}
 pub all_at_end : (a b c : Option (List ℕ)) (all buf : List ℕ) (n : ℕ) → n ≡ 0
     → Consumes a b all → Consumes b c (take n buf) → IsAtEnd c → IsAllOf a all
 all_at_end a b c all buf n e p q end =
-    let none : take n buf ≡ [] = ap (λ k. take k buf) e in
     let consumed = Consumes-trans a b c all (take n buf) p q in
-    Consumes-all a c all [] all
-    (subst (Consumes a c) (ap (λ l. all ++ l) none ∙ append-nil all) consumed) end refl
+    Consumes-all a c all [] all (rw (e, append-nil) at consumed) end refl
 
 -- a read that goes past the limit
 pub more_than : (a b c : Option (List ℕ)) (all buf : List ℕ) (n top : ℕ) → n ≤ length buf

@@ -43,13 +43,13 @@ string_is : (d : Data) (s : List ℕ) → Some s ≡ as_str d → d ≡ string s
 string_is d s e = grind arith
 
 -- a list with a text at its head
-pub call_headed : (made : ℕ) (d : Data) (xs : List Value) (v : Value) (head : List ℕ) → Some (items_view xs) ≡ as_array d
-    → 1 ≤ length xs → v ≡ get_or xs 0 v → Some head ≡ as_str (view v)
+pub call_headed : (made : ℕ) (d : Data) (xs : List Value) (v : Value) (head : List ℕ)
+    → Some (items_view xs) ≡ as_array d → 1 ≤ length xs → v ≡ get_or xs 0 v → Some head ≡ as_str (view v)
     → (call_checks made d ≡ checks_with made head (map view (take (length xs - 1) (drop 1 xs))))
     × (call_of d ≡ call_with head (map view (take (length xs - 1) (drop 1 xs))))
 call_headed made d [] v head list lt is text = absurd (omega (arith, lt))
 call_headed made d (x ∷ xs) v head list lt is text =
-    grind (arith, array_is d (items_view (x ∷ xs)) list, string_is (view x) head, list_of-items_of (map view xs), range_to_end 1 (x ∷ xs))
+    grind (arith, array_is d (items_view (x ∷ xs)) list, string_is (view x), list_of-items_of, range_to_end 1 (x ∷ xs))
 
 -- ---- the file
 

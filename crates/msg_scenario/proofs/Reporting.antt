@@ -188,7 +188,8 @@ module _ {X : Type 0} (meaning : X → Meaning) where
     -- what was run and put so far is all that was
     out_after : (k : ℕ) (before now : Option (List ℕ)) (e f : EngineOf X) (far : ReportSoFar meaning s k before now e)
         → frames_of f ≡ frames_of e
-        → (IsSpoiled f × (length far.logs < length s.frames)) ⊎ (StandsFor meaning f far.state × (length far.logs ≡ length s.frames))
+        → (IsSpoiled f × (length far.logs < length s.frames))
+        ⊎ (StandsFor meaning f far.state × (length far.logs ≡ length s.frames))
         → HasRunOut meaning s before now f
     out_after k before now e f far counted left = record {
       logs = far.logs;

@@ -7,20 +7,17 @@ use Rattle.msg_buffer.proofs.batch.append_each.Goals as goal
 pub loop-item-preserved : goal.loop-item-preserved
 loop-item-preserved g c =
     let at = c.loop-item in
-    let put = c.push_reserved.ensures in
     let made = at.invariant.3 in
     let m = c.message_of-message.result in
-    let within = c.loop-item-test.true in
-    let result = says_at g.F.Fn c.message_of-message.ensures refl in
-    let more =
-    one_more _ c.args.items.now made.0 at.item-index c.item-item.result m within c.item-item.is made.1 result in
+    let more = one_more _ c.args.items.now made.0 at.item-index c.item-item.result m c.loop-item-test.true
+    c.item-item.is made.1 (says_at g.F.Fn c.message_of-message.ensures refl) in
     let long = as_many _ _ made.0 made.1 ∙ length-take at.item-index c.args.items.now in (
       omega arith,
-      omega (arith, put.len),
-      omega (arith, put.capacity),
+      omega (arith, c.push_reserved.ensures.len),
+      omega (arith, c.push_reserved.ensures.capacity),
       (
         made.0 ++ m ∷ [],
         more,
-        rw put.items (one_appended _ at.instances.items c.args.first at.next made.0 m made.2 (omega arith)),
+        rw c.push_reserved.ensures.items (one_appended _ _ c.args.first at.next made.0 m made.2 (omega arith)),
       ),
     )

@@ -14,7 +14,7 @@ returns-in-Ok g c =
     let m = g.S.System.meaning in
     let s = c.args.scenario.now in
     record {
-      meaning = rw (same_state s _ c.in_ok-places.places.items c.in_ok-rules.rules.items (length c.in_ok-world.world.types)
+      meaning = rw (same_state s _ c.in_ok-places.places.items c.in_ok-rules.rules.items _
           (all_made m s c.args.systems.items c.requires.as_many c.requires.each) c.in_ok-places.ensures.places
           c.in_ok-rules.ensures.rules c.in_ok-world.ensures.types)
           at (c.in-Ok.ensures.meaning (first_world s) c.in_ok-world.ensures.meaning);

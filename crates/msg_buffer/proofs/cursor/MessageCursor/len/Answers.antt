@@ -6,5 +6,10 @@ pub returns : goal.returns
 returns g c =
     record {
       meaning =
-          λ h s. grind (arith, length-unread h c.args.self.now, c.oldest.ensures.meaning h s, c.count.ensures.meaning h s);
+          λ h s. grind (
+            arith,
+            length-unread h c.args.self.now,
+            c.oldest.ensures.meaning h s,
+            c.count.ensures.meaning h s,
+          );
     }

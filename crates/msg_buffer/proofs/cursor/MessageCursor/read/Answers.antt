@@ -1,5 +1,4 @@
-use Rattle.std.proofs.Common.{rules, ◌≡◌, ◌-◌, max, drop, ap, ◌∙◌}
-use Rattle.msg_buffer.specs.Prelude.{kept_instances}
+use Rattle.std.proofs.Common.{rules, ◌≡◌, max}
 use Rattle.msg_buffer.proofs.Unread.{unread_stands}
 use Rattle.msg_buffer.proofs.cursor.MessageCursor.read.Goals as goal
 
@@ -7,4 +6,4 @@ pub returns-clause-unread : goal.returns-clause-unread
 returns-clause-unread g c h s =
     let k = c.args.messages.now in let p = c.args.self.now in
     let at : c.max-self-inside.result ≡ max p k.oldest = search rules in
-    ap (λ n. drop (n - k.oldest) (kept_instances k)) at ∙ unread_stands k h p s
+    rw at (unread_stands k h p s)

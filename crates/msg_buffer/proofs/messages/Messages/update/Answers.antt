@@ -1,13 +1,8 @@
-use Rattle.std.proofs.Common.{rules, arith}
+use Rattle.std.proofs.Common.{arith}
 use Rattle.msg_buffer.proofs.Standing.{stands_updated}
 use Rattle.msg_buffer.proofs.messages.Messages.update.Goals as goal
 
 pub returns : goal.returns
 returns g c = record {
-  meaning = λ h s. stands_updated c.args.self.now _ h (record {
-    limit = search rules;
-    oldest = grind (arith, c.self.view_is, c.self.invariant.halves_meet);
-    older = search rules;
-    newer = search rules;
-  }) s;
+  meaning = λ h s. stands_updated c.args.self.now _ h (grind (arith, c.self.view_is, c.self.invariant.halves_meet)) s;
 }

@@ -1,4 +1,4 @@
-use Rattle.std.proofs.Common.{◌≡◌, ◌∙◌, ap, sym, inl, inr, subst, true, false, is_some}
+use Rattle.std.proofs.Common.{arith, ◌≡◌, ◌∙◌, ap, sym, inl, inr, subst, true, false, is_some}
 use Rattle.std.proofs.lemmas.Result.{IfErr-weaker}
 use Rattle.clap.specs.Words.{fault_of}
 use Rattle.msg_command.specs.Prelude.{IsToldOf, asked_by, msgrun_app, texts_of}
@@ -14,8 +14,7 @@ returns-clause-refused c =
       | inl is ↦ inl is
       | inr bad ↦ elim (takes_asks (texts_of c.args.words.now) taken) [
         | inl some ↦
-            let rows = c.in_ok-matches.ensures.rows in
-            let bad : false ≡ true = sym (ap is_some bad.1) ∙ ap (λ o. is_some (asked_by o)) rows ∙ some in cc
+            let bad : false ≡ true = grind (arith, bad, c.in_ok-matches.ensures.rows, some) in cc
         | inr on_none ↦ inr (bad.0, on_none)
       ]
     ]) c.action_of.ensures.refused
@@ -26,6 +25,6 @@ returns-clause-told c =
     let kinds = fault_of msgrun_app (texts_of c.args.words.now) in
     IfErr-weaker c.action_of.result _ _
     (λ fault refused. elim refused [
-      | inl is ↦ subst (IsToldOf kinds) (sym is) tt
-      | inr bad ↦ subst (IsToldOf kinds) (sym bad.0) (inl c.in_ok-matches.ensures.accepted)
+      | inl is ↦ rw is tt
+      | inr bad ↦ rw bad.0 (inl c.in_ok-matches.ensures.accepted)
     ]) c.action_of.ensures.refused

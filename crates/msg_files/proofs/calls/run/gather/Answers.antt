@@ -1,5 +1,5 @@
 use Rattle.std.proofs.lemmas.Grind.{common_steps}
-use Rattle.std.proofs.Common.{arith, ◌++◌, sym, append-nil, append_assoc, ◌≡◌, List, ℕ, Option, []}
+use Rattle.std.proofs.Common.{refl, arith, ◌++◌, sym, append-nil, append_assoc, ◌≡◌, List, ℕ, Option, []}
 use Rattle.std.specs.Io.KnownBytes.{Appends}
 use Rattle.std.proofs.KnownBytes.{Appends-trans}
 use Rattle.msg_files.specs.Prelude.{TakesFront}
@@ -10,7 +10,8 @@ use Rattle.msg_files.proofs.calls.run.gather.Goals as goal
 both_put : (a b c : Option (List ℕ)) (line old rest : List ℕ) → rest ≡ [] → Appends a b old → Appends b c line
     → TakesFront a c (old ++ line) rest
 both_put a b c line old rest none first second =
-    record { front = old ++ line; taken = Appends-trans a b c old line first second; parts = grind (arith, common_steps) }
+    let taken = Appends-trans a b c old line first second in
+    record { front = old ++ line; taken = taken; parts = grind (arith, common_steps) }
 
 pub returns-clause-ok : goal.returns-clause-ok
 returns-clause-ok g c =
@@ -27,6 +28,5 @@ returns-clause-prefix g c =
 
 pub returns-in_err-put_text-clause-prefix : goal.returns-in_err-put_text-clause-prefix
 returns-in_err-put_text-clause-prefix g c =
-    let q = c.in_err-put_text.ensures.prefix in
-    on_err _ c.from_residual.result _
-    (q.0, q.1 ++ c.args.line.now, grind (arith, common_steps, c.as_slice.ensures.value, c.if-add_where_room.ensures, q.2, append_assoc), q.3)
+    let q = (rw (c.as_slice.ensures.value, c.if-add_where_room.ensures) at c.in_err-put_text.ensures.prefix) in
+    on_err _ c.from_residual.result _ (q.0, q.1 ++ c.args.line.now, rw (q.2, append_assoc) refl, q.3)

@@ -21,14 +21,14 @@ pub returns-in_err-gather-in-Ok-clause-prefix : goal.returns-in_err-gather-in-Ok
 returns-in_err-gather-in-Ok-clause-prefix g c =
     on_err _ c.from_residual.result _
     (OnTheWay_fails _ _ _ _ _ _ _ c.call-item.result _ c.loop-call.invariant.0 c.loop-call-test.true _ _
-    (λ s are. grind (arith, common_steps, c.call-item.is, c.as_slice.ensures, c.in-Ok.ensures.line s are, c.clear.ensures))
+    (λ s are. grind (arith, common_steps, c.call-item.is, c.as_slice, c.in-Ok.ensures.line s are, c.clear.ensures))
     c.in_err-gather-in-Ok.ensures.prefix)
 
 pub loop-call-preserved : goal.loop-call-preserved
 loop-call-preserved g c = (
   OnTheWay_more _ _ _ _ _ _ _ c.call-item.result _ c.loop-call.invariant.0 c.loop-call-test.true _ _ _ _ _
       (λ s are. rw (← c.call-item.is) (c.in-Ok.ensures.state s are))
-      (λ s are. grind (arith, common_steps, c.call-item.is, c.as_slice.ensures, c.in-Ok.ensures.line s are, c.clear.ensures))
+      (λ s are. grind (arith, common_steps, c.call-item.is, c.as_slice, c.in-Ok.ensures.line s are, c.clear.ensures))
       c.in_ok-gather-in-Ok.ensures.ok,
   c.in_ok-gather-in-Ok.ensures.quiet ∙ c.loop-call.invariant.1,
 )

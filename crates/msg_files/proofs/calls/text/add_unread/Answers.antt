@@ -16,7 +16,8 @@ loop-preserved c =
 -- as many were given as the read gives
 counted : (c : goal.After-cursor-in-loop-1) (h : History ℤ) → StandsFor c.args.messages.now h
     → c.loop.counter ≡ length (given h c.args.cursor.now c.args.limit)
-counted c h stands = grind (arith, c.number_given-number.ensures (unread h c.args.cursor.now), c.len.ensures.meaning h stands)
+counted c h stands =
+    grind (arith, c.number_given-number.ensures (unread h c.args.cursor.now), c.len.ensures.meaning h stands)
 
 pub returns-after-loop-clause-appends : goal.returns-after-loop-clause-appends
 returns-after-loop-clause-appends c = λ h stands.
@@ -27,7 +28,7 @@ returns-after-loop-clause-appends c = λ h stands.
       c.read-unread.ensures.unread h stands,
       counted c h stands,
       spaced_items,
-      HasAdded_given _ _ _ _ _ c.args.limit (unread h c.args.cursor.now) c.loop.invariant (c.read-unread.ensures.unread h stands)
+      HasAdded_given _ _ _ _ _ c.args.limit _ c.loop.invariant (c.read-unread.ensures.unread h stands)
           (counted c h stands),
     )
 

@@ -16,8 +16,8 @@ returns-then-items-gt-MAX_VALUES c =
 
 pub returns-in_err-whole_numbers : goal.returns-in_err-whole_numbers
 returns-in_err-whole_numbers c =
-    grind (arith, common_steps, c.as_slice-items.ensures, elements_are, list_all-map, length-map, nat_tests, c.from_residual.ensures)
+    grind (arith, c.as_slice-items.ensures, elements_are, list_all-map, length-map, nat_tests, c.from_residual.ensures)
 
 pub returns : goal.returns
 returns c =
-    grind (arith, common_steps, c.as_slice-items.ensures, elements_are, list_all-map, length-map, nat_tests, all_some-map)
+    grind (arith, c.as_slice-items.ensures, elements_are, list_all-map, length-map, nat_tests, all_some-map)

@@ -21,7 +21,8 @@ returns-in_err-call-clause-refused c =
     let passed = err_from_is_err_and c.from_residual.result c.from_residual.ensures.1 in
     IfErr_at c.from_residual.result c.in_err-call.field-0.0 _ (passed.1 ∙ ap (λ f. Err f) passed.2) (
       c.in_err-call.ensures.is.0,
-      λ m. c.loop-item.invariant.passed ∙ call_refused c.item-item.result _ _ _ _ c.loop-item-test.true (rw (← c.item-item.is) (c.in_err-call.ensures.is.1 m)),
+      λ m. c.loop-item.invariant.passed ∙ call_refused c.item-item.result _ _ _ _ c.loop-item-test.true
+          (rw (← c.item-item.is) (c.in_err-call.ensures.is.1 m)),
     )
 
 pub loop-item-preserved : goal.loop-item-preserved
