@@ -37,7 +37,7 @@ pub goes_further : (a b c : History Record) → GoesOn a b → GoesOn b c → Go
 goes_further a b c x y = grind (arith, append_assoc)
 
 pub counts_more : (a b : History Record) → GoesOn a b → count a ≤ count b
-counts_more a b x = rw x.entries (omega (arith, length-append a.entries x.more))
+counts_more a b x = grind (arith, length-append)
 
 -- ---- what changes keep
 

@@ -1,5 +1,5 @@
 -- What a reader goes past by an op, by a turn and by a job.
-use Rattle.std.proofs.Common.{◌≡◌, ℕ, zero, suc, ◌≤◌, List, [], ◌∷◌, ◌++◌, append_assoc, map, length, All, Option, None, Some, refl, sym, ap, subst, arith, inl, inr, cond, ◌==◌}
+use Rattle.std.proofs.Common.{◌≡◌, ℕ, zero, suc, ◌≤◌, List, [], ◌∷◌, ◌++◌, append_assoc, map, length, All, Option, None, Some, refl, sym, ap, subst, arith, cond, ◌==◌}
 use Rattle.std.proofs.lemmas.Bool.{cases_Bool}
 use Rattle.std.proofs.lemmas.List.{append-nil, length-append, length-map, map-append, map-id}
 use Rattle.std.proofs.lemmas.List.Elements.{All-append, All-cons, All-nil}
@@ -9,7 +9,7 @@ use Rattle.msg_world.specs.Prelude.{WorldState}
 use Rattle.msg_system.specs.declared.op.Op.{Op}
 use Rattle.msg_system.specs.declared.op.Op.TheVariants.{Read, Clear, Forward, Sum}
 use Rattle.msg_system.specs.declared.reply.Reply.{Reply}
-use Rattle.msg_system.specs.Prelude.{AfterProgram, Job, Meaning, after_at_most, after_job, after_op, all_hold, next_op, one_more, ops_answered, took, turn, with_place}
+use Rattle.msg_system.specs.Prelude.{AfterProgram, Job, Meaning, after_at_most, after_job, after_op, next_op, one_more, ops_answered, took, turn, with_place}
 use Rattle.msg_system.proofs.Turns.{ops_answered-snoc}
 use Rattle.msg_frames.specs.Prelude.{Entry, GivesItsStretch, Moment, answers, entries_for, entry_for, entry_of_read, first_moments, job_moments, next_moments, outcome_entries, outcome_of, turn_moments}
 use Rattle.msg_frames.proofs.HistoriesGrow.{BufferLaws, counts_more, Grows, goes_further, grown, op_changes, stays}
@@ -146,10 +146,9 @@ module _ (laws : BufferLaws) where
 
     pub job_passes : (j : Job) (w : WorldState)
         → GoesPast t j.system.places w (job_moments t j w) (after_job j w).job.system.places (after_job j w).state
-    job_passes j w sound within = elim (cases_Bool (all_hold j.conditions w)) [
-      | inl e ↦ rw e (turn_passes j.system w sound within)
-      | inr e ↦ rw e (passes_nothing _ _ _ within (stays _ sound))
-    ]
+    job_passes j w sound within =
+        let none = passes_nothing _ _ _ within (stays _ sound) in
+        grind (arith, cases_Bool, none, turn_passes j.system w sound within)
 
 -- ---- the entries that the replies of a turn tell of are its moments
 
