@@ -1,12 +1,12 @@
 -- Runs of ops and of programs, from one op to the next.
-use Rattle.std.proofs.Common.{◌≡◌, ℕ, ◌+◌, ◌<◌, ◌++◌, Bool, true, List, [], ◌∷◌, length, Option, Some, Result, get_or, refl, ap, ◌∙◌, arith, append_assoc}
+use Rattle.std.proofs.Common.{◌≡◌, ℕ, ◌<◌, ◌++◌, Bool, true, List, [], ◌∷◌, length, Option, Some, Result, get_or, refl, ap, ◌∙◌, arith, append_assoc}
 use Rattle.std.specs.Prelude.{IfOk, IsSome, OnErr, is_some, slice_set, if◌then◌else◌}
 use Rattle.std.proofs.lemmas.Bool.{cases_eq, eq-eqb, ne_eqb}
-use Rattle.std.proofs.lemmas.List.{get_or_default, get_or-set_same, get_or-set_other, length_push}
+use Rattle.std.proofs.lemmas.List.{get_or_default, get_or-set_same, get_or-set_other}
 use Rattle.msg_world.specs.declared.lent.Lent.{Lent}
 use Rattle.msg_world.specs.Prelude.{LoanStands, Part, Parts, SameLoan, WorldState, same_part, shown, taken_of, writable}
 use Rattle.msg_system.specs.Prelude.{AfterOp, AfterProgram, Covers, Cursors, Needs, Op, OpRan, Reply, WrittenStand, after_op, after_program, is_part, one_more, op_needs, op_parts, places_of, with_place}
-use Rattle.msg_system.specs.inner.TurnRuns.{HasReplies, IsAfterProgram}
+use Rattle.msg_system.specs.inner.TurnRuns.{IsAfterProgram}
 
 pub same_part_refl : (p : Part) → same_part p p ≡ true
 same_part_refl p = grind (arith, eq-eqb)
