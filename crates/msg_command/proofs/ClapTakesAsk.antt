@@ -1,6 +1,6 @@
 -- Words that clap takes ask for something, or for a run on what is no number of workers: `buffer` has its FILE, `run`
 -- its FILE and a number, and nothing else is entered.
-use Rattle.std.proofs.Common.{arith, ◌≡◌, ◌⊎◌, inl, inr, ℕ, get_or, List, [], ◌∷◌, refl, sym, ap, ◌∙◌, subst, Option, Some, None, Bool, true, false, codes, fold, is_some, ◌&&◌, ◌||◌, cond, if◌then◌else◌, not, option_and_then, option_map}
+use Rattle.std.proofs.Common.{arith, ◌≡◌, ◌⊎◌, inl, inr, ℕ, get_or, List, [], ◌∷◌, refl, ap, Option, Some, None, Bool, true, false, codes, fold, is_some, ◌&&◌, ◌||◌, cond, if◌then◌else◌, not, option_map}
 use Rattle.std.specs.Str.{bytes_eq}
 use Rattle.std.specs.Option.{option_map_or}
 use Rattle.std.proofs.lemmas.Slice.Eq.{bytes_eq-Decides}
@@ -10,7 +10,7 @@ use Rattle.clap.specs.Simple.{built, entered, names_of, rows_at}
 use Rattle.clap.specs.Walk.{Held, Names, Outcome, Step, Waiting, Walk, after_flag, after_step, arg_by_index, arg_by_long, bundle, done, idle, long_met, long_or_other, next, nothing_held, option, plain, plain_word, positional, refused, short_or_plain, stop_after, subcommand, subcommand_met, subcommand_or_other, to_positional, trailing, value, waits, walk_from, walked, walked_from, word_met}
 use Rattle.clap.specs.Takes.{entered_passes, level_passes, other_passes, step_passes, turn_passes, walk_passes, word_passes}
 use Rattle.clap.proofs.OnLiterals.{clap_on_literals}
-use Rattle.msg_command.specs.Prelude.{IsRunOnNone, asked, asked_by, buffer as buffer_of, msgrun_app, run_asked, workers_asked, workers_in}
+use Rattle.msg_command.specs.Prelude.{IsRunOnNone, asked, msgrun_app, workers_in}
 use Rattle.std.proofs.lemmas.Bool.{and_parts}
 use Rattle.msg_command.proofs.ClapFillsRows.{buffer_given, run_given, run_shape}
 

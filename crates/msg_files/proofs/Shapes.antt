@@ -20,11 +20,6 @@ Agrees_of cs o (Err e) h = (h.0, λ _. h.1)
 pub IfErr_at : {T E : Type 0} (r : Result T E) (e : E) (P : E → Type 0) → r ≡ Err e → P e → IfErr r P
 IfErr_at r e P is h = rw is h
 
--- what agrees with these checks agrees with equal ones
-pub Agrees_along : {A : Type 0} (cs ds : List Check) (o p : Option A) (r : Result A Refusal) → cs ≡ ds → o ≡ p
-    → Agrees ds p r → Agrees cs o r
-Agrees_along cs ds o p r e f h = rw (e, f) h
-
 -- the elements of a list, as its items are seen
 pub elements_are : (d : Data) (xs : List Value) → Some (items_view xs) ≡ as_array d → elements d ≡ map view xs
 elements_are d xs e =

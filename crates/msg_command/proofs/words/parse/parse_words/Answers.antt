@@ -1,7 +1,7 @@
-use Rattle.std.proofs.Common.{arith, ◌≡◌, ◌∙◌, ap, sym, inl, inr, subst, true, false, is_some}
+use Rattle.std.proofs.Common.{arith, ◌≡◌, inl, inr, true, false}
 use Rattle.std.proofs.lemmas.Result.{IfErr-weaker}
 use Rattle.clap.specs.Words.{fault_of}
-use Rattle.msg_command.specs.Prelude.{IsToldOf, asked_by, msgrun_app, texts_of}
+use Rattle.msg_command.specs.Prelude.{msgrun_app, texts_of}
 use Rattle.msg_command.proofs.ClapTakesAsk.{takes_asks}
 use Rattle.msg_command.proofs.words.parse.parse_words.Goals as goal
 
