@@ -1,5 +1,5 @@
 -- ---- lists
-pub mod ItemsOfLists
+mod ItemsOfLists
 -- ---- a job
 mod JobsAreDone
 mod EntriesAreAdded

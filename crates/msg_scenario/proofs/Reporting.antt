@@ -64,11 +64,6 @@ run_more (f ∷ frames) frame s (l ∷ logs) log m u some one =
     (some.0, some.1, run_more frames frame some.0 logs log m u some.2 one)
 
 module _ {X : Type 0} (meaning : X → Meaning) where
-  fits : (o : Option (Core X)) (u : State) (posts : List (ℕ × ℤ)) → IsSomeAnd o (λ c. CoreStands meaning c u)
-      → All (λ p. p.0 < u.types) posts → IfSome o (λ c. All (λ p. p.0 < length c.lender.world.types) posts)
-  fits (Some c) u posts stands fit = rw stands.lender.types fit
-  fits None u posts stands fit = absurd stands
-
   -- what stands for a state isn't spoiled
   pub not_spoiled : (e : EngineOf X) (u : State) → StandsFor meaning e u → ¬ IsSpoiled e
   not_spoiled e u stands spoiled = grind (arith, stands.core)
@@ -100,11 +95,6 @@ module _ {X : Type 0} (meaning : X → Meaning) where
       earlier = ([], rw (frames_text-none s 1 s.frames) (Appends-nil known));
       last = inl ([], frames_text s 1 s.frames [], refl, Appends-nil known);
     }
-
-    pub posts_fit : (k : ℕ) (before now : Option (List ℕ)) (e : EngineOf X) (frame : Frame)
-        → ReportSoFar meaning s k before now e → PostsAreToTypes s frame → PostsFit e frame
-    posts_fit k before now e frame far fit =
-        fits e.core far.state frame.posts far.stands.core (rw far.types fit)
 
     -- ---- a frame
 

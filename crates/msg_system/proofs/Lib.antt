@@ -7,7 +7,7 @@ mod CopiedReads
 mod Runs
 pub mod Turns
 -- Conditions one after the other
-pub mod InPlace
+mod InPlace
 -- Nothing else is used
 mod Footprints
 -- Turns that a behavior decides
