@@ -10,7 +10,8 @@ use std::sync::atomic::{AtomicU64, Ordering};
 use std::test::Fail;
 
 /// So many readers on so many workers, of which these are held until all were called for: where
-/// all are held, each worker has a thread and a number of its own. First one frame, then a list.
+/// all are held, each worker has a thread and a number of its own. First one frame, whose workers
+/// start one another, then a list, whose first worker starts at once as many as had a job before.
 #[test]
 fn readers_run_side_by_side(rt: HostRuntime) -> Result<(), Fail> {
     let (alloc, t) = (rt.alloc(), type_no(0));

@@ -11,9 +11,29 @@ use msg_board::{Board, Pass};
 use std::alloc::Global;
 use std::thread::{Threads, join_mut};
 
-/// The workers of these passes draw all jobs that are left. They are numbered from `worker` on, and
-/// the first draws in this thread. Where it gets a job, the next begins in a new thread before that
-/// job is run. Where it gets none, none is left, and the others draw None here, one by one.
+/// One worker's part: it draws jobs until there is none left. Whether it got one.
+fn work_alone<W: Runs, G: Gate>(
+    alloc: Global,
+    board: &Board<W>,
+    gate: &G,
+    worker: u32,
+    pass: &mut Pass<W::Job, W::Done>,
+) -> bool
+    requires new { IsNew board.now pass.old }
+    requires may { EachMay W.may (jobs_of board.now) }
+    ensures worked { HasWorked board.now (λ job. G.passed gate.now worker (W.system_of job))
+        pass.new }
+{
+    let first = board.draw(pass);
+    let busy = first.is_some();
+    work_on(alloc, board, gate, worker, first, pass);
+    busy
+}
+
+/// The workers of these passes draw all jobs that are left, and it is told how many of them got
+/// one. They are numbered from `worker` on, and the first draws in this thread. Where it gets a
+/// job, others begin in new threads before that job is run, so many at once. Where it gets none,
+/// none is left, and the others draw None here, one by one.
 #[cycle(workers)]
 fn work_from<R: Threads + Sync, W: Runs + Send, G: Gate>(
     rt: &R,
@@ -21,27 +41,35 @@ fn work_from<R: Threads + Sync, W: Runs + Send, G: Gate>(
     board: &Board<W>,
     gate: &G,
     worker: u32,
+    at_once: u32,
     passes: &mut [Pass<W::Job, W::Done>],
-)
+) -> u32
     requires few { worker + length passes.old ≤ 64 }
     requires new { All (IsNew board.now) passes.old }
     requires may { EachMay W.may (jobs_of board.now) }
+    ensures busy { result ≤ length passes.old }
     ensures worked { HaveWorked board.now
         (λ worker job. G.passed gate.now worker (W.system_of job)) worker passes.new }
 {
     let Some((pass, others)) = passes.split_first_mut() else {
-        return;
+        return 0;
     };
     let first = board.draw(pass);
+    let next = worker + 1;
     if first.is_none() || others.is_empty() {
+        let busy = u32::from(first.is_some());
         work_on(alloc, board, gate, worker, first, pass);
-        work_from(rt, alloc, board, gate, worker + 1, others);
+        busy + work_from(rt, alloc, board, gate, next, 1, others)
     } else {
-        work_beside(rt, alloc, board, gate, worker, first, pass, others);
+        1 + work_beside(
+            rt, alloc, board, gate, worker, first, pass, next, at_once, others,
+        )
     }
 }
 
-/// A worker runs the job that it drew first, and draws on, beside the workers after it.
+/// A worker runs the job that it drew first, and draws on, beside the others, who are numbered from
+/// `next` on. So many of them begin at once, and the last of these lets the rest begin where it
+/// gets a job. How many of the others got one.
 #[cycle(workers)]
 fn work_beside<R: Threads + Sync, W: Runs + Send, G: Gate>(
     rt: &R,
@@ -49,42 +77,144 @@ fn work_beside<R: Threads + Sync, W: Runs + Send, G: Gate>(
     board: &Board<W>,
     gate: &G,
     worker: u32,
-    mut first: Option<(usize, W::Job)>,
+    first: Option<(usize, W::Job)>,
     pass: &mut Pass<W::Job, W::Done>,
+    next: u32,
+    at_once: u32,
     others: &mut [Pass<W::Job, W::Done>],
-)
-    requires few { worker + 1 + length others.old ≤ 64 }
+) -> u32
+    requires few { next + length others.old ≤ 64 }
     requires first { IsFirstDraw board.now pass.old first }
     requires new { All (IsNew board.now) others.old }
     requires may { EachMay W.may (jobs_of board.now) }
+    ensures busy { result ≤ length others.old }
     ensures own { HasWorked board.now (λ job. G.passed gate.now worker (W.system_of job))
         pass.new }
     ensures others { HaveWorked board.now
-        (λ worker job. G.passed gate.now worker (W.system_of job)) (worker + 1) others.new }
+        (λ worker job. G.passed gate.now worker (W.system_of job)) next others.new }
 {
-    let next = worker + 1;
+    if at_once <= 1 || others.len() <= 1 {
+        return begin_rest(rt, alloc, board, gate, worker, first, pass, next, others);
+    }
+    let Some((one, rest)) = others.split_first_mut() else {
+        unreachable!()
+    };
+    begin_one(
+        rt, alloc, board, gate, worker, first, pass, next, at_once, one, rest,
+    )
+}
+
+/// The rest of the workers begin in a new thread, one after the other, and this one runs its job.
+#[cycle(workers)]
+fn begin_rest<R: Threads + Sync, W: Runs + Send, G: Gate>(
+    rt: &R,
+    alloc: Global,
+    board: &Board<W>,
+    gate: &G,
+    worker: u32,
+    mut first: Option<(usize, W::Job)>,
+    pass: &mut Pass<W::Job, W::Done>,
+    next: u32,
+    rest: &mut [Pass<W::Job, W::Done>],
+) -> u32
+    requires few { next + length rest.old ≤ 64 }
+    requires first { IsFirstDraw board.now pass.old first }
+    requires new { All (IsNew board.now) rest.old }
+    requires may { EachMay W.may (jobs_of board.now) }
+    ensures busy { result ≤ length rest.old }
+    ensures own { HasWorked board.now (λ job. G.passed gate.now worker (W.system_of job))
+        pass.new }
+    ensures rest { HaveWorked board.now
+        (λ worker job. G.passed gate.now worker (W.system_of job)) next rest.new }
+{
     let mut own = ||
         requires { IsFirstDraw board.now pass.now first × EachMay W.may (jobs_of board.now) }
         ensures { HasWorked board.entry.now
             (λ job. G.passed gate.entry.now worker (W.system_of job)) pass.exit.now }
     { work_on(alloc, board, gate, worker, first.take(), pass) };
     let mut theirs = ||
-        requires { IsSync R.row × IsSend W.row × IsSync G.row × (next + length others.now ≤ 64)
-            × All (IsNew board.now) others.now × EachMay W.may (jobs_of board.now) }
+        requires { IsSync R.row × IsSend W.row × IsSync G.row × (next + length rest.now ≤ 64)
+            × All (IsNew board.now) rest.now × EachMay W.may (jobs_of board.now) }
         ensures { HaveWorked board.entry.now
-            (λ worker job. G.passed gate.entry.now worker (W.system_of job)) next others.exit.now }
-    { work_from(rt, alloc, board, gate, next, others) };
-    join_mut(rt, &mut theirs, &mut own);
+            (λ worker job. G.passed gate.entry.now worker (W.system_of job)) next rest.exit.now
+            × (result ≤ length rest.entry.now) }
+    { work_from(rt, alloc, board, gate, next, 1, rest) };
+    let (busy, _) = join_mut(rt, &mut theirs, &mut own);
+    busy
+}
+
+/// One of the others begins in a new thread, and here others begin before this worker runs its job.
+#[cycle(workers)]
+fn begin_one<R: Threads + Sync, W: Runs + Send, G: Gate>(
+    rt: &R,
+    alloc: Global,
+    board: &Board<W>,
+    gate: &G,
+    worker: u32,
+    mut first: Option<(usize, W::Job)>,
+    pass: &mut Pass<W::Job, W::Done>,
+    next: u32,
+    at_once: u32,
+    one: &mut Pass<W::Job, W::Done>,
+    rest: &mut [Pass<W::Job, W::Done>],
+) -> u32
+    requires few { next + 1 + length rest.old ≤ 64 }
+    requires more { 1 ≤ at_once }
+    requires first { IsFirstDraw board.now pass.old first }
+    requires one { IsNew board.now one.old }
+    requires new { All (IsNew board.now) rest.old }
+    requires may { EachMay W.may (jobs_of board.now) }
+    ensures busy { result ≤ 1 + length rest.old }
+    ensures own { HasWorked board.now (λ job. G.passed gate.now worker (W.system_of job))
+        pass.new }
+    ensures one { HasWorked board.now (λ job. G.passed gate.now next (W.system_of job)) one.new }
+    ensures rest { HaveWorked board.now
+        (λ worker job. G.passed gate.now worker (W.system_of job)) (next + 1) rest.new }
+{
+    let mut own = ||
+        requires { IsSync R.row × IsSend W.row × IsSync G.row × (next + 1 + length rest.now ≤ 64)
+            × (1 ≤ at_once) × IsFirstDraw board.now pass.now first
+            × All (IsNew board.now) rest.now × EachMay W.may (jobs_of board.now) }
+        ensures { HasWorked board.entry.now
+            (λ job. G.passed gate.entry.now worker (W.system_of job)) pass.exit.now
+            × HaveWorked board.entry.now
+            (λ worker job. G.passed gate.entry.now worker (W.system_of job)) (next + 1)
+            rest.exit.now × (result ≤ length rest.entry.now) }
+    {
+        let others = at_once - 1;
+        work_beside(
+            rt,
+            alloc,
+            board,
+            gate,
+            worker,
+            first.take(),
+            pass,
+            next + 1,
+            others,
+            rest,
+        )
+    };
+    let mut theirs = ||
+        requires { IsSend W.row × IsSync G.row × IsNew board.now one.now
+            × EachMay W.may (jobs_of board.now) }
+        ensures { HasWorked board.entry.now
+            (λ job. G.passed gate.entry.now next (W.system_of job)) one.exit.now }
+    { work_alone(alloc, board, gate, next, one) };
+    let (one, others) = join_mut(rt, &mut theirs, &mut own);
+    u32::from(one) + others
 }
 
 /// Runs the jobs, by at most so many workers and at most one for each job. Their results, in the
-/// order of the jobs.
+/// order of the jobs. As many workers begin at once as were busy in the batch before, that is, got
+/// a job, and `busy` is how many were in this one.
 pub(crate) fn run_jobs<R: Threads + Sync, W: Runs + Send, G: Gate>(
     rt: &R,
     alloc: Global,
     gate: &G,
     workers: Workers,
     jobs: Vec<W::Job>,
+    busy: &mut u32,
 ) -> Result<Vec<W::Done>, NoMemory>
     requires few { length jobs.items ≤ 256 }
     requires may { EachMay W.may jobs.items }
@@ -94,6 +224,7 @@ pub(crate) fn run_jobs<R: Threads + Sync, W: Runs + Send, G: Gate>(
 {
     let passes = workers.number().min(jobs.len() as u32).max(1);
     let (board, mut passes) = Board::<W>::new(alloc, jobs, passes)?;
-    work_from(rt, alloc, &board, gate, 0, passes.as_mut_slice());
+    let at_once = busy.saturating_sub(1);
+    *busy = work_from(rt, alloc, &board, gate, 0, at_once, passes.as_mut_slice());
     board.close(alloc, passes)
 }

@@ -1,4 +1,4 @@
-// Lists that are no longer needed, whose memory serves the logs of frames to come.
+// What one frame leaves to the next, and no reply depends on.
 ghost use Rattle.std.specs.Prelude.{◌≡◌, ◌≤◌, [], IfOk, vec_capacity};
 
 use crate::{Log, NoMemory, Outcome, Turn};
@@ -9,11 +9,13 @@ use std::mem::replace;
 /// At most so many lists of replies are kept: one for each system that an engine may have.
 const MOST: usize = 256;
 
-/// Empty lists with their memory.
+/// Empty lists with their memory, which serve the logs of frames to come, and how many workers got
+/// a job in the last batch that went over workers.
 #[derive(Drop)]
 pub(crate) struct Spares {
     turns: Vec<Turn>,
     replies: Vec<Vec<Reply>>,
+    pub busy: u32,
 }
 
 impl Spares {
@@ -21,6 +23,7 @@ impl Spares {
         Spares {
             turns: Vec::new(alloc),
             replies: Vec::new(alloc),
+            busy: 1,
         }
     }
 
