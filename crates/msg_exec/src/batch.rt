@@ -144,7 +144,8 @@ pub(crate) fn run_batches<R: Threads + Sync, S: System, G: Gate>(
         → LenderStands S.meaning lender.new (after_turns_of
         (concat (map (λ batch. batch.items) batches.now)) s).state) }
     ensures turns { IfOk result (λ turns. (s : State) → LenderStands S.meaning lender.old s
-        → turns.items ≡ (after_turns_of (concat (map (λ batch. batch.items) batches.now)) s).turns) }
+        → turns.items
+        ≡ (after_turns_of (concat (map (λ batch. batch.items) batches.now)) s).turns) }
     ensures accesses { OnOk result (lender.new.accesses.items ≡ lender.old.accesses.items) }
     ensures gate_passed { OnOk result (EachPassedGate (G.passed gate.now) workers
         (concat (map (λ batch. batch.items) batches.now))) }

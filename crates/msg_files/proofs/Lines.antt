@@ -1,15 +1,15 @@
 -- Items in a line.
-use Rattle.std.proofs.Common.{◌≡◌, ℕ, ◌+◌, ◌<◌, List, [], ◌∷◌, ◌++◌, length, take, refl, sym, append_assoc, append-nil, codes, Option, None, Some, arith}
+use Rattle.std.proofs.Common.{◌≡◌, ℕ, ◌+◌, ◌<◌, List, [], ◌∷◌, ◌++◌, length, refl, sym, append_assoc, append-nil, codes, Option, arith}
 use Rattle.std.specs.Prelude.{ℤ}
 use Rattle.std.specs.Borrow.{Bor}
 use Rattle.std.specs.declared.alloc.Global.{Global}
 use Rattle.std.proofs.Math.Seq.{take-append_seam}
-use Rattle.std.proofs.lemmas.List.{take_all}
 use Rattle.std.proofs.lemmas.Grind.{common_steps}
 use Rattle.msg_buffer.specs.Prelude.{Gives, HasGiven, at_most, iter_rest, shown}
 use Rattle.msg_buffer.specs.declared.Instance.{Instance}
 use Rattle.msg_buffer.specs.declared.instance.MessageId.{MessageId}
 use Rattle.msg_buffer.specs.declared.iter.MessageIter.{MessageIter}
+use Rattle.msg_buffer.proofs.Tiles.{take-at_most}
 use Rattle.msg_files.specs.Prelude.{item_text, items_text, more_items}
 
 pub more_items-push : (xs : List (Instance ℤ)) (x : Instance ℤ)
@@ -40,15 +40,9 @@ pub HasAdded_more : (start now next : MessageIter ℤ Global) (item : MessageId 
 HasAdded_more start now next item before text text' number so_far gives added =
     grind (arith, common_steps, so_far, gives, append_assoc, more_items-push so_far.taken (shown item))
 
--- the first of them are as many as they are long
-at_most_take : {M : Type 0} (limit : Option ℕ) (xs : List (Instance M)) → at_most limit xs
-    ≡ take (length (at_most limit xs)) xs
-at_most_take None xs = sym (take_all (length xs) xs (omega arith))
-at_most_take (Some k) xs = grind (arith, common_steps)
-
 -- as many as the read gives: they are what it gives
 pub HasAdded_given : (start now : MessageIter ℤ Global) (before text : List ℕ) (number : ℕ) (limit : Option ℕ)
     (unread : List (Instance ℤ)) → (so_far : HasAdded start now before text number) → iter_rest start ≡ unread
     → number ≡ length (at_most limit unread) → so_far.taken ≡ at_most limit unread
 HasAdded_given start now before text number limit unread so_far rest is =
-    grind (arith, so_far, take-append_seam so_far.taken (iter_rest now), at_most_take limit unread)
+    grind (arith, so_far, take-append_seam so_far.taken (iter_rest now), take-at_most limit unread)

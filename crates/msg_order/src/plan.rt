@@ -32,7 +32,8 @@ pub struct Plan<A: Allocator = Global> {
 impl<A: Allocator> Model for Plan<A> {
     ghost Value = { PlanView };
 
-    ghost view = { λ p. view_of p.before.items p.joined (map (λ batch. batch.items) p.batches.items) };
+    ghost view = { λ p. view_of p.before.items p.joined
+        (map (λ batch. batch.items) p.batches.items) };
 
     ghost invariant = { λ p. AreKept p.before.items p.joined };
 }

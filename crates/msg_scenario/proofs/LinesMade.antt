@@ -11,14 +11,14 @@ use Rattle.msg_frames.specs.declared.log.Turn.{Turn}
 use Rattle.msg_files.specs.Prelude.{Text}
 use Rattle.msg_reading.specs.declared.scenario.Scenario.{Scenario}
 use Rattle.msg_reading.specs.declared.scenario.SystemSpec.{SystemSpec}
-use Rattle.msg_scenario.specs.Prelude.{op_start, ops_text, outcome_text, turn_text}
+use Rattle.msg_scenario.specs.Prelude.{answered_line, op_start, ops_text, outcome_text, turn_text}
 use Rattle.msg_scenario.specs.declared.reports.lines.SystemLines.{SystemLines}
-use Rattle.msg_scenario.specs.inner.Lines.{AreLines, finished_line, finished_outcome, finished_turn, lines_of, texts_in}
+use Rattle.msg_scenario.specs.inner.Lines.{AreLines, finished_outcome, finished_turn, lines_of, texts_in}
 
 -- the lines of ops, by their starts
 ops_of_starts : (s : Scenario) (name : Text) (starts : List (Vec ℕ)) (ops : List Op) (answers : List Reply)
     → map (λ (start : Vec ℕ). start.items) starts ≡ map (op_start s name) ops
-    → flat_map (λ p. finished_line s p.0.items p.1) (zip starts answers) ≡ ops_text s name ops answers
+    → flat_map (λ p. answered_line s p.0.items p.1) (zip starts answers) ≡ ops_text s name ops answers
 ops_of_starts s name [] [] answers same = refl
 ops_of_starts s name [] (op ∷ ops) answers same = absurd cc
 ops_of_starts s name (start ∷ starts) [] answers same = absurd cc

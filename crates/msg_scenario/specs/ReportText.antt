@@ -106,9 +106,13 @@ reply_text s reply.Signalled = []
 
 -- ---- the lines of a frame
 
+-- the line that begins so, with what was answered
+abbrev pub answered_line : Scenario → Text → Reply → Text
+answered_line s start answer = start ++ reply_text s answer ++ codes "\n"
+
 -- a post of the host to a type
 abbrev pub post_line : Scenario → ℕ → Reply → Text
-post_line s t answer = codes "host post " ++ type_name s t ++ reply_text s answer ++ codes "\n"
+post_line s t answer = answered_line s (codes "host post " ++ type_name s t) answer
 
 -- a line for each post
 abbrev pub posts_text : Scenario → List (ℕ × ℤ) → List Reply → Text
@@ -120,7 +124,7 @@ op_start s name op = name ++ codes " " ++ op_text s op
 
 -- an op of the system with this name
 abbrev pub op_line : Scenario → Text → Op → Reply → Text
-op_line s name op answer = op_start s name op ++ reply_text s answer ++ codes "\n"
+op_line s name op answer = answered_line s (op_start s name op) answer
 
 -- a line for each op
 abbrev pub ops_text : Scenario → Text → List Op → List Reply → Text

@@ -2,14 +2,13 @@
 use Rattle.std.specs.Prelude.{◌≡◌, ◌++◌, List, [], codes, flat_map, map, slice_get, zip}
 use Rattle.std.specs.Option.{option_map_or}
 use Rattle.msg_files.specs.Prelude.{Text}
-use Rattle.msg_system.specs.declared.reply.Reply.{Reply}
 use Rattle.msg_frames.specs.declared.log.Outcome.{Outcome}
 use Rattle.msg_frames.specs.declared.log.Outcome.TheVariants.{Skipped, Ran}
 use Rattle.msg_frames.specs.declared.log.Turn.{Turn}
 use Rattle.msg_reading.specs.declared.scenario.Scenario.{Scenario}
 use Rattle.msg_reading.specs.declared.scenario.SystemSpec.{SystemSpec}
 use Rattle.msg_scenario.specs.declared.reports.lines.SystemLines.{SystemLines}
-use Rattle.msg_scenario.specs.ReportText.{op_start, reply_text}
+use Rattle.msg_scenario.specs.ReportText.{answered_line, op_start}
 
 -- the line of a turn that a system skips, and how the line of each of its ops begins
 abbrev pub lines_of : Scenario → SystemSpec → Text × List Text
@@ -24,15 +23,11 @@ texts_in lines = (lines.skipped.items, map (λ start. start.items) lines.starts.
 abbrev pub AreLines : Scenario → List SystemLines → Type 0
 AreLines s lines = map texts_in lines ≡ map (lines_of s) s.systems
 
--- a line by its start
-abbrev pub finished_line : Scenario → Text → Reply → Text
-finished_line s start answer = start ++ reply_text s answer ++ codes "\n"
-
 -- what came of a system's turn, by what was made of the system
 abbrev pub finished_outcome : Scenario → SystemLines → Outcome → Text
 finished_outcome s lines Skipped = lines.skipped.items
 finished_outcome s lines (Ran answers) =
-    flat_map (λ p. finished_line s p.0.items p.1) (zip lines.starts.items answers)
+    flat_map (λ p. answered_line s p.0.items p.1) (zip lines.starts.items answers)
 
 -- a turn likewise
 abbrev pub finished_turn : Scenario → List SystemLines → Turn → Text

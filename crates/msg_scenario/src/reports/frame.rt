@@ -1,7 +1,7 @@
 // The text of one frame.
 ghost use Rattle.std.specs.Prelude.{◌≡◌, ◌<◌, ◌++◌, [], IsOk, OnErr, OnOk, flat_map, length, zip};
-ghost use Rattle.msg_scenario.specs.Prelude.{frame_text, post_line, posts_text, turn_text};
-ghost use Rattle.msg_scenario.specs.inner.Lines.{AreLines, finished_line, finished_outcome, finished_turn};
+ghost use Rattle.msg_scenario.specs.Prelude.{answered_line, frame_text, post_line, posts_text, turn_text};
+ghost use Rattle.msg_scenario.specs.inner.Lines.{AreLines, finished_outcome, finished_turn};
 
 use crate::Scenario;
 use crate::reports::lines::SystemLines;
@@ -123,7 +123,7 @@ fn add_ops(
     replies: &[Reply],
 ) -> Result<(), NoMemory>
     ensures appends { OnOk result (text.new.items ≡ text.old.items
-        ++ flat_map (λ p. finished_line scenario.now p.0.items p.1) (zip starts.now replies.now)) }
+        ++ flat_map (λ p. answered_line scenario.now p.0.items p.1) (zip starts.now replies.now)) }
     ensures refused { OnErr result ((0 < length starts.now) × (0 < length replies.now)) }
 {
     for (start, reply) in starts.iter().zip(replies) {
@@ -140,7 +140,7 @@ fn add_line(
     reply: &Reply,
 ) -> Result<(), NoMemory>
     ensures { OnOk result
-        (text.new.items ≡ text.old.items ++ finished_line scenario.now start.now reply.now) }
+        (text.new.items ≡ text.old.items ++ answered_line scenario.now start.now reply.now) }
 {
     text.extend_from_slice(start)?;
     add_reply(text, scenario, reply)?;

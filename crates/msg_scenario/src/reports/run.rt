@@ -37,7 +37,8 @@ fn report_frame<R: Threads + Sync, X: System, S: Sink, G: Gate>(
     requires posts { All (PostsAreToTypes scenario.now) scenario.now.frames }
     ensures ok { OnOk result ((before : Option (List ℕ))
         → ReportSoFar X.meaning scenario.now reported before (S.contents sink.old) engine.old
-        → ReportSoFar X.meaning scenario.now (reported + 1) before (S.contents sink.new) engine.new) }
+        → ReportSoFar X.meaning scenario.now (reported + 1) before
+            (S.contents sink.new) engine.new) }
     ensures prefix { OnErr result ((before : Option (List ℕ))
         → ReportSoFar X.meaning scenario.now reported before (S.contents sink.old) engine.old
         → HasPrinted scenario.now before (S.contents sink.new)) }
