@@ -60,13 +60,13 @@ module _ {S : Type 0} (meaning : S → Meaning) where
     pub there : (p : Part) → is_some (slot p d.taken) ≡ writes (access_of whole.accesses.items i) p
     pub after : IsAfterJob meaning (after_job (s.members i).job s.world) d.guarded d.taken d.outcome
 
-  is_back : (whole left : Lender S) (s : State) (i : ℕ) (j : Job S) (d : Done S) → LenderStands meaning whole s
+  pub is_back : (whole left : Lender S) (s : State) (i : ℕ) (j : Job S) (d : Done S) → LenderStands meaning whole s
       → i < s.systems
       → PartsStand left.world s.world → IsOut whole i j → IsDone meaning left.world j d → IsBack whole s i d
   is_back whole left s i j d stands lt world out done =
       grind (arith, has_written, its_member, sizes_follow, taken_stands)
 
-  pub all_back : (whole left : Lender S) (s : State) (is : List ℕ) (js : List (Job S)) (ds : List (Done S))
+  all_back : (whole left : Lender S) (s : State) (is : List ℕ) (js : List (Job S)) (ds : List (Done S))
       → LenderStands meaning whole s → All (λ i. i < s.systems) is
       → PartsStand left.world s.world → AllZip (IsOut whole) is js → AreDone meaning left.world js ds
       → AllZip (IsBack whole s) is ds

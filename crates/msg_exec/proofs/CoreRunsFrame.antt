@@ -27,13 +27,10 @@ use Rattle.msg_exec.proofs.SystemAfterTurn.{member_stays, still_has, still_there
 pub schedule_along : {S : Type 0} (c d : Core S) (s u : State) → d.joins ≡ c.joins → d.rules ≡ c.rules
     → SameSystems s u → Schedule c s → Schedule d u
 schedule_along c d s u joins rules same has = record {
-  joins = record {
-    as_many = rw (joins, same.systems) has.joins.as_many;
-    each = λ i lt. rw (joins, (same.members i).join) (has.joins.each i (omega (arith, lt, same.systems)));
-  };
+  joins = rw joins (grind (arith, has.joins, same.members));
   rules = rw (rules, same.rules) has.rules;
   few = rw same.systems has.few;
-  early = λ i lt. rw (same.members i).join (has.early i (omega (arith, lt, same.systems)));
+  early = grind (arith, has.early, same.members);
   named = rw (same.rules, same.systems) has.named;
   no_cycle = no_cycle_stays s u same has.no_cycle;
 }
@@ -45,9 +42,7 @@ pub joined_by_frame : (js : List ℕ) (s : State) (frame : ℕ) → AreJoins js 
     → map (λ j. nat_le j frame) js ≡ join_flags s
 joined_by_frame js s frame are is =
     fill_by_all (has_begun s) (map (λ j. nat_le j frame) js) s.systems false
-    (length-map js (λ j. nat_le j frame) ∙ are.as_many) (λ k lt.
-    get_or-map (λ j. nat_le j frame) js k 0 false (omega (arith, lt, are.as_many))
-    ∙ ap (λ j. nat_le j frame) (are.each k lt) ∙ ap (nat_le (s.members k).join) (sym is))
+    (length-map js (λ j. nat_le j frame) ∙ are.as_many) (λ k lt. grind (arith, are.each k lt, get_or-map))
 
 -- where none joins with the next frame, the same have joined by it
 one_more : (j f : ℕ) → (j ≢ suc f) ⊎ (f ≡ 0) → nat_le j (max 1 (suc f)) ≡ nat_le j (max 1 f)
@@ -59,7 +54,7 @@ nobody_more s none =
     ∙ fill_by_all (has_begun s) (join_flags (counted s)) s.systems false
     (length-map-range_with_len (has_begun (counted s)) 0 s.systems) (λ k lt.
     get_or-map-range_with_len (has_begun (counted s)) 0 s.systems k k false lt (omega arith)
-    ∙ one_more (s.members k).join s.frames (none k lt))
+    ∙ grind (arith, nat_tests, none k lt))
 
 -- ---- the frame begins
 
@@ -69,8 +64,7 @@ unchanged meaning g s none stands = grind (arith, cases_Bool, eqb-false, members
 
 -- those that are about to join were given nothing
 pub about_to_join : (s : State) → IsSoundState s → 0 < s.frames → HaveReadNothing (suc s.frames) s
-about_to_join s sound some i t joins =
-    (sound.waiting i t (rw joins (lt-leb (suc s.frames) (max 1 s.frames) (omega (arith, some))))).0
+about_to_join s sound some i t joins = grind (arith, lt-leb, sound.waiting i t)
 
 -- ---- the frame opens, and its turns are taken
 

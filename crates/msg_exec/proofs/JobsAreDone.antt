@@ -40,15 +40,9 @@ pub ran_job : {S : Type 0} (meaning : S → Meaning) (before now : GuardedSystem
     → PartsStand taken (turn (meaning before.system) w).state
     → IsAfterJob meaning (after_job (job_state meaning before) w) now taken (outcome.Ran replies)
 ran_job meaning before now l taken w none after replies nothing given holds asked ran stands written =
-    let m : Meaning = meaning before.system in
-    let moved : meaning now.system ≡ after_turn m w = ran.means
-    ∙ (λ k. record (told (ran.answers w stands k) m) { places = ran.places w stands k }) in
-    rw (after_job_that_runs (job_state meaning before) w holds) (record {
-      job = λ k. record { system = moved k; conditions = asked k };
-      written = written;
-      outcome =
-          ap (λ rs. outcome.Ran rs) (rw (given, ran.appended, nothing) (ran.answers w stands));
-    })
+    let moved : meaning now.system ≡ after_turn (meaning before.system) w = ran.means
+    ∙ (λ k. record (told (ran.answers w stands k) (meaning before.system)) { places = ran.places w stands k }) in
+    grind (arith, moved, ran.answers w stands)
 
 after_job_that_skips : (j : JobState) (w : WorldState) → false ≡ all_hold j.conditions w
     → after_job j w ≡ record {
@@ -62,19 +56,12 @@ pub skipped_job : {S : Type 0} (meaning : S → Meaning) (before now : GuardedSy
     → false ≡ all_hold before.guards.items w → now.system ≡ before.system → now.guards.items
     ≡ map (after_asking w) before.guards.items → PartsStand taken w
     → IsAfterJob meaning (after_job (job_state meaning before) w) now taken outcome.Skipped
-skipped_job meaning before now taken w skips same asked stand =
-    rw (after_job_that_skips (job_state meaning before) w skips) (record {
-      job = λ k. record { system = meaning (same k); conditions = asked k };
-      written = stand;
-      outcome = refl;
-    })
+skipped_job meaning before now taken w skips same asked stand = grind arith
 
 -- the conditions of a vector after they were asked through a slice of it
 pub asked_guards : {Z : Type 0} (guards : Vec Asked Z) (slice after : List Asked) (w : WorldState) → slice
     ≡ guards.items → map (λ (a : Asked). a.condition) after ≡ map (λ (a : Asked). a.condition) slice
     → after ≡ map (after_asking w) slice → (with_items guards after).items ≡ map (after_asking w) guards.items
 asked_guards guards slice after w there same moved =
-    let f : Asked → Condition = λ a. a.condition in
-    let as_many : length after ≡ length guards.items = sym (length-map after f) ∙ ap length same ∙ length-map slice f
-    ∙ ap length there in
+    let as_many : length after ≡ length guards.items = grind (arith, length-map) in
     with_items_is guards after (omega (arith, as_many)) ∙ moved ∙ ap (λ gs. map (after_asking w) gs) there
