@@ -114,9 +114,6 @@ module _ {S : Type 0} (meaning : S → Meaning) where
     module _ (new : Lender S) (comes : ComesHome meaning now d new) (fresh : ¬ Contains rest i)
         (free : All (λ x. ¬ Conflict (access_of whole.accesses.items i) (access_of whole.accesses.items x)) rest)
         (merges : HomeMerges) (either : HomeWhereEither) where
-      accesses : List Access
-      accesses = whole.accesses.items
-
       abbrev its_turn : Member
       its_turn = (turn_of s i).member
 
@@ -132,17 +129,6 @@ module _ {S : Type 0} (meaning : S → Meaning) where
           (ap (λ (j : JobState). j.system.last) back.after.job) back.after.outcome old.1.1 entered.as_many
           entered.entered in
           grind (arith, after, get_same)
-
-      world_there : (p : Part) → is_some (slot p new.world)
-          ≡ (if any_writes whole.accesses.items rest p then false else is_some (slot p whole.world))
-      world_there p =
-          let later = later_write_not whole.accesses.items rest i p free in
-          let here = (stands.members i lt).home p in
-          either d.taken now.world new.world comes.taken_back p
-          ∙ elim (cases_Bool (writes (access_of whole.accesses.items i) p)) [
-            | inl is ↦ grind (arith, back.there p, here (written_is_used _ p is), later (written_is_used _ p is))
-            | inr isnt ↦ grind (arith, back.there p, half.there p)
-          ]
 
       -- one more is home
       pub one_home : Halfway whole s (home whole.accesses.items s i u) rest new
@@ -162,7 +148,14 @@ module _ {S : Type 0} (meaning : S → Meaning) where
             (λ p isnt. none_there (slot p d.taken) (back.there p ∙ isnt)) out_of_world comes.taken_back
             back.after.written half.world;
         size = sizes_follow whole.world now.world new.world half.size comes.taken_back.size;
-        there = world_there;
+        there = λ p.
+            let later = later_write_not whole.accesses.items rest i p free in
+            let here = (stands.members i lt).home p in
+            either d.taken now.world new.world comes.taken_back p
+            ∙ elim (cases_Bool (writes (access_of whole.accesses.items i) p)) [
+              | inl is ↦ grind (arith, back.there p, here (written_is_used _ p is), later (written_is_used _ p is))
+              | inr isnt ↦ grind (arith, back.there p, half.there p)
+            ];
       }
 
   -- all are home
@@ -252,8 +245,7 @@ module _ {S : Type 0} (meaning : S → Meaning) where
       → left ≡ [] → ComingHome whole batch s left now before turns
       → LenderStands meaning now (after_turns_of batch s).state × (turns ≡ before ++ (after_turns_of batch s).turns)
   all_came whole now batch s left before turns stands below once none law nobody far =
-      let are : AreAccessesOf s whole.accesses.items =
-      record { each = stands.accesses; of_needs = λ i lt. (stands.members i lt).access } in
+      let are : AreAccessesOf s whole.accesses.items = grind arith in
       let side = law s whole.accesses.items batch are below once none in
       let end = none_beside (IsBack whole s) far.rest (rw nobody at far.back) in
       let come : far.come ≡ batch = rw (end, append-nil) at far.all in (

@@ -85,7 +85,7 @@ module _ {S : Type 0} (meaning : S → Meaning) where
         settled = has.plan.order;
         is_order = record {
           accesses = b.lender.accesses.items;
-          of_systems = record { each = has.lender.accesses; of_needs = λ i lt. (has.lender.members i lt).access };
+          of_systems = grind (arith, has.lender);
           is_settled = has.plan.settled;
         };
         in_order = rw is has.plan.turns;
@@ -128,9 +128,7 @@ module _ {S : Type 0} (meaning : S → Meaning) where
       let same = before_keeps frame.posts s in
       let is : IsOrderOf b g = record {
         accesses = c.lender.accesses.items;
-        of_systems =
-            accesses_stay s b c.lender.accesses.items same
-            (record { each = stands.lender.accesses; of_needs = λ i lt. (stands.lender.members i lt).access });
+        of_systems = accesses_stay s b c.lender.accesses.items same (grind (arith, stands.lender));
         is_settled = rw same.rules settled;
       } in (
         λ yes. record { settled = g; is_order = is; lawful = tells.0 yes },

@@ -21,16 +21,7 @@ none_there (Some x) h = absurd (false≢true (sym h))
 pub nothing_else : (a : Access) (taken later : Parts) → ((p : Part) → is_some (slot p taken) ≡ writes a p)
     → SameShape taken later
     → (p : Part) → writes a p ≡ false → slot p later ≡ None
-nothing_else a taken later written same p isnt = none_there (slot p later) (same.there p ∙ written p ∙ isnt)
-
--- a job whose conditions hold
-pub after_job_that_runs : (j : JobState) (w : WorldState) → true ≡ all_hold j.conditions w
-    → after_job j w ≡ record {
-      job = record { system = after_turn j.system w; conditions = map (after_asking w) j.conditions };
-      state = (turn j.system w).state;
-      replies = Some (turn j.system w).replies;
-    }
-after_job_that_runs j w holds = rw (sym holds) refl
+nothing_else a taken later written same p isnt = grind (arith, none_there, same.there p)
 
 pub ran_job : {S : Type 0} (meaning : S → Meaning) (before now : GuardedSystem S) (l : Lent) (taken : Parts)
     (w : WorldState) (none after replies : List Reply)
@@ -43,14 +34,6 @@ ran_job meaning before now l taken w none after replies nothing given holds aske
     let moved : meaning now.system ≡ after_turn (meaning before.system) w = ran.means
     ∙ (λ k. record (told (ran.answers w stands k) (meaning before.system)) { places = ran.places w stands k }) in
     grind (arith, moved, ran.answers w stands)
-
-after_job_that_skips : (j : JobState) (w : WorldState) → false ≡ all_hold j.conditions w
-    → after_job j w ≡ record {
-      job = record { system = j.system; conditions = map (after_asking w) j.conditions };
-      state = w;
-      replies = None;
-    }
-after_job_that_skips j w skips = rw (sym skips) refl
 
 pub skipped_job : {S : Type 0} (meaning : S → Meaning) (before now : GuardedSystem S) (taken : Parts) (w : WorldState)
     → false ≡ all_hold before.guards.items w → now.system ≡ before.system → now.guards.items

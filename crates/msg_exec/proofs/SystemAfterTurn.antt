@@ -22,15 +22,12 @@ last_entries : (t : ℕ) (j : JobState) (w : WorldState)
     ≡ outcome_entries t j.system (outcome_of (after_job j w).replies)
 last_entries t j w = grind (arith, append-nil, cases_Bool)
 
-one_at_most : (n writer : ℕ) (o : Option Op) (far : AfterProgram) → length far.replies ≤ n
-    → length (one_more o writer far).replies ≤ suc n
-one_at_most n writer o far few = grind (arith, length-append)
-
 at_most_replies : (n : ℕ) (next : List Reply → Option Op) (writer : ℕ) (places : ℕ → ℕ) (w : WorldState)
     → length (after_at_most n next writer places w).replies ≤ n
 at_most_replies zero next writer places w = omega arith
 at_most_replies (suc n) next writer places w =
-    one_at_most n writer _ (after_at_most n next writer places w) (at_most_replies n next writer places w)
+    let far = at_most_replies n next writer places w in
+    grind (arith, far, length-append)
 
 few_of_turn : (m : Meaning) (w : WorldState) → length (turn m w).replies ≤ 64
 unfolding turn

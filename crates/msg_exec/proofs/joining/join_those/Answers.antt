@@ -95,9 +95,7 @@ loop-i-preserved g c =
               | inr other ↦ rw (still s i j c.args.frame other)
                   (member_stays m lender _ s.types j ((joined_below i c.args.frame s).members j)
                   (get_or-set_other lender.systems.items i j x None other) refl
-                  (get_other lender.totals.items i j w other)
-                  (record { size = record { types = refl; resources = refl }; there = λ p. refl })
-                  (far.members j below))
+                  (get_other lender.totals.items i j w other) (assumption) (far.members j below))
             ];
             world = far.world;
             whole = far.whole;

@@ -27,17 +27,14 @@ join_those-requires-clause-stands g c κs within =
     let m = g.S.System.meaning in
     let systems = c.args.systems.items in
     let places = c.args.places.items in
+    let totals : length c.in_ok-totals.totals.items ≡ length systems =
+    omega (arith, c.in_ok-totals.ensures.as_many, c.len.ensures) in
     let w = c.stands_for_some.ensures.state in (
       unjoined (map m systems) places c.args.rules.items (length c.args.world.types) w.0,
       parts_stand m c.args.world systems places c.requires.whole c.requires.one_place_each c.requires.each
-          (record {
-            world = c.args.world;
-            systems = c.in_ok-guarded.guarded;
-            accesses = c.in_ok-accesses.accesses;
-            totals = c.in_ok-totals.totals;
-          }) c.args.rules.items refl c.in_ok-guarded.ensures.as_many
+          _ c.args.rules.items refl c.in_ok-guarded.ensures.as_many
           (rw c.deref.ensures.value at c.in_ok-accesses.ensures.as_many)
-          (omega (arith, c.in_ok-totals.ensures.as_many, c.len.ensures))
+          totals
           (rw c.deref-9.ensures.value at c.in_ok-guarded.ensures.guarded)
           (rw (c.deref.ensures.value, c.deref-2.ensures.value) at c.in_ok-accesses.ensures.accesses)
           (rw c.types.ensures.types at c.in_ok-totals.ensures.totals) c.deref-10.result.now
@@ -54,16 +51,13 @@ returns-clause-meaning g c w stands =
     let m = g.S.System.meaning in
     let systems = c.args.systems.items in
     let places = c.args.places.items in
+    let totals : length c.in_ok-totals.totals.items ≡ length systems =
+    omega (arith, c.in_ok-totals.ensures.as_many, c.len.ensures) in
     let parts =
     parts_stand m c.args.world systems places c.requires.whole c.requires.one_place_each c.requires.each
-    (record {
-      world = c.args.world;
-      systems = c.in_ok-guarded.guarded;
-      accesses = c.in_ok-accesses.accesses;
-      totals = c.in_ok-totals.totals;
-    }) c.args.rules.items refl c.in_ok-guarded.ensures.as_many
+    _ c.args.rules.items refl c.in_ok-guarded.ensures.as_many
     (rw c.deref.ensures.value at c.in_ok-accesses.ensures.as_many)
-    (omega (arith, c.in_ok-totals.ensures.as_many, c.len.ensures))
+    totals
     (rw c.deref-9.ensures.value at c.in_ok-guarded.ensures.guarded)
     (rw (c.deref.ensures.value, c.deref-2.ensures.value) at c.in_ok-accesses.ensures.accesses)
     (rw c.types.ensures.types at c.in_ok-totals.ensures.totals) c.deref-10.result.now
