@@ -22,10 +22,6 @@ adds_up s i t lt sound = grind (arith, cases_Bool)
 pub kept_whole : (x : Totals) → x.got < 2 ^ 64 → x.missed < 2 ^ 64 → x.cleared < 2 ^ 64 → kept x ≡ x
 kept_whole x got missed cleared = grind arith
 
-pub count_below : (o : Option (Kept Record)) (h : History Record) → IsSome o → IfSome o (λ k. BufferStandsFor k h)
-    → IfSome o (λ k. (g : History Record) → BufferStandsFor k g → count g < 2 ^ 64) → count h < 2 ^ 64
-count_below o h some stands below = grind (arith, false≢true)
-
 -- ---- those of one system, and of all
 
 -- those of system i for the first n types

@@ -18,7 +18,7 @@ use Rattle.msg_frames.specs.Prelude.{AreAccessesOf, BatchesRunSideBySide, Member
 use Rattle.msg_exec.specs.inner.Batches.{AreDone}
 use Rattle.msg_exec.specs.inner.Totals.{HasFewReplies}
 use Rattle.msg_exec.specs.inner.Lending.{AreOut, ComesHome, HaveEntered, IsOut, any_writes}
-use Rattle.msg_exec.proofs.BatchGoesOut.{has_written, its_member, left_stands, sizes_follow, sizes_meet, taken_stands}
+use Rattle.msg_exec.proofs.BatchGoesOut.{has_written, left_stands, taken_stands}
 use Rattle.msg_frames.proofs.SystemsStay.{turns_keep_systems}
 use Rattle.msg_frames.proofs.ElementsAndPairs.{pairs_head, pairs_right}
 use Rattle.msg_order.proofs.Elements.{Contains-cases, Contains-head, Contains-tail, not_in_none}
@@ -64,7 +64,7 @@ module _ {S : Type 0} (meaning : S → Meaning) where
       → i < s.systems
       → PartsStand left.world s.world → IsOut whole i j → IsDone meaning left.world j d → IsBack whole s i d
   is_back whole left s i j d stands lt world out done =
-      grind (arith, has_written, its_member, sizes_follow, taken_stands)
+      grind (arith, has_written, taken_stands)
 
   all_back : (whole left : Lender S) (s : State) (is : List ℕ) (js : List (Job S)) (ds : List (Done S))
       → LenderStands meaning whole s → All (λ i. i < s.systems) is
@@ -109,7 +109,7 @@ module _ {S : Type 0} (meaning : S → Meaning) where
     out_of_world p is = grind (arith, half.there p, none_there)
 
     pub may_come : MayCome now d
-    may_come = grind (arith, few_replies, out_of_world, sizes_meet)
+    may_come = grind (arith, few_replies, out_of_world)
 
     module _ (new : Lender S) (comes : ComesHome meaning now d new) (fresh : ¬ Contains rest i)
         (free : All (λ x. ¬ Conflict (access_of whole.accesses.items i) (access_of whole.accesses.items x)) rest)
@@ -147,7 +147,7 @@ module _ {S : Type 0} (meaning : S → Meaning) where
         world = merges (access_of whole.accesses.items i) d.taken now.world new.world (turn_of s i).world u.world
             (λ p isnt. none_there (slot p d.taken) (back.there p ∙ isnt)) out_of_world comes.taken_back
             back.after.written half.world;
-        size = sizes_follow whole.world now.world new.world half.size comes.taken_back.size;
+        size = grind (arith, comes.taken_back.size, half.size);
         there = λ p.
             let later = later_write_not whole.accesses.items rest i p free in
             let here = (stands.members i lt).home p in

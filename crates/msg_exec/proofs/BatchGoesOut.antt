@@ -26,20 +26,9 @@ zip_more R [] (b ∷ ys) x y all one = absurd all
 zip_more R (a ∷ xs) [] x y all one = absurd all
 zip_more R (a ∷ xs) (b ∷ ys) x y all one = (all.0, zip_more R xs ys x y all.1 one)
 
--- ---- sizes
-
-pub sizes_follow : (x y z : Parts) → SameSize x y → SameSize y z → SameSize x z
-sizes_follow x y z f s = record { types = s.types ∙ f.types; resources = s.resources ∙ f.resources }
-
-pub sizes_meet : (x y z : Parts) → SameSize x y → SameSize x z → SameSize y z
-sizes_meet x y z f s = record { types = s.types ∙ sym f.types; resources = s.resources ∙ sym f.resources }
-
 -- ---- one more goes out
 
 module _ {S : Type 0} where
-  pub none_out : (g : Lender S) → AreOut g [] [] g
-  none_out g = assumption
-
   module _ (whole old new : Lender S) (is : List ℕ) (js : List (Job S)) (i : ℕ) (j : Job S)
       (out : AreOut whole is js old) (goes : GoesOut old i j new)
       (fresh : ¬ Contains is i) (free : All
@@ -54,12 +43,12 @@ module _ {S : Type 0} where
         ∙ rw (earlier_write_not whole.accesses.items is i p free (written_is_used _ p (rw its at is_written))) refl
 
     is_out : IsOut whole i j
-    is_out = grind (arith, cases_Bool, its, sizes_follow, unlent)
+    is_out = grind (arith, cases_Bool, its, unlent)
 
     pub one_more_out : AreOut whole (is ++ i ∷ []) (js ++ j ∷ []) new
     one_more_out = record {
       each = zip_more (IsOut whole) is js i j out.each is_out;
-      size = sizes_follow whole.world old.world new.world out.size goes.lent.left_size;
+      size = grind (arith, goes.lent.left_size, out.size);
       world = λ p. rw (any_more, ← its) (grind (arith, cases_Bool, goes.lent.stayed p, out.world p));
       as_many = ap length goes.systems ∙ length-set old.systems.items i None ∙ out.as_many;
       others = λ k away.
@@ -69,10 +58,6 @@ module _ {S : Type 0} where
       accesses = goes.accesses ∙ out.accesses;
       totals = goes.totals ∙ out.totals;
     }
-
-some_there : {X : Type 0} (o : Option X) (P : X → Type 0) → IsSomeAnd o P → IsSome o
-some_there None P h = absurd h
-some_there (Some x) P h = refl
 
 module _ {S : Type 0} where
   -- a system of the batch may go out after the others
@@ -96,18 +81,12 @@ module _ {S : Type 0} (meaning : S → Meaning) where
       → (p : Part) → is_some (slot p j.taken) ≡ writes j.access p
   has_written whole s i j stands lt out p = grind (arith, cases_Bool, written_is_used)
 
-  -- the systems of a batch and their jobs are one and the same
-  pub its_member : (whole : Lender S) (s : State) (i : ℕ) (j : Job S) → LenderStands meaning whole s → i < s.systems
-      → IsOut whole i j
-      → job_state meaning j.guarded ≡ (s.members i).job
-  its_member whole s i j stands lt out = rw out.guarded at (stands.members i lt).guarded
-
   may_run : (whole left : Lender S) (s : State) (is : List ℕ) (js : List (Job S)) (i : ℕ) (j : Job S)
       → LenderStands meaning whole s → i < s.systems
       → AreOut whole is js left → NoneConflict whole.accesses.items is → Contains is i → IsOut whole i j
       → MayRun meaning left.world j
   may_run whole left s is js i j stands lt all none there out =
-      grind (arith, has_written, its_member, or_left, others_write_not, sizes_meet)
+      grind (arith, has_written, or_left, others_write_not)
 
   pub all_may_run : (whole left : Lender S) (s : State) (is : List ℕ) (js : List (Job S)) → LenderStands meaning whole s
       → All (λ i. i < s.systems) is

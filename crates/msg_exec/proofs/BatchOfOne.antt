@@ -13,7 +13,7 @@ use Rattle.msg_frames.specs.Prelude.{BatchesRunSideBySide, State, after_turn_of,
 use Rattle.msg_exec.specs.inner.Lending.{AreOut, ComesHome}
 use Rattle.msg_exec.proofs.BatchComesHome.{ComingHome, MayCome, all_came, begin_home, is_back, next_comes, next_may_come}
 use Rattle.msg_exec.proofs.BatchGoesOut.{all_may_run, left_stands}
-use Rattle.msg_exec.proofs.ItemsOfLists.{read_or}
+use Rattle.std.proofs.lemmas.List.{get_or_read}
 
 no_pairs : (R : ℕ → ℕ → Type 0) (i : ℕ) → AllPairs R (i ∷ [])
 no_pairs R i = λ a b d lt l. absurd (omega arith)
@@ -32,10 +32,10 @@ module _ {S : Type 0} (meaning : S → Meaning) (g : Lender S) (s : State) (i : 
       (is_there : held ≡ get_or g.systems.items i held) (is_some : held ≡ Some guarded)
       (lent : LendsOut a g.world left taken) where
     its : a ≡ access_of g.accesses.items i
-    its = grind (arith, read_or)
+    its = grind (arith, get_or_read)
 
     there : system_at g i ≡ Some guarded
-    there = grind (arith, read_or)
+    there = grind (arith, get_or_read)
 
     abbrev its_job : Job S
     its_job = record { number = i; guarded = guarded; access = a; taken = taken }

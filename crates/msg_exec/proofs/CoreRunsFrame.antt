@@ -45,9 +45,6 @@ joined_by_frame js s frame are is =
     (length-map js (λ j. nat_le j frame) ∙ are.as_many) (λ k lt. grind (arith, are.each k lt, get_or-map))
 
 -- where none joins with the next frame, the same have joined by it
-one_more : (j f : ℕ) → (j ≢ suc f) ⊎ (f ≡ 0) → nat_le j (max 1 (suc f)) ≡ nat_le j (max 1 f)
-one_more j f none = grind (arith, nat_tests)
-
 pub nobody_more : (s : State) → NobodyJoins s → join_flags (counted (joining s)) ≡ join_flags s
 nobody_more s none =
     joined_stay (counted s) (counted (joining s)) (grind (arith, joining_keeps)) (ap suc (joining_makes_no_frame s))

@@ -24,10 +24,6 @@ conditions_new : (cs : List Condition) → map (λ a. a.condition) (map new_aske
 conditions_new [] = refl
 conditions_new (c ∷ cs) = ap (λ rest. c ∷ rest) (conditions_new cs)
 
-history_sound : (o : Option (Kept Record)) (h : History Record) → IsSome o → IfSome o (λ k. BufferStandsFor k h)
-    → IsSound h
-history_sound o h some stands = grind (arith, false≢true)
-
 module _ {S : Type 0} (meaning : S → Meaning) where
   module _ (world : Parts) (systems : List S) (places : List Place) (whole : IsWhole world)
       (as_many : length places ≡ length systems) (each : EachIs (MayBeAdded meaning world places) systems) where
@@ -95,8 +91,7 @@ module _ {S : Type 0} (meaning : S → Meaning) where
 
     pub are_new : (w : WorldState) → PartsStand world w → AreNew (map meaning systems) places (length world.types) w
     are_new w stands = record {
-      histories = λ t lt. history_sound (slot (OfType t) world) (w.histories t) (whole (OfType t) lt)
-          (stands (OfType t));
+      histories = λ t lt. grind (arith, false≢true, stands (OfType t), whole (OfType t) lt);
       new = λ i lt. (let f = found i (omega (arith, lt, length-map systems meaning)) in rw f.is f.may.new);
       joins = λ k d lt.
           let f = found k (omega (arith, lt, as_many)) in
@@ -132,9 +127,3 @@ module _ {S : Type 0} (meaning : S → Meaning) where
       → EachIs (IsAccessAt meaning systems places) xs → EachIs (λ i x. ¬ HasClash (meaning x)) systems
   none_clashes systems places xs size each i x there = let a =
       item_at xs i (omega (arith, size, slice_get_within systems i x there)) in (each i a.0 a.1).no_clash x there
-
-  -- a refusal for the rules is one of systems without a clash
-  pub refusal_for_rules : (systems : List S) (rules : List Rule) (e : BuildRefusal)
-      → EachIs (λ i x. ¬ HasClash (meaning x)) systems → RefusesForCycle (length systems) rules e
-      → RefusesFor meaning systems rules e
-  refusal_for_rules systems rules e none refuses = grind arith

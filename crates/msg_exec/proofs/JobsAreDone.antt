@@ -46,5 +46,4 @@ pub asked_guards : {Z : Type 0} (guards : Vec Asked Z) (slice after : List Asked
     ≡ guards.items → map (λ (a : Asked). a.condition) after ≡ map (λ (a : Asked). a.condition) slice
     → after ≡ map (after_asking w) slice → (with_items guards after).items ≡ map (after_asking w) guards.items
 asked_guards guards slice after w there same moved =
-    let as_many : length after ≡ length guards.items = grind (arith, length-map) in
-    with_items_is guards after (omega (arith, as_many)) ∙ moved ∙ ap (λ gs. map (after_asking w) gs) there
+    rw (with_items_is guards after (grind (arith, length-map)), moved, there) refl

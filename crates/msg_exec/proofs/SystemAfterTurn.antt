@@ -29,12 +29,11 @@ at_most_replies (suc n) next writer places w =
     let far = at_most_replies n next writer places w in
     grind (arith, far, length-append)
 
-few_of_turn : (m : Meaning) (w : WorldState) → length (turn m w).replies ≤ 64
-unfolding turn
-few_of_turn m w = at_most_replies 64 (next_op m) m.writer m.places w
-
 pub few_replies : (j : JobState) (w : WorldState) → HasFewReplies (outcome_of (after_job j w).replies)
-few_replies j w = grind (arith, cases_Bool, few_of_turn)
+unfolding turn
+few_replies j w =
+    let few = at_most_replies 64 (next_op j.system) j.system.writer j.system.places w in
+    grind (arith, cases_Bool, few)
 
 -- ---- the world
 

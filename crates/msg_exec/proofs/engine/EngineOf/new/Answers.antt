@@ -1,7 +1,7 @@
 use Rattle.std.proofs.Common.{◌≡◌, length, map, refl, ap, ◌∙◌, arith, inr}
 use Rattle.msg_exec.specs.Prelude.{Core, Schedule}
 use Rattle.msg_frames.specs.Prelude.{State, unjoined, with_joining}
-use Rattle.msg_exec.proofs.FirstEngineStands.{are_new, none_clashes, none_more, parts_stand, refusal_for_rules, schedule_first}
+use Rattle.msg_exec.proofs.FirstEngineStands.{are_new, none_clashes, none_more, parts_stand, schedule_first}
 use Rattle.msg_exec.proofs.CoreRunsFrame.{joined_by_frame, schedule_along}
 use Rattle.msg_frames.proofs.SystemsStay.{joining_on_keeps}
 use Rattle.msg_exec.proofs.engine.EngineOf.new.Goals as goal
@@ -10,10 +10,10 @@ pub returns-in-Err-clause-refusal : goal.returns-in-Err-clause-refusal
 returns-in-Err-clause-refusal g c =
     let xs = c.in_ok-accesses.accesses.items in
     let size : length xs ≡ length c.args.systems.items = rw c.deref.ensures.value at c.in_ok-accesses.ensures.as_many in
-    refusal_for_rules g.S.System.meaning c.args.systems.items c.args.rules.items c.in-Err.refusal
-    (none_clashes g.S.System.meaning c.args.systems.items c.args.places.items xs size
-    (rw (c.deref.ensures.value, c.deref-2.ensures.value) at c.in_ok-accesses.ensures.accesses))
-    (rw (c.deref-3.ensures.value, c.deref-4.ensures.value, size) at c.in-Err.ensures.cycle)
+    let none = none_clashes g.S.System.meaning c.args.systems.items c.args.places.items xs size
+    (rw (c.deref.ensures.value, c.deref-2.ensures.value) at c.in_ok-accesses.ensures.accesses) in
+    let cycle = rw (c.deref-3.ensures.value, c.deref-4.ensures.value, size) at c.in-Err.ensures.cycle in
+    grind (arith, cycle, none)
 
 pub plan_by-requires-clause-no_cycle : goal.plan_by-requires-clause-no_cycle
 plan_by-requires-clause-no_cycle g c join_flags size =
