@@ -22,7 +22,7 @@ use Rattle.msg_exec.proofs.BatchGoesOut.{has_written, left_stands, taken_stands}
 use Rattle.msg_frames.proofs.SystemsStay.{turns_keep_systems}
 use Rattle.msg_frames.proofs.ElementsAndPairs.{pairs_head, pairs_right}
 use Rattle.msg_order.proofs.Elements.{Contains-cases, Contains-head, Contains-tail, not_in_none}
-use Rattle.msg_exec.proofs.SystemAfterTurn.{few_replies, its_own, of_another, still_has, still_there, totals_after}
+use Rattle.msg_exec.proofs.SystemAfterTurn.{few_replies, its_own, of_another, totals_after}
 use Rattle.msg_exec.proofs.ItemsOfLists.{get_other, get_same, some_of}
 use Rattle.msg_exec.proofs.JobsAreDone.{none_there}
 use Rattle.msg_exec.proofs.BatchWritesApart.{later_write_not, written_is_used}
@@ -163,7 +163,7 @@ module _ {S : Type 0} (meaning : S → Meaning) where
       → Halfway whole s u [] now → LenderStands meaning now u
   stands_again whole now s u stands same half =
       let shape : SameShape whole.world now.world = record { size = half.size; there = half.there } in
-      grind (arith, not_in_none, shape, still_has, still_there)
+      grind (arith, not_in_none, shape)
 
   -- whichever state the lender stands for, it is of as many systems
   pub below_alike : (g : Lender S) (s u : State) (is : List ℕ) → LenderStands meaning g s → LenderStands meaning g u

@@ -81,13 +81,6 @@ module _ {S : Type 0} (meaning : S → Meaning) where
       → (p : Part) → is_some (slot p j.taken) ≡ writes j.access p
   has_written whole s i j stands lt out p = grind (arith, cases_Bool, written_is_used)
 
-  may_run : (whole left : Lender S) (s : State) (is : List ℕ) (js : List (Job S)) (i : ℕ) (j : Job S)
-      → LenderStands meaning whole s → i < s.systems
-      → AreOut whole is js left → NoneConflict whole.accesses.items is → Contains is i → IsOut whole i j
-      → MayRun meaning left.world j
-  may_run whole left s is js i j stands lt all none there out =
-      grind (arith, has_written, or_left, others_write_not)
-
   pub all_may_run : (whole left : Lender S) (s : State) (is : List ℕ) (js : List (Job S)) → LenderStands meaning whole s
       → All (λ i. i < s.systems) is
       → AreOut whole is js left → NoneConflict whole.accesses.items is → EachMay (MayRun meaning left.world) js
@@ -95,8 +88,9 @@ module _ {S : Type 0} (meaning : S → Meaning) where
       let one = some_of (slice_get is k) (rw at at (AllZip-right (IsOut whole) is js out.each k)) in
       let there : Contains is one.0 = rw (get_or_from_slice_get is k one.0 one.0 one.1.0)
       at (Contains-get_or is k one.0 (slice_get_within is k one.0 one.1.0)) in
-      may_run whole left s is js one.0 j stands
-      (All-contains (λ i. i < s.systems) is one.0 below there) out none there one.1.1
+      let its : IsOut whole one.0 j = one.1.1 in
+      let lt : one.0 < s.systems = All-contains (λ i. i < s.systems) is one.0 below there in
+      grind (arith, has_written, its, lt, or_left, others_write_not, stands.members one.0 lt, there)
 
   -- ---- what they stand for
 

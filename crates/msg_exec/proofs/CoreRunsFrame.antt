@@ -19,7 +19,7 @@ use Rattle.msg_exec.proofs.SystemsJoin.{members_alike}
 use Rattle.msg_frames.proofs.SystemsStay.{accesses_stay, before_keeps, joined_stay, joining_keeps, joining_makes_no_frame, no_cycle_stays, turns_keep_systems, turns_make_no_frame}
 use Rattle.std.proofs.lemmas.List.{get_or-map, length-map}
 use Rattle.msg_frames.proofs.FramesInOrder.{frame_in_order}
-use Rattle.msg_exec.proofs.SystemAfterTurn.{member_stays, still_has, still_there}
+use Rattle.msg_exec.proofs.SystemAfterTurn.{member_stays}
 
 -- ---- the schedule
 
@@ -70,7 +70,7 @@ module _ {S : Type 0} (meaning : S → Meaning) where
   pub world_stands : (g : Lender S) (s : State) (parts : Parts) (w : WorldState) (frames : ℕ) → LenderStands meaning g s
       → SameShape g.world parts → PartsStand parts w
       → LenderStands meaning (record g { world = parts }) (record s { world = w; frames = frames })
-  world_stands g s parts w frames stands shape is = grind (arith, member_stays, still_has, still_there)
+  world_stands g s parts w frames stands shape is = grind (arith, member_stays)
 
   -- one turn after the other, batch by batch, is a frame
   pub is_frame_by : (b : Core S) (s : State) (frame : Frame) (log : Log) (order : List ℕ) (replies : List Reply) → order

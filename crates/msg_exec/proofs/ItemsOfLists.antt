@@ -19,9 +19,6 @@ item_at [] i lt = absurd (omega (arith, lt))
 item_at (x ∷ xs) zero lt = (x, refl)
 item_at (x ∷ xs) (suc i) lt = item_at xs i (omega (arith, lt))
 
-pub read_or : {X : Type 0} (xs : List X) (i : ℕ) (d r : X) → i < length xs → r ≡ get_or xs i r → get_or xs i d ≡ r
-read_or xs i d r lt is = sym (get_or_read xs i r lt is d)
-
 -- ---- a list with one item set
 
 pub get_other : {X : Type 0} (xs : List X) (i k : ℕ) (x : X) → k ≢ i → slice_get (set xs i x) k ≡ slice_get xs k

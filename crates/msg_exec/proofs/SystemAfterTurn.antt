@@ -35,15 +35,6 @@ few_replies j w =
     let few = at_most_replies 64 (next_op j.system) j.system.writer j.system.places w in
     grind (arith, cases_Bool, few)
 
--- ---- the world
-
--- what was home is
-pub still_there : (old new : Parts) (p : Part) → SameShape old new → IsSome (slot p old) → IsSome (slot p new)
-still_there old new p same there = same.there p ∙ there
-
-pub still_has : (old new : Parts) (p : Part) → SameShape old new → Has new p → Has old p
-still_has old new p same has = grind arith
-
 -- ---- the lender
 
 pub its_own : (i : ℕ) (m : Member) (members : ℕ → Member) → with_member members i m i ≡ m
@@ -58,7 +49,7 @@ module _ {S : Type 0} (meaning : S → Meaning) where
       ≡ g.accesses.items
       → slice_get h.totals.items k ≡ slice_get g.totals.items k → SameShape g.world h.world
       → MemberStands meaning g types k m → MemberStands meaning h types k m
-  member_stays g h types k m guarded accesses totals shape stands = grind (arith, still_there)
+  member_stays g h types k m guarded accesses totals shape stands = grind (arith)
 
   -- the totals of a system, as they are read
   pub totals_there : (g : Lender S) (s : State) (i : ℕ) (v : Vec Totals) → i < s.systems → v ≡ get_or g.totals.items i v
