@@ -18,7 +18,7 @@ use Rattle.msg_frames.specs.Prelude.{AreAccessesOf, BatchesRunSideBySide, Member
 use Rattle.msg_exec.specs.inner.Batches.{AreDone}
 use Rattle.msg_exec.specs.inner.Totals.{HasFewReplies}
 use Rattle.msg_exec.specs.inner.Lending.{AreOut, ComesHome, HaveEntered, IsOut, any_writes}
-use Rattle.msg_exec.proofs.BatchGoesOut.{has_written, left_stands, taken_stands}
+use Rattle.msg_exec.proofs.BatchGoesOut.{has_written, left_stands}
 use Rattle.msg_frames.proofs.SystemsStay.{turns_keep_systems}
 use Rattle.msg_frames.proofs.ElementsAndPairs.{pairs_head, pairs_right}
 use Rattle.msg_order.proofs.Elements.{Contains-cases, Contains-head, Contains-tail, not_in_none}
@@ -64,7 +64,8 @@ module _ {S : Type 0} (meaning : S → Meaning) where
       → i < s.systems
       → PartsStand left.world s.world → IsOut whole i j → IsDone meaning left.world j d → IsBack whole s i d
   is_back whole left s i j d stands lt world out done =
-      grind (arith, has_written, taken_stands)
+      let taken : PartsStand j.taken s.world = λ p. grind (arith, cases_Bool) in
+      grind (arith, has_written, taken)
 
   all_back : (whole left : Lender S) (s : State) (is : List ℕ) (js : List (Job S)) (ds : List (Done S))
       → LenderStands meaning whole s → All (λ i. i < s.systems) is
@@ -117,9 +118,6 @@ module _ {S : Type 0} (meaning : S → Meaning) where
       abbrev its_turn : Member
       its_turn = (turn_of s i).member
 
-      system_back : IsSomeAnd (system_at new i) (λ a. job_state meaning a ≡ its_turn.job)
-      system_back = grind (arith, get_or-set_same)
-
       totals_back : IsSomeAnd (slice_get new.totals.items i) (λ v. TotalsStand s.types v.items its_turn.totals)
       totals_back =
           let there = rw (half.untouched i (Contains-head i rest)) at (half.totals i lt) in
@@ -137,7 +135,7 @@ module _ {S : Type 0} (meaning : S → Meaning) where
         accesses = comes.accesses ∙ half.accesses;
         as_many = grind (arith, length-set);
         members = λ k below away. elim (eqb_tells k i) [
-          | inl same ↦ rw (same.1, its_own i its_turn u.members) system_back
+          | inl same ↦ rw (same.1, its_own i its_turn u.members) (grind (arith, get_or-set_same))
           | inr other ↦
               let out : ¬ Contains (i ∷ rest) k = λ there. grind (arith, Contains-cases) in
               grind (arith, get_or-set_other, half.members k below out, of_another)

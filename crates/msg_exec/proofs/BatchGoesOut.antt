@@ -98,7 +98,3 @@ module _ {S : Type 0} (meaning : S → Meaning) where
   pub left_stands : (whole left : Lender S) (s : State) (is : List ℕ) (js : List (Job S))
       → PartsStand whole.world s.world → AreOut whole is js left → PartsStand left.world s.world
   left_stands whole left s is js stands out p = grind (arith, cases_Bool)
-
-  pub taken_stands : (whole : Lender S) (s : State) (i : ℕ) (j : Job S) → PartsStand whole.world s.world
-      → IsOut whole i j → PartsStand j.taken s.world
-  taken_stands whole s i j stands out p = grind (arith, cases_Bool)

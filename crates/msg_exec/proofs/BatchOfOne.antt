@@ -31,12 +31,6 @@ module _ {S : Type 0} (meaning : S → Meaning) (g : Lender S) (s : State) (i : 
       (is_its : a ≡ get_or g.accesses.items i a)
       (is_there : held ≡ get_or g.systems.items i held) (is_some : held ≡ Some guarded)
       (lent : LendsOut a g.world left taken) where
-    its : a ≡ access_of g.accesses.items i
-    its = grind (arith, get_or_read)
-
-    there : system_at g i ≡ Some guarded
-    there = grind (arith, get_or_read)
-
     abbrev its_job : Job S
     its_job = record { number = i; guarded = guarded; access = a; taken = taken }
 
@@ -44,7 +38,7 @@ module _ {S : Type 0} (meaning : S → Meaning) (g : Lender S) (s : State) (i : 
     mid = record g { world = left }
 
     out : AreOut g (i ∷ []) (its_job ∷ []) mid
-    out = grind (arith, its, or-false, there)
+    out = grind (arith, get_or_read, or-false)
 
     pub may_take_turn : MayRun meaning left its_job
     may_take_turn = all_may_run meaning g mid s (i ∷ []) (its_job ∷ []) stands below out none 0 its_job refl

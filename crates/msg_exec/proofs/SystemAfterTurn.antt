@@ -49,7 +49,7 @@ module _ {S : Type 0} (meaning : S → Meaning) where
       ≡ g.accesses.items
       → slice_get h.totals.items k ≡ slice_get g.totals.items k → SameShape g.world h.world
       → MemberStands meaning g types k m → MemberStands meaning h types k m
-  member_stays g h types k m guarded accesses totals shape stands = grind (arith)
+  member_stays g h types k m guarded accesses totals shape stands = grind arith
 
   -- the totals of a system, as they are read
   pub totals_there : (g : Lender S) (s : State) (i : ℕ) (v : Vec Totals) → i < s.systems → v ≡ get_or g.totals.items i v
