@@ -1,13 +1,11 @@
 -- Accounts tell what readers were given, and the numbers in them are exact.
-use Rattle.std.proofs.Common.{◌≡◌, ℕ, ◌+◌, ◌^◌, ◌<◌, List, [], ◌∷◌, ◌++◌, map, append_assoc, Option, refl, arith, subst}
-use Rattle.std.specs.Prelude.{All, IfSome, IsSome, IsTrue}
+use Rattle.std.proofs.Common.{◌≡◌, ℕ, ◌+◌, ◌^◌, ◌<◌, List, [], ◌∷◌, ◌++◌, map, append_assoc, refl, arith, subst}
+use Rattle.std.specs.Prelude.{All, IsTrue}
 use Rattle.std.specs.List.{filter, range_with_len}
-use Rattle.std.proofs.lemmas.Bool.{cases_Bool, false≢true}
+use Rattle.std.proofs.lemmas.Bool.{cases_Bool}
 use Rattle.std.proofs.lemmas.List.{map_push}
 use Rattle.std.proofs.lemmas.List.Elements.{Contains-get_or}
-use Rattle.msg_buffer.specs.Prelude.{History, Kept, StandsFor as BufferStandsFor, count}
 use Rattle.msg_order.proofs.Elements.{filter-Contains, filter_takes, flat_map-Contains, map-Contains, range-Contains}
-use Rattle.msg_world.specs.declared.record.Record.{Record}
 use Rattle.msg_frames.specs.declared.account.Account.{Account}
 use Rattle.msg_exec.specs.Prelude.{kept}
 use Rattle.msg_frames.specs.declared.totals.Totals.{Totals}

@@ -1,5 +1,5 @@
 -- Turns one after the other, batch after batch.
-use Rattle.std.proofs.Common.{◌≡◌, ℕ, ◌+◌, ◌<◌, List, [], ◌∷◌, ◌++◌, length, map, take, get_or, refl, sym, ap, ◌∙◌, append_assoc, ◌≢◌, zero, suc, ◌≤◌, arith}
+use Rattle.std.proofs.Common.{◌≡◌, ℕ, ◌+◌, ◌<◌, List, [], ◌∷◌, ◌++◌, length, map, take, get_or, refl, sym, append_assoc, ◌≢◌, zero, suc, ◌≤◌, arith}
 use Rattle.std.specs.Global.{Vec}
 use Rattle.std.specs.List.{concat}
 use Rattle.std.proofs.lemmas.List.{append-nil, map_push, take_more, get_or-map}
@@ -7,7 +7,7 @@ use Rattle.std.proofs.lemmas.List.Folds.{concat-append}
 use Rattle.msg_system.specs.Prelude.{Meaning}
 use Rattle.msg_frames.specs.declared.log.Turn.{Turn}
 use Rattle.msg_exec.specs.Prelude.{Lender, LenderStands}
-use Rattle.msg_frames.specs.Prelude.{AfterTurns, after_turn_of, after_turns_of, logged_turn, State}
+use Rattle.msg_frames.specs.Prelude.{AfterTurns, after_turn_of, after_turns_of, State}
 use Rattle.std.proofs.lemmas.Bool.{eqb-true}
 use Rattle.std.specs.Prelude.{All, AllPairs}
 use Rattle.std.proofs.lemmas.Bool.Decides.{Decides-eqb}

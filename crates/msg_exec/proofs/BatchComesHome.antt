@@ -1,7 +1,6 @@
 -- The systems of a batch come home, one after the other.
-use Rattle.std.proofs.Common.{◌≡◌, ◌≢◌, ℕ, ◌<◌, false, true, List, [], ◌∷◌, ◌++◌, length, map, Option, Some, None, append_assoc, refl, sym, ap, subst, ◌∙◌, inl, inr, arith}
-use Rattle.std.specs.Global.{Vec}
-use Rattle.std.specs.Prelude.{All, AllPairs, Contains, IsSomeAnd, IsTrue, is_some, slice_get, slice_set, if◌then◌else◌}
+use Rattle.std.proofs.Common.{◌≡◌, ◌≢◌, ℕ, ◌<◌, false, List, [], ◌∷◌, ◌++◌, length, map, None, append_assoc, refl, sym, ap, ◌∙◌, inl, inr, arith}
+use Rattle.std.specs.Prelude.{All, AllPairs, Contains, IsSomeAnd, IsTrue, is_some, slice_get, if◌then◌else◌}
 use Rattle.std.proofs.lemmas.Bool.{cases_Bool}
 use Rattle.std.proofs.lemmas.Bool.Decides.{eqb_tells}
 use Rattle.std.proofs.lemmas.List.{append-nil, get_or-set_other, get_or-set_same, length-set, map-append}
@@ -11,13 +10,12 @@ use Rattle.msg_world.specs.declared.access.Access.{Access}
 use Rattle.msg_world.specs.Prelude.{Conflict, HomeMerges, HomeWhereEither, IsApart, Part, PartsStand, SameShape, SameSize, slot, writes}
 use Rattle.msg_order.specs.Prelude.{NoneConflict, access_of}
 use Rattle.msg_system.specs.Prelude.{Job as JobState, Meaning, after_job}
-use Rattle.msg_exec.specs.Prelude.{Done, IsAfterJob, IsDone, Job, Lender, LenderStands, MemberStands, TotalsStand, job_state, system_at}
+use Rattle.msg_exec.specs.Prelude.{Done, IsAfterJob, IsDone, Job, Lender, LenderStands, TotalsStand, job_state, system_at}
 use Rattle.msg_frames.specs.declared.log.Turn.{Turn}
-use Rattle.msg_frames.specs.declared.totals.Totals.{Totals}
 use Rattle.msg_frames.specs.Prelude.{AreAccessesOf, BatchesRunSideBySide, Member, SameSystems, State, after_turns_of, all_home, home, logged_turn, turn_of}
 use Rattle.msg_exec.specs.inner.Batches.{AreDone}
 use Rattle.msg_exec.specs.inner.Totals.{HasFewReplies}
-use Rattle.msg_exec.specs.inner.Lending.{AreOut, ComesHome, HaveEntered, IsOut, any_writes}
+use Rattle.msg_exec.specs.inner.Lending.{AreOut, ComesHome, IsOut, any_writes}
 use Rattle.msg_exec.proofs.BatchGoesOut.{has_written, left_stands}
 use Rattle.msg_frames.proofs.SystemsStay.{turns_keep_systems}
 use Rattle.msg_frames.proofs.ElementsAndPairs.{pairs_head, pairs_right}

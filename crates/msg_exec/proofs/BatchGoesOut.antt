@@ -1,6 +1,6 @@
 -- The systems of a batch go out, one after the other, and their jobs may be run.
-use Rattle.std.proofs.Common.{◌≡◌, ◌≢◌, ℕ, zero, suc, ◌<◌, ◌||◌, true, List, [], ◌∷◌, ◌++◌, length, Option, Some, None, refl, sym, ap, subst, ◌∙◌, inl, inr, arith}
-use Rattle.std.specs.Prelude.{All, Contains, IsSome, IsSomeAnd, IsTrue, is_some, slice_get, if◌then◌else◌}
+use Rattle.std.proofs.Common.{◌≡◌, ℕ, ◌<◌, true, List, [], ◌∷◌, ◌++◌, length, None, refl, ap, ◌∙◌, arith}
+use Rattle.std.specs.Prelude.{All, Contains, IsSome, is_some, slice_get}
 use Rattle.std.proofs.lemmas.Bool.{cases_Bool, cases_eq, or_left}
 use Rattle.std.proofs.lemmas.List.{get_or-set_other, length-set}
 use Rattle.std.proofs.lemmas.Slice.Zip.{AllZip-right}
@@ -8,13 +8,13 @@ use Rattle.std.proofs.lemmas.Option.{get_or_from_slice_get, slice_get_within}
 use Rattle.msg_exec.proofs.ItemsOfLists.{some_of}
 use Rattle.std.proofs.lemmas.List.Elements.{Contains-get_or, Contains-append_left, Contains-append_right, All-contains}
 use Rattle.std.specs.List.{AllZip}
-use Rattle.msg_world.specs.Prelude.{Conflict, IsHome, Part, Parts, PartsStand, SameSize, slot, uses, writes}
+use Rattle.msg_world.specs.Prelude.{Conflict, IsHome, Part, PartsStand, slot, writes}
 use Rattle.msg_order.specs.Prelude.{NoneConflict, access_of}
-use Rattle.msg_system.specs.Prelude.{IsAccessOf, Job as JobState, Meaning, conditions_of, with_conditions}
-use Rattle.msg_exec.specs.Prelude.{EachMay, Job, Lender, LenderStands, MayRun, MemberStands, job_state, system_at}
+use Rattle.msg_system.specs.Prelude.{Meaning}
+use Rattle.msg_exec.specs.Prelude.{EachMay, Job, Lender, LenderStands, MayRun, system_at}
 use Rattle.msg_frames.specs.Prelude.{State}
-use Rattle.msg_exec.specs.inner.Lending.{AreOut, GoesOut, IsOut, any_writes}
-use Rattle.msg_order.proofs.Elements.{Contains-head, Contains-tail}
+use Rattle.msg_exec.specs.inner.Lending.{AreOut, GoesOut, IsOut}
+use Rattle.msg_order.proofs.Elements.{Contains-head}
 use Rattle.msg_exec.proofs.BatchWritesApart.{any_more, earlier_write_not, others_write_not, written_is_used}
 
 -- ---- lists side by side

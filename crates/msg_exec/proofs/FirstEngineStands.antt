@@ -1,21 +1,19 @@
 -- A new engine stands for the first state.
-use Rattle.std.proofs.Common.{◌≡◌, ℕ, ◌<◌, ◌≤◌, Bool, true, false, List, [], ◌∷◌, length, map, Option, Some, None, refl, sym, ap, ◌∙◌, arith, inl, inr}
-use Rattle.std.specs.Prelude.{IfSome, IsSome, replicate, slice_get, slice_index_or}
+use Rattle.std.proofs.Common.{◌≡◌, ℕ, ◌<◌, ◌≤◌, Bool, true, false, List, [], ◌∷◌, length, map, Some, None, refl, sym, ap, ◌∙◌, arith, inl, inr}
+use Rattle.std.specs.Prelude.{replicate, slice_get, slice_index_or}
 use Rattle.std.proofs.lemmas.Bool.{cases_lt, false≢true}
 use Rattle.std.proofs.lemmas.List.{get_or-map, get_or-replicate, get_or_past, length-map}
 use Rattle.std.proofs.lemmas.Option.{get_or_from_slice_get, slice_get-get_or, slice_get_within}
-use Rattle.msg_buffer.specs.Prelude.{History, IsSound, Kept, StandsFor as BufferStandsFor}
 use Rattle.msg_world.specs.declared.access.Access.{Access}
-use Rattle.msg_world.specs.declared.record.Record.{Record}
-use Rattle.msg_world.specs.Prelude.{IsWhole, OfType, Parts, PartsStand, WorldState, slot}
+use Rattle.msg_world.specs.Prelude.{IsWhole, OfType, Parts, PartsStand, WorldState}
 use Rattle.msg_order.specs.declared.rule.Rule.{Rule}
 use Rattle.msg_order.specs.Prelude.{FewerSystemsMakeNoCycle, IsAcyclic, NameSystemsBelow, access_of, rules_among}
 use Rattle.msg_system.specs.declared.condition.Condition.{Condition}
 use Rattle.msg_system.specs.Prelude.{Meaning, new_asked}
 use Rattle.msg_system.proofs.Accesses.{uses_needs}
 use Rattle.msg_frames.specs.declared.place.Place.{Place}
-use Rattle.msg_exec.specs.Prelude.{AreJoins, BuildRefusal, Core, EachIs, Lender, LenderStands, MayBeAdded, RefusesFor, Schedule}
-use Rattle.msg_exec.specs.inner.Building.{AreNoTotals, IsAccessAt, IsGuardedAt, RefusesForCycle}
+use Rattle.msg_exec.specs.Prelude.{AreJoins, Core, EachIs, Lender, LenderStands, MayBeAdded, Schedule}
+use Rattle.msg_exec.specs.inner.Building.{AreNoTotals, IsAccessAt, IsGuardedAt}
 use Rattle.msg_frames.specs.Prelude.{AreNew, HasClash, all_rules, nobody, nowhere, unjoined}
 use Rattle.msg_exec.specs.inner.Lending.{HaveReadNothing}
 use Rattle.msg_exec.proofs.ItemsOfLists.{item_at}

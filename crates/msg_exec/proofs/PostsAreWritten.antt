@@ -1,5 +1,5 @@
 -- Posts one after the other.
-use Rattle.std.proofs.Common.{◌≡◌, ℕ, ℤ, List, [], ◌∷◌, ◌++◌, Result, Ok, Err, refl, ap}
+use Rattle.std.proofs.Common.{◌≡◌, ℕ, ℤ, List, [], ◌∷◌, ◌++◌, Result, Ok, Err, refl}
 use Rattle.std.specs.Prelude.{OnErr}
 use Rattle.msg_buffer.specs.Prelude.{write}
 use Rattle.msg_world.specs.declared.record.TheConstants.{HOST}

@@ -1,12 +1,12 @@
 -- What a system's turn leaves: what came of it, its place on the lender, and its totals.
-use Rattle.std.proofs.Common.{sym, get_or, ◌≡◌, ◌≢◌, zero, suc, Option, append-nil, length-append, ℕ, ◌<◌, ◌≤◌, List, length, refl, ◌∙◌, arith}
+use Rattle.std.proofs.Common.{sym, get_or, ◌≡◌, ◌≢◌, zero, suc, Option, append-nil, length-append, ℕ, ◌<◌, ◌≤◌, List, length, refl, arith}
 use Rattle.std.specs.Global.{Vec}
 use Rattle.std.proofs.lemmas.Option.{slice_get_read}
-use Rattle.std.specs.Prelude.{IsSome, slice_get}
+use Rattle.std.specs.Prelude.{slice_get}
 use Rattle.std.proofs.lemmas.Bool.{cases_Bool, eq-eqb, ne_eqb}
-use Rattle.msg_world.specs.Prelude.{Has, Part, Parts, SameShape, WorldState, slot}
+use Rattle.msg_world.specs.Prelude.{SameShape, WorldState}
 use Rattle.msg_system.specs.declared.op.Op.{Op}
-use Rattle.msg_system.specs.Prelude.{AfterProgram, Job as JobState, Meaning, after_at_most, after_job, next_op, one_more, turn}
+use Rattle.msg_system.specs.Prelude.{Job as JobState, Meaning, after_at_most, after_job, next_op, turn}
 use Rattle.msg_system.specs.declared.reply.Reply.{Reply}
 use Rattle.msg_frames.specs.declared.log.Outcome.{Outcome}
 use Rattle.msg_frames.specs.declared.totals.Totals.{Totals}

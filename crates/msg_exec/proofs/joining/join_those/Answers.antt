@@ -1,7 +1,7 @@
 use Rattle.std.proofs.Common.{◌+◌, inl, inr, ◌≡◌, ◌<◌, None, length, sym, ap, ◌∙◌, arith, refl}
 use Rattle.std.specs.Vec.{with_items}
 use Rattle.msg_buffer.specs.Prelude.{count}
-use Rattle.std.proofs.lemmas.Bool.{and_right, cases_eq, eq-eqb, le-ltb, lt-ltb, ne_eqb}
+use Rattle.std.proofs.lemmas.Bool.{cases_eq, eq-eqb, le-ltb, lt-ltb}
 use Rattle.std.proofs.lemmas.Bool.Decides.{nat_tests}
 use Rattle.std.proofs.lemmas.List.FromFn.{fill_by_all}
 use Rattle.std.proofs.lemmas.Option.{get_or_from_slice_get}

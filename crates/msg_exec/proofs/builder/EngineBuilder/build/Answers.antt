@@ -1,6 +1,5 @@
-use Rattle.std.proofs.Common.{arith, ap}
+use Rattle.std.proofs.Common.{arith}
 use Rattle.std.proofs.lemmas.Option.{get_or_from_slice_get, slice_get_within}
-use Rattle.msg_system.specs.Prelude.{Meaning}
 use Rattle.msg_exec.proofs.BuilderBuilds.{before, no_clash_before, refusal_before}
 use Rattle.msg_exec.proofs.builder.EngineBuilder.build.Goals as goal
 

@@ -1,9 +1,9 @@
-use Rattle.std.proofs.Common.{◌≡◌, ◌+◌, ◌++◌, ◌∷◌, [], ap, length, append_assoc, refl, arith, rules, ◌∙◌}
+use Rattle.std.proofs.Common.{◌≡◌, ◌++◌, ◌∷◌, [], length, append_assoc, refl, arith, rules}
 use Rattle.std.specs.Prelude.{IsSome}
 use Rattle.std.proofs.lemmas.List.{drop-append-le, length_push, take_all, take_more}
 use Rattle.std.proofs.lemmas.List.Elements.{All-push}
 use Rattle.msg_exec.specs.Prelude.{EachPassedGate}
-use Rattle.msg_frames.specs.Prelude.{State, systems_in}
+use Rattle.msg_frames.specs.Prelude.{systems_in}
 use Rattle.msg_frames.proofs.SystemsStay.{frame_keeps}
 use Rattle.msg_exec.proofs.EngineRunsFrames.{core_of, run_more, stood}
 use Rattle.msg_exec.proofs.engine.EngineOf.run_frames.Goals as goal

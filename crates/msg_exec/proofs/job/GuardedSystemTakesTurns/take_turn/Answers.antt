@@ -1,6 +1,6 @@
-use Rattle.std.proofs.Common.{rules, ◌≡◌, refl, sym, ap, subst, ◌∙◌}
+use Rattle.std.proofs.Common.{rules, ◌≡◌, refl, sym, ap, ◌∙◌}
 use Rattle.msg_world.specs.declared.access.Access.{Access}
-use Rattle.msg_world.specs.Prelude.{Parts, PartsStand, SameShape, writes}
+use Rattle.msg_world.specs.Prelude.{SameShape, writes}
 use Rattle.msg_system.specs.Prelude.{all_hold, turn}
 use Rattle.msg_exec.proofs.JobsAreDone.{asked_guards, nothing_else, ran_job, skipped_job}
 use Rattle.msg_exec.proofs.job.GuardedSystemTakesTurns.take_turn.Goals as goal
