@@ -228,8 +228,8 @@ module _ {S : Type 0} (meaning : S → Meaning) where
             all = append_assoc far.come (i ∷ []) rest ∙ all;
             back = others_back;
             half = rw (all_home_more whole.accesses.items s far.come i s)
-                (one_home whole now s _ i rest d stands (in_batch far.come rest i all) (rw at at far.half) back new comes
-                (λ there. All-contains (λ j. i ≢ j) rest i others there refl) free merges either);
+                (one_home whole now s _ i rest d stands (in_batch far.come rest i all) (rw at at far.half) back
+                new comes (λ there. All-contains (λ j. i ≢ j) rest i others there refl) free merges either);
             logged_so_far = rw (far.logged_so_far, map-append, append_assoc, same) refl;
           }
 

@@ -1,5 +1,5 @@
 -- The systems of a batch go out, one after the other, and their jobs may be run.
-use Rattle.std.proofs.Common.{◌≡◌, ℕ, ◌<◌, true, List, [], ◌∷◌, ◌++◌, length, None, refl, ap, ◌∙◌, arith}
+use Rattle.std.proofs.Common.{◌≡◌, ℕ, ◌<◌, true, List, [], ◌∷◌, ◌++◌, length, refl, ap, ◌∙◌, arith}
 use Rattle.std.specs.Prelude.{All, Contains, IsSome, is_some, slice_get}
 use Rattle.std.proofs.lemmas.Bool.{cases_Bool, cases_eq, or_left}
 use Rattle.std.proofs.lemmas.List.{get_or-set_other, length-set}
@@ -50,7 +50,7 @@ module _ {S : Type 0} where
       each = zip_more (IsOut whole) is js i j out.each is_out;
       size = grind (arith, goes.lent.left_size, out.size);
       world = λ p. rw (any_more, ← its) (grind (arith, cases_Bool, goes.lent.stayed p, out.world p));
-      as_many = ap length goes.systems ∙ length-set old.systems.items i None ∙ out.as_many;
+      as_many = grind (arith, length-set);
       others = λ k away.
           let earlier = Contains-append_left is (i ∷ []) k in
           let last = Contains-append_right is (i ∷ []) i (Contains-head i []) in
@@ -59,7 +59,6 @@ module _ {S : Type 0} where
       totals = goes.totals ∙ out.totals;
     }
 
-module _ {S : Type 0} where
   -- a system of the batch may go out after the others
   pub record MayGo (g : Lender S) (i : ℕ) : Type 0 where
     pub number : i < length g.accesses.items

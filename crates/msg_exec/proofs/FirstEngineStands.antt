@@ -70,11 +70,14 @@ module _ {S : Type 0} (meaning : S → Meaning) where
                   let f = found i (omega (arith, lt, n)) in
                   let total = item_at g.totals.items i (omega (arith, lt, n, nt)) in
                   let none = totals i total.0 total.1 in
-                  let system = guarded i _ (slice_get-get_or g.systems.items i None (omega (arith, lt, n, na))) f.x f.place f.sx f.sp in
+                  let there = slice_get-get_or g.systems.items i None (omega (arith, lt, n, na)) in
+                  let system = guarded i _ there f.x f.place f.sx f.sp in
                   let access =
                   (accesses i (access_of g.accesses.items i)
                   (slice_get-get_or g.accesses.items i _ (omega (arith, lt, n, nc)))).access f.x f.place f.sx f.sp in
-                  rw (f.is, f.at) (grind (arith, access, conditions_new, f.may.fits f.place f.sp, none, system, total.1, uses_needs));
+                  let fits = f.may.fits f.place f.sp in
+                  rw (f.is, f.at)
+                  (grind (arith, access, conditions_new, fits, none, system, total.1, uses_needs));
               world = rw same stands;
               whole = rw same whole;
               types = ap (λ (p : Parts). length p.types) same;
