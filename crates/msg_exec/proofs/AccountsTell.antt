@@ -1,13 +1,11 @@
 -- Accounts tell what readers were given, and the numbers in them are exact.
-use Rattle.std.proofs.Common.{◌≡◌, ℕ, ◌+◌, ◌^◌, ◌<◌, List, [], ◌∷◌, ◌++◌, map, append_assoc, Option, refl, arith, subst}
-use Rattle.std.specs.Prelude.{All, IfSome, IsSome, IsTrue}
+use Rattle.std.proofs.Common.{◌≡◌, ℕ, ◌+◌, ◌^◌, ◌<◌, List, [], ◌∷◌, ◌++◌, map, append_assoc, refl, arith, subst}
+use Rattle.std.specs.Prelude.{All, IsTrue}
 use Rattle.std.specs.List.{filter, range_with_len}
-use Rattle.std.proofs.lemmas.Bool.{cases_Bool, false≢true}
+use Rattle.std.proofs.lemmas.Bool.{cases_Bool}
 use Rattle.std.proofs.lemmas.List.{map_push}
 use Rattle.std.proofs.lemmas.List.Elements.{Contains-get_or}
-use Rattle.msg_buffer.specs.Prelude.{History, Kept, StandsFor as BufferStandsFor, count}
 use Rattle.msg_order.proofs.Elements.{filter-Contains, filter_takes, flat_map-Contains, map-Contains, range-Contains}
-use Rattle.msg_world.specs.declared.record.Record.{Record}
 use Rattle.msg_frames.specs.declared.account.Account.{Account}
 use Rattle.msg_exec.specs.Prelude.{kept}
 use Rattle.msg_frames.specs.declared.totals.Totals.{Totals}
@@ -21,10 +19,6 @@ adds_up s i t lt sound = grind (arith, cases_Bool)
 -- small numbers are kept as they are
 pub kept_whole : (x : Totals) → x.got < 2 ^ 64 → x.missed < 2 ^ 64 → x.cleared < 2 ^ 64 → kept x ≡ x
 kept_whole x got missed cleared = grind arith
-
-pub count_below : (o : Option (Kept Record)) (h : History Record) → IsSome o → IfSome o (λ k. BufferStandsFor k h)
-    → IfSome o (λ k. (g : History Record) → BufferStandsFor k g → count g < 2 ^ 64) → count h < 2 ^ 64
-count_below o h some stands below = grind (arith, false≢true)
 
 -- ---- those of one system, and of all
 

@@ -1,5 +1,5 @@
 -- Turns one after the other, batch after batch.
-use Rattle.std.proofs.Common.{◌≡◌, ℕ, ◌+◌, ◌<◌, List, [], ◌∷◌, ◌++◌, length, map, take, get_or, refl, sym, ap, ◌∙◌, append_assoc, ◌≢◌, zero, suc, ◌≤◌, arith}
+use Rattle.std.proofs.Common.{◌≡◌, ℕ, ◌+◌, ◌<◌, List, [], ◌∷◌, ◌++◌, length, map, take, get_or, refl, sym, append_assoc, ◌≢◌, zero, suc, ◌≤◌, arith}
 use Rattle.std.specs.Global.{Vec}
 use Rattle.std.specs.List.{concat}
 use Rattle.std.proofs.lemmas.List.{append-nil, map_push, take_more, get_or-map}
@@ -7,7 +7,7 @@ use Rattle.std.proofs.lemmas.List.Folds.{concat-append}
 use Rattle.msg_system.specs.Prelude.{Meaning}
 use Rattle.msg_frames.specs.declared.log.Turn.{Turn}
 use Rattle.msg_exec.specs.Prelude.{Lender, LenderStands}
-use Rattle.msg_frames.specs.Prelude.{AfterTurns, after_turn_of, after_turns_of, logged_turn, State}
+use Rattle.msg_frames.specs.Prelude.{AfterTurns, after_turn_of, after_turns_of, State}
 use Rattle.std.proofs.lemmas.Bool.{eqb-true}
 use Rattle.std.specs.Prelude.{All, AllPairs}
 use Rattle.std.proofs.lemmas.Bool.Decides.{Decides-eqb}
@@ -24,9 +24,7 @@ and_then x is =
 
 pub turns_then_more : (is js : List ℕ) (s : State) → after_turns_of (is ++ js) s ≡ and_then (after_turns_of is s) js
 turns_then_more [] js s = refl
-turns_then_more (i ∷ is) js s =
-    ap (λ (x : AfterTurns). record { state = x.state; turns = logged_turn s i ∷ x.turns })
-    (turns_then_more is js (after_turn_of i s))
+turns_then_more (i ∷ is) js s = rw (turns_then_more is js (after_turn_of i s)) refl
 
 pub as_many_systems : (is : List ℕ) (s : State) → (after_turns_of is s).state.systems ≡ s.systems
 as_many_systems is s = (turns_keep_systems is s).systems
@@ -46,8 +44,7 @@ turned_more meaning is js s g h before between after far state turns =
     let x = after_turns_of is s in
     rw (turns_then_more is js s) (
       state x.state far.0,
-      turns x.state far.0 ∙ ap (λ ts. ts ++ (after_turns_of js x.state).turns) far.1
-          ∙ append_assoc before x.turns (after_turns_of js x.state).turns,
+      rw (turns x.state far.0, far.1, append_assoc) refl,
     )
 
 -- ---- batch by batch

@@ -1,7 +1,6 @@
 -- The systems of a batch come home, one after the other.
-use Rattle.std.proofs.Common.{◌≡◌, ◌≢◌, ℕ, ◌<◌, false, true, List, [], ◌∷◌, ◌++◌, length, map, Option, Some, None, append_assoc, refl, sym, ap, subst, ◌∙◌, inl, inr, arith}
-use Rattle.std.specs.Global.{Vec}
-use Rattle.std.specs.Prelude.{All, AllPairs, Contains, IsSomeAnd, IsTrue, is_some, slice_get, slice_set, if◌then◌else◌}
+use Rattle.std.proofs.Common.{◌≡◌, ◌≢◌, ℕ, ◌<◌, false, List, [], ◌∷◌, ◌++◌, length, map, None, append_assoc, refl, sym, ap, ◌∙◌, inl, inr, arith}
+use Rattle.std.specs.Prelude.{All, AllPairs, Contains, IsSomeAnd, IsTrue, is_some, slice_get, if◌then◌else◌}
 use Rattle.std.proofs.lemmas.Bool.{cases_Bool}
 use Rattle.std.proofs.lemmas.Bool.Decides.{eqb_tells}
 use Rattle.std.proofs.lemmas.List.{append-nil, get_or-set_other, get_or-set_same, length-set, map-append}
@@ -11,25 +10,30 @@ use Rattle.msg_world.specs.declared.access.Access.{Access}
 use Rattle.msg_world.specs.Prelude.{Conflict, HomeMerges, HomeWhereEither, IsApart, Part, PartsStand, SameShape, SameSize, slot, writes}
 use Rattle.msg_order.specs.Prelude.{NoneConflict, access_of}
 use Rattle.msg_system.specs.Prelude.{Job as JobState, Meaning, after_job}
-use Rattle.msg_exec.specs.Prelude.{Done, IsAfterJob, IsDone, Job, Lender, LenderStands, MemberStands, TotalsStand, job_state, system_at}
+use Rattle.msg_exec.specs.Prelude.{Done, IsAfterJob, IsDone, Job, Lender, LenderStands, TotalsStand, job_state, system_at}
 use Rattle.msg_frames.specs.declared.log.Turn.{Turn}
-use Rattle.msg_frames.specs.declared.totals.Totals.{Totals}
 use Rattle.msg_frames.specs.Prelude.{AreAccessesOf, BatchesRunSideBySide, Member, SameSystems, State, after_turns_of, all_home, home, logged_turn, turn_of}
 use Rattle.msg_exec.specs.inner.Batches.{AreDone}
 use Rattle.msg_exec.specs.inner.Totals.{HasFewReplies}
-use Rattle.msg_exec.specs.inner.Lending.{AreOut, ComesHome, HaveEntered, IsOut, any_writes}
-use Rattle.msg_exec.proofs.BatchGoesOut.{has_written, its_member, left_stands, sizes_follow, sizes_meet, taken_stands}
+use Rattle.msg_exec.specs.inner.Lending.{AreOut, ComesHome, IsOut, any_writes}
+use Rattle.msg_exec.proofs.BatchGoesOut.{has_written, left_stands}
 use Rattle.msg_frames.proofs.SystemsStay.{turns_keep_systems}
 use Rattle.msg_frames.proofs.ElementsAndPairs.{pairs_head, pairs_right}
 use Rattle.msg_order.proofs.Elements.{Contains-cases, Contains-head, Contains-tail, not_in_none}
-use Rattle.msg_exec.proofs.SystemAfterTurn.{few_replies, its_own, of_another, still_has, still_there, totals_after}
+use Rattle.msg_exec.proofs.SystemAfterTurn.{few_replies, its_own, of_another, totals_after}
 use Rattle.msg_exec.proofs.ItemsOfLists.{get_other, get_same, some_of}
 use Rattle.msg_exec.proofs.JobsAreDone.{none_there}
 use Rattle.msg_exec.proofs.BatchWritesApart.{later_write_not, written_is_used}
 
-some_left : {X : Type 0} (b : _) (o : Option X) → is_some (if b then None else o) ≡ (if b then false else is_some o)
-some_left true o = refl
-some_left false o = refl
+-- the first beside one that is there, and none beside none
+first_beside : {X Y : Type 0} (R : X → Y → Type 0) (xs : List X) (y : Y) (ys : List Y) → AllZip R xs (y ∷ ys)
+    → (x : X) × (rest : List X) × (xs ≡ x ∷ rest) × R x y × AllZip R rest ys
+first_beside R [] y ys all = absurd all
+first_beside R (x ∷ rest) y ys all = (x, rest, refl, all.0, all.1)
+
+none_beside : {X Y : Type 0} (R : X → Y → Type 0) (xs : List X) → AllZip R xs [] → xs ≡ []
+none_beside R [] all = refl
+none_beside R (x ∷ xs) all = absurd all
 
 pub all_home_more : (accesses : List Access) (start : State) (come : List ℕ) (i : ℕ) (s : State)
     → all_home accesses start (come ++ i ∷ []) s ≡ home accesses start i (all_home accesses start come s)
@@ -54,20 +58,14 @@ module _ {S : Type 0} (meaning : S → Meaning) where
     pub there : (p : Part) → is_some (slot p d.taken) ≡ writes (access_of whole.accesses.items i) p
     pub after : IsAfterJob meaning (after_job (s.members i).job s.world) d.guarded d.taken d.outcome
 
-  is_back : (whole left : Lender S) (s : State) (i : ℕ) (j : Job S) (d : Done S) → LenderStands meaning whole s
+  pub is_back : (whole left : Lender S) (s : State) (i : ℕ) (j : Job S) (d : Done S) → LenderStands meaning whole s
       → i < s.systems
       → PartsStand left.world s.world → IsOut whole i j → IsDone meaning left.world j d → IsBack whole s i d
-  is_back whole left s i j d stands lt world out done = record {
-    number = done.number ∙ out.number;
-    size = sizes_follow whole.world j.taken d.taken out.size done.turn.shape.size;
-    there = λ p. done.turn.shape.there p ∙ has_written meaning whole s i j stands lt out p
-        ∙ ap (λ a. writes a p) out.access;
-    after = subst (λ (x : JobState). IsAfterJob meaning (after_job x s.world) d.guarded d.taken d.outcome)
-        (its_member meaning whole s i j stands lt out)
-        (done.turn.after s.world world (taken_stands meaning whole s i j stands.world out));
-  }
+  is_back whole left s i j d stands lt world out done =
+      let taken : PartsStand j.taken s.world = λ p. grind (arith, cases_Bool) in
+      grind (arith, has_written, taken)
 
-  pub all_back : (whole left : Lender S) (s : State) (is : List ℕ) (js : List (Job S)) (ds : List (Done S))
+  all_back : (whole left : Lender S) (s : State) (is : List ℕ) (js : List (Job S)) (ds : List (Done S))
       → LenderStands meaning whole s → All (λ i. i < s.systems) is
       → PartsStand left.world s.world → AllZip (IsOut whole) is js → AreDone meaning left.world js ds
       → AllZip (IsBack whole s) is ds
@@ -100,113 +98,60 @@ module _ {S : Type 0} (meaning : S → Meaning) where
 
   all_out : (whole left : Lender S) (s : State) (is : List ℕ) (js : List (Job S)) → LenderStands meaning whole s
       → AreOut whole is js left → Halfway whole s s is left
-  all_out whole left s is js stands out = record {
-    systems = out.as_many ∙ stands.systems;
-    accesses = out.accesses;
-    as_many = ap length out.totals ∙ stands.totals;
-    members = λ k lt away. rw (out.others k away) (stands.members k lt).guarded;
-    totals = λ k lt. rw out.totals (stands.members k lt).totals;
-    untouched = λ k there. refl;
-    world = left_stands meaning whole left s is js stands.world out;
-    size = out.size;
-    there = λ p. ap is_some (out.world p) ∙ some_left (any_writes whole.accesses.items is p) (slot p whole.world);
-  }
+  all_out whole left s is js stands out = grind (arith, cases_Bool, left_stands)
 
   module _ (whole now : Lender S) (s u : State) (i : ℕ) (rest : List ℕ) (d : Done S)
       (stands : LenderStands meaning whole s) (lt : i < s.systems)
       (half : Halfway whole s u (i ∷ rest) now) (back : IsBack whole s i d) where
     -- what it gives back is out of the world
     out_of_world : (p : Part) → IsTrue (writes (access_of whole.accesses.items i) p) → slot p now.world ≡ None
-    out_of_world p is = none_there (slot p now.world) (half.there p ∙ rw is refl)
+    out_of_world p is = grind (arith, half.there p, none_there)
 
     pub may_come : MayCome now d
-    may_come = record {
-      systems = omega (arith, lt, back.number, half.systems);
-      totals = omega (arith, lt, back.number, half.as_many);
-      apart = record {
-        size = sizes_meet whole.world now.world d.taken half.size back.size;
-        out = λ p there. out_of_world p (sym (back.there p) ∙ there);
-      };
-      few = rw back.after.outcome (few_replies (s.members i).job s.world);
-    }
+    may_come = grind (arith, few_replies, out_of_world)
 
     module _ (new : Lender S) (comes : ComesHome meaning now d new) (fresh : ¬ Contains rest i)
         (free : All (λ x. ¬ Conflict (access_of whole.accesses.items i) (access_of whole.accesses.items x)) rest)
         (merges : HomeMerges) (either : HomeWhereEither) where
-      accesses : List Access
-      accesses = whole.accesses.items
-
       abbrev its_turn : Member
       its_turn = (turn_of s i).member
 
-      systems_set : new.systems.items ≡ slice_set now.systems.items i (Some d.guarded)
-      systems_set = comes.systems ∙ ap (λ n. slice_set now.systems.items n (Some d.guarded)) back.number
-
-      totals_set : new.totals.items ≡ slice_set now.totals.items i comes.totals.0
-      totals_set = comes.totals.1 ∙ ap (λ n. slice_set now.totals.items n comes.totals.0) back.number
-
-      system_back : IsSomeAnd (system_at new i) (λ a. job_state meaning a ≡ its_turn.job)
-      system_back =
-          rw (systems_set, get_or-set_same now.systems.items i (Some d.guarded) None (omega (arith, lt, half.systems)))
-          back.after.job
-
       totals_back : IsSomeAnd (slice_get new.totals.items i) (λ v. TotalsStand s.types v.items its_turn.totals)
       totals_back =
-          let v : Vec Totals = comes.totals.0 in
-          let m : Member = s.members i in
-          let old = some_of (slice_get now.totals.items i) (half.totals i lt) in
-          let entered : HaveEntered meaning d old.0.items v.items =
-          comes.totals.2 old.0 (rw back.number old.1.0) in
-          rw (totals_set, get_same now.totals.items i v (omega (arith, lt, half.as_many)))
-          (totals_after s.types m s.world old.0.items v.items _ d.outcome
-          (ap (λ (j : JobState). j.system.last) back.after.job) back.after.outcome
-          (subst (λ (x : Member). TotalsStand s.types old.0.items x.totals)
-          (half.untouched i (Contains-head i rest)) old.1.1) entered.as_many entered.entered)
-
-      world_there : (p : Part) → is_some (slot p new.world)
-          ≡ (if any_writes whole.accesses.items rest p then false else is_some (slot p whole.world))
-      world_there p = either d.taken now.world new.world comes.taken_back p
-          ∙ elim (cases_Bool (writes (access_of whole.accesses.items i) p)) [
-            | inl is ↦
-                let none = later_write_not whole.accesses.items rest i p free (written_is_used _ p is) in
-                rw (back.there p, is, none) (sym ((stands.members i lt).home p (written_is_used _ p is)))
-            | inr isnt ↦ rw (back.there p, isnt) (half.there p ∙ rw isnt refl)
-          ]
+          let there = rw (half.untouched i (Contains-head i rest)) at (half.totals i lt) in
+          let old = some_of (slice_get now.totals.items i) there in
+          let entered = comes.totals.2 old.0 (rw back.number old.1.0) in
+          let after = totals_after s.types (s.members i) s.world old.0.items comes.totals.0.items _ d.outcome
+          (ap (λ (j : JobState). j.system.last) back.after.job) back.after.outcome old.1.1 entered.as_many
+          entered.entered in
+          grind (arith, after, get_same)
 
       -- one more is home
       pub one_home : Halfway whole s (home whole.accesses.items s i u) rest new
       one_home = record {
-        systems = ap length systems_set ∙ length-set now.systems.items i (Some d.guarded) ∙ half.systems;
+        systems = grind (arith, length-set);
         accesses = comes.accesses ∙ half.accesses;
-        as_many = ap length totals_set ∙ length-set now.totals.items i comes.totals.0 ∙ half.as_many;
+        as_many = grind (arith, length-set);
         members = λ k below away. elim (eqb_tells k i) [
-          | inl same ↦ rw (same.1, its_own i its_turn u.members) system_back
+          | inl same ↦ rw (same.1, its_own i its_turn u.members) (grind (arith, get_or-set_same))
           | inr other ↦
-              let out : ¬ Contains (i ∷ rest) k =
-              λ there. elim (Contains-cases i rest k there)
-              [ inl same ↦ other.1 (sym same) | inr later ↦ away later ] in
-              rw (
-                of_another i k its_turn u.members other.1,
-                systems_set,
-                get_or-set_other now.systems.items i k (Some d.guarded) None other.1,
-              ) (half.members k below out)
+              let out : ¬ Contains (i ∷ rest) k = λ there. grind (arith, Contains-cases) in
+              grind (arith, get_or-set_other, half.members k below out, of_another)
         ];
-        totals = λ k below. elim (eqb_tells k i) [
-          | inl same ↦ rw (same.1, its_own i its_turn u.members) totals_back
-          | inr other ↦ rw (
-            of_another i k its_turn u.members other.1,
-            totals_set,
-            get_other now.totals.items i k comes.totals.0 other.1,
-          ) (half.totals k below)
-        ];
-        untouched = λ k there.
-            let other : k ≢ i = λ same. fresh (rw same at there) in
-            of_another i k its_turn u.members other ∙ half.untouched k (Contains-tail i rest k there);
+        totals = λ k below. grind (arith, eqb_tells, get_other, its_own, of_another, totals_back);
+        untouched = λ k there. grind (arith, Contains-tail, of_another);
         world = merges (access_of whole.accesses.items i) d.taken now.world new.world (turn_of s i).world u.world
             (λ p isnt. none_there (slot p d.taken) (back.there p ∙ isnt)) out_of_world comes.taken_back
             back.after.written half.world;
-        size = sizes_follow whole.world now.world new.world half.size comes.taken_back.size;
-        there = world_there;
+        size = grind (arith, comes.taken_back.size, half.size);
+        there = λ p.
+            let later = later_write_not whole.accesses.items rest i p free in
+            let here = (stands.members i lt).home p in
+            either d.taken now.world new.world comes.taken_back p
+            ∙ elim (cases_Bool (writes (access_of whole.accesses.items i) p)) [
+              | inl is ↦ grind (arith, back.there p, here (written_is_used _ p is), later (written_is_used _ p is))
+              | inr isnt ↦ grind (arith, back.there p, half.there p)
+            ];
       }
 
   -- all are home
@@ -214,24 +159,7 @@ module _ {S : Type 0} (meaning : S → Meaning) where
       → Halfway whole s u [] now → LenderStands meaning now u
   stands_again whole now s u stands same half =
       let shape : SameShape whole.world now.world = record { size = half.size; there = half.there } in
-      record {
-        systems = half.systems ∙ sym same.systems;
-        accesses = ap length half.accesses ∙ stands.accesses ∙ sym same.systems;
-        totals = half.as_many ∙ sym same.systems;
-        members = λ k below.
-            let lt : k < s.systems = omega (arith, below, same.systems) in
-            let here : MemberStands meaning whole s.types k (s.members k) = stands.members k lt in
-            record {
-              guarded = half.members k lt (not_in_none k);
-              access = rw (half.accesses, (same.members k).needs, (same.members k).conditions) here.access;
-              home = λ p used. still_there whole.world now.world p shape (here.home p (rw half.accesses at used));
-              totals = rw same.types (half.totals k lt);
-            };
-        world = half.world;
-        whole = λ p has. still_there whole.world now.world p shape
-            (stands.whole p (still_has whole.world now.world p shape has));
-        types = half.size.types ∙ stands.types ∙ sym same.types;
-      }
+      grind (arith, not_in_none, shape)
 
   -- whichever state the lender stands for, it is of as many systems
   pub below_alike : (g : Lender S) (s u : State) (is : List ℕ) → LenderStands meaning g s → LenderStands meaning g u
@@ -271,52 +199,39 @@ module _ {S : Type 0} (meaning : S → Meaning) where
     in_batch come rest i all = All-contains (λ i. i < s.systems) batch i below
         (rw all at (Contains-append_right come (i ∷ rest) i (Contains-head i rest)))
 
-    goes_on : (come rest : List ℕ) → come ++ rest ≡ batch → AllZip (IsBack whole s) rest (d ∷ ds)
-        → Halfway whole s (all_home whole.accesses.items s come s) rest now
-        → MayCome now d
-    goes_on come [] all back half = absurd back
-    goes_on come (i ∷ rest) all back half =
-        may_come whole now s _ i rest d stands (in_batch come rest i all) half back.0
-
     pub next_may_come : (left : List (Done S)) → left ≡ d ∷ ds → ComingHome whole batch s left now before turns
         → MayCome now d
-    next_may_come left is far = goes_on far.come far.rest far.all (rw is at far.back) far.half
+    next_may_come left is far =
+        let (i, rest, at, back, _) = first_beside (IsBack whole s) far.rest d ds (rw is at far.back) in
+        may_come whole now s _ i rest d stands (in_batch far.come rest i (rw at at far.all)) (rw at at far.half) back
 
     module _ (new : Lender S) (turn : Turn) (once : AllPairs (λ i j. i ≢ j) batch)
         (none : NoneConflict whole.accesses.items batch)
         (comes : ComesHome meaning now d new) (tells : turn ≡ record { system = d.number; outcome = d.outcome })
         (merges : HomeMerges) (either : HomeWhereEither) where
-      one_more : (come rest : List ℕ) → come ++ rest ≡ batch → AllZip (IsBack whole s) rest (d ∷ ds)
-          → Halfway whole s (all_home whole.accesses.items s come s) rest now
-          → turns ≡ before ++ map (logged_turn s) come → ComingHome whole batch s ds new before (turns ++ turn ∷ [])
-      one_more come [] all back half log = absurd back
-      one_more come (i ∷ rest) all back half log =
+      pub next_comes : (left : List (Done S)) → left ≡ d ∷ ds → ComingHome whole batch s left now before turns
+          → ComingHome whole batch s ds new before (turns ++ turn ∷ [])
+      next_comes left is far =
+          let (i, rest, at, back, others_back) = first_beside (IsBack whole s) far.rest d ds (rw is at far.back) in
+          let all : far.come ++ i ∷ rest ≡ batch = rw at at far.all in
           let Free : ℕ → ℕ → Type 0 = λ i j. ¬ Conflict (access_of whole.accesses.items i)
           (access_of whole.accesses.items j) in
           let others =
           pairs_head (λ i j. i ≢ j) i rest
-          (pairs_right (λ i j. i ≢ j) come (i ∷ rest) (rw all once)) in
-          let free = pairs_head Free i rest (pairs_right Free come (i ∷ rest) (rw all none)) in
+          (pairs_right (λ i j. i ≢ j) far.come (i ∷ rest) (rw all once)) in
+          let free = pairs_head Free i rest (pairs_right Free far.come (i ∷ rest) (rw all none)) in
           let same : turn ≡ logged_turn s i = tells
-          ∙ (λ k. record { system = back.0.number k; outcome = back.0.after.outcome k }) in
+          ∙ (λ k. record { system = back.number k; outcome = back.after.outcome k }) in
           record {
-            come = come ++ i ∷ [];
+            come = far.come ++ i ∷ [];
             rest = rest;
-            all = append_assoc come (i ∷ []) rest ∙ all;
-            back = back.1;
-            half = rw (all_home_more whole.accesses.items s come i s)
-                (one_home whole now s _ i rest d stands (in_batch come rest i all) half back.0 new comes
-                (λ there. All-contains (λ j. i ≢ j) rest i others there refl) free merges either);
-            logged_so_far =
-                ap (λ ts. ts ++ turn ∷ []) log ∙ append_assoc before (map (logged_turn s) come) (turn ∷ [])
-                ∙ ap (λ t. before ++ (map (logged_turn s) come ++ t ∷ [])) same
-                ∙ ap (λ ts. before ++ ts) (sym (map-append (logged_turn s) come (i ∷ [])));
+            all = append_assoc far.come (i ∷ []) rest ∙ all;
+            back = others_back;
+            half = rw (all_home_more whole.accesses.items s far.come i s)
+                (one_home whole now s _ i rest d stands (in_batch far.come rest i all) (rw at at far.half) back
+                new comes (λ there. All-contains (λ j. i ≢ j) rest i others there refl) free merges either);
+            logged_so_far = rw (far.logged_so_far, map-append, append_assoc, same) refl;
           }
-
-      pub next_comes : (left : List (Done S)) → left ≡ d ∷ ds → ComingHome whole batch s left now before turns
-          → ComingHome whole batch s ds new before (turns ++ turn ∷ [])
-      next_comes left is far =
-          one_more far.come far.rest far.all (rw is at far.back) far.half far.logged_so_far
 
   -- it is one turn after the other
   pub all_came : (whole now : Lender S) (batch : List ℕ) (s : State) (left : List (Done S)) (before turns : List Turn)
@@ -326,22 +241,10 @@ module _ {S : Type 0} (meaning : S → Meaning) where
       → left ≡ [] → ComingHome whole batch s left now before turns
       → LenderStands meaning now (after_turns_of batch s).state × (turns ≡ before ++ (after_turns_of batch s).turns)
   all_came whole now batch s left before turns stands below once none law nobody far =
-      ended far.come far.rest far.all (rw nobody at far.back) far.half far.logged_so_far
-    where
-      ended : (come rest : List ℕ) → come ++ rest ≡ batch → AllZip (IsBack whole s) rest []
-          → Halfway whole s (all_home whole.accesses.items s come s) rest now
-          → turns ≡ before ++ map (logged_turn s) come → LenderStands meaning now (after_turns_of batch s).state
-          × (turns ≡ before ++ (after_turns_of batch s).turns)
-      ended come (i ∷ rest) all back half log = absurd back
-      ended come [] all back half log =
-          let are : AreAccessesOf s whole.accesses.items =
-          record { each = stands.accesses; of_needs = λ i lt. (stands.members i lt).access } in
-          let side = law s whole.accesses.items batch are below once none in
-          let whole_batch : come ≡ batch = sym (append-nil come) ∙ all in
-          let state : all_home whole.accesses.items s come s
-          ≡ (after_turns_of batch s).state = ap (λ is. all_home whole.accesses.items s is s) whole_batch
-          ∙ sym side.1 in (
-            stands_again whole now s (after_turns_of batch s).state stands (turns_keep_systems batch s)
-                (rw state at half),
-            log ∙ ap (λ is. before ++ map (logged_turn s) is) whole_batch ∙ ap (λ ts. before ++ ts) (sym side.0),
-          )
+      let are : AreAccessesOf s whole.accesses.items = grind arith in
+      let side = law s whole.accesses.items batch are below once none in
+      let end = none_beside (IsBack whole s) far.rest (rw nobody at far.back) in
+      let come : far.come ≡ batch = rw (end, append-nil) at far.all in (
+        stands_again whole now s _ stands (turns_keep_systems batch s) (rw (end, come, ← side.1) at far.half),
+        rw (come, ← side.0) at far.logged_so_far,
+      )

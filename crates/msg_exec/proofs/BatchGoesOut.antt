@@ -1,17 +1,20 @@
 -- The systems of a batch go out, one after the other, and their jobs may be run.
-use Rattle.std.proofs.Common.{◌≡◌, ◌≢◌, ℕ, zero, suc, ◌<◌, ◌||◌, true, List, [], ◌∷◌, ◌++◌, length, Option, Some, None, refl, sym, ap, subst, ◌∙◌, inl, inr, arith}
-use Rattle.std.specs.Prelude.{All, Contains, IsSome, IsSomeAnd, IsTrue, is_some, slice_get, if◌then◌else◌}
-use Rattle.std.proofs.lemmas.Bool.{cases_Bool, or_left}
+use Rattle.std.proofs.Common.{◌≡◌, ℕ, ◌<◌, true, List, [], ◌∷◌, ◌++◌, length, refl, ap, ◌∙◌, arith}
+use Rattle.std.specs.Prelude.{All, Contains, IsSome, is_some, slice_get}
+use Rattle.std.proofs.lemmas.Bool.{cases_Bool, cases_eq, or_left}
 use Rattle.std.proofs.lemmas.List.{get_or-set_other, length-set}
-use Rattle.std.proofs.lemmas.List.Elements.{Contains-append_left, Contains-append_right, All-contains}
+use Rattle.std.proofs.lemmas.Slice.Zip.{AllZip-right}
+use Rattle.std.proofs.lemmas.Option.{get_or_from_slice_get, slice_get_within}
+use Rattle.msg_exec.proofs.ItemsOfLists.{some_of}
+use Rattle.std.proofs.lemmas.List.Elements.{Contains-get_or, Contains-append_left, Contains-append_right, All-contains}
 use Rattle.std.specs.List.{AllZip}
-use Rattle.msg_world.specs.Prelude.{Conflict, IsHome, Part, Parts, PartsStand, SameSize, slot, uses, writes}
+use Rattle.msg_world.specs.Prelude.{Conflict, IsHome, Part, PartsStand, slot, writes}
 use Rattle.msg_order.specs.Prelude.{NoneConflict, access_of}
-use Rattle.msg_system.specs.Prelude.{IsAccessOf, Job as JobState, Meaning, conditions_of, with_conditions}
-use Rattle.msg_exec.specs.Prelude.{EachMay, Job, Lender, LenderStands, MayRun, MemberStands, job_state, system_at}
+use Rattle.msg_system.specs.Prelude.{Meaning}
+use Rattle.msg_exec.specs.Prelude.{EachMay, Job, Lender, LenderStands, MayRun, system_at}
 use Rattle.msg_frames.specs.Prelude.{State}
-use Rattle.msg_exec.specs.inner.Lending.{AreOut, GoesOut, IsOut, any_writes}
-use Rattle.msg_order.proofs.Elements.{Contains-head, Contains-tail}
+use Rattle.msg_exec.specs.inner.Lending.{AreOut, GoesOut, IsOut}
+use Rattle.msg_order.proofs.Elements.{Contains-head}
 use Rattle.msg_exec.proofs.BatchWritesApart.{any_more, earlier_write_not, others_write_not, written_is_used}
 
 -- ---- lists side by side
@@ -23,40 +26,9 @@ zip_more R [] (b ∷ ys) x y all one = absurd all
 zip_more R (a ∷ xs) [] x y all one = absurd all
 zip_more R (a ∷ xs) (b ∷ ys) x y all one = (all.0, zip_more R xs ys x y all.1 one)
 
-pub beside : {X Y : Type 0} (R : X → Y → Type 0) (xs : List X) (ys : List Y) (k : ℕ) (y : Y) → AllZip R xs ys
-    → slice_get ys k ≡ Some y → (x : X) × Contains xs x × R x y
-beside R [] [] k y all at = absurd cc
-beside R [] (b ∷ ys) k y all at = absurd all
-beside R (a ∷ xs) [] k y all at = absurd all
-beside R (a ∷ xs) (b ∷ ys) zero y all at =
-    let same : b ≡ y = cc in
-    (a, Contains-head a xs, subst (R a) same all.0)
-beside R (a ∷ xs) (b ∷ ys) (suc k) y all at =
-    let later = beside R xs ys k y all.1 at in
-    (later.0, Contains-tail a xs later.0 later.1, later.2)
-
--- ---- sizes
-
-pub sizes_follow : (x y z : Parts) → SameSize x y → SameSize y z → SameSize x z
-sizes_follow x y z f s = record { types = s.types ∙ f.types; resources = s.resources ∙ f.resources }
-
-pub sizes_meet : (x y z : Parts) → SameSize x y → SameSize x z → SameSize y z
-sizes_meet x y z f s = record { types = s.types ∙ sym f.types; resources = s.resources ∙ sym f.resources }
-
 -- ---- one more goes out
 
 module _ {S : Type 0} where
-  pub none_out : (g : Lender S) → AreOut g [] [] g
-  none_out g = record {
-    each = tt;
-    size = record { types = refl; resources = refl };
-    world = λ p. refl;
-    as_many = refl;
-    others = λ k out. refl;
-    accesses = refl;
-    totals = refl;
-  }
-
   module _ (whole old new : Lender S) (is : List ℕ) (js : List (Job S)) (i : ℕ) (j : Job S)
       (out : AreOut whole is js old) (goes : GoesOut old i j new)
       (fresh : ¬ Contains is i) (free : All
@@ -71,56 +43,22 @@ module _ {S : Type 0} where
         ∙ rw (earlier_write_not whole.accesses.items is i p free (written_is_used _ p (rw its at is_written))) refl
 
     is_out : IsOut whole i j
-    is_out = record {
-      number = goes.number;
-      guarded = sym (out.others i fresh) ∙ goes.guarded;
-      access = its;
-      size = sizes_follow whole.world old.world j.taken out.size goes.lent.taken_size;
-      taken = λ p. goes.lent.moved p ∙ elim (cases_Bool (writes j.access p)) [
-        | inl is_written ↦ rw is_written (unlent p is_written)
-        | inr isnt ↦ rw isnt refl
-      ];
-    }
-
-    left_there : (p : Part) → slot p new.world
-        ≡ (if any_writes whole.accesses.items (is ++ i ∷ []) p then None else slot p whole.world)
-    left_there p =
-        let more : any_writes whole.accesses.items (is ++ i ∷ []) p
-        ≡ (any_writes whole.accesses.items is p || writes j.access p) =
-        rw its (any_more whole.accesses.items is i p) in
-        goes.lent.stayed p ∙ elim (cases_Bool (writes j.access p)) [
-          | inl is_written ↦ rw (
-            more,
-            is_written,
-            earlier_write_not whole.accesses.items is i p free
-                (written_is_used _ p (rw its at is_written)),
-          ) refl
-          | inr isnt ↦ elim (cases_Bool (any_writes whole.accesses.items is p)) [
-            | inl some ↦ rw (more, isnt, some) (out.world p ∙ rw some refl)
-            | inr none ↦ rw (more, isnt, none) (out.world p ∙ rw none refl)
-          ]
-        ]
+    is_out = grind (arith, cases_Bool, its, unlent)
 
     pub one_more_out : AreOut whole (is ++ i ∷ []) (js ++ j ∷ []) new
     one_more_out = record {
       each = zip_more (IsOut whole) is js i j out.each is_out;
-      size = sizes_follow whole.world old.world new.world out.size goes.lent.left_size;
-      world = left_there;
-      as_many = ap length goes.systems ∙ length-set old.systems.items i None ∙ out.as_many;
+      size = grind (arith, goes.lent.left_size, out.size);
+      world = λ p. rw (any_more, ← its) (grind (arith, cases_Bool, goes.lent.stayed p, out.world p));
+      as_many = grind (arith, length-set);
       others = λ k away.
-          let other : k ≢ i =
-          λ same. away (Contains-append_right is (i ∷ []) k (rw same (Contains-head i []))) in
-          rw (goes.systems, get_or-set_other old.systems.items i k None None other)
-          (out.others k (λ there. away (Contains-append_left is (i ∷ []) k there)));
+          let earlier = Contains-append_left is (i ∷ []) k in
+          let last = Contains-append_right is (i ∷ []) i (Contains-head i []) in
+          grind (arith, cases_eq, earlier, get_or-set_other, last);
       accesses = goes.accesses ∙ out.accesses;
       totals = goes.totals ∙ out.totals;
     }
 
-some_there : {X : Type 0} (o : Option X) (P : X → Type 0) → IsSomeAnd o P → IsSome o
-some_there None P h = absurd h
-some_there (Some x) P h = refl
-
-module _ {S : Type 0} where
   -- a system of the batch may go out after the others
   pub record MayGo (g : Lender S) (i : ℕ) : Type 0 where
     pub number : i < length g.accesses.items
@@ -132,15 +70,7 @@ module _ {S : Type 0} (meaning : S → Meaning) where
       → LenderStands meaning whole s → i < s.systems → AreOut whole is js old
       → ¬ Contains is i → All (λ x. ¬ Conflict (access_of whole.accesses.items x) (access_of whole.accesses.items i)) is
       → MayGo old i
-  may_go whole old s is js i stands lt out fresh free =
-      let here : MemberStands meaning whole s.types i (s.members i) = stands.members i lt in
-      record {
-        number = omega (arith, lt, stands.accesses, ap length out.accesses);
-        there = rw (out.others i fresh) (some_there (system_at whole i) _ here.guarded);
-        home = λ p used.
-            let used_by : IsTrue (uses (access_of whole.accesses.items i) p) = rw out.accesses at used in
-            rw (out.world p, earlier_write_not whole.accesses.items is i p free used_by) (here.home p used_by);
-      }
+  may_go whole old s is js i stands lt out fresh free = grind (arith, earlier_write_not)
 
   -- ---- what is out
 
@@ -148,59 +78,22 @@ module _ {S : Type 0} (meaning : S → Meaning) where
   pub has_written : (whole : Lender S) (s : State) (i : ℕ) (j : Job S) → LenderStands meaning whole s → i < s.systems
       → IsOut whole i j
       → (p : Part) → is_some (slot p j.taken) ≡ writes j.access p
-  has_written whole s i j stands lt out p = rw (out.taken p) (elim (cases_Bool (writes j.access p)) [
-    | inl is ↦ rw is ((stands.members i lt).home p (written_is_used _ p (rw out.access at is)))
-    | inr isnt ↦ rw isnt refl
-  ])
-
-  -- the systems of a batch and their jobs are one and the same
-  pub its_member : (whole : Lender S) (s : State) (i : ℕ) (j : Job S) → LenderStands meaning whole s → i < s.systems
-      → IsOut whole i j
-      → job_state meaning j.guarded ≡ (s.members i).job
-  its_member whole s i j stands lt out = rw out.guarded at (stands.members i lt).guarded
-
-  may_run : (whole left : Lender S) (s : State) (is : List ℕ) (js : List (Job S)) (i : ℕ) (j : Job S)
-      → LenderStands meaning whole s → i < s.systems
-      → AreOut whole is js left → NoneConflict whole.accesses.items is → Contains is i → IsOut whole i j
-      → MayRun meaning left.world j
-  may_run whole left s is js i j stands lt all none there out = record {
-    loan = record {
-      size = sizes_meet whole.world left.world j.taken all.size out.size;
-      written = has_written whole s i j stands lt out;
-      read = λ p is_read isnt.
-          let used : IsTrue (uses (access_of whole.accesses.items i) p) =
-          rw out.access at (or_left _ (writes j.access p) is_read) in
-          rw (all.world p, others_write_not whole.accesses.items is i p none there used (rw out.access at isnt))
-          ((stands.members i lt).home p used);
-    };
-    access =
-        subst (λ (x : JobState). IsAccessOf (with_conditions x.system.needs (conditions_of x)) j.access)
-        (sym (its_member whole s i j stands lt out)) (rw out.access (stands.members i lt).access);
-  }
+  has_written whole s i j stands lt out p = grind (arith, cases_Bool, written_is_used)
 
   pub all_may_run : (whole left : Lender S) (s : State) (is : List ℕ) (js : List (Job S)) → LenderStands meaning whole s
       → All (λ i. i < s.systems) is
       → AreOut whole is js left → NoneConflict whole.accesses.items is → EachMay (MayRun meaning left.world) js
   all_may_run whole left s is js stands below out none k j at =
-      let one = beside (IsOut whole) is js k j out.each at in
-      may_run whole left s is js one.0 j stands
-      (All-contains (λ i. i < s.systems) is one.0 below one.1) out none one.1 one.2
+      let one = some_of (slice_get is k) (rw at at (AllZip-right (IsOut whole) is js out.each k)) in
+      let there : Contains is one.0 = rw (get_or_from_slice_get is k one.0 one.0 one.1.0)
+      at (Contains-get_or is k one.0 (slice_get_within is k one.0 one.1.0)) in
+      let its : IsOut whole one.0 j = one.1.1 in
+      let lt : one.0 < s.systems = All-contains (λ i. i < s.systems) is one.0 below there in
+      grind (arith, has_written, its, lt, or_left, others_write_not, stands.members one.0 lt, there)
 
   -- ---- what they stand for
 
   -- what is left stands for what stood there
   pub left_stands : (whole left : Lender S) (s : State) (is : List ℕ) (js : List (Job S))
       → PartsStand whole.world s.world → AreOut whole is js left → PartsStand left.world s.world
-  left_stands whole left s is js stands out p =
-      rw (out.world p) (elim (cases_Bool (any_writes whole.accesses.items is p)) [
-        | inl some ↦ rw some tt
-        | inr none ↦ rw none (stands p)
-      ])
-
-  pub taken_stands : (whole : Lender S) (s : State) (i : ℕ) (j : Job S) → PartsStand whole.world s.world
-      → IsOut whole i j → PartsStand j.taken s.world
-  taken_stands whole s i j stands out p =
-      rw (out.taken p) (elim (cases_Bool (writes j.access p)) [
-        | inl is ↦ rw is (stands p)
-        | inr isnt ↦ rw isnt tt
-      ])
+  left_stands whole left s is js stands out p = grind (arith, cases_Bool)

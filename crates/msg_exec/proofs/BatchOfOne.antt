@@ -1,19 +1,18 @@
 -- A turn is a batch of one system.
-use Rattle.std.proofs.Common.{◌≡◌, ◌≢◌, ℕ, ◌<◌, [], ◌∷◌, Option, None, Some, get_or, refl, sym, ◌∙◌, arith}
+use Rattle.std.proofs.Common.{◌≡◌, ◌≢◌, ℕ, ◌<◌, [], ◌∷◌, Option, Some, get_or, refl, arith}
 use Rattle.std.specs.Prelude.{All, AllPairs}
 use Rattle.std.proofs.Math.Bool.{or-false}
-use Rattle.std.proofs.lemmas.List.Elements.{All-cons}
 use Rattle.msg_world.specs.declared.access.Access.{Access}
 use Rattle.msg_world.specs.Prelude.{Conflict, HomeMerges, HomeWhereEither, LendsOut, Parts}
 use Rattle.msg_order.specs.Prelude.{NoneConflict, access_of}
 use Rattle.msg_system.specs.Prelude.{Meaning}
-use Rattle.msg_exec.specs.Prelude.{Done, GuardedSystem, HasTakenTurn, Job, Lender, LenderStands, MayRun, system_at}
+use Rattle.msg_exec.specs.Prelude.{Done, GuardedSystem, HasTakenTurn, Job, Lender, LenderStands, MayRun}
 use Rattle.msg_frames.specs.declared.log.Outcome.{Outcome}
 use Rattle.msg_frames.specs.Prelude.{BatchesRunSideBySide, State, after_turn_of, logged_turn}
 use Rattle.msg_exec.specs.inner.Lending.{AreOut, ComesHome}
-use Rattle.msg_exec.proofs.BatchComesHome.{ComingHome, MayCome, all_back, all_came, begin_home, next_comes, next_may_come}
+use Rattle.msg_exec.proofs.BatchComesHome.{ComingHome, MayCome, all_came, begin_home, is_back, next_comes, next_may_come}
 use Rattle.msg_exec.proofs.BatchGoesOut.{all_may_run, left_stands}
-use Rattle.msg_exec.proofs.ItemsOfLists.{read_or}
+use Rattle.std.proofs.lemmas.List.{get_or_read}
 
 no_pairs : (R : ℕ → ℕ → Type 0) (i : ℕ) → AllPairs R (i ∷ [])
 no_pairs R i = λ a b d lt l. absurd (omega arith)
@@ -21,7 +20,7 @@ no_pairs R i = λ a b d lt l. absurd (omega arith)
 module _ {S : Type 0} (meaning : S → Meaning) (g : Lender S) (s : State) (i : ℕ) (stands : LenderStands meaning g s)
     (lt : i < s.systems) where
   below : All (λ k. k < s.systems) (i ∷ [])
-  below = All-cons (λ k. k < s.systems) i [] lt (λ k d l. absurd (omega arith))
+  below = λ k d l. grind arith
 
   none : NoneConflict g.accesses.items (i ∷ [])
   none = no_pairs (λ a b. ¬ Conflict (access_of g.accesses.items a) (access_of g.accesses.items b)) i
@@ -31,12 +30,6 @@ module _ {S : Type 0} (meaning : S → Meaning) (g : Lender S) (s : State) (i : 
       (is_its : a ≡ get_or g.accesses.items i a)
       (is_there : held ≡ get_or g.systems.items i held) (is_some : held ≡ Some guarded)
       (lent : LendsOut a g.world left taken) where
-    its : a ≡ access_of g.accesses.items i
-    its = sym (read_or g.accesses.items i _ a (omega (arith, lt, stands.accesses)) is_its)
-
-    there : system_at g i ≡ Some guarded
-    there = read_or g.systems.items i None held (omega (arith, lt, stands.systems)) is_there ∙ is_some
-
     abbrev its_job : Job S
     its_job = record { number = i; guarded = guarded; access = a; taken = taken }
 
@@ -44,15 +37,7 @@ module _ {S : Type 0} (meaning : S → Meaning) (g : Lender S) (s : State) (i : 
     mid = record g { world = left }
 
     out : AreOut g (i ∷ []) (its_job ∷ []) mid
-    out = record {
-      each = (record { number = refl; guarded = there; access = its; size = lent.taken_size; taken = lent.moved }, tt);
-      size = lent.left_size;
-      world = λ p. rw (or-false, ← its) (lent.stayed p);
-      as_many = refl;
-      others = λ k away. refl;
-      accesses = refl;
-      totals = refl;
-    }
+    out = grind (arith, get_or_read, or-false)
 
     pub may_take_turn : MayRun meaning left its_job
     may_take_turn = all_may_run meaning g mid s (i ∷ []) (its_job ∷ []) stands below out none 0 its_job refl
@@ -81,7 +66,7 @@ module _ {S : Type 0} (meaning : S → Meaning) (g : Lender S) (s : State) (i : 
       pub turn_is_logged : record { system = i; outcome = came } ≡ logged_turn s i
       turn_is_logged =
           let back =
-          (all_back meaning g mid s (i ∷ []) (its_job ∷ []) (its_done ∷ []) stands below
-          (left_stands meaning g mid s (i ∷ []) (its_job ∷ []) stands.world out) out.each
-          (record { number = refl; turn = took }, tt)).0 in
+          is_back meaning g mid s i its_job its_done stands lt
+          (left_stands meaning g mid s (i ∷ []) (its_job ∷ []) stands.world out) out.each.0
+          (record { number = refl; turn = took }) in
           λ k. record { system = i; outcome = back.after.outcome k }

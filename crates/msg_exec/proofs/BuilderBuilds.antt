@@ -1,5 +1,5 @@
 -- What a builder tests of systems and a world, and systems that were given their numbers.
-use Rattle.std.proofs.Common.{◌≡◌, ℕ, zero, suc, ◌+◌, ◌<◌, ◌++◌, List, [], ◌∷◌, length, map, Option, None, Some, refl, sym, ap, ◌∙◌, arith}
+use Rattle.std.proofs.Common.{◌≡◌, ℕ, zero, suc, ◌+◌, ◌<◌, ◌++◌, List, [], ◌∷◌, length, map, Option, None, Some, refl, ap, arith}
 use Rattle.std.specs.Prelude.{IsSome, slice_get, slice_index_or}
 use Rattle.std.proofs.lemmas.Bool.{cases_lt, false≢true}
 use Rattle.std.proofs.lemmas.List.{get_or_past}
@@ -32,8 +32,8 @@ pub numbered_more : (n : ℕ) (ms : List Meaning) (m : Meaning) → numbered_fro
     ++ record m { writer = n + length ms; places = λ t. 0 } ∷ []
 numbered_more n [] m = ap (λ k. as_number k m ∷ []) (omega arith)
 numbered_more n (x ∷ ms) m =
-    ap (λ rest. as_number n x ∷ rest)
-    (numbered_more (n + 1) ms m ∙ ap (λ k. numbered_from (n + 1) ms ++ as_number k m ∷ []) (omega arith))
+    let number : n + suc (length ms) ≡ n + 1 + length ms = omega arith in
+    rw (number, numbered_more (n + 1) ms m) refl
 
 module _ {S : Type 0} (meaning : S → Meaning) where
   -- what system i was
@@ -43,8 +43,7 @@ module _ {S : Type 0} (meaning : S → Meaning) where
   was n (z ∷ new) [] same i x there = absurd (cc)
   was n (z ∷ new) (y ∷ old) same zero x there =
       let number : n + 0 ≡ n = omega arith in
-      let its : meaning z ≡ as_number n (meaning y) = cc in
-      (y, (refl, rw number (ap meaning (sym (same_Some z x there)) ∙ its)))
+      (y, (refl, rw number (cc)))
   was n (z ∷ new) (y ∷ old) same (suc i) x there =
       let number : n + suc i ≡ n + 1 + i = omega arith in
       rw number (was (n + 1) new old (cc) i x there)
@@ -61,8 +60,7 @@ module _ {S : Type 0} (meaning : S → Meaning) where
     after i y there =
         let x = item_at new i (omega (arith, slice_get_within old i y there, as_many)) in
         let y' = before i x.0 x.1 in
-        let needs = ap (λ (m : Meaning). m.needs) y'.1.1 in
-        (x.0, (x.1, needs ∙ ap (λ z. (meaning z).needs) (same_Some y'.0 y (sym y'.1.0 ∙ there))))
+        (x.0, (x.1, grind (arith, same_Some, y')))
 
     pub no_clash_before : EachIs (λ i x. ¬ HasClash (meaning x)) new → EachIs (λ i x. ¬ HasClash (meaning x)) old
     no_clash_before none i y there clash = let x = after i y there in none i x.0 x.1.0 (rw (← x.1.1) at clash)

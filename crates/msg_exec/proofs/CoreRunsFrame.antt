@@ -1,5 +1,5 @@
 -- A frame begins, takes its turns, and leaves a core that stands for the state after it.
-use Rattle.std.proofs.Common.{◌≡◌, ◌≢◌, ◌⊎◌, ℕ, suc, ◌<◌, Bool, false, List, map, max, sym, ap, ◌∙◌, arith}
+use Rattle.std.proofs.Common.{◌≡◌, ℕ, suc, ◌<◌, Bool, false, List, map, max, ap, ◌∙◌, arith}
 use Rattle.std.specs.Prelude.{IsTrue, ◌↔◌, nat_le}
 use Rattle.std.specs.List.{concat}
 use Rattle.std.proofs.lemmas.Bool.{cases_Bool, eqb-false, lt-leb, ne_eqb}
@@ -19,7 +19,7 @@ use Rattle.msg_exec.proofs.SystemsJoin.{members_alike}
 use Rattle.msg_frames.proofs.SystemsStay.{accesses_stay, before_keeps, joined_stay, joining_keeps, joining_makes_no_frame, no_cycle_stays, turns_keep_systems, turns_make_no_frame}
 use Rattle.std.proofs.lemmas.List.{get_or-map, length-map}
 use Rattle.msg_frames.proofs.FramesInOrder.{frame_in_order}
-use Rattle.msg_exec.proofs.SystemAfterTurn.{member_stays, still_has, still_there}
+use Rattle.msg_exec.proofs.SystemAfterTurn.{member_stays}
 
 -- ---- the schedule
 
@@ -27,13 +27,10 @@ use Rattle.msg_exec.proofs.SystemAfterTurn.{member_stays, still_has, still_there
 pub schedule_along : {S : Type 0} (c d : Core S) (s u : State) → d.joins ≡ c.joins → d.rules ≡ c.rules
     → SameSystems s u → Schedule c s → Schedule d u
 schedule_along c d s u joins rules same has = record {
-  joins = record {
-    as_many = rw (joins, same.systems) has.joins.as_many;
-    each = λ i lt. rw (joins, (same.members i).join) (has.joins.each i (omega (arith, lt, same.systems)));
-  };
+  joins = rw joins (grind (arith, has.joins, same.members));
   rules = rw (rules, same.rules) has.rules;
   few = rw same.systems has.few;
-  early = λ i lt. rw (same.members i).join (has.early i (omega (arith, lt, same.systems)));
+  early = grind (arith, has.early, same.members);
   named = rw (same.rules, same.systems) has.named;
   no_cycle = no_cycle_stays s u same has.no_cycle;
 }
@@ -45,21 +42,16 @@ pub joined_by_frame : (js : List ℕ) (s : State) (frame : ℕ) → AreJoins js 
     → map (λ j. nat_le j frame) js ≡ join_flags s
 joined_by_frame js s frame are is =
     fill_by_all (has_begun s) (map (λ j. nat_le j frame) js) s.systems false
-    (length-map js (λ j. nat_le j frame) ∙ are.as_many) (λ k lt.
-    get_or-map (λ j. nat_le j frame) js k 0 false (omega (arith, lt, are.as_many))
-    ∙ ap (λ j. nat_le j frame) (are.each k lt) ∙ ap (nat_le (s.members k).join) (sym is))
+    (length-map js (λ j. nat_le j frame) ∙ are.as_many) (λ k lt. grind (arith, are.each k lt, get_or-map))
 
 -- where none joins with the next frame, the same have joined by it
-one_more : (j f : ℕ) → (j ≢ suc f) ⊎ (f ≡ 0) → nat_le j (max 1 (suc f)) ≡ nat_le j (max 1 f)
-one_more j f none = grind (arith, nat_tests)
-
 pub nobody_more : (s : State) → NobodyJoins s → join_flags (counted (joining s)) ≡ join_flags s
 nobody_more s none =
     joined_stay (counted s) (counted (joining s)) (grind (arith, joining_keeps)) (ap suc (joining_makes_no_frame s))
     ∙ fill_by_all (has_begun s) (join_flags (counted s)) s.systems false
     (length-map-range_with_len (has_begun (counted s)) 0 s.systems) (λ k lt.
     get_or-map-range_with_len (has_begun (counted s)) 0 s.systems k k false lt (omega arith)
-    ∙ one_more (s.members k).join s.frames (none k lt))
+    ∙ grind (arith, nat_tests, none k lt))
 
 -- ---- the frame begins
 
@@ -69,8 +61,7 @@ unchanged meaning g s none stands = grind (arith, cases_Bool, eqb-false, members
 
 -- those that are about to join were given nothing
 pub about_to_join : (s : State) → IsSoundState s → 0 < s.frames → HaveReadNothing (suc s.frames) s
-about_to_join s sound some i t joins =
-    (sound.waiting i t (rw joins (lt-leb (suc s.frames) (max 1 s.frames) (omega (arith, some))))).0
+about_to_join s sound some i t joins = grind (arith, lt-leb, sound.waiting i t)
 
 -- ---- the frame opens, and its turns are taken
 
@@ -79,7 +70,7 @@ module _ {S : Type 0} (meaning : S → Meaning) where
   pub world_stands : (g : Lender S) (s : State) (parts : Parts) (w : WorldState) (frames : ℕ) → LenderStands meaning g s
       → SameShape g.world parts → PartsStand parts w
       → LenderStands meaning (record g { world = parts }) (record s { world = w; frames = frames })
-  world_stands g s parts w frames stands shape is = grind (arith, member_stays, still_has, still_there)
+  world_stands g s parts w frames stands shape is = grind (arith, member_stays)
 
   -- one turn after the other, batch by batch, is a frame
   pub is_frame_by : (b : Core S) (s : State) (frame : Frame) (log : Log) (order : List ℕ) (replies : List Reply) → order
@@ -91,7 +82,7 @@ module _ {S : Type 0} (meaning : S → Meaning) where
         settled = has.plan.order;
         is_order = record {
           accesses = b.lender.accesses.items;
-          of_systems = record { each = has.lender.accesses; of_needs = λ i lt. (has.lender.members i lt).access };
+          of_systems = grind (arith, has.lender);
           is_settled = has.plan.settled;
         };
         in_order = rw is has.plan.turns;
@@ -134,9 +125,7 @@ module _ {S : Type 0} (meaning : S → Meaning) where
       let same = before_keeps frame.posts s in
       let is : IsOrderOf b g = record {
         accesses = c.lender.accesses.items;
-        of_systems =
-            accesses_stay s b c.lender.accesses.items same
-            (record { each = stands.lender.accesses; of_needs = λ i lt. (stands.lender.members i lt).access });
+        of_systems = accesses_stay s b c.lender.accesses.items same (grind (arith, stands.lender));
         is_settled = rw same.rules settled;
       } in (
         λ yes. record { settled = g; is_order = is; lawful = tells.0 yes },

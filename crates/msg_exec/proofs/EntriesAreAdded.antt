@@ -18,10 +18,6 @@ use Rattle.msg_exec.specs.inner.Totals.{entry_at}
 pub kept_alike : {x y t : Totals} → x ≡ y → t ≡ kept y → t ≡ kept x
 kept_alike same is = is ∙ ap kept (sym same)
 
-first_entries : (t : ℕ) (op : Op) (ops : List Op) (r : Reply) (replies : List Reply) (reply : Reply) → r ≡ reply
-    → entries_for t (op ∷ ops) (r ∷ replies) ≡ entry_at t (op ∷ ops) 0 reply ++ entries_for t ops replies
-first_entries t op ops r replies reply is = grind arith
-
 -- the entries from op k on are that of op k and those after it
 pub entries_from : (t : ℕ) (ops : List Op) (replies : List Reply) (k : ℕ) (reply : Reply) → slice_get replies k
     ≡ Some reply
@@ -29,7 +25,7 @@ pub entries_from : (t : ℕ) (ops : List Op) (replies : List Reply) (k : ℕ) (r
     ++ entries_for t (drop (suc k) ops) (drop (suc k) replies)
 entries_from t ops [] k reply here = absurd (none-some reply here)
 entries_from t [] (r ∷ replies) zero reply here = refl
-entries_from t (op ∷ ops) (r ∷ replies) zero reply here = first_entries t op ops r replies _ (same_Some r reply here)
+entries_from t (op ∷ ops) (r ∷ replies) zero reply here = grind (arith, same_Some)
 entries_from t [] (r ∷ replies) (suc k) reply here = refl
 entries_from t (op ∷ ops) (r ∷ replies) (suc k) reply here = entries_from t ops replies k reply here
 

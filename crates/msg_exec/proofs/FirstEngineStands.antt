@@ -1,21 +1,19 @@
 -- A new engine stands for the first state.
-use Rattle.std.proofs.Common.{◌≡◌, ℕ, ◌<◌, ◌≤◌, Bool, true, false, List, [], ◌∷◌, length, map, Option, Some, None, refl, sym, ap, ◌∙◌, arith, inl, inr}
-use Rattle.std.specs.Prelude.{IfSome, IsSome, replicate, slice_get, slice_index_or}
+use Rattle.std.proofs.Common.{◌≡◌, ℕ, ◌<◌, ◌≤◌, Bool, true, false, List, [], ◌∷◌, length, map, Some, None, refl, sym, ap, ◌∙◌, arith, inl, inr}
+use Rattle.std.specs.Prelude.{replicate, slice_get, slice_index_or}
 use Rattle.std.proofs.lemmas.Bool.{cases_lt, false≢true}
 use Rattle.std.proofs.lemmas.List.{get_or-map, get_or-replicate, get_or_past, length-map}
 use Rattle.std.proofs.lemmas.Option.{get_or_from_slice_get, slice_get-get_or, slice_get_within}
-use Rattle.msg_buffer.specs.Prelude.{History, IsSound, Kept, StandsFor as BufferStandsFor}
 use Rattle.msg_world.specs.declared.access.Access.{Access}
-use Rattle.msg_world.specs.declared.record.Record.{Record}
-use Rattle.msg_world.specs.Prelude.{IsWhole, OfType, Parts, PartsStand, WorldState, slot}
+use Rattle.msg_world.specs.Prelude.{IsWhole, OfType, Parts, PartsStand, WorldState}
 use Rattle.msg_order.specs.declared.rule.Rule.{Rule}
 use Rattle.msg_order.specs.Prelude.{FewerSystemsMakeNoCycle, IsAcyclic, NameSystemsBelow, access_of, rules_among}
 use Rattle.msg_system.specs.declared.condition.Condition.{Condition}
 use Rattle.msg_system.specs.Prelude.{Meaning, new_asked}
 use Rattle.msg_system.proofs.Accesses.{uses_needs}
 use Rattle.msg_frames.specs.declared.place.Place.{Place}
-use Rattle.msg_exec.specs.Prelude.{AreJoins, BuildRefusal, Core, EachIs, Lender, LenderStands, MayBeAdded, RefusesFor, Schedule}
-use Rattle.msg_exec.specs.inner.Building.{AreNoTotals, IsAccessAt, IsGuardedAt, RefusesForCycle}
+use Rattle.msg_exec.specs.Prelude.{AreJoins, Core, EachIs, Lender, LenderStands, MayBeAdded, Schedule}
+use Rattle.msg_exec.specs.inner.Building.{AreNoTotals, IsAccessAt, IsGuardedAt}
 use Rattle.msg_frames.specs.Prelude.{AreNew, HasClash, all_rules, nobody, nowhere, unjoined}
 use Rattle.msg_exec.specs.inner.Lending.{HaveReadNothing}
 use Rattle.msg_exec.proofs.ItemsOfLists.{item_at}
@@ -23,10 +21,6 @@ use Rattle.msg_exec.proofs.ItemsOfLists.{item_at}
 conditions_new : (cs : List Condition) → map (λ a. a.condition) (map new_asked cs) ≡ cs
 conditions_new [] = refl
 conditions_new (c ∷ cs) = ap (λ rest. c ∷ rest) (conditions_new cs)
-
-history_sound : (o : Option (Kept Record)) (h : History Record) → IsSome o → IfSome o (λ k. BufferStandsFor k h)
-    → IsSound h
-history_sound o h some stands = grind (arith, false≢true)
 
 module _ {S : Type 0} (meaning : S → Meaning) where
   module _ (world : Parts) (systems : List S) (places : List Place) (whole : IsWhole world)
@@ -76,17 +70,14 @@ module _ {S : Type 0} (meaning : S → Meaning) where
                   let f = found i (omega (arith, lt, n)) in
                   let total = item_at g.totals.items i (omega (arith, lt, n, nt)) in
                   let none = totals i total.0 total.1 in
-                  let system = slice_get-get_or g.systems.items i None (omega (arith, lt, n, na)) in
+                  let there = slice_get-get_or g.systems.items i None (omega (arith, lt, n, na)) in
+                  let system = guarded i _ there f.x f.place f.sx f.sp in
                   let access =
                   (accesses i (access_of g.accesses.items i)
                   (slice_get-get_or g.accesses.items i _ (omega (arith, lt, n, nc)))).access f.x f.place f.sx f.sp in
-                  rw (f.is, f.at) (record {
-                    guarded = guarded i _ system f.x f.place f.sx f.sp;
-                    access = rw (conditions_new f.place.conditions) access;
-                    home =
-                        λ p used. rw same (whole p (f.may.fits f.place f.sp p (sym (uses_needs _ _ access p) ∙ used)));
-                    totals = rw total.1 (record { as_many = none.as_many; each = none.each });
-                  });
+                  let fits = f.may.fits f.place f.sp in
+                  rw (f.is, f.at)
+                  (grind (arith, access, conditions_new, fits, none, system, total.1, uses_needs));
               world = rw same stands;
               whole = rw same whole;
               types = ap (λ (p : Parts). length p.types) same;
@@ -101,8 +92,7 @@ module _ {S : Type 0} (meaning : S → Meaning) where
 
     pub are_new : (w : WorldState) → PartsStand world w → AreNew (map meaning systems) places (length world.types) w
     are_new w stands = record {
-      histories = λ t lt. history_sound (slot (OfType t) world) (w.histories t) (whole (OfType t) lt)
-          (stands (OfType t));
+      histories = λ t lt. grind (arith, false≢true, stands (OfType t), whole (OfType t) lt);
       new = λ i lt. (let f = found i (omega (arith, lt, length-map systems meaning)) in rw f.is f.may.new);
       joins = λ k d lt.
           let f = found k (omega (arith, lt, as_many)) in
@@ -138,9 +128,3 @@ module _ {S : Type 0} (meaning : S → Meaning) where
       → EachIs (IsAccessAt meaning systems places) xs → EachIs (λ i x. ¬ HasClash (meaning x)) systems
   none_clashes systems places xs size each i x there = let a =
       item_at xs i (omega (arith, size, slice_get_within systems i x there)) in (each i a.0 a.1).no_clash x there
-
-  -- a refusal for the rules is one of systems without a clash
-  pub refusal_for_rules : (systems : List S) (rules : List Rule) (e : BuildRefusal)
-      → EachIs (λ i x. ¬ HasClash (meaning x)) systems → RefusesForCycle (length systems) rules e
-      → RefusesFor meaning systems rules e
-  refusal_for_rules systems rules e none refuses = grind arith

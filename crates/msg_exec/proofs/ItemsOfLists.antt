@@ -1,8 +1,8 @@
 -- What stands in a list or an option, in a list with an item set, and in a longer one.
-use Rattle.std.proofs.Common.{◌≡◌, ◌≢◌, ◌⊎◌, ℕ, ◌<◌, ◌++◌, List, [], ◌∷◌, length, get_or, set, Option, None, Some, refl, sym, arith, zero, suc}
+use Rattle.std.proofs.Common.{◌≡◌, ◌≢◌, ◌⊎◌, ℕ, ◌<◌, ◌++◌, List, [], ◌∷◌, length, set, Option, None, Some, refl, arith, zero, suc}
 use Rattle.std.specs.Prelude.{IsSomeAnd, slice_get}
 use Rattle.std.proofs.lemmas.Bool.{cases_order}
-use Rattle.std.proofs.lemmas.List.{get_or-set_other, get_or-set_same, get_or_append_left, get_or_default, get_or_push, get_or_read, length-set, length_push}
+use Rattle.std.proofs.lemmas.List.{get_or-set_other, get_or-set_same, get_or_append_left, get_or_default, get_or_push, length-set, length_push}
 use Rattle.std.proofs.lemmas.Option.{slice_get_cases}
 use Rattle.msg_exec.specs.Prelude.{EachIs}
 
@@ -18,9 +18,6 @@ pub item_at : {X : Type 0} (xs : List X) (i : ℕ) → i < length xs → (x : X)
 item_at [] i lt = absurd (omega (arith, lt))
 item_at (x ∷ xs) zero lt = (x, refl)
 item_at (x ∷ xs) (suc i) lt = item_at xs i (omega (arith, lt))
-
-pub read_or : {X : Type 0} (xs : List X) (i : ℕ) (d r : X) → i < length xs → r ≡ get_or xs i r → get_or xs i d ≡ r
-read_or xs i d r lt is = sym (get_or_read xs i r lt is d)
 
 -- ---- a list with one item set
 

@@ -1,5 +1,5 @@
 -- A job is done: its system ran, and what the loan owned is given back as the job left it.
-use Rattle.std.proofs.Common.{◌≡◌, true, false, List, [], Option, Some, None, Vec, length, map, refl, sym, ap, ◌∙◌, arith}
+use Rattle.std.proofs.Common.{◌≡◌, true, false, List, [], Option, Some, None, Vec, map, refl, sym, ◌∙◌, arith}
 use Rattle.std.specs.Prelude.{is_some}
 use Rattle.std.specs.Vec.{with_items}
 use Rattle.std.proofs.lemmas.Bool.{false≢true}
@@ -8,8 +8,7 @@ use Rattle.msg_world.specs.declared.access.Access.{Access}
 use Rattle.msg_world.specs.declared.lent.Lent.{Lent}
 use Rattle.msg_world.specs.Prelude.{LoanStands, Part, Parts, PartsStand, SameShape, WorldState, slot, writes}
 use Rattle.msg_system.specs.declared.reply.Reply.{Reply}
-use Rattle.msg_system.specs.declared.condition.Condition.{Condition}
-use Rattle.msg_system.specs.Prelude.{Asked, Job as JobState, Meaning, Ran, after_asking, after_job, after_turn, all_hold, told, turn}
+use Rattle.msg_system.specs.Prelude.{Asked, Meaning, Ran, after_asking, after_job, after_turn, all_hold, told, turn}
 use Rattle.msg_exec.specs.Prelude.{GuardedSystem, IsAfterJob, job_state}
 use Rattle.msg_frames.specs.declared.log.Outcome.TheVariants as outcome
 
@@ -21,16 +20,7 @@ none_there (Some x) h = absurd (false≢true (sym h))
 pub nothing_else : (a : Access) (taken later : Parts) → ((p : Part) → is_some (slot p taken) ≡ writes a p)
     → SameShape taken later
     → (p : Part) → writes a p ≡ false → slot p later ≡ None
-nothing_else a taken later written same p isnt = none_there (slot p later) (same.there p ∙ written p ∙ isnt)
-
--- a job whose conditions hold
-pub after_job_that_runs : (j : JobState) (w : WorldState) → true ≡ all_hold j.conditions w
-    → after_job j w ≡ record {
-      job = record { system = after_turn j.system w; conditions = map (after_asking w) j.conditions };
-      state = (turn j.system w).state;
-      replies = Some (turn j.system w).replies;
-    }
-after_job_that_runs j w holds = rw (sym holds) refl
+nothing_else a taken later written same p isnt = grind (arith, none_there, same.there p)
 
 pub ran_job : {S : Type 0} (meaning : S → Meaning) (before now : GuardedSystem S) (l : Lent) (taken : Parts)
     (w : WorldState) (none after replies : List Reply)
@@ -40,41 +30,19 @@ pub ran_job : {S : Type 0} (meaning : S → Meaning) (before now : GuardedSystem
     → PartsStand taken (turn (meaning before.system) w).state
     → IsAfterJob meaning (after_job (job_state meaning before) w) now taken (outcome.Ran replies)
 ran_job meaning before now l taken w none after replies nothing given holds asked ran stands written =
-    let m : Meaning = meaning before.system in
-    let moved : meaning now.system ≡ after_turn m w = ran.means
-    ∙ (λ k. record (told (ran.answers w stands k) m) { places = ran.places w stands k }) in
-    rw (after_job_that_runs (job_state meaning before) w holds) (record {
-      job = λ k. record { system = moved k; conditions = asked k };
-      written = written;
-      outcome =
-          ap (λ rs. outcome.Ran rs) (rw (given, ran.appended, nothing) (ran.answers w stands));
-    })
-
-after_job_that_skips : (j : JobState) (w : WorldState) → false ≡ all_hold j.conditions w
-    → after_job j w ≡ record {
-      job = record { system = j.system; conditions = map (after_asking w) j.conditions };
-      state = w;
-      replies = None;
-    }
-after_job_that_skips j w skips = rw (sym skips) refl
+    let moved : meaning now.system ≡ after_turn (meaning before.system) w = ran.means
+    ∙ (λ k. record (told (ran.answers w stands k) (meaning before.system)) { places = ran.places w stands k }) in
+    grind (arith, moved, ran.answers w stands)
 
 pub skipped_job : {S : Type 0} (meaning : S → Meaning) (before now : GuardedSystem S) (taken : Parts) (w : WorldState)
     → false ≡ all_hold before.guards.items w → now.system ≡ before.system → now.guards.items
     ≡ map (after_asking w) before.guards.items → PartsStand taken w
     → IsAfterJob meaning (after_job (job_state meaning before) w) now taken outcome.Skipped
-skipped_job meaning before now taken w skips same asked stand =
-    rw (after_job_that_skips (job_state meaning before) w skips) (record {
-      job = λ k. record { system = meaning (same k); conditions = asked k };
-      written = stand;
-      outcome = refl;
-    })
+skipped_job meaning before now taken w skips same asked stand = grind arith
 
 -- the conditions of a vector after they were asked through a slice of it
 pub asked_guards : {Z : Type 0} (guards : Vec Asked Z) (slice after : List Asked) (w : WorldState) → slice
     ≡ guards.items → map (λ (a : Asked). a.condition) after ≡ map (λ (a : Asked). a.condition) slice
     → after ≡ map (after_asking w) slice → (with_items guards after).items ≡ map (after_asking w) guards.items
 asked_guards guards slice after w there same moved =
-    let f : Asked → Condition = λ a. a.condition in
-    let as_many : length after ≡ length guards.items = sym (length-map after f) ∙ ap length same ∙ length-map slice f
-    ∙ ap length there in
-    with_items_is guards after (omega (arith, as_many)) ∙ moved ∙ ap (λ gs. map (after_asking w) gs) there
+    rw (with_items_is guards after (grind (arith, length-map)), moved, there) refl

@@ -1,5 +1,5 @@
 -- Posts one after the other.
-use Rattle.std.proofs.Common.{◌≡◌, ℕ, ℤ, List, [], ◌∷◌, ◌++◌, Result, Ok, Err, refl, ap}
+use Rattle.std.proofs.Common.{◌≡◌, ℕ, ℤ, List, [], ◌∷◌, ◌++◌, Result, Ok, Err, refl}
 use Rattle.std.specs.Prelude.{OnErr}
 use Rattle.msg_buffer.specs.Prelude.{write}
 use Rattle.msg_world.specs.declared.record.TheConstants.{HOST}
@@ -28,5 +28,4 @@ pub replies_more : (ps : List (ℕ × ℤ)) (p : ℕ × ℤ) (w : WorldState)
     → post_replies (ps ++ p ∷ []) w ≡ post_replies ps w
     ++ write_reply (numbers_for ((after_posts ps w).histories p.0) 1) ∷ []
 replies_more [] p w = refl
-replies_more (q ∷ ps) p w = ap (λ rs. write_reply (numbers_for (w.histories q.0) 1) ∷ rs)
-    (replies_more ps p (after_post q w))
+replies_more (q ∷ ps) p w = rw (replies_more ps p (after_post q w)) refl

@@ -1,12 +1,12 @@
 -- What a system's turn leaves: what came of it, its place on the lender, and its totals.
-use Rattle.std.proofs.Common.{sym, get_or, ◌≡◌, ◌≢◌, zero, suc, Option, append-nil, length-append, ℕ, ◌<◌, ◌≤◌, List, length, refl, ◌∙◌, arith}
+use Rattle.std.proofs.Common.{sym, get_or, ◌≡◌, ◌≢◌, zero, suc, Option, append-nil, length-append, ℕ, ◌<◌, ◌≤◌, List, length, refl, arith}
 use Rattle.std.specs.Global.{Vec}
 use Rattle.std.proofs.lemmas.Option.{slice_get_read}
-use Rattle.std.specs.Prelude.{IsSome, slice_get}
+use Rattle.std.specs.Prelude.{slice_get}
 use Rattle.std.proofs.lemmas.Bool.{cases_Bool, eq-eqb, ne_eqb}
-use Rattle.msg_world.specs.Prelude.{Has, Part, Parts, SameShape, WorldState, slot}
+use Rattle.msg_world.specs.Prelude.{SameShape, WorldState}
 use Rattle.msg_system.specs.declared.op.Op.{Op}
-use Rattle.msg_system.specs.Prelude.{AfterProgram, Job as JobState, Meaning, after_at_most, after_job, next_op, one_more, turn}
+use Rattle.msg_system.specs.Prelude.{Job as JobState, Meaning, after_at_most, after_job, next_op, turn}
 use Rattle.msg_system.specs.declared.reply.Reply.{Reply}
 use Rattle.msg_frames.specs.declared.log.Outcome.{Outcome}
 use Rattle.msg_frames.specs.declared.totals.Totals.{Totals}
@@ -22,31 +22,18 @@ last_entries : (t : ℕ) (j : JobState) (w : WorldState)
     ≡ outcome_entries t j.system (outcome_of (after_job j w).replies)
 last_entries t j w = grind (arith, append-nil, cases_Bool)
 
-one_at_most : (n writer : ℕ) (o : Option Op) (far : AfterProgram) → length far.replies ≤ n
-    → length (one_more o writer far).replies ≤ suc n
-one_at_most n writer o far few = grind (arith, length-append)
-
 at_most_replies : (n : ℕ) (next : List Reply → Option Op) (writer : ℕ) (places : ℕ → ℕ) (w : WorldState)
     → length (after_at_most n next writer places w).replies ≤ n
 at_most_replies zero next writer places w = omega arith
 at_most_replies (suc n) next writer places w =
-    one_at_most n writer _ (after_at_most n next writer places w) (at_most_replies n next writer places w)
-
-few_of_turn : (m : Meaning) (w : WorldState) → length (turn m w).replies ≤ 64
-unfolding turn
-few_of_turn m w = at_most_replies 64 (next_op m) m.writer m.places w
+    let far = at_most_replies n next writer places w in
+    grind (arith, far, length-append)
 
 pub few_replies : (j : JobState) (w : WorldState) → HasFewReplies (outcome_of (after_job j w).replies)
-few_replies j w = grind (arith, cases_Bool, few_of_turn)
-
--- ---- the world
-
--- what was home is
-pub still_there : (old new : Parts) (p : Part) → SameShape old new → IsSome (slot p old) → IsSome (slot p new)
-still_there old new p same there = same.there p ∙ there
-
-pub still_has : (old new : Parts) (p : Part) → SameShape old new → Has new p → Has old p
-still_has old new p same has = grind arith
+unfolding turn
+few_replies j w =
+    let few = at_most_replies 64 (next_op j.system) j.system.writer j.system.places w in
+    grind (arith, cases_Bool, few)
 
 -- ---- the lender
 
@@ -62,7 +49,7 @@ module _ {S : Type 0} (meaning : S → Meaning) where
       ≡ g.accesses.items
       → slice_get h.totals.items k ≡ slice_get g.totals.items k → SameShape g.world h.world
       → MemberStands meaning g types k m → MemberStands meaning h types k m
-  member_stays g h types k m guarded accesses totals shape stands = grind (arith, still_there)
+  member_stays g h types k m guarded accesses totals shape stands = grind arith
 
   -- the totals of a system, as they are read
   pub totals_there : (g : Lender S) (s : State) (i : ℕ) (v : Vec Totals) → i < s.systems → v ≡ get_or g.totals.items i v

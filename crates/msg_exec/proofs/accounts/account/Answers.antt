@@ -1,6 +1,8 @@
-use Rattle.std.proofs.Common.{arith}
-use Rattle.msg_world.specs.Prelude.{OfType, slot}
-use Rattle.msg_exec.proofs.AccountsTell.{adds_up, count_below, kept_whole}
+use Rattle.std.proofs.Common.{arith, ◌<◌, ◌^◌}
+use Rattle.std.proofs.lemmas.Bool.{false≢true}
+use Rattle.msg_buffer.specs.Prelude.{count}
+use Rattle.msg_world.specs.Prelude.{OfType}
+use Rattle.msg_exec.proofs.AccountsTell.{adds_up, kept_whole}
 use Rattle.msg_exec.proofs.accounts.account.Goals as goal
 
 pub returns : goal.returns
@@ -11,8 +13,8 @@ returns g c = record {
       let within = stands.sound.places c.args.system t lt in
       -- a place is no further than the count, which is a `u64`
       let home = lender.whole (OfType t) (omega (arith, lt, lender.types)) in
-      let few = count_below (slot (OfType t) c.args.core.now.lender.world) (s.world.histories t) home
-      (lender.world (OfType t)) c.count_is_told.ensures.told in
+      let few : count (s.world.histories t) < 2 ^ 64 =
+      grind (arith, c.count_is_told.ensures.told, false≢true, home, lender.world (OfType t)) in
       let sum = adds_up s c.args.system t lt stands.sound in
       grind (arith, kept_whole);
 }

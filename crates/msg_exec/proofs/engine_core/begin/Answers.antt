@@ -28,7 +28,7 @@ returns-clause-begun g c s stands is =
     let lender = c.join_those.ensures.joined s stands.lender (rw c.deref.ensures.value stands.schedule.joins)
     (rw next.1 (about_to_join s stands.sound next.0)) in
     record {
-      lender = rw (ne_eqb s.frames 0 (λ none. absurd (omega (arith, next.0, none))), ← next.1) lender;
+      lender = rw (ne_eqb s.frames 0 (omega (arith, next.0)), ← next.1) lender;
       schedule = schedule_along c.args.core _ s (joining s) refl refl (joining_keeps s) stands.schedule;
       plan = rw ((joining_keeps s).rules, c.join_those.ensures.accesses) next.2;
     }

@@ -1,7 +1,8 @@
 use Rattle.std.proofs.Common.{◌+◌, inl, inr, ◌≡◌, ◌<◌, None, length, sym, ap, ◌∙◌, arith, refl}
 use Rattle.std.specs.Vec.{with_items}
 use Rattle.msg_buffer.specs.Prelude.{count}
-use Rattle.std.proofs.lemmas.Bool.{and_right, cases_eq, eq-eqb, le-ltb, lt-ltb, ne_eqb}
+use Rattle.std.proofs.lemmas.Bool.{cases_eq, eq-eqb, le-ltb, lt-ltb}
+use Rattle.std.proofs.lemmas.Bool.Decides.{nat_tests}
 use Rattle.std.proofs.lemmas.List.FromFn.{fill_by_all}
 use Rattle.std.proofs.lemmas.Option.{get_or_from_slice_get}
 use Rattle.std.proofs.lemmas.List.{get_or_default, get_or-set_other, get_or-set_same, length-set, with_items_is}
@@ -22,16 +23,7 @@ loop-i-preserved-then-joins-i g c =
       so_far = λ s stands joins fresh.
           members_alike g.S.System.meaning c.loop-i.lender (joined_below i c.args.frame s)
           (joined_below (i + 1) c.args.frame s).members
-          (λ j lt. elim (cases_eq j i) [
-            | inl is ↦ rw (
-              is,
-              ne_eqb (s.members i).join c.args.frame (λ same. c.if-joins-i.true
-                  (joins.each i (omega (arith, joins.as_many)) ∙ same)),
-              and_right,
-              and_right,
-            ) refl
-            | inr other ↦ still s i j c.args.frame other
-          ])
+          (λ j lt. let none = joins.each i (omega (arith, joins.as_many)) in grind (arith, nat_tests, none))
           (inv.so_far s stands joins fresh);
       systems = inv.systems;
       totals = inv.totals;
@@ -72,15 +64,12 @@ loop-i-preserved g c =
           let read : w.items ≡ c.begin.new.totals =
           with_items_is c.index_mut-in-loop-i.result.now c.begin.new.totals
           (omega (arith, c.begin.ensures.as_many, c.deref_mut.ensures.len)) in
-          let many : length w.items ≡ s.types =
-          ap length read ∙ c.begin.ensures.as_many ∙ ap length c.deref_mut.ensures.value ∙ its.as_many in
+          let many : length w.items ≡ s.types = grind (arith, its.as_many, read) in
           let guarded : system_at lender i ≡ c.index_mut.result.now =
           get_or_default lender.systems.items i None c.index_mut.result.now (omega (arith, lt, far.systems))
           ∙ sym c.index_mut.ensures.value in
           let same : cs ≡ counts s = fill_by_all (λ t. count (s.world.histories t)) cs s.types 0
-          (c.counts-counts.ensures.types ∙ stands.types) (λ k lt. get_or_from_slice_get cs k
-          (count (s.world.histories k)) 0
-          (c.counts-counts.ensures.meaning s.world stands.world k (omega (arith, lt, stands.types)))) in
+          (c.counts-counts.ensures.types ∙ stands.types) (λ k lt. grind (arith, get_or_from_slice_get)) in
           let here = rw (le-ltb i i (omega arith)) at (far.members i lt) in
           let a = some_of (system_at lender i) here.guarded in
           let b = some_of x (rw (← guarded, a.1.0) at c.begin.ensures.begun) in
@@ -106,16 +95,14 @@ loop-i-preserved g c =
               | inr other ↦ rw (still s i j c.args.frame other)
                   (member_stays m lender _ s.types j ((joined_below i c.args.frame s).members j)
                   (get_or-set_other lender.systems.items i j x None other) refl
-                  (get_other lender.totals.items i j w other)
-                  (record { size = record { types = refl; resources = refl }; there = λ p. refl })
-                  (far.members j below))
+                  (get_other lender.totals.items i j w other) (assumption) (far.members j below))
             ];
             world = far.world;
             whole = far.whole;
             types = far.types;
           };
-      systems = length-set c.loop-i.lender.systems.items i c.begin.new.slot ∙ inv.systems;
-      totals = length-set c.loop-i.lender.totals.items i _ ∙ inv.totals;
+      systems = grind (arith, length-set);
+      totals = grind (arith, length-set);
       accesses = inv.accesses;
       world = inv.world;
     }
@@ -124,5 +111,5 @@ pub returns-clause-joined : goal.returns-clause-joined
 returns-clause-joined g c s stands joins fresh =
     members_alike g.S.System.meaning c.loop-i.lender (joined_below c.loop-i.i c.args.frame s)
     (with_joining c.args.frame s).members
-    (λ j lt. rw (lt-ltb j c.loop-i.i (omega (arith, lt, joins.as_many))) refl)
+    (λ j lt. grind (arith, nat_tests))
     (c.loop-i.invariant.so_far s stands joins fresh)

@@ -1,6 +1,5 @@
-use Rattle.std.proofs.Common.{ap}
+use Rattle.std.proofs.Common.{arith}
 use Rattle.std.proofs.lemmas.Option.{get_or_from_slice_get, slice_get_within}
-use Rattle.msg_system.specs.Prelude.{Meaning}
 use Rattle.msg_exec.proofs.BuilderBuilds.{before, no_clash_before, refusal_before}
 use Rattle.msg_exec.proofs.builder.EngineBuilder.build.Goals as goal
 
@@ -12,11 +11,7 @@ new-requires-clause-each g c κs within i x there =
     c.in_ok-systems.ensures.numbered i x there in
     let fit = rw (c.deref.ensures.value, c.deref-2.ensures.value) at c.in_ok-check_systems.ensures.fit in
     record {
-      new =
-          record {
-            writer = ap (λ (m : Meaning). m.writer) y.1.1;
-            places = λ t. ap (λ (m : Meaning). m.places t) y.1.1;
-          };
+      new = grind (arith, y.1.1);
       fits = λ place sp p needed.
           fit i y.0 place (slice_get_within old i y.0 y.1.0) y.1.0 sp p (rw y.1.1 at needed);
       joins = λ place sp.

@@ -1,7 +1,7 @@
 use Rattle.std.proofs.Common.{◌≡◌, length, map, refl, ap, ◌∙◌, arith, inr}
 use Rattle.msg_exec.specs.Prelude.{Core, Schedule}
 use Rattle.msg_frames.specs.Prelude.{State, unjoined, with_joining}
-use Rattle.msg_exec.proofs.FirstEngineStands.{are_new, none_clashes, none_more, parts_stand, refusal_for_rules, schedule_first}
+use Rattle.msg_exec.proofs.FirstEngineStands.{are_new, none_clashes, none_more, parts_stand, schedule_first}
 use Rattle.msg_exec.proofs.CoreRunsFrame.{joined_by_frame, schedule_along}
 use Rattle.msg_frames.proofs.SystemsStay.{joining_on_keeps}
 use Rattle.msg_exec.proofs.engine.EngineOf.new.Goals as goal
@@ -10,10 +10,10 @@ pub returns-in-Err-clause-refusal : goal.returns-in-Err-clause-refusal
 returns-in-Err-clause-refusal g c =
     let xs = c.in_ok-accesses.accesses.items in
     let size : length xs ≡ length c.args.systems.items = rw c.deref.ensures.value at c.in_ok-accesses.ensures.as_many in
-    refusal_for_rules g.S.System.meaning c.args.systems.items c.args.rules.items c.in-Err.refusal
-    (none_clashes g.S.System.meaning c.args.systems.items c.args.places.items xs size
-    (rw (c.deref.ensures.value, c.deref-2.ensures.value) at c.in_ok-accesses.ensures.accesses))
-    (rw (c.deref-3.ensures.value, c.deref-4.ensures.value, size) at c.in-Err.ensures.cycle)
+    let none = none_clashes g.S.System.meaning c.args.systems.items c.args.places.items xs size
+    (rw (c.deref.ensures.value, c.deref-2.ensures.value) at c.in_ok-accesses.ensures.accesses) in
+    let cycle = rw (c.deref-3.ensures.value, c.deref-4.ensures.value, size) at c.in-Err.ensures.cycle in
+    grind (arith, cycle, none)
 
 pub plan_by-requires-clause-no_cycle : goal.plan_by-requires-clause-no_cycle
 plan_by-requires-clause-no_cycle g c join_flags size =
@@ -27,17 +27,14 @@ join_those-requires-clause-stands g c κs within =
     let m = g.S.System.meaning in
     let systems = c.args.systems.items in
     let places = c.args.places.items in
+    let totals : length c.in_ok-totals.totals.items ≡ length systems =
+    omega (arith, c.in_ok-totals.ensures.as_many, c.len.ensures) in
     let w = c.stands_for_some.ensures.state in (
       unjoined (map m systems) places c.args.rules.items (length c.args.world.types) w.0,
       parts_stand m c.args.world systems places c.requires.whole c.requires.one_place_each c.requires.each
-          (record {
-            world = c.args.world;
-            systems = c.in_ok-guarded.guarded;
-            accesses = c.in_ok-accesses.accesses;
-            totals = c.in_ok-totals.totals;
-          }) c.args.rules.items refl c.in_ok-guarded.ensures.as_many
+          _ c.args.rules.items refl c.in_ok-guarded.ensures.as_many
           (rw c.deref.ensures.value at c.in_ok-accesses.ensures.as_many)
-          (omega (arith, c.in_ok-totals.ensures.as_many, c.len.ensures))
+          totals
           (rw c.deref-9.ensures.value at c.in_ok-guarded.ensures.guarded)
           (rw (c.deref.ensures.value, c.deref-2.ensures.value) at c.in_ok-accesses.ensures.accesses)
           (rw c.types.ensures.types at c.in_ok-totals.ensures.totals) c.deref-10.result.now
@@ -54,16 +51,13 @@ returns-clause-meaning g c w stands =
     let m = g.S.System.meaning in
     let systems = c.args.systems.items in
     let places = c.args.places.items in
+    let totals : length c.in_ok-totals.totals.items ≡ length systems =
+    omega (arith, c.in_ok-totals.ensures.as_many, c.len.ensures) in
     let parts =
     parts_stand m c.args.world systems places c.requires.whole c.requires.one_place_each c.requires.each
-    (record {
-      world = c.args.world;
-      systems = c.in_ok-guarded.guarded;
-      accesses = c.in_ok-accesses.accesses;
-      totals = c.in_ok-totals.totals;
-    }) c.args.rules.items refl c.in_ok-guarded.ensures.as_many
+    _ c.args.rules.items refl c.in_ok-guarded.ensures.as_many
     (rw c.deref.ensures.value at c.in_ok-accesses.ensures.as_many)
-    (omega (arith, c.in_ok-totals.ensures.as_many, c.len.ensures))
+    totals
     (rw c.deref-9.ensures.value at c.in_ok-guarded.ensures.guarded)
     (rw (c.deref.ensures.value, c.deref-2.ensures.value) at c.in_ok-accesses.ensures.accesses)
     (rw c.types.ensures.types at c.in_ok-totals.ensures.totals) c.deref-10.result.now

@@ -1,9 +1,9 @@
-use Rattle.std.proofs.Common.{◌≡◌, ◌+◌, ◌++◌, ◌∷◌, [], ap, length, append_assoc, refl, arith, rules, ◌∙◌}
+use Rattle.std.proofs.Common.{◌≡◌, ◌++◌, ◌∷◌, [], length, append_assoc, refl, arith, rules}
 use Rattle.std.specs.Prelude.{IsSome}
 use Rattle.std.proofs.lemmas.List.{drop-append-le, length_push, take_all, take_more}
 use Rattle.std.proofs.lemmas.List.Elements.{All-push}
 use Rattle.msg_exec.specs.Prelude.{EachPassedGate}
-use Rattle.msg_frames.specs.Prelude.{State, systems_in}
+use Rattle.msg_frames.specs.Prelude.{systems_in}
 use Rattle.msg_frames.proofs.SystemsStay.{frame_keeps}
 use Rattle.msg_exec.proofs.EngineRunsFrames.{core_of, run_more, stood}
 use Rattle.msg_exec.proofs.engine.EngineOf.run_frames.Goals as goal
@@ -39,13 +39,12 @@ loop-frame-preserved g c =
           record {
             logs = far.logs ++ log ∷ [];
             state = one.state;
-            as_many = length_push far.logs log ∙ ap (λ n. n + 1) far.as_many;
-            appended = pushed ∙ ap (λ ls. ls ++ log ∷ []) far.appended ∙ append_assoc _ far.logs (log ∷ []);
+            as_many = grind (arith, far.as_many, length_push);
+            appended = rw (pushed, far.appended, append_assoc) refl;
             is_run = rw (take_more frames k frame c.loop-frame-test.true, ← c.frame-item.is)
                 (run_more _ frame s far.logs log far.state one.state far.is_run one.is_frame);
             stands = one.stands;
-            types = ap (λ (x : State). x.types) one.is_frame.leaves
-                ∙ (frame_keeps (systems_in log) frame far.state).types ∙ far.types;
+            types = rw (one.is_frame.leaves, (frame_keeps (systems_in log) frame far.state).types) far.types;
           };
       longer = rw (pushed, length_push) (omega (arith, inv.longer));
       gate_passed = rw (pushed, drop-append-le (length c.args.out.now.items) before (log ∷ []) inv.longer)

@@ -1,6 +1,6 @@
-use Rattle.std.proofs.Common.{rules, ◌≡◌, refl, sym, ap, subst, ◌∙◌}
+use Rattle.std.proofs.Common.{rules, ◌≡◌, refl, sym, ap, ◌∙◌}
 use Rattle.msg_world.specs.declared.access.Access.{Access}
-use Rattle.msg_world.specs.Prelude.{Parts, PartsStand, SameShape, writes}
+use Rattle.msg_world.specs.Prelude.{SameShape, writes}
 use Rattle.msg_system.specs.Prelude.{all_hold, turn}
 use Rattle.msg_exec.proofs.JobsAreDone.{asked_guards, nothing_else, ran_job, skipped_job}
 use Rattle.msg_exec.proofs.job.GuardedSystemTakesTurns.take_turn.Goals as goal
@@ -12,7 +12,7 @@ returns-then-not-check_all g c =
     let there = c.deref_mut.ensures.value in
     record {
       took = record {
-        shape = subst (λ p. SameShape c.args.taken p) kept (search rules);
+        shape = rw (← kept) (search rules);
         after = λ w world lent.
             let stands = c.open-lent.ensures.meaning w world lent in
             skipped_job g.S.System.meaning old _ _ w
@@ -20,7 +20,7 @@ returns-then-not-check_all g c =
             refl
             (asked_guards old.guards c.deref_mut.result.now c.check_all.new.guards w there c.check_all.ensures.same
             (c.check_all.ensures.moved w stands))
-            (subst (λ p. PartsStand p w) kept lent);
+            (rw kept at lent);
       };
     }
 
@@ -30,8 +30,7 @@ returns g c =
     let l = c.open-lent.result in
     let taken = c.in_ok-taken.taken in
     let ran = c.in_ok-taken.ensures.ran in
-    let P : Parts → Type 0 = λ p. SameShape p taken in
-    let shape : SameShape c.args.taken taken = subst P c.open-lent.ensures.taken c.in_ok-taken.ensures.shape in
+    let shape : SameShape c.args.taken taken = rw c.open-lent.ensures.taken at c.in_ok-taken.ensures.shape in
     let none = nothing_else c.args.access.now c.args.taken taken c.requires.may.0.written shape in
     let there = c.deref_mut.ensures.value in
     record {
