@@ -1,11 +1,12 @@
 -- Each worked run is a run as the definitions say: the order of its turns is the settled one. The accesses, the settled
 -- order and the batch numbers are computed.
-use Rattle.std.proofs.Common.{◌≡◌, ℕ, zero, suc, ◌*◌, ◌^◌, ◌%◌, ◌<◌, ◌≤◌, inl, inr, Bool, true, false, cond, ◌&&◌, List, [], ◌∷◌, Option, Some, None, map, refl, ◌∙◌, arith}
+use Rattle.std.proofs.Common.{◌≡◌, ℕ, zero, suc, ◌*◌, ◌^◌, ◌%◌, ◌<◌, ◌≤◌, inl, inr, Bool, true, false, cond, ◌&&◌, All, List, [], ◌∷◌, Option, Some, None, map, refl, ◌∙◌, arith}
 use Rattle.std.specs.Prelude.{nat_lt, bit_or, slice_index_or}
 use Rattle.std.specs.List.{range_with_len, list_all, list_any}
 use Rattle.std.proofs.lemmas.Bool.{cases_Bool, cases_lt, and_parts, false≢true}
 use Rattle.std.proofs.lemmas.List.{get_or_past}
 use Rattle.std.proofs.lemmas.List.FromFn.{get_or-map-range_with_len, length-map-range_with_len}
+use Rattle.std.proofs.lemmas.List.Sums.{AllPass-from_list_all}
 use Rattle.msg_world.specs.declared.access.Access.{Access}
 use Rattle.msg_world.specs.Prelude.{Part, OfType, OfResource, Registry, has_bit, no_access, Fits}
 use Rattle.msg_world.proofs.Bits.{has_bit-zero, has_bit-set}
@@ -178,62 +179,27 @@ row : (x : Setup) (frames : OrderedFrames) → are_in_order x.programs frames (s
     → IsRunOf frames (start_of x)
 row x frames t = grind (arith, is_run, joining_on_keeps, numbered_are)
 
-no_frames_is_a_run : IsRunOf [] (start_of alone)
-unfolding turn
-no_frames_is_a_run = row alone [] refl
+-- the worked runs
+abbrev worked : List (Setup × OrderedFrames)
+worked =
+    (alone, [])
+    ∷ (lag, lag_frames)
+    ∷ (fourth (Read 0 None ∷ []), fourth_frames)
+    ∷ (fourth (Read 0 (Some 0) ∷ Read 0 None ∷ []), fourth_frames)
+    ∷ (writers, writers_frames)
+    ∷ (contrary, contrary_frames)
+    ∷ (echo, echo_frames)
+    ∷ (two_conditions, conditions_frames)
+    ∷ (tally, tally_frames)
+    ∷ (late, late_frames)
+    ∷ (late, early_frames)
+    ∷ (gated, gated_frames)
+    ∷ (signallers, signallers_frames)
+    ∷ (drained, drained_frames)
+    ∷ (relay, relay_frames)
+    ∷ []
 
-one_frames_lag_is_a_run : IsRunOf lag_frames (start_of lag)
+worked_are_runs : All (λ r. IsRunOf r.1 (start_of r.0)) worked
 unfolding turn
-one_frames_lag_is_a_run = row lag lag_frames refl
-
-exactly_two_updates_is_a_run : IsRunOf fourth_frames (start_of (fourth (Read 0 None ∷ [])))
-unfolding turn
-exactly_two_updates_is_a_run = row (fourth (Read 0 None ∷ [])) fourth_frames refl
-
-read_of_none_is_a_run : IsRunOf fourth_frames (start_of (fourth (Read 0 (Some 0) ∷ Read 0 None ∷ [])))
-unfolding turn
-read_of_none_is_a_run = row (fourth (Read 0 (Some 0) ∷ Read 0 None ∷ [])) fourth_frames refl
-
-host_and_two_writers_is_a_run : IsRunOf writers_frames (start_of writers)
-unfolding turn
-host_and_two_writers_is_a_run = row writers writers_frames refl
-
-contradictory_order_is_a_run : IsRunOf contrary_frames (start_of contrary)
-unfolding turn
-contradictory_order_is_a_run = row contrary contrary_frames refl
-
-own_message_asked_is_a_run : IsRunOf echo_frames (start_of echo)
-unfolding turn
-own_message_asked_is_a_run = row echo echo_frames refl
-
-all_conditions_is_a_run : IsRunOf conditions_frames (start_of two_conditions)
-unfolding turn
-all_conditions_is_a_run = row two_conditions conditions_frames refl
-
-saturation_is_a_run : IsRunOf tally_frames (start_of tally)
-unfolding turn
-saturation_is_a_run = row tally tally_frames refl
-
-late_systems_is_a_run : IsRunOf late_frames (start_of late)
-unfolding turn
-late_systems_is_a_run = row late late_frames refl
-
-late_systems_wait_is_a_run : IsRunOf early_frames (start_of late)
-unfolding turn
-late_systems_wait_is_a_run = row late early_frames refl
-
-held_updates_is_a_run : IsRunOf gated_frames (start_of gated)
-unfolding turn
-held_updates_is_a_run = row gated gated_frames refl
-
-several_signals_is_a_run : IsRunOf signallers_frames (start_of signallers)
-unfolding turn
-several_signals_is_a_run = row signallers signallers_frames refl
-
-drain_between_readers_is_a_run : IsRunOf drained_frames (start_of drained)
-unfolding turn
-drain_between_readers_is_a_run = row drained drained_frames refl
-
-forward_at_the_limit_is_a_run : IsRunOf relay_frames (start_of relay)
-unfolding turn
-forward_at_the_limit_is_a_run = row relay relay_frames refl
+worked_are_runs k d lt =
+    row _ _ (AllPass-from_list_all (λ r. are_in_order r.0.programs r.1 (start_of r.0)) worked refl k d lt)
