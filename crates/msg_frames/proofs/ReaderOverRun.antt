@@ -52,23 +52,6 @@ reads_since i t place had a b ms u goes x = grind (arith, goes_further)
 abbrev pub Follows : ℕ → ℕ → State → List Moment → State → Type 0
 Follows i t s ms u = ReadsFrom i t (found_at s u i t) (found_totals s u i t) (s.world.histories t) ms u
 
-module _ (i t : ℕ) (s : State) (ms : List Moment) (u : State) where
-  reads_joined : IsTrue (has_begun s i) → Follows i t s ms u → Reads i t s ms u
-  reads_joined has x = rw has at x
-
-  follows_joined : IsTrue (has_begun s i) → Reads i t s ms u → Follows i t s ms u
-  follows_joined has x = rw has x
-
-  -- from the place at which it joined
-  follows_new : (place : ℕ) → IsFalse (has_begun s i)
-      → ReadsFrom i t place (totals_from place) (s.world.histories t) ms u → Follows i t s ms u
-  follows_new place isnt x = grind arith
-
-  -- where nothing was done to it yet
-  follows_since : (m : State) → IsFalse (has_begun s i) → IsFalse (has_begun m i)
-      → GoesOn (s.world.histories t) (m.world.histories t) → Follows i t m ms u → Follows i t s ms u
-  follows_since m isnt wasnt goes x = rw isnt (reads_since i t _ _ _ _ ms u goes (rw wasnt at x))
-
 module _ (laws : BufferLaws) (i t : ℕ) where
   pub run_follows : (frames : List Frame) (s : State) (logs : List Log) (u : State) → IsSoundState s
       → IsRun frames s logs u → t < s.types → IsTrue (has_begun u i)
@@ -92,14 +75,14 @@ module _ (laws : BufferLaws) (i t : ℕ) where
       let all : IsTrue (has_begun b i) → ReadsFrom i t (place_of b i t) ((b.members i).totals t)
       (s.world.histories t) (ms ++ rest) u =
       λ now. reads_since i t _ _ _ _ (ms ++ rest) u goes
-      (reads_further i t b ms m rest u here (reads_joined i t m rest u (begun_alike b m i keep ∙ now) later)) in
+      (reads_further i t b ms m rest u here (rw (begun_alike b m i keep ∙ now) at later)) in
       elim (prep.arrival i) [
-        | stood was now same ↦ follows_joined i t s (ms ++ rest) u was (rw (place_of, same) at (all now))
-        | comes was now new ↦ follows_new i t s (ms ++ rest) u _ was (rw (place_of, new) at (all now))
+        | stood was now same ↦ rw was (rw (place_of, same) at (all now))
+        | comes was now new ↦ let after = rw (place_of, new) at (all now) in rw (was, after.totals) after
         | waits was now same ↦
-            rw (no_moments i t (systems_in log) b (has_no_turn b (systems_in log) i is.1.in_order now))
-            (follows_since i t s rest u m was (begun_alike b m i keep ∙ now)
-            (goes_further _ _ _ goes here.passes.goes_on) later)
+            rw (was, no_moments i t (systems_in log) b (has_no_turn b (systems_in log) i is.1.in_order now))
+            (reads_since i t _ _ _ _ rest u (goes_further _ _ _ goes here.passes.goes_on)
+            (rw (begun_alike b m i keep ∙ now) at later))
       ]
   run_follows frames s logs u sound is below has = absurd is
 
