@@ -8,7 +8,7 @@ use Rattle.std.proofs.lemmas.List.Kept.{AllPairs-from_increasing}
 use Rattle.msg_world.specs.declared.access.Access.{Access}
 use Rattle.msg_world.specs.Prelude.{Conflict}
 use Rattle.msg_order.specs.Prelude.{AreBatches, AreInConflict, BatchNumbersRise, BatchesAreUnique, ConflictingSystemsAreOrdered, FewerSystemsMakeNoCycle, Graph, IsBatchNumber, Rule, SettledOrderIsUnique, access_of, batch_at, has_joined, pairs, rules_among}
-use Rattle.msg_order.proofs.Elements.{AllPairs-head, AllPairs-tail, Contains-head, Contains-tail, Contains-cases, not_in_none, filter-Contains, Contains-filter}
+use Rattle.msg_order.proofs.Elements.{Contains-head, Contains-tail, Contains-cases, not_in_none, filter-Contains, Contains-filter, pairs_head, pairs_tail}
 use Rattle.msg_order.proofs.Chains.{path_grows, number_once, number_rises}
 use Rattle.msg_order.proofs.SettledPairs.{settles_once, settles_covers, Contains-pairs}
 use Rattle.msg_order.proofs.SetPaths.{joined_in}
@@ -61,14 +61,14 @@ same_ordered R (x ∷ xs) [] one_way r s f h = absurd (not_in_none x (f x (Conta
 same_ordered R (x ∷ xs) (y ∷ ys) one_way r s f h =
     let x_in : Contains (x ∷ xs) x = Contains-head x xs in
     let y_in : Contains (x ∷ xs) y = h y (Contains-head y ys) in
-    let after_x = AllPairs-head R x xs r in
-    let after_y = AllPairs-head R y ys s in
+    let after_x = pairs_head R x xs r in
+    let after_y = pairs_head R y ys s in
     let first : x ≡ y =
     first_same R x y xs ys (one_way x y x_in y_in) after_x after_y (Contains-cases y ys x (f x x_in))
     (Contains-cases x xs y y_in) in
     let once : R x x → ⊥ = λ e. one_way x x x_in x_in e e in
     let rest : xs ≡ ys = same_ordered R xs ys (λ i j p q. one_way i j (Contains-tail x xs i p) (Contains-tail x xs j q))
-    (AllPairs-tail R x xs r) (AllPairs-tail R y ys s)
+    (pairs_tail R x xs r) (pairs_tail R y ys s)
     (λ i c. not_first R x y i xs ys first once after_x c (Contains-cases y ys i (f i (Contains-tail x xs i c))))
     (λ i c. not_first R y x i ys xs (sym first) (subst (λ k. R k k → ⊥) first once) after_y c
     (Contains-cases x xs i (h i (Contains-tail y ys i c)))) in
