@@ -126,10 +126,8 @@ turns_of programs s order are t =
     let is : (i : ℕ) → i < s.systems → access_of (accesses_of s) i
     ≡ access i = λ i lt. get_or-map-range_with_len access 0 s.systems i i no_access lt (omega arith) in
     let all = length-map-range_with_len access 0 s.systems in
-    let fit : (i : ℕ) → Fits most most (access_of (accesses_of s) i) = λ i. elim (cases_lt i s.systems) [
-      | inl lt ↦ rw (is i lt) (access_fits most (needs_of (s.members i)) (omega arith))
-      | inr past ↦ rw (get_or_past (accesses_of s) i no_access (omega (arith, all))) (nothing_fits most)
-    ] in
+    let fit : (i : ℕ) → Fits most most (access_of (accesses_of s) i) = λ i.
+    grind (arith, access_fits most (needs_of (s.members i)), all, cases_lt, get_or_past, is i, nothing_fits most) in
     let turn = in_turn_by_test most (accesses_of s) s.rules (join_flags s) order fit both.1 in
     record {
       settled = turn.settled;

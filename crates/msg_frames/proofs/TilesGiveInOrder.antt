@@ -61,13 +61,7 @@ messages_in_instances n (e ∷ es) = ap (λ ms. e.message ∷ ms) (messages_in_i
 messages_are : (h : History Record) (s : Stretch) → messages_of h s
     ≡ map message_in (take s.number (drop s.first h.entries))
 messages_are h s =
-    rw (
-      ← take-map message_of s.number (drop s.first (instances h)),
-      ← drop-map message_of s.first (instances h),
-      messages_in_instances 0 h.entries,
-      drop-map message_in s.first h.entries,
-      take-map message_in s.number (drop s.first h.entries),
-    ) refl
+    simp (← take-map, ← drop-map, messages_in_instances)
 
 -- they stay where they are
 still_there : (h last : History Record) (a n : ℕ) → GoesOn h last → a + n ≤ count h → take n (drop a last.entries)
