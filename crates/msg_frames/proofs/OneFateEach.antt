@@ -21,14 +21,10 @@ BeginsAt place e = e.stretch.first ≡ place + e.stretch.missed
 -- a number that met a fate at an entry lies there, and met no other
 fate_of : (fate : Fate) (e : Entry) (n place : ℕ) → BeginsAt place e → Contains (numbers_at fate e) n → (place ≤ n)
     × (n < next_place e.stretch) × (fate_at e n ≡ fate)
-fate_of given e n place begins c = elim (cases_Bool (is_some e.given)) [
-  | inl is ↦ grind (arith, nat_tests, is, range-Contains _ _ _ (rw is at c))
-  | inr isnt ↦ absurd (not_in_none n (rw isnt at c))
-]
-fate_of cleared e n place begins c = elim (cases_Bool (is_some e.given)) [
-  | inl is ↦ absurd (not_in_none n (rw is at c))
-  | inr isnt ↦ grind (arith, nat_tests, isnt, range-Contains _ _ _ (rw isnt at c))
-]
+fate_of given e n place begins c =
+    grind (arith, cases_Bool (is_some e.given), nat_tests, range-Contains e.stretch.first e.stretch.number n)
+fate_of cleared e n place begins c =
+    grind (arith, cases_Bool (is_some e.given), nat_tests, range-Contains e.stretch.first e.stretch.number n)
 fate_of missed e n place begins c = grind (arith, nat_tests, range-Contains _ _ _ c)
 
 -- and each number there met one

@@ -120,8 +120,7 @@ are_turns_of programs s order = list_all (job_is_within programs s) (range_with_
 turns_of : (programs : List Program) (s : State) (order : List ℕ) → ArePrograms programs s
     → are_turns_of programs s order ≡ true → IsTurnOrderOf s order
 turns_of programs s order are t =
-    let both = and_parts (list_all (job_is_within programs s) (range_with_len 0 s.systems))
-    (is_turn_order most (accesses_of s) s.rules (join_flags s) order) t in
+    let both = and_parts _ _ t in
     let access : ℕ → Access = λ i. access_for most (needs_of (s.members i)) in
     let is : (i : ℕ) → i < s.systems → access_of (accesses_of s) i
     ≡ access i = λ i lt. get_or-map-range_with_len access 0 s.systems i i no_access lt (omega arith) in
@@ -156,8 +155,7 @@ is_run : (programs : List Program) (frames : OrderedFrames) (s : State) → AreP
     → are_in_order programs frames s ≡ true → IsRunOf frames s
 is_run programs [] s are t = refl
 is_run programs (f ∷ fs) s are t =
-    let both = and_parts (are_turns_of programs (before_turns f.0 s) f.1)
-    (are_in_order programs fs (frame_in f.1 (record { posts = f.0 }) s).state) t in
+    let both = and_parts _ _ t in
     let frame : Frame = record { posts = f.0 } in
     let here : AfterFrame = frame_in f.1 frame s in (
       here.state,
