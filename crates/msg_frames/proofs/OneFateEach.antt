@@ -1,5 +1,5 @@
 -- Each number that tiles go past meets one fate, at one tile.
-use Rattle.std.proofs.Common.{◌≡◌, ◌⊎◌, ℕ, zero, suc, ◌+◌, ◌≤◌, ◌<◌, List, [], ◌∷◌, map, Contains, cond, is_some, refl, arith, inl, inr, All}
+use Rattle.std.proofs.Common.{◌≡◌, ◌⊎◌, ℕ, zero, suc, ◌+◌, ◌-◌, ◌≤◌, ◌<◌, List, [], ◌∷◌, map, Contains, cond, is_some, refl, arith, inl, inr, All}
 use Rattle.std.specs.Prelude.{nat_lt}
 use Rattle.std.proofs.lemmas.Bool.{cases_Bool, lt-ltb, cases_lt}
 use Rattle.std.proofs.lemmas.List.Elements.{All-cons, All-head, All-nil, All-tail}
@@ -30,12 +30,10 @@ fate_of missed e n place begins c = grind (arith, nat_tests, range-Contains _ _ 
 -- and each number there met one
 has_fate : (e : Entry) (n place : ℕ) → BeginsAt place e → place ≤ n → n < next_place e.stretch
     → Contains (numbers_at (fate_at e n) e) n
-has_fate e n place begins low high = elim (cases_lt n e.stretch.first) [
-  | inl below ↦ rw (lt-ltb _ _ below) (Contains-range _ _ _ (omega arith) (omega arith))
-  | inr above ↦
-      let among : Contains (numbers_passed e) n = Contains-range _ _ _ above high in
-      grind (arith, above, among, cases_Bool, nat_tests)
-]
+has_fate e n place begins low high =
+    let before = Contains-range (e.stretch.first - e.stretch.missed) e.stretch.missed n in
+    let passed = Contains-range e.stretch.first e.stretch.number n in
+    grind (arith, before, cases_Bool (is_some e.given), nat_tests, passed)
 
 -- ---- at the entries of tiles
 

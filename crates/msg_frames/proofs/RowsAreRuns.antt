@@ -45,9 +45,6 @@ access_for n needs = record {
 access_fits : (n : ℕ) (needs : Needs) → n ≤ 64 → Fits n n (access_for n needs)
 access_fits n needs few = grind (arith, cases_Bool, mask_at, nat_tests)
 
-nothing_fits : (n : ℕ) → Fits n n no_access
-nothing_fits n = grind (arith, has_bit-zero, nat_tests)
-
 -- ---- a job of types and resources below n
 
 abbrev may_read : ℕ → Part → Bool
@@ -75,22 +72,16 @@ is_within n ops cs =
     (λ op. passes (may_write n) (op_parts op).written) ops)
     && list_all (λ c. passes (may_read n) (Some (probe_part c.probe))) cs
 
-reads_within : (n : ℕ) (ops : List Op) (cs : List Condition) → is_within n ops cs ≡ true → (p : Part)
-    → (job_needs ops cs).reads p ≡ true → may_read n p ≡ true
-reads_within n ops cs w p h =
-    let by_ops = any_passes (may_read n) (λ op. (op_parts op).read) ops p in
-    let by_conditions = any_passes (may_read n) (λ c. Some (probe_part c.probe)) cs p in
-    grind (arith, by_conditions, by_ops, cases_Bool)
-
-writes_within : (n : ℕ) (ops : List Op) (cs : List Condition) → is_within n ops cs ≡ true → (p : Part)
-    → (job_needs ops cs).writes p ≡ true → may_write n p ≡ true
-writes_within n ops cs w p h = grind (arith, cases_Bool, any_passes (may_write n) (λ op. (op_parts op).written) ops p)
-
 access_is : (n : ℕ) (ops : List Op) (cs : List Condition) → n ≤ 64 → is_within n ops cs ≡ true
     → IsAccessOf (job_needs ops cs) (access_for n (job_needs ops cs))
 access_is n ops cs few w = record {
-  reads = λ p. grind (arith, cases_Bool, mask_at, nat_tests, reads_within n ops cs w p);
-  writes = λ p. grind (arith, cases_Bool, mask_at, nat_tests, writes_within n ops cs w p);
+  reads = λ p.
+      let by_ops = any_passes (may_read n) (λ op. (op_parts op).read) ops p in
+      let by_conditions = any_passes (may_read n) (λ c. Some (probe_part c.probe)) cs p in
+      grind (arith, by_conditions, by_ops, cases_Bool, mask_at, nat_tests);
+  writes = λ p.
+      let by_ops = any_passes (may_write n) (λ op. (op_parts op).written) ops p in
+      grind (arith, by_ops, cases_Bool, mask_at, nat_tests);
 }
 
 -- ---- the turns of a frame
@@ -126,7 +117,7 @@ turns_of programs s order are t =
     ≡ access i = λ i lt. get_or-map-range_with_len access 0 s.systems i i no_access lt (omega arith) in
     let all = length-map-range_with_len access 0 s.systems in
     let fit : (i : ℕ) → Fits most most (access_of (accesses_of s) i) = λ i.
-    grind (arith, access_fits most (needs_of (s.members i)), all, cases_lt, get_or_past, is i, nothing_fits most) in
+    grind (arith, access_fits most (needs_of (s.members i)), all, cases_lt, get_or_past, has_bit-zero, is i) in
     let turn = in_turn_by_test most (accesses_of s) s.rules (join_flags s) order fit both.1 in
     record {
       settled = turn.settled;
