@@ -65,10 +65,6 @@ recent_ahead s i t up n e above at =
     let there = up n above (slice_get_within (s.world.histories t).entries n e at) in
     grind (arith, nat_tests, same_Some _ _ (sym there.1 ∙ at))
 
-floor_below : (s : State) (i t n : ℕ) → IsUpToDate s i t → place_of s i t ≤ n → n < count (s.world.histories t)
-    → (s.world.histories t).floor ≤ n
-floor_below s i t n up above within = grind (arith, nat_tests)
-
 module _ (laws : BufferLaws) where
   module _ (frame : Frame) (s : State) (log : Log) (u : State) (i t : ℕ) (sound : IsSoundState s)
       (is : IsFrame frame s log u) (below : t < s.types) where
@@ -118,7 +114,7 @@ module _ (laws : BufferLaws) where
         let p : ℕ = place_of s i t in
         let recent = frame_recent 1 p (updated_recent p t s.world (recent_ahead s i t up)) in
         is_there p (get_or ms k d).history n (earlier_recent 1 p _ _ (goes k d lt) recent) above
-        (grind (arith, drained, floor_below s i t n up above, (sound.histories t below).floor, (goes k d lt).floor))
+        (grind (arith, drained, nat_tests, up n above, (sound.histories t below).floor, (goes k d lt).floor))
         within
 
     frame_misses_none : IsTrue (has_begun s i) → IsUpToDate s i t → NothingDrained t s u

@@ -7,7 +7,7 @@ use Rattle.std.proofs.lemmas.Bool.Decides.{eqb_tells}
 use Rattle.std.proofs.lemmas.Bool.{cases_Bool, or_cases, and_parts, false≢true, false_from_ne_true, eqb-true}
 use Rattle.std.proofs.lemmas.Grind.{flat_map-append}
 use Rattle.std.proofs.lemmas.List.{append-nil}
-use Rattle.msg_order.specs.Prelude.{Graph, IsEdge, Path, Settles, pairs}
+use Rattle.msg_order.specs.Prelude.{GainsEdge, Graph, IsEdge, Path, Settles, pairs}
 use Rattle.msg_order.specs.inner.Paths.{path}
 use Rattle.msg_order.proofs.Elements.{Contains-head, Contains-tail, Contains-cases, not_in_none, range_more, flat_map-Contains, Contains-flat_map, map-Contains, Contains-map, range-Contains, Contains-range}
 use Rattle.msg_order.proofs.Chains.{edge_is_path}
@@ -26,31 +26,31 @@ settles_once C [] g h k a b = sym a ∙ b
 settles_once C (p ∷ ps) g h k a b =
     grind (arith, settles_once C ps (p ∷ g) h k, settles_once C ps g h k)
 
+-- What holds of the first graph, and is kept as a pair gains its edge, holds of the last.
+settles_keeps : (C : ℕ → ℕ → Type 0) (P : Graph → Type 0) (ps g h : Graph) → Settles C g ps h
+    → ((p : ℕ × ℕ) (k : Graph) → Contains ps p → GainsEdge C k p.0 p.1 → P k → P (p ∷ k)) → P g → P h
+settles_keeps C P [] g h a step first = subst P a first
+settles_keeps C P (p ∷ ps) g h a step first =
+    let later = λ (q : ℕ × ℕ) (k : Graph) (m : Contains ps q). step q k (Contains-tail p ps q m) in
+    elim a [
+      | inl x ↦ settles_keeps C P ps (p ∷ g) h x.1 later (step p g (Contains-head p ps) x.0 first)
+      | inr x ↦ settles_keeps C P ps g h x.1 later first
+    ]
+
 -- Each edge was there before, or is one of the pairs that are in conflict.
 pub settles_edges : (C : ℕ → ℕ → Type 0) (ps g h : Graph) → Settles C g ps h → (i j : ℕ) → IsEdge h i j → IsEdge g i j
     ⊎ (Contains ps (i, j) × C i j)
-settles_edges C [] g h a i j e = inl (subst (λ x. IsEdge x i j) (sym a) e)
-settles_edges C (p ∷ ps) g h a i j e = elim a [
-  | inl x ↦ elim (settles_edges C ps (p ∷ g) h x.1 i j e) [
-    | inl y ↦ elim (Contains-cases p g (i, j) y) [
-      | inl s ↦ inr (
-        subst (λ (q : ℕ × ℕ). Contains (p ∷ ps) q) s (Contains-head p ps),
-        subst (λ (q : ℕ × ℕ). C q.0 q.1) s x.0.0,
-      )
-      | inr t ↦ inl t
-    ]
-    | inr y ↦ inr (Contains-tail p ps (i, j) y.0, y.1)
-  ]
-  | inr x ↦ elim (settles_edges C ps g h x.1 i j e) [ inl y ↦ inl y | inr y ↦ inr (Contains-tail p ps (i, j) y.0, y.1) ]
-]
+settles_edges C ps g h a =
+    settles_keeps C (λ k. (i j : ℕ) → IsEdge k i j → IsEdge g i j ⊎ (Contains ps (i, j) × C i j)) ps g h a
+    (λ p k m gains so i j e. elim (Contains-cases p k (i, j) e) [
+      | inl s ↦ inr (rw s at m, rw s at (gains.0))
+      | inr t ↦ so i j t
+    ])
+    (λ i j e. inl e)
 
 -- A path stays.
-pub settles_grows : (C : ℕ → ℕ → Type 0) (ps g h : Graph) → Settles C g ps h → (i j : ℕ) → Path g i j → Path h i j
-settles_grows C [] g h a i j p = subst (λ x. Path x i j) a p
-settles_grows C (q ∷ ps) g h a i j p = elim a [
-  | inl x ↦ settles_grows C ps (q ∷ g) h x.1 i j (path_more q g i j p)
-  | inr x ↦ settles_grows C ps g h x.1 i j p
-]
+settles_grows : (C : ℕ → ℕ → Type 0) (ps g h : Graph) → Settles C g ps h → (i j : ℕ) → Path g i j → Path h i j
+settles_grows C ps g h a i j = settles_keeps C (λ k. Path k i j) ps g h a (λ p k m gains. path_more p k i j)
 
 -- Between each of the pairs that are in conflict there is a path one way or the other.
 pub settles_covers : (C : ℕ → ℕ → Type 0) (ps g h : Graph) → Settles C g ps h → (i j : ℕ) → Contains ps (i, j) → C i j
@@ -74,14 +74,9 @@ free_step p g lt free h s = grind (arith, false_from_ne_true, false≢true, or_c
 
 pub settles_free : (C : ℕ → ℕ → Type 0) (ps g h : Graph) → Settles C g ps h → ((i j : ℕ) → Contains ps (i, j) → i < j)
     → ((s : ℕ) → path g s s ≡ false) → (s : ℕ) → path h s s ≡ false
-settles_free C [] g h a up f = subst (λ x. (s : ℕ) → path x s s ≡ false) a f
-settles_free C (p ∷ ps) g h a up f =
-    let later = λ (i j : ℕ) (m : Contains ps (i, j)). up i j (Contains-tail p ps (i, j) m) in
-    elim a [
-      | inl x ↦ settles_free C ps (p ∷ g) h x.1 later
-          (free_step p g (up p.0 p.1 (Contains-head p ps)) (no_path g p.1 p.0 x.0.1) f)
-      | inr x ↦ settles_free C ps g h x.1 later f
-    ]
+settles_free C ps g h a up =
+    settles_keeps C (λ k. (s : ℕ) → path k s s ≡ false) ps g h a
+    (λ p k m gains. free_step p k (up p.0 p.1 m) (no_path k p.1 p.0 gains.1))
 
 -- All pairs of numbers below n, up to those of i.
 abbrev pub row : ℕ → ℕ → Graph
