@@ -15,7 +15,7 @@ use Rattle.msg_order.specs.inner.Paths.{path, set_at, comes_before, ArePaths}
 use Rattle.msg_order.proofs.SystemSets.{has-no_set, meets-found, meets-true}
 use Rattle.msg_order.proofs.Elements.{Contains-tail, Contains-cases, Contains-list_any, Contains-range, filter-Contains, list_any-Contains, range-Contains}
 use Rattle.msg_order.proofs.PathTest.{path_trans, to_Path, no_Path, no_path, same_test, same_paths}
-use Rattle.msg_order.proofs.SettledPairs.{grown, grown_paths, reaches, settles_row, settles_then, settles_edges, settles_free, pairs_until, pairs_until-more, row, pairs-Contains}
+use Rattle.msg_order.proofs.SettledPairs.{grown, grown_paths, reaches, settles_row, settles_then, settles_keeps, settles_free, pairs_until, pairs_until-more, row, pairs-Contains}
 
 -- past the last set there is none
 pub set_past : (before : List SystemSet) (j : ℕ) → length before ≤ j → set_at before j ≡ no_set
@@ -211,10 +211,10 @@ rules_join joined rules i j h =
 
 pub settled_joins : (accesses : List Access) (rules : List Rule) (joined : List Bool) (h : Graph)
     → Settles (AreInConflict accesses joined) (rules_among joined rules) (pairs (length accesses)) h → IsAmong joined h
-settled_joins accesses rules joined h s i j e =
-    let from = settles_edges (AreInConflict accesses joined) (pairs (length accesses)) (rules_among joined rules) h s
-    i j e in
-    grind (arith, from, rules_join joined rules i j)
+settled_joins accesses rules joined h s =
+    settles_keeps (AreInConflict accesses joined) (IsAmong joined) (pairs (length accesses)) (rules_among joined rules) h s
+    (λ p k m gains among i j e. grind (arith, among i j, Contains-cases p k (i, j) e, gains.0))
+    (rules_join joined rules)
 
 pub settled_free : (accesses : List Access) (rules : List Rule) (joined : List Bool) (h : Graph)
     → Settles (AreInConflict accesses joined) (rules_among joined rules) (pairs (length accesses)) h

@@ -27,7 +27,7 @@ settles_once C (p ∷ ps) g h k a b =
     grind (arith, settles_once C ps (p ∷ g) h k, settles_once C ps g h k)
 
 -- What holds of the first graph, and is kept as a pair gains its edge, holds of the last.
-settles_keeps : (C : ℕ → ℕ → Type 0) (P : Graph → Type 0) (ps g h : Graph) → Settles C g ps h
+pub settles_keeps : (C : ℕ → ℕ → Type 0) (P : Graph → Type 0) (ps g h : Graph) → Settles C g ps h
     → ((p : ℕ × ℕ) (k : Graph) → Contains ps p → GainsEdge C k p.0 p.1 → P k → P (p ∷ k)) → P g → P h
 settles_keeps C P [] g h a step first = subst P a first
 settles_keeps C P (p ∷ ps) g h a step first =
@@ -36,17 +36,6 @@ settles_keeps C P (p ∷ ps) g h a step first =
       | inl x ↦ settles_keeps C P ps (p ∷ g) h x.1 later (step p g (Contains-head p ps) x.0 first)
       | inr x ↦ settles_keeps C P ps g h x.1 later first
     ]
-
--- Each edge was there before, or is one of the pairs that are in conflict.
-pub settles_edges : (C : ℕ → ℕ → Type 0) (ps g h : Graph) → Settles C g ps h → (i j : ℕ) → IsEdge h i j → IsEdge g i j
-    ⊎ (Contains ps (i, j) × C i j)
-settles_edges C ps g h a =
-    settles_keeps C (λ k. (i j : ℕ) → IsEdge k i j → IsEdge g i j ⊎ (Contains ps (i, j) × C i j)) ps g h a
-    (λ p k m gains so i j e. elim (Contains-cases p k (i, j) e) [
-      | inl s ↦ inr (rw s at m, rw s at (gains.0))
-      | inr t ↦ so i j t
-    ])
-    (λ i j e. inl e)
 
 -- A path stays.
 settles_grows : (C : ℕ → ℕ → Type 0) (ps g h : Graph) → Settles C g ps h → (i j : ℕ) → Path g i j → Path h i j
