@@ -103,6 +103,4 @@ turns_once g joined xs ys r s =
     (λ i j p q a b.
     let m = r.all i ((r.of_joined i).0 p) in
     let n = r.all j ((r.of_joined j).0 q) in grind (arith, a m.0 n.0 m.1 n.1, b n.0 m.0 n.1 m.1))
-    r.in_order s.in_order
-    (λ i c. (s.of_joined i).1 ((r.of_joined i).0 c))
-    (λ i c. (r.of_joined i).1 ((s.of_joined i).0 c))
+    r.in_order s.in_order (λ i. grind (arith, r.of_joined i, s.of_joined i))

@@ -1,6 +1,6 @@
 -- That there is one settled order and one list of batches, and what holds of each.
 use Rattle.std.proofs.Common.{◌≡◌, ℕ, ◌<◌, ◌≤◌, ◌⊎◌, inl, inr, Bool, ◌&&◌, List, [], ◌∷◌, length, map, get_or, refl, ap, sym, subst, ◌∙◌, arith}
-use Rattle.std.specs.Prelude.{All, AllPairs, Contains}
+use Rattle.std.specs.Prelude.{◌↔◌, All, AllPairs, Contains}
 use Rattle.std.proofs.lemmas.Bool.{cases_lt, cases_order, and_parts, and_from}
 use Rattle.std.proofs.lemmas.List.{ext_get_or, get_or_past}
 use Rattle.std.proofs.lemmas.List.Elements.{All-contains, Contains-get_or}
@@ -44,39 +44,28 @@ settled_once accesses rules joined g h a b = settles_once (AreInConflict accesse
     (rules_among joined rules) g h a b
 
 -- Lists of the same elements, in an order that holds one way only, are one list.
-first_same : (R : ℕ → ℕ → Type 0) (x y : ℕ) (xs ys : List ℕ) → (R x y → R y x → ⊥) → All (R x) xs → All (R y) ys
-    → (y ≡ x) ⊎ Contains ys x → (x ≡ y) ⊎ Contains xs y → x ≡ y
-first_same R x y xs ys one_way r s f h = grind (arith, All-contains (R x) xs y r, All-contains (R y) ys x s)
-
-not_first : (R : ℕ → ℕ → Type 0) (x y i : ℕ) (xs ys : List ℕ) → x ≡ y → (R x x → ⊥) → All (R x) xs → Contains xs i
-    → (y ≡ i) ⊎ Contains ys i → Contains ys i
-not_first R x y i xs ys same once r c f = grind (arith, All-contains (R x) xs i r c)
-
 pub same_ordered : (R : ℕ → ℕ → Type 0) (xs ys : List ℕ)
     → ((i j : ℕ) → Contains xs i → Contains xs j → R i j → R j i → ⊥) → AllPairs R xs → AllPairs R ys
-    → ((i : ℕ) → Contains xs i → Contains ys i) → ((i : ℕ) → Contains ys i → Contains xs i) → xs ≡ ys
-same_ordered R [] [] one_way r s f h = refl
-same_ordered R [] (y ∷ ys) one_way r s f h = absurd (not_in_none y (h y (Contains-head y ys)))
-same_ordered R (x ∷ xs) [] one_way r s f h = absurd (not_in_none x (f x (Contains-head x xs)))
-same_ordered R (x ∷ xs) (y ∷ ys) one_way r s f h =
+    → ((i : ℕ) → Contains xs i ↔ Contains ys i) → xs ≡ ys
+same_ordered R [] [] one_way r s same = refl
+same_ordered R [] (y ∷ ys) one_way r s same = absurd (not_in_none y ((same y).1 (Contains-head y ys)))
+same_ordered R (x ∷ xs) [] one_way r s same = absurd (not_in_none x ((same x).0 (Contains-head x xs)))
+same_ordered R (x ∷ xs) (y ∷ ys) one_way r s same =
     let x_in : Contains (x ∷ xs) x = Contains-head x xs in
-    let y_in : Contains (x ∷ xs) y = h y (Contains-head y ys) in
-    let after_x = pairs_head R x xs r in
-    let after_y = pairs_head R y ys s in
+    let y_in : Contains (x ∷ xs) y = (same y).1 (Contains-head y ys) in
+    let after_x = λ (i : ℕ). All-contains (R x) xs i (pairs_head R x xs r) in
+    let after_y = λ (i : ℕ). All-contains (R y) ys i (pairs_head R y ys s) in
+    let x_there = Contains-cases y ys x ((same x).0 x_in) in
     let first : x ≡ y =
-    first_same R x y xs ys (one_way x y x_in y_in) after_x after_y (Contains-cases y ys x (f x x_in))
-    (Contains-cases x xs y y_in) in
-    let once : R x x → ⊥ = λ e. one_way x x x_in x_in e e in
+    grind (arith, after_x y, after_y x, Contains-cases x xs y y_in, one_way x y x_in y_in, x_there) in
+    let once = one_way x x x_in x_in in
     let rest : xs ≡ ys = same_ordered R xs ys (λ i j p q. one_way i j (Contains-tail x xs i p) (Contains-tail x xs j q))
     (pairs_tail R x xs r) (pairs_tail R y ys s)
-    (λ i c. not_first R x y i xs ys first once after_x c (Contains-cases y ys i (f i (Contains-tail x xs i c))))
-    (λ i c. not_first R y x i ys xs (sym first) (subst (λ k. R k k → ⊥) first once) after_y c
-    (Contains-cases x xs i (h i (Contains-tail y ys i c)))) in
+    (λ i. (
+      λ c. grind (arith, after_x i c, Contains-cases y ys i ((same i).0 (Contains-tail x xs i c)), first, once),
+      λ c. grind (arith, after_y i c, Contains-cases x xs i ((same i).1 (Contains-tail y ys i c)), first, once),
+    )) in
     ap (λ k. k ∷ xs) first ∙ ap (λ ks. y ∷ ks) rest
-
-pub same_rising : (xs ys : List ℕ) → AllPairs (λ a b. a < b) xs → AllPairs (λ a b. a < b) ys
-    → ((i : ℕ) → Contains xs i → Contains ys i) → ((i : ℕ) → Contains ys i → Contains xs i) → xs ≡ ys
-same_rising xs ys r s f h = same_ordered (λ a b. a < b) xs ys (λ i j p q a b. omega arith) r s f h
 
 no_longer : (g : Graph) (joined : List Bool) (bs cs : List (List ℕ)) → AreBatches g joined bs → AreBatches g joined cs
     → length bs ≤ length cs
@@ -98,11 +87,10 @@ pub batches_once : BatchesAreUnique
 batches_once g joined bs cs h k =
     let one : length bs ≤ length cs = no_longer g joined bs cs h k in
     let other : length cs ≤ length bs = no_longer g joined cs bs k h in
-    ext_get_or [] bs cs (omega arith) (λ b l. same_rising (batch_at bs b) (batch_at cs b)
-    (AllPairs-from_increasing (batch_at bs b) (h.by_addition b [] l))
+    ext_get_or [] bs cs (omega arith) (λ b l. same_ordered (λ i j. i < j) (batch_at bs b) (batch_at cs b)
+    (λ i j p q up down. omega arith) (AllPairs-from_increasing (batch_at bs b) (h.by_addition b [] l))
     (AllPairs-from_increasing (batch_at cs b) (k.by_addition b [] (omega arith)))
-    (λ i c. (k.of_number b i).1 ((h.of_number b i).0 c))
-    (λ i c. (h.of_number b i).1 ((k.of_number b i).0 c)))
+    (λ i. grind (arith, h.of_number b i, k.of_number b i)))
 
 pub numbers_rise : BatchNumbersRise
 numbers_rise g i j m n a b =
