@@ -118,13 +118,10 @@ pub peeled_all : (g : Graph) (start left blocked : ℕ → Bool) (n : ℕ) (batc
 peeled_all g start left blocked n batch m acyclic within t h is empty i = false_from_ne_true (left i) (λ e.
     let f = first_left (path g) left (path_trans g) (λ i. no_path g i i (acyclic i)) n i e in
     let c : ℕ = f.0 in
-    let open_ : blocked c ≡ false =
-    false_from_ne_true (blocked c)
-    (λ b. let w = t.by c b in false≢true (sym (f.1.1 w.0 (within w.0 ((h w.0).0 w.1.1).0) w.1.1) ∙ w.1.0)) in
+    let ready : (left c && not (blocked c)) ≡ true = grind (arith, f.1.0, f.1.1, h, t.by c, within) in
     let below : c < n = within c ((h c).0 f.1.0).0 in
     let there = Contains-filter (λ k. left k && not (blocked k)) (range_with_len 0 n) c
-    (Contains-range 0 n c (omega arith) (omega arith))
-    (and_from (left c) (not (blocked c)) f.1.0 (not_from_false (blocked c) open_)) in
+    (Contains-range 0 n c (omega arith) (omega arith)) ready in
     omega (arith, there.1, ap length is))
 
 pub peeled_done : (g : Graph) (systems : List Bool) (start left : ℕ → Bool) (batches : List (List ℕ))
@@ -153,17 +150,14 @@ peeled_done g systems start left batches same h none = record {
 abbrev pub count_left : (ℕ → Bool) → ℕ → ℕ
 count_left left n = count_by left (range_with_len 0 n)
 
-one_of_two : (a b : Bool) → cond (a && b) 1 0 + cond (a && not b) 1 0 ≡ cond a 1 0
-one_of_two a b = grind arith
-
 count_splits : (p q : ℕ → Bool) (xs : List ℕ) → count_by (λ i. p i && q i) xs + count_by (λ i. p i && not (q i)) xs
     ≡ count_by p xs
 count_splits p q [] = omega arith
 count_splits p q (x ∷ xs) =
-    omega (
+    grind (
       arith,
+      cases_Bool,
       count_splits p q xs,
-      one_of_two (p x) (q x),
       sum_by-cons (λ i. cond (p i && q i) 1 0) x xs,
       sum_by-cons (λ i. cond (p i && not (q i)) 1 0) x xs,
       sum_by-cons (λ i. cond (p i) 1 0) x xs,

@@ -164,7 +164,7 @@ turns_are : (g : Graph) (number : ℕ → ℕ) → ((j : ℕ) → IsBatchNumber 
     → are_in_turn number order ≡ true → AllPairs (RunsBefore g) order
 turns_are g number is [] t = λ i j d l m. absurd (omega arith)
 turns_are g number is (i ∷ order) t =
-    let both = and_parts (list_all (runs_before number i) order) (are_in_turn number order) t in
+    let both = and_parts _ _ t in
     AllPairs-cons (RunsBefore g) i order
     (λ k d l. before_is g number is i _ (AllPass-from_list_all (runs_before number i) order both.0 k d l))
     (turns_are g number is order both.1)
@@ -181,10 +181,9 @@ pub in_turn_by_test : (n : ℕ) (accesses : List Access) (rules : List Rule) (jo
 in_turn_by_test n accesses rules joined order fit t =
     let g : Graph = settled_by_test n accesses rules joined in
     let number : ℕ → ℕ = longest g (length accesses) in
-    let parts = and_parts (rise_in g number && are_in_turn number order)
-    (list_all (has_joined joined) order && none_is_left joined order) t in
-    let first = and_parts (rise_in g number) (are_in_turn number order) parts.0 in
-    let second = and_parts (list_all (has_joined joined) order) (none_is_left joined order) parts.1 in
+    let parts = and_parts _ _ t in
+    let first = and_parts _ _ parts.0 in
+    let second = and_parts _ _ parts.1 in
     record {
       settled = g;
       is_settled = settle_is (AreInConflict accesses joined) (are_in_conflict n accesses joined)

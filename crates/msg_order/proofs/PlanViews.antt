@@ -20,11 +20,13 @@ Contains-square n i j h l =
     (Contains-range 0 n i (omega arith) (omega arith))
     (Contains-map (λ (b : ℕ). (i, b)) (range_with_len 0 n) j (Contains-range 0 n j (omega arith) (omega arith)))
 
--- the pairs of the view are what the sets say
-pub precedes-view : (before : List SystemSet) (joined : SystemSet) (batches : List (List ℕ)) → AreKept before joined
-    → (i j : ℕ) → IsEdge (view_of before joined batches).precedes i j ↔ (comes_before before i j ≡ true)
-precedes-view before joined batches kept i j =
-    let test : ℕ × ℕ → Bool = λ e. comes_before before e.0 e.1 in (
+-- the pairs of a view are what the sets say
+pub seen_edges : (v : PlanView) (before : List SystemSet) (joined : SystemSet) (batches : List (List ℕ))
+    → view_of before joined batches ≡ v → AreKept before joined → (i j : ℕ) → IsEdge v.precedes i j
+    ↔ (comes_before before i j ≡ true)
+seen_edges v before joined batches is kept i j =
+    let test : ℕ × ℕ → Bool = λ e. comes_before before e.0 e.1 in
+    rw (← is) (
       λ h. (filter-Contains test (square (length before)) (i, j) h).1,
       λ t.
           let both = kept.among i j t in
@@ -32,23 +34,11 @@ precedes-view before joined batches kept i j =
           (Contains-square (length before) i j (kept.within i both.0) (kept.within j both.1)) t,
     )
 
-pub joined-view : (before : List SystemSet) (joined : SystemSet) (batches : List (List ℕ)) → AreKept before joined
-    → (i : ℕ) → has_joined (view_of before joined batches).joined i ≡ has joined i
-joined-view before joined batches kept i =
-    grind (arith, cases_lt, false_from_ne_true, get_or-map-range_with_len, get_or_past, length-map-range_with_len)
-
--- the same of a view that they are known to give
-pub seen_edges : (v : PlanView) (before : List SystemSet) (joined : SystemSet) (batches : List (List ℕ))
-    → view_of before joined batches ≡ v → AreKept before joined → (i j : ℕ) → IsEdge v.precedes i j
-    ↔ (comes_before before i j ≡ true)
-seen_edges v before joined batches is kept i j =
-    subst (λ w. IsEdge w.precedes i j ↔ (comes_before before i j ≡ true)) is
-    (precedes-view before joined batches kept i j)
-
 pub seen_joined : (v : PlanView) (before : List SystemSet) (joined : SystemSet) (batches : List (List ℕ))
     → view_of before joined batches ≡ v → AreKept before joined → (i : ℕ) → has_joined v.joined i ≡ has joined i
-seen_joined v before joined batches is kept i = subst (λ w. has_joined w.joined i ≡ has joined i) is
-    (joined-view before joined batches kept i)
+seen_joined v before joined batches is kept i =
+    rw (← is)
+    (grind (arith, cases_lt, false_from_ne_true, get_or-map-range_with_len, get_or_past, length-map-range_with_len))
 
 pub systems-view : (joined : List Bool) (set : SystemSet) (n : ℕ) → length joined ≡ n → IsSetOf joined set
     → map (has set) (range_with_len 0 n) ≡ joined
