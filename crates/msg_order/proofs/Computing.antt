@@ -36,13 +36,12 @@ conflict_below n a b = list_any (meet_at a b) (parts_below n)
 used_is_below : (n : ℕ) (a : Access) → Fits n n a → (p : Part) → uses a p ≡ true → Contains (parts_below n) p
 used_is_below n a fits Registry u = Contains-head Registry _
 used_is_below n a fits (OfType t) u =
-    let below : t < n = fits.types_below t u in
-    Contains-tail Registry _ (OfType t) (Contains-append_left _ _ (OfType t)
-    (Contains-map OfType (range_with_len 0 n) t (Contains-range 0 n t (omega arith) (omega arith))))
+    Contains-tail Registry _ (OfType t) (Contains-append_left _ _ (OfType t) (Contains-map OfType (range_with_len 0 n) t
+    (Contains-range 0 n t (omega arith) (omega (arith, fits.types_below t u)))))
 used_is_below n a fits (OfResource r) u =
-    let below : r < n = fits.resources_below r u in
     Contains-tail Registry _ (OfResource r) (Contains-append_right _ _ (OfResource r)
-    (Contains-map OfResource (range_with_len 0 n) r (Contains-range 0 n r (omega arith) (omega arith))))
+    (Contains-map OfResource (range_with_len 0 n) r
+    (Contains-range 0 n r (omega arith) (omega (arith, fits.resources_below r u)))))
 
 conflict_is : (n : ℕ) (a b : Access) → Fits n n a → Fits n n b → IsTrue (conflict_below n a b) ↔ Conflict a b
 conflict_is n a b fits_a fits_b = (
@@ -105,7 +104,7 @@ above_ends g value ends (e ∷ h) within j =
     elim (cases_Bool (e.1 == j)) [
       | inr f ↦ rw f rest
       | inl t ↦
-          let edge : IsEdge g e.0 j = subst (IsEdge g e.0) (eqb-true e.1 j t) (within e.0 e.1 (Contains-head e h)) in
+          let edge : IsEdge g e.0 j = rw (← eqb-true e.1 j t) (within e.0 e.1 (Contains-head e h)) in
           rw t (elim (greater_of (suc (value e.0)) (above_all value h j))
           [ inl is ↦ rw is (e.0, (ends e.0, edge)) | inr is ↦ rw is rest ])
     ]

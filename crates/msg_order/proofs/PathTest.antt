@@ -44,11 +44,11 @@ to_Path (e ∷ g) i j h =
       | inr q ↦
           let both = and_parts (to e g i) (from e g j) q in
           let begins : Path (e ∷ g) i e.1 = elim (or_cases (i == e.0) (path g i e.0) both.0) [
-            | inl x ↦ subst (λ a. Path (e ∷ g) a e.1) (sym (eqb-true i e.0 x)) newest
+            | inl x ↦ rw (eqb-true i e.0 x) newest
             | inr x ↦ paths_join (e ∷ g) i e.0 e.1 (path_more e g i e.0 (to_Path g i e.0 x)) newest
           ] in
           elim (or_cases (j == e.1) (path g e.1 j) both.1) [
-            | inl x ↦ subst (λ b. Path (e ∷ g) i b) (sym (eqb-true j e.1 x)) begins
+            | inl x ↦ rw (eqb-true j e.1 x) begins
             | inr x ↦ paths_join (e ∷ g) i e.1 j begins (path_more e g e.1 j (to_Path g e.1 j x))
           ]
     ]

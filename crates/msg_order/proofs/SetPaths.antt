@@ -49,17 +49,13 @@ adds_edge g before new from later to h s few only i j =
     grind (arith, eq-eqb, eqb-true, meets-found, meets-true, or_cases, or_left, or_right, same_test)
 
 -- The rules one by one.
-edge_at_end : (g : Graph) (e : ℕ × ℕ) (i j : ℕ) → IsEdge (g ++ e ∷ []) i j → IsEdge (e ∷ g) i j
-edge_at_end g e i j h = grind (arith, Contains-push_cases g e (i, j) h, Contains-tail e g (i, j))
-
-edge_to_end : (g : Graph) (e : ℕ × ℕ) (i j : ℕ) → IsEdge (e ∷ g) i j → IsEdge (g ++ e ∷ []) i j
-edge_to_end g e i j h = elim (Contains-cases e g (i, j) h) [
-  | inl s ↦ subst (Contains (g ++ e ∷ [])) s (Contains-push g e)
-  | inr t ↦ Contains-append_left g (e ∷ []) (i, j) t
-]
-
-pub path-at_end : (g : Graph) (e : ℕ × ℕ) (i j : ℕ) → path (e ∷ g) i j ≡ path (g ++ e ∷ []) i j
-path-at_end g e = same_paths (e ∷ g) (g ++ e ∷ []) (edge_to_end g e) (edge_at_end g e)
+path-at_end : (g : Graph) (e : ℕ × ℕ) (i j : ℕ) → path (e ∷ g) i j ≡ path (g ++ e ∷ []) i j
+path-at_end g e = same_paths (e ∷ g) (g ++ e ∷ [])
+    (λ i j h. elim (Contains-cases e g (i, j) h) [
+      | inl s ↦ rw (← s) (Contains-push g e)
+      | inr t ↦ Contains-append_left g (e ∷ []) (i, j) t
+    ])
+    (λ i j h. grind (arith, Contains-push_cases g e (i, j) h, Contains-tail e g (i, j)))
 
 -- an edge where there is a path already adds none
 pub path-again : (g : Graph) (a b : ℕ) → path g a b ≡ true → (i j : ℕ) → path g i j ≡ path ((a, b) ∷ g) i j
