@@ -23,21 +23,17 @@ after_first frame frames s log logs u is = rw (← is.1.leaves) is.2
 
 -- ---- the entries that the logs have
 
-tells_since : (i t : ℕ) (s b : State) (turns : List (List Reply)) (ms : List Moment) (u : State)
-    → SameSystems s b → (b.members i).job.system.rule ≡ (s.members i).job.system.rule → Tells i t b turns ms u
-    → Tells i t s turns ms u
-tells_since i t s b turns ms u same rule x = grind (arith, (same.members i).needs)
-
 pub run_tells : (i t : ℕ) (frames : List Frame) (s : State) (logs : List Log) (u : State) → IsRun frames s logs u
     → Tells i t s (answers_in i logs) (moments i t frames logs s) u
 run_tells i t [] s [] u is = grind arith
 run_tells i t (frame ∷ frames) s (log ∷ logs) u is =
     let b : State = before_turns frame.posts s in
-    let here = tells_since i t s b _ _ _ (before_keeps frame.posts s) (before_rule frame.posts s i)
-    (turns_tell i t (systems_in log) b) in
+    let told = turns_tell i t (systems_in log) b in
+    let needs = ((before_keeps frame.posts s).members i).needs in
     tells_further i t s _ _ _ _ _ u
     (subst (λ (l : Log). Tells i t s (answers_among i l.turns) (turns_moments i t (systems_in log) b)
-    (frame_in (systems_in log) frame s).state) (sym is.1.tells) here)
+    (frame_in (systems_in log) frame s).state) (sym is.1.tells)
+    (grind (arith, before_rule frame.posts s i, needs, told)))
     (run_tells i t frames _ logs u (after_first frame frames s log logs u is))
 run_tells i t frames s logs u is = absurd is
 
