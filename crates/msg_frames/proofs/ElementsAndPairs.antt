@@ -1,5 +1,5 @@
 -- What holds of each element of a list, and of each pair, and what stands where.
-use Rattle.std.proofs.Common.{◌≡◌, suc, ◌+◌, inl, inr, List, [], ◌∷◌, ◌++◌, length, ap, subst, arith, length-append, get_or-append-add}
+use Rattle.std.proofs.Common.{◌≡◌, ◌+◌, inl, inr, List, [], ◌∷◌, ◌++◌, length, ap, subst, arith, length-append, get_or-append-add}
 use Rattle.std.specs.Prelude.{All, AllPairs, Contains}
 use Rattle.std.proofs.lemmas.List.{get_or_append_left}
 use Rattle.std.proofs.lemmas.List.Elements.{All-cons, All-tail}

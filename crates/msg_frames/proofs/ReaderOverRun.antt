@@ -1,9 +1,9 @@
 -- What a reader goes past over a run of frames.
-use Rattle.std.proofs.Common.{arith, ◌≡◌, ℕ, ◌<◌, List, [], ◌∷◌, ◌++◌, refl, sym, subst, ◌∙◌}
-use Rattle.std.specs.Prelude.{IsTrue, IsFalse}
+use Rattle.std.proofs.Common.{arith, ℕ, ◌<◌, List, [], ◌∷◌, ◌++◌, refl, sym, subst, ◌∙◌}
+use Rattle.std.specs.Prelude.{IsTrue}
 use Rattle.msg_buffer.specs.Prelude.{GoesOn, History}
 use Rattle.msg_world.specs.declared.record.Record.{Record}
-use Rattle.msg_frames.specs.Prelude.{Frame, IsRun, IsServed, IsSoundState, Log, Moment, RunsAreComplete, State, answers_in, before_turns, found_at, found_totals, frame_in, has_begun, moments, place_of, systems_in, totals_from, turns_moments, SameSystems, Totals}
+use Rattle.msg_frames.specs.Prelude.{Frame, IsRun, IsServed, IsSoundState, Log, Moment, RunsAreComplete, State, answers_in, before_turns, found_at, found_totals, frame_in, has_begun, moments, place_of, systems_in, turns_moments, Totals}
 use Rattle.msg_frames.proofs.OneFateEach.{lies_between, meets_one_fate, missed_are_dropped}
 use Rattle.msg_frames.proofs.TilesGiveInOrder.{all_as_written, given_in_order, in_order_of}
 use Rattle.msg_frames.proofs.HistoriesGrow.{BufferLaws, goes_further, runs_go_on, stays}
@@ -13,7 +13,6 @@ use Rattle.msg_frames.proofs.EntriesAddUp.{tiles_add_up, with_entries-none}
 use Rattle.msg_frames.proofs.ReaderOverTurns.{Keeps, Reads, ReadsFrom, Tells, answers_among, no_moments, reads_further, tells_further, turns_read, turns_tell}
 use Rattle.msg_frames.proofs.BeforeTurns.{Prepares, before_rule, comes, prepares, stood, waits}
 use Rattle.msg_frames.proofs.StatesStaySound.{begun_alike, frame_sound, has_no_turn, prepared_sound}
-use Rattle.msg_system.specs.declared.reply.Reply.{Reply}
 
 -- a run of frames, as one frame and then the others, from the state that the frame leaves
 pub after_first : (frame : Frame) (frames : List Frame) (s : State) (log : Log) (logs : List Log) (u : State)

@@ -1,6 +1,6 @@
 -- Each worked run is a run as the definitions say: the order of its turns is the settled one. The accesses, the settled
 -- order and the batch numbers are computed.
-use Rattle.std.proofs.Common.{◌≡◌, ℕ, zero, suc, ◌*◌, ◌^◌, ◌%◌, ◌<◌, ◌≤◌, inl, inr, Bool, true, false, cond, ◌&&◌, All, List, [], ◌∷◌, Option, Some, None, map, refl, ◌∙◌, arith}
+use Rattle.std.proofs.Common.{◌≡◌, ℕ, zero, suc, ◌*◌, ◌^◌, ◌%◌, ◌<◌, ◌≤◌, Bool, true, false, cond, ◌&&◌, All, List, [], ◌∷◌, Option, Some, None, map, refl, ◌∙◌, arith}
 use Rattle.std.specs.Prelude.{nat_lt, bit_or, slice_index_or}
 use Rattle.std.specs.List.{range_with_len, list_all, list_any}
 use Rattle.std.proofs.lemmas.Bool.{cases_Bool, cases_lt, and_parts, false≢true}

@@ -6,7 +6,7 @@ use Rattle.std.specs.List.Sorted.{IsStrictlyIncreasing}
 use Rattle.std.proofs.lemmas.Bool.{cases_Bool}
 use Rattle.std.proofs.lemmas.List.{drop-append-le, drop-map, drop_more, length-append, length-drop, map-append, take-append-le, take-map}
 use Rattle.std.proofs.lemmas.Option.{slice_get-get_or}
-use Rattle.msg_buffer.specs.Prelude.{Entry as Written, GoesOn, History, Stretch, Tile, count, instance_of, instances, message_of, next_place}
+use Rattle.msg_buffer.specs.Prelude.{Entry as Written, GoesOn, History, Stretch, Tile, count, instance_of, message_of, next_place}
 use Rattle.msg_world.specs.declared.record.Record.{Record}
 use Rattle.msg_frames.specs.Prelude.{GivesItsStretch, IsInOrderOf, Moment, given, is_by, message_numbered, messages_given, messages_of, numbers_of}
 use Rattle.msg_frames.proofs.OneFateEach.{entries_of}

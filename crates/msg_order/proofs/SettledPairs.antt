@@ -7,7 +7,7 @@ use Rattle.std.proofs.lemmas.Bool.Decides.{eqb_tells}
 use Rattle.std.proofs.lemmas.Bool.{cases_Bool, or_cases, and_parts, false≢true, false_from_ne_true, eqb-true}
 use Rattle.std.proofs.lemmas.Grind.{flat_map-append}
 use Rattle.std.proofs.lemmas.List.{append-nil}
-use Rattle.msg_order.specs.Prelude.{GainsEdge, Graph, IsEdge, Path, Settles, pairs}
+use Rattle.msg_order.specs.Prelude.{GainsEdge, Graph, Path, Settles, pairs}
 use Rattle.msg_order.specs.inner.Paths.{path}
 use Rattle.msg_order.proofs.Elements.{Contains-head, Contains-tail, Contains-cases, not_in_none, range_more, flat_map-Contains, Contains-flat_map, map-Contains, Contains-map, range-Contains, Contains-range}
 use Rattle.msg_order.proofs.Chains.{edge_is_path}

@@ -1,6 +1,6 @@
 -- That there is one settled order and one list of batches, and what holds of each.
-use Rattle.std.proofs.Common.{◌≡◌, ℕ, ◌<◌, ◌≤◌, ◌⊎◌, inl, inr, Bool, ◌&&◌, List, [], ◌∷◌, length, map, get_or, refl, ap, sym, subst, ◌∙◌, arith}
-use Rattle.std.specs.Prelude.{◌↔◌, All, AllPairs, Contains}
+use Rattle.std.proofs.Common.{◌≡◌, ℕ, ◌<◌, ◌≤◌, inl, inr, Bool, ◌&&◌, List, [], ◌∷◌, length, map, get_or, refl, ap, subst, ◌∙◌, arith}
+use Rattle.std.specs.Prelude.{◌↔◌, AllPairs, Contains}
 use Rattle.std.proofs.lemmas.Bool.{cases_lt, cases_order, and_parts, and_from}
 use Rattle.std.proofs.lemmas.List.{ext_get_or, get_or_past}
 use Rattle.std.proofs.lemmas.List.Elements.{All-contains, Contains-get_or}
