@@ -1,5 +1,5 @@
 -- A replay tells of each system what the frame tells of it.
-use Rattle.std.proofs.Common.{arith, ◌≡◌, ◌≢◌, ℕ, ◌==◌, inl, inr, List, [], ◌∷◌, ◌++◌, map, refl, ap, sym, subst, ◌∙◌, Bool, false, suc, ne_eqb, ap₂}
+use Rattle.std.proofs.Common.{arith, ◌≡◌, ◌≢◌, ℕ, ◌==◌, inl, inr, List, [], ◌∷◌, ◌++◌, map, refl, ap, sym, ◌∙◌, Bool, false, suc, ne_eqb, ap₂}
 use Rattle.std.specs.Prelude.{AllPairs, Contains, IsPermutation, flat_map, if◌then◌else◌, All}
 use Rattle.std.proofs.lemmas.Bool.{cases_Bool, eqb-true}
 use Rattle.std.proofs.lemmas.Bool.Decides.{eqb_tells}
@@ -63,7 +63,7 @@ turns_alike lawful frame order s log u replay i =
     let b : State = before_turns frame.posts s in
     let settled = replay.is_frame.in_order in
     told_alike (λ (turn : Turn). turn.system) (λ (turn : Turn). answers _) i log.turns replay.settled.turns replay.turns
-    (subst (AllPairs (λ a b. a ≢ b)) (sym replay.in_order) replay.lawful.lawful.once)
+    (rw (replay.in_order) (replay.lawful.lawful.once))
     (lawful settled.settled (join_flags b) (systems_in replay.settled)
     (order_is_among _ _ settled.is_order) settled.in_order).once
 

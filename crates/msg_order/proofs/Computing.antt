@@ -1,5 +1,5 @@
 -- The settled order and the turns in it by tests alone, for worked rows.
-use Rattle.std.proofs.Common.{◌≡◌, ℕ, zero, suc, ◌<◌, ◌⊎◌, inl, inr, Bool, true, cond, not, max, ◌&&◌, ◌||◌, List, [], ◌∷◌, ◌++◌, map, length, refl, subst, arith}
+use Rattle.std.proofs.Common.{◌≡◌, ℕ, zero, suc, ◌<◌, ◌⊎◌, inl, inr, Bool, true, cond, not, max, ◌&&◌, ◌||◌, List, [], ◌∷◌, ◌++◌, map, length, refl, arith}
 use Rattle.std.specs.Prelude.{◌==◌, ◌↔◌, nat_lt, IsTrue, Contains, AllPairs}
 use Rattle.std.specs.List.{range_with_len, list_all, list_any}
 use Rattle.std.proofs.lemmas.Bool.Decides.{nat_tests}
@@ -195,7 +195,7 @@ in_turn_by_test n accesses rules joined order fit t =
               second.1 (joined_in joined i h) in
               let here : list_any (λ k. k == i) order ≡ true = grind (arith, below) in
               let f = Contains-list_any (λ k. k == i) order here in
-              subst (Contains order) (eqb-true f.0 i f.1.1) f.1.0,
+              rw (eqb-true f.0 i f.1.1) at (f.1.0),
         );
         all = λ i h. (number i, number_is g (length accesses) first.0 i);
         in_order = turns_are g number (number_is g (length accesses) first.0) order first.1;

@@ -1,6 +1,6 @@
 -- What callers see of a plan, by its sets.
-use Rattle.std.proofs.Common.{◌≡◌, ℕ, ◌<◌, ◌≤◌, inl, inr, Bool, true, false, List, length, map, sym, subst, ◌∙◌, arith}
-use Rattle.std.specs.Prelude.{◌↔◌, Contains, IsTrue}
+use Rattle.std.proofs.Common.{◌≡◌, ℕ, ◌<◌, ◌≤◌, inl, inr, Bool, true, false, List, length, map, sym, ◌∙◌, arith}
+use Rattle.std.specs.Prelude.{◌↔◌, Contains}
 use Rattle.std.specs.List.{range_with_len}
 use Rattle.std.proofs.lemmas.Bool.{cases_lt, false≢true, false_from_ne_true}
 use Rattle.std.proofs.lemmas.List.{get_or_past}
@@ -64,12 +64,12 @@ pub lawful_same : (accesses : List Access) (rules : List Rule) (joined : List Bo
     ↔ IsLawfulOrder plan.order joined order
 lawful_same accesses rules joined p plan order = (
   λ w. record {
-    of_joined = λ i. subst (λ js. Contains order i ↔ IsTrue (has_joined js i)) plan.systems (w.of_joined i);
+    of_joined = rw (plan.systems) at (w.of_joined);
     once = w.once;
     kept = λ i j e. w.kept i j ((plan.paths i j).1 (edge_is_path plan.order i j e));
   },
   λ w. record {
-    of_joined = λ i. subst (λ js. Contains order i ↔ IsTrue (has_joined js i)) (sym plan.systems) (w.of_joined i);
+    of_joined = rw (plan.systems) (w.of_joined);
     once = w.once;
     kept = λ i j e. kept_along plan.order joined order w i j ((plan.paths i j).0 e);
   },

@@ -1,5 +1,5 @@
 -- The code's sets as the paths of a graph.
-use Rattle.std.proofs.Common.{◌≡◌, ◌≢◌, ℕ, ◌+◌, ◌-◌, ◌<◌, ◌≤◌, inl, inr, Bool, true, false, cond, ◌&&◌, ◌||◌, List, [], ◌∷◌, ◌++◌, length, take, map, get_or, replicate, Option, None, Some, refl, ap, sym, subst, ◌∙◌, arith, length-append}
+use Rattle.std.proofs.Common.{◌≡◌, ◌≢◌, ℕ, ◌+◌, ◌-◌, ◌<◌, ◌≤◌, inl, inr, Bool, true, false, cond, ◌&&◌, ◌||◌, List, [], ◌∷◌, ◌++◌, length, take, map, get_or, replicate, Option, None, Some, refl, ap, sym, ◌∙◌, arith, length-append}
 use Rattle.std.specs.Prelude.{◌==◌, IfNone, IfSome, IsTrue, IsFalse, MatchOption, ◌↔◌}
 use Rattle.std.specs.List.{list_any, range_with_len}
 use Rattle.std.proofs.lemmas.List.{append-nil, get_or-map, length-map, take-map, get_or-take, get_or_past, get_or_push, get_or_append_left}
@@ -106,7 +106,7 @@ row_settles C g n i before new later few lt below tells adds way = (
   grown i test js h,
   (
     λ x k. adds x k ∙ rw (way.1.0 x k, way.1.0 x i, tests k) (sym (grown_paths h i test js free x k)),
-    subst (λ ps. Settles C g ps (grown i test js h)) (sym (pairs_until-more n i))
+    rw (pairs_until-more n i)
         (settles_then C (pairs_until n i) (row n i) g h (grown i test js h) way.1.1
         (settles_row C h i test js (λ j c. let r = range-Contains (i + 1) (n - (i + 1)) j c in omega arith)
         (λ t up. (λ e. (found t e).1, λ c f. (tells t).1 (up, (c, way.1.0 t i ∙ f)))))),
@@ -138,7 +138,7 @@ row_settles C g n i before new later few lt below tells adds way = (
         (and_from (test t) (k == t || path h t k) e to)
 
     tests : (k : ℕ) → (has later k || meets (set_at before k) later) ≡ list_any (reaches test h k) js
-    tests k = same_test (has later k || meets (set_at before k) later) (list_any (reaches test h k) js)
+    tests k = same_test _ _
         (λ e. elim (or_cases (has later k) (meets (set_at before k) later) e) [
           | inl x ↦ among k k x (or_left (k == k) (path h k k) (eq-eqb k k refl))
           | inr x ↦ let f = meets-true (set_at before k) later x in among k f.0 f.1.1.1
@@ -192,9 +192,9 @@ pub found_among_all : (m n : ℕ) (rules : List Rule) (before : List SystemSet) 
 found_among_all m n rules before found le below h =
     let joined : List Bool = take n (replicate m true) in
     let front = front_joined m n le in
-    let all = all_rules joined rules (subst (λ k. NameSystemsBelow k rules) (sym front.0) below)
+    let all = all_rules joined rules (rw (front.0) below)
     (λ i lt. front.1 i (omega (arith, front.0))) in
-    of_both _ _ _ found (subst (λ g. MatchOption found (IsAcyclic g × ArePaths g before) (IsLowestOnCycle g)) all h)
+    of_both _ _ _ found (rw all at h)
   where
     of_both : (P Q : Type 0) (R : ℕ → Type 0) (found : Option ℕ) → MatchOption found (P × Q) R
         → IfSome found R × IfNone found P

@@ -16,7 +16,7 @@ use Rattle.msg_order.proofs.PathTest.{path_trans, to_Path, no_Path, no_path, pat
 -- Some pairs after others.
 pub settles_then : (C : ℕ → ℕ → Type 0) (ps qs g h k : Graph) → Settles C g ps h → Settles C h qs k
     → Settles C g (ps ++ qs) k
-settles_then C [] qs g h k a b = subst (λ x. Settles C x qs k) (sym a) b
+settles_then C [] qs g h k a b = rw a b
 settles_then C (p ∷ ps) qs g h k a b =
     grind (arith, settles_then C ps qs (p ∷ g) h k, settles_then C ps qs g h k)
 

@@ -1,5 +1,5 @@
 -- That there is one settled order and one list of batches, and what holds of each.
-use Rattle.std.proofs.Common.{◌≡◌, ℕ, ◌<◌, ◌≤◌, inl, inr, Bool, ◌&&◌, List, [], ◌∷◌, length, map, get_or, refl, ap, subst, ◌∙◌, arith}
+use Rattle.std.proofs.Common.{◌≡◌, ℕ, ◌<◌, ◌≤◌, inl, inr, Bool, ◌&&◌, List, [], ◌∷◌, length, map, get_or, refl, ap, ◌∙◌, arith}
 use Rattle.std.specs.Prelude.{◌↔◌, AllPairs, Contains}
 use Rattle.std.proofs.lemmas.Bool.{cases_lt, cases_order, and_parts, and_from}
 use Rattle.std.proofs.lemmas.List.{ext_get_or, get_or_past}
@@ -7,7 +7,7 @@ use Rattle.std.proofs.lemmas.List.Elements.{All-contains, Contains-get_or}
 use Rattle.std.proofs.lemmas.List.Kept.{AllPairs-from_increasing}
 use Rattle.msg_world.specs.declared.access.Access.{Access}
 use Rattle.msg_world.specs.Prelude.{Conflict}
-use Rattle.msg_order.specs.Prelude.{AreBatches, AreInConflict, BatchNumbersRise, BatchesAreUnique, ConflictingSystemsAreOrdered, FewerSystemsMakeNoCycle, Graph, IsBatchNumber, Rule, SettledOrderIsUnique, access_of, batch_at, has_joined, pairs, rules_among}
+use Rattle.msg_order.specs.Prelude.{AreBatches, AreInConflict, BatchNumbersRise, BatchesAreUnique, ConflictingSystemsAreOrdered, FewerSystemsMakeNoCycle, Graph, Rule, SettledOrderIsUnique, access_of, batch_at, has_joined, pairs, rules_among}
 use Rattle.msg_order.proofs.Elements.{Contains-head, Contains-tail, Contains-cases, not_in_none, filter-Contains, Contains-filter, pairs_head, pairs_tail}
 use Rattle.msg_order.proofs.Chains.{path_grows, number_once, number_rises}
 use Rattle.msg_order.proofs.SettledPairs.{settles_once, settles_covers, Contains-pairs}
@@ -94,4 +94,4 @@ batches_once g joined bs cs h k =
 
 pub numbers_rise : BatchNumbersRise
 numbers_rise g i j m n a b =
-    (λ e. number_once g j m n (subst (λ k. IsBatchNumber g k m) e a) b, λ p. number_rises g i j m n p a b)
+    (λ e. number_once g j m n (rw e at a) b, λ p. number_rises g i j m n p a b)
