@@ -73,9 +73,6 @@ pub record ArePeeled (g : Graph) (start left : ℕ → Bool) (batches : List (Li
 pub peeled_first : (g : Graph) (start : ℕ → Bool) → ArePeeled g start start []
 peeled_first g start = grind arith
 
-increasing_range : (n : ℕ) → IsStrictlyIncreasing (range_with_len 0 n)
-increasing_range n k h = grind (arith, length-range_with_len, get_or-range_with_len)
-
 pub peeled_next : (g : Graph) (start left blocked next : ℕ → Bool) (n : ℕ) (batches : List (List ℕ)) (batch : List ℕ)
     → LeadAmong g start → ((i : ℕ) → start i ≡ true → i < n) → TellsBlocked g left blocked
     → ArePeeled g start left batches → batch ≡ filter (λ i. left i && not (blocked i)) (range_with_len 0 n)
@@ -107,7 +104,8 @@ peeled_next g start left blocked next n batches batch lead within t h is some s 
       ];
       filled = All-push (λ (xs : List ℕ). 0 < length xs) batches batch h.filled some;
       by_addition = All-push IsStrictlyIncreasing batches batch h.by_addition
-          (rw is (IsStrictlyIncreasing-filter ready (range_with_len 0 n) (increasing_range n)));
+          (rw is (IsStrictlyIncreasing-filter ready (range_with_len 0 n)
+          (λ k below. grind (arith, get_or-range_with_len, length-range_with_len))));
       placed = λ i e. grind (arith, s i, h.placed i e, numbered i);
     }
 

@@ -49,10 +49,7 @@ ends_less g (suc n) j e = (e.0, (ends_less g n e.0 e.1.0, e.1.1))
 
 pub ends_at_most : (g : Graph) (m n j : ℕ) → n ≤ m → Ends g m j → Ends g n j
 ends_at_most g zero n j h e = grind arith
-ends_at_most g (suc m) n j h e = elim (cases_eq n (suc m)) [
-  | inl s ↦ rw s e
-  | inr s ↦ ends_at_most g m n j (omega arith) (ends_less g m j e)
-]
+ends_at_most g (suc m) n j h e = grind (arith, cases_eq n (suc m), ends_at_most g m n j, ends_less g m j e)
 
 -- a chain that goes on
 ends_on : (g : Graph) (m i : ℕ) (between : List ℕ) (j : ℕ) → Ends g m i → IsChain g (i ∷ (between ++ j ∷ []))

@@ -5,11 +5,8 @@ use Rattle.std.proofs.lemmas.Bool.Decides.{eqb_tells}
 use Rattle.std.proofs.lemmas.Bool.{eqb-true, or_cases, and_parts, false≢true, false_from_ne_true}
 use Rattle.msg_order.specs.Prelude.{Graph, IsEdge, IsChain, Path}
 use Rattle.msg_order.specs.inner.Paths.{path}
-use Rattle.msg_order.proofs.Elements.{Contains-head, Contains-tail, not_in_none}
+use Rattle.msg_order.proofs.Elements.{Contains-cases, Contains-head, Contains-tail, not_in_none}
 use Rattle.msg_order.proofs.Chains.{edge_is_path, paths_join, path_grows}
-
-pub edge_cases : (e : ℕ × ℕ) (g : Graph) (i j : ℕ) → IsEdge (e ∷ g) i j → ((e.0 ≡ i) × (e.1 ≡ j)) ⊎ IsEdge g i j
-edge_cases e g i j h = grind arith
 
 abbrev to : (ℕ × ℕ) → Graph → ℕ → Bool
 to e g a = a == e.0 || path g a e.0
@@ -19,7 +16,7 @@ from e g b = b == e.1 || path g e.1 b
 
 pub edge_path : (g : Graph) (i j : ℕ) → IsEdge g i j → path g i j ≡ true
 edge_path [] i j h = absurd (not_in_none (i, j) h)
-edge_path (e ∷ g) i j h = grind (arith, eqb_tells, edge_cases e g i j h, edge_path g i j)
+edge_path (e ∷ g) i j h = grind (arith, eqb_tells, Contains-cases e g (i, j) h, edge_path g i j)
 
 pub path_trans : (g : Graph) (i j k : ℕ) → path g i j ≡ true → path g j k ≡ true → path g i k ≡ true
 path_trans [] i j k p q = p

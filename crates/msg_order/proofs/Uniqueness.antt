@@ -22,9 +22,6 @@ fewer_make_none rules joined fewer among free i p =
     Contains-filter (λ (e : ℕ × ℕ). has_joined joined e.0 && has_joined joined e.1) all (a, b) q.0
     (and_from (has_joined joined a) (has_joined joined b) (among a both.0) (among b both.1))) i i p)
 
-conflict_sym : (a b : Access) → Conflict a b → Conflict b a
-conflict_sym a b c = (c.0, elim c.1 [ inl x ↦ inr x | inr x ↦ inl x ])
-
 pub conflicts_ordered : ConflictingSystemsAreOrdered
 conflicts_ordered accesses rules joined order len settled i j ne at_i at_j conflict =
     let C : ℕ → ℕ → Type 0 = AreInConflict accesses joined in
@@ -33,7 +30,8 @@ conflicts_ordered accesses rules joined order len settled i j ne at_i at_j confl
     let up = λ (l : i < j). settles_covers C (pairs (length accesses)) (rules_among joined rules) order settled i j
     (Contains-pairs (length accesses) i j l (omega arith))
     (record { first_joined = at_i; second_joined = at_j; conflict = conflict }) in
-    let back = conflict_sym (access_of accesses i) (access_of accesses j) conflict in
+    let back : Conflict (access_of accesses j) (access_of accesses i) =
+    (conflict.0, elim conflict.1 [ inl x ↦ inr x | inr x ↦ inl x ]) in
     let down = λ (l : j < i). settles_covers C (pairs (length accesses)) (rules_among joined rules) order settled j i
     (Contains-pairs (length accesses) j i l (omega arith))
     (record { first_joined = at_j; second_joined = at_i; conflict = back }) in
