@@ -57,15 +57,14 @@ settles_covers C (p ∷ ps) g h a i j m c = elim (Contains-cases p ps (i, j) m) 
 ]
 
 -- An edge to which no path leads back makes no cycle.
-free_step : (p : ℕ × ℕ) (g : Graph) → p.0 < p.1 → path g p.1 p.0 ≡ false → ((s : ℕ) → path g s s ≡ false) → (s : ℕ)
-    → path (p ∷ g) s s ≡ false
-free_step p g lt free h s = grind (arith, false_from_ne_true, false≢true, or_cases, and_parts, eqb-true, path_trans)
-
 pub settles_free : (C : ℕ → ℕ → Type 0) (ps g h : Graph) → Settles C g ps h → ((i j : ℕ) → Contains ps (i, j) → i < j)
     → ((s : ℕ) → path g s s ≡ false) → (s : ℕ) → path h s s ≡ false
 settles_free C ps g h a up =
     settles_keeps C (λ k. (s : ℕ) → path k s s ≡ false) ps g h a
-    (λ p k m gains. free_step p k (up p.0 p.1 m) (no_path k p.1 p.0 gains.1))
+    (λ p k m gains free s.
+    let rises = up p.0 p.1 m in
+    let none = no_path k p.1 p.0 gains.1 in
+    grind (arith, and_parts, eqb-true, false_from_ne_true, false≢true, free, none, or_cases, path_trans, rises))
 
 -- All pairs of numbers below n, up to those of i.
 abbrev pub row : ℕ → ℕ → Graph
@@ -110,10 +109,6 @@ same_from g i t s k ne free = grind (arith, eqb_tells)
 abbrev pub AreFree : Graph → ℕ → (ℕ → Bool) → Type 0
 AreFree g i test = (t : ℕ) → test t ≡ true → (t ≢ i) × (path g t i ≡ false)
 
--- an edge to one of them leaves it so
-still_free : (g : Graph) (i j : ℕ) (test : ℕ → Bool) → AreFree g i test → test j ≡ true → AreFree ((i, j) ∷ g) i test
-still_free g i j test f e t s = grind (arith, eqb_tells, f j, f t)
-
 -- the test holds of k, or of one from which a path leads to k
 abbrev pub reaches : (ℕ → Bool) → Graph → ℕ → ℕ → Bool
 reaches test g k t = test t && (k == t || path g t k)
@@ -130,7 +125,9 @@ grown_paths g i test (j ∷ js) f x k = elim (cases_Bool (test j)) [
   | inl e ↦
       let h : Graph = (i, j) ∷ g in
       let same = ap (λ (p : ℕ → Bool). list_any p js) (λ n t. same_reach g i j k test f t n) in
-      grind (arith, e, grown_paths h i test js (still_free g i j test f e) x k, same, same_to g i j x, f j)
+      -- an edge to one of them leaves them so
+      let still_free : AreFree h i test = λ t s. grind (arith, eqb_tells, e, f j, f t) in
+      grind (arith, e, grown_paths h i test js still_free x k, same, same_to g i j x, f j)
 ]
 
 -- The test tells which pairs of i and a later system gain their edge, whichever of them did before.
