@@ -203,7 +203,8 @@ found_among_all m n rules before found le below h =
 pub settled_joins : (accesses : List Access) (rules : List Rule) (joined : List Bool) (h : Graph)
     → Settles (AreInConflict accesses joined) (rules_among joined rules) (pairs (length accesses)) h → IsAmong joined h
 settled_joins accesses rules joined h s =
-    settles_keeps (AreInConflict accesses joined) (IsAmong joined) (pairs (length accesses)) (rules_among joined rules) h s
+    settles_keeps (AreInConflict accesses joined) (IsAmong joined) (pairs (length accesses)) (rules_among joined rules)
+    h s
     (λ p k m gains among i j e. grind (arith, among i j, Contains-cases p k (i, j) e, gains.0))
     (λ i j e. and_parts _ _
     (filter-Contains (λ (e : ℕ × ℕ). has_joined joined e.0 && has_joined joined e.1) (edges_of rules) (i, j) e).1)

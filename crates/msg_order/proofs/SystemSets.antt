@@ -35,7 +35,8 @@ words-set : (words : List ℕ) (new j k : ℕ) (f : Bool → Bool → Bool) → 
     → has_bit new (j % 64) ≡ f (j % 64 == k % 64) (has_bit (get_or words (k / 64) 0) (j % 64))
     → has_bit (get_or (slice_set words (k / 64) new) (j / 64) 0) (j % 64)
     ≡ f (j == k) (has_bit (get_or words (j / 64) 0) (j % 64))
-words-set words new j k f l h same is = grind (arith, cases_eq, eq-eqb, get_or-set_other, get_or-set_same, ne_eqb, same_place)
+words-set words new j k f l h same is =
+    grind (arith, cases_eq, eq-eqb, get_or-set_other, get_or-set_same, ne_eqb, same_place)
 
 -- `words[k / 64] |= 1 << (k % 64)`
 pub words-insert : (words : List ℕ) (j k : ℕ) → length words ≡ 4 → k < 256 →
