@@ -1,18 +1,13 @@
 -- What holds of each element of a list, and of each pair, and what stands where.
-use Rattle.std.proofs.Common.{◌≡◌, suc, ◌+◌, inl, inr, List, [], ◌∷◌, ◌++◌, length, ap, subst, arith, length-append, get_or-append-add}
+use Rattle.std.proofs.Common.{◌≡◌, ◌+◌, inl, inr, List, [], ◌∷◌, ◌++◌, length, ap, subst, arith, length-append, get_or-append-add}
 use Rattle.std.specs.Prelude.{All, AllPairs, Contains}
 use Rattle.std.proofs.lemmas.List.{get_or_append_left}
 use Rattle.std.proofs.lemmas.List.Elements.{All-cons, All-tail}
 use Rattle.std.proofs.lemmas.List.Kept.{AllPairs-cons}
 use Rattle.msg_order.proofs.Elements.{Contains-cases, not_in_none}
+pub use Rattle.msg_order.proofs.Elements.{pairs_head, pairs_tail}
 
 module _ {X : Type 0} where
-  pub pairs_head : (R : X → X → Type 0) (x : X) (xs : List X) → AllPairs R (x ∷ xs) → All (R x) xs
-  pairs_head R x xs r k d lt = r 0 (suc k) d (omega arith) (omega arith)
-
-  pub pairs_tail : (R : X → X → Type 0) (x : X) (xs : List X) → AllPairs R (x ∷ xs) → AllPairs R xs
-  pairs_tail R x xs r i j d lt l = r (suc i) (suc j) d (omega arith) (omega arith)
-
   -- ---- of two lists one after the other
 
   pub all_left : (P : X → Type 0) (xs ys : List X) → All P (xs ++ ys) → All P xs
@@ -23,13 +18,12 @@ module _ {X : Type 0} where
       subst P (get_or-append-add xs ys k d) (h (length xs + k) d (omega (arith, length-append xs ys)))
 
   pub pairs_left : (R : X → X → Type 0) (xs ys : List X) → AllPairs R (xs ++ ys) → AllPairs R xs
-  pairs_left R [] ys r = λ i j d lt l. absurd (omega arith)
-  pairs_left R (x ∷ xs) ys r = AllPairs-cons R x xs (all_left (R x) xs ys (pairs_head R x (xs ++ ys) r))
-      (pairs_left R xs ys (pairs_tail R x (xs ++ ys) r))
+  pairs_left R xs ys r i j d lt l =
+      grind (arith, get_or_append_left xs ys d, length-append xs ys, r i j d lt)
 
   pub pairs_right : (R : X → X → Type 0) (xs ys : List X) → AllPairs R (xs ++ ys) → AllPairs R ys
-  pairs_right R [] ys r = r
-  pairs_right R (x ∷ xs) ys r = pairs_right R xs ys (pairs_tail R x (xs ++ ys) r)
+  pairs_right R xs ys r i j d lt l =
+      grind (arith, get_or-append-add xs ys, length-append xs ys, r (length xs + i) (length xs + j) d)
 
   -- ---- of a list without an element in the middle
 

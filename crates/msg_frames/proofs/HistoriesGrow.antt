@@ -53,14 +53,8 @@ abbrev pub InEach : (History Record → History Record → Type 0) → WorldStat
 InEach R w v = (t : ℕ) → R (w.histories t) (v.histories t)
 
 module _ (R : History Record → History Record → Type 0) (kept : IsKept R) where
-  none_changes : (w : WorldState) → InEach R w w
-  none_changes w t = kept.same (w.histories t)
-
-  both_change : (a b c : WorldState) → InEach R a b → InEach R b c → InEach R a c
-  both_change a b c x y t = kept.further _ _ _ (x t) (y t)
-
   one_changes : (w : WorldState) (u : ℕ) (h : History Record) → R (w.histories u) h → InEach R w (with_history w u h)
-  one_changes w u h r t = grind (arith, eqb_tells, none_changes w t)
+  one_changes w u h r t = grind (arith, eqb_tells, kept.same (w.histories t))
 
   write_changes : (w : WorldState) (t : ℕ) (ms : List Record)
       → InEach R w (with_history w t (write ms (w.histories t)))
@@ -73,37 +67,36 @@ module _ (R : History Record → History Record → Type 0) (kept : IsKept R) wh
   op_changes (Forward t u) writer places w =
       write_changes w u (again_by writer (took (w.histories t) (places t) None).items)
   op_changes (Drain t) writer places w = one_changes w t _ (kept.drained (w.histories t))
-  op_changes op writer places w = none_changes w
+  op_changes op writer places w = λ t. kept.same _
 
   more_changes : (o : Option Op) (writer : ℕ) (far : AfterProgram) → InEach R far.state (one_more o writer far).state
-  more_changes None writer far = none_changes far.state
+  more_changes None writer far = λ t. kept.same _
   more_changes (Some op) writer far = op_changes op writer far.places far.state
 
   ops_change : (n : ℕ) (m : Meaning) (w : WorldState)
       → InEach R w (after_at_most n (next_op m) m.writer m.places w).state
-  ops_change zero m w = none_changes w
-  ops_change (suc n) m w =
+  ops_change zero m w t = kept.same _
+  ops_change (suc n) m w t =
       let far : AfterProgram = after_at_most n (next_op m) m.writer m.places w in
-      both_change w far.state (one_more _ _ far).state (ops_change n m w) (more_changes _ _ _)
+      kept.further _ _ _ (ops_change n m w t) (more_changes (next_op m far.replies) m.writer far t)
 
   turn_changes : (m : Meaning) (w : WorldState) → InEach R w (turn m w).state
   unfolding turn
   turn_changes m w = ops_change 64 m w
 
   pub job_changes : (j : Job) (w : WorldState) → InEach R w (after_job j w).state
-  job_changes j w t = grind (arith, cases_Bool, none_changes w t, turn_changes j.system w t)
+  job_changes j w t = grind (arith, cases_Bool, kept.same (w.histories t), turn_changes j.system w t)
 
   pub turns_change : (order : List ℕ) (s : State) → InEach R s.world (after_turns_of order s).state.world
-  turns_change [] s = none_changes s.world
-  turns_change (i ∷ is) s =
-      both_change s.world (after_turn_of i s).world (after_turns_of is (after_turn_of i s)).state.world
-      (job_changes (s.members i).job s.world) (turns_change is (after_turn_of i s))
+  turns_change [] s t = kept.same _
+  turns_change (i ∷ is) s t =
+      kept.further _ _ _ (job_changes (s.members i).job s.world t) (turns_change is (after_turn_of i s) t)
 
   pub posts_change : (posts : List (ℕ × ℤ)) (w : WorldState) → InEach R w (after_posts posts w)
-  posts_change [] w = none_changes w
-  posts_change (p ∷ ps) w =
+  posts_change [] w t = kept.same _
+  posts_change (p ∷ ps) w t =
       let next = with_history w p.0 (write (by _ p.1 ∷ []) (w.histories p.0)) in
-      both_change w next (after_posts ps next) (write_changes w p.0 (by _ p.1 ∷ [])) (posts_change ps next)
+      kept.further _ _ _ (write_changes w p.0 (by _ p.1 ∷ []) t) (posts_change ps next t)
 
 -- ---- sound histories go on
 
@@ -127,18 +120,18 @@ module _ (grow : OnlyGrows Record) where
   before_goes_on posts s =
       let update : WorldGoesOn s.world (after_update s.world) =
       λ t sound. grind (arith, cases_Bool, stays (s.world.histories t) sound, grow (s.world.histories t) sound) in
-      rw (joining_world s) (both_change Grows grown s.world (after_update s.world)
-      (after_posts posts (after_update s.world)) update (posts_change Grows grown posts (after_update s.world)))
+      rw (joining_world s)
+      (λ t. grown.further _ _ _ (update t) (posts_change Grows grown posts (after_update s.world) t))
 
   pub frame_goes_on : (order : List ℕ) (frame : Frame) (s : State)
       → WorldGoesOn s.world (frame_in order frame s).state.world
-  frame_goes_on order frame s =
-      both_change Grows grown s.world (before_turns frame.posts s).world (frame_in order frame s).state.world
-      (before_goes_on frame.posts s) (turns_change Grows grown order (before_turns frame.posts s))
+  frame_goes_on order frame s t =
+      let turns = turns_change Grows grown order (before_turns frame.posts s) in
+      grown.further _ _ _ (before_goes_on frame.posts s t) (turns t)
 
   pub runs_go_on : ListsOnlyGrow
-  runs_go_on [] s u [] run = rw run (none_changes Grows grown s.world)
-  runs_go_on (frame ∷ frames) s u (log ∷ logs) run =
-      both_change Grows grown s.world (run.0).world u.world
-      (rw (run.1.leaves) (frame_goes_on (systems_in log) frame s)) (runs_go_on frames run.0 u logs run.2)
-  runs_go_on frames s u logs run = absurd run
+  runs_go_on [] s u [] run t = rw run (stays _)
+  runs_go_on (frame ∷ frames) s u (log ∷ logs) run t =
+      let here : WorldGoesOn s.world (run.0).world = rw (run.1.leaves) (frame_goes_on (systems_in log) frame s) in
+      grown.further _ _ _ (here t) (runs_go_on frames run.0 u logs run.2 t)
+  runs_go_on frames s u logs run t = absurd run

@@ -1,17 +1,17 @@
 -- Two lawful orders of turns leave the same.
-use Rattle.std.proofs.Common.{◌≡◌, ◌≢◌, ℕ, ◌<◌, ◌⊎◌, inl, inr, Bool, List, [], ◌∷◌, ◌++◌, length, get_or, refl, ap, sym, subst, ◌∙◌, arith, slice_get, Some, suc}
-use Rattle.std.specs.Prelude.{All, AllPairs, Contains, IsPermutation}
+use Rattle.std.proofs.Common.{◌≡◌, ◌≢◌, ℕ, ◌<◌, ◌⊎◌, inl, inr, Bool, List, [], ◌∷◌, ◌++◌, length, get_or, refl, ap, sym, ◌∙◌, arith, slice_get, Some, suc}
+use Rattle.std.specs.Prelude.{◌↔◌, All, AllPairs, Contains, IsPermutation, IsTrue}
 use Rattle.std.proofs.lemmas.Bool.{cases_order}
 use Rattle.std.proofs.lemmas.Grind.{get_or_default_zero}
-use Rattle.std.proofs.lemmas.List.Elements.{All-contains, Contains-append_left, Contains-get_or, All-append}
+use Rattle.std.proofs.lemmas.List.Elements.{All-contains, Contains-append_left, Contains-get_or, All-append, All-tail}
 use Rattle.std.proofs.lemmas.List.FromFn.{length-map-range_with_len}
 use Rattle.std.proofs.lemmas.List.Sorted.{IsPermutation-cons, IsPermutation-middle, IsPermutation-refl, IsPermutation-trans, Contains-permutation, IsPermutation-sym}
 use Rattle.std.proofs.lemmas.Option.{get_or_from_slice_get, slice_get_within}
 use Rattle.msg_world.specs.declared.access.Access.{Access}
 use Rattle.msg_world.specs.Prelude.{Conflict}
-use Rattle.msg_order.specs.Prelude.{ConflictingSystemsAreOrdered, Graph, IsLawfulOrder, LawfulOrdersKeepPaths, Path, SettledOrderIsUnique, StandsBefore, TurnOrderIsLawful, access_of}
+use Rattle.msg_order.specs.Prelude.{ConflictingSystemsAreOrdered, Graph, IsLawfulOrder, LawfulOrdersKeepPaths, Path, SettledOrderIsUnique, StandsBefore, TurnOrderIsLawful, access_of, has_joined}
 use Rattle.msg_system.specs.Prelude.{JobFootprint}
-use Rattle.msg_frames.specs.Prelude.{AreAccessesOf, FramesAgreeInLawfulOrders, LawfulOrdersAgree, Log, State, after_turn_of, after_turns_of, before_turns, frame_in, has_begun, join_flags, logged_turn, systems_in, Turn}
+use Rattle.msg_frames.specs.Prelude.{AreAccessesOf, FramesAgreeInLawfulOrders, LawfulOrdersAgree, Log, State, after_turn_of, after_turns_of, before_turns, has_begun, join_flags, logged_turn, systems_in, Turn}
 use Rattle.msg_frames.proofs.RunsAreUnique.{one_order, order_is_among}
 use Rattle.msg_frames.proofs.TurnsCommute.{turns_commute}
 use Rattle.msg_frames.proofs.SystemsStay.{accesses_stay, joined_below, one_turn_keeps}
@@ -67,62 +67,56 @@ module _ (accesses : List Access) where
 abbrev pub Forward : (ℕ → ℕ → Type 0) → List ℕ → Type 0
 Forward P order = AllPairs (λ i j. ¬ P j i) order
 
-not_first : (x : ℕ) (xs : List ℕ) (i : ℕ) → x ≢ i → Contains (x ∷ xs) i → Contains xs i
-not_first x xs i ne h = elim (Contains-cases x xs i h) [ inl e ↦ absurd (ne e) | inr later ↦ later ]
-
-with_middle : (xs : List ℕ) (y : ℕ) (ys : List ℕ) (i : ℕ) → Contains (xs ++ ys) i → Contains (xs ++ y ∷ ys) i
-with_middle xs y ys i h =
-    Contains-permutation _ _ i (IsPermutation-sym _ _ (IsPermutation-middle xs y ys)) (Contains-tail y (xs ++ ys) i h)
-
--- what stands once isn't among the others
-apart_from : (xs : List ℕ) (y : ℕ) (ys : List ℕ) → AllPairs (λ i j. i ≢ j) (xs ++ y ∷ ys) → Contains (xs ++ ys) y → ⊥
-apart_from xs y ys once h =
+-- without what stands once, the others are left
+without : (xs : List ℕ) (y : ℕ) (ys : List ℕ) → AllPairs (λ i j. i ≢ j) (xs ++ y ∷ ys) → (i : ℕ)
+    → Contains (xs ++ ys) i ↔ (Contains (xs ++ y ∷ ys) i × (i ≢ y))
+without xs y ys once i =
+    let moved = IsPermutation-middle xs y ys in
     let after = pairs_head (λ i j. i ≢ j) y ys (pairs_right (λ i j. i ≢ j) xs (y ∷ ys) once) in
-    All-contains (λ x. x ≢ y) (xs ++ ys) y (All-append (λ x. x ≢ y) xs ys
-    (pairs_middle (λ i j. i ≢ j) xs y ys once).0 (λ k d lt e. after k d lt (sym e))) h refl
+    let others : All (λ x. x ≢ y) (xs ++ ys) = All-append (λ x. x ≢ y) xs ys
+    (pairs_middle (λ i j. i ≢ j) xs y ys once).0 (λ k d lt e. after k d lt (sym e)) in (
+      λ h. (
+        Contains-permutation _ _ i (IsPermutation-sym _ _ moved) (Contains-tail y (xs ++ ys) i h),
+        All-contains (λ x. x ≢ y) (xs ++ ys) i others h,
+      ),
+      λ h. grind (arith, Contains-cases y (xs ++ ys) i (Contains-permutation _ _ i moved h.0)),
+    )
 
-module _ (foot : JobFootprint) (accesses : List Access) (P : ℕ → ℕ → Type 0) where
-  pub reordered : (settled order : List ℕ)
-      → ((i j : ℕ) → Contains settled i → Contains settled j → i ≢ j
-      → Conflict (access_of accesses i) (access_of accesses j) → P i j ⊎ P j i)
-      → ((i : ℕ) → Contains order i → Contains settled i) → ((i : ℕ) → Contains settled i → Contains order i)
-      → ((i : ℕ) → Contains settled i → i < length accesses)
-      → AllPairs (λ i j. i ≢ j) settled → AllPairs (λ i j. i ≢ j) order → Forward P settled → Forward P order
-      → SameRun accesses order settled
-  reordered [] [] joins to from below once once' a b = same_run accesses []
-  reordered [] (y ∷ ys) joins to from below once once' a b = absurd (not_in_none y (to y (Contains-head y ys)))
-  reordered (x ∷ rest) order joins to from below once once' a b =
-      let c : Cut order x = cut order x (from x (Contains-head x rest)) in
-      let single : AllPairs (λ i j. i ≢ j) (c.before ++ x ∷ c.rest) = rw (c.is) at once' in
-      let parts = pairs_middle (λ i j. i ≢ j) c.before x c.rest single in
-      let ahead = pairs_middle (λ i j. ¬ P j i) c.before x c.rest (rw (c.is) at b) in
-      let to' : (i : ℕ) → Contains (c.before ++ c.rest) i → Contains rest i =
-      λ i h. not_first x rest i
-      (λ e. apart_from c.before x c.rest single (subst (Contains (c.before ++ c.rest)) (sym e) h))
-      (to i (rw (c.is) (with_middle c.before x c.rest i h))) in
-      let from' : (i : ℕ) → Contains rest i → Contains (c.before ++ c.rest) i =
-      λ i h. not_first x (c.before ++ c.rest) i
-      (All-contains (λ y. x ≢ y) rest i (pairs_head (λ i j. i ≢ j) x rest once) h)
-      (Contains-permutation (c.before ++ x ∷ c.rest) _ i (IsPermutation-middle c.before x c.rest)
-      (rw (c.is) at (from i (Contains-tail x rest i h)))) in
-      let free : All (IsFree accesses x) c.before = λ k d lt.
-      let y : ℕ = get_or c.before k d in
-      let inside : Contains rest y =
-      to' y (Contains-append_left c.before c.rest y (Contains-get_or c.before k d lt)) in (
-        below y (Contains-tail x rest y inside),
-        parts.0 k d lt,
-        λ conflict. elim (joins y x (Contains-tail x rest y inside) (Contains-head x rest) (parts.0 k d lt) conflict) [
-          | inl p ↦ All-contains (λ z. ¬ P z x) rest y (pairs_head (λ i j. ¬ P j i) x rest a) inside p
-          | inr p ↦ ahead.0 k d lt p
-        ],
-      ) in
-      rw (c.is) (run_along accesses (c.before ++ x ∷ c.rest) (x ∷ c.before ++ c.rest) (x ∷ rest)
-      (run_to_front accesses foot x c.before c.rest (below x (Contains-head x rest)) free)
-      (run_later accesses x (c.before ++ c.rest) rest
-      (reordered rest (c.before ++ c.rest)
-      (λ i j p q. joins i j (Contains-tail x rest i p) (Contains-tail x rest j q)) to' from'
-      (λ i h. below i (Contains-tail x rest i h))
-      (pairs_tail (λ i j. i ≢ j) x rest once) parts.1 (pairs_tail (λ i j. ¬ P j i) x rest a) ahead.1)))
+-- The systems of J are below, and two of them in conflict are joined by a path.
+module _ (foot : JobFootprint) (accesses : List Access) (P : ℕ → ℕ → Type 0) (J : ℕ → Type 0)
+    (below : (i : ℕ) → J i → i < length accesses)
+    (joins : (i j : ℕ) → J i → J j → i ≢ j → Conflict (access_of accesses i) (access_of accesses j) → P i j ⊎ P j i)
+  where
+    pub reordered : (settled order : List ℕ) → All J settled → ((i : ℕ) → Contains order i ↔ Contains settled i)
+        → AllPairs (λ i j. i ≢ j) settled → AllPairs (λ i j. i ≢ j) order → Forward P settled → Forward P order
+        → SameRun accesses order settled
+    reordered [] [] all same once once' a b = same_run accesses []
+    reordered [] (y ∷ ys) all same once once' a b = absurd (not_in_none y ((same y).0 (Contains-head y ys)))
+    reordered (x ∷ rest) order all same once once' a b =
+        let c : Cut order x = cut order x ((same x).1 (Contains-head x rest)) in
+        let single : AllPairs (λ i j. i ≢ j) (c.before ++ x ∷ c.rest) = rw (c.is) at once' in
+        let parts = pairs_middle (λ i j. i ≢ j) c.before x c.rest single in
+        let ahead = pairs_middle (λ i j. ¬ P j i) c.before x c.rest (rw (c.is) at b) in
+        let others : (i : ℕ) → Contains (c.before ++ c.rest) i ↔ Contains rest i = λ i.
+        grind (arith, c.is, same i, without c.before x c.rest single i, without [] x rest once i) in
+        let here : J x = all 0 x (omega arith) in
+        let later : All J rest = All-tail J x rest all in
+        let free : All (IsFree accesses x) c.before = λ k d lt.
+        let y : ℕ = get_or c.before k d in
+        let inside = (others y).0 (Contains-append_left c.before c.rest y (Contains-get_or c.before k d lt)) in
+        let joined : J y = All-contains J rest y later inside in (
+          below y joined,
+          parts.0 k d lt,
+          λ conflict. elim (joins y x joined here (parts.0 k d lt) conflict) [
+            | inl p ↦ All-contains (λ z. ¬ P z x) rest y (pairs_head (λ i j. ¬ P j i) x rest a) inside p
+            | inr p ↦ ahead.0 k d lt p
+          ],
+        ) in
+        rw (c.is) (run_along accesses (c.before ++ x ∷ c.rest) (x ∷ c.before ++ c.rest) (x ∷ rest)
+        (run_to_front accesses foot x c.before c.rest (below x here) free)
+        (run_later accesses x (c.before ++ c.rest) rest
+        (reordered rest (c.before ++ c.rest) later others (pairs_tail (λ i j. i ≢ j) x rest once) parts.1
+        (pairs_tail (λ i j. ¬ P j i) x rest a) ahead.1)))
 
 -- ---- lawful orders
 
@@ -143,13 +137,11 @@ lawful_forward keeps g who order lawful a b d lt l p =
 
 pub orders_agree : JobFootprint → ConflictingSystemsAreOrdered → LawfulOrdersKeepPaths → LawfulOrdersAgree
 orders_agree foot ordered keeps s accesses settled a b are is_settled la lb =
-    reordered foot accesses (Path settled) b a
+    reordered foot accesses (Path settled) (λ i. IsTrue (has_joined (join_flags s) i))
+    (λ i joined. rw (are.each) (joined_below s i joined))
     (λ i j p q ne conflict. ordered accesses s.rules (join_flags s) settled
-    (length-map-range_with_len (has_begun s) 0 s.systems ∙ sym are.each) is_settled i j ne ((lb.of_joined i).0 p)
-    ((lb.of_joined j).0 q) conflict)
-    (λ i h. (lb.of_joined i).1 ((la.of_joined i).0 h))
-    (λ i h. (la.of_joined i).1 ((lb.of_joined i).0 h))
-    (λ i h. rw (are.each) (joined_below s i ((lb.of_joined i).0 h)))
+    (length-map-range_with_len (has_begun s) 0 s.systems ∙ sym are.each) is_settled i j ne p q conflict)
+    b a (λ k d lt. (lb.of_joined _).0 (Contains-get_or b k d lt)) (λ i. grind (arith, la.of_joined i, lb.of_joined i))
     lb.once la.once (lawful_forward keeps settled (join_flags s) b lb)
     (lawful_forward keeps settled (join_flags s) a la) s are
 
@@ -166,5 +158,5 @@ frames_agree foot ordered keeps one is_lawful frame s u log settled order x is_o
     (systems_in log) is_order.of_systems is_order.is_settled lawful own in (
       agree.0 ∙ sym x.leaves,
       ap (λ (l : Log). l.posts) (sym x.tells),
-      subst (λ (l : Log). IsPermutation (frame_in order frame s).log.turns l.turns) (sym x.tells) agree.1,
+      rw (x.tells) (agree.1),
     )

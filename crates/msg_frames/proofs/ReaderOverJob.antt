@@ -1,5 +1,5 @@
 -- What a reader goes past by an op, by a turn and by a job.
-use Rattle.std.proofs.Common.{◌≡◌, ℕ, zero, suc, ◌≤◌, List, [], ◌∷◌, ◌++◌, append_assoc, map, length, All, Option, None, Some, refl, sym, ap, subst, arith, cond, ◌==◌}
+use Rattle.std.proofs.Common.{◌≡◌, ℕ, zero, suc, ◌≤◌, List, [], ◌∷◌, ◌++◌, append_assoc, map, length, All, Option, None, Some, refl, ap, arith, cond, ◌==◌}
 use Rattle.std.proofs.lemmas.Bool.{cases_Bool}
 use Rattle.std.proofs.lemmas.List.{append-nil, length-append, length-map, map-append, map-id}
 use Rattle.std.proofs.lemmas.List.Elements.{All-append, All-cons, All-nil}
@@ -170,7 +170,7 @@ module _ (t : ℕ) (m : Meaning) (w : WorldState) where
 
   answered_more : (o : Option Op) (far : AfterProgram) (ms : List Moment) → next_op m far.replies ≡ o
       → AnsweredAs far ms → AnsweredAs (one_more o m.writer far) (ms ++ next_moments t o m.writer far)
-  answered_more None far ms is so = subst (AnsweredAs far) (sym (append-nil ms)) so
+  answered_more None far ms is so = rw (append-nil ms) so
   answered_more (Some op) far ms is so =
       grind (arith, map-id, map-map, entries_snoc, length-append, map-append, ops_answered-snoc)
 

@@ -1,9 +1,9 @@
 -- What a reader goes past over a run of frames.
-use Rattle.std.proofs.Common.{arith, ◌≡◌, ℕ, ◌<◌, List, [], ◌∷◌, ◌++◌, refl, sym, subst, ◌∙◌}
-use Rattle.std.specs.Prelude.{IsTrue, IsFalse}
+use Rattle.std.proofs.Common.{arith, ℕ, ◌<◌, List, [], ◌∷◌, ◌++◌, refl, sym, subst, ◌∙◌}
+use Rattle.std.specs.Prelude.{IsTrue}
 use Rattle.msg_buffer.specs.Prelude.{GoesOn, History}
 use Rattle.msg_world.specs.declared.record.Record.{Record}
-use Rattle.msg_frames.specs.Prelude.{Frame, IsRun, IsServed, IsSoundState, Log, Moment, RunsAreComplete, State, answers_in, before_turns, found_at, found_totals, frame_in, has_begun, moments, place_of, systems_in, totals_from, turns_moments, SameSystems, Totals}
+use Rattle.msg_frames.specs.Prelude.{Frame, IsRun, IsServed, IsSoundState, Log, Moment, RunsAreComplete, State, answers_in, before_turns, found_at, found_totals, frame_in, has_begun, moments, place_of, systems_in, turns_moments, Totals}
 use Rattle.msg_frames.proofs.OneFateEach.{lies_between, meets_one_fate, missed_are_dropped}
 use Rattle.msg_frames.proofs.TilesGiveInOrder.{all_as_written, given_in_order, in_order_of}
 use Rattle.msg_frames.proofs.HistoriesGrow.{BufferLaws, goes_further, runs_go_on, stays}
@@ -13,7 +13,6 @@ use Rattle.msg_frames.proofs.EntriesAddUp.{tiles_add_up, with_entries-none}
 use Rattle.msg_frames.proofs.ReaderOverTurns.{Keeps, Reads, ReadsFrom, Tells, answers_among, no_moments, reads_further, tells_further, turns_read, turns_tell}
 use Rattle.msg_frames.proofs.BeforeTurns.{Prepares, before_rule, comes, prepares, stood, waits}
 use Rattle.msg_frames.proofs.StatesStaySound.{begun_alike, frame_sound, has_no_turn, prepared_sound}
-use Rattle.msg_system.specs.declared.reply.Reply.{Reply}
 
 -- a run of frames, as one frame and then the others, from the state that the frame leaves
 pub after_first : (frame : Frame) (frames : List Frame) (s : State) (log : Log) (logs : List Log) (u : State)
@@ -23,21 +22,17 @@ after_first frame frames s log logs u is = rw (← is.1.leaves) is.2
 
 -- ---- the entries that the logs have
 
-tells_since : (i t : ℕ) (s b : State) (turns : List (List Reply)) (ms : List Moment) (u : State)
-    → SameSystems s b → (b.members i).job.system.rule ≡ (s.members i).job.system.rule → Tells i t b turns ms u
-    → Tells i t s turns ms u
-tells_since i t s b turns ms u same rule x = grind (arith, (same.members i).needs)
-
 pub run_tells : (i t : ℕ) (frames : List Frame) (s : State) (logs : List Log) (u : State) → IsRun frames s logs u
     → Tells i t s (answers_in i logs) (moments i t frames logs s) u
 run_tells i t [] s [] u is = grind arith
 run_tells i t (frame ∷ frames) s (log ∷ logs) u is =
     let b : State = before_turns frame.posts s in
-    let here = tells_since i t s b _ _ _ (before_keeps frame.posts s) (before_rule frame.posts s i)
-    (turns_tell i t (systems_in log) b) in
+    let told = turns_tell i t (systems_in log) b in
+    let needs = ((before_keeps frame.posts s).members i).needs in
     tells_further i t s _ _ _ _ _ u
     (subst (λ (l : Log). Tells i t s (answers_among i l.turns) (turns_moments i t (systems_in log) b)
-    (frame_in (systems_in log) frame s).state) (sym is.1.tells) here)
+    (frame_in (systems_in log) frame s).state) (sym is.1.tells)
+    (grind (arith, before_rule frame.posts s i, needs, told)))
     (run_tells i t frames _ logs u (after_first frame frames s log logs u is))
 run_tells i t frames s logs u is = absurd is
 
@@ -52,22 +47,10 @@ reads_since i t place had a b ms u goes x = grind (arith, goes_further)
 abbrev pub Follows : ℕ → ℕ → State → List Moment → State → Type 0
 Follows i t s ms u = ReadsFrom i t (found_at s u i t) (found_totals s u i t) (s.world.histories t) ms u
 
-module _ (i t : ℕ) (s : State) (ms : List Moment) (u : State) where
-  reads_joined : IsTrue (has_begun s i) → Follows i t s ms u → Reads i t s ms u
-  reads_joined has x = rw has at x
-
-  follows_joined : IsTrue (has_begun s i) → Reads i t s ms u → Follows i t s ms u
-  follows_joined has x = rw has x
-
-  -- from the place at which it joined
-  follows_new : (place : ℕ) → IsFalse (has_begun s i)
-      → ReadsFrom i t place (totals_from place) (s.world.histories t) ms u → Follows i t s ms u
-  follows_new place isnt x = grind arith
-
-  -- where nothing was done to it yet
-  follows_since : (m : State) → IsFalse (has_begun s i) → IsFalse (has_begun m i)
-      → GoesOn (s.world.histories t) (m.world.histories t) → Follows i t m ms u → Follows i t s ms u
-  follows_since m isnt wasnt goes x = rw isnt (reads_since i t _ _ _ _ ms u goes (rw wasnt at x))
+-- one that had joined is found at its place
+follows_joined : (i t : ℕ) (s : State) (ms : List Moment) (u : State) → IsTrue (has_begun s i) → Reads i t s ms u
+    → Follows i t s ms u
+follows_joined i t s ms u has x = rw has x
 
 module _ (laws : BufferLaws) (i t : ℕ) where
   pub run_follows : (frames : List Frame) (s : State) (logs : List Log) (u : State) → IsSoundState s
@@ -92,14 +75,14 @@ module _ (laws : BufferLaws) (i t : ℕ) where
       let all : IsTrue (has_begun b i) → ReadsFrom i t (place_of b i t) ((b.members i).totals t)
       (s.world.histories t) (ms ++ rest) u =
       λ now. reads_since i t _ _ _ _ (ms ++ rest) u goes
-      (reads_further i t b ms m rest u here (reads_joined i t m rest u (begun_alike b m i keep ∙ now) later)) in
+      (reads_further i t b ms m rest u here (rw (begun_alike b m i keep ∙ now) at later)) in
       elim (prep.arrival i) [
         | stood was now same ↦ follows_joined i t s (ms ++ rest) u was (rw (place_of, same) at (all now))
-        | comes was now new ↦ follows_new i t s (ms ++ rest) u _ was (rw (place_of, new) at (all now))
+        | comes was now new ↦ let after = rw (place_of, new) at (all now) in rw (was, after.totals) after
         | waits was now same ↦
-            rw (no_moments i t (systems_in log) b (has_no_turn b (systems_in log) i is.1.in_order now))
-            (follows_since i t s rest u m was (begun_alike b m i keep ∙ now)
-            (goes_further _ _ _ goes here.passes.goes_on) later)
+            rw (was, no_moments i t (systems_in log) b (has_no_turn b (systems_in log) i is.1.in_order now))
+            (reads_since i t _ _ _ _ rest u (goes_further _ _ _ goes here.passes.goes_on)
+            (rw (begun_alike b m i keep ∙ now) at later))
       ]
   run_follows frames s logs u sound is below has = absurd is
 

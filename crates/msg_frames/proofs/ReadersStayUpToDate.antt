@@ -65,10 +65,6 @@ recent_ahead s i t up n e above at =
     let there = up n above (slice_get_within (s.world.histories t).entries n e at) in
     grind (arith, nat_tests, same_Some _ _ (sym there.1 ∙ at))
 
-floor_below : (s : State) (i t n : ℕ) → IsUpToDate s i t → place_of s i t ≤ n → n < count (s.world.histories t)
-    → (s.world.histories t).floor ≤ n
-floor_below s i t n up above within = grind (arith, nat_tests)
-
 module _ (laws : BufferLaws) where
   module _ (frame : Frame) (s : State) (log : Log) (u : State) (i t : ℕ) (sound : IsSoundState s)
       (is : IsFrame frame s log u) (below : t < s.types) where
@@ -118,7 +114,7 @@ module _ (laws : BufferLaws) where
         let p : ℕ = place_of s i t in
         let recent = frame_recent 1 p (updated_recent p t s.world (recent_ahead s i t up)) in
         is_there p (get_or ms k d).history n (earlier_recent 1 p _ _ (goes k d lt) recent) above
-        (grind (arith, drained, floor_below s i t n up above, (sound.histories t below).floor, (goes k d lt).floor))
+        (grind (arith, drained, nat_tests, up n above, (sound.histories t below).floor, (goes k d lt).floor))
         within
 
     frame_misses_none : IsTrue (has_begun s i) → IsUpToDate s i t → NothingDrained t s u
@@ -163,20 +159,22 @@ module _ (laws : BufferLaws) where
         rest = omega (arith, drained, goes.floor);
       }
 
-  -- who is up to date misses nothing in the frames that come, in each of which it reads all
-  missed_after : (frames : List Frame) (m u : State) (logs : List Log) (i t : ℕ) → IsSoundState m
-      → (run : IsRun frames m logs u) → t < m.types → IsTrue (has_begun m i) → IsUpToDate m i t
-      → ReadsAllInEach i t frames m logs u run → NothingDrained t m u → NoneMissed (moments i t frames logs m)
-  missed_after [] m u [] i t sound run below has up each drained = All-nil (λ m. m.entry.stretch.missed ≡ 0)
-  missed_after (f ∷ fs) m u (l ∷ ls) i t sound run below has up each drained =
-      let v : State = run.0 in
-      let mid : Between t m v u = between f fs m v u l ls t sound run.1 run.2 below drained in
+  -- who reads all in a frame misses nothing in the frames after it, in each of which it reads all
+  missed_after : (frame : Frame) (frames : List Frame) (s m u : State) (log : Log) (logs : List Log) (i t : ℕ)
+      → IsSoundState s → IsFrame frame s log m → (run : IsRun frames m logs u) → t < s.types → ReadsAll i t log m
+      → ReadsAllInEach i t frames m logs u run → NothingDrained t s u → NoneMissed (moments i t frames logs m)
+  missed_after frame [] s m u log [] i t sound is run below first each drained =
+      All-nil (λ m. m.entry.stretch.missed ≡ 0)
+  missed_after frame (f ∷ fs) s m u log (l ∷ ls) i t sound is run below first each drained =
+      let mid : Between t s m u = between frame (f ∷ fs) s m u log (l ∷ ls) t sound is run below drained in
+      let next : Between t m run.0 u = between f fs m run.0 u l ls t mid.sound run.1 run.2 mid.below mid.rest in
       All-append (λ x. x.entry.stretch.missed ≡ 0) _ _
-      (frame_misses_none f m l v i t sound run.1 below has up mid.first)
-      (rw (← run.1.leaves) (missed_after fs v u ls i t mid.sound run.2 mid.below
-      (joined_by_turn f m l v i t sound run.1 below each.0.has_turn)
-      (now_up_to_date f m l v i t sound run.1 below each.0 mid.first) each.1 mid.rest))
-  missed_after frames m u logs i t sound run below has up each drained = absurd run
+      (frame_misses_none f m l run.0 i t mid.sound run.1 mid.below
+      (joined_by_turn frame s log m i t sound is below first.has_turn)
+      (now_up_to_date frame s log m i t sound is below first mid.first) next.first)
+      (rw (← run.1.leaves)
+      (missed_after f fs m run.0 u l ls i t mid.sound run.1 run.2 mid.below each.0 each.1 mid.rest))
+  missed_after frame frames s m u log logs i t sound is run below first each drained = absurd run
 
   -- as the logs tell it
   told_none_missed : (frames : List Frame) (s : State) (logs : List Log) (u : State) (i t : ℕ) → IsRun frames s logs u
@@ -195,7 +193,5 @@ module _ (laws : BufferLaws) where
 
   pub never_misses : WhoReadsEachFrameMissesNothing
   never_misses frame frames s m u log logs i t sound is run below first each drained =
-      let mid : Between t s m u = between frame frames s m u log logs t sound is run below drained in
-      told_none_missed frames m logs u i t run (missed_after frames m u logs i t mid.sound run mid.below
-      (joined_by_turn frame s log m i t sound is below first.has_turn)
-      (now_up_to_date frame s log m i t sound is below first mid.first) each mid.rest)
+      told_none_missed frames m logs u i t run
+      (missed_after frame frames s m u log logs i t sound is run below first each drained)

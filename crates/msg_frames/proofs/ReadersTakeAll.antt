@@ -3,7 +3,6 @@ use Rattle.std.proofs.Common.{◌≡◌, ◌≢◌, ℕ, zero, suc, ◌≤◌, L
 use Rattle.std.specs.Prelude.{IsTrue}
 use Rattle.std.specs.List.{list_any}
 use Rattle.std.proofs.lemmas.Bool.{cases_Bool, false≢true, or_cases}
-use Rattle.std.proofs.lemmas.List.Elements.{All-head}
 use Rattle.std.proofs.lemmas.List.Folds.{list_any-append}
 use Rattle.msg_buffer.specs.Prelude.{IsSound, count}
 use Rattle.msg_world.specs.Prelude.{WorldState}
@@ -54,23 +53,11 @@ module _ (laws : BufferLaws) (t : ℕ) where
   unfolding turn
   turn_takes m w sound within is = first_takes 64 m w sound within is
 
-  -- ---- a job
-
   -- ---- turns
 
   -- where the last ops of system i read all, it stands at c or after it
   abbrev Took : ℕ → ℕ → State → Type 0
   Took i c s = IsTrue (list_any (reads_all t) (s.members i).job.system.last) → c ≤ place_of s i t
-
-  own_turn_takes : (i : ℕ) (s : State) → IsSound (s.world.histories t) → place_of s i t ≤ count (s.world.histories t)
-      → (logged_turn s i).outcome ≢ Skipped
-      → Took i (count (s.world.histories t)) (after_turn_of i s)
-  own_turn_takes i s sound within ran = grind (arith, cases_Bool, one_member, turn_takes)
-
-  turn_keeps : (i j c : ℕ) (s : State) → IsSound (s.world.histories t) → place_of s i t ≤ count (s.world.histories t)
-      → c ≤ count (s.world.histories t)
-      → Took i c s → Took i c (after_turn_of j s)
-  turn_keeps i j c s sound within less has = grind (arith, cases_Bool, one_member, turn_takes)
 
   turns_keep_it : (i c : ℕ) (js : List ℕ) (s : State) → IsSound (s.world.histories t)
       → place_of s i t ≤ count (s.world.histories t) → c ≤ count (s.world.histories t)
@@ -79,7 +66,7 @@ module _ (laws : BufferLaws) (t : ℕ) where
   turns_keep_it i c (j ∷ js) s sound within less has =
       let first = (turn_reads laws i t j s sound within).passes in
       turns_keep_it i c js (after_turn_of j s) first.goes_on.sound first.within
-      (omega (arith, less, counts_more _ _ first.goes_on)) (turn_keeps i j c s sound within less has)
+      (omega (arith, less, counts_more _ _ first.goes_on)) (grind (arith, cases_Bool, one_member, turn_takes))
 
   pub takes_by_turn : (i : ℕ) (earlier later : List ℕ) (b : State) → IsSound (b.world.histories t)
       → place_of b i t ≤ count (b.world.histories t)
@@ -87,7 +74,9 @@ module _ (laws : BufferLaws) (t : ℕ) where
       → Took i (count ((after_turns_of earlier b).state.world.histories t))
       (after_turns_of (earlier ++ i ∷ later) b).state
   takes_by_turn i [] later b sound within ran =
-      grind (arith, All-head, counts_more, own_turn_takes, turn_reads, turns_keep_it)
+      let own : Took i (count (b.world.histories t)) (after_turn_of i b) =
+      let runs = ran 0 (logged_turn b i) (omega arith) in grind (arith, cases_Bool, one_member, runs, turn_takes) in
+      grind (arith, counts_more, own, turn_reads, turns_keep_it)
   takes_by_turn i (j ∷ more) later b sound within ran =
       let first = (turn_reads laws i t j b sound within).passes in
       takes_by_turn i more later (after_turn_of j b) first.goes_on.sound first.within

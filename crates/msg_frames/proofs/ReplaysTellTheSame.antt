@@ -1,7 +1,8 @@
 -- A replay tells of each system what the frame tells of it.
-use Rattle.std.proofs.Common.{arith, ◌≡◌, ◌≢◌, ℕ, ◌==◌, inl, inr, List, [], ◌∷◌, ◌++◌, map, refl, ap, sym, subst, ◌∙◌, Bool, false, suc, eq-eqb, ne_eqb, ap₂}
+use Rattle.std.proofs.Common.{arith, ◌≡◌, ◌≢◌, ℕ, ◌==◌, inl, inr, List, [], ◌∷◌, ◌++◌, map, refl, ap, sym, ◌∙◌, Bool, false, suc, ne_eqb, ap₂}
 use Rattle.std.specs.Prelude.{AllPairs, Contains, IsPermutation, flat_map, if◌then◌else◌, All}
 use Rattle.std.proofs.lemmas.Bool.{cases_Bool, eqb-true}
+use Rattle.std.proofs.lemmas.Bool.Decides.{eqb_tells}
 use Rattle.std.proofs.lemmas.List.{append-nil, get_or-map, length-map}
 use Rattle.std.proofs.lemmas.List.Sorted.{Contains-permutation, list_any-IsPermutation}
 use Rattle.msg_order.specs.Prelude.{TurnOrderIsLawful}
@@ -34,11 +35,10 @@ module _ {X Y : Type 0} (key : X → ℕ) (f : X → List Y) (i : ℕ) where
         let is : key y ≡ i = ap key same ∙ e in
         let others : All (λ z. test z ≡ false) ys =
         λ k d lt. ne_eqb _ i (λ at. once 0 (suc k) d (omega arith) (omega arith) (is ∙ sym at)) in
-        rw (eq-eqb (key y) i is, none_told ys (list_any_none test ys others), append-nil, same) refl
+        grind (arith, append-nil, eqb_tells, is, none_told ys (list_any_none test ys others), same)
     | inr later ↦
-        let ne : key y ≢ i = λ at. once 0 (suc later.0) x (omega arith) (omega (arith, later.1))
-        (at ∙ sym (ap key later.2 ∙ e)) in
-        rw (ne_eqb (key y) i ne) (one_told ys (pairs_tail (λ a b. key a ≢ key b) y ys once) x later e)
+        let rest = one_told ys (pairs_tail (λ a b. key a ≢ key b) y ys once) x later e in
+        grind (arith, eqb_tells, later, once 0 (suc later.0) x, rest)
   ]
 
   keys_once : (xs : List X) → AllPairs (λ a b. a ≢ b) (map key xs) → AllPairs (λ a b. key a ≢ key b) xs
@@ -63,7 +63,7 @@ turns_alike lawful frame order s log u replay i =
     let b : State = before_turns frame.posts s in
     let settled = replay.is_frame.in_order in
     told_alike (λ (turn : Turn). turn.system) (λ (turn : Turn). answers _) i log.turns replay.settled.turns replay.turns
-    (subst (AllPairs (λ a b. a ≢ b)) (sym replay.in_order) replay.lawful.lawful.once)
+    (rw (replay.in_order) (replay.lawful.lawful.once))
     (lawful settled.settled (join_flags b) (systems_in replay.settled)
     (order_is_among _ _ settled.is_order) settled.in_order).once
 

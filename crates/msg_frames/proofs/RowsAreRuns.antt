@@ -1,11 +1,12 @@
 -- Each worked run is a run as the definitions say: the order of its turns is the settled one. The accesses, the settled
 -- order and the batch numbers are computed.
-use Rattle.std.proofs.Common.{◌≡◌, ℕ, zero, suc, ◌*◌, ◌^◌, ◌%◌, ◌<◌, ◌≤◌, inl, inr, Bool, true, false, cond, ◌&&◌, List, [], ◌∷◌, Option, Some, None, map, refl, ◌∙◌, arith}
+use Rattle.std.proofs.Common.{◌≡◌, ℕ, zero, suc, ◌*◌, ◌^◌, ◌%◌, ◌<◌, ◌≤◌, Bool, true, false, cond, ◌&&◌, All, List, [], ◌∷◌, Option, Some, None, map, refl, ◌∙◌, arith}
 use Rattle.std.specs.Prelude.{nat_lt, bit_or, slice_index_or}
 use Rattle.std.specs.List.{range_with_len, list_all, list_any}
 use Rattle.std.proofs.lemmas.Bool.{cases_Bool, cases_lt, and_parts, false≢true}
 use Rattle.std.proofs.lemmas.List.{get_or_past}
 use Rattle.std.proofs.lemmas.List.FromFn.{get_or-map-range_with_len, length-map-range_with_len}
+use Rattle.std.proofs.lemmas.List.Sums.{AllPass-from_list_all}
 use Rattle.msg_world.specs.declared.access.Access.{Access}
 use Rattle.msg_world.specs.Prelude.{Part, OfType, OfResource, Registry, has_bit, no_access, Fits}
 use Rattle.msg_world.proofs.Bits.{has_bit-zero, has_bit-set}
@@ -44,9 +45,6 @@ access_for n needs = record {
 access_fits : (n : ℕ) (needs : Needs) → n ≤ 64 → Fits n n (access_for n needs)
 access_fits n needs few = grind (arith, cases_Bool, mask_at, nat_tests)
 
-nothing_fits : (n : ℕ) → Fits n n no_access
-nothing_fits n = grind (arith, has_bit-zero, nat_tests)
-
 -- ---- a job of types and resources below n
 
 abbrev may_read : ℕ → Part → Bool
@@ -74,22 +72,16 @@ is_within n ops cs =
     (λ op. passes (may_write n) (op_parts op).written) ops)
     && list_all (λ c. passes (may_read n) (Some (probe_part c.probe))) cs
 
-reads_within : (n : ℕ) (ops : List Op) (cs : List Condition) → is_within n ops cs ≡ true → (p : Part)
-    → (job_needs ops cs).reads p ≡ true → may_read n p ≡ true
-reads_within n ops cs w p h =
-    let by_ops = any_passes (may_read n) (λ op. (op_parts op).read) ops p in
-    let by_conditions = any_passes (may_read n) (λ c. Some (probe_part c.probe)) cs p in
-    grind (arith, by_conditions, by_ops, cases_Bool)
-
-writes_within : (n : ℕ) (ops : List Op) (cs : List Condition) → is_within n ops cs ≡ true → (p : Part)
-    → (job_needs ops cs).writes p ≡ true → may_write n p ≡ true
-writes_within n ops cs w p h = grind (arith, cases_Bool, any_passes (may_write n) (λ op. (op_parts op).written) ops p)
-
 access_is : (n : ℕ) (ops : List Op) (cs : List Condition) → n ≤ 64 → is_within n ops cs ≡ true
     → IsAccessOf (job_needs ops cs) (access_for n (job_needs ops cs))
 access_is n ops cs few w = record {
-  reads = λ p. grind (arith, cases_Bool, mask_at, nat_tests, reads_within n ops cs w p);
-  writes = λ p. grind (arith, cases_Bool, mask_at, nat_tests, writes_within n ops cs w p);
+  reads = λ p.
+      let by_ops = any_passes (may_read n) (λ op. (op_parts op).read) ops p in
+      let by_conditions = any_passes (may_read n) (λ c. Some (probe_part c.probe)) cs p in
+      grind (arith, by_conditions, by_ops, cases_Bool, mask_at, nat_tests);
+  writes = λ p.
+      let by_ops = any_passes (may_write n) (λ op. (op_parts op).written) ops p in
+      grind (arith, by_ops, cases_Bool, mask_at, nat_tests);
 }
 
 -- ---- the turns of a frame
@@ -119,16 +111,13 @@ are_turns_of programs s order = list_all (job_is_within programs s) (range_with_
 turns_of : (programs : List Program) (s : State) (order : List ℕ) → ArePrograms programs s
     → are_turns_of programs s order ≡ true → IsTurnOrderOf s order
 turns_of programs s order are t =
-    let both = and_parts (list_all (job_is_within programs s) (range_with_len 0 s.systems))
-    (is_turn_order most (accesses_of s) s.rules (join_flags s) order) t in
+    let both = and_parts _ _ t in
     let access : ℕ → Access = λ i. access_for most (needs_of (s.members i)) in
     let is : (i : ℕ) → i < s.systems → access_of (accesses_of s) i
     ≡ access i = λ i lt. get_or-map-range_with_len access 0 s.systems i i no_access lt (omega arith) in
     let all = length-map-range_with_len access 0 s.systems in
-    let fit : (i : ℕ) → Fits most most (access_of (accesses_of s) i) = λ i. elim (cases_lt i s.systems) [
-      | inl lt ↦ rw (is i lt) (access_fits most (needs_of (s.members i)) (omega arith))
-      | inr past ↦ rw (get_or_past (accesses_of s) i no_access (omega (arith, all))) (nothing_fits most)
-    ] in
+    let fit : (i : ℕ) → Fits most most (access_of (accesses_of s) i) = λ i.
+    grind (arith, access_fits most (needs_of (s.members i)), all, cases_lt, get_or_past, has_bit-zero, is i) in
     let turn = in_turn_by_test most (accesses_of s) s.rules (join_flags s) order fit both.1 in
     record {
       settled = turn.settled;
@@ -157,8 +146,7 @@ is_run : (programs : List Program) (frames : OrderedFrames) (s : State) → AreP
     → are_in_order programs frames s ≡ true → IsRunOf frames s
 is_run programs [] s are t = refl
 is_run programs (f ∷ fs) s are t =
-    let both = and_parts (are_turns_of programs (before_turns f.0 s) f.1)
-    (are_in_order programs fs (frame_in f.1 (record { posts = f.0 }) s).state) t in
+    let both = and_parts _ _ t in
     let frame : Frame = record { posts = f.0 } in
     let here : AfterFrame = frame_in f.1 frame s in (
       here.state,
@@ -178,62 +166,27 @@ row : (x : Setup) (frames : OrderedFrames) → are_in_order x.programs frames (s
     → IsRunOf frames (start_of x)
 row x frames t = grind (arith, is_run, joining_on_keeps, numbered_are)
 
-no_frames_is_a_run : IsRunOf [] (start_of alone)
-unfolding turn
-no_frames_is_a_run = row alone [] refl
+-- the worked runs
+abbrev worked : List (Setup × OrderedFrames)
+worked =
+    (alone, [])
+    ∷ (lag, lag_frames)
+    ∷ (fourth (Read 0 None ∷ []), fourth_frames)
+    ∷ (fourth (Read 0 (Some 0) ∷ Read 0 None ∷ []), fourth_frames)
+    ∷ (writers, writers_frames)
+    ∷ (contrary, contrary_frames)
+    ∷ (echo, echo_frames)
+    ∷ (two_conditions, conditions_frames)
+    ∷ (tally, tally_frames)
+    ∷ (late, late_frames)
+    ∷ (late, early_frames)
+    ∷ (gated, gated_frames)
+    ∷ (signallers, signallers_frames)
+    ∷ (drained, drained_frames)
+    ∷ (relay, relay_frames)
+    ∷ []
 
-one_frames_lag_is_a_run : IsRunOf lag_frames (start_of lag)
+worked_are_runs : All (λ r. IsRunOf r.1 (start_of r.0)) worked
 unfolding turn
-one_frames_lag_is_a_run = row lag lag_frames refl
-
-exactly_two_updates_is_a_run : IsRunOf fourth_frames (start_of (fourth (Read 0 None ∷ [])))
-unfolding turn
-exactly_two_updates_is_a_run = row (fourth (Read 0 None ∷ [])) fourth_frames refl
-
-read_of_none_is_a_run : IsRunOf fourth_frames (start_of (fourth (Read 0 (Some 0) ∷ Read 0 None ∷ [])))
-unfolding turn
-read_of_none_is_a_run = row (fourth (Read 0 (Some 0) ∷ Read 0 None ∷ [])) fourth_frames refl
-
-host_and_two_writers_is_a_run : IsRunOf writers_frames (start_of writers)
-unfolding turn
-host_and_two_writers_is_a_run = row writers writers_frames refl
-
-contradictory_order_is_a_run : IsRunOf contrary_frames (start_of contrary)
-unfolding turn
-contradictory_order_is_a_run = row contrary contrary_frames refl
-
-own_message_asked_is_a_run : IsRunOf echo_frames (start_of echo)
-unfolding turn
-own_message_asked_is_a_run = row echo echo_frames refl
-
-all_conditions_is_a_run : IsRunOf conditions_frames (start_of two_conditions)
-unfolding turn
-all_conditions_is_a_run = row two_conditions conditions_frames refl
-
-saturation_is_a_run : IsRunOf tally_frames (start_of tally)
-unfolding turn
-saturation_is_a_run = row tally tally_frames refl
-
-late_systems_is_a_run : IsRunOf late_frames (start_of late)
-unfolding turn
-late_systems_is_a_run = row late late_frames refl
-
-late_systems_wait_is_a_run : IsRunOf early_frames (start_of late)
-unfolding turn
-late_systems_wait_is_a_run = row late early_frames refl
-
-held_updates_is_a_run : IsRunOf gated_frames (start_of gated)
-unfolding turn
-held_updates_is_a_run = row gated gated_frames refl
-
-several_signals_is_a_run : IsRunOf signallers_frames (start_of signallers)
-unfolding turn
-several_signals_is_a_run = row signallers signallers_frames refl
-
-drain_between_readers_is_a_run : IsRunOf drained_frames (start_of drained)
-unfolding turn
-drain_between_readers_is_a_run = row drained drained_frames refl
-
-forward_at_the_limit_is_a_run : IsRunOf relay_frames (start_of relay)
-unfolding turn
-forward_at_the_limit_is_a_run = row relay relay_frames refl
+worked_are_runs k d lt =
+    row _ _ (AllPass-from_list_all (λ r. are_in_order r.0.programs r.1 (start_of r.0)) worked refl k d lt)

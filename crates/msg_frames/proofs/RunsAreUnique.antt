@@ -1,12 +1,10 @@
 -- The systems have one settled order, a frame has one log, and so has a run.
-use Rattle.std.proofs.Common.{arith, ◌≡◌, ℕ, ◌<◌, inl, inr, Bool, List, [], ◌∷◌, length, refl, sym, ◌∙◌}
-use Rattle.std.proofs.lemmas.Bool.{and_parts}
-use Rattle.std.proofs.lemmas.List.Elements.{All-contains, filter_passes}
+use Rattle.std.proofs.Common.{arith, ◌≡◌, ℕ, ◌<◌, List, [], ◌∷◌, refl, sym, ◌∙◌}
 use Rattle.std.proofs.lemmas.List.FromFn.{length-map-range_with_len}
 use Rattle.msg_world.specs.declared.access.Access.{Access}
-use Rattle.msg_order.specs.Prelude.{AreInConflict, Graph, IsAcyclic, IsAmong, SettledOrderIsUnique, Settles, SettlingMakesNoCycle, TurnOrderIsUnique, pairs, rules_among}
+use Rattle.msg_order.specs.Prelude.{AreInConflict, Graph, IsAcyclic, IsAmong, SettledOrderIsUnique, Settles, SettlingMakesNoCycle, TurnOrderIsUnique}
 use Rattle.msg_frames.specs.Prelude.{AreAccessesOf, FramesAreUnique, IsOrderOf, IsTurnOrderOf, NoCycle, RunsAreUnique, State, SystemsHaveOneOrder, has_begun, join_flags}
-use Rattle.msg_order.proofs.Elements.{Contains-cases}
+use Rattle.msg_order.proofs.SetPaths.{settled_joins}
 use Rattle.msg_frames.proofs.SystemsStay.{joined_below}
 
 -- ---- conflicts
@@ -29,23 +27,10 @@ pub one_order : SettledOrderIsUnique → SystemsHaveOneOrder
 one_order unique s g h x y = unique x.accesses s.rules (join_flags s) g h x.is_settled
     (grind (arith, same_conflict, settles_by, x.of_systems, y.of_systems, y.is_settled))
 
--- ---- edges among those that have joined
-
-settles_among : (accesses : List Access) (who : List Bool) (ps : List (ℕ × ℕ)) (g h : Graph) → IsAmong who g
-    → Settles (AreInConflict accesses who) g ps h → IsAmong who h
-settles_among accesses who [] g h among e = rw (← e) among
-settles_among accesses who (p ∷ ps) g h among x = elim x [
-  | inl gains ↦ settles_among _ who ps (p ∷ g) h
-      (λ i j e. grind (arith, among i j, Contains-cases p g (i, j) e, gains.0.0)) gains.1
-  | inr stays ↦ settles_among _ who ps g h among stays.1
-]
-
 -- ---- frames and runs
 
 pub order_is_among : (s : State) (g : Graph) → IsOrderOf s g → IsAmong (join_flags s) g
-order_is_among s g o =
-    settles_among o.accesses (join_flags s) (pairs (length o.accesses)) (rules_among (join_flags s) s.rules) g
-    (λ i j e. grind (arith, All-contains, and_parts, filter_passes)) o.is_settled
+order_is_among s g o = settled_joins o.accesses s.rules (join_flags s) g o.is_settled
 
 pub order_has_no_cycle : SettlingMakesNoCycle → (s : State) (g : Graph) → NoCycle s → IsOrderOf s g → IsAcyclic g
 order_has_no_cycle acyclic s g none o = acyclic o.accesses s.rules (join_flags s) g o.is_settled

@@ -2,7 +2,7 @@
 use Rattle.std.proofs.Common.{◌≡◌, ℕ, zero, suc, ◌+◌, ◌≤◌, ◌⊎◌, List, [], ◌∷◌, ◌++◌, Some, arith, inl, inr, slice_get}
 use Rattle.std.proofs.lemmas.Bool.{cases_Bool}
 use Rattle.std.proofs.lemmas.Option.{none-some, same_Some, get_or_from_slice_get, slice_get-get_or, slice_get_within}
-use Rattle.msg_buffer.specs.Prelude.{Entry, History, stamped, update, write, GoesOn}
+use Rattle.msg_buffer.specs.Prelude.{Entry, History, stamped, update, GoesOn}
 use Rattle.msg_world.specs.declared.record.Record.{Record}
 use Rattle.msg_world.specs.Prelude.{WorldState, after_update}
 use Rattle.msg_frames.proofs.HistoriesGrow.{IsKept}
@@ -25,10 +25,6 @@ stamp_of u [] n e at = absurd (none-some e at)
 stamp_of u (m ∷ ms) zero e at = grind (arith, same_Some)
 stamp_of u (m ∷ ms) (suc n) e at = stamp_of u ms n e at
 
-module _ (k p : ℕ) where
-  write_recent : (h : History Record) (ms : List Record) → AreRecent k p h → AreRecent k p (write ms h)
-  write_recent h ms recent = grind (arith, at_append, cases_Bool, stamp_of)
-
 -- what keeps them recent
 abbrev pub StaysRecent : ℕ → ℕ → History Record → History Record → Type 0
 StaysRecent k p a b = AreRecent k p a → AreRecent k p b
@@ -37,7 +33,7 @@ pub stays_recent : (k p : ℕ) → IsKept (StaysRecent k p)
 stays_recent k p = record {
   same = λ h recent. recent;
   further = λ a b c x y recent. y (x recent);
-  written = λ h ms. write_recent k p h ms;
+  written = λ h ms recent. grind (arith, at_append, cases_Bool, stamp_of);
   drained = λ h recent. recent;
 }
 

@@ -1,5 +1,5 @@
 -- Frames keep states sound.
-use Rattle.std.proofs.Common.{◌≡◌, ℕ, ◌<◌, max, List, [], ◌∷◌, Contains, refl, sym, ap₂, subst, ◌∙◌, arith}
+use Rattle.std.proofs.Common.{◌≡◌, ℕ, ◌<◌, max, List, [], ◌∷◌, Contains, refl, sym, ap₂, ◌∙◌, arith}
 use Rattle.std.specs.Prelude.{IsFalse, nat_le}
 use Rattle.std.proofs.lemmas.Bool.{false≢true}
 use Rattle.std.proofs.lemmas.List.FromFn.{get_or-map-range_with_len}
@@ -61,12 +61,12 @@ module _ (laws : BufferLaws) where
       → IsSoundState u
   frame_sound frame s log u sound is =
       let b : State = before_turns frame.posts s in
-      subst IsSoundState (sym is.leaves)
+      rw (is.leaves)
       (turns_sound b (systems_in log) (prepared_sound s b sound (prepares laws.grow frame.posts s)) is.in_order)
 
   pub run_sound : (frames : List Frame) (s : State) (logs : List Log) (u : State) → IsSoundState s
       → IsRun frames s logs u → IsSoundState u
-  run_sound [] s [] u sound is = subst IsSoundState (sym is) sound
+  run_sound [] s [] u sound is = rw is sound
   run_sound (frame ∷ frames) s (log ∷ logs) u sound is =
       run_sound frames is.0 logs u (frame_sound frame s log is.0 sound is.1) is.2
   run_sound frames s logs u sound is = absurd is

@@ -28,8 +28,8 @@ one_turn_keeps i s = grind (arith, cases_Bool, eqb_tells, map-map, same_member)
 
 pub turns_keep_systems : (order : List ℕ) (s : State) → SameSystems s (after_turns_of order s).state
 turns_keep_systems [] s = same_systems s
-turns_keep_systems (i ∷ is) s = systems_along s (after_turn_of i s) (after_turns_of is (after_turn_of i s)).state
-    (one_turn_keeps i s) (turns_keep_systems is (after_turn_of i s))
+turns_keep_systems (i ∷ is) s =
+    systems_along _ _ _ (one_turn_keeps i s) (turns_keep_systems is (after_turn_of i s))
 
 pub turns_make_no_frame : (order : List ℕ) (s : State) → (after_turns_of order s).state.frames ≡ s.frames
 turns_make_no_frame [] s = refl

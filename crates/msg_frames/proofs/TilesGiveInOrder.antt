@@ -6,7 +6,7 @@ use Rattle.std.specs.List.Sorted.{IsStrictlyIncreasing}
 use Rattle.std.proofs.lemmas.Bool.{cases_Bool}
 use Rattle.std.proofs.lemmas.List.{drop-append-le, drop-map, drop_more, length-append, length-drop, map-append, take-append-le, take-map}
 use Rattle.std.proofs.lemmas.Option.{slice_get-get_or}
-use Rattle.msg_buffer.specs.Prelude.{Entry as Written, GoesOn, History, Stretch, Tile, count, instance_of, instances, message_of, next_place}
+use Rattle.msg_buffer.specs.Prelude.{Entry as Written, GoesOn, History, Stretch, Tile, count, instance_of, message_of, next_place}
 use Rattle.msg_world.specs.declared.record.Record.{Record}
 use Rattle.msg_frames.specs.Prelude.{GivesItsStretch, IsInOrderOf, Moment, given, is_by, message_numbered, messages_given, messages_of, numbers_of}
 use Rattle.msg_frames.proofs.OneFateEach.{entries_of}
@@ -61,13 +61,7 @@ messages_in_instances n (e ∷ es) = ap (λ ms. e.message ∷ ms) (messages_in_i
 messages_are : (h : History Record) (s : Stretch) → messages_of h s
     ≡ map message_in (take s.number (drop s.first h.entries))
 messages_are h s =
-    rw (
-      ← take-map message_of s.number (drop s.first (instances h)),
-      ← drop-map message_of s.first (instances h),
-      messages_in_instances 0 h.entries,
-      drop-map message_in s.first h.entries,
-      take-map message_in s.number (drop s.first h.entries),
-    ) refl
+    simp (← take-map, ← drop-map, messages_in_instances)
 
 -- they stay where they are
 still_there : (h last : History Record) (a n : ℕ) → GoesOn h last → a + n ≤ count h → take n (drop a last.entries)

@@ -1,5 +1,5 @@
 -- Taking the systems of an order one after the other.
-use Rattle.std.proofs.Common.{◌≡◌, ℕ, ◌+◌, ◌<◌, ◌⊎◌, inl, inr, Bool, true, false, not, ◌&&◌, List, length, get_or, sym, subst, ◌∙◌, arith}
+use Rattle.std.proofs.Common.{◌≡◌, ℕ, ◌+◌, ◌<◌, ◌⊎◌, inl, inr, Bool, true, false, not, ◌&&◌, List, length, get_or, sym, ◌∙◌, arith}
 use Rattle.std.specs.Prelude.{◌==◌}
 use Rattle.std.specs.List.{list_any, range_with_len}
 use Rattle.std.proofs.lemmas.Bool.Decides.{eqb_tells}
@@ -61,7 +61,7 @@ taken_all g joined left order among t none =
       kept = λ i j e.
           let both = among i j e in
           let b = place j both.1 in
-          let a = t.before b.0 b.1.0 i both.0 (subst (λ z. IsEdge g i z) (sym b.1.1) e) in
+          let a = t.before b.0 b.1.0 i both.0 (rw (b.1.1) e) in
           stands order i j a.0 b.0 a.1.0 b.1.0 a.1.1 b.1.1;
     }
 

@@ -1,10 +1,10 @@
 -- Batches, level by level: what is left after m of them are the systems in which a chain of m edges ends.
-use Rattle.std.proofs.Common.{◌≡◌, ℕ, zero, suc, ◌+◌, ◌<◌, ◌⊎◌, inl, inr, Bool, true, false, not, cond, ◌&&◌, List, [], ◌∷◌, ◌++◌, length, ap, sym, subst, ◌∙◌, arith, length-append}
+use Rattle.std.proofs.Common.{◌≡◌, ℕ, zero, suc, ◌+◌, ◌<◌, ◌⊎◌, inl, inr, Bool, true, false, not, cond, ◌&&◌, List, [], ◌∷◌, ◌++◌, length, ap, sym, arith, length-append}
 use Rattle.std.specs.Prelude.{◌↔◌, Contains, All, count_by, filter}
 use Rattle.std.proofs.lemmas.List.Sums.{length-filter, sum_by-cons}
 use Rattle.std.specs.List.{range_with_len}
 use Rattle.std.specs.List.Sorted.{IsStrictlyIncreasing}
-use Rattle.std.proofs.lemmas.Bool.{cases_Bool, cases_eq, cases_lt, and_from, false≢true, not_from_false, false_from_ne_true}
+use Rattle.std.proofs.lemmas.Bool.{cases_Bool, cases_eq, cases_lt, false_from_ne_true}
 use Rattle.std.proofs.lemmas.List.{get_or_past, get_or_push, get_or_append_left}
 use Rattle.std.proofs.lemmas.List.Elements.{All-push}
 use Rattle.std.proofs.lemmas.List.Kept.{IsStrictlyIncreasing-filter}
@@ -31,41 +31,23 @@ pub record TellsBlocked (g : Graph) (left blocked : ℕ → Bool) : Type 0 where
 abbrev pub LeadAmong : Graph → (ℕ → Bool) → Type 0
 LeadAmong g start = (i j : ℕ) → IsEdge g i j → (start i ≡ true) × (start j ≡ true)
 
-blocked_ends : (g : Graph) (start left blocked : ℕ → Bool) (m i : ℕ) → AreLeft g start left m
-    → TellsBlocked g left blocked → blocked i ≡ true → Ends g (suc m) i
-blocked_ends g start left blocked m i h t b =
-    let f = t.by i b in
-    ends_along g m f.0 i ((h f.0).0 f.1.1).1 (to_Path g f.0 i f.1.0)
+module _ (g : Graph) (start left blocked : ℕ → Bool) (m : ℕ) (lead : LeadAmong g start) (h : AreLeft g start left m)
+    (t : TellsBlocked g left blocked) where
+  blocked_ends : (i : ℕ) → blocked i ≡ true → Ends g (suc m) i
+  blocked_ends i b = let f = t.by i b in ends_along g m f.0 i ((h f.0).0 f.1.1).1 (to_Path g f.0 i f.1.0)
 
-ends_blocked : (g : Graph) (start left blocked : ℕ → Bool) (m i : ℕ) → LeadAmong g start → AreLeft g start left m
-    → TellsBlocked g left blocked → Ends g (suc m) i → blocked i ≡ true
-ends_blocked g start left blocked m i a h t c =
-    t.found i c.0 (edge_path g c.0 i c.1.1) ((h c.0).1 (a c.0 i c.1.1).0 c.1.0)
+  ends_blocked : (i : ℕ) → Ends g (suc m) i → blocked i ≡ true
+  ends_blocked i c = t.found i c.0 (edge_path g c.0 i c.1.1) ((h c.0).1 (lead c.0 i c.1.1).0 c.1.0)
 
-left_next : (g : Graph) (start left blocked next : ℕ → Bool) (m : ℕ) → LeadAmong g start → AreLeft g start left m
-    → TellsBlocked g left blocked
-    → ((i : ℕ) → next i ≡ (left i && blocked i)) → AreLeft g start next (suc m)
-left_next g start left blocked next m a h t s i =
-    grind (
-      arith,
-      s i,
-      h i,
-      ends_less g m i,
-      blocked_ends g start left blocked m i h t,
-      ends_blocked g start left blocked m i a h t,
-    )
+  left_next : (next : ℕ → Bool) → ((i : ℕ) → next i ≡ (left i && blocked i)) → AreLeft g start next (suc m)
+  left_next next s i = grind (arith, blocked_ends i, ends_blocked i, ends_less g m i, h i, s i)
 
--- those that are ready have this batch number
-ready_number : (g : Graph) (start left blocked : ℕ → Bool) (m i : ℕ) → LeadAmong g start → AreLeft g start left m
-    → TellsBlocked g left blocked
-    → (left i && not (blocked i)) ≡ true → (start i ≡ true) × IsBatchNumber g i m
-ready_number g start left blocked m i a h t r =
-    grind (arith, h i, ends_number g i m, ends_blocked g start left blocked m i a h t)
+  -- those that are ready have this batch number
+  ready_number : (i : ℕ) → (left i && not (blocked i)) ≡ true → (start i ≡ true) × IsBatchNumber g i m
+  ready_number i r = grind (arith, h i, ends_number g i m, ends_blocked i)
 
-number_ready : (g : Graph) (start left blocked : ℕ → Bool) (m i : ℕ) → AreLeft g start left m
-    → TellsBlocked g left blocked → start i ≡ true → IsBatchNumber g i m → (left i && not (blocked i)) ≡ true
-number_ready g start left blocked m i h t e b =
-    grind (arith, h i, number_ends g i m b, blocked_ends g start left blocked m i h t)
+  number_ready : (i : ℕ) → start i ≡ true → IsBatchNumber g i m → (left i && not (blocked i)) ≡ true
+  number_ready i e b = grind (arith, h i, number_ends g i m b, blocked_ends i)
 
 -- Where no path leads back, one of those left has none below n before it.
 first_left : (p : ℕ → ℕ → Bool) (left : ℕ → Bool) → ((i j k : ℕ) → p i j ≡ true → p j k ≡ true → p i k ≡ true)
@@ -91,50 +73,40 @@ pub record ArePeeled (g : Graph) (start left : ℕ → Bool) (batches : List (Li
 pub peeled_first : (g : Graph) (start : ℕ → Bool) → ArePeeled g start start []
 peeled_first g start = grind arith
 
--- the systems below n that are ready
-abbrev level : (ℕ → Bool) → (ℕ → Bool) → ℕ → List ℕ
-level left blocked n = filter (λ i. left i && not (blocked i)) (range_with_len 0 n)
-
-increasing_range : (n : ℕ) → IsStrictlyIncreasing (range_with_len 0 n)
-increasing_range n k h = grind (arith, length-range_with_len, get_or-range_with_len)
-
-length_push : (bs : List (List ℕ)) (x : List ℕ) → length (bs ++ x ∷ []) ≡ suc (length bs)
-length_push bs x = omega (arith, length-append bs (x ∷ []))
-
 pub peeled_next : (g : Graph) (start left blocked next : ℕ → Bool) (n : ℕ) (batches : List (List ℕ)) (batch : List ℕ)
     → LeadAmong g start → ((i : ℕ) → start i ≡ true → i < n) → TellsBlocked g left blocked
     → ArePeeled g start left batches → batch ≡ filter (λ i. left i && not (blocked i)) (range_with_len 0 n)
     → 0 < length batch
     → ((i : ℕ) → next i ≡ (left i && blocked i)) → ArePeeled g start next (batches ++ batch ∷ [])
-peeled_next g start left blocked next n batches batch a within t h is some s =
+peeled_next g start left blocked next n batches batch lead within t h is some s =
     let m : ℕ = length batches in
     let ready : ℕ → Bool = λ i. left i && not (blocked i) in
+    let longer : length (batches ++ batch ∷ []) ≡ suc m = omega (arith, length-append batches (batch ∷ [])) in
+    let numbered = ready_number g start left blocked m lead h.left_is t in
     record {
-      left_is = subst (AreLeft g start next) (sym (length_push batches batch))
-          (left_next g start left blocked next m a h.left_is t s);
+      left_is = rw longer (left_next g start left blocked m lead h.left_is t next s);
       of_number = λ b l i. elim (cases_eq b m) [
         | inl e ↦ (
           λ c. grind (
             arith,
             get_or_push batches batch [] b,
             filter-Contains ready (range_with_len 0 n) i,
-            ready_number g start left blocked m i a h.left_is t,
+            numbered i,
           ),
-          λ c. rw (get_or_push batches batch [] b (sym e) ∙ is)
-              (let number : IsBatchNumber g i m = subst (IsBatchNumber g i) e c.1 in
-              let l2 : i < n = within i c.0 in
+          λ c. rw (get_or_push batches batch [] b (sym e), is)
+              (let below : i < n = within i c.0 in
               Contains-filter ready (range_with_len 0 n) i (Contains-range 0 n i (omega arith) (omega arith))
-              (number_ready g start left blocked m i h.left_is t c.0 number)),
+              (number_ready g start left blocked m lead h.left_is t i c.0 (rw e at (c.1)))),
         )
         | inr e ↦
-            let l2 : b < m = omega (arith, length_push batches batch) in
-            rw (get_or_append_left batches (batch ∷ []) [] b l2) (h.of_number b l2 i)
+            let before : b < m = omega (arith, longer) in
+            rw (get_or_append_left batches (batch ∷ []) [] b before) (h.of_number b before i)
       ];
       filled = All-push (λ (xs : List ℕ). 0 < length xs) batches batch h.filled some;
       by_addition = All-push IsStrictlyIncreasing batches batch h.by_addition
-          (subst IsStrictlyIncreasing (sym is)
-          (IsStrictlyIncreasing-filter ready (range_with_len 0 n) (increasing_range n)));
-      placed = λ i e. grind (arith, s i, h.placed i e, ready_number g start left blocked m i a h.left_is t);
+          (rw is (IsStrictlyIncreasing-filter ready (range_with_len 0 n)
+          (λ k below. grind (arith, get_or-range_with_len, length-range_with_len))));
+      placed = λ i e. grind (arith, s i, h.placed i e, numbered i);
     }
 
 -- where none is ready, none is left
@@ -144,13 +116,10 @@ pub peeled_all : (g : Graph) (start left blocked : ℕ → Bool) (n : ℕ) (batc
 peeled_all g start left blocked n batch m acyclic within t h is empty i = false_from_ne_true (left i) (λ e.
     let f = first_left (path g) left (path_trans g) (λ i. no_path g i i (acyclic i)) n i e in
     let c : ℕ = f.0 in
-    let open_ : blocked c ≡ false =
-    false_from_ne_true (blocked c)
-    (λ b. let w = t.by c b in false≢true (sym (f.1.1 w.0 (within w.0 ((h w.0).0 w.1.1).0) w.1.1) ∙ w.1.0)) in
+    let ready : (left c && not (blocked c)) ≡ true = grind (arith, f.1.0, f.1.1, h, t.by c, within) in
     let below : c < n = within c ((h c).0 f.1.0).0 in
     let there = Contains-filter (λ k. left k && not (blocked k)) (range_with_len 0 n) c
-    (Contains-range 0 n c (omega arith) (omega arith))
-    (and_from (left c) (not (blocked c)) f.1.0 (not_from_false (blocked c) open_)) in
+    (Contains-range 0 n c (omega arith) (omega arith)) ready in
     omega (arith, there.1, ap length is))
 
 pub peeled_done : (g : Graph) (systems : List Bool) (start left : ℕ → Bool) (batches : List (List ℕ))
@@ -179,17 +148,14 @@ peeled_done g systems start left batches same h none = record {
 abbrev pub count_left : (ℕ → Bool) → ℕ → ℕ
 count_left left n = count_by left (range_with_len 0 n)
 
-one_of_two : (a b : Bool) → cond (a && b) 1 0 + cond (a && not b) 1 0 ≡ cond a 1 0
-one_of_two a b = grind arith
-
 count_splits : (p q : ℕ → Bool) (xs : List ℕ) → count_by (λ i. p i && q i) xs + count_by (λ i. p i && not (q i)) xs
     ≡ count_by p xs
 count_splits p q [] = omega arith
 count_splits p q (x ∷ xs) =
-    omega (
+    grind (
       arith,
+      cases_Bool,
       count_splits p q xs,
-      one_of_two (p x) (q x),
       sum_by-cons (λ i. cond (p i && q i) 1 0) x xs,
       sum_by-cons (λ i. cond (p i && not (q i)) 1 0) x xs,
       sum_by-cons (λ i. cond (p i) 1 0) x xs,

@@ -1,5 +1,5 @@
 -- Chains, joined end to end, and counted from their end.
-use Rattle.std.proofs.Common.{◌≡◌, ℕ, Bool, zero, suc, ◌+◌, ◌<◌, ◌≤◌, inl, inr, List, [], ◌∷◌, ◌++◌, length, refl, sym, subst, arith, append_assoc, length-append}
+use Rattle.std.proofs.Common.{◌≡◌, ℕ, Bool, zero, suc, ◌+◌, ◌<◌, ◌≤◌, List, [], ◌∷◌, ◌++◌, length, refl, arith, append_assoc, length-append}
 use Rattle.std.specs.Prelude.{IsTrue}
 use Rattle.std.proofs.lemmas.Bool.{cases_eq}
 use Rattle.msg_order.specs.Prelude.{Graph, IsAmong, IsBatchNumber, IsChain, IsEdge, Path, has_joined}
@@ -26,7 +26,7 @@ edge_is_path g i j e = ([], (e, tt))
 pub paths_join : (g : Graph) (i j k : ℕ) → Path g i j → Path g j k → Path g i k
 paths_join g i j k p q = (
   p.0 ++ j ∷ q.0,
-  subst (λ xs. IsChain g (i ∷ xs)) (sym (append_assoc p.0 (j ∷ q.0) (k ∷ [])))
+  rw (append_assoc p.0 (j ∷ q.0) (k ∷ []))
       (chain_join g (i ∷ p.0) (q.0 ++ k ∷ []) j p.1 q.1),
 )
 
@@ -49,10 +49,7 @@ ends_less g (suc n) j e = (e.0, (ends_less g n e.0 e.1.0, e.1.1))
 
 pub ends_at_most : (g : Graph) (m n j : ℕ) → n ≤ m → Ends g m j → Ends g n j
 ends_at_most g zero n j h e = grind arith
-ends_at_most g (suc m) n j h e = elim (cases_eq n (suc m)) [
-  | inl s ↦ subst (λ k. Ends g k j) (sym s) e
-  | inr s ↦ ends_at_most g m n j (omega arith) (ends_less g m j e)
-]
+ends_at_most g (suc m) n j h e = grind (arith, cases_eq n (suc m), ends_at_most g m n j, ends_less g m j e)
 
 -- a chain that goes on
 ends_on : (g : Graph) (m i : ℕ) (between : List ℕ) (j : ℕ) → Ends g m i → IsChain g (i ∷ (between ++ j ∷ []))
@@ -74,12 +71,12 @@ ends_chain g zero j more e c = ([], (refl, c))
 ends_chain g (suc n) j more e c =
     let r = ends_chain g n e.0 (j ∷ more) e.1.0 (e.1.1, c) in
     let longer : length (r.0 ++ e.0 ∷ []) ≡ suc n = omega (arith, length-append r.0 (e.0 ∷ []), r.1.0) in
-    (r.0 ++ e.0 ∷ [], (longer, subst (IsChain g) (sym (append_assoc r.0 (e.0 ∷ []) (j ∷ more))) r.1.1))
+    (r.0 ++ e.0 ∷ [], (longer, rw (append_assoc r.0 (e.0 ∷ []) (j ∷ more)) (r.1.1)))
 
 -- the batch number by chains told from their ends
 pub number_ends : (g : Graph) (i n : ℕ) → IsBatchNumber g i n → Ends g n i × (Ends g (suc n) i → ⊥)
 number_ends g i n b = (
-  subst (λ k. Ends g k i) b.reached.1.0 (chain_ends g b.reached.0 i b.reached.1.1),
+  rw (b.reached.1.0) at (chain_ends g b.reached.0 i b.reached.1.1),
   λ e. let c = ends_chain g (suc n) i [] e tt in let most : length c.0 ≤ n =
       b.longest c.0 c.1.1 in omega (arith, c.1.0),
 )

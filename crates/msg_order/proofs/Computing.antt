@@ -1,5 +1,5 @@
 -- The settled order and the turns in it by tests alone, for worked rows.
-use Rattle.std.proofs.Common.{◌≡◌, ℕ, zero, suc, ◌<◌, ◌⊎◌, inl, inr, Bool, true, cond, not, max, ◌&&◌, ◌||◌, List, [], ◌∷◌, ◌++◌, map, length, refl, subst, arith}
+use Rattle.std.proofs.Common.{◌≡◌, ℕ, zero, suc, ◌<◌, ◌⊎◌, inl, inr, Bool, true, cond, not, max, ◌&&◌, ◌||◌, List, [], ◌∷◌, ◌++◌, map, length, refl, arith}
 use Rattle.std.specs.Prelude.{◌==◌, ◌↔◌, nat_lt, IsTrue, Contains, AllPairs}
 use Rattle.std.specs.List.{range_with_len, list_all, list_any}
 use Rattle.std.proofs.lemmas.Bool.Decides.{nat_tests}
@@ -36,13 +36,12 @@ conflict_below n a b = list_any (meet_at a b) (parts_below n)
 used_is_below : (n : ℕ) (a : Access) → Fits n n a → (p : Part) → uses a p ≡ true → Contains (parts_below n) p
 used_is_below n a fits Registry u = Contains-head Registry _
 used_is_below n a fits (OfType t) u =
-    let below : t < n = fits.types_below t u in
-    Contains-tail Registry _ (OfType t) (Contains-append_left _ _ (OfType t)
-    (Contains-map OfType (range_with_len 0 n) t (Contains-range 0 n t (omega arith) (omega arith))))
+    Contains-tail Registry _ (OfType t) (Contains-append_left _ _ (OfType t) (Contains-map OfType (range_with_len 0 n) t
+    (Contains-range 0 n t (omega arith) (omega (arith, fits.types_below t u)))))
 used_is_below n a fits (OfResource r) u =
-    let below : r < n = fits.resources_below r u in
     Contains-tail Registry _ (OfResource r) (Contains-append_right _ _ (OfResource r)
-    (Contains-map OfResource (range_with_len 0 n) r (Contains-range 0 n r (omega arith) (omega arith))))
+    (Contains-map OfResource (range_with_len 0 n) r
+    (Contains-range 0 n r (omega arith) (omega (arith, fits.resources_below r u)))))
 
 conflict_is : (n : ℕ) (a b : Access) → Fits n n a → Fits n n b → IsTrue (conflict_below n a b) ↔ Conflict a b
 conflict_is n a b fits_a fits_b = (
@@ -105,7 +104,7 @@ above_ends g value ends (e ∷ h) within j =
     elim (cases_Bool (e.1 == j)) [
       | inr f ↦ rw f rest
       | inl t ↦
-          let edge : IsEdge g e.0 j = subst (IsEdge g e.0) (eqb-true e.1 j t) (within e.0 e.1 (Contains-head e h)) in
+          let edge : IsEdge g e.0 j = rw (← eqb-true e.1 j t) (within e.0 e.1 (Contains-head e h)) in
           rw t (elim (greater_of (suc (value e.0)) (above_all value h j))
           [ inl is ↦ rw is (e.0, (ends e.0, edge)) | inr is ↦ rw is rest ])
     ]
@@ -164,7 +163,7 @@ turns_are : (g : Graph) (number : ℕ → ℕ) → ((j : ℕ) → IsBatchNumber 
     → are_in_turn number order ≡ true → AllPairs (RunsBefore g) order
 turns_are g number is [] t = λ i j d l m. absurd (omega arith)
 turns_are g number is (i ∷ order) t =
-    let both = and_parts (list_all (runs_before number i) order) (are_in_turn number order) t in
+    let both = and_parts _ _ t in
     AllPairs-cons (RunsBefore g) i order
     (λ k d l. before_is g number is i _ (AllPass-from_list_all (runs_before number i) order both.0 k d l))
     (turns_are g number is order both.1)
@@ -181,10 +180,9 @@ pub in_turn_by_test : (n : ℕ) (accesses : List Access) (rules : List Rule) (jo
 in_turn_by_test n accesses rules joined order fit t =
     let g : Graph = settled_by_test n accesses rules joined in
     let number : ℕ → ℕ = longest g (length accesses) in
-    let parts = and_parts (rise_in g number && are_in_turn number order)
-    (list_all (has_joined joined) order && none_is_left joined order) t in
-    let first = and_parts (rise_in g number) (are_in_turn number order) parts.0 in
-    let second = and_parts (list_all (has_joined joined) order) (none_is_left joined order) parts.1 in
+    let parts = and_parts _ _ t in
+    let first = and_parts _ _ parts.0 in
+    let second = and_parts _ _ parts.1 in
     record {
       settled = g;
       is_settled = settle_is (AreInConflict accesses joined) (are_in_conflict n accesses joined)
@@ -197,7 +195,7 @@ in_turn_by_test n accesses rules joined order fit t =
               second.1 (joined_in joined i h) in
               let here : list_any (λ k. k == i) order ≡ true = grind (arith, below) in
               let f = Contains-list_any (λ k. k == i) order here in
-              subst (Contains order) (eqb-true f.0 i f.1.1) f.1.0,
+              rw (eqb-true f.0 i f.1.1) at (f.1.0),
         );
         all = λ i h. (number i, number_is g (length accesses) first.0 i);
         in_order = turns_are g number (number_is g (length accesses) first.0) order first.1;

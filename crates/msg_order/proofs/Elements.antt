@@ -23,6 +23,14 @@ module _ {X : Type 0} where
   pub not_in_none : (y : X) → Contains {X = X} [] y → ⊥
   not_in_none y h = absurd (omega (arith, h.1))
 
+  -- ---- pairs in order
+
+  pub pairs_head : (R : X → X → Type 0) (x : X) (xs : List X) → AllPairs R (x ∷ xs) → All (R x) xs
+  pairs_head R x xs r k d lt = r 0 (suc k) d (omega arith) (omega arith)
+
+  pub pairs_tail : (R : X → X → Type 0) (x : X) (xs : List X) → AllPairs R (x ∷ xs) → AllPairs R xs
+  pairs_tail R x xs r i j d lt l = r (suc i) (suc j) d (omega arith) (omega arith)
+
   -- ---- those that pass a test
 
   module _ (p : X → Bool) where
@@ -76,14 +84,7 @@ module _ {X Y : Type 0} where
     | inr t ↦ Contains-append_right (f z) (flat_map f xs) y (Contains-flat_map f xs x y t k)
   ]
 
--- ---- lists in order
-
-module _ (R : ℕ → ℕ → Type 0) (x : ℕ) (xs : List ℕ) (r : AllPairs R (x ∷ xs)) where
-  pub AllPairs-head : All (R x) xs
-  AllPairs-head k d l = r 0 (suc k) d (omega arith) (omega arith)
-
-  pub AllPairs-tail : AllPairs R xs
-  AllPairs-tail a b d lt l = r (suc a) (suc b) d (omega arith) (omega arith)
+-- ---- lists of lists
 
 -- what stands in some batch
 pub concat-Contains : (xss : List (List ℕ)) (y : ℕ) → Contains (concat xss) y → (b : ℕ) × Contains (batch_at xss b) y

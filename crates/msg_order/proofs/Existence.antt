@@ -3,7 +3,6 @@ use Rattle.std.proofs.Common.{◌≡◌, ℕ, zero, suc, ◌<◌, ◌⊎◌, inl
 use Rattle.std.specs.Prelude.{filter}
 use Rattle.std.specs.List.{concat, list_any, range_with_len}
 use Rattle.std.proofs.lemmas.Bool.{cases_eq, and_parts, and_from}
-use Rattle.msg_world.specs.declared.access.Access.{Access}
 use Rattle.msg_world.proofs.Conflicts.{decide_conflict}
 use Rattle.msg_order.specs.Prelude.{AreBatches, AreInConflict, BatchesExist, GainsEdge, Graph, IsAcyclic, RunsBefore, SettledOrderExists, Settles, TurnOrderExists, TurnOrderIsUnique, access_of, has_joined, pairs, rules_among}
 use Rattle.msg_order.specs.inner.Paths.{path}
@@ -18,9 +17,6 @@ use Rattle.msg_order.proofs.Uniqueness.{same_ordered}
 abbrev Decided : Type 0 → Type 0
 Decided P = P ⊎ (P → ⊥)
 
-decide_pair : (accesses : List Access) (joined : List Bool) (i j : ℕ) → Decided (AreInConflict accesses joined i j)
-decide_pair accesses joined i j = grind (arith, decide_conflict (access_of accesses i) (access_of accesses j))
-
 decide_edge : (C : ℕ → ℕ → Type 0) → ((i j : ℕ) → Decided (C i j)) → (g : Graph) (i j : ℕ) → Decided (GainsEdge C g i j)
 decide_edge C d g i j = grind (arith, d i j, to_Path g j i, no_Path g j i)
 
@@ -32,7 +28,9 @@ settles_some C d (p ∷ ps) g = elim (decide_edge C d g p.0 p.1) [
 ]
 
 pub settled_some : SettledOrderExists
-settled_some accesses rules joined = settles_some (AreInConflict accesses joined) (decide_pair accesses joined)
+settled_some accesses rules joined =
+    settles_some (AreInConflict accesses joined)
+    (λ i j. grind (arith, decide_conflict (access_of accesses i) (access_of accesses j)))
     (pairs (length accesses)) (rules_among joined rules)
 
 -- one of those left has a path to it
@@ -103,6 +101,4 @@ turns_once g joined xs ys r s =
     (λ i j p q a b.
     let m = r.all i ((r.of_joined i).0 p) in
     let n = r.all j ((r.of_joined j).0 q) in grind (arith, a m.0 n.0 m.1 n.1, b n.0 m.0 n.1 m.1))
-    r.in_order s.in_order
-    (λ i c. (s.of_joined i).1 ((r.of_joined i).0 c))
-    (λ i c. (r.of_joined i).1 ((s.of_joined i).0 c))
+    r.in_order s.in_order (λ i. grind (arith, r.of_joined i, s.of_joined i))

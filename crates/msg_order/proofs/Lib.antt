@@ -5,7 +5,7 @@ mod Chains
 mod PathTest
 -- The settled order
 mod SettledPairs
-mod SetPaths
+pub mod SetPaths
 -- Batches and turns
 mod BatchLevels
 mod TurnOrders

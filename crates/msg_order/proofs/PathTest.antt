@@ -1,15 +1,12 @@
 -- The test for a path, which grows edge by edge, says whether there is one.
-use Rattle.std.proofs.Common.{arith, ◌≡◌, ℕ, ◌⊎◌, inl, inr, Bool, true, false, ◌&&◌, ◌||◌, List, [], ◌∷◌, ◌++◌, sym, subst, ◌∙◌}
+use Rattle.std.proofs.Common.{arith, ◌≡◌, ℕ, inl, inr, Bool, true, false, ◌&&◌, ◌||◌, List, [], ◌∷◌, ◌++◌, sym, ◌∙◌}
 use Rattle.std.specs.Prelude.{◌==◌}
 use Rattle.std.proofs.lemmas.Bool.Decides.{eqb_tells}
 use Rattle.std.proofs.lemmas.Bool.{eqb-true, or_cases, and_parts, false≢true, false_from_ne_true}
 use Rattle.msg_order.specs.Prelude.{Graph, IsEdge, IsChain, Path}
 use Rattle.msg_order.specs.inner.Paths.{path}
-use Rattle.msg_order.proofs.Elements.{Contains-head, Contains-tail, not_in_none}
+use Rattle.msg_order.proofs.Elements.{Contains-cases, Contains-head, Contains-tail, not_in_none}
 use Rattle.msg_order.proofs.Chains.{edge_is_path, paths_join, path_grows}
-
-pub edge_cases : (e : ℕ × ℕ) (g : Graph) (i j : ℕ) → IsEdge (e ∷ g) i j → ((e.0 ≡ i) × (e.1 ≡ j)) ⊎ IsEdge g i j
-edge_cases e g i j h = grind arith
 
 abbrev to : (ℕ × ℕ) → Graph → ℕ → Bool
 to e g a = a == e.0 || path g a e.0
@@ -19,7 +16,7 @@ from e g b = b == e.1 || path g e.1 b
 
 pub edge_path : (g : Graph) (i j : ℕ) → IsEdge g i j → path g i j ≡ true
 edge_path [] i j h = absurd (not_in_none (i, j) h)
-edge_path (e ∷ g) i j h = grind (arith, eqb_tells, edge_cases e g i j h, edge_path g i j)
+edge_path (e ∷ g) i j h = grind (arith, eqb_tells, Contains-cases e g (i, j) h, edge_path g i j)
 
 pub path_trans : (g : Graph) (i j k : ℕ) → path g i j ≡ true → path g j k ≡ true → path g i k ≡ true
 path_trans [] i j k p q = p
@@ -44,11 +41,11 @@ to_Path (e ∷ g) i j h =
       | inr q ↦
           let both = and_parts (to e g i) (from e g j) q in
           let begins : Path (e ∷ g) i e.1 = elim (or_cases (i == e.0) (path g i e.0) both.0) [
-            | inl x ↦ subst (λ a. Path (e ∷ g) a e.1) (sym (eqb-true i e.0 x)) newest
+            | inl x ↦ rw (eqb-true i e.0 x) newest
             | inr x ↦ paths_join (e ∷ g) i e.0 e.1 (path_more e g i e.0 (to_Path g i e.0 x)) newest
           ] in
           elim (or_cases (j == e.1) (path g e.1 j) both.1) [
-            | inl x ↦ subst (λ b. Path (e ∷ g) i b) (sym (eqb-true j e.1 x)) begins
+            | inl x ↦ rw (eqb-true j e.1 x) begins
             | inr x ↦ paths_join (e ∷ g) i e.1 j begins (path_more e g e.1 j (to_Path g e.1 j x))
           ]
     ]

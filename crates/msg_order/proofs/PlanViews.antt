@@ -1,6 +1,6 @@
 -- What callers see of a plan, by its sets.
-use Rattle.std.proofs.Common.{◌≡◌, ℕ, ◌<◌, ◌≤◌, inl, inr, Bool, true, false, List, length, map, sym, subst, ◌∙◌, arith}
-use Rattle.std.specs.Prelude.{◌↔◌, Contains, IsTrue}
+use Rattle.std.proofs.Common.{◌≡◌, ℕ, ◌<◌, ◌≤◌, inl, inr, Bool, true, false, List, length, map, sym, ◌∙◌, arith}
+use Rattle.std.specs.Prelude.{◌↔◌, Contains}
 use Rattle.std.specs.List.{range_with_len}
 use Rattle.std.proofs.lemmas.Bool.{cases_lt, false≢true, false_from_ne_true}
 use Rattle.std.proofs.lemmas.List.{get_or_past}
@@ -20,11 +20,13 @@ Contains-square n i j h l =
     (Contains-range 0 n i (omega arith) (omega arith))
     (Contains-map (λ (b : ℕ). (i, b)) (range_with_len 0 n) j (Contains-range 0 n j (omega arith) (omega arith)))
 
--- the pairs of the view are what the sets say
-pub precedes-view : (before : List SystemSet) (joined : SystemSet) (batches : List (List ℕ)) → AreKept before joined
-    → (i j : ℕ) → IsEdge (view_of before joined batches).precedes i j ↔ (comes_before before i j ≡ true)
-precedes-view before joined batches kept i j =
-    let test : ℕ × ℕ → Bool = λ e. comes_before before e.0 e.1 in (
+-- the pairs of a view are what the sets say
+pub seen_edges : (v : PlanView) (before : List SystemSet) (joined : SystemSet) (batches : List (List ℕ))
+    → view_of before joined batches ≡ v → AreKept before joined → (i j : ℕ) → IsEdge v.precedes i j
+    ↔ (comes_before before i j ≡ true)
+seen_edges v before joined batches is kept i j =
+    let test : ℕ × ℕ → Bool = λ e. comes_before before e.0 e.1 in
+    rw (← is) (
       λ h. (filter-Contains test (square (length before)) (i, j) h).1,
       λ t.
           let both = kept.among i j t in
@@ -32,23 +34,11 @@ precedes-view before joined batches kept i j =
           (Contains-square (length before) i j (kept.within i both.0) (kept.within j both.1)) t,
     )
 
-pub joined-view : (before : List SystemSet) (joined : SystemSet) (batches : List (List ℕ)) → AreKept before joined
-    → (i : ℕ) → has_joined (view_of before joined batches).joined i ≡ has joined i
-joined-view before joined batches kept i =
-    grind (arith, cases_lt, false_from_ne_true, get_or-map-range_with_len, get_or_past, length-map-range_with_len)
-
--- the same of a view that they are known to give
-pub seen_edges : (v : PlanView) (before : List SystemSet) (joined : SystemSet) (batches : List (List ℕ))
-    → view_of before joined batches ≡ v → AreKept before joined → (i j : ℕ) → IsEdge v.precedes i j
-    ↔ (comes_before before i j ≡ true)
-seen_edges v before joined batches is kept i j =
-    subst (λ w. IsEdge w.precedes i j ↔ (comes_before before i j ≡ true)) is
-    (precedes-view before joined batches kept i j)
-
 pub seen_joined : (v : PlanView) (before : List SystemSet) (joined : SystemSet) (batches : List (List ℕ))
     → view_of before joined batches ≡ v → AreKept before joined → (i : ℕ) → has_joined v.joined i ≡ has joined i
-seen_joined v before joined batches is kept i = subst (λ w. has_joined w.joined i ≡ has joined i) is
-    (joined-view before joined batches kept i)
+seen_joined v before joined batches is kept i =
+    rw (← is)
+    (grind (arith, cases_lt, false_from_ne_true, get_or-map-range_with_len, get_or_past, length-map-range_with_len))
 
 pub systems-view : (joined : List Bool) (set : SystemSet) (n : ℕ) → length joined ≡ n → IsSetOf joined set
     → map (has set) (range_with_len 0 n) ≡ joined
@@ -74,12 +64,12 @@ pub lawful_same : (accesses : List Access) (rules : List Rule) (joined : List Bo
     ↔ IsLawfulOrder plan.order joined order
 lawful_same accesses rules joined p plan order = (
   λ w. record {
-    of_joined = λ i. subst (λ js. Contains order i ↔ IsTrue (has_joined js i)) plan.systems (w.of_joined i);
+    of_joined = rw (plan.systems) at (w.of_joined);
     once = w.once;
     kept = λ i j e. w.kept i j ((plan.paths i j).1 (edge_is_path plan.order i j e));
   },
   λ w. record {
-    of_joined = λ i. subst (λ js. Contains order i ↔ IsTrue (has_joined js i)) (sym plan.systems) (w.of_joined i);
+    of_joined = rw (plan.systems) (w.of_joined);
     once = w.once;
     kept = λ i j e. kept_along plan.order joined order w i j ((plan.paths i j).0 e);
   },

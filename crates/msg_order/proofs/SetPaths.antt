@@ -1,6 +1,6 @@
 -- The code's sets as the paths of a graph.
-use Rattle.std.proofs.Common.{◌≡◌, ◌≢◌, ℕ, ◌+◌, ◌-◌, ◌<◌, ◌≤◌, inl, inr, Bool, true, false, cond, ◌&&◌, ◌||◌, List, [], ◌∷◌, ◌++◌, length, take, map, get_or, replicate, Option, None, Some, refl, ap, sym, subst, ◌∙◌, arith, length-append}
-use Rattle.std.specs.Prelude.{◌==◌, Contains, IfNone, IfSome, IsTrue, IsFalse, MatchOption, ◌↔◌}
+use Rattle.std.proofs.Common.{◌≡◌, ◌≢◌, ℕ, ◌+◌, ◌-◌, ◌<◌, ◌≤◌, inl, inr, Bool, true, false, cond, ◌&&◌, ◌||◌, List, [], ◌∷◌, ◌++◌, length, take, map, get_or, replicate, Option, None, Some, refl, ap, sym, ◌∙◌, arith, length-append}
+use Rattle.std.specs.Prelude.{◌==◌, IfNone, IfSome, IsTrue, IsFalse, MatchOption, ◌↔◌}
 use Rattle.std.specs.List.{list_any, range_with_len}
 use Rattle.std.proofs.lemmas.List.{append-nil, get_or-map, length-map, take-map, get_or-take, get_or_past, get_or_push, get_or_append_left}
 use Rattle.std.proofs.lemmas.Grind.{common_steps}
@@ -9,13 +9,13 @@ use Rattle.std.proofs.lemmas.List.Elements.{All-head, All-tail, filter_more, Con
 use Rattle.std.proofs.lemmas.Bool.Decides.{eqb_tells}
 use Rattle.std.proofs.lemmas.Bool.{cases_eq, cases_lt, or_left, or_right, or_cases, and_parts, and_from, false≢true, false_from_ne_true, eqb-true, eq-eqb}
 use Rattle.msg_world.specs.declared.access.Access.{Access}
-use Rattle.msg_order.specs.Prelude.{AreInConflict, Graph, IsAcyclic, IsAmong, IsEdge, IsLowestOnCycle, NameSystemsBelow, Rule, Settles, SystemSet, edges_of, has_joined, pairs, rules_among}
+use Rattle.msg_order.specs.Prelude.{AreInConflict, Graph, IsAcyclic, IsAmong, IsLowestOnCycle, NameSystemsBelow, Rule, Settles, SystemSet, edges_of, has_joined, pairs, rules_among}
 use Rattle.msg_order.specs.inner.SystemSet.{has, meets, no_set}
 use Rattle.msg_order.specs.inner.Paths.{path, set_at, comes_before, ArePaths}
 use Rattle.msg_order.proofs.SystemSets.{has-no_set, meets-found, meets-true}
 use Rattle.msg_order.proofs.Elements.{Contains-tail, Contains-cases, Contains-list_any, Contains-range, filter-Contains, list_any-Contains, range-Contains}
 use Rattle.msg_order.proofs.PathTest.{path_trans, to_Path, no_Path, no_path, same_test, same_paths}
-use Rattle.msg_order.proofs.SettledPairs.{grown, grown_paths, reaches, settles_row, settles_then, settles_edges, settles_free, pairs_until, pairs_until-more, row, pairs-Contains}
+use Rattle.msg_order.proofs.SettledPairs.{grown, grown_paths, reaches, settles_row, settles_then, settles_keeps, settles_free, pairs_until, pairs_until-more, row, pairs-Contains}
 
 -- past the last set there is none
 pub set_past : (before : List SystemSet) (j : ℕ) → length before ≤ j → set_at before j ≡ no_set
@@ -49,17 +49,13 @@ adds_edge g before new from later to h s few only i j =
     grind (arith, eq-eqb, eqb-true, meets-found, meets-true, or_cases, or_left, or_right, same_test)
 
 -- The rules one by one.
-edge_at_end : (g : Graph) (e : ℕ × ℕ) (i j : ℕ) → IsEdge (g ++ e ∷ []) i j → IsEdge (e ∷ g) i j
-edge_at_end g e i j h = grind (arith, Contains-push_cases g e (i, j) h, Contains-tail e g (i, j))
-
-edge_to_end : (g : Graph) (e : ℕ × ℕ) (i j : ℕ) → IsEdge (e ∷ g) i j → IsEdge (g ++ e ∷ []) i j
-edge_to_end g e i j h = elim (Contains-cases e g (i, j) h) [
-  | inl s ↦ subst (Contains (g ++ e ∷ [])) s (Contains-push g e)
-  | inr t ↦ Contains-append_left g (e ∷ []) (i, j) t
-]
-
-pub path-at_end : (g : Graph) (e : ℕ × ℕ) (i j : ℕ) → path (e ∷ g) i j ≡ path (g ++ e ∷ []) i j
-path-at_end g e = same_paths (e ∷ g) (g ++ e ∷ []) (edge_to_end g e) (edge_at_end g e)
+path-at_end : (g : Graph) (e : ℕ × ℕ) (i j : ℕ) → path (e ∷ g) i j ≡ path (g ++ e ∷ []) i j
+path-at_end g e = same_paths (e ∷ g) (g ++ e ∷ [])
+    (λ i j h. elim (Contains-cases e g (i, j) h) [
+      | inl s ↦ rw (← s) (Contains-push g e)
+      | inr t ↦ Contains-append_left g (e ∷ []) (i, j) t
+    ])
+    (λ i j h. grind (arith, Contains-push_cases g e (i, j) h, Contains-tail e g (i, j)))
 
 -- an edge where there is a path already adds none
 pub path-again : (g : Graph) (a b : ℕ) → path g a b ≡ true → (i j : ℕ) → path g i j ≡ path ((a, b) ∷ g) i j
@@ -110,7 +106,7 @@ row_settles C g n i before new later few lt below tells adds way = (
   grown i test js h,
   (
     λ x k. adds x k ∙ rw (way.1.0 x k, way.1.0 x i, tests k) (sym (grown_paths h i test js free x k)),
-    subst (λ ps. Settles C g ps (grown i test js h)) (sym (pairs_until-more n i))
+    rw (pairs_until-more n i)
         (settles_then C (pairs_until n i) (row n i) g h (grown i test js h) way.1.1
         (settles_row C h i test js (λ j c. let r = range-Contains (i + 1) (n - (i + 1)) j c in omega arith)
         (λ t up. (λ e. (found t e).1, λ c f. (tells t).1 (up, (c, way.1.0 t i ∙ f)))))),
@@ -142,7 +138,7 @@ row_settles C g n i before new later few lt below tells adds way = (
         (and_from (test t) (k == t || path h t k) e to)
 
     tests : (k : ℕ) → (has later k || meets (set_at before k) later) ≡ list_any (reaches test h k) js
-    tests k = same_test (has later k || meets (set_at before k) later) (list_any (reaches test h k) js)
+    tests k = same_test _ _
         (λ e. elim (or_cases (has later k) (meets (set_at before k) later) e) [
           | inl x ↦ among k k x (or_left (k == k) (path h k k) (eq-eqb k k refl))
           | inr x ↦ let f = meets-true (set_at before k) later x in among k f.0 f.1.1.1
@@ -196,25 +192,22 @@ pub found_among_all : (m n : ℕ) (rules : List Rule) (before : List SystemSet) 
 found_among_all m n rules before found le below h =
     let joined : List Bool = take n (replicate m true) in
     let front = front_joined m n le in
-    let all = all_rules joined rules (subst (λ k. NameSystemsBelow k rules) (sym front.0) below)
+    let all = all_rules joined rules (rw (front.0) below)
     (λ i lt. front.1 i (omega (arith, front.0))) in
-    of_both _ _ _ found (subst (λ g. MatchOption found (IsAcyclic g × ArePaths g before) (IsLowestOnCycle g)) all h)
+    of_both _ _ _ found (rw all at h)
   where
     of_both : (P Q : Type 0) (R : ℕ → Type 0) (found : Option ℕ) → MatchOption found (P × Q) R
         → IfSome found R × IfNone found P
     of_both P Q R found h = grind arith
 
-pub rules_join : (joined : List Bool) (rules : List Rule) → IsAmong joined (rules_among joined rules)
-rules_join joined rules i j h =
-    and_parts (has_joined joined i) (has_joined joined j)
-    (filter-Contains (λ (e : ℕ × ℕ). has_joined joined e.0 && has_joined joined e.1) (edges_of rules) (i, j) h).1
-
 pub settled_joins : (accesses : List Access) (rules : List Rule) (joined : List Bool) (h : Graph)
     → Settles (AreInConflict accesses joined) (rules_among joined rules) (pairs (length accesses)) h → IsAmong joined h
-settled_joins accesses rules joined h s i j e =
-    let from = settles_edges (AreInConflict accesses joined) (pairs (length accesses)) (rules_among joined rules) h s
-    i j e in
-    grind (arith, from, rules_join joined rules i j)
+settled_joins accesses rules joined h s =
+    settles_keeps (AreInConflict accesses joined) (IsAmong joined) (pairs (length accesses)) (rules_among joined rules)
+    h s
+    (λ p k m gains among i j e. grind (arith, among i j, Contains-cases p k (i, j) e, gains.0))
+    (λ i j e. and_parts _ _
+    (filter-Contains (λ (e : ℕ × ℕ). has_joined joined e.0 && has_joined joined e.1) (edges_of rules) (i, j) e).1)
 
 pub settled_free : (accesses : List Access) (rules : List Rule) (joined : List Bool) (h : Graph)
     → Settles (AreInConflict accesses joined) (rules_among joined rules) (pairs (length accesses)) h

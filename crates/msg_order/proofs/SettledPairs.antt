@@ -7,7 +7,7 @@ use Rattle.std.proofs.lemmas.Bool.Decides.{eqb_tells}
 use Rattle.std.proofs.lemmas.Bool.{cases_Bool, or_cases, and_parts, false≢true, false_from_ne_true, eqb-true}
 use Rattle.std.proofs.lemmas.Grind.{flat_map-append}
 use Rattle.std.proofs.lemmas.List.{append-nil}
-use Rattle.msg_order.specs.Prelude.{Graph, IsEdge, Path, Settles, pairs}
+use Rattle.msg_order.specs.Prelude.{GainsEdge, Graph, Path, Settles, pairs}
 use Rattle.msg_order.specs.inner.Paths.{path}
 use Rattle.msg_order.proofs.Elements.{Contains-head, Contains-tail, Contains-cases, not_in_none, range_more, flat_map-Contains, Contains-flat_map, map-Contains, Contains-map, range-Contains, Contains-range}
 use Rattle.msg_order.proofs.Chains.{edge_is_path}
@@ -16,7 +16,7 @@ use Rattle.msg_order.proofs.PathTest.{path_trans, to_Path, no_Path, no_path, pat
 -- Some pairs after others.
 pub settles_then : (C : ℕ → ℕ → Type 0) (ps qs g h k : Graph) → Settles C g ps h → Settles C h qs k
     → Settles C g (ps ++ qs) k
-settles_then C [] qs g h k a b = subst (λ x. Settles C x qs k) (sym a) b
+settles_then C [] qs g h k a b = rw a b
 settles_then C (p ∷ ps) qs g h k a b =
     grind (arith, settles_then C ps qs (p ∷ g) h k, settles_then C ps qs g h k)
 
@@ -26,31 +26,20 @@ settles_once C [] g h k a b = sym a ∙ b
 settles_once C (p ∷ ps) g h k a b =
     grind (arith, settles_once C ps (p ∷ g) h k, settles_once C ps g h k)
 
--- Each edge was there before, or is one of the pairs that are in conflict.
-pub settles_edges : (C : ℕ → ℕ → Type 0) (ps g h : Graph) → Settles C g ps h → (i j : ℕ) → IsEdge h i j → IsEdge g i j
-    ⊎ (Contains ps (i, j) × C i j)
-settles_edges C [] g h a i j e = inl (subst (λ x. IsEdge x i j) (sym a) e)
-settles_edges C (p ∷ ps) g h a i j e = elim a [
-  | inl x ↦ elim (settles_edges C ps (p ∷ g) h x.1 i j e) [
-    | inl y ↦ elim (Contains-cases p g (i, j) y) [
-      | inl s ↦ inr (
-        subst (λ (q : ℕ × ℕ). Contains (p ∷ ps) q) s (Contains-head p ps),
-        subst (λ (q : ℕ × ℕ). C q.0 q.1) s x.0.0,
-      )
-      | inr t ↦ inl t
+-- What holds of the first graph, and is kept as a pair gains its edge, holds of the last.
+pub settles_keeps : (C : ℕ → ℕ → Type 0) (P : Graph → Type 0) (ps g h : Graph) → Settles C g ps h
+    → ((p : ℕ × ℕ) (k : Graph) → Contains ps p → GainsEdge C k p.0 p.1 → P k → P (p ∷ k)) → P g → P h
+settles_keeps C P [] g h a step first = subst P a first
+settles_keeps C P (p ∷ ps) g h a step first =
+    let later = λ (q : ℕ × ℕ) (k : Graph) (m : Contains ps q). step q k (Contains-tail p ps q m) in
+    elim a [
+      | inl x ↦ settles_keeps C P ps (p ∷ g) h x.1 later (step p g (Contains-head p ps) x.0 first)
+      | inr x ↦ settles_keeps C P ps g h x.1 later first
     ]
-    | inr y ↦ inr (Contains-tail p ps (i, j) y.0, y.1)
-  ]
-  | inr x ↦ elim (settles_edges C ps g h x.1 i j e) [ inl y ↦ inl y | inr y ↦ inr (Contains-tail p ps (i, j) y.0, y.1) ]
-]
 
 -- A path stays.
-pub settles_grows : (C : ℕ → ℕ → Type 0) (ps g h : Graph) → Settles C g ps h → (i j : ℕ) → Path g i j → Path h i j
-settles_grows C [] g h a i j p = subst (λ x. Path x i j) a p
-settles_grows C (q ∷ ps) g h a i j p = elim a [
-  | inl x ↦ settles_grows C ps (q ∷ g) h x.1 i j (path_more q g i j p)
-  | inr x ↦ settles_grows C ps g h x.1 i j p
-]
+settles_grows : (C : ℕ → ℕ → Type 0) (ps g h : Graph) → Settles C g ps h → (i j : ℕ) → Path g i j → Path h i j
+settles_grows C ps g h a i j = settles_keeps C (λ k. Path k i j) ps g h a (λ p k m gains. path_more p k i j)
 
 -- Between each of the pairs that are in conflict there is a path one way or the other.
 pub settles_covers : (C : ℕ → ℕ → Type 0) (ps g h : Graph) → Settles C g ps h → (i j : ℕ) → Contains ps (i, j) → C i j
@@ -68,20 +57,14 @@ settles_covers C (p ∷ ps) g h a i j m c = elim (Contains-cases p ps (i, j) m) 
 ]
 
 -- An edge to which no path leads back makes no cycle.
-free_step : (p : ℕ × ℕ) (g : Graph) → p.0 < p.1 → path g p.1 p.0 ≡ false → ((s : ℕ) → path g s s ≡ false) → (s : ℕ)
-    → path (p ∷ g) s s ≡ false
-free_step p g lt free h s = grind (arith, false_from_ne_true, false≢true, or_cases, and_parts, eqb-true, path_trans)
-
 pub settles_free : (C : ℕ → ℕ → Type 0) (ps g h : Graph) → Settles C g ps h → ((i j : ℕ) → Contains ps (i, j) → i < j)
     → ((s : ℕ) → path g s s ≡ false) → (s : ℕ) → path h s s ≡ false
-settles_free C [] g h a up f = subst (λ x. (s : ℕ) → path x s s ≡ false) a f
-settles_free C (p ∷ ps) g h a up f =
-    let later = λ (i j : ℕ) (m : Contains ps (i, j)). up i j (Contains-tail p ps (i, j) m) in
-    elim a [
-      | inl x ↦ settles_free C ps (p ∷ g) h x.1 later
-          (free_step p g (up p.0 p.1 (Contains-head p ps)) (no_path g p.1 p.0 x.0.1) f)
-      | inr x ↦ settles_free C ps g h x.1 later f
-    ]
+settles_free C ps g h a up =
+    settles_keeps C (λ k. (s : ℕ) → path k s s ≡ false) ps g h a
+    (λ p k m gains free s.
+    let rises = up p.0 p.1 m in
+    let none = no_path k p.1 p.0 gains.1 in
+    grind (arith, and_parts, eqb-true, false_from_ne_true, false≢true, free, none, or_cases, path_trans, rises))
 
 -- All pairs of numbers below n, up to those of i.
 abbrev pub row : ℕ → ℕ → Graph
@@ -126,10 +109,6 @@ same_from g i t s k ne free = grind (arith, eqb_tells)
 abbrev pub AreFree : Graph → ℕ → (ℕ → Bool) → Type 0
 AreFree g i test = (t : ℕ) → test t ≡ true → (t ≢ i) × (path g t i ≡ false)
 
--- an edge to one of them leaves it so
-still_free : (g : Graph) (i j : ℕ) (test : ℕ → Bool) → AreFree g i test → test j ≡ true → AreFree ((i, j) ∷ g) i test
-still_free g i j test f e t s = grind (arith, eqb_tells, f j, f t)
-
 -- the test holds of k, or of one from which a path leads to k
 abbrev pub reaches : (ℕ → Bool) → Graph → ℕ → ℕ → Bool
 reaches test g k t = test t && (k == t || path g t k)
@@ -146,7 +125,9 @@ grown_paths g i test (j ∷ js) f x k = elim (cases_Bool (test j)) [
   | inl e ↦
       let h : Graph = (i, j) ∷ g in
       let same = ap (λ (p : ℕ → Bool). list_any p js) (λ n t. same_reach g i j k test f t n) in
-      grind (arith, e, grown_paths h i test js (still_free g i j test f e) x k, same, same_to g i j x, f j)
+      -- an edge to one of them leaves them so
+      let still_free : AreFree h i test = λ t s. grind (arith, eqb_tells, e, f j, f t) in
+      grind (arith, e, grown_paths h i test js still_free x k, same, same_to g i j x, f j)
 ]
 
 -- The test tells which pairs of i and a later system gain their edge, whichever of them did before.

@@ -29,16 +29,14 @@ none_below test n none = grind (arith, false_from_ne_true, below_some)
 same_place : (j k : ℕ) → j / 64 ≡ k / 64 → j % 64 ≡ k % 64 → j ≡ k
 same_place j k p q = omega arith
 
-same_test : (j k : ℕ) → j / 64 ≡ k / 64 → (j % 64 == k % 64) ≡ (j == k)
-same_test j k p = grind (arith, cases_eq, eq-eqb, ne_eqb, same_place)
-
 -- one word was changed in one bit
 words-set : (words : List ℕ) (new j k : ℕ) (f : Bool → Bool → Bool) → length words ≡ 4 → k < 256
     → ((b : Bool) → f false b ≡ b)
     → has_bit new (j % 64) ≡ f (j % 64 == k % 64) (has_bit (get_or words (k / 64) 0) (j % 64))
     → has_bit (get_or (slice_set words (k / 64) new) (j / 64) 0) (j % 64)
     ≡ f (j == k) (has_bit (get_or words (j / 64) 0) (j % 64))
-words-set words new j k f l h same is = grind (arith, cases_eq, get_or-set_same, same_test, ne_eqb, get_or-set_other)
+words-set words new j k f l h same is =
+    grind (arith, cases_eq, eq-eqb, get_or-set_other, get_or-set_same, ne_eqb, same_place)
 
 -- `words[k / 64] |= 1 << (k % 64)`
 pub words-insert : (words : List ℕ) (j k : ℕ) → length words ≡ 4 → k < 256 →

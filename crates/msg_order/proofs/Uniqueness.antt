@@ -1,14 +1,13 @@
 -- That there is one settled order and one list of batches, and what holds of each.
-use Rattle.std.proofs.Common.{◌≡◌, ℕ, ◌<◌, ◌≤◌, ◌⊎◌, inl, inr, Bool, ◌&&◌, List, [], ◌∷◌, length, map, get_or, refl, ap, sym, subst, ◌∙◌, arith}
-use Rattle.std.specs.Prelude.{All, AllPairs, Contains}
+use Rattle.std.proofs.Common.{◌≡◌, ℕ, ◌<◌, ◌≤◌, inl, inr, Bool, ◌&&◌, List, [], ◌∷◌, length, map, get_or, refl, ap, ◌∙◌, arith}
+use Rattle.std.specs.Prelude.{◌↔◌, AllPairs, Contains}
 use Rattle.std.proofs.lemmas.Bool.{cases_lt, cases_order, and_parts, and_from}
 use Rattle.std.proofs.lemmas.List.{ext_get_or, get_or_past}
 use Rattle.std.proofs.lemmas.List.Elements.{All-contains, Contains-get_or}
 use Rattle.std.proofs.lemmas.List.Kept.{AllPairs-from_increasing}
-use Rattle.msg_world.specs.declared.access.Access.{Access}
 use Rattle.msg_world.specs.Prelude.{Conflict}
-use Rattle.msg_order.specs.Prelude.{AreBatches, AreInConflict, BatchNumbersRise, BatchesAreUnique, ConflictingSystemsAreOrdered, FewerSystemsMakeNoCycle, Graph, IsBatchNumber, Rule, SettledOrderIsUnique, access_of, batch_at, has_joined, pairs, rules_among}
-use Rattle.msg_order.proofs.Elements.{AllPairs-head, AllPairs-tail, Contains-head, Contains-tail, Contains-cases, not_in_none, filter-Contains, Contains-filter}
+use Rattle.msg_order.specs.Prelude.{AreBatches, AreInConflict, BatchNumbersRise, BatchesAreUnique, ConflictingSystemsAreOrdered, FewerSystemsMakeNoCycle, Graph, Rule, SettledOrderIsUnique, access_of, batch_at, has_joined, pairs, rules_among}
+use Rattle.msg_order.proofs.Elements.{Contains-head, Contains-tail, Contains-cases, not_in_none, filter-Contains, Contains-filter, pairs_head, pairs_tail}
 use Rattle.msg_order.proofs.Chains.{path_grows, number_once, number_rises}
 use Rattle.msg_order.proofs.SettledPairs.{settles_once, settles_covers, Contains-pairs}
 use Rattle.msg_order.proofs.SetPaths.{joined_in}
@@ -22,9 +21,6 @@ fewer_make_none rules joined fewer among free i p =
     Contains-filter (λ (e : ℕ × ℕ). has_joined joined e.0 && has_joined joined e.1) all (a, b) q.0
     (and_from (has_joined joined a) (has_joined joined b) (among a both.0) (among b both.1))) i i p)
 
-conflict_sym : (a b : Access) → Conflict a b → Conflict b a
-conflict_sym a b c = (c.0, elim c.1 [ inl x ↦ inr x | inr x ↦ inl x ])
-
 pub conflicts_ordered : ConflictingSystemsAreOrdered
 conflicts_ordered accesses rules joined order len settled i j ne at_i at_j conflict =
     let C : ℕ → ℕ → Type 0 = AreInConflict accesses joined in
@@ -33,7 +29,8 @@ conflicts_ordered accesses rules joined order len settled i j ne at_i at_j confl
     let up = λ (l : i < j). settles_covers C (pairs (length accesses)) (rules_among joined rules) order settled i j
     (Contains-pairs (length accesses) i j l (omega arith))
     (record { first_joined = at_i; second_joined = at_j; conflict = conflict }) in
-    let back = conflict_sym (access_of accesses i) (access_of accesses j) conflict in
+    let back : Conflict (access_of accesses j) (access_of accesses i) =
+    (conflict.0, elim conflict.1 [ inl x ↦ inr x | inr x ↦ inl x ]) in
     let down = λ (l : j < i). settles_covers C (pairs (length accesses)) (rules_among joined rules) order settled j i
     (Contains-pairs (length accesses) j i l (omega arith))
     (record { first_joined = at_j; second_joined = at_i; conflict = back }) in
@@ -44,39 +41,28 @@ settled_once accesses rules joined g h a b = settles_once (AreInConflict accesse
     (rules_among joined rules) g h a b
 
 -- Lists of the same elements, in an order that holds one way only, are one list.
-first_same : (R : ℕ → ℕ → Type 0) (x y : ℕ) (xs ys : List ℕ) → (R x y → R y x → ⊥) → All (R x) xs → All (R y) ys
-    → (y ≡ x) ⊎ Contains ys x → (x ≡ y) ⊎ Contains xs y → x ≡ y
-first_same R x y xs ys one_way r s f h = grind (arith, All-contains (R x) xs y r, All-contains (R y) ys x s)
-
-not_first : (R : ℕ → ℕ → Type 0) (x y i : ℕ) (xs ys : List ℕ) → x ≡ y → (R x x → ⊥) → All (R x) xs → Contains xs i
-    → (y ≡ i) ⊎ Contains ys i → Contains ys i
-not_first R x y i xs ys same once r c f = grind (arith, All-contains (R x) xs i r c)
-
 pub same_ordered : (R : ℕ → ℕ → Type 0) (xs ys : List ℕ)
     → ((i j : ℕ) → Contains xs i → Contains xs j → R i j → R j i → ⊥) → AllPairs R xs → AllPairs R ys
-    → ((i : ℕ) → Contains xs i → Contains ys i) → ((i : ℕ) → Contains ys i → Contains xs i) → xs ≡ ys
-same_ordered R [] [] one_way r s f h = refl
-same_ordered R [] (y ∷ ys) one_way r s f h = absurd (not_in_none y (h y (Contains-head y ys)))
-same_ordered R (x ∷ xs) [] one_way r s f h = absurd (not_in_none x (f x (Contains-head x xs)))
-same_ordered R (x ∷ xs) (y ∷ ys) one_way r s f h =
+    → ((i : ℕ) → Contains xs i ↔ Contains ys i) → xs ≡ ys
+same_ordered R [] [] one_way r s same = refl
+same_ordered R [] (y ∷ ys) one_way r s same = absurd (not_in_none y ((same y).1 (Contains-head y ys)))
+same_ordered R (x ∷ xs) [] one_way r s same = absurd (not_in_none x ((same x).0 (Contains-head x xs)))
+same_ordered R (x ∷ xs) (y ∷ ys) one_way r s same =
     let x_in : Contains (x ∷ xs) x = Contains-head x xs in
-    let y_in : Contains (x ∷ xs) y = h y (Contains-head y ys) in
-    let after_x = AllPairs-head R x xs r in
-    let after_y = AllPairs-head R y ys s in
+    let y_in : Contains (x ∷ xs) y = (same y).1 (Contains-head y ys) in
+    let after_x = λ (i : ℕ). All-contains (R x) xs i (pairs_head R x xs r) in
+    let after_y = λ (i : ℕ). All-contains (R y) ys i (pairs_head R y ys s) in
+    let x_there = Contains-cases y ys x ((same x).0 x_in) in
     let first : x ≡ y =
-    first_same R x y xs ys (one_way x y x_in y_in) after_x after_y (Contains-cases y ys x (f x x_in))
-    (Contains-cases x xs y y_in) in
-    let once : R x x → ⊥ = λ e. one_way x x x_in x_in e e in
+    grind (arith, after_x y, after_y x, Contains-cases x xs y y_in, one_way x y x_in y_in, x_there) in
+    let once = one_way x x x_in x_in in
     let rest : xs ≡ ys = same_ordered R xs ys (λ i j p q. one_way i j (Contains-tail x xs i p) (Contains-tail x xs j q))
-    (AllPairs-tail R x xs r) (AllPairs-tail R y ys s)
-    (λ i c. not_first R x y i xs ys first once after_x c (Contains-cases y ys i (f i (Contains-tail x xs i c))))
-    (λ i c. not_first R y x i ys xs (sym first) (subst (λ k. R k k → ⊥) first once) after_y c
-    (Contains-cases x xs i (h i (Contains-tail y ys i c)))) in
+    (pairs_tail R x xs r) (pairs_tail R y ys s)
+    (λ i. (
+      λ c. grind (arith, after_x i c, Contains-cases y ys i ((same i).0 (Contains-tail x xs i c)), first, once),
+      λ c. grind (arith, after_y i c, Contains-cases x xs i ((same i).1 (Contains-tail y ys i c)), first, once),
+    )) in
     ap (λ k. k ∷ xs) first ∙ ap (λ ks. y ∷ ks) rest
-
-pub same_rising : (xs ys : List ℕ) → AllPairs (λ a b. a < b) xs → AllPairs (λ a b. a < b) ys
-    → ((i : ℕ) → Contains xs i → Contains ys i) → ((i : ℕ) → Contains ys i → Contains xs i) → xs ≡ ys
-same_rising xs ys r s f h = same_ordered (λ a b. a < b) xs ys (λ i j p q a b. omega arith) r s f h
 
 no_longer : (g : Graph) (joined : List Bool) (bs cs : List (List ℕ)) → AreBatches g joined bs → AreBatches g joined cs
     → length bs ≤ length cs
@@ -98,12 +84,11 @@ pub batches_once : BatchesAreUnique
 batches_once g joined bs cs h k =
     let one : length bs ≤ length cs = no_longer g joined bs cs h k in
     let other : length cs ≤ length bs = no_longer g joined cs bs k h in
-    ext_get_or [] bs cs (omega arith) (λ b l. same_rising (batch_at bs b) (batch_at cs b)
-    (AllPairs-from_increasing (batch_at bs b) (h.by_addition b [] l))
+    ext_get_or [] bs cs (omega arith) (λ b l. same_ordered (λ i j. i < j) (batch_at bs b) (batch_at cs b)
+    (λ i j p q up down. omega arith) (AllPairs-from_increasing (batch_at bs b) (h.by_addition b [] l))
     (AllPairs-from_increasing (batch_at cs b) (k.by_addition b [] (omega arith)))
-    (λ i c. (k.of_number b i).1 ((h.of_number b i).0 c))
-    (λ i c. (h.of_number b i).1 ((k.of_number b i).0 c)))
+    (λ i. grind (arith, h.of_number b i, k.of_number b i)))
 
 pub numbers_rise : BatchNumbersRise
 numbers_rise g i j m n a b =
-    (λ e. number_once g j m n (subst (λ k. IsBatchNumber g k m) e a) b, λ p. number_rises g i j m n p a b)
+    (λ e. number_once g j m n (rw e at a) b, λ p. number_rises g i j m n p a b)

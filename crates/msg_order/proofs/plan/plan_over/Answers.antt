@@ -1,13 +1,12 @@
-use Rattle.std.proofs.Common.{◌≡◌, ℕ, List, Bool, length, map, sym, ap, subst, ◌∙◌, arith}
+use Rattle.std.proofs.Common.{◌≡◌, ℕ, List, Bool, length, map, refl, ap, ◌∙◌, arith}
 use Rattle.std.specs.List.{concat}
 use Rattle.std.specs.Vec.{with_items}
 use Rattle.std.proofs.lemmas.List.{with_items_is}
 use Rattle.msg_order.specs.Prelude.{AreBatches, Graph, IsAmong, IsTurnOrder, SystemSet}
-use Rattle.msg_order.specs.inner.Paths.{ArePaths}
 use Rattle.msg_order.proofs.PathTest.{from_Path, to_Path}
 use Rattle.msg_order.proofs.SetPaths.{settled_joins, settled_free}
 use Rattle.msg_order.proofs.TurnOrders.{in_lawful_order, in_turn_order, none_conflict}
-use Rattle.msg_order.proofs.PlanViews.{precedes-view, systems-view, sets_kept}
+use Rattle.msg_order.proofs.PlanViews.{seen_edges, systems-view, sets_kept}
 use Rattle.msg_order.proofs.plan.plan_over.Goals as goal
 
 pub invariant_of-result : goal.invariant_of-result
@@ -43,8 +42,8 @@ returns-clause-plan _g c =
       systems = systems-view joined set _ (omega (arith, c.requires.as_many, ap length is)) c.set_of-joined.ensures;
       among = among;
       paths = λ i j.
-          let edges = precedes-view _ set batches (invariant_of-result _g c) i j in
-          let at = subst (ArePaths order) (sym is) paths i j in
+          let edges = seen_edges _ _ set batches refl (invariant_of-result _g c) i j in
+          let at = rw (← is) at (paths i j) in
           grind (arith, edges, at, to_Path order i j, from_Path order i j);
       classes = classes;
       apart = none_conflict accesses rules joined order batches c.requires.one_each settled classes;
