@@ -7,7 +7,7 @@ use Rattle.std.proofs.lemmas.Grind.{common_steps}
 use Rattle.std.specs.Prelude.{ℤ, IsSome}
 use Rattle.msg_buffer.specs.Prelude.{StandsFor, write}
 use Rattle.msg_world.specs.Prelude.{HOST, OfType, Parts, PartsStand, WorldState, by, slot}
-use Rattle.msg_world.proofs.Worlds.{buffer_stands, found_at, type_shape, type_stands}
+use Rattle.msg_world.proofs.Worlds.{found_at, type_shape, type_stands}
 use Rattle.msg_world.proofs.world.World.post.Goals as goal
 
 pub returns : goal.returns
@@ -19,7 +19,7 @@ returns c =
     let all = λ (s : WorldState) (stand : PartsStand c.args.self.now s).
     subst (λ (v : Parts). PartsStand v s) (sym c.self.view_is) stand in
     let here : (s : WorldState) → PartsStand c.args.self.now s
-    → StandsFor kept (s.histories t) = λ s stand. buffer_stands _ s t kept found.0 (all s stand) in
+    → StandsFor kept (s.histories t) = λ s stand. rw found.0 at (all s stand (OfType t)) in
     let fits : SFits w64 c.args.value = search rules in
     rw number (record {
       meaning = on_ok_weaker c.write.result (λ meaning s stand.
