@@ -7,19 +7,13 @@ use Rattle.std.proofs.lemmas.Bool.Decides.{eqb_tells}
 use Rattle.std.proofs.lemmas.Bool.{and_parts, cases_eq, cases_lt, false≢true}
 use Rattle.std.proofs.lemmas.List.{get_or_default, get_or-set_same, get_or-set_other, get_or_past}
 use Rattle.msg_buffer.specs.Prelude.{History, Kept, StandsFor, empty}
-use Rattle.msg_world.specs.Prelude.{Access, IsHome, IsWhole, Marks, OfResource, OfType, Part, Parts, PartsStand, Record, Registry, SameShape, WorldState, after_update, has_bit, new_world, slot, uses, with_history}
+use Rattle.msg_world.specs.Prelude.{Access, IsHome, IsWhole, Marks, OfResource, OfType, Part, Parts, PartsStand, Record, Registry, SameShape, WorldState, after_update, has_bit, new_world, slot, with_history}
 use Rattle.msg_world.specs.inner.Slots.{AllUpdated, BufferStands, HaveEach, at}
 
 -- a world and parts of which the marks were set
 pub marks_stand : (w : Parts) (s : WorldState) (m : Marks) → PartsStand w s
     → PartsStand (record w { marks = Some m }) (record s { marks = m })
 marks_stand w s m stand = elim [ OfType t ↦ stand (OfType t) | OfResource r ↦ stand (OfResource r) | Registry ↦ refl ]
-
-pub marks_shape : (w : Parts) (m : Marks) → IsSome w.marks → SameShape w (record w { marks = Some m })
-marks_shape w m there = record {
-  size = record { types = refl; resources = refl };
-  there = elim [ OfType t ↦ refl | OfResource r ↦ refl | Registry ↦ sym there ];
-}
 
 -- the marks of a whole world are those that it stands for
 marks_are : (w : Parts) (s : WorldState) (m : Marks) → w.marks ≡ Some m → PartsStand w s → m ≡ s.marks
@@ -28,15 +22,6 @@ marks_are w s m is stand = grind (arith, stand Registry)
 pub waiting_stays : (w : Parts) (s : WorldState) (m : Marks) → w.marks ≡ Some m → true ≡ (m.held && not m.pending)
     → PartsStand w s → PartsStand w (after_update s)
 waiting_stays w s m is waiting stand p = grind (arith, marks_are w s m is stand, stand p)
-
--- every type was updated, and the marks set
-pub types_updated_shape : (w : Parts) (types : List (Option (Kept Record))) (m : Marks) → IsSome w.marks
-    → AllUpdated w.types types
-    → SameShape w (record { types = types; resources = w.resources; marks = Some m })
-types_updated_shape w types m there all = record {
-  size = record { types = all.length; resources = refl };
-  there = elim [ OfType t ↦ all.there t | OfResource r ↦ refl | Registry ↦ sym there ];
-}
 
 -- what isn't waiting is updated
 pub others_update : (w : Parts) (s : WorldState) (types : List (Option (Kept Record))) (m n : Marks) → w.marks ≡ Some m
@@ -144,17 +129,16 @@ home_by_masks a w types resources types_home resources_home marks_there t r th r
   λ all.
       let both = and_parts (types_home && resources_home) (not a.registry || marks_there) all in
       let parts = and_parts types_home resources_home both.0 in
-      is_home parts.0 parts.1 both.1,
+      elim [
+        | OfType k ↦ λ uses. th.0 parts.0 k (t k ∙ uses)
+        | OfResource k ↦ λ uses. rh.0 parts.1 k (r k ∙ uses)
+        | Registry ↦ λ uses. grind (arith, both.1)
+      ],
   λ home.
       let types_there = th.1 (λ k bit. home (OfType k) (sym (t k) ∙ bit)) in
       let resources_there = rh.1 (λ k bit. home (OfResource k) (sym (r k) ∙ bit)) in
       grind (arith, types_there, resources_there, home Registry),
 )
-  where
-    is_home : IsTrue types_home → IsTrue resources_home → IsTrue (not a.registry || marks_there) → IsHome a w
-    is_home x y z (OfType k) uses = th.0 x k (t k ∙ uses)
-    is_home x y z (OfResource k) uses = rh.0 y k (r k ∙ uses)
-    is_home x y z Registry uses = grind arith
 
 -- ---- what a world stands for
 
