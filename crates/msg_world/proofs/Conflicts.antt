@@ -1,5 +1,5 @@
 -- Conflicts, clashes and limits of accesses by their masks.
-use Rattle.std.proofs.Common.{arith, ◌≡◌, ℕ, ◌<◌, Bool, false, ◌&&◌, ◌||◌, inl, inr, ◌⊎◌, sym, ◌∙◌}
+use Rattle.std.proofs.Common.{arith, ◌≡◌, ℕ, ◌<◌, Bool, false, ◌&&◌, ◌||◌, inl, inr, ◌⊎◌}
 use Rattle.std.specs.Prelude.{◌↔◌, IsTrue, bit_or}
 use Rattle.std.proofs.lemmas.Bool.{cases_Bool, or_cases, false≢true}
 use Rattle.msg_world.specs.Prelude.{Access, Conflict, IsClash, OfResource, OfType, Part, Registry, has_bit, uses, writes}
@@ -12,7 +12,7 @@ pub share_bit-or : (w s v : ℕ) → ShareBit w (bit_or s v)
 share_bit-or w s v = grind (arith, has_bit-or)
 
 pub is_below-or : (r w n : ℕ) → IsBelow (bit_or r w) n ↔ ((k : ℕ) → IsTrue (has_bit r k || has_bit w k) → k < n)
-is_below-or r w n = (λ b k u. b k (has_bit-or r w k ∙ u), λ b k u. b k (sym (has_bit-or r w k) ∙ u))
+is_below-or r w n = grind (arith, has_bit-or)
 
 -- the tests of the masks say whether there is such a part
 pub conflicts_lem : (a b : Access) (types resources : Bool) → IsTrue types
@@ -32,8 +32,8 @@ conflicts_lem a b types resources t r = (
   where
     found : (p : Part) → IsTrue (writes a p && uses b p) ⊎ IsTrue (writes b p && uses a p)
         → IsTrue ((types || resources) || (a.registry && b.registry))
-    found (OfType k) h = let x = t.1 (k, h) in grind arith
-    found (OfResource k) h = let x = r.1 (k, h) in grind arith
+    found (OfType k) h = grind (arith, t.1 (k, h))
+    found (OfResource k) h = grind (arith, r.1 (k, h))
     found Registry h = grind arith
 
 pub is_clash-masks : (a : Access) → IsClash a → ShareBit a.read_types a.write_types ⊎ ShareBit a.read_res a.write_res
