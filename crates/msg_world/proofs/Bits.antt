@@ -1,12 +1,12 @@
 -- Bits of masks, as tests.
 use Rattle.std.proofs.Common.{◌≡◌, ◌≢◌, ℕ, zero, suc, ◌+◌, ◌*◌, ◌-◌, ◌/◌, ◌^◌, ◌%◌, ◌<◌, ◌≤◌, Bool, true, false, not, ◌&&◌, ◌||◌, inl, inr, ap, sym, ◌∙◌, arith, w64}
 use lib.Count.{ones_step}
-use Rattle.std.specs.Prelude.{◌==◌, ◌↔◌, IsTrue, bit_and, bit_or, count_ones, nat_lt, ◌⊎◌}
+use Rattle.std.specs.Prelude.{◌==◌, ◌↔◌, IsTrue, bit_and, bit_or, count_ones, nat_lt}
 use Rattle.std.proofs.Math.Bool.{and-true}
 use Rattle.std.specs.Int.{bit_at, bit_not, trailing_zeros}
 use Rattle.std.proofs.lemmas.Bool.{cases_lt, cases_eq, eqb-true, eq-eqb, ne_eqb, eqb-false, le-ltb, lt-ltb, not-true, false≢true}
 use Rattle.std.proofs.lemmas.Bool.Decides.{eqb_tells, nat_tests}
-use Rattle.std.proofs.lemmas.Nat.{and_le_l, shr-shr}
+use Rattle.std.proofs.lemmas.Nat.{shr-shr}
 use Rattle.std.proofs.Math.Nat.{div-le_self}
 use Rattle.std.proofs.lemmas.Nat.Bits.{bit_at_lowest, bit_at-suc, bit_at_and, bit_at_or, bit_at_not, bit_at_above, bit_at-zero, bit_at-lt, bit_at_set_same, bit_at_set_other, bit_at_clear_same, bit_at_clear_other, bit_at-trailing_zeros}
 use Rattle.msg_world.specs.Prelude.{has_bit}
@@ -48,15 +48,6 @@ some_bit n fits ne =
     let bit = bit_at-trailing_zeros w64 n (omega arith) fits in
     (trailing_zeros w64 n, (bit.0, eq-eqb (bit_at n (trailing_zeros w64 n)) 1 bit.1))
 
--- the test `a & b != 0`
-pub share_bit-and : (a b : ℕ) → a < 2 ^ 64 → IsTrue (not (bit_and a b == 0)) ↔ ShareBit a b
-share_bit-and a b fits =
-    let le : bit_and a b ≤ a = and_le_l a b in (
-      λ t. let bit = some_bit (bit_and a b) (omega arith) (eqb-false (bit_and a b) 0 (not-true (bit_and a b == 0) t)) in
-          (bit.0, sym (has_bit-and a b bit.0) ∙ bit.1.1),
-      λ s. grind (arith, eqb_tells, has_bit-zero s.0, has_bit-and a b s.0, s.1),
-    )
-
 -- whatever its size
 some_bit_of : (fuel n : ℕ) → n ≤ fuel → n ≢ 0 → (k : ℕ) × IsTrue (has_bit n k)
 some_bit_of zero n h ne = absurd (omega arith)
@@ -67,12 +58,14 @@ some_bit_of (suc fuel) n h ne = elim (cases_eq (n % 2) 1) [
       (suc r.0, ap (λ b. b == 1) (bit_at-suc n r.0) ∙ r.1)
 ]
 
-pub decide_share : (a b : ℕ) → ShareBit a b ⊎ (ShareBit a b → ⊥)
-decide_share a b = elim (cases_eq (bit_and a b) 0) [
-  | inl e ↦ inr (λ s. grind (arith, has_bit-zero s.0, has_bit-and a b s.0, s.1))
-  | inr ne ↦ let r = some_bit_of (bit_and a b) (bit_and a b) (omega arith) ne in inl
-      (r.0, sym (has_bit-and a b r.0) ∙ r.1)
-]
+-- the test `a & b != 0`
+pub share_bit-and : (a b : ℕ) → IsTrue (not (bit_and a b == 0)) ↔ ShareBit a b
+share_bit-and a b = (
+  λ t.
+      let bit = some_bit_of (bit_and a b) _ (omega arith) (eqb-false (bit_and a b) 0 (not-true (bit_and a b == 0) t)) in
+      (bit.0, sym (has_bit-and a b bit.0) ∙ bit.1),
+  λ s. grind (arith, eqb_tells, has_bit-zero s.0, has_bit-and a b s.0, s.1),
+)
 
 -- bit k of a mask that was shifted
 shifted : (mask n k : ℕ) → has_bit (mask / 2 ^ n) k ≡ has_bit mask (n + k)

@@ -5,8 +5,7 @@ use Rattle.std.proofs.lemmas.Bool.Decides.{eqb_tells}
 use Rattle.std.proofs.lemmas.Bool.{false_from_ne_true, cases_Bool, cases_eq, cases_lt, false≢true}
 use Rattle.std.proofs.Math.ListN.{length-set}
 use Rattle.std.proofs.lemmas.List.{get_or-set_same, get_or-set_other, get_or_past}
-use Rattle.msg_buffer.specs.Prelude.{History, StandsFor}
-use Rattle.msg_world.specs.Prelude.{Access, HomeAgain, HomeMerges, Lent, LoanEnds, LoanStands, LoanStays, MayComeHome, OfResource, OfType, Part, Parts, PartsStand, Record, Registry, SameShape, ValuesStand, WorldState, WritesStand, after_signal, content, merge, signalled_marks, slot, with_history, with_messages, with_resource, with_value, with_value_of, writable, writes}
+use Rattle.msg_world.specs.Prelude.{Access, HomeAgain, HomeMerges, Lent, LoanEnds, LoanStands, LoanStays, MayComeHome, OfResource, OfType, Part, Parts, PartsStand, Registry, SameShape, ValuesStand, WorldState, WritesStand, after_signal, content, merge, signalled_marks, slot, with_value, writable, writes}
 use Rattle.msg_world.specs.inner.Slots.{at}
 use Rattle.msg_world.proofs.Worlds.{type_shape}
 use Rattle.std.proofs.lemmas.Option.{none-some}
@@ -41,17 +40,15 @@ writes_are l t k there =
     let written = is_written (OfType t) l there in
     let lt = there_below l.taken.types t written.1 in (
       record { access = refl; world = refl; shape = type_shape l.taken t k lt written.1 },
-      λ s h here stand. stands s h here stand written.0 lt,
+      λ s h here stand. elim [
+        | OfType u ↦
+            let set_there = get_or-set_same l.taken.types t (Some k) None lt in
+            let other = get_or-set_other l.taken.types t u (Some k) None in
+            grind (arith, eqb_tells, written.0, set_there, other, stand (OfType u))
+        | OfResource r ↦ stand (OfResource r)
+        | Registry ↦ stand Registry
+      ],
     )
-  where
-    stands : (s : WorldState) (h : History Record) → StandsFor k h → LoanStands l s
-        → IsTrue (writes l.access (OfType t)) → t < length l.taken.types
-        → LoanStands (with_messages l t k) (with_history s t h)
-    stands s h here stand written lt (OfType u) =
-        let set_there = get_or-set_same l.taken.types t (Some k) None lt in
-        grind (arith, eqb_tells, set_there, get_or-set_other l.taken.types t u (Some k) None, stand (OfType u))
-    stands s h here stand written lt (OfResource r) = stand (OfResource r)
-    stands s h here stand written lt Registry = stand Registry
 
 value_shape : (w : Parts) (r : ℕ) (z : ℤ) → r < length w.resources → IsSome (slot (OfResource r) w)
     → SameShape w (with_value w r z)
@@ -71,16 +68,15 @@ values_are_written l r z there =
     let written = is_written (OfResource r) l there in
     let lt = there_below l.taken.resources r written.1 in (
       record { access = refl; world = refl; shape = value_shape l.taken r z lt written.1 },
-      λ s stand. stands s stand written.0 lt,
+      λ s stand. elim [
+        | OfType t ↦ stand (OfType t)
+        | OfResource q ↦
+            let set_there = get_or-set_same l.taken.resources r (Some z) None lt in
+            let other = get_or-set_other l.taken.resources r q (Some z) None in
+            grind (arith, eqb_tells, written.0, set_there, other, stand (OfResource q))
+        | Registry ↦ stand Registry
+      ],
     )
-  where
-    stands : (s : WorldState) → LoanStands l s → IsTrue (writes l.access (OfResource r)) → r < length l.taken.resources
-        → LoanStands (with_resource l r z) (with_value_of s r z)
-    stands s stand written lt (OfType t) = stand (OfType t)
-    stands s stand written lt (OfResource q) =
-        let set_there = get_or-set_same l.taken.resources r (Some z) None lt in
-        grind (arith, eqb_tells, set_there, get_or-set_other l.taken.resources r q (Some z) None, stand (OfResource q))
-    stands s stand written lt Registry = stand Registry
 
 -- ---- lending out
 
