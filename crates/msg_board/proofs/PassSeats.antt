@@ -33,8 +33,7 @@ handed_in_and_held earlier k below =
 
 -- a pass that holds nothing has handed in all that it drew
 pub handed_in-idle : {J : Type 0} (p : PassState J) → p.holding ≡ None → handed_in p ≡ p.drawn
-handed_in-idle p idle = ap (λ o. filter (λ k. not (is_held k o)) p.drawn) idle
-    ∙ filter_all (λ _. true) p.drawn (λ k d l. refl)
+handed_in-idle p idle = rw idle (filter_all (λ _. true) p.drawn (λ k d l. refl))
 
 module _ {J D : Type 0} where
   -- A pass drew its next number: `drawn` is its seat after the step, and `seat` after it took the job out of the slot
@@ -59,8 +58,7 @@ module _ {J D : Type 0} where
         → before.tried < length jobs → get_elem? p.seat.me.0.jobs p.next ≡ some j
         → drawn.me.1 ≡ (p.next, Job job) ∷ [] → Drew jobs before (state_of drew_pass) before.tried job
     drew_said before jobs job is own more at was =
-        let order = sound.order in
-        grind (arith, told, took, was, false_from_ne_true, got p.seat.me.0.jobs p.next j at)
+        grind (arith, told, took, was, sound.order, false_from_ne_true, got p.seat.me.0.jobs p.next j at)
 
   -- A pass handed in what it held: `full` is its seat after it put the result into the slot, and `seat` after the step
   module _ (p : Inside J D) (full seat : Seat (Slot J D) (View J)) (k : ℕ) (d : D) (sound : IsSound p)
@@ -71,9 +69,7 @@ module _ {J D : Type 0} where
 
     -- it is sound
     pub handed_sound : IsSound handed_pass
-    handed_sound =
-        let seat_was = sound.seat in let order = sound.order in
-        grind (arith, put, told)
+    handed_sound = grind (arith, put, told, sound.seat, sound.order)
 
     -- and this is what the hand-in did, of the state that callers see
     pub handed_said : (before : PassState J) → state_of p ≡ before → before.holding ≡ Some k
@@ -157,8 +153,8 @@ module _ {J D : Type 0} where
       → Gathering b all ps seat → ps ≡ [] → IsGathered b all seat
   gathered b all ps seat done none = record {
     table = done.table;
-    weight = omega (arith, done.count, ap (λ (l : List (PassState J)). length l) none);
+    weight = grind (arith, done.count, none);
     next = done.next;
     held = done.held;
-    drawn = λ k. omega (arith, done.drawn k, ap (λ (l : List (PassState J)). times k (flat_map (λ p. p.drawn) l)) none);
+    drawn = λ k. grind (arith, done.drawn k, none);
   }

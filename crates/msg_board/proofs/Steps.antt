@@ -98,14 +98,7 @@ module _ {J D : Type 0} (lawful : J → D → Type 0) (jobs : List J) (passes : 
         (tried_more s.words i 1 v (taken i v) (r.each_view id v at) live near inside is
         (λ e. omega arith) refl refl refl)
         (λ k. grind (arith, eqb_tells, cases_eq k i, set_there, get_or-set_other s.words i k 1 0))
-        (λ k. grind (
-          arith,
-          eqb_tells,
-          times_push k v.drawn i,
-          cases_eq k i,
-          set_there,
-          get_or-set_other s.words i k 1 0,
-        ))
+        (λ k. grind (arith, eqb_tells, times_push k v.drawn i, cases_eq k i, set_there, get_or-set_other s.words i k 1 0))
         refl
 
     -- it finds another number, and leaves it there
@@ -125,13 +118,10 @@ module _ {J D : Type 0} (lawful : J → D → Type 0) (jobs : List J) (passes : 
         refl
 
   -- what the step tells, where it finds 0 and where it doesn't
-  tells_drawn : (st : Step (Slot J D)) (before after : M) (found : ℕ) → st.word ≡ before.0.next → st.first ≡ 1
-      → found ≡ 0 → DrawsJob st.word before after → Drawing st before found after
-  tells_drawn st before after found is one hit drawn = grind arith
-
-  tells_tried : (st : Step (Slot J D)) (before after : M) (found : ℕ) → st.word ≡ before.0.next → st.first ≡ 1
-      → found ≢ 0 → after ≡ (tried before.0, []) → Drawing st before found after
-  tells_tried st before after found is one miss so = grind arith
+  tells : (st : Step (Slot J D)) (before after : M) (found : ℕ) → st.word ≡ before.0.next → st.first ≡ 1
+      → (found ≡ 0 → DrawsJob st.word before after) → (found ≢ 0 → after ≡ (tried before.0, []))
+      → Drawing st before found after
+  tells st before after found is one drawn missed = grind arith
 
   -- a draw: `fetch_max` with 1 on the view's next word
   pub draws : (slots id : ℕ) (me : M) (i : ℕ) → me.1 ≡ [] → 0 < me.0.weight → me.0.held ≡ None → me.0.next ≡ i
@@ -146,8 +136,8 @@ module _ {J D : Type 0} (lawful : J → D → Type 0) (jobs : List J) (passes : 
         takes i (Job there_is.0),
         (r.each_slot i there_is.0 there_is.1).waiting hit,
         finds_zero s r id i me.0 at live free is inside hit,
-        tells_drawn (step slots i 1 0 none) me _ _ (sym is) refl hit
-            (there_is.0, own, ap (λ (c : List (ℕ × Slot J D)). (taken i me.0, (i, Job there_is.0) ∷ c)) empty),
+        tells (step slots i 1 0 none) me _ _ (sym is) refl (λ _. (there_is.0, own, rw empty refl))
+            (λ miss. absurd (miss hit)),
       ))
       (λ miss. let same : get_or s.words i 0 ≡ max (get_or s.words i 0) 1 = omega arith in
       subst (Draws s me slots id i) same (
@@ -155,8 +145,7 @@ module _ {J D : Type 0} (lawful : J → D → Type 0) (jobs : List J) (passes : 
         keeps,
         tt,
         finds_more s r id i me.0 at live free is inside miss,
-        tells_tried (step slots i 1 0 none) me _ _ (sym is) refl miss
-            (ap (λ (c : List (ℕ × Slot J D)). (tried me.0, c)) empty),
+        tells (step slots i 1 0 none) me _ _ (sym is) refl (λ hit. absurd (miss hit)) (λ _. rw empty refl),
       ))
 
   -- a word whose number is held is 1
@@ -171,13 +160,9 @@ module _ {J D : Type 0} (lawful : J → D → Type 0) (jobs : List J) (passes : 
   -- a number that a view holds is held by no other, and its slot is out
   pub held_alone : (s : St) (k : ℕ) → Lawful s → IsHeldAlone s k
   held_alone s k r = record {
-    by_one = λ by other v w at there_is has also. grind (
-      arith,
-      terms_le (holds_one k) s.views by other v w,
-      r.held k,
-      word_is_one s k r by v at has,
-      eqb_tells,
-    );
+    by_one = λ by other v w at there_is has also.
+        let is_one = word_is_one s k r by v at has in
+        grind (arith, terms_le (holds_one k) s.views by other v w, r.held k, is_one, eqb_tells);
     slot_out = λ by v at has. let is_one = word_is_one s k r by v at has in
         elim (cases_lt k (length jobs)) [
           | inl near ↦ let job = there jobs k near in (r.each_slot k job.0 job.1).out is_one
@@ -212,14 +197,7 @@ module _ {J D : Type 0} (lawful : J → D → Type 0) (jobs : List J) (passes : 
                   );
             })
             (grind (arith, cases_eq, set_there, get_or-set_other s.words k, knows))
-            (λ i. grind (
-              arith,
-              eqb_tells,
-              cases_eq i k,
-              one,
-              set_there,
-              get_or-set_other s.words k i 2 0,
-            ))
+            (λ i. grind (arith, eqb_tells, cases_eq i k, one, set_there, get_or-set_other s.words k i 2 0))
             (λ i. grind (arith, cases_eq i k, one, set_there, get_or-set_other s.words k i 2 0))
             refl,
         record { word = has; operand = (refl, refl); result = (d, refl); given_back = refl },
@@ -230,8 +208,7 @@ module _ {J D : Type 0} (lawful : J → D → Type 0) (jobs : List J) (passes : 
       → 0 < v.weight → v.held ≡ Some k → get_elem? v.jobs k ≡ some j → lawful j d
       → Allows Lawful slots id m k (λ _. 2) (λ _. HandingIn (step slots k 2 0 none) m 2)
   hands_in_at slots id m v k j d e live has is fair =
-      subst (λ (x : M). Allows Lawful slots id x k (λ _. 2) (λ _. HandingIn (step slots k 2 0 none) x 2)) (sym e)
-      (hands_in slots id v k j d live has is fair)
+      rw e (hands_in slots id v k j d live has is fair)
 
   -- the first seat gives one pass away
   pub divides : (id : ℕ) (v : View J) → 1 < v.weight → Splits Lawful id v (without_one v) (one_of v)
@@ -348,5 +325,4 @@ pub closes_board : {J D : Type 0} (lawful : J → D → Type 0) (b view : BoardV
     → AllDone lawful (jobs_of view) (passes_of view) xs × HoldsEachOnce (length (jobs_of view)) (drawn_by ps)
 closes_board lawful b view ps seat ws xs final some-pass is all of =
     closes lawful (jobs_of view) (passes_of view) seat.id seat.me.0 ws xs (drawn_by ps)
-    (subst (λ v. Final (Seen (Holds lawful (jobs_of v) (passes_of v)) seat.id seat.me.0) ws xs) is final)
-    (of.weight ∙ all) (omega (arith, ap passes_of is)) of.next of.held of.drawn
+    (rw is at final) (of.weight ∙ all) (rw is at some-pass) of.next of.held of.drawn

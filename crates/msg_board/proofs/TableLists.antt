@@ -1,6 +1,6 @@
 -- Elements of lists, as the table names them (`get_elem?`) and as clauses do (`slice_get`).
 use Rattle.std.specs.Prelude.{slice_get}
-use Rattle.std.proofs.Common.{Bool, false, ◌∙◌, ◌+◌, ◌⊎◌, ⊎_elim, Some, ◌≡◌, ℕ, zero, suc, ◌<◌, List, [], ◌∷◌, ◌++◌, length, get_or, set, replicate, sym, refl, ap, subst, arith, get_or-set_other, get_or-set_same, length-set}
+use Rattle.std.proofs.Common.{Bool, false, ◌∙◌, ◌+◌, ◌⊎◌, ⊎_elim, Some, ◌≡◌, ℕ, zero, suc, ◌<◌, List, [], ◌∷◌, ◌++◌, length, get_or, set, replicate, sym, refl, arith, get_or-set_other, get_or-set_same, length-set}
 use Rattle.std.proofs.lemmas.Bool.{cases_eq, cases_lt}
 use Rattle.std.proofs.lemmas.List.{get_or-replicate, get_or_append_left, get_or_past, get_or_push, length-append, length-replicate}
 use Rattle.std.proofs.lemmas.Option.{get_or_from_slice_get, slice_get-get_or, slice_get_read, slice_get_within}
@@ -46,31 +46,21 @@ get_snoc l a b k e =
       cases_lt k (length l),
       slice_get_within (l ++ a ∷ []) k b e,
       get_or_from_slice_get (l ++ a ∷ []) k b b e,
-      slice_get-get_or l k b,
-      get_or_append_left l (a ∷ []) b k,
-      get_or_push l a b k,
-      length-append l (a ∷ []),
+      slice_get-get_or,
+      get_or_append_left,
+      get_or_push,
+      length-append,
     )
 
 -- a fact of each place holds after a push, if it holds of what was pushed
 pub each_pushed : {A : Type 0} (P : ℕ → A → Type 0) (l now : List A) (a : A) (n : ℕ) → now ≡ l ++ a ∷ []
     → length l ≡ n → P n a
     → ((k : ℕ) (b : A) → slice_get l k ≡ Some b → P k b) → (k : ℕ) (b : A) → slice_get now k ≡ Some b → P k b
-each_pushed P l now a n is long last others k b at = ⊎_elim (λ t. others k b t)
-    (λ t. subst (P k) t.1 (subst (λ (m : ℕ). P m a) (sym (t.0 ∙ long)) last))
-    (get_snoc l a b k (ap (λ m. slice_get m k) (sym is) ∙ at))
+each_pushed P l now a n is long last others k b at =
+    ⊎_elim (λ t. others k b t) (λ t. rw (t.0, long, ← t.1) last) (get_snoc l a b k (rw is at at))
 
 -- where the places below i are false, and place i is set to false, so are those below i + 1
 pub false_below : (l now : List Bool) (i : ℕ) → now ≡ set l i false
     → ((k : ℕ) → k < i → get_or l k false ≡ false) → (k : ℕ) → k < i + 1 → get_or now k false ≡ false
 false_below l now i is below k h =
-    grind (
-      arith,
-      below k,
-      cases_eq k i,
-      cases_lt i (length l),
-      get_or-set_same l i false false,
-      get_or-set_other l i k,
-      get_or_past (set l i false) i false,
-      length-set l i false,
-    )
+    grind (arith, below k, cases_eq k i, cases_lt i, get_or-set_same, get_or-set_other, get_or_past, length-set)

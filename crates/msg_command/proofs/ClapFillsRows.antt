@@ -9,8 +9,8 @@ use Rattle.clap.specs.Lexer.{long_of, short_of}
 use Rattle.clap.proofs.OnLiterals.{clap_on_literals}
 use Rattle.clap.specs.Simple.{built_leaf, filled, help_rule, with_index}
 use Rattle.msg_command.specs.Prelude.{buffer_app, file_rule, run_app, workers_rule}
-use Rattle.clap.specs.Walk.{Step, next, trailing, subcommand, value, has_long, has_short, bundle, reading_by, after_step, nothing_held, rows_after, walk, walk_from, Held, Names, Outcome, Waiting, Walk, done, plain, action_of, after_flag, arg_by_id, arg_by_long, arg_by_short, attached_value, bundle_met, bundle_step, has_row, long_met, long_or_other, option_met, plain_word, positional_held, reacted, settled, settled_rows, short_met, short_or_plain, subcommand_met, subcommand_or_other, used, used_by_id, walked, with_default, with_values, without, word_met}
-use Rattle.clap.specs.Takes.{is_valid, default_passes, bundle_passes, bundle_step_passes, flag_word_passes, flags_pass, is_given, level_passes, long_passes, option_passes, other_passes, positional_passes, react_passes, settle_passes, short_passes, step_passes, turn_passes, use_passes, walk_passes, word_passes}
+use Rattle.clap.specs.Walk.{Step, next, trailing, subcommand, value, has_long, has_short, bundle, reading_by, after_step, nothing_held, rows_after, walk, walk_from, Held, Names, Outcome, Waiting, Walk, done, plain, action_of, after_flag, arg_by_id, arg_by_long, arg_by_short, attached_value, bundle_met, bundle_step, has_row, long_met, long_or_other, option_met, plain_word, reacted, settled, settled_rows, short_met, short_or_plain, used, used_by_id, walked, with_default, with_values, without, word_met}
+use Rattle.clap.specs.Takes.{is_valid, default_passes, bundle_passes, bundle_step_passes, flag_word_passes, flags_pass, is_given, level_passes, long_passes, option_passes, react_passes, settle_passes, short_passes, step_passes, turn_passes, use_passes, walk_passes, word_passes}
 use Rattle.clap.specs.declared.parser.matches.ValueSource.{ValueSource}
 use Rattle.clap.specs.declared.parser.matches.ValueSource.TheVariants.{DefaultValue, CommandLine}
 use Rattle.clap.specs.declared.builder.value_parser.Reading.{Reading}
@@ -183,26 +183,13 @@ flag_word_keeps c again w word (Some p) h fine passes all =
     ∙ long_keeps c again (arg_by_long c p.0) p.1 h fine
     (found_valued (λ a. not (is_some a.index) && has_long a p.0) c fine) passes all
 
-other_keeps : (s : Shape) (name : Option Text) (w : Waiting) (position : ℕ) (word : Text) (h : Held)
-    → EachValued s.rules
-    → other_passes s name word h ≡ true → have_values h.rows ≡ true
-    → have_values (subcommand_or_other s.rules name w position word h).0.rows ≡ true
-other_keeps s (Some name) w position word h fine passes all = all
-other_keeps s None w position word h fine passes all =
-    grind (arith, flag_word_keeps s.rules s.args_override_self w word (long_of word) h fine)
-
 word_keeps : (s : Shape) (names : Names) (past : Bool) (w : Waiting) (position : ℕ) (word : Text) (h : Held)
     → EachValued s.rules
     → word_passes s names past w word h ≡ true → have_values h.rows ≡ true
     → have_values (word_met s.rules names past w position word h).0.rows ≡ true
 word_keeps s names true w position word h fine passes all = all
 word_keeps s names false w position word h fine passes all =
-    other_keeps s (subcommand_met names w word) w position word h fine passes all
-
-positional_keeps : (c : List Rule) (again : Bool) (a : Rule) (word : Text) (h : Held) → EachValued c
-    → positional_passes c again a h ≡ true → have_values h.rows ≡ true
-    → have_values (positional_held c a word h).rows ≡ true
-positional_keeps c again a word h fine passes all = grind (arith, settled_keeps c again h fine)
+    grind (arith, flag_word_keeps s.rules s.args_override_self w word (long_of word) h fine)
 
 step_keeps : (s : Shape) (w : Walk) (word : Text) (h : Held) (step : Step) → EachValued s.rules
     → step_passes s w.position h step ≡ true → have_values h.rows ≡ true
@@ -211,7 +198,7 @@ step_keeps s w word h (next waiting) fine passes all = all
 step_keeps s w word h (trailing position) fine passes all = all
 step_keeps s w word h (subcommand name) fine passes all = all
 step_keeps s w word h value fine passes all =
-    grind (arith, λ (a : Rule). positional_keeps s.rules s.args_override_self a word h fine)
+    grind (arith, settled_keeps s.rules s.args_override_self h fine)
 
 turn_keeps : (s : Shape) (names : Names) (w : Walk) (word : Text) → EachValued s.rules
     → turn_passes s names w word ≡ true
@@ -236,13 +223,12 @@ walk_keeps s names (word ∷ rest) w fine passes all =
     let parts = and_parts (turn_passes s names w word) _ passes in
     walk_keeps s names rest (walked s.rules names w word) fine parts.1 (turn_keeps s names w word fine parts.0 all)
 
-default_keeps : (a : Rule) (rows : List Row) → have_values rows ≡ true → have_values (with_default rows a) ≡ true
-default_keeps a rows all = grind (arith, with_values_keeps a.id (reading_by a) DefaultValue a.defaults rows)
-
 defaults_keep : (c : List Rule) (rows : List Row) → have_values rows ≡ true
     → have_values (fold with_default rows c) ≡ true
 defaults_keep [] rows all = all
-defaults_keep (a ∷ rest) rows all = defaults_keep rest (with_default rows a) (default_keeps a rows all)
+defaults_keep (a ∷ rest) rows all =
+    let with_values = with_values_keeps a.id (reading_by a) DefaultValue a.defaults rows in
+    defaults_keep rest (with_default rows a) (grind (arith, with_values))
 
 -- a row that is there has a first value
 value_there : (vs : List Text) → some_of vs ≡ true → (t : Text) × (slice_get vs 0 ≡ Some t)

@@ -1,5 +1,5 @@
 -- The conditions of a scenario file.
-use Rattle.std.proofs.Common.{◌≡◌, ℕ, suc, ◌+◌, ◌-◌, ◌≤◌, ◌<◌, List, ◌∷◌, length, refl, sym, ◌∙◌, arith, Some, None, map}
+use Rattle.std.proofs.Common.{◌≡◌, ℕ, suc, ◌+◌, ◌-◌, ◌≤◌, ◌<◌, List, ◌∷◌, length, refl, arith, Some, None, map}
 use Rattle.serde_json.specs.Data.{Data}
 use Rattle.serde_json.specs.View.{view}
 use Rattle.serde_json.specs.declared.value.Value.{Value}
@@ -22,18 +22,14 @@ module _ {most seen : ℕ} {d inside : Data} (so_far : NotsSeen most d seen insi
   pub NotsSeen-more : {inner : Data} → seen < most → in_not inside ≡ Some inner → NotsSeen most d (seen + 1) inner
   NotsSeen-more {inner} lt is =
       let left : most - seen ≡ suc (most - (seen + 1)) = omega arith in
-      let deeper : nots_round (most - seen) inside ≡ nots_round (most - (seen + 1)) inner + 1
-      = rw (left, nots_round, is) refl in
-      record { round = omega (arith, so_far.round, deeper); inner = so_far.inner ∙ rw (left, inside_nots, is) refl }
+      grind (arith, so_far.round, so_far.inner, left, is)
 
   pub NotsSeen-end : seen < most → in_not inside ≡ None → (seen ≡ nots_round most d) × (inside ≡ inside_nots most d)
   NotsSeen-end lt is =
       let left : most - seen ≡ suc (most - (seen + 1)) = omega arith in
-      let none : nots_round (most - seen) inside ≡ 0 = rw (left, nots_round, is) refl in
-      (omega (arith, so_far.round, none), sym (so_far.inner ∙ rw (left, inside_nots, is) refl))
+      grind (arith, so_far.round, so_far.inner, left, is)
 
   pub NotsSeen-all : most ≤ seen → seen ≤ most → (most ≡ nots_round most d) × (inside ≡ inside_nots most d)
   NotsSeen-all le ge =
       let left : most - seen ≡ 0 = omega arith in
-      let none : nots_round (most - seen) inside ≡ 0 = rw left refl in
-      (omega (arith, so_far.round, none), sym (so_far.inner ∙ rw left refl))
+      grind (arith, so_far.round, so_far.inner, left)

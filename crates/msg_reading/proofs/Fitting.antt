@@ -1,5 +1,5 @@
 -- What the systems of a scenario file use is there, and so are the types that its frames post to.
-use Rattle.std.proofs.Common.{◌≡◌, ℕ, ◌≤◌, ◌<◌, List, [], ◌∷◌, ◌++◌, length, Option, Some, None, true, arith}
+use Rattle.std.proofs.Common.{◌≡◌, ◌≤◌, ◌<◌, List, [], ◌∷◌, ◌++◌, length, Option, Some, None, true, arith}
 use Rattle.std.proofs.lemmas.Bool.{eqb-true}
 use Rattle.std.proofs.lemmas.List.Elements.{All-head, All-tail, All-weaker}
 use Rattle.std.proofs.lemmas.List.Quantifiers.{position-Some}
@@ -13,7 +13,7 @@ use Rattle.msg_system.specs.declared.condition.Condition.{Condition}
 use Rattle.msg_system.specs.declared.op.Op.{Op}
 use Rattle.msg_frames.specs.declared.place.Place.{Place}
 use Rattle.msg_files.specs.Prelude.{Text, elements, first_refusal, natural, needs, value_at, values_of, whole}
-use Rattle.msg_reading.specs.Prelude.{Declared, FitKind, IsClashing, IsRunnableSystem, Kind, PostsAreToTypes, Scenario, SystemSpec, checks_in_turn, condition_checks, condition_of, conditions_in, each_in_turn, each_of, fits_kind, frame_of, inside_nots, join_checks, join_in, kind_in, kind_of, list_checks, name_checks, of_headed, of_its_kind, op_checks, op_of, op_with, op_with_one, op_with_two, ops_checks, ops_of, place_checks, place_of, post_of, probe_with, program_checks, resource_number, start_in, start_of, system_checks, system_object, system_of, text, type_number, with_system}
+use Rattle.msg_reading.specs.Prelude.{Declared, IsClashing, IsRunnableSystem, PostsAreToTypes, Scenario, SystemSpec, checks_in_turn, condition_checks, condition_of, conditions_in, each_in_turn, each_of, fits_kind, frame_of, inside_nots, join_checks, join_in, kind_in, kind_of, list_checks, name_checks, of_headed, of_its_kind, op_checks, op_of, op_with, op_with_one, op_with_two, ops_checks, ops_of, place_checks, place_of, post_of, probe_with, program_checks, resource_number, start_in, start_of, system_checks, system_object, system_of, text, type_number, with_system}
 use Rattle.msg_files.specs.declared.refusal.Refusal.TheVariants.{Shape}
 use Rattle.msg_reading.proofs.There.{Holds, below_there, both_pass, choice, first_passes, in_both, in_each, in_headed, in_map, in_then, in_turn_all, in_two, passed_length}
 
@@ -36,16 +36,13 @@ module _ (s : Scenario) where
   abbrev ConditionFits : Condition → Type 0
   ConditionFits c = Has (probe_part c.probe)
 
-  part_there : (o : Option Part) (p : Part) → IfSome o Has → is_part o p ≡ true → Has p
-  part_there o p has is = grind (arith, eqb-true)
-
   some_there : {X : Type 0} (part : X → Option Part) (xs : List X) (p : Part) → All (λ x. IfSome (part x) Has) xs
       → list_any (λ x. is_part (part x) p) xs ≡ true → Has p
   some_there part [] p fit h = cc
   some_there part (x ∷ xs) p fit h =
-      let here = part_there (part x) p (All-head (λ y. IfSome (part y) Has) x xs fit) in
+      let here = All-head (λ y. IfSome (part y) Has) x xs fit in
       let later = some_there part xs p (All-tail (λ y. IfSome (part y) Has) x xs fit) in
-      grind (arith, here, later)
+      grind (arith, eqb-true, here, later)
 
   -- so a job needs nothing else
   job_fits : (ops : List Op) (cs : List Condition) → All OpFits ops → All ConditionFits cs
@@ -124,14 +121,6 @@ module _ (s : Scenario) (names : Declared) (of : NamesOf s names) where
   pub frames_fit : (d : Data) → Holds (All (PostsAreToTypes s)) (each_of (frame_of names) d)
   frames_fit d frames is = (in_each (PostsAreToTypes s) (frame_of names) frame_fits (elements d) frames is).0
 
--- ---- kinds and joins
-
-kind_fits : (kind : Kind) (ops : List Op) → fits_kind kind ops ≡ true → FitKind kind ops
-kind_fits kind ops h = grind arith
-
-joins_fit : (d : Data) (n : ℕ) → first_refusal (join_checks d) ≡ None → natural d ≡ Some n → (1 ≤ n) × (n ≤ 10000)
-joins_fit d n passed is = grind arith
-
 -- ---- systems
 
 -- a system can be made, and added, if it doesn't clash
@@ -162,10 +151,10 @@ system_fits s names d of passed =
     let placed = in_both (λ (y : Place). All (ConditionFits s) y.conditions × ((1 ≤ y.join) × (y.join ≤ 10000))) _
     (each_of (condition_of names) (conditions_in d)) (natural (join_in d)) (λ conditions join c j.
     let all = in_each (ConditionFits s) (condition_of names) (condition_fits s names of) (elements (conditions_in d)) in
-    ((all conditions c).0, joins_fit (join_in d) join joins j)) place p in
+    ((all conditions c).0, grind (arith, joins, j))) place p in
     record {
       few_ops = omega (arith, few, many);
-      fit_kind = kind_fits kind ops as_kind;
+      fit_kind = grind (arith, as_kind);
       fits = job_fits s ops place.conditions fit.0 placed.0;
       no_clash = none;
       joins = placed.1;

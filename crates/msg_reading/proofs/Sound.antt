@@ -1,5 +1,5 @@
 -- What is known of a scenario that was read.
-use Rattle.std.proofs.Common.{◌≡◌, ℕ, ◌+◌, ◌≤◌, ◌<◌, List, [], ◌∷◌, length, refl, sym, ap, ◌∙◌, Some, None, true, arith}
+use Rattle.std.proofs.Common.{◌≡◌, ℕ, ◌+◌, ◌≤◌, ◌<◌, List, [], ◌∷◌, length, refl, sym, ◌∙◌, Some, None, true, arith}
 use Rattle.std.proofs.lemmas.Grind.{common_steps}
 use Rattle.std.proofs.lemmas.List.Elements.{All-head, All-tail}
 use Rattle.std.proofs.lemmas.List.Quantifiers.{position-Some}
@@ -37,30 +37,26 @@ names_grow part with_one grows names (d ∷ ds) =
 -- there are as many names of systems as systems
 pub as_many_systems : (d : Data) → length (all_names d).systems ≡ length (elements (systems_in d))
 unfolding type_names part_names all_names
-as_many_systems d =
-    let none : (part_names d).systems ≡ [] =
-    names_keep (λ n. n.systems) with_resource (λ n e. refl) (type_names d) (elements (resources_in d))
-    ∙ names_keep (λ n. n.systems) with_type (λ n e. refl) no_names (elements (types_in d)) in
-    names_grow (λ n. n.systems) with_system (λ n e. grind (arith, common_steps)) (part_names d)
-    (elements (systems_in d))
-    ∙ ap (λ l. length l + length (elements (systems_in d))) none ∙ omega arith
+as_many_systems d = rw (
+  names_grow (λ n. n.systems) with_system (λ n e. grind (arith, common_steps)),
+  names_keep (λ n. n.systems) with_resource (λ n e. refl),
+  names_keep (λ n. n.systems) with_type (λ n e. refl),
+) (omega arith)
 
 -- as many names of types as types, and of resources as resources
 pub as_many_types : (d : Data) → length (part_names d).types ≡ length (elements (types_in d))
 unfolding part_names type_names
-as_many_types d =
-    ap length (names_keep (λ n. n.types) with_resource (λ n e. refl) (type_names d) (elements (resources_in d)))
-    ∙ names_grow (λ n. n.types) with_type (λ n e. grind (arith, common_steps)) no_names (elements (types_in d))
-    ∙ omega arith
+as_many_types d = rw (
+  names_keep (λ n. n.types) with_resource (λ n e. refl),
+  names_grow (λ n. n.types) with_type (λ n e. grind (arith, common_steps)),
+) (omega arith)
 
 pub as_many_resources : (d : Data) → length (part_names d).resources ≡ length (elements (resources_in d))
 unfolding type_names part_names
-as_many_resources d =
-    let none : (type_names d).resources ≡ [] =
-    names_keep (λ n. n.resources) with_type (λ n e. refl) no_names (elements (types_in d)) in
-    names_grow (λ n. n.resources) with_resource (λ n e. grind (arith, common_steps)) (type_names d)
-    (elements (resources_in d))
-    ∙ ap (λ l. length l + length (elements (resources_in d))) none ∙ omega arith
+as_many_resources d = rw (
+  names_grow (λ n. n.resources) with_resource (λ n e. grind (arith, common_steps)),
+  names_keep (λ n. n.resources) with_type (λ n e. refl),
+) (omega arith)
 
 -- ---- rules
 
@@ -127,9 +123,8 @@ whole_from d s passes types resources systems rules frames =
       resources = as_many_resources d ∙ sym resources_denoted;
     } in
     let all : NamesOf s (all_names d) = record {
-      types = ap length (names_keep (λ n. n.types) with_system (λ n e. refl) _ (elements (systems_in d))) ∙ parts.types;
-      resources = ap length (names_keep (λ n. n.resources) with_system (λ n e. refl) _ (elements (systems_in d)))
-          ∙ parts.resources;
+      types = rw (names_keep (λ n. n.types) with_system (λ n e. refl)) parts.types;
+      resources = rw (names_keep (λ n. n.resources) with_system (λ n e. refl)) parts.resources;
     } in
     let system_fit = systems_fit s (part_names d) (elements (systems_in d)) parts
     (both_pass

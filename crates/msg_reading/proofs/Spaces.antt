@@ -1,10 +1,10 @@
 -- Names in order, and the set of texts that keeps them.
 use Rattle.std.proofs.lemmas.List.{map_push}
-use Rattle.std.proofs.Common.{◌≡◌, ◌+◌, List, [], ◌∷◌, ◌++◌, length, refl, sym, ap, ◌∙◌, Option, None, Bool, false, not, map, nat_lt, string_bytes, String, arith}
+use Rattle.std.proofs.Common.{◌≡◌, ◌+◌, List, [], ◌∷◌, ◌++◌, length, refl, sym, ap, ◌∙◌, None, Bool, false, not, map, nat_lt, string_bytes, String, arith}
 use Rattle.std.proofs.lemmas.Grind.{common_steps}
 use Rattle.std.proofs.lemmas.List.{length-map}
 use Rattle.std.specs.List.{list_any, position_or_len}
-use Rattle.std.specs.Prelude.{cond, position, is_some, is_err, Result, IfOk}
+use Rattle.std.specs.Prelude.{cond, position}
 use Rattle.std.specs.Str.{bytes_eq}
 use Rattle.std.specs.declared.alloc.Global.{Global}
 use Rattle.indexmap.specs.IndexSet.{insert_key}
@@ -37,11 +37,3 @@ pub insert-new : (keys : List (String Global)) (key : String Global) (name : Tex
 insert-new keys key name is new =
     let none = sym (position-map (bytes_eq (string_bytes key)) string_bytes keys) ∙ rw is new in
     rw (none-any (λ k. bytes_eq (string_bytes key) (string_bytes k)) keys none, ← is, map_push) refl
-
--- what holds of no error holds
-pub of_ok : {T E : Type 0} (r : Result T E) (P : Type 0) → IfOk r (λ x. P) → false ≡ is_err r → P
-of_ok r P h e = grind arith
-
--- what isn't there is absent
-pub is_absent : {A : Type 0} (o : Option A) → false ≡ is_some o → o ≡ None
-is_absent o e = grind arith

@@ -1,15 +1,12 @@
 -- The systems of a scenario file.
 use Rattle.std.proofs.Common.{refl}
-use Rattle.std.proofs.lemmas.Option.{same_Some}
 use Rattle.std.proofs.Common.{◌≡◌, List, [], ◌∷◌, ◌++◌, ◌∙◌, Option, Some, None, false}
 use Rattle.std.specs.Prelude.{codes, is_some, if◌then◌else◌}
 use Rattle.std.specs.Option.{option_map_or}
 use Rattle.serde_json.specs.Data.{Data}
-use Rattle.msg_system.specs.declared.op.Op.{Op}
-use Rattle.msg_files.specs.Prelude.{Check, Text, first_refusal, needs, value_at}
-use Rattle.msg_reading.specs.Prelude.{Declared, Kind, each_of, fits_kind, kind_in, kind_of, list_checks, name_checks, op_checks, op_of, ops_of, place_checks, place_of, program_checks, start_in, start_of, system_checks, system_object, system_of, text}
+use Rattle.msg_files.specs.Prelude.{Check, first_refusal, needs, value_at}
+use Rattle.msg_reading.specs.Prelude.{Declared, Kind, each_of, fits_kind, kind_in, kind_of, list_checks, name_checks, op_checks, op_of, place_checks, program_checks, start_in, start_of, system_checks, system_object}
 use Rattle.msg_system.specs.declared.start.Start.{Start}
-use Rattle.msg_frames.specs.declared.place.Place.{Place}
 use Rattle.msg_files.specs.declared.refusal.Refusal.{Refusal}
 use Rattle.msg_files.specs.declared.refusal.Refusal.TheVariants.{Shape}
 use Rattle.msg_files.proofs.Steps.{Refuses, goes_on, stops}
@@ -54,12 +51,3 @@ system_misnamed names d n e passed at bad =
     let name = name_checks names (value_at (codes "name") d) in
     goes_on (system_object d) (name ++ program_checks names d) e passed
     (stops name (program_checks names d) e (rw at bad))
-
-pub system_denoted : (names : Declared) (d n : Data) (name : Text) (kind : Kind) (ops : List Op) (place : Place)
-    (start : Start)
-    → value_at (codes "name") d ≡ n → Some (text n) ≡ Some name → kind_of (kind_in d) ≡ Some kind
-    → ops_of names d ≡ Some ops
-    → place_of names d ≡ Some place → start_of (start_in d) ≡ Some start
-    → system_of names d
-    ≡ Some (record { name = name; kind = kind; program = record { ops = ops; start = start }; place = place })
-system_denoted names d n name kind ops place start at named k o p s = rw (k, o, p, s, at, same_Some _ _ named) refl

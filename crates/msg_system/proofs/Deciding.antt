@@ -21,7 +21,7 @@ module _ (next : List Reply → Option Op) (w : ℕ) (ps : ℕ → ℕ) (s : Wor
   -- where the rule says that the turn is over, it stays as it is
   stays : (n k : ℕ) → k ≤ n → next (after_at_most k next w ps s).replies ≡ None → after_at_most n next w ps s
       ≡ after_at_most k next w ps s
-  stays zero k le h = let none : k ≡ 0 = omega (arith, le) in rw none refl
+  stays zero k le h = grind arith
   stays (suc n) k le h = elim (cases_eq k (suc n)) [
     | inl e ↦ rw e refl
     | inr ne ↦ grind (arith, stays n k (omega (arith, le, ne)) h)

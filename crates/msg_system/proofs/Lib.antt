@@ -6,8 +6,6 @@ mod CopiedReads
 -- Programs op by op, and systems
 mod Runs
 pub mod Turns
--- Conditions one after the other
-mod InPlace
 -- Nothing else is used
 mod Footprints
 -- Turns that a behavior decides

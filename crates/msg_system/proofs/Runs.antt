@@ -1,11 +1,11 @@
 -- Runs of ops and of programs, from one op to the next.
-use Rattle.std.proofs.Common.{◌≡◌, ℕ, ◌<◌, ◌++◌, Bool, true, List, [], ◌∷◌, length, Option, Some, Result, get_or, refl, ap, ◌∙◌, arith, append_assoc}
-use Rattle.std.specs.Prelude.{IfOk, IsSome, OnErr, is_some, slice_set, if◌then◌else◌}
+use Rattle.std.proofs.Common.{◌≡◌, ℕ, ◌<◌, ◌++◌, true, List, [], ◌∷◌, length, Some, get_or, refl, ap, arith, append_assoc}
+use Rattle.std.specs.Prelude.{IsSome, slice_set}
 use Rattle.std.proofs.lemmas.Bool.{cases_eq, eq-eqb, ne_eqb}
 use Rattle.std.proofs.lemmas.List.{get_or_default, get_or-set_same, get_or-set_other}
 use Rattle.msg_world.specs.declared.lent.Lent.{Lent}
 use Rattle.msg_world.specs.Prelude.{LoanStands, Part, Parts, SameLoan, WorldState, same_part, shown, taken_of, writable}
-use Rattle.msg_system.specs.Prelude.{AfterOp, AfterProgram, Covers, Cursors, Needs, Op, OpRan, Reply, WrittenStand, after_op, after_program, is_part, one_more, op_needs, op_parts, places_of, with_place}
+use Rattle.msg_system.specs.Prelude.{AfterOp, AfterProgram, Covers, Cursors, Needs, Op, OpRan, Reply, WrittenStand, after_op, after_program, one_more, op_needs, op_parts, places_of, with_place}
 use Rattle.msg_system.specs.inner.TurnRuns.{IsAfterProgram}
 
 pub same_part_refl : (p : Part) → same_part p p ≡ true
@@ -14,12 +14,12 @@ same_part_refl p = grind (arith, eq-eqb)
 -- a loan that covers an op shows what the op reads
 pub covers_read : (op : Op) (l : Lent) (p : Part) → Covers (op_needs op) l → (op_parts op).read ≡ Some p
     → IsSome (shown p l)
-covers_read op l p covers is = covers.reads p (ap (λ q. is_part q p) is ∙ same_part_refl p)
+covers_read op l p covers is = covers.reads p (rw is (same_part_refl p))
 
 -- and lets be written what it writes
 pub covers_written : (op : Op) (l : Lent) (p : Part) → Covers (op_needs op) l → (op_parts op).written ≡ Some p
     → IsSome (writable p l)
-covers_written op l p covers is = covers.writes p (ap (λ q. is_part q p) is ∙ same_part_refl p)
+covers_written op l p covers is = covers.writes p (rw is (same_part_refl p))
 
 -- the cursors, after the one in a type was moved
 abbrev pub moved : Cursors → ℕ → ℕ → Cursors
@@ -28,12 +28,6 @@ moved cs t place = record { by_type = slice_set cs.by_type t place }
 moved_place : (cs : Cursors) (t place : ℕ) → t < length cs.by_type → places_of (moved cs t place)
     ≡ with_place (places_of cs) t place
 moved_place cs t place lt = grind (arith, cases_eq, get_or-set_same, eq-eqb, get_or-set_other, ne_eqb)
-
-pub if_ok : {T E : Type 0} (r : Result T E) (P Q : T → Type 0) → ((x : T) → P x → Q x) → IfOk r P → IfOk r Q
-if_ok r P Q x z4 = grind arith
-
-pub on_err_then : {T E : Type 0} (r : Result T E) (P Q : Type 0) → (P → Q) → OnErr r P → OnErr r Q
-on_err_then r P Q z3 z4 = grind arith
 
 -- one of the cursors of all types, as the array has it
 module _ (cs : Cursors) (t k d : ℕ) (long : length cs.by_type ≡ 64) (is : k ≡ t) (lt : t < 64) where
@@ -50,12 +44,8 @@ module _ (cs : Cursors) (t k d : ℕ) (long : length cs.by_type ≡ 64) (is : k 
 
 -- ---- a loan that covers, after a change of what it lets be written
 
-still_there : {X : Type 0} (b : Bool) (x y z : Option X) → is_some x ≡ is_some y → is_some (if b then x else z)
-    ≡ is_some (if b then y else z)
-still_there b x y z z4 = grind arith
-
 pub covers_later : (n : Needs) (l m : Lent) → SameLoan l m → Covers n l → Covers n m
-covers_later n l m same covers = grind (arith, still_there)
+covers_later n l m same covers = grind arith
 
 pub same_loan_trans : (l m n : Lent) → SameLoan l m → SameLoan m n → SameLoan l n
 same_loan_trans l m n a b = grind arith

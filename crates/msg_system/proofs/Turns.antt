@@ -6,7 +6,7 @@ use Rattle.std.proofs.lemmas.Bool.{and_from, and_parts, eqb-true, false≢true}
 use Rattle.std.proofs.lemmas.List.{append-nil, length-take-le, take_more, take_all}
 use Rattle.std.proofs.lemmas.List.Folds.{list_any_at}
 use Rattle.std.proofs.lemmas.Option.{get_or_from_slice_get, none-some, same_Some, slice_get_cases, slice_get_past, slice_get_within}
-use Rattle.msg_world.specs.Prelude.{Part, Parts, SameLoan, WorldState, same_part, taken_of}
+use Rattle.msg_world.specs.Prelude.{Part, Parts, SameLoan, WorldState, taken_of}
 use Rattle.msg_world.specs.declared.lent.Lent.{Lent}
 use Rattle.msg_system.specs.Prelude.{IsInOrder, Meaning, Needs, OneOpIsATurn, Op, Program, Ran, Reply, after_at_most, after_op, after_program, if_kept, is_none_or, is_part, keeps_to, may_read, next_op, of_program, only, op_needs, op_parts, ops_answered, program_needs, turn}
 use Rattle.msg_system.specs.inner.TurnRuns.{HasReplies, ProgramRan}
@@ -93,11 +93,8 @@ pub record IsKept (n : Needs) (op : Op) : Type 0 where
   pub reads : (p : Part) → IsTrue ((op_needs op).reads p) → IsTrue (may_read n p)
   pub writes : (p : Part) → IsTrue ((op_needs op).writes p) → IsTrue (n.writes p)
 
-same_part_is : (p q : Part) → IsTrue (same_part p q) → p ≡ q
-same_part_is p q z2 = grind (arith, eqb-true, false≢true)
-
 pub kept : (n : Needs) (op : Op) → IsTrue (keeps_to n op) → IsKept n op
-kept n op h = grind (arith, and_parts, false≢true, same_part_is)
+kept n op h = grind (arith, and_parts, eqb-true, false≢true)
 
 -- what comes next keeps to what is needed
 pub next_kept_to : (n : Needs) (o : Option Op) (op : Op) → if_kept n o ≡ Some op → IsKept n op

@@ -1,36 +1,25 @@
 -- Bits of masks, as tests.
-use Rattle.std.proofs.Common.{◌≡◌, ◌≢◌, ℕ, zero, suc, ◌+◌, ◌*◌, ◌-◌, ◌/◌, ◌^◌, ◌%◌, ◌<◌, ◌≤◌, min, max, Bool, true, false, not, ◌&&◌, ◌||◌, inl, inr, ap, sym, ◌∙◌, arith, w64}
+use Rattle.std.proofs.Common.{◌≡◌, ◌≢◌, ℕ, zero, suc, ◌+◌, ◌*◌, ◌-◌, ◌/◌, ◌^◌, ◌%◌, ◌<◌, ◌≤◌, Bool, true, false, not, ◌&&◌, ◌||◌, inl, inr, ap, sym, ◌∙◌, arith, w64}
 use lib.Count.{ones_step}
-use Rattle.std.specs.Prelude.{◌==◌, ◌↔◌, IsTrue, bit_and, bit_or, count_ones, nat_lt, ◌⊎◌}
+use Rattle.std.specs.Prelude.{◌==◌, ◌↔◌, IsTrue, bit_and, bit_or, count_ones, nat_lt}
 use Rattle.std.proofs.Math.Bool.{and-true}
 use Rattle.std.specs.Int.{bit_at, bit_not, trailing_zeros}
 use Rattle.std.proofs.lemmas.Bool.{cases_lt, cases_eq, eqb-true, eq-eqb, ne_eqb, eqb-false, le-ltb, lt-ltb, not-true, false≢true}
 use Rattle.std.proofs.lemmas.Bool.Decides.{eqb_tells, nat_tests}
-use Rattle.std.proofs.lemmas.Nat.{and_le_l, shr-shr}
+use Rattle.std.proofs.lemmas.Nat.{shr-shr}
 use Rattle.std.proofs.Math.Nat.{div-le_self}
 use Rattle.std.proofs.lemmas.Nat.Bits.{bit_at_lowest, bit_at-suc, bit_at_and, bit_at_or, bit_at_not, bit_at_above, bit_at-zero, bit_at-lt, bit_at_set_same, bit_at_set_other, bit_at_clear_same, bit_at_clear_other, bit_at-trailing_zeros}
 use Rattle.msg_world.specs.Prelude.{has_bit}
 use Rattle.msg_world.specs.inner.Masks.{ShareBit, IsBelow}
 
-or_test : (x y : ℕ) → x < 2 → y < 2 → (max x y == 1) ≡ ((x == 1) || (y == 1))
-or_test x y h k = grind (arith, nat_tests)
-
-and_test : (x y : ℕ) → x < 2 → y < 2 → (min x y == 1) ≡ ((x == 1) && (y == 1))
-and_test x y h k = grind (arith, nat_tests)
-
-not_test : (y : ℕ) → y < 2 → (1 - y == 1) ≡ not (y == 1)
-not_test y h = grind (arith, nat_tests)
-
 pub has_bit-zero : (k : ℕ) → has_bit 0 k ≡ false
 has_bit-zero k = ap (λ n. n == 1) (bit_at-zero k)
 
 pub has_bit-or : (a b k : ℕ) → has_bit (bit_or a b) k ≡ (has_bit a k || has_bit b k)
-has_bit-or a b k = ap (λ n. n == 1) (bit_at_or a b k)
-    ∙ or_test (bit_at a k) (bit_at b k) (bit_at-lt a k) (bit_at-lt b k)
+has_bit-or a b k = grind (arith, nat_tests, bit_at_or a b k, bit_at-lt a k, bit_at-lt b k)
 
 pub has_bit-and : (a b k : ℕ) → has_bit (bit_and a b) k ≡ (has_bit a k && has_bit b k)
-has_bit-and a b k = ap (λ n. n == 1) (bit_at_and a b k)
-    ∙ and_test (bit_at a k) (bit_at b k) (bit_at-lt a k) (bit_at-lt b k)
+has_bit-and a b k = grind (arith, nat_tests, bit_at_and a b k, bit_at-lt a k, bit_at-lt b k)
 
 -- a mask of 64 bits has none from 64 on
 pub has_bit-above : (a k : ℕ) → a < 2 ^ 64 → 64 ≤ k → has_bit a k ≡ false
@@ -39,14 +28,8 @@ has_bit-above a k h l = ap (λ n. n == 1) (bit_at_above a 64 k h l)
 pub has_bit-clear : (a b k : ℕ) → a < 2 ^ 64 → b < 2 ^ 64 → has_bit (bit_and a (bit_not w64 b)) k
     ≡ (has_bit a k && not (has_bit b k))
 has_bit-clear a b k la lb =
-    grind (
-      arith,
-      cases_lt k 64,
-      has_bit-and a (bit_not w64 b) k,
-      bit_at_not w64 b k lb,
-      not_test (bit_at b k) (bit_at-lt b k),
-      has_bit-above a k la,
-    )
+    let inverted = bit_at_not w64 b k lb in
+    grind (arith, nat_tests, cases_lt k 64, has_bit-and, inverted, bit_at-lt b k, has_bit-above a k la)
 
 -- `mask | (1 << k)`
 pub has_bit-set : (mask k j : ℕ) → k < 64 → has_bit (bit_or mask (1 * 2 ^ k % 2 ^ 64)) j ≡ (j == k || has_bit mask j)
@@ -65,18 +48,9 @@ some_bit n fits ne =
     let bit = bit_at-trailing_zeros w64 n (omega arith) fits in
     (trailing_zeros w64 n, (bit.0, eq-eqb (bit_at n (trailing_zeros w64 n)) 1 bit.1))
 
--- the test `a & b != 0`
-pub share_bit-and : (a b : ℕ) → a < 2 ^ 64 → IsTrue (not (bit_and a b == 0)) ↔ ShareBit a b
-share_bit-and a b fits =
-    let le : bit_and a b ≤ a = and_le_l a b in (
-      λ t. let bit = some_bit (bit_and a b) (omega arith) (eqb-false (bit_and a b) 0 (not-true (bit_and a b == 0) t)) in
-          (bit.0, sym (has_bit-and a b bit.0) ∙ bit.1.1),
-      λ s. grind (arith, eqb_tells, has_bit-zero s.0, has_bit-and a b s.0, s.1),
-    )
-
 -- whatever its size
 some_bit_of : (fuel n : ℕ) → n ≤ fuel → n ≢ 0 → (k : ℕ) × IsTrue (has_bit n k)
-some_bit_of zero n h ne = let e : n ≡ 0 = omega arith in absurd (ne e)
+some_bit_of zero n h ne = absurd (omega arith)
 some_bit_of (suc fuel) n h ne = elim (cases_eq (n % 2) 1) [
   | inl e ↦ (0, eq-eqb (bit_at n 0) 1 (bit_at_lowest n ∙ e))
   | inr o ↦
@@ -84,33 +58,28 @@ some_bit_of (suc fuel) n h ne = elim (cases_eq (n % 2) 1) [
       (suc r.0, ap (λ b. b == 1) (bit_at-suc n r.0) ∙ r.1)
 ]
 
-pub decide_share : (a b : ℕ) → ShareBit a b ⊎ (ShareBit a b → ⊥)
-decide_share a b = elim (cases_eq (bit_and a b) 0) [
-  | inl e ↦ inr (λ s. grind (arith, has_bit-zero s.0, has_bit-and a b s.0, s.1))
-  | inr ne ↦ let r = some_bit_of (bit_and a b) (bit_and a b) (omega arith) ne in inl
-      (r.0, sym (has_bit-and a b r.0) ∙ r.1)
-]
+-- the test `a & b != 0`
+pub share_bit-and : (a b : ℕ) → IsTrue (not (bit_and a b == 0)) ↔ ShareBit a b
+share_bit-and a b = (
+  λ t.
+      let bit = some_bit_of (bit_and a b) _ (omega arith) (eqb-false (bit_and a b) 0 (not-true (bit_and a b == 0) t)) in
+      (bit.0, sym (has_bit-and a b bit.0) ∙ bit.1),
+  λ s. grind (arith, eqb_tells, has_bit-zero s.0, has_bit-and a b s.0, s.1),
+)
 
 -- bit k of a mask that was shifted
 shifted : (mask n k : ℕ) → has_bit (mask / 2 ^ n) k ≡ has_bit mask (n + k)
 shifted mask n k = ap (λ m. m % 2 == 1) (shr-shr mask n k)
 
-shifted-from : (mask n k : ℕ) → n ≤ k → has_bit mask k ≡ has_bit (mask / 2 ^ n) (k - n)
-shifted-from mask n k le = let e : n + (k - n) ≡ k = omega arith in ap (has_bit mask) (sym e)
-    ∙ sym (shifted mask n (k - n))
-
 -- no bit is set from n on where nothing is left of the mask
 pub none_from : (mask n : ℕ) → mask / 2 ^ n ≡ 0 → (k : ℕ) → n ≤ k → has_bit mask k ≡ false
-none_from mask n gone k le = shifted-from mask n k le ∙ ap (λ m. has_bit m (k - n)) gone ∙ has_bit-zero (k - n)
+none_from mask n gone k le = grind (arith, shifted mask n (k - n), has_bit-zero (k - n))
 
 -- the next bit that is set from n on
 module _ (mask n : ℕ) (fits : mask < 2 ^ 64) (some : mask / 2 ^ n ≢ 0) where
-  rest_fits : mask / 2 ^ n < 2 ^ 64
-  rest_fits = let le : mask / 2 ^ n ≤ mask = div-le_self mask (2 ^ n) in omega arith
-
   lowest : (trailing_zeros w64 (mask / 2 ^ n) < 64) × (bit_at (mask / 2 ^ n) (trailing_zeros w64 (mask / 2 ^ n)) ≡ 1)
       × ((i : ℕ) → i < trailing_zeros w64 (mask / 2 ^ n) → bit_at (mask / 2 ^ n) i ≡ 0)
-  lowest = bit_at-trailing_zeros w64 (mask / 2 ^ n) (omega arith) rest_fits
+  lowest = bit_at-trailing_zeros w64 (mask / 2 ^ n) (omega arith) (omega (arith, div-le_self mask (2 ^ n)))
 
   pub next_is_set : IsTrue (has_bit mask (n + trailing_zeros w64 (mask / 2 ^ n)))
   next_is_set = grind (arith, eqb_tells, lowest.1, shifted mask n (trailing_zeros w64 (mask / 2 ^ n)))
@@ -119,18 +88,13 @@ module _ (mask n : ℕ) (fits : mask < 2 ^ 64) (some : mask / 2 ^ n ≢ 0) where
   next_is_below = grind (arith, cases_lt, false≢true, has_bit-above, next_is_set)
 
   pub none_before_next : (k : ℕ) → n ≤ k → k < n + trailing_zeros w64 (mask / 2 ^ n) → has_bit mask k ≡ false
-  none_before_next k le lt = shifted-from mask n k le ∙ ap (λ b. b == 1) (lowest.2 (k - n) (omega arith))
+  none_before_next k le lt = grind (arith, nat_tests, shifted mask n (k - n), lowest.2 (k - n))
 
 -- the test `mask >> n == 0`
 pub shr-is_below : (mask n : ℕ) → mask < 2 ^ 64 → IsTrue (mask / 2 ^ n == 0) ↔ IsBelow mask n
 shr-is_below mask n fits = (
   λ t k bit. grind (arith, cases_lt k n, eqb-true (mask / 2 ^ n) 0 t, none_from mask n),
-  λ below. elim (cases_eq (mask / 2 ^ n) 0) [
-    | inl e ↦ eq-eqb (mask / 2 ^ n) 0 e
-    | inr ne ↦
-        let past : n + trailing_zeros w64 (mask / 2 ^ n) < n = below _ (next_is_set mask n fits ne) in
-        absurd (omega arith)
-  ],
+  λ below. grind (arith, nat_tests, next_is_set mask n fits, below),
 )
 
 -- ---- how many bits are set from a number on
@@ -140,21 +104,15 @@ ones_from mask n = ones_step (mask / 2 ^ n) ∙ ap (λ m. mask / 2 ^ n % 2 + cou
 
 -- one less from the next number on, where the bit is set
 pub one_less : (mask n : ℕ) → IsTrue (has_bit mask n) → count_ones (mask / 2 ^ n) ≡ count_ones (mask / 2 ^ (n + 1)) + 1
-one_less mask n set = let step = ones_from mask n in let one : mask / 2 ^ n % 2
-    ≡ 1 = eqb-true (mask / 2 ^ n % 2) 1 set in omega arith
+one_less mask n set = grind (arith, nat_tests, ones_from mask n)
 
 -- as many, where none is set before the next number
 pub as_many_ones : (mask n d : ℕ) → ((k : ℕ) → n ≤ k → k < n + d → has_bit mask k ≡ false)
     → count_ones (mask / 2 ^ (n + d)) ≡ count_ones (mask / 2 ^ n)
-as_many_ones mask n zero none = let same : n + 0 ≡ n = omega arith in ap (λ k. count_ones (mask / 2 ^ k)) same
+as_many_ones mask n zero none = grind arith
 as_many_ones mask n (suc d) none =
-    let step = ones_from mask (n + d) in
-    let lt : mask / 2 ^ (n + d) % 2 < 2 = bit_at-lt mask (n + d) in
-    let unset : mask / 2 ^ (n + d) % 2 ≢ 1 =
-    eqb-false (mask / 2 ^ (n + d) % 2) 1 (none (n + d) (omega arith) (omega arith)) in
     let rest = as_many_ones mask n d (λ k le l. none k le (omega arith)) in
-    let next : n + suc d ≡ n + d + 1 = omega arith in
-    ap (λ k. count_ones (mask / 2 ^ k)) next ∙ omega arith
+    grind (arith, nat_tests, ones_from mask (n + d), bit_at-lt mask (n + d), none (n + d), rest)
 
 -- ---- the bits below a number
 

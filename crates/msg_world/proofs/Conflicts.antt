@@ -1,18 +1,27 @@
 -- Conflicts, clashes and limits of accesses by their masks.
-use Rattle.std.proofs.Common.{arith, ◌≡◌, ℕ, ◌<◌, Bool, false, ◌&&◌, ◌||◌, inl, inr, ◌⊎◌, sym, ◌∙◌}
+use Rattle.std.proofs.Common.{arith, ℕ, ◌<◌, Bool, ◌&&◌, ◌||◌, inl, inr, ◌⊎◌, sym, ◌∙◌}
 use Rattle.std.specs.Prelude.{◌↔◌, IsTrue, bit_or}
 use Rattle.std.proofs.lemmas.Bool.{cases_Bool, or_cases, false≢true}
 use Rattle.msg_world.specs.Prelude.{Access, Conflict, IsClash, OfResource, OfType, Part, Registry, has_bit, uses, writes}
 use Rattle.msg_world.specs.inner.Masks.{ShareBit, Collide, IsBelow}
-use Rattle.msg_world.proofs.Bits.{has_bit-or, decide_share}
+use Rattle.msg_world.proofs.Bits.{has_bit-or, share_bit-and}
 
--- a bit of one mask and of either of two
-pub share_bit-or : (w s v : ℕ) → ShareBit w (bit_or s v)
-    ↔ ((k : ℕ) × IsTrue (has_bit w k && (has_bit s k || has_bit v k)))
-share_bit-or w s v = grind (arith, has_bit-or)
+-- the tests of two pairs of masks say whether they collide
+pub collides : (r w s v : ℕ) (first second : Bool) → IsTrue first ↔ ShareBit w (bit_or s v)
+    → IsTrue second ↔ ShareBit v (bit_or r w) → IsTrue (first || second) ↔ Collide r w s v
+collides r w s v first second f g = (
+  λ t. elim (or_cases first second t) [
+    | inl is ↦ let b = f.0 is in (b.0, inl (rw (has_bit-or s v b.0) at b.1))
+    | inr is ↦ let b = g.0 is in (b.0, inr (rw (has_bit-or r w b.0) at b.1))
+  ],
+  λ c. elim c.1 [
+    | inl h ↦ grind (arith, f.1 (c.0, rw (has_bit-or s v c.0) h))
+    | inr h ↦ grind (arith, g.1 (c.0, rw (has_bit-or r w c.0) h))
+  ],
+)
 
 pub is_below-or : (r w n : ℕ) → IsBelow (bit_or r w) n ↔ ((k : ℕ) → IsTrue (has_bit r k || has_bit w k) → k < n)
-is_below-or r w n = (λ b k u. b k (has_bit-or r w k ∙ u), λ b k u. b k (sym (has_bit-or r w k) ∙ u))
+is_below-or r w n = grind (arith, has_bit-or)
 
 -- the tests of the masks say whether there is such a part
 pub conflicts_lem : (a b : Access) (types resources : Bool) → IsTrue types
@@ -32,39 +41,17 @@ conflicts_lem a b types resources t r = (
   where
     found : (p : Part) → IsTrue (writes a p && uses b p) ⊎ IsTrue (writes b p && uses a p)
         → IsTrue ((types || resources) || (a.registry && b.registry))
-    found (OfType k) h = let x = t.1 (k, h) in grind arith
-    found (OfResource k) h = let x = r.1 (k, h) in grind arith
+    found (OfType k) h = grind (arith, t.1 (k, h))
+    found (OfResource k) h = grind (arith, r.1 (k, h))
     found Registry h = grind arith
 
 pub is_clash-masks : (a : Access) → IsClash a → ShareBit a.read_types a.write_types ⊎ ShareBit a.read_res a.write_res
 is_clash-masks a c = grind (arith, false≢true)
 
-decide_masks : (r w s v : ℕ) → Collide r w s v ⊎ (Collide r w s v → ⊥)
-decide_masks r w s v = elim (decide_share w (bit_or s v)) [
-  | inl x ↦ let c = (share_bit-or w s v).0 x in inl (c.0, inl c.1)
-  | inr no_first ↦ elim (decide_share v (bit_or r w)) [
-    | inl x ↦ let c = (share_bit-or v r w).0 x in inl (c.0, inr c.1)
-    | inr no_second ↦ inr (λ c. elim c.1
-        [ inl x ↦ no_first ((share_bit-or w s v).1 (c.0, x)) | inr x ↦ no_second ((share_bit-or v r w).1 (c.0, x)) ])
-  ]
-]
-
 -- two accesses conflict or they don't
 pub decide_conflict : (a b : Access) → Conflict a b ⊎ (Conflict a b → ⊥)
-decide_conflict a b = elim (decide_masks a.read_types a.write_types b.read_types b.write_types) [
-  | inl c ↦ inl (OfType c.0, c.1)
-  | inr no_type ↦ elim (decide_masks a.read_res a.write_res b.read_res b.write_res) [
-    | inl c ↦ inl (OfResource c.0, c.1)
-    | inr no_resource ↦ elim (cases_Bool (a.registry && b.registry)) [
-      | inl t ↦ inl (Registry, inl t)
-      | inr f ↦ inr (λ c. none c.0 no_type no_resource f c.1)
-    ]
-  ]
-]
-  where
-    none : (p : Part) → (Collide a.read_types a.write_types b.read_types b.write_types → ⊥)
-        → (Collide a.read_res a.write_res b.read_res b.write_res → ⊥)
-        → (a.registry && b.registry) ≡ false → IsTrue (writes a p && uses b p) ⊎ IsTrue (writes b p && uses a p) → ⊥
-    none (OfType k) x y f h = x (k, h)
-    none (OfResource k) x y f h = y (k, h)
-    none Registry x y f h = grind arith
+decide_conflict a b =
+    let collide = λ (r w s v : ℕ). collides r w s v _ _ (share_bit-and w (bit_or s v)) (share_bit-and v (bit_or r w)) in
+    let tells = conflicts_lem a b _ _ (collide a.read_types a.write_types b.read_types b.write_types)
+    (collide a.read_res a.write_res b.read_res b.write_res) in
+    elim (cases_Bool _) [ inl is ↦ inl (tells.0 is) | inr isnt ↦ inr (λ c. false≢true (sym isnt ∙ tells.1 c)) ]

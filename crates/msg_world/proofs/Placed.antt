@@ -35,16 +35,12 @@ module _ {X : Type 0} where
   -- the first part of a slot, with the next one's place
   rest_first : (slot i : ℕ) (m : Moved X) (ms : List (Moved X)) → IsFirstOf slot (m ∷ ms) (suc i) → IsFirstOf slot ms i
   rest_first slot i m ms f =
-      record {
-        there = let lt : suc i < length (m ∷ ms) = f.there in omega arith;
-        its = f.its;
-        first = λ j k lt is. f.first (suc j) k (omega arith) is;
-      }
+      record { there = omega (arith, f.there); its = f.its; first = λ j k lt is. f.first (suc j) k (omega arith) is }
 
   -- a slot whose part stands at place i
   pub at_first : (n slot : ℕ) (ms : List (Moved X)) (i : ℕ) (m : Moved X) → slot < n → IsFirstOf slot ms i
       → slice_get ms i ≡ Some m → at (placed n ms) slot ≡ Some m.part
-  at_first n slot [] i m lt f is = absurd (let no : i < 0 = f.there in omega arith)
+  at_first n slot [] i m lt f is = absurd (omega (arith, f.there))
   at_first n slot (k ∷ ms) zero m lt f is =
       grind (arith, f.its k refl, get_or-set_same (placed n ms) slot (Some k.part) None, placed_length n ms)
   at_first n slot (k ∷ ms) (suc i) m lt f is =
@@ -55,7 +51,7 @@ module _ {X : Type 0} where
   -- another part at the place of the first one of its slot
   pub set_first : (n slot : ℕ) (ms : List (Moved X)) (i : ℕ) (m : Moved X) → IsFirstOf slot ms i → m.slot ≡ slot
       → placed n (slice_set ms i m) ≡ slice_set (placed n ms) slot (Some m.part)
-  set_first n slot [] i m f its = absurd (let no : i < 0 = f.there in omega arith)
+  set_first n slot [] i m f its = absurd (omega (arith, f.there))
   set_first n slot (k ∷ ms) zero m f its =
       grind (arith, f.its k refl, set-set (placed n ms) slot (Some k.part) (Some m.part))
   set_first n slot (k ∷ ms) (suc i) m f its =
@@ -69,16 +65,8 @@ module _ {X : Type 0} where
   one_more n [] m below none = refl
   one_more n (k ∷ ms) m below none =
       let under : k.slot < n = below 0 k (omega arith) in
-      grind (
-        arith,
-        none,
-        cases_eq m.slot k.slot,
-        placed_length n ms,
-        get_or-set_same (placed n ms) k.slot (Some k.part) None,
-        get_or-set_other (placed n ms) k.slot m.slot (Some k.part) None,
-        one_more n ms m (λ j d l. below (suc j) d (omega arith)),
-        set_comm (placed n ms) m.slot k.slot (Some m.part) (Some k.part),
-      )
+      let rest = one_more n ms m (λ j d l. below (suc j) d (omega arith)) in
+      grind (arith, none, cases_eq m.slot, placed_length, get_or-set_same, get_or-set_other, rest, set_comm)
 
   -- the last part goes home: what is at a slot, of those that are left or at home, stays
   pub last_home : (n : ℕ) (ms : List (Moved X)) (m : Moved X) (home : List (Option X)) → m.slot < n → n
@@ -86,33 +74,17 @@ module _ {X : Type 0} where
       → option_or (at (placed n (ms ++ m ∷ [])) k) (at home k)
       ≡ option_or (at (placed n ms) k) (at (slice_set home m.slot (Some m.part)) k)
   last_home n [] m home lt as_many k =
-      grind (
-        arith,
-        cases_eq k m.slot,
-        at_empty n m.slot,
-        length-replicate n (none_of),
-        get_or-set_same (replicate n (none_of)) m.slot (Some m.part) None,
-        get_or-set_same home m.slot (Some m.part) None,
-        get_or-set_other (replicate n (none_of)) m.slot k (Some m.part) None,
-        get_or-set_other home m.slot k (Some m.part) None,
-      )
+      grind (arith, cases_eq k m.slot, at_empty, length-replicate, get_or-set_same, get_or-set_other)
   last_home n (j ∷ ms) m home lt as_many k =
-      let more : List (Option X) = placed n (ms ++ m ∷ []) in
       grind (
         arith,
         cases_eq k j.slot,
         cases_lt j.slot n,
-        placed_length n ms,
-        placed_length n (ms ++ m ∷ []),
-        length-set more j.slot (Some j.part),
-        length-set (placed n ms) j.slot (Some j.part),
-        get_or_past (slice_set more j.slot (Some j.part)) j.slot None,
-        get_or_past (slice_set (placed n ms) j.slot (Some j.part)) j.slot None,
-        get_or-set_same more j.slot (Some j.part) None,
-        get_or-set_same (placed n ms) j.slot (Some j.part) None,
-        get_or-set_other more j.slot k (Some j.part) None,
-        get_or-set_other (placed n ms) j.slot k (Some j.part) None,
-        get_or-set_other home m.slot k (Some m.part) None,
+        placed_length,
+        length-set,
+        get_or_past,
+        get_or-set_same,
+        get_or-set_other,
         last_home n ms m home lt as_many k,
       )
 

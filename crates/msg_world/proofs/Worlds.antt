@@ -1,30 +1,19 @@
 -- What a world stands for after each change, part by part.
-use Rattle.std.proofs.Common.{◌≡◌, ℕ, zero, suc, ◌<◌, Bool, true, false, List, [], ◌∷◌, length, map, refl, sym, subst, ◌∙◌, arith, inl, inr, Option, Some, None, get_or}
-use Rattle.std.specs.Prelude.{ℤ, pos, ◌&&◌, ◌||◌, ◌↔◌, not, IfSome, IsSome, IsSomeAnd, IsTrue, is_some, unwrap_or, slice_index, slice_index_or, slice_set, if◌then◌else◌}
+use Rattle.std.proofs.Common.{◌≡◌, ℕ, zero, suc, ◌<◌, Bool, true, false, List, [], ◌∷◌, length, map, refl, sym, ◌∙◌, arith, inl, inr, Option, Some, None, get_or}
+use Rattle.std.specs.Prelude.{ℤ, pos, ◌&&◌, ◌||◌, ◌↔◌, not, IfSome, IsSome, IsSomeAnd, IsTrue, is_some, unwrap_or, slice_index, slice_index_or, slice_set}
 use Rattle.std.specs.Option.{option_or}
 use Rattle.std.proofs.Math.ListN.{length-set}
 use Rattle.std.proofs.lemmas.Bool.Decides.{eqb_tells}
 use Rattle.std.proofs.lemmas.Bool.{and_parts, cases_eq, cases_lt, false≢true}
 use Rattle.std.proofs.lemmas.List.{get_or_default, get_or-set_same, get_or-set_other, get_or_past}
-use Rattle.msg_buffer.specs.Prelude.{History, Kept, StandsFor, empty, update}
-use Rattle.msg_world.specs.Prelude.{Access, IsHome, IsWhole, Marks, OfResource, OfType, Part, Parts, PartsStand, Record, Registry, SameShape, WorldState, after_update, has_bit, new_world, slot, uses, with_history, writes}
+use Rattle.msg_buffer.specs.Prelude.{History, Kept, StandsFor, empty}
+use Rattle.msg_world.specs.Prelude.{Access, IsHome, IsWhole, Marks, OfResource, OfType, Part, Parts, PartsStand, Record, Registry, SameShape, WorldState, after_update, has_bit, new_world, slot, with_history}
 use Rattle.msg_world.specs.inner.Slots.{AllUpdated, BufferStands, HaveEach, at}
 
 -- a world and parts of which the marks were set
-pub marks_stand : (w : Parts) (s : WorldState) (m n : Marks) → m ≡ n → PartsStand w s
-    → PartsStand (record w { marks = Some m }) (record s { marks = n })
-marks_stand w s m n same stand (OfType t) = stand (OfType t)
-marks_stand w s m n same stand (OfResource r) = stand (OfResource r)
-marks_stand w s m n same stand Registry = same
-
-pub marks_shape : (w : Parts) (m : Marks) → IsSome w.marks → SameShape w (record w { marks = Some m })
-marks_shape w m there = record {
-  size = record { types = refl; resources = refl };
-  there = elim [ OfType t ↦ refl | OfResource r ↦ refl | Registry ↦ sym there ];
-}
-
-pub same_shape : (w : Parts) → SameShape w w
-same_shape w = record { size = record { types = refl; resources = refl }; there = λ p. refl }
+pub marks_stand : (w : Parts) (s : WorldState) (m : Marks) → PartsStand w s
+    → PartsStand (record w { marks = Some m }) (record s { marks = m })
+marks_stand w s m stand = elim [ OfType t ↦ stand (OfType t) | OfResource r ↦ stand (OfResource r) | Registry ↦ refl ]
 
 -- the marks of a whole world are those that it stands for
 marks_are : (w : Parts) (s : WorldState) (m : Marks) → w.marks ≡ Some m → PartsStand w s → m ≡ s.marks
@@ -34,37 +23,20 @@ pub waiting_stays : (w : Parts) (s : WorldState) (m : Marks) → w.marks ≡ Som
     → PartsStand w s → PartsStand w (after_update s)
 waiting_stays w s m is waiting stand p = grind (arith, marks_are w s m is stand, stand p)
 
--- every type was updated, and the marks set
-pub types_updated : (w : Parts) (s : WorldState) (types : List (Option (Kept Record))) (m n : Marks) → m ≡ n
-    → AllUpdated w.types types → PartsStand w s
-    → PartsStand (record { types = types; resources = w.resources; marks = Some m })
-    (record s { histories = λ t. update (s.histories t); marks = n })
-types_updated w s types m n same all stand (OfType t) = all.updated t (s.histories t) (stand (OfType t))
-types_updated w s types m n same all stand (OfResource r) = stand (OfResource r)
-types_updated w s types m n same all stand Registry = same
-
-pub types_updated_shape : (w : Parts) (types : List (Option (Kept Record))) (m : Marks) → IsSome w.marks
-    → AllUpdated w.types types
-    → SameShape w (record { types = types; resources = w.resources; marks = Some m })
-types_updated_shape w types m there all = record {
-  size = record { types = all.length; resources = refl };
-  there = elim [ OfType t ↦ all.there t | OfResource r ↦ refl | Registry ↦ sym there ];
-}
-
 -- what isn't waiting is updated
 pub others_update : (w : Parts) (s : WorldState) (types : List (Option (Kept Record))) (m n : Marks) → w.marks ≡ Some m
     → false ≡ (m.held && not m.pending) → n ≡ record m { pending = false }
     → AllUpdated w.types types → PartsStand w s
     → PartsStand (record { types = types; resources = w.resources; marks = Some n }) (after_update s)
-others_update w s types m n is waiting spent all stand p =
+others_update w s types m n is waiting spent all stand =
     let marks = marks_are w s m is stand in
-    let next : n ≡ record s.marks { pending = false } = grind arith in
-    grind (arith, marks, types_updated w s types n (record s.marks { pending = false }) next all stand p)
+    elim [
+      | OfType t ↦ grind (arith, marks, all.updated t (s.histories t) (stand (OfType t)))
+      | OfResource r ↦ grind (arith, marks, stand (OfResource r))
+      | Registry ↦ grind (arith, marks)
+    ]
 
 -- ---- a new world
-
-none_stands : {X : Type 0} (o : Option X) (P : X → Type 0) → o ≡ None → IfSome o P
-none_stands o P z2 = grind arith
 
 -- each resource has its value, and there are no others
 values_are : (values : List ℤ) (r : ℕ)
@@ -114,11 +86,6 @@ pub found_at : {X : Type 0} (xs : List (Option X)) (i : ℕ) (o : Option X) → 
     → (at xs i ≡ o) × (i < length xs)
 found_at xs i o there read = grind (arith, cases_lt, item_at, false≢true, get_or_past)
 
--- the buffer of a type stands for its history
-pub buffer_stands : (w : Parts) (s : WorldState) (t : ℕ) (k : Kept Record) → at w.types t ≡ Some k → PartsStand w s
-    → StandsFor k (s.histories t)
-buffer_stands w s t k is stand = grind (arith, stand (OfType t))
-
 pub type_stands : (w : Parts) (s : WorldState) (t : ℕ) (k : Kept Record) (h : History Record) → t < length w.types
     → StandsFor k h → PartsStand w s
     → PartsStand (record w { types = slice_set w.types t (Some k) }) (with_history s t h)
@@ -141,26 +108,6 @@ type_shape w t k lt there = record {
 
 -- ---- lending and taking back
 
-module _ (a : Access) (old : Parts) (types types' : List (Option (Kept Record)))
-    (resources resources' : List (Option ℤ)) (marks marks' : Option Marks)
-    (types_taken : (t : ℕ) → at types' t ≡ (if has_bit a.write_types t then at old.types t else None))
-    (types_left : (t : ℕ) → at types t ≡ (if has_bit a.write_types t then None else at old.types t))
-    (resources_taken : (r : ℕ) → at resources' r ≡ (if has_bit a.write_res r then at old.resources r else None))
-    (resources_left : (r : ℕ) → at resources r ≡ (if has_bit a.write_res r then None else at old.resources r))
-    (marks_taken : marks' ≡ (if a.registry then old.marks else None))
-    (marks_left : marks ≡ (if a.registry then None else old.marks)) where
-  pub lent_out_taken : (p : Part) → slot p (record { types = types'; resources = resources'; marks = marks' })
-      ≡ (if writes a p then slot p old else None)
-  lent_out_taken (OfType t) = types_taken t
-  lent_out_taken (OfResource r) = resources_taken r
-  lent_out_taken Registry = marks_taken
-
-  pub lent_out_left : (p : Part) → slot p (record { types = types; resources = resources; marks = marks })
-      ≡ (if writes a p then None else slot p old)
-  lent_out_left (OfType t) = types_left t
-  lent_out_left (OfResource r) = resources_left r
-  lent_out_left Registry = marks_left
-
 pub taken_back_joined : (taken old new : Parts)
     → ((t : ℕ) → at new.types t ≡ option_or (at taken.types t) (at old.types t))
     → ((r : ℕ) → at new.resources r ≡ option_or (at taken.resources r) (at old.resources r))
@@ -182,22 +129,18 @@ home_by_masks a w types resources types_home resources_home marks_there t r th r
   λ all.
       let both = and_parts (types_home && resources_home) (not a.registry || marks_there) all in
       let parts = and_parts types_home resources_home both.0 in
-      is_home parts.0 parts.1 both.1,
+      elim [
+        | OfType k ↦ λ uses. th.0 parts.0 k (t k ∙ uses)
+        | OfResource k ↦ λ uses. rh.0 parts.1 k (r k ∙ uses)
+        | Registry ↦ λ uses. grind (arith, both.1)
+      ],
   λ home.
       let types_there = th.1 (λ k bit. home (OfType k) (sym (t k) ∙ bit)) in
       let resources_there = rh.1 (λ k bit. home (OfResource k) (sym (r k) ∙ bit)) in
       grind (arith, types_there, resources_there, home Registry),
 )
-  where
-    is_home : IsTrue types_home → IsTrue resources_home → IsTrue (not a.registry || marks_there) → IsHome a w
-    is_home x y z (OfType k) uses = th.0 x k (t k ∙ uses)
-    is_home x y z (OfResource k) uses = rh.0 y k (r k ∙ uses)
-    is_home x y z Registry uses = grind arith
 
 -- ---- what a world stands for
-
-some_value : {X : Type 0} (o : Option X) (d : X) → IfSome o (λ y. y ≡ unwrap_or o d)
-some_value o d = grind arith
 
 -- Parts stand for some world where each of their buffers stands for some history.
 pub world_stands : (w : Parts) → ((t : ℕ) → t < length w.types → (h : History Record) × BufferStands (at w.types t) h)
@@ -210,8 +153,8 @@ world_stands w each = (
   },
   elim [
     | OfType t ↦ (chosen t).1
-    | OfResource r ↦ some_value (at w.resources r) (pos 0)
-    | Registry ↦ some_value w.marks none
+    | OfResource r ↦ grind arith
+    | Registry ↦ grind arith
   ],
 )
   where
@@ -221,14 +164,11 @@ world_stands w each = (
     chosen : (t : ℕ) → (h : History Record) × BufferStands (at w.types t) h
     chosen t = elim (cases_lt t (length w.types)) [
       | inl lt ↦ each t lt
-      | inr past ↦ (empty 0, none_stands (at w.types t) _ (get_or_past w.types t None past))
+      | inr past ↦ rw (get_or_past w.types t None past) (empty 0, tt)
     ]
 
 -- the same of a view of parts, and of its types as they were read
 pub some_state : (v w : Parts) (types : List (Option (Kept Record))) → w ≡ v → types ≡ w.types
     → ((t : ℕ) → t < length types → (h : History Record) × BufferStands (at types t) h)
     → (s : WorldState) × PartsStand v s
-some_state v w types same read each =
-    let P : List (Option (Kept Record)) → Type 0 = λ xs. (t : ℕ) → t < length xs → (h : History Record)
-    × BufferStands (at xs t) h in
-    subst (λ (x : Parts). (s : WorldState) × PartsStand x s) same (world_stands w (subst P read each))
+some_state v w types same read each = rw (← same) (world_stands w (rw read at each))

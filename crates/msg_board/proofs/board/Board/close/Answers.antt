@@ -1,8 +1,7 @@
-use Rattle.std.proofs.Common.{◌≡◌, ◌<◌, ap, sym, ◌∙◌, arith, subst, length, None}
+use Rattle.std.proofs.Common.{◌≡◌, ap, ◌∙◌, arith, length, None}
 use Rattle.std.proofs.lemmas.List.Elements.{All-weaker}
 use Rattle.std.proofs.lemmas.Result.{IfOk-weaker}
-use Rattle.std.specs.Prelude.{OnErr}
-use Rattle.msg_board.specs.Prelude.{HasEnded, HoldsEachOnce, jobs_of}
+use Rattle.msg_board.specs.Prelude.{HasEnded, jobs_of}
 use Rattle.msg_board.specs.inner.Sound.{board_of}
 use Rattle.msg_board.proofs.TableLists.{there, get_there}
 use Rattle.msg_board.proofs.Steps.{closes_board}
@@ -27,13 +26,13 @@ returns-clause-lawful g c =
     IfOk-weaker c.results_of.result _ _ (λ results taken. record {
       as_many = taken.as_many ∙ many;
       each = λ k j d at gives. let t = closed.0.1 k j (get_there (jobs_of c.args.self) k j at) in
-          let same : t.0 ≡ d = grind (arith, t.1, taken.each k d gives) in subst (g.W.Work.lawful j) same t.2;
+          let same : t.0 ≡ d = grind (arith, t.1, taken.each k d gives) in rw same at t.2;
     }) c.results_of.ensures.results
 
 pub returns-clause-refused : goal.returns-clause-refused
 returns-clause-refused g c =
     let many = c.close_with.ensures.counts.1 ∙ c.self.invariant.slots ∙ ap (λ v. length (jobs_of v)) c.self.view_is in
-    subst (λ n. OnErr c.results_of.result (0 < n)) many c.results_of.ensures.refused
+    rw many at c.results_of.ensures.refused
 
 pub returns-clause-drawn_once : goal.returns-clause-drawn_once
 returns-clause-drawn_once g c =
@@ -41,8 +40,6 @@ returns-clause-drawn_once g c =
     c.close_with.ensures.values.2 c.self.invariant.some_pass c.self.view_is c.requires.all c.gather-seat.ensures).1
 
 pub returns-clause-handed_in_once : goal.returns-clause-handed_in_once
-returns-clause-handed_in_once g c = let b = c.args.self in
-    subst (HoldsEachOnce (length (jobs_of b)))
-    (sym (all_handed_in c.args.passes.items
-    (All-weaker (HasEnded b) (λ p. p.holding ≡ None) (λ p ended. ended.holding) _ c.requires.ended)))
-    (returns-clause-drawn_once g c)
+returns-clause-handed_in_once g c =
+    let idle = All-weaker (HasEnded c.args.self) (λ p. p.holding ≡ None) (λ p ended. ended.holding) _ c.requires.ended in
+    rw (all_handed_in c.args.passes.items idle) (returns-clause-drawn_once g c)

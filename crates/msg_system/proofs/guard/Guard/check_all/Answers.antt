@@ -1,11 +1,16 @@
-use Rattle.std.proofs.Common.{◌≡◌, ◌&&◌, ◌++◌, List, [], ◌∷◌, refl, ◌<◌, arith, length, ◌∙◌}
+use Rattle.std.proofs.Common.{◌≡◌, ◌&&◌, ◌++◌, List, [], ◌∷◌, refl, ◌<◌, ◌+◌, ℕ, arith, drop, get_or, length, ◌∙◌}
 use Rattle.std.proofs.Math.Bool.{and-true}
 use Rattle.msg_world.specs.Prelude.{WorldState}
 use Rattle.std.proofs.Math.Seq.{map-set_same}
-use Rattle.std.proofs.lemmas.List.{get_or-map, length-map, take_more}
-use Rattle.msg_system.specs.Prelude.{answer, all_hold, Asked, after_asking}
-use Rattle.msg_system.proofs.InPlace.{changed_later, not_reached, rest_later}
+use Rattle.std.proofs.lemmas.List.{drop-set-lt, drop_more, get_or-map, length-map, map_push, take_more, take_more_set}
+use Rattle.std.proofs.lemmas.Grind.{drop_more_same}
+use Rattle.msg_system.specs.Prelude.{answer, all_hold, Asked}
 use Rattle.msg_system.proofs.guard.Guard.check_all.Goals as goal
+
+-- what isn't reached yet is as it was
+not_reached : (xs ys : List Asked) (i : ℕ) → drop i ys ≡ drop i xs → i < length xs → i < length ys → (d : Asked)
+    → get_or ys i d ≡ get_or xs i d
+not_reached xs ys i rest lx ly d = let p = drop_more xs i d lx in let q = drop_more ys i d ly in cc
 
 -- one condition more
 all_hold-snoc : (xs : List Asked) (x : Asked) (s : WorldState) → all_hold (xs ++ x ∷ []) s
@@ -35,8 +40,14 @@ loop-guard-preserved c =
     record {
       answer = λ s stands.
           rw (take_more xs i d lx, all_hold-snoc, inv.answer s stands, c.check-all.ensures.answer s stands, here) refl;
-      moved = λ s stands. changed_later xs ys i inv.rest lx ly (after_asking s) c.check-all.new.self d
-          (inv.moved s stands) (rw (← here) (c.check-all.ensures.moved s stands));
+      moved = λ s stands. rw (
+        take_more_set ys i c.check-all.new.self ly,
+        take_more xs i d lx,
+        map_push,
+        inv.moved s stands,
+        ← here,
+        ← c.check-all.ensures.moved s stands,
+      ) refl;
       same = map-set_same (λ (a : Asked). a.condition) ys i c.check-all.new.self d c.check-all.ensures.same ∙ inv.same;
-      rest = rest_later xs ys i inv.rest lx ly c.check-all.new.self;
+      rest = drop-set-lt (i + 1) ys i c.check-all.new.self (omega arith) ∙ drop_more_same ys xs i inv.rest;
     }

@@ -2,9 +2,10 @@ use Rattle.std.proofs.Common.{rules, refl}
 use mir.Val.{SFits}
 use mir.Syntax.{w64}
 use Rattle.std.proofs.lemmas.Int.{to_z-of_z}
+use Rattle.std.proofs.lemmas.Result.{IfOk-weaker, on_err_weaker}
 use Rattle.msg_world.specs.Prelude.{OfResource, OfType, Registry}
 use Rattle.msg_system.specs.Prelude.{Clear, Forward, Read, Sum, places_of}
-use Rattle.msg_system.proofs.Runs.{covers_read, covers_written, if_ok, on_err_then, place_at, ran_at}
+use Rattle.msg_system.proofs.Runs.{covers_read, covers_written, place_at, ran_at}
 use Rattle.msg_system.proofs.op.Op.run.Goals as goal
 
 pub write-requires : goal.write-requires
@@ -55,12 +56,12 @@ sum-requires-clause-written c = covers_written _ _ (OfResource c.in-Sum.r) c.req
 
 pub returns-in-Batch-clause-ran : goal.returns-in-Batch-clause-ran
 returns-in-Batch-clause-ran c =
-    rw c.in-Batch.is (if_ok c.batch.result _ _ (λ reply ran. ran (places_of c.args.cursors.now)) c.batch.ensures.ran)
+    rw c.in-Batch.is (IfOk-weaker c.batch.result _ _ (λ reply ran. ran (places_of c.args.cursors.now)) c.batch.ensures.ran)
 
 pub returns-in-Drain-clause-ran : goal.returns-in-Drain-clause-ran
 returns-in-Drain-clause-ran c =
     rw c.in-Drain.is
-    (if_ok c.drain.result _ _ (λ reply ran. ran c.args.writer (places_of c.args.cursors.now)) c.drain.ensures.ran)
+    (IfOk-weaker c.drain.result _ _ (λ reply ran. ran c.args.writer (places_of c.args.cursors.now)) c.drain.ensures.ran)
 
 pub returns-in-Get-clause-ran : goal.returns-in-Get-clause-ran
 returns-in-Get-clause-ran c = rw c.in-Get.is (c.get.ensures.ran c.args.writer (places_of c.args.cursors.now))
@@ -72,7 +73,7 @@ pub returns-in-Write-clause-ran : goal.returns-in-Write-clause-ran
 returns-in-Write-clause-ran c =
     let fits : SFits w64 c.in-Write.value = search rules in
     rw (c.in-Write.is, ← to_z-of_z w64 c.in-Write.value fits)
-    (if_ok c.write.result _ _ (λ reply ran. ran (places_of c.args.cursors.now)) c.write.ensures.ran)
+    (IfOk-weaker c.write.result _ _ (λ reply ran. ran (places_of c.args.cursors.now)) c.write.ensures.ran)
 
 pub returns-in-Set-clause-ran : goal.returns-in-Set-clause-ran
 returns-in-Set-clause-ran c =
@@ -88,7 +89,7 @@ returns-in-Add-clause-ran c =
 
 pub returns-in-Read-clause-ran : goal.returns-in-Read-clause-ran
 returns-in-Read-clause-ran c =
-    rw c.in-Read.is (if_ok c.read.result _ _
+    rw c.in-Read.is (IfOk-weaker c.read.result _ _
     (λ reply ran. ran_at c.args.cursors.now _ _ _ (search rules) c.number.ensures.number c.number.ensures.within
     (Read c.in-Read.t c.in-Read.limit) c.args.writer c.read.new.cursor c.args.lent.now _ _
     (ran c.args.writer)) c.read.ensures.ran)
@@ -111,14 +112,14 @@ returns-in-Clear-clause-ran c =
 
 pub returns-in-Forward-clause-ran : goal.returns-in-Forward-clause-ran
 returns-in-Forward-clause-ran c =
-    rw c.in-Forward.is (if_ok c.forward.result _ _
+    rw c.in-Forward.is (IfOk-weaker c.forward.result _ _
     (λ reply ran. ran_at c.args.cursors.now _ _ _ (search rules) c.number-in-Forward.ensures.number
     c.number-in-Forward.ensures.within (Forward c.in-Forward.t c.in-Forward.u)
     c.args.writer c.forward.new.cursor c.args.lent.now _ _ ran) c.forward.ensures.ran)
 
 pub returns-in-Sum-clause-ran : goal.returns-in-Sum-clause-ran
 returns-in-Sum-clause-ran c =
-    rw c.in-Sum.is (if_ok c.sum.result _ _
+    rw c.in-Sum.is (IfOk-weaker c.sum.result _ _
     (λ reply ran. ran_at c.args.cursors.now _ _ _ (search rules) c.number-in-Sum.ensures.number
     c.number-in-Sum.ensures.within (Sum c.in-Sum.t c.in-Sum.r)
     c.args.writer c.sum.new.cursor c.args.lent.now _ _ (ran c.args.writer)) c.sum.ensures.ran)
@@ -126,14 +127,14 @@ returns-in-Sum-clause-ran c =
 pub returns-in-Write-clause-refused : goal.returns-in-Write-clause-refused
 returns-in-Write-clause-refused c =
     rw c.in-Write.is
-    (on_err_then c.write.result _ _ (λ refused. refused (places_of c.args.cursors.now)) c.write.ensures.refused)
+    (on_err_weaker c.write.result (λ refused. refused (places_of c.args.cursors.now)) c.write.ensures.refused)
 
 pub returns-in-Batch-clause-refused : goal.returns-in-Batch-clause-refused
 returns-in-Batch-clause-refused c =
     rw c.in-Batch.is
-    (on_err_then c.batch.result _ _ (λ refused. refused (places_of c.args.cursors.now)) c.batch.ensures.refused)
+    (on_err_weaker c.batch.result (λ refused. refused (places_of c.args.cursors.now)) c.batch.ensures.refused)
 
 pub returns-in-Drain-clause-refused : goal.returns-in-Drain-clause-refused
 returns-in-Drain-clause-refused c =
     rw c.in-Drain.is
-    (on_err_then c.drain.result _ _ (λ refused. refused (places_of c.args.cursors.now)) c.drain.ensures.refused)
+    (on_err_weaker c.drain.result (λ refused. refused (places_of c.args.cursors.now)) c.drain.ensures.refused)

@@ -1,6 +1,5 @@
 use Rattle.std.proofs.lemmas.Grind.{common_steps}
-use Rattle.std.proofs.Common.{arith, refl, sym, subst}
-use Rattle.msg_world.specs.Prelude.{Parts, SameShape}
+use Rattle.std.proofs.Common.{arith, refl}
 use Rattle.msg_world.proofs.Loans.{signal_stands, with_signal_shape}
 use Rattle.msg_world.proofs.lent.Lent.signal.Goals as goal
 
@@ -10,5 +9,4 @@ returns-clause-signalled c = grind (arith, common_steps, signal_stands)
 pub returns-clause-same : goal.returns-clause-same
 returns-clause-same c =
     let l = c.args.self.now in
-    let P : Parts → Type 0 = λ w. SameShape l.taken w in
-    record { access = refl; world = refl; shape = subst P (sym c.signal.ensures.marks) (with_signal_shape l.taken) }
+    record { access = refl; world = refl; shape = rw c.signal.ensures.marks (with_signal_shape l.taken) }

@@ -1,8 +1,6 @@
 use Rattle.std.proofs.lemmas.Grind.{common_steps}
-use Rattle.std.proofs.Common.{arith, sym, subst, ◌∙◌, ap, Some}
+use Rattle.std.proofs.Common.{arith, sym, ◌∙◌, ap, Some}
 use Rattle.std.specs.Prelude.{slice_set}
-use Rattle.msg_world.specs.inner.Moved.{IsFirstOf}
-use Rattle.msg_world.specs.inner.Slots.{at}
 use Rattle.msg_world.proofs.Placed.{at_none, first_part, its_slot, lends_alike, set_first}
 use Rattle.msg_world.proofs.moved.MovedParts.get_mut.Goals as goal
 
@@ -14,8 +12,7 @@ returns-in-Some g c =
     let parts = c.self.inside.parts.items in
     let n = c.self.inside.slots in
     let place = c.in_ok-place.place in
-    let first : IsFirstOf c.args.slot parts place =
-    subst (λ ms. IsFirstOf c.args.slot ms place) c.deref.ensures.value c.in_ok-place.ensures.found in
+    let first = rw c.deref.ensures.value at c.in_ok-place.ensures.found in
     let m = c.in-Some.moved.now in
     let read = c.in-Some.ensures.item.1 in (
       lends_alike _ _ _ (λ w. set_first n c.args.slot parts place (record { slot = m.slot; part = w }) first
@@ -24,7 +21,6 @@ returns-in-Some g c =
       record {
         writes_back = tt;
         held =
-            sym (ap (λ xs. at xs c.args.slot) (sym c.self.view_is)
-            ∙ first_part n c.args.slot parts place m c.self.invariant first read);
+            rw (← c.self.view_is) (sym (first_part n c.args.slot parts place m c.self.invariant first read));
       },
     )

@@ -1,31 +1,28 @@
-use Rattle.std.proofs.Common.{arith, rules, ◌∷◌, [], ap, sym, subst, Some, ◌∙◌}
+use Rattle.std.proofs.Common.{arith, rules, ap, Some, ◌∙◌}
 use mir.Val.{SFits}
 use mir.Syntax.{w64}
 use Rattle.std.proofs.lemmas.Int.{to_z-of_z}
 use Rattle.std.proofs.lemmas.Result.{IfErr-weaker, IfOk-weaker, on_ok_weaker}
 use Rattle.std.proofs.lemmas.Grind.{common_steps}
-use Rattle.std.specs.Prelude.{ℤ, IsSome}
-use Rattle.msg_buffer.specs.Prelude.{StandsFor, write}
-use Rattle.msg_world.specs.Prelude.{HOST, OfType, Parts, PartsStand, WorldState, by, slot}
-use Rattle.msg_world.proofs.Worlds.{buffer_stands, found_at, type_shape, type_stands}
+use Rattle.msg_buffer.specs.Prelude.{StandsFor}
+use Rattle.msg_world.specs.Prelude.{HOST, OfType, PartsStand, WorldState, by}
+use Rattle.msg_world.proofs.Worlds.{found_at, type_shape, type_stands}
 use Rattle.msg_world.proofs.world.World.post.Goals as goal
 
 pub returns : goal.returns
 returns c =
     let t = c.args.t in let number = c.number.ensures.number in let kept = c.in-Some.messages in
-    let home = subst (λ (v : Parts). IsSome (slot (OfType t) v)) (sym c.self.view_is) c.requires.home in
+    let home = rw (← c.self.view_is) at c.requires.home in
     let found = found_at c.self.inside.types.items t (Some kept) home
     (rw (number, c.in-Some.is) at c.index_mut-slot.ensures.value) in
-    let all = λ (s : WorldState) (stand : PartsStand c.args.self.now s).
-    subst (λ (v : Parts). PartsStand v s) (sym c.self.view_is) stand in
+    let all = λ (s : WorldState) (stand : PartsStand c.args.self.now s). rw (← c.self.view_is) at stand in
     let here : (s : WorldState) → PartsStand c.args.self.now s
-    → StandsFor kept (s.histories t) = λ s stand. buffer_stands _ s t kept found.0 (all s stand) in
+    → StandsFor kept (s.histories t) = λ s stand. rw found.0 at (all s stand (OfType t)) in
     let fits : SFits w64 c.args.value = search rules in
     rw number (record {
       meaning = on_ok_weaker c.write.result (λ meaning s stand.
-          let R : ℤ → Type 0 = λ z. StandsFor c.write.new.self (write (by HOST z ∷ []) (s.histories t)) in
           type_stands _ s t c.write.new.self _ found.1
-          (subst R (to_z-of_z w64 c.args.value fits) (meaning (s.histories t) (here s stand))) (all s stand))
+          (rw (to_z-of_z w64 c.args.value fits) at (meaning (s.histories t) (here s stand))) (all s stand))
           c.write.ensures.meaning;
       number = IfOk-weaker c.write.result _ _ (λ id is s stand. is (s.histories t) (here s stand))
           c.write.ensures.number;

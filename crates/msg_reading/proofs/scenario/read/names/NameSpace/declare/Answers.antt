@@ -1,8 +1,8 @@
-use Rattle.std.proofs.Common.{◌∙◌, ap, sym, ◌++◌, ◌∷◌, [], ◌≡◌, map, string_bytes}
+use Rattle.std.proofs.Common.{◌∙◌, ap, ◌++◌, ◌∷◌, [], ◌≡◌, map, None, arith, string_bytes}
 use Rattle.indexmap.specs.IndexSet.{insert_key}
 use Rattle.std.specs.Str.{bytes_eq}
 use Rattle.msg_reading.specs.Prelude.{position_of}
-use Rattle.msg_reading.proofs.Spaces.{insert-new, is_absent, of_ok}
+use Rattle.msg_reading.proofs.Spaces.{insert-new}
 use Rattle.msg_reading.proofs.scenario.read.names.NameSpace.declare.Goals as goal
 
 pub returns-clause-declares : goal.returns-clause-declares
@@ -10,10 +10,9 @@ returns-clause-declares c =
     let old = c.self.inside.names.keys in
     let key = c.in-Ok-Ok.key in
     let name = c.args.name.now in
-    let inserted = of_ok c.insert.result
-    (c.insert.new.self.keys ≡ insert_key (λ a b. bytes_eq (string_bytes a) (string_bytes b)) old key)
-    c.insert.ensures.keys c.if-is_err.ensures.value in
-    let absent = ap (λ s. position_of s name) c.self.view_is ∙ sym c.place.ensures.place
-    ∙ is_absent c.place.result c.if-is_some.ensures in
+    let inserted : c.insert.new.self.keys ≡ insert_key (λ a b. bytes_eq (string_bytes a) (string_bytes b)) old key =
+    grind (arith, c.insert.ensures.keys, c.if-is_err.ensures.value) in
+    let absent : position_of (map string_bytes old) name ≡ None =
+    grind (arith, c.self.view_is, c.place.ensures.place, c.if-is_some.ensures) in
     ap (map string_bytes) inserted ∙ insert-new old key name c.in-Ok-Ok.ensures.ok absent
     ∙ ap (λ s. s ++ name ∷ []) c.self.view_is

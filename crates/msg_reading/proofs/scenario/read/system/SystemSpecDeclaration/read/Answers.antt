@@ -1,9 +1,10 @@
-use Rattle.std.proofs.Common.{◌∙◌, ap, sym}
+use Rattle.std.proofs.Common.{◌∙◌, ap, refl, sym}
+use Rattle.std.proofs.lemmas.Option.{same_Some}
 use Rattle.serde_json.specs.View.{view}
 use Rattle.msg_files.specs.Prelude.{first_refusal}
-use Rattle.msg_reading.specs.Prelude.{ops_of, place_of, program_checks, system_checks, system_of}
+use Rattle.msg_reading.specs.Prelude.{program_checks, system_checks, system_of}
 use Rattle.msg_files.proofs.Steps.{passed_on, refuses_by}
-use Rattle.msg_reading.proofs.Systems.{system_denoted, system_misnamed, system_named}
+use Rattle.msg_reading.proofs.Systems.{system_misnamed, system_named}
 use Rattle.msg_reading.proofs.scenario.read.system.SystemSpecDeclaration.read.Goals as goal
 
 pub returns-in_err-name-2-clause-agrees : goal.returns-in_err-name-2-clause-agrees
@@ -34,6 +35,5 @@ returns-clause-agrees c =
     let is = c.in_ok-kind.ensures.is in (
       system_named names d _ found.0 found.1 named.0
           ∙ sym (ap (λ n. first_refusal (program_checks n d)) declares) ∙ is.0,
-      system_denoted names d _ _ _ _ _ _ found.1 named.1 is.1
-          (sym (ap (λ n. ops_of n d) declares) ∙ is.2) (sym (ap (λ n. place_of n d) declares) ∙ is.3) is.4,
+      rw (is.1, rw declares at is.2, rw declares at is.3, is.4, found.1, same_Some _ _ named.1) refl,
     )
