@@ -33,9 +33,9 @@ module _ {M : Type 0} where
   length-lost : (m : M) (k : Kept M) → length (lost m k) ≡ k.oldest
   length-lost m k = length-stamped 0 (replicate k.oldest m) ∙ length-replicate k.oldest m
 
-  length-newer_messages : (k : Kept M) (xs : List (Instance M)) (u : ℕ) → length (stamped u (map message_of xs))
+  length-stamped_messages : (xs : List (Instance M)) (u : ℕ) → length (stamped u (map message_of xs))
       ≡ length xs
-  length-newer_messages k xs u = length-stamped u (map message_of xs) ∙ length-map xs message_of
+  length-stamped_messages xs u = length-stamped u (map message_of xs) ∙ length-map xs message_of
 
   pub stands_for_some : (m : M) (k : Kept M) → kept_count k ≤ k.limit
       → k.older ≡ numbered k.oldest (map message_of k.older) → k.newer
@@ -45,7 +45,7 @@ module _ {M : Type 0} where
       let h = history_of m k in
       let a = map message_of k.older in let b = map message_of k.newer in
       let first = length-lost m k in
-      let olds = length-newer_messages k k.older 1 in
+      let olds = length-stamped_messages k.older 1 in
       let present_is : present h ≡ kept_instances k =
       grind (
         arith,
@@ -78,7 +78,7 @@ module _ {M : Type 0} where
         length-append (stamped 1 a) (stamped 2 b),
         first,
         olds,
-        length-newer_messages k k.newer 2,
+        length-stamped_messages k.newer 2,
       ) in
       let end : HasRisingStamps 2 (stamped 2 b) 2 = stamps-stamped 2 b in
       let middle : HasRisingStamps 1 (last k) 2 = stamps-stamped_then 1 1 2 a (stamped 2 b) (omega arith)

@@ -38,7 +38,7 @@ fn report_frame<R: Threads + Sync, X: System, S: Sink, G: Gate>(
     ensures ok { OnOk result ((before : Option (List ℕ))
         → ReportSoFar X.meaning scenario.now reported before (S.contents sink.old) engine.old
         → ReportSoFar X.meaning scenario.now (reported + 1) before
-            (S.contents sink.new) engine.new) }
+        (S.contents sink.new) engine.new) }
     ensures prefix { OnErr result ((before : Option (List ℕ))
         → ReportSoFar X.meaning scenario.now reported before (S.contents sink.old) engine.old
         → HasPrinted scenario.now before (S.contents sink.new)) }
