@@ -2,10 +2,7 @@
 use Rattle.std.specs.Prelude.{◌≡◌, ℕ, ◌+◌, List, length, sum_by}
 use Rattle.msg_buffer.specs.declared.instance.Instance.{Instance}
 use Rattle.msg_buffer.specs.Prelude.{History, missed, unread}
-use Rattle.damage_and_score.specs.declared.damage.Damage.{Damage}
-use Rattle.damage_and_score.specs.declared.damage.Hero.{Hero}
-use Rattle.damage_and_score.specs.declared.damage.Hero.TheVariants.{Archer, Mage}
-use Rattle.damage_and_score.specs.declared.sight.Sight.{Sight}
+use Rattle.damage_and_score.specs.{declared.damage.Damage.Damage, declared.damage.Hero.Hero, declared.damage.Hero.TheVariants.Archer, declared.damage.Hero.TheVariants.Mage, declared.sight.Sight.Sight}
 
 -- the points of a hit, where this hero dealt it
 abbrev pub points_by : Hero → Hero → ℕ → ℕ

@@ -1,12 +1,8 @@
 -- What the systems of a fight do next, and what they remember.
 use Rattle.std.specs.Prelude.{ℤ, pos, ◌==◌, List, length, Option, Some, None, int_lt, slice_get, if◌then◌else◌}
-use Rattle.msg_system.specs.declared.op.Op.{Op}
-use Rattle.msg_system.specs.declared.op.Op.TheVariants.{Read, Sum, Write}
-use Rattle.msg_system.specs.declared.reply.Reply.{Reply}
+use Rattle.msg_system.specs.{declared.op.Op.Op, declared.op.Op.TheVariants.Read, declared.op.Op.TheVariants.Sum, declared.op.Op.TheVariants.Write, declared.reply.Reply.Reply}
 use Rattle.msg_system.specs.Prelude.{brought, sum_onto}
-use Rattle.duel.specs.declared.role.TheConstants.{BLOW}
-use Rattle.duel.specs.declared.role.Role.{Role}
-use Rattle.duel.specs.declared.role.Role.TheVariants.{Fighter, Referee}
+use Rattle.duel.specs.{declared.role.TheConstants.BLOW, declared.role.Role.Role, declared.role.Role.TheVariants.Fighter, declared.role.Role.TheVariants.Referee}
 
 -- the health that is left by the blows that came in this turn
 abbrev pub health_after : ℤ → List Reply → ℤ

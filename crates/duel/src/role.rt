@@ -40,8 +40,7 @@ impl Role {
 }
 
 impl Behavior for Role {
-    ghost use Rattle.duel.specs.declared.role.Role.{Role};
-    ghost use Rattle.duel.specs.Roles.{next_op, remembered};
+    ghost use Rattle.duel.specs.{declared.role.Role.Role, Roles.next_op, Roles.remembered};
 
     ghost Memory = { Role };
 

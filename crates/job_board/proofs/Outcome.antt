@@ -1,7 +1,6 @@
 -- The lawful outcome of squaring is the list of squares.
 use Rattle.std.proofs.Common.{◌≡◌, ℕ, ◌*◌, ◌<◌, List, get_or, map, subst, sym, ◌∙◌}
-use Rattle.std.proofs.lemmas.List.{ext_get_or, get_or-map, length-map}
-use Rattle.std.proofs.lemmas.Option.{slice_get-get_or}
+use Rattle.std.proofs.lemmas.{List.ext_get_or, List.get_or-map, List.length-map, Option.slice_get-get_or}
 use Rattle.msg_board.specs.Prelude.{IsLawfulOutcome}
 
 pub are_squares : (jobs done : List ℕ) → IsLawfulOutcome (λ n s. s ≡ n * n) jobs done → done ≡ map (λ n. n * n) jobs

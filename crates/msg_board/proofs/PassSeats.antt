@@ -1,20 +1,13 @@
 -- From what a step tells of a seat to what a clause says of the pass.
 use Rattle.std.specs.List.{All, filter, flat_map}
 use Rattle.std.proofs.Common.{Bool, true, false, not, ◌≡◌, ℕ, ◌+◌, ◌<◌, List, [], ◌∷◌, ◌++◌, length, refl, ap, ◌∙◌, arith, Some, None, length-append, append-nil}
-use Rattle.std.proofs.lemmas.List.Elements.{All-head, All-pop, All-push, All-tail, All-weaker, filter-append}
-use Rattle.std.proofs.lemmas.List.{flat_map_more}
-use Rattle.std.proofs.lemmas.Bool.Decides.{eqb_tells}
-use Rattle.std.proofs.lemmas.Bool.{false_from_ne_true}
+use Rattle.std.proofs.lemmas.{List.Elements.All-head, List.Elements.All-pop, List.Elements.All-push, List.Elements.All-tail, List.Elements.All-weaker, List.Elements.filter-append, List.flat_map_more, Bool.Decides.eqb_tells, Bool.false_from_ne_true}
 use mathlib.Core.Option.{some}
 use lib.ListN.{get_elem?}
-use Rattle.atomic_table.specs.declared.shared.Seat.{Seat}
-use Rattle.atomic_table.specs.Table.{Me}
+use Rattle.atomic_table.specs.{declared.shared.Seat.Seat, Table.Me}
 use Rattle.msg_board.specs.Prelude.{BoardView, Done, Drew, Empty, HandedIn, HasEnded, Inside, Job, PassState, Slot, View, drawn_by, freed, handed_in, is_held, jobs_of, taken, times, united}
-use Rattle.msg_board.specs.inner.Closing.{IsGathered}
-use Rattle.msg_board.specs.inner.Seats.{IsSeatOf}
-use Rattle.msg_board.specs.inner.Sound.{state_of, IsSound}
-use Rattle.msg_board.proofs.TableLists.{got}
-use Rattle.msg_board.proofs.Sums.{times-append}
+use Rattle.msg_board.specs.{inner.Closing.IsGathered, inner.Seats.IsSeatOf, inner.Sound.state_of, inner.Sound.IsSound}
+use Rattle.msg_board.proofs.{TableLists.got, Sums.times-append}
 
 -- a filter that every element passes keeps the list
 filter_all : {X : Type 0} (p : X → Bool) (xs : List X) → All (λ x. p x ≡ true) xs → filter p xs ≡ xs

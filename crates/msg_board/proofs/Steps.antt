@@ -1,22 +1,17 @@
 -- Each step keeps the law.
 use Rattle.std.specs.List.{sum_by}
 use Rattle.std.proofs.Common.{◌≡◌, ◌≢◌, ℕ, ◌+◌, ◌<◌, ◌≤◌, max, List, [], ◌∷◌, ◌++◌, map, length, get_or, set, sym, refl, ap, ◌∙◌, subst, inl, inr, ⊎_elim, arith, Some, None, length-set, get_or-set_other, get_or-set_same}
-use Rattle.std.proofs.lemmas.Bool.{cases_eq, cases_lt}
-use Rattle.std.proofs.lemmas.Bool.Decides.{eqb_tells}
-use Rattle.std.proofs.lemmas.List.{get_or_past, set-get_or}
-use Rattle.std.proofs.lemmas.List.Sums.{sum_by-append}
+use Rattle.std.proofs.lemmas.{Bool.cases_eq, Bool.cases_lt, Bool.Decides.eqb_tells, List.get_or_past, List.set-get_or, List.Sums.sum_by-append}
 use mathlib.Core.Logic.{dite}
 use mathlib.Core.Option.{none, some, some-injective, some-ne-none}
 use mathlib.Core.Option as maybe
 use native.Mathlib.Decide.{ℕ_discrete}
 use lib.ListN.{get_elem?, length-map}
-use Rattle.atomic_table.specs.declared.shared.Seat.{Seat}
-use Rattle.atomic_table.specs.Table.{State, Me, Step, step, Act, keeps, takes, gives, Valid, carried_after, stepped, Allows, Splits, Joins, Final, Seen, opening}
+use Rattle.atomic_table.specs.{declared.shared.Seat.Seat, Table.State, Table.Me, Table.Step, Table.step, Table.Act, Table.keeps, Table.takes, Table.gives, Table.Valid, Table.carried_after, Table.stepped, Table.Allows, Table.Splits, Table.Joins, Table.Final, Table.Seen, Table.opening}
 use Rattle.atomic_table.proofs.Lists.{at_set, set_here, set_else, at_snoc, at_map}
 use Rattle.msg_board.specs.Prelude.{BoardView, Done, Drawing, DrawsJob, HandingIn, Holds, HoldsEachOnce, IsHeldAlone, IsSlotOf, IsViewOf, Job, PassState, Slot, View, draws_at, drawn_by, freed, holders_at, is_held, jobs_of, one_of, passes_of, spent, taken, times, tried, united, whole, without_one}
 use Rattle.msg_board.specs.inner.Closing.{IsGathered}
-use Rattle.msg_board.proofs.TableLists.{there, read_at}
-use Rattle.msg_board.proofs.Sums.{sum_by-set_at, term_le, terms_le, sole, one_if, times-append, times_push}
+use Rattle.msg_board.proofs.{TableLists.there, TableLists.read_at, Sums.sum_by-set_at, Sums.term_le, Sums.terms_le, Sums.sole, Sums.one_if, Sums.times-append, Sums.times_push}
 
 module _ {J D : Type 0} (lawful : J → D → Type 0) (jobs : List J) (passes : ℕ) where
   -- states of the table, seats, and the law

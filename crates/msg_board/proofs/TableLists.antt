@@ -1,9 +1,6 @@
 -- Elements of lists, as the table names them (`get_elem?`) and as clauses do (`slice_get`).
-use Rattle.std.specs.Prelude.{slice_get}
-use Rattle.std.proofs.Common.{Bool, false, ◌∙◌, ◌+◌, ◌⊎◌, ⊎_elim, Some, ◌≡◌, ℕ, zero, suc, ◌<◌, List, [], ◌∷◌, ◌++◌, length, get_or, set, replicate, sym, refl, arith, get_or-set_other, get_or-set_same, length-set}
-use Rattle.std.proofs.lemmas.Bool.{cases_eq, cases_lt}
-use Rattle.std.proofs.lemmas.List.{get_or-replicate, get_or_append_left, get_or_past, get_or_push, length-append, length-replicate}
-use Rattle.std.proofs.lemmas.Option.{get_or_from_slice_get, slice_get-get_or, slice_get_read, slice_get_within}
+use Rattle.std.proofs.Common.{slice_get, Bool, false, ◌∙◌, ◌+◌, ◌⊎◌, ⊎_elim, Some, ◌≡◌, ℕ, zero, suc, ◌<◌, List, [], ◌∷◌, ◌++◌, length, get_or, set, replicate, sym, refl, arith, get_or-set_other, get_or-set_same, length-set}
+use Rattle.std.proofs.lemmas.{Bool.cases_eq, Bool.cases_lt, List.get_or-replicate, List.get_or_append_left, List.get_or_past, List.get_or_push, List.length-append, List.length-replicate, Option.get_or_from_slice_get, Option.slice_get-get_or, Option.slice_get_read, Option.slice_get_within}
 use mathlib.Core.Option.{some, some-injective, some-ne-none}
 use mathlib.Core.Option as maybe
 use lib.ListN.{get_elem?}

@@ -6,16 +6,12 @@
 --
 -- A pass has a view of the board, which only its own steps change. The law speaks of all views at
 -- once, so that what one of them says of a number is denied to every other.
-use Rattle.std.specs.Prelude.{◌≡◌, ◌≢◌, ℕ, zero, suc, ◌+◌, ◌-◌, ◌<◌, ◌≤◌, List, [], ◌∷◌, ◌++◌, length}
-use Rattle.std.specs.Prelude.{slice_index, sum_by, count_by, Some, None}
+use Rattle.std.specs.Prelude.{◌≡◌, ◌≢◌, ℕ, zero, suc, ◌+◌, ◌-◌, ◌<◌, ◌≤◌, List, [], ◌∷◌, ◌++◌, length, slice_index, sum_by, count_by, Some, None}
 use mathlib.Core.Option.{some, none}
 use mathlib.Core.Option as maybe
 use lib.ListN.{get_elem?}
 use Rattle.atomic_table.specs.Table.{State, Me, Step}
-use Rattle.msg_board.specs.declared.law.Slot.{Slot}
-use Rattle.msg_board.specs.declared.law.Slot.TheVariants.{Job, Done}
-use Rattle.msg_board.specs.declared.law.View.{View}
-use Rattle.msg_board.specs.Counts.{times, is_held}
+use Rattle.msg_board.specs.{declared.law.Slot.Slot, declared.law.Slot.TheVariants.Job, declared.law.Slot.TheVariants.Done, declared.law.View.View, Counts.times, Counts.is_held}
 
 -- how many passes hold the number of a word: none at 0, one at 1, none at 2
 abbrev pub holders_at : ℕ → ℕ

@@ -1,6 +1,5 @@
 -- A pass as its holder sees it, and what a draw and a hand-in do to it.
-use Rattle.std.specs.Prelude.{◌≡◌, ℕ, ◌+◌, ◌<◌, ◌≤◌, List, ◌∷◌, [], ◌++◌, length, slice_get, filter, flat_map, not}
-use Rattle.std.specs.Prelude.{All, Option, Some, None, Bool, true, false}
+use Rattle.std.specs.Prelude.{◌≡◌, ℕ, ◌+◌, ◌<◌, ◌≤◌, List, ◌∷◌, [], ◌++◌, length, slice_get, filter, flat_map, not, All, Option, Some, None, Bool, true, false}
 use Rattle.atomic_table.specs.Seated.{TableId}
 use Rattle.msg_board.specs.Counts.{is_held}
 

@@ -1,6 +1,5 @@
 //! The board: its jobs, and how its passes draw them.
-ghost use Rattle.std.specs.Prelude.{◌≡◌, ◌+◌, ◌<◌, ◌≤◌, [], length, slice_get, All, false};
-ghost use Rattle.std.specs.Prelude.{IfOk, IfSome, IfNone, IsNone, IsTrue, None, OnErr, Some};
+ghost use Rattle.std.specs.Prelude.{◌≡◌, ◌+◌, ◌<◌, ◌≤◌, [], length, slice_get, All, false, IfOk, IfSome, IfNone, IsNone, IsTrue, None, OnErr, Some};
 ghost use Rattle.msg_board.specs.Prelude.{Drew, DrewNone, HandedIn, HoldsEachOnce, drawn_by, handed_in_by, whole};
 
 use crate::NoMemory;
@@ -31,8 +30,7 @@ pub struct Board<W: Work, A: Allocator = Global> {
 }
 
 impl<W: Work, A: Allocator> Model for Board<W, A> {
-    ghost use Rattle.msg_board.specs.Board.{BoardView};
-    ghost use Rattle.msg_board.specs.inner.Sound.{IsBoard, board_of};
+    ghost use Rattle.msg_board.specs.{Board.BoardView, inner.Sound.IsBoard, inner.Sound.board_of};
 
     ghost Value = { BoardView W.Job };
 
@@ -97,9 +95,7 @@ impl<W: Work, A: Allocator + Copy> Board<W, A> {
 }
 
 impl<W: Work, A: Allocator> Board<W, A> {
-    ghost use Rattle.msg_board.specs.Board.{jobs_of, passes_of, IsOf, IsIdle, HasEnded};
-    ghost use Rattle.msg_board.specs.Board.{IsLawfulOutcome};
-    ghost use Rattle.msg_board.specs.inner.Closing.{IsGathered};
+    ghost use Rattle.msg_board.specs.{Board.jobs_of, Board.passes_of, Board.IsOf, Board.IsIdle, Board.HasEnded, Board.IsLawfulOutcome, inner.Closing.IsGathered};
 
     /// Draws a job that nobody has drawn, with its number; None where there is none left to try.
     /// It takes one atomic step for each number that it tries. Nothing in it can wait without a

@@ -1,10 +1,8 @@
 -- Each buffer stands for some history, where its messages have a value.
-use Rattle.std.proofs.Common.{◌≡◌, ℕ, ◌+◌, ◌≤◌, List, [], ◌∷◌, ◌++◌, length, map, ◌∙◌, arith, length-append}
-use Rattle.std.specs.Prelude.{replicate}
+use Rattle.std.proofs.Common.{◌≡◌, ℕ, ◌+◌, ◌≤◌, List, [], ◌∷◌, ◌++◌, length, map, ◌∙◌, arith, length-append, replicate}
 use Rattle.std.proofs.lemmas.List.{length-map, length-replicate}
 use Rattle.msg_buffer.specs.Prelude.{Entry, HasRisingStamps, History, Instance, Kept, StandsFor, count, current, is_current, is_present, kept_count, kept_instances, message_of, numbered, present, stamped}
-use Rattle.msg_buffer.proofs.Histories.{current-stamped, gone-stamped, kept-append, length-stamped, not_current-stamped, present-stamped, stamps-stamped}
-use Rattle.msg_buffer.proofs.Standing.{oldest_and_present}
+use Rattle.msg_buffer.proofs.{Histories.current-stamped, Histories.gone-stamped, Histories.kept-append, Histories.length-stamped, Histories.not_current-stamped, Histories.present-stamped, Histories.stamps-stamped, Standing.oldest_and_present}
 
 module _ {M : Type 0} where
   stamps-stamped_then : (low u high : ℕ) (ms : List M) (es : List (Entry M)) → low ≤ u → HasRisingStamps u es high

@@ -1,7 +1,6 @@
 -- Histories only grow, and messages outlive one update.
 use Rattle.std.proofs.Common.{suc, List, ◌∙◌, arith, append-nil, length-append}
-use Rattle.std.proofs.lemmas.Bool.{cases_Bool}
-use Rattle.std.proofs.lemmas.Bool.Decides.{nat_tests}
+use Rattle.std.proofs.lemmas.{Bool.cases_Bool, Bool.Decides.nat_tests}
 use Rattle.msg_buffer.specs.Prelude.{History, IsSound, GoesOn, OnlyGrows, OutliveOneUpdate, write, update}
 use Rattle.msg_buffer.proofs.Histories.{kept_after_update, length-stamped, none_current_after_update, stamps-append, stamps_later}
 

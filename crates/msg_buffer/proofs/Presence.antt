@@ -1,13 +1,9 @@
 -- Which entries are present: those from the oldest on.
-use Rattle.std.proofs.Common.{◌≡◌, ℕ, zero, suc, ◌+◌, ◌<◌, ◌≤◌, true, false, List, [], ◌∷◌, map, drop, refl, sym, ◌∙◌, arith, inl, inr, Option, Some}
-use Rattle.std.specs.Prelude.{slice_get, option_map}
+use Rattle.std.proofs.Common.{◌≡◌, ℕ, zero, suc, ◌+◌, ◌<◌, ◌≤◌, true, false, List, [], ◌∷◌, map, drop, refl, sym, ◌∙◌, arith, inl, inr, Option, Some, slice_get, option_map}
 use Rattle.std.specs.List.{enumerate_from}
-use Rattle.std.proofs.lemmas.Bool.{cases_Bool, false≢true}
-use Rattle.std.proofs.lemmas.Bool.Decides.{nat_tests}
-use Rattle.std.proofs.lemmas.Option.{slice_get_cases, same_Some}
+use Rattle.std.proofs.lemmas.{Bool.cases_Bool, Bool.false≢true, Bool.Decides.nat_tests, Option.slice_get_cases, Option.same_Some}
 use Rattle.msg_buffer.specs.Prelude.{Entry, HasRisingStamps, History, IsPresent, IsSound, Kept, StandsFor, count, get, get_from, instance_of, instances, is_present, kept_instances, message_of, oldest}
-use Rattle.msg_buffer.proofs.Histories.{all_present, dropped, present_is_suffix, present_means}
-use Rattle.msg_buffer.proofs.Numbers.{slice_get-drop}
+use Rattle.msg_buffer.proofs.{Histories.all_present, Histories.dropped, Histories.present_is_suffix, Histories.present_means, Numbers.slice_get-drop}
 
 module _ {M : Type 0} where
   none_dropped : (h : History M) (n : ℕ) (e : Entry M) (es : List (Entry M)) → is_present h (n, e) ≡ true

@@ -1,13 +1,9 @@
 -- Reads and clears fit one behind the other.
 use Rattle.std.proofs.Common.{◌≡◌, ℕ, ◌-◌, ◌≤◌, List, [], ◌∷◌, length, take, refl, sym, arith, Option, Some, None}
-use Rattle.std.proofs.lemmas.Grind.{common_steps}
-use Rattle.std.proofs.lemmas.List.{length-take}
-use Rattle.std.proofs.lemmas.List.Elements.{All-head, All-tail}
+use Rattle.std.proofs.lemmas.{Grind.common_steps, List.length-take, List.Elements.All-head, List.Elements.All-tail}
 use Rattle.std.proofs.Math.Seq.{take-length}
 use Rattle.msg_buffer.specs.Prelude.{ClearsFit, Fits, History, Instance, IsSound, Pass, ReadsFit, ReadsUpTo, RunsTile, at_most, clears, count, first, given, next_place, oldest, reads, stretch_of, unread}
-use Rattle.msg_buffer.proofs.Standing.{oldest_and_present}
-use Rattle.msg_buffer.proofs.Presence.{is_there, not_present}
-use Rattle.msg_buffer.proofs.Unread.{length-unread}
+use Rattle.msg_buffer.proofs.{Standing.oldest_and_present, Presence.is_there, Presence.not_present, Unread.length-unread}
 
 module _ {M : Type 0} where
   length-at_most : (limit : Option ℕ) (xs : List (Instance M)) → length (at_most limit xs) ≤ length xs

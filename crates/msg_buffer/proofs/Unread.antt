@@ -1,11 +1,8 @@
 -- What is unread, in what a buffer keeps and in the history that it stands for.
 use Rattle.std.proofs.Common.{◌≡◌, ℕ, ◌+◌, ◌-◌, ◌≤◌, max, List, [], ◌∷◌, length, drop, arith, Some, None}
-use Rattle.std.proofs.lemmas.Option.{slice_get_within, slice_get_cases, get_or_from_slice_get, none-some}
-use Rattle.std.proofs.lemmas.List.{drop_more, drop_all, drop-drop, length-drop}
-use Rattle.std.proofs.lemmas.Bool.Decides.{nat_tests}
+use Rattle.std.proofs.lemmas.{Option.slice_get_within, Option.slice_get_cases, Option.get_or_from_slice_get, Option.none-some, List.drop_more, List.drop_all, List.drop-drop, List.length-drop, Bool.Decides.nat_tests}
 use Rattle.msg_buffer.specs.Prelude.{History, Kept, StandsFor, count, first, get_from, instances, kept_instances, oldest, unread}
-use Rattle.msg_buffer.proofs.Presence.{kept_stands}
-use Rattle.msg_buffer.proofs.Numbers.{length-instances}
+use Rattle.msg_buffer.proofs.{Presence.kept_stands, Numbers.length-instances}
 
 -- the element under a number is the first of those from it on
 pub rest_more : {X : Type 0} (start : ℕ) (xs : List X) (n : ℕ) (x : X) → get_from start xs n ≡ Some x

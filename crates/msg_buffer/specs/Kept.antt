@@ -1,7 +1,6 @@
 -- What a buffer keeps: two halves, of messages written before the last update and since.
 use Rattle.std.specs.Prelude.{◌≡◌, ℕ, ◌+◌, ◌-◌, ◌≤◌, nat_le, List, ◌++◌, length, map, slice_get, Option, None, if◌then◌else◌}
-use Rattle.msg_buffer.specs.declared.instance.Instance.{Instance}
-use Rattle.msg_buffer.specs.History.{message_of, numbered}
+use Rattle.msg_buffer.specs.{declared.instance.Instance.Instance, History.message_of, History.numbered}
 
 -- what contracts see of a buffer
 pub record Kept (M : Type 0) : Type 0 where

@@ -1,7 +1,6 @@
 -- Reading: a reader stands at a place, the number of the first message that it wasn't given yet.
 use Rattle.std.specs.Prelude.{ℕ, ◌+◌, ◌-◌, max, List, length, take, drop, Option, Some, None, ◌≡◌, ◌≤◌, ◌<◌, [], ◌∷◌}
-use Rattle.msg_buffer.specs.declared.instance.Instance.{Instance}
-use Rattle.msg_buffer.specs.History.{History, instances, oldest, IsPresent}
+use Rattle.msg_buffer.specs.{declared.instance.Instance.Instance, History.History, History.instances, History.oldest, History.IsPresent}
 
 -- What one read or clear goes past: some messages that it missed, and then `number` of them from
 -- `first` on.

@@ -1,10 +1,7 @@
 -- The iterator of a read, and what each call of `next` does to it.
 use Rattle.std.specs.Prelude.{◌≡◌, ℕ, ◌+◌, ◌-◌, List, [], ◌∷◌, ◌++◌, length, drop, Option, MatchOption}
 use Rattle.std.specs.Borrow.{Bor, GName}
-use Rattle.msg_buffer.specs.declared.instance.Instance.{Instance}
-use Rattle.msg_buffer.specs.declared.instance.MessageId.{MessageId}
-use Rattle.msg_buffer.specs.declared.iter.MessageIter.{MessageIter}
-use Rattle.msg_buffer.specs.Kept.{Kept, kept_instances}
+use Rattle.msg_buffer.specs.{declared.instance.Instance.Instance, declared.instance.MessageId.MessageId, declared.iter.MessageIter.MessageIter, Kept.Kept, Kept.kept_instances}
 
 -- an item, as the instance that it shows
 abbrev pub shown : {M : Type 0} → MessageId × Bor M → Instance M

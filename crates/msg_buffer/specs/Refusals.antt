@@ -1,8 +1,6 @@
 -- What a refused write says.
 use Rattle.std.specs.declared.vec.Vec.{Vec}
-use Rattle.msg_buffer.specs.declared.refusals.WriteRefusal.{WriteRefusal}
-use Rattle.msg_buffer.specs.declared.refusals.WriteRefusal.TheVariants.{NumbersSpent, NoMemory}
-use Rattle.msg_buffer.specs.declared.refusals.BatchRefusal.{BatchRefusal}
+use Rattle.msg_buffer.specs.{declared.refusals.WriteRefusal.WriteRefusal, declared.refusals.WriteRefusal.TheVariants.NumbersSpent, declared.refusals.WriteRefusal.TheVariants.NoMemory, declared.refusals.BatchRefusal.BatchRefusal}
 use Rattle.msg_buffer.specs.declared.refusals.BatchRefusal.TheVariants as batch
 
 module _ {M : Type 0} where

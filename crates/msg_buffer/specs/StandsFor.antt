@@ -1,7 +1,6 @@
 -- When a buffer stands for a history.
 use Rattle.std.specs.Prelude.{◌≡◌}
-use Rattle.msg_buffer.specs.History.{History, IsSound, count, present, current, oldest}
-use Rattle.msg_buffer.specs.Kept.{Kept, kept_count, kept_instances}
+use Rattle.msg_buffer.specs.{History.History, History.IsSound, History.count, History.present, History.current, History.oldest, Kept.Kept, Kept.kept_count, Kept.kept_instances}
 
 -- A buffer stands for a history: its halves hold the present messages, the newer half the current
 -- ones. Messages that aren't present may be any, since nothing depends on them.

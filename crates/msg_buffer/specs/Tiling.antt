@@ -1,8 +1,7 @@
 -- How the reads and clears of one reader tile its history: nothing is gone past twice, and nothing
 -- is left out but what was missed.
 use Rattle.std.specs.Prelude.{◌≡◌, ℕ, ◌≤◌, min, List, [], ◌∷◌, length, take, drop, All, Option, Some, None}
-use Rattle.msg_buffer.specs.History.{History, IsSound, count, instances}
-use Rattle.msg_buffer.specs.Reader.{Stretch, next_place, given, read, pass_over, unread, Fits, Tile}
+use Rattle.msg_buffer.specs.{History.History, History.IsSound, History.count, History.instances, Reader.Stretch, Reader.next_place, Reader.given, Reader.read, Reader.pass_over, Reader.unread, Reader.Fits, Reader.Tile}
 
 -- what a reader does at a moment: it reads, with or without a limit, or it clears
 pub data Pass : Type 0 where

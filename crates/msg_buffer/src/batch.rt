@@ -1,7 +1,6 @@
 // Writing many messages at once.
 ghost use Rattle.std.specs.Prelude.{◌≡◌, ◌+◌, ◌^◌, ◌<◌, ◌≤◌, ◌++◌, List, length, vec_len, vec_capacity};
-ghost use Rattle.std.specs.Fn.{FnReturnsAt};
-ghost use Rattle.std.specs.List.{AllZip};
+ghost use Rattle.std.specs.{Fn.FnReturnsAt, List.AllZip};
 ghost use Rattle.msg_buffer.specs.Prelude.{numbered};
 
 use crate::instance::{Instance, MessageId};

@@ -1,8 +1,6 @@
 // A reader's place.
 ghost use Rattle.std.specs.Prelude.{◌≡◌, ℕ, ◌+◌, ◌-◌, ◌^◌, ◌<◌, ◌↔◌, [], length, IsTrue};
-ghost use Rattle.msg_buffer.specs.History.{History, count};
-ghost use Rattle.msg_buffer.specs.Reader.{first, missed, unread};
-ghost use Rattle.msg_buffer.specs.StandsFor.{StandsFor};
+ghost use Rattle.msg_buffer.specs.{History.History, History.count, Reader.first, Reader.missed, Reader.unread, StandsFor.StandsFor};
 
 use crate::iter::MessageIter;
 use crate::messages::Messages;

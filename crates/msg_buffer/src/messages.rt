@@ -1,8 +1,6 @@
 // The buffer.
 ghost use Rattle.std.specs.Prelude.{◌≡◌, ◌+◌, ◌-◌, ◌^◌, ◌<◌, ◌≤◌, ◌↔◌, List, [], ◌∷◌, length, IsTrue, IfOk, IfErr, OnOk, OnErr, IsOk};
-ghost use Rattle.std.specs.Fn.{FnReturnsAt};
-ghost use Rattle.std.specs.List.{AllZip};
-ghost use Rattle.std.specs.Option.{option_copied};
+ghost use Rattle.std.specs.{Fn.FnReturnsAt, List.AllZip, Option.option_copied};
 ghost use Rattle.msg_buffer.specs.Prelude.{History, IsBatchSpent, IsSpent, StandsFor, batch_refused, clear, count, current, empty, get, get_from, kept_count, kept_instances, message_refused, oldest, present, update, write};
 
 use crate::batch::{append_each, append_numbered};

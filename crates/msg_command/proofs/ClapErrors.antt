@@ -1,10 +1,8 @@
 -- How what clap finds in words is told.
 use Rattle.std.proofs.Common.{◌≡◌, ◌≢◌, ◌⊎◌, inl, inr, refl, ap, subst, ◌∙◌, List, true}
-use Rattle.clap.specs.Words.{App, HasKind, IsAmong, Kinds, Text, fault_of, is_simple_and_free}
-use Rattle.clap.specs.declared.error.Error.{Error}
+use Rattle.clap.specs.{Words.App, Words.HasKind, Words.IsAmong, Words.Kinds, Words.Text, Words.fault_of, Words.is_simple_and_free, declared.error.Error.Error, declared.error.ErrorKind.ErrorKind}
 use Rattle.clap.proofs.OnLiterals.{clap_on_literals}
 use Rattle.msg_command.specs.Prelude.{IsHelp, IsToldOf, WordFault, msgrun_app}
-use Rattle.clap.specs.declared.error.ErrorKind.{ErrorKind}
 use Rattle.clap.specs.declared.error.ErrorKind.TheVariants as kind
 use Rattle.msg_command.specs.declared.words.WordFault.TheVariants as word
 

@@ -1,20 +1,9 @@
 -- What words that clap takes leave of a subcommand: each row has a value.
 use Rattle.std.proofs.Common.{arith, ◌≡◌, ℕ, zero, suc, length, List, [], ◌∷◌, ◌++◌, refl, ap, ◌∙◌, Option, Some, None, Bool, true, false, codes, fold, find, encode_utf8, drop, is_some, ◌&&◌, cond, slice_get, not, nat_le, option_and_then}
-use Rattle.std.specs.Str.{bytes_eq}
-use Rattle.std.specs.List.{list_all}
-use Rattle.std.specs.Option.{option_map_or}
-use Rattle.clap.specs.Words.{Row, Rule, Text, Shape, first_of}
-use Rattle.clap.specs.Facts.{unwrap_or_range}
-use Rattle.clap.specs.Lexer.{long_of, short_of}
+use Rattle.std.specs.{Str.bytes_eq, List.list_all, Option.option_map_or}
+use Rattle.clap.specs.{Words.Row, Words.Rule, Words.Text, Words.Shape, Words.first_of, Facts.unwrap_or_range, Lexer.long_of, Lexer.short_of, Simple.built_leaf, Simple.filled, Simple.help_rule, Simple.with_index, Walk.Step, Walk.next, Walk.trailing, Walk.subcommand, Walk.value, Walk.has_long, Walk.has_short, Walk.bundle, Walk.reading_by, Walk.after_step, Walk.nothing_held, Walk.rows_after, Walk.walk, Walk.walk_from, Walk.Held, Walk.Names, Walk.Outcome, Walk.Waiting, Walk.Walk, Walk.done, Walk.plain, Walk.action_of, Walk.after_flag, Walk.arg_by_id, Walk.arg_by_long, Walk.arg_by_short, Walk.attached_value, Walk.bundle_met, Walk.bundle_step, Walk.has_row, Walk.long_met, Walk.long_or_other, Walk.option_met, Walk.plain_word, Walk.reacted, Walk.settled, Walk.settled_rows, Walk.short_met, Walk.short_or_plain, Walk.used, Walk.used_by_id, Walk.walked, Walk.with_default, Walk.with_values, Walk.without, Walk.word_met, Takes.is_valid, Takes.default_passes, Takes.bundle_passes, Takes.bundle_step_passes, Takes.flag_word_passes, Takes.flags_pass, Takes.is_given, Takes.level_passes, Takes.long_passes, Takes.option_passes, Takes.react_passes, Takes.settle_passes, Takes.short_passes, Takes.step_passes, Takes.turn_passes, Takes.use_passes, Takes.walk_passes, Takes.word_passes, declared.parser.matches.ValueSource.ValueSource, declared.parser.matches.ValueSource.TheVariants.DefaultValue, declared.parser.matches.ValueSource.TheVariants.CommandLine, declared.builder.value_parser.Reading.Reading, declared.builder.ArgAction.TheVariants.Set, declared.builder.ArgAction.TheVariants.Help}
 use Rattle.clap.proofs.OnLiterals.{clap_on_literals}
-use Rattle.clap.specs.Simple.{built_leaf, filled, help_rule, with_index}
 use Rattle.msg_command.specs.Prelude.{buffer_app, file_rule, run_app, workers_rule}
-use Rattle.clap.specs.Walk.{Step, next, trailing, subcommand, value, has_long, has_short, bundle, reading_by, after_step, nothing_held, rows_after, walk, walk_from, Held, Names, Outcome, Waiting, Walk, done, plain, action_of, after_flag, arg_by_id, arg_by_long, arg_by_short, attached_value, bundle_met, bundle_step, has_row, long_met, long_or_other, option_met, plain_word, reacted, settled, settled_rows, short_met, short_or_plain, used, used_by_id, walked, with_default, with_values, without, word_met}
-use Rattle.clap.specs.Takes.{is_valid, default_passes, bundle_passes, bundle_step_passes, flag_word_passes, flags_pass, is_given, level_passes, long_passes, option_passes, react_passes, settle_passes, short_passes, step_passes, turn_passes, use_passes, walk_passes, word_passes}
-use Rattle.clap.specs.declared.parser.matches.ValueSource.{ValueSource}
-use Rattle.clap.specs.declared.parser.matches.ValueSource.TheVariants.{DefaultValue, CommandLine}
-use Rattle.clap.specs.declared.builder.value_parser.Reading.{Reading}
-use Rattle.clap.specs.declared.builder.ArgAction.TheVariants.{Set, Help}
 use Rattle.std.proofs.lemmas.Bool.{and_from, and_parts}
 
 -- ---- rows

@@ -1,17 +1,11 @@
 -- Words that clap takes ask for something, or for a run on what is no number of workers: `buffer` has its FILE, `run`
 -- its FILE and a number, and nothing else is entered.
 use Rattle.std.proofs.Common.{arith, ◌≡◌, ◌⊎◌, inl, inr, ℕ, get_or, List, [], ◌∷◌, refl, ap, Option, Some, None, Bool, true, false, codes, fold, is_some, ◌&&◌, ◌||◌, cond, if◌then◌else◌, not, option_map}
-use Rattle.std.specs.Str.{bytes_eq}
-use Rattle.std.specs.Option.{option_map_or}
-use Rattle.std.proofs.lemmas.Slice.Eq.{bytes_eq-Decides}
-use Rattle.clap.specs.Words.{Rule, Shape, Text, takes}
-use Rattle.clap.specs.Lexer.{long_of, short_of}
-use Rattle.clap.specs.Simple.{built, entered, names_of, rows_at}
-use Rattle.clap.specs.Walk.{Held, Names, Outcome, Step, Waiting, Walk, after_flag, after_step, arg_by_index, arg_by_long, bundle, done, idle, long_met, long_or_other, next, nothing_held, option, plain, plain_word, positional, refused, short_or_plain, stop_after, subcommand, subcommand_met, subcommand_or_other, to_positional, trailing, value, waits, walk_from, walked, walked_from, word_met}
-use Rattle.clap.specs.Takes.{entered_passes, level_passes, other_passes, step_passes, turn_passes, walk_passes, word_passes}
+use Rattle.std.specs.{Str.bytes_eq, Option.option_map_or}
+use Rattle.std.proofs.lemmas.{Slice.Eq.bytes_eq-Decides, Bool.and_parts}
+use Rattle.clap.specs.{Words.Rule, Words.Shape, Words.Text, Words.takes, Lexer.long_of, Lexer.short_of, Simple.built, Simple.entered, Simple.names_of, Simple.rows_at, Walk.Held, Walk.Names, Walk.Outcome, Walk.Step, Walk.Waiting, Walk.Walk, Walk.after_flag, Walk.after_step, Walk.arg_by_index, Walk.arg_by_long, Walk.bundle, Walk.done, Walk.idle, Walk.long_met, Walk.long_or_other, Walk.next, Walk.nothing_held, Walk.option, Walk.plain, Walk.plain_word, Walk.positional, Walk.refused, Walk.short_or_plain, Walk.stop_after, Walk.subcommand, Walk.subcommand_met, Walk.subcommand_or_other, Walk.to_positional, Walk.trailing, Walk.value, Walk.waits, Walk.walk_from, Walk.walked, Walk.walked_from, Walk.word_met, Takes.entered_passes, Takes.level_passes, Takes.other_passes, Takes.step_passes, Takes.turn_passes, Takes.walk_passes, Takes.word_passes}
 use Rattle.clap.proofs.OnLiterals.{clap_on_literals}
 use Rattle.msg_command.specs.Prelude.{IsRunOnNone, asked, msgrun_app, workers_in}
-use Rattle.std.proofs.lemmas.Bool.{and_parts}
 use Rattle.msg_command.proofs.ClapFillsRows.{buffer_given, run_given, run_shape}
 
 -- ---- a flag is no subcommand

@@ -1,7 +1,6 @@
 -- What the getters of clap's matches say, in rows, and what holds of the whole command.
 use Rattle.std.proofs.Common.{◌≡◌, Some, None, sym, ◌∙◌}
-use Rattle.clap.specs.Words.{Text, first_of, first_value, found_of, rows_of}
-use Rattle.clap.specs.declared.ArgMatches.{ArgMatches}
+use Rattle.clap.specs.{Words.Text, Words.first_of, Words.first_value, Words.found_of, Words.rows_of, declared.ArgMatches.ArgMatches}
 use Rattle.clap.proofs.WalkLemmas.{first_value-rows}
 
 -- a value that a getter finds is the row's

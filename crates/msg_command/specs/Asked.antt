@@ -1,16 +1,9 @@
 -- What the words of the command line ask for.
 use Rattle.std.specs.Prelude.{◌≡◌, ◌≢◌, ◌⊎◌, ℕ, [], ◌<◌, ◌≤◌, ◌&&◌, Bool, List, length, Option, Some, None, option_map, option_and_then, codes, string_bytes, nat_le, nat_lt, if◌then◌else◌}
-use Rattle.std.specs.Char.{digit_value}
-use Rattle.std.specs.List.{list_all}
-use Rattle.std.specs.Str.{bytes_eq}
-use Rattle.std.specs.Str.Parse.{digits_value, without_leading_plus}
-use Rattle.clap.specs.Words.{IsAmong, Kinds, Row, Text, first_of, subcommand_of}
-use Rattle.clap.specs.declared.error.ErrorKind.{ErrorKind}
+use Rattle.std.specs.{Char.digit_value, List.list_all, Str.bytes_eq, Str.Parse.digits_value, Str.Parse.without_leading_plus}
+use Rattle.clap.specs.{Words.IsAmong, Words.Kinds, Words.Row, Words.Text, Words.first_of, Words.subcommand_of, declared.error.ErrorKind.ErrorKind}
 use Rattle.clap.specs.declared.error.ErrorKind.TheVariants as kind
-use Rattle.msg_command.specs.CommandLine.{msgrun_app}
-use Rattle.msg_command.specs.declared.words.Action.{Action}
-use Rattle.msg_command.specs.declared.words.Action.TheVariants.{Buffer, Run}
-use Rattle.msg_command.specs.declared.words.WordFault.{WordFault}
+use Rattle.msg_command.specs.{CommandLine.msgrun_app, declared.words.Action.Action, declared.words.Action.TheVariants.Buffer, declared.words.Action.TheVariants.Run, declared.words.WordFault.WordFault}
 use Rattle.msg_command.specs.declared.words.WordFault.TheVariants as word
 
 -- a request: to answer the calls file of a name, or of standard input; or to run the scenario file

@@ -1,17 +1,13 @@
 -- The line that each fault of the program prints, and the status that it ends with.
 use Rattle.std.specs.Prelude.{ℕ, List, [], codes}
-use Rattle.msg_command.specs.declared.words.WordFault.{WordFault}
+use Rattle.msg_command.specs.{declared.words.WordFault.WordFault, declared.input.InputFault.InputFault, declared.fault.MainFault.MainFault, declared.fault.MainFault.TheVariants.Words, declared.fault.MainFault.TheVariants.Input, declared.fault.MainFault.TheVariants.Refused, declared.fault.MainFault.TheVariants.Built, declared.fault.MainFault.TheVariants.Report}
 use Rattle.msg_command.specs.declared.words.WordFault.TheVariants as word
-use Rattle.msg_command.specs.declared.input.InputFault.{InputFault}
 use Rattle.msg_command.specs.declared.input.InputFault.TheVariants as input
-use Rattle.msg_files.specs.declared.refusal.Refusal.{Refusal}
+use Rattle.msg_files.specs.{declared.refusal.Refusal.Refusal, declared.report_fault.ReportFault.ReportFault}
 use Rattle.msg_files.specs.declared.refusal.Refusal.TheVariants as refusal
 use Rattle.msg_system.specs.declared.run_fault.RunFault.{RunFault}
 use Rattle.msg_system.specs.declared.run_fault.RunFault.TheVariants as run
-use Rattle.msg_files.specs.declared.report_fault.ReportFault.{ReportFault}
 use Rattle.msg_files.specs.declared.report_fault.ReportFault.TheVariants as report
-use Rattle.msg_command.specs.declared.fault.MainFault.{MainFault}
-use Rattle.msg_command.specs.declared.fault.MainFault.TheVariants.{Words, Input, Refused, Built, Report}
 
 -- the line of refused words; help is no fault, and has none
 abbrev pub words_line : WordFault → List ℕ

@@ -1,8 +1,6 @@
 -- What an adder does next, and what it remembers.
 use Rattle.std.specs.Prelude.{ℤ, ◌==◌, List, length, Option, Some, None, slice_get, if◌then◌else◌}
-use Rattle.msg_system.specs.declared.op.Op.{Op}
-use Rattle.msg_system.specs.declared.op.Op.TheVariants.{Read, Write}
-use Rattle.msg_system.specs.declared.reply.Reply.{Reply}
+use Rattle.msg_system.specs.{declared.op.Op.Op, declared.op.Op.TheVariants.Read, declared.op.Op.TheVariants.Write, declared.reply.Reply.Reply}
 use Rattle.msg_system.specs.Prelude.{brought, sum_onto}
 use Rattle.msg_engine_tests.specs.declared.adders.Adder.{Adder}
 

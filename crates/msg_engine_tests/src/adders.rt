@@ -12,8 +12,7 @@ pub struct Adder {
 }
 
 impl Behavior for Adder {
-    ghost use Rattle.msg_engine_tests.specs.declared.adders.Adder.{Adder};
-    ghost use Rattle.msg_engine_tests.specs.Adders.{next_op, remembered};
+    ghost use Rattle.msg_engine_tests.specs.{declared.adders.Adder.Adder, Adders.next_op, Adders.remembered};
 
     ghost Memory = { Adder };
 

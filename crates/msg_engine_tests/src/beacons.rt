@@ -21,8 +21,7 @@ struct Beacon {
 }
 
 impl System for Beacon {
-    ghost use Rattle.msg_system.specs.declared.op.Op.TheVariants.{Write};
-    ghost use Rattle.msg_system.specs.declared.start.Start.TheVariants.{Zero};
+    ghost use Rattle.msg_system.specs.{declared.op.Op.TheVariants.Write, declared.start.Start.TheVariants.Zero};
     ghost use Rattle.msg_system.specs.Prelude.{of_program, only, places_of};
 
     ghost meaning = { λ b. of_program (only (Write b.to b.value) Zero) b.writer

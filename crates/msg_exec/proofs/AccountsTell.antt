@@ -1,14 +1,10 @@
 -- Accounts tell what readers were given, and the numbers in them are exact.
-use Rattle.std.proofs.Common.{◌≡◌, ℕ, ◌+◌, ◌^◌, ◌<◌, List, [], ◌∷◌, ◌++◌, map, append_assoc, refl, arith, subst}
-use Rattle.std.specs.Prelude.{All, IsTrue}
+use Rattle.std.proofs.Common.{◌≡◌, ℕ, ◌+◌, ◌^◌, ◌<◌, List, [], ◌∷◌, ◌++◌, map, append_assoc, refl, arith, subst, All, IsTrue}
 use Rattle.std.specs.List.{filter, range_with_len}
-use Rattle.std.proofs.lemmas.Bool.{cases_Bool}
-use Rattle.std.proofs.lemmas.List.{map_push}
-use Rattle.std.proofs.lemmas.List.Elements.{Contains-get_or}
+use Rattle.std.proofs.lemmas.{Bool.cases_Bool, List.map_push, List.Elements.Contains-get_or}
 use Rattle.msg_order.proofs.Elements.{filter-Contains, filter_takes, flat_map-Contains, map-Contains, range-Contains}
-use Rattle.msg_frames.specs.declared.account.Account.{Account}
+use Rattle.msg_frames.specs.{declared.account.Account.Account, declared.totals.Totals.Totals}
 use Rattle.msg_exec.specs.Prelude.{kept}
-use Rattle.msg_frames.specs.declared.totals.Totals.{Totals}
 use Rattle.msg_frames.specs.Prelude.{AddsUp, IsSoundState, State, account_of, accounts_of, accounts_of_system, is_reader}
 
 -- ---- one account

@@ -1,22 +1,12 @@
 -- Turns one after the other, batch after batch.
-use Rattle.std.proofs.Common.{◌≡◌, ℕ, ◌+◌, ◌<◌, List, [], ◌∷◌, ◌++◌, length, map, take, get_or, refl, sym, append_assoc, ◌≢◌, zero, suc, ◌≤◌, arith}
-use Rattle.std.specs.Global.{Vec}
-use Rattle.std.specs.List.{concat}
-use Rattle.std.proofs.lemmas.List.{append-nil, map_push, take_more, get_or-map}
-use Rattle.std.proofs.lemmas.List.Folds.{concat-append}
+use Rattle.std.proofs.Common.{◌≡◌, ℕ, ◌+◌, ◌<◌, List, [], ◌∷◌, ◌++◌, length, map, take, get_or, refl, sym, append_assoc, ◌≢◌, zero, suc, ◌≤◌, arith, All, AllPairs}
+use Rattle.std.specs.{Global.Vec, List.concat}
+use Rattle.std.proofs.lemmas.{List.append-nil, List.map_push, List.take_more, List.get_or-map, List.Folds.concat-append, Bool.eqb-true, Bool.Decides.Decides-eqb, List.Elements.All-contains, Map.Made.IsDistinct-from_AllPairs, Map.Steps.length-le_from_distinct_below, Map.Views.Contains-from_any}
 use Rattle.msg_system.specs.Prelude.{Meaning}
 use Rattle.msg_frames.specs.declared.log.Turn.{Turn}
 use Rattle.msg_exec.specs.Prelude.{Lender, LenderStands}
 use Rattle.msg_frames.specs.Prelude.{AfterTurns, after_turn_of, after_turns_of, State}
-use Rattle.std.proofs.lemmas.Bool.{eqb-true}
-use Rattle.std.specs.Prelude.{All, AllPairs}
-use Rattle.std.proofs.lemmas.Bool.Decides.{Decides-eqb}
-use Rattle.std.proofs.lemmas.List.Elements.{All-contains}
-use Rattle.std.proofs.lemmas.Map.Made.{IsDistinct-from_AllPairs}
-use Rattle.std.proofs.lemmas.Map.Steps.{length-le_from_distinct_below}
-use Rattle.std.proofs.lemmas.Map.Views.{Contains-from_any}
-use Rattle.msg_frames.proofs.SystemsStay.{turns_keep_systems}
-use Rattle.msg_frames.proofs.ElementsAndPairs.{pairs_left, pairs_right}
+use Rattle.msg_frames.proofs.{SystemsStay.turns_keep_systems, ElementsAndPairs.pairs_left, ElementsAndPairs.pairs_right}
 
 abbrev and_then : AfterTurns → List ℕ → AfterTurns
 and_then x is =

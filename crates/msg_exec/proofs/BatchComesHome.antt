@@ -1,10 +1,6 @@
 -- The systems of a batch come home, one after the other.
-use Rattle.std.proofs.Common.{◌≡◌, ◌≢◌, ℕ, ◌<◌, false, List, [], ◌∷◌, ◌++◌, length, map, None, append_assoc, refl, sym, ap, ◌∙◌, inl, inr, arith}
-use Rattle.std.specs.Prelude.{All, AllPairs, Contains, IsSomeAnd, IsTrue, is_some, slice_get, if◌then◌else◌}
-use Rattle.std.proofs.lemmas.Bool.{cases_Bool}
-use Rattle.std.proofs.lemmas.Bool.Decides.{eqb_tells}
-use Rattle.std.proofs.lemmas.List.{append-nil, get_or-set_other, get_or-set_same, length-set, map-append}
-use Rattle.std.proofs.lemmas.List.Elements.{All-contains, All-head, All-tail, Contains-append_right}
+use Rattle.std.proofs.Common.{◌≡◌, ◌≢◌, ℕ, ◌<◌, false, List, [], ◌∷◌, ◌++◌, length, map, None, append_assoc, refl, sym, ap, ◌∙◌, inl, inr, arith, All, AllPairs, Contains, IsSomeAnd, IsTrue, is_some, slice_get, if◌then◌else◌}
+use Rattle.std.proofs.lemmas.{Bool.cases_Bool, Bool.Decides.eqb_tells, List.append-nil, List.get_or-set_other, List.get_or-set_same, List.length-set, List.map-append, List.Elements.All-contains, List.Elements.All-head, List.Elements.All-tail, List.Elements.Contains-append_right}
 use Rattle.std.specs.List.{AllZip}
 use Rattle.msg_world.specs.declared.access.Access.{Access}
 use Rattle.msg_world.specs.Prelude.{Conflict, HomeMerges, HomeWhereEither, IsApart, Part, PartsStand, SameShape, SameSize, slot, writes}
@@ -13,17 +9,10 @@ use Rattle.msg_system.specs.Prelude.{Job as JobState, Meaning, after_job}
 use Rattle.msg_exec.specs.Prelude.{Done, IsAfterJob, IsDone, Job, Lender, LenderStands, TotalsStand, job_state, system_at}
 use Rattle.msg_frames.specs.declared.log.Turn.{Turn}
 use Rattle.msg_frames.specs.Prelude.{AreAccessesOf, BatchesRunSideBySide, Member, SameSystems, State, after_turns_of, all_home, home, logged_turn, turn_of}
-use Rattle.msg_exec.specs.inner.Batches.{AreDone}
-use Rattle.msg_exec.specs.inner.Totals.{HasFewReplies}
-use Rattle.msg_exec.specs.inner.Lending.{AreOut, ComesHome, IsOut, any_writes}
-use Rattle.msg_exec.proofs.BatchGoesOut.{has_written, left_stands}
-use Rattle.msg_frames.proofs.SystemsStay.{turns_keep_systems}
-use Rattle.msg_frames.proofs.ElementsAndPairs.{pairs_head, pairs_right}
+use Rattle.msg_exec.specs.{inner.Batches.AreDone, inner.Totals.HasFewReplies, inner.Lending.AreOut, inner.Lending.ComesHome, inner.Lending.IsOut, inner.Lending.any_writes}
+use Rattle.msg_exec.proofs.{BatchGoesOut.has_written, BatchGoesOut.left_stands, SystemAfterTurn.few_replies, SystemAfterTurn.its_own, SystemAfterTurn.of_another, SystemAfterTurn.totals_after, ItemsOfLists.get_other, ItemsOfLists.get_same, ItemsOfLists.some_of, JobsAreDone.none_there, BatchWritesApart.later_write_not, BatchWritesApart.written_is_used}
+use Rattle.msg_frames.proofs.{SystemsStay.turns_keep_systems, ElementsAndPairs.pairs_head, ElementsAndPairs.pairs_right}
 use Rattle.msg_order.proofs.Elements.{Contains-cases, Contains-head, Contains-tail, not_in_none}
-use Rattle.msg_exec.proofs.SystemAfterTurn.{few_replies, its_own, of_another, totals_after}
-use Rattle.msg_exec.proofs.ItemsOfLists.{get_other, get_same, some_of}
-use Rattle.msg_exec.proofs.JobsAreDone.{none_there}
-use Rattle.msg_exec.proofs.BatchWritesApart.{later_write_not, written_is_used}
 
 -- the first beside one that is there, and none beside none
 first_beside : {X Y : Type 0} (R : X → Y → Type 0) (xs : List X) (y : Y) (ys : List Y) → AllZip R xs (y ∷ ys)

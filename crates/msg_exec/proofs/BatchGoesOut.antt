@@ -1,12 +1,7 @@
 -- The systems of a batch go out, one after the other, and their jobs may be run.
-use Rattle.std.proofs.Common.{◌≡◌, ℕ, ◌<◌, true, List, [], ◌∷◌, ◌++◌, length, refl, ap, ◌∙◌, arith}
-use Rattle.std.specs.Prelude.{All, Contains, IsSome, is_some, slice_get}
-use Rattle.std.proofs.lemmas.Bool.{cases_Bool, cases_eq, or_left}
-use Rattle.std.proofs.lemmas.List.{get_or-set_other, length-set}
-use Rattle.std.proofs.lemmas.Slice.Zip.{AllZip-right}
-use Rattle.std.proofs.lemmas.Option.{get_or_from_slice_get, slice_get_within}
-use Rattle.msg_exec.proofs.ItemsOfLists.{some_of}
-use Rattle.std.proofs.lemmas.List.Elements.{Contains-get_or, Contains-append_left, Contains-append_right, All-contains}
+use Rattle.std.proofs.Common.{◌≡◌, ℕ, ◌<◌, true, List, [], ◌∷◌, ◌++◌, length, refl, ap, ◌∙◌, arith, All, Contains, IsSome, is_some, slice_get}
+use Rattle.std.proofs.lemmas.{Bool.cases_Bool, Bool.cases_eq, Bool.or_left, List.get_or-set_other, List.length-set, Slice.Zip.AllZip-right, Option.get_or_from_slice_get, Option.slice_get_within, List.Elements.Contains-get_or, List.Elements.Contains-append_left, List.Elements.Contains-append_right, List.Elements.All-contains}
+use Rattle.msg_exec.proofs.{ItemsOfLists.some_of, BatchWritesApart.any_more, BatchWritesApart.earlier_write_not, BatchWritesApart.others_write_not, BatchWritesApart.written_is_used}
 use Rattle.std.specs.List.{AllZip}
 use Rattle.msg_world.specs.Prelude.{Conflict, IsHome, Part, PartsStand, slot, writes}
 use Rattle.msg_order.specs.Prelude.{NoneConflict, access_of}
@@ -15,7 +10,6 @@ use Rattle.msg_exec.specs.Prelude.{EachMay, Job, Lender, LenderStands, MayRun, s
 use Rattle.msg_frames.specs.Prelude.{State}
 use Rattle.msg_exec.specs.inner.Lending.{AreOut, GoesOut, IsOut}
 use Rattle.msg_order.proofs.Elements.{Contains-head}
-use Rattle.msg_exec.proofs.BatchWritesApart.{any_more, earlier_write_not, others_write_not, written_is_used}
 
 -- ---- lists side by side
 

@@ -1,6 +1,5 @@
 -- A turn is a batch of one system.
-use Rattle.std.proofs.Common.{◌≡◌, ◌≢◌, ℕ, ◌<◌, [], ◌∷◌, Option, Some, get_or, refl, arith}
-use Rattle.std.specs.Prelude.{All, AllPairs}
+use Rattle.std.proofs.Common.{◌≡◌, ◌≢◌, ℕ, ◌<◌, [], ◌∷◌, Option, Some, get_or, refl, arith, All, AllPairs}
 use Rattle.std.proofs.Math.Bool.{or-false}
 use Rattle.msg_world.specs.declared.access.Access.{Access}
 use Rattle.msg_world.specs.Prelude.{Conflict, HomeMerges, HomeWhereEither, LendsOut, Parts}
@@ -10,8 +9,7 @@ use Rattle.msg_exec.specs.Prelude.{Done, GuardedSystem, HasTakenTurn, Job, Lende
 use Rattle.msg_frames.specs.declared.log.Outcome.{Outcome}
 use Rattle.msg_frames.specs.Prelude.{BatchesRunSideBySide, State, after_turn_of, logged_turn}
 use Rattle.msg_exec.specs.inner.Lending.{AreOut, ComesHome}
-use Rattle.msg_exec.proofs.BatchComesHome.{ComingHome, MayCome, all_came, begin_home, is_back, next_comes, next_may_come}
-use Rattle.msg_exec.proofs.BatchGoesOut.{all_may_run, left_stands}
+use Rattle.msg_exec.proofs.{BatchComesHome.ComingHome, BatchComesHome.MayCome, BatchComesHome.all_came, BatchComesHome.begin_home, BatchComesHome.is_back, BatchComesHome.next_comes, BatchComesHome.next_may_come, BatchGoesOut.all_may_run, BatchGoesOut.left_stands}
 use Rattle.std.proofs.lemmas.List.{get_or_read}
 
 no_pairs : (R : ℕ → ℕ → Type 0) (i : ℕ) → AllPairs R (i ∷ [])

@@ -1,10 +1,7 @@
 -- What no system of a batch writes, where no two of them conflict.
-use Rattle.std.proofs.Common.{◌≡◌, ◌≢◌, ℕ, ◌<◌, ◌||◌, false, List, [], ◌∷◌, ◌++◌, length, get_or, take, refl, inl, inr, arith}
-use Rattle.std.specs.Prelude.{All, AllPairs, Contains, IsTrue}
+use Rattle.std.proofs.Common.{◌≡◌, ◌≢◌, ℕ, ◌<◌, ◌||◌, false, List, [], ◌∷◌, ◌++◌, length, get_or, take, refl, inl, inr, arith, All, AllPairs, Contains, IsTrue}
 use Rattle.std.proofs.Math.Bool.{or-false, or_assoc}
-use Rattle.std.proofs.lemmas.Bool.{and_from, false_from_ne_true, or_right}
-use Rattle.std.proofs.lemmas.List.{get_or-take, get_or_default, length-take-le}
-use Rattle.std.proofs.lemmas.List.Elements.{All-contains, All-head, All-tail}
+use Rattle.std.proofs.lemmas.{Bool.and_from, Bool.false_from_ne_true, Bool.or_right, List.get_or-take, List.get_or_default, List.length-take-le, List.Elements.All-contains, List.Elements.All-head, List.Elements.All-tail}
 use Rattle.msg_world.specs.declared.access.Access.{Access}
 use Rattle.msg_world.specs.Prelude.{Part, Conflict, reads, uses, writes}
 use Rattle.msg_order.specs.Prelude.{NoneConflict, access_of}

@@ -1,25 +1,17 @@
 -- A frame begins, takes its turns, and leaves a core that stands for the state after it.
-use Rattle.std.proofs.Common.{◌≡◌, ℕ, suc, ◌<◌, Bool, false, List, map, max, ap, ◌∙◌, arith}
-use Rattle.std.specs.Prelude.{IsTrue, ◌↔◌, nat_le}
+use Rattle.std.proofs.Common.{◌≡◌, ℕ, suc, ◌<◌, Bool, false, List, map, max, ap, ◌∙◌, arith, IsTrue, ◌↔◌, nat_le}
 use Rattle.std.specs.List.{concat}
-use Rattle.std.proofs.lemmas.Bool.{cases_Bool, eqb-false, lt-leb, ne_eqb}
-use Rattle.std.proofs.lemmas.Bool.Decides.{nat_tests}
-use Rattle.std.proofs.lemmas.List.FromFn.{fill_by_all, get_or-map-range_with_len, length-map-range_with_len}
+use Rattle.std.proofs.lemmas.{Bool.cases_Bool, Bool.eqb-false, Bool.lt-leb, Bool.ne_eqb, Bool.Decides.nat_tests, List.FromFn.fill_by_all, List.FromFn.get_or-map-range_with_len, List.FromFn.length-map-range_with_len, List.get_or-map, List.length-map}
 use Rattle.msg_world.specs.Prelude.{Parts, PartsStand, SameShape, WorldState}
 use Rattle.msg_order.specs.Prelude.{IsLawfulOrder, IsSettledOrder, Graph}
 use Rattle.msg_system.specs.declared.reply.Reply.{Reply}
 use Rattle.msg_system.specs.Prelude.{Meaning}
 use Rattle.msg_exec.specs.Prelude.{AreJoins, Core, CoreStands, Lender, LenderStands, Schedule}
-use Rattle.msg_frames.specs.declared.frame.Frame.{Frame}
-use Rattle.msg_frames.specs.declared.log.Log.{Log}
-use Rattle.msg_exec.specs.inner.FrameSteps.{HasLeft, HasOpened, NobodyJoins, counted}
+use Rattle.msg_frames.specs.{declared.frame.Frame.Frame, declared.log.Log.Log}
+use Rattle.msg_exec.specs.{inner.FrameSteps.HasLeft, inner.FrameSteps.HasOpened, inner.FrameSteps.NobodyJoins, inner.FrameSteps.counted, inner.Lending.HaveReadNothing}
 use Rattle.msg_frames.specs.Prelude.{IsLawfulFor, IsOrderOf, SystemsHaveOneOrder, FrameStaysSound, IsFrame, IsSoundState, SameSystems, State, after_turns_of, before_turns, frame_in, has_begun, join_flags, joining}
-use Rattle.msg_exec.specs.inner.Lending.{HaveReadNothing}
-use Rattle.msg_exec.proofs.SystemsJoin.{members_alike}
-use Rattle.msg_frames.proofs.SystemsStay.{accesses_stay, before_keeps, joined_stay, joining_keeps, joining_makes_no_frame, no_cycle_stays, turns_keep_systems, turns_make_no_frame}
-use Rattle.std.proofs.lemmas.List.{get_or-map, length-map}
-use Rattle.msg_frames.proofs.FramesInOrder.{frame_in_order}
-use Rattle.msg_exec.proofs.SystemAfterTurn.{member_stays}
+use Rattle.msg_exec.proofs.{SystemsJoin.members_alike, SystemAfterTurn.member_stays}
+use Rattle.msg_frames.proofs.{SystemsStay.accesses_stay, SystemsStay.before_keeps, SystemsStay.joined_stay, SystemsStay.joining_keeps, SystemsStay.joining_makes_no_frame, SystemsStay.no_cycle_stays, SystemsStay.turns_keep_systems, SystemsStay.turns_make_no_frame, FramesInOrder.frame_in_order}
 
 -- ---- the schedule
 

@@ -1,11 +1,9 @@
 -- An engine is what its core is.
-use Rattle.std.proofs.Common.{◌≡◌, ℕ, List, [], ◌∷◌, ◌++◌, length, take, Some, refl, sym, ◌∙◌, inl, inr}
-use Rattle.std.specs.Prelude.{IsSome}
+use Rattle.std.proofs.Common.{◌≡◌, ℕ, List, [], ◌∷◌, ◌++◌, length, take, Some, refl, sym, ◌∙◌, inl, inr, IsSome}
 use Rattle.std.proofs.lemmas.Bool.{false≢true}
 use Rattle.msg_system.specs.Prelude.{Meaning}
 use Rattle.msg_exec.specs.Prelude.{Core, CoreStands, EngineOf, IsEngine, StandsFor}
-use Rattle.msg_frames.specs.declared.frame.Frame.{Frame}
-use Rattle.msg_frames.specs.declared.log.Log.{Log}
+use Rattle.msg_frames.specs.{declared.frame.Frame.Frame, declared.log.Log.Log}
 use Rattle.msg_frames.specs.Prelude.{IsFrame, IsRun, State}
 use Rattle.msg_exec.proofs.ItemsOfLists.{some_of}
 

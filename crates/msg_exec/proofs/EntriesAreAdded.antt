@@ -1,18 +1,13 @@
 -- Entries are added to totals one by one.
-use Rattle.std.proofs.Common.{arith, ◌≡◌, ℕ, zero, suc, List, [], ◌∷◌, ◌++◌, length, drop, get_or, Some, refl, sym, ap, ◌∙◌}
-use Rattle.std.specs.Prelude.{slice_get}
-use Rattle.std.specs.Global.{Vec}
-use Rattle.std.specs.Vec.{with_items}
-use Rattle.std.proofs.lemmas.List.{with_items_is}
-use Rattle.std.proofs.lemmas.Option.{get_or_from_slice_get, none-some, same_Some}
-use Rattle.msg_system.specs.declared.op.Op.{Op}
-use Rattle.msg_system.specs.declared.reply.Reply.{Reply}
+use Rattle.std.proofs.Common.{arith, ◌≡◌, ℕ, zero, suc, List, [], ◌∷◌, ◌++◌, length, drop, get_or, Some, refl, sym, ap, ◌∙◌, slice_get}
+use Rattle.std.specs.{Global.Vec, Vec.with_items}
+use Rattle.std.proofs.lemmas.{List.with_items_is, Option.get_or_from_slice_get, Option.none-some, Option.same_Some}
+use Rattle.msg_system.specs.{declared.op.Op.Op, declared.reply.Reply.Reply}
 use Rattle.msg_system.specs.Prelude.{Meaning}
 use Rattle.msg_frames.specs.declared.totals.Totals.{Totals}
 use Rattle.msg_frames.specs.Prelude.{entries_for}
 use Rattle.msg_exec.specs.Prelude.{Done, kept}
-use Rattle.msg_exec.specs.inner.Lending.{HaveEntered}
-use Rattle.msg_exec.specs.inner.Totals.{entry_at}
+use Rattle.msg_exec.specs.{inner.Lending.HaveEntered, inner.Totals.entry_at}
 
 -- the same totals are kept alike
 pub kept_alike : {x y t : Totals} → x ≡ y → t ≡ kept y → t ≡ kept x

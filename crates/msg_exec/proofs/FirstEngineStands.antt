@@ -1,9 +1,6 @@
 -- A new engine stands for the first state.
-use Rattle.std.proofs.Common.{◌≡◌, ℕ, ◌<◌, ◌≤◌, Bool, true, false, List, [], ◌∷◌, length, map, Some, None, refl, sym, ap, ◌∙◌, arith, inl, inr}
-use Rattle.std.specs.Prelude.{replicate, slice_get, slice_index_or}
-use Rattle.std.proofs.lemmas.Bool.{cases_lt, false≢true}
-use Rattle.std.proofs.lemmas.List.{get_or-map, get_or-replicate, get_or_past, length-map}
-use Rattle.std.proofs.lemmas.Option.{get_or_from_slice_get, slice_get-get_or, slice_get_within}
+use Rattle.std.proofs.Common.{◌≡◌, ℕ, ◌<◌, ◌≤◌, Bool, true, false, List, [], ◌∷◌, length, map, Some, None, refl, sym, ap, ◌∙◌, arith, inl, inr, replicate, slice_get, slice_index_or}
+use Rattle.std.proofs.lemmas.{Bool.cases_lt, Bool.false≢true, List.get_or-map, List.get_or-replicate, List.get_or_past, List.length-map, Option.get_or_from_slice_get, Option.slice_get-get_or, Option.slice_get_within}
 use Rattle.msg_world.specs.declared.access.Access.{Access}
 use Rattle.msg_world.specs.Prelude.{IsWhole, OfType, Parts, PartsStand, WorldState}
 use Rattle.msg_order.specs.declared.rule.Rule.{Rule}
@@ -13,9 +10,8 @@ use Rattle.msg_system.specs.Prelude.{Meaning, new_asked}
 use Rattle.msg_system.proofs.Accesses.{uses_needs}
 use Rattle.msg_frames.specs.declared.place.Place.{Place}
 use Rattle.msg_exec.specs.Prelude.{AreJoins, Core, EachIs, Lender, LenderStands, MayBeAdded, Schedule}
-use Rattle.msg_exec.specs.inner.Building.{AreNoTotals, IsAccessAt, IsGuardedAt}
+use Rattle.msg_exec.specs.{inner.Building.AreNoTotals, inner.Building.IsAccessAt, inner.Building.IsGuardedAt, inner.Lending.HaveReadNothing}
 use Rattle.msg_frames.specs.Prelude.{AreNew, HasClash, all_rules, nobody, nowhere, unjoined}
-use Rattle.msg_exec.specs.inner.Lending.{HaveReadNothing}
 use Rattle.msg_exec.proofs.ItemsOfLists.{item_at}
 
 conditions_new : (cs : List Condition) → map (λ a. a.condition) (map new_asked cs) ≡ cs

@@ -1,9 +1,6 @@
 -- What stands in a list or an option, in a list with an item set, and in a longer one.
-use Rattle.std.proofs.Common.{◌≡◌, ◌≢◌, ◌⊎◌, ℕ, ◌<◌, ◌++◌, List, [], ◌∷◌, length, set, Option, None, Some, refl, arith, zero, suc}
-use Rattle.std.specs.Prelude.{IsSomeAnd, slice_get}
-use Rattle.std.proofs.lemmas.Bool.{cases_order}
-use Rattle.std.proofs.lemmas.List.{get_or-set_other, get_or-set_same, get_or_append_left, get_or_default, get_or_push, length-set, length_push}
-use Rattle.std.proofs.lemmas.Option.{slice_get_cases}
+use Rattle.std.proofs.Common.{◌≡◌, ◌≢◌, ◌⊎◌, ℕ, ◌<◌, ◌++◌, List, [], ◌∷◌, length, set, Option, None, Some, refl, arith, zero, suc, IsSomeAnd, slice_get}
+use Rattle.std.proofs.lemmas.{Bool.cases_order, List.get_or-set_other, List.get_or-set_same, List.get_or_append_left, List.get_or_default, List.get_or_push, List.length-set, List.length_push, Option.slice_get_cases}
 use Rattle.msg_exec.specs.Prelude.{EachIs}
 
 -- ---- what stands in an option, and at an index

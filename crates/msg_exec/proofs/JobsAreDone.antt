@@ -1,11 +1,8 @@
 -- A job is done: its system ran, and what the loan owned is given back as the job left it.
-use Rattle.std.proofs.Common.{◌≡◌, true, false, List, [], Option, Some, None, Vec, map, refl, sym, ◌∙◌, arith}
-use Rattle.std.specs.Prelude.{is_some}
+use Rattle.std.proofs.Common.{◌≡◌, true, false, List, [], Option, Some, None, Vec, map, refl, sym, ◌∙◌, arith, is_some}
 use Rattle.std.specs.Vec.{with_items}
-use Rattle.std.proofs.lemmas.Bool.{false≢true}
-use Rattle.std.proofs.lemmas.List.{length-map, with_items_is}
-use Rattle.msg_world.specs.declared.access.Access.{Access}
-use Rattle.msg_world.specs.declared.lent.Lent.{Lent}
+use Rattle.std.proofs.lemmas.{Bool.false≢true, List.length-map, List.with_items_is}
+use Rattle.msg_world.specs.{declared.access.Access.Access, declared.lent.Lent.Lent}
 use Rattle.msg_world.specs.Prelude.{LoanStands, Part, Parts, PartsStand, SameShape, WorldState, slot, writes}
 use Rattle.msg_system.specs.declared.reply.Reply.{Reply}
 use Rattle.msg_system.specs.Prelude.{Asked, Meaning, Ran, after_asking, after_job, after_turn, all_hold, told, turn}

@@ -1,6 +1,5 @@
 -- What holds of jobs, each with the world that it was lent from, where that is one world.
-use Rattle.std.proofs.Common.{◌≡◌, ℕ, zero, suc, List, [], ◌∷◌, length, map, Result, Ok, refl, sym, ◌∙◌, Some, arith}
-use Rattle.std.specs.Prelude.{slice_get}
+use Rattle.std.proofs.Common.{◌≡◌, ℕ, zero, suc, List, [], ◌∷◌, length, map, Result, Ok, refl, sym, ◌∙◌, Some, arith, slice_get}
 use Rattle.std.proofs.lemmas.List.{length-map}
 use Rattle.msg_world.specs.Prelude.{Parts}
 use Rattle.msg_board.specs.Prelude.{IsLawfulOutcome}

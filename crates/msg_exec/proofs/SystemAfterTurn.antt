@@ -1,15 +1,11 @@
 -- What a system's turn leaves: what came of it, its place on the lender, and its totals.
-use Rattle.std.proofs.Common.{sym, get_or, ◌≡◌, ◌≢◌, zero, suc, Option, append-nil, length-append, ℕ, ◌<◌, ◌≤◌, List, length, refl, arith}
+use Rattle.std.proofs.Common.{sym, get_or, ◌≡◌, ◌≢◌, zero, suc, Option, append-nil, length-append, ℕ, ◌<◌, ◌≤◌, List, length, refl, arith, slice_get}
 use Rattle.std.specs.Global.{Vec}
-use Rattle.std.proofs.lemmas.Option.{slice_get_read}
-use Rattle.std.specs.Prelude.{slice_get}
-use Rattle.std.proofs.lemmas.Bool.{cases_Bool, eq-eqb, ne_eqb}
+use Rattle.std.proofs.lemmas.{Option.slice_get_read, Bool.cases_Bool, Bool.eq-eqb, Bool.ne_eqb}
 use Rattle.msg_world.specs.Prelude.{SameShape, WorldState}
-use Rattle.msg_system.specs.declared.op.Op.{Op}
+use Rattle.msg_system.specs.{declared.op.Op.Op, declared.reply.Reply.Reply}
 use Rattle.msg_system.specs.Prelude.{Job as JobState, Meaning, after_at_most, after_job, next_op, turn}
-use Rattle.msg_system.specs.declared.reply.Reply.{Reply}
-use Rattle.msg_frames.specs.declared.log.Outcome.{Outcome}
-use Rattle.msg_frames.specs.declared.totals.Totals.{Totals}
+use Rattle.msg_frames.specs.{declared.log.Outcome.Outcome, declared.totals.Totals.Totals}
 use Rattle.msg_frames.specs.Prelude.{Member, State, member_turn, outcome_entries, outcome_of, with_entries, with_member}
 use Rattle.msg_exec.specs.Prelude.{Lender, LenderStands, MemberStands, TotalsStand, kept, system_at, totals_at}
 use Rattle.msg_exec.specs.inner.Totals.{HasFewReplies, entries_by}

@@ -1,17 +1,10 @@
 -- What workers draw from the board, and that a worker passed the gate for each job, with its own number.
-use Rattle.std.proofs.Common.{◌≡◌, ℕ, zero, suc, ◌+◌, ◌<◌, ◌≤◌, ◌==◌, cond, inl, inr, List, [], ◌∷◌, ◌++◌, length, map, min, Some, refl, ap, subst, arith}
-use Rattle.std.specs.Prelude.{All, Contains, slice_get}
-use Rattle.std.specs.List.{AllZip}
-use Rattle.std.specs.Option.{unwrap_or}
-use Rattle.std.proofs.lemmas.Bool.{cases_Bool, eqb-true, cases_lt}
-use Rattle.std.proofs.lemmas.List.{length-append}
-use Rattle.std.proofs.lemmas.List.Elements.{All-append, All-cons, All-head, All-tail, Contains-push_cases}
-use Rattle.std.proofs.lemmas.List.Sums.{sum_by-append}
-use Rattle.std.proofs.lemmas.Option.{slice_get_within}
+use Rattle.std.proofs.Common.{◌≡◌, ℕ, zero, suc, ◌+◌, ◌<◌, ◌≤◌, ◌==◌, cond, inl, inr, List, [], ◌∷◌, ◌++◌, length, map, min, Some, refl, ap, subst, arith, All, Contains, slice_get}
+use Rattle.std.specs.{List.AllZip, Option.unwrap_or}
+use Rattle.std.proofs.lemmas.{Bool.cases_Bool, Bool.eqb-true, Bool.cases_lt, List.length-append, List.Elements.All-append, List.Elements.All-cons, List.Elements.All-head, List.Elements.All-tail, List.Elements.Contains-push_cases, List.Sums.sum_by-append, Option.slice_get_within}
 use Rattle.msg_board.specs.Prelude.{BoardView, HasEnded, HoldsEachOnce, PassState, drawn_by, jobs_of, times}
 use Rattle.msg_exec.specs.Prelude.{EachNewIs, EachPassedGate, Job, Lender, PassedGate}
-use Rattle.msg_exec.specs.inner.Lending.{IsOut}
-use Rattle.msg_exec.specs.inner.Batches.{HasWorked, HaveWorked}
+use Rattle.msg_exec.specs.{inner.Lending.IsOut, inner.Batches.HasWorked, inner.Batches.HaveWorked}
 use Rattle.msg_order.proofs.Elements.{Contains-head, Contains-tail, not_in_none}
 
 -- ---- one job more is drawn

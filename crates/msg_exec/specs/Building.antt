@@ -6,10 +6,7 @@ use Rattle.msg_order.specs.Prelude.{IsLowestOnCycle, NameSystemsBelow}
 use Rattle.msg_system.specs.Prelude.{Meaning, needs_any, with_conditions}
 use Rattle.msg_frames.specs.declared.place.Place.{Place}
 use Rattle.msg_frames.specs.Prelude.{HasClash, IsNew, all_rules}
-use Rattle.msg_exec.specs.declared.build_error.BuildError.{BuildError}
-use Rattle.msg_exec.specs.declared.build_error.BuildError.TheVariants.{Full, BadJoin, Misfit, UnknownSystem, Refused}
-use Rattle.msg_exec.specs.declared.build_refusal.BuildRefusal.{BuildRefusal}
-use Rattle.msg_exec.specs.declared.build_refusal.BuildRefusal.TheVariants.{Clash, Cycle, NoMemory}
+use Rattle.msg_exec.specs.{declared.build_error.BuildError.BuildError, declared.build_error.BuildError.TheVariants.Full, declared.build_error.BuildError.TheVariants.BadJoin, declared.build_error.BuildError.TheVariants.Misfit, declared.build_error.BuildError.TheVariants.UnknownSystem, declared.build_error.BuildError.TheVariants.Refused, declared.build_refusal.BuildRefusal.BuildRefusal, declared.build_refusal.BuildRefusal.TheVariants.Clash, declared.build_refusal.BuildRefusal.TheVariants.Cycle, declared.build_refusal.BuildRefusal.TheVariants.NoMemory}
 
 module _ {X : Type 0} where
   -- it holds of each of the list, and of its number

@@ -2,9 +2,8 @@
 use Rattle.std.specs.Prelude.{◌≡◌, ℕ, ◌-◌, ◌^◌, ◌≤◌, ◌<◌, min}
 use Rattle.msg_order.specs.Prelude.{IsPlanOf, NameSystemsBelow}
 use Rattle.msg_system.specs.Prelude.{Meaning}
-use Rattle.msg_exec.specs.declared.engine_core.Core.{Core}
+use Rattle.msg_exec.specs.{declared.engine_core.Core.Core, Lender.AreJoins, Lender.LenderStands}
 use Rattle.msg_frames.specs.Prelude.{IsSoundState, NoCycle, State, join_flags}
-use Rattle.msg_exec.specs.Lender.{AreJoins, LenderStands}
 
 -- how many frames were run, as an engine counts them: it stays at the greatest number of its type
 abbrev pub frame_count : State → ℕ

@@ -2,9 +2,7 @@
 use Rattle.std.specs.Prelude.{◌≡◌, Result, IfOk}
 use Rattle.msg_world.specs.Prelude.{IsLoanOf, Parts, PartsStand, SameShape, WorldState}
 use Rattle.msg_system.specs.Prelude.{AfterJob, IsAccessOf, Job as JobState, Meaning, Needs, after_job, conditions_of, with_conditions}
-use Rattle.msg_exec.specs.declared.job.GuardedSystem.{GuardedSystem}
-use Rattle.msg_exec.specs.declared.job.Job.{Job}
-use Rattle.msg_exec.specs.declared.job.Done.{Done}
+use Rattle.msg_exec.specs.{declared.job.GuardedSystem.GuardedSystem, declared.job.Job.Job, declared.job.Done.Done}
 use Rattle.msg_frames.specs.declared.log.Outcome.{Outcome}
 use Rattle.msg_frames.specs.Prelude.{outcome_of}
 

@@ -3,12 +3,9 @@ use Rattle.std.specs.Prelude.{◌≡◌, ℕ, ◌<◌, List, length, slice_get, 
 use Rattle.msg_world.specs.Prelude.{IsHome, IsWhole, PartsStand}
 use Rattle.msg_order.specs.Prelude.{access_of}
 use Rattle.msg_system.specs.Prelude.{IsAccessOf, Meaning}
-use Rattle.msg_exec.specs.declared.job.GuardedSystem.{GuardedSystem}
-use Rattle.msg_exec.specs.declared.lender.Lender.{Lender}
+use Rattle.msg_exec.specs.{declared.job.GuardedSystem.GuardedSystem, declared.lender.Lender.Lender, Jobs.job_state, Keeping.kept, Keeping.totals_at}
 use Rattle.msg_frames.specs.declared.totals.Totals.{Totals}
 use Rattle.msg_frames.specs.Prelude.{needs_of, Member, State}
-use Rattle.msg_exec.specs.Jobs.{job_state}
-use Rattle.msg_exec.specs.Keeping.{kept, totals_at}
 
 -- the totals of a system, by type
 pub record TotalsStand (types : ℕ) (xs : List Totals) (totals : ℕ → Totals) : Type 0 where

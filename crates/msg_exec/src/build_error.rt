@@ -34,8 +34,7 @@ impl From<BuildRefusal> for BuildError {
 }
 
 impl From<NoMemory> for BuildError {
-    ghost use Rattle.msg_exec.specs.declared.build_error.BuildError.TheVariants.{Refused};
-    ghost use Rattle.msg_exec.specs.declared.build_refusal.BuildRefusal.TheVariants.{NoMemory as RefusedMemory};
+    ghost use Rattle.msg_exec.specs.{declared.build_error.BuildError.TheVariants.Refused, declared.build_refusal.BuildRefusal.TheVariants.NoMemory as RefusedMemory};
 
     ghost from_gives = { λ _ error. error ≡ Refused RefusedMemory };
 

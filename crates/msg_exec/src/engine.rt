@@ -39,20 +39,15 @@ pub struct EngineOf<S> {
 pub type Engine = EngineOf<Box<dyn System>>;
 
 impl<S: System> EngineOf<S> {
-    ghost use Rattle.std.specs.Prelude.{◌≡◌, ◌<◌, ◌-◌, ◌^◌, ◌+◌, ◌↔◌, ℕ, All, drop, min, IfOk, OnOk, Err, Ok};
+    ghost use Rattle.std.specs.Prelude.{◌≡◌, ◌<◌, ◌-◌, ◌^◌, ◌+◌, ◌↔◌, ℕ, All, drop, min, IfOk, OnOk, Err, Ok, ◌≤◌, IfErr, IfSome, IsNone, IsTrue, List, Some, length, map};
     ghost use Rattle.std.specs.Option.{option_copied};
     ghost use Rattle.msg_system.specs.declared.run_fault.RunFault.TheVariants.{BadOrder, NoMemory, Spoiled};
-    ghost use Rattle.std.specs.Prelude.{◌≤◌, IfErr, IfSome, IsNone, IsTrue, List, Some, length, map};
     ghost use Rattle.msg_world.specs.declared.record.TheConstants.{HOST};
     ghost use Rattle.msg_world.specs.Prelude.{IsWhole, PartsStand, WorldState};
     ghost use Rattle.msg_order.specs.Prelude.{IsAcyclic, NameSystemsBelow};
-    ghost use Rattle.msg_exec.specs.Building.{EachIs, MayBeAdded, RefusesFor};
+    ghost use Rattle.msg_exec.specs.{Building.EachIs, Building.MayBeAdded, Building.RefusesFor, Cores.frame_count, Engines.HasReplayed, Engines.HasRunFrame, Engines.HasRunFrames, Engines.HasRunSome, Engines.IsEngine, Engines.IsSpoiled, Engines.PostsFit, Engines.StandsFor, Engines.frames_of, Engines.world_of, Work.EachPassedGate};
     ghost use Rattle.msg_frames.specs.Prelude.{HasClash, HasOneRun, IsCompleteRun, IsLawfulFor, IsRun, State, all_rules, first_state, systems_in};
-    ghost use Rattle.msg_exec.specs.Cores.{frame_count};
-    ghost use Rattle.msg_exec.specs.Engines.{HasReplayed, HasRunFrame, HasRunFrames, HasRunSome, IsEngine, IsSpoiled, PostsFit, StandsFor, frames_of, world_of};
-    ghost use Rattle.msg_frames.specs.declared.frame.Frame.{Frame as FrameView};
-    ghost use Rattle.msg_frames.specs.declared.log.Log.{Log as LogView};
-    ghost use Rattle.msg_exec.specs.Work.{EachPassedGate};
+    ghost use Rattle.msg_frames.specs.{declared.frame.Frame.Frame as FrameView, declared.log.Log.Log as LogView};
 
     /// An engine with no frame run. The systems go by number, in order of addition, and each has
     /// its place; those of join 1 have joined, and start at 0 or at the counts of this moment.

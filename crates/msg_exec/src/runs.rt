@@ -1,8 +1,7 @@
 // What a worker does: it draws jobs from a board, runs them, and hands in what they gave.
 ghost use Rattle.std.specs.Prelude.{◌≡◌, ℕ, Some, slice_get};
 ghost use Rattle.msg_board.specs.Prelude.{HandedIn, HasEnded, IsIdle, IsOf, jobs_of};
-ghost use Rattle.msg_exec.specs.Work.{EachMay, EachNewIs};
-ghost use Rattle.msg_exec.specs.inner.Batches.{HasWorked, IsFirstDraw};
+ghost use Rattle.msg_exec.specs.{Work.EachMay, Work.EachNewIs, inner.Batches.HasWorked, inner.Batches.IsFirstDraw};
 
 use crate::Gate;
 use msg_board::{Board, Pass, Work};

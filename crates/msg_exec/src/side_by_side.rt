@@ -1,8 +1,6 @@
 // The jobs of a batch, side by side on one world.
 ghost use Rattle.std.specs.Prelude.{◌≡◌, ◌≤◌, [], All, IfOk, Ok, OnOk, length, map, min};
-ghost use Rattle.msg_exec.specs.Jobs.{IsResult, MayRun};
-ghost use Rattle.msg_exec.specs.inner.Batches.{AreDone};
-ghost use Rattle.msg_exec.specs.Work.{EachMay, PassedGate};
+ghost use Rattle.msg_exec.specs.{Jobs.IsResult, Jobs.MayRun, inner.Batches.AreDone, Work.EachMay, Work.PassedGate};
 
 use crate::job::{Done, Job, TakesTurns};
 use crate::run_workers::run_jobs;

@@ -1,14 +1,10 @@
 -- Items in a line.
-use Rattle.std.proofs.Common.{◌≡◌, ℕ, ◌+◌, ◌<◌, List, [], ◌∷◌, ◌++◌, length, refl, sym, append_assoc, append-nil, codes, Option, arith}
-use Rattle.std.specs.Prelude.{ℤ}
-use Rattle.std.specs.Borrow.{Bor}
-use Rattle.std.specs.declared.alloc.Global.{Global}
+use Rattle.std.proofs.Common.{◌≡◌, ℕ, ◌+◌, ◌<◌, List, [], ◌∷◌, ◌++◌, length, refl, sym, append_assoc, append-nil, codes, Option, arith, ℤ}
+use Rattle.std.specs.{Borrow.Bor, declared.alloc.Global.Global}
 use Rattle.std.proofs.Math.Seq.{take-append_seam}
 use Rattle.std.proofs.lemmas.Grind.{common_steps}
 use Rattle.msg_buffer.specs.Prelude.{Gives, HasGiven, at_most, iter_rest, shown}
-use Rattle.msg_buffer.specs.declared.Instance.{Instance}
-use Rattle.msg_buffer.specs.declared.instance.MessageId.{MessageId}
-use Rattle.msg_buffer.specs.declared.iter.MessageIter.{MessageIter}
+use Rattle.msg_buffer.specs.{declared.Instance.Instance, declared.instance.MessageId.MessageId, declared.iter.MessageIter.MessageIter}
 use Rattle.msg_buffer.proofs.Tiles.{take-at_most}
 use Rattle.msg_files.specs.Prelude.{item_text, items_text, more_items}
 

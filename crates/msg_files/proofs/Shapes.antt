@@ -1,13 +1,8 @@
 -- What the checks of a value come to, once its kind is known.
-use Rattle.std.proofs.Common.{◌≡◌, ℕ, ◌-◌, take, ◌≤◌, List, [], ◌∷◌, length, get_or, drop, refl, sym, ap, ◌∙◌, arith, Option, Some, false, map, string_bytes, String, unwrap_or, Result, Ok, Err, IfErr}
+use Rattle.std.proofs.Common.{◌≡◌, ℕ, ◌-◌, take, ◌≤◌, List, [], ◌∷◌, length, get_or, drop, refl, sym, ap, ◌∙◌, arith, Option, Some, false, map, string_bytes, String, unwrap_or, Result, Ok, Err, IfErr, Bool, option_map}
 use Rattle.std.proofs.lemmas.Grind.{common_steps}
-use Rattle.std.specs.List.{list_all}
-use Rattle.std.specs.Prelude.{Bool, option_map}
-use Rattle.std.specs.declared.alloc.Global.{Global}
-use Rattle.serde_json.specs.Data.{Data, string, array, Items}
-use Rattle.serde_json.specs.Find.{as_array, as_object, as_str}
-use Rattle.serde_json.specs.View.{view, items_view, members_view}
-use Rattle.serde_json.specs.declared.value.Value.{Value}
+use Rattle.std.specs.{List.list_all, declared.alloc.Global.Global}
+use Rattle.serde_json.specs.{Data.Data, Data.string, Data.array, Data.Items, Find.as_array, Find.as_object, Find.as_str, View.view, View.items_view, View.members_view, declared.value.Value.Value}
 use Rattle.msg_files.specs.Prelude.{Agrees, Check, IsAnswer, Refusal, UnknownKey, call_checks, call_of, call_with, checks_with, elements, first_refusal, keys, keys_of, list_of, object_checks}
 use Rattle.msg_files.proofs.Walks.{list_of-items_of, list_all-keys}
 

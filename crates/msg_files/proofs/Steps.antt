@@ -1,6 +1,5 @@
 -- Steps of a reader, which goes on from the checks that passed to those after them.
-use Rattle.std.proofs.Common.{◌≡◌, List, ◌++◌, ◌∙◌, Option, Some, None, Result, Ok, Err, ◌≢◌}
-use Rattle.std.specs.Prelude.{IsErrAnd}
+use Rattle.std.proofs.Common.{◌≡◌, List, ◌++◌, ◌∙◌, Option, Some, None, Result, Ok, Err, ◌≢◌, IsErrAnd}
 use Rattle.msg_files.specs.Prelude.{Agrees, Check, NoMemory, NotJson, Refusal, first_refusal}
 use Rattle.msg_files.proofs.Walks.{first_refusal-passed, first_refusal-stands}
 

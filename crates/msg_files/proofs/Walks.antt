@@ -1,11 +1,7 @@
 -- One step of a walk over a list of JSON values.
-use Rattle.std.proofs.Common.{◌≡◌, ℕ, ◌≤◌, List, [], ◌∷◌, ◌++◌, drop, refl, ap, arith, Some, None, Bool, map, string_bytes, String}
-use Rattle.std.specs.List.{list_all}
-use Rattle.std.specs.Prelude.{ℤ, ◌&&◌}
-use Rattle.std.specs.declared.alloc.Global.{Global}
-use Rattle.serde_json.specs.Data.{Data}
-use Rattle.serde_json.specs.View.{view, items_of, members_view}
-use Rattle.serde_json.specs.declared.value.Value.{Value}
+use Rattle.std.proofs.Common.{◌≡◌, ℕ, ◌≤◌, List, [], ◌∷◌, ◌++◌, drop, refl, ap, arith, Some, None, Bool, map, string_bytes, String, ℤ, ◌&&◌}
+use Rattle.std.specs.{List.list_all, declared.alloc.Global.Global}
+use Rattle.serde_json.specs.{Data.Data, View.view, View.items_of, View.members_view, declared.value.Value.Value}
 use Rattle.msg_files.specs.Prelude.{Call, Check, Refusal, a_value, all_some, call_of, calls_checks, cursors_exist, first_refusal, keys_of, list_of, whole}
 
 -- ---- lists in serde_json's form, and in ours

@@ -1,15 +1,8 @@
 -- The checks of a calls file in reading order, each with the refusal that it gives where it fails.
 use Rattle.std.specs.Prelude.{ℕ, ◌+◌, ◌||◌, ◌&&◌, nat_lt, nat_le, Bool, false, List, [], ◌∷◌, ◌++◌, length, map, is_some, codes, if◌then◌else◌}
-use Rattle.std.specs.List.{list_all}
-use Rattle.std.specs.Option.{option_map_or}
-use Rattle.std.specs.Str.{bytes_eq}
-use Rattle.serde_json.specs.Data.{Data, string, array}
-use Rattle.serde_json.specs.Find.{get}
-use Rattle.msg_files.specs.Json.{Text, list_of, elements, keys, value_at, is_object, is_list, is_number, whole, natural, number_below, number_up_to}
-use Rattle.msg_files.specs.Check.{Check, needs}
-use Rattle.msg_files.specs.Cursors.{made_by}
-use Rattle.msg_files.specs.Denotes.{call_of}
-use Rattle.msg_files.specs.declared.refusal.Refusal.TheVariants.{Shape, UnknownKey, BadNumber, TooMany}
+use Rattle.std.specs.{List.list_all, Option.option_map_or, Str.bytes_eq}
+use Rattle.serde_json.specs.{Data.Data, Data.string, Data.array, Find.get}
+use Rattle.msg_files.specs.{Json.Text, Json.list_of, Json.elements, Json.keys, Json.value_at, Json.is_object, Json.is_list, Json.is_number, Json.whole, Json.natural, Json.number_below, Json.number_up_to, Check.Check, Check.needs, Cursors.made_by, Denotes.call_of, declared.refusal.Refusal.TheVariants.Shape, declared.refusal.Refusal.TheVariants.UnknownKey, declared.refusal.Refusal.TheVariants.BadNumber, declared.refusal.Refusal.TheVariants.TooMany}
 
 -- ---- objects
 

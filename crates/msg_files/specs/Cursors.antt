@@ -1,7 +1,6 @@
 -- A calls file: a limit, and calls whose cursors exist.
 use Rattle.std.specs.Prelude.{ℕ, ◌+◌, ◌&&◌, nat_lt, Bool, true, List, [], ◌∷◌}
-use Rattle.msg_files.specs.declared.call.Call.{Call}
-use Rattle.msg_files.specs.declared.call.Call.TheVariants.{Read, Missed, Len, Clear, Cursor, CursorCurrent}
+use Rattle.msg_files.specs.{declared.call.Call.Call, declared.call.Call.TheVariants.Read, declared.call.Call.TheVariants.Missed, declared.call.Call.TheVariants.Len, declared.call.Call.TheVariants.Clear, declared.call.Call.TheVariants.Cursor, declared.call.Call.TheVariants.CursorCurrent}
 
 -- a buffer's limit, and the calls to be made on it
 pub record CallsFile : Type 0 where

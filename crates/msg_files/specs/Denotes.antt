@@ -2,10 +2,7 @@
 use Rattle.std.specs.Prelude.{ℕ, ℤ, List, [], ◌∷◌, map, Option, Some, None, option_map, option_and_then, codes, if◌then◌else◌}
 use Rattle.std.specs.Str.{bytes_eq}
 use Rattle.serde_json.specs.Data.{Data, string, array}
-use Rattle.msg_files.specs.Json.{Text, list_of, elements, value_at, whole, natural, all_some}
-use Rattle.msg_files.specs.Cursors.{CallsFile}
-use Rattle.msg_files.specs.declared.call.Call.{Call}
-use Rattle.msg_files.specs.declared.call.Call.TheVariants.{Write, Batch, Update, Read, Missed, Len, Clear, Cursor, CursorCurrent, Get, Current, Oldest, Count, Total, Drain, ClearAll}
+use Rattle.msg_files.specs.{Json.Text, Json.list_of, Json.elements, Json.value_at, Json.whole, Json.natural, Json.all_some, Cursors.CallsFile, declared.call.Call.Call, declared.call.Call.TheVariants.Write, declared.call.Call.TheVariants.Batch, declared.call.Call.TheVariants.Update, declared.call.Call.TheVariants.Read, declared.call.Call.TheVariants.Missed, declared.call.Call.TheVariants.Len, declared.call.Call.TheVariants.Clear, declared.call.Call.TheVariants.Cursor, declared.call.Call.TheVariants.CursorCurrent, declared.call.Call.TheVariants.Get, declared.call.Call.TheVariants.Current, declared.call.Call.TheVariants.Oldest, declared.call.Call.TheVariants.Count, declared.call.Call.TheVariants.Total, declared.call.Call.TheVariants.Drain, declared.call.Call.TheVariants.ClearAll}
 
 -- a head alone
 abbrev pub bare_call : Text → Option Call

@@ -1,8 +1,6 @@
 -- Words on JSON values.
 use Rattle.std.specs.Prelude.{◌≡◌, IsUtf8, ℕ, ◌+◌, ℤ, pos, negsuc, nat_lt, Bool, List, [], ◌∷◌, Option, Some, None, is_some, option_map, option_and_then, unwrap_or, if◌then◌else◌}
-use Rattle.serde_json.specs.Data.{Data, null, Items, no_items, item, Members, no_members, member}
-use Rattle.serde_json.specs.Read.{read}
-use Rattle.serde_json.specs.Find.{get, as_number, as_array, as_object, as_i64}
+use Rattle.serde_json.specs.{Data.Data, Data.null, Data.Items, Data.no_items, Data.item, Data.Members, Data.no_members, Data.member, Read.read, Find.get, Find.as_number, Find.as_array, Find.as_object, Find.as_i64}
 
 -- a text, as its bytes
 abbrev pub Text : Type 0

@@ -1,10 +1,6 @@
 -- What the private functions of the reader promise: no public contract cites this file.
 use Rattle.std.specs.Prelude.{◌≡◌, ◌≢◌, ◌≤◌, ◌+◌, ℕ, true, List, Option, Some, None, Result, Ok, Err}
-use Rattle.msg_files.specs.Check.{Check, first_refusal}
-use Rattle.msg_files.specs.Cursors.{made_by, has_cursor}
-use Rattle.msg_files.specs.declared.call.Call.{Call}
-use Rattle.msg_files.specs.declared.refusal.Refusal.{Refusal}
-use Rattle.msg_files.specs.declared.refusal.Refusal.TheVariants.{NotJson, NoMemory}
+use Rattle.msg_files.specs.{Check.Check, Check.first_refusal, Cursors.made_by, Cursors.has_cursor, declared.call.Call.Call, declared.refusal.Refusal.Refusal, declared.refusal.Refusal.TheVariants.NotJson, declared.refusal.Refusal.TheVariants.NoMemory}
 
 -- the answer of what takes no memory: what is denoted, or else the refusal of the first check that
 -- fails

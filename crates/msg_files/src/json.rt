@@ -1,8 +1,7 @@
 // Objects of a JSON value.
 ghost use Rattle.std.specs.Prelude.{◌≡◌, ◌≢◌, None, Some, true, IfErr, MatchResult, OnOk, string_bytes};
 ghost use Rattle.std.specs.List.{list_all};
-ghost use Rattle.serde_json.specs.Find.{get};
-ghost use Rattle.serde_json.specs.View.{view};
+ghost use Rattle.serde_json.specs.{Find.get, View.view};
 ghost use Rattle.msg_files.specs.Prelude.{first_refusal, is_object, keys, object_checks};
 
 use crate::refusal::Refusal;

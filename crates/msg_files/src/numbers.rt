@@ -1,8 +1,7 @@
 // Numbers in a JSON value.
 ghost use Rattle.std.specs.Prelude.{◌≡◌, ◌≢◌, ◌<◌, [], Some, None, IfOk, IfErr, IsOk, MatchResult, map, option_and_then};
 ghost use Rattle.std.specs.List.{list_all};
-ghost use Rattle.serde_json.specs.Find.{as_number, as_i64};
-ghost use Rattle.serde_json.specs.View.{view, number_view};
+ghost use Rattle.serde_json.specs.{Find.as_number, Find.as_i64, View.view, View.number_view};
 ghost use Rattle.msg_files.specs.Prelude.{a_value, first_refusal, is_number, natural_of, only_below, whole};
 
 use crate::refusal::Refusal;

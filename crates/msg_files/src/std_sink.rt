@@ -1,6 +1,5 @@
 ghost use Rattle.std.specs.Prelude.{◌≡◌, ◌≤◌, ℕ, Result, IfOk, length};
-ghost use Rattle.std.specs.Io.KnownBytes.{WriteAppends};
-ghost use Rattle.std.specs.declared.io.Error.{Error};
+ghost use Rattle.std.specs.{Io.KnownBytes.WriteAppends, declared.io.Error.Error};
 ghost use Rattle.msg_files.specs.Sinks.{IsToldAs, failures_after};
 
 use crate::sink::{PutFault, Sink};

@@ -1,15 +1,10 @@
 -- What comes before the turns of a frame: systems join, types are updated, posts are written.
-use Rattle.std.proofs.Common.{◌≡◌, ℕ, ◌≤◌, ◌<◌, ℤ, List, arith}
-use Rattle.std.specs.Prelude.{IsTrue, IsFalse}
-use Rattle.std.proofs.lemmas.Bool.{cases_Bool}
-use Rattle.std.proofs.lemmas.Option.{unwrap_or-slice_get}
-use Rattle.std.proofs.lemmas.List.FromFn.{get_or-map-range_with_len}
+use Rattle.std.proofs.Common.{◌≡◌, ℕ, ◌≤◌, ◌<◌, ℤ, List, arith, IsTrue, IsFalse}
+use Rattle.std.proofs.lemmas.{Bool.cases_Bool, Option.unwrap_or-slice_get, List.FromFn.get_or-map-range_with_len, Bool.Decides.nat_tests}
 use Rattle.msg_buffer.specs.Prelude.{OnlyGrows, count}
 use Rattle.msg_world.specs.declared.record.Record.{Record}
 use Rattle.msg_frames.specs.Prelude.{SameSystems, State, before_turns, counts, has_begun, joined_member, place_of}
-use Rattle.msg_frames.proofs.HistoriesGrow.{WorldGoesOn, before_goes_on}
-use Rattle.msg_frames.proofs.SystemsStay.{before_keeps}
-use Rattle.std.proofs.lemmas.Bool.Decides.{nat_tests}
+use Rattle.msg_frames.proofs.{HistoriesGrow.WorldGoesOn, HistoriesGrow.before_goes_on, SystemsStay.before_keeps}
 
 -- ---- each member
 

@@ -1,13 +1,10 @@
 -- How entries add up in an account.
 use Rattle.std.proofs.Common.{◌≡◌, ℕ, ◌+◌, List, [], ◌∷◌, ◌++◌, length, map, None, arith}
-use Rattle.std.proofs.lemmas.List.{length-append}
-use Rattle.std.proofs.lemmas.List.FromFn.{length-range_with_len}
+use Rattle.std.proofs.lemmas.{List.length-append, List.FromFn.length-range_with_len, Bool.cases_Bool, Grind.flat_map-append}
 use Rattle.msg_buffer.specs.Prelude.{next_place, Tile}
 use Rattle.msg_system.specs.declared.reply.Took.{Took}
 use Rattle.msg_frames.specs.Prelude.{Entry, Fate, IsBalanced, Moment, Totals, cleared, entry_of_read, given, missed, numbers_of, with_entries}
 use Rattle.msg_frames.proofs.ReaderOverJob.{tile_of}
-use Rattle.std.proofs.lemmas.Bool.{cases_Bool}
-use Rattle.std.proofs.lemmas.Grind.{flat_map-append}
 
 -- what met a fate at these entries and at those
 more_of : (fate : Fate) (es fs : List Entry) → length (numbers_of fate (es ++ fs))

@@ -1,20 +1,14 @@
 -- What a reader goes past by an op, by a turn and by a job.
 use Rattle.std.proofs.Common.{◌≡◌, ℕ, zero, suc, ◌≤◌, List, [], ◌∷◌, ◌++◌, append_assoc, map, length, All, Option, None, Some, refl, ap, arith, cond, ◌==◌}
-use Rattle.std.proofs.lemmas.Bool.{cases_Bool}
-use Rattle.std.proofs.lemmas.List.{append-nil, length-append, length-map, map-append, map-id}
-use Rattle.std.proofs.lemmas.List.Elements.{All-append, All-cons, All-nil}
+use Rattle.std.proofs.lemmas.{Bool.cases_Bool, List.append-nil, List.length-append, List.length-map, List.map-append, List.map-id, List.Elements.All-append, List.Elements.All-cons, List.Elements.All-nil, Bool.Decides.eqb_tells, Simd.map-map}
 use Rattle.msg_buffer.specs.Prelude.{Fits, GoesOn, History, IsSound, Stretch, Tile, count, given, message_of, next_place, pass_over, read}
 use Rattle.msg_world.specs.declared.record.Record.{Record}
 use Rattle.msg_world.specs.Prelude.{WorldState}
-use Rattle.msg_system.specs.declared.op.Op.{Op}
-use Rattle.msg_system.specs.declared.op.Op.TheVariants.{Read, Clear, Forward, Sum}
-use Rattle.msg_system.specs.declared.reply.Reply.{Reply}
+use Rattle.msg_system.specs.{declared.op.Op.Op, declared.op.Op.TheVariants.Read, declared.op.Op.TheVariants.Clear, declared.op.Op.TheVariants.Forward, declared.op.Op.TheVariants.Sum, declared.reply.Reply.Reply}
 use Rattle.msg_system.specs.Prelude.{AfterProgram, Job, Meaning, after_at_most, after_job, after_op, next_op, one_more, ops_answered, took, turn, with_place}
 use Rattle.msg_system.proofs.Turns.{ops_answered-snoc}
 use Rattle.msg_frames.specs.Prelude.{Entry, GivesItsStretch, Moment, answers, entries_for, entry_for, entry_of_read, first_moments, job_moments, next_moments, outcome_entries, outcome_of, turn_moments}
 use Rattle.msg_frames.proofs.HistoriesGrow.{BufferLaws, counts_more, Grows, goes_further, grown, op_changes, stays}
-use Rattle.std.proofs.lemmas.Bool.Decides.{eqb_tells}
-use Rattle.std.proofs.lemmas.Simd.{map-map}
 
 -- a moment, as a tile of the buffers' laws
 abbrev pub tile_of : Moment → History Record × Stretch

@@ -1,18 +1,9 @@
 -- What a reader goes past over a run of frames.
-use Rattle.std.proofs.Common.{arith, ℕ, ◌<◌, List, [], ◌∷◌, ◌++◌, refl, sym, subst, ◌∙◌}
-use Rattle.std.specs.Prelude.{IsTrue}
+use Rattle.std.proofs.Common.{arith, ℕ, ◌<◌, List, [], ◌∷◌, ◌++◌, refl, sym, subst, ◌∙◌, IsTrue}
 use Rattle.msg_buffer.specs.Prelude.{GoesOn, History}
 use Rattle.msg_world.specs.declared.record.Record.{Record}
 use Rattle.msg_frames.specs.Prelude.{Frame, IsRun, IsServed, IsSoundState, Log, Moment, RunsAreComplete, State, answers_in, before_turns, found_at, found_totals, frame_in, has_begun, moments, place_of, systems_in, turns_moments, Totals}
-use Rattle.msg_frames.proofs.OneFateEach.{lies_between, meets_one_fate, missed_are_dropped}
-use Rattle.msg_frames.proofs.TilesGiveInOrder.{all_as_written, given_in_order, in_order_of}
-use Rattle.msg_frames.proofs.HistoriesGrow.{BufferLaws, goes_further, runs_go_on, stays}
-use Rattle.msg_frames.proofs.SystemsStay.{before_keeps, turns_keep}
-use Rattle.msg_frames.proofs.ReaderOverJob.{passes_nothing}
-use Rattle.msg_frames.proofs.EntriesAddUp.{tiles_add_up, with_entries-none}
-use Rattle.msg_frames.proofs.ReaderOverTurns.{Keeps, Reads, ReadsFrom, Tells, answers_among, no_moments, reads_further, tells_further, turns_read, turns_tell}
-use Rattle.msg_frames.proofs.BeforeTurns.{Prepares, before_rule, comes, prepares, stood, waits}
-use Rattle.msg_frames.proofs.StatesStaySound.{begun_alike, frame_sound, has_no_turn, prepared_sound}
+use Rattle.msg_frames.proofs.{OneFateEach.lies_between, OneFateEach.meets_one_fate, OneFateEach.missed_are_dropped, TilesGiveInOrder.all_as_written, TilesGiveInOrder.given_in_order, TilesGiveInOrder.in_order_of, HistoriesGrow.BufferLaws, HistoriesGrow.goes_further, HistoriesGrow.runs_go_on, HistoriesGrow.stays, SystemsStay.before_keeps, SystemsStay.turns_keep, ReaderOverJob.passes_nothing, EntriesAddUp.tiles_add_up, EntriesAddUp.with_entries-none, ReaderOverTurns.Keeps, ReaderOverTurns.Reads, ReaderOverTurns.ReadsFrom, ReaderOverTurns.Tells, ReaderOverTurns.answers_among, ReaderOverTurns.no_moments, ReaderOverTurns.reads_further, ReaderOverTurns.tells_further, ReaderOverTurns.turns_read, ReaderOverTurns.turns_tell, BeforeTurns.Prepares, BeforeTurns.before_rule, BeforeTurns.comes, BeforeTurns.prepares, BeforeTurns.stood, BeforeTurns.waits, StatesStaySound.begun_alike, StatesStaySound.frame_sound, StatesStaySound.has_no_turn, StatesStaySound.prepared_sound}
 
 -- a run of frames, as one frame and then the others, from the state that the frame leaves
 pub after_first : (frame : Frame) (frames : List Frame) (s : State) (log : Log) (logs : List Log) (u : State)

@@ -1,17 +1,12 @@
 -- What a reader goes past in the turns of systems, its own and those of others.
 use Rattle.std.proofs.Common.{◌≡◌, ℕ, ◌≤◌, List, [], ◌∷◌, ◌++◌, map, Contains, flat_map, cond, append_assoc, refl, sym, arith, inl, inr, ◌==◌}
-use Rattle.std.proofs.lemmas.Bool.{cases_eq, eq-eqb, ne_eqb}
-use Rattle.std.proofs.lemmas.List.{map-append}
+use Rattle.std.proofs.lemmas.{Bool.cases_eq, Bool.eq-eqb, Bool.ne_eqb, List.map-append, Bool.Decides.eqb_tells}
 use Rattle.msg_buffer.specs.Prelude.{IsSound, count, History}
 use Rattle.msg_system.specs.declared.reply.Reply.{Reply}
 use Rattle.msg_system.specs.Prelude.{Needs, Rule}
 use Rattle.msg_frames.specs.Prelude.{Member, Moment, SameSystems, State, Turn, after_turn_of, after_turns_of, answers, entries_told, job_moments, logged_turn, place_of, turn_of, turns_moments, with_entries, Totals}
 use Rattle.msg_order.proofs.Elements.{Contains-tail, Contains-head}
-use Rattle.msg_frames.proofs.HistoriesGrow.{BufferLaws, Grows, grown, job_changes, stays}
-use Rattle.msg_frames.proofs.SystemsStay.{one_turn_keeps}
-use Rattle.msg_frames.proofs.ReaderOverJob.{Passes, job_logged, job_passes, job_rule, passes_further, passes_nothing}
-use Rattle.msg_frames.proofs.EntriesAddUp.{with_entries-append, with_entries-none}
-use Rattle.std.proofs.lemmas.Bool.Decides.{eqb_tells}
+use Rattle.msg_frames.proofs.{HistoriesGrow.BufferLaws, HistoriesGrow.Grows, HistoriesGrow.grown, HistoriesGrow.job_changes, HistoriesGrow.stays, SystemsStay.one_turn_keeps, ReaderOverJob.Passes, ReaderOverJob.job_logged, ReaderOverJob.job_passes, ReaderOverJob.job_rule, ReaderOverJob.passes_further, ReaderOverJob.passes_nothing, EntriesAddUp.with_entries-append, EntriesAddUp.with_entries-none}
 use Rattle.msg_world.specs.declared.record.Record.{Record}
 
 -- Reader (i, t), which was given so much, goes past these moments from a place in a history on, up to a state.

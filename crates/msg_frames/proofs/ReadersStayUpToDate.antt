@@ -1,24 +1,11 @@
 -- A reader that reads all in each frame is up to date, and so it misses nothing.
-use Rattle.std.proofs.Common.{◌≡◌, ℕ, suc, ◌<◌, ◌≤◌, List, [], ◌∷◌, ◌++◌, map, All, Contains, refl, sym, ◌∙◌, arith, inl, inr, get_or}
-use Rattle.std.specs.Prelude.{IsTrue}
-use Rattle.std.proofs.lemmas.Bool.{cases_Bool, cases_eq, false≢true}
-use Rattle.std.proofs.lemmas.Option.{same_Some, slice_get_cases, slice_get_within}
-use Rattle.std.proofs.lemmas.List.Elements.{All-append, All-cons, All-head, All-map, All-nil, All-tail}
+use Rattle.std.proofs.Common.{◌≡◌, ℕ, suc, ◌<◌, ◌≤◌, List, [], ◌∷◌, ◌++◌, map, All, Contains, refl, sym, ◌∙◌, arith, inl, inr, get_or, IsTrue}
+use Rattle.std.proofs.lemmas.{Bool.cases_Bool, Bool.cases_eq, Bool.false≢true, Option.same_Some, Option.slice_get_cases, Option.slice_get_within, List.Elements.All-append, List.Elements.All-cons, List.Elements.All-head, List.Elements.All-map, List.Elements.All-nil, List.Elements.All-tail, Bool.Decides.nat_tests}
 use Rattle.msg_buffer.specs.Prelude.{Fits, GoesOn, History, IsPresent, Stretch, Tile, count, next_place, update}
 use Rattle.msg_world.specs.declared.record.Record.{Record}
 use Rattle.msg_world.specs.Prelude.{WorldState, after_update}
-use Rattle.msg_frames.proofs.ElementsAndPairs.{Cut, cut}
+use Rattle.msg_frames.proofs.{ElementsAndPairs.Cut, ElementsAndPairs.cut, HistoriesGrow.BufferLaws, HistoriesGrow.counts_more, HistoriesGrow.Grows, HistoriesGrow.frame_goes_on, HistoriesGrow.grown, HistoriesGrow.posts_change, HistoriesGrow.runs_go_on, HistoriesGrow.turns_change, SystemsStay.joining_world, SystemsStay.turns_keep, SystemsStay.frame_keeps, ReaderOverJob.IsWritten, ReaderOverJob.tile_of, ReaderOverTurns.turns_read, BeforeTurns.Prepares, BeforeTurns.prepares, StatesStaySound.begun_alike, StatesStaySound.frame_sound, StatesStaySound.has_no_turn, StatesStaySound.prepared_sound, ReaderOverRun.run_tells, StampsStayRecent.AreRecent, StampsStayRecent.StaysRecent, StampsStayRecent.earlier_recent, StampsStayRecent.stays_recent, StampsStayRecent.update_recent, StampsStayRecent.updated_recent, ReadersTakeAll.takes_by_turn}
 use Rattle.msg_frames.specs.Prelude.{Frame, IsFrame, IsRun, IsSoundState, IsUpToDate, Log, MissesNothing, Moment, NothingDrained, ReadsAll, ReadsAllInEach, State, WhoIsUpToDateMissesNothing, WhoReadsEachFrameMissesNothing, after_turns_of, before_turns, has_begun, joining, moments, place_of, systems_in, turns_moments}
-use Rattle.msg_frames.proofs.HistoriesGrow.{BufferLaws, counts_more, Grows, frame_goes_on, grown, posts_change, runs_go_on, turns_change}
-use Rattle.msg_frames.proofs.SystemsStay.{joining_world, turns_keep, frame_keeps}
-use Rattle.msg_frames.proofs.ReaderOverJob.{IsWritten, tile_of}
-use Rattle.msg_frames.proofs.ReaderOverTurns.{turns_read}
-use Rattle.msg_frames.proofs.BeforeTurns.{Prepares, prepares}
-use Rattle.msg_frames.proofs.StatesStaySound.{begun_alike, frame_sound, has_no_turn, prepared_sound}
-use Rattle.msg_frames.proofs.ReaderOverRun.{run_tells}
-use Rattle.msg_frames.proofs.StampsStayRecent.{AreRecent, StaysRecent, earlier_recent, stays_recent, update_recent, updated_recent}
-use Rattle.msg_frames.proofs.ReadersTakeAll.{takes_by_turn}
-use Rattle.std.proofs.lemmas.Bool.Decides.{nat_tests}
 
 -- ---- what is present
 

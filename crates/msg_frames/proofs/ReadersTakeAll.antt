@@ -1,20 +1,14 @@
 -- A reader whose turn reads all of a type goes past all that had been written by then.
-use Rattle.std.proofs.Common.{◌≡◌, ◌≢◌, ℕ, zero, suc, ◌≤◌, List, [], ◌∷◌, ◌++◌, All, Option, None, Some, refl, arith}
-use Rattle.std.specs.Prelude.{IsTrue}
+use Rattle.std.proofs.Common.{◌≡◌, ◌≢◌, ℕ, zero, suc, ◌≤◌, List, [], ◌∷◌, ◌++◌, All, Option, None, Some, refl, arith, IsTrue}
 use Rattle.std.specs.List.{list_any}
-use Rattle.std.proofs.lemmas.Bool.{cases_Bool, false≢true, or_cases}
-use Rattle.std.proofs.lemmas.List.Folds.{list_any-append}
+use Rattle.std.proofs.lemmas.{Bool.cases_Bool, Bool.false≢true, Bool.or_cases, List.Folds.list_any-append, Bool.Decides.eqb_tells}
 use Rattle.msg_buffer.specs.Prelude.{IsSound, count}
 use Rattle.msg_world.specs.Prelude.{WorldState}
 use Rattle.msg_system.specs.declared.op.Op.{Op}
 use Rattle.msg_system.specs.Prelude.{AfterProgram, Meaning, after_at_most, after_op, next_op, one_more, ops_answered, turn}
 use Rattle.msg_system.proofs.Turns.{ops_answered-snoc}
 use Rattle.msg_frames.specs.Prelude.{Skipped, State, after_turn_of, after_turns_of, logged_turn, next_moments, place_of, reads_all}
-use Rattle.msg_frames.proofs.HistoriesGrow.{BufferLaws, counts_more}
-use Rattle.msg_frames.proofs.OneFateEach.{tiles_rise}
-use Rattle.msg_frames.proofs.ReaderOverJob.{first_passes, next_passes}
-use Rattle.msg_frames.proofs.ReaderOverTurns.{one_member, turn_reads}
-use Rattle.std.proofs.lemmas.Bool.Decides.{eqb_tells}
+use Rattle.msg_frames.proofs.{HistoriesGrow.BufferLaws, HistoriesGrow.counts_more, OneFateEach.tiles_rise, ReaderOverJob.first_passes, ReaderOverJob.next_passes, ReaderOverTurns.one_member, ReaderOverTurns.turn_reads}
 
 -- ---- a turn that reads all
 

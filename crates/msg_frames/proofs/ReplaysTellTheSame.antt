@@ -1,18 +1,11 @@
 -- A replay tells of each system what the frame tells of it.
-use Rattle.std.proofs.Common.{arith, ◌≡◌, ◌≢◌, ℕ, ◌==◌, inl, inr, List, [], ◌∷◌, ◌++◌, map, refl, ap, sym, ◌∙◌, Bool, false, suc, ne_eqb, ap₂}
-use Rattle.std.specs.Prelude.{AllPairs, Contains, IsPermutation, flat_map, if◌then◌else◌, All}
-use Rattle.std.proofs.lemmas.Bool.{cases_Bool, eqb-true}
-use Rattle.std.proofs.lemmas.Bool.Decides.{eqb_tells}
-use Rattle.std.proofs.lemmas.List.{append-nil, get_or-map, length-map}
-use Rattle.std.proofs.lemmas.List.Sorted.{Contains-permutation, list_any-IsPermutation}
+use Rattle.std.proofs.Common.{arith, ◌≡◌, ◌≢◌, ℕ, ◌==◌, inl, inr, List, [], ◌∷◌, ◌++◌, map, refl, ap, sym, ◌∙◌, Bool, false, suc, ne_eqb, ap₂, AllPairs, Contains, IsPermutation, flat_map, if◌then◌else◌, All}
+use Rattle.std.proofs.lemmas.{Bool.cases_Bool, Bool.eqb-true, Bool.Decides.eqb_tells, List.append-nil, List.get_or-map, List.length-map, List.Sorted.Contains-permutation, List.Sorted.list_any-IsPermutation, List.Folds.list_any_none}
 use Rattle.msg_order.specs.Prelude.{TurnOrderIsLawful}
 use Rattle.msg_frames.specs.Prelude.{Frame, IsMixedRun, IsReplay, IsRun, Log, ReplaysTellACompleteRun, ReplaysTellTheSame, RunsAreComplete, State, Turn, answers, answers_in, before_turns, join_flags, systems_in}
-use Rattle.msg_frames.proofs.ElementsAndPairs.{pairs_tail}
+use Rattle.msg_frames.proofs.{ElementsAndPairs.pairs_tail, RunsAreUnique.order_is_among, ReaderOverTurns.answers_among}
 use Rattle.msg_order.proofs.Elements.{Contains-cases, not_in_none, Contains-list_any}
-use Rattle.msg_frames.proofs.RunsAreUnique.{order_is_among}
 use Rattle.std.specs.List.{list_any}
-use Rattle.std.proofs.lemmas.List.Folds.{list_any_none}
-use Rattle.msg_frames.proofs.ReaderOverTurns.{answers_among}
 
 -- ---- what is told under one key, in a list in which each key stands once
 

@@ -1,26 +1,17 @@
 -- Each worked run is a run as the definitions say: the order of its turns is the settled one. The accesses, the settled
 -- order and the batch numbers are computed.
-use Rattle.std.proofs.Common.{◌≡◌, ℕ, zero, suc, ◌*◌, ◌^◌, ◌%◌, ◌<◌, ◌≤◌, Bool, true, false, cond, ◌&&◌, All, List, [], ◌∷◌, Option, Some, None, map, refl, ◌∙◌, arith}
-use Rattle.std.specs.Prelude.{nat_lt, bit_or, slice_index_or}
+use Rattle.std.proofs.Common.{◌≡◌, ℕ, zero, suc, ◌*◌, ◌^◌, ◌%◌, ◌<◌, ◌≤◌, Bool, true, false, cond, ◌&&◌, All, List, [], ◌∷◌, Option, Some, None, map, refl, ◌∙◌, arith, nat_lt, bit_or, slice_index_or}
 use Rattle.std.specs.List.{range_with_len, list_all, list_any}
-use Rattle.std.proofs.lemmas.Bool.{cases_Bool, cases_lt, and_parts, false≢true}
-use Rattle.std.proofs.lemmas.List.{get_or_past}
-use Rattle.std.proofs.lemmas.List.FromFn.{get_or-map-range_with_len, length-map-range_with_len}
-use Rattle.std.proofs.lemmas.List.Sums.{AllPass-from_list_all}
+use Rattle.std.proofs.lemmas.{Bool.cases_Bool, Bool.cases_lt, Bool.and_parts, Bool.false≢true, List.get_or_past, List.FromFn.get_or-map-range_with_len, List.FromFn.length-map-range_with_len, List.Sums.AllPass-from_list_all, Bool.Decides.eqb_tells, Bool.Decides.nat_tests}
 use Rattle.msg_world.specs.declared.access.Access.{Access}
 use Rattle.msg_world.specs.Prelude.{Part, OfType, OfResource, Registry, has_bit, no_access, Fits}
 use Rattle.msg_world.proofs.Bits.{has_bit-zero, has_bit-set}
 use Rattle.msg_order.specs.Prelude.{access_of}
 use Rattle.msg_order.proofs.Computing.{each_below, is_turn_order, in_turn_by_test}
-use Rattle.msg_system.specs.declared.op.Op.{Op}
-use Rattle.msg_system.specs.declared.condition.Condition.{Condition}
-use Rattle.msg_system.specs.declared.op.Op.TheVariants.{Read}
-use Rattle.msg_system.specs.declared.program.Program.{Program}
+use Rattle.msg_system.specs.{declared.op.Op.Op, declared.condition.Condition.Condition, declared.op.Op.TheVariants.Read, declared.program.Program.Program}
 use Rattle.msg_system.specs.Prelude.{IsAccessOf, Needs, conditions_of, is_part, job_needs, op_parts, probe_part, program_needs, turn}
 use Rattle.msg_frames.specs.Prelude.{AfterFrame, Frame, IsRunOf, IsTurnOrderOf, OrderedFrames, Setup, State, alone, before_turns, conditions_frames, contrary, contrary_frames, drained, drained_frames, early_frames, echo, echo_frames, fourth, fourth_frames, frame_in, gated, gated_frames, join_flags, lag, lag_frames, late, late_frames, needs_of, nobody, numbered, program, relay, relay_frames, signallers, signallers_frames, start_of, tally, tally_frames, two_conditions, writers, writers_frames}
-use Rattle.msg_frames.proofs.SystemsStay.{before_keeps, frame_keeps, joining_on_keeps}
-use Rattle.msg_frames.proofs.FramesInOrder.{frame_in_order}
-use Rattle.std.proofs.lemmas.Bool.Decides.{eqb_tells, nat_tests}
+use Rattle.msg_frames.proofs.{SystemsStay.before_keeps, SystemsStay.frame_keeps, SystemsStay.joining_on_keeps, FramesInOrder.frame_in_order}
 
 -- ---- accesses, computed
 

@@ -2,9 +2,7 @@
 use Rattle.std.proofs.Common.{[], ◌∷◌, refl}
 use Rattle.msg_order.specs.Prelude.{SettledOrderExists, SettlingMakesNoCycle, TurnOrderExists}
 use Rattle.msg_frames.specs.Prelude.{FramesExist, IsOrderOf, IsTurnOrderOf, RunsExist, SameSystems, State, before_turns, frame_in, join_flags, systems_in}
-use Rattle.msg_frames.proofs.FramesInOrder.{frame_in_order}
-use Rattle.msg_frames.proofs.SystemsStay.{accesses_stay, before_keeps, frame_keeps, no_cycle_stays}
-use Rattle.msg_frames.proofs.RunsAreUnique.{order_has_no_cycle, order_is_among}
+use Rattle.msg_frames.proofs.{FramesInOrder.frame_in_order, SystemsStay.accesses_stay, SystemsStay.before_keeps, SystemsStay.frame_keeps, SystemsStay.no_cycle_stays, RunsAreUnique.order_has_no_cycle, RunsAreUnique.order_is_among}
 
 module _ (settled : SettledOrderExists) (acyclic : SettlingMakesNoCycle) (turns : TurnOrderExists) where
   pub some_frame : FramesExist

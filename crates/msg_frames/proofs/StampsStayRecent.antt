@@ -1,12 +1,10 @@
 -- Where the messages from a number on have recent stamps, ops, turns and posts keep it so.
 use Rattle.std.proofs.Common.{◌≡◌, ℕ, zero, suc, ◌+◌, ◌≤◌, ◌⊎◌, List, [], ◌∷◌, ◌++◌, Some, arith, inl, inr, slice_get}
-use Rattle.std.proofs.lemmas.Bool.{cases_Bool}
-use Rattle.std.proofs.lemmas.Option.{none-some, same_Some, get_or_from_slice_get, slice_get-get_or, slice_get_within}
+use Rattle.std.proofs.lemmas.{Bool.cases_Bool, Option.none-some, Option.same_Some, Option.get_or_from_slice_get, Option.slice_get-get_or, Option.slice_get_within, List.get_or_append_left, List.length-append}
 use Rattle.msg_buffer.specs.Prelude.{Entry, History, stamped, update, GoesOn}
 use Rattle.msg_world.specs.declared.record.Record.{Record}
 use Rattle.msg_world.specs.Prelude.{WorldState, after_update}
 use Rattle.msg_frames.proofs.HistoriesGrow.{IsKept}
-use Rattle.std.proofs.lemmas.List.{get_or_append_left, length-append}
 
 -- the messages from number p on were written at most k updates ago
 abbrev pub AreRecent : ℕ → ℕ → History Record → Type 0

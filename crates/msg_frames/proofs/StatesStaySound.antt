@@ -1,14 +1,8 @@
 -- Frames keep states sound.
-use Rattle.std.proofs.Common.{◌≡◌, ℕ, ◌<◌, max, List, [], ◌∷◌, Contains, refl, sym, ap₂, ◌∙◌, arith}
-use Rattle.std.specs.Prelude.{IsFalse, nat_le}
-use Rattle.std.proofs.lemmas.Bool.{false≢true}
-use Rattle.std.proofs.lemmas.List.FromFn.{get_or-map-range_with_len}
+use Rattle.std.proofs.Common.{◌≡◌, ℕ, ◌<◌, max, List, [], ◌∷◌, Contains, refl, sym, ap₂, ◌∙◌, arith, IsFalse, nat_le}
+use Rattle.std.proofs.lemmas.{Bool.false≢true, List.FromFn.get_or-map-range_with_len}
 use Rattle.msg_frames.specs.Prelude.{Frame, IsBalanced, IsFrame, IsRun, IsSoundState, IsTurnOrderOf, Log, Member, State, after_turns_of, before_turns, counts, has_begun, joined_member, systems_in, turns_moments}
-use Rattle.msg_frames.proofs.HistoriesGrow.{BufferLaws, counts_more}
-use Rattle.msg_frames.proofs.SystemsStay.{turns_keep, joined_below}
-use Rattle.msg_frames.proofs.EntriesAddUp.{stays_balanced}
-use Rattle.msg_frames.proofs.ReaderOverTurns.{Keeps, Reads, turns_read, turns_skip}
-use Rattle.msg_frames.proofs.BeforeTurns.{Prepares, begun_within, comes, prepares, stood, waits}
+use Rattle.msg_frames.proofs.{HistoriesGrow.BufferLaws, HistoriesGrow.counts_more, SystemsStay.turns_keep, SystemsStay.joined_below, EntriesAddUp.stays_balanced, ReaderOverTurns.Keeps, ReaderOverTurns.Reads, ReaderOverTurns.turns_read, ReaderOverTurns.turns_skip, BeforeTurns.Prepares, BeforeTurns.begun_within, BeforeTurns.comes, BeforeTurns.prepares, BeforeTurns.stood, BeforeTurns.waits}
 
 -- ---- who has a turn
 

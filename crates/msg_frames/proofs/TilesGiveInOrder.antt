@@ -1,17 +1,11 @@
 -- What tiles give: messages in order of writing.
-use Rattle.std.proofs.Common.{◌≡◌, ℕ, zero, suc, ◌+◌, ◌≤◌, ◌<◌, List, [], ◌∷◌, ◌++◌, map, length, take, drop, Bool, cond, Option, Some, None, is_some, option_map, IfSome, unwrap_or, filter, refl, ap, arith, slice_get, get_or, All}
-use Rattle.std.specs.Prelude.{false, ◌==◌}
-use Rattle.std.specs.List.{range_with_len, enumerate_from}
-use Rattle.std.specs.List.Sorted.{IsStrictlyIncreasing}
-use Rattle.std.proofs.lemmas.Bool.{cases_Bool}
-use Rattle.std.proofs.lemmas.List.{drop-append-le, drop-map, drop_more, length-append, length-drop, map-append, take-append-le, take-map}
-use Rattle.std.proofs.lemmas.Option.{slice_get-get_or}
+use Rattle.std.proofs.Common.{◌≡◌, ℕ, zero, suc, ◌+◌, ◌≤◌, ◌<◌, List, [], ◌∷◌, ◌++◌, map, length, take, drop, Bool, cond, Option, Some, None, is_some, option_map, IfSome, unwrap_or, filter, refl, ap, arith, slice_get, get_or, All, false, ◌==◌}
+use Rattle.std.specs.{List.range_with_len, List.enumerate_from, List.Sorted.IsStrictlyIncreasing}
+use Rattle.std.proofs.lemmas.{Bool.cases_Bool, List.drop-append-le, List.drop-map, List.drop_more, List.length-append, List.length-drop, List.map-append, List.take-append-le, List.take-map, Option.slice_get-get_or, List.Kept.IsStrictlyIncreasing-filter}
 use Rattle.msg_buffer.specs.Prelude.{Entry as Written, GoesOn, History, Stretch, Tile, count, instance_of, message_of, next_place}
 use Rattle.msg_world.specs.declared.record.Record.{Record}
 use Rattle.msg_frames.specs.Prelude.{GivesItsStretch, IsInOrderOf, Moment, given, is_by, message_numbered, messages_given, messages_of, numbers_of}
-use Rattle.msg_frames.proofs.OneFateEach.{entries_of}
-use Rattle.msg_frames.proofs.ReaderOverJob.{IsWritten, tile_of}
-use Rattle.std.proofs.lemmas.List.Kept.{IsStrictlyIncreasing-filter}
+use Rattle.msg_frames.proofs.{OneFateEach.entries_of, ReaderOverJob.IsWritten, ReaderOverJob.tile_of}
 
 -- ---- rising numbers
 

@@ -1,13 +1,11 @@
 -- Turns of systems whose accesses don't conflict can be swapped.
-use Rattle.std.proofs.Common.{arith, ◌≡◌, ◌≢◌, ℕ, false, sym, ne_eqb}
-use Rattle.std.specs.Prelude.{IsTrue}
-use Rattle.std.proofs.lemmas.Bool.{and_from, cases_Bool}
+use Rattle.std.proofs.Common.{arith, ◌≡◌, ◌≢◌, ℕ, false, sym, ne_eqb, IsTrue}
+use Rattle.std.proofs.lemmas.{Bool.and_from, Bool.cases_Bool, Bool.Decides.eqb_tells}
 use Rattle.msg_world.specs.declared.access.Access.{Access}
 use Rattle.msg_world.specs.Prelude.{Conflict, OfResource, OfType, Part, Registry, WorldState, content}
 use Rattle.msg_system.specs.Prelude.{HasFootprint, IsAccessOf, JobFootprint, Needs, needs_any}
 use Rattle.msg_system.proofs.Accesses.{uses_needs}
 use Rattle.msg_frames.specs.Prelude.{AfterTurn, Member, Outcome, State, TurnsOfOthersCommute, after_turn_of, member_turn, needs_of, turn_of}
-use Rattle.std.proofs.lemmas.Bool.Decides.{eqb_tells}
 
 -- ---- worlds and states
 

@@ -1,12 +1,7 @@
 -- A run of frames with all that it comes to: for the lists of messages, and for each reader.
 use Rattle.std.specs.Prelude.{◌≡◌, ℕ, ◌<◌, List, if◌then◌else◌, IsTrue, ◌+◌, ◌≤◌, ◌==◌, Bool, false, All, Contains, [], length, map, filter, flat_map, Option, None, Some, option_map, unwrap_or, slice_get}
 use Rattle.msg_buffer.specs.Prelude.{GoesOn, History, IsPresent, count}
-use Rattle.msg_frames.specs.declared.frame.Frame.{Frame}
-use Rattle.msg_frames.specs.declared.log.Log.{Log}
-use Rattle.msg_frames.specs.declared.totals.Totals.{Totals}
-use Rattle.msg_frames.specs.Entries.{Entry, Fate, given, cleared, missed, numbers_at, numbers_of, totals_from, with_entries}
-use Rattle.msg_frames.specs.Frames.{IsRun, State, has_begun}
-use Rattle.msg_frames.specs.Tiling.{IsTiled, found_at, log_entries, moments, place_of, Moment}
+use Rattle.msg_frames.specs.{declared.frame.Frame.Frame, declared.log.Log.Log, declared.totals.Totals.Totals, Entries.Entry, Entries.Fate, Entries.given, Entries.cleared, Entries.missed, Entries.numbers_at, Entries.numbers_of, Entries.totals_from, Entries.with_entries, Frames.IsRun, Frames.State, Frames.has_begun, Tiling.IsTiled, Tiling.found_at, Tiling.log_entries, Tiling.moments, Tiling.place_of, Tiling.Moment}
 use Rattle.std.specs.List.Sorted.{IsStrictlyIncreasing}
 use Rattle.msg_world.specs.declared.record.Record.{Record}
 

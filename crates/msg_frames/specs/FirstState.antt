@@ -5,9 +5,7 @@ use Rattle.msg_order.specs.declared.rule.Rule.{Rule}
 use Rattle.msg_order.specs.Prelude.{Graph, rules_among}
 use Rattle.msg_system.specs.Prelude.{Job, Meaning, new_asked, new_system}
 use Rattle.msg_system.specs.declared.start.Start.TheVariants.{Zero}
-use Rattle.msg_frames.specs.declared.place.Place.{Place}
-use Rattle.msg_frames.specs.Entries.{no_totals}
-use Rattle.msg_frames.specs.Frames.{with_joining, Member, State}
+use Rattle.msg_frames.specs.{declared.place.Place.Place, Entries.no_totals, Frames.with_joining, Frames.Member, Frames.State}
 
 -- the default for a number that is no system's: no ops, writer 0
 abbrev pub nobody : Meaning

@@ -4,16 +4,7 @@ use Rattle.msg_buffer.specs.Prelude.{IsSound}
 use Rattle.msg_order.specs.declared.rule.Rule.{Rule}
 use Rattle.msg_world.specs.Prelude.{WorldState}
 use Rattle.msg_system.specs.Prelude.{Meaning}
-use Rattle.msg_frames.specs.declared.frame.Frame.{Frame}
-use Rattle.msg_frames.specs.declared.log.Log.{Log}
-use Rattle.msg_frames.specs.declared.place.Place.{Place}
-use Rattle.msg_frames.specs.Entries.{no_totals}
-use Rattle.msg_frames.specs.Frames.{IsFrame, IsRun, State, has_begun}
-use Rattle.msg_frames.specs.FirstState.{IsNew, first_state, nobody}
-use Rattle.msg_frames.specs.Replays.{IsMixedRun, IsReplay, TellsACompleteRun}
-use Rattle.msg_frames.specs.Soundness.{IsBalanced, IsSoundState}
-use Rattle.msg_frames.specs.CompleteRun.{IsCompleteRun}
-use Rattle.msg_frames.specs.Tiling.{answers_in, place_of}
+use Rattle.msg_frames.specs.{declared.frame.Frame.Frame, declared.log.Log.Log, declared.place.Place.Place, Entries.no_totals, Frames.IsFrame, Frames.IsRun, Frames.State, Frames.has_begun, FirstState.IsNew, FirstState.first_state, FirstState.nobody, Replays.IsMixedRun, Replays.IsReplay, Replays.TellsACompleteRun, Soundness.IsBalanced, Soundness.IsSoundState, CompleteRun.IsCompleteRun, Tiling.answers_in, Tiling.place_of}
 
 -- ---- soundness
 

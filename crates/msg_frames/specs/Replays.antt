@@ -1,11 +1,7 @@
 -- A frame in another order than the settled one.
 use Rattle.std.specs.Prelude.{◌≡◌, ◌⊎◌, ℕ, List, [], ◌∷◌, IsPermutation}
 use Rattle.msg_order.specs.Prelude.{Graph, IsLawfulOrder}
-use Rattle.msg_frames.specs.declared.frame.Frame.{Frame}
-use Rattle.msg_frames.specs.declared.log.Log.{Log}
-use Rattle.msg_frames.specs.Frames.{IsFrame, IsOrderOf, before_turns, systems_in, State, join_flags}
-use Rattle.msg_frames.specs.CompleteRun.{IsCompleteRun}
-use Rattle.msg_frames.specs.Tiling.{answers_in}
+use Rattle.msg_frames.specs.{declared.frame.Frame.Frame, declared.log.Log.Log, Frames.IsFrame, Frames.IsOrderOf, Frames.before_turns, Frames.systems_in, Frames.State, Frames.join_flags, CompleteRun.IsCompleteRun, Tiling.answers_in}
 
 -- The order is lawful for a frame on the state s: it has all that will have joined, each once, and
 -- keeps their settled order.

@@ -2,28 +2,13 @@
 -- computation. Of each of them it is proved that it is a run (`IsRunOf`), since its turns are in
 -- the settled order.
 use Rattle.std.specs.Prelude.{◌≡◌, ℕ, suc, ℤ, pos, negsuc, List, [], ◌∷◌, ◌++◌, map, Some, None, refl}
-use Rattle.msg_world.specs.declared.record.Record.{Record}
+use Rattle.msg_world.specs.{declared.record.Record.Record, declared.record.TheConstants.HOST}
 use Rattle.msg_order.specs.declared.rule.Rule.{Rule}
 use Rattle.msg_world.specs.Prelude.{WorldState, by, held_world, new_world}
-use Rattle.msg_system.specs.declared.condition.Condition.{Condition}
-use Rattle.msg_system.specs.declared.condition.Probe.TheVariants.{OnMessage, ResourceEquals}
-use Rattle.msg_system.specs.declared.op.Op.{Op}
-use Rattle.msg_system.specs.declared.op.Op.TheVariants.{Write, Batch, Read, Len, Missed, Forward, Sum, Set, Add, Drain, Signal}
-use Rattle.msg_system.specs.declared.program.Program.{Program}
-use Rattle.msg_system.specs.declared.reply.Reply.{Reply}
+use Rattle.msg_system.specs.{declared.condition.Condition.Condition, declared.condition.Probe.TheVariants.OnMessage, declared.condition.Probe.TheVariants.ResourceEquals, declared.op.Op.Op, declared.op.Op.TheVariants.Write, declared.op.Op.TheVariants.Batch, declared.op.Op.TheVariants.Read, declared.op.Op.TheVariants.Len, declared.op.Op.TheVariants.Missed, declared.op.Op.TheVariants.Forward, declared.op.Op.TheVariants.Sum, declared.op.Op.TheVariants.Set, declared.op.Op.TheVariants.Add, declared.op.Op.TheVariants.Drain, declared.op.Op.TheVariants.Signal, declared.program.Program.Program, declared.reply.Reply.Reply, declared.reply.Took.Took, declared.start.Start.TheVariants.Zero, declared.start.Start.TheVariants.Current}
 use Rattle.msg_system.specs.declared.reply.Reply.TheVariants as reply
-use Rattle.msg_system.specs.declared.reply.Took.{Took}
-use Rattle.msg_system.specs.declared.start.Start.TheVariants.{Zero, Current}
 use Rattle.msg_system.specs.Prelude.{Meaning, new_system, turn}
-use Rattle.msg_world.specs.declared.record.TheConstants.{HOST}
-use Rattle.msg_frames.specs.declared.log.Log.{Log}
-use Rattle.msg_frames.specs.declared.log.Outcome.TheVariants.{Skipped, Ran}
-use Rattle.msg_frames.specs.declared.log.Turn.{Turn}
-use Rattle.msg_frames.specs.declared.place.Place.{Place}
-use Rattle.msg_frames.specs.declared.totals.Totals.{Totals}
-use Rattle.msg_frames.specs.Entries.{no_totals}
-use Rattle.msg_frames.specs.Frames.{AfterFrame, IsRun, frame_in, State}
-use Rattle.msg_frames.specs.FirstState.{first_state}
+use Rattle.msg_frames.specs.{declared.log.Log.Log, declared.log.Outcome.TheVariants.Skipped, declared.log.Outcome.TheVariants.Ran, declared.log.Turn.Turn, declared.place.Place.Place, declared.totals.Totals.Totals, Entries.no_totals, Frames.AfterFrame, Frames.IsRun, Frames.frame_in, Frames.State, FirstState.first_state}
 
 -- ---- how the rows are written
 

@@ -1,10 +1,7 @@
 -- What holds of every state that frames make.
 use Rattle.std.specs.Prelude.{◌≡◌, ℕ, ◌+◌, ◌≤◌, ◌<◌, Some, IsTrue, IsFalse}
 use Rattle.msg_buffer.specs.Prelude.{IsSound, count}
-use Rattle.msg_frames.specs.Entries.{no_totals}
-use Rattle.msg_frames.specs.Frames.{State, has_begun}
-use Rattle.msg_frames.specs.Tiling.{place_of}
-use Rattle.msg_frames.specs.declared.totals.Totals.{Totals}
+use Rattle.msg_frames.specs.{Entries.no_totals, Frames.State, Frames.has_begun, Tiling.place_of, declared.totals.Totals.Totals}
 
 -- The account begins at a start, and all that the reader got, missed and cleared since leads to its
 -- place.

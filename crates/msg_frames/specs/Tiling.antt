@@ -3,13 +3,9 @@ use Rattle.std.specs.Prelude.{◌≡◌, ℕ, zero, suc, ◌==◌, Option, Some,
 use Rattle.msg_buffer.specs.Prelude.{History, Stretch, Tile, instances, message_of}
 use Rattle.msg_world.specs.declared.record.Record.{Record}
 use Rattle.msg_world.specs.Prelude.{WorldState}
-use Rattle.msg_system.specs.declared.op.Op.{Op}
+use Rattle.msg_system.specs.{declared.op.Op.Op, declared.reply.Reply.Reply}
 use Rattle.msg_system.specs.Prelude.{AfterProgram, Job, Meaning, after_at_most, after_op, all_hold, next_op}
-use Rattle.msg_system.specs.declared.reply.Reply.{Reply}
-use Rattle.msg_frames.specs.declared.frame.Frame.{Frame}
-use Rattle.msg_frames.specs.declared.log.Log.{Log}
-use Rattle.msg_frames.specs.Entries.{Entry, answers, entries_told, entry_for}
-use Rattle.msg_frames.specs.Frames.{after_turn_of, before_turns, frame_in, systems_in, State, has_begun}
+use Rattle.msg_frames.specs.{declared.frame.Frame.Frame, declared.log.Log.Log, Entries.Entry, Entries.answers, Entries.entries_told, Entries.entry_for, Frames.after_turn_of, Frames.before_turns, Frames.frame_in, Frames.systems_in, Frames.State, Frames.has_begun}
 
 -- ---- the entries that logs have
 

@@ -7,9 +7,7 @@ use Rattle.msg_world.specs.declared.access.Access.{Access}
 use Rattle.msg_world.specs.Prelude.{Conflict, merge}
 use Rattle.msg_order.specs.Prelude.{Graph, IsAcyclic, IsLawfulOrder, IsSettledOrder, NoneConflict, access_of, rules_among}
 use Rattle.msg_system.specs.Prelude.{conditions_of}
-use Rattle.msg_frames.specs.declared.frame.Frame.{Frame}
-use Rattle.msg_frames.specs.declared.log.Log.{Log}
-use Rattle.msg_frames.specs.Frames.{AfterTurns, AreAccessesOf, IsFrame, IsOrderOf, IsRun, after_turn_of, after_turns_of, before_turns, frame_in, joining, logged_turn, turn_of, with_joining, with_member, Member, State, join_flags}
+use Rattle.msg_frames.specs.{declared.frame.Frame.Frame, declared.log.Log.Log, Frames.AfterTurns, Frames.AreAccessesOf, Frames.IsFrame, Frames.IsOrderOf, Frames.IsRun, Frames.after_turn_of, Frames.after_turns_of, Frames.before_turns, Frames.frame_in, Frames.joining, Frames.logged_turn, Frames.turn_of, Frames.with_joining, Frames.with_member, Frames.Member, Frames.State, Frames.join_flags}
 
 -- ---- what stays
 

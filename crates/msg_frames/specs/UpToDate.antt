@@ -2,16 +2,9 @@
 use Rattle.std.specs.Prelude.{◌≡◌, ◌≢◌, ℕ, ◌<◌, ◌≤◌, ◌==◌, Bool, false, List, [], ◌∷◌, ◌++◌, Contains, All, None, IsTrue, length}
 use Rattle.std.specs.List.{list_any}
 use Rattle.msg_buffer.specs.Prelude.{IsPresent, count, update}
-use Rattle.msg_system.specs.declared.op.Op.{Op}
-use Rattle.msg_system.specs.declared.op.Op.TheVariants.{Read, Forward, Sum}
-use Rattle.msg_system.specs.declared.program.Program.{Program}
+use Rattle.msg_system.specs.{declared.op.Op.Op, declared.op.Op.TheVariants.Read, declared.op.Op.TheVariants.Forward, declared.op.Op.TheVariants.Sum, declared.program.Program.Program}
 use Rattle.msg_system.specs.Prelude.{of_program}
-use Rattle.msg_frames.specs.declared.frame.Frame.{Frame}
-use Rattle.msg_frames.specs.declared.log.Log.{Log}
-use Rattle.msg_frames.specs.declared.log.Outcome.TheVariants.{Skipped}
-use Rattle.msg_frames.specs.Frames.{IsFrame, IsRun, State, after_turns_of, before_turns, has_begun, systems_in}
-use Rattle.msg_frames.specs.Soundness.{IsSoundState}
-use Rattle.msg_frames.specs.Tiling.{log_entries, place_of}
+use Rattle.msg_frames.specs.{declared.frame.Frame.Frame, declared.log.Log.Log, declared.log.Outcome.TheVariants.Skipped, Frames.IsFrame, Frames.IsRun, Frames.State, Frames.after_turns_of, Frames.before_turns, Frames.has_begun, Frames.systems_in, Soundness.IsSoundState, Tiling.log_entries, Tiling.place_of}
 
 -- the op reads the type without limit
 abbrev pub reads_all : ℕ → Op → Bool

@@ -1,21 +1,10 @@
 -- Batches, level by level: what is left after m of them are the systems in which a chain of m edges ends.
-use Rattle.std.proofs.Common.{◌≡◌, ℕ, zero, suc, ◌+◌, ◌<◌, ◌⊎◌, inl, inr, Bool, true, false, not, cond, ◌&&◌, List, [], ◌∷◌, ◌++◌, length, ap, sym, arith, length-append}
-use Rattle.std.specs.Prelude.{◌↔◌, Contains, All, count_by, filter}
-use Rattle.std.proofs.lemmas.List.Sums.{length-filter, sum_by-cons}
-use Rattle.std.specs.List.{range_with_len}
-use Rattle.std.specs.List.Sorted.{IsStrictlyIncreasing}
-use Rattle.std.proofs.lemmas.Bool.{cases_Bool, cases_eq, cases_lt, false_from_ne_true}
-use Rattle.std.proofs.lemmas.List.{get_or_past, get_or_push, get_or_append_left}
-use Rattle.std.proofs.lemmas.List.Elements.{All-push}
-use Rattle.std.proofs.lemmas.List.Kept.{IsStrictlyIncreasing-filter}
-use Rattle.std.proofs.lemmas.List.FromFn.{length-range_with_len, get_or-range_with_len}
+use Rattle.std.proofs.Common.{◌≡◌, ℕ, zero, suc, ◌+◌, ◌<◌, ◌⊎◌, inl, inr, Bool, true, false, not, cond, ◌&&◌, List, [], ◌∷◌, ◌++◌, length, ap, sym, arith, length-append, ◌↔◌, Contains, All, count_by, filter}
+use Rattle.std.proofs.lemmas.{List.Sums.length-filter, List.Sums.sum_by-cons, Bool.cases_Bool, Bool.cases_eq, Bool.cases_lt, Bool.false_from_ne_true, List.get_or_past, List.get_or_push, List.get_or_append_left, List.Elements.All-push, List.Kept.IsStrictlyIncreasing-filter, List.FromFn.length-range_with_len, List.FromFn.get_or-range_with_len}
+use Rattle.std.specs.{List.range_with_len, List.Sorted.IsStrictlyIncreasing}
 use Rattle.msg_order.specs.Prelude.{AreBatches, Graph, IsAcyclic, IsBatchNumber, IsEdge, SystemSet, batch_at, has_joined}
-use Rattle.msg_order.specs.inner.Paths.{path, set_at, ArePaths}
-use Rattle.msg_order.specs.inner.SystemSet.{has, meets}
-use Rattle.msg_order.proofs.SystemSets.{meets-found, meets-true}
-use Rattle.msg_order.proofs.Elements.{not_in_none, filter-Contains, Contains-filter, Contains-range}
-use Rattle.msg_order.proofs.Chains.{Ends, ends_less, ends_at_most, ends_along, number_ends, ends_number}
-use Rattle.msg_order.proofs.PathTest.{edge_path, path_trans, to_Path, no_path}
+use Rattle.msg_order.specs.{inner.Paths.path, inner.Paths.set_at, inner.Paths.ArePaths, inner.SystemSet.has, inner.SystemSet.meets}
+use Rattle.msg_order.proofs.{SystemSets.meets-found, SystemSets.meets-true, Elements.not_in_none, Elements.filter-Contains, Elements.Contains-filter, Elements.Contains-range, Chains.Ends, Chains.ends_less, Chains.ends_at_most, Chains.ends_along, Chains.number_ends, Chains.ends_number, PathTest.edge_path, PathTest.path_trans, PathTest.to_Path, PathTest.no_path}
 
 -- the systems that are left after m levels
 abbrev pub AreLeft : Graph → (ℕ → Bool) → (ℕ → Bool) → ℕ → Type 0

@@ -1,17 +1,11 @@
 -- That there is a settled order, and a list of its batches, for all systems whose rules make no cycle.
-use Rattle.std.proofs.Common.{◌≡◌, ℕ, zero, suc, ◌<◌, ◌⊎◌, inl, inr, Bool, true, not, ◌&&◌, List, [], ◌∷◌, ◌++◌, length, refl, arith}
-use Rattle.std.specs.Prelude.{filter}
+use Rattle.std.proofs.Common.{◌≡◌, ℕ, zero, suc, ◌<◌, ◌⊎◌, inl, inr, Bool, true, not, ◌&&◌, List, [], ◌∷◌, ◌++◌, length, refl, arith, filter}
 use Rattle.std.specs.List.{concat, list_any, range_with_len}
 use Rattle.std.proofs.lemmas.Bool.{cases_eq, and_parts, and_from}
 use Rattle.msg_world.proofs.Conflicts.{decide_conflict}
 use Rattle.msg_order.specs.Prelude.{AreBatches, AreInConflict, BatchesExist, GainsEdge, Graph, IsAcyclic, RunsBefore, SettledOrderExists, Settles, TurnOrderExists, TurnOrderIsUnique, access_of, has_joined, pairs, rules_among}
 use Rattle.msg_order.specs.inner.Paths.{path}
-use Rattle.msg_order.proofs.SystemSets.{some_below, below_some}
-use Rattle.msg_order.proofs.PathTest.{no_Path, to_Path}
-use Rattle.msg_order.proofs.BatchLevels.{TellsBlocked, LeadAmong, ArePeeled, peeled_first, peeled_next, peeled_all, peeled_done, count_left, left_falls}
-use Rattle.msg_order.proofs.SetPaths.{joined_in}
-use Rattle.msg_order.proofs.TurnOrders.{in_turn_order}
-use Rattle.msg_order.proofs.Uniqueness.{same_ordered}
+use Rattle.msg_order.proofs.{SystemSets.some_below, SystemSets.below_some, PathTest.no_Path, PathTest.to_Path, BatchLevels.TellsBlocked, BatchLevels.LeadAmong, BatchLevels.ArePeeled, BatchLevels.peeled_first, BatchLevels.peeled_next, BatchLevels.peeled_all, BatchLevels.peeled_done, BatchLevels.count_left, BatchLevels.left_falls, SetPaths.joined_in, TurnOrders.in_turn_order, Uniqueness.same_ordered}
 
 -- either of the two
 abbrev Decided : Type 0 → Type 0

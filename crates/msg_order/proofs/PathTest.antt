@@ -1,12 +1,9 @@
 -- The test for a path, which grows edge by edge, says whether there is one.
-use Rattle.std.proofs.Common.{arith, ◌≡◌, ℕ, inl, inr, Bool, true, false, ◌&&◌, ◌||◌, List, [], ◌∷◌, ◌++◌, sym, ◌∙◌}
-use Rattle.std.specs.Prelude.{◌==◌}
-use Rattle.std.proofs.lemmas.Bool.Decides.{eqb_tells}
-use Rattle.std.proofs.lemmas.Bool.{eqb-true, or_cases, and_parts, false≢true, false_from_ne_true}
+use Rattle.std.proofs.Common.{arith, ◌≡◌, ℕ, inl, inr, Bool, true, false, ◌&&◌, ◌||◌, List, [], ◌∷◌, ◌++◌, sym, ◌∙◌, ◌==◌}
+use Rattle.std.proofs.lemmas.{Bool.Decides.eqb_tells, Bool.eqb-true, Bool.or_cases, Bool.and_parts, Bool.false≢true, Bool.false_from_ne_true}
 use Rattle.msg_order.specs.Prelude.{Graph, IsEdge, IsChain, Path}
 use Rattle.msg_order.specs.inner.Paths.{path}
-use Rattle.msg_order.proofs.Elements.{Contains-cases, Contains-head, Contains-tail, not_in_none}
-use Rattle.msg_order.proofs.Chains.{edge_is_path, paths_join, path_grows}
+use Rattle.msg_order.proofs.{Elements.Contains-cases, Elements.Contains-head, Elements.Contains-tail, Elements.not_in_none, Chains.edge_is_path, Chains.paths_join, Chains.path_grows}
 
 abbrev to : (ℕ × ℕ) → Graph → ℕ → Bool
 to e g a = a == e.0 || path g a e.0

@@ -1,17 +1,10 @@
 -- What callers see of a plan, by its sets.
-use Rattle.std.proofs.Common.{◌≡◌, ℕ, ◌<◌, ◌≤◌, inl, inr, Bool, true, false, List, length, map, sym, ◌∙◌, arith}
-use Rattle.std.specs.Prelude.{◌↔◌, Contains}
+use Rattle.std.proofs.Common.{◌≡◌, ℕ, ◌<◌, ◌≤◌, inl, inr, Bool, true, false, List, length, map, sym, ◌∙◌, arith, ◌↔◌, Contains}
 use Rattle.std.specs.List.{range_with_len}
-use Rattle.std.proofs.lemmas.Bool.{cases_lt, false≢true, false_from_ne_true}
-use Rattle.std.proofs.lemmas.List.{get_or_past}
-use Rattle.std.proofs.lemmas.List.FromFn.{fill_by_all, get_or-map-range_with_len, length-map-range_with_len}
+use Rattle.std.proofs.lemmas.{Bool.cases_lt, Bool.false≢true, Bool.false_from_ne_true, List.get_or_past, List.FromFn.fill_by_all, List.FromFn.get_or-map-range_with_len, List.FromFn.length-map-range_with_len}
 use Rattle.msg_order.specs.Prelude.{Graph, IsAmong, IsEdge, IsLawfulOrder, IsPlanOf, PlanView, Rule, SystemSet, has_joined}
-use Rattle.msg_order.specs.inner.SystemSet.{has}
-use Rattle.msg_order.specs.inner.Paths.{comes_before, ArePaths, AreKept, IsSetOf, square, view_of}
-use Rattle.msg_order.proofs.Elements.{filter-Contains, Contains-filter, Contains-flat_map, Contains-map, Contains-range}
-use Rattle.msg_order.proofs.Chains.{edge_is_path, path_among}
-use Rattle.msg_order.proofs.PathTest.{to_Path}
-use Rattle.msg_order.proofs.TurnOrders.{kept_along}
+use Rattle.msg_order.specs.{inner.SystemSet.has, inner.Paths.comes_before, inner.Paths.ArePaths, inner.Paths.AreKept, inner.Paths.IsSetOf, inner.Paths.square, inner.Paths.view_of}
+use Rattle.msg_order.proofs.{Elements.filter-Contains, Elements.Contains-filter, Elements.Contains-flat_map, Elements.Contains-map, Elements.Contains-range, Chains.edge_is_path, Chains.path_among, PathTest.to_Path, TurnOrders.kept_along}
 use Rattle.msg_world.specs.declared.access.Access.{Access}
 
 Contains-square : (n i j : ℕ) → i < n → j < n → Contains (square n) (i, j)

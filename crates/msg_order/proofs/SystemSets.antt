@@ -1,11 +1,7 @@
 -- Sets of systems as words of bits.
-use Rattle.std.proofs.Common.{[], ◌∷◌, ◌≡◌, ◌≢◌, ℕ, ◌+◌, ◌*◌, ◌/◌, ◌^◌, ◌%◌, ◌<◌, ◌≤◌, Bool, true, false, not, ◌&&◌, ◌||◌, List, get_or, length, refl, ap, ◌∙◌, arith, w64, get_or-set_same, get_or-set_other, slice_set, sym}
-use Rattle.std.specs.Prelude.{◌==◌, bit_and, bit_or}
-use Rattle.std.specs.Int.{bit_not}
-use Rattle.std.specs.List.{list_any, range_with_len}
-use Rattle.std.proofs.lemmas.Bool.{cases_eq, and_parts, and_from, eq-eqb, ne_eqb, false_from_ne_true}
-use Rattle.std.proofs.lemmas.List.{get_or_past}
-use Rattle.std.proofs.lemmas.Nat.Bits.{shr_and_one}
+use Rattle.std.proofs.Common.{[], ◌∷◌, ◌≡◌, ◌≢◌, ℕ, ◌+◌, ◌*◌, ◌/◌, ◌^◌, ◌%◌, ◌<◌, ◌≤◌, Bool, true, false, not, ◌&&◌, ◌||◌, List, get_or, length, refl, ap, ◌∙◌, arith, w64, get_or-set_same, get_or-set_other, slice_set, sym, ◌==◌, bit_and, bit_or}
+use Rattle.std.specs.{Int.bit_not, List.list_any, List.range_with_len}
+use Rattle.std.proofs.lemmas.{Bool.cases_eq, Bool.and_parts, Bool.and_from, Bool.eq-eqb, Bool.ne_eqb, Bool.false_from_ne_true, List.get_or_past, Nat.Bits.shr_and_one}
 use Rattle.msg_world.specs.Prelude.{has_bit}
 use Rattle.msg_world.proofs.Bits.{has_bit-zero, has_bit-set, has_bit-unset, has_bit-and, has_bit-or}
 use Rattle.msg_order.specs.Prelude.{SystemSet}

@@ -1,19 +1,10 @@
 -- Places in an order, and the batches one after the other.
-use Rattle.std.proofs.Common.{◌≡◌, ◌≢◌, ℕ, suc, ◌-◌, ◌<◌, inr, Bool, List, [], ◌∷◌, ◌++◌, length, get_or, sym, ◌∙◌, arith, length-append}
-use Rattle.std.specs.Prelude.{Contains, All, AllPairs}
+use Rattle.std.proofs.Common.{◌≡◌, ◌≢◌, ℕ, suc, ◌-◌, ◌<◌, inr, Bool, List, [], ◌∷◌, ◌++◌, length, get_or, sym, ◌∙◌, arith, length-append, Contains, All, AllPairs}
 use Rattle.std.specs.List.{concat}
-use Rattle.std.proofs.lemmas.Bool.{cases_lt, cases_order}
-use Rattle.std.proofs.lemmas.Grind.{get_or_default_zero}
-use Rattle.std.proofs.lemmas.List.{get_or_append_left, get_or-append_right}
-use Rattle.std.proofs.lemmas.List.Elements.{All-head, All-tail, All-from_get_or, Contains-get_or}
-use Rattle.std.proofs.lemmas.List.Kept.{AllPairs-from_increasing}
-use Rattle.std.proofs.lemmas.Option.{slice_get-get_or, slice_get_within, get_or_from_slice_get}
+use Rattle.std.proofs.lemmas.{Bool.cases_lt, Bool.cases_order, Grind.get_or_default_zero, List.get_or_append_left, List.get_or-append_right, List.Elements.All-head, List.Elements.All-tail, List.Elements.All-from_get_or, List.Elements.Contains-get_or, List.Kept.AllPairs-from_increasing, Option.slice_get-get_or, Option.slice_get_within, Option.get_or_from_slice_get}
 use Rattle.msg_world.specs.declared.access.Access.{Access}
 use Rattle.msg_order.specs.Prelude.{AreBatches, AreInConflict, Graph, IsBatchNumber, IsChain, IsEdge, IsLawfulOrder, IsTurnOrder, NoneConflict, Path, Rule, RunsBefore, Settles, StandsBefore, TurnOrderIsLawful, batch_at, pairs, rules_among}
-use Rattle.msg_order.proofs.Elements.{Contains-concat, concat-Contains}
-use Rattle.msg_order.proofs.Chains.{number_once, number_rises, edge_is_path}
-use Rattle.msg_order.proofs.SettledPairs.{settles_covers, Contains-pairs}
-use Rattle.msg_order.proofs.SetPaths.{joined_in}
+use Rattle.msg_order.proofs.{Elements.Contains-concat, Elements.concat-Contains, Chains.number_once, Chains.number_rises, Chains.edge_is_path, SettledPairs.settles_covers, SettledPairs.Contains-pairs, SetPaths.joined_in}
 
 pub stands : (order : List ℕ) (i j a b : ℕ) → a < b → b < length order → get_or order a 0 ≡ i → get_or order b 0 ≡ j
     → StandsBefore order i j

@@ -1,16 +1,9 @@
 -- That there is one settled order and one list of batches, and what holds of each.
-use Rattle.std.proofs.Common.{◌≡◌, ℕ, ◌<◌, ◌≤◌, inl, inr, Bool, ◌&&◌, List, [], ◌∷◌, length, map, get_or, refl, ap, ◌∙◌, arith}
-use Rattle.std.specs.Prelude.{◌↔◌, AllPairs, Contains}
-use Rattle.std.proofs.lemmas.Bool.{cases_lt, cases_order, and_parts, and_from}
-use Rattle.std.proofs.lemmas.List.{ext_get_or, get_or_past}
-use Rattle.std.proofs.lemmas.List.Elements.{All-contains, Contains-get_or}
-use Rattle.std.proofs.lemmas.List.Kept.{AllPairs-from_increasing}
+use Rattle.std.proofs.Common.{◌≡◌, ℕ, ◌<◌, ◌≤◌, inl, inr, Bool, ◌&&◌, List, [], ◌∷◌, length, map, get_or, refl, ap, ◌∙◌, arith, ◌↔◌, AllPairs, Contains}
+use Rattle.std.proofs.lemmas.{Bool.cases_lt, Bool.cases_order, Bool.and_parts, Bool.and_from, List.ext_get_or, List.get_or_past, List.Elements.All-contains, List.Elements.Contains-get_or, List.Kept.AllPairs-from_increasing}
 use Rattle.msg_world.specs.Prelude.{Conflict}
 use Rattle.msg_order.specs.Prelude.{AreBatches, AreInConflict, BatchNumbersRise, BatchesAreUnique, ConflictingSystemsAreOrdered, FewerSystemsMakeNoCycle, Graph, Rule, SettledOrderIsUnique, access_of, batch_at, has_joined, pairs, rules_among}
-use Rattle.msg_order.proofs.Elements.{Contains-head, Contains-tail, Contains-cases, not_in_none, filter-Contains, Contains-filter, pairs_head, pairs_tail}
-use Rattle.msg_order.proofs.Chains.{path_grows, number_once, number_rises}
-use Rattle.msg_order.proofs.SettledPairs.{settles_once, settles_covers, Contains-pairs}
-use Rattle.msg_order.proofs.SetPaths.{joined_in}
+use Rattle.msg_order.proofs.{Elements.Contains-head, Elements.Contains-tail, Elements.Contains-cases, Elements.not_in_none, Elements.filter-Contains, Elements.Contains-filter, Elements.pairs_head, Elements.pairs_tail, Chains.path_grows, Chains.number_once, Chains.number_rises, SettledPairs.settles_once, SettledPairs.settles_covers, SettledPairs.Contains-pairs, SetPaths.joined_in}
 
 pub fewer_make_none : FewerSystemsMakeNoCycle
 fewer_make_none rules joined fewer among free i p =

@@ -3,11 +3,7 @@ use Rattle.std.specs.Prelude.{◌≡◌, ℕ, Bool, List, All, AllPairs, ◌↔�
 use Rattle.std.specs.List.{concat}
 use Rattle.msg_world.specs.declared.access.Access.{Access}
 use Rattle.msg_world.specs.Prelude.{Conflict}
-use Rattle.msg_order.specs.declared.rule.Rule.{Rule}
-use Rattle.msg_order.specs.declared.plan_refusal.PlanRefusal.{PlanRefusal}
-use Rattle.msg_order.specs.declared.plan_refusal.PlanRefusal.TheVariants.{Cycle, NoMemory}
-use Rattle.msg_order.specs.Graph.{Graph, IsEdge, Path, IsLowestOnCycle}
-use Rattle.msg_order.specs.Order.{access_of, IsAmong, IsSettledOrder, AreBatches, IsTurnOrder, IsLawfulOrder}
+use Rattle.msg_order.specs.{declared.rule.Rule.Rule, declared.plan_refusal.PlanRefusal.PlanRefusal, declared.plan_refusal.PlanRefusal.TheVariants.Cycle, declared.plan_refusal.PlanRefusal.TheVariants.NoMemory, Graph.Graph, Graph.IsEdge, Graph.Path, Graph.IsLowestOnCycle, Order.access_of, Order.IsAmong, Order.IsSettledOrder, Order.AreBatches, Order.IsTurnOrder, Order.IsLawfulOrder}
 
 -- What callers see of a plan: which systems have joined, each pair of systems of which the first
 -- precedes the second, and the batches.

@@ -2,8 +2,7 @@
 ghost use Rattle.std.specs.Prelude.{◌≡◌, ◌&&◌, ℕ, ◌<◌, ◌≤◌, Bool, List, true, length, map, filter, IfOk, OnErr};
 ghost use Rattle.std.specs.List.{range_with_len};
 ghost use Rattle.msg_order.specs.Prelude.{AreBatches, Graph, IsAcyclic, IsAmong};
-ghost use Rattle.msg_order.specs.inner.Paths.{ArePaths, IsSetOf, is_ready, set_at};
-ghost use Rattle.msg_order.specs.inner.SystemSet.{has, meets};
+ghost use Rattle.msg_order.specs.{inner.Paths.ArePaths, inner.Paths.IsSetOf, inner.Paths.is_ready, inner.Paths.set_at, inner.SystemSet.has, inner.SystemSet.meets};
 
 use crate::system_set::SystemSet;
 use std::alloc::{AllocError, Allocator};

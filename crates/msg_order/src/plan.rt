@@ -1,9 +1,5 @@
 ghost use Rattle.std.specs.Prelude.{◌≡◌, ◌<◌, ◌≤◌, [], length, map, Err, IfErr, IfOk, OnOk};
-ghost use Rattle.msg_order.specs.declared.plan_refusal.PlanRefusal.TheVariants.{NoMemory};
-ghost use Rattle.msg_order.specs.Graph.{IsAcyclic};
-ghost use Rattle.msg_order.specs.Order.{NameSystemsBelow, rules_among};
-ghost use Rattle.msg_order.specs.Plan.{IsPlanOf, PlanView, RefusesFor};
-ghost use Rattle.msg_order.specs.inner.Paths.{AreKept, ArePaths, IsSetOf, view_of};
+ghost use Rattle.msg_order.specs.{declared.plan_refusal.PlanRefusal.TheVariants.NoMemory, Graph.IsAcyclic, Order.NameSystemsBelow, Order.rules_among, Plan.IsPlanOf, Plan.PlanView, Plan.RefusesFor, inner.Paths.AreKept, inner.Paths.ArePaths, inner.Paths.IsSetOf, inner.Paths.view_of};
 
 use crate::levels::batches_of;
 use crate::paths::{no_paths, settle};
@@ -119,10 +115,7 @@ impl<A: Allocator + Copy> Plan<A> {
 impl<A: Allocator> Plan<A> {
     ghost use Rattle.std.specs.Prelude.{List, Bool, IsTrue, ◌↔◌};
     ghost use Rattle.msg_world.specs.declared.access.Access.{Access as AccessView};
-    ghost use Rattle.msg_order.specs.declared.rule.Rule.{Rule as RuleView};
-    ghost use Rattle.msg_order.specs.Graph.{IsEdge};
-    ghost use Rattle.msg_order.specs.Order.{IsLawfulOrder};
-    ghost use Rattle.msg_order.specs.Plan.{IsPlanOf};
+    ghost use Rattle.msg_order.specs.{declared.rule.Rule.Rule as RuleView, Graph.IsEdge, Order.IsLawfulOrder, Plan.IsPlanOf};
 
     /// The systems batch by batch, each batch by order of addition. All systems of a batch end
     /// before the next batch begins.

@@ -1,8 +1,6 @@
 -- The conditions of a scenario file.
 use Rattle.std.proofs.Common.{◌≡◌, ℕ, suc, ◌+◌, ◌-◌, ◌≤◌, ◌<◌, List, ◌∷◌, length, refl, arith, Some, None, map}
-use Rattle.serde_json.specs.Data.{Data}
-use Rattle.serde_json.specs.View.{view}
-use Rattle.serde_json.specs.declared.value.Value.{Value}
+use Rattle.serde_json.specs.{Data.Data, View.view, declared.value.Value.Value}
 use Rattle.msg_files.specs.Prelude.{Text, first_refusal}
 use Rattle.msg_reading.specs.Prelude.{Declared, in_not, inside_nots, nots_round, probe_checks}
 use Rattle.msg_files.specs.declared.refusal.Refusal.TheVariants.{Shape}

@@ -1,16 +1,10 @@
 -- Lists of a scenario file, and one step of a walk over their elements.
-use Rattle.std.proofs.Common.{refl}
-use Rattle.std.proofs.lemmas.List.{map_push}
-use Rattle.std.proofs.Common.{◌≡◌, ℕ, ◌+◌, ◌<◌, List, [], ◌∷◌, ◌++◌, length, get_or, drop, ◌∙◌, append_assoc, Option, Some, None, map}
-use Rattle.std.proofs.lemmas.List.{length-map, map-append, drop_more, drop_all}
-use Rattle.std.specs.Prelude.{flat_map}
-use Rattle.serde_json.specs.Data.{Data}
-use Rattle.serde_json.specs.View.{view}
-use Rattle.serde_json.specs.declared.value.Value.{Value}
+use Rattle.std.proofs.Common.{refl, ◌≡◌, ℕ, ◌+◌, ◌<◌, List, [], ◌∷◌, ◌++◌, length, get_or, drop, ◌∙◌, append_assoc, Option, Some, None, map, flat_map}
+use Rattle.std.proofs.lemmas.{List.map_push, List.length-map, List.map-append, List.drop_more, List.drop_all, List.Folds.list_all-map}
+use Rattle.serde_json.specs.{Data.Data, View.view, declared.value.Value.Value}
 use Rattle.msg_files.specs.Prelude.{Check, first_refusal}
 use Rattle.msg_files.specs.declared.refusal.Refusal.{Refusal}
 use Rattle.msg_files.proofs.Walks.{all_some-map, first_refusal-passed, first_refusal-stands, list_of-items_of}
-use Rattle.std.proofs.lemmas.List.Folds.{list_all-map}
 
 -- the elements so far passed their checks, and those from i on are left
 pub record ElementsLeft {A : Type 0} (checks : Data → List Check) (denotes : Data → Option A)

@@ -1,10 +1,7 @@
 -- One step of a walk over elements that declare names.
-use Rattle.std.proofs.Common.{◌≡◌, ℕ, ◌+◌, ◌<◌, List, [], ◌∷◌, ◌++◌, length, get_or, drop, refl, ◌∙◌, append_assoc, Option, Some, None, map}
+use Rattle.std.proofs.Common.{◌≡◌, ℕ, ◌+◌, ◌<◌, List, [], ◌∷◌, ◌++◌, length, get_or, drop, refl, ◌∙◌, append_assoc, Option, Some, None, map, option_map}
 use Rattle.std.proofs.lemmas.List.{drop_more}
-use Rattle.std.specs.Prelude.{option_map}
-use Rattle.serde_json.specs.Data.{Data}
-use Rattle.serde_json.specs.View.{view}
-use Rattle.serde_json.specs.declared.value.Value.{Value}
+use Rattle.serde_json.specs.{Data.Data, View.view, declared.value.Value.Value}
 use Rattle.msg_files.specs.Prelude.{Check, first_refusal}
 use Rattle.msg_reading.specs.Prelude.{Declared, checks_in_turn, each_in_turn, with_all}
 use Rattle.msg_files.specs.declared.refusal.Refusal.{Refusal}

@@ -1,11 +1,7 @@
 -- The ops of a scenario file.
-use Rattle.std.proofs.Common.{◌≡◌, ℕ, ◌≤◌, List, ◌∷◌, length, refl, sym, arith, Some, true, map}
+use Rattle.std.proofs.Common.{◌≡◌, ℕ, ◌≤◌, List, ◌∷◌, length, refl, sym, arith, Some, true, map, nat_le, ◌&&◌}
 use Rattle.std.proofs.lemmas.List.{length-map}
-use Rattle.std.specs.Prelude.{nat_le, ◌&&◌}
-use Rattle.serde_json.specs.Data.{Data}
-use Rattle.serde_json.specs.Find.{as_array, as_str}
-use Rattle.serde_json.specs.View.{view, items_view}
-use Rattle.serde_json.specs.declared.value.Value.{Value}
+use Rattle.serde_json.specs.{Data.Data, Find.as_array, Find.as_str, View.view, View.items_view, declared.value.Value.Value}
 use Rattle.msg_files.specs.Prelude.{Text, a_value, elements, few_values, first_refusal, needs}
 use Rattle.msg_reading.specs.Prelude.{Declared, a_type, is_list_of_numbers, is_text, op_checks_with, type_number}
 use Rattle.msg_files.specs.declared.refusal.Refusal.TheVariants.{Shape, TooMany}

@@ -1,14 +1,10 @@
 -- Lists of a scenario file by their parts.
 use Rattle.std.proofs.Common.{◌≡◌, ◌≤◌, ◌<◌, List, [], ◌∷◌, length, get_or, take, drop, refl, sym, ap, ◌∙◌, arith, Option, Some, map, ◌-◌}
-use Rattle.serde_json.specs.Data.{Data}
-use Rattle.serde_json.specs.Find.{as_array, as_str}
-use Rattle.serde_json.specs.View.{view, items_view}
-use Rattle.serde_json.specs.declared.value.Value.{Value}
+use Rattle.serde_json.specs.{Data.Data, Find.as_array, Find.as_str, View.view, View.items_view, declared.value.Value.Value}
 use Rattle.msg_files.specs.Prelude.{Check, Text, elements, first_refusal}
 use Rattle.msg_reading.specs.Prelude.{for_headed, of_headed}
 use Rattle.msg_files.specs.declared.refusal.Refusal.TheVariants.{Shape}
-use Rattle.msg_files.proofs.Shapes.{elements_are, range_to_end}
-use Rattle.msg_files.proofs.Steps.{Refuses}
+use Rattle.msg_files.proofs.{Shapes.elements_are, Shapes.range_to_end, Steps.Refuses}
 
 -- ---- lists of one, of two and of more items
 

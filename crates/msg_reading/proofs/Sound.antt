@@ -1,19 +1,13 @@
 -- What is known of a scenario that was read.
-use Rattle.std.proofs.Common.{◌≡◌, ℕ, ◌+◌, ◌≤◌, ◌<◌, List, [], ◌∷◌, length, refl, sym, ◌∙◌, Some, None, true, arith}
-use Rattle.std.proofs.lemmas.Grind.{common_steps}
-use Rattle.std.proofs.lemmas.List.Elements.{All-head, All-tail}
-use Rattle.std.proofs.lemmas.List.Quantifiers.{position-Some}
-use Rattle.std.specs.Prelude.{All, replicate, nat_le}
+use Rattle.std.proofs.Common.{◌≡◌, ℕ, ◌+◌, ◌≤◌, ◌<◌, List, [], ◌∷◌, length, refl, sym, ◌∙◌, Some, None, true, arith, All, replicate, nat_le}
+use Rattle.std.proofs.lemmas.{Grind.common_steps, List.Elements.All-head, List.Elements.All-tail, List.Quantifiers.position-Some}
 use Rattle.std.specs.Str.{bytes_eq}
-use Rattle.serde_json.specs.Data.{Data}
+use Rattle.serde_json.specs.{Data.Data, Find.as_bool}
 use Rattle.msg_order.specs.Prelude.{IsAcyclic, NameSystemsBelow, edges_of, has_joined, rules_among}
 use Rattle.msg_order.specs.declared.rule.Rule.{Rule}
 use Rattle.msg_files.specs.Prelude.{Text, elements, first_refusal, is_list, needs}
 use Rattle.msg_reading.specs.Prelude.{Declared, IsClashing, IsRunnable, Scenario, all_names, checks_in_turn, frames_in, frames_of, held_checks, held_in, no_names, part_names, position_of, resource_checks, resource_of, resources_checks, resources_in, resources_of, root_object, rule_of, rules_in, rules_of, scenario_checks, scenario_of, sections_checks, system_checks, system_number, system_of, systems_checks, systems_in, systems_of, text, type_checks, type_names, type_of, types_checks, types_in, types_of, with_all, with_resource, with_system, with_type}
-use Rattle.serde_json.specs.Find.{as_bool}
-use Rattle.msg_reading.proofs.Fitting.{NamesOf, frames_fit, systems_fit}
-use Rattle.msg_reading.proofs.Files.{from_held, from_resources, from_rules, from_systems}
-use Rattle.msg_reading.proofs.There.{Holds, below_there, both_pass, in_both, in_each, in_map, in_then, in_turn_length, in_two, passed_length}
+use Rattle.msg_reading.proofs.{Fitting.NamesOf, Fitting.frames_fit, Fitting.systems_fit, Files.from_held, Files.from_resources, Files.from_rules, Files.from_systems, There.Holds, There.below_there, There.both_pass, There.in_both, There.in_each, There.in_map, There.in_then, There.in_turn_length, There.in_two, There.passed_length}
 use Rattle.msg_files.specs.declared.refusal.Refusal.TheVariants.{Shape, TooMany}
 
 -- ---- names

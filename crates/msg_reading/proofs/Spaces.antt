@@ -1,12 +1,7 @@
 -- Names in order, and the set of texts that keeps them.
-use Rattle.std.proofs.lemmas.List.{map_push}
-use Rattle.std.proofs.Common.{◌≡◌, ◌+◌, List, [], ◌∷◌, ◌++◌, length, refl, sym, ap, ◌∙◌, None, Bool, false, not, map, nat_lt, string_bytes, String, arith}
-use Rattle.std.proofs.lemmas.Grind.{common_steps}
-use Rattle.std.proofs.lemmas.List.{length-map}
-use Rattle.std.specs.List.{list_any, position_or_len}
-use Rattle.std.specs.Prelude.{cond, position}
-use Rattle.std.specs.Str.{bytes_eq}
-use Rattle.std.specs.declared.alloc.Global.{Global}
+use Rattle.std.proofs.lemmas.{List.map_push, Grind.common_steps, List.length-map}
+use Rattle.std.proofs.Common.{◌≡◌, ◌+◌, List, [], ◌∷◌, ◌++◌, length, refl, sym, ap, ◌∙◌, None, Bool, false, not, map, nat_lt, string_bytes, String, arith, cond, position}
+use Rattle.std.specs.{List.list_any, List.position_or_len, Str.bytes_eq, declared.alloc.Global.Global}
 use Rattle.indexmap.specs.IndexSet.{insert_key}
 use Rattle.msg_files.specs.Prelude.{Text}
 use Rattle.msg_reading.specs.Prelude.{position_of}

@@ -1,16 +1,12 @@
 -- The systems of a scenario file.
-use Rattle.std.proofs.Common.{refl}
-use Rattle.std.proofs.Common.{◌≡◌, List, [], ◌∷◌, ◌++◌, ◌∙◌, Option, Some, None, false}
-use Rattle.std.specs.Prelude.{codes, is_some, if◌then◌else◌}
+use Rattle.std.proofs.Common.{refl, ◌≡◌, List, [], ◌∷◌, ◌++◌, ◌∙◌, Option, Some, None, false, codes, is_some, if◌then◌else◌}
 use Rattle.std.specs.Option.{option_map_or}
 use Rattle.serde_json.specs.Data.{Data}
 use Rattle.msg_files.specs.Prelude.{Check, first_refusal, needs, value_at}
 use Rattle.msg_reading.specs.Prelude.{Declared, Kind, each_of, fits_kind, kind_in, kind_of, list_checks, name_checks, op_checks, op_of, place_checks, program_checks, start_in, start_of, system_checks, system_object}
 use Rattle.msg_system.specs.declared.start.Start.{Start}
-use Rattle.msg_files.specs.declared.refusal.Refusal.{Refusal}
-use Rattle.msg_files.specs.declared.refusal.Refusal.TheVariants.{Shape}
-use Rattle.msg_files.proofs.Steps.{Refuses, goes_on, stops}
-use Rattle.msg_files.proofs.Walks.{first_refusal-passed}
+use Rattle.msg_files.specs.{declared.refusal.Refusal.Refusal, declared.refusal.Refusal.TheVariants.Shape}
+use Rattle.msg_files.proofs.{Steps.Refuses, Steps.goes_on, Steps.stops, Walks.first_refusal-passed}
 
 -- ---- kind and ops
 

@@ -1,6 +1,5 @@
 -- What the tests of a scenario tell.
-use Rattle.std.proofs.Common.{arith, ℕ, sym, ◌∙◌}
-use Rattle.std.specs.Prelude.{IsTrue}
+use Rattle.std.proofs.Common.{arith, ℕ, sym, ◌∙◌, IsTrue}
 use Rattle.msg_world.specs.Prelude.{Fits, HasPart, Part, OfType, OfResource}
 use Rattle.msg_world.specs.declared.access.Access.{Access}
 use Rattle.msg_system.specs.Prelude.{IsAccessOf, Needs, needs_any}

@@ -1,15 +1,10 @@
 -- What holds of all that a value denotes, and what passes where checks pass.
-use Rattle.std.proofs.Common.{◌≡◌, ℕ, ◌≤◌, List, [], ◌∷◌, ◌++◌, length, refl, sym, ap, Option, Some, None, Bool, true, false, arith, map, subst}
-use Rattle.std.proofs.lemmas.Bool.{leb-true}
-use Rattle.std.proofs.lemmas.Grind.{common_steps}
-use Rattle.std.proofs.lemmas.List.Elements.{All-cons, All-nil}
-use Rattle.std.proofs.lemmas.Option.{same_Some}
-use Rattle.std.specs.Prelude.{All, if◌then◌else◌, nat_le, option_and_then, option_map}
+use Rattle.std.proofs.Common.{◌≡◌, ℕ, ◌≤◌, List, [], ◌∷◌, ◌++◌, length, refl, sym, ap, Option, Some, None, Bool, true, false, arith, map, subst, All, if◌then◌else◌, nat_le, option_and_then, option_map}
+use Rattle.std.proofs.lemmas.{Bool.leb-true, Grind.common_steps, List.Elements.All-cons, List.Elements.All-nil, Option.same_Some}
 use Rattle.serde_json.specs.Data.{Data}
 use Rattle.msg_files.specs.Prelude.{Check, Text, all_some, elements, first_refusal, is_list, needs, only_below}
 use Rattle.msg_reading.specs.Prelude.{Declared, both, checks_in_turn, each_in_turn, of_headed, of_two, text}
-use Rattle.msg_files.specs.declared.refusal.Refusal.{Refusal}
-use Rattle.msg_files.specs.declared.refusal.Refusal.TheVariants.{Shape, TooMany}
+use Rattle.msg_files.specs.{declared.refusal.Refusal.Refusal, declared.refusal.Refusal.TheVariants.Shape, declared.refusal.Refusal.TheVariants.TooMany}
 
 pub some_same : {A : Type 0} {a b : A} → Some a ≡ Some b → a ≡ b
 some_same {A} {a} {b} e = same_Some a b e

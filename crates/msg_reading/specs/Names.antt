@@ -1,7 +1,6 @@
 -- Names in a scenario file.
 use Rattle.std.specs.Prelude.{ℕ, ◌&&◌, ◌||◌, ◌==◌, not, nat_le, Bool, List, length, Option, position, option_and_then, codes}
-use Rattle.std.specs.List.{list_all}
-use Rattle.std.specs.Str.{bytes_eq}
+use Rattle.std.specs.{List.list_all, Str.bytes_eq}
 use Rattle.msg_files.specs.Prelude.{Text, only_below}
 
 -- `a` to `z`, `0` to `9`, or `_`

@@ -4,12 +4,8 @@ use Rattle.serde_json.specs.Data.{Data}
 use Rattle.msg_order.specs.Prelude.{IsAcyclic, IsLowestOnCycle, edges_of}
 use Rattle.msg_system.specs.Prelude.{HasClash, program_needs}
 use Rattle.msg_files.specs.Prelude.{first_refusal}
-use Rattle.msg_reading.specs.ScenarioChecks.{scenario_checks}
-use Rattle.msg_reading.specs.ScenarioDenotes.{scenario_of}
-use Rattle.msg_files.specs.declared.refusal.Refusal.{Refusal}
-use Rattle.msg_files.specs.declared.refusal.Refusal.TheVariants.{Clash, Cycle}
-use Rattle.msg_reading.specs.declared.scenario.Scenario.{Scenario}
-use Rattle.msg_reading.specs.declared.scenario.SystemSpec.{SystemSpec}
+use Rattle.msg_reading.specs.{ScenarioChecks.scenario_checks, ScenarioDenotes.scenario_of, declared.scenario.Scenario.Scenario, declared.scenario.SystemSpec.SystemSpec}
+use Rattle.msg_files.specs.{declared.refusal.Refusal.Refusal, declared.refusal.Refusal.TheVariants.Clash, declared.refusal.Refusal.TheVariants.Cycle}
 
 -- the system's program reads and writes one type
 abbrev pub IsClashing : SystemSpec → Type 0

@@ -4,15 +4,10 @@ use Rattle.std.specs.List.{enumerate_from}
 use Rattle.msg_world.specs.Prelude.{HasPart, Part, WorldState, held_world, new_world}
 use Rattle.msg_order.specs.Prelude.{IsAcyclic, NameSystemsBelow}
 use Rattle.msg_system.specs.Prelude.{HasClash, Meaning, job_needs, needs_any, new_system, program_needs}
-use Rattle.msg_system.specs.declared.op.Op.{Op}
-use Rattle.msg_system.specs.declared.op.Op.TheVariants.{Forward, Sum}
+use Rattle.msg_system.specs.{declared.op.Op.Op, declared.op.Op.TheVariants.Forward, declared.op.Op.TheVariants.Sum}
 use Rattle.msg_frames.specs.Prelude.{State, all_rules, first_state}
-use Rattle.msg_frames.specs.declared.frame.Frame.{Frame}
-use Rattle.msg_frames.specs.declared.place.Place.{Place}
-use Rattle.msg_reading.specs.declared.kind.Kind.{Kind}
-use Rattle.msg_reading.specs.declared.kind.Kind.TheVariants.{Script, Relay, Tally}
-use Rattle.msg_reading.specs.declared.scenario.Scenario.{Scenario}
-use Rattle.msg_reading.specs.declared.scenario.SystemSpec.{SystemSpec}
+use Rattle.msg_frames.specs.{declared.frame.Frame.Frame, declared.place.Place.Place}
+use Rattle.msg_reading.specs.{declared.kind.Kind.Kind, declared.kind.Kind.TheVariants.Script, declared.kind.Kind.TheVariants.Relay, declared.kind.Kind.TheVariants.Tally, declared.scenario.Scenario.Scenario, declared.scenario.SystemSpec.SystemSpec}
 
 -- ---- the first state
 

@@ -1,18 +1,11 @@
 -- The checks of a scenario file in reading order, each with the refusal that it gives where it
 -- fails.
 use Rattle.std.specs.Prelude.{ℕ, ◌||◌, ◌&&◌, not, nat_le, Bool, true, false, List, [], ◌∷◌, ◌++◌, length, map, flat_map, is_some, codes, if◌then◌else◌}
-use Rattle.std.specs.List.{list_all}
-use Rattle.std.specs.Option.{option_map_or}
-use Rattle.std.specs.Str.{bytes_eq}
-use Rattle.serde_json.specs.Data.{Data}
-use Rattle.serde_json.specs.Find.{as_str, as_bool}
-use Rattle.msg_system.specs.declared.op.Op.{Op}
-use Rattle.msg_system.specs.declared.op.Op.TheVariants.{Forward, Sum}
+use Rattle.std.specs.{List.list_all, Option.option_map_or, Str.bytes_eq}
+use Rattle.serde_json.specs.{Data.Data, Find.as_str, Find.as_bool}
+use Rattle.msg_system.specs.{declared.op.Op.Op, declared.op.Op.TheVariants.Forward, declared.op.Op.TheVariants.Sum}
 use Rattle.msg_files.specs.Prelude.{Check, Text, a_limit, a_value, elements, few_values, has_key, is_list, is_number, needs, number_up_to, object_checks, value_at}
-use Rattle.msg_reading.specs.Names.{Declared, is_name, position_of, type_number, resource_number, system_number}
-use Rattle.msg_reading.specs.ScenarioDenotes.{text, inside_nots, nots_round, kind_of, kind_in, conditions_in, join_in, start_of, start_in, ops_of, with_type, with_resource, with_system, no_names, types_in, resources_in, held_in, systems_in, rules_in, frames_in, type_names, part_names, all_names}
-use Rattle.msg_reading.specs.declared.kind.Kind.{Kind}
-use Rattle.msg_reading.specs.declared.kind.Kind.TheVariants.{Script, Relay, Tally}
+use Rattle.msg_reading.specs.{Names.Declared, Names.is_name, Names.position_of, Names.type_number, Names.resource_number, Names.system_number, ScenarioDenotes.text, ScenarioDenotes.inside_nots, ScenarioDenotes.nots_round, ScenarioDenotes.kind_of, ScenarioDenotes.kind_in, ScenarioDenotes.conditions_in, ScenarioDenotes.join_in, ScenarioDenotes.start_of, ScenarioDenotes.start_in, ScenarioDenotes.ops_of, ScenarioDenotes.with_type, ScenarioDenotes.with_resource, ScenarioDenotes.with_system, ScenarioDenotes.no_names, ScenarioDenotes.types_in, ScenarioDenotes.resources_in, ScenarioDenotes.held_in, ScenarioDenotes.systems_in, ScenarioDenotes.rules_in, ScenarioDenotes.frames_in, ScenarioDenotes.type_names, ScenarioDenotes.part_names, ScenarioDenotes.all_names, declared.kind.Kind.Kind, declared.kind.Kind.TheVariants.Script, declared.kind.Kind.TheVariants.Relay, declared.kind.Kind.TheVariants.Tally}
 use Rattle.msg_files.specs.declared.refusal.Refusal.TheVariants.{Shape, BadName, TwiceNamed, BadNumber, TooMany, UnknownName}
 
 -- ---- parts of values

@@ -1,24 +1,12 @@
 -- What a JSON value denotes as a scenario.
 use Rattle.std.specs.Prelude.{ℕ, ◌+◌, zero, suc, ℤ, false, List, [], ◌∷◌, ◌++◌, map, Option, Some, None, option_map, option_and_then, unwrap_or, codes, if◌then◌else◌}
 use Rattle.std.specs.Str.{bytes_eq}
-use Rattle.serde_json.specs.Data.{Data, boolean, string, number, array, no_items, unsigned}
-use Rattle.serde_json.specs.Find.{get, as_str, as_bool}
-use Rattle.msg_system.specs.declared.op.Op.{Op}
-use Rattle.msg_system.specs.declared.op.Op.TheVariants.{Write, Batch, Read, Len, Missed, Clear, Forward, Sum, Get, Set, Add, Drain, Signal}
-use Rattle.msg_system.specs.declared.condition.Condition.{Condition}
-use Rattle.msg_system.specs.declared.condition.Probe.{Probe}
-use Rattle.msg_system.specs.declared.condition.Probe.TheVariants.{OnMessage, ResourceEquals}
-use Rattle.msg_system.specs.declared.start.Start.{Start}
-use Rattle.msg_system.specs.declared.start.Start.TheVariants.{Zero, Current}
-use Rattle.msg_frames.specs.declared.frame.Frame.{Frame}
-use Rattle.msg_frames.specs.declared.place.Place.{Place}
+use Rattle.serde_json.specs.{Data.Data, Data.boolean, Data.string, Data.number, Data.array, Data.no_items, Data.unsigned, Find.get, Find.as_str, Find.as_bool}
+use Rattle.msg_system.specs.{declared.op.Op.Op, declared.op.Op.TheVariants.Write, declared.op.Op.TheVariants.Batch, declared.op.Op.TheVariants.Read, declared.op.Op.TheVariants.Len, declared.op.Op.TheVariants.Missed, declared.op.Op.TheVariants.Clear, declared.op.Op.TheVariants.Forward, declared.op.Op.TheVariants.Sum, declared.op.Op.TheVariants.Get, declared.op.Op.TheVariants.Set, declared.op.Op.TheVariants.Add, declared.op.Op.TheVariants.Drain, declared.op.Op.TheVariants.Signal, declared.condition.Condition.Condition, declared.condition.Probe.Probe, declared.condition.Probe.TheVariants.OnMessage, declared.condition.Probe.TheVariants.ResourceEquals, declared.start.Start.Start, declared.start.Start.TheVariants.Zero, declared.start.Start.TheVariants.Current}
+use Rattle.msg_frames.specs.{declared.frame.Frame.Frame, declared.place.Place.Place}
 use Rattle.msg_order.specs.declared.rule.Rule.{Rule}
 use Rattle.msg_files.specs.Prelude.{Text, all_some, elements, natural, value_at, values_of, whole}
-use Rattle.msg_reading.specs.Names.{Declared, type_number, resource_number, system_number}
-use Rattle.msg_reading.specs.declared.kind.Kind.{Kind}
-use Rattle.msg_reading.specs.declared.kind.Kind.TheVariants.{Script, Relay, Tally}
-use Rattle.msg_reading.specs.declared.scenario.Scenario.{Scenario}
-use Rattle.msg_reading.specs.declared.scenario.SystemSpec.{SystemSpec}
+use Rattle.msg_reading.specs.{Names.Declared, Names.type_number, Names.resource_number, Names.system_number, declared.kind.Kind.Kind, declared.kind.Kind.TheVariants.Script, declared.kind.Kind.TheVariants.Relay, declared.kind.Kind.TheVariants.Tally, declared.scenario.Scenario.Scenario, declared.scenario.SystemSpec.SystemSpec}
 
 -- ---- parts of values
 

@@ -1,19 +1,12 @@
 -- The lines of turns, by what was made of each system once.
-use Rattle.std.proofs.Common.{arith, ◌≡◌, ℕ, zero, suc, List, [], ◌∷◌, map, refl, ap}
-use Rattle.std.specs.Prelude.{flat_map, slice_get, zip}
-use Rattle.std.specs.Global.{Vec}
-use Rattle.std.specs.Option.{option_map_or}
-use Rattle.msg_system.specs.declared.op.Op.{Op}
-use Rattle.msg_system.specs.declared.reply.Reply.{Reply}
-use Rattle.msg_frames.specs.declared.log.Outcome.{Outcome}
-use Rattle.msg_frames.specs.declared.log.Outcome.TheVariants.{Skipped, Ran}
-use Rattle.msg_frames.specs.declared.log.Turn.{Turn}
+use Rattle.std.proofs.Common.{arith, ◌≡◌, ℕ, zero, suc, List, [], ◌∷◌, map, refl, ap, flat_map, slice_get, zip}
+use Rattle.std.specs.{Global.Vec, Option.option_map_or}
+use Rattle.msg_system.specs.{declared.op.Op.Op, declared.reply.Reply.Reply}
+use Rattle.msg_frames.specs.{declared.log.Outcome.Outcome, declared.log.Outcome.TheVariants.Skipped, declared.log.Outcome.TheVariants.Ran, declared.log.Turn.Turn}
 use Rattle.msg_files.specs.Prelude.{Text}
-use Rattle.msg_reading.specs.declared.scenario.Scenario.{Scenario}
-use Rattle.msg_reading.specs.declared.scenario.SystemSpec.{SystemSpec}
+use Rattle.msg_reading.specs.{declared.scenario.Scenario.Scenario, declared.scenario.SystemSpec.SystemSpec}
 use Rattle.msg_scenario.specs.Prelude.{answered_line, op_start, ops_text, outcome_text, turn_text}
-use Rattle.msg_scenario.specs.declared.reports.lines.SystemLines.{SystemLines}
-use Rattle.msg_scenario.specs.inner.Lines.{AreLines, finished_outcome, finished_turn, lines_of, texts_in}
+use Rattle.msg_scenario.specs.{declared.reports.lines.SystemLines.SystemLines, inner.Lines.AreLines, inner.Lines.finished_outcome, inner.Lines.finished_turn, inner.Lines.lines_of, inner.Lines.texts_in}
 
 -- the lines of ops, by their starts
 ops_of_starts : (s : Scenario) (name : Text) (starts : List (Vec ℕ)) (ops : List Op) (answers : List Reply)

@@ -1,7 +1,6 @@
 -- The text of frames one after another.
 use Rattle.std.proofs.Common.{◌≡◌, ℕ, ◌+◌, ◌<◌, List, [], ◌∷◌, ◌++◌, length, get_or, refl, append_assoc, append-nil, arith}
-use Rattle.msg_frames.specs.declared.frame.Frame.{Frame}
-use Rattle.msg_frames.specs.declared.log.Log.{Log}
+use Rattle.msg_frames.specs.{declared.frame.Frame.Frame, declared.log.Log.Log}
 use Rattle.msg_scenario.specs.Prelude.{frame_text, frames_text}
 use Rattle.msg_reading.specs.declared.scenario.Scenario.{Scenario}
 

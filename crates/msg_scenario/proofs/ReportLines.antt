@@ -1,17 +1,7 @@
 -- A text that is made piece by piece.
-use Rattle.std.proofs.Common.{◌≡◌, ◌⊎◌, inl, inr, ℕ, ◌+◌, ◌<◌, ◌≤◌, List, [], ◌∷◌, ◌++◌, length, get_or, take, refl, append-nil, Option, None, arith}
-use Rattle.std.specs.List.{enumerate_from}
-use Rattle.std.specs.Prelude.{flat_map, zip}
-use Rattle.std.proofs.lemmas.List.{flat_map_more, take_more}
-use Rattle.std.specs.declared.iter.Zip.{Zip}
-use Rattle.std.specs.declared.slice.Iter.{Iter}
-use Rattle.std.specs.Borrow.{Bor}
-use Rattle.std.specs.Iterator.Adapters.{zip_first, zip_second}
-use Rattle.std.specs.Slice.Iter.{iter_rest}
-use Rattle.std.proofs.lemmas.Fn.{fronts}
-use Rattle.std.proofs.lemmas.Iterator.{zips}
-use Rattle.std.proofs.lemmas.Slice.Zip.{either_empty_from_Zip}
-use Rattle.std.proofs.lemmas.List.FromFn.{length-enumerate_from, get_or-enumerate_from}
+use Rattle.std.proofs.Common.{◌≡◌, ◌⊎◌, inl, inr, ℕ, ◌+◌, ◌<◌, ◌≤◌, List, [], ◌∷◌, ◌++◌, length, get_or, take, refl, append-nil, Option, None, arith, flat_map, zip}
+use Rattle.std.specs.{List.enumerate_from, declared.iter.Zip.Zip, declared.slice.Iter.Iter, Borrow.Bor, Iterator.Adapters.zip_first, Iterator.Adapters.zip_second, Slice.Iter.iter_rest}
+use Rattle.std.proofs.lemmas.{List.flat_map_more, List.take_more, Fn.fronts, Iterator.zips, Slice.Zip.either_empty_from_Zip, List.FromFn.length-enumerate_from, List.FromFn.get_or-enumerate_from}
 
 -- one numbered piece more
 pub numbered_more : {X : Type 0} (piece : ℕ × X → List ℕ) (n : ℕ) (xs : List X) (i number : ℕ) (x : X)

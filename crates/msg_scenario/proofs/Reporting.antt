@@ -1,21 +1,15 @@
 -- The frames of a scenario, run one after another, and what the sink took of their text.
-use Rattle.std.proofs.Common.{◌≡◌, ℕ, zero, suc, ◌+◌, ◌-◌, ◌<◌, List, [], ◌∷◌, ◌++◌, length, get_or, take, refl, sym, ◌∙◌, append_assoc, append-nil, Option, Result, Err, true, false, arith, inl, inr, eq-eqb}
-use Rattle.std.specs.Prelude.{◌==◌, if◌then◌else◌}
-use Rattle.std.specs.Prelude.{◌⊎◌}
-use Rattle.std.proofs.lemmas.Grind.{common_steps}
+use Rattle.std.proofs.Common.{◌≡◌, ℕ, zero, suc, ◌+◌, ◌-◌, ◌<◌, List, [], ◌∷◌, ◌++◌, length, get_or, take, refl, sym, ◌∙◌, append_assoc, append-nil, Option, Result, Err, true, false, arith, inl, inr, eq-eqb, ◌==◌, if◌then◌else◌, ◌⊎◌}
+use Rattle.std.proofs.lemmas.{Grind.common_steps, List.take_more}
 use Rattle.std.proofs.Math.Seq.{take-append_seam, take-length}
-use Rattle.std.proofs.lemmas.List.{take_more}
 use Rattle.std.specs.Io.KnownBytes.{Appends}
 use Rattle.std.proofs.KnownBytes.{Appends-nil, Appends-trans}
 use Rattle.msg_system.specs.Prelude.{Meaning}
 use Rattle.msg_frames.specs.Prelude.{FrameKeeps, FramesKeepSystems, IsCompleteRun, IsFrame, IsRun, State, accounts_of, systems_in}
 use Rattle.msg_exec.specs.Prelude.{HasRunFrame, IsSpoiled, StandsFor, frames_of}
-use Rattle.msg_frames.specs.declared.account.Account.{Account}
+use Rattle.msg_frames.specs.{declared.account.Account.Account, declared.frame.Frame.Frame, declared.log.Log.Log}
 use Rattle.msg_exec.specs.declared.engine.EngineOf.{EngineOf}
-use Rattle.msg_frames.specs.declared.frame.Frame.{Frame}
-use Rattle.msg_frames.specs.declared.log.Log.{Log}
-use Rattle.msg_system.specs.declared.run_fault.RunFault.{RunFault}
-use Rattle.msg_system.specs.declared.run_fault.RunFault.TheVariants.{BadOrder, NoMemory, Spoiled}
+use Rattle.msg_system.specs.{declared.run_fault.RunFault.RunFault, declared.run_fault.RunFault.TheVariants.BadOrder, declared.run_fault.RunFault.TheVariants.NoMemory, declared.run_fault.RunFault.TheVariants.Spoiled}
 use Rattle.msg_files.specs.Prelude.{AppendsPrefix, Text}
 use Rattle.msg_scenario.specs.Prelude.{HasPrinted, HasReported, HasRunOut, HasStopped, accounts_text, frame_text, frames_text, report_text, text_so_far}
 use Rattle.msg_reading.specs.Prelude.{state_of}

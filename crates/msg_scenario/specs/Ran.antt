@@ -6,8 +6,7 @@ use Rattle.msg_frames.specs.Prelude.{IsCompleteRun, State, accounts_of}
 use Rattle.msg_exec.specs.Prelude.{StandsFor}
 use Rattle.msg_exec.specs.declared.engine.EngineOf.{EngineOf}
 use Rattle.msg_frames.specs.declared.log.Log.{Log}
-use Rattle.msg_scenario.specs.ReportText.{report_text}
-use Rattle.msg_scenario.specs.Reported.{HasRunOut, HasStopped}
+use Rattle.msg_scenario.specs.{ReportText.report_text, Reported.HasRunOut, Reported.HasStopped}
 use Rattle.msg_reading.specs.Prelude.{state_of}
 use Rattle.msg_reading.specs.declared.scenario.Scenario.{Scenario}
 

@@ -1,26 +1,14 @@
 -- The text that a scenario prints: frame by frame what the host's posts and the systems' ops were
 -- answered, and at the end what each reader got.
 use Rattle.std.specs.Prelude.{ℕ, ℤ, ◌+◌, ◌==◌, List, [], ◌∷◌, ◌++◌, Option, Some, None, length, slice_get, zip, flat_map, codes, decimal, if◌then◌else◌}
-use Rattle.std.specs.Fmt.{signed_decimal}
-use Rattle.std.specs.List.{enumerate_from}
-use Rattle.std.specs.Option.{option_map_or}
+use Rattle.std.specs.{Fmt.signed_decimal, List.enumerate_from, Option.option_map_or}
 use Rattle.msg_buffer.specs.declared.instance.Written.{Written}
-use Rattle.msg_world.specs.declared.record.TheConstants.{HOST}
-use Rattle.msg_world.specs.declared.record.Record.{Record}
-use Rattle.msg_system.specs.declared.op.Op.{Op}
-use Rattle.msg_system.specs.declared.op.Op.TheVariants.{Write, Batch, Read, Len, Missed, Clear, Forward, Sum, Get, Set, Add, Drain, Signal}
-use Rattle.msg_system.specs.declared.reply.Took.{Took}
-use Rattle.msg_system.specs.declared.reply.Reply.{Reply}
+use Rattle.msg_world.specs.{declared.record.TheConstants.HOST, declared.record.Record.Record}
+use Rattle.msg_system.specs.{declared.op.Op.Op, declared.op.Op.TheVariants.Write, declared.op.Op.TheVariants.Batch, declared.op.Op.TheVariants.Read, declared.op.Op.TheVariants.Len, declared.op.Op.TheVariants.Missed, declared.op.Op.TheVariants.Clear, declared.op.Op.TheVariants.Forward, declared.op.Op.TheVariants.Sum, declared.op.Op.TheVariants.Get, declared.op.Op.TheVariants.Set, declared.op.Op.TheVariants.Add, declared.op.Op.TheVariants.Drain, declared.op.Op.TheVariants.Signal, declared.reply.Took.Took, declared.reply.Reply.Reply}
 use Rattle.msg_system.specs.declared.reply.Reply.TheVariants as reply
-use Rattle.msg_frames.specs.declared.account.Account.{Account}
-use Rattle.msg_frames.specs.declared.frame.Frame.{Frame}
-use Rattle.msg_frames.specs.declared.log.Log.{Log}
-use Rattle.msg_frames.specs.declared.log.Turn.{Turn}
-use Rattle.msg_frames.specs.declared.log.Outcome.{Outcome}
-use Rattle.msg_frames.specs.declared.log.Outcome.TheVariants.{Skipped, Ran}
+use Rattle.msg_frames.specs.{declared.account.Account.Account, declared.frame.Frame.Frame, declared.log.Log.Log, declared.log.Turn.Turn, declared.log.Outcome.Outcome, declared.log.Outcome.TheVariants.Skipped, declared.log.Outcome.TheVariants.Ran}
 use Rattle.msg_files.specs.Prelude.{Text}
-use Rattle.msg_reading.specs.declared.scenario.Scenario.{Scenario}
-use Rattle.msg_reading.specs.declared.scenario.SystemSpec.{SystemSpec}
+use Rattle.msg_reading.specs.{declared.scenario.Scenario.Scenario, declared.scenario.SystemSpec.SystemSpec}
 
 -- ---- names; a number that nothing has goes without one
 

@@ -1,11 +1,7 @@
 -- Turns by rules.
-use Rattle.std.proofs.Common.{◌≡◌, ℕ, zero, suc, ◌≤◌, ◌++◌, Bool, true, List, [], ◌∷◌, length, Option, Some, None, take, refl, sym, ap, ◌∙◌, arith, inl, inr, append_assoc}
-use Rattle.std.specs.Prelude.{option_to_list, IsTrue, slice_get}
+use Rattle.std.proofs.Common.{◌≡◌, ℕ, zero, suc, ◌≤◌, ◌++◌, Bool, true, List, [], ◌∷◌, length, Option, Some, None, take, refl, sym, ap, ◌∙◌, arith, inl, inr, append_assoc, option_to_list, IsTrue, slice_get}
 use Rattle.std.proofs.Math.Seq.{drop-append_seam}
-use Rattle.std.proofs.lemmas.Bool.{and_from, and_parts, eqb-true, false≢true}
-use Rattle.std.proofs.lemmas.List.{append-nil, length-take-le, take_more, take_all}
-use Rattle.std.proofs.lemmas.List.Folds.{list_any_at}
-use Rattle.std.proofs.lemmas.Option.{get_or_from_slice_get, none-some, same_Some, slice_get_cases, slice_get_past, slice_get_within}
+use Rattle.std.proofs.lemmas.{Bool.and_from, Bool.and_parts, Bool.eqb-true, Bool.false≢true, List.append-nil, List.length-take-le, List.take_more, List.take_all, List.Folds.list_any_at, Option.get_or_from_slice_get, Option.none-some, Option.same_Some, Option.slice_get_cases, Option.slice_get_past, Option.slice_get_within}
 use Rattle.msg_world.specs.Prelude.{Part, Parts, SameLoan, WorldState, taken_of}
 use Rattle.msg_world.specs.declared.lent.Lent.{Lent}
 use Rattle.msg_system.specs.Prelude.{IsInOrder, Meaning, Needs, OneOpIsATurn, Op, Program, Ran, Reply, after_at_most, after_op, after_program, if_kept, is_none_or, is_part, keeps_to, may_read, next_op, of_program, only, op_needs, op_parts, ops_answered, program_needs, turn}

@@ -1,12 +1,7 @@
 -- What a behavior does, turn after turn.
 use Rattle.std.specs.Prelude.{ℕ, List, [], Option, Some, fold}
 use Rattle.msg_world.specs.declared.record.Record.{Record}
-use Rattle.msg_system.specs.declared.op.Op.{Op}
-use Rattle.msg_system.specs.declared.reply.Reply.{Reply}
-use Rattle.msg_system.specs.declared.reply.Reply.TheVariants.{Read, Forwarded, Summed}
-use Rattle.msg_system.specs.declared.start.Start.{Start}
-use Rattle.msg_system.specs.Needs.{Needs}
-use Rattle.msg_system.specs.Systems.{Meaning, Rule}
+use Rattle.msg_system.specs.{declared.op.Op.Op, declared.reply.Reply.Reply, declared.reply.Reply.TheVariants.Read, declared.reply.Reply.TheVariants.Forwarded, declared.reply.Reply.TheVariants.Summed, declared.start.Start.Start, Needs.Needs, Systems.Meaning, Systems.Rule}
 
 -- Its rule: the next op by what it remembers of the turns that it took, one after the other, and by
 -- the replies so far.

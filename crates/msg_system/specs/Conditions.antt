@@ -3,12 +3,7 @@ use Rattle.std.specs.Prelude.{ℕ, zero, suc, Bool, true, not, ◌&&◌, nat_lt,
 use Rattle.std.specs.Ordering.{int_eq}
 use Rattle.msg_buffer.specs.Prelude.{count, unread}
 use Rattle.msg_world.specs.Prelude.{WorldState}
-use Rattle.msg_system.specs.declared.condition.Condition.{Condition}
-use Rattle.msg_system.specs.declared.condition.Probe.{Probe}
-use Rattle.msg_system.specs.declared.condition.Probe.TheVariants.{OnMessage, ResourceEquals}
-use Rattle.msg_system.specs.declared.reply.Reply.{Reply}
-use Rattle.msg_system.specs.declared.start.Start.{Start}
-use Rattle.msg_system.specs.Systems.{Meaning, after_turn, start_place, turn}
+use Rattle.msg_system.specs.{declared.condition.Condition.Condition, declared.condition.Probe.Probe, declared.condition.Probe.TheVariants.OnMessage, declared.condition.Probe.TheVariants.ResourceEquals, declared.reply.Reply.Reply, declared.start.Start.Start, Systems.Meaning, Systems.after_turn, Systems.start_place, Systems.turn}
 
 -- A condition with the place of its own cursor.
 pub record Asked : Type 0 where

@@ -2,13 +2,7 @@
 use Rattle.std.specs.Prelude.{All, ◌≡◌, ℕ, ◌++◌, false, None, IfSome, IsSome, IsTrue, List, [], ◌∷◌, length}
 use Rattle.msg_world.specs.declared.lent.Lent.{Lent}
 use Rattle.msg_world.specs.Prelude.{IsComplete, LoanStands, Part, Parts, PartsStand, SameLoan, StuffStands, WorldState, access_of, content, shown, slot, taken_of, uses, writable, writes}
-use Rattle.msg_system.specs.declared.condition.Condition.{Condition}
-use Rattle.msg_system.specs.declared.op.Op.{Op}
-use Rattle.msg_system.specs.declared.reply.Reply.{Reply}
-use Rattle.msg_system.specs.declared.start.Start.{Start}
-use Rattle.msg_system.specs.Needs.{IsAccessOf, Needs, condition_needs, op_needs, program_needs, with_conditions}
-use Rattle.msg_system.specs.OpRuns.{OpRan}
-use Rattle.msg_system.specs.Systems.{Meaning, of_program, only, told, turn}
+use Rattle.msg_system.specs.{declared.condition.Condition.Condition, declared.op.Op.Op, declared.reply.Reply.Reply, declared.start.Start.Start, Needs.IsAccessOf, Needs.Needs, Needs.condition_needs, Needs.op_needs, Needs.program_needs, Needs.with_conditions, OpRuns.OpRan, Systems.Meaning, Systems.of_program, Systems.only, Systems.told, Systems.turn}
 
 -- A loan covers what is needed: it shows what is read, and lets be written what is written. It may
 -- lend more.

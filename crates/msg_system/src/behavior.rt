@@ -31,8 +31,7 @@ use std::alloc::Global;
 /// ```
 pub trait Behavior: Drop {
     ghost use Rattle.std.specs.Prelude.{◌≡◌, List, Option, IfOk, OnOk};
-    ghost use Rattle.msg_system.specs.declared.op.Op.{Op};
-    ghost use Rattle.msg_system.specs.declared.reply.Reply.{Reply};
+    ghost use Rattle.msg_system.specs.{declared.op.Op.Op, declared.reply.Reply.Reply};
 
     // What it remembers.
     ghost Memory: { Type 0 };

@@ -1,11 +1,7 @@
 // Systems that decide by a behavior.
 ghost use Rattle.std.specs.Prelude.{◌≡◌, ◌≤◌, IfOk, OnOk, drop, length};
 ghost use Rattle.msg_world.specs.Prelude.{SameLoan};
-ghost use Rattle.msg_system.specs.Behaviors.{behaves};
-ghost use Rattle.msg_system.specs.Needs.{needs_of};
-ghost use Rattle.msg_system.specs.OpRuns.{places_of};
-ghost use Rattle.msg_system.specs.inner.TurnRuns.{AreAnswered, TurnRan, next_kept};
-ghost use Rattle.msg_system.specs.Promises.{Covers};
+ghost use Rattle.msg_system.specs.{Behaviors.behaves, Needs.needs_of, OpRuns.places_of, inner.TurnRuns.AreAnswered, inner.TurnRuns.TurnRan, inner.TurnRuns.next_kept, Promises.Covers};
 
 use crate::behavior::Behavior;
 use crate::{Access, Cursors, Items, NoMemory, Numbered, Op, Reply, Start, System};

@@ -37,9 +37,7 @@ pub enum Op {
 
 impl Op {
     ghost use Rattle.msg_world.specs.Prelude.{SameLoan};
-    ghost use Rattle.msg_system.specs.Needs.{keeps_to, needs_of, op_needs, type_read};
-    ghost use Rattle.msg_system.specs.OpRuns.{MayBeRefused, OpRan, places_of};
-    ghost use Rattle.msg_system.specs.Promises.{Covers};
+    ghost use Rattle.msg_system.specs.{Needs.keeps_to, Needs.needs_of, Needs.op_needs, Needs.type_read, OpRuns.MayBeRefused, OpRuns.OpRan, OpRuns.places_of, Promises.Covers};
 
     /// The type that it reads.
     pub fn read_type(&self) -> Option<TypeNo>

@@ -15,8 +15,7 @@ pub struct Relay {
 }
 
 impl Relay {
-    ghost use Rattle.msg_system.specs.declared.op.Op.TheVariants.{Forward};
-    ghost use Rattle.msg_system.specs.Systems.{new_system, only};
+    ghost use Rattle.msg_system.specs.{declared.op.Op.TheVariants.Forward, Systems.new_system, Systems.only};
 
     /// It has read nothing yet. It writes as the number `writer`.
     pub fn new(from: TypeNo, to: TypeNo, start: Start, writer: u32) -> Relay
@@ -34,9 +33,7 @@ impl Relay {
 }
 
 impl System for Relay {
-    ghost use Rattle.msg_system.specs.declared.op.Op.TheVariants.{Forward};
-    ghost use Rattle.msg_system.specs.OpRuns.{places_of};
-    ghost use Rattle.msg_system.specs.Systems.{of_program, only};
+    ghost use Rattle.msg_system.specs.{declared.op.Op.TheVariants.Forward, OpRuns.places_of, Systems.of_program, Systems.only};
 
     ghost meaning = { λ s.
         of_program (only (Forward s.from s.to) s.start) s.writer (places_of s.cursors) };

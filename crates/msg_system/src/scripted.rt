@@ -1,10 +1,7 @@
 // Systems that interpret their programs.
 ghost use Rattle.std.specs.Prelude.{◌≡◌, ◌<◌, ◌≤◌, OnErr, OnOk, length};
 ghost use Rattle.msg_world.specs.Prelude.{SameLoan};
-ghost use Rattle.msg_system.specs.Needs.{program_needs};
-ghost use Rattle.msg_system.specs.OpRuns.{places_of};
-ghost use Rattle.msg_system.specs.inner.TurnRuns.{HasReplies, ProgramRan};
-ghost use Rattle.msg_system.specs.Promises.{Covers};
+ghost use Rattle.msg_system.specs.{Needs.program_needs, OpRuns.places_of, inner.TurnRuns.HasReplies, inner.TurnRuns.ProgramRan, Promises.Covers};
 
 use crate::{Access, Cursors, NoMemory, Numbered, Op, Program, Reply, Start, System};
 use msg_world::{Counts, Lent, Taken, TypeNo};

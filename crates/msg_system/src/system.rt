@@ -20,9 +20,7 @@ use std::alloc::Global;
 pub trait System: Send + Drop {
     ghost use Rattle.std.specs.Prelude.{◌≡◌, IfOk};
     ghost use Rattle.msg_world.specs.Prelude.{SameShape, taken_of};
-    ghost use Rattle.msg_system.specs.Needs.{IsAccessOf, type_read_by};
-    ghost use Rattle.msg_system.specs.Promises.{Covers, Ran};
-    ghost use Rattle.msg_system.specs.Systems.{Meaning, started};
+    ghost use Rattle.msg_system.specs.{Needs.IsAccessOf, Needs.type_read_by, Promises.Covers, Promises.Ran, Systems.Meaning, Systems.started};
 
     // What it does from now on. Nothing but a start and its runs ever changes it.
     ghost meaning: { Self → Meaning };

@@ -1,14 +1,10 @@
 -- Bits of masks, as tests.
-use Rattle.std.proofs.Common.{◌≡◌, ◌≢◌, ℕ, zero, suc, ◌+◌, ◌*◌, ◌-◌, ◌/◌, ◌^◌, ◌%◌, ◌<◌, ◌≤◌, Bool, true, false, not, ◌&&◌, ◌||◌, inl, inr, ap, sym, ◌∙◌, arith, w64}
+use Rattle.std.proofs.Common.{◌≡◌, ◌≢◌, ℕ, zero, suc, ◌+◌, ◌*◌, ◌-◌, ◌/◌, ◌^◌, ◌%◌, ◌<◌, ◌≤◌, Bool, true, false, not, ◌&&◌, ◌||◌, inl, inr, ap, sym, ◌∙◌, arith, w64, ◌==◌, ◌↔◌, IsTrue, bit_and, bit_or, count_ones, nat_lt}
 use lib.Count.{ones_step}
-use Rattle.std.specs.Prelude.{◌==◌, ◌↔◌, IsTrue, bit_and, bit_or, count_ones, nat_lt}
 use Rattle.std.proofs.Math.Bool.{and-true}
 use Rattle.std.specs.Int.{bit_at, bit_not, trailing_zeros}
-use Rattle.std.proofs.lemmas.Bool.{cases_lt, cases_eq, eqb-true, eq-eqb, ne_eqb, eqb-false, le-ltb, lt-ltb, not-true, false≢true}
-use Rattle.std.proofs.lemmas.Bool.Decides.{eqb_tells, nat_tests}
-use Rattle.std.proofs.lemmas.Nat.{shr-shr}
+use Rattle.std.proofs.lemmas.{Bool.cases_lt, Bool.cases_eq, Bool.eqb-true, Bool.eq-eqb, Bool.ne_eqb, Bool.eqb-false, Bool.le-ltb, Bool.lt-ltb, Bool.not-true, Bool.false≢true, Bool.Decides.eqb_tells, Bool.Decides.nat_tests, Nat.shr-shr, Nat.Bits.bit_at_lowest, Nat.Bits.bit_at-suc, Nat.Bits.bit_at_and, Nat.Bits.bit_at_or, Nat.Bits.bit_at_not, Nat.Bits.bit_at_above, Nat.Bits.bit_at-zero, Nat.Bits.bit_at-lt, Nat.Bits.bit_at_set_same, Nat.Bits.bit_at_set_other, Nat.Bits.bit_at_clear_same, Nat.Bits.bit_at_clear_other, Nat.Bits.bit_at-trailing_zeros}
 use Rattle.std.proofs.Math.Nat.{div-le_self}
-use Rattle.std.proofs.lemmas.Nat.Bits.{bit_at_lowest, bit_at-suc, bit_at_and, bit_at_or, bit_at_not, bit_at_above, bit_at-zero, bit_at-lt, bit_at_set_same, bit_at_set_other, bit_at_clear_same, bit_at_clear_other, bit_at-trailing_zeros}
 use Rattle.msg_world.specs.Prelude.{has_bit}
 use Rattle.msg_world.specs.inner.Masks.{ShareBit, IsBelow}
 

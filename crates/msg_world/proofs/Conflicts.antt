@@ -1,6 +1,5 @@
 -- Conflicts, clashes and limits of accesses by their masks.
-use Rattle.std.proofs.Common.{arith, ℕ, ◌<◌, Bool, ◌&&◌, ◌||◌, inl, inr, ◌⊎◌, sym, ◌∙◌}
-use Rattle.std.specs.Prelude.{◌↔◌, IsTrue, bit_or}
+use Rattle.std.proofs.Common.{arith, ℕ, ◌<◌, Bool, ◌&&◌, ◌||◌, inl, inr, ◌⊎◌, sym, ◌∙◌, ◌↔◌, IsTrue, bit_or}
 use Rattle.std.proofs.lemmas.Bool.{cases_Bool, or_cases, false≢true}
 use Rattle.msg_world.specs.Prelude.{Access, Conflict, IsClash, OfResource, OfType, Part, Registry, has_bit, uses, writes}
 use Rattle.msg_world.specs.inner.Masks.{ShareBit, Collide, IsBelow}

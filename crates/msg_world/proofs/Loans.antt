@@ -1,14 +1,10 @@
 -- What loans stand for.
-use Rattle.std.proofs.Common.{arith, ◌≡◌, ℕ, ◌<◌, length, true, false, refl, subst, ◌∙◌, inr, Option, Some, None}
-use Rattle.std.specs.Prelude.{ℤ, IsSome, List, IsTrue, option_map, if◌then◌else◌}
-use Rattle.std.proofs.lemmas.Bool.Decides.{eqb_tells}
-use Rattle.std.proofs.lemmas.Bool.{false_from_ne_true, cases_Bool, cases_eq, cases_lt, false≢true}
+use Rattle.std.proofs.Common.{arith, ◌≡◌, ℕ, ◌<◌, length, true, false, refl, subst, ◌∙◌, inr, Option, Some, None, ℤ, IsSome, List, IsTrue, option_map, if◌then◌else◌}
+use Rattle.std.proofs.lemmas.{Bool.Decides.eqb_tells, Bool.false_from_ne_true, Bool.cases_Bool, Bool.cases_eq, Bool.cases_lt, Bool.false≢true, List.get_or-set_same, List.get_or-set_other, List.get_or_past, Option.none-some}
 use Rattle.std.proofs.Math.ListN.{length-set}
-use Rattle.std.proofs.lemmas.List.{get_or-set_same, get_or-set_other, get_or_past}
 use Rattle.msg_world.specs.Prelude.{Access, HomeAgain, HomeMerges, Lent, LoanEnds, LoanStands, LoanStays, MayComeHome, OfResource, OfType, Part, Parts, PartsStand, Registry, SameShape, ValuesStand, WorldState, WritesStand, after_signal, content, merge, signalled_marks, slot, with_value, writable, writes}
 use Rattle.msg_world.specs.inner.Slots.{at}
 use Rattle.msg_world.proofs.Worlds.{type_shape}
-use Rattle.std.proofs.lemmas.Option.{none-some}
 
 abbrev pub with_signal : Parts → Parts
 with_signal w = record w { marks = option_map signalled_marks w.marks }

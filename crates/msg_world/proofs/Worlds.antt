@@ -1,11 +1,8 @@
 -- What a world stands for after each change, part by part.
-use Rattle.std.proofs.Common.{◌≡◌, ℕ, zero, suc, ◌<◌, Bool, true, false, List, [], ◌∷◌, length, map, refl, sym, ◌∙◌, arith, inl, inr, Option, Some, None, get_or}
-use Rattle.std.specs.Prelude.{ℤ, pos, ◌&&◌, ◌||◌, ◌↔◌, not, IfSome, IsSome, IsSomeAnd, IsTrue, is_some, unwrap_or, slice_index, slice_index_or, slice_set}
+use Rattle.std.proofs.Common.{◌≡◌, ℕ, zero, suc, ◌<◌, Bool, true, false, List, [], ◌∷◌, length, map, refl, sym, ◌∙◌, arith, inl, inr, Option, Some, None, get_or, ℤ, pos, ◌&&◌, ◌||◌, ◌↔◌, not, IfSome, IsSome, IsSomeAnd, IsTrue, is_some, unwrap_or, slice_index, slice_index_or, slice_set}
 use Rattle.std.specs.Option.{option_or}
 use Rattle.std.proofs.Math.ListN.{length-set}
-use Rattle.std.proofs.lemmas.Bool.Decides.{eqb_tells}
-use Rattle.std.proofs.lemmas.Bool.{and_parts, cases_eq, cases_lt, false≢true}
-use Rattle.std.proofs.lemmas.List.{get_or_default, get_or-set_same, get_or-set_other, get_or_past}
+use Rattle.std.proofs.lemmas.{Bool.Decides.eqb_tells, Bool.and_parts, Bool.cases_eq, Bool.cases_lt, Bool.false≢true, List.get_or_default, List.get_or-set_same, List.get_or-set_other, List.get_or_past}
 use Rattle.msg_buffer.specs.Prelude.{History, Kept, StandsFor, empty}
 use Rattle.msg_world.specs.Prelude.{Access, IsHome, IsWhole, Marks, OfResource, OfType, Part, Parts, PartsStand, Record, Registry, SameShape, WorldState, after_update, has_bit, new_world, slot, with_history}
 use Rattle.msg_world.specs.inner.Slots.{AllUpdated, BufferStands, HaveEach, at}

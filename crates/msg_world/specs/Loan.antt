@@ -4,14 +4,7 @@ use Rattle.std.specs.Prelude.{◌≡◌, ℕ, ℤ, Option, None, IsSome, IfSome,
 use mir.Syntax.{named}
 use Rattle.std.specs.Borrow.{LendsIf, MutBor, Fml, i64}
 use Rattle.msg_buffer.specs.Prelude.{Kept}
-use Rattle.msg_world.specs.declared.access.Access.{Access}
-use Rattle.msg_world.specs.declared.record.Record.{Record}
-use Rattle.msg_world.specs.declared.lent.Lent.{Lent}
-use Rattle.msg_world.specs.contracts.lent.Lent.{the_row as lent_row}
-use Rattle.msg_world.specs.Access.{Part, reads, writes, uses}
-use Rattle.msg_world.specs.Lending.{messages_row, with_type, with_value}
-use Rattle.msg_world.specs.Parts.{Parts, SameShape, SameSize, Stuff, StuffStands, slot}
-use Rattle.msg_world.specs.World.{WorldState, content}
+use Rattle.msg_world.specs.{declared.access.Access.Access, declared.record.Record.Record, declared.lent.Lent.Lent, contracts.lent.Lent.the_row as lent_row, Access.Part, Access.reads, Access.writes, Access.uses, Lending.messages_row, Lending.with_type, Lending.with_value, Parts.Parts, Parts.SameShape, Parts.SameSize, Parts.Stuff, Parts.StuffStands, Parts.slot, World.WorldState, World.content}
 
 -- the access that it was made for
 abbrev pub access_of : Lent → Access

@@ -2,11 +2,7 @@
 use Rattle.std.specs.Prelude.{◌≡◌, ℤ, Option, None, IsSome, IfSome, is_some, IsTrue, List, length, slice_index_or, if◌then◌else◌}
 use Rattle.std.specs.Option.{option_or}
 use Rattle.msg_buffer.specs.Prelude.{Kept, StandsFor}
-use Rattle.msg_world.specs.declared.record.Record.{Record}
-use Rattle.msg_world.specs.declared.marks.Marks.{Marks}
-use Rattle.msg_world.specs.declared.access.Access.{Access}
-use Rattle.msg_world.specs.Access.{HasPart, Part, OfType, OfResource, Registry, uses, writes}
-use Rattle.msg_world.specs.World.{WorldState, Content, content}
+use Rattle.msg_world.specs.{declared.record.Record.Record, declared.marks.Marks.Marks, declared.access.Access.Access, Access.HasPart, Access.Part, Access.OfType, Access.OfResource, Access.Registry, Access.uses, Access.writes, World.WorldState, World.Content, World.content}
 
 -- A slot for each type, for each resource, and for the registry's marks: empty where that part is
 -- elsewhere.

@@ -2,10 +2,7 @@
 -- the registry of signals.
 use Rattle.std.specs.Prelude.{ℕ, ℤ, pos, Bool, true, false, not, ◌&&◌, ◌||◌, ◌==◌, List, slice_index, slice_index_or, if◌then◌else◌}
 use Rattle.msg_buffer.specs.Prelude.{History, empty, update}
-use Rattle.msg_world.specs.declared.record.Record.{Record}
-use Rattle.msg_world.specs.declared.marks.Marks.{Marks}
-use Rattle.msg_world.specs.declared.access.Access.{Access}
-use Rattle.msg_world.specs.Access.{Part, OfType, OfResource, Registry, writes}
+use Rattle.msg_world.specs.{declared.record.Record.Record, declared.marks.Marks.Marks, declared.access.Access.Access, Access.Part, Access.OfType, Access.OfResource, Access.Registry, Access.writes}
 
 -- Types and resources go by number. A held world updates its types only where a signal is pending.
 pub record WorldState : Type 0 where

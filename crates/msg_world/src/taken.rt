@@ -39,13 +39,9 @@ fn moved_stand(types: &MovedParts<Messages<Record>>)
 }
 
 impl Taken {
-    ghost use Rattle.std.specs.Borrow.{sem};
-    ghost use Rattle.std.specs.Option.{option_copied, option_copied_mut};
+    ghost use Rattle.std.specs.{Borrow.sem, Option.option_copied, Option.option_copied_mut};
     ghost use Rattle.std.specs.Prelude.{◌≡◌, is_some, option_map};
-    ghost use Rattle.msg_world.specs.Access.{OfType, OfResource, Registry};
-    ghost use Rattle.msg_world.specs.Lending.{LendsMessages, LendsValue};
-    ghost use Rattle.msg_world.specs.Parts.{PartsStand, slot};
-    ghost use Rattle.msg_world.specs.World.{WorldState, signalled_marks};
+    ghost use Rattle.msg_world.specs.{Access.OfType, Access.OfResource, Access.Registry, Lending.LendsMessages, Lending.LendsValue, Parts.PartsStand, Parts.slot, World.WorldState, World.signalled_marks};
 
     /// A law: what was moved out stands for some state.
     pub(crate) fn stands_for_some(&self)

@@ -9,8 +9,7 @@ use Rattle.msg_files.specs.declared.report_fault.ReportFault.{ReportFault}
 use Rattle.msg_scenario.specs.Prelude.{HasRunFirst, frames_text, text_so_far}
 use Rattle.msg_reading.specs.declared.scenario.Scenario.{Scenario}
 use Rattle.msg_command.specs.Prelude.{status_of}
-use Rattle.msg_command.specs.declared.fault.MainFault.{MainFault}
-use Rattle.msg_command.specs.declared.fault.MainFault.TheVariants.{Built, Report}
+use Rattle.msg_command.specs.{declared.fault.MainFault.MainFault, declared.fault.MainFault.TheVariants.Built, declared.fault.MainFault.TheVariants.Report}
 
 -- The sink took exactly the text of the frames that were run.
 pub record PrintedFrames (s : Scenario) (before after : Option (List ℕ)) : Type 0 where

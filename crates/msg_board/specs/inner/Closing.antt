@@ -3,12 +3,7 @@ use Rattle.std.specs.Prelude.{◌≡◌, ℕ, ◌<◌, List, length, slice_get, 
 use mathlib.Core.Option.{some}
 use lib.ListN.{get_elem?}
 use Rattle.atomic_table.specs.declared.shared.Seat.{Seat}
-use Rattle.msg_board.specs.declared.law.Slot.{Slot}
-use Rattle.msg_board.specs.declared.law.Slot.TheVariants.{Done}
-use Rattle.msg_board.specs.declared.law.View.{View}
-use Rattle.msg_board.specs.Board.{BoardView, jobs_of}
-use Rattle.msg_board.specs.Counts.{times}
-use Rattle.msg_board.specs.Pass.{PassState, drawn_by}
+use Rattle.msg_board.specs.{declared.law.Slot.Slot, declared.law.Slot.TheVariants.Done, declared.law.View.View, Board.BoardView, Board.jobs_of, Counts.times, Pass.PassState, Pass.drawn_by}
 
 module _ {J D : Type 0} where
   -- the seat has the views of all these passes, each of which had ended

@@ -2,10 +2,7 @@
 -- one does.
 use Rattle.std.specs.Prelude.{◌≡◌, ℕ, List, [], ◌∷◌, Option, Some, None}
 use Rattle.atomic_table.specs.declared.shared.Seat.{Seat}
-use Rattle.msg_board.specs.declared.law.Slot.{Slot}
-use Rattle.msg_board.specs.declared.law.Slot.TheVariants.{Empty}
-use Rattle.msg_board.specs.declared.law.View.{View}
-use Rattle.msg_board.specs.Pass.{PassState}
+use Rattle.msg_board.specs.{declared.law.Slot.Slot, declared.law.Slot.TheVariants.Empty, declared.law.View.View, Pass.PassState}
 
 module _ {J D : Type 0} where
   -- the slots that are out with a pass which holds this number: one, from which it took the job

@@ -1,11 +1,8 @@
 -- What each board and each pass keeps by itself: the invariant of its model. No public contract
 -- cites it.
 use Rattle.std.specs.Prelude.{◌≡◌, ℕ, ◌+◌, ◌<◌, ◌≤◌, List, [], ◌∷◌, ◌++◌, length, All, Some, true}
-use Rattle.msg_board.specs.declared.pass.Pass.TheInside.{Inside}
+use Rattle.msg_board.specs.{declared.pass.Pass.TheInside.Inside, Board.BoardView, Pass.PassState, inner.Seats.IsSeatOf}
 use Rattle.msg_board.specs.declared.board.Board.TheInside as board
-use Rattle.msg_board.specs.Board.{BoardView}
-use Rattle.msg_board.specs.Pass.{PassState}
-use Rattle.msg_board.specs.inner.Seats.{IsSeatOf}
 
 module _ {J D : Type 0} where
   -- the state that callers see

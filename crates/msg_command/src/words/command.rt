@@ -1,8 +1,6 @@
 // The command line, as `clap` is told of it.
 ghost use Rattle.std.specs.Prelude.{◌≡◌, ◌≢◌, [], IfOk, IfErr, OnOk, false, true};
-ghost use Rattle.clap.specs.Words.{app_of, rule_of, fault_of, takes, subcommand_of, subcommand_rows_of, kind_of};
-ghost use Rattle.clap.specs.declared.Command.{out-Command as fields_of};
-ghost use Rattle.clap.specs.declared.error.ErrorKind.TheVariants.{DisplayHelp, OutOfMemory};
+ghost use Rattle.clap.specs.{Words.app_of, Words.rule_of, Words.fault_of, Words.takes, Words.subcommand_of, Words.subcommand_rows_of, Words.kind_of, declared.Command.out-Command as fields_of, declared.error.ErrorKind.TheVariants.DisplayHelp, declared.error.ErrorKind.TheVariants.OutOfMemory};
 ghost use Rattle.msg_command.specs.Prelude.{IsHelp, IsToldOf, buffer_app, file_rule, msgrun_app, run_app, texts_of, workers_rule};
 
 use crate::words::{WordFault, help};

@@ -3,11 +3,8 @@ use Rattle.std.specs.Prelude.{◌≡◌, ◌+◌, ℕ, All, List, ◌∷◌, [],
 use Rattle.std.specs.List.{AllZip}
 use Rattle.msg_world.specs.Prelude.{Parts}
 use Rattle.msg_system.specs.Prelude.{Meaning}
-use Rattle.msg_exec.specs.declared.job.Job.{Job}
-use Rattle.msg_exec.specs.declared.job.Done.{Done}
+use Rattle.msg_exec.specs.{declared.job.Job.Job, declared.job.Done.Done, Jobs.IsDone, Work.EachNewIs}
 use Rattle.msg_board.specs.Prelude.{BoardView, HasEnded, IsOf, PassState, jobs_of}
-use Rattle.msg_exec.specs.Jobs.{IsDone}
-use Rattle.msg_exec.specs.Work.{EachNewIs}
 
 module _ {S : Type 0} (meaning : S → Meaning) where
   -- all jobs of a batch are done, each on the same world

@@ -4,15 +4,9 @@ use Rattle.msg_world.specs.declared.access.Access.{Access}
 use Rattle.msg_order.specs.declared.rule.Rule.{Rule}
 use Rattle.msg_order.specs.Prelude.{IsLowestOnCycle}
 use Rattle.msg_system.specs.Prelude.{IsAccessOf, Meaning, with_conditions}
-use Rattle.msg_exec.specs.declared.job.GuardedSystem.{GuardedSystem}
-use Rattle.msg_frames.specs.declared.place.Place.{Place}
-use Rattle.msg_frames.specs.declared.totals.Totals.{Totals}
+use Rattle.msg_exec.specs.{declared.job.GuardedSystem.GuardedSystem, Jobs.job_state, Keeping.totals_at, declared.build_refusal.BuildRefusal.BuildRefusal, declared.build_refusal.BuildRefusal.TheVariants.Clash, declared.build_refusal.BuildRefusal.TheVariants.Cycle, declared.build_refusal.BuildRefusal.TheVariants.NoMemory, Building.IsLowestClash}
+use Rattle.msg_frames.specs.{declared.place.Place.Place, declared.totals.Totals.Totals}
 use Rattle.msg_frames.specs.Prelude.{HasClash, all_rules, new_job, no_totals}
-use Rattle.msg_exec.specs.Jobs.{job_state}
-use Rattle.msg_exec.specs.Keeping.{totals_at}
-use Rattle.msg_exec.specs.declared.build_refusal.BuildRefusal.{BuildRefusal}
-use Rattle.msg_exec.specs.declared.build_refusal.BuildRefusal.TheVariants.{Clash, Cycle, NoMemory}
-use Rattle.msg_exec.specs.Building.{IsLowestClash}
 
 -- what is said of a refusal for the rules alone
 abbrev pub RefusesForCycle : ℕ → List Rule → BuildRefusal → Type 0

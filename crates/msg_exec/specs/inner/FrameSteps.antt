@@ -4,11 +4,9 @@ use Rattle.msg_order.specs.Prelude.{IsPlanOf, PlanView}
 use Rattle.msg_system.specs.declared.reply.Reply.{Reply}
 use Rattle.msg_system.specs.Prelude.{Meaning}
 use Rattle.msg_world.specs.Prelude.{after_update}
-use Rattle.msg_exec.specs.declared.engine_core.Core.{Core}
+use Rattle.msg_exec.specs.{declared.engine_core.Core.Core, Lender.LenderStands, Cores.CoreStands, Cores.Schedule}
 use Rattle.msg_frames.specs.declared.frame.Frame.{Frame}
 use Rattle.msg_frames.specs.Prelude.{before_turns, joining, post_replies, State, join_flags}
-use Rattle.msg_exec.specs.Lender.{LenderStands}
-use Rattle.msg_exec.specs.Cores.{CoreStands, Schedule}
 
 -- the state with one frame more counted
 abbrev pub counted : State → State

@@ -1,19 +1,13 @@
 -- Systems go out for their turns, and come home.
 use Rattle.std.specs.Prelude.{◌≡◌, ℕ, ◌<◌, Bool, false, ◌||◌, List, [], ◌∷◌, Contains, length, slice_get, slice_set, Some, None, if◌then◌else◌}
-use Rattle.std.specs.Global.{Vec}
-use Rattle.std.specs.List.{AllZip}
+use Rattle.std.specs.{Global.Vec, List.AllZip}
 use Rattle.msg_world.specs.declared.access.Access.{Access}
 use Rattle.msg_world.specs.Prelude.{LendsOut, Part, SameSize, TakesBack, slot, writes}
 use Rattle.msg_order.specs.Prelude.{access_of}
 use Rattle.msg_system.specs.Prelude.{Meaning}
-use Rattle.msg_exec.specs.declared.job.Done.{Done}
-use Rattle.msg_exec.specs.declared.job.Job.{Job}
-use Rattle.msg_exec.specs.declared.lender.Lender.{Lender}
+use Rattle.msg_exec.specs.{declared.job.Done.Done, declared.job.Job.Job, declared.lender.Lender.Lender, inner.Totals.entries_by, Keeping.kept, Keeping.totals_at, Lender.system_at}
 use Rattle.msg_frames.specs.declared.totals.Totals.{Totals}
 use Rattle.msg_frames.specs.Prelude.{State, place_of, with_entries}
-use Rattle.msg_exec.specs.inner.Totals.{entries_by}
-use Rattle.msg_exec.specs.Keeping.{kept, totals_at}
-use Rattle.msg_exec.specs.Lender.{system_at}
 
 -- whether any of these systems writes the part
 abbrev pub any_writes : List Access → List ℕ → Part → Bool

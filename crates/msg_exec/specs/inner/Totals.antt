@@ -1,11 +1,9 @@
 -- What is added to totals, and where they begin.
 use Rattle.std.specs.Prelude.{ℕ, ◌≤◌, ◌==◌, List, [], length, None, Some, option_to_list, ⊤, if◌then◌else◌}
-use Rattle.msg_system.specs.declared.op.Op.{Op}
-use Rattle.msg_system.specs.declared.reply.Reply.{Reply}
+use Rattle.msg_system.specs.{declared.op.Op.Op, declared.reply.Reply.Reply}
 use Rattle.msg_world.specs.Prelude.{OfType}
 use Rattle.msg_system.specs.Prelude.{Meaning, start_place, type_read_by}
-use Rattle.msg_frames.specs.declared.log.Outcome.{Outcome}
-use Rattle.msg_frames.specs.declared.log.Outcome.TheVariants.{Skipped, Ran}
+use Rattle.msg_frames.specs.{declared.log.Outcome.Outcome, declared.log.Outcome.TheVariants.Skipped, declared.log.Outcome.TheVariants.Ran}
 use Rattle.msg_frames.specs.Prelude.{Entry, entries_for, entry_of}
 
 -- where a system that was given nothing starts in a type

@@ -1,7 +1,6 @@
 // A calls file, read from the bytes of a JSON text.
 ghost use Rattle.std.specs.Prelude.{◌≡◌, ◌≢◌, None, Some, Err, IfOk, IfErr, IsUtf8};
-ghost use Rattle.serde_json.specs.Data.{Data};
-ghost use Rattle.serde_json.specs.Read.{read};
+ghost use Rattle.serde_json.specs.{Data.Data, Read.read};
 ghost use Rattle.msg_files.specs.Prelude.{IsJsonOf, checks_of, file_of, first_refusal};
 
 use crate::calls::Calls;

@@ -3,11 +3,7 @@
 use Rattle.std.specs.Prelude.{◌≡◌, ℕ, ◌≤◌, ◌<◌, Bool, true, false, not, ◌&&◌, ◌||◌, ◌==◌, List, [], ◌∷◌, map, length, filter, flat_map, slice_index_or}
 use Rattle.std.specs.List.{range_with_len}
 use Rattle.msg_world.specs.declared.access.Access.{Access}
-use Rattle.msg_order.specs.declared.system_set.SystemSet.{SystemSet}
-use Rattle.msg_order.specs.inner.SystemSet.{has, meets, no_set}
-use Rattle.msg_order.specs.Graph.{Graph}
-use Rattle.msg_order.specs.Order.{has_joined, AreInConflict, Settles, pairs}
-use Rattle.msg_order.specs.Plan.{PlanView}
+use Rattle.msg_order.specs.{declared.system_set.SystemSet.SystemSet, inner.SystemSet.has, inner.SystemSet.meets, inner.SystemSet.no_set, Graph.Graph, Order.has_joined, Order.AreInConflict, Order.Settles, Order.pairs, Plan.PlanView}
 
 -- a path leads from i to j: without the first edge, or to its begin and on from its end
 abbrev pub path : Graph → ℕ → ℕ → Bool

@@ -1,8 +1,6 @@
 // A scenario from the bytes of a JSON text.
 ghost use Rattle.std.specs.Prelude.{◌≡◌, ◌≢◌, None, Some, Err, IfOk, IfErr, IsUtf8};
-ghost use Rattle.serde_json.specs.Data.{Data};
-ghost use Rattle.serde_json.specs.Read.{read};
-ghost use Rattle.serde_json.specs.View.{view};
+ghost use Rattle.serde_json.specs.{Data.Data, Read.read, View.view};
 ghost use Rattle.msg_files.specs.Prelude.{IsJsonOf};
 ghost use Rattle.msg_reading.specs.Prelude.{IsReadAs, IsRefusedFor, IsRunnable};
 

@@ -2,13 +2,9 @@
 use Rattle.std.specs.Prelude.{◌≡◌, ◌++◌, List, [], codes, flat_map, map, slice_get, zip}
 use Rattle.std.specs.Option.{option_map_or}
 use Rattle.msg_files.specs.Prelude.{Text}
-use Rattle.msg_frames.specs.declared.log.Outcome.{Outcome}
-use Rattle.msg_frames.specs.declared.log.Outcome.TheVariants.{Skipped, Ran}
-use Rattle.msg_frames.specs.declared.log.Turn.{Turn}
-use Rattle.msg_reading.specs.declared.scenario.Scenario.{Scenario}
-use Rattle.msg_reading.specs.declared.scenario.SystemSpec.{SystemSpec}
-use Rattle.msg_scenario.specs.declared.reports.lines.SystemLines.{SystemLines}
-use Rattle.msg_scenario.specs.ReportText.{answered_line, op_start}
+use Rattle.msg_frames.specs.{declared.log.Outcome.Outcome, declared.log.Outcome.TheVariants.Skipped, declared.log.Outcome.TheVariants.Ran, declared.log.Turn.Turn}
+use Rattle.msg_reading.specs.{declared.scenario.Scenario.Scenario, declared.scenario.SystemSpec.SystemSpec}
+use Rattle.msg_scenario.specs.{declared.reports.lines.SystemLines.SystemLines, ReportText.answered_line, ReportText.op_start}
 
 -- the line of a turn that a system skips, and how the line of each of its ops begins
 abbrev pub lines_of : Scenario → SystemSpec → Text × List Text

@@ -5,8 +5,7 @@ ghost use Rattle.msg_system.specs.declared.run_fault.RunFault.TheVariants.{BadOr
 ghost use Rattle.msg_scenario.specs.Prelude.{HasPrinted, HasReported, HasRunOut, HasStopped};
 ghost use Rattle.msg_reading.specs.Prelude.{PostsAreToTypes, state_of};
 ghost use Rattle.msg_files.specs.Prelude.{one_more};
-ghost use Rattle.msg_scenario.specs.inner.Lines.{AreLines};
-ghost use Rattle.msg_scenario.specs.inner.SoFar.{ReportSoFar};
+ghost use Rattle.msg_scenario.specs.{inner.Lines.AreLines, inner.SoFar.ReportSoFar};
 
 use crate::Scenario;
 use crate::reports::lines::{SystemLines, make_lines};

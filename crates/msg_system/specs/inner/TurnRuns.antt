@@ -2,11 +2,7 @@
 use Rattle.std.specs.Prelude.{◌≡◌, ℕ, ◌++◌, List, Option, length}
 use Rattle.msg_world.specs.declared.lent.Lent.{Lent}
 use Rattle.msg_world.specs.Prelude.{LoanStands, WorldState}
-use Rattle.msg_system.specs.declared.op.Op.{Op}
-use Rattle.msg_system.specs.declared.reply.Reply.{Reply}
-use Rattle.msg_system.specs.Needs.{Needs}
-use Rattle.msg_system.specs.Programs.{AfterProgram, after_program}
-use Rattle.msg_system.specs.Systems.{after_at_most, if_kept, ops_answered}
+use Rattle.msg_system.specs.{declared.op.Op.Op, declared.reply.Reply.Reply, Needs.Needs, Programs.AfterProgram, Programs.after_program, Systems.after_at_most, Systems.if_kept, Systems.ops_answered}
 
 -- the places, the loan and the replies are those after a program
 pub record IsAfterProgram (after : AfterProgram) (places : ℕ → ℕ) (lent : Lent)

@@ -1,8 +1,7 @@
 -- What the private functions on lists of slots say. No public contract cites these.
 use Rattle.std.specs.Prelude.{◌≡◌, ℕ, Option, None, IfSome, IsSome, IsTrue, is_some, List, length, slice_index_or}
 use Rattle.msg_buffer.specs.Prelude.{History, Kept, StandsFor, update}
-use Rattle.msg_world.specs.Access.{has_bit}
-use Rattle.msg_world.specs.declared.record.Record.{Record}
+use Rattle.msg_world.specs.{Access.has_bit, declared.record.Record.Record}
 
 -- what slot k holds: nothing past the end
 abbrev pub at : {X : Type 0} → List (Option X) → ℕ → Option X

@@ -1,6 +1,5 @@
 use Rattle.std.proofs.Common.{◌≡◌, ℕ, ◌-◌, ◌<◌, false, get_or}
-use Rattle.std.specs.Slots.{slots_filled, slots_len}
-use Rattle.std.specs.Slots.Ownership.{Filled}
+use Rattle.std.specs.{Slots.slots_filled, Slots.slots_len, Slots.Ownership.Filled}
 use Rattle.msg_board.proofs.slots.drop_slots.Given as goal
 
 abbrev pub invariant-loop-i : goal.invariant-loop-i

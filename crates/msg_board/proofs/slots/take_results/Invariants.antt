@@ -1,9 +1,7 @@
-use Rattle.std.proofs.Common.{◌≡◌, ◌-◌, ◌<◌, ◌≤◌, ℕ, length, false, get_or, Some, vec_capacity}
+use Rattle.std.proofs.Common.{◌≡◌, ◌-◌, ◌<◌, ◌≤◌, ℕ, length, false, get_or, Some, vec_capacity, slice_get}
 use mathlib.Core.Option.{some}
 use lib.ListN.{get_elem?}
-use Rattle.std.specs.Prelude.{slice_get}
-use Rattle.std.specs.Slots.{slots_items, slots_filled, slots_len}
-use Rattle.std.specs.Slots.Ownership.{Filled}
+use Rattle.std.specs.{Slots.slots_items, Slots.slots_filled, Slots.slots_len, Slots.Ownership.Filled}
 use Rattle.msg_board.specs.Prelude.{Done}
 use Rattle.msg_board.proofs.slots.take_results.Given as goal
 

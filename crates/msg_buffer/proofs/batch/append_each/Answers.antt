@@ -1,6 +1,5 @@
 use Rattle.std.proofs.Common.{◌++◌, [], ◌∷◌, refl, ◌∙◌, arith}
-use Rattle.std.proofs.lemmas.Fn.{says_at}
-use Rattle.std.proofs.lemmas.List.{length-take}
+use Rattle.std.proofs.lemmas.{Fn.says_at, List.length-take}
 use Rattle.msg_buffer.proofs.Made.{as_many, one_appended, one_more}
 use Rattle.msg_buffer.proofs.batch.append_each.Goals as goal
 

@@ -1,6 +1,5 @@
 use Rattle.std.proofs.Common.{◌≡◌, ◌+◌, ◌++◌, List, take, vec_len, vec_capacity}
-use Rattle.std.specs.Fn.{FnReturnsAt}
-use Rattle.std.specs.List.{AllZip}
+use Rattle.std.specs.{Fn.FnReturnsAt, List.AllZip}
 use Rattle.msg_buffer.specs.Prelude.{numbered}
 use Rattle.msg_buffer.proofs.batch.append_each.Given as goal
 

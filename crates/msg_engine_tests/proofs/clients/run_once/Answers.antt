@@ -1,8 +1,6 @@
 use Rattle.std.proofs.Common.{◌≡◌, ℕ, ◌<◌, List, rules, subst, sym, ◌∙◌, IsTrue}
-use Rattle.msg_frames.specs.declared.frame.Frame.{Frame}
-use Rattle.msg_frames.specs.declared.log.Log.{Log}
+use Rattle.msg_frames.specs.{declared.frame.Frame.Frame, declared.log.Log.Log, Entries.Fate.given}
 use Rattle.msg_frames.specs.Prelude.{IsCompleteRun, Meets, State, has_begun, log_entries}
-use Rattle.msg_frames.specs.Entries.Fate.{given}
 use Rattle.msg_engine_tests.proofs.clients.run_once.Goals as goal
 
 once : (frames : List Frame) (s : State) (logs : List Log) (u : State) → IsCompleteRun frames s logs u → (i t n j k : ℕ)

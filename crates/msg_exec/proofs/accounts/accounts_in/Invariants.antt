@@ -1,5 +1,4 @@
-use Rattle.std.proofs.Common.{◌≡◌}
-use Rattle.std.specs.Prelude.{flat_map}
+use Rattle.std.proofs.Common.{◌≡◌, flat_map}
 use Rattle.std.specs.List.{range_with_len}
 use Rattle.msg_frames.specs.Prelude.{State, accounts_of_system}
 use Rattle.msg_exec.specs.Prelude.{CoreStands}

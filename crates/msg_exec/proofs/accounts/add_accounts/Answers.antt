@@ -4,10 +4,8 @@ use Rattle.msg_order.proofs.Elements.{filter_drops}
 use Rattle.msg_world.specs.Prelude.{OfType}
 use Rattle.msg_system.specs.Prelude.{Job}
 use Rattle.msg_frames.specs.Prelude.{is_reader, no_totals}
-use Rattle.msg_exec.proofs.SystemAfterTurn.{totals_there}
-use Rattle.msg_exec.proofs.AccountsTell.{reader_more}
+use Rattle.msg_exec.proofs.{SystemAfterTurn.totals_there, AccountsTell.reader_more, accounts.add_accounts.Goals.then-reads_type+in_ok-push, accounts.add_accounts.Goals.else-reads_type}
 use Rattle.msg_exec.proofs.accounts.add_accounts.Goals as goal
-use Rattle.msg_exec.proofs.accounts.add_accounts.Goals.{then-reads_type+in_ok-push, else-reads_type}
 
 pub loop-t-preserved : goal.loop-t-preserved
 loop-t-preserved g c = record {

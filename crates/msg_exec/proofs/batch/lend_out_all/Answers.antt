@@ -1,10 +1,8 @@
-use Rattle.std.proofs.Common.{◌≢◌, take}
-use Rattle.std.specs.Prelude.{slice_index_or}
+use Rattle.std.proofs.Common.{◌≢◌, take, slice_index_or}
 use Rattle.std.proofs.lemmas.List.{take_more}
 use Rattle.msg_world.specs.Prelude.{Conflict}
 use Rattle.msg_order.specs.Prelude.{access_of}
-use Rattle.msg_exec.proofs.BatchGoesOut.{may_go, one_more_out}
-use Rattle.msg_exec.proofs.BatchWritesApart.{each_before, not_before}
+use Rattle.msg_exec.proofs.{BatchGoesOut.may_go, BatchGoesOut.one_more_out, BatchWritesApart.each_before, BatchWritesApart.not_before}
 use Rattle.msg_exec.proofs.batch.lend_out_all.Goals as goal
 
 pub lend_out-requires-clause-there : goal.lend_out-requires-clause-there

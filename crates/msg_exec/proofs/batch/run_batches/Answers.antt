@@ -1,7 +1,6 @@
 use Rattle.std.proofs.Common.{◌≢◌, ◌∙◌, arith, take, map, []}
 use Rattle.std.proofs.lemmas.List.{length-map, take_all}
-use Rattle.msg_exec.proofs.WorkersDraw.{more_passed}
-use Rattle.msg_exec.proofs.BatchAfterBatch.{its_systems, pairs_of_one, as_many_systems, one_batch_more, systems_of, turned_more}
+use Rattle.msg_exec.proofs.{WorkersDraw.more_passed, BatchAfterBatch.its_systems, BatchAfterBatch.pairs_of_one, BatchAfterBatch.as_many_systems, BatchAfterBatch.one_batch_more, BatchAfterBatch.systems_of, BatchAfterBatch.turned_more}
 use Rattle.msg_frames.specs.Prelude.{after_turns_of, State}
 use Rattle.msg_exec.proofs.batch.run_batches.Goals as goal
 

@@ -1,14 +1,9 @@
-use Rattle.std.proofs.Common.{length, min, subst, sym, ◌∙◌, arith}
-use Rattle.std.specs.Prelude.{All}
-use Rattle.std.proofs.lemmas.List.{nil_from_length}
-use Rattle.std.proofs.lemmas.Slice.Zip.{AllZip-long}
+use Rattle.std.proofs.Common.{length, min, subst, sym, ◌∙◌, arith, All}
+use Rattle.std.proofs.lemmas.{List.nil_from_length, Slice.Zip.AllZip-long}
 use Rattle.msg_exec.specs.Prelude.{Job, PassedGate}
 use Rattle.msg_exec.specs.inner.Lending.{IsOut}
 use Rattle.msg_frames.specs.Prelude.{State}
-use Rattle.msg_exec.proofs.WorkersDraw.{of_batch}
-use Rattle.msg_exec.proofs.BatchAfterBatch.{no_more_than}
-use Rattle.msg_exec.proofs.BatchComesHome.{all_came, begin_home, below_alike, next_comes, next_may_come}
-use Rattle.msg_exec.proofs.BatchGoesOut.{all_may_run}
+use Rattle.msg_exec.proofs.{WorkersDraw.of_batch, BatchAfterBatch.no_more_than, BatchComesHome.all_came, BatchComesHome.begin_home, BatchComesHome.below_alike, BatchComesHome.next_comes, BatchComesHome.next_may_come, BatchGoesOut.all_may_run}
 use Rattle.msg_exec.proofs.batch.run_many.Goals as goal
 
 pub run_side_by_side-requires-clause-few : goal.run_side_by_side-requires-clause-few

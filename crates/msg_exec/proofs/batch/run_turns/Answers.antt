@@ -1,6 +1,5 @@
 use Rattle.std.proofs.Common.{◌∷◌, [], ◌∙◌, arith, take}
-use Rattle.std.proofs.lemmas.List.{take_all, take_more}
-use Rattle.std.proofs.lemmas.List.Elements.{All-push}
+use Rattle.std.proofs.lemmas.{List.take_all, List.take_more, List.Elements.All-push}
 use Rattle.msg_frames.specs.Prelude.{after_turns_of, State}
 use Rattle.msg_exec.proofs.BatchAfterBatch.{as_many_systems, turned_more}
 use Rattle.msg_exec.proofs.batch.run_turns.Goals as goal

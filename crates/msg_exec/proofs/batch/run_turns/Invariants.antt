@@ -1,5 +1,4 @@
-use Rattle.std.proofs.Common.{◌≡◌, take}
-use Rattle.std.specs.Prelude.{All}
+use Rattle.std.proofs.Common.{◌≡◌, take, All}
 use Rattle.msg_exec.specs.Prelude.{LenderStands}
 use Rattle.msg_frames.specs.Prelude.{State}
 use Rattle.msg_exec.proofs.BatchAfterBatch.{HasTurned}

@@ -1,8 +1,5 @@
-use Rattle.std.proofs.Common.{◌≡◌, ◌∙◌, ◌∷◌, [], ◌++◌, Some, refl, arith, rules}
-use Rattle.std.specs.Prelude.{slice_get}
-use Rattle.std.proofs.lemmas.Bool.{both_ways}
-use Rattle.std.proofs.lemmas.List.{length_push}
-use Rattle.std.proofs.lemmas.Option.{get_or_from_slice_get, slice_get-get_or, slice_get_read}
+use Rattle.std.proofs.Common.{◌≡◌, ◌∙◌, ◌∷◌, [], ◌++◌, Some, refl, arith, rules, slice_get}
+use Rattle.std.proofs.lemmas.{Bool.both_ways, List.length_push, Option.get_or_from_slice_get, Option.slice_get-get_or, Option.slice_get_read}
 use Rattle.msg_world.specs.Prelude.{no_access}
 use Rattle.msg_exec.specs.inner.Building.{IsAccessAt}
 use Rattle.msg_exec.proofs.ItemsOfLists.{each_pushed}

@@ -1,5 +1,4 @@
-use Rattle.std.proofs.Common.{◌≡◌, length, true, rules}
-use Rattle.std.specs.Prelude.{replicate}
+use Rattle.std.proofs.Common.{◌≡◌, length, true, rules, replicate}
 use Rattle.msg_exec.proofs.building.check_rules.Goals as goal
 
 pub returns-in-Ok-build-clause-acyclic : goal.returns-in-Ok-build-clause-acyclic

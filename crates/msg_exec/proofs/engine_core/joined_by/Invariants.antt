@@ -1,5 +1,4 @@
-use Rattle.std.proofs.Common.{◌≡◌, map, take}
-use Rattle.std.specs.Prelude.{nat_le}
+use Rattle.std.proofs.Common.{◌≡◌, map, take, nat_le}
 use Rattle.msg_exec.proofs.engine_core.joined_by.Given as goal
 
 abbrev pub invariant-loop-join : goal.invariant-loop-join

@@ -1,5 +1,4 @@
-use Rattle.std.proofs.Common.{refl, ◌≡◌, length, ap, ◌∙◌, arith}
-use Rattle.std.specs.Prelude.{suc}
+use Rattle.std.proofs.Common.{refl, ◌≡◌, length, ap, ◌∙◌, arith, suc}
 use Rattle.msg_frames.specs.Prelude.{joining}
 use Rattle.msg_frames.proofs.SystemsStay.{joining_keeps, joining_makes_no_frame}
 use Rattle.msg_exec.specs.inner.FrameSteps.{counted}

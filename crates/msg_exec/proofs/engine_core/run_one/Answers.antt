@@ -1,11 +1,8 @@
 use Rattle.std.proofs.Common.{get_or, [], ◌∙◌, List, ℕ, refl, ap, map}
-use Rattle.std.specs.List.{concat}
-use Rattle.std.specs.Global.{Vec}
+use Rattle.std.specs.{List.concat, Global.Vec}
 use Rattle.msg_frames.specs.Prelude.{before_turns, State}
-use Rattle.std.proofs.lemmas.List.{get_or-map}
-use Rattle.std.proofs.lemmas.List.Elements.{Contains-get_or}
-use Rattle.msg_frames.proofs.SystemsStay.{joined_below}
-use Rattle.msg_frames.proofs.FramesInOrder.{in_that_order, logged_in}
+use Rattle.std.proofs.lemmas.{List.get_or-map, List.Elements.Contains-get_or}
+use Rattle.msg_frames.proofs.{SystemsStay.joined_below, FramesInOrder.in_that_order, FramesInOrder.logged_in}
 use Rattle.msg_exec.proofs.CoreRunsFrame.{frame_ran}
 use Rattle.msg_exec.proofs.engine_core.run_one.Goals as goal
 

@@ -1,16 +1,10 @@
 use Rattle.std.proofs.Common.{◌+◌, inl, inr, ◌≡◌, ◌<◌, None, length, sym, ap, ◌∙◌, arith, refl}
 use Rattle.std.specs.Vec.{with_items}
 use Rattle.msg_buffer.specs.Prelude.{count}
-use Rattle.std.proofs.lemmas.Bool.{cases_eq, eq-eqb, le-ltb, lt-ltb}
-use Rattle.std.proofs.lemmas.Bool.Decides.{nat_tests}
-use Rattle.std.proofs.lemmas.List.FromFn.{fill_by_all}
-use Rattle.std.proofs.lemmas.Option.{get_or_from_slice_get}
-use Rattle.std.proofs.lemmas.List.{get_or_default, get_or-set_other, get_or-set_same, length-set, with_items_is}
+use Rattle.std.proofs.lemmas.{Bool.cases_eq, Bool.eq-eqb, Bool.le-ltb, Bool.lt-ltb, Bool.Decides.nat_tests, List.FromFn.fill_by_all, Option.get_or_from_slice_get, List.get_or_default, List.get_or-set_other, List.get_or-set_same, List.length-set, List.with_items_is}
 use Rattle.msg_frames.specs.Prelude.{Member, State, counts, job_begun, totals_from, with_joining}
 use Rattle.msg_exec.specs.Prelude.{system_at}
-use Rattle.msg_exec.proofs.SystemsJoin.{conditions_start, joined_below, members_alike, still}
-use Rattle.msg_exec.proofs.SystemAfterTurn.{member_stays, totals_there}
-use Rattle.msg_exec.proofs.ItemsOfLists.{get_other, get_same, some_of}
+use Rattle.msg_exec.proofs.{SystemsJoin.conditions_start, SystemsJoin.joined_below, SystemsJoin.members_alike, SystemsJoin.still, SystemAfterTurn.member_stays, SystemAfterTurn.totals_there, ItemsOfLists.get_other, ItemsOfLists.get_same, ItemsOfLists.some_of}
 use Rattle.msg_exec.specs.inner.Totals.{first_place}
 use Rattle.msg_system.specs.Prelude.{Job as JobState}
 use Rattle.msg_exec.proofs.joining.join_those.Goals as goal

@@ -1,6 +1,5 @@
 use Rattle.std.proofs.Common.{◌<◌, refl, sym, ◌∙◌, arith}
-use Rattle.msg_exec.proofs.BatchOfOne.{may_come_home, may_take_turn, turn_is_logged, turn_taken}
-use Rattle.msg_exec.proofs.EntriesAreAdded.{entered_there}
+use Rattle.msg_exec.proofs.{BatchOfOne.may_come_home, BatchOfOne.may_take_turn, BatchOfOne.turn_is_logged, BatchOfOne.turn_taken, EntriesAreAdded.entered_there}
 use Rattle.msg_exec.proofs.lender.run_turn.Goals as goal
 
 pub take_turn-requires-clause-may : goal.take_turn-requires-clause-may

@@ -1,10 +1,8 @@
 use Rattle.std.proofs.Common.{ℕ, ℤ, ◌∙◌, refl, arith, take, rules}
-use Rattle.std.proofs.lemmas.List.{length_push, take_all, take_more}
+use Rattle.std.proofs.lemmas.{List.length_push, List.take_all, List.take_more, Int.to_z-of_z, Option.slice_get_read}
 use mir.Val.{SFits}
 use mir.Syntax.{w64}
-use Rattle.std.proofs.lemmas.Int.{to_z-of_z}
 use Rattle.msg_world.specs.Prelude.{OfType}
-use Rattle.std.proofs.lemmas.Option.{slice_get_read}
 use Rattle.msg_frames.specs.Prelude.{after_posts}
 use Rattle.msg_exec.proofs.PostsAreWritten.{if_refused, posted_more, replies_more}
 use Rattle.msg_exec.proofs.posts.post_all.Goals as goal

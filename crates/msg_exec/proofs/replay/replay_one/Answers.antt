@@ -3,8 +3,7 @@ use Rattle.std.specs.List.{concat}
 use Rattle.std.proofs.lemmas.List.Elements.{Contains-get_or}
 use Rattle.msg_frames.specs.declared.log.Log.{Log}
 use Rattle.msg_frames.specs.Prelude.{after_turns_of, before_turns, frame_in, State}
-use Rattle.msg_frames.proofs.FramesInOrder.{in_that_order, logged_in}
-use Rattle.msg_frames.proofs.SystemsStay.{joined_below}
+use Rattle.msg_frames.proofs.{FramesInOrder.in_that_order, FramesInOrder.logged_in, SystemsStay.joined_below}
 use Rattle.msg_exec.proofs.CoreRunsFrame.{frame_ran, is_frame_by}
 use Rattle.msg_exec.proofs.replay.replay_one.Goals as goal
 

@@ -1,8 +1,6 @@
-use Rattle.std.proofs.Common.{◌≡◌, Some, List, ◌++◌, length, min, take, drop, sym, subst, arith}
-use Rattle.std.specs.Prelude.{slice_get}
+use Rattle.std.proofs.Common.{◌≡◌, Some, List, ◌++◌, length, min, take, drop, sym, subst, arith, slice_get}
 use Rattle.std.proofs.Math.Seq.{take-append_seam}
-use Rattle.std.proofs.lemmas.Option.{slice_get_within}
-use Rattle.std.proofs.lemmas.Result.{IfOk-weaker}
+use Rattle.std.proofs.lemmas.{Option.slice_get_within, Result.IfOk-weaker}
 use Rattle.msg_board.specs.Prelude.{HoldsEachOnce, PassState, drawn_by, jobs_of}
 use Rattle.msg_exec.proofs.WorkersDraw.{each_passed}
 use Rattle.msg_exec.proofs.run_workers.run_jobs.Goals as goal

@@ -1,12 +1,7 @@
-use Rattle.std.proofs.Common.{◌≡◌, ◌∙◌, [], length, min, ap, sym, subst}
-use Rattle.std.proofs.lemmas.List.{length-map}
-use Rattle.std.proofs.lemmas.List.Elements.{All-get_or}
-use Rattle.std.proofs.lemmas.Option.{get_or_from_slice_get, slice_get_within}
-use Rattle.std.proofs.lemmas.Result.{IfOk-weaker}
-use Rattle.std.specs.Prelude.{All}
+use Rattle.std.proofs.Common.{◌≡◌, ◌∙◌, [], length, min, ap, sym, subst, All}
+use Rattle.std.proofs.lemmas.{List.length-map, List.Elements.All-get_or, Option.get_or_from_slice_get, Option.slice_get_within, Result.IfOk-weaker}
 use Rattle.msg_exec.specs.Prelude.{Job, MayRun, PassedGate}
-use Rattle.msg_exec.proofs.WorkersDraw.{all_mapped}
-use Rattle.msg_exec.proofs.JobsShareTheWorld.{all_are_done, each_may}
+use Rattle.msg_exec.proofs.{WorkersDraw.all_mapped, JobsShareTheWorld.all_are_done, JobsShareTheWorld.each_may}
 use Rattle.msg_exec.proofs.side_by_side.run_side_by_side.Goals as goal
 
 pub run_jobs-requires-clause-may : goal.run_jobs-requires-clause-may

@@ -1,7 +1,5 @@
-use Rattle.std.proofs.Common.{◌≡◌, ◌∙◌, ◌++◌, ◌∷◌, [], ap, map, sym, subst}
-use Rattle.std.specs.Prelude.{All}
-use Rattle.std.proofs.lemmas.List.{map-append}
-use Rattle.std.proofs.lemmas.List.Elements.{All-push}
+use Rattle.std.proofs.Common.{◌≡◌, ◌∙◌, ◌++◌, ◌∷◌, [], ap, map, sym, subst, All}
+use Rattle.std.proofs.lemmas.{List.map-append, List.Elements.All-push}
 use Rattle.msg_exec.proofs.side_by_side.with_world.Goals as goal
 
 pub loop-job-preserved : goal.loop-job-preserved

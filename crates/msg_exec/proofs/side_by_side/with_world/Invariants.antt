@@ -1,5 +1,4 @@
-use Rattle.std.proofs.Common.{◌≡◌, [], map}
-use Rattle.std.specs.Prelude.{All}
+use Rattle.std.proofs.Common.{◌≡◌, [], map, All}
 use Rattle.msg_exec.proofs.side_by_side.with_world.Given as goal
 
 abbrev pub invariant-loop-job : goal.invariant-loop-job

@@ -1,5 +1,4 @@
-use Rattle.std.proofs.Common.{rules, ap, ◌∙◌}
-use Rattle.std.specs.Prelude.{option_to_list}
+use Rattle.std.proofs.Common.{rules, ap, ◌∙◌, option_to_list}
 use Rattle.msg_frames.specs.Prelude.{entry_of, with_entries}
 use Rattle.msg_frames.proofs.EntriesAddUp.{with_clear}
 use Rattle.msg_exec.proofs.EntriesAreAdded.{kept_alike}

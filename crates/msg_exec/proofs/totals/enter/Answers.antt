@@ -2,8 +2,7 @@ use Rattle.std.proofs.Common.{add-one, refl, arith, ap, ◌∙◌}
 use Rattle.msg_frames.specs.Prelude.{with_entries}
 use Rattle.msg_exec.specs.Prelude.{kept}
 use Rattle.msg_exec.specs.inner.Totals.{entry_at}
-use Rattle.std.proofs.lemmas.List.{drop_all}
-use Rattle.std.proofs.lemmas.Option.{slice_get_read}
+use Rattle.std.proofs.lemmas.{List.drop_all, Option.slice_get_read}
 use Rattle.msg_frames.proofs.EntriesAddUp.{with_entries-append, with_entries-none}
 use Rattle.msg_exec.proofs.EntriesAreAdded.{entries_from, without_replies}
 use Rattle.msg_exec.proofs.totals.enter.Goals as goal

@@ -1,6 +1,5 @@
 use Rattle.std.proofs.Common.{arith, append_assoc}
-use Rattle.std.proofs.lemmas.Grind.{common_steps}
-use Rattle.std.proofs.lemmas.Fmt.{decimal_step_wide}
+use Rattle.std.proofs.lemmas.{Grind.common_steps, Fmt.decimal_step_wide}
 use Rattle.itoa.proofs.Decimal.{length_wide, length_step_wide}
 use Rattle.msg_files.proofs.numerals.write_number.Goals as goal
 

@@ -1,7 +1,6 @@
 use Rattle.std.proofs.Common.{◌<◌, ◌≤◌, ◌^◌, ℕ, length, ◌≡◌, ◌+◌, ◌-◌, ℤ, pos, negsuc, true, refl, arith, append-nil, to_z-of_z, int_le, unsigned_abs}
 use Rattle.std.specs.Fmt.{decimal, signed_decimal}
-use Rattle.std.proofs.lemmas.Fmt.{length-decimal-le}
-use Rattle.std.proofs.lemmas.List.{drop-set, drop_all}
+use Rattle.std.proofs.lemmas.{Fmt.length-decimal-le, List.drop-set, List.drop_all}
 use Rattle.itoa.proofs.Decimal.{minus_first}
 use Rattle.msg_files.proofs.numerals.write_value.Goals as goal
 

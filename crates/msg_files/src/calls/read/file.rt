@@ -1,11 +1,7 @@
 // A calls file: its limit, and each call after those before it.
 ghost use Rattle.std.specs.Prelude.{◌≡◌, ◌≢◌, Some, None, true, IfOk, IfErr, map};
 ghost use Rattle.serde_json.specs.View.{view};
-ghost use Rattle.msg_files.specs.Check.{first_refusal};
-ghost use Rattle.msg_files.specs.Checks.{calls_checks, checks_of, is_known, list_checks};
-ghost use Rattle.msg_files.specs.Cursors.{cursors_exist, made_by};
-ghost use Rattle.msg_files.specs.Denotes.{call_of, calls_of, file_of};
-ghost use Rattle.msg_files.specs.Walk.{Agrees};
+ghost use Rattle.msg_files.specs.{Check.first_refusal, Checks.calls_checks, Checks.checks_of, Checks.is_known, Checks.list_checks, Cursors.cursors_exist, Cursors.made_by, Denotes.call_of, Denotes.calls_of, Denotes.file_of, Walk.Agrees};
 
 use crate::call::Call;
 use crate::calls::Calls;

@@ -1,7 +1,6 @@
 // The numbers in a file.
 ghost use Rattle.std.specs.Prelude.{◌≡◌, ◌<◌, ◌∷◌, [], Some, None, IfOk, MatchResult, option_map, option_and_then};
-ghost use Rattle.serde_json.specs.Find.{as_number, as_i64};
-ghost use Rattle.serde_json.specs.View.{view, number_view};
+ghost use Rattle.serde_json.specs.{Find.as_number, Find.as_i64, View.view, View.number_view};
 ghost use Rattle.msg_files.specs.Prelude.{IsAnswer, a_cursor, a_limit, a_message_number, a_number, a_value, natural, natural_of, only_below, whole};
 
 use crate::limits::MAX_LIMIT;

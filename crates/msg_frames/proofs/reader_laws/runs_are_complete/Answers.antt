@@ -1,5 +1,4 @@
-use Rattle.msg_frames.proofs.HistoriesGrow.{buffer_laws}
-use Rattle.msg_frames.proofs.ReaderOverRun.{runs_are_complete}
+use Rattle.msg_frames.proofs.{HistoriesGrow.buffer_laws, ReaderOverRun.runs_are_complete}
 use Rattle.msg_frames.proofs.reader_laws.runs_are_complete.Goals as goal
 
 pub returns : goal.returns

@@ -1,5 +1,4 @@
-use Rattle.msg_frames.proofs.StatesStaySound.{frame_sound, run_sound}
-use Rattle.msg_frames.proofs.HistoriesGrow.{buffer_laws}
+use Rattle.msg_frames.proofs.{StatesStaySound.frame_sound, StatesStaySound.run_sound, HistoriesGrow.buffer_laws}
 use Rattle.msg_frames.proofs.reader_laws.states_stay_sound.Goals as goal
 
 pub returns : goal.returns

@@ -1,5 +1,4 @@
-use Rattle.msg_frames.proofs.HistoriesGrow.{buffer_laws}
-use Rattle.msg_frames.proofs.ReadersStayUpToDate.{caught_up, has_frame_before, misses_nothing, never_misses, now_up_to_date}
+use Rattle.msg_frames.proofs.{HistoriesGrow.buffer_laws, ReadersStayUpToDate.caught_up, ReadersStayUpToDate.has_frame_before, ReadersStayUpToDate.misses_nothing, ReadersStayUpToDate.never_misses, ReadersStayUpToDate.now_up_to_date}
 use Rattle.msg_frames.proofs.reader_laws.who_reads_each_frame_misses_nothing.Goals as goal
 
 pub returns : goal.returns

@@ -1,8 +1,6 @@
 use Rattle.std.proofs.Common.{◌≡◌, ◌<◌, ◌≢◌, length, sym, ◌∙◌, arith, vec_len}
-use Rattle.std.proofs.lemmas.Bool.{eqb-true, eqb-false}
-use Rattle.std.proofs.lemmas.List.{map-append}
-use Rattle.msg_order.specs.inner.SystemSet.{has, meets}
-use Rattle.msg_order.specs.inner.Paths.{set_at}
+use Rattle.std.proofs.lemmas.{Bool.eqb-true, Bool.eqb-false, List.map-append}
+use Rattle.msg_order.specs.{inner.SystemSet.has, inner.SystemSet.meets, inner.Paths.set_at}
 use Rattle.msg_order.proofs.BatchLevels.{LeadAmong, peeled_next, peeled_all, peeled_done, left_falls, sets_tell}
 use Rattle.msg_order.proofs.levels.batches_of.Goals as goal
 

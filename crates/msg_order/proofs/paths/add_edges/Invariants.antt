@@ -1,7 +1,5 @@
-use Rattle.std.proofs.Common.{◌≡◌, ℕ, ◌<◌, ◌≤◌, ◌||◌, ◌&&◌}
-use Rattle.std.specs.Prelude.{◌==◌}
-use Rattle.msg_order.specs.inner.SystemSet.{has, meets}
-use Rattle.msg_order.specs.inner.Paths.{comes_before, set_at}
+use Rattle.std.proofs.Common.{◌≡◌, ℕ, ◌<◌, ◌≤◌, ◌||◌, ◌&&◌, ◌==◌}
+use Rattle.msg_order.specs.{inner.SystemSet.has, inner.SystemSet.meets, inner.Paths.comes_before, inner.Paths.set_at}
 use Rattle.msg_order.proofs.paths.add_edges.Given as goal
 
 abbrev pub invariant-loop-j : goal.invariant-loop-j

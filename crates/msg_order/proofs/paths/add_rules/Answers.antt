@@ -1,8 +1,7 @@
 use Rattle.std.proofs.Common.{ℕ, get_or, take, arith}
 use Rattle.msg_order.specs.Prelude.{Graph, Rule, rules_among}
-use Rattle.msg_order.proofs.SetPaths.{adds_edge, path-again, rule_more}
+use Rattle.msg_order.proofs.{SetPaths.adds_edge, SetPaths.path-again, SetPaths.rule_more, paths.add_rules.Goals.then-joined-earlier+then-joined-later+then-not-contains, paths.add_rules.Goals.else-joined-earlier}
 use Rattle.msg_order.proofs.paths.add_rules.Goals as goal
-use Rattle.msg_order.proofs.paths.add_rules.Goals.{then-joined-earlier+then-joined-later+then-not-contains, else-joined-earlier}
 
 abbrev no_rule : Rule
 no_rule = record { earlier = 0; later = 0 }

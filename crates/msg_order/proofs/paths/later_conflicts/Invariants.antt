@@ -1,5 +1,4 @@
-use Rattle.std.proofs.Common.{ℕ, ◌<◌}
-use Rattle.std.specs.Prelude.{IsFalse, IsTrue, ◌↔◌}
+use Rattle.std.proofs.Common.{ℕ, ◌<◌, IsFalse, IsTrue, ◌↔◌}
 use Rattle.msg_order.specs.inner.SystemSet.{has}
 use Rattle.msg_order.specs.Prelude.{AreInConflict}
 use Rattle.msg_order.proofs.paths.later_conflicts.Given as goal

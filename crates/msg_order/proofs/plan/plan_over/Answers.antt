@@ -1,12 +1,8 @@
 use Rattle.std.proofs.Common.{◌≡◌, ℕ, List, Bool, length, map, refl, ap, ◌∙◌, arith}
-use Rattle.std.specs.List.{concat}
-use Rattle.std.specs.Vec.{with_items}
+use Rattle.std.specs.{List.concat, Vec.with_items}
 use Rattle.std.proofs.lemmas.List.{with_items_is}
 use Rattle.msg_order.specs.Prelude.{AreBatches, Graph, IsAmong, IsTurnOrder, SystemSet}
-use Rattle.msg_order.proofs.PathTest.{from_Path, to_Path}
-use Rattle.msg_order.proofs.SetPaths.{settled_joins, settled_free}
-use Rattle.msg_order.proofs.TurnOrders.{in_lawful_order, in_turn_order, none_conflict}
-use Rattle.msg_order.proofs.PlanViews.{seen_edges, systems-view, sets_kept}
+use Rattle.msg_order.proofs.{PathTest.from_Path, PathTest.to_Path, SetPaths.settled_joins, SetPaths.settled_free, TurnOrders.in_lawful_order, TurnOrders.in_turn_order, TurnOrders.none_conflict, PlanViews.seen_edges, PlanViews.systems-view, PlanViews.sets_kept}
 use Rattle.msg_order.proofs.plan.plan_over.Goals as goal
 
 pub invariant_of-result : goal.invariant_of-result

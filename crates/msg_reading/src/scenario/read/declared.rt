@@ -2,8 +2,7 @@
 ghost use Rattle.std.specs.Prelude.{◌≡◌, ◌∷◌, ◌++◌, ◌&&◌, [], OnOk, option_map};
 ghost use Rattle.serde_json.specs.View.{view};
 ghost use Rattle.msg_files.specs.Prelude.{Agrees, a_limit, a_value, is_number, natural, needs, whole};
-ghost use Rattle.msg_reading.specs.ScenarioChecks.{is_text, new_name, resource_checks, type_checks};
-ghost use Rattle.msg_reading.specs.ScenarioDenotes.{resource_of, text, type_of, with_resource, with_type};
+ghost use Rattle.msg_reading.specs.{ScenarioChecks.is_text, ScenarioChecks.new_name, ScenarioChecks.resource_checks, ScenarioChecks.type_checks, ScenarioDenotes.resource_of, ScenarioDenotes.text, ScenarioDenotes.type_of, ScenarioDenotes.with_resource, ScenarioDenotes.with_type};
 ghost use Rattle.msg_files.specs.declared.refusal.Refusal.TheVariants.{Shape};
 
 use crate::scenario::read::named::Declaration;

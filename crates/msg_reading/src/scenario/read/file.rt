@@ -1,10 +1,8 @@
 // The sections of a scenario file, one after another.
 ghost use Rattle.std.specs.Prelude.{◌≡◌, ◌≢◌, None, Some, IfOk, IfErr, OnOk, codes};
-ghost use Rattle.serde_json.specs.Find.{as_bool};
-ghost use Rattle.serde_json.specs.View.{view};
+ghost use Rattle.serde_json.specs.{Find.as_bool, View.view};
 ghost use Rattle.msg_files.specs.Prelude.{Agrees, IsAnswer, first_refusal, value_at};
-ghost use Rattle.msg_reading.specs.ScenarioChecks.{frames_checks, held_checks, is_root_key, resources_checks, root_object, rules_checks, scenario_checks, sections_checks, systems_checks, types_checks};
-ghost use Rattle.msg_reading.specs.ScenarioDenotes.{all_names, frames_in, frames_of, held_in, no_names, part_names, resources_of, rules_of, scenario_of, systems_in, systems_of, type_names, types_in, types_of};
+ghost use Rattle.msg_reading.specs.{ScenarioChecks.frames_checks, ScenarioChecks.held_checks, ScenarioChecks.is_root_key, ScenarioChecks.resources_checks, ScenarioChecks.root_object, ScenarioChecks.rules_checks, ScenarioChecks.scenario_checks, ScenarioChecks.sections_checks, ScenarioChecks.systems_checks, ScenarioChecks.types_checks, ScenarioDenotes.all_names, ScenarioDenotes.frames_in, ScenarioDenotes.frames_of, ScenarioDenotes.held_in, ScenarioDenotes.no_names, ScenarioDenotes.part_names, ScenarioDenotes.resources_of, ScenarioDenotes.rules_of, ScenarioDenotes.scenario_of, ScenarioDenotes.systems_in, ScenarioDenotes.systems_of, ScenarioDenotes.type_names, ScenarioDenotes.types_in, ScenarioDenotes.types_of};
 
 use crate::limits::{MAX_FRAMES, MAX_RESOURCES, MAX_RULES, MAX_SYSTEMS, MAX_TYPES};
 use crate::scenario::read::list::{read_list, read_list_if_there};

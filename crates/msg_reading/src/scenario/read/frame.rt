@@ -1,6 +1,5 @@
 // One frame: a list of posts, each a type and a value.
-ghost use Rattle.msg_reading.specs.ScenarioChecks.{frame_checks, post_checks};
-ghost use Rattle.msg_reading.specs.ScenarioDenotes.{frame_of, post_of};
+ghost use Rattle.msg_reading.specs.{ScenarioChecks.frame_checks, ScenarioChecks.post_checks, ScenarioDenotes.frame_of, ScenarioDenotes.post_of};
 
 use crate::Refusal;
 use crate::limits::MAX_POSTS;

@@ -1,11 +1,8 @@
 // Lists of a scenario file.
 ghost use Rattle.std.specs.Prelude.{◌≡◌, ◌≢◌, ℕ, List, Option, None, Some, IfOk, IfErr, flat_map, map, option_map, unwrap_or};
-ghost use Rattle.serde_json.specs.Data.{Data};
-ghost use Rattle.serde_json.specs.View.{view};
+ghost use Rattle.serde_json.specs.{Data.Data, View.view};
 ghost use Rattle.msg_files.specs.Prelude.{Agrees, Check, all_some, first_refusal};
-ghost use Rattle.msg_reading.specs.Names.{Declared};
-ghost use Rattle.msg_reading.specs.ScenarioChecks.{list_checks};
-ghost use Rattle.msg_reading.specs.ScenarioDenotes.{each_of, nothing};
+ghost use Rattle.msg_reading.specs.{Names.Declared, ScenarioChecks.list_checks, ScenarioDenotes.each_of, ScenarioDenotes.nothing};
 
 use crate::Refusal;
 use crate::scenario::read::names::Declarations;

@@ -1,11 +1,8 @@
 // Lists whose elements declare names.
 ghost use Rattle.std.specs.Prelude.{◌≡◌, ◌≢◌, List, Option, None, Some, IfOk, IfErr, OnOk, map};
-ghost use Rattle.serde_json.specs.Data.{Data};
-ghost use Rattle.serde_json.specs.View.{view};
+ghost use Rattle.serde_json.specs.{Data.Data, View.view};
 ghost use Rattle.msg_files.specs.Prelude.{Agrees, Check, elements, first_refusal};
-ghost use Rattle.msg_reading.specs.Names.{Declared};
-ghost use Rattle.msg_reading.specs.ScenarioChecks.{checks_in_turn, names_checks};
-ghost use Rattle.msg_reading.specs.ScenarioDenotes.{each_in_turn, with_all};
+ghost use Rattle.msg_reading.specs.{Names.Declared, ScenarioChecks.checks_in_turn, ScenarioChecks.names_checks, ScenarioDenotes.each_in_turn, ScenarioDenotes.with_all};
 
 use crate::Refusal;
 use crate::scenario::read::names::Declarations;

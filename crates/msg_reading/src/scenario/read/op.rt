@@ -1,12 +1,9 @@
 // One op, by its head and the number of parts that follow it.
 ghost use Rattle.std.specs.Prelude.{◌≡◌, ◌∷◌, ◌&&◌, Some, MatchResult, length, map, nat_le, true, false};
-ghost use Rattle.serde_json.specs.Find.{as_array, as_str};
-ghost use Rattle.serde_json.specs.View.{items_view, view};
+ghost use Rattle.serde_json.specs.{Find.as_array, Find.as_str, View.items_view, View.view};
 ghost use Rattle.msg_system.specs.declared.op.Op.TheVariants.{Batch};
 ghost use Rattle.msg_files.specs.Prelude.{Agrees, IsAnswer, a_value, all_some, elements, few_values, needs, values_of, whole};
-ghost use Rattle.msg_reading.specs.Names.{type_number};
-ghost use Rattle.msg_reading.specs.ScenarioChecks.{a_type, bare_op_checks, is_list_of_numbers, is_text, op_checks, op_checks_with, op_checks_with_one, op_checks_with_two};
-ghost use Rattle.msg_reading.specs.ScenarioDenotes.{bare_op, both, op_of, op_with, op_with_one, op_with_two, text};
+ghost use Rattle.msg_reading.specs.{Names.type_number, ScenarioChecks.a_type, ScenarioChecks.bare_op_checks, ScenarioChecks.is_list_of_numbers, ScenarioChecks.is_text, ScenarioChecks.op_checks, ScenarioChecks.op_checks_with, ScenarioChecks.op_checks_with_one, ScenarioChecks.op_checks_with_two, ScenarioDenotes.bare_op, ScenarioDenotes.both, ScenarioDenotes.op_of, ScenarioDenotes.op_with, ScenarioDenotes.op_with_one, ScenarioDenotes.op_with_two, ScenarioDenotes.text};
 ghost use Rattle.msg_files.specs.declared.refusal.Refusal.TheVariants.{Shape, TooMany};
 
 use crate::Refusal;

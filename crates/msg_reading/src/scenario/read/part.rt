@@ -1,8 +1,6 @@
 // The parts of a list.
 ghost use Rattle.std.specs.Prelude.{◌≡◌, ◌∷◌, ◌&&◌, [], List, Some, None, false, IfErr, IfOk, MatchResult, map};
-ghost use Rattle.serde_json.specs.Data.{Data};
-ghost use Rattle.serde_json.specs.Find.{as_number, as_str};
-ghost use Rattle.serde_json.specs.View.{view, number_view};
+ghost use Rattle.serde_json.specs.{Data.Data, Find.as_number, Find.as_str, View.view, View.number_view};
 ghost use Rattle.msg_files.specs.Prelude.{Check, IsAnswer, Text, a_limit, a_value, elements, first_refusal, is_number, natural, needs, whole};
 ghost use Rattle.msg_reading.specs.Prelude.{a_resource, a_type, both, for_headed, for_two, in_not, is_text, resource_number, text, type_number, wrong_shape};
 ghost use Rattle.msg_files.specs.declared.refusal.Refusal.TheVariants.{Shape};

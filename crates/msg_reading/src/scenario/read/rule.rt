@@ -2,9 +2,7 @@
 ghost use Rattle.std.specs.Prelude.{◌∷◌, ◌&&◌, []};
 ghost use Rattle.serde_json.specs.View.{view};
 ghost use Rattle.msg_files.specs.Prelude.{IsAnswer, needs};
-ghost use Rattle.msg_reading.specs.Names.{system_number};
-ghost use Rattle.msg_reading.specs.ScenarioChecks.{a_system, is_text, rule_checks};
-ghost use Rattle.msg_reading.specs.ScenarioDenotes.{both, rule_of, text};
+ghost use Rattle.msg_reading.specs.{Names.system_number, ScenarioChecks.a_system, ScenarioChecks.is_text, ScenarioChecks.rule_checks, ScenarioDenotes.both, ScenarioDenotes.rule_of, ScenarioDenotes.text};
 ghost use Rattle.msg_files.specs.declared.refusal.Refusal.TheVariants.{Shape};
 
 use crate::Refusal;

@@ -3,8 +3,7 @@ ghost use Rattle.std.specs.Prelude.{◌≡◌, ◌≢◌, ◌∷◌, ◌++◌, [
 ghost use Rattle.std.specs.Option.{option_map_or};
 ghost use Rattle.serde_json.specs.View.{view};
 ghost use Rattle.msg_files.specs.Prelude.{Agrees, first_refusal, needs, value_at};
-ghost use Rattle.msg_reading.specs.ScenarioChecks.{fits_kind, is_system_key, list_checks, name_checks, op_checks, program_checks, system_checks, system_object};
-ghost use Rattle.msg_reading.specs.ScenarioDenotes.{each_of, kind_in, kind_of, op_of, ops_of, place_of, start_in, start_of, system_of, text, with_system};
+ghost use Rattle.msg_reading.specs.{ScenarioChecks.fits_kind, ScenarioChecks.is_system_key, ScenarioChecks.list_checks, ScenarioChecks.name_checks, ScenarioChecks.op_checks, ScenarioChecks.program_checks, ScenarioChecks.system_checks, ScenarioChecks.system_object, ScenarioDenotes.each_of, ScenarioDenotes.kind_in, ScenarioDenotes.kind_of, ScenarioDenotes.op_of, ScenarioDenotes.ops_of, ScenarioDenotes.place_of, ScenarioDenotes.start_in, ScenarioDenotes.start_of, ScenarioDenotes.system_of, ScenarioDenotes.text, ScenarioDenotes.with_system};
 ghost use Rattle.msg_files.specs.declared.refusal.Refusal.TheVariants.{Shape};
 
 use crate::limits::MAX_OPS;

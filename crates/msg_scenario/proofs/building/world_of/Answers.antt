@@ -1,7 +1,6 @@
 use Rattle.std.proofs.Common.{◌∙◌, false, true}
-use Rattle.msg_scenario.proofs.Making.{stands_held, stands_unheld}
+use Rattle.msg_scenario.proofs.{Making.stands_held, Making.stands_unheld, building.world_of.Goals.then-scenario, building.world_of.Goals.else-scenario}
 use Rattle.msg_scenario.proofs.building.world_of.Goals as goal
-use Rattle.msg_scenario.proofs.building.world_of.Goals.{then-scenario, else-scenario}
 
 pub returns-clause-meaning : goal.returns-clause-meaning
 returns-clause-meaning c =

@@ -1,7 +1,5 @@
 use Rattle.std.proofs.Common.{◌≡◌, arith, sym, ◌∙◌}
-use Rattle.msg_system.proofs.Deciding.{answered_more, appended, covers_kept, turn_more, turn_over}
-use Rattle.msg_system.proofs.Runs.{covers_later, same_loan_trans}
-use Rattle.msg_system.proofs.Turns.{next_kept_to}
+use Rattle.msg_system.proofs.{Deciding.answered_more, Deciding.appended, Deciding.covers_kept, Deciding.turn_more, Deciding.turn_over, Runs.covers_later, Runs.same_loan_trans, Turns.next_kept_to}
 use Rattle.msg_system.proofs.behavior_system.run_turn.Goals as goal
 
 pub run-requires : goal.run-requires

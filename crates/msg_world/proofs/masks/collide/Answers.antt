@@ -1,5 +1,4 @@
-use Rattle.msg_world.proofs.Bits.{share_bit-and}
-use Rattle.msg_world.proofs.Conflicts.{collides}
+use Rattle.msg_world.proofs.{Bits.share_bit-and, Conflicts.collides}
 use Rattle.msg_world.proofs.masks.collide.Goals as goal
 
 pub returns-then-share_bit : goal.returns-then-share_bit

@@ -1,7 +1,5 @@
-use Rattle.std.proofs.lemmas.Grind.{common_steps}
+use Rattle.std.proofs.lemmas.{Grind.common_steps, List.nil_from_length, List.Elements.All-pop}
 use Rattle.std.proofs.Common.{◌<◌, Some, vec_len, rules, ◌∙◌, arith}
-use Rattle.std.proofs.lemmas.List.{nil_from_length}
-use Rattle.std.proofs.lemmas.List.Elements.{All-pop}
 use Rattle.msg_world.proofs.Placed.{at_empty, last_home, placed_length}
 use Rattle.msg_world.proofs.moved.move_home.Goals as goal
 

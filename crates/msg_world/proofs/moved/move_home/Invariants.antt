@@ -1,7 +1,6 @@
 use Rattle.std.proofs.Common.{◌≡◌, ℕ, vec_len}
 use Rattle.std.specs.Option.{option_or}
-use Rattle.msg_world.specs.inner.Moved.{AreSlotsBelow, placed}
-use Rattle.msg_world.specs.inner.Slots.{at}
+use Rattle.msg_world.specs.{inner.Moved.AreSlotsBelow, inner.Moved.placed, inner.Slots.at}
 use Rattle.msg_world.proofs.moved.move_home.Given as goal
 
 abbrev pub invariant-loop-slot : goal.invariant-loop-slot

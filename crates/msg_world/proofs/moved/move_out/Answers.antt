@@ -1,10 +1,7 @@
 use Rattle.std.proofs.lemmas.Grind.{common_steps}
-use Rattle.std.proofs.Common.{rules, ap, ◌∙◌, arith}
-use Rattle.std.specs.Prelude.{◌==◌}
-use Rattle.msg_world.specs.inner.Moved.{placed}
-use Rattle.msg_world.specs.inner.Slots.{at}
-use Rattle.msg_world.proofs.Bits.{none_itself, all_below, below_next, one_less}
-use Rattle.msg_world.proofs.Placed.{placed_length, one_leaves, one_moves}
+use Rattle.std.proofs.Common.{rules, ap, ◌∙◌, arith, ◌==◌}
+use Rattle.msg_world.specs.{inner.Moved.placed, inner.Slots.at}
+use Rattle.msg_world.proofs.{Bits.none_itself, Bits.all_below, Bits.below_next, Bits.one_less, Placed.placed_length, Placed.one_leaves, Placed.one_moves}
 use Rattle.msg_world.proofs.moved.move_out.Goals as goal
 
 pub move_slot-requires-clause-room : goal.move_slot-requires-clause-room

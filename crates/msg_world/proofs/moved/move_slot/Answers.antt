@@ -1,7 +1,6 @@
 use Rattle.std.proofs.Common.{◌≡◌, Some, vec_len, rules, sym, ◌∙◌}
 use Rattle.msg_world.specs.inner.Slots.{at}
-use Rattle.msg_world.proofs.Placed.{one_more_at}
-use Rattle.msg_world.proofs.Worlds.{item_at}
+use Rattle.msg_world.proofs.{Placed.one_more_at, Worlds.item_at}
 use Rattle.msg_world.proofs.moved.move_slot.Goals as goal
 
 pub returns-in-Some-take-clause-moved : goal.returns-in-Some-take-clause-moved

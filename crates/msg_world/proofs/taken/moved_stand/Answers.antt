@@ -1,5 +1,4 @@
-use Rattle.std.proofs.Common.{inl, inr, arith, Option, subst}
-use Rattle.std.specs.Prelude.{pos}
+use Rattle.std.proofs.Common.{inl, inr, arith, Option, subst, pos}
 use Rattle.std.proofs.lemmas.Bool.{cases_eq}
 use Rattle.msg_buffer.specs.Prelude.{History, Kept, empty}
 use Rattle.msg_world.specs.Prelude.{Record, by}

@@ -1,5 +1,4 @@
-use Rattle.std.proofs.Common.{◌≡◌, ℕ, ◌<◌, length, Some}
-use Rattle.std.specs.Prelude.{IsSome, slice_get}
+use Rattle.std.proofs.Common.{◌≡◌, ℕ, ◌<◌, length, Some, IsSome, slice_get}
 use Rattle.msg_buffer.specs.Prelude.{History, count}
 use Rattle.msg_world.specs.Prelude.{Record}
 use Rattle.msg_world.specs.inner.Slots.{BufferStands, at}

@@ -1,5 +1,4 @@
-use Rattle.std.proofs.Common.{◌≡◌, ℕ, ◌<◌, length}
-use Rattle.std.specs.Prelude.{IsSomeAnd, slice_index}
+use Rattle.std.proofs.Common.{◌≡◌, ℕ, ◌<◌, length, IsSomeAnd, slice_index}
 use Rattle.msg_buffer.specs.Prelude.{StandsFor, empty}
 use Rattle.msg_world.specs.inner.Slots.{at}
 use Rattle.msg_world.proofs.world.new_types.Given as goal

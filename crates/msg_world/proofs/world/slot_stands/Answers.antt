@@ -1,4 +1,4 @@
-use Rattle.std.specs.Prelude.{pos}
+use Rattle.std.proofs.Common.{pos}
 use Rattle.msg_buffer.specs.Prelude.{empty}
 use Rattle.msg_world.specs.Prelude.{by}
 use Rattle.msg_world.proofs.world.slot_stands.Goals as goal

@@ -1,5 +1,4 @@
-use Rattle.std.proofs.Common.{◌≡◌, ℕ, ◌<◌, ◌≤◌}
-use Rattle.std.specs.Prelude.{is_some}
+use Rattle.std.proofs.Common.{◌≡◌, ℕ, ◌<◌, ◌≤◌, is_some}
 use Rattle.msg_buffer.specs.Prelude.{History, update}
 use Rattle.msg_world.specs.Prelude.{Record}
 use Rattle.msg_world.specs.inner.Slots.{BufferStands, at}

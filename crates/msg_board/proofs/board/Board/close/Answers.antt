@@ -1,11 +1,8 @@
 use Rattle.std.proofs.Common.{◌≡◌, ap, ◌∙◌, arith, length, None}
-use Rattle.std.proofs.lemmas.List.Elements.{All-weaker}
-use Rattle.std.proofs.lemmas.Result.{IfOk-weaker}
+use Rattle.std.proofs.lemmas.{List.Elements.All-weaker, Result.IfOk-weaker}
 use Rattle.msg_board.specs.Prelude.{HasEnded, jobs_of}
 use Rattle.msg_board.specs.inner.Sound.{board_of}
-use Rattle.msg_board.proofs.TableLists.{there, get_there}
-use Rattle.msg_board.proofs.Steps.{closes_board}
-use Rattle.msg_board.proofs.PassSeats.{all_handed_in}
+use Rattle.msg_board.proofs.{TableLists.there, TableLists.get_there, Steps.closes_board, PassSeats.all_handed_in}
 use Rattle.msg_board.proofs.board.Board.close.Goals as goal
 
 pub results_of-requires-clause-done : goal.results_of-requires-clause-done

@@ -2,8 +2,7 @@ use Rattle.std.proofs.Common.{rules, ap, ◌∙◌, arith, Some}
 use Rattle.msg_board.specs.Prelude.{HasEnded}
 use Rattle.msg_board.specs.inner.Seats.{carried}
 use Rattle.std.proofs.lemmas.List.Elements.{All-pop}
-use Rattle.msg_board.proofs.Steps.{unites}
-use Rattle.msg_board.proofs.PassSeats.{gathers_first, gathers, gathered}
+use Rattle.msg_board.proofs.{Steps.unites, PassSeats.gathers_first, PassSeats.gathers, PassSeats.gathered}
 use Rattle.msg_board.proofs.board.Board.gather.Goals as goal
 
 pub loop-pass-init : goal.loop-pass-init

@@ -1,9 +1,7 @@
 use Rattle.std.proofs.Common.{ap, ◌∙◌, arith, length, ◌<◌}
 use lib.ListN.{get_elem?}
 use Rattle.msg_board.specs.Prelude.{jobs_of}
-use Rattle.msg_board.proofs.TableLists.{there, got}
-use Rattle.msg_board.proofs.Steps.{hands_in_at}
-use Rattle.msg_board.proofs.PassSeats.{handed_sound, handed_said, held_within}
+use Rattle.msg_board.proofs.{TableLists.there, TableLists.got, Steps.hands_in_at, PassSeats.handed_sound, PassSeats.handed_said, PassSeats.held_within}
 use Rattle.msg_board.proofs.board.Board.hand_in.Goals as goal
 
 pub store-requires : goal.store-requires

@@ -1,8 +1,7 @@
 use Rattle.std.proofs.Common.{rules, ap, sym, ◌∙◌, arith, length, ◌+◌, get_or, ℕ, map}
 use Rattle.std.proofs.lemmas.List.{length-replicate}
 use Rattle.msg_board.specs.Prelude.{Job}
-use Rattle.msg_board.proofs.TableLists.{zero_at}
-use Rattle.msg_board.proofs.Steps.{starts}
+use Rattle.msg_board.proofs.{TableLists.zero_at, Steps.starts}
 use Rattle.msg_board.proofs.board.Board.new.Goals as goal
 
 pub new-requires : goal.new-requires

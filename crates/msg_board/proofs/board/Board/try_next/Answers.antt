@@ -1,8 +1,7 @@
 use Rattle.std.proofs.Common.{ap, ◌∙◌, arith}
 use Rattle.msg_board.specs.Prelude.{jobs_of}
 use Rattle.msg_board.specs.inner.Seats.{carried}
-use Rattle.msg_board.proofs.Steps.{draws}
-use Rattle.msg_board.proofs.PassSeats.{drew_sound, drew_said, unfinished_more}
+use Rattle.msg_board.proofs.{Steps.draws, PassSeats.drew_sound, PassSeats.drew_said, PassSeats.unfinished_more}
 use Rattle.msg_board.proofs.board.Board.try_next.Goals as goal
 
 pub fetch_max-found-requires : goal.fetch_max-found-requires

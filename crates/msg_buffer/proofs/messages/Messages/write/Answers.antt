@@ -1,7 +1,6 @@
 use Rattle.std.proofs.Common.{◌≡◌, [], ◌∷◌, arith, length-append}
 use Rattle.msg_buffer.specs.Prelude.{kept_count, numbered}
-use Rattle.msg_buffer.proofs.Numbers.{numbers-append}
-use Rattle.msg_buffer.proofs.Standing.{stands_written}
+use Rattle.msg_buffer.proofs.{Numbers.numbers-append, Standing.stands_written}
 use Rattle.msg_buffer.proofs.messages.Messages.write.Goals as goal
 
 pub invariant_of-self : goal.invariant_of-self

@@ -1,7 +1,6 @@
 use Rattle.std.proofs.Common.{rules, ◌≡◌, arith, length, length-append}
 use Rattle.msg_buffer.specs.Prelude.{kept_count, numbered}
-use Rattle.msg_buffer.proofs.Numbers.{length-numbered, numbers-append}
-use Rattle.msg_buffer.proofs.Standing.{stands_written}
+use Rattle.msg_buffer.proofs.{Numbers.length-numbered, Numbers.numbers-append, Standing.stands_written}
 use Rattle.msg_buffer.proofs.messages.Messages.write_batch.Goals as goal
 
 pub invariant_of-self-2 : goal.invariant_of-self-2

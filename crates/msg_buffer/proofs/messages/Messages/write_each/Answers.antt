@@ -1,8 +1,6 @@
 use Rattle.std.proofs.Common.{◌≡◌, arith, length-append}
 use Rattle.msg_buffer.specs.Prelude.{kept_count, numbered}
-use Rattle.msg_buffer.proofs.Made.{as_many}
-use Rattle.msg_buffer.proofs.Numbers.{length-numbered, numbers-append}
-use Rattle.msg_buffer.proofs.Standing.{stands_written}
+use Rattle.msg_buffer.proofs.{Made.as_many, Numbers.length-numbered, Numbers.numbers-append, Standing.stands_written}
 use Rattle.msg_buffer.proofs.messages.Messages.write_each.Goals as goal
 
 pub invariant_of-self-2 : goal.invariant_of-self-2

@@ -1,6 +1,5 @@
 use Rattle.std.proofs.Common.{ap, is_some}
-use Rattle.msg_exec.proofs.EngineRunsFrames.{stood}
-use Rattle.msg_exec.proofs.AccountsTell.{all_add_up}
+use Rattle.msg_exec.proofs.{EngineRunsFrames.stood, AccountsTell.all_add_up}
 use Rattle.msg_exec.proofs.engine.EngineOf.accounts.Goals as goal
 
 pub returns-in-Ok-clause-add_up : goal.returns-in-Ok-clause-add_up

@@ -1,8 +1,7 @@
 use Rattle.std.proofs.Common.{◌≡◌, length, map, refl, ap, ◌∙◌, arith, inr}
 use Rattle.msg_exec.specs.Prelude.{Core, Schedule}
 use Rattle.msg_frames.specs.Prelude.{State, unjoined, with_joining}
-use Rattle.msg_exec.proofs.FirstEngineStands.{are_new, none_clashes, none_more, parts_stand, schedule_first}
-use Rattle.msg_exec.proofs.CoreRunsFrame.{joined_by_frame, schedule_along}
+use Rattle.msg_exec.proofs.{FirstEngineStands.are_new, FirstEngineStands.none_clashes, FirstEngineStands.none_more, FirstEngineStands.parts_stand, FirstEngineStands.schedule_first, CoreRunsFrame.joined_by_frame, CoreRunsFrame.schedule_along}
 use Rattle.msg_frames.proofs.SystemsStay.{joining_on_keeps}
 use Rattle.msg_exec.proofs.engine.EngineOf.new.Goals as goal
 

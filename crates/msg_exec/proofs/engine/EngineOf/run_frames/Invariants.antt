@@ -1,5 +1,4 @@
-use Rattle.std.proofs.Common.{◌≤◌, length, drop}
-use Rattle.std.specs.Prelude.{All, IsSome}
+use Rattle.std.proofs.Common.{◌≤◌, length, drop, All, IsSome}
 use Rattle.msg_exec.specs.Prelude.{EachPassedGate, IsEngine, StandsFor}
 use Rattle.msg_frames.specs.Prelude.{systems_in, State}
 use Rattle.msg_exec.proofs.EngineRunsFrames.{RunSoFar}

@@ -2,8 +2,7 @@ use Rattle.std.proofs.lemmas.Grind.{common_steps}
 use Rattle.std.proofs.Common.{arith, ◌∙◌}
 use Rattle.std.specs.Io.KnownBytes.{Appends}
 use Rattle.msg_files.specs.Prelude.{AppendsPrefix}
-use Rattle.msg_files.proofs.Puts.{on_err, on_err_then, on_ok_then}
-use Rattle.msg_files.proofs.Running.{AppendsPrefix_whole, OnTheWay_ends, OnTheWay_fails, OnTheWay_more, OnTheWay_stops}
+use Rattle.msg_files.proofs.{Puts.on_err, Puts.on_err_then, Puts.on_ok_then, Running.AppendsPrefix_whole, Running.OnTheWay_ends, Running.OnTheWay_fails, Running.OnTheWay_more, Running.OnTheWay_stops}
 use Rattle.msg_files.proofs.calls.run.run_calls.Goals as goal
 
 pub returns-in_err-put_text-in-Err-clause-prefix : goal.returns-in_err-put_text-in-Err-clause-prefix

@@ -1,13 +1,8 @@
 use Rattle.std.proofs.Common.{◌≡◌, ℕ, Bool, length, get_or, sym, ap, ◌∙◌, refl, arith}
-use Rattle.std.proofs.lemmas.Bool.{false≢true, false_from_ne_true}
-use Rattle.std.proofs.lemmas.List.{get_or_read}
-use Rattle.msg_order.specs.inner.SystemSet.{has, meets, no_set}
-use Rattle.msg_order.specs.inner.Paths.{set_at}
-use Rattle.msg_order.proofs.SystemSets.{meets-found, meets-true}
-use Rattle.msg_order.proofs.PlanViews.{seen_edges, seen_joined, lawful_same}
-use Rattle.msg_order.proofs.AcceptedOrders.{goes_on, not_all, taken_all, taken_first, taken_next}
+use Rattle.std.proofs.lemmas.{Bool.false≢true, Bool.false_from_ne_true, List.get_or_read}
+use Rattle.msg_order.specs.{inner.SystemSet.has, inner.SystemSet.meets, inner.SystemSet.no_set, inner.Paths.set_at}
+use Rattle.msg_order.proofs.{SystemSets.meets-found, SystemSets.meets-true, PlanViews.seen_edges, PlanViews.seen_joined, PlanViews.lawful_same, AcceptedOrders.goes_on, AcceptedOrders.not_all, AcceptedOrders.taken_all, AcceptedOrders.taken_first, AcceptedOrders.taken_next, plan.Plan.accepts.Goals.then-system-len-via-then-system-len, plan.Plan.accepts.Goals.then-system-len-via-else-system-len+then-not-contains, plan.Plan.accepts.Goals.then-system-len-via-else-system-len+else-not-contains+then-meets}
 use Rattle.msg_order.proofs.plan.Plan.accepts.Goals as goal
-use Rattle.msg_order.proofs.plan.Plan.accepts.Goals.{then-system-len-via-then-system-len, then-system-len-via-else-system-len+then-not-contains, then-system-len-via-else-system-len+else-not-contains+then-meets}
 
 pub loop-system-init : goal.loop-system-init
 loop-system-init _g c = taken_first _ _ _ _ (seen_joined _ _ _ _ c.self.view_is c.self.invariant)

@@ -1,5 +1,4 @@
-use Rattle.std.proofs.Common.{◌<◌, ℕ, ◌+◌, ◌*◌, ◌/◌, ◌^◌, ◌&&◌, get_or, sym, refl, arith, rules}
-use Rattle.std.specs.Prelude.{bit_and}
+use Rattle.std.proofs.Common.{◌<◌, ℕ, ◌+◌, ◌*◌, ◌/◌, ◌^◌, ◌&&◌, get_or, sym, refl, arith, rules, bit_and}
 use Rattle.std.proofs.lemmas.Nat.{and_le_l}
 use Rattle.msg_world.proofs.Bits.{some_bit}
 use Rattle.msg_order.specs.inner.SystemSet.{has, meets}

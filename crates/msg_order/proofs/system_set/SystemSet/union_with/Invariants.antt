@@ -1,5 +1,4 @@
-use Rattle.std.proofs.Common.{◌≡◌, ℕ, ◌<◌, ◌≤◌, get_or, length}
-use Rattle.std.specs.Prelude.{bit_or}
+use Rattle.std.proofs.Common.{◌≡◌, ℕ, ◌<◌, ◌≤◌, get_or, length, bit_or}
 use Rattle.msg_order.proofs.system_set.SystemSet.union_with.Given as goal
 
 abbrev pub invariant-loop-i : goal.invariant-loop-i

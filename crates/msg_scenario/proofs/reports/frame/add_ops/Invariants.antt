@@ -1,5 +1,4 @@
-use Rattle.std.proofs.Common.{◌≡◌, ◌++◌}
-use Rattle.std.specs.Prelude.{flat_map, zip}
+use Rattle.std.proofs.Common.{◌≡◌, ◌++◌, flat_map, zip}
 use Rattle.msg_scenario.specs.Prelude.{answered_line}
 use Rattle.msg_scenario.proofs.ReportLines.{LeftWithin, pieces_left}
 use Rattle.msg_scenario.proofs.reports.frame.add_ops.Given as goal

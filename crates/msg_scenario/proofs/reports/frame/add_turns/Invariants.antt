@@ -1,5 +1,4 @@
-use Rattle.std.proofs.Common.{◌≡◌, ◌++◌, take}
-use Rattle.std.specs.Prelude.{flat_map}
+use Rattle.std.proofs.Common.{◌≡◌, ◌++◌, take, flat_map}
 use Rattle.msg_scenario.specs.inner.Lines.{finished_turn}
 use Rattle.msg_scenario.proofs.reports.frame.add_turns.Given as goal
 

@@ -1,7 +1,5 @@
 use Rattle.std.proofs.Common.{arith}
-use Rattle.std.proofs.lemmas.Grind.{common_steps}
-use Rattle.std.proofs.lemmas.List.{take_all}
-use Rattle.std.proofs.lemmas.List.FromFn.{length-enumerate_from}
+use Rattle.std.proofs.lemmas.{Grind.common_steps, List.take_all, List.FromFn.length-enumerate_from}
 use Rattle.msg_scenario.specs.Prelude.{next_item}
 use Rattle.msg_scenario.proofs.ReportLines.{numbered_more}
 use Rattle.msg_scenario.proofs.reports.reply.add_more.Goals as goal

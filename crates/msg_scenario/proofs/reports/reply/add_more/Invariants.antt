@@ -1,6 +1,5 @@
-use Rattle.std.proofs.Common.{◌≡◌, ◌++◌, take}
+use Rattle.std.proofs.Common.{◌≡◌, ◌++◌, take, flat_map}
 use Rattle.std.specs.List.{enumerate_from}
-use Rattle.std.specs.Prelude.{flat_map}
 use Rattle.msg_scenario.specs.Prelude.{next_item}
 use Rattle.msg_scenario.proofs.reports.reply.add_more.Given as goal
 

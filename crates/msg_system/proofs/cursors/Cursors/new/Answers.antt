@@ -1,6 +1,5 @@
 use Rattle.std.proofs.Common.{◌≡◌, ℕ, get_or, replicate, arith}
-use Rattle.std.proofs.lemmas.Bool.{cases_lt}
-use Rattle.std.proofs.lemmas.List.{get_or-replicate, get_or_past, length-replicate}
+use Rattle.std.proofs.lemmas.{Bool.cases_lt, List.get_or-replicate, List.get_or_past, List.length-replicate}
 use Rattle.msg_system.proofs.cursors.Cursors.new.Goals as goal
 
 zeros : (n x t : ℕ) → x ≡ 0 → get_or (replicate n x) t 0 ≡ 0

@@ -1,7 +1,5 @@
-use Rattle.std.proofs.Common.{◌≡◌, inl, inr, arith, rules, ap}
-use Rattle.std.specs.Prelude.{◌==◌}
-use Rattle.std.proofs.lemmas.Bool.{cases_lt}
-use Rattle.std.proofs.lemmas.Nat.Bits.{bit_at_above}
+use Rattle.std.proofs.Common.{◌≡◌, inl, inr, arith, rules, ap, ◌==◌}
+use Rattle.std.proofs.lemmas.{Bool.cases_lt, Nat.Bits.bit_at_above}
 use Rattle.msg_world.specs.Prelude.{OfType}
 use Rattle.msg_system.specs.Prelude.{places_of, started_places}
 use Rattle.msg_system.proofs.cursors.Cursors.start.Goals as goal

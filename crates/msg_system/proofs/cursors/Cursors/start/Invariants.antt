@@ -1,5 +1,4 @@
-use Rattle.std.proofs.Common.{◌≡◌, ◌<◌, ◌≤◌, ℕ}
-use Rattle.std.specs.Prelude.{if◌then◌else◌}
+use Rattle.std.proofs.Common.{◌≡◌, ◌<◌, ◌≤◌, ℕ, if◌then◌else◌}
 use Rattle.msg_world.specs.Prelude.{OfType, reads}
 use Rattle.msg_system.specs.Prelude.{places_of, start_place}
 use Rattle.msg_system.proofs.cursors.Cursors.start.Given as goal

@@ -2,8 +2,7 @@ use Rattle.std.proofs.Common.{◌≡◌, ◌&&◌, ◌++◌, List, [], ◌∷◌
 use Rattle.std.proofs.Math.Bool.{and-true}
 use Rattle.msg_world.specs.Prelude.{WorldState}
 use Rattle.std.proofs.Math.Seq.{map-set_same}
-use Rattle.std.proofs.lemmas.List.{drop-set-lt, drop_more, get_or-map, length-map, map_push, take_more, take_more_set}
-use Rattle.std.proofs.lemmas.Grind.{drop_more_same}
+use Rattle.std.proofs.lemmas.{List.drop-set-lt, List.drop_more, List.get_or-map, List.length-map, List.map_push, List.take_more, List.take_more_set, Grind.drop_more_same}
 use Rattle.msg_system.specs.Prelude.{answer, all_hold, Asked}
 use Rattle.msg_system.proofs.guard.Guard.check_all.Goals as goal
 

@@ -1,8 +1,7 @@
 use Rattle.std.proofs.Common.{rules, refl}
 use mir.Val.{SFits}
 use mir.Syntax.{w64}
-use Rattle.std.proofs.lemmas.Int.{to_z-of_z}
-use Rattle.std.proofs.lemmas.Result.{IfOk-weaker, on_err_weaker}
+use Rattle.std.proofs.lemmas.{Int.to_z-of_z, Result.IfOk-weaker, Result.on_err_weaker}
 use Rattle.msg_world.specs.Prelude.{OfResource, OfType, Registry}
 use Rattle.msg_system.specs.Prelude.{Clear, Forward, Read, Sum, places_of}
 use Rattle.msg_system.proofs.Runs.{covers_read, covers_written, place_at, ran_at}

@@ -1,6 +1,5 @@
 use Rattle.std.proofs.lemmas.Grind.{common_steps}
-use Rattle.std.proofs.Common.{arith, sym, ◌∙◌, ap, Some}
-use Rattle.std.specs.Prelude.{slice_set}
+use Rattle.std.proofs.Common.{arith, sym, ◌∙◌, ap, Some, slice_set}
 use Rattle.msg_world.proofs.Placed.{at_none, first_part, its_slot, lends_alike, set_first}
 use Rattle.msg_world.proofs.moved.MovedParts.get_mut.Goals as goal
 

@@ -1,9 +1,7 @@
 use Rattle.std.proofs.Common.{arith, rules, ap, Some, ◌∙◌}
 use mir.Val.{SFits}
 use mir.Syntax.{w64}
-use Rattle.std.proofs.lemmas.Int.{to_z-of_z}
-use Rattle.std.proofs.lemmas.Result.{IfErr-weaker, IfOk-weaker, on_ok_weaker}
-use Rattle.std.proofs.lemmas.Grind.{common_steps}
+use Rattle.std.proofs.lemmas.{Int.to_z-of_z, Result.IfErr-weaker, Result.IfOk-weaker, Result.on_ok_weaker, Grind.common_steps}
 use Rattle.msg_buffer.specs.Prelude.{StandsFor}
 use Rattle.msg_world.specs.Prelude.{HOST, OfType, PartsStand, WorldState, by}
 use Rattle.msg_world.proofs.Worlds.{found_at, type_shape, type_stands}

@@ -1,6 +1,5 @@
-use Rattle.std.proofs.lemmas.Grind.{common_steps}
+use Rattle.std.proofs.lemmas.{Grind.common_steps, List.with_items_is}
 use Rattle.std.proofs.Common.{refl, sym, subst, arith}
-use Rattle.std.proofs.lemmas.List.{with_items_is}
 use Rattle.msg_world.specs.Prelude.{OfResource, OfType, Registry}
 use Rattle.msg_world.specs.inner.Slots.{AllUpdated}
 use Rattle.msg_world.proofs.Worlds.{others_update, waiting_stays}

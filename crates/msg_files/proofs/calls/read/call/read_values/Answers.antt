@@ -1,10 +1,6 @@
 use Rattle.std.proofs.Common.{arith}
-use Rattle.std.proofs.lemmas.Grind.{common_steps}
-use Rattle.std.proofs.lemmas.Bool.Decides.{nat_tests}
-use Rattle.std.proofs.lemmas.List.{length-map}
-use Rattle.std.proofs.lemmas.List.Folds.{list_all-map}
-use Rattle.msg_files.proofs.Shapes.{elements_are}
-use Rattle.msg_files.proofs.Walks.{all_some-map}
+use Rattle.std.proofs.lemmas.{Grind.common_steps, Bool.Decides.nat_tests, List.length-map, List.Folds.list_all-map}
+use Rattle.msg_files.proofs.{Shapes.elements_are, Walks.all_some-map}
 use Rattle.msg_files.proofs.calls.read.call.read_values.Goals as goal
 
 pub returns-then-not-are_numbers : goal.returns-then-not-are_numbers

@@ -1,12 +1,8 @@
 use Rattle.std.proofs.Common.{arith, append_assoc, [], ◌≡◌, ◌<◌, ℕ, List, length, get_or, drop, map, Some, ap, Err, ◌∙◌}
-use Rattle.std.proofs.lemmas.Grind.{common_steps}
-use Rattle.std.proofs.lemmas.List.{map-append, drop_more}
-use Rattle.serde_json.specs.View.{view}
-use Rattle.serde_json.specs.declared.value.Value.{Value}
+use Rattle.std.proofs.lemmas.{Grind.common_steps, List.map-append, List.drop_more, Result.err_from_is_err_and}
+use Rattle.serde_json.specs.{View.view, declared.value.Value.Value}
 use Rattle.msg_files.specs.Prelude.{Refusal, call_checks, calls_checks, first_refusal}
-use Rattle.std.proofs.lemmas.Result.{err_from_is_err_and}
-use Rattle.msg_files.proofs.Shapes.{IfErr_at}
-use Rattle.msg_files.proofs.Walks.{first_refusal-stands, first_refusal-passed}
+use Rattle.msg_files.proofs.{Shapes.IfErr_at, Walks.first_refusal-stands, Walks.first_refusal-passed}
 use Rattle.msg_files.proofs.calls.read.file.read_items.Goals as goal
 
 -- a call that is refused refuses the list from it on

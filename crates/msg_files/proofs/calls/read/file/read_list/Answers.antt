@@ -1,8 +1,6 @@
 use Rattle.std.proofs.Common.{arith}
-use Rattle.std.proofs.lemmas.Bool.Decides.{nat_tests}
-use Rattle.std.proofs.lemmas.List.{length-map}
-use Rattle.msg_files.proofs.Shapes.{elements_are}
-use Rattle.msg_files.proofs.Walks.{all_some-map}
+use Rattle.std.proofs.lemmas.{Bool.Decides.nat_tests, List.length-map}
+use Rattle.msg_files.proofs.{Shapes.elements_are, Walks.all_some-map}
 use Rattle.msg_files.proofs.calls.read.file.read_list.Goals as goal
 
 pub returns-then-items-gt-MAX_CALLS-clause-refused : goal.returns-then-items-gt-MAX_CALLS-clause-refused

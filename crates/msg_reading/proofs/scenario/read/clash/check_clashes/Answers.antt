@@ -1,8 +1,5 @@
 use Rattle.std.proofs.Common.{◌∙◌, ap, sym, refl, ◌+◌}
-use Rattle.std.proofs.lemmas.Bool.{false≢true}
-use Rattle.std.proofs.lemmas.List.{take_all}
-use Rattle.std.proofs.lemmas.List.Elements.{All-more}
-use Rattle.std.proofs.lemmas.Option.{slice_get_read}
+use Rattle.std.proofs.lemmas.{Bool.false≢true, List.take_all, List.Elements.All-more, Option.slice_get_read}
 use Rattle.msg_files.specs.declared.refusal.Refusal.TheVariants.{Clash}
 use Rattle.msg_reading.specs.Prelude.{IsClashing}
 use Rattle.msg_reading.proofs.scenario.read.clash.check_clashes.Goals as goal

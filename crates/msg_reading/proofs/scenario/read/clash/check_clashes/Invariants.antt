@@ -1,5 +1,4 @@
-use Rattle.std.proofs.Common.{◌≡◌, take}
-use Rattle.std.specs.Prelude.{All}
+use Rattle.std.proofs.Common.{◌≡◌, take, All}
 use Rattle.msg_reading.specs.Prelude.{IsClashing}
 use Rattle.msg_reading.proofs.scenario.read.clash.check_clashes.Given as goal
 

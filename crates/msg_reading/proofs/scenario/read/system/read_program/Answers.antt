@@ -1,14 +1,11 @@
-use Rattle.std.proofs.Common.{◌∙◌, ◌++◌, ap, None, Some, ◌∷◌, []}
-use Rattle.std.specs.Prelude.{is_some}
+use Rattle.std.proofs.Common.{◌∙◌, ◌++◌, ap, None, Some, ◌∷◌, [], is_some}
 use Rattle.std.proofs.lemmas.Result.{err_from_is_err_and}
 use Rattle.serde_json.specs.View.{view}
 use Rattle.msg_files.specs.Prelude.{needs}
 use Rattle.msg_reading.specs.Prelude.{each_of, op_of, place_checks, program_checks, start_in, start_of}
 use Rattle.msg_files.specs.declared.refusal.Refusal.TheVariants.{Shape}
-use Rattle.msg_files.proofs.Steps.{goes_on, refuses_by, stops}
-use Rattle.msg_reading.proofs.Parts.{is_shape}
-use Rattle.msg_reading.proofs.Systems.{after_ops, ops_of_kind, program_from, start_is}
-use Rattle.msg_files.proofs.Walks.{first_refusal-passed}
+use Rattle.msg_files.proofs.{Steps.goes_on, Steps.refuses_by, Steps.stops, Walks.first_refusal-passed}
+use Rattle.msg_reading.proofs.{Parts.is_shape, Systems.after_ops, Systems.ops_of_kind, Systems.program_from, Systems.start_is}
 use Rattle.msg_reading.proofs.scenario.read.system.read_program.Goals as goal
 
 pub returns-in_err-ops-clause-refused : goal.returns-in_err-ops-clause-refused
