@@ -7,7 +7,6 @@ ghost use Rattle.msg_world.specs.{inner.Moved.AreSlotsBelow, inner.Moved.IsFirst
 use crate::masks;
 use std::alloc::{AllocError, Global};
 use std::marker::Model;
-use std::mem::replace;
 
 /// A part that was moved out of a slot.
 #[derive(Drop)]
@@ -49,11 +48,11 @@ fn place_of<T>(parts: &[Moved<T>], slot: usize) -> Option<usize>
     None
 }
 
-/// Room for what the slots of a mask hold, in the memory of a list that came home. A mask of none
-/// takes no list.
+/// Room for what the slots of a mask hold, in the memory of a list that came home, if there is one.
+/// A mask of none takes no list.
 pub(crate) fn room_in<T: Drop>(
     alloc: Global,
-    spare: &mut Vec<Moved<T>>,
+    spares: &mut Vec<Vec<Moved<T>>>,
     mask: u64,
 ) -> Result<Vec<Moved<T>>, AllocError>
     ensures empty { IfOk result (λ room. room.items ≡ []) }
@@ -62,16 +61,19 @@ pub(crate) fn room_in<T: Drop>(
     if mask == 0 {
         return Ok(Vec::new(alloc));
     }
-    let mut room = replace(spare, Vec::new(alloc));
+    let mut room = match spares.pop() {
+        Some(list) => list,
+        None => Vec::new(alloc),
+    };
     room.clear();
     room.reserve_exact(mask.count_ones() as usize)?;
     Ok(room)
 }
 
-/// Keeps a list that came home for the parts that go out next, if it has memory.
-pub(crate) fn keep<T: Drop>(spare: &mut Vec<Moved<T>>, list: Vec<Moved<T>>) {
-    if list.capacity() > 0 {
-        *spare = list;
+/// Keeps a list that came home for parts that go out later, if it has memory and there is room.
+pub(crate) fn keep<T: Drop>(spares: &mut Vec<Vec<Moved<T>>>, list: Vec<Moved<T>>) {
+    if list.capacity() > 0 && spares.len() < spares.capacity() {
+        spares.push_reserved(list);
     }
 }
 

@@ -35,9 +35,10 @@ pub struct World {
     types: Vec<Option<Messages<Record>>>,
     resources: Vec<Option<i64>>,
     marks: Option<Marks>,
-    /// Lists in which parts came home last: their memory serves the parts that go out next.
-    spare_types: Vec<Moved<Messages<Record>>>,
-    spare_resources: Vec<Moved<i64>>,
+    /// Lists in which parts came home: their memory serves the parts that go out next. There is
+    /// room for a list of each type, and of each resource, since no more can be out at once.
+    spare_types: Vec<Vec<Moved<Messages<Record>>>>,
+    spare_resources: Vec<Vec<Moved<i64>>>,
 }
 
 impl Model for World {
@@ -164,6 +165,8 @@ impl World {
     {
         let types = new_types(alloc, limits)?;
         let resources = new_resources(alloc, resources)?;
+        let spare_types = Vec::with_capacity(alloc, types.len())?;
+        let spare_resources = Vec::with_capacity(alloc, resources.len())?;
         let marks = Some(Marks {
             held: false,
             pending: false,
@@ -172,8 +175,8 @@ impl World {
             types,
             resources,
             marks,
-            spare_types: Vec::new(alloc),
-            spare_resources: Vec::new(alloc),
+            spare_types,
+            spare_resources,
         })
     }
 
