@@ -43,7 +43,9 @@ impl Spares {
     {
         match self.replies.pop() {
             Some(mut replies) => {
-                replies.clear();
+                if !replies.is_empty() {
+                    replies.clear();
+                }
                 replies
             }
             None => Vec::new(alloc),
