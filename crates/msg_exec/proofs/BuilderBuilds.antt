@@ -73,5 +73,5 @@ module _ {S : Type 0} (meaning : S → Meaning) where
               let x = after r z there in
               lowest.lowest r x.0 lt x.1.0 (rw (← x.1.1) at clash);
         }
-    refusal_before rules (Cycle s) refused = (no_clash_before refused.0, rw as_many at refused.1)
+    refusal_before rules (Cycle s) refused = (no_clash_before refused.0, refused.1)
     refusal_before rules NoMemory refused = refused

@@ -1,17 +1,18 @@
 -- A new engine stands for the first state.
 use Rattle.std.proofs.Common.{◌≡◌, ℕ, ◌<◌, ◌≤◌, Bool, true, false, List, [], ◌∷◌, length, map, Some, None, refl, sym, ap, ◌∙◌, arith, inl, inr, replicate, slice_get, slice_index_or}
-use Rattle.std.proofs.lemmas.{Bool.cases_lt, Bool.false≢true, List.get_or-map, List.get_or-replicate, List.get_or_past, List.length-map, Option.get_or_from_slice_get, Option.slice_get-get_or, Option.slice_get_within}
+use Rattle.std.proofs.lemmas.{Bool.cases_lt, Bool.false≢true, List.get_or-map, List.get_or-replicate, List.get_or_past, List.length-map, List.length-replicate, Option.get_or_from_slice_get, Option.slice_get-get_or, Option.slice_get_within}
 use Rattle.msg_world.specs.declared.access.Access.{Access}
 use Rattle.msg_world.specs.Prelude.{IsWhole, OfType, Parts, PartsStand, WorldState}
 use Rattle.msg_order.specs.declared.rule.Rule.{Rule}
-use Rattle.msg_order.specs.Prelude.{FewerSystemsMakeNoCycle, IsAcyclic, NameSystemsBelow, access_of, rules_among}
+use Rattle.msg_order.specs.Prelude.{FewerSystemsMakeNoCycle, IsAcyclic, NameSystemsBelow, access_of, edges_of, rules_among}
 use Rattle.msg_system.specs.declared.condition.Condition.{Condition}
 use Rattle.msg_system.specs.Prelude.{Meaning, new_asked}
+use Rattle.msg_order.proofs.SetPaths.{all_rules}
 use Rattle.msg_system.proofs.Accesses.{uses_needs}
 use Rattle.msg_frames.specs.declared.place.Place.{Place}
 use Rattle.msg_exec.specs.Prelude.{AreJoins, Core, EachIs, Lender, LenderStands, MayBeAdded, Schedule}
 use Rattle.msg_exec.specs.{inner.Building.AreNoTotals, inner.Building.IsAccessAt, inner.Building.IsGuardedAt, inner.Lending.HaveReadNothing}
-use Rattle.msg_frames.specs.Prelude.{AreNew, HasClash, all_rules, nobody, nowhere, unjoined}
+use Rattle.msg_frames.specs.Prelude.{AreNew, HasClash, nobody, nowhere, unjoined}
 use Rattle.msg_exec.proofs.ItemsOfLists.{item_at}
 
 conditions_new : (cs : List Condition) → map (λ a. a.condition) (map new_asked cs) ≡ cs
@@ -113,11 +114,14 @@ module _ {S : Type 0} (meaning : S → Meaning) where
           no_cycle = λ joined size. none joined (size ∙ n);
         }
 
-pub none_more : FewerSystemsMakeNoCycle → (n : ℕ) (rules : List Rule) → IsAcyclic (all_rules n rules)
-    → (joined : List Bool) → length joined ≡ n → IsAcyclic (rules_among joined rules)
-none_more law n rules none joined size =
+pub none_more : FewerSystemsMakeNoCycle → (n : ℕ) (rules : List Rule) → NameSystemsBelow n rules
+    → IsAcyclic (edges_of rules) → (joined : List Bool) → length joined ≡ n → IsAcyclic (rules_among joined rules)
+none_more law n rules below none joined size =
+    let among : rules_among (replicate n true) rules ≡ edges_of rules =
+    all_rules (replicate n true) rules (rw length-replicate below)
+    (λ i lt. get_or-replicate n i true false (rw length-replicate at lt)) in
     law rules (replicate n true) joined
-    (λ i has. get_or-replicate n i true false (grind (arith, cases_lt, false≢true, get_or_past))) none
+    (λ i has. get_or-replicate n i true false (grind (arith, cases_lt, false≢true, get_or_past))) (rw among none)
 
 module _ {S : Type 0} (meaning : S → Meaning) where
   pub none_clashes : (systems : List S) (places : List Place) (xs : List Access) → length xs ≡ length systems

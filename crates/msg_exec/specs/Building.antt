@@ -2,10 +2,10 @@
 use Rattle.std.specs.Prelude.{◌≡◌, ℕ, ◌+◌, ◌<◌, ◌≤◌, List, [], ◌∷◌, length, Some, slice_get, IsTrue, ⊤}
 use Rattle.msg_world.specs.Prelude.{Has, Part, Parts}
 use Rattle.msg_order.specs.declared.rule.Rule.{Rule}
-use Rattle.msg_order.specs.Prelude.{IsLowestOnCycle, NameSystemsBelow}
+use Rattle.msg_order.specs.Prelude.{IsLowestOnCycle, NameSystemsBelow, edges_of}
 use Rattle.msg_system.specs.Prelude.{Meaning, needs_any, with_conditions}
 use Rattle.msg_frames.specs.declared.place.Place.{Place}
-use Rattle.msg_frames.specs.Prelude.{HasClash, IsNew, all_rules}
+use Rattle.msg_frames.specs.Prelude.{HasClash, IsNew}
 use Rattle.msg_exec.specs.{declared.build_error.BuildError.BuildError, declared.build_error.BuildError.TheVariants.Full, declared.build_error.BuildError.TheVariants.BadJoin, declared.build_error.BuildError.TheVariants.Misfit, declared.build_error.BuildError.TheVariants.UnknownSystem, declared.build_error.BuildError.TheVariants.Refused, declared.build_refusal.BuildRefusal.BuildRefusal, declared.build_refusal.BuildRefusal.TheVariants.Clash, declared.build_refusal.BuildRefusal.TheVariants.Cycle, declared.build_refusal.BuildRefusal.TheVariants.NoMemory}
 
 module _ {X : Type 0} where
@@ -44,7 +44,7 @@ module _ {S : Type 0} (meaning : S → Meaning) where
   abbrev pub RefusesFor : List S → List Rule → BuildRefusal → Type 0
   RefusesFor systems rules (Clash s) = IsLowestClash systems s
   RefusesFor systems rules (Cycle s) = EachIs (λ i x. ¬ HasClash (meaning x)) systems
-      × IsLowestOnCycle (all_rules (length systems) rules) s
+      × IsLowestOnCycle (edges_of rules) s
   RefusesFor systems rules NoMemory = ⊤
 
 -- ---- a builder

@@ -1,9 +1,9 @@
 // Engines made of systems, conditions and rules, with every condition tested.
 ghost use Rattle.std.specs.Prelude.{◌≡◌, ℕ, ◌≤◌, ◌↔◌, ◌++◌, [], ◌∷◌, IfErr, IfOk, IsTrue, OnOk, length, map};
 ghost use Rattle.msg_world.specs.Prelude.{IsWhole, PartsStand, WorldState};
-ghost use Rattle.msg_order.specs.Prelude.{IsAcyclic, NameSystemsBelow};
+ghost use Rattle.msg_order.specs.Prelude.{IsAcyclic, NameSystemsBelow, edges_of};
 ghost use Rattle.msg_order.specs.declared.rule.Rule.{Rule as RuleView};
-ghost use Rattle.msg_frames.specs.Prelude.{HasClash, all_rules, first_state};
+ghost use Rattle.msg_frames.specs.Prelude.{HasClash, first_state};
 ghost use Rattle.msg_exec.specs.Prelude.{AllFit, EachIs, FitsWorld, IsEngine, IsFirstUnknown, IsLowestMisfit, IsSpoiled, Misfit, RefusesToAdd, RefusesToBuild, StandsFor, UnknownSystem, numbered_from};
 
 use crate::{BuildError, BuildRefusal, EngineOf, Items, NoMemory, Place};
@@ -189,7 +189,7 @@ impl<S: Numbered> EngineBuilder<S> {
         ensures fit { OnOk result (AllFit S.meaning world self.systems self.places) }
         ensures named { OnOk result (NameSystemsBelow (length self.systems) self.rules) }
         ensures no_clash { OnOk result (EachIs (λ i x. ¬ HasClash (S.meaning x)) self.systems) }
-        ensures no_cycle { OnOk result (IsAcyclic (all_rules (length self.systems) self.rules)) }
+        ensures no_cycle { OnOk result (IsAcyclic (edges_of self.rules)) }
         ensures refusal { IfErr result (RefusesToBuild S.meaning world self) }
     {
         check_systems(&world, &self.systems, &self.places)?;

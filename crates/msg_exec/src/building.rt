@@ -1,14 +1,14 @@
 // The parts of a new engine.
 ghost use Rattle.std.specs.Prelude.{◌≡◌, ◌<◌, ◌≤◌, ◌↔◌, ℕ, IfOk, IfErr, OnOk, IsTrue, IsSomeAnd, Some, length, map, slice_get};
-ghost use Rattle.msg_order.specs.Prelude.{IsAcyclic, NameSystemsBelow};
+ghost use Rattle.msg_order.specs.Prelude.{IsAcyclic, NameSystemsBelow, edges_of};
 ghost use Rattle.msg_system.specs.Prelude.{IsAccessOf, new_asked};
 ghost use Rattle.msg_exec.specs.Prelude.{EachIs, job_state, totals_at};
 ghost use Rattle.msg_exec.specs.inner.Building.{AreNoTotals, IsAccessAt, IsGuardedAt, RefusesForClash, RefusesForCycle};
-ghost use Rattle.msg_frames.specs.Prelude.{HasClash, all_rules, new_job, no_totals};
+ghost use Rattle.msg_frames.specs.Prelude.{HasClash, new_job, no_totals};
 
 use crate::job::GuardedSystem;
 use crate::{BuildRefusal, NoMemory, Place, Totals};
-use msg_order::{Plan, PlanRefusal, Rule};
+use msg_order::{Rule, lowest_on_cycle};
 use msg_system::{Condition, Guard, System, job_access};
 use msg_world::Access;
 use std::alloc::Global;
@@ -107,23 +107,16 @@ pub(crate) fn totals_of(
     Ok(totals)
 }
 
-/// Refuses rules that make a cycle among all systems.
-pub(crate) fn check_rules(
-    alloc: Global,
-    accesses: &[Access],
-    rules: &[Rule],
-) -> Result<(), BuildRefusal>
-    requires few { length accesses.now ≤ 256 }
-    requires in_range { NameSystemsBelow (length accesses.now) rules.now }
-    ensures acyclic { OnOk result (IsAcyclic (all_rules (length accesses.now) rules.now)) }
-    ensures cycle { IfErr result (RefusesForCycle (length accesses.now) rules.now) }
+/// Refuses rules that make a cycle among so many systems.
+pub(crate) fn check_rules(alloc: Global, systems: usize, rules: &[Rule]) -> Result<(), BuildRefusal>
+    requires few { systems ≤ 256 }
+    requires in_range { NameSystemsBelow systems rules.now }
+    ensures acyclic { OnOk result (IsAcyclic (edges_of rules.now)) }
+    ensures cycle { IfErr result (RefusesForCycle rules.now) }
 {
-    let Ok(all) = Vec::from_elem(alloc, true, accesses.len()) else {
-        return Err(BuildRefusal::NoMemory);
-    };
-    match Plan::build(alloc, accesses, rules, &all) {
-        Ok(_plan) => Ok(()),
-        Err(PlanRefusal::Cycle(system)) => Err(BuildRefusal::Cycle(system)),
-        Err(PlanRefusal::NoMemory) => Err(BuildRefusal::NoMemory),
+    match lowest_on_cycle(alloc, systems, rules) {
+        Ok(None) => Ok(()),
+        Ok(Some(system)) => Err(BuildRefusal::Cycle(system)),
+        Err(_) => Err(BuildRefusal::NoMemory),
     }
 }

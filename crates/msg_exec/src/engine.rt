@@ -44,9 +44,9 @@ impl<S: System> EngineOf<S> {
     ghost use Rattle.msg_system.specs.declared.run_fault.RunFault.TheVariants.{BadOrder, NoMemory, Spoiled};
     ghost use Rattle.msg_world.specs.declared.record.TheConstants.{HOST};
     ghost use Rattle.msg_world.specs.Prelude.{IsWhole, PartsStand, WorldState};
-    ghost use Rattle.msg_order.specs.Prelude.{IsAcyclic, NameSystemsBelow};
+    ghost use Rattle.msg_order.specs.Prelude.{IsAcyclic, NameSystemsBelow, edges_of};
     ghost use Rattle.msg_exec.specs.{Building.EachIs, Building.MayBeAdded, Building.RefusesFor, Cores.frame_count, Engines.HasReplayed, Engines.HasRunFrame, Engines.HasRunFrames, Engines.HasRunSome, Engines.IsEngine, Engines.IsSpoiled, Engines.PostsFit, Engines.StandsFor, Engines.frames_of, Engines.world_of, Work.EachPassedGate};
-    ghost use Rattle.msg_frames.specs.Prelude.{HasClash, HasOneRun, IsCompleteRun, IsLawfulFor, IsRun, State, all_rules, first_state, systems_in};
+    ghost use Rattle.msg_frames.specs.Prelude.{HasClash, HasOneRun, IsCompleteRun, IsLawfulFor, IsRun, State, first_state, systems_in};
     ghost use Rattle.msg_frames.specs.{declared.frame.Frame.Frame as FrameView, declared.log.Log.Log as LogView};
 
     /// An engine with no frame run. The systems go by number, in order of addition, and each has
@@ -76,16 +76,14 @@ impl<S: System> EngineOf<S> {
         ensures engine { IfOk result (IsEngine S.meaning) }
         ensures fresh { IfOk result (λ e. ¬ IsSpoiled e) }
         ensures no_clash { OnOk result (EachIs (λ i x. ¬ HasClash (S.meaning x)) systems.items) }
-        ensures no_cycle { OnOk result (IsAcyclic (all_rules (length systems.items) rules.items)) }
+        ensures no_cycle { OnOk result (IsAcyclic (edges_of rules.items)) }
         ensures refusal { IfErr result (RefusesFor S.meaning systems.items rules.items) }
     {
         first_states_are_sound();
         fewer_systems_make_no_cycle();
         world.stands_for_some();
         let accesses = accesses_of(alloc, &systems, &places)?;
-        if let Err(refusal) = check_rules(alloc, &accesses, &rules) {
-            return Err(refusal);
-        }
+        check_rules(alloc, systems.len(), &rules)?;
         let joins = joins_of(alloc, &places)?;
         let plan = plan_by(alloc, &accesses, &rules, &joins, 1)?;
         let totals = totals_of(alloc, systems.len(), world.types())?;

@@ -2,7 +2,6 @@
 use Rattle.std.specs.Prelude.{◌≡◌, ℕ, ◌&&◌, true, List, [], length, map, replicate, slice_index_or, IsTrue}
 use Rattle.msg_world.specs.Prelude.{Part, WorldState}
 use Rattle.msg_order.specs.declared.rule.Rule.{Rule}
-use Rattle.msg_order.specs.Prelude.{Graph, rules_among}
 use Rattle.msg_system.specs.Prelude.{Job, Meaning, new_asked, new_system}
 use Rattle.msg_system.specs.declared.start.Start.TheVariants.{Zero}
 use Rattle.msg_frames.specs.{declared.place.Place.Place, Entries.no_totals, Frames.with_joining, Frames.Member, Frames.State}
@@ -49,7 +48,3 @@ first_state systems places rules types world =
 -- it reads and writes one part
 abbrev pub HasClash : Meaning → Type 0
 HasClash m = (p : Part) × IsTrue (m.needs.reads p && m.needs.writes p)
-
--- the rules of all systems, as edges
-abbrev pub all_rules : ℕ → List Rule → Graph
-all_rules systems rules = rules_among (replicate systems true) rules

@@ -1,9 +1,9 @@
 -- What is known of a scenario that was read.
-use Rattle.std.proofs.Common.{◌≡◌, ℕ, ◌+◌, ◌≤◌, ◌<◌, List, [], ◌∷◌, length, refl, sym, ◌∙◌, Some, None, true, arith, All, replicate, nat_le}
-use Rattle.std.proofs.lemmas.{Grind.common_steps, List.Elements.All-head, List.Elements.All-tail, List.Quantifiers.position-Some}
+use Rattle.std.proofs.Common.{◌≡◌, ℕ, ◌+◌, ◌≤◌, ◌<◌, List, [], ◌∷◌, length, refl, sym, ◌∙◌, Some, None, arith, All, nat_le}
+use Rattle.std.proofs.lemmas.{Grind.common_steps, List.Quantifiers.position-Some}
 use Rattle.std.specs.Str.{bytes_eq}
 use Rattle.serde_json.specs.{Data.Data, Find.as_bool}
-use Rattle.msg_order.specs.Prelude.{IsAcyclic, NameSystemsBelow, edges_of, has_joined, rules_among}
+use Rattle.msg_order.specs.Prelude.{IsAcyclic, NameSystemsBelow, edges_of}
 use Rattle.msg_order.specs.declared.rule.Rule.{Rule}
 use Rattle.msg_files.specs.Prelude.{Text, elements, first_refusal, is_list, needs}
 use Rattle.msg_reading.specs.Prelude.{Declared, IsClashing, IsRunnable, Scenario, all_names, checks_in_turn, frames_in, frames_of, held_checks, held_in, no_names, part_names, position_of, resource_checks, resource_of, resources_checks, resources_in, resources_of, root_object, rule_of, rules_in, rules_of, scenario_checks, scenario_of, sections_checks, system_checks, system_number, system_of, systems_checks, systems_in, systems_of, text, type_checks, type_names, type_of, types_checks, types_in, types_of, with_all, with_resource, with_system, with_type}
@@ -67,21 +67,6 @@ rule_below names d =
     in_two _ _ (elements d) (λ a b. in_both _ _ (system_number names (text a)) (system_number names (text b))
     (λ i j is at. (system_below names a i is, system_below names b j at)))
 
--- rules among systems that have all joined are all the rules
-all_joined : (n i : ℕ) → i < n → has_joined (replicate n true) i ≡ true
-all_joined n i lt = grind (arith, common_steps, lt)
-
-pub rules_among_all : (n : ℕ) (rules : List Rule) → NameSystemsBelow n rules
-    → rules_among (replicate n true) rules ≡ edges_of rules
-rules_among_all n [] below = refl
-rules_among_all n (rule ∷ rules) below =
-    let here = All-head (IsBelow n) rule rules below in
-    rw (
-      all_joined n rule.earlier here.0,
-      all_joined n rule.later here.1,
-      rules_among_all n rules (All-tail (IsBelow n) rule rules below),
-    ) refl
-
 -- ---- the whole
 
 -- what holds of a scenario whose sections passed their checks: it can be run, if no program clashes and the rules make
@@ -136,7 +121,7 @@ whole_from d s passes types resources systems rules frames =
         few_systems = omega (arith, few, as_many);
         systems = λ k x lt. system_fit k x lt (none k x lt);
         rules_in_range = below;
-        acyclic = rw (rules_among_all (length s.systems) s.rules below) acyclic;
+        acyclic = acyclic;
         posts = frames_fit s (all_names d) all (frames_in d) s.frames frames;
       };
     }

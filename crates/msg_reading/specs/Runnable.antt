@@ -2,10 +2,10 @@
 use Rattle.std.specs.Prelude.{◌≡◌, ◌≤◌, ◌<◌, ℕ, ⊤, IsTrue, All, List, [], ◌∷◌, length, map, if◌then◌else◌}
 use Rattle.std.specs.List.{enumerate_from}
 use Rattle.msg_world.specs.Prelude.{HasPart, Part, WorldState, held_world, new_world}
-use Rattle.msg_order.specs.Prelude.{IsAcyclic, NameSystemsBelow}
+use Rattle.msg_order.specs.Prelude.{IsAcyclic, NameSystemsBelow, edges_of}
 use Rattle.msg_system.specs.Prelude.{HasClash, Meaning, job_needs, needs_any, new_system, program_needs}
 use Rattle.msg_system.specs.{declared.op.Op.Op, declared.op.Op.TheVariants.Forward, declared.op.Op.TheVariants.Sum}
-use Rattle.msg_frames.specs.Prelude.{State, all_rules, first_state}
+use Rattle.msg_frames.specs.Prelude.{State, first_state}
 use Rattle.msg_frames.specs.{declared.frame.Frame.Frame, declared.place.Place.Place}
 use Rattle.msg_reading.specs.{declared.kind.Kind.Kind, declared.kind.Kind.TheVariants.Script, declared.kind.Kind.TheVariants.Relay, declared.kind.Kind.TheVariants.Tally, declared.scenario.Scenario.Scenario, declared.scenario.SystemSpec.SystemSpec}
 
@@ -57,5 +57,5 @@ pub record IsRunnable (s : Scenario) : Type 0 where
   pub few_systems : length s.systems ≤ 256
   pub systems : All (IsRunnableSystem s) s.systems
   pub rules_in_range : NameSystemsBelow (length s.systems) s.rules
-  pub acyclic : IsAcyclic (all_rules (length s.systems) s.rules)
+  pub acyclic : IsAcyclic (edges_of s.rules)
   pub posts : All (PostsAreToTypes s) s.frames

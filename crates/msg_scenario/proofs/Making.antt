@@ -4,9 +4,9 @@ use Rattle.std.specs.List.{All, enumerate_from}
 use Rattle.std.proofs.lemmas.{List.Elements.All-get_or, Option.get_or_from_slice_get, Option.slice_get_cases, Option.slice_get_within, Option.slice_get-map}
 use Rattle.msg_world.specs.Prelude.{Parts, PartsStand, WorldState, held_world, new_world}
 use Rattle.msg_order.specs.declared.rule.Rule.{Rule}
-use Rattle.msg_frames.specs.Prelude.{all_rules, first_state}
+use Rattle.msg_frames.specs.Prelude.{first_state}
 use Rattle.msg_system.specs.Prelude.{Meaning, new_system}
-use Rattle.msg_order.specs.Prelude.{IsLowestOnCycle}
+use Rattle.msg_order.specs.Prelude.{IsLowestOnCycle, edges_of}
 use Rattle.msg_frames.specs.declared.place.Place.{Place}
 use Rattle.msg_exec.specs.Prelude.{EachIs, IsLowestClash, MayBeAdded}
 use Rattle.msg_reading.specs.{declared.scenario.Scenario.Scenario, declared.scenario.SystemSpec.SystemSpec}
@@ -109,7 +109,6 @@ module _ {S : Type 0} (m : S → Meaning) where
       (lowest.clash.0, rw (each i x lowest.is spec found.1) at lowest.clash.1)
 
 -- no system is on a cycle of rules
-pub no_cycle : (s : Scenario) (rules : List Rule) (n i : ℕ) → IsRunnable s → rules ≡ s.rules → n ≡ length s.systems
-    → IsLowestOnCycle (all_rules n rules) i → ⊥
-no_cycle s rules n i runnable same many lowest =
-    (rw (← many, ← same) at runnable.acyclic) i lowest.on_cycle
+pub no_cycle : (s : Scenario) (rules : List Rule) (i : ℕ) → IsRunnable s → rules ≡ s.rules
+    → IsLowestOnCycle (edges_of rules) i → ⊥
+no_cycle s rules i runnable same lowest = (rw (← same) at runnable.acyclic) i lowest.on_cycle

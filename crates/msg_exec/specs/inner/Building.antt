@@ -2,17 +2,17 @@
 use Rattle.std.specs.Prelude.{◌≡◌, ℕ, ◌<◌, List, length, Option, Some, slice_get, IsSomeAnd, ⊤}
 use Rattle.msg_world.specs.declared.access.Access.{Access}
 use Rattle.msg_order.specs.declared.rule.Rule.{Rule}
-use Rattle.msg_order.specs.Prelude.{IsLowestOnCycle}
+use Rattle.msg_order.specs.Prelude.{IsLowestOnCycle, edges_of}
 use Rattle.msg_system.specs.Prelude.{IsAccessOf, Meaning, with_conditions}
 use Rattle.msg_exec.specs.{declared.job.GuardedSystem.GuardedSystem, Jobs.job_state, Keeping.totals_at, declared.build_refusal.BuildRefusal.BuildRefusal, declared.build_refusal.BuildRefusal.TheVariants.Clash, declared.build_refusal.BuildRefusal.TheVariants.Cycle, declared.build_refusal.BuildRefusal.TheVariants.NoMemory, Building.IsLowestClash}
 use Rattle.msg_frames.specs.{declared.place.Place.Place, declared.totals.Totals.Totals}
-use Rattle.msg_frames.specs.Prelude.{HasClash, all_rules, new_job, no_totals}
+use Rattle.msg_frames.specs.Prelude.{HasClash, new_job, no_totals}
 
 -- what is said of a refusal for the rules alone
-abbrev pub RefusesForCycle : ℕ → List Rule → BuildRefusal → Type 0
-RefusesForCycle systems rules (Clash s) = ⊥
-RefusesForCycle systems rules (Cycle s) = IsLowestOnCycle (all_rules systems rules) s
-RefusesForCycle systems rules NoMemory = ⊤
+abbrev pub RefusesForCycle : List Rule → BuildRefusal → Type 0
+RefusesForCycle rules (Clash s) = ⊥
+RefusesForCycle rules (Cycle s) = IsLowestOnCycle (edges_of rules) s
+RefusesForCycle rules NoMemory = ⊤
 
 module _ {S : Type 0} (meaning : S → Meaning) where
   -- what is said of a refusal before the rules are looked at

@@ -1,8 +1,7 @@
 // Whether a scenario can be run.
 ghost use Rattle.std.specs.Prelude.{◌≡◌, ◌≤◌, ◌↔◌, ℕ, All, IfOk, IsTrue, length};
 ghost use Rattle.msg_world.specs.Prelude.{HasPart, Part};
-ghost use Rattle.msg_frames.specs.Prelude.{all_rules};
-ghost use Rattle.msg_order.specs.Prelude.{IsAcyclic, NameSystemsBelow};
+ghost use Rattle.msg_order.specs.Prelude.{IsAcyclic, NameSystemsBelow, edges_of};
 ghost use Rattle.msg_system.specs.Prelude.{HasClash, job_needs, needs_any, program_needs};
 ghost use Rattle.msg_reading.specs.Prelude.{FitKind, IsRunnable, IsRunnableSystem, PostsAreToTypes};
 
@@ -102,7 +101,7 @@ fn is_small(scenario: &Scenario) -> bool
 fn are_acyclic(alloc: Global, systems: usize, rules: &[Rule]) -> Result<bool, NoMemory>
     requires few { systems ≤ 256 }
     requires in_range { NameSystemsBelow systems rules.now }
-    ensures acyclic { IfOk result (λ is. IsTrue is ↔ IsAcyclic (all_rules systems rules.now)) }
+    ensures acyclic { IfOk result (λ is. IsTrue is ↔ IsAcyclic (edges_of rules.now)) }
 {
     match lowest_on_cycle(alloc, systems, rules)? {
         Some(_) => Ok(false),

@@ -27,6 +27,6 @@ unreachable-requires g c =
 
 pub unreachable-requires-in-Err-Cycle : goal.unreachable-requires-in-Err-Cycle
 unreachable-requires-in-Err-Cycle g c =
-    no_cycle c.args.scenario.now c.in_ok-rules.rules.items (length c.args.systems.items) c.in-Err-Cycle.field-0-0
-    c.requires.runnable c.in_ok-rules.ensures.rules c.requires.as_many
+    no_cycle c.args.scenario.now c.in_ok-rules.rules.items c.in-Err-Cycle.field-0-0 c.requires.runnable
+    c.in_ok-rules.ensures.rules
     (rw c.in-Err-Cycle.field-0-is at c.in-Err-Cycle.ensures.refusal).1

@@ -31,7 +31,7 @@ returns-in-Ok-clause-no_clash g c =
 
 pub returns-in-Ok-clause-no_cycle : goal.returns-in-Ok-clause-no_cycle
 returns-in-Ok-clause-no_cycle g c =
-    rw (← c.self.view_is) (rw c.in_ok-systems.ensures.as_many at c.in-Ok.ensures.no_cycle)
+    rw (← c.self.view_is) c.in-Ok.ensures.no_cycle
 
 pub returns-in-Err-clause-refusal : goal.returns-in-Err-clause-refusal
 returns-in-Err-clause-refusal g c =

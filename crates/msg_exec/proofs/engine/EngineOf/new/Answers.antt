@@ -5,21 +5,20 @@ use Rattle.msg_exec.proofs.{FirstEngineStands.are_new, FirstEngineStands.none_cl
 use Rattle.msg_frames.proofs.SystemsStay.{joining_on_keeps}
 use Rattle.msg_exec.proofs.engine.EngineOf.new.Goals as goal
 
-pub returns-in-Err-clause-refusal : goal.returns-in-Err-clause-refusal
-returns-in-Err-clause-refusal g c =
-    let xs = c.in_ok-accesses.accesses.items in
-    let size : length xs ≡ length c.args.systems.items = rw c.deref.ensures.value at c.in_ok-accesses.ensures.as_many in
-    let none = none_clashes g.S.System.meaning c.args.systems.items c.args.places.items xs size
+pub returns-in_err-check_rules-clause-refusal : goal.returns-in_err-check_rules-clause-refusal
+returns-in_err-check_rules-clause-refusal g c =
+    let none = none_clashes g.S.System.meaning c.args.systems.items c.args.places.items c.in_ok-accesses.accesses.items
+    (rw c.deref.ensures.value at c.in_ok-accesses.ensures.as_many)
     (rw (c.deref.ensures.value, c.deref-2.ensures.value) at c.in_ok-accesses.ensures.accesses) in
-    let cycle = rw (c.deref-3.ensures.value, c.deref-4.ensures.value, size) at c.in-Err.ensures.cycle in
-    grind (arith, cycle, none)
+    let cycle = rw c.deref-3.ensures.value at c.in_err-check_rules.ensures.cycle in
+    grind (arith, cycle, none, c.from_residual-in_err-check_rules.ensures)
 
 pub plan_by-requires-clause-no_cycle : goal.plan_by-requires-clause-no_cycle
 plan_by-requires-clause-no_cycle g c join_flags size =
-    rw c.deref-7.ensures.value
-    (none_more c.fewer_systems_make_no_cycle.ensures.law _ c.args.rules.items
-    (rw (c.deref-3.ensures.value, c.deref-4.ensures.value) at c.in_default.ensures.acyclic) join_flags
-    (size ∙ ap length c.deref-6.ensures.value))
+    rw c.deref-6.ensures.value
+    (none_more c.fewer_systems_make_no_cycle.ensures.law _ c.args.rules.items c.requires.in_range
+    (rw c.deref-3.ensures.value at c.in_ok-check_rules.ensures.acyclic) join_flags
+    (size ∙ ap length c.deref-5.ensures.value ∙ rw c.deref.ensures.value at c.in_ok-accesses.ensures.as_many))
 
 pub join_those-requires-clause-stands : goal.join_those-requires-clause-stands
 join_those-requires-clause-stands g c κs within =
@@ -27,23 +26,21 @@ join_those-requires-clause-stands g c κs within =
     let systems = c.args.systems.items in
     let places = c.args.places.items in
     let totals : length c.in_ok-totals.totals.items ≡ length systems =
-    omega (arith, c.in_ok-totals.ensures.as_many, c.len.ensures) in
+    omega (arith, c.in_ok-totals.ensures.as_many, c.len-2.ensures) in
     let w = c.stands_for_some.ensures.state in (
       unjoined (map m systems) places c.args.rules.items (length c.args.world.types) w.0,
       parts_stand m c.args.world systems places c.requires.whole c.requires.one_place_each c.requires.each
           _ c.args.rules.items refl c.in_ok-guarded.ensures.as_many
           (rw c.deref.ensures.value at c.in_ok-accesses.ensures.as_many)
           totals
-          (rw c.deref-9.ensures.value at c.in_ok-guarded.ensures.guarded)
+          (rw c.deref-8.ensures.value at c.in_ok-guarded.ensures.guarded)
           (rw (c.deref.ensures.value, c.deref-2.ensures.value) at c.in_ok-accesses.ensures.accesses)
-          (rw c.types.ensures.types at c.in_ok-totals.ensures.totals) c.deref-10.result.now
-          (rw (c.deref-10.ensures.value, ← c.deref-5.ensures.value) c.in_ok-joins.ensures.joins) w.0 w.1,
+          (rw c.types.ensures.types at c.in_ok-totals.ensures.totals) c.deref-9.result.now
+          (rw (c.deref-9.ensures.value, ← c.deref-4.ensures.value) c.in_ok-joins.ensures.joins) w.0 w.1,
     )
 
 pub returns-clause-no_cycle : goal.returns-clause-no_cycle
-returns-clause-no_cycle g c =
-    rw (c.deref-3.ensures.value, c.in_ok-accesses.ensures.as_many, c.deref.ensures.value, c.deref-4.ensures.value)
-    at c.in_default.ensures.acyclic
+returns-clause-no_cycle g c = rw c.deref-3.ensures.value at c.in_ok-check_rules.ensures.acyclic
 
 pub returns-clause-meaning : goal.returns-clause-meaning
 returns-clause-meaning g c w stands =
@@ -51,16 +48,16 @@ returns-clause-meaning g c w stands =
     let systems = c.args.systems.items in
     let places = c.args.places.items in
     let totals : length c.in_ok-totals.totals.items ≡ length systems =
-    omega (arith, c.in_ok-totals.ensures.as_many, c.len.ensures) in
+    omega (arith, c.in_ok-totals.ensures.as_many, c.len-2.ensures) in
     let parts =
     parts_stand m c.args.world systems places c.requires.whole c.requires.one_place_each c.requires.each
     _ c.args.rules.items refl c.in_ok-guarded.ensures.as_many
     (rw c.deref.ensures.value at c.in_ok-accesses.ensures.as_many)
     totals
-    (rw c.deref-9.ensures.value at c.in_ok-guarded.ensures.guarded)
+    (rw c.deref-8.ensures.value at c.in_ok-guarded.ensures.guarded)
     (rw (c.deref.ensures.value, c.deref-2.ensures.value) at c.in_ok-accesses.ensures.accesses)
-    (rw c.types.ensures.types at c.in_ok-totals.ensures.totals) c.deref-10.result.now
-    (rw (c.deref-10.ensures.value, ← c.deref-5.ensures.value) c.in_ok-joins.ensures.joins) w stands in
+    (rw c.types.ensures.types at c.in_ok-totals.ensures.totals) c.deref-9.result.now
+    (rw (c.deref-9.ensures.value, ← c.deref-4.ensures.value) c.in_ok-joins.ensures.joins) w stands in
     let first : State = unjoined (map m systems) places c.args.rules.items (length c.args.world.types) w in
     let s : State = with_joining 1 first in
     let core : Core g.row.S.Denot =
@@ -73,14 +70,14 @@ returns-clause-meaning g c w stands =
     let schedule : Schedule core s = schedule_along core core first s refl refl (joining_on_keeps 1 first)
     (schedule_first m c.args.world systems places c.requires.whole c.requires.one_place_each c.requires.each core
     c.args.rules.items w c.requires.few c.requires.in_range
-    (none_more c.fewer_systems_make_no_cycle.ensures.law (length systems) c.args.rules.items
-    (returns-clause-no_cycle g c)) refl (rw c.deref-10.ensures.value at parts.1)) in
+    (none_more c.fewer_systems_make_no_cycle.ensures.law (length systems) c.args.rules.items c.requires.in_range
+    (returns-clause-no_cycle g c)) refl (rw c.deref-9.ensures.value at parts.1)) in
     record {
       core = record {
         lender = c.join_those.ensures.joined first parts.0 parts.1 parts.2;
         schedule = schedule;
         plan = rw (c.join_those.ensures.accesses, ← joined_by_frame core.joins.items s 1 schedule.joins (omega arith))
-            (rw (c.deref-6.ensures.value, c.deref-7.ensures.value, c.deref-8.ensures.value)
+            (rw (c.deref-5.ensures.value, c.deref-6.ensures.value, c.deref-7.ensures.value)
             at c.in_ok-plan.ensures.plan);
         sound = c.first_states_are_sound.ensures.law (map m systems) places c.args.rules.items
             (length c.args.world.types) w

@@ -15,9 +15,9 @@ returns c =
           few_systems = small.2;
           systems = c.if-not-are_runnable_systems.ensures.runnable.0 refl;
           rules_in_range = rw (systems, rules) at (c.if-not-name_systems_below.ensures.named.0 refl);
-          acyclic = rw (systems, rules) at (acyclic.0 yes);
+          acyclic = rw rules at (acyclic.0 yes);
           posts = c.if-not-all_posts_are_to_types.ensures.posts.0 refl;
         },
-        λ runnable. acyclic.1 (rw (systems, rules) runnable.acyclic),
+        λ runnable. acyclic.1 (rw rules runnable.acyclic),
       )) c.are_acyclic.ensures.acyclic;
     }
