@@ -6,6 +6,6 @@ pub trait Work {
 
     type Done: Send + Drop;
 
-    // The second is a lawful result of the first.
+    // `lawful job done`: `done` is an allowed result of `job`.
     ghost lawful: { Self.Job → Self.Done → Type 0 };
 }

@@ -1,4 +1,4 @@
--- When jobs may be run, what is so of those that were drawn, and for which the gate was passed.
+-- Which jobs may be run, what holds of those that were drawn, and that the gate was passed for them.
 use Rattle.std.specs.Prelude.{◌≡◌, ◌<◌, ℕ, All, List, Contains, Some, length, min, slice_get, ◌⊎◌}
 
 module _ {J : Type 0} where

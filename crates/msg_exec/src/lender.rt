@@ -77,7 +77,7 @@ impl<S: System> Lender<S> {
     }
 }
 
-/// One system's turn, which it takes where it stands.
+/// One system's turn; the system isn't moved.
 pub(crate) fn run_turn<S: System>(
     alloc: Global,
     lender: &mut Lender<S>,

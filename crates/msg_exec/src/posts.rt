@@ -1,4 +1,4 @@
-// What the host posts.
+// Writes the host's posts into the world.
 ghost use Rattle.std.specs.Prelude.{◌≡◌, ◌<◌, ◌≤◌, ◌∷◌, [], All, IfOk, IsSome, OnErr, OnOk, length, vec_capacity};
 ghost use Rattle.msg_buffer.specs.Prelude.{write};
 ghost use Rattle.msg_world.specs.declared.record.TheConstants.{HOST};

@@ -30,7 +30,7 @@ fn work_alone<W: Runs, G: Gate>(
     busy
 }
 
-/// The workers of these passes draw all jobs that are left, and it is told how many of them got
+/// Lets the workers of these passes draw all jobs that are left, and gives how many of them got
 /// one. They are numbered from `worker` on, and the first draws in this thread. Where it gets a
 /// job, others begin in new threads before that job is run, so many at once. Where it gets none,
 /// none is left, and the others draw None here, one by one.

@@ -1,4 +1,4 @@
-// What one frame leaves to the next, and no reply depends on.
+// Memory that one frame leaves to the next. No reply depends on it.
 ghost use Rattle.std.specs.Prelude.{◌≡◌, ◌≤◌, [], IfOk, vec_capacity};
 
 use crate::{Log, NoMemory, Outcome, Turn};

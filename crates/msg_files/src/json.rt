@@ -1,4 +1,4 @@
-// Objects of a JSON value.
+// Known keys and needed keys of a JSON object.
 ghost use Rattle.std.specs.Prelude.{◌≡◌, ◌≢◌, None, Some, true, IfErr, MatchResult, OnOk, string_bytes};
 ghost use Rattle.std.specs.List.{list_all};
 ghost use Rattle.serde_json.specs.{Find.get, View.view};

@@ -1,5 +1,5 @@
-//! Laws of the settled order, for proofs: a call of one puts it among the facts that are known
-//! there.
+//! Laws of the settled order. Calling one makes its fact available to the caller's proof; it does
+//! nothing at run time.
 ghost use Rattle.msg_order.specs.Prelude.{FewerSystemsMakeNoCycle, SettlingMakesNoCycle, ConflictingSystemsAreOrdered, SettledOrderExists, SettledOrderIsUnique, BatchesExist, BatchesAreUnique, TurnOrderExists, TurnOrderIsUnique, TurnOrderIsLawful, BatchNumbersRise, LawfulOrdersKeepPaths};
 
 /// Rules that make no cycle among some systems make none among fewer of them. So a plan over

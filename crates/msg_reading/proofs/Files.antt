@@ -1,4 +1,4 @@
--- The whole of a scenario file.
+-- The answers of a file's sections make the answer of the file.
 use Rattle.std.proofs.Common.{arith, ◌≡◌, List, [], ◌∷◌, ◌++◌, refl}
 use Rattle.std.specs.Option.{option_or}
 use Rattle.serde_json.specs.Data.{Data}

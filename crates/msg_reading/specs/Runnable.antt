@@ -21,7 +21,7 @@ first_world s =
 abbrev pub meanings_of : Scenario → List Meaning
 meanings_of s = map (λ x. new_system x.1.program x.0) (enumerate_from 0 s.systems)
 
--- where each stands among the others
+-- the conditions and the join frame of each
 abbrev pub places_of : Scenario → List Place
 places_of s = map (λ x. x.place) s.systems
 

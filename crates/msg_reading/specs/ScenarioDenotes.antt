@@ -174,7 +174,7 @@ start_in d = value_or (codes "start") (string (codes "zero")) d
 abbrev pub ops_of : Declared → Data → Option (List Op)
 ops_of names d = each_of (op_of names) (value_at (codes "ops") d)
 
--- the place of a system among the others
+-- the conditions and the join frame of a system
 abbrev pub place_of : Declared → Data → Option Place
 place_of names d =
     both (λ conditions join. record { conditions = conditions; join = join })

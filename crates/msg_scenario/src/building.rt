@@ -1,4 +1,4 @@
-// The engine of a scenario.
+// Makes the engine that a report runs.
 ghost use Rattle.std.specs.Prelude.{◌≡◌, ◌≤◌, IfOk, length, map};
 ghost use Rattle.msg_world.specs.Prelude.{IsWhole, PartsStand};
 ghost use Rattle.msg_exec.specs.Prelude.{EachIs, StandsFor};
@@ -54,7 +54,7 @@ fn place_of(alloc: Global, place: &Place) -> Result<Place, NoMemory>
     })
 }
 
-/// Where each system stands among the others.
+/// The conditions and the join frame of each system.
 fn places_of(alloc: Global, scenario: &Scenario) -> Result<Vec<Place>, NoMemory>
     ensures places { IfOk result (λ v. v.items ≡ places_of scenario.now) }
 {

@@ -1,4 +1,4 @@
--- Turns by rules.
+-- A turn by a program's rule is its ops in order.
 use Rattle.std.proofs.Common.{◌≡◌, ℕ, zero, suc, ◌≤◌, ◌++◌, Bool, true, List, [], ◌∷◌, length, Option, Some, None, take, refl, sym, ap, ◌∙◌, arith, inl, inr, append_assoc, option_to_list, IsTrue, slice_get}
 use Rattle.std.proofs.Math.Seq.{drop-append_seam}
 use Rattle.std.proofs.lemmas.{Bool.and_from, Bool.and_parts, Bool.eqb-true, Bool.false≢true, List.append-nil, List.length-take-le, List.take_more, List.take_all, List.Folds.list_any_at, Option.get_or_from_slice_get, Option.none-some, Option.same_Some, Option.slice_get_cases, Option.slice_get_past, Option.slice_get_within}

@@ -1,4 +1,4 @@
-// The interface of systems.
+// What every boxed system promises.
 use crate::{Access, NoMemory, Reply, Start};
 use msg_world::{Counts, Lent, Taken, TypeNo};
 use std::alloc::Global;

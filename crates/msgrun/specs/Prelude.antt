@@ -1,2 +1,2 @@
--- What is cited of this crate's definitions elsewhere; declared types in its own proofs alone.
+-- Hands on the definitions that are cited elsewhere. The declared types serve this crate's proofs alone.
 pub use Rattle.msgrun.specs.Ended.{PrintedFrames, PrintedSome, main_fault, status_after}

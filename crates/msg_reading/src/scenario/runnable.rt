@@ -13,7 +13,8 @@ use msg_order::{Rule, lowest_on_cycle};
 use msg_system::{NoMemory, job_access};
 use std::alloc::Global;
 
-/// Whether so many types and resources are all that the system and its conditions use.
+/// Whether the system and its conditions use only types below `types`, and resources below
+/// `resources`.
 fn fits(system: &SystemSpec, types: u32, resources: u32) -> bool
     ensures fit { IsTrue result ↔ ((p : Part)
         → IsTrue (needs_any (job_needs system.now.program.ops system.now.place.conditions) p)

@@ -1,4 +1,4 @@
-// Names at the end of a text. A number that nothing has in the scenario goes without one.
+// Names at the end of a text. A number that names nothing in the scenario adds no text.
 ghost use Rattle.std.specs.Prelude.{◌≡◌, ◌++◌, OnOk, codes};
 ghost use Rattle.msg_scenario.specs.Prelude.{resource_name, system_name, type_name, writer_name};
 

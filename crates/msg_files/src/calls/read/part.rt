@@ -1,4 +1,4 @@
-// The numbers in a file.
+// Reads the numbers in a call.
 ghost use Rattle.std.specs.Prelude.{◌≡◌, ◌<◌, ◌∷◌, [], Some, None, IfOk, MatchResult, option_map, option_and_then};
 ghost use Rattle.serde_json.specs.{Find.as_number, Find.as_i64, View.view, View.number_view};
 ghost use Rattle.msg_files.specs.Prelude.{IsAnswer, a_cursor, a_limit, a_message_number, a_number, a_value, natural, natural_of, only_below, whole};
