@@ -1,12 +1,12 @@
 // Scripts that may come to want of memory, and the engine of a scenario over them.
-ghost use Rattle.std.specs.Prelude.{◌≡◌, ◌≤◌, ◌+◌, Some, IfOk, OnOk, length, slice_get};
+ghost use Rattle.std.specs.Prelude.{◌≡◌, ◌≤◌, IfOk, length};
 ghost use Rattle.msg_system.specs.Prelude.{new_system};
 ghost use Rattle.msg_exec.specs.Prelude.{EachIs, StandsFor};
 ghost use Rattle.msg_scenario.specs.Prelude.{IsSystemAt};
 ghost use Rattle.msg_reading.specs.Prelude.{IsRunnable, state_of};
 
 use msg_exec::{EngineOf, Workers};
-use msg_scenario::{Scenario, SystemSpec, engine_of};
+use msg_scenario::{Scenario, SystemSpec, add_system, engine_of};
 use msg_system::{Access, NoMemory, Reply, Scripted, Start, System};
 use msg_world::{Counts, Lent, Taken, TypeNo};
 use std::alloc::Global;
@@ -65,29 +65,6 @@ impl System for Sparing {
     }
 }
 
-/// Adds the system of the spec that is next. The specs are there for the contract alone.
-#[tactic(auto, using(msg_scenario::proofs::Making::is_system_at))]
-fn add(
-    specs: &[SystemSpec],
-    spec: &SystemSpec,
-    systems: &mut Vec<Sparing>,
-    system: Sparing,
-) -> Result<(), NoMemory>
-    requires so_far { EachIs (IsSystemAt ⟦<Sparing as System>⟧.meaning specs.now)
-        systems.old.items }
-    requires next { slice_get specs.now (length systems.old.items) ≡ Some spec.now }
-    requires its { ⟦<Sparing as System>⟧.meaning system
-        ≡ new_system spec.now.program (length systems.old.items) }
-    ensures so_far { OnOk result
-        (EachIs (IsSystemAt ⟦<Sparing as System>⟧.meaning specs.now) systems.new.items) }
-    ensures one_more { OnOk result (length systems.new.items ≡ length systems.old.items + 1) }
-{
-    let _ = specs;
-    let _ = spec;
-    systems.push(system)?;
-    Ok(())
-}
-
 /// The systems of the scenario; each of them has memory for so many runs.
 pub fn sparing_systems(
     alloc: Global,
@@ -104,7 +81,7 @@ pub fn sparing_systems(
     for spec in specs {
         let writer = systems.len() as u32;
         let system = Sparing::new(spec, alloc, writer, runs)?;
-        add(specs, spec, &mut systems, system)?;
+        add_system(specs, spec, &mut systems, system)?;
     }
     Ok(systems)
 }

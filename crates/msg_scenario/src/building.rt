@@ -1,11 +1,12 @@
 // Makes the engine that a report runs.
-ghost use Rattle.std.specs.Prelude.{◌≡◌, ◌≤◌, IfOk, length, map};
+ghost use Rattle.std.specs.Prelude.{◌≡◌, ◌+◌, ◌≤◌, IfOk, OnOk, Some, length, map, slice_get};
 ghost use Rattle.msg_world.specs.Prelude.{IsWhole, PartsStand};
+ghost use Rattle.msg_system.specs.Prelude.{new_system};
 ghost use Rattle.msg_exec.specs.Prelude.{EachIs, StandsFor};
 ghost use Rattle.msg_scenario.specs.Prelude.{IsSystemAt};
 ghost use Rattle.msg_reading.specs.Prelude.{IsRunnable, first_world, places_of, state_of};
 
-use crate::Scenario;
+use crate::{Scenario, SystemSpec};
 use msg_exec::{BuildRefusal, EngineOf, Items, NoMemory, Place};
 use msg_order::Rule;
 use msg_system::System;
@@ -69,6 +70,27 @@ fn rules_of(alloc: Global, scenario: &Scenario) -> Result<Vec<Rule>, NoMemory>
     ensures rules { IfOk result (λ v. v.items ≡ scenario.now.rules) }
 {
     Vec::from_slice(alloc, scenario.rules.as_slice())
+}
+
+/// Adds the system of the spec that is next to those of the specs before it. The specs are there
+/// for the contract alone.
+#[tactic(auto, using(crate::proofs::Making::is_system_at))]
+pub fn add_system<S: System>(
+    specs: &[SystemSpec],
+    spec: &SystemSpec,
+    systems: &mut Vec<S>,
+    system: S,
+) -> Result<(), NoMemory>
+    requires so_far { EachIs (IsSystemAt S.meaning specs.now) systems.old.items }
+    requires next { slice_get specs.now (length systems.old.items) ≡ Some spec.now }
+    requires its { S.meaning system ≡ new_system spec.now.program (length systems.old.items) }
+    ensures so_far { OnOk result (EachIs (IsSystemAt S.meaning specs.now) systems.new.items) }
+    ensures one_more { OnOk result (length systems.new.items ≡ length systems.old.items + 1) }
+{
+    let _ = specs;
+    let _ = spec;
+    systems.push(system)?;
+    Ok(())
 }
 
 /// Makes the engine that `report` runs, of a scenario and of its systems, which the caller put into

@@ -6,7 +6,7 @@ mod building;
 mod reports;
 mod scene;
 
-pub use building::engine_of;
+pub use building::{add_system, engine_of};
 pub use msg_files::{
     Call, Calls, MemorySink, PutFault, ROOM, Refusal, ReportFault, Sink, StdSink, put_all,
     read_calls, run_calls,

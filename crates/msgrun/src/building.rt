@@ -1,13 +1,11 @@
 // A scenario's systems, each made of what its kind is.
-ghost use Rattle.std.specs.Prelude.{◌≡◌, ◌≤◌, ◌+◌, Some, IfOk, OnOk, length, slice_get};
+ghost use Rattle.std.specs.Prelude.{◌≡◌, ◌≤◌, IfOk, length};
 ghost use Rattle.msg_system.specs.Prelude.{new_system};
-ghost use Rattle.msg_exec.specs.Prelude.{EachIs};
-ghost use Rattle.msg_scenario.specs.Prelude.{IsSystemAt};
 ghost use Rattle.msg_reading.specs.Prelude.{FitKind};
 
 use msg_exec::NoMemory;
 use msg_scenario::{Kind, SystemSpec};
-use msg_system::{Op, Relay, Scripted, System, Tally};
+use msg_system::{Op, Relay, Scripted, Tally};
 use std::alloc::Global;
 
 /// A system that interprets its program.
@@ -49,24 +47,4 @@ pub(crate) fn tally_of(spec: &SystemSpec, writer: u32) -> Tally
         unreachable!()
     };
     Tally::new(*from, *to, spec.program.start, writer)
-}
-
-/// Adds the system of the spec that is next. The specs are there for the contract alone.
-#[tactic(auto, using(msg_scenario::proofs::Making::is_system_at))]
-pub(crate) fn add<S: System>(
-    specs: &[SystemSpec],
-    spec: &SystemSpec,
-    systems: &mut Vec<S>,
-    system: S,
-) -> Result<(), NoMemory>
-    requires so_far { EachIs (IsSystemAt S.meaning specs.now) systems.old.items }
-    requires next { slice_get specs.now (length systems.old.items) ≡ Some spec.now }
-    requires its { S.meaning system ≡ new_system spec.now.program (length systems.old.items) }
-    ensures so_far { OnOk result (EachIs (IsSystemAt S.meaning specs.now) systems.new.items) }
-    ensures one_more { OnOk result (length systems.new.items ≡ length systems.old.items + 1) }
-{
-    let _ = specs;
-    let _ = spec;
-    systems.push(system)?;
-    Ok(())
 }

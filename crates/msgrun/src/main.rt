@@ -15,7 +15,7 @@ mod scene;
 use msg_command::{Action, InputFault, MainFault, WordFault, parse_words, print_fault, read_all};
 use msg_exec::Workers;
 use msg_scenario::{StdSink, put_all, read_calls, read_scenario, run_calls};
-use scene::{run_in_boxes, told};
+use scene::{as_main_fault, run_in_boxes};
 use std::env::Env;
 use std::fs::Files;
 use std::io::{ErrorKind, Input, Print};
@@ -77,7 +77,7 @@ fn answer_scenario<R: AllocGlobal + Files + Input + Print + Sync + Threads>(
     let bytes = bytes_of(rt, Some(file)).map_err(MainFault::Input)?;
     let scenario = read_scenario(rt.alloc(), bytes.as_slice()).map_err(MainFault::Refused)?;
     let mut output = StdSink::new(io::writer(rt));
-    told(run_in_boxes(rt, rt.alloc(), &scenario, workers, &mut output))
+    as_main_fault(run_in_boxes(rt, rt.alloc(), &scenario, workers, &mut output))
 }
 
 /// All bytes of a file, or of standard input.

@@ -7,10 +7,10 @@ ghost use Rattle.msg_reading.specs.Prelude.{IsRunnable};
 ghost use Rattle.msg_scenario.specs.Prelude.{HasPrinted, IsReported};
 ghost use Rattle.msgrun.specs.Prelude.{PrintedFrames, PrintedSome, main_fault};
 
-use crate::building::{add, relay_of, scripted_of, tally_of};
+use crate::building::{relay_of, scripted_of, tally_of};
 use msg_command::MainFault;
 use msg_exec::{NoGate, NoMemory, Workers};
-use msg_scenario::{Kind, ReportFault, Scenario, Sink, run_scenario};
+use msg_scenario::{Kind, ReportFault, Scenario, Sink, add_system, run_scenario};
 use msg_system::System;
 use std::alloc::Global;
 use std::thread::Threads;
@@ -55,10 +55,10 @@ pub(crate) fn run_in_boxes<R: Threads + Sync, S: Sink>(
         match spec.kind {
             Kind::Script => {
                 let system = scripted_of(alloc, spec, writer)?;
-                add(specs, spec, &mut systems, boxed(alloc, system)?)?;
+                add_system(specs, spec, &mut systems, boxed(alloc, system)?)?;
             }
             Kind::Relay => {
-                add(
+                add_system(
                     specs,
                     spec,
                     &mut systems,
@@ -66,7 +66,7 @@ pub(crate) fn run_in_boxes<R: Threads + Sync, S: Sink>(
                 )?;
             }
             Kind::Tally => {
-                add(
+                add_system(
                     specs,
                     spec,
                     &mut systems,
@@ -85,7 +85,9 @@ fn boxed<T: Drop>(alloc: Global, value: T) -> Result<Box<T>, NoMemory>
 }
 
 /// What a run comes to, as the fault that ends the program.
-pub(crate) fn told(came: Result<Result<(), ReportFault>, NoMemory>) -> Result<(), MainFault>
+pub(crate) fn as_main_fault(
+    came: Result<Result<(), ReportFault>, NoMemory>,
+) -> Result<(), MainFault>
     ensures fault { result ≡ main_fault came }
 {
     match came {
