@@ -5,7 +5,7 @@ ghost use Rattle.msg_reading.specs.Prelude.{FitKind};
 
 use msg_exec::NoMemory;
 use msg_scenario::{Kind, SystemSpec};
-use msg_system::{Op, Relay, Scripted, Tally};
+use msg_system::{Op, Relay, Scripted, System, Tally};
 use std::alloc::Global;
 
 /// A system that interprets its program.
