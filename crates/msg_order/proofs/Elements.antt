@@ -108,4 +108,5 @@ module _ (p : ℕ → Bool) (i : ℕ) (xs : List ℕ) (so_far : xs ≡ filter p 
 
   pub filter_drops : p i ≡ false → xs ≡ filter p (range_with_len 0 (i + 1))
   filter_drops t = grind (arith, range_more, filter-append, append-nil)
+
 pub ruleset range_filters = (filter_takes, filter_drops)
