@@ -12,7 +12,7 @@ pub set_past : (before : List SystemSet) (j : ℕ) → length before ≤ j → s
 set_past before j h = get_or_past before j no_set h
 
 pub none_past : (before : List SystemSet) (i j : ℕ) → length before ≤ j → comes_before before i j ≡ false
-none_past before i j h = ap (λ s. has s i) (set_past before j h) ∙ has-no_set i
+none_past before i j h = grind (arith, set_past, has-no_set)
 
 pub meets-no_set : (t : SystemSet) → meets no_set t ≡ false
 meets-no_set t = grind (arith, false_from_ne_true, has-no_set, meets-true)
@@ -41,10 +41,7 @@ adds_edge g before new from later to h s few only i j =
 -- The rules one by one.
 path-at_end : (g : Graph) (e : ℕ × ℕ) (i j : ℕ) → path (e ∷ g) i j ≡ path (g ++ e ∷ []) i j
 path-at_end g e = same_paths (e ∷ g) (g ++ e ∷ [])
-    (λ i j h. elim (Contains-cases e g (i, j) h) [
-      | inl s ↦ rw (← s) (Contains-push g e)
-      | inr t ↦ Contains-append_left g (e ∷ []) (i, j) t
-    ])
+    (λ i j h. grind (arith, Contains-cases e g (i, j) h, Contains-push g e, Contains-append_left g (e ∷ [])))
     (λ i j h. grind (arith, Contains-push_cases g e (i, j) h, Contains-tail e g (i, j)))
 
 -- an edge where there is a path already adds none
@@ -95,11 +92,11 @@ pub row_settles : (C : ℕ → ℕ → Type 0) (g : Graph) (n i : ℕ) (before n
 row_settles C g n i before new later few lt below tells adds way = (
   grown i test js h,
   (
-    λ x k. adds x k ∙ rw (way.1.0 x k, way.1.0 x i, tests k) (sym (grown_paths h i test js free x k)),
+    λ x k. grind (arith, adds x k, way.1.0 x, tests k, grown_paths h i test js free x k),
     rw (pairs_until-more n i)
         (settles_then C (pairs_until n i) (row n i) g h (grown i test js h) way.1.1
-        (settles_row C h i test js (λ j c. let r = range-Contains (i + 1) (n - (i + 1)) j c in omega arith)
-        (λ t up. (λ e. (found t e).1, λ c f. (tells t).1 (up, (c, way.1.0 t i ∙ f)))))),
+        (settles_row C h i test js (λ j c. grind (arith, range-Contains (i + 1) (n - (i + 1)) j c))
+        (λ t up. grind (arith, found t, tells t, way.1.0 t i)))),
   ),
 )
   where
@@ -113,27 +110,21 @@ row_settles C g n i before new later few lt below tells adds way = (
     test = has later
 
     found : (j : ℕ) → test j ≡ true → (i < j) × ((C i j) × (path h j i ≡ false))
-    found j t = let r = (tells j).0 t in (r.0, (r.1.0, sym (way.1.0 j i) ∙ r.1.1))
+    found j t = grind (arith, tells j, way.1.0 j i)
 
     free : (t : ℕ) → test t ≡ true → (t ≢ i) × (path h t i ≡ false)
-    free t e = let q = found t e in let ne : t ≢ i = omega (arith, q.0) in (ne, q.1.1)
+    free t e = grind (arith, found t e)
 
     -- one of those that the test holds of is among the systems after i
     among : (k t : ℕ) → test t ≡ true → (k == t || path h t k) ≡ true → list_any (reaches test h k) js ≡ true
     among k t e to =
-        let q = found t e in
-        let l : t < n = below t q.1.0 in
-        list_any-Contains (reaches test h k) js t
-        (Contains-range (i + 1) (n - (i + 1)) t (omega (arith, q.0)) (omega (arith, q.0)))
+        let l : t < n = below t (found t e).1.0 in
+        list_any-Contains (reaches test h k) js t (grind (arith, found t e, Contains-range (i + 1) (n - (i + 1)) t))
         (and_from (test t) (k == t || path h t k) e to)
 
     tests : (k : ℕ) → (has later k || meets (set_at before k) later) ≡ list_any (reaches test h k) js
     tests k = same_test _ _
-        (λ e. elim (or_cases (has later k) (meets (set_at before k) later) e) [
-          | inl x ↦ among k k x (or_left (k == k) (path h k k) (eq-eqb k k refl))
-          | inr x ↦ let f = meets-true (set_at before k) later x in among k f.0 f.1.1.1
-              (or_right (k == f.0) (path h f.0 k) (sym (way.1.0 f.0 k) ∙ f.1.1.0))
-        ])
+        (λ e. grind (arith, eqb_tells, meets-true (set_at before k) later, way.1.0, among k))
         (λ e.
         let r = Contains-list_any (reaches test h k) js e in
         let t : ℕ = r.0 in
@@ -167,11 +158,7 @@ all_rules joined (rule ∷ rules) below all =
 -- the first n of systems that have all joined
 front_joined : (m n : ℕ) → n ≤ m → (length (take n (replicate m true)) ≡ n)
     × ((i : ℕ) → i < n → has_joined (take n (replicate m true)) i ≡ true)
-front_joined m n le = (
-  grind (arith, common_steps),
-  λ i lt. get_or-take n (replicate m true) i false lt
-      ∙ get_or-replicate m i true false (omega arith),
-)
+front_joined m n le = (grind (arith, common_steps), λ i lt. grind (arith, get_or-take, get_or-replicate))
 
 -- what is found of the rules among the first n of them is found of all rules
 pub found_among_all : (m n : ℕ) (rules : List Rule) (before : List SystemSet) (found : Option ℕ) → n ≤ m
@@ -193,19 +180,17 @@ found_among_all m n rules before found le below h =
 pub settled_joins : (accesses : List Access) (rules : List Rule) (joined : List Bool) (h : Graph)
     → Settles (AreInConflict accesses joined) (rules_among joined rules) (pairs (length accesses)) h → IsAmong joined h
 settled_joins accesses rules joined h s =
-    settles_keeps (AreInConflict accesses joined) (IsAmong joined) (pairs (length accesses)) (rules_among joined rules)
-    h s
+    settles_keeps _ (IsAmong joined) _ (rules_among joined rules) h s
     (λ p k m gains among i j e. grind (arith, among i j, Contains-cases p k (i, j) e, gains.0))
-    (λ i j e. and_parts _ _
-    (filter-Contains (λ (e : ℕ × ℕ). has_joined joined e.0 && has_joined joined e.1) (edges_of rules) (i, j) e).1)
+    (λ i j e. and_parts _ _ (filter-Contains _ (edges_of rules) (i, j) e).1)
 
 pub settled_free : (accesses : List Access) (rules : List Rule) (joined : List Bool) (h : Graph)
     → Settles (AreInConflict accesses joined) (rules_among joined rules) (pairs (length accesses)) h
     → IsAcyclic (rules_among joined rules) → IsAcyclic h
 settled_free accesses rules joined h s f i =
     let g : Graph = rules_among joined rules in
-    no_Path h i i (settles_free (AreInConflict accesses joined) (pairs (length accesses)) g h s
-    (λ a b m. (pairs-Contains (length accesses) a b m).0) (λ k. no_path g k k (f k)) i)
+    no_Path h i i
+    (settles_free _ _ g h s (λ a b m. (pairs-Contains (length accesses) a b m).0) (λ k. no_path g k k (f k)) i)
 
 -- a set that was just made
 pub sets_push : (before : List SystemSet) (set : SystemSet) → ArePaths [] before → ((k : ℕ) → has set k ≡ false)
