@@ -49,24 +49,16 @@ pub path-again : (g : Graph) (a b : ℕ) → path g a b ≡ true → (i j : ℕ)
 path-again g a b p i j = grind (arith, same_test, or_left, or_cases, and_parts, eqb-true, path_trans)
 
 -- a rule among the joined systems adds its edge
-pub rule_more : (joined : List Bool) (rules : List Rule) (k : ℕ) (d : Rule) → k < length rules → (i j : ℕ) →
+pub rule_more : (joined : List Bool) (rules : List Rule) (k : ℕ) (d : Rule) → k < length rules → (i j : ℕ)
+    → (let r : Rule = get_or rules k d in let g : Graph = rules_among joined (take k rules) in
     path (rules_among joined (take (k + 1) rules)) i j
-    ≡ path (cond (has_joined joined (get_or rules k d).earlier && has_joined joined (get_or rules k d).later)
-    (((get_or rules k d).earlier, (get_or rules k d).later) ∷ rules_among joined (take k rules))
-    (rules_among joined (take k rules))) i j
+    ≡ path (cond (has_joined joined r.earlier && has_joined joined r.later) ((r.earlier, r.later) ∷ g) g) i j)
 rule_more joined rules k d h i j =
     let f : Rule → ℕ × ℕ = λ r. (r.earlier, r.later) in
     let p : ℕ × ℕ → Bool = λ e. has_joined joined e.0 && has_joined joined e.1 in
-    grind (
-      arith,
-      filter_more p (map f rules) k (f d),
-      length-map rules f,
-      get_or-map f rules k d (f d) h,
-      take-map f k rules,
-      take-map f (k + 1) rules,
-      path-at_end (rules_among joined (take k rules)) (f (get_or rules k d)) i j,
-      append-nil (rules_among joined (take k rules)),
-    )
+    let more = filter_more p (map f rules) k (f d) in
+    let last = path-at_end (rules_among joined (take k rules)) (f (get_or rules k d)) i j in
+    grind (arith, more, last, length-map rules f, get_or-map f rules k d (f d) h, take-map f, append-nil)
 
 -- The pairs of one system after those of the systems before it.
 abbrev pub IsOnWay : (ℕ → ℕ → Type 0) → Graph → ℕ → ℕ → List SystemSet → Type 0
@@ -89,46 +81,32 @@ pub row_settles : (C : ℕ → ℕ → Type 0) (g : Graph) (n i : ℕ) (before n
     → i < n → ((j : ℕ) → C i j → j < n)
     → TellsLater C (set_at before i) i later → AddsEdges before i later new → IsOnWay C g n i before
     → IsOnWay C g n (i + 1) new
-row_settles C g n i before new later few lt below tells adds way = (
-  grown i test js h,
-  (
-    λ x k. grind (arith, adds x k, way.1.0 x, tests k, grown_paths h i test js free x k),
-    rw (pairs_until-more n i)
-        (settles_then C (pairs_until n i) (row n i) g h (grown i test js h) way.1.1
-        (settles_row C h i test js (λ j c. grind (arith, range-Contains (i + 1) (n - (i + 1)) j c))
-        (λ t up. grind (arith, found t, tells t, way.1.0 t i)))),
-  ),
-)
-  where
-    h : Graph
-    h = way.0
-
-    js : List ℕ
-    js = range_with_len (i + 1) (n - (i + 1))
-
-    test : ℕ → Bool
-    test = has later
-
-    found : (j : ℕ) → test j ≡ true → (i < j) × ((C i j) × (path h j i ≡ false))
-    found j t = grind (arith, tells j, way.1.0 j i)
-
-    free : (t : ℕ) → test t ≡ true → (t ≢ i) × (path h t i ≡ false)
-    free t e = grind (arith, found t e)
-
-    -- one of those that the test holds of is among the systems after i
-    among : (k t : ℕ) → test t ≡ true → (k == t || path h t k) ≡ true → list_any (reaches test h k) js ≡ true
-    among k t e to =
-        let l : t < n = below t (found t e).1.0 in
-        list_any-Contains (reaches test h k) js t (grind (arith, found t e, Contains-range (i + 1) (n - (i + 1)) t))
-        (and_from (test t) (k == t || path h t k) e to)
-
-    tests : (k : ℕ) → (has later k || meets (set_at before k) later) ≡ list_any (reaches test h k) js
-    tests k = same_test _ _
-        (λ e. grind (arith, eqb_tells, meets-true (set_at before k) later, way.1.0, among k))
-        (λ e.
-        let r = Contains-list_any (reaches test h k) js e in
-        let t : ℕ = r.0 in
-        grind (arith, eqb_tells, r.1.1, found t, below t, way.1.0 t k, meets-found (set_at before k) later t))
+row_settles C g n i before new later few lt below tells adds way =
+    let h : Graph = way.0 in
+    let js : List ℕ = range_with_len (i + 1) (n - (i + 1)) in
+    let found : (j : ℕ) → has later j ≡ true → (i < j) × ((j < n) × ((C i j) × (path h j i ≡ false))) = λ j t.
+    grind (arith, tells j, below j, way.1.0 j i) in
+    let tests : (k : ℕ) → (has later k || meets (set_at before k) later) ≡ list_any (reaches (has later) h k) js = λ k.
+    let here = list_any-Contains (reaches (has later) h k) js in
+    let from = Contains-list_any (reaches (has later) h k) js in
+    let inside = λ (t : ℕ). (Contains-range (i + 1) (n - (i + 1)) t) in
+    same_test _ _ (λ e. grind (arith, eqb_tells, meets-true (set_at before k) later, way.1.0, here, found, inside))
+    (λ e. let r = from e in grind (arith, eqb_tells, r.1.1, found r.0, way.1.0 r.0 k, meets-found (set_at before k) later)) in (
+      grown i (has later) js h,
+      (
+        λ x k. grind (
+          arith,
+          adds x k,
+          way.1.0 x,
+          tests k,
+          grown_paths h i (has later) js (λ t e. grind (arith, found t e)) x k,
+        ),
+        rw (pairs_until-more n i)
+            (settles_then C (pairs_until n i) (row n i) g h (grown i (has later) js h) way.1.1
+            (settles_row C h i (has later) js (λ j c. grind (arith, range-Contains (i + 1) (n - (i + 1)) j c))
+            (λ t up. grind (arith, found t, tells t, way.1.0 t i)))),
+      ),
+    )
 
 -- Systems below n on cycles.
 pub joined_in : (joined : List Bool) (i : ℕ) → has_joined joined i ≡ true → i < length joined
@@ -144,38 +122,17 @@ lowest_by_sets g before (Some s) h found = record {
   lowest = λ r k. no_Path g r r (sym (h r r) ∙ found.1 r k);
 }
 
--- rules among systems that have all joined are all the rules
-pub all_rules : (joined : List Bool) (rules : List Rule) → NameSystemsBelow (length joined) rules
-    → ((i : ℕ) → i < length joined → has_joined joined i ≡ true)
-    → rules_among joined rules ≡ edges_of rules
-all_rules joined [] below all = refl
-all_rules joined (rule ∷ rules) below all =
-    let P : Rule → Type 0 = λ r. (r.earlier < length joined) × (r.later < length joined) in
+-- rules among the first n of systems that have all joined are all the rules
+pub all_rules : (m n : ℕ) (rules : List Rule) → n ≤ m → NameSystemsBelow n rules
+    → rules_among (take n (replicate m true)) rules ≡ edges_of rules
+all_rules m n [] le below = refl
+all_rules m n (rule ∷ rules) le below =
+    let P : Rule → Type 0 = λ r. (r.earlier < n) × (r.later < n) in
     let here = All-head P rule rules below in
-    rw (all rule.earlier here.0, all rule.later here.1)
-    (ap (λ l. (rule.earlier, rule.later) ∷ l) (all_rules joined rules (All-tail P rule rules below) all))
-
--- the first n of systems that have all joined
-front_joined : (m n : ℕ) → n ≤ m → (length (take n (replicate m true)) ≡ n)
-    × ((i : ℕ) → i < n → has_joined (take n (replicate m true)) i ≡ true)
-front_joined m n le = (grind (arith, common_steps), λ i lt. grind (arith, get_or-take, get_or-replicate))
-
--- what is found of the rules among the first n of them is found of all rules
-pub found_among_all : (m n : ℕ) (rules : List Rule) (before : List SystemSet) (found : Option ℕ) → n ≤ m
-    → NameSystemsBelow n rules
-    → (let among : Graph = rules_among (take n (replicate m true)) rules in MatchOption found
-    (IsAcyclic among × ArePaths among before) (IsLowestOnCycle among))
-    → IfSome found (IsLowestOnCycle (edges_of rules)) × IfNone found (IsAcyclic (edges_of rules))
-found_among_all m n rules before found le below h =
-    let joined : List Bool = take n (replicate m true) in
-    let front = front_joined m n le in
-    let all = all_rules joined rules (rw (front.0) below)
-    (λ i lt. front.1 i (omega (arith, front.0))) in
-    of_both _ _ _ found (rw all at h)
-  where
-    of_both : (P Q : Type 0) (R : ℕ → Type 0) (found : Option ℕ) → MatchOption found (P × Q) R
-        → IfSome found R × IfNone found P
-    of_both P Q R found h = grind arith
+    let rest = all_rules m n rules le (All-tail P rule rules below) in
+    let joined : (i : ℕ) → i < n → has_joined (take n (replicate m true)) i ≡ true = λ i lt.
+    grind (arith, get_or-take, get_or-replicate) in
+    rw (joined rule.earlier here.0, joined rule.later here.1, rest) refl
 
 pub settled_joins : (accesses : List Access) (rules : List Rule) (joined : List Bool) (h : Graph)
     → Settles (AreInConflict accesses joined) (rules_among joined rules) (pairs (length accesses)) h → IsAmong joined h

@@ -13,10 +13,6 @@ returns-then-earlier-len _g c =
 
 pub returns : goal.returns
 returns _g c =
-    let before = c.self.inside.before.items in
-    let i : ℕ = c.args.earlier in
-    let j : ℕ = c.args.later in
-    let edges = seen_edges _ _ _ _ c.self.view_is c.self.invariant i j in
-    let is : c.contains.result ≡ comes_before before i j = c.contains.ensures
-    ∙ ap (λ s. has s i) (get_or_read before j _ (omega arith) c.index.ensures no_set) in
-    grind (arith, edges)
+    let edges = seen_edges _ _ _ _ c.self.view_is c.self.invariant c.args.earlier c.args.later in
+    let at = get_or_read c.self.inside.before.items c.args.later _ (omega arith) c.index.ensures no_set in
+    grind (arith, edges, at)
