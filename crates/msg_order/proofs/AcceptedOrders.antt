@@ -1,7 +1,7 @@
 -- Taking the systems of an order one after the other.
-use Rattle.std.proofs.Common.{◌≡◌, ℕ, ◌+◌, ◌<◌, ◌⊎◌, inl, inr, Bool, true, false, not, ◌&&◌, List, length, get_or, sym, ◌∙◌, arith, ◌==◌}
+use Rattle.std.proofs.Common.{◌≡◌, ℕ, ◌+◌, ◌<◌, ◌⊎◌, inl, inr, Bool, true, false, not, ◌&&◌, List, length, get_or, arith, ◌==◌}
 use Rattle.std.specs.List.{list_any, range_with_len}
-use Rattle.std.proofs.lemmas.{Bool.Decides.eqb_tells, Bool.cases_Bool, Bool.cases_eq, Bool.eqb-true, Bool.eq-eqb, Bool.false≢true, List.get_or_default}
+use Rattle.std.proofs.lemmas.{Bool.Decides.eqb_tells, Bool.cases_Bool, Bool.cases_eq, List.get_or_default}
 use Rattle.msg_order.specs.Prelude.{Graph, IsEdge, IsLawfulOrder, StandsBefore, has_joined}
 use Rattle.msg_order.proofs.{SystemSets.below_some, SystemSets.some_below, TurnOrders.stands, TurnOrders.places_of, TurnOrders.place_of, TurnOrders.of_place, TurnOrders.one_place}
 

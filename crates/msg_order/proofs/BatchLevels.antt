@@ -1,6 +1,6 @@
 -- Batches, level by level: what is left after m of them are the systems in which a chain of m edges ends.
-use Rattle.std.proofs.Common.{◌≡◌, ℕ, zero, suc, ◌+◌, ◌<◌, ◌⊎◌, inl, inr, Bool, true, false, not, cond, ◌&&◌, List, [], ◌∷◌, ◌++◌, length, ap, sym, arith, length-append, ◌↔◌, Contains, All, count_by, filter}
-use Rattle.std.proofs.lemmas.{List.Sums.length-filter, List.Sums.sum_by-cons, Bool.cases_Bool, Bool.cases_eq, Bool.cases_lt, Bool.false_from_ne_true, List.get_or_past, List.get_or_push, List.get_or_append_left, List.Elements.All-push, List.Kept.IsStrictlyIncreasing-filter, List.FromFn.length-range_with_len, List.FromFn.get_or-range_with_len}
+use Rattle.std.proofs.Common.{◌≡◌, ℕ, zero, suc, ◌+◌, ◌<◌, ◌⊎◌, Bool, true, false, not, ◌&&◌, List, [], ◌∷◌, ◌++◌, length, ap, arith, length-append, ◌↔◌, Contains, All, filter}
+use Rattle.std.proofs.lemmas.{Bool.cases_Bool, Bool.cases_eq, Bool.cases_lt, Bool.false_from_ne_true, List.get_or_past, List.get_or_push, List.get_or_append_left, List.Elements.All-push, List.Kept.IsStrictlyIncreasing-filter, List.FromFn.length-range_with_len, List.FromFn.get_or-range_with_len}
 use Rattle.std.specs.{List.range_with_len, List.Sorted.IsStrictlyIncreasing}
 use Rattle.msg_order.specs.Prelude.{AreBatches, Graph, IsAcyclic, IsBatchNumber, IsEdge, SystemSet, batch_at, has_joined}
 use Rattle.msg_order.specs.{inner.Paths.path, inner.Paths.set_at, inner.Paths.ArePaths, inner.SystemSet.has, inner.SystemSet.meets}

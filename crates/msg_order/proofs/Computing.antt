@@ -1,13 +1,13 @@
 -- The settled order and the turns in it by tests alone, for worked rows.
-use Rattle.std.proofs.Common.{◌≡◌, ℕ, zero, suc, ◌<◌, ◌⊎◌, inl, inr, Bool, true, cond, not, ◌&&◌, ◌||◌, List, [], ◌∷◌, ◌++◌, map, length, refl, arith, ◌==◌, ◌↔◌, nat_le, nat_lt, IsTrue, AllPairs, bit_and, bit_or}
+use Rattle.std.proofs.Common.{◌≡◌, ℕ, zero, suc, ◌<◌, Bool, true, cond, not, ◌&&◌, ◌||◌, List, [], ◌∷◌, length, refl, arith, ◌==◌, ◌↔◌, nat_le, nat_lt, IsTrue, AllPairs, bit_and, bit_or}
 use Rattle.std.specs.List.{range_with_len, list_all, list_any}
-use Rattle.std.proofs.lemmas.{Bool.Decides.eqb_tells, Bool.Decides.nat_tests, Bool.cases_Bool, Bool.cond_both, Bool.and_parts, Bool.and_from, Bool.or_cases, Bool.false≢true, Bool.eqb-true, Bool.ltb-true, List.Elements.Contains-append_left, List.Elements.Contains-append_right, List.Kept.AllPairs-cons, List.Sums.AllPass-from_list_all}
+use Rattle.std.proofs.lemmas.{Bool.Decides.nat_tests, Bool.cases_Bool, Bool.cond_both, Bool.and_parts, Bool.and_from, Bool.false≢true, Bool.eqb-true, Bool.ltb-true, List.Kept.AllPairs-cons, List.Sums.AllPass-from_list_all}
 use Rattle.msg_world.specs.declared.access.Access.{Access}
 use Rattle.msg_world.specs.Prelude.{Conflict}
 use Rattle.msg_world.proofs.{Bits.share_bit-and, Conflicts.collides, Conflicts.conflicts_lem}
 use Rattle.msg_order.specs.Prelude.{AreInConflict, Graph, IsBatchNumber, IsEdge, IsSettledOrder, IsTurnOrder, Rule, RunsBefore, Settles, access_of, has_joined, pairs, rules_among}
 use Rattle.msg_order.specs.inner.Paths.{path}
-use Rattle.msg_order.proofs.{Elements.Contains-head, Elements.Contains-tail, Elements.Contains-list_any, Elements.Contains-map, Elements.Contains-range, Elements.list_all-Contains, Elements.list_any-Contains, Chains.Ends, Chains.ends_number, Chains.number_once, PathTest.no_Path, PathTest.to_Path, SetPaths.joined_in}
+use Rattle.msg_order.proofs.{Elements.Contains-head, Elements.Contains-tail, Elements.Contains-list_any, Elements.Contains-range, Elements.list_all-Contains, Chains.Ends, Chains.ends_number, Chains.number_once, PathTest.no_Path, PathTest.to_Path, SetPaths.joined_in}
 
 pub each_below : (test : ℕ → Bool) (n i : ℕ) → list_all test (range_with_len 0 n) ≡ true → i < n → test i ≡ true
 each_below test n i all lt = list_all-Contains test (range_with_len 0 n) i all

@@ -1,7 +1,7 @@
 -- The test for a path, which grows edge by edge, says whether there is one.
-use Rattle.std.proofs.Common.{arith, ◌≡◌, ℕ, inl, inr, Bool, true, false, ◌&&◌, ◌||◌, List, [], ◌∷◌, ◌++◌, sym, ◌∙◌, ◌==◌}
-use Rattle.std.proofs.lemmas.{Bool.Decides.eqb_tells, Bool.eqb-true, Bool.or_cases, Bool.and_parts, Bool.false≢true, Bool.false_from_ne_true}
-use Rattle.msg_order.specs.Prelude.{Graph, IsEdge, IsChain, Path}
+use Rattle.std.proofs.Common.{arith, ◌≡◌, ℕ, Bool, true, false, [], ◌∷◌, sym, ◌∙◌}
+use Rattle.std.proofs.lemmas.{Bool.Decides.eqb_tells, Bool.false≢true, Bool.false_from_ne_true}
+use Rattle.msg_order.specs.Prelude.{Graph, IsEdge, Path}
 use Rattle.msg_order.specs.inner.Paths.{path}
 use Rattle.msg_order.proofs.{Elements.Contains-cases, Elements.Contains-head, Elements.Contains-tail, Elements.not_in_none, Chains.edge_is_path, Chains.paths_join, Chains.path_grows}
 

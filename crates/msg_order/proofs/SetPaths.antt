@@ -1,7 +1,7 @@
 -- The code's sets as the paths of a graph.
-use Rattle.std.proofs.Common.{◌≡◌, ◌≢◌, ℕ, ◌+◌, ◌-◌, ◌<◌, ◌≤◌, inl, inr, Bool, true, false, cond, ◌&&◌, ◌||◌, List, [], ◌∷◌, ◌++◌, length, take, map, get_or, replicate, Option, None, Some, refl, ap, sym, ◌∙◌, arith, length-append, ◌==◌, IfNone, IfSome, IsTrue, IsFalse, MatchOption, ◌↔◌}
+use Rattle.std.proofs.Common.{◌≡◌, ℕ, ◌+◌, ◌-◌, ◌<◌, ◌≤◌, Bool, true, false, cond, ◌&&◌, ◌||◌, List, [], ◌∷◌, ◌++◌, length, take, map, get_or, replicate, Option, None, Some, refl, sym, ◌∙◌, arith, length-append, ◌==◌, IsTrue, IsFalse, MatchOption, ◌↔◌}
 use Rattle.std.specs.List.{list_any, range_with_len}
-use Rattle.std.proofs.lemmas.{List.append-nil, List.get_or-map, List.length-map, List.take-map, List.get_or-take, List.get_or_past, List.get_or_push, List.get_or_append_left, Grind.common_steps, Simd.get_or-replicate, List.Elements.All-head, List.Elements.All-tail, List.Elements.filter_more, List.Elements.Contains-append_left, List.Elements.Contains-push, List.Elements.Contains-push_cases, Bool.Decides.eqb_tells, Bool.cases_eq, Bool.cases_lt, Bool.or_left, Bool.or_right, Bool.or_cases, Bool.and_parts, Bool.and_from, Bool.false≢true, Bool.false_from_ne_true, Bool.eqb-true, Bool.eq-eqb}
+use Rattle.std.proofs.lemmas.{List.append-nil, List.get_or-map, List.length-map, List.take-map, List.get_or-take, List.get_or_past, List.get_or_push, List.get_or_append_left, Simd.get_or-replicate, List.Elements.All-head, List.Elements.All-tail, List.Elements.filter_more, List.Elements.Contains-append_left, List.Elements.Contains-push, List.Elements.Contains-push_cases, Bool.Decides.eqb_tells, Bool.cases_eq, Bool.cases_lt, Bool.or_left, Bool.or_right, Bool.or_cases, Bool.and_parts, Bool.false≢true, Bool.false_from_ne_true, Bool.eqb-true, Bool.eq-eqb}
 use Rattle.msg_world.specs.declared.access.Access.{Access}
 use Rattle.msg_order.specs.Prelude.{AreInConflict, Graph, IsAcyclic, IsAmong, IsLowestOnCycle, NameSystemsBelow, Rule, Settles, SystemSet, edges_of, has_joined, pairs, rules_among}
 use Rattle.msg_order.specs.{inner.SystemSet.has, inner.SystemSet.meets, inner.SystemSet.no_set, inner.Paths.path, inner.Paths.set_at, inner.Paths.comes_before, inner.Paths.ArePaths}
@@ -89,9 +89,10 @@ row_settles C g n i before new later few lt below tells adds way =
     let tests : (k : ℕ) → (has later k || meets (set_at before k) later) ≡ list_any (reaches (has later) h k) js = λ k.
     let here = list_any-Contains (reaches (has later) h k) js in
     let from = Contains-list_any (reaches (has later) h k) js in
+    let meet = meets-found (set_at before k) later in
     let inside = λ (t : ℕ). (Contains-range (i + 1) (n - (i + 1)) t) in
     same_test _ _ (λ e. grind (arith, eqb_tells, meets-true (set_at before k) later, way.1.0, here, found, inside))
-    (λ e. let r = from e in grind (arith, eqb_tells, r.1.1, found r.0, way.1.0 r.0 k, meets-found (set_at before k) later)) in (
+    (λ e. let r = from e in grind (arith, eqb_tells, r.1.1, found r.0, way.1.0 r.0 k, meet)) in (
       grown i (has later) js h,
       (
         λ x k. grind (

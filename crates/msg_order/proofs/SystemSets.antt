@@ -1,7 +1,7 @@
 -- Sets of systems as words of bits.
-use Rattle.std.proofs.Common.{[], ◌∷◌, ◌≡◌, ◌≢◌, ℕ, ◌+◌, ◌*◌, ◌/◌, ◌^◌, ◌%◌, ◌<◌, ◌≤◌, Bool, true, false, not, ◌&&◌, ◌||◌, List, get_or, length, refl, ap, ◌∙◌, arith, w64, get_or-set_same, get_or-set_other, slice_set, sym, ◌==◌, bit_and, bit_or}
+use Rattle.std.proofs.Common.{◌≡◌, ℕ, ◌+◌, ◌*◌, ◌/◌, ◌^◌, ◌%◌, ◌<◌, ◌≤◌, Bool, true, false, not, ◌&&◌, ◌||◌, List, get_or, length, refl, arith, w64, get_or-set_same, get_or-set_other, slice_set, ◌==◌, bit_and, bit_or}
 use Rattle.std.specs.{Int.bit_not, List.list_any, List.range_with_len}
-use Rattle.std.proofs.lemmas.{Bool.cases_eq, Bool.Decides.eqb_tells, Bool.and_parts, Bool.and_from, Bool.eq-eqb, Bool.ne_eqb, Bool.false_from_ne_true, List.get_or_past, Nat.Bits.shr_and_one}
+use Rattle.std.proofs.lemmas.{Bool.cases_eq, Bool.and_parts, Bool.and_from, Bool.eq-eqb, Bool.ne_eqb, Bool.false_from_ne_true, List.get_or_past}
 use Rattle.msg_world.specs.Prelude.{has_bit}
 use Rattle.msg_world.proofs.Bits.{has_bit-zero, has_bit-set, has_bit-unset, has_bit-and, has_bit-or}
 use Rattle.msg_order.specs.Prelude.{SystemSet}
@@ -48,14 +48,6 @@ words-remove words j k l h =
     words-set words _ j k (λ a b. not a && b) l h (λ b. refl)
     (has_bit-unset (get_or words (k / 64) 0) (k % 64) (j % 64) (omega arith) (omega arith))
 
-pub past_or : (a b c : List ℕ) (q r : ℕ) → length a ≤ q → length b ≤ q → length c ≤ q → has_bit (get_or a q 0) r
-    ≡ (has_bit (get_or b q 0) r || has_bit (get_or c q 0) r)
-past_or a b c q r h k l = grind (arith, get_or_past, has_bit-zero)
-
--- four words of no bits
-pub no_words : (q : ℕ) → (let words : List ℕ = 0 ∷ 0 ∷ 0 ∷ 0 ∷ [] in get_or words q 0 ≡ 0)
-no_words q = grind (arith, get_or_past)
-
 -- nothing is in a set of no words
 pub has-no_set : (k : ℕ) → has no_set k ≡ false
 unfolding has
@@ -84,32 +76,12 @@ pub words-share : (xs ys : List ℕ) (i r k : ℕ) → r < 64 → 64 * i + r ≡
     → (has_bit (get_or xs (k / 64) 0) (k % 64) && has_bit (get_or ys (k / 64) 0) (k % 64)) ≡ true
 words-share xs ys i r k h e t = grind (arith, has_bit-and)
 
--- A set that was told up to i, and from there on is empty: i goes in, or stays out.
-pub told_with : (old new want : ℕ → Bool) (i : ℕ) → ((k : ℕ) → new k ≡ (k == i || old k))
-    → ((k : ℕ) → k < i → old k ≡ want k) → want i ≡ true → (k : ℕ) → k < i + 1 → new k ≡ want k
-told_with old new want i step told yes_ k h = grind (arith, cases_eq, eq-eqb, ne_eqb)
-
-pub empty_with : (old new : ℕ → Bool) (i : ℕ) → ((k : ℕ) → new k ≡ (k == i || old k))
-    → ((k : ℕ) → i ≤ k → old k ≡ false) → (k : ℕ) → i + 1 ≤ k → new k ≡ false
-empty_with old new i step none k h = grind (arith, eqb_tells)
-
-pub told_without : (old want : ℕ → Bool) (i : ℕ) → ((k : ℕ) → k < i → old k ≡ want k)
-    → ((k : ℕ) → i ≤ k → old k ≡ false) → want i ≡ false → (k : ℕ) → k < i + 1 → old k ≡ want k
-told_without old want i told z4 no_ k h = grind (arith, cases_eq)
-
 -- what the functions of sets are proved by
 pub ruleset of_sets = (
   words-insert,
   words-remove,
-  past_or,
-  no_words,
-  has_bit-zero,
   has_bit-or,
-  shr_and_one,
   meets-found,
   meets-true,
   has-above,
 )
-
--- what the next set of a level is told by
-pub ruleset told = (told_with, told_without, empty_with)

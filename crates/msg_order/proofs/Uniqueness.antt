@@ -1,8 +1,8 @@
 -- That there is one settled order and one list of batches, and what holds of each.
-use Rattle.std.proofs.Common.{◌≡◌, ℕ, ◌<◌, ◌≤◌, inl, inr, Bool, ◌&&◌, List, [], ◌∷◌, length, map, get_or, refl, ap, ◌∙◌, arith, ◌↔◌, AllPairs, Contains}
+use Rattle.std.proofs.Common.{◌≡◌, ℕ, ◌<◌, ◌≤◌, Bool, ◌&&◌, List, [], ◌∷◌, length, get_or, refl, arith, ◌↔◌, AllPairs, Contains}
 use Rattle.std.proofs.lemmas.{Bool.cases_lt, Bool.cases_order, Bool.and_parts, Bool.and_from, List.ext_get_or, List.get_or_past, List.Elements.All-contains, List.Elements.Contains-get_or, List.Kept.AllPairs-from_increasing}
 use Rattle.msg_world.specs.Prelude.{Conflict}
-use Rattle.msg_order.specs.Prelude.{AreBatches, AreInConflict, BatchNumbersRise, BatchesAreUnique, ConflictingSystemsAreOrdered, FewerSystemsMakeNoCycle, Graph, Rule, SettledOrderIsUnique, access_of, edges_of, batch_at, has_joined, pairs, rules_among}
+use Rattle.msg_order.specs.Prelude.{AreBatches, AreInConflict, BatchNumbersRise, BatchesAreUnique, ConflictingSystemsAreOrdered, FewerSystemsMakeNoCycle, Graph, SettledOrderIsUnique, access_of, edges_of, batch_at, has_joined, pairs, rules_among}
 use Rattle.msg_order.proofs.{Elements.Contains-head, Elements.Contains-tail, Elements.Contains-cases, Elements.not_in_none, Elements.filter-Contains, Elements.Contains-filter, Elements.pairs_head, Elements.pairs_tail, Chains.path_grows, Chains.number_once, Chains.number_rises, SettledPairs.settles_once, SettledPairs.settles_covers, SettledPairs.Contains-pairs, SetPaths.joined_in}
 
 pub fewer_make_none : FewerSystemsMakeNoCycle

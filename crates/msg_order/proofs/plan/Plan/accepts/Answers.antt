@@ -1,6 +1,6 @@
-use Rattle.std.proofs.Common.{◌≡◌, ℕ, Bool, length, get_or, sym, ◌∙◌, refl, arith}
+use Rattle.std.proofs.Common.{◌≡◌, ℕ, Bool, length, get_or, refl, arith}
 use Rattle.std.proofs.lemmas.{Bool.false≢true, Bool.false_from_ne_true, List.get_or_read}
-use Rattle.msg_order.specs.{inner.SystemSet.has, inner.SystemSet.meets, inner.SystemSet.no_set, inner.Paths.set_at}
+use Rattle.msg_order.specs.{inner.SystemSet.has, inner.SystemSet.no_set, inner.Paths.set_at}
 use Rattle.msg_order.proofs.{SystemSets.meets-found, SystemSets.meets-true, PlanViews.seen_edges, PlanViews.seen_joined, PlanViews.lawful_same, AcceptedOrders.goes_on, AcceptedOrders.not_all, AcceptedOrders.taken_all, AcceptedOrders.taken_first, AcceptedOrders.taken_next, plan.Plan.accepts.Goals.then-system-len-via-then-system-len, plan.Plan.accepts.Goals.then-system-len-via-else-system-len+then-not-contains, plan.Plan.accepts.Goals.then-system-len-via-else-system-len+else-not-contains+then-meets}
 use Rattle.msg_order.proofs.plan.Plan.accepts.Goals as goal
 

@@ -1,6 +1,6 @@
-use Rattle.std.proofs.Common.{◌≡◌, ℕ, ap, ◌∙◌, arith}
+use Rattle.std.proofs.Common.{arith}
 use Rattle.std.proofs.lemmas.List.{get_or_read}
-use Rattle.msg_order.specs.{inner.SystemSet.has, inner.SystemSet.no_set, inner.Paths.comes_before}
+use Rattle.msg_order.specs.{inner.SystemSet.no_set}
 use Rattle.msg_order.proofs.PlanViews.{seen_edges}
 use Rattle.msg_order.proofs.plan.Plan.precedes.Goals as goal
 
