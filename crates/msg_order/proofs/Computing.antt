@@ -1,5 +1,5 @@
 -- The settled order and the turns in it by tests alone, for worked rows.
-use Rattle.std.proofs.Common.{◌≡◌, ℕ, zero, suc, ◌<◌, Bool, true, cond, not, ◌&&◌, ◌||◌, List, [], ◌∷◌, length, refl, arith, ◌==◌, ◌↔◌, nat_le, nat_lt, IsTrue, AllPairs, bit_and, bit_or}
+use Rattle.std.proofs.Common.{◌≡◌, ℕ, zero, suc, ◌<◌, Bool, true, cond, not, ◌&&◌, ◌||◌, List, [], ◌∷◌, get_or, length, refl, arith, ◌==◌, ◌↔◌, nat_le, nat_lt, IsTrue, AllPairs, bit_and, bit_or}
 use Rattle.std.specs.List.{range_with_len, list_all, list_any}
 use Rattle.std.proofs.lemmas.{Bool.Decides.nat_tests, Bool.cases_Bool, Bool.cond_both, Bool.and_parts, Bool.and_from, Bool.false≢true, Bool.eqb-true, Bool.ltb-true, List.Kept.AllPairs-cons, List.Sums.AllPass-from_list_all}
 use Rattle.msg_world.specs.declared.access.Access.{Access}
@@ -10,8 +10,7 @@ use Rattle.msg_order.specs.inner.Paths.{path}
 use Rattle.msg_order.proofs.{Elements.Contains-head, Elements.Contains-tail, Elements.Contains-list_any, Elements.Contains-range, Elements.list_all-Contains, Chains.Ends, Chains.ends_number, Chains.number_once, PathTest.no_Path, PathTest.to_Path, SetPaths.joined_in}
 
 pub each_below : (test : ℕ → Bool) (n i : ℕ) → list_all test (range_with_len 0 n) ≡ true → i < n → test i ≡ true
-each_below test n i all lt = list_all-Contains test (range_with_len 0 n) i all
-    (Contains-range 0 n i (omega arith) (omega (arith, lt)))
+each_below test n i all lt = grind (arith, list_all-Contains test (range_with_len 0 n) i all, Contains-range 0 n i)
 
 -- ---- conflicts
 
@@ -21,9 +20,9 @@ masks_collide r w s v = not (bit_and w (bit_or s v) == 0) || not (bit_and v (bit
 
 abbrev pub conflict_by_masks : Access → Access → Bool
 conflict_by_masks a b =
-    (masks_collide a.read_types a.write_types b.read_types b.write_types || masks_collide a.read_res a.write_res b.read_res
-    b.write_res)
-    || (a.registry && b.registry)
+    let types : Bool = masks_collide a.read_types a.write_types b.read_types b.write_types in
+    let resources : Bool = masks_collide a.read_res a.write_res b.read_res b.write_res in
+    (types || resources) || (a.registry && b.registry)
 
 conflict_is : (a b : Access) → IsTrue (conflict_by_masks a b) ↔ Conflict a b
 conflict_is a b =
@@ -88,8 +87,7 @@ longest_ends g (suc n) j = above_ends g (longest g n) (longest_ends g n) g (λ a
 
 rises_to : (g : Graph) (number : ℕ → ℕ) → rise_in g number ≡ true → (i j : ℕ) → IsEdge g i j → number i < number j
 rises_to g number rises i j e =
-    ltb-true (number i) (number j) (list_all-Contains (λ (x : ℕ × ℕ). nat_lt (number x.0) (number x.1)) g
-    (i, j) rises e)
+    ltb-true _ _ (list_all-Contains (λ (x : ℕ × ℕ). nat_lt (number x.0) (number x.1)) g (i, j) rises e)
 
 rise_bound : (g : Graph) (number : ℕ → ℕ) → rise_in g number ≡ true → (m j : ℕ) → Ends g (suc m) j → m < number j
 rise_bound g number rises zero j e = grind (arith, rises_to g number rises e.0 j)
@@ -121,28 +119,20 @@ is_turn_order accesses rules joined order =
     let number : ℕ → ℕ = longest g (length accesses) in
     (rise_in g number && are_in_turn number order) && (list_all (has_joined joined) order && none_is_left joined order)
 
-before_is : (g : Graph) (number : ℕ → ℕ) → ((j : ℕ) → IsBatchNumber g j (number j)) → (i j : ℕ) → runs_before number i j
-    ≡ true → RunsBefore g i j
-before_is g number is i j t m n a b =
-    grind (arith, nat_tests, number_once g i m (number i) a (is i), number_once g j n (number j) b (is j))
-
 turns_are : (g : Graph) (number : ℕ → ℕ) → ((j : ℕ) → IsBatchNumber g j (number j)) → (order : List ℕ)
     → are_in_turn number order ≡ true → AllPairs (RunsBefore g) order
 turns_are g number is [] t = λ i j d l m. absurd (omega arith)
 turns_are g number is (i ∷ order) t =
     let both = and_parts _ _ t in
     AllPairs-cons (RunsBefore g) i order
-    (λ k d l. before_is g number is i _ (AllPass-from_list_all (runs_before number i) order both.0 k d l))
+    (λ k d l m n a b.
+    let j : ℕ = get_or order k d in
+    let test = AllPass-from_list_all (runs_before number i) order both.0 k d l in
+    grind (arith, nat_tests, test, number_once g i m (number i) a (is i), number_once g j n (number j) b (is j)))
     (turns_are g number is order both.1)
 
--- What the test shows.
-pub record IsInTurn (accesses : List Access) (rules : List Rule) (joined : List Bool) (order : List ℕ) : Type 0 where
-  pub settled : Graph
-  pub is_settled : IsSettledOrder accesses rules joined settled
-  pub in_order : IsTurnOrder settled joined order
-
 pub in_turn_by_test : (accesses : List Access) (rules : List Rule) (joined : List Bool) (order : List ℕ)
-    → is_turn_order accesses rules joined order ≡ true → IsInTurn accesses rules joined order
+    → is_turn_order accesses rules joined order ≡ true → IsTurnOrder (settled_by_test accesses rules joined) joined order
 in_turn_by_test accesses rules joined order t =
     let g : Graph = settled_by_test accesses rules joined in
     let number : ℕ → ℕ = longest g (length accesses) in
@@ -150,17 +140,12 @@ in_turn_by_test accesses rules joined order t =
     let first = and_parts _ _ parts.0 in
     let second = and_parts _ _ parts.1 in
     record {
-      settled = g;
-      is_settled = settled_is accesses rules joined;
-      in_order = record {
-        of_joined = λ i. (
-          λ h. list_all-Contains (has_joined joined) order i second.0 h,
-          λ h.
-              let below = each_below (λ j. not (has_joined joined j) || list_any (λ k. k == j) order) (length joined) i
-              second.1 (joined_in joined i h) in
-              grind (arith, below, Contains-list_any (λ k. k == i) order, eqb-true),
-        );
-        all = λ i h. (number i, number_is g (length accesses) first.0 i);
-        in_order = turns_are g number (number_is g (length accesses) first.0) order first.1;
-      };
+      of_joined = λ i. (
+        λ h. list_all-Contains (has_joined joined) order i second.0 h,
+        λ h.
+            let below = each_below _ (length joined) i second.1 (joined_in joined i h) in
+            grind (arith, below, Contains-list_any (λ k. k == i) order, eqb-true),
+      );
+      all = λ i h. (number i, number_is g (length accesses) first.0 i);
+      in_order = turns_are g number (number_is g (length accesses) first.0) order first.1;
     }

@@ -1,11 +1,11 @@
 -- The code's sets as the paths of a graph.
 use Rattle.std.proofs.Common.{◌≡◌, ℕ, ◌+◌, ◌-◌, ◌<◌, ◌≤◌, Bool, true, false, cond, ◌&&◌, ◌||◌, List, [], ◌∷◌, ◌++◌, length, take, map, get_or, replicate, Option, None, Some, refl, sym, ◌∙◌, arith, length-append, ◌==◌, IsTrue, IsFalse, MatchOption, ◌↔◌}
 use Rattle.std.specs.List.{list_any, range_with_len}
-use Rattle.std.proofs.lemmas.{List.append-nil, List.get_or-map, List.length-map, List.take-map, List.get_or-take, List.get_or_past, List.get_or_push, List.get_or_append_left, Simd.get_or-replicate, List.Elements.All-head, List.Elements.All-tail, List.Elements.filter_more, List.Elements.Contains-append_left, List.Elements.Contains-push, List.Elements.Contains-push_cases, Bool.Decides.eqb_tells, Bool.cases_eq, Bool.cases_lt, Bool.or_left, Bool.or_right, Bool.or_cases, Bool.and_parts, Bool.false≢true, Bool.false_from_ne_true, Bool.eqb-true, Bool.eq-eqb}
+use Rattle.std.proofs.lemmas.{Bool.cases_Bool, List.append-nil, List.get_or-map, List.length-map, List.take-map, List.get_or-take, List.get_or_past, List.get_or_push, List.get_or_append_left, Simd.get_or-replicate, List.Elements.All-head, List.Elements.All-tail, List.Elements.filter_more, List.Elements.Contains-append_left, List.Elements.Contains-push, List.Elements.Contains-push_cases, Bool.Decides.eqb_tells, Bool.cases_eq, Bool.cases_lt, Bool.or_left, Bool.or_right, Bool.or_cases, Bool.and_parts, Bool.false≢true, Bool.false_from_ne_true, Bool.eqb-true, Bool.eq-eqb}
 use Rattle.msg_world.specs.declared.access.Access.{Access}
 use Rattle.msg_order.specs.Prelude.{AreInConflict, Graph, IsAcyclic, IsAmong, IsLowestOnCycle, NameSystemsBelow, Rule, Settles, SystemSet, edges_of, has_joined, pairs, rules_among}
 use Rattle.msg_order.specs.{inner.SystemSet.has, inner.SystemSet.meets, inner.SystemSet.no_set, inner.Paths.path, inner.Paths.set_at, inner.Paths.comes_before, inner.Paths.ArePaths}
-use Rattle.msg_order.proofs.{SystemSets.has-no_set, SystemSets.meets-found, SystemSets.meets-true, Elements.Contains-tail, Elements.Contains-cases, Elements.Contains-list_any, Elements.Contains-range, Elements.filter-Contains, Elements.list_any-Contains, Elements.range-Contains, PathTest.path_trans, PathTest.to_Path, PathTest.no_Path, PathTest.no_path, PathTest.same_test, PathTest.same_paths, SettledPairs.grown, SettledPairs.grown_paths, SettledPairs.reaches, SettledPairs.settles_row, SettledPairs.settles_then, SettledPairs.settles_keeps, SettledPairs.settles_free, SettledPairs.pairs_until, SettledPairs.pairs_until-more, SettledPairs.row, SettledPairs.pairs-Contains}
+use Rattle.msg_order.proofs.{SystemSets.has-no_set, SystemSets.meets-found, SystemSets.meets-true, Elements.Contains-tail, Elements.Contains-cases, Elements.Contains-list_any, Elements.Contains-range, Elements.filter-Contains, Elements.list_any-Contains, Elements.range-Contains, PathTest.path_trans, PathTest.to_Path, PathTest.no_Path, PathTest.no_path, PathTest.same_test, PathTest.same_paths, SettledPairs.grown, SettledPairs.grown_paths, SettledPairs.reaches, SettledPairs.settles_row, SettledPairs.settles_then, SettledPairs.settles_keeps, SettledPairs.pairs_until, SettledPairs.pairs_until-more, SettledPairs.row, SettledPairs.pairs-Contains}
 
 -- past the last set there is none
 pub set_past : (before : List SystemSet) (j : ℕ) → length before ≤ j → set_at before j ≡ no_set
@@ -95,13 +95,9 @@ row_settles C g n i before new later few lt below tells adds way =
     (λ e. let r = from e in grind (arith, eqb_tells, r.1.1, found r.0, way.1.0 r.0 k, meet)) in (
       grown i (has later) js h,
       (
-        λ x k. grind (
-          arith,
-          adds x k,
-          way.1.0 x,
-          tests k,
-          grown_paths h i (has later) js (λ t e. grind (arith, found t e)) x k,
-        ),
+        λ x k.
+            let grows = grown_paths h i (has later) js (λ t e. grind (arith, found t e)) x k in
+            grind (arith, adds x k, way.1.0 x, tests k, grows),
         rw (pairs_until-more n i)
             (settles_then C (pairs_until n i) (row n i) g h (grown i (has later) js h) way.1.1
             (settles_row C h i (has later) js (λ j c. grind (arith, range-Contains (i + 1) (n - (i + 1)) j c))
@@ -146,19 +142,16 @@ pub settled_free : (accesses : List Access) (rules : List Rule) (joined : List B
     → Settles (AreInConflict accesses joined) (rules_among joined rules) (pairs (length accesses)) h
     → IsAcyclic (rules_among joined rules) → IsAcyclic h
 settled_free accesses rules joined h s f i =
-    let g : Graph = rules_among joined rules in
-    no_Path h i i
-    (settles_free _ _ g h s (λ a b m. (pairs-Contains (length accesses) a b m).0) (λ k. no_path g k k (f k)) i)
+    no_Path h i i (settles_keeps _ (λ k. (s : ℕ) → path k s s ≡ false) _ (rules_among joined rules) h s
+    (λ p k m gains free s.
+    let rises = pairs-Contains (length accesses) p.0 p.1 m in
+    grind (arith, cases_Bool, eqb_tells, free, no_path k p.1 p.0 gains.1, path_trans k, rises))
+    (λ k. no_path _ k k (f k)) i)
 
 -- a set that was just made
 pub sets_push : (before : List SystemSet) (set : SystemSet) → ArePaths [] before → ((k : ℕ) → has set k ≡ false)
     → ArePaths [] (before ++ set ∷ [])
 sets_push before set h none i j =
-    grind (
-      arith,
-      h i j,
-      get_or_push before set no_set j,
-      get_or_append_left before (set ∷ []) no_set j,
-      none_past (before ++ set ∷ []) i j,
-      length-append before (set ∷ []),
-    )
+    let earlier = get_or_append_left before (set ∷ []) no_set j in
+    let past = none_past (before ++ set ∷ []) i j in
+    grind (arith, h i j, get_or_push before set no_set j, earlier, past, length-append before (set ∷ []))

@@ -1,11 +1,10 @@
 -- Pairs taken in turn: what they add, keep and reach.
 use Rattle.std.proofs.Common.{◌≡◌, ◌≢◌, ℕ, ◌+◌, ◌-◌, ◌<◌, ◌⊎◌, inl, inr, Bool, true, false, cond, ◌&&◌, ◌||◌, List, [], ◌∷◌, ◌++◌, map, refl, ap, sym, subst, ◌∙◌, arith, ◌==◌, Contains, flat_map}
 use Rattle.std.specs.List.{list_any, range_with_len}
-use Rattle.std.proofs.Math.Bool.{and-false, or-false}
-use Rattle.std.proofs.lemmas.{Bool.Decides.eqb_tells, Bool.cases_Bool, Bool.or_cases, Bool.and_parts, Bool.false≢true, Bool.false_from_ne_true, Bool.eqb-true, Grind.flat_map-append, List.append-nil}
+use Rattle.std.proofs.lemmas.{Bool.Decides.eqb_tells, Bool.cases_Bool, Grind.flat_map-append, List.append-nil}
 use Rattle.msg_order.specs.Prelude.{GainsEdge, Graph, Path, Settles, pairs}
 use Rattle.msg_order.specs.inner.Paths.{path}
-use Rattle.msg_order.proofs.{Elements.Contains-head, Elements.Contains-tail, Elements.Contains-cases, Elements.not_in_none, Elements.range_more, Elements.flat_map-Contains, Elements.Contains-flat_map, Elements.map-Contains, Elements.Contains-map, Elements.range-Contains, Elements.Contains-range, Chains.edge_is_path, PathTest.path_trans, PathTest.to_Path, PathTest.no_Path, PathTest.no_path, PathTest.path_more}
+use Rattle.msg_order.proofs.{Elements.Contains-head, Elements.Contains-tail, Elements.Contains-cases, Elements.not_in_none, Elements.range_more, Elements.flat_map-Contains, Elements.Contains-flat_map, Elements.map-Contains, Elements.Contains-map, Elements.range-Contains, Elements.Contains-range, Chains.edge_is_path, PathTest.to_Path, PathTest.no_Path, PathTest.no_path, PathTest.path_more}
 
 -- Some pairs after others.
 pub settles_then : (C : ℕ → ℕ → Type 0) (ps qs g h k : Graph) → Settles C g ps h → Settles C h qs k
@@ -45,16 +44,6 @@ settles_covers C (p ∷ ps) g h a i j m c =
     let covers = settles_covers C ps in
     let grows = settles_grows C ps in
     grind (arith, this, newest, covers (p ∷ g) h, covers g h, grows (p ∷ g) h, grows g h, to_Path g j i, no_Path g j i)
-
--- An edge to which no path leads back makes no cycle.
-pub settles_free : (C : ℕ → ℕ → Type 0) (ps g h : Graph) → Settles C g ps h → ((i j : ℕ) → Contains ps (i, j) → i < j)
-    → ((s : ℕ) → path g s s ≡ false) → (s : ℕ) → path h s s ≡ false
-settles_free C ps g h a up =
-    settles_keeps C (λ k. (s : ℕ) → path k s s ≡ false) ps g h a
-    (λ p k m gains free s.
-    let rises = up p.0 p.1 m in
-    let none = no_path k p.1 p.0 gains.1 in
-    grind (arith, and_parts, eqb-true, false_from_ne_true, false≢true, free, none, or_cases, path_trans, rises))
 
 -- All pairs of numbers below n, up to those of i.
 abbrev pub row : ℕ → ℕ → Graph
@@ -97,7 +86,7 @@ same_reach g i j k test f t = grind (arith, cases_Bool, eqb_tells)
 
 pub grown_paths : (g : Graph) (i : ℕ) (test : ℕ → Bool) (js : List ℕ) → AreFree g i test → (x k : ℕ)
     → path (grown i test js g) x k ≡ (path g x k || ((x == i || path g x i) && list_any (reaches test g k) js))
-grown_paths g i test [] f x k = rw (and-false (x == i || path g x i), or-false (path g x k)) refl
+grown_paths g i test [] f x k = grind (arith, cases_Bool)
 grown_paths g i test (j ∷ js) f x k = elim (cases_Bool (test j)) [
   | inr e ↦ rw e (grown_paths g i test js f x k)
   | inl e ↦
@@ -120,13 +109,7 @@ settles_row C g i test [] up h = refl
 settles_row C g i test (j ∷ js) up h =
     let lt : i < j = up j (Contains-head j js) in
     let later : (k : ℕ) → Contains js k → i < k = λ k c. up k (Contains-tail j js k c) in
-    elim (cases_Bool (test j)) [
-      | inl e ↦
-          let at = (h j lt).0 e in
-          let on : TellsPairs C ((i, j) ∷ g) i test = λ t l. grind (arith, h t l, eqb_tells, at.1) in
-          rw e (inl ((at.0, no_Path g j i at.1), settles_row C ((i, j) ∷ g) i test js later on))
-      | inr e ↦ rw e (inr (
-        λ x. false≢true (sym e ∙ (h j lt).1 x.0 (no_path g j i x.1)),
-        settles_row C g i test js later h,
-      ))
-    ]
+    let takes = λ (e : test j ≡ true). settles_row C ((i, j) ∷ g) i test js later
+    (λ t l. grind (arith, h t l, eqb_tells, (h j lt).0 e)) in
+    let drops = settles_row C g i test js later h in
+    grind (arith, cases_Bool (test j), h j lt, no_Path g j i, no_path g j i, takes, drops)

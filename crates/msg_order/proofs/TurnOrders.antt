@@ -48,15 +48,10 @@ kept_along g joined order w i j (k ∷ more, c) =
 pairs_append : (R : ℕ → ℕ → Type 0) (xs ys : List ℕ) → AllPairs R xs → AllPairs R ys
     → ((i j : ℕ) → Contains xs i → Contains ys j → R i j) → AllPairs R (xs ++ ys)
 pairs_append R xs ys f h across a b d lt l =
-    grind (
-      arith,
-      cases_lt,
-      get_or_append_left xs ys d,
-      get_or-append_right xs ys (length xs),
-      length-append xs ys,
-      Contains-get_or xs a d,
-      Contains-get_or ys (b - length xs) d,
-    )
+    let left = get_or_append_left xs ys d in
+    let right = get_or-append_right xs ys (length xs) in
+    let second = Contains-get_or ys (b - length xs) d in
+    grind (arith, cases_lt, left, right, length-append xs ys, Contains-get_or xs a d, second)
 
 -- what holds within each batch, and of an earlier one and a later one
 pairs_by_batch : (R : ℕ → ℕ → Type 0) (bs : List (List ℕ)) → All (AllPairs R) bs

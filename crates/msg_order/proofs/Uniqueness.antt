@@ -57,16 +57,9 @@ no_longer : (g : Graph) (joined : List Bool) (bs cs : List (List ℕ)) → AreBa
 no_longer g joined bs cs h k =
     let b : ℕ = length cs in
     let i : ℕ = get_or (batch_at bs b) 0 0 in
-    grind (
-      arith,
-      cases_lt,
-      h.filled b [],
-      h.of_number b i,
-      k.of_number b i,
-      Contains-get_or (batch_at bs b) 0 0,
-      get_or_past cs b [],
-      not_in_none,
-    )
+    let past = get_or_past cs b [] in
+    let some = Contains-get_or (batch_at bs b) 0 0 in
+    grind (arith, cases_lt, h.filled b [], h.of_number b i, k.of_number b i, some, past, not_in_none)
 
 pub batches_once : BatchesAreUnique
 batches_once g joined bs cs h k =
