@@ -4,10 +4,10 @@ use Rattle.std.proofs.Common.{◌≡◌, ℕ, zero, suc, ◌*◌, ◌^◌, ◌%�
 use Rattle.std.specs.List.{range_with_len, list_all, list_any}
 use Rattle.std.proofs.lemmas.{Bool.cases_Bool, Bool.cases_lt, Bool.and_parts, Bool.false≢true, List.get_or_past, List.FromFn.get_or-map-range_with_len, List.FromFn.length-map-range_with_len, List.Sums.AllPass-from_list_all, Bool.Decides.eqb_tells, Bool.Decides.nat_tests}
 use Rattle.msg_world.specs.declared.access.Access.{Access}
-use Rattle.msg_world.specs.Prelude.{Part, OfType, OfResource, Registry, has_bit, no_access, Fits}
+use Rattle.msg_world.specs.Prelude.{Part, OfType, OfResource, Registry, has_bit, no_access}
 use Rattle.msg_world.proofs.Bits.{has_bit-zero, has_bit-set}
 use Rattle.msg_order.specs.Prelude.{access_of}
-use Rattle.msg_order.proofs.Computing.{each_below, is_turn_order, in_turn_by_test}
+use Rattle.msg_order.proofs.Computing.{each_below, is_turn_order, in_turn_by_test, settled_by_test, settled_is}
 use Rattle.msg_system.specs.{declared.op.Op.Op, declared.condition.Condition.Condition, declared.op.Op.TheVariants.Read, declared.program.Program.Program}
 use Rattle.msg_system.specs.Prelude.{IsAccessOf, Needs, conditions_of, is_part, job_needs, op_parts, probe_part, program_needs, turn}
 use Rattle.msg_frames.specs.Prelude.{AfterFrame, Frame, IsRunOf, IsTurnOrderOf, OrderedFrames, Setup, State, alone, before_turns, conditions_frames, contrary, contrary_frames, drained, drained_frames, early_frames, echo, echo_frames, fourth, fourth_frames, frame_in, gated, gated_frames, join_flags, lag, lag_frames, late, late_frames, needs_of, nobody, numbered, program, relay, relay_frames, signallers, signallers_frames, start_of, tally, tally_frames, two_conditions, writers, writers_frames}
@@ -32,9 +32,6 @@ access_for n needs = record {
   write_res = mask (λ r. needs.writes (OfResource r)) n;
   registry = needs.writes Registry;
 }
-
-access_fits : (n : ℕ) (needs : Needs) → n ≤ 64 → Fits n n (access_for n needs)
-access_fits n needs few = grind (arith, cases_Bool, mask_at, nat_tests)
 
 -- ---- a job of types and resources below n
 
@@ -96,7 +93,7 @@ abbrev job_is_within : List Program → State → ℕ → Bool
 job_is_within programs s i = is_within most (ops_at programs i) (conditions_of (s.members i).job)
 
 abbrev are_turns_of : List Program → State → List ℕ → Bool
-are_turns_of programs s order = list_all (job_is_within programs s) (range_with_len 0 s.systems) && is_turn_order most
+are_turns_of programs s order = list_all (job_is_within programs s) (range_with_len 0 s.systems) && is_turn_order
     (accesses_of s) s.rules (join_flags s) order
 
 turns_of : (programs : List Program) (s : State) (order : List ℕ) → ArePrograms programs s
@@ -106,23 +103,19 @@ turns_of programs s order are t =
     let access : ℕ → Access = λ i. access_for most (needs_of (s.members i)) in
     let is : (i : ℕ) → i < s.systems → access_of (accesses_of s) i
     ≡ access i = λ i lt. get_or-map-range_with_len access 0 s.systems i i no_access lt (omega arith) in
-    let all = length-map-range_with_len access 0 s.systems in
-    let fit : (i : ℕ) → Fits most most (access_of (accesses_of s) i) = λ i.
-    grind (arith, access_fits most (needs_of (s.members i)), all, cases_lt, get_or_past, has_bit-zero, is i) in
-    let turn = in_turn_by_test most (accesses_of s) s.rules (join_flags s) order fit both.1 in
-    record {
-      settled = turn.settled;
+        record {
+      settled = settled_by_test (accesses_of s) s.rules (join_flags s);
       is_order = record {
         accesses = accesses_of s;
         of_systems = record {
-          each = all;
+          each = length-map-range_with_len access 0 s.systems;
           of_needs = λ i lt. rw (is i lt, are i) (access_is most (ops_at programs i)
               (conditions_of (s.members i).job) (omega arith)
               (each_below (job_is_within programs s) s.systems i both.0 lt));
         };
-        is_settled = turn.is_settled;
+        is_settled = settled_is (accesses_of s) s.rules (join_flags s);
       };
-      in_order = turn.in_order;
+      in_order = in_turn_by_test (accesses_of s) s.rules (join_flags s) order both.1;
     }
 
 -- ---- runs

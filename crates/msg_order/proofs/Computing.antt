@@ -132,7 +132,8 @@ turns_are g number is (i ∷ order) t =
     (turns_are g number is order both.1)
 
 pub in_turn_by_test : (accesses : List Access) (rules : List Rule) (joined : List Bool) (order : List ℕ)
-    → is_turn_order accesses rules joined order ≡ true → IsTurnOrder (settled_by_test accesses rules joined) joined order
+    → is_turn_order accesses rules joined order ≡ true
+    → IsTurnOrder (settled_by_test accesses rules joined) joined order
 in_turn_by_test accesses rules joined order t =
     let g : Graph = settled_by_test accesses rules joined in
     let number : ℕ → ℕ = longest g (length accesses) in

@@ -42,7 +42,8 @@ same_ordered R (x ∷ xs) (y ∷ ys) one_way r s same =
     let after_y = λ (i : ℕ). All-contains (R y) ys i (pairs_head R y ys s) in
     let in_xs = Contains-cases x xs in
     let in_ys = Contains-cases y ys in
-    let first : x ≡ y = grind (arith, after_x y, after_y x, in_xs y y_in, one_way x y x_in y_in, in_ys x, same x, x_in) in
+    let x_there = in_ys x ((same x).0 x_in) in
+    let first : x ≡ y = grind (arith, after_x y, after_y x, in_xs y y_in, one_way x y x_in y_in, x_there) in
     let once = one_way x x x_in x_in in
     let rest : xs ≡ ys = same_ordered R xs ys (λ i j p q. one_way i j (Contains-tail x xs i p) (Contains-tail x xs j q))
     (pairs_tail R x xs r) (pairs_tail R y ys s)
