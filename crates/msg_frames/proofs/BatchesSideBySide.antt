@@ -24,19 +24,15 @@ record Untouched (start s : State) (i : ℕ) : Type 0 where
 
 module _ (foot : JobFootprint) (accesses : List Access) (start : State) (are : AreAccessesOf start accesses) where
   given_same : (s : State) (i : ℕ) → Untouched start s i → given_by_turn (turn_of s i) ≡ given_by_turn (turn_of start i)
-  given_same s i h =
-      rw (h.member)
-      ((turn_footprint foot (start.members i)).same (needs_any (needs_of (start.members i))) s.world start.world
-      (λ p u. u) h.world)
+  given_same s i h = rw (h.member) ((turn_footprint foot (start.members i)).same _ s.world start.world (λ p u. u) h.world)
 
   -- what the access writes is as the turn on `start` leaves it, and all else as it was
   world_same : (s : State) (i : ℕ) → i < start.systems → Untouched start s i → (turn_of s i).world
       ≡ merge (access_of accesses i) (turn_of start i).world s.world
   world_same s i lt h =
-      let needs = needs_any (needs_of (start.members i)) in
       let f = turn_footprint foot (start.members i) in
       rw (h.member) (same_world _ _ (λ p.
-      let own = f.alike needs s.world start.world (λ q u. u) h.world p in
+      let own = f.alike (needs_any (needs_of (start.members i))) s.world start.world (λ q u. u) h.world p in
       grind (arith, cases_Bool, content_merge, (are.of_needs i lt).writes p, f.kept s.world p, own)))
 
   turn_is_home : (s : State) (i : ℕ) → i < start.systems → Untouched start s i → after_turn_of i s
@@ -49,10 +45,7 @@ module _ (foot : JobFootprint) (accesses : List Access) (start : State) (are : A
   still s i j li lj ne none hi hj =
       let free = apart _ _ _ _ (are.of_needs i li) (are.of_needs j lj) none in
       let f = turn_footprint foot (start.members i) in
-      record {
-        member = grind (arith, eqb_tells, hj.member);
-        world = λ p used. rw (hi.member) (f.kept s.world p (free.left p used)) ∙ hj.world p used;
-      }
+      grind (arith, eqb_tells, hi.member, hj.member, hj.world, λ (p : Part). f.kept s.world p, free.left)
 
   from_start : (batch : List ℕ) (s : State) → All (λ i. i < start.systems) batch → AllPairs (λ i j. i ≢ j) batch
       → NoneConflict accesses batch
@@ -69,11 +62,7 @@ module _ (foot : JobFootprint) (accesses : List Access) (start : State) (are : A
       (λ k d lt. still s i (slice_index_or is k d) li (below (suc k) d (omega arith))
       (once 0 (suc k) d (omega arith) (omega arith)) (none 0 (suc k) d (omega arith) (omega arith)) here
       (same (suc k) d (omega arith))) in
-      rw (← turn_is_home s i li here, rest.0, rest.1) (
-        ap (λ (g : Member × Outcome). record { system = i; outcome = g.1 } ∷ map (logged_turn start) is)
-            (given_same s i here),
-        refl,
-      )
+      grind (arith, turn_is_home s i li here, rest, given_same s i here)
 
 pub side_by_side : JobFootprint → BatchesRunSideBySide
 side_by_side foot s accesses batch are below once none =
@@ -92,8 +81,7 @@ pub batch_by_batch : JobFootprint → FramesRunByBatches
 batch_by_batch foot s accesses [] are below once apart = refl
 batch_by_batch foot s accesses (batch ∷ batches) are below once apart =
     let first = side_by_side foot s accesses batch are (all_left (λ i. i < s.systems) batch (concat batches) below)
-    (pairs_left (λ i j. i ≢ j) batch (concat batches) once)
-    (All-head (NoneConflict accesses) batch batches apart) in
+    (pairs_left (λ i j. i ≢ j) batch (concat batches) once) (apart 0 batch (omega arith)) in
     let left : State = (after_turns_of batch s).state in
     let kept : SameSystems s left = turns_keep_systems batch s in
     let rest = batch_by_batch foot left accesses batches (accesses_stay s left accesses kept are)

@@ -8,11 +8,10 @@ module _ {X : Type 0} where
   -- ---- of two lists one after the other
 
   pub all_left : (P : X → Type 0) (xs ys : List X) → All P (xs ++ ys) → All P xs
-  all_left P xs ys h k d lt = subst P (get_or_append_left xs ys d k lt) (h k d (omega (arith, length-append xs ys)))
+  all_left P xs ys h k d lt = grind (arith, get_or_append_left xs ys d, length-append xs ys, h k d)
 
   pub all_right : (P : X → Type 0) (xs ys : List X) → All P (xs ++ ys) → All P ys
-  all_right P xs ys h k d lt =
-      subst P (get_or-append-add xs ys k d) (h (length xs + k) d (omega (arith, length-append xs ys)))
+  all_right P xs ys h k d lt = grind (arith, get_or-append-add xs ys k d, length-append xs ys, h (length xs + k) d)
 
   pub pairs_left : (R : X → X → Type 0) (xs ys : List X) → AllPairs R (xs ++ ys) → AllPairs R xs
   pairs_left R xs ys r i j d lt l =
@@ -27,8 +26,7 @@ module _ {X : Type 0} where
   pub all_middle : (P : X → Type 0) (xs : List X) (y : X) (ys : List X) → All P (xs ++ y ∷ ys) → P y × All P (xs ++ ys)
   all_middle P [] y ys h = (h 0 y (omega arith), All-tail P y ys h)
   all_middle P (x ∷ xs) y ys h =
-      let rest = all_middle P xs y ys (All-tail P x (xs ++ y ∷ ys) h) in
-      (rest.0, All-cons P x _ (h 0 x (omega arith)) rest.1)
+      grind (arith, all_middle P xs y ys (All-tail P x _ h), All-cons P x (xs ++ ys), h 0 x (omega arith))
 
   pub pairs_middle : (R : X → X → Type 0) (xs : List X) (y : X) (ys : List X) → AllPairs R (xs ++ y ∷ ys)
       → All (λ x. R x y) xs × AllPairs R (xs ++ ys)

@@ -47,9 +47,9 @@ module _ (accesses : List Access) where
   run_to_front foot x [] rest lx free = same_run (x ∷ rest)
   run_to_front foot x (y ∷ before) rest lx free =
       let here : IsFree accesses x y = free 0 y (omega arith) in
+      let to_front = run_to_front foot x before rest lx (All-tail (IsFree accesses x) y before free) in
       run_along (y ∷ before ++ x ∷ rest) (y ∷ x ∷ before ++ rest) (x ∷ y ∷ before ++ rest)
-      (run_later y (before ++ x ∷ rest) (x ∷ before ++ rest)
-      (run_to_front foot x before rest lx (λ k d lt. free (suc k) d (omega arith))))
+      (run_later y (before ++ x ∷ rest) (x ∷ before ++ rest) to_front)
       (run_swapped foot y x (before ++ rest) here.0 lx here.1 here.2)
 
 -- ---- two orders of the same systems
@@ -65,13 +65,11 @@ without xs y ys once i =
     let moved = IsPermutation-middle xs y ys in
     let after = pairs_head (λ i j. i ≢ j) y ys (pairs_right (λ i j. i ≢ j) xs (y ∷ ys) once) in
     let others : All (λ x. x ≢ y) (xs ++ ys) = All-append (λ x. x ≢ y) xs ys
-    (pairs_middle (λ i j. i ≢ j) xs y ys once).0 (λ k d lt e. after k d lt (sym e)) in (
-      λ h. (
-        Contains-permutation _ _ i (IsPermutation-sym _ _ moved) (Contains-tail y (xs ++ ys) i h),
-        All-contains (λ x. x ≢ y) (xs ++ ys) i others h,
-      ),
-      λ h. grind (arith, Contains-cases y (xs ++ ys) i (Contains-permutation _ _ i moved h.0)),
-    )
+    (pairs_middle (λ i j. i ≢ j) xs y ys once).0 (λ k d lt e. after k d lt (sym e)) in
+    let back = Contains-permutation _ _ i (IsPermutation-sym _ _ moved) in
+    let front = Contains-permutation _ _ i moved in
+    let differs = All-contains (λ x. x ≢ y) (xs ++ ys) i others in
+    grind (arith, back, front, differs, Contains-tail y (xs ++ ys) i, Contains-cases y (xs ++ ys) i)
 
 -- The systems of J are below, and two of them in conflict are joined by a path.
 module _ (foot : JobFootprint) (accesses : List Access) (P : ℕ → ℕ → Type 0) (J : ℕ → Type 0)
@@ -95,14 +93,9 @@ module _ (foot : JobFootprint) (accesses : List Access) (P : ℕ → ℕ → Typ
         let free : All (IsFree accesses x) c.before = λ k d lt.
         let y : ℕ = get_or c.before k d in
         let inside = (others y).0 (Contains-append_left c.before c.rest y (Contains-get_or c.before k d lt)) in
-        let joined : J y = All-contains J rest y later inside in (
-          below y joined,
-          parts.0 k d lt,
-          λ conflict. elim (joins y x joined here (parts.0 k d lt) conflict) [
-            | inl p ↦ All-contains (λ z. ¬ P z x) rest y (pairs_head (λ i j. ¬ P j i) x rest a) inside p
-            | inr p ↦ ahead.0 k d lt p
-          ],
-        ) in
+        let joined : J y = All-contains J rest y later inside in
+        let forward = All-contains (λ z. ¬ P z x) rest y (pairs_head (λ i j. ¬ P j i) x rest a) inside in
+        grind (arith, below y joined, parts.0 k d lt, joins y x joined here, forward, ahead.0 k d lt) in
         rw (c.is) (run_along accesses (c.before ++ x ∷ c.rest) (x ∷ c.before ++ c.rest) (x ∷ rest)
         (run_to_front accesses foot x c.before c.rest (below x here) free)
         (run_later accesses x (c.before ++ c.rest) rest
@@ -112,19 +105,16 @@ module _ (foot : JobFootprint) (accesses : List Access) (P : ℕ → ℕ → Typ
 -- ---- lawful orders
 
 -- where each stands once, one place
-one_place : (order : List ℕ) (a b d : ℕ) → AllPairs (λ i j. i ≢ j) order → b < length order
-    → slice_get order a ≡ Some (get_or order b d) → a ≡ b
-one_place order a b d once lb at =
-    grind (arith, cases_order, get_or_default_zero, get_or_from_slice_get, slice_get_within)
 
 -- no path leads back in a lawful order
 lawful_forward : LawfulOrdersKeepPaths → (g : Graph) (who : List Bool) (order : List ℕ) → IsLawfulOrder g who order
     → Forward (Path g) order
 lawful_forward keeps g who order lawful a b d lt l p =
-    let s : StandsBefore order (get_or order b d) (get_or order a d) = keeps g who order lawful _ _ p in
-    let second = one_place order s.earlier b d lawful.once l s.first in
-    let first = one_place order s.later a d lawful.once (omega arith) s.second in
-    absurd (omega (arith, first, second, s.in_order))
+    let s = keeps g who order lawful (get_or order b d) (get_or order a d) p in
+    let one = lawful.once in
+    let places = cases_order s.earlier b in
+    let others = cases_order s.later a in
+    grind (arith, one, places, others, s, get_or_default_zero, get_or_from_slice_get, slice_get_within)
 
 pub orders_agree : JobFootprint → ConflictingSystemsAreOrdered → LawfulOrdersKeepPaths → LawfulOrdersAgree
 orders_agree foot ordered keeps s accesses settled a b are is_settled la lb =

@@ -18,11 +18,9 @@ BeginsAt place e = e.stretch.first ≡ place + e.stretch.missed
 -- a number that met a fate at an entry lies there, and met no other
 fate_of : (fate : Fate) (e : Entry) (n place : ℕ) → BeginsAt place e → Contains (numbers_at fate e) n → (place ≤ n)
     × (n < next_place e.stretch) × (fate_at e n ≡ fate)
-fate_of given e n place begins c =
-    grind (arith, cases_Bool (is_some e.given), nat_tests, range-Contains e.stretch.first e.stretch.number n)
-fate_of cleared e n place begins c =
-    grind (arith, cases_Bool (is_some e.given), nat_tests, range-Contains e.stretch.first e.stretch.number n)
 fate_of missed e n place begins c = grind (arith, nat_tests, range-Contains _ _ _ c)
+fate_of fate e n place begins c =
+    grind (arith, cases_Bool (is_some e.given), nat_tests, range-Contains e.stretch.first e.stretch.number n)
 
 -- and each number there met one
 has_fate : (e : Entry) (n place : ℕ) → BeginsAt place e → place ≤ n → n < next_place e.stretch
@@ -40,11 +38,10 @@ entries_of ms = map (λ m. m.entry) ms
 -- what is met at the first entry, and what at a later one
 at_either : (e : Entry) (es : List Entry) (n k : ℕ) (fate : Fate) → Meets (e ∷ es) n k fate
     → ((k ≡ 0) × Contains (numbers_at fate e) n) ⊎ ((l : ℕ) × ((k ≡ suc l) × Meets es n l fate))
-at_either e es n zero fate met = grind arith
-at_either e es n (suc k) fate met = grind arith
+at_either e es n k fate met = grind arith
 
 pub tiles_rise : (p : ℕ) (ms : List Moment) (q : ℕ) → Tile p (map tile_of ms) q → p ≤ q
-tiles_rise p [] q tile = let same : p ≡ q = tile in omega arith
+tiles_rise p [] q tile = grind arith
 tiles_rise p (m ∷ ms) q tile = grind (arith, tiles_rise (next_place m.entry.stretch) ms q tile.1)
 
 pub lies_between : (p : ℕ) (ms : List Moment) (q : ℕ) → Tile p (map tile_of ms) q → (n k : ℕ) (fate : Fate)
@@ -65,7 +62,7 @@ meets_one_fate p (m ∷ ms) q tile n low high = elim (cases_lt n (next_place m.e
     met = record { entry = m.entry; is_entry = refl; among = has_fate m.entry n p tile.0.first low before };
     only = λ k other met. elim (at_either _ _ n k other met) [
       | inl here ↦ grind (arith, here, fate_of _ _ _ _ tile.0.first here.1)
-      | inr later ↦ let past = lies_between _ ms q tile.1 n later.0 other later.1.1 in absurd (omega (arith, past))
+      | inr later ↦ grind (arith, lies_between _ ms q tile.1 n later.0 other later.1.1)
     ];
   }
   | inr past ↦
@@ -75,7 +72,7 @@ meets_one_fate p (m ∷ ms) q tile n low high = elim (cases_lt n (next_place m.e
         fate = rest.fate;
         met = grind (arith, rest.met);
         only = λ k other met. elim (at_either _ _ n k other met) [
-          | inl here ↦ let before = fate_of _ _ _ _ tile.0.first here.1 in absurd (omega (arith, before))
+          | inl here ↦ grind (arith, fate_of _ _ _ _ tile.0.first here.1)
           | inr later ↦ grind (arith, later, rest.only later.0 other later.1.1)
         ];
       }

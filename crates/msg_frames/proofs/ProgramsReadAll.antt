@@ -17,11 +17,9 @@ module _ (in_order : IsInOrder) (program : Program) (writer : ℕ) (few : length
   IsProgram j = (places : ℕ → ℕ) × (j ≡ record { system = of_program program writer places; conditions = [] })
 
   job_stays : (j : Job) (w : WorldState) → IsProgram j → IsProgram (after_job j w).job
-  job_stays j w is = (
-    (turn _ _).places,
-    ap (λ (k : Job). (after_job k w).job) is.1
-        ∙ ap (λ (m : Meaning). record { system = m; conditions = [] }) (in_order program writer is.0 w few).1,
-  )
+  job_stays j w is =
+      let m : Meaning = of_program program writer is.0 in
+      ((turn m w).places, grind (arith, is.1, in_order program writer is.0 w few))
 
   turn_stays : (i j : ℕ) (s : State) → IsProgram (s.members i).job → IsProgram ((after_turn_of j s).members i).job
   turn_stays i j s is = one_member (λ m. IsProgram m.job) j i s (λ e. job_stays (s.members i).job s.world is) (λ ne. is)

@@ -1,6 +1,6 @@
 -- What a reader goes past by an op, by a turn and by a job.
 use Rattle.std.proofs.Common.{◌≡◌, ℕ, zero, suc, ◌≤◌, List, [], ◌∷◌, ◌++◌, append_assoc, map, length, All, Option, None, Some, refl, ap, arith, cond, ◌==◌}
-use Rattle.std.proofs.lemmas.{Bool.cases_Bool, List.append-nil, List.length-append, List.length-map, List.map-append, List.map-id, List.Elements.All-append, List.Elements.All-cons, List.Elements.All-nil, Bool.Decides.eqb_tells, Simd.map-map}
+use Rattle.std.proofs.lemmas.{Bool.cases_Bool, List.append-nil, List.length-append, List.length-map, List.map-append, List.map-id, List.Elements.All-append, List.Elements.All-cons, List.Elements.All-nil, List.Elements.All-weaker, Bool.Decides.eqb_tells, Simd.map-map}
 use Rattle.msg_buffer.specs.Prelude.{Fits, GoesOn, History, IsSound, Stretch, Tile, count, given, message_of, next_place, pass_over, read}
 use Rattle.msg_world.specs.declared.record.Record.{Record}
 use Rattle.msg_world.specs.Prelude.{WorldState}
@@ -36,15 +36,13 @@ tile-append p (x ∷ xs) q ys r a b = grind (arith, tile-append (next_place x.1)
 pub passes_further : (p : ℕ) (a : History Record) (ms : List Moment) (q : ℕ) (b : History Record) (ns : List Moment)
     (r : ℕ) (c : History Record)
     → Passes p a ms q b → Passes q b ns r c → Passes p a (ms ++ ns) r c
-passes_further p a ms q b ns r c x y = record {
-  goes_on = goes_further _ _ _ x.goes_on y.goes_on;
-  within = y.within;
-  tile = rw (map-append tile_of ms ns) (tile-append _ _ _ _ _ x.tile y.tile);
-  gives = All-append GivesItsStretch _ _ x.gives y.gives;
-  earlier = All-append (λ m. GoesOn m.history c) _ _
-      (λ k d lt. goes_further _ _ _ (x.earlier k d lt) y.goes_on) y.earlier;
-  written = All-append IsWritten _ _ x.written y.written;
-}
+passes_further p a ms q b ns r c x y =
+    let gives = All-append GivesItsStretch ms ns x.gives y.gives in
+    let longer = λ (m : Moment) (g : GoesOn m.history b). goes_further m.history b c g y.goes_on in
+    let earlier = All-append (λ m. GoesOn m.history c) ms ns (All-weaker _ _ longer ms x.earlier) y.earlier in
+    let written = All-append IsWritten ms ns x.written y.written in
+    let tile = tile-append p (map tile_of ms) q (map tile_of ns) r x.tile y.tile in
+    grind (arith, goes_further a b c, map-append tile_of ms ns, gives, earlier, written, tile)
 
 -- nothing is gone past
 pub passes_nothing : (p : ℕ) (a b : History Record) → p ≤ count a → GoesOn a b → Passes p a [] p b
@@ -158,8 +156,7 @@ module _ (t : ℕ) (m : Meaning) (w : WorldState) where
   entries_snoc : (ops : List Op) (rs : List Reply) (op : Op) (r : Reply) → length ops ≡ length rs
       → entries_for t (ops ++ op ∷ []) (rs ++ r ∷ []) ≡ entries_for t ops rs ++ entry_for t op r
   entries_snoc [] [] op r same = append-nil (entry_for t op r)
-  entries_snoc (o ∷ ops) (x ∷ rs) op r same =
-      grind (arith, append_assoc, entries_snoc ops rs op r (omega (arith, same)))
+  entries_snoc (o ∷ ops) (x ∷ rs) op r same = grind (arith, append_assoc, entries_snoc ops rs op r)
   entries_snoc ops rs op r same = absurd (omega (arith, same))
 
   answered_more : (o : Option Op) (far : AfterProgram) (ms : List Moment) → next_op m far.replies ≡ o

@@ -21,9 +21,7 @@ run_tells i t (frame ∷ frames) s (log ∷ logs) u is =
     let told = turns_tell i t (systems_in log) b in
     let needs = ((before_keeps frame.posts s).members i).needs in
     tells_further i t s _ _ _ _ _ u
-    (subst (λ (l : Log). Tells i t s (answers_among i l.turns) (turns_moments i t (systems_in log) b)
-    (frame_in (systems_in log) frame s).state) (sym is.1.tells)
-    (grind (arith, before_rule frame.posts s i, needs, told)))
+    (grind (arith, is.1.tells, before_rule frame.posts s i, needs, told))
     (run_tells i t frames _ logs u (after_first frame frames s log logs u is))
 run_tells i t frames s logs u is = absurd is
 

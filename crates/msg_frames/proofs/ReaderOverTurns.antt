@@ -20,15 +20,10 @@ Reads i t s ms u = ReadsFrom i t (place_of s i t) ((s.members i).totals t) (s.wo
 
 pub reads_further : (i t : ℕ) (a : State) (ms : List Moment) (b : State) (ns : List Moment) (c : State)
     → Reads i t a ms b → Reads i t b ns c → Reads i t a (ms ++ ns) c
-reads_further i t a ms b ns c x y = record {
-  passes = passes_further _ _ _ _ _ _ _ _ x.passes y.passes;
-  totals = rw (
-    y.totals,
-    x.totals,
-    map-append (λ (m : Moment). m.entry) ms ns,
-    with_entries-append (map (λ m. m.entry) ms) (map (λ m. m.entry) ns) ((a.members i).totals t),
-  ) refl;
-}
+reads_further i t a ms b ns c x y =
+    let joins = map-append (λ (m : Moment). m.entry) ms ns in
+    let adds = with_entries-append (map (λ m. m.entry) ms) (map (λ m. m.entry) ns) ((a.members i).totals t) in
+    record { passes = passes_further _ _ _ _ _ _ _ _ x.passes y.passes; totals = rw (y.totals, x.totals, joins, adds) refl }
 
 -- the same systems, and as many frames: so turns leave them
 abbrev pub Keeps : State → State → Type 0

@@ -1,7 +1,7 @@
 -- A reader that reads all in each frame is up to date, and so it misses nothing.
 use Rattle.std.proofs.Common.{◌≡◌, ℕ, suc, ◌<◌, ◌≤◌, List, [], ◌∷◌, ◌++◌, map, All, Contains, refl, sym, ◌∙◌, arith, inl, inr, get_or, IsTrue}
 use Rattle.std.proofs.lemmas.{Bool.cases_Bool, Bool.cases_eq, Bool.false≢true, Option.same_Some, Option.slice_get_cases, Option.slice_get_within, List.Elements.All-append, List.Elements.All-cons, List.Elements.All-head, List.Elements.All-map, List.Elements.All-nil, List.Elements.All-tail, Bool.Decides.nat_tests}
-use Rattle.msg_buffer.specs.Prelude.{Fits, GoesOn, History, IsPresent, Stretch, Tile, count, next_place, update}
+use Rattle.msg_buffer.specs.Prelude.{Entry, Fits, GoesOn, History, IsPresent, Stretch, Tile, count, next_place, update}
 use Rattle.msg_world.specs.declared.record.Record.{Record}
 use Rattle.msg_world.specs.Prelude.{WorldState, after_update}
 use Rattle.msg_frames.proofs.{ElementsAndPairs.Cut, ElementsAndPairs.cut, HistoriesGrow.BufferLaws, HistoriesGrow.counts_more, HistoriesGrow.Grows, HistoriesGrow.frame_goes_on, HistoriesGrow.grown, HistoriesGrow.posts_change, HistoriesGrow.runs_go_on, HistoriesGrow.turns_change, SystemsStay.joining_world, SystemsStay.turns_keep, SystemsStay.frame_keeps, ReaderOverJob.IsWritten, ReaderOverJob.tile_of, ReaderOverTurns.turns_read, BeforeTurns.Prepares, BeforeTurns.prepares, StatesStaySound.begun_alike, StatesStaySound.frame_sound, StatesStaySound.has_no_turn, StatesStaySound.prepared_sound, ReaderOverRun.run_tells, StampsStayRecent.AreRecent, StampsStayRecent.StaysRecent, StampsStayRecent.earlier_recent, StampsStayRecent.stays_recent, StampsStayRecent.update_recent, StampsStayRecent.updated_recent, ReadersTakeAll.takes_by_turn}
@@ -12,10 +12,8 @@ use Rattle.msg_frames.specs.Prelude.{Frame, IsFrame, IsRun, IsSoundState, IsUpTo
 -- a message that was written at most one update ago, and stands at the floor or above
 pub is_there : (p : ℕ) (h : History Record) (n : ℕ) → AreRecent 1 p h → p ≤ n → h.floor ≤ n → n < count h
     → IsPresent h n
-is_there p h n recent above floor within = elim (slice_get_cases h.entries n).1 [
-  | inl found ↦ (found.0, found.2, grind (arith, nat_tests, recent n found.0 above found.2))
-  | inr past ↦ let over = past.0 in absurd (omega arith)
-]
+is_there p h n recent above floor within =
+    grind (arith, (slice_get_cases h.entries n).1, nat_tests, λ (e : Entry Record). recent n e above)
 
 -- a stretch that fits where all is present misses nothing
 none_missed : (h : History Record) (place : ℕ) (s : Stretch) → Fits h place s → next_place s ≤ count h
@@ -34,11 +32,10 @@ pub tile_misses_none : (p place : ℕ) (ms : List Moment) (to : ℕ) → Tile pl
     → AllPresent p ms → p ≤ place → NoneMissed ms
 tile_misses_none p place [] to tile written there above = All-nil (λ m. m.entry.stretch.missed ≡ 0)
 tile_misses_none p place (m ∷ ms) to tile written there above =
-    All-cons (λ m. m.entry.stretch.missed ≡ 0) m ms
-    (none_missed m.history place m.entry.stretch tile.0 (All-head IsWritten m ms written)
-    (λ n at. there 0 m (omega arith) n (omega (arith, at, above))))
-    (tile_misses_none p (next_place m.entry.stretch) ms to tile.1 (All-tail IsWritten m ms written)
-    (λ k d lt. there (suc k) d (omega arith)) (omega (arith, tile.0.first)))
+    let here = none_missed m.history place m.entry.stretch tile.0 (All-head IsWritten m ms written) in
+    let rest = tile_misses_none p (next_place m.entry.stretch) ms to tile.1 (All-tail IsWritten m ms written) in
+    All-cons (λ m. m.entry.stretch.missed ≡ 0) m ms (grind (arith, here, there 0 m (omega arith), above))
+    (rest (λ k d lt. there (suc k) d (omega arith)) (omega (arith, tile.0.first)))
 
 -- ---- a frame
 

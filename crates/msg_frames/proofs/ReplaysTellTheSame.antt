@@ -25,10 +25,8 @@ module _ {X Y : Type 0} (key : X → ℕ) (f : X → List Y) (i : ℕ) where
   one_told [] once x c e = absurd (not_in_none x c)
   one_told (y ∷ ys) once x c e = elim (Contains-cases y ys x c) [
     | inl same ↦
-        let is : key y ≡ i = ap key same ∙ e in
-        let others : All (λ z. test z ≡ false) ys =
-        λ k d lt. ne_eqb _ i (λ at. once 0 (suc k) d (omega arith) (omega arith) (is ∙ sym at)) in
-        grind (arith, append-nil, eqb_tells, is, none_told ys (list_any_none test ys others), same)
+        let others : All (λ z. test z ≡ false) ys = λ k d lt. grind (arith, eqb_tells, same, once 0 (suc k) d) in
+        grind (arith, append-nil, eqb_tells, none_told ys (list_any_none test ys others), same)
     | inr later ↦
         let rest = one_told ys (pairs_tail (λ a b. key a ≢ key b) y ys once) x later e in
         grind (arith, eqb_tells, later, once 0 (suc later.0) x, rest)
@@ -39,13 +37,13 @@ module _ {X Y : Type 0} (key : X → ℕ) (f : X → List Y) (i : ℕ) where
 
   told_alike : (xs ys : List X) → IsPermutation xs ys → AllPairs (λ a b. a ≢ b) (map key xs)
       → AllPairs (λ a b. a ≢ b) (map key ys) → flat_map own xs ≡ flat_map own ys
-  told_alike xs ys moved once once' = elim (cases_Bool (list_any test xs)) [
-    | inl some ↦
-        let x = Contains-list_any test xs some in
-        one_told xs (keys_once xs once) x.0 x.1.0 (eqb-true _ _ x.1.1)
-        ∙ sym (one_told ys (keys_once ys once') x.0 (Contains-permutation xs ys x.0 moved x.1.0) (eqb-true _ _ x.1.1))
-    | inr none ↦ none_told xs none ∙ sym (none_told ys (sym (list_any-IsPermutation test xs ys moved) ∙ none))
-  ]
+  told_alike xs ys moved once once' =
+      let some = Contains-list_any test xs in
+      let one = one_told xs (keys_once xs once) in
+      let other = one_told ys (keys_once ys once') in
+      let moves = λ (x : X). Contains-permutation xs ys x moved in
+      let same = list_any-IsPermutation test xs ys moved in
+      grind (arith, cases_Bool (list_any test xs), some, one, other, moves, same, none_told, eqb-true)
 
 -- ---- replays
 
@@ -78,12 +76,12 @@ settles lawful (frame ∷ frames) s (log ∷ logs) u x =
       | inl ran ↦ record {
         settled = log ∷ rest.settled;
         is_run = (x.0, ran, rest.is_run);
-        alike = λ i. ap (λ xs. answers_among i log.turns ++ xs) (rest.alike i);
+        alike = λ i. grind (arith, rest.alike i);
       }
       | inr replay ↦ record {
         settled = replay.1.settled ∷ rest.settled;
         is_run = (x.0, replay.1.is_frame, rest.is_run);
-        alike = λ i. ap₂ (λ xs ys. xs ++ ys) (turns_alike lawful frame replay.0 s log x.0 replay.1 i) (rest.alike i);
+        alike = λ i. grind (arith, turns_alike lawful frame replay.0 s log x.0 replay.1 i, rest.alike i);
       }
     ]
 settles lawful frames s logs u x = absurd x

@@ -103,7 +103,7 @@ turns_of programs s order are t =
     let access : ℕ → Access = λ i. access_for most (needs_of (s.members i)) in
     let is : (i : ℕ) → i < s.systems → access_of (accesses_of s) i
     ≡ access i = λ i lt. get_or-map-range_with_len access 0 s.systems i i no_access lt (omega arith) in
-        record {
+    record {
       settled = settled_by_test (accesses_of s) s.rules (join_flags s);
       is_order = record {
         accesses = accesses_of s;

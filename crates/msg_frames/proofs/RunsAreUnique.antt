@@ -11,10 +11,7 @@ use Rattle.msg_frames.proofs.SystemsStay.{joined_below}
 
 module _ (s : State) (a b : List Access) (are : AreAccessesOf s a) (are' : AreAccessesOf s b) where
   same_conflict : (i j : ℕ) → AreInConflict a (join_flags s) i j → AreInConflict b (join_flags s) i j
-  same_conflict i j h =
-      let li : i < s.systems = joined_below s i h.first_joined in
-      let lj : j < s.systems = joined_below s j h.second_joined in
-      grind (arith, are.of_needs i li, are'.of_needs i li, are.of_needs j lj, are'.of_needs j lj)
+  same_conflict i j h = grind (arith, joined_below s, are.of_needs, are'.of_needs)
 
 -- ---- settled orders
 
@@ -38,9 +35,7 @@ order_has_no_cycle acyclic s g none o = acyclic o.accesses s.rules (join_flags s
 
 module _ (one : SettledOrderIsUnique) (turns : TurnOrderIsUnique) where
   pub one_turn_order : (s : State) (xs ys : List ℕ) → IsTurnOrderOf s xs → IsTurnOrderOf s ys → xs ≡ ys
-  one_turn_order s xs ys x y =
-      turns x.settled (join_flags s) xs ys x.in_order
-      (rw (one_order one s y.settled x.settled y.is_order x.is_order) at y.in_order)
+  one_turn_order s xs ys x y = grind (arith, turns x.settled (join_flags s), one_order one s y.settled x.settled)
 
   pub one_frame : FramesAreUnique
   one_frame frame s u v log other x y = grind (arith, one_turn_order _ _ _ x.in_order y.in_order)

@@ -39,8 +39,7 @@ stays_recent k p = record {
 pub earlier_recent : (k p : ℕ) (a b : History Record) → GoesOn a b → AreRecent k p b → AreRecent k p a
 earlier_recent k p a b goes recent n e above at =
     let same = get_or_append_left a.entries goes.more e n in
-    let within = slice_get_within a.entries n e at in
-    grind (arith, get_or_from_slice_get, length-append, recent n e above, same, slice_get-get_or, within)
+    grind (arith, get_or_from_slice_get, length-append, recent n e above, same, slice_get-get_or, slice_get_within)
 
 -- an update makes them one update older
 pub update_recent : (p : ℕ) (h : History Record) → AreRecent 0 p h → AreRecent 1 p (update h)

@@ -1,7 +1,7 @@
 -- What tiles give: messages in order of writing.
 use Rattle.std.proofs.Common.{◌≡◌, ℕ, zero, suc, ◌+◌, ◌≤◌, ◌<◌, List, [], ◌∷◌, ◌++◌, map, length, take, drop, Bool, cond, Option, Some, None, is_some, option_map, IfSome, unwrap_or, filter, refl, ap, arith, slice_get, get_or, All, false, ◌==◌}
 use Rattle.std.specs.{List.range_with_len, List.enumerate_from, List.Sorted.IsStrictlyIncreasing}
-use Rattle.std.proofs.lemmas.{Bool.cases_Bool, List.drop-append-le, List.drop-map, List.drop_more, List.length-append, List.length-drop, List.map-append, List.take-append-le, List.take-map, Option.slice_get-get_or, List.Kept.IsStrictlyIncreasing-filter}
+use Rattle.std.proofs.lemmas.{Bool.cases_Bool, List.drop-append-le, List.drop-map, List.drop_more, List.Elements.All-head, List.Elements.All-tail, List.length-append, List.length-drop, List.map-append, List.take-append-le, List.take-map, Option.slice_get-get_or, List.Kept.IsStrictlyIncreasing-filter}
 use Rattle.msg_buffer.specs.Prelude.{Entry as Written, GoesOn, History, Stretch, Tile, count, instance_of, message_of, next_place}
 use Rattle.msg_world.specs.declared.record.Record.{Record}
 use Rattle.msg_frames.specs.Prelude.{GivesItsStretch, IsInOrderOf, Moment, given, is_by, message_numbered, messages_given, messages_of, numbers_of}
@@ -33,13 +33,11 @@ numbers_rise p [] q tile = tt
 numbers_rise p (m ∷ ms) q tile =
     let rest = numbers_rise (next_place m.entry.stretch) ms q tile.1 in
     let ranged = rising_range m.entry.stretch.first m.entry.stretch.number _ rest in
-    let here = rising_from p m.entry.stretch.first _ (omega (arith, tile.0.first)) ranged in
-    let past = rising_from p (next_place m.entry.stretch) _ (omega (arith, tile.0.first)) rest in
-    grind (arith, cases_Bool, here, past)
+    grind (arith, cases_Bool, rest, ranged, rising_from, tile.0.first)
 
 pub given_in_order : (p : ℕ) (ms : List Moment) (q : ℕ) → Tile p (map tile_of ms) q
     → IsStrictlyIncreasing (numbers_of given (entries_of ms))
-given_in_order p ms q tile = is_increasing p (numbers_of given (entries_of ms)) (numbers_rise p ms q tile)
+given_in_order p ms q tile = is_increasing p _ (numbers_rise p ms q tile)
 
 -- ---- the messages of a stretch
 
@@ -62,16 +60,13 @@ still_there : (h last : History Record) (a n : ℕ) → GoesOn h last → a + n 
     ≡ take n (drop a h.entries)
 still_there h last a n goes below = grind (arith, drop-append-le, length-drop, take-append-le)
 
-read_one : (es : List (Written Record)) (a : ℕ) → a < length es → (e : Written Record) × (slice_get es a ≡ Some e)
-    × (drop a es ≡ e ∷ drop (a + 1) es)
-read_one [] a below = absurd (omega arith)
-read_one (d ∷ es) a below = (get_or (d ∷ es) a d, slice_get-get_or (d ∷ es) a d below, drop_more (d ∷ es) a d below)
-
 read_range : (es : List (Written Record)) (a n : ℕ) → a + n ≤ length es
     → map (λ k. option_map message_in (slice_get es k)) (range_with_len a n)
     ≡ map Some (map message_in (take n (drop a es)))
 read_range es a zero below = refl
-read_range es a (suc n) below = grind (arith, read_one es a (omega arith), read_range es (a + 1) n (omega arith))
+read_range [] a (suc n) below = grind arith
+read_range (d ∷ es) a (suc n) below =
+    grind (arith, slice_get-get_or (d ∷ es) a d, drop_more (d ∷ es) a d, read_range (d ∷ es) (a + 1) n)
 
 -- ---- the messages of an entry
 
@@ -94,8 +89,8 @@ module _ (last : History Record) where
   all_as_written (m ∷ ms) gives goes written =
       let here = given_as_written m.history last m.entry.stretch (goes 0 m (omega arith)) (written 0 m (omega arith))
       m.entry.given (gives 0 m (omega arith)) in
-      let rest = all_as_written ms (λ k d lt. gives (suc k) d (omega arith)) (λ k d lt. goes (suc k) d (omega arith))
-      (λ k d lt. written (suc k) d (omega arith)) in
+      let rest = all_as_written ms (All-tail GivesItsStretch m ms gives) (All-tail (λ m. GoesOn m.history last) m ms goes)
+      (All-tail IsWritten m ms written) in
       grind (arith, here, map-append, rest)
 
 -- ---- writer by writer
