@@ -102,9 +102,9 @@ module _ (laws : BufferLaws) where
     op_passes (Read u limit) writer ps w = of_read u w w ps limit (stays _)
     op_passes (Clear u) writer ps w = λ sound within.
         let law = laws.clears (w.histories t) (ps t) sound in
-        let to = law.1 within in
-        of_type u w _ ps _ _ within (stays _ sound) (λ e. rw (e, ← to) (passes_one (ps t) (w.histories t)
-        (cleared_entry (w.histories t) (ps t)) _ law.0 (omega (arith, to)) tt (stays _ sound)))
+        let entry = cleared_entry (w.histories t) (ps t) in
+        of_type u w _ ps _ _ within (stays _ sound) (λ e. rw (e, ← law.1 within)
+        (passes_one (ps t) (w.histories t) entry _ law.0 (omega (arith, law.1 within)) tt (stays _ sound)))
     op_passes (Forward u v) writer ps w =
         of_read u w (after_op (Forward u v) writer ps w).state ps None
         (op_changes Grows (grown laws.grow) (Forward u v) writer ps w t)

@@ -45,9 +45,7 @@ none_yet_updated p t w less n e above at =
 
 -- who is up to date has only recent messages before it
 recent_ahead : (s : State) (i t : ℕ) → IsUpToDate s i t → AreRecent 0 (place_of s i t) (s.world.histories t)
-recent_ahead s i t up n e above at =
-    let there = up n above (slice_get_within (s.world.histories t).entries n e at) in
-    grind (arith, nat_tests, same_Some _ _ (sym there.1 ∙ at))
+recent_ahead s i t up n e above at = grind (arith, nat_tests, same_Some, up n above, slice_get_within)
 
 module _ (laws : BufferLaws) where
   module _ (frame : Frame) (s : State) (log : Log) (u : State) (i t : ℕ) (sound : IsSoundState s)
@@ -104,11 +102,9 @@ module _ (laws : BufferLaws) where
     frame_misses_none : IsTrue (has_begun s i) → IsUpToDate s i t → NothingDrained t s u
         → NoneMissed (turns_moments i t (systems_in log) b)
     frame_misses_none has up drained =
-        let reads =
-        (turns_read laws i t (systems_in log) b (ready.histories t under) (ready.places i t under)).passes in
-        let same : place_of s i t ≤ place_of b i t = grind (arith, false≢true, prep.arrival i) in
-        tile_misses_none (place_of s i t) _ _ _ reads.tile reads.written
-        (present_at _ up drained (rw (is.leaves) reads.earlier)) same
+        let reads = turns_read laws i t (systems_in log) b (ready.histories t under) (ready.places i t under) in
+        tile_misses_none (place_of s i t) _ _ _ reads.passes.tile reads.passes.written
+        (present_at _ up drained (rw (is.leaves) reads.passes.earlier)) (grind (arith, false≢true, prep.arrival i))
 
     -- who has a turn has joined
     joined_by_turn : Contains (systems_in log) i → IsTrue (has_begun u i)
@@ -131,17 +127,10 @@ module _ (laws : BufferLaws) where
       → t < s.types → NothingDrained t s u → Between t s m u
   between frame frames s m u log logs t sound is run below drained =
       let order : List ℕ = systems_in log in
-      let msound : IsSoundState m = frame_sound laws frame s log m sound is in
-      let goes : GoesOn (s.world.histories t) (m.world.histories t) =
-      rw (is.leaves) (frame_goes_on laws.grow order frame s t (sound.histories t below)) in
-      let mbelow : t < m.types = rw (is.leaves, (frame_keeps order frame s).types) below in
-      let later = runs_go_on laws.grow frames m u logs run t (msound.histories t mbelow) in
-      record {
-        sound = msound;
-        below = mbelow;
-        first = omega (arith, drained, later.floor);
-        rest = omega (arith, drained, goes.floor);
-      }
+      let goes = frame_goes_on laws.grow order frame s t (sound.histories t below) in
+      let types = (frame_keeps order frame s).types in
+      let later = runs_go_on laws.grow frames m u logs run t in
+      grind (arith, is.leaves, frame_sound laws frame s log m sound is, goes, types, later, drained)
 
   -- who reads all in a frame misses nothing in the frames after it, in each of which it reads all
   missed_after : (frame : Frame) (frames : List Frame) (s m u : State) (log : Log) (logs : List Log) (i t : ℕ)
@@ -152,10 +141,10 @@ module _ (laws : BufferLaws) where
   missed_after frame (f ∷ fs) s m u log (l ∷ ls) i t sound is run below first each drained =
       let mid : Between t s m u = between frame (f ∷ fs) s m u log (l ∷ ls) t sound is run below drained in
       let next : Between t m run.0 u = between f fs m run.0 u l ls t mid.sound run.1 run.2 mid.below mid.rest in
+      let now = now_up_to_date frame s log m i t sound is below first mid.first in
       All-append (λ x. x.entry.stretch.missed ≡ 0) _ _
       (frame_misses_none f m l run.0 i t mid.sound run.1 mid.below
-      (joined_by_turn frame s log m i t sound is below first.has_turn)
-      (now_up_to_date frame s log m i t sound is below first mid.first) next.first)
+      (joined_by_turn frame s log m i t sound is below first.has_turn) now next.first)
       (rw (← run.1.leaves)
       (missed_after f fs m run.0 u l ls i t mid.sound run.1 run.2 mid.below each.0 each.1 mid.rest))
   missed_after frame frames s m u log logs i t sound is run below first each drained = absurd run

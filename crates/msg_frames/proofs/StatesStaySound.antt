@@ -1,7 +1,7 @@
 -- Frames keep states sound.
 use Rattle.std.proofs.Common.{◌≡◌, ℕ, ◌<◌, max, List, [], ◌∷◌, Contains, refl, sym, ap₂, ◌∙◌, arith, IsFalse, nat_le}
 use Rattle.std.proofs.lemmas.{Bool.false≢true, List.FromFn.get_or-map-range_with_len}
-use Rattle.msg_frames.specs.Prelude.{Frame, IsBalanced, IsFrame, IsRun, IsSoundState, IsTurnOrderOf, Log, Member, State, after_turns_of, before_turns, counts, has_begun, joined_member, systems_in, turns_moments}
+use Rattle.msg_frames.specs.Prelude.{Frame, IsBalanced, IsFrame, IsRun, IsSoundState, IsTurnOrderOf, Log, Member, State, after_turns_of, before_turns, counts, has_begun, joined_member, place_of, systems_in, turns_moments}
 use Rattle.msg_frames.proofs.{HistoriesGrow.BufferLaws, HistoriesGrow.counts_more, SystemsStay.turns_keep, SystemsStay.joined_below, EntriesAddUp.stays_balanced, ReaderOverTurns.Keeps, ReaderOverTurns.Reads, ReaderOverTurns.turns_read, ReaderOverTurns.turns_skip, BeforeTurns.Prepares, BeforeTurns.begun_within, BeforeTurns.comes, BeforeTurns.prepares, BeforeTurns.stood, BeforeTurns.waits}
 
 -- ---- who has a turn
@@ -40,23 +40,21 @@ module _ (laws : BufferLaws) where
       record {
         histories = λ t below. (reads 0 t below).passes.goes_on.sound;
         places = λ i t below. (reads i t below).passes.within;
-        joins = λ i. rw ((keep.0.members i).join) (sound.joins i);
-        writers = λ i below. (keep.0.members i).writer ∙ sound.writers i (rw (keep.0.systems) at below);
+        joins = λ i. grind (arith, keep.0.members i, sound.joins i);
+        writers = λ i below. grind (arith, keep.0.members i, keep.0.systems, sound.writers i);
         waiting = λ i t isnt.
             let skips = turns_skip i order b in
             grind (arith, begun_alike b _ i keep, has_no_turn b order i ordered, isnt, skips, sound.waiting i t);
-        balanced = λ i t below has. rw ((reads i t below).totals)
-            (stays_balanced _ _ _ _
-            (sound.balanced i t (rw (keep.0.types) at below) (sym (begun_alike b _ i keep) ∙ has))
-            (reads i t below).passes.tile);
+        balanced = λ i t below has.
+            let more = stays_balanced ((b.members i).totals t) (place_of b i t) (turns_moments i t order b) in
+            grind (arith, reads i t below, sound.balanced i t, begun_alike b u i keep, more, keep.0.types);
       }
 
   pub frame_sound : (frame : Frame) (s : State) (log : Log) (u : State) → IsSoundState s → IsFrame frame s log u
       → IsSoundState u
   frame_sound frame s log u sound is =
-      let b : State = before_turns frame.posts s in
-      rw (is.leaves)
-      (turns_sound b (systems_in log) (prepared_sound s b sound (prepares laws.grow frame.posts s)) is.in_order)
+      let ready = prepared_sound s (before_turns frame.posts s) sound (prepares laws.grow frame.posts s) in
+      rw (is.leaves) (turns_sound _ (systems_in log) ready is.in_order)
 
   pub run_sound : (frames : List Frame) (s : State) (logs : List Log) (u : State) → IsSoundState s
       → IsRun frames s logs u → IsSoundState u
