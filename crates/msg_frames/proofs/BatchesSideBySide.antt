@@ -27,17 +27,14 @@ module _ (foot : JobFootprint) (accesses : List Access) (start : State) (are : A
   given_same s i h = rw (h.member) ((turn_footprint foot (start.members i)).same _ s.world start.world (λ p u. u) h.world)
 
   -- what the access writes is as the turn on `start` leaves it, and all else as it was
-  world_same : (s : State) (i : ℕ) → i < start.systems → Untouched start s i → (turn_of s i).world
-      ≡ merge (access_of accesses i) (turn_of start i).world s.world
-  world_same s i lt h =
-      let f = turn_footprint foot (start.members i) in
-      rw (h.member) (same_world _ _ (λ p.
-      let own = f.alike (needs_any (needs_of (start.members i))) s.world start.world (λ q u. u) h.world p in
-      grind (arith, cases_Bool, content_merge, (are.of_needs i lt).writes p, f.kept s.world p, own)))
-
   turn_is_home : (s : State) (i : ℕ) → i < start.systems → Untouched start s i → after_turn_of i s
       ≡ home accesses start i s
-  turn_is_home s i lt h = grind (arith, given_same s i h, world_same s i lt h)
+  turn_is_home s i lt h =
+      let f = turn_footprint foot (start.members i) in
+      let same = same_world (turn_of s i).world (merge (access_of accesses i) (turn_of start i).world s.world) (λ p.
+      let own = f.alike (needs_any (needs_of (start.members i))) s.world start.world (λ q u. u) h.world p in
+      grind (arith, cases_Bool, content_merge, (are.of_needs i lt).writes p, f.kept s.world p, own, h.member)) in
+      grind (arith, given_same s i h, same)
 
   still : (s : State) (i j : ℕ) → i < start.systems → j < start.systems → i ≢ j
       → ¬ Conflict (access_of accesses i) (access_of accesses j)

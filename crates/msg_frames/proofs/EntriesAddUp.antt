@@ -6,17 +6,12 @@ use Rattle.msg_system.specs.declared.reply.Took.{Took}
 use Rattle.msg_frames.specs.Prelude.{Entry, Fate, IsBalanced, Moment, Totals, cleared, entry_of_read, given, missed, numbers_of, with_entries}
 use Rattle.msg_frames.proofs.ReaderOverJob.{tile_of}
 
--- what met a fate at these entries and at those
-more_of : (fate : Fate) (es fs : List Entry) → length (numbers_of fate (es ++ fs))
-    ≡ length (numbers_of fate es) + length (numbers_of fate fs)
-more_of fate es fs = grind (arith, flat_map-append, length-append)
-
 pub with_entries-none : (x : Totals) → with_entries [] x ≡ x
 with_entries-none x = grind arith
 
 pub with_entries-append : (es fs : List Entry) (x : Totals) → with_entries (es ++ fs) x
     ≡ with_entries fs (with_entries es x)
-with_entries-append es fs x = grind (arith, more_of)
+with_entries-append es fs x = grind (arith, flat_map-append, length-append)
 
 -- what one op that read adds, and what one clear
 pub with_read : (took : Took) (x : Totals)

@@ -78,12 +78,9 @@ module _ (R : History Record → History Record → Type 0) (kept : IsKept R) wh
       let far : AfterProgram = after_at_most n (next_op m) m.writer m.places w in
       kept.further _ _ _ (ops_change n m w t) (more_changes (next_op m far.replies) m.writer far t)
 
-  turn_changes : (m : Meaning) (w : WorldState) → InEach R w (turn m w).state
-  unfolding turn
-  turn_changes m w = ops_change 64 m w
-
   pub job_changes : (j : Job) (w : WorldState) → InEach R w (after_job j w).state
-  job_changes j w t = grind (arith, cases_Bool, kept.same (w.histories t), turn_changes j.system w t)
+  unfolding turn
+  job_changes j w t = grind (arith, cases_Bool, kept.same (w.histories t), ops_change 64 j.system w t)
 
   pub turns_change : (order : List ℕ) (s : State) → InEach R s.world (after_turns_of order s).state.world
   turns_change [] s t = kept.same _

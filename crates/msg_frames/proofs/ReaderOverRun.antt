@@ -36,11 +36,6 @@ reads_since i t place had a b ms u goes x = grind (arith, goes_further)
 abbrev pub Follows : ℕ → ℕ → State → List Moment → State → Type 0
 Follows i t s ms u = ReadsFrom i t (found_at s u i t) (found_totals s u i t) (s.world.histories t) ms u
 
--- one that had joined is found at its place
-follows_joined : (i t : ℕ) (s : State) (ms : List Moment) (u : State) → IsTrue (has_begun s i) → Reads i t s ms u
-    → Follows i t s ms u
-follows_joined i t s ms u has x = rw has x
-
 module _ (laws : BufferLaws) (i t : ℕ) where
   pub run_follows : (frames : List Frame) (s : State) (logs : List Log) (u : State) → IsSoundState s
       → IsRun frames s logs u → t < s.types → IsTrue (has_begun u i)
@@ -66,7 +61,7 @@ module _ (laws : BufferLaws) (i t : ℕ) where
       λ now. reads_since i t _ _ _ _ (ms ++ rest) u goes
       (reads_further i t b ms m rest u here (rw (begun_alike b m i keep ∙ now) at later)) in
       elim (prep.arrival i) [
-        | stood was now same ↦ follows_joined i t s (ms ++ rest) u was (rw (place_of, same) at (all now))
+        | stood was now same ↦ rw was (rw (place_of, same) at (all now))
         | comes was now new ↦ let after = rw (place_of, new) at (all now) in rw (was, after.totals) after
         | waits was now same ↦
             rw (was, no_moments i t (systems_in log) b (has_no_turn b (systems_in log) i is.1.in_order now))

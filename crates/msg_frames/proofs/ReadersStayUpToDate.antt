@@ -1,10 +1,10 @@
 -- A reader that reads all in each frame is up to date, and so it misses nothing.
 use Rattle.std.proofs.Common.{◌≡◌, ℕ, suc, ◌<◌, ◌≤◌, List, [], ◌∷◌, ◌++◌, map, All, Contains, refl, sym, ◌∙◌, arith, inl, inr, get_or, IsTrue}
-use Rattle.std.proofs.lemmas.{Bool.cases_Bool, Bool.cases_eq, Bool.false≢true, Option.same_Some, Option.slice_get_cases, Option.slice_get_within, List.Elements.All-append, List.Elements.All-cons, List.Elements.All-head, List.Elements.All-map, List.Elements.All-nil, List.Elements.All-tail, Bool.Decides.nat_tests}
+use Rattle.std.proofs.lemmas.{Bool.cases_Bool, Bool.cases_eq, Bool.false≢true, Option.same_Some, Option.slice_get_cases, Option.slice_get_within, List.append-nil, List.Elements.All-append, List.Elements.All-cons, List.Elements.All-head, List.Elements.All-map, List.Elements.All-nil, List.Elements.All-tail, Bool.Decides.nat_tests}
 use Rattle.msg_buffer.specs.Prelude.{Entry, Fits, GoesOn, History, IsPresent, Stretch, Tile, count, next_place, update}
 use Rattle.msg_world.specs.declared.record.Record.{Record}
 use Rattle.msg_world.specs.Prelude.{WorldState, after_update}
-use Rattle.msg_frames.proofs.{ElementsAndPairs.Cut, ElementsAndPairs.cut, HistoriesGrow.BufferLaws, HistoriesGrow.counts_more, HistoriesGrow.Grows, HistoriesGrow.frame_goes_on, HistoriesGrow.grown, HistoriesGrow.posts_change, HistoriesGrow.runs_go_on, HistoriesGrow.turns_change, SystemsStay.joining_world, SystemsStay.turns_keep, SystemsStay.frame_keeps, ReaderOverJob.IsWritten, ReaderOverJob.tile_of, ReaderOverTurns.turns_read, BeforeTurns.Prepares, BeforeTurns.prepares, StatesStaySound.begun_alike, StatesStaySound.frame_sound, StatesStaySound.has_no_turn, StatesStaySound.prepared_sound, ReaderOverRun.run_tells, StampsStayRecent.AreRecent, StampsStayRecent.StaysRecent, StampsStayRecent.earlier_recent, StampsStayRecent.stays_recent, StampsStayRecent.update_recent, StampsStayRecent.updated_recent, ReadersTakeAll.takes_by_turn}
+use Rattle.msg_frames.proofs.{ElementsAndPairs.Cut, ElementsAndPairs.cut, HistoriesGrow.BufferLaws, HistoriesGrow.counts_more, HistoriesGrow.Grows, HistoriesGrow.frame_goes_on, HistoriesGrow.grown, HistoriesGrow.posts_change, HistoriesGrow.runs_go_on, HistoriesGrow.turns_change, SystemsStay.joining_world, SystemsStay.turns_keep, SystemsStay.frame_keeps, ReaderOverJob.IsWritten, ReaderOverJob.tile_of, ReaderOverTurns.turns_read, BeforeTurns.Prepares, BeforeTurns.prepares, StatesStaySound.begun_alike, StatesStaySound.frame_sound, StatesStaySound.has_no_turn, StatesStaySound.prepared_sound, ReaderOverRun.run_tells, StampsStayRecent.AreRecent, StampsStayRecent.StaysRecent, StampsStayRecent.earlier_recent, StampsStayRecent.stays_recent, ReadersTakeAll.takes_by_turn}
 use Rattle.msg_frames.specs.Prelude.{Frame, IsFrame, IsRun, IsSoundState, IsUpToDate, Log, MissesNothing, Moment, NothingDrained, ReadsAll, ReadsAllInEach, State, WhoIsUpToDateMissesNothing, WhoReadsEachFrameMissesNothing, after_turns_of, before_turns, has_begun, joining, moments, place_of, systems_in, turns_moments}
 
 -- ---- what is present
@@ -32,8 +32,8 @@ pub tile_misses_none : (p place : ℕ) (ms : List Moment) (to : ℕ) → Tile pl
     → AllPresent p ms → p ≤ place → NoneMissed ms
 tile_misses_none p place [] to tile written there above = All-nil (λ m. m.entry.stretch.missed ≡ 0)
 tile_misses_none p place (m ∷ ms) to tile written there above =
-    let here = none_missed m.history place m.entry.stretch tile.0 (All-head IsWritten m ms written) in
     let rest = tile_misses_none p (next_place m.entry.stretch) ms to tile.1 (All-tail IsWritten m ms written) in
+    let here = none_missed m.history place m.entry.stretch tile.0 (All-head IsWritten m ms written) in
     All-cons (λ m. m.entry.stretch.missed ≡ 0) m ms (grind (arith, here, there 0 m (omega arith), above))
     (rest (λ k d lt. there (suc k) d (omega arith)) (omega (arith, tile.0.first)))
 
@@ -42,10 +42,6 @@ tile_misses_none p place (m ∷ ms) to tile written there above =
 none_yet_updated : (p t : ℕ) (w : WorldState) → count (w.histories t) ≤ p → AreRecent 0 p ((after_update w).histories t)
 none_yet_updated p t w less n e above at =
     let within = slice_get_within ((after_update w).histories t).entries n e at in grind (arith, cases_Bool, within)
-
--- who is up to date has only recent messages before it
-recent_ahead : (s : State) (i t : ℕ) → IsUpToDate s i t → AreRecent 0 (place_of s i t) (s.world.histories t)
-recent_ahead s i t up n e above at = grind (arith, nat_tests, same_Some, up n above, slice_get_within)
 
 module _ (laws : BufferLaws) where
   module _ (frame : Frame) (s : State) (log : Log) (u : State) (i t : ℕ) (sound : IsSoundState s)
@@ -87,14 +83,15 @@ module _ (laws : BufferLaws) where
         let p : ℕ = count (s.world.histories t) in
         let had = has_frame_before reads in
         is_there p (update (u.world.histories t)) n
-        (update_recent p (u.world.histories t) (frame_recent 0 p (none_yet_updated p t s.world (omega arith))))
+        (λ m e after at. omega (arith, frame_recent 0 p (none_yet_updated p t s.world (omega arith)) m e after at))
         (omega arith) (omega (arith, drained, (sound.histories t below).floor)) within
 
     present_at : (ms : List Moment) → IsUpToDate s i t → NothingDrained t s u
         → All (λ m. GoesOn m.history (u.world.histories t)) ms → AllPresent (place_of s i t) ms
     present_at ms up drained goes k d lt n above within =
         let p : ℕ = place_of s i t in
-        let recent = frame_recent 1 p (updated_recent p t s.world (recent_ahead s i t up)) in
+        let recent = frame_recent 1 p
+        (λ m e after at. grind (arith, cases_Bool, nat_tests, same_Some, up m after, slice_get_within)) in
         is_there p (get_or ms k d).history n (earlier_recent 1 p _ _ (goes k d lt) recent) above
         (grind (arith, drained, nat_tests, up n above, (sound.histories t below).floor, (goes k d lt).floor))
         within
@@ -149,22 +146,15 @@ module _ (laws : BufferLaws) where
       (missed_after f fs m run.0 u l ls i t mid.sound run.1 run.2 mid.below each.0 each.1 mid.rest))
   missed_after frame frames s m u log logs i t sound is run below first each drained = absurd run
 
-  -- as the logs tell it
-  told_none_missed : (frames : List Frame) (s : State) (logs : List Log) (u : State) (i t : ℕ) → IsRun frames s logs u
-      → NoneMissed (moments i t frames logs s) → MissesNothing i t s logs
-  told_none_missed frames s logs u i t run none =
-      rw ((run_tells i t frames s logs u run).entries) (All-map (λ e. e.stretch.missed ≡ 0) _ _ none)
-
   -- ---- the laws
 
   pub misses_nothing : WhoIsUpToDateMissesNothing
   misses_nothing frame s log u i t sound is below has up drained =
-      told_none_missed (frame ∷ []) s (log ∷ []) u i t (u, is, refl)
-      (All-append (λ m. m.entry.stretch.missed ≡ 0) _ []
-      (frame_misses_none frame s log u i t sound is below has up drained)
-      (All-nil (λ m. m.entry.stretch.missed ≡ 0)))
+      let none = frame_misses_none frame s log u i t sound is below has up drained in
+      rw ((run_tells i t (frame ∷ []) s (log ∷ []) u (u, is, refl)).entries, append-nil (turns_moments i t _ _))
+      (All-map (λ e. e.stretch.missed ≡ 0) _ _ none)
 
   pub never_misses : WhoReadsEachFrameMissesNothing
   never_misses frame frames s m u log logs i t sound is run below first each drained =
-      told_none_missed frames m logs u i t run
-      (missed_after frame frames s m u log logs i t sound is run below first each drained)
+      rw ((run_tells i t frames m logs u run).entries) (All-map (λ e. e.stretch.missed ≡ 0) _ _
+      (missed_after frame frames s m u log logs i t sound is run below first each drained))

@@ -61,28 +61,18 @@ turns_alike lawful frame order s log u replay i =
 pub replay_tells : TurnOrderIsLawful → ReplaysTellTheSame
 replay_tells lawful frame order s log u replay i = ap (λ xs. xs ++ []) (turns_alike lawful frame order s log u replay i)
 
--- the logs of the run of the same frames
-record Settled (frames : List Frame) (s : State) (logs : List Log) (u : State) : Type 0 where
-  settled : List Log
-  is_run : IsRun frames s settled u
-  alike : (i : ℕ) → answers_in i logs ≡ answers_in i settled
-
+-- there are logs of the run of the same frames
 settles : TurnOrderIsLawful → (frames : List Frame) (s : State) (logs : List Log) (u : State)
-    → IsMixedRun frames s logs u → Settled frames s logs u
-settles lawful [] s [] u x = record { settled = []; is_run = x; alike = λ i. refl }
+    → IsMixedRun frames s logs u
+    → (settled : List Log) × (IsRun frames s settled u × ((i : ℕ) → answers_in i logs ≡ answers_in i settled))
+settles lawful [] s [] u x = ([], (x, λ i. refl))
 settles lawful (frame ∷ frames) s (log ∷ logs) u x =
     let rest = settles lawful frames x.0 logs u x.2 in
     elim x.1 [
-      | inl ran ↦ record {
-        settled = log ∷ rest.settled;
-        is_run = (x.0, ran, rest.is_run);
-        alike = λ i. grind (arith, rest.alike i);
-      }
-      | inr replay ↦ record {
-        settled = replay.1.settled ∷ rest.settled;
-        is_run = (x.0, replay.1.is_frame, rest.is_run);
-        alike = λ i. grind (arith, turns_alike lawful frame replay.0 s log x.0 replay.1 i, rest.alike i);
-      }
+      | inl ran ↦ (log ∷ rest.0, ((x.0, ran, rest.1.0), λ i. grind (arith, rest.1.1 i)))
+      | inr replay ↦
+          let alike = turns_alike lawful frame replay.0 s log x.0 replay.1 in
+          (replay.1.settled ∷ rest.0, ((x.0, replay.1.is_frame, rest.1.0), λ i. grind (arith, alike i, rest.1.1 i)))
     ]
 settles lawful frames s logs u x = absurd x
 

@@ -35,15 +35,11 @@ access_for n needs = record {
 
 -- ---- a job of types and resources below n
 
-abbrev may_read : ℕ → Part → Bool
-may_read n (OfType t) = nat_lt t n
-may_read n (OfResource r) = nat_lt r n
-may_read n Registry = false
-
-abbrev may_write : ℕ → Part → Bool
-may_write n (OfType t) = nat_lt t n
-may_write n (OfResource r) = nat_lt r n
-may_write n Registry = true
+-- a type or a resource below n, or the registry where that is allowed
+abbrev may_use : Bool → ℕ → Part → Bool
+may_use registry n (OfType t) = nat_lt t n
+may_use registry n (OfResource r) = nat_lt r n
+may_use registry n Registry = registry
 
 abbrev passes : (Part → Bool) → Option Part → Bool
 passes test None = true
@@ -56,19 +52,19 @@ any_passes test part (x ∷ xs) p all h = grind (arith, cases_Bool, eqb_tells, a
 
 abbrev is_within : ℕ → List Op → List Condition → Bool
 is_within n ops cs =
-    (list_all (λ op. passes (may_read n) (op_parts op).read) ops && list_all
-    (λ op. passes (may_write n) (op_parts op).written) ops)
-    && list_all (λ c. passes (may_read n) (Some (probe_part c.probe))) cs
+    (list_all (λ op. passes (may_use false n) (op_parts op).read) ops && list_all
+    (λ op. passes (may_use true n) (op_parts op).written) ops)
+    && list_all (λ c. passes (may_use false n) (Some (probe_part c.probe))) cs
 
 access_is : (n : ℕ) (ops : List Op) (cs : List Condition) → n ≤ 64 → is_within n ops cs ≡ true
     → IsAccessOf (job_needs ops cs) (access_for n (job_needs ops cs))
 access_is n ops cs few w = record {
   reads = λ p.
-      let by_ops = any_passes (may_read n) (λ op. (op_parts op).read) ops p in
-      let by_conditions = any_passes (may_read n) (λ c. Some (probe_part c.probe)) cs p in
+      let by_ops = any_passes (may_use false n) (λ op. (op_parts op).read) ops p in
+      let by_conditions = any_passes (may_use false n) (λ c. Some (probe_part c.probe)) cs p in
       grind (arith, by_conditions, by_ops, cases_Bool, mask_at, nat_tests);
   writes = λ p.
-      let by_ops = any_passes (may_write n) (λ op. (op_parts op).written) ops p in
+      let by_ops = any_passes (may_use true n) (λ op. (op_parts op).written) ops p in
       grind (arith, by_ops, cases_Bool, mask_at, nat_tests);
 }
 

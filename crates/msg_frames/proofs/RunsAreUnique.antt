@@ -3,7 +3,7 @@ use Rattle.std.proofs.Common.{arith, ◌≡◌, ℕ, ◌<◌, List, [], ◌∷�
 use Rattle.std.proofs.lemmas.List.FromFn.{length-map-range_with_len}
 use Rattle.msg_world.specs.declared.access.Access.{Access}
 use Rattle.msg_order.specs.Prelude.{AreInConflict, Graph, IsAcyclic, IsAmong, SettledOrderIsUnique, Settles, SettlingMakesNoCycle, TurnOrderIsUnique}
-use Rattle.msg_frames.specs.Prelude.{AreAccessesOf, FramesAreUnique, IsOrderOf, IsTurnOrderOf, NoCycle, RunsAreUnique, State, SystemsHaveOneOrder, has_begun, join_flags}
+use Rattle.msg_frames.specs.Prelude.{AreAccessesOf, FramesAreUnique, IsOrderOf, IsTurnOrderOf, NoCycle, RunsAreUnique, State, SystemsHaveOneOrder, before_turns, has_begun, join_flags, systems_in}
 use Rattle.msg_order.proofs.SetPaths.{settled_joins}
 use Rattle.msg_frames.proofs.SystemsStay.{joined_below}
 
@@ -34,11 +34,11 @@ order_has_no_cycle acyclic s g none o = acyclic o.accesses s.rules (join_flags s
     (none (join_flags s) (length-map-range_with_len (has_begun s) 0 s.systems))
 
 module _ (one : SettledOrderIsUnique) (turns : TurnOrderIsUnique) where
-  pub one_turn_order : (s : State) (xs ys : List ℕ) → IsTurnOrderOf s xs → IsTurnOrderOf s ys → xs ≡ ys
-  one_turn_order s xs ys x y = grind (arith, turns x.settled (join_flags s), one_order one s y.settled x.settled)
-
   pub one_frame : FramesAreUnique
-  one_frame frame s u v log other x y = grind (arith, one_turn_order _ _ _ x.in_order y.in_order)
+  one_frame frame s u v log other x y =
+      let b : State = before_turns frame.posts s in
+      let same = one_order one b y.in_order.settled x.in_order.settled in
+      grind (arith, turns x.in_order.settled (join_flags b) (systems_in log) (systems_in other), same)
 
   pub one_run : RunsAreUnique
   one_run [] s u v [] [] x y = (refl, x ∙ sym y)

@@ -40,13 +40,3 @@ pub earlier_recent : (k p : ℕ) (a b : History Record) → GoesOn a b → AreRe
 earlier_recent k p a b goes recent n e above at =
     let same = get_or_append_left a.entries goes.more e n in
     grind (arith, get_or_from_slice_get, length-append, recent n e above, same, slice_get-get_or, slice_get_within)
-
--- an update makes them one update older
-pub update_recent : (p : ℕ) (h : History Record) → AreRecent 0 p h → AreRecent 1 p (update h)
-update_recent p h recent n e above at = omega (arith, recent n e above at)
-
--- ---- the update before them
-
-pub updated_recent : (p t : ℕ) (w : WorldState) → AreRecent 0 p (w.histories t)
-    → AreRecent 1 p ((after_update w).histories t)
-updated_recent p t w recent n e above at = grind (arith, cases_Bool, recent n e above)

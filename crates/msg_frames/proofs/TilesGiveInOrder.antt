@@ -49,16 +49,13 @@ messages_in_instances : (n : ℕ) (es : List (Written Record)) → map message_o
 messages_in_instances n [] = refl
 messages_in_instances n (e ∷ es) = ap (λ ms. e.message ∷ ms) (messages_in_instances (n + 1) es)
 
--- those of a stretch, among the entries of a history
-messages_are : (h : History Record) (s : Stretch) → messages_of h s
-    ≡ map message_in (take s.number (drop s.first h.entries))
-messages_are h s =
-    simp (← take-map, ← drop-map, messages_in_instances)
-
--- they stay where they are
-still_there : (h last : History Record) (a n : ℕ) → GoesOn h last → a + n ≤ count h → take n (drop a last.entries)
-    ≡ take n (drop a h.entries)
-still_there h last a n goes below = grind (arith, drop-append-le, length-drop, take-append-le)
+-- those of a stretch, among the entries of a later history: they stay where they are
+messages_are : (h last : History Record) (s : Stretch) → GoesOn h last → next_place s ≤ count h → messages_of h s
+    ≡ map message_in (take s.number (drop s.first last.entries))
+messages_are h last s goes written =
+    let stay : take s.number (drop s.first last.entries) ≡ take s.number (drop s.first h.entries) =
+    grind (arith, drop-append-le, length-drop, take-append-le) in
+    simp (stay, ← take-map, ← drop-map, messages_in_instances)
 
 read_range : (es : List (Written Record)) (a n : ℕ) → a + n ≤ length es
     → map (λ k. option_map message_in (slice_get es k)) (range_with_len a n)
@@ -75,7 +72,7 @@ module _ (h last : History Record) (s : Stretch) (goes : GoesOn h last) (written
       → map (message_numbered last) (cond (is_some o) (range_with_len s.first s.number) []) ≡ map Some (unwrap_or o [])
   given_as_written None gives = refl
   given_as_written (Some items) gives =
-      rw (gives, messages_are h s, ← still_there h last s.first s.number goes written)
+      rw (gives, messages_are h last s goes written)
       (read_range last.entries s.first s.number
       (omega (arith, ap length goes.entries, length-append h.entries goes.more)))
 

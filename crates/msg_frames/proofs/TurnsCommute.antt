@@ -62,7 +62,7 @@ turn_after foot s i j ne free =
     ((turn_footprint foot (s.members j)).same (needs_any (needs_of (s.members j))) (turn_of s i).world s.world
     (λ p u. u) (λ p u. (turn_footprint foot (s.members i)).kept s.world p (free.left p u)))
 
-pub turns_swap : JobFootprint → (s : State) (i j : ℕ) → i ≢ j → Apart (needs_of (s.members i)) (needs_of (s.members j))
+turns_swap : JobFootprint → (s : State) (i j : ℕ) → i ≢ j → Apart (needs_of (s.members i)) (needs_of (s.members j))
     → after_turn_of j (after_turn_of i s) ≡ after_turn_of i (after_turn_of j s)
 turns_swap foot s i j ne free =
     let first = turn_after foot s i j (λ h. ne (sym h)) free in
