@@ -16,13 +16,12 @@ module _ (in_order : IsInOrder) (program : Program) (writer : ℕ) (few : length
   abbrev IsProgram : Job → Type 0
   IsProgram j = (places : ℕ → ℕ) × (j ≡ record { system = of_program program writer places; conditions = [] })
 
-  job_stays : (j : Job) (w : WorldState) → IsProgram j → IsProgram (after_job j w).job
-  job_stays j w is =
-      let m : Meaning = of_program program writer is.0 in
-      ((turn m w).places, grind (arith, is.1, in_order program writer is.0 w few))
-
   turn_stays : (i j : ℕ) (s : State) → IsProgram (s.members i).job → IsProgram ((after_turn_of j s).members i).job
-  turn_stays i j s is = one_member (λ m. IsProgram m.job) j i s (λ e. job_stays (s.members i).job s.world is) (λ ne. is)
+  turn_stays i j s is =
+      let m : Meaning = of_program program writer is.0 in
+      let after = in_order program writer is.0 s.world few in
+      let stays : IsProgram (after_job (s.members i).job s.world).job = ((turn m s.world).places, grind (arith, is.1, after)) in
+      one_member (λ m. IsProgram m.job) j i s (λ e. stays) (λ ne. is)
 
   turns_stay : (i : ℕ) (order : List ℕ) (s : State) → IsProgram (s.members i).job
       → IsProgram ((after_turns_of order s).state.members i).job

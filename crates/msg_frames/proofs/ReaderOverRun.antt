@@ -72,10 +72,11 @@ module _ (laws : BufferLaws) (i t : ℕ) where
 
 -- ---- what a run does for a reader
 
-module _ (laws : BufferLaws) where
-  is_served : (i t : ℕ) (frames : List Frame) (s : State) (logs : List Log) (u : State) → IsSoundState s
-      → IsRun frames s logs u → t < s.types → IsTrue (has_begun u i) → IsServed i t frames s logs u
-  is_served i t frames s logs u sound is below has =
+pub runs_are_complete : BufferLaws → RunsAreComplete
+runs_are_complete laws frames s logs u sound is = record {
+  is_run = is;
+  grew = λ t below. runs_go_on laws.grow frames s u logs is t (sound.histories t below);
+  served = λ i t below has.
       let ms : List Moment = moments i t frames logs s in
       let reads = run_follows laws i t frames s logs u sound is below has in
       let passes = reads.passes in
@@ -84,7 +85,7 @@ module _ (laws : BufferLaws) where
         given = rw tells (record {
           entries = refl;
           each = meets_one_fate _ ms _ passes.tile;
-          no_other = λ n k fate met. lies_between _ ms _ passes.tile n k fate met;
+          no_other = lies_between _ ms _ passes.tile;
           in_order = given_in_order _ ms _ passes.tile;
           as_written = all_as_written _ ms passes.gives passes.earlier passes.written;
           dropped = missed_are_dropped _ ms _ passes.tile passes.written;
@@ -94,11 +95,5 @@ module _ (laws : BufferLaws) where
             (in_order_of writer _ ms _ _ passes.tile passes.gives passes.earlier passes.written);
         tiled = record { entries = tells; tile = passes.tile; gives = passes.gives };
         totals = rw tells reads.totals;
-      }
-
-  pub runs_are_complete : RunsAreComplete
-  runs_are_complete frames s logs u sound is = record {
-    is_run = is;
-    grew = λ t below. runs_go_on laws.grow frames s u logs is t (sound.histories t below);
-    served = λ i t below has. is_served i t frames s logs u sound is below has;
-  }
+      };
+}

@@ -7,13 +7,9 @@ use Rattle.msg_frames.specs.Prelude.{AreAccessesOf, FramesAreUnique, IsOrderOf, 
 use Rattle.msg_order.proofs.SetPaths.{settled_joins}
 use Rattle.msg_frames.proofs.SystemsStay.{joined_below}
 
--- ---- conflicts
-
-module _ (s : State) (a b : List Access) (are : AreAccessesOf s a) (are' : AreAccessesOf s b) where
-  same_conflict : (i j : ℕ) → AreInConflict a (join_flags s) i j → AreInConflict b (join_flags s) i j
-  same_conflict i j h = grind (arith, joined_below s, are.of_needs, are'.of_needs)
-
--- ---- settled orders
+same_conflict : (s : State) (a b : List Access) → AreAccessesOf s a → AreAccessesOf s b → (i j : ℕ)
+    → AreInConflict a (join_flags s) i j → AreInConflict b (join_flags s) i j
+same_conflict s a b are are' i j h = grind (arith, joined_below s, are.of_needs, are'.of_needs)
 
 settles_by : (C D : ℕ → ℕ → Type 0) → ((i j : ℕ) → C i j → D i j) → ((i j : ℕ) → D i j → C i j)
     → (ps : List (ℕ × ℕ)) (g h : Graph) → Settles C g ps h → Settles D g ps h

@@ -29,32 +29,29 @@ module _ (s b : State) (sound : IsSoundState s) (prep : Prepares s b) where
 -- ---- the turns, frames and runs
 
 module _ (laws : BufferLaws) where
-  turns_sound : (b : State) (order : List ℕ) → IsSoundState b → IsTurnOrderOf b order
-      → IsSoundState (after_turns_of order b).state
-  turns_sound b order sound ordered =
+  pub frame_sound : (frame : Frame) (s : State) (log : Log) (u : State) → IsSoundState s → IsFrame frame s log u
+      → IsSoundState u
+  frame_sound frame s log v before is =
+      let b : State = before_turns frame.posts s in
+      let sound : IsSoundState b = prepared_sound s b before (prepares laws.grow frame.posts s) in
+      let order : List ℕ = systems_in log in
       let keep = turns_keep order b in
       let u : State = (after_turns_of order b).state in
       let reads : (i t : ℕ) → t < u.types → Reads i t b (turns_moments i t order b) u =
       λ i t below. turns_read laws i t order b (sound.histories t (rw (keep.0.types) at below))
       (sound.places i t (rw (keep.0.types) at below)) in
-      record {
+      rw (is.leaves) (record {
         histories = λ t below. (reads 0 t below).passes.goes_on.sound;
         places = λ i t below. (reads i t below).passes.within;
         joins = λ i. grind (arith, keep.0.members i, sound.joins i);
         writers = λ i below. grind (arith, keep.0.members i, keep.0.systems, sound.writers i);
         waiting = λ i t isnt.
             let skips = turns_skip i order b in
-            grind (arith, begun_alike b _ i keep, has_no_turn b order i ordered, isnt, skips, sound.waiting i t);
+            grind (arith, begun_alike b _ i keep, has_no_turn b order i is.in_order, isnt, skips, sound.waiting i t);
         balanced = λ i t below has.
             let more = stays_balanced ((b.members i).totals t) (place_of b i t) (turns_moments i t order b) in
             grind (arith, reads i t below, sound.balanced i t, begun_alike b u i keep, more, keep.0.types);
-      }
-
-  pub frame_sound : (frame : Frame) (s : State) (log : Log) (u : State) → IsSoundState s → IsFrame frame s log u
-      → IsSoundState u
-  frame_sound frame s log u sound is =
-      let ready = prepared_sound s (before_turns frame.posts s) sound (prepares laws.grow frame.posts s) in
-      rw (is.leaves) (turns_sound _ (systems_in log) ready is.in_order)
+      })
 
   pub run_sound : (frames : List Frame) (s : State) (logs : List Log) (u : State) → IsSoundState s
       → IsRun frames s logs u → IsSoundState u
