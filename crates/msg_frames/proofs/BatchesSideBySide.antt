@@ -9,8 +9,6 @@ use Rattle.msg_system.specs.Prelude.{Agree, JobFootprint, needs_any}
 use Rattle.msg_frames.specs.Prelude.{AreAccessesOf, BatchesRunSideBySide, FramesRunByBatches, Member, Outcome, SameSystems, State, after_turn_of, after_turns_of, all_home, home, logged_turn, needs_of, turn_of, AfterTurns}
 use Rattle.msg_frames.proofs.{SystemsStay.accesses_stay, SystemsStay.turns_keep_systems, ElementsAndPairs.all_left, ElementsAndPairs.all_right, ElementsAndPairs.pairs_left, ElementsAndPairs.pairs_right, ElementsAndPairs.pairs_tail, TurnsCommute.apart, TurnsCommute.given_by_turn, TurnsCommute.same_world, TurnsCommute.turn_footprint}
 
--- ---- what comes home
-
 content_merge : (a : Access) (mine others : WorldState) (p : Part) → content p (merge a mine others)
     ≡ (if writes a p then content p mine else content p others)
 content_merge a mine others (OfType t) = refl
@@ -64,8 +62,6 @@ module _ (foot : JobFootprint) (accesses : List Access) (start : State) (are : A
 pub side_by_side : JobFootprint → BatchesRunSideBySide
 side_by_side foot s accesses batch are below once none =
     from_start foot accesses s are batch s below once none (λ k d lt. record { member = refl; world = λ p u. refl })
-
--- ---- batch by batch
 
 follow : (xs ys : List ℕ) (s : State) → after_turns_of (xs ++ ys) s ≡
     (let first : AfterTurns = after_turns_of xs s in

@@ -6,8 +6,6 @@ use Rattle.msg_world.specs.declared.record.Record.{Record}
 use Rattle.msg_frames.specs.Prelude.{SameSystems, State, before_turns, counts, has_begun, joined_member, place_of}
 use Rattle.msg_frames.proofs.{HistoriesGrow.WorldGoesOn, HistoriesGrow.before_goes_on, SystemsStay.before_keeps}
 
--- ---- each member
-
 -- Where system i stands among those that join: it had joined before, it joins now, or it still waits.
 pub data Arrival (s b : State) (i : ℕ) : Type 0 where
   stood : IsTrue (has_begun s i) → IsTrue (has_begun b i) → b.members i ≡ s.members i → Arrival s b i
@@ -27,8 +25,6 @@ prepares grow posts s = record {
   world = before_goes_on grow posts s;
   arrival = λ i. grind (arith, cases_Bool, nat_tests);
 }
-
--- ---- where one that joins starts
 
 pub begun_within : (s : State) (i t : ℕ) → t < s.types → place_of s i t ≤ count (s.world.histories t)
     → (joined_member (counts s) (s.members i)).job.system.places t ≤ count (s.world.histories t)

@@ -5,8 +5,6 @@ use Rattle.msg_order.proofs.Elements.{Contains-cases, not_in_none}
 pub use Rattle.msg_order.proofs.Elements.{pairs_head, pairs_tail}
 
 module _ {X : Type 0} where
-  -- ---- of two lists one after the other
-
   pub all_left : (P : X → Type 0) (xs ys : List X) → All P (xs ++ ys) → All P xs
   all_left P xs ys h k d lt = grind (arith, get_or_append_left xs ys d, length-append xs ys, h k d)
 
@@ -20,8 +18,6 @@ module _ {X : Type 0} where
   pub pairs_right : (R : X → X → Type 0) (xs ys : List X) → AllPairs R (xs ++ ys) → AllPairs R ys
   pairs_right R xs ys r i j d lt l =
       grind (arith, get_or-append-add xs ys, length-append xs ys, r (length xs + i) (length xs + j) d)
-
-  -- ---- of a list without an element in the middle
 
   pub all_middle : (P : X → Type 0) (xs : List X) (y : X) (ys : List X) → All P (xs ++ y ∷ ys) → P y × All P (xs ++ ys)
   all_middle P [] y ys h = (h 0 y (omega arith), All-tail P y ys h)

@@ -18,8 +18,6 @@ pub record BufferLaws : Type 0 where
 pub buffer_laws : OnlyGrows Record → ReadsFit Record → ClearsFit Record → BufferLaws
 buffer_laws grow reads clears = record { grow = grow; reads = reads; clears = clears }
 
--- ---- histories
-
 pub stays : (h : History Record) → IsSound h → GoesOn h h
 stays h sound =
     record {

@@ -9,8 +9,6 @@ use Rattle.msg_frames.specs.Prelude.{AreAccessesOf, FramesAgreeInLawfulOrders, L
 use Rattle.msg_frames.proofs.{RunsAreUnique.one_order, RunsAreUnique.order_is_among, TurnsCommute.turns_commute, SystemsStay.accesses_stay, SystemsStay.joined_below, SystemsStay.one_turn_keeps, ElementsAndPairs.Cut, ElementsAndPairs.cut, ElementsAndPairs.pairs_head, ElementsAndPairs.pairs_middle, ElementsAndPairs.pairs_right, ElementsAndPairs.pairs_tail}
 use Rattle.msg_order.proofs.Elements.{Contains-cases, Contains-head, Contains-tail, not_in_none}
 
--- ---- the same run
-
 -- in either order of turns the same is left, and the turns are the same
 abbrev pub SameRun : List Access → List ℕ → List ℕ → Type 0
 SameRun accesses is js = (s : State) → AreAccessesOf s accesses
@@ -33,24 +31,18 @@ module _ (accesses : List Access) where
       let r = a (after_turn_of x s) (accesses_stay _ _ _ (one_turn_keeps _ _) are) in
       (r.0, IsPermutation-cons (logged_turn s x) _ _ r.1)
 
-  run_swapped : JobFootprint → (x y : ℕ) (is : List ℕ) → x < length accesses → y < length accesses → x ≢ y
-      → ¬ Conflict (access_of accesses x) (access_of accesses y)
-      → SameRun accesses (x ∷ y ∷ is) (y ∷ x ∷ is)
-  run_swapped foot x y is lx ly ne none s are =
-      let e = turns_commute foot s accesses x y are (rw (are.each) at lx) (rw (are.each) at ly) ne none in
-      let turns : List Turn = (after_turns_of is (after_turn_of y (after_turn_of x s))).turns in
-      grind (arith, e.0, e.1, e.2, IsPermutation-middle (logged_turn s x ∷ []) (logged_turn s y) turns)
-
   -- what is free of all before it moves to the front
   run_to_front : JobFootprint → (x : ℕ) (before rest : List ℕ) → x < length accesses
       → All (IsFree accesses x) before → SameRun accesses (before ++ x ∷ rest) (x ∷ before ++ rest)
-  run_to_front foot x [] rest lx free = same_run (x ∷ rest)
-  run_to_front foot x (y ∷ before) rest lx free =
+  run_to_front foot x [] rest lx free s are = same_run (x ∷ rest) s are
+  run_to_front foot x (y ∷ before) rest lx free s are =
       let here : IsFree accesses x y = free 0 y (omega arith) in
       let to_front = run_to_front foot x before rest lx (All-tail (IsFree accesses x) y before free) in
-      run_along (y ∷ before ++ x ∷ rest) (y ∷ x ∷ before ++ rest) (x ∷ y ∷ before ++ rest)
-      (run_later y (before ++ x ∷ rest) (x ∷ before ++ rest) to_front)
-      (run_swapped foot y x (before ++ rest) here.0 lx here.1 here.2)
+      let later = run_later y (before ++ x ∷ rest) (x ∷ before ++ rest) to_front s are in
+      let e = turns_commute foot s accesses y x are (rw (are.each) at here.0) (rw (are.each) at lx) here.1 here.2 in
+      let turns : List Turn = (after_turns_of (before ++ rest) (after_turn_of x (after_turn_of y s))).turns in
+      let swapped = IsPermutation-middle (logged_turn s y ∷ []) (logged_turn s x) turns in
+      grind (arith, later, e, swapped, IsPermutation-trans)
 
 -- ---- two orders of the same systems
 
@@ -102,10 +94,6 @@ module _ (foot : JobFootprint) (accesses : List Access) (P : ℕ → ℕ → Typ
         (reordered rest (c.before ++ c.rest) later others (pairs_tail (λ i j. i ≢ j) x rest once) parts.1
         (pairs_tail (λ i j. ¬ P j i) x rest a) ahead.1)))
 
--- ---- lawful orders
-
--- where each stands once, one place
-
 -- no path leads back in a lawful order
 lawful_forward : LawfulOrdersKeepPaths → (g : Graph) (who : List Bool) (order : List ℕ) → IsLawfulOrder g who order
     → Forward (Path g) order
@@ -125,8 +113,6 @@ orders_agree foot ordered keeps s accesses settled a b are is_settled la lb =
     b a (λ k d lt. (lb.of_joined _).0 (Contains-get_or b k d lt)) (λ i. grind (arith, la.of_joined i, lb.of_joined i))
     lb.once la.once (lawful_forward keeps settled (join_flags s) b lb)
     (lawful_forward keeps settled (join_flags s) a la) s are
-
--- ---- frames
 
 pub frames_agree : JobFootprint → ConflictingSystemsAreOrdered → LawfulOrdersKeepPaths → SettledOrderIsUnique
     → TurnOrderIsLawful → FramesAgreeInLawfulOrders

@@ -6,8 +6,6 @@ use Rattle.msg_frames.specs.Prelude.{Entry, Fate, Meets, MeetsOneFate, Moment, c
 use Rattle.msg_order.proofs.Elements.{Contains-range, range-Contains}
 use Rattle.msg_frames.proofs.ReaderOverJob.{IsWritten, tile_of}
 
--- ---- at one entry
-
 abbrev fate_at : Entry → ℕ → Fate
 fate_at e n = cond (nat_lt n e.stretch.first) missed (cond (is_some e.given) given cleared)
 
@@ -77,8 +75,6 @@ meets_one_fate p (m ∷ ms) q tile n low high = elim (cases_lt n (next_place m.e
         ];
       }
 ]
-
--- ---- what was missed
 
 abbrev MissesDropped : Moment → Type 0
 MissesDropped m = (n : ℕ) → Contains (numbers_at missed m.entry) n → (n < count m.history) × (¬ IsPresent m.history n)

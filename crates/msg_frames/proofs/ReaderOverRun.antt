@@ -3,15 +3,13 @@ use Rattle.std.proofs.Common.{arith, ℕ, ◌<◌, List, [], ◌∷◌, ◌++◌
 use Rattle.msg_buffer.specs.Prelude.{GoesOn, History}
 use Rattle.msg_world.specs.declared.record.Record.{Record}
 use Rattle.msg_frames.specs.Prelude.{Frame, IsRun, IsServed, IsSoundState, Log, Moment, RunsAreComplete, State, answers_in, before_turns, found_at, found_totals, frame_in, has_begun, moments, place_of, systems_in, turns_moments, Totals}
-use Rattle.msg_frames.proofs.{OneFateEach.lies_between, OneFateEach.meets_one_fate, OneFateEach.missed_are_dropped, TilesGiveInOrder.all_as_written, TilesGiveInOrder.given_in_order, TilesGiveInOrder.in_order_of, HistoriesGrow.BufferLaws, HistoriesGrow.goes_further, HistoriesGrow.runs_go_on, HistoriesGrow.stays, SystemsStay.before_keeps, SystemsStay.turns_keep, ReaderOverJob.passes_nothing, EntriesAddUp.tiles_add_up, EntriesAddUp.with_entries-none, ReaderOverTurns.Keeps, ReaderOverTurns.Reads, ReaderOverTurns.ReadsFrom, ReaderOverTurns.Tells, ReaderOverTurns.answers_among, ReaderOverTurns.no_moments, ReaderOverTurns.reads_further, ReaderOverTurns.tells_further, ReaderOverTurns.turns_read, ReaderOverTurns.turns_tell, BeforeTurns.Prepares, BeforeTurns.before_rule, BeforeTurns.comes, BeforeTurns.prepares, BeforeTurns.stood, BeforeTurns.waits, StatesStaySound.begun_alike, StatesStaySound.frame_sound, StatesStaySound.has_no_turn, StatesStaySound.prepared_sound}
+use Rattle.msg_frames.proofs.{OneFateEach.lies_between, OneFateEach.meets_one_fate, OneFateEach.missed_are_dropped, TilesGiveInOrder.all_as_written, TilesGiveInOrder.given_in_order, TilesGiveInOrder.in_order_of, HistoriesGrow.BufferLaws, HistoriesGrow.goes_further, HistoriesGrow.runs_go_on, HistoriesGrow.stays, SystemsStay.before_keeps, SystemsStay.turns_keep, ReaderOverJob.passes_nothing, EntriesAddUp.tiles_add_up, EntriesAddUp.with_entries-none, ReaderOverTurns.Keeps, ReaderOverTurns.Reads, ReaderOverTurns.ReadsFrom, ReaderOverTurns.Tells, ReaderOverTurns.answers_among, ReaderOverTurns.reads_further, ReaderOverTurns.tells_further, ReaderOverTurns.turns_read, ReaderOverTurns.turns_skip, ReaderOverTurns.turns_tell, BeforeTurns.Prepares, BeforeTurns.before_rule, BeforeTurns.comes, BeforeTurns.prepares, BeforeTurns.stood, BeforeTurns.waits, StatesStaySound.begun_alike, StatesStaySound.frame_sound, StatesStaySound.has_no_turn, StatesStaySound.prepared_sound}
 
 -- a run of frames, as one frame and then the others, from the state that the frame leaves
 pub after_first : (frame : Frame) (frames : List Frame) (s : State) (log : Log) (logs : List Log) (u : State)
     → IsRun (frame ∷ frames) s (log ∷ logs) u
     → IsRun frames (frame_in (systems_in log) frame s).state logs u
 after_first frame frames s log logs u is = rw (← is.1.leaves) is.2
-
--- ---- the entries that the logs have
 
 pub run_tells : (i t : ℕ) (frames : List Frame) (s : State) (logs : List Log) (u : State) → IsRun frames s logs u
     → Tells i t s (answers_in i logs) (moments i t frames logs s) u
@@ -64,13 +62,11 @@ module _ (laws : BufferLaws) (i t : ℕ) where
         | stood was now same ↦ rw was (rw (place_of, same) at (all now))
         | comes was now new ↦ let after = rw (place_of, new) at (all now) in rw (was, after.totals) after
         | waits was now same ↦
-            rw (was, no_moments i t (systems_in log) b (has_no_turn b (systems_in log) i is.1.in_order now))
+            rw (was, (turns_skip i t (systems_in log) b (has_no_turn b (systems_in log) i is.1.in_order now)).1)
             (reads_since i t _ _ _ _ rest u (goes_further _ _ _ goes here.passes.goes_on)
             (rw (begun_alike b m i keep ∙ now) at later))
       ]
   run_follows frames s logs u sound is below has = absurd is
-
--- ---- what a run does for a reader
 
 pub runs_are_complete : BufferLaws → RunsAreComplete
 runs_are_complete laws frames s logs u sound is = record {

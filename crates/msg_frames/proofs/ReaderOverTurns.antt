@@ -103,15 +103,9 @@ turns_tell i t (j ∷ js) s =
     (turn_tells i t j s) (turns_tell i t js (after_turn_of j s))
 
 -- one whose turn doesn't come
-pub turns_skip : (i : ℕ) (js : List ℕ) (s : State) → ¬ Contains js i → (after_turns_of js s).state.members i
-    ≡ s.members i
-turns_skip i [] s out = refl
-turns_skip i (j ∷ js) s out =
-    let rest = turns_skip i js (after_turn_of j s) (λ at. out (Contains-tail j js i at)) in
+pub turns_skip : (i t : ℕ) (js : List ℕ) (s : State) → ¬ Contains js i
+    → ((after_turns_of js s).state.members i ≡ s.members i) × (turns_moments i t js s ≡ [])
+turns_skip i t [] s out = (refl, refl)
+turns_skip i t (j ∷ js) s out =
+    let rest = turns_skip i t js (after_turn_of j s) (λ at. out (Contains-tail j js i at)) in
     grind (arith, eqb_tells j i, eqb_tells i j, Contains-head j js, rest)
-
-pub no_moments : (i t : ℕ) (js : List ℕ) (s : State) → ¬ Contains js i → turns_moments i t js s ≡ []
-no_moments i t [] s out = refl
-no_moments i t (j ∷ js) s out =
-    let rest = no_moments i t js (after_turn_of j s) (λ at. out (Contains-tail j js i at)) in
-    grind (arith, eqb_tells j i, Contains-head j js, rest)

@@ -45,8 +45,6 @@ module _ {X Y : Type 0} (key : X → ℕ) (f : X → List Y) (i : ℕ) where
       let same = list_any-IsPermutation test xs ys moved in
       grind (arith, cases_Bool (list_any test xs), some, one, other, moves, same, none_told, eqb-true)
 
--- ---- replays
-
 turns_alike : TurnOrderIsLawful → (frame : Frame) (order : List ℕ) (s : State) (log : Log) (u : State)
     (replay : IsReplay frame order s log u) (i : ℕ)
     → answers_among i log.turns ≡ answers_among i replay.settled.turns

@@ -58,15 +58,14 @@ is_within n ops cs =
 
 access_is : (n : ℕ) (ops : List Op) (cs : List Condition) → n ≤ 64 → is_within n ops cs ≡ true
     → IsAccessOf (job_needs ops cs) (access_for n (job_needs ops cs))
-access_is n ops cs few w = record {
-  reads = λ p.
-      let by_ops = any_passes (may_use false n) (λ op. (op_parts op).read) ops p in
-      let by_conditions = any_passes (may_use false n) (λ c. Some (probe_part c.probe)) cs p in
-      grind (arith, by_conditions, by_ops, cases_Bool, mask_at, nat_tests);
-  writes = λ p.
-      let by_ops = any_passes (may_use true n) (λ op. (op_parts op).written) ops p in
-      grind (arith, by_ops, cases_Bool, mask_at, nat_tests);
-}
+access_is n ops cs few w =
+    let by_ops = any_passes (may_use false n) (λ op. (op_parts op).read) ops in
+    let by_conditions = any_passes (may_use false n) (λ c. Some (probe_part c.probe)) cs in
+    let written = any_passes (may_use true n) (λ op. (op_parts op).written) ops in
+    record {
+      reads = λ p. grind (arith, by_conditions p, by_ops p, cases_Bool, mask_at, nat_tests);
+      writes = λ p. grind (arith, written p, cases_Bool, mask_at, nat_tests);
+    }
 
 -- ---- the turns of a frame
 

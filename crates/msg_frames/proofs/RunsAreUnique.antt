@@ -20,8 +20,6 @@ pub one_order : SettledOrderIsUnique → SystemsHaveOneOrder
 one_order unique s g h x y = unique x.accesses s.rules (join_flags s) g h x.is_settled
     (grind (arith, same_conflict, settles_by, x.of_systems, y.of_systems, y.is_settled))
 
--- ---- frames and runs
-
 pub order_is_among : (s : State) (g : Graph) → IsOrderOf s g → IsAmong (join_flags s) g
 order_is_among s g o = settled_joins o.accesses s.rules (join_flags s) g o.is_settled
 

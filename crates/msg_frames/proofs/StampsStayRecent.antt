@@ -10,8 +10,6 @@ use Rattle.msg_frames.proofs.HistoriesGrow.{IsKept}
 abbrev pub AreRecent : ℕ → ℕ → History Record → Type 0
 AreRecent k p h = (n : ℕ) (e : Entry Record) → p ≤ n → slice_get h.entries n ≡ Some e → h.updates ≤ e.stamp + k
 
--- ---- histories
-
 at_append : (xs ys : List (Entry Record)) (n : ℕ) (e : Entry Record) → slice_get (xs ++ ys) n ≡ Some e
     → (slice_get xs n ≡ Some e) ⊎ ((m : ℕ) × (slice_get ys m ≡ Some e))
 at_append [] ys n e at = inr (n, at)

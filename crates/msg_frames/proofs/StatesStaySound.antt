@@ -4,8 +4,6 @@ use Rattle.std.proofs.lemmas.{Bool.false≢true, List.FromFn.get_or-map-range_wi
 use Rattle.msg_frames.specs.Prelude.{Frame, IsBalanced, IsFrame, IsRun, IsSoundState, IsTurnOrderOf, Log, Member, State, after_turns_of, before_turns, counts, has_begun, joined_member, place_of, systems_in, turns_moments}
 use Rattle.msg_frames.proofs.{HistoriesGrow.BufferLaws, HistoriesGrow.counts_more, SystemsStay.turns_keep, SystemsStay.joined_below, EntriesAddUp.stays_balanced, ReaderOverTurns.Keeps, ReaderOverTurns.Reads, ReaderOverTurns.turns_read, ReaderOverTurns.turns_skip, BeforeTurns.Prepares, BeforeTurns.begun_within, BeforeTurns.comes, BeforeTurns.prepares, BeforeTurns.stood, BeforeTurns.waits}
 
--- ---- who has a turn
-
 -- one that waits has no turn
 pub has_no_turn : (b : State) (order : List ℕ) (i : ℕ) → IsTurnOrderOf b order → IsFalse (has_begun b i)
     → ¬ Contains order i
@@ -15,8 +13,6 @@ has_no_turn b order i ordered isnt at =
 pub begun_alike : (b u : State) (i : ℕ) → Keeps b u → has_begun u i ≡ has_begun b i
 begun_alike b u i keep = ap₂ (λ j n. nat_le j (max 1 n)) (keep.0.members i).join keep.1
 
--- ---- before the turns
-
 pub balanced_start : (m : Member) (counts : List ℕ) (t : ℕ)
     → IsBalanced ((joined_member counts m).totals t) ((joined_member counts m).job.system.places t)
 balanced_start m counts t =
@@ -25,8 +21,6 @@ balanced_start m counts t =
 module _ (s b : State) (sound : IsSoundState s) (prep : Prepares s b) where
   pub prepared_sound : IsSoundState b
   prepared_sound = grind (arith, balanced_start, begun_within, comes, counts_more, false≢true, stood, waits)
-
--- ---- the turns, frames and runs
 
 module _ (laws : BufferLaws) where
   pub frame_sound : (frame : Frame) (s : State) (log : Log) (u : State) → IsSoundState s → IsFrame frame s log u
@@ -46,7 +40,7 @@ module _ (laws : BufferLaws) where
         joins = λ i. grind (arith, keep.0.members i, sound.joins i);
         writers = λ i below. grind (arith, keep.0.members i, keep.0.systems, sound.writers i);
         waiting = λ i t isnt.
-            let skips = turns_skip i order b in
+            let skips = turns_skip i t order b in
             grind (arith, begun_alike b _ i keep, has_no_turn b order i is.in_order, isnt, skips, sound.waiting i t);
         balanced = λ i t below has.
             let more = stays_balanced ((b.members i).totals t) (place_of b i t) (turns_moments i t order b) in

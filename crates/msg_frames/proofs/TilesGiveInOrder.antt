@@ -65,8 +65,6 @@ read_range [] a (suc n) below = grind arith
 read_range (d ∷ es) a (suc n) below =
     grind (arith, slice_get-get_or (d ∷ es) a d, drop_more (d ∷ es) a d, read_range (d ∷ es) (a + 1) n)
 
--- ---- the messages of an entry
-
 module _ (h last : History Record) (s : Stretch) (goes : GoesOn h last) (written : next_place s ≤ count h) where
   given_as_written : (o : Option (List Record)) → IfSome o (λ items. items ≡ messages_of h s)
       → map (message_numbered last) (cond (is_some o) (range_with_len s.first s.number) []) ≡ map Some (unwrap_or o [])
@@ -75,8 +73,6 @@ module _ (h last : History Record) (s : Stretch) (goes : GoesOn h last) (written
       rw (gives, messages_are h last s goes written)
       (read_range last.entries s.first s.number
       (omega (arith, ap length goes.entries, length-append h.entries goes.more)))
-
--- ---- the messages of all entries
 
 module _ (last : History Record) where
   pub all_as_written : (ms : List Moment) → All GivesItsStretch ms → All (λ m. GoesOn m.history last) ms

@@ -7,8 +7,6 @@ use Rattle.msg_system.specs.Prelude.{HasFootprint, IsAccessOf, JobFootprint, Nee
 use Rattle.msg_system.proofs.Accesses.{uses_needs}
 use Rattle.msg_frames.specs.Prelude.{AfterTurn, Member, Outcome, State, TurnsOfOthersCommute, after_turn_of, member_turn, needs_of, turn_of}
 
--- ---- worlds and states
-
 -- worlds with the same parts are the same
 pub same_world : (v w : WorldState) → ((p : Part) → content p v ≡ content p w) → v ≡ w
 same_world v w e = λ k. record {
@@ -17,8 +15,6 @@ same_world v w e = λ k. record {
   marks = e Registry k;
 }
 
--- ---- apart
-
 -- neither writes what the other needs
 pub record Apart (m n : Needs) : Type 0 where
   pub left : (p : Part) → IsTrue (needs_any n p) → m.writes p ≡ false
@@ -26,8 +22,6 @@ pub record Apart (m n : Needs) : Type 0 where
 
 pub apart : (m n : Needs) (a b : Access) → IsAccessOf m a → IsAccessOf n b → ¬ Conflict a b → Apart m n
 apart m n a b ma nb none = grind (arith, and_from, cases_Bool, uses_needs)
-
--- ---- turns
 
 -- what a turn gives beside the world
 abbrev pub given_by_turn : AfterTurn → Member × Outcome
