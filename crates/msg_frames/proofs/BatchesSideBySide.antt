@@ -51,7 +51,7 @@ module _ (foot : JobFootprint) (accesses : List Access) (start : State) (are : A
   from_start (i ∷ is) s below once none same =
       let here : Untouched start s i = same 0 i (omega arith) in
       let li : i < start.systems = below 0 i (omega arith) in
-      let rest = from_start is (after_turn_of i s) (λ k d lt. below (suc k) d (omega arith))
+      let rest = from_start is (after_turn_of i s) (All-tail (λ i. i < start.systems) i is below)
       (pairs_tail (λ i j. i ≢ j) i is once)
       (pairs_tail (λ i j. ¬ Conflict (access_of accesses i) (access_of accesses j)) i is none)
       (λ k d lt. still s i (slice_index_or is k d) li (below (suc k) d (omega arith))

@@ -52,16 +52,12 @@ module _ (R : History Record → History Record → Type 0) (kept : IsKept R) wh
   one_changes : (w : WorldState) (u : ℕ) (h : History Record) → R (w.histories u) h → InEach R w (with_history w u h)
   one_changes w u h r t = grind (arith, eqb_tells, kept.same (w.histories t))
 
-  write_changes : (w : WorldState) (t : ℕ) (ms : List Record)
-      → InEach R w (with_history w t (write ms (w.histories t)))
-  write_changes w t ms = one_changes w t _ (kept.written (w.histories t) ms)
-
   pub op_changes : (op : Op) (writer : ℕ) (places : ℕ → ℕ) (w : WorldState)
       → InEach R w (after_op op writer places w).state
-  op_changes (Write t v) writer places w = write_changes w t (by writer v ∷ [])
-  op_changes (Batch t vs) writer places w = write_changes w t (map (by writer) vs)
+  op_changes (Write t v) writer places w = one_changes w t _ (kept.written _ (by writer v ∷ []))
+  op_changes (Batch t vs) writer places w = one_changes w t _ (kept.written _ (map (by writer) vs))
   op_changes (Forward t u) writer places w =
-      write_changes w u (again_by writer (took (w.histories t) (places t) None).items)
+      one_changes w u _ (kept.written _ (again_by writer (took (w.histories t) (places t) None).items))
   op_changes (Drain t) writer places w = one_changes w t _ (kept.drained (w.histories t))
   op_changes op writer places w = λ t. kept.same _
 
@@ -89,7 +85,7 @@ module _ (R : History Record → History Record → Type 0) (kept : IsKept R) wh
   posts_change [] w t = kept.same _
   posts_change (p ∷ ps) w t =
       let next = with_history w p.0 (write (by _ p.1 ∷ []) (w.histories p.0)) in
-      kept.further _ _ _ (write_changes w p.0 (by _ p.1 ∷ []) t) (posts_change ps next t)
+      kept.further _ _ _ (one_changes w p.0 _ (kept.written _ (by _ p.1 ∷ [])) t) (posts_change ps next t)
 
 -- ---- sound histories go on
 

@@ -9,19 +9,15 @@ use Rattle.msg_frames.proofs.ReaderOverJob.{IsWritten, tile_of}
 abbrev fate_at : Entry → ℕ → Fate
 fate_at e n = cond (nat_lt n e.stretch.first) missed (cond (is_some e.given) given cleared)
 
--- the entry begins at this place
-abbrev BeginsAt : ℕ → Entry → Type 0
-BeginsAt place e = e.stretch.first ≡ place + e.stretch.missed
-
 -- a number that met a fate at an entry lies there, and met no other
-fate_of : (fate : Fate) (e : Entry) (n place : ℕ) → BeginsAt place e → Contains (numbers_at fate e) n → (place ≤ n)
+fate_of : (fate : Fate) (e : Entry) (n place : ℕ) → e.stretch.first ≡ place + e.stretch.missed → Contains (numbers_at fate e) n → (place ≤ n)
     × (n < next_place e.stretch) × (fate_at e n ≡ fate)
 fate_of missed e n place begins c = grind (arith, nat_tests, range-Contains _ _ _ c)
 fate_of fate e n place begins c =
     grind (arith, cases_Bool (is_some e.given), nat_tests, range-Contains e.stretch.first e.stretch.number n)
 
 -- and each number there met one
-has_fate : (e : Entry) (n place : ℕ) → BeginsAt place e → place ≤ n → n < next_place e.stretch
+has_fate : (e : Entry) (n place : ℕ) → e.stretch.first ≡ place + e.stretch.missed → place ≤ n → n < next_place e.stretch
     → Contains (numbers_at (fate_at e n) e) n
 has_fate e n place begins low high =
     let before = Contains-range (e.stretch.first - e.stretch.missed) e.stretch.missed n in

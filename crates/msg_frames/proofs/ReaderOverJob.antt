@@ -65,15 +65,6 @@ GoesPast t ps w ms qs v = IsSound (w.histories t) → ps t ≤ count (w.historie
     → Passes (ps t) (w.histories t) ms (qs t) (v.histories t)
 
 module _ (laws : BufferLaws) where
-  read_passes : (h b : History Record) (place : ℕ) (limit : Option ℕ) → IsSound h → place ≤ count h → GoesOn h b
-      → Passes place h (record { history = h; entry = entry_of_read (took h place limit) } ∷ [])
-      (next_place (read h place limit)) b
-  read_passes h b place limit sound within goes =
-      let law = laws.reads h place limit sound in
-      rw (length-map (given h place limit) message_of)
-      (passes_one place h (record { stretch = read h place limit; given = Some _ }) b law.0 (law.2 within)
-      (ap (map message_of) law.1) goes)
-
   module _ (t : ℕ) where
     -- an op that reads type u
     of_type : (u : ℕ) (w : WorldState) (v : History Record) (ps : ℕ → ℕ) (e : Entry) (q : ℕ)
@@ -87,7 +78,11 @@ module _ (laws : BufferLaws) where
         → GoesPast t ps w (moments_if u t w (entry_of_read (took (w.histories u) (ps u) limit)))
         (with_place ps u (next_place (read (w.histories u) (ps u) limit))) v
     of_read u w v ps limit grows sound within =
-        of_type u w _ ps _ _ within (grows sound) (λ e. rw e (read_passes _ _ _ limit sound within (grows sound)))
+        let h : History Record = w.histories t in
+        let law = laws.reads h (ps t) limit sound in
+        of_type u w _ ps _ _ within (grows sound) (λ e. rw (e, length-map (given h (ps t) limit) message_of)
+        (passes_one (ps t) h (record { stretch = read h (ps t) limit; given = Some _ }) _ law.0 (law.2 within)
+        (ap (map message_of) law.1) (grows sound)))
 
     pub next_passes : (o : Option Op) (writer : ℕ) (far : AfterProgram) →
         let more = one_more o writer far in

@@ -5,12 +5,6 @@ use Rattle.msg_world.specs.declared.record.Record.{Record}
 use Rattle.msg_frames.specs.Prelude.{Frame, IsRun, IsServed, IsSoundState, Log, Moment, RunsAreComplete, State, answers_in, before_turns, found_at, found_totals, frame_in, has_begun, moments, place_of, systems_in, turns_moments, Totals}
 use Rattle.msg_frames.proofs.{OneFateEach.lies_between, OneFateEach.meets_one_fate, OneFateEach.missed_are_dropped, TilesGiveInOrder.all_as_written, TilesGiveInOrder.given_in_order, TilesGiveInOrder.in_order_of, HistoriesGrow.BufferLaws, HistoriesGrow.goes_further, HistoriesGrow.runs_go_on, HistoriesGrow.stays, SystemsStay.before_keeps, SystemsStay.turns_keep, ReaderOverJob.passes_nothing, EntriesAddUp.tiles_add_up, EntriesAddUp.with_entries-none, ReaderOverTurns.Keeps, ReaderOverTurns.Reads, ReaderOverTurns.ReadsFrom, ReaderOverTurns.Tells, ReaderOverTurns.answers_among, ReaderOverTurns.reads_further, ReaderOverTurns.tells_further, ReaderOverTurns.turns_read, ReaderOverTurns.turns_skip, ReaderOverTurns.turns_tell, BeforeTurns.Prepares, BeforeTurns.before_rule, BeforeTurns.comes, BeforeTurns.prepares, BeforeTurns.stood, BeforeTurns.waits, StatesStaySound.begun_alike, StatesStaySound.frame_sound, StatesStaySound.has_no_turn, StatesStaySound.prepared_sound}
 
--- a run of frames, as one frame and then the others, from the state that the frame leaves
-pub after_first : (frame : Frame) (frames : List Frame) (s : State) (log : Log) (logs : List Log) (u : State)
-    → IsRun (frame ∷ frames) s (log ∷ logs) u
-    → IsRun frames (frame_in (systems_in log) frame s).state logs u
-after_first frame frames s log logs u is = rw (← is.1.leaves) is.2
-
 pub run_tells : (i t : ℕ) (frames : List Frame) (s : State) (logs : List Log) (u : State) → IsRun frames s logs u
     → Tells i t s (answers_in i logs) (moments i t frames logs s) u
 run_tells i t [] s [] u is = grind arith
@@ -20,7 +14,7 @@ run_tells i t (frame ∷ frames) s (log ∷ logs) u is =
     let needs = ((before_keeps frame.posts s).members i).needs in
     tells_further i t s _ _ _ _ _ u
     (grind (arith, is.1.tells, before_rule frame.posts s i, needs, told))
-    (run_tells i t frames _ logs u (after_first frame frames s log logs u is))
+    (run_tells i t frames (frame_in (systems_in log) frame s).state logs u (rw (← is.1.leaves) is.2))
 run_tells i t frames s logs u is = absurd is
 
 -- ---- a reader that joins in the run, or had joined
@@ -48,12 +42,11 @@ module _ (laws : BufferLaws) (i t : ℕ) where
       let keep : Keeps b m = turns_keep (systems_in log) b in
       let ready : IsSoundState b = prepared_sound s b sound prep in
       let under : t < b.types = rw (prep.same.types) below in
-      let here : Reads i t b ms m =
-      turns_read laws i t (systems_in log) b (ready.histories t under) (ready.places i t under) in
+      let here = turns_read laws i t (systems_in log) b (ready.histories t under) (ready.places i t under) in
       let goes : GoesOn (s.world.histories t) (b.world.histories t) = prep.world t (sound.histories t below) in
       let later : Follows i t m rest u =
       run_follows frames m logs u (rw (is.1.leaves) at (frame_sound laws frame s log is.0 sound is.1))
-      (after_first frame frames s log logs u is) (rw (keep.0.types) under) has in
+      (rw (← is.1.leaves) is.2) (rw (keep.0.types) under) has in
       let all : IsTrue (has_begun b i) → ReadsFrom i t (place_of b i t) ((b.members i).totals t)
       (s.world.histories t) (ms ++ rest) u =
       λ now. reads_since i t _ _ _ _ (ms ++ rest) u goes

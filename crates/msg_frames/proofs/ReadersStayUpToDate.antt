@@ -35,10 +35,6 @@ tile_misses_none p place (m ∷ ms) to tile written there above =
     All-cons (λ m. m.entry.stretch.missed ≡ 0) m ms (grind (arith, here, there 0 m (omega arith), above))
     (rest (λ k d lt. there (suc k) d (omega arith)) (omega (arith, tile.0.first)))
 
-none_yet_updated : (p t : ℕ) (w : WorldState) → count (w.histories t) ≤ p → AreRecent 0 p ((after_update w).histories t)
-none_yet_updated p t w less n e above at =
-    let within = slice_get_within ((after_update w).histories t).entries n e at in grind (arith, cases_Bool, within)
-
 module _ (laws : BufferLaws) where
   module _ (frame : Frame) (s : State) (log : Log) (u : State) (i t : ℕ) (sound : IsSoundState s)
       (is : IsFrame frame s log u) (below : t < s.types) where
@@ -79,7 +75,12 @@ module _ (laws : BufferLaws) where
         let p : ℕ = count (s.world.histories t) in
         let had = has_frame_before reads in
         is_there p (update (u.world.histories t)) n
-        (λ m e after at. omega (arith, frame_recent 0 p (none_yet_updated p t s.world (omega arith)) m e after at))
+        (λ m e after at. omega (
+          arith,
+          frame_recent 0 p
+              (λ k f from is. grind (arith, cases_Bool, slice_get_within ((after_update s.world).histories t).entries k f is))
+              m e after at,
+        ))
         (omega arith) (omega (arith, drained, (sound.histories t below).floor)) within
 
     present_at : (ms : List Moment) → IsUpToDate s i t → NothingDrained t s u
