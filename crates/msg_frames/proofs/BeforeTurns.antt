@@ -20,11 +20,7 @@ pub record Prepares (s b : State) : Type 0 where
   pub arrival : (i : ℕ) → Arrival s b i
 
 pub prepares : OnlyGrows Record → (posts : List (ℕ × ℤ)) (s : State) → Prepares s (before_turns posts s)
-prepares grow posts s = record {
-  same = before_keeps posts s;
-  world = before_goes_on grow posts s;
-  arrival = λ i. grind (arith, cases_Bool, nat_tests);
-}
+prepares grow posts s = grind (arith, before_keeps posts s, before_goes_on grow posts s, cases_Bool, nat_tests)
 
 pub begun_within : (s : State) (i t : ℕ) → t < s.types → place_of s i t ≤ count (s.world.histories t)
     → (joined_member (counts s) (s.members i)).job.system.places t ≤ count (s.world.histories t)

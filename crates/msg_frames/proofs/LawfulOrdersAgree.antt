@@ -122,8 +122,5 @@ frames_agree foot ordered keeps one is_lawful frame s u log settled order x is_o
     let own = is_lawful settled (join_flags b) (systems_in log) (order_is_among _ _ is_order)
     (rw same at x.in_order.in_order) in
     let agree = orders_agree foot ordered keeps b is_order.accesses settled order
-    (systems_in log) is_order.of_systems is_order.is_settled lawful own in (
-      agree.0 ∙ sym x.leaves,
-      ap (λ (l : Log). l.posts) (sym x.tells),
-      rw (x.tells) (agree.1),
-    )
+    (systems_in log) is_order.of_systems is_order.is_settled lawful own in
+    grind (arith, agree, x.leaves, x.tells)

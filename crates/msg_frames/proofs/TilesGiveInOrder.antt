@@ -99,8 +99,7 @@ pub in_order_of : (writer p : ℕ) (ms : List Moment) (q : ℕ) (last : History 
     → All GivesItsStretch ms → All (λ m. GoesOn m.history last) ms → All IsWritten ms
     → IsInOrderOf writer (entries_of ms) last
 in_order_of writer p ms q last tile gives goes written = record {
-  as_written = of_one_kind (message_numbered last) (λ m. m.writer == writer) (numbers_of given (entries_of ms))
-      (messages_given (entries_of ms))
+  as_written = of_one_kind (message_numbered last) (λ m. m.writer == writer) _ _
       (all_as_written last ms gives goes written);
   in_order = IsStrictlyIncreasing-filter (is_by writer last) _ (given_in_order p ms q tile);
 }
