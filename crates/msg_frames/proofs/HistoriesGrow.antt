@@ -19,15 +19,7 @@ pub buffer_laws : OnlyGrows Record → ReadsFit Record → ClearsFit Record → 
 buffer_laws grow reads clears = record { grow = grow; reads = reads; clears = clears }
 
 pub stays : (h : History Record) → IsSound h → GoesOn h h
-stays h sound =
-    record {
-      more = [];
-      entries = sym (append-nil h.entries);
-      limit = refl;
-      updates = omega arith;
-      floor = omega arith;
-      sound = sound;
-    }
+stays h sound = grind (arith, append-nil h.entries)
 
 pub goes_further : (a b c : History Record) → GoesOn a b → GoesOn b c → GoesOn a c
 goes_further a b c x y = grind (arith, append_assoc)
@@ -98,12 +90,7 @@ WorldGoesOn w v = InEach Grows w v
 
 module _ (grow : OnlyGrows Record) where
   pub grown : IsKept Grows
-  grown = record {
-    same = stays;
-    further = λ a b c x y sound. goes_further a b c (x sound) (y (x sound).sound);
-    written = λ h ms sound. (grow h sound).0 ms;
-    drained = λ h sound. (grow h sound).2;
-  }
+  grown = grind (arith, stays, goes_further, grow)
 
   pub before_goes_on : (posts : List (ℕ × ℤ)) (s : State) → WorldGoesOn s.world (before_turns posts s).world
   before_goes_on posts s =

@@ -26,12 +26,7 @@ abbrev pub StaysRecent : ℕ → ℕ → History Record → History Record → T
 StaysRecent k p a b = AreRecent k p a → AreRecent k p b
 
 pub stays_recent : (k p : ℕ) → IsKept (StaysRecent k p)
-stays_recent k p = record {
-  same = λ h recent. recent;
-  further = λ a b c x y recent. y (x recent);
-  written = λ h ms recent. grind (arith, at_append, cases_Bool, stamp_of);
-  drained = λ h recent. recent;
-}
+stays_recent k p = grind (arith, at_append, cases_Bool, stamp_of)
 
 -- so they were in a history that went on
 pub earlier_recent : (k p : ℕ) (a b : History Record) → GoesOn a b → AreRecent k p b → AreRecent k p a
