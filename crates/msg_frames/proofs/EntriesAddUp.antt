@@ -28,7 +28,7 @@ with_clear gone first n x = grind (arith, length-append, length-range_with_len)
 pub tiles_add_up : (p : ℕ) (ms : List Moment) (q : ℕ) → Tile p (map tile_of ms) q
     → p + length (numbers_of given (map (λ m. m.entry) ms)) + length
     (numbers_of missed (map (λ m. m.entry) ms)) + length (numbers_of cleared (map (λ m. m.entry) ms)) ≡ q
-tiles_add_up p [] q tile = let same : p ≡ q = tile in omega arith
+tiles_add_up p [] q tile = grind arith
 tiles_add_up p (m ∷ ms) q tile =
     let rest = tiles_add_up (next_place m.entry.stretch) ms q tile.1 in
     grind (arith, cases_Bool, length-append, length-range_with_len, rest)

@@ -93,11 +93,9 @@ module _ (grow : OnlyGrows Record) where
   grown = grind (arith, stays, goes_further, grow)
 
   pub before_goes_on : (posts : List (ℕ × ℤ)) (s : State) → WorldGoesOn s.world (before_turns posts s).world
-  before_goes_on posts s =
-      let update : WorldGoesOn s.world (after_update s.world) =
-      λ t sound. grind (arith, cases_Bool, stays (s.world.histories t) sound, grow (s.world.histories t) sound) in
-      rw (joining_world s)
-      (λ t. grown.further _ _ _ (update t) (posts_change Grows grown posts (after_update s.world) t))
+  before_goes_on posts s t sound =
+      let posted = posts_change Grows grown posts (after_update s.world) t in
+      grind (arith, joining_world s, cases_Bool, stays, grow (s.world.histories t) sound, posted, goes_further)
 
   pub frame_goes_on : (order : List ℕ) (frame : Frame) (s : State)
       → WorldGoesOn s.world (frame_in order frame s).state.world

@@ -51,11 +51,9 @@ programs_read_all grow in_order frame s log u i t program writer places is there
     before_stays in_order program writer few grow frame.posts s i (places, was) in
     let stays : IsProgram in_order program writer few (u.members i).job =
     rw (is.leaves) (turns_stay in_order program writer few i (systems_in log) b ready) in
-    let now : IsTrue (has_begun b i) = grind (arith, false≢true, prep.arrival i) in
-    let joins : has_joined (join_flags b) i ≡ has_begun b i =
-    get_or-map-range_with_len (has_begun b) 0 b.systems i i false (rw (prep.same.systems) there) (omega arith) in (
+    let joins = get_or-map-range_with_len (has_begun b) 0 b.systems i i false (rw (prep.same.systems) there) in (
       record {
-        has_turn = (is.in_order.in_order.of_joined i).1 (joins ∙ now);
+        has_turn = grind (arith, is.in_order.in_order.of_joined i, joins, false≢true, prep.arrival i);
         ran = rw (is.tells) (turns_ran in_order program writer few i (systems_in log) b ready);
         read_all = rw (stays.1) reads;
       },

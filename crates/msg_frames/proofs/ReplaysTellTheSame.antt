@@ -49,12 +49,11 @@ turns_alike : TurnOrderIsLawful → (frame : Frame) (order : List ℕ) (s : Stat
     (replay : IsReplay frame order s log u) (i : ℕ)
     → answers_among i log.turns ≡ answers_among i replay.settled.turns
 turns_alike lawful frame order s log u replay i =
-    let b : State = before_turns frame.posts s in
     let settled = replay.is_frame.in_order in
+    let other = lawful settled.settled (join_flags (before_turns frame.posts s)) (systems_in replay.settled)
+    (order_is_among _ _ settled.is_order) settled.in_order in
     told_alike (λ (turn : Turn). turn.system) (λ (turn : Turn). answers _) i log.turns replay.settled.turns replay.turns
-    (rw (replay.in_order) (replay.lawful.lawful.once))
-    (lawful settled.settled (join_flags b) (systems_in replay.settled)
-    (order_is_among _ _ settled.is_order) settled.in_order).once
+    (rw (replay.in_order) (replay.lawful.lawful.once)) other.once
 
 pub replay_tells : TurnOrderIsLawful → ReplaysTellTheSame
 replay_tells lawful frame order s log u replay i = ap (λ xs. xs ++ []) (turns_alike lawful frame order s log u replay i)

@@ -15,8 +15,7 @@ begun_alike b u i keep = ap₂ (λ j n. nat_le j (max 1 n)) (keep.0.members i).j
 
 pub balanced_start : (m : Member) (counts : List ℕ) (t : ℕ)
     → IsBalanced ((joined_member counts m).totals t) ((joined_member counts m).job.system.places t)
-balanced_start m counts t =
-    record { begin = (joined_member counts m).job.system.places t; start = refl; adds_up = omega arith }
+balanced_start m counts t = grind arith
 
 module _ (s b : State) (sound : IsSoundState s) (prep : Prepares s b) where
   pub prepared_sound : IsSoundState b
@@ -40,8 +39,8 @@ module _ (laws : BufferLaws) where
         joins = λ i. grind (arith, keep.0.members i, sound.joins i);
         writers = λ i below. grind (arith, keep.0.members i, keep.0.systems, sound.writers i);
         waiting = λ i t isnt.
-            let skips = turns_skip i t order b in
-            grind (arith, begun_alike b _ i keep, has_no_turn b order i is.in_order, isnt, skips, sound.waiting i t);
+            let out = has_no_turn b order i is.in_order in
+            grind (arith, begun_alike b _ i keep, out, isnt, turns_skip i t order b, sound.waiting i t);
         balanced = λ i t below has.
             let more = stays_balanced ((b.members i).totals t) (place_of b i t) (turns_moments i t order b) in
             grind (arith, reads i t below, sound.balanced i t, begun_alike b u i keep, more, keep.0.types);

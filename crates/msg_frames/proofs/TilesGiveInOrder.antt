@@ -3,6 +3,7 @@ use Rattle.std.proofs.Common.{◌≡◌, ℕ, zero, suc, ◌+◌, ◌≤◌, ◌
 use Rattle.std.specs.{List.range_with_len, List.enumerate_from, List.Sorted.IsStrictlyIncreasing}
 use Rattle.std.proofs.lemmas.{Bool.cases_Bool, List.drop-append-le, List.drop-map, List.drop_more, List.Elements.All-head, List.Elements.All-tail, List.length-append, List.length-drop, List.map-append, List.take-append-le, List.take-map, Option.slice_get-get_or, List.Kept.IsStrictlyIncreasing-filter}
 use Rattle.msg_buffer.specs.Prelude.{Entry as Written, GoesOn, History, Stretch, Tile, count, instance_of, message_of, next_place}
+use Rattle.msg_buffer.proofs.Numbers.{instances-numbered, messages-numbered}
 use Rattle.msg_world.specs.declared.record.Record.{Record}
 use Rattle.msg_frames.specs.Prelude.{GivesItsStretch, IsInOrderOf, Moment, given, is_by, message_numbered, messages_given, messages_of, numbers_of}
 use Rattle.msg_frames.proofs.{OneFateEach.entries_of, ReaderOverJob.IsWritten, ReaderOverJob.tile_of}
@@ -44,18 +45,13 @@ given_in_order p ms q tile = is_increasing p _ (numbers_rise p ms q tile)
 abbrev message_in : Written Record → Record
 message_in e = e.message
 
-messages_in_instances : (n : ℕ) (es : List (Written Record)) → map message_of (map instance_of (enumerate_from n es))
-    ≡ map message_in es
-messages_in_instances n [] = refl
-messages_in_instances n (e ∷ es) = ap (λ ms. e.message ∷ ms) (messages_in_instances (n + 1) es)
-
 -- those of a stretch, among the entries of a later history: they stay where they are
 messages_are : (h last : History Record) (s : Stretch) → GoesOn h last → next_place s ≤ count h → messages_of h s
     ≡ map message_in (take s.number (drop s.first last.entries))
 messages_are h last s goes written =
     let stay : take s.number (drop s.first last.entries) ≡ take s.number (drop s.first h.entries) =
     grind (arith, drop-append-le, length-drop, take-append-le) in
-    simp (stay, ← take-map, ← drop-map, messages_in_instances)
+    simp (stay, ← take-map, ← drop-map, instances-numbered, messages-numbered)
 
 read_range : (es : List (Written Record)) (a n : ℕ) → a + n ≤ length es
     → map (λ k. option_map message_in (slice_get es k)) (range_with_len a n)
