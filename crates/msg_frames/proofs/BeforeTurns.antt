@@ -25,9 +25,3 @@ prepares grow posts s = grind (arith, before_keeps posts s, before_goes_on grow 
 pub begun_within : (s : State) (i t : ℕ) → t < s.types → place_of s i t ≤ count (s.world.histories t)
     → (joined_member (counts s) (s.members i)).job.system.places t ≤ count (s.world.histories t)
 begun_within s i t below within = grind (arith, cases_Bool, get_or-map-range_with_len, unwrap_or-slice_get)
-
--- ---- what a system does stays as it was
-
-pub before_rule : (posts : List (ℕ × ℤ)) (s : State) (i : ℕ) → ((before_turns posts s).members i).job.system.rule
-    ≡ (s.members i).job.system.rule
-before_rule posts s i = grind (arith, cases_Bool)

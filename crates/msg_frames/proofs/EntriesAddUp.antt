@@ -32,7 +32,3 @@ tiles_add_up p [] q tile = grind arith
 tiles_add_up p (m ∷ ms) q tile =
     let rest = tiles_add_up (next_place m.entry.stretch) ms q tile.1 in
     grind (arith, cases_Bool, length-append, length-range_with_len, rest)
-
-pub stays_balanced : (x : Totals) (p : ℕ) (ms : List Moment) (q : ℕ) → IsBalanced x p → Tile p (map tile_of ms) q
-    → IsBalanced (with_entries (map (λ m. m.entry) ms) x) q
-stays_balanced x p ms q balanced tile = grind (arith, tiles_add_up)

@@ -20,9 +20,6 @@ abbrev pub IsFree : List Access → ℕ → ℕ → Type 0
 IsFree accesses x y = (y < length accesses) × (y ≢ x) × ¬ Conflict (access_of accesses y) (access_of accesses x)
 
 module _ (accesses : List Access) where
-  same_run : (is : List ℕ) → SameRun accesses is is
-  same_run is s are = (refl, IsPermutation-refl (after_turns_of is s).turns)
-
   run_along : (is js ks : List ℕ) → SameRun accesses is js → SameRun accesses js ks → SameRun accesses is ks
   run_along is js ks a b s are = ((a s are).0 ∙ (b s are).0, IsPermutation-trans _ _ _ (a s are).1 (b s are).1)
 
@@ -34,7 +31,7 @@ module _ (accesses : List Access) where
   -- what is free of all before it moves to the front
   run_to_front : JobFootprint → (x : ℕ) (before rest : List ℕ) → x < length accesses
       → All (IsFree accesses x) before → SameRun accesses (before ++ x ∷ rest) (x ∷ before ++ rest)
-  run_to_front foot x [] rest lx free s are = same_run (x ∷ rest) s are
+  run_to_front foot x [] rest lx free s are = (refl, IsPermutation-refl (after_turns_of (x ∷ rest) s).turns)
   run_to_front foot x (y ∷ before) rest lx free s are =
       let here : IsFree accesses x y = free 0 y (omega arith) in
       let to_front = run_to_front foot x before rest lx (All-tail (IsFree accesses x) y before free) in
@@ -71,7 +68,7 @@ module _ (foot : JobFootprint) (accesses : List Access) (P : ℕ → ℕ → Typ
     pub reordered : (settled order : List ℕ) → All J settled → ((i : ℕ) → Contains order i ↔ Contains settled i)
         → AllPairs (λ i j. i ≢ j) settled → AllPairs (λ i j. i ≢ j) order → Forward P settled → Forward P order
         → SameRun accesses order settled
-    reordered [] [] all same once once' a b = same_run accesses []
+    reordered [] [] all same once once' a b = λ s are. (refl, IsPermutation-refl [])
     reordered [] (y ∷ ys) all same once once' a b = absurd (not_in_none y ((same y).0 (Contains-head y ys)))
     reordered (x ∷ rest) order all same once once' a b =
         let c : Cut order x = cut order x ((same x).1 (Contains-head x rest)) in

@@ -2,7 +2,7 @@
 use Rattle.std.proofs.Common.{◌≡◌, ℕ, ◌<◌, max, List, [], ◌∷◌, Contains, refl, sym, ap₂, ◌∙◌, arith, IsFalse, nat_le}
 use Rattle.std.proofs.lemmas.{Bool.false≢true, List.FromFn.get_or-map-range_with_len}
 use Rattle.msg_frames.specs.Prelude.{Frame, IsBalanced, IsFrame, IsRun, IsSoundState, IsTurnOrderOf, Log, Member, State, after_turns_of, before_turns, counts, has_begun, joined_member, place_of, systems_in, turns_moments}
-use Rattle.msg_frames.proofs.{HistoriesGrow.BufferLaws, HistoriesGrow.counts_more, SystemsStay.turns_keep, SystemsStay.joined_below, EntriesAddUp.stays_balanced, ReaderOverTurns.Keeps, ReaderOverTurns.Reads, ReaderOverTurns.turns_read, ReaderOverTurns.turns_skip, BeforeTurns.Prepares, BeforeTurns.begun_within, BeforeTurns.comes, BeforeTurns.prepares, BeforeTurns.stood, BeforeTurns.waits}
+use Rattle.msg_frames.proofs.{HistoriesGrow.BufferLaws, HistoriesGrow.counts_more, SystemsStay.turns_keep, SystemsStay.joined_below, EntriesAddUp.tiles_add_up, ReaderOverTurns.Keeps, ReaderOverTurns.Reads, ReaderOverTurns.turns_read, ReaderOverTurns.turns_skip, BeforeTurns.Prepares, BeforeTurns.begun_within, BeforeTurns.comes, BeforeTurns.prepares, BeforeTurns.stood, BeforeTurns.waits}
 
 -- one that waits has no turn
 pub has_no_turn : (b : State) (order : List ℕ) (i : ℕ) → IsTurnOrderOf b order → IsFalse (has_begun b i)
@@ -42,7 +42,7 @@ module _ (laws : BufferLaws) where
             let out = has_no_turn b order i is.in_order in
             grind (arith, begun_alike b _ i keep, out, isnt, turns_skip i t order b, sound.waiting i t);
         balanced = λ i t below has.
-            let more = stays_balanced ((b.members i).totals t) (place_of b i t) (turns_moments i t order b) in
+            let more = tiles_add_up (place_of b i t) (turns_moments i t order b) (place_of u i t) in
             grind (arith, reads i t below, sound.balanced i t, begun_alike b u i keep, more, keep.0.types);
       })
 
