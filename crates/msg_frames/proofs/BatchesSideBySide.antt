@@ -1,12 +1,12 @@
 -- The jobs of a batch, side by side.
-use Rattle.std.proofs.Common.{◌≡◌, ◌≢◌, ℕ, suc, ◌<◌, List, [], ◌∷◌, ◌++◌, map, slice_index_or, refl, ap, ◌∙◌, arith, All, AllPairs, if◌then◌else◌}
+use Rattle.std.proofs.Common.{◌≡◌, ◌≢◌, ℕ, suc, ◌<◌, List, [], ◌∷◌, ◌++◌, map, slice_index_or, refl, arith, All, AllPairs, if◌then◌else◌}
 use Rattle.std.specs.List.{concat}
-use Rattle.std.proofs.lemmas.{Bool.cases_Bool, List.Elements.All-head, List.Elements.All-tail, Bool.Decides.eqb_tells}
+use Rattle.std.proofs.lemmas.{Bool.cases_Bool, List.Elements.All-tail, Bool.Decides.eqb_tells}
 use Rattle.msg_world.specs.declared.access.Access.{Access}
 use Rattle.msg_world.specs.Prelude.{Conflict, OfResource, OfType, Part, Registry, WorldState, content, merge, writes}
 use Rattle.msg_order.specs.Prelude.{NoneConflict, access_of}
 use Rattle.msg_system.specs.Prelude.{Agree, JobFootprint, needs_any}
-use Rattle.msg_frames.specs.Prelude.{AreAccessesOf, BatchesRunSideBySide, FramesRunByBatches, Member, Outcome, SameSystems, State, after_turn_of, after_turns_of, all_home, home, logged_turn, needs_of, turn_of, AfterTurns}
+use Rattle.msg_frames.specs.Prelude.{AreAccessesOf, BatchesRunSideBySide, FramesRunByBatches, SameSystems, State, after_turn_of, after_turns_of, all_home, home, logged_turn, needs_of, turn_of, AfterTurns}
 use Rattle.msg_frames.proofs.{SystemsStay.accesses_stay, SystemsStay.turns_keep_systems, ElementsAndPairs.all_left, ElementsAndPairs.all_right, ElementsAndPairs.pairs_left, ElementsAndPairs.pairs_right, ElementsAndPairs.pairs_tail, TurnsCommute.apart, TurnsCommute.given_by_turn, TurnsCommute.same_world, TurnsCommute.turn_footprint}
 
 content_merge : (a : Access) (mine others : WorldState) (p : Part) → content p (merge a mine others)

@@ -3,7 +3,7 @@ use Rattle.std.proofs.Common.{◌≡◌, ℕ, ◌+◌, List, [], ◌∷◌, ◌+
 use Rattle.std.proofs.lemmas.{List.length-append, List.FromFn.length-range_with_len, Bool.cases_Bool, Grind.flat_map-append}
 use Rattle.msg_buffer.specs.Prelude.{next_place, Tile}
 use Rattle.msg_system.specs.declared.reply.Took.{Took}
-use Rattle.msg_frames.specs.Prelude.{Entry, Fate, IsBalanced, Moment, Totals, cleared, entry_of_read, given, missed, numbers_of, with_entries}
+use Rattle.msg_frames.specs.Prelude.{Entry, Moment, Totals, cleared, entry_of_read, given, missed, numbers_of, with_entries}
 use Rattle.msg_frames.proofs.ReaderOverJob.{tile_of}
 
 pub with_entries-none : (x : Totals) → with_entries [] x ≡ x

@@ -1,5 +1,5 @@
 -- Whatever a run does, each type's history goes on.
-use Rattle.std.proofs.Common.{ℕ, zero, suc, ℤ, ◌≤◌, List, [], ◌∷◌, map, Option, None, Some, refl, sym, append-nil, append_assoc, length-append, arith}
+use Rattle.std.proofs.Common.{ℕ, zero, suc, ℤ, ◌≤◌, List, [], ◌∷◌, map, Option, None, Some, append-nil, append_assoc, length-append, arith}
 use Rattle.std.proofs.lemmas.{Bool.cases_Bool, Bool.Decides.eqb_tells}
 use Rattle.msg_buffer.specs.Prelude.{ClearsFit, GoesOn, History, IsSound, OnlyGrows, ReadsFit, clear, count, write}
 use Rattle.msg_world.specs.declared.record.Record.{Record}

@@ -1,11 +1,11 @@
 -- Two lawful orders of turns leave the same.
-use Rattle.std.proofs.Common.{◌≡◌, ◌≢◌, ℕ, ◌<◌, ◌⊎◌, inl, inr, Bool, List, [], ◌∷◌, ◌++◌, length, get_or, refl, ap, sym, ◌∙◌, arith, slice_get, Some, suc, ◌↔◌, All, AllPairs, Contains, IsPermutation, IsTrue}
+use Rattle.std.proofs.Common.{◌≡◌, ◌≢◌, ℕ, ◌<◌, ◌⊎◌, Bool, List, [], ◌∷◌, ◌++◌, length, get_or, refl, sym, ◌∙◌, arith, ◌↔◌, All, AllPairs, Contains, IsPermutation, IsTrue}
 use Rattle.std.proofs.lemmas.{Bool.cases_order, Grind.get_or_default_zero, List.Elements.All-contains, List.Elements.Contains-append_left, List.Elements.Contains-get_or, List.Elements.All-append, List.Elements.All-tail, List.FromFn.length-map-range_with_len, List.Sorted.IsPermutation-cons, List.Sorted.IsPermutation-middle, List.Sorted.IsPermutation-refl, List.Sorted.IsPermutation-trans, List.Sorted.Contains-permutation, List.Sorted.IsPermutation-sym, Option.get_or_from_slice_get, Option.slice_get_within}
 use Rattle.msg_world.specs.declared.access.Access.{Access}
 use Rattle.msg_world.specs.Prelude.{Conflict}
-use Rattle.msg_order.specs.Prelude.{ConflictingSystemsAreOrdered, Graph, IsLawfulOrder, LawfulOrdersKeepPaths, Path, SettledOrderIsUnique, StandsBefore, TurnOrderIsLawful, access_of, has_joined}
+use Rattle.msg_order.specs.Prelude.{ConflictingSystemsAreOrdered, Graph, IsLawfulOrder, LawfulOrdersKeepPaths, Path, SettledOrderIsUnique, TurnOrderIsLawful, access_of, has_joined}
 use Rattle.msg_system.specs.Prelude.{JobFootprint}
-use Rattle.msg_frames.specs.Prelude.{AreAccessesOf, FramesAgreeInLawfulOrders, LawfulOrdersAgree, Log, State, after_turn_of, after_turns_of, before_turns, has_begun, join_flags, logged_turn, systems_in, Turn}
+use Rattle.msg_frames.specs.Prelude.{AreAccessesOf, FramesAgreeInLawfulOrders, LawfulOrdersAgree, State, after_turn_of, after_turns_of, before_turns, has_begun, join_flags, logged_turn, systems_in, Turn}
 use Rattle.msg_frames.proofs.{RunsAreUnique.one_order, RunsAreUnique.order_is_among, TurnsCommute.turns_commute, SystemsStay.accesses_stay, SystemsStay.joined_below, SystemsStay.one_turn_keeps, ElementsAndPairs.Cut, ElementsAndPairs.cut, ElementsAndPairs.pairs_head, ElementsAndPairs.pairs_middle, ElementsAndPairs.pairs_right, ElementsAndPairs.pairs_tail}
 use Rattle.msg_order.proofs.Elements.{Contains-cases, Contains-head, Contains-tail, not_in_none}
 

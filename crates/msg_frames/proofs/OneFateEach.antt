@@ -1,5 +1,5 @@
 -- Each number that tiles go past meets one fate, at one tile.
-use Rattle.std.proofs.Common.{◌≡◌, ◌⊎◌, ℕ, zero, suc, ◌+◌, ◌-◌, ◌≤◌, ◌<◌, List, [], ◌∷◌, map, Contains, cond, is_some, refl, arith, inl, inr, All, nat_lt}
+use Rattle.std.proofs.Common.{◌≡◌, ◌⊎◌, ℕ, suc, ◌+◌, ◌-◌, ◌≤◌, ◌<◌, List, [], ◌∷◌, map, Contains, cond, is_some, refl, arith, inl, inr, All, nat_lt}
 use Rattle.std.proofs.lemmas.{Bool.cases_Bool, Bool.cases_lt, List.Elements.All-cons, List.Elements.All-head, List.Elements.All-nil, List.Elements.All-tail, Bool.Decides.nat_tests}
 use Rattle.msg_buffer.specs.Prelude.{IsPresent, Tile, count, next_place}
 use Rattle.msg_frames.specs.Prelude.{Entry, Fate, Meets, MeetsOneFate, Moment, cleared, given, missed, numbers_at}

@@ -1,10 +1,10 @@
 -- What a reader goes past over a run of frames.
-use Rattle.std.proofs.Common.{arith, ℕ, ◌<◌, List, [], ◌∷◌, ◌++◌, refl, sym, subst, ◌∙◌, IsTrue}
+use Rattle.std.proofs.Common.{arith, ℕ, ◌<◌, List, [], ◌∷◌, ◌++◌, refl, ◌∙◌, IsTrue}
 use Rattle.std.proofs.lemmas.Bool.{cases_Bool}
 use Rattle.msg_buffer.specs.Prelude.{GoesOn, History}
 use Rattle.msg_world.specs.declared.record.Record.{Record}
-use Rattle.msg_frames.specs.Prelude.{Frame, IsRun, IsServed, IsSoundState, Log, Moment, RunsAreComplete, State, answers_in, before_turns, found_at, found_totals, frame_in, has_begun, moments, place_of, systems_in, turns_moments, Totals}
-use Rattle.msg_frames.proofs.{OneFateEach.lies_between, OneFateEach.meets_one_fate, OneFateEach.missed_are_dropped, TilesGiveInOrder.all_as_written, TilesGiveInOrder.given_in_order, TilesGiveInOrder.in_order_of, HistoriesGrow.BufferLaws, HistoriesGrow.goes_further, HistoriesGrow.runs_go_on, HistoriesGrow.stays, SystemsStay.before_keeps, SystemsStay.turns_keep, ReaderOverJob.passes_nothing, EntriesAddUp.tiles_add_up, EntriesAddUp.with_entries-none, ReaderOverTurns.Keeps, ReaderOverTurns.Reads, ReaderOverTurns.ReadsFrom, ReaderOverTurns.Tells, ReaderOverTurns.answers_among, ReaderOverTurns.reads_further, ReaderOverTurns.tells_further, ReaderOverTurns.turns_read, ReaderOverTurns.turns_skip, ReaderOverTurns.turns_tell, BeforeTurns.Prepares, BeforeTurns.comes, BeforeTurns.prepares, BeforeTurns.stood, BeforeTurns.waits, StatesStaySound.begun_alike, StatesStaySound.frame_sound, StatesStaySound.has_no_turn, StatesStaySound.prepared_sound}
+use Rattle.msg_frames.specs.Prelude.{Frame, IsRun, IsSoundState, Log, Moment, RunsAreComplete, State, answers_in, before_turns, found_at, found_totals, frame_in, has_begun, moments, place_of, systems_in, turns_moments, Totals}
+use Rattle.msg_frames.proofs.{OneFateEach.lies_between, OneFateEach.meets_one_fate, OneFateEach.missed_are_dropped, TilesGiveInOrder.all_as_written, TilesGiveInOrder.given_in_order, TilesGiveInOrder.in_order_of, HistoriesGrow.BufferLaws, HistoriesGrow.goes_further, HistoriesGrow.runs_go_on, HistoriesGrow.stays, SystemsStay.before_keeps, SystemsStay.turns_keep, ReaderOverJob.passes_nothing, EntriesAddUp.tiles_add_up, EntriesAddUp.with_entries-none, ReaderOverTurns.ReadsFrom, ReaderOverTurns.Tells, ReaderOverTurns.reads_further, ReaderOverTurns.tells_further, ReaderOverTurns.turns_read, ReaderOverTurns.turns_skip, ReaderOverTurns.turns_tell, BeforeTurns.Prepares, BeforeTurns.comes, BeforeTurns.prepares, BeforeTurns.stood, BeforeTurns.waits, StatesStaySound.begun_alike, StatesStaySound.frame_sound, StatesStaySound.has_no_turn, StatesStaySound.prepared_sound}
 
 pub run_tells : (i t : ℕ) (frames : List Frame) (s : State) (logs : List Log) (u : State) → IsRun frames s logs u
     → Tells i t s (answers_in i logs) (moments i t frames logs s) u
@@ -40,7 +40,7 @@ module _ (laws : BufferLaws) (i t : ℕ) where
       let ms : List Moment = turns_moments i t (systems_in log) b in
       let rest : List Moment = moments i t frames logs m in
       let prep : Prepares s b = prepares laws.grow frame.posts s in
-      let keep : Keeps b m = turns_keep (systems_in log) b in
+      let keep = turns_keep (systems_in log) b in
       let ready : IsSoundState b = prepared_sound s b sound prep in
       let under : t < b.types = rw (prep.same.types) below in
       let here = turns_read laws i t (systems_in log) b (ready.histories t under) (ready.places i t under) in

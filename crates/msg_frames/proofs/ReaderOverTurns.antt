@@ -4,7 +4,7 @@ use Rattle.std.proofs.lemmas.{Bool.cases_eq, Bool.eq-eqb, Bool.ne_eqb, List.map-
 use Rattle.msg_buffer.specs.Prelude.{IsSound, count, History}
 use Rattle.msg_system.specs.declared.reply.Reply.{Reply}
 use Rattle.msg_system.specs.Prelude.{Needs, Rule}
-use Rattle.msg_frames.specs.Prelude.{Member, Moment, SameSystems, State, Turn, after_turn_of, after_turns_of, answers, entries_told, job_moments, logged_turn, place_of, turn_of, turns_moments, with_entries, Totals}
+use Rattle.msg_frames.specs.Prelude.{Member, Moment, State, Turn, after_turn_of, after_turns_of, answers, entries_told, job_moments, logged_turn, place_of, turn_of, turns_moments, with_entries, Totals}
 use Rattle.msg_order.proofs.Elements.{Contains-tail, Contains-head}
 use Rattle.msg_frames.proofs.{HistoriesGrow.BufferLaws, HistoriesGrow.Grows, HistoriesGrow.grown, HistoriesGrow.job_changes, HistoriesGrow.stays, SystemsStay.one_turn_keeps, ReaderOverJob.Passes, ReaderOverJob.job_logged, ReaderOverJob.job_passes, ReaderOverJob.job_rule, ReaderOverJob.passes_further, ReaderOverJob.passes_nothing, EntriesAddUp.with_entries-append, EntriesAddUp.with_entries-none}
 use Rattle.msg_world.specs.declared.record.Record.{Record}
@@ -24,10 +24,6 @@ reads_further i t a ms b ns c x y =
     let joins = map-append (λ (m : Moment). m.entry) ms ns in
     let adds = with_entries-append (map (λ m. m.entry) ms) (map (λ m. m.entry) ns) ((a.members i).totals t) in
     record { passes = passes_further _ _ _ _ _ _ _ _ x.passes y.passes; totals = rw (y.totals, x.totals, joins, adds) refl }
-
--- the same systems, and as many frames: so turns leave them
-abbrev pub Keeps : State → State → Type 0
-Keeps s u = SameSystems s u × (u.frames ≡ s.frames)
 
 -- a member is as its turn leaves it, or as it was
 pub one_member : (P : Member → Type 0) (j i : ℕ) (s : State) → (i ≡ j → P (turn_of s i).member)

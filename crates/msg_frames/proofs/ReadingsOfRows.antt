@@ -2,10 +2,10 @@
 -- the third frame and clears.
 use Rattle.std.proofs.Common.{◌≡◌, List, [], ◌∷◌, Some, pos, refl}
 use Rattle.msg_world.specs.Prelude.{by, new_world}
-use Rattle.msg_system.specs.{declared.op.Op.Op, declared.op.Op.TheVariants.Read, declared.op.Op.TheVariants.Clear, declared.start.Start.TheVariants.Zero}
+use Rattle.msg_system.specs.{declared.op.Op.TheVariants.Read, declared.op.Op.TheVariants.Clear}
 use Rattle.msg_system.specs.Prelude.{new_system, turn}
 use Rattle.msg_world.specs.declared.record.TheConstants.{HOST}
-use Rattle.msg_frames.specs.Prelude.{AfterFrame, Entry, Log, Place, State, cleared, first_state, found_at, frame_in, given, log_entries, messages_given, missed, nowhere, numbers_of, place_of, program}
+use Rattle.msg_frames.specs.Prelude.{AfterFrame, Entry, Log, State, cleared, first_state, found_at, frame_in, given, log_entries, messages_given, missed, nowhere, numbers_of, place_of, program}
 
 abbrev start : State
 start =

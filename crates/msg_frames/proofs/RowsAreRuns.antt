@@ -2,7 +2,7 @@
 -- order and the batch numbers are computed.
 use Rattle.std.proofs.Common.{◌≡◌, ℕ, zero, suc, ◌*◌, ◌^◌, ◌%◌, ◌<◌, ◌≤◌, Bool, true, false, cond, ◌&&◌, All, List, [], ◌∷◌, Option, Some, None, map, refl, ◌∙◌, arith, nat_lt, bit_or, slice_index_or}
 use Rattle.std.specs.List.{range_with_len, list_all, list_any}
-use Rattle.std.proofs.lemmas.{Bool.cases_Bool, Bool.cases_lt, Bool.and_parts, Bool.false≢true, List.get_or_past, List.FromFn.get_or-map-range_with_len, List.FromFn.length-map-range_with_len, List.Sums.AllPass-from_list_all, Bool.Decides.eqb_tells, Bool.Decides.nat_tests}
+use Rattle.std.proofs.lemmas.{Bool.cases_Bool, Bool.and_parts, Bool.false≢true, List.FromFn.get_or-map-range_with_len, List.FromFn.length-map-range_with_len, List.Sums.AllPass-from_list_all, Bool.Decides.eqb_tells, Bool.Decides.nat_tests}
 use Rattle.msg_world.specs.declared.access.Access.{Access}
 use Rattle.msg_world.specs.Prelude.{Part, OfType, OfResource, Registry, has_bit, no_access}
 use Rattle.msg_world.proofs.Bits.{has_bit-zero, has_bit-set}

@@ -1,9 +1,9 @@
 -- The systems have one settled order, a frame has one log, and so has a run.
-use Rattle.std.proofs.Common.{arith, ◌≡◌, ℕ, ◌<◌, List, [], ◌∷◌, refl, sym, ◌∙◌}
+use Rattle.std.proofs.Common.{arith, ℕ, List, [], ◌∷◌, refl, sym, ◌∙◌}
 use Rattle.std.proofs.lemmas.List.FromFn.{length-map-range_with_len}
 use Rattle.msg_world.specs.declared.access.Access.{Access}
 use Rattle.msg_order.specs.Prelude.{AreInConflict, Graph, IsAcyclic, IsAmong, SettledOrderIsUnique, Settles, SettlingMakesNoCycle, TurnOrderIsUnique}
-use Rattle.msg_frames.specs.Prelude.{AreAccessesOf, FramesAreUnique, IsOrderOf, IsTurnOrderOf, NoCycle, RunsAreUnique, State, SystemsHaveOneOrder, before_turns, has_begun, join_flags, systems_in}
+use Rattle.msg_frames.specs.Prelude.{AreAccessesOf, FramesAreUnique, IsOrderOf, NoCycle, RunsAreUnique, State, SystemsHaveOneOrder, before_turns, has_begun, join_flags, systems_in}
 use Rattle.msg_order.proofs.SetPaths.{settled_joins}
 use Rattle.msg_frames.proofs.SystemsStay.{joined_below}
 

@@ -1,10 +1,10 @@
 -- What turns and frames keep of the systems.
-use Rattle.std.proofs.Common.{◌≡◌, ℕ, ◌<◌, IsTrue, arith, List, [], ◌∷◌, map, refl, ap, ◌∙◌, suc, max, nat_le, ℤ}
+use Rattle.std.proofs.Common.{◌≡◌, ℕ, ◌<◌, IsTrue, arith, List, [], ◌∷◌, map, refl, ◌∙◌, max, nat_le, ℤ}
 use Rattle.std.specs.List.{range_with_len}
 use Rattle.std.proofs.lemmas.{Bool.cases_Bool, Bool.cases_lt, Bool.false≢true, List.get_or_past, List.FromFn.length-map-range_with_len, Bool.Decides.eqb_tells, Simd.map-map}
 use Rattle.msg_world.specs.declared.access.Access.{Access}
 use Rattle.msg_order.specs.Prelude.{has_joined}
-use Rattle.msg_frames.specs.Prelude.{AreAccessesOf, Frame, FramesKeepSystems, Member, NoCycle, SameMember, SameSystems, SameSystemsHaveSameAccesses, State, TurnsKeepSystems, after_turn_of, after_turns_of, before_turns, frame_in, join_flags, joining, with_joining}
+use Rattle.msg_frames.specs.Prelude.{AreAccessesOf, Frame, FramesKeepSystems, NoCycle, SameSystems, SameSystemsHaveSameAccesses, State, TurnsKeepSystems, after_turn_of, after_turns_of, before_turns, frame_in, join_flags, joining, with_joining}
 
 same_systems : (s : State) → SameSystems s s
 same_systems s = grind arith

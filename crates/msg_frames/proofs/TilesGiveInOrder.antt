@@ -1,8 +1,8 @@
 -- What tiles give: messages in order of writing.
-use Rattle.std.proofs.Common.{◌≡◌, ℕ, zero, suc, ◌+◌, ◌≤◌, ◌<◌, List, [], ◌∷◌, ◌++◌, map, length, take, drop, Bool, cond, Option, Some, None, is_some, option_map, IfSome, unwrap_or, filter, refl, ap, arith, slice_get, get_or, All, false, ◌==◌}
-use Rattle.std.specs.{List.range_with_len, List.enumerate_from, List.Sorted.IsStrictlyIncreasing}
-use Rattle.std.proofs.lemmas.{Bool.cases_Bool, List.drop-append-le, List.drop-map, List.drop_more, List.Elements.All-head, List.Elements.All-tail, List.length-append, List.length-drop, List.map-append, List.take-append-le, List.take-map, Option.slice_get-get_or, List.Kept.IsStrictlyIncreasing-filter}
-use Rattle.msg_buffer.specs.Prelude.{Entry as Written, GoesOn, History, Stretch, Tile, count, instance_of, message_of, next_place}
+use Rattle.std.proofs.Common.{◌≡◌, ℕ, zero, suc, ◌+◌, ◌≤◌, List, [], ◌∷◌, ◌++◌, map, length, take, drop, Bool, cond, Option, Some, None, is_some, option_map, IfSome, unwrap_or, filter, refl, ap, arith, slice_get, All, false, ◌==◌}
+use Rattle.std.specs.{List.range_with_len, List.Sorted.IsStrictlyIncreasing}
+use Rattle.std.proofs.lemmas.{Bool.cases_Bool, List.drop-append-le, List.drop-map, List.drop_more, List.Elements.All-tail, List.length-append, List.length-drop, List.map-append, List.take-append-le, List.take-map, Option.slice_get-get_or, List.Kept.IsStrictlyIncreasing-filter}
+use Rattle.msg_buffer.specs.Prelude.{Entry as Written, GoesOn, History, Stretch, Tile, count, next_place}
 use Rattle.msg_buffer.proofs.Numbers.{instances-numbered, messages-numbered}
 use Rattle.msg_world.specs.declared.record.Record.{Record}
 use Rattle.msg_frames.specs.Prelude.{GivesItsStretch, IsInOrderOf, Moment, given, is_by, message_numbered, messages_given, messages_of, numbers_of}
