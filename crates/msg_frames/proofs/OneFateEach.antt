@@ -10,8 +10,8 @@ abbrev fate_at : Entry → ℕ → Fate
 fate_at e n = cond (nat_lt n e.stretch.first) missed (cond (is_some e.given) given cleared)
 
 -- a number that met a fate at an entry lies there, and met no other
-fate_of : (fate : Fate) (e : Entry) (n place : ℕ) → e.stretch.first ≡ place + e.stretch.missed → Contains (numbers_at fate e) n → (place ≤ n)
-    × (n < next_place e.stretch) × (fate_at e n ≡ fate)
+fate_of : (fate : Fate) (e : Entry) (n place : ℕ) → e.stretch.first ≡ place + e.stretch.missed
+    → Contains (numbers_at fate e) n → (place ≤ n) × (n < next_place e.stretch) × (fate_at e n ≡ fate)
 fate_of missed e n place begins c = grind (arith, nat_tests, range-Contains _ _ _ c)
 fate_of fate e n place begins c =
     grind (arith, cases_Bool (is_some e.given), nat_tests, range-Contains e.stretch.first e.stretch.number n)

@@ -16,10 +16,9 @@ module _ (in_order : IsInOrder) (program : Program) (writer : ℕ) (few : length
 
   turn_stays : (i j : ℕ) (s : State) → IsProgram (s.members i).job → IsProgram ((after_turn_of j s).members i).job
   turn_stays i j s is =
-      let m : Meaning = of_program program writer is.0 in
+      let places : ℕ → ℕ = (turn (of_program program writer is.0) s.world).places in
       let after = in_order program writer is.0 s.world few in
-      let stays : IsProgram (after_job (s.members i).job s.world).job = ((turn m s.world).places, grind (arith, is.1, after)) in
-      one_member (λ m. IsProgram m.job) j i s (λ e. stays) (λ ne. is)
+      one_member (λ m. IsProgram m.job) j i s (λ e. (places, grind (arith, is.1, after))) (λ ne. is)
 
   turns_stay : (i : ℕ) (order : List ℕ) (s : State) → IsProgram (s.members i).job
       → IsProgram ((after_turns_of order s).state.members i).job

@@ -23,7 +23,8 @@ pub reads_further : (i t : ℕ) (a : State) (ms : List Moment) (b : State) (ns :
 reads_further i t a ms b ns c x y =
     let joins = map-append (λ (m : Moment). m.entry) ms ns in
     let adds = with_entries-append (map (λ m. m.entry) ms) (map (λ m. m.entry) ns) ((a.members i).totals t) in
-    record { passes = passes_further _ _ _ _ _ _ _ _ x.passes y.passes; totals = rw (y.totals, x.totals, joins, adds) refl }
+    let passes = passes_further _ _ _ _ _ _ _ _ x.passes y.passes in
+    record { passes = passes; totals = rw (y.totals, x.totals, joins, adds) refl }
 
 -- a member is as its turn leaves it, or as it was
 pub one_member : (P : Member → Type 0) (j i : ℕ) (s : State) → (i ≡ j → P (turn_of s i).member)

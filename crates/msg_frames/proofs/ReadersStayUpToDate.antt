@@ -74,13 +74,9 @@ module _ (laws : BufferLaws) where
     now_up_to_date reads drained n above within =
         let p : ℕ = count (s.world.histories t) in
         let had = has_frame_before reads in
-        is_there p (update (u.world.histories t)) n
-        (λ m e after at. omega (
-          arith,
-          frame_recent 0 p
-              (λ k f from is. grind (arith, cases_Bool, slice_get_within ((after_update s.world).histories t).entries k f is))
-              m e after at,
-        ))
+        let updated : AreRecent 0 p ((after_update s.world).histories t) = λ k e from at.
+        grind (arith, cases_Bool, slice_get_within ((after_update s.world).histories t).entries k e at) in
+        is_there p (update (u.world.histories t)) n (λ k e from at. omega (arith, frame_recent 0 p updated k e from at))
         (omega arith) (omega (arith, drained, (sound.histories t below).floor)) within
 
     present_at : (ms : List Moment) → IsUpToDate s i t → NothingDrained t s u

@@ -78,8 +78,8 @@ module _ (last : History Record) where
   all_as_written (m ∷ ms) gives goes written =
       let here = given_as_written m.history last m.entry.stretch (goes 0 m (omega arith)) (written 0 m (omega arith))
       m.entry.given (gives 0 m (omega arith)) in
-      let rest = all_as_written ms (All-tail GivesItsStretch m ms gives) (All-tail (λ m. GoesOn m.history last) m ms goes)
-      (All-tail IsWritten m ms written) in
+      let rest = all_as_written ms (All-tail GivesItsStretch m ms gives)
+      (All-tail (λ m. GoesOn m.history last) m ms goes) (All-tail IsWritten m ms written) in
       grind (arith, here, map-append, rest)
 
 -- ---- writer by writer
