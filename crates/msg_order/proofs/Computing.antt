@@ -1,4 +1,4 @@
--- The settled order and the turns in it by tests alone, for worked rows.
+-- The settled order and the turns in it by tests alone: so there is one, and worked rows are computed.
 use Rattle.std.proofs.Common.{◌≡◌, ℕ, zero, suc, ◌<◌, Bool, true, cond, not, ◌&&◌, ◌||◌, List, [], ◌∷◌, get_or, length, refl, arith, ◌==◌, ◌↔◌, nat_le, nat_lt, IsTrue, AllPairs, bit_and, bit_or}
 use Rattle.std.specs.List.{range_with_len, list_all, list_any}
 use Rattle.std.proofs.lemmas.{Bool.Decides.nat_tests, Bool.cases_Bool, Bool.cond_both, Bool.and_parts, Bool.and_from, Bool.false≢true, Bool.eqb-true, Bool.ltb-true, List.Kept.AllPairs-cons, List.Sums.AllPass-from_list_all}

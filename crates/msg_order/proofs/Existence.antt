@@ -21,7 +21,7 @@ tells g left n within = record {
 }
 
 module _ (g : Graph) (joined : List Bool) (free : IsAcyclic g) (lead : LeadAmong g (has_joined joined)) where
-  -- all batches, or one more and fewer left
+  -- a batch more in each step, until none is ready
   peels : (steps : ℕ) (left : ℕ → Bool) (bs : List (List ℕ)) → ArePeeled g (has_joined joined) left bs
       → count_left left (length joined) < steps → (cs : List (List ℕ)) × AreBatches g joined cs
   peels zero left bs h few = absurd (omega arith)
