@@ -1,15 +1,13 @@
 -- The jobs of a batch, side by side.
-use Rattle.std.proofs.Common.{◌≡◌, ◌≢◌, ℕ, suc, ◌<◌, List, [], ◌∷◌, ◌++◌, map, slice_index_or, refl, ap, ◌∙◌, arith, All, AllPairs, if◌then◌else◌}
+use Rattle.std.proofs.Common.{◌≡◌, ◌≢◌, ℕ, suc, ◌<◌, List, [], ◌∷◌, ◌++◌, map, slice_index_or, refl, arith, All, AllPairs, if◌then◌else◌}
 use Rattle.std.specs.List.{concat}
-use Rattle.std.proofs.lemmas.{Bool.cases_Bool, List.Elements.All-head, List.Elements.All-tail, Bool.Decides.eqb_tells}
+use Rattle.std.proofs.lemmas.{Bool.cases_Bool, List.Elements.All-tail, Bool.Decides.eqb_tells}
 use Rattle.msg_world.specs.declared.access.Access.{Access}
 use Rattle.msg_world.specs.Prelude.{Conflict, OfResource, OfType, Part, Registry, WorldState, content, merge, writes}
 use Rattle.msg_order.specs.Prelude.{NoneConflict, access_of}
 use Rattle.msg_system.specs.Prelude.{Agree, JobFootprint, needs_any}
-use Rattle.msg_frames.specs.Prelude.{AreAccessesOf, BatchesRunSideBySide, FramesRunByBatches, Member, Outcome, SameSystems, State, after_turn_of, after_turns_of, all_home, home, logged_turn, needs_of, turn_of, AfterTurns}
+use Rattle.msg_frames.specs.Prelude.{AreAccessesOf, BatchesRunSideBySide, FramesRunByBatches, SameSystems, State, after_turn_of, after_turns_of, all_home, home, logged_turn, needs_of, turn_of, AfterTurns}
 use Rattle.msg_frames.proofs.{SystemsStay.accesses_stay, SystemsStay.turns_keep_systems, ElementsAndPairs.all_left, ElementsAndPairs.all_right, ElementsAndPairs.pairs_left, ElementsAndPairs.pairs_right, ElementsAndPairs.pairs_tail, TurnsCommute.apart, TurnsCommute.given_by_turn, TurnsCommute.same_world, TurnsCommute.turn_footprint}
-
--- ---- what comes home
 
 content_merge : (a : Access) (mine others : WorldState) (p : Part) → content p (merge a mine others)
     ≡ (if writes a p then content p mine else content p others)
@@ -25,23 +23,17 @@ record Untouched (start s : State) (i : ℕ) : Type 0 where
 module _ (foot : JobFootprint) (accesses : List Access) (start : State) (are : AreAccessesOf start accesses) where
   given_same : (s : State) (i : ℕ) → Untouched start s i → given_by_turn (turn_of s i) ≡ given_by_turn (turn_of start i)
   given_same s i h =
-      rw (h.member)
-      ((turn_footprint foot (start.members i)).same (needs_any (needs_of (start.members i))) s.world start.world
-      (λ p u. u) h.world)
+      rw (h.member) ((turn_footprint foot (start.members i)).same _ s.world start.world (λ p u. u) h.world)
 
   -- what the access writes is as the turn on `start` leaves it, and all else as it was
-  world_same : (s : State) (i : ℕ) → i < start.systems → Untouched start s i → (turn_of s i).world
-      ≡ merge (access_of accesses i) (turn_of start i).world s.world
-  world_same s i lt h =
-      let needs = needs_any (needs_of (start.members i)) in
-      let f = turn_footprint foot (start.members i) in
-      rw (h.member) (same_world _ _ (λ p.
-      let own = f.alike needs s.world start.world (λ q u. u) h.world p in
-      grind (arith, cases_Bool, content_merge, (are.of_needs i lt).writes p, f.kept s.world p, own)))
-
   turn_is_home : (s : State) (i : ℕ) → i < start.systems → Untouched start s i → after_turn_of i s
       ≡ home accesses start i s
-  turn_is_home s i lt h = grind (arith, given_same s i h, world_same s i lt h)
+  turn_is_home s i lt h =
+      let f = turn_footprint foot (start.members i) in
+      let same = same_world (turn_of s i).world (merge (access_of accesses i) (turn_of start i).world s.world) (λ p.
+      let own = f.alike (needs_any (needs_of (start.members i))) s.world start.world (λ q u. u) h.world p in
+      grind (arith, cases_Bool, content_merge, (are.of_needs i lt).writes p, f.kept s.world p, own, h.member)) in
+      grind (arith, given_same s i h, same)
 
   still : (s : State) (i j : ℕ) → i < start.systems → j < start.systems → i ≢ j
       → ¬ Conflict (access_of accesses i) (access_of accesses j)
@@ -49,10 +41,7 @@ module _ (foot : JobFootprint) (accesses : List Access) (start : State) (are : A
   still s i j li lj ne none hi hj =
       let free = apart _ _ _ _ (are.of_needs i li) (are.of_needs j lj) none in
       let f = turn_footprint foot (start.members i) in
-      record {
-        member = grind (arith, eqb_tells, hj.member);
-        world = λ p used. rw (hi.member) (f.kept s.world p (free.left p used)) ∙ hj.world p used;
-      }
+      grind (arith, eqb_tells, hi.member, hj.member, hj.world, λ (p : Part). f.kept s.world p, free.left)
 
   from_start : (batch : List ℕ) (s : State) → All (λ i. i < start.systems) batch → AllPairs (λ i j. i ≢ j) batch
       → NoneConflict accesses batch
@@ -63,23 +52,17 @@ module _ (foot : JobFootprint) (accesses : List Access) (start : State) (are : A
   from_start (i ∷ is) s below once none same =
       let here : Untouched start s i = same 0 i (omega arith) in
       let li : i < start.systems = below 0 i (omega arith) in
-      let rest = from_start is (after_turn_of i s) (λ k d lt. below (suc k) d (omega arith))
+      let rest = from_start is (after_turn_of i s) (All-tail (λ i. i < start.systems) i is below)
       (pairs_tail (λ i j. i ≢ j) i is once)
       (pairs_tail (λ i j. ¬ Conflict (access_of accesses i) (access_of accesses j)) i is none)
       (λ k d lt. still s i (slice_index_or is k d) li (below (suc k) d (omega arith))
       (once 0 (suc k) d (omega arith) (omega arith)) (none 0 (suc k) d (omega arith) (omega arith)) here
       (same (suc k) d (omega arith))) in
-      rw (← turn_is_home s i li here, rest.0, rest.1) (
-        ap (λ (g : Member × Outcome). record { system = i; outcome = g.1 } ∷ map (logged_turn start) is)
-            (given_same s i here),
-        refl,
-      )
+      grind (arith, turn_is_home s i li here, rest, given_same s i here)
 
 pub side_by_side : JobFootprint → BatchesRunSideBySide
 side_by_side foot s accesses batch are below once none =
     from_start foot accesses s are batch s below once none (λ k d lt. record { member = refl; world = λ p u. refl })
-
--- ---- batch by batch
 
 follow : (xs ys : List ℕ) (s : State) → after_turns_of (xs ++ ys) s ≡
     (let first : AfterTurns = after_turns_of xs s in
@@ -92,8 +75,7 @@ pub batch_by_batch : JobFootprint → FramesRunByBatches
 batch_by_batch foot s accesses [] are below once apart = refl
 batch_by_batch foot s accesses (batch ∷ batches) are below once apart =
     let first = side_by_side foot s accesses batch are (all_left (λ i. i < s.systems) batch (concat batches) below)
-    (pairs_left (λ i j. i ≢ j) batch (concat batches) once)
-    (All-head (NoneConflict accesses) batch batches apart) in
+    (pairs_left (λ i j. i ≢ j) batch (concat batches) once) (apart 0 batch (omega arith)) in
     let left : State = (after_turns_of batch s).state in
     let kept : SameSystems s left = turns_keep_systems batch s in
     let rest = batch_by_batch foot left accesses batches (accesses_stay s left accesses kept are)

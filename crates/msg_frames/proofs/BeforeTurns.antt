@@ -6,8 +6,6 @@ use Rattle.msg_world.specs.declared.record.Record.{Record}
 use Rattle.msg_frames.specs.Prelude.{SameSystems, State, before_turns, counts, has_begun, joined_member, place_of}
 use Rattle.msg_frames.proofs.{HistoriesGrow.WorldGoesOn, HistoriesGrow.before_goes_on, SystemsStay.before_keeps}
 
--- ---- each member
-
 -- Where system i stands among those that join: it had joined before, it joins now, or it still waits.
 pub data Arrival (s b : State) (i : ℕ) : Type 0 where
   stood : IsTrue (has_begun s i) → IsTrue (has_begun b i) → b.members i ≡ s.members i → Arrival s b i
@@ -22,20 +20,8 @@ pub record Prepares (s b : State) : Type 0 where
   pub arrival : (i : ℕ) → Arrival s b i
 
 pub prepares : OnlyGrows Record → (posts : List (ℕ × ℤ)) (s : State) → Prepares s (before_turns posts s)
-prepares grow posts s = record {
-  same = before_keeps posts s;
-  world = before_goes_on grow posts s;
-  arrival = λ i. grind (arith, cases_Bool, nat_tests);
-}
-
--- ---- where one that joins starts
+prepares grow posts s = grind (arith, before_keeps posts s, before_goes_on grow posts s, cases_Bool, nat_tests)
 
 pub begun_within : (s : State) (i t : ℕ) → t < s.types → place_of s i t ≤ count (s.world.histories t)
     → (joined_member (counts s) (s.members i)).job.system.places t ≤ count (s.world.histories t)
 begun_within s i t below within = grind (arith, cases_Bool, get_or-map-range_with_len, unwrap_or-slice_get)
-
--- ---- what a system does stays as it was
-
-pub before_rule : (posts : List (ℕ × ℤ)) (s : State) (i : ℕ) → ((before_turns posts s).members i).job.system.rule
-    ≡ (s.members i).job.system.rule
-before_rule posts s i = grind (arith, cases_Bool)

@@ -1,18 +1,15 @@
 -- What holds of each element of a list, and of each pair, and what stands where.
-use Rattle.std.proofs.Common.{◌≡◌, ◌+◌, inl, inr, List, [], ◌∷◌, ◌++◌, length, ap, subst, arith, length-append, get_or-append-add, All, AllPairs, Contains}
+use Rattle.std.proofs.Common.{◌≡◌, ◌+◌, inl, inr, List, [], ◌∷◌, ◌++◌, length, ap, arith, length-append, get_or-append-add, All, AllPairs, Contains}
 use Rattle.std.proofs.lemmas.{List.get_or_append_left, List.Elements.All-cons, List.Elements.All-tail, List.Kept.AllPairs-cons}
 use Rattle.msg_order.proofs.Elements.{Contains-cases, not_in_none}
 pub use Rattle.msg_order.proofs.Elements.{pairs_head, pairs_tail}
 
 module _ {X : Type 0} where
-  -- ---- of two lists one after the other
-
   pub all_left : (P : X → Type 0) (xs ys : List X) → All P (xs ++ ys) → All P xs
-  all_left P xs ys h k d lt = subst P (get_or_append_left xs ys d k lt) (h k d (omega (arith, length-append xs ys)))
+  all_left P xs ys h k d lt = grind (arith, get_or_append_left xs ys d, length-append xs ys, h k d)
 
   pub all_right : (P : X → Type 0) (xs ys : List X) → All P (xs ++ ys) → All P ys
-  all_right P xs ys h k d lt =
-      subst P (get_or-append-add xs ys k d) (h (length xs + k) d (omega (arith, length-append xs ys)))
+  all_right P xs ys h k d lt = grind (arith, get_or-append-add xs ys k d, length-append xs ys, h (length xs + k) d)
 
   pub pairs_left : (R : X → X → Type 0) (xs ys : List X) → AllPairs R (xs ++ ys) → AllPairs R xs
   pairs_left R xs ys r i j d lt l =
@@ -22,13 +19,10 @@ module _ {X : Type 0} where
   pairs_right R xs ys r i j d lt l =
       grind (arith, get_or-append-add xs ys, length-append xs ys, r (length xs + i) (length xs + j) d)
 
-  -- ---- of a list without an element in the middle
-
   pub all_middle : (P : X → Type 0) (xs : List X) (y : X) (ys : List X) → All P (xs ++ y ∷ ys) → P y × All P (xs ++ ys)
   all_middle P [] y ys h = (h 0 y (omega arith), All-tail P y ys h)
   all_middle P (x ∷ xs) y ys h =
-      let rest = all_middle P xs y ys (All-tail P x (xs ++ y ∷ ys) h) in
-      (rest.0, All-cons P x _ (h 0 x (omega arith)) rest.1)
+      grind (arith, all_middle P xs y ys (All-tail P x _ h), All-cons P x (xs ++ ys), h 0 x (omega arith))
 
   pub pairs_middle : (R : X → X → Type 0) (xs : List X) (y : X) (ys : List X) → AllPairs R (xs ++ y ∷ ys)
       → All (λ x. R x y) xs × AllPairs R (xs ++ ys)

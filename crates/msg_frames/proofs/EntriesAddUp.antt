@@ -3,20 +3,15 @@ use Rattle.std.proofs.Common.{◌≡◌, ℕ, ◌+◌, List, [], ◌∷◌, ◌+
 use Rattle.std.proofs.lemmas.{List.length-append, List.FromFn.length-range_with_len, Bool.cases_Bool, Grind.flat_map-append}
 use Rattle.msg_buffer.specs.Prelude.{next_place, Tile}
 use Rattle.msg_system.specs.declared.reply.Took.{Took}
-use Rattle.msg_frames.specs.Prelude.{Entry, Fate, IsBalanced, Moment, Totals, cleared, entry_of_read, given, missed, numbers_of, with_entries}
+use Rattle.msg_frames.specs.Prelude.{Entry, Moment, Totals, cleared, entry_of_read, given, missed, numbers_of, with_entries}
 use Rattle.msg_frames.proofs.ReaderOverJob.{tile_of}
-
--- what met a fate at these entries and at those
-more_of : (fate : Fate) (es fs : List Entry) → length (numbers_of fate (es ++ fs))
-    ≡ length (numbers_of fate es) + length (numbers_of fate fs)
-more_of fate es fs = grind (arith, flat_map-append, length-append)
 
 pub with_entries-none : (x : Totals) → with_entries [] x ≡ x
 with_entries-none x = grind arith
 
 pub with_entries-append : (es fs : List Entry) (x : Totals) → with_entries (es ++ fs) x
     ≡ with_entries fs (with_entries es x)
-with_entries-append es fs x = grind (arith, more_of)
+with_entries-append es fs x = grind (arith, flat_map-append, length-append)
 
 -- what one op that read adds, and what one clear
 pub with_read : (took : Took) (x : Totals)
@@ -33,11 +28,7 @@ with_clear gone first n x = grind (arith, length-append, length-range_with_len)
 pub tiles_add_up : (p : ℕ) (ms : List Moment) (q : ℕ) → Tile p (map tile_of ms) q
     → p + length (numbers_of given (map (λ m. m.entry) ms)) + length
     (numbers_of missed (map (λ m. m.entry) ms)) + length (numbers_of cleared (map (λ m. m.entry) ms)) ≡ q
-tiles_add_up p [] q tile = let same : p ≡ q = tile in omega arith
+tiles_add_up p [] q tile = grind arith
 tiles_add_up p (m ∷ ms) q tile =
     let rest = tiles_add_up (next_place m.entry.stretch) ms q tile.1 in
     grind (arith, cases_Bool, length-append, length-range_with_len, rest)
-
-pub stays_balanced : (x : Totals) (p : ℕ) (ms : List Moment) (q : ℕ) → IsBalanced x p → Tile p (map tile_of ms) q
-    → IsBalanced (with_entries (map (λ m. m.entry) ms) x) q
-stays_balanced x p ms q balanced tile = grind (arith, tiles_add_up)

@@ -12,23 +12,13 @@ module _ (systems : List Meaning) (places : List Place) (rules : List Rule) (typ
   abbrev all_wait : State
   all_wait = unjoined systems places rules types world
 
-  abbrev first : State
-  first = first_state systems places rules types world
-
   at_zero : (i t : ℕ) → place_of all_wait i t ≡ 0
   at_zero i t = grind (arith, get_or_past, nat_tests)
 
   join_from_one : (i : ℕ) → 1 ≤ (all_wait.members i).join
   join_from_one i = grind (arith, get_or_past, nat_tests)
 
-  pub first_is_sound : IsSoundState first
-  first_is_sound = record {
-    histories = new.histories;
-    places = λ i t below. grind (arith, at_zero i t, begun_within all_wait i t below, eqb_tells);
-    joins = λ i. grind (arith, eqb_tells, join_from_one i);
-    writers = λ i below. grind (arith, eqb_tells, (new.new i below).writer);
-    waiting = λ i t isnt. grind (arith, at_zero i t, eqb_tells, nat_tests, isnt);
-    balanced = λ i t below has.
-        let began = balanced_start (all_wait.members i) (counts all_wait) t in
-        grind (arith, began, eqb_tells, has, join_from_one i, nat_tests);
-  }
+  pub first_is_sound : IsSoundState (first_state systems places rules types world)
+  first_is_sound =
+      let began = λ (i t : ℕ). balanced_start (all_wait.members i) (counts all_wait) t in
+      grind (arith, new, at_zero, begun_within all_wait, eqb_tells, join_from_one, nat_tests, began)

@@ -1,5 +1,5 @@
 -- Whatever a run does, each type's history goes on.
-use Rattle.std.proofs.Common.{ℕ, zero, suc, ℤ, ◌≤◌, List, [], ◌∷◌, map, Option, None, Some, refl, sym, append-nil, append_assoc, length-append, arith}
+use Rattle.std.proofs.Common.{ℕ, zero, suc, ℤ, ◌≤◌, List, [], ◌∷◌, map, Option, None, Some, append-nil, append_assoc, length-append, arith}
 use Rattle.std.proofs.lemmas.{Bool.cases_Bool, Bool.Decides.eqb_tells}
 use Rattle.msg_buffer.specs.Prelude.{ClearsFit, GoesOn, History, IsSound, OnlyGrows, ReadsFit, clear, count, write}
 use Rattle.msg_world.specs.declared.record.Record.{Record}
@@ -18,18 +18,8 @@ pub record BufferLaws : Type 0 where
 pub buffer_laws : OnlyGrows Record → ReadsFit Record → ClearsFit Record → BufferLaws
 buffer_laws grow reads clears = record { grow = grow; reads = reads; clears = clears }
 
--- ---- histories
-
 pub stays : (h : History Record) → IsSound h → GoesOn h h
-stays h sound =
-    record {
-      more = [];
-      entries = sym (append-nil h.entries);
-      limit = refl;
-      updates = omega arith;
-      floor = omega arith;
-      sound = sound;
-    }
+stays h sound = grind (arith, append-nil h.entries)
 
 pub goes_further : (a b c : History Record) → GoesOn a b → GoesOn b c → GoesOn a c
 goes_further a b c x y = grind (arith, append_assoc)
@@ -54,16 +44,12 @@ module _ (R : History Record → History Record → Type 0) (kept : IsKept R) wh
   one_changes : (w : WorldState) (u : ℕ) (h : History Record) → R (w.histories u) h → InEach R w (with_history w u h)
   one_changes w u h r t = grind (arith, eqb_tells, kept.same (w.histories t))
 
-  write_changes : (w : WorldState) (t : ℕ) (ms : List Record)
-      → InEach R w (with_history w t (write ms (w.histories t)))
-  write_changes w t ms = one_changes w t _ (kept.written (w.histories t) ms)
-
   pub op_changes : (op : Op) (writer : ℕ) (places : ℕ → ℕ) (w : WorldState)
       → InEach R w (after_op op writer places w).state
-  op_changes (Write t v) writer places w = write_changes w t (by writer v ∷ [])
-  op_changes (Batch t vs) writer places w = write_changes w t (map (by writer) vs)
+  op_changes (Write t v) writer places w = one_changes w t _ (kept.written _ (by writer v ∷ []))
+  op_changes (Batch t vs) writer places w = one_changes w t _ (kept.written _ (map (by writer) vs))
   op_changes (Forward t u) writer places w =
-      write_changes w u (again_by writer (took (w.histories t) (places t) None).items)
+      one_changes w u _ (kept.written _ (again_by writer (took (w.histories t) (places t) None).items))
   op_changes (Drain t) writer places w = one_changes w t _ (kept.drained (w.histories t))
   op_changes op writer places w = λ t. kept.same _
 
@@ -78,12 +64,9 @@ module _ (R : History Record → History Record → Type 0) (kept : IsKept R) wh
       let far : AfterProgram = after_at_most n (next_op m) m.writer m.places w in
       kept.further _ _ _ (ops_change n m w t) (more_changes (next_op m far.replies) m.writer far t)
 
-  turn_changes : (m : Meaning) (w : WorldState) → InEach R w (turn m w).state
-  unfolding turn
-  turn_changes m w = ops_change 64 m w
-
   pub job_changes : (j : Job) (w : WorldState) → InEach R w (after_job j w).state
-  job_changes j w t = grind (arith, cases_Bool, kept.same (w.histories t), turn_changes j.system w t)
+  unfolding turn
+  job_changes j w t = grind (arith, cases_Bool, kept.same (w.histories t), ops_change 64 j.system w t)
 
   pub turns_change : (order : List ℕ) (s : State) → InEach R s.world (after_turns_of order s).state.world
   turns_change [] s t = kept.same _
@@ -94,7 +77,7 @@ module _ (R : History Record → History Record → Type 0) (kept : IsKept R) wh
   posts_change [] w t = kept.same _
   posts_change (p ∷ ps) w t =
       let next = with_history w p.0 (write (by _ p.1 ∷ []) (w.histories p.0)) in
-      kept.further _ _ _ (write_changes w p.0 (by _ p.1 ∷ []) t) (posts_change ps next t)
+      kept.further _ _ _ (one_changes w p.0 _ (kept.written _ (by _ p.1 ∷ [])) t) (posts_change ps next t)
 
 -- ---- sound histories go on
 
@@ -107,19 +90,12 @@ WorldGoesOn w v = InEach Grows w v
 
 module _ (grow : OnlyGrows Record) where
   pub grown : IsKept Grows
-  grown = record {
-    same = stays;
-    further = λ a b c x y sound. goes_further a b c (x sound) (y (x sound).sound);
-    written = λ h ms sound. (grow h sound).0 ms;
-    drained = λ h sound. (grow h sound).2;
-  }
+  grown = grind (arith, stays, goes_further, grow)
 
   pub before_goes_on : (posts : List (ℕ × ℤ)) (s : State) → WorldGoesOn s.world (before_turns posts s).world
-  before_goes_on posts s =
-      let update : WorldGoesOn s.world (after_update s.world) =
-      λ t sound. grind (arith, cases_Bool, stays (s.world.histories t) sound, grow (s.world.histories t) sound) in
-      rw (joining_world s)
-      (λ t. grown.further _ _ _ (update t) (posts_change Grows grown posts (after_update s.world) t))
+  before_goes_on posts s t sound =
+      let posted = posts_change Grows grown posts (after_update s.world) t in
+      grind (arith, joining_world s, cases_Bool, stays, grow (s.world.histories t) sound, posted, goes_further)
 
   pub frame_goes_on : (order : List ℕ) (frame : Frame) (s : State)
       → WorldGoesOn s.world (frame_in order frame s).state.world

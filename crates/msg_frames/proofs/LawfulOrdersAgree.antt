@@ -1,15 +1,13 @@
 -- Two lawful orders of turns leave the same.
-use Rattle.std.proofs.Common.{◌≡◌, ◌≢◌, ℕ, ◌<◌, ◌⊎◌, inl, inr, Bool, List, [], ◌∷◌, ◌++◌, length, get_or, refl, ap, sym, ◌∙◌, arith, slice_get, Some, suc, ◌↔◌, All, AllPairs, Contains, IsPermutation, IsTrue}
+use Rattle.std.proofs.Common.{◌≡◌, ◌≢◌, ℕ, ◌<◌, ◌⊎◌, Bool, List, [], ◌∷◌, ◌++◌, length, get_or, refl, sym, ◌∙◌, arith, ◌↔◌, All, AllPairs, Contains, IsPermutation, IsTrue}
 use Rattle.std.proofs.lemmas.{Bool.cases_order, Grind.get_or_default_zero, List.Elements.All-contains, List.Elements.Contains-append_left, List.Elements.Contains-get_or, List.Elements.All-append, List.Elements.All-tail, List.FromFn.length-map-range_with_len, List.Sorted.IsPermutation-cons, List.Sorted.IsPermutation-middle, List.Sorted.IsPermutation-refl, List.Sorted.IsPermutation-trans, List.Sorted.Contains-permutation, List.Sorted.IsPermutation-sym, Option.get_or_from_slice_get, Option.slice_get_within}
 use Rattle.msg_world.specs.declared.access.Access.{Access}
 use Rattle.msg_world.specs.Prelude.{Conflict}
-use Rattle.msg_order.specs.Prelude.{ConflictingSystemsAreOrdered, Graph, IsLawfulOrder, LawfulOrdersKeepPaths, Path, SettledOrderIsUnique, StandsBefore, TurnOrderIsLawful, access_of, has_joined}
+use Rattle.msg_order.specs.Prelude.{ConflictingSystemsAreOrdered, Graph, IsLawfulOrder, LawfulOrdersKeepPaths, Path, SettledOrderIsUnique, TurnOrderIsLawful, access_of, has_joined}
 use Rattle.msg_system.specs.Prelude.{JobFootprint}
-use Rattle.msg_frames.specs.Prelude.{AreAccessesOf, FramesAgreeInLawfulOrders, LawfulOrdersAgree, Log, State, after_turn_of, after_turns_of, before_turns, has_begun, join_flags, logged_turn, systems_in, Turn}
+use Rattle.msg_frames.specs.Prelude.{AreAccessesOf, FramesAgreeInLawfulOrders, LawfulOrdersAgree, State, after_turn_of, after_turns_of, before_turns, has_begun, join_flags, logged_turn, systems_in, Turn}
 use Rattle.msg_frames.proofs.{RunsAreUnique.one_order, RunsAreUnique.order_is_among, TurnsCommute.turns_commute, SystemsStay.accesses_stay, SystemsStay.joined_below, SystemsStay.one_turn_keeps, ElementsAndPairs.Cut, ElementsAndPairs.cut, ElementsAndPairs.pairs_head, ElementsAndPairs.pairs_middle, ElementsAndPairs.pairs_right, ElementsAndPairs.pairs_tail}
 use Rattle.msg_order.proofs.Elements.{Contains-cases, Contains-head, Contains-tail, not_in_none}
-
--- ---- the same run
 
 -- in either order of turns the same is left, and the turns are the same
 abbrev pub SameRun : List Access → List ℕ → List ℕ → Type 0
@@ -22,9 +20,6 @@ abbrev pub IsFree : List Access → ℕ → ℕ → Type 0
 IsFree accesses x y = (y < length accesses) × (y ≢ x) × ¬ Conflict (access_of accesses y) (access_of accesses x)
 
 module _ (accesses : List Access) where
-  same_run : (is : List ℕ) → SameRun accesses is is
-  same_run is s are = (refl, IsPermutation-refl (after_turns_of is s).turns)
-
   run_along : (is js ks : List ℕ) → SameRun accesses is js → SameRun accesses js ks → SameRun accesses is ks
   run_along is js ks a b s are = ((a s are).0 ∙ (b s are).0, IsPermutation-trans _ _ _ (a s are).1 (b s are).1)
 
@@ -33,24 +28,18 @@ module _ (accesses : List Access) where
       let r = a (after_turn_of x s) (accesses_stay _ _ _ (one_turn_keeps _ _) are) in
       (r.0, IsPermutation-cons (logged_turn s x) _ _ r.1)
 
-  run_swapped : JobFootprint → (x y : ℕ) (is : List ℕ) → x < length accesses → y < length accesses → x ≢ y
-      → ¬ Conflict (access_of accesses x) (access_of accesses y)
-      → SameRun accesses (x ∷ y ∷ is) (y ∷ x ∷ is)
-  run_swapped foot x y is lx ly ne none s are =
-      let e = turns_commute foot s accesses x y are (rw (are.each) at lx) (rw (are.each) at ly) ne none in
-      let turns : List Turn = (after_turns_of is (after_turn_of y (after_turn_of x s))).turns in
-      grind (arith, e.0, e.1, e.2, IsPermutation-middle (logged_turn s x ∷ []) (logged_turn s y) turns)
-
   -- what is free of all before it moves to the front
   run_to_front : JobFootprint → (x : ℕ) (before rest : List ℕ) → x < length accesses
       → All (IsFree accesses x) before → SameRun accesses (before ++ x ∷ rest) (x ∷ before ++ rest)
-  run_to_front foot x [] rest lx free = same_run (x ∷ rest)
-  run_to_front foot x (y ∷ before) rest lx free =
+  run_to_front foot x [] rest lx free s are = (refl, IsPermutation-refl (after_turns_of (x ∷ rest) s).turns)
+  run_to_front foot x (y ∷ before) rest lx free s are =
       let here : IsFree accesses x y = free 0 y (omega arith) in
-      run_along (y ∷ before ++ x ∷ rest) (y ∷ x ∷ before ++ rest) (x ∷ y ∷ before ++ rest)
-      (run_later y (before ++ x ∷ rest) (x ∷ before ++ rest)
-      (run_to_front foot x before rest lx (λ k d lt. free (suc k) d (omega arith))))
-      (run_swapped foot y x (before ++ rest) here.0 lx here.1 here.2)
+      let to_front = run_to_front foot x before rest lx (All-tail (IsFree accesses x) y before free) in
+      let later = run_later y (before ++ x ∷ rest) (x ∷ before ++ rest) to_front s are in
+      let e = turns_commute foot s accesses y x are (rw (are.each) at here.0) (rw (are.each) at lx) here.1 here.2 in
+      let turns : List Turn = (after_turns_of (before ++ rest) (after_turn_of x (after_turn_of y s))).turns in
+      let swapped = IsPermutation-middle (logged_turn s y ∷ []) (logged_turn s x) turns in
+      grind (arith, later, e, swapped, IsPermutation-trans)
 
 -- ---- two orders of the same systems
 
@@ -65,13 +54,11 @@ without xs y ys once i =
     let moved = IsPermutation-middle xs y ys in
     let after = pairs_head (λ i j. i ≢ j) y ys (pairs_right (λ i j. i ≢ j) xs (y ∷ ys) once) in
     let others : All (λ x. x ≢ y) (xs ++ ys) = All-append (λ x. x ≢ y) xs ys
-    (pairs_middle (λ i j. i ≢ j) xs y ys once).0 (λ k d lt e. after k d lt (sym e)) in (
-      λ h. (
-        Contains-permutation _ _ i (IsPermutation-sym _ _ moved) (Contains-tail y (xs ++ ys) i h),
-        All-contains (λ x. x ≢ y) (xs ++ ys) i others h,
-      ),
-      λ h. grind (arith, Contains-cases y (xs ++ ys) i (Contains-permutation _ _ i moved h.0)),
-    )
+    (pairs_middle (λ i j. i ≢ j) xs y ys once).0 (λ k d lt e. after k d lt (sym e)) in
+    let back = Contains-permutation _ _ i (IsPermutation-sym _ _ moved) in
+    let front = Contains-permutation _ _ i moved in
+    let differs = All-contains (λ x. x ≢ y) (xs ++ ys) i others in
+    grind (arith, back, front, differs, Contains-tail y (xs ++ ys) i, Contains-cases y (xs ++ ys) i)
 
 -- The systems of J are below, and two of them in conflict are joined by a path.
 module _ (foot : JobFootprint) (accesses : List Access) (P : ℕ → ℕ → Type 0) (J : ℕ → Type 0)
@@ -81,7 +68,7 @@ module _ (foot : JobFootprint) (accesses : List Access) (P : ℕ → ℕ → Typ
     pub reordered : (settled order : List ℕ) → All J settled → ((i : ℕ) → Contains order i ↔ Contains settled i)
         → AllPairs (λ i j. i ≢ j) settled → AllPairs (λ i j. i ≢ j) order → Forward P settled → Forward P order
         → SameRun accesses order settled
-    reordered [] [] all same once once' a b = same_run accesses []
+    reordered [] [] all same once once' a b = λ s are. (refl, IsPermutation-refl [])
     reordered [] (y ∷ ys) all same once once' a b = absurd (not_in_none y ((same y).0 (Contains-head y ys)))
     reordered (x ∷ rest) order all same once once' a b =
         let c : Cut order x = cut order x ((same x).1 (Contains-head x rest)) in
@@ -95,36 +82,24 @@ module _ (foot : JobFootprint) (accesses : List Access) (P : ℕ → ℕ → Typ
         let free : All (IsFree accesses x) c.before = λ k d lt.
         let y : ℕ = get_or c.before k d in
         let inside = (others y).0 (Contains-append_left c.before c.rest y (Contains-get_or c.before k d lt)) in
-        let joined : J y = All-contains J rest y later inside in (
-          below y joined,
-          parts.0 k d lt,
-          λ conflict. elim (joins y x joined here (parts.0 k d lt) conflict) [
-            | inl p ↦ All-contains (λ z. ¬ P z x) rest y (pairs_head (λ i j. ¬ P j i) x rest a) inside p
-            | inr p ↦ ahead.0 k d lt p
-          ],
-        ) in
+        let joined : J y = All-contains J rest y later inside in
+        let forward = All-contains (λ z. ¬ P z x) rest y (pairs_head (λ i j. ¬ P j i) x rest a) inside in
+        grind (arith, below y joined, parts.0 k d lt, joins y x joined here, forward, ahead.0 k d lt) in
         rw (c.is) (run_along accesses (c.before ++ x ∷ c.rest) (x ∷ c.before ++ c.rest) (x ∷ rest)
         (run_to_front accesses foot x c.before c.rest (below x here) free)
         (run_later accesses x (c.before ++ c.rest) rest
         (reordered rest (c.before ++ c.rest) later others (pairs_tail (λ i j. i ≢ j) x rest once) parts.1
         (pairs_tail (λ i j. ¬ P j i) x rest a) ahead.1)))
 
--- ---- lawful orders
-
--- where each stands once, one place
-one_place : (order : List ℕ) (a b d : ℕ) → AllPairs (λ i j. i ≢ j) order → b < length order
-    → slice_get order a ≡ Some (get_or order b d) → a ≡ b
-one_place order a b d once lb at =
-    grind (arith, cases_order, get_or_default_zero, get_or_from_slice_get, slice_get_within)
-
 -- no path leads back in a lawful order
 lawful_forward : LawfulOrdersKeepPaths → (g : Graph) (who : List Bool) (order : List ℕ) → IsLawfulOrder g who order
     → Forward (Path g) order
 lawful_forward keeps g who order lawful a b d lt l p =
-    let s : StandsBefore order (get_or order b d) (get_or order a d) = keeps g who order lawful _ _ p in
-    let second = one_place order s.earlier b d lawful.once l s.first in
-    let first = one_place order s.later a d lawful.once (omega arith) s.second in
-    absurd (omega (arith, first, second, s.in_order))
+    let s = keeps g who order lawful (get_or order b d) (get_or order a d) p in
+    let one = lawful.once in
+    let places = cases_order s.earlier b in
+    let others = cases_order s.later a in
+    grind (arith, one, places, others, s, get_or_default_zero, get_or_from_slice_get, slice_get_within)
 
 pub orders_agree : JobFootprint → ConflictingSystemsAreOrdered → LawfulOrdersKeepPaths → LawfulOrdersAgree
 orders_agree foot ordered keeps s accesses settled a b are is_settled la lb =
@@ -136,8 +111,6 @@ orders_agree foot ordered keeps s accesses settled a b are is_settled la lb =
     lb.once la.once (lawful_forward keeps settled (join_flags s) b lb)
     (lawful_forward keeps settled (join_flags s) a la) s are
 
--- ---- frames
-
 pub frames_agree : JobFootprint → ConflictingSystemsAreOrdered → LawfulOrdersKeepPaths → SettledOrderIsUnique
     → TurnOrderIsLawful → FramesAgreeInLawfulOrders
 frames_agree foot ordered keeps one is_lawful frame s u log settled order x is_order lawful =
@@ -146,8 +119,5 @@ frames_agree foot ordered keeps one is_lawful frame s u log settled order x is_o
     let own = is_lawful settled (join_flags b) (systems_in log) (order_is_among _ _ is_order)
     (rw same at x.in_order.in_order) in
     let agree = orders_agree foot ordered keeps b is_order.accesses settled order
-    (systems_in log) is_order.of_systems is_order.is_settled lawful own in (
-      agree.0 ∙ sym x.leaves,
-      ap (λ (l : Log). l.posts) (sym x.tells),
-      rw (x.tells) (agree.1),
-    )
+    (systems_in log) is_order.of_systems is_order.is_settled lawful own in
+    grind (arith, agree, x.leaves, x.tells)

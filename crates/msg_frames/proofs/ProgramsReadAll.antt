@@ -1,13 +1,11 @@
 -- A system without conditions whose program reads all of a type reads all in each frame.
-use Rattle.std.proofs.Common.{◌≡◌, ◌≢◌, ℕ, ℤ, ◌≤◌, List, [], ◌∷◌, All, length, false, ap, ◌∙◌, arith, IsTrue}
+use Rattle.std.proofs.Common.{◌≡◌, ◌≢◌, ℕ, ℤ, ◌≤◌, List, [], ◌∷◌, All, length, false, ap, arith}
 use Rattle.std.proofs.lemmas.{Bool.false≢true, List.Elements.All-cons, List.Elements.All-nil, List.FromFn.get_or-map-range_with_len}
 use Rattle.msg_buffer.specs.Prelude.{OnlyGrows}
 use Rattle.msg_world.specs.declared.record.Record.{Record}
-use Rattle.msg_world.specs.Prelude.{WorldState}
 use Rattle.msg_system.specs.declared.program.Program.{Program}
 use Rattle.msg_system.specs.Prelude.{IsInOrder, Job, Meaning, after_job, of_program, program_needs, started_places, turn}
-use Rattle.msg_order.specs.Prelude.{has_joined}
-use Rattle.msg_frames.specs.Prelude.{Skipped, State, WhoseProgramReadsAll, after_turn_of, after_turns_of, before_turns, counts, has_begun, job_begun, join_flags, systems_in}
+use Rattle.msg_frames.specs.Prelude.{Skipped, State, WhoseProgramReadsAll, after_turn_of, after_turns_of, before_turns, counts, has_begun, job_begun, systems_in}
 use Rattle.msg_frames.proofs.{BeforeTurns.Prepares, BeforeTurns.comes, BeforeTurns.prepares, BeforeTurns.stood, ReaderOverTurns.one_member}
 use Rattle.msg_frames.proofs.BeforeTurns as before
 
@@ -16,15 +14,11 @@ module _ (in_order : IsInOrder) (program : Program) (writer : ℕ) (few : length
   abbrev IsProgram : Job → Type 0
   IsProgram j = (places : ℕ → ℕ) × (j ≡ record { system = of_program program writer places; conditions = [] })
 
-  job_stays : (j : Job) (w : WorldState) → IsProgram j → IsProgram (after_job j w).job
-  job_stays j w is = (
-    (turn _ _).places,
-    ap (λ (k : Job). (after_job k w).job) is.1
-        ∙ ap (λ (m : Meaning). record { system = m; conditions = [] }) (in_order program writer is.0 w few).1,
-  )
-
   turn_stays : (i j : ℕ) (s : State) → IsProgram (s.members i).job → IsProgram ((after_turn_of j s).members i).job
-  turn_stays i j s is = one_member (λ m. IsProgram m.job) j i s (λ e. job_stays (s.members i).job s.world is) (λ ne. is)
+  turn_stays i j s is =
+      let places : ℕ → ℕ = (turn (of_program program writer is.0) s.world).places in
+      let after = in_order program writer is.0 s.world few in
+      one_member (λ m. IsProgram m.job) j i s (λ e. (places, grind (arith, is.1, after))) (λ ne. is)
 
   turns_stay : (i : ℕ) (order : List ℕ) (s : State) → IsProgram (s.members i).job
       → IsProgram ((after_turns_of order s).state.members i).job
@@ -54,11 +48,9 @@ programs_read_all grow in_order frame s log u i t program writer places is there
     before_stays in_order program writer few grow frame.posts s i (places, was) in
     let stays : IsProgram in_order program writer few (u.members i).job =
     rw (is.leaves) (turns_stay in_order program writer few i (systems_in log) b ready) in
-    let now : IsTrue (has_begun b i) = grind (arith, false≢true, prep.arrival i) in
-    let joins : has_joined (join_flags b) i ≡ has_begun b i =
-    get_or-map-range_with_len (has_begun b) 0 b.systems i i false (rw (prep.same.systems) there) (omega arith) in (
+    let joins = get_or-map-range_with_len (has_begun b) 0 b.systems i i false (rw (prep.same.systems) there) in (
       record {
-        has_turn = (is.in_order.in_order.of_joined i).1 (joins ∙ now);
+        has_turn = grind (arith, is.in_order.in_order.of_joined i, joins, false≢true, prep.arrival i);
         ran = rw (is.tells) (turns_ran in_order program writer few i (systems_in log) b ready);
         read_all = rw (stays.1) reads;
       },

@@ -1,6 +1,6 @@
 -- What a reader goes past by an op, by a turn and by a job.
 use Rattle.std.proofs.Common.{◌≡◌, ℕ, zero, suc, ◌≤◌, List, [], ◌∷◌, ◌++◌, append_assoc, map, length, All, Option, None, Some, refl, ap, arith, cond, ◌==◌}
-use Rattle.std.proofs.lemmas.{Bool.cases_Bool, List.append-nil, List.length-append, List.length-map, List.map-append, List.map-id, List.Elements.All-append, List.Elements.All-cons, List.Elements.All-nil, Bool.Decides.eqb_tells, Simd.map-map}
+use Rattle.std.proofs.lemmas.{Bool.cases_Bool, List.append-nil, List.length-append, List.length-map, List.map-append, List.map-id, List.Elements.All-append, List.Elements.All-cons, List.Elements.All-nil, List.Elements.All-weaker, Bool.Decides.eqb_tells, Simd.map-map}
 use Rattle.msg_buffer.specs.Prelude.{Fits, GoesOn, History, IsSound, Stretch, Tile, count, given, message_of, next_place, pass_over, read}
 use Rattle.msg_world.specs.declared.record.Record.{Record}
 use Rattle.msg_world.specs.Prelude.{WorldState}
@@ -36,15 +36,13 @@ tile-append p (x ∷ xs) q ys r a b = grind (arith, tile-append (next_place x.1)
 pub passes_further : (p : ℕ) (a : History Record) (ms : List Moment) (q : ℕ) (b : History Record) (ns : List Moment)
     (r : ℕ) (c : History Record)
     → Passes p a ms q b → Passes q b ns r c → Passes p a (ms ++ ns) r c
-passes_further p a ms q b ns r c x y = record {
-  goes_on = goes_further _ _ _ x.goes_on y.goes_on;
-  within = y.within;
-  tile = rw (map-append tile_of ms ns) (tile-append _ _ _ _ _ x.tile y.tile);
-  gives = All-append GivesItsStretch _ _ x.gives y.gives;
-  earlier = All-append (λ m. GoesOn m.history c) _ _
-      (λ k d lt. goes_further _ _ _ (x.earlier k d lt) y.goes_on) y.earlier;
-  written = All-append IsWritten _ _ x.written y.written;
-}
+passes_further p a ms q b ns r c x y =
+    let gives = All-append GivesItsStretch ms ns x.gives y.gives in
+    let longer = λ (m : Moment) (g : GoesOn m.history b). goes_further m.history b c g y.goes_on in
+    let earlier = All-append (λ m. GoesOn m.history c) ms ns (All-weaker _ _ longer ms x.earlier) y.earlier in
+    let written = All-append IsWritten ms ns x.written y.written in
+    let tile = tile-append p (map tile_of ms) q (map tile_of ns) r x.tile y.tile in
+    grind (arith, goes_further a b c, map-append tile_of ms ns, gives, earlier, written, tile)
 
 -- nothing is gone past
 pub passes_nothing : (p : ℕ) (a b : History Record) → p ≤ count a → GoesOn a b → Passes p a [] p b
@@ -57,11 +55,6 @@ pub passes_one : (p : ℕ) (a : History Record) (e : Entry) (b : History Record)
     → Passes p a (record { history = a; entry = e } ∷ []) (next_place e.stretch) b
 passes_one p a e b fits within gives goes = grind (arith, All-cons, All-nil, counts_more)
 
--- the moments of an op
-abbrev pub op_moments : ℕ → Op → ℕ → (ℕ → ℕ) → WorldState → List Moment
-op_moments t op writer ps w = map (λ e. record { history = w.histories t; entry = e })
-    (entry_for t op (after_op op writer ps w).reply)
-
 -- the moment of an entry of type u, for type t
 abbrev moments_if : ℕ → ℕ → WorldState → Entry → List Moment
 moments_if u t w e = map (λ x. record { history = w.histories t; entry = x }) (cond (u == t) (e ∷ []) [])
@@ -72,18 +65,6 @@ GoesPast t ps w ms qs v = IsSound (w.histories t) → ps t ≤ count (w.historie
     → Passes (ps t) (w.histories t) ms (qs t) (v.histories t)
 
 module _ (laws : BufferLaws) where
-  read_passes : (h b : History Record) (place : ℕ) (limit : Option ℕ) → IsSound h → place ≤ count h → GoesOn h b
-      → Passes place h (record { history = h; entry = entry_of_read (took h place limit) } ∷ [])
-      (next_place (read h place limit)) b
-  read_passes h b place limit sound within goes =
-      let law = laws.reads h place limit sound in
-      rw (length-map (given h place limit) message_of)
-      (passes_one place h (record { stretch = read h place limit; given = Some _ }) b law.0 (law.2 within)
-      (ap (map message_of) law.1) goes)
-
-  abbrev cleared_entry : History Record → ℕ → Entry
-  cleared_entry h place = record { stretch = pass_over h place; given = None }
-
   module _ (t : ℕ) where
     -- an op that reads type u
     of_type : (u : ℕ) (w : WorldState) (v : History Record) (ps : ℕ → ℕ) (e : Entry) (q : ℕ)
@@ -97,29 +78,30 @@ module _ (laws : BufferLaws) where
         → GoesPast t ps w (moments_if u t w (entry_of_read (took (w.histories u) (ps u) limit)))
         (with_place ps u (next_place (read (w.histories u) (ps u) limit))) v
     of_read u w v ps limit grows sound within =
-        of_type u w _ ps _ _ within (grows sound) (λ e. rw e (read_passes _ _ _ limit sound within (grows sound)))
-
-    op_passes : (op : Op) (writer : ℕ) (ps : ℕ → ℕ) (w : WorldState) →
-        let done = after_op op writer ps w in GoesPast t ps w (op_moments t op writer ps w) done.places done.state
-    op_passes (Read u limit) writer ps w = of_read u w w ps limit (stays _)
-    op_passes (Clear u) writer ps w = λ sound within.
-        let law = laws.clears (w.histories t) (ps t) sound in
-        let to = law.1 within in
-        of_type u w _ ps _ _ within (stays _ sound) (λ e. rw (e, ← to) (passes_one (ps t) (w.histories t)
-        (cleared_entry (w.histories t) (ps t)) _ law.0 (omega (arith, to)) tt (stays _ sound)))
-    op_passes (Forward u v) writer ps w =
-        of_read u w (after_op (Forward u v) writer ps w).state ps None
-        (op_changes Grows (grown laws.grow) (Forward u v) writer ps w t)
-    op_passes (Sum u r) writer ps w = of_read u w w ps None (stays _)
-    op_passes op writer ps w = λ sound within.
-        let goes = op_changes Grows (grown laws.grow) op writer ps w t sound in
-        grind (arith, cases_Bool, passes_nothing (ps t) (w.histories t) _ within goes)
+        let h : History Record = w.histories t in
+        let law = laws.reads h (ps t) limit sound in
+        of_type u w _ ps _ _ within (grows sound) (λ e. rw (e, length-map (given h (ps t) limit) message_of)
+        (passes_one (ps t) h (record { stretch = read h (ps t) limit; given = Some _ }) _ law.0 (law.2 within)
+        (ap (map message_of) law.1) (grows sound)))
 
     pub next_passes : (o : Option Op) (writer : ℕ) (far : AfterProgram) →
         let more = one_more o writer far in
         GoesPast t far.places far.state (next_moments t o writer far) more.places more.state
     next_passes None writer far = λ sound within. passes_nothing _ _ _ within (stays _ sound)
-    next_passes (Some op) writer far = op_passes op writer far.places far.state
+    next_passes (Some (Read u limit)) writer far = of_read u far.state far.state far.places limit (stays _)
+    next_passes (Some (Clear u)) writer far = λ sound within.
+        let h : History Record = far.state.histories t in
+        let law = laws.clears h (far.places t) sound in
+        let entry : Entry = record { stretch = pass_over h (far.places t); given = None } in
+        of_type u far.state _ far.places _ _ within (stays _ sound) (λ e. rw (e, ← law.1 within)
+        (passes_one (far.places t) h entry _ law.0 (omega (arith, law.1 within)) tt (stays _ sound)))
+    next_passes (Some (Forward u v)) writer far =
+        of_read u far.state (after_op (Forward u v) writer far.places far.state).state far.places None
+        (op_changes Grows (grown laws.grow) (Forward u v) writer far.places far.state t)
+    next_passes (Some (Sum u r)) writer far = of_read u far.state far.state far.places None (stays _)
+    next_passes (Some op) writer far = λ sound within.
+        let goes = op_changes Grows (grown laws.grow) op writer far.places far.state t sound in
+        grind (arith, cases_Bool, passes_nothing (far.places t) (far.state.histories t) _ within goes)
 
     pub first_passes : (n : ℕ) (m : Meaning) (w : WorldState) →
         let far = after_at_most n (next_op m) m.writer m.places w in
@@ -135,8 +117,6 @@ module _ (laws : BufferLaws) where
         → GoesPast t m.places w (turn_moments t m w) (turn m w).places (turn m w).state
     unfolding turn turn_moments
     turn_passes m w = first_passes 64 m w
-
-    -- ---- a job
 
     pub job_passes : (j : Job) (w : WorldState)
         → GoesPast t j.system.places w (job_moments t j w) (after_job j w).job.system.places (after_job j w).state
@@ -158,8 +138,7 @@ module _ (t : ℕ) (m : Meaning) (w : WorldState) where
   entries_snoc : (ops : List Op) (rs : List Reply) (op : Op) (r : Reply) → length ops ≡ length rs
       → entries_for t (ops ++ op ∷ []) (rs ++ r ∷ []) ≡ entries_for t ops rs ++ entry_for t op r
   entries_snoc [] [] op r same = append-nil (entry_for t op r)
-  entries_snoc (o ∷ ops) (x ∷ rs) op r same =
-      grind (arith, append_assoc, entries_snoc ops rs op r (omega (arith, same)))
+  entries_snoc (o ∷ ops) (x ∷ rs) op r same = grind (arith, append_assoc, entries_snoc ops rs op r)
   entries_snoc ops rs op r same = absurd (omega (arith, same))
 
   answered_more : (o : Option Op) (far : AfterProgram) (ms : List Moment) → next_op m far.replies ≡ o
@@ -172,15 +151,11 @@ module _ (t : ℕ) (m : Meaning) (w : WorldState) where
   answered zero = (refl, refl)
   answered (suc n) = answered_more (next_op m (so_far n).replies) (so_far n) (first_moments t n m w) refl (answered n)
 
-  turn_entries : entries_for t (ops_answered (next_op m) (turn m w).replies) (turn m w).replies
-      ≡ map (λ x. x.entry) (turn_moments t m w)
-  unfolding turn turn_moments
-  turn_entries = (answered 64).1
-
 -- those that the log has, and that the accounts get
 pub job_logged : (t : ℕ) (j : Job) (w : WorldState) → outcome_entries t j.system (outcome_of (after_job j w).replies)
     ≡ map (λ m. m.entry) (job_moments t j w)
-job_logged t j w = grind (arith, append-nil, cases_Bool, turn_entries)
+unfolding turn turn_moments
+job_logged t j w = grind (arith, append-nil, cases_Bool, answered t j.system w 64)
 
 -- what it does after its job
 pub job_rule : (j : Job) (w : WorldState) → (after_job j w).job.system.rule

@@ -4,7 +4,7 @@ use Rattle.std.proofs.lemmas.{Bool.cases_eq, Bool.eq-eqb, Bool.ne_eqb, List.map-
 use Rattle.msg_buffer.specs.Prelude.{IsSound, count, History}
 use Rattle.msg_system.specs.declared.reply.Reply.{Reply}
 use Rattle.msg_system.specs.Prelude.{Needs, Rule}
-use Rattle.msg_frames.specs.Prelude.{Member, Moment, SameSystems, State, Turn, after_turn_of, after_turns_of, answers, entries_told, job_moments, logged_turn, place_of, turn_of, turns_moments, with_entries, Totals}
+use Rattle.msg_frames.specs.Prelude.{Member, Moment, State, Turn, after_turn_of, after_turns_of, answers, entries_told, job_moments, logged_turn, place_of, turn_of, turns_moments, with_entries, Totals}
 use Rattle.msg_order.proofs.Elements.{Contains-tail, Contains-head}
 use Rattle.msg_frames.proofs.{HistoriesGrow.BufferLaws, HistoriesGrow.Grows, HistoriesGrow.grown, HistoriesGrow.job_changes, HistoriesGrow.stays, SystemsStay.one_turn_keeps, ReaderOverJob.Passes, ReaderOverJob.job_logged, ReaderOverJob.job_passes, ReaderOverJob.job_rule, ReaderOverJob.passes_further, ReaderOverJob.passes_nothing, EntriesAddUp.with_entries-append, EntriesAddUp.with_entries-none}
 use Rattle.msg_world.specs.declared.record.Record.{Record}
@@ -20,19 +20,11 @@ Reads i t s ms u = ReadsFrom i t (place_of s i t) ((s.members i).totals t) (s.wo
 
 pub reads_further : (i t : ℕ) (a : State) (ms : List Moment) (b : State) (ns : List Moment) (c : State)
     → Reads i t a ms b → Reads i t b ns c → Reads i t a (ms ++ ns) c
-reads_further i t a ms b ns c x y = record {
-  passes = passes_further _ _ _ _ _ _ _ _ x.passes y.passes;
-  totals = rw (
-    y.totals,
-    x.totals,
-    map-append (λ (m : Moment). m.entry) ms ns,
-    with_entries-append (map (λ m. m.entry) ms) (map (λ m. m.entry) ns) ((a.members i).totals t),
-  ) refl;
-}
-
--- the same systems, and as many frames: so turns leave them
-abbrev pub Keeps : State → State → Type 0
-Keeps s u = SameSystems s u × (u.frames ≡ s.frames)
+reads_further i t a ms b ns c x y =
+    let joins = map-append (λ (m : Moment). m.entry) ms ns in
+    let adds = with_entries-append (map (λ m. m.entry) ms) (map (λ m. m.entry) ns) ((a.members i).totals t) in
+    let passes = passes_further _ _ _ _ _ _ _ _ x.passes y.passes in
+    record { passes = passes; totals = rw (y.totals, x.totals, joins, adds) refl }
 
 -- a member is as its turn leaves it, or as it was
 pub one_member : (P : Member → Type 0) (j i : ℕ) (s : State) → (i ≡ j → P (turn_of s i).member)
@@ -108,15 +100,9 @@ turns_tell i t (j ∷ js) s =
     (turn_tells i t j s) (turns_tell i t js (after_turn_of j s))
 
 -- one whose turn doesn't come
-pub turns_skip : (i : ℕ) (js : List ℕ) (s : State) → ¬ Contains js i → (after_turns_of js s).state.members i
-    ≡ s.members i
-turns_skip i [] s out = refl
-turns_skip i (j ∷ js) s out =
-    let rest = turns_skip i js (after_turn_of j s) (λ at. out (Contains-tail j js i at)) in
+pub turns_skip : (i t : ℕ) (js : List ℕ) (s : State) → ¬ Contains js i
+    → ((after_turns_of js s).state.members i ≡ s.members i) × (turns_moments i t js s ≡ [])
+turns_skip i t [] s out = (refl, refl)
+turns_skip i t (j ∷ js) s out =
+    let rest = turns_skip i t js (after_turn_of j s) (λ at. out (Contains-tail j js i at)) in
     grind (arith, eqb_tells j i, eqb_tells i j, Contains-head j js, rest)
-
-pub no_moments : (i t : ℕ) (js : List ℕ) (s : State) → ¬ Contains js i → turns_moments i t js s ≡ []
-no_moments i t [] s out = refl
-no_moments i t (j ∷ js) s out =
-    let rest = no_moments i t js (after_turn_of j s) (λ at. out (Contains-tail j js i at)) in
-    grind (arith, eqb_tells j i, Contains-head j js, rest)

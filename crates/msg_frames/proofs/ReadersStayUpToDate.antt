@@ -1,21 +1,17 @@
 -- A reader that reads all in each frame is up to date, and so it misses nothing.
-use Rattle.std.proofs.Common.{◌≡◌, ℕ, suc, ◌<◌, ◌≤◌, List, [], ◌∷◌, ◌++◌, map, All, Contains, refl, sym, ◌∙◌, arith, inl, inr, get_or, IsTrue}
-use Rattle.std.proofs.lemmas.{Bool.cases_Bool, Bool.cases_eq, Bool.false≢true, Option.same_Some, Option.slice_get_cases, Option.slice_get_within, List.Elements.All-append, List.Elements.All-cons, List.Elements.All-head, List.Elements.All-map, List.Elements.All-nil, List.Elements.All-tail, Bool.Decides.nat_tests}
-use Rattle.msg_buffer.specs.Prelude.{Fits, GoesOn, History, IsPresent, Stretch, Tile, count, next_place, update}
+use Rattle.std.proofs.Common.{◌≡◌, ℕ, suc, ◌<◌, ◌≤◌, List, [], ◌∷◌, ◌++◌, map, All, Contains, refl, arith, get_or, IsTrue}
+use Rattle.std.proofs.lemmas.{Bool.cases_Bool, Bool.cases_eq, Bool.false≢true, Option.same_Some, Option.slice_get_cases, Option.slice_get_within, List.append-nil, List.Elements.All-append, List.Elements.All-cons, List.Elements.All-head, List.Elements.All-map, List.Elements.All-nil, List.Elements.All-tail, Bool.Decides.nat_tests}
+use Rattle.msg_buffer.specs.Prelude.{Entry, Fits, GoesOn, History, IsPresent, Stretch, Tile, count, next_place, update}
 use Rattle.msg_world.specs.declared.record.Record.{Record}
-use Rattle.msg_world.specs.Prelude.{WorldState, after_update}
-use Rattle.msg_frames.proofs.{ElementsAndPairs.Cut, ElementsAndPairs.cut, HistoriesGrow.BufferLaws, HistoriesGrow.counts_more, HistoriesGrow.Grows, HistoriesGrow.frame_goes_on, HistoriesGrow.grown, HistoriesGrow.posts_change, HistoriesGrow.runs_go_on, HistoriesGrow.turns_change, SystemsStay.joining_world, SystemsStay.turns_keep, SystemsStay.frame_keeps, ReaderOverJob.IsWritten, ReaderOverJob.tile_of, ReaderOverTurns.turns_read, BeforeTurns.Prepares, BeforeTurns.prepares, StatesStaySound.begun_alike, StatesStaySound.frame_sound, StatesStaySound.has_no_turn, StatesStaySound.prepared_sound, ReaderOverRun.run_tells, StampsStayRecent.AreRecent, StampsStayRecent.StaysRecent, StampsStayRecent.earlier_recent, StampsStayRecent.stays_recent, StampsStayRecent.update_recent, StampsStayRecent.updated_recent, ReadersTakeAll.takes_by_turn}
-use Rattle.msg_frames.specs.Prelude.{Frame, IsFrame, IsRun, IsSoundState, IsUpToDate, Log, MissesNothing, Moment, NothingDrained, ReadsAll, ReadsAllInEach, State, WhoIsUpToDateMissesNothing, WhoReadsEachFrameMissesNothing, after_turns_of, before_turns, has_begun, joining, moments, place_of, systems_in, turns_moments}
-
--- ---- what is present
+use Rattle.msg_world.specs.Prelude.{after_update}
+use Rattle.msg_frames.proofs.{ElementsAndPairs.Cut, ElementsAndPairs.cut, HistoriesGrow.BufferLaws, HistoriesGrow.counts_more, HistoriesGrow.Grows, HistoriesGrow.frame_goes_on, HistoriesGrow.grown, HistoriesGrow.posts_change, HistoriesGrow.runs_go_on, HistoriesGrow.turns_change, SystemsStay.joining_world, SystemsStay.turns_keep, SystemsStay.frame_keeps, ReaderOverJob.IsWritten, ReaderOverJob.tile_of, ReaderOverTurns.turns_read, BeforeTurns.Prepares, BeforeTurns.prepares, StatesStaySound.begun_alike, StatesStaySound.frame_sound, StatesStaySound.has_no_turn, StatesStaySound.prepared_sound, ReaderOverRun.run_tells, StampsStayRecent.AreRecent, StampsStayRecent.StaysRecent, StampsStayRecent.earlier_recent, StampsStayRecent.stays_recent, ReadersTakeAll.takes_by_turn}
+use Rattle.msg_frames.specs.Prelude.{Frame, IsFrame, IsRun, IsSoundState, IsUpToDate, Log, Moment, NothingDrained, ReadsAll, ReadsAllInEach, State, WhoIsUpToDateMissesNothing, WhoReadsEachFrameMissesNothing, after_turns_of, before_turns, has_begun, joining, moments, place_of, systems_in, turns_moments}
 
 -- a message that was written at most one update ago, and stands at the floor or above
 pub is_there : (p : ℕ) (h : History Record) (n : ℕ) → AreRecent 1 p h → p ≤ n → h.floor ≤ n → n < count h
     → IsPresent h n
-is_there p h n recent above floor within = elim (slice_get_cases h.entries n).1 [
-  | inl found ↦ (found.0, found.2, grind (arith, nat_tests, recent n found.0 above found.2))
-  | inr past ↦ let over = past.0 in absurd (omega arith)
-]
+is_there p h n recent above floor within =
+    grind (arith, (slice_get_cases h.entries n).1, nat_tests, λ (e : Entry Record). recent n e above)
 
 -- a stretch that fits where all is present misses nothing
 none_missed : (h : History Record) (place : ℕ) (s : Stretch) → Fits h place s → next_place s ≤ count h
@@ -34,23 +30,10 @@ pub tile_misses_none : (p place : ℕ) (ms : List Moment) (to : ℕ) → Tile pl
     → AllPresent p ms → p ≤ place → NoneMissed ms
 tile_misses_none p place [] to tile written there above = All-nil (λ m. m.entry.stretch.missed ≡ 0)
 tile_misses_none p place (m ∷ ms) to tile written there above =
-    All-cons (λ m. m.entry.stretch.missed ≡ 0) m ms
-    (none_missed m.history place m.entry.stretch tile.0 (All-head IsWritten m ms written)
-    (λ n at. there 0 m (omega arith) n (omega (arith, at, above))))
-    (tile_misses_none p (next_place m.entry.stretch) ms to tile.1 (All-tail IsWritten m ms written)
-    (λ k d lt. there (suc k) d (omega arith)) (omega (arith, tile.0.first)))
-
--- ---- a frame
-
-none_yet_updated : (p t : ℕ) (w : WorldState) → count (w.histories t) ≤ p → AreRecent 0 p ((after_update w).histories t)
-none_yet_updated p t w less n e above at =
-    let within = slice_get_within ((after_update w).histories t).entries n e at in grind (arith, cases_Bool, within)
-
--- who is up to date has only recent messages before it
-recent_ahead : (s : State) (i t : ℕ) → IsUpToDate s i t → AreRecent 0 (place_of s i t) (s.world.histories t)
-recent_ahead s i t up n e above at =
-    let there = up n above (slice_get_within (s.world.histories t).entries n e at) in
-    grind (arith, nat_tests, same_Some _ _ (sym there.1 ∙ at))
+    let rest = tile_misses_none p (next_place m.entry.stretch) ms to tile.1 (All-tail IsWritten m ms written) in
+    let here = none_missed m.history place m.entry.stretch tile.0 (All-head IsWritten m ms written) in
+    All-cons (λ m. m.entry.stretch.missed ≡ 0) m ms (grind (arith, here, there 0 m (omega arith), above))
+    (rest (λ k d lt. there (suc k) d (omega arith)) (omega (arith, tile.0.first)))
 
 module _ (laws : BufferLaws) where
   module _ (frame : Frame) (s : State) (log : Log) (u : State) (i t : ℕ) (sound : IsSoundState s)
@@ -91,15 +74,17 @@ module _ (laws : BufferLaws) where
     now_up_to_date reads drained n above within =
         let p : ℕ = count (s.world.histories t) in
         let had = has_frame_before reads in
-        is_there p (update (u.world.histories t)) n
-        (update_recent p (u.world.histories t) (frame_recent 0 p (none_yet_updated p t s.world (omega arith))))
+        let updated : AreRecent 0 p ((after_update s.world).histories t) = λ k e from at.
+        grind (arith, cases_Bool, slice_get_within ((after_update s.world).histories t).entries k e at) in
+        is_there p (update (u.world.histories t)) n (λ k e from at. omega (arith, frame_recent 0 p updated k e from at))
         (omega arith) (omega (arith, drained, (sound.histories t below).floor)) within
 
     present_at : (ms : List Moment) → IsUpToDate s i t → NothingDrained t s u
         → All (λ m. GoesOn m.history (u.world.histories t)) ms → AllPresent (place_of s i t) ms
     present_at ms up drained goes k d lt n above within =
         let p : ℕ = place_of s i t in
-        let recent = frame_recent 1 p (updated_recent p t s.world (recent_ahead s i t up)) in
+        let recent = frame_recent 1 p
+        (λ m e after at. grind (arith, cases_Bool, nat_tests, same_Some, up m after, slice_get_within)) in
         is_there p (get_or ms k d).history n (earlier_recent 1 p _ _ (goes k d lt) recent) above
         (grind (arith, drained, nat_tests, up n above, (sound.histories t below).floor, (goes k d lt).floor))
         within
@@ -107,11 +92,9 @@ module _ (laws : BufferLaws) where
     frame_misses_none : IsTrue (has_begun s i) → IsUpToDate s i t → NothingDrained t s u
         → NoneMissed (turns_moments i t (systems_in log) b)
     frame_misses_none has up drained =
-        let reads =
-        (turns_read laws i t (systems_in log) b (ready.histories t under) (ready.places i t under)).passes in
-        let same : place_of s i t ≤ place_of b i t = grind (arith, false≢true, prep.arrival i) in
-        tile_misses_none (place_of s i t) _ _ _ reads.tile reads.written
-        (present_at _ up drained (rw (is.leaves) reads.earlier)) same
+        let reads = turns_read laws i t (systems_in log) b (ready.histories t under) (ready.places i t under) in
+        tile_misses_none (place_of s i t) _ _ _ reads.passes.tile reads.passes.written
+        (present_at _ up drained (rw (is.leaves) reads.passes.earlier)) (grind (arith, false≢true, prep.arrival i))
 
     -- who has a turn has joined
     joined_by_turn : Contains (systems_in log) i → IsTrue (has_begun u i)
@@ -134,17 +117,10 @@ module _ (laws : BufferLaws) where
       → t < s.types → NothingDrained t s u → Between t s m u
   between frame frames s m u log logs t sound is run below drained =
       let order : List ℕ = systems_in log in
-      let msound : IsSoundState m = frame_sound laws frame s log m sound is in
-      let goes : GoesOn (s.world.histories t) (m.world.histories t) =
-      rw (is.leaves) (frame_goes_on laws.grow order frame s t (sound.histories t below)) in
-      let mbelow : t < m.types = rw (is.leaves, (frame_keeps order frame s).types) below in
-      let later = runs_go_on laws.grow frames m u logs run t (msound.histories t mbelow) in
-      record {
-        sound = msound;
-        below = mbelow;
-        first = omega (arith, drained, later.floor);
-        rest = omega (arith, drained, goes.floor);
-      }
+      let goes = frame_goes_on laws.grow order frame s t (sound.histories t below) in
+      let types = (frame_keeps order frame s).types in
+      let later = runs_go_on laws.grow frames m u logs run t in
+      grind (arith, is.leaves, frame_sound laws frame s log m sound is, goes, types, later, drained)
 
   -- who reads all in a frame misses nothing in the frames after it, in each of which it reads all
   missed_after : (frame : Frame) (frames : List Frame) (s m u : State) (log : Log) (logs : List Log) (i t : ℕ)
@@ -155,30 +131,21 @@ module _ (laws : BufferLaws) where
   missed_after frame (f ∷ fs) s m u log (l ∷ ls) i t sound is run below first each drained =
       let mid : Between t s m u = between frame (f ∷ fs) s m u log (l ∷ ls) t sound is run below drained in
       let next : Between t m run.0 u = between f fs m run.0 u l ls t mid.sound run.1 run.2 mid.below mid.rest in
+      let now = now_up_to_date frame s log m i t sound is below first mid.first in
       All-append (λ x. x.entry.stretch.missed ≡ 0) _ _
       (frame_misses_none f m l run.0 i t mid.sound run.1 mid.below
-      (joined_by_turn frame s log m i t sound is below first.has_turn)
-      (now_up_to_date frame s log m i t sound is below first mid.first) next.first)
+      (joined_by_turn frame s log m i t sound is below first.has_turn) now next.first)
       (rw (← run.1.leaves)
       (missed_after f fs m run.0 u l ls i t mid.sound run.1 run.2 mid.below each.0 each.1 mid.rest))
   missed_after frame frames s m u log logs i t sound is run below first each drained = absurd run
 
-  -- as the logs tell it
-  told_none_missed : (frames : List Frame) (s : State) (logs : List Log) (u : State) (i t : ℕ) → IsRun frames s logs u
-      → NoneMissed (moments i t frames logs s) → MissesNothing i t s logs
-  told_none_missed frames s logs u i t run none =
-      rw ((run_tells i t frames s logs u run).entries) (All-map (λ e. e.stretch.missed ≡ 0) _ _ none)
-
-  -- ---- the laws
-
   pub misses_nothing : WhoIsUpToDateMissesNothing
   misses_nothing frame s log u i t sound is below has up drained =
-      told_none_missed (frame ∷ []) s (log ∷ []) u i t (u, is, refl)
-      (All-append (λ m. m.entry.stretch.missed ≡ 0) _ []
-      (frame_misses_none frame s log u i t sound is below has up drained)
-      (All-nil (λ m. m.entry.stretch.missed ≡ 0)))
+      let none = frame_misses_none frame s log u i t sound is below has up drained in
+      rw ((run_tells i t (frame ∷ []) s (log ∷ []) u (u, is, refl)).entries, append-nil (turns_moments i t _ _))
+      (All-map (λ e. e.stretch.missed ≡ 0) _ _ none)
 
   pub never_misses : WhoReadsEachFrameMissesNothing
   never_misses frame frames s m u log logs i t sound is run below first each drained =
-      told_none_missed frames m logs u i t run
-      (missed_after frame frames s m u log logs i t sound is run below first each drained)
+      rw ((run_tells i t frames m logs u run).entries) (All-map (λ e. e.stretch.missed ≡ 0) _ _
+      (missed_after frame frames s m u log logs i t sound is run below first each drained))

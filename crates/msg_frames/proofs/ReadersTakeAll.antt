@@ -10,8 +10,6 @@ use Rattle.msg_system.proofs.Turns.{ops_answered-snoc}
 use Rattle.msg_frames.specs.Prelude.{Skipped, State, after_turn_of, after_turns_of, logged_turn, next_moments, place_of, reads_all}
 use Rattle.msg_frames.proofs.{HistoriesGrow.BufferLaws, HistoriesGrow.counts_more, OneFateEach.tiles_rise, ReaderOverJob.first_passes, ReaderOverJob.next_passes, ReaderOverTurns.one_member, ReaderOverTurns.turn_reads}
 
--- ---- a turn that reads all
-
 module _ (laws : BufferLaws) (t : ℕ) where
   op_takes_all : (op : Op) (writer : ℕ) (ps : ℕ → ℕ) (w : WorldState) → IsSound (w.histories t)
       → ps t ≤ count (w.histories t) → IsTrue (reads_all t op)
@@ -46,8 +44,6 @@ module _ (laws : BufferLaws) (t : ℕ) where
       → count (w.histories t) ≤ (turn m w).places t
   unfolding turn
   turn_takes m w sound within is = first_takes 64 m w sound within is
-
-  -- ---- turns
 
   -- where the last ops of system i read all, it stands at c or after it
   abbrev Took : ℕ → ℕ → State → Type 0

@@ -2,25 +2,15 @@
 -- the third frame and clears.
 use Rattle.std.proofs.Common.{◌≡◌, List, [], ◌∷◌, Some, pos, refl}
 use Rattle.msg_world.specs.Prelude.{by, new_world}
-use Rattle.msg_system.specs.{declared.op.Op.Op, declared.op.Op.TheVariants.Read, declared.op.Op.TheVariants.Clear, declared.start.Start.TheVariants.Zero}
+use Rattle.msg_system.specs.{declared.op.Op.TheVariants.Read, declared.op.Op.TheVariants.Clear}
 use Rattle.msg_system.specs.Prelude.{new_system, turn}
 use Rattle.msg_world.specs.declared.record.TheConstants.{HOST}
-use Rattle.msg_frames.specs.Prelude.{AfterFrame, Entry, Log, Place, State, cleared, first_state, found_at, frame_in, given, log_entries, messages_given, missed, nowhere, numbers_of, place_of}
-
-abbrev reader : List Op
-reader = Read 0 (Some 1) ∷ []
-
-abbrev clearer : List Op
-clearer = Clear 0 ∷ []
-
-abbrev late : Place
-late = record { conditions = []; join = 3 }
+use Rattle.msg_frames.specs.Prelude.{AfterFrame, Entry, Log, State, cleared, first_state, found_at, frame_in, given, log_entries, messages_given, missed, nowhere, numbers_of, place_of, program}
 
 abbrev start : State
 start =
-    first_state (new_system (record { ops = reader; start = Zero }) 0
-    ∷ new_system (record { ops = clearer; start = Zero }) 1 ∷ [])
-    (nowhere ∷ late ∷ []) [] 1 (new_world (9 ∷ []) [])
+    first_state (new_system (program (Read 0 (Some 1) ∷ [])) 0 ∷ new_system (program (Clear 0 ∷ [])) 1 ∷ [])
+    (nowhere ∷ record { conditions = []; join = 3 } ∷ []) [] 1 (new_world (9 ∷ []) [])
 
 abbrev first : AfterFrame
 first = frame_in (0 ∷ []) (record { posts = (0, pos 5) ∷ (0, pos 6) ∷ (0, pos 7) ∷ [] }) start
@@ -40,13 +30,9 @@ read = log_entries 0 0 (start.members 0).job.system logs
 
 -- two are read before the third is dropped, and then the fourth
 read_row : (numbers_of given read ≡ 0 ∷ 1 ∷ 3 ∷ []) × (numbers_of missed read ≡ 2 ∷ []) × (numbers_of cleared read ≡ [])
-    × (place_of third.state 0 0 ≡ 4)
+    × (messages_given read ≡ by HOST (pos 5) ∷ by HOST (pos 6) ∷ by HOST (pos 8) ∷ []) × (place_of third.state 0 0 ≡ 4)
 unfolding turn
-read_row = (refl, refl, refl, refl)
-
-messages_row : messages_given read ≡ by HOST (pos 5) ∷ by HOST (pos 6) ∷ by HOST (pos 8) ∷ []
-unfolding turn
-messages_row = refl
+read_row = (refl, refl, refl, refl, refl)
 
 abbrev swept : List Entry
 swept = log_entries 1 0 (start.members 1).job.system logs
@@ -54,9 +40,6 @@ swept = log_entries 1 0 (start.members 1).job.system logs
 -- the other begins at 0, too late for the first three
 swept_row : (found_at start third.state 1 0 ≡ 0) × (numbers_of missed swept ≡ 0 ∷ 1 ∷ 2 ∷ [])
     × (numbers_of cleared swept ≡ 3 ∷ []) × (numbers_of given swept ≡ [])
+    × ((third.state.members 1).totals 0 ≡ record { start = Some 0; got = 0; missed = 3; cleared = 1 })
 unfolding turn
-swept_row = (refl, refl, refl, refl)
-
-totals_row : (third.state.members 1).totals 0 ≡ record { start = Some 0; got = 0; missed = 3; cleared = 1 }
-unfolding turn
-totals_row = refl
+swept_row = (refl, refl, refl, refl, refl)

@@ -1,5 +1,5 @@
 -- A replay tells of each system what the frame tells of it.
-use Rattle.std.proofs.Common.{arith, ◌≡◌, ◌≢◌, ℕ, ◌==◌, inl, inr, List, [], ◌∷◌, ◌++◌, map, refl, ap, sym, ◌∙◌, Bool, false, suc, ne_eqb, ap₂, AllPairs, Contains, IsPermutation, flat_map, if◌then◌else◌, All}
+use Rattle.std.proofs.Common.{arith, ◌≡◌, ◌≢◌, ℕ, ◌==◌, inl, inr, List, [], ◌∷◌, ◌++◌, map, refl, ap, Bool, false, suc, AllPairs, Contains, IsPermutation, flat_map, if◌then◌else◌, All}
 use Rattle.std.proofs.lemmas.{Bool.cases_Bool, Bool.eqb-true, Bool.Decides.eqb_tells, List.append-nil, List.get_or-map, List.length-map, List.Sorted.Contains-permutation, List.Sorted.list_any-IsPermutation, List.Folds.list_any_none}
 use Rattle.msg_order.specs.Prelude.{TurnOrderIsLawful}
 use Rattle.msg_frames.specs.Prelude.{Frame, IsMixedRun, IsReplay, IsRun, Log, ReplaysTellACompleteRun, ReplaysTellTheSame, RunsAreComplete, State, Turn, answers, answers_in, before_turns, join_flags, systems_in}
@@ -25,10 +25,8 @@ module _ {X Y : Type 0} (key : X → ℕ) (f : X → List Y) (i : ℕ) where
   one_told [] once x c e = absurd (not_in_none x c)
   one_told (y ∷ ys) once x c e = elim (Contains-cases y ys x c) [
     | inl same ↦
-        let is : key y ≡ i = ap key same ∙ e in
-        let others : All (λ z. test z ≡ false) ys =
-        λ k d lt. ne_eqb _ i (λ at. once 0 (suc k) d (omega arith) (omega arith) (is ∙ sym at)) in
-        grind (arith, append-nil, eqb_tells, is, none_told ys (list_any_none test ys others), same)
+        let others : All (λ z. test z ≡ false) ys = λ k d lt. grind (arith, eqb_tells, same, once 0 (suc k) d) in
+        grind (arith, append-nil, eqb_tells, none_told ys (list_any_none test ys others), same)
     | inr later ↦
         let rest = one_told ys (pairs_tail (λ a b. key a ≢ key b) y ys once) x later e in
         grind (arith, eqb_tells, later, once 0 (suc later.0) x, rest)
@@ -39,52 +37,39 @@ module _ {X Y : Type 0} (key : X → ℕ) (f : X → List Y) (i : ℕ) where
 
   told_alike : (xs ys : List X) → IsPermutation xs ys → AllPairs (λ a b. a ≢ b) (map key xs)
       → AllPairs (λ a b. a ≢ b) (map key ys) → flat_map own xs ≡ flat_map own ys
-  told_alike xs ys moved once once' = elim (cases_Bool (list_any test xs)) [
-    | inl some ↦
-        let x = Contains-list_any test xs some in
-        one_told xs (keys_once xs once) x.0 x.1.0 (eqb-true _ _ x.1.1)
-        ∙ sym (one_told ys (keys_once ys once') x.0 (Contains-permutation xs ys x.0 moved x.1.0) (eqb-true _ _ x.1.1))
-    | inr none ↦ none_told xs none ∙ sym (none_told ys (sym (list_any-IsPermutation test xs ys moved) ∙ none))
-  ]
-
--- ---- replays
+  told_alike xs ys moved once once' =
+      let some = Contains-list_any test xs in
+      let one = one_told xs (keys_once xs once) in
+      let other = one_told ys (keys_once ys once') in
+      let moves = λ (x : X). Contains-permutation xs ys x moved in
+      let same = list_any-IsPermutation test xs ys moved in
+      grind (arith, cases_Bool (list_any test xs), some, one, other, moves, same, none_told, eqb-true)
 
 turns_alike : TurnOrderIsLawful → (frame : Frame) (order : List ℕ) (s : State) (log : Log) (u : State)
     (replay : IsReplay frame order s log u) (i : ℕ)
     → answers_among i log.turns ≡ answers_among i replay.settled.turns
 turns_alike lawful frame order s log u replay i =
-    let b : State = before_turns frame.posts s in
     let settled = replay.is_frame.in_order in
+    let other = lawful settled.settled (join_flags (before_turns frame.posts s)) (systems_in replay.settled)
+    (order_is_among _ _ settled.is_order) settled.in_order in
     told_alike (λ (turn : Turn). turn.system) (λ (turn : Turn). answers _) i log.turns replay.settled.turns replay.turns
-    (rw (replay.in_order) (replay.lawful.lawful.once))
-    (lawful settled.settled (join_flags b) (systems_in replay.settled)
-    (order_is_among _ _ settled.is_order) settled.in_order).once
+    (rw (replay.in_order) (replay.lawful.lawful.once)) other.once
 
 pub replay_tells : TurnOrderIsLawful → ReplaysTellTheSame
 replay_tells lawful frame order s log u replay i = ap (λ xs. xs ++ []) (turns_alike lawful frame order s log u replay i)
 
--- the logs of the run of the same frames
-record Settled (frames : List Frame) (s : State) (logs : List Log) (u : State) : Type 0 where
-  settled : List Log
-  is_run : IsRun frames s settled u
-  alike : (i : ℕ) → answers_in i logs ≡ answers_in i settled
-
+-- there are logs of the run of the same frames
 settles : TurnOrderIsLawful → (frames : List Frame) (s : State) (logs : List Log) (u : State)
-    → IsMixedRun frames s logs u → Settled frames s logs u
-settles lawful [] s [] u x = record { settled = []; is_run = x; alike = λ i. refl }
+    → IsMixedRun frames s logs u
+    → (settled : List Log) × (IsRun frames s settled u × ((i : ℕ) → answers_in i logs ≡ answers_in i settled))
+settles lawful [] s [] u x = ([], (x, λ i. refl))
 settles lawful (frame ∷ frames) s (log ∷ logs) u x =
     let rest = settles lawful frames x.0 logs u x.2 in
     elim x.1 [
-      | inl ran ↦ record {
-        settled = log ∷ rest.settled;
-        is_run = (x.0, ran, rest.is_run);
-        alike = λ i. ap (λ xs. answers_among i log.turns ++ xs) (rest.alike i);
-      }
-      | inr replay ↦ record {
-        settled = replay.1.settled ∷ rest.settled;
-        is_run = (x.0, replay.1.is_frame, rest.is_run);
-        alike = λ i. ap₂ (λ xs ys. xs ++ ys) (turns_alike lawful frame replay.0 s log x.0 replay.1 i) (rest.alike i);
-      }
+      | inl ran ↦ (log ∷ rest.0, ((x.0, ran, rest.1.0), λ i. grind (arith, rest.1.1 i)))
+      | inr replay ↦
+          let alike = turns_alike lawful frame replay.0 s log x.0 replay.1 in
+          (replay.1.settled ∷ rest.0, ((x.0, replay.1.is_frame, rest.1.0), λ i. grind (arith, alike i, rest.1.1 i)))
     ]
 settles lawful frames s logs u x = absurd x
 

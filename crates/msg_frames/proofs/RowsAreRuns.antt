@@ -2,12 +2,12 @@
 -- order and the batch numbers are computed.
 use Rattle.std.proofs.Common.{◌≡◌, ℕ, zero, suc, ◌*◌, ◌^◌, ◌%◌, ◌<◌, ◌≤◌, Bool, true, false, cond, ◌&&◌, All, List, [], ◌∷◌, Option, Some, None, map, refl, ◌∙◌, arith, nat_lt, bit_or, slice_index_or}
 use Rattle.std.specs.List.{range_with_len, list_all, list_any}
-use Rattle.std.proofs.lemmas.{Bool.cases_Bool, Bool.cases_lt, Bool.and_parts, Bool.false≢true, List.get_or_past, List.FromFn.get_or-map-range_with_len, List.FromFn.length-map-range_with_len, List.Sums.AllPass-from_list_all, Bool.Decides.eqb_tells, Bool.Decides.nat_tests}
+use Rattle.std.proofs.lemmas.{Bool.cases_Bool, Bool.and_parts, Bool.false≢true, List.FromFn.get_or-map-range_with_len, List.FromFn.length-map-range_with_len, List.Sums.AllPass-from_list_all, Bool.Decides.eqb_tells, Bool.Decides.nat_tests}
 use Rattle.msg_world.specs.declared.access.Access.{Access}
-use Rattle.msg_world.specs.Prelude.{Part, OfType, OfResource, Registry, has_bit, no_access, Fits}
+use Rattle.msg_world.specs.Prelude.{Part, OfType, OfResource, Registry, has_bit, no_access}
 use Rattle.msg_world.proofs.Bits.{has_bit-zero, has_bit-set}
 use Rattle.msg_order.specs.Prelude.{access_of}
-use Rattle.msg_order.proofs.Computing.{each_below, is_turn_order, in_turn_by_test}
+use Rattle.msg_order.proofs.Computing.{each_below, is_turn_order, in_turn_by_test, settled_by_test, settled_is}
 use Rattle.msg_system.specs.{declared.op.Op.Op, declared.condition.Condition.Condition, declared.op.Op.TheVariants.Read, declared.program.Program.Program}
 use Rattle.msg_system.specs.Prelude.{IsAccessOf, Needs, conditions_of, is_part, job_needs, op_parts, probe_part, program_needs, turn}
 use Rattle.msg_frames.specs.Prelude.{AfterFrame, Frame, IsRunOf, IsTurnOrderOf, OrderedFrames, Setup, State, alone, before_turns, conditions_frames, contrary, contrary_frames, drained, drained_frames, early_frames, echo, echo_frames, fourth, fourth_frames, frame_in, gated, gated_frames, join_flags, lag, lag_frames, late, late_frames, needs_of, nobody, numbered, program, relay, relay_frames, signallers, signallers_frames, start_of, tally, tally_frames, two_conditions, writers, writers_frames}
@@ -33,20 +33,13 @@ access_for n needs = record {
   registry = needs.writes Registry;
 }
 
-access_fits : (n : ℕ) (needs : Needs) → n ≤ 64 → Fits n n (access_for n needs)
-access_fits n needs few = grind (arith, cases_Bool, mask_at, nat_tests)
-
 -- ---- a job of types and resources below n
 
-abbrev may_read : ℕ → Part → Bool
-may_read n (OfType t) = nat_lt t n
-may_read n (OfResource r) = nat_lt r n
-may_read n Registry = false
-
-abbrev may_write : ℕ → Part → Bool
-may_write n (OfType t) = nat_lt t n
-may_write n (OfResource r) = nat_lt r n
-may_write n Registry = true
+-- a type or a resource below n, or the registry where that is allowed
+abbrev may_use : Bool → ℕ → Part → Bool
+may_use registry n (OfType t) = nat_lt t n
+may_use registry n (OfResource r) = nat_lt r n
+may_use registry n Registry = registry
 
 abbrev passes : (Part → Bool) → Option Part → Bool
 passes test None = true
@@ -59,21 +52,20 @@ any_passes test part (x ∷ xs) p all h = grind (arith, cases_Bool, eqb_tells, a
 
 abbrev is_within : ℕ → List Op → List Condition → Bool
 is_within n ops cs =
-    (list_all (λ op. passes (may_read n) (op_parts op).read) ops && list_all
-    (λ op. passes (may_write n) (op_parts op).written) ops)
-    && list_all (λ c. passes (may_read n) (Some (probe_part c.probe))) cs
+    (list_all (λ op. passes (may_use false n) (op_parts op).read) ops && list_all
+    (λ op. passes (may_use true n) (op_parts op).written) ops)
+    && list_all (λ c. passes (may_use false n) (Some (probe_part c.probe))) cs
 
 access_is : (n : ℕ) (ops : List Op) (cs : List Condition) → n ≤ 64 → is_within n ops cs ≡ true
     → IsAccessOf (job_needs ops cs) (access_for n (job_needs ops cs))
-access_is n ops cs few w = record {
-  reads = λ p.
-      let by_ops = any_passes (may_read n) (λ op. (op_parts op).read) ops p in
-      let by_conditions = any_passes (may_read n) (λ c. Some (probe_part c.probe)) cs p in
-      grind (arith, by_conditions, by_ops, cases_Bool, mask_at, nat_tests);
-  writes = λ p.
-      let by_ops = any_passes (may_write n) (λ op. (op_parts op).written) ops p in
-      grind (arith, by_ops, cases_Bool, mask_at, nat_tests);
-}
+access_is n ops cs few w =
+    let by_ops = any_passes (may_use false n) (λ op. (op_parts op).read) ops in
+    let by_conditions = any_passes (may_use false n) (λ c. Some (probe_part c.probe)) cs in
+    let written = any_passes (may_use true n) (λ op. (op_parts op).written) ops in
+    record {
+      reads = λ p. grind (arith, by_conditions p, by_ops p, cases_Bool, mask_at, nat_tests);
+      writes = λ p. grind (arith, written p, cases_Bool, mask_at, nat_tests);
+    }
 
 -- ---- the turns of a frame
 
@@ -96,7 +88,7 @@ abbrev job_is_within : List Program → State → ℕ → Bool
 job_is_within programs s i = is_within most (ops_at programs i) (conditions_of (s.members i).job)
 
 abbrev are_turns_of : List Program → State → List ℕ → Bool
-are_turns_of programs s order = list_all (job_is_within programs s) (range_with_len 0 s.systems) && is_turn_order most
+are_turns_of programs s order = list_all (job_is_within programs s) (range_with_len 0 s.systems) && is_turn_order
     (accesses_of s) s.rules (join_flags s) order
 
 turns_of : (programs : List Program) (s : State) (order : List ℕ) → ArePrograms programs s
@@ -106,23 +98,19 @@ turns_of programs s order are t =
     let access : ℕ → Access = λ i. access_for most (needs_of (s.members i)) in
     let is : (i : ℕ) → i < s.systems → access_of (accesses_of s) i
     ≡ access i = λ i lt. get_or-map-range_with_len access 0 s.systems i i no_access lt (omega arith) in
-    let all = length-map-range_with_len access 0 s.systems in
-    let fit : (i : ℕ) → Fits most most (access_of (accesses_of s) i) = λ i.
-    grind (arith, access_fits most (needs_of (s.members i)), all, cases_lt, get_or_past, has_bit-zero, is i) in
-    let turn = in_turn_by_test most (accesses_of s) s.rules (join_flags s) order fit both.1 in
     record {
-      settled = turn.settled;
+      settled = settled_by_test (accesses_of s) s.rules (join_flags s);
       is_order = record {
         accesses = accesses_of s;
         of_systems = record {
-          each = all;
+          each = length-map-range_with_len access 0 s.systems;
           of_needs = λ i lt. rw (is i lt, are i) (access_is most (ops_at programs i)
               (conditions_of (s.members i).job) (omega arith)
               (each_below (job_is_within programs s) s.systems i both.0 lt));
         };
-        is_settled = turn.is_settled;
+        is_settled = settled_is (accesses_of s) s.rules (join_flags s);
       };
-      in_order = turn.in_order;
+      in_order = in_turn_by_test (accesses_of s) s.rules (join_flags s) order both.1;
     }
 
 -- ---- runs

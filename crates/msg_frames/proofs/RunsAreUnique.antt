@@ -1,22 +1,15 @@
 -- The systems have one settled order, a frame has one log, and so has a run.
-use Rattle.std.proofs.Common.{arith, ◌≡◌, ℕ, ◌<◌, List, [], ◌∷◌, refl, sym, ◌∙◌}
+use Rattle.std.proofs.Common.{arith, ℕ, List, [], ◌∷◌, refl, sym, ◌∙◌}
 use Rattle.std.proofs.lemmas.List.FromFn.{length-map-range_with_len}
 use Rattle.msg_world.specs.declared.access.Access.{Access}
 use Rattle.msg_order.specs.Prelude.{AreInConflict, Graph, IsAcyclic, IsAmong, SettledOrderIsUnique, Settles, SettlingMakesNoCycle, TurnOrderIsUnique}
-use Rattle.msg_frames.specs.Prelude.{AreAccessesOf, FramesAreUnique, IsOrderOf, IsTurnOrderOf, NoCycle, RunsAreUnique, State, SystemsHaveOneOrder, has_begun, join_flags}
+use Rattle.msg_frames.specs.Prelude.{AreAccessesOf, FramesAreUnique, IsOrderOf, NoCycle, RunsAreUnique, State, SystemsHaveOneOrder, before_turns, has_begun, join_flags, systems_in}
 use Rattle.msg_order.proofs.SetPaths.{settled_joins}
 use Rattle.msg_frames.proofs.SystemsStay.{joined_below}
 
--- ---- conflicts
-
-module _ (s : State) (a b : List Access) (are : AreAccessesOf s a) (are' : AreAccessesOf s b) where
-  same_conflict : (i j : ℕ) → AreInConflict a (join_flags s) i j → AreInConflict b (join_flags s) i j
-  same_conflict i j h =
-      let li : i < s.systems = joined_below s i h.first_joined in
-      let lj : j < s.systems = joined_below s j h.second_joined in
-      grind (arith, are.of_needs i li, are'.of_needs i li, are.of_needs j lj, are'.of_needs j lj)
-
--- ---- settled orders
+same_conflict : (s : State) (a b : List Access) → AreAccessesOf s a → AreAccessesOf s b → (i j : ℕ)
+    → AreInConflict a (join_flags s) i j → AreInConflict b (join_flags s) i j
+same_conflict s a b are are' i j h = grind (arith, joined_below s, are.of_needs, are'.of_needs)
 
 settles_by : (C D : ℕ → ℕ → Type 0) → ((i j : ℕ) → C i j → D i j) → ((i j : ℕ) → D i j → C i j)
     → (ps : List (ℕ × ℕ)) (g h : Graph) → Settles C g ps h → Settles D g ps h
@@ -27,8 +20,6 @@ pub one_order : SettledOrderIsUnique → SystemsHaveOneOrder
 one_order unique s g h x y = unique x.accesses s.rules (join_flags s) g h x.is_settled
     (grind (arith, same_conflict, settles_by, x.of_systems, y.of_systems, y.is_settled))
 
--- ---- frames and runs
-
 pub order_is_among : (s : State) (g : Graph) → IsOrderOf s g → IsAmong (join_flags s) g
 order_is_among s g o = settled_joins o.accesses s.rules (join_flags s) g o.is_settled
 
@@ -37,13 +28,11 @@ order_has_no_cycle acyclic s g none o = acyclic o.accesses s.rules (join_flags s
     (none (join_flags s) (length-map-range_with_len (has_begun s) 0 s.systems))
 
 module _ (one : SettledOrderIsUnique) (turns : TurnOrderIsUnique) where
-  pub one_turn_order : (s : State) (xs ys : List ℕ) → IsTurnOrderOf s xs → IsTurnOrderOf s ys → xs ≡ ys
-  one_turn_order s xs ys x y =
-      turns x.settled (join_flags s) xs ys x.in_order
-      (rw (one_order one s y.settled x.settled y.is_order x.is_order) at y.in_order)
-
   pub one_frame : FramesAreUnique
-  one_frame frame s u v log other x y = grind (arith, one_turn_order _ _ _ x.in_order y.in_order)
+  one_frame frame s u v log other x y =
+      let b : State = before_turns frame.posts s in
+      let same = one_order one b y.in_order.settled x.in_order.settled in
+      grind (arith, turns x.in_order.settled (join_flags b) (systems_in log) (systems_in other), same)
 
   pub one_run : RunsAreUnique
   one_run [] s u v [] [] x y = (refl, x ∙ sym y)

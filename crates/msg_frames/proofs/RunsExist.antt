@@ -12,8 +12,8 @@ module _ (settled : SettledOrderExists) (acyclic : SettlingMakesNoCycle) (turns 
       let g = settled accesses b.rules (join_flags b) in
       let is_order : IsOrderOf b g.0 =
       record { accesses = accesses; of_systems = accesses_stay _ _ _ same are; is_settled = g.1 } in
-      let order = turns g.0 (join_flags b) (order_is_among _ _ is_order)
-      (order_has_no_cycle acyclic _ _ (no_cycle_stays _ _ same none) is_order) in
+      let free = order_has_no_cycle acyclic b g.0 (no_cycle_stays _ _ same none) is_order in
+      let order = turns g.0 (join_flags b) (order_is_among _ _ is_order) free in
       let in_order : IsTurnOrderOf b order.0 = record { settled = g.0; is_order = is_order; in_order = order.1 } in
       ((frame_in order.0 frame s).log, (frame_in order.0 frame s).state, frame_in_order _ _ _ _ in_order refl)
 

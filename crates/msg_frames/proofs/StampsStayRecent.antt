@@ -1,16 +1,13 @@
 -- Where the messages from a number on have recent stamps, ops, turns and posts keep it so.
 use Rattle.std.proofs.Common.{◌≡◌, ℕ, zero, suc, ◌+◌, ◌≤◌, ◌⊎◌, List, [], ◌∷◌, ◌++◌, Some, arith, inl, inr, slice_get}
 use Rattle.std.proofs.lemmas.{Bool.cases_Bool, Option.none-some, Option.same_Some, Option.get_or_from_slice_get, Option.slice_get-get_or, Option.slice_get_within, List.get_or_append_left, List.length-append}
-use Rattle.msg_buffer.specs.Prelude.{Entry, History, stamped, update, GoesOn}
+use Rattle.msg_buffer.specs.Prelude.{Entry, History, stamped, GoesOn}
 use Rattle.msg_world.specs.declared.record.Record.{Record}
-use Rattle.msg_world.specs.Prelude.{WorldState, after_update}
 use Rattle.msg_frames.proofs.HistoriesGrow.{IsKept}
 
 -- the messages from number p on were written at most k updates ago
 abbrev pub AreRecent : ℕ → ℕ → History Record → Type 0
 AreRecent k p h = (n : ℕ) (e : Entry Record) → p ≤ n → slice_get h.entries n ≡ Some e → h.updates ≤ e.stamp + k
-
--- ---- histories
 
 at_append : (xs ys : List (Entry Record)) (n : ℕ) (e : Entry Record) → slice_get (xs ++ ys) n ≡ Some e
     → (slice_get xs n ≡ Some e) ⊎ ((m : ℕ) × (slice_get ys m ≡ Some e))
@@ -28,26 +25,10 @@ abbrev pub StaysRecent : ℕ → ℕ → History Record → History Record → T
 StaysRecent k p a b = AreRecent k p a → AreRecent k p b
 
 pub stays_recent : (k p : ℕ) → IsKept (StaysRecent k p)
-stays_recent k p = record {
-  same = λ h recent. recent;
-  further = λ a b c x y recent. y (x recent);
-  written = λ h ms recent. grind (arith, at_append, cases_Bool, stamp_of);
-  drained = λ h recent. recent;
-}
+stays_recent k p = grind (arith, at_append, cases_Bool, stamp_of)
 
 -- so they were in a history that went on
 pub earlier_recent : (k p : ℕ) (a b : History Record) → GoesOn a b → AreRecent k p b → AreRecent k p a
 earlier_recent k p a b goes recent n e above at =
     let same = get_or_append_left a.entries goes.more e n in
-    let within = slice_get_within a.entries n e at in
-    grind (arith, get_or_from_slice_get, length-append, recent n e above, same, slice_get-get_or, within)
-
--- an update makes them one update older
-pub update_recent : (p : ℕ) (h : History Record) → AreRecent 0 p h → AreRecent 1 p (update h)
-update_recent p h recent n e above at = omega (arith, recent n e above at)
-
--- ---- the update before them
-
-pub updated_recent : (p t : ℕ) (w : WorldState) → AreRecent 0 p (w.histories t)
-    → AreRecent 1 p ((after_update w).histories t)
-updated_recent p t w recent n e above at = grind (arith, cases_Bool, recent n e above)
+    grind (arith, get_or_from_slice_get, length-append, recent n e above, same, slice_get-get_or, slice_get_within)

@@ -1,31 +1,20 @@
 -- What turns and frames keep of the systems.
-use Rattle.std.proofs.Common.{◌≡◌, ℕ, ◌<◌, IsTrue, arith, List, [], ◌∷◌, map, refl, ap, ◌∙◌, suc, max, nat_le, ℤ}
+use Rattle.std.proofs.Common.{◌≡◌, ℕ, ◌<◌, IsTrue, arith, List, [], ◌∷◌, map, refl, ◌∙◌, max, nat_le, ℤ}
 use Rattle.std.specs.List.{range_with_len}
 use Rattle.std.proofs.lemmas.{Bool.cases_Bool, Bool.cases_lt, Bool.false≢true, List.get_or_past, List.FromFn.length-map-range_with_len, Bool.Decides.eqb_tells, Simd.map-map}
 use Rattle.msg_world.specs.declared.access.Access.{Access}
 use Rattle.msg_order.specs.Prelude.{has_joined}
-use Rattle.msg_frames.specs.Prelude.{AreAccessesOf, Frame, FramesKeepSystems, Member, NoCycle, SameMember, SameSystems, SameSystemsHaveSameAccesses, State, TurnsKeepSystems, after_turn_of, after_turns_of, before_turns, frame_in, join_flags, joining, with_joining}
+use Rattle.msg_frames.specs.Prelude.{AreAccessesOf, Frame, FramesKeepSystems, NoCycle, SameSystems, SameSystemsHaveSameAccesses, State, TurnsKeepSystems, after_turn_of, after_turns_of, before_turns, frame_in, join_flags, joining, with_joining}
 
--- ---- members
-
-pub same_member : (m : Member) → SameMember m m
-same_member m = record { needs = refl; start = refl; writer = refl; conditions = refl; join = refl }
-
--- ---- systems
-
-pub same_systems : (s : State) → SameSystems s s
-same_systems s = record { systems = refl; members = λ i. same_member (s.members i); rules = refl; types = refl }
-
-pub systems_along : (s t u : State) → SameSystems s t → SameSystems t u → SameSystems s u
-systems_along s t u a b = grind arith
+same_systems : (s : State) → SameSystems s s
+same_systems s = grind arith
 
 pub one_turn_keeps : (i : ℕ) (s : State) → SameSystems s (after_turn_of i s)
-one_turn_keeps i s = grind (arith, cases_Bool, eqb_tells, map-map, same_member)
+one_turn_keeps i s = grind (arith, cases_Bool, eqb_tells, map-map, same_systems s)
 
 pub turns_keep_systems : (order : List ℕ) (s : State) → SameSystems s (after_turns_of order s).state
 turns_keep_systems [] s = same_systems s
-turns_keep_systems (i ∷ is) s =
-    systems_along _ _ _ (one_turn_keeps i s) (turns_keep_systems is (after_turn_of i s))
+turns_keep_systems (i ∷ is) s = grind (arith, one_turn_keeps i s, turns_keep_systems is (after_turn_of i s))
 
 pub turns_make_no_frame : (order : List ℕ) (s : State) → (after_turns_of order s).state.frames ≡ s.frames
 turns_make_no_frame [] s = refl
@@ -33,8 +22,6 @@ turns_make_no_frame (i ∷ is) s = turns_make_no_frame is (after_turn_of i s)
 
 pub turns_keep : TurnsKeepSystems
 turns_keep order s = (turns_keep_systems order s, turns_make_no_frame order s)
-
--- ---- joining, and frames
 
 pub joining_on_keeps : (k : ℕ) (s : State) → SameSystems s (with_joining k s)
 joining_on_keeps k s = grind (arith, cases_Bool, map-map)
@@ -52,19 +39,15 @@ pub before_keeps : (posts : List (ℕ × ℤ)) (s : State) → SameSystems s (be
 before_keeps posts s = grind (arith, joining_keeps)
 
 pub frame_keeps : (order : List ℕ) (frame : Frame) (s : State) → SameSystems s (frame_in order frame s).state
-frame_keeps order frame s = systems_along _ _ _ (before_keeps frame.posts s) (turns_keep_systems order _)
+frame_keeps order frame s =
+    grind (arith, before_keeps frame.posts s, turns_keep_systems order (before_turns frame.posts s))
 
 pub frames_keep : FramesKeepSystems
-frames_keep order frame s = record {
-  with_joiners = λ k. joining_on_keeps k s;
-  as_it_begins = joining_keeps s;
-  before = before_keeps frame.posts s;
-  after = frame_keeps order frame s;
-  counted_before = ap suc (joining_makes_no_frame s);
-  counted = turns_make_no_frame order (before_turns frame.posts s) ∙ ap suc (joining_makes_no_frame s);
-}
-
--- ---- accesses, and who has joined
+frames_keep order frame s =
+    let joined = joining_makes_no_frame s in
+    let turns = turns_make_no_frame order (before_turns frame.posts s) in
+    let keeps = (λ (k : ℕ). joining_on_keeps k s) in
+    grind (arith, keeps, joining_keeps s, before_keeps frame.posts s, frame_keeps order frame s, joined, turns)
 
 pub accesses_stay : (s u : State) (accesses : List Access) → SameSystems s u → AreAccessesOf s accesses
     → AreAccessesOf u accesses

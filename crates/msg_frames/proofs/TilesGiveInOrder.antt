@@ -1,8 +1,9 @@
 -- What tiles give: messages in order of writing.
-use Rattle.std.proofs.Common.{◌≡◌, ℕ, zero, suc, ◌+◌, ◌≤◌, ◌<◌, List, [], ◌∷◌, ◌++◌, map, length, take, drop, Bool, cond, Option, Some, None, is_some, option_map, IfSome, unwrap_or, filter, refl, ap, arith, slice_get, get_or, All, false, ◌==◌}
-use Rattle.std.specs.{List.range_with_len, List.enumerate_from, List.Sorted.IsStrictlyIncreasing}
-use Rattle.std.proofs.lemmas.{Bool.cases_Bool, List.drop-append-le, List.drop-map, List.drop_more, List.length-append, List.length-drop, List.map-append, List.take-append-le, List.take-map, Option.slice_get-get_or, List.Kept.IsStrictlyIncreasing-filter}
-use Rattle.msg_buffer.specs.Prelude.{Entry as Written, GoesOn, History, Stretch, Tile, count, instance_of, message_of, next_place}
+use Rattle.std.proofs.Common.{◌≡◌, ℕ, zero, suc, ◌+◌, ◌≤◌, List, [], ◌∷◌, ◌++◌, map, length, take, drop, Bool, cond, Option, Some, None, is_some, option_map, IfSome, unwrap_or, filter, refl, ap, arith, slice_get, All, false, ◌==◌}
+use Rattle.std.specs.{List.range_with_len, List.Sorted.IsStrictlyIncreasing}
+use Rattle.std.proofs.lemmas.{Bool.cases_Bool, List.drop-append-le, List.drop-map, List.drop_more, List.Elements.All-tail, List.length-append, List.length-drop, List.map-append, List.take-append-le, List.take-map, Option.slice_get-get_or, List.Kept.IsStrictlyIncreasing-filter}
+use Rattle.msg_buffer.specs.Prelude.{Entry as Written, GoesOn, History, Stretch, Tile, count, next_place}
+use Rattle.msg_buffer.proofs.Numbers.{instances-numbered, messages-numbered}
 use Rattle.msg_world.specs.declared.record.Record.{Record}
 use Rattle.msg_frames.specs.Prelude.{GivesItsStretch, IsInOrderOf, Moment, given, is_by, message_numbered, messages_given, messages_of, numbers_of}
 use Rattle.msg_frames.proofs.{OneFateEach.entries_of, ReaderOverJob.IsWritten, ReaderOverJob.tile_of}
@@ -33,58 +34,41 @@ numbers_rise p [] q tile = tt
 numbers_rise p (m ∷ ms) q tile =
     let rest = numbers_rise (next_place m.entry.stretch) ms q tile.1 in
     let ranged = rising_range m.entry.stretch.first m.entry.stretch.number _ rest in
-    let here = rising_from p m.entry.stretch.first _ (omega (arith, tile.0.first)) ranged in
-    let past = rising_from p (next_place m.entry.stretch) _ (omega (arith, tile.0.first)) rest in
-    grind (arith, cases_Bool, here, past)
+    grind (arith, cases_Bool, rest, ranged, rising_from, tile.0.first)
 
 pub given_in_order : (p : ℕ) (ms : List Moment) (q : ℕ) → Tile p (map tile_of ms) q
     → IsStrictlyIncreasing (numbers_of given (entries_of ms))
-given_in_order p ms q tile = is_increasing p (numbers_of given (entries_of ms)) (numbers_rise p ms q tile)
+given_in_order p ms q tile = is_increasing p _ (numbers_rise p ms q tile)
 
 -- ---- the messages of a stretch
 
 abbrev message_in : Written Record → Record
 message_in e = e.message
 
-messages_in_instances : (n : ℕ) (es : List (Written Record)) → map message_of (map instance_of (enumerate_from n es))
-    ≡ map message_in es
-messages_in_instances n [] = refl
-messages_in_instances n (e ∷ es) = ap (λ ms. e.message ∷ ms) (messages_in_instances (n + 1) es)
-
--- those of a stretch, among the entries of a history
-messages_are : (h : History Record) (s : Stretch) → messages_of h s
-    ≡ map message_in (take s.number (drop s.first h.entries))
-messages_are h s =
-    simp (← take-map, ← drop-map, messages_in_instances)
-
--- they stay where they are
-still_there : (h last : History Record) (a n : ℕ) → GoesOn h last → a + n ≤ count h → take n (drop a last.entries)
-    ≡ take n (drop a h.entries)
-still_there h last a n goes below = grind (arith, drop-append-le, length-drop, take-append-le)
-
-read_one : (es : List (Written Record)) (a : ℕ) → a < length es → (e : Written Record) × (slice_get es a ≡ Some e)
-    × (drop a es ≡ e ∷ drop (a + 1) es)
-read_one [] a below = absurd (omega arith)
-read_one (d ∷ es) a below = (get_or (d ∷ es) a d, slice_get-get_or (d ∷ es) a d below, drop_more (d ∷ es) a d below)
+-- those of a stretch, among the entries of a later history: they stay where they are
+messages_are : (h last : History Record) (s : Stretch) → GoesOn h last → next_place s ≤ count h → messages_of h s
+    ≡ map message_in (take s.number (drop s.first last.entries))
+messages_are h last s goes written =
+    let stay : take s.number (drop s.first last.entries) ≡ take s.number (drop s.first h.entries) =
+    grind (arith, drop-append-le, length-drop, take-append-le) in
+    simp (stay, ← take-map, ← drop-map, instances-numbered, messages-numbered)
 
 read_range : (es : List (Written Record)) (a n : ℕ) → a + n ≤ length es
     → map (λ k. option_map message_in (slice_get es k)) (range_with_len a n)
     ≡ map Some (map message_in (take n (drop a es)))
 read_range es a zero below = refl
-read_range es a (suc n) below = grind (arith, read_one es a (omega arith), read_range es (a + 1) n (omega arith))
-
--- ---- the messages of an entry
+read_range [] a (suc n) below = grind arith
+read_range (d ∷ es) a (suc n) below =
+    grind (arith, slice_get-get_or (d ∷ es) a d, drop_more (d ∷ es) a d, read_range (d ∷ es) (a + 1) n)
 
 module _ (h last : History Record) (s : Stretch) (goes : GoesOn h last) (written : next_place s ≤ count h) where
   given_as_written : (o : Option (List Record)) → IfSome o (λ items. items ≡ messages_of h s)
       → map (message_numbered last) (cond (is_some o) (range_with_len s.first s.number) []) ≡ map Some (unwrap_or o [])
   given_as_written None gives = refl
   given_as_written (Some items) gives =
-      rw (gives, messages_are h s, ← still_there h last s.first s.number goes written)
+      rw (gives, messages_are h last s goes written)
       (read_range last.entries s.first s.number
       (omega (arith, ap length goes.entries, length-append h.entries goes.more)))
-
--- ---- the messages of all entries
 
 module _ (last : History Record) where
   pub all_as_written : (ms : List Moment) → All GivesItsStretch ms → All (λ m. GoesOn m.history last) ms
@@ -94,8 +78,8 @@ module _ (last : History Record) where
   all_as_written (m ∷ ms) gives goes written =
       let here = given_as_written m.history last m.entry.stretch (goes 0 m (omega arith)) (written 0 m (omega arith))
       m.entry.given (gives 0 m (omega arith)) in
-      let rest = all_as_written ms (λ k d lt. gives (suc k) d (omega arith)) (λ k d lt. goes (suc k) d (omega arith))
-      (λ k d lt. written (suc k) d (omega arith)) in
+      let rest = all_as_written ms (All-tail GivesItsStretch m ms gives)
+      (All-tail (λ m. GoesOn m.history last) m ms goes) (All-tail IsWritten m ms written) in
       grind (arith, here, map-append, rest)
 
 -- ---- writer by writer
@@ -111,8 +95,7 @@ pub in_order_of : (writer p : ℕ) (ms : List Moment) (q : ℕ) (last : History 
     → All GivesItsStretch ms → All (λ m. GoesOn m.history last) ms → All IsWritten ms
     → IsInOrderOf writer (entries_of ms) last
 in_order_of writer p ms q last tile gives goes written = record {
-  as_written = of_one_kind (message_numbered last) (λ m. m.writer == writer) (numbers_of given (entries_of ms))
-      (messages_given (entries_of ms))
+  as_written = of_one_kind (message_numbered last) (λ m. m.writer == writer) _ _
       (all_as_written last ms gives goes written);
   in_order = IsStrictlyIncreasing-filter (is_by writer last) _ (given_in_order p ms q tile);
 }

@@ -7,8 +7,6 @@ use Rattle.msg_system.specs.Prelude.{HasFootprint, IsAccessOf, JobFootprint, Nee
 use Rattle.msg_system.proofs.Accesses.{uses_needs}
 use Rattle.msg_frames.specs.Prelude.{AfterTurn, Member, Outcome, State, TurnsOfOthersCommute, after_turn_of, member_turn, needs_of, turn_of}
 
--- ---- worlds and states
-
 -- worlds with the same parts are the same
 pub same_world : (v w : WorldState) → ((p : Part) → content p v ≡ content p w) → v ≡ w
 same_world v w e = λ k. record {
@@ -17,20 +15,13 @@ same_world v w e = λ k. record {
   marks = e Registry k;
 }
 
--- ---- apart
-
 -- neither writes what the other needs
 pub record Apart (m n : Needs) : Type 0 where
   pub left : (p : Part) → IsTrue (needs_any n p) → m.writes p ≡ false
   pub right : (p : Part) → IsTrue (needs_any m p) → n.writes p ≡ false
 
-pub flip : (m n : Needs) → Apart m n → Apart n m
-flip m n h = record { left = h.right; right = h.left }
-
 pub apart : (m n : Needs) (a b : Access) → IsAccessOf m a → IsAccessOf n b → ¬ Conflict a b → Apart m n
 apart m n a b ma nb none = grind (arith, and_from, cases_Bool, uses_needs)
-
--- ---- turns
 
 -- what a turn gives beside the world
 abbrev pub given_by_turn : AfterTurn → Member × Outcome
@@ -65,11 +56,11 @@ turn_after foot s i j ne free =
     ((turn_footprint foot (s.members j)).same (needs_any (needs_of (s.members j))) (turn_of s i).world s.world
     (λ p u. u) (λ p u. (turn_footprint foot (s.members i)).kept s.world p (free.left p u)))
 
-pub turns_swap : JobFootprint → (s : State) (i j : ℕ) → i ≢ j → Apart (needs_of (s.members i)) (needs_of (s.members j))
+turns_swap : JobFootprint → (s : State) (i j : ℕ) → i ≢ j → Apart (needs_of (s.members i)) (needs_of (s.members j))
     → after_turn_of j (after_turn_of i s) ≡ after_turn_of i (after_turn_of j s)
 turns_swap foot s i j ne free =
     let first = turn_after foot s i j (λ h. ne (sym h)) free in
-    let second = turn_after foot s j i ne (flip _ _ free) in
+    let second = turn_after foot s j i ne (grind arith) in
     let worlds = worlds_commute foot (s.members i) (s.members j) s.world free in
     grind (arith, eqb_tells, first, second, worlds)
 
@@ -77,5 +68,5 @@ pub turns_commute : JobFootprint → TurnsOfOthersCommute
 turns_commute foot s accesses i j are li lj ne none =
     let free = apart _ _ _ _ (are.of_needs i li) (are.of_needs j lj) none in
     let first = turn_after foot s i j (λ e. ne (sym e)) free in
-    let second = turn_after foot s j i ne (flip _ _ free) in
+    let second = turn_after foot s j i ne (grind arith) in
     grind (arith, first, second, turns_swap foot s i j ne free)

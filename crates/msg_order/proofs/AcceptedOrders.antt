@@ -1,7 +1,7 @@
 -- Taking the systems of an order one after the other.
-use Rattle.std.proofs.Common.{◌≡◌, ℕ, ◌+◌, ◌<◌, ◌⊎◌, inl, inr, Bool, true, false, not, ◌&&◌, List, length, get_or, sym, ◌∙◌, arith, ◌==◌}
+use Rattle.std.proofs.Common.{◌≡◌, ℕ, ◌+◌, ◌<◌, ◌⊎◌, inl, inr, Bool, true, false, not, ◌&&◌, List, length, get_or, arith, ◌==◌}
 use Rattle.std.specs.List.{list_any, range_with_len}
-use Rattle.std.proofs.lemmas.{Bool.Decides.eqb_tells, Bool.cases_Bool, Bool.cases_eq, Bool.eqb-true, Bool.eq-eqb, Bool.false≢true, List.get_or_default}
+use Rattle.std.proofs.lemmas.{Bool.Decides.eqb_tells, Bool.cases_Bool, Bool.cases_eq, List.get_or_default}
 use Rattle.msg_order.specs.Prelude.{Graph, IsEdge, IsLawfulOrder, StandsBefore, has_joined}
 use Rattle.msg_order.proofs.{SystemSets.below_some, SystemSets.some_below, TurnOrders.stands, TurnOrders.places_of, TurnOrders.place_of, TurnOrders.of_place, TurnOrders.one_place}
 
@@ -11,8 +11,8 @@ pub find_place : (order : List ℕ) (i k : ℕ) → ((a : ℕ) × ((a < k) × (g
 find_place order i k =
     let test : ℕ → Bool = λ a. get_or order a 0 == i in
     elim (cases_Bool (list_any test (range_with_len 0 k))) [
-      | inl t ↦ let f = below_some test k t in inl (f.0, (f.1.0, eqb-true (get_or order f.0 0) i f.1.1))
-      | inr e ↦ inr (λ a l x. false≢true (sym e ∙ some_below test k a l (eq-eqb (get_or order a 0) i x)))
+      | inl t ↦ let f = below_some test k t in inl (f.0, grind (arith, eqb_tells, f.1))
+      | inr e ↦ inr (λ a l x. grind (arith, eqb_tells, some_below test k a l))
     ]
 
 -- the first k of the order were taken, and these are left
@@ -52,13 +52,10 @@ taken_all g joined left order among t none =
         λ c. let a = place_of order i c in grind (arith, a, t.among a.0),
         λ e. let a = place i e in of_place order i a.0 a.1.0 a.1.1,
       );
-      once =
-          λ a b d lt l e. t.once a b lt l (get_or_default order a 0 d (omega arith) ∙ e ∙ get_or_default order b d 0 l);
+      once = λ a b d lt l e. grind (arith, t.once a b, get_or_default order a 0 d, get_or_default order b d 0);
       kept = λ i j e.
-          let both = among i j e in
-          let b = place j both.1 in
-          let a = t.before b.0 b.1.0 i both.0 (rw (b.1.1) e) in
-          stands order i j a.0 b.0 a.1.0 b.1.0 a.1.1 b.1.1;
+          let b = place j (among i j e).1 in
+          grind (arith, among i j e, b, t.before b.0 b.1.0 i, stands order i j);
     }
 
 -- a lawful order goes on with one that is left, before which none is left
@@ -70,9 +67,7 @@ goes_on g joined left order k l t w =
       grind (arith, find_place order s k, t.stays s, w.of_joined s, of_place order s k, w.once),
       λ i on e.
           let b : StandsBefore order i s = w.kept i s e in
-          let p = places_of order i s b in
-          let same : b.later ≡ k = one_place order b.later k w.once p.below l p.second in
-          (t.is_left i on).1 b.earlier (omega (arith, p.in_order)) p.first,
+          grind (arith, places_of order i s b, one_place order b.later k w.once, t.is_left i on),
     )
 
 -- and has none left at its end

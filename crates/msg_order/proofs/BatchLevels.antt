@@ -1,10 +1,10 @@
 -- Batches, level by level: what is left after m of them are the systems in which a chain of m edges ends.
-use Rattle.std.proofs.Common.{◌≡◌, ℕ, zero, suc, ◌+◌, ◌<◌, ◌⊎◌, inl, inr, Bool, true, false, not, cond, ◌&&◌, List, [], ◌∷◌, ◌++◌, length, ap, sym, arith, length-append, ◌↔◌, Contains, All, count_by, filter}
-use Rattle.std.proofs.lemmas.{List.Sums.length-filter, List.Sums.sum_by-cons, Bool.cases_Bool, Bool.cases_eq, Bool.cases_lt, Bool.false_from_ne_true, List.get_or_past, List.get_or_push, List.get_or_append_left, List.Elements.All-push, List.Kept.IsStrictlyIncreasing-filter, List.FromFn.length-range_with_len, List.FromFn.get_or-range_with_len}
+use Rattle.std.proofs.Common.{◌≡◌, ℕ, zero, suc, ◌+◌, ◌<◌, ◌⊎◌, Bool, true, false, not, ◌&&◌, List, [], ◌∷◌, ◌++◌, length, ap, arith, length-append, ◌↔◌, Contains, All, filter}
+use Rattle.std.proofs.lemmas.{Bool.cases_Bool, Bool.cases_eq, Bool.cases_lt, Bool.false_from_ne_true, List.get_or_past, List.get_or_push, List.get_or_append_left, List.Elements.All-push, List.Kept.IsStrictlyIncreasing-filter, List.FromFn.length-range_with_len, List.FromFn.get_or-range_with_len}
 use Rattle.std.specs.{List.range_with_len, List.Sorted.IsStrictlyIncreasing}
 use Rattle.msg_order.specs.Prelude.{AreBatches, Graph, IsAcyclic, IsBatchNumber, IsEdge, SystemSet, batch_at, has_joined}
 use Rattle.msg_order.specs.{inner.Paths.path, inner.Paths.set_at, inner.Paths.ArePaths, inner.SystemSet.has, inner.SystemSet.meets}
-use Rattle.msg_order.proofs.{SystemSets.meets-found, SystemSets.meets-true, Elements.not_in_none, Elements.filter-Contains, Elements.Contains-filter, Elements.Contains-range, Chains.Ends, Chains.ends_less, Chains.ends_at_most, Chains.ends_along, Chains.number_ends, Chains.ends_number, PathTest.edge_path, PathTest.path_trans, PathTest.to_Path, PathTest.no_path}
+use Rattle.msg_order.proofs.{SystemSets.meets-found, SystemSets.meets-true, Elements.not_in_none, Elements.filter-Contains, Elements.Contains-filter, Elements.Contains-range, Chains.Ends, Chains.ends_less, Chains.ends_along, Chains.number_ends, Chains.ends_number, Chains.number_once, PathTest.edge_path, PathTest.path_trans, PathTest.to_Path, PathTest.no_path}
 
 -- the systems that are left after m levels
 abbrev pub AreLeft : Graph → (ℕ → Bool) → (ℕ → Bool) → ℕ → Type 0
@@ -32,11 +32,8 @@ module _ (g : Graph) (start left blocked : ℕ → Bool) (m : ℕ) (lead : LeadA
   left_next next s i = grind (arith, blocked_ends i, ends_blocked i, ends_less g m i, h i, s i)
 
   -- those that are ready have this batch number
-  ready_number : (i : ℕ) → (left i && not (blocked i)) ≡ true → (start i ≡ true) × IsBatchNumber g i m
-  ready_number i r = grind (arith, h i, ends_number g i m, ends_blocked i)
-
-  number_ready : (i : ℕ) → start i ≡ true → IsBatchNumber g i m → (left i && not (blocked i)) ≡ true
-  number_ready i e b = grind (arith, h i, number_ends g i m b, blocked_ends i)
+  ready_number : (i : ℕ) → ((left i && not (blocked i)) ≡ true) ↔ ((start i ≡ true) × IsBatchNumber g i m)
+  ready_number i = grind (arith, h i, ends_number g i m, ends_blocked i, number_ends g i m, blocked_ends i)
 
 -- Where no path leads back, one of those left has none below n before it.
 first_left : (p : ℕ → ℕ → Bool) (left : ℕ → Bool) → ((i j k : ℕ) → p i j ≡ true → p j k ≡ true → p i k ≡ true)
@@ -45,10 +42,7 @@ first_left : (p : ℕ → ℕ → Bool) (left : ℕ → Bool) → ((i j k : ℕ)
 first_left p left trans acyclic zero i e = (i, (e, λ k h. absurd (omega arith)))
 first_left p left trans acyclic (suc n) i e =
     let f = first_left p left trans acyclic n i e in
-    elim (cases_Bool (left n && p n f.0)) [
-      | inl q ↦ (n, grind (arith, cases_eq, f.1.0, f.1.1, trans))
-      | inr q ↦ (f.0, grind (arith, cases_eq, f.1.0, f.1.1))
-    ]
+    grind (arith, cases_Bool (left n && p n f.0), cases_eq, f.1, trans)
 
 -- What holds after some levels.
 pub record ArePeeled (g : Graph) (start left : ℕ → Bool) (batches : List (List ℕ)) : Type 0 where
@@ -57,7 +51,7 @@ pub record ArePeeled (g : Graph) (start left : ℕ → Bool) (batches : List (Li
       ↔ ((start i ≡ true) × IsBatchNumber g i b)
   pub filled : All (λ (batch : List ℕ). 0 < length batch) batches
   pub by_addition : All IsStrictlyIncreasing batches
-  pub placed : (i : ℕ) → start i ≡ true → (left i ≡ true) ⊎ ((b : ℕ) × IsBatchNumber g i b)
+  pub placed : (i : ℕ) → start i ≡ true → (left i ≡ true) ⊎ ((b : ℕ) × ((b < length batches) × IsBatchNumber g i b))
 
 pub peeled_first : (g : Graph) (start : ℕ → Bool) → ArePeeled g start start []
 peeled_first g start = grind arith
@@ -72,30 +66,22 @@ peeled_next g start left blocked next n batches batch lead within t h is some s 
     let ready : ℕ → Bool = λ i. left i && not (blocked i) in
     let longer : length (batches ++ batch ∷ []) ≡ suc m = omega (arith, length-append batches (batch ∷ [])) in
     let numbered = ready_number g start left blocked m lead h.left_is t in
+    let inside : (i : ℕ) → Contains batch i ↔ ((start i ≡ true) × IsBatchNumber g i m) = λ i. (
+      λ c. grind (arith, filter-Contains ready (range_with_len 0 n) i, numbered i),
+      λ c. rw is (Contains-filter ready (range_with_len 0 n) i
+          (Contains-range 0 n i (omega arith) (omega (arith, within i c.0))) ((numbered i).1 c)),
+    ) in
     record {
       left_is = rw longer (left_next g start left blocked m lead h.left_is t next s);
-      of_number = λ b l i. elim (cases_eq b m) [
-        | inl e ↦ (
-          λ c. grind (
-            arith,
-            get_or_push batches batch [] b,
-            filter-Contains ready (range_with_len 0 n) i,
-            numbered i,
-          ),
-          λ c. rw (get_or_push batches batch [] b (sym e), is)
-              (let below : i < n = within i c.0 in
-              Contains-filter ready (range_with_len 0 n) i (Contains-range 0 n i (omega arith) (omega arith))
-              (number_ready g start left blocked m lead h.left_is t i c.0 (rw e at (c.1)))),
-        )
-        | inr e ↦
-            let before : b < m = omega (arith, longer) in
-            rw (get_or_append_left batches (batch ∷ []) [] b before) (h.of_number b before i)
-      ];
+      of_number = λ b l i.
+          let last = get_or_push batches batch [] b in
+          let earlier = get_or_append_left batches (batch ∷ []) [] b in
+          grind (arith, longer, cases_eq b m, last, earlier, inside i, h.of_number b);
       filled = All-push (λ (xs : List ℕ). 0 < length xs) batches batch h.filled some;
       by_addition = All-push IsStrictlyIncreasing batches batch h.by_addition
           (rw is (IsStrictlyIncreasing-filter ready (range_with_len 0 n)
           (λ k below. grind (arith, get_or-range_with_len, length-range_with_len))));
-      placed = λ i e. grind (arith, s i, h.placed i e, numbered i);
+      placed = λ i e. grind (arith, longer, s i, h.placed i e, numbered i);
     }
 
 -- where none is ready, none is left
@@ -105,11 +91,10 @@ pub peeled_all : (g : Graph) (start left blocked : ℕ → Bool) (n : ℕ) (batc
 peeled_all g start left blocked n batch m acyclic within t h is empty i = false_from_ne_true (left i) (λ e.
     let f = first_left (path g) left (path_trans g) (λ i. no_path g i i (acyclic i)) n i e in
     let c : ℕ = f.0 in
-    let ready : (left c && not (blocked c)) ≡ true = grind (arith, f.1.0, f.1.1, h, t.by c, within) in
-    let below : c < n = within c ((h c).0 f.1.0).0 in
-    let there = Contains-filter (λ k. left k && not (blocked k)) (range_with_len 0 n) c
-    (Contains-range 0 n c (omega arith) (omega arith)) ready in
-    omega (arith, there.1, ap length is))
+    let ready = λ (k : ℕ). left k && not (blocked k) in
+    let in_range = Contains-range 0 n c in
+    let there = Contains-filter ready (range_with_len 0 n) c in
+    grind (arith, f.1, h, t.by c, within, in_range, there, ap length is))
 
 pub peeled_done : (g : Graph) (systems : List Bool) (start left : ℕ → Bool) (batches : List (List ℕ))
     → ((i : ℕ) → start i ≡ has_joined systems i) → ArePeeled g start left batches → ((i : ℕ) → left i ≡ false)
@@ -117,16 +102,7 @@ pub peeled_done : (g : Graph) (systems : List Bool) (start left : ℕ → Bool) 
 peeled_done g systems start left batches same h none = record {
   of_number = λ b i. (
     λ c. grind (arith, cases_lt, same i, h.of_number b, get_or_past batches b [], not_in_none),
-    λ c. grind (
-      arith,
-      cases_lt,
-      same i,
-      h.of_number b,
-      none i,
-      h.left_is i,
-      ends_at_most g b (length batches) i,
-      number_ends g i b c.1,
-    ),
+    λ c. grind (arith, same i, none i, h.placed i, number_once g i b, h.of_number b),
   );
   all = λ i e. grind (arith, same i, none i, h.placed i);
   filled = h.filled;
@@ -135,32 +111,19 @@ peeled_done g systems start left batches same h none = record {
 
 -- the measure: how many are left below n
 abbrev pub count_left : (ℕ → Bool) → ℕ → ℕ
-count_left left n = count_by left (range_with_len 0 n)
+count_left left n = length (filter left (range_with_len 0 n))
 
-count_splits : (p q : ℕ → Bool) (xs : List ℕ) → count_by (λ i. p i && q i) xs + count_by (λ i. p i && not (q i)) xs
-    ≡ count_by p xs
+count_splits : (p q : ℕ → Bool) (xs : List ℕ)
+    → length (filter (λ i. p i && q i) xs) + length (filter (λ i. p i && not (q i)) xs) ≡ length (filter p xs)
 count_splits p q [] = omega arith
-count_splits p q (x ∷ xs) =
-    grind (
-      arith,
-      cases_Bool,
-      count_splits p q xs,
-      sum_by-cons (λ i. cond (p i && q i) 1 0) x xs,
-      sum_by-cons (λ i. cond (p i && not (q i)) 1 0) x xs,
-      sum_by-cons (λ i. cond (p i) 1 0) x xs,
-    )
+count_splits p q (x ∷ xs) = grind (arith, cases_Bool, count_splits p q xs)
 
 pub left_falls : (left blocked next : ℕ → Bool) (n : ℕ) (batch : List ℕ) → batch
     ≡ filter (λ i. left i && not (blocked i)) (range_with_len 0 n) → 0 < length batch
     → ((i : ℕ) → next i ≡ (left i && blocked i)) → count_left next n < count_left left n
 left_falls left blocked next n batch is some s =
-    omega (
-      arith,
-      count_splits left blocked (range_with_len 0 n),
-      ap (λ (p : ℕ → Bool). count_left p n) (λ k i. s i k),
-      ap length is,
-      length-filter (λ i. left i && not (blocked i)) (range_with_len 0 n),
-    )
+    let same = ap (λ (p : ℕ → Bool). count_left p n) (λ k i. s i k) in
+    omega (arith, count_splits left blocked (range_with_len 0 n), same, ap length is)
 
 -- the sets tell which systems are blocked
 pub sets_tell : (g : Graph) (before : List SystemSet) (left : SystemSet) → ArePaths g before

@@ -33,8 +33,7 @@ paths_join g i j k p q = (
 pub path_among : (g : Graph) (joined : List Bool) → IsAmong joined g → (i j : ℕ) → Path g i j
     → IsTrue (has_joined joined i) × IsTrue (has_joined joined j)
 path_among g joined among i j ([], c) = among i j c.0
-path_among g joined among i j (k ∷ more, c) =
-    ((among i k c.0).0, (path_among g joined among k j (more, c.1)).1)
+path_among g joined among i j (k ∷ more, c) = grind (arith, among i k, path_among g joined among k j (more, c.1))
 
 -- a chain of n edges ends in j, told from its last edge
 abbrev pub Ends : Graph → ℕ → ℕ → Type 0
@@ -69,15 +68,13 @@ ends_chain : (g : Graph) (n j : ℕ) (more : List ℕ) → Ends g n j → IsChai
 ends_chain g zero j more e c = ([], (refl, c))
 ends_chain g (suc n) j more e c =
     let r = ends_chain g n e.0 (j ∷ more) e.1.0 (e.1.1, c) in
-    let longer : length (r.0 ++ e.0 ∷ []) ≡ suc n = omega (arith, length-append r.0 (e.0 ∷ []), r.1.0) in
-    (r.0 ++ e.0 ∷ [], (longer, rw (append_assoc r.0 (e.0 ∷ []) (j ∷ more)) (r.1.1)))
+    (r.0 ++ e.0 ∷ [], simp (length-append, append_assoc) (omega (arith, r.1.0), r.1.1))
 
 -- the batch number by chains told from their ends
 pub number_ends : (g : Graph) (i n : ℕ) → IsBatchNumber g i n → Ends g n i × (Ends g (suc n) i → ⊥)
 number_ends g i n b = (
   rw (b.reached.1.0) at (chain_ends g b.reached.0 i b.reached.1.1),
-  λ e. let c = ends_chain g (suc n) i [] e tt in let most : length c.0 ≤ n =
-      b.longest c.0 c.1.1 in omega (arith, c.1.0),
+  λ e. grind (arith, ends_chain g (suc n) i [] e tt, b.longest),
 )
 
 pub ends_number : (g : Graph) (i n : ℕ) → Ends g n i → (Ends g (suc n) i → ⊥) → IsBatchNumber g i n

@@ -1,7 +1,7 @@
 -- What stands in a list that was made from others.
-use Rattle.std.proofs.Common.{◌≡◌, ℕ, zero, suc, ◌+◌, ◌-◌, ◌<◌, ◌≤◌, ◌⊎◌, inl, inr, Bool, true, false, cond, List, [], ◌∷◌, ◌++◌, map, get_or, refl, ap, sym, ◌∙◌, arith, All, AllPairs, Contains, filter, flat_map}
+use Rattle.std.proofs.Common.{◌≡◌, ℕ, zero, suc, ◌+◌, ◌-◌, ◌<◌, ◌≤◌, ◌⊎◌, inl, inr, Bool, true, false, List, [], ◌∷◌, ◌++◌, map, get_or, refl, ap, ◌∙◌, arith, All, AllPairs, Contains, filter, flat_map}
 use Rattle.std.specs.List.{range_with_len, concat, list_all, list_any}
-use Rattle.std.proofs.lemmas.{Bool.cond_both, List.append-nil, List.get_or-map, List.length-map, List.map-id, List.Elements.All-contains, List.Elements.All-contains_itself, List.Elements.All-filter, List.Elements.All-map, List.Elements.Contains-append_cases, List.Elements.Contains-append_left, List.Elements.Contains-append_right, List.Elements.Contains-get_or, List.Elements.filter-append, List.Elements.filter_passes, List.Folds.Any-from_list_any, List.Folds.list_any_at, List.FromFn.get_or-range_with_len, List.FromFn.length-range_with_len, List.FromFn.map-range_with_len_more, List.Sums.AllPass-from_list_all}
+use Rattle.std.proofs.lemmas.{List.append-nil, List.get_or-map, List.length-map, List.map-id, List.Elements.All-contains, List.Elements.All-contains_itself, List.Elements.All-filter, List.Elements.All-map, List.Elements.Contains-append_cases, List.Elements.Contains-append_left, List.Elements.Contains-append_right, List.Elements.Contains-get_or, List.Elements.filter-append, List.Elements.filter_passes, Bool.cases_Bool, List.Folds.Any-from_list_any, List.Folds.list_any_at, List.FromFn.get_or-range_with_len, List.FromFn.length-range_with_len, List.FromFn.map-range_with_len_more, List.Sums.AllPass-from_list_all}
 use Rattle.msg_order.specs.Prelude.{batch_at}
 
 module _ {X : Type 0} where
@@ -36,11 +36,8 @@ module _ {X : Type 0} where
 
     pub Contains-filter : (xs : List X) (y : X) → Contains xs y → p y ≡ true → Contains (filter p xs) y
     Contains-filter [] y h t = absurd (not_in_none y h)
-    Contains-filter (x ∷ xs) y h t = elim (Contains-cases x xs y h) [
-      | inl s ↦ rw (ap p s ∙ t) (0, omega arith, s)
-      | inr r ↦ cond_both (p x) (x ∷ filter p xs) (filter p xs) (λ us. Contains us y)
-          (λ _. Contains-tail x (filter p xs) y (Contains-filter xs y r t)) (λ _. Contains-filter xs y r t)
-    ]
+    Contains-filter (x ∷ xs) y h t =
+        grind (arith, cases_Bool (p x), Contains-cases x xs y h, Contains-filter xs y, Contains-tail x (filter p xs) y)
 
     pub list_any-Contains : (xs : List X) (x : X) → Contains xs x → p x ≡ true → list_any p xs ≡ true
     list_any-Contains xs x h t = list_any_at p xs h.0 x h.1 (ap p h.2 ∙ t)
@@ -65,18 +62,17 @@ module _ {X Y : Type 0} where
   pub flat_map-Contains : (f : X → List Y) (xs : List X) (y : Y) → Contains (flat_map f xs) y → (x : X)
       × (Contains xs x × Contains (f x) y)
   flat_map-Contains f [] y h = absurd (not_in_none y h)
-  flat_map-Contains f (x ∷ xs) y h = elim (Contains-append_cases (f x) (flat_map f xs) y h) [
-    | inl s ↦ (x, (Contains-head x xs, s))
-    | inr t ↦ let r = flat_map-Contains f xs y t in (r.0, (Contains-tail x xs r.0 r.1.0, r.1.1))
-  ]
+  flat_map-Contains f (x ∷ xs) y h =
+      let cases = Contains-append_cases (f x) (flat_map f xs) y h in
+      grind (arith, cases, flat_map-Contains f xs y, Contains-head x xs, Contains-tail x xs)
 
   pub Contains-flat_map : (f : X → List Y) (xs : List X) (x : X) (y : Y) → Contains xs x → Contains (f x) y
       → Contains (flat_map f xs) y
   Contains-flat_map f [] x y h k = absurd (not_in_none x h)
-  Contains-flat_map f (z ∷ xs) x y h k = elim (Contains-cases z xs x h) [
-    | inl s ↦ Contains-append_left (f z) (flat_map f xs) y (rw s k)
-    | inr t ↦ Contains-append_right (f z) (flat_map f xs) y (Contains-flat_map f xs x y t k)
-  ]
+  Contains-flat_map f (z ∷ xs) x y h k =
+      let left = Contains-append_left (f z) (flat_map f xs) y in
+      let right = Contains-append_right (f z) (flat_map f xs) y in
+      grind (arith, Contains-cases z xs x h, left, right, Contains-flat_map f xs x y)
 
 -- ---- lists of lists
 
@@ -105,17 +101,12 @@ Contains-range a n k h l =
 pub range_more : (i : ℕ) → range_with_len 0 (i + 1) ≡ range_with_len 0 i ++ i ∷ []
 range_more i = let is : 0 + i ≡ i = omega arith in simp map-id at (map-range_with_len_more (λ k. k) 0 i i is)
 
--- a filter of a range, one number on
+-- a filter of a range, one number on: it passes or it does not
 module _ (p : ℕ → Bool) (i : ℕ) (xs : List ℕ) (so_far : xs ≡ filter p (range_with_len 0 i)) where
-  filter_more : filter p (range_with_len 0 (i + 1)) ≡ xs ++ cond (p i) (i ∷ []) []
-  filter_more = ap (filter p) (range_more i) ∙ filter-append p (range_with_len 0 i) (i ∷ [])
-      ∙ ap (λ ys. ys ++ cond (p i) (i ∷ []) []) (sym so_far)
-
   pub filter_takes : p i ≡ true → xs ++ i ∷ [] ≡ filter p (range_with_len 0 (i + 1))
-  filter_takes t = rw (filter_more, t) refl
+  filter_takes t = grind (arith, range_more, filter-append)
 
   pub filter_drops : p i ≡ false → xs ≡ filter p (range_with_len 0 (i + 1))
-  filter_drops t = rw (filter_more, t, append-nil xs) refl
+  filter_drops t = grind (arith, range_more, filter-append, append-nil)
 
--- one number on, it passes or it does not
 pub ruleset range_filters = (filter_takes, filter_drops)

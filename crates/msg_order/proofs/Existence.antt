@@ -1,31 +1,13 @@
 -- That there is a settled order, and a list of its batches, for all systems whose rules make no cycle.
-use Rattle.std.proofs.Common.{◌≡◌, ℕ, zero, suc, ◌<◌, ◌⊎◌, inl, inr, Bool, true, not, ◌&&◌, List, [], ◌∷◌, ◌++◌, length, refl, arith, filter}
+use Rattle.std.proofs.Common.{◌≡◌, ℕ, zero, suc, ◌<◌, inl, inr, Bool, true, not, ◌&&◌, List, [], ◌∷◌, ◌++◌, length, refl, arith, filter}
 use Rattle.std.specs.List.{concat, list_any, range_with_len}
 use Rattle.std.proofs.lemmas.Bool.{cases_eq, and_parts, and_from}
-use Rattle.msg_world.proofs.Conflicts.{decide_conflict}
-use Rattle.msg_order.specs.Prelude.{AreBatches, AreInConflict, BatchesExist, GainsEdge, Graph, IsAcyclic, RunsBefore, SettledOrderExists, Settles, TurnOrderExists, TurnOrderIsUnique, access_of, has_joined, pairs, rules_among}
+use Rattle.msg_order.specs.Prelude.{AreBatches, BatchesExist, Graph, IsAcyclic, RunsBefore, SettledOrderExists, TurnOrderExists, TurnOrderIsUnique, has_joined}
 use Rattle.msg_order.specs.inner.Paths.{path}
-use Rattle.msg_order.proofs.{SystemSets.some_below, SystemSets.below_some, PathTest.no_Path, PathTest.to_Path, BatchLevels.TellsBlocked, BatchLevels.LeadAmong, BatchLevels.ArePeeled, BatchLevels.peeled_first, BatchLevels.peeled_next, BatchLevels.peeled_all, BatchLevels.peeled_done, BatchLevels.count_left, BatchLevels.left_falls, SetPaths.joined_in, TurnOrders.in_turn_order, Uniqueness.same_ordered}
-
--- either of the two
-abbrev Decided : Type 0 → Type 0
-Decided P = P ⊎ (P → ⊥)
-
-decide_edge : (C : ℕ → ℕ → Type 0) → ((i j : ℕ) → Decided (C i j)) → (g : Graph) (i j : ℕ) → Decided (GainsEdge C g i j)
-decide_edge C d g i j = grind (arith, d i j, to_Path g j i, no_Path g j i)
-
-settles_some : (C : ℕ → ℕ → Type 0) → ((i j : ℕ) → Decided (C i j)) → (ps g : Graph) → (h : Graph) × Settles C g ps h
-settles_some C d [] g = (g, refl)
-settles_some C d (p ∷ ps) g = elim (decide_edge C d g p.0 p.1) [
-  | inl e ↦ let r = settles_some C d ps (p ∷ g) in (r.0, inl (e, r.1))
-  | inr n ↦ let r = settles_some C d ps g in (r.0, inr (n, r.1))
-]
+use Rattle.msg_order.proofs.{SystemSets.some_below, SystemSets.below_some, BatchLevels.TellsBlocked, BatchLevels.LeadAmong, BatchLevels.ArePeeled, BatchLevels.peeled_first, BatchLevels.peeled_next, BatchLevels.peeled_all, BatchLevels.peeled_done, BatchLevels.count_left, BatchLevels.left_falls, SetPaths.joined_in, TurnOrders.in_turn_order, Uniqueness.same_ordered, Computing.settled_by_test, Computing.settled_is}
 
 pub settled_some : SettledOrderExists
-settled_some accesses rules joined =
-    settles_some (AreInConflict accesses joined)
-    (λ i j. grind (arith, decide_conflict (access_of accesses i) (access_of accesses j)))
-    (pairs (length accesses)) (rules_among joined rules)
+settled_some accesses rules joined = (settled_by_test accesses rules joined, settled_is accesses rules joined)
 
 -- one of those left has a path to it
 abbrev blocked : Graph → (ℕ → Bool) → ℕ → ℕ → Bool
@@ -38,46 +20,30 @@ tells g left n within = record {
   by = λ i b. let f = below_some (λ k. path g k i && left k) n b in (f.0, and_parts (path g f.0 i) (left f.0) f.1.1);
 }
 
--- What comes next: all batches, or one more and fewer left.
-record MorePeeled (g : Graph) (joined : List Bool) (left : ℕ → Bool) : Type 0 where
-  next : ℕ → Bool
-  batches : List (List ℕ)
-  peeled : ArePeeled g (has_joined joined) next batches
-  fewer : count_left next (length joined) < count_left left (length joined)
-
-peel_more : (g : Graph) (joined : List Bool) → IsAcyclic g → LeadAmong g (has_joined joined)
-    → (left : ℕ → Bool) (bs : List (List ℕ)) → ArePeeled g (has_joined joined) left bs
-    → ((cs : List (List ℕ)) × AreBatches g joined cs) ⊎ MorePeeled g joined left
-peel_more g joined free lead left bs h =
-    let n : ℕ = length joined in
-    let start : ℕ → Bool = has_joined joined in
-    let within : (i : ℕ) → start i ≡ true → i < n = joined_in joined in
-    let stops : ℕ → Bool = blocked g left n in
-    let next : ℕ → Bool = λ i. left i && stops i in
-    let t : TellsBlocked g left stops = tells g left n (λ k l. within k ((h.left_is k).0 l).0) in
-    let batch : List ℕ = filter (λ i. left i && not (stops i)) (range_with_len 0 n) in
-    elim (cases_eq (length batch) 0) [
-      | inl none ↦ inl (
-        bs,
-        peeled_done g joined start left bs (λ i. refl) h
-            (peeled_all g start left stops n batch (length bs) free within t h.left_is refl none),
-      )
-      | inr some ↦ inr (record {
-        next = next;
-        batches = bs ++ batch ∷ [];
-        peeled = peeled_next g start left stops next n bs batch lead within t h refl (omega arith) (λ i. refl);
-        fewer = left_falls left stops next n batch refl (omega arith) (λ i. refl);
-      })
-    ]
-
-peels : (g : Graph) (joined : List Bool) → IsAcyclic g → LeadAmong g (has_joined joined)
-    → (steps : ℕ) (left : ℕ → Bool) (bs : List (List ℕ)) → ArePeeled g (has_joined joined) left bs
-    → count_left left (length joined) < steps → (cs : List (List ℕ)) × AreBatches g joined cs
-peels g joined free lead zero left bs h few = absurd (omega arith)
-peels g joined free lead (suc steps) left bs h few = elim (peel_more g joined free lead left bs h) [
-  | inl r ↦ r
-  | inr m ↦ let fewer = m.fewer in peels g joined free lead steps m.next m.batches m.peeled (omega arith)
-]
+module _ (g : Graph) (joined : List Bool) (free : IsAcyclic g) (lead : LeadAmong g (has_joined joined)) where
+  -- a batch more in each step, until none is ready
+  peels : (steps : ℕ) (left : ℕ → Bool) (bs : List (List ℕ)) → ArePeeled g (has_joined joined) left bs
+      → count_left left (length joined) < steps → (cs : List (List ℕ)) × AreBatches g joined cs
+  peels zero left bs h few = absurd (omega arith)
+  peels (suc steps) left bs h few =
+      let n : ℕ = length joined in
+      let start : ℕ → Bool = has_joined joined in
+      let within : (i : ℕ) → start i ≡ true → i < n = joined_in joined in
+      let stops : ℕ → Bool = blocked g left n in
+      let next : ℕ → Bool = λ i. left i && stops i in
+      let t : TellsBlocked g left stops = tells g left n (λ k l. within k ((h.left_is k).0 l).0) in
+      let batch : List ℕ = filter (λ i. left i && not (stops i)) (range_with_len 0 n) in
+      elim (cases_eq (length batch) 0) [
+        | inl none ↦ (
+          bs,
+          peeled_done g joined start left bs (λ i. refl) h
+              (peeled_all g start left stops n batch (length bs) free within t h.left_is refl none),
+        )
+        | inr some ↦
+            let more = peeled_next g start left stops next n bs batch lead within t h refl (omega arith) (λ i. refl) in
+            let fewer = left_falls left stops next n batch refl (omega arith) (λ i. refl) in
+            peels steps next (bs ++ batch ∷ []) more (omega (arith, fewer))
+      ]
 
 pub batches_some : BatchesExist
 batches_some g joined among free =

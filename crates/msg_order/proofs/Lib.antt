@@ -15,5 +15,5 @@ mod AcceptedOrders
 -- One order for all accesses and rules
 mod Existence
 mod Uniqueness
--- The order of worked rows, by tests
+-- The order by tests, also of worked rows
 pub mod Computing

@@ -1,15 +1,9 @@
 -- The test for a path, which grows edge by edge, says whether there is one.
-use Rattle.std.proofs.Common.{arith, ◌≡◌, ℕ, inl, inr, Bool, true, false, ◌&&◌, ◌||◌, List, [], ◌∷◌, ◌++◌, sym, ◌∙◌, ◌==◌}
-use Rattle.std.proofs.lemmas.{Bool.Decides.eqb_tells, Bool.eqb-true, Bool.or_cases, Bool.and_parts, Bool.false≢true, Bool.false_from_ne_true}
-use Rattle.msg_order.specs.Prelude.{Graph, IsEdge, IsChain, Path}
+use Rattle.std.proofs.Common.{arith, ◌≡◌, ℕ, Bool, true, false, [], ◌∷◌, sym, ◌∙◌}
+use Rattle.std.proofs.lemmas.{Bool.Decides.eqb_tells, Bool.false≢true, Bool.false_from_ne_true}
+use Rattle.msg_order.specs.Prelude.{Graph, IsEdge, Path}
 use Rattle.msg_order.specs.inner.Paths.{path}
 use Rattle.msg_order.proofs.{Elements.Contains-cases, Elements.Contains-head, Elements.Contains-tail, Elements.not_in_none, Chains.edge_is_path, Chains.paths_join, Chains.path_grows}
-
-abbrev to : (ℕ × ℕ) → Graph → ℕ → Bool
-to e g a = a == e.0 || path g a e.0
-
-abbrev from : (ℕ × ℕ) → Graph → ℕ → Bool
-from e g b = b == e.1 || path g e.1 b
 
 pub edge_path : (g : Graph) (i j : ℕ) → IsEdge g i j → path g i j ≡ true
 edge_path [] i j h = absurd (not_in_none (i, j) h)
@@ -19,12 +13,9 @@ pub path_trans : (g : Graph) (i j k : ℕ) → path g i j ≡ true → path g j 
 path_trans [] i j k p q = p
 path_trans (e ∷ g) i j k p q = grind (arith, eqb_tells, path_trans g)
 
-chain_path : (g : Graph) (i : ℕ) (between : List ℕ) (j : ℕ) → IsChain g (i ∷ (between ++ j ∷ [])) → path g i j ≡ true
-chain_path g i [] j c = edge_path g i j c.0
-chain_path g i (k ∷ more) j c = path_trans g i k j (edge_path g i k c.0) (chain_path g k more j c.1)
-
 pub from_Path : (g : Graph) (i j : ℕ) → Path g i j → path g i j ≡ true
-from_Path g i j p = chain_path g i p.0 j p.1
+from_Path g i j ([], c) = edge_path g i j c.0
+from_Path g i j (k ∷ more, c) = path_trans g i k j (edge_path g i k c.0) (from_Path g k j (more, c.1))
 
 pub path_more : (e : ℕ × ℕ) (g : Graph) (i j : ℕ) → Path g i j → Path (e ∷ g) i j
 path_more e g = path_grows g (e ∷ g) (λ a b h. Contains-tail e g (a, b) h)
@@ -33,19 +24,8 @@ pub to_Path : (g : Graph) (i j : ℕ) → path g i j ≡ true → Path g i j
 to_Path [] i j h = absurd (false≢true h)
 to_Path (e ∷ g) i j h =
     let newest : Path (e ∷ g) e.0 e.1 = edge_is_path (e ∷ g) e.0 e.1 (Contains-head e g) in
-    elim (or_cases (path g i j) (to e g i && from e g j) h) [
-      | inl p ↦ path_more e g i j (to_Path g i j p)
-      | inr q ↦
-          let both = and_parts (to e g i) (from e g j) q in
-          let begins : Path (e ∷ g) i e.1 = elim (or_cases (i == e.0) (path g i e.0) both.0) [
-            | inl x ↦ rw (eqb-true i e.0 x) newest
-            | inr x ↦ paths_join (e ∷ g) i e.0 e.1 (path_more e g i e.0 (to_Path g i e.0 x)) newest
-          ] in
-          elim (or_cases (j == e.1) (path g e.1 j) both.1) [
-            | inl x ↦ rw (eqb-true j e.1 x) begins
-            | inr x ↦ paths_join (e ∷ g) i e.1 j begins (path_more e g e.1 j (to_Path g e.1 j x))
-          ]
-    ]
+    let stays = λ (a b : ℕ) (p : path g a b ≡ true). path_more e g a b (to_Path g a b p) in
+    grind (arith, eqb_tells, newest, stays, paths_join (e ∷ g) i e.0 e.1, paths_join (e ∷ g) i e.1 j)
 
 -- where the test fails there is no path, and the other way round
 pub no_Path : (g : Graph) (i j : ℕ) → path g i j ≡ false → Path g i j → ⊥

@@ -1,10 +1,10 @@
 -- What callers see of a plan, by its sets.
-use Rattle.std.proofs.Common.{◌≡◌, ℕ, ◌<◌, ◌≤◌, inl, inr, Bool, true, false, List, length, map, sym, ◌∙◌, arith, ◌↔◌, Contains}
+use Rattle.std.proofs.Common.{◌≡◌, ℕ, ◌<◌, ◌≤◌, Bool, true, false, List, length, map, sym, arith, ◌↔◌, Contains}
 use Rattle.std.specs.List.{range_with_len}
-use Rattle.std.proofs.lemmas.{Bool.cases_lt, Bool.false≢true, Bool.false_from_ne_true, List.get_or_past, List.FromFn.fill_by_all, List.FromFn.get_or-map-range_with_len, List.FromFn.length-map-range_with_len}
+use Rattle.std.proofs.lemmas.{Bool.cases_lt, Bool.false_from_ne_true, List.get_or_past, List.FromFn.fill_by_all, List.FromFn.get_or-map-range_with_len, List.FromFn.length-map-range_with_len}
 use Rattle.msg_order.specs.Prelude.{Graph, IsAmong, IsEdge, IsLawfulOrder, IsPlanOf, PlanView, Rule, SystemSet, has_joined}
 use Rattle.msg_order.specs.{inner.SystemSet.has, inner.Paths.comes_before, inner.Paths.ArePaths, inner.Paths.AreKept, inner.Paths.IsSetOf, inner.Paths.square, inner.Paths.view_of}
-use Rattle.msg_order.proofs.{Elements.filter-Contains, Elements.Contains-filter, Elements.Contains-flat_map, Elements.Contains-map, Elements.Contains-range, Chains.edge_is_path, Chains.path_among, PathTest.to_Path, TurnOrders.kept_along}
+use Rattle.msg_order.proofs.{Elements.filter-Contains, Elements.Contains-filter, Elements.Contains-flat_map, Elements.Contains-map, Elements.Contains-range, Chains.edge_is_path, Chains.path_among, PathTest.to_Path, SetPaths.joined_in, TurnOrders.kept_along}
 use Rattle.msg_world.specs.declared.access.Access.{Access}
 
 Contains-square : (n i j : ℕ) → i < n → j < n → Contains (square n) (i, j)
@@ -42,13 +42,8 @@ pub sets_kept : (g : Graph) (joined : List Bool) (before : List SystemSet) (set 
     → length joined ≡ length before → ArePaths g before → IsSetOf joined set → IsAmong joined g → AreKept before set
 sets_kept g joined before set few len paths is among = record {
   few = few;
-  within = λ i t. elim (cases_lt i (length before)) [
-    | inl l ↦ l
-    | inr l ↦ absurd (false≢true (sym (get_or_past joined i false (omega arith)) ∙ sym (is i) ∙ t))
-  ];
-  among = λ i j t.
-      let both = path_among g joined among i j (to_Path g i j (sym (paths i j) ∙ t)) in
-      (is i ∙ both.0, is j ∙ both.1);
+  within = λ i t. grind (arith, is i, joined_in joined i);
+  among = λ i j t. grind (arith, path_among g joined among i j, to_Path g i j, paths i j, is i, is j);
 }
 
 -- an order is lawful for the pairs of a plan where it is for the edges that it was settled by

@@ -1,18 +1,18 @@
 -- The code's sets as the paths of a graph.
-use Rattle.std.proofs.Common.{◌≡◌, ◌≢◌, ℕ, ◌+◌, ◌-◌, ◌<◌, ◌≤◌, inl, inr, Bool, true, false, cond, ◌&&◌, ◌||◌, List, [], ◌∷◌, ◌++◌, length, take, map, get_or, replicate, Option, None, Some, refl, ap, sym, ◌∙◌, arith, length-append, ◌==◌, IfNone, IfSome, IsTrue, IsFalse, MatchOption, ◌↔◌}
+use Rattle.std.proofs.Common.{◌≡◌, ℕ, ◌+◌, ◌-◌, ◌<◌, ◌≤◌, Bool, true, false, cond, ◌&&◌, ◌||◌, List, [], ◌∷◌, ◌++◌, length, take, map, get_or, replicate, Option, None, Some, refl, sym, ◌∙◌, arith, length-append, ◌==◌, IsTrue, IsFalse, MatchOption, ◌↔◌}
 use Rattle.std.specs.List.{list_any, range_with_len}
-use Rattle.std.proofs.lemmas.{List.append-nil, List.get_or-map, List.length-map, List.take-map, List.get_or-take, List.get_or_past, List.get_or_push, List.get_or_append_left, Grind.common_steps, Simd.get_or-replicate, List.Elements.All-head, List.Elements.All-tail, List.Elements.filter_more, List.Elements.Contains-append_left, List.Elements.Contains-push, List.Elements.Contains-push_cases, Bool.Decides.eqb_tells, Bool.cases_eq, Bool.cases_lt, Bool.or_left, Bool.or_right, Bool.or_cases, Bool.and_parts, Bool.and_from, Bool.false≢true, Bool.false_from_ne_true, Bool.eqb-true, Bool.eq-eqb}
+use Rattle.std.proofs.lemmas.{Bool.cases_Bool, List.append-nil, List.get_or-map, List.length-map, List.take-map, List.get_or-take, List.get_or_past, List.get_or_push, List.get_or_append_left, Simd.get_or-replicate, List.Elements.All-head, List.Elements.All-tail, List.Elements.filter_more, List.Elements.Contains-append_left, List.Elements.Contains-push, List.Elements.Contains-push_cases, Bool.Decides.eqb_tells, Bool.cases_eq, Bool.cases_lt, Bool.or_left, Bool.or_right, Bool.or_cases, Bool.and_parts, Bool.false≢true, Bool.false_from_ne_true, Bool.eqb-true, Bool.eq-eqb}
 use Rattle.msg_world.specs.declared.access.Access.{Access}
 use Rattle.msg_order.specs.Prelude.{AreInConflict, Graph, IsAcyclic, IsAmong, IsLowestOnCycle, NameSystemsBelow, Rule, Settles, SystemSet, edges_of, has_joined, pairs, rules_among}
 use Rattle.msg_order.specs.{inner.SystemSet.has, inner.SystemSet.meets, inner.SystemSet.no_set, inner.Paths.path, inner.Paths.set_at, inner.Paths.comes_before, inner.Paths.ArePaths}
-use Rattle.msg_order.proofs.{SystemSets.has-no_set, SystemSets.meets-found, SystemSets.meets-true, Elements.Contains-tail, Elements.Contains-cases, Elements.Contains-list_any, Elements.Contains-range, Elements.filter-Contains, Elements.list_any-Contains, Elements.range-Contains, PathTest.path_trans, PathTest.to_Path, PathTest.no_Path, PathTest.no_path, PathTest.same_test, PathTest.same_paths, SettledPairs.grown, SettledPairs.grown_paths, SettledPairs.reaches, SettledPairs.settles_row, SettledPairs.settles_then, SettledPairs.settles_keeps, SettledPairs.settles_free, SettledPairs.pairs_until, SettledPairs.pairs_until-more, SettledPairs.row, SettledPairs.pairs-Contains}
+use Rattle.msg_order.proofs.{SystemSets.has-no_set, SystemSets.meets-found, SystemSets.meets-true, Elements.Contains-tail, Elements.Contains-cases, Elements.Contains-list_any, Elements.Contains-range, Elements.filter-Contains, Elements.list_any-Contains, Elements.range-Contains, PathTest.path_trans, PathTest.to_Path, PathTest.no_Path, PathTest.no_path, PathTest.same_test, PathTest.same_paths, SettledPairs.grown, SettledPairs.grown_paths, SettledPairs.reaches, SettledPairs.settles_row, SettledPairs.settles_then, SettledPairs.settles_keeps, SettledPairs.pairs_until, SettledPairs.pairs_until-more, SettledPairs.row, SettledPairs.pairs-Contains}
 
 -- past the last set there is none
 pub set_past : (before : List SystemSet) (j : ℕ) → length before ≤ j → set_at before j ≡ no_set
 set_past before j h = get_or_past before j no_set h
 
 pub none_past : (before : List SystemSet) (i j : ℕ) → length before ≤ j → comes_before before i j ≡ false
-none_past before i j h = ap (λ s. has s i) (set_past before j h) ∙ has-no_set i
+none_past before i j h = grind (arith, set_past, has-no_set)
 
 pub meets-no_set : (t : SystemSet) → meets no_set t ≡ false
 meets-no_set t = grind (arith, false_from_ne_true, has-no_set, meets-true)
@@ -41,10 +41,7 @@ adds_edge g before new from later to h s few only i j =
 -- The rules one by one.
 path-at_end : (g : Graph) (e : ℕ × ℕ) (i j : ℕ) → path (e ∷ g) i j ≡ path (g ++ e ∷ []) i j
 path-at_end g e = same_paths (e ∷ g) (g ++ e ∷ [])
-    (λ i j h. elim (Contains-cases e g (i, j) h) [
-      | inl s ↦ rw (← s) (Contains-push g e)
-      | inr t ↦ Contains-append_left g (e ∷ []) (i, j) t
-    ])
+    (λ i j h. grind (arith, Contains-cases e g (i, j) h, Contains-push g e, Contains-append_left g (e ∷ [])))
     (λ i j h. grind (arith, Contains-push_cases g e (i, j) h, Contains-tail e g (i, j)))
 
 -- an edge where there is a path already adds none
@@ -52,24 +49,16 @@ pub path-again : (g : Graph) (a b : ℕ) → path g a b ≡ true → (i j : ℕ)
 path-again g a b p i j = grind (arith, same_test, or_left, or_cases, and_parts, eqb-true, path_trans)
 
 -- a rule among the joined systems adds its edge
-pub rule_more : (joined : List Bool) (rules : List Rule) (k : ℕ) (d : Rule) → k < length rules → (i j : ℕ) →
+pub rule_more : (joined : List Bool) (rules : List Rule) (k : ℕ) (d : Rule) → k < length rules → (i j : ℕ)
+    → (let r : Rule = get_or rules k d in let g : Graph = rules_among joined (take k rules) in
     path (rules_among joined (take (k + 1) rules)) i j
-    ≡ path (cond (has_joined joined (get_or rules k d).earlier && has_joined joined (get_or rules k d).later)
-    (((get_or rules k d).earlier, (get_or rules k d).later) ∷ rules_among joined (take k rules))
-    (rules_among joined (take k rules))) i j
+    ≡ path (cond (has_joined joined r.earlier && has_joined joined r.later) ((r.earlier, r.later) ∷ g) g) i j)
 rule_more joined rules k d h i j =
     let f : Rule → ℕ × ℕ = λ r. (r.earlier, r.later) in
     let p : ℕ × ℕ → Bool = λ e. has_joined joined e.0 && has_joined joined e.1 in
-    grind (
-      arith,
-      filter_more p (map f rules) k (f d),
-      length-map rules f,
-      get_or-map f rules k d (f d) h,
-      take-map f k rules,
-      take-map f (k + 1) rules,
-      path-at_end (rules_among joined (take k rules)) (f (get_or rules k d)) i j,
-      append-nil (rules_among joined (take k rules)),
-    )
+    let more = filter_more p (map f rules) k (f d) in
+    let last = path-at_end (rules_among joined (take k rules)) (f (get_or rules k d)) i j in
+    grind (arith, more, last, length-map rules f, get_or-map f rules k d (f d) h, take-map f, append-nil)
 
 -- The pairs of one system after those of the systems before it.
 abbrev pub IsOnWay : (ℕ → ℕ → Type 0) → Graph → ℕ → ℕ → List SystemSet → Type 0
@@ -92,52 +81,29 @@ pub row_settles : (C : ℕ → ℕ → Type 0) (g : Graph) (n i : ℕ) (before n
     → i < n → ((j : ℕ) → C i j → j < n)
     → TellsLater C (set_at before i) i later → AddsEdges before i later new → IsOnWay C g n i before
     → IsOnWay C g n (i + 1) new
-row_settles C g n i before new later few lt below tells adds way = (
-  grown i test js h,
-  (
-    λ x k. adds x k ∙ rw (way.1.0 x k, way.1.0 x i, tests k) (sym (grown_paths h i test js free x k)),
-    rw (pairs_until-more n i)
-        (settles_then C (pairs_until n i) (row n i) g h (grown i test js h) way.1.1
-        (settles_row C h i test js (λ j c. let r = range-Contains (i + 1) (n - (i + 1)) j c in omega arith)
-        (λ t up. (λ e. (found t e).1, λ c f. (tells t).1 (up, (c, way.1.0 t i ∙ f)))))),
-  ),
-)
-  where
-    h : Graph
-    h = way.0
-
-    js : List ℕ
-    js = range_with_len (i + 1) (n - (i + 1))
-
-    test : ℕ → Bool
-    test = has later
-
-    found : (j : ℕ) → test j ≡ true → (i < j) × ((C i j) × (path h j i ≡ false))
-    found j t = let r = (tells j).0 t in (r.0, (r.1.0, sym (way.1.0 j i) ∙ r.1.1))
-
-    free : (t : ℕ) → test t ≡ true → (t ≢ i) × (path h t i ≡ false)
-    free t e = let q = found t e in let ne : t ≢ i = omega (arith, q.0) in (ne, q.1.1)
-
-    -- one of those that the test holds of is among the systems after i
-    among : (k t : ℕ) → test t ≡ true → (k == t || path h t k) ≡ true → list_any (reaches test h k) js ≡ true
-    among k t e to =
-        let q = found t e in
-        let l : t < n = below t q.1.0 in
-        list_any-Contains (reaches test h k) js t
-        (Contains-range (i + 1) (n - (i + 1)) t (omega (arith, q.0)) (omega (arith, q.0)))
-        (and_from (test t) (k == t || path h t k) e to)
-
-    tests : (k : ℕ) → (has later k || meets (set_at before k) later) ≡ list_any (reaches test h k) js
-    tests k = same_test _ _
-        (λ e. elim (or_cases (has later k) (meets (set_at before k) later) e) [
-          | inl x ↦ among k k x (or_left (k == k) (path h k k) (eq-eqb k k refl))
-          | inr x ↦ let f = meets-true (set_at before k) later x in among k f.0 f.1.1.1
-              (or_right (k == f.0) (path h f.0 k) (sym (way.1.0 f.0 k) ∙ f.1.1.0))
-        ])
-        (λ e.
-        let r = Contains-list_any (reaches test h k) js e in
-        let t : ℕ = r.0 in
-        grind (arith, eqb_tells, r.1.1, found t, below t, way.1.0 t k, meets-found (set_at before k) later t))
+row_settles C g n i before new later few lt below tells adds way =
+    let h : Graph = way.0 in
+    let js : List ℕ = range_with_len (i + 1) (n - (i + 1)) in
+    let found : (j : ℕ) → has later j ≡ true → (i < j) × ((j < n) × ((C i j) × (path h j i ≡ false))) = λ j t.
+    grind (arith, tells j, below j, way.1.0 j i) in
+    let tests : (k : ℕ) → (has later k || meets (set_at before k) later) ≡ list_any (reaches (has later) h k) js = λ k.
+    let here = list_any-Contains (reaches (has later) h k) js in
+    let from = Contains-list_any (reaches (has later) h k) js in
+    let meet = meets-found (set_at before k) later in
+    let inside = λ (t : ℕ). (Contains-range (i + 1) (n - (i + 1)) t) in
+    same_test _ _ (λ e. grind (arith, eqb_tells, meets-true (set_at before k) later, way.1.0, here, found, inside))
+    (λ e. let r = from e in grind (arith, eqb_tells, r.1.1, found r.0, way.1.0 r.0 k, meet)) in (
+      grown i (has later) js h,
+      (
+        λ x k.
+            let grows = grown_paths h i (has later) js (λ t e. grind (arith, found t e)) x k in
+            grind (arith, adds x k, way.1.0 x, tests k, grows),
+        rw (pairs_until-more n i)
+            (settles_then C (pairs_until n i) (row n i) g h (grown i (has later) js h) way.1.1
+            (settles_row C h i (has later) js (λ j c. grind (arith, range-Contains (i + 1) (n - (i + 1)) j c))
+            (λ t up. grind (arith, found t, tells t, way.1.0 t i)))),
+      ),
+    )
 
 -- Systems below n on cycles.
 pub joined_in : (joined : List Bool) (i : ℕ) → has_joined joined i ≡ true → i < length joined
@@ -153,69 +119,39 @@ lowest_by_sets g before (Some s) h found = record {
   lowest = λ r k. no_Path g r r (sym (h r r) ∙ found.1 r k);
 }
 
--- rules among systems that have all joined are all the rules
-pub all_rules : (joined : List Bool) (rules : List Rule) → NameSystemsBelow (length joined) rules
-    → ((i : ℕ) → i < length joined → has_joined joined i ≡ true)
-    → rules_among joined rules ≡ edges_of rules
-all_rules joined [] below all = refl
-all_rules joined (rule ∷ rules) below all =
-    let P : Rule → Type 0 = λ r. (r.earlier < length joined) × (r.later < length joined) in
+-- rules among the first n of systems that have all joined are all the rules
+pub all_rules : (m n : ℕ) (rules : List Rule) → n ≤ m → NameSystemsBelow n rules
+    → rules_among (take n (replicate m true)) rules ≡ edges_of rules
+all_rules m n [] le below = refl
+all_rules m n (rule ∷ rules) le below =
+    let P : Rule → Type 0 = λ r. (r.earlier < n) × (r.later < n) in
     let here = All-head P rule rules below in
-    rw (all rule.earlier here.0, all rule.later here.1)
-    (ap (λ l. (rule.earlier, rule.later) ∷ l) (all_rules joined rules (All-tail P rule rules below) all))
-
--- the first n of systems that have all joined
-front_joined : (m n : ℕ) → n ≤ m → (length (take n (replicate m true)) ≡ n)
-    × ((i : ℕ) → i < n → has_joined (take n (replicate m true)) i ≡ true)
-front_joined m n le = (
-  grind (arith, common_steps),
-  λ i lt. get_or-take n (replicate m true) i false lt
-      ∙ get_or-replicate m i true false (omega arith),
-)
-
--- what is found of the rules among the first n of them is found of all rules
-pub found_among_all : (m n : ℕ) (rules : List Rule) (before : List SystemSet) (found : Option ℕ) → n ≤ m
-    → NameSystemsBelow n rules
-    → (let among : Graph = rules_among (take n (replicate m true)) rules in MatchOption found
-    (IsAcyclic among × ArePaths among before) (IsLowestOnCycle among))
-    → IfSome found (IsLowestOnCycle (edges_of rules)) × IfNone found (IsAcyclic (edges_of rules))
-found_among_all m n rules before found le below h =
-    let joined : List Bool = take n (replicate m true) in
-    let front = front_joined m n le in
-    let all = all_rules joined rules (rw (front.0) below)
-    (λ i lt. front.1 i (omega (arith, front.0))) in
-    of_both _ _ _ found (rw all at h)
-  where
-    of_both : (P Q : Type 0) (R : ℕ → Type 0) (found : Option ℕ) → MatchOption found (P × Q) R
-        → IfSome found R × IfNone found P
-    of_both P Q R found h = grind arith
+    let rest = all_rules m n rules le (All-tail P rule rules below) in
+    let joined : (i : ℕ) → i < n → has_joined (take n (replicate m true)) i ≡ true = λ i lt.
+    grind (arith, get_or-take, get_or-replicate) in
+    rw (joined rule.earlier here.0, joined rule.later here.1, rest) refl
 
 pub settled_joins : (accesses : List Access) (rules : List Rule) (joined : List Bool) (h : Graph)
     → Settles (AreInConflict accesses joined) (rules_among joined rules) (pairs (length accesses)) h → IsAmong joined h
 settled_joins accesses rules joined h s =
-    settles_keeps (AreInConflict accesses joined) (IsAmong joined) (pairs (length accesses)) (rules_among joined rules)
-    h s
+    settles_keeps _ (IsAmong joined) _ (rules_among joined rules) h s
     (λ p k m gains among i j e. grind (arith, among i j, Contains-cases p k (i, j) e, gains.0))
-    (λ i j e. and_parts _ _
-    (filter-Contains (λ (e : ℕ × ℕ). has_joined joined e.0 && has_joined joined e.1) (edges_of rules) (i, j) e).1)
+    (λ i j e. and_parts _ _ (filter-Contains _ (edges_of rules) (i, j) e).1)
 
 pub settled_free : (accesses : List Access) (rules : List Rule) (joined : List Bool) (h : Graph)
     → Settles (AreInConflict accesses joined) (rules_among joined rules) (pairs (length accesses)) h
     → IsAcyclic (rules_among joined rules) → IsAcyclic h
 settled_free accesses rules joined h s f i =
-    let g : Graph = rules_among joined rules in
-    no_Path h i i (settles_free (AreInConflict accesses joined) (pairs (length accesses)) g h s
-    (λ a b m. (pairs-Contains (length accesses) a b m).0) (λ k. no_path g k k (f k)) i)
+    no_Path h i i (settles_keeps _ (λ k. (s : ℕ) → path k s s ≡ false) _ (rules_among joined rules) h s
+    (λ p k m gains free s.
+    let rises = pairs-Contains (length accesses) p.0 p.1 m in
+    grind (arith, cases_Bool, eqb_tells, free, no_path k p.1 p.0 gains.1, path_trans k, rises))
+    (λ k. no_path _ k k (f k)) i)
 
 -- a set that was just made
 pub sets_push : (before : List SystemSet) (set : SystemSet) → ArePaths [] before → ((k : ℕ) → has set k ≡ false)
     → ArePaths [] (before ++ set ∷ [])
 sets_push before set h none i j =
-    grind (
-      arith,
-      h i j,
-      get_or_push before set no_set j,
-      get_or_append_left before (set ∷ []) no_set j,
-      none_past (before ++ set ∷ []) i j,
-      length-append before (set ∷ []),
-    )
+    let earlier = get_or_append_left before (set ∷ []) no_set j in
+    let past = none_past (before ++ set ∷ []) i j in
+    grind (arith, h i j, get_or_push before set no_set j, earlier, past, length-append before (set ∷ []))

@@ -1,11 +1,10 @@
 -- Pairs taken in turn: what they add, keep and reach.
 use Rattle.std.proofs.Common.{◌≡◌, ◌≢◌, ℕ, ◌+◌, ◌-◌, ◌<◌, ◌⊎◌, inl, inr, Bool, true, false, cond, ◌&&◌, ◌||◌, List, [], ◌∷◌, ◌++◌, map, refl, ap, sym, subst, ◌∙◌, arith, ◌==◌, Contains, flat_map}
 use Rattle.std.specs.List.{list_any, range_with_len}
-use Rattle.std.proofs.Math.Bool.{and-false, or-false}
-use Rattle.std.proofs.lemmas.{Bool.Decides.eqb_tells, Bool.cases_Bool, Bool.or_cases, Bool.and_parts, Bool.false≢true, Bool.false_from_ne_true, Bool.eqb-true, Grind.flat_map-append, List.append-nil}
+use Rattle.std.proofs.lemmas.{Bool.Decides.eqb_tells, Bool.cases_Bool, Grind.flat_map-append, List.append-nil}
 use Rattle.msg_order.specs.Prelude.{GainsEdge, Graph, Path, Settles, pairs}
 use Rattle.msg_order.specs.inner.Paths.{path}
-use Rattle.msg_order.proofs.{Elements.Contains-head, Elements.Contains-tail, Elements.Contains-cases, Elements.not_in_none, Elements.range_more, Elements.flat_map-Contains, Elements.Contains-flat_map, Elements.map-Contains, Elements.Contains-map, Elements.range-Contains, Elements.Contains-range, Chains.edge_is_path, PathTest.path_trans, PathTest.to_Path, PathTest.no_Path, PathTest.no_path, PathTest.path_more}
+use Rattle.msg_order.proofs.{Elements.Contains-head, Elements.Contains-tail, Elements.Contains-cases, Elements.not_in_none, Elements.range_more, Elements.flat_map-Contains, Elements.Contains-flat_map, Elements.map-Contains, Elements.Contains-map, Elements.range-Contains, Elements.Contains-range, Chains.edge_is_path, PathTest.to_Path, PathTest.no_Path, PathTest.no_path, PathTest.path_more}
 
 -- Some pairs after others.
 pub settles_then : (C : ℕ → ℕ → Type 0) (ps qs g h k : Graph) → Settles C g ps h → Settles C h qs k
@@ -39,26 +38,12 @@ settles_grows C ps g h a i j = settles_keeps C (λ k. Path k i j) ps g h a (λ p
 pub settles_covers : (C : ℕ → ℕ → Type 0) (ps g h : Graph) → Settles C g ps h → (i j : ℕ) → Contains ps (i, j) → C i j
     → Path h i j ⊎ Path h j i
 settles_covers C [] g h a i j m c = absurd (not_in_none (i, j) m)
-settles_covers C (p ∷ ps) g h a i j m c = elim (Contains-cases p ps (i, j) m) [
-  | inl s ↦ elim a [
-    | inl x ↦ inl (settles_grows C ps (p ∷ g) h x.1 i j (edge_is_path (p ∷ g) i j (0, omega arith, s)))
-    | inr x ↦ grind (arith, x, to_Path g j i, no_Path g j i, settles_grows C ps g h x.1 j i)
-  ]
-  | inr t ↦ elim a [
-    | inl x ↦ settles_covers C ps (p ∷ g) h x.1 i j t c
-    | inr x ↦ settles_covers C ps g h x.1 i j t c
-  ]
-]
-
--- An edge to which no path leads back makes no cycle.
-pub settles_free : (C : ℕ → ℕ → Type 0) (ps g h : Graph) → Settles C g ps h → ((i j : ℕ) → Contains ps (i, j) → i < j)
-    → ((s : ℕ) → path g s s ≡ false) → (s : ℕ) → path h s s ≡ false
-settles_free C ps g h a up =
-    settles_keeps C (λ k. (s : ℕ) → path k s s ≡ false) ps g h a
-    (λ p k m gains free s.
-    let rises = up p.0 p.1 m in
-    let none = no_path k p.1 p.0 gains.1 in
-    grind (arith, and_parts, eqb-true, false_from_ne_true, false≢true, free, none, or_cases, path_trans, rises))
+settles_covers C (p ∷ ps) g h a i j m c =
+    let this = Contains-cases p ps (i, j) m in
+    let newest = edge_is_path (p ∷ g) p.0 p.1 (Contains-head p g) in
+    let covers = settles_covers C ps in
+    let grows = settles_grows C ps in
+    grind (arith, this, newest, covers (p ∷ g) h, covers g h, grows (p ∷ g) h, grows g h, to_Path g j i, no_Path g j i)
 
 -- All pairs of numbers below n, up to those of i.
 abbrev pub row : ℕ → ℕ → Graph
@@ -73,12 +58,8 @@ pairs_until-more n i = grind (arith, range_more, flat_map-append, append-nil)
 pub pairs-Contains : (n i j : ℕ) → Contains (pairs n) (i, j) → (i < j) × (j < n)
 pairs-Contains n i j h =
     let r = flat_map-Contains (row n) (range_with_len 0 n) (i, j) h in
-    let a = range-Contains 0 n r.0 r.1.0 in
     let m = map-Contains (λ (k : ℕ). (r.0, k)) (range_with_len (r.0 + 1) (n - (r.0 + 1))) (i, j) r.1.1 in
-    let b = range-Contains (r.0 + 1) (n - (r.0 + 1)) m.0 m.1.0 in
-    let first : r.0 ≡ i = ap (λ (q : ℕ × ℕ). q.0) m.1.1 in
-    let second : m.0 ≡ j = ap (λ (q : ℕ × ℕ). q.1) m.1.1 in
-    (omega (arith, a, b, first, second), omega (arith, a, b, first, second))
+    grind (arith, m, range-Contains (r.0 + 1) (n - (r.0 + 1)) m.0)
 
 pub Contains-pairs : (n i j : ℕ) → i < j → j < n → Contains (pairs n) (i, j)
 Contains-pairs n i j h l =
@@ -91,14 +72,6 @@ abbrev pub grown : ℕ → (ℕ → Bool) → List ℕ → Graph → Graph
 grown i test [] g = g
 grown i test (j ∷ js) g = grown i test js (cond (test j) ((i, j) ∷ g) g)
 
--- An edge from i adds no path to i, where no path leads back.
-same_to : (g : Graph) (i t x : ℕ) → t ≢ i → path g t i ≡ false → path ((i, t) ∷ g) x i ≡ path g x i
-same_to g i t x ne free = grind (arith, eqb_tells)
-
--- Nor does it to others from where no path leads to i.
-same_from : (g : Graph) (i t s k : ℕ) → s ≢ i → path g s i ≡ false → path ((i, t) ∷ g) s k ≡ path g s k
-same_from g i t s k ne free = grind (arith, eqb_tells)
-
 -- What the test holds of has no path to i, and isn't i.
 abbrev pub AreFree : Graph → ℕ → (ℕ → Bool) → Type 0
 AreFree g i test = (t : ℕ) → test t ≡ true → (t ≢ i) × (path g t i ≡ false)
@@ -109,11 +82,11 @@ reaches test g k t = test t && (k == t || path g t k)
 
 same_reach : (g : Graph) (i j k : ℕ) (test : ℕ → Bool) → AreFree g i test → (t : ℕ) → reaches test ((i, j) ∷ g) k t
     ≡ reaches test g k t
-same_reach g i j k test f t = grind (arith, cases_Bool, same_from)
+same_reach g i j k test f t = grind (arith, cases_Bool, eqb_tells)
 
 pub grown_paths : (g : Graph) (i : ℕ) (test : ℕ → Bool) (js : List ℕ) → AreFree g i test → (x k : ℕ)
     → path (grown i test js g) x k ≡ (path g x k || ((x == i || path g x i) && list_any (reaches test g k) js))
-grown_paths g i test [] f x k = rw (and-false (x == i || path g x i), or-false (path g x k)) refl
+grown_paths g i test [] f x k = grind (arith, cases_Bool)
 grown_paths g i test (j ∷ js) f x k = elim (cases_Bool (test j)) [
   | inr e ↦ rw e (grown_paths g i test js f x k)
   | inl e ↦
@@ -121,7 +94,7 @@ grown_paths g i test (j ∷ js) f x k = elim (cases_Bool (test j)) [
       let same = ap (λ (p : ℕ → Bool). list_any p js) (λ n t. same_reach g i j k test f t n) in
       -- an edge to one of them leaves them so
       let still_free : AreFree h i test = λ t s. grind (arith, eqb_tells, e, f j, f t) in
-      grind (arith, e, grown_paths h i test js still_free x k, same, same_to g i j x, f j)
+      grind (arith, e, grown_paths h i test js still_free x k, same, eqb_tells, f j)
 ]
 
 -- The test tells which pairs of i and a later system gain their edge, whichever of them did before.
@@ -136,14 +109,7 @@ settles_row C g i test [] up h = refl
 settles_row C g i test (j ∷ js) up h =
     let lt : i < j = up j (Contains-head j js) in
     let later : (k : ℕ) → Contains js k → i < k = λ k c. up k (Contains-tail j js k c) in
-    elim (cases_Bool (test j)) [
-      | inl e ↦
-          let at = (h j lt).0 e in
-          let ne : j ≢ i = omega arith in
-          let on : TellsPairs C ((i, j) ∷ g) i test = λ t l. grind (arith, h t l, same_to g i j t ne at.1) in
-          rw e (inl ((at.0, no_Path g j i at.1), settles_row C ((i, j) ∷ g) i test js later on))
-      | inr e ↦ rw e (inr (
-        λ x. false≢true (sym e ∙ (h j lt).1 x.0 (no_path g j i x.1)),
-        settles_row C g i test js later h,
-      ))
-    ]
+    let takes = λ (e : test j ≡ true). settles_row C ((i, j) ∷ g) i test js later
+    (λ t l. grind (arith, h t l, eqb_tells, (h j lt).0 e)) in
+    let drops = settles_row C g i test js later h in
+    grind (arith, cases_Bool (test j), h j lt, no_Path g j i, no_path g j i, takes, drops)

@@ -1,7 +1,7 @@
 -- Sets of systems as words of bits.
-use Rattle.std.proofs.Common.{[], ◌∷◌, ◌≡◌, ◌≢◌, ℕ, ◌+◌, ◌*◌, ◌/◌, ◌^◌, ◌%◌, ◌<◌, ◌≤◌, Bool, true, false, not, ◌&&◌, ◌||◌, List, get_or, length, refl, ap, ◌∙◌, arith, w64, get_or-set_same, get_or-set_other, slice_set, sym, ◌==◌, bit_and, bit_or}
+use Rattle.std.proofs.Common.{◌≡◌, ℕ, ◌+◌, ◌*◌, ◌/◌, ◌^◌, ◌%◌, ◌<◌, ◌≤◌, Bool, true, false, not, ◌&&◌, ◌||◌, List, get_or, length, refl, arith, w64, get_or-set_same, get_or-set_other, slice_set, ◌==◌, bit_and, bit_or}
 use Rattle.std.specs.{Int.bit_not, List.list_any, List.range_with_len}
-use Rattle.std.proofs.lemmas.{Bool.cases_eq, Bool.and_parts, Bool.and_from, Bool.eq-eqb, Bool.ne_eqb, Bool.false_from_ne_true, List.get_or_past, Nat.Bits.shr_and_one}
+use Rattle.std.proofs.lemmas.{Bool.cases_eq, Bool.and_parts, Bool.and_from, Bool.eq-eqb, Bool.ne_eqb, Bool.false_from_ne_true, List.get_or_past}
 use Rattle.msg_world.specs.Prelude.{has_bit}
 use Rattle.msg_world.proofs.Bits.{has_bit-zero, has_bit-set, has_bit-unset, has_bit-and, has_bit-or}
 use Rattle.msg_order.specs.Prelude.{SystemSet}
@@ -15,15 +15,12 @@ some_below test n k lt t =
 
 pub below_some : (test : ℕ → Bool) (n : ℕ) → list_any test (range_with_len 0 n) ≡ true → (k : ℕ)
     × ((k < n) × (test k ≡ true))
-below_some test n h = let f = Contains-list_any test (range_with_len 0 n) h in let lt =
-    (range-Contains 0 n f.0 f.1.0).1 in (f.0, (omega arith, f.1.1))
+below_some test n h =
+    let f = Contains-list_any test (range_with_len 0 n) h in (f.0, grind (arith, f.1, range-Contains 0 n f.0))
 
 pub none_below : (test : ℕ → Bool) (n : ℕ) → ((k : ℕ) → k < n → test k ≡ false)
     → list_any test (range_with_len 0 n) ≡ false
 none_below test n none = grind (arith, false_from_ne_true, below_some)
-
-same_place : (j k : ℕ) → j / 64 ≡ k / 64 → j % 64 ≡ k % 64 → j ≡ k
-same_place j k p q = omega arith
 
 -- one word was changed in one bit
 words-set : (words : List ℕ) (new j k : ℕ) (f : Bool → Bool → Bool) → length words ≡ 4 → k < 256
@@ -32,7 +29,7 @@ words-set : (words : List ℕ) (new j k : ℕ) (f : Bool → Bool → Bool) → 
     → has_bit (get_or (slice_set words (k / 64) new) (j / 64) 0) (j % 64)
     ≡ f (j == k) (has_bit (get_or words (j / 64) 0) (j % 64))
 words-set words new j k f l h same is =
-    grind (arith, cases_eq, eq-eqb, get_or-set_other, get_or-set_same, ne_eqb, same_place)
+    grind (arith, cases_eq, eq-eqb, get_or-set_other, get_or-set_same, ne_eqb)
 
 -- `words[k / 64] |= 1 << (k % 64)`
 pub words-insert : (words : List ℕ) (j k : ℕ) → length words ≡ 4 → k < 256 →
@@ -51,14 +48,6 @@ words-remove words j k l h =
     words-set words _ j k (λ a b. not a && b) l h (λ b. refl)
     (has_bit-unset (get_or words (k / 64) 0) (k % 64) (j % 64) (omega arith) (omega arith))
 
-pub past_or : (a b c : List ℕ) (q r : ℕ) → length a ≤ q → length b ≤ q → length c ≤ q → has_bit (get_or a q 0) r
-    ≡ (has_bit (get_or b q 0) r || has_bit (get_or c q 0) r)
-past_or a b c q r h k l = rw (get_or_past a q 0 h, get_or_past b q 0 k, get_or_past c q 0 l, has_bit-zero r) refl
-
--- four words of no bits
-pub no_words : (q : ℕ) → (let words : List ℕ = 0 ∷ 0 ∷ 0 ∷ 0 ∷ [] in get_or words q 0 ≡ 0)
-no_words q = grind (arith, get_or_past)
-
 -- nothing is in a set of no words
 pub has-no_set : (k : ℕ) → has no_set k ≡ false
 unfolding has
@@ -70,18 +59,16 @@ meets-found s t k h a b = some_below (λ i. has s i && has t i) 256 k h (and_fro
 
 pub meets-true : (s t : SystemSet) → meets s t ≡ true → (k : ℕ) × ((k < 256) × ((has s k ≡ true) × (has t k ≡ true)))
 unfolding meets
-meets-true s t h = let f =
-    below_some (λ i. has s i && has t i) 256 h in (f.0, (f.1.0, and_parts (has s f.0) (has t f.0) f.1.1))
+meets-true s t h = let f = below_some (λ i. has s i && has t i) 256 h in (f.0, grind (arith, f.1, and_parts))
 
 -- a set of four words has no number from 256 on
 pub has-above : (s : SystemSet) (k : ℕ) → length s.words ≡ 4 → 256 ≤ k → has s k ≡ false
 unfolding has
-has-above s k l h = let past : length s.words ≤ k / 64 =
-    omega arith in ap (λ n. has_bit n (k % 64)) (get_or_past s.words (k / 64) 0 past) ∙ has_bit-zero (k % 64)
+has-above s k l h = grind (arith, get_or_past, has_bit-zero)
 
 -- words with no bit in both
 pub has_bit-apart : (a b r : ℕ) → bit_and a b ≡ 0 → (has_bit a r && has_bit b r) ≡ false
-has_bit-apart a b r e = sym (has_bit-and a b r) ∙ ap (λ n. has_bit n r) e ∙ has_bit-zero r
+has_bit-apart a b r e = grind (arith, has_bit-and a b r, has_bit-zero)
 
 -- a bit in both, of the words that a number stands in
 pub words-share : (xs ys : List ℕ) (i r k : ℕ) → r < 64 → 64 * i + r ≡ k
@@ -89,32 +76,12 @@ pub words-share : (xs ys : List ℕ) (i r k : ℕ) → r < 64 → 64 * i + r ≡
     → (has_bit (get_or xs (k / 64) 0) (k % 64) && has_bit (get_or ys (k / 64) 0) (k % 64)) ≡ true
 words-share xs ys i r k h e t = grind (arith, has_bit-and)
 
--- A set that was told up to i, and from there on is empty: i goes in, or stays out.
-pub told_with : (old new want : ℕ → Bool) (i : ℕ) → ((k : ℕ) → new k ≡ (k == i || old k))
-    → ((k : ℕ) → k < i → old k ≡ want k) → want i ≡ true → (k : ℕ) → k < i + 1 → new k ≡ want k
-told_with old new want i step told yes_ k h = grind (arith, cases_eq, eq-eqb, ne_eqb)
-
-pub empty_with : (old new : ℕ → Bool) (i : ℕ) → ((k : ℕ) → new k ≡ (k == i || old k))
-    → ((k : ℕ) → i ≤ k → old k ≡ false) → (k : ℕ) → i + 1 ≤ k → new k ≡ false
-empty_with old new i step none k h = let ne : k ≢ i = omega arith in step k ∙ rw (ne_eqb k i ne) (none k (omega arith))
-
-pub told_without : (old want : ℕ → Bool) (i : ℕ) → ((k : ℕ) → k < i → old k ≡ want k)
-    → ((k : ℕ) → i ≤ k → old k ≡ false) → want i ≡ false → (k : ℕ) → k < i + 1 → old k ≡ want k
-told_without old want i told z4 no_ k h = grind (arith, cases_eq)
-
 -- what the functions of sets are proved by
 pub ruleset of_sets = (
   words-insert,
   words-remove,
-  past_or,
-  no_words,
-  has_bit-zero,
   has_bit-or,
-  shr_and_one,
   meets-found,
   meets-true,
   has-above,
 )
-
--- what the next set of a level is told by
-pub ruleset told = (told_with, told_without, empty_with)

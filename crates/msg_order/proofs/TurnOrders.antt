@@ -1,10 +1,10 @@
 -- Places in an order, and the batches one after the other.
-use Rattle.std.proofs.Common.{◌≡◌, ◌≢◌, ℕ, suc, ◌-◌, ◌<◌, inr, Bool, List, [], ◌∷◌, ◌++◌, length, get_or, sym, ◌∙◌, arith, length-append, Contains, All, AllPairs}
+use Rattle.std.proofs.Common.{◌≡◌, ◌≢◌, ℕ, suc, ◌-◌, ◌<◌, Bool, List, [], ◌∷◌, ◌++◌, length, get_or, sym, ◌∙◌, arith, length-append, Contains, All, AllPairs}
 use Rattle.std.specs.List.{concat}
 use Rattle.std.proofs.lemmas.{Bool.cases_lt, Bool.cases_order, Grind.get_or_default_zero, List.get_or_append_left, List.get_or-append_right, List.Elements.All-head, List.Elements.All-tail, List.Elements.All-from_get_or, List.Elements.Contains-get_or, List.Kept.AllPairs-from_increasing, Option.slice_get-get_or, Option.slice_get_within, Option.get_or_from_slice_get}
 use Rattle.msg_world.specs.declared.access.Access.{Access}
-use Rattle.msg_order.specs.Prelude.{AreBatches, AreInConflict, Graph, IsBatchNumber, IsChain, IsEdge, IsLawfulOrder, IsTurnOrder, NoneConflict, Path, Rule, RunsBefore, Settles, StandsBefore, TurnOrderIsLawful, batch_at, pairs, rules_among}
-use Rattle.msg_order.proofs.{Elements.Contains-concat, Elements.concat-Contains, Chains.number_once, Chains.number_rises, Chains.edge_is_path, SettledPairs.settles_covers, SettledPairs.Contains-pairs, SetPaths.joined_in}
+use Rattle.msg_order.specs.Prelude.{AreBatches, Graph, IsLawfulOrder, IsSettledOrder, IsTurnOrder, NoneConflict, Path, Rule, RunsBefore, StandsBefore, TurnOrderIsLawful, batch_at}
+use Rattle.msg_order.proofs.{Elements.Contains-concat, Elements.concat-Contains, Chains.number_once, Chains.number_rises, Chains.edge_is_path, Uniqueness.conflicts_ordered}
 
 pub stands : (order : List ℕ) (i j a b : ℕ) → a < b → b < length order → get_or order a 0 ≡ i → get_or order b 0 ≡ j
     → StandsBefore order i j
@@ -34,33 +34,24 @@ one_place order a b once la lb e = grind (arith, cases_order)
 stands_along : (order : List ℕ) (i j k : ℕ) → AllPairs (λ i j. i ≢ j) order → StandsBefore order i k
     → StandsBefore order k j → StandsBefore order i j
 stands_along order i j k once s t =
-    let a = places_of order i k s in
-    let b = places_of order k j t in
-    let before : s.earlier < t.later = grind (arith, a, b, one_place order s.later t.earlier once) in
-    stands order i j s.earlier t.later before b.below a.first b.second
+    let one = one_place order s.later t.earlier once in
+    grind (arith, places_of order i k s, places_of order k j t, one, stands order i j s.earlier t.later)
 
 -- a lawful order keeps paths too
 pub kept_along : (g : Graph) (joined : List Bool) (order : List ℕ) → IsLawfulOrder g joined order → (i j : ℕ)
     → Path g i j → StandsBefore order i j
-kept_along g joined order w i j p = along i p.0 p.1
-  where
-    along : (i : ℕ) (between : List ℕ) → IsChain g (i ∷ (between ++ j ∷ [])) → StandsBefore order i j
-    along i [] c = w.kept i j c.0
-    along i (k ∷ more) c = stands_along order i j k w.once (w.kept i k c.0) (along k more c.1)
+kept_along g joined order w i j ([], c) = w.kept i j c.0
+kept_along g joined order w i j (k ∷ more, c) =
+    stands_along order i j k w.once (w.kept i k c.0) (kept_along g joined order w k j (more, c.1))
 
 -- Lists one after the other.
 pairs_append : (R : ℕ → ℕ → Type 0) (xs ys : List ℕ) → AllPairs R xs → AllPairs R ys
     → ((i j : ℕ) → Contains xs i → Contains ys j → R i j) → AllPairs R (xs ++ ys)
 pairs_append R xs ys f h across a b d lt l =
-    grind (
-      arith,
-      cases_lt,
-      get_or_append_left xs ys d,
-      get_or-append_right xs ys (length xs),
-      length-append xs ys,
-      Contains-get_or xs a d,
-      Contains-get_or ys (b - length xs) d,
-    )
+    let left = get_or_append_left xs ys d in
+    let right = get_or-append_right xs ys (length xs) in
+    let second = Contains-get_or ys (b - length xs) d in
+    grind (arith, cases_lt, left, right, length-append xs ys, Contains-get_or xs a d, second)
 
 -- what holds within each batch, and of an earlier one and a later one
 pairs_by_batch : (R : ℕ → ℕ → Type 0) (bs : List (List ℕ)) → All (AllPairs R) bs
@@ -84,9 +75,9 @@ in_turn_order g joined bs h = record {
       let batch : List ℕ = batch_at bs b in
       let i : ℕ = get_or batch x d in
       let j : ℕ = get_or batch y d in
-      let is_m : b ≡ m = number_once g i b m ((h.of_number b i).0 (Contains-get_or batch x d (omega arith))).1 at_m in
-      let is_n : b ≡ n = number_once g j b n ((h.of_number b j).0 (Contains-get_or batch y d in_)).1 at_n in
-      inr (sym is_m ∙ is_n, AllPairs-from_increasing batch (h.by_addition b [] l) x y d lt in_)))
+      let up = AllPairs-from_increasing batch (h.by_addition b [] l) x y d lt in_ in
+      let in_batch = Contains-get_or batch in
+      grind (arith, up, in_batch, number_once g i b m, number_once g j b n, h.of_number b i, h.of_number b j)))
       (λ a b i j lt p q m n at_m at_n.
       grind (arith, number_once g i a m, number_once g j b n, h.of_number a i, h.of_number b j));
 }
@@ -100,15 +91,6 @@ runs_once g joined order t a b d lt l e =
     let before : RunsBefore g i (get_or order b d) = t.in_order a b d lt l in
     grind (arith, before n.0 n.0 n.1)
 
--- the place of i, from which an edge leads to j, is before that of j
-before : (g : Graph) (i j m n : ℕ) (order : List ℕ) → IsEdge g i j → IsBatchNumber g i m → IsBatchNumber g j n
-    → (a b : ℕ) → get_or order a 0 ≡ i → get_or order b 0 ≡ j
-    → (b < a → RunsBefore g (get_or order b 0) (get_or order a 0)) → a < b
-before g i j m n order e p q a b x y f =
-    let rise : m < n = number_rises g i j m n (edge_is_path g i j e) p q in
-    let back : b < a → RunsBefore g j i = λ l. rw (← x, ← y) (f l) in
-    grind (arith, cases_order, λ (l : b < a). back l n m q p, number_once g j m n)
-
 -- it keeps the order
 pub in_lawful_order : TurnOrderIsLawful
 in_lawful_order g joined order among t = record {
@@ -120,16 +102,15 @@ in_lawful_order g joined order among t = record {
       let n = t.all j both.1 in
       let a = place_of order i ((t.of_joined i).1 both.0) in
       let b = place_of order j ((t.of_joined j).1 both.1) in
-      let first : a.0 < b.0 =
-      before g i j m.0 n.0 order e m.1 n.1 a.0 b.0 a.1.1 b.1.1 (λ l. t.in_order b.0 a.0 0 l a.1.0) in
-      stands order i j a.0 b.0 first b.1.0 a.1.1 b.1.1;
+      let rise = number_rises g i j m.0 n.0 (edge_is_path g i j e) m.1 n.1 in
+      let back = λ (l : b.0 < a.0). t.in_order b.0 a.0 0 l a.1.0 n.0 m.0 in
+      grind (arith, cases_order a.0 b.0, rise, back, number_once g j m.0 n.0, stands order i j a.0 b.0, a, b, m, n);
 }
 
 -- no two systems of a batch conflict
 pub none_conflict : (accesses : List Access) (rules : List Rule) (joined : List Bool) (g : Graph) (bs : List (List ℕ))
-    → length joined ≡ length accesses
-    → Settles (AreInConflict accesses joined) (rules_among joined rules) (pairs (length accesses)) g
-    → AreBatches g joined bs → All (NoneConflict accesses) bs
+    → length joined ≡ length accesses → IsSettledOrder accesses rules joined g → AreBatches g joined bs
+    → All (NoneConflict accesses) bs
 none_conflict accesses rules joined g bs len settled h =
     All-from_get_or (NoneConflict accesses) bs [] (λ b l a c d lt l2 x.
     let batch : List ℕ = batch_at bs b in
@@ -138,11 +119,5 @@ none_conflict accesses rules joined g bs len settled h =
     let rising : i < j = AllPairs-from_increasing batch (h.by_addition b [] l) a c d lt l2 in
     let at_i = (h.of_number b i).0 (Contains-get_or batch a d (omega arith)) in
     let at_j = (h.of_number b j).0 (Contains-get_or batch c d l2) in
-    let below : j < length joined = joined_in joined j at_j.0 in
-    let in_conflict : AreInConflict accesses joined i j =
-    record { first_joined = at_i.0; second_joined = at_j.0; conflict = x } in
-    let paths = settles_covers (AreInConflict accesses joined) (pairs (length accesses)) (rules_among joined rules) g
-    settled i j (Contains-pairs (length accesses) i j rising (omega arith)) in_conflict in
-    let up = λ (p : Path g i j). number_rises g i j b b p at_i.1 at_j.1 in
-    let down = λ (p : Path g j i). number_rises g j i b b p at_j.1 at_i.1 in
-    grind (arith, paths, up, down))
+    let paths = conflicts_ordered accesses rules joined g len settled i j (omega arith) at_i.0 at_j.0 x in
+    grind (arith, paths, number_rises g i j b b, number_rises g j i b b, at_i.1, at_j.1))

@@ -8,7 +8,7 @@ use crate::system_set::SystemSet;
 use std::alloc::{AllocError, Allocator};
 
 /// The systems that are left with none before them, and those that are left after these.
-#[tactic(auto, using(crate::proofs::Elements::range_filters, crate::proofs::SystemSets::told))]
+#[tactic(auto, using(crate::proofs::Elements::range_filters))]
 fn take_level<A: Allocator + Copy>(
     alloc: A,
     before: &[SystemSet],

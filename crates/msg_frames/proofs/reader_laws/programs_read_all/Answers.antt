@@ -3,7 +3,5 @@ use Rattle.msg_frames.proofs.reader_laws.programs_read_all.Goals as goal
 
 pub returns : goal.returns
 returns c =
-    record {
-      law =
-          programs.programs_read_all c.histories_only_grow.ensures.grows c.a_program_is_its_ops_in_order.ensures.law;
-    }
+    let grows = c.histories_only_grow.ensures.grows in
+    record { law = programs.programs_read_all grows c.a_program_is_its_ops_in_order.ensures.law }

@@ -1,12 +1,19 @@
-use Rattle.msg_order.proofs.SetPaths.{found_among_all}
+use Rattle.std.proofs.Common.{ℕ, List, Option, IfNone, MatchOption, arith}
+use Rattle.msg_order.specs.{Prelude.Graph, Prelude.IsAcyclic, Prelude.IsLowestOnCycle, Prelude.SystemSet, inner.Paths.ArePaths}
+use Rattle.msg_order.proofs.SetPaths.{all_rules}
 use Rattle.msg_order.proofs.cycles.lowest_on_cycle.Goals as goal
 
 pub returns-clause-lowest : goal.returns-clause-lowest
 returns-clause-lowest _g c =
-    (found_among_all 256 c.args.systems c.args.rules.now c.follow_rules.new.before c.follow_rules.result c.requires.few
-    c.requires.in_range c.follow_rules.ensures).0
+    let all = all_rules 256 c.args.systems c.args.rules.now c.requires.few c.requires.in_range in
+    let found = rw all at c.follow_rules.ensures in
+    grind arith
+
+if_none : (g : Graph) (before : List SystemSet) (found : Option ℕ)
+    → MatchOption found (IsAcyclic g × ArePaths g before) (IsLowestOnCycle g) → IfNone found (IsAcyclic g)
+if_none g before found h = grind arith
 
 pub returns-clause-acyclic : goal.returns-clause-acyclic
 returns-clause-acyclic _g c =
-    (found_among_all 256 c.args.systems c.args.rules.now c.follow_rules.new.before c.follow_rules.result c.requires.few
-    c.requires.in_range c.follow_rules.ensures).1
+    let all = all_rules 256 c.args.systems c.args.rules.now c.requires.few c.requires.in_range in
+    rw (← all) (if_none _ c.follow_rules.new.before c.follow_rules.result c.follow_rules.ensures)

@@ -1,6 +1,6 @@
-use Rattle.std.proofs.Common.{◌≡◌, ℕ, Bool, length, get_or, sym, ap, ◌∙◌, refl, arith}
+use Rattle.std.proofs.Common.{◌≡◌, ℕ, Bool, length, get_or, refl, arith}
 use Rattle.std.proofs.lemmas.{Bool.false≢true, Bool.false_from_ne_true, List.get_or_read}
-use Rattle.msg_order.specs.{inner.SystemSet.has, inner.SystemSet.meets, inner.SystemSet.no_set, inner.Paths.set_at}
+use Rattle.msg_order.specs.{inner.SystemSet.has, inner.SystemSet.no_set, inner.Paths.set_at}
 use Rattle.msg_order.proofs.{SystemSets.meets-found, SystemSets.meets-true, PlanViews.seen_edges, PlanViews.seen_joined, PlanViews.lawful_same, AcceptedOrders.goes_on, AcceptedOrders.not_all, AcceptedOrders.taken_all, AcceptedOrders.taken_first, AcceptedOrders.taken_next, plan.Plan.accepts.Goals.then-system-len-via-then-system-len, plan.Plan.accepts.Goals.then-system-len-via-else-system-len+then-not-contains, plan.Plan.accepts.Goals.then-system-len-via-else-system-len+else-not-contains+then-meets}
 use Rattle.msg_order.proofs.plan.Plan.accepts.Goals as goal
 
@@ -12,20 +12,20 @@ loop-system-preserved _g c =
     let before = c.self.inside.before.items in
     let s : ℕ = get_or c.args.order.now c.loop-system.system-index 0 in
     let at : c.index.result.now ≡ set_at before s = get_or_read before s _ (omega arith) c.index.ensures no_set in
-    let few = c.self.invariant.few in
+    let edges = seen_edges _ _ _ _ c.self.view_is c.self.invariant in
+    let joined = seen_joined _ _ _ _ c.self.view_is c.self.invariant in
+    let kept = c.self.invariant in
+    let left = c.loop-system.invariant.is_left in
+    let met = meets-found (set_at before s) c.loop-system.left in
     taken_next _ _ _ _ _ _ s refl (grind arith)
-    (λ i on e.
-    let edges = seen_edges _ _ _ _ c.self.view_is c.self.invariant i s in
-    let joined = seen_joined _ _ _ _ c.self.view_is c.self.invariant i in
-    let within = c.self.invariant.within i in
-    let is_left = c.loop-system.invariant.is_left i in
-    grind (arith, edges, joined, within, is_left, meets-found (set_at before s) c.loop-system.left i))
+    (λ i on e. grind (arith, edges i s, joined i, kept.few, kept.within i, left i, met i))
     c.remove.ensures c.loop-system.invariant
 
 pub returns-then-system-len-clause-keeps_what_precedes : goal.returns-then-system-len-clause-keeps_what_precedes
 returns-then-system-len-clause-keeps_what_precedes _g c =
     let before = c.self.inside.before.items in
     let s : ℕ = get_or c.args.order.now c.loop-system.system-index 0 in
+    let edges = seen_edges _ _ _ _ c.self.view_is c.self.invariant in
     let joined = seen_joined _ _ _ _ c.self.view_is c.self.invariant s in
     let within = c.self.invariant.within s in
     let is_left = c.loop-system.invariant.is_left s in (
@@ -36,12 +36,9 @@ returns-then-system-len-clause-keeps_what_precedes _g c =
             | then-system-len-via-then-system-len v ↦ grind (arith, on, joined, within, is_left)
             | then-system-len-via-else-system-len+then-not-contains v ↦ grind (arith, on)
             | then-system-len-via-else-system-len+else-not-contains+then-meets v ↦
-                let at : v.index.result.now
-                ≡ set_at before s = get_or_read before s _ (omega arith) v.index.ensures no_set in
-                let f =
-                meets-true (set_at before s) c.loop-system.left
-                (sym (v.meets.ensures ∙ ap (λ x. meets x c.loop-system.left) at) ∙ v.if-meets.true) in
-                on.1 f.0 f.1.1.1 ((seen_edges _ _ _ _ c.self.view_is c.self.invariant f.0 s).1 f.1.1.0)
+                let at = get_or_read before s _ (omega arith) v.index.ensures no_set in
+                let f = meets-true (set_at before s) c.loop-system.left (grind (arith, at)) in
+                grind (arith, on.1 f.0, f.1, edges f.0 s)
           ]),
     )
 
@@ -58,7 +55,7 @@ returns-clause-keeps_what_precedes _g c =
     let all : c.loop-system.system-index ≡ length c.args.order.now = omega arith in
     let taken = rw all at c.loop-system.invariant in (
       λ t. taken_all _ _ left _
-          (λ i j e. let both = c.self.invariant.among i j ((edges i j).0 e) in (joined i ∙ both.0, joined j ∙ both.1))
+          (λ i j e. grind (arith, edges i j, joined i, joined j, c.self.invariant.among i j))
           taken (c.is_empty.ensures.0 t),
       λ w. c.is_empty.ensures.1 (λ i. false_from_ne_true (left i) (λ on. not_all _ _ left _ i on taken w)),
     )

@@ -1,6 +1,6 @@
-use Rattle.std.proofs.Common.{◌≡◌, ℕ, ap, ◌∙◌, arith}
+use Rattle.std.proofs.Common.{arith}
 use Rattle.std.proofs.lemmas.List.{get_or_read}
-use Rattle.msg_order.specs.{inner.SystemSet.has, inner.SystemSet.no_set, inner.Paths.comes_before}
+use Rattle.msg_order.specs.{inner.SystemSet.no_set}
 use Rattle.msg_order.proofs.PlanViews.{seen_edges}
 use Rattle.msg_order.proofs.plan.Plan.precedes.Goals as goal
 
@@ -13,10 +13,6 @@ returns-then-earlier-len _g c =
 
 pub returns : goal.returns
 returns _g c =
-    let before = c.self.inside.before.items in
-    let i : ℕ = c.args.earlier in
-    let j : ℕ = c.args.later in
-    let edges = seen_edges _ _ _ _ c.self.view_is c.self.invariant i j in
-    let is : c.contains.result ≡ comes_before before i j = c.contains.ensures
-    ∙ ap (λ s. has s i) (get_or_read before j _ (omega arith) c.index.ensures no_set) in
-    grind (arith, edges)
+    let edges = seen_edges _ _ _ _ c.self.view_is c.self.invariant c.args.earlier c.args.later in
+    let at = get_or_read c.self.inside.before.items c.args.later _ (omega arith) c.index.ensures no_set in
+    grind (arith, edges, at)
