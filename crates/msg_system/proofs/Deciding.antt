@@ -56,31 +56,3 @@ answered_more next ops before after op r are is = (
   rw (ops_answered-snoc, ← is, are.2) refl,
   rw (length_push, length_push, are.3) refl,
 )
-
--- ---- a run of a system with a behavior
-
-module _ {M : Type 0} (n : Needs) (next : M → List Reply → Option Op) (remember : M → List Reply → M) where
-  -- what it means with this memory
-  abbrev pub meaning_by : Start → ℕ → (ℕ → ℕ) → List Op → M → Meaning
-  meaning_by start w ps last m =
-      record { needs = n; start = start; writer = w; places = ps; rule = behaves next remember m; last = last }
-
-  pub ran_behavior : (m new : M) (start : Start) (w : ℕ) (ps qs : ℕ → ℕ) (l k : Lent) (taken : Parts)
-      (before after : List Reply) (last ops : List Op)
-      → TurnRan (next_kept n next m) w ps qs l k before after → SameLoan l k → taken ≡ taken_of k
-      → AreAnswered (next_kept n next m) ops before after
-      → new ≡ remember m (drop (length before) after)
-      → Ran (meaning_by start w ps last m) (meaning_by start w qs ops new) l taken before after
-  unfolding turn
-  ran_behavior m new start w ps qs l k taken before after last ops ran alike is are learnt =
-      let rest : drop (length before) after ≡ are.0 = appended (next_kept n next m) ops before after are in
-      record {
-        replies = are.0;
-        appended = are.1;
-        one_each = are.3;
-        means = rw (learnt, rest, are.2) refl;
-        state = λ s stands. written_stand l k taken (after_at_most 64 (next_kept n next m) w ps s).state alike is
-            (ran s stands).stands;
-        answers = λ s stands. sym rest ∙ rw (ran s stands).same_replies (drop-append_seam before _);
-        places = λ s stands. (ran s stands).same_places;
-      }
