@@ -12,8 +12,3 @@ module _ {M X : Type 0} (f : Instance M → X) (unread : List (Instance M)) (cop
       let n : ℕ = min (unwrap_or limit (length unread)) (length unread) in
       let same : take n unread ≡ at_most limit unread = grind (arith, take_all) in
       rw (← same, ← take-map, split) (sym (take_at copied (map f rest) n long))
-
-  -- all there were
-  pub all_copied : (limit : Option ℕ) → map f unread ≡ copied → length copied ≤ unwrap_or limit (length unread) → copied
-      ≡ map f (at_most limit unread)
-  all_copied limit z1 z2 = grind (arith, take_all, length-map)

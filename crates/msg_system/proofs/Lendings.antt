@@ -31,10 +31,6 @@ module _ (h : History Record) (n : ℕ) where
   pub numbers_spent : h.limit < count h + n → None ≡ numbers_for h n
   numbers_spent spent = grind (arith, nat_tests)
 
-  -- where they aren't spent, there are numbers
-  pub numbers_left : ¬ (h.limit < count h + n) → IsSome (numbers_for h n)
-  numbers_left not_spent = grind (arith, cases_lt, nat_tests)
-
 -- what holds in any case holds after a refusal
 pub on_err : {T E : Type 0} (r : Result T E) (P : Type 0) → P → OnErr r P
 on_err r P z2 = grind arith
@@ -61,6 +57,7 @@ pub ruleset of_loans = (
   written_messages_stand,
   numbers_fit,
   numbers_spent,
-  numbers_left,
+  cases_lt,
+  nat_tests,
   spent_stands,
 )

@@ -20,10 +20,7 @@ pub covers_written : (op : Op) (l : Lent) (p : Part) → Covers (op_needs op) l 
 covers_written op l p covers is = covers.writes p (rw is (same_part_refl p))
 
 -- the cursors, after the one in a type was moved
-abbrev pub moved : Cursors → ℕ → ℕ → Cursors
-moved cs t place = record { by_type = slice_set cs.by_type t place }
-
-moved_place : (cs : Cursors) (t place : ℕ) → t < length cs.by_type → places_of (moved cs t place)
+moved_place : (cs : Cursors) (t place : ℕ) → t < length cs.by_type → places_of (record { by_type = slice_set cs.by_type t place })
     ≡ with_place (places_of cs) t place
 moved_place cs t place lt = grind (arith, cases_eq, get_or-set_same, eq-eqb, get_or-set_other, ne_eqb)
 
@@ -35,10 +32,9 @@ module _ (cs : Cursors) (t k d : ℕ) (long : length cs.by_type ≡ 64) (is : k 
   -- an op that moves it
   pub ran_at : (op : Op) (w new : ℕ) (l m : Lent) (r : Reply)
       → ((places : ℕ → ℕ) → places t ≡ get_or cs.by_type k d → OpRan op w places (with_place places t new) l m r)
-      → OpRan op w (places_of cs) (places_of (moved cs k new)) l m r
+      → OpRan op w (places_of cs) (places_of (record { by_type = slice_set cs.by_type k new })) l m r
   ran_at op w new l m r ran =
-      let within : t < length cs.by_type = omega (arith, long, lt) in
-      rw (is, moved_place cs t new within) (ran (places_of cs) place_at)
+      rw (is, moved_place cs t new (omega (arith, long, lt))) (ran (places_of cs) place_at)
 
 -- ---- a loan that covers, after a change of what it lets be written
 
