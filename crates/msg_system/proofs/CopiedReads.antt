@@ -1,6 +1,6 @@
 -- What was copied of what is unread.
-use Rattle.std.proofs.Common.{◌≡◌, ℕ, ◌≤◌, ◌++◌, List, length, map, min, take, Option, sym, arith, unwrap_or}
-use Rattle.std.proofs.lemmas.List.{length-map, take-map, take_at, take_all}
+use Rattle.std.proofs.Common.{◌≡◌, ℕ, ◌++◌, List, length, map, min, take, Option, sym, arith, unwrap_or}
+use Rattle.std.proofs.lemmas.List.{take-map, take_at, take_all}
 use Rattle.msg_buffer.specs.declared.instance.Instance.{Instance}
 use Rattle.msg_buffer.specs.Prelude.{at_most}
 

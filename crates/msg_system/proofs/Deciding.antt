@@ -1,12 +1,12 @@
 -- Turns that a behavior decides, op after op.
-use Rattle.std.proofs.Common.{refl, ◌≡◌, ℕ, zero, suc, ◌+◌, ◌≤◌, ◌++◌, List, [], ◌∷◌, length, Option, Some, None, sym, ◌∙◌, arith, inl, inr, append_assoc, drop}
+use Rattle.std.proofs.Common.{refl, ◌≡◌, ℕ, zero, suc, ◌+◌, ◌≤◌, ◌++◌, List, [], ◌∷◌, length, Option, Some, None, sym, arith, inl, inr, append_assoc, drop}
 use Rattle.std.proofs.lemmas.{List.length_push, Bool.cases_Bool, Bool.cases_eq, Bool.false≢true}
 use Rattle.std.proofs.Math.Seq.{drop-append_seam}
 use Rattle.msg_world.specs.declared.lent.Lent.{Lent}
-use Rattle.msg_world.specs.Prelude.{Parts, SameLoan, WorldState, taken_of}
-use Rattle.msg_system.specs.Prelude.{Covers, Meaning, Needs, Op, OpRan, Ran, Reply, Start, after_at_most, behaves, one_more, op_needs, turn}
-use Rattle.msg_system.specs.inner.TurnRuns.{AreAnswered, IsAfterProgram, TurnRan, next_kept}
-use Rattle.msg_system.proofs.{Lendings.writable_is_shown, Runs.op_more, Runs.written_stand, Turns.IsKept, Turns.ops_answered-snoc}
+use Rattle.msg_world.specs.Prelude.{WorldState}
+use Rattle.msg_system.specs.Prelude.{Covers, Needs, Op, OpRan, Reply, after_at_most, one_more, op_needs}
+use Rattle.msg_system.specs.inner.TurnRuns.{AreAnswered, IsAfterProgram}
+use Rattle.msg_system.proofs.{Lendings.writable_is_shown, Runs.op_more, Turns.IsKept, Turns.ops_answered-snoc}
 
 -- ---- a turn, op after op
 
