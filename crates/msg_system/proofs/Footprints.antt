@@ -1,9 +1,9 @@
 -- Ops, turns, conditions and jobs use no more than they need.
-use Rattle.std.proofs.Common.{◌≡◌, ℕ, zero, suc, Bool, false, List, [], ◌∷◌, length, map, Option, None, Some, refl, ap, subst, ◌∙◌, arith, IfSome, IsTrue}
-use Rattle.std.proofs.Math.Bool.{or-false}
+use Rattle.std.proofs.Common.{◌≡◌, ℕ, zero, suc, Bool, false, List, [], ◌∷◌, length, map, Option, None, Some, refl, ap, ◌∙◌, arith, IfSome, IsTrue}
+use Rattle.std.proofs.Math.{Bool.or-false, Path.fun_ext}
 use Rattle.std.proofs.lemmas.Bool.{cases_Bool, false≢true, or_left, or_right}
 use Rattle.msg_world.specs.Prelude.{OfResource, OfType, Part, Registry, WorldState, content}
-use Rattle.msg_system.specs.Prelude.{AfterProgram, Agree, Asked, ConditionFootprint, HasFootprint, IsWithin, Job, JobFootprint, Meaning, OnMessage, Op, OpFootprint, Probe, Program, ProgramFootprint, Reply, ResourceEquals, TurnFootprint, Zero, after_asking, after_at_most, after_op, all_hold, conditions_of, found, given_by_op, given_by_program, is_part, needs_any, next_op, of_program, one_more, op_needs, op_parts, place_after, probe_part, program_needs, some_condition_reads, turn, with_conditions}
+use Rattle.msg_system.specs.Prelude.{AfterProgram, Agree, Asked, ConditionFootprint, HasFootprint, IsWithin, Job, JobFootprint, Meaning, OnMessage, Op, OpFootprint, Probe, Program, ProgramFootprint, Reply, ResourceEquals, TurnFootprint, Zero, after_asking, after_at_most, after_op, all_hold, conditions_of, found, given_by_op, given_by_program, is_part, needs_any, next_op, of_program, one_more, op_needs, op_parts, place_after, probe_part, some_condition_reads, turn, with_conditions}
 use Rattle.msg_system.proofs.{Runs.same_part_refl, Turns.IsKept, Turns.next_kept_to, Turns.program_so_far}
 
 -- ---- what is kept
@@ -101,8 +101,7 @@ turn_footprint m = first_ops m 64
 pub program_footprint : ProgramFootprint
 program_footprint ops w ps =
     let program : Program = record { ops = ops; start = Zero } in
-    subst (λ f. HasFootprint (program_needs ops) (λ (e : AfterProgram). e.state) given_by_program f)
-    (λ k s. program_so_far program (length ops) w ps s (omega arith) k)
+    rw (← fun_ext (λ s. program_so_far program (length ops) w ps s (omega arith)))
     (first_ops (of_program program w ps) (length ops))
 
 -- ---- conditions

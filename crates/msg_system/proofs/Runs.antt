@@ -20,8 +20,8 @@ pub covers_written : (op : Op) (l : Lent) (p : Part) → Covers (op_needs op) l 
 covers_written op l p covers is = covers.writes p (rw is (same_part_refl p))
 
 -- the cursors, after the one in a type was moved
-moved_place : (cs : Cursors) (t place : ℕ) → t < length cs.by_type → places_of (record { by_type = slice_set cs.by_type t place })
-    ≡ with_place (places_of cs) t place
+moved_place : (cs : Cursors) (t place : ℕ) → t < length cs.by_type
+    → places_of (record { by_type = slice_set cs.by_type t place }) ≡ with_place (places_of cs) t place
 moved_place cs t place lt = grind (arith, cases_eq, get_or-set_same, eq-eqb, get_or-set_other, ne_eqb)
 
 -- one of the cursors of all types, as the array has it

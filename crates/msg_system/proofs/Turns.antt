@@ -86,7 +86,7 @@ pub record IsKept (n : Needs) (op : Op) : Type 0 where
   pub reads : (p : Part) → IsTrue ((op_needs op).reads p) → IsTrue (may_read n p)
   pub writes : (p : Part) → IsTrue ((op_needs op).writes p) → IsTrue (n.writes p)
 
-pub kept : (n : Needs) (op : Op) → IsTrue (keeps_to n op) → IsKept n op
+kept : (n : Needs) (op : Op) → IsTrue (keeps_to n op) → IsKept n op
 kept n op h = grind (arith, and_parts, eqb-true, false≢true)
 
 -- what comes next keeps to what is needed

@@ -18,7 +18,8 @@ returns-in-None-clause-ran g c s stands =
 pub loop-done-preserved : goal.loop-done-preserved
 loop-done-preserved g c =
     let inv = c.loop-done.invariant in
-    let is = sym c.in-Some.is ∙ (rw (c.since.ensures.rest, c.as_slice.ensures.value) at c.in_ok-next_within.ensures.next) in
+    let next = rw (c.since.ensures.rest, c.as_slice.ensures.value) at c.in_ok-next_within.ensures.next in
+    let is = sym c.in-Some.is ∙ next in
     record {
       so_far = λ s stands. rw c.in_ok-push-in-Some.ensures.items
           (turn_more _ _ _ s _ c.loop-done._done _ _ _ _ inv.long (inv.so_far s stands) c.in-Some.op _ _ _ is
