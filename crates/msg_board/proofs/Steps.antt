@@ -1,14 +1,12 @@
 -- Each step keeps the law.
 use Rattle.std.specs.List.{sum_by}
-use Rattle.std.proofs.Common.{◌≡◌, ◌≢◌, ℕ, ◌+◌, ◌<◌, ◌≤◌, max, List, [], ◌∷◌, ◌++◌, map, length, get_or, set, sym, refl, ap, ◌∙◌, subst, inl, inr, ⊎_elim, arith, Some, None, length-set, get_or-set_other, get_or-set_same}
+use Rattle.std.proofs.Common.{◌≡◌, ◌≢◌, ℕ, ◌+◌, ◌<◌, ◌≤◌, max, List, [], ◌∷◌, ◌++◌, map, length, get_or, set, sym, refl, ap, ◌∙◌, subst, inl, inr, arith, Some, None, length-set, get_or-set_other, get_or-set_same}
 use Rattle.std.proofs.lemmas.{Bool.cases_eq, Bool.cases_lt, Bool.Decides.eqb_tells, List.get_or_past, List.set-get_or, List.Sums.sum_by-append}
-use mathlib.Core.Logic.{dite}
 use mathlib.Core.Option.{none, some, some-injective, some-ne-none}
 use mathlib.Core.Option as maybe
-use native.Mathlib.Decide.{ℕ_discrete}
 use lib.ListN.{get_elem?, length-map}
-use Rattle.atomic_table.specs.{declared.shared.Seat.Seat, Table.State, Table.Me, Table.Step, Table.step, Table.Act, Table.keeps, Table.takes, Table.gives, Table.Valid, Table.carried_after, Table.stepped, Table.Allows, Table.Splits, Table.Joins, Table.Final, Table.Seen, Table.opening}
-use Rattle.atomic_table.proofs.Lists.{at_set, set_here, set_else, at_snoc, at_map}
+use Rattle.atomic_table.specs.{declared.shared.Seat.Seat, Table.State, Table.Me, Table.Step, Table.step, Table.keeps, Table.takes, Table.gives, Table.Allows, Table.Splits, Table.Joins, Table.Final, Table.Seen, Table.opening}
+use Rattle.atomic_table.proofs.Lists.{set_here, set_else, at_map}
 use Rattle.msg_board.specs.Prelude.{BoardView, Done, Drawing, DrawsJob, HandingIn, Holds, HoldsEachOnce, IsHeldAlone, IsSlotOf, IsViewOf, Job, PassState, Slot, View, draws_at, drawn_by, freed, holders_at, is_held, jobs_of, one_of, passes_of, spent, taken, times, tried, united, whole, without_one}
 use Rattle.msg_board.specs.inner.Closing.{IsGathered}
 use Rattle.msg_board.proofs.{TableLists.there, TableLists.read_at, TableLists.changed, TableLists.joined, Sums.sum_by-set_at, Sums.term_le, Sums.terms_le, Sums.sole, Sums.one_if, Sums.times-append, Sums.times_push}
@@ -244,48 +242,34 @@ module _ {J D : Type 0} (lawful : J → D → Type 0) (jobs : List J) (passes : 
     weights = omega arith;
   }
 
-  -- each slot has a lawful result of its job
-  abbrev AllDone : List (Slot J D) → Type 0
-  AllDone xs = (length xs ≡ length jobs)
-      × ((k : ℕ) (j : J) → get_elem? jobs k ≡ some j → (d : D) × (get_elem? xs k ≡ some (Done d)) × lawful j d)
-
-  -- the last seat stands for all passes, has tried every word and holds nothing: every result is in, and it drew each
-  -- number once
-  closes : (id : ℕ) (v : View J) (ws : List ℕ) (xs : List (Slot J D)) (numbers : List ℕ)
-      → Final (Seen Lawful id v) ws xs → v.weight ≡ passes → 0 < passes → v.next ≡ length jobs → v.held ≡ None
-      → ((k : ℕ) → times k v.drawn ≡ times k numbers) → AllDone xs × HoldsEachOnce (length jobs) numbers
-  closes id v ws xs numbers f all some-pass done free same =
-      let s = f.0 in let r = f.1.0 in let at = f.1.1 in let live : 0 < v.weight = omega arith in
-      let knows = r.each_view id v at in
-      let others : (k : ℕ) (u : View J) → k ≢ id → get_elem? s.views k ≡ some u → u.weight
-      ≡ 0 = λ k u ne there. omega (arith, terms_le (λ u. u.weight) spent refl s.views id k v u ne at there, r.weights) in
-      let drawn_at : (k : ℕ) → times k numbers ≡ draws_at (get_or s.words k 0) = λ k.
-      sym (same k) ∙ sym (sole (λ u. times k u.drawn) spent refl s.views id v at
-      (λ i u ne there. ap (times k) ((r.each_view i u there).spent_drawn (others i u ne there)))) ∙ r.drawn k in
-      let out_at : (k : ℕ) → holders_at (get_or s.words k 0) ≡ 0 = λ k.
-      sym (r.held k) ∙ (sole (holds_one k) spent refl s.views id v at
-      (λ i u ne there. ap (λ o. one_if (is_held k o)) ((r.each_view i u there).spent_held (others i u ne there)))
-      ∙ ap (λ o. one_if (is_held k o)) free) in
-      let deep = r.slots in let wide = r.words in let long = f.3 in (
-        (
-          omega arith,
-          λ k j is. let inside = (read_at jobs k j is).0 in
-              let ended =
-              (r.each_slot k j is).done (grind (arith, r.at_most_two k, knows.tried live k, out_at k)) in
-              (ended.0, f.4 k (Done ended.0) ended.1, ended.2),
-        ),
-        record {
-          once = λ k near. grind (arith, drawn_at k, knows.tried live k);
-          no_other = λ k far. drawn_at k ∙ ap draws_at (zero_far s k r far);
-        },
-      )
-
--- the same, of the board that callers see
-pub closes_board : {J D : Type 0} (lawful : J → D → Type 0) (b view : BoardView J) (ps : List (PassState J))
+-- a seat that has gathered all passes has tried every word and holds nothing: every result is in, and the passes drew
+-- each number once
+pub closes : {J D : Type 0} (lawful : J → D → Type 0) (b view : BoardView J) (ps : List (PassState J))
     (seat : Seat (Slot J D) (View J)) (ws : List ℕ) (xs : List (Slot J D))
     → Final (Seen (Holds lawful (jobs_of b) (passes_of b)) seat.id seat.me.0) ws xs → 0 < passes_of b → b ≡ view
-    → length ps ≡ passes_of view → IsGathered view ps seat
-    → AllDone lawful (jobs_of view) (passes_of view) xs × HoldsEachOnce (length (jobs_of view)) (drawn_by ps)
-closes_board lawful b view ps seat ws xs final some-pass is all of =
-    closes lawful (jobs_of view) (passes_of view) seat.id seat.me.0 ws xs (drawn_by ps)
-    (rw is at final) (of.weight ∙ all) (rw is at some-pass) of.next of.held of.drawn
+    → length ps ≡ passes_of view → IsGathered view ps [] seat
+    → ((k : ℕ) (j : J) → get_elem? (jobs_of view) k ≡ some j
+    → (d : D) × (get_elem? xs k ≡ some (Done d)) × lawful j d) × HoldsEachOnce (length (jobs_of view)) (drawn_by ps)
+closes {J = J} lawful b view ps seat ws xs final some-pass is all of =
+    let s = final.0 in let r = final.1.0 in let at = final.1.1 in let many = ap passes_of is in
+    let as_long : length (jobs_of b) ≡ length (jobs_of view) = ap (λ board. length (jobs_of board)) is in
+    let v = seat.me.0 in let live = of.live in let next = of.next in let knows = r.each_view seat.id v at in
+    let others : (k : ℕ) (u : View J) → k ≢ seat.id → get_elem? s.views k ≡ some u → u.weight ≡ 0 = λ k u ne there.
+    omega (arith, terms_le (λ u. u.weight) spent refl s.views seat.id k v u ne at there, r.weights, of.count) in
+    let drawn_at : (k : ℕ) → times k (drawn_by ps) ≡ draws_at (get_or s.words k 0) = λ k.
+    let one = sole (λ u. times k u.drawn) spent refl s.views seat.id v at
+    (λ i u ne there. ap (times k) ((r.each_view i u there).spent_drawn (others i u ne there))) in
+    omega (arith, of.drawn k, one, r.drawn k) in
+    let out_at : (k : ℕ) → holders_at (get_or s.words k 0) ≡ 0 = λ k.
+    let one = sole (λ u. one_if (is_held k u.held)) spent refl s.views seat.id v at
+    (λ i u ne there. ap (λ o. one_if (is_held k o)) ((r.each_view i u there).spent_held (others i u ne there))) in
+    omega (arith, r.held k, one, ap (λ o. one_if (is_held k o)) of.held) in (
+      λ k j own.
+          let inside = (read_at (jobs_of view) k j own).0 in
+          let ended = (r.each_slot k j (rw is own)).done (grind (arith, r.at_most_two k, knows.tried live k, out_at k)) in
+          (ended.0, final.4 k (Done ended.0) ended.1, ended.2),
+      record {
+        once = λ k near. grind (arith, drawn_at k, knows.tried live k);
+        no_other = λ k far. drawn_at k ∙ ap draws_at (zero_far lawful (jobs_of b) (passes_of b) s k r (omega arith));
+      },
+    )

@@ -1,18 +1,13 @@
 -- Elements of lists, as the table names them (`get_elem?`) and as clauses do (`slice_get`).
-use Rattle.std.proofs.Common.{slice_get, Bool, false, ◌∙◌, ◌+◌, Some, inl, inr, subst, ◌≢◌, ◌≡◌, ℕ, zero, suc, ◌<◌, List, [], ◌∷◌, ◌++◌, length, get_or, set, replicate, sym, refl, arith, get_or-set_other, get_or-set_same, length-set}
-use Rattle.std.proofs.lemmas.{Bool.cases_eq, Bool.cases_lt, List.get_or-replicate, List.get_or_append_left, List.get_or_past, List.get_or_push, List.length-append, List.length-replicate, Option.get_or_from_slice_get, Option.slice_get-get_or, Option.slice_get_read, Option.slice_get_within}
+use Rattle.std.proofs.Common.{slice_get, Bool, false, ◌+◌, Some, inl, inr, subst, ◌≢◌, ◌≡◌, ℕ, zero, suc, ◌<◌, List, [], ◌∷◌, ◌++◌, length, get_or, set, replicate, sym, refl, arith, get_or-set_other, get_or-set_same, length-set}
+use Rattle.std.proofs.lemmas.{Bool.cases_eq, Bool.cases_lt, List.get_or-replicate, List.get_or_past, List.length-replicate, Option.get_or_from_slice_get, Option.slice_get_read, Option.slice_get_within}
 use mathlib.Core.Option.{some, some-injective, some-ne-none}
-use mathlib.Core.Option as maybe
 use lib.ListN.{get_elem?}
 use Rattle.atomic_table.proofs.Lists.{at_index, at_set}
 
 -- a list of zeros has 0 at each place
 pub zero_at : (n k : ℕ) → (let zeros : List ℕ = replicate n 0 in get_or zeros k 0 ≡ 0)
 zero_at n k = grind (arith, cases_lt, get_or-replicate, get_or_past, length-replicate)
-
--- a place has one value
-pub one_value : {A : Type 0} (place : maybe.Option A) (a b : A) → place ≡ some a → place ≡ some b → a ≡ b
-one_value place a b is also = some-injective a b (sym is ∙ also)
 
 -- within a list there is an element
 pub there : {A : Type 0} (l : List A) (i : ℕ) → i < length l → (a : A) × (get_elem? l i ≡ some a)

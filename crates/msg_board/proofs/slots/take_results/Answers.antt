@@ -1,17 +1,17 @@
 use Rattle.std.proofs.Common.{rules, ◌≡◌, ap, sym, ◌∙◌, ◌∷◌, [], arith, length, length-append}
-use mathlib.Core.Option.{some}
+use mathlib.Core.Option.{some, some-injective}
 use lib.ListN.{get_elem?}
 use Rattle.std.specs.Slots.{slots_items}
 use Rattle.msg_board.specs.Prelude.{Done}
-use Rattle.msg_board.proofs.TableLists.{one_value, joined, got, get_there, false_below}
+use Rattle.msg_board.proofs.TableLists.{joined, got, get_there, false_below}
 use Rattle.msg_board.proofs.slots.take_results.Goals as goal
 
 pub unreachable-requires : goal.unreachable-requires
 unreachable-requires g c = let inv = c.loop-i.invariant in let is = c.slot_count.ensures in
     let test = c.loop-i-test.true in let long = inv.same_len in
     let t = c.requires.done c.loop-i.i (omega arith) in
-    c.in_default.not-Done t.0 (one_value _ _ _ c.take.ensures.value
-    (ap (λ l. get_elem? l c.loop-i.i) inv.same_items ∙ t.1))
+    let full = ap (λ l. get_elem? l c.loop-i.i) inv.same_items ∙ t.1 in
+    c.in_default.not-Done t.0 (some-injective _ _ (sym c.take.ensures.value ∙ full))
 
 pub loop-i-preserved : goal.loop-i-preserved
 loop-i-preserved g c = let inv = c.loop-i.invariant in let is = c.slot_count.ensures in
