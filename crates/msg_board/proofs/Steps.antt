@@ -1,13 +1,13 @@
 -- Each step keeps the law.
 use Rattle.std.specs.List.{sum_by}
-use Rattle.std.proofs.Common.{◌≡◌, ◌≢◌, ℕ, ◌+◌, ◌<◌, ◌≤◌, max, List, [], ◌∷◌, ◌++◌, map, length, get_or, set, sym, refl, ap, ◌∙◌, subst, inl, inr, arith, Some, None, length-set, get_or-set_other, get_or-set_same}
+use Rattle.std.proofs.Common.{◌≡◌, ◌≢◌, ℕ, ◌+◌, ◌<◌, ◌≤◌, max, List, [], ◌∷◌, ◌++◌, map, length, get_or, set, sym, refl, ap, ◌∙◌, inl, inr, arith, Some, None, length-set, get_or-set_other, get_or-set_same}
 use Rattle.std.proofs.lemmas.{Bool.cases_eq, Bool.cases_lt, Bool.Decides.eqb_tells, List.get_or_past, List.set-get_or, List.Sums.sum_by-append}
 use mathlib.Core.Option.{none, some, some-injective, some-ne-none}
 use mathlib.Core.Option as maybe
 use lib.ListN.{get_elem?, length-map}
-use Rattle.atomic_table.specs.{declared.shared.Seat.Seat, Table.State, Table.Me, Table.Step, Table.step, Table.keeps, Table.takes, Table.gives, Table.Allows, Table.Splits, Table.Joins, Table.Final, Table.Seen, Table.opening}
+use Rattle.atomic_table.specs.{declared.shared.Seat.Seat, Table.State, Table.Me, Table.step, Table.keeps, Table.takes, Table.gives, Table.Allows, Table.Splits, Table.Joins, Table.Final, Table.Seen, Table.opening}
 use Rattle.atomic_table.proofs.Lists.{set_here, set_else, at_map}
-use Rattle.msg_board.specs.Prelude.{BoardView, Done, Drawing, DrawsJob, HandingIn, Holds, HoldsEachOnce, IsHeldAlone, IsSlotOf, IsViewOf, Job, PassState, Slot, View, draws_at, drawn_by, freed, holders_at, is_held, jobs_of, one_of, passes_of, spent, taken, times, tried, united, whole, without_one}
+use Rattle.msg_board.specs.Prelude.{BoardView, Done, Drawing, HandingIn, Holds, HoldsEachOnce, IsHeldAlone, IsSlotOf, IsViewOf, Job, PassState, Slot, View, draws_at, drawn_by, freed, holders_at, is_held, jobs_of, one_of, passes_of, spent, taken, times, tried, united, whole, without_one}
 use Rattle.msg_board.specs.inner.Closing.{IsGathered}
 use Rattle.msg_board.proofs.{TableLists.there, TableLists.read_at, TableLists.changed, TableLists.joined, Sums.sum_by-set_at, Sums.term_le, Sums.terms_le, Sums.sole, Sums.one_if, Sums.times-append, Sums.times_push}
 
@@ -58,13 +58,6 @@ module _ {J D : Type 0} (lawful : J → D → Type 0) (jobs : List J) (passes : 
         weights = omega (arith, sum_by-set_at (λ u. u.weight) s.views id v w at, r.weights);
       }
 
-  -- a view that has tried one word more is right once that word i is above 0
-  tried_more : (ws : List ℕ) (i n : ℕ) (v w : View J) → IsViewOf jobs ws v → 0 < v.weight → i < length ws
-      → i < length jobs → v.next ≡ i → n ≢ 0 → w.jobs ≡ v.jobs → w.weight ≡ v.weight → w.next ≡ i + 1
-      → IsViewOf jobs (set ws i n) w
-  tried_more ws i n v w old live near inside is rises same_jobs weigh next =
-      grind (arith, cases_eq, get_or-set_same ws i n 0 near, get_or-set_other ws i, old)
-
   -- A view that holds nothing tries word i, its next
   module _ (s : St) (r : Lawful s) (id i : ℕ) (v : View J) (at : get_elem? s.views id ≡ some v) (live : 0 < v.weight)
       (free : v.held ≡ None) (is : v.next ≡ i) (inside : i < length jobs) where
@@ -77,15 +70,13 @@ module _ {J D : Type 0} (lawful : J → D → Type 0) (jobs : List J) (passes : 
         → Lawful record { words = set s.words i n; homes = set s.homes i none; views = set s.views id (taken i v) }
     finds_zero n one zero_there =
         let long = r.slots in let set_there = get_or-set_same s.words i 1 0 near in
-        rw one (moved s r i 1 id v (taken i v) (set s.homes i none) inside at
-        (omega arith) (λ _. (λ e. omega arith)) (length-set s.homes i none)
-        (λ k ne. set_else s.homes i k none ne)
+        let other = λ (k : ℕ). get_or-set_other s.words i k 1 0 in
+        rw one (moved s r i 1 id v (taken i v) (set s.homes i none) inside at (omega arith) (λ _. (λ e. omega arith))
+        (length-set s.homes i none) (λ k ne. set_else s.homes i k none ne)
         (λ j' is'. grind (arith, set_here s.homes i none))
-        (tried_more s.words i 1 v (taken i v) (r.each_view id v at) live near inside is
-        (λ e. omega arith) refl refl refl)
-        (λ k. grind (arith, eqb_tells, cases_eq k i, set_there, get_or-set_other s.words i k 1 0))
-        (λ k. grind (arith, eqb_tells, times_push k v.drawn i, cases_eq k i, set_there, get_or-set_other s.words i k 1 0))
-        refl)
+        (grind (arith, cases_eq, set_there, get_or-set_other s.words i, r.each_view id v at))
+        (λ k. grind (arith, eqb_tells, cases_eq k i, set_there, other k))
+        (λ k. grind (arith, eqb_tells, times_push k v.drawn i, cases_eq k i, set_there, other k)) refl)
 
     -- it finds another number, and leaves it there
     finds_more : (n : ℕ) → n ≡ get_or s.words i 0 → get_or s.words i 0 ≢ 0
@@ -94,15 +85,8 @@ module _ {J D : Type 0} (lawful : J → D → Type 0) (jobs : List J) (passes : 
         let stays = λ (k : ℕ). ap (λ ws. get_or ws k 0) (set-get_or s.words i 0) in
         rw same (moved s r i (get_or s.words i 0) id v (tried v) s.homes inside at (r.at_most_two i) (λ _. more) refl
         (λ k ne. refl) (λ j' is'. r.each_slot i j' is')
-        (tried_more s.words i (get_or s.words i 0) v (tried v) (r.each_view id v at) live near inside is more refl refl
-        (ap (λ n. n + 1) is))
+        (rw (set-get_or s.words i 0) (grind (arith, cases_eq, r.each_view id v at)))
         (λ k. rw (stays k) refl) (λ k. rw (stays k) refl) refl)
-
-  -- what the step tells, where it finds 0 and where it doesn't
-  tells : (st : Step (Slot J D)) (before after : M) (found : ℕ) → st.word ≡ before.0.next → st.first ≡ 1
-      → (found ≡ 0 → DrawsJob st.word before after) → (found ≢ 0 → after ≡ (tried before.0, []))
-      → Drawing st before found after
-  tells st before after found is one drawn missed = grind arith
 
   -- a draw: `fetch_max` with 1 on the view's next word
   pub draws : (slots id : ℕ) (me : M) (i : ℕ) → me.1 ≡ [] → 0 < me.0.weight → me.0.held ≡ None → me.0.next ≡ i
@@ -117,15 +101,14 @@ module _ {J D : Type 0} (lawful : J → D → Type 0) (jobs : List J) (passes : 
           takes i (Job there_is.0),
           (r.each_slot i there_is.0 there_is.1).waiting hit,
           finds_zero s r id i me.0 at live free is inside n (omega arith) hit,
-          tells (step slots i 1 0 none) me _ _ (sym is) refl (λ _. (there_is.0, own, rw empty refl))
-              (λ miss. absurd (miss hit)),
+          grind (arith, own, empty, is, hit),
         )
         | inr miss ↦ (
           tried me.0,
           keeps,
           tt,
           finds_more s r id i me.0 at live free is inside n (omega arith) miss,
-          tells (step slots i 1 0 none) me _ _ (sym is) refl (λ hit. absurd (miss hit)) (λ _. rw empty refl),
+          grind (arith, empty, is, miss),
         )
       ]
 
@@ -166,16 +149,7 @@ module _ {J D : Type 0} (lawful : J → D → Type 0) (jobs : List J) (passes : 
         tt,
         moved s r k 2 id v (freed v) (set s.homes k (some (Done d))) inside at (omega arith) (λ _. (λ e. omega arith))
             (length-set s.homes k (some (Done d))) (λ i ne. set_else s.homes k i (some (Done d)) ne)
-            (λ j' is''. record {
-              waiting = λ e. absurd (omega arith);
-              out = λ e. absurd (omega arith);
-              done =
-                  λ _. (
-                    d,
-                    set_here s.homes k (some (Done d)) (omega arith),
-                    subst (λ (y : J). lawful y d) (some-injective j j' (sym is' ∙ is'')) fair,
-                  );
-            })
+            (λ j' also. grind (arith, set_here s.homes k (some (Done d)), is', fair))
             (grind (arith, cases_eq, set_there, get_or-set_other s.words k, knows))
             (λ i. grind (arith, eqb_tells, cases_eq i k, one, set_there, get_or-set_other s.words k i 2 0))
             (λ i. grind (arith, cases_eq i k, one, set_there, get_or-set_other s.words k i 2 0))
@@ -186,7 +160,7 @@ module _ {J D : Type 0} (lawful : J → D → Type 0) (jobs : List J) (passes : 
   -- the first seat gives one pass away
   pub divides : (id : ℕ) (v : View J) → 1 < v.weight → Splits Lawful id v (without_one v) (one_of v)
   divides id v many s r at =
-      let old = r.each_view id v at in let vs : List (View J) = set s.views id (without_one v) in
+      let old = r.each_view id v at in let vs = set s.views id (without_one v) in let Of = IsViewOf jobs s.words in
       let both : (g : View J → ℕ) → sum_by g (vs ++ one_of v ∷ []) + g v
       ≡ sum_by g s.views + g (without_one v) + g (one_of v)
       = λ g. omega (arith, sum_by-append g vs (one_of v ∷ []), sum_by-set_at g s.views id v (without_one v) at) in
@@ -196,8 +170,8 @@ module _ {J D : Type 0} (lawful : J → D → Type 0) (jobs : List J) (passes : 
         at_most_two = r.at_most_two;
         further = r.further;
         each_slot = r.each_slot;
-        each_view = joined (λ _. IsViewOf jobs s.words) vs (one_of v) (grind (arith, old.same_jobs))
-            (changed (IsViewOf jobs s.words) s.views id (without_one v) (grind (arith, old)) (λ by u _. r.each_view by u));
+        each_view = joined (λ _. Of) vs (one_of v) (grind (arith, old.same_jobs))
+            (changed Of s.views id (without_one v) (grind (arith, old)) (λ k u _. r.each_view k u));
         held = λ k. omega (arith, both (holds_one k), r.held k);
         drawn = λ k. omega (arith, both (λ u. times k u.drawn), r.drawn k);
         weights = omega (arith, both (λ u. u.weight), r.weights);
@@ -207,7 +181,7 @@ module _ {J D : Type 0} (lawful : J → D → Type 0) (jobs : List J) (passes : 
   pub unites : (id : ℕ) (v : View J) (other : ℕ) (w : View J) → 0 < v.weight → w.held ≡ None
       → Joins Lawful id v other w (united v w) spent
   unites id v other w live free s r at apart them =
-      let old = r.each_view id v at in let vs : List (View J) = set s.views id (united v w) in
+      let old = r.each_view id v at in let vs = set s.views id (united v w) in let Of = IsViewOf jobs s.words in
       let both : (g : View J → ℕ) → sum_by g (set vs other spent) + g w + g v
       ≡ sum_by g s.views + g (united v w) + g spent
       = λ g. omega (arith, sum_by-set_at g s.views id v (united v w) at, sum_by-set_at g vs other w spent them) in
@@ -217,8 +191,8 @@ module _ {J D : Type 0} (lawful : J → D → Type 0) (jobs : List J) (passes : 
         at_most_two = r.at_most_two;
         further = r.further;
         each_slot = r.each_slot;
-        each_view = changed (IsViewOf jobs s.words) vs other spent (grind arith) (λ by u _.
-            changed (IsViewOf jobs s.words) s.views id (united v w) (grind (arith, old)) (λ k x _. r.each_view k x) by u);
+        each_view = changed Of vs other spent (grind arith)
+            (λ k u _. changed Of s.views id (united v w) (grind (arith, old)) (λ k u _. r.each_view k u) k u);
         held = λ k. omega (arith, both (holds_one k), r.held k, ap (λ o. one_if (is_held k o)) free);
         drawn = λ k. omega (arith, both (λ u. times k u.drawn), r.drawn k, times-append k v.drawn w.drawn);
         weights = omega (arith, both (λ u. u.weight), r.weights);
@@ -236,7 +210,8 @@ module _ {J D : Type 0} (lawful : J → D → Type 0) (jobs : List J) (passes : 
     each_slot = λ k j at.
         let home = at_map {B = maybe.Option (Slot J D)} some xs k (Job j) in
         grind (arith, zeros k, home, at_map {B = Slot J D} Job jobs k j at);
-    each_view = joined (λ _. IsViewOf jobs ws) [] (whole jobs passes) (grind arith) (λ k u at. absurd (some-ne-none u (sym at)));
+    each_view = joined (λ _. IsViewOf jobs ws) [] (whole jobs passes) (grind arith)
+        (λ k u at. absurd (some-ne-none u (sym at)));
     held = λ k. sym (ap holders_at (zeros k));
     drawn = λ k. sym (ap draws_at (zeros k));
     weights = omega arith;
@@ -266,7 +241,8 @@ closes {J = J} lawful b view ps seat ws xs final some-pass is all of =
     omega (arith, r.held k, one, ap (λ o. one_if (is_held k o)) of.held) in (
       λ k j own.
           let inside = (read_at (jobs_of view) k j own).0 in
-          let ended = (r.each_slot k j (rw is own)).done (grind (arith, r.at_most_two k, knows.tried live k, out_at k)) in
+          let here = r.each_slot k j (rw is own) in
+          let ended = here.done (grind (arith, r.at_most_two k, knows.tried live k, out_at k)) in
           (ended.0, final.4 k (Done ended.0) ended.1, ended.2),
       record {
         once = λ k near. grind (arith, drawn_at k, knows.tried live k);
