@@ -4,7 +4,7 @@ use Rattle.std.proofs.lemmas.{Bool.Decides.eqb_tells, Bool.false_from_ne_true, B
 use Rattle.std.proofs.Math.ListN.{length-set}
 use Rattle.msg_world.specs.Prelude.{Access, HomeAgain, HomeMerges, Lent, LoanEnds, LoanStands, LoanStays, MayComeHome, OfResource, OfType, Part, Parts, PartsStand, Registry, SameShape, ValuesStand, WorldState, WritesStand, after_signal, content, merge, signalled_marks, slot, with_value, writable, writes}
 use Rattle.msg_world.specs.inner.Slots.{at}
-use Rattle.msg_world.proofs.Worlds.{type_shape}
+use Rattle.msg_world.proofs.Worlds.{at_set, there_below, there_still, type_shape}
 
 abbrev pub with_signal : Parts → Parts
 with_signal w = record w { marks = option_map signalled_marks w.marks }
@@ -24,9 +24,6 @@ signal_stands l s lent stand Registry = grind (arith, stand Registry)
 
 -- ---- writing
 
-there_below : {X : Type 0} (xs : List (Option X)) (i : ℕ) → IsSome (at xs i) → i < length xs
-there_below xs i there = grind (arith, cases_lt, false≢true, get_or_past)
-
 -- what may be written is written by the access, and there
 is_written : (p : Part) (l : Lent) → IsSome (writable p l) → IsTrue (writes l.access p) × IsSome (slot p l.taken)
 is_written p l there = grind (arith, cases_Bool, false≢true)
@@ -37,44 +34,34 @@ writes_are l t k there =
     let lt = there_below l.taken.types t written.1 in (
       record { access = refl; world = refl; shape = type_shape l.taken t k lt written.1 },
       λ s h here stand. elim [
-        | OfType u ↦
-            let set_there = get_or-set_same l.taken.types t (Some k) None lt in
-            let other = get_or-set_other l.taken.types t u (Some k) None in
-            grind (arith, eqb_tells, written.0, set_there, other, stand (OfType u))
+        | OfType u ↦ grind (arith, eqb_tells, written.0, at_set l.taken.types t k lt u, stand (OfType u))
         | OfResource r ↦ stand (OfResource r)
         | Registry ↦ stand Registry
       ],
     )
 
-value_shape : (w : Parts) (r : ℕ) (z : ℤ) → r < length w.resources → IsSome (slot (OfResource r) w)
-    → SameShape w (with_value w r z)
-value_shape w r z lt there = record {
-  size = record { types = refl; resources = length-set w.resources r (Some z) };
-  there = elim [
-    | OfType t ↦ refl
-    | OfResource q ↦
-        let set_there = get_or-set_same w.resources r (Some z) None lt in
-        grind (arith, cases_eq q r, set_there, get_or-set_other w.resources r q)
-    | Registry ↦ refl
-  ];
-}
-
 pub values_are_written : ValuesStand
 values_are_written l r z there =
     let written = is_written (OfResource r) l there in
     let lt = there_below l.taken.resources r written.1 in (
-      record { access = refl; world = refl; shape = value_shape l.taken r z lt written.1 },
+      record {
+        access = refl;
+        world = refl;
+        shape = record {
+          size = record { types = refl; resources = length-set l.taken.resources r (Some z) };
+          there = elim [
+            | OfType t ↦ refl
+            | OfResource q ↦ there_still l.taken.resources r z lt written.1 q
+            | Registry ↦ refl
+          ];
+        };
+      },
       λ s stand. elim [
         | OfType t ↦ stand (OfType t)
-        | OfResource q ↦
-            let set_there = get_or-set_same l.taken.resources r (Some z) None lt in
-            let other = get_or-set_other l.taken.resources r q (Some z) None in
-            grind (arith, eqb_tells, written.0, set_there, other, stand (OfResource q))
+        | OfResource q ↦ grind (arith, eqb_tells, written.0, at_set l.taken.resources r z lt q, stand (OfResource q))
         | Registry ↦ stand Registry
       ],
     )
-
--- ---- lending out
 
 -- ---- side by side
 
@@ -100,7 +87,8 @@ content_merged a mine s (OfResource r) = refl
 content_merged a mine s Registry = refl
 
 pub home_merges : HomeMerges
-home_merges a taken world home mine s z6 out back here there p = grind (arith, content_merged, none-some, z6 p, out p, back.joined p, here p, there p)
+home_merges a taken world home mine s none out back here there p =
+    grind (arith, content_merged, none-some, none p, out p, back.joined p, here p, there p)
 
 pub home_again : HomeAgain
 home_again a old left taken later home lends same back = grind (arith, false≢true)
@@ -117,7 +105,7 @@ owned_where_written l s none stand p = grind (arith, none p, stand p)
 
 pub loan_ends : LoanEnds
 loan_ends a old left taken begun ended lends of owns same =
-    let shape : SameShape taken ended.taken = subst (λ (w : Parts). SameShape w ended.taken) owns same.shape in
+    let shape = rw owns at same.shape in
     let none : (p : Part) → writes a p ≡ false → slot p ended.taken ≡ None =
     λ p isnt. grind (arith, shape.there p, lends.moved p) in
     let same_access : ended.access ≡ a = same.access ∙ of in (
