@@ -33,14 +33,15 @@ module _ {X : Type 0} where
   rest_first slot i m ms f =
       record { there = omega (arith, f.there); its = f.its; first = λ j k lt is. f.first (suc j) k (omega arith) is }
 
-  -- a slot whose part stands at place i
-  pub at_first : (n slot : ℕ) (ms : List (Moved X)) (i : ℕ) (m : Moved X) → slot < n → IsFirstOf slot ms i
-      → slice_get ms i ≡ Some m → at (placed n ms) slot ≡ Some m.part
-  at_first n slot [] i m lt f is = absurd (omega (arith, f.there))
-  at_first n slot (k ∷ ms) zero m lt f is =
-      grind (arith, f.its k refl, get_or-set_same (placed n ms) slot (Some k.part) None, placed_length n ms)
-  at_first n slot (k ∷ ms) (suc i) m lt f is =
-      let rest = at_first n slot ms i m lt (rest_first slot i k ms f) is in
+  -- a slot whose part stands at place i, where it was read
+  pub first_part : (n slot : ℕ) (ms : List (Moved X)) (i : ℕ) (m : Moved X) → All (λ k. k.slot < n) ms
+      → IsFirstOf slot ms i → m ≡ get_or ms i m → at (placed n ms) slot ≡ Some m.part
+  first_part n slot [] i m below f read = absurd (omega (arith, f.there))
+  first_part n slot (k ∷ ms) zero m below f read =
+      let under = below 0 k (omega arith) in
+      grind (arith, under, f.its k refl, get_or-set_same (placed n ms) slot (Some k.part) None, placed_length n ms)
+  first_part n slot (k ∷ ms) (suc i) m below f read =
+      let rest = first_part n slot ms i m (λ j d l. below (suc j) d (omega arith)) (rest_first slot i k ms f) read in
       let apart = f.first 0 k (omega arith) refl in
       grind (arith, rest, apart, get_or-set_other (placed n ms) k.slot slot (Some k.part) None)
 
@@ -88,10 +89,6 @@ module _ {X : Type 0} where
   pub its_slot : (slot : ℕ) (ms : List (Moved X)) (i : ℕ) (m : Moved X) → IsFirstOf slot ms i → m ≡ get_or ms i m
       → m.slot ≡ slot
   its_slot slot ms i m f read = f.its m (slice_get-get_or ms i m f.there ∙ ap Some (sym read))
-
-  pub first_part : (n slot : ℕ) (ms : List (Moved X)) (i : ℕ) (m : Moved X) → All (λ k. k.slot < n) ms
-      → IsFirstOf slot ms i → m ≡ get_or ms i m → at (placed n ms) slot ≡ Some m.part
-  first_part n slot ms i m below f read = grind (arith, at_first, its_slot, slice_get-get_or)
 
   -- what is at each slot after one part more, of what the slots had that it left
   pub one_more_at : (n : ℕ) (ms : List (Moved X)) (m : Moved X) (from : List (Option X)) → m.slot < n → at from m.slot

@@ -127,14 +127,11 @@ pub home_by_masks : (a : Access) (w : Parts) (types resources : ℕ) (types_home
     ≡ is_some w.marks
     → IsTrue ((types_home && resources_home) && (not a.registry || marks_there)) ↔ IsHome a w
 home_by_masks a w types resources types_home resources_home marks_there t r th rh m = (
-  λ all.
-      let both = and_parts (types_home && resources_home) (not a.registry || marks_there) all in
-      let parts = and_parts types_home resources_home both.0 in
-      elim [
-        | OfType k ↦ λ uses. th.0 parts.0 k (t k ∙ uses)
-        | OfResource k ↦ λ uses. rh.0 parts.1 k (r k ∙ uses)
-        | Registry ↦ λ uses. grind (arith, both.1)
-      ],
+  λ all. elim [
+    | OfType k ↦ λ uses. th.0 (grind arith) k (t k ∙ uses)
+    | OfResource k ↦ λ uses. rh.0 (grind arith) k (r k ∙ uses)
+    | Registry ↦ λ uses. grind arith
+  ],
   λ home.
       let types_there = th.1 (λ k bit. home (OfType k) (sym (t k) ∙ bit)) in
       let resources_there = rh.1 (λ k bit. home (OfResource k) (sym (r k) ∙ bit)) in
@@ -150,7 +147,7 @@ world_stands w each = (
   record {
     histories = λ t. (chosen t).0;
     resources = λ r. unwrap_or (at w.resources r) (pos 0);
-    marks = unwrap_or w.marks none;
+    marks = unwrap_or w.marks (record { held = false; pending = false });
   },
   elim [
     | OfType t ↦ (chosen t).1
@@ -159,9 +156,6 @@ world_stands w each = (
   ],
 )
   where
-    none : Marks
-    none = record { held = false; pending = false }
-
     chosen : (t : ℕ) → (h : History Record) × BufferStands (at w.types t) h
     chosen t = elim (cases_lt t (length w.types)) [
       | inl lt ↦ each t lt
