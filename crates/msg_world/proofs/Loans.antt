@@ -77,9 +77,6 @@ loan_stays a b world taken left others apart loan lends = record {
 
 -- ---- coming home
 
-pub may_come_home : MayComeHome
-may_come_home a old left taken later lends same = grind (arith, cases_Bool, false≢true)
-
 content_merged : (a : Access) (mine s : WorldState) (p : Part) → content p (merge a mine s)
     ≡ (if writes a p then content p mine else content p s)
 content_merged a mine s (OfType t) = refl
@@ -90,18 +87,11 @@ pub home_merges : HomeMerges
 home_merges a taken world home mine s none out back here there p =
     grind (arith, content_merged, none-some, none p, out p, back.joined p, here p, there p)
 
-pub home_again : HomeAgain
-home_again a old left taken later home lends same back = grind (arith, false≢true)
-
 -- ---- a loan from its beginning to its end
 
 pub loan_stands : (l : Lent) (mine s : WorldState) → PartsStand l.taken mine → PartsStand l.world.now s
     → LoanStands l (merge l.access mine s)
 loan_stands l mine s here there p = grind (arith, content_merged, here p, there p)
-
-owned_where_written : (l : Lent) (s : WorldState) → ((p : Part) → writes l.access p ≡ false → slot p l.taken ≡ None)
-    → LoanStands l s → PartsStand l.taken s
-owned_where_written l s none stand p = grind (arith, none p, stand p)
 
 pub loan_ends : LoanEnds
 loan_ends a old left taken begun ended lends of owns same =
@@ -109,11 +99,11 @@ loan_ends a old left taken begun ended lends of owns same =
     let none : (p : Part) → writes a p ≡ false → slot p ended.taken ≡ None =
     λ p isnt. grind (arith, shape.there p, lends.moved p) in
     let same_access : ended.access ≡ a = same.access ∙ of in (
-      may_come_home a old left taken ended.taken lends shape,
+      grind (arith, cases_Bool, false≢true, lends, shape),
       λ home back. (
-        home_again a old left taken ended.taken home lends shape back,
+        grind (arith, false≢true, lends, shape, back),
         λ s mine before after. home_merges a ended.taken left home mine s none (λ p is. grind (arith, lends.stayed p))
-            back (owned_where_written ended mine (λ p isnt. none p (grind (arith, same_access))) after)
+            back (λ p. grind (arith, none p, same_access, after p))
             (λ p. grind (arith, lends.stayed p, before p)),
       ),
     )
