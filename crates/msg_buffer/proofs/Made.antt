@@ -14,12 +14,6 @@ module _ {X M : Type 0} (R : X → M → Type 0) where
   one_more (y ∷ xs) (n ∷ ms) (suc i) x m within at made is =
       grind (arith, one_more xs ms i x m (omega arith) at made.1 is)
 
-  pub as_many : (xs : List X) (ms : List M) → AllZip R xs ms → length ms ≡ length xs
-  as_many [] [] made = refl
-  as_many [] (m ∷ ms) made = absurd made
-  as_many (x ∷ xs) [] made = absurd made
-  as_many (x ∷ xs) (m ∷ ms) made = ap suc (as_many xs ms made.1)
-
 -- one message more behind those that were appended
 pub one_appended : {M : Type 0} (old xs : List (Instance M)) (first next : ℕ) (ms : List M) (m : M)
     → xs ≡ old ++ numbered first ms → next ≡ first + length ms

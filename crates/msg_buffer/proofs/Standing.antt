@@ -45,8 +45,6 @@ module _ {M : Type 0} where
   stands_added : (ms : List M) (k k' : Kept M) (h : History M) → IsWritten ms k k' → count h + length ms ≤ h.limit
       → StandsFor k h → StandsFor k' (added ms h)
   stands_added ms k k' h is room s =
-      let new = stamped h.updates ms in
-      let numbers = numbered (kept_count k) ms in
       grind (
         arith,
         is,
@@ -54,16 +52,13 @@ module _ {M : Type 0} where
         append_assoc,
         oldest_and_present h,
         oldest_and_present (added ms h),
-        length-numbered (kept_count k) ms,
-        length-append h.entries new,
-        length-stamped h.updates ms,
-        stamps-append 0 h.updates h.entries ms s.sound.stamps,
-        kept-append (is_present h) 0 h.entries new,
-        present-stamped h (count h) h.updates ms,
-        kept-append (is_current h) 0 h.entries new,
-        current-stamped h (count h) h.updates ms,
-        length-append (present h) numbers,
-        length-append k.newer numbers,
+        length-numbered,
+        length-append,
+        length-stamped,
+        stamps-append,
+        kept-append,
+        present-stamped,
+        current-stamped,
       )
 
   pub stands_written : (ms : List M) (k k' : Kept M) (h : History M) → IsWritten ms k k'
