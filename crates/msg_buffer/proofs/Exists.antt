@@ -2,7 +2,7 @@
 use Rattle.std.proofs.Common.{◌≡◌, ℕ, ◌+◌, ◌≤◌, List, [], ◌∷◌, ◌++◌, length, map, ◌∙◌, arith, length-append, replicate}
 use Rattle.std.proofs.lemmas.List.{length-map, length-replicate}
 use Rattle.msg_buffer.specs.Prelude.{Entry, History, Instance, Kept, StandsFor, count, current, is_current, is_present, kept_count, kept_instances, message_of, numbered, present, stamped}
-use Rattle.msg_buffer.proofs.{Histories.current-stamped, Histories.none_present_below, Histories.kept-append, Histories.length-stamped, Histories.not_current-stamped, Histories.present-stamped, Histories.stamps-stamped, Histories.stamps-append, Histories.stamps_later, Standing.oldest_and_present}
+use Rattle.msg_buffer.proofs.{Histories.current-stamped, Histories.none_present_below, Histories.kept-append, Histories.length-stamped, Histories.not_current-stamped, Histories.present-stamped, Histories.stamps-stamped, Histories.of_stamped, Histories.stamps-append, Histories.stamps_later, Standing.oldest_and_present}
 
 module _ {M : Type 0} where
   -- as many messages of any one value as were dropped, below the floor, and then the older half; after one update the
@@ -35,32 +35,9 @@ module _ {M : Type 0} where
       let olds = length-stamped_messages k.older 0 in
       let both = length-append (lost m k) (stamped 0 a) in
       let present_is : present h ≡ kept_instances k =
-      grind (
-        arith,
-        older,
-        newer,
-        first,
-        olds,
-        both,
-        kept-append (is_present h) 0 (earlier m k) (stamped 1 b),
-        kept-append (is_present h) 0 (lost m k) (stamped 0 a),
-        none_present_below h 0 (lost m k),
-        present-stamped h k.oldest 0 a,
-        present-stamped h (k.oldest + length k.older) 1 b,
-      ) in
+      grind (arith, older, newer, first, olds, both, none_present_below, of_stamped) in
       let current_is : current h ≡ k.newer =
-      grind (
-        arith,
-        newer,
-        first,
-        olds,
-        both,
-        kept-append (is_current h) 0 (earlier m k) (stamped 1 b),
-        not_current-stamped h k.oldest 0 a,
-        kept-append (is_current h) 0 (lost m k) (stamped 0 a),
-        not_current-stamped h 0 0 (replicate k.oldest m),
-        current-stamped h (k.oldest + length k.older) 1 b,
-      ) in
+      grind (arith, newer, first, olds, both, of_stamped) in
       let long : count h ≡ kept_count k =
       grind (arith, length-append (earlier m k) (stamped 1 b), both, first, olds, length-stamped_messages k.newer 1) in
       let stamps = stamps-append 0 0 (lost m k) a (stamps-stamped 0 (replicate k.oldest m)) in

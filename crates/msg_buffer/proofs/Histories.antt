@@ -129,3 +129,6 @@ module _ {M : Type 0} where
       → drop (dropped (is_present h) n es) (map instance_of (enumerate_from n es)) ≡ kept (is_present h) n es
   present_is_suffix h n low [] rise = refl
   present_is_suffix h n low (e ∷ es) rise = grind (arith, suffix_step, present_is_suffix h (n + 1) e.stamp es rise.1)
+
+-- what was written at once, behind what was there
+pub ruleset of_stamped = (kept-append, length-stamped, stamps-append, present-stamped, current-stamped, not_current-stamped)
