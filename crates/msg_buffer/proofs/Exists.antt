@@ -1,8 +1,8 @@
 -- Each buffer stands for some history, where its messages have a value.
-use Rattle.std.proofs.Common.{◌≡◌, ℕ, ◌+◌, ◌≤◌, List, [], ◌∷◌, ◌++◌, length, map, ◌∙◌, arith, length-append, replicate}
+use Rattle.std.proofs.Common.{◌≡◌, ℕ, ◌+◌, ◌≤◌, List, ◌++◌, length, map, ◌∙◌, arith, length-append, replicate}
 use Rattle.std.proofs.lemmas.List.{length-map, length-replicate}
-use Rattle.msg_buffer.specs.Prelude.{Entry, History, Instance, Kept, StandsFor, count, current, is_current, is_present, kept_count, kept_instances, message_of, numbered, present, stamped}
-use Rattle.msg_buffer.proofs.{Histories.current-stamped, Histories.none_present_below, Histories.kept-append, Histories.length-stamped, Histories.not_current-stamped, Histories.present-stamped, Histories.stamps-stamped, Histories.of_stamped, Histories.stamps-append, Histories.stamps_later, Standing.oldest_and_present}
+use Rattle.msg_buffer.specs.Prelude.{Entry, History, Instance, Kept, StandsFor, count, current, kept_count, kept_instances, message_of, numbered, present, stamped}
+use Rattle.msg_buffer.proofs.{Histories.none_present_below, Histories.length-stamped, Histories.stamps-stamped, Histories.of_stamped, Histories.stamps-append, Histories.stamps_later, Standing.oldest_and_present}
 
 module _ {M : Type 0} where
   -- as many messages of any one value as were dropped, below the floor, and then the older half; after one update the

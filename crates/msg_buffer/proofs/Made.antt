@@ -1,5 +1,5 @@
 -- Messages that were made of items, one of each.
-use Rattle.std.proofs.Common.{◌≡◌, ℕ, zero, suc, ◌+◌, ◌<◌, List, [], ◌∷◌, ◌++◌, length, take, refl, ap, arith, append_assoc, get_or}
+use Rattle.std.proofs.Common.{◌≡◌, ℕ, zero, suc, ◌+◌, ◌<◌, List, [], ◌∷◌, ◌++◌, length, take, arith, append_assoc, get_or}
 use Rattle.std.specs.List.{AllZip}
 use Rattle.msg_buffer.specs.Prelude.{Instance, numbered}
 use Rattle.msg_buffer.proofs.Numbers.{numbered-append}

@@ -1,8 +1,8 @@
 -- What a buffer stands for after each change.
-use Rattle.std.proofs.Common.{◌≡◌, suc, ◌+◌, ◌≤◌, List, [], ◌++◌, length, arith, length-append, append_assoc, append-nil}
+use Rattle.std.proofs.Common.{◌≡◌, ◌+◌, ◌≤◌, List, [], ◌++◌, length, arith, length-append, append_assoc, append-nil}
 use Rattle.std.proofs.lemmas.Bool.Decides.{nat_tests}
-use Rattle.msg_buffer.specs.Prelude.{History, Kept, StandsFor, clear, count, is_current, is_present, kept_count, numbered, oldest, present, stamped, update, write}
-use Rattle.msg_buffer.proofs.{Histories.dropped_and_kept, Histories.kept-append, Histories.kept_after_update, Histories.none_current_after_update, Histories.stamps_later, Histories.stamps-append, Histories.length-stamped, Histories.present-stamped, Histories.current-stamped, Histories.of_stamped, Histories.none_present_below, Histories.none_current_below, Numbers.length-numbered}
+use Rattle.msg_buffer.specs.Prelude.{History, Kept, StandsFor, clear, count, is_present, kept_count, numbered, oldest, present, stamped, update, write}
+use Rattle.msg_buffer.proofs.{Histories.dropped_and_kept, Histories.kept_after_update, Histories.none_current_after_update, Histories.stamps_later, Histories.of_stamped, Histories.none_present_below, Histories.none_current_below, Numbers.length-numbered}
 
 module _ {M : Type 0} where
   -- all but the dropped are kept
