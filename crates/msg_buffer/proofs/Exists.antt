@@ -2,7 +2,7 @@
 use Rattle.std.proofs.Common.{◌≡◌, ℕ, ◌+◌, ◌≤◌, List, ◌++◌, length, map, ◌∙◌, arith, length-append, replicate}
 use Rattle.std.proofs.lemmas.List.{length-map, length-replicate}
 use Rattle.msg_buffer.specs.Prelude.{Entry, History, Instance, Kept, StandsFor, count, current, kept_count, kept_instances, message_of, numbered, present, stamped}
-use Rattle.msg_buffer.proofs.{Histories.none_present_below, Histories.length-stamped, Histories.stamps-stamped, Histories.of_stamped, Histories.stamps-append, Histories.stamps_later, Standing.oldest_and_present}
+use Rattle.msg_buffer.proofs.{Histories.none_present_below, Histories.length-stamped, Histories.stamps-stamped, Histories.not_current-stamped, Histories.of_stamped, Histories.stamps-append, Histories.stamps_later, Standing.oldest_and_present}
 
 module _ {M : Type 0} where
   -- as many messages of any one value as were dropped, below the floor, and then the older half; after one update the
@@ -15,7 +15,8 @@ module _ {M : Type 0} where
 
   abbrev history_of : M → Kept M → History M
   history_of m k =
-      record { limit = k.limit; updates = 1; floor = k.oldest; entries = earlier m k ++ stamped 1 (map message_of k.newer) }
+      let entries = earlier m k ++ stamped 1 (map message_of k.newer) in
+      record { limit = k.limit; updates = 1; floor = k.oldest; entries = entries }
 
   length-lost : (m : M) (k : Kept M) → length (lost m k) ≡ k.oldest
   length-lost m k = length-stamped 0 (replicate k.oldest m) ∙ length-replicate k.oldest m
@@ -37,7 +38,7 @@ module _ {M : Type 0} where
       let present_is : present h ≡ kept_instances k =
       grind (arith, older, newer, first, olds, both, none_present_below, of_stamped) in
       let current_is : current h ≡ k.newer =
-      grind (arith, newer, first, olds, both, of_stamped) in
+      grind (arith, newer, first, olds, both, of_stamped, not_current-stamped) in
       let long : count h ≡ kept_count k =
       grind (arith, length-append (earlier m k) (stamped 1 b), both, first, olds, length-stamped_messages k.newer 1) in
       let stamps = stamps-append 0 0 (lost m k) a (stamps-stamped 0 (replicate k.oldest m)) in

@@ -131,4 +131,4 @@ module _ {M : Type 0} where
   present_is_suffix h n low (e ∷ es) rise = grind (arith, suffix_step, present_is_suffix h (n + 1) e.stamp es rise.1)
 
 -- what was written at once, behind what was there
-pub ruleset of_stamped = (kept-append, length-stamped, stamps-append, present-stamped, current-stamped, not_current-stamped)
+pub ruleset of_stamped = (kept-append, length-stamped, stamps-append, present-stamped, current-stamped)

@@ -19,9 +19,6 @@ collides r w s v first second f g = (
   ],
 )
 
-pub is_below-or : (r w n : ℕ) → IsBelow (bit_or r w) n ↔ ((k : ℕ) → IsTrue (has_bit r k || has_bit w k) → k < n)
-is_below-or r w n = grind (arith, has_bit-or)
-
 -- the tests of the masks say whether there is such a part
 pub conflicts_lem : (a b : Access) (types resources : Bool) → IsTrue types
     ↔ Collide a.read_types a.write_types b.read_types b.write_types

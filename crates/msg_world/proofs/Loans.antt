@@ -49,11 +49,7 @@ values_are_written l r z there =
         world = refl;
         shape = record {
           size = record { types = refl; resources = length-set l.taken.resources r (Some z) };
-          there = elim [
-            | OfType t ↦ refl
-            | OfResource q ↦ there_still l.taken.resources r z lt written.1 q
-            | Registry ↦ refl
-          ];
+          there = elim [ OfType t ↦ refl | OfResource q ↦ there_still _ r z lt written.1 q | Registry ↦ refl ];
         };
       },
       λ s stand. elim [

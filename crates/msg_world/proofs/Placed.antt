@@ -11,9 +11,6 @@ pub lends_alike : {G A B : Type 0} (name : G) (f h : A → B) → ((w : A) → f
 lends_alike name f h same = λ i. inl (name, λ w. same w i)
 
 module _ {X : Type 0} where
-  abbrev none_of : Option X
-  none_of = None
-
   pub placed_length : (n : ℕ) (ms : List (Moved X)) → length (placed n ms) ≡ n
   placed_length n [] = length-replicate n None
   placed_length n (m ∷ ms) = length-set (placed n ms) m.slot (Some m.part) ∙ placed_length n ms

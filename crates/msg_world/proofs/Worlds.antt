@@ -100,11 +100,7 @@ pub type_shape : (w : Parts) (t : ℕ) (k : Kept Record) → t < length w.types 
     → SameShape w (record w { types = slice_set w.types t (Some k) })
 type_shape w t k lt there = record {
   size = record { types = length-set w.types t (Some k); resources = refl };
-  there = elim [
-    | OfType u ↦ there_still w.types t k lt there u
-    | OfResource r ↦ refl
-    | Registry ↦ refl
-  ];
+  there = elim [ OfType u ↦ there_still w.types t k lt there u | OfResource r ↦ refl | Registry ↦ refl ];
 }
 
 -- ---- lending and taking back
