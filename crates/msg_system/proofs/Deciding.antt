@@ -19,10 +19,8 @@ module _ (next : List Reply → Option Op) (w : ℕ) (ps : ℕ → ℕ) (s : Wor
   stays : (n k : ℕ) → k ≤ n → next (after_at_most k next w ps s).replies ≡ None → after_at_most n next w ps s
       ≡ after_at_most k next w ps s
   stays zero k le h = grind arith
-  stays (suc n) k le h = elim (cases_eq k (suc n)) [
-    | inl e ↦ rw e refl
-    | inr ne ↦ grind (arith, stays n k (omega (arith, le, ne)) h)
-  ]
+  stays (suc n) k le h =
+      elim (cases_eq k (suc n)) [ inl e ↦ rw e refl | inr ne ↦ grind (arith, stays n k (omega (arith, le, ne)) h) ]
 
   module _ (n k : ℕ) (qs : ℕ → ℕ) (l : Lent) (before out : List Reply) (long : n ≡ length before)
       (far : IsAfterProgram (after_at_most k next w ps s) qs l before out) where

@@ -117,11 +117,8 @@ condition_footprint a m s t within agree =
     let alike = probe_alike _ a.place s t (agree p (within p (or_left _ false (same_part_refl p)))) in
     (rw alike.0 refl, rw alike.1 refl)
 
--- the parts that some conditions read are among these
-abbrev AllAskedIn : List Asked → (Part → Bool) → Type 0
-AllAskedIn asked m = (p : Part) → IsTrue (some_condition_reads (map (λ a. a.condition) asked) p) → IsTrue (m p)
-
-all_alike : (asked : List Asked) (m : Part → Bool) (s t : WorldState) → AllAskedIn asked m → Agree m s t
+all_alike : (asked : List Asked) (m : Part → Bool) (s t : WorldState)
+    → ((p : Part) → IsTrue (some_condition_reads (map (λ a. a.condition) asked) p) → IsTrue (m p)) → Agree m s t
     → (all_hold asked s ≡ all_hold asked t) × (map (after_asking s) asked ≡ map (after_asking t) asked)
 all_alike [] m s t within agree = (refl, refl)
 all_alike (a ∷ asked) m s t within agree =
@@ -136,7 +133,7 @@ module _ (j : Job) (m : Part → Bool) (within : IsWithin (with_conditions j.sys
   system_in : IsWithin j.system.needs m
   system_in p h = within p (grind (arith, or_right, false≢true))
 
-  conditions_in : AllAskedIn j.conditions m
+  conditions_in : (p : Part) → IsTrue (some_condition_reads (conditions_of j) p) → IsTrue (m p)
   conditions_in p h = within p (grind (arith, or_right))
 
 pub job_footprint : JobFootprint

@@ -12,8 +12,7 @@ pub returns-in-None-clause-ran : goal.returns-in-None-clause-ran
 returns-in-None-clause-ran g c s stands =
     let inv = c.loop-done.invariant in
     let is = rw (c.since.ensures.rest, c.as_slice.ensures.value) at c.in_ok-next_within.ensures.next in
-    turn_over _ _ _ s _ c.loop-done._done _ _ _ _ inv.long (inv.so_far s stands) (omega arith)
-    (sym c.in-None.is ∙ is)
+    turn_over _ _ _ s _ c.loop-done._done _ _ _ _ inv.long (inv.so_far s stands) (omega arith) (sym c.in-None.is ∙ is)
 
 pub loop-done-preserved : goal.loop-done-preserved
 loop-done-preserved g c =

@@ -22,18 +22,14 @@ check-all-requires c =
     let xs = c.args.guards.now in let i = c.loop-guard.guard-index in let d = c.guard-item.result in
     let lx : i < length xs = omega arith in
     let here = not_reached xs _ i c.loop-guard.invariant.rest lx (omega arith) d in
-    record {
-      covers = rw (get_or-map (λ a. a.condition) xs i d d.condition lx, ← here)
-          at (c.requires.covers i d.condition (omega (arith, lx, length-map xs (λ a. a.condition))));
-    }
+    let covers = c.requires.covers i d.condition (omega (arith, lx, length-map xs (λ a. a.condition))) in
+    record { covers = rw (get_or-map (λ a. a.condition) xs i d d.condition lx, ← here) at covers }
 
 pub loop-guard-preserved : goal.loop-guard-preserved
 loop-guard-preserved c =
-    let xs = c.args.guards.now in let ys = c.loop-guard.guards in let i = c.loop-guard.guard-index in let d =
-    c.guard-item.result in
-    let lx : i < length xs = omega arith in
-    let ly : i < length ys = omega arith in
-    let inv = c.loop-guard.invariant in
+    let xs = c.args.guards.now in let ys = c.loop-guard.guards in let i = c.loop-guard.guard-index in
+    let d = c.guard-item.result in let inv = c.loop-guard.invariant in
+    let lx : i < length xs = omega arith in let ly : i < length ys = omega arith in
     let here = not_reached xs ys i inv.rest lx ly d in
     record {
       answer = λ s stands.
