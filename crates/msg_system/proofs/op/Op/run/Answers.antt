@@ -2,7 +2,7 @@ use Rattle.std.proofs.Common.{rules, refl}
 use mir.Syntax.{w64}
 use Rattle.std.proofs.lemmas.{Int.to_z-of_z, Result.IfOk-weaker, Result.on_err_weaker}
 use Rattle.msg_world.specs.Prelude.{OfResource, OfType, Registry}
-use Rattle.msg_system.specs.Prelude.{Clear, Forward, Read, Sum, places_of}
+use Rattle.msg_system.specs.Prelude.{Clear, Forward, Read, Sum}
 use Rattle.msg_system.proofs.Runs.{covers_read, covers_written, place_at, ran_at}
 use Rattle.msg_system.proofs.op.Op.run.Goals as goal
 
@@ -114,15 +114,12 @@ returns-in-Sum-clause-ran c =
 
 pub returns-in-Write-clause-refused : goal.returns-in-Write-clause-refused
 returns-in-Write-clause-refused c =
-    rw c.in-Write.is
-    (on_err_weaker c.write.result (λ refused. refused (places_of c.args.cursors.now)) c.write.ensures.refused)
+    rw c.in-Write.is (on_err_weaker c.write.result (λ refused. refused (λ t. 0)) c.write.ensures.refused)
 
 pub returns-in-Batch-clause-refused : goal.returns-in-Batch-clause-refused
 returns-in-Batch-clause-refused c =
-    rw c.in-Batch.is
-    (on_err_weaker c.batch.result (λ refused. refused (places_of c.args.cursors.now)) c.batch.ensures.refused)
+    rw c.in-Batch.is (on_err_weaker c.batch.result (λ refused. refused (λ t. 0)) c.batch.ensures.refused)
 
 pub returns-in-Drain-clause-refused : goal.returns-in-Drain-clause-refused
 returns-in-Drain-clause-refused c =
-    rw c.in-Drain.is
-    (on_err_weaker c.drain.result (λ refused. refused (places_of c.args.cursors.now)) c.drain.ensures.refused)
+    rw c.in-Drain.is (on_err_weaker c.drain.result (λ refused. refused (λ t. 0)) c.drain.ensures.refused)
