@@ -27,9 +27,6 @@ module _ (m : Part → Bool) (s t : WorldState) (agree : Agree m s t) where
         × IfSome (op_parts op).written (λ p. content p s ≡ content p t)
     agrees = (part_agrees (op_parts op).read (λ p. or_left _ _), part_agrees (op_parts op).written (λ p. or_right _ _))
 
-    op_same : given_by_op (after_op op w ps s) ≡ given_by_op (after_op op w ps t)
-    op_same = grind (arith, agrees)
-
     op_alike : Agree m (after_op op w ps s).state (after_op op w ps t).state
     op_alike (OfType u) h = grind (arith, agrees, agree (OfType u) h)
     op_alike (OfResource r) h = grind (arith, agrees, agree (OfResource r) h)
@@ -38,17 +35,13 @@ module _ (m : Part → Bool) (s t : WorldState) (agree : Agree m s t) where
 pub op_footprint : OpFootprint
 op_footprint op w ps = record {
   kept = op_kept op w ps;
-  same = λ m s t within agree. op_same m s t agree op w ps within;
+  same = λ m s t within agree. grind (arith, agrees m s t agree op w ps within);
   alike = λ m s t within agree. op_alike m s t agree op w ps within;
 }
 
 -- ---- turns
 
 module _ (m : Meaning) where
-  -- what comes next keeps to what is needed
-  keeps : (replies : List Reply) (op : Op) → next_op m replies ≡ Some op → IsKept m.needs op
-  keeps replies = next_kept_to m.needs (m.rule [] replies)
-
   -- the first ops of a turn
   abbrev after : ℕ → WorldState → AfterProgram
   after k s = after_at_most k (next_op m) m.writer m.places s
@@ -62,7 +55,7 @@ module _ (m : Meaning) where
   turn_kept : (k : ℕ) (s : WorldState) (p : Part) → m.needs.writes p ≡ false → content p (after k s).state ≡ content p s
   turn_kept zero s p h = refl
   turn_kept (suc k) s p h =
-      more_kept (next_op m (after k s).replies) (after k s) p (keeps (after k s).replies) h ∙ turn_kept k s p h
+      more_kept (next_op m (after k s).replies) (after k s) p (next_kept_to m.needs _) h ∙ turn_kept k s p h
 
   module _ (among : Part → Bool) (within : IsWithin m.needs among) where
     record AreAlike (a b : AfterProgram) : Type 0 where
@@ -85,7 +78,7 @@ module _ (m : Meaning) where
     turn_alike (suc k) s t agree =
         let far = turn_alike k s t agree in let next = λ (g : (ℕ → ℕ) × List Reply). next_op m g.1 in
         rw (← ap next far.same)
-        (more_alike (next_op m (after k s).replies) (after k s) (after k t) (keeps (after k s).replies) far)
+        (more_alike (next_op m (after k s).replies) (after k s) (after k t) (next_kept_to m.needs _) far)
 
   first_ops : (k : ℕ) → HasFootprint m.needs (λ (e : AfterProgram). e.state) given_by_program (after k)
   first_ops k = record {

@@ -19,11 +19,6 @@ pub covers_written : (op : Op) (l : Lent) (p : Part) → Covers (op_needs op) l 
     → IsSome (writable p l)
 covers_written op l p covers is = covers.writes p (rw is (same_part_refl p))
 
--- the cursors, after the one in a type was moved
-moved_place : (cs : Cursors) (t place : ℕ) → t < length cs.by_type
-    → places_of (record { by_type = slice_set cs.by_type t place }) ≡ with_place (places_of cs) t place
-moved_place cs t place lt = grind (arith, cases_eq, get_or-set_same, eq-eqb, get_or-set_other, ne_eqb)
-
 -- one of the cursors of all types, as the array has it
 module _ (cs : Cursors) (t k d : ℕ) (long : length cs.by_type ≡ 64) (is : k ≡ t) (lt : t < 64) where
   pub place_at : places_of cs t ≡ get_or cs.by_type k d
@@ -34,7 +29,9 @@ module _ (cs : Cursors) (t k d : ℕ) (long : length cs.by_type ≡ 64) (is : k 
       → ((places : ℕ → ℕ) → places t ≡ get_or cs.by_type k d → OpRan op w places (with_place places t new) l m r)
       → OpRan op w (places_of cs) (places_of (record { by_type = slice_set cs.by_type k new })) l m r
   ran_at op w new l m r ran =
-      rw (is, moved_place cs t new (omega (arith, long, lt))) (ran (places_of cs) place_at)
+      let moves : places_of (record { by_type = slice_set cs.by_type t new }) ≡ with_place (places_of cs) t new =
+      grind (arith, long, lt, cases_eq, get_or-set_same, eq-eqb, get_or-set_other, ne_eqb) in
+      rw (is, moves) (ran (places_of cs) place_at)
 
 -- ---- a loan that covers, after a change of what it lets be written
 
