@@ -3,16 +3,18 @@ use Rattle.std.proofs.Common.{refl, ◌≡◌, ℕ, zero, suc, ◌+◌, ◌≤�
 use Rattle.std.proofs.lemmas.{List.length_push, Bool.cases_Bool, Bool.cases_eq, Bool.false≢true}
 use Rattle.std.proofs.Math.Seq.{drop-append_seam}
 use Rattle.msg_world.specs.declared.lent.Lent.{Lent}
-use Rattle.msg_world.specs.Prelude.{WorldState}
+use Rattle.msg_world.specs.Prelude.{SameLoan, WorldState}
 use Rattle.msg_system.specs.Prelude.{Covers, Needs, Op, OpRan, Reply, after_at_most, one_more, op_needs}
 use Rattle.msg_system.specs.inner.TurnRuns.{AreAnswered, IsAfterProgram}
 use Rattle.msg_system.proofs.{Lendings.writable_is_shown, Runs.op_more, Turns.IsKept, Turns.ops_answered-snoc}
 
 -- ---- a turn, op after op
 
--- a loan that covers what is needed covers each op that keeps to it
-pub covers_kept : (op : Op) (n : Needs) (l : Lent) → IsKept n op → Covers n l → Covers (op_needs op) l
-covers_kept op n l keeps covers = grind (arith, cases_Bool, writable_is_shown, false≢true)
+-- a loan that covers what is needed covers each op that keeps to it, also after a change of what it lets be written
+pub covers_kept : (op : Op) (n : Needs) (l m : Lent) → IsKept n op → SameLoan l m → Covers n l → Covers (op_needs op) m
+covers_kept op n l m keeps same covers =
+    let later : Covers n m = grind (arith, same, covers) in
+    grind (arith, keeps, later, cases_Bool, writable_is_shown, false≢true)
 
 module _ (next : List Reply → Option Op) (w : ℕ) (ps : ℕ → ℕ) (s : WorldState) where
   -- where the rule says that the turn is over, it stays as it is

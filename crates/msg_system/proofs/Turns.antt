@@ -6,7 +6,7 @@ use Rattle.msg_world.specs.Prelude.{Part, Parts, SameLoan, WorldState, taken_of}
 use Rattle.msg_world.specs.declared.lent.Lent.{Lent}
 use Rattle.msg_system.specs.Prelude.{IsInOrder, Meaning, Needs, OneOpIsATurn, Op, Program, Ran, Reply, after_at_most, after_op, after_program, if_kept, is_none_or, is_part, keeps_to, may_read, next_op, of_program, only, op_needs, op_parts, ops_answered, program_needs, told, turn}
 use Rattle.msg_system.specs.inner.TurnRuns.{AreAnswered, HasReplies, ProgramRan, TurnRan}
-use Rattle.msg_system.proofs.Runs.{after_program-snoc, same_part_refl, written_stand}
+use Rattle.msg_system.proofs.Runs.{after_program-snoc, same_part_refl}
 
 -- ---- a program keeps to what it needs
 
@@ -108,7 +108,7 @@ ran_turn old new l m taken before after ran same is are means =
       appended = are.1;
       one_each = are.3;
       means = means;
-      state = λ s stands. written_stand l m taken (turn old s).state same is (ran s stands).stands;
+      state = λ s stands p written. grind (arith, same, is, (ran s stands).stands);
       answers = λ s stands. append_cancel_left before _ _ (sym are.1 ∙ (ran s stands).same_replies);
       places = λ s stands. (ran s stands).same_places;
     }

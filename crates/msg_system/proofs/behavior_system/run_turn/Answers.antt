@@ -1,12 +1,12 @@
 use Rattle.std.proofs.Common.{◌≡◌, arith, sym, ◌∙◌}
-use Rattle.msg_system.proofs.{Deciding.answered_more, Deciding.appended, Deciding.covers_kept, Deciding.turn_more, Deciding.turn_over, Runs.covers_later, Runs.same_loan_trans, Turns.next_kept_to}
+use Rattle.msg_system.proofs.{Deciding.answered_more, Deciding.appended, Deciding.covers_kept, Deciding.turn_more, Deciding.turn_over, Runs.same_loan_trans, Turns.next_kept_to}
 use Rattle.msg_system.proofs.behavior_system.run_turn.Goals as goal
 
 pub run-requires : goal.run-requires
 run-requires g c =
     let next = sym c.in_ok-next_within.ensures.next ∙ c.in-Some.is in
     let kept = next_kept_to _ _ c.in-Some.op next in
-    record { covers = covers_later _ _ _ c.loop-done.invariant.same (covers_kept _ _ _ kept c.requires.covers) }
+    record { covers = covers_kept _ _ _ _ kept c.loop-done.invariant.same c.requires.covers }
 
 pub returns-in-None-clause-ran : goal.returns-in-None-clause-ran
 returns-in-None-clause-ran g c s stands =
