@@ -1,8 +1,8 @@
 -- Conflicts, clashes and limits of accesses by their masks.
-use Rattle.std.proofs.Common.{arith, ℕ, ◌<◌, Bool, ◌&&◌, ◌||◌, inl, inr, ◌⊎◌, sym, ◌∙◌, ◌↔◌, IsTrue, bit_or}
+use Rattle.std.proofs.Common.{arith, ℕ, Bool, ◌&&◌, ◌||◌, inl, inr, ◌⊎◌, sym, ◌∙◌, ◌↔◌, IsTrue, bit_or}
 use Rattle.std.proofs.lemmas.Bool.{cases_Bool, or_cases, false≢true}
-use Rattle.msg_world.specs.Prelude.{Access, Conflict, IsClash, OfResource, OfType, Part, Registry, has_bit, uses, writes}
-use Rattle.msg_world.specs.inner.Masks.{ShareBit, Collide, IsBelow}
+use Rattle.msg_world.specs.Prelude.{Access, Conflict, IsClash, OfResource, OfType, Part, Registry, uses, writes}
+use Rattle.msg_world.specs.inner.Masks.{ShareBit, Collide}
 use Rattle.msg_world.proofs.Bits.{has_bit-or, share_bit-and}
 
 -- the tests of two pairs of masks say whether they collide

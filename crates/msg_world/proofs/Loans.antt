@@ -1,15 +1,11 @@
 -- What loans stand for.
-use Rattle.std.proofs.Common.{arith, ◌≡◌, ℕ, ◌<◌, length, true, false, refl, subst, ◌∙◌, inr, Option, Some, None, ℤ, IsSome, List, IsTrue, option_map, if◌then◌else◌}
-use Rattle.std.proofs.lemmas.{Bool.Decides.eqb_tells, Bool.false_from_ne_true, Bool.cases_Bool, Bool.cases_eq, Bool.cases_lt, Bool.false≢true, List.get_or-set_same, List.get_or-set_other, List.get_or_past, Option.none-some}
+use Rattle.std.proofs.Common.{arith, ◌≡◌, true, false, refl, ◌∙◌, inr, Some, None, IsSome, IsTrue, option_map, if◌then◌else◌}
+use Rattle.std.proofs.lemmas.{Bool.Decides.eqb_tells, Bool.false_from_ne_true, Bool.cases_Bool, Bool.false≢true, Option.none-some}
 use Rattle.std.proofs.Math.ListN.{length-set}
-use Rattle.msg_world.specs.Prelude.{Access, HomeAgain, HomeMerges, Lent, LoanEnds, LoanStands, LoanStays, MayComeHome, OfResource, OfType, Part, Parts, PartsStand, Registry, SameShape, ValuesStand, WorldState, WritesStand, after_signal, content, merge, signalled_marks, slot, with_value, writable, writes}
-use Rattle.msg_world.specs.inner.Slots.{at}
+use Rattle.msg_world.specs.Prelude.{Access, HomeMerges, Lent, LoanEnds, LoanStands, LoanStays, OfResource, OfType, Part, Parts, Registry, SameShape, ValuesStand, WorldState, WritesStand, after_signal, content, merge, signalled_marks, slot, writable, writes}
 use Rattle.msg_world.proofs.Worlds.{at_set, there_below, there_still, type_shape}
 
-abbrev pub with_signal : Parts → Parts
-with_signal w = record w { marks = option_map signalled_marks w.marks }
-
-pub with_signal_shape : (w : Parts) → SameShape w (with_signal w)
+pub with_signal_shape : (w : Parts) → SameShape w (record w { marks = option_map signalled_marks w.marks })
 with_signal_shape w = record {
   size = record { types = refl; resources = refl };
   there = elim [ OfType t ↦ refl | OfResource r ↦ refl | Registry ↦ grind arith ];
@@ -17,7 +13,8 @@ with_signal_shape w = record {
 
 -- a loan of the registry, after a signal
 pub signal_stands : (l : Lent) (s : WorldState) → l.access.registry ≡ true → LoanStands l s
-    → LoanStands (record l { taken = with_signal l.taken }) (after_signal s)
+    → LoanStands (record l { taken = record l.taken { marks = option_map signalled_marks l.taken.marks } })
+    (after_signal s)
 signal_stands l s lent stand (OfType t) = stand (OfType t)
 signal_stands l s lent stand (OfResource r) = stand (OfResource r)
 signal_stands l s lent stand Registry = grind (arith, stand Registry)
@@ -73,7 +70,7 @@ loan_stays a b world taken left others apart loan lends = record {
 
 -- ---- coming home
 
-content_merged : (a : Access) (mine s : WorldState) (p : Part) → content p (merge a mine s)
+pub content_merged : (a : Access) (mine s : WorldState) (p : Part) → content p (merge a mine s)
     ≡ (if writes a p then content p mine else content p s)
 content_merged a mine s (OfType t) = refl
 content_merged a mine s (OfResource r) = refl
@@ -84,10 +81,6 @@ home_merges a taken world home mine s none out back here there p =
     grind (arith, content_merged, none-some, none p, out p, back.joined p, here p, there p)
 
 -- ---- a loan from its beginning to its end
-
-pub loan_stands : (l : Lent) (mine s : WorldState) → PartsStand l.taken mine → PartsStand l.world.now s
-    → LoanStands l (merge l.access mine s)
-loan_stands l mine s here there p = grind (arith, content_merged, here p, there p)
 
 pub loan_ends : LoanEnds
 loan_ends a old left taken begun ended lends of owns same =

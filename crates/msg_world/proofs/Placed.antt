@@ -1,5 +1,5 @@
 -- Parts in their slots, one part after the other.
-use Rattle.std.proofs.Common.{◌≡◌, ℕ, zero, suc, ◌<◌, List, [], ◌∷◌, ◌++◌, length, get_or, refl, sym, ap, ◌∙◌, arith, inl, ◌⊎◌, Option, Some, None, ◌==◌, ◌||◌, if◌then◌else◌, All, Bool, true, false, replicate, slice_get, slice_set}
+use Rattle.std.proofs.Common.{◌≡◌, ℕ, zero, suc, ◌<◌, List, [], ◌∷◌, ◌++◌, length, get_or, refl, sym, ap, ◌∙◌, arith, inl, ◌⊎◌, Option, Some, None, ◌==◌, ◌||◌, if◌then◌else◌, All, Bool, true, false, replicate, slice_set}
 use Rattle.std.specs.Option.{option_or}
 use Rattle.std.proofs.lemmas.{Bool.cases_lt, Bool.cases_eq, Bool.eq-eqb, Bool.ne_eqb, Option.slice_get-get_or, List.get_or-replicate, List.get_or-set_same, List.get_or-set_other, List.get_or_past, List.length-replicate, List.length-set, List.set-set, List.set_comm}
 use Rattle.msg_world.specs.Prelude.{Moved}

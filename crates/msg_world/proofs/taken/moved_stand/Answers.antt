@@ -1,8 +1,7 @@
-use Rattle.std.proofs.Common.{inl, inr, arith, Option, subst, pos}
+use Rattle.std.proofs.Common.{inl, inr, arith, pos}
 use Rattle.std.proofs.lemmas.Bool.{cases_eq}
-use Rattle.msg_buffer.specs.Prelude.{History, Kept, empty}
-use Rattle.msg_world.specs.Prelude.{Record, by}
-use Rattle.msg_world.specs.inner.Slots.{BufferStands}
+use Rattle.msg_buffer.specs.Prelude.{empty}
+use Rattle.msg_world.specs.Prelude.{by}
 use Rattle.msg_world.proofs.taken.moved_stand.Goals as goal
 use Rattle.msg_world.proofs.taken.moved_stand.Goals.{in-Some, in_default}
 
