@@ -1,32 +1,29 @@
 -- From what a step tells of a seat to what a clause says of the pass.
 use Rattle.std.specs.List.{All, filter, flat_map}
-use Rattle.std.proofs.Common.{Bool, true, false, not, ◌≡◌, ℕ, ◌+◌, ◌<◌, List, [], ◌∷◌, ◌++◌, length, refl, ap, ◌∙◌, arith, Some, None, length-append, append-nil}
-use Rattle.std.proofs.lemmas.{List.Elements.All-head, List.Elements.All-pop, List.Elements.All-push, List.Elements.All-tail, List.Elements.All-weaker, List.Elements.filter-append, List.flat_map_more, Bool.Decides.eqb_tells, Bool.false_from_ne_true}
+use Rattle.std.proofs.Common.{true, false, not, ◌≡◌, ℕ, ◌+◌, ◌<◌, List, [], ◌∷◌, ◌++◌, length, refl, ap, ◌∙◌, arith, Some, None, length-append}
+use Rattle.std.proofs.lemmas.{List.Elements.All-head, List.Elements.All-pop, List.Elements.All-push, List.Elements.All-tail, List.Elements.All-weaker, List.flat_map_more, Bool.Decides.eqb_tells, Bool.false_from_ne_true}
 use mathlib.Core.Option.{some}
 use lib.ListN.{get_elem?}
 use Rattle.atomic_table.specs.{declared.shared.Seat.Seat, Table.Me}
-use Rattle.msg_board.specs.Prelude.{BoardView, Done, Drew, Empty, HandedIn, HasEnded, Inside, Job, PassState, Slot, View, drawn_by, freed, handed_in, is_held, jobs_of, taken, times, united}
+use Rattle.msg_board.specs.Prelude.{BoardView, Done, Drew, Empty, HandedIn, HasEnded, Inside, Job, PassState, Slot, View, drawn_by, freed, handed_in, is_held, taken, times, united}
 use Rattle.msg_board.specs.{inner.Closing.IsGathered, inner.Seats.IsSeatOf, inner.Sound.state_of, inner.Sound.IsSound}
 use Rattle.msg_board.proofs.{TableLists.got, Sums.times-append}
 
--- a filter that every element passes keeps the list
-filter_all : {X : Type 0} (p : X → Bool) (xs : List X) → All (λ x. p x ≡ true) xs → filter p xs ≡ xs
-filter_all p [] all = refl
-filter_all p (x ∷ xs) all =
-    grind (arith, All-head (λ x. p x ≡ true) x xs all, filter_all p xs (All-tail (λ x. p x ≡ true) x xs all))
+-- below the number that is held, all was handed in
+handed_in_below : (earlier : List ℕ) (k : ℕ) → All (λ n. n < k) earlier
+    → filter (λ n. not (is_held n (Some k))) (earlier ++ k ∷ []) ≡ earlier
+handed_in_below [] k below = grind (arith, eqb_tells)
+handed_in_below (n ∷ ns) k below =
+    let rest = handed_in_below ns k (All-tail (λ n. n < k) n ns below) in
+    grind (arith, eqb_tells, All-head (λ n. n < k) n ns below, rest)
 
--- what was handed in and then the number that is held is what was drawn
-handed_in_and_held : (earlier : List ℕ) (k : ℕ) → All (λ n. n < k) earlier
-    → earlier ++ k ∷ [] ≡ filter (λ n. not (is_held n (Some k))) (earlier ++ k ∷ []) ++ k ∷ []
-handed_in_and_held earlier k below =
-    let other : ℕ → Bool = λ n. not (is_held n (Some k)) in
-    let kept = filter_all other earlier (All-weaker (λ n. n < k) (λ n. other n ≡ true)
-    (λ n l. grind (arith, eqb_tells)) earlier below) in
-    grind (arith, eqb_tells, kept, filter-append other earlier (k ∷ []), append-nil earlier)
+filter_true : {X : Type 0} (xs : List X) → filter (λ _. true) xs ≡ xs
+filter_true [] = refl
+filter_true (x ∷ xs) = ap (λ ys. x ∷ ys) (filter_true xs)
 
 -- a pass that holds nothing has handed in all that it drew
 pub handed_in-idle : {J : Type 0} (p : PassState J) → p.holding ≡ None → handed_in p ≡ p.drawn
-handed_in-idle p idle = rw idle (filter_all (λ _. true) p.drawn (λ k d l. refl))
+handed_in-idle p idle = rw idle (filter_true p.drawn)
 
 module _ {J D : Type 0} where
   -- A pass drew its next number: `drawn` is its seat after the step, and `seat` after it took the job out of the slot
@@ -69,7 +66,7 @@ module _ {J D : Type 0} where
         → HandedIn before (state_of handed_pass) k
     handed_said before is has =
         let last = sound.order.last k (ap (λ q. q.holding) is ∙ has) in
-        grind (arith, put, told, last, handed_in_and_held last.0 k last.2, handed_in-idle (state_of handed_pass))
+        grind (arith, put, told, last, handed_in_below last.0 k last.2, handed_in-idle (state_of handed_pass))
 
 -- a pass holds a number below the number of jobs
 pub held_within : {J D : Type 0} (p : Inside J D) (k : ℕ) → IsSound p → p.held ≡ Some k
@@ -80,17 +77,17 @@ held_within p k sound has =
     grind (arith, sound.order.within, below)
 
 -- a pass that has a number left to try isn't finished
-pub unfinished_more : {J D : Type 0} (p : Inside J D) (q : PassState J) → IsSound p → state_of p ≡ q
-    → q.tried < length q.jobs → q.finished ≡ false
-unfinished_more p q sound is more = grind (arith, false_from_ne_true, sound.order.all_tried)
+pub unfinished_more : {J D : Type 0} (p : Inside J D) → p.next < length p.seat.me.0.jobs → IsSound p
+    → p.finished ≡ false
+unfinished_more p more sound = grind (arith, false_from_ne_true, sound.order.all_tried)
 
 -- passes that have ended have handed in all that they drew
-pub all_handed_in : {J : Type 0} (ps : List (PassState J)) → All (λ p. p.holding ≡ None) ps
+pub all_handed_in : {J : Type 0} (b : BoardView J) (ps : List (PassState J)) → All (HasEnded b) ps
     → flat_map handed_in ps ≡ flat_map (λ p. p.drawn) ps
-all_handed_in [] all = refl
-all_handed_in {J = J} (p ∷ ps) all =
-    let idle : PassState J → Type 0 = λ p. p.holding ≡ None in
-    grind (arith, handed_in-idle p (All-head idle p ps all), all_handed_in ps (All-tail idle p ps all))
+all_handed_in b [] all = refl
+all_handed_in b (p ∷ ps) all =
+    let here = handed_in-idle p (All-head (HasEnded b) p ps all).holding in
+    grind (arith, here, all_handed_in b ps (All-tail (HasEnded b) p ps all))
 
 -- how often k was drawn by the passes, with one more pass
 times_more : {J : Type 0} (k : ℕ) (qs ps : List (PassState J)) (p : PassState J) → qs ≡ ps ++ p ∷ []
@@ -100,22 +97,11 @@ times_more {J = J} k qs ps p is =
     grind (arith, flat_map_more drawn [] ps p, times-append k (flat_map drawn ps) p.drawn)
 
 module _ {J D : Type 0} where
-  -- the seat has the views of all passes but ps
-  pub record Gathering (b : BoardView J) (all ps : List (PassState J)) (seat : Seat (Slot J D) (View J)) : Type 0 where
-    pub table : seat.table_id ≡ b.table
-    pub count : seat.me.0.weight + length ps ≡ length all
-    pub live : 0 < seat.me.0.weight
-    pub next : seat.me.0.next ≡ length (jobs_of b)
-    pub held : seat.me.0.held ≡ None
-    pub drawn : (k : ℕ)
-        → times k seat.me.0.drawn + times k (flat_map (λ p. p.drawn) ps) ≡ times k (flat_map (λ p. p.drawn) all)
-    pub ended : All (HasEnded b) ps
-
   -- the last pass's seat comes first
   pub gathers_first : (b : BoardView J) (all ps : List (PassState J)) (p : PassState J)
       (seat : Seat (Slot J D) (View J))
       → All (HasEnded b) all → all ≡ ps ++ p ∷ []
-      → IsSeatOf p seat → (p.finished ≡ true → p.tried ≡ length p.jobs) → Gathering b all ps seat
+      → IsSeatOf p seat → (p.finished ≡ true → p.tried ≡ length p.jobs) → IsGathered b all ps seat
   gathers_first b all ps p seat every is of all_tried =
       let parts = All-pop (HasEnded b) all ps (Some p) is every in
       let drawn : (k : ℕ) → times k seat.me.0.drawn + times k (drawn_by ps) ≡ times k (drawn_by all)
@@ -125,9 +111,9 @@ module _ {J D : Type 0} where
   -- and takes in the others, one by one
   pub gathers : (b : BoardView J) (all qs ps : List (PassState J)) (p : PassState J)
       (seat other next : Seat (Slot J D) (View J))
-      → Gathering b all qs seat → qs ≡ ps ++ p ∷ [] → IsSeatOf p other
+      → IsGathered b all qs seat → qs ≡ ps ++ p ∷ [] → IsSeatOf p other
       → next.table_id ≡ seat.table_id → next.me ≡ (united seat.me.0 other.me.0, seat.me.1)
-      → Gathering b all ps next
+      → IsGathered b all ps next
   gathers b all qs ps p seat other next before is of here now =
       let parts = All-pop (HasEnded b) qs ps (Some p) is before.ended in
       let drawn : (k : ℕ) → times k next.me.0.drawn + times k (drawn_by ps) ≡ times k (drawn_by all)
@@ -140,14 +126,3 @@ module _ {J D : Type 0} where
         times_more k qs ps p is,
       ) in
       grind (arith, parts, of, before, now, length-append ps (p ∷ []), drawn)
-
-  -- until there are none left
-  pub gathered : (b : BoardView J) (all ps : List (PassState J)) (seat : Seat (Slot J D) (View J))
-      → Gathering b all ps seat → ps ≡ [] → IsGathered b all seat
-  gathered b all ps seat done none = record {
-    table = done.table;
-    weight = grind (arith, done.count, none);
-    next = done.next;
-    held = done.held;
-    drawn = λ k. grind (arith, done.drawn k, none);
-  }

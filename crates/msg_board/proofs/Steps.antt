@@ -1,17 +1,15 @@
 -- Each step keeps the law.
 use Rattle.std.specs.List.{sum_by}
-use Rattle.std.proofs.Common.{◌≡◌, ◌≢◌, ℕ, ◌+◌, ◌<◌, ◌≤◌, max, List, [], ◌∷◌, ◌++◌, map, length, get_or, set, sym, refl, ap, ◌∙◌, subst, inl, inr, ⊎_elim, arith, Some, None, length-set, get_or-set_other, get_or-set_same}
+use Rattle.std.proofs.Common.{◌≡◌, ◌≢◌, ℕ, ◌+◌, ◌<◌, ◌≤◌, max, List, [], ◌∷◌, ◌++◌, map, length, get_or, set, sym, refl, ap, ◌∙◌, inl, inr, arith, Some, None, length-set, get_or-set_other, get_or-set_same}
 use Rattle.std.proofs.lemmas.{Bool.cases_eq, Bool.cases_lt, Bool.Decides.eqb_tells, List.get_or_past, List.set-get_or, List.Sums.sum_by-append}
-use mathlib.Core.Logic.{dite}
 use mathlib.Core.Option.{none, some, some-injective, some-ne-none}
 use mathlib.Core.Option as maybe
-use native.Mathlib.Decide.{ℕ_discrete}
 use lib.ListN.{get_elem?, length-map}
-use Rattle.atomic_table.specs.{declared.shared.Seat.Seat, Table.State, Table.Me, Table.Step, Table.step, Table.Act, Table.keeps, Table.takes, Table.gives, Table.Valid, Table.carried_after, Table.stepped, Table.Allows, Table.Splits, Table.Joins, Table.Final, Table.Seen, Table.opening}
-use Rattle.atomic_table.proofs.Lists.{at_set, set_here, set_else, at_snoc, at_map}
-use Rattle.msg_board.specs.Prelude.{BoardView, Done, Drawing, DrawsJob, HandingIn, Holds, HoldsEachOnce, IsHeldAlone, IsSlotOf, IsViewOf, Job, PassState, Slot, View, draws_at, drawn_by, freed, holders_at, is_held, jobs_of, one_of, passes_of, spent, taken, times, tried, united, whole, without_one}
+use Rattle.atomic_table.specs.{declared.shared.Seat.Seat, Table.State, Table.Me, Table.step, Table.keeps, Table.takes, Table.gives, Table.Allows, Table.Splits, Table.Joins, Table.Final, Table.Seen, Table.opening}
+use Rattle.atomic_table.proofs.Lists.{set_here, set_else, at_map}
+use Rattle.msg_board.specs.Prelude.{BoardView, Done, Drawing, HandingIn, Holds, HoldsEachOnce, IsHeldAlone, IsSlotOf, IsViewOf, Job, PassState, Slot, View, draws_at, drawn_by, freed, holders_at, is_held, jobs_of, one_of, passes_of, spent, taken, times, tried, united, whole, without_one}
 use Rattle.msg_board.specs.inner.Closing.{IsGathered}
-use Rattle.msg_board.proofs.{TableLists.there, TableLists.read_at, Sums.sum_by-set_at, Sums.term_le, Sums.terms_le, Sums.sole, Sums.one_if, Sums.times-append, Sums.times_push}
+use Rattle.msg_board.proofs.{TableLists.there, TableLists.read_at, TableLists.changed, TableLists.joined, Sums.sum_by-set_at, Sums.term_le, Sums.terms_le, Sums.sole, Sums.one_if, Sums.times-append, Sums.times_push}
 
 module _ {J D : Type 0} (lawful : J → D → Type 0) (jobs : List J) (passes : ℕ) where
   -- states of the table, seats, and the law
@@ -52,27 +50,13 @@ module _ {J D : Type 0} (lawful : J → D → Type 0) (jobs : List J) (passes : 
           | inl e ↦ rw (e, set_there) (here j (rw e at is))
           | inr ne ↦ rw (get_or-set_other s.words i k n 0 ne, others k ne) (r.each_slot k j is)
         ];
-        each_view = λ by u is. ⊎_elim (λ (t : (by ≡ id) × (w ≡ u)). subst (IsViewOf jobs (set s.words i n)) t.1 known)
-            (λ (t : (by ≢ id) × (get_elem? s.views by ≡ some u)). let old = r.each_view by u t.1 in
-            grind (arith, cases_eq, get_or-set_same s.words i n 0 near, get_or-set_other s.words i, rises, old))
-            (at_set s.views id by w u is);
+        each_view = changed (IsViewOf jobs (set s.words i n)) s.views id w known (λ by u _ is.
+            let old = r.each_view by u is in
+            grind (arith, cases_eq, get_or-set_same s.words i n 0 near, get_or-set_other s.words i, rises, old));
         held = λ k. omega (arith, sum_by-set_at (holds_one k) s.views id v w at, r.held k, holding k);
         drawn = λ k. omega (arith, sum_by-set_at (λ u. times k u.drawn) s.views id v w at, r.drawn k, drawing k);
         weights = omega (arith, sum_by-set_at (λ u. u.weight) s.views id v w at, r.weights);
       }
-
-  -- a view that has tried one word more is right once that word i is above 0
-  tried_more : (ws : List ℕ) (i n : ℕ) (v w : View J) → IsViewOf jobs ws v → 0 < v.weight → i < length ws
-      → i < length jobs → v.next ≡ i → n ≢ 0 → w.jobs ≡ v.jobs → w.weight ≡ v.weight → w.next ≡ i + 1
-      → IsViewOf jobs (set ws i n) w
-  tried_more ws i n v w old live near inside is rises same_jobs weigh next =
-      grind (arith, cases_eq, get_or-set_same ws i n 0 near, get_or-set_other ws i, old)
-
-  -- a draw is allowed where word i becomes n
-  abbrev Draws : St → M → ℕ → ℕ → ℕ → ℕ → Type 0
-  Draws s me slots id i n = (w : View J) × (a : Act (Slot J D)) × Valid s.homes me.1 a
-      × Lawful (stepped s i n id me.1 w a)
-      × Drawing (step slots i 1 0 none) me (get_or s.words i 0) (w, carried_after me.1 a)
 
   -- A view that holds nothing tries word i, its next
   module _ (s : St) (r : Lawful s) (id i : ℕ) (v : View J) (at : get_elem? s.views id ≡ some v) (live : 0 < v.weight)
@@ -82,41 +66,27 @@ module _ {J D : Type 0} (lawful : J → D → Type 0) (jobs : List J) (passes : 
     near = let wide = r.words in omega arith
 
     -- it finds 0, and takes the job out
-    finds_zero : get_or s.words i 0 ≡ 0
-        → Lawful record { words = set s.words i 1; homes = set s.homes i none; views = set s.views id (taken i v) }
-    finds_zero zero_there =
+    finds_zero : (n : ℕ) → n ≡ 1 → get_or s.words i 0 ≡ 0
+        → Lawful record { words = set s.words i n; homes = set s.homes i none; views = set s.views id (taken i v) }
+    finds_zero n one zero_there =
         let long = r.slots in let set_there = get_or-set_same s.words i 1 0 near in
-        moved s r i 1 id v (taken i v) (set s.homes i none) inside at
-        (omega arith) (λ _. (λ e. omega arith)) (length-set s.homes i none)
-        (λ k ne. set_else s.homes i k none ne)
+        let other = λ (k : ℕ). get_or-set_other s.words i k 1 0 in
+        rw one (moved s r i 1 id v (taken i v) (set s.homes i none) inside at (omega arith) (λ _. (λ e. omega arith))
+        (length-set s.homes i none) (λ k ne. set_else s.homes i k none ne)
         (λ j' is'. grind (arith, set_here s.homes i none))
-        (tried_more s.words i 1 v (taken i v) (r.each_view id v at) live near inside is
-        (λ e. omega arith) refl refl refl)
-        (λ k. grind (arith, eqb_tells, cases_eq k i, set_there, get_or-set_other s.words i k 1 0))
-        (λ k. grind (arith, eqb_tells, times_push k v.drawn i, cases_eq k i, set_there, get_or-set_other s.words i k 1 0))
-        refl
+        (grind (arith, cases_eq, set_there, get_or-set_other s.words i, r.each_view id v at))
+        (λ k. grind (arith, eqb_tells, cases_eq k i, set_there, other k))
+        (λ k. grind (arith, eqb_tells, times_push k v.drawn i, cases_eq k i, set_there, other k)) refl)
 
     -- it finds another number, and leaves it there
-    finds_more : get_or s.words i 0 ≢ 0
-        → Lawful record {
-          words = set s.words i (get_or s.words i 0);
-          homes = s.homes;
-          views = set s.views id (tried v);
-        }
-    finds_more more = let x = get_or s.words i 0 in moved s r i x id v (tried v) s.homes inside at (r.at_most_two i)
-        (λ _. more) refl (λ k ne. refl)
-        (λ j' is'. r.each_slot i j' is')
-        (tried_more s.words i x v (tried v) (r.each_view id v at) live near inside is more refl refl
-        (ap (λ n. n + 1) is))
-        (λ k. ap (λ ws. holds_one k v + holders_at (get_or ws k 0)) (sym (set-get_or s.words i 0)))
-        (λ k. ap (λ ws. times k v.drawn + draws_at (get_or ws k 0)) (sym (set-get_or s.words i 0)))
-        refl
-
-  -- what the step tells, where it finds 0 and where it doesn't
-  tells : (st : Step (Slot J D)) (before after : M) (found : ℕ) → st.word ≡ before.0.next → st.first ≡ 1
-      → (found ≡ 0 → DrawsJob st.word before after) → (found ≢ 0 → after ≡ (tried before.0, []))
-      → Drawing st before found after
-  tells st before after found is one drawn missed = grind arith
+    finds_more : (n : ℕ) → n ≡ get_or s.words i 0 → get_or s.words i 0 ≢ 0
+        → Lawful record { words = set s.words i n; homes = s.homes; views = set s.views id (tried v) }
+    finds_more n same more =
+        let stays = λ (k : ℕ). ap (λ ws. get_or ws k 0) (set-get_or s.words i 0) in
+        rw same (moved s r i (get_or s.words i 0) id v (tried v) s.homes inside at (r.at_most_two i) (λ _. more) refl
+        (λ k ne. refl) (λ j' is'. r.each_slot i j' is')
+        (rw (set-get_or s.words i 0) (grind (arith, cases_eq, r.each_view id v at)))
+        (λ k. rw (stays k) refl) (λ k. rw (stays k) refl) refl)
 
   -- a draw: `fetch_max` with 1 on the view's next word
   pub draws : (slots id : ℕ) (me : M) (i : ℕ) → me.1 ≡ [] → 0 < me.0.weight → me.0.held ≡ None → me.0.next ≡ i
@@ -125,23 +95,22 @@ module _ {J D : Type 0} (lawful : J → D → Type 0) (jobs : List J) (passes : 
   draws slots id me i empty live free is within s r deep at small =
       let inside : i < length jobs = omega (arith, r.slots) in let there_is = there jobs i inside in
       let own = ap (λ (l : List J). get_elem? l i) ((r.each_view id me.0 at).same_jobs live) ∙ there_is.1 in
-      dite (ℕ_discrete (get_or s.words i 0) 0)
-      (λ hit. let one : 1 ≡ max (get_or s.words i 0) 1 = omega arith in subst (Draws s me slots id i) one (
-        taken i me.0,
-        takes i (Job there_is.0),
-        (r.each_slot i there_is.0 there_is.1).waiting hit,
-        finds_zero s r id i me.0 at live free is inside hit,
-        tells (step slots i 1 0 none) me _ _ (sym is) refl (λ _. (there_is.0, own, rw empty refl))
-            (λ miss. absurd (miss hit)),
-      ))
-      (λ miss. let same : get_or s.words i 0 ≡ max (get_or s.words i 0) 1 = omega arith in
-      subst (Draws s me slots id i) same (
-        tried me.0,
-        keeps,
-        tt,
-        finds_more s r id i me.0 at live free is inside miss,
-        tells (step slots i 1 0 none) me _ _ (sym is) refl (λ hit. absurd (miss hit)) (λ _. rw empty refl),
-      ))
+      let n : ℕ = max (get_or s.words i 0) 1 in elim (cases_eq (get_or s.words i 0) 0) [
+        | inl hit ↦ (
+          taken i me.0,
+          takes i (Job there_is.0),
+          (r.each_slot i there_is.0 there_is.1).waiting hit,
+          finds_zero s r id i me.0 at live free is inside n (omega arith) hit,
+          grind (arith, own, empty, is, hit),
+        )
+        | inr miss ↦ (
+          tried me.0,
+          keeps,
+          tt,
+          finds_more s r id i me.0 at live free is inside n (omega arith) miss,
+          grind (arith, empty, is, miss),
+        )
+      ]
 
   -- a word whose number is held is 1
   word_is_one : (s : St) (k : ℕ) → Lawful s → (by : ℕ) (v : View J) → get_elem? s.views by ≡ some v → v.held ≡ Some k
@@ -157,7 +126,7 @@ module _ {J D : Type 0} (lawful : J → D → Type 0) (jobs : List J) (passes : 
   held_alone s k r = record {
     by_one = λ by other v w at there_is has also.
         let is_one = word_is_one s k r by v at has in
-        grind (arith, terms_le (holds_one k) s.views by other v w, r.held k, is_one, eqb_tells);
+        grind (arith, terms_le (holds_one k) spent refl s.views by other v w, r.held k, is_one, eqb_tells);
     slot_out = λ by v at has. let is_one = word_is_one s k r by v at has in
         elim (cases_lt k (length jobs)) [
           | inl near ↦ let job = there jobs k near in (r.each_slot k job.0 job.1).out is_one
@@ -166,11 +135,10 @@ module _ {J D : Type 0} (lawful : J → D → Type 0) (jobs : List J) (passes : 
   }
 
   -- a hand-in: a store of 2 on the word of the number that is held
-  hands_in : (slots id : ℕ) (v : View J) (k : ℕ) (j : J) (d : D) → 0 < v.weight → v.held ≡ Some k
-      → get_elem? v.jobs k ≡ some j → lawful j d
-      → Allows Lawful slots id (v, (k, Done d) ∷ []) k (λ _. 2)
-      (λ _. HandingIn (step slots k 2 0 none) (v, (k, Done d) ∷ []) 2)
-  hands_in slots id v k j d live has is fair s r deep at small =
+  pub hands_in : (slots id : ℕ) (m : M) (v : View J) (k : ℕ) (j : J) (d : D) → m ≡ (v, (k, Done d) ∷ [])
+      → 0 < v.weight → v.held ≡ Some k → get_elem? v.jobs k ≡ some j → lawful j d
+      → Allows Lawful slots id m k (λ _. 2) (λ _. HandingIn (step slots k 2 0 none) m 2)
+  hands_in slots id m v k j d e live has is fair = rw e (λ s r deep at small.
       let knows = r.each_view id v at in
       let is' : get_elem? jobs k ≡ some j = ap (λ (l : List J). get_elem? l k) (sym (knows.same_jobs live)) ∙ is in
       let inside = (read_at jobs k j is').0 in let wide = r.words in let long = r.slots in
@@ -181,34 +149,18 @@ module _ {J D : Type 0} (lawful : J → D → Type 0) (jobs : List J) (passes : 
         tt,
         moved s r k 2 id v (freed v) (set s.homes k (some (Done d))) inside at (omega arith) (λ _. (λ e. omega arith))
             (length-set s.homes k (some (Done d))) (λ i ne. set_else s.homes k i (some (Done d)) ne)
-            (λ j' is''. record {
-              waiting = λ e. absurd (omega arith);
-              out = λ e. absurd (omega arith);
-              done =
-                  λ _. (
-                    d,
-                    set_here s.homes k (some (Done d)) (omega arith),
-                    subst (λ (y : J). lawful y d) (some-injective j j' (sym is' ∙ is'')) fair,
-                  );
-            })
+            (λ j' also. grind (arith, set_here s.homes k (some (Done d)), is', fair))
             (grind (arith, cases_eq, set_there, get_or-set_other s.words k, knows))
             (λ i. grind (arith, eqb_tells, cases_eq i k, one, set_there, get_or-set_other s.words k i 2 0))
             (λ i. grind (arith, cases_eq i k, one, set_there, get_or-set_other s.words k i 2 0))
             refl,
         record { word = has; operand = (refl, refl); result = (d, refl); given_back = refl },
-      )
-
-  -- the same, for a seat that is known by an equation
-  pub hands_in_at : (slots id : ℕ) (m : M) (v : View J) (k : ℕ) (j : J) (d : D) → m ≡ (v, (k, Done d) ∷ [])
-      → 0 < v.weight → v.held ≡ Some k → get_elem? v.jobs k ≡ some j → lawful j d
-      → Allows Lawful slots id m k (λ _. 2) (λ _. HandingIn (step slots k 2 0 none) m 2)
-  hands_in_at slots id m v k j d e live has is fair =
-      rw e (hands_in slots id v k j d live has is fair)
+      ))
 
   -- the first seat gives one pass away
   pub divides : (id : ℕ) (v : View J) → 1 < v.weight → Splits Lawful id v (without_one v) (one_of v)
   divides id v many s r at =
-      let old = r.each_view id v at in let vs : List (View J) = set s.views id (without_one v) in
+      let old = r.each_view id v at in let vs = set s.views id (without_one v) in let Of = IsViewOf jobs s.words in
       let both : (g : View J → ℕ) → sum_by g (vs ++ one_of v ∷ []) + g v
       ≡ sum_by g s.views + g (without_one v) + g (one_of v)
       = λ g. omega (arith, sum_by-append g vs (one_of v ∷ []), sum_by-set_at g s.views id v (without_one v) at) in
@@ -218,13 +170,8 @@ module _ {J D : Type 0} (lawful : J → D → Type 0) (jobs : List J) (passes : 
         at_most_two = r.at_most_two;
         further = r.further;
         each_slot = r.each_slot;
-        each_view = λ by u is. ⊎_elim
-            (λ (t : get_elem? vs by ≡ some u). ⊎_elim
-            (λ (q : (by ≡ id) × (without_one v ≡ u)). subst (IsViewOf jobs s.words) q.1 (grind (arith, old)))
-            (λ (q : (by ≢ id) × (get_elem? s.views by ≡ some u)). r.each_view by u q.1)
-            (at_set s.views id by (without_one v) u t))
-            (λ (t : one_of v ≡ u). subst (IsViewOf jobs s.words) t (grind (arith, old.same_jobs)))
-            (at_snoc vs (one_of v) u by is);
+        each_view = joined (λ _. Of) vs (one_of v) (grind (arith, old.same_jobs))
+            (changed Of s.views id (without_one v) (grind (arith, old)) (λ k u _. r.each_view k u));
         held = λ k. omega (arith, both (holds_one k), r.held k);
         drawn = λ k. omega (arith, both (λ u. times k u.drawn), r.drawn k);
         weights = omega (arith, both (λ u. u.weight), r.weights);
@@ -234,7 +181,7 @@ module _ {J D : Type 0} (lawful : J → D → Type 0) (jobs : List J) (passes : 
   pub unites : (id : ℕ) (v : View J) (other : ℕ) (w : View J) → 0 < v.weight → w.held ≡ None
       → Joins Lawful id v other w (united v w) spent
   unites id v other w live free s r at apart them =
-      let old = r.each_view id v at in let vs : List (View J) = set s.views id (united v w) in
+      let old = r.each_view id v at in let vs = set s.views id (united v w) in let Of = IsViewOf jobs s.words in
       let both : (g : View J → ℕ) → sum_by g (set vs other spent) + g w + g v
       ≡ sum_by g s.views + g (united v w) + g spent
       = λ g. omega (arith, sum_by-set_at g s.views id v (united v w) at, sum_by-set_at g vs other w spent them) in
@@ -244,13 +191,8 @@ module _ {J D : Type 0} (lawful : J → D → Type 0) (jobs : List J) (passes : 
         at_most_two = r.at_most_two;
         further = r.further;
         each_slot = r.each_slot;
-        each_view = λ by u is. ⊎_elim
-            (λ (t : (by ≡ other) × (spent ≡ u)). subst (IsViewOf jobs s.words) t.1 (grind arith))
-            (λ (t : (by ≢ other) × (get_elem? vs by ≡ some u)). ⊎_elim
-            (λ (q : (by ≡ id) × (united v w ≡ u)). subst (IsViewOf jobs s.words) q.1 (grind (arith, old)))
-            (λ (q : (by ≢ id) × (get_elem? s.views by ≡ some u)). r.each_view by u q.1)
-            (at_set s.views id by (united v w) u t.1))
-            (at_set vs other by spent u is);
+        each_view = changed Of vs other spent (grind arith)
+            (λ k u _. changed Of s.views id (united v w) (grind (arith, old)) (λ k u _. r.each_view k u) k u);
         held = λ k. omega (arith, both (holds_one k), r.held k, ap (λ o. one_if (is_held k o)) free);
         drawn = λ k. omega (arith, both (λ u. times k u.drawn), r.drawn k, times-append k v.drawn w.drawn);
         weights = omega (arith, both (λ u. u.weight), r.weights);
@@ -268,56 +210,42 @@ module _ {J D : Type 0} (lawful : J → D → Type 0) (jobs : List J) (passes : 
     each_slot = λ k j at.
         let home = at_map {B = maybe.Option (Slot J D)} some xs k (Job j) in
         grind (arith, zeros k, home, at_map {B = Slot J D} Job jobs k j at);
-    each_view = λ by u at. ⊎_elim (λ (t : get_elem? [] by ≡ some u). absurd (some-ne-none u (sym t)))
-        (λ (t : whole jobs passes ≡ u). subst (IsViewOf jobs ws) t (grind arith))
-        (at_snoc [] (whole jobs passes) u by at);
+    each_view = joined (λ _. IsViewOf jobs ws) [] (whole jobs passes) (grind arith)
+        (λ k u at. absurd (some-ne-none u (sym at)));
     held = λ k. sym (ap holders_at (zeros k));
     drawn = λ k. sym (ap draws_at (zeros k));
     weights = omega arith;
   }
 
-  -- each slot has a lawful result of its job
-  abbrev AllDone : List (Slot J D) → Type 0
-  AllDone xs = (length xs ≡ length jobs)
-      × ((k : ℕ) (j : J) → get_elem? jobs k ≡ some j → (d : D) × (get_elem? xs k ≡ some (Done d)) × lawful j d)
-
-  -- the last seat stands for all passes, has tried every word and holds nothing: every result is in, and it drew each
-  -- number once
-  closes : (id : ℕ) (v : View J) (ws : List ℕ) (xs : List (Slot J D)) (numbers : List ℕ)
-      → Final (Seen Lawful id v) ws xs → v.weight ≡ passes → 0 < passes → v.next ≡ length jobs → v.held ≡ None
-      → ((k : ℕ) → times k v.drawn ≡ times k numbers) → AllDone xs × HoldsEachOnce (length jobs) numbers
-  closes id v ws xs numbers f all some-pass done free same =
-      let s = f.0 in let r = f.1.0 in let at = f.1.1 in let live : 0 < v.weight = omega arith in
-      let knows = r.each_view id v at in
-      let others : (k : ℕ) (u : View J) → k ≢ id → get_elem? s.views k ≡ some u → u.weight
-      ≡ 0 = λ k u ne there. omega (arith, terms_le (λ u. u.weight) s.views id k v u ne at there, r.weights) in
-      let drawn_at : (k : ℕ) → times k numbers ≡ draws_at (get_or s.words k 0) = λ k.
-      sym (same k) ∙ sym (sole (λ u. times k u.drawn) s.views id v at
-      (λ i u ne there. ap (times k) ((r.each_view i u there).spent_drawn (others i u ne there)))) ∙ r.drawn k in
-      let out_at : (k : ℕ) → holders_at (get_or s.words k 0) ≡ 0 = λ k.
-      sym (r.held k) ∙ (sole (holds_one k) s.views id v at
-      (λ i u ne there. ap (λ o. one_if (is_held k o)) ((r.each_view i u there).spent_held (others i u ne there)))
-      ∙ ap (λ o. one_if (is_held k o)) free) in
-      let deep = r.slots in let wide = r.words in let long = f.3 in (
-        (
-          omega arith,
-          λ k j is. let inside = (read_at jobs k j is).0 in
-              let ended =
-              (r.each_slot k j is).done (grind (arith, r.at_most_two k, knows.tried live k, out_at k)) in
-              (ended.0, f.4 k (Done ended.0) ended.1, ended.2),
-        ),
-        record {
-          once = λ k near. grind (arith, drawn_at k, knows.tried live k);
-          no_other = λ k far. drawn_at k ∙ ap draws_at (zero_far s k r far);
-        },
-      )
-
--- the same, of the board that callers see
-pub closes_board : {J D : Type 0} (lawful : J → D → Type 0) (b view : BoardView J) (ps : List (PassState J))
+-- a seat that has gathered all passes has tried every word and holds nothing: every result is in, and the passes drew
+-- each number once
+pub closes : {J D : Type 0} (lawful : J → D → Type 0) (b view : BoardView J) (ps : List (PassState J))
     (seat : Seat (Slot J D) (View J)) (ws : List ℕ) (xs : List (Slot J D))
     → Final (Seen (Holds lawful (jobs_of b) (passes_of b)) seat.id seat.me.0) ws xs → 0 < passes_of b → b ≡ view
-    → length ps ≡ passes_of view → IsGathered view ps seat
-    → AllDone lawful (jobs_of view) (passes_of view) xs × HoldsEachOnce (length (jobs_of view)) (drawn_by ps)
-closes_board lawful b view ps seat ws xs final some-pass is all of =
-    closes lawful (jobs_of view) (passes_of view) seat.id seat.me.0 ws xs (drawn_by ps)
-    (rw is at final) (of.weight ∙ all) (rw is at some-pass) of.next of.held of.drawn
+    → length ps ≡ passes_of view → IsGathered view ps [] seat
+    → ((k : ℕ) (j : J) → get_elem? (jobs_of view) k ≡ some j
+    → (d : D) × (get_elem? xs k ≡ some (Done d)) × lawful j d) × HoldsEachOnce (length (jobs_of view)) (drawn_by ps)
+closes {J = J} lawful b view ps seat ws xs final some-pass is all of =
+    let s = final.0 in let r = final.1.0 in let at = final.1.1 in let many = ap passes_of is in
+    let as_long : length (jobs_of b) ≡ length (jobs_of view) = ap (λ board. length (jobs_of board)) is in
+    let v = seat.me.0 in let live = of.live in let next = of.next in let knows = r.each_view seat.id v at in
+    let others : (k : ℕ) (u : View J) → k ≢ seat.id → get_elem? s.views k ≡ some u → u.weight ≡ 0 = λ k u ne there.
+    omega (arith, terms_le (λ u. u.weight) spent refl s.views seat.id k v u ne at there, r.weights, of.count) in
+    let drawn_at : (k : ℕ) → times k (drawn_by ps) ≡ draws_at (get_or s.words k 0) = λ k.
+    let one = sole (λ u. times k u.drawn) spent refl s.views seat.id v at
+    (λ i u ne there. ap (times k) ((r.each_view i u there).spent_drawn (others i u ne there))) in
+    omega (arith, of.drawn k, one, r.drawn k) in
+    let out_at : (k : ℕ) → holders_at (get_or s.words k 0) ≡ 0 = λ k.
+    let one = sole (λ u. one_if (is_held k u.held)) spent refl s.views seat.id v at
+    (λ i u ne there. ap (λ o. one_if (is_held k o)) ((r.each_view i u there).spent_held (others i u ne there))) in
+    omega (arith, r.held k, one, ap (λ o. one_if (is_held k o)) of.held) in (
+      λ k j own.
+          let inside = (read_at (jobs_of view) k j own).0 in
+          let here = r.each_slot k j (rw is own) in
+          let ended = here.done (grind (arith, r.at_most_two k, knows.tried live k, out_at k)) in
+          (ended.0, final.4 k (Done ended.0) ended.1, ended.2),
+      record {
+        once = λ k near. grind (arith, drawn_at k, knows.tried live k);
+        no_other = λ k far. drawn_at k ∙ ap draws_at (zero_far lawful (jobs_of b) (passes_of b) s k r (omega arith));
+      },
+    )

@@ -1,11 +1,12 @@
 -- Sums and counts over lists that change at one place.
 use Rattle.std.specs.List.{sum_by}
-use Rattle.std.proofs.Common.{Bool, ◌≡◌, ◌≢◌, ℕ, zero, suc, ◌+◌, ◌≤◌, List, [], ◌∷◌, ◌++◌, set, sym, refl, ap, arith, cond, ◌==◌}
+use Rattle.std.proofs.Common.{Bool, ◌≡◌, ◌≢◌, ℕ, suc, ◌+◌, ◌≤◌, List, [], ◌∷◌, ◌++◌, set, refl, ap, ◌∙◌, arith, cond, ◌==◌}
 use Rattle.std.proofs.lemmas.List.Sums.{get_or-le-sum_by, sum_by-append, sum_by-cons, sum_by-set, sum_by_push}
-use mathlib.Core.Option.{some, some-injective, some-ne-none}
+use mathlib.Core.Option.{some}
 use lib.ListN.{get_elem?}
+use Rattle.atomic_table.proofs.Lists.{set_else}
 use Rattle.msg_board.specs.Prelude.{times}
-use Rattle.msg_board.proofs.TableLists.{read_at}
+use Rattle.msg_board.proofs.TableLists.{changed, read_at}
 
 module _ {A : Type 0} (g : A → ℕ) where
   -- the sum after one element has changed
@@ -17,17 +18,11 @@ module _ {A : Type 0} (g : A → ℕ) where
   pub term_le : (l : List A) (j : ℕ) (v : A) → get_elem? l j ≡ some v → g v ≤ sum_by g l
   term_le l j v e = let at = read_at l j v e in omega (arith, get_or-le-sum_by g l j v at.0, ap g at.1)
 
-  -- nor are two terms together
-  pub terms_le : (l : List A) (j k : ℕ) (v u : A) → k ≢ j → get_elem? l j ≡ some v → get_elem? l k ≡ some u
-      → g v + g u ≤ sum_by g l
-  terms_le [] j k v u n e d = absurd (some-ne-none v (sym e))
-  terms_le (x ∷ xs) zero zero v u n e d = absurd (n refl)
-  terms_le (x ∷ xs) zero (suc k) v u n e d =
-      omega (arith, ap g (some-injective x v e), term_le xs k u d, sum_by-cons g x xs)
-  terms_le (x ∷ xs) (suc j) zero v u n e d =
-      omega (arith, ap g (some-injective x u d), term_le xs j v e, sum_by-cons g x xs)
-  terms_le (x ∷ xs) (suc j) (suc k) v u n e d =
-      omega (arith, terms_le xs j k v u (λ h. n (ap suc h)) e d, sum_by-cons g x xs)
+  -- nor are two terms together, where z counts 0
+  pub terms_le : (z : A) → g z ≡ 0 → (l : List A) (j k : ℕ) (v u : A) → k ≢ j → get_elem? l j ≡ some v
+      → get_elem? l k ≡ some u → g v + g u ≤ sum_by g l
+  terms_le z none l j k v u n e d =
+      omega (arith, sum_by-set_at l j v z e, none, term_le (set l j z) k u (set_else l j k z n ∙ d))
 
   -- a sum of zeros is 0
   sum_by-zeros : (l : List A) → ((k : ℕ) (u : A) → get_elem? l k ≡ some u → g u ≡ 0) → sum_by g l ≡ 0
@@ -35,15 +30,11 @@ module _ {A : Type 0} (g : A → ℕ) where
   sum_by-zeros (x ∷ xs) z = omega (arith, z 0 x refl, sum_by-zeros xs (λ k u e. z (suc k) u e), sum_by-cons g x xs)
 
   -- where every other term is 0, the sum is one term
-  pub sole : (l : List A) (j : ℕ) (v : A) → get_elem? l j ≡ some v
+  pub sole : (z : A) → g z ≡ 0 → (l : List A) (j : ℕ) (v : A) → get_elem? l j ≡ some v
       → ((k : ℕ) (u : A) → k ≢ j → get_elem? l k ≡ some u → g u ≡ 0) → sum_by g l ≡ g v
-  sole [] j v e z = absurd (some-ne-none v (sym e))
-  sole (x ∷ xs) zero v e z =
-      let rest = sum_by-zeros xs (λ k u d. z (suc k) u (λ h. omega arith) d) in
-      omega (arith, ap g (some-injective x v e), sum_by-cons g x xs)
-  sole (x ∷ xs) (suc j) v e z =
-      let rest = sole xs j v e (λ k u n d. z (suc k) u (λ h. n (omega arith)) d) in
-      omega (arith, z 0 x (λ h. omega arith) refl, sum_by-cons g x xs)
+  sole z none l j v e others =
+      let rest = sum_by-zeros (set l j z) (changed (λ u. g u ≡ 0) l j z none others) in
+      omega (arith, sum_by-set_at l j v z e, none)
 
 -- 1 where a test is true, as `count_by` adds it
 abbrev pub one_if : Bool → ℕ

@@ -1,18 +1,13 @@
 -- Elements of lists, as the table names them (`get_elem?`) and as clauses do (`slice_get`).
-use Rattle.std.proofs.Common.{slice_get, Bool, false, ◌∙◌, ◌+◌, ◌⊎◌, ⊎_elim, Some, ◌≡◌, ℕ, zero, suc, ◌<◌, List, [], ◌∷◌, ◌++◌, length, get_or, set, replicate, sym, refl, arith, get_or-set_other, get_or-set_same, length-set}
-use Rattle.std.proofs.lemmas.{Bool.cases_eq, Bool.cases_lt, List.get_or-replicate, List.get_or_append_left, List.get_or_past, List.get_or_push, List.length-append, List.length-replicate, Option.get_or_from_slice_get, Option.slice_get-get_or, Option.slice_get_read, Option.slice_get_within}
+use Rattle.std.proofs.Common.{slice_get, Bool, false, ◌+◌, Some, inl, inr, subst, ◌≢◌, ◌≡◌, ℕ, zero, suc, ◌<◌, List, [], ◌∷◌, ◌++◌, length, get_or, set, replicate, sym, refl, arith, get_or-set_other, get_or-set_same, length-set}
+use Rattle.std.proofs.lemmas.{Bool.cases_eq, Bool.cases_lt, List.get_or-replicate, List.get_or_past, List.length-replicate, Option.get_or_from_slice_get, Option.slice_get_read, Option.slice_get_within}
 use mathlib.Core.Option.{some, some-injective, some-ne-none}
-use mathlib.Core.Option as maybe
 use lib.ListN.{get_elem?}
-use Rattle.atomic_table.proofs.Lists.{at_index}
+use Rattle.atomic_table.proofs.Lists.{at_index, at_set}
 
 -- a list of zeros has 0 at each place
 pub zero_at : (n k : ℕ) → (let zeros : List ℕ = replicate n 0 in get_or zeros k 0 ≡ 0)
 zero_at n k = grind (arith, cases_lt, get_or-replicate, get_or_past, length-replicate)
-
--- a place has one value
-pub one_value : {A : Type 0} (place : maybe.Option A) (a b : A) → place ≡ some a → place ≡ some b → a ≡ b
-one_value place a b is also = some-injective a b (sym is ∙ also)
 
 -- within a list there is an element
 pub there : {A : Type 0} (l : List A) (i : ℕ) → i < length l → (a : A) × (get_elem? l i ≡ some a)
@@ -34,27 +29,21 @@ got l i a e = let r = read_at l i a e in slice_get_read l (length l) i a refl r.
 pub get_there : {A : Type 0} (l : List A) (i : ℕ) (a : A) → slice_get l i ≡ Some a → get_elem? l i ≡ some a
 get_there l i a e = at_index l i a (slice_get_within l i a e) (sym (get_or_from_slice_get l i a a e))
 
--- an element of a list with one more at its end is an old one or that one
-get_snoc : {A : Type 0} (l : List A) (a b : A) (k : ℕ) → slice_get (l ++ a ∷ []) k ≡ Some b
-    → (slice_get l k ≡ Some b) ⊎ ((k ≡ length l) × (a ≡ b))
-get_snoc l a b k e =
-    grind (
-      arith,
-      cases_lt k (length l),
-      slice_get_within (l ++ a ∷ []) k b e,
-      get_or_from_slice_get (l ++ a ∷ []) k b b e,
-      slice_get-get_or,
-      get_or_append_left,
-      get_or_push,
-      length-append,
-    )
+-- a fact of each element holds after one was changed, if it holds of the new one
+pub changed : {A : Type 0} (P : A → Type 0) (l : List A) (i : ℕ) (a : A) → P a
+    → ((k : ℕ) (b : A) → k ≢ i → get_elem? l k ≡ some b → P b)
+    → (k : ℕ) (b : A) → get_elem? (set l i a) k ≡ some b → P b
+changed P l i a now others k b is =
+    elim (at_set l i k a b is) [ inl t ↦ subst P t.1 now | inr t ↦ others k b t.0 t.1 ]
 
--- a fact of each place holds after a push, if it holds of what was pushed
-pub each_pushed : {A : Type 0} (P : ℕ → A → Type 0) (l now : List A) (a : A) (n : ℕ) → now ≡ l ++ a ∷ []
-    → length l ≡ n → P n a
-    → ((k : ℕ) (b : A) → slice_get l k ≡ Some b → P k b) → (k : ℕ) (b : A) → slice_get now k ≡ Some b → P k b
-each_pushed P l now a n is long last others k b at =
-    ⊎_elim (λ t. others k b t) (λ t. rw (t.0, long, ← t.1) last) (get_snoc l a b k (rw is at at))
+-- and a fact of each place after one more was put at the end
+pub joined : {A : Type 0} (P : ℕ → A → Type 0) (l : List A) (a : A) → P (length l) a
+    → ((k : ℕ) (b : A) → get_elem? l k ≡ some b → P k b)
+    → (k : ℕ) (b : A) → get_elem? (l ++ a ∷ []) k ≡ some b → P k b
+joined P [] a last others zero b e = subst (P 0) (some-injective a b e) last
+joined P [] a last others (suc k) b e = absurd (some-ne-none b (sym e))
+joined P (x ∷ xs) a last others zero b e = others 0 b e
+joined P (x ∷ xs) a last others (suc k) b e = joined (λ n. P (suc n)) xs a last (λ n c. others (suc n) c) k b e
 
 -- where the places below i are false, and place i is set to false, so are those below i + 1
 pub false_below : (l now : List Bool) (i : ℕ) → now ≡ set l i false

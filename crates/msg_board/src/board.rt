@@ -160,6 +160,7 @@ impl<W: Work, A: Allocator> Board<W, A> {
     }
 
     // Tries the pass's next number: one `fetch_max` on its word.
+    #[tactic(auto, using(crate::proofs::PassSeats::unfinished_more))]
     fn try_next(&self, pass: &mut Pass<W::Job, W::Done>) -> Option<W::Job>
         requires idle { IsIdle self.now pass.old }
         requires more { pass.old.tried < length (jobs_of self.now) }
@@ -188,7 +189,7 @@ impl<W: Work, A: Allocator> Board<W, A> {
     ) -> Seat<Slot<W::Job, W::Done>, View<W::Job>>
         requires some_pass { 0 < length passes.items }
         requires ended { All (HasEnded self.now) passes.items }
-        ensures { IsGathered self.now passes.items result }
+        ensures { IsGathered self.now passes.items [] result }
     {
         let Some(first) = passes.pop() else {
             unreachable!()

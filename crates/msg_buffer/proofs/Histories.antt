@@ -86,11 +86,6 @@ module _ {M : Type 0} where
   current-stamped h n u [] above now = refl
   current-stamped h n u (m ∷ ms) above now = grind (arith, nat_tests, current-stamped h (n + 1) u ms (omega arith) now)
 
-  pub gone-stamped : (h : History M) (n u : ℕ) (ms : List M) → u + 1 < h.updates
-      → kept (is_present h) n (stamped u ms) ≡ []
-  gone-stamped h n u [] old = refl
-  gone-stamped h n u (m ∷ ms) old = grind (arith, nat_tests, gone-stamped h (n + 1) u ms old)
-
   pub not_current-stamped : (h : History M) (n u : ℕ) (ms : List M) → u < h.updates
       → kept (is_current h) n (stamped u ms) ≡ []
   not_current-stamped h n u [] old = refl
@@ -134,3 +129,6 @@ module _ {M : Type 0} where
       → drop (dropped (is_present h) n es) (map instance_of (enumerate_from n es)) ≡ kept (is_present h) n es
   present_is_suffix h n low [] rise = refl
   present_is_suffix h n low (e ∷ es) rise = grind (arith, suffix_step, present_is_suffix h (n + 1) e.stamp es rise.1)
+
+-- what was written at once, behind what was there
+pub ruleset of_stamped = (kept-append, length-stamped, stamps-append, present-stamped, current-stamped)

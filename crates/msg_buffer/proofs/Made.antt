@@ -1,5 +1,5 @@
 -- Messages that were made of items, one of each.
-use Rattle.std.proofs.Common.{◌≡◌, ℕ, zero, suc, ◌+◌, ◌<◌, List, [], ◌∷◌, ◌++◌, length, take, refl, ap, arith, append_assoc, get_or}
+use Rattle.std.proofs.Common.{◌≡◌, ℕ, zero, suc, ◌+◌, ◌<◌, List, [], ◌∷◌, ◌++◌, length, take, arith, append_assoc, get_or}
 use Rattle.std.specs.List.{AllZip}
 use Rattle.msg_buffer.specs.Prelude.{Instance, numbered}
 use Rattle.msg_buffer.proofs.Numbers.{numbered-append}
@@ -13,12 +13,6 @@ module _ {X M : Type 0} (R : X → M → Type 0) where
   one_more (y ∷ xs) [] (suc i) x m within at made is = absurd made
   one_more (y ∷ xs) (n ∷ ms) (suc i) x m within at made is =
       grind (arith, one_more xs ms i x m (omega arith) at made.1 is)
-
-  pub as_many : (xs : List X) (ms : List M) → AllZip R xs ms → length ms ≡ length xs
-  as_many [] [] made = refl
-  as_many [] (m ∷ ms) made = absurd made
-  as_many (x ∷ xs) [] made = absurd made
-  as_many (x ∷ xs) (m ∷ ms) made = ap suc (as_many xs ms made.1)
 
 -- one message more behind those that were appended
 pub one_appended : {M : Type 0} (old xs : List (Instance M)) (first next : ℕ) (ms : List M) (m : M)

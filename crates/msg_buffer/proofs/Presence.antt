@@ -1,7 +1,7 @@
 -- Which entries are present: those from the oldest on.
-use Rattle.std.proofs.Common.{◌≡◌, ℕ, zero, suc, ◌+◌, ◌<◌, ◌≤◌, true, false, List, [], ◌∷◌, map, drop, refl, sym, ◌∙◌, arith, inl, inr, Option, Some, slice_get, option_map}
+use Rattle.std.proofs.Common.{◌≡◌, ℕ, zero, suc, ◌+◌, ◌<◌, ◌≤◌, true, List, [], ◌∷◌, map, drop, refl, sym, ◌∙◌, arith, inl, inr, Option, Some, slice_get, option_map, nat_le}
 use Rattle.std.specs.List.{enumerate_from}
-use Rattle.std.proofs.lemmas.{Bool.cases_Bool, Bool.false≢true, Bool.Decides.nat_tests, Option.slice_get_cases, Option.same_Some}
+use Rattle.std.proofs.lemmas.{Bool.cases_Bool, Bool.Decides.nat_tests, Option.slice_get_cases, Option.same_Some}
 use Rattle.msg_buffer.specs.Prelude.{Entry, HasRisingStamps, History, IsPresent, IsSound, Kept, StandsFor, count, get, get_from, instance_of, instances, is_present, kept_instances, message_of, oldest}
 use Rattle.msg_buffer.proofs.{Histories.all_present, Histories.dropped, Histories.present_is_suffix, Histories.present_means, Numbers.slice_get-drop}
 
@@ -13,46 +13,27 @@ module _ {M : Type 0} where
       let means = present_means h n e is in
       rw is (all_present h (n + 1) e.stamp es (omega (arith, means.0)) means.1 rise).1
 
-  dropped_are_gone : (h : History M) (n low : ℕ) (es : List (Entry M)) (k : ℕ) (e : Entry M)
+  -- entry k of them is present if no more than k are dropped
+  present_at : (h : History M) (n low : ℕ) (es : List (Entry M)) (k : ℕ) (e : Entry M)
       → HasRisingStamps low es h.updates
-      → k < dropped (is_present h) n es → slice_get es k ≡ Some e → is_present h (n + k, e) ≡ false
-  dropped_are_gone h n low [] k e rise below at = absurd (omega arith)
-  dropped_are_gone h n low (d ∷ es) zero e rise below at = grind (arith, cases_Bool, none_dropped, same_Some)
-  dropped_are_gone h n low (d ∷ es) (suc k) e rise below at =
+      → slice_get es k ≡ Some e → is_present h (n + k, e) ≡ nat_le (dropped (is_present h) n es) k
+  present_at h n low [] k e rise at = absurd (cc)
+  present_at h n low (d ∷ es) zero e rise at = grind (arith, cases_Bool, none_dropped, same_Some)
+  present_at h n low (d ∷ es) (suc k) e rise at =
       let same : n + suc k ≡ n + 1 + k = omega arith in
-      rw same (grind (arith, cases_Bool, none_dropped, dropped_are_gone h (n + 1) d.stamp es k e rise.1))
+      let rest = present_at h (n + 1) d.stamp es k e rise.1 at in
+      rw same (grind (arith, cases_Bool (is_present h (n, d)), none_dropped h n d es, rise.1, rest))
 
-  others_are_present : (h : History M) (n low : ℕ) (es : List (Entry M)) (k : ℕ) (e : Entry M)
-      → HasRisingStamps low es h.updates
-      → dropped (is_present h) n es ≤ k → slice_get es k ≡ Some e → is_present h (n + k, e) ≡ true
-  others_are_present h n low [] k e rise above at = absurd (cc)
-  others_are_present h n low (d ∷ es) zero e rise above at = grind (arith, cases_Bool, same_Some)
-  others_are_present h n low (d ∷ es) (suc k) e rise above at =
-      let same : n + suc k ≡ n + 1 + k = omega arith in
-      rw same (grind (
-        arith,
-        cases_Bool (is_present h (n, d)),
-        none_dropped h n d es,
-        rise.1,
-        others_are_present h (n + 1) d.stamp es k e rise.1,
-      ))
-
-  pub gone_below_oldest : (h : History M) (k : ℕ) (e : Entry M) → IsSound h → k < oldest h → slice_get h.entries k
-      ≡ Some e → is_present h (k, e) ≡ false
-  gone_below_oldest h k e sound below at =
-      grind (arith, dropped_are_gone h 0 0 h.entries k e sound.stamps)
-
-  pub present_from_oldest : (h : History M) (k : ℕ) (e : Entry M) → IsSound h → oldest h ≤ k → slice_get h.entries k
-      ≡ Some e → is_present h (k, e) ≡ true
-  present_from_oldest h k e sound above at =
-      grind (arith, others_are_present h 0 0 h.entries k e sound.stamps)
+  pub present_from_oldest : (h : History M) (k : ℕ) (e : Entry M) → IsSound h → slice_get h.entries k ≡ Some e
+      → is_present h (k, e) ≡ nat_le (oldest h) k
+  present_from_oldest h k e sound at = grind (arith, present_at h 0 0 h.entries k e sound.stamps at)
 
   pub not_present : (h : History M) (k : ℕ) → IsSound h → k < oldest h → ¬ IsPresent h k
-  not_present h k sound below p = false≢true (sym (gone_below_oldest h k p.0 sound below p.1) ∙ p.2)
+  not_present h k sound below p = grind (arith, nat_tests, present_from_oldest h k p.0 sound p.1, p.2)
 
   pub is_there : (h : History M) (k : ℕ) → IsSound h → oldest h ≤ k → k < count h → IsPresent h k
   is_there h k sound above below = elim (slice_get_cases h.entries k).1 [
-    | inl found ↦ (found.0, found.2, present_from_oldest h k found.0 sound above found.2)
+    | inl found ↦ (found.0, found.2, grind (arith, nat_tests, present_from_oldest h k found.0 sound found.2))
     | inr past ↦ absurd (omega (arith, past.0))
   ]
 
@@ -71,7 +52,7 @@ module _ {M : Type 0} where
   found_in_history : (h : History M) (n : ℕ) (e : Option (Entry M)) → slice_get h.entries n ≡ e → IsSound h
       → option_map message_of (get_from (oldest h) (drop (oldest h) (instances h)) n) ≡ get h n
   found_in_history h n e is sound =
-      grind (arith, cases_Bool, gone_below_oldest, nat_tests, present_from_oldest, slice_get-drop, slice_get-instances)
+      grind (arith, cases_Bool, nat_tests, present_from_oldest, slice_get-drop, slice_get-instances)
 
   pub get_stands : (k : Kept M) (h : History M) (n : ℕ) → StandsFor k h
       → option_map message_of (get_from k.oldest (kept_instances k) n) ≡ get h n

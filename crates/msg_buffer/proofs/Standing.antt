@@ -1,8 +1,8 @@
 -- What a buffer stands for after each change.
-use Rattle.std.proofs.Common.{◌≡◌, suc, ◌+◌, ◌≤◌, List, [], ◌++◌, length, arith, length-append, append_assoc, append-nil}
+use Rattle.std.proofs.Common.{◌≡◌, ◌+◌, ◌≤◌, List, [], ◌++◌, length, arith, length-append, append_assoc, append-nil}
 use Rattle.std.proofs.lemmas.Bool.Decides.{nat_tests}
-use Rattle.msg_buffer.specs.Prelude.{History, Kept, StandsFor, clear, count, is_current, is_present, kept_count, numbered, oldest, present, stamped, update, write}
-use Rattle.msg_buffer.proofs.{Histories.dropped_and_kept, Histories.kept-append, Histories.kept_after_update, Histories.none_current_after_update, Histories.stamps_later, Histories.stamps-append, Histories.length-stamped, Histories.present-stamped, Histories.current-stamped, Histories.none_present_below, Histories.none_current_below, Numbers.length-numbered}
+use Rattle.msg_buffer.specs.Prelude.{History, Kept, StandsFor, clear, count, is_present, kept_count, numbered, oldest, present, stamped, update, write}
+use Rattle.msg_buffer.proofs.{Histories.dropped_and_kept, Histories.kept_after_update, Histories.none_current_after_update, Histories.stamps_later, Histories.of_stamped, Histories.none_present_below, Histories.none_current_below, Numbers.length-numbered}
 
 module _ {M : Type 0} where
   -- all but the dropped are kept
@@ -19,16 +19,8 @@ module _ {M : Type 0} where
 
   pub stands_updated : (k k' : Kept M) (h : History M) → IsUpdated k k' → StandsFor k h → StandsFor k' (update h)
   stands_updated k k' h is s =
-      grind (
-        arith,
-        is,
-        s,
-        stamps_later 0 h.updates (suc h.updates) h.entries,
-        kept_after_update h 0 0 h.entries,
-        none_current_after_update h 0 0 h.entries,
-        oldest_and_present (update h),
-        append-nil,
-      )
+      let all = oldest_and_present (update h) in
+      grind (arith, is, s, all, append-nil, stamps_later, kept_after_update, none_current_after_update)
 
   -- ---- a write
 
@@ -45,26 +37,8 @@ module _ {M : Type 0} where
   stands_added : (ms : List M) (k k' : Kept M) (h : History M) → IsWritten ms k k' → count h + length ms ≤ h.limit
       → StandsFor k h → StandsFor k' (added ms h)
   stands_added ms k k' h is room s =
-      let new = stamped h.updates ms in
-      let numbers = numbered (kept_count k) ms in
-      grind (
-        arith,
-        is,
-        s,
-        append_assoc,
-        oldest_and_present h,
-        oldest_and_present (added ms h),
-        length-numbered (kept_count k) ms,
-        length-append h.entries new,
-        length-stamped h.updates ms,
-        stamps-append 0 h.updates h.entries ms s.sound.stamps,
-        kept-append (is_present h) 0 h.entries new,
-        present-stamped h (count h) h.updates ms,
-        kept-append (is_current h) 0 h.entries new,
-        current-stamped h (count h) h.updates ms,
-        length-append (present h) numbers,
-        length-append k.newer numbers,
-      )
+      let old = oldest_and_present h in let new = oldest_and_present (added ms h) in
+      grind (arith, is, s, old, new, append_assoc, length-append, length-numbered, of_stamped)
 
   pub stands_written : (ms : List M) (k k' : Kept M) (h : History M) → IsWritten ms k k'
       → kept_count k + length ms ≤ k.limit → StandsFor k h → StandsFor k' (write ms h)
@@ -81,11 +55,4 @@ module _ {M : Type 0} where
 
   pub stands_cleared : (k k' : Kept M) (h : History M) → IsCleared k k' → StandsFor k h → StandsFor k' (clear h)
   stands_cleared k k' h is s =
-      grind (
-        arith,
-        is,
-        s,
-        none_present_below (clear h) 0 h.entries,
-        none_current_below (clear h) 0 h.entries,
-        oldest_and_present (clear h),
-      )
+      grind (arith, is, s, none_present_below, none_current_below, oldest_and_present (clear h))

@@ -10,7 +10,8 @@ module _ {M : Type 0} where
   length-at_most None xs = omega arith
   length-at_most (Some k) xs = grind (arith, common_steps)
 
-  pub take-at_most : (limit : Option ℕ) (xs : List (Instance M)) → at_most limit xs ≡ take (length (at_most limit xs)) xs
+  pub take-at_most : (limit : Option ℕ) (xs : List (Instance M))
+      → at_most limit xs ≡ take (length (at_most limit xs)) xs
   take-at_most None xs = sym (take-length xs)
   take-at_most (Some k) xs = grind (arith, common_steps)
 

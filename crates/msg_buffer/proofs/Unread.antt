@@ -8,13 +8,7 @@ use Rattle.msg_buffer.proofs.{Presence.kept_stands, Numbers.length-instances}
 pub rest_more : {X : Type 0} (start : ℕ) (xs : List X) (n : ℕ) (x : X) → get_from start xs n ≡ Some x
     → drop (n - start) xs ≡ x ∷ drop (n + 1 - start) xs
 rest_more start xs n x is =
-    grind (
-      arith,
-      nat_tests,
-      slice_get_within xs (n - start) x,
-      get_or_from_slice_get xs (n - start) x x,
-      drop_more xs (n - start) x,
-    )
+    grind (arith, nat_tests, slice_get_within, get_or_from_slice_get xs (n - start) x x, drop_more)
 
 pub rest_ends : {X : Type 0} (start : ℕ) (xs : List X) (n : ℕ) → start ≤ n → get_from start xs n ≡ None
     → drop (n - start) xs ≡ []

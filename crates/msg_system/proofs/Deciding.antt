@@ -1,28 +1,28 @@
 -- Turns that a behavior decides, op after op.
-use Rattle.std.proofs.Common.{refl, ◌≡◌, ℕ, zero, suc, ◌+◌, ◌≤◌, ◌++◌, List, [], ◌∷◌, length, Option, Some, None, sym, ◌∙◌, arith, inl, inr, append_assoc, drop}
+use Rattle.std.proofs.Common.{refl, ◌≡◌, ℕ, zero, suc, ◌+◌, ◌≤◌, ◌++◌, List, [], ◌∷◌, length, Option, Some, None, sym, arith, inl, inr, append_assoc, drop}
 use Rattle.std.proofs.lemmas.{List.length_push, Bool.cases_Bool, Bool.cases_eq, Bool.false≢true}
 use Rattle.std.proofs.Math.Seq.{drop-append_seam}
 use Rattle.msg_world.specs.declared.lent.Lent.{Lent}
-use Rattle.msg_world.specs.Prelude.{Parts, SameLoan, WorldState, taken_of}
-use Rattle.msg_system.specs.Prelude.{Covers, Meaning, Needs, Op, OpRan, Ran, Reply, Start, after_at_most, behaves, one_more, op_needs, turn}
-use Rattle.msg_system.specs.inner.TurnRuns.{AreAnswered, IsAfterProgram, TurnRan, next_kept}
-use Rattle.msg_system.proofs.{Lendings.writable_is_shown, Runs.op_more, Runs.written_stand, Turns.IsKept, Turns.ops_answered-snoc}
+use Rattle.msg_world.specs.Prelude.{SameLoan, WorldState}
+use Rattle.msg_system.specs.Prelude.{Covers, Needs, Op, OpRan, Reply, after_at_most, one_more, op_needs}
+use Rattle.msg_system.specs.inner.TurnRuns.{AreAnswered, IsAfterProgram}
+use Rattle.msg_system.proofs.{Lendings.writable_is_shown, Runs.op_more, Turns.IsKept, Turns.ops_answered-snoc}
 
 -- ---- a turn, op after op
 
--- a loan that covers what is needed covers each op that keeps to it
-pub covers_kept : (op : Op) (n : Needs) (l : Lent) → IsKept n op → Covers n l → Covers (op_needs op) l
-covers_kept op n l keeps covers = grind (arith, cases_Bool, writable_is_shown, false≢true)
+-- a loan that covers what is needed covers each op that keeps to it, also after a change of what it lets be written
+pub covers_kept : (op : Op) (n : Needs) (l m : Lent) → IsKept n op → SameLoan l m → Covers n l → Covers (op_needs op) m
+covers_kept op n l m keeps same covers =
+    let later : Covers n m = grind (arith, same, covers) in
+    grind (arith, keeps, later, cases_Bool, writable_is_shown, false≢true)
 
 module _ (next : List Reply → Option Op) (w : ℕ) (ps : ℕ → ℕ) (s : WorldState) where
   -- where the rule says that the turn is over, it stays as it is
   stays : (n k : ℕ) → k ≤ n → next (after_at_most k next w ps s).replies ≡ None → after_at_most n next w ps s
       ≡ after_at_most k next w ps s
   stays zero k le h = grind arith
-  stays (suc n) k le h = elim (cases_eq k (suc n)) [
-    | inl e ↦ rw e refl
-    | inr ne ↦ grind (arith, stays n k (omega (arith, le, ne)) h)
-  ]
+  stays (suc n) k le h =
+      elim (cases_eq k (suc n)) [ inl e ↦ rw e refl | inr ne ↦ grind (arith, stays n k (omega (arith, le, ne)) h) ]
 
   module _ (n k : ℕ) (qs : ℕ → ℕ) (l : Lent) (before out : List Reply) (long : n ≡ length before)
       (far : IsAfterProgram (after_at_most k next w ps s) qs l before out) where
@@ -56,31 +56,3 @@ answered_more next ops before after op r are is = (
   rw (ops_answered-snoc, ← is, are.2) refl,
   rw (length_push, length_push, are.3) refl,
 )
-
--- ---- a run of a system with a behavior
-
-module _ {M : Type 0} (n : Needs) (next : M → List Reply → Option Op) (remember : M → List Reply → M) where
-  -- what it means with this memory
-  abbrev pub meaning_by : Start → ℕ → (ℕ → ℕ) → List Op → M → Meaning
-  meaning_by start w ps last m =
-      record { needs = n; start = start; writer = w; places = ps; rule = behaves next remember m; last = last }
-
-  pub ran_behavior : (m new : M) (start : Start) (w : ℕ) (ps qs : ℕ → ℕ) (l k : Lent) (taken : Parts)
-      (before after : List Reply) (last ops : List Op)
-      → TurnRan (next_kept n next m) w ps qs l k before after → SameLoan l k → taken ≡ taken_of k
-      → AreAnswered (next_kept n next m) ops before after
-      → new ≡ remember m (drop (length before) after)
-      → Ran (meaning_by start w ps last m) (meaning_by start w qs ops new) l taken before after
-  unfolding turn
-  ran_behavior m new start w ps qs l k taken before after last ops ran alike is are learnt =
-      let rest : drop (length before) after ≡ are.0 = appended (next_kept n next m) ops before after are in
-      record {
-        replies = are.0;
-        appended = are.1;
-        one_each = are.3;
-        means = rw (learnt, rest, are.2) refl;
-        state = λ s stands. written_stand l k taken (after_at_most 64 (next_kept n next m) w ps s).state alike is
-            (ran s stands).stands;
-        answers = λ s stands. sym rest ∙ rw (ran s stands).same_replies (drop-append_seam before _);
-        places = λ s stands. (ran s stands).same_places;
-      }

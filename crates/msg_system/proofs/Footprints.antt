@@ -1,9 +1,9 @@
 -- Ops, turns, conditions and jobs use no more than they need.
-use Rattle.std.proofs.Common.{◌≡◌, ℕ, zero, suc, Bool, false, List, [], ◌∷◌, length, map, Option, None, Some, refl, subst, ◌∙◌, arith, IfSome, IsTrue}
-use Rattle.std.proofs.Math.Bool.{or-false}
+use Rattle.std.proofs.Common.{◌≡◌, ℕ, zero, suc, Bool, false, List, [], ◌∷◌, length, map, Option, None, Some, refl, ap, ◌∙◌, arith, IfSome, IsTrue}
+use Rattle.std.proofs.Math.{Bool.or-false, Path.fun_ext}
 use Rattle.std.proofs.lemmas.Bool.{cases_Bool, false≢true, or_left, or_right}
 use Rattle.msg_world.specs.Prelude.{OfResource, OfType, Part, Registry, WorldState, content}
-use Rattle.msg_system.specs.Prelude.{AfterProgram, Agree, Asked, ConditionFootprint, HasFootprint, IsWithin, Job, JobFootprint, Meaning, Needs, OnMessage, Op, OpFootprint, Probe, Program, ProgramFootprint, Reply, ResourceEquals, TurnFootprint, Zero, after_asking, after_at_most, after_op, all_hold, conditions_of, found, given_by_op, given_by_program, is_part, needs_any, next_op, of_program, one_more, op_needs, op_parts, place_after, probe_part, program_needs, some_condition_reads, turn, with_conditions}
+use Rattle.msg_system.specs.Prelude.{AfterProgram, Agree, Asked, ConditionFootprint, HasFootprint, IsWithin, Job, JobFootprint, Meaning, OnMessage, Op, OpFootprint, Probe, Program, ProgramFootprint, Reply, ResourceEquals, TurnFootprint, Zero, after_asking, after_at_most, after_op, all_hold, conditions_of, found, given_by_program, is_part, needs_any, next_op, of_program, one_more, op_needs, op_parts, place_after, probe_part, some_condition_reads, turn, with_conditions}
 use Rattle.msg_system.proofs.{Runs.same_part_refl, Turns.IsKept, Turns.next_kept_to, Turns.program_so_far}
 
 -- ---- what is kept
@@ -23,93 +23,79 @@ module _ (m : Part → Bool) (s t : WorldState) (agree : Agree m s t) where
     part_agrees None used = tt
     part_agrees (Some p) used = agree p (within p (used p (same_part_refl p)))
 
-    read_agrees : IfSome (op_parts op).read (λ p. content p s ≡ content p t)
-    read_agrees = part_agrees (op_parts op).read (λ p. or_left _ _)
-
-    written_agrees : IfSome (op_parts op).written (λ p. content p s ≡ content p t)
-    written_agrees = part_agrees (op_parts op).written (λ p. or_right _ _)
-
-    op_same : given_by_op (after_op op w ps s) ≡ given_by_op (after_op op w ps t)
-    op_same = grind (arith, read_agrees, written_agrees)
+    agrees : IfSome (op_parts op).read (λ p. content p s ≡ content p t)
+        × IfSome (op_parts op).written (λ p. content p s ≡ content p t)
+    agrees = (part_agrees (op_parts op).read (λ p. or_left _ _), part_agrees (op_parts op).written (λ p. or_right _ _))
 
     op_alike : Agree m (after_op op w ps s).state (after_op op w ps t).state
-    op_alike (OfType u) h = grind (arith, read_agrees, written_agrees, agree (OfType u) h)
-    op_alike (OfResource r) h = grind (arith, read_agrees, written_agrees, agree (OfResource r) h)
+    op_alike (OfType u) h = grind (arith, agrees, agree (OfType u) h)
+    op_alike (OfResource r) h = grind (arith, agrees, agree (OfResource r) h)
     op_alike Registry h = grind (arith, agree Registry h)
 
 pub op_footprint : OpFootprint
 op_footprint op w ps = record {
   kept = op_kept op w ps;
-  same = λ m s t within agree. op_same m s t agree op w ps within;
+  same = λ m s t within agree. grind (arith, agrees m s t agree op w ps within);
   alike = λ m s t within agree. op_alike m s t agree op w ps within;
 }
 
 -- ---- turns
 
-module _ (n : Needs) (next : List Reply → Option Op)
-    (keeps : (replies : List Reply) (op : Op) → next replies ≡ Some op → IsKept n op) (w : ℕ) (ps : ℕ → ℕ) where
-  more_kept : (o : Option Op) (far : AfterProgram) (p : Part) → ((op : Op) → o ≡ Some op → IsKept n op)
-      → n.writes p ≡ false
-      → content p (one_more o w far).state ≡ content p far.state
+module _ (m : Meaning) where
+  -- the first ops of a turn
+  abbrev after : ℕ → WorldState → AfterProgram
+  after k s = after_at_most k (next_op m) m.writer m.places s
+
+  more_kept : (o : Option Op) (far : AfterProgram) (p : Part) → ((op : Op) → o ≡ Some op → IsKept m.needs op)
+      → m.needs.writes p ≡ false → content p (one_more o m.writer far).state ≡ content p far.state
   more_kept None far p kept h = refl
   more_kept (Some op) far p kept h =
-      op_kept op w far.places far.state p (grind (arith, kept op refl, cases_Bool, false≢true))
+      op_kept op m.writer far.places far.state p (grind (arith, kept op refl, cases_Bool, false≢true))
 
-  turn_kept : (k : ℕ) (s : WorldState) (p : Part) → n.writes p ≡ false → content p (after_at_most k next w ps s).state
-      ≡ content p s
+  turn_kept : (k : ℕ) (s : WorldState) (p : Part) → m.needs.writes p ≡ false → content p (after k s).state ≡ content p s
   turn_kept zero s p h = refl
   turn_kept (suc k) s p h =
-      let far : AfterProgram = after_at_most k next w ps s in
-      more_kept (next far.replies) far p (keeps far.replies) h ∙ turn_kept k s p h
+      more_kept (next_op m (after k s).replies) (after k s) p (next_kept_to m.needs _) h ∙ turn_kept k s p h
 
-  module _ (m : Part → Bool) (within : IsWithin n m) where
+  module _ (among : Part → Bool) (within : IsWithin m.needs among) where
     record AreAlike (a b : AfterProgram) : Type 0 where
       same : given_by_program a ≡ given_by_program b
-      agree : Agree m a.state b.state
+      agree : Agree among a.state b.state
 
-    more_alike : (o : Option Op) (a b : AfterProgram) → ((op : Op) → o ≡ Some op → IsKept n op) → AreAlike a b
-        → AreAlike (one_more o w a) (one_more o w b)
+    more_alike : (o : Option Op) (a b : AfterProgram) → ((op : Op) → o ≡ Some op → IsKept m.needs op) → AreAlike a b
+        → AreAlike (one_more o m.writer a) (one_more o m.writer b)
     more_alike None a b kept alike = alike
     more_alike (Some op) a b kept alike =
-        let foot = op_footprint op w a.places in
-        let in_m : IsWithin (op_needs op) m = λ p h. within p (grind (arith, kept op refl)) in
+        let foot = op_footprint op m.writer a.places in
+        let in_m : IsWithin (op_needs op) among = λ p h. within p (grind (arith, kept op refl)) in
         record {
-          same = grind (arith, alike.same, foot.same m a.state b.state in_m alike.agree);
-          agree = λ p h. grind (arith, alike.same, foot.alike m a.state b.state in_m alike.agree p h);
+          same = grind (arith, alike.same, foot.same among a.state b.state in_m alike.agree);
+          agree = λ p h. grind (arith, alike.same, foot.alike among a.state b.state in_m alike.agree p h);
         }
 
-    turn_alike : (k : ℕ) (s t : WorldState) → Agree m s t
-        → AreAlike (after_at_most k next w ps s) (after_at_most k next w ps t)
+    turn_alike : (k : ℕ) (s t : WorldState) → Agree among s t → AreAlike (after k s) (after k t)
     turn_alike zero s t agree = record { same = refl; agree = agree }
     turn_alike (suc k) s t agree =
-        let a : AfterProgram = after_at_most k next w ps s in
-        let b : AfterProgram = after_at_most k next w ps t in
-        let far = turn_alike k s t agree in
-        subst (λ (g : (ℕ → ℕ) × List Reply). AreAlike (one_more (next a.replies) w a) (one_more (next g.1) w b))
-        far.same (more_alike (next a.replies) a b (keeps a.replies) far)
+        let far = turn_alike k s t agree in let next = λ (g : (ℕ → ℕ) × List Reply). next_op m g.1 in
+        rw (← ap next far.same)
+        (more_alike (next_op m (after k s).replies) (after k s) (after k t) (next_kept_to m.needs _) far)
 
--- the first ops of a turn
-first_ops : (k : ℕ) (m : Meaning) → HasFootprint m.needs (λ (e : AfterProgram). e.state) given_by_program
-    (after_at_most k (next_op m) m.writer m.places)
-first_ops k m =
-    let keeps : (replies : List Reply) (op : Op) → next_op m replies ≡ Some op → IsKept m.needs op =
-    λ replies. next_kept_to m.needs (m.rule [] replies) in
-    record {
-      kept = turn_kept m.needs (next_op m) keeps m.writer m.places k;
-      same = λ p s t within agree. (turn_alike m.needs (next_op m) keeps m.writer m.places p within k s t agree).same;
-      alike = λ p s t within agree. (turn_alike m.needs (next_op m) keeps m.writer m.places p within k s t agree).agree;
-    }
+  first_ops : (k : ℕ) → HasFootprint m.needs (λ (e : AfterProgram). e.state) given_by_program (after k)
+  first_ops k = record {
+    kept = turn_kept k;
+    same = λ among s t within agree. (turn_alike among within k s t agree).same;
+    alike = λ among s t within agree. (turn_alike among within k s t agree).agree;
+  }
 
 pub turn_footprint : TurnFootprint
 unfolding turn
-turn_footprint m = first_ops 64 m
+turn_footprint m = first_ops m 64
 
 pub program_footprint : ProgramFootprint
 program_footprint ops w ps =
     let program : Program = record { ops = ops; start = Zero } in
-    subst (λ f. HasFootprint (program_needs ops) (λ (e : AfterProgram). e.state) given_by_program f)
-    (λ k s. program_so_far program (length ops) w ps s (omega arith) k)
-    (first_ops (length ops) (of_program program w ps))
+    rw (← fun_ext (λ s. program_so_far program (length ops) w ps s (omega arith)))
+    (first_ops (of_program program w ps) (length ops))
 
 -- ---- conditions
 
@@ -124,11 +110,8 @@ condition_footprint a m s t within agree =
     let alike = probe_alike _ a.place s t (agree p (within p (or_left _ false (same_part_refl p)))) in
     (rw alike.0 refl, rw alike.1 refl)
 
--- the parts that some conditions read are among these
-abbrev AllAskedIn : List Asked → (Part → Bool) → Type 0
-AllAskedIn asked m = (p : Part) → IsTrue (some_condition_reads (map (λ a. a.condition) asked) p) → IsTrue (m p)
-
-all_alike : (asked : List Asked) (m : Part → Bool) (s t : WorldState) → AllAskedIn asked m → Agree m s t
+all_alike : (asked : List Asked) (m : Part → Bool) (s t : WorldState)
+    → ((p : Part) → IsTrue (some_condition_reads (map (λ a. a.condition) asked) p) → IsTrue (m p)) → Agree m s t
     → (all_hold asked s ≡ all_hold asked t) × (map (after_asking s) asked ≡ map (after_asking t) asked)
 all_alike [] m s t within agree = (refl, refl)
 all_alike (a ∷ asked) m s t within agree =
@@ -143,7 +126,7 @@ module _ (j : Job) (m : Part → Bool) (within : IsWithin (with_conditions j.sys
   system_in : IsWithin j.system.needs m
   system_in p h = within p (grind (arith, or_right, false≢true))
 
-  conditions_in : AllAskedIn j.conditions m
+  conditions_in : (p : Part) → IsTrue (some_condition_reads (conditions_of j) p) → IsTrue (m p)
   conditions_in p h = within p (grind (arith, or_right))
 
 pub job_footprint : JobFootprint

@@ -1,12 +1,10 @@
 -- What is read from a loan, and written through it.
-use Rattle.std.proofs.Common.{◌≡◌, ℕ, ◌+◌, ◌≤◌, ◌<◌, List, [], ◌∷◌, length, map, Some, None, refl, arith, ℤ, Result, IsSome, OnErr}
+use Rattle.std.proofs.Common.{◌≡◌, ℕ, List, [], ◌∷◌, map, Some, refl, arith, ℤ, IsSome}
 use Rattle.std.specs.List.{AllZip}
-use Rattle.std.proofs.lemmas.{Bool.cases_Bool, Bool.cases_lt, Bool.false≢true, Grind.common_steps, Int.to_z-of_z, List.length-map, Bool.Decides.nat_tests}
-use Rattle.msg_buffer.specs.declared.instance.Written.{Written}
-use Rattle.msg_buffer.specs.Prelude.{History, Kept, StandsFor, count, write}
+use Rattle.std.proofs.lemmas.{Bool.cases_Bool, Bool.cases_lt, Bool.false≢true, Grind.common_steps, Int.to_z-of_z, Bool.Decides.nat_tests}
+use Rattle.msg_buffer.specs.Prelude.{Kept, StandsFor}
 use Rattle.msg_world.specs.{declared.lent.Lent.Lent, declared.record.Record.Record}
 use Rattle.msg_world.specs.Prelude.{LoanStands, OfResource, OfType, Part, WorldState, shown, writable}
-use Rattle.msg_system.specs.Prelude.{numbers_for}
 
 -- what may be written is shown
 pub writable_is_shown : (p : Part) (l : Lent) → IsSome (writable p l) → shown p l ≡ writable p l
@@ -22,28 +20,6 @@ pub written_messages_stand : (l : Lent) (s : WorldState) (t : ℕ) (k : Kept Rec
 written_messages_stand l s t k there is stand =
     rw (writable_is_shown (OfType t) l there, ← is) at (stand (OfType t))
 
-module _ (h : History Record) (n : ℕ) where
-  -- the numbers of a write that fits
-  pub numbers_fit : (w : Written) → count h + n ≤ h.limit → w.first ≡ count h → w.n ≡ n → Some w ≡ numbers_for h n
-  numbers_fit w room first number = grind (arith, nat_tests)
-
-  -- and of one that doesn't
-  pub numbers_spent : h.limit < count h + n → None ≡ numbers_for h n
-  numbers_spent spent = grind (arith, nat_tests)
-
-  -- where they aren't spent, there are numbers
-  pub numbers_left : ¬ (h.limit < count h + n) → IsSome (numbers_for h n)
-  numbers_left not_spent = grind (arith, cases_lt, nat_tests)
-
--- what holds in any case holds after a refusal
-pub on_err : {T E : Type 0} (r : Result T E) (P : Type 0) → P → OnErr r P
-on_err r P z2 = grind arith
-
--- a write that doesn't fit changes nothing
-pub spent_stands : (h : History Record) (ms : List Record) (k : Kept Record) → h.limit < count h + length ms
-    → StandsFor k h → StandsFor k (write ms h)
-spent_stands h ms k spent stands = grind (arith, nat_tests)
-
 -- what a function makes of items, where it gives what `f` gives
 pub made_by : {X M : Type 0} (R : X → M → Type 0) (f : X → M) → ((x : X) (m : M) → R x m → m ≡ f x)
     → (xs : List X) (ms : List M) → AllZip R xs ms → ms ≡ map f xs
@@ -52,15 +28,4 @@ made_by R f is (x ∷ xs) (m ∷ ms) made = rw (is x m made.0, made_by R f is xs
 made_by R f is xs ms made = absurd made
 
 -- what functions on a loan go by
-pub ruleset of_loans = (
-  common_steps,
-  to_z-of_z,
-  length-map,
-  on_err,
-  value_stands,
-  written_messages_stand,
-  numbers_fit,
-  numbers_spent,
-  numbers_left,
-  spent_stands,
-)
+pub ruleset of_loans = (common_steps, to_z-of_z, value_stands, written_messages_stand, cases_lt, nat_tests)

@@ -2,7 +2,6 @@
 pub mod Accesses
 -- What an op does to its loan and its cursor
 mod Lendings
-mod CopiedReads
 -- Programs op by op, and systems
 mod Runs
 pub mod Turns

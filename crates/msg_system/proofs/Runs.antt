@@ -2,8 +2,8 @@
 use Rattle.std.proofs.Common.{◌≡◌, ℕ, ◌<◌, ◌++◌, true, List, [], ◌∷◌, length, Some, get_or, refl, ap, arith, append_assoc, IsSome, slice_set}
 use Rattle.std.proofs.lemmas.{Bool.cases_eq, Bool.eq-eqb, Bool.ne_eqb, List.get_or_default, List.get_or-set_same, List.get_or-set_other}
 use Rattle.msg_world.specs.declared.lent.Lent.{Lent}
-use Rattle.msg_world.specs.Prelude.{LoanStands, Part, Parts, SameLoan, WorldState, same_part, shown, taken_of, writable}
-use Rattle.msg_system.specs.Prelude.{AfterOp, AfterProgram, Covers, Cursors, Needs, Op, OpRan, Reply, WrittenStand, after_op, after_program, one_more, op_needs, op_parts, places_of, with_place}
+use Rattle.msg_world.specs.Prelude.{Part, SameLoan, WorldState, same_part, shown, writable}
+use Rattle.msg_system.specs.Prelude.{AfterOp, AfterProgram, Covers, Cursors, Op, OpRan, Reply, after_op, after_program, one_more, op_needs, op_parts, places_of, with_place}
 use Rattle.msg_system.specs.inner.TurnRuns.{IsAfterProgram}
 
 pub same_part_refl : (p : Part) → same_part p p ≡ true
@@ -19,14 +19,6 @@ pub covers_written : (op : Op) (l : Lent) (p : Part) → Covers (op_needs op) l 
     → IsSome (writable p l)
 covers_written op l p covers is = covers.writes p (rw is (same_part_refl p))
 
--- the cursors, after the one in a type was moved
-abbrev pub moved : Cursors → ℕ → ℕ → Cursors
-moved cs t place = record { by_type = slice_set cs.by_type t place }
-
-moved_place : (cs : Cursors) (t place : ℕ) → t < length cs.by_type → places_of (moved cs t place)
-    ≡ with_place (places_of cs) t place
-moved_place cs t place lt = grind (arith, cases_eq, get_or-set_same, eq-eqb, get_or-set_other, ne_eqb)
-
 -- one of the cursors of all types, as the array has it
 module _ (cs : Cursors) (t k d : ℕ) (long : length cs.by_type ≡ 64) (is : k ≡ t) (lt : t < 64) where
   pub place_at : places_of cs t ≡ get_or cs.by_type k d
@@ -35,20 +27,16 @@ module _ (cs : Cursors) (t k d : ℕ) (long : length cs.by_type ≡ 64) (is : k 
   -- an op that moves it
   pub ran_at : (op : Op) (w new : ℕ) (l m : Lent) (r : Reply)
       → ((places : ℕ → ℕ) → places t ≡ get_or cs.by_type k d → OpRan op w places (with_place places t new) l m r)
-      → OpRan op w (places_of cs) (places_of (moved cs k new)) l m r
+      → OpRan op w (places_of cs) (places_of (record { by_type = slice_set cs.by_type k new })) l m r
   ran_at op w new l m r ran =
-      let within : t < length cs.by_type = omega (arith, long, lt) in
-      rw (is, moved_place cs t new within) (ran (places_of cs) place_at)
+      let moves : places_of (record { by_type = slice_set cs.by_type t new }) ≡ with_place (places_of cs) t new =
+      grind (arith, long, lt, cases_eq, get_or-set_same, eq-eqb, get_or-set_other, ne_eqb) in
+      rw (is, moves) (ran (places_of cs) place_at)
 
--- ---- a loan that covers, after a change of what it lets be written
-
-pub covers_later : (n : Needs) (l m : Lent) → SameLoan l m → Covers n l → Covers n m
-covers_later n l m same covers = grind arith
+-- ---- one op more
 
 pub same_loan_trans : (l m n : Lent) → SameLoan l m → SameLoan m n → SameLoan l n
 same_loan_trans l m n a b = grind arith
-
--- ---- one op more
 
 pub after_program-snoc : (ops : List Op) (op : Op) (w : ℕ) (ps : ℕ → ℕ) (s : WorldState)
     → after_program (ops ++ op ∷ []) w ps s ≡ one_more (Some op) w (after_program ops w ps s)
@@ -62,10 +50,3 @@ pub op_more : (op : Op) (w : ℕ) (qs rs : ℕ → ℕ) (l m : Lent) (e : AfterP
     → IsAfterProgram e qs l before after → OpRan op w qs rs l m r
     → IsAfterProgram (one_more (Some op) w e) rs m before (after ++ r ∷ [])
 op_more op w qs rs l m e before after r far ran = grind (arith, append_assoc, far, ran e.state far.stands)
-
--- ---- a run of a system
-
--- what a loan's access writes, as the loan ends, stands for what the loan stands for
-pub written_stand : (l m : Lent) (taken : Parts) (s : WorldState) → SameLoan l m → taken ≡ taken_of m → LoanStands m s
-    → WrittenStand l taken s
-written_stand l m taken s same is stands p written = grind arith

@@ -1,12 +1,12 @@
 -- A turn by a program's rule is its ops in order.
 use Rattle.std.proofs.Common.{◌≡◌, ℕ, zero, suc, ◌≤◌, ◌++◌, Bool, true, List, [], ◌∷◌, length, Option, Some, None, take, refl, sym, ap, ◌∙◌, arith, inl, inr, append_assoc, option_to_list, IsTrue, slice_get}
-use Rattle.std.proofs.Math.Seq.{drop-append_seam}
-use Rattle.std.proofs.lemmas.{Bool.and_from, Bool.and_parts, Bool.eqb-true, Bool.false≢true, List.append-nil, List.length-take-le, List.take_more, List.take_all, List.Folds.list_any_at, Option.get_or_from_slice_get, Option.none-some, Option.same_Some, Option.slice_get_cases, Option.slice_get_past, Option.slice_get_within}
+use Rattle.std.proofs.Math.Path.{fun_ext}
+use Rattle.std.proofs.lemmas.{Bool.and_from, Bool.and_parts, Bool.eqb-true, Bool.false≢true, List.append-nil, List.append_cancel_left, List.length-take-le, List.take_more, List.take_all, List.Folds.list_any_at, Option.get_or_from_slice_get, Option.none-some, Option.same_Some, Option.slice_get_cases, Option.slice_get_past, Option.slice_get_within}
 use Rattle.msg_world.specs.Prelude.{Part, Parts, SameLoan, WorldState, taken_of}
 use Rattle.msg_world.specs.declared.lent.Lent.{Lent}
-use Rattle.msg_system.specs.Prelude.{IsInOrder, Meaning, Needs, OneOpIsATurn, Op, Program, Ran, Reply, after_at_most, after_op, after_program, if_kept, is_none_or, is_part, keeps_to, may_read, next_op, of_program, only, op_needs, op_parts, ops_answered, program_needs, turn}
-use Rattle.msg_system.specs.inner.TurnRuns.{HasReplies, ProgramRan}
-use Rattle.msg_system.proofs.Runs.{after_program-snoc, same_part_refl, written_stand}
+use Rattle.msg_system.specs.Prelude.{IsInOrder, Meaning, Needs, OneOpIsATurn, Op, Program, Ran, Reply, after_at_most, after_op, after_program, if_kept, is_none_or, is_part, keeps_to, may_read, next_op, of_program, only, op_needs, op_parts, ops_answered, program_needs, told, turn}
+use Rattle.msg_system.specs.inner.TurnRuns.{AreAnswered, HasReplies, ProgramRan, TurnRan}
+use Rattle.msg_system.proofs.Runs.{after_program-snoc, same_part_refl}
 
 -- ---- a program keeps to what it needs
 
@@ -25,10 +25,7 @@ op_kept ops i op is =
 
 program_nexts : (program : Program) (w : ℕ) (ps : ℕ → ℕ) → next_op (of_program program w ps)
     ≡ (λ (rs : List Reply). slice_get program.ops (length rs))
-program_nexts program w ps = λ k rs. program_next rs k
-  where
-    program_next : (rs : List Reply) → next_op (of_program program w ps) rs ≡ slice_get program.ops (length rs)
-    program_next rs = grind (arith, op_kept)
+program_nexts program w ps = fun_ext (λ rs. grind (arith, op_kept))
 
 -- ---- a program is its ops in order
 
@@ -89,7 +86,7 @@ pub record IsKept (n : Needs) (op : Op) : Type 0 where
   pub reads : (p : Part) → IsTrue ((op_needs op).reads p) → IsTrue (may_read n p)
   pub writes : (p : Part) → IsTrue ((op_needs op).writes p) → IsTrue (n.writes p)
 
-pub kept : (n : Needs) (op : Op) → IsTrue (keeps_to n op) → IsKept n op
+kept : (n : Needs) (op : Op) → IsTrue (keeps_to n op) → IsKept n op
 kept n op h = grind (arith, and_parts, eqb-true, false≢true)
 
 -- what comes next keeps to what is needed
@@ -97,7 +94,24 @@ pub next_kept_to : (n : Needs) (o : Option Op) (op : Op) → if_kept n o ≡ Som
 next_kept_to n None op is = absurd (none-some op is)
 next_kept_to n (Some x) op is = grind (arith, none-some, same_Some, kept n x)
 
--- ---- a run of a program
+-- ---- a run of a turn
+
+-- a turn that was answered so, where the system then means what it was told
+pub ran_turn : (old new : Meaning) (l m : Lent) (taken : Parts) (before after : List Reply)
+    → TurnRan (next_op old) old.writer old.places new.places l m before after → SameLoan l m → taken ≡ taken_of m
+    → (are : AreAnswered (next_op old) new.last before after) → new ≡ record (told are.0 old) { places = new.places }
+    → Ran old new l taken before after
+unfolding turn
+ran_turn old new l m taken before after ran same is are means =
+    record {
+      replies = are.0;
+      appended = are.1;
+      one_each = are.3;
+      means = means;
+      state = λ s stands p written. grind (arith, same, is, (ran s stands).stands);
+      answers = λ s stands. append_cancel_left before _ _ (sym are.1 ∙ (ran s stands).same_replies);
+      places = λ s stands. (ran s stands).same_places;
+    }
 
 pub ran_program : (program : Program) (w : ℕ) (ps qs : ℕ → ℕ) (l m : Lent) (taken : Parts) (before after : List Reply)
     → length program.ops ≤ 64
@@ -105,21 +119,10 @@ pub ran_program : (program : Program) (w : ℕ) (ps qs : ℕ → ℕ) (l m : Len
     → taken ≡ taken_of m
     → Ran (of_program program w ps) (of_program program w qs) l taken before after
 ran_program program w ps qs l m taken before after few ran replies same is =
-    record {
-      replies = replies.0;
-      appended = replies.1;
-      one_each = sym replies.2;
-      means = rw (answered_all program w ps replies.0 replies.2) refl;
-      state = λ s stands. rw (in_order program w ps s few).0
-          (written_stand l m taken (after_program program.ops w ps s).state same is (ran s stands).stands);
-      answers = λ s stands. rw (
-        (in_order program w ps s few).0,
-        ← drop-append_seam before replies.0,
-        ← replies.1,
-        (ran s stands).same_replies,
-      ) (drop-append_seam before _);
-      places = λ s stands. rw (in_order program w ps s few).0 (ran s stands).same_places;
-    }
+    let all = answered_all program w ps replies.0 replies.2 in
+    ran_turn (of_program program w ps) (of_program program w qs) l m taken before after
+    (λ s stands. rw (program_so_far program 64 w ps s few) (ran s stands)) same is
+    (replies.0, replies.1, sym all, sym replies.2) (rw all refl)
 
 pub one_op_is_a_turn : OneOpIsATurn
 one_op_is_a_turn op start w ps qs l m before r ran same =

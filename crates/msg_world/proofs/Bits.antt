@@ -73,18 +73,18 @@ none_from mask n gone k le = grind (arith, shifted mask n (k - n), has_bit-zero 
 
 -- the next bit that is set from n on
 module _ (mask n : ℕ) (fits : mask < 2 ^ 64) (some : mask / 2 ^ n ≢ 0) where
-  lowest : (trailing_zeros w64 (mask / 2 ^ n) < 64) × (bit_at (mask / 2 ^ n) (trailing_zeros w64 (mask / 2 ^ n)) ≡ 1)
-      × ((i : ℕ) → i < trailing_zeros w64 (mask / 2 ^ n) → bit_at (mask / 2 ^ n) i ≡ 0)
-  lowest = bit_at-trailing_zeros w64 (mask / 2 ^ n) (omega arith) (omega (arith, div-le_self mask (2 ^ n)))
-
   pub next_is_set : IsTrue (has_bit mask (n + trailing_zeros w64 (mask / 2 ^ n)))
-  next_is_set = grind (arith, eqb_tells, lowest.1, shifted mask n (trailing_zeros w64 (mask / 2 ^ n)))
+  next_is_set =
+      let lowest = bit_at-trailing_zeros w64 (mask / 2 ^ n) (omega arith) (omega (arith, div-le_self mask (2 ^ n))) in
+      grind (arith, eqb_tells, lowest.1, shifted mask n (trailing_zeros w64 (mask / 2 ^ n)))
 
   pub next_is_below : n + trailing_zeros w64 (mask / 2 ^ n) < 64
   next_is_below = grind (arith, cases_lt, false≢true, has_bit-above, next_is_set)
 
   pub none_before_next : (k : ℕ) → n ≤ k → k < n + trailing_zeros w64 (mask / 2 ^ n) → has_bit mask k ≡ false
-  none_before_next k le lt = grind (arith, nat_tests, shifted mask n (k - n), lowest.2 (k - n))
+  none_before_next k le lt =
+      let lowest = bit_at-trailing_zeros w64 (mask / 2 ^ n) (omega arith) (omega (arith, div-le_self mask (2 ^ n))) in
+      grind (arith, nat_tests, shifted mask n (k - n), lowest.2 (k - n))
 
 -- the test `mask >> n == 0`
 pub shr-is_below : (mask n : ℕ) → mask < 2 ^ 64 → IsTrue (mask / 2 ^ n == 0) ↔ IsBelow mask n
@@ -127,16 +127,6 @@ pub all_below : (mask n : ℕ) → mask < 2 ^ 64 → 64 ≤ n → (k : ℕ) → 
 all_below mask n fits past k = grind (arith, cases_lt, lt-ltb, and-true, has_bit-above)
 
 -- what the functions of masks are proved by
-pub ruleset of_masks = (
-  has_bit-or,
-  has_bit-set,
-  has_bit-clear,
-  has_bit-above,
-  share_bit-and,
-  shr-is_below,
-  none_from,
-  next_is_set,
-  next_is_below,
-  none_before_next,
-  as_many_ones,
-)
+pub ruleset next_bits = (none_from, next_is_set, next_is_below, none_before_next, as_many_ones)
+
+pub ruleset of_masks = (has_bit-or, has_bit-set, has_bit-clear, share_bit-and, shr-is_below, next_bits)

@@ -1,8 +1,8 @@
 -- Conflicts, clashes and limits of accesses by their masks.
-use Rattle.std.proofs.Common.{arith, ℕ, ◌<◌, Bool, ◌&&◌, ◌||◌, inl, inr, ◌⊎◌, sym, ◌∙◌, ◌↔◌, IsTrue, bit_or}
+use Rattle.std.proofs.Common.{arith, ℕ, Bool, ◌&&◌, ◌||◌, inl, inr, ◌⊎◌, sym, ◌∙◌, ◌↔◌, IsTrue, bit_or}
 use Rattle.std.proofs.lemmas.Bool.{cases_Bool, or_cases, false≢true}
-use Rattle.msg_world.specs.Prelude.{Access, Conflict, IsClash, OfResource, OfType, Part, Registry, has_bit, uses, writes}
-use Rattle.msg_world.specs.inner.Masks.{ShareBit, Collide, IsBelow}
+use Rattle.msg_world.specs.Prelude.{Access, Conflict, IsClash, OfResource, OfType, Part, Registry, uses, writes}
+use Rattle.msg_world.specs.inner.Masks.{ShareBit, Collide}
 use Rattle.msg_world.proofs.Bits.{has_bit-or, share_bit-and}
 
 -- the tests of two pairs of masks say whether they collide
@@ -18,9 +18,6 @@ collides r w s v first second f g = (
     | inr h ↦ grind (arith, g.1 (c.0, rw (has_bit-or r w c.0) h))
   ],
 )
-
-pub is_below-or : (r w n : ℕ) → IsBelow (bit_or r w) n ↔ ((k : ℕ) → IsTrue (has_bit r k || has_bit w k) → k < n)
-is_below-or r w n = grind (arith, has_bit-or)
 
 -- the tests of the masks say whether there is such a part
 pub conflicts_lem : (a b : Access) (types resources : Bool) → IsTrue types

@@ -1,15 +1,11 @@
 -- What loans stand for.
-use Rattle.std.proofs.Common.{arith, ◌≡◌, ℕ, ◌<◌, length, true, false, refl, subst, ◌∙◌, inr, Option, Some, None, ℤ, IsSome, List, IsTrue, option_map, if◌then◌else◌}
-use Rattle.std.proofs.lemmas.{Bool.Decides.eqb_tells, Bool.false_from_ne_true, Bool.cases_Bool, Bool.cases_eq, Bool.cases_lt, Bool.false≢true, List.get_or-set_same, List.get_or-set_other, List.get_or_past, Option.none-some}
+use Rattle.std.proofs.Common.{arith, ◌≡◌, true, false, refl, ◌∙◌, inr, Some, None, IsSome, IsTrue, option_map, if◌then◌else◌}
+use Rattle.std.proofs.lemmas.{Bool.Decides.eqb_tells, Bool.false_from_ne_true, Bool.cases_Bool, Bool.false≢true, Option.none-some}
 use Rattle.std.proofs.Math.ListN.{length-set}
-use Rattle.msg_world.specs.Prelude.{Access, HomeAgain, HomeMerges, Lent, LoanEnds, LoanStands, LoanStays, MayComeHome, OfResource, OfType, Part, Parts, PartsStand, Registry, SameShape, ValuesStand, WorldState, WritesStand, after_signal, content, merge, signalled_marks, slot, with_value, writable, writes}
-use Rattle.msg_world.specs.inner.Slots.{at}
-use Rattle.msg_world.proofs.Worlds.{type_shape}
+use Rattle.msg_world.specs.Prelude.{Access, HomeMerges, Lent, LoanEnds, LoanStands, LoanStays, OfResource, OfType, Part, Parts, Registry, SameShape, ValuesStand, WorldState, WritesStand, after_signal, content, merge, signalled_marks, slot, writable, writes}
+use Rattle.msg_world.proofs.Worlds.{at_set, there_below, there_still, type_shape}
 
-abbrev pub with_signal : Parts → Parts
-with_signal w = record w { marks = option_map signalled_marks w.marks }
-
-pub with_signal_shape : (w : Parts) → SameShape w (with_signal w)
+pub with_signal_shape : (w : Parts) → SameShape w (record w { marks = option_map signalled_marks w.marks })
 with_signal_shape w = record {
   size = record { types = refl; resources = refl };
   there = elim [ OfType t ↦ refl | OfResource r ↦ refl | Registry ↦ grind arith ];
@@ -17,15 +13,13 @@ with_signal_shape w = record {
 
 -- a loan of the registry, after a signal
 pub signal_stands : (l : Lent) (s : WorldState) → l.access.registry ≡ true → LoanStands l s
-    → LoanStands (record l { taken = with_signal l.taken }) (after_signal s)
+    → LoanStands (record l { taken = record l.taken { marks = option_map signalled_marks l.taken.marks } })
+    (after_signal s)
 signal_stands l s lent stand (OfType t) = stand (OfType t)
 signal_stands l s lent stand (OfResource r) = stand (OfResource r)
 signal_stands l s lent stand Registry = grind (arith, stand Registry)
 
 -- ---- writing
-
-there_below : {X : Type 0} (xs : List (Option X)) (i : ℕ) → IsSome (at xs i) → i < length xs
-there_below xs i there = grind (arith, cases_lt, false≢true, get_or_past)
 
 -- what may be written is written by the access, and there
 is_written : (p : Part) (l : Lent) → IsSome (writable p l) → IsTrue (writes l.access p) × IsSome (slot p l.taken)
@@ -37,44 +31,30 @@ writes_are l t k there =
     let lt = there_below l.taken.types t written.1 in (
       record { access = refl; world = refl; shape = type_shape l.taken t k lt written.1 },
       λ s h here stand. elim [
-        | OfType u ↦
-            let set_there = get_or-set_same l.taken.types t (Some k) None lt in
-            let other = get_or-set_other l.taken.types t u (Some k) None in
-            grind (arith, eqb_tells, written.0, set_there, other, stand (OfType u))
+        | OfType u ↦ grind (arith, eqb_tells, written.0, at_set l.taken.types t k lt u, stand (OfType u))
         | OfResource r ↦ stand (OfResource r)
         | Registry ↦ stand Registry
       ],
     )
 
-value_shape : (w : Parts) (r : ℕ) (z : ℤ) → r < length w.resources → IsSome (slot (OfResource r) w)
-    → SameShape w (with_value w r z)
-value_shape w r z lt there = record {
-  size = record { types = refl; resources = length-set w.resources r (Some z) };
-  there = elim [
-    | OfType t ↦ refl
-    | OfResource q ↦
-        let set_there = get_or-set_same w.resources r (Some z) None lt in
-        grind (arith, cases_eq q r, set_there, get_or-set_other w.resources r q)
-    | Registry ↦ refl
-  ];
-}
-
 pub values_are_written : ValuesStand
 values_are_written l r z there =
     let written = is_written (OfResource r) l there in
     let lt = there_below l.taken.resources r written.1 in (
-      record { access = refl; world = refl; shape = value_shape l.taken r z lt written.1 },
+      record {
+        access = refl;
+        world = refl;
+        shape = record {
+          size = record { types = refl; resources = length-set l.taken.resources r (Some z) };
+          there = elim [ OfType t ↦ refl | OfResource q ↦ there_still _ r z lt written.1 q | Registry ↦ refl ];
+        };
+      },
       λ s stand. elim [
         | OfType t ↦ stand (OfType t)
-        | OfResource q ↦
-            let set_there = get_or-set_same l.taken.resources r (Some z) None lt in
-            let other = get_or-set_other l.taken.resources r q (Some z) None in
-            grind (arith, eqb_tells, written.0, set_there, other, stand (OfResource q))
+        | OfResource q ↦ grind (arith, eqb_tells, written.0, at_set l.taken.resources r z lt q, stand (OfResource q))
         | Registry ↦ stand Registry
       ],
     )
-
--- ---- lending out
 
 -- ---- side by side
 
@@ -90,42 +70,29 @@ loan_stays a b world taken left others apart loan lends = record {
 
 -- ---- coming home
 
-pub may_come_home : MayComeHome
-may_come_home a old left taken later lends same = grind (arith, cases_Bool, false≢true)
-
-content_merged : (a : Access) (mine s : WorldState) (p : Part) → content p (merge a mine s)
+pub content_merged : (a : Access) (mine s : WorldState) (p : Part) → content p (merge a mine s)
     ≡ (if writes a p then content p mine else content p s)
 content_merged a mine s (OfType t) = refl
 content_merged a mine s (OfResource r) = refl
 content_merged a mine s Registry = refl
 
 pub home_merges : HomeMerges
-home_merges a taken world home mine s z6 out back here there p = grind (arith, content_merged, none-some, z6 p, out p, back.joined p, here p, there p)
-
-pub home_again : HomeAgain
-home_again a old left taken later home lends same back = grind (arith, false≢true)
+home_merges a taken world home mine s none out back here there p =
+    grind (arith, content_merged, none-some, none p, out p, back.joined p, here p, there p)
 
 -- ---- a loan from its beginning to its end
 
-pub loan_stands : (l : Lent) (mine s : WorldState) → PartsStand l.taken mine → PartsStand l.world.now s
-    → LoanStands l (merge l.access mine s)
-loan_stands l mine s here there p = grind (arith, content_merged, here p, there p)
-
-owned_where_written : (l : Lent) (s : WorldState) → ((p : Part) → writes l.access p ≡ false → slot p l.taken ≡ None)
-    → LoanStands l s → PartsStand l.taken s
-owned_where_written l s none stand p = grind (arith, none p, stand p)
-
 pub loan_ends : LoanEnds
 loan_ends a old left taken begun ended lends of owns same =
-    let shape : SameShape taken ended.taken = subst (λ (w : Parts). SameShape w ended.taken) owns same.shape in
+    let shape = rw owns at same.shape in
     let none : (p : Part) → writes a p ≡ false → slot p ended.taken ≡ None =
     λ p isnt. grind (arith, shape.there p, lends.moved p) in
     let same_access : ended.access ≡ a = same.access ∙ of in (
-      may_come_home a old left taken ended.taken lends shape,
+      grind (arith, cases_Bool, false≢true, lends, shape),
       λ home back. (
-        home_again a old left taken ended.taken home lends shape back,
+        grind (arith, false≢true, lends, shape, back),
         λ s mine before after. home_merges a ended.taken left home mine s none (λ p is. grind (arith, lends.stayed p))
-            back (owned_where_written ended mine (λ p isnt. none p (grind (arith, same_access))) after)
+            back (λ p. grind (arith, none p, same_access, after p))
             (λ p. grind (arith, lends.stayed p, before p)),
       ),
     )

@@ -1,5 +1,5 @@
 -- Parts in their slots, one part after the other.
-use Rattle.std.proofs.Common.{◌≡◌, ℕ, zero, suc, ◌<◌, List, [], ◌∷◌, ◌++◌, length, get_or, refl, sym, ap, ◌∙◌, arith, inl, ◌⊎◌, Option, Some, None, ◌==◌, ◌||◌, if◌then◌else◌, All, Bool, true, false, replicate, slice_get, slice_set}
+use Rattle.std.proofs.Common.{◌≡◌, ℕ, zero, suc, ◌<◌, List, [], ◌∷◌, ◌++◌, length, get_or, refl, sym, ap, ◌∙◌, arith, inl, ◌⊎◌, Option, Some, None, ◌==◌, ◌||◌, if◌then◌else◌, All, Bool, true, false, replicate, slice_set}
 use Rattle.std.specs.Option.{option_or}
 use Rattle.std.proofs.lemmas.{Bool.cases_lt, Bool.cases_eq, Bool.eq-eqb, Bool.ne_eqb, Option.slice_get-get_or, List.get_or-replicate, List.get_or-set_same, List.get_or-set_other, List.get_or_past, List.length-replicate, List.length-set, List.set-set, List.set_comm}
 use Rattle.msg_world.specs.Prelude.{Moved}
@@ -11,9 +11,6 @@ pub lends_alike : {G A B : Type 0} (name : G) (f h : A → B) → ((w : A) → f
 lends_alike name f h same = λ i. inl (name, λ w. same w i)
 
 module _ {X : Type 0} where
-  abbrev none_of : Option X
-  none_of = None
-
   pub placed_length : (n : ℕ) (ms : List (Moved X)) → length (placed n ms) ≡ n
   placed_length n [] = length-replicate n None
   placed_length n (m ∷ ms) = length-set (placed n ms) m.slot (Some m.part) ∙ placed_length n ms
@@ -33,14 +30,15 @@ module _ {X : Type 0} where
   rest_first slot i m ms f =
       record { there = omega (arith, f.there); its = f.its; first = λ j k lt is. f.first (suc j) k (omega arith) is }
 
-  -- a slot whose part stands at place i
-  pub at_first : (n slot : ℕ) (ms : List (Moved X)) (i : ℕ) (m : Moved X) → slot < n → IsFirstOf slot ms i
-      → slice_get ms i ≡ Some m → at (placed n ms) slot ≡ Some m.part
-  at_first n slot [] i m lt f is = absurd (omega (arith, f.there))
-  at_first n slot (k ∷ ms) zero m lt f is =
-      grind (arith, f.its k refl, get_or-set_same (placed n ms) slot (Some k.part) None, placed_length n ms)
-  at_first n slot (k ∷ ms) (suc i) m lt f is =
-      let rest = at_first n slot ms i m lt (rest_first slot i k ms f) is in
+  -- a slot whose part stands at place i, where it was read
+  pub first_part : (n slot : ℕ) (ms : List (Moved X)) (i : ℕ) (m : Moved X) → All (λ k. k.slot < n) ms
+      → IsFirstOf slot ms i → m ≡ get_or ms i m → at (placed n ms) slot ≡ Some m.part
+  first_part n slot [] i m below f read = absurd (omega (arith, f.there))
+  first_part n slot (k ∷ ms) zero m below f read =
+      let under = below 0 k (omega arith) in
+      grind (arith, under, f.its k refl, get_or-set_same (placed n ms) slot (Some k.part) None, placed_length n ms)
+  first_part n slot (k ∷ ms) (suc i) m below f read =
+      let rest = first_part n slot ms i m (λ j d l. below (suc j) d (omega arith)) (rest_first slot i k ms f) read in
       let apart = f.first 0 k (omega arith) refl in
       grind (arith, rest, apart, get_or-set_other (placed n ms) k.slot slot (Some k.part) None)
 
@@ -88,10 +86,6 @@ module _ {X : Type 0} where
   pub its_slot : (slot : ℕ) (ms : List (Moved X)) (i : ℕ) (m : Moved X) → IsFirstOf slot ms i → m ≡ get_or ms i m
       → m.slot ≡ slot
   its_slot slot ms i m f read = f.its m (slice_get-get_or ms i m f.there ∙ ap Some (sym read))
-
-  pub first_part : (n slot : ℕ) (ms : List (Moved X)) (i : ℕ) (m : Moved X) → All (λ k. k.slot < n) ms
-      → IsFirstOf slot ms i → m ≡ get_or ms i m → at (placed n ms) slot ≡ Some m.part
-  first_part n slot ms i m below f read = grind (arith, at_first, its_slot, slice_get-get_or)
 
   -- what is at each slot after one part more, of what the slots had that it left
   pub one_more_at : (n : ℕ) (ms : List (Moved X)) (m : Moved X) (from : List (Option X)) → m.slot < n → at from m.slot

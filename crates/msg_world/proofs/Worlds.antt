@@ -1,8 +1,8 @@
 -- What a world stands for after each change, part by part.
-use Rattle.std.proofs.Common.{◌≡◌, ℕ, zero, suc, ◌<◌, Bool, true, false, List, [], ◌∷◌, length, map, refl, sym, ◌∙◌, arith, inl, inr, Option, Some, None, get_or, ℤ, pos, ◌&&◌, ◌||◌, ◌↔◌, not, IfSome, IsSome, IsSomeAnd, IsTrue, is_some, unwrap_or, slice_index, slice_index_or, slice_set}
+use Rattle.std.proofs.Common.{◌≡◌, ℕ, ◌<◌, Bool, true, false, List, length, map, refl, sym, ◌∙◌, arith, inl, inr, Option, Some, None, get_or, ℤ, pos, ◌&&◌, ◌||◌, ◌↔◌, not, IsSome, IsSomeAnd, IsTrue, is_some, unwrap_or, slice_index, if◌then◌else◌, ◌==◌, slice_set}
 use Rattle.std.specs.Option.{option_or}
 use Rattle.std.proofs.Math.ListN.{length-set}
-use Rattle.std.proofs.lemmas.{Bool.Decides.eqb_tells, Bool.and_parts, Bool.cases_eq, Bool.cases_lt, Bool.false≢true, List.get_or_default, List.get_or-set_same, List.get_or-set_other, List.get_or_past}
+use Rattle.std.proofs.lemmas.{Bool.Decides.eqb_tells, Bool.cases_eq, Bool.cases_lt, Bool.false≢true, List.get_or_default, List.get_or-set_same, List.get_or-set_other, List.get_or_past, List.get_or-map, List.length-map}
 use Rattle.msg_buffer.specs.Prelude.{History, Kept, StandsFor, empty}
 use Rattle.msg_world.specs.Prelude.{Access, IsHome, IsWhole, Marks, OfResource, OfType, Part, Parts, PartsStand, Record, Registry, SameShape, WorldState, after_update, has_bit, new_world, slot, with_history}
 use Rattle.msg_world.specs.inner.Slots.{AllUpdated, BufferStands, HaveEach, at}
@@ -35,40 +35,31 @@ others_update w s types m n is waiting spent all stand =
 
 -- ---- a new world
 
--- each resource has its value, and there are no others
-values_are : (values : List ℤ) (r : ℕ)
-    → IfSome (at (map (λ z. Some z) values) r) (λ y. y ≡ slice_index_or values r (pos 0))
-values_are [] r = tt
-values_are (z ∷ values) zero = refl
-values_are (z ∷ values) (suc r) = values_are values r
-
-values_there : (values : List ℤ) (r : ℕ) → r < length (map {B = Option ℤ} (λ z. Some z) values)
-    → IsSome (at (map (λ z. Some z) values) r)
-values_there [] r lt = absurd (omega arith)
-values_there (z ∷ values) zero lt = refl
-values_there (z ∷ values) (suc r) lt = values_there values r (omega arith)
-
 -- what `World::new` made
 module _ (limits : List ℕ) (values : List ℤ) (types : List (Option (Kept Record)))
     (as_many : length types ≡ length limits)
     (stand : (t : ℕ) → t < length limits
     → IsSomeAnd (at types t) (λ k. StandsFor k (empty (slice_index limits t)))) where
+  abbrev some_of : ℤ → Option ℤ
+  some_of z = Some z
+
   abbrev made : Parts
   made =
       record {
         types = types;
-        resources = map (λ z. Some z) values;
+        resources = map some_of values;
         marks = Some (record { held = false; pending = false });
       }
 
   pub new_stands : PartsStand made (new_world limits values)
   new_stands (OfType t) = grind (arith, cases_lt t (length limits), stand t, get_or_past types t None)
-  new_stands (OfResource r) = values_are values r
+  new_stands (OfResource r) =
+      grind (arith, cases_lt r (length values), get_or-map some_of values r (pos 0) None, get_or_past, length-map)
   new_stands Registry = refl
 
   pub new_whole : IsWhole made
   new_whole (OfType t) lt = grind (arith, stand t)
-  new_whole (OfResource r) lt = values_there values r lt
+  new_whole (OfResource r) lt = grind (arith, get_or-map some_of values r (pos 0) None, length-map)
   new_whole Registry has = refl
 
 -- ---- a post
@@ -83,12 +74,25 @@ pub found_at : {X : Type 0} (xs : List (Option X)) (i : ℕ) (o : Option X) → 
     → (at xs i ≡ o) × (i < length xs)
 found_at xs i o there read = grind (arith, cases_lt, item_at, false≢true, get_or_past)
 
+pub there_below : {X : Type 0} (xs : List (Option X)) (i : ℕ) → IsSome (at xs i) → i < length xs
+there_below xs i there = grind (arith, cases_lt, false≢true, get_or_past)
+
+-- what is at each slot after one was filled
+pub at_set : {X : Type 0} (xs : List (Option X)) (i : ℕ) (x : X) → i < length xs → (k : ℕ)
+    → at (slice_set xs i (Some x)) k ≡ (if k == i then Some x else at xs k)
+at_set xs i x lt k =
+    grind (arith, eqb_tells, cases_eq k i, get_or-set_same xs i (Some x) None lt, get_or-set_other xs i k (Some x) None)
+
+-- where one was filled that wasn't empty, the same slots are empty
+pub there_still : {X : Type 0} (xs : List (Option X)) (i : ℕ) (x : X) → i < length xs → IsSome (at xs i) → (k : ℕ)
+    → is_some (at (slice_set xs i (Some x)) k) ≡ is_some (at xs k)
+there_still xs i x lt there k = grind (arith, eqb_tells, at_set xs i x lt k)
+
 pub type_stands : (w : Parts) (s : WorldState) (t : ℕ) (k : Kept Record) (h : History Record) → t < length w.types
     → StandsFor k h → PartsStand w s
     → PartsStand (record w { types = slice_set w.types t (Some k) }) (with_history s t h)
 type_stands w s t k h lt here stand (OfType u) =
-    let set_there = get_or-set_same w.types t (Some k) None lt in
-    grind (arith, eqb_tells, set_there, get_or-set_other w.types t u (Some k) None, stand (OfType u))
+    grind (arith, eqb_tells, at_set w.types t k lt u, stand (OfType u))
 type_stands w s t k h lt here stand (OfResource r) = stand (OfResource r)
 type_stands w s t k h lt here stand Registry = stand Registry
 
@@ -96,11 +100,7 @@ pub type_shape : (w : Parts) (t : ℕ) (k : Kept Record) → t < length w.types 
     → SameShape w (record w { types = slice_set w.types t (Some k) })
 type_shape w t k lt there = record {
   size = record { types = length-set w.types t (Some k); resources = refl };
-  there = elim [
-    | OfType u ↦ grind (arith, cases_eq u t, get_or-set_same w.types t (Some k) None lt, get_or-set_other w.types t u)
-    | OfResource r ↦ refl
-    | Registry ↦ refl
-  ];
+  there = elim [ OfType u ↦ there_still w.types t k lt there u | OfResource r ↦ refl | Registry ↦ refl ];
 }
 
 -- ---- lending and taking back
@@ -123,14 +123,11 @@ pub home_by_masks : (a : Access) (w : Parts) (types resources : ℕ) (types_home
     ≡ is_some w.marks
     → IsTrue ((types_home && resources_home) && (not a.registry || marks_there)) ↔ IsHome a w
 home_by_masks a w types resources types_home resources_home marks_there t r th rh m = (
-  λ all.
-      let both = and_parts (types_home && resources_home) (not a.registry || marks_there) all in
-      let parts = and_parts types_home resources_home both.0 in
-      elim [
-        | OfType k ↦ λ uses. th.0 parts.0 k (t k ∙ uses)
-        | OfResource k ↦ λ uses. rh.0 parts.1 k (r k ∙ uses)
-        | Registry ↦ λ uses. grind (arith, both.1)
-      ],
+  λ all. elim [
+    | OfType k ↦ λ uses. th.0 (grind arith) k (t k ∙ uses)
+    | OfResource k ↦ λ uses. rh.0 (grind arith) k (r k ∙ uses)
+    | Registry ↦ λ uses. grind arith
+  ],
   λ home.
       let types_there = th.1 (λ k bit. home (OfType k) (sym (t k) ∙ bit)) in
       let resources_there = rh.1 (λ k bit. home (OfResource k) (sym (r k) ∙ bit)) in
@@ -146,7 +143,7 @@ world_stands w each = (
   record {
     histories = λ t. (chosen t).0;
     resources = λ r. unwrap_or (at w.resources r) (pos 0);
-    marks = unwrap_or w.marks none;
+    marks = unwrap_or w.marks (record { held = false; pending = false });
   },
   elim [
     | OfType t ↦ (chosen t).1
@@ -155,9 +152,6 @@ world_stands w each = (
   ],
 )
   where
-    none : Marks
-    none = record { held = false; pending = false }
-
     chosen : (t : ℕ) → (h : History Record) × BufferStands (at w.types t) h
     chosen t = elim (cases_lt t (length w.types)) [
       | inl lt ↦ each t lt

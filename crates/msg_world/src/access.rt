@@ -167,6 +167,7 @@ impl Access {
     }
 
     /// Whether a world of so many types and resources has all that is used.
+    #[tactic(auto, using(crate::proofs::Bits::of_masks))]
     pub fn fits(&self, types: u32, resources: u32) -> bool
         ensures fit { IsTrue result ↔ Fits types resources self.now }
     {

@@ -1,17 +1,17 @@
 use Rattle.std.proofs.Common.{rules, ◌≡◌, ap, sym, ◌∙◌, ◌∷◌, [], arith, length, length-append}
-use mathlib.Core.Option.{some}
+use mathlib.Core.Option.{some, some-injective}
 use lib.ListN.{get_elem?}
 use Rattle.std.specs.Slots.{slots_items}
 use Rattle.msg_board.specs.Prelude.{Done}
-use Rattle.msg_board.proofs.TableLists.{one_value, each_pushed, false_below}
+use Rattle.msg_board.proofs.TableLists.{joined, got, get_there, false_below}
 use Rattle.msg_board.proofs.slots.take_results.Goals as goal
 
 pub unreachable-requires : goal.unreachable-requires
 unreachable-requires g c = let inv = c.loop-i.invariant in let is = c.slot_count.ensures in
     let test = c.loop-i-test.true in let long = inv.same_len in
     let t = c.requires.done c.loop-i.i (omega arith) in
-    c.in_default.not-Done t.0 (one_value _ _ _ c.take.ensures.value
-    (ap (λ l. get_elem? l c.loop-i.i) inv.same_items ∙ t.1))
+    let full = ap (λ l. get_elem? l c.loop-i.i) inv.same_items ∙ t.1 in
+    c.in_default.not-Done t.0 (some-injective _ _ (sym c.take.ensures.value ∙ full))
 
 pub loop-i-preserved : goal.loop-i-preserved
 loop-i-preserved g c = let inv = c.loop-i.invariant in let is = c.slot_count.ensures in
@@ -25,9 +25,7 @@ loop-i-preserved g c = let inv = c.loop-i.invariant in let is = c.slot_count.ens
       taken = false_below _ _ c.loop-i.i took.1 inv.taken;
       count = omega (arith, ap length pushed, length-append c.loop-i.results.items (c.in-Done.done ∷ []));
       room = omega (arith, c.push_reserved.ensures.capacity, inv.room);
-      items =
-          each_pushed (λ k d. get_elem? (slots_items c.args.closed.slots) k
-          ≡ some (Done d)) _ _ c.in-Done.done c.loop-i.i pushed inv.count
-          (ap (λ l. get_elem? l c.loop-i.i) (sym inv.same_items)
-          ∙ (c.take.ensures.value ∙ ap some c.in-Done.is)) inv.items;
+      items = λ k d at. joined (λ n b. get_elem? (slots_items c.args.closed.slots) n ≡ some (Done b)) _ c.in-Done.done
+          (rw (inv.count, ← inv.same_items) (c.take.ensures.value ∙ ap some c.in-Done.is))
+          (λ n b is. inv.items n b (got _ n b is)) k d (get_there _ k d (rw pushed at at));
     }

@@ -1,6 +1,6 @@
 use Rattle.std.proofs.Common.{◌++◌, [], ◌∷◌, refl, ◌∙◌, arith}
-use Rattle.std.proofs.lemmas.{Fn.says_at, List.length-take}
-use Rattle.msg_buffer.proofs.Made.{as_many, one_appended, one_more}
+use Rattle.std.proofs.lemmas.{Fn.says_at, List.length-take, Slice.Zip.AllZip-long}
+use Rattle.msg_buffer.proofs.Made.{one_appended, one_more}
 use Rattle.msg_buffer.proofs.batch.append_each.Goals as goal
 
 pub loop-item-preserved : goal.loop-item-preserved
@@ -10,7 +10,7 @@ loop-item-preserved g c =
     let m = c.message_of-message.result in
     let more = one_more _ c.args.items.now made.0 at.item-index c.item-item.result m c.loop-item-test.true
     c.item-item.is made.1 (says_at g.F.Fn c.message_of-message.ensures refl) in
-    let long = as_many _ _ made.0 made.1 ∙ length-take at.item-index c.args.items.now in (
+    let long = AllZip-long _ _ made.0 made.1 ∙ length-take at.item-index c.args.items.now in (
       omega arith,
       omega (arith, c.push_reserved.ensures.len),
       omega (arith, c.push_reserved.ensures.capacity),

@@ -1,25 +1,24 @@
 use Rattle.std.proofs.Common.{◌≡◌, arith, sym, ◌∙◌}
-use Rattle.msg_system.proofs.{Deciding.answered_more, Deciding.appended, Deciding.covers_kept, Deciding.turn_more, Deciding.turn_over, Runs.covers_later, Runs.same_loan_trans, Turns.next_kept_to}
+use Rattle.msg_system.proofs.{Deciding.answered_more, Deciding.appended, Deciding.covers_kept, Deciding.turn_more, Deciding.turn_over, Runs.same_loan_trans, Turns.next_kept_to}
 use Rattle.msg_system.proofs.behavior_system.run_turn.Goals as goal
 
 pub run-requires : goal.run-requires
 run-requires g c =
     let next = sym c.in_ok-next_within.ensures.next ∙ c.in-Some.is in
-    let kept = covers_kept _ _ _ (next_kept_to _ _ c.in-Some.op next) c.requires.covers in
-    record { covers = covers_later _ _ _ c.loop-done.invariant.same kept }
+    let kept = next_kept_to _ _ c.in-Some.op next in
+    record { covers = covers_kept _ _ _ _ kept c.loop-done.invariant.same c.requires.covers }
 
 pub returns-in-None-clause-ran : goal.returns-in-None-clause-ran
 returns-in-None-clause-ran g c s stands =
     let inv = c.loop-done.invariant in
-    let over =
-    rw (c.since.ensures.rest, c.as_slice.ensures.value) at (sym c.in-None.is ∙ c.in_ok-next_within.ensures.next) in
-    turn_over _ _ _ s _ c.loop-done._done _ _ _ _ inv.long (inv.so_far s stands) (omega arith) over
+    let is = rw (c.since.ensures.rest, c.as_slice.ensures.value) at c.in_ok-next_within.ensures.next in
+    turn_over _ _ _ s _ c.loop-done._done _ _ _ _ inv.long (inv.so_far s stands) (omega arith) (sym c.in-None.is ∙ is)
 
 pub loop-done-preserved : goal.loop-done-preserved
 loop-done-preserved g c =
     let inv = c.loop-done.invariant in
-    let is =
-    rw (c.since.ensures.rest, c.as_slice.ensures.value) at (sym c.in-Some.is ∙ c.in_ok-next_within.ensures.next) in
+    let next = rw (c.since.ensures.rest, c.as_slice.ensures.value) at c.in_ok-next_within.ensures.next in
+    let is = sym c.in-Some.is ∙ next in
     record {
       so_far = λ s stands. rw c.in_ok-push-in-Some.ensures.items
           (turn_more _ _ _ s _ c.loop-done._done _ _ _ _ inv.long (inv.so_far s stands) c.in-Some.op _ _ _ is

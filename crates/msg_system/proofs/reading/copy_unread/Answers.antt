@@ -1,7 +1,18 @@
-use Rattle.std.proofs.lemmas.{Grind.common_steps, List.append-nil}
-use Rattle.std.proofs.Common.{arith}
-use Rattle.msg_system.proofs.{CopiedReads.all_copied, CopiedReads.enough_copied, reading.copy_unread.Goals.else-loop-copied-test, reading.copy_unread.Goals.then-loop-copied-test+in_default}
+use Rattle.std.proofs.lemmas.{Grind.common_steps, List.append-nil, List.length-map, List.take-map, List.take_at, List.take_all}
+use Rattle.std.proofs.Common.{◌≡◌, ℕ, ◌++◌, List, length, map, min, take, Option, sym, arith, unwrap_or}
+use Rattle.msg_buffer.specs.declared.instance.Instance.{Instance}
+use Rattle.msg_buffer.specs.Prelude.{at_most}
+use Rattle.msg_system.proofs.reading.copy_unread.Goals.{else-loop-copied-test, then-loop-copied-test+in_default}
 use Rattle.msg_system.proofs.reading.copy_unread.Goals as goal
 
+-- as many were copied as were asked for
+enough_copied : {M X : Type 0} (f : Instance M → X) (unread : List (Instance M)) (copied : List X) (limit : Option ℕ)
+    (rest : List (Instance M)) → map f unread ≡ copied ++ map f rest
+    → length copied ≡ min (unwrap_or limit (length unread)) (length unread) → copied ≡ map f (at_most limit unread)
+enough_copied f unread copied limit rest split long =
+    let n : ℕ = min (unwrap_or limit (length unread)) (length unread) in
+    let same : take n unread ≡ at_most limit unread = grind (arith, take_all) in
+    rw (← same, ← take-map, split) (sym (take_at copied (map f rest) n long))
+
 pub returns-clause-items : goal.returns-clause-items
-returns-clause-items c = grind (arith, common_steps, enough_copied, append-nil, all_copied)
+returns-clause-items c = grind (arith, common_steps, enough_copied, append-nil, length-map)

@@ -1,4 +1,4 @@
-use Rattle.std.proofs.Common.{ap, arith, refl, rules}
+use Rattle.std.proofs.Common.{ap, arith, rules}
 use Rattle.std.proofs.lemmas.List.{length-map}
 use Rattle.msg_world.specs.declared.record.Record.{Record}
 use Rattle.msg_world.specs.Prelude.{by}
@@ -13,7 +13,7 @@ returns-clause-ran c places at s stand =
     let same = c.as_slice.ensures.items in
     let numbers = rw (← length-map c.as_slice.result.now again, same) at (c.in_ok-wrote.ensures.numbers s stand) in
     record {
-      same_places = rw (at, ← c.in_ok-took.ensures.place _ here) refl;
+      same_places = grind (arith, at, c.in_ok-took.ensures.place _ here);
       stands = rw (at, ← ap (λ (k : Took). k.items) took, ← same)
           (c.in_ok-wrote.ensures.written again (λ x m made. search rules) s stand);
       same_reply = grind (arith, at, took, numbers);

@@ -5,12 +5,6 @@ use Rattle.msg_system.proofs.steps.sum.Goals as goal
 pub returns-clause-ran : goal.returns-clause-ran
 returns-clause-ran c w places at s stand =
     let here = c.messages_of.ensures.stands s stand in
-    grind (
-      arith,
-      common_steps,
-      to_z-of_z,
-      c.value_of.ensures.value s stand,
-      c.set_value.ensures.written s stand,
-      c.in_ok-took.ensures.took _ here,
-      c.in_ok-took.ensures.place _ here,
-    )
+    let took = c.in_ok-took.ensures.took _ here in let place = c.in_ok-took.ensures.place _ here in
+    let old = c.value_of.ensures.value s stand in let new = c.set_value.ensures.written s stand in
+    grind (arith, common_steps, to_z-of_z, old, new, took, place)

@@ -1,18 +1,16 @@
-use Rattle.std.proofs.Common.{inl, inr, arith, Option, subst, pos}
+use Rattle.std.proofs.Common.{inl, inr, arith, pos}
 use Rattle.std.proofs.lemmas.Bool.{cases_eq}
-use Rattle.msg_buffer.specs.Prelude.{History, Kept, empty}
-use Rattle.msg_world.specs.Prelude.{Record, by}
-use Rattle.msg_world.specs.inner.Slots.{BufferStands}
+use Rattle.msg_buffer.specs.Prelude.{empty}
+use Rattle.msg_world.specs.Prelude.{by}
 use Rattle.msg_world.proofs.taken.moved_stand.Goals as goal
 use Rattle.msg_world.proofs.taken.moved_stand.Goals.{in-Some, in_default}
 
 pub loop-t-preserved : goal.loop-t-preserved
 loop-t-preserved c t lt =
-    let P : Option (Kept Record) → Type 0 = λ o. (h : History Record) × BufferStands o h in
     elim (cases_eq t c.loop-t.t) [
-      | inl e ↦ rw e (subst P c.get.ensures.held (elim c.match-get.branch [
+      | inl e ↦ rw (e, ← c.get.ensures.held) (elim c.match-get.branch [
         | in-Some w ↦ rw w.in-Some.is (w.stands_for_some.ensures.history (by 0 (pos 0)))
         | in_default w ↦ rw w.in_default.is (empty 0, tt)
-      ]))
+      ])
       | inr ne ↦ c.loop-t.invariant t (omega arith)
     ]

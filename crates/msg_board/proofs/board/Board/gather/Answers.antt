@@ -1,8 +1,8 @@
-use Rattle.std.proofs.Common.{rules, ap, ◌∙◌, arith, Some}
+use Rattle.std.proofs.Common.{ap, ◌∙◌, arith, Some}
 use Rattle.msg_board.specs.Prelude.{HasEnded}
 use Rattle.msg_board.specs.inner.Seats.{carried}
 use Rattle.std.proofs.lemmas.List.Elements.{All-pop}
-use Rattle.msg_board.proofs.{Steps.unites, PassSeats.gathers_first, PassSeats.gathers, PassSeats.gathered}
+use Rattle.msg_board.proofs.{Steps.unites, PassSeats.gathers_first, PassSeats.gathers}
 use Rattle.msg_board.proofs.board.Board.gather.Goals as goal
 
 pub loop-pass-init : goal.loop-pass-init
@@ -25,6 +25,3 @@ pub loop-pass-preserved : goal.loop-pass-preserved
 loop-pass-preserved g c =
     gathers c.args.self.now _ _ _ c.in-Some-pop.pass _ _ _ c.loop-pass.invariant c.in-Some-pop.ensures.items
     c.into_seat-other.ensures.seat c.join_seat.ensures.0 c.join_seat.ensures.2
-
-pub returns : goal.returns
-returns g c = gathered c.args.self.now _ _ _ c.loop-pass.invariant (search rules)

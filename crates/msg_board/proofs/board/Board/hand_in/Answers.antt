@@ -1,7 +1,7 @@
 use Rattle.std.proofs.Common.{ap, ◌∙◌, arith, length, ◌<◌}
 use lib.ListN.{get_elem?}
 use Rattle.msg_board.specs.Prelude.{jobs_of}
-use Rattle.msg_board.proofs.{TableLists.there, TableLists.got, Steps.hands_in_at, PassSeats.handed_sound, PassSeats.handed_said, PassSeats.held_within}
+use Rattle.msg_board.proofs.{TableLists.there, TableLists.got, Steps.hands_in, PassSeats.handed_sound, PassSeats.handed_said, PassSeats.held_within}
 use Rattle.msg_board.proofs.board.Board.hand_in.Goals as goal
 
 pub store-requires : goal.store-requires
@@ -14,7 +14,7 @@ store-requires g c = let seat = c.pass.invariant.seat in let is = c.pass.view_is
     let t = there jobs c.args.k inside in (
       grind arith,
       grind arith,
-      hands_in_at g.W.Work.lawful _ _ _ _ _ c.pass.inside.seat.me.0 c.args.k t.0 c.args.done c.put_in.ensures.now
+      hands_in g.W.Work.lawful _ _ _ _ _ c.pass.inside.seat.me.0 c.args.k t.0 c.args.done c.put_in.ensures.now
           (omega (arith, seat.weight)) (seat.held ∙ has)
           (ap (λ l. get_elem? l c.args.k) own ∙ t.1) (c.requires.lawful t.0 (got jobs c.args.k t.0 t.1)),
     )

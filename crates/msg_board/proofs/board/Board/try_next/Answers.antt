@@ -1,7 +1,7 @@
 use Rattle.std.proofs.Common.{ap, ◌∙◌, arith}
 use Rattle.msg_board.specs.Prelude.{jobs_of}
 use Rattle.msg_board.specs.inner.Seats.{carried}
-use Rattle.msg_board.proofs.{Steps.draws, PassSeats.drew_sound, PassSeats.drew_said, PassSeats.unfinished_more}
+use Rattle.msg_board.proofs.{Steps.draws, PassSeats.drew_sound, PassSeats.drew_said}
 use Rattle.msg_board.proofs.board.Board.try_next.Goals as goal
 
 pub fetch_max-found-requires : goal.fetch_max-found-requires
@@ -25,11 +25,3 @@ returns-then-found-eq0-clause-some g c = let told = c.fetch_max-found.ensures.2.
     c.take_out-job.ensures.now
     c.args.pass.now (jobs_of c.args.self.now) c.take_out-job.result c.pass.view_is c.requires.idle.own.jobs
     c.requires.more told.1 c.take_out-job.ensures.was
-
-pub returns-then-found-eq0-clause-unfinished : goal.returns-then-found-eq0-clause-unfinished
-returns-then-found-eq0-clause-unfinished g c =
-    unfinished_more c.pass.inside c.args.pass.now c.pass.invariant c.pass.view_is (grind arith)
-
-pub returns-else-found-eq0-clause-unfinished : goal.returns-else-found-eq0-clause-unfinished
-returns-else-found-eq0-clause-unfinished g c =
-    unfinished_more c.pass.inside c.args.pass.now c.pass.invariant c.pass.view_is (grind arith)

@@ -4,12 +4,4 @@ use Rattle.msg_buffer.proofs.cursor.MessageCursor.len.Goals as goal
 
 pub returns : goal.returns
 returns g c =
-    record {
-      meaning =
-          λ h s. grind (
-            arith,
-            length-unread h c.args.self.now,
-            c.oldest.ensures.meaning h s,
-            c.count.ensures.meaning h s,
-          );
-    }
+    record { meaning = λ h s. grind (arith, length-unread, c.oldest.ensures.meaning h s, c.count.ensures.meaning h s) }

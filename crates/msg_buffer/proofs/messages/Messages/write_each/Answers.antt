@@ -1,6 +1,7 @@
 use Rattle.std.proofs.Common.{◌≡◌, arith, length-append}
+use Rattle.std.proofs.lemmas.Slice.Zip.{AllZip-long}
 use Rattle.msg_buffer.specs.Prelude.{kept_count, numbered}
-use Rattle.msg_buffer.proofs.{Made.as_many, Numbers.length-numbered, Numbers.numbers-append, Standing.stands_written}
+use Rattle.msg_buffer.proofs.{Numbers.length-numbered, Numbers.numbers-append, Standing.stands_written}
 use Rattle.msg_buffer.proofs.messages.Messages.write_each.Goals as goal
 
 pub invariant_of-self-2 : goal.invariant_of-self-2
@@ -13,7 +14,7 @@ invariant_of-self-2 g c =
       c.if-n-self.false,
       c.reserve.ensures,
       made.2,
-      as_many _ _ made.0 made.1,
+      AllZip-long _ _ made.0 made.1,
       length-append xs (numbered c.self.inside.count made.0),
       length-numbered c.self.inside.count made.0,
       numbers-append c.self.inside.newer.start c.self.inside.count xs made.0 i.newer_numbers,
@@ -23,7 +24,7 @@ pub returns-clause-meaning : goal.returns-clause-meaning
 returns-clause-meaning g c =
     let i = c.self.invariant in let end = i.ends_at_count in let meet = i.halves_meet in let room = c.if-n-self.false in
     let made = c.append_each.ensures.appended in
-    let long = as_many _ _ made.0 made.1 in
+    let long = AllZip-long _ _ made.0 made.1 in
     let number : kept_count c.args.self.now ≡ c.self.inside.count = rw (← c.self.view_is) (omega arith) in (
       made.0,
       made.1,

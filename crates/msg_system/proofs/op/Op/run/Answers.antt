@@ -1,9 +1,8 @@
 use Rattle.std.proofs.Common.{rules, refl}
-use mir.Val.{SFits}
 use mir.Syntax.{w64}
 use Rattle.std.proofs.lemmas.{Int.to_z-of_z, Result.IfOk-weaker, Result.on_err_weaker}
 use Rattle.msg_world.specs.Prelude.{OfResource, OfType, Registry}
-use Rattle.msg_system.specs.Prelude.{Clear, Forward, Read, Sum, places_of}
+use Rattle.msg_system.specs.Prelude.{Clear, Forward, Read, Sum}
 use Rattle.msg_system.proofs.Runs.{covers_read, covers_written, place_at, ran_at}
 use Rattle.msg_system.proofs.op.Op.run.Goals as goal
 
@@ -55,43 +54,36 @@ sum-requires-clause-written c = covers_written _ _ (OfResource c.in-Sum.r) c.req
 
 pub returns-in-Batch-clause-ran : goal.returns-in-Batch-clause-ran
 returns-in-Batch-clause-ran c =
-    rw c.in-Batch.is (IfOk-weaker c.batch.result _ _ (λ reply ran. ran (places_of c.args.cursors.now)) c.batch.ensures.ran)
+    rw c.in-Batch.is (IfOk-weaker c.batch.result _ _ (λ reply ran. ran _) c.batch.ensures.ran)
 
 pub returns-in-Drain-clause-ran : goal.returns-in-Drain-clause-ran
 returns-in-Drain-clause-ran c =
-    rw c.in-Drain.is
-    (IfOk-weaker c.drain.result _ _ (λ reply ran. ran c.args.writer (places_of c.args.cursors.now)) c.drain.ensures.ran)
+    rw c.in-Drain.is (IfOk-weaker c.drain.result _ _ (λ reply ran. ran c.args.writer _) c.drain.ensures.ran)
 
 pub returns-in-Get-clause-ran : goal.returns-in-Get-clause-ran
-returns-in-Get-clause-ran c = rw c.in-Get.is (c.get.ensures.ran c.args.writer (places_of c.args.cursors.now))
+returns-in-Get-clause-ran c = rw c.in-Get.is (c.get.ensures.ran c.args.writer _)
 
 pub returns-in-Signal-clause-ran : goal.returns-in-Signal-clause-ran
-returns-in-Signal-clause-ran c = rw c.in-Signal.is (c.signal.ensures.ran c.args.writer (places_of c.args.cursors.now))
+returns-in-Signal-clause-ran c = rw c.in-Signal.is (c.signal.ensures.ran c.args.writer _)
 
 pub returns-in-Write-clause-ran : goal.returns-in-Write-clause-ran
 returns-in-Write-clause-ran c =
-    let fits : SFits w64 c.in-Write.value = search rules in
-    rw (c.in-Write.is, ← to_z-of_z w64 c.in-Write.value fits)
-    (IfOk-weaker c.write.result _ _ (λ reply ran. ran (places_of c.args.cursors.now)) c.write.ensures.ran)
+    rw (c.in-Write.is, ← to_z-of_z w64 c.in-Write.value (search rules))
+    (IfOk-weaker c.write.result _ _ (λ reply ran. ran _) c.write.ensures.ran)
 
 pub returns-in-Set-clause-ran : goal.returns-in-Set-clause-ran
 returns-in-Set-clause-ran c =
-    let fits : SFits w64 c.in-Set.value = search rules in
-    rw (c.in-Set.is, ← to_z-of_z w64 c.in-Set.value fits)
-    (c.set.ensures.ran c.args.writer (places_of c.args.cursors.now))
+    rw (c.in-Set.is, ← to_z-of_z w64 c.in-Set.value (search rules)) (c.set.ensures.ran c.args.writer _)
 
 pub returns-in-Add-clause-ran : goal.returns-in-Add-clause-ran
 returns-in-Add-clause-ran c =
-    let fits : SFits w64 c.in-Add.value = search rules in
-    rw (c.in-Add.is, ← to_z-of_z w64 c.in-Add.value fits)
-    (c.add.ensures.ran c.args.writer (places_of c.args.cursors.now))
+    rw (c.in-Add.is, ← to_z-of_z w64 c.in-Add.value (search rules)) (c.add.ensures.ran c.args.writer _)
 
 pub returns-in-Read-clause-ran : goal.returns-in-Read-clause-ran
 returns-in-Read-clause-ran c =
-    rw c.in-Read.is (IfOk-weaker c.read.result _ _
-    (λ reply ran. ran_at c.args.cursors.now _ _ _ (search rules) c.number.ensures.number c.number.ensures.within
-    (Read c.in-Read.t c.in-Read.limit) c.args.writer c.read.new.cursor c.args.lent.now _ _
-    (ran c.args.writer)) c.read.ensures.ran)
+    rw c.in-Read.is (IfOk-weaker c.read.result _ _ (λ reply ran. ran_at c.args.cursors.now _ _ _ (search rules)
+    c.number.ensures.number c.number.ensures.within (Read _ _) c.args.writer _ c.args.lent.now _ _ (ran c.args.writer))
+    c.read.ensures.ran)
 
 pub returns-in-Len-clause-ran : goal.returns-in-Len-clause-ran
 returns-in-Len-clause-ran c =
@@ -106,34 +98,28 @@ returns-in-Missed-clause-ran c =
 pub returns-in-Clear-clause-ran : goal.returns-in-Clear-clause-ran
 returns-in-Clear-clause-ran c =
     rw c.in-Clear.is (ran_at c.args.cursors.now _ _ _ (search rules) c.number-in-Clear.ensures.number
-    c.number-in-Clear.ensures.within (Clear c.in-Clear.t) c.args.writer c.clear.new.cursor c.args.lent.now _ _
-    (c.clear.ensures.ran c.args.writer))
+    c.number-in-Clear.ensures.within (Clear _) c.args.writer _ c.args.lent.now _ _ (c.clear.ensures.ran c.args.writer))
 
 pub returns-in-Forward-clause-ran : goal.returns-in-Forward-clause-ran
 returns-in-Forward-clause-ran c =
-    rw c.in-Forward.is (IfOk-weaker c.forward.result _ _
-    (λ reply ran. ran_at c.args.cursors.now _ _ _ (search rules) c.number-in-Forward.ensures.number
-    c.number-in-Forward.ensures.within (Forward c.in-Forward.t c.in-Forward.u)
-    c.args.writer c.forward.new.cursor c.args.lent.now _ _ ran) c.forward.ensures.ran)
+    rw c.in-Forward.is (IfOk-weaker c.forward.result _ _ (λ reply. ran_at c.args.cursors.now _ _ _ (search rules)
+    c.number-in-Forward.ensures.number c.number-in-Forward.ensures.within (Forward _ _) c.args.writer _ c.args.lent.now
+    _ _) c.forward.ensures.ran)
 
 pub returns-in-Sum-clause-ran : goal.returns-in-Sum-clause-ran
 returns-in-Sum-clause-ran c =
-    rw c.in-Sum.is (IfOk-weaker c.sum.result _ _
-    (λ reply ran. ran_at c.args.cursors.now _ _ _ (search rules) c.number-in-Sum.ensures.number
-    c.number-in-Sum.ensures.within (Sum c.in-Sum.t c.in-Sum.r)
-    c.args.writer c.sum.new.cursor c.args.lent.now _ _ (ran c.args.writer)) c.sum.ensures.ran)
+    rw c.in-Sum.is (IfOk-weaker c.sum.result _ _ (λ reply ran. ran_at c.args.cursors.now _ _ _ (search rules)
+    c.number-in-Sum.ensures.number c.number-in-Sum.ensures.within (Sum _ _) c.args.writer _ c.args.lent.now _ _
+    (ran c.args.writer)) c.sum.ensures.ran)
 
 pub returns-in-Write-clause-refused : goal.returns-in-Write-clause-refused
 returns-in-Write-clause-refused c =
-    rw c.in-Write.is
-    (on_err_weaker c.write.result (λ refused. refused (places_of c.args.cursors.now)) c.write.ensures.refused)
+    rw c.in-Write.is (on_err_weaker c.write.result (λ refused. refused (λ t. 0)) c.write.ensures.refused)
 
 pub returns-in-Batch-clause-refused : goal.returns-in-Batch-clause-refused
 returns-in-Batch-clause-refused c =
-    rw c.in-Batch.is
-    (on_err_weaker c.batch.result (λ refused. refused (places_of c.args.cursors.now)) c.batch.ensures.refused)
+    rw c.in-Batch.is (on_err_weaker c.batch.result (λ refused. refused (λ t. 0)) c.batch.ensures.refused)
 
 pub returns-in-Drain-clause-refused : goal.returns-in-Drain-clause-refused
 returns-in-Drain-clause-refused c =
-    rw c.in-Drain.is
-    (on_err_weaker c.drain.result (λ refused. refused (places_of c.args.cursors.now)) c.drain.ensures.refused)
+    rw c.in-Drain.is (on_err_weaker c.drain.result (λ refused. refused (λ t. 0)) c.drain.ensures.refused)
