@@ -1,6 +1,6 @@
 -- The systems of a batch come home, one after the other.
 use Rattle.std.proofs.Common.{◌≡◌, ◌≢◌, ℕ, ◌<◌, false, List, [], ◌∷◌, ◌++◌, length, map, None, append_assoc, refl, sym, ap, ◌∙◌, inl, inr, arith, All, AllPairs, Contains, IsSomeAnd, IsTrue, is_some, slice_get, if◌then◌else◌}
-use Rattle.std.proofs.lemmas.{Bool.cases_Bool, Bool.Decides.eqb_tells, List.append-nil, List.get_or-set_other, List.get_or-set_same, List.length-set, List.map-append, List.Elements.All-contains, List.Elements.All-head, List.Elements.All-tail, List.Elements.Contains-append_right, Slice.Zip.AllZip-long, List.nil_from_length}
+use Rattle.std.proofs.lemmas.{Bool.cases_Bool, Bool.Decides.eqb_tells, List.append-nil, List.get_or-set_other, List.get_or-set_same, List.length-set, List.map-append, List.Elements.All-contains, List.Elements.Contains-append_right, Slice.Zip.AllZip-long, List.nil_from_length, Slice.Zip.AllZip-left, Option.get_or_from_slice_get, Option.slice_get_within}
 use Rattle.std.specs.List.{AllZip}
 use Rattle.msg_world.specs.declared.access.Access.{Access}
 use Rattle.msg_world.specs.Prelude.{HomeMerges, HomeWhereEither, IsApart, Part, PartsStand, SameShape, SameSize, slot, writes}
@@ -10,7 +10,7 @@ use Rattle.msg_exec.specs.Prelude.{Done, IsAfterJob, IsDone, Job, Lender, Lender
 use Rattle.msg_frames.specs.declared.log.Turn.{Turn}
 use Rattle.msg_frames.specs.Prelude.{AreAccessesOf, BatchesRunSideBySide, Member, SameSystems, State, after_turns_of, all_home, home, logged_turn, turn_of}
 use Rattle.msg_exec.specs.{inner.Batches.AreDone, inner.Totals.HasFewReplies, inner.Lending.AreOut, inner.Lending.ComesHome, inner.Lending.IsOut, inner.Lending.any_writes}
-use Rattle.msg_exec.proofs.{BatchGoesOut.has_written, BatchGoesOut.left_stands, SystemAfterTurn.few_replies, SystemAfterTurn.its_own, SystemAfterTurn.of_another, SystemAfterTurn.totals_after, ItemsOfLists.get_other, ItemsOfLists.get_same, ItemsOfLists.some_of, JobsAreDone.none_there, BatchWritesApart.later_write_not, BatchWritesApart.written_is_used, BatchGoesOut.IsBatch, BatchWritesApart.Free}
+use Rattle.msg_exec.proofs.{BatchGoesOut.has_written, BatchGoesOut.left_stands, SystemAfterTurn.few_replies, SystemAfterTurn.its_own, SystemAfterTurn.of_another, SystemAfterTurn.totals_after, ItemsOfLists.get_other, ItemsOfLists.get_same, ItemsOfLists.some_of, JobsAreDone.none_there, BatchWritesApart.later_write_not, BatchWritesApart.written_is_used, BatchGoesOut.IsBatch, BatchWritesApart.Free, ItemsOfLists.zip_of_each}
 use Rattle.msg_frames.proofs.{SystemsStay.turns_keep_systems, ElementsAndPairs.pairs_head, ElementsAndPairs.pairs_right}
 use Rattle.msg_order.proofs.Elements.{Contains-cases, Contains-head, Contains-tail, not_in_none}
 
@@ -50,19 +50,15 @@ module _ {S : Type 0} (meaning : S → Meaning) where
       let taken : PartsStand j.taken s.world = λ p. grind (arith, cases_Bool) in
       grind (arith, has_written, taken)
 
-  all_back : (whole left : Lender S) (s : State) (is : List ℕ) (js : List (Job S)) (ds : List (Done S))
-      → LenderStands meaning whole s → All (λ i. i < s.systems) is
-      → PartsStand left.world s.world → AllZip (IsOut whole) is js → AreDone meaning left.world js ds
-      → AllZip (IsBack whole s) is ds
-  all_back whole left s [] [] [] stands below world out done = tt
-  all_back whole left s [] [] (d ∷ ds) stands below world out done = absurd done
-  all_back whole left s [] (j ∷ js) ds stands below world out done = absurd out
-  all_back whole left s (i ∷ is) [] ds stands below world out done = absurd out
-  all_back whole left s (i ∷ is) (j ∷ js) [] stands below world out done = absurd done
-  all_back whole left s (i ∷ is) (j ∷ js) (d ∷ ds) stands below world out done = (
-    is_back whole left s i j d stands (All-head (λ i. i < s.systems) i is below) world out.0 done.0,
-    all_back whole left s is js ds stands (All-tail (λ i. i < s.systems) i is below) world out.1 done.1,
-  )
+  pub all_back : {whole left : Lender S} {s : State} {batch : List ℕ} {js : List (Job S)} {ds : List (Done S)}
+      → IsBatch meaning whole s batch → AreOut whole batch js left → AreDone meaning left.world js ds
+      → AllZip (IsBack whole s) batch ds
+  all_back {whole} {left} {s} {batch} {js} {ds} of out done =
+      zip_of_each (IsBack whole s) batch ds (done.as_many ∙ AllZip-long (IsOut whole) batch js out.each) (λ k i d at there.
+      let (j, (found, its)) = some_of (slice_get js k) (rw at at (AllZip-left (IsOut whole) batch js out.each k)) in
+      let below = rw (get_or_from_slice_get batch k i i at) at (of.below k i (slice_get_within batch k i at)) in
+      is_back whole left s i j d of.stands below (left_stands meaning whole left s batch js of.stands.world out) its
+      (done.each k j d found there))
 
   -- ---- some have come home, and the rest is still out
 
@@ -160,15 +156,13 @@ module _ {S : Type 0} (meaning : S → Meaning) where
 
   pub begin_home : {whole left : Lender S} {s : State} {batch : List ℕ} {js : List (Job S)} {ds : List (Done S)}
       {turns : List Turn} → IsBatch meaning whole s batch → AreOut whole batch js left
-      → AreDone meaning left.world js ds → ComingHome whole batch s ds left turns turns
-  begin_home {whole} {left} {s} {batch} {js} {ds} {turns} of out done = record {
+      → AllZip (IsBack whole s) batch ds → ComingHome whole batch s ds left turns turns
+  begin_home {whole} {left} {s} {batch} {js} {turns = turns} of out back = record {
     of = of;
     come = [];
     rest = batch;
     all = refl;
-    back =
-        all_back whole left s batch js ds of.stands of.below
-        (left_stands meaning whole left s batch js of.stands.world out) out.each done;
+    back = back;
     half = all_out whole left s batch js of.stands out;
     logged_so_far = sym (append-nil turns);
   }

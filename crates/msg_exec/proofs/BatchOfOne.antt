@@ -8,7 +8,7 @@ use Rattle.msg_exec.specs.Prelude.{Done, GuardedSystem, HasTakenTurn, Job, Lende
 use Rattle.msg_frames.specs.declared.log.Outcome.{Outcome}
 use Rattle.msg_frames.specs.Prelude.{BatchesRunSideBySide, State, after_turn_of, logged_turn}
 use Rattle.msg_exec.specs.inner.Lending.{AreOut, ComesHome}
-use Rattle.msg_exec.proofs.{BatchComesHome.ComingHome, BatchComesHome.MayCome, BatchComesHome.all_came, BatchComesHome.begin_home, BatchComesHome.is_back, BatchComesHome.next_comes, BatchComesHome.next_may_come, BatchGoesOut.all_may_run, BatchGoesOut.left_stands, BatchGoesOut.IsBatch, BatchWritesApart.Free}
+use Rattle.msg_exec.proofs.{BatchComesHome.ComingHome, BatchComesHome.MayCome, BatchComesHome.all_came, BatchComesHome.begin_home, BatchComesHome.is_back, BatchComesHome.next_comes, BatchComesHome.next_may_come, BatchGoesOut.all_may_run, BatchGoesOut.left_stands, BatchGoesOut.IsBatch, BatchWritesApart.Free, BatchComesHome.IsBack}
 use Rattle.std.proofs.lemmas.List.{get_or_read}
 
 no_pairs : (R : ℕ → ℕ → Type 0) (i : ℕ) → AllPairs R (i ∷ [])
@@ -46,8 +46,14 @@ module _ {S : Type 0} (meaning : S → Meaning) (g : Lender S) (s : State) (i : 
       abbrev pub its_done : Done S
       its_done = record { number = i; guarded = after; taken = later; outcome = came }
 
+      back : IsBack meaning g s i its_done
+      back =
+          is_back meaning g mid s i its_job its_done stands lt
+          (left_stands meaning g mid s (i ∷ []) (its_job ∷ []) stands.world out) out.each.0
+          (record { number = refl; turn = took })
+
       begun : ComingHome meaning g (i ∷ []) s (its_done ∷ []) mid [] []
-      begun = begin_home meaning one out (record { number = refl; turn = took }, tt)
+      begun = begin_home meaning one out (back, tt)
 
       pub may_come_home : MayCome mid its_done
       may_come_home = next_may_come meaning refl begun
@@ -59,9 +65,4 @@ module _ {S : Type 0} (meaning : S → Meaning) (g : Lender S) (s : State) (i : 
           (all_came meaning law refl (next_comes meaning refl begun comes refl merges either)).0
 
       pub turn_is_logged : record { system = i; outcome = came } ≡ logged_turn s i
-      turn_is_logged =
-          let back =
-          is_back meaning g mid s i its_job its_done stands lt
-          (left_stands meaning g mid s (i ∷ []) (its_job ∷ []) stands.world out) out.each.0
-          (record { number = refl; turn = took }) in
-          λ k. record { system = i; outcome = back.after.outcome k }
+      turn_is_logged = λ k. record { system = i; outcome = back.after.outcome k }

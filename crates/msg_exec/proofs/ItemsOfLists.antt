@@ -2,6 +2,7 @@
 use Rattle.std.proofs.Common.{◌≡◌, ◌≢◌, ◌⊎◌, ℕ, ◌<◌, ◌++◌, List, [], ◌∷◌, length, set, Option, None, Some, refl, arith, zero, suc, IsSomeAnd, slice_get}
 use Rattle.std.proofs.lemmas.{Bool.cases_order, List.get_or-set_other, List.get_or-set_same, List.get_or_append_left, List.get_or_default, List.get_or_push, List.length-set, List.length_push, Option.slice_get_cases}
 use Rattle.msg_exec.specs.Prelude.{EachIs}
+use Rattle.std.specs.List.{AllZip}
 
 -- ---- what stands in an option, and at an index
 
@@ -15,6 +16,15 @@ pub item_at : {X : Type 0} (xs : List X) (i : ℕ) → i < length xs → (x : X)
 item_at [] i lt = absurd (omega (arith, lt))
 item_at (x ∷ xs) zero lt = (x, refl)
 item_at (x ∷ xs) (suc i) lt = item_at xs i (omega (arith, lt))
+
+-- two lists side by side, by the items at each index
+pub zip_of_each : {X Y : Type 0} (R : X → Y → Type 0) (xs : List X) (ys : List Y) → length ys ≡ length xs
+    → ((k : ℕ) (x : X) (y : Y) → slice_get xs k ≡ Some x → slice_get ys k ≡ Some y → R x y) → AllZip R xs ys
+zip_of_each R [] [] many each = tt
+zip_of_each R [] (y ∷ ys) many each = absurd (omega (arith, many))
+zip_of_each R (x ∷ xs) [] many each = absurd (omega (arith, many))
+zip_of_each R (x ∷ xs) (y ∷ ys) many each =
+    (each 0 x y refl refl, zip_of_each R xs ys (omega (arith, many)) (λ k. each (suc k)))
 
 -- ---- a list with one item set
 

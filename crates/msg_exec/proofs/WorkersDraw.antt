@@ -1,5 +1,5 @@
 -- What workers draw from the board, and that a worker passed the gate for each job, with its own number.
-use Rattle.std.proofs.Common.{◌≡◌, ℕ, zero, suc, ◌+◌, ◌<◌, ◌≤◌, ◌==◌, cond, inl, inr, List, [], ◌∷◌, ◌++◌, length, map, min, Some, refl, ap, subst, arith, All, Contains, slice_get}
+use Rattle.std.proofs.Common.{◌≡◌, ℕ, zero, suc, ◌+◌, ◌<◌, ◌≤◌, ◌==◌, cond, inl, inr, List, [], ◌∷◌, ◌++◌, length, min, Some, refl, ap, subst, arith, All, Contains, slice_get}
 use Rattle.std.specs.{List.AllZip, Option.unwrap_or}
 use Rattle.std.proofs.lemmas.{Bool.cases_Bool, Bool.eqb-true, Bool.cases_lt, List.length-append, List.Elements.All-append, List.Elements.All-cons, List.Elements.All-head, List.Elements.All-tail, List.Elements.Contains-push_cases, List.Sums.sum_by-append, Option.slice_get_within}
 use Rattle.msg_board.specs.Prelude.{BoardView, HasEnded, HoldsEachOnce, PassState, drawn_by, jobs_of, times}
@@ -85,15 +85,6 @@ module _ {J : Type 0} (b : BoardView J) (Such : ℕ → J → Type 0) where
           subst (λ w. EachNewIs (Such w) (jobs_of b) [] q.drawn) (omega arith) (others.each k q at)
 
 -- ---- system by system
-
-module _ {B J : Type 0} (P : J → Type 0) (job : B → J) where
-  pub all_mapped : (bs : List B) (jobs : List J) → map job bs ≡ jobs
-      → ((k : ℕ) (b : B) → slice_get bs k ≡ Some b → P (job b)) → All P jobs
-  all_mapped bs jobs same h = subst (All P) same (each bs h)
-    where
-      each : (bs : List B) → ((k : ℕ) (b : B) → slice_get bs k ≡ Some b → P (job b)) → All P (map job bs)
-      each [] h = λ k d lt. absurd (omega (arith, lt))
-      each (b ∷ bs) h = All-cons P (job b) (map job bs) (h 0 b refl) (each bs (λ k. h (suc k)))
 
 module _ {S : Type 0} (P : ℕ → Type 0) (whole : Lender S) where
   -- the jobs that are out are those of the batch

@@ -3,7 +3,7 @@ use Rattle.std.proofs.lemmas.Slice.Zip.{AllZip-long}
 use Rattle.msg_exec.specs.Prelude.{PassedGate}
 use Rattle.msg_exec.specs.inner.Lending.{IsOut}
 use Rattle.msg_frames.specs.Prelude.{State}
-use Rattle.msg_exec.proofs.{WorkersDraw.of_batch, BatchAfterBatch.no_more_than, BatchComesHome.all_came, BatchComesHome.begin_home, BatchComesHome.next_comes, BatchComesHome.next_may_come, BatchGoesOut.all_may_run, BatchGoesOut.is_batch}
+use Rattle.msg_exec.proofs.{WorkersDraw.of_batch, BatchAfterBatch.no_more_than, BatchComesHome.all_came, BatchComesHome.begin_home, BatchComesHome.next_comes, BatchComesHome.next_may_come, BatchGoesOut.all_may_run, BatchGoesOut.is_batch, BatchComesHome.all_back}
 use Rattle.msg_exec.proofs.batch.run_many.Goals as goal
 
 pub run_side_by_side-requires-clause-few : goal.run_side_by_side-requires-clause-few
@@ -25,7 +25,8 @@ loop-done-init g c s stands =
     let r = c.requires in
     rw c.into_iter-done-iterator.ensures.into_iter_gives.0
     (begin_home g.S.System.meaning (is_batch g.S.System.meaning r.stands r.once r.apart stands)
-    c.in_ok-jobs.ensures.out c.in_ok-all.ensures.done)
+    c.in_ok-jobs.ensures.out (all_back g.S.System.meaning (is_batch g.S.System.meaning r.stands r.once r.apart stands)
+    c.in_ok-jobs.ensures.out c.in_ok-all.ensures.done))
 
 pub take_back-requires-clause-systems : goal.take_back-requires-clause-systems
 take_back-requires-clause-systems g c κs within =

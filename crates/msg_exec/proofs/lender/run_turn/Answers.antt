@@ -31,10 +31,8 @@ returns-clause-state g c s stands =
       totals = (
         _,
         refl,
-        entered_there g.S.System.meaning _ old.totals.items c.index_mut-2.result.now c.deref_mut.result.now
-            c.enter.new.totals
-            c.index_mut-2.ensures.value c.deref_mut.ensures.value
-            (omega (arith, c.enter.ensures.as_many, c.deref_mut.ensures.len))
+        entered_there g.S.System.meaning _ old.totals.items {now = c.enter.new.totals} c.index_mut-2.ensures.value
+            c.deref_mut.ensures.value (omega (arith, c.enter.ensures.as_many, c.deref_mut.ensures.len))
             (record { as_many = c.enter.ensures.as_many; entered = c.enter.ensures.entered }),
       );
     })

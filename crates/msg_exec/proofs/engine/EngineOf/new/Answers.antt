@@ -70,7 +70,7 @@ returns-clause-meaning g c w stands =
       rules = c.args.rules;
       plan = c.in_ok-plan.plan;
     } in
-    let schedule : Schedule core s = schedule_along core core first s refl refl (joining_on_keeps 1 first)
+    let schedule : Schedule core s = schedule_along refl refl (joining_on_keeps 1 first)
     (schedule_first m c.args.world systems places c.requires.whole c.requires.one_place_each c.requires.each core
     c.args.rules.items w c.requires.few c.requires.in_range
     (none_more c.fewer_systems_make_no_cycle.ensures.law (length systems) c.args.rules.items
