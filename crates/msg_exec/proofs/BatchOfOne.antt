@@ -14,7 +14,7 @@ use Rattle.std.proofs.lemmas.List.{get_or_read}
 no_pairs : (R : ℕ → ℕ → Type 0) (i : ℕ) → AllPairs R (i ∷ [])
 no_pairs R i = λ a b d lt l. absurd (omega arith)
 
-module _ {S : Type 0} (meaning : S → Meaning) (g : Lender S) (s : State) (i : ℕ) (stands : LenderStands meaning g s)
+module _ {S : Type 0} (meaning : S → Meaning) {g : Lender S} {s : State} (i : ℕ) (stands : LenderStands meaning g s)
     (lt : i < s.systems) where
   one : IsBatch meaning g s (i ∷ [])
   one = record {
@@ -25,7 +25,7 @@ module _ {S : Type 0} (meaning : S → Meaning) (g : Lender S) (s : State) (i : 
   }
 
   -- What its access writes is out, and the system is where it was.
-  module _ (left taken : Parts) (a : Access) (held : Option (GuardedSystem S)) (guarded : GuardedSystem S)
+  module _ {left taken : Parts} {a : Access} {held : Option (GuardedSystem S)} {guarded : GuardedSystem S}
       (is_its : a ≡ get_or g.accesses.items i a)
       (is_there : held ≡ get_or g.systems.items i held) (is_some : held ≡ Some guarded)
       (lent : LendsOut a g.world left taken) where
@@ -41,7 +41,7 @@ module _ {S : Type 0} (meaning : S → Meaning) (g : Lender S) (s : State) (i : 
     pub may_take_turn : MayRun meaning left its_job
     may_take_turn = all_may_run meaning one out 0 its_job refl
 
-    module _ (later : Parts) (came : Outcome) (after : GuardedSystem S)
+    module _ {later : Parts} {came : Outcome} {after : GuardedSystem S}
         (took : HasTakenTurn meaning left taken guarded later came after) where
       abbrev pub its_done : Done S
       its_done = record { number = i; guarded = after; taken = later; outcome = came }
@@ -58,10 +58,9 @@ module _ {S : Type 0} (meaning : S → Meaning) (g : Lender S) (s : State) (i : 
       pub may_come_home : MayCome mid its_done
       may_come_home = next_may_come meaning refl begun
 
-      pub turn_taken : (new : Lender S) → ComesHome meaning mid its_done new → HomeMerges → HomeWhereEither
-          → BatchesRunSideBySide
-          → LenderStands meaning new (after_turn_of i s)
-      turn_taken new comes merges either law =
+      pub turn_taken : {new : Lender S} → ComesHome meaning mid its_done new → HomeMerges → HomeWhereEither
+          → BatchesRunSideBySide → LenderStands meaning new (after_turn_of i s)
+      turn_taken comes merges either law =
           (all_came meaning law refl (next_comes meaning refl begun comes refl merges either)).0
 
       pub turn_is_logged : record { system = i; outcome = came } ≡ logged_turn s i
