@@ -1,5 +1,5 @@
 -- The systems of a batch come home, one after the other.
-use Rattle.std.proofs.Common.{◌≡◌, ◌≢◌, ℕ, ◌<◌, false, List, [], ◌∷◌, ◌++◌, length, map, None, append_assoc, refl, sym, ap, ◌∙◌, inl, inr, arith, All, AllPairs, Contains, IsSomeAnd, IsTrue, is_some, slice_get, if◌then◌else◌}
+use Rattle.std.proofs.Common.{◌≡◌, ◌≢◌, ℕ, ◌<◌, false, List, [], ◌∷◌, ◌++◌, length, map, None, append_assoc, refl, sym, ap, ◌∙◌, arith, All, AllPairs, Contains, IsSomeAnd, IsTrue, is_some, slice_get, if◌then◌else◌, inl, inr}
 use Rattle.std.proofs.lemmas.{Bool.cases_Bool, Bool.Decides.eqb_tells, List.append-nil, List.get_or-set_other, List.get_or-set_same, List.length-set, List.map-append, List.Elements.All-contains, List.Elements.Contains-append_right, Slice.Zip.AllZip-long, List.nil_from_length, Slice.Zip.AllZip-left, Option.get_or_from_slice_get, Option.slice_get_within}
 use Rattle.std.specs.List.{AllZip}
 use Rattle.msg_world.specs.declared.access.Access.{Access}
@@ -8,7 +8,7 @@ use Rattle.msg_order.specs.Prelude.{access_of}
 use Rattle.msg_system.specs.Prelude.{Job as JobState, Meaning, after_job}
 use Rattle.msg_exec.specs.Prelude.{Done, IsAfterJob, IsDone, Job, Lender, LenderStands, TotalsStand, job_state, system_at}
 use Rattle.msg_frames.specs.declared.log.Turn.{Turn}
-use Rattle.msg_frames.specs.Prelude.{AreAccessesOf, BatchesRunSideBySide, Member, SameSystems, State, after_turns_of, all_home, home, logged_turn, turn_of}
+use Rattle.msg_frames.specs.Prelude.{AreAccessesOf, BatchesRunSideBySide, SameSystems, State, after_turns_of, all_home, home, logged_turn, turn_of}
 use Rattle.msg_exec.specs.{inner.Batches.AreDone, inner.Totals.HasFewReplies, inner.Lending.AreOut, inner.Lending.ComesHome, inner.Lending.IsOut, inner.Lending.any_writes}
 use Rattle.msg_exec.proofs.{BatchGoesOut.has_written, BatchGoesOut.left_stands, SystemAfterTurn.few_replies, SystemAfterTurn.its_own, SystemAfterTurn.of_another, SystemAfterTurn.totals_after, ItemsOfLists.get_other, ItemsOfLists.get_same, ItemsOfLists.some_of, JobsAreDone.none_there, BatchWritesApart.later_write_not, BatchWritesApart.written_is_used, BatchGoesOut.IsBatch, BatchWritesApart.Free, ItemsOfLists.zip_of_each}
 use Rattle.msg_frames.proofs.{SystemsStay.turns_keep_systems, ElementsAndPairs.pairs_head, ElementsAndPairs.pairs_right}
@@ -77,10 +77,6 @@ module _ {S : Type 0} (meaning : S → Meaning) where
     pub there : (p : Part) → is_some (slot p now.world)
         ≡ (if any_writes whole.accesses.items rest p then false else is_some (slot p whole.world))
 
-  all_out : (whole left : Lender S) (s : State) (is : List ℕ) (js : List (Job S)) → LenderStands meaning whole s
-      → AreOut whole is js left → Halfway whole s s is left
-  all_out whole left s is js stands out = grind (arith, cases_Bool, left_stands)
-
   module _ (whole now : Lender S) (s u : State) (i : ℕ) (rest : List ℕ) (d : Done S)
       (stands : LenderStands meaning whole s) (lt : i < s.systems)
       (half : Halfway whole s u (i ∷ rest) now) (back : IsBack whole s i d) where
@@ -94,10 +90,8 @@ module _ {S : Type 0} (meaning : S → Meaning) where
     module _ (new : Lender S) (comes : ComesHome meaning now d new) (fresh : ¬ Contains rest i)
         (free : All (Free whole.accesses.items i) rest)
         (merges : HomeMerges) (either : HomeWhereEither) where
-      abbrev its_turn : Member
-      its_turn = (turn_of s i).member
-
-      totals_back : IsSomeAnd (slice_get new.totals.items i) (λ v. TotalsStand s.types v.items its_turn.totals)
+      totals_back : IsSomeAnd (slice_get new.totals.items i)
+          (λ v. TotalsStand s.types v.items (turn_of s i).member.totals)
       totals_back =
           let there = rw (half.untouched i (Contains-head i rest)) at (half.totals i lt) in
           let old = some_of (slice_get now.totals.items i) there in
@@ -114,7 +108,7 @@ module _ {S : Type 0} (meaning : S → Meaning) where
         accesses = comes.accesses ∙ half.accesses;
         as_many = grind (arith, length-set);
         members = λ k below away. elim (eqb_tells k i) [
-          | inl same ↦ rw (same.1, its_own i its_turn u.members) (grind (arith, get_or-set_same))
+          | inl same ↦ rw (same.1, its_own i (turn_of s i).member u.members) (grind (arith, get_or-set_same))
           | inr other ↦
               let out : ¬ Contains (i ∷ rest) k = λ there. grind (arith, Contains-cases) in
               grind (arith, get_or-set_other, half.members k below out, of_another)
@@ -163,7 +157,7 @@ module _ {S : Type 0} (meaning : S → Meaning) where
     rest = batch;
     all = refl;
     back = back;
-    half = all_out whole left s batch js of.stands out;
+    half = (let stands = of.stands in grind (arith, cases_Bool, left_stands));
     logged_so_far = sym (append-nil turns);
   }
 

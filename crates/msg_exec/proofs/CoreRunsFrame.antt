@@ -1,8 +1,7 @@
 -- A frame begins, takes its turns, and leaves a core that stands for the state after it.
 use Rattle.std.proofs.Common.{◌≡◌, ℕ, suc, ◌<◌, Bool, false, List, map, max, ap, ◌∙◌, arith, IsTrue, ◌↔◌, nat_le, refl}
 use Rattle.std.specs.List.{concat}
-use Rattle.std.proofs.lemmas.{Bool.cases_Bool, Bool.eqb-false, Bool.lt-leb, Bool.ne_eqb, Bool.Decides.nat_tests, List.FromFn.fill_by_all, List.FromFn.get_or-map-range_with_len, List.FromFn.length-map-range_with_len, List.get_or-map, List.length-map}
-use Rattle.msg_world.specs.Prelude.{Parts, PartsStand, SameShape, WorldState}
+use Rattle.std.proofs.lemmas.{Bool.lt-leb, Bool.Decides.nat_tests, List.FromFn.fill_by_all, List.FromFn.get_or-map-range_with_len, List.FromFn.length-map-range_with_len, List.get_or-map, List.length-map}
 use Rattle.msg_order.specs.Prelude.{IsLawfulOrder, PlanView}
 use Rattle.msg_system.specs.declared.reply.Reply.{Reply}
 use Rattle.msg_system.specs.Prelude.{Meaning}
@@ -10,7 +9,6 @@ use Rattle.msg_exec.specs.Prelude.{AreJoins, Core, CoreStands, Lender, LenderSta
 use Rattle.msg_frames.specs.{declared.frame.Frame.Frame, declared.log.Log.Log}
 use Rattle.msg_exec.specs.{inner.FrameSteps.HasLeft, inner.FrameSteps.HasOpened, inner.FrameSteps.NobodyJoins, inner.FrameSteps.counted, inner.Lending.HaveReadNothing, inner.FrameSteps.PlansNext}
 use Rattle.msg_frames.specs.Prelude.{IsLawfulFor, IsOrderOf, SystemsHaveOneOrder, FrameStaysSound, IsFrame, IsSoundState, SameSystems, State, after_turns_of, before_turns, frame_in, has_begun, join_flags, joining}
-use Rattle.msg_exec.proofs.{SystemsJoin.members_alike, SystemAfterTurn.member_stays}
 use Rattle.msg_frames.proofs.{SystemsStay.accesses_stay, SystemsStay.before_keeps, SystemsStay.joined_stay, SystemsStay.joining_keeps, SystemsStay.joining_makes_no_frame, SystemsStay.no_cycle_stays, SystemsStay.turns_keep_systems, SystemsStay.turns_make_no_frame, FramesInOrder.frame_in_order}
 
 -- ---- the schedule
@@ -47,10 +45,6 @@ nobody_more s none =
 
 -- ---- the frame begins
 
-pub unchanged : {S : Type 0} (meaning : S → Meaning) (g : Lender S) (s : State) → NobodyJoins s
-    → LenderStands meaning g s → LenderStands meaning g (joining s)
-unchanged meaning g s none stands = grind (arith, cases_Bool, eqb-false, members_alike, ne_eqb)
-
 -- those that are about to join were given nothing
 pub about_to_join : (s : State) → IsSoundState s → 0 < s.frames → HaveReadNothing (suc s.frames) s
 about_to_join s sound some i t joins = grind (arith, lt-leb, sound.waiting i t)
@@ -58,12 +52,6 @@ about_to_join s sound some i t joins = grind (arith, lt-leb, sound.waiting i t)
 -- ---- the frame opens, and its turns are taken
 
 module _ {S : Type 0} (meaning : S → Meaning) where
-  -- another world of the same parts
-  pub world_stands : (g : Lender S) (s : State) (parts : Parts) (w : WorldState) (frames : ℕ) → LenderStands meaning g s
-      → SameShape g.world parts → PartsStand parts w
-      → LenderStands meaning (record g { world = parts }) (record s { world = w; frames = frames })
-  world_stands g s parts w frames stands shape is = grind (arith, member_stays)
-
   module _ {b : Core S} {s : State} {frame : Frame} {replies : List Reply}
       (has : HasOpened meaning frame s b replies) where
     abbrev order : List ℕ

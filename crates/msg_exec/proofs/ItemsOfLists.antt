@@ -1,5 +1,5 @@
 -- What stands in a list or an option, in a list with an item set, and in a longer one.
-use Rattle.std.proofs.Common.{◌≡◌, ◌≢◌, ◌⊎◌, ℕ, ◌<◌, ◌++◌, List, [], ◌∷◌, length, set, Option, None, Some, refl, arith, zero, suc, IsSomeAnd, slice_get}
+use Rattle.std.proofs.Common.{◌≡◌, ◌≢◌, ℕ, ◌<◌, ◌++◌, List, [], ◌∷◌, length, set, Option, None, Some, refl, arith, zero, suc, IsSomeAnd, slice_get}
 use Rattle.std.proofs.lemmas.{Bool.cases_order, List.get_or-set_other, List.get_or-set_same, List.get_or_append_left, List.get_or_default, List.get_or_push, List.length-set, List.length_push, Option.slice_get_cases}
 use Rattle.msg_exec.specs.Prelude.{EachIs}
 use Rattle.std.specs.List.{AllZip}
@@ -37,11 +37,6 @@ get_same xs i x lt = grind (arith, slice_get_cases, get_or-set_same, length-set)
 -- ---- a list with one item more
 
 module _ {X : Type 0} where
-  -- what is found in a longer list is found in the list, or is the last
-  pub found_in_longer : (xs : List X) (y : X) (i : ℕ) (x : X) → slice_get (xs ++ y ∷ []) i ≡ Some x
-      → (slice_get xs i ≡ Some x) ⊎ ((i ≡ length xs) × (y ≡ x))
-  found_in_longer xs y i x is =
-      grind (arith, cases_order, get_or_append_left, get_or_default, get_or_push, length_push, slice_get_cases)
-
   pub each_pushed : (P : ℕ → X → Type 0) (xs : List X) (y : X) → EachIs P xs → P (length xs) y → EachIs P (xs ++ y ∷ [])
-  each_pushed P xs y each here i x is = grind (arith, found_in_longer)
+  each_pushed P xs y each here i x is =
+      grind (arith, cases_order, get_or_append_left, get_or_default, get_or_push, length_push, slice_get_cases)

@@ -38,8 +38,8 @@ pub skipped_job : {S : Type 0} (meaning : S → Meaning) (before now : GuardedSy
 skipped_job meaning before now taken w skips same asked stand = grind arith
 
 -- the conditions of a vector after they were asked through a slice of it
-pub asked_guards : {Z : Type 0} (guards : Vec Asked Z) (slice after : List Asked) (w : WorldState) → slice
+pub asked_guards : {Z : Type 0} (guards : Vec Asked Z) {slice after : List Asked} (w : WorldState) → slice
     ≡ guards.items → map (λ (a : Asked). a.condition) after ≡ map (λ (a : Asked). a.condition) slice
     → after ≡ map (after_asking w) slice → (with_items guards after).items ≡ map (after_asking w) guards.items
-asked_guards guards slice after w there same moved =
+asked_guards guards {after = after} w there same moved =
     rw (with_items_is guards after (grind (arith, length-map)), moved, there) refl

@@ -30,8 +30,7 @@ loop-t-preserved g c = record {
             (rw c.deref.ensures.value at c.in-Some-Some.ensures.lookup.1) lt in
             let is = rw c.deref-in-loop-t.ensures.value at (c.in-Some-Some-2.ensures'.lookup.3.1 no_totals)
             ∙ its.each t within in
-            reader_more s i t c.args.accounts.now.items c.loop-t.accounts.items c.if-reads_type.accounts.items
-            w.account.result (sym reader ∙ w.if-reads_type.true)
+            reader_more s i t _ (sym reader ∙ w.if-reads_type.true)
             ((rw (c.in-Ok.ensures.1, c.in-Some-Some-2.ensures.value) at (w.account.ensures.account s stands)) within is)
             far (rw w.accounts-is w.in_ok-push.ensures.items))
         | else-reads_type w ↦ rw (

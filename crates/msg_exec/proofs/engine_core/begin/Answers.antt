@@ -1,14 +1,14 @@
 use Rattle.std.proofs.Common.{arith, refl}
-use Rattle.std.proofs.lemmas.Bool.{ne_eqb}
+use Rattle.std.proofs.lemmas.Bool.{ne_eqb, cases_Bool, eqb-false}
 use Rattle.msg_frames.proofs.SystemsStay.{joining_keeps}
-use Rattle.msg_exec.proofs.CoreRunsFrame.{about_to_join, nobody_more, schedule_along, unchanged}
+use Rattle.msg_exec.proofs.{CoreRunsFrame.about_to_join, CoreRunsFrame.nobody_more, CoreRunsFrame.schedule_along, SystemsJoin.members_alike}
 use Rattle.msg_exec.proofs.engine_core.begin.Goals as goal
 
 pub returns-in_default-clause-begun : goal.returns-in_default-clause-begun
 returns-in_default-clause-begun g c s stands is =
     let none = rw c.in_default.is at (c.in_ok-next.ensures.plan s stands is) in
     record {
-      lender = unchanged g.S.System.meaning c.args.core.lender s none stands.lender;
+      lender = (let lender = stands.lender in grind (arith, cases_Bool, eqb-false, members_alike, ne_eqb));
       schedule = schedule_along refl refl (joining_keeps s) stands.schedule;
       plan = rw ((joining_keeps s).rules, nobody_more s none) stands.plan;
     }

@@ -1,10 +1,10 @@
 use Rattle.std.proofs.Common.{◌+◌, inl, inr, ◌≡◌, ◌<◌, None, length, sym, ap, ◌∙◌, arith, refl}
 use Rattle.std.specs.Vec.{with_items}
 use Rattle.msg_buffer.specs.Prelude.{count}
-use Rattle.std.proofs.lemmas.{Bool.cases_eq, Bool.eq-eqb, Bool.le-ltb, Bool.lt-ltb, Bool.Decides.nat_tests, List.FromFn.fill_by_all, Option.get_or_from_slice_get, List.get_or_default, List.get_or-set_other, List.get_or-set_same, List.length-set, List.with_items_is}
+use Rattle.std.proofs.lemmas.{Bool.cases_eq, Bool.eq-eqb, Bool.le-ltb, Bool.lt-ltb, Bool.Decides.nat_tests, List.FromFn.fill_by_all, Option.get_or_from_slice_get, List.get_or_default, List.get_or-set_other, List.get_or-set_same, List.length-set, List.with_items_is, Simd.map-map}
 use Rattle.msg_frames.specs.Prelude.{Member, counts, job_begun, totals_from, with_joining}
 use Rattle.msg_exec.specs.Prelude.{system_at}
-use Rattle.msg_exec.proofs.{SystemsJoin.conditions_start, SystemsJoin.joined_below, SystemsJoin.members_alike, SystemsJoin.still, SystemAfterTurn.member_stays, SystemAfterTurn.totals_there, ItemsOfLists.get_other, ItemsOfLists.get_same, ItemsOfLists.some_of}
+use Rattle.msg_exec.proofs.{SystemsJoin.joined_below, SystemsJoin.members_alike, SystemsJoin.still, SystemAfterTurn.member_stays, SystemAfterTurn.totals_there, ItemsOfLists.get_other, ItemsOfLists.get_same, ItemsOfLists.some_of}
 use Rattle.msg_exec.specs.inner.Totals.{first_place}
 use Rattle.msg_system.specs.Prelude.{Job as JobState}
 use Rattle.msg_exec.proofs.joining.join_those.Goals as goal
@@ -71,7 +71,7 @@ loop-i-preserved g c =
               | inl is ↦ rw (is, lt-ltb i (i + 1) (omega arith), eq-eqb _ _ joined, ← same) (record {
                 guarded = rw (get_or-set_same lender.systems.items i x None (omega (arith, lt, far.systems)), b.1.0)
                     (b.1.1 ∙ ap (job_begun cs) a.1.1);
-                access = rw (conditions_start member.job.system.start cs member.job.conditions) here.access;
+                access = rw map-map here.access;
                 home = here.home;
                 totals = rw (get_same lender.totals.items i w (omega (arith, lt, far.totals))) (record {
                   as_many = many;

@@ -18,8 +18,7 @@ returns-then-not-check_all g c =
             skipped_job g.S.System.meaning old _ _ w
             (sym c.if-not-check_all.true ∙ c.check_all.ensures.answer w stands ∙ ap (λ gs. all_hold gs w) there)
             refl
-            (asked_guards old.guards c.deref_mut.result.now c.check_all.new.guards w there c.check_all.ensures.same
-            (c.check_all.ensures.moved w stands))
+            (asked_guards old.guards w there c.check_all.ensures.same (c.check_all.ensures.moved w stands))
             (rw kept at lent);
       };
     }
@@ -40,8 +39,7 @@ returns g c =
             let stands = c.open-lent.ensures.meaning w world lent in
             ran_job g.S.System.meaning old _ l taken w _ _ _ c.requires.empty c.from_vec.ensures.items
             (sym c.if-not-check_all.false ∙ c.check_all.ensures.answer w stands ∙ ap (λ gs. all_hold gs w) there)
-            (asked_guards old.guards c.deref_mut.result.now c.check_all.new.guards w there c.check_all.ensures.same
-            (c.check_all.ensures.moved w stands))
+            (asked_guards old.guards w there c.check_all.ensures.same (c.check_all.ensures.moved w stands))
             ran stands
             (c.what_is_given_back_stands.ensures.law l taken (turn (g.S.System.meaning old.system) w).state
             (λ p isnt. none p (ap (λ (a : Access). writes a p) (sym c.open-lent.ensures.access) ∙ isnt))
