@@ -43,10 +43,9 @@ module _ {S : Type 0} (meaning : S → Meaning) where
     pub there : (p : Part) → is_some (slot p d.taken) ≡ writes (access_of whole.accesses.items i) p
     pub after : IsAfterJob meaning (after_job (s.members i).job s.world) d.guarded d.taken d.outcome
 
-  pub is_back : (whole left : Lender S) (s : State) (i : ℕ) (j : Job S) (d : Done S) → LenderStands meaning whole s
-      → i < s.systems
-      → PartsStand left.world s.world → IsOut whole i j → IsDone meaning left.world j d → IsBack whole s i d
-  is_back whole left s i j d stands lt world out done =
+  pub is_back : {whole : Lender S} (left : Lender S) {s : State} (i : ℕ) {j : Job S} {d : Done S} → LenderStands meaning whole s
+      → i < s.systems → PartsStand left.world s.world → IsOut whole i j → IsDone meaning left.world j d → IsBack whole s i d
+  is_back left {s} i {j} stands lt world out done =
       let taken : PartsStand j.taken s.world = λ p. grind (arith, cases_Bool) in
       grind (arith, has_written, taken)
 
@@ -57,7 +56,7 @@ module _ {S : Type 0} (meaning : S → Meaning) where
       zip_of_each (IsBack whole s) batch ds (done.as_many ∙ AllZip-long (IsOut whole) batch js out.each) (λ k i d at there.
       let (j, (found, its)) = some_of (slice_get js k) (rw at at (AllZip-left (IsOut whole) batch js out.each k)) in
       let below = rw (get_or_from_slice_get batch k i i at) at (of.below k i (slice_get_within batch k i at)) in
-      is_back whole left s i j d of.stands below (left_stands meaning whole left s batch js of.stands.world out) its
+      is_back left i of.stands below (left_stands meaning whole left s batch js of.stands.world out) its
       (done.each k j d found there))
 
   -- ---- some have come home, and the rest is still out

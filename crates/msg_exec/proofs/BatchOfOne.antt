@@ -48,7 +48,7 @@ module _ {S : Type 0} (meaning : S → Meaning) {g : Lender S} {s : State} (i : 
 
       back : IsBack meaning g s i its_done
       back =
-          is_back meaning g mid s i its_job its_done stands lt
+          is_back meaning mid i stands lt
           (left_stands meaning g mid s (i ∷ []) (its_job ∷ []) stands.world out) out.each.0
           (record { number = refl; turn = took })
 

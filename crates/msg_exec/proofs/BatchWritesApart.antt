@@ -20,14 +20,10 @@ each_before R xs k d lt pairs m e below =
 
 -- ---- one of two
 
--- neither writes what the other uses
+-- it writes nothing that the other uses
 pub first_unwritten : (a b : Access) (p : Part) → ¬ Conflict a b → IsTrue (uses b p) → writes a p ≡ false
 first_unwritten a b p none used =
     false_from_ne_true (writes a p) (λ is. none (p, inl (and_from (writes a p) (uses b p) is used)))
-
-pub second_unwritten : (a b : Access) (p : Part) → ¬ Conflict a b → IsTrue (uses a p) → writes b p ≡ false
-second_unwritten a b p none used =
-    false_from_ne_true (writes b p) (λ is. none (p, inr (and_from (writes b p) (uses a p) is used)))
 
 pub written_is_used : (a : Access) (p : Part) → IsTrue (writes a p) → IsTrue (uses a p)
 written_is_used a p is = or_right (reads a p) (writes a p) is
@@ -55,7 +51,8 @@ module _ (accesses : List Access) where
   pub later_write_not : (is : List ℕ) (i : ℕ) (p : Part) → All (Free i) is → IsTrue (uses (access_of accesses i) p)
       → any_writes accesses is p ≡ false
   later_write_not is i p all used =
-      none_writes is p (λ k d lt. second_unwritten (access_of accesses i) _ p (all k d lt) used)
+      none_writes is p (λ k d lt. first_unwritten _ (access_of accesses i) p
+      (λ found. all k d lt (found.0, elim found.1 [ inl one ↦ inr one | inr other ↦ inl other ])) used)
 
   -- what one of them only reads none of them writes
   pub others_write_not : (is : List ℕ) (i : ℕ) (p : Part) → NoneConflict accesses is → Contains is i

@@ -10,7 +10,7 @@ use Rattle.msg_system.proofs.Accesses.{uses_needs}
 use Rattle.msg_frames.specs.declared.place.Place.{Place}
 use Rattle.msg_exec.specs.Prelude.{AreJoins, Core, EachIs, Lender, LenderStands, MayBeAdded, Schedule}
 use Rattle.msg_exec.specs.{inner.Building.AreNoTotals, inner.Building.IsAccessAt, inner.Building.IsGuardedAt, inner.Lending.HaveReadNothing}
-use Rattle.msg_frames.specs.Prelude.{AreNew, HasClash, all_rules, nobody, nowhere, unjoined}
+use Rattle.msg_frames.specs.Prelude.{AreNew, HasClash, all_rules, nobody, nowhere, unjoined, State}
 use Rattle.msg_exec.proofs.ItemsOfLists.{item_at}
 use Rattle.msg_system.specs.declared.condition.Condition.{Condition}
 
@@ -44,6 +44,10 @@ module _ {S : Type 0} (meaning : S → Meaning) where
           may = each i x.0 x.1;
         }
 
+    -- the state before any has joined
+    abbrev first : List Rule → WorldState → State
+    first rules w = unjoined (map meaning systems) places rules (length world.types) w
+
     module _ (g : Lender S) (rules : List Rule) (same : g.world ≡ world)
         (na : length g.systems.items ≡ length systems) (nc : length g.accesses.items ≡ length systems)
         (nt : length g.totals.items ≡ length systems)
@@ -51,10 +55,8 @@ module _ {S : Type 0} (meaning : S → Meaning) where
         (accesses : EachIs (IsAccessAt meaning systems places) g.accesses.items)
         (totals : EachIs (λ k w. AreNoTotals (length world.types) w.items) g.totals.items) where
       pub parts_stand : (js : List ℕ) → js ≡ map (λ (place : Place). place.join) places → (w : WorldState)
-          → PartsStand world w
-          → LenderStands meaning g (unjoined (map meaning systems) places rules (length world.types) w)
-          × AreJoins js (unjoined (map meaning systems) places rules (length world.types) w)
-          × HaveReadNothing 1 (unjoined (map meaning systems) places rules (length world.types) w)
+          → PartsStand world w → LenderStands meaning g (first rules w) × AreJoins js (first rules w)
+          × HaveReadNothing 1 (first rules w)
       parts_stand js is w stands =
           let n : length (map meaning systems) ≡ length systems = length-map systems meaning in (
             record {
@@ -67,9 +69,8 @@ module _ {S : Type 0} (meaning : S → Meaning) where
                   let none = totals i total.0 total.1 in
                   let there = slice_get-get_or g.systems.items i None (omega (arith, lt, n, na)) in
                   let system = guarded i _ there f.x f.place f.sx f.sp in
-                  let access =
-                  (accesses i (access_of g.accesses.items i)
-                  (slice_get-get_or g.accesses.items i _ (omega (arith, lt, n, nc)))).access f.x f.place f.sx f.sp in
+                  let its = slice_get-get_or g.accesses.items i _ (omega (arith, lt, n, nc)) in
+                  let access = (accesses i (access_of g.accesses.items i) its).access f.x f.place f.sx f.sp in
                   let fits = f.may.fits f.place f.sp in
                   rw (f.is, f.at)
                   (grind (arith, access, conditions_new, fits, none, system, total.1, uses_needs));
@@ -96,11 +97,8 @@ module _ {S : Type 0} (meaning : S → Meaning) where
 
     -- the schedule of a new engine
     pub schedule_first : (c : Core S) (rules : List Rule) (w : WorldState) → length systems ≤ 256
-        → NameSystemsBelow (length systems) rules
-        → ((joined : List Bool) → length joined ≡ length systems → IsAcyclic (rules_among joined rules))
-        → c.rules.items ≡ rules → AreJoins c.joins.items
-        (unjoined (map meaning systems) places rules (length world.types) w)
-        → Schedule c (unjoined (map meaning systems) places rules (length world.types) w)
+        → NameSystemsBelow (length systems) rules → ((joined : List Bool) → length joined ≡ length systems → IsAcyclic (rules_among joined rules))
+        → c.rules.items ≡ rules → AreJoins c.joins.items (first rules w) → Schedule c (first rules w)
     schedule_first c rules w few named none same joins =
         let n : length (map meaning systems) ≡ length systems = length-map systems meaning in
         record {

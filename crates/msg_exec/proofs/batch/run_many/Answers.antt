@@ -2,16 +2,14 @@ use Rattle.std.proofs.Common.{length, min, sym, ◌∙◌, arith, ◌≡◌}
 use Rattle.std.proofs.lemmas.Slice.Zip.{AllZip-long}
 use Rattle.msg_exec.specs.Prelude.{PassedGate}
 use Rattle.msg_exec.specs.inner.Lending.{IsOut}
-use Rattle.msg_frames.specs.Prelude.{State}
 use Rattle.msg_exec.proofs.{WorkersDraw.of_batch, BatchAfterBatch.no_more_than, BatchComesHome.all_came, BatchComesHome.begin_home, BatchComesHome.next_comes, BatchComesHome.next_may_come, BatchGoesOut.all_may_run, BatchGoesOut.is_batch, BatchComesHome.all_back}
 use Rattle.msg_exec.proofs.batch.run_many.Goals as goal
 
 pub run_side_by_side-requires-clause-few : goal.run_side_by_side-requires-clause-few
 run_side_by_side-requires-clause-few g c κs within =
-    let s : State = c.requires.stands.0 in
     let many =
     AllZip-long (IsOut c.args.lender.now) c.args.batch.now c.in_ok-jobs.jobs.items c.in_ok-jobs.ensures.out.each in
-    let few = no_more_than c.args.batch.now s.systems c.requires.stands.1.1 c.requires.once in
+    let few = no_more_than c.args.batch.now c.requires.stands.0.systems c.requires.stands.1.1 c.requires.once in
     omega (arith, many, few, c.requires.stands.1.0.accesses, c.requires.few)
 
 pub run_side_by_side-requires-clause-may : goal.run_side_by_side-requires-clause-may

@@ -1,8 +1,8 @@
 use Rattle.std.proofs.Common.{rules, ◌≡◌, refl, sym, ap, ◌∙◌}
 use Rattle.msg_world.specs.declared.access.Access.{Access}
-use Rattle.msg_world.specs.Prelude.{SameShape, writes}
+use Rattle.msg_world.specs.Prelude.{SameShape, writes, slot}
 use Rattle.msg_system.specs.Prelude.{all_hold, turn}
-use Rattle.msg_exec.proofs.JobsAreDone.{asked_guards, nothing_else, ran_job, skipped_job}
+use Rattle.msg_exec.proofs.JobsAreDone.{asked_guards, ran_job, skipped_job, none_there}
 use Rattle.msg_exec.proofs.job.GuardedSystemTakesTurns.take_turn.Goals as goal
 
 pub returns-then-not-check_all : goal.returns-then-not-check_all
@@ -30,7 +30,6 @@ returns g c =
     let taken = c.in_ok-taken.taken in
     let ran = c.in_ok-taken.ensures.ran in
     let shape : SameShape c.args.taken taken = rw c.open-lent.ensures.taken at c.in_ok-taken.ensures.shape in
-    let none = nothing_else c.args.access.now c.args.taken taken c.requires.may.0.written shape in
     let there = c.deref_mut.ensures.value in
     record {
       took = record {
@@ -42,7 +41,8 @@ returns g c =
             (asked_guards old.guards w there c.check_all.ensures.same (c.check_all.ensures.moved w stands))
             ran stands
             (c.what_is_given_back_stands.ensures.law l taken (turn (g.S.System.meaning old.system) w).state
-            (λ p isnt. none p (ap (λ (a : Access). writes a p) (sym c.open-lent.ensures.access) ∙ isnt))
+            (λ p isnt. none_there (slot p taken) (shape.there p ∙ c.requires.may.0.written p
+            ∙ ap (λ (a : Access). writes a p) (sym c.open-lent.ensures.access) ∙ isnt))
             (ran.state w stands));
       };
     }
