@@ -33,9 +33,8 @@ loop-t-preserved g c = record {
             reader_more s i t _ (sym reader ∙ w.if-reads_type.true)
             ((rw (c.in-Ok.ensures.1, c.in-Some-Some-2.ensures.value) at (w.account.ensures.account s stands)) within is)
             far (rw w.accounts-is w.in_ok-push.ensures.items))
-        | else-reads_type w ↦ rw (
-          w.accounts-is,
-          ← filter_drops (is_reader s i) t _ refl (sym reader ∙ w.if-reads_type.false),
-        ) far
+        | else-reads_type w ↦
+            rw w.accounts-is
+            (rw (← filter_drops (is_reader s i) t _ refl (sym reader ∙ w.if-reads_type.false)) far)
       ];
 }

@@ -20,15 +20,8 @@ returns g c = record {
       let keeps : SameSystems s (counted (joining s)) = grind (arith, joining_keeps) in
       let later : Schedule core (counted (joining s)) = schedule_along refl refl keeps stands.schedule in
       let flags = joined_by_frame core.joins.items (counted (joining s)) c.in-Some.next later.joins
-      (omega (arith, next, joining_makes_no_frame s)) in (
-        omega (arith, is, c.if-frames-eq0.false),
-        next,
-        rw (
-          c.deref-2.ensures.value,
-          c.deref-3.ensures.value,
-          stands.schedule.rules,
-          c.deref-4.ensures.value,
-          flags,
-        ) at c.in_ok-plan.ensures.plan,
-      );
+      (omega (arith, next, joining_makes_no_frame s)) in
+      let plan = rw (c.deref-2.ensures.value, c.deref-3.ensures.value, c.deref-4.ensures.value)
+      at c.in_ok-plan.ensures.plan in
+      (omega (arith, is, c.if-frames-eq0.false), next, rw (stands.schedule.rules, flags) at plan);
 }

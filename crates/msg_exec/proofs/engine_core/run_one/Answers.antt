@@ -14,10 +14,9 @@ run_batches-requires-clause-stands g c κs within =
       bt,
       (
         has.lender,
-        λ k d lt j e below. joined_below bt _ ((has.plan.classes.of_number k _).0 (rw (
-          ← c.batches-batches.ensures.items,
-          get_or-map (λ (b : Vec ℕ). b.items) batches k d [] lt,
-        ) (Contains-get_or (get_or batches k d).items j e below))).0,
+        λ k d lt j e below. joined_below bt _ ((has.plan.classes.of_number k _).0
+            (rw (← c.batches-batches.ensures.items) (rw (get_or-map (λ (b : Vec ℕ). b.items) batches k d [] lt)
+            (Contains-get_or (get_or batches k d).items j e below)))).0,
       ),
     )
 
