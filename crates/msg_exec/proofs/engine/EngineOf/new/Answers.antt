@@ -57,13 +57,9 @@ returns-clause-meaning g c w stands =
     (rw (c.deref-10.ensures.value, ← c.deref-5.ensures.value) c.in_ok-joins.ensures.joins) w stands in
     let first : State = unjoined (map m systems) places c.args.rules.items (length c.args.world.types) w in
     let s : State = with_joining 1 first in
+    let joins = c.in_ok-joins.joins in
     let core : Core g.row.S.Denot =
-    record {
-      lender = c.join_those.new.lender;
-      joins = c.in_ok-joins.joins;
-      rules = c.args.rules;
-      plan = c.in_ok-plan.plan;
-    } in
+    record { lender = c.join_those.new.lender; joins = joins; rules = c.args.rules; plan = c.in_ok-plan.plan } in
     let schedule : Schedule core s = schedule_along refl refl (joining_on_keeps 1 first)
     (schedule_first m _ systems places c.requires.whole c.requires.one_place_each c.requires.each core
     c.args.rules.items w c.requires.few c.requires.in_range
