@@ -28,9 +28,9 @@ join_those-requires-clause-stands g c κs within =
     omega (arith, c.in_ok-totals.ensures.as_many, c.len.ensures) in
     let accesses = rw (c.deref.ensures.value, c.deref-2.ensures.value) at c.in_ok-accesses.ensures in
     let w = c.stands_for_some.ensures.state in (
-      unjoined (map m systems) places c.args.rules.items (length c.args.world.types) w.0,
-      parts_stand m _ systems places c.requires.whole c.requires.one_place_each c.requires.each _ c.args.rules.items refl
-          c.in_ok-guarded.ensures.as_many accesses.as_many totals
+      _,
+      parts_stand m _ systems places c.requires.whole c.requires.one_place_each c.requires.each _ c.args.rules.items
+          refl c.in_ok-guarded.ensures.as_many accesses.as_many totals
           (rw c.deref-9.ensures.value at c.in_ok-guarded.ensures.guarded) accesses.accesses
           (rw c.types.ensures.types at c.in_ok-totals.ensures.totals) c.deref-10.result.now
           (rw (c.deref-10.ensures.value, ← c.deref-5.ensures.value) c.in_ok-joins.ensures.joins) w.0 w.1,
