@@ -18,8 +18,8 @@ abbrev pub accounts_below : State → ℕ → ℕ → List Account
 accounts_below s i n = map (account_of s i) (filter (is_reader s i) (range_with_len 0 n))
 
 -- the account of a reader is appended
-pub reader_more : (s : State) (i n : ℕ) (xs : List Account) {before after : List Account} {a : Account} → IsTrue (is_reader s i n) → a
-    ≡ account_of s i n
+pub reader_more : (s : State) (i n : ℕ) (xs : List Account) {before after : List Account} {a : Account}
+    → IsTrue (is_reader s i n) → a ≡ account_of s i n
     → before ≡ xs ++ accounts_below s i n → after ≡ before ++ a ∷ [] → after ≡ xs ++ accounts_below s i (n + 1)
 reader_more s i n xs is told far pushed =
     rw (← filter_takes (is_reader s i) n _ refl is, map_push, ← append_assoc) (cc)

@@ -43,8 +43,9 @@ module _ {S : Type 0} (meaning : S → Meaning) where
     pub there : (p : Part) → is_some (slot p d.taken) ≡ writes (access_of whole.accesses.items i) p
     pub after : IsAfterJob meaning (after_job (s.members i).job s.world) d.guarded d.taken d.outcome
 
-  pub is_back : {whole : Lender S} (left : Lender S) {s : State} (i : ℕ) {j : Job S} {d : Done S} → LenderStands meaning whole s
-      → i < s.systems → PartsStand left.world s.world → IsOut whole i j → IsDone meaning left.world j d → IsBack whole s i d
+  pub is_back : {whole : Lender S} (left : Lender S) {s : State} (i : ℕ) {j : Job S} {d : Done S}
+      → LenderStands meaning whole s → i < s.systems → PartsStand left.world s.world → IsOut whole i j
+      → IsDone meaning left.world j d → IsBack whole s i d
   is_back left {s} i {j} stands lt world out done =
       let taken : PartsStand j.taken s.world = λ p. grind (arith, cases_Bool) in
       grind (arith, has_written, taken)
@@ -53,7 +54,8 @@ module _ {S : Type 0} (meaning : S → Meaning) where
       → IsBatch meaning whole s batch → AreOut whole batch js left → AreDone meaning left.world js ds
       → AllZip (IsBack whole s) batch ds
   all_back {whole} {left} {s} {batch} {js} {ds} of out done =
-      zip_of_each (IsBack whole s) batch ds (done.as_many ∙ AllZip-long (IsOut whole) batch js out.each) (λ k i d at there.
+      let many = done.as_many ∙ AllZip-long (IsOut whole) batch js out.each in
+      zip_of_each (IsBack whole s) batch ds many (λ k i d at there.
       let (j, (found, its)) = some_of (slice_get js k) (rw at at (AllZip-left (IsOut whole) batch js out.each k)) in
       let below = rw (get_or_from_slice_get batch k i i at) at (of.below k i (slice_get_within batch k i at)) in
       is_back left i of.stands below (left_stands meaning whole left s batch js of.stands.world out) its

@@ -97,7 +97,8 @@ module _ {S : Type 0} (meaning : S → Meaning) where
 
     -- the schedule of a new engine
     pub schedule_first : (c : Core S) (rules : List Rule) (w : WorldState) → length systems ≤ 256
-        → NameSystemsBelow (length systems) rules → ((joined : List Bool) → length joined ≡ length systems → IsAcyclic (rules_among joined rules))
+        → NameSystemsBelow (length systems) rules
+        → ((joined : List Bool) → length joined ≡ length systems → IsAcyclic (rules_among joined rules))
         → c.rules.items ≡ rules → AreJoins c.joins.items (first rules w) → Schedule c (first rules w)
     schedule_first c rules w few named none same joins =
         let n : length (map meaning systems) ≡ length systems = length-map systems meaning in

@@ -52,7 +52,8 @@ module _ {J : Type 0} {b : BoardView J} {Such : ℕ → J → Type 0} where
   -- a worker has worked, and so have those after it
   pub by_next : {worker : ℕ} {p : PassState J} {ps : List (PassState J)} → HasWorked b (Such worker) p
       → HaveWorked b Such (worker + 1) ps → HaveWorked b Such worker (p ∷ ps)
-  by_next {worker} {p} {ps} one others = record { ended = All-cons (HasEnded b) p ps one.ended others.ended; each = each }
+  by_next {worker} {p} {ps} one others =
+      record { ended = All-cons (HasEnded b) p ps one.ended others.ended; each = each }
     where
       each : (k : ℕ) (q : PassState J) → slice_get (p ∷ ps) k ≡ Some q
           → EachNewIs (Such (worker + k)) (jobs_of b) [] q.drawn

@@ -37,5 +37,6 @@ returns g c =
           let at = slice_get-get_or old k d lt in
           let (b, (found, is)) = some_of (slice_get new k) (rw at at (AllZip-left R old new each k)) in
           subst (λ (j : Job g.row.S.Denot). PassedGate (g.G.Gate.passed c.args.gate.now)
-          (min c.args.workers (length old)) j.number) is.job (rw many at (results.gate_passed k b found))) c.all_done.ensures.done;
+          (min c.args.workers (length old)) j.number) is.job (rw many at (results.gate_passed k b found)))
+          c.all_done.ensures.done;
     }
