@@ -1,20 +1,15 @@
 -- Accounts tell what readers were given, and the numbers in them are exact.
-use Rattle.std.proofs.Common.{◌≡◌, ℕ, ◌+◌, ◌^◌, ◌<◌, List, [], ◌∷◌, ◌++◌, map, append_assoc, refl, arith, subst, All, IsTrue}
+use Rattle.std.proofs.Common.{◌≡◌, ℕ, ◌+◌, ◌<◌, List, [], ◌∷◌, ◌++◌, map, append_assoc, refl, arith, subst, All, IsTrue}
 use Rattle.std.specs.List.{filter, range_with_len}
 use Rattle.std.proofs.lemmas.{Bool.cases_Bool, List.map_push, List.Elements.Contains-get_or}
 use Rattle.msg_order.proofs.Elements.{filter-Contains, filter_takes, flat_map-Contains, map-Contains, range-Contains}
-use Rattle.msg_frames.specs.{declared.account.Account.Account, declared.totals.Totals.Totals}
-use Rattle.msg_exec.specs.Prelude.{kept}
+use Rattle.msg_frames.specs.declared.account.Account.{Account}
 use Rattle.msg_frames.specs.Prelude.{AddsUp, IsSoundState, State, account_of, accounts_of, accounts_of_system, is_reader}
 
 -- ---- one account
 
 pub adds_up : (s : State) (i t : ℕ) → t < s.types → IsSoundState s → AddsUp (account_of s i t)
 adds_up s i t lt sound = grind (arith, cases_Bool)
-
--- small numbers are kept as they are
-pub kept_whole : (x : Totals) → x.got < 2 ^ 64 → x.missed < 2 ^ 64 → x.cleared < 2 ^ 64 → kept x ≡ x
-kept_whole x got missed cleared = grind arith
 
 -- ---- those of one system, and of all
 
@@ -23,10 +18,10 @@ abbrev pub accounts_below : State → ℕ → ℕ → List Account
 accounts_below s i n = map (account_of s i) (filter (is_reader s i) (range_with_len 0 n))
 
 -- the account of a reader is appended
-pub reader_more : (s : State) (i n : ℕ) (xs before after : List Account) (a : Account) → IsTrue (is_reader s i n) → a
-    ≡ account_of s i n
+pub reader_more : (s : State) (i n : ℕ) (xs : List Account) {before after : List Account} {a : Account}
+    → IsTrue (is_reader s i n) → a ≡ account_of s i n
     → before ≡ xs ++ accounts_below s i n → after ≡ before ++ a ∷ [] → after ≡ xs ++ accounts_below s i (n + 1)
-reader_more s i n xs before after a is told far pushed =
+reader_more s i n xs is told far pushed =
     rw (← filter_takes (is_reader s i) n _ refl is, map_push, ← append_assoc) (cc)
 
 -- ---- all of them add up

@@ -1,16 +1,16 @@
 -- The systems of a batch come home, one after the other.
-use Rattle.std.proofs.Common.{◌≡◌, ◌≢◌, ℕ, ◌<◌, false, List, [], ◌∷◌, ◌++◌, length, map, None, append_assoc, refl, sym, ap, ◌∙◌, inl, inr, arith, All, AllPairs, Contains, IsSomeAnd, IsTrue, is_some, slice_get, if◌then◌else◌}
-use Rattle.std.proofs.lemmas.{Bool.cases_Bool, Bool.Decides.eqb_tells, List.append-nil, List.get_or-set_other, List.get_or-set_same, List.length-set, List.map-append, List.Elements.All-contains, List.Elements.All-head, List.Elements.All-tail, List.Elements.Contains-append_right}
+use Rattle.std.proofs.Common.{◌≡◌, ◌≢◌, ℕ, ◌<◌, false, List, [], ◌∷◌, ◌++◌, length, map, None, append_assoc, refl, sym, ap, ◌∙◌, arith, All, AllPairs, Contains, IsSomeAnd, IsTrue, is_some, slice_get, if◌then◌else◌, inl, inr}
+use Rattle.std.proofs.lemmas.{Bool.cases_Bool, Bool.Decides.eqb_tells, List.append-nil, List.get_or-set_other, List.get_or-set_same, List.length-set, List.map-append, List.Elements.All-contains, List.Elements.Contains-append_right, Slice.Zip.AllZip-long, List.nil_from_length, Slice.Zip.AllZip-left, Option.get_or_from_slice_get, Option.slice_get_within}
 use Rattle.std.specs.List.{AllZip}
 use Rattle.msg_world.specs.declared.access.Access.{Access}
-use Rattle.msg_world.specs.Prelude.{Conflict, HomeMerges, HomeWhereEither, IsApart, Part, PartsStand, SameShape, SameSize, slot, writes}
-use Rattle.msg_order.specs.Prelude.{NoneConflict, access_of}
+use Rattle.msg_world.specs.Prelude.{HomeMerges, HomeWhereEither, IsApart, Part, PartsStand, SameShape, SameSize, slot, writes}
+use Rattle.msg_order.specs.Prelude.{access_of}
 use Rattle.msg_system.specs.Prelude.{Job as JobState, Meaning, after_job}
 use Rattle.msg_exec.specs.Prelude.{Done, IsAfterJob, IsDone, Job, Lender, LenderStands, TotalsStand, job_state, system_at}
 use Rattle.msg_frames.specs.declared.log.Turn.{Turn}
-use Rattle.msg_frames.specs.Prelude.{AreAccessesOf, BatchesRunSideBySide, Member, SameSystems, State, after_turns_of, all_home, home, logged_turn, turn_of}
+use Rattle.msg_frames.specs.Prelude.{AreAccessesOf, BatchesRunSideBySide, SameSystems, State, after_turns_of, all_home, home, logged_turn, turn_of}
 use Rattle.msg_exec.specs.{inner.Batches.AreDone, inner.Totals.HasFewReplies, inner.Lending.AreOut, inner.Lending.ComesHome, inner.Lending.IsOut, inner.Lending.any_writes}
-use Rattle.msg_exec.proofs.{BatchGoesOut.has_written, BatchGoesOut.left_stands, SystemAfterTurn.few_replies, SystemAfterTurn.its_own, SystemAfterTurn.of_another, SystemAfterTurn.totals_after, ItemsOfLists.get_other, ItemsOfLists.get_same, ItemsOfLists.some_of, JobsAreDone.none_there, BatchWritesApart.later_write_not, BatchWritesApart.written_is_used}
+use Rattle.msg_exec.proofs.{BatchGoesOut.has_written, BatchGoesOut.left_stands, SystemAfterTurn.few_replies, SystemAfterTurn.its_own, SystemAfterTurn.of_another, SystemAfterTurn.totals_after, ItemsOfLists.get_other, ItemsOfLists.get_same, ItemsOfLists.some_of, JobsAreDone.none_there, BatchWritesApart.later_write_not, BatchWritesApart.written_is_used, BatchGoesOut.IsBatch, BatchWritesApart.Free, ItemsOfLists.zip_of_each}
 use Rattle.msg_frames.proofs.{SystemsStay.turns_keep_systems, ElementsAndPairs.pairs_head, ElementsAndPairs.pairs_right}
 use Rattle.msg_order.proofs.Elements.{Contains-cases, Contains-head, Contains-tail, not_in_none}
 
@@ -19,10 +19,6 @@ first_beside : {X Y : Type 0} (R : X → Y → Type 0) (xs : List X) (y : Y) (ys
     → (x : X) × (rest : List X) × (xs ≡ x ∷ rest) × R x y × AllZip R rest ys
 first_beside R [] y ys all = absurd all
 first_beside R (x ∷ rest) y ys all = (x, rest, refl, all.0, all.1)
-
-none_beside : {X Y : Type 0} (R : X → Y → Type 0) (xs : List X) → AllZip R xs [] → xs ≡ []
-none_beside R [] all = refl
-none_beside R (x ∷ xs) all = absurd all
 
 pub all_home_more : (accesses : List Access) (start : State) (come : List ℕ) (i : ℕ) (s : State)
     → all_home accesses start (come ++ i ∷ []) s ≡ home accesses start i (all_home accesses start come s)
@@ -47,26 +43,23 @@ module _ {S : Type 0} (meaning : S → Meaning) where
     pub there : (p : Part) → is_some (slot p d.taken) ≡ writes (access_of whole.accesses.items i) p
     pub after : IsAfterJob meaning (after_job (s.members i).job s.world) d.guarded d.taken d.outcome
 
-  pub is_back : (whole left : Lender S) (s : State) (i : ℕ) (j : Job S) (d : Done S) → LenderStands meaning whole s
-      → i < s.systems
-      → PartsStand left.world s.world → IsOut whole i j → IsDone meaning left.world j d → IsBack whole s i d
-  is_back whole left s i j d stands lt world out done =
+  pub is_back : {whole : Lender S} (left : Lender S) {s : State} (i : ℕ) {j : Job S} {d : Done S}
+      → LenderStands meaning whole s → i < s.systems → PartsStand left.world s.world → IsOut whole i j
+      → IsDone meaning left.world j d → IsBack whole s i d
+  is_back left {s} i {j} stands lt world out done =
       let taken : PartsStand j.taken s.world = λ p. grind (arith, cases_Bool) in
       grind (arith, has_written, taken)
 
-  all_back : (whole left : Lender S) (s : State) (is : List ℕ) (js : List (Job S)) (ds : List (Done S))
-      → LenderStands meaning whole s → All (λ i. i < s.systems) is
-      → PartsStand left.world s.world → AllZip (IsOut whole) is js → AreDone meaning left.world js ds
-      → AllZip (IsBack whole s) is ds
-  all_back whole left s [] [] [] stands below world out done = tt
-  all_back whole left s [] [] (d ∷ ds) stands below world out done = absurd done
-  all_back whole left s [] (j ∷ js) ds stands below world out done = absurd out
-  all_back whole left s (i ∷ is) [] ds stands below world out done = absurd out
-  all_back whole left s (i ∷ is) (j ∷ js) [] stands below world out done = absurd done
-  all_back whole left s (i ∷ is) (j ∷ js) (d ∷ ds) stands below world out done = (
-    is_back whole left s i j d stands (All-head (λ i. i < s.systems) i is below) world out.0 done.0,
-    all_back whole left s is js ds stands (All-tail (λ i. i < s.systems) i is below) world out.1 done.1,
-  )
+  pub all_back : {whole left : Lender S} {s : State} {batch : List ℕ} {js : List (Job S)} {ds : List (Done S)}
+      → IsBatch meaning whole s batch → AreOut whole batch js left → AreDone meaning left.world js ds
+      → AllZip (IsBack whole s) batch ds
+  all_back {whole} {left} {s} {batch} {js} {ds} of out done =
+      let many = done.as_many ∙ AllZip-long (IsOut whole) batch js out.each in
+      zip_of_each (IsBack whole s) batch ds many (λ k i d at there.
+      let (j, (found, its)) = some_of (slice_get js k) (rw at at (AllZip-left (IsOut whole) batch js out.each k)) in
+      let below = rw (get_or_from_slice_get batch k i i at) at (of.below k i (slice_get_within batch k i at)) in
+      is_back left i of.stands below (left_stands meaning whole left s batch js of.stands.world out) its
+      (done.each k j d found there))
 
   -- ---- some have come home, and the rest is still out
 
@@ -85,10 +78,6 @@ module _ {S : Type 0} (meaning : S → Meaning) where
     pub there : (p : Part) → is_some (slot p now.world)
         ≡ (if any_writes whole.accesses.items rest p then false else is_some (slot p whole.world))
 
-  all_out : (whole left : Lender S) (s : State) (is : List ℕ) (js : List (Job S)) → LenderStands meaning whole s
-      → AreOut whole is js left → Halfway whole s s is left
-  all_out whole left s is js stands out = grind (arith, cases_Bool, left_stands)
-
   module _ (whole now : Lender S) (s u : State) (i : ℕ) (rest : List ℕ) (d : Done S)
       (stands : LenderStands meaning whole s) (lt : i < s.systems)
       (half : Halfway whole s u (i ∷ rest) now) (back : IsBack whole s i d) where
@@ -100,12 +89,10 @@ module _ {S : Type 0} (meaning : S → Meaning) where
     may_come = grind (arith, few_replies, out_of_world)
 
     module _ (new : Lender S) (comes : ComesHome meaning now d new) (fresh : ¬ Contains rest i)
-        (free : All (λ x. ¬ Conflict (access_of whole.accesses.items i) (access_of whole.accesses.items x)) rest)
+        (free : All (Free whole.accesses.items i) rest)
         (merges : HomeMerges) (either : HomeWhereEither) where
-      abbrev its_turn : Member
-      its_turn = (turn_of s i).member
-
-      totals_back : IsSomeAnd (slice_get new.totals.items i) (λ v. TotalsStand s.types v.items its_turn.totals)
+      totals_back : IsSomeAnd (slice_get new.totals.items i)
+          (λ v. TotalsStand s.types v.items (turn_of s i).member.totals)
       totals_back =
           let there = rw (half.untouched i (Contains-head i rest)) at (half.totals i lt) in
           let old = some_of (slice_get now.totals.items i) there in
@@ -122,7 +109,7 @@ module _ {S : Type 0} (meaning : S → Meaning) where
         accesses = comes.accesses ∙ half.accesses;
         as_many = grind (arith, length-set);
         members = λ k below away. elim (eqb_tells k i) [
-          | inl same ↦ rw (same.1, its_own i its_turn u.members) (grind (arith, get_or-set_same))
+          | inl same ↦ rw (same.1, its_own i (turn_of s i).member u.members) (grind (arith, get_or-set_same))
           | inr other ↦
               let out : ¬ Contains (i ∷ rest) k = λ there. grind (arith, Contains-cases) in
               grind (arith, get_or-set_other, half.members k below out, of_another)
@@ -150,15 +137,11 @@ module _ {S : Type 0} (meaning : S → Meaning) where
       let shape : SameShape whole.world now.world = record { size = half.size; there = half.there } in
       grind (arith, not_in_none, shape)
 
-  -- whichever state the lender stands for, it is of as many systems
-  pub below_alike : (g : Lender S) (s u : State) (is : List ℕ) → LenderStands meaning g s → LenderStands meaning g u
-      → All (λ i. i < s.systems) is → All (λ i. i < u.systems) is
-  below_alike g s u is here there below = rw (sym here.accesses ∙ there.accesses) at below
-
   -- ---- the batch, from its first system that comes home to its last
 
   pub record ComingHome (whole : Lender S) (batch : List ℕ) (s : State) (ds : List (Done S)) (now : Lender S)
       (before turns : List Turn) : Type 0 where
+    pub of : IsBatch meaning whole s batch
     pub come : List ℕ
     pub rest : List ℕ
     pub all : come ++ rest ≡ batch
@@ -166,74 +149,63 @@ module _ {S : Type 0} (meaning : S → Meaning) where
     pub half : Halfway whole s (all_home whole.accesses.items s come s) rest now
     pub logged_so_far : turns ≡ before ++ map (logged_turn s) come
 
-  pub begin_home : (whole left : Lender S) (s : State) (batch : List ℕ) (js : List (Job S)) (ds : List (Done S))
-      (turns : List Turn) → LenderStands meaning whole s
-      → All (λ i. i < s.systems) batch → AreOut whole batch js left → AreDone meaning left.world js ds
-      → ComingHome whole batch s ds left turns turns
-  begin_home whole left s batch js ds turns stands below out done = record {
+  pub begin_home : {whole left : Lender S} {s : State} {batch : List ℕ} {js : List (Job S)} {ds : List (Done S)}
+      {turns : List Turn} → IsBatch meaning whole s batch → AreOut whole batch js left
+      → AllZip (IsBack whole s) batch ds → ComingHome whole batch s ds left turns turns
+  begin_home {whole} {left} {s} {batch} {js} {turns = turns} of out back = record {
+    of = of;
     come = [];
     rest = batch;
     all = refl;
-    back =
-        all_back whole left s batch js ds stands below
-        (left_stands meaning whole left s batch js stands.world out) out.each done;
-    half = all_out whole left s batch js stands out;
+    back = back;
+    half = (let stands = of.stands in grind (arith, cases_Bool, left_stands));
     logged_so_far = sym (append-nil turns);
   }
 
-  module _ (whole now : Lender S) (batch : List ℕ) (s : State) (d : Done S) (ds : List (Done S))
-      (before turns : List Turn)
-      (stands : LenderStands meaning whole s) (below : All (λ i. i < s.systems) batch) where
-    in_batch : (come rest : List ℕ) (i : ℕ) → come ++ i ∷ rest ≡ batch → i < s.systems
-    in_batch come rest i all = All-contains (λ i. i < s.systems) batch i below
-        (rw all at (Contains-append_right come (i ∷ rest) i (Contains-head i rest)))
+  module _ {whole now : Lender S} {batch : List ℕ} {s : State} {d : Done S} {left ds : List (Done S)}
+      {before turns : List Turn} (is : left ≡ d ∷ ds) (far : ComingHome whole batch s left now before turns) where
+    in_batch : (rest : List ℕ) (i : ℕ) → far.come ++ i ∷ rest ≡ batch → i < s.systems
+    in_batch rest i all = All-contains (λ i. i < s.systems) batch i far.of.below
+        (rw all at (Contains-append_right far.come (i ∷ rest) i (Contains-head i rest)))
 
-    pub next_may_come : (left : List (Done S)) → left ≡ d ∷ ds → ComingHome whole batch s left now before turns
-        → MayCome now d
-    next_may_come left is far =
+    pub next_may_come : MayCome now d
+    next_may_come =
         let (i, rest, at, back, _) = first_beside (IsBack whole s) far.rest d ds (rw is at far.back) in
-        may_come whole now s _ i rest d stands (in_batch far.come rest i (rw at at far.all)) (rw at at far.half) back
+        may_come whole now s _ i rest d far.of.stands (in_batch rest i (rw at at far.all)) (rw at at far.half) back
 
-    module _ (new : Lender S) (turn : Turn) (once : AllPairs (λ i j. i ≢ j) batch)
-        (none : NoneConflict whole.accesses.items batch)
-        (comes : ComesHome meaning now d new) (tells : turn ≡ record { system = d.number; outcome = d.outcome })
-        (merges : HomeMerges) (either : HomeWhereEither) where
-      pub next_comes : (left : List (Done S)) → left ≡ d ∷ ds → ComingHome whole batch s left now before turns
-          → ComingHome whole batch s ds new before (turns ++ turn ∷ [])
-      next_comes left is far =
-          let (i, rest, at, back, others_back) = first_beside (IsBack whole s) far.rest d ds (rw is at far.back) in
-          let all : far.come ++ i ∷ rest ≡ batch = rw at at far.all in
-          let Free : ℕ → ℕ → Type 0 = λ i j. ¬ Conflict (access_of whole.accesses.items i)
-          (access_of whole.accesses.items j) in
-          let others =
-          pairs_head (λ i j. i ≢ j) i rest
-          (pairs_right (λ i j. i ≢ j) far.come (i ∷ rest) (rw all once)) in
-          let free = pairs_head Free i rest (pairs_right Free far.come (i ∷ rest) (rw all none)) in
-          let same : turn ≡ logged_turn s i = tells
-          ∙ (λ k. record { system = back.number k; outcome = back.after.outcome k }) in
-          record {
-            come = far.come ++ i ∷ [];
-            rest = rest;
-            all = append_assoc far.come (i ∷ []) rest ∙ all;
-            back = others_back;
-            half = rw (all_home_more whole.accesses.items s far.come i s)
-                (one_home whole now s _ i rest d stands (in_batch far.come rest i all) (rw at at far.half) back
-                new comes (λ there. All-contains (λ j. i ≢ j) rest i others there refl) free merges either);
-            logged_so_far = rw (far.logged_so_far, map-append, append_assoc, same) refl;
-          }
+    pub next_comes : {new : Lender S} {turn : Turn} → ComesHome meaning now d new
+        → turn ≡ record { system = d.number; outcome = d.outcome } → HomeMerges → HomeWhereEither
+        → ComingHome whole batch s ds new before (turns ++ turn ∷ [])
+    next_comes {new} {turn} comes tells merges either =
+        let (i, rest, at, back, others_back) = first_beside (IsBack whole s) far.rest d ds (rw is at far.back) in
+        let all : far.come ++ i ∷ rest ≡ batch = rw at at far.all in
+        let later : (R : ℕ → ℕ → Type 0) → AllPairs R batch → All (R i) rest =
+        λ R pairs. pairs_head R i rest (pairs_right R far.come (i ∷ rest) (rw all pairs)) in
+        let same : turn ≡ logged_turn s i = tells
+        ∙ (λ k. record { system = back.number k; outcome = back.after.outcome k }) in
+        record {
+          of = far.of;
+          come = far.come ++ i ∷ [];
+          rest = rest;
+          all = append_assoc far.come (i ∷ []) rest ∙ all;
+          back = others_back;
+          half = rw (all_home_more whole.accesses.items s far.come i s)
+              (one_home whole now s _ i rest d far.of.stands (in_batch rest i all) (rw at at far.half) back new comes
+              (λ there. All-contains (λ j. i ≢ j) rest i (later (λ i j. i ≢ j) far.of.once) there refl)
+              (later (Free whole.accesses.items) far.of.apart) merges either);
+          logged_so_far = rw (far.logged_so_far, map-append, append_assoc, same) refl;
+        }
 
   -- it is one turn after the other
-  pub all_came : (whole now : Lender S) (batch : List ℕ) (s : State) (left : List (Done S)) (before turns : List Turn)
-      → LenderStands meaning whole s
-      → All (λ i. i < s.systems) batch → AllPairs (λ i j. i ≢ j) batch → NoneConflict whole.accesses.items batch
-      → BatchesRunSideBySide
-      → left ≡ [] → ComingHome whole batch s left now before turns
+  pub all_came : {whole now : Lender S} {batch : List ℕ} {s : State} {left : List (Done S)} {before turns : List Turn}
+      → BatchesRunSideBySide → length left ≡ 0 → ComingHome whole batch s left now before turns
       → LenderStands meaning now (after_turns_of batch s).state × (turns ≡ before ++ (after_turns_of batch s).turns)
-  all_came whole now batch s left before turns stands below once none law nobody far =
-      let are : AreAccessesOf s whole.accesses.items = grind arith in
-      let side = law s whole.accesses.items batch are below once none in
-      let end = none_beside (IsBack whole s) far.rest (rw nobody at far.back) in
+  all_came {whole} {now} {batch} {s} law nobody far =
+      let are : AreAccessesOf s whole.accesses.items = grind (arith, far.of.stands) in
+      let side = law s whole.accesses.items batch are far.of.below far.of.once far.of.apart in
+      let end = nil_from_length far.rest (sym (AllZip-long (IsBack whole s) far.rest _ far.back) ∙ nobody) in
       let come : far.come ≡ batch = rw (end, append-nil) at far.all in (
-        stands_again whole now s _ stands (turns_keep_systems batch s) (rw (end, come, ← side.1) at far.half),
+        stands_again whole now s _ far.of.stands (turns_keep_systems batch s)
+            (rw (end, come, ← side.1) at far.half),
         rw (come, ← side.0) at far.logged_so_far,
       )

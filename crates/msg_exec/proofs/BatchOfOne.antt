@@ -1,30 +1,31 @@
 -- A turn is a batch of one system.
-use Rattle.std.proofs.Common.{◌≡◌, ◌≢◌, ℕ, ◌<◌, [], ◌∷◌, Option, Some, get_or, refl, arith, All, AllPairs}
+use Rattle.std.proofs.Common.{◌≡◌, ◌≢◌, ℕ, ◌<◌, [], ◌∷◌, Option, Some, get_or, refl, arith, AllPairs}
 use Rattle.std.proofs.Math.Bool.{or-false}
 use Rattle.msg_world.specs.declared.access.Access.{Access}
-use Rattle.msg_world.specs.Prelude.{Conflict, HomeMerges, HomeWhereEither, LendsOut, Parts}
-use Rattle.msg_order.specs.Prelude.{NoneConflict, access_of}
+use Rattle.msg_world.specs.Prelude.{HomeMerges, HomeWhereEither, LendsOut, Parts}
 use Rattle.msg_system.specs.Prelude.{Meaning}
 use Rattle.msg_exec.specs.Prelude.{Done, GuardedSystem, HasTakenTurn, Job, Lender, LenderStands, MayRun}
 use Rattle.msg_frames.specs.declared.log.Outcome.{Outcome}
 use Rattle.msg_frames.specs.Prelude.{BatchesRunSideBySide, State, after_turn_of, logged_turn}
 use Rattle.msg_exec.specs.inner.Lending.{AreOut, ComesHome}
-use Rattle.msg_exec.proofs.{BatchComesHome.ComingHome, BatchComesHome.MayCome, BatchComesHome.all_came, BatchComesHome.begin_home, BatchComesHome.is_back, BatchComesHome.next_comes, BatchComesHome.next_may_come, BatchGoesOut.all_may_run, BatchGoesOut.left_stands}
+use Rattle.msg_exec.proofs.{BatchComesHome.ComingHome, BatchComesHome.MayCome, BatchComesHome.all_came, BatchComesHome.begin_home, BatchComesHome.is_back, BatchComesHome.next_comes, BatchComesHome.next_may_come, BatchGoesOut.all_may_run, BatchGoesOut.left_stands, BatchGoesOut.IsBatch, BatchWritesApart.Free, BatchComesHome.IsBack}
 use Rattle.std.proofs.lemmas.List.{get_or_read}
 
 no_pairs : (R : ℕ → ℕ → Type 0) (i : ℕ) → AllPairs R (i ∷ [])
 no_pairs R i = λ a b d lt l. absurd (omega arith)
 
-module _ {S : Type 0} (meaning : S → Meaning) (g : Lender S) (s : State) (i : ℕ) (stands : LenderStands meaning g s)
+module _ {S : Type 0} (meaning : S → Meaning) {g : Lender S} {s : State} (i : ℕ) (stands : LenderStands meaning g s)
     (lt : i < s.systems) where
-  below : All (λ k. k < s.systems) (i ∷ [])
-  below = λ k d l. grind arith
-
-  none : NoneConflict g.accesses.items (i ∷ [])
-  none = no_pairs (λ a b. ¬ Conflict (access_of g.accesses.items a) (access_of g.accesses.items b)) i
+  one : IsBatch meaning g s (i ∷ [])
+  one = record {
+    stands = stands;
+    below = λ k d l. grind arith;
+    once = no_pairs (λ a b. a ≢ b) i;
+    apart = no_pairs (Free g.accesses.items) i;
+  }
 
   -- What its access writes is out, and the system is where it was.
-  module _ (left taken : Parts) (a : Access) (held : Option (GuardedSystem S)) (guarded : GuardedSystem S)
+  module _ {left taken : Parts} {a : Access} {held : Option (GuardedSystem S)} {guarded : GuardedSystem S}
       (is_its : a ≡ get_or g.accesses.items i a)
       (is_there : held ≡ get_or g.systems.items i held) (is_some : held ≡ Some guarded)
       (lent : LendsOut a g.world left taken) where
@@ -38,33 +39,29 @@ module _ {S : Type 0} (meaning : S → Meaning) (g : Lender S) (s : State) (i : 
     out = grind (arith, get_or_read, or-false)
 
     pub may_take_turn : MayRun meaning left its_job
-    may_take_turn = all_may_run meaning g mid s (i ∷ []) (its_job ∷ []) stands below out none 0 its_job refl
+    may_take_turn = all_may_run meaning one out 0 its_job refl
 
-    module _ (later : Parts) (came : Outcome) (after : GuardedSystem S)
+    module _ {later : Parts} {came : Outcome} {after : GuardedSystem S}
         (took : HasTakenTurn meaning left taken guarded later came after) where
       abbrev pub its_done : Done S
       its_done = record { number = i; guarded = after; taken = later; outcome = came }
 
+      back : IsBack meaning g s i its_done
+      back =
+          is_back meaning mid i stands lt
+          (left_stands meaning g mid s (i ∷ []) (its_job ∷ []) stands.world out) out.each.0
+          (record { number = refl; turn = took })
+
       begun : ComingHome meaning g (i ∷ []) s (its_done ∷ []) mid [] []
-      begun = begin_home meaning g mid s (i ∷ []) (its_job ∷ []) (its_done ∷ []) [] stands below out
-          (record { number = refl; turn = took }, tt)
+      begun = begin_home meaning one out (back, tt)
 
       pub may_come_home : MayCome mid its_done
-      may_come_home = next_may_come meaning g mid (i ∷ []) s its_done [] [] [] stands below (its_done ∷ []) refl begun
+      may_come_home = next_may_come meaning refl begun
 
-      pub turn_taken : (new : Lender S) → ComesHome meaning mid its_done new → HomeMerges → HomeWhereEither
-          → BatchesRunSideBySide
-          → LenderStands meaning new (after_turn_of i s)
-      turn_taken new comes merges either law =
-          let once = no_pairs (λ a b. a ≢ b) i in
-          (all_came meaning g new (i ∷ []) s [] [] _ stands below once none law refl
-          (next_comes meaning g mid (i ∷ []) s its_done [] [] [] stands below new _ once none comes refl merges either
-          (its_done ∷ []) refl begun)).0
+      pub turn_taken : {new : Lender S} → ComesHome meaning mid its_done new → HomeMerges → HomeWhereEither
+          → BatchesRunSideBySide → LenderStands meaning new (after_turn_of i s)
+      turn_taken comes merges either law =
+          (all_came meaning law refl (next_comes meaning refl begun comes refl merges either)).0
 
       pub turn_is_logged : record { system = i; outcome = came } ≡ logged_turn s i
-      turn_is_logged =
-          let back =
-          is_back meaning g mid s i its_job its_done stands lt
-          (left_stands meaning g mid s (i ∷ []) (its_job ∷ []) stands.world out) out.each.0
-          (record { number = refl; turn = took }) in
-          λ k. record { system = i; outcome = back.after.outcome k }
+      turn_is_logged = λ k. record { system = i; outcome = back.after.outcome k }

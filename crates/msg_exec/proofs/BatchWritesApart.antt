@@ -1,5 +1,5 @@
 -- What no system of a batch writes, where no two of them conflict.
-use Rattle.std.proofs.Common.{◌≡◌, ◌≢◌, ℕ, ◌<◌, ◌||◌, false, List, [], ◌∷◌, ◌++◌, length, get_or, take, refl, inl, inr, arith, All, AllPairs, Contains, IsTrue}
+use Rattle.std.proofs.Common.{◌≡◌, ℕ, ◌<◌, ◌||◌, false, List, [], ◌∷◌, ◌++◌, length, get_or, take, refl, inl, inr, arith, All, AllPairs, Contains, IsTrue}
 use Rattle.std.proofs.Math.Bool.{or-false, or_assoc}
 use Rattle.std.proofs.lemmas.{Bool.and_from, Bool.false_from_ne_true, Bool.or_right, List.get_or-take, List.get_or_default, List.length-take-le, List.Elements.All-contains, List.Elements.All-head, List.Elements.All-tail}
 use Rattle.msg_world.specs.declared.access.Access.{Access}
@@ -18,19 +18,12 @@ each_before R xs k d lt pairs m e below =
     let earlier : m < k = omega (arith, below, length-take-le k xs (omega (arith, lt))) in
     rw (get_or-take k xs m e earlier, ← get_or_default xs k e d lt) (pairs m k e earlier lt)
 
-pub not_before : (xs : List ℕ) (i : ℕ) → All (λ x. x ≢ i) xs → ¬ Contains xs i
-not_before xs i all there = All-contains (λ x. x ≢ i) xs i all there refl
-
 -- ---- one of two
 
--- neither writes what the other uses
+-- it writes nothing that the other uses
 pub first_unwritten : (a b : Access) (p : Part) → ¬ Conflict a b → IsTrue (uses b p) → writes a p ≡ false
 first_unwritten a b p none used =
     false_from_ne_true (writes a p) (λ is. none (p, inl (and_from (writes a p) (uses b p) is used)))
-
-pub second_unwritten : (a b : Access) (p : Part) → ¬ Conflict a b → IsTrue (uses a p) → writes b p ≡ false
-second_unwritten a b p none used =
-    false_from_ne_true (writes b p) (λ is. none (p, inr (and_from (writes b p) (uses a p) is used)))
 
 pub written_is_used : (a : Access) (p : Part) → IsTrue (writes a p) → IsTrue (uses a p)
 written_is_used a p is = or_right (reads a p) (writes a p) is
@@ -38,7 +31,8 @@ written_is_used a p is = or_right (reads a p) (writes a p) is
 -- ---- any of several
 
 module _ (accesses : List Access) where
-  abbrev Free : ℕ → ℕ → Type 0
+  -- no conflict between the two
+  abbrev pub Free : ℕ → ℕ → Type 0
   Free i j = ¬ Conflict (access_of accesses i) (access_of accesses j)
 
   none_writes : (is : List ℕ) (p : Part) → All (λ x. writes (access_of accesses x) p ≡ false) is
@@ -57,7 +51,8 @@ module _ (accesses : List Access) where
   pub later_write_not : (is : List ℕ) (i : ℕ) (p : Part) → All (Free i) is → IsTrue (uses (access_of accesses i) p)
       → any_writes accesses is p ≡ false
   later_write_not is i p all used =
-      none_writes is p (λ k d lt. second_unwritten (access_of accesses i) _ p (all k d lt) used)
+      none_writes is p (λ k d lt. first_unwritten _ (access_of accesses i) p
+      (λ found. all k d lt (found.0, elim found.1 [ inl one ↦ inr one | inr other ↦ inl other ])) used)
 
   -- what one of them only reads none of them writes
   pub others_write_not : (is : List ℕ) (i : ℕ) (p : Part) → NoneConflict accesses is → Contains is i

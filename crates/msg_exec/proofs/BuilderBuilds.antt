@@ -1,5 +1,5 @@
 -- What a builder tests of systems and a world, and systems that were given their numbers.
-use Rattle.std.proofs.Common.{◌≡◌, ℕ, zero, suc, ◌+◌, ◌<◌, ◌++◌, List, [], ◌∷◌, length, map, Option, None, Some, refl, ap, arith, IsSome, slice_get, slice_index_or}
+use Rattle.std.proofs.Common.{◌≡◌, ℕ, zero, suc, ◌+◌, ◌++◌, List, [], ◌∷◌, length, map, Some, refl, ap, arith, IsSome, slice_get}
 use Rattle.std.proofs.lemmas.{Bool.cases_lt, Bool.false≢true, List.get_or_past, Option.none-some, Option.same_Some, Option.slice_get_within}
 use Rattle.msg_world.specs.Prelude.{Has, OfResource, OfType, Part, Parts, Registry, slot}
 use Rattle.msg_order.specs.declared.rule.Rule.{Rule}
@@ -10,13 +10,10 @@ use Rattle.msg_exec.proofs.ItemsOfLists.{item_at}
 
 -- ---- what a world has
 
-within : {X : Type 0} (xs : List (Option X)) (t : ℕ) → IsSome (slice_index_or xs t None) → t < length xs
-within xs t some = grind (arith, cases_lt, false≢true, get_or_past)
-
 -- the world has what is home
 pub has_part : (w : Parts) (p : Part) → IsSome (slot p w) → Has w p
-has_part w (OfType t) some = within w.types t some
-has_part w (OfResource r) some = within w.resources r some
+has_part w (OfType t) some = grind (arith, cases_lt, false≢true, get_or_past)
+has_part w (OfResource r) some = grind (arith, cases_lt, false≢true, get_or_past)
 has_part w Registry some = tt
 
 -- ---- systems with their numbers

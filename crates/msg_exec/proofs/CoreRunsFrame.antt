@@ -1,24 +1,22 @@
 -- A frame begins, takes its turns, and leaves a core that stands for the state after it.
-use Rattle.std.proofs.Common.{◌≡◌, ℕ, suc, ◌<◌, Bool, false, List, map, max, ap, ◌∙◌, arith, IsTrue, ◌↔◌, nat_le}
+use Rattle.std.proofs.Common.{◌≡◌, ℕ, suc, ◌<◌, Bool, false, List, map, max, ap, ◌∙◌, arith, IsTrue, ◌↔◌, nat_le, refl}
 use Rattle.std.specs.List.{concat}
-use Rattle.std.proofs.lemmas.{Bool.cases_Bool, Bool.eqb-false, Bool.lt-leb, Bool.ne_eqb, Bool.Decides.nat_tests, List.FromFn.fill_by_all, List.FromFn.get_or-map-range_with_len, List.FromFn.length-map-range_with_len, List.get_or-map, List.length-map}
-use Rattle.msg_world.specs.Prelude.{Parts, PartsStand, SameShape, WorldState}
-use Rattle.msg_order.specs.Prelude.{IsLawfulOrder, IsSettledOrder, Graph}
+use Rattle.std.proofs.lemmas.{Bool.lt-leb, Bool.Decides.nat_tests, List.FromFn.fill_by_all, List.FromFn.get_or-map-range_with_len, List.FromFn.length-map-range_with_len, List.get_or-map, List.length-map}
+use Rattle.msg_order.specs.Prelude.{IsLawfulOrder, PlanView}
 use Rattle.msg_system.specs.declared.reply.Reply.{Reply}
 use Rattle.msg_system.specs.Prelude.{Meaning}
 use Rattle.msg_exec.specs.Prelude.{AreJoins, Core, CoreStands, Lender, LenderStands, Schedule}
 use Rattle.msg_frames.specs.{declared.frame.Frame.Frame, declared.log.Log.Log}
-use Rattle.msg_exec.specs.{inner.FrameSteps.HasLeft, inner.FrameSteps.HasOpened, inner.FrameSteps.NobodyJoins, inner.FrameSteps.counted, inner.Lending.HaveReadNothing}
+use Rattle.msg_exec.specs.{inner.FrameSteps.HasLeft, inner.FrameSteps.HasOpened, inner.FrameSteps.NobodyJoins, inner.FrameSteps.counted, inner.Lending.HaveReadNothing, inner.FrameSteps.PlansNext}
 use Rattle.msg_frames.specs.Prelude.{IsLawfulFor, IsOrderOf, SystemsHaveOneOrder, FrameStaysSound, IsFrame, IsSoundState, SameSystems, State, after_turns_of, before_turns, frame_in, has_begun, join_flags, joining}
-use Rattle.msg_exec.proofs.{SystemsJoin.members_alike, SystemAfterTurn.member_stays}
 use Rattle.msg_frames.proofs.{SystemsStay.accesses_stay, SystemsStay.before_keeps, SystemsStay.joined_stay, SystemsStay.joining_keeps, SystemsStay.joining_makes_no_frame, SystemsStay.no_cycle_stays, SystemsStay.turns_keep_systems, SystemsStay.turns_make_no_frame, FramesInOrder.frame_in_order}
 
 -- ---- the schedule
 
--- one of as many systems, with the same rules
-pub schedule_along : {S : Type 0} (c d : Core S) (s u : State) → d.joins ≡ c.joins → d.rules ≡ c.rules
+-- of as many systems, with the same rules
+pub schedule_along : {S : Type 0} {c d : Core S} {s u : State} → d.joins ≡ c.joins → d.rules ≡ c.rules
     → SameSystems s u → Schedule c s → Schedule d u
-schedule_along c d s u joins rules same has = record {
+schedule_along {s = s} {u} joins rules same has = record {
   joins = rw joins (grind (arith, has.joins, same.members));
   rules = rw (rules, same.rules) has.rules;
   few = rw same.systems has.few;
@@ -47,10 +45,6 @@ nobody_more s none =
 
 -- ---- the frame begins
 
-pub unchanged : {S : Type 0} (meaning : S → Meaning) (g : Lender S) (s : State) → NobodyJoins s
-    → LenderStands meaning g s → LenderStands meaning g (joining s)
-unchanged meaning g s none stands = grind (arith, cases_Bool, eqb-false, members_alike, ne_eqb)
-
 -- those that are about to join were given nothing
 pub about_to_join : (s : State) → IsSoundState s → 0 < s.frames → HaveReadNothing (suc s.frames) s
 about_to_join s sound some i t joins = grind (arith, lt-leb, sound.waiting i t)
@@ -58,68 +52,59 @@ about_to_join s sound some i t joins = grind (arith, lt-leb, sound.waiting i t)
 -- ---- the frame opens, and its turns are taken
 
 module _ {S : Type 0} (meaning : S → Meaning) where
-  -- another world of the same parts
-  pub world_stands : (g : Lender S) (s : State) (parts : Parts) (w : WorldState) (frames : ℕ) → LenderStands meaning g s
-      → SameShape g.world parts → PartsStand parts w
-      → LenderStands meaning (record g { world = parts }) (record s { world = w; frames = frames })
-  world_stands g s parts w frames stands shape is = grind (arith, member_stays)
+  module _ {b : Core S} {s : State} {frame : Frame} {replies : List Reply}
+      (has : HasOpened meaning frame s b replies) where
+    abbrev order : List ℕ
+    order = concat b.plan.batches
 
-  -- one turn after the other, batch by batch, is a frame
-  pub is_frame_by : (b : Core S) (s : State) (frame : Frame) (log : Log) (order : List ℕ) (replies : List Reply) → order
-      ≡ concat b.plan.batches → HasOpened meaning frame s b replies
-      → log ≡ (frame_in order frame s).log
-      → IsFrame frame s log (after_turns_of order (before_turns frame.posts s)).state
-  is_frame_by b s frame log order replies is has told =
-      frame_in_order frame s log order (record {
-        settled = has.plan.order;
-        is_order = record {
-          accesses = b.lender.accesses.items;
-          of_systems = grind (arith, has.lender);
-          is_settled = has.plan.settled;
-        };
-        in_order = rw is has.plan.turns;
-      }) told
+    -- one turn after the other, batch by batch, is a frame
+    pub is_frame_by : {log : Log} → log ≡ (frame_in order frame s).log
+        → IsFrame frame s log (after_turns_of order (before_turns frame.posts s)).state
+    is_frame_by told =
+        frame_in_order frame s _ order (record {
+          settled = has.plan.order;
+          is_order = record {
+            accesses = b.lender.accesses.items;
+            of_systems = grind (arith, has.lender);
+            is_settled = has.plan.settled;
+          };
+          in_order = has.plan.turns;
+        }) told
 
-  pub frame_ran : (b d : Core S) (s : State) (frame : Frame) (log : Log) (order : List ℕ) (replies : List Reply) → order
-      ≡ concat b.plan.batches → HasOpened meaning frame s b replies
-      → IsSoundState s → FrameStaysSound
-      → LenderStands meaning d.lender (after_turns_of order (before_turns frame.posts s)).state → log
-      ≡ (frame_in order frame s).log
-      → d.joins ≡ b.joins → d.rules ≡ b.rules → d.plan ≡ b.plan → d.lender.accesses.items ≡ b.lender.accesses.items
-      → HasLeft meaning (IsFrame frame s log) s d
-  frame_ran b d s frame log order replies is has sound stays lender told joins rules plan accesses =
-      let bt : State = before_turns frame.posts s in
-      let u : State = (after_turns_of order bt).state in
-      let same : SameSystems bt u = turns_keep_systems order bt in
-      let ran : IsFrame frame s log u = is_frame_by b s frame log order replies is has told in
-      record {
-        state = u;
-        leaves = ran;
-        stands = record {
-          lender = lender;
-          schedule = schedule_along b d bt u joins rules same has.schedule;
-          plan = rw (accesses, plan, same.rules, joined_stay bt u same (turns_make_no_frame order bt)) has.plan;
-          sound = stays frame s log u sound ran;
-        };
-        frames = turns_make_no_frame order bt ∙ ap suc (joining_makes_no_frame s);
-      }
+    pub frame_ran : {new : Lender S} {log : Log} → IsSoundState s → FrameStaysSound
+        → LenderStands meaning new (after_turns_of order (before_turns frame.posts s)).state
+        → log ≡ (frame_in order frame s).log → new.accesses.items ≡ b.lender.accesses.items
+        → HasLeft meaning (IsFrame frame s log) s (record b { lender = new })
+    frame_ran sound stays lender told accesses =
+        let bt : State = before_turns frame.posts s in
+        let same = turns_keep_systems order bt in
+        record {
+          state = (after_turns_of order bt).state;
+          leaves = is_frame_by told;
+          stands = record {
+            lender = lender;
+            schedule = schedule_along refl refl same has.schedule;
+            plan = rw (accesses, same.rules, joined_stay bt _ same (turns_make_no_frame order bt)) has.plan;
+            sound = stays frame s _ _ sound (is_frame_by told);
+          };
+          frames = turns_make_no_frame order bt ∙ ap suc (joining_makes_no_frame s);
+        }
 
   -- ---- which orders are lawful
 
   -- what the plan of those that will have joined accepts is what is lawful
-  pub accepted : (accepts : Bool) (c : Core S) (s : State) (frame : Frame) (order : List ℕ) (g : Graph)
-      → SystemsHaveOneOrder → CoreStands meaning c s
-      → IsSettledOrder c.lender.accesses.items s.rules (join_flags (counted (joining s))) g
-      → (IsTrue accepts ↔ IsLawfulOrder g (join_flags (counted (joining s))) order) → IsTrue accepts
-      ↔ IsLawfulFor frame s order
-  accepted accepts c s frame order g one stands settled tells =
+  pub accepted : {accepts : Bool} {c : Core S} {s : State} {plan : PlanView} (frame : Frame) (order : List ℕ)
+      → SystemsHaveOneOrder → CoreStands meaning c s → (is : PlansNext c s plan)
+      → (IsTrue accepts ↔ IsLawfulOrder is.order (join_flags (counted (joining s))) order)
+      → IsTrue accepts ↔ IsLawfulFor frame s order
+  accepted {c = c} {s} frame order one stands is tells =
       let b : State = before_turns frame.posts s in
       let same = before_keeps frame.posts s in
-      let is : IsOrderOf b g = record {
+      let is_order : IsOrderOf b is.order = record {
         accesses = c.lender.accesses.items;
         of_systems = accesses_stay s b c.lender.accesses.items same (grind (arith, stands.lender));
-        is_settled = rw same.rules settled;
+        is_settled = rw same.rules is.settled;
       } in (
-        λ yes. record { settled = g; is_order = is; lawful = tells.0 yes },
-        λ x. tells.1 (rw (one b x.settled g x.is_order is) at x.lawful),
+        λ yes. record { settled = is.order; is_order = is_order; lawful = tells.0 yes },
+        λ x. tells.1 (rw (one b x.settled is.order x.is_order is_order) at x.lawful),
       )

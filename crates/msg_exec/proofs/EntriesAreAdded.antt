@@ -31,10 +31,10 @@ without_replies t (op ∷ ops) = refl
 -- ---- the totals of a system, among those of all
 
 -- what its turn told is entered in its totals where they stand
-pub entered_there : {S : Type 0} (meaning : S → Meaning) (d : Done S) (all : List (Vec Totals)) (x : Vec Totals)
-    (was now : List Totals)
+pub entered_there : {S : Type 0} (meaning : S → Meaning) (d : Done S) (all : List (Vec Totals)) {x : Vec Totals}
+    {was now : List Totals}
     → x ≡ get_or all d.number x → was ≡ x.items → length now ≡ x.len → HaveEntered meaning d was now
     → (u : Vec Totals) → slice_get all d.number ≡ Some u → HaveEntered meaning d u.items (with_items x now).items
-entered_there meaning d all x was now at there size entered u is =
+entered_there meaning d all {x} {was} {now} at there size entered u is =
     let same : u ≡ x = sym (get_or_from_slice_get all d.number u x is) ∙ sym at in
     rw (same, with_items_is x now size, ← there) entered

@@ -1,23 +1,22 @@
 -- A new engine stands for the first state.
-use Rattle.std.proofs.Common.{◌≡◌, ℕ, ◌<◌, ◌≤◌, Bool, true, false, List, [], ◌∷◌, length, map, Some, None, refl, sym, ap, ◌∙◌, arith, inl, inr, replicate, slice_get, slice_index_or}
-use Rattle.std.proofs.lemmas.{Bool.cases_lt, Bool.false≢true, List.get_or-map, List.get_or-replicate, List.get_or_past, List.length-map, List.length-replicate, Option.get_or_from_slice_get, Option.slice_get-get_or, Option.slice_get_within}
+use Rattle.std.proofs.Common.{◌≡◌, ℕ, ◌<◌, ◌≤◌, Bool, true, false, List, length, map, Some, None, sym, ap, ◌∙◌, arith, inl, inr, le_refl, replicate, slice_get, take, slice_index_or}
+use Rattle.std.proofs.lemmas.{Bool.cases_lt, Bool.false≢true, List.get_or-map, List.get_or-replicate, List.get_or_past, List.get_or-take, List.length-map, Option.get_or_from_slice_get, Option.slice_get-get_or, Option.slice_get_within, List.map-id, Simd.map-map}
 use Rattle.msg_world.specs.declared.access.Access.{Access}
 use Rattle.msg_world.specs.Prelude.{IsWhole, OfType, Parts, PartsStand, WorldState}
 use Rattle.msg_order.specs.declared.rule.Rule.{Rule}
 use Rattle.msg_order.specs.Prelude.{FewerSystemsMakeNoCycle, IsAcyclic, NameSystemsBelow, access_of, edges_of, rules_among}
-use Rattle.msg_system.specs.declared.condition.Condition.{Condition}
 use Rattle.msg_system.specs.Prelude.{Meaning, new_asked}
 use Rattle.msg_order.proofs.SetPaths.{all_rules}
 use Rattle.msg_system.proofs.Accesses.{uses_needs}
 use Rattle.msg_frames.specs.declared.place.Place.{Place}
 use Rattle.msg_exec.specs.Prelude.{AreJoins, Core, EachIs, Lender, LenderStands, MayBeAdded, Schedule}
 use Rattle.msg_exec.specs.{inner.Building.AreNoTotals, inner.Building.IsAccessAt, inner.Building.IsGuardedAt, inner.Lending.HaveReadNothing}
-use Rattle.msg_frames.specs.Prelude.{AreNew, HasClash, nobody, nowhere, unjoined}
+use Rattle.msg_frames.specs.Prelude.{AreNew, HasClash, nobody, nowhere, unjoined, State}
 use Rattle.msg_exec.proofs.ItemsOfLists.{item_at}
+use Rattle.msg_system.specs.declared.condition.Condition.{Condition}
 
 conditions_new : (cs : List Condition) → map (λ a. a.condition) (map new_asked cs) ≡ cs
-conditions_new [] = refl
-conditions_new (c ∷ cs) = ap (λ rest. c ∷ rest) (conditions_new cs)
+conditions_new cs = simp (map-map, map-id)
 
 module _ {S : Type 0} (meaning : S → Meaning) where
   module _ (world : Parts) (systems : List S) (places : List Place) (whole : IsWhole world)
@@ -46,6 +45,10 @@ module _ {S : Type 0} (meaning : S → Meaning) where
           may = each i x.0 x.1;
         }
 
+    -- the state before any has joined
+    abbrev first : List Rule → WorldState → State
+    first rules w = unjoined (map meaning systems) places rules (length world.types) w
+
     module _ (g : Lender S) (rules : List Rule) (same : g.world ≡ world)
         (na : length g.systems.items ≡ length systems) (nc : length g.accesses.items ≡ length systems)
         (nt : length g.totals.items ≡ length systems)
@@ -53,10 +56,8 @@ module _ {S : Type 0} (meaning : S → Meaning) where
         (accesses : EachIs (IsAccessAt meaning systems places) g.accesses.items)
         (totals : EachIs (λ k w. AreNoTotals (length world.types) w.items) g.totals.items) where
       pub parts_stand : (js : List ℕ) → js ≡ map (λ (place : Place). place.join) places → (w : WorldState)
-          → PartsStand world w
-          → LenderStands meaning g (unjoined (map meaning systems) places rules (length world.types) w)
-          × AreJoins js (unjoined (map meaning systems) places rules (length world.types) w)
-          × HaveReadNothing 1 (unjoined (map meaning systems) places rules (length world.types) w)
+          → PartsStand world w → LenderStands meaning g (first rules w) × AreJoins js (first rules w)
+          × HaveReadNothing 1 (first rules w)
       parts_stand js is w stands =
           let n : length (map meaning systems) ≡ length systems = length-map systems meaning in (
             record {
@@ -69,9 +70,8 @@ module _ {S : Type 0} (meaning : S → Meaning) where
                   let none = totals i total.0 total.1 in
                   let there = slice_get-get_or g.systems.items i None (omega (arith, lt, n, na)) in
                   let system = guarded i _ there f.x f.place f.sx f.sp in
-                  let access =
-                  (accesses i (access_of g.accesses.items i)
-                  (slice_get-get_or g.accesses.items i _ (omega (arith, lt, n, nc)))).access f.x f.place f.sx f.sp in
+                  let its = slice_get-get_or g.accesses.items i _ (omega (arith, lt, n, nc)) in
+                  let access = (accesses i (access_of g.accesses.items i) its).access f.x f.place f.sx f.sp in
                   let fits = f.may.fits f.place f.sp in
                   rw (f.is, f.at)
                   (grind (arith, access, conditions_new, fits, none, system, total.1, uses_needs));
@@ -100,9 +100,7 @@ module _ {S : Type 0} (meaning : S → Meaning) where
     pub schedule_first : (c : Core S) (rules : List Rule) (w : WorldState) → length systems ≤ 256
         → NameSystemsBelow (length systems) rules
         → ((joined : List Bool) → length joined ≡ length systems → IsAcyclic (rules_among joined rules))
-        → c.rules.items ≡ rules → AreJoins c.joins.items
-        (unjoined (map meaning systems) places rules (length world.types) w)
-        → Schedule c (unjoined (map meaning systems) places rules (length world.types) w)
+        → c.rules.items ≡ rules → AreJoins c.joins.items (first rules w) → Schedule c (first rules w)
     schedule_first c rules w few named none same joins =
         let n : length (map meaning systems) ≡ length systems = length-map systems meaning in
         record {
@@ -117,11 +115,11 @@ module _ {S : Type 0} (meaning : S → Meaning) where
 pub none_more : FewerSystemsMakeNoCycle → (n : ℕ) (rules : List Rule) → NameSystemsBelow n rules
     → IsAcyclic (edges_of rules) → (joined : List Bool) → length joined ≡ n → IsAcyclic (rules_among joined rules)
 none_more law n rules below none joined size =
-    let among : rules_among (replicate n true) rules ≡ edges_of rules =
-    all_rules (replicate n true) rules (rw length-replicate below)
-    (λ i lt. get_or-replicate n i true false (rw length-replicate at lt)) in
-    law rules (replicate n true) joined
-    (λ i has. get_or-replicate n i true false (grind (arith, cases_lt, false≢true, get_or_past))) (rw among none)
+    law rules (take n (replicate n true)) joined
+    (λ i has.
+    let lt : i < n = grind (arith, cases_lt, false≢true, get_or_past) in
+    get_or-take n (replicate n true) i false lt ∙ get_or-replicate n i true false lt)
+    (rw (all_rules n n rules (le_refl n) below) none)
 
 module _ {S : Type 0} (meaning : S → Meaning) where
   pub none_clashes : (systems : List S) (places : List Place) (xs : List Access) → length xs ≡ length systems

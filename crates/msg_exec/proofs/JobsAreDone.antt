@@ -2,8 +2,8 @@
 use Rattle.std.proofs.Common.{◌≡◌, true, false, List, [], Option, Some, None, Vec, map, refl, sym, ◌∙◌, arith, is_some}
 use Rattle.std.specs.Vec.{with_items}
 use Rattle.std.proofs.lemmas.{Bool.false≢true, List.length-map, List.with_items_is}
-use Rattle.msg_world.specs.{declared.access.Access.Access, declared.lent.Lent.Lent}
-use Rattle.msg_world.specs.Prelude.{LoanStands, Part, Parts, PartsStand, SameShape, WorldState, slot, writes}
+use Rattle.msg_world.specs.declared.lent.Lent.{Lent}
+use Rattle.msg_world.specs.Prelude.{LoanStands, Parts, PartsStand, WorldState}
 use Rattle.msg_system.specs.declared.reply.Reply.{Reply}
 use Rattle.msg_system.specs.Prelude.{Asked, Meaning, Ran, after_asking, after_job, after_turn, all_hold, told, turn}
 use Rattle.msg_exec.specs.Prelude.{GuardedSystem, IsAfterJob, job_state}
@@ -12,12 +12,6 @@ use Rattle.msg_frames.specs.declared.log.Outcome.TheVariants as outcome
 pub none_there : {X : Type 0} (o : Option X) → is_some o ≡ false → o ≡ None
 none_there None h = refl
 none_there (Some x) h = absurd (false≢true (sym h))
-
--- nothing is given back but what is written
-pub nothing_else : (a : Access) (taken later : Parts) → ((p : Part) → is_some (slot p taken) ≡ writes a p)
-    → SameShape taken later
-    → (p : Part) → writes a p ≡ false → slot p later ≡ None
-nothing_else a taken later written same p isnt = grind (arith, none_there, same.there p)
 
 pub ran_job : {S : Type 0} (meaning : S → Meaning) (before now : GuardedSystem S) (l : Lent) (taken : Parts)
     (w : WorldState) (none after replies : List Reply)
@@ -38,8 +32,8 @@ pub skipped_job : {S : Type 0} (meaning : S → Meaning) (before now : GuardedSy
 skipped_job meaning before now taken w skips same asked stand = grind arith
 
 -- the conditions of a vector after they were asked through a slice of it
-pub asked_guards : {Z : Type 0} (guards : Vec Asked Z) (slice after : List Asked) (w : WorldState) → slice
+pub asked_guards : {Z : Type 0} (guards : Vec Asked Z) {slice after : List Asked} (w : WorldState) → slice
     ≡ guards.items → map (λ (a : Asked). a.condition) after ≡ map (λ (a : Asked). a.condition) slice
     → after ≡ map (after_asking w) slice → (with_items guards after).items ≡ map (after_asking w) guards.items
-asked_guards guards slice after w there same moved =
+asked_guards guards {after = after} w there same moved =
     rw (with_items_is guards after (grind (arith, length-map)), moved, there) refl

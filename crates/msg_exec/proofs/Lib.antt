@@ -6,7 +6,6 @@ mod EntriesAreAdded
 mod SystemAfterTurn
 -- ---- jobs side by side: workers draw them, and tell the gate
 mod WorkersDraw
-mod JobsShareTheWorld
 -- ---- a batch: its systems go out, and come home
 mod BatchWritesApart
 mod BatchGoesOut

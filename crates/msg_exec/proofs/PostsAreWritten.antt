@@ -2,18 +2,13 @@
 use Rattle.std.proofs.Common.{◌≡◌, ℕ, ℤ, List, [], ◌∷◌, ◌++◌, Result, Ok, Err, refl, OnErr}
 use Rattle.msg_buffer.specs.Prelude.{write}
 use Rattle.msg_world.specs.declared.record.TheConstants.{HOST}
-use Rattle.msg_world.specs.Prelude.{Parts, PartsStand, WorldState, by, with_history}
-use Rattle.msg_system.specs.declared.reply.Reply.{Reply}
+use Rattle.msg_world.specs.Prelude.{WorldState, by, with_history}
 use Rattle.msg_system.specs.Prelude.{numbers_for, write_reply}
 use Rattle.msg_frames.specs.Prelude.{after_posts, post_replies}
 
 pub if_refused : {T E P : Type 0} (r : Result T E) → P → OnErr r P
 if_refused (Ok x) p = tt
 if_refused (Err e) p = p
-
--- what holds after some posts
-abbrev pub HasPosted : List (ℕ × ℤ) → WorldState → Parts → List Reply → Type 0
-HasPosted ps w parts replies = PartsStand parts (after_posts ps w) × (replies ≡ post_replies ps w)
 
 abbrev after_post : ℕ × ℤ → WorldState → WorldState
 after_post p w = with_history w p.0 (write (by HOST p.1 ∷ []) (w.histories p.0))

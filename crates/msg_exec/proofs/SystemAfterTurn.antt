@@ -48,9 +48,9 @@ module _ {S : Type 0} (meaning : S → Meaning) where
   member_stays g h types k m guarded accesses totals shape stands = grind arith
 
   -- the totals of a system, as they are read
-  pub totals_there : (g : Lender S) (s : State) (i : ℕ) (v : Vec Totals) → i < s.systems → v ≡ get_or g.totals.items i v
-      → LenderStands meaning g s → TotalsStand s.types v.items (s.members i).totals
-  totals_there g s i v lt is stands =
+  pub totals_there : {g : Lender S} {s : State} {i : ℕ} {v : Vec Totals} → LenderStands meaning g s
+      → v ≡ get_or g.totals.items i v → i < s.systems → TotalsStand s.types v.items (s.members i).totals
+  totals_there {g} {s} {i} {v} stands is lt =
       rw (slice_get_read g.totals.items s.systems i v (sym stands.totals) lt is) at (stands.members i lt).totals
 
 -- ---- the totals after a turn

@@ -1,8 +1,7 @@
 -- Systems join one after the other.
-use Rattle.std.proofs.Common.{◌≡◌, ◌≢◌, ℕ, ◌+◌, ◌<◌, ◌==◌, ◌&&◌, List, [], ◌∷◌, map, refl, ap, arith, nat_lt, if◌then◌else◌}
+use Rattle.std.proofs.Common.{◌≡◌, ◌≢◌, ℕ, ◌+◌, ◌<◌, ◌==◌, ◌&&◌, arith, nat_lt, if◌then◌else◌}
 use Rattle.std.proofs.lemmas.Bool.Decides.{nat_tests}
-use Rattle.msg_system.specs.declared.start.Start.{Start}
-use Rattle.msg_system.specs.Prelude.{Asked, Meaning, asked_started}
+use Rattle.msg_system.specs.Prelude.{Meaning}
 use Rattle.msg_exec.specs.Prelude.{Lender, LenderStands}
 use Rattle.msg_frames.specs.Prelude.{Member, State, counts, joined_member}
 
@@ -18,11 +17,6 @@ joined_below n frame s =
 pub still : (s : State) (i j frame : ℕ) → j ≢ i → (joined_below (i + 1) frame s).members j
     ≡ (joined_below i frame s).members j
 still s i j frame other = grind (arith, nat_tests)
-
-pub conditions_start : (start : Start) (cs : List ℕ) (asked : List Asked)
-    → map (λ a. a.condition) (map (asked_started start cs) asked) ≡ map (λ a. a.condition) asked
-conditions_start start cs [] = refl
-conditions_start start cs (a ∷ asked) = ap (λ rest. a.condition ∷ rest) (conditions_start start cs asked)
 
 module _ {S : Type 0} (meaning : S → Meaning) where
   -- only the members that there are count

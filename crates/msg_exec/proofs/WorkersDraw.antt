@@ -1,11 +1,11 @@
 -- What workers draw from the board, and that a worker passed the gate for each job, with its own number.
-use Rattle.std.proofs.Common.{◌≡◌, ℕ, zero, suc, ◌+◌, ◌<◌, ◌≤◌, ◌==◌, cond, inl, inr, List, [], ◌∷◌, ◌++◌, length, map, min, Some, refl, ap, subst, arith, All, Contains, slice_get}
+use Rattle.std.proofs.Common.{◌≡◌, ℕ, zero, suc, ◌+◌, ◌<◌, ◌≤◌, ◌==◌, inl, inr, List, [], ◌∷◌, ◌++◌, length, min, Some, refl, ap, subst, arith, All, Contains, slice_get, filter, sym}
 use Rattle.std.specs.{List.AllZip, Option.unwrap_or}
-use Rattle.std.proofs.lemmas.{Bool.cases_Bool, Bool.eqb-true, Bool.cases_lt, List.length-append, List.Elements.All-append, List.Elements.All-cons, List.Elements.All-head, List.Elements.All-tail, List.Elements.Contains-push_cases, List.Sums.sum_by-append, Option.slice_get_within}
+use Rattle.std.proofs.lemmas.{Bool.eqb-true, List.length-append, List.Elements.All-append, List.Elements.All-cons, List.Elements.All-head, List.Elements.All-tail, List.Elements.Contains-push_cases, Option.slice_get_within, List.Elements.Contains-get_or, List.Sums.length-filter, Option.slice_get_read}
 use Rattle.msg_board.specs.Prelude.{BoardView, HasEnded, HoldsEachOnce, PassState, drawn_by, jobs_of, times}
 use Rattle.msg_exec.specs.Prelude.{EachNewIs, EachPassedGate, Job, Lender, PassedGate}
 use Rattle.msg_exec.specs.{inner.Lending.IsOut, inner.Batches.HasWorked, inner.Batches.HaveWorked}
-use Rattle.msg_order.proofs.Elements.{Contains-head, Contains-tail, not_in_none}
+use Rattle.msg_order.proofs.Elements.{not_in_none, filter-Contains, flat_map-Contains}
 
 -- ---- one job more is drawn
 
@@ -26,34 +26,12 @@ module _ {J : Type 0} (Such : J → Type 0) (jobs : List J) where
 -- ---- who drew a number
 
 found : (k : ℕ) (ns : List ℕ) → 0 < times k ns → Contains ns k
-found k [] some = absurd (omega (arith, some))
-found k (n ∷ ns) some = elim (cases_Bool (n == k)) [
-  | inl e ↦ subst (Contains (n ∷ ns)) (eqb-true n k e) (Contains-head n ns)
-  | inr e ↦
-      let sum : times k (n ∷ ns) ≡ times k (n ∷ []) + times k ns = sum_by-append (λ m. cond (m == k) 1 0) (n ∷ []) ns in
-      let other : times k (n ∷ []) ≡ 0 = ap (λ b. 0 + cond b 1 0) e in
-      Contains-tail n ns k (found k ns (omega (arith, some, sum, other)))
-]
+found k ns some =
+    let lt : 0 < length (filter (λ n. n == k) ns) = omega (arith, some, length-filter (λ n. n == k) ns) in
+    let first = filter-Contains (λ n. n == k) ns _ (Contains-get_or (filter (λ n. n == k) ns) 0 0 lt) in
+    rw (eqb-true _ k first.1) at first.0
 
 module _ {J : Type 0} where
-  -- pass i drew k
-  record Drawer (ps : List (PassState J)) (k : ℕ) : Type 0 where
-    index : ℕ
-    pass : PassState J
-    there : slice_get ps index ≡ Some pass
-    drew : Contains pass.drawn k
-
-  drawer : (ps : List (PassState J)) (k : ℕ) → 0 < times k (drawn_by ps) → Drawer ps k
-  drawer [] k some = absurd (omega (arith, some))
-  drawer (p ∷ ps) k some = elim (cases_lt 0 (times k p.drawn)) [
-    | inl own ↦ record { index = 0; pass = p; there = refl; drew = found k p.drawn own }
-    | inr none ↦
-        let sum : times k (p.drawn ++ drawn_by ps) ≡ times k p.drawn + times k (drawn_by ps) =
-        sum_by-append (λ n. cond (n == k) 1 0) p.drawn (drawn_by ps) in
-        let d = drawer ps k (omega (arith, some, sum)) in
-        record { index = suc d.index; pass = d.pass; there = d.there; drew = d.drew }
-  ]
-
   -- each job was drawn by a worker that passed the gate for it
   pub each_passed : (passed : ℕ → ℕ → Type 0) (system : J → ℕ) (b : BoardView J) (ps : List (PassState J)) (n : ℕ)
       → length ps ≤ n → HoldsEachOnce (length (jobs_of b)) (drawn_by ps)
@@ -61,20 +39,21 @@ module _ {J : Type 0} where
       → (k : ℕ) (job : J) → slice_get (jobs_of b) k ≡ Some job → PassedGate passed n (system job)
   each_passed passed system b ps n many once by k job at =
       let one = once.once k (slice_get_within (jobs_of b) k job at) in
-      let d = drawer ps k (omega (arith, one)) in
-      let lt = slice_get_within ps d.index d.pass d.there in
-      elim (by.each d.index d.pass d.there k d.drew) [
+      let drawn = found k (drawn_by ps) (omega (arith, one)) in
+      let (p, ((i, lt, is), drew)) = flat_map-Contains (λ (p : PassState J). p.drawn) ps k drawn in
+      elim (by.each i p (slice_get_read ps _ i p refl lt (sym is)) k drew) [
         | inl old ↦ absurd (not_in_none k old)
-        | inr new ↦ (0 + d.index, omega (arith, lt, many), new job at)
+        | inr new ↦ (0 + i, omega (arith, lt, many), new job at)
       ]
 
 -- ---- a worker, and those after it
 
-module _ {J : Type 0} (b : BoardView J) (Such : ℕ → J → Type 0) where
+module _ {J : Type 0} {b : BoardView J} {Such : ℕ → J → Type 0} where
   -- a worker has worked, and so have those after it
-  pub by_next : (worker : ℕ) (p : PassState J) (ps : List (PassState J)) → HasWorked b (Such worker) p
+  pub by_next : {worker : ℕ} {p : PassState J} {ps : List (PassState J)} → HasWorked b (Such worker) p
       → HaveWorked b Such (worker + 1) ps → HaveWorked b Such worker (p ∷ ps)
-  by_next worker p ps one others = record { ended = All-cons (HasEnded b) p ps one.ended others.ended; each = each }
+  by_next {worker} {p} {ps} one others =
+      record { ended = All-cons (HasEnded b) p ps one.ended others.ended; each = each }
     where
       each : (k : ℕ) (q : PassState J) → slice_get (p ∷ ps) k ≡ Some q
           → EachNewIs (Such (worker + k)) (jobs_of b) [] q.drawn
@@ -85,15 +64,6 @@ module _ {J : Type 0} (b : BoardView J) (Such : ℕ → J → Type 0) where
           subst (λ w. EachNewIs (Such w) (jobs_of b) [] q.drawn) (omega arith) (others.each k q at)
 
 -- ---- system by system
-
-module _ {B J : Type 0} (P : J → Type 0) (job : B → J) where
-  pub all_mapped : (bs : List B) (jobs : List J) → map job bs ≡ jobs
-      → ((k : ℕ) (b : B) → slice_get bs k ≡ Some b → P (job b)) → All P jobs
-  all_mapped bs jobs same h = subst (All P) same (each bs h)
-    where
-      each : (bs : List B) → ((k : ℕ) (b : B) → slice_get bs k ≡ Some b → P (job b)) → All P (map job bs)
-      each [] h = λ k d lt. absurd (omega (arith, lt))
-      each (b ∷ bs) h = All-cons P (job b) (map job bs) (h 0 b refl) (each bs (λ k. h (suc k)))
 
 module _ {S : Type 0} (P : ℕ → Type 0) (whole : Lender S) where
   -- the jobs that are out are those of the batch

@@ -1,6 +1,7 @@
 // The jobs of a batch, side by side on one world.
 ghost use Rattle.std.specs.Prelude.{◌≡◌, ◌≤◌, [], All, IfOk, Ok, OnOk, length, map, min};
-ghost use Rattle.msg_exec.specs.{Jobs.IsResult, Jobs.MayRun, inner.Batches.AreDone, Work.EachMay, Work.PassedGate};
+ghost use Rattle.std.specs.List.{AllZip};
+ghost use Rattle.msg_exec.specs.{Jobs.IsResult, Jobs.MayRun, inner.Batches.AreDone, inner.Batches.IsWithWorld, Work.EachMay, Work.PassedGate};
 
 use crate::job::{Done, Job, TakesTurns};
 use crate::run_workers::run_jobs;
@@ -74,10 +75,7 @@ fn with_world<'a, S: System>(
     jobs: Vec<Job<S>>,
     spares: &mut Spares,
 ) -> Result<Vec<BatchJob<'a, S>>, NoMemory>
-    ensures jobs { IfOk result (λ all. map (λ j. j.job) all.items ≡ jobs.items) }
-    ensures world { IfOk result
-        (λ all. map (λ j. j.world.now) all.items ≡ map (λ j. world.now) all.items) }
-    ensures empty { IfOk result (λ all. All (λ j. j.replies.items ≡ []) all.items) }
+    ensures each { IfOk result (λ all. AllZip (IsWithWorld world.now) jobs.items all.items) }
 {
     let mut all = Vec::with_capacity(alloc, jobs.len())?;
     for job in jobs {

@@ -1,15 +1,20 @@
 -- What holds of the jobs of a batch.
 use Rattle.std.specs.Prelude.{◌≡◌, ◌+◌, ℕ, All, List, ◌∷◌, [], Option, Some, None, slice_get}
-use Rattle.std.specs.List.{AllZip}
 use Rattle.msg_world.specs.Prelude.{Parts}
 use Rattle.msg_system.specs.Prelude.{Meaning}
-use Rattle.msg_exec.specs.{declared.job.Job.Job, declared.job.Done.Done, Jobs.IsDone, Work.EachNewIs}
-use Rattle.msg_board.specs.Prelude.{BoardView, HasEnded, IsOf, PassState, jobs_of}
+use Rattle.msg_exec.specs.{declared.job.Job.Job, declared.job.Done.Done, declared.side_by_side.BatchJob.BatchJob, Jobs.IsDone, Work.EachNewIs}
+use Rattle.msg_board.specs.Prelude.{BoardView, HasEnded, IsLawfulOutcome, IsOf, PassState, jobs_of}
+
+-- a job, with the world and an empty list
+pub record IsWithWorld {S : Type 0} (w : Parts) (j : Job S) (b : BatchJob S) : Type 0 where
+  pub job : b.job ≡ j
+  pub world : b.world.now ≡ w
+  pub empty : b.replies.items ≡ []
 
 module _ {S : Type 0} (meaning : S → Meaning) where
   -- all jobs of a batch are done, each on the same world
   abbrev pub AreDone : Parts → List (Job S) → List (Done S) → Type 0
-  AreDone world jobs done = AllZip (IsDone meaning world) jobs done
+  AreDone world jobs done = IsLawfulOutcome (IsDone meaning world) jobs done
 
 module _ {J : Type 0} where
   -- The pass was new and drew this job, which it holds.

@@ -2,7 +2,7 @@ use Rattle.std.proofs.Common.{arith, ◌<◌, ◌^◌}
 use Rattle.std.proofs.lemmas.Bool.{false≢true}
 use Rattle.msg_buffer.specs.Prelude.{count}
 use Rattle.msg_world.specs.Prelude.{OfType}
-use Rattle.msg_exec.proofs.AccountsTell.{adds_up, kept_whole}
+use Rattle.msg_exec.proofs.AccountsTell.{adds_up}
 use Rattle.msg_exec.proofs.accounts.account.Goals as goal
 
 pub returns : goal.returns
@@ -16,5 +16,5 @@ returns g c = record {
       let few : count (s.world.histories t) < 2 ^ 64 =
       grind (arith, c.count_is_told.ensures.told, false≢true, home, lender.world (OfType t)) in
       let sum = adds_up s c.args.system t lt stands.sound in
-      grind (arith, kept_whole);
+      grind arith;
 }

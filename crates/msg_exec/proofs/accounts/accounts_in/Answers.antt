@@ -10,9 +10,6 @@ loop-i-preserved g c =
     let i = c.loop-i.i in
     record {
       so_far = λ s stands.
-          rw (
-            range_more i,
-            ← flat_map_more (accounts_of_system s) [] (range_with_len 0 i) i,
-            ← c.loop-i.invariant.so_far s stands,
-          ) (c.in_ok-add_accounts.ensures.added s stands);
+          rw (range_more i, ← flat_map_more (accounts_of_system s) [] (range_with_len 0 i) i)
+          (rw (← c.loop-i.invariant.so_far s stands) (c.in_ok-add_accounts.ensures.added s stands));
     }

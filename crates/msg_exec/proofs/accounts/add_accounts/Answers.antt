@@ -26,18 +26,15 @@ loop-t-preserved g c = record {
       let far = c.loop-t.invariant.so_far s stands in
       elim c.if-reads_type.branch [
         | then-reads_type+in_ok-push w ↦
-            (let its =
-            totals_there g.S.System.meaning core.lender s i c.in-Some-Some.totals.now lt
-            (rw c.deref.ensures.value at c.in-Some-Some.ensures.lookup.1) lender in
+            (let its = totals_there g.S.System.meaning lender
+            (rw c.deref.ensures.value at c.in-Some-Some.ensures.lookup.1) lt in
             let is = rw c.deref-in-loop-t.ensures.value at (c.in-Some-Some-2.ensures'.lookup.3.1 no_totals)
             ∙ its.each t within in
-            reader_more s i t c.args.accounts.now.items c.loop-t.accounts.items c.if-reads_type.accounts.items
-            w.account.result (sym reader ∙ w.if-reads_type.true)
+            reader_more s i t _ (sym reader ∙ w.if-reads_type.true)
             ((rw (c.in-Ok.ensures.1, c.in-Some-Some-2.ensures.value) at (w.account.ensures.account s stands)) within is)
             far (rw w.accounts-is w.in_ok-push.ensures.items))
-        | else-reads_type w ↦ rw (
-          w.accounts-is,
-          ← filter_drops (is_reader s i) t _ refl (sym reader ∙ w.if-reads_type.false),
-        ) far
+        | else-reads_type w ↦
+            rw w.accounts-is
+            (rw (← filter_drops (is_reader s i) t _ refl (sym reader ∙ w.if-reads_type.false)) far)
       ];
 }

@@ -1,19 +1,13 @@
-use Rattle.std.proofs.Common.{◌∷◌, [], ◌∙◌, arith, take}
+use Rattle.std.proofs.Common.{◌∷◌, [], ◌∙◌, arith}
 use Rattle.std.proofs.lemmas.{List.take_all, List.take_more, List.Elements.All-push}
-use Rattle.msg_frames.specs.Prelude.{after_turns_of, State}
 use Rattle.msg_exec.proofs.BatchAfterBatch.{as_many_systems, turned_more}
 use Rattle.msg_exec.proofs.batch.run_turns.Goals as goal
 
 pub run_turn-requires-clause-stands : goal.run_turn-requires-clause-stands
 run_turn-requires-clause-stands g c κs within =
-    let s : State = c.requires.stands.0 in
-    let before = take c.loop-system.system-index c.args.systems.now in (
-      (after_turns_of before s).state,
-      (
-        (c.loop-system.invariant.turned s c.requires.stands.1.0).0,
-        rw (as_many_systems before s) (c.requires.stands.1.1 c.loop-system.system-index 0 c.loop-system-test.true),
-      ),
-    )
+    let k = c.loop-system.system-index in
+    let far = c.loop-system.invariant.turned _ c.requires.stands.1.0 in
+    (_, (far.state, rw as_many_systems (c.requires.stands.1.1 k 0 c.loop-system-test.true)))
 
 pub loop-system-preserved : goal.loop-system-preserved
 loop-system-preserved g c =
@@ -24,18 +18,12 @@ loop-system-preserved g c =
       passed = rw next (All-push (g.G.Gate.passed c.args.gate.now 0) _ _ c.loop-system.invariant.passed
           c.pass.ensures.passed);
       turned = λ s stands.
-          rw next (turned_more g.S.System.meaning _ (_ ∷ []) s c.loop-system.lender c.run_turn.new.lender
-          c.args.turns.now.items c.loop-system.turns.items c.push.new.self.items
-          (c.loop-system.invariant.turned s stands) ran.state
+          rw next (turned_more g.S.System.meaning (_ ∷ []) (c.loop-system.invariant.turned s stands) ran.state
           (λ u here. rw (← ran.logged u here) c.in_ok-push.ensures.items));
     }
 
 pub returns-clause-state : goal.returns-clause-state
-returns-clause-state g c s stands =
-    rw (take_all c.loop-system.system-index c.args.systems.now (omega arith)) at
-    (c.loop-system.invariant.turned s stands).0
+returns-clause-state g c s stands = grind (arith, take_all, c.loop-system.invariant.turned s stands)
 
 pub returns-clause-turns : goal.returns-clause-turns
-returns-clause-turns g c s stands =
-    rw (take_all c.loop-system.system-index c.args.systems.now (omega arith)) at
-    (c.loop-system.invariant.turned s stands).1
+returns-clause-turns g c s stands = grind (arith, take_all, c.loop-system.invariant.turned s stands)

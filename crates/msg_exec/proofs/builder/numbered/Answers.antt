@@ -11,13 +11,6 @@ loop-system-preserved g c =
     let number : c.len.result ≡ 0 + length (map m ys) = omega (arith, inv.as_many, c.len.ensures, length-map ys m) in
     record {
       as_many = rw (c.in_ok-push.ensures.items, length_push, length_push, inv.as_many) refl;
-      numbered = rw (
-        c.in_ok-push.ensures.items,
-        map_push,
-        map_push,
-        numbered_more,
-        inv.numbered,
-        c.set_number.ensures.numbered,
-        number,
-      ) refl;
+      numbered = rw (c.in_ok-push.ensures.items, map_push, map_push, numbered_more, inv.numbered)
+          (rw (c.set_number.ensures.numbered, number) refl);
     }

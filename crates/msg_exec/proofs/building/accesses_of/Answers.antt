@@ -33,13 +33,9 @@ loop-i-preserved g c =
           (each_pushed (IsAccessAt m c.args.systems.now c.args.places.now) xs c.job_access-access.result inv.accesses
           (rw inv.as_many (record {
             access =
-                λ x place sx sp. rw (
-                  ← system x sx,
-                  ← get_or_from_slice_get c.args.places.now i place
-                      c.index-places-i.result sp,
-                  ← c.as_slice.ensures.items,
-                )
-                (c.job_access-access.ensures.needs (m c.index-systems-i.result).needs own.access);
+                λ x place sx sp.
+                let needs = rw c.as_slice.ensures.items at (c.job_access-access.ensures.needs _ own.access) in
+                rw (← system x sx, ← get_or_from_slice_get c.args.places.now i place c.index-places-i.result sp) needs;
             no_clash = λ x sx has. both_ways _ c.if-clash.false (own.clash.1 (rw (system x sx) has));
           })));
     }

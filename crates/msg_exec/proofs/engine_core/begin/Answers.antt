@@ -1,16 +1,15 @@
 use Rattle.std.proofs.Common.{arith, refl}
-use Rattle.std.proofs.lemmas.Bool.{ne_eqb}
-use Rattle.msg_frames.specs.Prelude.{joining}
+use Rattle.std.proofs.lemmas.Bool.{ne_eqb, cases_Bool, eqb-false}
 use Rattle.msg_frames.proofs.SystemsStay.{joining_keeps}
-use Rattle.msg_exec.proofs.CoreRunsFrame.{about_to_join, nobody_more, schedule_along, unchanged}
+use Rattle.msg_exec.proofs.{CoreRunsFrame.about_to_join, CoreRunsFrame.nobody_more, CoreRunsFrame.schedule_along, SystemsJoin.members_alike}
 use Rattle.msg_exec.proofs.engine_core.begin.Goals as goal
 
 pub returns-in_default-clause-begun : goal.returns-in_default-clause-begun
 returns-in_default-clause-begun g c s stands is =
     let none = rw c.in_default.is at (c.in_ok-next.ensures.plan s stands is) in
     record {
-      lender = unchanged g.S.System.meaning c.args.core.lender s none stands.lender;
-      schedule = schedule_along c.args.core c.args.core s (joining s) refl refl (joining_keeps s) stands.schedule;
+      lender = (let lender = stands.lender in grind (arith, cases_Bool, eqb-false, members_alike, ne_eqb));
+      schedule = schedule_along refl refl (joining_keeps s) stands.schedule;
       plan = rw ((joining_keeps s).rules, nobody_more s none) stands.plan;
     }
 
@@ -29,6 +28,6 @@ returns-clause-begun g c s stands is =
     (rw next.1 (about_to_join s stands.sound next.0)) in
     record {
       lender = rw (ne_eqb s.frames 0 (omega (arith, next.0)), ← next.1) lender;
-      schedule = schedule_along c.args.core _ s (joining s) refl refl (joining_keeps s) stands.schedule;
+      schedule = schedule_along refl refl (joining_keeps s) stands.schedule;
       plan = rw ((joining_keeps s).rules, c.join_those.ensures.accesses) next.2;
     }

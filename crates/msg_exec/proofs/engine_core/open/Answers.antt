@@ -1,8 +1,8 @@
-use Rattle.std.proofs.Common.{arith, refl, suc}
+use Rattle.std.proofs.Common.{arith, refl}
 use Rattle.msg_world.specs.Prelude.{WorldState, after_update}
-use Rattle.msg_frames.specs.Prelude.{before_turns, joining}
+use Rattle.msg_frames.specs.Prelude.{joining}
 use Rattle.msg_frames.proofs.SystemsStay.{joining_world}
-use Rattle.msg_exec.proofs.CoreRunsFrame.{schedule_along, world_stands}
+use Rattle.msg_exec.proofs.{CoreRunsFrame.schedule_along, SystemAfterTurn.member_stays}
 use Rattle.msg_exec.proofs.engine_core.open.Goals as goal
 
 pub post_all-requires-clause-types : goal.post_all-requires-clause-types
@@ -17,10 +17,10 @@ returns g c = record {
       let w : WorldState = after_update (joining s).world in
       let now = c.update_all.ensures.meaning (joining s).world has.lender.world in
       record {
-        lender = world_stands g.S.System.meaning c.in_ok-core.core.lender (joining s) _ _ (suc (joining s).frames)
-            has.lender (grind arith) (rw c.as_slice-posts.ensures.items at (c.in_ok-post_all.ensures.state w now));
-        schedule = schedule_along c.in_ok-core.core _ (joining s) (before_turns c.args.frame.now.posts s) refl refl
-            (grind arith) has.schedule;
+        lender =
+            let stands = rw c.as_slice-posts.ensures.items at (c.in_ok-post_all.ensures.state w now) in
+            grind (arith, member_stays, has.lender, stands);
+        schedule = schedule_along refl refl (grind arith) has.schedule;
         plan = has.plan;
         posts = rw (c.as_slice-posts.ensures.items, joining_world) at (c.in_ok-post_all.ensures.replies w now);
       };

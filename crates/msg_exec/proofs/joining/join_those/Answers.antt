@@ -1,10 +1,10 @@
 use Rattle.std.proofs.Common.{◌+◌, inl, inr, ◌≡◌, ◌<◌, None, length, sym, ap, ◌∙◌, arith, refl}
 use Rattle.std.specs.Vec.{with_items}
 use Rattle.msg_buffer.specs.Prelude.{count}
-use Rattle.std.proofs.lemmas.{Bool.cases_eq, Bool.eq-eqb, Bool.le-ltb, Bool.lt-ltb, Bool.Decides.nat_tests, List.FromFn.fill_by_all, Option.get_or_from_slice_get, List.get_or_default, List.get_or-set_other, List.get_or-set_same, List.length-set, List.with_items_is}
-use Rattle.msg_frames.specs.Prelude.{Member, State, counts, job_begun, totals_from, with_joining}
+use Rattle.std.proofs.lemmas.{Bool.cases_eq, Bool.eq-eqb, Bool.le-ltb, Bool.lt-ltb, Bool.Decides.nat_tests, List.FromFn.fill_by_all, Option.get_or_from_slice_get, List.get_or_default, List.get_or-set_other, List.get_or-set_same, List.length-set, List.with_items_is, Simd.map-map}
+use Rattle.msg_frames.specs.Prelude.{Member, counts, job_begun, totals_from, with_joining}
 use Rattle.msg_exec.specs.Prelude.{system_at}
-use Rattle.msg_exec.proofs.{SystemsJoin.conditions_start, SystemsJoin.joined_below, SystemsJoin.members_alike, SystemsJoin.still, SystemAfterTurn.member_stays, SystemAfterTurn.totals_there, ItemsOfLists.get_other, ItemsOfLists.get_same, ItemsOfLists.some_of}
+use Rattle.msg_exec.proofs.{SystemsJoin.joined_below, SystemsJoin.members_alike, SystemsJoin.still, SystemAfterTurn.member_stays, SystemAfterTurn.totals_there, ItemsOfLists.get_other, ItemsOfLists.get_same, ItemsOfLists.some_of}
 use Rattle.msg_exec.specs.inner.Totals.{first_place}
 use Rattle.msg_system.specs.Prelude.{Job as JobState}
 use Rattle.msg_exec.proofs.joining.join_those.Goals as goal
@@ -27,16 +27,12 @@ loop-i-preserved-then-joins-i g c =
 
 pub begin-requires-clause-few : goal.begin-requires-clause-few
 begin-requires-clause-few g c κs within =
-    let s : State = c.requires.stands.0 in
-    let joins = c.requires.stands.1.1 in
-    let i = c.loop-i.i in
-    let now = c.loop-i.invariant.so_far s c.requires.stands.1.0 joins c.requires.stands.1.2 in
-    let lt : i < s.systems = omega (arith, joins.as_many) in
-    let its =
-    totals_there g.S.System.meaning c.loop-i.lender (joined_below i c.args.frame s) i
-    c.index_mut-in-loop-i.result.now lt c.index_mut-in-loop-i.ensures.value now in
+    let (s, (stands, joins, fresh)) = c.requires.stands in
+    let now = c.loop-i.invariant.so_far s stands joins fresh in
+    let its = totals_there g.S.System.meaning now c.index_mut-in-loop-i.ensures.value
+    (omega (arith, joins.as_many)) in
     rw (c.deref_mut.ensures.value, its.as_many)
-    (omega (arith, c.requires.stands.1.0.types, c.counts-counts.ensures.few, c.counts-counts.ensures.types))
+    (omega (arith, stands.types, c.counts-counts.ensures.few, c.counts-counts.ensures.types))
 
 pub loop-i-preserved : goal.loop-i-preserved
 loop-i-preserved g c =
@@ -50,10 +46,8 @@ loop-i-preserved g c =
           let cs = c.counts-counts.result in
           let x = c.begin.new.slot in
           let member : Member = s.members i in
-          let far = inv.so_far s stands joins fresh in
-          let its =
-          totals_there m lender (joined_below i c.args.frame s) i c.index_mut-in-loop-i.result.now lt
-          c.index_mut-in-loop-i.ensures.value far in
+          let far = c.loop-i.invariant.so_far s stands joins fresh in
+          let its = totals_there m far c.index_mut-in-loop-i.ensures.value lt in
           let w = with_items c.index_mut-in-loop-i.result.now c.begin.new.totals in
           let read : w.items ≡ c.begin.new.totals =
           with_items_is c.index_mut-in-loop-i.result.now c.begin.new.totals
@@ -77,7 +71,7 @@ loop-i-preserved g c =
               | inl is ↦ rw (is, lt-ltb i (i + 1) (omega arith), eq-eqb _ _ joined, ← same) (record {
                 guarded = rw (get_or-set_same lender.systems.items i x None (omega (arith, lt, far.systems)), b.1.0)
                     (b.1.1 ∙ ap (job_begun cs) a.1.1);
-                access = rw (conditions_start member.job.system.start cs member.job.conditions) here.access;
+                access = rw map-map here.access;
                 home = here.home;
                 totals = rw (get_same lender.totals.items i w (omega (arith, lt, far.totals))) (record {
                   as_many = many;

@@ -1,29 +1,25 @@
-use Rattle.std.proofs.Common.{◌<◌, refl, sym, ◌∙◌, arith}
+use Rattle.std.proofs.Common.{refl, sym, ◌∙◌, arith}
 use Rattle.msg_exec.proofs.{BatchOfOne.may_come_home, BatchOfOne.may_take_turn, BatchOfOne.turn_is_logged, BatchOfOne.turn_taken, EntriesAreAdded.entered_there}
 use Rattle.msg_exec.proofs.lender.run_turn.Goals as goal
 
 pub take_turn-requires-clause-may : goal.take_turn-requires-clause-may
 take_turn-requires-clause-may g c =
-    let s = c.requires.stands in
-    let may = may_take_turn g.S.System.meaning c.args.lender.now s.0 c.args.number s.1.0 s.1.1
-    _ _ _ _ _ c.index.ensures c.index_mut.ensures.value c.in-Some.is c.in_ok-taken.ensures.lent in
+    let (s, (stands, lt)) = c.requires.stands in
+    let may = may_take_turn g.S.System.meaning c.args.number stands lt c.index.ensures c.index_mut.ensures.value
+    c.in-Some.is c.in_ok-taken.ensures.lent in
     (may.loan, may.access)
 
 pub enter-requires-clause-few : goal.enter-requires-clause-few
 enter-requires-clause-few g c κs within =
-    let s = c.requires.stands in
-    (may_come_home g.S.System.meaning c.args.lender.now s.0 c.args.number s.1.0 s.1.1
-    _ _ _ _ _ c.index.ensures c.index_mut.ensures.value c.in-Some.is c.in_ok-taken.ensures.lent _ _ _
-    c.in_ok-taken-2.ensures.took).few
+    let (s, (stands, lt)) = c.requires.stands in
+    (may_come_home g.S.System.meaning c.args.number stands lt c.index.ensures c.index_mut.ensures.value c.in-Some.is
+    c.in_ok-taken.ensures.lent c.in_ok-taken-2.ensures.took).few
 
 pub returns-clause-state : goal.returns-clause-state
 returns-clause-state g c s stands =
-    let old = c.args.lender.now in
-    let i = c.args.number in
-    let lt : i < s.systems = rw (sym c.requires.stands.1.0.accesses ∙ stands.accesses) at c.requires.stands.1.1 in
-    turn_taken g.S.System.meaning old s i stands lt
-    _ _ _ _ _ c.index.ensures c.index_mut.ensures.value c.in-Some.is c.in_ok-taken.ensures.lent _ _ _
-    c.in_ok-taken-2.ensures.took _
+    let lt = rw (sym c.requires.stands.1.0.accesses ∙ stands.accesses) at c.requires.stands.1.1 in
+    turn_taken g.S.System.meaning c.args.number stands lt c.index.ensures c.index_mut.ensures.value c.in-Some.is
+    c.in_ok-taken.ensures.lent c.in_ok-taken-2.ensures.took
     (record {
       systems = refl;
       accesses = refl;
@@ -31,8 +27,7 @@ returns-clause-state g c s stands =
       totals = (
         _,
         refl,
-        entered_there g.S.System.meaning _ old.totals.items c.index_mut-2.result.now c.deref_mut.result.now
-            c.enter.new.totals
+        entered_there g.S.System.meaning _ c.args.lender.now.totals.items {now = c.enter.new.totals}
             c.index_mut-2.ensures.value c.deref_mut.ensures.value
             (omega (arith, c.enter.ensures.as_many, c.deref_mut.ensures.len))
             (record { as_many = c.enter.ensures.as_many; entered = c.enter.ensures.entered }),
@@ -43,8 +38,6 @@ returns-clause-state g c s stands =
 
 pub returns-clause-logged : goal.returns-clause-logged
 returns-clause-logged g c s stands =
-    let i = c.args.number in
-    let lt : i < s.systems = rw (sym c.requires.stands.1.0.accesses ∙ stands.accesses) at c.requires.stands.1.1 in
-    turn_is_logged g.S.System.meaning c.args.lender.now s i stands lt
-    _ _ _ _ _ c.index.ensures c.index_mut.ensures.value c.in-Some.is c.in_ok-taken.ensures.lent _ _ _
-    c.in_ok-taken-2.ensures.took
+    let lt = rw (sym c.requires.stands.1.0.accesses ∙ stands.accesses) at c.requires.stands.1.1 in
+    turn_is_logged g.S.System.meaning c.args.number stands lt c.index.ensures c.index_mut.ensures.value c.in-Some.is
+    c.in_ok-taken.ensures.lent c.in_ok-taken-2.ensures.took

@@ -1,4 +1,4 @@
-use Rattle.std.proofs.Common.{◌++◌, ◌∙◌, List, ℕ, ap, refl}
+use Rattle.std.proofs.Common.{◌++◌, ◌∙◌, ap, refl}
 use Rattle.std.specs.List.{concat}
 use Rattle.std.proofs.lemmas.List.Elements.{Contains-get_or}
 use Rattle.msg_frames.specs.declared.log.Log.{Log}
@@ -9,15 +9,13 @@ use Rattle.msg_exec.proofs.replay.replay_one.Goals as goal
 
 pub run_turns-requires-clause-stands : goal.run_turns-requires-clause-stands
 run_turns-requires-clause-stands g c κs within =
-    let s : State = c.requires.stands.0 in
-    let stands = c.requires.stands.1.0 in
-    let has = c.in_ok-core.ensures.opened s stands c.requires.stands.1.1 in
-    let lawful = c.requires.lawful s stands c.requires.stands.1.1 in
+    let (s, (stands, is)) = c.requires.stands in
+    let lawful = (c.requires.lawful s stands is).lawful in
     let bt : State = before_turns c.args.frame.now.posts s in (
       bt,
       (
-        has.lender,
-        λ k d lt. joined_below bt _ ((lawful.lawful.of_joined _).0 (Contains-get_or c.args.order.now k d lt)),
+        (c.in_ok-core.ensures.opened s stands is).lender,
+        λ k d lt. joined_below bt _ ((lawful.of_joined _).0 (Contains-get_or c.args.order.now k d lt)),
       ),
     )
 
@@ -25,25 +23,19 @@ pub returns : goal.returns
 returns g c = record {
   replayed = λ s stands is.
       let m = g.S.System.meaning in
-      let b = c.in_ok-core.core in
       let frame = c.args.frame.now in
       let order = c.args.order.now in
-      let replies = c.in_ok-core.posts.items in
       let has = c.in_ok-core.ensures.opened s stands is in
       let lawful = c.requires.lawful s stands is in
       let bt : State = before_turns frame.posts s in
-      let told = logged_in frame order s _ replies c.from_vec.ensures.items has.posts
+      let told = logged_in frame order s _ c.in_ok-core.posts.items c.from_vec.ensures.items has.posts
       (c.from_vec-2.ensures.items ∙ c.in_ok-run_turns.ensures.turns bt has.lender
       ∙ ap (λ ts. ts ++ (after_turns_of order bt).turns) c.in_ok-turns.ensures.empty) in
-      let turns : List ℕ = concat b.plan.batches in
-      let settled : Log = (frame_in turns frame s).log in
-      let own = is_frame_by m b s frame settled turns replies refl has refl in
-      let alike = c.frames_agree_in_lawful_orders.ensures.law frame s _ settled lawful.settled order own lawful.is_order
-      lawful.lawful in
-      let ran =
-      frame_ran m b _ s frame settled turns replies refl has stands.sound c.states_stay_sound.ensures.frame
-      (rw alike.0 at (c.in_ok-run_turns.ensures.state bt has.lender)) refl refl refl refl
-      c.in_ok-run_turns.ensures.accesses in
+      let settled : Log = (frame_in (concat c.in_ok-core.core.plan.batches) frame s).log in
+      let alike = c.frames_agree_in_lawful_orders.ensures.law frame s _ settled lawful.settled order
+      (is_frame_by m has refl) lawful.is_order lawful.lawful in
+      let ran = frame_ran m has stands.sound c.states_stay_sound.ensures.frame
+      (rw alike.0 at (c.in_ok-run_turns.ensures.state bt has.lender)) refl c.in_ok-run_turns.ensures.accesses in
       record {
         state = ran.state;
         leaves = record {

@@ -13,20 +13,12 @@ returns-clause-gate_passed g c = IfOk-weaker c.close.result _ _
     let passes = c.in_ok-board.passes.items in
     let all = subst (λ n. take n (ended ++ drop (length ended) passes) ≡ ended) as_many (take-append_seam ended _) in
     let some = slice_get_within c.args.jobs.items k job at in
+    let most = c.number.ensures in
+    let passes_are = c.in_ok-board.ensures.as_many in
     let board = c.in_ok-board.board in
     each_passed (g.G.Gate.passed c.args.gate.now) g.W.Runs.system_of board ended
     (min c.args.workers (length c.args.jobs.items))
-    (omega (
-      arith,
-      some,
-      as_many,
-      c.len.ensures,
-      c.in_ok-board.ensures.as_many,
-      c.max-passes.ensures,
-      c.min.ensures,
-      c.number.ensures.number,
-      c.number.ensures.some,
-    ))
+    (omega (arith, some, as_many, most, passes_are, c.len.ensures, c.max-passes.ensures, c.min.ensures))
     (subst (λ ps. HoldsEachOnce (length (jobs_of board)) (drawn_by ps)) all c.close.ensures.drawn_once)
     c.work_from.ensures.worked k job (subst (λ jobs. slice_get jobs k ≡ Some job) (sym c.in_ok-board.ensures.jobs) at))
     c.close.ensures.lawful

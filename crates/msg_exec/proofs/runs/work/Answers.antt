@@ -4,7 +4,6 @@ use Rattle.msg_exec.specs.Prelude.{EachNewIs}
 use Rattle.msg_exec.proofs.WorkersDraw.{one_more}
 use Rattle.msg_exec.proofs.runs.work.Goals as goal
 
--- src/runs.rt:41:5
 pub loop-k-preserved : goal.loop-k-preserved
 loop-k-preserved g c =
     let J : Type 0 = g.row.W-Job.Denot in
@@ -18,7 +17,6 @@ loop-k-preserved g c =
       subst (EachNewIs told jobs c.args.pass.now.drawn) (sym (ran.handed_in.drawn ∙ drew.drawn)) more,
     )
 
--- src/runs.rt:28:1
 pub returns-clause-gate_passed : goal.returns-clause-gate_passed
 returns-clause-gate_passed g c =
     let J : Type 0 = g.row.W-Job.Denot in

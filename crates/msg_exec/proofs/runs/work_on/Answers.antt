@@ -5,7 +5,6 @@ use Rattle.msg_exec.specs.inner.Batches.{IsFirstDraw}
 use Rattle.msg_exec.proofs.WorkersDraw.{and_then, one_more}
 use Rattle.msg_exec.proofs.runs.work_on.Goals as goal
 
--- src/runs.rt:71:1
 pub returns-in-Some : goal.returns-in-Some
 returns-in-Some g c =
     let J : Type 0 = g.row.W-Job.Denot in

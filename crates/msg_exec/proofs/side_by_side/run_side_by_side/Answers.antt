@@ -1,35 +1,42 @@
-use Rattle.std.proofs.Common.{◌≡◌, ◌∙◌, [], length, min, ap, sym, subst, All}
-use Rattle.std.proofs.lemmas.{List.length-map, List.Elements.All-get_or, Option.get_or_from_slice_get, Option.slice_get_within, Result.IfOk-weaker}
-use Rattle.msg_exec.specs.Prelude.{Job, MayRun, PassedGate}
-use Rattle.msg_exec.proofs.{WorkersDraw.all_mapped, JobsShareTheWorld.all_are_done, JobsShareTheWorld.each_may}
+use Rattle.std.proofs.Common.{Ok, ◌∙◌, slice_get, sym, ap, option_map, length, min, subst}
+use Rattle.std.proofs.lemmas.{List.length-map, Option.slice_get-get_or, Option.slice_get-map, Result.IfOk-weaker, Slice.Zip.AllZip-left, Slice.Zip.AllZip-long, Slice.Zip.AllZip-right}
+use Rattle.msg_exec.specs.inner.Batches.{IsWithWorld}
+use Rattle.msg_exec.proofs.ItemsOfLists.{some_of}
+use Rattle.msg_exec.specs.Prelude.{Job, PassedGate}
 use Rattle.msg_exec.proofs.side_by_side.run_side_by_side.Goals as goal
 
+pub run_jobs-requires-clause-few : goal.run_jobs-requires-clause-few
+run_jobs-requires-clause-few g c κs within =
+    rw (AllZip-long (IsWithWorld c.args.world.now) c.args.jobs.items _ c.in_ok-jobs.ensures.each) c.requires.few
+
 pub run_jobs-requires-clause-may : goal.run_jobs-requires-clause-may
-run_jobs-requires-clause-may g c κs within k b at = (
-  each_may (MayRun g.S.System.meaning) (λ b. b.job)
-      (λ b. b.world.now) c.args.world.now _ c.args.jobs.items c.in_ok-jobs.ensures.jobs c.in_ok-jobs.ensures.world
-      c.requires.may k b at,
-  (let jobs = c.in_ok-jobs.jobs.items in
-      ap (λ j. j.replies.items) (sym (get_or_from_slice_get jobs k b b at))
-      ∙ All-get_or (λ j. j.replies.items ≡ []) jobs k b (slice_get_within jobs k b at) c.in_ok-jobs.ensures.empty),
-)
+run_jobs-requires-clause-may g c κs within k b at =
+    let jobs = c.args.jobs.items in
+    let each = c.in_ok-jobs.ensures.each in
+    let (j, (found, is)) = some_of (slice_get jobs k)
+    (rw at at (AllZip-right (IsWithWorld c.args.world.now) jobs c.in_ok-jobs.jobs.items each k)) in
+    (rw (← is.job, ← is.world) at (c.requires.may k j found), is.empty)
 
 pub returns : goal.returns
-returns g c = record {
-  done = IfOk-weaker c.all_done.result _ _
-      (λ done ok. all_are_done g.S.System.meaning (λ b. b.job)
-      (λ b. b.world.now) c.args.world.now c.in_ok-jobs.jobs.items c.args.jobs.items _ done.items
-      c.in_ok-jobs.ensures.jobs c.in_ok-jobs.ensures.world c.in_ok-results.ensures.lawful ok)
-      c.all_done.ensures.done;
-  gate_passed = IfOk-weaker c.all_done.result _ _
-      (λ done ok.
-      let as_many : length c.in_ok-jobs.jobs.items
-      ≡ length c.args.jobs.items = sym (length-map c.in_ok-jobs.jobs.items (λ b. b.job))
-      ∙ ap length c.in_ok-jobs.ensures.jobs in
-      subst (λ n. All (λ (j : Job g.row.S.Denot). PassedGate (g.G.Gate.passed c.args.gate.now)
-      (min c.args.workers n) j.number) c.args.jobs.items) as_many
-      (all_mapped (λ (j : Job g.row.S.Denot). PassedGate (g.G.Gate.passed c.args.gate.now)
-      (min c.args.workers (length c.in_ok-jobs.jobs.items)) j.number) (λ b. b.job) c.in_ok-jobs.jobs.items
-      c.args.jobs.items c.in_ok-jobs.ensures.jobs c.in_ok-results.ensures.gate_passed))
-      c.all_done.ensures.done;
-}
+returns g c =
+    let old = c.args.jobs.items in
+    let new = c.in_ok-jobs.jobs.items in
+    let each = c.in_ok-jobs.ensures.each in
+    let R = IsWithWorld c.args.world.now in
+    let many = AllZip-long R old new each in
+    let results = c.in_ok-results.ensures in
+    record {
+      done = IfOk-weaker c.all_done.result _ _ (λ done ok. record {
+        as_many = sym (length-map done.items Ok) ∙ (rw ok at results.lawful).as_many ∙ many;
+        each = λ k j d at there.
+            let (b, (found, is)) = some_of (slice_get new k) (rw at at (AllZip-left R old new each k)) in
+            let came = slice_get-map Ok done.items k ∙ ap (option_map Ok) there in
+            rw (is.job, is.world) at ((rw ok at results.lawful).each k b (Ok d) found came).done;
+      }) c.all_done.ensures.done;
+      gate_passed = IfOk-weaker c.all_done.result _ _ (λ done ok k d lt.
+          let at = slice_get-get_or old k d lt in
+          let (b, (found, is)) = some_of (slice_get new k) (rw at at (AllZip-left R old new each k)) in
+          subst (λ (j : Job g.row.S.Denot). PassedGate (g.G.Gate.passed c.args.gate.now)
+          (min c.args.workers (length old)) j.number) is.job (rw many at (results.gate_passed k b found)))
+          c.all_done.ensures.done;
+    }

@@ -1,9 +1,6 @@
-use Rattle.std.proofs.Common.{◌≡◌, [], map, All}
+use Rattle.std.specs.List.{AllZip}
+use Rattle.msg_exec.specs.inner.Batches.{IsWithWorld}
 use Rattle.msg_exec.proofs.side_by_side.with_world.Given as goal
 
 abbrev pub invariant-loop-job : goal.invariant-loop-job
-invariant-loop-job g l = record {
-  jobs : map (λ j. j.job) l.all.items ≡ l.yielded;
-  world : map (λ j. j.world.now) l.all.items ≡ map (λ j. l.world) l.all.items;
-  empty : All (λ j. j.replies.items ≡ []) l.all.items;
-}
+invariant-loop-job g l = AllZip (IsWithWorld l.world) l.yielded l.all.items

@@ -22,12 +22,9 @@ loop-reply-preserved g c =
             y,
             c.enter_reply.ensures.entered t far.0 (omega (arith, lt, inv.as_many)) far.1
                 ∙ ap (λ n. kept (with_entries (entry_at t ops n c.reply-item.result) far.0)) inv.op,
-            rw (
-              add-one,
-              ← with_entries-append (entry_at t ops k c.reply-item.result),
-              ← entries_from t ops replies k
-                  c.reply-item.result (slice_get_read replies _ k _ refl c.loop-reply-test.true c.reply-item.is),
-            ) far.2,
+            rw (add-one, ← with_entries-append (entry_at t ops k c.reply-item.result))
+                (rw (← entries_from t ops replies k c.reply-item.result
+                (slice_get_read replies _ k _ refl c.loop-reply-test.true c.reply-item.is)) far.2),
           );
     }
 

@@ -7,9 +7,8 @@ use Rattle.msg_exec.proofs.engine.EngineOf.new.Goals as goal
 
 pub returns-in_err-check_rules-clause-refusal : goal.returns-in_err-check_rules-clause-refusal
 returns-in_err-check_rules-clause-refusal g c =
-    let none = none_clashes g.S.System.meaning c.args.systems.items c.args.places.items c.in_ok-accesses.accesses.items
-    (rw c.deref.ensures.value at c.in_ok-accesses.ensures.as_many)
-    (rw (c.deref.ensures.value, c.deref-2.ensures.value) at c.in_ok-accesses.ensures.accesses) in
+    let accesses = rw (c.deref.ensures.value, c.deref-2.ensures.value) at c.in_ok-accesses.ensures in
+    let none = none_clashes g.S.System.meaning c.args.systems.items _ _ accesses.as_many accesses.accesses in
     let cycle = rw c.deref-3.ensures.value at c.in_err-check_rules.ensures.cycle in
     grind (arith, cycle, none, c.from_residual-in_err-check_rules.ensures)
 
@@ -27,14 +26,12 @@ join_those-requires-clause-stands g c κs within =
     let places = c.args.places.items in
     let totals : length c.in_ok-totals.totals.items ≡ length systems =
     omega (arith, c.in_ok-totals.ensures.as_many, c.len-2.ensures) in
+    let accesses = rw (c.deref.ensures.value, c.deref-2.ensures.value) at c.in_ok-accesses.ensures in
     let w = c.stands_for_some.ensures.state in (
-      unjoined (map m systems) places c.args.rules.items (length c.args.world.types) w.0,
-      parts_stand m c.args.world systems places c.requires.whole c.requires.one_place_each c.requires.each
-          _ c.args.rules.items refl c.in_ok-guarded.ensures.as_many
-          (rw c.deref.ensures.value at c.in_ok-accesses.ensures.as_many)
-          totals
-          (rw c.deref-8.ensures.value at c.in_ok-guarded.ensures.guarded)
-          (rw (c.deref.ensures.value, c.deref-2.ensures.value) at c.in_ok-accesses.ensures.accesses)
+      _,
+      parts_stand m _ systems places c.requires.whole c.requires.one_place_each c.requires.each _ c.args.rules.items
+          refl c.in_ok-guarded.ensures.as_many accesses.as_many totals
+          (rw c.deref-8.ensures.value at c.in_ok-guarded.ensures.guarded) accesses.accesses
           (rw c.types.ensures.types at c.in_ok-totals.ensures.totals) c.deref-9.result.now
           (rw (c.deref-9.ensures.value, ← c.deref-4.ensures.value) c.in_ok-joins.ensures.joins) w.0 w.1,
     )
@@ -49,26 +46,20 @@ returns-clause-meaning g c w stands =
     let places = c.args.places.items in
     let totals : length c.in_ok-totals.totals.items ≡ length systems =
     omega (arith, c.in_ok-totals.ensures.as_many, c.len-2.ensures) in
+    let accesses = rw (c.deref.ensures.value, c.deref-2.ensures.value) at c.in_ok-accesses.ensures in
     let parts =
-    parts_stand m c.args.world systems places c.requires.whole c.requires.one_place_each c.requires.each
-    _ c.args.rules.items refl c.in_ok-guarded.ensures.as_many
-    (rw c.deref.ensures.value at c.in_ok-accesses.ensures.as_many)
-    totals
-    (rw c.deref-8.ensures.value at c.in_ok-guarded.ensures.guarded)
-    (rw (c.deref.ensures.value, c.deref-2.ensures.value) at c.in_ok-accesses.ensures.accesses)
+    parts_stand m _ systems places c.requires.whole c.requires.one_place_each c.requires.each _ c.args.rules.items refl
+    c.in_ok-guarded.ensures.as_many accesses.as_many totals
+    (rw c.deref-8.ensures.value at c.in_ok-guarded.ensures.guarded) accesses.accesses
     (rw c.types.ensures.types at c.in_ok-totals.ensures.totals) c.deref-9.result.now
     (rw (c.deref-9.ensures.value, ← c.deref-4.ensures.value) c.in_ok-joins.ensures.joins) w stands in
     let first : State = unjoined (map m systems) places c.args.rules.items (length c.args.world.types) w in
     let s : State = with_joining 1 first in
+    let joins = c.in_ok-joins.joins in
     let core : Core g.row.S.Denot =
-    record {
-      lender = c.join_those.new.lender;
-      joins = c.in_ok-joins.joins;
-      rules = c.args.rules;
-      plan = c.in_ok-plan.plan;
-    } in
-    let schedule : Schedule core s = schedule_along core core first s refl refl (joining_on_keeps 1 first)
-    (schedule_first m c.args.world systems places c.requires.whole c.requires.one_place_each c.requires.each core
+    record { lender = c.join_those.new.lender; joins = joins; rules = c.args.rules; plan = c.in_ok-plan.plan } in
+    let schedule : Schedule core s = schedule_along refl refl (joining_on_keeps 1 first)
+    (schedule_first m _ systems places c.requires.whole c.requires.one_place_each c.requires.each core
     c.args.rules.items w c.requires.few c.requires.in_range
     (none_more c.fewer_systems_make_no_cycle.ensures.law (length systems) c.args.rules.items c.requires.in_range
     (returns-clause-no_cycle g c)) refl (rw c.deref-9.ensures.value at parts.1)) in
@@ -81,7 +72,7 @@ returns-clause-meaning g c w stands =
             at c.in_ok-plan.ensures.plan);
         sound = c.first_states_are_sound.ensures.law (map m systems) places c.args.rules.items
             (length c.args.world.types) w
-            (are_new m c.args.world systems places c.requires.whole c.requires.one_place_each c.requires.each w stands);
+            (are_new m _ systems places c.requires.whole c.requires.one_place_each c.requires.each w stands);
       };
       frames = omega arith;
     }
@@ -91,6 +82,5 @@ returns-clause-engine g c = let w = c.stands_for_some.ensures.state in inr (_, r
 
 pub returns-clause-no_clash : goal.returns-clause-no_clash
 returns-clause-no_clash g c =
-    none_clashes g.S.System.meaning c.args.systems.items c.args.places.items c.in_ok-accesses.accesses.items
-    (rw c.deref.ensures.value at c.in_ok-accesses.ensures.as_many)
-    (rw (c.deref.ensures.value, c.deref-2.ensures.value) at c.in_ok-accesses.ensures.accesses)
+    let accesses = rw (c.deref.ensures.value, c.deref-2.ensures.value) at c.in_ok-accesses.ensures in
+    none_clashes g.S.System.meaning c.args.systems.items _ _ accesses.as_many accesses.accesses

@@ -1,4 +1,4 @@
-use Rattle.std.proofs.Common.{◌≡◌, ◌++◌, ◌∷◌, [], length, append_assoc, refl, arith, rules, IsSome}
+use Rattle.std.proofs.Common.{◌≡◌, ◌++◌, ◌∷◌, [], length, append_assoc, refl, arith, rules}
 use Rattle.std.proofs.lemmas.{List.drop-append-le, List.length_push, List.take_all, List.take_more, List.Elements.All-push}
 use Rattle.msg_exec.specs.Prelude.{EachPassedGate}
 use Rattle.msg_frames.specs.Prelude.{systems_in}
@@ -9,8 +9,7 @@ use Rattle.msg_exec.proofs.engine.EngineOf.run_frames.Goals as goal
 pub run_frame-requires-clause-posts : goal.run_frame-requires-clause-posts
 run_frame-requires-clause-posts g c κs within =
     let m = g.S.System.meaning in
-    let some : IsSome c.args.self.now.core = search rules in
-    let was = stood m c.args.self.now some c.requires.engine in
+    let was = stood m c.args.self.now (search rules) c.requires.engine in
     let far = c.loop-frame.invariant.so_far was.0 was.1 in
     let old = core_of m c.args.self.now was.0 was.1 in
     let new = core_of m c.loop-frame.self far.state far.stands in
@@ -21,8 +20,7 @@ run_frame-requires-clause-posts g c κs within =
 pub loop-frame-preserved : goal.loop-frame-preserved
 loop-frame-preserved g c =
     let m = g.S.System.meaning in
-    let some : IsSome c.args.self.now.core = search rules in
-    let was = stood m c.args.self.now some c.requires.engine in
+    let was = stood m c.args.self.now (search rules) c.requires.engine in
     let inv = c.loop-frame.invariant in
     let frames = c.args.frames.now in
     let k = c.loop-frame.frame-index in

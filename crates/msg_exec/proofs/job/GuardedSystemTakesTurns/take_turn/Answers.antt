@@ -1,8 +1,8 @@
 use Rattle.std.proofs.Common.{rules, ◌≡◌, refl, sym, ap, ◌∙◌}
 use Rattle.msg_world.specs.declared.access.Access.{Access}
-use Rattle.msg_world.specs.Prelude.{SameShape, writes}
+use Rattle.msg_world.specs.Prelude.{SameShape, writes, slot}
 use Rattle.msg_system.specs.Prelude.{all_hold, turn}
-use Rattle.msg_exec.proofs.JobsAreDone.{asked_guards, nothing_else, ran_job, skipped_job}
+use Rattle.msg_exec.proofs.JobsAreDone.{asked_guards, ran_job, skipped_job, none_there}
 use Rattle.msg_exec.proofs.job.GuardedSystemTakesTurns.take_turn.Goals as goal
 
 pub returns-then-not-check_all : goal.returns-then-not-check_all
@@ -18,8 +18,7 @@ returns-then-not-check_all g c =
             skipped_job g.S.System.meaning old _ _ w
             (sym c.if-not-check_all.true ∙ c.check_all.ensures.answer w stands ∙ ap (λ gs. all_hold gs w) there)
             refl
-            (asked_guards old.guards c.deref_mut.result.now c.check_all.new.guards w there c.check_all.ensures.same
-            (c.check_all.ensures.moved w stands))
+            (asked_guards old.guards w there c.check_all.ensures.same (c.check_all.ensures.moved w stands))
             (rw kept at lent);
       };
     }
@@ -31,7 +30,6 @@ returns g c =
     let taken = c.in_ok-taken.taken in
     let ran = c.in_ok-taken.ensures.ran in
     let shape : SameShape c.args.taken taken = rw c.open-lent.ensures.taken at c.in_ok-taken.ensures.shape in
-    let none = nothing_else c.args.access.now c.args.taken taken c.requires.may.0.written shape in
     let there = c.deref_mut.ensures.value in
     record {
       took = record {
@@ -40,11 +38,11 @@ returns g c =
             let stands = c.open-lent.ensures.meaning w world lent in
             ran_job g.S.System.meaning old _ l taken w _ _ _ c.requires.empty c.from_vec.ensures.items
             (sym c.if-not-check_all.false ∙ c.check_all.ensures.answer w stands ∙ ap (λ gs. all_hold gs w) there)
-            (asked_guards old.guards c.deref_mut.result.now c.check_all.new.guards w there c.check_all.ensures.same
-            (c.check_all.ensures.moved w stands))
+            (asked_guards old.guards w there c.check_all.ensures.same (c.check_all.ensures.moved w stands))
             ran stands
             (c.what_is_given_back_stands.ensures.law l taken (turn (g.S.System.meaning old.system) w).state
-            (λ p isnt. none p (ap (λ (a : Access). writes a p) (sym c.open-lent.ensures.access) ∙ isnt))
+            (λ p isnt. none_there (slot p taken) (shape.there p ∙ c.requires.may.0.written p
+            ∙ ap (λ (a : Access). writes a p) (sym c.open-lent.ensures.access) ∙ isnt))
             (ran.state w stands));
       };
     }

@@ -10,10 +10,8 @@ returns-clause-home g c = record {
   totals = (
     _,
     refl,
-    entered_there g.S.System.meaning c.args.done c.args.self.now.totals.items c.index_mut.result.now
-        c.deref_mut.result.now c.enter.new.totals
-        c.index_mut.ensures.value c.deref_mut.ensures.value
-        (omega (arith, c.enter.ensures.as_many, c.deref_mut.ensures.len))
+    entered_there g.S.System.meaning c.args.done c.args.self.now.totals.items c.index_mut.ensures.value
+        c.deref_mut.ensures.value (omega (arith, c.enter.ensures.as_many, c.deref_mut.ensures.len))
         (record { as_many = c.enter.ensures.as_many; entered = c.enter.ensures.entered }),
   );
 }
