@@ -4,5 +4,6 @@ pub mod Steps
 pub mod Shapes
 -- its calls, one after another, and their text
 pub mod Lines
+pub mod Digits
 pub mod Puts
 pub mod Running

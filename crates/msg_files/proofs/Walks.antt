@@ -1,5 +1,6 @@
 -- One step of a walk over a list of JSON values.
 use Rattle.std.proofs.Common.{◌≡◌, ℕ, ◌≤◌, List, [], ◌∷◌, ◌++◌, drop, refl, ap, arith, Some, None, Bool, map, string_bytes, String, ℤ, ◌&&◌}
+use Rattle.std.proofs.lemmas.List.{length-map, Folds.list_all-map}
 use Rattle.std.specs.{List.list_all, declared.alloc.Global.Global}
 use Rattle.serde_json.specs.{Data.Data, View.view, View.items_of, View.members_view, declared.value.Value.Value}
 use Rattle.msg_files.specs.Prelude.{Call, Check, Refusal, a_value, all_some, call_of, calls_checks, cursors_exist, first_refusal, keys_of, list_of, whole}
@@ -21,6 +22,9 @@ list_all-keys p (m ∷ ms) = ap (λ b. p (string_bytes m.0) && b) (list_all-keys
 pub all_some-map : {A : Type 0} (xs : List A) → all_some (map (λ x. Some x) xs) ≡ Some xs
 all_some-map [] = refl
 all_some-map (x ∷ xs) = rw (all_some-map xs) refl
+
+-- steps that the check takes by itself
+pub ruleset list_steps = (list_of-items_of, list_all-keys, all_some-map, list_all-map, length-map)
 
 -- ---- checks one after another
 
