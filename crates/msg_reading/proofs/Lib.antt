@@ -7,8 +7,6 @@ pub mod Spaces
 pub mod Ops
 pub mod Conditions
 pub mod Systems
--- the whole file
-pub mod Files
 -- what is known of a scenario that was read: it can be run
 pub mod There
 pub mod Fitting

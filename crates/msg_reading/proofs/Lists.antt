@@ -1,10 +1,10 @@
 -- Lists of a scenario file, and one step of a walk over their elements.
 use Rattle.std.proofs.Common.{refl, ◌≡◌, ℕ, ◌+◌, ◌<◌, List, [], ◌∷◌, ◌++◌, length, get_or, drop, ◌∙◌, append_assoc, Option, Some, None, map, flat_map}
-use Rattle.std.proofs.lemmas.{List.map_push, List.length-map, List.map-append, List.drop_more, List.drop_all, List.Folds.list_all-map}
+use Rattle.std.proofs.lemmas.{List.map_push, List.drop_more}
 use Rattle.serde_json.specs.{Data.Data, View.view, declared.value.Value.Value}
 use Rattle.msg_files.specs.Prelude.{Check, first_refusal}
 use Rattle.msg_files.specs.declared.refusal.Refusal.{Refusal}
-use Rattle.msg_files.proofs.Walks.{all_some-map, first_refusal-passed, first_refusal-stands, list_of-items_of}
+use Rattle.msg_files.proofs.Walks.{refusal_of_both}
 
 -- the elements so far passed their checks, and those from i on are left
 pub record ElementsLeft {A : Type 0} (checks : Data → List Check) (denotes : Data → Option A)
@@ -24,7 +24,7 @@ module _ {A : Type 0} (checks : Data → List Check) (denotes : Data → Option 
       let here = checks (view (get_or items i d)) in
       let rest = flat_map checks (map view (drop (i + 1) items)) in
       record {
-        passed = left.passed ∙ rw (drop_more items i d lt) (first_refusal-passed here rest passes);
+        passed = left.passed ∙ rw (drop_more items i d lt) (rw (refusal_of_both here rest, passes) refl);
         denoted = left.denoted ∙ rw (drop_more items i d lt, is, map_push, append_assoc) refl;
       }
 
@@ -34,8 +34,4 @@ module _ {A : Type 0} (checks : Data → List Check) (denotes : Data → Option 
       → first_refusal (flat_map checks (map view items)) ≡ Some e
   ElementsLeft-bad i d read e left lt bad =
       let rest = flat_map checks (map view (drop (i + 1) items)) in
-      left.passed ∙ rw (drop_more items i d lt) (first_refusal-stands (checks (view (get_or items i d))) rest e bad)
-
--- ---- steps that the check takes by itself
-
-pub ruleset list_steps = (list_of-items_of, all_some-map, list_all-map, length-map)
+      left.passed ∙ rw (drop_more items i d lt) (rw (refusal_of_both (checks (view (get_or items i d))) rest, bad) refl)

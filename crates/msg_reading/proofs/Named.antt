@@ -5,7 +5,7 @@ use Rattle.serde_json.specs.{Data.Data, View.view, declared.value.Value.Value}
 use Rattle.msg_files.specs.Prelude.{Check, first_refusal}
 use Rattle.msg_reading.specs.Prelude.{Declared, checks_in_turn, each_in_turn, with_all}
 use Rattle.msg_files.specs.declared.refusal.Refusal.{Refusal}
-use Rattle.msg_files.proofs.Walks.{first_refusal-passed, first_refusal-stands}
+use Rattle.msg_files.proofs.Walks.{refusal_of_both}
 
 module _ {A : Type 0} (checks : Declared → Data → List Check) (denotes : Declared → Data → Option A)
     (with_one : Declared → Data → Declared) (first : Declared) (items : List Value) where
@@ -32,7 +32,7 @@ module _ {A : Type 0} (checks : Declared → Data → List Check) (denotes : Dec
       let here = view (get_or items i d) in
       let rest = checks_in_turn checks with_one (with_one names here) (map view (drop (i + 1) items)) in
       record {
-        passed = left.passed ∙ rw (drop_more items i d lt) (first_refusal-passed (checks names here) rest passes);
+        passed = left.passed ∙ rw (drop_more items i d lt) (rw (refusal_of_both (checks names here) rest, passes) refl);
         denoted = left.denoted ∙ rw (drop_more items i d lt, is) (one_more_before read a _);
         declared = left.declared ∙ rw (drop_more items i d lt) refl;
       }
@@ -44,4 +44,4 @@ module _ {A : Type 0} (checks : Declared → Data → List Check) (denotes : Dec
   NamedLeft-bad i d names read e left lt bad =
       let here = view (get_or items i d) in
       let rest = checks_in_turn checks with_one (with_one names here) (map view (drop (i + 1) items)) in
-      left.passed ∙ rw (drop_more items i d lt) (first_refusal-stands (checks names here) rest e bad)
+      left.passed ∙ rw (drop_more items i d lt) (rw (refusal_of_both (checks names here) rest, bad) refl)
