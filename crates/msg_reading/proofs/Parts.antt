@@ -3,7 +3,8 @@ use Rattle.std.proofs.Common.{◌≡◌, ◌≤◌, ◌<◌, List, [], ◌∷◌
 use Rattle.std.proofs.lemmas.List.{take_all}
 use Rattle.serde_json.specs.{Data.Data, Find.as_array, Find.as_str, View.view, View.items_view, declared.value.Value.Value}
 use Rattle.msg_files.specs.Prelude.{Check, Text, elements, first_refusal}
-use Rattle.msg_reading.specs.Prelude.{for_headed, of_headed}
+use Rattle.msg_reading.specs.Prelude.{Declared, for_headed, of_headed, op_checks_with}
+use Rattle.msg_files.specs.declared.refusal.Refusal.TheVariants.{Shape}
 use Rattle.msg_files.proofs.Shapes.{elements_are}
 
 -- ---- lists of one, of two and of more items
@@ -35,3 +36,9 @@ headed_checked f d head ps name is are = rw (are, is) refl
 pub headed_denoted : {A : Type 0} (f : Text → List Data → Option A) (d head : Data) (ps : List Data) (name : Text)
     → as_str head ≡ Some name → elements d ≡ head ∷ ps → of_headed f (elements d) ≡ f name ps
 headed_denoted f d head ps name is are = rw (are, is) refl
+
+-- no op has more than two parts
+pub op_of_many : (names : Declared) (head : Text) (xs : List Value) → 3 ≤ length xs
+    → first_refusal (op_checks_with names head (map view xs)) ≡ Some Shape
+op_of_many names head (x ∷ y ∷ z ∷ rest) many = refl
+op_of_many names head xs many = absurd (omega (arith, many))

@@ -31,12 +31,8 @@ pub rules_among_all : (n : ℕ) (rules : List Rule) → NameSystemsBelow n rules
     → rules_among (replicate n true) rules ≡ edges_of rules
 rules_among_all n [] below = refl
 rules_among_all n (rule ∷ rules) below =
-    let here = All-head (IsBelow n) rule rules below in
-    rw (
-      all_joined n rule.earlier here.0,
-      all_joined n rule.later here.1,
-      rules_among_all n rules (All-tail (IsBelow n) rule rules below),
-    ) refl
+    let later = rules_among_all n rules (All-tail (IsBelow n) rule rules below) in
+    grind (arith, all_joined n, All-head (IsBelow n) rule rules below, later)
 
 -- ---- the whole
 

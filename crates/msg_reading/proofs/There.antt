@@ -3,7 +3,7 @@ use Rattle.std.proofs.Common.{◌≡◌, ℕ, ◌+◌, ◌≤◌, List, [], ◌�
 use Rattle.std.proofs.lemmas.{Bool.leb-true, Grind.common_steps, List.Elements.All-cons, List.Elements.All-nil, Option.same_Some}
 use Rattle.serde_json.specs.Data.{Data}
 use Rattle.msg_files.specs.Prelude.{Check, Text, all_some, elements, first_refusal, is_list, needs, only_below}
-use Rattle.msg_reading.specs.Prelude.{Declared, both, checks_in_turn, each_in_turn, names_checks, of_headed, of_two, text, with_all}
+use Rattle.msg_reading.specs.Prelude.{Declared, both, checks_in_turn, each_in_turn, names_checks, of_headed, text, with_all}
 use Rattle.msg_files.proofs.Walks.{refusal_of_both}
 use Rattle.msg_files.specs.{declared.refusal.Refusal.Refusal, declared.refusal.Refusal.TheVariants.Shape, declared.refusal.Refusal.TheVariants.TooMany}
 
@@ -29,11 +29,6 @@ pub in_then : {A B : Type 0} (P : B → Type 0) (f : A → Option B) (o : Option
     → ((a : A) → o ≡ Some a → Holds P (f a)) → Holds P (option_and_then f o)
 in_then P f None good b h = cc
 in_then P f (Some a) good b h = good a refl b h
-
-pub in_two : {A : Type 0} (P : A → Type 0) (f : Data → Data → Option A) (ds : List Data)
-    → ((x y : Data) → Holds P (f x y)) → Holds P (of_two f ds)
-in_two P f (x ∷ y ∷ []) good a h = good x y a h
-in_two P f ds good a h = cc
 
 pub in_headed : {A : Type 0} (P : A → Type 0) (f : Text → List Data → Option A) (ds : List Data)
     → ((head : Text) (parts : List Data) → Holds P (f head parts)) → Holds P (of_headed f ds)

@@ -31,7 +31,7 @@ impl Element for Op {
     }
 }
 
-#[tactic(auto, using(crate::proofs::Ops::op_of_many))]
+#[tactic(auto, using(crate::proofs::Parts::op_of_many))]
 fn read_parts(
     alloc: Global,
     names: &Declarations,
