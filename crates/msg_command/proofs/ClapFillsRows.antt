@@ -1,7 +1,7 @@
 -- What words that clap takes leave of a subcommand: each row has a value.
-use Rattle.std.proofs.Common.{arith, ◌≡◌, ℕ, zero, suc, length, List, [], ◌∷◌, ◌++◌, refl, ap, ◌∙◌, Option, Some, None, Bool, true, false, codes, fold, find, encode_utf8, drop, is_some, ◌&&◌, cond, slice_get, not, nat_le, option_and_then}
+use Rattle.std.proofs.Common.{arith, ◌≡◌, ℕ, zero, suc, length, List, [], ◌∷◌, refl, ap, ◌∙◌, Option, Some, None, Bool, true, false, codes, fold, find, encode_utf8, drop, is_some, ◌&&◌, cond, slice_get, not, nat_le}
 use Rattle.std.specs.{Str.bytes_eq, Str.chars, List.list_all, Option.option_map_or}
-use Rattle.clap.specs.{Words.Row, Words.Rule, Words.Text, Words.Shape, Words.first_of, Facts.unwrap_or_range, Lexer.long_of, Lexer.short_of, Simple.built_leaf, Simple.filled, Simple.help_rule, Simple.with_index, Walk.Step, Walk.next, Walk.trailing, Walk.subcommand, Walk.value, Walk.has_long, Walk.has_short, Walk.bundle, Walk.reading_by, Walk.after_step, Walk.nothing_held, Walk.rows_after, Walk.walk, Walk.walk_from, Walk.Held, Walk.Names, Walk.Outcome, Walk.Waiting, Walk.Walk, Walk.done, Walk.plain, Walk.action_of, Walk.after_flag, Walk.arg_by_id, Walk.arg_by_long, Walk.arg_by_short, Walk.attached_value, Walk.bundle_met, Walk.bundle_step, Walk.has_row, Walk.long_met, Walk.long_or_other, Walk.option_met, Walk.plain_word, Walk.reacted, Walk.settled, Walk.settled_rows, Walk.short_met, Walk.short_or_plain, Walk.used, Walk.used_by_id, Walk.walked, Walk.with_default, Walk.with_values, Walk.without, Walk.word_met, Takes.is_valid, Takes.default_passes, Takes.bundle_passes, Takes.bundle_step_passes, Takes.flag_word_passes, Takes.flags_pass, Takes.is_given, Takes.level_passes, Takes.long_passes, Takes.option_passes, Takes.react_passes, Takes.settle_passes, Takes.short_passes, Takes.step_passes, Takes.turn_passes, Takes.use_passes, Takes.walk_passes, Takes.word_passes, declared.parser.matches.ValueSource.ValueSource, declared.parser.matches.ValueSource.TheVariants.DefaultValue, declared.parser.matches.ValueSource.TheVariants.CommandLine, declared.builder.value_parser.Reading.Reading, declared.builder.ArgAction.TheVariants.Set, declared.builder.ArgAction.TheVariants.Help}
+use Rattle.clap.specs.{Words.Row, Words.Rule, Words.Text, Words.Shape, Words.first_of, Facts.unwrap_or_range, Lexer.long_of, Lexer.short_of, Simple.built_leaf, Simple.filled, Simple.help_rule, Simple.with_index, Walk.Step, Walk.has_long, Walk.has_short, Walk.bundle, Walk.reading_by, Walk.after_step, Walk.nothing_held, Walk.rows_after, Walk.walk, Walk.walk_from, Walk.Held, Walk.Names, Walk.Outcome, Walk.Waiting, Walk.Walk, Walk.done, Walk.plain, Walk.action_of, Walk.after_flag, Walk.arg_by_id, Walk.arg_by_long, Walk.arg_by_short, Walk.attached_value, Walk.bundle_met, Walk.bundle_step, Walk.has_row, Walk.long_met, Walk.long_or_other, Walk.option_met, Walk.reacted, Walk.settled, Walk.settled_rows, Walk.short_met, Walk.short_or_plain, Walk.used, Walk.used_by_id, Walk.walked, Walk.with_default, Walk.with_values, Walk.without, Walk.word_met, Takes.is_valid, Takes.default_passes, Takes.bundle_passes, Takes.bundle_step_passes, Takes.flag_word_passes, Takes.flags_pass, Takes.is_given, Takes.level_passes, Takes.long_passes, Takes.option_passes, Takes.react_passes, Takes.settle_passes, Takes.short_passes, Takes.step_passes, Takes.turn_passes, Takes.use_passes, Takes.walk_passes, Takes.word_passes, declared.parser.matches.ValueSource.ValueSource, declared.parser.matches.ValueSource.TheVariants.DefaultValue, declared.parser.matches.ValueSource.TheVariants.CommandLine, declared.builder.value_parser.Reading.Reading, declared.builder.ArgAction.TheVariants.Set, declared.builder.ArgAction.TheVariants.Help}
 use Rattle.clap.proofs.OnLiterals.{clap_on_literals}
 use Rattle.msg_command.specs.Prelude.{buffer_app, file_rule, run_app, workers_rule}
 use Rattle.std.proofs.lemmas.Bool.{and_from, and_parts}
