@@ -210,14 +210,10 @@ row_there : (id : Text) (rows : List Row) → has_row id rows ≡ true → is_so
 row_there id [] h = h
 row_there id (r ∷ rs) h = grind (arith, row_there id rs)
 
-pub default_there : (a : Rule) (rows : List Row) → bytes_eq a.id a.id ≡ true → some_of a.defaults ≡ true
+default_there : (a : Rule) (rows : List Row) → bytes_eq a.id a.id ≡ true → some_of a.defaults ≡ true
     → is_some (find (λ r. bytes_eq r.id a.id) (with_default rows a)) ≡ true
 default_there a rows same some =
     grind (arith, row_there a.id rows, with_values_there a.id (reading_by a) DefaultValue a.defaults rows same)
-
-given_there : (id : Text) (rows : List Row) → is_given id rows ≡ true
-    → is_some (find (λ r. bytes_eq r.id id) rows) ≡ true
-given_there id rows h = grind arith
 
 -- words that pass leave rows that each have a value, and are valid
 valued_rows : (s : Shape) (words : List Text) → EachValued s.rules → level_passes s [] nothing_held words false ≡ true
@@ -262,8 +258,8 @@ unfolding clap_on_literals
 buffer_given words passes =
     let rows = rows_after buffer_shape.rules [] words in
     let are = valued_rows buffer_shape words buffer_valued passes in
-    first_there (codes "FILE") rows are.0
-    (given_there (codes "FILE") rows (and_parts (is_given (codes "FILE") rows) _ are.1).0)
+    let given = (and_parts (is_given (codes "FILE") rows) _ are.1).0 in
+    first_there (codes "FILE") rows are.0 (grind (arith, given))
 
 -- ---- run FILE --workers N
 
@@ -280,7 +276,7 @@ run_given words passes =
     let rows = rows_after run_shape.rules [] words in
     let are = valued_rows run_shape words run_valued passes in
     let first = (settled run_shape.rules (walk run_shape.rules [] nothing_held words).held).rows in
-    let file_row = given_there (codes "FILE") rows (and_parts (is_given (codes "FILE") rows) _ are.1).0 in
+    let given = (and_parts (is_given (codes "FILE") rows) _ are.1).0 in
     let workers_row : is_some (find (λ r. bytes_eq r.id (codes "workers")) rows) ≡ true =
     grind (arith, default_there workers_built (with_default first file_built) refl refl) in
-    (first_there (codes "FILE") rows are.0 file_row, first_there (codes "workers") rows are.0 workers_row)
+    (first_there (codes "FILE") rows are.0 (grind (arith, given)), first_there (codes "workers") rows are.0 workers_row)
