@@ -1,6 +1,5 @@
-use Rattle.std.proofs.Common.{length}
 use Rattle.msg_reading.specs.Prelude.{first_world}
-use Rattle.msg_scenario.proofs.Making.{all_made, may_add, no_clash, no_cycle, same_state}
+use Rattle.msg_scenario.proofs.Making.{all_made, may_add, no_clash}
 use Rattle.msg_scenario.proofs.building.engine_of.Goals as goal
 
 pub new-requires-clause-each : goal.new-requires-clause-each
@@ -11,12 +10,11 @@ new-requires-clause-each g c κs within =
 
 pub returns-in-Ok : goal.returns-in-Ok
 returns-in-Ok g c =
-    let m = g.S.System.meaning in
     let s = c.args.scenario.now in
+    let made = all_made g.S.System.meaning s c.args.systems.items c.requires.as_many c.requires.each in
     record {
-      meaning = rw (same_state s _ c.in_ok-places.places.items c.in_ok-rules.rules.items _
-          (all_made m s c.args.systems.items c.requires.as_many c.requires.each) c.in_ok-places.ensures.places
-          c.in_ok-rules.ensures.rules c.in_ok-world.ensures.types)
+      meaning = rw
+          (made, c.in_ok-places.ensures.places, c.in_ok-rules.ensures.rules, c.in_ok-world.ensures.types)
           at (c.in-Ok.ensures.meaning (first_world s) c.in_ok-world.ensures.meaning);
     }
 
@@ -27,6 +25,6 @@ unreachable-requires g c =
 
 pub unreachable-requires-in-Err-Cycle : goal.unreachable-requires-in-Err-Cycle
 unreachable-requires-in-Err-Cycle g c =
-    no_cycle c.args.scenario.now c.in_ok-rules.rules.items (length c.args.systems.items) c.in-Err-Cycle.field-0-0
-    c.requires.runnable c.in_ok-rules.ensures.rules c.requires.as_many
-    (rw c.in-Err-Cycle.field-0-is at c.in-Err-Cycle.ensures.refusal).1
+    let lowest = (rw c.in-Err-Cycle.field-0-is at c.in-Err-Cycle.ensures.refusal).1 in
+    (rw (← c.requires.as_many, ← c.in_ok-rules.ensures.rules) at c.requires.runnable.acyclic)
+    c.in-Err-Cycle.field-0-0 lowest.on_cycle

@@ -1,7 +1,6 @@
 use Rattle.std.proofs.Common.{rules, Err, ap, arith, inl, inr, length, refl, sym, ◌∙◌}
-use Rattle.std.proofs.lemmas.Result.{err_from_is_err_and}
+use Rattle.std.proofs.lemmas.Result.{err_from_is_err_and, on_err_weaker, on_ok_weaker}
 use Rattle.msg_reading.specs.Prelude.{state_of}
-use Rattle.msg_files.proofs.Puts.{of_err, on_err_then, on_ok_then}
 use Rattle.msg_scenario.proofs.Reporting.{accounts_out, out_printed, readers_put, readers_stopped, report_begun, stopped_before_all, stopped_printed}
 use Rattle.msg_scenario.proofs.reports.run.report.Goals as goal
 
@@ -39,7 +38,7 @@ returns-in_err-report_frame-clause-stopped g c cause =
 
 pub returns-in-Ok-accounts-clause-ok : goal.returns-in-Ok-accounts-clause-ok
 returns-in-Ok-accounts-clause-ok g c =
-    on_ok_then c.put_accounts.result _ _
+    on_ok_weaker c.put_accounts.result
     (readers_put _ _ _ _ _ _ _ c.as_slice-in-Ok-accounts.result.now c.loop-reported.invariant.so_far
     (omega (arith, ap length c.as_slice-reported-end.ensures.items))
     (λ u stands. c.as_slice-in-Ok-accounts.ensures.value ∙ c.in-Ok-accounts.ensures.accounts u stands)
@@ -52,13 +51,13 @@ returns-in-Ok-accounts-clause-stopped g c cause =
     (omega (arith, ap length c.as_slice-reported-end.ensures.items))
     (λ u stands. c.as_slice-in-Ok-accounts.ensures.value ∙ c.in-Ok-accounts.ensures.accounts u stands)
     (elim cause [
-      | inl write ↦ of_err c.put_accounts.result _ _ write c.put_accounts.ensures.prefix
-      | inr memory ↦ of_err c.put_accounts.result _ _ memory c.put_accounts.ensures.prefix
+      | inl write ↦ rw write at c.put_accounts.ensures.prefix
+      | inr memory ↦ rw memory at c.put_accounts.ensures.prefix
     ])
 
 pub returns-in-Ok-accounts-clause-prefix : goal.returns-in-Ok-accounts-clause-prefix
 returns-in-Ok-accounts-clause-prefix g c =
-    on_err_then c.put_accounts.result _ _
+    on_err_weaker c.put_accounts.result
     (λ prefix. stopped_printed _ _ _ _ _
     (readers_stopped _ _ _ _ _ _ _ c.as_slice-in-Ok-accounts.result.now c.loop-reported.invariant.so_far
     (omega (arith, ap length c.as_slice-reported-end.ensures.items))
