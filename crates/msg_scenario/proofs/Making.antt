@@ -1,16 +1,13 @@
 -- The systems of an engine that is made of a scenario.
-use Rattle.std.proofs.Common.{◌≡◌, ℕ, suc, ◌+◌, List, [], ◌∷◌, length, map, zero-add, Some, refl, sym, ap, ◌∙◌, inl, inr, arith, Bool, ℤ, if◌then◌else◌, option_map, slice_get}
+use Rattle.std.proofs.Common.{◌≡◌, ℕ, suc, ◌+◌, List, [], ◌∷◌, length, map, zero-add, Some, refl, sym, ap, ◌∙◌, inl, inr, arith, option_map, slice_get}
 use Rattle.std.specs.List.{All, enumerate_from}
 use Rattle.std.proofs.lemmas.{Option.same_Some, Option.slice_get_cases, Option.slice_get_within, Option.slice_get-map}
-use Rattle.msg_world.specs.Prelude.{Parts, PartsStand, WorldState, held_world, new_world}
-use Rattle.msg_order.specs.declared.rule.Rule.{Rule}
-use Rattle.msg_frames.specs.Prelude.{all_rules, first_state}
+use Rattle.msg_world.specs.Prelude.{Parts}
 use Rattle.msg_system.specs.Prelude.{Meaning, new_system}
-use Rattle.msg_order.specs.Prelude.{IsLowestOnCycle}
 use Rattle.msg_frames.specs.declared.place.Place.{Place}
 use Rattle.msg_exec.specs.Prelude.{EachIs, IsLowestClash, MayBeAdded}
 use Rattle.msg_reading.specs.{declared.scenario.Scenario.Scenario, declared.scenario.SystemSpec.SystemSpec}
-use Rattle.msg_reading.specs.Prelude.{IsRunnable, IsRunnableSystem, first_world, meanings_of, places_of, state_of}
+use Rattle.msg_reading.specs.Prelude.{IsRunnable, IsRunnableSystem, meanings_of, places_of}
 use Rattle.msg_scenario.specs.Prelude.{IsSystemAt}
 
 -- lists of one length have something at the same places, and what holds of all of one list holds of that
