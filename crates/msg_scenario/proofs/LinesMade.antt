@@ -1,8 +1,8 @@
 -- The lines of turns, by what was made of each system once.
-use Rattle.std.proofs.Common.{arith, ◌≡◌, ℕ, zero, suc, List, [], ◌∷◌, map, refl, ap, flat_map, slice_get, zip}
+use Rattle.std.proofs.Common.{arith, ◌≡◌, ℕ, zero, suc, List, [], ◌∷◌, map, refl, flat_map, slice_get, zip}
 use Rattle.std.specs.{Global.Vec, Option.option_map_or}
 use Rattle.msg_system.specs.{declared.op.Op.Op, declared.reply.Reply.Reply}
-use Rattle.msg_frames.specs.{declared.log.Outcome.Outcome, declared.log.Outcome.TheVariants.Skipped, declared.log.Outcome.TheVariants.Ran, declared.log.Turn.Turn}
+use Rattle.msg_frames.specs.{declared.log.Outcome.Outcome, declared.log.Turn.Turn}
 use Rattle.msg_files.specs.Prelude.{Text}
 use Rattle.msg_reading.specs.{declared.scenario.Scenario.Scenario, declared.scenario.SystemSpec.SystemSpec}
 use Rattle.msg_scenario.specs.Prelude.{answered_line, op_start, ops_text, outcome_text, turn_text}
@@ -19,12 +19,6 @@ ops_of_starts s name (start ∷ starts) (op ∷ ops) [] same = refl
 ops_of_starts s name (start ∷ starts) (op ∷ ops) (answer ∷ answers) same =
     grind (arith, ops_of_starts s name starts ops answers)
 
-outcome_of_lines : (s : Scenario) (lines : SystemLines) (system : SystemSpec) (outcome : Outcome)
-    → texts_in lines ≡ lines_of s system → finished_outcome s lines outcome ≡ outcome_text s system outcome
-outcome_of_lines s lines system Skipped same = ap (λ m. m.0) same
-outcome_of_lines s lines system (Ran answers) same =
-    ops_of_starts s system.name lines.starts.items system.program.ops answers (ap (λ m. m.1) same)
-
 outcome_of_number : (s : Scenario) (lines : List SystemLines) (systems : List SystemSpec) (n : ℕ) (outcome : Outcome)
     → map texts_in lines ≡ map (lines_of s) systems
     → option_map_or (λ l. finished_outcome s l outcome) (slice_get lines n) []
@@ -32,7 +26,8 @@ outcome_of_number : (s : Scenario) (lines : List SystemLines) (systems : List Sy
 outcome_of_number s [] [] n outcome same = refl
 outcome_of_number s [] (system ∷ systems) n outcome same = absurd cc
 outcome_of_number s (l ∷ lines) [] n outcome same = absurd cc
-outcome_of_number s (l ∷ lines) (system ∷ systems) zero outcome same = outcome_of_lines s l system outcome cc
+outcome_of_number s (l ∷ lines) (system ∷ systems) zero outcome same =
+    grind (arith, ops_of_starts s system.name l.starts.items system.program.ops)
 outcome_of_number s (l ∷ lines) (system ∷ systems) (suc n) outcome same = outcome_of_number s lines systems n outcome cc
 
 pub turns_of_lines : (s : Scenario) (lines : List SystemLines) (turns : List Turn) → AreLines s lines

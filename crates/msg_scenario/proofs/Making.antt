@@ -40,34 +40,33 @@ module _ {S : Type 0} (m : S → Meaning) where
       (λ i j y t is here there. each (suc i) j y t (omega (arith, is)) here there) in
       grind (arith, rest, each 0 n x spec)
 
-  pub all_made : (s : Scenario) (xs : List S) → length xs ≡ length s.systems → EachIs (IsSystemAt m s.systems) xs
-      → map m xs ≡ meanings_of s
-  all_made s xs same each =
-      all_from s.systems xs 0 same
-      (λ i j x spec is here there. rw (← is, zero-add) (each i x here spec there))
+  module _ (s : Scenario) (xs : List S) (same : length xs ≡ length s.systems)
+      (each : EachIs (IsSystemAt m s.systems) xs) where
+    pub all_made : map m xs ≡ meanings_of s
+    all_made =
+        all_from s.systems xs 0 same
+        (λ i j x spec is here there. rw (← is, zero-add) (each i x here spec there))
 
-  -- each may be added
-  pub may_add : (s : Scenario) (w : Parts) (xs : List S) → IsRunnable s → length w.types ≡ length s.types
-      → length w.resources ≡ length s.resources → length xs ≡ length s.systems → EachIs (IsSystemAt m s.systems) xs
-      → EachIs (MayBeAdded m w (places_of s)) xs
-  may_add s w xs runnable types resources same each i x here =
-      let found = found_there (IsRunnableSystem s) xs s.systems i x same runnable.systems here in
-      let spec = found.0 in
-      let is = each i x here spec found.1 in
-      let placed : (place : Place) → slice_get (places_of s) i ≡ Some place → spec.place ≡ place =
-      λ place sp. same_Some _ _ (sym (slice_get-map (λ (y : SystemSpec). y.place) s.systems i
-      ∙ ap (option_map (λ y. y.place)) found.1) ∙ sp) in
-      record {
-        new = rw is (record { writer = refl; places = λ t. refl });
-        fits = λ place sp p needed. rw (types, resources)
-            (found.2.fits p (rw (is, ← placed place sp) at needed));
-        joins = λ place sp. rw (placed place sp) at found.2.joins;
-      }
+    -- each may be added
+    pub may_add : (w : Parts) → IsRunnable s → length w.types ≡ length s.types
+        → length w.resources ≡ length s.resources → EachIs (MayBeAdded m w (places_of s)) xs
+    may_add w runnable types resources i x here =
+        let found = found_there (IsRunnableSystem s) xs s.systems i x same runnable.systems here in
+        let spec = found.0 in
+        let is = each i x here spec found.1 in
+        let placed : (place : Place) → slice_get (places_of s) i ≡ Some place → spec.place ≡ place =
+        λ place sp. same_Some _ _ (sym (slice_get-map (λ (y : SystemSpec). y.place) s.systems i
+        ∙ ap (option_map (λ y. y.place)) found.1) ∙ sp) in
+        record {
+          new = rw is (record { writer = refl; places = λ t. refl });
+          fits = λ place sp p needed. rw (types, resources)
+              (found.2.fits p (rw (is, ← placed place sp) at needed));
+          joins = λ place sp. rw (placed place sp) at found.2.joins;
+        }
 
-  -- none reads and writes one part
-  pub no_clash : (s : Scenario) (xs : List S) (i : ℕ) → IsRunnable s → length xs ≡ length s.systems
-      → EachIs (IsSystemAt m s.systems) xs → IsLowestClash m xs i → ⊥
-  no_clash s xs i runnable same each lowest =
-      let x = lowest.system in
-      let found = found_there (IsRunnableSystem s) xs s.systems i x same runnable.systems lowest.is in
-      found.2.no_clash (lowest.clash.0, rw (each i x lowest.is found.0 found.1) at lowest.clash.1)
+    -- none reads and writes one part
+    pub no_clash : (i : ℕ) → IsRunnable s → IsLowestClash m xs i → ⊥
+    no_clash i runnable lowest =
+        let x = lowest.system in
+        let found = found_there (IsRunnableSystem s) xs s.systems i x same runnable.systems lowest.is in
+        found.2.no_clash (lowest.clash.0, rw (each i x lowest.is found.0 found.1) at lowest.clash.1)

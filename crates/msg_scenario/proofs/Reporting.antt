@@ -43,10 +43,9 @@ frames_text_front s number (suc n) (frame ∷ frames) (log ∷ logs) =
 run_more : (frames : List Frame) (frame : Frame) (s : State) (logs : List Log) (log : Log) (m u : State)
     → IsRun frames s logs m → IsFrame frame m log u → IsRun (frames ++ frame ∷ []) s (logs ++ log ∷ []) u
 run_more [] frame s [] log m u none one = (u, rw (← none) one, refl)
-run_more [] frame s (l ∷ logs) log m u none one = absurd none
-run_more (f ∷ frames) frame s [] log m u none one = absurd none
 run_more (f ∷ frames) frame s (l ∷ logs) log m u some one =
     (some.0, some.1, run_more frames frame some.0 logs log m u some.2 one)
+run_more frames frame s logs log m u none one = absurd none
 
 module _ {X : Type 0} (meaning : X → Meaning) where
   module _ (s : Scenario) where

@@ -5,8 +5,9 @@ use Rattle.msg_scenario.proofs.building.engine_of.Goals as goal
 pub new-requires-clause-each : goal.new-requires-clause-each
 new-requires-clause-each g c κs within =
     let s = c.args.scenario.now in
-    rw c.in_ok-places.ensures.places (may_add g.S.System.meaning s c.in_ok-world.world c.args.systems.items
-    c.requires.runnable c.in_ok-world.ensures.types c.in_ok-world.ensures.resources c.requires.as_many c.requires.each)
+    let added = may_add g.S.System.meaning s c.args.systems.items c.requires.as_many c.requires.each in
+    rw c.in_ok-places.ensures.places (added c.in_ok-world.world c.requires.runnable c.in_ok-world.ensures.types
+    c.in_ok-world.ensures.resources)
 
 pub returns-in-Ok : goal.returns-in-Ok
 returns-in-Ok g c =
@@ -20,8 +21,8 @@ returns-in-Ok g c =
 
 pub unreachable-requires : goal.unreachable-requires
 unreachable-requires g c =
-    no_clash g.S.System.meaning c.args.scenario.now c.args.systems.items c.in-Err-Clash.field-0-0 c.requires.runnable
-    c.requires.as_many c.requires.each (rw c.in-Err-Clash.field-0-is at c.in-Err-Clash.ensures.refusal)
+    no_clash g.S.System.meaning c.args.scenario.now c.args.systems.items c.requires.as_many c.requires.each
+    c.in-Err-Clash.field-0-0 c.requires.runnable (rw c.in-Err-Clash.field-0-is at c.in-Err-Clash.ensures.refusal)
 
 pub unreachable-requires-in-Err-Cycle : goal.unreachable-requires-in-Err-Cycle
 unreachable-requires-in-Err-Cycle g c =
