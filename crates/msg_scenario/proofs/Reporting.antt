@@ -47,40 +47,41 @@ run_more (f ∷ frames) frame s (l ∷ logs) log m u some one =
     (some.0, some.1, run_more frames frame some.0 logs log m u some.2 one)
 run_more frames frame s logs log m u none one = absurd none
 
-module _ {X : Type 0} (meaning : X → Meaning) where
-  module _ (s : Scenario) where
-    pub report_begun : (known : Option (List ℕ)) (e : EngineOf X) → StandsFor meaning e (state_of s)
-        → ReportSoFar meaning s 0 known known e
-    report_begun known e stands = record {
-      logs = [];
-      state = state_of s;
-      as_many = refl;
-      is_run = refl;
-      frames = refl;
-      types = refl;
-      printed = rw (frames_text-none s 1 s.frames) (Appends-nil known);
-      stands = stands;
-    }
+module _ {X : Type 0} (meaning : X → Meaning) (s : Scenario) where
+  pub report_begun : (known : Option (List ℕ)) (e : EngineOf X) → StandsFor meaning e (state_of s)
+      → ReportSoFar meaning s 0 known known e
+  report_begun known e stands = record {
+    logs = [];
+    state = state_of s;
+    as_many = refl;
+    is_run = refl;
+    frames = refl;
+    types = refl;
+    printed = rw (frames_text-none s 1 s.frames) (Appends-nil known);
+    stands = stands;
+  }
 
-    -- nothing was run, and nothing put
-    pub stopped_before_all : (known : Option (List ℕ)) (e : EngineOf X) → StandsFor meaning e (state_of s)
-        → HasStopped meaning s known known e
-    stopped_before_all known e stands = record {
-      logs = [];
-      state = state_of s;
-      is_run = refl;
-      stands = stands;
-      counted = stands.frames;
-      printed = ([], text_so_far s [] (accounts_of (state_of s)), refl, Appends-nil known);
-      earlier = ([], rw (frames_text-none s 1 s.frames) (Appends-nil known));
-      last = inl ([], frames_text s 1 s.frames [], refl, Appends-nil known);
-    }
+  -- nothing was run, and nothing put
+  pub stopped_before_all : (known : Option (List ℕ)) (e : EngineOf X) → StandsFor meaning e (state_of s)
+      → HasStopped meaning s known known e
+  stopped_before_all known e stands = record {
+    logs = [];
+    state = state_of s;
+    is_run = refl;
+    stands = stands;
+    counted = stands.frames;
+    printed = ([], text_so_far s [] (accounts_of (state_of s)), refl, Appends-nil known);
+    earlier = ([], rw (frames_text-none s 1 s.frames) (Appends-nil known));
+    last = inl ([], frames_text s 1 s.frames [], refl, Appends-nil known);
+  }
 
+  -- ---- after the first k frames
+
+  module _ (k : ℕ) (before now : Option (List ℕ)) (e : EngineOf X) (far : ReportSoFar meaning s k before now e) where
     -- ---- a frame
 
     -- the frame after the first k was run, and its text isn't put yet
-    module _ (keep : FramesKeepSystems) (k : ℕ) (before now : Option (List ℕ)) (e f : EngineOf X) (frame : Frame)
-        (log : Log) (far : ReportSoFar meaning s k before now e) (lt : k < length s.frames)
+    module _ (keep : FramesKeepSystems) (f : EngineOf X) (frame : Frame) (log : Log) (lt : k < length s.frames)
         (is : frame ≡ get_or s.frames k frame)
         (ran : (u : State) → StandsFor meaning e u → HasRunFrame meaning frame u log f) where
       abbrev one : HasRunFrame meaning frame far.state log f
@@ -145,12 +146,10 @@ module _ {X : Type 0} (meaning : X → Meaning) where
     -- ---- no memory
 
     -- what was run and put so far is all that was
-    out_after : (k : ℕ) (before now : Option (List ℕ)) (e f : EngineOf X) (far : ReportSoFar meaning s k before now e)
-        → frames_of f ≡ frames_of e
+    out_after : (f : EngineOf X) → frames_of f ≡ frames_of e
         → (IsSpoiled f × (length far.logs < length s.frames))
-        ⊎ (StandsFor meaning f far.state × (length far.logs ≡ length s.frames))
-        → HasRunOut meaning s before now f
-    out_after k before now e f far counted left = record {
+        ⊎ (StandsFor meaning f far.state × (length far.logs ≡ length s.frames)) → HasRunOut meaning s before now f
+    out_after f counted left = record {
       logs = far.logs;
       state = far.state;
       is_run = rw far.as_many far.is_run;
@@ -160,26 +159,21 @@ module _ {X : Type 0} (meaning : X → Meaning) where
     }
 
     -- a frame answers nothing else, as the engine wasn't spoiled
-    pub no_memory_for_frame : (k : ℕ) (before now : Option (List ℕ)) (e f : EngineOf X) (r : Result Log RunFault)
-        (fault : RunFault)
-        → ReportSoFar meaning s k before now e → k < length s.frames → r ≡ Err fault → (r ≡ Err Spoiled → IsSpoiled e)
-        → ¬ (r ≡ Err BadOrder) → (r ≡ Err NoMemory → IsSpoiled f) → (r ≡ Err NoMemory → frames_of f ≡ frames_of e)
-        → HasRunOut meaning s before now f
-    no_memory_for_frame k before now e f r Spoiled far lt is spoiled in_order out counted =
+    pub no_memory_for_frame : (f : EngineOf X) (r : Result Log RunFault) (fault : RunFault) → k < length s.frames
+        → r ≡ Err fault → (r ≡ Err Spoiled → IsSpoiled e) → ¬ (r ≡ Err BadOrder) → (r ≡ Err NoMemory → IsSpoiled f)
+        → (r ≡ Err NoMemory → frames_of f ≡ frames_of e) → HasRunOut meaning s before now f
+    no_memory_for_frame f r Spoiled lt is spoiled in_order out counted =
         let is_spoiled = spoiled is in absurd (grind (arith, far.stands.core, is_spoiled))
-    no_memory_for_frame k before now e f r BadOrder far lt is spoiled in_order out counted = absurd (in_order is)
-    no_memory_for_frame k before now e f r NoMemory far lt is spoiled in_order out counted =
-        out_after k before now e f far (counted is) (inl (out is, omega (arith, lt, far.as_many)))
+    no_memory_for_frame f r BadOrder lt is spoiled in_order out counted = absurd (in_order is)
+    no_memory_for_frame f r NoMemory lt is spoiled in_order out counted =
+        out_after f (counted is) (inl (out is, omega (arith, lt, far.as_many)))
 
-    pub accounts_out : (k : ℕ) (before now : Option (List ℕ)) (e : EngineOf X) → ReportSoFar meaning s k before now e
-        → k ≡ length s.frames → HasRunOut meaning s before now e
-    accounts_out k before now e far all =
-        out_after k before now e e far refl (inr (far.stands, far.as_many ∙ all))
+    pub accounts_out : k ≡ length s.frames → HasRunOut meaning s before now e
+    accounts_out all = out_after e refl (inr (far.stands, far.as_many ∙ all))
 
     -- ---- the readers
 
-    module _ (k : ℕ) (before now after : Option (List ℕ)) (e : EngineOf X) (accounts : List Account)
-        (far : ReportSoFar meaning s k before now e) (all : k ≡ length s.frames)
+    module _ (after : Option (List ℕ)) (accounts : List Account) (all : k ≡ length s.frames)
         (are : (u : State) → StandsFor meaning e u → accounts ≡ accounts_of u) where
       -- their lines were put
       pub readers_put : ((frames : List Frame) (logs : List Log) (u : State) → IsRun frames (state_of s) logs u
@@ -219,28 +213,22 @@ module _ {X : Type 0} (meaning : X → Meaning) where
             );
           }
 
-    -- ---- in either case a front of the text so far was put
+  -- ---- in either case a front of the text so far was put
 
-    pub stopped_printed : (before after : Option (List ℕ)) (e : EngineOf X) → HasStopped meaning s before after e
-        → HasPrinted s before after
-    stopped_printed before after e stopped = record {
-      logs = stopped.logs;
-      state = stopped.state;
-      is_run = stopped.is_run;
-      printed = stopped.printed;
-    }
+  pub stopped_printed : (before after : Option (List ℕ)) (e : EngineOf X) → HasStopped meaning s before after e
+      → HasPrinted s before after
+  stopped_printed before after e stopped = record {
+    logs = stopped.logs;
+    state = stopped.state;
+    is_run = stopped.is_run;
+    printed = stopped.printed;
+  }
 
-    pub out_printed : (before after : Option (List ℕ)) (e : EngineOf X) → HasRunOut meaning s before after e
-        → HasPrinted s before after
-    out_printed before after e out =
-        record {
-          logs = out.logs;
-          state = out.state;
-          is_run = out.is_run;
-          printed = (
-            frames_text s 1 s.frames out.logs,
-            _,
-            text_so_far_parts s out.logs (accounts_of out.state),
-            out.printed,
-          );
-        }
+  pub out_printed : (before after : Option (List ℕ)) (e : EngineOf X) → HasRunOut meaning s before after e
+      → HasPrinted s before after
+  out_printed before after e out = record {
+    logs = out.logs;
+    state = out.state;
+    is_run = out.is_run;
+    printed = (frames_text s 1 s.frames out.logs, _, text_so_far_parts s out.logs (accounts_of out.state), out.printed);
+  }

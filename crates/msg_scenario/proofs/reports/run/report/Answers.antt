@@ -39,7 +39,7 @@ returns-in_err-report_frame-clause-stopped g c cause =
 pub returns-in-Ok-accounts-clause-ok : goal.returns-in-Ok-accounts-clause-ok
 returns-in-Ok-accounts-clause-ok g c =
     on_ok_weaker c.put_accounts.result
-    (readers_put _ _ _ _ _ _ _ c.as_slice-in-Ok-accounts.result.now c.loop-reported.invariant.so_far
+    (readers_put _ _ _ _ _ _ c.loop-reported.invariant.so_far _ c.as_slice-in-Ok-accounts.result.now
     (omega (arith, ap length c.as_slice-reported-end.ensures.items))
     (λ u stands. c.as_slice-in-Ok-accounts.ensures.value ∙ c.in-Ok-accounts.ensures.accounts u stands)
     (c.has_one_run.ensures.complete (state_of c.args.scenario.now) c.requires.engine))
@@ -47,7 +47,7 @@ returns-in-Ok-accounts-clause-ok g c =
 
 pub returns-in-Ok-accounts-clause-stopped : goal.returns-in-Ok-accounts-clause-stopped
 returns-in-Ok-accounts-clause-stopped g c cause =
-    readers_stopped _ _ _ _ _ _ _ c.as_slice-in-Ok-accounts.result.now c.loop-reported.invariant.so_far
+    readers_stopped _ _ _ _ _ _ c.loop-reported.invariant.so_far _ c.as_slice-in-Ok-accounts.result.now
     (omega (arith, ap length c.as_slice-reported-end.ensures.items))
     (λ u stands. c.as_slice-in-Ok-accounts.ensures.value ∙ c.in-Ok-accounts.ensures.accounts u stands)
     (elim cause [
@@ -59,7 +59,7 @@ pub returns-in-Ok-accounts-clause-prefix : goal.returns-in-Ok-accounts-clause-pr
 returns-in-Ok-accounts-clause-prefix g c =
     on_err_weaker c.put_accounts.result
     (λ prefix. stopped_printed _ _ _ _ _
-    (readers_stopped _ _ _ _ _ _ _ c.as_slice-in-Ok-accounts.result.now c.loop-reported.invariant.so_far
+    (readers_stopped _ _ _ _ _ _ c.loop-reported.invariant.so_far _ c.as_slice-in-Ok-accounts.result.now
     (omega (arith, ap length c.as_slice-reported-end.ensures.items))
     (λ u stands. c.as_slice-in-Ok-accounts.ensures.value ∙ c.in-Ok-accounts.ensures.accounts u stands) prefix))
     c.put_accounts.ensures.prefix
