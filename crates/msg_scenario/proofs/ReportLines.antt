@@ -22,6 +22,10 @@ numbered_more piece n xs i number x before now next made added at lt =
 -- ---- a loop over two lists side by side
 
 module _ {A B : Type 0} where
+  pub zip-nil : (ks : List A) → zip {X = B} ks [] ≡ []
+  zip-nil [] = refl
+  zip-nil (k ∷ ks) = refl
+
   -- no more is left of the two than these lists have
   abbrev pub LeftWithin : Zip (Iter A) (Iter B) → List A → List B → Type 0
   LeftWithin both xs ys =
@@ -38,10 +42,6 @@ module _ {A B : Type 0} (piece : A × B → List ℕ) where
   no_pair_left both both' next now all is step made =
       rw (empty (either_empty_from_Zip both both' next is step), append-nil) at made
     where
-      zip-nil : (ks : List A) → zip {X = B} ks [] ≡ []
-      zip-nil [] = refl
-      zip-nil (k ∷ ks) = refl
-
       empty : (iter_rest (zip_first both) ≡ []) ⊎ (iter_rest (zip_second both) ≡ []) → pieces_left both ≡ []
       empty (inl h) = rw h refl
       empty (inr h) = rw (h, zip-nil) refl

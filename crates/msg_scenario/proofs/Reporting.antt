@@ -16,7 +16,7 @@ use Rattle.msg_reading.specs.Prelude.{state_of}
 use Rattle.msg_reading.specs.declared.scenario.Scenario.{Scenario}
 use Rattle.msg_files.proofs.Puts.{AppendsPrefix_after}
 use Rattle.msg_scenario.specs.inner.SoFar.{ReportSoFar}
-use Rattle.msg_scenario.proofs.ReportFrames.{frames_text-none, frames_text_more}
+use Rattle.msg_scenario.proofs.ReportLines.{zip-nil}
 
 -- ---- texts
 
@@ -37,6 +37,17 @@ frames_text_front s number (suc n) (frame ∷ frames) [] = ([], refl)
 frames_text_front s number (suc n) (frame ∷ frames) (log ∷ logs) =
     let more = frames_text_front s (number + 1) n frames logs in (more.0, grind (arith, more.1, append_assoc))
 
+-- one frame more
+frames_text_more : (s : Scenario) (number : ℕ) (frames : List Frame) (logs : List Log) (log : Log) (d : Frame)
+    → length logs < length frames
+    → frames_text s number frames (logs ++ log ∷ [])
+    ≡ frames_text s number frames logs ++ frame_text s (number + length logs) (get_or frames (length logs) d) log
+frames_text_more s number [] logs log d h = absurd (omega arith)
+frames_text_more s number (frame ∷ frames) [] log d h =
+    grind (arith, zip-nil {B = Log} frames, append-nil (frame_text s number frame log))
+frames_text_more s number (frame ∷ frames) (first ∷ logs) log d h =
+    grind (arith, append_assoc, frames_text_more s (number + 1) frames logs log d)
+
 -- ---- runs
 
 -- one frame more
@@ -48,19 +59,6 @@ run_more (f ∷ frames) frame s (l ∷ logs) log m u some one =
 run_more frames frame s logs log m u none one = absurd none
 
 module _ {X : Type 0} (meaning : X → Meaning) (s : Scenario) where
-  pub report_begun : (known : Option (List ℕ)) (e : EngineOf X) → StandsFor meaning e (state_of s)
-      → ReportSoFar meaning s 0 known known e
-  report_begun known e stands = record {
-    logs = [];
-    state = state_of s;
-    as_many = refl;
-    is_run = refl;
-    frames = refl;
-    types = refl;
-    printed = rw (frames_text-none s 1 s.frames) (Appends-nil known);
-    stands = stands;
-  }
-
   -- nothing was run, and nothing put
   pub stopped_before_all : (known : Option (List ℕ)) (e : EngineOf X) → StandsFor meaning e (state_of s)
       → HasStopped meaning s known known e
@@ -71,7 +69,7 @@ module _ {X : Type 0} (meaning : X → Meaning) (s : Scenario) where
     stands = stands;
     counted = stands.frames;
     printed = ([], text_so_far s [] (accounts_of (state_of s)), refl, Appends-nil known);
-    earlier = ([], rw (frames_text-none s 1 s.frames) (Appends-nil known));
+    earlier = ([], rw (zip-nil s.frames) (Appends-nil known));
     last = inl ([], frames_text s 1 s.frames [], refl, Appends-nil known);
   }
 

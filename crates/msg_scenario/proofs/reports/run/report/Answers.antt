@@ -1,12 +1,23 @@
-use Rattle.std.proofs.Common.{rules, Err, ap, arith, inl, inr, length, refl, sym, ◌∙◌}
+use Rattle.std.proofs.Common.{rules, [], Err, ap, arith, inl, inr, length, refl, sym, ◌∙◌}
 use Rattle.std.proofs.lemmas.Result.{err_from_is_err_and, on_err_weaker, on_ok_weaker}
 use Rattle.msg_reading.specs.Prelude.{state_of}
-use Rattle.msg_scenario.proofs.Reporting.{accounts_out, out_printed, readers_put, readers_stopped, report_begun, stopped_before_all, stopped_printed}
+use Rattle.std.proofs.KnownBytes.{Appends-nil}
+use Rattle.msg_scenario.proofs.ReportLines.{zip-nil}
+use Rattle.msg_scenario.proofs.Reporting.{accounts_out, out_printed, readers_put, readers_stopped, stopped_before_all, stopped_printed}
 use Rattle.msg_scenario.proofs.reports.run.report.Goals as goal
 
 pub loop-reported-init : goal.loop-reported-init
 loop-reported-init g c = record {
-  so_far = report_begun _ _ _ _ c.requires.engine;
+  so_far = record {
+    logs = [];
+    state = state_of c.args.scenario.now;
+    as_many = refl;
+    is_run = refl;
+    frames = refl;
+    types = refl;
+    printed = rw (zip-nil c.args.scenario.now.frames) (Appends-nil _);
+    stands = c.requires.engine;
+  };
   failures = refl;
 }
 
