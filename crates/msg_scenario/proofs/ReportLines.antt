@@ -26,11 +26,6 @@ module _ {A B : Type 0} where
   zip-nil [] = refl
   zip-nil (k ∷ ks) = refl
 
-  -- no more is left of the two than these lists have
-  abbrev pub LeftWithin : Zip (Iter A) (Iter B) → List A → List B → Type 0
-  LeftWithin both xs ys =
-      (length (iter_rest (zip_first both)) ≤ length xs) × (length (iter_rest (zip_second both)) ≤ length ys)
-
 module _ {A B : Type 0} (piece : A × B → List ℕ) where
   -- the pieces that are left
   abbrev pub pieces_left : Zip (Iter A) (Iter B) → List ℕ

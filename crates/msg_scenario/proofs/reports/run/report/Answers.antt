@@ -43,9 +43,7 @@ returns-in_err-report_frame-clause-run g c same =
 pub returns-in_err-report_frame-clause-stopped : goal.returns-in_err-report_frame-clause-stopped
 returns-in_err-report_frame-clause-stopped g c cause =
     let passed = err_from_is_err_and c.from_residual.result c.from_residual.ensures.1 in
-    c.in_err-report_frame.ensures.stopped
-    (rw (passed.1 ∙ ap Err passed.2) at cause)
-    _ c.loop-reported.invariant.so_far
+    c.in_err-report_frame.ensures.stopped (rw (passed.1 ∙ ap Err passed.2) at cause) _ c.loop-reported.invariant.so_far
 
 pub returns-in-Ok-accounts-clause-ok : goal.returns-in-Ok-accounts-clause-ok
 returns-in-Ok-accounts-clause-ok g c =
