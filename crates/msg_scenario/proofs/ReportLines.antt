@@ -1,5 +1,5 @@
 -- A text that is made piece by piece.
-use Rattle.std.proofs.Common.{◌≡◌, ◌⊎◌, inl, inr, ℕ, ◌+◌, ◌<◌, ◌≤◌, List, [], ◌∷◌, ◌++◌, length, get_or, take, refl, append-nil, Option, None, arith, flat_map, zip}
+use Rattle.std.proofs.Common.{◌≡◌, ◌⊎◌, inl, inr, ℕ, ◌+◌, ◌<◌, List, [], ◌∷◌, ◌++◌, length, get_or, take, refl, append-nil, Option, None, arith, flat_map, zip}
 use Rattle.std.specs.{List.enumerate_from, declared.iter.Zip.Zip, declared.slice.Iter.Iter, Borrow.Bor, Iterator.Adapters.zip_first, Iterator.Adapters.zip_second, Slice.Iter.iter_rest}
 use Rattle.std.proofs.lemmas.{List.flat_map_more, List.take_more, Fn.fronts, Iterator.zips, Slice.Zip.either_empty_from_Zip, List.FromFn.length-enumerate_from, List.FromFn.get_or-enumerate_from}
 

@@ -1,11 +1,11 @@
 -- The frames of a scenario, run one after another, and what the sink took of their text.
-use Rattle.std.proofs.Common.{◌≡◌, ℕ, zero, suc, ◌+◌, ◌-◌, ◌<◌, List, [], ◌∷◌, ◌++◌, length, get_or, take, refl, sym, ◌∙◌, append_assoc, append-nil, Option, Result, Err, arith, inl, inr, eq-eqb, ◌==◌, if◌then◌else◌, ◌⊎◌}
-use Rattle.std.proofs.lemmas.{Grind.common_steps, List.take_more}
+use Rattle.std.proofs.Common.{◌≡◌, ℕ, ◌+◌, ◌-◌, ◌<◌, List, [], ◌∷◌, ◌++◌, length, get_or, take, drop, refl, sym, ◌∙◌, append_assoc, append-nil, Option, Result, Err, arith, inl, inr, eq-eqb, ◌==◌, if◌then◌else◌, ◌⊎◌}
+use Rattle.std.proofs.lemmas.{Grind.common_steps, List.drop_more, List.take_more, List.take-append-drop}
 use Rattle.std.proofs.Math.Seq.{take-append_seam, take-length}
 use Rattle.std.specs.Io.KnownBytes.{Appends}
 use Rattle.std.proofs.KnownBytes.{Appends-nil, Appends-trans}
 use Rattle.msg_system.specs.Prelude.{Meaning}
-use Rattle.msg_frames.specs.Prelude.{FrameKeeps, FramesKeepSystems, IsCompleteRun, IsFrame, IsRun, State, accounts_of, systems_in}
+use Rattle.msg_frames.specs.Prelude.{FramesKeepSystems, IsCompleteRun, IsFrame, IsRun, State, accounts_of, systems_in}
 use Rattle.msg_exec.specs.Prelude.{HasRunFrame, IsSpoiled, StandsFor, frames_of}
 use Rattle.msg_frames.specs.{declared.account.Account.Account, declared.frame.Frame.Frame, declared.log.Log.Log}
 use Rattle.msg_exec.specs.declared.engine.EngineOf.{EngineOf}
@@ -28,25 +28,14 @@ text_so_far_parts : (s : Scenario) (logs : List Log) (accounts : List Account)
     → text_so_far s logs accounts ≡ frames_text s 1 s.frames logs ++ rest_of s logs accounts
 text_so_far_parts s logs accounts = grind (arith, append-nil (frames_text s 1 s.frames logs))
 
--- the text of frames begins with that of the first of them
-frames_text_front : (s : Scenario) (number n : ℕ) (frames : List Frame) (logs : List Log)
-    → (rest : Text) × (frames_text s number frames logs ≡ frames_text s number frames (take n logs) ++ rest)
-frames_text_front s number n [] logs = ([], refl)
-frames_text_front s number zero (frame ∷ frames) logs = (frames_text s number (frame ∷ frames) logs, refl)
-frames_text_front s number (suc n) (frame ∷ frames) [] = ([], refl)
-frames_text_front s number (suc n) (frame ∷ frames) (log ∷ logs) =
-    let more = frames_text_front s (number + 1) n frames logs in (more.0, grind (arith, more.1, append_assoc))
-
--- one frame more
-frames_text_more : (s : Scenario) (number : ℕ) (frames : List Frame) (logs : List Log) (log : Log) (d : Frame)
-    → length logs < length frames
-    → frames_text s number frames (logs ++ log ∷ [])
-    ≡ frames_text s number frames logs ++ frame_text s (number + length logs) (get_or frames (length logs) d) log
-frames_text_more s number [] logs log d h = absurd (omega arith)
-frames_text_more s number (frame ∷ frames) [] log d h =
-    grind (arith, zip-nil {B = Log} frames, append-nil (frame_text s number frame log))
-frames_text_more s number (frame ∷ frames) (first ∷ logs) log d h =
-    grind (arith, append_assoc, frames_text_more s (number + 1) frames logs log d)
+-- the text of some frames, and then that of the frames after them
+frames_text-append : (s : Scenario) (number : ℕ) (frames : List Frame) (first later : List Log)
+    → frames_text s number frames (first ++ later) ≡ frames_text s number frames first
+    ++ frames_text s (number + length first) (drop (length first) frames) later
+frames_text-append s number frames [] later = grind (arith, zip-nil {B = Log} frames)
+frames_text-append s number [] (log ∷ first) later = refl
+frames_text-append s number (frame ∷ frames) (log ∷ first) later =
+    grind (arith, append_assoc, frames_text-append s (number + 1) frames first later)
 
 -- ---- runs
 
@@ -97,12 +86,15 @@ module _ {X : Type 0} (meaning : X → Meaning) (s : Scenario) where
 
       counted_now : (one.state.frames ≡ k + 1) × (one.state.types ≡ length s.types)
       counted_now =
-          let kept : FrameKeeps (systems_in log) frame far.state = keep (systems_in log) frame far.state in
-          grind (arith, one.is_frame.leaves, kept.counted, kept.after.types, far.frames, far.types)
+          grind (arith, one.is_frame.leaves, keep (systems_in log) frame far.state, far.frames, far.types)
 
       text_now : frames_text s 1 s.frames logs_now
           ≡ frames_text s 1 s.frames far.logs ++ frame_text s (k + 1) frame log
-      text_now = grind (arith, frames_text_more s 1 s.frames far.logs log frame, far.as_many, is)
+      text_now =
+          let more = frames_text-append s 1 s.frames far.logs (log ∷ []) in
+          let none = zip-nil {B = Log} (drop (k + 1) s.frames) in
+          let whole = append-nil (frame_text s (k + 1) frame log) in
+          grind (arith, more, far.as_many, is, drop_more s.frames k frame lt, none, whole)
 
       -- its text was put
       pub frame_put : (after : Option (List ℕ)) (g : EngineOf X)
@@ -194,7 +186,10 @@ module _ {X : Type 0} (meaning : X → Meaning) (s : Scenario) where
           let first = frames_text s 1 s.frames far.logs in
           let lines = accounts_text s (accounts_of far.state) in
           let part : AppendsPrefix now after lines = rw (← are far.state far.stands) puts in
-          let front = frames_text_front s 1 (length far.logs - 1) s.frames far.logs in
+          let n = length far.logs - 1 in
+          let begun = take n far.logs in
+          let rest = frames_text s (1 + length begun) (drop (length begun) s.frames) (drop n far.logs) in
+          let front = rw take-append-drop at (frames_text-append s 1 s.frames begun (drop n far.logs)) in
           record {
             logs = far.logs;
             state = far.state;
@@ -206,8 +201,8 @@ module _ {X : Type 0} (meaning : X → Meaning) (s : Scenario) where
                 far.printed part;
             last = inr (many ∙ all, (part.0, Appends-trans before now after first part.0 far.printed part.3));
             earlier = (
-              front.0 ++ part.0,
-              rw (← append_assoc, ← front.1) (Appends-trans before now after first part.0 far.printed part.3),
+              rest ++ part.0,
+              rw (← append_assoc, ← front) (Appends-trans before now after first part.0 far.printed part.3),
             );
           }
 
