@@ -7,9 +7,6 @@ use Rattle.msg_reading.specs.Prelude.{Declared, both, checks_in_turn, each_in_tu
 use Rattle.msg_files.proofs.Walks.{refusal_of_both}
 use Rattle.msg_files.specs.{declared.refusal.Refusal.Refusal, declared.refusal.Refusal.TheVariants.Shape, declared.refusal.Refusal.TheVariants.TooMany}
 
-pub some_same : {A : Type 0} {a b : A} → Some a ≡ Some b → a ≡ b
-some_same {A} {a} {b} e = same_Some a b e
-
 -- ---- what holds of all that is there
 
 abbrev pub Holds : {A : Type 0} → (A → Type 0) → Option A → Type 0
