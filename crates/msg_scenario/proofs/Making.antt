@@ -44,8 +44,7 @@ module _ {S : Type 0} (m : S → Meaning) where
       (each : EachIs (IsSystemAt m s.systems) xs) where
     pub all_made : map m xs ≡ meanings_of s
     all_made =
-        all_from s.systems xs 0 same
-        (λ i j x spec is here there. rw (← is, zero-add) (each i x here spec there))
+        all_from s.systems xs 0 same (λ i j x spec is here there. rw (← is, zero-add) (each i x here spec there))
 
     -- each may be added
     pub may_add : (w : Parts) → IsRunnable s → length w.types ≡ length s.types
@@ -59,8 +58,7 @@ module _ {S : Type 0} (m : S → Meaning) where
         ∙ ap (option_map (λ y. y.place)) found.1) ∙ sp) in
         record {
           new = rw is (record { writer = refl; places = λ t. refl });
-          fits = λ place sp p needed. rw (types, resources)
-              (found.2.fits p (rw (is, ← placed place sp) at needed));
+          fits = λ place sp p needed. rw (types, resources) (found.2.fits p (rw (is, ← placed place sp) at needed));
           joins = λ place sp. rw (placed place sp) at found.2.joins;
         }
 

@@ -174,8 +174,7 @@ module _ {X : Type 0} (meaning : X → Meaning) (s : Scenario) where
         state = far.state;
         complete = complete s.frames far.logs far.state (rw (all, take-length) at far.is_run);
         printed = Appends-trans before now after (frames_text s 1 s.frames far.logs)
-            (accounts_text s (accounts_of far.state))
-            far.printed (rw (are far.state far.stands) at puts);
+            (accounts_text s (accounts_of far.state)) far.printed (rw (are far.state far.stands) at puts);
         stands = far.stands;
       }
 

@@ -22,8 +22,7 @@ loop-reported-init g c = record {
 }
 
 pub returns-in_default-clause-stopped : goal.returns-in_default-clause-stopped
-returns-in_default-clause-stopped g c cause =
-    stopped_before_all _ _ _ _ c.requires.engine
+returns-in_default-clause-stopped g c cause = stopped_before_all _ _ _ _ c.requires.engine
 
 pub returns-in_default-clause-prefix : goal.returns-in_default-clause-prefix
 returns-in_default-clause-prefix g c =
@@ -67,16 +66,14 @@ returns-in-Ok-accounts-clause-stopped g c cause =
 pub returns-in-Ok-accounts-clause-prefix : goal.returns-in-Ok-accounts-clause-prefix
 returns-in-Ok-accounts-clause-prefix g c =
     on_err_weaker c.put_accounts.result
-    (λ prefix. stopped_printed _ _ _ _ _
-    (readers_stopped _ _ _ _ _ _ c.loop-reported.invariant.so_far _ c.as_slice-in-Ok-accounts.result.now
-    (omega (arith, ap length c.as_slice-reported-end.ensures.items))
+    (λ prefix. stopped_printed _ _ _ _ _ (readers_stopped _ _ _ _ _ _ c.loop-reported.invariant.so_far _
+    c.as_slice-in-Ok-accounts.result.now (omega (arith, ap length c.as_slice-reported-end.ensures.items))
     (λ u stands. c.as_slice-in-Ok-accounts.ensures.value ∙ c.in-Ok-accounts.ensures.accounts u stands) prefix))
     c.put_accounts.ensures.prefix
 
 pub returns-clause-prefix : goal.returns-clause-prefix
 returns-clause-prefix g c =
-    out_printed _ _ _ _ _
-    (accounts_out _ _ _ _ _ _ c.loop-reported.invariant.so_far
+    out_printed _ _ _ _ _ (accounts_out _ _ _ _ _ _ c.loop-reported.invariant.so_far
     (omega (arith, ap length c.as_slice-reported-end.ensures.items)))
 
 pub returns-clause-run : goal.returns-clause-run
