@@ -1,5 +1,5 @@
 -- Digits that are written from the end of a text.
-use Rattle.std.proofs.Common.{◌≡◌, ◌<◌, ◌≤◌, ◌^◌, ℕ, length, ℤ, pos, negsuc, true, refl, arith, append_assoc, append-nil, int_le, unsigned_abs}
+use Rattle.std.proofs.Common.{◌≡◌, ◌<◌, ◌≤◌, ◌^◌, ℕ, length, ℤ, pos, negsuc, true, refl, arith, append_assoc, int_le, unsigned_abs}
 use Rattle.std.specs.Fmt.{decimal, signed_decimal}
 use Rattle.std.proofs.lemmas.{Fmt.length-decimal-le, Fmt.decimal_step_wide, Grind.common_steps}
 use Rattle.itoa.proofs.Decimal.{length_wide, length_step_wide}
@@ -15,5 +15,3 @@ digits n lt = length-decimal-le 19 n (omega arith) lt (omega arith)
 
 -- steps that the check takes by itself
 pub ruleset wide_steps = (common_steps, append_assoc, length_wide, length_step_wide, decimal_step_wide)
-
-pub ruleset value_steps = (common_steps, append-nil, digits, no_minus)

@@ -42,7 +42,7 @@ pub fn add_pair(text: &mut Vec<u8>, number: u128, value: i64) -> Result<(), NoMe
 }
 
 /// Writes a value at the end of a pair, and returns where it starts.
-#[tactic(auto, using(crate::proofs::Digits::value_steps))]
+#[tactic(auto, using(crate::proofs::Digits::digits))]
 fn write_value(value: i64, pair: &mut [u8; LONGEST]) -> usize
     ensures short { (41 ≤ result) × (result ≤ 61) }
     ensures written { drop result pair.new ≡ signed_decimal value }
