@@ -1,5 +1,6 @@
 use Rattle.std.proofs.Common.{◌≡◌, ◌-◌, [], length, take, drop, sym, refl, arith}
-use Rattle.std.proofs.{KnownBytes.Appends-trans, KnownBytes.Appends-kept, Math.Seq.take-add}
+use Rattle.std.proofs.KnownBytes.{Appends-trans, Appends-kept}
+use Rattle.std.proofs.Math.Seq.{take-add}
 use Rattle.std.proofs.lemmas.{List.take-append-drop, Grind.common_steps}
 use Rattle.msg_files.specs.Prelude.{PutFault}
 use Rattle.msg_files.proofs.Puts.{AppendsPrefix_after, failures_kept, on_err}

@@ -2,8 +2,7 @@ use Rattle.std.proofs.Common.{rules, [], Err, ap, arith, inl, inr, length, refl,
 use Rattle.std.proofs.lemmas.Result.{err_from_is_err_and, on_err_weaker, on_ok_weaker}
 use Rattle.msg_reading.specs.Prelude.{state_of}
 use Rattle.std.proofs.KnownBytes.{Appends-nil}
-use Rattle.msg_scenario.proofs.ReportLines.{zip-nil}
-use Rattle.msg_scenario.proofs.Reporting.{accounts_out, out_printed, readers_put, readers_stopped, stopped_before_all, stopped_printed}
+use Rattle.msg_scenario.proofs.{ReportLines.zip-nil, Reporting.accounts_out, Reporting.out_printed, Reporting.readers_put, Reporting.readers_stopped, Reporting.stopped_before_all, Reporting.stopped_printed}
 use Rattle.msg_scenario.proofs.reports.run.report.Goals as goal
 
 pub loop-reported-init : goal.loop-reported-init
