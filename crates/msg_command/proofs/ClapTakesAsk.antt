@@ -3,40 +3,24 @@
 use Rattle.std.proofs.Common.{arith, ◌≡◌, ◌⊎◌, inl, inr, ℕ, get_or, List, [], ◌∷◌, refl, ap, Option, Some, None, Bool, true, false, codes, fold, is_some, ◌&&◌, ◌||◌, cond, if◌then◌else◌, not, option_map}
 use Rattle.std.specs.{Str.bytes_eq, Option.option_map_or}
 use Rattle.std.proofs.lemmas.{Slice.Eq.bytes_eq-Decides, Bool.and_parts}
-use Rattle.clap.specs.{Words.Rule, Words.Shape, Words.Text, Words.takes, Lexer.long_of, Lexer.short_of, Simple.built, Simple.entered, Simple.names_of, Simple.rows_at, Walk.Held, Walk.Names, Walk.Outcome, Walk.Step, Walk.Waiting, Walk.Walk, Walk.after_flag, Walk.after_step, Walk.arg_by_index, Walk.arg_by_long, Walk.bundle, Walk.done, Walk.idle, Walk.long_met, Walk.long_or_other, Walk.next, Walk.nothing_held, Walk.option, Walk.plain, Walk.plain_word, Walk.positional, Walk.refused, Walk.short_or_plain, Walk.stop_after, Walk.subcommand, Walk.subcommand_met, Walk.subcommand_or_other, Walk.to_positional, Walk.trailing, Walk.value, Walk.waits, Walk.walk_from, Walk.walked, Walk.walked_from, Walk.word_met, Takes.entered_passes, Takes.level_passes, Takes.other_passes, Takes.step_passes, Takes.turn_passes, Takes.walk_passes, Takes.word_passes}
+use Rattle.clap.specs.{Words.Rule, Words.Shape, Words.Text, Words.takes, Lexer.long_of, Simple.built, Simple.entered, Simple.names_of, Simple.rows_at, Walk.Held, Walk.Names, Walk.Outcome, Walk.Step, Walk.Waiting, Walk.Walk, Walk.after_flag, Walk.after_step, Walk.long_or_other, Walk.nothing_held, Walk.stop_after, Walk.subcommand, Walk.subcommand_met, Walk.subcommand_or_other, Walk.trailing, Walk.value, Walk.walk_from, Walk.walked, Walk.walked_from, Walk.word_met, Takes.entered_passes, Takes.level_passes, Takes.other_passes, Takes.step_passes, Takes.turn_passes, Takes.walk_passes, Takes.word_passes}
 use Rattle.clap.proofs.OnLiterals.{clap_on_literals}
 use Rattle.msg_command.specs.Prelude.{IsRunOnNone, asked, msgrun_app, workers_in}
 use Rattle.msg_command.proofs.ClapFillsRows.{buffer_given, run_given, run_shape}
 
 -- ---- a flag is no subcommand
 
-abbrev IsFlag : Step → Type 0
-IsFlag (next waiting) = Unit {0}
-IsFlag (trailing position) = Unit {0}
-IsFlag (subcommand name) = ⊥
-IsFlag value = Unit {0}
+abbrev is_flag : Step → Bool
+is_flag (subcommand name) = false
+is_flag _ = true
 
-plain_is : (c : List Rule) (w : Waiting) (word : Text) (h : Held) → IsFlag (plain_word c w word h).1
-plain_is c idle word h = tt
-plain_is c positional word h = tt
-plain_is c (option id) word h = tt
-
-after_is : (c : List Rule) (w : Waiting) (word : Text) (h : Held) (o : Outcome) → IsFlag (after_flag c w word h o).1
-after_is c w word h done = tt
-after_is c w word h (waits id) = tt
-after_is c w word h plain = plain_is c w word h
-after_is c w word h refused = plain_is c w word h
-
-short_is : (c : List Rule) (w : Waiting) (word : Text) (flags : Option Text) (h : Held)
-    → IsFlag (short_or_plain c w word flags h).1
-short_is c w word None h = plain_is c w word h
-short_is c w word (Some f) h = after_is c w word (bundle c f h).0 (bundle c f h).1
+after_is : (c : List Rule) (w : Waiting) (word : Text) (h : Held) (o : Outcome)
+    → is_flag (after_flag c w word h o).1 ≡ true
+after_is c w word h o = grind arith
 
 flag_is : (c : List Rule) (w : Waiting) (word : Text) (named : Option (Text × Option Text)) (h : Held)
-    → IsFlag (long_or_other c w word named h).1
-flag_is c w word None h = short_is c w word (short_of word) h
-flag_is c w word (Some p) h =
-    let met = long_met c (arg_by_long c p.0) p.1 h in after_is c w word met.0 met.1
+    → is_flag (long_or_other c w word named h).1 ≡ true
+flag_is c w word named h = grind (arith, after_is c w word)
 
 -- ---- where a walk over words that pass stops, it isn't at `help`
 
@@ -46,25 +30,14 @@ top = (built msgrun_app).top
 abbrev names : Names
 names = names_of (built msgrun_app)
 
-abbrev NotHelp : Option (Text × List Text) → Type 0
-NotHelp None = Unit {0}
-NotHelp (Some p) = bytes_eq p.0 (codes "help") ≡ false
-
-not_help : (b : Bool) → (not b || false) ≡ true → b ≡ false
-not_help true h = cc
-not_help false h = refl
+abbrev isnt_help : Option (Text × List Text) → Bool
+isnt_help None = true
+isnt_help (Some p) = not (bytes_eq p.0 (codes "help"))
 
 -- a flag doesn't stop it
-flag_goes_on : (word : Text) (w : Walk) (h : Held) (step : Step) → IsFlag step → w.stopped ≡ None
-    → NotHelp (after_step top.rules word w h step).stopped
-flag_goes_on word w h (next waiting) is none = rw none tt
-flag_goes_on word w h (trailing position) is none = rw none tt
-flag_goes_on word w h (subcommand name) is none = absurd is
-flag_goes_on word w h value is none =
-    elim (arg_by_index top.rules w.position) as (λ o. NotHelp (to_positional top.rules o word w h).stopped) [
-      | None ↦ rw none tt
-      | Some a ↦ tt
-    ]
+flag_goes_on : (word : Text) (w : Walk) (h : Held) (step : Step) → is_flag step ≡ true → w.stopped ≡ None
+    → isnt_help (after_step top.rules word w h step).stopped ≡ true
+flag_goes_on word w h step is none = grind arith
 
 -- what a word is, after `--` or before, where it names this subcommand or none
 abbrev met : Bool → Option Text → Walk → Text → Held × Step
@@ -73,35 +46,31 @@ met past name w word =
 
 word_stops : (past : Bool) (name : Option Text) (w : Walk) (word : Text) → w.stopped ≡ None
     → (past || other_passes top name word w.held) ≡ true
-    → NotHelp (after_step top.rules word w (met past name w word).0 (met past name w word).1).stopped
+    → isnt_help (after_step top.rules word w (met past name w word).0 (met past name w word).1).stopped ≡ true
 unfolding clap_on_literals
-word_stops true name w word none passes = flag_goes_on word w w.held value tt none
-word_stops false (Some n) w word none passes = not_help (bytes_eq n (codes "help")) passes
+word_stops true name w word none passes = flag_goes_on word w w.held value refl none
+word_stops false (Some n) w word none passes = grind arith
 word_stops false None w word none passes =
     let flag = long_or_other top.rules w.waiting word (long_of word) w.held in
-    elim (bytes_eq word (45 ∷ 45 ∷ [])) as (λ b. NotHelp (after_step top.rules word w
-    (if b then (w.held, trailing w.position) else flag).0
-    (if b then (w.held, trailing w.position) else flag).1).stopped) [
-      | true ↦ flag_goes_on word w w.held (trailing w.position) tt none
-      | false ↦ flag_goes_on word w flag.0 flag.1 (flag_is top.rules w.waiting word (long_of word) w.held) none
-    ]
+    let goes_on = flag_goes_on word w flag.0 flag.1 (flag_is top.rules w.waiting word (long_of word) w.held) none in
+    grind (arith, goes_on, flag_goes_on word w w.held (trailing w.position) refl none)
 
-turn_stops : (w : Walk) (word : Text) → turn_passes top names w word ≡ true → NotHelp w.stopped
-    → NotHelp (walked top.rules names w word).stopped
+turn_stops : (w : Walk) (word : Text) → turn_passes top names w word ≡ true → isnt_help w.stopped ≡ true
+    → isnt_help (walked top.rules names w word).stopped ≡ true
 unfolding walked
 turn_stops w word passes so_far =
     let here = word_met top.rules names w.is_trailing w.waiting w.position word w.held in
     elim w.stopped as (λ o. w.stopped ≡ o
     → (is_some o || (word_passes top names w.is_trailing w.waiting word w.held && step_passes top w.position here.0
     here.1)) ≡ true
-    → NotHelp o → NotHelp (walked_from top.rules names o w word).stopped) [
+    → isnt_help o ≡ true → isnt_help (walked_from top.rules names o w word).stopped ≡ true) [
       | Some p ↦ λ is ok isnt. isnt
       | None ↦ λ is ok isnt. word_stops w.is_trailing (subcommand_met names w.waiting word) w word is
           (and_parts (word_passes top names w.is_trailing w.waiting word w.held) _ ok).0
     ] refl passes so_far
 
-walk_stops : (words : List Text) (w : Walk) → walk_passes top names w words ≡ true → NotHelp w.stopped
-    → NotHelp (fold (walked top.rules names) w words).stopped
+walk_stops : (words : List Text) (w : Walk) → walk_passes top names w words ≡ true → isnt_help w.stopped ≡ true
+    → isnt_help (fold (walked top.rules names) w words).stopped ≡ true
 unfolding walk_passes
 walk_stops [] w passes so_far = so_far
 walk_stops (word ∷ rest) w passes so_far =
@@ -109,7 +78,7 @@ walk_stops (word ∷ rest) w passes so_far =
     walk_stops rest (walked top.rules names w word) parts.1 (turn_stops w word parts.0 so_far)
 
 -- the name of the subcommand `help`, the other way round
-help_named : (name : Text) → bytes_eq name (codes "help") ≡ false → bytes_eq (codes "help") name ≡ false
+help_named : (name : Text) → not (bytes_eq name (codes "help")) ≡ true → bytes_eq (codes "help") name ≡ false
 help_named name isnt = grind (arith, bytes_eq-Decides (codes "help") name, bytes_eq-Decides name (codes "help"))
 
 -- ---- what is asked for
@@ -152,7 +121,7 @@ found_asks words rest false false true isnt sub passes = cc
 found_asks words rest false false false isnt sub passes = inl (rw sub refl)
 
 stopped_asks : (words : List Text) (o : Option (Text × List Text)) → stop_after top.rules names words ≡ o
-    → entered_passes (built msgrun_app) o ≡ true → NotHelp o → Asks words
+    → entered_passes (built msgrun_app) o ≡ true → isnt_help o ≡ true → Asks words
 unfolding clap_on_literals
 stopped_asks words None is passes isnt = inl (rw is refl)
 stopped_asks words (Some (name, rest)) is passes isnt =
@@ -167,4 +136,4 @@ takes_asks words passes =
     let parts = and_parts (entered_passes (built msgrun_app) (stop_after top.rules names words)) _ passes in
     let walks = and_parts (walk_passes top names (walk_from nothing_held) words) _ parts.1 in
     stopped_asks words (stop_after top.rules names words) refl parts.0
-    (walk_stops words (walk_from nothing_held) walks.0 tt)
+    (walk_stops words (walk_from nothing_held) walks.0 refl)

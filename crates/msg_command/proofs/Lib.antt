@@ -1,5 +1,3 @@
--- reading an input
-pub mod WholeInputs
 -- numbers of workers
 pub mod WorkerNumbers
 -- what clap finds in words

@@ -1,5 +1,5 @@
 -- The calls of a file, one after another.
-use Rattle.std.proofs.Common.{◌≡◌, ℕ, ◌+◌, ◌<◌, ◌≤◌, List, [], ◌++◌, length, get_or, drop, sym, append_assoc, append-nil, Option, true, arith, ℤ}
+use Rattle.std.proofs.Common.{◌≡◌, ℕ, ◌+◌, ◌<◌, ◌≤◌, List, ◌++◌, length, get_or, drop, append_assoc, append-nil, Option, true, arith, ℤ}
 use Rattle.std.proofs.lemmas.{List.drop_more, Grind.common_steps}
 use Rattle.std.specs.Io.KnownBytes.{Appends}
 use Rattle.std.proofs.KnownBytes.{Appends-trans}
@@ -68,10 +68,6 @@ pub OnTheWay_stops : (before now now' : Option (List ℕ)) (m : Kept ℤ) (cs ga
 OnTheWay_stops before now now' m cs gathered rest all way puts =
     AppendsPrefix_after before now now' way.front gathered (text_of rest way.state) all
     (grind (arith, way.whole, append_assoc)) way.taken puts
-
--- what was put is a front of itself
-pub AppendsPrefix_whole : (a b : Option (List ℕ)) (text : List ℕ) → Appends a b text → AppendsPrefix a b text
-AppendsPrefix_whole a b text h = (text, [], sym (append-nil text), h)
 
 -- no call is left, and what is gathered was put
 pub OnTheWay_ends : (before now now' : Option (List ℕ)) (m : Kept ℤ) (cs gathered : List ℕ) (calls : List Call) (i : ℕ)

@@ -1,8 +1,9 @@
 -- One step of a walk over a list of JSON values.
-use Rattle.std.proofs.Common.{◌≡◌, ℕ, ◌≤◌, List, [], ◌∷◌, ◌++◌, drop, refl, ap, arith, Some, None, Bool, map, string_bytes, String, ℤ, ◌&&◌}
-use Rattle.std.specs.{List.list_all, declared.alloc.Global.Global}
+use Rattle.std.proofs.Common.{◌≡◌, ℕ, ◌≤◌, List, [], ◌∷◌, ◌++◌, drop, refl, ap, arith, Some, Bool, map, string_bytes, String, ℤ, ◌&&◌}
+use Rattle.std.proofs.lemmas.List.{length-map, Folds.list_all-map}
+use Rattle.std.specs.{List.list_all, Option.option_or, declared.alloc.Global.Global}
 use Rattle.serde_json.specs.{Data.Data, View.view, View.items_of, View.members_view, declared.value.Value.Value}
-use Rattle.msg_files.specs.Prelude.{Call, Check, Refusal, a_value, all_some, call_of, calls_checks, cursors_exist, first_refusal, keys_of, list_of, whole}
+use Rattle.msg_files.specs.Prelude.{Call, Check, a_value, all_some, call_of, calls_checks, cursors_exist, first_refusal, keys_of, list_of, whole}
 
 -- ---- lists in serde_json's form, and in ours
 
@@ -22,19 +23,16 @@ pub all_some-map : {A : Type 0} (xs : List A) → all_some (map (λ x. Some x) x
 all_some-map [] = refl
 all_some-map (x ∷ xs) = rw (all_some-map xs) refl
 
+-- steps that the check takes by itself
+pub ruleset list_steps = (list_of-items_of, list_all-keys, all_some-map, list_all-map, length-map)
+
 -- ---- checks one after another
 
--- checks that all pass leave it to those that follow
-pub first_refusal-passed : (cs ds : List Check) → first_refusal cs ≡ None
-    → first_refusal (cs ++ ds) ≡ first_refusal ds
-first_refusal-passed [] ds h = refl
-first_refusal-passed (c ∷ cs) ds h = grind (arith, first_refusal-passed cs ds)
-
--- a refusal stands, whatever follows
-pub first_refusal-stands : (cs ds : List Check) (r : Refusal) → first_refusal cs ≡ Some r
-    → first_refusal (cs ++ ds) ≡ Some r
-first_refusal-stands [] ds r h = cc
-first_refusal-stands (c ∷ cs) ds r h = grind (arith, first_refusal-stands cs ds r)
+-- a refusal of the first, or else of the second
+pub refusal_of_both : (cs ds : List Check)
+    → first_refusal (cs ++ ds) ≡ option_or (first_refusal cs) (first_refusal ds)
+refusal_of_both [] ds = refl
+refusal_of_both (c ∷ cs) ds = grind (arith, refusal_of_both cs ds)
 
 -- ---- the values of a batch
 

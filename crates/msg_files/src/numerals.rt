@@ -42,6 +42,7 @@ pub fn add_pair(text: &mut Vec<u8>, number: u128, value: i64) -> Result<(), NoMe
 }
 
 /// Writes a value at the end of a pair, and returns where it starts.
+#[tactic(auto, using(crate::proofs::Digits::digits))]
 fn write_value(value: i64, pair: &mut [u8; LONGEST]) -> usize
     ensures short { (41 ≤ result) × (result ≤ 61) }
     ensures written { drop result pair.new ≡ signed_decimal value }
@@ -56,6 +57,7 @@ fn write_value(value: i64, pair: &mut [u8; LONGEST]) -> usize
 
 /// Writes a number so that it ends at `end`, and returns where it starts. Digits past 64 bits go
 /// one at a time.
+#[tactic(auto, using(crate::proofs::Digits::wide_steps))]
 fn write_number(number: u128, pair: &mut [u8; LONGEST], end: usize) -> usize
     requires room { 40 ≤ end }
     requires within { end ≤ 61 }

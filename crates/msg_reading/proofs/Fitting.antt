@@ -1,5 +1,5 @@
 -- What the systems of a scenario file use is there, and so are the types that its frames post to.
-use Rattle.std.proofs.Common.{◌≡◌, ◌≤◌, ◌<◌, List, [], ◌∷◌, ◌++◌, length, Option, Some, None, true, arith, All, IfSome, IsTrue, codes, flat_map, is_some}
+use Rattle.std.proofs.Common.{◌≡◌, ℕ, ◌≤◌, ◌<◌, List, [], ◌∷◌, ◌++◌, length, Option, Some, None, true, arith, All, IfSome, IsTrue, codes, flat_map, is_some}
 use Rattle.std.proofs.lemmas.{Bool.eqb-true, List.Elements.All-head, List.Elements.All-tail, List.Elements.All-weaker, List.Quantifiers.position-Some}
 use Rattle.std.specs.{List.list_any, Str.bytes_eq}
 use Rattle.serde_json.specs.Data.{Data}
@@ -8,16 +8,21 @@ use Rattle.msg_system.specs.Prelude.{is_part, job_needs, needs_any, op_parts, pr
 use Rattle.msg_system.specs.{declared.condition.Condition.Condition, declared.op.Op.Op}
 use Rattle.msg_frames.specs.declared.place.Place.{Place}
 use Rattle.msg_files.specs.Prelude.{Text, elements, first_refusal, natural, needs, value_at, values_of, whole}
-use Rattle.msg_reading.specs.Prelude.{Declared, IsClashing, IsRunnableSystem, PostsAreToTypes, Scenario, SystemSpec, checks_in_turn, condition_checks, condition_of, conditions_in, each_in_turn, each_of, fits_kind, frame_of, inside_nots, join_checks, join_in, kind_in, kind_of, list_checks, name_checks, of_headed, of_its_kind, op_checks, op_of, op_with, op_with_one, op_with_two, ops_checks, ops_of, place_checks, place_of, post_of, probe_with, program_checks, resource_number, start_in, start_of, system_checks, system_object, system_of, text, type_number, with_system}
+use Rattle.msg_reading.specs.Prelude.{Declared, IsClashing, IsRunnableSystem, PostsAreToTypes, Scenario, SystemSpec, condition_checks, condition_of, conditions_in, each_of, fits_kind, frame_of, inside_nots, join_checks, join_in, kind_in, kind_of, list_checks, name_checks, of_headed, of_its_kind, op_checks, op_of, op_with, op_with_one, op_with_two, ops_checks, ops_of, place_checks, place_of, post_of, probe_with, program_checks, resource_number, start_in, start_of, system_checks, system_object, system_of, text, type_number}
 use Rattle.msg_files.specs.declared.refusal.Refusal.TheVariants.{Shape}
-use Rattle.msg_reading.proofs.There.{Holds, below_there, both_pass, choice, first_passes, in_both, in_each, in_headed, in_map, in_then, in_turn_all, in_two, passed_length}
+use Rattle.msg_reading.proofs.There.{Holds, below_there, both_pass, choice, first_passes, in_both, in_each, in_headed, in_map, in_then, list_passed}
 
 -- ---- parts that are there
 
--- the names are those of the scenario's types and resources
-pub record NamesOf (s : Scenario) (names : Declared) : Type 0 where
-  pub types : length names.types ≡ length s.types
-  pub resources : length names.resources ≡ length s.resources
+-- there are so many names of each kind
+pub record HasNames (t r s : ℕ) (names : Declared) : Type 0 where
+  pub types : length names.types ≡ t
+  pub resources : length names.resources ≡ r
+  pub systems : length names.systems ≡ s
+
+-- as many as the scenario's types and resources, and so many of systems
+abbrev pub NamesOf : Scenario → ℕ → Declared → Type 0
+NamesOf s n names = HasNames (length s.types) (length s.resources) n names
 
 module _ (s : Scenario) where
   abbrev Has : Part → Type 0
@@ -50,7 +55,7 @@ module _ (s : Scenario) where
 
 -- ---- ops and conditions
 
-module _ (s : Scenario) (names : Declared) (of : NamesOf s names) where
+module _ (s : Scenario) (names : Declared) {n : ℕ} (of : NamesOf s n names) where
   has_type : (d : Data) → Holds (λ t. t < length s.types) (type_number names (text d))
   has_type d t h = rw of.types at (position-Some (bytes_eq (text d)) names.types t [] (below_there _ 64 t h)).0
 
@@ -106,8 +111,7 @@ module _ (s : Scenario) (names : Declared) (of : NamesOf s names) where
   -- ---- posts
 
   post_fits : (d : Data) → Holds (λ post. post.0 < length s.types) (post_of names d)
-  post_fits d = in_two _ _ (elements d) (λ name value.
-      in_both _ _ (type_number names (text name)) (whole value) (λ t v is _. has_type name t is))
+  post_fits d post h = grind (arith, has_type)
 
   frame_fits : (d : Data) → Holds (PostsAreToTypes s) (frame_of names d)
   frame_fits d = in_map _ _ (each_of (post_of names) d)
@@ -122,9 +126,9 @@ module _ (s : Scenario) (names : Declared) (of : NamesOf s names) where
 abbrev pub SystemFits : Scenario → SystemSpec → Type 0
 SystemFits s x = ¬ IsClashing x → IsRunnableSystem s x
 
-system_fits : (s : Scenario) (names : Declared) (d : Data) → NamesOf s names
+pub system_fits : (s : Scenario) (names : Declared) {n : ℕ} (d : Data) → NamesOf s n names
     → first_refusal (system_checks names d) ≡ None → Holds (SystemFits s) (system_of names d)
-system_fits s names d of passed =
+system_fits s names {n} d of passed =
     let name = name_checks names (value_at (codes "name") d) in
     let last = needs (is_some (start_of (start_in d))) Shape ∷ [] in
     let list = list_checks 64 (op_checks names) (value_at (codes "ops") d) in
@@ -136,8 +140,8 @@ system_fits s names d of passed =
     let listed = both_pass list (needs (of_its_kind names d) Shape ∷ []) parts.0 in
     let joins = (both_pass (list_checks 8 (condition_checks names) (conditions_in d)) (join_checks (join_in d))
     (both_pass (place_checks names d) last parts.1).0).1 in
-    let few = passed_length (value_at (codes "ops") d) 64
-    (flat_map (op_checks names) (elements (value_at (codes "ops") d))) listed.0 in
+    let few = (list_passed (value_at (codes "ops") d) 64
+    (flat_map (op_checks names) (elements (value_at (codes "ops") d))) listed.0).0 in
     in_then _ _ (kind_of (kind_in d)) (λ kind k. in_then _ _ (ops_of names d) (λ ops o.
     let fit = in_each (OpFits s) (op_of names) (op_fits s names of) (elements (value_at (codes "ops") d)) ops o in
     let many = fit.1 in
@@ -154,9 +158,3 @@ system_fits s names d of passed =
       no_clash = none;
       joins = placed.1;
     })))
-
-pub systems_fit : (s : Scenario) (names : Declared) (ds : List Data) → NamesOf s names
-    → first_refusal (checks_in_turn system_checks with_system names ds) ≡ None
-    → Holds (All (SystemFits s)) (each_in_turn system_of with_system names ds)
-systems_fit s = in_turn_all system_of with_system system_checks (SystemFits s) (NamesOf s)
-    (λ names d of. record { types = of.types; resources = of.resources }) (system_fits s)

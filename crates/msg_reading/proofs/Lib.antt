@@ -1,14 +1,10 @@
 -- lists of a file, by their parts and by their elements
 pub mod Parts
-pub mod Lists
 pub mod Named
 -- names, ops, conditions and systems
 pub mod Spaces
-pub mod Ops
 pub mod Conditions
 pub mod Systems
--- the whole file
-pub mod Files
 -- what is known of a scenario that was read: it can be run
 pub mod There
 pub mod Fitting

@@ -1,10 +1,11 @@
 -- Lists of a scenario file by their parts.
-use Rattle.std.proofs.Common.{◌≡◌, ◌≤◌, ◌<◌, List, [], ◌∷◌, length, get_or, take, drop, refl, sym, ap, ◌∙◌, arith, Option, Some, map, ◌-◌}
+use Rattle.std.proofs.Common.{◌≡◌, ◌≤◌, ◌<◌, List, [], ◌∷◌, length, get_or, take, drop, refl, arith, Option, Some, map, ◌-◌}
+use Rattle.std.proofs.lemmas.List.{take_all}
 use Rattle.serde_json.specs.{Data.Data, Find.as_array, Find.as_str, View.view, View.items_view, declared.value.Value.Value}
 use Rattle.msg_files.specs.Prelude.{Check, Text, elements, first_refusal}
-use Rattle.msg_reading.specs.Prelude.{for_headed, of_headed}
+use Rattle.msg_reading.specs.Prelude.{Declared, for_headed, of_headed, op_checks_with}
 use Rattle.msg_files.specs.declared.refusal.Refusal.TheVariants.{Shape}
-use Rattle.msg_files.proofs.{Shapes.elements_are, Shapes.range_to_end, Steps.Refuses}
+use Rattle.msg_files.proofs.Shapes.{elements_are}
 
 -- ---- lists of one, of two and of more items
 
@@ -23,8 +24,7 @@ pub first_and_rest : (d : Data) (xs : List Value) (v : Value) → Some (items_vi
     → v ≡ get_or xs 0 v → elements d ≡ view v ∷ map view (take (length xs - 1) (drop 1 xs))
 first_and_rest d [] v list least is = absurd (omega (arith, least))
 first_and_rest d (x ∷ xs) v list least is =
-    elements_are d (x ∷ xs) list ∙ ap (λ y. view y ∷ map view xs) (sym is)
-    ∙ ap (λ ys. view v ∷ map view ys) (sym (range_to_end 1 (x ∷ xs)))
+    rw (elements_are d (x ∷ xs) list, take_all (length (x ∷ xs) - 1) xs (omega arith), is) refl
 
 -- ---- what agrees with equal checks
 
@@ -37,8 +37,8 @@ pub headed_denoted : {A : Type 0} (f : Text → List Data → Option A) (d head 
     → as_str head ≡ Some name → elements d ≡ head ∷ ps → of_headed f (elements d) ≡ f name ps
 headed_denoted f d head ps name is are = rw (are, is) refl
 
--- ---- checks one after another, where one of them fails
-
--- a wrong shape is no want of memory
-pub is_shape : (cs : List Check) → first_refusal cs ≡ Some Shape → Refuses cs Shape
-is_shape cs is = (λ same. cc, λ _. is)
+-- no op has more than two parts
+pub op_of_many : (names : Declared) (head : Text) (xs : List Value) → 3 ≤ length xs
+    → first_refusal (op_checks_with names head (map view xs)) ≡ Some Shape
+op_of_many names head (x ∷ y ∷ z ∷ rest) many = refl
+op_of_many names head xs many = absurd (omega (arith, many))

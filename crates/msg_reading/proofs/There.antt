@@ -1,13 +1,11 @@
 -- What holds of all that a value denotes, and what passes where checks pass.
-use Rattle.std.proofs.Common.{◌≡◌, ℕ, ◌≤◌, List, [], ◌∷◌, ◌++◌, length, refl, sym, ap, Option, Some, None, Bool, true, false, arith, map, subst, All, if◌then◌else◌, nat_le, option_and_then, option_map}
+use Rattle.std.proofs.Common.{◌≡◌, ℕ, ◌+◌, ◌≤◌, List, [], ◌∷◌, ◌++◌, length, refl, Option, Some, None, Bool, true, false, arith, map, subst, All, if◌then◌else◌, nat_le, option_and_then, option_map, zero-add}
 use Rattle.std.proofs.lemmas.{Bool.leb-true, Grind.common_steps, List.Elements.All-cons, List.Elements.All-nil, Option.same_Some}
 use Rattle.serde_json.specs.Data.{Data}
 use Rattle.msg_files.specs.Prelude.{Check, Text, all_some, elements, first_refusal, is_list, needs, only_below}
-use Rattle.msg_reading.specs.Prelude.{Declared, both, checks_in_turn, each_in_turn, of_headed, of_two, text}
+use Rattle.msg_reading.specs.Prelude.{Declared, both, checks_in_turn, each_in_turn, names_checks, of_headed, text, with_all}
+use Rattle.msg_files.proofs.Walks.{refusal_of_both}
 use Rattle.msg_files.specs.{declared.refusal.Refusal.Refusal, declared.refusal.Refusal.TheVariants.Shape, declared.refusal.Refusal.TheVariants.TooMany}
-
-pub some_same : {A : Type 0} {a b : A} → Some a ≡ Some b → a ≡ b
-some_same {A} {a} {b} e = same_Some a b e
 
 -- ---- what holds of all that is there
 
@@ -28,11 +26,6 @@ pub in_then : {A B : Type 0} (P : B → Type 0) (f : A → Option B) (o : Option
     → ((a : A) → o ≡ Some a → Holds P (f a)) → Holds P (option_and_then f o)
 in_then P f None good b h = cc
 in_then P f (Some a) good b h = good a refl b h
-
-pub in_two : {A : Type 0} (P : A → Type 0) (f : Data → Data → Option A) (ds : List Data)
-    → ((x y : Data) → Holds P (f x y)) → Holds P (of_two f ds)
-in_two P f (x ∷ y ∷ []) good a h = good x y a h
-in_two P f ds good a h = cc
 
 pub in_headed : {A : Type 0} (P : A → Type 0) (f : Text → List Data → Option A) (ds : List Data)
     → ((head : Text) (parts : List Data) → Holds P (f head parts)) → Holds P (of_headed f ds)
@@ -62,50 +55,55 @@ in_each P f good (d ∷ ds) xs h =
 pub below_there : (o : Option ℕ) (end : ℕ) → (n : ℕ) → option_and_then (only_below end) o ≡ Some n → o ≡ Some n
 below_there o end n h = grind arith
 
--- ---- elements that declare names
-
-module _ {A : Type 0} (f : Declared → Data → Option A) (with_one : Declared → Data → Declared) where
-  -- each element denotes one thing
-  pub in_turn_length : (names : Declared) (ds : List Data)
-      → Holds (λ xs. length xs ≡ length ds) (each_in_turn f with_one names ds)
-  in_turn_length names [] xs h = ap length (sym (same_Some [] xs h))
-  in_turn_length names (d ∷ ds) xs h =
-      in_both (λ ys. length ys ≡ length (d ∷ ds)) _ (f names d) (each_in_turn f with_one (with_one names d) ds)
-      (λ a rest is are. grind (arith, common_steps, in_turn_length (with_one names d) ds rest are)) xs h
-
 -- ---- checks
 
 -- checks that all pass pass in part
 pub both_pass : (cs ds : List Check) → first_refusal (cs ++ ds) ≡ None
     → (first_refusal cs ≡ None) × (first_refusal ds ≡ None)
-both_pass [] ds h = (refl, h)
-both_pass (c ∷ cs) ds h = grind (arith, both_pass cs ds)
+both_pass cs ds h = grind (arith, refusal_of_both cs ds)
 
 pub first_passes : (b : Bool) (e : Refusal) (cs : List Check) → first_refusal (needs b e ∷ cs) ≡ None
     → (b ≡ true) × (first_refusal cs ≡ None)
 first_passes b e cs h = grind arith
 
--- a list that passed its checks is short enough
-pub passed_length : (d : Data) (most : ℕ) (checks : List Check)
+-- a list that passed its checks is short enough, and its elements passed theirs
+pub list_passed : (d : Data) (most : ℕ) (checks : List Check)
     → first_refusal (needs (is_list d) Shape ∷ needs (nat_le (length (elements d)) most) TooMany ∷ checks) ≡ None
-    → length (elements d) ≤ most
-passed_length d most checks h =
+    → (length (elements d) ≤ most) × (first_refusal checks ≡ None)
+list_passed d most checks h =
     let few = nat_le (length (elements d)) most in
-    leb-true (length (elements d)) most
-    (first_passes few TooMany checks (first_passes (is_list d) Shape (needs few TooMany ∷ checks) h).1).0
+    let listed = first_passes few TooMany checks (first_passes (is_list d) Shape (needs few TooMany ∷ checks) h).1 in
+    (leb-true (length (elements d)) most listed.0, listed.1)
 
--- what holds of each thing that an element denotes which passed its checks holds of all, where each declares a name
+-- what holds of each thing that an element denotes which passed its checks holds of all, where each declares a name,
+-- and the names keep to a fact of how many there were before
 module _ {A : Type 0} (f : Declared → Data → Option A) (with_one : Declared → Data → Declared)
-    (checks : Declared → Data → List Check) (P : A → Type 0) (Q : Declared → Type 0)
-    (keeps : (names : Declared) (d : Data) → Q names → Q (with_one names d))
-    (good : (names : Declared) (d : Data) → Q names
+    (checks : Declared → Data → List Check) (P : A → Type 0) (Q : ℕ → Declared → Type 0)
+    (keeps : (n : ℕ) (names : Declared) (d : Data) → Q n names → Q (n + 1) (with_one names d))
+    (good : (n : ℕ) (names : Declared) (d : Data) → Q n names
     → first_refusal (checks names d) ≡ None → Holds P (f names d)) where
-  pub in_turn_all : (names : Declared) (ds : List Data) → Q names
+  abbrev AllOf : ℕ → Declared → List Data → List A → Type 0
+  AllOf n names ds xs = All P xs × (length xs ≡ length ds) × Q (n + length xs) (with_all with_one names ds)
+
+  in_turn_all : (n : ℕ) (names : Declared) (ds : List Data) → Q n names
       → first_refusal (checks_in_turn checks with_one names ds) ≡ None
-      → Holds (All P) (each_in_turn f with_one names ds)
-  in_turn_all names [] q passed xs h = subst (All P) (same_Some [] xs h) (All-nil P)
-  in_turn_all names (d ∷ ds) q passed xs h =
+      → Holds (AllOf n names ds) (each_in_turn f with_one names ds)
+  in_turn_all n names [] q passed xs h =
+      let e : n + 0 ≡ n = omega arith in
+      subst (AllOf n names []) (same_Some [] xs h) (All-nil P, refl, rw e q)
+  in_turn_all n names (d ∷ ds) q passed xs h =
       let parts = both_pass (checks names d) (checks_in_turn checks with_one (with_one names d) ds) passed in
-      in_both (All P) _ (f names d) (each_in_turn f with_one (with_one names d) ds) (λ a rest is are.
-      All-cons P a rest (good names d q parts.0 a is)
-      (in_turn_all (with_one names d) ds (keeps names d q) parts.1 rest are)) xs h
+      in_both (AllOf n names (d ∷ ds)) _ (f names d) (each_in_turn f with_one (with_one names d) ds) (λ a rest is are.
+      let all = in_turn_all (n + 1) (with_one names d) ds (keeps n names d q) parts.1 rest are in
+      let e : n + 1 + length rest ≡ n + length (a ∷ rest) = omega arith in
+      (All-cons P a rest (good n names d q parts.0 a is) all.0, grind (arith, common_steps, all.1), rw e at all.2)) xs h
+
+  -- in a list that isn't too long
+  pub in_section : (most : ℕ) (names : Declared) (d : Data) → Q 0 names
+      → first_refusal (names_checks most checks with_one names d) ≡ None
+      → Holds (λ xs. All P xs × (length xs ≤ most) × Q (length xs) (with_all with_one names (elements d)))
+      (each_in_turn f with_one names (elements d))
+  in_section most names d q passed xs h =
+      let listed = list_passed d most (checks_in_turn checks with_one names (elements d)) passed in
+      let all = in_turn_all 0 names (elements d) q listed.1 xs h in
+      (all.0, omega (arith, listed.0, all.1), rw zero-add at all.2)

@@ -2,6 +2,4 @@
 pub mod Making
 -- its report: the text of a frame, of frames, and what the sink took of them
 pub mod ReportLines
-pub mod LinesMade
-pub mod ReportFrames
 pub mod Reporting

@@ -1,63 +1,31 @@
 -- The systems of an engine that is made of a scenario.
-use Rattle.std.proofs.Common.{◌≡◌, ℕ, suc, ◌+◌, List, [], ◌∷◌, length, map, zero-add, Some, refl, sym, ap, ◌∙◌, inl, inr, arith, Bool, ℤ, if◌then◌else◌, option_map, slice_get}
+use Rattle.std.proofs.Common.{◌≡◌, ℕ, suc, ◌+◌, List, [], ◌∷◌, length, map, zero-add, Some, refl, sym, ap, ◌∙◌, inl, inr, arith, option_map, slice_get}
 use Rattle.std.specs.List.{All, enumerate_from}
-use Rattle.std.proofs.lemmas.{List.Elements.All-get_or, Option.get_or_from_slice_get, Option.slice_get_cases, Option.slice_get_within, Option.slice_get-map}
-use Rattle.msg_world.specs.Prelude.{Parts, PartsStand, WorldState, held_world, new_world}
-use Rattle.msg_order.specs.declared.rule.Rule.{Rule}
-use Rattle.msg_frames.specs.Prelude.{first_state}
+use Rattle.std.proofs.lemmas.{Option.same_Some, Option.slice_get_cases, Option.slice_get_within, Option.slice_get-map}
+use Rattle.msg_world.specs.Prelude.{Parts}
 use Rattle.msg_system.specs.Prelude.{Meaning, new_system}
-use Rattle.msg_order.specs.Prelude.{IsLowestOnCycle, edges_of}
 use Rattle.msg_frames.specs.declared.place.Place.{Place}
 use Rattle.msg_exec.specs.Prelude.{EachIs, IsLowestClash, MayBeAdded}
 use Rattle.msg_reading.specs.{declared.scenario.Scenario.Scenario, declared.scenario.SystemSpec.SystemSpec}
-use Rattle.msg_reading.specs.Prelude.{IsRunnable, IsRunnableSystem, first_world, meanings_of, places_of, state_of}
+use Rattle.msg_reading.specs.Prelude.{IsRunnable, IsRunnableSystem, meanings_of, places_of}
 use Rattle.msg_scenario.specs.Prelude.{IsSystemAt}
-use Rattle.msg_reading.proofs.There.{some_same}
 
--- what holds of all of a list holds of what is found in it
-all_at : {X : Type 0} (P : X → Type 0) (xs : List X) (i : ℕ) (x : X) → All P xs → slice_get xs i ≡ Some x → P x
-all_at P xs i x all there =
-    rw (get_or_from_slice_get xs i x x there) at (All-get_or P xs i x (slice_get_within xs i x there) all)
-
--- lists of one length have something at the same places
-there_too : {X Y : Type 0} (xs : List X) (ys : List Y) (i : ℕ) (x : X) → length xs ≡ length ys
-    → slice_get xs i ≡ Some x → (y : Y) × (slice_get ys i ≡ Some y)
-there_too xs ys i x same there =
+-- lists of one length have something at the same places, and what holds of all of one list holds of that
+found_there : {X Y : Type 0} (P : Y → Type 0) (xs : List X) (ys : List Y) (i : ℕ) (x : X) → length xs ≡ length ys
+    → All P ys → slice_get xs i ≡ Some x → (y : Y) × (slice_get ys i ≡ Some y) × P y
+found_there P xs ys i x same all there =
     let lt = slice_get_within xs i x there in
     elim (slice_get_cases ys i).1 [
-      | inl found ↦ (found.0, found.2)
+      | inl found ↦ (found.0, found.2, rw found.3 at (all i found.0 found.1))
       | inr past ↦ absurd (let late = past.0 in omega (arith, lt, same, late))
     ]
-
--- the world of a scenario, before it is held
-abbrev unheld : Scenario → WorldState
-unheld s = new_world (map (λ named. named.1) s.types) (map (λ named. named.1) s.resources)
-
-pub stands_unheld : (s : Scenario) (w : Parts) (limits : List ℕ) (values : List ℤ) → limits
-    ≡ map (λ named. named.1) s.types
-    → values ≡ map (λ named. named.1) s.resources → PartsStand w (new_world limits values) → PartsStand w (unheld s)
-stands_unheld s w limits values types resources stands =
-    rw (types, resources) at stands
-
--- the first world is that, held or not
-pub stands_held : (s : Scenario) (w : Parts) (b : Bool) → s.held ≡ b
-    → PartsStand w (if b then held_world (unheld s) else unheld s)
-    → PartsStand w (first_world s)
-stands_held s w b is stands = rw is stands
-
--- the state of its parts is the scenario's
-pub same_state : (s : Scenario) (systems : List Meaning) (places : List Place) (rules : List Rule) (types : ℕ)
-    → systems ≡ meanings_of s → places ≡ places_of s → rules ≡ s.rules → types ≡ length s.types
-    → first_state systems places rules types (first_world s) ≡ state_of s
-same_state s systems places rules types a b c d =
-    rw (a, b, c, d) refl
 
 module _ {S : Type 0} (m : S → Meaning) where
   -- the system of the spec at a place is the one at that place
   pub is_system_at : (specs : List SystemSpec) (n : ℕ) (x : S) (spec : SystemSpec) → slice_get specs n ≡ Some spec
       → m x ≡ new_system spec.program n → IsSystemAt m specs n x
   is_system_at specs n x spec there is other found =
-      rw (some_same (sym there ∙ found)) at is
+      rw (same_Some _ _ (sym there ∙ found)) at is
 
   -- systems that are each the one at its place are all of them
   all_from : (specs : List SystemSpec) (xs : List S) (n : ℕ) → length xs ≡ length specs
@@ -72,43 +40,31 @@ module _ {S : Type 0} (m : S → Meaning) where
       (λ i j y t is here there. each (suc i) j y t (omega (arith, is)) here there) in
       grind (arith, rest, each 0 n x spec)
 
-  pub all_made : (s : Scenario) (xs : List S) → length xs ≡ length s.systems → EachIs (IsSystemAt m s.systems) xs
-      → map m xs ≡ meanings_of s
-  all_made s xs same each =
-      all_from s.systems xs 0 same
-      (λ i j x spec is here there. rw (← is, zero-add) (each i x here spec there))
+  module _ (s : Scenario) (xs : List S) (same : length xs ≡ length s.systems)
+      (each : EachIs (IsSystemAt m s.systems) xs) where
+    pub all_made : map m xs ≡ meanings_of s
+    all_made =
+        all_from s.systems xs 0 same (λ i j x spec is here there. rw (← is, zero-add) (each i x here spec there))
 
-  -- each may be added
-  pub may_add : (s : Scenario) (w : Parts) (xs : List S) → IsRunnable s → length w.types ≡ length s.types
-      → length w.resources ≡ length s.resources → length xs ≡ length s.systems → EachIs (IsSystemAt m s.systems) xs
-      → EachIs (MayBeAdded m w (places_of s)) xs
-  may_add s w xs runnable types resources same each i x here =
-      let found = there_too xs s.systems i x same here in
-      let spec = found.0 in
-      let is = each i x here spec found.1 in
-      let fine : IsRunnableSystem s spec = all_at (IsRunnableSystem s) s.systems i spec runnable.systems found.1 in
-      let placed : (place : Place) → slice_get (places_of s) i ≡ Some place → spec.place ≡ place =
-      λ place sp. some_same (sym (slice_get-map (λ (y : SystemSpec). y.place) s.systems i
-      ∙ ap (option_map (λ y. y.place)) found.1) ∙ sp) in
-      record {
-        new = rw is (record { writer = refl; places = λ t. refl });
-        fits = λ place sp p needed. rw (types, resources)
-            (fine.fits p (rw (is, ← placed place sp) at needed));
-        joins = λ place sp. rw (placed place sp) at fine.joins;
-      }
+    -- each may be added
+    pub may_add : (w : Parts) → IsRunnable s → length w.types ≡ length s.types
+        → length w.resources ≡ length s.resources → EachIs (MayBeAdded m w (places_of s)) xs
+    may_add w runnable types resources i x here =
+        let found = found_there (IsRunnableSystem s) xs s.systems i x same runnable.systems here in
+        let spec = found.0 in
+        let is = each i x here spec found.1 in
+        let placed : (place : Place) → slice_get (places_of s) i ≡ Some place → spec.place ≡ place =
+        λ place sp. same_Some _ _ (sym (slice_get-map (λ (y : SystemSpec). y.place) s.systems i
+        ∙ ap (option_map (λ y. y.place)) found.1) ∙ sp) in
+        record {
+          new = rw is (record { writer = refl; places = λ t. refl });
+          fits = λ place sp p needed. rw (types, resources) (found.2.fits p (rw (is, ← placed place sp) at needed));
+          joins = λ place sp. rw (placed place sp) at found.2.joins;
+        }
 
-  -- none reads and writes one part
-  pub no_clash : (s : Scenario) (xs : List S) (i : ℕ) → IsRunnable s → length xs ≡ length s.systems
-      → EachIs (IsSystemAt m s.systems) xs → IsLowestClash m xs i → ⊥
-  no_clash s xs i runnable same each lowest =
-      let x = lowest.system in
-      let found = there_too xs s.systems i x same lowest.is in
-      let spec = found.0 in
-      let fine : IsRunnableSystem s spec = all_at (IsRunnableSystem s) s.systems i spec runnable.systems found.1 in
-      fine.no_clash
-      (lowest.clash.0, rw (each i x lowest.is spec found.1) at lowest.clash.1)
-
--- no system is on a cycle of rules
-pub no_cycle : (s : Scenario) (rules : List Rule) (i : ℕ) → IsRunnable s → rules ≡ s.rules
-    → IsLowestOnCycle (edges_of rules) i → ⊥
-no_cycle s rules i runnable same lowest = (rw (← same) at runnable.acyclic) i lowest.on_cycle
+    -- none reads and writes one part
+    pub no_clash : (i : ℕ) → IsRunnable s → IsLowestClash m xs i → ⊥
+    no_clash i runnable lowest =
+        let x = lowest.system in
+        let found = found_there (IsRunnableSystem s) xs s.systems i x same runnable.systems lowest.is in
+        found.2.no_clash (lowest.clash.0, rw (each i x lowest.is found.0 found.1) at lowest.clash.1)

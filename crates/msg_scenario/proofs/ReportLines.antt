@@ -1,5 +1,5 @@
 -- A text that is made piece by piece.
-use Rattle.std.proofs.Common.{◌≡◌, ◌⊎◌, inl, inr, ℕ, ◌+◌, ◌<◌, ◌≤◌, List, [], ◌∷◌, ◌++◌, length, get_or, take, refl, append-nil, Option, None, arith, flat_map, zip}
+use Rattle.std.proofs.Common.{◌≡◌, ◌⊎◌, inl, inr, ℕ, ◌+◌, ◌<◌, List, [], ◌∷◌, ◌++◌, length, get_or, take, refl, append-nil, Option, None, arith, flat_map, zip}
 use Rattle.std.specs.{List.enumerate_from, declared.iter.Zip.Zip, declared.slice.Iter.Iter, Borrow.Bor, Iterator.Adapters.zip_first, Iterator.Adapters.zip_second, Slice.Iter.iter_rest}
 use Rattle.std.proofs.lemmas.{List.flat_map_more, List.take_more, Fn.fronts, Iterator.zips, Slice.Zip.either_empty_from_Zip, List.FromFn.length-enumerate_from, List.FromFn.get_or-enumerate_from}
 
@@ -22,10 +22,9 @@ numbered_more piece n xs i number x before now next made added at lt =
 -- ---- a loop over two lists side by side
 
 module _ {A B : Type 0} where
-  -- no more is left of the two than these lists have
-  abbrev pub LeftWithin : Zip (Iter A) (Iter B) → List A → List B → Type 0
-  LeftWithin both xs ys =
-      (length (iter_rest (zip_first both)) ≤ length xs) × (length (iter_rest (zip_second both)) ≤ length ys)
+  pub zip-nil : (ks : List A) → zip {X = B} ks [] ≡ []
+  zip-nil [] = refl
+  zip-nil (k ∷ ks) = refl
 
 module _ {A B : Type 0} (piece : A × B → List ℕ) where
   -- the pieces that are left
@@ -38,10 +37,6 @@ module _ {A B : Type 0} (piece : A × B → List ℕ) where
   no_pair_left both both' next now all is step made =
       rw (empty (either_empty_from_Zip both both' next is step), append-nil) at made
     where
-      zip-nil : (ks : List A) → zip {X = B} ks [] ≡ []
-      zip-nil [] = refl
-      zip-nil (k ∷ ks) = refl
-
       empty : (iter_rest (zip_first both) ≡ []) ⊎ (iter_rest (zip_second both) ≡ []) → pieces_left both ≡ []
       empty (inl h) = rw h refl
       empty (inr h) = rw (h, zip-nil) refl

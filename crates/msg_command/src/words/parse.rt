@@ -46,7 +46,7 @@ fn action_of(alloc: Global, matches: &ArgMatches<'_>) -> Result<Action, WordFaul
     Err(WordFault::Bad)
 }
 
-#[tactic(auto, using(crate::proofs::RowValues::first_value_rows, crate::proofs::RowValues::no_value_rows))]
+#[tactic(auto, using(crate::proofs::RowValues::row_value))]
 fn file_of(alloc: Global, inner: &ArgMatches<'_>) -> Result<String, WordFault>
     ensures text { IfOk result (λ file.
         first_of (codes "FILE") (rows_of (found_of inner.now)) ≡ Some (string_bytes file)) }
@@ -63,7 +63,7 @@ fn file_of(alloc: Global, inner: &ArgMatches<'_>) -> Result<String, WordFault>
     }
 }
 
-#[tactic(auto, using(crate::proofs::RowValues::first_value_rows, crate::proofs::RowValues::no_value_rows))]
+#[tactic(auto, using(crate::proofs::RowValues::row_value))]
 fn workers_of(inner: &ArgMatches<'_>) -> Result<u32, WordFault>
     ensures number { IfOk result (λ n. workers_asked (rows_of (found_of inner.now)) ≡ Some n) }
     ensures some { IfOk result (λ n. 0 < n) }

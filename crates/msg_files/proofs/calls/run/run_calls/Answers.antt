@@ -1,8 +1,6 @@
-use Rattle.std.proofs.lemmas.Grind.{common_steps}
-use Rattle.std.proofs.Common.{arith, ◌∙◌}
-use Rattle.std.specs.Io.KnownBytes.{Appends}
-use Rattle.msg_files.specs.Prelude.{AppendsPrefix}
-use Rattle.msg_files.proofs.{Puts.on_err, Puts.on_err_then, Puts.on_ok_then, Running.AppendsPrefix_whole, Running.OnTheWay_ends, Running.OnTheWay_fails, Running.OnTheWay_more, Running.OnTheWay_stops}
+use Rattle.std.proofs.lemmas.{Grind.common_steps, Result.on_err_weaker, Result.on_ok_weaker}
+use Rattle.std.proofs.Common.{arith, [], sym, append-nil, ◌∙◌}
+use Rattle.msg_files.proofs.{Puts.on_err, Running.OnTheWay_ends, Running.OnTheWay_fails, Running.OnTheWay_more, Running.OnTheWay_stops}
 use Rattle.msg_files.proofs.calls.run.run_calls.Goals as goal
 
 pub returns-in_err-put_text-in-Err-clause-prefix : goal.returns-in_err-put_text-in-Err-clause-prefix
@@ -14,7 +12,7 @@ returns-in_err-put_text-in-Err-clause-prefix g c =
 pub returns-in-Err-clause-prefix : goal.returns-in-Err-clause-prefix
 returns-in-Err-clause-prefix g c =
     OnTheWay_stops _ _ _ _ _ _ _ _ c.loop-call.invariant.0
-    (AppendsPrefix_whole _ _ _ (rw (← c.as_slice-in-Err.ensures.value) c.in_ok-put_text-in-Err.ensures.ok))
+    (_, [], sym (append-nil _), rw c.as_slice-in-Err.ensures.value at c.in_ok-put_text-in-Err.ensures.ok)
 
 pub returns-in_err-gather-in-Ok-clause-prefix : goal.returns-in_err-gather-in-Ok-clause-prefix
 returns-in_err-gather-in-Ok-clause-prefix g c =
@@ -34,16 +32,10 @@ loop-call-preserved g c = (
 
 pub returns-clause-ok : goal.returns-clause-ok
 returns-clause-ok g c =
-    on_ok_then c.put_text-2.result
-    (Appends (g.S.Sink.contents c.loop-call.sink) (g.S.Sink.contents c.put_text-2.new.sink) c.as_slice-2.result.now) _
-    (λ h. OnTheWay_ends _ _ _ _ _ _ _ _ _ c.loop-call.invariant.0 c.loop-call-test.false
-    (rw c.as_slice-2.ensures.value at h))
-    c.put_text-2.ensures.ok
+    on_ok_weaker _ (OnTheWay_ends _ _ _ _ _ _ _ _ _ c.loop-call.invariant.0 c.loop-call-test.false)
+    (rw c.as_slice-2.ensures.value at c.put_text-2.ensures.ok)
 
 pub returns-clause-prefix : goal.returns-clause-prefix
 returns-clause-prefix g c =
-    on_err_then c.put_text-2.result
-    (AppendsPrefix (g.S.Sink.contents c.loop-call.sink)
-    (g.S.Sink.contents c.put_text-2.new.sink) c.as_slice-2.result.now) _
-    (λ h. OnTheWay_stops _ _ _ _ _ _ _ _ c.loop-call.invariant.0 (rw c.as_slice-2.ensures.value at h))
-    c.put_text-2.ensures.prefix
+    on_err_weaker _ (OnTheWay_stops _ _ _ _ _ _ _ _ c.loop-call.invariant.0)
+    (rw c.as_slice-2.ensures.value at c.put_text-2.ensures.prefix)

@@ -1,19 +1,27 @@
-use Rattle.std.proofs.Common.{rules, Err, ap, arith, inl, inr, length, refl, sym, ◌∙◌}
-use Rattle.std.proofs.lemmas.Result.{err_from_is_err_and}
+use Rattle.std.proofs.Common.{rules, [], Err, ap, arith, inl, inr, length, refl, sym, ◌∙◌}
+use Rattle.std.proofs.lemmas.Result.{err_from_is_err_and, on_err_weaker, on_ok_weaker}
 use Rattle.msg_reading.specs.Prelude.{state_of}
-use Rattle.msg_files.proofs.Puts.{of_err, on_err_then, on_ok_then}
-use Rattle.msg_scenario.proofs.Reporting.{accounts_out, out_printed, readers_put, readers_stopped, report_begun, stopped_before_all, stopped_printed}
+use Rattle.std.proofs.KnownBytes.{Appends-nil}
+use Rattle.msg_scenario.proofs.{ReportLines.zip-nil, Reporting.accounts_out, Reporting.out_printed, Reporting.readers_put, Reporting.readers_stopped, Reporting.stopped_before_all, Reporting.stopped_printed}
 use Rattle.msg_scenario.proofs.reports.run.report.Goals as goal
 
 pub loop-reported-init : goal.loop-reported-init
 loop-reported-init g c = record {
-  so_far = report_begun _ _ _ _ c.requires.engine;
+  so_far = record {
+    logs = [];
+    state = state_of c.args.scenario.now;
+    as_many = refl;
+    is_run = refl;
+    frames = refl;
+    types = refl;
+    printed = rw (zip-nil c.args.scenario.now.frames) (Appends-nil _);
+    stands = c.requires.engine;
+  };
   failures = refl;
 }
 
 pub returns-in_default-clause-stopped : goal.returns-in_default-clause-stopped
-returns-in_default-clause-stopped g c cause =
-    stopped_before_all _ _ _ _ c.requires.engine
+returns-in_default-clause-stopped g c cause = stopped_before_all _ _ _ _ c.requires.engine
 
 pub returns-in_default-clause-prefix : goal.returns-in_default-clause-prefix
 returns-in_default-clause-prefix g c =
@@ -33,14 +41,12 @@ returns-in_err-report_frame-clause-run g c same =
 pub returns-in_err-report_frame-clause-stopped : goal.returns-in_err-report_frame-clause-stopped
 returns-in_err-report_frame-clause-stopped g c cause =
     let passed = err_from_is_err_and c.from_residual.result c.from_residual.ensures.1 in
-    c.in_err-report_frame.ensures.stopped
-    (rw (passed.1 ∙ ap Err passed.2) at cause)
-    _ c.loop-reported.invariant.so_far
+    c.in_err-report_frame.ensures.stopped (rw (passed.1 ∙ ap Err passed.2) at cause) _ c.loop-reported.invariant.so_far
 
 pub returns-in-Ok-accounts-clause-ok : goal.returns-in-Ok-accounts-clause-ok
 returns-in-Ok-accounts-clause-ok g c =
-    on_ok_then c.put_accounts.result _ _
-    (readers_put _ _ _ _ _ _ _ c.as_slice-in-Ok-accounts.result.now c.loop-reported.invariant.so_far
+    on_ok_weaker c.put_accounts.result
+    (readers_put _ _ _ _ _ _ c.loop-reported.invariant.so_far _ c.as_slice-in-Ok-accounts.result.now
     (omega (arith, ap length c.as_slice-reported-end.ensures.items))
     (λ u stands. c.as_slice-in-Ok-accounts.ensures.value ∙ c.in-Ok-accounts.ensures.accounts u stands)
     (c.has_one_run.ensures.complete (state_of c.args.scenario.now) c.requires.engine))
@@ -48,27 +54,25 @@ returns-in-Ok-accounts-clause-ok g c =
 
 pub returns-in-Ok-accounts-clause-stopped : goal.returns-in-Ok-accounts-clause-stopped
 returns-in-Ok-accounts-clause-stopped g c cause =
-    readers_stopped _ _ _ _ _ _ _ c.as_slice-in-Ok-accounts.result.now c.loop-reported.invariant.so_far
+    readers_stopped _ _ _ _ _ _ c.loop-reported.invariant.so_far _ c.as_slice-in-Ok-accounts.result.now
     (omega (arith, ap length c.as_slice-reported-end.ensures.items))
     (λ u stands. c.as_slice-in-Ok-accounts.ensures.value ∙ c.in-Ok-accounts.ensures.accounts u stands)
     (elim cause [
-      | inl write ↦ of_err c.put_accounts.result _ _ write c.put_accounts.ensures.prefix
-      | inr memory ↦ of_err c.put_accounts.result _ _ memory c.put_accounts.ensures.prefix
+      | inl write ↦ rw write at c.put_accounts.ensures.prefix
+      | inr memory ↦ rw memory at c.put_accounts.ensures.prefix
     ])
 
 pub returns-in-Ok-accounts-clause-prefix : goal.returns-in-Ok-accounts-clause-prefix
 returns-in-Ok-accounts-clause-prefix g c =
-    on_err_then c.put_accounts.result _ _
-    (λ prefix. stopped_printed _ _ _ _ _
-    (readers_stopped _ _ _ _ _ _ _ c.as_slice-in-Ok-accounts.result.now c.loop-reported.invariant.so_far
-    (omega (arith, ap length c.as_slice-reported-end.ensures.items))
+    on_err_weaker c.put_accounts.result
+    (λ prefix. stopped_printed _ _ _ _ _ (readers_stopped _ _ _ _ _ _ c.loop-reported.invariant.so_far _
+    c.as_slice-in-Ok-accounts.result.now (omega (arith, ap length c.as_slice-reported-end.ensures.items))
     (λ u stands. c.as_slice-in-Ok-accounts.ensures.value ∙ c.in-Ok-accounts.ensures.accounts u stands) prefix))
     c.put_accounts.ensures.prefix
 
 pub returns-clause-prefix : goal.returns-clause-prefix
 returns-clause-prefix g c =
-    out_printed _ _ _ _ _
-    (accounts_out _ _ _ _ _ _ c.loop-reported.invariant.so_far
+    out_printed _ _ _ _ _ (accounts_out _ _ _ _ _ _ c.loop-reported.invariant.so_far
     (omega (arith, ap length c.as_slice-reported-end.ensures.items)))
 
 pub returns-clause-run : goal.returns-clause-run
