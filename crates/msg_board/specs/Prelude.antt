@@ -1,4 +1,4 @@
--- Hands on the definitions that are cited elsewhere. The declared types serve this crate's proofs alone.
+-- Hands on the definitions cited elsewhere. The declared types serve this crate's proofs alone.
 pub use Rattle.msg_board.specs.Board.{BoardView, HasEnded, IsIdle, IsLawfulOutcome, IsNew, IsOf, jobs_of, passes_of}
 pub use Rattle.msg_board.specs.Counts.{HoldsEachOnce, is_held, times}
 pub use Rattle.msg_board.specs.Law.{Drawing, DrawsJob, HandingIn, Holds, IsHeldAlone, IsSlotOf, IsViewOf, draws_at, freed, holders_at, one_of, spent, taken, tried, united, whole, without_one}

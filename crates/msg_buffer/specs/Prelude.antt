@@ -1,4 +1,4 @@
--- Hands on the definitions that are cited elsewhere. The declared types serve this crate's proofs alone.
+-- Hands on the definitions cited elsewhere. The declared types serve this crate's proofs alone.
 pub use Rattle.msg_buffer.specs.History.{Entry, GoesOn, HasRisingStamps, History, IsPresent, IsSound, OnlyGrows, OutliveOneUpdate, clear, count, current, empty, get, has_room, instance_of, instances, is_current, is_present, message_of, numbered, oldest, present, stamped, update, write}
 pub use Rattle.msg_buffer.specs.Kept.{HasNumbersFrom, Kept, get_from, kept_count, kept_instances}
 pub use Rattle.msg_buffer.specs.Reader.{Fits, Stretch, Tile, at_most, first, given, missed, next_place, pass_over, read, unread}

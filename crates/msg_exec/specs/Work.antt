@@ -1,4 +1,4 @@
--- Which jobs may be run, what holds of those that were drawn, and that the gate was passed for them.
+-- Which jobs may be run, what holds of those drawn, and that the gate was passed for them.
 use Rattle.std.specs.Prelude.{◌≡◌, ◌<◌, ℕ, All, List, Contains, Some, length, min, slice_get, ◌⊎◌}
 
 module _ {J : Type 0} where

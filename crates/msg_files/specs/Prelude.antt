@@ -1,4 +1,4 @@
--- Hands on the definitions that are cited elsewhere. The declared types serve this crate's proofs alone.
+-- Hands on the definitions cited elsewhere. The declared types serve this crate's proofs alone.
 pub use Rattle.msg_files.specs.CallsText.{State, after, calls_text, item_text, items_text, line, more_items, text_of, value_text, written_text}
 pub use Rattle.msg_files.specs.Check.{Check, first_refusal, needs}
 pub use Rattle.msg_files.specs.Checks.{a_cursor, a_limit, a_message_number, a_number, a_value, bare_checks, batch_checks, call_checks, calls_checks, checks_in, checks_of, checks_with, checks_with_one, checks_with_two, few_values, has_key, list_checks, object_checks}

@@ -1,4 +1,4 @@
--- Hands on the definitions that are cited elsewhere. The declared types serve this crate's proofs alone.
+-- Hands on the definitions cited elsewhere. The declared types serve this crate's proofs alone.
 pub use Rattle.msg_frames.specs.Accounts.{AddsUp, account_of, accounts_of, accounts_of_system, is_reader}
 pub use Rattle.msg_frames.specs.CompleteRun.{IsCompleteRun, IsGivenOnce, IsInOrderOf, IsServed, Meets, MeetsOneFate, found_totals, is_by, message_numbered, messages_given}
 pub use Rattle.msg_frames.specs.Entries.{Entry, Fate, answers, cleared, entries_for, entries_told, entry_for, entry_of, entry_of_read, given, missed, no_totals, numbers_at, numbers_of, numbers_passed, ops_by, outcome_entries, totals_from, with_entries}

@@ -1,4 +1,4 @@
--- Hands on the definitions that are cited elsewhere. The declared types serve this crate's proofs alone.
+-- Hands on the definitions cited elsewhere. The declared types serve this crate's proofs alone.
 pub use Rattle.msg_order.specs.Graph.{Graph, IsAcyclic, IsBatchNumber, IsChain, IsEdge, IsLowestOnCycle, Path}
 pub use Rattle.msg_order.specs.Laws.{BatchNumbersRise, BatchesAreUnique, BatchesExist, ConflictingSystemsAreOrdered, FewerSystemsMakeNoCycle, LawfulOrdersKeepPaths, SettledOrderExists, SettledOrderIsUnique, SettlingMakesNoCycle, TurnOrderExists, TurnOrderIsLawful, TurnOrderIsUnique}
 pub use Rattle.msg_order.specs.Order.{AreBatches, AreInConflict, GainsEdge, IsAmong, IsLawfulOrder, IsSettledOrder, IsTurnOrder, NameSystemsBelow, RunsBefore, Settles, StandsBefore, access_of, batch_at, edges_of, has_joined, pairs, rules_among}

@@ -1,4 +1,4 @@
--- Hands on the definitions that are cited elsewhere. The declared types serve this crate's proofs alone.
+-- Hands on the definitions cited elsewhere. The declared types serve this crate's proofs alone.
 pub use Rattle.msg_reading.specs.Names.{Declared, is_name, is_name_character, position_of, resource_number, system_number, type_number}
 pub use Rattle.msg_reading.specs.Reading.{IsClashing, IsLowestClash, IsReadAs, IsRefusedFor, IsUnfit}
 pub use Rattle.msg_reading.specs.Runnable.{FitKind, IsRunnable, IsRunnableSystem, PostsAreToTypes, first_world, meanings_of, places_of, state_of}

@@ -1,4 +1,4 @@
--- Hands on the definitions that are cited elsewhere. The declared types serve this crate's proofs alone.
+-- Hands on the definitions cited elsewhere. The declared types serve this crate's proofs alone.
 pub use Rattle.msg_system.specs.Behaviors.{behaves, brought}
 pub use Rattle.msg_system.specs.Conditions.{AfterJob, Asked, Job, after_asking, after_job, all_hold, answer, asked_started, conditions_of, found, inverted, new_asked, place_after}
 pub use Rattle.msg_system.specs.Footprints.{Agree, ConditionFootprint, HasFootprint, IsWithin, JobFootprint, OpFootprint, ProgramFootprint, TurnFootprint, given_by_job, given_by_op, given_by_program}

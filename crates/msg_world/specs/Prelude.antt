@@ -1,4 +1,4 @@
--- Hands on the definitions that are cited elsewhere. The declared types serve this crate's proofs alone.
+-- Hands on the definitions cited elsewhere. The declared types serve this crate's proofs alone.
 pub use Rattle.msg_world.specs.Access.{Conflict, Fits, HasPart, IsClash, OfResource, OfType, Overlap, Part, Registry, has_bit, no_access, reads, same_part, uses, writes}
 pub use Rattle.msg_world.specs.Lending.{with_value}
 pub use Rattle.msg_world.specs.Loan.{IsComplete, IsLoanOf, LoanStands, SameLoan, access_of, shown, taken_of, with_messages, with_resource, writable}
