@@ -10,16 +10,16 @@ health_after health replies = sum_onto health (brought (slice_get replies 0))
 
 -- A fighter reads its blows where it hasn't fallen, and then deals one, or says that it fell. A
 -- referee adds up the falls.
-abbrev pub next_op : Role → List Reply → Option Op
-next_op (Fighter f) replies =
+abbrev pub next_deed : Role → List Reply → Option Op
+next_deed (Fighter f) replies =
     if length replies == 0 then (if int_lt (pos 0) f.health then Some (Read f.blows None) else None)
     else if length replies == 1 then
     (if int_lt (pos 0) (health_after f.health replies) then Some (Write f.rival BLOW)
     else Some (Write f.falls (pos 1)))
     else None
-next_op (Referee falls fallen) replies = if length replies == 0
+next_deed (Referee falls fallen) replies = if length replies == 0
     then Some (Sum falls fallen) else None
 
-abbrev pub remembered : Role → List Reply → Role
-remembered (Fighter f) replies = Fighter (record f { health = health_after f.health replies })
-remembered (Referee falls fallen) replies = Referee falls fallen
+abbrev pub role_after : Role → List Reply → Role
+role_after (Fighter f) replies = Fighter (record f { health = health_after f.health replies })
+role_after (Referee falls fallen) replies = Referee falls fallen

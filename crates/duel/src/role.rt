@@ -40,15 +40,15 @@ impl Role {
 }
 
 impl Behavior for Role {
-    ghost use Rattle.duel.specs.{declared.role.Role.Role, Roles.next_op, Roles.remembered};
+    ghost use Rattle.duel.specs.{declared.role.Role.Role, Roles.next_deed, Roles.role_after};
 
     ghost Memory = { Role };
 
     ghost memory = { λ r. r };
 
-    ghost next_op = { next_op };
+    ghost next_op = { next_deed };
 
-    ghost remembered = { remembered };
+    ghost remembered = { role_after };
 
     fn next(&self, _alloc: Global, replies: &[Reply]) -> Result<Option<Op>, NoMemory> {
         Ok(match (self, replies.len()) {

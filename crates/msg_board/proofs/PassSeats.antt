@@ -6,7 +6,7 @@ use mathlib.Core.Option.{some}
 use lib.ListN.{get_elem?}
 use Rattle.atomic_table.specs.{declared.shared.Seat.Seat, Table.Me}
 use Rattle.msg_board.specs.Prelude.{BoardView, Done, Drew, Empty, HandedIn, HasEnded, Inside, Job, PassState, Slot, View, drawn_by, freed, handed_in, is_held, taken, times, united}
-use Rattle.msg_board.specs.{inner.Closing.IsGathered, inner.Seats.IsSeatOf, inner.Sound.state_of, inner.Sound.IsSound}
+use Rattle.msg_board.specs.{inner.Closing.IsGathered, inner.Seats.IsSeatOf, inner.SoundPasses.pass_state, inner.SoundPasses.IsSoundPass}
 use Rattle.msg_board.proofs.{TableLists.got, Sums.times-append}
 
 -- below the number that is held, all was handed in
@@ -27,7 +27,7 @@ handed_in-idle p idle = rw idle (filter_true p.drawn)
 
 module _ {J D : Type 0} where
   -- A pass drew its next number: `drawn` is its seat after the step, and `seat` after it took the job out of the slot
-  module _ (p : Inside J D) (drawn seat : Seat (Slot J D) (View J)) (j : J) (sound : IsSound p)
+  module _ (p : Inside J D) (drawn seat : Seat (Slot J D) (View J)) (j : J) (sound : IsSoundPass p)
       (told : drawn.me ≡ (taken p.next p.seat.me.0, (p.next, Job j) ∷ []))
       (took : seat.me ≡ (drawn.me.0, (p.next, Empty) ∷ [])) where
     -- its fields
@@ -35,7 +35,7 @@ module _ {J D : Type 0} where
     drew_pass = record { seat = seat; next = p.next + 1; held = Some p.next; finished = p.finished }
 
     -- it is sound
-    pub drew_sound : p.next < length p.seat.me.0.jobs → IsSound drew_pass
+    pub drew_sound : p.next < length p.seat.me.0.jobs → IsSoundPass drew_pass
     drew_sound more =
         let seat_was = sound.seat in let order = sound.order in
         let drawn_below = All-push (λ n. n < p.next + 1) p.seat.me.0.drawn p.next
@@ -44,32 +44,32 @@ module _ {J D : Type 0} where
         grind (arith, told, took, drawn_below)
 
     -- and this is what it drew, of the state that callers see
-    pub drew_said : (before : PassState J) (jobs : List J) (job : J) → state_of p ≡ before → before.jobs ≡ jobs
+    pub drew_said : (before : PassState J) (jobs : List J) (job : J) → pass_state p ≡ before → before.jobs ≡ jobs
         → before.tried < length jobs → get_elem? p.seat.me.0.jobs p.next ≡ some j
-        → drawn.me.1 ≡ (p.next, Job job) ∷ [] → Drew jobs before (state_of drew_pass) before.tried job
+        → drawn.me.1 ≡ (p.next, Job job) ∷ [] → Drew jobs before (pass_state drew_pass) before.tried job
     drew_said before jobs job is own more at was =
         grind (arith, told, took, was, sound.order, false_from_ne_true, got p.seat.me.0.jobs p.next j at)
 
   -- A pass handed in what it held: `full` is its seat after it put the result into the slot, and `seat` after the step
-  module _ (p : Inside J D) (full seat : Seat (Slot J D) (View J)) (k : ℕ) (d : D) (sound : IsSound p)
+  module _ (p : Inside J D) (full seat : Seat (Slot J D) (View J)) (k : ℕ) (d : D) (sound : IsSoundPass p)
       (put : full.me ≡ (p.seat.me.0, (k, Done d) ∷ [])) (told : seat.me ≡ (freed full.me.0, [])) where
     -- its fields
     abbrev handed_pass : Inside J D
     handed_pass = record { seat = seat; next = p.next; held = None; finished = p.finished }
 
     -- it is sound
-    pub handed_sound : IsSound handed_pass
+    pub handed_sound : IsSoundPass handed_pass
     handed_sound = grind (arith, put, told, sound.seat, sound.order)
 
     -- and this is what the hand-in did, of the state that callers see
-    pub handed_said : (before : PassState J) → state_of p ≡ before → before.holding ≡ Some k
-        → HandedIn before (state_of handed_pass) k
+    pub handed_said : (before : PassState J) → pass_state p ≡ before → before.holding ≡ Some k
+        → HandedIn before (pass_state handed_pass) k
     handed_said before is has =
         let last = sound.order.last k (ap (λ q. q.holding) is ∙ has) in
-        grind (arith, put, told, last, handed_in_below last.0 k last.2, handed_in-idle (state_of handed_pass))
+        grind (arith, put, told, last, handed_in_below last.0 k last.2, handed_in-idle (pass_state handed_pass))
 
 -- a pass holds a number below the number of jobs
-pub held_within : {J D : Type 0} (p : Inside J D) (k : ℕ) → IsSound p → p.held ≡ Some k
+pub held_within : {J D : Type 0} (p : Inside J D) (k : ℕ) → IsSoundPass p → p.held ≡ Some k
     → k < length p.seat.me.0.jobs
 held_within p k sound has =
     let last = sound.order.last k has in
@@ -77,7 +77,7 @@ held_within p k sound has =
     grind (arith, sound.order.within, below)
 
 -- a pass that has a number left to try isn't finished
-pub unfinished_more : {J D : Type 0} (p : Inside J D) → p.next < length p.seat.me.0.jobs → IsSound p
+pub unfinished_more : {J D : Type 0} (p : Inside J D) → p.next < length p.seat.me.0.jobs → IsSoundPass p
     → p.finished ≡ false
 unfinished_more p more sound = grind (arith, false_from_ne_true, sound.order.all_tried)
 

@@ -7,7 +7,7 @@ use mathlib.Core.Option as maybe
 use lib.ListN.{get_elem?, length-map}
 use Rattle.atomic_table.specs.{declared.shared.Seat.Seat, Table.State, Table.Me, Table.step, Table.keeps, Table.takes, Table.gives, Table.Allows, Table.Splits, Table.Joins, Table.Final, Table.Seen, Table.opening}
 use Rattle.atomic_table.proofs.Lists.{set_here, set_else, at_map}
-use Rattle.msg_board.specs.Prelude.{BoardView, Done, Drawing, HandingIn, Holds, HoldsEachOnce, IsHeldAlone, IsSlotOf, IsViewOf, Job, PassState, Slot, View, draws_at, drawn_by, freed, holders_at, is_held, jobs_of, one_of, passes_of, spent, taken, times, tried, united, whole, without_one}
+use Rattle.msg_board.specs.Prelude.{BoardView, Done, Drawing, HandingIn, Holds, HoldsEachOnce, IsHeldAlone, IsSlotOf, IsViewOf, Job, PassState, Slot, View, draws_at, drawn_by, freed, holders_at, is_held, jobs_of, one_of, passes_of, spent, taken, times, tried, united, whole_view, without_one}
 use Rattle.msg_board.specs.inner.Closing.{IsGathered}
 use Rattle.msg_board.proofs.{TableLists.there, TableLists.read_at, TableLists.changed, TableLists.joined, Sums.sum_by-set_at, Sums.term_le, Sums.terms_le, Sums.sole, Sums.one_if, Sums.times-append, Sums.times_push}
 
@@ -201,7 +201,7 @@ module _ {J D : Type 0} (lawful : J → D → Type 0) (jobs : List J) (passes : 
   -- the table at the start, with words of 0 and the jobs in its slots
   pub starts : (ws : List ℕ) (xs : List (Slot J D)) → length ws ≡ length jobs + 1
       → ((k : ℕ) → get_or ws k 0 ≡ 0) → xs ≡ map Job jobs → 0 < passes
-      → Lawful (opening ws xs (whole jobs passes))
+      → Lawful (opening ws xs (whole_view jobs passes))
   starts ws xs wide zeros is some-pass = record {
     words = wide;
     slots = length-map xs some ∙ (ap length is ∙ length-map jobs Job);
@@ -210,7 +210,7 @@ module _ {J D : Type 0} (lawful : J → D → Type 0) (jobs : List J) (passes : 
     each_slot = λ k j at.
         let home = at_map {B = maybe.Option (Slot J D)} some xs k (Job j) in
         grind (arith, zeros k, home, at_map {B = Slot J D} Job jobs k j at);
-    each_view = joined (λ _. IsViewOf jobs ws) [] (whole jobs passes) (grind arith)
+    each_view = joined (λ _. IsViewOf jobs ws) [] (whole_view jobs passes) (grind arith)
         (λ k u at. absurd (some-ne-none u (sym at)));
     held = λ k. sym (ap holders_at (zeros k));
     drawn = λ k. sym (ap draws_at (zeros k));

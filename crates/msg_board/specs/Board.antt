@@ -25,7 +25,7 @@ module _ {J : Type 0} where
     pub jobs : p.jobs ≡ jobs_of b
 
   -- the pass is one of this board's, and has done nothing yet
-  pub record IsNew (b : BoardView J) (p : PassState J) : Type 0 where
+  pub record IsNewPass (b : BoardView J) (p : PassState J) : Type 0 where
     pub own : IsOf b p
     pub tried : p.tried ≡ 0
     pub drawn : p.drawn ≡ []

@@ -92,8 +92,9 @@ module _ {J D : Type 0} where
 
 module _ {J : Type 0} where
   -- the first seat's, as the table is made: it stands for all passes, and has done nothing
-  abbrev pub whole : List J → ℕ → View J
-  whole jobs passes = record { jobs = jobs; weight = passes; next = 0; drawn = []; held = None }
+  abbrev pub whole_view : List J → ℕ → View J
+  whole_view jobs passes =
+    record { jobs = jobs; weight = passes; next = 0; drawn = []; held = None }
 
   -- what the first seat keeps as it gives one pass away
   abbrev pub without_one : View J → View J
@@ -101,7 +102,7 @@ module _ {J : Type 0} where
 
   -- what it gives away: a view of the same jobs, which stands for one pass
   abbrev pub one_of : View J → View J
-  one_of v = whole v.jobs 1
+  one_of v = whole_view v.jobs 1
 
   -- a pass found its next word above 0
   abbrev pub tried : View J → View J
@@ -121,7 +122,7 @@ module _ {J : Type 0} where
 
   -- what is left of a view that another seat took in
   abbrev pub spent : View J
-  spent = whole [] 0
+  spent = whole_view [] 0
 
 -- The steps of a pass, between its seat before and its seat after
 

@@ -1,4 +1,4 @@
 -- What only private functions cite.
 pub mod Closing
 pub mod Seats
-pub mod Sound
+pub mod SoundPasses

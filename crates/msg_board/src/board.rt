@@ -1,6 +1,6 @@
 //! The board: its jobs, and how its passes draw them.
 ghost use Rattle.std.specs.Prelude.{◌≡◌, ◌+◌, ◌<◌, ◌≤◌, [], length, slice_get, All, false, IfOk, IfSome, IfNone, IsNone, IsTrue, None, OnErr, Some};
-ghost use Rattle.msg_board.specs.Prelude.{Drew, DrewNone, HandedIn, HoldsEachOnce, drawn_by, handed_in_by, whole};
+ghost use Rattle.msg_board.specs.Prelude.{Drew, DrewNone, HandedIn, HoldsEachOnce, drawn_by, handed_in_by, whole_view};
 
 use crate::NoMemory;
 use crate::law::{Deal, Divide, Draw, HandIn, Law, Slot, Unite, View};
@@ -30,7 +30,7 @@ pub struct Board<W: Work, A: Allocator = Global> {
 }
 
 impl<W: Work, A: Allocator> Model for Board<W, A> {
-    ghost use Rattle.msg_board.specs.{Board.BoardView, inner.Sound.IsBoard, inner.Sound.board_of};
+    ghost use Rattle.msg_board.specs.{Board.BoardView, inner.SoundPasses.IsBoard, inner.SoundPasses.board_of};
 
     ghost Value = { BoardView W.Job };
 
@@ -40,7 +40,7 @@ impl<W: Work, A: Allocator> Model for Board<W, A> {
 }
 
 impl<W: Work, A: Allocator + Copy> Board<W, A> {
-    ghost use Rattle.msg_board.specs.Board.{jobs_of, passes_of, IsNew};
+    ghost use Rattle.msg_board.specs.Board.{jobs_of, passes_of, IsNewPass};
 
     /// A board with these jobs, and its passes. Where there is no memory, the jobs are dropped.
     pub fn new(
@@ -53,7 +53,7 @@ impl<W: Work, A: Allocator + Copy> Board<W, A> {
         ensures jobs { IfOk result (λ made. jobs_of made.0 ≡ jobs.items) }
         ensures passes { IfOk result (λ made. passes_of made.0 ≡ passes) }
         ensures as_many { IfOk result (λ made. length made.1.items ≡ passes) }
-        ensures fresh { IfOk result (λ made. All (IsNew made.0) made.1.items) }
+        ensures fresh { IfOk result (λ made. All (IsNewPass made.0) made.1.items) }
     {
         let deal = Deal {
             jobs: Snapshot::of(&jobs),
@@ -77,10 +77,10 @@ impl<W: Work, A: Allocator + Copy> Board<W, A> {
         passes: u32,
     ) -> Result<Vec<Pass<W::Job, W::Done>, A>, NoMemory>
         requires table { seat.table_id ≡ self.now.table }
-        requires view { seat.me ≡ (whole (jobs_of self.now) passes, []) }
+        requires view { seat.me ≡ (whole_view (jobs_of self.now) passes, []) }
         requires some_pass { 0 < passes }
         ensures as_many { IfOk result (λ all. length all.items ≡ passes) }
-        ensures fresh { IfOk result (λ all. All (IsNew self.now) all.items) }
+        ensures fresh { IfOk result (λ all. All (IsNewPass self.now) all.items) }
     {
         let mut all = Vec::with_capacity(alloc, passes as usize)?;
         let mut left = passes;

@@ -42,11 +42,11 @@ pub struct Law<W> {
 
 impl<W: Work, A: Allocator> TableRule<Slot<W::Job, W::Done>, View<W::Job>, Deal<W::Job, A>>
     for Law<W> {
-    ghost use Rattle.msg_board.specs.Law.{Holds, whole};
+    ghost use Rattle.msg_board.specs.Law.{Holds, whole_view};
 
     ghost holds = { λ deal. Holds W.lawful deal.jobs.value.items deal.passes };
 
-    ghost first = { λ deal. whole deal.jobs.value.items deal.passes };
+    ghost first = { λ deal. whole_view deal.jobs.value.items deal.passes };
 }
 
 /// A `fetch_max` with 1 on the pass's next word.

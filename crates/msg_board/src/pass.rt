@@ -1,6 +1,6 @@
 //! A worker's right to draw from one board.
 ghost use Rattle.std.specs.Prelude.{◌≡◌, length, IsTrue, [], None, true, false};
-ghost use Rattle.msg_board.specs.Prelude.{PassState, whole};
+ghost use Rattle.msg_board.specs.Prelude.{PassState, whole_view};
 ghost use Rattle.msg_board.specs.inner.Seats.{IsSeatOf};
 
 use crate::law::{Slot, View};
@@ -21,11 +21,11 @@ impl<J, D> Model for Pass<J, D> {
 
     ghost Value = { PassState J };
 
-    ghost use Rattle.msg_board.specs.inner.Sound.{state_of, IsSound};
+    ghost use Rattle.msg_board.specs.inner.SoundPasses.{pass_state, IsSoundPass};
 
-    ghost view = { state_of };
+    ghost view = { pass_state };
 
-    ghost invariant = { IsSound };
+    ghost invariant = { IsSoundPass };
 }
 
 impl<J, D> Pass<J, D> {
@@ -45,7 +45,7 @@ impl<J, D> Pass<J, D> {
     }
 
     pub(crate) fn new(seat: Seat<Slot<J, D>, View<J>>) -> Pass<J, D>
-        requires view { seat.me.0 ≡ whole seat.me.0.jobs 1 }
+        requires view { seat.me.0 ≡ whole_view seat.me.0.jobs 1 }
         requires nothing_out { seat.me.1 ≡ [] }
         ensures table { result.table ≡ seat.table_id }
         ensures jobs { result.jobs ≡ seat.me.0.jobs }

@@ -2,7 +2,7 @@ pub mod History
 pub mod Kept
 pub mod Prelude
 pub mod Reader
-pub mod Reading
+pub mod ReadCalls
 pub mod Refusals
 pub mod StandsFor
-pub mod Tiling
+pub mod StretchTiling

@@ -33,7 +33,7 @@ impl Model for MessageCursor {
 }
 
 impl MessageCursor {
-    ghost use Rattle.msg_buffer.specs.Reading.{iter_cursor, iter_messages, iter_place, iter_rest};
+    ghost use Rattle.msg_buffer.specs.ReadCalls.{iter_cursor, iter_messages, iter_place, iter_rest};
 
     /// A cursor at a place of the caller's choice.
     pub fn new(place: u64) -> MessageCursor

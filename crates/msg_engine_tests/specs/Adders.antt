@@ -9,13 +9,13 @@ abbrev pub total_after : ℤ → List Reply → ℤ
 total_after total replies = sum_onto total (brought (slice_get replies 0))
 
 -- it reads, and writes its total where anything came
-abbrev pub next_op : Adder → List Reply → Option Op
-next_op a replies =
+abbrev pub next_addition : Adder → List Reply → Option Op
+next_addition a replies =
     if length replies == 0 then Some (Read a.from None)
     else if length replies == 1 then
     (if length (brought (slice_get replies 0)) == 0 then None
     else Some (Write a.to (total_after a.total replies)))
     else None
 
-abbrev pub remembered : Adder → List Reply → Adder
-remembered a replies = record a { total = total_after a.total replies }
+abbrev pub adder_after : Adder → List Reply → Adder
+adder_after a replies = record a { total = total_after a.total replies }

@@ -12,15 +12,15 @@ pub struct Adder {
 }
 
 impl Behavior for Adder {
-    ghost use Rattle.msg_engine_tests.specs.{declared.adders.Adder.Adder, Adders.next_op, Adders.remembered};
+    ghost use Rattle.msg_engine_tests.specs.{declared.adders.Adder.Adder, Adders.next_addition, Adders.adder_after};
 
     ghost Memory = { Adder };
 
     ghost memory = { λ a. a };
 
-    ghost next_op = { next_op };
+    ghost next_op = { next_addition };
 
-    ghost remembered = { remembered };
+    ghost remembered = { adder_after };
 
     fn next(&self, _alloc: Global, replies: &[Reply]) -> Result<Option<Op>, NoMemory> {
         Ok(match replies.len() {

@@ -22,10 +22,10 @@ struct Beacon {
 
 impl System for Beacon {
     ghost use Rattle.msg_system.specs.{declared.op.Op.TheVariants.Write, declared.start.Start.TheVariants.Zero};
-    ghost use Rattle.msg_system.specs.Prelude.{of_program, only, places_of};
+    ghost use Rattle.msg_system.specs.Prelude.{of_program, only, cursor_places};
 
     ghost meaning = { λ b. of_program (only (Write b.to b.value) Zero) b.writer
-        (places_of b.cursors) };
+        (cursor_places b.cursors) };
 
     fn access(&self) -> Access {
         Access::none().with_write_type(self.to)

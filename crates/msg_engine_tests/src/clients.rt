@@ -1,6 +1,6 @@
 //! What a client shows by the engine's clauses alone.
 ghost use Rattle.std.specs.Prelude.{◌≡◌, ◌<◌, ℕ, All, IfOk, IsTrue};
-ghost use Rattle.msg_exec.specs.Prelude.{IsEngine, PostsFit, StandsFor};
+ghost use Rattle.msg_exec.specs.Prelude.{IsEngine, PostsFit, EngineStands};
 ghost use Rattle.msg_frames.specs.Prelude.{Meets, State, has_begun, log_entries};
 ghost use Rattle.msg_frames.specs.Entries.Fate.{given};
 
@@ -21,7 +21,8 @@ pub fn run_both<R: Threads + Sync, S: System>(
 ) -> Result<(Vec<Log>, Vec<Log>), RunFault>
     requires one { IsEngine S.meaning one.old × All (PostsFit one.old) frames.now }
     requires other { IsEngine S.meaning other.old × All (PostsFit other.old) frames.now }
-    requires alike { (s : State) × StandsFor S.meaning one.old s × StandsFor S.meaning other.old s }
+    requires alike { (s : State) × EngineStands S.meaning one.old s
+        × EngineStands S.meaning other.old s }
 
     // However many workers each has, the logs are equal.
     ensures equal { IfOk result (λ logs. logs.0.items ≡ logs.1.items) }
@@ -42,8 +43,8 @@ pub fn run_once<R: Threads + Sync, S: System>(
     workers: Workers,
 ) -> Result<Vec<Log>, RunFault>
     requires engine { IsEngine S.meaning engine.old × All (PostsFit engine.old) frames.now }
-    ensures never_twice { IfOk result (λ logs. (s : State) → StandsFor S.meaning engine.old s
-        → (u : State) × StandsFor S.meaning engine.new u
+    ensures never_twice { IfOk result (λ logs. (s : State) → EngineStands S.meaning engine.old s
+        → (u : State) × EngineStands S.meaning engine.new u
         × ((i t n j k : ℕ) → t < s.types → IsTrue (has_begun u i)
         → Meets (log_entries i t (s.members i).job.system logs.items) n j given
         → Meets (log_entries i t (s.members i).job.system logs.items) n k given → j ≡ k)) }

@@ -9,7 +9,7 @@ use Rattle.msg_system.specs.Prelude.{Job as JobState, Meaning, after_job}
 use Rattle.msg_exec.specs.Prelude.{Done, IsAfterJob, IsDone, Job, Lender, LenderStands, TotalsStand, job_state, system_at}
 use Rattle.msg_frames.specs.declared.log.Turn.{Turn}
 use Rattle.msg_frames.specs.Prelude.{AreAccessesOf, BatchesRunSideBySide, SameSystems, State, after_turns_of, all_home, home, logged_turn, turn_of}
-use Rattle.msg_exec.specs.{inner.Batches.AreDone, inner.Totals.HasFewReplies, inner.Lending.AreOut, inner.Lending.ComesHome, inner.Lending.IsOut, inner.Lending.any_writes}
+use Rattle.msg_exec.specs.{inner.Batches.AreDone, inner.Totals.HasFewReplies, inner.SystemsOut.AreOut, inner.SystemsOut.ComesHome, inner.SystemsOut.IsOut, inner.SystemsOut.any_writes}
 use Rattle.msg_exec.proofs.{BatchGoesOut.has_written, BatchGoesOut.left_stands, SystemAfterTurn.few_replies, SystemAfterTurn.its_own, SystemAfterTurn.of_another, SystemAfterTurn.totals_after, ItemsOfLists.get_other, ItemsOfLists.get_same, ItemsOfLists.some_of, JobsAreDone.none_there, BatchWritesApart.later_write_not, BatchWritesApart.written_is_used, BatchGoesOut.IsBatch, BatchWritesApart.Free, ItemsOfLists.zip_of_each}
 use Rattle.msg_frames.proofs.{SystemsStay.turns_keep_systems, ElementsAndPairs.pairs_head, ElementsAndPairs.pairs_right}
 use Rattle.msg_order.proofs.Elements.{Contains-cases, Contains-head, Contains-tail, not_in_none}

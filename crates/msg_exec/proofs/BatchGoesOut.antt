@@ -7,7 +7,7 @@ use Rattle.msg_order.specs.Prelude.{NoneConflict, access_of}
 use Rattle.msg_system.specs.Prelude.{Meaning}
 use Rattle.msg_exec.specs.Prelude.{EachMay, Job, Lender, LenderStands, MayRun, system_at}
 use Rattle.msg_frames.specs.Prelude.{State}
-use Rattle.msg_exec.specs.inner.Lending.{AreOut, GoesOut, IsOut}
+use Rattle.msg_exec.specs.inner.SystemsOut.{AreOut, GoesOut, IsOut}
 
 -- ---- a batch, and one more of its systems goes out
 

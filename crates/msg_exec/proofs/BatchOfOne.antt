@@ -7,7 +7,7 @@ use Rattle.msg_system.specs.Prelude.{Meaning}
 use Rattle.msg_exec.specs.Prelude.{Done, GuardedSystem, HasTakenTurn, Job, Lender, LenderStands, MayRun}
 use Rattle.msg_frames.specs.declared.log.Outcome.{Outcome}
 use Rattle.msg_frames.specs.Prelude.{BatchesRunSideBySide, State, after_turn_of, logged_turn}
-use Rattle.msg_exec.specs.inner.Lending.{AreOut, ComesHome}
+use Rattle.msg_exec.specs.inner.SystemsOut.{AreOut, ComesHome}
 use Rattle.msg_exec.proofs.{BatchComesHome.ComingHome, BatchComesHome.MayCome, BatchComesHome.all_came, BatchComesHome.begin_home, BatchComesHome.is_back, BatchComesHome.next_comes, BatchComesHome.next_may_come, BatchGoesOut.all_may_run, BatchGoesOut.left_stands, BatchGoesOut.IsBatch, BatchWritesApart.Free, BatchComesHome.IsBack}
 use Rattle.std.proofs.lemmas.List.{get_or_read}
 

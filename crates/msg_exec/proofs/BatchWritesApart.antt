@@ -5,7 +5,7 @@ use Rattle.std.proofs.lemmas.{Bool.and_from, Bool.false_from_ne_true, Bool.or_ri
 use Rattle.msg_world.specs.declared.access.Access.{Access}
 use Rattle.msg_world.specs.Prelude.{Part, Conflict, reads, uses, writes}
 use Rattle.msg_order.specs.Prelude.{NoneConflict, access_of}
-use Rattle.msg_exec.specs.inner.Lending.{any_writes}
+use Rattle.msg_exec.specs.inner.SystemsOut.{any_writes}
 use Rattle.msg_frames.proofs.ElementsAndPairs.{pairs_head, pairs_tail}
 use Rattle.msg_order.proofs.Elements.{Contains-cases}
 

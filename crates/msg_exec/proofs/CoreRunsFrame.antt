@@ -7,7 +7,7 @@ use Rattle.msg_system.specs.declared.reply.Reply.{Reply}
 use Rattle.msg_system.specs.Prelude.{Meaning}
 use Rattle.msg_exec.specs.Prelude.{AreJoins, Core, CoreStands, Lender, LenderStands, Schedule}
 use Rattle.msg_frames.specs.{declared.frame.Frame.Frame, declared.log.Log.Log}
-use Rattle.msg_exec.specs.{inner.FrameSteps.HasLeft, inner.FrameSteps.HasOpened, inner.FrameSteps.NobodyJoins, inner.FrameSteps.counted, inner.Lending.HaveReadNothing, inner.FrameSteps.PlansNext}
+use Rattle.msg_exec.specs.{inner.FrameSteps.HasLeft, inner.FrameSteps.HasOpened, inner.FrameSteps.NobodyJoins, inner.FrameSteps.counted, inner.SystemsOut.HaveReadNothing, inner.FrameSteps.PlansNext}
 use Rattle.msg_frames.specs.Prelude.{IsLawfulFor, IsOrderOf, SystemsHaveOneOrder, FrameStaysSound, IsFrame, IsSoundState, SameSystems, State, after_turns_of, before_turns, frame_in, has_begun, join_flags, joining}
 use Rattle.msg_frames.proofs.{SystemsStay.accesses_stay, SystemsStay.before_keeps, SystemsStay.joined_stay, SystemsStay.joining_keeps, SystemsStay.joining_makes_no_frame, SystemsStay.no_cycle_stays, SystemsStay.turns_keep_systems, SystemsStay.turns_make_no_frame, FramesInOrder.frame_in_order}
 

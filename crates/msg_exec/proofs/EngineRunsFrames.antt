@@ -2,19 +2,19 @@
 use Rattle.std.proofs.Common.{◌≡◌, ℕ, List, [], ◌∷◌, ◌++◌, length, take, Some, refl, sym, ◌∙◌, inl, inr, IsSome}
 use Rattle.std.proofs.lemmas.Bool.{false≢true}
 use Rattle.msg_system.specs.Prelude.{Meaning}
-use Rattle.msg_exec.specs.Prelude.{Core, CoreStands, EngineOf, IsEngine, StandsFor}
+use Rattle.msg_exec.specs.Prelude.{Core, CoreStands, EngineOf, IsEngine, EngineStands}
 use Rattle.msg_frames.specs.{declared.frame.Frame.Frame, declared.log.Log.Log}
 use Rattle.msg_frames.specs.Prelude.{IsFrame, IsRun, State}
 use Rattle.msg_exec.proofs.ItemsOfLists.{some_of}
 
 module _ {S : Type 0} (meaning : S → Meaning) where
   -- an engine that stands for a state has a core, which stands for it
-  pub core_of : (e : EngineOf S) (s : State) → StandsFor meaning e s → (c : Core S)
+  pub core_of : (e : EngineOf S) (s : State) → EngineStands meaning e s → (c : Core S)
       × ((e.core ≡ Some c) × CoreStands meaning c s)
   core_of e s stands = some_of e.core stands.core
 
   -- it wasn't spoiled, so it stood for a state
-  pub stood : (e : EngineOf S) → IsSome e.core → IsEngine meaning e → (s : State) × StandsFor meaning e s
+  pub stood : (e : EngineOf S) → IsSome e.core → IsEngine meaning e → (s : State) × EngineStands meaning e s
   stood e some (inl spoiled) = absurd (false≢true (sym spoiled ∙ some))
   stood e some (inr stands) = stands
 
@@ -37,5 +37,5 @@ module _ {S : Type 0} (meaning : S → Meaning) where
     pub as_many : length logs ≡ k
     pub appended : after ≡ before ++ logs
     pub is_run : IsRun (take k frames) s logs state
-    pub stands : StandsFor meaning e state
+    pub stands : EngineStands meaning e state
     pub types : state.types ≡ s.types

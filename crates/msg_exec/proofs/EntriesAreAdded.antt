@@ -7,7 +7,7 @@ use Rattle.msg_system.specs.Prelude.{Meaning}
 use Rattle.msg_frames.specs.declared.totals.Totals.{Totals}
 use Rattle.msg_frames.specs.Prelude.{entries_for}
 use Rattle.msg_exec.specs.Prelude.{Done, kept}
-use Rattle.msg_exec.specs.{inner.Lending.HaveEntered, inner.Totals.entry_at}
+use Rattle.msg_exec.specs.{inner.SystemsOut.HaveEntered, inner.Totals.entry_at}
 
 -- the same totals are kept alike
 pub kept_alike : {x y t : Totals} → x ≡ y → t ≡ kept y → t ≡ kept x

@@ -10,7 +10,7 @@ use Rattle.msg_order.proofs.SetPaths.{all_rules}
 use Rattle.msg_system.proofs.Accesses.{uses_needs}
 use Rattle.msg_frames.specs.declared.place.Place.{Place}
 use Rattle.msg_exec.specs.Prelude.{AreJoins, Core, EachIs, Lender, LenderStands, MayBeAdded, Schedule}
-use Rattle.msg_exec.specs.{inner.Building.AreNoTotals, inner.Building.IsAccessAt, inner.Building.IsGuardedAt, inner.Lending.HaveReadNothing}
+use Rattle.msg_exec.specs.{inner.EngineParts.AreNoTotals, inner.EngineParts.IsAccessAt, inner.EngineParts.IsGuardedAt, inner.SystemsOut.HaveReadNothing}
 use Rattle.msg_frames.specs.Prelude.{AreNew, HasClash, nobody, nowhere, unjoined, State}
 use Rattle.msg_exec.proofs.ItemsOfLists.{item_at}
 use Rattle.msg_system.specs.declared.condition.Condition.{Condition}

@@ -4,7 +4,7 @@ use Rattle.std.specs.{List.AllZip, Option.unwrap_or}
 use Rattle.std.proofs.lemmas.{Bool.eqb-true, List.length-append, List.Elements.All-append, List.Elements.All-cons, List.Elements.All-head, List.Elements.All-tail, List.Elements.Contains-push_cases, Option.slice_get_within, List.Elements.Contains-get_or, List.Sums.length-filter, Option.slice_get_read}
 use Rattle.msg_board.specs.Prelude.{BoardView, HasEnded, HoldsEachOnce, PassState, drawn_by, jobs_of, times}
 use Rattle.msg_exec.specs.Prelude.{EachNewIs, EachPassedGate, Job, Lender, PassedGate}
-use Rattle.msg_exec.specs.{inner.Lending.IsOut, inner.Batches.HasWorked, inner.Batches.HaveWorked}
+use Rattle.msg_exec.specs.{inner.SystemsOut.IsOut, inner.Batches.HasWorked, inner.Batches.HaveWorked}
 use Rattle.msg_order.proofs.Elements.{not_in_none, filter-Contains, flat_map-Contains}
 
 -- ---- one job more is drawn

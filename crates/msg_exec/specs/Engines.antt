@@ -12,8 +12,8 @@ module _ {S : Type 0} where
   IsSpoiled e = IsNone e.core
 
   -- how many frames it says that were run
-  abbrev pub frames_of : EngineOf S → ℕ
-  frames_of e = e.frames
+  abbrev pub frame_number : EngineOf S → ℕ
+  frame_number e = e.frames
 
   -- its world; none where it is spoiled
   abbrev pub world_of : EngineOf S → Option Parts
@@ -25,14 +25,14 @@ module _ {S : Type 0} where
 
 module _ {S : Type 0} (meaning : S → Meaning) where
   -- Part by part, the engine is what the state says.
-  pub record StandsFor (e : EngineOf S) (s : State) : Type 0 where
+  pub record EngineStands (e : EngineOf S) (s : State) : Type 0 where
     pub core : IsSomeAnd e.core (λ c. CoreStands meaning c s)
-    pub frames : frames_of e ≡ frame_count s
+    pub frames : frame_number e ≡ frame_count s
 
   -- An engine as `new` makes it, and as its calls leave it: it stands for a state, or it is
   -- spoiled.
   abbrev pub IsEngine : EngineOf S → Type 0
-  IsEngine e = IsSpoiled e ⊎ ((s : State) × StandsFor e s)
+  IsEngine e = IsSpoiled e ⊎ ((s : State) × EngineStands e s)
 
   -- From the state s the engine ran a frame: the log is the frame's on one thread, with all that a
   -- run comes to, and the engine stands for the state that the frame leaves.
@@ -40,7 +40,7 @@ module _ {S : Type 0} (meaning : S → Meaning) where
     pub state : State
     pub is_frame : IsFrame frame s log state
     pub complete : IsCompleteRun (frame ∷ []) s (log ∷ []) state
-    pub stands : StandsFor e state
+    pub stands : EngineStands e state
 
   -- From the state s the engine replayed a frame in this order: the log is a replay's, it tells
   -- each system what the frame tells it, with all that a run comes to, and the engine stands for
@@ -50,7 +50,7 @@ module _ {S : Type 0} (meaning : S → Meaning) where
     pub state : State
     pub is_replay : IsReplay frame order s log state
     pub tells : TellsACompleteRun (frame ∷ []) s (log ∷ []) state
-    pub stands : StandsFor e state
+    pub stands : EngineStands e state
 
   -- From the state s the engine ran frames: it appended the logs of a complete run, and stands for
   -- the state that is left.
@@ -60,7 +60,7 @@ module _ {S : Type 0} (meaning : S → Meaning) where
     pub state : State
     pub appended : after ≡ before ++ logs
     pub complete : IsCompleteRun frames s logs state
-    pub stands : StandsFor e state
+    pub stands : EngineStands e state
 
   -- From the state s the engine ran some of the frames, the first ones, and then there was no
   -- memory: the logs of those were appended, and it counted those.
@@ -70,5 +70,5 @@ module _ {S : Type 0} (meaning : S → Meaning) where
     pub state : State
     pub appended : after ≡ before ++ logs
     pub is_run : IsRun (take (length logs) frames) s logs state
-    pub counted : frames_of e ≡ frame_count state
+    pub counted : frame_number e ≡ frame_count state
     pub spoiled : IsSpoiled e

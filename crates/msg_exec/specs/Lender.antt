@@ -5,7 +5,7 @@ use Rattle.msg_order.specs.Prelude.{access_of}
 use Rattle.msg_system.specs.Prelude.{IsAccessOf, Meaning}
 use Rattle.msg_exec.specs.{declared.job.GuardedSystem.GuardedSystem, declared.lender.Lender.Lender, Jobs.job_state, Keeping.kept, Keeping.totals_at}
 use Rattle.msg_frames.specs.declared.totals.Totals.{Totals}
-use Rattle.msg_frames.specs.Prelude.{needs_of, Member, State}
+use Rattle.msg_frames.specs.Prelude.{member_needs, Member, State}
 
 -- the totals of a system, by type
 pub record TotalsStand (types : ℕ) (xs : List Totals) (totals : ℕ → Totals) : Type 0 where
@@ -21,7 +21,7 @@ module _ {S : Type 0} (meaning : S → Meaning) where
   -- system i is there, and with its access and its totals stands for a member
   pub record MemberStands (g : Lender S) (types i : ℕ) (m : Member) : Type 0 where
     pub guarded : IsSomeAnd (system_at g i) (λ a. job_state meaning a ≡ m.job)
-    pub access : IsAccessOf (needs_of m) (access_of g.accesses.items i)
+    pub access : IsAccessOf (member_needs m) (access_of g.accesses.items i)
     pub home : IsHome (access_of g.accesses.items i) g.world
     pub totals : IsSomeAnd (slice_get g.totals.items i) (λ v. TotalsStand types v.items m.totals)
 

@@ -1,6 +1,6 @@
-pub mod Building
+pub mod EngineParts
 pub mod Totals
-pub mod Lending
+pub mod SystemsOut
 pub mod Batches
 pub mod Posts
 pub mod FrameSteps

@@ -95,7 +95,7 @@ impl<S: System> EngineOf<S> {
     ghost use Rattle.std.specs.Prelude.{◌↔◌, All, Err};
     ghost use Rattle.msg_system.specs.declared.run_fault.RunFault.TheVariants.{BadOrder, Spoiled};
     ghost use Rattle.msg_frames.specs.Prelude.{AddsUp};
-    ghost use Rattle.msg_exec.specs.Engines.{IsEngine, IsSpoiled, StandsFor};
+    ghost use Rattle.msg_exec.specs.Engines.{IsEngine, IsSpoiled, EngineStands};
 
     /// What each reader was given: for each system, by number, and each type that it reads,
     /// by number.
@@ -104,7 +104,7 @@ impl<S: System> EngineOf<S> {
     ///
     /// `Spoiled`, and `NoMemory`.
     pub fn accounts(&self) -> Result<Vec<Account>, RunFault>
-        ensures accounts { IfOk result (λ v. (s : State) → StandsFor S.meaning self.now s
+        ensures accounts { IfOk result (λ v. (s : State) → EngineStands S.meaning self.now s
             → v.items ≡ accounts_of s) }
         ensures add_up { IfOk result (λ v. IsEngine S.meaning self.now → All AddsUp v.items) }
         ensures spoiled { (result ≡ Err Spoiled) ↔ IsSpoiled self.now }

@@ -4,7 +4,7 @@ ghost use Rattle.std.specs.List.{concat};
 ghost use Rattle.msg_frames.specs.Prelude.{after_turns_of, State};
 ghost use Rattle.msg_order.specs.Prelude.{NoneConflict};
 ghost use Rattle.msg_exec.specs.Prelude.{EachPassedGate, LenderStands};
-ghost use Rattle.msg_exec.specs.inner.Lending.{AreOut};
+ghost use Rattle.msg_exec.specs.inner.SystemsOut.{AreOut};
 
 use crate::job::Job;
 use crate::lender::{Lender, run_turn};

@@ -4,7 +4,7 @@ ghost use Rattle.msg_world.specs.Prelude.{IsWhole, PartsStand, WorldState};
 ghost use Rattle.msg_order.specs.Prelude.{IsAcyclic, NameSystemsBelow, edges_of};
 ghost use Rattle.msg_order.specs.declared.rule.Rule.{Rule as RuleView};
 ghost use Rattle.msg_frames.specs.Prelude.{HasClash, first_state};
-ghost use Rattle.msg_exec.specs.Prelude.{AllFit, EachIs, FitsWorld, IsEngine, IsFirstUnknown, IsLowestMisfit, IsSpoiled, Misfit, RefusesToAdd, RefusesToBuild, StandsFor, UnknownSystem, numbered_from};
+ghost use Rattle.msg_exec.specs.Prelude.{AllFit, EachIs, FitsWorld, IsEngine, IsFirstUnknown, IsLowestMisfit, IsSpoiled, Misfit, RefusesToAdd, RefusesToBuild, EngineStands, UnknownSystem, numbered_from};
 
 use crate::{BuildError, BuildRefusal, EngineOf, Items, NoMemory, Place};
 use msg_order::Rule;
@@ -182,7 +182,7 @@ impl<S: Numbered> EngineBuilder<S> {
     pub fn build(self, world: World) -> Result<EngineOf<S>, BuildError>
         requires whole { IsWhole world }
         ensures meaning { IfOk result (λ e. (w : WorldState) → PartsStand world w
-            → StandsFor S.meaning e (first_state (numbered_from 0 (map S.meaning self.systems))
+            → EngineStands S.meaning e (first_state (numbered_from 0 (map S.meaning self.systems))
             self.places self.rules (length world.types) w)) }
         ensures engine { IfOk result (IsEngine S.meaning) }
         ensures fresh { IfOk result (λ e. ¬ IsSpoiled e) }

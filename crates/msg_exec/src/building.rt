@@ -3,7 +3,7 @@ ghost use Rattle.std.specs.Prelude.{◌≡◌, ◌<◌, ◌≤◌, ◌↔◌, �
 ghost use Rattle.msg_order.specs.Prelude.{IsAcyclic, NameSystemsBelow, edges_of};
 ghost use Rattle.msg_system.specs.Prelude.{IsAccessOf, new_asked};
 ghost use Rattle.msg_exec.specs.Prelude.{EachIs, job_state, totals_at};
-ghost use Rattle.msg_exec.specs.inner.Building.{AreNoTotals, IsAccessAt, IsGuardedAt, RefusesForClash, RefusesForCycle};
+ghost use Rattle.msg_exec.specs.inner.EngineParts.{AreNoTotals, IsAccessAt, IsGuardedAt, RefusesForClash, RefusesForCycle};
 ghost use Rattle.msg_frames.specs.Prelude.{HasClash, new_job, no_totals};
 
 use crate::job::GuardedSystem;

@@ -45,8 +45,8 @@ impl<S: System> EngineOf<S> {
     ghost use Rattle.msg_world.specs.declared.record.TheConstants.{HOST};
     ghost use Rattle.msg_world.specs.Prelude.{IsWhole, PartsStand, WorldState};
     ghost use Rattle.msg_order.specs.Prelude.{IsAcyclic, NameSystemsBelow, edges_of};
-    ghost use Rattle.msg_exec.specs.{Building.EachIs, Building.MayBeAdded, Building.RefusesFor, Cores.frame_count, Engines.HasReplayed, Engines.HasRunFrame, Engines.HasRunFrames, Engines.HasRunSome, Engines.IsEngine, Engines.IsSpoiled, Engines.PostsFit, Engines.StandsFor, Engines.frames_of, Engines.world_of, Work.EachPassedGate};
-    ghost use Rattle.msg_frames.specs.Prelude.{HasClash, HasOneRun, IsCompleteRun, IsLawfulFor, IsRun, State, first_state, systems_in};
+    ghost use Rattle.msg_exec.specs.{Building.EachIs, Building.MayBeAdded, Building.RefusesFor, Cores.frame_count, Engines.HasReplayed, Engines.HasRunFrame, Engines.HasRunFrames, Engines.HasRunSome, Engines.IsEngine, Engines.IsSpoiled, Engines.PostsFit, Engines.EngineStands, Engines.frame_number, Engines.world_of, Work.EachPassedGate};
+    ghost use Rattle.msg_frames.specs.Prelude.{HasClash, HasOneRun, IsCompleteRun, IsLawfulFor, IsRun, State, first_state, turn_order_in};
     ghost use Rattle.msg_frames.specs.{declared.frame.Frame.Frame as FrameView, declared.log.Log.Log as LogView};
 
     /// An engine with no frame run. The systems go by number, in order of addition, and each has
@@ -70,7 +70,7 @@ impl<S: System> EngineOf<S> {
         requires in_range { NameSystemsBelow (length systems.items) rules.items }
         requires each { EachIs (MayBeAdded S.meaning world places.items) systems.items }
         ensures meaning { IfOk result (λ e. (w : WorldState) → PartsStand world w
-            → StandsFor S.meaning e
+            → EngineStands S.meaning e
             (first_state (map S.meaning systems.items) places.items rules.items
             (length world.types) w)) }
         ensures engine { IfOk result (IsEngine S.meaning) }
@@ -112,7 +112,7 @@ impl<S: System> EngineOf<S> {
     /// Takes its core back after a frame, and counts the frame.
     fn end_frame(&mut self, core: Core<S>)
         ensures core { self.new.core ≡ Some core }
-        ensures counted { frames_of self.new ≡ min (frames_of self.old + 1) (2 ^ 32 - 1) }
+        ensures counted { frame_number self.new ≡ min (frame_number self.old + 1) (2 ^ 32 - 1) }
     {
         self.core = Some(core);
         self.frames = self.frames.saturating_add(1);
@@ -136,19 +136,20 @@ impl<S: System> EngineOf<S> {
 
         // Whatever the workers and the gate: the log is that of one thread over lists of messages
         // that only grow, and each reader is given every message once.
-        ensures ran { IfOk result (λ log. (s : State) → StandsFor S.meaning self.old s
+        ensures ran { IfOk result (λ log. (s : State) → EngineStands S.meaning self.old s
             → HasRunFrame S.meaning frame.now s log self.new) }
 
         // For each turn one of the workers passed the gate, with its own number, which is below the
         // number of turns too, and the system's.
         ensures gate_passed { IfOk result
-            (λ log. EachPassedGate (G.passed gate.now) workers (systems_in log)) }
+            (λ log. EachPassedGate (G.passed gate.now) workers (turn_order_in log)) }
         ensures counted { OnOk result
-            (frames_of self.new ≡ min (frames_of self.old + 1) (2 ^ 32 - 1)) }
+            (frame_number self.new ≡ min (frame_number self.old + 1) (2 ^ 32 - 1)) }
         ensures spoiled { (result ≡ Err Spoiled) ↔ IsSpoiled self.old }
         ensures unchanged { result ≡ Err Spoiled → self.new ≡ self.old }
         ensures no_memory { result ≡ Err NoMemory → IsSpoiled self.new }
-        ensures not_counted { result ≡ Err NoMemory → frames_of self.new ≡ frames_of self.old }
+        ensures not_counted { result ≡ Err NoMemory
+            → frame_number self.new ≡ frame_number self.old }
         ensures no_bad_order { ¬ (result ≡ Err BadOrder) }
         ensures engine { IsEngine S.meaning self.new }
     {
@@ -175,9 +176,9 @@ impl<S: System> EngineOf<S> {
     /// Takes the memory of a log that is no longer needed, for the logs of frames to come: a loop
     /// that gives each log back asks for less.
     pub fn recycle(&mut self, log: Log)
-        ensures meaning { (s : State) → StandsFor S.meaning self.old s
-            → StandsFor S.meaning self.new s }
-        ensures counted { frames_of self.new ≡ frames_of self.old }
+        ensures meaning { (s : State) → EngineStands S.meaning self.old s
+            → EngineStands S.meaning self.new s }
+        ensures counted { frame_number self.new ≡ frame_number self.old }
         ensures world { world_of self.new ≡ world_of self.old }
         ensures spoiled { IsSpoiled self.new ↔ IsSpoiled self.old }
         ensures engine { IsEngine S.meaning self.old → IsEngine S.meaning self.new }
@@ -204,17 +205,17 @@ impl<S: System> EngineOf<S> {
 
         // Whatever the workers and the gate: the logs are those of one thread over lists of
         // messages that only grow, and each reader is given every message once.
-        ensures ran { OnOk result ((s : State) → StandsFor S.meaning self.old s
+        ensures ran { OnOk result ((s : State) → EngineStands S.meaning self.old s
             → HasRunFrames S.meaning frames.now s out.old.items out.new.items self.new) }
 
         // For each turn in the logs that were appended, as in `run_frame`.
         ensures gate_passed { All (λ log. EachPassedGate (G.passed gate.now) workers
-            (systems_in log))
+            (turn_order_in log))
             (drop (length out.old.items) out.new.items) }
         ensures spoiled { (result ≡ Err Spoiled) ↔ IsSpoiled self.old }
         ensures unchanged { result ≡ Err Spoiled → self.new ≡ self.old }
         ensures nothing_appended { result ≡ Err Spoiled → out.new ≡ out.old }
-        ensures no_memory { result ≡ Err NoMemory → (s : State) → StandsFor S.meaning self.old s
+        ensures no_memory { result ≡ Err NoMemory → (s : State) → EngineStands S.meaning self.old s
             → HasRunSome S.meaning frames.now s out.old.items out.new.items self.new }
         ensures no_bad_order { ¬ (result ≡ Err BadOrder) }
         ensures engine { IsEngine S.meaning self.new }
@@ -251,17 +252,19 @@ impl<S: System> EngineOf<S> {
         // The order is lawful; the log has the frame's posts and each system's turn as it came out
         // in the frame, which gave each reader every message once, and the engine stands for the
         // state that the frame leaves.
-        ensures replayed { IfOk result (λ log. (s : State) → StandsFor S.meaning self.old s
+        ensures replayed { IfOk result (λ log. (s : State) → EngineStands S.meaning self.old s
             → HasReplayed S.meaning frame.now order.now s log self.new) }
         ensures counted { OnOk result
-            (frames_of self.new ≡ min (frames_of self.old + 1) (2 ^ 32 - 1)) }
-        ensures bad_order { (s : State) → StandsFor S.meaning self.old s → ¬ (result ≡ Err NoMemory)
+            (frame_number self.new ≡ min (frame_number self.old + 1) (2 ^ 32 - 1)) }
+        ensures bad_order { (s : State) → EngineStands S.meaning self.old s
+            → ¬ (result ≡ Err NoMemory)
             → (result ≡ Err BadOrder) ↔ (¬ IsLawfulFor frame.now s order.now) }
         ensures nothing_done { result ≡ Err BadOrder → self.new ≡ self.old }
         ensures spoiled { (result ≡ Err Spoiled) ↔ IsSpoiled self.old }
         ensures unchanged { result ≡ Err Spoiled → self.new ≡ self.old }
         ensures no_memory { result ≡ Err NoMemory → IsSpoiled self.new }
-        ensures not_counted { result ≡ Err NoMemory → frames_of self.new ≡ frames_of self.old }
+        ensures not_counted { result ≡ Err NoMemory
+            → frame_number self.new ≡ frame_number self.old }
         ensures engine { IsEngine S.meaning self.new }
     {
         replays_tell_a_complete_run();
@@ -292,9 +295,9 @@ impl<S: System> EngineOf<S> {
     /// A law: from each state that it stands for, any frames have exactly one run, and all that a
     /// run comes to holds of it.
     pub fn has_one_run(&self)
-        ensures run { (s : State) → StandsFor S.meaning self.now s → (frames : List FrameView)
+        ensures run { (s : State) → EngineStands S.meaning self.now s → (frames : List FrameView)
             → HasOneRun frames s }
-        ensures complete { (s : State) → StandsFor S.meaning self.now s
+        ensures complete { (s : State) → EngineStands S.meaning self.now s
             → (frames : List FrameView) (logs : List LogView) (u : State) → IsRun frames s logs u
             → IsCompleteRun frames s logs u }
     {
@@ -305,7 +308,7 @@ impl<S: System> EngineOf<S> {
 
     /// A law: each of its systems writes as its number, and none as the host.
     pub fn systems_write_as_themselves(&self)
-        ensures writers { (s : State) → StandsFor S.meaning self.now s → (i : ℕ) → i < s.systems
+        ensures writers { (s : State) → EngineStands S.meaning self.now s → (i : ℕ) → i < s.systems
             → ((s.members i).job.system.writer ≡ i) × (i < HOST) }
     {}
 
@@ -313,7 +316,7 @@ impl<S: System> EngineOf<S> {
     pub fn world(&self) -> Option<&World>
         ensures world { option_copied result ≡ world_of self.now }
         ensures spoiled { IsNone result ↔ IsSpoiled self.now }
-        ensures meaning { (s : State) → StandsFor S.meaning self.now s
+        ensures meaning { (s : State) → EngineStands S.meaning self.now s
             → IfSome result (λ w. PartsStand w.now s.world) }
     {
         match &self.core {
@@ -352,8 +355,8 @@ impl<S: System> EngineOf<S> {
 
     /// How many whole frames were run. It stays at the greatest number.
     pub fn frames_run(&self) -> u32
-        ensures frames { result ≡ frames_of self.now }
-        ensures meaning { (s : State) → StandsFor S.meaning self.now s → result ≡ frame_count s }
+        ensures frames { result ≡ frame_number self.now }
+        ensures meaning { (s : State) → EngineStands S.meaning self.now s → result ≡ frame_count s }
     {
         self.frames
     }

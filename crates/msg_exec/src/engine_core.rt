@@ -3,7 +3,7 @@ ghost use Rattle.std.specs.Prelude.{◌≡◌, ◌<◌, ◌≤◌, All, IfOk, Li
 ghost use Rattle.msg_order.specs.Prelude.{IsAcyclic, IsPlanOf, NameSystemsBelow, rules_among};
 ghost use Rattle.msg_exec.specs.Prelude.{CoreStands, EachPassedGate, PassedGate, frame_count};
 ghost use Rattle.msg_exec.specs.inner.FrameSteps.{HasBegunFrame, HasLeft, HasOpened, IsNextPlan};
-ghost use Rattle.msg_frames.specs.Prelude.{IsFrame, systems_in, State};
+ghost use Rattle.msg_frames.specs.Prelude.{IsFrame, turn_order_in, State};
 
 use crate::batch::run_batches;
 use crate::joining::join_those;
@@ -141,7 +141,7 @@ pub(crate) fn run_one<R: Threads + Sync, S: System, G: Gate>(
     ensures ran { IfOk result (λ r. (s : State) → CoreStands S.meaning core s
         → frames ≡ frame_count s → HasLeft S.meaning (IsFrame frame.now s r.1) s r.0) }
     ensures gate_passed { IfOk result
-        (λ r. EachPassedGate (G.passed gate.now) workers (systems_in r.1)) }
+        (λ r. EachPassedGate (G.passed gate.now) workers (turn_order_in r.1)) }
 {
     states_stay_sound();
     let (mut core, posts) = open(alloc, core, frames, frame)?;

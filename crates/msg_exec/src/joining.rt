@@ -3,7 +3,7 @@ ghost use Rattle.std.specs.Prelude.{◌≡◌, ◌<◌, ◌≤◌, ℕ, length, 
 ghost use Rattle.msg_system.specs.Prelude.{asked_started, start_place};
 ghost use Rattle.msg_frames.specs.Prelude.{State, job_begun, totals_from, with_joining};
 ghost use Rattle.msg_exec.specs.Prelude.{AreJoins, LenderStands, job_state, totals_at};
-ghost use Rattle.msg_exec.specs.{inner.Totals.first_place, inner.Lending.HaveReadNothing};
+ghost use Rattle.msg_exec.specs.{inner.Totals.first_place, inner.SystemsOut.HaveReadNothing};
 
 use crate::Totals;
 use crate::job::GuardedSystem;

@@ -28,7 +28,7 @@ impl<S: System> Lender<S> {
     ghost use Rattle.std.specs.Prelude.{IsSome, length};
     ghost use Rattle.msg_world.specs.Prelude.{IsApart, IsHome};
     ghost use Rattle.msg_order.specs.Prelude.{access_of};
-    ghost use Rattle.msg_exec.specs.{inner.Totals.HasFewReplies, Lender.system_at, inner.Lending.ComesHome, inner.Lending.GoesOut};
+    ghost use Rattle.msg_exec.specs.{inner.Totals.HasFewReplies, Lender.system_at, inner.SystemsOut.ComesHome, inner.SystemsOut.GoesOut};
 
     /// Takes a system out for its turn, with what its access writes.
     pub(crate) fn lend_out(&mut self, number: u32) -> Result<Job<S>, NoMemory>

@@ -1,7 +1,7 @@
 // Workers side by side.
 ghost use Rattle.std.specs.Prelude.{◌≡◌, ◌+◌, ◌≤◌, ℕ, All, IfOk, OnOk, Some, length, min, slice_get};
 ghost use Rattle.std.specs.Thread.{IsSend, IsSync};
-ghost use Rattle.msg_board.specs.Prelude.{IsLawfulOutcome, IsNew, jobs_of};
+ghost use Rattle.msg_board.specs.Prelude.{IsLawfulOutcome, IsNewPass, jobs_of};
 ghost use Rattle.msg_exec.specs.Prelude.{EachMay, PassedGate};
 ghost use Rattle.msg_exec.specs.inner.Batches.{HasWorked, HaveWorked, IsFirstDraw};
 
@@ -19,7 +19,7 @@ fn work_alone<W: Runs, G: Gate>(
     worker: u32,
     pass: &mut Pass<W::Job, W::Done>,
 ) -> bool
-    requires new { IsNew board.now pass.old }
+    requires new { IsNewPass board.now pass.old }
     requires may { EachMay W.may (jobs_of board.now) }
     ensures worked { HasWorked board.now (λ job. G.passed gate.now worker (W.system_of job))
         pass.new }
@@ -45,7 +45,7 @@ fn work_from<R: Threads + Sync, W: Runs + Send, G: Gate>(
     passes: &mut [Pass<W::Job, W::Done>],
 ) -> u32
     requires few { worker + length passes.old ≤ 64 }
-    requires new { All (IsNew board.now) passes.old }
+    requires new { All (IsNewPass board.now) passes.old }
     requires may { EachMay W.may (jobs_of board.now) }
     ensures busy { result ≤ length passes.old }
     ensures worked { HaveWorked board.now
@@ -85,7 +85,7 @@ fn work_beside<R: Threads + Sync, W: Runs + Send, G: Gate>(
 ) -> u32
     requires few { next + length others.old ≤ 64 }
     requires first { IsFirstDraw board.now pass.old first }
-    requires new { All (IsNew board.now) others.old }
+    requires new { All (IsNewPass board.now) others.old }
     requires may { EachMay W.may (jobs_of board.now) }
     ensures busy { result ≤ length others.old }
     ensures own { HasWorked board.now (λ job. G.passed gate.now worker (W.system_of job))
@@ -119,7 +119,7 @@ fn begin_rest<R: Threads + Sync, W: Runs + Send, G: Gate>(
 ) -> u32
     requires few { next + length rest.old ≤ 64 }
     requires first { IsFirstDraw board.now pass.old first }
-    requires new { All (IsNew board.now) rest.old }
+    requires new { All (IsNewPass board.now) rest.old }
     requires may { EachMay W.may (jobs_of board.now) }
     ensures busy { result ≤ length rest.old }
     ensures own { HasWorked board.now (λ job. G.passed gate.now worker (W.system_of job))
@@ -134,7 +134,7 @@ fn begin_rest<R: Threads + Sync, W: Runs + Send, G: Gate>(
     { work_on(alloc, board, gate, worker, first.take(), pass) };
     let mut theirs = ||
         requires { IsSync R.row × IsSend W.row × IsSync G.row × (next + length rest.now ≤ 64)
-            × All (IsNew board.now) rest.now × EachMay W.may (jobs_of board.now) }
+            × All (IsNewPass board.now) rest.now × EachMay W.may (jobs_of board.now) }
         ensures { HaveWorked board.entry.now
             (λ worker job. G.passed gate.entry.now worker (W.system_of job)) next rest.exit.now
             × (result ≤ length rest.entry.now) }
@@ -161,8 +161,8 @@ fn begin_one<R: Threads + Sync, W: Runs + Send, G: Gate>(
     requires few { next + 1 + length rest.old ≤ 64 }
     requires more { 1 ≤ at_once }
     requires first { IsFirstDraw board.now pass.old first }
-    requires one { IsNew board.now one.old }
-    requires new { All (IsNew board.now) rest.old }
+    requires one { IsNewPass board.now one.old }
+    requires new { All (IsNewPass board.now) rest.old }
     requires may { EachMay W.may (jobs_of board.now) }
     ensures busy { result ≤ 1 + length rest.old }
     ensures own { HasWorked board.now (λ job. G.passed gate.now worker (W.system_of job))
@@ -174,7 +174,7 @@ fn begin_one<R: Threads + Sync, W: Runs + Send, G: Gate>(
     let mut own = ||
         requires { IsSync R.row × IsSend W.row × IsSync G.row × (next + 1 + length rest.now ≤ 64)
             × (1 ≤ at_once) × IsFirstDraw board.now pass.now first
-            × All (IsNew board.now) rest.now × EachMay W.may (jobs_of board.now) }
+            × All (IsNewPass board.now) rest.now × EachMay W.may (jobs_of board.now) }
         ensures { HasWorked board.entry.now
             (λ job. G.passed gate.entry.now worker (W.system_of job)) pass.exit.now
             × HaveWorked board.entry.now
@@ -196,7 +196,7 @@ fn begin_one<R: Threads + Sync, W: Runs + Send, G: Gate>(
         )
     };
     let mut theirs = ||
-        requires { IsSend W.row × IsSync G.row × IsNew board.now one.now
+        requires { IsSend W.row × IsSync G.row × IsNewPass board.now one.now
             × EachMay W.may (jobs_of board.now) }
         ensures { HasWorked board.entry.now
             (λ job. G.passed gate.entry.now next (W.system_of job)) one.exit.now }

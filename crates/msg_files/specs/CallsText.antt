@@ -7,41 +7,41 @@ use Rattle.msg_buffer.specs.declared.Instance.{Instance}
 use Rattle.msg_files.specs.{Json.Text, Cursors.CallsFile, declared.call.Call.Call, declared.call.Call.TheVariants.Write, declared.call.Call.TheVariants.Batch, declared.call.Call.TheVariants.Update, declared.call.Call.TheVariants.Read, declared.call.Call.TheVariants.Missed, declared.call.Call.TheVariants.Len, declared.call.Call.TheVariants.Clear, declared.call.Call.TheVariants.Cursor, declared.call.Call.TheVariants.CursorCurrent, declared.call.Call.TheVariants.Get, declared.call.Call.TheVariants.Current, declared.call.Call.TheVariants.Oldest, declared.call.Call.TheVariants.Count, declared.call.Call.TheVariants.Total, declared.call.Call.TheVariants.Drain, declared.call.Call.TheVariants.ClearAll}
 
 -- a history, and the place of each cursor in the order of their making
-pub record State : Type 0 where
+pub record BufferState : Type 0 where
   pub history : History ℤ
   pub places : List ℕ
 
 -- the place of a cursor
-abbrev pub place : State → ℕ → ℕ
+abbrev pub place : BufferState → ℕ → ℕ
 place s cursor = slice_index s.places cursor
 
 -- with a cursor at another place
-abbrev pub moved : State → ℕ → ℕ → State
+abbrev pub moved : BufferState → ℕ → ℕ → BufferState
 moved s cursor to = record s { places = slice_set s.places cursor to }
 
 -- with one cursor more
-abbrev pub with_cursor : State → ℕ → State
+abbrev pub with_cursor : BufferState → ℕ → BufferState
 with_cursor s at = record s { places = s.places ++ at ∷ [] }
 
 -- ---- parts of a line
 
 -- NUMBER=VALUE
-abbrev pub item_text : Instance ℤ → Text
-item_text x = decimal x.id.0 ++ codes "=" ++ signed_decimal x.message
+abbrev pub pair_text : Instance ℤ → Text
+pair_text x = decimal x.id.0 ++ codes "=" ++ signed_decimal x.message
 
 -- each item with a space in front
-abbrev pub more_items : List (Instance ℤ) → Text
-more_items [] = []
-more_items (x ∷ xs) = codes " " ++ item_text x ++ more_items xs
+abbrev pub more_pairs : List (Instance ℤ) → Text
+more_pairs [] = []
+more_pairs (x ∷ xs) = codes " " ++ pair_text x ++ more_pairs xs
 
 -- the items with a space between two, or `none`
-abbrev pub items_text : List (Instance ℤ) → Text
-items_text [] = codes "none"
-items_text (x ∷ xs) = item_text x ++ more_items xs
+abbrev pub pairs_text : List (Instance ℤ) → Text
+pairs_text [] = codes "none"
+pairs_text (x ∷ xs) = pair_text x ++ more_pairs xs
 
 -- FIRST+NUMBER of so many messages, or `spent` where there is no room for them
-abbrev pub written_text : History ℤ → ℕ → Text
-written_text h number =
+abbrev pub numbers_text : History ℤ → ℕ → Text
+numbers_text h number =
     if has_room h number then decimal (count h) ++ codes "+" ++ decimal number else codes "spent"
 
 -- a message's value, or `none`
@@ -50,19 +50,19 @@ value_text None = codes "none"
 value_text (Some value) = signed_decimal value
 
 -- the line of a new cursor at this place
-abbrev pub cursor_line : State → ℕ → Text
+abbrev pub cursor_line : BufferState → ℕ → Text
 cursor_line s at =
     codes "cursor " ++ decimal (length s.places) ++ codes " place " ++ decimal at ++ codes "\n"
 
 -- ---- the line of a call
 
-abbrev pub line : Call → State → Text
-line (Write value) s = codes "write " ++ written_text s.history 1 ++ codes "\n"
-line (Batch values) s = codes "batch " ++ written_text s.history (length values) ++ codes "\n"
+abbrev pub line : Call → BufferState → Text
+line (Write value) s = codes "write " ++ numbers_text s.history 1 ++ codes "\n"
+line (Batch values) s = codes "batch " ++ numbers_text s.history (length values) ++ codes "\n"
 line Update s = codes "update\n"
 line (Read c limit) s =
     codes "read " ++ decimal c ++ codes " missed " ++ decimal (missed s.history (place s c))
-    ++ codes ": " ++ items_text (given s.history (place s c) limit) ++ codes "\n"
+    ++ codes ": " ++ pairs_text (given s.history (place s c) limit) ++ codes "\n"
 line (Missed c) s =
     codes "missed " ++ decimal c ++ codes " " ++ decimal (missed s.history (place s c))
     ++ codes "\n"
@@ -76,15 +76,15 @@ line Cursor s = cursor_line s 0
 line CursorCurrent s = cursor_line s (count s.history)
 line (Get n) s =
     codes "get " ++ decimal n ++ codes " " ++ value_text (get s.history n) ++ codes "\n"
-line Current s = codes "current: " ++ items_text (current s.history) ++ codes "\n"
+line Current s = codes "current: " ++ pairs_text (current s.history) ++ codes "\n"
 line Oldest s = codes "oldest " ++ decimal (oldest s.history) ++ codes "\n"
 line Count s = codes "count " ++ decimal (count s.history) ++ codes "\n"
 line Total s = codes "total " ++ decimal (length (present s.history)) ++ codes "\n"
-line Drain s = codes "drain: " ++ items_text (present s.history) ++ codes "\n"
+line Drain s = codes "drain: " ++ pairs_text (present s.history) ++ codes "\n"
 line ClearAll s = codes "clear_all\n"
 
 -- the state after a call
-abbrev pub after : Call → State → State
+abbrev pub after : Call → BufferState → BufferState
 after (Write value) s = record s { history = write (value ∷ []) s.history }
 after (Batch values) s = record s { history = write values s.history }
 after Update s = record s { history = update s.history }
@@ -105,12 +105,12 @@ after ClearAll s = record s { history = clear s.history }
 -- ---- the text of a file
 
 -- the lines of calls, one after another
-abbrev pub text_of : List Call → State → Text
+abbrev pub text_of : List Call → BufferState → Text
 text_of [] s = []
 text_of (call ∷ calls) s = line call s ++ text_of calls (after call s)
 
 -- nothing was written, and cursor 0 is at place 0
-abbrev pub start : ℕ → State
+abbrev pub start : ℕ → BufferState
 start limit = record { history = empty limit; places = 0 ∷ [] }
 
 -- the text of a calls file

@@ -130,8 +130,8 @@ root_checks d = object_checks is_known d
     ++ (has_key (codes "limit") d ∷ has_key (codes "calls") d ∷ [])
 
 -- a list of at most 10,000 calls, before which cursor 0 is there
-abbrev pub list_checks : Data → List Check
-list_checks d =
+abbrev pub call_list_checks : Data → List Check
+call_list_checks d =
     needs (is_list d) Shape
     ∷ needs (nat_le (length (elements d)) 10000) TooMany
     ∷ calls_checks 1 (elements d)
@@ -141,4 +141,4 @@ abbrev pub checks_of : Data → List Check
 checks_of d =
     root_checks d
     ++ ((a_number (value_at (codes "limit") d) ∷ a_limit (value_at (codes "limit") d) ∷ [])
-    ++ list_checks (value_at (codes "calls") d))
+    ++ call_list_checks (value_at (codes "calls") d))

@@ -2,10 +2,10 @@
 use Rattle.std.specs.Prelude.{◌≡◌, ◌++◌, ℕ, ℤ, List, Option}
 use Rattle.std.specs.Io.KnownBytes.{Appends}
 use Rattle.msg_buffer.specs.Prelude.{Kept, StandsFor}
-use Rattle.msg_files.specs.CallsText.{State}
+use Rattle.msg_files.specs.CallsText.{BufferState}
 
 -- a buffer and its cursors are in a state
-pub record AreIn (messages : Kept ℤ) (cursors : List ℕ) (s : State) : Type 0 where
+pub record AreIn (messages : Kept ℤ) (cursors : List ℕ) (s : BufferState) : Type 0 where
   pub stands : StandsFor messages s.history
   pub places : cursors ≡ s.places
 

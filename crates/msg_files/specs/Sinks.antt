@@ -13,14 +13,14 @@ pub record OverWriter (W : Type 0) : Type 0 where
   pub failures : ℕ
 
 -- one failure more, up to the greatest value of a u64
-abbrev pub one_more : ℕ → ℕ
-one_more n = min (n + 1) (2 ^ 64 - 1)
+abbrev pub one_failure_more : ℕ → ℕ
+one_failure_more n = min (n + 1) (2 ^ 64 - 1)
 
 -- the failures after a put of this piece: an error is one, and so is 0 for a piece that isn't empty
 abbrev pub failures_after : {E : Type 0} → ℕ → Result ℕ E → List ℕ → ℕ
-failures_after n (Err e) piece = one_more n
+failures_after n (Err e) piece = one_failure_more n
 failures_after n (Ok k) [] = n
-failures_after n (Ok k) (x ∷ xs) = if k == 0 then one_more n else n
+failures_after n (Ok k) (x ∷ xs) = if k == 0 then one_failure_more n else n
 
 -- a sink's answer that tells the answer of a writer: its number, or that it failed
 abbrev pub IsToldAs : {E F : Type 0} → Result ℕ E → Result ℕ F → Type 0
@@ -40,4 +40,4 @@ AppendsAtLeast old new text = (more : List ℕ) × Appends old new (text ++ more
 abbrev pub TakesUnlessFailed : Option (List ℕ) → Option (List ℕ) → ℕ → ℕ → List ℕ → Type 0
 TakesUnlessFailed old new failures failures' text =
     (Appends old new text × (failures' ≡ failures))
-    ⊎ (AppendsPrefix old new text × (failures' ≡ one_more failures))
+    ⊎ (AppendsPrefix old new text × (failures' ≡ one_failure_more failures))

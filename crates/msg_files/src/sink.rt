@@ -1,6 +1,6 @@
 ghost use Rattle.std.specs.Prelude.{◌≡◌, ◌≤◌, List, ℕ, Option, OnOk, OnErr, IfErr, IfOk, length};
 ghost use Rattle.std.specs.Io.KnownBytes.{WriteAppends, Appends};
-ghost use Rattle.msg_files.specs.Sinks.{failures_after, one_more, AppendsPrefix};
+ghost use Rattle.msg_files.specs.Sinks.{failures_after, one_failure_more, AppendsPrefix};
 
 use crate::report_fault::ReportFault;
 use thiserror::Error;
@@ -30,7 +30,7 @@ pub fn put_all<S: Sink>(sink: &mut S, piece: &[u8]) -> Result<(), PutFault>
     ensures quiet { OnOk result (S.failures sink.new ≡ S.failures sink.old) }
     ensures prefix { OnErr result
         (AppendsPrefix (S.contents sink.old) (S.contents sink.new) piece.now) }
-    ensures failed { OnErr result (S.failures sink.new ≡ one_more (S.failures sink.old)) }
+    ensures failed { OnErr result (S.failures sink.new ≡ one_failure_more (S.failures sink.old)) }
 {
     let mut done = 0usize;
     while done < piece.len() {
@@ -50,7 +50,7 @@ pub fn put_text<S: Sink>(text: &[u8], sink: &mut S) -> Result<(), ReportFault>
     ensures quiet { OnOk result (S.failures sink.new ≡ S.failures sink.old) }
     ensures prefix { OnErr result
         (AppendsPrefix (S.contents sink.old) (S.contents sink.new) text.now) }
-    ensures write { OnErr result (S.failures sink.new ≡ one_more (S.failures sink.old)) }
+    ensures write { OnErr result (S.failures sink.new ≡ one_failure_more (S.failures sink.old)) }
     ensures only_write { IfErr result (λ fault. fault ≡ ReportFault.Write) }
 {
     match put_all(sink, text) {

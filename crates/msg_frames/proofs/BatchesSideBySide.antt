@@ -6,7 +6,7 @@ use Rattle.msg_world.specs.declared.access.Access.{Access}
 use Rattle.msg_world.specs.Prelude.{Conflict, OfResource, OfType, Part, Registry, WorldState, content, merge, writes}
 use Rattle.msg_order.specs.Prelude.{NoneConflict, access_of}
 use Rattle.msg_system.specs.Prelude.{Agree, JobFootprint, needs_any}
-use Rattle.msg_frames.specs.Prelude.{AreAccessesOf, BatchesRunSideBySide, FramesRunByBatches, SameSystems, State, after_turn_of, after_turns_of, all_home, home, logged_turn, needs_of, turn_of, AfterTurns}
+use Rattle.msg_frames.specs.Prelude.{AreAccessesOf, BatchesRunSideBySide, FramesRunByBatches, SameSystems, State, after_turn_of, after_turns_of, all_home, home, logged_turn, member_needs, turn_of, AfterTurns}
 use Rattle.msg_frames.proofs.{SystemsStay.accesses_stay, SystemsStay.turns_keep_systems, ElementsAndPairs.all_left, ElementsAndPairs.all_right, ElementsAndPairs.pairs_left, ElementsAndPairs.pairs_right, ElementsAndPairs.pairs_tail, TurnsCommute.apart, TurnsCommute.given_by_turn, TurnsCommute.same_world, TurnsCommute.turn_footprint}
 
 content_merge : (a : Access) (mine others : WorldState) (p : Part) → content p (merge a mine others)
@@ -18,7 +18,7 @@ content_merge a mine others Registry = refl
 -- nothing that system i needs or keeps is otherwise in s than in `start`
 record Untouched (start s : State) (i : ℕ) : Type 0 where
   member : s.members i ≡ start.members i
-  world : Agree (needs_any (needs_of (start.members i))) s.world start.world
+  world : Agree (needs_any (member_needs (start.members i))) s.world start.world
 
 module _ (foot : JobFootprint) (accesses : List Access) (start : State) (are : AreAccessesOf start accesses) where
   given_same : (s : State) (i : ℕ) → Untouched start s i → given_by_turn (turn_of s i) ≡ given_by_turn (turn_of start i)
@@ -31,7 +31,7 @@ module _ (foot : JobFootprint) (accesses : List Access) (start : State) (are : A
   turn_is_home s i lt h =
       let f = turn_footprint foot (start.members i) in
       let same = same_world (turn_of s i).world (merge (access_of accesses i) (turn_of start i).world s.world) (λ p.
-      let own = f.alike (needs_any (needs_of (start.members i))) s.world start.world (λ q u. u) h.world p in
+      let own = f.alike (needs_any (member_needs (start.members i))) s.world start.world (λ q u. u) h.world p in
       grind (arith, cases_Bool, content_merge, (are.of_needs i lt).writes p, f.kept s.world p, own, h.member)) in
       grind (arith, given_same s i h, same)
 

@@ -3,7 +3,7 @@ use Rattle.std.proofs.Common.{◌≡◌, ℕ, ◌≤◌, ◌<◌, ℤ, List, ari
 use Rattle.std.proofs.lemmas.{Bool.cases_Bool, Option.unwrap_or-slice_get, List.FromFn.get_or-map-range_with_len, Bool.Decides.nat_tests}
 use Rattle.msg_buffer.specs.Prelude.{OnlyGrows, count}
 use Rattle.msg_world.specs.declared.record.Record.{Record}
-use Rattle.msg_frames.specs.Prelude.{SameSystems, State, before_turns, counts, has_begun, joined_member, place_of}
+use Rattle.msg_frames.specs.Prelude.{SameSystems, State, before_turns, counts, has_begun, joined_member, reader_place}
 use Rattle.msg_frames.proofs.{HistoriesGrow.WorldGoesOn, HistoriesGrow.before_goes_on, SystemsStay.before_keeps}
 
 -- Where system i stands among those that join: it had joined before, it joins now, or it still waits.
@@ -22,6 +22,6 @@ pub record Prepares (s b : State) : Type 0 where
 pub prepares : OnlyGrows Record → (posts : List (ℕ × ℤ)) (s : State) → Prepares s (before_turns posts s)
 prepares grow posts s = grind (arith, before_keeps posts s, before_goes_on grow posts s, cases_Bool, nat_tests)
 
-pub begun_within : (s : State) (i t : ℕ) → t < s.types → place_of s i t ≤ count (s.world.histories t)
+pub begun_within : (s : State) (i t : ℕ) → t < s.types → reader_place s i t ≤ count (s.world.histories t)
     → (joined_member (counts s) (s.members i)).job.system.places t ≤ count (s.world.histories t)
 begun_within s i t below within = grind (arith, cases_Bool, get_or-map-range_with_len, unwrap_or-slice_get)

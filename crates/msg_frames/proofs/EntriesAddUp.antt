@@ -3,13 +3,13 @@ use Rattle.std.proofs.Common.{◌≡◌, ℕ, ◌+◌, List, [], ◌∷◌, ◌+
 use Rattle.std.proofs.lemmas.{List.length-append, List.FromFn.length-range_with_len, Bool.cases_Bool, Grind.flat_map-append}
 use Rattle.msg_buffer.specs.Prelude.{next_place, Tile}
 use Rattle.msg_system.specs.declared.reply.Took.{Took}
-use Rattle.msg_frames.specs.Prelude.{Entry, Moment, Totals, cleared, entry_of_read, given, missed, numbers_of, with_entries}
+use Rattle.msg_frames.specs.Prelude.{ReadEntry, Moment, Totals, cleared, entry_of_read, given, missed, numbers_of, with_entries}
 use Rattle.msg_frames.proofs.ReaderOverJob.{tile_of}
 
 pub with_entries-none : (x : Totals) → with_entries [] x ≡ x
 with_entries-none x = grind arith
 
-pub with_entries-append : (es fs : List Entry) (x : Totals) → with_entries (es ++ fs) x
+pub with_entries-append : (es fs : List ReadEntry) (x : Totals) → with_entries (es ++ fs) x
     ≡ with_entries fs (with_entries es x)
 with_entries-append es fs x = grind (arith, flat_map-append, length-append)
 

@@ -4,7 +4,7 @@ use Rattle.std.proofs.lemmas.{List.get_or_past, Bool.Decides.nat_tests, Bool.Dec
 use Rattle.msg_order.specs.declared.rule.Rule.{Rule}
 use Rattle.msg_world.specs.Prelude.{WorldState}
 use Rattle.msg_system.specs.Prelude.{Meaning}
-use Rattle.msg_frames.specs.Prelude.{AreNew, IsSoundState, Place, State, counts, first_state, place_of, unjoined}
+use Rattle.msg_frames.specs.Prelude.{AreNew, IsSoundState, Place, State, counts, first_state, reader_place, unjoined}
 use Rattle.msg_frames.proofs.{BeforeTurns.begun_within, StatesStaySound.balanced_start}
 
 module _ (systems : List Meaning) (places : List Place) (rules : List Rule) (types : ℕ) (world : WorldState)
@@ -12,7 +12,7 @@ module _ (systems : List Meaning) (places : List Place) (rules : List Rule) (typ
   abbrev all_wait : State
   all_wait = unjoined systems places rules types world
 
-  at_zero : (i t : ℕ) → place_of all_wait i t ≡ 0
+  at_zero : (i t : ℕ) → reader_place all_wait i t ≡ 0
   at_zero i t = grind (arith, get_or_past, nat_tests)
 
   join_from_one : (i : ℕ) → 1 ≤ (all_wait.members i).join

@@ -5,7 +5,7 @@ use Rattle.msg_world.specs.declared.access.Access.{Access}
 use Rattle.msg_world.specs.Prelude.{Conflict}
 use Rattle.msg_order.specs.Prelude.{ConflictingSystemsAreOrdered, Graph, IsLawfulOrder, LawfulOrdersKeepPaths, Path, SettledOrderIsUnique, TurnOrderIsLawful, access_of, has_joined}
 use Rattle.msg_system.specs.Prelude.{JobFootprint}
-use Rattle.msg_frames.specs.Prelude.{AreAccessesOf, FramesAgreeInLawfulOrders, LawfulOrdersAgree, State, after_turn_of, after_turns_of, before_turns, has_begun, join_flags, logged_turn, systems_in, Turn}
+use Rattle.msg_frames.specs.Prelude.{AreAccessesOf, FramesAgreeInLawfulOrders, LawfulOrdersAgree, State, after_turn_of, after_turns_of, before_turns, has_begun, join_flags, logged_turn, turn_order_in, Turn}
 use Rattle.msg_frames.proofs.{RunsAreUnique.one_order, RunsAreUnique.order_is_among, TurnsCommute.turns_commute, SystemsStay.accesses_stay, SystemsStay.joined_below, SystemsStay.one_turn_keeps, ElementsAndPairs.Cut, ElementsAndPairs.cut, ElementsAndPairs.pairs_head, ElementsAndPairs.pairs_middle, ElementsAndPairs.pairs_right, ElementsAndPairs.pairs_tail}
 use Rattle.msg_order.proofs.Elements.{Contains-cases, Contains-head, Contains-tail, not_in_none}
 
@@ -116,8 +116,8 @@ pub frames_agree : JobFootprint → ConflictingSystemsAreOrdered → LawfulOrder
 frames_agree foot ordered keeps one is_lawful frame s u log settled order x is_order lawful =
     let b : State = before_turns frame.posts s in
     let same = one_order one b x.in_order.settled settled x.in_order.is_order is_order in
-    let own = is_lawful settled (join_flags b) (systems_in log) (order_is_among _ _ is_order)
+    let own = is_lawful settled (join_flags b) (turn_order_in log) (order_is_among _ _ is_order)
     (rw same at x.in_order.in_order) in
     let agree = orders_agree foot ordered keeps b is_order.accesses settled order
-    (systems_in log) is_order.of_systems is_order.is_settled lawful own in
+    (turn_order_in log) is_order.of_systems is_order.is_settled lawful own in
     grind (arith, agree, x.leaves, x.tells)

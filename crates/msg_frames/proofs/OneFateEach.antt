@@ -2,22 +2,23 @@
 use Rattle.std.proofs.Common.{◌≡◌, ◌⊎◌, ℕ, suc, ◌+◌, ◌-◌, ◌≤◌, ◌<◌, List, [], ◌∷◌, map, Contains, cond, is_some, refl, arith, inl, inr, All, nat_lt}
 use Rattle.std.proofs.lemmas.{Bool.cases_Bool, Bool.cases_lt, List.Elements.All-cons, List.Elements.All-head, List.Elements.All-nil, List.Elements.All-tail, Bool.Decides.nat_tests}
 use Rattle.msg_buffer.specs.Prelude.{IsPresent, Tile, count, next_place}
-use Rattle.msg_frames.specs.Prelude.{Entry, Fate, Meets, MeetsOneFate, Moment, cleared, given, missed, numbers_at}
+use Rattle.msg_frames.specs.Prelude.{ReadEntry, Fate, Meets, MeetsOneFate, Moment, cleared, given, missed, numbers_at}
 use Rattle.msg_order.proofs.Elements.{Contains-range, range-Contains}
 use Rattle.msg_frames.proofs.ReaderOverJob.{IsWritten, tile_of}
 
-abbrev fate_at : Entry → ℕ → Fate
+abbrev fate_at : ReadEntry → ℕ → Fate
 fate_at e n = cond (nat_lt n e.stretch.first) missed (cond (is_some e.given) given cleared)
 
 -- a number that met a fate at an entry lies there, and met no other
-fate_of : (fate : Fate) (e : Entry) (n place : ℕ) → e.stretch.first ≡ place + e.stretch.missed
+fate_of : (fate : Fate) (e : ReadEntry) (n place : ℕ) → e.stretch.first ≡ place + e.stretch.missed
     → Contains (numbers_at fate e) n → (place ≤ n) × (n < next_place e.stretch) × (fate_at e n ≡ fate)
 fate_of missed e n place begins c = grind (arith, nat_tests, range-Contains _ _ _ c)
 fate_of fate e n place begins c =
     grind (arith, cases_Bool (is_some e.given), nat_tests, range-Contains e.stretch.first e.stretch.number n)
 
 -- and each number there met one
-has_fate : (e : Entry) (n place : ℕ) → e.stretch.first ≡ place + e.stretch.missed → place ≤ n → n < next_place e.stretch
+has_fate : (e : ReadEntry) (n place : ℕ) → e.stretch.first ≡ place + e.stretch.missed
+    → place ≤ n → n < next_place e.stretch
     → Contains (numbers_at (fate_at e n) e) n
 has_fate e n place begins low high =
     let before = Contains-range (e.stretch.first - e.stretch.missed) e.stretch.missed n in
@@ -26,11 +27,11 @@ has_fate e n place begins low high =
 
 -- ---- at the entries of tiles
 
-abbrev pub entries_of : List Moment → List Entry
+abbrev pub entries_of : List Moment → List ReadEntry
 entries_of ms = map (λ m. m.entry) ms
 
 -- what is met at the first entry, and what at a later one
-at_either : (e : Entry) (es : List Entry) (n k : ℕ) (fate : Fate) → Meets (e ∷ es) n k fate
+at_either : (e : ReadEntry) (es : List ReadEntry) (n k : ℕ) (fate : Fate) → Meets (e ∷ es) n k fate
     → ((k ≡ 0) × Contains (numbers_at fate e) n) ⊎ ((l : ℕ) × ((k ≡ suc l) × Meets es n l fate))
 at_either e es n k fate met = grind arith
 

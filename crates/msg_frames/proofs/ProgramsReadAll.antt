@@ -5,7 +5,7 @@ use Rattle.msg_buffer.specs.Prelude.{OnlyGrows}
 use Rattle.msg_world.specs.declared.record.Record.{Record}
 use Rattle.msg_system.specs.declared.program.Program.{Program}
 use Rattle.msg_system.specs.Prelude.{IsInOrder, Job, Meaning, after_job, of_program, program_needs, started_places, turn}
-use Rattle.msg_frames.specs.Prelude.{Skipped, State, WhoseProgramReadsAll, after_turn_of, after_turns_of, before_turns, counts, has_begun, job_begun, systems_in}
+use Rattle.msg_frames.specs.Prelude.{Skipped, State, WhoseProgramReadsAll, after_turn_of, after_turns_of, before_turns, counts, has_begun, job_begun, turn_order_in}
 use Rattle.msg_frames.proofs.{BeforeTurns.Prepares, BeforeTurns.comes, BeforeTurns.prepares, BeforeTurns.stood, ReaderOverTurns.one_member}
 use Rattle.msg_frames.proofs.BeforeTurns as before
 
@@ -47,11 +47,11 @@ programs_read_all grow in_order frame s log u i t program writer places is there
     let ready : IsProgram in_order program writer few (b.members i).job =
     before_stays in_order program writer few grow frame.posts s i (places, was) in
     let stays : IsProgram in_order program writer few (u.members i).job =
-    rw (is.leaves) (turns_stay in_order program writer few i (systems_in log) b ready) in
+    rw (is.leaves) (turns_stay in_order program writer few i (turn_order_in log) b ready) in
     let joins = get_or-map-range_with_len (has_begun b) 0 b.systems i i false (rw (prep.same.systems) there) in (
       record {
         has_turn = grind (arith, is.in_order.in_order.of_joined i, joins, false≢true, prep.arrival i);
-        ran = rw (is.tells) (turns_ran in_order program writer few i (systems_in log) b ready);
+        ran = rw (is.tells) (turns_ran in_order program writer few i (turn_order_in log) b ready);
         read_all = rw (stays.1) reads;
       },
       stays,

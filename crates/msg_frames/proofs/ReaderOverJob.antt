@@ -7,7 +7,7 @@ use Rattle.msg_world.specs.Prelude.{WorldState}
 use Rattle.msg_system.specs.{declared.op.Op.Op, declared.op.Op.TheVariants.Read, declared.op.Op.TheVariants.Clear, declared.op.Op.TheVariants.Forward, declared.op.Op.TheVariants.Sum, declared.reply.Reply.Reply}
 use Rattle.msg_system.specs.Prelude.{AfterProgram, Job, Meaning, after_at_most, after_job, after_op, next_op, one_more, ops_answered, took, turn, with_place}
 use Rattle.msg_system.proofs.Turns.{ops_answered-snoc}
-use Rattle.msg_frames.specs.Prelude.{Entry, GivesItsStretch, Moment, answers, entries_for, entry_for, entry_of_read, first_moments, job_moments, next_moments, outcome_entries, outcome_of, turn_moments}
+use Rattle.msg_frames.specs.Prelude.{ReadEntry, GivesItsStretch, Moment, replies_of, entries_for, entry_for, entry_of_read, first_moments, job_moments, next_moments, outcome_entries, outcome_of, turn_moments}
 use Rattle.msg_frames.proofs.HistoriesGrow.{BufferLaws, counts_more, Grows, goes_further, grown, op_changes, stays}
 
 -- a moment, as a tile of the buffers' laws
@@ -49,14 +49,14 @@ pub passes_nothing : (p : ℕ) (a b : History Record) → p ≤ count a → Goes
 passes_nothing p a b within goes = grind (arith, All-nil, counts_more)
 
 -- a single entry
-pub passes_one : (p : ℕ) (a : History Record) (e : Entry) (b : History Record) → Fits a p e.stretch
+pub passes_one : (p : ℕ) (a : History Record) (e : ReadEntry) (b : History Record) → Fits a p e.stretch
     → next_place e.stretch ≤ count a
     → GivesItsStretch (record { history = a; entry = e }) → GoesOn a b
     → Passes p a (record { history = a; entry = e } ∷ []) (next_place e.stretch) b
 passes_one p a e b fits within gives goes = grind (arith, All-cons, All-nil, counts_more)
 
 -- the moment of an entry of type u, for type t
-abbrev moments_if : ℕ → ℕ → WorldState → Entry → List Moment
+abbrev moments_if : ℕ → ℕ → WorldState → ReadEntry → List Moment
 moments_if u t w e = map (λ x. record { history = w.histories t; entry = x }) (cond (u == t) (e ∷ []) [])
 
 -- a reader of type t goes past these moments, from these places in a world to those in another
@@ -67,7 +67,7 @@ GoesPast t ps w ms qs v = IsSound (w.histories t) → ps t ≤ count (w.historie
 module _ (laws : BufferLaws) where
   module _ (t : ℕ) where
     -- an op that reads type u
-    of_type : (u : ℕ) (w : WorldState) (v : History Record) (ps : ℕ → ℕ) (e : Entry) (q : ℕ)
+    of_type : (u : ℕ) (w : WorldState) (v : History Record) (ps : ℕ → ℕ) (e : ReadEntry) (q : ℕ)
         → ps t ≤ count (w.histories t) → GoesOn (w.histories t) v
         → (u ≡ t → Passes (ps t) (w.histories t) (record { history = w.histories t; entry = e } ∷ []) q v)
         → Passes (ps t) (w.histories t) (moments_if u t w e) (with_place ps u q t) v
@@ -92,7 +92,7 @@ module _ (laws : BufferLaws) where
     next_passes (Some (Clear u)) writer far = λ sound within.
         let h : History Record = far.state.histories t in
         let law = laws.clears h (far.places t) sound in
-        let entry : Entry = record { stretch = pass_over h (far.places t); given = None } in
+        let entry : ReadEntry = record { stretch = pass_over h (far.places t); given = None } in
         of_type u far.state _ far.places _ _ within (stays _ sound) (λ e. rw (e, ← law.1 within)
         (passes_one (far.places t) h entry _ law.0 (omega (arith, law.1 within)) tt (stays _ sound)))
     next_passes (Some (Forward u v)) writer far =
@@ -160,5 +160,5 @@ job_logged t j w = grind (arith, append-nil, cases_Bool, answered t j.system w 6
 -- what it does after its job
 pub job_rule : (j : Job) (w : WorldState) → (after_job j w).job.system.rule
     ≡ (λ (later : List (List Reply)) (now : List Reply). j.system.rule
-    (answers (outcome_of (after_job j w).replies) ++ later) now)
+    (replies_of (outcome_of (after_job j w).replies) ++ later) now)
 job_rule j w = grind (arith, cases_Bool)

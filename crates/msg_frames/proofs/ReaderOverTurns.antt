@@ -4,19 +4,19 @@ use Rattle.std.proofs.lemmas.{Bool.cases_eq, Bool.eq-eqb, Bool.ne_eqb, List.map-
 use Rattle.msg_buffer.specs.Prelude.{IsSound, count, History}
 use Rattle.msg_system.specs.declared.reply.Reply.{Reply}
 use Rattle.msg_system.specs.Prelude.{Needs, Rule}
-use Rattle.msg_frames.specs.Prelude.{Member, Moment, State, Turn, after_turn_of, after_turns_of, answers, entries_told, job_moments, logged_turn, place_of, turn_of, turns_moments, with_entries, Totals}
+use Rattle.msg_frames.specs.Prelude.{Member, Moment, State, Turn, after_turn_of, after_turns_of, replies_of, entries_told, job_moments, logged_turn, reader_place, turn_of, turns_moments, with_entries, Totals}
 use Rattle.msg_order.proofs.Elements.{Contains-tail, Contains-head}
 use Rattle.msg_frames.proofs.{HistoriesGrow.BufferLaws, HistoriesGrow.Grows, HistoriesGrow.grown, HistoriesGrow.job_changes, HistoriesGrow.stays, SystemsStay.one_turn_keeps, ReaderOverJob.Passes, ReaderOverJob.job_logged, ReaderOverJob.job_passes, ReaderOverJob.job_rule, ReaderOverJob.passes_further, ReaderOverJob.passes_nothing, EntriesAddUp.with_entries-append, EntriesAddUp.with_entries-none}
 use Rattle.msg_world.specs.declared.record.Record.{Record}
 
 -- Reader (i, t), which was given so much, goes past these moments from a place in a history on, up to a state.
 pub record ReadsFrom (i t place : ℕ) (had : Totals) (old : History Record) (ms : List Moment) (u : State) : Type 0 where
-  pub passes : Passes place old ms (place_of u i t) (u.world.histories t)
+  pub passes : Passes place old ms (reader_place u i t) (u.world.histories t)
   pub totals : (u.members i).totals t ≡ with_entries (map (λ m. m.entry) ms) had
 
 -- it does so between two states
 abbrev pub Reads : ℕ → ℕ → State → List Moment → State → Type 0
-Reads i t s ms u = ReadsFrom i t (place_of s i t) ((s.members i).totals t) (s.world.histories t) ms u
+Reads i t s ms u = ReadsFrom i t (reader_place s i t) ((s.members i).totals t) (s.world.histories t) ms u
 
 pub reads_further : (i t : ℕ) (a : State) (ms : List Moment) (b : State) (ns : List Moment) (c : State)
     → Reads i t a ms b → Reads i t b ns c → Reads i t a (ms ++ ns) c
@@ -37,14 +37,14 @@ own_moments i t j s = cond (j == i) (job_moments t (s.members i).job s.world) []
 
 module _ (laws : BufferLaws) where
   pub turn_reads : (i t j : ℕ) (s : State) → IsSound (s.world.histories t)
-      → place_of s i t ≤ count (s.world.histories t) → Reads i t s (own_moments i t j s) (after_turn_of j s)
+      → reader_place s i t ≤ count (s.world.histories t) → Reads i t s (own_moments i t j s) (after_turn_of j s)
   turn_reads i t j s sound within =
       let own = job_passes laws t (s.members i).job s.world sound within in
       let none = passes_nothing _ _ _ within (job_changes Grows (grown laws.grow) (s.members j).job s.world t sound) in
       grind (arith, eqb_tells, job_logged, none, own, with_entries-none)
 
   pub turns_read : (i t : ℕ) (js : List ℕ) (s : State) → IsSound (s.world.histories t)
-      → place_of s i t ≤ count (s.world.histories t)
+      → reader_place s i t ≤ count (s.world.histories t)
       → Reads i t s (turns_moments i t js s) (after_turns_of js s).state
   turns_read i t [] s sound within = grind (arith, passes_nothing, stays, with_entries-none)
   turns_read i t (j ∷ js) s sound within =
@@ -55,7 +55,7 @@ module _ (laws : BufferLaws) where
 -- ---- what the log has of system i among these turns
 
 abbrev pub answers_among : ℕ → List Turn → List (List Reply)
-answers_among i turns = flat_map (λ turn. cond (turn.system == i) (answers turn.outcome) []) turns
+answers_among i turns = flat_map (λ turn. cond (turn.system == i) (replies_of turn.outcome) []) turns
 
 -- a rule, after turns that were answered so
 abbrev pub after_told : List (List Reply) → Rule → Rule
@@ -81,7 +81,7 @@ tells_further i t a xs ms b ys ns c x y =
     let m = (a.members i).job.system in
     grind (arith, append_assoc, entries_told-append t m.needs m.rule xs ys, map-append)
 
-turn_tells : (i t j : ℕ) (s : State) → Tells i t s (cond (j == i) (answers (logged_turn s j).outcome) [])
+turn_tells : (i t j : ℕ) (s : State) → Tells i t s (cond (j == i) (replies_of (logged_turn s j).outcome) [])
     (own_moments i t j s) (after_turn_of j s)
 turn_tells i t j s = record {
   entries = grind (arith, eqb_tells, job_logged t (s.members i).job s.world);
@@ -96,7 +96,7 @@ pub turns_tell : (i t : ℕ) (js : List ℕ) (s : State)
     → Tells i t s (answers_among i (after_turns_of js s).turns) (turns_moments i t js s) (after_turns_of js s).state
 turns_tell i t [] s = record { entries = refl; rule = refl; needs = refl }
 turns_tell i t (j ∷ js) s =
-    tells_further i t s (cond (j == i) (answers (logged_turn s j).outcome) []) (own_moments i t j s) _ _ _ _
+    tells_further i t s (cond (j == i) (replies_of (logged_turn s j).outcome) []) (own_moments i t j s) _ _ _ _
     (turn_tells i t j s) (turns_tell i t js (after_turn_of j s))
 
 -- one whose turn doesn't come

@@ -5,7 +5,7 @@ use Rattle.msg_buffer.specs.Prelude.{Entry, Fits, GoesOn, History, IsPresent, St
 use Rattle.msg_world.specs.declared.record.Record.{Record}
 use Rattle.msg_world.specs.Prelude.{after_update}
 use Rattle.msg_frames.proofs.{ElementsAndPairs.Cut, ElementsAndPairs.cut, HistoriesGrow.BufferLaws, HistoriesGrow.counts_more, HistoriesGrow.Grows, HistoriesGrow.frame_goes_on, HistoriesGrow.grown, HistoriesGrow.posts_change, HistoriesGrow.runs_go_on, HistoriesGrow.turns_change, SystemsStay.joining_world, SystemsStay.turns_keep, SystemsStay.frame_keeps, ReaderOverJob.IsWritten, ReaderOverJob.tile_of, ReaderOverTurns.turns_read, BeforeTurns.Prepares, BeforeTurns.prepares, StatesStaySound.begun_alike, StatesStaySound.frame_sound, StatesStaySound.has_no_turn, StatesStaySound.prepared_sound, ReaderOverRun.run_tells, StampsStayRecent.AreRecent, StampsStayRecent.StaysRecent, StampsStayRecent.earlier_recent, StampsStayRecent.stays_recent, ReadersTakeAll.takes_by_turn}
-use Rattle.msg_frames.specs.Prelude.{Frame, IsFrame, IsRun, IsSoundState, IsUpToDate, Log, Moment, NothingDrained, ReadsAll, ReadsAllInEach, State, WhoIsUpToDateMissesNothing, WhoReadsEachFrameMissesNothing, after_turns_of, before_turns, has_begun, joining, moments, place_of, systems_in, turns_moments}
+use Rattle.msg_frames.specs.Prelude.{Frame, IsFrame, IsRun, IsSoundState, IsUpToDate, Log, Moment, NothingDrained, ReadsAll, ReadsAllInEach, State, WhoIsUpToDateMissesNothing, WhoReadsEachFrameMissesNothing, after_turns_of, before_turns, has_begun, joining, moments, reader_place, turn_order_in, turns_moments}
 
 -- a message that was written at most one update ago, and stands at the floor or above
 pub is_there : (p : ℕ) (h : History Record) (n : ℕ) → AreRecent 1 p h → p ≤ n → h.floor ≤ n → n < count h
@@ -50,15 +50,15 @@ module _ (laws : BufferLaws) where
     under : t < b.types
     under = rw (prep.same.types) below
 
-    pub caught_up : ReadsAll i t log u → (earlier later : List ℕ) → systems_in log ≡ earlier ++ i ∷ later
-        → count ((after_turns_of earlier b).state.world.histories t) ≤ place_of u i t
+    pub caught_up : ReadsAll i t log u → (earlier later : List ℕ) → turn_order_in log ≡ earlier ++ i ∷ later
+        → count ((after_turns_of earlier b).state.world.histories t) ≤ reader_place u i t
     caught_up reads earlier later order =
         rw (is.leaves, order) (takes_by_turn laws t i earlier later b (ready.histories t under) (ready.places i t under)
         (rw (is.tells, order) at reads.ran) (rw (is.leaves, order) at reads.read_all))
 
-    pub has_frame_before : ReadsAll i t log u → count (s.world.histories t) ≤ place_of u i t
+    pub has_frame_before : ReadsAll i t log u → count (s.world.histories t) ≤ reader_place u i t
     has_frame_before reads =
-        let parts : Cut (systems_in log) i = cut _ _ reads.has_turn in
+        let parts : Cut (turn_order_in log) i = cut _ _ reads.has_turn in
         let first = counts_more _ _ (prep.world t (sound.histories t below)) in
         let more = counts_more _ _ (turns_change Grows (grown laws.grow) parts.before b t (ready.histories t under)) in
         omega (arith, caught_up reads _ _ parts.is, first, more)
@@ -66,7 +66,7 @@ module _ (laws : BufferLaws) where
     -- a frame keeps recent what its update leaves recent
     frame_recent : (k p : ℕ) → AreRecent k p ((after_update s.world).histories t) → AreRecent k p (u.world.histories t)
     frame_recent k p recent =
-        rw (is.leaves) (turns_change (StaysRecent k p) (stays_recent k p) (systems_in log) b t
+        rw (is.leaves) (turns_change (StaysRecent k p) (stays_recent k p) (turn_order_in log) b t
         (posts_change (StaysRecent k p) (stays_recent k p) frame.posts (after_update (joining s).world) t
         (rw (joining_world s) recent)))
 
@@ -80,9 +80,9 @@ module _ (laws : BufferLaws) where
         (omega arith) (omega (arith, drained, (sound.histories t below).floor)) within
 
     present_at : (ms : List Moment) → IsUpToDate s i t → NothingDrained t s u
-        → All (λ m. GoesOn m.history (u.world.histories t)) ms → AllPresent (place_of s i t) ms
+        → All (λ m. GoesOn m.history (u.world.histories t)) ms → AllPresent (reader_place s i t) ms
     present_at ms up drained goes k d lt n above within =
-        let p : ℕ = place_of s i t in
+        let p : ℕ = reader_place s i t in
         let recent = frame_recent 1 p
         (λ m e after at. grind (arith, cases_Bool, nat_tests, same_Some, up m after, slice_get_within)) in
         is_there p (get_or ms k d).history n (earlier_recent 1 p _ _ (goes k d lt) recent) above
@@ -90,17 +90,17 @@ module _ (laws : BufferLaws) where
         within
 
     frame_misses_none : IsTrue (has_begun s i) → IsUpToDate s i t → NothingDrained t s u
-        → NoneMissed (turns_moments i t (systems_in log) b)
+        → NoneMissed (turns_moments i t (turn_order_in log) b)
     frame_misses_none has up drained =
-        let reads = turns_read laws i t (systems_in log) b (ready.histories t under) (ready.places i t under) in
-        tile_misses_none (place_of s i t) _ _ _ reads.passes.tile reads.passes.written
+        let reads = turns_read laws i t (turn_order_in log) b (ready.histories t under) (ready.places i t under) in
+        tile_misses_none (reader_place s i t) _ _ _ reads.passes.tile reads.passes.written
         (present_at _ up drained (rw (is.leaves) reads.passes.earlier)) (grind (arith, false≢true, prep.arrival i))
 
     -- who has a turn has joined
-    joined_by_turn : Contains (systems_in log) i → IsTrue (has_begun u i)
+    joined_by_turn : Contains (turn_order_in log) i → IsTrue (has_begun u i)
     joined_by_turn at =
-        let alike = begun_alike b _ i (turns_keep (systems_in log) b) in
-        grind (arith, alike, at, cases_Bool, has_no_turn b (systems_in log) i is.in_order)
+        let alike = begun_alike b _ i (turns_keep (turn_order_in log) b) in
+        grind (arith, alike, at, cases_Bool, has_no_turn b (turn_order_in log) i is.in_order)
 
   -- ---- a run
 
@@ -116,7 +116,7 @@ module _ (laws : BufferLaws) where
       → IsFrame frame s log m → IsRun frames m logs u
       → t < s.types → NothingDrained t s u → Between t s m u
   between frame frames s m u log logs t sound is run below drained =
-      let order : List ℕ = systems_in log in
+      let order : List ℕ = turn_order_in log in
       let goes = frame_goes_on laws.grow order frame s t (sound.histories t below) in
       let types = (frame_keeps order frame s).types in
       let later = runs_go_on laws.grow frames m u logs run t in

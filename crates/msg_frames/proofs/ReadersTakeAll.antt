@@ -7,7 +7,7 @@ use Rattle.msg_world.specs.Prelude.{WorldState}
 use Rattle.msg_system.specs.declared.op.Op.{Op}
 use Rattle.msg_system.specs.Prelude.{AfterProgram, Meaning, after_at_most, after_op, next_op, one_more, ops_answered, turn}
 use Rattle.msg_system.proofs.Turns.{ops_answered-snoc}
-use Rattle.msg_frames.specs.Prelude.{Skipped, State, after_turn_of, after_turns_of, logged_turn, next_moments, place_of, reads_all}
+use Rattle.msg_frames.specs.Prelude.{Skipped, State, after_turn_of, after_turns_of, logged_turn, next_moments, reader_place, reads_all}
 use Rattle.msg_frames.proofs.{HistoriesGrow.BufferLaws, HistoriesGrow.counts_more, OneFateEach.tiles_rise, ReaderOverJob.first_passes, ReaderOverJob.next_passes, ReaderOverTurns.one_member, ReaderOverTurns.turn_reads}
 
 module _ (laws : BufferLaws) (t : ℕ) where
@@ -47,10 +47,10 @@ module _ (laws : BufferLaws) (t : ℕ) where
 
   -- where the last ops of system i read all, it stands at c or after it
   abbrev Took : ℕ → ℕ → State → Type 0
-  Took i c s = IsTrue (list_any (reads_all t) (s.members i).job.system.last) → c ≤ place_of s i t
+  Took i c s = IsTrue (list_any (reads_all t) (s.members i).job.system.last) → c ≤ reader_place s i t
 
   turns_keep_it : (i c : ℕ) (js : List ℕ) (s : State) → IsSound (s.world.histories t)
-      → place_of s i t ≤ count (s.world.histories t) → c ≤ count (s.world.histories t)
+      → reader_place s i t ≤ count (s.world.histories t) → c ≤ count (s.world.histories t)
       → Took i c s → Took i c (after_turns_of js s).state
   turns_keep_it i c [] s sound within less has = has
   turns_keep_it i c (j ∷ js) s sound within less has =
@@ -59,7 +59,7 @@ module _ (laws : BufferLaws) (t : ℕ) where
       (omega (arith, less, counts_more _ _ first.goes_on)) (grind (arith, cases_Bool, one_member, turn_takes))
 
   pub takes_by_turn : (i : ℕ) (earlier later : List ℕ) (b : State) → IsSound (b.world.histories t)
-      → place_of b i t ≤ count (b.world.histories t)
+      → reader_place b i t ≤ count (b.world.histories t)
       → All (λ turn. turn.system ≡ i → turn.outcome ≢ Skipped) (after_turns_of (earlier ++ i ∷ later) b).turns
       → Took i (count ((after_turns_of earlier b).state.world.histories t))
       (after_turns_of (earlier ++ i ∷ later) b).state

@@ -5,7 +5,7 @@ use Rattle.msg_world.specs.Prelude.{by, new_world}
 use Rattle.msg_system.specs.{declared.op.Op.TheVariants.Read, declared.op.Op.TheVariants.Clear}
 use Rattle.msg_system.specs.Prelude.{new_system, turn}
 use Rattle.msg_world.specs.declared.record.TheConstants.{HOST}
-use Rattle.msg_frames.specs.Prelude.{AfterFrame, Entry, Log, State, cleared, first_state, found_at, frame_in, given, log_entries, messages_given, missed, nowhere, numbers_of, place_of, program}
+use Rattle.msg_frames.specs.Prelude.{AfterFrame, ReadEntry, Log, State, cleared, first_state, found_at, frame_in, given, log_entries, messages_given, missed, nowhere, numbers_of, reader_place, program}
 
 abbrev start : State
 start =
@@ -25,16 +25,17 @@ third = frame_in (0 ∷ 1 ∷ []) (record { posts = (0, pos 8) ∷ [] }) second.
 abbrev logs : List Log
 logs = first.log ∷ second.log ∷ third.log ∷ []
 
-abbrev read : List Entry
+abbrev read : List ReadEntry
 read = log_entries 0 0 (start.members 0).job.system logs
 
 -- two are read before the third is dropped, and then the fourth
 read_row : (numbers_of given read ≡ 0 ∷ 1 ∷ 3 ∷ []) × (numbers_of missed read ≡ 2 ∷ []) × (numbers_of cleared read ≡ [])
-    × (messages_given read ≡ by HOST (pos 5) ∷ by HOST (pos 6) ∷ by HOST (pos 8) ∷ []) × (place_of third.state 0 0 ≡ 4)
+    × (messages_given read ≡ by HOST (pos 5) ∷ by HOST (pos 6) ∷ by HOST (pos 8) ∷ [])
+    × (reader_place third.state 0 0 ≡ 4)
 unfolding turn
 read_row = (refl, refl, refl, refl, refl)
 
-abbrev swept : List Entry
+abbrev swept : List ReadEntry
 swept = log_entries 1 0 (start.members 1).job.system logs
 
 -- the other begins at 0, too late for the first three

@@ -2,7 +2,7 @@
 use Rattle.std.proofs.Common.{arith, ◌≡◌, ◌≢◌, ℕ, ◌==◌, inl, inr, List, [], ◌∷◌, ◌++◌, map, refl, ap, Bool, false, suc, AllPairs, Contains, IsPermutation, flat_map, if◌then◌else◌, All}
 use Rattle.std.proofs.lemmas.{Bool.cases_Bool, Bool.eqb-true, Bool.Decides.eqb_tells, List.append-nil, List.get_or-map, List.length-map, List.Sorted.Contains-permutation, List.Sorted.list_any-IsPermutation, List.Folds.list_any_none}
 use Rattle.msg_order.specs.Prelude.{TurnOrderIsLawful}
-use Rattle.msg_frames.specs.Prelude.{Frame, IsMixedRun, IsReplay, IsRun, Log, ReplaysTellACompleteRun, ReplaysTellTheSame, RunsAreComplete, State, Turn, answers, answers_in, before_turns, join_flags, systems_in}
+use Rattle.msg_frames.specs.Prelude.{Frame, IsMixedRun, IsReplay, IsRun, Log, ReplaysTellACompleteRun, ReplaysTellTheSame, RunsAreComplete, State, Turn, replies_of, answers_in, before_turns, join_flags, turn_order_in}
 use Rattle.msg_frames.proofs.{ElementsAndPairs.pairs_tail, RunsAreUnique.order_is_among, ReaderOverTurns.answers_among}
 use Rattle.msg_order.proofs.Elements.{Contains-cases, not_in_none, Contains-list_any}
 use Rattle.std.specs.List.{list_any}
@@ -50,9 +50,10 @@ turns_alike : TurnOrderIsLawful → (frame : Frame) (order : List ℕ) (s : Stat
     → answers_among i log.turns ≡ answers_among i replay.settled.turns
 turns_alike lawful frame order s log u replay i =
     let settled = replay.is_frame.in_order in
-    let other = lawful settled.settled (join_flags (before_turns frame.posts s)) (systems_in replay.settled)
+    let other = lawful settled.settled (join_flags (before_turns frame.posts s)) (turn_order_in replay.settled)
     (order_is_among _ _ settled.is_order) settled.in_order in
-    told_alike (λ (turn : Turn). turn.system) (λ (turn : Turn). answers _) i log.turns replay.settled.turns replay.turns
+    told_alike (λ (turn : Turn). turn.system) (λ (turn : Turn). replies_of _) i log.turns replay.settled.turns
+        replay.turns
     (rw (replay.in_order) (replay.lawful.lawful.once)) other.once
 
 pub replay_tells : TurnOrderIsLawful → ReplaysTellTheSame

@@ -10,7 +10,7 @@ use Rattle.msg_order.specs.Prelude.{access_of}
 use Rattle.msg_order.proofs.Computing.{each_below, is_turn_order, in_turn_by_test, settled_by_test, settled_is}
 use Rattle.msg_system.specs.{declared.op.Op.Op, declared.condition.Condition.Condition, declared.op.Op.TheVariants.Read, declared.program.Program.Program}
 use Rattle.msg_system.specs.Prelude.{IsAccessOf, Needs, conditions_of, is_part, job_needs, op_parts, probe_part, program_needs, turn}
-use Rattle.msg_frames.specs.Prelude.{AfterFrame, Frame, IsRunOf, IsTurnOrderOf, OrderedFrames, Setup, State, alone, before_turns, conditions_frames, contrary, contrary_frames, drained, drained_frames, early_frames, echo, echo_frames, fourth, fourth_frames, frame_in, gated, gated_frames, join_flags, lag, lag_frames, late, late_frames, needs_of, nobody, numbered, program, relay, relay_frames, signallers, signallers_frames, start_of, tally, tally_frames, two_conditions, writers, writers_frames}
+use Rattle.msg_frames.specs.Prelude.{AfterFrame, Frame, IsRunOf, IsTurnOrderOf, OrderedFrames, Setup, State, alone, before_turns, conditions_frames, contrary, contrary_frames, drained, drained_frames, early_frames, echo, echo_frames, fourth, fourth_frames, frame_in, gated, gated_frames, join_flags, lag, lag_frames, late, late_frames, member_needs, nobody, systems_numbered, program, relay, relay_frames, signallers, signallers_frames, setup_state, tally, tally_frames, two_conditions, writers, writers_frames}
 use Rattle.msg_frames.proofs.{SystemsStay.before_keeps, SystemsStay.frame_keeps, SystemsStay.joining_on_keeps, FramesInOrder.frame_in_order}
 
 -- ---- accesses, computed
@@ -74,7 +74,7 @@ abbrev most : ℕ
 most = 2
 
 abbrev accesses_of : State → List Access
-accesses_of s = map (λ i. access_for most (needs_of (s.members i))) (range_with_len 0 s.systems)
+accesses_of s = map (λ i. access_for most (member_needs (s.members i))) (range_with_len 0 s.systems)
 
 -- the ops of program i
 abbrev ops_at : List Program → ℕ → List Op
@@ -95,7 +95,7 @@ turns_of : (programs : List Program) (s : State) (order : List ℕ) → AreProgr
     → are_turns_of programs s order ≡ true → IsTurnOrderOf s order
 turns_of programs s order are t =
     let both = and_parts _ _ t in
-    let access : ℕ → Access = λ i. access_for most (needs_of (s.members i)) in
+    let access : ℕ → Access = λ i. access_for most (member_needs (s.members i)) in
     let is : (i : ℕ) → i < s.systems → access_of (accesses_of s) i
     ≡ access i = λ i lt. get_or-map-range_with_len access 0 s.systems i i no_access lt (omega arith) in
     record {
@@ -135,14 +135,14 @@ is_run programs (f ∷ fs) s are t =
       is_run programs fs here.state (λ i. ((frame_keeps f.1 frame s).members i).needs ∙ are i) both.1,
     )
 
-numbered_are : (n : ℕ) (programs : List Program) (i : ℕ) → (slice_index_or (numbered n programs) i nobody).needs
+numbered_are : (n : ℕ) (programs : List Program) (i : ℕ) → (slice_index_or (systems_numbered n programs) i nobody).needs
     ≡ program_needs (ops_at programs i)
 numbered_are n [] i = refl
 numbered_are n (p ∷ ps) zero = refl
 numbered_are n (p ∷ ps) (suc i) = numbered_are (suc n) ps i
 
-row : (x : Setup) (frames : OrderedFrames) → are_in_order x.programs frames (start_of x) ≡ true
-    → IsRunOf frames (start_of x)
+row : (x : Setup) (frames : OrderedFrames) → are_in_order x.programs frames (setup_state x) ≡ true
+    → IsRunOf frames (setup_state x)
 row x frames t = grind (arith, is_run, joining_on_keeps, numbered_are)
 
 -- the worked runs
@@ -165,7 +165,7 @@ worked =
     ∷ (relay, relay_frames)
     ∷ []
 
-worked_are_runs : All (λ r. IsRunOf r.1 (start_of r.0)) worked
+worked_are_runs : All (λ r. IsRunOf r.1 (setup_state r.0)) worked
 unfolding turn
 worked_are_runs k d lt =
-    row _ _ (AllPass-from_list_all (λ r. are_in_order r.0.programs r.1 (start_of r.0)) worked refl k d lt)
+    row _ _ (AllPass-from_list_all (λ r. are_in_order r.0.programs r.1 (setup_state r.0)) worked refl k d lt)

@@ -3,7 +3,7 @@ use Rattle.std.proofs.Common.{arith, ℕ, List, [], ◌∷◌, refl, sym, ◌∙
 use Rattle.std.proofs.lemmas.List.FromFn.{length-map-range_with_len}
 use Rattle.msg_world.specs.declared.access.Access.{Access}
 use Rattle.msg_order.specs.Prelude.{AreInConflict, Graph, IsAcyclic, IsAmong, SettledOrderIsUnique, Settles, SettlingMakesNoCycle, TurnOrderIsUnique}
-use Rattle.msg_frames.specs.Prelude.{AreAccessesOf, FramesAreUnique, IsOrderOf, NoCycle, RunsAreUnique, State, SystemsHaveOneOrder, before_turns, has_begun, join_flags, systems_in}
+use Rattle.msg_frames.specs.Prelude.{AreAccessesOf, FramesAreUnique, IsOrderOf, NoCycle, RunsAreUnique, State, SystemsHaveOneOrder, before_turns, has_begun, join_flags, turn_order_in}
 use Rattle.msg_order.proofs.SetPaths.{settled_joins}
 use Rattle.msg_frames.proofs.SystemsStay.{joined_below}
 
@@ -32,7 +32,7 @@ module _ (one : SettledOrderIsUnique) (turns : TurnOrderIsUnique) where
   one_frame frame s u v log other x y =
       let b : State = before_turns frame.posts s in
       let same = one_order one b y.in_order.settled x.in_order.settled in
-      grind (arith, turns x.in_order.settled (join_flags b) (systems_in log) (systems_in other), same)
+      grind (arith, turns x.in_order.settled (join_flags b) (turn_order_in log) (turn_order_in other), same)
 
   pub one_run : RunsAreUnique
   one_run [] s u v [] [] x y = (refl, x ∙ sym y)

@@ -1,7 +1,7 @@
 -- A state has a frame, and so a run, where its rules make no cycle.
 use Rattle.std.proofs.Common.{[], ◌∷◌, refl}
 use Rattle.msg_order.specs.Prelude.{SettledOrderExists, SettlingMakesNoCycle, TurnOrderExists}
-use Rattle.msg_frames.specs.Prelude.{FramesExist, IsOrderOf, IsTurnOrderOf, RunsExist, SameSystems, State, before_turns, frame_in, join_flags, systems_in}
+use Rattle.msg_frames.specs.Prelude.{FramesExist, IsOrderOf, IsTurnOrderOf, RunsExist, SameSystems, State, before_turns, frame_in, join_flags, turn_order_in}
 use Rattle.msg_frames.proofs.{FramesInOrder.frame_in_order, SystemsStay.accesses_stay, SystemsStay.before_keeps, SystemsStay.frame_keeps, SystemsStay.no_cycle_stays, RunsAreUnique.order_has_no_cycle, RunsAreUnique.order_is_among}
 
 module _ (settled : SettledOrderExists) (acyclic : SettlingMakesNoCycle) (turns : TurnOrderExists) where
@@ -21,7 +21,7 @@ module _ (settled : SettledOrderExists) (acyclic : SettlingMakesNoCycle) (turns 
   some_run [] s accesses none are = ([], s, refl)
   some_run (frame ∷ frames) s accesses none are =
       let here = some_frame frame s accesses none are in
-      let same : SameSystems s here.1 = rw (here.2.leaves) (frame_keeps (systems_in here.0) frame s) in
+      let same : SameSystems s here.1 = rw (here.2.leaves) (frame_keeps (turn_order_in here.0) frame s) in
       let rest = some_run frames here.1 accesses (no_cycle_stays s here.1 same none)
       (accesses_stay s here.1 accesses same are) in
       (here.0 ∷ rest.0, rest.1, (here.1, here.2, rest.2))

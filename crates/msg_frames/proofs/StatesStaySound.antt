@@ -1,7 +1,7 @@
 -- Frames keep states sound.
 use Rattle.std.proofs.Common.{◌≡◌, ℕ, ◌<◌, max, List, [], ◌∷◌, Contains, ap₂, arith, IsFalse, nat_le}
 use Rattle.std.proofs.lemmas.{Bool.false≢true, List.FromFn.get_or-map-range_with_len}
-use Rattle.msg_frames.specs.Prelude.{Frame, IsBalanced, IsFrame, IsRun, IsSoundState, IsTurnOrderOf, Log, Member, SameSystems, State, after_turns_of, before_turns, counts, has_begun, joined_member, place_of, systems_in, turns_moments}
+use Rattle.msg_frames.specs.Prelude.{Frame, IsBalanced, IsFrame, IsRun, IsSoundState, IsTurnOrderOf, Log, Member, SameSystems, State, after_turns_of, before_turns, counts, has_begun, joined_member, reader_place, turn_order_in, turns_moments}
 use Rattle.msg_frames.proofs.{HistoriesGrow.BufferLaws, HistoriesGrow.counts_more, SystemsStay.turns_keep, SystemsStay.joined_below, EntriesAddUp.tiles_add_up, ReaderOverTurns.Reads, ReaderOverTurns.turns_read, ReaderOverTurns.turns_skip, BeforeTurns.Prepares, BeforeTurns.begun_within, BeforeTurns.comes, BeforeTurns.prepares, BeforeTurns.stood, BeforeTurns.waits}
 
 -- one that waits has no turn
@@ -27,7 +27,7 @@ module _ (laws : BufferLaws) where
   frame_sound frame s log v before is =
       let b : State = before_turns frame.posts s in
       let sound : IsSoundState b = prepared_sound s b before (prepares laws.grow frame.posts s) in
-      let order : List ℕ = systems_in log in
+      let order : List ℕ = turn_order_in log in
       let keep = turns_keep order b in
       let u : State = (after_turns_of order b).state in
       let reads : (i t : ℕ) → t < u.types → Reads i t b (turns_moments i t order b) u =
@@ -42,7 +42,7 @@ module _ (laws : BufferLaws) where
             let out = has_no_turn b order i is.in_order in
             grind (arith, begun_alike b _ i keep, out, isnt, turns_skip i t order b, sound.waiting i t);
         balanced = λ i t below has.
-            let more = tiles_add_up (place_of b i t) (turns_moments i t order b) (place_of u i t) in
+            let more = tiles_add_up (reader_place b i t) (turns_moments i t order b) (reader_place u i t) in
             grind (arith, reads i t below, sound.balanced i t, begun_alike b u i keep, more, keep.0.types);
       })
 

@@ -5,7 +5,7 @@ use Rattle.msg_world.specs.declared.access.Access.{Access}
 use Rattle.msg_world.specs.Prelude.{Conflict, OfResource, OfType, Part, Registry, WorldState, content}
 use Rattle.msg_system.specs.Prelude.{HasFootprint, IsAccessOf, JobFootprint, Needs, needs_any}
 use Rattle.msg_system.proofs.Accesses.{uses_needs}
-use Rattle.msg_frames.specs.Prelude.{AfterTurn, Member, Outcome, State, TurnsOfOthersCommute, after_turn_of, member_turn, needs_of, turn_of}
+use Rattle.msg_frames.specs.Prelude.{AfterTurn, Member, Outcome, State, TurnsOfOthersCommute, after_turn_of, member_turn, member_needs, turn_of}
 
 -- worlds with the same parts are the same
 pub same_world : (v w : WorldState) → ((p : Part) → content p v ≡ content p w) → v ≡ w
@@ -28,7 +28,7 @@ abbrev pub given_by_turn : AfterTurn → Member × Outcome
 given_by_turn e = (e.member, e.outcome)
 
 pub turn_footprint : JobFootprint → (m : Member)
-    → HasFootprint (needs_of m) (λ (e : AfterTurn). e.world) given_by_turn (member_turn m)
+    → HasFootprint (member_needs m) (λ (e : AfterTurn). e.world) given_by_turn (member_turn m)
 turn_footprint foot m = record {
   kept = (foot m.job).kept;
   same = λ parts v w within agree. grind (arith, (foot m.job).same parts v w within agree);
@@ -36,7 +36,7 @@ turn_footprint foot m = record {
 }
 
 -- two turns, neither of which writes what the other needs
-worlds_commute : JobFootprint → (m n : Member) (w : WorldState) → Apart (needs_of m) (needs_of n)
+worlds_commute : JobFootprint → (m n : Member) (w : WorldState) → Apart (member_needs m) (member_needs n)
     → (member_turn n (member_turn m w).world).world ≡ (member_turn m (member_turn n w).world).world
 worlds_commute foot m n w free =
     let f = turn_footprint foot m in
@@ -44,19 +44,21 @@ worlds_commute foot m n w free =
     let v : WorldState = (member_turn m w).world in
     let u : WorldState = (member_turn n w).world in
     same_world _ _ (λ p.
-    let by_f = f.alike (needs_any (needs_of m)) u w (λ q used. used) (λ q used. g.kept w q (free.right q used)) p in
-    let by_g = g.alike (needs_any (needs_of n)) v w (λ q used. used) (λ q used. f.kept w q (free.left q used)) p in
+    let by_f = f.alike (needs_any (member_needs m)) u w (λ q used. used) (λ q used. g.kept w q (free.right q used)) p in
+    let by_g = g.alike (needs_any (member_needs n)) v w (λ q used. used) (λ q used. f.kept w q (free.left q used)) p in
     grind (arith, by_f, by_g, cases_Bool, f.kept w p, f.kept u p, free.left p, free.right p, g.kept w p, g.kept v p))
 
 -- the turn of a system after that of another from which it is apart is its turn before it
-pub turn_after : JobFootprint → (s : State) (i j : ℕ) → j ≢ i → Apart (needs_of (s.members i)) (needs_of (s.members j))
+pub turn_after : JobFootprint → (s : State) (i j : ℕ) → j ≢ i
+    → Apart (member_needs (s.members i)) (member_needs (s.members j))
     → given_by_turn (turn_of (after_turn_of i s) j) ≡ given_by_turn (turn_of s j)
 turn_after foot s i j ne free =
     rw (ne_eqb j i ne)
-    ((turn_footprint foot (s.members j)).same (needs_any (needs_of (s.members j))) (turn_of s i).world s.world
+    ((turn_footprint foot (s.members j)).same (needs_any (member_needs (s.members j))) (turn_of s i).world s.world
     (λ p u. u) (λ p u. (turn_footprint foot (s.members i)).kept s.world p (free.left p u)))
 
-turns_swap : JobFootprint → (s : State) (i j : ℕ) → i ≢ j → Apart (needs_of (s.members i)) (needs_of (s.members j))
+turns_swap : JobFootprint → (s : State) (i j : ℕ) → i ≢ j
+    → Apart (member_needs (s.members i)) (member_needs (s.members j))
     → after_turn_of j (after_turn_of i s) ≡ after_turn_of i (after_turn_of j s)
 turns_swap foot s i j ne free =
     let first = turn_after foot s i j (λ h. ne (sym h)) free in

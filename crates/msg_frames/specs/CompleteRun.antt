@@ -1,20 +1,20 @@
 -- A run of frames with all that it comes to: for the lists of messages, and for each reader.
 use Rattle.std.specs.Prelude.{◌≡◌, ℕ, ◌<◌, List, if◌then◌else◌, IsTrue, ◌+◌, ◌≤◌, ◌==◌, Bool, false, All, Contains, [], length, map, filter, flat_map, Option, None, Some, option_map, unwrap_or, slice_get}
 use Rattle.msg_buffer.specs.Prelude.{GoesOn, History, IsPresent, count}
-use Rattle.msg_frames.specs.{declared.frame.Frame.Frame, declared.log.Log.Log, declared.totals.Totals.Totals, Entries.Entry, Entries.Fate, Entries.given, Entries.cleared, Entries.missed, Entries.numbers_at, Entries.numbers_of, Entries.totals_from, Entries.with_entries, Frames.IsRun, Frames.State, Frames.has_begun, Tiling.IsTiled, Tiling.found_at, Tiling.log_entries, Tiling.moments, Tiling.place_of, Tiling.Moment}
+use Rattle.msg_frames.specs.{declared.frame.Frame.Frame, declared.log.Log.Log, declared.totals.Totals.Totals, Entries.ReadEntry, Entries.Fate, Entries.given, Entries.cleared, Entries.missed, Entries.numbers_at, Entries.numbers_of, Entries.totals_from, Entries.with_entries, Frames.IsRun, Frames.State, Frames.has_begun, Tiling.IsTiled, Tiling.found_at, Tiling.log_entries, Tiling.moments, Tiling.reader_place, Tiling.Moment}
 use Rattle.std.specs.List.Sorted.{IsStrictlyIncreasing}
 use Rattle.msg_world.specs.declared.record.Record.{Record}
 
 -- ---- what became of each message
 
 -- Message number n met this fate at entry k.
-pub record Meets (es : List Entry) (n k : ℕ) (fate : Fate) : Type 0 where
-  pub entry : Entry
+pub record Meets (es : List ReadEntry) (n k : ℕ) (fate : Fate) : Type 0 where
+  pub entry : ReadEntry
   pub is_entry : slice_get es k ≡ Some entry
   pub among : Contains (numbers_at fate entry) n
 
 -- Message number n met one fate at one entry, and no other there or elsewhere.
-pub record MeetsOneFate (es : List Entry) (n : ℕ) : Type 0 where
+pub record MeetsOneFate (es : List ReadEntry) (n : ℕ) : Type 0 where
   pub entry : ℕ
   pub fate : Fate
   pub met : Meets es n entry fate
@@ -23,7 +23,7 @@ pub record MeetsOneFate (es : List Entry) (n : ℕ) : Type 0 where
 -- ---- what was given
 
 -- what a reader was given, message by message, in the order of its reads
-abbrev pub messages_given : List Entry → List Record
+abbrev pub messages_given : List ReadEntry → List Record
 messages_given es = flat_map (λ e. unwrap_or e.given []) es
 
 -- the message of a number
@@ -32,7 +32,7 @@ message_numbered h n = option_map (λ e. e.message) (slice_get h.entries n)
 
 -- What the entries of these moments say of the messages from one place to another; at the end the
 -- type's list is last.
-pub record IsGivenOnce (es : List Entry) (ms : List Moment) (from to : ℕ)
+pub record IsGivenOnce (es : List ReadEntry) (ms : List Moment) (from to : ℕ)
     (last : History Record) : Type 0 where
   pub entries : es ≡ map (λ m. m.entry) ms
   -- each message was given, or cleared, or missed: one of these, and once
@@ -57,7 +57,7 @@ abbrev pub is_by : ℕ → History Record → ℕ → Bool
 is_by writer h n = elim (message_numbered h n) [ None ↦ false | Some m ↦ m.writer == writer ]
 
 -- Of one writer a reader was given the messages of these numbers, which rise.
-pub record IsInOrderOf (writer : ℕ) (es : List Entry) (last : History Record) : Type 0 where
+pub record IsInOrderOf (writer : ℕ) (es : List ReadEntry) (last : History Record) : Type 0 where
   pub as_written : map (message_numbered last) (filter (is_by writer last) (numbers_of given es))
       ≡ map Some (filter (λ m. m.writer == writer) (messages_given es))
   pub in_order : IsStrictlyIncreasing (filter (is_by writer last) (numbers_of given es))
@@ -78,7 +78,7 @@ pub record IsServed (i t : ℕ) (frames : List Frame) (s : State) (logs : List L
   -- and those that were dropped unread, which the missed counts add up to
   pub given : IsGivenOnce (log_entries i t (s.members i).job.system logs)
       (moments i t frames logs s) (found_at s u i t)
-      (place_of u i t) (u.world.histories t)
+      (reader_place u i t) (u.world.histories t)
   -- those of each writer in its order
   pub by_writer : (writer : ℕ) → IsInOrderOf writer (log_entries i t (s.members i).job.system logs)
       (u.world.histories t)

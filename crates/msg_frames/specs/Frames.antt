@@ -165,14 +165,14 @@ frame_in order frame s =
     }
 
 -- what a member's job needs: its system and its conditions
-abbrev pub needs_of : Member → Needs
-needs_of m = with_conditions m.job.system.needs (conditions_of m.job)
+abbrev pub member_needs : Member → Needs
+member_needs m = with_conditions m.job.system.needs (conditions_of m.job)
 
 -- the accesses of the systems, in order of addition
 pub record AreAccessesOf (s : State) (accesses : List Access) : Type 0 where
   pub each : length accesses ≡ s.systems
   pub of_needs : (i : ℕ) → i < s.systems
-      → IsAccessOf (needs_of (s.members i)) (access_of accesses i)
+      → IsAccessOf (member_needs (s.members i)) (access_of accesses i)
 
 -- The order is settled among those that have joined, by their accesses and the rules.
 pub record IsOrderOf (s : State) (settled : Graph) : Type 0 where
@@ -187,15 +187,15 @@ pub record IsTurnOrderOf (s : State) (order : List ℕ) : Type 0 where
   pub in_order : IsTurnOrder settled (join_flags s) order
 
 -- the systems in the order in which the log has their turns
-abbrev pub systems_in : Log → List ℕ
-systems_in log = map (λ turn. turn.system) log.turns
+abbrev pub turn_order_in : Log → List ℕ
+turn_order_in log = map (λ turn. turn.system) log.turns
 
 -- A frame has this log and leaves u: its systems took their turns in the settled order, one by one,
 -- on one thread.
 pub record IsFrame (frame : Frame) (s : State) (log : Log) (u : State) : Type 0 where
-  pub in_order : IsTurnOrderOf (before_turns frame.posts s) (systems_in log)
-  pub tells : log ≡ (frame_in (systems_in log) frame s).log
-  pub leaves : u ≡ (frame_in (systems_in log) frame s).state
+  pub in_order : IsTurnOrderOf (before_turns frame.posts s) (turn_order_in log)
+  pub tells : log ≡ (frame_in (turn_order_in log) frame s).log
+  pub leaves : u ≡ (frame_in (turn_order_in log) frame s).state
 
 -- Frames one after the other have these logs, and leave the state u.
 abbrev pub IsRun : List Frame → State → List Log → State → Type 0

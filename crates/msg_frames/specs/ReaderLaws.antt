@@ -4,7 +4,7 @@ use Rattle.msg_buffer.specs.Prelude.{IsSound}
 use Rattle.msg_order.specs.declared.rule.Rule.{Rule}
 use Rattle.msg_world.specs.Prelude.{WorldState}
 use Rattle.msg_system.specs.Prelude.{Meaning}
-use Rattle.msg_frames.specs.{declared.frame.Frame.Frame, declared.log.Log.Log, declared.place.Place.Place, Entries.no_totals, Frames.IsFrame, Frames.IsRun, Frames.State, Frames.has_begun, FirstState.IsNew, FirstState.first_state, FirstState.nobody, Replays.IsMixedRun, Replays.IsReplay, Replays.TellsACompleteRun, Soundness.IsBalanced, Soundness.IsSoundState, CompleteRun.IsCompleteRun, Tiling.answers_in, Tiling.place_of}
+use Rattle.msg_frames.specs.{declared.frame.Frame.Frame, declared.log.Log.Log, declared.place.Place.Place, Entries.no_totals, Frames.IsFrame, Frames.IsRun, Frames.State, Frames.has_begun, FirstState.IsNew, FirstState.first_state, FirstState.nobody, Replays.IsMixedRun, Replays.IsReplay, Replays.TellsACompleteRun, Soundness.IsBalanced, Soundness.IsSoundState, CompleteRun.IsCompleteRun, Tiling.answers_in, Tiling.reader_place}
 
 -- ---- soundness
 
@@ -57,9 +57,9 @@ ReplaysTellACompleteRun = (frames : List Frame) (s : State) (logs : List Log) (u
 -- its place.
 abbrev pub AccountsBalance : Type 0
 AccountsBalance = (s : State) (i t : ℕ) → IsSoundState s → t < s.types → IsTrue (has_begun s i)
-    → IsBalanced ((s.members i).totals t) (place_of s i t)
+    → IsBalanced ((s.members i).totals t) (reader_place s i t)
 
 -- A reader that hasn't joined has no totals, and stands at 0.
 abbrev pub NoneBeforeJoining : Type 0
 NoneBeforeJoining = (s : State) (i t : ℕ) → IsSoundState s → IsFalse (has_begun s i)
-    → ((s.members i).totals t ≡ no_totals) × (place_of s i t ≡ 0)
+    → ((s.members i).totals t ≡ no_totals) × (reader_place s i t ≡ 0)

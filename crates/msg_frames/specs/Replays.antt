@@ -1,7 +1,7 @@
 -- A frame in another order than the settled one.
 use Rattle.std.specs.Prelude.{◌≡◌, ◌⊎◌, ℕ, List, [], ◌∷◌, IsPermutation}
 use Rattle.msg_order.specs.Prelude.{Graph, IsLawfulOrder}
-use Rattle.msg_frames.specs.{declared.frame.Frame.Frame, declared.log.Log.Log, Frames.IsFrame, Frames.IsOrderOf, Frames.before_turns, Frames.systems_in, Frames.State, Frames.join_flags, CompleteRun.IsCompleteRun, Tiling.answers_in}
+use Rattle.msg_frames.specs.{declared.frame.Frame.Frame, declared.log.Log.Log, Frames.IsFrame, Frames.IsOrderOf, Frames.before_turns, Frames.turn_order_in, Frames.State, Frames.join_flags, CompleteRun.IsCompleteRun, Tiling.answers_in}
 
 -- The order is lawful for a frame on the state s: it has all that will have joined, each once, and
 -- keeps their settled order.
@@ -21,7 +21,7 @@ pub record IsReplay (frame : Frame) (order : List ℕ) (s : State) (log : Log)
   pub is_frame : IsFrame frame s settled u
   pub posts : log.posts ≡ settled.posts
   pub turns : IsPermutation log.turns settled.turns
-  pub in_order : systems_in log ≡ order
+  pub in_order : turn_order_in log ≡ order
 
 -- The logs tell each system what the run of the same frames tells it, which is complete.
 pub record TellsACompleteRun (frames : List Frame) (s : State) (logs : List Log)

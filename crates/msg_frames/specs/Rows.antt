@@ -37,15 +37,15 @@ pub record Setup : Type 0 where
   pub world : WorldState
 
 -- systems of these programs, each of which writes as its number
-abbrev pub numbered : ℕ → List Program → List Meaning
-numbered n [] = []
-numbered n (p ∷ ps) = new_system p n ∷ numbered (suc n) ps
+abbrev pub systems_numbered : ℕ → List Program → List Meaning
+systems_numbered n [] = []
+systems_numbered n (p ∷ ps) = new_system p n ∷ systems_numbered (suc n) ps
 
-abbrev pub start_of : Setup → State
-start_of x = first_state (numbered 0 x.programs) x.places x.rules x.types x.world
+abbrev pub setup_state : Setup → State
+setup_state x = first_state (systems_numbered 0 x.programs) x.places x.rules x.types x.world
 
 abbrev pub run : OrderedFrames → Setup → Run
-run frames x = run_from frames (start_of x)
+run frames x = run_from frames (setup_state x)
 
 -- in each frame the turns are in this order
 abbrev pub each_in_order : List ℕ → List (List (ℕ × ℤ)) → OrderedFrames
@@ -82,8 +82,8 @@ abbrev pub on_message : ℕ → Condition
 on_message t = record { nots = 0; probe = OnMessage t }
 
 -- what the log says: the host's posts, and turns
-abbrev pub told : List Reply → List Turn → Log
-told posts turns = record { posts = posts; turns = turns }
+abbrev pub log_of : List Reply → List Turn → Log
+log_of posts turns = record { posts = posts; turns = turns }
 
 abbrev pub ran : ℕ → List Reply → Turn
 ran i replies = record { system = i; outcome = Ran replies }
@@ -145,8 +145,8 @@ abbrev pub lag_run : Run
 lag_run = run lag_frames lag
 
 pub one_frames_lag : lag_run.logs
-    ≡ told [] (did 0 (read_of 0 0 []) ∷ did 1 (wrote 0 1) ∷ [])
-    ∷ told [] (did 0 (read_of 0 0 (by 1 (pos 5) ∷ [])) ∷ did 1 (wrote 1 1) ∷ []) ∷ []
+    ≡ log_of [] (did 0 (read_of 0 0 []) ∷ did 1 (wrote 0 1) ∷ [])
+    ∷ log_of [] (did 0 (read_of 0 0 (by 1 (pos 5) ∷ [])) ∷ did 1 (wrote 1 1) ∷ []) ∷ []
 unfolding turn
 one_frames_lag = refl
 
@@ -172,10 +172,11 @@ abbrev pub fourth_run : List Op → Run
 fourth_run ops = run fourth_frames (fourth ops)
 
 pub exactly_two_updates : (fourth_run (Read 0 None ∷ [])).logs
-    ≡ told (wrote 0 1 ∷ []) (did 0 (reply.Value (pos 1)) ∷ skipped 1 ∷ [])
-    ∷ told (wrote 1 1 ∷ []) (did 0 (reply.Value (pos 2)) ∷ skipped 1 ∷ [])
-    ∷ told (wrote 2 1 ∷ []) (did 0 (reply.Value (pos 3)) ∷ skipped 1 ∷ [])
-    ∷ told [] (did 0 (reply.Value (pos 4)) ∷ did 1 (read_of 2 2 (by HOST (pos 30) ∷ [])) ∷ []) ∷ []
+    ≡ log_of (wrote 0 1 ∷ []) (did 0 (reply.Value (pos 1)) ∷ skipped 1 ∷ [])
+    ∷ log_of (wrote 1 1 ∷ []) (did 0 (reply.Value (pos 2)) ∷ skipped 1 ∷ [])
+    ∷ log_of (wrote 2 1 ∷ []) (did 0 (reply.Value (pos 3)) ∷ skipped 1 ∷ [])
+    ∷ log_of [] (did 0 (reply.Value (pos 4)) ∷ did 1 (read_of 2 2 (by HOST (pos 30) ∷ [])) ∷ [])
+    ∷ []
 unfolding turn
 exactly_two_updates = refl
 
@@ -186,10 +187,10 @@ exactly_two_updates_gave = refl
 -- ---- a read of no messages goes past dropped ones
 
 pub read_of_none : (fourth_run (Read 0 (Some 0) ∷ Read 0 None ∷ [])).logs
-    ≡ told (wrote 0 1 ∷ []) (did 0 (reply.Value (pos 1)) ∷ skipped 1 ∷ [])
-    ∷ told (wrote 1 1 ∷ []) (did 0 (reply.Value (pos 2)) ∷ skipped 1 ∷ [])
-    ∷ told (wrote 2 1 ∷ []) (did 0 (reply.Value (pos 3)) ∷ skipped 1 ∷ [])
-    ∷ told [] (did 0 (reply.Value (pos 4))
+    ≡ log_of (wrote 0 1 ∷ []) (did 0 (reply.Value (pos 1)) ∷ skipped 1 ∷ [])
+    ∷ log_of (wrote 1 1 ∷ []) (did 0 (reply.Value (pos 2)) ∷ skipped 1 ∷ [])
+    ∷ log_of (wrote 2 1 ∷ []) (did 0 (reply.Value (pos 3)) ∷ skipped 1 ∷ [])
+    ∷ log_of [] (did 0 (reply.Value (pos 4))
     ∷ ran 1 (read_of 2 2 [] ∷ read_of 0 2 (by HOST (pos 30) ∷ []) ∷ []) ∷ [])
     ∷ []
 unfolding turn
@@ -216,9 +217,9 @@ abbrev pub writers_frames : OrderedFrames
 writers_frames = each_in_order (0 ∷ 1 ∷ 2 ∷ []) (post (pos 9) ∷ post (pos 8) ∷ [])
 
 pub host_and_two_writers : (run writers_frames writers).logs
-    ≡ told (wrote 0 1 ∷ []) (did 0 (wrote 1 1) ∷ did 1 (wrote 2 2)
+    ≡ log_of (wrote 0 1 ∷ []) (did 0 (wrote 1 1) ∷ did 1 (wrote 2 2)
     ∷ did 2 (read_of 0 0 (of_three (pos 9))) ∷ [])
-    ∷ told (wrote 4 1 ∷ []) (did 0 (wrote 5 1) ∷ did 1 (wrote 6 2)
+    ∷ log_of (wrote 4 1 ∷ []) (did 0 (wrote 5 1) ∷ did 1 (wrote 6 2)
     ∷ did 2 (read_of 0 4 (of_three (pos 8))) ∷ []) ∷ []
 unfolding turn
 host_and_two_writers = refl
@@ -245,7 +246,7 @@ contrary_turns =
 abbrev pub contrary_frames : OrderedFrames
 contrary_frames = each_in_order (2 ∷ 0 ∷ 3 ∷ 1 ∷ []) ([] ∷ [])
 
-pub contradictory_order : (run contrary_frames contrary).logs ≡ told [] contrary_turns ∷ []
+pub contradictory_order : (run contrary_frames contrary).logs ≡ log_of [] contrary_turns ∷ []
 unfolding turn
 contradictory_order = refl
 
@@ -264,8 +265,8 @@ abbrev pub echo_frames : OrderedFrames
 echo_frames = each_in_order (0 ∷ []) ([] ∷ post (pos 5) ∷ [] ∷ [])
 
 pub own_message_asked : (run echo_frames echo).logs
-    ≡ told [] (skipped 0 ∷ []) ∷ told (wrote 0 1 ∷ []) (did 0 (wrote 1 1) ∷ [])
-    ∷ told [] (did 0 (wrote 2 1) ∷ []) ∷ []
+    ≡ log_of [] (skipped 0 ∷ []) ∷ log_of (wrote 0 1 ∷ []) (did 0 (wrote 1 1) ∷ [])
+    ∷ log_of [] (did 0 (wrote 2 1) ∷ []) ∷ []
 unfolding turn
 own_message_asked = refl
 
@@ -285,9 +286,9 @@ abbrev pub conditions_frames : OrderedFrames
 conditions_frames = each_in_order (0 ∷ 1 ∷ []) (post (pos 1) ∷ [] ∷ post (pos 2) ∷ [])
 
 pub all_conditions : (run conditions_frames two_conditions).logs
-    ≡ told (wrote 0 1 ∷ []) (skipped 0 ∷ did 1 (reply.Value (pos 1)) ∷ [])
-    ∷ told [] (skipped 0 ∷ did 1 (reply.Value (pos 1)) ∷ [])
-    ∷ told (wrote 1 1 ∷ []) (did 0 (reply.Len 1) ∷ did 1 (reply.Value (pos 1)) ∷ []) ∷ []
+    ≡ log_of (wrote 0 1 ∷ []) (skipped 0 ∷ did 1 (reply.Value (pos 1)) ∷ [])
+    ∷ log_of [] (skipped 0 ∷ did 1 (reply.Value (pos 1)) ∷ [])
+    ∷ log_of (wrote 1 1 ∷ []) (did 0 (reply.Len 1) ∷ did 1 (reply.Value (pos 1)) ∷ []) ∷ []
 unfolding turn
 all_conditions = refl
 
@@ -309,8 +310,8 @@ abbrev pub tally_frames : OrderedFrames
 tally_frames = each_in_order (0 ∷ []) (((0, pos 1) ∷ (0, negsuc 4) ∷ []) ∷ [])
 
 pub saturation : (run tally_frames tally).logs
-    ≡ told (wrote 0 1 ∷ wrote 1 1 ∷ []) (did 0 (reply.Summed added (pos 9223372036854775802)) ∷ [])
-    ∷ []
+    ≡ log_of (wrote 0 1 ∷ wrote 1 1 ∷ [])
+        (did 0 (reply.Summed added (pos 9223372036854775802)) ∷ []) ∷ []
 unfolding turn
 saturation = refl
 
@@ -335,8 +336,8 @@ abbrev pub late_run : Run
 late_run = run late_frames late
 
 pub late_systems : late_run.logs
-    ≡ told (wrote 0 1 ∷ []) [] ∷ told (wrote 1 1 ∷ []) []
-    ∷ told (wrote 2 1 ∷ []) (
+    ≡ log_of (wrote 0 1 ∷ []) [] ∷ log_of (wrote 1 1 ∷ []) []
+    ∷ log_of (wrote 2 1 ∷ []) (
     did 0 (read_of 1 1 (by HOST (pos 2) ∷ by HOST (pos 3) ∷ [])) ∷
     did 1 (read_of 0 2 (by HOST (pos 3) ∷ [])) ∷ []) ∷ []
 unfolding turn
@@ -366,10 +367,11 @@ abbrev pub gated_frames : OrderedFrames
 gated_frames = each_in_order (0 ∷ 2 ∷ 1 ∷ []) (post (pos 1) ∷ [] ∷ [] ∷ [] ∷ [])
 
 pub held_updates : (run gated_frames gated).logs
-    ≡ told (wrote 0 1 ∷ []) (did 0 (reply.Value (pos 1)) ∷ did 2 (reply.Len 1) ∷ skipped 1 ∷ [])
-    ∷ told [] (did 0 (reply.Value (pos 2)) ∷ did 2 (reply.Len 1) ∷ did 1 reply.Signalled ∷ [])
-    ∷ told [] (did 0 (reply.Value (pos 3)) ∷ did 2 (reply.Len 1) ∷ did 1 reply.Signalled ∷ [])
-    ∷ told [] (did 0 (reply.Value (pos 4)) ∷ did 2 (reply.Len 0) ∷ did 1 reply.Signalled ∷ []) ∷ []
+    ≡ log_of (wrote 0 1 ∷ []) (did 0 (reply.Value (pos 1)) ∷ did 2 (reply.Len 1) ∷ skipped 1 ∷ [])
+    ∷ log_of [] (did 0 (reply.Value (pos 2)) ∷ did 2 (reply.Len 1) ∷ did 1 reply.Signalled ∷ [])
+    ∷ log_of [] (did 0 (reply.Value (pos 3)) ∷ did 2 (reply.Len 1) ∷ did 1 reply.Signalled ∷ [])
+    ∷ log_of [] (did 0 (reply.Value (pos 4)) ∷ did 2 (reply.Len 0) ∷ did 1 reply.Signalled ∷ [])
+    ∷ []
 unfolding turn
 held_updates = refl
 
@@ -394,7 +396,7 @@ signalled missed =
     ∷ did 1 reply.Signalled ∷ []
 
 pub several_signals : (run signallers_frames signallers).logs
-    ≡ told (wrote 0 1 ∷ []) (signalled 0) ∷ told [] (signalled 0) ∷ told [] (signalled 1) ∷ []
+    ≡ log_of (wrote 0 1 ∷ []) (signalled 0) ∷ log_of [] (signalled 0) ∷ log_of [] (signalled 1) ∷ []
 unfolding turn
 several_signals = refl
 
@@ -414,11 +416,11 @@ abbrev pub drained_frames : OrderedFrames
 drained_frames = each_in_order (0 ∷ 1 ∷ 2 ∷ []) (((0, pos 1) ∷ (0, pos 2) ∷ []) ∷ post (pos 3) ∷ [])
 
 pub drain_between_readers : (run drained_frames drained).logs
-    ≡ told (wrote 0 1 ∷ wrote 1 1 ∷ []) (
+    ≡ log_of (wrote 0 1 ∷ wrote 1 1 ∷ []) (
     did 0 (read_of 0 0 (by HOST (pos 1) ∷ [])) ∷
     did 1 (reply.Drained 0 (by HOST (pos 1) ∷ by HOST (pos 2) ∷ [])) ∷
     did 2 (read_of 2 2 []) ∷ [])
-    ∷ told (wrote 2 1 ∷ []) (
+    ∷ log_of (wrote 2 1 ∷ []) (
     did 0 (read_of 1 2 (by HOST (pos 3) ∷ [])) ∷
     did 1 (reply.Drained 2 (by HOST (pos 3) ∷ [])) ∷
     did 2 (read_of 1 3 []) ∷ []) ∷ []
@@ -451,10 +453,10 @@ abbrev pub relay_run : Run
 relay_run = run relay_frames relay
 
 pub forward_at_the_limit : relay_run.logs
-    ≡ told (wrote 0 1 ∷ wrote 1 1 ∷ []) (
+    ≡ log_of (wrote 0 1 ∷ wrote 1 1 ∷ []) (
     did 0 (reply.Forwarded (took_from 0 (by HOST (pos 1) ∷ by HOST (pos 2) ∷ [])) None) ∷
     did 1 (read_of 0 0 []) ∷ [])
-    ∷ told (wrote 2 1 ∷ []) (
+    ∷ log_of (wrote 2 1 ∷ []) (
     did 0 (reply.Forwarded (took_from 2 (by HOST (pos 3) ∷ []))
     (Some (record { first = 0; n = 1 }))) ∷
     did 1 (read_of 0 0 (by 0 (pos 3) ∷ [])) ∷ []) ∷ []

@@ -1,7 +1,7 @@
 -- What holds of every state that frames make.
 use Rattle.std.specs.Prelude.{◌≡◌, ℕ, ◌+◌, ◌≤◌, ◌<◌, Some, IsTrue, IsFalse}
 use Rattle.msg_buffer.specs.Prelude.{IsSound, count}
-use Rattle.msg_frames.specs.{Entries.no_totals, Frames.State, Frames.has_begun, Tiling.place_of, declared.totals.Totals.Totals}
+use Rattle.msg_frames.specs.{Entries.no_totals, Frames.State, Frames.has_begun, Tiling.reader_place, declared.totals.Totals.Totals}
 
 -- The account begins at a start, and all that the reader got, missed and cleared since leads to its
 -- place.
@@ -13,13 +13,13 @@ pub record IsBalanced (x : Totals) (place : ℕ) : Type 0 where
 pub record IsSoundState (s : State) : Type 0 where
   pub histories : (t : ℕ) → t < s.types → IsSound (s.world.histories t)
   -- no reader is past the messages that there are
-  pub places : (i t : ℕ) → t < s.types → place_of s i t ≤ count (s.world.histories t)
+  pub places : (i t : ℕ) → t < s.types → reader_place s i t ≤ count (s.world.histories t)
   -- a system joins with frame 1 or later
   pub joins : (i : ℕ) → 1 ≤ (s.members i).join
   -- it writes as its number
   pub writers : (i : ℕ) → i < s.systems → (s.members i).job.system.writer ≡ i
   -- before it joins it was given nothing
-  pub waiting : (i t : ℕ) → IsFalse (has_begun s i) → (place_of s i t ≡ 0)
+  pub waiting : (i t : ℕ) → IsFalse (has_begun s i) → (reader_place s i t ≡ 0)
       × ((s.members i).totals t ≡ no_totals)
   pub balanced : (i t : ℕ) → t < s.types → IsTrue (has_begun s i)
-      → IsBalanced ((s.members i).totals t) (place_of s i t)
+      → IsBalanced ((s.members i).totals t) (reader_place s i t)

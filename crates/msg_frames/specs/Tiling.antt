@@ -5,18 +5,18 @@ use Rattle.msg_world.specs.declared.record.Record.{Record}
 use Rattle.msg_world.specs.Prelude.{WorldState}
 use Rattle.msg_system.specs.{declared.op.Op.Op, declared.reply.Reply.Reply}
 use Rattle.msg_system.specs.Prelude.{AfterProgram, Job, Meaning, after_at_most, after_op, all_hold, next_op}
-use Rattle.msg_frames.specs.{declared.frame.Frame.Frame, declared.log.Log.Log, Entries.Entry, Entries.answers, Entries.entries_told, Entries.entry_for, Frames.after_turn_of, Frames.before_turns, Frames.frame_in, Frames.systems_in, Frames.State, Frames.has_begun}
+use Rattle.msg_frames.specs.{declared.frame.Frame.Frame, declared.log.Log.Log, Entries.ReadEntry, Entries.replies_of, Entries.entries_told, Entries.entry_for, Frames.after_turn_of, Frames.before_turns, Frames.frame_in, Frames.turn_order_in, Frames.State, Frames.has_begun}
 
 -- ---- the entries that logs have
 
 -- what system i was told: the replies of each turn that it took
 abbrev pub answers_in : ℕ → List Log → List (List Reply)
 answers_in i logs =
-    flat_map (λ log. flat_map (λ turn. if turn.system == i then answers turn.outcome
+    flat_map (λ log. flat_map (λ turn. if turn.system == i then replies_of turn.outcome
     else []) log.turns) logs
 
 -- the entries for type t of system i, which meant this before
-abbrev pub log_entries : ℕ → ℕ → Meaning → List Log → List Entry
+abbrev pub log_entries : ℕ → ℕ → Meaning → List Log → List ReadEntry
 log_entries i t m logs = entries_told t m.needs m.rule (answers_in i logs)
 
 -- ---- the moments of a run
@@ -24,7 +24,7 @@ log_entries i t m logs = entries_told t m.needs m.rule (answers_in i logs)
 -- The moment of an entry: the history of its type as it was, and what the reader went past.
 pub record Moment : Type 0 where
   pub history : History Record
-  pub entry : Entry
+  pub entry : ReadEntry
 
 -- of the next op, after what was done so far; none where the turn is over
 abbrev pub next_moments : ℕ → Option Op → ℕ → AfterProgram → List Moment
@@ -58,19 +58,19 @@ turns_moments i t (j ∷ js) s =
 -- of system i in a run of frames with these logs
 abbrev pub moments : ℕ → ℕ → List Frame → List Log → State → List Moment
 moments i t (frame ∷ frames) (log ∷ logs) s =
-    turns_moments i t (systems_in log) (before_turns frame.posts s)
-    ++ moments i t frames logs (frame_in (systems_in log) frame s).state
+    turns_moments i t (turn_order_in log) (before_turns frame.posts s)
+    ++ moments i t frames logs (frame_in (turn_order_in log) frame s).state
 moments i t _ _ s = []
 
 -- ---- the tiling of a reader over a run
 
 -- the place of system i in type t
-abbrev pub place_of : State → ℕ → ℕ → ℕ
-place_of s i t = (s.members i).job.system.places t
+abbrev pub reader_place : State → ℕ → ℕ → ℕ
+reader_place s i t = (s.members i).job.system.places t
 
 -- Where a run from s to u finds a reader: at its place, or where it starts as it joins.
 abbrev pub found_at : State → State → ℕ → ℕ → ℕ
-found_at s u i t = if has_begun s i then place_of s i t
+found_at s u i t = if has_begun s i then reader_place s i t
     else unwrap_or ((u.members i).totals t).start 0
 
 -- the messages of a stretch
@@ -87,5 +87,5 @@ pub record IsTiled (i t : ℕ) (frames : List Frame) (logs : List Log) (s u : St
   pub entries : log_entries i t (s.members i).job.system logs
       ≡ map (λ m. m.entry) (moments i t frames logs s)
   pub tile : Tile (found_at s u i t)
-      (map (λ m. (m.history, m.entry.stretch)) (moments i t frames logs s)) (place_of u i t)
+      (map (λ m. (m.history, m.entry.stretch)) (moments i t frames logs s)) (reader_place u i t)
   pub gives : All GivesItsStretch (moments i t frames logs s)

@@ -4,7 +4,7 @@ use Rattle.std.specs.List.{list_any}
 use Rattle.msg_buffer.specs.Prelude.{IsPresent, count, update}
 use Rattle.msg_system.specs.{declared.op.Op.Op, declared.op.Op.TheVariants.Read, declared.op.Op.TheVariants.Forward, declared.op.Op.TheVariants.Sum, declared.program.Program.Program}
 use Rattle.msg_system.specs.Prelude.{of_program}
-use Rattle.msg_frames.specs.{declared.frame.Frame.Frame, declared.log.Log.Log, declared.log.Outcome.TheVariants.Skipped, Frames.IsFrame, Frames.IsRun, Frames.State, Frames.after_turns_of, Frames.before_turns, Frames.has_begun, Frames.systems_in, Soundness.IsSoundState, Tiling.log_entries, Tiling.place_of}
+use Rattle.msg_frames.specs.{declared.frame.Frame.Frame, declared.log.Log.Log, declared.log.Outcome.TheVariants.Skipped, Frames.IsFrame, Frames.IsRun, Frames.State, Frames.after_turns_of, Frames.before_turns, Frames.has_begun, Frames.turn_order_in, Soundness.IsSoundState, Tiling.log_entries, Tiling.reader_place}
 
 -- the op reads the type without limit
 abbrev pub reads_all : ℕ → Op → Bool
@@ -16,7 +16,7 @@ reads_all t _ = false
 -- In the frame with this log, which left the state u, system i ran, and an op of its turn read type
 -- t without limit.
 pub record ReadsAll (i t : ℕ) (log : Log) (u : State) : Type 0 where
-  pub has_turn : Contains (systems_in log) i
+  pub has_turn : Contains (turn_order_in log) i
   pub ran : All (λ turn. turn.system ≡ i → turn.outcome ≢ Skipped) log.turns
   pub read_all : IsTrue (list_any (reads_all t) (u.members i).job.system.last)
 
@@ -35,7 +35,7 @@ NothingDrained t s u = (u.world.histories t).floor ≡ (s.world.histories t).flo
 
 -- All that the reader wasn't given yet will still be present after the next update.
 abbrev pub IsUpToDate : State → ℕ → ℕ → Type 0
-IsUpToDate s i t = (n : ℕ) → place_of s i t ≤ n → n < count (s.world.histories t)
+IsUpToDate s i t = (n : ℕ) → reader_place s i t ≤ n → n < count (s.world.histories t)
     → IsPresent (update (s.world.histories t)) n
 
 -- what the logs have of the reader misses nothing
@@ -51,16 +51,16 @@ abbrev pub WhoReadsAllCatchesUp : Type 0
 WhoReadsAllCatchesUp = (frame : Frame) (s : State) (log : Log) (u : State) (i t : ℕ)
     → IsSoundState s
     → IsFrame frame s log u → t < s.types → ReadsAll i t log u → (earlier later : List ℕ)
-    → systems_in log ≡ earlier ++ i ∷ later
+    → turn_order_in log ≡ earlier ++ i ∷ later
     → count ((after_turns_of earlier (before_turns frame.posts s)).state.world.histories t) ≤
-    place_of u i t
+    reader_place u i t
 
 -- So what was written in one frame it was given or went past by the end of the next.
 abbrev pub WhoReadsAllHasTheFrameBefore : Type 0
 WhoReadsAllHasTheFrameBefore = (frame : Frame) (s : State) (log : Log) (u : State) (i t : ℕ)
     → IsSoundState s
     → IsFrame frame s log u → t < s.types → ReadsAll i t log u
-    → count (s.world.histories t) ≤ place_of u i t
+    → count (s.world.histories t) ≤ reader_place u i t
 
 -- And unless the type was drained, it is up to date.
 abbrev pub WhoReadsAllIsUpToDate : Type 0

@@ -33,6 +33,6 @@ pub record IsPlanOf (accesses : List Access) (rules : List Rule) (joined : List 
   pub lawful : IsLawfulOrder order joined (concat plan.batches)
 
 -- a refusal for a cycle names the lowest system on one
-abbrev pub RefusesFor : Graph → PlanRefusal → Type 0
-RefusesFor rules (Cycle s) = IsLowestOnCycle rules s
-RefusesFor rules NoMemory = ⊤
+abbrev pub RefusesPlan : Graph → PlanRefusal → Type 0
+RefusesPlan rules (Cycle s) = IsLowestOnCycle rules s
+RefusesPlan rules NoMemory = ⊤

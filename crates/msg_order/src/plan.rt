@@ -1,5 +1,5 @@
 ghost use Rattle.std.specs.Prelude.{◌≡◌, ◌<◌, ◌≤◌, [], length, map, Err, IfErr, IfOk, OnOk};
-ghost use Rattle.msg_order.specs.{declared.plan_refusal.PlanRefusal.TheVariants.NoMemory, Graph.IsAcyclic, Order.NameSystemsBelow, Order.rules_among, Plan.IsPlanOf, Plan.PlanView, Plan.RefusesFor, inner.Paths.AreKept, inner.Paths.ArePaths, inner.Paths.IsSetOf, inner.Paths.view_of};
+ghost use Rattle.msg_order.specs.{declared.plan_refusal.PlanRefusal.TheVariants.NoMemory, Graph.IsAcyclic, Order.NameSystemsBelow, Order.rules_among, Plan.IsPlanOf, Plan.PlanView, Plan.RefusesPlan, inner.Paths.AreKept, inner.Paths.ArePaths, inner.Paths.IsSetOf, inner.Paths.view_of};
 
 use crate::levels::batches_of;
 use crate::paths::{no_paths, settle};
@@ -62,7 +62,7 @@ fn plan_over<A: Allocator + Copy>(
     requires none_yet { ArePaths [] before.items }
     ensures plan { IfOk result (IsPlanOf accesses.now rules.now joined.now) }
     ensures acyclic { OnOk result (IsAcyclic (rules_among joined.now rules.now)) }
-    ensures refusal { IfErr result (RefusesFor (rules_among joined.now rules.now)) }
+    ensures refusal { IfErr result (RefusesPlan (rules_among joined.now rules.now)) }
     ensures no_memory { result ≡ Err NoMemory
         → IsAcyclic (rules_among joined.now rules.now) × (0 < length accesses.now) }
 {
@@ -102,7 +102,7 @@ impl<A: Allocator + Copy> Plan<A> {
 
         ensures plan { IfOk result (IsPlanOf accesses.now rules.now joined.now) }
         ensures acyclic { OnOk result (IsAcyclic (rules_among joined.now rules.now)) }
-        ensures refusal { IfErr result (RefusesFor (rules_among joined.now rules.now)) }
+        ensures refusal { IfErr result (RefusesPlan (rules_among joined.now rules.now)) }
 
         // A plan of no systems takes no memory.
         ensures no_memory { result ≡ Err NoMemory → 0 < length accesses.now }

@@ -1,13 +1,13 @@
 -- lists of a file, by their parts and by their elements
-pub mod Parts
-pub mod Named
+pub mod ListsByParts
+pub mod NamedElements
 -- names, ops, conditions and systems
-pub mod Spaces
-pub mod Conditions
-pub mod Systems
+pub mod NamesInOrder
+pub mod ConditionsAreRead
+pub mod SystemsAreRead
 -- what is known of a scenario that was read: it can be run
-pub mod There
-pub mod Fitting
-pub mod Sound
+pub mod ChecksThatPass
+pub mod WhatIsUsedIsThere
+pub mod ReadScenarioRuns
 -- and of one that was made in code: tests tell whether it can be run
-mod Tested
+mod TestsOfScenarios

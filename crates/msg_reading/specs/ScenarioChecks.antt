@@ -5,7 +5,7 @@ use Rattle.std.specs.{List.list_all, Option.option_map_or, Str.bytes_eq}
 use Rattle.serde_json.specs.{Data.Data, Find.as_str, Find.as_bool}
 use Rattle.msg_system.specs.{declared.op.Op.Op, declared.op.Op.TheVariants.Forward, declared.op.Op.TheVariants.Sum}
 use Rattle.msg_files.specs.Prelude.{Check, Text, a_limit, a_value, elements, few_values, has_key, is_list, is_number, needs, number_up_to, object_checks, value_at}
-use Rattle.msg_reading.specs.{Names.Declared, Names.is_name, Names.position_of, Names.type_number, Names.resource_number, Names.system_number, ScenarioDenotes.text, ScenarioDenotes.inside_nots, ScenarioDenotes.nots_round, ScenarioDenotes.kind_of, ScenarioDenotes.kind_in, ScenarioDenotes.conditions_in, ScenarioDenotes.join_in, ScenarioDenotes.start_of, ScenarioDenotes.start_in, ScenarioDenotes.ops_of, ScenarioDenotes.with_type, ScenarioDenotes.with_resource, ScenarioDenotes.with_system, ScenarioDenotes.no_names, ScenarioDenotes.types_in, ScenarioDenotes.resources_in, ScenarioDenotes.held_in, ScenarioDenotes.systems_in, ScenarioDenotes.rules_in, ScenarioDenotes.frames_in, ScenarioDenotes.type_names, ScenarioDenotes.part_names, ScenarioDenotes.all_names, declared.kind.Kind.Kind, declared.kind.Kind.TheVariants.Script, declared.kind.Kind.TheVariants.Relay, declared.kind.Kind.TheVariants.Tally}
+use Rattle.msg_reading.specs.{Names.Declared, Names.is_name, Names.position_of, Names.type_number, Names.resource_number, Names.system_number, ScenarioDenotes.text, ScenarioDenotes.inside_nots, ScenarioDenotes.nots_round, ScenarioDenotes.kind_of, ScenarioDenotes.kind_in, ScenarioDenotes.conditions_in, ScenarioDenotes.join_in, ScenarioDenotes.start_of, ScenarioDenotes.start_in, ScenarioDenotes.ops_of, ScenarioDenotes.declaring_type, ScenarioDenotes.declaring_resource, ScenarioDenotes.with_system, ScenarioDenotes.no_names, ScenarioDenotes.types_in, ScenarioDenotes.resources_in, ScenarioDenotes.held_in, ScenarioDenotes.systems_in, ScenarioDenotes.rules_in, ScenarioDenotes.frames_in, ScenarioDenotes.type_names, ScenarioDenotes.part_names, ScenarioDenotes.all_names, declared.kind.Kind.Kind, declared.kind.Kind.TheVariants.Script, declared.kind.Kind.TheVariants.Relay, declared.kind.Kind.TheVariants.Tally}
 use Rattle.msg_files.specs.declared.refusal.Refusal.TheVariants.{Shape, BadName, TwiceNamed, BadNumber, TooMany, UnknownName}
 
 -- ---- parts of values
@@ -243,10 +243,11 @@ root_object d =
 
 -- the sections of a file
 unfoldable pub types_checks : Data → List Check
-types_checks d = names_checks 64 type_checks with_type no_names (types_in d)
+types_checks d = names_checks 64 type_checks declaring_type no_names (types_in d)
 
 unfoldable pub resources_checks : Data → List Check
-resources_checks d = names_checks 64 resource_checks with_resource (type_names d) (resources_in d)
+resources_checks d =
+    names_checks 64 resource_checks declaring_resource (type_names d) (resources_in d)
 
 unfoldable pub held_checks : Data → List Check
 held_checks d = needs (is_some (as_bool (held_in d))) Shape ∷ []

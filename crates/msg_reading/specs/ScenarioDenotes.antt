@@ -175,8 +175,8 @@ abbrev pub ops_of : Declared → Data → Option (List Op)
 ops_of names d = each_of (op_of names) (value_at (codes "ops") d)
 
 -- the conditions and the join frame of a system
-abbrev pub place_of : Declared → Data → Option Place
-place_of names d =
+abbrev pub place_in : Declared → Data → Option Place
+place_in names d =
     both (λ conditions join. record { conditions = conditions; join = join })
     (each_of (condition_of names) (conditions_in d)) (natural (join_in d))
 
@@ -192,7 +192,7 @@ system_of names d =
       program = record { ops = ops; start = start };
       place = place;
     })
-    (place_of names d) (start_of (start_in d)))
+    (place_in names d) (start_of (start_in d)))
     (ops_of names d))
     (kind_of (kind_in d))
 
@@ -216,11 +216,12 @@ frame_of names d = option_map (λ posts. record { posts = posts }) (each_of (pos
 -- ---- names
 
 -- the names, with that of one more type, resource or system
-abbrev pub with_type : Declared → Data → Declared
-with_type names d = record names { types = names.types ++ first_text (elements d) ∷ [] }
+abbrev pub declaring_type : Declared → Data → Declared
+declaring_type names d = record names { types = names.types ++ first_text (elements d) ∷ [] }
 
-abbrev pub with_resource : Declared → Data → Declared
-with_resource names d = record names { resources = names.resources ++ first_text (elements d) ∷ [] }
+abbrev pub declaring_resource : Declared → Data → Declared
+declaring_resource names d =
+    record names { resources = names.resources ++ first_text (elements d) ∷ [] }
 
 abbrev pub with_system : Declared → Data → Declared
 with_system names d =
@@ -262,10 +263,10 @@ frames_in d = value_at (codes "frames") d
 
 -- the names of a scenario's types; of its types and resources; and of all
 unfoldable pub type_names : Data → Declared
-type_names d = with_all with_type no_names (elements (types_in d))
+type_names d = with_all declaring_type no_names (elements (types_in d))
 
 unfoldable pub part_names : Data → Declared
-part_names d = with_all with_resource (type_names d) (elements (resources_in d))
+part_names d = with_all declaring_resource (type_names d) (elements (resources_in d))
 
 unfoldable pub all_names : Data → Declared
 all_names d = with_all with_system (part_names d) (elements (systems_in d))
@@ -273,10 +274,10 @@ all_names d = with_all with_system (part_names d) (elements (systems_in d))
 -- ---- the whole
 
 unfoldable pub types_of : Data → Option (List (Text × ℕ))
-types_of d = each_in_turn (λ names. type_of) with_type no_names (elements (types_in d))
+types_of d = each_in_turn (λ names. type_of) declaring_type no_names (elements (types_in d))
 
 unfoldable pub resources_of : Data → Option (List (Text × ℤ))
-resources_of d = each_in_turn (λ names. resource_of) with_resource (type_names d)
+resources_of d = each_in_turn (λ names. resource_of) declaring_resource (type_names d)
     (elements (resources_in d))
 
 unfoldable pub systems_of : Data → Option (List SystemSpec)
@@ -285,8 +286,8 @@ systems_of d = each_in_turn system_of with_system (part_names d) (elements (syst
 unfoldable pub rules_of : Data → Option (List Rule)
 rules_of d = each_of (rule_of (all_names d)) (rules_in d)
 
-unfoldable pub frames_of : Data → Option (List Frame)
-frames_of d = each_of (frame_of (all_names d)) (frames_in d)
+unfoldable pub frames_read : Data → Option (List Frame)
+frames_read d = each_of (frame_of (all_names d)) (frames_in d)
 
 -- a scenario
 abbrev pub scenario_of : Data → Option Scenario
@@ -305,7 +306,7 @@ scenario_of d =
       rules = rules;
       frames = frames;
     })
-    (frames_of d))
+    (frames_read d))
     (rules_of d))
     (systems_of d))
     (as_bool (held_in d)))

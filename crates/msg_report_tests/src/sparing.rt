@@ -1,7 +1,7 @@
 // Scripts that may come to want of memory, and the engine of a scenario over them.
 ghost use Rattle.std.specs.Prelude.{◌≡◌, ◌≤◌, IfOk, length};
 ghost use Rattle.msg_system.specs.Prelude.{new_system};
-ghost use Rattle.msg_exec.specs.Prelude.{EachIs, StandsFor};
+ghost use Rattle.msg_exec.specs.Prelude.{EachIs, EngineStands};
 ghost use Rattle.msg_scenario.specs.Prelude.{IsSystemAt};
 ghost use Rattle.msg_reading.specs.Prelude.{IsRunnable, state_of};
 
@@ -94,7 +94,7 @@ pub fn sparing_engine(
 ) -> Result<EngineOf<Sparing>, NoMemory>
     requires runnable { IsRunnable scenario.now }
     ensures stands { IfOk result (λ e.
-        StandsFor ⟦<Sparing as System>⟧.meaning e (state_of scenario.now)) }
+        EngineStands ⟦<Sparing as System>⟧.meaning e (state_of scenario.now)) }
 {
     engine_of(alloc, scenario, sparing_systems(alloc, scenario, runs)?)
 }

@@ -5,8 +5,8 @@ use Rattle.std.proofs.Math.Seq.{take-append_seam, take-length}
 use Rattle.std.specs.Io.KnownBytes.{Appends}
 use Rattle.std.proofs.KnownBytes.{Appends-nil, Appends-trans}
 use Rattle.msg_system.specs.Prelude.{Meaning}
-use Rattle.msg_frames.specs.Prelude.{FramesKeepSystems, IsCompleteRun, IsFrame, IsRun, State, accounts_of, systems_in}
-use Rattle.msg_exec.specs.Prelude.{HasRunFrame, IsSpoiled, StandsFor, frames_of}
+use Rattle.msg_frames.specs.Prelude.{FramesKeepSystems, IsCompleteRun, IsFrame, IsRun, State, accounts_of, turn_order_in}
+use Rattle.msg_exec.specs.Prelude.{HasRunFrame, IsSpoiled, EngineStands, frame_number}
 use Rattle.msg_frames.specs.{declared.account.Account.Account, declared.frame.Frame.Frame, declared.log.Log.Log}
 use Rattle.msg_exec.specs.declared.engine.EngineOf.{EngineOf}
 use Rattle.msg_system.specs.{declared.run_fault.RunFault.RunFault, declared.run_fault.RunFault.TheVariants.BadOrder, declared.run_fault.RunFault.TheVariants.NoMemory, declared.run_fault.RunFault.TheVariants.Spoiled}
@@ -49,7 +49,7 @@ run_more frames frame s logs log m u none one = absurd none
 
 module _ {X : Type 0} (meaning : X → Meaning) (s : Scenario) where
   -- nothing was run, and nothing put
-  pub stopped_before_all : (known : Option (List ℕ)) (e : EngineOf X) → StandsFor meaning e (state_of s)
+  pub stopped_before_all : (known : Option (List ℕ)) (e : EngineOf X) → EngineStands meaning e (state_of s)
       → HasStopped meaning s known known e
   stopped_before_all known e stands = record {
     logs = [];
@@ -70,7 +70,7 @@ module _ {X : Type 0} (meaning : X → Meaning) (s : Scenario) where
     -- the frame after the first k was run, and its text isn't put yet
     module _ (keep : FramesKeepSystems) (f : EngineOf X) (frame : Frame) (log : Log) (lt : k < length s.frames)
         (is : frame ≡ get_or s.frames k frame)
-        (ran : (u : State) → StandsFor meaning e u → HasRunFrame meaning frame u log f) where
+        (ran : (u : State) → EngineStands meaning e u → HasRunFrame meaning frame u log f) where
       abbrev one : HasRunFrame meaning frame far.state log f
       one = ran far.state far.stands
 
@@ -86,7 +86,7 @@ module _ {X : Type 0} (meaning : X → Meaning) (s : Scenario) where
 
       counted_now : (one.state.frames ≡ k + 1) × (one.state.types ≡ length s.types)
       counted_now =
-          grind (arith, one.is_frame.leaves, keep (systems_in log) frame far.state, far.frames, far.types)
+          grind (arith, one.is_frame.leaves, keep (turn_order_in log) frame far.state, far.frames, far.types)
 
       text_now : frames_text s 1 s.frames logs_now
           ≡ frames_text s 1 s.frames far.logs ++ frame_text s (k + 1) frame log
@@ -98,7 +98,7 @@ module _ {X : Type 0} (meaning : X → Meaning) (s : Scenario) where
 
       -- its text was put
       pub frame_put : (after : Option (List ℕ)) (g : EngineOf X)
-          → ((u : State) → StandsFor meaning f u → StandsFor meaning g u)
+          → ((u : State) → EngineStands meaning f u → EngineStands meaning g u)
           → Appends now after (frame_text s (k + 1) frame log) → ReportSoFar meaning s (k + 1) before after g
       frame_put after g stays puts = record {
         logs = logs_now;
@@ -136,9 +136,9 @@ module _ {X : Type 0} (meaning : X → Meaning) (s : Scenario) where
     -- ---- no memory
 
     -- what was run and put so far is all that was
-    out_after : (f : EngineOf X) → frames_of f ≡ frames_of e
+    out_after : (f : EngineOf X) → frame_number f ≡ frame_number e
         → (IsSpoiled f × (length far.logs < length s.frames))
-        ⊎ (StandsFor meaning f far.state × (length far.logs ≡ length s.frames)) → HasRunOut meaning s before now f
+        ⊎ (EngineStands meaning f far.state × (length far.logs ≡ length s.frames)) → HasRunOut meaning s before now f
     out_after f counted left = record {
       logs = far.logs;
       state = far.state;
@@ -151,7 +151,7 @@ module _ {X : Type 0} (meaning : X → Meaning) (s : Scenario) where
     -- a frame answers nothing else, as the engine wasn't spoiled
     pub no_memory_for_frame : (f : EngineOf X) (r : Result Log RunFault) (fault : RunFault) → k < length s.frames
         → r ≡ Err fault → (r ≡ Err Spoiled → IsSpoiled e) → ¬ (r ≡ Err BadOrder) → (r ≡ Err NoMemory → IsSpoiled f)
-        → (r ≡ Err NoMemory → frames_of f ≡ frames_of e) → HasRunOut meaning s before now f
+        → (r ≡ Err NoMemory → frame_number f ≡ frame_number e) → HasRunOut meaning s before now f
     no_memory_for_frame f r Spoiled lt is spoiled in_order out counted =
         let is_spoiled = spoiled is in absurd (grind (arith, far.stands.core, is_spoiled))
     no_memory_for_frame f r BadOrder lt is spoiled in_order out counted = absurd (in_order is)
@@ -164,7 +164,7 @@ module _ {X : Type 0} (meaning : X → Meaning) (s : Scenario) where
     -- ---- the readers
 
     module _ (after : Option (List ℕ)) (accounts : List Account) (all : k ≡ length s.frames)
-        (are : (u : State) → StandsFor meaning e u → accounts ≡ accounts_of u) where
+        (are : (u : State) → EngineStands meaning e u → accounts ≡ accounts_of u) where
       -- their lines were put
       pub readers_put : ((frames : List Frame) (logs : List Log) (u : State) → IsRun frames (state_of s) logs u
           → IsCompleteRun frames (state_of s) logs u)

@@ -3,7 +3,7 @@ use Rattle.std.specs.Prelude.{ℕ, List, Option}
 use Rattle.std.specs.Io.KnownBytes.{Appends}
 use Rattle.msg_system.specs.Prelude.{Meaning}
 use Rattle.msg_frames.specs.Prelude.{IsCompleteRun, State, accounts_of}
-use Rattle.msg_exec.specs.Prelude.{StandsFor}
+use Rattle.msg_exec.specs.Prelude.{EngineStands}
 use Rattle.msg_exec.specs.declared.engine.EngineOf.{EngineOf}
 use Rattle.msg_frames.specs.declared.log.Log.{Log}
 use Rattle.msg_scenario.specs.{ReportText.report_text, Reported.HasRunOut, Reported.HasStopped}
@@ -22,13 +22,13 @@ module _ {X : Type 0} (meaning : X → Meaning) (s : Scenario) where
   -- There was an engine of the scenario, which stood for its first state and ran out of memory.
   pub record RanOut (before after : Option (List ℕ)) : Type 0 where
     pub engine : EngineOf X
-    pub begun : StandsFor meaning engine (state_of s)
+    pub begun : EngineStands meaning engine (state_of s)
     pub left : EngineOf X
     pub has_run_out : HasRunOut meaning s before after left
 
   -- There was such an engine, and its report ended after a whole frame.
   pub record Stopped (before after : Option (List ℕ)) : Type 0 where
     pub engine : EngineOf X
-    pub begun : StandsFor meaning engine (state_of s)
+    pub begun : EngineStands meaning engine (state_of s)
     pub left : EngineOf X
     pub has_stopped : HasStopped meaning s before after left

@@ -3,7 +3,7 @@ use Rattle.std.specs.Prelude.{◌≡◌, ◌⊎◌, ℕ, ◌<◌, ◌-◌, ◌^�
 use Rattle.std.specs.Io.KnownBytes.{Appends}
 use Rattle.msg_system.specs.Prelude.{Meaning}
 use Rattle.msg_frames.specs.Prelude.{IsCompleteRun, IsRun, State, accounts_of}
-use Rattle.msg_exec.specs.Prelude.{IsSpoiled, StandsFor, frames_of}
+use Rattle.msg_exec.specs.Prelude.{IsSpoiled, EngineStands, frame_number}
 use Rattle.msg_exec.specs.declared.engine.EngineOf.{EngineOf}
 use Rattle.msg_frames.specs.declared.log.Log.{Log}
 use Rattle.msg_scenario.specs.ReportText.{frames_text, report_text, text_so_far}
@@ -29,7 +29,7 @@ module _ {X : Type 0} (meaning : X → Meaning) (s : Scenario) where
     pub state : State
     pub complete : IsCompleteRun s.frames (state_of s) logs state
     pub printed : Appends before after (report_text s logs (accounts_of state))
-    pub stands : StandsFor meaning e state
+    pub stands : EngineStands meaning e state
 
   -- The report ended after a whole frame, the last one that was run, or before the first one: the
   -- engine stands for the state after it. The sink took all of the text of the frames before that
@@ -38,8 +38,8 @@ module _ {X : Type 0} (meaning : X → Meaning) (s : Scenario) where
     pub logs : List Log
     pub state : State
     pub is_run : HasRunFirst s logs state
-    pub stands : StandsFor meaning e state
-    pub counted : frames_of e ≡ min (length logs) (2 ^ 32 - 1)
+    pub stands : EngineStands meaning e state
+    pub counted : frame_number e ≡ min (length logs) (2 ^ 32 - 1)
     pub printed : AppendsPrefix before after (text_so_far s logs (accounts_of state))
     pub earlier : AppendsAtLeast before after
         (frames_text s 1 s.frames (take (length logs - 1) logs))
@@ -57,6 +57,6 @@ module _ {X : Type 0} (meaning : X → Meaning) (s : Scenario) where
     pub state : State
     pub is_run : HasRunFirst s logs state
     pub printed : Appends before after (frames_text s 1 s.frames logs)
-    pub counted : frames_of e ≡ min (length logs) (2 ^ 32 - 1)
+    pub counted : frame_number e ≡ min (length logs) (2 ^ 32 - 1)
     pub left : (IsSpoiled e × (length logs < length s.frames))
-        ⊎ (StandsFor meaning e state × (length logs ≡ length s.frames))
+        ⊎ (EngineStands meaning e state × (length logs ≡ length s.frames))

@@ -2,7 +2,7 @@
 ghost use Rattle.std.specs.Prelude.{◌≡◌, ◌+◌, ◌≤◌, IfOk, OnOk, Some, length, map, slice_get};
 ghost use Rattle.msg_world.specs.Prelude.{IsWhole, PartsStand};
 ghost use Rattle.msg_system.specs.Prelude.{new_system};
-ghost use Rattle.msg_exec.specs.Prelude.{EachIs, StandsFor};
+ghost use Rattle.msg_exec.specs.Prelude.{EachIs, EngineStands};
 ghost use Rattle.msg_scenario.specs.Prelude.{IsSystemAt};
 ghost use Rattle.msg_reading.specs.Prelude.{IsRunnable, first_world, places_of, state_of};
 
@@ -104,7 +104,7 @@ pub fn engine_of<S: System>(
     requires runnable { IsRunnable scenario.now }
     requires as_many { length systems.items ≡ length scenario.now.systems }
     requires each { EachIs (IsSystemAt S.meaning scenario.now.systems) systems.items }
-    ensures meaning { IfOk result (λ e. StandsFor S.meaning e (state_of scenario.now)) }
+    ensures meaning { IfOk result (λ e. EngineStands S.meaning e (state_of scenario.now)) }
 {
     let world = world_of(alloc, scenario)?;
     let places = places_of(alloc, scenario)?;

@@ -2,7 +2,7 @@
 ghost use Rattle.std.specs.Prelude.{◌≡◌, ◌≢◌, ◌⊎◌, Ok, Err, IfOk, OnErr, OnOk, length};
 ghost use Rattle.msg_system.specs.declared.run_fault.RunFault.TheVariants.{BadOrder, NoMemory as NoRoom, Spoiled};
 ghost use Rattle.msg_exec.specs.Prelude.{EachIs};
-ghost use Rattle.msg_files.specs.Prelude.{one_more};
+ghost use Rattle.msg_files.specs.Prelude.{one_failure_more};
 ghost use Rattle.msg_reading.specs.Prelude.{IsRunnable};
 ghost use Rattle.msg_scenario.specs.Prelude.{HasPrinted, IsReported, IsSystemAt, RanOut, Stopped};
 
@@ -51,7 +51,7 @@ pub fn run_scenario<R: Threads + Sync, X: System, S: Sink, G: Gate>(
         ⊎ (result ≡ Ok (Err ReportFault.NoMemory))
         → Stopped X.meaning scenario.now (S.contents sink.old) (S.contents sink.new) }
     ensures write { result ≡ Ok (Err ReportFault.Write)
-        → S.failures sink.new ≡ one_more (S.failures sink.old) }
+        → S.failures sink.new ≡ one_failure_more (S.failures sink.old) }
     ensures quiet { result ≢ Ok (Err ReportFault.Write)
         → S.failures sink.new ≡ S.failures sink.old }
 {

@@ -6,6 +6,6 @@ mod Lendings
 mod Runs
 pub mod Turns
 -- Nothing else is used
-mod Footprints
+mod FootprintsHold
 -- Turns that a behavior decides
 mod Deciding

@@ -3,7 +3,7 @@ use Rattle.std.proofs.Common.{◌≡◌, ℕ, ◌<◌, ◌++◌, true, List, [],
 use Rattle.std.proofs.lemmas.{Bool.cases_eq, Bool.eq-eqb, Bool.ne_eqb, List.get_or_default, List.get_or-set_same, List.get_or-set_other}
 use Rattle.msg_world.specs.declared.lent.Lent.{Lent}
 use Rattle.msg_world.specs.Prelude.{Part, SameLoan, WorldState, same_part, shown, writable}
-use Rattle.msg_system.specs.Prelude.{AfterOp, AfterProgram, Covers, Cursors, Op, OpRan, Reply, after_op, after_program, one_more, op_needs, op_parts, places_of, with_place}
+use Rattle.msg_system.specs.Prelude.{AfterOp, AfterProgram, Covers, Cursors, Op, OpRan, Reply, after_op, after_program, one_more, op_needs, op_parts, cursor_places, with_place}
 use Rattle.msg_system.specs.inner.TurnRuns.{IsAfterProgram}
 
 pub same_part_refl : (p : Part) → same_part p p ≡ true
@@ -21,17 +21,18 @@ covers_written op l p covers is = covers.writes p (rw is (same_part_refl p))
 
 -- one of the cursors of all types, as the array has it
 module _ (cs : Cursors) (t k d : ℕ) (long : length cs.by_type ≡ 64) (is : k ≡ t) (lt : t < 64) where
-  pub place_at : places_of cs t ≡ get_or cs.by_type k d
+  pub place_at : cursor_places cs t ≡ get_or cs.by_type k d
   place_at = rw is (get_or_default cs.by_type t 0 d (omega (arith, long, lt)))
 
   -- an op that moves it
   pub ran_at : (op : Op) (w new : ℕ) (l m : Lent) (r : Reply)
       → ((places : ℕ → ℕ) → places t ≡ get_or cs.by_type k d → OpRan op w places (with_place places t new) l m r)
-      → OpRan op w (places_of cs) (places_of (record { by_type = slice_set cs.by_type k new })) l m r
+      → OpRan op w (cursor_places cs) (cursor_places (record { by_type = slice_set cs.by_type k new })) l m r
   ran_at op w new l m r ran =
-      let moves : places_of (record { by_type = slice_set cs.by_type t new }) ≡ with_place (places_of cs) t new =
+      let moves : cursor_places (record { by_type = slice_set cs.by_type t new })
+          ≡ with_place (cursor_places cs) t new =
       grind (arith, long, lt, cases_eq, get_or-set_same, eq-eqb, get_or-set_other, ne_eqb) in
-      rw (is, moves) (ran (places_of cs) place_at)
+      rw (is, moves) (ran (cursor_places cs) place_at)
 
 -- ---- one op more
 

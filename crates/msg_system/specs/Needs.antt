@@ -30,13 +30,13 @@ op_parts (Drain t) = record { read = None; written = Some (OfType t) }
 op_parts Signal = record { read = None; written = Some Registry }
 
 -- the type, where the part is one
-abbrev pub type_of : Part → Option ℕ
-type_of (OfType t) = Some t
-type_of _ = None
+abbrev pub type_in_part : Part → Option ℕ
+type_in_part (OfType t) = Some t
+type_in_part _ = None
 
 -- the type that an op reads
 abbrev pub type_read : Op → Option ℕ
-type_read op = option_and_then type_of (op_parts op).read
+type_read op = option_and_then type_in_part (op_parts op).read
 
 -- the type that op k of a program reads; none where there is no such op
 abbrev pub type_read_by : List Op → ℕ → Option ℕ

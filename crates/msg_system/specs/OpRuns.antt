@@ -6,8 +6,8 @@ use Rattle.msg_world.specs.Prelude.{LoanStands, WorldState}
 use Rattle.msg_system.specs.{declared.cursors.Cursors.Cursors, declared.op.Op.Op, declared.op.Op.TheVariants.Write, declared.op.Op.TheVariants.Batch, declared.op.Op.TheVariants.Read, declared.op.Op.TheVariants.Forward, declared.op.Op.TheVariants.Sum, declared.op.Op.TheVariants.Drain, declared.reply.Reply.Reply, Programs.AfterOp, Programs.after_op, Programs.numbers_for}
 
 -- the place in each type, by the type's number
-abbrev pub places_of : Cursors → ℕ → ℕ
-places_of cursors t = slice_index cursors.by_type t
+abbrev pub cursor_places : Cursors → ℕ → ℕ
+cursor_places cursors t = slice_index cursors.by_type t
 
 -- the places, the loan and the reply are those after an op
 pub record IsAfterOp (after : AfterOp) (places : ℕ → ℕ) (lent : Lent)

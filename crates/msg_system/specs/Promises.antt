@@ -1,7 +1,7 @@
 -- What a box promises of its runs.
 use Rattle.std.specs.Prelude.{All, ◌≡◌, ℕ, ◌++◌, false, None, IfSome, IsSome, IsTrue, List, [], ◌∷◌, length}
 use Rattle.msg_world.specs.declared.lent.Lent.{Lent}
-use Rattle.msg_world.specs.Prelude.{IsComplete, LoanStands, Part, Parts, PartsStand, SameLoan, StuffStands, WorldState, access_of, content, shown, slot, taken_of, uses, writable, writes}
+use Rattle.msg_world.specs.Prelude.{IsComplete, LoanStands, Part, Parts, PartsStand, SameLoan, StuffStands, WorldState, access_of_loan, content, shown, slot, taken_of, uses, writable, writes}
 use Rattle.msg_system.specs.{declared.condition.Condition.Condition, declared.op.Op.Op, declared.reply.Reply.Reply, declared.start.Start.Start, Needs.IsAccessOf, Needs.Needs, Needs.condition_needs, Needs.op_needs, Needs.program_needs, Needs.with_conditions, OpRuns.OpRan, Systems.Meaning, Systems.of_program, Systems.only, Systems.told, Systems.turn}
 
 -- A loan covers what is needed: it shows what is read, and lets be written what is written. It may
@@ -12,7 +12,7 @@ pub record Covers (n : Needs) (l : Lent) : Type 0 where
 
 -- What a loan's access writes stands, as it is given back, for that part of a world.
 abbrev pub WrittenStand : Lent → Parts → WorldState → Type 0
-WrittenStand l taken s = (p : Part) → IsTrue (writes (access_of l) p)
+WrittenStand l taken s = (p : Part) → IsTrue (writes (access_of_loan l) p)
     → IfSome (slot p taken) (λ k. StuffStands p k (content p s))
 
 -- A run on a loan is the system's turn, on each world that the loan stands for.
@@ -44,17 +44,17 @@ OneOpIsATurn = (op : Op) (start : Start) (writer : ℕ) (old_places new_places :
 -- Where nothing else is given back, that is all that is given back.
 abbrev pub WrittenIsAll : Type 0
 WrittenIsAll = (l : Lent) (taken : Parts) (s : WorldState)
-    → ((p : Part) → writes (access_of l) p ≡ false → slot p taken ≡ None)
+    → ((p : Part) → writes (access_of_loan l) p ≡ false → slot p taken ≡ None)
     → WrittenStand l taken s → PartsStand taken s
 
 -- A loan that has all that its access uses covers what is within that access.
 abbrev pub CompleteCovers : Type 0
 CompleteCovers = (n : Needs) (l : Lent) → IsComplete l
-    → ((p : Part) → IsTrue (n.reads p) → IsTrue (uses (access_of l) p))
-    → ((p : Part) → IsTrue (n.writes p) → IsTrue (writes (access_of l) p)) → Covers n l
+    → ((p : Part) → IsTrue (n.reads p) → IsTrue (uses (access_of_loan l) p))
+    → ((p : Part) → IsTrue (n.writes p) → IsTrue (writes (access_of_loan l) p)) → Covers n l
 
 -- A loan that has all that a job needs covers its system and each of its conditions.
 abbrev pub JobsCover : Type 0
 JobsCover = (n : Needs) (cs : List Condition) (l : Lent) → IsComplete l
-    → IsAccessOf (with_conditions n cs) (access_of l)
+    → IsAccessOf (with_conditions n cs) (access_of_loan l)
     → Covers n l × All (λ c. Covers (condition_needs c) l) cs

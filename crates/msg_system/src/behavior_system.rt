@@ -1,7 +1,7 @@
 // Systems that decide by a behavior.
 ghost use Rattle.std.specs.Prelude.{◌≡◌, ◌≤◌, IfOk, OnOk, drop, length};
 ghost use Rattle.msg_world.specs.Prelude.{SameLoan};
-ghost use Rattle.msg_system.specs.{Behaviors.behaves, Needs.needs_of, OpRuns.places_of, inner.TurnRuns.AreAnswered, inner.TurnRuns.TurnRan, inner.TurnRuns.next_kept, Promises.Covers};
+ghost use Rattle.msg_system.specs.{Behaviors.behaves, Needs.needs_of, OpRuns.cursor_places, inner.TurnRuns.AreAnswered, inner.TurnRuns.TurnRan, inner.TurnRuns.next_kept, Promises.Covers};
 
 use crate::behavior::Behavior;
 use crate::{Access, Cursors, Items, NoMemory, Numbered, Op, Reply, Start, System};
@@ -45,7 +45,7 @@ fn run_turn<B: Behavior>(
     requires covers { Covers (needs_of access.now) lent.old }
     ensures ran { OnOk result (TurnRan
         (next_kept (needs_of access.now) B.next_op (B.memory behavior.now)) writer
-        (places_of cursors.old) (places_of cursors.new) lent.old lent.new
+        (cursor_places cursors.old) (cursor_places cursors.new) lent.old lent.new
         out.old.items out.new.items) }
     ensures answered { IfOk result (λ v. AreAnswered
         (next_kept (needs_of access.now) B.next_op (B.memory behavior.now)) v.items
@@ -107,7 +107,7 @@ impl<B: Behavior + Send> System for BehaviorSystem<B> {
       needs = needs_of s.access;
       start = s.start;
       writer = s.writer;
-      places = places_of s.cursors;
+      places = cursor_places s.cursors;
       rule = behaves B.next_op B.remembered (B.memory s.behavior);
       last = s.last;
     } };

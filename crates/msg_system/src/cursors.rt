@@ -1,6 +1,6 @@
 // The cursors of a system.
 ghost use Rattle.std.specs.Prelude.{◌≡◌, ℕ};
-ghost use Rattle.msg_system.specs.Prelude.{IsAccessOf, Needs, places_of, start_place, started_places};
+ghost use Rattle.msg_system.specs.Prelude.{IsAccessOf, Needs, cursor_places, start_place, started_places};
 
 use crate::{Access, Start};
 use msg_buffer::MessageCursor;
@@ -25,7 +25,7 @@ pub struct Cursors {
 impl Cursors {
     /// They have read nothing yet.
     pub fn new() -> Cursors
-        ensures zero { places_of result ≡ (λ t. 0) }
+        ensures zero { cursor_places result ≡ (λ t. 0) }
     {
         Cursors {
             by_type: [MessageCursor::new(0); 64],
@@ -34,7 +34,7 @@ impl Cursors {
 
     /// The number of the first message of a type that wasn't given yet.
     pub fn place(&self, t: TypeNo) -> u64
-        ensures place { result ≡ places_of self.now t }
+        ensures place { result ≡ cursor_places self.now t }
     {
         self.by_type[t.number() as usize].place()
     }
@@ -43,7 +43,7 @@ impl Cursors {
     /// this moment.
     pub fn start(&mut self, access: Access, start: Start, counts: &Counts)
         ensures started { (n : Needs) → IsAccessOf n access
-            → places_of self.new ≡ started_places n start counts.now (places_of self.old) }
+            → cursor_places self.new ≡ started_places n start counts.now (cursor_places self.old) }
     {
         for number in 0..64u32 {
             if let Some(t) = TypeNo::new(number) {

@@ -37,7 +37,7 @@ pub enum Op {
 
 impl Op {
     ghost use Rattle.msg_world.specs.Prelude.{SameLoan};
-    ghost use Rattle.msg_system.specs.{Needs.keeps_to, Needs.needs_of, Needs.op_needs, Needs.type_read, OpRuns.MayBeRefused, OpRuns.OpRan, OpRuns.places_of, Promises.Covers};
+    ghost use Rattle.msg_system.specs.{Needs.keeps_to, Needs.needs_of, Needs.op_needs, Needs.type_read, OpRuns.MayBeRefused, OpRuns.OpRan, OpRuns.cursor_places, Promises.Covers};
 
     /// The type that it reads.
     pub fn read_type(&self) -> Option<TypeNo>
@@ -109,10 +109,11 @@ impl Op {
         lent: &mut Lent,
     ) -> Result<Reply, NoMemory>
         requires covers { Covers (op_needs self.now) lent.old }
-        ensures ran { IfOk result (OpRan self.now writer (places_of cursors.old)
-            (places_of cursors.new) lent.old lent.new) }
+        ensures ran { IfOk result (OpRan self.now writer (cursor_places cursors.old)
+            (cursor_places cursors.new) lent.old lent.new) }
         ensures same { OnOk result (SameLoan lent.old lent.new) }
-        ensures refused { OnErr result (MayBeRefused self.now (places_of cursors.old) lent.old) }
+        ensures refused { OnErr result
+            (MayBeRefused self.now (cursor_places cursors.old) lent.old) }
     {
         match self {
             Op::Write(t, value) => steps::write(lent, writer, *t, *value),

@@ -33,10 +33,10 @@ impl Relay {
 }
 
 impl System for Relay {
-    ghost use Rattle.msg_system.specs.{declared.op.Op.TheVariants.Forward, OpRuns.places_of, Systems.of_program, Systems.only};
+    ghost use Rattle.msg_system.specs.{declared.op.Op.TheVariants.Forward, OpRuns.cursor_places, Systems.of_program, Systems.only};
 
     ghost meaning = { λ s.
-        of_program (only (Forward s.from s.to) s.start) s.writer (places_of s.cursors) };
+        of_program (only (Forward s.from s.to) s.start) s.writer (cursor_places s.cursors) };
 
     fn access(&self) -> Access {
         Access::none()

@@ -1,7 +1,7 @@
 // Systems that interpret their programs.
 ghost use Rattle.std.specs.Prelude.{◌≡◌, ◌<◌, ◌≤◌, OnErr, OnOk, length};
 ghost use Rattle.msg_world.specs.Prelude.{SameLoan};
-ghost use Rattle.msg_system.specs.{Needs.program_needs, OpRuns.places_of, inner.TurnRuns.HasReplies, inner.TurnRuns.ProgramRan, Promises.Covers};
+ghost use Rattle.msg_system.specs.{Needs.program_needs, OpRuns.cursor_places, inner.TurnRuns.HasReplies, inner.TurnRuns.ProgramRan, Promises.Covers};
 
 use crate::{Access, Cursors, NoMemory, Numbered, Op, Program, Reply, Start, System};
 use msg_world::{Counts, Lent, Taken, TypeNo};
@@ -17,8 +17,8 @@ fn run_ops(
     out: &mut Vec<Reply>,
 ) -> Result<(), NoMemory>
     requires covers { Covers (program_needs ops.now) lent.old }
-    ensures ran { OnOk result (ProgramRan ops.now writer (places_of cursors.old)
-        (places_of cursors.new) lent.old lent.new out.old.items out.new.items) }
+    ensures ran { OnOk result (ProgramRan ops.now writer (cursor_places cursors.old)
+        (cursor_places cursors.new) lent.old lent.new out.old.items out.new.items) }
     ensures replies { OnOk result (HasReplies out.old.items out.new.items (length ops.now)) }
     ensures same { OnOk result (SameLoan lent.old lent.new) }
 
@@ -59,7 +59,7 @@ impl Scripted {
 impl System for Scripted {
     ghost use Rattle.msg_system.specs.Systems.{of_program};
 
-    ghost meaning = { λ s. of_program s.program s.writer (places_of s.cursors) };
+    ghost meaning = { λ s. of_program s.program s.writer (cursor_places s.cursors) };
 
     fn access(&self) -> Access {
         self.program.access()

@@ -33,10 +33,10 @@ impl Tally {
 }
 
 impl System for Tally {
-    ghost use Rattle.msg_system.specs.{declared.op.Op.TheVariants.Sum, OpRuns.places_of, Systems.of_program, Systems.only};
+    ghost use Rattle.msg_system.specs.{declared.op.Op.TheVariants.Sum, OpRuns.cursor_places, Systems.of_program, Systems.only};
 
     ghost meaning = { λ s.
-        of_program (only (Sum s.from s.to) s.start) s.writer (places_of s.cursors) };
+        of_program (only (Sum s.from s.to) s.start) s.writer (cursor_places s.cursors) };
 
     fn access(&self) -> Access {
         Access::none()

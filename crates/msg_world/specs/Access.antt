@@ -56,7 +56,7 @@ abbrev pub IsClash : Access → Type 0
 IsClash a = Overlap (reads a) (writes a)
 
 -- it uses no type and no resource but those below these numbers
-pub record Fits (types resources : ℕ) (a : Access) : Type 0 where
+pub record FitsWorldOf (types resources : ℕ) (a : Access) : Type 0 where
   pub types_below : (t : ℕ) → IsTrue (uses a (OfType t)) → t < types
   pub resources_below : (r : ℕ) → IsTrue (uses a (OfResource r)) → r < resources
 

@@ -1,5 +1,5 @@
 pub mod Access
-pub mod Lending
+pub mod WritingThrough
 pub mod Loan
 pub mod LoanLaws
 pub mod Parts

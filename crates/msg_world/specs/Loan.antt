@@ -4,11 +4,11 @@ use Rattle.std.specs.Prelude.{◌≡◌, ℕ, ℤ, Option, None, IsSome, IfSome,
 use mir.Syntax.{named}
 use Rattle.std.specs.Borrow.{LendsIf, MutBor, Fml, i64}
 use Rattle.msg_buffer.specs.Prelude.{Kept}
-use Rattle.msg_world.specs.{declared.access.Access.Access, declared.record.Record.Record, declared.lent.Lent.Lent, contracts.lent.Lent.the_row as lent_row, Access.Part, Access.reads, Access.writes, Access.uses, Lending.messages_row, Lending.with_type, Lending.with_value, Parts.Parts, Parts.SameShape, Parts.SameSize, Parts.Stuff, Parts.StuffStands, Parts.slot, World.WorldState, World.content}
+use Rattle.msg_world.specs.{declared.access.Access.Access, declared.record.Record.Record, declared.lent.Lent.Lent, contracts.lent.Lent.the_row as lent_row, Access.Part, Access.reads, Access.writes, Access.uses, WritingThrough.messages_row, WritingThrough.with_type, WritingThrough.with_value, Parts.Parts, Parts.SameShape, Parts.SameSize, Parts.Stuff, Parts.StuffStands, Parts.slot, World.WorldState, World.content}
 
 -- the access that it was made for
-abbrev pub access_of : Lent → Access
-access_of l = l.access
+abbrev pub access_of_loan : Lent → Access
+access_of_loan l = l.access
 
 -- the parts of its own
 abbrev pub taken_of : Lent → Parts

@@ -1,7 +1,7 @@
 -- What holds of parts that are lent and taken back, one after the other or side by side.
 use Rattle.std.specs.Prelude.{◌≡◌, ◌||◌, ℕ, ℤ, false, None, IsSome, IsTrue, is_some}
 use Rattle.msg_buffer.specs.Prelude.{History, Kept, StandsFor}
-use Rattle.msg_world.specs.{declared.access.Access.Access, declared.lent.Lent.Lent, declared.record.Record.Record, Access.Part, Access.OfType, Access.OfResource, Access.Conflict, Access.writes, Loan.IsComplete, Loan.IsLoanOf, Loan.LoanStands, Loan.SameLoan, Loan.access_of, Loan.taken_of, Loan.with_messages, Loan.with_resource, Loan.writable, Parts.IsApart, Parts.IsHome, Parts.LendsOut, Parts.Parts, Parts.PartsStand, Parts.SameShape, Parts.TakesBack, Parts.slot, World.WorldState, World.merge, World.with_history, World.with_value_of}
+use Rattle.msg_world.specs.{declared.access.Access.Access, declared.lent.Lent.Lent, declared.record.Record.Record, Access.Part, Access.OfType, Access.OfResource, Access.Conflict, Access.writes, Loan.IsComplete, Loan.IsLoanOf, Loan.LoanStands, Loan.SameLoan, Loan.access_of_loan, Loan.taken_of, Loan.with_messages, Loan.with_resource, Loan.writable, Parts.IsApart, Parts.IsHome, Parts.LendsOut, Parts.Parts, Parts.PartsStand, Parts.SameShape, Parts.TakesBack, Parts.slot, World.WorldState, World.merge, World.with_history, World.with_value_of}
 
 -- What was moved out is a loan of its access, and the world and the loan still stand for what the
 -- world stood for.
@@ -70,7 +70,7 @@ HomeAgain = (a : Access) (old left taken later home : Parts)
 -- the world stands for the one before, with what the access writes as the loan left it.
 abbrev pub LoanEnds : Type 0
 LoanEnds = (a : Access) (old left taken : Parts) (begun ended : Lent)
-    → LendsOut a old left taken → access_of begun ≡ a → taken_of begun ≡ taken
+    → LendsOut a old left taken → access_of_loan begun ≡ a → taken_of begun ≡ taken
     → SameLoan begun ended
     → IsApart (taken_of ended) left
     × ((home : Parts) → TakesBack (taken_of ended) left home
@@ -92,5 +92,5 @@ OwnsWhatItWrites = (a : Access) (world taken later : Parts) → IsLoanOf a world
 -- What it owns stands for the world that the loan stands for.
 abbrev pub OwnedStands : Type 0
 OwnedStands = (l : Lent) (world : Parts) (s : WorldState)
-    → IsLoanOf (access_of l) world (taken_of l)
+    → IsLoanOf (access_of_loan l) world (taken_of l)
     → LoanStands l s → PartsStand (taken_of l) s

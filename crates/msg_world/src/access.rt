@@ -16,7 +16,7 @@ pub struct Access {
 }
 
 impl Access {
-    ghost use Rattle.msg_world.specs.Access.{Part, OfType, OfResource, Registry, reads, writes, uses, same_part, Conflict, IsClash, Fits};
+    ghost use Rattle.msg_world.specs.Access.{Part, OfType, OfResource, Registry, reads, writes, uses, same_part, Conflict, IsClash, FitsWorldOf};
 
     /// The access that uses nothing.
     pub fn none() -> Self
@@ -169,7 +169,7 @@ impl Access {
     /// Whether a world of so many types and resources has all that is used.
     #[tactic(auto, using(crate::proofs::Bits::of_masks))]
     pub fn fits(&self, types: u32, resources: u32) -> bool
-        ensures fit { IsTrue result ↔ Fits types resources self.now }
+        ensures fit { IsTrue result ↔ FitsWorldOf types resources self.now }
     {
         masks::is_below(self.read_types | self.write_types, types)
             && masks::is_below(self.read_res | self.write_res, resources)

@@ -27,12 +27,12 @@ pub struct Lent<'a> {
 impl<'a> Lent<'a> {
     ghost use Rattle.std.specs.Prelude.{◌≡◌, IsTrue, is_some, not};
     ghost use Rattle.std.specs.{Borrow.sem, Option.option_copied, Option.option_copied_mut};
-    ghost use Rattle.msg_world.specs.{Access.OfResource, Access.OfType, Access.Registry, Loan.IsComplete, Loan.IsLoanOf, Loan.LendsResource, Loan.LendsWriter, Loan.LoanStands, Loan.SameLoan, Loan.access_of, Loan.shown, Loan.taken_of, Loan.writable, Parts.PartsStand, World.WorldState, World.after_signal};
+    ghost use Rattle.msg_world.specs.{Access.OfResource, Access.OfType, Access.Registry, Loan.IsComplete, Loan.IsLoanOf, Loan.LendsResource, Loan.LendsWriter, Loan.LoanStands, Loan.SameLoan, Loan.access_of_loan, Loan.shown, Loan.taken_of, Loan.writable, Parts.PartsStand, World.WorldState, World.after_signal};
 
     /// Opens the loan of what was moved out of the world for this access.
     pub fn open(world: &'a World, access: &Access, taken: Taken) -> Lent<'a>
         requires loan { IsLoanOf access.now world.now taken }
-        ensures access { access_of result ≡ access.now }
+        ensures access { access_of_loan result ≡ access.now }
         ensures taken { taken_of result ≡ taken }
         ensures complete { IsComplete result }
         ensures meaning { (s : WorldState) → PartsStand world.now s → PartsStand taken s

@@ -41,7 +41,7 @@ fn moved_stand(types: &MovedParts<Messages<Record>>)
 impl Taken {
     ghost use Rattle.std.specs.{Borrow.sem, Option.option_copied, Option.option_copied_mut};
     ghost use Rattle.std.specs.Prelude.{◌≡◌, is_some, option_map};
-    ghost use Rattle.msg_world.specs.{Access.OfType, Access.OfResource, Access.Registry, Lending.LendsMessages, Lending.LendsValue, Parts.PartsStand, Parts.slot, World.WorldState, World.signalled_marks};
+    ghost use Rattle.msg_world.specs.{Access.OfType, Access.OfResource, Access.Registry, WritingThrough.LendsMessages, WritingThrough.LendsValue, Parts.PartsStand, Parts.slot, World.WorldState, World.signalled_marks};
 
     /// A law: what was moved out stands for some state.
     pub(crate) fn stands_for_some(&self)

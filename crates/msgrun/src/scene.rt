@@ -2,7 +2,7 @@
 ghost use Rattle.std.specs.Prelude.{◌≡◌, ◌≢◌, ◌⊎◌, Ok, Err, IfOk, OnErr, OnOk};
 ghost use Rattle.std.specs.Box.{box_value};
 ghost use Rattle.msg_system.specs.declared.run_fault.RunFault.TheVariants.{BadOrder, NoMemory as NoRoom, Spoiled};
-ghost use Rattle.msg_files.specs.Prelude.{one_more};
+ghost use Rattle.msg_files.specs.Prelude.{one_failure_more};
 ghost use Rattle.msg_reading.specs.Prelude.{IsRunnable};
 ghost use Rattle.msg_scenario.specs.Prelude.{HasPrinted, IsReported};
 ghost use Rattle.msgrun.specs.Prelude.{PrintedFrames, PrintedSome, main_fault};
@@ -44,7 +44,7 @@ pub(crate) fn run_in_boxes<R: Threads + Sync, S: Sink>(
         ⊎ (result ≡ Ok (Err ReportFault.NoMemory))
         → PrintedSome scenario.now (S.contents sink.old) (S.contents sink.new) }
     ensures write { result ≡ Ok (Err ReportFault.Write)
-        → S.failures sink.new ≡ one_more (S.failures sink.old) }
+        → S.failures sink.new ≡ one_failure_more (S.failures sink.old) }
     ensures quiet { result ≢ Ok (Err ReportFault.Write)
         → S.failures sink.new ≡ S.failures sink.old }
 {

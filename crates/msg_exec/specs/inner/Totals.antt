@@ -4,19 +4,19 @@ use Rattle.msg_system.specs.{declared.op.Op.Op, declared.reply.Reply.Reply}
 use Rattle.msg_world.specs.Prelude.{OfType}
 use Rattle.msg_system.specs.Prelude.{Meaning, start_place, type_read_by}
 use Rattle.msg_frames.specs.{declared.log.Outcome.Outcome, declared.log.Outcome.TheVariants.Skipped, declared.log.Outcome.TheVariants.Ran}
-use Rattle.msg_frames.specs.Prelude.{Entry, entries_for, entry_of}
+use Rattle.msg_frames.specs.Prelude.{ReadEntry, entries_for, entry_of}
 
 -- where a system that was given nothing starts in a type
 abbrev pub first_place : Meaning → List ℕ → ℕ → ℕ
 first_place m counts t = if m.needs.reads (OfType t) then start_place m.start counts t else 0
 
 -- the entries for type t of a turn that was of these ops
-abbrev pub entries_by : ℕ → List Op → Outcome → List Entry
+abbrev pub entries_by : ℕ → List Op → Outcome → List ReadEntry
 entries_by t ops Skipped = []
 entries_by t ops (Ran replies) = entries_for t ops replies
 
 -- the entry for type t that the reply to op k tells of
-abbrev pub entry_at : ℕ → List Op → ℕ → Reply → List Entry
+abbrev pub entry_at : ℕ → List Op → ℕ → Reply → List ReadEntry
 entry_at t ops k reply =
     elim (type_read_by ops k) [
       | None ↦ []

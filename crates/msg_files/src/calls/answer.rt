@@ -1,7 +1,7 @@
 // One call on a buffer and its cursors, and its line.
 ghost use Rattle.std.specs.Prelude.{◌≡◌, ◌<◌, ℤ, ◌++◌, ◌∷◌, [], OnOk, codes, decimal, length, true};
 ghost use Rattle.msg_buffer.specs.Prelude.{History, StandsFor, get, write};
-ghost use Rattle.msg_files.specs.Prelude.{AreIn, State, after, has_cursor, items_text, line, value_text, written_text};
+ghost use Rattle.msg_files.specs.Prelude.{AreIn, BufferState, after, has_cursor, pairs_text, line, value_text, numbers_text};
 
 use crate::call::Call;
 use crate::calls::text::{add_found, add_items, add_unread};
@@ -21,9 +21,9 @@ pub fn answer(
     text: &mut Vec<u8>,
 ) -> Result<(), NoMemory>
     requires { has_cursor (length cursors.old.items) call.now ≡ true }
-    ensures line { OnOk result ((s : State) → AreIn messages.old cursors.old.items s
+    ensures line { OnOk result ((s : BufferState) → AreIn messages.old cursors.old.items s
         → text.new.items ≡ text.old.items ++ line call.now s) }
-    ensures state { OnOk result ((s : State) → AreIn messages.old cursors.old.items s
+    ensures state { OnOk result ((s : BufferState) → AreIn messages.old cursors.old.items s
         → AreIn messages.new cursors.new.items (after call.now s)) }
 {
     match call {
@@ -92,7 +92,7 @@ fn add_cursor(text: &mut Vec<u8>, head: &[u8], cursor: u32, number: u64) -> Resu
 /// A line of a head and items.
 fn add_list(text: &mut Vec<u8>, head: &[u8], items: &[Instance<i64>]) -> Result<(), NoMemory>
     ensures { OnOk result (text.new.items ≡ text.old.items
-        ++ (head.now ++ codes " " ++ items_text items.now ++ codes "\n")) }
+        ++ (head.now ++ codes " " ++ pairs_text items.now ++ codes "\n")) }
 {
     text.extend_from_slice(head)?;
     add_items(text, items)?;
@@ -113,7 +113,7 @@ fn add_written(text: &mut Vec<u8>, head: &[u8], first: u64, number: u64) -> Resu
 
 fn write(value: i64, messages: &mut Messages<i64>, text: &mut Vec<u8>) -> Result<(), NoMemory>
     ensures line { OnOk result ((h : History ℤ) → StandsFor messages.old h
-        → text.new.items ≡ text.old.items ++ (codes "write " ++ written_text h 1 ++ codes "\n")) }
+        → text.new.items ≡ text.old.items ++ (codes "write " ++ numbers_text h 1 ++ codes "\n")) }
     ensures state { OnOk result ((h : History ℤ) → StandsFor messages.old h
         → StandsFor messages.new (write (value ∷ []) h)) }
 {
@@ -132,7 +132,7 @@ fn write_batch(
 ) -> Result<(), NoMemory>
     ensures line { OnOk result ((h : History ℤ) → StandsFor messages.old h
         → text.new.items
-        ≡ text.old.items ++ (codes "batch " ++ written_text h (length values.now) ++ codes "\n")) }
+        ≡ text.old.items ++ (codes "batch " ++ numbers_text h (length values.now) ++ codes "\n")) }
     ensures state { OnOk result ((h : History ℤ) → StandsFor messages.old h
         → StandsFor messages.new (write values.now h)) }
 {
@@ -185,9 +185,9 @@ fn read(
     text: &mut Vec<u8>,
 ) -> Result<(), NoMemory>
     requires { number < length cursors.old.items }
-    ensures line { OnOk result ((s : State) → AreIn messages.now cursors.old.items s
+    ensures line { OnOk result ((s : BufferState) → AreIn messages.now cursors.old.items s
         → text.new.items ≡ text.old.items ++ line (Call.Read number limit) s) }
-    ensures state { OnOk result ((s : State) → AreIn messages.now cursors.old.items s
+    ensures state { OnOk result ((s : BufferState) → AreIn messages.now cursors.old.items s
         → AreIn messages.now cursors.new.items (after (Call.Read number limit) s)) }
 {
     let mut cursor = cursors[number as usize];
@@ -209,9 +209,9 @@ fn clear(
     text: &mut Vec<u8>,
 ) -> Result<(), NoMemory>
     requires { number < length cursors.old.items }
-    ensures line { OnOk result ((s : State) → AreIn messages.now cursors.old.items s
+    ensures line { OnOk result ((s : BufferState) → AreIn messages.now cursors.old.items s
         → text.new.items ≡ text.old.items ++ line (Call.Clear number) s) }
-    ensures state { OnOk result ((s : State) → AreIn messages.now cursors.old.items s
+    ensures state { OnOk result ((s : BufferState) → AreIn messages.now cursors.old.items s
         → AreIn messages.now cursors.new.items (after (Call.Clear number) s)) }
 {
     let mut cursor = cursors[number as usize];

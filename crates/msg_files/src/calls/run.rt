@@ -1,7 +1,7 @@
 // Calls made one after another. Their lines are gathered, and put into the sink in large pieces.
 ghost use Rattle.std.specs.Prelude.{◌≡◌, ◌⊎◌, ◌++◌, if◌then◌else◌, Err, IfErr, OnOk, OnErr};
 ghost use Rattle.std.specs.Io.KnownBytes.{Appends};
-ghost use Rattle.msg_files.specs.Prelude.{AppendsPrefix, TakesFront, calls_text, one_more};
+ghost use Rattle.msg_files.specs.Prelude.{AppendsPrefix, TakesFront, calls_text, one_failure_more};
 
 use crate::calls::Calls;
 use crate::calls::answer::answer;
@@ -24,7 +24,7 @@ pub fn run_calls<S: Sink>(alloc: Global, calls: &Calls, sink: &mut S) -> Result<
 
     // The sink failed where the fault is `Write`, and not where it is `NoMemory`.
     ensures write { result ≡ Err ReportFault.Write
-        → S.failures sink.new ≡ one_more (S.failures sink.old) }
+        → S.failures sink.new ≡ one_failure_more (S.failures sink.old) }
     ensures memory { result ≡ Err ReportFault.NoMemory → S.failures sink.new ≡ S.failures sink.old }
     ensures faults { IfErr result
         (λ fault. (fault ≡ ReportFault.Write) ⊎ (fault ≡ ReportFault.NoMemory)) }
@@ -55,7 +55,7 @@ fn gather<S: Sink>(gathered: &mut Vec<u8>, line: &[u8], sink: &mut S) -> Result<
     ensures quiet { OnOk result (S.failures sink.new ≡ S.failures sink.old) }
     ensures prefix { OnErr result (AppendsPrefix (S.contents sink.old) (S.contents sink.new)
         (gathered.old.items ++ line.now)) }
-    ensures write { OnErr result (S.failures sink.new ≡ one_more (S.failures sink.old)) }
+    ensures write { OnErr result (S.failures sink.new ≡ one_failure_more (S.failures sink.old)) }
     ensures only_write { IfErr result (λ fault. fault ≡ ReportFault.Write) }
 {
     if add_where_room(gathered, line) {

@@ -2,7 +2,7 @@
 ghost use Rattle.std.specs.Prelude.{◌≡◌, ◌++◌, ℤ, List, [], IsOk, OnOk, codes, length};
 ghost use Rattle.std.specs.Option.{option_copied};
 ghost use Rattle.msg_buffer.specs.Prelude.{History, StandsFor, at_most, given, next_place, read};
-ghost use Rattle.msg_files.specs.Prelude.{item_text, items_text, more_items, value_text};
+ghost use Rattle.msg_files.specs.Prelude.{pair_text, pairs_text, more_pairs, value_text};
 
 use crate::numerals::{add_pair, add_value};
 use msg_buffer::{Instance, MessageCursor, MessageId, Messages, NoMemory};
@@ -21,7 +21,7 @@ pub fn add_found(text: &mut Vec<u8>, value: Option<&i64>) -> Result<(), NoMemory
 /// An item with a space in front.
 fn add_item(text: &mut Vec<u8>, id: MessageId, message: &i64) -> Result<(), NoMemory>
     ensures { OnOk result (text.new.items
-        ≡ text.old.items ++ (codes " " ++ item_text (record { id = id; message = message.now }))) }
+        ≡ text.old.items ++ (codes " " ++ pair_text (record { id = id; message = message.now }))) }
 {
     add_pair(text, u128::from(id.0), *message)
 }
@@ -29,7 +29,7 @@ fn add_item(text: &mut Vec<u8>, id: MessageId, message: &i64) -> Result<(), NoMe
 /// Items after a head: each with a space in front, or `none`.
 pub fn add_items(text: &mut Vec<u8>, items: &[Instance<i64>]) -> Result<(), NoMemory>
     ensures appends { OnOk result
-        (text.new.items ≡ text.old.items ++ (codes " " ++ items_text items.now)) }
+        (text.new.items ≡ text.old.items ++ (codes " " ++ pairs_text items.now)) }
 {
     match items {
         [] => text.extend_from_slice(b" none"),
@@ -38,7 +38,7 @@ pub fn add_items(text: &mut Vec<u8>, items: &[Instance<i64>]) -> Result<(), NoMe
 }
 
 fn add_more(text: &mut Vec<u8>, items: &[Instance<i64>]) -> Result<(), NoMemory>
-    ensures appends { OnOk result (text.new.items ≡ text.old.items ++ more_items items.now) }
+    ensures appends { OnOk result (text.new.items ≡ text.old.items ++ more_pairs items.now) }
     ensures no_memory { items.now ≡ [] → IsOk result }
 {
     for item in items {
@@ -56,7 +56,7 @@ pub fn add_unread(
 ) -> Result<(), NoMemory>
     ensures appends { OnOk result ((h : History ℤ) → StandsFor messages.now h
         → text.new.items
-        ≡ text.old.items ++ (codes " " ++ items_text (given h cursor.old limit))) }
+        ≡ text.old.items ++ (codes " " ++ pairs_text (given h cursor.old limit))) }
     ensures place { OnOk result ((h : History ℤ) → StandsFor messages.now h
         → cursor.new ≡ next_place (read h cursor.old limit)) }
 {

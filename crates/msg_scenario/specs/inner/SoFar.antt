@@ -4,7 +4,7 @@ use Rattle.std.specs.Io.KnownBytes.{Appends}
 use Rattle.msg_system.specs.Prelude.{Meaning}
 use Rattle.msg_frames.specs.Prelude.{IsRun, State}
 use Rattle.msg_frames.specs.declared.log.Log.{Log}
-use Rattle.msg_exec.specs.Prelude.{StandsFor}
+use Rattle.msg_exec.specs.Prelude.{EngineStands}
 use Rattle.msg_exec.specs.declared.engine.EngineOf.{EngineOf}
 use Rattle.msg_reading.specs.Prelude.{state_of}
 use Rattle.msg_reading.specs.declared.scenario.Scenario.{Scenario}
@@ -20,4 +20,4 @@ module _ {X : Type 0} (meaning : X → Meaning) (s : Scenario) where
     pub frames : state.frames ≡ k
     pub types : state.types ≡ length s.types
     pub printed : Appends before now (frames_text s 1 s.frames logs)
-    pub stands : StandsFor meaning e state
+    pub stands : EngineStands meaning e state

@@ -1,7 +1,7 @@
 // The text of one frame.
 ghost use Rattle.std.specs.Prelude.{◌≡◌, ◌<◌, ◌++◌, [], IsOk, OnErr, OnOk, flat_map, length, zip};
 ghost use Rattle.msg_scenario.specs.Prelude.{answered_line, frame_text, post_line, posts_text, turn_text};
-ghost use Rattle.msg_scenario.specs.inner.Lines.{AreLines, finished_outcome, finished_turn};
+ghost use Rattle.msg_scenario.specs.inner.LineStarts.{AreLines, finished_outcome, finished_turn};
 
 use crate::Scenario;
 use crate::reports::lines::SystemLines;

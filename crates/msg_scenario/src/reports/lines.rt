@@ -1,7 +1,7 @@
 // What the lines of a system's turns begin with, which is the same in each frame.
 ghost use Rattle.std.specs.Prelude.{◌≡◌, ◌++◌, IfOk, codes, map};
 ghost use Rattle.msg_scenario.specs.Prelude.{op_start};
-ghost use Rattle.msg_scenario.specs.inner.Lines.{AreLines, lines_of, texts_in};
+ghost use Rattle.msg_scenario.specs.inner.LineStarts.{AreLines, lines_of, texts_in};
 
 use crate::reports::names::add_name;
 use crate::reports::op::add_op;

@@ -2,8 +2,8 @@
 ghost use Rattle.std.specs.Prelude.{◌≡◌, ◌≢◌, ◌⊎◌, [], Err, IfErr, OnOk, OnErr};
 ghost use Rattle.std.specs.Io.KnownBytes.{Appends};
 ghost use Rattle.msg_scenario.specs.Prelude.{accounts_text, frame_text};
-ghost use Rattle.msg_scenario.specs.inner.Lines.{AreLines};
-ghost use Rattle.msg_files.specs.Prelude.{AppendsPrefix, one_more};
+ghost use Rattle.msg_scenario.specs.inner.LineStarts.{AreLines};
+ghost use Rattle.msg_files.specs.Prelude.{AppendsPrefix, one_failure_more};
 
 use crate::Scenario;
 use crate::reports::accounts::add_accounts;
@@ -31,7 +31,7 @@ pub fn put_frame<S: Sink>(
 
     // The sink failed where the fault is `Write`, and was given nothing where it is `NoMemory`.
     ensures write { result ≡ Err ReportFault.Write
-        → S.failures sink.new ≡ one_more (S.failures sink.old) }
+        → S.failures sink.new ≡ one_failure_more (S.failures sink.old) }
     ensures memory { result ≡ Err ReportFault.NoMemory → sink.new ≡ sink.old }
     ensures faults { IfErr result
         (λ fault. (fault ≡ ReportFault.Write) ⊎ (fault ≡ ReportFault.NoMemory)) }
@@ -58,7 +58,7 @@ pub fn put_accounts<S: Sink>(
 
     // The sink failed where the fault is `Write`, and was given nothing where it is `NoMemory`.
     ensures write { result ≡ Err ReportFault.Write
-        → S.failures sink.new ≡ one_more (S.failures sink.old) }
+        → S.failures sink.new ≡ one_failure_more (S.failures sink.old) }
     ensures memory { result ≡ Err ReportFault.NoMemory → sink.new ≡ sink.old }
     ensures faults { IfErr result
         (λ fault. (fault ≡ ReportFault.Write) ⊎ (fault ≡ ReportFault.NoMemory)) }

@@ -1,11 +1,11 @@
 // The report of a scenario: frame by frame, and then the readers.
 ghost use Rattle.std.specs.Prelude.{◌≡◌, ◌≢◌, ◌⊎◌, ◌+◌, ◌<◌, ℕ, All, Err, List, OnOk, OnErr, Option, length};
-ghost use Rattle.msg_exec.specs.Prelude.{StandsFor};
+ghost use Rattle.msg_exec.specs.Prelude.{EngineStands};
 ghost use Rattle.msg_system.specs.declared.run_fault.RunFault.TheVariants.{BadOrder, NoMemory, Spoiled};
 ghost use Rattle.msg_scenario.specs.Prelude.{HasPrinted, HasReported, HasRunOut, HasStopped};
 ghost use Rattle.msg_reading.specs.Prelude.{PostsAreToTypes, state_of};
-ghost use Rattle.msg_files.specs.Prelude.{one_more};
-ghost use Rattle.msg_scenario.specs.{inner.Lines.AreLines, inner.SoFar.ReportSoFar};
+ghost use Rattle.msg_files.specs.Prelude.{one_failure_more};
+ghost use Rattle.msg_scenario.specs.{inner.LineStarts.AreLines, inner.SoFar.ReportSoFar};
 
 use crate::Scenario;
 use crate::reports::lines::{SystemLines, make_lines};
@@ -51,7 +51,7 @@ fn report_frame<R: Threads + Sync, X: System, S: Sink, G: Gate>(
         → ReportSoFar X.meaning scenario.now reported before (S.contents sink.old) engine.old
         → HasStopped X.meaning scenario.now before (S.contents sink.new) engine.new }
     ensures write { result ≡ Err ReportFault.Write
-        → S.failures sink.new ≡ one_more (S.failures sink.old) }
+        → S.failures sink.new ≡ one_failure_more (S.failures sink.old) }
     ensures quiet { result ≢ Err ReportFault.Write → S.failures sink.new ≡ S.failures sink.old }
 {
     frames_keep_the_systems();
@@ -89,7 +89,7 @@ pub fn report<R: Threads + Sync, X: System, S: Sink, G: Gate>(
     gate: &G,
     sink: &mut S,
 ) -> Result<(), ReportFault>
-    requires engine { StandsFor X.meaning engine.old (state_of scenario.now) }
+    requires engine { EngineStands X.meaning engine.old (state_of scenario.now) }
     requires posts { All (PostsAreToTypes scenario.now) scenario.now.frames }
 
     // Whatever the workers and the gate: the text is that of one thread, and each reader was given
@@ -108,7 +108,7 @@ pub fn report<R: Threads + Sync, X: System, S: Sink, G: Gate>(
         → HasStopped X.meaning scenario.now
         (S.contents sink.old) (S.contents sink.new) engine.new }
     ensures write { result ≡ Err ReportFault.Write
-        → S.failures sink.new ≡ one_more (S.failures sink.old) }
+        → S.failures sink.new ≡ one_failure_more (S.failures sink.old) }
     ensures quiet { result ≢ Err ReportFault.Write → S.failures sink.new ≡ S.failures sink.old }
 {
     engine.has_one_run();

@@ -1,5 +1,5 @@
 use Rattle.std.proofs.Common.{take}
-use Rattle.msg_exec.specs.inner.Lending.{AreOut}
+use Rattle.msg_exec.specs.inner.SystemsOut.{AreOut}
 use Rattle.msg_exec.proofs.batch.lend_out_all.Given as goal
 
 abbrev pub invariant-loop-system : goal.invariant-loop-system

@@ -1,7 +1,7 @@
 use Rattle.std.proofs.Common.{length, min, sym, ◌∙◌, arith, ◌≡◌}
 use Rattle.std.proofs.lemmas.Slice.Zip.{AllZip-long}
 use Rattle.msg_exec.specs.Prelude.{PassedGate}
-use Rattle.msg_exec.specs.inner.Lending.{IsOut}
+use Rattle.msg_exec.specs.inner.SystemsOut.{IsOut}
 use Rattle.msg_exec.proofs.{WorkersDraw.of_batch, BatchAfterBatch.no_more_than, BatchComesHome.all_came, BatchComesHome.begin_home, BatchComesHome.next_comes, BatchComesHome.next_may_come, BatchGoesOut.all_may_run, BatchGoesOut.is_batch, BatchComesHome.all_back}
 use Rattle.msg_exec.proofs.batch.run_many.Goals as goal
 

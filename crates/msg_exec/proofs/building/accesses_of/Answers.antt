@@ -1,7 +1,7 @@
 use Rattle.std.proofs.Common.{◌≡◌, ◌∙◌, ◌∷◌, [], ◌++◌, Some, refl, arith, rules, slice_get}
 use Rattle.std.proofs.lemmas.{Bool.both_ways, List.length_push, Option.get_or_from_slice_get, Option.slice_get-get_or, Option.slice_get_read}
 use Rattle.msg_world.specs.Prelude.{no_access}
-use Rattle.msg_exec.specs.inner.Building.{IsAccessAt}
+use Rattle.msg_exec.specs.inner.EngineParts.{IsAccessAt}
 use Rattle.msg_exec.proofs.ItemsOfLists.{each_pushed}
 use Rattle.msg_exec.proofs.building.accesses_of.Goals as goal
 

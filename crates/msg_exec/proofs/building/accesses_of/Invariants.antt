@@ -1,6 +1,6 @@
 use Rattle.std.proofs.Common.{◌≡◌, length}
 use Rattle.msg_exec.specs.Prelude.{EachIs}
-use Rattle.msg_exec.specs.inner.Building.{IsAccessAt}
+use Rattle.msg_exec.specs.inner.EngineParts.{IsAccessAt}
 use Rattle.msg_exec.proofs.building.accesses_of.Given as goal
 
 abbrev pub invariant-loop-i : goal.invariant-loop-i

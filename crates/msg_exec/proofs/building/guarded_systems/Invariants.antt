@@ -1,6 +1,6 @@
 use Rattle.std.proofs.Common.{◌≡◌, length}
 use Rattle.msg_exec.specs.Prelude.{EachIs}
-use Rattle.msg_exec.specs.inner.Building.{IsGuardedAt}
+use Rattle.msg_exec.specs.inner.EngineParts.{IsGuardedAt}
 use Rattle.msg_exec.proofs.building.guarded_systems.Given as goal
 
 abbrev pub invariant-loop-system : goal.invariant-loop-system

@@ -1,6 +1,6 @@
 use Rattle.std.proofs.Common.{◌≡◌, length}
 use Rattle.msg_exec.specs.Prelude.{EachIs}
-use Rattle.msg_exec.specs.inner.Building.{AreNoTotals}
+use Rattle.msg_exec.specs.inner.EngineParts.{AreNoTotals}
 use Rattle.msg_exec.proofs.building.totals_of.Given as goal
 
 abbrev pub invariant-loop-system : goal.invariant-loop-system

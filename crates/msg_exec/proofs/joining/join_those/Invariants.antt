@@ -1,6 +1,6 @@
 use Rattle.std.proofs.Common.{◌≡◌, length}
 use Rattle.msg_exec.specs.Prelude.{AreJoins, LenderStands}
-use Rattle.msg_exec.specs.inner.Lending.{HaveReadNothing}
+use Rattle.msg_exec.specs.inner.SystemsOut.{HaveReadNothing}
 use Rattle.msg_frames.specs.Prelude.{State}
 use Rattle.msg_exec.proofs.SystemsJoin.{joined_below}
 use Rattle.msg_exec.proofs.joining.join_those.Given as goal

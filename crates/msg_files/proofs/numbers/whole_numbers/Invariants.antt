@@ -1,4 +1,4 @@
-use Rattle.msg_files.proofs.Walks.{ValuesLeft}
+use Rattle.msg_files.proofs.WalksOverLists.{ValuesLeft}
 use Rattle.msg_files.proofs.numbers.whole_numbers.Given as goal
 
 abbrev pub invariant-loop-item : goal.invariant-loop-item

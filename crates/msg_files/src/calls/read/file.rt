@@ -1,7 +1,7 @@
 // A calls file: its limit, and each call after those before it.
 ghost use Rattle.std.specs.Prelude.{◌≡◌, ◌≢◌, Some, None, true, IfOk, IfErr, map};
 ghost use Rattle.serde_json.specs.View.{view};
-ghost use Rattle.msg_files.specs.{Check.first_refusal, Checks.calls_checks, Checks.checks_of, Checks.is_known, Checks.list_checks, Cursors.cursors_exist, Cursors.made_by, Denotes.call_of, Denotes.calls_of, Denotes.file_of, Walk.Agrees};
+ghost use Rattle.msg_files.specs.{Check.first_refusal, Checks.calls_checks, Checks.checks_of, Checks.is_known, Checks.call_list_checks, Cursors.cursors_exist, Cursors.made_by, Denotes.call_of, Denotes.calls_of, Denotes.file_of, Walk.Agrees};
 
 use crate::call::Call;
 use crate::calls::Calls;
@@ -38,10 +38,10 @@ impl Keys for FileKeys {
 
 #[tactic(auto, using(crate::proofs::Walks::list_steps))]
 fn read_list(alloc: Global, value: &Value) -> Result<Vec<Call>, Refusal>
-    ensures is { IfOk result (λ v. (first_refusal (list_checks (view value.now)) ≡ None)
+    ensures is { IfOk result (λ v. (first_refusal (call_list_checks (view value.now)) ≡ None)
         × (calls_of (view value.now) ≡ Some v.items)) }
     ensures refused { IfErr result (λ e. (e ≢ Refusal.NotJson)
-        × (e ≢ Refusal.NoMemory → first_refusal (list_checks (view value.now)) ≡ Some e)) }
+        × (e ≢ Refusal.NoMemory → first_refusal (call_list_checks (view value.now)) ≡ Some e)) }
     ensures exist { IfOk result (λ v. cursors_exist 1 v.items ≡ true) }
 {
     let Some(items) = value.as_array() else {

@@ -2,7 +2,7 @@
 ghost use Rattle.std.specs.Prelude.{◌≡◌, ◌∷◌, ◌++◌, ◌&&◌, [], OnOk, option_map};
 ghost use Rattle.serde_json.specs.View.{view};
 ghost use Rattle.msg_files.specs.Prelude.{Agrees, a_limit, a_value, is_number, natural, needs, whole};
-ghost use Rattle.msg_reading.specs.{ScenarioChecks.is_text, ScenarioChecks.new_name, ScenarioChecks.resource_checks, ScenarioChecks.type_checks, ScenarioDenotes.resource_of, ScenarioDenotes.text, ScenarioDenotes.type_of, ScenarioDenotes.with_resource, ScenarioDenotes.with_type};
+ghost use Rattle.msg_reading.specs.{ScenarioChecks.is_text, ScenarioChecks.new_name, ScenarioChecks.resource_checks, ScenarioChecks.type_checks, ScenarioDenotes.resource_of, ScenarioDenotes.text, ScenarioDenotes.type_of, ScenarioDenotes.declaring_resource, ScenarioDenotes.declaring_type};
 ghost use Rattle.msg_files.specs.declared.refusal.Refusal.TheVariants.{Shape};
 
 use crate::scenario::read::named::Declaration;
@@ -19,7 +19,7 @@ impl Declaration for (Name, u64) {
 
     ghost denotes = { λ _. type_of };
 
-    ghost with_one = { with_type };
+    ghost with_one = { declaring_type };
 
     fn read(
         alloc: Global,
@@ -56,7 +56,7 @@ impl Declaration for (Name, i64) {
 
     ghost denotes = { λ _. resource_of };
 
-    ghost with_one = { with_resource };
+    ghost with_one = { declaring_resource };
 
     fn read(
         alloc: Global,

@@ -2,7 +2,7 @@
 ghost use Rattle.std.specs.Prelude.{◌≡◌, ◌≢◌, None, Some, IfOk, IfErr, OnOk, codes};
 ghost use Rattle.serde_json.specs.{Find.as_bool, View.view};
 ghost use Rattle.msg_files.specs.Prelude.{Agrees, IsAnswer, first_refusal, value_at};
-ghost use Rattle.msg_reading.specs.{ScenarioChecks.frames_checks, ScenarioChecks.held_checks, ScenarioChecks.is_root_key, ScenarioChecks.resources_checks, ScenarioChecks.root_object, ScenarioChecks.rules_checks, ScenarioChecks.scenario_checks, ScenarioChecks.sections_checks, ScenarioChecks.systems_checks, ScenarioChecks.types_checks, ScenarioDenotes.all_names, ScenarioDenotes.frames_in, ScenarioDenotes.frames_of, ScenarioDenotes.held_in, ScenarioDenotes.no_names, ScenarioDenotes.part_names, ScenarioDenotes.resources_of, ScenarioDenotes.rules_of, ScenarioDenotes.scenario_of, ScenarioDenotes.systems_in, ScenarioDenotes.systems_of, ScenarioDenotes.type_names, ScenarioDenotes.types_in, ScenarioDenotes.types_of};
+ghost use Rattle.msg_reading.specs.{ScenarioChecks.frames_checks, ScenarioChecks.held_checks, ScenarioChecks.is_root_key, ScenarioChecks.resources_checks, ScenarioChecks.root_object, ScenarioChecks.rules_checks, ScenarioChecks.scenario_checks, ScenarioChecks.sections_checks, ScenarioChecks.systems_checks, ScenarioChecks.types_checks, ScenarioDenotes.all_names, ScenarioDenotes.frames_in, ScenarioDenotes.frames_read, ScenarioDenotes.held_in, ScenarioDenotes.no_names, ScenarioDenotes.part_names, ScenarioDenotes.resources_of, ScenarioDenotes.rules_of, ScenarioDenotes.scenario_of, ScenarioDenotes.systems_in, ScenarioDenotes.systems_of, ScenarioDenotes.type_names, ScenarioDenotes.types_in, ScenarioDenotes.types_of};
 
 use crate::limits::{MAX_FRAMES, MAX_RESOURCES, MAX_RULES, MAX_SYSTEMS, MAX_TYPES};
 use crate::scenario::read::list::{read_list, read_list_if_there};
@@ -168,7 +168,7 @@ fn read_rules(alloc: Global, names: &Declarations, file: &Value) -> Result<Items
 }
 
 /// The frames of the file, which stand there.
-#[tactic(auto, unfolding(crate::specs::ScenarioChecks::frames_checks, crate::specs::ScenarioDenotes::frames_of))]
+#[tactic(auto, unfolding(crate::specs::ScenarioChecks::frames_checks, crate::specs::ScenarioDenotes::frames_read))]
 fn read_frames(
     alloc: Global,
     names: &Declarations,
@@ -177,7 +177,7 @@ fn read_frames(
 ) -> Result<Items<Frame>, Refusal>
     requires all { names.now ≡ all_names (view file.now) }
     requires of_file { frames_in (view file.now) ≡ view frames.now }
-    ensures agrees { Agrees (frames_checks (view file.now)) (frames_of (view file.now)) result }
+    ensures agrees { Agrees (frames_checks (view file.now)) (frames_read (view file.now)) result }
 {
     read_list(alloc, names, frames, MAX_FRAMES)
 }

@@ -2,7 +2,7 @@
 ghost use Rattle.std.specs.Prelude.{◌≡◌, None, Some, MatchResult};
 ghost use Rattle.serde_json.specs.View.{view};
 ghost use Rattle.msg_files.specs.Prelude.{Agrees, IsAnswer, natural};
-ghost use Rattle.msg_reading.specs.Prelude.{condition_checks, condition_of, conditions_in, each_of, join_checks, join_in, list_checks, place_checks, place_of, start_in, start_of};
+ghost use Rattle.msg_reading.specs.Prelude.{condition_checks, condition_of, conditions_in, each_of, join_checks, join_in, list_checks, place_checks, place_in, start_in, start_of};
 
 use crate::Refusal;
 use crate::limits::{LAST_JOIN, MAX_CONDITIONS};
@@ -18,7 +18,7 @@ use std::alloc::Global;
 #[tactic(auto, using(msg_files::proofs::Walks::refusal_of_both))]
 pub fn read_place(alloc: Global, names: &Declarations, system: &Value) -> Result<Place, Refusal>
     ensures agrees { Agrees (place_checks names.now (view system.now))
-        (place_of names.now (view system.now)) result }
+        (place_in names.now (view system.now)) result }
 {
     let conditions = read_conditions(alloc, names, system)?;
     let join = read_join(system)?;

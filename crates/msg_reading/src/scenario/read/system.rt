@@ -3,7 +3,7 @@ ghost use Rattle.std.specs.Prelude.{◌≡◌, ◌≢◌, ◌∷◌, ◌++◌, [
 ghost use Rattle.std.specs.Option.{option_map_or};
 ghost use Rattle.serde_json.specs.View.{view};
 ghost use Rattle.msg_files.specs.Prelude.{Agrees, first_refusal, needs, value_at};
-ghost use Rattle.msg_reading.specs.{ScenarioChecks.fits_kind, ScenarioChecks.is_system_key, ScenarioChecks.list_checks, ScenarioChecks.name_checks, ScenarioChecks.op_checks, ScenarioChecks.program_checks, ScenarioChecks.system_checks, ScenarioChecks.system_object, ScenarioDenotes.each_of, ScenarioDenotes.kind_in, ScenarioDenotes.kind_of, ScenarioDenotes.op_of, ScenarioDenotes.ops_of, ScenarioDenotes.place_of, ScenarioDenotes.start_in, ScenarioDenotes.start_of, ScenarioDenotes.system_of, ScenarioDenotes.text, ScenarioDenotes.with_system};
+ghost use Rattle.msg_reading.specs.{ScenarioChecks.fits_kind, ScenarioChecks.is_system_key, ScenarioChecks.list_checks, ScenarioChecks.name_checks, ScenarioChecks.op_checks, ScenarioChecks.program_checks, ScenarioChecks.system_checks, ScenarioChecks.system_object, ScenarioDenotes.each_of, ScenarioDenotes.kind_in, ScenarioDenotes.kind_of, ScenarioDenotes.op_of, ScenarioDenotes.ops_of, ScenarioDenotes.place_in, ScenarioDenotes.start_in, ScenarioDenotes.start_of, ScenarioDenotes.system_of, ScenarioDenotes.text, ScenarioDenotes.with_system};
 ghost use Rattle.msg_files.specs.declared.refusal.Refusal.TheVariants.{Shape};
 
 use crate::limits::MAX_OPS;
@@ -51,7 +51,7 @@ fn read_program(
         ≡ None)
         × (kind_of (kind_in (view system.now)) ≡ Some p.0)
         × (ops_of names.now (view system.now) ≡ Some p.1.ops)
-        × (place_of names.now (view system.now) ≡ Some p.2)
+        × (place_in names.now (view system.now) ≡ Some p.2)
         × (start_of (start_in (view system.now)) ≡ Some p.1.start)) }
     ensures refused { IfErr result (λ e. (e ≢ Refusal.NotJson)
         × (e ≢ Refusal.NoMemory

@@ -1,5 +1,5 @@
 use Rattle.msg_reading.specs.Prelude.{first_world}
-use Rattle.msg_scenario.proofs.Making.{all_made, may_add, no_clash}
+use Rattle.msg_scenario.proofs.EngineIsMade.{all_made, may_add, no_clash}
 use Rattle.msg_scenario.proofs.building.engine_of.Goals as goal
 
 pub new-requires-clause-each : goal.new-requires-clause-each

@@ -1,6 +1,6 @@
 use Rattle.std.proofs.Common.{◌≡◌, length}
 use Rattle.msg_world.specs.Prelude.{LoanStands, SameLoan, WorldState}
-use Rattle.msg_system.specs.Prelude.{after_at_most, needs_of, places_of}
+use Rattle.msg_system.specs.Prelude.{after_at_most, needs_of, cursor_places}
 use Rattle.msg_system.specs.inner.TurnRuns.{AreAnswered, IsAfterProgram, next_kept}
 use Rattle.msg_system.proofs.behavior_system.run_turn.Given as goal
 
@@ -9,8 +9,8 @@ invariant-loop-done g l =
     let b = g.B.Behavior in let next = next_kept (needs_of l.access) b.next_op (b.memory l.behavior) in
     record {
       so_far : (s : WorldState) → LoanStands l.initial.lent s
-          → IsAfterProgram (after_at_most l._done next l.writer (places_of l.initial.cursors) s)
-          (places_of l.cursors) l.lent l.initial.out.items l.out.items;
+          → IsAfterProgram (after_at_most l._done next l.writer (cursor_places l.initial.cursors) s)
+          (cursor_places l.cursors) l.lent l.initial.out.items l.out.items;
       long : l.before ≡ length l.initial.out.items;
       answered : AreAnswered next l.ops.items l.initial.out.items l.out.items;
       same : SameLoan l.initial.lent l.lent;

@@ -1,4 +1,4 @@
-use Rattle.msg_system.proofs.Footprints.{condition_footprint}
+use Rattle.msg_system.proofs.FootprintsHold.{condition_footprint}
 use Rattle.msg_system.proofs.laws.nothing_else_is_used.Goals as goal
 
 pub returns-clause-conditions : goal.returns-clause-conditions

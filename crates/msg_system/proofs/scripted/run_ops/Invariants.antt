@@ -1,14 +1,14 @@
 use Rattle.std.proofs.Common.{take}
 use Rattle.msg_world.specs.Prelude.{LoanStands, SameLoan, WorldState}
-use Rattle.msg_system.specs.Prelude.{after_program, places_of}
+use Rattle.msg_system.specs.Prelude.{after_program, cursor_places}
 use Rattle.msg_system.specs.inner.TurnRuns.{HasReplies, IsAfterProgram}
 use Rattle.msg_system.proofs.scripted.run_ops.Given as goal
 
 abbrev pub invariant-loop-op : goal.invariant-loop-op
 invariant-loop-op l = record {
   so_far : (s : WorldState) → LoanStands l.initial.lent s
-      → IsAfterProgram (after_program (take l.op-index l.ops) l.writer (places_of l.initial.cursors) s)
-      (places_of l.cursors) l.lent l.initial.out.items l.out.items;
+      → IsAfterProgram (after_program (take l.op-index l.ops) l.writer (cursor_places l.initial.cursors) s)
+      (cursor_places l.cursors) l.lent l.initial.out.items l.out.items;
   replies : HasReplies l.initial.out.items l.out.items l.op-index;
   same : SameLoan l.initial.lent l.lent;
 }

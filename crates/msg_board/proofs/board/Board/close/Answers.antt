@@ -1,7 +1,7 @@
 use Rattle.std.proofs.Common.{◌≡◌, ap, ◌∙◌, arith, length}
 use Rattle.std.proofs.lemmas.{Result.IfOk-weaker}
 use Rattle.msg_board.specs.Prelude.{jobs_of}
-use Rattle.msg_board.specs.inner.Sound.{board_of}
+use Rattle.msg_board.specs.inner.SoundPasses.{board_of}
 use Rattle.msg_board.proofs.{TableLists.there, TableLists.get_there, Steps.closes, PassSeats.all_handed_in}
 use Rattle.msg_board.proofs.board.Board.close.Goals as goal
 

@@ -1,7 +1,7 @@
 use Rattle.std.proofs.Common.{◌≡◌, ◌++◌, ◌∷◌, [], length, append_assoc, refl, arith, rules}
 use Rattle.std.proofs.lemmas.{List.drop-append-le, List.length_push, List.take_all, List.take_more, List.Elements.All-push}
 use Rattle.msg_exec.specs.Prelude.{EachPassedGate}
-use Rattle.msg_frames.specs.Prelude.{systems_in}
+use Rattle.msg_frames.specs.Prelude.{turn_order_in}
 use Rattle.msg_frames.proofs.SystemsStay.{frame_keeps}
 use Rattle.msg_exec.proofs.EngineRunsFrames.{core_of, run_more, stood}
 use Rattle.msg_exec.proofs.engine.EngineOf.run_frames.Goals as goal
@@ -40,11 +40,11 @@ loop-frame-preserved g c =
             is_run = rw (take_more frames k frame c.loop-frame-test.true, ← c.frame-item.is)
                 (run_more _ frame s far.logs log far.state one.state far.is_run one.is_frame);
             stands = one.stands;
-            types = rw (one.is_frame.leaves, (frame_keeps (systems_in log) frame far.state).types) far.types;
+            types = rw (one.is_frame.leaves, (frame_keeps (turn_order_in log) frame far.state).types) far.types;
           };
       longer = rw (pushed, length_push) (omega (arith, inv.longer));
       gate_passed = rw (pushed, drop-append-le (length c.args.out.now.items) before (log ∷ []) inv.longer)
-          (All-push (λ l. EachPassedGate (g.G.Gate.passed c.args.gate.now) c.args.workers (systems_in l)) _ log
+          (All-push (λ l. EachPassedGate (g.G.Gate.passed c.args.gate.now) c.args.workers (turn_order_in l)) _ log
           inv.gate_passed c.in_ok-log.ensures.gate_passed);
       engine = c.in_ok-log.ensures.engine;
       core =

@@ -1,6 +1,6 @@
 use Rattle.std.proofs.Common.{◌≡◌, drop}
 use Rattle.msg_files.specs.Prelude.{calls_text}
-use Rattle.msg_files.proofs.Running.{OnTheWay}
+use Rattle.msg_files.proofs.CallsAreRun.{OnTheWay}
 use Rattle.msg_files.proofs.calls.run.run_calls.Given as goal
 
 abbrev pub invariant-loop-call : goal.invariant-loop-call

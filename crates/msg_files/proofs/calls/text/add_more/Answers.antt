@@ -1,6 +1,6 @@
 use Rattle.std.proofs.Common.{arith, append_assoc}
 use Rattle.std.proofs.lemmas.Grind.{common_steps}
-use Rattle.msg_files.proofs.Lines.{more_items-push}
+use Rattle.msg_files.proofs.ItemsInLines.{more_items-push}
 use Rattle.msg_files.proofs.calls.text.add_more.Goals as goal
 
 pub loop-item-preserved : goal.loop-item-preserved

@@ -1,7 +1,7 @@
 use Rattle.std.proofs.lemmas.Grind.{common_steps}
 use Rattle.std.proofs.Common.{◌≡◌, length, arith, ℤ}
 use Rattle.msg_buffer.specs.Prelude.{History, StandsFor, given, unread}
-use Rattle.msg_files.proofs.Lines.{HasAdded_more, HasAdded_given, spaced_items}
+use Rattle.msg_files.proofs.ItemsInLines.{HasAdded_more, HasAdded_given, spaced_items}
 use Rattle.msg_files.proofs.calls.text.add_unread.Goals as goal
 
 pub loop-init : goal.loop-init

@@ -1,4 +1,4 @@
-use Rattle.msg_files.proofs.Lines.{HasAdded}
+use Rattle.msg_files.proofs.ItemsInLines.{HasAdded}
 use Rattle.msg_files.proofs.calls.text.add_unread.Given as goal
 
 abbrev pub invariant-loop : goal.invariant-loop

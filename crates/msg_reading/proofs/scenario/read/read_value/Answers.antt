@@ -1,7 +1,7 @@
 use Rattle.std.proofs.Common.{inl, inr}
 use Rattle.std.proofs.lemmas.Result.{err_from_is_err_and}
 use Rattle.serde_json.specs.View.{view}
-use Rattle.msg_reading.proofs.Sound.{whole_of}
+use Rattle.msg_reading.proofs.ReadScenarioRuns.{whole_of}
 use Rattle.msg_reading.proofs.scenario.read.read_value.Goals as goal
 
 pub returns-in_err-scenario-clause-refused : goal.returns-in_err-scenario-clause-refused

@@ -1,5 +1,5 @@
 use Rattle.msg_system.specs.Prelude.{program_needs}
-use Rattle.msg_reading.proofs.Tested.{fits_there, is_there}
+use Rattle.msg_reading.proofs.TestsOfScenarios.{fits_there, is_there}
 use Rattle.msg_reading.proofs.scenario.runnable.fits.Goals as goal
 
 pub returns : goal.returns

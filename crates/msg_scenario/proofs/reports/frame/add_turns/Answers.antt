@@ -6,7 +6,7 @@ use Rattle.msg_frames.specs.{declared.log.Outcome.Outcome}
 use Rattle.msg_files.specs.Prelude.{Text}
 use Rattle.msg_reading.specs.{declared.scenario.Scenario.Scenario, declared.scenario.SystemSpec.SystemSpec}
 use Rattle.msg_scenario.specs.Prelude.{answered_line, op_start, ops_text, outcome_text, turn_text}
-use Rattle.msg_scenario.specs.{declared.reports.lines.SystemLines.SystemLines, inner.Lines.finished_outcome, inner.Lines.finished_turn, inner.Lines.lines_of, inner.Lines.texts_in}
+use Rattle.msg_scenario.specs.{declared.reports.lines.SystemLines.SystemLines, inner.LineStarts.finished_outcome, inner.LineStarts.finished_turn, inner.LineStarts.lines_of, inner.LineStarts.texts_in}
 use Rattle.msg_scenario.proofs.reports.frame.add_turns.Goals as goal
 
 -- the lines of ops, by their starts

@@ -1,5 +1,5 @@
 use Rattle.std.proofs.Common.{◌≡◌, ◌++◌, take, flat_map}
-use Rattle.msg_scenario.specs.inner.Lines.{finished_turn}
+use Rattle.msg_scenario.specs.inner.LineStarts.{finished_turn}
 use Rattle.msg_scenario.proofs.reports.frame.add_turns.Given as goal
 
 abbrev pub invariant-loop-turn : goal.invariant-loop-turn

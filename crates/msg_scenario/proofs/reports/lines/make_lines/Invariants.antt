@@ -1,5 +1,5 @@
 use Rattle.std.proofs.Common.{◌≡◌, map, take}
-use Rattle.msg_scenario.specs.inner.Lines.{lines_of, texts_in}
+use Rattle.msg_scenario.specs.inner.LineStarts.{lines_of, texts_in}
 use Rattle.msg_scenario.proofs.reports.lines.make_lines.Given as goal
 
 abbrev pub invariant-loop-system : goal.invariant-loop-system

@@ -1,6 +1,6 @@
 use Rattle.std.proofs.Common.{◌∙◌, ap, Some}
 use Rattle.serde_json.specs.View.{view, items_view}
-use Rattle.msg_files.proofs.Shapes.{call_headed}
+use Rattle.msg_files.proofs.ChecksByKind.{call_headed}
 use Rattle.msg_files.proofs.calls.read.call.read_call.Goals as goal
 
 pub returns-clause-is : goal.returns-clause-is

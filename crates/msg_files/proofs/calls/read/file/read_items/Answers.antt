@@ -1,6 +1,6 @@
 use Rattle.std.proofs.Common.{arith, append_assoc, refl, [], ◌∙◌}
 use Rattle.std.proofs.lemmas.{Grind.common_steps, List.map-append, List.drop_more, Result.err_from_is_err_and}
-use Rattle.msg_files.proofs.Walks.{refusal_of_both}
+use Rattle.msg_files.proofs.WalksOverLists.{refusal_of_both}
 use Rattle.msg_files.proofs.calls.read.file.read_items.Goals as goal
 
 -- a call that is refused refuses the list from it on

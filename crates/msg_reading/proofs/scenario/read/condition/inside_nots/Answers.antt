@@ -1,5 +1,5 @@
 use Rattle.std.proofs.Common.{sym}
-use Rattle.msg_reading.proofs.Conditions.{NotsSeen-more, NotsSeen-end, NotsSeen-all}
+use Rattle.msg_reading.proofs.ConditionsAreRead.{NotsSeen-more, NotsSeen-end, NotsSeen-all}
 use Rattle.msg_reading.proofs.scenario.read.condition.inside_nots.Goals as goal
 
 pub returns-in_default : goal.returns-in_default

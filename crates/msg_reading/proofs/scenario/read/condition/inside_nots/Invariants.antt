@@ -1,5 +1,5 @@
 use Rattle.serde_json.specs.View.{view}
-use Rattle.msg_reading.proofs.Conditions.{NotsSeen}
+use Rattle.msg_reading.proofs.ConditionsAreRead.{NotsSeen}
 use Rattle.msg_reading.proofs.scenario.read.condition.inside_nots.Given as goal
 
 abbrev pub invariant-loop-nots : goal.invariant-loop-nots

@@ -1,4 +1,4 @@
-use Rattle.msg_reading.proofs.Parts.{one_of, two_of}
+use Rattle.msg_reading.proofs.ListsByParts.{one_of, two_of}
 use Rattle.msg_reading.proofs.scenario.read.condition.read_probe.Goals as goal
 
 pub returns-in-len1 : goal.returns-in-len1

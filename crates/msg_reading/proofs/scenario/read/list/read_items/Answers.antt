@@ -1,6 +1,6 @@
 use Rattle.std.proofs.Common.{◌∙◌, append_assoc, arith, refl}
 use Rattle.std.proofs.lemmas.{Grind.common_steps, List.drop_more, List.map-append, Result.err_from_is_err_and}
-use Rattle.msg_files.proofs.Walks.{refusal_of_both}
+use Rattle.msg_files.proofs.WalksOverLists.{refusal_of_both}
 use Rattle.msg_reading.proofs.scenario.read.list.read_items.Goals as goal
 
 pub returns-in_err-read-clause-refused : goal.returns-in_err-read-clause-refused

@@ -1,7 +1,7 @@
 use Rattle.std.proofs.Common.{◌∙◌, arith, refl}
 use Rattle.std.proofs.lemmas.{Grind.common_steps, List.drop_more, Result.err_from_is_err_and}
-use Rattle.msg_files.proofs.Walks.{refusal_of_both}
-use Rattle.msg_reading.proofs.Named.{one_more_before}
+use Rattle.msg_files.proofs.WalksOverLists.{refusal_of_both}
+use Rattle.msg_reading.proofs.NamedElements.{one_more_before}
 use Rattle.msg_reading.proofs.scenario.read.named.read_named_items.Goals as goal
 
 pub returns-in_err-element-clause-refused : goal.returns-in_err-element-clause-refused

@@ -1,4 +1,4 @@
-use Rattle.msg_reading.proofs.Named.{NamedLeft}
+use Rattle.msg_reading.proofs.NamedElements.{NamedLeft}
 use Rattle.msg_reading.proofs.scenario.read.named.read_named_items.Given as goal
 
 abbrev pub invariant-loop-item : goal.invariant-loop-item

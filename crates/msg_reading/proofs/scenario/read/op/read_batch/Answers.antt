@@ -1,7 +1,7 @@
 use Rattle.std.proofs.Common.{sym}
 use Rattle.std.proofs.lemmas.{List.length-map, Result.err_from_is_err_and}
 use Rattle.serde_json.specs.View.{view}
-use Rattle.msg_files.proofs.Shapes.{elements_are}
+use Rattle.msg_files.proofs.ChecksByKind.{elements_are}
 use Rattle.msg_reading.proofs.scenario.read.op.read_batch.Goals as goal
 
 pub returns-in_err-read_values : goal.returns-in_err-read_values

@@ -1,8 +1,8 @@
 use Rattle.std.proofs.Common.{map}
 use Rattle.serde_json.specs.View.{view}
 use Rattle.msg_reading.specs.Prelude.{op_checks_with}
-use Rattle.msg_files.proofs.Shapes.{Agrees_of}
-use Rattle.msg_reading.proofs.Parts.{one_of, two_of}
+use Rattle.msg_files.proofs.ChecksByKind.{Agrees_of}
+use Rattle.msg_reading.proofs.ListsByParts.{one_of, two_of}
 use Rattle.msg_reading.proofs.scenario.read.op.read_parts.Goals as goal
 
 pub returns-in-len1 : goal.returns-in-len1

@@ -1,6 +1,6 @@
 use Rattle.std.proofs.Common.{◌∙◌, ap, sym, Some}
 use Rattle.serde_json.specs.View.{view, items_view}
-use Rattle.msg_reading.proofs.Parts.{first_and_rest}
+use Rattle.msg_reading.proofs.ListsByParts.{first_and_rest}
 use Rattle.msg_reading.proofs.scenario.read.part.head_and_parts.Goals as goal
 
 pub returns-in-Some-as_str-clause-headed : goal.returns-in-Some-as_str-clause-headed

@@ -2,7 +2,7 @@ use Rattle.std.proofs.Common.{◌∙◌, ap, refl}
 use Rattle.std.proofs.lemmas.Result.{err_from_is_err_and}
 use Rattle.serde_json.specs.View.{view}
 use Rattle.msg_reading.specs.Prelude.{each_of, op_of}
-use Rattle.msg_reading.proofs.Systems.{program_from}
+use Rattle.msg_reading.proofs.SystemsAreRead.{program_from}
 use Rattle.msg_reading.proofs.scenario.read.system.read_program.Goals as goal
 
 pub returns-in_err-ops-clause-refused : goal.returns-in_err-ops-clause-refused

@@ -2,7 +2,7 @@ use Rattle.std.proofs.Common.{◌∙◌, ap, ◌++◌, ◌∷◌, [], ◌≡◌,
 use Rattle.indexmap.specs.IndexSet.{insert_key}
 use Rattle.std.specs.Str.{bytes_eq}
 use Rattle.msg_reading.specs.Prelude.{position_of}
-use Rattle.msg_reading.proofs.Spaces.{insert-new}
+use Rattle.msg_reading.proofs.NamesInOrder.{insert-new}
 use Rattle.msg_reading.proofs.scenario.read.names.NameSpace.declare.Goals as goal
 
 pub returns-clause-declares : goal.returns-clause-declares

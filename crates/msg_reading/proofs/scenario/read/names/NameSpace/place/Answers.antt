@@ -1,6 +1,6 @@
 use Rattle.std.proofs.Common.{string_bytes}
 use Rattle.std.specs.Str.{bytes_eq}
-use Rattle.msg_reading.proofs.Spaces.{position-map}
+use Rattle.msg_reading.proofs.NamesInOrder.{position-map}
 use Rattle.msg_reading.proofs.scenario.read.names.NameSpace.place.Goals as goal
 
 pub returns : goal.returns

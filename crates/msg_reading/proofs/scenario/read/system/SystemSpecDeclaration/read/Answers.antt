@@ -3,7 +3,7 @@ use Rattle.std.proofs.lemmas.{Option.same_Some, Result.err_from_is_err_and}
 use Rattle.serde_json.specs.View.{view}
 use Rattle.msg_files.specs.Prelude.{first_refusal}
 use Rattle.msg_reading.specs.Prelude.{program_checks}
-use Rattle.msg_reading.proofs.Systems.{system_from}
+use Rattle.msg_reading.proofs.SystemsAreRead.{system_from}
 use Rattle.msg_reading.proofs.scenario.read.system.SystemSpecDeclaration.read.Goals as goal
 
 pub returns-in_err-name-2-clause-agrees : goal.returns-in_err-name-2-clause-agrees

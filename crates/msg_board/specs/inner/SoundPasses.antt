@@ -6,8 +6,8 @@ use Rattle.msg_board.specs.declared.board.Board.TheInside as board
 
 module _ {J D : Type 0} where
   -- the state that callers see
-  abbrev pub state_of : Inside J D → PassState J
-  state_of p = record {
+  abbrev pub pass_state : Inside J D → PassState J
+  pass_state p = record {
     table = p.seat.table_id;
     jobs = p.seat.me.0.jobs;
     tried = p.next;
@@ -18,7 +18,7 @@ module _ {J D : Type 0} where
 
 module _ {J : Type 0} where
   -- the numbers of a pass have to do with one another
-  pub record IsInOrder (p : PassState J) : Type 0 where
+  pub record DrewInOrder (p : PassState J) : Type 0 where
     -- it has tried no more numbers than there are jobs, and all of them once it is finished
     pub within : p.tried ≤ length p.jobs
     pub all_tried : p.finished ≡ true → p.tried ≡ length p.jobs
@@ -30,9 +30,9 @@ module _ {J : Type 0} where
 
 module _ {J D : Type 0} where
   -- its seat is that of its state, and its state is in order
-  pub record IsSound (p : Inside J D) : Type 0 where
-    pub seat : IsSeatOf (state_of p) p.seat
-    pub order : IsInOrder (state_of p)
+  pub record IsSoundPass (p : Inside J D) : Type 0 where
+    pub seat : IsSeatOf (pass_state p) p.seat
+    pub order : DrewInOrder (pass_state p)
 
 module _ {W A J D : Type 0} where
   -- the board that callers see

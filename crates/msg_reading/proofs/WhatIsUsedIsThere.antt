@@ -8,9 +8,9 @@ use Rattle.msg_system.specs.Prelude.{is_part, job_needs, needs_any, op_parts, pr
 use Rattle.msg_system.specs.{declared.condition.Condition.Condition, declared.op.Op.Op}
 use Rattle.msg_frames.specs.declared.place.Place.{Place}
 use Rattle.msg_files.specs.Prelude.{Text, elements, first_refusal, natural, needs, value_at, values_of, whole}
-use Rattle.msg_reading.specs.Prelude.{Declared, IsClashing, IsRunnableSystem, PostsAreToTypes, Scenario, SystemSpec, condition_checks, condition_of, conditions_in, each_of, fits_kind, frame_of, inside_nots, join_checks, join_in, kind_in, kind_of, list_checks, name_checks, of_headed, of_its_kind, op_checks, op_of, op_with, op_with_one, op_with_two, ops_checks, ops_of, place_checks, place_of, post_of, probe_with, program_checks, resource_number, start_in, start_of, system_checks, system_object, system_of, text, type_number}
+use Rattle.msg_reading.specs.Prelude.{Declared, IsClashing, IsRunnableSystem, PostsAreToTypes, Scenario, SystemSpec, condition_checks, condition_of, conditions_in, each_of, fits_kind, frame_of, inside_nots, join_checks, join_in, kind_in, kind_of, list_checks, name_checks, of_headed, of_its_kind, op_checks, op_of, op_with, op_with_one, op_with_two, ops_checks, ops_of, place_checks, place_in, post_of, probe_with, program_checks, resource_number, start_in, start_of, system_checks, system_object, system_of, text, type_number}
 use Rattle.msg_files.specs.declared.refusal.Refusal.TheVariants.{Shape}
-use Rattle.msg_reading.proofs.There.{Holds, below_there, both_pass, choice, first_passes, in_both, in_each, in_headed, in_map, in_then, list_passed}
+use Rattle.msg_reading.proofs.ChecksThatPass.{Holds, below_there, both_pass, choice, first_passes, in_both, in_each, in_headed, in_map, in_then, list_passed}
 
 -- ---- parts that are there
 
@@ -146,7 +146,7 @@ system_fits s names {n} d of passed =
     let fit = in_each (OpFits s) (op_of names) (op_fits s names of) (elements (value_at (codes "ops") d)) ops o in
     let many = fit.1 in
     let as_kind : fits_kind kind ops ≡ true = rw (k, o) at (first_passes (of_its_kind names d) Shape [] listed.1).0 in
-    in_both _ _ (place_of names d) (start_of (start_in d)) (λ place start p _ none.
+    in_both _ _ (place_in names d) (start_of (start_in d)) (λ place start p _ none.
     let placed = in_both (λ (y : Place). All (ConditionFits s) y.conditions × ((1 ≤ y.join) × (y.join ≤ 10000))) _
     (each_of (condition_of names) (conditions_in d)) (natural (join_in d)) (λ conditions join c j.
     let all = in_each (ConditionFits s) (condition_of names) (condition_fits s names of) (elements (conditions_in d)) in

@@ -7,7 +7,7 @@ use Rattle.msg_order.specs.Prelude.{access_of}
 use Rattle.msg_system.specs.Prelude.{Meaning}
 use Rattle.msg_exec.specs.{declared.job.Done.Done, declared.job.Job.Job, declared.lender.Lender.Lender, inner.Totals.entries_by, Keeping.kept, Keeping.totals_at, Lender.system_at}
 use Rattle.msg_frames.specs.declared.totals.Totals.{Totals}
-use Rattle.msg_frames.specs.Prelude.{State, place_of, with_entries}
+use Rattle.msg_frames.specs.Prelude.{State, reader_place, with_entries}
 
 -- whether any of these systems writes the part
 abbrev pub any_writes : List Access → List ℕ → Part → Bool
@@ -68,4 +68,4 @@ module _ {S : Type 0} (meaning : S → Meaning) where
 
 -- those that join with this frame were given nothing yet
 abbrev pub HaveReadNothing : ℕ → State → Type 0
-HaveReadNothing frame s = (i t : ℕ) → (s.members i).join ≡ frame → place_of s i t ≡ 0
+HaveReadNothing frame s = (i t : ℕ) → (s.members i).join ≡ frame → reader_place s i t ≡ 0

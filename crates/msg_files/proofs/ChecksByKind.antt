@@ -3,7 +3,7 @@ use Rattle.std.proofs.Common.{◌≡◌, ℕ, ◌-◌, take, ◌≤◌, List, []
 use Rattle.std.proofs.lemmas.List.{take_all}
 use Rattle.serde_json.specs.{Data.Data, Data.string, Data.array, Data.Items, Find.as_array, Find.as_str, View.view, View.items_view, declared.value.Value.Value}
 use Rattle.msg_files.specs.Prelude.{Agrees, Check, IsAnswer, Refusal, call_checks, call_of, call_with, checks_with, elements, list_of}
-use Rattle.msg_files.proofs.Walks.{list_of-items_of}
+use Rattle.msg_files.proofs.WalksOverLists.{list_of-items_of}
 
 -- the answer of what takes no memory agrees
 pub Agrees_of : {A : Type 0} (cs : List Check) (o : Option A) (r : Result A Refusal) → IsAnswer cs o r → Agrees cs o r
@@ -30,4 +30,5 @@ pub call_headed : (made : ℕ) (d : Data) (xs : List Value) (v : Value) (head : 
     × (call_of d ≡ call_with head (map view (take (length xs - 1) (drop 1 xs))))
 call_headed made d [] v head list lt is text = absurd (omega (arith, lt))
 call_headed made d (x ∷ xs) v head list lt is text =
-    grind (arith, array_is d (items_view (x ∷ xs)) list, string_is (view x), list_of-items_of, take_all (length (x ∷ xs) - 1) xs)
+    grind (arith, array_is d (items_view (x ∷ xs)) list, string_is (view x), list_of-items_of,
+        take_all (length (x ∷ xs) - 1) xs)

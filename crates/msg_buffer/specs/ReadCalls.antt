@@ -4,8 +4,8 @@ use Rattle.std.specs.Borrow.{Bor, GName}
 use Rattle.msg_buffer.specs.{declared.instance.Instance.Instance, declared.instance.MessageId.MessageId, declared.iter.MessageIter.MessageIter, Kept.Kept, Kept.kept_instances}
 
 -- an item, as the instance that it shows
-abbrev pub shown : {M : Type 0} → MessageId × Bor M → Instance M
-shown item = record { id = item.0; message = item.1.now }
+abbrev pub instance_shown : {M : Type 0} → MessageId × Bor M → Instance M
+instance_shown item = record { id = item.0; message = item.1.now }
 
 module _ {M A : Type 0} where
   -- the place of the cursor that it moves
@@ -32,7 +32,7 @@ module _ {M A : Type 0} where
   -- it gave the first message of what was left, and moved the place by one
   pub record Gives (old : MessageIter M A) (item : MessageId × Bor M)
       (new : MessageIter M A) : Type 0 where
-    pub rest : iter_rest old ≡ shown item ∷ iter_rest new
+    pub rest : iter_rest old ≡ instance_shown item ∷ iter_rest new
     pub place : iter_place new ≡ iter_place old + 1
     pub continues : Continues old new
 

@@ -6,9 +6,9 @@ use Rattle.serde_json.specs.{Data.Data}
 use Rattle.msg_order.specs.Prelude.{IsAcyclic, NameSystemsBelow, edges_of}
 use Rattle.msg_order.specs.declared.rule.Rule.{Rule}
 use Rattle.msg_files.specs.Prelude.{elements, first_refusal}
-use Rattle.msg_reading.specs.Prelude.{Declared, IsClashing, IsRunnable, Scenario, all_names, frames_in, frames_of, no_names, part_names, position_of, resource_checks, resource_of, resources_checks, resources_in, resources_of, rule_of, rules_in, rules_of, scenario_checks, scenario_of, system_checks, system_number, system_of, systems_checks, systems_in, systems_of, text, type_checks, type_names, type_of, types_checks, types_in, types_of, with_resource, with_system, with_type}
-use Rattle.msg_reading.proofs.{Fitting.HasNames, Fitting.NamesOf, Fitting.SystemFits, Fitting.frames_fit, Fitting.system_fits, There.Holds, There.below_there, There.in_each, There.in_section}
-use Rattle.msg_files.proofs.Walks.{refusal_of_both}
+use Rattle.msg_reading.specs.Prelude.{Declared, IsClashing, IsRunnable, Scenario, all_names, frames_in, frames_read, no_names, part_names, position_of, resource_checks, resource_of, resources_checks, resources_in, resources_of, rule_of, rules_in, rules_of, scenario_checks, scenario_of, system_checks, system_number, system_of, systems_checks, systems_in, systems_of, text, type_checks, type_names, type_of, types_checks, types_in, types_of, declaring_resource, with_system, declaring_type}
+use Rattle.msg_reading.proofs.{WhatIsUsedIsThere.HasNames, WhatIsUsedIsThere.NamesOf, WhatIsUsedIsThere.SystemFits, WhatIsUsedIsThere.frames_fit, WhatIsUsedIsThere.system_fits, ChecksThatPass.Holds, ChecksThatPass.below_there, ChecksThatPass.in_each, ChecksThatPass.in_section}
+use Rattle.msg_files.proofs.WalksOverLists.{refusal_of_both}
 
 -- ---- rules
 
@@ -40,18 +40,18 @@ sections_pass d passes = grind (arith, refusal_of_both)
 -- each part of a scenario is what its section denotes
 parts_denoted : (d : Data) (s : Scenario) → scenario_of d ≡ Some s → (types_of d ≡ Some s.types)
     × (resources_of d ≡ Some s.resources) × (systems_of d ≡ Some s.systems) × (rules_of d ≡ Some s.rules)
-    × (frames_of d ≡ Some s.frames)
+    × (frames_read d ≡ Some s.frames)
 parts_denoted d s is = grind arith
 
 pub whole_of : (d : Data) → first_refusal (scenario_checks d) ≡ None → Holds IsWhole (scenario_of d)
-unfolding types_of types_checks type_names resources_of resources_checks part_names systems_of systems_checks all_names rules_of frames_of
+unfolding types_of types_checks type_names resources_of resources_checks part_names systems_of systems_checks all_names rules_of frames_read
 whole_of d passes s is =
     let pass = sections_pass d passes in
     let are = parts_denoted d s is in
-    let types = in_section (λ names. type_of) with_type type_checks (λ _. Unit {0}) (λ n. HasNames n 0 0)
+    let types = in_section (λ names. type_of) declaring_type type_checks (λ _. Unit {0}) (λ n. HasNames n 0 0)
     (λ n names e has. grind (arith, common_steps, has)) (λ n names e has passed x there. tt) 64 no_names (types_in d)
     (record { types = refl; resources = refl; systems = refl }) pass.0 s.types are.0 in
-    let resources = in_section (λ names. resource_of) with_resource resource_checks (λ _. Unit {0})
+    let resources = in_section (λ names. resource_of) declaring_resource resource_checks (λ _. Unit {0})
     (λ n. HasNames (length s.types) n 0) (λ n names e has. grind (arith, common_steps, has))
     (λ n names e has passed x there. tt) 64 (type_names d) (resources_in d) types.2 pass.1 s.resources are.1 in
     let systems = in_section system_of with_system system_checks (SystemFits s) (NamesOf s)

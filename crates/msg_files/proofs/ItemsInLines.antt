@@ -3,19 +3,19 @@ use Rattle.std.proofs.Common.{◌≡◌, ℕ, ◌+◌, ◌<◌, List, [], ◌∷
 use Rattle.std.specs.{Borrow.Bor, declared.alloc.Global.Global}
 use Rattle.std.proofs.Math.Seq.{take-append_seam}
 use Rattle.std.proofs.lemmas.Grind.{common_steps}
-use Rattle.msg_buffer.specs.Prelude.{Gives, HasGiven, at_most, iter_rest, shown}
+use Rattle.msg_buffer.specs.Prelude.{Gives, HasGiven, at_most, iter_rest, instance_shown}
 use Rattle.msg_buffer.specs.{declared.Instance.Instance, declared.instance.MessageId.MessageId, declared.iter.MessageIter.MessageIter}
 use Rattle.msg_buffer.proofs.Tiles.{take-at_most}
-use Rattle.msg_files.specs.Prelude.{item_text, items_text, more_items}
+use Rattle.msg_files.specs.Prelude.{pair_text, pairs_text, more_pairs}
 
-pub more_items-push : (xs : List (Instance ℤ)) (x : Instance ℤ)
-    → more_items (xs ++ x ∷ []) ≡ more_items xs ++ (codes " " ++ item_text x)
-more_items-push [] x = append-nil _
-more_items-push (y ∷ ys) x =
-    rw (more_items-push ys x) (sym (append_assoc (codes " " ++ item_text y) (more_items ys) (codes " " ++ item_text x)))
+pub more_pairs-push : (xs : List (Instance ℤ)) (x : Instance ℤ)
+    → more_pairs (xs ++ x ∷ []) ≡ more_pairs xs ++ (codes " " ++ pair_text x)
+more_pairs-push [] x = append-nil _
+more_pairs-push (y ∷ ys) x =
+    rw (more_pairs-push ys x) (sym (append_assoc (codes " " ++ pair_text y) (more_pairs ys) (codes " " ++ pair_text x)))
 
 -- some items, each with a space in front
-pub spaced_items : (xs : List (Instance ℤ)) → 0 < length xs → more_items xs ≡ codes " " ++ items_text xs
+pub spaced_items : (xs : List (Instance ℤ)) → 0 < length xs → more_pairs xs ≡ codes " " ++ pairs_text xs
 spaced_items [] some = absurd (omega arith)
 spaced_items (x ∷ xs) some = refl
 
@@ -26,15 +26,15 @@ pub record HasAdded (start now : MessageIter ℤ Global) (before text : List ℕ
   pub taken : List (Instance ℤ)
   pub gave : HasGiven start now taken
   pub counted : length taken ≡ number
-  pub made : text ≡ before ++ more_items taken
+  pub made : text ≡ before ++ more_pairs taken
 
 -- one message more
 pub HasAdded_more : (start now next : MessageIter ℤ Global) (item : MessageId × Bor ℤ) (before text text' : List ℕ)
     (number : ℕ)
     → HasAdded start now before text number → Gives now item next
-    → text' ≡ text ++ (codes " " ++ item_text (shown item)) → HasAdded start next before text' (number + 1)
+    → text' ≡ text ++ (codes " " ++ pair_text (instance_shown item)) → HasAdded start next before text' (number + 1)
 HasAdded_more start now next item before text text' number so_far gives added =
-    grind (arith, common_steps, so_far, gives, append_assoc, more_items-push so_far.taken (shown item))
+    grind (arith, common_steps, so_far, gives, append_assoc, more_pairs-push so_far.taken (instance_shown item))
 
 -- as many as the read gives: they are what it gives
 pub HasAdded_given : (start now : MessageIter ℤ Global) (before text : List ℕ) (number : ℕ) (limit : Option ℕ)

@@ -5,7 +5,7 @@ use Rattle.serde_json.specs.Data.{Data}
 use Rattle.msg_files.specs.Prelude.{first_refusal, needs, value_at}
 use Rattle.msg_reading.specs.Prelude.{Declared, Kind, each_of, fits_kind, kind_in, kind_of, list_checks, name_checks, op_checks, op_of, ops_checks, place_checks, program_checks, start_in, start_of, system_checks, system_object}
 use Rattle.msg_files.specs.declared.refusal.Refusal.TheVariants.{Shape}
-use Rattle.msg_files.proofs.Walks.{refusal_of_both}
+use Rattle.msg_files.proofs.WalksOverLists.{refusal_of_both}
 
 module _ (names : Declared) (d : Data) where
   -- the kind is known, and these are the ops: they come first, and then the place and the start

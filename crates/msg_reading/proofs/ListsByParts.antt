@@ -5,7 +5,7 @@ use Rattle.serde_json.specs.{Data.Data, Find.as_array, Find.as_str, View.view, V
 use Rattle.msg_files.specs.Prelude.{Check, Text, elements, first_refusal}
 use Rattle.msg_reading.specs.Prelude.{Declared, for_headed, of_headed, op_checks_with}
 use Rattle.msg_files.specs.declared.refusal.Refusal.TheVariants.{Shape}
-use Rattle.msg_files.proofs.Shapes.{elements_are}
+use Rattle.msg_files.proofs.ChecksByKind.{elements_are}
 
 -- ---- lists of one, of two and of more items
 

@@ -4,18 +4,18 @@ use Rattle.std.proofs.lemmas.{List.drop_more, Grind.common_steps}
 use Rattle.std.specs.Io.KnownBytes.{Appends}
 use Rattle.std.proofs.KnownBytes.{Appends-trans}
 use Rattle.msg_buffer.specs.Prelude.{Kept}
-use Rattle.msg_files.specs.Prelude.{AppendsPrefix, AreIn, Call, State, TakesFront, after, cursors_exist, line, made_by, text_of}
+use Rattle.msg_files.specs.Prelude.{AppendsPrefix, AreIn, Call, BufferState, TakesFront, after, cursors_exist, line, made_by, text_of}
 use Rattle.msg_files.proofs.Puts.{AppendsPrefix_after}
 
 -- a call makes as many places as it makes cursors
-pub length-places_after : (call : Call) (s : State)
+pub length-places_after : (call : Call) (s : BufferState)
     → length (after call s).places ≡ length s.places + made_by call
 length-places_after call s = grind (arith, common_steps)
 
 -- what was put, what is gathered, and what the calls that are left print, is all of it
 pub record OnTheWay (before now : Option (List ℕ)) (messages : Kept ℤ) (cursors gathered : List ℕ)
     (rest : List Call) (all : List ℕ) : Type 0 where
-  pub state : State
+  pub state : BufferState
   pub front : List ℕ
   pub are_in : AreIn messages cursors state
   pub taken : Appends before now front
@@ -36,8 +36,8 @@ module _ (before now : Option (List ℕ)) (m : Kept ℤ) (cs gathered : List ℕ
 
   -- one call more
   pub OnTheWay_more : (now' : Option (List ℕ)) (m' : Kept ℤ) (cs' made gathered' : List ℕ)
-      → ((s : State) → AreIn m cs s → AreIn m' cs' (after (get_or calls i d) s))
-      → ((s : State) → AreIn m cs s → made ≡ line (get_or calls i d) s)
+      → ((s : BufferState) → AreIn m cs s → AreIn m' cs' (after (get_or calls i d) s))
+      → ((s : BufferState) → AreIn m cs s → made ≡ line (get_or calls i d) s)
       → TakesFront now now' (gathered ++ made) gathered'
       → OnTheWay before now' m' cs' gathered' (drop (i + 1) calls) all
   OnTheWay_more now' m' cs' made gathered' state is puts =
@@ -55,7 +55,7 @@ module _ (before now : Option (List ℕ)) (m : Kept ℤ) (cs gathered : List ℕ
 
   -- a put that fails leaves a front of the whole text
   pub OnTheWay_fails : (now' : Option (List ℕ)) (made : List ℕ)
-      → ((s : State) → AreIn m cs s → made ≡ line (get_or calls i d) s)
+      → ((s : BufferState) → AreIn m cs s → made ≡ line (get_or calls i d) s)
       → AppendsPrefix now now' (gathered ++ made) → AppendsPrefix before now' all
   OnTheWay_fails now' made is puts =
       AppendsPrefix_after before now now' way.front (gathered ++ made) lines_after all

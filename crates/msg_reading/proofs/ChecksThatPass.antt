@@ -4,7 +4,7 @@ use Rattle.std.proofs.lemmas.{Bool.leb-true, Grind.common_steps, List.Elements.A
 use Rattle.serde_json.specs.Data.{Data}
 use Rattle.msg_files.specs.Prelude.{Check, Text, all_some, elements, first_refusal, is_list, needs, only_below}
 use Rattle.msg_reading.specs.Prelude.{Declared, both, checks_in_turn, each_in_turn, names_checks, of_headed, text, with_all}
-use Rattle.msg_files.proofs.Walks.{refusal_of_both}
+use Rattle.msg_files.proofs.WalksOverLists.{refusal_of_both}
 use Rattle.msg_files.specs.{declared.refusal.Refusal.Refusal, declared.refusal.Refusal.TheVariants.Shape, declared.refusal.Refusal.TheVariants.TooMany}
 
 -- ---- what holds of all that is there
