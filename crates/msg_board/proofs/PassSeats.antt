@@ -5,7 +5,7 @@ use Rattle.std.proofs.lemmas.{List.Elements.All-head, List.Elements.All-pop, Lis
 use mathlib.Core.Option.{some}
 use lib.ListN.{get_elem?}
 use Rattle.atomic_table.specs.{declared.shared.Seat.Seat, Table.Me}
-use Rattle.msg_board.specs.Prelude.{BoardView, Done, Drew, Empty, HandedIn, HasEnded, Inside, Job, PassState, Slot, View, drawn_by, freed, handed_in, is_held, taken, times, united}
+use Rattle.msg_board.specs.Prelude.{BoardView, Done, Drew, Empty, HandedIn, HasEnded, Inside, Job, PassState, Slot, View, drawn_by, without_job, handed_in, is_held, with_job, times, view_union}
 use Rattle.msg_board.specs.{inner.Closing.IsGathered, inner.Seats.IsSeatOf, inner.SoundPasses.pass_state, inner.SoundPasses.IsSoundPass}
 use Rattle.msg_board.proofs.{TableLists.got, Sums.times-append}
 
@@ -28,7 +28,7 @@ handed_in-idle p idle = rw idle (filter_true p.drawn)
 module _ {J D : Type 0} where
   -- A pass drew its next number: `drawn` is its seat after the step, and `seat` after it took the job out of the slot
   module _ (p : Inside J D) (drawn seat : Seat (Slot J D) (View J)) (j : J) (sound : IsSoundPass p)
-      (told : drawn.me ≡ (taken p.next p.seat.me.0, (p.next, Job j) ∷ []))
+      (told : drawn.me ≡ (with_job p.next p.seat.me.0, (p.next, Job j) ∷ []))
       (took : seat.me ≡ (drawn.me.0, (p.next, Empty) ∷ [])) where
     -- its fields
     abbrev drew_pass : Inside J D
@@ -52,7 +52,7 @@ module _ {J D : Type 0} where
 
   -- A pass handed in what it held: `full` is its seat after it put the result into the slot, and `seat` after the step
   module _ (p : Inside J D) (full seat : Seat (Slot J D) (View J)) (k : ℕ) (d : D) (sound : IsSoundPass p)
-      (put : full.me ≡ (p.seat.me.0, (k, Done d) ∷ [])) (told : seat.me ≡ (freed full.me.0, [])) where
+      (put : full.me ≡ (p.seat.me.0, (k, Done d) ∷ [])) (told : seat.me ≡ (without_job full.me.0, [])) where
     -- its fields
     abbrev handed_pass : Inside J D
     handed_pass = record { seat = seat; next = p.next; held = None; finished = p.finished }
@@ -112,7 +112,7 @@ module _ {J D : Type 0} where
   pub gathers : (b : BoardView J) (all qs ps : List (PassState J)) (p : PassState J)
       (seat other next : Seat (Slot J D) (View J))
       → IsGathered b all qs seat → qs ≡ ps ++ p ∷ [] → IsSeatOf p other
-      → next.table_id ≡ seat.table_id → next.me ≡ (united seat.me.0 other.me.0, seat.me.1)
+      → next.table_id ≡ seat.table_id → next.me ≡ (view_union seat.me.0 other.me.0, seat.me.1)
       → IsGathered b all ps next
   gathers b all qs ps p seat other next before is of here now =
       let parts = All-pop (HasEnded b) qs ps (Some p) is before.ended in

@@ -7,7 +7,7 @@ use mathlib.Core.Option as maybe
 use lib.ListN.{get_elem?, length-map}
 use Rattle.atomic_table.specs.{declared.shared.Seat.Seat, Table.State, Table.Me, Table.step, Table.keeps, Table.takes, Table.gives, Table.Allows, Table.Splits, Table.Joins, Table.Final, Table.Seen, Table.opening}
 use Rattle.atomic_table.proofs.Lists.{set_here, set_else, at_map}
-use Rattle.msg_board.specs.Prelude.{BoardView, Done, Drawing, HandingIn, Holds, HoldsEachOnce, IsHeldAlone, IsSlotOf, IsViewOf, Job, PassState, Slot, View, draws_at, drawn_by, freed, holders_at, is_held, jobs_of, one_of, passes_of, spent, taken, times, tried, united, whole_view, without_one}
+use Rattle.msg_board.specs.Prelude.{BoardView, Done, Drawing, HandingIn, Holds, HoldsEachOnce, IsHeldAlone, IsSlotOf, IsViewOf, Job, PassState, Slot, View, draws_at, drawn_by, without_job, holders_at, is_held, jobs_of, one_of, passes_of, empty_view, with_job, times, tried, view_union, whole_view, without_one}
 use Rattle.msg_board.specs.inner.Closing.{IsGathered}
 use Rattle.msg_board.proofs.{TableLists.there, TableLists.read_at, TableLists.changed, TableLists.joined, Sums.sum_by-set_at, Sums.term_le, Sums.terms_le, Sums.sole, Sums.one_if, Sums.times-append, Sums.times_push}
 
@@ -67,11 +67,11 @@ module _ {J D : Type 0} (lawful : J → D → Type 0) (jobs : List J) (passes : 
 
     -- it finds 0, and takes the job out
     finds_zero : (n : ℕ) → n ≡ 1 → get_or s.words i 0 ≡ 0
-        → Lawful record { words = set s.words i n; homes = set s.homes i none; views = set s.views id (taken i v) }
+        → Lawful record { words = set s.words i n; homes = set s.homes i none; views = set s.views id (with_job i v) }
     finds_zero n one zero_there =
         let long = r.slots in let set_there = get_or-set_same s.words i 1 0 near in
         let other = λ (k : ℕ). get_or-set_other s.words i k 1 0 in
-        rw one (moved s r i 1 id v (taken i v) (set s.homes i none) inside at (omega arith) (λ _. (λ e. omega arith))
+        rw one (moved s r i 1 id v (with_job i v) (set s.homes i none) inside at (omega arith) (λ _. (λ e. omega arith))
         (length-set s.homes i none) (λ k ne. set_else s.homes i k none ne)
         (λ j' is'. grind (arith, set_here s.homes i none))
         (grind (arith, cases_eq, set_there, get_or-set_other s.words i, r.each_view id v at))
@@ -97,7 +97,7 @@ module _ {J D : Type 0} (lawful : J → D → Type 0) (jobs : List J) (passes : 
       let own = ap (λ (l : List J). get_elem? l i) ((r.each_view id me.0 at).same_jobs live) ∙ there_is.1 in
       let n : ℕ = max (get_or s.words i 0) 1 in elim (cases_eq (get_or s.words i 0) 0) [
         | inl hit ↦ (
-          taken i me.0,
+          with_job i me.0,
           takes i (Job there_is.0),
           (r.each_slot i there_is.0 there_is.1).waiting hit,
           finds_zero s r id i me.0 at live free is inside n (omega arith) hit,
@@ -126,7 +126,7 @@ module _ {J D : Type 0} (lawful : J → D → Type 0) (jobs : List J) (passes : 
   held_alone s k r = record {
     by_one = λ by other v w at there_is has also.
         let is_one = word_is_one s k r by v at has in
-        grind (arith, terms_le (holds_one k) spent refl s.views by other v w, r.held k, is_one, eqb_tells);
+        grind (arith, terms_le (holds_one k) empty_view refl s.views by other v w, r.held k, is_one, eqb_tells);
     slot_out = λ by v at has. let is_one = word_is_one s k r by v at has in
         elim (cases_lt k (length jobs)) [
           | inl near ↦ let job = there jobs k near in (r.each_slot k job.0 job.1).out is_one
@@ -144,10 +144,11 @@ module _ {J D : Type 0} (lawful : J → D → Type 0) (jobs : List J) (passes : 
       let inside = (read_at jobs k j is').0 in let wide = r.words in let long = r.slots in
       let near : k < length s.words = omega arith in
       let one = word_is_one s k r id v at has in let set_there = get_or-set_same s.words k 2 0 near in (
-        freed v,
+        without_job v,
         gives,
         tt,
-        moved s r k 2 id v (freed v) (set s.homes k (some (Done d))) inside at (omega arith) (λ _. (λ e. omega arith))
+        moved s r k 2 id v (without_job v) (set s.homes k (some (Done d))) inside at (omega arith)
+            (λ _. (λ e. omega arith))
             (length-set s.homes k (some (Done d))) (λ i ne. set_else s.homes k i (some (Done d)) ne)
             (λ j' also. grind (arith, set_here s.homes k (some (Done d)), is', fair))
             (grind (arith, cases_eq, set_there, get_or-set_other s.words k, knows))
@@ -179,20 +180,21 @@ module _ {J D : Type 0} (lawful : J → D → Type 0) (jobs : List J) (passes : 
 
   -- a seat takes in another, which holds nothing
   pub unites : (id : ℕ) (v : View J) (other : ℕ) (w : View J) → 0 < v.weight → w.held ≡ None
-      → Joins Lawful id v other w (united v w) spent
+      → Joins Lawful id v other w (view_union v w) empty_view
   unites id v other w live free s r at apart them =
-      let old = r.each_view id v at in let vs = set s.views id (united v w) in let Of = IsViewOf jobs s.words in
-      let both : (g : View J → ℕ) → sum_by g (set vs other spent) + g w + g v
-      ≡ sum_by g s.views + g (united v w) + g spent
-      = λ g. omega (arith, sum_by-set_at g s.views id v (united v w) at, sum_by-set_at g vs other w spent them) in
+      let old = r.each_view id v at in let vs = set s.views id (view_union v w) in let Of = IsViewOf jobs s.words in
+      let both : (g : View J → ℕ) → sum_by g (set vs other empty_view) + g w + g v
+      ≡ sum_by g s.views + g (view_union v w) + g empty_view
+      = λ g. omega (arith, sum_by-set_at g s.views id v (view_union v w) at,
+          sum_by-set_at g vs other w empty_view them) in
       record {
         words = r.words;
         slots = r.slots;
         at_most_two = r.at_most_two;
         further = r.further;
         each_slot = r.each_slot;
-        each_view = changed Of vs other spent (grind arith)
-            (λ k u _. changed Of s.views id (united v w) (grind (arith, old)) (λ k u _. r.each_view k u) k u);
+        each_view = changed Of vs other empty_view (grind arith)
+            (λ k u _. changed Of s.views id (view_union v w) (grind (arith, old)) (λ k u _. r.each_view k u) k u);
         held = λ k. omega (arith, both (holds_one k), r.held k, ap (λ o. one_if (is_held k o)) free);
         drawn = λ k. omega (arith, both (λ u. times k u.drawn), r.drawn k, times-append k v.drawn w.drawn);
         weights = omega (arith, both (λ u. u.weight), r.weights);
@@ -230,13 +232,13 @@ closes {J = J} lawful b view ps seat ws xs final some-pass is all of =
     let as_long : length (jobs_of b) ≡ length (jobs_of view) = ap (λ board. length (jobs_of board)) is in
     let v = seat.me.0 in let live = of.live in let next = of.next in let knows = r.each_view seat.id v at in
     let others : (k : ℕ) (u : View J) → k ≢ seat.id → get_elem? s.views k ≡ some u → u.weight ≡ 0 = λ k u ne there.
-    omega (arith, terms_le (λ u. u.weight) spent refl s.views seat.id k v u ne at there, r.weights, of.count) in
+    omega (arith, terms_le (λ u. u.weight) empty_view refl s.views seat.id k v u ne at there, r.weights, of.count) in
     let drawn_at : (k : ℕ) → times k (drawn_by ps) ≡ draws_at (get_or s.words k 0) = λ k.
-    let one = sole (λ u. times k u.drawn) spent refl s.views seat.id v at
+    let one = sole (λ u. times k u.drawn) empty_view refl s.views seat.id v at
     (λ i u ne there. ap (times k) ((r.each_view i u there).spent_drawn (others i u ne there))) in
     omega (arith, of.drawn k, one, r.drawn k) in
     let out_at : (k : ℕ) → holders_at (get_or s.words k 0) ≡ 0 = λ k.
-    let one = sole (λ u. one_if (is_held k u.held)) spent refl s.views seat.id v at
+    let one = sole (λ u. one_if (is_held k u.held)) empty_view refl s.views seat.id v at
     (λ i u ne there. ap (λ o. one_if (is_held k o)) ((r.each_view i u there).spent_held (others i u ne there))) in
     omega (arith, r.held k, one, ap (λ o. one_if (is_held k o)) of.held) in (
       λ k j own.

@@ -109,20 +109,20 @@ module _ {J : Type 0} where
   tried v = record v { next = v.next + 1 }
 
   -- a pass found word k, its next, at 0
-  abbrev pub taken : ℕ → View J → View J
-  taken k v = record v { next = k + 1; drawn = v.drawn ++ k ∷ []; held = Some k }
+  abbrev pub with_job : ℕ → View J → View J
+  with_job k v = record v { next = k + 1; drawn = v.drawn ++ k ∷ []; held = Some k }
 
   -- a pass handed in what it held
-  abbrev pub freed : View J → View J
-  freed v = record v { held = None }
+  abbrev pub without_job : View J → View J
+  without_job v = record v { held = None }
 
   -- a seat took in the view w
-  abbrev pub united : View J → View J → View J
-  united v w = record v { weight = v.weight + w.weight; drawn = v.drawn ++ w.drawn }
+  abbrev pub view_union : View J → View J → View J
+  view_union v w = record v { weight = v.weight + w.weight; drawn = v.drawn ++ w.drawn }
 
   -- what is left of a view that another seat took in
-  abbrev pub spent : View J
-  spent = whole_view [] 0
+  abbrev pub empty_view : View J
+  empty_view = whole_view [] 0
 
 -- The steps of a pass, between its seat before and its seat after
 
@@ -134,7 +134,7 @@ module _ {J D : Type 0} where
   -- the pass draws the number k: the slot is out with it, with job k in it
   abbrev pub DrawsJob : ℕ → Standing J D → Standing J D → Type 0
   DrawsJob k before after = (j : J) × (get_elem? before.0.jobs k ≡ some j)
-      × (after ≡ (taken k before.0, (k, Job j) ∷ []))
+      × (after ≡ (with_job k before.0, (k, Job j) ∷ []))
 
   -- A step with the operand 1 on the pass's next word. Where it finds 0, the pass draws that
   -- number, and else it has only tried the word. A step doesn't say which kind it is: that it is a
@@ -153,4 +153,4 @@ module _ {J D : Type 0} where
     pub word : before.0.held ≡ Some step.word
     pub operand : (step.first ≡ 2) × (stored ≡ 2)
     pub result : (d : D) × (before.1 ≡ (step.word, Done d) ∷ [])
-    pub given_back : after ≡ (freed before.0, [])
+    pub given_back : after ≡ (without_job before.0, [])

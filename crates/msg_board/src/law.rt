@@ -82,9 +82,9 @@ impl<J> Split<View<J>> for Divide {
 pub struct Unite;
 
 impl<J> Join<View<J>> for Unite {
-    ghost use Rattle.msg_board.specs.Law.{united, spent};
+    ghost use Rattle.msg_board.specs.Law.{view_union, empty_view};
 
-    ghost both = { united };
+    ghost both = { view_union };
 
-    ghost spent = { spent };
+    ghost spent = { empty_view };
 }

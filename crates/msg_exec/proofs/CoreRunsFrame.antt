@@ -7,8 +7,8 @@ use Rattle.msg_system.specs.declared.reply.Reply.{Reply}
 use Rattle.msg_system.specs.Prelude.{Meaning}
 use Rattle.msg_exec.specs.Prelude.{AreJoins, Core, CoreStands, Lender, LenderStands, Schedule}
 use Rattle.msg_frames.specs.{declared.frame.Frame.Frame, declared.log.Log.Log}
-use Rattle.msg_exec.specs.{inner.FrameSteps.HasLeft, inner.FrameSteps.HasOpened, inner.FrameSteps.NobodyJoins, inner.FrameSteps.counted, inner.SystemsOut.HaveReadNothing, inner.FrameSteps.PlansNext}
-use Rattle.msg_frames.specs.Prelude.{IsLawfulFor, IsOrderOf, SystemsHaveOneOrder, FrameStaysSound, IsFrame, IsSoundState, SameSystems, State, after_turns_of, before_turns, frame_in, has_begun, join_flags, joining}
+use Rattle.msg_exec.specs.{inner.FrameSteps.HasLeft, inner.FrameSteps.HasOpened, inner.FrameSteps.NobodyJoins, inner.FrameSteps.one_frame_more, inner.SystemsOut.HaveReadNothing, inner.FrameSteps.PlansNext}
+use Rattle.msg_frames.specs.Prelude.{IsLawfulFor, IsOrderOf, SystemsHaveOneOrder, FrameStaysSound, IsFrame, IsSoundState, SameSystems, State, after_turns_of, before_turns, frame_in, has_begun, join_flags, after_joining}
 use Rattle.msg_frames.proofs.{SystemsStay.accesses_stay, SystemsStay.before_keeps, SystemsStay.joined_stay, SystemsStay.joining_keeps, SystemsStay.joining_makes_no_frame, SystemsStay.no_cycle_stays, SystemsStay.turns_keep_systems, SystemsStay.turns_make_no_frame, FramesInOrder.frame_in_order}
 
 -- ---- the schedule
@@ -35,12 +35,13 @@ joined_by_frame js s frame are is =
     (length-map js (λ j. nat_le j frame) ∙ are.as_many) (λ k lt. grind (arith, are.each k lt, get_or-map))
 
 -- where none joins with the next frame, the same have joined by it
-pub nobody_more : (s : State) → NobodyJoins s → join_flags (counted (joining s)) ≡ join_flags s
+pub nobody_more : (s : State) → NobodyJoins s → join_flags (one_frame_more (after_joining s)) ≡ join_flags s
 nobody_more s none =
-    joined_stay (counted s) (counted (joining s)) (grind (arith, joining_keeps)) (ap suc (joining_makes_no_frame s))
-    ∙ fill_by_all (has_begun s) (join_flags (counted s)) s.systems false
-    (length-map-range_with_len (has_begun (counted s)) 0 s.systems) (λ k lt.
-    get_or-map-range_with_len (has_begun (counted s)) 0 s.systems k k false lt (omega arith)
+    joined_stay (one_frame_more s) (one_frame_more (after_joining s)) (grind (arith, joining_keeps))
+        (ap suc (joining_makes_no_frame s))
+    ∙ fill_by_all (has_begun s) (join_flags (one_frame_more s)) s.systems false
+    (length-map-range_with_len (has_begun (one_frame_more s)) 0 s.systems) (λ k lt.
+    get_or-map-range_with_len (has_begun (one_frame_more s)) 0 s.systems k k false lt (omega arith)
     ∙ grind (arith, nat_tests, none k lt))
 
 -- ---- the frame begins
@@ -95,7 +96,7 @@ module _ {S : Type 0} (meaning : S → Meaning) where
   -- what the plan of those that will have joined accepts is what is lawful
   pub accepted : {accepts : Bool} {c : Core S} {s : State} {plan : PlanView} (frame : Frame) (order : List ℕ)
       → SystemsHaveOneOrder → CoreStands meaning c s → (is : PlansNext c s plan)
-      → (IsTrue accepts ↔ IsLawfulOrder is.order (join_flags (counted (joining s))) order)
+      → (IsTrue accepts ↔ IsLawfulOrder is.order (join_flags (one_frame_more (after_joining s))) order)
       → IsTrue accepts ↔ IsLawfulFor frame s order
   accepted {c = c} {s} frame order one stands is tells =
       let b : State = before_turns frame.posts s in

@@ -6,12 +6,12 @@ use Rattle.msg_system.specs.{declared.op.Op.Op, declared.reply.Reply.Reply}
 use Rattle.msg_system.specs.Prelude.{Meaning}
 use Rattle.msg_frames.specs.declared.totals.Totals.{Totals}
 use Rattle.msg_frames.specs.Prelude.{entries_for}
-use Rattle.msg_exec.specs.Prelude.{Done, kept}
+use Rattle.msg_exec.specs.Prelude.{Done, capped_totals}
 use Rattle.msg_exec.specs.{inner.SystemsOut.HaveEntered, inner.Totals.entry_at}
 
 -- the same totals are kept alike
-pub kept_alike : {x y t : Totals} → x ≡ y → t ≡ kept y → t ≡ kept x
-kept_alike same is = is ∙ ap kept (sym same)
+pub kept_alike : {x y t : Totals} → x ≡ y → t ≡ capped_totals y → t ≡ capped_totals x
+kept_alike same is = is ∙ ap capped_totals (sym same)
 
 -- the entries from op k on are that of op k and those after it
 pub entries_from : (t : ℕ) (ops : List Op) (replies : List Reply) (k : ℕ) (reply : Reply) → slice_get replies k

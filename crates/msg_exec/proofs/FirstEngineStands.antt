@@ -11,7 +11,7 @@ use Rattle.msg_system.proofs.Accesses.{uses_needs}
 use Rattle.msg_frames.specs.declared.place.Place.{Place}
 use Rattle.msg_exec.specs.Prelude.{AreJoins, Core, EachIs, Lender, LenderStands, MayBeAdded, Schedule}
 use Rattle.msg_exec.specs.{inner.EngineParts.AreNoTotals, inner.EngineParts.IsAccessAt, inner.EngineParts.IsGuardedAt, inner.SystemsOut.HaveReadNothing}
-use Rattle.msg_frames.specs.Prelude.{AreNew, HasClash, nobody, nowhere, unjoined, State}
+use Rattle.msg_frames.specs.Prelude.{AreNew, HasClash, nobody, nowhere, before_joining, State}
 use Rattle.msg_exec.proofs.ItemsOfLists.{item_at}
 use Rattle.msg_system.specs.declared.condition.Condition.{Condition}
 
@@ -47,7 +47,7 @@ module _ {S : Type 0} (meaning : S → Meaning) where
 
     -- the state before any has joined
     abbrev first : List Rule → WorldState → State
-    first rules w = unjoined (map meaning systems) places rules (length world.types) w
+    first rules w = before_joining (map meaning systems) places rules (length world.types) w
 
     module _ (g : Lender S) (rules : List Rule) (same : g.world ≡ world)
         (na : length g.systems.items ≡ length systems) (nc : length g.accesses.items ≡ length systems)

@@ -5,7 +5,7 @@ use Rattle.std.proofs.lemmas.{Bool.false≢true, List.length-map, List.with_item
 use Rattle.msg_world.specs.declared.lent.Lent.{Lent}
 use Rattle.msg_world.specs.Prelude.{LoanStands, Parts, PartsStand, WorldState}
 use Rattle.msg_system.specs.declared.reply.Reply.{Reply}
-use Rattle.msg_system.specs.Prelude.{Asked, Meaning, Ran, after_asking, after_job, after_turn, all_hold, told, turn}
+use Rattle.msg_system.specs.Prelude.{Asked, Meaning, Ran, after_asking, after_job, after_turn, all_hold, after_replies, turn}
 use Rattle.msg_exec.specs.Prelude.{GuardedSystem, IsAfterJob, job_state}
 use Rattle.msg_frames.specs.declared.log.Outcome.TheVariants as outcome
 
@@ -22,7 +22,8 @@ pub ran_job : {S : Type 0} (meaning : S → Meaning) (before now : GuardedSystem
     → IsAfterJob meaning (after_job (job_state meaning before) w) now taken (outcome.Ran replies)
 ran_job meaning before now l taken w none after replies nothing given holds asked ran stands written =
     let moved : meaning now.system ≡ after_turn (meaning before.system) w = ran.means
-    ∙ (λ k. record (told (ran.answers w stands k) (meaning before.system)) { places = ran.places w stands k }) in
+    ∙ (λ k. record (after_replies (ran.answers w stands k) (meaning before.system)) {
+        places = ran.places w stands k }) in
     grind (arith, moved, ran.answers w stands)
 
 pub skipped_job : {S : Type 0} (meaning : S → Meaning) (before now : GuardedSystem S) (taken : Parts) (w : WorldState)

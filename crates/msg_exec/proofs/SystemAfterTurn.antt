@@ -7,7 +7,7 @@ use Rattle.msg_system.specs.{declared.op.Op.Op, declared.reply.Reply.Reply}
 use Rattle.msg_system.specs.Prelude.{Job as JobState, Meaning, after_at_most, after_job, next_op, turn}
 use Rattle.msg_frames.specs.{declared.log.Outcome.Outcome, declared.totals.Totals.Totals}
 use Rattle.msg_frames.specs.Prelude.{Member, State, member_turn, outcome_entries, outcome_of, with_entries, with_member}
-use Rattle.msg_exec.specs.Prelude.{Lender, LenderStands, MemberStands, TotalsStand, kept, system_at, totals_at}
+use Rattle.msg_exec.specs.Prelude.{Lender, LenderStands, MemberStands, TotalsStand, capped_totals, system_at, totals_at}
 use Rattle.msg_exec.specs.inner.Totals.{HasFewReplies, entries_by}
 
 -- ---- what came of it
@@ -58,7 +58,7 @@ module _ {S : Type 0} (meaning : S → Meaning) where
 pub totals_after : (types : ℕ) (m : Member) (w : WorldState) (old new : List Totals) (ops : List Op) (o : Outcome)
     → ops ≡ (after_job m.job w).job.system.last → o ≡ outcome_of (after_job m.job w).replies
     → TotalsStand types old m.totals → length new ≡ length old
-    → ((t : ℕ) (x : Totals) → t < length old → totals_at old t ≡ kept x → totals_at new t
-    ≡ kept (with_entries (entries_by t ops o) x))
+    → ((t : ℕ) (x : Totals) → t < length old → totals_at old t ≡ capped_totals x → totals_at new t
+    ≡ capped_totals (with_entries (entries_by t ops o) x))
     → TotalsStand types new (member_turn m w).member.totals
 totals_after types m w old new ops o its came stands as_many entered = grind (arith, last_entries)

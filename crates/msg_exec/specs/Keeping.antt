@@ -8,8 +8,8 @@ abbrev pub within_u64 : ℕ → ℕ
 within_u64 n = min n (2 ^ 64 - 1)
 
 -- the totals as they are kept
-abbrev pub kept : Totals → Totals
-kept x =
+abbrev pub capped_totals : Totals → Totals
+capped_totals x =
     record x {
       got = within_u64 x.got;
       missed = within_u64 x.missed;

@@ -3,14 +3,14 @@ use Rattle.std.specs.Prelude.{◌≡◌, ℕ, ◌<◌, List, length, slice_get, 
 use Rattle.msg_world.specs.Prelude.{IsHome, IsWhole, PartsStand}
 use Rattle.msg_order.specs.Prelude.{access_of}
 use Rattle.msg_system.specs.Prelude.{IsAccessOf, Meaning}
-use Rattle.msg_exec.specs.{declared.job.GuardedSystem.GuardedSystem, declared.lender.Lender.Lender, Jobs.job_state, Keeping.kept, Keeping.totals_at}
+use Rattle.msg_exec.specs.{declared.job.GuardedSystem.GuardedSystem, declared.lender.Lender.Lender, Jobs.job_state, Keeping.capped_totals, Keeping.totals_at}
 use Rattle.msg_frames.specs.declared.totals.Totals.{Totals}
 use Rattle.msg_frames.specs.Prelude.{member_needs, Member, State}
 
 -- the totals of a system, by type
 pub record TotalsStand (types : ℕ) (xs : List Totals) (totals : ℕ → Totals) : Type 0 where
   pub as_many : length xs ≡ types
-  pub each : (t : ℕ) → t < types → totals_at xs t ≡ kept (totals t)
+  pub each : (t : ℕ) → t < types → totals_at xs t ≡ capped_totals (totals t)
 
 module _ {S : Type 0} where
   -- system i, where it is home

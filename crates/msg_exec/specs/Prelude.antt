@@ -3,7 +3,7 @@ pub use Rattle.msg_exec.specs.Building.{Added, AllFit, EachIs, FitBelow, FitsWor
 pub use Rattle.msg_exec.specs.Cores.{CoreStands, Schedule, frame_count}
 pub use Rattle.msg_exec.specs.Engines.{HasReplayed, HasRunFrame, HasRunFrames, IsEngine, IsSpoiled, PostsFit, EngineStands, frame_number}
 pub use Rattle.msg_exec.specs.Jobs.{HasTakenTurn, IsAfterJob, IsDone, IsResult, MayRun, job_state}
-pub use Rattle.msg_exec.specs.Keeping.{kept, totals_at, within_u64}
+pub use Rattle.msg_exec.specs.Keeping.{capped_totals, totals_at, within_u64}
 pub use Rattle.msg_exec.specs.Lender.{AreJoins, LenderStands, MemberStands, TotalsStand, system_at}
 pub use Rattle.msg_exec.specs.Work.{EachMay, EachNewIs, EachPassedGate, PassedGate}
 pub use Rattle.msg_exec.specs.declared.build_error.BuildError.TheVariants.{Misfit, UnknownSystem}

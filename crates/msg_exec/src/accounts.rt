@@ -4,7 +4,7 @@ ghost use Rattle.msg_buffer.specs.Prelude.{History, StandsFor as BufferStandsFor
 ghost use Rattle.msg_world.specs.declared.record.Record.{Record};
 ghost use Rattle.msg_world.specs.Prelude.{OfType, slot};
 ghost use Rattle.msg_frames.specs.Prelude.{State, account_of, accounts_of, accounts_of_system};
-ghost use Rattle.msg_exec.specs.Prelude.{CoreStands, kept};
+ghost use Rattle.msg_exec.specs.Prelude.{CoreStands, capped_totals};
 
 use crate::engine_core::Core;
 use crate::{Account, EngineOf, NoMemory, RunFault, Totals};
@@ -25,7 +25,7 @@ fn count_is_told(world: &World, t: TypeNo)
 /// The account of a reader with these totals.
 fn account<S: System>(core: &Core<S>, system: u32, of_type: TypeNo, totals: &Totals) -> Account
     ensures account { (s : State) → CoreStands S.meaning core.now s → of_type < s.types
-        → totals.now ≡ kept ((s.members system).totals of_type)
+        → totals.now ≡ capped_totals ((s.members system).totals of_type)
         → result ≡ account_of s system of_type }
 {
     count_is_told(&core.lender.world, of_type);

@@ -2,7 +2,7 @@
 ghost use Rattle.std.specs.Prelude.{◌≡◌, ◌∷◌, [], ℕ, ◌<◌, is_some, length, option_to_list};
 ghost use Rattle.msg_frames.specs.declared.totals.Totals.{Totals as TotalsOf};
 ghost use Rattle.msg_frames.specs.Prelude.{entry_of, entry_of_read, with_entries};
-ghost use Rattle.msg_exec.specs.Prelude.{kept, totals_at};
+ghost use Rattle.msg_exec.specs.Prelude.{capped_totals, totals_at};
 ghost use Rattle.msg_exec.specs.inner.Totals.{HasFewReplies, entries_by, entry_at};
 
 use crate::{Outcome, Totals};
@@ -10,8 +10,8 @@ use msg_system::{Reply, System, Took};
 
 /// Adds what an op that read took.
 fn add_read(totals: &mut Totals, took: &Took)
-    ensures added { (x : TotalsOf) → totals.old ≡ kept x
-        → totals.new ≡ kept (with_entries (entry_of_read took.now ∷ []) x) }
+    ensures added { (x : TotalsOf) → totals.old ≡ capped_totals x
+        → totals.new ≡ capped_totals (with_entries (entry_of_read took.now ∷ []) x) }
 {
     totals.got = totals
         .got
@@ -21,8 +21,8 @@ fn add_read(totals: &mut Totals, took: &Took)
 
 /// Adds what a reply tells that its reader went past.
 fn add(totals: &mut Totals, reply: &Reply)
-    ensures added { (x : TotalsOf) → totals.old ≡ kept x
-        → totals.new ≡ kept (with_entries (option_to_list (entry_of reply.now)) x) }
+    ensures added { (x : TotalsOf) → totals.old ≡ capped_totals x
+        → totals.new ≡ capped_totals (with_entries (option_to_list (entry_of reply.now)) x) }
 {
     match reply {
         Reply::Read(took) => add_read(totals, took),
@@ -54,9 +54,9 @@ fn is_of_reader(reply: &Reply) -> bool
 fn enter_reply<S: System>(system: &S, op: u32, reply: &Reply, totals: &mut [Totals])
     ensures as_many { length totals.new ≡ length totals.old }
     ensures entered { (t : ℕ) (x : TotalsOf) → t < length totals.old
-        → totals_at totals.old t ≡ kept x
+        → totals_at totals.old t ≡ capped_totals x
         → totals_at totals.new t
-        ≡ kept (with_entries (entry_at t (S.meaning system.now).last op reply.now) x) }
+        ≡ capped_totals (with_entries (entry_at t (S.meaning system.now).last op reply.now) x) }
 {
     if !is_of_reader(reply) {
         return;
@@ -74,9 +74,9 @@ pub(crate) fn enter<S: System>(system: &S, totals: &mut [Totals], outcome: &Outc
     requires few { HasFewReplies outcome.now }
     ensures as_many { length totals.new ≡ length totals.old }
     ensures entered { (t : ℕ) (x : TotalsOf) → t < length totals.old
-        → totals_at totals.old t ≡ kept x
+        → totals_at totals.old t ≡ capped_totals x
         → totals_at totals.new t
-        ≡ kept (with_entries (entries_by t (S.meaning system.now).last outcome.now) x) }
+        ≡ capped_totals (with_entries (entries_by t (S.meaning system.now).last outcome.now) x) }
 {
     let Outcome::Ran(replies) = outcome else {
         return;

@@ -16,8 +16,8 @@ abbrev pub place : BufferState → ℕ → ℕ
 place s cursor = slice_index s.places cursor
 
 -- with a cursor at another place
-abbrev pub moved : BufferState → ℕ → ℕ → BufferState
-moved s cursor to = record s { places = slice_set s.places cursor to }
+abbrev pub with_cursor_at : BufferState → ℕ → ℕ → BufferState
+with_cursor_at s cursor to = record s { places = slice_set s.places cursor to }
 
 -- with one cursor more
 abbrev pub with_cursor : BufferState → ℕ → BufferState
@@ -88,10 +88,10 @@ abbrev pub after : Call → BufferState → BufferState
 after (Write value) s = record s { history = write (value ∷ []) s.history }
 after (Batch values) s = record s { history = write values s.history }
 after Update s = record s { history = update s.history }
-after (Read c limit) s = moved s c (next_place (read s.history (place s c) limit))
+after (Read c limit) s = with_cursor_at s c (next_place (read s.history (place s c) limit))
 after (Missed c) s = s
 after (Len c) s = s
-after (Clear c) s = moved s c (count s.history)
+after (Clear c) s = with_cursor_at s c (count s.history)
 after Cursor s = with_cursor s 0
 after CursorCurrent s = with_cursor s (count s.history)
 after (Get n) s = s

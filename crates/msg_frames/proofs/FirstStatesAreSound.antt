@@ -4,13 +4,13 @@ use Rattle.std.proofs.lemmas.{List.get_or_past, Bool.Decides.nat_tests, Bool.Dec
 use Rattle.msg_order.specs.declared.rule.Rule.{Rule}
 use Rattle.msg_world.specs.Prelude.{WorldState}
 use Rattle.msg_system.specs.Prelude.{Meaning}
-use Rattle.msg_frames.specs.Prelude.{AreNew, IsSoundState, Place, State, counts, first_state, reader_place, unjoined}
+use Rattle.msg_frames.specs.Prelude.{AreNew, IsSoundState, Place, State, counts, first_state, reader_place, before_joining}
 use Rattle.msg_frames.proofs.{BeforeTurns.begun_within, StatesStaySound.balanced_start}
 
 module _ (systems : List Meaning) (places : List Place) (rules : List Rule) (types : ℕ) (world : WorldState)
     (new : AreNew systems places types world) where
   abbrev all_wait : State
-  all_wait = unjoined systems places rules types world
+  all_wait = before_joining systems places rules types world
 
   at_zero : (i t : ℕ) → reader_place all_wait i t ≡ 0
   at_zero i t = grind (arith, get_or_past, nat_tests)

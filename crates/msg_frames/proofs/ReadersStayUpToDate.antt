@@ -5,7 +5,7 @@ use Rattle.msg_buffer.specs.Prelude.{Entry, Fits, GoesOn, History, IsPresent, St
 use Rattle.msg_world.specs.declared.record.Record.{Record}
 use Rattle.msg_world.specs.Prelude.{after_update}
 use Rattle.msg_frames.proofs.{ElementsAndPairs.Cut, ElementsAndPairs.cut, HistoriesGrow.BufferLaws, HistoriesGrow.counts_more, HistoriesGrow.Grows, HistoriesGrow.frame_goes_on, HistoriesGrow.grown, HistoriesGrow.posts_change, HistoriesGrow.runs_go_on, HistoriesGrow.turns_change, SystemsStay.joining_world, SystemsStay.turns_keep, SystemsStay.frame_keeps, ReaderOverJob.IsWritten, ReaderOverJob.tile_of, ReaderOverTurns.turns_read, BeforeTurns.Prepares, BeforeTurns.prepares, StatesStaySound.begun_alike, StatesStaySound.frame_sound, StatesStaySound.has_no_turn, StatesStaySound.prepared_sound, ReaderOverRun.run_tells, StampsStayRecent.AreRecent, StampsStayRecent.StaysRecent, StampsStayRecent.earlier_recent, StampsStayRecent.stays_recent, ReadersTakeAll.takes_by_turn}
-use Rattle.msg_frames.specs.Prelude.{Frame, IsFrame, IsRun, IsSoundState, IsUpToDate, Log, Moment, NothingDrained, ReadsAll, ReadsAllInEach, State, WhoIsUpToDateMissesNothing, WhoReadsEachFrameMissesNothing, after_turns_of, before_turns, has_begun, joining, moments, reader_place, turn_order_in, turns_moments}
+use Rattle.msg_frames.specs.Prelude.{Frame, IsFrame, IsRun, IsSoundState, IsUpToDate, Log, Moment, NothingDrained, ReadsAll, ReadsAllInEach, State, WhoIsUpToDateMissesNothing, WhoReadsEachFrameMissesNothing, after_turns_of, before_turns, has_begun, after_joining, moments, reader_place, turn_order_in, turns_moments}
 
 -- a message that was written at most one update ago, and stands at the floor or above
 pub is_there : (p : ℕ) (h : History Record) (n : ℕ) → AreRecent 1 p h → p ≤ n → h.floor ≤ n → n < count h
@@ -67,7 +67,7 @@ module _ (laws : BufferLaws) where
     frame_recent : (k p : ℕ) → AreRecent k p ((after_update s.world).histories t) → AreRecent k p (u.world.histories t)
     frame_recent k p recent =
         rw (is.leaves) (turns_change (StaysRecent k p) (stays_recent k p) (turn_order_in log) b t
-        (posts_change (StaysRecent k p) (stays_recent k p) frame.posts (after_update (joining s).world) t
+        (posts_change (StaysRecent k p) (stays_recent k p) frame.posts (after_update (after_joining s).world) t
         (rw (joining_world s) recent)))
 
     pub now_up_to_date : ReadsAll i t log u → NothingDrained t s u → IsUpToDate u i t

@@ -4,7 +4,7 @@ use Rattle.std.specs.List.{range_with_len}
 use Rattle.std.proofs.lemmas.{Bool.cases_Bool, Bool.cases_lt, Bool.false≢true, List.get_or_past, List.FromFn.length-map-range_with_len, Bool.Decides.eqb_tells, Simd.map-map}
 use Rattle.msg_world.specs.declared.access.Access.{Access}
 use Rattle.msg_order.specs.Prelude.{has_joined}
-use Rattle.msg_frames.specs.Prelude.{AreAccessesOf, Frame, FramesKeepSystems, NoCycle, SameSystems, SameSystemsHaveSameAccesses, State, TurnsKeepSystems, after_turn_of, after_turns_of, before_turns, frame_in, join_flags, joining, with_joining}
+use Rattle.msg_frames.specs.Prelude.{AreAccessesOf, Frame, FramesKeepSystems, NoCycle, SameSystems, SameSystemsHaveSameAccesses, State, TurnsKeepSystems, after_turn_of, after_turns_of, before_turns, frame_in, join_flags, after_joining, with_joining}
 
 same_systems : (s : State) → SameSystems s s
 same_systems s = grind arith
@@ -26,13 +26,13 @@ turns_keep order s = (turns_keep_systems order s, turns_make_no_frame order s)
 pub joining_on_keeps : (k : ℕ) (s : State) → SameSystems s (with_joining k s)
 joining_on_keeps k s = grind (arith, cases_Bool, map-map)
 
-pub joining_keeps : (s : State) → SameSystems s (joining s)
+pub joining_keeps : (s : State) → SameSystems s (after_joining s)
 joining_keeps s = grind (arith, cases_Bool, map-map)
 
-pub joining_makes_no_frame : (s : State) → (joining s).frames ≡ s.frames
+pub joining_makes_no_frame : (s : State) → (after_joining s).frames ≡ s.frames
 joining_makes_no_frame s = grind (arith, cases_Bool)
 
-pub joining_world : (s : State) → (joining s).world ≡ s.world
+pub joining_world : (s : State) → (after_joining s).world ≡ s.world
 joining_world s = grind (arith, cases_Bool)
 
 pub before_keeps : (posts : List (ℕ × ℤ)) (s : State) → SameSystems s (before_turns posts s)

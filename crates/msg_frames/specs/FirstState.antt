@@ -23,15 +23,15 @@ abbrev pub new_job : Meaning → Place → Job
 new_job system place = record { system = system; conditions = map new_asked place.conditions }
 
 -- a system that hasn't joined
-abbrev pub waiting : Meaning → Place → Member
-waiting system place =
+abbrev pub waiting_member : Meaning → Place → Member
+waiting_member system place =
     record { job = new_job system place; join = place.join; totals = λ t. no_totals }
 
 -- No frame was run, and nobody has joined.
-abbrev pub unjoined : List Meaning → List Place → List Rule → ℕ → WorldState → State
-unjoined systems places rules types world = record {
+abbrev pub before_joining : List Meaning → List Place → List Rule → ℕ → WorldState → State
+before_joining systems places rules types world = record {
   systems = length systems;
-  members = λ i. waiting (slice_index_or systems i nobody) (slice_index_or places i nowhere);
+  members = λ i. waiting_member (slice_index_or systems i nobody) (slice_index_or places i nowhere);
   rules = rules;
   types = types;
   world = world;
@@ -41,7 +41,7 @@ unjoined systems places rules types world = record {
 -- No frame was run, and those of join 1 have joined.
 abbrev pub first_state : List Meaning → List Place → List Rule → ℕ → WorldState → State
 first_state systems places rules types world =
-    with_joining 1 (unjoined systems places rules types world)
+    with_joining 1 (before_joining systems places rules types world)
 
 -- ---- what makes none
 

@@ -6,7 +6,7 @@ use Rattle.msg_world.specs.{declared.access.Access.Access, declared.record.TheCo
 use Rattle.msg_world.specs.Prelude.{WorldState, after_update, by, with_history}
 use Rattle.msg_order.specs.Prelude.{Graph, IsSettledOrder, IsTurnOrder, access_of}
 use Rattle.msg_system.specs.declared.reply.Reply.{Reply}
-use Rattle.msg_system.specs.Prelude.{AfterJob, IsAccessOf, Job, Needs, after_job, asked_started, conditions_of, numbers_for, started, with_conditions, write_reply}
+use Rattle.msg_system.specs.Prelude.{AfterJob, IsAccessOf, Job, Needs, after_job, asked_started, conditions_of, numbers_for, after_start, with_conditions, write_reply}
 use Rattle.msg_frames.specs.{declared.frame.Frame.Frame, declared.log.Log.Log, declared.log.Turn.Turn, declared.log.Outcome.Outcome, declared.log.Outcome.TheVariants.Skipped, declared.log.Outcome.TheVariants.Ran, Entries.outcome_entries, Entries.totals_from, Entries.with_entries, declared.totals.Totals.Totals}
 use Rattle.msg_order.specs.declared.rule.Rule.{Rule}
 
@@ -47,7 +47,7 @@ counts s = map (λ t. count (s.world.histories t)) (range_with_len 0 s.types)
 -- a job whose cursors stand where they start
 abbrev pub job_begun : List ℕ → Job → Job
 job_begun counts j = record {
-  system = started counts j.system;
+  system = after_start counts j.system;
   conditions = map (asked_started j.system.start counts) j.conditions;
 }
 
@@ -56,7 +56,7 @@ job_begun counts j = record {
 abbrev pub joined_member : List ℕ → Member → Member
 joined_member counts m = record m {
   job = job_begun counts m.job;
-  totals = λ t. totals_from ((started counts m.job.system).places t);
+  totals = λ t. totals_from ((after_start counts m.job.system).places t);
 }
 
 -- those that join with frame k have joined
@@ -69,8 +69,8 @@ with_joining k s =
 
 -- Those that join with the next frame do so. With the first frame none does, since they joined
 -- before.
-abbrev pub joining : State → State
-joining s = if s.frames == 0 then s else with_joining (suc s.frames) s
+abbrev pub after_joining : State → State
+after_joining s = if s.frames == 0 then s else with_joining (suc s.frames) s
 
 -- ---- what the host posts
 
@@ -147,7 +147,7 @@ after_turns_of (i ∷ is) s =
 -- posts are written.
 abbrev pub before_turns : List (ℕ × ℤ) → State → State
 before_turns posts s =
-    let ready : State = joining s in
+    let ready : State = after_joining s in
     record ready { world = after_posts posts (after_update ready.world); frames = suc ready.frames }
 
 -- What a frame leaves, and its log.

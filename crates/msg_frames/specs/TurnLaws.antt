@@ -7,7 +7,7 @@ use Rattle.msg_world.specs.declared.access.Access.{Access}
 use Rattle.msg_world.specs.Prelude.{Conflict, merge}
 use Rattle.msg_order.specs.Prelude.{Graph, IsAcyclic, IsLawfulOrder, IsSettledOrder, NoneConflict, access_of, rules_among}
 use Rattle.msg_system.specs.Prelude.{conditions_of}
-use Rattle.msg_frames.specs.{declared.frame.Frame.Frame, declared.log.Log.Log, Frames.AfterTurns, Frames.AreAccessesOf, Frames.IsFrame, Frames.IsOrderOf, Frames.IsRun, Frames.after_turn_of, Frames.after_turns_of, Frames.before_turns, Frames.frame_in, Frames.joining, Frames.logged_turn, Frames.turn_of, Frames.with_joining, Frames.with_member, Frames.Member, Frames.State, Frames.join_flags}
+use Rattle.msg_frames.specs.{declared.frame.Frame.Frame, declared.log.Log.Log, Frames.AfterTurns, Frames.AreAccessesOf, Frames.IsFrame, Frames.IsOrderOf, Frames.IsRun, Frames.after_turn_of, Frames.after_turns_of, Frames.before_turns, Frames.frame_in, Frames.after_joining, Frames.logged_turn, Frames.turn_of, Frames.with_joining, Frames.with_member, Frames.Member, Frames.State, Frames.join_flags}
 
 -- ---- what stays
 
@@ -37,7 +37,7 @@ TurnsKeepSystems = (order : List ℕ) (s : State)
 -- as one frame.
 pub record FrameKeeps (order : List ℕ) (frame : Frame) (s : State) : Type 0 where
   pub with_joiners : (k : ℕ) → SameSystems s (with_joining k s)
-  pub as_it_begins : SameSystems s (joining s)
+  pub as_it_begins : SameSystems s (after_joining s)
   pub before : SameSystems s (before_turns frame.posts s)
   pub after : SameSystems s (frame_in order frame s).state
   pub counted_before : (before_turns frame.posts s).frames ≡ suc s.frames

@@ -3,7 +3,7 @@ use Rattle.std.proofs.Common.{◌≡◌, ℕ, zero, suc, Bool, false, List, [], 
 use Rattle.std.proofs.Math.{Bool.or-false, Path.fun_ext}
 use Rattle.std.proofs.lemmas.Bool.{cases_Bool, false≢true, or_left, or_right}
 use Rattle.msg_world.specs.Prelude.{OfResource, OfType, Part, Registry, WorldState, content}
-use Rattle.msg_system.specs.Prelude.{AfterProgram, Agree, Asked, ConditionFootprint, HasFootprint, IsWithin, Job, JobFootprint, Meaning, OnMessage, Op, OpFootprint, Probe, Program, ProgramFootprint, Reply, ResourceEquals, TurnFootprint, Zero, after_asking, after_at_most, after_op, all_hold, conditions_of, found, given_by_program, is_part, needs_any, next_op, of_program, one_more, op_needs, op_parts, place_after, probe_part, some_condition_reads, turn, with_conditions}
+use Rattle.msg_system.specs.Prelude.{AfterProgram, Agree, Asked, ConditionFootprint, HasFootprint, IsWithin, Job, JobFootprint, Meaning, OnMessage, Op, OpFootprint, Probe, Program, ProgramFootprint, Reply, ResourceEquals, TurnFootprint, Zero, after_asking, after_at_most, after_op, all_hold, conditions_of, probe_answer, given_by_program, is_part, needs_any, next_op, of_program, one_more, op_needs, op_parts, place_after, probe_part, some_condition_reads, turn, with_conditions}
 use Rattle.msg_system.proofs.{Runs.same_part_refl, Turns.IsKept, Turns.next_kept_to, Turns.program_so_far}
 
 -- ---- what is kept
@@ -100,7 +100,7 @@ program_footprint ops w ps =
 -- ---- conditions
 
 probe_alike : (q : Probe) (place : ℕ) (s t : WorldState) → content (probe_part q) s ≡ content (probe_part q) t
-    → (found q place s ≡ found q place t) × (place_after q place s ≡ place_after q place t)
+    → (probe_answer q place s ≡ probe_answer q place t) × (place_after q place s ≡ place_after q place t)
 probe_alike (OnMessage k) place s t e = (rw e refl, rw e refl)
 probe_alike (ResourceEquals r v) place s t e = (rw e refl, refl)
 

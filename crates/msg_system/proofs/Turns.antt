@@ -4,7 +4,7 @@ use Rattle.std.proofs.Math.Path.{fun_ext}
 use Rattle.std.proofs.lemmas.{Bool.and_from, Bool.and_parts, Bool.eqb-true, Bool.false≢true, List.append-nil, List.append_cancel_left, List.length-take-le, List.take_more, List.take_all, List.Folds.list_any_at, Option.get_or_from_slice_get, Option.none-some, Option.same_Some, Option.slice_get_cases, Option.slice_get_past, Option.slice_get_within}
 use Rattle.msg_world.specs.Prelude.{Part, Parts, SameLoan, WorldState, taken_of}
 use Rattle.msg_world.specs.declared.lent.Lent.{Lent}
-use Rattle.msg_system.specs.Prelude.{IsInOrder, Meaning, Needs, OneOpIsATurn, Op, Program, Ran, Reply, after_at_most, after_op, after_program, if_kept, is_none_or, is_part, keeps_to, may_read, next_op, of_program, only, op_needs, op_parts, ops_answered, program_needs, told, turn}
+use Rattle.msg_system.specs.Prelude.{IsInOrder, Meaning, Needs, OneOpIsATurn, Op, Program, Ran, Reply, after_at_most, after_op, after_program, if_kept, is_none_or, is_part, keeps_to, may_read, next_op, of_program, only, op_needs, op_parts, ops_answered, program_needs, after_replies, turn}
 use Rattle.msg_system.specs.inner.TurnRuns.{AreAnswered, HasReplies, ProgramRan, TurnRan}
 use Rattle.msg_system.proofs.Runs.{after_program-snoc, same_part_refl}
 
@@ -99,7 +99,8 @@ next_kept_to n (Some x) op is = grind (arith, none-some, same_Some, kept n x)
 -- a turn that was answered so, where the system then means what it was told
 pub ran_turn : (old new : Meaning) (l m : Lent) (taken : Parts) (before after : List Reply)
     → TurnRan (next_op old) old.writer old.places new.places l m before after → SameLoan l m → taken ≡ taken_of m
-    → (are : AreAnswered (next_op old) new.last before after) → new ≡ record (told are.0 old) { places = new.places }
+    → (are : AreAnswered (next_op old) new.last before after)
+    → new ≡ record (after_replies are.0 old) { places = new.places }
     → Ran old new l taken before after
 unfolding turn
 ran_turn old new l m taken before after ran same is are means =

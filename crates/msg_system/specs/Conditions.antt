@@ -14,9 +14,9 @@ abbrev pub new_asked : Condition → Asked
 new_asked c = record { condition = c; place = 0 }
 
 -- a probe of a type looks whether something is unread from its place
-abbrev pub found : Probe → ℕ → WorldState → Bool
-found (OnMessage t) place s = nat_lt 0 (length (unread (s.histories t) place))
-found (ResourceEquals r v) place s = int_eq (s.resources r) v
+abbrev pub probe_answer : Probe → ℕ → WorldState → Bool
+probe_answer (OnMessage t) place s = nat_lt 0 (length (unread (s.histories t) place))
+probe_answer (ResourceEquals r v) place s = int_eq (s.resources r) v
 
 -- and goes past all of it
 abbrev pub place_after : Probe → ℕ → WorldState → ℕ
@@ -28,7 +28,7 @@ inverted zero b = b
 inverted (suc n) b = not (inverted n b)
 
 abbrev pub answer : Asked → WorldState → Bool
-answer a s = inverted a.condition.nots (found a.condition.probe a.place s)
+answer a s = inverted a.condition.nots (probe_answer a.condition.probe a.place s)
 
 abbrev pub after_asking : WorldState → Asked → Asked
 after_asking s a = record a { place = place_after a.condition.probe a.place s }

@@ -1,12 +1,12 @@
 -- Hands on the definitions cited elsewhere. The declared types serve this crate's proofs alone.
 pub use Rattle.msg_system.specs.Behaviors.{behaves, brought}
-pub use Rattle.msg_system.specs.Conditions.{AfterJob, Asked, Job, after_asking, after_job, all_hold, answer, asked_started, conditions_of, found, inverted, new_asked, place_after}
+pub use Rattle.msg_system.specs.Conditions.{AfterJob, Asked, Job, after_asking, after_job, all_hold, answer, asked_started, conditions_of, probe_answer, inverted, new_asked, place_after}
 pub use Rattle.msg_system.specs.Footprints.{Agree, ConditionFootprint, HasFootprint, IsWithin, JobFootprint, OpFootprint, ProgramFootprint, TurnFootprint, given_by_job, given_by_op, given_by_program}
 pub use Rattle.msg_system.specs.Needs.{HasClash, IsAccessOf, Needs, condition_needs, is_none_or, is_part, is_resource, job_needs, keeps_to, may_read, needs_any, needs_of, op_needs, op_parts, probe_part, program_needs, some_condition_reads, some_op_reads, some_op_writes, type_read, type_read_by, with_conditions}
 pub use Rattle.msg_system.specs.OpRuns.{IsAfterOp, MayBeRefused, OpRan, cursor_places}
 pub use Rattle.msg_system.specs.Programs.{AfterOp, AfterProgram, after_op, after_program, again_by, numbers_for, place_after_read, plus, sets_to, sum_onto, took, with_place, write_reply, writes_all}
 pub use Rattle.msg_system.specs.Promises.{CompleteCovers, Covers, JobsCover, OneOpIsATurn, OneOpIsCovered, Ran, WrittenIsAll, WrittenStand}
-pub use Rattle.msg_system.specs.Systems.{IsInOrder, Meaning, Rule, after_at_most, after_turn, if_kept, new_system, next_op, of_program, one_more, only, ops_answered, start_place, started, started_places, told}
+pub use Rattle.msg_system.specs.Systems.{IsInOrder, Meaning, Rule, after_at_most, after_turn, if_kept, new_system, next_op, of_program, one_more, only, ops_answered, start_place, after_start, started_places, after_replies}
 unfoldable pub use Rattle.msg_system.specs.Systems.{turn}
 pub use Rattle.msg_system.specs.declared.condition.Condition.{Condition}
 pub use Rattle.msg_system.specs.declared.condition.Probe.{Probe}

@@ -2,7 +2,7 @@
 use Rattle.std.specs.Prelude.{All, ◌≡◌, ℕ, ◌++◌, false, None, IfSome, IsSome, IsTrue, List, [], ◌∷◌, length}
 use Rattle.msg_world.specs.declared.lent.Lent.{Lent}
 use Rattle.msg_world.specs.Prelude.{IsComplete, LoanStands, Part, Parts, PartsStand, SameLoan, StuffStands, WorldState, access_of_loan, content, shown, slot, taken_of, uses, writable, writes}
-use Rattle.msg_system.specs.{declared.condition.Condition.Condition, declared.op.Op.Op, declared.reply.Reply.Reply, declared.start.Start.Start, Needs.IsAccessOf, Needs.Needs, Needs.condition_needs, Needs.op_needs, Needs.program_needs, Needs.with_conditions, OpRuns.OpRan, Systems.Meaning, Systems.of_program, Systems.only, Systems.told, Systems.turn}
+use Rattle.msg_system.specs.{declared.condition.Condition.Condition, declared.op.Op.Op, declared.reply.Reply.Reply, declared.start.Start.Start, Needs.IsAccessOf, Needs.Needs, Needs.condition_needs, Needs.op_needs, Needs.program_needs, Needs.with_conditions, OpRuns.OpRan, Systems.Meaning, Systems.of_program, Systems.only, Systems.after_replies, Systems.turn}
 
 -- A loan covers what is needed: it shows what is read, and lets be written what is written. It may
 -- lend more.
@@ -23,7 +23,7 @@ pub record Ran (old new : Meaning) (lent : Lent) (taken : Parts)
   pub appended : after ≡ before ++ replies
   pub one_each : length new.last ≡ length replies
   -- nothing changes but by what it was told
-  pub means : new ≡ record (told replies old) { places = new.places }
+  pub means : new ≡ record (after_replies replies old) { places = new.places }
   pub state : (s : WorldState) → LoanStands lent s → WrittenStand lent taken (turn old s).state
   pub answers : (s : WorldState) → LoanStands lent s → replies ≡ (turn old s).replies
   pub places : (s : WorldState) → LoanStands lent s → new.places ≡ (turn old s).places

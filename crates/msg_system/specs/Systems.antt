@@ -54,8 +54,8 @@ ops_answered next (r ∷ rs) = option_to_list (next [])
     ++ ops_answered (λ replies. next (r ∷ replies)) rs
 
 -- what it does from a turn on that was answered so
-abbrev pub told : List Reply → Meaning → Meaning
-told replies m =
+abbrev pub after_replies : List Reply → Meaning → Meaning
+after_replies replies m =
     record m {
       rule = λ turns now. m.rule (replies ∷ turns) now;
       last = ops_answered (next_op m) replies;
@@ -63,7 +63,7 @@ told replies m =
 
 -- what it means after its turn
 abbrev pub after_turn : Meaning → WorldState → Meaning
-after_turn m s = record (told (turn m s).replies m) { places = (turn m s).places }
+after_turn m s = record (after_replies (turn m s).replies m) { places = (turn m s).places }
 
 -- ---- where it starts
 
@@ -77,8 +77,8 @@ abbrev pub started_places : Needs → Start → List ℕ → (ℕ → ℕ) → �
 started_places n start counts places t = if n.reads (OfType t) then start_place start counts t
     else places t
 
-abbrev pub started : List ℕ → Meaning → Meaning
-started counts m = record m { places = started_places m.needs m.start counts m.places }
+abbrev pub after_start : List ℕ → Meaning → Meaning
+after_start counts m = record m { places = started_places m.needs m.start counts m.places }
 
 -- ---- programs
 

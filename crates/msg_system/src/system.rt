@@ -20,7 +20,7 @@ use std::alloc::Global;
 pub trait System: Send + Drop {
     ghost use Rattle.std.specs.Prelude.{◌≡◌, IfOk};
     ghost use Rattle.msg_world.specs.Prelude.{SameShape, taken_of};
-    ghost use Rattle.msg_system.specs.{Needs.IsAccessOf, Needs.type_read_by, Promises.Covers, Promises.Ran, Systems.Meaning, Systems.started};
+    ghost use Rattle.msg_system.specs.{Needs.IsAccessOf, Needs.type_read_by, Promises.Covers, Promises.Ran, Systems.Meaning, Systems.after_start};
 
     // What it does from now on. Nothing but a start and its runs ever changes it.
     ghost meaning: { Self → Meaning };
@@ -40,7 +40,7 @@ pub trait System: Send + Drop {
 
     /// Sets its cursors to where they start, by the counts of this moment.
     fn start(&mut self, counts: &Counts)
-        ensures started { meaning self.new ≡ started counts.now (meaning self.old) };
+        ensures started { meaning self.new ≡ after_start counts.now (meaning self.old) };
 
     /// Takes its turn on a loan that covers its access, and gives back what the loan owned. The
     /// replies are appended, one for each op. After `NoMemory` nothing is known of the system or of

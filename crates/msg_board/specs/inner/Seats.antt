@@ -6,9 +6,9 @@ use Rattle.msg_board.specs.{declared.law.Slot.Slot, declared.law.Slot.TheVariant
 
 module _ {J D : Type 0} where
   -- the slots that are out with a pass which holds this number: one, from which it took the job
-  abbrev pub carried : Option ℕ → List (ℕ × Slot J D)
-  carried None = []
-  carried (Some k) = (k, Empty) ∷ []
+  abbrev pub slots_out : Option ℕ → List (ℕ × Slot J D)
+  slots_out None = []
+  slots_out (Some k) = (k, Empty) ∷ []
 
   -- the seat is that of a pass in this state, and its view counts as one pass
   pub record IsSeatOf (p : PassState J) (seat : Seat (Slot J D) (View J)) : Type 0 where
@@ -18,4 +18,4 @@ module _ {J D : Type 0} where
     pub next : seat.me.0.next ≡ p.tried
     pub drawn : seat.me.0.drawn ≡ p.drawn
     pub held : seat.me.0.held ≡ p.holding
-    pub out : seat.me.1 ≡ carried p.holding
+    pub out : seat.me.1 ≡ slots_out p.holding

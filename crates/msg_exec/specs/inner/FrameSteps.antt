@@ -6,11 +6,11 @@ use Rattle.msg_system.specs.Prelude.{Meaning}
 use Rattle.msg_world.specs.Prelude.{after_update}
 use Rattle.msg_exec.specs.{declared.engine_core.Core.Core, Lender.LenderStands, Cores.CoreStands, Cores.Schedule}
 use Rattle.msg_frames.specs.declared.frame.Frame.{Frame}
-use Rattle.msg_frames.specs.Prelude.{before_turns, joining, post_replies, State, join_flags}
+use Rattle.msg_frames.specs.Prelude.{before_turns, after_joining, post_replies, State, join_flags}
 
 -- the state with one frame more counted
-abbrev pub counted : State → State
-counted s = record s { frames = suc s.frames }
+abbrev pub one_frame_more : State → State
+one_frame_more s = record s { frames = suc s.frames }
 
 -- nobody joins with the next frame
 abbrev pub NobodyJoins : State → Type 0
@@ -20,7 +20,7 @@ module _ {S : Type 0} where
   -- the plan is that of those that will have joined by the next frame
   abbrev pub PlansNext : Core S → State → PlanView → Type 0
   PlansNext c s plan = IsPlanOf c.lender.accesses.items s.rules
-      (join_flags (counted (joining s))) plan
+      (join_flags (one_frame_more (after_joining s))) plan
 
   -- the number of the next frame and its plan, where some join with it; none where nobody does
   abbrev pub IsNextPlan : Core S → State → Option (ℕ × PlanView) → Type 0
@@ -30,10 +30,10 @@ module _ {S : Type 0} where
 module _ {S : Type 0} (meaning : S → Meaning) where
   -- those that join with the next frame have joined, and the plan is that of the next frame
   pub record HasBegunFrame (c : Core S) (s : State) : Type 0 where
-    pub lender : LenderStands meaning c.lender (joining s)
-    pub schedule : Schedule c (joining s)
-    pub plan : IsPlanOf c.lender.accesses.items (joining s).rules
-        (join_flags (counted (joining s))) c.plan
+    pub lender : LenderStands meaning c.lender (after_joining s)
+    pub schedule : Schedule c (after_joining s)
+    pub plan : IsPlanOf c.lender.accesses.items (after_joining s).rules
+        (join_flags (one_frame_more (after_joining s))) c.plan
 
   -- All is done that a frame on the state s does before its turns, and the posts were answered so.
   pub record HasOpened (frame : Frame) (s : State) (c : Core S)

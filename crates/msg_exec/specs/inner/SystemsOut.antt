@@ -5,7 +5,7 @@ use Rattle.msg_world.specs.declared.access.Access.{Access}
 use Rattle.msg_world.specs.Prelude.{LendsOut, Part, SameSize, TakesBack, slot, writes}
 use Rattle.msg_order.specs.Prelude.{access_of}
 use Rattle.msg_system.specs.Prelude.{Meaning}
-use Rattle.msg_exec.specs.{declared.job.Done.Done, declared.job.Job.Job, declared.lender.Lender.Lender, inner.Totals.entries_by, Keeping.kept, Keeping.totals_at, Lender.system_at}
+use Rattle.msg_exec.specs.{declared.job.Done.Done, declared.job.Job.Job, declared.lender.Lender.Lender, inner.Totals.entries_by, Keeping.capped_totals, Keeping.totals_at, Lender.system_at}
 use Rattle.msg_frames.specs.declared.totals.Totals.{Totals}
 use Rattle.msg_frames.specs.Prelude.{State, reader_place, with_entries}
 
@@ -52,8 +52,8 @@ module _ {S : Type 0} (meaning : S → Meaning) where
   -- the totals of a system after what came of its job
   pub record HaveEntered (done : Done S) (old new : List Totals) : Type 0 where
     pub as_many : length new ≡ length old
-    pub entered : (t : ℕ) (x : Totals) → t < length old → totals_at old t ≡ kept x
-        → totals_at new t ≡ kept
+    pub entered : (t : ℕ) (x : Totals) → t < length old → totals_at old t ≡ capped_totals x
+        → totals_at new t ≡ capped_totals
         (with_entries (entries_by t (meaning done.guarded.system).last done.outcome) x)
 
   -- A system comes home from its turn, with what it gives back, and its totals are those after it.

@@ -1,7 +1,7 @@
 use Rattle.std.proofs.Common.{refl, ◌≡◌, length, ap, ◌∙◌, arith, suc}
-use Rattle.msg_frames.specs.Prelude.{joining, SameSystems}
+use Rattle.msg_frames.specs.Prelude.{after_joining, SameSystems}
 use Rattle.msg_frames.proofs.SystemsStay.{joining_keeps, joining_makes_no_frame}
-use Rattle.msg_exec.specs.inner.FrameSteps.{counted}
+use Rattle.msg_exec.specs.inner.FrameSteps.{one_frame_more}
 use Rattle.msg_exec.proofs.CoreRunsFrame.{joined_by_frame, schedule_along}
 use Rattle.msg_exec.specs.Prelude.{Schedule}
 use Rattle.msg_exec.proofs.engine_core.next_plan.Goals as goal
@@ -17,9 +17,9 @@ returns g c = record {
   plan = λ s stands is.
       let core = c.args.core.now in
       let next : c.in-Some.next ≡ suc s.frames = omega (arith, is, c.in-Some.ensures) in
-      let keeps : SameSystems s (counted (joining s)) = grind (arith, joining_keeps) in
-      let later : Schedule core (counted (joining s)) = schedule_along refl refl keeps stands.schedule in
-      let flags = joined_by_frame core.joins.items (counted (joining s)) c.in-Some.next later.joins
+      let keeps : SameSystems s (one_frame_more (after_joining s)) = grind (arith, joining_keeps) in
+      let later : Schedule core (one_frame_more (after_joining s)) = schedule_along refl refl keeps stands.schedule in
+      let flags = joined_by_frame core.joins.items (one_frame_more (after_joining s)) c.in-Some.next later.joins
       (omega (arith, next, joining_makes_no_frame s)) in
       let plan = rw (c.deref-2.ensures.value, c.deref-3.ensures.value, c.deref-4.ensures.value)
       at c.in_ok-plan.ensures.plan in

@@ -1,6 +1,6 @@
 use Rattle.std.proofs.Common.{arith, refl}
 use Rattle.msg_world.specs.Prelude.{WorldState, after_update}
-use Rattle.msg_frames.specs.Prelude.{joining}
+use Rattle.msg_frames.specs.Prelude.{after_joining}
 use Rattle.msg_frames.proofs.SystemsStay.{joining_world}
 use Rattle.msg_exec.proofs.{CoreRunsFrame.schedule_along, SystemAfterTurn.member_stays}
 use Rattle.msg_exec.proofs.engine_core.open.Goals as goal
@@ -14,8 +14,8 @@ pub returns : goal.returns
 returns g c = record {
   opened = λ s stands is.
       let has = c.in_ok-core.ensures.begun s stands is in
-      let w : WorldState = after_update (joining s).world in
-      let now = c.update_all.ensures.meaning (joining s).world has.lender.world in
+      let w : WorldState = after_update (after_joining s).world in
+      let now = c.update_all.ensures.meaning (after_joining s).world has.lender.world in
       record {
         lender =
             let stands = rw c.as_slice-posts.ensures.items at (c.in_ok-post_all.ensures.state w now) in

@@ -1,6 +1,6 @@
 use Rattle.std.proofs.Common.{ap, ◌∙◌, arith, Some}
 use Rattle.msg_board.specs.Prelude.{HasEnded}
-use Rattle.msg_board.specs.inner.Seats.{carried}
+use Rattle.msg_board.specs.inner.Seats.{slots_out}
 use Rattle.std.proofs.lemmas.List.Elements.{All-pop}
 use Rattle.msg_board.proofs.{Steps.unites, PassSeats.gathers_first, PassSeats.gathers}
 use Rattle.msg_board.proofs.board.Board.gather.Goals as goal
@@ -16,7 +16,7 @@ join_seat-requires g c = let inv = c.loop-pass.invariant in let b = c.args.self.
     let parts = All-pop (HasEnded b) _ _ (Some c.in-Some-pop.pass) c.in-Some-pop.ensures.items inv.ended in (
       grind (arith, inv.table),
       grind (arith, parts),
-      of.out ∙ ap carried parts.1.holding,
+      of.out ∙ ap slots_out parts.1.holding,
       grind arith,
       unites g.W.Work.lawful _ _ _ _ _ _ inv.live (of.held ∙ parts.1.holding),
     )

@@ -1,6 +1,6 @@
 use Rattle.std.proofs.Common.{ap, ◌∙◌, arith}
 use Rattle.msg_board.specs.Prelude.{jobs_of}
-use Rattle.msg_board.specs.inner.Seats.{carried}
+use Rattle.msg_board.specs.inner.Seats.{slots_out}
 use Rattle.msg_board.proofs.{Steps.draws, PassSeats.drew_sound, PassSeats.drew_said}
 use Rattle.msg_board.proofs.board.Board.try_next.Goals as goal
 
@@ -10,7 +10,7 @@ fetch_max-found-requires g c =
     let idle = ap (λ p. p.holding) c.pass.view_is ∙ c.requires.idle.holding in (
       grind arith,
       grind arith,
-      draws g.W.Work.lawful _ _ _ _ _ c.pass.inside.next (seat.out ∙ ap carried idle) (omega (arith, seat.weight))
+      draws g.W.Work.lawful _ _ _ _ _ c.pass.inside.next (seat.out ∙ ap slots_out idle) (omega (arith, seat.weight))
           (seat.held ∙ idle) seat.next (grind arith),
     )
 

@@ -1,6 +1,6 @@
 use Rattle.std.proofs.Common.{◌≡◌, length, map, refl, ap, ◌∙◌, arith, inr}
 use Rattle.msg_exec.specs.Prelude.{Core, Schedule}
-use Rattle.msg_frames.specs.Prelude.{State, unjoined, with_joining}
+use Rattle.msg_frames.specs.Prelude.{State, before_joining, with_joining}
 use Rattle.msg_exec.proofs.{FirstEngineStands.are_new, FirstEngineStands.none_clashes, FirstEngineStands.none_more, FirstEngineStands.parts_stand, FirstEngineStands.schedule_first, CoreRunsFrame.joined_by_frame, CoreRunsFrame.schedule_along}
 use Rattle.msg_frames.proofs.SystemsStay.{joining_on_keeps}
 use Rattle.msg_exec.proofs.engine.EngineOf.new.Goals as goal
@@ -53,7 +53,7 @@ returns-clause-meaning g c w stands =
     (rw c.deref-8.ensures.value at c.in_ok-guarded.ensures.guarded) accesses.accesses
     (rw c.types.ensures.types at c.in_ok-totals.ensures.totals) c.deref-9.result.now
     (rw (c.deref-9.ensures.value, ← c.deref-4.ensures.value) c.in_ok-joins.ensures.joins) w stands in
-    let first : State = unjoined (map m systems) places c.args.rules.items (length c.args.world.types) w in
+    let first : State = before_joining (map m systems) places c.args.rules.items (length c.args.world.types) w in
     let s : State = with_joining 1 first in
     let joins = c.in_ok-joins.joins in
     let core : Core g.row.S.Denot =
