@@ -1,6 +1,6 @@
 -- The systems of a batch come home, one after the other.
 use Rattle.std.proofs.Common.{◌≡◌, ◌≢◌, ℕ, ◌<◌, false, List, [], ◌∷◌, ◌++◌, length, map, None, append_assoc, refl, sym, ap, ◌∙◌, arith, All, AllPairs, Contains, IsSomeAnd, IsTrue, is_some, slice_get, if◌then◌else◌, inl, inr}
-use Rattle.std.proofs.lemmas.{Bool.cases_Bool, Bool.Decides.eqb_tells, List.append-nil, List.get_or-set_other, List.get_or-set_same, List.length-set, List.map-append, List.Elements.All-contains, List.Elements.Contains-append_right, Slice.Zip.AllZip-long, List.nil_from_length, Slice.Zip.AllZip-left, Option.get_or_from_slice_get, Option.slice_get_within}
+use Rattle.std.proofs.lemmas.{Bool.cases_Bool, Bool.Decides.eqb_tells, List.append-nil, List.get_or-set_other, List.get_or-set_same, List.length-set, List.map-append, List.Elements.All-cons, List.Elements.All-contains, List.Elements.All-head, List.Elements.All-tail, List.Elements.Contains-append_right, Slice.Zip.AllZip-long, List.nil_from_length, Slice.Zip.AllZip-left, Option.get_or_from_slice_get, Option.slice_get_within}
 use Rattle.std.specs.List.{AllZip}
 use Rattle.msg_world.specs.declared.access.Access.{Access}
 use Rattle.msg_world.specs.Prelude.{HomeMerges, HomeWhereEither, IsApart, Part, PartsStand, SameShape, SameSize, slot, writes}
@@ -209,3 +209,13 @@ module _ {S : Type 0} (meaning : S → Meaning) where
             (rw (end, come, ← side.1) at far.half),
         rw (come, ← side.0) at far.logged_so_far,
       )
+
+module _ {S : Type 0} (P : ℕ → Type 0) (whole : Lender S) where
+  -- the jobs that are out are those of the batch
+  pub of_batch : (batch : List ℕ) (jobs : List (Job S)) → AllZip (IsOut whole) batch jobs
+      → All (λ (j : Job S). P j.number) jobs → All P batch
+  of_batch [] jobs out told = λ k d lt. absurd (omega (arith, lt))
+  of_batch (i ∷ batch) [] out told = absurd out
+  of_batch (i ∷ batch) (j ∷ jobs) out told =
+      All-cons P i batch (subst P out.0.number (All-head (λ (j : Job S). P j.number) j jobs told))
+      (of_batch batch jobs out.1 (All-tail (λ (j : Job S). P j.number) j jobs told))

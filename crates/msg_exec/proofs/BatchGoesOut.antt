@@ -5,7 +5,8 @@ use Rattle.msg_exec.proofs.{ItemsOfLists.some_of, BatchWritesApart.any_more, Bat
 use Rattle.msg_world.specs.Prelude.{IsHome, Part, PartsStand, slot, writes}
 use Rattle.msg_order.specs.Prelude.{NoneConflict, access_of}
 use Rattle.msg_system.specs.Prelude.{Meaning}
-use Rattle.msg_exec.specs.Prelude.{EachMay, Job, Lender, LenderStands, MayRun, system_at}
+use Rattle.msg_exec.specs.Prelude.{Job, Lender, LenderStands, MayRun, system_at}
+use Rattle.msg_workers.specs.Prelude.{EachMay}
 use Rattle.msg_frames.specs.Prelude.{State}
 use Rattle.msg_exec.specs.inner.SystemsOut.{AreOut, GoesOut, IsOut}
 

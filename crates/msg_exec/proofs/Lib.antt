@@ -4,8 +4,6 @@ mod ItemsOfLists
 mod JobsAreDone
 mod EntriesAreAdded
 mod SystemAfterTurn
--- ---- jobs side by side: workers draw them, and tell the gate
-mod WorkersDraw
 -- ---- a batch: its systems go out, and come home
 mod BatchWritesApart
 mod BatchGoesOut

@@ -1,6 +1,5 @@
 pub mod Jobs
 pub mod Prelude
-pub mod Work
 pub mod Keeping
 pub mod Lender
 pub mod Cores

@@ -5,7 +5,6 @@ pub use Rattle.msg_exec.specs.Engines.{HasReplayed, HasRunFrame, HasRunFrames, I
 pub use Rattle.msg_exec.specs.Jobs.{HasTakenTurn, IsAfterJob, IsDone, IsResult, MayRun, job_state}
 pub use Rattle.msg_exec.specs.Keeping.{capped_totals, totals_at, within_u64}
 pub use Rattle.msg_exec.specs.Lender.{AreJoins, LenderStands, MemberStands, TotalsStand, system_at}
-pub use Rattle.msg_exec.specs.Work.{EachMay, EachNewIs, EachPassedGate, PassedGate}
 pub use Rattle.msg_exec.specs.declared.build_error.BuildError.TheVariants.{Misfit, UnknownSystem}
 pub use Rattle.msg_exec.specs.declared.build_refusal.BuildRefusal.{BuildRefusal}
 pub use Rattle.msg_exec.specs.declared.build_refusal.BuildRefusal.TheVariants.{Clash, Cycle, NoMemory}

@@ -3,7 +3,8 @@ ghost use Rattle.std.specs.Prelude.{◌≡◌, ◌≢◌, ◌<◌, ◌≤◌, �
 ghost use Rattle.std.specs.List.{concat};
 ghost use Rattle.msg_frames.specs.Prelude.{after_turns_of, State};
 ghost use Rattle.msg_order.specs.Prelude.{NoneConflict};
-ghost use Rattle.msg_exec.specs.Prelude.{EachPassedGate, LenderStands};
+ghost use Rattle.msg_exec.specs.Prelude.{LenderStands};
+ghost use Rattle.msg_workers.specs.Prelude.{EachPassedGate};
 ghost use Rattle.msg_exec.specs.inner.SystemsOut.{AreOut};
 
 use crate::job::Job;

@@ -45,7 +45,8 @@ impl<S: System> EngineOf<S> {
     ghost use Rattle.msg_world.specs.declared.record.TheConstants.{HOST};
     ghost use Rattle.msg_world.specs.Prelude.{IsWhole, PartsStand, WorldState};
     ghost use Rattle.msg_order.specs.Prelude.{IsAcyclic, NameSystemsBelow, edges_of};
-    ghost use Rattle.msg_exec.specs.{Building.EachIs, Building.MayBeAdded, Building.RefusesFor, Cores.frame_count, Engines.HasReplayed, Engines.HasRunFrame, Engines.HasRunFrames, Engines.HasRunSome, Engines.IsEngine, Engines.IsSpoiled, Engines.PostsFit, Engines.EngineStands, Engines.frame_number, Engines.world_of, Work.EachPassedGate};
+    ghost use Rattle.msg_exec.specs.{Building.EachIs, Building.MayBeAdded, Building.RefusesFor, Cores.frame_count, Engines.HasReplayed, Engines.HasRunFrame, Engines.HasRunFrames, Engines.HasRunSome, Engines.IsEngine, Engines.IsSpoiled, Engines.PostsFit, Engines.EngineStands, Engines.frame_number, Engines.world_of};
+    ghost use Rattle.msg_workers.specs.Prelude.{EachPassedGate};
     ghost use Rattle.msg_frames.specs.Prelude.{HasClash, HasOneRun, IsCompleteRun, IsLawfulFor, IsRun, State, first_state, turn_order_in};
     ghost use Rattle.msg_frames.specs.{declared.frame.Frame.Frame as FrameView, declared.log.Log.Log as LogView};
 

@@ -1,15 +1,15 @@
 // The jobs of a batch, side by side on one world.
 ghost use Rattle.std.specs.Prelude.{◌≡◌, ◌≤◌, [], All, IfOk, Ok, OnOk, length, map, min};
 ghost use Rattle.std.specs.List.{AllZip};
-ghost use Rattle.msg_exec.specs.{Jobs.IsResult, Jobs.MayRun, inner.Batches.AreDone, inner.Batches.IsWithWorld, Work.EachMay, Work.PassedGate};
+ghost use Rattle.msg_exec.specs.{Jobs.IsResult, Jobs.MayRun, inner.Batches.AreDone, inner.Batches.IsWithWorld};
+ghost use Rattle.msg_workers.specs.Prelude.{EachMay, PassedGate};
 
 use crate::job::{Done, Job, TakesTurns};
-use crate::run_workers::run_jobs;
-use crate::runs::Runs;
 use crate::spares::Spares;
-use crate::{Gate, NoMemory, Workers};
+use crate::{Gate, NoMemory, Runs, Workers};
 use msg_board::Work;
 use msg_system::{Reply, System};
+use msg_workers::run_jobs;
 use msg_world::World;
 use std::alloc::Global;
 use std::marker::PhantomData;
@@ -122,6 +122,6 @@ pub(crate) fn run_side_by_side<R: Threads + Sync, S: System, G: Gate>(
         jobs.items) }
 {
     let jobs = with_world(alloc, world, jobs, spares)?;
-    let results = run_jobs::<R, Batch<S>, G>(rt, alloc, gate, workers, jobs, &mut spares.busy)?;
+    let results = run_jobs::<R, Batch<S>, G>(rt, alloc, gate, workers, jobs, &mut spares.at_once)?;
     all_done(alloc, results)
 }

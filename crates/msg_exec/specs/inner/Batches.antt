@@ -1,9 +1,9 @@
 -- What holds of the jobs of a batch.
-use Rattle.std.specs.Prelude.{◌≡◌, ◌+◌, ℕ, All, List, ◌∷◌, [], Option, Some, None, slice_get}
+use Rattle.std.specs.Prelude.{◌≡◌, List, []}
 use Rattle.msg_world.specs.Prelude.{Parts}
 use Rattle.msg_system.specs.Prelude.{Meaning}
-use Rattle.msg_exec.specs.{declared.job.Job.Job, declared.job.Done.Done, declared.side_by_side.BatchJob.BatchJob, Jobs.IsDone, Work.EachNewIs}
-use Rattle.msg_board.specs.Prelude.{BoardView, HasEnded, IsLawfulOutcome, IsOf, PassState, jobs_of}
+use Rattle.msg_exec.specs.{declared.job.Job.Job, declared.job.Done.Done, declared.side_by_side.BatchJob.BatchJob, Jobs.IsDone}
+use Rattle.msg_board.specs.Prelude.{IsLawfulOutcome}
 
 -- a job, with the world and an empty list
 pub record IsWithWorld {S : Type 0} (w : Parts) (j : Job S) (b : BatchJob S) : Type 0 where
@@ -15,29 +15,3 @@ module _ {S : Type 0} (meaning : S → Meaning) where
   -- all jobs of a batch are done, each on the same world
   abbrev pub AreDone : Parts → List (Job S) → List (Done S) → Type 0
   AreDone world jobs done = IsLawfulOutcome (IsDone meaning world) jobs done
-
-module _ {J : Type 0} where
-  -- The pass was new and drew this job, which it holds.
-  pub record HasFirst (b : BoardView J) (p : PassState J) (k : ℕ) (job : J) : Type 0 where
-    pub own : IsOf b p
-    pub holding : p.holding ≡ Some k
-    pub drawn : p.drawn ≡ k ∷ []
-    pub there : slice_get (jobs_of b) k ≡ Some job
-
-  -- The pass was new, and this is what it drew first: a job, or nothing, and so it has ended.
-  abbrev pub IsFirstDraw : BoardView J → PassState J → Option (ℕ × J) → Type 0
-  IsFirstDraw b p None = HasEnded b p × (p.drawn ≡ [])
-  IsFirstDraw b p (Some r) = HasFirst b p r.0 r.1
-
-  -- The pass was new and has ended, and of each job that it drew this is so.
-  pub record HasWorked (b : BoardView J) (Such : J → Type 0) (p : PassState J) : Type 0 where
-    pub ended : HasEnded b p
-    pub each : EachNewIs Such (jobs_of b) [] p.drawn
-
-  -- The passes were new and have ended. They go to the workers by number, from this one on: of each
-  -- job that a pass drew this is so for its worker.
-  pub record HaveWorked (b : BoardView J) (Such : ℕ → J → Type 0) (first : ℕ)
-      (passes : List (PassState J)) : Type 0 where
-    pub ended : All (HasEnded b) passes
-    pub each : (k : ℕ) (p : PassState J) → slice_get passes k ≡ Some p
-        → EachNewIs (Such (first + k)) (jobs_of b) [] p.drawn

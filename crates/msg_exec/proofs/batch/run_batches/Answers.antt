@@ -1,6 +1,7 @@
 use Rattle.std.proofs.Common.{◌∙◌, arith}
 use Rattle.std.proofs.lemmas.List.{take_all}
-use Rattle.msg_exec.proofs.{WorkersDraw.more_passed, BatchAfterBatch.as_many_systems, BatchAfterBatch.one_batch_more, BatchAfterBatch.turned_more, BatchAfterBatch.of_one_batch}
+use Rattle.msg_workers.proofs.WorkersDraw.{more_passed}
+use Rattle.msg_exec.proofs.{BatchAfterBatch.as_many_systems, BatchAfterBatch.one_batch_more, BatchAfterBatch.turned_more, BatchAfterBatch.of_one_batch}
 use Rattle.msg_exec.proofs.batch.run_batches.Goals as goal
 
 pub run_batch-requires-clause-stands : goal.run_batch-requires-clause-stands

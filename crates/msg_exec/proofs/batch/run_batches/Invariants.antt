@@ -1,6 +1,7 @@
 use Rattle.std.proofs.Common.{◌≡◌, take, map, []}
 use Rattle.std.specs.List.{concat}
-use Rattle.msg_exec.specs.Prelude.{EachPassedGate, LenderStands}
+use Rattle.msg_exec.specs.Prelude.{LenderStands}
+use Rattle.msg_workers.specs.Prelude.{EachPassedGate}
 use Rattle.msg_frames.specs.Prelude.{State}
 use Rattle.msg_exec.proofs.BatchAfterBatch.{HasTurned}
 use Rattle.msg_exec.proofs.batch.run_batches.Given as goal

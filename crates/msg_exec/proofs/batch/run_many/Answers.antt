@@ -1,8 +1,8 @@
 use Rattle.std.proofs.Common.{length, min, sym, ◌∙◌, arith, ◌≡◌}
 use Rattle.std.proofs.lemmas.Slice.Zip.{AllZip-long}
-use Rattle.msg_exec.specs.Prelude.{PassedGate}
+use Rattle.msg_workers.specs.Prelude.{PassedGate}
 use Rattle.msg_exec.specs.inner.SystemsOut.{IsOut}
-use Rattle.msg_exec.proofs.{WorkersDraw.of_batch, BatchAfterBatch.no_more_than, BatchComesHome.all_came, BatchComesHome.begin_home, BatchComesHome.next_comes, BatchComesHome.next_may_come, BatchGoesOut.all_may_run, BatchGoesOut.is_batch, BatchComesHome.all_back}
+use Rattle.msg_exec.proofs.{BatchAfterBatch.no_more_than, BatchComesHome.all_came, BatchComesHome.begin_home, BatchComesHome.next_comes, BatchComesHome.next_may_come, BatchComesHome.of_batch, BatchGoesOut.all_may_run, BatchGoesOut.is_batch, BatchComesHome.all_back}
 use Rattle.msg_exec.proofs.batch.run_many.Goals as goal
 
 pub run_side_by_side-requires-clause-few : goal.run_side_by_side-requires-clause-few

@@ -2,7 +2,8 @@ use Rattle.std.proofs.Common.{Ok, ◌∙◌, slice_get, sym, ap, option_map, len
 use Rattle.std.proofs.lemmas.{List.length-map, Option.slice_get-get_or, Option.slice_get-map, Result.IfOk-weaker, Slice.Zip.AllZip-left, Slice.Zip.AllZip-long, Slice.Zip.AllZip-right}
 use Rattle.msg_exec.specs.inner.Batches.{IsWithWorld}
 use Rattle.msg_exec.proofs.ItemsOfLists.{some_of}
-use Rattle.msg_exec.specs.Prelude.{Job, PassedGate}
+use Rattle.msg_exec.specs.Prelude.{Job}
+use Rattle.msg_workers.specs.Prelude.{PassedGate}
 use Rattle.msg_exec.proofs.side_by_side.run_side_by_side.Goals as goal
 
 pub run_jobs-requires-clause-few : goal.run_jobs-requires-clause-few

@@ -1,6 +1,6 @@
 use Rattle.std.proofs.Common.{◌≡◌, ◌++◌, ◌∷◌, [], length, append_assoc, refl, arith, rules}
 use Rattle.std.proofs.lemmas.{List.drop-append-le, List.length_push, List.take_all, List.take_more, List.Elements.All-push}
-use Rattle.msg_exec.specs.Prelude.{EachPassedGate}
+use Rattle.msg_workers.specs.Prelude.{EachPassedGate}
 use Rattle.msg_frames.specs.Prelude.{turn_order_in}
 use Rattle.msg_frames.proofs.SystemsStay.{frame_keeps}
 use Rattle.msg_exec.proofs.EngineRunsFrames.{core_of, run_more, stood}

@@ -1,5 +1,6 @@
 use Rattle.std.proofs.Common.{◌≤◌, length, drop, All, IsSome}
-use Rattle.msg_exec.specs.Prelude.{EachPassedGate, IsEngine, EngineStands}
+use Rattle.msg_exec.specs.Prelude.{IsEngine, EngineStands}
+use Rattle.msg_workers.specs.Prelude.{EachPassedGate}
 use Rattle.msg_frames.specs.Prelude.{turn_order_in, State}
 use Rattle.msg_exec.proofs.EngineRunsFrames.{RunSoFar}
 use Rattle.msg_exec.proofs.engine.EngineOf.run_frames.Given as goal

@@ -1,12 +1,12 @@
 use Rattle.std.proofs.Common.{[], sym, subst, ◌∙◌, inl}
 use Rattle.msg_board.specs.Prelude.{jobs_of}
-use Rattle.msg_exec.specs.Prelude.{EachNewIs}
-use Rattle.msg_exec.specs.inner.Batches.{IsFirstDraw}
-use Rattle.msg_exec.proofs.WorkersDraw.{and_then, one_more}
-use Rattle.msg_exec.proofs.runs.work_on.Goals as goal
+use Rattle.msg_workers.specs.Work.{EachNewIs}
+use Rattle.msg_workers.specs.inner.Workers.{IsFirstDraw}
+use Rattle.msg_workers.proofs.WorkersDraw.{and_then, one_more}
+use Rattle.msg_workers.proofs.runs.work_on.Goals as goal
 
-pub returns-in-Some : goal.returns-in-Some
-returns-in-Some g c =
+pub returns : goal.returns
+returns g c =
     let J : Type 0 = g.row.W-Job.Denot in
     let told : J → Type 0 = λ job. g.G.Gate.passed c.args.gate.now c.args.worker (g.W.Runs.system_of job) in
     let jobs = jobs_of c.args.board.now in

@@ -2,8 +2,8 @@
 ghost use Rattle.std.specs.Prelude.{◌≡◌, ◌+◌, ◌≤◌, ℕ, All, IfOk, OnOk, Some, length, min, slice_get};
 ghost use Rattle.std.specs.Thread.{IsSend, IsSync};
 ghost use Rattle.msg_board.specs.Prelude.{IsLawfulOutcome, IsNewPass, jobs_of};
-ghost use Rattle.msg_exec.specs.Prelude.{EachMay, PassedGate};
-ghost use Rattle.msg_exec.specs.inner.Batches.{HasWorked, HaveWorked, IsFirstDraw};
+ghost use Rattle.msg_workers.specs.Work.{EachMay, PassedGate};
+ghost use Rattle.msg_workers.specs.inner.Workers.{HasWorked, HaveWorked, IsFirstDraw};
 
 use crate::runs::{Runs, work_on};
 use crate::{Gate, NoMemory, Workers};
@@ -11,27 +11,25 @@ use msg_board::{Board, Pass};
 use std::alloc::Global;
 use std::thread::{Threads, join_mut};
 
-/// One worker's part: it draws jobs until there is none left. Whether it got one.
+/// One worker's part: it draws jobs until there is none left.
 fn work_alone<W: Runs, G: Gate>(
     alloc: Global,
     board: &Board<W>,
     gate: &G,
     worker: u32,
     pass: &mut Pass<W::Job, W::Done>,
-) -> bool
+)
     requires new { IsNewPass board.now pass.old }
     requires may { EachMay W.may (jobs_of board.now) }
     ensures worked { HasWorked board.now (λ job. G.passed gate.now worker (W.system_of job))
         pass.new }
 {
     let first = board.draw(pass);
-    let busy = first.is_some();
     work_on(alloc, board, gate, worker, first, pass);
-    busy
 }
 
-/// Lets the workers of these passes draw all jobs that are left, and gives how many of them got
-/// one. They are numbered from `worker` on, and the first draws in this thread. Where it gets a
+/// Lets the workers of these passes draw all jobs that are left, and gives how many the first of
+/// them ran. They are numbered from `worker` on, and the first draws in this thread. Where it gets a
 /// job, others begin in new threads before that job is run, so many at once. Where it gets none,
 /// none is left, and the others draw None here, one by one.
 #[cycle(workers)]
@@ -47,7 +45,6 @@ fn work_from<R: Threads + Sync, W: Runs + Send, G: Gate>(
     requires few { worker + length passes.old ≤ 64 }
     requires new { All (IsNewPass board.now) passes.old }
     requires may { EachMay W.may (jobs_of board.now) }
-    ensures busy { result ≤ length passes.old }
     ensures worked { HaveWorked board.now
         (λ worker job. G.passed gate.now worker (W.system_of job)) worker passes.new }
 {
@@ -57,11 +54,11 @@ fn work_from<R: Threads + Sync, W: Runs + Send, G: Gate>(
     let first = board.draw(pass);
     let next = worker + 1;
     if first.is_none() || others.is_empty() {
-        let busy = u32::from(first.is_some());
-        work_on(alloc, board, gate, worker, first, pass);
-        busy + work_from(rt, alloc, board, gate, next, 1, others)
+        let own = work_on(alloc, board, gate, worker, first, pass);
+        work_from(rt, alloc, board, gate, next, 1, others);
+        own
     } else {
-        1 + work_beside(
+        work_beside(
             rt, alloc, board, gate, worker, first, pass, next, at_once, others,
         )
     }
@@ -69,7 +66,7 @@ fn work_from<R: Threads + Sync, W: Runs + Send, G: Gate>(
 
 /// A worker runs the job that it drew first, and draws on, beside the others, who are numbered from
 /// `next` on. So many of them begin at once, and the last of these lets the rest begin where it
-/// gets a job. How many of the others got one.
+/// gets a job. Gives how many jobs it ran.
 #[cycle(workers)]
 fn work_beside<R: Threads + Sync, W: Runs + Send, G: Gate>(
     rt: &R,
@@ -87,7 +84,6 @@ fn work_beside<R: Threads + Sync, W: Runs + Send, G: Gate>(
     requires first { IsFirstDraw board.now pass.old first }
     requires new { All (IsNewPass board.now) others.old }
     requires may { EachMay W.may (jobs_of board.now) }
-    ensures busy { result ≤ length others.old }
     ensures own { HasWorked board.now (λ job. G.passed gate.now worker (W.system_of job))
         pass.new }
     ensures others { HaveWorked board.now
@@ -121,7 +117,6 @@ fn begin_rest<R: Threads + Sync, W: Runs + Send, G: Gate>(
     requires first { IsFirstDraw board.now pass.old first }
     requires new { All (IsNewPass board.now) rest.old }
     requires may { EachMay W.may (jobs_of board.now) }
-    ensures busy { result ≤ length rest.old }
     ensures own { HasWorked board.now (λ job. G.passed gate.now worker (W.system_of job))
         pass.new }
     ensures rest { HaveWorked board.now
@@ -136,11 +131,10 @@ fn begin_rest<R: Threads + Sync, W: Runs + Send, G: Gate>(
         requires { IsSync R.row × IsSend W.row × IsSync G.row × (next + length rest.now ≤ 64)
             × All (IsNewPass board.now) rest.now × EachMay W.may (jobs_of board.now) }
         ensures { HaveWorked board.entry.now
-            (λ worker job. G.passed gate.entry.now worker (W.system_of job)) next rest.exit.now
-            × (result ≤ length rest.entry.now) }
+            (λ worker job. G.passed gate.entry.now worker (W.system_of job)) next rest.exit.now }
     { work_from(rt, alloc, board, gate, next, 1, rest) };
-    let (busy, _) = join_mut(rt, &mut theirs, &mut own);
-    busy
+    let (_, ran) = join_mut(rt, &mut theirs, &mut own);
+    ran
 }
 
 /// One of the others begins in a new thread, and here others begin before this worker runs its job.
@@ -164,7 +158,6 @@ fn begin_one<R: Threads + Sync, W: Runs + Send, G: Gate>(
     requires one { IsNewPass board.now one.old }
     requires new { All (IsNewPass board.now) rest.old }
     requires may { EachMay W.may (jobs_of board.now) }
-    ensures busy { result ≤ 1 + length rest.old }
     ensures own { HasWorked board.now (λ job. G.passed gate.now worker (W.system_of job))
         pass.new }
     ensures one { HasWorked board.now (λ job. G.passed gate.now next (W.system_of job)) one.new }
@@ -179,7 +172,7 @@ fn begin_one<R: Threads + Sync, W: Runs + Send, G: Gate>(
             (λ job. G.passed gate.entry.now worker (W.system_of job)) pass.exit.now
             × HaveWorked board.entry.now
             (λ worker job. G.passed gate.entry.now worker (W.system_of job)) (next + 1)
-            rest.exit.now × (result ≤ length rest.entry.now) }
+            rest.exit.now }
     {
         let others = at_once - 1;
         work_beside(
@@ -201,20 +194,21 @@ fn begin_one<R: Threads + Sync, W: Runs + Send, G: Gate>(
         ensures { HasWorked board.entry.now
             (λ job. G.passed gate.entry.now next (W.system_of job)) one.exit.now }
     { work_alone(alloc, board, gate, next, one) };
-    let (one, others) = join_mut(rt, &mut theirs, &mut own);
-    u32::from(one) + others
+    let (_, ran) = join_mut(rt, &mut theirs, &mut own);
+    ran
 }
 
 /// Runs the jobs, by at most so many workers and at most one for each job. Their results, in the
-/// order of the jobs. As many workers begin at once as were busy in the batch before, that is, got
-/// a job, and `busy` is how many were in this one.
-pub(crate) fn run_jobs<R: Threads + Sync, W: Runs + Send, G: Gate>(
+/// order of the jobs. The first worker starts so many others at once, and the last of these starts
+/// the next where it gets a job. `at_once` is then what serves a batch of such jobs best: all, where
+/// the others ran at least half of the jobs, else one.
+pub fn run_jobs<R: Threads + Sync, W: Runs + Send, G: Gate>(
     rt: &R,
     alloc: Global,
     gate: &G,
     workers: Workers,
     jobs: Vec<W::Job>,
-    busy: &mut u32,
+    at_once: &mut u32,
 ) -> Result<Vec<W::Done>, NoMemory>
     requires few { length jobs.items ≤ 256 }
     requires may { EachMay W.may jobs.items }
@@ -222,9 +216,10 @@ pub(crate) fn run_jobs<R: Threads + Sync, W: Runs + Send, G: Gate>(
     ensures gate_passed { OnOk result ((k : ℕ) (job : W.Job) → slice_get jobs.items k ≡ Some job
         → PassedGate (G.passed gate.now) (min workers (length jobs.items)) (W.system_of job)) }
 {
-    let passes = workers.number().min(jobs.len() as u32).max(1);
-    let (board, mut passes) = Board::<W>::new(alloc, jobs, passes)?;
-    let at_once = busy.saturating_sub(1);
-    *busy = work_from(rt, alloc, &board, gate, 0, at_once, passes.as_mut_slice());
+    let half = jobs.len() as u32 / 2;
+    let most = workers.number().min(jobs.len() as u32).max(1);
+    let (board, mut passes) = Board::<W>::new(alloc, jobs, most)?;
+    let own = work_from(rt, alloc, &board, gate, 0, *at_once, passes.as_mut_slice());
+    *at_once = if own <= half { most } else { 1 };
     board.close(alloc, passes)
 }

@@ -1,8 +1,9 @@
-use Rattle.std.proofs.Common.{subst, sym, ◌∙◌}
+use Rattle.std.proofs.Common.{subst, sym, ◌∙◌, arith}
+use Rattle.std.proofs.lemmas.List.{length-append}
 use Rattle.msg_board.specs.Prelude.{jobs_of}
-use Rattle.msg_exec.specs.Prelude.{EachNewIs}
-use Rattle.msg_exec.proofs.WorkersDraw.{one_more}
-use Rattle.msg_exec.proofs.runs.work.Goals as goal
+use Rattle.msg_workers.specs.Work.{EachNewIs}
+use Rattle.msg_workers.proofs.WorkersDraw.{one_more}
+use Rattle.msg_workers.proofs.runs.work.Goals as goal
 
 pub loop-k-preserved : goal.loop-k-preserved
 loop-k-preserved g c =
@@ -15,6 +16,8 @@ loop-k-preserved g c =
     c.loop-k.invariant.1 drew.job_there ran.gate_passed in (
       record { own = ran.own; holding = ran.handed_in.holding },
       subst (EachNewIs told jobs c.args.pass.now.drawn) (sym (ran.handed_in.drawn ∙ drew.drawn)) more,
+      grind (arith, c.loop-k.invariant, ran.handed_in.drawn, drew.drawn, length-append),
+      grind (arith, c.loop-k.invariant, ran.handed_in.drawn, drew.drawn, length-append, c.saturating_add-ran.ensures),
     )
 
 pub returns-clause-gate_passed : goal.returns-clause-gate_passed

@@ -1,5 +1,5 @@
 use Rattle.std.proofs.Common.{◌+◌, ◌*◌, length}
-use Rattle.msg_exec.proofs.run_workers.+workers.Given as goal
+use Rattle.msg_workers.proofs.run_workers.+workers.Given as goal
 
 abbrev pub decreases-begin_rest-theirs : goal.decreases-begin_rest-theirs
 decreases-begin_rest-theirs g l = 5 * length l.rest.now + 1

@@ -1,11 +1,10 @@
 -- What workers draw from the board, and that a worker passed the gate for each job, with its own number.
-use Rattle.std.proofs.Common.{◌≡◌, ℕ, zero, suc, ◌+◌, ◌<◌, ◌≤◌, ◌==◌, inl, inr, List, [], ◌∷◌, ◌++◌, length, min, Some, refl, ap, subst, arith, All, Contains, slice_get, filter, sym}
-use Rattle.std.specs.{List.AllZip, Option.unwrap_or}
-use Rattle.std.proofs.lemmas.{Bool.eqb-true, List.length-append, List.Elements.All-append, List.Elements.All-cons, List.Elements.All-head, List.Elements.All-tail, List.Elements.Contains-push_cases, Option.slice_get_within, List.Elements.Contains-get_or, List.Sums.length-filter, Option.slice_get_read}
+use Rattle.std.proofs.Common.{◌≡◌, ℕ, zero, suc, ◌+◌, ◌<◌, ◌≤◌, ◌==◌, inl, inr, List, [], ◌∷◌, ◌++◌, length, min, Some, refl, ap, subst, arith, All, Contains, slice_get}
+use Rattle.std.specs.Option.{unwrap_or}
+use Rattle.std.proofs.lemmas.{Bool.cases_Bool, Bool.eqb-true, List.length-append, List.Elements.All-append, List.Elements.All-cons, List.Elements.Contains-append_cases, List.Elements.Contains-push_cases, Option.slice_get_within}
 use Rattle.msg_board.specs.Prelude.{BoardView, HasEnded, HoldsEachOnce, PassState, drawn_by, jobs_of, times}
-use Rattle.msg_exec.specs.Prelude.{EachNewIs, EachPassedGate, Job, Lender, PassedGate}
-use Rattle.msg_exec.specs.{inner.SystemsOut.IsOut, inner.Batches.HasWorked, inner.Batches.HaveWorked}
-use Rattle.msg_order.proofs.Elements.{not_in_none, filter-Contains, flat_map-Contains}
+use Rattle.msg_workers.specs.Work.{EachNewIs, EachPassedGate, PassedGate}
+use Rattle.msg_workers.specs.inner.Workers.{HasWorked, HaveWorked}
 
 -- ---- one job more is drawn
 
@@ -26,12 +25,22 @@ module _ {J : Type 0} (Such : J → Type 0) (jobs : List J) where
 -- ---- who drew a number
 
 found : (k : ℕ) (ns : List ℕ) → 0 < times k ns → Contains ns k
-found k ns some =
-    let lt : 0 < length (filter (λ n. n == k) ns) = omega (arith, some, length-filter (λ n. n == k) ns) in
-    let first = filter-Contains (λ n. n == k) ns _ (Contains-get_or (filter (λ n. n == k) ns) 0 0 lt) in
-    rw (eqb-true _ k first.1) at first.0
+found k [] some = absurd (omega (arith, some))
+found k (n ∷ ns) some = elim (cases_Bool (n == k)) [
+  | inl same ↦ (0, omega arith, eqb-true n k same)
+  | inr other ↦ let rest = found k ns (rw other at some) in (suc rest.0, omega (arith, rest.1), rest.2)
+]
 
 module _ {J : Type 0} where
+  -- a number that was drawn is among those of some pass
+  by_some : (ps : List (PassState J)) (k : ℕ) → Contains (drawn_by ps) k
+      → (i : ℕ) × (p : PassState J) × (slice_get ps i ≡ Some p) × Contains p.drawn k
+  by_some [] k h = absurd (omega (arith, h.1))
+  by_some (p ∷ ps) k h = elim (Contains-append_cases p.drawn (drawn_by ps) k h) [
+    | inl own ↦ (0, p, refl, own)
+    | inr other ↦ let (i, q, at, its) = by_some ps k other in (suc i, q, at, its)
+  ]
+
   -- each job was drawn by a worker that passed the gate for it
   pub each_passed : (passed : ℕ → ℕ → Type 0) (system : J → ℕ) (b : BoardView J) (ps : List (PassState J)) (n : ℕ)
       → length ps ≤ n → HoldsEachOnce (length (jobs_of b)) (drawn_by ps)
@@ -39,11 +48,10 @@ module _ {J : Type 0} where
       → (k : ℕ) (job : J) → slice_get (jobs_of b) k ≡ Some job → PassedGate passed n (system job)
   each_passed passed system b ps n many once by k job at =
       let one = once.once k (slice_get_within (jobs_of b) k job at) in
-      let drawn = found k (drawn_by ps) (omega (arith, one)) in
-      let (p, ((i, lt, is), drew)) = flat_map-Contains (λ (p : PassState J). p.drawn) ps k drawn in
-      elim (by.each i p (slice_get_read ps _ i p refl lt (sym is)) k drew) [
-        | inl old ↦ absurd (not_in_none k old)
-        | inr new ↦ (0 + i, omega (arith, lt, many), new job at)
+      let (i, p, is, drew) = by_some ps k (found k (drawn_by ps) (omega (arith, one))) in
+      elim (by.each i p is k drew) [
+        | inl old ↦ absurd (omega (arith, old.1))
+        | inr new ↦ (0 + i, omega (arith, slice_get_within ps i p is, many), new job at)
       ]
 
 -- ---- a worker, and those after it
@@ -63,17 +71,7 @@ module _ {J : Type 0} {b : BoardView J} {Such : ℕ → J → Type 0} where
       each (suc k) q at =
           subst (λ w. EachNewIs (Such w) (jobs_of b) [] q.drawn) (omega arith) (others.each k q at)
 
--- ---- system by system
-
-module _ {S : Type 0} (P : ℕ → Type 0) (whole : Lender S) where
-  -- the jobs that are out are those of the batch
-  pub of_batch : (batch : List ℕ) (jobs : List (Job S)) → AllZip (IsOut whole) batch jobs
-      → All (λ (j : Job S). P j.number) jobs → All P batch
-  of_batch [] jobs out told = λ k d lt. absurd (omega (arith, lt))
-  of_batch (i ∷ batch) [] out told = absurd out
-  of_batch (i ∷ batch) (j ∷ jobs) out told =
-      All-cons P i batch (subst P out.0.number (All-head (λ (j : Job S). P j.number) j jobs told))
-      (of_batch batch jobs out.1 (All-tail (λ (j : Job S). P j.number) j jobs told))
+-- ---- more workers, and more systems
 
 module _ (passed : ℕ → ℕ → Type 0) where
   more_workers : (n m : ℕ) (systems : List ℕ) → n ≤ m → All (PassedGate passed n) systems

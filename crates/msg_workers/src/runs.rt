@@ -1,7 +1,7 @@
 // What a worker does: it draws jobs from a board, runs them, and hands in what they gave.
-ghost use Rattle.std.specs.Prelude.{◌≡◌, ℕ, Some, slice_get};
+ghost use Rattle.std.specs.Prelude.{◌≡◌, ◌-◌, ◌^◌, ℕ, Some, length, min, slice_get};
 ghost use Rattle.msg_board.specs.Prelude.{HandedIn, HasEnded, IsIdle, IsOf, jobs_of};
-ghost use Rattle.msg_exec.specs.{Work.EachMay, Work.EachNewIs, inner.Batches.HasWorked, inner.Batches.IsFirstDraw};
+ghost use Rattle.msg_workers.specs.{Work.EachMay, Work.EachNewIs, inner.Workers.HasWorked, inner.Workers.IsFirstDraw};
 
 use crate::Gate;
 use msg_board::{Board, Pass, Work};
@@ -46,26 +46,32 @@ fn run_drawn<W: Runs, G: Gate>(
     board.hand_in(pass, k, W::run(alloc, job));
 }
 
-/// One worker's part of the jobs: it draws them until there is none left.
+/// One worker's part of the jobs: it draws them until there is none left. Gives how many it ran.
 pub fn work<W: Runs, G: Gate>(
     alloc: Global,
     board: &Board<W>,
     pass: &mut Pass<W::Job, W::Done>,
     worker: u32,
     gate: &G,
-)
+) -> u32
     requires idle { IsIdle board.now pass.old }
     requires may { EachMay W.may (jobs_of board.now) }
+    ensures ran { result
+        ≡ min (length pass.new.drawn - length pass.old.drawn) (2 ^ 32 - 1) }
     ensures ended { HasEnded board.now pass.new }
     ensures gate_passed { EachNewIs (λ job. G.passed gate.now worker (W.system_of job))
         (jobs_of board.now) pass.old.drawn pass.new.drawn }
 {
+    let mut ran = 0u32;
     while let Some((k, job)) = board.draw(pass) {
         run_drawn(alloc, board, pass, k, job, worker, gate);
+        ran = ran.saturating_add(1);
     }
+    ran
 }
 
-/// The part of a worker from what it drew first: it runs that job, and draws on.
+/// The part of a worker from what it drew first: it runs that job, and draws on. Gives how many it
+/// ran.
 pub(crate) fn work_on<W: Runs, G: Gate>(
     alloc: Global,
     board: &Board<W>,
@@ -73,14 +79,15 @@ pub(crate) fn work_on<W: Runs, G: Gate>(
     worker: u32,
     first: Option<(usize, W::Job)>,
     pass: &mut Pass<W::Job, W::Done>,
-)
+) -> u32
     requires first { IsFirstDraw board.now pass.old first }
     requires may { EachMay W.may (jobs_of board.now) }
     ensures worked { HasWorked board.now (λ job. G.passed gate.now worker (W.system_of job))
         pass.new }
 {
-    if let Some((number, job)) = first {
-        run_drawn(alloc, board, pass, number, job, worker, gate);
-        work(alloc, board, pass, worker, gate);
-    }
+    let Some((number, job)) = first else {
+        return 0;
+    };
+    run_drawn(alloc, board, pass, number, job, worker, gate);
+    work(alloc, board, pass, worker, gate).saturating_add(1)
 }

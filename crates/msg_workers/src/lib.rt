@@ -1,0 +1,17 @@
+//! Workers side by side: threads that draw jobs from a board and run them.
+//!
+//! `run_jobs` runs a list of jobs by at most so many workers, each with a number of its own, and
+//! gives their results in the order of the jobs. What a job is, and what it may give, is a type's
+//! own (`Runs`). A gate is told of each job just before it is run.
+#![tactic(auto)]
+
+mod gate;
+mod run_workers;
+mod runs;
+mod workers;
+
+pub use gate::{Gate, NoGate};
+pub use msg_board::NoMemory;
+pub use run_workers::run_jobs;
+pub use runs::{Runs, work};
+pub use workers::Workers;
