@@ -70,17 +70,10 @@ module _ {X : Type 0} where
   last_home n [] m home lt as_many k =
       grind (arith, cases_eq k m.slot, equal_items, length-replicate, get_or-set_same, get_or-set_other)
   last_home n (j ∷ ms) m home lt as_many k =
-      grind (
-        arith,
-        cases_eq k j.slot,
-        cases_lt j.slot n,
-        placed_length,
-        length-set,
-        get_or_past,
-        get_or-set_same,
-        get_or-set_other,
-        last_home n ms m home lt as_many k,
-      )
+      let rest = last_home n ms m home lt as_many k in
+      let here = cases_eq k j.slot in
+      let under = cases_lt j.slot n in
+      grind (arith, here, under, placed_length, length-set, get_or_past, get_or-set_same, get_or-set_other, rest)
 
   -- the same, where the part was read at its place
   pub its_slot : (slot : ℕ) (ms : List (Moved X)) (i : ℕ) (m : Moved X) → IsFirstOf slot ms i → m ≡ get_or ms i m
