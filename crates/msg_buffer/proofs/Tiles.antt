@@ -1,7 +1,6 @@
 -- Reads and clears fit one behind the other.
 use Rattle.std.proofs.Common.{◌≡◌, ℕ, ◌-◌, ◌≤◌, List, [], ◌∷◌, length, take, refl, sym, arith, Option, Some, None}
-use Rattle.std.proofs.lemmas.{Grind.common_steps, List.length-take, List.Elements.All-head, List.Elements.All-tail}
-use Rattle.std.proofs.Math.Seq.{take-length}
+use Rattle.std.proofs.{Math.Seq.take-length, lemmas.Grind.common_steps, lemmas.List.length-take, lemmas.List.Elements.All-head, lemmas.List.Elements.All-tail}
 use Rattle.msg_buffer.specs.Prelude.{ClearsFit, Fits, History, Instance, IsSound, Pass, ReadsFit, ReadsUpTo, RunsTile, at_most, clears, count, first, given, next_place, oldest, reads, stretch_of, unread}
 use Rattle.msg_buffer.proofs.{Standing.oldest_and_present, Presence.is_there, Presence.not_present, Unread.length-unread}
 

@@ -16,8 +16,7 @@ pub struct MessageIter<'a, M, A: Allocator = Global> {
 }
 
 impl<'a, M, A: Allocator> Iterator for MessageIter<'a, M, A> {
-    ghost use Rattle.std.specs.Iterator.{at_most};
-    ghost use Rattle.std.specs.Prelude.{length};
+    ghost use Rattle.std.specs.{Iterator.at_most, Prelude.length};
     ghost use Rattle.msg_buffer.specs.ReadCalls.{IterSteps, iter_rest};
 
     type Item = (MessageId, &'a M);

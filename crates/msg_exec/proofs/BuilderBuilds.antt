@@ -3,8 +3,7 @@ use Rattle.std.proofs.Common.{◌≡◌, ℕ, zero, suc, ◌+◌, ◌++◌, List
 use Rattle.std.proofs.lemmas.{Bool.cases_lt, Bool.false≢true, List.get_or_past, Option.none-some, Option.same_Some, Option.slice_get_within}
 use Rattle.msg_world.specs.Prelude.{Has, OfResource, OfType, Part, Parts, Registry, slot}
 use Rattle.msg_order.specs.declared.rule.Rule.{Rule}
-use Rattle.msg_system.specs.Prelude.{Meaning}
-use Rattle.msg_frames.specs.Prelude.{HasClash}
+use Rattle.msg_system.specs.Prelude.{HasClash, Meaning}
 use Rattle.msg_exec.specs.Prelude.{BuildRefusal, Clash, Cycle, EachIs, NoMemory, RefusesFor, numbered_from}
 use Rattle.msg_exec.proofs.ItemsOfLists.{item_at}
 
@@ -56,7 +55,8 @@ module _ {S : Type 0} (meaning : S → Meaning) where
         let y' = before i x.0 x.1 in
         (x.0, (x.1, grind (arith, same_Some, y')))
 
-    pub no_clash_before : EachIs (λ i x. ¬ HasClash (meaning x)) new → EachIs (λ i x. ¬ HasClash (meaning x)) old
+    pub no_clash_before : EachIs (λ i x. ¬ HasClash (meaning x).needs) new
+        → EachIs (λ i x. ¬ HasClash (meaning x).needs) old
     no_clash_before none i y there clash = let x = after i y there in none i x.0 x.1.0 (rw (← x.1.1) at clash)
 
     pub refusal_before : (rules : List Rule) (refusal : BuildRefusal) → RefusesFor meaning new rules refusal

@@ -38,7 +38,7 @@ joined_by_frame js s frame are is =
 pub nobody_more : (s : State) → NobodyJoins s → join_flags (one_frame_more (after_joining s)) ≡ join_flags s
 nobody_more s none =
     joined_stay (one_frame_more s) (one_frame_more (after_joining s)) (grind (arith, joining_keeps))
-        (ap suc (joining_makes_no_frame s))
+    (ap suc (joining_makes_no_frame s))
     ∙ fill_by_all (has_begun s) (join_flags (one_frame_more s)) s.systems false
     (length-map-range_with_len (has_begun (one_frame_more s)) 0 s.systems) (λ k lt.
     get_or-map-range_with_len (has_begun (one_frame_more s)) 0 s.systems k k false lt (omega arith)

@@ -5,13 +5,13 @@ use Rattle.msg_world.specs.declared.access.Access.{Access}
 use Rattle.msg_world.specs.Prelude.{IsWhole, OfType, Parts, PartsStand, WorldState}
 use Rattle.msg_order.specs.declared.rule.Rule.{Rule}
 use Rattle.msg_order.specs.Prelude.{FewerSystemsMakeNoCycle, IsAcyclic, NameSystemsBelow, access_of, edges_of, rules_among}
-use Rattle.msg_system.specs.Prelude.{Meaning, new_asked}
+use Rattle.msg_system.specs.Prelude.{HasClash, Meaning, new_asked}
 use Rattle.msg_order.proofs.SetPaths.{all_rules}
 use Rattle.msg_system.proofs.Accesses.{uses_needs}
 use Rattle.msg_frames.specs.declared.place.Place.{Place}
 use Rattle.msg_exec.specs.Prelude.{AreJoins, Core, EachIs, Lender, LenderStands, MayBeAdded, Schedule}
 use Rattle.msg_exec.specs.{inner.EngineParts.AreNoTotals, inner.EngineParts.IsAccessAt, inner.EngineParts.IsGuardedAt, inner.SystemsOut.HaveReadNothing}
-use Rattle.msg_frames.specs.Prelude.{AreNew, HasClash, nobody, nowhere, before_joining, State}
+use Rattle.msg_frames.specs.Prelude.{AreNew, nobody, nowhere, before_joining, State}
 use Rattle.msg_exec.proofs.ItemsOfLists.{item_at}
 use Rattle.msg_system.specs.declared.condition.Condition.{Condition}
 
@@ -123,6 +123,6 @@ none_more law n rules below none joined size =
 
 module _ {S : Type 0} (meaning : S → Meaning) where
   pub none_clashes : (systems : List S) (places : List Place) (xs : List Access) → length xs ≡ length systems
-      → EachIs (IsAccessAt meaning systems places) xs → EachIs (λ i x. ¬ HasClash (meaning x)) systems
+      → EachIs (IsAccessAt meaning systems places) xs → EachIs (λ i x. ¬ HasClash (meaning x).needs) systems
   none_clashes systems places xs size each i x there = let a =
       item_at xs i (omega (arith, size, slice_get_within systems i x there)) in (each i a.0 a.1).no_clash x there

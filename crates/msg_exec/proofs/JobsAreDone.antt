@@ -23,7 +23,8 @@ pub ran_job : {S : Type 0} (meaning : S → Meaning) (before now : GuardedSystem
 ran_job meaning before now l taken w none after replies nothing given holds asked ran stands written =
     let moved : meaning now.system ≡ after_turn (meaning before.system) w = ran.means
     ∙ (λ k. record (after_replies (ran.answers w stands k) (meaning before.system)) {
-        places = ran.places w stands k }) in
+      places = ran.places w stands k;
+    }) in
     grind (arith, moved, ran.answers w stands)
 
 pub skipped_job : {S : Type 0} (meaning : S → Meaning) (before now : GuardedSystem S) (taken : Parts) (w : WorldState)

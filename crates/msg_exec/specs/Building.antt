@@ -3,9 +3,9 @@ use Rattle.std.specs.Prelude.{◌≡◌, ℕ, ◌+◌, ◌<◌, ◌≤◌, List,
 use Rattle.msg_world.specs.Prelude.{Has, Part, Parts}
 use Rattle.msg_order.specs.declared.rule.Rule.{Rule}
 use Rattle.msg_order.specs.Prelude.{IsLowestOnCycle, NameSystemsBelow, edges_of}
-use Rattle.msg_system.specs.Prelude.{Meaning, needs_any, with_conditions}
+use Rattle.msg_system.specs.Prelude.{HasClash, Meaning, needs_any, with_conditions}
 use Rattle.msg_frames.specs.declared.place.Place.{Place}
-use Rattle.msg_frames.specs.Prelude.{HasClash, IsNew}
+use Rattle.msg_frames.specs.Prelude.{IsNew}
 use Rattle.msg_exec.specs.{declared.build_error.BuildError.BuildError, declared.build_error.BuildError.TheVariants.Full, declared.build_error.BuildError.TheVariants.BadJoin, declared.build_error.BuildError.TheVariants.Misfit, declared.build_error.BuildError.TheVariants.UnknownSystem, declared.build_error.BuildError.TheVariants.Refused, declared.build_refusal.BuildRefusal.BuildRefusal, declared.build_refusal.BuildRefusal.TheVariants.Clash, declared.build_refusal.BuildRefusal.TheVariants.Cycle, declared.build_refusal.BuildRefusal.TheVariants.NoMemory}
 
 module _ {X : Type 0} where
@@ -36,14 +36,15 @@ module _ {S : Type 0} (meaning : S → Meaning) where
   pub record IsLowestClash (systems : List S) (s : ℕ) : Type 0 where
     pub system : S
     pub is : slice_get systems s ≡ Some system
-    pub clash : HasClash (meaning system)
-    pub lowest : (r : ℕ) (x : S) → r < s → slice_get systems r ≡ Some x → ¬ HasClash (meaning x)
+    pub clash : HasClash (meaning system).needs
+    pub lowest : (r : ℕ) (x : S) → r < s → slice_get systems r ≡ Some x
+        → ¬ HasClash (meaning x).needs
 
   -- A refusal names the lowest system with a clash; or, where none has one, the lowest on a cycle
   -- of rules.
   abbrev pub RefusesFor : List S → List Rule → BuildRefusal → Type 0
   RefusesFor systems rules (Clash s) = IsLowestClash systems s
-  RefusesFor systems rules (Cycle s) = EachIs (λ i x. ¬ HasClash (meaning x)) systems
+  RefusesFor systems rules (Cycle s) = EachIs (λ i x. ¬ HasClash (meaning x).needs) systems
       × IsLowestOnCycle (edges_of rules) s
   RefusesFor systems rules NoMemory = ⊤
 

@@ -3,7 +3,8 @@ ghost use Rattle.std.specs.Prelude.{◌≡◌, ℕ, ◌≤◌, ◌↔◌, ◌++�
 ghost use Rattle.msg_world.specs.Prelude.{IsWhole, PartsStand, WorldState};
 ghost use Rattle.msg_order.specs.Prelude.{IsAcyclic, NameSystemsBelow, edges_of};
 ghost use Rattle.msg_order.specs.declared.rule.Rule.{Rule as RuleView};
-ghost use Rattle.msg_frames.specs.Prelude.{HasClash, first_state};
+ghost use Rattle.msg_system.specs.Prelude.{HasClash};
+ghost use Rattle.msg_frames.specs.Prelude.{first_state};
 ghost use Rattle.msg_exec.specs.Prelude.{AllFit, EachIs, FitsWorld, IsEngine, IsFirstUnknown, IsLowestMisfit, IsSpoiled, Misfit, RefusesToAdd, RefusesToBuild, EngineStands, UnknownSystem, numbered_from};
 
 use crate::{BuildError, BuildRefusal, EngineOf, Items, NoMemory, Place};
@@ -188,7 +189,8 @@ impl<S: Numbered> EngineBuilder<S> {
         ensures fresh { IfOk result (λ e. ¬ IsSpoiled e) }
         ensures fit { OnOk result (AllFit S.meaning world self.systems self.places) }
         ensures named { OnOk result (NameSystemsBelow (length self.systems) self.rules) }
-        ensures no_clash { OnOk result (EachIs (λ i x. ¬ HasClash (S.meaning x)) self.systems) }
+        ensures no_clash { OnOk result
+            (EachIs (λ i x. ¬ HasClash (S.meaning x).needs) self.systems) }
         ensures no_cycle { OnOk result (IsAcyclic (edges_of self.rules)) }
         ensures refusal { IfErr result (RefusesToBuild S.meaning world self) }
     {

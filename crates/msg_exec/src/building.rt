@@ -1,10 +1,10 @@
 // The parts of a new engine.
 ghost use Rattle.std.specs.Prelude.{◌≡◌, ◌<◌, ◌≤◌, ◌↔◌, ℕ, IfOk, IfErr, OnOk, IsTrue, IsSomeAnd, Some, length, map, slice_get};
 ghost use Rattle.msg_order.specs.Prelude.{IsAcyclic, NameSystemsBelow, edges_of};
-ghost use Rattle.msg_system.specs.Prelude.{IsAccessOf, new_asked};
+ghost use Rattle.msg_system.specs.Prelude.{HasClash, IsAccessOf, new_asked};
 ghost use Rattle.msg_exec.specs.Prelude.{EachIs, job_state, totals_at};
 ghost use Rattle.msg_exec.specs.inner.EngineParts.{AreNoTotals, IsAccessAt, IsGuardedAt, RefusesForClash, RefusesForCycle};
-ghost use Rattle.msg_frames.specs.Prelude.{HasClash, new_job, no_totals};
+ghost use Rattle.msg_frames.specs.Prelude.{new_job, no_totals};
 
 use crate::job::GuardedSystem;
 use crate::{BuildRefusal, NoMemory, Place, Totals};
@@ -16,7 +16,7 @@ use std::alloc::Global;
 /// Its own access, and whether that is a clash.
 fn own_access<S: System>(system: &S) -> (Access, bool)
     ensures access { IsAccessOf (S.meaning system.now).needs result.0 }
-    ensures clash { IsTrue result.1 ↔ HasClash (S.meaning system.now) }
+    ensures clash { IsTrue result.1 ↔ HasClash (S.meaning system.now).needs }
 {
     let own = system.access();
     let clash = own.is_clash();

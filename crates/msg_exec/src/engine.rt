@@ -41,13 +41,13 @@ pub type Engine = EngineOf<Box<dyn System>>;
 impl<S: System> EngineOf<S> {
     ghost use Rattle.std.specs.Prelude.{◌≡◌, ◌<◌, ◌-◌, ◌^◌, ◌+◌, ◌↔◌, ℕ, All, drop, min, IfOk, OnOk, Err, Ok, ◌≤◌, IfErr, IfSome, IsNone, IsTrue, List, Some, length, map};
     ghost use Rattle.std.specs.Option.{option_copied};
-    ghost use Rattle.msg_system.specs.declared.run_fault.RunFault.TheVariants.{BadOrder, NoMemory, Spoiled};
+    ghost use Rattle.msg_system.specs.{Needs.HasClash, declared.run_fault.RunFault.TheVariants.BadOrder, declared.run_fault.RunFault.TheVariants.NoMemory, declared.run_fault.RunFault.TheVariants.Spoiled};
     ghost use Rattle.msg_world.specs.declared.record.TheConstants.{HOST};
     ghost use Rattle.msg_world.specs.Prelude.{IsWhole, PartsStand, WorldState};
     ghost use Rattle.msg_order.specs.Prelude.{IsAcyclic, NameSystemsBelow, edges_of};
     ghost use Rattle.msg_exec.specs.{Building.EachIs, Building.MayBeAdded, Building.RefusesFor, Cores.frame_count, Engines.HasReplayed, Engines.HasRunFrame, Engines.HasRunFrames, Engines.HasRunSome, Engines.IsEngine, Engines.IsSpoiled, Engines.PostsFit, Engines.EngineStands, Engines.frame_number, Engines.world_of};
     ghost use Rattle.msg_workers.specs.Prelude.{EachPassedGate};
-    ghost use Rattle.msg_frames.specs.Prelude.{HasClash, HasOneRun, IsCompleteRun, IsLawfulFor, IsRun, State, first_state, turn_order_in};
+    ghost use Rattle.msg_frames.specs.Prelude.{HasOneRun, IsCompleteRun, IsLawfulFor, IsRun, State, first_state, turn_order_in};
     ghost use Rattle.msg_frames.specs.{declared.frame.Frame.Frame as FrameView, declared.log.Log.Log as LogView};
 
     /// An engine with no frame run. The systems go by number, in order of addition, and each has
@@ -76,7 +76,8 @@ impl<S: System> EngineOf<S> {
             (length world.types) w)) }
         ensures engine { IfOk result (IsEngine S.meaning) }
         ensures fresh { IfOk result (λ e. ¬ IsSpoiled e) }
-        ensures no_clash { OnOk result (EachIs (λ i x. ¬ HasClash (S.meaning x)) systems.items) }
+        ensures no_clash { OnOk result
+            (EachIs (λ i x. ¬ HasClash (S.meaning x).needs) systems.items) }
         ensures no_cycle { OnOk result (IsAcyclic (edges_of rules.items)) }
         ensures refusal { IfErr result (RefusesFor S.meaning systems.items rules.items) }
     {

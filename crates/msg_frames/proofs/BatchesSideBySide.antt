@@ -2,18 +2,12 @@
 use Rattle.std.proofs.Common.{◌≡◌, ◌≢◌, ℕ, suc, ◌<◌, List, [], ◌∷◌, ◌++◌, map, slice_index_or, refl, arith, All, AllPairs, if◌then◌else◌}
 use Rattle.std.specs.List.{concat}
 use Rattle.std.proofs.lemmas.{Bool.cases_Bool, List.Elements.All-tail, Bool.Decides.eqb_tells}
-use Rattle.msg_world.specs.declared.access.Access.{Access}
-use Rattle.msg_world.specs.Prelude.{Conflict, OfResource, OfType, Part, Registry, WorldState, content, merge, writes}
+use Rattle.msg_world.specs.{Prelude.Conflict, Prelude.OfResource, Prelude.OfType, Prelude.Part, Prelude.Registry, Prelude.WorldState, Prelude.content, Prelude.merge, Prelude.writes, declared.access.Access.Access}
+use Rattle.msg_world.proofs.Loans.{content_merged}
 use Rattle.msg_order.specs.Prelude.{NoneConflict, access_of}
 use Rattle.msg_system.specs.Prelude.{Agree, JobFootprint, needs_any}
 use Rattle.msg_frames.specs.Prelude.{AreAccessesOf, BatchesRunSideBySide, FramesRunByBatches, SameSystems, State, after_turn_of, after_turns_of, all_home, home, logged_turn, member_needs, turn_of, AfterTurns}
 use Rattle.msg_frames.proofs.{SystemsStay.accesses_stay, SystemsStay.turns_keep_systems, ElementsAndPairs.all_left, ElementsAndPairs.all_right, ElementsAndPairs.pairs_left, ElementsAndPairs.pairs_right, ElementsAndPairs.pairs_tail, TurnsCommute.apart, TurnsCommute.given_by_turn, TurnsCommute.same_world, TurnsCommute.turn_footprint}
-
-content_merge : (a : Access) (mine others : WorldState) (p : Part) → content p (merge a mine others)
-    ≡ (if writes a p then content p mine else content p others)
-content_merge a mine others (OfType t) = refl
-content_merge a mine others (OfResource r) = refl
-content_merge a mine others Registry = refl
 
 -- nothing that system i needs or keeps is otherwise in s than in `start`
 record Untouched (start s : State) (i : ℕ) : Type 0 where
@@ -32,7 +26,7 @@ module _ (foot : JobFootprint) (accesses : List Access) (start : State) (are : A
       let f = turn_footprint foot (start.members i) in
       let same = same_world (turn_of s i).world (merge (access_of accesses i) (turn_of start i).world s.world) (λ p.
       let own = f.alike (needs_any (member_needs (start.members i))) s.world start.world (λ q u. u) h.world p in
-      grind (arith, cases_Bool, content_merge, (are.of_needs i lt).writes p, f.kept s.world p, own, h.member)) in
+      grind (arith, cases_Bool, content_merged, (are.of_needs i lt).writes p, f.kept s.world p, own, h.member)) in
       grind (arith, given_same s i h, same)
 
   still : (s : State) (i j : ℕ) → i < start.systems → j < start.systems → i ≢ j
@@ -64,7 +58,8 @@ pub side_by_side : JobFootprint → BatchesRunSideBySide
 side_by_side foot s accesses batch are below once none =
     from_start foot accesses s are batch s below once none (λ k d lt. record { member = refl; world = λ p u. refl })
 
-follow : (xs ys : List ℕ) (s : State) → after_turns_of (xs ++ ys) s ≡
+-- turns that follow others
+pub follow : (xs ys : List ℕ) (s : State) → after_turns_of (xs ++ ys) s ≡
     (let first : AfterTurns = after_turns_of xs s in
     let rest : AfterTurns = after_turns_of ys first.state in
     record { state = rest.state; turns = first.turns ++ rest.turns })

@@ -2,8 +2,7 @@
 use Rattle.std.proofs.Common.{ℕ, zero, suc, ℤ, ◌≤◌, List, [], ◌∷◌, map, Option, None, Some, append-nil, append_assoc, length-append, arith}
 use Rattle.std.proofs.lemmas.{Bool.cases_Bool, Bool.Decides.eqb_tells}
 use Rattle.msg_buffer.specs.Prelude.{ClearsFit, GoesOn, History, IsSound, OnlyGrows, ReadsFit, clear, count, write}
-use Rattle.msg_world.specs.declared.record.Record.{Record}
-use Rattle.msg_world.specs.Prelude.{WorldState, after_update, by, with_history}
+use Rattle.msg_world.specs.{Prelude.WorldState, Prelude.after_update, Prelude.by, Prelude.with_history, declared.record.Record.Record}
 use Rattle.msg_system.specs.{declared.op.Op.Op, declared.op.Op.TheVariants.Write, declared.op.Op.TheVariants.Batch, declared.op.Op.TheVariants.Forward, declared.op.Op.TheVariants.Drain}
 use Rattle.msg_system.specs.Prelude.{AfterProgram, Job, Meaning, after_at_most, after_job, after_op, again_by, next_op, one_more, took, turn}
 use Rattle.msg_frames.specs.Prelude.{Frame, ListsOnlyGrow, State, after_posts, after_turn_of, after_turns_of, before_turns, frame_in, turn_order_in}

@@ -1,8 +1,7 @@
 -- Two lawful orders of turns leave the same.
 use Rattle.std.proofs.Common.{◌≡◌, ◌≢◌, ℕ, ◌<◌, ◌⊎◌, Bool, List, [], ◌∷◌, ◌++◌, length, get_or, refl, sym, ◌∙◌, arith, ◌↔◌, All, AllPairs, Contains, IsPermutation, IsTrue}
 use Rattle.std.proofs.lemmas.{Bool.cases_order, Grind.get_or_default_zero, List.Elements.All-contains, List.Elements.Contains-append_left, List.Elements.Contains-get_or, List.Elements.All-append, List.Elements.All-tail, List.FromFn.length-map-range_with_len, List.Sorted.IsPermutation-cons, List.Sorted.IsPermutation-middle, List.Sorted.IsPermutation-refl, List.Sorted.IsPermutation-trans, List.Sorted.Contains-permutation, List.Sorted.IsPermutation-sym, Option.get_or_from_slice_get, Option.slice_get_within}
-use Rattle.msg_world.specs.declared.access.Access.{Access}
-use Rattle.msg_world.specs.Prelude.{Conflict}
+use Rattle.msg_world.specs.{Prelude.Conflict, declared.access.Access.Access}
 use Rattle.msg_order.specs.Prelude.{ConflictingSystemsAreOrdered, Graph, IsLawfulOrder, LawfulOrdersKeepPaths, Path, SettledOrderIsUnique, TurnOrderIsLawful, access_of, has_joined}
 use Rattle.msg_system.specs.Prelude.{JobFootprint}
 use Rattle.msg_frames.specs.Prelude.{AreAccessesOf, FramesAgreeInLawfulOrders, LawfulOrdersAgree, State, after_turn_of, after_turns_of, before_turns, has_begun, join_flags, logged_turn, turn_order_in, Turn}

@@ -5,7 +5,7 @@ pub mod SystemsStay
 pub mod FramesInOrder
 -- ---- turns side by side, and in other orders
 mod TurnsCommute
-mod BatchesSideBySide
+pub mod BatchesSideBySide
 mod RunsAreUnique
 mod RunsExist
 mod LawfulOrdersAgree

@@ -2,8 +2,7 @@
 use Rattle.std.proofs.Common.{◌≡◌, ℕ, suc, ◌<◌, ◌≤◌, List, [], ◌∷◌, ◌++◌, map, All, Contains, refl, arith, get_or, IsTrue}
 use Rattle.std.proofs.lemmas.{Bool.cases_Bool, Bool.cases_eq, Bool.false≢true, Option.same_Some, Option.slice_get_cases, Option.slice_get_within, List.append-nil, List.Elements.All-append, List.Elements.All-cons, List.Elements.All-head, List.Elements.All-map, List.Elements.All-nil, List.Elements.All-tail, Bool.Decides.nat_tests}
 use Rattle.msg_buffer.specs.Prelude.{Entry, Fits, GoesOn, History, IsPresent, Stretch, Tile, count, next_place, update}
-use Rattle.msg_world.specs.declared.record.Record.{Record}
-use Rattle.msg_world.specs.Prelude.{after_update}
+use Rattle.msg_world.specs.{Prelude.after_update, declared.record.Record.Record}
 use Rattle.msg_frames.proofs.{ElementsAndPairs.Cut, ElementsAndPairs.cut, HistoriesGrow.BufferLaws, HistoriesGrow.counts_more, HistoriesGrow.Grows, HistoriesGrow.frame_goes_on, HistoriesGrow.grown, HistoriesGrow.posts_change, HistoriesGrow.runs_go_on, HistoriesGrow.turns_change, SystemsStay.joining_world, SystemsStay.turns_keep, SystemsStay.frame_keeps, ReaderOverJob.IsWritten, ReaderOverJob.tile_of, ReaderOverTurns.turns_read, BeforeTurns.Prepares, BeforeTurns.prepares, StatesStaySound.begun_alike, StatesStaySound.frame_sound, StatesStaySound.has_no_turn, StatesStaySound.prepared_sound, ReaderOverRun.run_tells, StampsStayRecent.AreRecent, StampsStayRecent.StaysRecent, StampsStayRecent.earlier_recent, StampsStayRecent.stays_recent, ReadersTakeAll.takes_by_turn}
 use Rattle.msg_frames.specs.Prelude.{Frame, IsFrame, IsRun, IsSoundState, IsUpToDate, Log, Moment, NothingDrained, ReadsAll, ReadsAllInEach, State, WhoIsUpToDateMissesNothing, WhoReadsEachFrameMissesNothing, after_turns_of, before_turns, has_begun, after_joining, moments, reader_place, turn_order_in, turns_moments}
 

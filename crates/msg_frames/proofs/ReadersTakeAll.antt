@@ -4,8 +4,7 @@ use Rattle.std.specs.List.{list_any}
 use Rattle.std.proofs.lemmas.{Bool.cases_Bool, Bool.false≢true, Bool.or_cases, List.Folds.list_any-append, Bool.Decides.eqb_tells}
 use Rattle.msg_buffer.specs.Prelude.{IsSound, count}
 use Rattle.msg_world.specs.Prelude.{WorldState}
-use Rattle.msg_system.specs.declared.op.Op.{Op}
-use Rattle.msg_system.specs.Prelude.{AfterProgram, Meaning, after_at_most, after_op, next_op, one_more, ops_answered, turn}
+use Rattle.msg_system.specs.{Prelude.AfterProgram, Prelude.Meaning, Prelude.after_at_most, Prelude.after_op, Prelude.next_op, Prelude.one_more, Prelude.ops_answered, Prelude.turn, declared.op.Op.Op}
 use Rattle.msg_system.proofs.Turns.{ops_answered-snoc}
 use Rattle.msg_frames.specs.Prelude.{Skipped, State, after_turn_of, after_turns_of, logged_turn, next_moments, reader_place, reads_all}
 use Rattle.msg_frames.proofs.{HistoriesGrow.BufferLaws, HistoriesGrow.counts_more, OneFateEach.tiles_rise, ReaderOverJob.first_passes, ReaderOverJob.next_passes, ReaderOverTurns.one_member, ReaderOverTurns.turn_reads}

@@ -1,10 +1,8 @@
 -- Rows: a host posts three messages, then none, then one. One system reads a message in each frame; another joins with
 -- the third frame and clears.
 use Rattle.std.proofs.Common.{◌≡◌, List, [], ◌∷◌, Some, pos, refl}
-use Rattle.msg_world.specs.Prelude.{by, new_world}
-use Rattle.msg_system.specs.{declared.op.Op.TheVariants.Read, declared.op.Op.TheVariants.Clear}
-use Rattle.msg_system.specs.Prelude.{new_system, turn}
-use Rattle.msg_world.specs.declared.record.TheConstants.{HOST}
+use Rattle.msg_world.specs.{Prelude.by, Prelude.new_world, declared.record.TheConstants.HOST}
+use Rattle.msg_system.specs.{Prelude.new_system, Prelude.turn, declared.op.Op.TheVariants.Read, declared.op.Op.TheVariants.Clear}
 use Rattle.msg_frames.specs.Prelude.{AfterFrame, ReadEntry, Log, State, cleared, first_state, found_at, frame_in, given, log_entries, messages_given, missed, nowhere, numbers_of, reader_place, program}
 
 abbrev start : State

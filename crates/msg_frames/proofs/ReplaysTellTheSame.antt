@@ -53,7 +53,7 @@ turns_alike lawful frame order s log u replay i =
     let other = lawful settled.settled (join_flags (before_turns frame.posts s)) (turn_order_in replay.settled)
     (order_is_among _ _ settled.is_order) settled.in_order in
     told_alike (λ (turn : Turn). turn.system) (λ (turn : Turn). replies_of _) i log.turns replay.settled.turns
-        replay.turns
+    replay.turns
     (rw (replay.in_order) (replay.lawful.lawful.once)) other.once
 
 pub replay_tells : TurnOrderIsLawful → ReplaysTellTheSame

@@ -3,13 +3,11 @@
 use Rattle.std.proofs.Common.{◌≡◌, ℕ, zero, suc, ◌*◌, ◌^◌, ◌%◌, ◌<◌, ◌≤◌, Bool, true, false, cond, ◌&&◌, All, List, [], ◌∷◌, Option, Some, None, map, refl, ◌∙◌, arith, nat_lt, bit_or, slice_index_or}
 use Rattle.std.specs.List.{range_with_len, list_all, list_any}
 use Rattle.std.proofs.lemmas.{Bool.cases_Bool, Bool.and_parts, Bool.false≢true, List.FromFn.get_or-map-range_with_len, List.FromFn.length-map-range_with_len, List.Sums.AllPass-from_list_all, Bool.Decides.eqb_tells, Bool.Decides.nat_tests}
-use Rattle.msg_world.specs.declared.access.Access.{Access}
-use Rattle.msg_world.specs.Prelude.{Part, OfType, OfResource, Registry, has_bit, no_access}
+use Rattle.msg_world.specs.{Prelude.Part, Prelude.OfType, Prelude.OfResource, Prelude.Registry, Prelude.has_bit, Prelude.no_access, declared.access.Access.Access}
 use Rattle.msg_world.proofs.Bits.{has_bit-zero, has_bit-set}
 use Rattle.msg_order.specs.Prelude.{access_of}
 use Rattle.msg_order.proofs.Computing.{each_below, is_turn_order, in_turn_by_test, settled_by_test, settled_is}
-use Rattle.msg_system.specs.{declared.op.Op.Op, declared.condition.Condition.Condition, declared.op.Op.TheVariants.Read, declared.program.Program.Program}
-use Rattle.msg_system.specs.Prelude.{IsAccessOf, Needs, conditions_of, is_part, job_needs, op_parts, probe_part, program_needs, turn}
+use Rattle.msg_system.specs.{Prelude.IsAccessOf, Prelude.Needs, Prelude.conditions_of, Prelude.is_part, Prelude.job_needs, Prelude.op_parts, Prelude.probe_part, Prelude.program_needs, Prelude.turn, declared.condition.Condition.Condition, declared.op.Op.Op, declared.op.Op.TheVariants.Read, declared.program.Program.Program}
 use Rattle.msg_frames.specs.Prelude.{AfterFrame, Frame, IsRunOf, IsTurnOrderOf, OrderedFrames, Setup, State, alone, before_turns, conditions_frames, contrary, contrary_frames, drained, drained_frames, early_frames, echo, echo_frames, fourth, fourth_frames, frame_in, gated, gated_frames, join_flags, lag, lag_frames, late, late_frames, member_needs, nobody, systems_numbered, program, relay, relay_frames, signallers, signallers_frames, setup_state, tally, tally_frames, two_conditions, writers, writers_frames}
 use Rattle.msg_frames.proofs.{SystemsStay.before_keeps, SystemsStay.frame_keeps, SystemsStay.joining_on_keeps, FramesInOrder.frame_in_order}
 

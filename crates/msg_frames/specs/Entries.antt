@@ -4,8 +4,7 @@ use Rattle.std.specs.Prelude.{ℕ, ◌+◌, ◌-◌, ◌==◌, false, Bool, List
 use Rattle.std.specs.List.{range_with_len}
 use Rattle.msg_buffer.specs.Prelude.{Stretch}
 use Rattle.msg_world.specs.declared.record.Record.{Record}
-use Rattle.msg_system.specs.{declared.op.Op.Op, declared.reply.Reply.Reply, declared.reply.Reply.TheVariants.Read, declared.reply.Reply.TheVariants.Cleared, declared.reply.Reply.TheVariants.Forwarded, declared.reply.Reply.TheVariants.Summed, declared.reply.Took.Took}
-use Rattle.msg_system.specs.Prelude.{Meaning, Needs, Rule, if_kept, ops_answered, type_read}
+use Rattle.msg_system.specs.{Prelude.Meaning, Prelude.Needs, Prelude.Rule, Prelude.if_kept, Prelude.ops_answered, Prelude.type_read, declared.op.Op.Op, declared.reply.Reply.Reply, declared.reply.Reply.TheVariants.Read, declared.reply.Reply.TheVariants.Cleared, declared.reply.Reply.TheVariants.Forwarded, declared.reply.Reply.TheVariants.Summed, declared.reply.Took.Took}
 use Rattle.msg_frames.specs.{declared.log.Outcome.Outcome, declared.log.Outcome.TheVariants.Skipped, declared.log.Outcome.TheVariants.Ran, declared.totals.Totals.Totals}
 
 -- What a reader went past by one op: a stretch of messages, which it was given, or which it

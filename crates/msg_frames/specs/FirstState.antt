@@ -1,9 +1,8 @@
--- A state before any frame, and which systems and rules make none.
-use Rattle.std.specs.Prelude.{◌≡◌, ℕ, ◌&&◌, true, List, [], length, map, replicate, slice_index_or, IsTrue}
-use Rattle.msg_world.specs.Prelude.{Part, WorldState}
+-- A state before any frame.
+use Rattle.std.specs.Prelude.{◌≡◌, ℕ, List, [], length, map, slice_index_or}
+use Rattle.msg_world.specs.Prelude.{WorldState}
 use Rattle.msg_order.specs.declared.rule.Rule.{Rule}
-use Rattle.msg_system.specs.Prelude.{Job, Meaning, new_asked, new_system}
-use Rattle.msg_system.specs.declared.start.Start.TheVariants.{Zero}
+use Rattle.msg_system.specs.{Prelude.Job, Prelude.Meaning, Prelude.new_asked, Prelude.new_system, declared.start.Start.TheVariants.Zero}
 use Rattle.msg_frames.specs.{declared.place.Place.Place, Entries.no_totals, Frames.with_joining, Frames.Member, Frames.State}
 
 -- the default for a number that is no system's: no ops, writer 0
@@ -42,9 +41,3 @@ before_joining systems places rules types world = record {
 abbrev pub first_state : List Meaning → List Place → List Rule → ℕ → WorldState → State
 first_state systems places rules types world =
     with_joining 1 (before_joining systems places rules types world)
-
--- ---- what makes none
-
--- it reads and writes one part
-abbrev pub HasClash : Meaning → Type 0
-HasClash m = (p : Part) × IsTrue (m.needs.reads p && m.needs.writes p)

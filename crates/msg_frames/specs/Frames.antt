@@ -2,13 +2,11 @@
 use Rattle.std.specs.Prelude.{◌≡◌, ℕ, suc, ℤ, ◌<◌, ◌==◌, List, [], ◌∷◌, length, map, Option, Some, None, if◌then◌else◌, max, nat_le, Bool}
 use Rattle.std.specs.List.{range_with_len}
 use Rattle.msg_buffer.specs.Prelude.{count, write}
-use Rattle.msg_world.specs.{declared.access.Access.Access, declared.record.TheConstants.HOST}
-use Rattle.msg_world.specs.Prelude.{WorldState, after_update, by, with_history}
-use Rattle.msg_order.specs.Prelude.{Graph, IsSettledOrder, IsTurnOrder, access_of}
+use Rattle.msg_world.specs.{Prelude.WorldState, Prelude.after_update, Prelude.by, Prelude.with_history, declared.access.Access.Access, declared.record.TheConstants.HOST}
+use Rattle.msg_order.specs.{Prelude.Graph, Prelude.IsSettledOrder, Prelude.IsTurnOrder, Prelude.access_of, declared.rule.Rule.Rule}
 use Rattle.msg_system.specs.declared.reply.Reply.{Reply}
 use Rattle.msg_system.specs.Prelude.{AfterJob, IsAccessOf, Job, Needs, after_job, asked_started, conditions_of, numbers_for, after_start, with_conditions, write_reply}
 use Rattle.msg_frames.specs.{declared.frame.Frame.Frame, declared.log.Log.Log, declared.log.Turn.Turn, declared.log.Outcome.Outcome, declared.log.Outcome.TheVariants.Skipped, declared.log.Outcome.TheVariants.Ran, Entries.outcome_entries, Entries.totals_from, Entries.with_entries, declared.totals.Totals.Totals}
-use Rattle.msg_order.specs.declared.rule.Rule.{Rule}
 
 -- A system among the others.
 pub record Member : Type 0 where

@@ -2,7 +2,7 @@
 pub use Rattle.msg_frames.specs.Accounts.{AddsUp, account_of, accounts_of, accounts_of_system, is_reader}
 pub use Rattle.msg_frames.specs.CompleteRun.{IsCompleteRun, IsGivenOnce, IsInOrderOf, IsServed, Meets, MeetsOneFate, found_totals, is_by, message_numbered, messages_given}
 pub use Rattle.msg_frames.specs.Entries.{ReadEntry, Fate, replies_of, cleared, entries_for, entries_told, entry_for, entry_of, entry_of_read, given, missed, no_totals, numbers_at, numbers_of, numbers_passed, ops_by, outcome_entries, totals_from, with_entries}
-pub use Rattle.msg_frames.specs.FirstState.{HasClash, IsNew, first_state, new_job, nobody, nowhere, before_joining, waiting_member}
+pub use Rattle.msg_frames.specs.FirstState.{IsNew, first_state, new_job, nobody, nowhere, before_joining, waiting_member}
 pub use Rattle.msg_frames.specs.Frames.{AfterFrame, AfterTurn, AfterTurns, AreAccessesOf, IsFrame, IsOrderOf, IsRun, IsTurnOrderOf, Member, State, after_posts, after_turn_of, after_turns_of, before_turns, counts, frame_in, has_begun, job_begun, join_flags, joined_member, after_joining, logged_turn, member_turn, member_needs, outcome_of, post_replies, turn_order_in, turn_of, with_joining, with_member}
 pub use Rattle.msg_frames.specs.ReaderLaws.{AccountsBalance, AreNew, FirstIsSound, FrameStaysSound, NoneBeforeJoining, ReplaysTellACompleteRun, ReplaysTellTheSame, RunStaysSound, RunsAreComplete}
 pub use Rattle.msg_frames.specs.Replays.{IsLawfulFor, IsMixedRun, IsReplay, TellsACompleteRun}

@@ -1,13 +1,11 @@
 -- Worked runs: systems, frames with the order of their turns, and the logs that come of them, by
 -- computation. Of each of them it is proved that it is a run (`IsRunOf`), since its turns are in
 -- the settled order.
-use Rattle.std.specs.Prelude.{◌≡◌, ℕ, suc, ℤ, pos, negsuc, List, [], ◌∷◌, ◌++◌, map, Some, None, refl}
-use Rattle.msg_world.specs.{declared.record.Record.Record, declared.record.TheConstants.HOST}
+use Rattle.std.specs.Prelude.{◌≡◌, ℕ, suc, ℤ, pos, negsuc, List, [], ◌∷◌, ◌++◌, length, map, Some, None, refl}
+use Rattle.msg_world.specs.{Prelude.WorldState, Prelude.by, Prelude.held_world, Prelude.new_world, declared.record.Record.Record, declared.record.TheConstants.HOST}
 use Rattle.msg_order.specs.declared.rule.Rule.{Rule}
-use Rattle.msg_world.specs.Prelude.{WorldState, by, held_world, new_world}
-use Rattle.msg_system.specs.{declared.condition.Condition.Condition, declared.condition.Probe.TheVariants.OnMessage, declared.condition.Probe.TheVariants.ResourceEquals, declared.op.Op.Op, declared.op.Op.TheVariants.Write, declared.op.Op.TheVariants.Batch, declared.op.Op.TheVariants.Read, declared.op.Op.TheVariants.Len, declared.op.Op.TheVariants.Missed, declared.op.Op.TheVariants.Forward, declared.op.Op.TheVariants.Sum, declared.op.Op.TheVariants.Set, declared.op.Op.TheVariants.Add, declared.op.Op.TheVariants.Drain, declared.op.Op.TheVariants.Signal, declared.program.Program.Program, declared.reply.Reply.Reply, declared.reply.Took.Took, declared.start.Start.TheVariants.Zero, declared.start.Start.TheVariants.Current}
+use Rattle.msg_system.specs.{Prelude.Meaning, Prelude.new_system, Prelude.turn, declared.condition.Condition.Condition, declared.condition.Probe.TheVariants.OnMessage, declared.condition.Probe.TheVariants.ResourceEquals, declared.op.Op.Op, declared.op.Op.TheVariants.Write, declared.op.Op.TheVariants.Batch, declared.op.Op.TheVariants.Read, declared.op.Op.TheVariants.Len, declared.op.Op.TheVariants.Missed, declared.op.Op.TheVariants.Forward, declared.op.Op.TheVariants.Sum, declared.op.Op.TheVariants.Set, declared.op.Op.TheVariants.Add, declared.op.Op.TheVariants.Drain, declared.op.Op.TheVariants.Signal, declared.program.Program.Program, declared.reply.Reply.Reply, declared.reply.Took.Took, declared.start.Start.TheVariants.Zero, declared.start.Start.TheVariants.Current}
 use Rattle.msg_system.specs.declared.reply.Reply.TheVariants as reply
-use Rattle.msg_system.specs.Prelude.{Meaning, new_system, turn}
 use Rattle.msg_frames.specs.{declared.log.Log.Log, declared.log.Outcome.TheVariants.Skipped, declared.log.Outcome.TheVariants.Ran, declared.log.Turn.Turn, declared.place.Place.Place, declared.totals.Totals.Totals, Entries.no_totals, Frames.AfterFrame, Frames.IsRun, Frames.frame_in, Frames.State, FirstState.first_state}
 
 -- ---- how the rows are written
@@ -35,6 +33,20 @@ pub record Setup : Type 0 where
   pub rules : List Rule
   pub types : ℕ
   pub world : WorldState
+
+-- these programs in these places under these rules, over types of these limits and these resources
+abbrev pub setup : List Program → List Place → List Rule → List ℕ → List ℤ → Setup
+setup programs places rules limits resources = record {
+  programs = programs;
+  places = places;
+  rules = rules;
+  types = length limits;
+  world = new_world limits resources;
+}
+
+-- the same, over a held world
+abbrev pub held : Setup → Setup
+held x = record x { world = held_world x.world }
 
 -- systems of these programs, each of which writes as its number
 abbrev pub systems_numbered : ℕ → List Program → List Meaning
@@ -99,8 +111,11 @@ skipped i = record { system = i; outcome = Skipped }
 abbrev pub wrote : ℕ → ℕ → Reply
 wrote first n = reply.Wrote (record { first = first; n = n })
 
+abbrev pub took_of : ℕ → ℕ → List Record → Took
+took_of missed first items = record { missed = missed; first = first; items = items }
+
 abbrev pub read_of : ℕ → ℕ → List Record → Reply
-read_of missed first items = reply.Read (record { missed = missed; first = first; items = items })
+read_of missed first items = reply.Read (took_of missed first items)
 
 abbrev pub totals_of : State → ℕ → ℕ → Totals
 totals_of s i t = (s.members i).totals t
@@ -111,59 +126,35 @@ gave start got missed = record { start = Some start; got = got; missed = missed;
 -- ---- no frames: nothing is logged, and the reader stands at its start
 
 abbrev pub alone : Setup
-alone = record {
-  programs = program (Read 0 None ∷ []) ∷ [];
-  places = always ∷ [];
-  rules = [];
-  types = 1;
-  world = new_world (10 ∷ []) [];
-}
+alone = setup (program (Read 0 None ∷ []) ∷ []) (always ∷ []) [] (10 ∷ []) []
 
-pub no_frames : (run [] alone).logs ≡ []
+pub no_frames : ((run [] alone).logs ≡ []) × (totals_of (run [] alone).state 0 0 ≡ gave 0 0 0)
 unfolding turn
-no_frames = refl
-
-pub no_frames_gave : totals_of (run [] alone).state 0 0 ≡ gave 0 0 0
-unfolding turn
-no_frames_gave = refl
+no_frames = (refl, refl)
 
 -- ---- a reader that runs before the writer gets its message a frame later
 
 abbrev pub lag : Setup
-lag = record {
-  programs = program (Read 0 None ∷ []) ∷ program (Write 0 (pos 5) ∷ []) ∷ [];
-  places = always ∷ always ∷ [];
-  rules = record { earlier = 0; later = 1 } ∷ [];
-  types = 1;
-  world = new_world (10 ∷ []) (pos 0 ∷ []);
-}
+lag =
+    setup (program (Read 0 None ∷ []) ∷ program (Write 0 (pos 5) ∷ []) ∷ [])
+    (always ∷ always ∷ []) (record { earlier = 0; later = 1 } ∷ []) (10 ∷ []) (pos 0 ∷ [])
 
 abbrev pub lag_frames : OrderedFrames
 lag_frames = each_in_order (0 ∷ 1 ∷ []) ([] ∷ [] ∷ [])
 
-abbrev pub lag_run : Run
-lag_run = run lag_frames lag
-
-pub one_frames_lag : lag_run.logs
+pub one_frames_lag : ((run lag_frames lag).logs
     ≡ log_of [] (did 0 (read_of 0 0 []) ∷ did 1 (wrote 0 1) ∷ [])
-    ∷ log_of [] (did 0 (read_of 0 0 (by 1 (pos 5) ∷ [])) ∷ did 1 (wrote 1 1) ∷ []) ∷ []
+    ∷ log_of [] (did 0 (read_of 0 0 (by 1 (pos 5) ∷ [])) ∷ did 1 (wrote 1 1) ∷ []) ∷ [])
+    × (totals_of (run lag_frames lag).state 0 0 ≡ gave 0 1 0)
 unfolding turn
-one_frames_lag = refl
-
-pub one_frames_lag_gave : totals_of lag_run.state 0 0 ≡ gave 0 1 0
-unfolding turn
-one_frames_lag_gave = refl
+one_frames_lag = (refl, refl)
 
 -- ---- two updates drop a message, and not one
 
 abbrev pub fourth : List Op → Setup
-fourth ops = record {
-  programs = program (Add 0 (pos 1) ∷ []) ∷ program ops ∷ [];
-  places = always ∷ asking (equals 0 (pos 4) ∷ []) ∷ [];
-  rules = [];
-  types = 1;
-  world = new_world (10 ∷ []) (pos 0 ∷ []);
-}
+fourth ops =
+    setup (program (Add 0 (pos 1) ∷ []) ∷ program ops ∷ [])
+    (always ∷ asking (equals 0 (pos 4) ∷ []) ∷ []) [] (10 ∷ []) (pos 0 ∷ [])
 
 abbrev pub fourth_frames : OrderedFrames
 fourth_frames = each_in_order (0 ∷ 1 ∷ []) (post (pos 10) ∷ post (pos 20) ∷ post (pos 30) ∷ [] ∷ [])
@@ -171,18 +162,14 @@ fourth_frames = each_in_order (0 ∷ 1 ∷ []) (post (pos 10) ∷ post (pos 20) 
 abbrev pub fourth_run : List Op → Run
 fourth_run ops = run fourth_frames (fourth ops)
 
-pub exactly_two_updates : (fourth_run (Read 0 None ∷ [])).logs
+pub exactly_two_updates : ((fourth_run (Read 0 None ∷ [])).logs
     ≡ log_of (wrote 0 1 ∷ []) (did 0 (reply.Value (pos 1)) ∷ skipped 1 ∷ [])
     ∷ log_of (wrote 1 1 ∷ []) (did 0 (reply.Value (pos 2)) ∷ skipped 1 ∷ [])
     ∷ log_of (wrote 2 1 ∷ []) (did 0 (reply.Value (pos 3)) ∷ skipped 1 ∷ [])
     ∷ log_of [] (did 0 (reply.Value (pos 4)) ∷ did 1 (read_of 2 2 (by HOST (pos 30) ∷ [])) ∷ [])
-    ∷ []
+    ∷ []) × (totals_of (fourth_run (Read 0 None ∷ [])).state 1 0 ≡ gave 0 1 2)
 unfolding turn
-exactly_two_updates = refl
-
-pub exactly_two_updates_gave : totals_of (fourth_run (Read 0 None ∷ [])).state 1 0 ≡ gave 0 1 2
-unfolding turn
-exactly_two_updates_gave = refl
+exactly_two_updates = (refl, refl)
 
 -- ---- a read of no messages goes past dropped ones
 
@@ -199,15 +186,10 @@ read_of_none = refl
 -- ---- the host and two systems write to one type
 
 abbrev pub writers : Setup
-writers = record {
-  programs = program (Write 0 (pos 1) ∷ []) ∷
-      program (Batch 0 (pos 2 ∷ pos 3 ∷ []) ∷ []) ∷
-      program (Read 0 None ∷ []) ∷ [];
-  places = always ∷ always ∷ always ∷ [];
-  rules = [];
-  types = 1;
-  world = new_world (20 ∷ []) (pos 0 ∷ []);
-}
+writers =
+    setup (program (Write 0 (pos 1) ∷ []) ∷ program (Batch 0 (pos 2 ∷ pos 3 ∷ []) ∷ [])
+    ∷ program (Read 0 None ∷ []) ∷ [])
+    (always ∷ always ∷ always ∷ []) [] (20 ∷ []) (pos 0 ∷ [])
 
 -- what the reader gets of a frame, after the host's value
 abbrev pub of_three : ℤ → List Record
@@ -227,16 +209,11 @@ host_and_two_writers = refl
 -- ---- rules that go against the order of addition
 
 abbrev pub contrary : Setup
-contrary = record {
-  programs = program (Write 0 (pos 1) ∷ []) ∷
-      program (Write 1 (pos 2) ∷ []) ∷
-      program (Read 1 None ∷ []) ∷
-      program (Read 0 None ∷ []) ∷ [];
-  places = always ∷ always ∷ always ∷ always ∷ [];
-  rules = record { earlier = 3; later = 1 } ∷ record { earlier = 2; later = 0 } ∷ [];
-  types = 2;
-  world = new_world (10 ∷ 10 ∷ []) [];
-}
+contrary =
+    setup (program (Write 0 (pos 1) ∷ []) ∷ program (Write 1 (pos 2) ∷ [])
+    ∷ program (Read 1 None ∷ []) ∷ program (Read 0 None ∷ []) ∷ [])
+    (always ∷ always ∷ always ∷ always ∷ [])
+    (record { earlier = 3; later = 1 } ∷ record { earlier = 2; later = 0 } ∷ []) (10 ∷ 10 ∷ []) []
 
 abbrev pub contrary_turns : List Turn
 contrary_turns =
@@ -253,13 +230,7 @@ contradictory_order = refl
 -- ---- a system that asks for messages of the type that it writes
 
 abbrev pub echo : Setup
-echo = record {
-  programs = program (Write 0 (pos 1) ∷ []) ∷ [];
-  places = asking (on_message 0 ∷ []) ∷ [];
-  rules = [];
-  types = 1;
-  world = new_world (9 ∷ []) [];
-}
+echo = setup (program (Write 0 (pos 1) ∷ []) ∷ []) (asking (on_message 0 ∷ []) ∷ []) [] (9 ∷ []) []
 
 abbrev pub echo_frames : OrderedFrames
 echo_frames = each_in_order (0 ∷ []) ([] ∷ post (pos 5) ∷ [] ∷ [])
@@ -274,13 +245,9 @@ own_message_asked = refl
 -- hold
 
 abbrev pub two_conditions : Setup
-two_conditions = record {
-  programs = program (Len 0 ∷ []) ∷ program (Set 0 (pos 1) ∷ []) ∷ [];
-  places = asking (equals 0 (pos 1) ∷ on_message 0 ∷ []) ∷ always ∷ [];
-  rules = [];
-  types = 1;
-  world = new_world (9 ∷ []) (pos 0 ∷ []);
-}
+two_conditions =
+    setup (program (Len 0 ∷ []) ∷ program (Set 0 (pos 1) ∷ []) ∷ [])
+    (asking (equals 0 (pos 1) ∷ on_message 0 ∷ []) ∷ always ∷ []) [] (9 ∷ []) (pos 0 ∷ [])
 
 abbrev pub conditions_frames : OrderedFrames
 conditions_frames = each_in_order (0 ∷ 1 ∷ []) (post (pos 1) ∷ [] ∷ post (pos 2) ∷ [])
@@ -295,36 +262,27 @@ all_conditions = refl
 -- ---- a sum is held within its range at each message
 
 abbrev pub tally : Setup
-tally = record {
-  programs = program (Sum 0 0 ∷ []) ∷ [];
-  places = always ∷ [];
-  rules = [];
-  types = 1;
-  world = new_world (9 ∷ []) (pos 9223372036854775807 ∷ []);
-}
+tally =
+    setup (program (Sum 0 0 ∷ []) ∷ []) (always ∷ []) [] (9 ∷ []) (pos 9223372036854775807 ∷ [])
 
 abbrev pub added : Took
-added = record { missed = 0; first = 0; items = by HOST (pos 1) ∷ by HOST (negsuc 4) ∷ [] }
+added = took_of 0 0 (by HOST (pos 1) ∷ by HOST (negsuc 4) ∷ [])
 
 abbrev pub tally_frames : OrderedFrames
 tally_frames = each_in_order (0 ∷ []) (((0, pos 1) ∷ (0, negsuc 4) ∷ []) ∷ [])
 
 pub saturation : (run tally_frames tally).logs
     ≡ log_of (wrote 0 1 ∷ wrote 1 1 ∷ [])
-        (did 0 (reply.Summed added (pos 9223372036854775802)) ∷ []) ∷ []
+    (did 0 (reply.Summed added (pos 9223372036854775802)) ∷ []) ∷ []
 unfolding turn
 saturation = refl
 
 -- ---- systems that join with frame 3, one from the start of the list and one from its end
 
 abbrev pub late : Setup
-late = record {
-  programs = program (Read 0 None ∷ []) ∷ record { ops = Read 0 None ∷ []; start = Current } ∷ [];
-  places = from_frame 3 ∷ from_frame 3 ∷ [];
-  rules = [];
-  types = 1;
-  world = new_world (10 ∷ []) (pos 0 ∷ []);
-}
+late =
+    setup (program (Read 0 None ∷ []) ∷ record { ops = Read 0 None ∷ []; start = Current } ∷ [])
+    (from_frame 3 ∷ from_frame 3 ∷ []) [] (10 ∷ []) (pos 0 ∷ [])
 
 abbrev pub early_frames : OrderedFrames
 early_frames = each_in_order [] (post (pos 1) ∷ post (pos 2) ∷ [])
@@ -335,33 +293,22 @@ late_frames = early_frames ++ each_in_order (0 ∷ 1 ∷ []) (post (pos 3) ∷ [
 abbrev pub late_run : Run
 late_run = run late_frames late
 
-pub late_systems : late_run.logs
+pub late_systems : (late_run.logs
     ≡ log_of (wrote 0 1 ∷ []) [] ∷ log_of (wrote 1 1 ∷ []) []
     ∷ log_of (wrote 2 1 ∷ []) (
     did 0 (read_of 1 1 (by HOST (pos 2) ∷ by HOST (pos 3) ∷ [])) ∷
-    did 1 (read_of 0 2 (by HOST (pos 3) ∷ [])) ∷ []) ∷ []
+    did 1 (read_of 0 2 (by HOST (pos 3) ∷ [])) ∷ []) ∷ [])
+    × (totals_of late_run.state 0 0 ≡ gave 0 2 1) × (totals_of late_run.state 1 0 ≡ gave 2 1 0)
+    × (totals_of (run early_frames late).state 0 0 ≡ no_totals)
 unfolding turn
-late_systems = refl
-
-pub late_systems_gave : (totals_of late_run.state 0 0 ≡ gave 0 2 1)
-    × (totals_of late_run.state 1 0 ≡ gave 2 1 0)
-unfolding turn
-late_systems_gave = (refl, refl)
-
-pub late_systems_wait : totals_of (run early_frames late).state 0 0 ≡ no_totals
-unfolding turn
-late_systems_wait = refl
+late_systems = (refl, refl, refl, refl)
 
 -- ---- a held world is updated only in the frame after a signal
 
 abbrev pub gated : Setup
-gated = record {
-  programs = program (Add 0 (pos 1) ∷ []) ∷ program (Signal ∷ []) ∷ program (Len 0 ∷ []) ∷ [];
-  places = always ∷ asking (differs 0 (pos 1) ∷ []) ∷ always ∷ [];
-  rules = [];
-  types = 1;
-  world = held_world (new_world (10 ∷ []) (pos 0 ∷ []));
-}
+gated = held
+    (setup (program (Add 0 (pos 1) ∷ []) ∷ program (Signal ∷ []) ∷ program (Len 0 ∷ []) ∷ [])
+    (always ∷ asking (differs 0 (pos 1) ∷ []) ∷ always ∷ []) [] (10 ∷ []) (pos 0 ∷ []))
 
 abbrev pub gated_frames : OrderedFrames
 gated_frames = each_in_order (0 ∷ 2 ∷ 1 ∷ []) (post (pos 1) ∷ [] ∷ [] ∷ [] ∷ [])
@@ -378,13 +325,9 @@ held_updates = refl
 -- ---- several signals of a frame are one: the next frame updates once
 
 abbrev pub signallers : Setup
-signallers = record {
-  programs = program (Signal ∷ Signal ∷ []) ∷ program (Signal ∷ []) ∷ program (Missed 0 ∷ []) ∷ [];
-  places = always ∷ always ∷ always ∷ [];
-  rules = [];
-  types = 1;
-  world = held_world (new_world (10 ∷ []) []);
-}
+signallers = held
+    (setup (program (Signal ∷ Signal ∷ []) ∷ program (Signal ∷ []) ∷ program (Missed 0 ∷ []) ∷ [])
+    (always ∷ always ∷ always ∷ []) [] (10 ∷ []) [])
 
 abbrev pub signallers_frames : OrderedFrames
 signallers_frames = each_in_order (0 ∷ 2 ∷ 1 ∷ []) (post (pos 1) ∷ [] ∷ [] ∷ [])
@@ -403,19 +346,14 @@ several_signals = refl
 -- ---- what is drained between two readers is missed by each that hadn't read it
 
 abbrev pub drained : Setup
-drained = record {
-  programs = program (Read 0 (Some 1) ∷ []) ∷ program (Drain 0 ∷ [])
-      ∷ program (Read 0 None ∷ []) ∷ [];
-  places = always ∷ always ∷ always ∷ [];
-  rules = [];
-  types = 1;
-  world = new_world (10 ∷ []) [];
-}
+drained =
+    setup (program (Read 0 (Some 1) ∷ []) ∷ program (Drain 0 ∷ [])
+    ∷ program (Read 0 None ∷ []) ∷ []) (always ∷ always ∷ always ∷ []) [] (10 ∷ []) []
 
 abbrev pub drained_frames : OrderedFrames
 drained_frames = each_in_order (0 ∷ 1 ∷ 2 ∷ []) (((0, pos 1) ∷ (0, pos 2) ∷ []) ∷ post (pos 3) ∷ [])
 
-pub drain_between_readers : (run drained_frames drained).logs
+pub drain_between_readers : ((run drained_frames drained).logs
     ≡ log_of (wrote 0 1 ∷ wrote 1 1 ∷ []) (
     did 0 (read_of 0 0 (by HOST (pos 1) ∷ [])) ∷
     did 1 (reply.Drained 0 (by HOST (pos 1) ∷ by HOST (pos 2) ∷ [])) ∷
@@ -423,47 +361,31 @@ pub drain_between_readers : (run drained_frames drained).logs
     ∷ log_of (wrote 2 1 ∷ []) (
     did 0 (read_of 1 2 (by HOST (pos 3) ∷ [])) ∷
     did 1 (reply.Drained 2 (by HOST (pos 3) ∷ [])) ∷
-    did 2 (read_of 1 3 []) ∷ []) ∷ []
-unfolding turn
-drain_between_readers = refl
-
-pub drain_between_readers_gave : (totals_of (run drained_frames drained).state 0 0 ≡ gave 0 2 1)
+    did 2 (read_of 1 3 []) ∷ []) ∷ [])
+    × (totals_of (run drained_frames drained).state 0 0 ≡ gave 0 2 1)
     × (totals_of (run drained_frames drained).state 2 0 ≡ gave 0 0 3)
 unfolding turn
-drain_between_readers_gave = (refl, refl)
+drain_between_readers = (refl, refl, refl)
 
 -- ---- what a refused forward read stays read
 
 abbrev pub relay : Setup
-relay = record {
-  programs = program (Forward 0 1 ∷ []) ∷ program (Read 1 None ∷ []) ∷ [];
-  places = always ∷ always ∷ [];
-  rules = [];
-  types = 2;
-  world = new_world (10 ∷ 1 ∷ []) [];
-}
-
-abbrev pub took_from : ℕ → List Record → Took
-took_from first items = record { missed = 0; first = first; items = items }
+relay =
+    setup (program (Forward 0 1 ∷ []) ∷ program (Read 1 None ∷ []) ∷ []) (always ∷ always ∷ []) []
+    (10 ∷ 1 ∷ []) []
 
 abbrev pub relay_frames : OrderedFrames
 relay_frames = each_in_order (0 ∷ 1 ∷ []) (((0, pos 1) ∷ (0, pos 2) ∷ []) ∷ post (pos 3) ∷ [])
 
-abbrev pub relay_run : Run
-relay_run = run relay_frames relay
-
-pub forward_at_the_limit : relay_run.logs
+pub forward_at_the_limit : ((run relay_frames relay).logs
     ≡ log_of (wrote 0 1 ∷ wrote 1 1 ∷ []) (
-    did 0 (reply.Forwarded (took_from 0 (by HOST (pos 1) ∷ by HOST (pos 2) ∷ [])) None) ∷
+    did 0 (reply.Forwarded (took_of 0 0 (by HOST (pos 1) ∷ by HOST (pos 2) ∷ [])) None) ∷
     did 1 (read_of 0 0 []) ∷ [])
     ∷ log_of (wrote 2 1 ∷ []) (
-    did 0 (reply.Forwarded (took_from 2 (by HOST (pos 3) ∷ []))
+    did 0 (reply.Forwarded (took_of 0 2 (by HOST (pos 3) ∷ []))
     (Some (record { first = 0; n = 1 }))) ∷
-    did 1 (read_of 0 0 (by 0 (pos 3) ∷ [])) ∷ []) ∷ []
+    did 1 (read_of 0 0 (by 0 (pos 3) ∷ [])) ∷ []) ∷ [])
+    × (totals_of (run relay_frames relay).state 0 0 ≡ gave 0 3 0)
+    × (totals_of (run relay_frames relay).state 1 1 ≡ gave 0 1 0)
 unfolding turn
-forward_at_the_limit = refl
-
-pub forward_at_the_limit_gave : (totals_of relay_run.state 0 0 ≡ gave 0 3 0)
-    × (totals_of relay_run.state 1 1 ≡ gave 0 1 0)
-unfolding turn
-forward_at_the_limit_gave = (refl, refl)
+forward_at_the_limit = (refl, refl, refl)

@@ -1,10 +1,8 @@
 -- What a reader was given over a run, moment by moment.
 use Rattle.std.specs.Prelude.{◌≡◌, ℕ, zero, suc, ◌==◌, Option, Some, None, List, [], ◌∷◌, ◌++◌, map, flat_map, take, drop, All, IfSome, unwrap_or, if◌then◌else◌}
 use Rattle.msg_buffer.specs.Prelude.{History, Stretch, Tile, instances, message_of}
-use Rattle.msg_world.specs.declared.record.Record.{Record}
-use Rattle.msg_world.specs.Prelude.{WorldState}
-use Rattle.msg_system.specs.{declared.op.Op.Op, declared.reply.Reply.Reply}
-use Rattle.msg_system.specs.Prelude.{AfterProgram, Job, Meaning, after_at_most, after_op, all_hold, next_op}
+use Rattle.msg_world.specs.{Prelude.WorldState, declared.record.Record.Record}
+use Rattle.msg_system.specs.{Prelude.AfterProgram, Prelude.Job, Prelude.Meaning, Prelude.after_at_most, Prelude.after_op, Prelude.all_hold, Prelude.next_op, declared.op.Op.Op, declared.reply.Reply.Reply}
 use Rattle.msg_frames.specs.{declared.frame.Frame.Frame, declared.log.Log.Log, Entries.ReadEntry, Entries.replies_of, Entries.entries_told, Entries.entry_for, Frames.after_turn_of, Frames.before_turns, Frames.frame_in, Frames.turn_order_in, Frames.State, Frames.has_begun}
 
 -- ---- the entries that logs have

@@ -3,8 +3,7 @@
 use Rattle.std.specs.Prelude.{◌≡◌, ◌≢◌, ℕ, suc, ◌<◌, Bool, List, [], ◌∷◌, ◌++◌, map, length, All, AllPairs, IsPermutation}
 use Rattle.std.specs.List.{concat}
 use Rattle.msg_buffer.specs.Prelude.{GoesOn, IsSound}
-use Rattle.msg_world.specs.declared.access.Access.{Access}
-use Rattle.msg_world.specs.Prelude.{Conflict, merge}
+use Rattle.msg_world.specs.{Prelude.Conflict, Prelude.merge, declared.access.Access.Access}
 use Rattle.msg_order.specs.Prelude.{Graph, IsAcyclic, IsLawfulOrder, IsSettledOrder, NoneConflict, access_of, rules_among}
 use Rattle.msg_system.specs.Prelude.{conditions_of}
 use Rattle.msg_frames.specs.{declared.frame.Frame.Frame, declared.log.Log.Log, Frames.AfterTurns, Frames.AreAccessesOf, Frames.IsFrame, Frames.IsOrderOf, Frames.IsRun, Frames.after_turn_of, Frames.after_turns_of, Frames.before_turns, Frames.frame_in, Frames.after_joining, Frames.logged_turn, Frames.turn_of, Frames.with_joining, Frames.with_member, Frames.Member, Frames.State, Frames.join_flags}

@@ -2,8 +2,7 @@
 use Rattle.std.specs.Prelude.{◌≡◌, ◌≢◌, ℕ, ◌<◌, ◌≤◌, ◌==◌, Bool, false, List, [], ◌∷◌, ◌++◌, Contains, All, None, IsTrue, length}
 use Rattle.std.specs.List.{list_any}
 use Rattle.msg_buffer.specs.Prelude.{IsPresent, count, update}
-use Rattle.msg_system.specs.{declared.op.Op.Op, declared.op.Op.TheVariants.Read, declared.op.Op.TheVariants.Forward, declared.op.Op.TheVariants.Sum, declared.program.Program.Program}
-use Rattle.msg_system.specs.Prelude.{of_program}
+use Rattle.msg_system.specs.{Prelude.of_program, declared.op.Op.Op, declared.op.Op.TheVariants.Read, declared.op.Op.TheVariants.Forward, declared.op.Op.TheVariants.Sum, declared.program.Program.Program}
 use Rattle.msg_frames.specs.{declared.frame.Frame.Frame, declared.log.Log.Log, declared.log.Outcome.TheVariants.Skipped, Frames.IsFrame, Frames.IsRun, Frames.State, Frames.after_turns_of, Frames.before_turns, Frames.has_begun, Frames.turn_order_in, Soundness.IsSoundState, Tiling.log_entries, Tiling.reader_place}
 
 -- the op reads the type without limit

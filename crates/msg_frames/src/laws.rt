@@ -1,21 +1,6 @@
 //! Laws: facts that hold of all systems' turns and of frames. Calling one makes its fact available
 //! to the caller's proof; it does nothing at run time.
-ghost use Rattle.msg_frames.specs.TurnLaws.{
-  BatchesRunSideBySide,
-  FramesAgreeInLawfulOrders,
-  FramesAreUnique,
-  FramesExist,
-  FramesKeepSystems,
-  FramesRunByBatches,
-  LawfulOrdersAgree,
-  ListsOnlyGrow,
-  RunsAreUnique,
-  RunsExist,
-  SameSystemsHaveSameAccesses,
-  SystemsHaveOneOrder,
-  TurnsKeepSystems,
-  TurnsOfOthersCommute,
-};
+ghost use Rattle.msg_frames.specs.Prelude.{BatchesRunSideBySide, FramesAgreeInLawfulOrders, FramesAreUnique, FramesExist, FramesKeepSystems, FramesRunByBatches, LawfulOrdersAgree, ListsOnlyGrow, RunsAreUnique, RunsExist, SameSystemsHaveSameAccesses, SystemsHaveOneOrder, TurnsKeepSystems, TurnsOfOthersCommute};
 
 use msg_buffer::laws::histories_only_grow;
 use msg_order::laws::{

@@ -2,8 +2,7 @@
 use Rattle.std.proofs.Common.{◌≡◌, ℕ, zero, suc, ◌<◌, Bool, true, cond, not, ◌&&◌, ◌||◌, List, [], ◌∷◌, get_or, length, refl, arith, ◌==◌, ◌↔◌, nat_le, nat_lt, IsTrue, AllPairs, bit_and, bit_or}
 use Rattle.std.specs.List.{range_with_len, list_all, list_any}
 use Rattle.std.proofs.lemmas.{Bool.Decides.nat_tests, Bool.cases_Bool, Bool.cond_both, Bool.and_parts, Bool.and_from, Bool.false≢true, Bool.eqb-true, Bool.ltb-true, List.Kept.AllPairs-cons, List.Sums.AllPass-from_list_all}
-use Rattle.msg_world.specs.declared.access.Access.{Access}
-use Rattle.msg_world.specs.Prelude.{Conflict}
+use Rattle.msg_world.specs.{Prelude.Conflict, declared.access.Access.Access}
 use Rattle.msg_world.proofs.{Bits.share_bit-and, Conflicts.collides, Conflicts.conflicts_lem}
 use Rattle.msg_order.specs.Prelude.{AreInConflict, Graph, IsBatchNumber, IsEdge, IsSettledOrder, IsTurnOrder, Rule, RunsBefore, Settles, access_of, has_joined, pairs, rules_among}
 use Rattle.msg_order.specs.inner.Paths.{path}

@@ -2,8 +2,7 @@
 use Rattle.std.proofs.Common.{◌≡◌, ℕ, zero, suc, ◌<◌, inl, inr, Bool, true, not, ◌&&◌, List, [], ◌∷◌, ◌++◌, length, refl, arith, filter}
 use Rattle.std.specs.List.{concat, list_any, range_with_len}
 use Rattle.std.proofs.lemmas.Bool.{cases_eq, and_parts, and_from}
-use Rattle.msg_order.specs.Prelude.{AreBatches, BatchesExist, Graph, IsAcyclic, RunsBefore, SettledOrderExists, TurnOrderExists, TurnOrderIsUnique, has_joined}
-use Rattle.msg_order.specs.inner.Paths.{path}
+use Rattle.msg_order.specs.{Prelude.AreBatches, Prelude.BatchesExist, Prelude.Graph, Prelude.IsAcyclic, Prelude.RunsBefore, Prelude.SettledOrderExists, Prelude.TurnOrderExists, Prelude.TurnOrderIsUnique, Prelude.has_joined, inner.Paths.path}
 use Rattle.msg_order.proofs.{SystemSets.some_below, SystemSets.below_some, BatchLevels.TellsBlocked, BatchLevels.LeadAmong, BatchLevels.ArePeeled, BatchLevels.peeled_first, BatchLevels.peeled_next, BatchLevels.peeled_all, BatchLevels.peeled_done, BatchLevels.count_left, BatchLevels.left_falls, SetPaths.joined_in, TurnOrders.in_turn_order, Uniqueness.same_ordered, Computing.settled_by_test, Computing.settled_is}
 
 pub settled_some : SettledOrderExists

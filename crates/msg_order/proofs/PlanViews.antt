@@ -2,8 +2,7 @@
 use Rattle.std.proofs.Common.{◌≡◌, ℕ, ◌<◌, ◌≤◌, Bool, true, false, List, length, map, sym, arith, ◌↔◌, Contains}
 use Rattle.std.specs.List.{range_with_len}
 use Rattle.std.proofs.lemmas.{Bool.cases_lt, Bool.false_from_ne_true, List.get_or_past, List.FromFn.fill_by_all, List.FromFn.get_or-map-range_with_len, List.FromFn.length-map-range_with_len}
-use Rattle.msg_order.specs.Prelude.{Graph, IsAmong, IsEdge, IsLawfulOrder, IsPlanOf, PlanView, Rule, SystemSet, has_joined}
-use Rattle.msg_order.specs.{inner.SystemSet.has, inner.Paths.comes_before, inner.Paths.ArePaths, inner.Paths.AreKept, inner.Paths.IsSetOf, inner.Paths.square, inner.Paths.view_of}
+use Rattle.msg_order.specs.{Prelude.Graph, Prelude.IsAmong, Prelude.IsEdge, Prelude.IsLawfulOrder, Prelude.IsPlanOf, Prelude.PlanView, Prelude.Rule, Prelude.SystemSet, Prelude.has_joined, inner.Paths.comes_before, inner.Paths.ArePaths, inner.Paths.AreKept, inner.Paths.IsSetOf, inner.Paths.square, inner.Paths.view_of, inner.SystemSet.has}
 use Rattle.msg_order.proofs.{Elements.filter-Contains, Elements.Contains-filter, Elements.Contains-flat_map, Elements.Contains-map, Elements.Contains-range, Chains.edge_is_path, Chains.path_among, PathTest.to_Path, SetPaths.joined_in, TurnOrders.kept_along}
 use Rattle.msg_world.specs.declared.access.Access.{Access}
 

@@ -4,8 +4,7 @@ use Rattle.std.specs.{Int.bit_not, List.list_any, List.range_with_len}
 use Rattle.std.proofs.lemmas.{Bool.cases_eq, Bool.and_parts, Bool.and_from, Bool.eq-eqb, Bool.ne_eqb, Bool.false_from_ne_true, List.get_or_past}
 use Rattle.msg_world.specs.Prelude.{has_bit}
 use Rattle.msg_world.proofs.Bits.{has_bit-zero, has_bit-set, has_bit-unset, has_bit-and, has_bit-or}
-use Rattle.msg_order.specs.Prelude.{SystemSet}
-use Rattle.msg_order.specs.inner.SystemSet.{has, meets, no_set}
+use Rattle.msg_order.specs.{Prelude.SystemSet, inner.SystemSet.has, inner.SystemSet.meets, inner.SystemSet.no_set}
 use Rattle.msg_order.proofs.Elements.{list_any-Contains, Contains-list_any, Contains-range, range-Contains}
 
 -- whether a number is in both of two sets, told by one below 256

@@ -1,8 +1,7 @@
 -- The settled order of systems, its batches and its lawful orders.
 use Rattle.std.specs.Prelude.{◌≡◌, ◌≢◌, ℕ, ◌+◌, ◌-◌, ◌<◌, Bool, false, ◌&&◌, List, [], ◌∷◌, map, length, filter, flat_map, All, AllPairs, Contains, Some, slice_get, slice_index_or, IsTrue, ◌⊎◌, ◌↔◌}
 use Rattle.std.specs.{List.range_with_len, List.Sorted.IsStrictlyIncreasing}
-use Rattle.msg_world.specs.declared.access.Access.{Access}
-use Rattle.msg_world.specs.Prelude.{Conflict, no_access}
+use Rattle.msg_world.specs.{Prelude.Conflict, Prelude.no_access, declared.access.Access.Access}
 use Rattle.msg_order.specs.{declared.rule.Rule.Rule, Graph.Graph, Graph.IsEdge, Graph.Path, Graph.IsBatchNumber}
 
 -- whether system i has joined

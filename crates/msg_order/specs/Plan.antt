@@ -1,8 +1,7 @@
 -- What a plan says, and when there is none.
 use Rattle.std.specs.Prelude.{◌≡◌, ℕ, Bool, List, All, AllPairs, ◌↔◌, ⊤}
 use Rattle.std.specs.List.{concat}
-use Rattle.msg_world.specs.declared.access.Access.{Access}
-use Rattle.msg_world.specs.Prelude.{Conflict}
+use Rattle.msg_world.specs.{Prelude.Conflict, declared.access.Access.Access}
 use Rattle.msg_order.specs.{declared.rule.Rule.Rule, declared.plan_refusal.PlanRefusal.PlanRefusal, declared.plan_refusal.PlanRefusal.TheVariants.Cycle, declared.plan_refusal.PlanRefusal.TheVariants.NoMemory, Graph.Graph, Graph.IsEdge, Graph.Path, Graph.IsLowestOnCycle, Order.access_of, Order.IsAmong, Order.IsSettledOrder, Order.AreBatches, Order.IsTurnOrder, Order.IsLawfulOrder}
 
 -- What callers see of a plan: which systems have joined, each pair of systems of which the first

@@ -1,8 +1,7 @@
 // Batches, taken level by level from the systems that are left.
 ghost use Rattle.std.specs.Prelude.{◌≡◌, ◌&&◌, ℕ, ◌<◌, ◌≤◌, Bool, List, true, length, map, filter, IfOk, OnErr};
 ghost use Rattle.std.specs.List.{range_with_len};
-ghost use Rattle.msg_order.specs.Prelude.{AreBatches, Graph, IsAcyclic, IsAmong};
-ghost use Rattle.msg_order.specs.{inner.Paths.ArePaths, inner.Paths.IsSetOf, inner.Paths.is_ready, inner.Paths.set_at, inner.SystemSet.has, inner.SystemSet.meets};
+ghost use Rattle.msg_order.specs.{Prelude.AreBatches, Prelude.Graph, Prelude.IsAcyclic, Prelude.IsAmong, inner.Paths.ArePaths, inner.Paths.IsSetOf, inner.Paths.is_ready, inner.Paths.set_at, inner.SystemSet.has, inner.SystemSet.meets};
 
 use crate::system_set::SystemSet;
 use std::alloc::{AllocError, Allocator};

@@ -1,11 +1,8 @@
 -- Turns that a behavior decides, op after op.
 use Rattle.std.proofs.Common.{refl, ◌≡◌, ℕ, zero, suc, ◌+◌, ◌≤◌, ◌++◌, List, [], ◌∷◌, length, Option, Some, None, sym, arith, inl, inr, append_assoc, drop}
-use Rattle.std.proofs.lemmas.{List.length_push, Bool.cases_Bool, Bool.cases_eq, Bool.false≢true}
-use Rattle.std.proofs.Math.Seq.{drop-append_seam}
-use Rattle.msg_world.specs.declared.lent.Lent.{Lent}
-use Rattle.msg_world.specs.Prelude.{SameLoan, WorldState}
-use Rattle.msg_system.specs.Prelude.{Covers, Needs, Op, OpRan, Reply, after_at_most, one_more, op_needs}
-use Rattle.msg_system.specs.inner.TurnRuns.{AreAnswered, IsAfterProgram}
+use Rattle.std.proofs.{Math.Seq.drop-append_seam, lemmas.Bool.cases_Bool, lemmas.Bool.cases_eq, lemmas.Bool.false≢true, lemmas.List.length_push}
+use Rattle.msg_world.specs.{Prelude.SameLoan, Prelude.WorldState, declared.lent.Lent.Lent}
+use Rattle.msg_system.specs.{Prelude.Covers, Prelude.Needs, Prelude.Op, Prelude.OpRan, Prelude.Reply, Prelude.after_at_most, Prelude.one_more, Prelude.op_needs, inner.TurnRuns.AreAnswered, inner.TurnRuns.IsAfterProgram}
 use Rattle.msg_system.proofs.{Lendings.writable_is_shown, Runs.op_more, Turns.IsKept, Turns.ops_answered-snoc}
 
 -- ---- a turn, op after op

@@ -1,7 +1,6 @@
 -- Ops, turns, conditions and jobs use no more than they need.
 use Rattle.std.proofs.Common.{◌≡◌, ℕ, zero, suc, Bool, false, List, [], ◌∷◌, length, map, Option, None, Some, refl, ap, ◌∙◌, arith, IfSome, IsTrue}
-use Rattle.std.proofs.Math.{Bool.or-false, Path.fun_ext}
-use Rattle.std.proofs.lemmas.Bool.{cases_Bool, false≢true, or_left, or_right}
+use Rattle.std.proofs.{Math.Bool.or-false, Math.Path.fun_ext, lemmas.Bool.cases_Bool, lemmas.Bool.false≢true, lemmas.Bool.or_left, lemmas.Bool.or_right}
 use Rattle.msg_world.specs.Prelude.{OfResource, OfType, Part, Registry, WorldState, content}
 use Rattle.msg_system.specs.Prelude.{AfterProgram, Agree, Asked, ConditionFootprint, HasFootprint, IsWithin, Job, JobFootprint, Meaning, OnMessage, Op, OpFootprint, Probe, Program, ProgramFootprint, Reply, ResourceEquals, TurnFootprint, Zero, after_asking, after_at_most, after_op, all_hold, conditions_of, probe_answer, given_by_program, is_part, needs_any, next_op, of_program, one_more, op_needs, op_parts, place_after, probe_part, some_condition_reads, turn, with_conditions}
 use Rattle.msg_system.proofs.{Runs.same_part_refl, Turns.IsKept, Turns.next_kept_to, Turns.program_so_far}

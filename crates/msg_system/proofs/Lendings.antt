@@ -3,8 +3,7 @@ use Rattle.std.proofs.Common.{◌≡◌, ℕ, List, [], ◌∷◌, map, Some, re
 use Rattle.std.specs.List.{AllZip}
 use Rattle.std.proofs.lemmas.{Bool.cases_Bool, Bool.cases_lt, Bool.false≢true, Grind.common_steps, Int.to_z-of_z, Bool.Decides.nat_tests}
 use Rattle.msg_buffer.specs.Prelude.{Kept, StandsFor}
-use Rattle.msg_world.specs.{declared.lent.Lent.Lent, declared.record.Record.Record}
-use Rattle.msg_world.specs.Prelude.{LoanStands, OfResource, OfType, Part, WorldState, shown, writable}
+use Rattle.msg_world.specs.{Prelude.LoanStands, Prelude.OfResource, Prelude.OfType, Prelude.Part, Prelude.WorldState, Prelude.shown, Prelude.writable, declared.lent.Lent.Lent, declared.record.Record.Record}
 
 -- what may be written is shown
 pub writable_is_shown : (p : Part) (l : Lent) → IsSome (writable p l) → shown p l ≡ writable p l

@@ -1,8 +1,7 @@
 -- Runs of ops and of programs, from one op to the next.
 use Rattle.std.proofs.Common.{◌≡◌, ℕ, ◌<◌, ◌++◌, true, List, [], ◌∷◌, length, Some, get_or, refl, ap, arith, append_assoc, IsSome, slice_set}
 use Rattle.std.proofs.lemmas.{Bool.cases_eq, Bool.eq-eqb, Bool.ne_eqb, List.get_or_default, List.get_or-set_same, List.get_or-set_other}
-use Rattle.msg_world.specs.declared.lent.Lent.{Lent}
-use Rattle.msg_world.specs.Prelude.{Part, SameLoan, WorldState, same_part, shown, writable}
+use Rattle.msg_world.specs.{Prelude.Part, Prelude.SameLoan, Prelude.WorldState, Prelude.same_part, Prelude.shown, Prelude.writable, declared.lent.Lent.Lent}
 use Rattle.msg_system.specs.Prelude.{AfterOp, AfterProgram, Covers, Cursors, Op, OpRan, Reply, after_op, after_program, one_more, op_needs, op_parts, cursor_places, with_place}
 use Rattle.msg_system.specs.inner.TurnRuns.{IsAfterProgram}
 
@@ -30,7 +29,7 @@ module _ (cs : Cursors) (t k d : ℕ) (long : length cs.by_type ≡ 64) (is : k 
       → OpRan op w (cursor_places cs) (cursor_places (record { by_type = slice_set cs.by_type k new })) l m r
   ran_at op w new l m r ran =
       let moves : cursor_places (record { by_type = slice_set cs.by_type t new })
-          ≡ with_place (cursor_places cs) t new =
+      ≡ with_place (cursor_places cs) t new =
       grind (arith, long, lt, cases_eq, get_or-set_same, eq-eqb, get_or-set_other, ne_eqb) in
       rw (is, moves) (ran (cursor_places cs) place_at)
 

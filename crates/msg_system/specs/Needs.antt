@@ -1,8 +1,7 @@
 -- What ops, programs, conditions and jobs read and write, part by part.
 use Rattle.std.specs.Prelude.{◌≡◌, ℕ, Bool, true, false, not, ◌&&◌, ◌||◌, Option, Some, None, List, option_and_then, slice_get}
 use Rattle.std.specs.List.{list_any}
-use Rattle.msg_world.specs.declared.access.Access.{Access}
-use Rattle.msg_world.specs.Prelude.{Overlap, Part, OfType, OfResource, Registry, reads, same_part, writes}
+use Rattle.msg_world.specs.{Prelude.Overlap, Prelude.Part, Prelude.OfType, Prelude.OfResource, Prelude.Registry, Prelude.reads, Prelude.same_part, Prelude.writes, declared.access.Access.Access}
 use Rattle.msg_system.specs.{declared.op.Op.Op, declared.op.Op.TheVariants.Write, declared.op.Op.TheVariants.Batch, declared.op.Op.TheVariants.Read, declared.op.Op.TheVariants.Len, declared.op.Op.TheVariants.Missed, declared.op.Op.TheVariants.Clear, declared.op.Op.TheVariants.Forward, declared.op.Op.TheVariants.Sum, declared.op.Op.TheVariants.Get, declared.op.Op.TheVariants.Set, declared.op.Op.TheVariants.Add, declared.op.Op.TheVariants.Drain, declared.op.Op.TheVariants.Signal, declared.condition.Condition.Condition, declared.condition.Probe.Probe, declared.condition.Probe.TheVariants.OnMessage, declared.condition.Probe.TheVariants.ResourceEquals}
 
 -- there is no such part, or it holds of it

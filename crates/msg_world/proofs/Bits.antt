@@ -1,12 +1,9 @@
 -- Bits of masks, as tests.
 use Rattle.std.proofs.Common.{◌≡◌, ◌≢◌, ℕ, zero, suc, ◌+◌, ◌*◌, ◌-◌, ◌/◌, ◌^◌, ◌%◌, ◌<◌, ◌≤◌, Bool, true, false, not, ◌&&◌, ◌||◌, inl, inr, ap, sym, ◌∙◌, arith, w64, ◌==◌, ◌↔◌, IsTrue, bit_and, bit_or, count_ones, nat_lt}
 use lib.Count.{ones_step}
-use Rattle.std.proofs.Math.Bool.{and-true}
+use Rattle.std.proofs.{Math.Bool.and-true, Math.Nat.div-le_self, lemmas.Bool.cases_lt, lemmas.Bool.cases_eq, lemmas.Bool.eqb-true, lemmas.Bool.eq-eqb, lemmas.Bool.ne_eqb, lemmas.Bool.eqb-false, lemmas.Bool.le-ltb, lemmas.Bool.lt-ltb, lemmas.Bool.not-true, lemmas.Bool.false≢true, lemmas.Bool.Decides.eqb_tells, lemmas.Bool.Decides.nat_tests, lemmas.Nat.shr-shr, lemmas.Nat.Bits.bit_at_lowest, lemmas.Nat.Bits.bit_at-suc, lemmas.Nat.Bits.bit_at_and, lemmas.Nat.Bits.bit_at_or, lemmas.Nat.Bits.bit_at_not, lemmas.Nat.Bits.bit_at_above, lemmas.Nat.Bits.bit_at-zero, lemmas.Nat.Bits.bit_at-lt, lemmas.Nat.Bits.bit_at_set_same, lemmas.Nat.Bits.bit_at_set_other, lemmas.Nat.Bits.bit_at_clear_same, lemmas.Nat.Bits.bit_at_clear_other, lemmas.Nat.Bits.bit_at-trailing_zeros}
 use Rattle.std.specs.Int.{bit_at, bit_not, trailing_zeros}
-use Rattle.std.proofs.lemmas.{Bool.cases_lt, Bool.cases_eq, Bool.eqb-true, Bool.eq-eqb, Bool.ne_eqb, Bool.eqb-false, Bool.le-ltb, Bool.lt-ltb, Bool.not-true, Bool.false≢true, Bool.Decides.eqb_tells, Bool.Decides.nat_tests, Nat.shr-shr, Nat.Bits.bit_at_lowest, Nat.Bits.bit_at-suc, Nat.Bits.bit_at_and, Nat.Bits.bit_at_or, Nat.Bits.bit_at_not, Nat.Bits.bit_at_above, Nat.Bits.bit_at-zero, Nat.Bits.bit_at-lt, Nat.Bits.bit_at_set_same, Nat.Bits.bit_at_set_other, Nat.Bits.bit_at_clear_same, Nat.Bits.bit_at_clear_other, Nat.Bits.bit_at-trailing_zeros}
-use Rattle.std.proofs.Math.Nat.{div-le_self}
-use Rattle.msg_world.specs.Prelude.{has_bit}
-use Rattle.msg_world.specs.inner.Masks.{ShareBit, IsBelow}
+use Rattle.msg_world.specs.{Prelude.has_bit, inner.Masks.ShareBit, inner.Masks.IsBelow}
 
 pub has_bit-zero : (k : ℕ) → has_bit 0 k ≡ false
 has_bit-zero k = ap (λ n. n == 1) (bit_at-zero k)

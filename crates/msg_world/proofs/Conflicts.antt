@@ -1,9 +1,8 @@
 -- Conflicts, clashes and limits of accesses by their masks.
-use Rattle.std.proofs.Common.{arith, ℕ, Bool, ◌&&◌, ◌||◌, inl, inr, ◌⊎◌, sym, ◌∙◌, ◌↔◌, IsTrue, bit_or}
-use Rattle.std.proofs.lemmas.Bool.{cases_Bool, or_cases, false≢true}
-use Rattle.msg_world.specs.Prelude.{Access, Conflict, IsClash, OfResource, OfType, Part, Registry, uses, writes}
-use Rattle.msg_world.specs.inner.Masks.{ShareBit, Collide}
-use Rattle.msg_world.proofs.Bits.{has_bit-or, share_bit-and}
+use Rattle.std.proofs.Common.{arith, ℕ, Bool, ◌&&◌, ◌||◌, inl, inr, ◌⊎◌, ◌↔◌, IsTrue, bit_or}
+use Rattle.std.proofs.lemmas.Bool.{or_cases, false≢true}
+use Rattle.msg_world.specs.{Prelude.Access, Prelude.Conflict, Prelude.IsClash, Prelude.OfResource, Prelude.OfType, Prelude.Part, Prelude.Registry, Prelude.uses, Prelude.writes, inner.Masks.ShareBit, inner.Masks.Collide}
+use Rattle.msg_world.proofs.Bits.{has_bit-or}
 
 -- the tests of two pairs of masks say whether they collide
 pub collides : (r w s v : ℕ) (first second : Bool) → IsTrue first ↔ ShareBit w (bit_or s v)
@@ -43,11 +42,3 @@ conflicts_lem a b types resources t r = (
 
 pub is_clash-masks : (a : Access) → IsClash a → ShareBit a.read_types a.write_types ⊎ ShareBit a.read_res a.write_res
 is_clash-masks a c = grind (arith, false≢true)
-
--- two accesses conflict or they don't
-pub decide_conflict : (a b : Access) → Conflict a b ⊎ (Conflict a b → ⊥)
-decide_conflict a b =
-    let collide = λ (r w s v : ℕ). collides r w s v _ _ (share_bit-and w (bit_or s v)) (share_bit-and v (bit_or r w)) in
-    let tells = conflicts_lem a b _ _ (collide a.read_types a.write_types b.read_types b.write_types)
-    (collide a.read_res a.write_res b.read_res b.write_res) in
-    elim (cases_Bool _) [ inl is ↦ inl (tells.0 is) | inr isnt ↦ inr (λ c. false≢true (sym isnt ∙ tells.1 c)) ]

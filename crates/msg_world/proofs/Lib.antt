@@ -2,7 +2,7 @@
 pub mod Bits
 pub mod Conflicts
 -- Parts that were moved out of slots
-mod Placed
+pub mod Placed
 -- Worlds, and what is lent of them
 mod Worlds
-mod Loans
+pub mod Loans

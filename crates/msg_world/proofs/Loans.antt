@@ -1,7 +1,6 @@
 -- What loans stand for.
 use Rattle.std.proofs.Common.{arith, ◌≡◌, true, false, refl, ◌∙◌, inr, Some, None, IsSome, IsTrue, option_map, if◌then◌else◌}
-use Rattle.std.proofs.lemmas.{Bool.Decides.eqb_tells, Bool.false_from_ne_true, Bool.cases_Bool, Bool.false≢true, Option.none-some}
-use Rattle.std.proofs.Math.ListN.{length-set}
+use Rattle.std.proofs.{Math.ListN.length-set, lemmas.Bool.false_from_ne_true, lemmas.Bool.cases_Bool, lemmas.Bool.false≢true, lemmas.Bool.Decides.eqb_tells, lemmas.Option.none-some}
 use Rattle.msg_world.specs.Prelude.{Access, HomeMerges, Lent, LoanEnds, LoanStands, LoanStays, OfResource, OfType, Part, Parts, Registry, SameShape, ValuesStand, WorldState, WritesStand, after_signal, content, merge, signalled_marks, slot, writable, writes}
 use Rattle.msg_world.proofs.Worlds.{at_set, there_below, there_still, type_shape}
 

@@ -2,25 +2,25 @@
 use Rattle.std.proofs.Common.{◌≡◌, ℕ, zero, suc, ◌<◌, List, [], ◌∷◌, ◌++◌, length, get_or, refl, sym, ap, ◌∙◌, arith, inl, ◌⊎◌, Option, Some, None, ◌==◌, ◌||◌, if◌then◌else◌, All, Bool, true, false, replicate, slice_set}
 use Rattle.std.specs.Option.{option_or}
 use Rattle.std.proofs.lemmas.{Bool.cases_lt, Bool.cases_eq, Bool.eq-eqb, Bool.ne_eqb, Option.slice_get-get_or, List.get_or-replicate, List.get_or-set_same, List.get_or-set_other, List.get_or_past, List.length-replicate, List.length-set, List.set-set, List.set_comm}
-use Rattle.msg_world.specs.Prelude.{Moved}
-use Rattle.msg_world.specs.{inner.Moved.IsFirstOf, inner.Moved.NoneOf, inner.Moved.placed, inner.Slots.at}
+use Rattle.msg_world.specs.{Prelude.Moved, inner.Moved.IsFirstOf, inner.Moved.NoneOf, inner.Moved.placed, inner.Slots.at}
 
 -- a borrow that gives back alike
 pub lends_alike : {G A B : Type 0} (name : G) (f h : A → B) → ((w : A) → f w ≡ h w)
     → ◌≡◌ {A = (G × (A → B)) ⊎ B} (inl (name, f)) (inl (name, h))
 lends_alike name f h same = λ i. inl (name, λ w. same w i)
 
+-- a list of equal items, also past its end
+pub equal_items : {X : Type 0} (n : ℕ) (x : X) (k : ℕ) → get_or (replicate n x) k x ≡ x
+equal_items n x k = grind (arith, cases_lt, get_or-replicate, get_or_past, length-replicate)
+
 module _ {X : Type 0} where
   pub placed_length : (n : ℕ) (ms : List (Moved X)) → length (placed n ms) ≡ n
   placed_length n [] = length-replicate n None
   placed_length n (m ∷ ms) = length-set (placed n ms) m.slot (Some m.part) ∙ placed_length n ms
 
-  pub at_empty : (n k : ℕ) → at {X = X} (replicate n None) k ≡ None
-  at_empty n k = grind (arith, cases_lt, get_or-replicate, get_or_past, length-replicate)
-
   -- a slot of which there is no part
   pub at_none : (n slot : ℕ) (ms : List (Moved X)) → NoneOf slot ms → at (placed n ms) slot ≡ None
-  at_none n slot [] none = at_empty n slot
+  at_none n slot [] none = equal_items n None slot
   at_none n slot (m ∷ ms) none =
       let rest = at_none n slot ms (λ j k is. none (suc j) k is) in
       grind (arith, rest, none 0 m refl, get_or-set_other (placed n ms) m.slot slot (Some m.part) None)
@@ -68,19 +68,12 @@ module _ {X : Type 0} where
       → option_or (at (placed n (ms ++ m ∷ [])) k) (at home k)
       ≡ option_or (at (placed n ms) k) (at (slice_set home m.slot (Some m.part)) k)
   last_home n [] m home lt as_many k =
-      grind (arith, cases_eq k m.slot, at_empty, length-replicate, get_or-set_same, get_or-set_other)
+      grind (arith, cases_eq k m.slot, equal_items, length-replicate, get_or-set_same, get_or-set_other)
   last_home n (j ∷ ms) m home lt as_many k =
-      grind (
-        arith,
-        cases_eq k j.slot,
-        cases_lt j.slot n,
-        placed_length,
-        length-set,
-        get_or_past,
-        get_or-set_same,
-        get_or-set_other,
-        last_home n ms m home lt as_many k,
-      )
+      let rest = last_home n ms m home lt as_many k in
+      let here = cases_eq k j.slot in
+      let under = cases_lt j.slot n in
+      grind (arith, here, under, placed_length, length-set, get_or_past, get_or-set_same, get_or-set_other, rest)
 
   -- the same, where the part was read at its place
   pub its_slot : (slot : ℕ) (ms : List (Moved X)) (i : ℕ) (m : Moved X) → IsFirstOf slot ms i → m ≡ get_or ms i m

@@ -1,8 +1,6 @@
 -- How the references that a loan gives out write back to it.
-use Rattle.std.specs.Prelude.{ℕ, ℤ, Option, Some, slice_set}
-use Rattle.std.specs.{Borrow.LendsIf, Borrow.MutBor, Borrow.Fml, Borrow.RattleType, Borrow.i64, contracts.alloc.Global.the_row as global_row, contracts.impls.GlobalAllocator.TheImpl.ghosts}
-use Rattle.msg_buffer.specs.contracts.messages.Messages.{the_row as messages_of}
-use Rattle.msg_buffer.specs.Prelude.{Kept}
+use Rattle.std.specs.{Borrow.LendsIf, Borrow.MutBor, Borrow.Fml, Borrow.RattleType, Borrow.i64, Prelude.ℕ, Prelude.ℤ, Prelude.Option, Prelude.Some, Prelude.slice_set, contracts.alloc.Global.the_row as global_row, contracts.impls.GlobalAllocator.TheImpl.ghosts}
+use Rattle.msg_buffer.specs.{Prelude.Kept, contracts.messages.Messages.the_row as messages_of}
 use Rattle.msg_world.specs.{declared.record.Record.Record, contracts.record.Record.the_row as record_row, contracts.taken.Taken.the_row as taken_row, Parts.Parts}
 
 -- a buffer of records, as the logic names that type

@@ -2,8 +2,7 @@
 #![tactic(auto, using(crate::proofs::Bits::of_masks))]
 
 ghost use Rattle.std.specs.Prelude.{◌≡◌, ◌==◌, ◌||◌, ◌&&◌, not, ℕ, ◌<◌, ◌≤◌, ◌↔◌, IsTrue, false, count_ones, ◌/◌, ◌^◌};
-ghost use Rattle.msg_world.specs.Prelude.{has_bit};
-ghost use Rattle.msg_world.specs.inner.Masks.{ShareBit, Collide, IsBelow};
+ghost use Rattle.msg_world.specs.{Prelude.has_bit, inner.Masks.ShareBit, inner.Masks.Collide, inner.Masks.IsBelow};
 
 /// Whether bit `k` is set.
 pub fn has(mask: u64, k: u32) -> bool

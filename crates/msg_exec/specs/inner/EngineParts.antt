@@ -3,10 +3,10 @@ use Rattle.std.specs.Prelude.{◌≡◌, ℕ, ◌<◌, List, length, Option, Som
 use Rattle.msg_world.specs.declared.access.Access.{Access}
 use Rattle.msg_order.specs.declared.rule.Rule.{Rule}
 use Rattle.msg_order.specs.Prelude.{IsLowestOnCycle, edges_of}
-use Rattle.msg_system.specs.Prelude.{IsAccessOf, Meaning, with_conditions}
+use Rattle.msg_system.specs.Prelude.{HasClash, IsAccessOf, Meaning, with_conditions}
 use Rattle.msg_exec.specs.{declared.job.GuardedSystem.GuardedSystem, Jobs.job_state, Keeping.totals_at, declared.build_refusal.BuildRefusal.BuildRefusal, declared.build_refusal.BuildRefusal.TheVariants.Clash, declared.build_refusal.BuildRefusal.TheVariants.Cycle, declared.build_refusal.BuildRefusal.TheVariants.NoMemory, Building.IsLowestClash}
 use Rattle.msg_frames.specs.{declared.place.Place.Place, declared.totals.Totals.Totals}
-use Rattle.msg_frames.specs.Prelude.{HasClash, new_job, no_totals}
+use Rattle.msg_frames.specs.Prelude.{new_job, no_totals}
 
 -- what is said of a refusal for the rules alone
 abbrev pub RefusesForCycle : List Rule → BuildRefusal → Type 0
@@ -26,7 +26,7 @@ module _ {S : Type 0} (meaning : S → Meaning) where
     pub access : (x : S) (place : Place) → slice_get systems i ≡ Some x → slice_get places i
         ≡ Some place
         → IsAccessOf (with_conditions (meaning x).needs place.conditions) a
-    pub no_clash : (x : S) → slice_get systems i ≡ Some x → ¬ HasClash (meaning x)
+    pub no_clash : (x : S) → slice_get systems i ≡ Some x → ¬ HasClash (meaning x).needs
 
   -- it is system i, with its conditions
   abbrev pub IsGuardedAt : List S → List Place → ℕ → Option (GuardedSystem S) → Type 0

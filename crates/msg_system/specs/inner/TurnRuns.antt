@@ -1,7 +1,6 @@
 -- What the private functions of programs and turns say. No public contract cites these.
 use Rattle.std.specs.Prelude.{◌≡◌, ℕ, ◌++◌, List, Option, length}
-use Rattle.msg_world.specs.declared.lent.Lent.{Lent}
-use Rattle.msg_world.specs.Prelude.{LoanStands, WorldState}
+use Rattle.msg_world.specs.{Prelude.LoanStands, Prelude.WorldState, declared.lent.Lent.Lent}
 use Rattle.msg_system.specs.{declared.op.Op.Op, declared.reply.Reply.Reply, Needs.Needs, Programs.AfterProgram, Programs.after_program, Systems.after_at_most, Systems.if_kept, Systems.ops_answered}
 
 -- the places, the loan and the replies are those after a program

@@ -1,6 +1,5 @@
 -- How the references into parts that were moved out write back.
-use Rattle.std.specs.Prelude.{ℕ, Option, Some, List, slice_set}
-use Rattle.std.specs.Borrow.{LendsIf, MutBor, Fml, RattleType}
+use Rattle.std.specs.{Borrow.LendsIf, Borrow.MutBor, Borrow.Fml, Borrow.RattleType, Prelude.ℕ, Prelude.Option, Prelude.Some, Prelude.List, Prelude.slice_set}
 use Rattle.msg_world.specs.contracts.moved.MovedParts.{the_row}
 
 module _ (T : RattleType) where

@@ -1,6 +1,5 @@
 use Rattle.std.proofs.Common.{◌≡◌, ℕ, ◌<◌, true, length, map}
-use Rattle.msg_order.specs.{inner.SystemSet.has, inner.Paths.ArePaths}
-use Rattle.msg_order.specs.Prelude.{Graph}
+use Rattle.msg_order.specs.{Prelude.Graph, inner.Paths.ArePaths, inner.SystemSet.has}
 use Rattle.msg_order.proofs.BatchLevels.{ArePeeled, LeadAmong, count_left}
 use Rattle.msg_order.proofs.levels.batches_of.Given as goal
 

@@ -1,6 +1,5 @@
 use Rattle.std.proofs.Common.{take}
-use Rattle.msg_order.specs.Prelude.{rules_among}
-use Rattle.msg_order.specs.inner.Paths.{ArePaths}
+use Rattle.msg_order.specs.{Prelude.rules_among, inner.Paths.ArePaths}
 use Rattle.msg_order.proofs.paths.add_rules.Given as goal
 
 abbrev pub invariant-loop-rule : goal.invariant-loop-rule

@@ -1,6 +1,5 @@
 use Rattle.std.proofs.Common.{length}
-use Rattle.msg_order.specs.Prelude.{AreInConflict, Graph}
-use Rattle.msg_order.specs.inner.Paths.{ArePaths}
+use Rattle.msg_order.specs.{Prelude.AreInConflict, Prelude.Graph, inner.Paths.ArePaths}
 use Rattle.msg_order.proofs.SetPaths.{IsOnWay}
 use Rattle.msg_order.proofs.paths.settle_pairs.Given as goal
 

@@ -1,6 +1,5 @@
 use Rattle.std.proofs.Common.{◌≡◌, ℕ, ◌<◌, ◌≤◌, false}
-use Rattle.msg_order.specs.inner.SystemSet.{has}
-use Rattle.msg_order.specs.Prelude.{has_joined}
+use Rattle.msg_order.specs.{Prelude.has_joined, inner.SystemSet.has}
 use Rattle.msg_order.proofs.plan.set_of.Given as goal
 
 abbrev pub invariant-loop-i : goal.invariant-loop-i

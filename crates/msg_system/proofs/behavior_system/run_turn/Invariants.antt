@@ -1,7 +1,6 @@
 use Rattle.std.proofs.Common.{◌≡◌, length}
 use Rattle.msg_world.specs.Prelude.{LoanStands, SameLoan, WorldState}
-use Rattle.msg_system.specs.Prelude.{after_at_most, needs_of, cursor_places}
-use Rattle.msg_system.specs.inner.TurnRuns.{AreAnswered, IsAfterProgram, next_kept}
+use Rattle.msg_system.specs.{Prelude.after_at_most, Prelude.needs_of, Prelude.cursor_places, inner.TurnRuns.AreAnswered, inner.TurnRuns.IsAfterProgram, inner.TurnRuns.next_kept}
 use Rattle.msg_system.proofs.behavior_system.run_turn.Given as goal
 
 abbrev pub invariant-loop-done : goal.invariant-loop-done

@@ -1,7 +1,6 @@
 use Rattle.std.proofs.lemmas.{Grind.common_steps, List.append-nil, List.length-map, List.take-map, List.take_at, List.take_all}
 use Rattle.std.proofs.Common.{◌≡◌, ℕ, ◌++◌, List, length, map, min, take, Option, sym, arith, unwrap_or}
-use Rattle.msg_buffer.specs.declared.instance.Instance.{Instance}
-use Rattle.msg_buffer.specs.Prelude.{at_most}
+use Rattle.msg_buffer.specs.{Prelude.at_most, declared.instance.Instance.Instance}
 use Rattle.msg_system.proofs.reading.copy_unread.Goals.{else-loop-copied-test, then-loop-copied-test+in_default}
 use Rattle.msg_system.proofs.reading.copy_unread.Goals as goal
 

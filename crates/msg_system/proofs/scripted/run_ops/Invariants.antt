@@ -1,7 +1,6 @@
 use Rattle.std.proofs.Common.{take}
 use Rattle.msg_world.specs.Prelude.{LoanStands, SameLoan, WorldState}
-use Rattle.msg_system.specs.Prelude.{after_program, cursor_places}
-use Rattle.msg_system.specs.inner.TurnRuns.{HasReplies, IsAfterProgram}
+use Rattle.msg_system.specs.{Prelude.after_program, Prelude.cursor_places, inner.TurnRuns.HasReplies, inner.TurnRuns.IsAfterProgram}
 use Rattle.msg_system.proofs.scripted.run_ops.Given as goal
 
 abbrev pub invariant-loop-op : goal.invariant-loop-op

@@ -1,5 +1,4 @@
-use Rattle.std.proofs.lemmas.{Grind.common_steps, List.length-map}
-use Rattle.std.proofs.Common.{arith, rules}
+use Rattle.std.proofs.{Common.arith, Common.rules, lemmas.Grind.common_steps, lemmas.List.length-map}
 use Rattle.msg_world.specs.Prelude.{by}
 use Rattle.msg_system.proofs.steps.batch.Goals as goal
 

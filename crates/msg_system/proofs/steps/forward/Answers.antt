@@ -1,7 +1,5 @@
-use Rattle.std.proofs.Common.{ap, arith, rules}
-use Rattle.std.proofs.lemmas.List.{length-map}
-use Rattle.msg_world.specs.declared.record.Record.{Record}
-use Rattle.msg_world.specs.Prelude.{by}
+use Rattle.std.proofs.{Common.ap, Common.arith, Common.rules, lemmas.List.length-map}
+use Rattle.msg_world.specs.{Prelude.by, declared.record.Record.Record}
 use Rattle.msg_system.specs.Prelude.{Took}
 use Rattle.msg_system.proofs.steps.forward.Goals as goal
 

@@ -1,5 +1,4 @@
-use Rattle.std.proofs.lemmas.{Grind.common_steps, Int.to_z-of_z}
-use Rattle.std.proofs.Common.{arith}
+use Rattle.std.proofs.{Common.arith, lemmas.Grind.common_steps, lemmas.Int.to_z-of_z}
 use Rattle.msg_system.proofs.steps.sum.Goals as goal
 
 pub returns-clause-ran : goal.returns-clause-ran

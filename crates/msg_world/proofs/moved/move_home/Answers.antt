@@ -1,6 +1,6 @@
 use Rattle.std.proofs.lemmas.{Grind.common_steps, List.nil_from_length, List.Elements.All-pop}
 use Rattle.std.proofs.Common.{◌<◌, Some, vec_len, rules, ◌∙◌, arith}
-use Rattle.msg_world.proofs.Placed.{at_empty, last_home, placed_length}
+use Rattle.msg_world.proofs.Placed.{equal_items, last_home, placed_length}
 use Rattle.msg_world.proofs.moved.move_home.Goals as goal
 
 pub loop-slot-init : goal.loop-slot-init
@@ -26,4 +26,4 @@ loop-slot-preserved g c =
     }
 
 pub returns-clause-joined : goal.returns-clause-joined
-returns-clause-joined g c = grind (arith, common_steps, placed_length, nil_from_length, at_empty)
+returns-clause-joined g c = grind (arith, common_steps, placed_length, nil_from_length, equal_items)

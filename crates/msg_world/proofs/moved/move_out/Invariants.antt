@@ -1,6 +1,5 @@
 use Rattle.std.proofs.Common.{◌≡◌, ◌+◌, ◌-◌, ◌≤◌, ◌/◌, ◌^◌, ◌<◌, ℕ, IsTrue, None, count_ones, vec_capacity, vec_len, ◌&&◌, nat_lt, if◌then◌else◌}
-use Rattle.msg_world.specs.Prelude.{has_bit}
-use Rattle.msg_world.specs.{inner.Moved.AreSlotsBelow, inner.Moved.placed, inner.Slots.at}
+use Rattle.msg_world.specs.{Prelude.has_bit, inner.Moved.AreSlotsBelow, inner.Moved.placed, inner.Slots.at}
 use Rattle.msg_world.proofs.moved.move_out.Given as goal
 
 abbrev pub invariant-loop-k : goal.invariant-loop-k

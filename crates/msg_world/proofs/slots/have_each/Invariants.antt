@@ -1,6 +1,5 @@
 use Rattle.std.proofs.Common.{◌-◌, ◌<◌, ◌≤◌, ℕ, IsSome, IsTrue}
-use Rattle.msg_world.specs.Prelude.{has_bit}
-use Rattle.msg_world.specs.inner.Slots.{at}
+use Rattle.msg_world.specs.{Prelude.has_bit, inner.Slots.at}
 use Rattle.msg_world.proofs.slots.have_each.Given as goal
 
 abbrev pub invariant-loop-k : goal.invariant-loop-k

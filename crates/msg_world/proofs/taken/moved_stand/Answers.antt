@@ -1,5 +1,4 @@
-use Rattle.std.proofs.Common.{inl, inr, arith, pos}
-use Rattle.std.proofs.lemmas.Bool.{cases_eq}
+use Rattle.std.proofs.{Common.inl, Common.inr, Common.arith, Common.pos, lemmas.Bool.cases_eq}
 use Rattle.msg_buffer.specs.Prelude.{empty}
 use Rattle.msg_world.specs.Prelude.{by}
 use Rattle.msg_world.proofs.taken.moved_stand.Goals as goal

@@ -1,7 +1,6 @@
 use Rattle.std.proofs.Common.{◌≡◌, ℕ, ◌<◌, length, Some, IsSome, slice_get}
 use Rattle.msg_buffer.specs.Prelude.{History, count}
-use Rattle.msg_world.specs.Prelude.{Record}
-use Rattle.msg_world.specs.inner.Slots.{BufferStands, at}
+use Rattle.msg_world.specs.{Prelude.Record, inner.Slots.BufferStands, inner.Slots.at}
 use Rattle.msg_world.proofs.world.counts_of.Given as goal
 
 abbrev pub invariant-loop-slot : goal.invariant-loop-slot

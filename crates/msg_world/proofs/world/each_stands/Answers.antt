@@ -1,5 +1,4 @@
-use Rattle.std.proofs.Common.{inl, inr, arith}
-use Rattle.std.proofs.lemmas.Bool.{cases_eq}
+use Rattle.std.proofs.{Common.inl, Common.inr, Common.arith, lemmas.Bool.cases_eq}
 use Rattle.msg_world.proofs.Worlds.{item_at}
 use Rattle.msg_world.proofs.world.each_stands.Goals as goal
 

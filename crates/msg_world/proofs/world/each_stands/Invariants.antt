@@ -1,7 +1,6 @@
 use Rattle.std.proofs.Common.{ℕ, ◌<◌}
 use Rattle.msg_buffer.specs.Prelude.{History}
-use Rattle.msg_world.specs.Prelude.{Record}
-use Rattle.msg_world.specs.inner.Slots.{BufferStands, at}
+use Rattle.msg_world.specs.{Prelude.Record, inner.Slots.BufferStands, inner.Slots.at}
 use Rattle.msg_world.proofs.world.each_stands.Given as goal
 
 abbrev pub invariant-loop-slot : goal.invariant-loop-slot

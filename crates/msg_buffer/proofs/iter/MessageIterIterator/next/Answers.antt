@@ -7,13 +7,8 @@ use Rattle.msg_buffer.proofs.iter.MessageIterIterator.next.Goals as goal
 pub returns-then-place-count-clause-steps : goal.returns-then-place-count-clause-steps
 returns-then-place-count-clause-steps g c =
     let it = c.args.self.now in let k = it.messages.now in
-    grind (
-      arith,
-      drop_all (it.cursor.now - k.oldest) (kept_instances k),
-      length-append k.older k.newer,
-      c.place-place.ensures,
-      c.count.ensures,
-    )
+    let none = drop_all (it.cursor.now - k.oldest) (kept_instances k) in
+    grind (arith, none, length-append k.older k.newer, c.place-place.ensures, c.count.ensures)
 
 pub returns-in_err-instance-clause-steps : goal.returns-in_err-instance-clause-steps
 returns-in_err-instance-clause-steps g c =

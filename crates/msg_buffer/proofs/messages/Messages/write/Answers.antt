@@ -6,14 +6,9 @@ use Rattle.msg_buffer.proofs.messages.Messages.write.Goals as goal
 pub invariant_of-self : goal.invariant_of-self
 invariant_of-self g c =
     let i = c.self.invariant in let xs = c.self.inside.newer.instances.items in
-    grind (
-      arith,
-      i,
-      c.if-self.false,
-      c.in-Ok.ensures,
-      length-append xs (numbered c.self.inside.count (c.args.message ∷ [])),
-      numbers-append c.self.inside.newer.start c.self.inside.count xs (c.args.message ∷ []) i.newer_numbers,
-    )
+    let longer = length-append xs (numbered c.self.inside.count (c.args.message ∷ [])) in
+    let on = numbers-append c.self.inside.newer.start c.self.inside.count xs (c.args.message ∷ []) i.newer_numbers in
+    grind (arith, i, c.if-self.false, c.in-Ok.ensures, longer, on)
 
 pub returns-in-Ok-clause-meaning : goal.returns-in-Ok-clause-meaning
 returns-in-Ok-clause-meaning g c h s =

@@ -8,16 +8,9 @@ invariant_of-self-2 g c =
     let i = c.self.invariant in
     let xs = c.self.inside.newer.instances.items in let ms = c.args.batch.items in
     let long : c.len-n.result ≡ length ms = search rules in
-    grind (
-      arith,
-      i,
-      long,
-      c.reserve.ensures,
-      c.append_numbered.ensures,
-      length-append xs (numbered c.self.inside.count ms),
-      length-numbered c.self.inside.count ms,
-      numbers-append c.self.inside.newer.start c.self.inside.count xs ms i.newer_numbers,
-    )
+    let longer = length-append xs (numbered c.self.inside.count ms) in
+    let on = numbers-append c.self.inside.newer.start c.self.inside.count xs ms i.newer_numbers in
+    grind (arith, i, long, c.reserve.ensures, c.append_numbered.ensures, longer, length-numbered, on)
 
 pub returns-clause-meaning : goal.returns-clause-meaning
 returns-clause-meaning g c h s =

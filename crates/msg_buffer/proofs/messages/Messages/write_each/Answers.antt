@@ -8,17 +8,10 @@ pub invariant_of-self-2 : goal.invariant_of-self-2
 invariant_of-self-2 g c =
     let i = c.self.invariant in
     let xs = c.self.inside.newer.instances.items in let made = c.append_each.ensures.appended in
-    grind (
-      arith,
-      i,
-      c.if-n-self.false,
-      c.reserve.ensures,
-      made.2,
-      AllZip-long _ _ made.0 made.1,
-      length-append xs (numbered c.self.inside.count made.0),
-      length-numbered c.self.inside.count made.0,
-      numbers-append c.self.inside.newer.start c.self.inside.count xs made.0 i.newer_numbers,
-    )
+    let longer = length-append xs (numbered c.self.inside.count made.0) in
+    let on = numbers-append c.self.inside.newer.start c.self.inside.count xs made.0 i.newer_numbers in
+    let long = AllZip-long _ _ made.0 made.1 in
+    grind (arith, i, c.if-n-self.false, c.reserve.ensures, made.2, long, longer, length-numbered, on)
 
 pub returns-clause-meaning : goal.returns-clause-meaning
 returns-clause-meaning g c =

@@ -1,9 +1,6 @@
-use Rattle.std.proofs.Common.{◌≡◌, ℕ, get_or, replicate, arith}
-use Rattle.std.proofs.lemmas.{Bool.cases_lt, List.get_or-replicate, List.get_or_past, List.length-replicate}
+use Rattle.std.proofs.Common.{◌∙◌, ap, get_or, replicate}
+use Rattle.msg_world.proofs.Placed.{equal_items}
 use Rattle.msg_system.proofs.cursors.Cursors.new.Goals as goal
 
-zeros : (n x t : ℕ) → x ≡ 0 → get_or (replicate n x) t 0 ≡ 0
-zeros n x t is = grind (arith, cases_lt, get_or-replicate, get_or_past, length-replicate)
-
 pub returns : goal.returns
-returns c = record { zero = λ k t. zeros 64 c.new.result t c.new.ensures.place k }
+returns c = record { zero = λ k t. (ap (λ x. get_or (replicate 64 x) t 0) c.new.ensures.place ∙ equal_items 64 0 t) k }

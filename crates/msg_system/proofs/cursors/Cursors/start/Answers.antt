@@ -1,6 +1,4 @@
-use Rattle.std.proofs.Common.{inl, inr, arith, rules}
-use Rattle.std.proofs.Math.Path.{fun_ext}
-use Rattle.std.proofs.lemmas.Bool.{cases_lt}
+use Rattle.std.proofs.{Common.inl, Common.inr, Common.arith, Common.rules, Math.Path.fun_ext, lemmas.Bool.cases_lt}
 use Rattle.msg_world.specs.Prelude.{OfType}
 use Rattle.msg_world.proofs.Bits.{has_bit-above}
 use Rattle.msg_system.proofs.cursors.Cursors.start.Goals as goal

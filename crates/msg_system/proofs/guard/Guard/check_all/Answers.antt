@@ -1,8 +1,6 @@
 use Rattle.std.proofs.Common.{◌≡◌, ◌&&◌, ◌++◌, List, [], ◌∷◌, refl, ◌<◌, ◌+◌, ℕ, arith, drop, get_or, length, ◌∙◌}
-use Rattle.std.proofs.Math.Bool.{and-true}
+use Rattle.std.proofs.{Math.Bool.and-true, Math.Seq.map-set_same, lemmas.Grind.drop_more_same, lemmas.List.drop-set-lt, lemmas.List.drop_more, lemmas.List.get_or-map, lemmas.List.length-map, lemmas.List.map_push, lemmas.List.take_more, lemmas.List.take_more_set}
 use Rattle.msg_world.specs.Prelude.{WorldState}
-use Rattle.std.proofs.Math.Seq.{map-set_same}
-use Rattle.std.proofs.lemmas.{List.drop-set-lt, List.drop_more, List.get_or-map, List.length-map, List.map_push, List.take_more, List.take_more_set, Grind.drop_more_same}
 use Rattle.msg_system.specs.Prelude.{answer, all_hold, Asked}
 use Rattle.msg_system.proofs.guard.Guard.check_all.Goals as goal
 

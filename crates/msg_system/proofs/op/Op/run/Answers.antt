@@ -1,6 +1,5 @@
-use Rattle.std.proofs.Common.{rules, refl}
+use Rattle.std.proofs.{Common.rules, Common.refl, lemmas.Int.to_z-of_z, lemmas.Result.IfOk-weaker, lemmas.Result.on_err_weaker}
 use mir.Syntax.{w64}
-use Rattle.std.proofs.lemmas.{Int.to_z-of_z, Result.IfOk-weaker, Result.on_err_weaker}
 use Rattle.msg_world.specs.Prelude.{OfResource, OfType, Registry}
 use Rattle.msg_system.specs.Prelude.{Clear, Forward, Read, Sum}
 use Rattle.msg_system.proofs.Runs.{covers_read, covers_written, place_at, ran_at}

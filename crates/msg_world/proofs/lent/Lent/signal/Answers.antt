@@ -1,5 +1,4 @@
-use Rattle.std.proofs.lemmas.Grind.{common_steps}
-use Rattle.std.proofs.Common.{arith, refl}
+use Rattle.std.proofs.{Common.arith, Common.refl, lemmas.Grind.common_steps}
 use Rattle.msg_world.proofs.Loans.{signal_stands, with_signal_shape}
 use Rattle.msg_world.proofs.lent.Lent.signal.Goals as goal
 

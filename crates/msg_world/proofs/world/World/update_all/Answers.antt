@@ -1,7 +1,5 @@
-use Rattle.std.proofs.lemmas.{Grind.common_steps, List.with_items_is}
-use Rattle.std.proofs.Common.{refl, sym, subst, arith}
-use Rattle.msg_world.specs.Prelude.{OfResource, OfType, Registry}
-use Rattle.msg_world.specs.inner.Slots.{AllUpdated}
+use Rattle.std.proofs.{Common.refl, Common.sym, Common.subst, Common.arith, lemmas.Grind.common_steps, lemmas.List.with_items_is}
+use Rattle.msg_world.specs.{Prelude.OfResource, Prelude.OfType, Prelude.Registry, inner.Slots.AllUpdated}
 use Rattle.msg_world.proofs.Worlds.{others_update, waiting_stays}
 use Rattle.msg_world.proofs.world.World.update_all.Goals as goal
 
