@@ -20,7 +20,7 @@ pub trait Keys {
 }
 
 /// That a value is an object which has no unknown key.
-#[tactic(auto, using(crate::proofs::Walks::list_steps))]
+#[tactic(auto, using(crate::proofs::WalksOverLists::list_steps))]
 pub fn check_keys<K: Keys>(value: &Value) -> Result<(), Refusal>
     ensures object { OnOk result (is_object (view value.now) ≡ true) }
     ensures known { OnOk result (list_all K.known (keys (view value.now)) ≡ true) }

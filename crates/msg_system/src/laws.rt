@@ -3,7 +3,7 @@ ghost use Rattle.msg_system.specs.Prelude.{CompleteCovers, ConditionFootprint, I
 
 /// What is done depends on no part but those that are needed, and changes no part but those that
 /// are written.
-#[tactic(auto, using(crate::proofs::Footprints::footprints))]
+#[tactic(auto, using(crate::proofs::FootprintsHold::footprints))]
 pub fn nothing_else_is_used()
     ensures ops { OpFootprint }
     ensures programs { ProgramFootprint }

@@ -108,7 +108,7 @@ fn read_with_two(made: u32, head: &str, part: &Value, other: &Value) -> Result<C
 }
 
 /// The values of a batch.
-#[tactic(auto, using(crate::proofs::Walks::list_steps))]
+#[tactic(auto, using(crate::proofs::WalksOverLists::list_steps))]
 fn read_values(alloc: Global, part: &Value) -> Result<Items<i64>, Refusal>
     ensures { Agrees (batch_checks (view part.now))
         (values_of (view part.now)) result }

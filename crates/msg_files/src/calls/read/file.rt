@@ -36,7 +36,7 @@ impl Keys for FileKeys {
     }
 }
 
-#[tactic(auto, using(crate::proofs::Walks::list_steps))]
+#[tactic(auto, using(crate::proofs::WalksOverLists::list_steps))]
 fn read_list(alloc: Global, value: &Value) -> Result<Vec<Call>, Refusal>
     ensures is { IfOk result (λ v. (first_refusal (call_list_checks (view value.now)) ≡ None)
         × (calls_of (view value.now) ≡ Some v.items)) }

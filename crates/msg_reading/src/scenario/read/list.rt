@@ -44,7 +44,7 @@ pub fn read_list_if_there<T: Element>(
 }
 
 /// The elements of a list that isn't longer than `most`.
-#[tactic(auto, using(msg_files::proofs::Walks::list_steps))]
+#[tactic(auto, using(msg_files::proofs::WalksOverLists::list_steps))]
 pub fn read_list<T: Element>(
     alloc: Global,
     names: &Declarations,

@@ -28,7 +28,7 @@ pub trait Declaration: Sized + Drop {
 }
 
 /// The elements of a list that isn't longer than `most`, and their names declared.
-#[tactic(auto, using(msg_files::proofs::Walks::list_steps))]
+#[tactic(auto, using(msg_files::proofs::WalksOverLists::list_steps))]
 pub fn read_names<T: Declaration>(
     alloc: Global,
     names: &mut Declarations,

@@ -13,7 +13,7 @@ use msg_world::{ResNo, TypeNo};
 use serde_json::{Number, Value};
 
 /// The two elements of a list of two.
-#[tactic(auto, using(msg_files::proofs::Walks::list_steps))]
+#[tactic(auto, using(msg_files::proofs::WalksOverLists::list_steps))]
 pub fn two(value: &Value) -> Result<(&Value, &Value), Refusal>
     ensures two { IfOk result (λ p.
         elements (view value.now) ≡ view p.0.now ∷ view p.1.now ∷ []) }

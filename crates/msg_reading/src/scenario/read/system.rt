@@ -125,7 +125,7 @@ fn kind_named(kind: &Value) -> Result<Kind, Refusal>
 }
 
 /// The ops of a system of this kind.
-#[tactic(auto, using(msg_files::proofs::Walks::refusal_of_both))]
+#[tactic(auto, using(msg_files::proofs::WalksOverLists::refusal_of_both))]
 fn read_ops(
     alloc: Global,
     names: &Declarations,
