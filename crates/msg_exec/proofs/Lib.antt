@@ -17,5 +17,5 @@ mod CoreRunsFrame
 -- ---- an engine
 mod FirstEngineStands
 mod BuilderBuilds
-mod EngineRunsFrames
+pub mod EngineRunsFrames
 mod AccountsTell

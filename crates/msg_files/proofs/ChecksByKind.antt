@@ -30,5 +30,10 @@ pub call_headed : (made : ℕ) (d : Data) (xs : List Value) (v : Value) (head : 
     × (call_of d ≡ call_with head (map view (take (length xs - 1) (drop 1 xs))))
 call_headed made d [] v head list lt is text = absurd (omega (arith, lt))
 call_headed made d (x ∷ xs) v head list lt is text =
-    grind (arith, array_is d (items_view (x ∷ xs)) list, string_is (view x), list_of-items_of,
-        take_all (length (x ∷ xs) - 1) xs)
+    grind (
+      arith,
+      array_is d (items_view (x ∷ xs)) list,
+      string_is (view x),
+      list_of-items_of,
+      take_all (length (x ∷ xs) - 1) xs,
+    )

@@ -2,9 +2,9 @@
 use Rattle.std.specs.Prelude.{ℕ, ◌+◌, ◌||◌, ◌&&◌, nat_lt, nat_le, Bool, false, List, [], ◌∷◌, ◌++◌, length, map, is_some, codes, if◌then◌else◌}
 use Rattle.std.specs.{List.list_all, Option.option_map_or, Str.bytes_eq}
 use Rattle.serde_json.specs.{Data.Data, Data.string, Data.array, Find.get}
-use Rattle.msg_files.specs.{Json.Text, Json.list_of, Json.elements, Json.keys, Json.value_at, Json.is_object, Json.is_list, Json.is_number, Json.whole, Json.natural, Json.number_below, Json.number_up_to, Check.Check, Check.needs, Cursors.made_by, Denotes.call_of, declared.refusal.Refusal.TheVariants.Shape, declared.refusal.Refusal.TheVariants.UnknownKey, declared.refusal.Refusal.TheVariants.BadNumber, declared.refusal.Refusal.TheVariants.TooMany}
+use Rattle.msg_files.specs.{Json.Text, Json.list_of, Json.elements, Json.keys, Json.value_at, Json.is_object, Json.is_list, Json.is_list_of_numbers, Json.is_number, Json.whole, Json.natural, Json.number_below, Json.number_up_to, Check.Check, Check.needs, Cursors.made_by, Denotes.call_of, declared.refusal.Refusal.TheVariants.Shape, declared.refusal.Refusal.TheVariants.UnknownKey, declared.refusal.Refusal.TheVariants.BadNumber, declared.refusal.Refusal.TheVariants.TooMany}
 
--- ---- objects
+-- ---- objects and lists
 
 -- an object that has none but these keys
 abbrev pub object_checks : (Text → Bool) → Data → List Check
@@ -14,15 +14,15 @@ object_checks known d = needs (is_object d) Shape ∷ needs (list_all known (key
 abbrev pub has_key : Text → Data → Check
 has_key key d = needs (is_some (get key d)) Shape
 
+-- a list of at most so many elements
+abbrev pub a_list : ℕ → Data → List Check
+a_list most d = needs (is_list d) Shape ∷ needs (nat_le (length (elements d)) most) TooMany ∷ []
+
 -- ---- parts of a call
 
 -- a JSON number
 abbrev pub a_number : Data → Check
 a_number d = needs (is_number d) Shape
-
--- a list of JSON numbers
-abbrev pub a_list_of_numbers : Data → Check
-a_list_of_numbers d = needs (is_list d && list_all is_number (elements d)) Shape
 
 -- a value: any whole number of an i64
 abbrev pub a_value : Data → Check
@@ -34,7 +34,7 @@ few_values d = needs (nat_le (length (elements d)) 1024) TooMany
 
 -- the values of a batch
 abbrev pub batch_checks : Data → List Check
-batch_checks d = a_list_of_numbers d ∷ few_values d ∷ map a_value (elements d)
+batch_checks d = needs (is_list_of_numbers d) Shape ∷ few_values d ∷ map a_value (elements d)
 
 -- one of the cursors that were made before
 abbrev pub a_cursor : ℕ → Data → Check
@@ -131,10 +131,7 @@ root_checks d = object_checks is_known d
 
 -- a list of at most 10,000 calls, before which cursor 0 is there
 abbrev pub call_list_checks : Data → List Check
-call_list_checks d =
-    needs (is_list d) Shape
-    ∷ needs (nat_le (length (elements d)) 10000) TooMany
-    ∷ calls_checks 1 (elements d)
+call_list_checks d = a_list 10000 d ++ calls_checks 1 (elements d)
 
 -- all checks of a file
 abbrev pub checks_of : Data → List Check

@@ -1,5 +1,6 @@
 -- Words on JSON values.
-use Rattle.std.specs.Prelude.{◌≡◌, IsUtf8, ℕ, ◌+◌, ℤ, pos, negsuc, nat_lt, Bool, List, [], ◌∷◌, Option, Some, None, is_some, option_map, option_and_then, unwrap_or, if◌then◌else◌}
+use Rattle.std.specs.Prelude.{◌≡◌, IsUtf8, ℕ, ◌+◌, ℤ, pos, negsuc, ◌&&◌, nat_lt, Bool, List, [], ◌∷◌, Option, Some, None, is_some, option_map, option_and_then, unwrap_or, if◌then◌else◌}
+use Rattle.std.specs.List.{list_all}
 use Rattle.serde_json.specs.{Data.Data, Data.null, Data.Items, Data.no_items, Data.item, Data.Members, Data.no_members, Data.member, Read.read, Find.get, Find.as_number, Find.as_array, Find.as_object, Find.as_i64}
 
 -- a text, as its bytes
@@ -38,6 +39,9 @@ is_list d = is_some (as_array d)
 abbrev pub is_number : Data → Bool
 is_number d = is_some (as_number d)
 
+abbrev pub is_list_of_numbers : Data → Bool
+is_list_of_numbers d = is_list d && list_all is_number (elements d)
+
 -- the whole number of an i64 that a value is
 abbrev pub whole : Data → Option ℤ
 whole d = option_and_then as_i64 (as_number d)
@@ -68,6 +72,10 @@ abbrev pub all_some : {A : Type 0} → List (Option A) → Option (List A)
 all_some [] = Some []
 all_some (None ∷ rest) = None
 all_some (Some a ∷ rest) = option_map (λ values. a ∷ values) (all_some rest)
+
+-- both, where there are both
+abbrev pub both : {A B C : Type 0} → (A → B → C) → Option A → Option B → Option C
+both f a b = option_and_then (λ x. option_map (f x) b) a
 
 -- the bytes are UTF-8, and serde_json reads this value in them
 pub record IsJsonOf (bytes : List ℕ) (d : Data) : Type 0 where

@@ -1,11 +1,25 @@
-// Known keys and needed keys of a JSON object.
-ghost use Rattle.std.specs.Prelude.{◌≡◌, ◌≢◌, None, Some, true, IfErr, MatchResult, OnOk, string_bytes};
+// A JSON text's value, known keys and needed keys of an object, and the elements of a list.
+ghost use Rattle.std.specs.Prelude.{◌≡◌, ◌≢◌, ◌⊎◌, None, Some, true, Err, IfErr, IfOk, IsUtf8, MatchResult, OnOk, map, string_bytes};
 ghost use Rattle.std.specs.List.{list_all};
-ghost use Rattle.serde_json.specs.{Find.get, View.view};
-ghost use Rattle.msg_files.specs.Prelude.{first_refusal, is_object, keys, object_checks};
+ghost use Rattle.serde_json.specs.{Find.get, Read.read, View.view};
+ghost use Rattle.msg_files.specs.Prelude.{IsJsonOf, a_list, elements, first_refusal, is_object, keys, object_checks};
 
 use crate::refusal::Refusal;
-use serde_json::{Map, Value};
+use serde_json::{Category, Map, Value};
+use std::alloc::Global;
+
+/// The value that the bytes are a JSON text of.
+pub fn parse(alloc: Global, bytes: &[u8]) -> Result<Value, Refusal>
+    ensures ok { IfOk result (λ value. IsJsonOf bytes.now (view value)) }
+    ensures not_json { result ≡ Err Refusal.NotJson → IsUtf8 bytes.now → read bytes.now ≡ None }
+    ensures refused { IfErr result (λ e. (e ≡ Refusal.NotJson) ⊎ (e ≡ Refusal.NoMemory)) }
+{
+    match Value::from_slice(alloc, bytes) {
+        Ok(value) => Ok(value),
+        Err(error) if error.classify() == Category::Memory => Err(Refusal::NoMemory),
+        Err(_) => Err(Refusal::NotJson),
+    }
+}
 
 /// The keys that an object may have.
 pub trait Keys {
@@ -20,7 +34,7 @@ pub trait Keys {
 }
 
 /// That a value is an object which has no unknown key.
-#[tactic(auto, using(crate::proofs::Walks::list_steps))]
+#[tactic(auto, using(crate::proofs::WalksOverLists::list_steps))]
 pub fn check_keys<K: Keys>(value: &Value) -> Result<(), Refusal>
     ensures object { OnOk result (is_object (view value.now) ≡ true) }
     ensures known { OnOk result (list_all K.known (keys (view value.now)) ≡ true) }
@@ -47,8 +61,23 @@ pub fn needed<'a>(value: &'a Value, key: &str) -> Result<&'a Value, Refusal>
     ensures found { MatchResult result (λ v. get key.now (view value.now) ≡ Some (view v.now))
         (λ e. (e ≡ Refusal.Shape) × (get key.now (view value.now) ≡ None)) }
 {
-    match value.get(key) {
-        Some(found) => Ok(found),
-        None => Err(Refusal::Shape),
+    value.get(key).ok_or(Refusal::Shape)
+}
+
+/// The elements of a list that has no more than `most`.
+#[tactic(auto, using(crate::proofs::WalksOverLists::list_steps))]
+pub fn list(value: &Value, most: usize) -> Result<&[Value], Refusal>
+    ensures elements { IfOk result (λ items. elements (view value.now) ≡ map view items.now) }
+    ensures checked { MatchResult result
+        (λ _. first_refusal (a_list most (view value.now)) ≡ None)
+        (λ e. (e ≢ Refusal.NotJson) × (first_refusal (a_list most (view value.now)) ≡ Some e)) }
+{
+    let Some(items) = value.as_array() else {
+        return Err(Refusal::Shape);
+    };
+    let items = items.as_slice();
+    if items.len() > most {
+        return Err(Refusal::TooMany);
     }
+    Ok(items)
 }

@@ -2,8 +2,8 @@
 use Rattle.std.proofs.Common.{◌≡◌, ℕ, ◌+◌, ◌≤◌, List, [], ◌∷◌, ◌++◌, length, refl, Option, Some, None, Bool, true, false, arith, map, subst, All, if◌then◌else◌, nat_le, option_and_then, option_map, zero-add}
 use Rattle.std.proofs.lemmas.{Bool.leb-true, Grind.common_steps, List.Elements.All-cons, List.Elements.All-nil, Option.same_Some}
 use Rattle.serde_json.specs.Data.{Data}
-use Rattle.msg_files.specs.Prelude.{Check, Text, all_some, elements, first_refusal, is_list, needs, only_below}
-use Rattle.msg_reading.specs.Prelude.{Declared, both, checks_in_turn, each_in_turn, names_checks, of_headed, text, with_all}
+use Rattle.msg_files.specs.Prelude.{Check, Text, a_list, all_some, both, elements, first_refusal, is_list, needs, only_below}
+use Rattle.msg_reading.specs.Prelude.{Declared, checks_in_turn, each_in_turn, names_checks, of_headed, text, with_all}
 use Rattle.msg_files.proofs.WalksOverLists.{refusal_of_both}
 use Rattle.msg_files.specs.{declared.refusal.Refusal.Refusal, declared.refusal.Refusal.TheVariants.Shape, declared.refusal.Refusal.TheVariants.TooMany}
 
@@ -68,7 +68,7 @@ first_passes b e cs h = grind arith
 
 -- a list that passed its checks is short enough, and its elements passed theirs
 pub list_passed : (d : Data) (most : ℕ) (checks : List Check)
-    → first_refusal (needs (is_list d) Shape ∷ needs (nat_le (length (elements d)) most) TooMany ∷ checks) ≡ None
+    → first_refusal (a_list most d ++ checks) ≡ None
     → (length (elements d) ≤ most) × (first_refusal checks ≡ None)
 list_passed d most checks h =
     let few = nat_le (length (elements d)) most in

@@ -5,7 +5,7 @@ use Rattle.serde_json.specs.{Data.Data, Data.boolean, Data.string, Data.number, 
 use Rattle.msg_system.specs.{declared.op.Op.Op, declared.op.Op.TheVariants.Write, declared.op.Op.TheVariants.Batch, declared.op.Op.TheVariants.Read, declared.op.Op.TheVariants.Len, declared.op.Op.TheVariants.Missed, declared.op.Op.TheVariants.Clear, declared.op.Op.TheVariants.Forward, declared.op.Op.TheVariants.Sum, declared.op.Op.TheVariants.Get, declared.op.Op.TheVariants.Set, declared.op.Op.TheVariants.Add, declared.op.Op.TheVariants.Drain, declared.op.Op.TheVariants.Signal, declared.condition.Condition.Condition, declared.condition.Probe.Probe, declared.condition.Probe.TheVariants.OnMessage, declared.condition.Probe.TheVariants.ResourceEquals, declared.start.Start.Start, declared.start.Start.TheVariants.Zero, declared.start.Start.TheVariants.Current}
 use Rattle.msg_frames.specs.{declared.frame.Frame.Frame, declared.place.Place.Place}
 use Rattle.msg_order.specs.declared.rule.Rule.{Rule}
-use Rattle.msg_files.specs.Prelude.{Text, all_some, elements, natural, value_at, values_of, whole}
+use Rattle.msg_files.specs.Prelude.{Text, all_some, both, elements, natural, value_at, values_of, whole}
 use Rattle.msg_reading.specs.{Names.Declared, Names.type_number, Names.resource_number, Names.system_number, declared.kind.Kind.Kind, declared.kind.Kind.TheVariants.Script, declared.kind.Kind.TheVariants.Relay, declared.kind.Kind.TheVariants.Tally, declared.scenario.Scenario.Scenario, declared.scenario.SystemSpec.SystemSpec}
 
 -- ---- parts of values
@@ -25,10 +25,6 @@ of_two f (a ∷ b ∷ c ∷ rest) = None
 abbrev pub of_headed : {A : Type 0} → (Text → List Data → Option A) → List Data → Option A
 of_headed f [] = None
 of_headed f (head ∷ parts) = f (text head) parts
-
--- both, where there are both
-abbrev pub both : {A B C : Type 0} → (A → B → C) → Option A → Option B → Option C
-both f a b = option_and_then (λ x. option_map (f x) b) a
 
 -- what each element denotes
 abbrev pub each_of : {A : Type 0} → (Data → Option A) → Data → Option (List A)

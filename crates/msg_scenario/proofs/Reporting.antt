@@ -9,6 +9,7 @@ use Rattle.msg_frames.specs.Prelude.{FramesKeepSystems, IsCompleteRun, IsFrame, 
 use Rattle.msg_exec.specs.Prelude.{HasRunFrame, IsSpoiled, EngineStands, frame_number}
 use Rattle.msg_frames.specs.{declared.account.Account.Account, declared.frame.Frame.Frame, declared.log.Log.Log}
 use Rattle.msg_exec.specs.declared.engine.EngineOf.{EngineOf}
+use Rattle.msg_exec.proofs.EngineRunsFrames.{run_more}
 use Rattle.msg_system.specs.{declared.run_fault.RunFault.RunFault, declared.run_fault.RunFault.TheVariants.BadOrder, declared.run_fault.RunFault.TheVariants.NoMemory, declared.run_fault.RunFault.TheVariants.Spoiled}
 use Rattle.msg_files.specs.Prelude.{AppendsPrefix, Text}
 use Rattle.msg_scenario.specs.Prelude.{HasPrinted, HasReported, HasRunOut, HasStopped, accounts_text, frame_text, frames_text, text_so_far}
@@ -38,14 +39,6 @@ frames_text-append s number (frame ∷ frames) (log ∷ first) later =
     grind (arith, append_assoc, frames_text-append s (number + 1) frames first later)
 
 -- ---- runs
-
--- one frame more
-run_more : (frames : List Frame) (frame : Frame) (s : State) (logs : List Log) (log : Log) (m u : State)
-    → IsRun frames s logs m → IsFrame frame m log u → IsRun (frames ++ frame ∷ []) s (logs ++ log ∷ []) u
-run_more [] frame s [] log m u none one = (u, rw (← none) one, refl)
-run_more (f ∷ frames) frame s (l ∷ logs) log m u some one =
-    (some.0, some.1, run_more frames frame some.0 logs log m u some.2 one)
-run_more frames frame s logs log m u none one = absurd none
 
 module _ {X : Type 0} (meaning : X → Meaning) (s : Scenario) where
   -- nothing was run, and nothing put

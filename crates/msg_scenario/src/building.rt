@@ -74,7 +74,7 @@ fn rules_of(alloc: Global, scenario: &Scenario) -> Result<Vec<Rule>, NoMemory>
 
 /// Adds the system of the spec that is next to those of the specs before it. The specs are there
 /// for the contract alone.
-#[tactic(auto, using(crate::proofs::Making::is_system_at))]
+#[tactic(auto, using(crate::proofs::EngineIsMade::is_system_at))]
 pub fn add_system<S: System>(
     specs: &[SystemSpec],
     spec: &SystemSpec,

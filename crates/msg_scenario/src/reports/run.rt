@@ -56,10 +56,9 @@ fn report_frame<R: Threads + Sync, X: System, S: Sink, G: Gate>(
 {
     frames_keep_the_systems();
     let frame = &scenario.frames.as_slice()[reported];
-    let log = match engine.run_frame(rt, frame, workers, gate) {
-        Ok(log) => log,
-        Err(fault) => return Err(ReportFault::Run(fault)),
-    };
+    let log = engine
+        .run_frame(rt, frame, workers, gate)
+        .map_err(ReportFault::Run)?;
     put_frame(
         scenario,
         lines,
@@ -112,9 +111,7 @@ pub fn report<R: Threads + Sync, X: System, S: Sink, G: Gate>(
     ensures quiet { result ≢ Err ReportFault.Write → S.failures sink.new ≡ S.failures sink.old }
 {
     engine.has_one_run();
-    let Ok(lines) = make_lines(alloc, scenario) else {
-        return Err(ReportFault::NoMemory);
-    };
+    let lines = make_lines(alloc, scenario)?;
     let mut text = Vec::new(alloc);
     for reported in 0..scenario.frames.as_slice().len() {
         report_frame(

@@ -6,8 +6,8 @@ ghost use Rattle.msg_files.specs.Prelude.{Agrees, FitsCursors, IsAnswer, a_value
 
 use crate::call::Call;
 use crate::calls::read::part;
-use crate::limits::{MAX_CURSORS, MAX_VALUES};
-use crate::numbers::{are_numbers, whole_numbers};
+use crate::limits::MAX_CURSORS;
+use crate::numbers::{batch_values, list_of_numbers};
 use crate::refusal::Refusal;
 use msg_system::Items;
 use serde_json::Value;
@@ -69,7 +69,8 @@ fn read_bare(made: u32, head: &str) -> Result<Call, Refusal>
 
 /// Whether one cursor more may be made.
 fn room_for_cursor(made: u32) -> Result<(), Refusal>
-    ensures { MatchResult result (λ _. made < 64) (λ e. (e ≡ Refusal.TooMany) × (64 ≤ made)) }
+    ensures { MatchResult result (λ _. made < MAX_CURSORS)
+        (λ e. (e ≡ Refusal.TooMany) × (MAX_CURSORS ≤ made)) }
 {
     if made < MAX_CURSORS {
         Ok(())
@@ -108,20 +109,9 @@ fn read_with_two(made: u32, head: &str, part: &Value, other: &Value) -> Result<C
 }
 
 /// The values of a batch.
-#[tactic(auto, using(crate::proofs::Walks::list_steps))]
+#[tactic(auto, using(crate::proofs::WalksOverLists::list_steps))]
 fn read_values(alloc: Global, part: &Value) -> Result<Items<i64>, Refusal>
-    ensures { Agrees (batch_checks (view part.now))
-        (values_of (view part.now)) result }
+    ensures { Agrees (batch_checks (view part.now)) (values_of (view part.now)) result }
 {
-    let Some(items) = part.as_array() else {
-        return Err(Refusal::Shape);
-    };
-    let items = items.as_slice();
-    if !are_numbers(items) {
-        return Err(Refusal::Shape);
-    }
-    if items.len() > MAX_VALUES {
-        return Err(Refusal::TooMany);
-    }
-    Ok(Items::from_vec(whole_numbers(alloc, items)?))
+    batch_values(alloc, list_of_numbers(part)?)
 }

@@ -64,7 +64,7 @@ fn only_part<'a>(head: &str, parts: &'a [Value]) -> Option<&'a Value>
 }
 
 /// A probe of this head and these parts, with so many `not`s round it.
-#[tactic(auto, using(crate::proofs::Conditions::probe_of_many))]
+#[tactic(auto, using(crate::proofs::ConditionsAreRead::probe_of_many))]
 fn read_probe(
     names: &Declarations,
     nots: u8,

@@ -24,7 +24,7 @@ struct Sections<'a> {
 }
 
 /// The sections of a file one after another.
-#[tactic(auto, using(msg_files::proofs::Walks::refusal_of_both))]
+#[tactic(auto, using(msg_files::proofs::WalksOverLists::refusal_of_both))]
 pub fn read_sections(alloc: Global, value: &Value) -> Result<Scenario, Refusal>
     ensures agrees { Agrees (scenario_checks (view value.now))
         (scenario_of (view value.now)) result }
@@ -36,7 +36,7 @@ pub fn read_sections(alloc: Global, value: &Value) -> Result<Scenario, Refusal>
 
 /// The sections of a file whose keys are known. (The names are lent to it, since a proof goes
 /// through all that is dropped where a section is refused.)
-#[tactic(auto, using(msg_files::proofs::Walks::refusal_of_both))]
+#[tactic(auto, using(msg_files::proofs::WalksOverLists::refusal_of_both))]
 fn read_in_turn(
     alloc: Global,
     names: &mut Declarations,

@@ -1,8 +1,8 @@
 // The parts of a list.
 ghost use Rattle.std.specs.Prelude.{◌≡◌, ◌∷◌, ◌&&◌, [], List, Some, None, false, IfErr, IfOk, MatchResult, map};
 ghost use Rattle.serde_json.specs.{Data.Data, Find.as_number, Find.as_str, View.view, View.number_view};
-ghost use Rattle.msg_files.specs.Prelude.{Check, IsAnswer, Text, a_limit, a_value, elements, first_refusal, is_number, natural, needs, whole};
-ghost use Rattle.msg_reading.specs.Prelude.{a_resource, a_type, both, for_headed, for_two, in_not, is_text, resource_number, text, type_number, wrong_shape};
+ghost use Rattle.msg_files.specs.Prelude.{Check, IsAnswer, Text, a_limit, a_value, both, elements, first_refusal, is_number, natural, needs, whole};
+ghost use Rattle.msg_reading.specs.Prelude.{a_resource, a_type, for_headed, for_two, in_not, is_text, resource_number, text, type_number, wrong_shape};
 ghost use Rattle.msg_files.specs.declared.refusal.Refusal.TheVariants.{Shape};
 
 use crate::Refusal;
@@ -13,7 +13,7 @@ use msg_world::{ResNo, TypeNo};
 use serde_json::{Number, Value};
 
 /// The two elements of a list of two.
-#[tactic(auto, using(msg_files::proofs::Walks::list_steps))]
+#[tactic(auto, using(msg_files::proofs::WalksOverLists::list_steps))]
 pub fn two(value: &Value) -> Result<(&Value, &Value), Refusal>
     ensures two { IfOk result (λ p.
         elements (view value.now) ≡ view p.0.now ∷ view p.1.now ∷ []) }
@@ -45,10 +45,7 @@ pub fn head_and_parts(value: &Value) -> Result<(&str, &[Value]), Refusal>
     let [first, parts @ ..] = items.as_slice() else {
         return Err(Refusal::Shape);
     };
-    match first.as_str() {
-        Some(head) => Ok((head, parts)),
-        None => Err(Refusal::Shape),
-    }
+    Ok((text(first)?, parts))
 }
 
 /// The text that a part is; `Shape` where it is something else.
@@ -56,10 +53,7 @@ pub fn text(part: &Value) -> Result<&str, Refusal>
     ensures is { MatchResult result (λ t. as_str (view part.now) ≡ Some t.now)
         (λ e. (e ≡ Refusal.Shape) × (as_str (view part.now) ≡ None)) }
 {
-    match part.as_str() {
-        Some(text) => Ok(text),
-        None => Err(Refusal::Shape),
-    }
+    part.as_str().ok_or(Refusal::Shape)
 }
 
 /// The texts that two parts are; `Shape` where one is something else.
@@ -131,6 +125,7 @@ pub fn type_and_limit(
 }
 
 /// Two declared types.
+#[tactic(auto, using(std::proofs::lemmas::Result::err_from_is_err_and))]
 pub fn two_types(
     names: &Declarations,
     from: &Value,
@@ -150,6 +145,7 @@ pub fn two_types(
 }
 
 /// A declared type and a declared resource.
+#[tactic(auto, using(std::proofs::lemmas::Result::err_from_is_err_and))]
 pub fn type_and_resource(
     names: &Declarations,
     of_type: &Value,

@@ -15,7 +15,7 @@ use serde_json::Value;
 use std::alloc::Global;
 
 /// The conditions of a system, and the frame that it joins with: 1 where none is named.
-#[tactic(auto, using(msg_files::proofs::Walks::refusal_of_both))]
+#[tactic(auto, using(msg_files::proofs::WalksOverLists::refusal_of_both))]
 pub fn read_place(alloc: Global, names: &Declarations, system: &Value) -> Result<Place, Refusal>
     ensures agrees { Agrees (place_checks names.now (view system.now))
         (place_in names.now (view system.now)) result }

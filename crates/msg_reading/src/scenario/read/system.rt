@@ -26,6 +26,7 @@ impl Declaration for SystemSpec {
 
     ghost with_one = { with_system };
 
+    #[tactic(auto, using(msg_files::proofs::WalksOverLists::refusal_of_both))]
     fn read(alloc: Global, names: &mut Declarations, value: &Value) -> Result<SystemSpec, Refusal> {
         let (name, ops) = needed(value)?;
         let name = read_name(alloc, names, name)?;
@@ -40,6 +41,7 @@ impl Declaration for SystemSpec {
 }
 
 /// All of a system but its name.
+#[tactic(auto, using(msg_files::proofs::WalksOverLists::refusal_of_both))]
 fn read_program(
     alloc: Global,
     names: &Declarations,
@@ -125,7 +127,7 @@ fn kind_named(kind: &Value) -> Result<Kind, Refusal>
 }
 
 /// The ops of a system of this kind.
-#[tactic(auto, using(msg_files::proofs::Walks::refusal_of_both))]
+#[tactic(auto, using(msg_files::proofs::WalksOverLists::refusal_of_both))]
 fn read_ops(
     alloc: Global,
     names: &Declarations,

@@ -11,7 +11,7 @@ returns-clause-declares c =
     let key = c.in-Ok-Ok.key in
     let name = c.args.name.now in
     let inserted : c.insert.new.self.keys ≡ insert_key (λ a b. bytes_eq (string_bytes a) (string_bytes b)) old key =
-    grind (arith, c.insert.ensures.keys, c.if-is_err.ensures.value) in
+    grind (arith, c.in_ok-insert.ensures.keys) in
     let absent : position_of (map string_bytes old) name ≡ None =
     grind (arith, c.self.view_is, c.place.ensures.place, c.if-is_some.ensures) in
     ap (map string_bytes) inserted ∙ insert-new old key name c.in-Ok-Ok.ensures.ok absent

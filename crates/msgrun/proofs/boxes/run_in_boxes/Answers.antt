@@ -1,4 +1,4 @@
-use Rattle.msgrun.proofs.scene.run_in_boxes.Goals as goal
+use Rattle.msgrun.proofs.boxes.run_in_boxes.Goals as goal
 
 -- what the run by an engine left, without the engine
 pub returns-clause-run : goal.returns-clause-run

@@ -90,9 +90,5 @@ pub(crate) fn as_main_fault(
 ) -> Result<(), MainFault>
     ensures fault { result ≡ main_fault came }
 {
-    match came {
-        Ok(Ok(())) => Ok(()),
-        Ok(Err(fault)) => Err(MainFault::Report(fault)),
-        Err(NoMemory) => Err(MainFault::Built),
-    }
+    came?.map_err(MainFault::Report)
 }
