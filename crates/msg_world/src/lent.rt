@@ -81,6 +81,7 @@ impl<'a> Lent<'a> {
 
     /// Asks for an update of a held world. It is false, and changes nothing, where the registry
     /// isn't lent.
+    #[tactic(auto, using(crate::proofs::Loans::signal_stands))]
     pub fn signal(&mut self) -> bool
         ensures answer { result ≡ is_some (writable Registry self.old) }
         ensures signalled { IsTrue result → (s : WorldState) → LoanStands self.old s

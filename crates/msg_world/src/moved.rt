@@ -99,6 +99,7 @@ fn move_slot<T: Drop>(from: &mut Vec<Option<T>>, parts: &mut Vec<Moved<T>>, slot
 }
 
 /// Moves what the slots of a mask hold out of them, into room that is enough.
+#[tactic(auto, using(std::proofs::lemmas::Grind::common_steps, crate::proofs::Bits::all_below))]
 pub(crate) fn move_out<T: Drop>(
     from: &mut Vec<Option<T>>,
     room: Vec<Moved<T>>,
@@ -145,6 +146,7 @@ impl<T> MovedParts<T> {
         Some(&self.parts[place].part)
     }
 
+    #[tactic(auto, using(crate::proofs::Placed::at_none))]
     pub(crate) fn get_mut(&mut self, slot: usize) -> Option<&mut T>
         ensures* writes_back { sem 𝓛 (LendsPart T.row self.entry slot result) }
         ensures held { option_copied_mut result ≡ at self.old slot }
@@ -166,6 +168,7 @@ fn put_home<T: Drop>(home: &mut Vec<Option<T>>, slot: usize, part: T)
 }
 
 /// Moves all parts home. Gives the list that they were in, for the next ones.
+#[tactic(auto, using(crate::proofs::Placed::of_homecomings))]
 pub(crate) fn move_home<T: Drop>(moved: MovedParts<T>, home: &mut Vec<Option<T>>) -> Vec<Moved<T>>
     requires as_many { length moved ≡ vec_len home.old }
     ensures joined { (k : ℕ)

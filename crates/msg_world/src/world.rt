@@ -188,6 +188,7 @@ impl World {
     }
 
     /// The update at the beginning of a frame: every type, or none where a held world waits.
+    #[tactic(auto, using(crate::proofs::Worlds::waiting_stays))]
     pub fn update_all(&mut self)
         requires whole { IsWhole self.old }
         ensures meaning { (s : WorldState) → PartsStand self.old s

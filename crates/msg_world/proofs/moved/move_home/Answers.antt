@@ -1,13 +1,7 @@
-use Rattle.std.proofs.lemmas.{Grind.common_steps, List.nil_from_length, List.Elements.All-pop}
+use Rattle.std.proofs.lemmas.List.Elements.{All-pop}
 use Rattle.std.proofs.Common.{◌<◌, Some, vec_len, rules, ◌∙◌, arith}
-use Rattle.msg_world.proofs.Placed.{equal_items, last_home, placed_length}
+use Rattle.msg_world.proofs.Placed.{last_home}
 use Rattle.msg_world.proofs.moved.move_home.Goals as goal
-
-pub loop-slot-init : goal.loop-slot-init
-loop-slot-init g c = grind (arith, common_steps, placed_length)
-
-pub put_home-requires : goal.put_home-requires
-put_home-requires g c = grind (arith, common_steps, All-pop)
 
 pub loop-slot-preserved : goal.loop-slot-preserved
 loop-slot-preserved g c =
@@ -24,6 +18,3 @@ loop-slot-preserved g c =
           (search (rules, i.home_len)) k in
           grind (arith, home, c.put_home.ensures.items, c.in-Some.ensures.items, i.joined k);
     }
-
-pub returns-clause-joined : goal.returns-clause-joined
-returns-clause-joined g c = grind (arith, common_steps, placed_length, nil_from_length, equal_items)

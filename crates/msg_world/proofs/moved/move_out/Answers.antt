@@ -1,7 +1,7 @@
 use Rattle.std.proofs.lemmas.Grind.{common_steps}
 use Rattle.std.proofs.Common.{rules, ap, ◌∙◌, arith, ◌==◌}
 use Rattle.msg_world.specs.{inner.Moved.placed, inner.Slots.at}
-use Rattle.msg_world.proofs.{Bits.none_itself, Bits.all_below, Bits.below_next, Bits.one_less, Placed.placed_length, Placed.one_leaves, Placed.one_moves}
+use Rattle.msg_world.proofs.{Bits.none_itself, Bits.below_next, Bits.one_less, Placed.placed_length, Placed.one_leaves, Placed.one_moves}
 use Rattle.msg_world.proofs.moved.move_out.Goals as goal
 
 pub move_slot-requires-clause-room : goal.move_slot-requires-clause-room
@@ -25,12 +25,6 @@ loop-k-preserved g c =
       left = λ k. one_leaves _ (k == c.loop-k.k) _ _ _ _ (bits k) (m.left k) (i.left k);
       left_len = m.left_len ∙ i.left_len;
     }
-
-pub returns-clause-moved : goal.returns-clause-moved
-returns-clause-moved g c = grind (arith, common_steps, all_below)
-
-pub returns-clause-left : goal.returns-clause-left
-returns-clause-left g c = grind (arith, common_steps, all_below)
 
 pub returns-clause-moved_len : goal.returns-clause-moved_len
 returns-clause-moved_len g c = placed_length c.len.result c.loop-k.parts.items ∙ search rules

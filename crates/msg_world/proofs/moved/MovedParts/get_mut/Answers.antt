@@ -1,10 +1,6 @@
-use Rattle.std.proofs.lemmas.Grind.{common_steps}
-use Rattle.std.proofs.Common.{arith, sym, ◌∙◌, ap, Some, slice_set}
-use Rattle.msg_world.proofs.Placed.{at_none, first_part, its_slot, lends_alike, set_first}
+use Rattle.std.proofs.Common.{sym, ◌∙◌, ap, Some, slice_set}
+use Rattle.msg_world.proofs.Placed.{first_part, its_slot, lends_alike, set_first}
 use Rattle.msg_world.proofs.moved.MovedParts.get_mut.Goals as goal
-
-pub returns-in_err-place : goal.returns-in_err-place
-returns-in_err-place g c = grind (arith, common_steps, at_none)
 
 pub returns-in-Some : goal.returns-in-Some
 returns-in-Some g c =

@@ -1,13 +1,10 @@
-use Rattle.std.proofs.{Common.refl, Common.sym, Common.subst, Common.arith, lemmas.Grind.common_steps, lemmas.List.with_items_is}
+use Rattle.std.proofs.{Common.refl, Common.sym, Common.subst, Common.arith, lemmas.List.with_items_is}
 use Rattle.msg_world.specs.{Prelude.OfResource, Prelude.OfType, Prelude.Registry, inner.Slots.AllUpdated}
-use Rattle.msg_world.proofs.Worlds.{others_update, waiting_stays}
+use Rattle.msg_world.proofs.Worlds.{others_update}
 use Rattle.msg_world.proofs.world.World.update_all.Goals as goal
 
 pub returns-in_default-clause-meaning : goal.returns-in_default-clause-meaning
 returns-in_default-clause-meaning c s stand = grind (arith, c.requires.whole Registry tt)
-
-pub returns-then-is_waiting-clause-meaning : goal.returns-then-is_waiting-clause-meaning
-returns-then-is_waiting-clause-meaning c = grind (arith, common_steps, waiting_stays)
 
 pub returns-clause-meaning : goal.returns-clause-meaning
 returns-clause-meaning c s stand =
