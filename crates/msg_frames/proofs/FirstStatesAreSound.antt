@@ -12,13 +12,7 @@ module _ (systems : List Meaning) (places : List Place) (rules : List Rule) (typ
   abbrev all_wait : State
   all_wait = before_joining systems places rules types world
 
-  at_zero : (i t : ℕ) → reader_place all_wait i t ≡ 0
-  at_zero i t = grind (arith, get_or_past, nat_tests)
-
-  join_from_one : (i : ℕ) → 1 ≤ (all_wait.members i).join
-  join_from_one i = grind (arith, get_or_past, nat_tests)
-
   pub first_is_sound : IsSoundState (first_state systems places rules types world)
   first_is_sound =
       let began = λ (i t : ℕ). balanced_start (all_wait.members i) (counts all_wait) t in
-      grind (arith, new, at_zero, begun_within all_wait, eqb_tells, join_from_one, nat_tests, began)
+      grind (arith, new, get_or_past, begun_within all_wait, eqb_tells, nat_tests, began)

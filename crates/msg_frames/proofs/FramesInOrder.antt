@@ -12,7 +12,7 @@ systems_logged (i ∷ is) s = ap (λ rest. i ∷ rest) (systems_logged is (after
 pub logged_in : (frame : Frame) (order : List ℕ) (s : State) (log : Log) (replies : List Reply) → log.posts ≡ replies
     → replies ≡ post_replies frame.posts (after_update s.world)
     → log.turns ≡ (after_turns_of order (before_turns frame.posts s)).turns → log ≡ (frame_in order frame s).log
-logged_in frame order s log replies has answered turns = λ k. record { posts = (has ∙ answered) k; turns = turns k }
+logged_in frame order s log replies has answered turns = grind arith
 
 -- the log has them in that order
 pub in_that_order : (frame : Frame) (order : List ℕ) (s : State) (log : Log) → log ≡ (frame_in order frame s).log

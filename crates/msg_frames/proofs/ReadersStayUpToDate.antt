@@ -85,8 +85,7 @@ module _ (laws : BufferLaws) where
         let recent = frame_recent 1 p
         (λ m e after at. grind (arith, cases_Bool, nat_tests, same_Some, up m after, slice_get_within)) in
         is_there p (get_or ms k d).history n (earlier_recent 1 p _ _ (goes k d lt) recent) above
-        (grind (arith, drained, nat_tests, up n above, (sound.histories t below).floor, (goes k d lt).floor))
-        within
+        (grind (arith, drained, nat_tests, up n above, (sound.histories t below).floor, (goes k d lt).floor)) within
 
     frame_misses_none : IsTrue (has_begun s i) → IsUpToDate s i t → NothingDrained t s u
         → NoneMissed (turns_moments i t (turn_order_in log) b)

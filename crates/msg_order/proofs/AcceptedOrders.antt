@@ -48,10 +48,7 @@ taken_all g joined left order among t none =
     let place : (i : ℕ) → has_joined joined i ≡ true → (a : ℕ) × ((a < length order) × (get_or order a 0 ≡ i)) =
     λ i e. grind (arith, find_place order i (length order), none i, t.stays i e) in
     record {
-      of_joined = λ i. (
-        λ c. let a = place_of order i c in grind (arith, a, t.among a.0),
-        λ e. let a = place i e in of_place order i a.0 a.1.0 a.1.1,
-      );
+      of_joined = λ i. grind (arith, place_of order i, t.among, place i, of_place order i);
       once = λ a b d lt l e. grind (arith, t.once a b, get_or_default order a 0 d, get_or_default order b d 0);
       kept = λ i j e.
           let b = place j (among i j e).1 in

@@ -65,11 +65,10 @@ peeled_next g start left blocked next n batches batch lead within t h is some s 
     let ready : ℕ → Bool = λ i. left i && not (blocked i) in
     let longer : length (batches ++ batch ∷ []) ≡ suc m = omega (arith, length-append batches (batch ∷ [])) in
     let numbered = ready_number g start left blocked m lead h.left_is t in
-    let inside : (i : ℕ) → Contains batch i ↔ ((start i ≡ true) × IsBatchNumber g i m) = λ i. (
-      λ c. grind (arith, filter-Contains ready (range_with_len 0 n) i, numbered i),
-      λ c. rw is (Contains-filter ready (range_with_len 0 n) i
-          (Contains-range 0 n i (omega arith) (omega (arith, within i c.0))) ((numbered i).1 c)),
-    ) in
+    let inside : (i : ℕ) → Contains batch i ↔ ((start i ≡ true) × IsBatchNumber g i m) = λ i.
+    let out = filter-Contains ready (range_with_len 0 n) i in
+    let in_ = Contains-filter ready (range_with_len 0 n) i in
+    grind (arith, is, out, in_, Contains-range 0 n i, within i, numbered i) in
     record {
       left_is = rw longer (left_next g start left blocked m lead h.left_is t next s);
       of_number = λ b l i.
@@ -99,10 +98,9 @@ pub peeled_done : (g : Graph) (systems : List Bool) (start left : ℕ → Bool) 
     → ((i : ℕ) → start i ≡ has_joined systems i) → ArePeeled g start left batches → ((i : ℕ) → left i ≡ false)
     → AreBatches g systems batches
 peeled_done g systems start left batches same h none = record {
-  of_number = λ b i. (
-    λ c. grind (arith, cases_lt, same i, h.of_number b, get_or_past batches b [], not_in_none),
-    λ c. grind (arith, same i, none i, h.placed i, number_once g i b, h.of_number b),
-  );
+  of_number = λ b i.
+      let past = get_or_past batches b [] in
+      grind (arith, cases_lt, same i, none i, h.placed i, number_once g i b, h.of_number b, past, not_in_none);
   all = λ i e. grind (arith, same i, none i, h.placed i);
   filled = h.filled;
   by_addition = h.by_addition;

@@ -140,12 +140,10 @@ in_turn_by_test accesses rules joined order t =
     let first = and_parts _ _ parts.0 in
     let second = and_parts _ _ parts.1 in
     record {
-      of_joined = λ i. (
-        λ h. list_all-Contains (has_joined joined) order i second.0 h,
-        λ h.
-            let below = each_below _ (length joined) i second.1 (joined_in joined i h) in
-            grind (arith, below, Contains-list_any (λ k. k == i) order, eqb-true),
-      );
+      of_joined = λ i.
+          let has = list_all-Contains (has_joined joined) order i second.0 in
+          let below = each_below _ (length joined) i second.1 in
+          grind (arith, has, below, joined_in joined i, Contains-list_any (λ k. k == i) order, eqb-true);
       all = λ i h. (number i, number_is g (length accesses) first.0 i);
       in_order = turns_are g number (number_is g (length accesses) first.0) order first.1;
     }

@@ -18,13 +18,9 @@ pub seen_edges : (v : PlanView) (before : List SystemSet) (joined : SystemSet) (
     ↔ (comes_before before i j ≡ true)
 seen_edges v before joined batches is kept i j =
     let test : ℕ × ℕ → Bool = λ e. comes_before before e.0 e.1 in
-    rw (← is) (
-      λ h. (filter-Contains test (square (length before)) (i, j) h).1,
-      λ t.
-          let both = kept.among i j t in
-          Contains-filter test (square (length before)) (i, j)
-          (Contains-square (length before) i j (kept.within i both.0) (kept.within j both.1)) t,
-    )
+    let out = filter-Contains test (square (length before)) (i, j) in
+    let in_ = Contains-filter test (square (length before)) (i, j) in
+    rw (← is) (grind (arith, out, in_, kept.among i j, kept.within, Contains-square (length before) i j))
 
 pub seen_joined : (v : PlanView) (before : List SystemSet) (joined : SystemSet) (batches : List (List ℕ))
     → view_of before joined batches ≡ v → AreKept before joined → (i : ℕ) → has_joined v.joined i ≡ has joined i

@@ -47,10 +47,7 @@ same_ordered R (x ∷ xs) (y ∷ ys) one_way r s same =
     let once = one_way x x x_in x_in in
     let rest : xs ≡ ys = same_ordered R xs ys (λ i j p q. one_way i j (Contains-tail x xs i p) (Contains-tail x xs j q))
     (pairs_tail R x xs r) (pairs_tail R y ys s)
-    (λ i. (
-      λ c. grind (arith, after_x i c, in_ys i ((same i).0 (Contains-tail x xs i c)), first, once),
-      λ c. grind (arith, after_y i c, in_xs i ((same i).1 (Contains-tail y ys i c)), first, once),
-    )) in
+    (λ i. grind (arith, after_x i, after_y i, in_xs i, in_ys i, same i, Contains-tail, first, once)) in
     cc
 
 no_longer : (g : Graph) (joined : List Bool) (bs cs : List (List ℕ)) → AreBatches g joined bs → AreBatches g joined cs

@@ -144,11 +144,7 @@ world_stands w each = (
     resources = λ r. unwrap_or (at w.resources r) (pos 0);
     marks = unwrap_or w.marks (record { held = false; pending = false });
   },
-  elim [
-    | OfType t ↦ (chosen t).1
-    | OfResource r ↦ grind arith
-    | Registry ↦ grind arith
-  ],
+  elim [ OfType t ↦ (chosen t).1 | OfResource r ↦ grind arith | Registry ↦ grind arith ],
 )
   where
     chosen : (t : ℕ) → (h : History Record) × BufferStands (at w.types t) h

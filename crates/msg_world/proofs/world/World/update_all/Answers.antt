@@ -18,11 +18,8 @@ returns-clause-shape c =
     let all = rw c.deref_mut.ensures.value at c.update_each.ensures.updated in
     let long = all.length in let is = with_items_is c.self.inside.types c.update_each.new.types (omega arith) in
     let updated = subst (AllUpdated c.self.inside.types.items) (sym is) all in
+    let marks = c.requires.whole Registry tt in
     rw (← c.self.view_is) (record {
       size = record { types = updated.length; resources = refl };
-      there = elim [
-        | OfType t ↦ updated.there t
-        | OfResource r ↦ refl
-        | Registry ↦ grind (arith, c.requires.whole Registry tt)
-      ];
+      there = elim [ OfType t ↦ updated.there t | OfResource r ↦ refl | Registry ↦ grind (arith, marks) ];
     })
