@@ -99,7 +99,6 @@ pub fn type_and_limit(
 }
 
 /// Two declared types.
-#[tactic(auto, using(std::proofs::lemmas::Result::err_from_is_err_and))]
 pub fn two_types(
     names: &Declarations,
     from: &Value,
@@ -119,7 +118,6 @@ pub fn two_types(
 }
 
 /// A declared type and a declared resource.
-#[tactic(auto, using(std::proofs::lemmas::Result::err_from_is_err_and))]
 pub fn type_and_resource(
     names: &Declarations,
     of_type: &Value,

@@ -25,7 +25,6 @@ impl Declaration for SystemSpec {
 
     ghost with_one = { with_system };
 
-    #[tactic(auto, using(msg_files::proofs::WalksOverLists::refusal_of_both))]
     fn read(alloc: Global, names: &mut Declarations, value: &Value) -> Result<SystemSpec, Refusal> {
         let (name, ops) = needed(value)?;
         let name = read_name(alloc, names, name)?;
@@ -40,7 +39,6 @@ impl Declaration for SystemSpec {
 }
 
 /// All of a system but its name.
-#[tactic(auto, using(msg_files::proofs::WalksOverLists::refusal_of_both))]
 fn read_program(
     alloc: Global,
     names: &Declarations,
