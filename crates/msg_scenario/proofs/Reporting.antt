@@ -141,7 +141,12 @@ module _ {X : Type 0} (meaning : X → Meaning) (s : Scenario) where
         → (IsSpoiled f × (length far.logs < length s.frames))
         ⊎ (EngineStands meaning f far.state × (length far.logs ≡ length s.frames)) → HasRunOut meaning s before now f
     out_after f counted left = record {
-      printed = record { logs = far.logs; state = far.state; is_run = rw far.as_many far.is_run; printed = far.printed };
+      printed = record {
+        logs = far.logs;
+        state = far.state;
+        is_run = rw far.as_many far.is_run;
+        printed = far.printed;
+      };
       counted = grind (arith, counted, far.stands.frames, far.frames, far.as_many);
       left = left;
     }
