@@ -3,7 +3,6 @@ use Rattle.std.specs.Prelude.{◌≡◌, ◌≢◌, ◌⊎◌, ℕ, [], ◌<◌,
 use Rattle.std.specs.{Char.digit_value, List.list_all, Str.bytes_eq, Str.Parse.digits_value, Str.Parse.without_leading_plus}
 use Rattle.clap.specs.{Words.IsAmong, Words.Kinds, Words.Row, Words.Text, Words.first_of, Words.subcommand_of, declared.error.ErrorKind.ErrorKind}
 use Rattle.clap.specs.declared.error.ErrorKind.TheVariants as kind
-use Rattle.msg_files.specs.Prelude.{both}
 use Rattle.msg_command.specs.{CommandLine.msgrun_app, declared.words.Action.Action, declared.words.Action.TheVariants.Buffer, declared.words.Action.TheVariants.Run, declared.words.WordFault.WordFault}
 use Rattle.msg_command.specs.declared.words.WordFault.TheVariants as word
 
@@ -34,6 +33,12 @@ workers_in text =
 abbrev pub workers_asked : List Row → Option ℕ
 workers_asked rows = option_and_then workers_in (first_of (codes "workers") rows)
 
+-- a run of FILE on so many workers, where there are both
+abbrev pub run_asked : Option Text → Option ℕ → Option Request
+run_asked (Some file) (Some workers) = Some (run file workers)
+run_asked (Some file) None = None
+run_asked None workers = None
+
 -- without a subcommand, standard input; with the subcommand `buffer`, its FILE; with `run`, its
 -- FILE and N
 abbrev pub asked_by : Option (Text × List Row) → Option Request
@@ -42,8 +47,7 @@ asked_by (Some (name, rows)) =
     if bytes_eq name (codes "buffer")
     then option_map (λ file. buffer (Some file)) (first_of (codes "FILE") rows)
     else (if bytes_eq name (codes "run")
-    then both (λ file workers. run file workers) (first_of (codes "FILE") rows)
-    (workers_asked rows) else None)
+    then run_asked (first_of (codes "FILE") rows) (workers_asked rows) else None)
 
 -- what the words ask for, by the subcommand that clap finds in them
 abbrev pub asked : List Text → Option Request

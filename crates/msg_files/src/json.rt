@@ -1,8 +1,8 @@
-// A JSON text's value, known keys and needed keys of an object, and the elements of a list.
-ghost use Rattle.std.specs.Prelude.{◌≡◌, ◌≢◌, ◌⊎◌, None, Some, true, Err, IfErr, IfOk, IsUtf8, MatchResult, OnOk, map, string_bytes};
+// A JSON text's value, known keys and needed keys of an object, and the parts of a list.
+ghost use Rattle.std.specs.Prelude.{◌≡◌, ◌≢◌, ◌⊎◌, ◌∷◌, List, Option, None, Some, true, Err, IfErr, IfOk, IsUtf8, MatchResult, OnOk, map, string_bytes};
 ghost use Rattle.std.specs.List.{list_all};
-ghost use Rattle.serde_json.specs.{Find.get, Read.read, View.view};
-ghost use Rattle.msg_files.specs.Prelude.{IsJsonOf, a_list, elements, first_refusal, is_object, keys, object_checks};
+ghost use Rattle.serde_json.specs.{Data.Data, Find.as_str, Find.get, Read.read, View.view};
+ghost use Rattle.msg_files.specs.Prelude.{Check, IsJsonOf, Text, a_list, elements, first_refusal, for_headed, is_object, keys, object_checks, of_headed};
 
 use crate::refusal::Refusal;
 use serde_json::{Category, Map, Value};
@@ -80,4 +80,31 @@ pub fn list(value: &Value, most: usize) -> Result<&[Value], Refusal>
         return Err(Refusal::TooMany);
     }
     Ok(items)
+}
+
+/// The text that a value is; `Shape` where it is something else.
+pub fn text(value: &Value) -> Result<&str, Refusal>
+    ensures is { MatchResult result (λ t. as_str (view value.now) ≡ Some t.now)
+        (λ e. (e ≡ Refusal.Shape) × (as_str (view value.now) ≡ None)) }
+{
+    value.as_str().ok_or(Refusal::Shape)
+}
+
+/// The text that a list begins with, and what follows it.
+pub fn head_and_parts(value: &Value) -> Result<(&str, &[Value]), Refusal>
+    ensures headed { IfOk result (λ p. (head : Data) × (as_str head ≡ Some p.0.now)
+        × (elements (view value.now) ≡ head ∷ map view p.1.now)) }
+    ensures other { IfErr result (λ e. (e ≡ Refusal.Shape)
+        × ((f : Text → List Data → List Check)
+        → first_refusal (for_headed f (elements (view value.now))) ≡ Some Refusal.Shape)) }
+    ensures none { IfErr result (λ e. (f : Text → List Data → Option Data)
+        → of_headed f (elements (view value.now)) ≡ None) }
+{
+    let Some(items) = value.as_array() else {
+        return Err(Refusal::Shape);
+    };
+    let [first, parts @ ..] = items.as_slice() else {
+        return Err(Refusal::Shape);
+    };
+    Ok((text(first)?, parts))
 }

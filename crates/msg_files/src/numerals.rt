@@ -22,7 +22,8 @@ pub fn add_number(text: &mut Vec<u8>, number: u64) -> Result<(), NoMemory>
 
 /// A number after a head.
 pub fn add_count(text: &mut Vec<u8>, head: &[u8], number: u64) -> Result<(), NoMemory>
-    ensures appends { OnOk result (text.new.items ≡ text.old.items ++ (head.now ++ decimal number)) }
+    ensures appends { OnOk result
+        (text.new.items ≡ text.old.items ++ (head.now ++ decimal number)) }
 {
     text.extend_from_slice(head)?;
     add_number(text, number)

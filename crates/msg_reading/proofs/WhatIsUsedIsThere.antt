@@ -7,8 +7,8 @@ use Rattle.msg_world.specs.Prelude.{HasPart, Part}
 use Rattle.msg_system.specs.Prelude.{HasClash, is_part, job_needs, needs_any, op_parts, probe_part, program_needs}
 use Rattle.msg_system.specs.{declared.condition.Condition.Condition, declared.op.Op.Op}
 use Rattle.msg_frames.specs.declared.place.Place.{Place}
-use Rattle.msg_files.specs.Prelude.{Text, elements, first_refusal, natural, needs, value_at, values_of, whole}
-use Rattle.msg_reading.specs.Prelude.{Declared, IsRunnableSystem, PostsAreToTypes, Scenario, SystemSpec, condition_checks, condition_of, conditions_in, each_of, fits_kind, frame_of, inside_nots, join_checks, join_in, kind_in, kind_of, list_checks, name_checks, of_headed, of_its_kind, op_checks, op_of, op_with, op_with_one, op_with_two, ops_checks, ops_of, place_checks, place_in, post_of, probe_with, program_checks, resource_number, start_in, start_of, system_checks, system_object, system_of, text, type_number}
+use Rattle.msg_files.specs.Prelude.{Text, elements, first_refusal, natural, needs, of_headed, text, value_at, values_of, whole}
+use Rattle.msg_reading.specs.Prelude.{Declared, IsRunnableSystem, PostsAreToTypes, Scenario, SystemSpec, condition_checks, condition_of, conditions_in, each_of, fits_kind, frame_of, inside_nots, join_checks, join_in, kind_in, kind_of, list_checks, name_checks, of_its_kind, op_checks, op_of, op_with, op_with_one, op_with_two, ops_checks, ops_of, place_checks, place_in, post_of, probe_with, program_checks, resource_number, start_in, start_of, system_checks, system_object, system_of, type_number}
 use Rattle.msg_files.specs.declared.refusal.Refusal.TheVariants.{Shape}
 use Rattle.msg_reading.proofs.ChecksThatPass.{Holds, below_there, both_pass, choice, first_passes, in_both, in_each, in_headed, in_map, in_then, list_passed}
 
@@ -64,10 +64,31 @@ module _ (s : Scenario) (names : Declared) {n : ℕ} (of : NamesOf s n names) wh
       rw of.resources at (position-Some (bytes_eq (text d)) names.resources r [] (below_there _ 64 r h)).0
 
   op_with_one_fits : (head : Text) (d : Data) → Holds (OpFits s) (op_with_one names head d)
-  op_with_one_fits head d op h = grind (arith, has_type d, has_resource d)
+  op_with_one_fits head d =
+      let type = type_number names (text d) in
+      choice _ (bytes_eq head (codes "read")) _ _ (in_map _ _ type (λ t is. (has_type d t is, tt)))
+      (choice _ (bytes_eq head (codes "len")) _ _ (in_map _ _ type (λ t is. (has_type d t is, tt)))
+      (choice _ (bytes_eq head (codes "missed")) _ _ (in_map _ _ type (λ t is. (has_type d t is, tt)))
+      (choice _ (bytes_eq head (codes "clear")) _ _ (in_map _ _ type (λ t is. (has_type d t is, tt)))
+      (choice _ (bytes_eq head (codes "get")) _ _
+      (in_map _ _ (resource_number names (text d)) (λ r is. (has_resource d r is, tt)))
+      (choice _ (bytes_eq head (codes "drain")) _ _ (in_map _ _ type (λ t is. (tt, has_type d t is))) (λ op h. cc))))))
 
   op_with_two_fits : (head : Text) (d e : Data) → Holds (OpFits s) (op_with_two names head d e)
-  op_with_two_fits head d e op h = grind (arith, has_type d, has_type e, has_resource d, has_resource e)
+  op_with_two_fits head d e =
+      let type = type_number names (text d) in
+      let resource = resource_number names (text d) in
+      let of_resource = has_resource d in
+      choice _ (bytes_eq head (codes "write")) _ _ (in_both _ _ type (whole e) (λ t v is _. (tt, has_type d t is)))
+      (choice _ (bytes_eq head (codes "batch")) _ _ (in_both _ _ type (values_of e) (λ t v is _. (tt, has_type d t is)))
+      (choice _ (bytes_eq head (codes "read")) _ _ (in_both _ _ type (natural e) (λ t k is _. (has_type d t is, tt)))
+      (choice _ (bytes_eq head (codes "forward")) _ _
+      (in_both _ _ type (type_number names (text e)) (λ t u is at. (has_type d t is, has_type e u at)))
+      (choice _ (bytes_eq head (codes "sum")) _ _
+      (in_both _ _ type (resource_number names (text e)) (λ t r is at. (has_type d t is, has_resource e r at)))
+      (choice _ (bytes_eq head (codes "set")) _ _ (in_both _ _ resource (whole e) (λ r v is _. (tt, of_resource r is)))
+      (choice _ (bytes_eq head (codes "add")) _ _ (in_both _ _ resource (whole e) (λ r v is _. (tt, of_resource r is)))
+      (λ op h. cc)))))))
 
   op_with_fits : (head : Text) (ds : List Data) → Holds (OpFits s) (op_with names head ds)
   op_with_fits head [] op h = grind arith

@@ -54,13 +54,8 @@ fn file_of(alloc: Global, inner: &ArgMatches<'_>) -> Result<String, WordFault>
         ⊎ ((e ≡ WordFault.Bad)
         × (first_of (codes "FILE") (rows_of (found_of inner.now)) ≡ None))) }
 {
-    match inner.get_str("FILE") {
-        None => Err(WordFault::Bad),
-        Some(file) => match String::from_str(alloc, file) {
-            Ok(file) => Ok(file),
-            Err(_) => Err(WordFault::NoMemory),
-        },
-    }
+    let file = inner.get_str("FILE").ok_or(WordFault::Bad)?;
+    String::from_str(alloc, file).map_err(|_| WordFault::NoMemory)
 }
 
 #[tactic(auto, using(crate::proofs::RowValues::row_value))]

@@ -121,15 +121,20 @@ impl Scenario {
     pub fn is_runnable(&self, alloc: Global) -> Result<bool, NoMemory>
         ensures runnable { IfOk result (λ is. IsTrue is ↔ IsRunnable self.now) }
     {
+        if !is_small(self) {
+            return Ok(false);
+        }
+        if !are_runnable_systems(self) {
+            return Ok(false);
+        }
         let systems = self.systems.as_slice().len();
         let rules = self.rules.as_slice();
-        if is_small(self)
-            && are_runnable_systems(self)
-            && name_systems_below(systems, rules)
-            && all_posts_are_to_types(self)
-        {
-            return are_acyclic(alloc, systems, rules);
+        if !name_systems_below(systems, rules) {
+            return Ok(false);
         }
-        Ok(false)
+        if !all_posts_are_to_types(self) {
+            return Ok(false);
+        }
+        are_acyclic(alloc, systems, rules)
     }
 }

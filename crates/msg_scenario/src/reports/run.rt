@@ -56,9 +56,10 @@ fn report_frame<R: Threads + Sync, X: System, S: Sink, G: Gate>(
 {
     frames_keep_the_systems();
     let frame = &scenario.frames.as_slice()[reported];
-    let log = engine
-        .run_frame(rt, frame, workers, gate)
-        .map_err(ReportFault::Run)?;
+    let log = match engine.run_frame(rt, frame, workers, gate) {
+        Ok(log) => log,
+        Err(fault) => return Err(ReportFault::Run(fault)),
+    };
     put_frame(
         scenario,
         lines,

@@ -6,6 +6,7 @@ ghost use Rattle.msg_files.specs.Prelude.{Agrees, FitsCursors, IsAnswer, a_value
 
 use crate::call::Call;
 use crate::calls::read::part;
+use crate::json::head_and_parts;
 use crate::limits::MAX_CURSORS;
 use crate::numbers::{batch_values, list_of_numbers};
 use crate::refusal::Refusal;
@@ -14,19 +15,12 @@ use serde_json::Value;
 use std::alloc::Global;
 
 /// A call, where so many cursors were made before.
+#[tactic(auto, using(crate::proofs::ChecksByKind::headed_checked, crate::proofs::ChecksByKind::headed_denoted))]
 pub fn read_call(alloc: Global, made: u32, value: &Value) -> Result<Call, Refusal>
     ensures is { Agrees (call_checks made (view value.now)) (call_of (view value.now)) result }
     ensures fits { IfOk result (FitsCursors made) }
 {
-    let Some(items) = value.as_array() else {
-        return Err(Refusal::Shape);
-    };
-    let [first, parts @ ..] = items.as_slice() else {
-        return Err(Refusal::Shape);
-    };
-    let Some(head) = first.as_str() else {
-        return Err(Refusal::Shape);
-    };
+    let (head, parts) = head_and_parts(value)?;
     read_parts(alloc, made, head, parts)
 }
 

@@ -2,17 +2,17 @@
 ghost use Rattle.std.specs.Prelude.{◌≡◌, ◌∷◌, ◌&&◌, Some, MatchResult, map, true, false};
 ghost use Rattle.serde_json.specs.{Find.as_str, View.view};
 ghost use Rattle.msg_system.specs.declared.op.Op.TheVariants.{Batch};
-ghost use Rattle.msg_files.specs.Prelude.{Agrees, IsAnswer, a_value, both, elements, few_values, is_list_of_numbers, needs, values_of};
-ghost use Rattle.msg_reading.specs.{Names.type_number, ScenarioChecks.a_type, ScenarioChecks.bare_op_checks, ScenarioChecks.is_text, ScenarioChecks.op_checks, ScenarioChecks.op_checks_with, ScenarioChecks.op_checks_with_one, ScenarioChecks.op_checks_with_two, ScenarioDenotes.bare_op, ScenarioDenotes.op_of, ScenarioDenotes.op_with, ScenarioDenotes.op_with_one, ScenarioDenotes.op_with_two, ScenarioDenotes.text};
+ghost use Rattle.msg_files.specs.Prelude.{Agrees, IsAnswer, a_value, both, elements, few_values, is_list_of_numbers, is_text, needs, text, values_of};
+ghost use Rattle.msg_reading.specs.{Names.type_number, ScenarioChecks.a_type, ScenarioChecks.bare_op_checks, ScenarioChecks.op_checks, ScenarioChecks.op_checks_with, ScenarioChecks.op_checks_with_one, ScenarioChecks.op_checks_with_two, ScenarioDenotes.bare_op, ScenarioDenotes.op_of, ScenarioDenotes.op_with, ScenarioDenotes.op_with_one, ScenarioDenotes.op_with_two};
 ghost use Rattle.msg_files.specs.declared.refusal.Refusal.TheVariants.{Shape};
 
 use crate::Refusal;
 use crate::scenario::read::list::Element;
 use crate::scenario::read::names::Declarations;
 use crate::scenario::read::part::{
-    head_and_parts, resource_and_value, text, two_types, type_and_limit, type_and_resource,
-    type_and_value,
+    resource_and_value, two_types, type_and_limit, type_and_resource, type_and_value,
 };
+use msg_files::json::{head_and_parts, text};
 use msg_files::numbers::{batch_values, list_of_numbers};
 use msg_system::Op;
 use serde_json::Value;
@@ -23,7 +23,7 @@ impl Element for Op {
 
     ghost denotes = { op_of };
 
-    #[tactic(auto, using(crate::proofs::ListsByParts::headed_checked, crate::proofs::ListsByParts::headed_denoted))]
+    #[tactic(auto, using(msg_files::proofs::ChecksByKind::headed_checked, msg_files::proofs::ChecksByKind::headed_denoted))]
     fn read(alloc: Global, names: &Declarations, value: &Value) -> Result<Op, Refusal> {
         let (head, parts) = head_and_parts(value)?;
         read_parts(alloc, names, head, parts)

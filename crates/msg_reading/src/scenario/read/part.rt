@@ -1,8 +1,8 @@
 // The parts of a list.
 ghost use Rattle.std.specs.Prelude.{◌≡◌, ◌∷◌, ◌&&◌, [], List, Some, None, false, IfErr, IfOk, MatchResult, map};
 ghost use Rattle.serde_json.specs.{Data.Data, Find.as_number, Find.as_str, View.view, View.number_view};
-ghost use Rattle.msg_files.specs.Prelude.{Check, IsAnswer, Text, a_limit, a_value, both, elements, first_refusal, is_number, natural, needs, whole};
-ghost use Rattle.msg_reading.specs.Prelude.{a_resource, a_type, for_headed, for_two, in_not, is_text, resource_number, text, type_number, wrong_shape};
+ghost use Rattle.msg_files.specs.Prelude.{Check, IsAnswer, Text, a_limit, a_value, both, elements, first_refusal, for_headed, is_number, is_text, natural, needs, text, whole, wrong_shape};
+ghost use Rattle.msg_reading.specs.Prelude.{a_resource, a_type, for_two, in_not, resource_number, type_number};
 ghost use Rattle.msg_files.specs.declared.refusal.Refusal.TheVariants.{Shape};
 
 use crate::Refusal;
@@ -28,32 +28,6 @@ pub fn two(value: &Value) -> Result<(&Value, &Value), Refusal>
         return Err(Refusal::Shape);
     }
     Ok((&items[0], &items[1]))
-}
-
-/// The text that a list begins with, and what follows it.
-pub fn head_and_parts(value: &Value) -> Result<(&str, &[Value]), Refusal>
-    ensures headed { IfOk result (λ p. (head : Data) × (as_str head ≡ Some p.0.now)
-        × (elements (view value.now) ≡ head ∷ map view p.1.now)) }
-    ensures other { IfErr result (λ e. (e ≡ Refusal.Shape)
-        × ((f : Text → List Data → List Check)
-        → first_refusal (for_headed f (elements (view value.now))) ≡ Some Refusal.Shape)) }
-    ensures no_not { IfErr result (λ e. in_not (view value.now) ≡ None) }
-{
-    let Some(items) = value.as_array() else {
-        return Err(Refusal::Shape);
-    };
-    let [first, parts @ ..] = items.as_slice() else {
-        return Err(Refusal::Shape);
-    };
-    Ok((text(first)?, parts))
-}
-
-/// The text that a part is; `Shape` where it is something else.
-pub fn text(part: &Value) -> Result<&str, Refusal>
-    ensures is { MatchResult result (λ t. as_str (view part.now) ≡ Some t.now)
-        (λ e. (e ≡ Refusal.Shape) × (as_str (view part.now) ≡ None)) }
-{
-    part.as_str().ok_or(Refusal::Shape)
 }
 
 /// The texts that two parts are; `Shape` where one is something else.
@@ -125,7 +99,6 @@ pub fn type_and_limit(
 }
 
 /// Two declared types.
-#[tactic(auto, using(std::proofs::lemmas::Result::err_from_is_err_and))]
 pub fn two_types(
     names: &Declarations,
     from: &Value,
@@ -145,7 +118,6 @@ pub fn two_types(
 }
 
 /// A declared type and a declared resource.
-#[tactic(auto, using(std::proofs::lemmas::Result::err_from_is_err_and))]
 pub fn type_and_resource(
     names: &Declarations,
     of_type: &Value,
