@@ -29,8 +29,8 @@ fn work_alone<W: Runs, G: Gate>(
 }
 
 /// Lets the workers of these passes draw all jobs that are left, and gives how many the first of
-/// them ran. They are numbered from `worker` on, and the first draws in this thread. Where it gets a
-/// job, others begin in new threads before that job is run, so many at once. Where it gets none,
+/// them ran. They are numbered from `worker` on, and the first draws in this thread. Where it gets
+/// a job, others begin in new threads before that job is run, so many at once. Where it gets none,
 /// none is left, and the others draw None here, one by one.
 #[cycle(workers)]
 fn work_from<R: Threads + Sync, W: Runs + Send, G: Gate>(
@@ -200,8 +200,8 @@ fn begin_one<R: Threads + Sync, W: Runs + Send, G: Gate>(
 
 /// Runs the jobs, by at most so many workers and at most one for each job. Their results, in the
 /// order of the jobs. The first worker starts so many others at once, and the last of these starts
-/// the next where it gets a job. `at_once` is then what serves a batch of such jobs best: all, where
-/// the others ran at least half of the jobs, else one.
+/// the next where it gets a job. `at_once` is then what serves a batch of such jobs best: all,
+/// where the others ran at least half of the jobs, else one.
 pub fn run_jobs<R: Threads + Sync, W: Runs + Send, G: Gate>(
     rt: &R,
     alloc: Global,

@@ -20,5 +20,6 @@ returns-clause-gate_passed g c = IfOk-weaker c.close.result _ _
     (min c.args.workers (length c.args.jobs.items))
     (omega (arith, some, as_many, most, passes_are, c.len-2.ensures, c.max-most.ensures, c.min.ensures))
     (subst (λ ps. HoldsEachOnce (length (jobs_of board)) (drawn_by ps)) all c.close.ensures.drawn_once)
-    c.work_from-own.ensures.worked k job (subst (λ jobs. slice_get jobs k ≡ Some job) (sym c.in_ok-board.ensures.jobs) at))
+    c.work_from-own.ensures.worked k job
+    (subst (λ jobs. slice_get jobs k ≡ Some job) (sym c.in_ok-board.ensures.jobs) at))
     c.close.ensures.lawful
