@@ -9,13 +9,13 @@ use std::mem::replace;
 /// At most so many lists of replies are kept: one for each system that an engine may have.
 const MOST: usize = 256;
 
-/// Empty lists with their memory, which serve the logs of frames to come, and how many workers the
-/// first one starts at once in the next batch that goes over workers.
+/// Empty lists with their memory, which serve the logs of frames to come, and how many batches in a
+/// row were shared well between the workers (see `run_jobs`).
 #[derive(Drop)]
 pub(crate) struct Spares {
     turns: Vec<Turn>,
     replies: Vec<Vec<Reply>>,
-    pub at_once: u32,
+    pub shared: u32,
 }
 
 impl Spares {
@@ -23,7 +23,7 @@ impl Spares {
         Spares {
             turns: Vec::new(alloc),
             replies: Vec::new(alloc),
-            at_once: 1,
+            shared: 0,
         }
     }
 
