@@ -6,16 +6,8 @@ use std::alloc::AllocError;
 use std::test::Fail;
 
 fn has_batches(plan: &Plan, want: &[&[u32]]) -> bool {
-    let batches = plan.batches();
-    if batches.len() != want.len() {
-        return false;
-    }
-    for (batch, want) in batches.iter().zip(want) {
-        if batch.as_slice() != *want {
-            return false;
-        }
-    }
-    true
+    let mut pairs = plan.batches().iter().zip(want);
+    plan.batches().len() == want.len() && pairs.all(|(batch, want)| batch.as_slice() == *want)
 }
 
 #[test]

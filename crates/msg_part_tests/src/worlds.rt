@@ -39,34 +39,6 @@ fn set(lent: &mut Lent, r: ResNo, value: i64) -> Option<i64>
 }
 
 #[test]
-fn lending(rt: HostRuntime) -> Result<(), Fail> {
-    let (t, r) = (type_no(0), res_no(0));
-    let mut world = World::new(rt.alloc(), &[4], &[7])?;
-    let access = Access::none().with_write_type(t).with_read_res(r);
-    assert!(rt; world.is_home(&access));
-    lent_parts_are_a_loan();
-    let taken = world.lend_out(&access)?;
-    assert!(rt; !world.is_home(&access));
-    assert!(rt; world.messages(t).is_none());
-    let mut lent = Lent::open(&world, &access, taken);
-    let record = Record {
-        writer: 3,
-        value: 9,
-    };
-    assert_eq!(rt; write(&mut lent, t, record), Some(MessageId(0)));
-    lent_parts_may_come_home();
-    let taken = lent.into_taken();
-    world.take_back(taken);
-    match world.messages(t) {
-        Some(messages) => assert_eq!(rt; messages.get(MessageId(0)).copied(), Some(record)),
-        None => panic!(rt; "type 0 is home"),
-    }
-    assert_eq!(rt; world.resource(r), Some(7));
-    assert_eq!(rt; world.post(t, 5).ok(), Some(MessageId(1)));
-    Ok(())
-}
-
-#[test]
 fn a_loan_shows_what_its_access_uses(rt: HostRuntime) -> Result<(), Fail> {
     let (t, u, none) = (type_no(0), type_no(1), type_no(2));
     let r = res_no(0);
@@ -216,6 +188,8 @@ fn a_loan_that_ends_leaves_what_it_wrote(rt: HostRuntime) -> Result<(), Fail> {
     assert!(rt; world.is_home(&access));
     lent_parts_are_a_loan();
     let taken = world.lend_out(&access)?;
+    assert!(rt; !world.is_home(&access));
+    assert!(rt; world.messages(t).is_none());
     let mut lent = Lent::open(&world, &access, taken);
     lent.stands_for_some();
     let record = Record {
@@ -232,6 +206,7 @@ fn a_loan_that_ends_leaves_what_it_wrote(rt: HostRuntime) -> Result<(), Fail> {
     }
     assert!(rt; world.messages(u).is_some());
     assert_eq!(rt; world.resource(r), Some(7));
+    assert_eq!(rt; world.post(t, 5).ok(), Some(MessageId(1)));
     Ok(())
 }
 
