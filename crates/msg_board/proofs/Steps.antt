@@ -185,8 +185,11 @@ module _ {J D : Type 0} (lawful : J → D → Type 0) (jobs : List J) (passes : 
       let old = r.each_view id v at in let vs = set s.views id (view_union v w) in let Of = IsViewOf jobs s.words in
       let both : (g : View J → ℕ) → sum_by g (set vs other empty_view) + g w + g v
       ≡ sum_by g s.views + g (view_union v w) + g empty_view
-      = λ g. omega (arith, sum_by-set_at g s.views id v (view_union v w) at,
-          sum_by-set_at g vs other w empty_view them) in
+      = λ g. omega (
+        arith,
+        sum_by-set_at g s.views id v (view_union v w) at,
+        sum_by-set_at g vs other w empty_view them,
+      ) in
       record {
         words = r.words;
         slots = r.slots;

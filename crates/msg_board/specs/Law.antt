@@ -94,7 +94,7 @@ module _ {J : Type 0} where
   -- the first seat's, as the table is made: it stands for all passes, and has done nothing
   abbrev pub whole_view : List J → ℕ → View J
   whole_view jobs passes =
-    record { jobs = jobs; weight = passes; next = 0; drawn = []; held = None }
+      record { jobs = jobs; weight = passes; next = 0; drawn = []; held = None }
 
   -- what the first seat keeps as it gives one pass away
   abbrev pub without_one : View J → View J
