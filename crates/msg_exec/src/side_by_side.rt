@@ -122,6 +122,6 @@ pub(crate) fn run_side_by_side<R: Threads + Sync, S: System, G: Gate>(
         jobs.items) }
 {
     let jobs = with_world(alloc, world, jobs, spares)?;
-    let results = run_jobs::<R, Batch<S>, G>(rt, alloc, gate, workers, jobs, &mut spares.shared)?;
+    let results = run_jobs::<R, Batch<S>, G>(rt, alloc, gate, workers, jobs, &mut spares.at_once)?;
     all_done(alloc, results)
 }

@@ -9,13 +9,13 @@ use std::mem::replace;
 /// At most so many lists of replies are kept: one for each system that an engine may have.
 const MOST: usize = 256;
 
-/// Empty lists with their memory, which serve the logs of frames to come, and how many batches in a
-/// row were shared well between the workers (see `run_jobs`).
+/// Empty lists with their memory, which serve the logs of frames to come, and how many workers the
+/// first one starts at once in the next batch that goes over workers.
 #[derive(Drop)]
 pub(crate) struct Spares {
     turns: Vec<Turn>,
     replies: Vec<Vec<Reply>>,
-    pub shared: u32,
+    pub at_once: u32,
 }
 
 impl Spares {
@@ -23,7 +23,7 @@ impl Spares {
         Spares {
             turns: Vec::new(alloc),
             replies: Vec::new(alloc),
-            shared: 0,
+            at_once: 1,
         }
     }
 

@@ -198,21 +198,17 @@ fn begin_one<R: Threads + Sync, W: Runs + Send, G: Gate>(
     ran
 }
 
-/// After so many batches that were shared well all workers begin at once.
-const ENOUGH: u32 = 8;
-
 /// Runs the jobs, by at most so many workers and at most one for each job. Their results, in the
-/// order of the jobs. `shared` counts the batches in a row that were shared well: the first worker
-/// ran no more than three quarters of the jobs, and no less than half of what each would run if all
-/// ran as many. After eight of them the first worker starts all others at once. Else each starts
-/// the next, where it gets a job.
+/// order of the jobs. The first worker starts so many others at once, and the last of these starts
+/// the next where it gets a job. `at_once` is then what serves a batch of such jobs best: all,
+/// where the others ran at least half of the jobs, else one.
 pub fn run_jobs<R: Threads + Sync, W: Runs + Send, G: Gate>(
     rt: &R,
     alloc: Global,
     gate: &G,
     workers: Workers,
     jobs: Vec<W::Job>,
-    shared: &mut u32,
+    at_once: &mut u32,
 ) -> Result<Vec<W::Done>, NoMemory>
     requires few { length jobs.items ≤ 256 }
     requires may { EachMay W.may jobs.items }
@@ -220,12 +216,10 @@ pub fn run_jobs<R: Threads + Sync, W: Runs + Send, G: Gate>(
     ensures gate_passed { OnOk result ((k : ℕ) (job : W.Job) → slice_get jobs.items k ≡ Some job
         → PassedGate (G.passed gate.now) (min workers (length jobs.items)) (W.system_of job)) }
 {
-    let number = jobs.len() as u32;
-    let most = workers.number().min(number).max(1);
+    let half = jobs.len() as u32 / 2;
+    let most = workers.number().min(jobs.len() as u32).max(1);
     let (board, mut passes) = Board::<W>::new(alloc, jobs, most)?;
-    let at_once = if *shared < ENOUGH { 1 } else { most };
-    let own = work_from(rt, alloc, &board, gate, 0, at_once, passes.as_mut_slice());
-    let well = number / (2 * most) <= own && own <= number.saturating_sub((number / 4).max(1));
-    *shared = if well { shared.saturating_add(1) } else { 0 };
+    let own = work_from(rt, alloc, &board, gate, 0, *at_once, passes.as_mut_slice());
+    *at_once = if own <= half { most } else { 1 };
     board.close(alloc, passes)
 }
