@@ -1,8 +1,8 @@
--- What the checks of a value come to, once its kind is known.
-use Rattle.std.proofs.Common.{◌≡◌, ℕ, ◌-◌, take, ◌≤◌, List, [], ◌∷◌, length, get_or, drop, sym, ap, ◌∙◌, arith, Option, Some, map, unwrap_or, Result, Ok, Err, option_map}
+-- What the checks of a list come to, once its parts are known.
+use Rattle.std.proofs.Common.{◌≡◌, ◌-◌, take, ◌≤◌, List, [], ◌∷◌, length, get_or, drop, refl, sym, ap, ◌∙◌, arith, Option, Some, map, unwrap_or, Result, Ok, Err, option_map}
 use Rattle.std.proofs.lemmas.List.{take_all}
-use Rattle.serde_json.specs.{Data.Data, Data.string, Data.array, Data.Items, Find.as_array, Find.as_str, View.view, View.items_view, declared.value.Value.Value}
-use Rattle.msg_files.specs.Prelude.{Agrees, Check, IsAnswer, Refusal, call_checks, call_of, call_with, checks_with, elements, list_of}
+use Rattle.serde_json.specs.{Data.Data, Find.as_array, Find.as_str, View.view, View.items_view, declared.value.Value.Value}
+use Rattle.msg_files.specs.Prelude.{Agrees, Check, IsAnswer, Refusal, Text, elements, first_refusal, for_headed, list_of, of_headed}
 use Rattle.msg_files.proofs.WalksOverLists.{list_of-items_of}
 
 -- the answer of what takes no memory agrees
@@ -15,20 +15,20 @@ pub elements_are : (d : Data) (xs : List Value) → Some (items_view xs) ≡ as_
 elements_are d xs e =
     ap (λ o. unwrap_or (option_map list_of o) []) (sym e) ∙ list_of-items_of (map view xs)
 
--- ---- a call
+-- a list is its first item and the range of the others
+pub first_and_rest : (d : Data) (xs : List Value) (v : Value) → Some (items_view xs) ≡ as_array d → 1 ≤ length xs
+    → v ≡ get_or xs 0 v → elements d ≡ view v ∷ map view (take (length xs - 1) (drop 1 xs))
+first_and_rest d [] v list least is = absurd (omega (arith, least))
+first_and_rest d (x ∷ xs) v list least is =
+    rw (elements_are d (x ∷ xs) list, take_all (length (x ∷ xs) - 1) xs (omega arith), is) refl
 
-array_is : (d : Data) (ds : Items) → Some ds ≡ as_array d → d ≡ array ds
-array_is d ds e = grind arith
+-- ---- what agrees with equal checks
 
-string_is : (d : Data) (s : List ℕ) → Some s ≡ as_str d → d ≡ string s
-string_is d s e = grind arith
+pub headed_checked : (f : Text → List Data → List Check) (d head : Data) (ps : List Data) (name : Text)
+    → as_str head ≡ Some name → elements d ≡ head ∷ ps
+    → first_refusal (for_headed f (elements d)) ≡ first_refusal (f name ps)
+headed_checked f d head ps name is are = rw (are, is) refl
 
--- a list with a text at its head
-pub call_headed : (made : ℕ) (d : Data) (xs : List Value) (v : Value) (head : List ℕ)
-    → Some (items_view xs) ≡ as_array d → 1 ≤ length xs → v ≡ get_or xs 0 v → Some head ≡ as_str (view v)
-    → (call_checks made d ≡ checks_with made head (map view (take (length xs - 1) (drop 1 xs))))
-    × (call_of d ≡ call_with head (map view (take (length xs - 1) (drop 1 xs))))
-call_headed made d [] v head list lt is text = absurd (omega (arith, lt))
-call_headed made d (x ∷ xs) v head list lt is text =
-    grind (arith, array_is d (items_view (x ∷ xs)) list, string_is (view x), list_of-items_of,
-        take_all (length (x ∷ xs) - 1) xs)
+pub headed_denoted : {A : Type 0} (f : Text → List Data → Option A) (d head : Data) (ps : List Data) (name : Text)
+    → as_str head ≡ Some name → elements d ≡ head ∷ ps → of_headed f (elements d) ≡ f name ps
+headed_denoted f d head ps name is are = rw (are, is) refl

@@ -1,8 +1,8 @@
 -- What a JSON value denotes as a calls file: a line for each head.
-use Rattle.std.specs.Prelude.{ℕ, ℤ, List, [], ◌∷◌, map, Option, Some, None, option_map, option_and_then, codes, if◌then◌else◌}
+use Rattle.std.specs.Prelude.{ℤ, List, [], ◌∷◌, map, Option, Some, None, option_map, codes, if◌then◌else◌}
 use Rattle.std.specs.Str.{bytes_eq}
-use Rattle.serde_json.specs.Data.{Data, string, array}
-use Rattle.msg_files.specs.{Json.Text, Json.list_of, Json.elements, Json.value_at, Json.whole, Json.natural, Json.all_some, Cursors.CallsFile, declared.call.Call.Call, declared.call.Call.TheVariants.Write, declared.call.Call.TheVariants.Batch, declared.call.Call.TheVariants.Update, declared.call.Call.TheVariants.Read, declared.call.Call.TheVariants.Missed, declared.call.Call.TheVariants.Len, declared.call.Call.TheVariants.Clear, declared.call.Call.TheVariants.Cursor, declared.call.Call.TheVariants.CursorCurrent, declared.call.Call.TheVariants.Get, declared.call.Call.TheVariants.Current, declared.call.Call.TheVariants.Oldest, declared.call.Call.TheVariants.Count, declared.call.Call.TheVariants.Total, declared.call.Call.TheVariants.Drain, declared.call.Call.TheVariants.ClearAll}
+use Rattle.serde_json.specs.Data.{Data}
+use Rattle.msg_files.specs.{Json.Text, Json.elements, Json.value_at, Json.whole, Json.natural, Json.of_headed, Json.all_some, Json.both, Cursors.CallsFile, declared.call.Call.Call, declared.call.Call.TheVariants.Write, declared.call.Call.TheVariants.Batch, declared.call.Call.TheVariants.Update, declared.call.Call.TheVariants.Read, declared.call.Call.TheVariants.Missed, declared.call.Call.TheVariants.Len, declared.call.Call.TheVariants.Clear, declared.call.Call.TheVariants.Cursor, declared.call.Call.TheVariants.CursorCurrent, declared.call.Call.TheVariants.Get, declared.call.Call.TheVariants.Current, declared.call.Call.TheVariants.Oldest, declared.call.Call.TheVariants.Count, declared.call.Call.TheVariants.Total, declared.call.Call.TheVariants.Drain, declared.call.Call.TheVariants.ClearAll}
 
 -- a head alone
 abbrev pub bare_call : Text → Option Call
@@ -38,7 +38,7 @@ call_with_one head d =
 abbrev pub call_with_two : Text → Data → Data → Option Call
 call_with_two head d e =
     if bytes_eq head (codes "read")
-    then option_and_then (λ c. option_map (λ k. Read c (Some k)) (natural e)) (natural d)
+    then both (λ c k. Read c (Some k)) (natural d) (natural e)
     else None
 
 -- a head, and what stands after it
@@ -48,26 +48,15 @@ call_with head (d ∷ []) = call_with_one head d
 call_with head (d ∷ e ∷ []) = call_with_two head d e
 call_with head (d ∷ e ∷ f ∷ rest) = None
 
--- a list that begins with its head
-abbrev pub call_in : List Data → Option Call
-call_in (string head ∷ parts) = call_with head parts
-call_in _ = None
-
 -- the call that a value denotes
 abbrev pub call_of : Data → Option Call
-call_of (array parts) = call_in (list_of parts)
-call_of _ = None
+call_of d = of_headed call_with (elements d)
 
 -- the calls of a list, where each of its elements is one
 abbrev pub calls_of : Data → Option (List Call)
 calls_of d = all_some (map call_of (elements d))
 
--- the file of this limit and these calls
-abbrev pub file_with : Option ℕ → Option (List Call) → Option CallsFile
-file_with (Some limit) (Some calls) = Some (record { limit = limit; calls = calls })
-file_with (Some limit) None = None
-file_with None calls = None
-
 -- a file is an object with a limit and a list of calls
 abbrev pub file_of : Data → Option CallsFile
-file_of d = file_with (natural (value_at (codes "limit") d)) (calls_of (value_at (codes "calls") d))
+file_of d = both (λ limit calls. record { limit = limit; calls = calls })
+    (natural (value_at (codes "limit") d)) (calls_of (value_at (codes "calls") d))

@@ -1,6 +1,7 @@
 -- Words on JSON values.
-use Rattle.std.specs.Prelude.{◌≡◌, IsUtf8, ℕ, ◌+◌, ℤ, pos, negsuc, nat_lt, Bool, List, [], ◌∷◌, Option, Some, None, is_some, option_map, option_and_then, unwrap_or, if◌then◌else◌}
-use Rattle.serde_json.specs.{Data.Data, Data.null, Data.Items, Data.no_items, Data.item, Data.Members, Data.no_members, Data.member, Read.read, Find.get, Find.as_number, Find.as_array, Find.as_object, Find.as_i64}
+use Rattle.std.specs.Prelude.{◌≡◌, IsUtf8, ℕ, ◌+◌, ℤ, pos, negsuc, ◌&&◌, nat_lt, Bool, List, [], ◌∷◌, Option, Some, None, is_some, option_map, option_and_then, unwrap_or, if◌then◌else◌}
+use Rattle.std.specs.List.{list_all}
+use Rattle.serde_json.specs.{Data.Data, Data.null, Data.Items, Data.no_items, Data.item, Data.Members, Data.no_members, Data.member, Read.read, Find.get, Find.as_number, Find.as_array, Find.as_object, Find.as_str, Find.as_i64}
 
 -- a text, as its bytes
 abbrev pub Text : Type 0
@@ -28,6 +29,15 @@ keys d = unwrap_or (option_map keys_of (as_object d)) []
 abbrev pub value_at : Text → Data → Data
 value_at key d = unwrap_or (get key d) null
 
+-- a value's text; a value that is no text has the empty one
+abbrev pub text : Data → Text
+text d = unwrap_or (as_str d) []
+
+-- what the text that a list begins with, and the parts after it, denote
+abbrev pub of_headed : {A : Type 0} → (Text → List Data → Option A) → List Data → Option A
+of_headed f [] = None
+of_headed f (head ∷ parts) = option_and_then (λ name. f name parts) (as_str head)
+
 -- the kind of a value
 abbrev pub is_object : Data → Bool
 is_object d = is_some (as_object d)
@@ -35,8 +45,14 @@ is_object d = is_some (as_object d)
 abbrev pub is_list : Data → Bool
 is_list d = is_some (as_array d)
 
+abbrev pub is_text : Data → Bool
+is_text d = is_some (as_str d)
+
 abbrev pub is_number : Data → Bool
 is_number d = is_some (as_number d)
+
+abbrev pub is_list_of_numbers : Data → Bool
+is_list_of_numbers d = is_list d && list_all is_number (elements d)
 
 -- the whole number of an i64 that a value is
 abbrev pub whole : Data → Option ℤ
@@ -68,6 +84,10 @@ abbrev pub all_some : {A : Type 0} → List (Option A) → Option (List A)
 all_some [] = Some []
 all_some (None ∷ rest) = None
 all_some (Some a ∷ rest) = option_map (λ values. a ∷ values) (all_some rest)
+
+-- both, where there are both
+abbrev pub both : {A B C : Type 0} → (A → B → C) → Option A → Option B → Option C
+both f a b = option_and_then (λ x. option_map (f x) b) a
 
 -- the bytes are UTF-8, and serde_json reads this value in them
 pub record IsJsonOf (bytes : List ℕ) (d : Data) : Type 0 where

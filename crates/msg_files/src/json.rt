@@ -1,11 +1,25 @@
-// Known keys and needed keys of a JSON object.
-ghost use Rattle.std.specs.Prelude.{◌≡◌, ◌≢◌, None, Some, true, IfErr, MatchResult, OnOk, string_bytes};
+// A JSON text's value, known keys and needed keys of an object, and the parts of a list.
+ghost use Rattle.std.specs.Prelude.{◌≡◌, ◌≢◌, ◌⊎◌, ◌∷◌, List, Option, None, Some, true, Err, IfErr, IfOk, IsUtf8, MatchResult, OnOk, map, string_bytes};
 ghost use Rattle.std.specs.List.{list_all};
-ghost use Rattle.serde_json.specs.{Find.get, View.view};
-ghost use Rattle.msg_files.specs.Prelude.{first_refusal, is_object, keys, object_checks};
+ghost use Rattle.serde_json.specs.{Data.Data, Find.as_str, Find.get, Read.read, View.view};
+ghost use Rattle.msg_files.specs.Prelude.{Check, IsJsonOf, Text, a_list, elements, first_refusal, for_headed, is_object, keys, object_checks, of_headed};
 
 use crate::refusal::Refusal;
-use serde_json::{Map, Value};
+use serde_json::{Category, Map, Value};
+use std::alloc::Global;
+
+/// The value that the bytes are a JSON text of.
+pub fn parse(alloc: Global, bytes: &[u8]) -> Result<Value, Refusal>
+    ensures ok { IfOk result (λ value. IsJsonOf bytes.now (view value)) }
+    ensures not_json { result ≡ Err Refusal.NotJson → IsUtf8 bytes.now → read bytes.now ≡ None }
+    ensures refused { IfErr result (λ e. (e ≡ Refusal.NotJson) ⊎ (e ≡ Refusal.NoMemory)) }
+{
+    match Value::from_slice(alloc, bytes) {
+        Ok(value) => Ok(value),
+        Err(error) if error.classify() == Category::Memory => Err(Refusal::NoMemory),
+        Err(_) => Err(Refusal::NotJson),
+    }
+}
 
 /// The keys that an object may have.
 pub trait Keys {
@@ -47,8 +61,50 @@ pub fn needed<'a>(value: &'a Value, key: &str) -> Result<&'a Value, Refusal>
     ensures found { MatchResult result (λ v. get key.now (view value.now) ≡ Some (view v.now))
         (λ e. (e ≡ Refusal.Shape) × (get key.now (view value.now) ≡ None)) }
 {
-    match value.get(key) {
-        Some(found) => Ok(found),
-        None => Err(Refusal::Shape),
+    value.get(key).ok_or(Refusal::Shape)
+}
+
+/// The elements of a list that has no more than `most`.
+#[tactic(auto, using(crate::proofs::WalksOverLists::list_steps))]
+pub fn list(value: &Value, most: usize) -> Result<&[Value], Refusal>
+    ensures elements { IfOk result (λ items. elements (view value.now) ≡ map view items.now) }
+    ensures checked { MatchResult result
+        (λ _. first_refusal (a_list most (view value.now)) ≡ None)
+        (λ e. (e ≢ Refusal.NotJson) × (first_refusal (a_list most (view value.now)) ≡ Some e)) }
+{
+    let Some(items) = value.as_array() else {
+        return Err(Refusal::Shape);
+    };
+    let items = items.as_slice();
+    if items.len() > most {
+        return Err(Refusal::TooMany);
     }
+    Ok(items)
+}
+
+/// The text that a value is; `Shape` where it is something else.
+pub fn text(value: &Value) -> Result<&str, Refusal>
+    ensures is { MatchResult result (λ t. as_str (view value.now) ≡ Some t.now)
+        (λ e. (e ≡ Refusal.Shape) × (as_str (view value.now) ≡ None)) }
+{
+    value.as_str().ok_or(Refusal::Shape)
+}
+
+/// The text that a list begins with, and what follows it.
+pub fn head_and_parts(value: &Value) -> Result<(&str, &[Value]), Refusal>
+    ensures headed { IfOk result (λ p. (head : Data) × (as_str head ≡ Some p.0.now)
+        × (elements (view value.now) ≡ head ∷ map view p.1.now)) }
+    ensures other { IfErr result (λ e. (e ≡ Refusal.Shape)
+        × ((f : Text → List Data → List Check)
+        → first_refusal (for_headed f (elements (view value.now))) ≡ Some Refusal.Shape)) }
+    ensures none { IfErr result (λ e. (f : Text → List Data → Option Data)
+        → of_headed f (elements (view value.now)) ≡ None) }
+{
+    let Some(items) = value.as_array() else {
+        return Err(Refusal::Shape);
+    };
+    let [first, parts @ ..] = items.as_slice() else {
+        return Err(Refusal::Shape);
+    };
+    Ok((text(first)?, parts))
 }

@@ -1,10 +1,13 @@
 // Numbers in a JSON value.
-ghost use Rattle.std.specs.Prelude.{◌≡◌, ◌≢◌, ◌<◌, [], Some, None, IfOk, IfErr, IsOk, MatchResult, map, option_and_then};
+ghost use Rattle.std.specs.Prelude.{◌≡◌, ◌≢◌, ◌<◌, [], ◌∷◌, Some, None, true, false, IfOk, IfErr, IsOk, MatchResult, length, map, nat_le, option_and_then};
 ghost use Rattle.std.specs.List.{list_all};
 ghost use Rattle.serde_json.specs.{Find.as_number, Find.as_i64, View.view, View.number_view};
-ghost use Rattle.msg_files.specs.Prelude.{a_value, first_refusal, is_number, natural_of, only_below, whole};
+ghost use Rattle.msg_files.specs.Prelude.{Agrees, a_value, all_some, elements, first_refusal, is_list_of_numbers, is_number, natural_of, needs, only_below, whole};
+ghost use Rattle.msg_files.specs.declared.refusal.Refusal.TheVariants.{TooMany};
 
+use crate::limits::MAX_VALUES;
 use crate::refusal::Refusal;
+use msg_system::Items;
 use serde_json::{Number, Value};
 use std::alloc::Global;
 
@@ -13,10 +16,7 @@ pub fn number(value: &Value) -> Result<&Number, Refusal>
     ensures { MatchResult result (λ n. as_number (view value.now) ≡ Some (number_view n.now))
         (λ e. (e ≡ Refusal.Shape) × (as_number (view value.now) ≡ None)) }
 {
-    match value.as_number() {
-        Some(n) => Ok(n),
-        None => Err(Refusal::Shape),
-    }
+    value.as_number().ok_or(Refusal::Shape)
 }
 
 /// The whole number that it is; `BadNumber` where it is none, or lies outside `i64`.
@@ -24,10 +24,7 @@ pub fn whole_number(n: &Number) -> Result<i64, Refusal>
     ensures { MatchResult result (λ z. as_i64 (number_view n.now) ≡ Some z)
         (λ e. (e ≡ Refusal.BadNumber) × (as_i64 (number_view n.now) ≡ None)) }
 {
-    match n.as_i64() {
-        Some(z) => Ok(z),
-        None => Err(Refusal::BadNumber),
-    }
+    n.as_i64().ok_or(Refusal::BadNumber)
 }
 
 /// A number from 0 on.
@@ -61,10 +58,40 @@ pub fn small_number(n: &Number, end: u32) -> Result<u32, Refusal>
 }
 
 /// Whether all items are numbers, of any kind.
-pub fn are_numbers(items: &[Value]) -> bool
+fn are_numbers(items: &[Value]) -> bool
     ensures { result ≡ list_all (λ v. is_number (view v)) items.now }
 {
     items.iter().all(|item| item.as_number().is_some())
+}
+
+/// The items of a list of numbers.
+#[tactic(auto, using(crate::proofs::WalksOverLists::list_steps))]
+pub fn list_of_numbers(value: &Value) -> Result<&[Value], Refusal>
+    ensures elements { IfOk result (λ items. elements (view value.now) ≡ map view items.now) }
+    ensures is { MatchResult result (λ _. is_list_of_numbers (view value.now) ≡ true)
+        (λ e. (e ≡ Refusal.Shape) × (is_list_of_numbers (view value.now) ≡ false)) }
+{
+    let Some(items) = value.as_array() else {
+        return Err(Refusal::Shape);
+    };
+    let items = items.as_slice();
+    if !are_numbers(items) {
+        return Err(Refusal::Shape);
+    }
+    Ok(items)
+}
+
+/// The values of a batch, which are whole numbers and not too many.
+#[tactic(auto, using(crate::proofs::WalksOverLists::list_steps))]
+pub fn batch_values(alloc: Global, items: &[Value]) -> Result<Items<i64>, Refusal>
+    ensures agrees { Agrees
+        (needs (nat_le (length items.now) 1024) TooMany ∷ map a_value (map view items.now))
+        (all_some (map whole (map view items.now))) result }
+{
+    if items.len() > MAX_VALUES {
+        return Err(Refusal::TooMany);
+    }
+    Ok(Items::from_vec(whole_numbers(alloc, items)?))
 }
 
 /// The whole numbers that the items are.
@@ -80,9 +107,7 @@ pub fn whole_numbers(alloc: Global, items: &[Value]) -> Result<Vec<i64>, Refusal
         let Some(value) = item.as_number().and_then(Number::as_i64) else {
             return Err(Refusal::BadNumber);
         };
-        if values.push(value).is_err() {
-            return Err(Refusal::NoMemory);
-        }
+        values.push(value)?;
     }
     Ok(values)
 }

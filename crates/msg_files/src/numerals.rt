@@ -20,6 +20,15 @@ pub fn add_number(text: &mut Vec<u8>, number: u64) -> Result<(), NoMemory>
     text.extend_from_slice(Buffer::new().format(number).as_bytes())
 }
 
+/// A number after a head.
+pub fn add_count(text: &mut Vec<u8>, head: &[u8], number: u64) -> Result<(), NoMemory>
+    ensures appends { OnOk result
+        (text.new.items ≡ text.old.items ++ (head.now ++ decimal number)) }
+{
+    text.extend_from_slice(head)?;
+    add_number(text, number)
+}
+
 /// A number with its sign, where it is below 0.
 pub fn add_value(text: &mut Vec<u8>, value: i64) -> Result<(), NoMemory>
     ensures appends { OnOk result (text.new.items ≡ text.old.items ++ signed_decimal value) }

@@ -1,3 +1,7 @@
+ghost use Rattle.std.specs.Prelude.{◌≡◌};
+
+use msg_buffer::NoMemory;
+use std::alloc::AllocFailed;
 use thiserror::Error;
 
 /// Why a file was refused. The number stands in the line that says so.
@@ -33,4 +37,24 @@ pub enum Refusal {
     /// A growth was refused.
     #[error("11 NoMemory")]
     NoMemory,
+}
+
+impl From<NoMemory> for Refusal {
+    ghost use Rattle.msg_files.specs.declared.refusal.Refusal.TheVariants.{NoMemory as NoRoom};
+
+    ghost from_gives = { λ _ refusal. refusal ≡ NoRoom };
+
+    fn from(_error: NoMemory) -> Self {
+        Refusal::NoMemory
+    }
+}
+
+impl<T: Drop> From<AllocFailed<T>> for Refusal {
+    ghost use Rattle.msg_files.specs.declared.refusal.Refusal.TheVariants.{NoMemory as NoRoom};
+
+    ghost from_gives = { λ _ refusal. refusal ≡ NoRoom };
+
+    fn from(_error: AllocFailed<T>) -> Self {
+        Refusal::NoMemory
+    }
 }

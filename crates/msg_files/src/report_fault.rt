@@ -1,3 +1,6 @@
+ghost use Rattle.std.specs.Prelude.{◌≡◌};
+
+use msg_buffer::NoMemory;
 use msg_system::RunFault;
 use thiserror::Error;
 
@@ -13,4 +16,14 @@ pub enum ReportFault {
     /// A growth was refused.
     #[error("want of memory")]
     NoMemory,
+}
+
+impl From<NoMemory> for ReportFault {
+    ghost use Rattle.msg_files.specs.declared.report_fault.ReportFault.TheVariants.{NoMemory as NoRoom};
+
+    ghost from_gives = { λ _ fault. fault ≡ NoRoom };
+
+    fn from(_error: NoMemory) -> Self {
+        ReportFault::NoMemory
+    }
 }

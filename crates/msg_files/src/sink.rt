@@ -53,8 +53,5 @@ pub fn put_text<S: Sink>(text: &[u8], sink: &mut S) -> Result<(), ReportFault>
     ensures write { OnErr result (S.failures sink.new ≡ one_failure_more (S.failures sink.old)) }
     ensures only_write { IfErr result (λ fault. fault ≡ ReportFault.Write) }
 {
-    match put_all(sink, text) {
-        Ok(()) => Ok(()),
-        Err(_) => Err(ReportFault::Write),
-    }
+    put_all(sink, text).map_err(|_| ReportFault::Write)
 }

@@ -1,9 +1,9 @@
 -- What holds of all that a value denotes, and what passes where checks pass.
 use Rattle.std.proofs.Common.{◌≡◌, ℕ, ◌+◌, ◌≤◌, List, [], ◌∷◌, ◌++◌, length, refl, Option, Some, None, Bool, true, false, arith, map, subst, All, if◌then◌else◌, nat_le, option_and_then, option_map, zero-add}
 use Rattle.std.proofs.lemmas.{Bool.leb-true, Grind.common_steps, List.Elements.All-cons, List.Elements.All-nil, Option.same_Some}
-use Rattle.serde_json.specs.Data.{Data}
-use Rattle.msg_files.specs.Prelude.{Check, Text, all_some, elements, first_refusal, is_list, needs, only_below}
-use Rattle.msg_reading.specs.Prelude.{Declared, both, checks_in_turn, each_in_turn, names_checks, of_headed, text, with_all}
+use Rattle.serde_json.specs.{Data.Data, Find.as_str}
+use Rattle.msg_files.specs.Prelude.{Check, Text, a_list, all_some, both, elements, first_refusal, is_list, needs, of_headed, only_below}
+use Rattle.msg_reading.specs.Prelude.{Declared, checks_in_turn, each_in_turn, names_checks, with_all}
 use Rattle.msg_files.proofs.WalksOverLists.{refusal_of_both}
 use Rattle.msg_files.specs.{declared.refusal.Refusal.Refusal, declared.refusal.Refusal.TheVariants.Shape, declared.refusal.Refusal.TheVariants.TooMany}
 
@@ -30,7 +30,7 @@ in_then P f (Some a) good b h = good a refl b h
 pub in_headed : {A : Type 0} (P : A → Type 0) (f : Text → List Data → Option A) (ds : List Data)
     → ((head : Text) (parts : List Data) → Holds P (f head parts)) → Holds P (of_headed f ds)
 in_headed P f [] good a h = cc
-in_headed P f (head ∷ parts) good a h = good (text head) parts a h
+in_headed P f (head ∷ parts) good a h = in_then P (λ name. f name parts) (as_str head) (λ name _. good name parts) a h
 
 -- one of two
 pub choice : {A : Type 0} (P : A → Type 0) (b : Bool) (o p : Option A)
@@ -68,7 +68,7 @@ first_passes b e cs h = grind arith
 
 -- a list that passed its checks is short enough, and its elements passed theirs
 pub list_passed : (d : Data) (most : ℕ) (checks : List Check)
-    → first_refusal (needs (is_list d) Shape ∷ needs (nat_le (length (elements d)) most) TooMany ∷ checks) ≡ None
+    → first_refusal (a_list most d ++ checks) ≡ None
     → (length (elements d) ≤ most) × (first_refusal checks ≡ None)
 list_passed d most checks h =
     let few = nat_le (length (elements d)) most in

@@ -9,5 +9,3 @@ pub mod SystemsAreRead
 pub mod ChecksThatPass
 pub mod WhatIsUsedIsThere
 pub mod ReadScenarioRuns
--- and of one that was made in code: tests tell whether it can be run
-mod TestsOfScenarios

@@ -1,11 +1,9 @@
 -- Lists of a scenario file by their parts.
-use Rattle.std.proofs.Common.{◌≡◌, ◌≤◌, ◌<◌, List, [], ◌∷◌, length, get_or, take, drop, refl, arith, Option, Some, map, ◌-◌}
-use Rattle.std.proofs.lemmas.List.{take_all}
-use Rattle.serde_json.specs.{Data.Data, Find.as_array, Find.as_str, View.view, View.items_view, declared.value.Value.Value}
-use Rattle.msg_files.specs.Prelude.{Check, Text, elements, first_refusal}
-use Rattle.msg_reading.specs.Prelude.{Declared, for_headed, of_headed, op_checks_with}
+use Rattle.std.proofs.Common.{◌≡◌, ◌≤◌, ◌<◌, List, [], ◌∷◌, length, get_or, refl, arith, Some, map}
+use Rattle.serde_json.specs.{View.view, declared.value.Value.Value}
+use Rattle.msg_files.specs.Prelude.{Text, first_refusal}
+use Rattle.msg_reading.specs.Prelude.{Declared, op_checks_with}
 use Rattle.msg_files.specs.declared.refusal.Refusal.TheVariants.{Shape}
-use Rattle.msg_files.proofs.ChecksByKind.{elements_are}
 
 -- ---- lists of one, of two and of more items
 
@@ -18,24 +16,6 @@ module _ {A : Type 0} where
       → xs ≡ v ∷ w ∷ []
   two_of (x ∷ y ∷ []) v w least below is is' = rw (is, is') refl
   two_of xs v w least below is is' = absurd (omega (arith, least, below))
-
--- a list is its first item and the range of the others
-pub first_and_rest : (d : Data) (xs : List Value) (v : Value) → Some (items_view xs) ≡ as_array d → 1 ≤ length xs
-    → v ≡ get_or xs 0 v → elements d ≡ view v ∷ map view (take (length xs - 1) (drop 1 xs))
-first_and_rest d [] v list least is = absurd (omega (arith, least))
-first_and_rest d (x ∷ xs) v list least is =
-    rw (elements_are d (x ∷ xs) list, take_all (length (x ∷ xs) - 1) xs (omega arith), is) refl
-
--- ---- what agrees with equal checks
-
-pub headed_checked : (f : Text → List Data → List Check) (d head : Data) (ps : List Data) (name : Text)
-    → as_str head ≡ Some name → elements d ≡ head ∷ ps
-    → first_refusal (for_headed f (elements d)) ≡ first_refusal (f name ps)
-headed_checked f d head ps name is are = rw (are, is) refl
-
-pub headed_denoted : {A : Type 0} (f : Text → List Data → Option A) (d head : Data) (ps : List Data) (name : Text)
-    → as_str head ≡ Some name → elements d ≡ head ∷ ps → of_headed f (elements d) ≡ f name ps
-headed_denoted f d head ps name is are = rw (are, is) refl
 
 -- no op has more than two parts
 pub op_of_many : (names : Declared) (head : Text) (xs : List Value) → 3 ≤ length xs

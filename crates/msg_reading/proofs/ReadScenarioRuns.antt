@@ -3,10 +3,11 @@ use Rattle.std.proofs.Common.{◌≡◌, ℕ, ◌≤◌, ◌<◌, List, [], ◌�
 use Rattle.std.proofs.lemmas.{Grind.common_steps, List.Quantifiers.position-Some}
 use Rattle.std.specs.Str.{bytes_eq}
 use Rattle.serde_json.specs.{Data.Data}
+use Rattle.msg_system.specs.Prelude.{HasClash, program_needs}
 use Rattle.msg_order.specs.Prelude.{IsAcyclic, NameSystemsBelow, edges_of}
 use Rattle.msg_order.specs.declared.rule.Rule.{Rule}
-use Rattle.msg_files.specs.Prelude.{elements, first_refusal}
-use Rattle.msg_reading.specs.Prelude.{Declared, IsClashing, IsRunnable, Scenario, all_names, frames_in, frames_read, no_names, part_names, position_of, resource_checks, resource_of, resources_checks, resources_in, resources_of, rule_of, rules_in, rules_of, scenario_checks, scenario_of, system_checks, system_number, system_of, systems_checks, systems_in, systems_of, text, type_checks, type_names, type_of, types_checks, types_in, types_of, declaring_resource, with_system, declaring_type}
+use Rattle.msg_files.specs.Prelude.{elements, first_refusal, text}
+use Rattle.msg_reading.specs.Prelude.{Declared, IsRunnable, Scenario, all_names, frames_in, frames_read, no_names, part_names, position_of, resource_checks, resource_of, resources_checks, resources_in, resources_of, rule_of, rules_in, rules_of, scenario_checks, scenario_of, system_checks, system_number, system_of, systems_checks, systems_in, systems_of, type_checks, type_names, type_of, types_checks, types_in, types_of, declaring_resource, with_system, declaring_type}
 use Rattle.msg_reading.proofs.{WhatIsUsedIsThere.HasNames, WhatIsUsedIsThere.NamesOf, WhatIsUsedIsThere.SystemFits, WhatIsUsedIsThere.frames_fit, WhatIsUsedIsThere.system_fits, ChecksThatPass.Holds, ChecksThatPass.below_there, ChecksThatPass.in_each, ChecksThatPass.in_section}
 use Rattle.msg_files.proofs.WalksOverLists.{refusal_of_both}
 
@@ -30,7 +31,8 @@ rule_below names d rule h = grind (arith, system_below names)
 pub record IsWhole (s : Scenario) : Type 0 where
   pub few_systems : length s.systems ≤ 256
   pub rules_in_range : NameSystemsBelow (length s.systems) s.rules
-  pub runnable : All (λ x. ¬ IsClashing x) s.systems → IsAcyclic (edges_of s.rules) → IsRunnable s
+  pub runnable : All (λ x. ¬ HasClash (program_needs x.program.ops)) s.systems → IsAcyclic (edges_of s.rules)
+      → IsRunnable s
 
 -- where all checks pass, those of each section do
 sections_pass : (d : Data) → first_refusal (scenario_checks d) ≡ None → (first_refusal (types_checks d) ≡ None)

@@ -4,11 +4,11 @@ use Rattle.std.proofs.lemmas.{Bool.eqb-true, List.Elements.All-head, List.Elemen
 use Rattle.std.specs.{List.list_any, Str.bytes_eq}
 use Rattle.serde_json.specs.Data.{Data}
 use Rattle.msg_world.specs.Prelude.{HasPart, Part}
-use Rattle.msg_system.specs.Prelude.{is_part, job_needs, needs_any, op_parts, probe_part}
+use Rattle.msg_system.specs.Prelude.{HasClash, is_part, job_needs, needs_any, op_parts, probe_part, program_needs}
 use Rattle.msg_system.specs.{declared.condition.Condition.Condition, declared.op.Op.Op}
 use Rattle.msg_frames.specs.declared.place.Place.{Place}
-use Rattle.msg_files.specs.Prelude.{Text, elements, first_refusal, natural, needs, value_at, values_of, whole}
-use Rattle.msg_reading.specs.Prelude.{Declared, IsClashing, IsRunnableSystem, PostsAreToTypes, Scenario, SystemSpec, condition_checks, condition_of, conditions_in, each_of, fits_kind, frame_of, inside_nots, join_checks, join_in, kind_in, kind_of, list_checks, name_checks, of_headed, of_its_kind, op_checks, op_of, op_with, op_with_one, op_with_two, ops_checks, ops_of, place_checks, place_in, post_of, probe_with, program_checks, resource_number, start_in, start_of, system_checks, system_object, system_of, text, type_number}
+use Rattle.msg_files.specs.Prelude.{Text, elements, first_refusal, natural, needs, of_headed, text, value_at, values_of, whole}
+use Rattle.msg_reading.specs.Prelude.{Declared, IsRunnableSystem, PostsAreToTypes, Scenario, SystemSpec, condition_checks, condition_of, conditions_in, each_of, fits_kind, frame_of, inside_nots, join_checks, join_in, kind_in, kind_of, list_checks, name_checks, of_its_kind, op_checks, op_of, op_with, op_with_one, op_with_two, ops_checks, ops_of, place_checks, place_in, post_of, probe_with, program_checks, resource_number, start_in, start_of, system_checks, system_object, system_of, type_number}
 use Rattle.msg_files.specs.declared.refusal.Refusal.TheVariants.{Shape}
 use Rattle.msg_reading.proofs.ChecksThatPass.{Holds, below_there, both_pass, choice, first_passes, in_both, in_each, in_headed, in_map, in_then, list_passed}
 
@@ -124,7 +124,7 @@ module _ (s : Scenario) (names : Declared) {n : ℕ} (of : NamesOf s n names) wh
 
 -- a system can be made, and added, if it doesn't clash
 abbrev pub SystemFits : Scenario → SystemSpec → Type 0
-SystemFits s x = ¬ IsClashing x → IsRunnableSystem s x
+SystemFits s x = ¬ HasClash (program_needs x.program.ops) → IsRunnableSystem s x
 
 pub system_fits : (s : Scenario) (names : Declared) {n : ℕ} (d : Data) → NamesOf s n names
     → first_refusal (system_checks names d) ≡ None → Holds (SystemFits s) (system_of names d)
@@ -153,7 +153,7 @@ system_fits s names {n} d of passed =
     ((all conditions c).0, grind (arith, joins, j))) place p in
     record {
       few_ops = omega (arith, few, many);
-      fit_kind = grind (arith, as_kind);
+      fit_kind = as_kind;
       fits = job_fits s ops place.conditions fit.0 placed.0;
       no_clash = none;
       joins = placed.1;

@@ -7,16 +7,12 @@ use Rattle.msg_files.specs.Prelude.{first_refusal}
 use Rattle.msg_reading.specs.{ScenarioChecks.scenario_checks, ScenarioDenotes.scenario_of, declared.scenario.Scenario.Scenario, declared.scenario.SystemSpec.SystemSpec}
 use Rattle.msg_files.specs.{declared.refusal.Refusal.Refusal, declared.refusal.Refusal.TheVariants.Clash, declared.refusal.Refusal.TheVariants.Cycle}
 
--- the system's program reads and writes one type
-abbrev pub IsClashing : SystemSpec → Type 0
-IsClashing system = HasClash (program_needs system.program.ops)
-
 -- s is the lowest system whose program reads and writes one type
 pub record IsLowestClash (systems : List SystemSpec) (s : ℕ) : Type 0 where
   pub system : SystemSpec
   pub is : slice_get systems s ≡ Some system
-  pub clash : IsClashing system
-  pub lowest : All (λ x. ¬ IsClashing x) (take s systems)
+  pub clash : HasClash (program_needs system.program.ops)
+  pub lowest : All (λ x. ¬ HasClash (program_needs x.program.ops)) (take s systems)
 
 -- a value passes all checks, and denotes this scenario
 pub record Denotes (d : Data) (scenario : Scenario) : Type 0 where
@@ -26,14 +22,14 @@ pub record Denotes (d : Data) (scenario : Scenario) : Type 0 where
 -- the value is read as a scenario whose programs don't clash, and whose rules make no cycle
 pub record IsReadAs (d : Data) (scenario : Scenario) : Type 0 where
   pub denotes : Denotes d scenario
-  pub no_clash : All (λ x. ¬ IsClashing x) scenario.systems
+  pub no_clash : All (λ x. ¬ HasClash (program_needs x.program.ops)) scenario.systems
   pub acyclic : IsAcyclic (edges_of scenario.rules)
 
 -- A scenario is refused for its lowest clash; or, where no program clashes, for the lowest system
 -- on a cycle of rules.
 abbrev pub IsUnfit : Scenario → Refusal → Type 0
 IsUnfit scenario (Clash s) = IsLowestClash scenario.systems s
-IsUnfit scenario (Cycle s) = All (λ x. ¬ IsClashing x) scenario.systems
+IsUnfit scenario (Cycle s) = All (λ x. ¬ HasClash (program_needs x.program.ops)) scenario.systems
     × IsLowestOnCycle (edges_of scenario.rules) s
 IsUnfit scenario _ = ⊥
 

@@ -1,13 +1,12 @@
 -- The state that an engine of a scenario begins in, and what every scenario that was read keeps to.
-use Rattle.std.specs.Prelude.{◌≡◌, ◌≤◌, ◌<◌, ℕ, ⊤, IsTrue, All, List, [], ◌∷◌, length, map, if◌then◌else◌}
+use Rattle.std.specs.Prelude.{◌≤◌, ◌<◌, IsTrue, All, List, length, map, if◌then◌else◌}
 use Rattle.std.specs.List.{enumerate_from}
 use Rattle.msg_world.specs.Prelude.{HasPart, Part, WorldState, held_world, new_world}
 use Rattle.msg_order.specs.Prelude.{IsAcyclic, NameSystemsBelow, edges_of}
 use Rattle.msg_system.specs.Prelude.{HasClash, Meaning, job_needs, needs_any, new_system, program_needs}
-use Rattle.msg_system.specs.{declared.op.Op.Op, declared.op.Op.TheVariants.Forward, declared.op.Op.TheVariants.Sum}
 use Rattle.msg_frames.specs.Prelude.{State, first_state}
 use Rattle.msg_frames.specs.{declared.frame.Frame.Frame, declared.place.Place.Place}
-use Rattle.msg_reading.specs.{declared.kind.Kind.Kind, declared.kind.Kind.TheVariants.Script, declared.kind.Kind.TheVariants.Relay, declared.kind.Kind.TheVariants.Tally, declared.scenario.Scenario.Scenario, declared.scenario.SystemSpec.SystemSpec}
+use Rattle.msg_reading.specs.{ScenarioChecks.fits_kind, declared.scenario.Scenario.Scenario, declared.scenario.SystemSpec.SystemSpec}
 
 -- ---- the first state
 
@@ -31,16 +30,10 @@ state_of s = first_state (meanings_of s) (places_of s) s.rules (length s.types) 
 
 -- ---- what may be run
 
--- these are ops for a box of this kind
-abbrev pub FitKind : Kind → List Op → Type 0
-FitKind Script ops = ⊤
-FitKind Relay ops = (from : ℕ) × (to : ℕ) × (ops ≡ Forward from to ∷ [])
-FitKind Tally ops = (from : ℕ) × (to : ℕ) × (ops ≡ Sum from to ∷ [])
-
 -- a system of the scenario can be made, and added to an engine over the scenario's world
 pub record IsRunnableSystem (s : Scenario) (x : SystemSpec) : Type 0 where
   pub few_ops : length x.program.ops ≤ 64
-  pub fit_kind : FitKind x.kind x.program.ops
+  pub fit_kind : IsTrue (fits_kind x.kind x.program.ops)
   pub fits : (p : Part) → IsTrue (needs_any (job_needs x.program.ops x.place.conditions) p)
       → HasPart (length s.types) (length s.resources) p
   pub no_clash : ¬ HasClash (program_needs x.program.ops)

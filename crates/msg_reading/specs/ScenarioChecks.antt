@@ -1,24 +1,14 @@
 -- The checks of a scenario file in reading order, each with the refusal that it gives where it
 -- fails.
-use Rattle.std.specs.Prelude.{ℕ, ◌||◌, ◌&&◌, not, nat_le, Bool, true, false, List, [], ◌∷◌, ◌++◌, length, map, flat_map, is_some, codes, if◌then◌else◌}
-use Rattle.std.specs.{List.list_all, Option.option_map_or, Str.bytes_eq}
-use Rattle.serde_json.specs.{Data.Data, Find.as_str, Find.as_bool}
+use Rattle.std.specs.Prelude.{ℕ, ◌||◌, ◌&&◌, not, nat_le, Bool, true, false, List, [], ◌∷◌, ◌++◌, map, flat_map, is_some, codes, if◌then◌else◌}
+use Rattle.std.specs.{Option.option_map_or, Str.bytes_eq}
+use Rattle.serde_json.specs.{Data.Data, Find.as_bool}
 use Rattle.msg_system.specs.{declared.op.Op.Op, declared.op.Op.TheVariants.Forward, declared.op.Op.TheVariants.Sum}
-use Rattle.msg_files.specs.Prelude.{Check, Text, a_limit, a_value, elements, few_values, has_key, is_list, is_number, needs, number_up_to, object_checks, value_at}
-use Rattle.msg_reading.specs.{Names.Declared, Names.is_name, Names.position_of, Names.type_number, Names.resource_number, Names.system_number, ScenarioDenotes.text, ScenarioDenotes.inside_nots, ScenarioDenotes.nots_round, ScenarioDenotes.kind_of, ScenarioDenotes.kind_in, ScenarioDenotes.conditions_in, ScenarioDenotes.join_in, ScenarioDenotes.start_of, ScenarioDenotes.start_in, ScenarioDenotes.ops_of, ScenarioDenotes.declaring_type, ScenarioDenotes.declaring_resource, ScenarioDenotes.with_system, ScenarioDenotes.no_names, ScenarioDenotes.types_in, ScenarioDenotes.resources_in, ScenarioDenotes.held_in, ScenarioDenotes.systems_in, ScenarioDenotes.rules_in, ScenarioDenotes.frames_in, ScenarioDenotes.type_names, ScenarioDenotes.part_names, ScenarioDenotes.all_names, declared.kind.Kind.Kind, declared.kind.Kind.TheVariants.Script, declared.kind.Kind.TheVariants.Relay, declared.kind.Kind.TheVariants.Tally}
+use Rattle.msg_files.specs.Prelude.{Check, Text, a_limit, a_list, a_value, elements, few_values, for_headed, has_key, is_list_of_numbers, is_number, is_text, needs, number_up_to, object_checks, text, value_at, wrong_shape}
+use Rattle.msg_reading.specs.{Names.Declared, Names.is_name, Names.position_of, Names.type_number, Names.resource_number, Names.system_number, ScenarioDenotes.inside_nots, ScenarioDenotes.nots_round, ScenarioDenotes.kind_of, ScenarioDenotes.kind_in, ScenarioDenotes.conditions_in, ScenarioDenotes.join_in, ScenarioDenotes.start_of, ScenarioDenotes.start_in, ScenarioDenotes.ops_of, ScenarioDenotes.declaring_type, ScenarioDenotes.declaring_resource, ScenarioDenotes.with_system, ScenarioDenotes.no_names, ScenarioDenotes.types_in, ScenarioDenotes.resources_in, ScenarioDenotes.held_in, ScenarioDenotes.systems_in, ScenarioDenotes.rules_in, ScenarioDenotes.frames_in, ScenarioDenotes.type_names, ScenarioDenotes.part_names, ScenarioDenotes.all_names, declared.kind.Kind.Kind, declared.kind.Kind.TheVariants.Script, declared.kind.Kind.TheVariants.Relay, declared.kind.Kind.TheVariants.Tally}
 use Rattle.msg_files.specs.declared.refusal.Refusal.TheVariants.{Shape, BadName, TwiceNamed, BadNumber, TooMany, UnknownName}
 
 -- ---- parts of values
-
-abbrev pub is_text : Data → Bool
-is_text d = is_some (as_str d)
-
-abbrev pub is_list_of_numbers : Data → Bool
-is_list_of_numbers d = is_list d && list_all is_number (elements d)
-
--- what has another shape than is wanted
-abbrev pub wrong_shape : List Check
-wrong_shape = needs false Shape ∷ []
 
 -- a list of two elements
 abbrev pub for_two : (Data → Data → List Check) → List Data → List Check
@@ -27,17 +17,9 @@ for_two f (a ∷ []) = wrong_shape
 for_two f (a ∷ b ∷ []) = f a b
 for_two f (a ∷ b ∷ c ∷ rest) = wrong_shape
 
--- a list that begins with a text, its head
-abbrev pub for_headed : (Text → List Data → List Check) → List Data → List Check
-for_headed f [] = wrong_shape
-for_headed f (head ∷ parts) = needs (is_text head) Shape ∷ f (text head) parts
-
 -- a list of at most so many elements, and each of them in order
 abbrev pub list_checks : ℕ → (Data → List Check) → Data → List Check
-list_checks most checks d =
-    needs (is_list d) Shape
-    ∷ needs (nat_le (length (elements d)) most) TooMany
-    ∷ flat_map checks (elements d)
+list_checks most checks d = a_list most d ++ flat_map checks (elements d)
 
 -- each element in order, where the names of those before it are declared
 abbrev pub checks_in_turn : (Declared → Data → List Check) → (Declared → Data → Declared)
@@ -50,9 +32,7 @@ checks_in_turn checks with_one names (d ∷ ds) =
 abbrev pub names_checks : ℕ → (Declared → Data → List Check) → (Declared → Data → Declared)
     → Declared → Data → List Check
 names_checks most checks with_one names d =
-    needs (is_list d) Shape
-    ∷ needs (nat_le (length (elements d)) most) TooMany
-    ∷ checks_in_turn checks with_one names (elements d)
+    a_list most d ++ checks_in_turn checks with_one names (elements d)
 
 -- ---- names
 

@@ -1,18 +1,14 @@
 -- What a JSON value denotes as a scenario.
 use Rattle.std.specs.Prelude.{ℕ, ◌+◌, zero, suc, ℤ, false, List, [], ◌∷◌, ◌++◌, map, Option, Some, None, option_map, option_and_then, unwrap_or, codes, if◌then◌else◌}
 use Rattle.std.specs.Str.{bytes_eq}
-use Rattle.serde_json.specs.{Data.Data, Data.boolean, Data.string, Data.number, Data.array, Data.no_items, Data.unsigned, Find.get, Find.as_str, Find.as_bool}
+use Rattle.serde_json.specs.{Data.Data, Data.boolean, Data.string, Data.number, Data.array, Data.no_items, Data.unsigned, Find.get, Find.as_bool}
 use Rattle.msg_system.specs.{declared.op.Op.Op, declared.op.Op.TheVariants.Write, declared.op.Op.TheVariants.Batch, declared.op.Op.TheVariants.Read, declared.op.Op.TheVariants.Len, declared.op.Op.TheVariants.Missed, declared.op.Op.TheVariants.Clear, declared.op.Op.TheVariants.Forward, declared.op.Op.TheVariants.Sum, declared.op.Op.TheVariants.Get, declared.op.Op.TheVariants.Set, declared.op.Op.TheVariants.Add, declared.op.Op.TheVariants.Drain, declared.op.Op.TheVariants.Signal, declared.condition.Condition.Condition, declared.condition.Probe.Probe, declared.condition.Probe.TheVariants.OnMessage, declared.condition.Probe.TheVariants.ResourceEquals, declared.start.Start.Start, declared.start.Start.TheVariants.Zero, declared.start.Start.TheVariants.Current}
 use Rattle.msg_frames.specs.{declared.frame.Frame.Frame, declared.place.Place.Place}
 use Rattle.msg_order.specs.declared.rule.Rule.{Rule}
-use Rattle.msg_files.specs.Prelude.{Text, all_some, elements, natural, value_at, values_of, whole}
+use Rattle.msg_files.specs.Prelude.{Text, all_some, both, elements, natural, of_headed, text, value_at, values_of, whole}
 use Rattle.msg_reading.specs.{Names.Declared, Names.type_number, Names.resource_number, Names.system_number, declared.kind.Kind.Kind, declared.kind.Kind.TheVariants.Script, declared.kind.Kind.TheVariants.Relay, declared.kind.Kind.TheVariants.Tally, declared.scenario.Scenario.Scenario, declared.scenario.SystemSpec.SystemSpec}
 
 -- ---- parts of values
-
--- a value's text; a value that is no text has the empty one
-abbrev pub text : Data → Text
-text d = unwrap_or (as_str d) []
 
 -- what a list of two elements denotes
 abbrev pub of_two : {A : Type 0} → (Data → Data → Option A) → List Data → Option A
@@ -20,15 +16,6 @@ of_two f [] = None
 of_two f (a ∷ []) = None
 of_two f (a ∷ b ∷ []) = f a b
 of_two f (a ∷ b ∷ c ∷ rest) = None
-
--- what a text and the parts after it denote
-abbrev pub of_headed : {A : Type 0} → (Text → List Data → Option A) → List Data → Option A
-of_headed f [] = None
-of_headed f (head ∷ parts) = f (text head) parts
-
--- both, where there are both
-abbrev pub both : {A B C : Type 0} → (A → B → C) → Option A → Option B → Option C
-both f a b = option_and_then (λ x. option_map (f x) b) a
 
 -- what each element denotes
 abbrev pub each_of : {A : Type 0} → (Data → Option A) → Data → Option (List A)

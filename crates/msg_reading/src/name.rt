@@ -39,10 +39,9 @@ impl Name {
         if !is_name(text) {
             return Err(Refusal::BadName);
         }
-        match text.to_string(alloc) {
-            Ok(text) => Ok(Name { text }),
-            Err(_) => Err(Refusal::NoMemory),
-        }
+        Ok(Name {
+            text: text.to_string(alloc)?,
+        })
     }
 
     pub(crate) fn from_text(text: String) -> Name

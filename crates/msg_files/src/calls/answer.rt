@@ -5,7 +5,7 @@ ghost use Rattle.msg_files.specs.Prelude.{AreIn, BufferState, after, has_cursor,
 
 use crate::call::Call;
 use crate::calls::text::{add_found, add_items, add_unread};
-use crate::numerals::add_number;
+use crate::numerals::add_count;
 use msg_buffer::{
     BatchRefusal, Instance, MessageCursor, MessageId, Messages, NoMemory, WriteRefusal,
 };
@@ -43,19 +43,13 @@ pub fn answer(
             add_cursor(text, b"len ", *cursor, unread)
         }
         Call::Clear(cursor) => clear(*cursor, messages, cursors, text),
-        Call::Cursor => {
-            let cursor = messages.get_cursor();
-            make(cursor, cursors, text)
-        }
-        Call::CursorCurrent => {
-            let cursor = messages.get_cursor_current();
-            make(cursor, cursors, text)
-        }
+        Call::Cursor => make(messages.get_cursor(), cursors, text),
+        Call::CursorCurrent => make(messages.get_cursor_current(), cursors, text),
         Call::Get(number) => get(*number, messages, text),
         Call::Current => add_list(text, b"current:", messages.current()),
-        Call::Oldest => add_count(text, b"oldest ", messages.oldest()),
-        Call::Count => add_count(text, b"count ", messages.count()),
-        Call::Total => add_count(text, b"total ", messages.len()),
+        Call::Oldest => add_line(text, b"oldest ", messages.oldest()),
+        Call::Count => add_line(text, b"count ", messages.count()),
+        Call::Total => add_line(text, b"total ", messages.len()),
         Call::Drain => {
             let items = messages.drain()?;
             add_list(text, b"drain:", items.as_slice())
@@ -68,12 +62,11 @@ pub fn answer(
 }
 
 /// A line of a head and a number.
-fn add_count(text: &mut Vec<u8>, head: &[u8], number: u64) -> Result<(), NoMemory>
+fn add_line(text: &mut Vec<u8>, head: &[u8], number: u64) -> Result<(), NoMemory>
     ensures { OnOk result (text.new.items ≡ text.old.items
         ++ (head.now ++ decimal number ++ codes "\n")) }
 {
-    text.extend_from_slice(head)?;
-    add_number(text, number)?;
+    add_count(text, head, number)?;
     text.extend_from_slice(b"\n")
 }
 
@@ -82,11 +75,8 @@ fn add_cursor(text: &mut Vec<u8>, head: &[u8], cursor: u32, number: u64) -> Resu
     ensures { OnOk result (text.new.items ≡ text.old.items
         ++ (head.now ++ decimal cursor ++ codes " " ++ decimal number ++ codes "\n")) }
 {
-    text.extend_from_slice(head)?;
-    add_number(text, u64::from(cursor))?;
-    text.extend_from_slice(b" ")?;
-    add_number(text, number)?;
-    text.extend_from_slice(b"\n")
+    add_count(text, head, u64::from(cursor))?;
+    add_line(text, b" ", number)
 }
 
 /// A line of a head and items.
@@ -104,11 +94,8 @@ fn add_written(text: &mut Vec<u8>, head: &[u8], first: u64, number: u64) -> Resu
     ensures { OnOk result (text.new.items ≡ text.old.items
         ++ (head.now ++ (decimal first ++ codes "+" ++ decimal number) ++ codes "\n")) }
 {
-    text.extend_from_slice(head)?;
-    add_number(text, first)?;
-    text.extend_from_slice(b"+")?;
-    add_number(text, number)?;
-    text.extend_from_slice(b"\n")
+    add_count(text, head, first)?;
+    add_line(text, b"+", number)
 }
 
 fn write(value: i64, messages: &mut Messages<i64>, text: &mut Vec<u8>) -> Result<(), NoMemory>
@@ -150,8 +137,7 @@ fn get(number: u64, messages: &Messages<i64>, text: &mut Vec<u8>) -> Result<(), 
         ++ (codes "get " ++ decimal number ++ codes " " ++ value_text (get h number)
         ++ codes "\n")) }
 {
-    text.extend_from_slice(b"get ")?;
-    add_number(text, number)?;
+    add_count(text, b"get ", number)?;
     text.extend_from_slice(b" ")?;
     add_found(text, messages.get(MessageId(number)))?;
     text.extend_from_slice(b"\n")
@@ -168,10 +154,8 @@ fn make(
         ++ codes " place " ++ decimal cursor ++ codes "\n")) }
     ensures made { OnOk result (cursors.new.items ≡ cursors.old.items ++ cursor ∷ []) }
 {
-    text.extend_from_slice(b"cursor ")?;
-    add_number(text, cursors.len() as u64)?;
-    text.extend_from_slice(b" place ")?;
-    add_number(text, cursor.place())?;
+    add_count(text, b"cursor ", cursors.len() as u64)?;
+    add_count(text, b" place ", cursor.place())?;
     cursors.push(cursor)?;
     text.extend_from_slice(b"\n")
 }
@@ -191,10 +175,8 @@ fn read(
         → AreIn messages.now cursors.new.items (after (Call.Read number limit) s)) }
 {
     let mut cursor = cursors[number as usize];
-    text.extend_from_slice(b"read ")?;
-    add_number(text, u64::from(number))?;
-    text.extend_from_slice(b" missed ")?;
-    add_number(text, cursor.missed(messages))?;
+    add_count(text, b"read ", u64::from(number))?;
+    add_count(text, b" missed ", cursor.missed(messages))?;
     text.extend_from_slice(b":")?;
     add_unread(text, &mut cursor, limit, messages)?;
     cursors[number as usize] = cursor;
@@ -215,12 +197,9 @@ fn clear(
         → AreIn messages.now cursors.new.items (after (Call.Clear number) s)) }
 {
     let mut cursor = cursors[number as usize];
-    text.extend_from_slice(b"clear ")?;
-    add_number(text, u64::from(number))?;
-    text.extend_from_slice(b" missed ")?;
-    add_number(text, cursor.missed(messages))?;
-    text.extend_from_slice(b" cleared ")?;
-    add_number(text, cursor.len(messages))?;
+    add_count(text, b"clear ", u64::from(number))?;
+    add_count(text, b" missed ", cursor.missed(messages))?;
+    add_count(text, b" cleared ", cursor.len(messages))?;
     cursor.clear(messages);
     cursors[number as usize] = cursor;
     text.extend_from_slice(b"\n")

@@ -4,8 +4,8 @@ ghost use Rattle.serde_json.specs.{Data.Data, Read.read};
 ghost use Rattle.msg_files.specs.Prelude.{IsJsonOf, checks_of, file_of, first_refusal};
 
 use crate::calls::Calls;
+use crate::json::parse;
 use crate::refusal::Refusal;
-use serde_json::{Category, Value};
 use std::alloc::Global;
 
 mod call;
@@ -21,14 +21,6 @@ pub fn read_calls(alloc: Global, bytes: &[u8]) -> Result<Calls, Refusal>
         refusal ≢ Refusal.NotJson → refusal ≢ Refusal.NoMemory
         → (d : Data) × IsJsonOf bytes.now d × (first_refusal (checks_of d) ≡ Some refusal)) }
 {
-    match Value::from_slice(alloc, bytes) {
-        Ok(value) => file::read_file(alloc, &value),
-        Err(error) => {
-            if error.classify() == Category::Memory {
-                Err(Refusal::NoMemory)
-            } else {
-                Err(Refusal::NotJson)
-            }
-        }
-    }
+    let value = parse(alloc, bytes)?;
+    file::read_file(alloc, &value)
 }

@@ -5,7 +5,8 @@ ghost use Rattle.msg_files.specs.Prelude.{IsJsonOf};
 ghost use Rattle.msg_reading.specs.Prelude.{IsReadAs, IsRefusedFor, IsRunnable};
 
 use crate::{Refusal, Scenario};
-use serde_json::{Category, Value};
+use msg_files::json::parse;
+use serde_json::Value;
 use std::alloc::Global;
 
 mod clash;
@@ -35,16 +36,8 @@ pub fn read_scenario(alloc: Global, bytes: &[u8]) -> Result<Scenario, Refusal>
         refusal ≢ Refusal.NotJson → refusal ≢ Refusal.NoMemory
         → (d : Data) × IsJsonOf bytes.now d × IsRefusedFor d refusal) }
 {
-    match Value::from_slice(alloc, bytes) {
-        Ok(value) => read_value(alloc, &value),
-        Err(error) => {
-            if error.classify() == Category::Memory {
-                Err(Refusal::NoMemory)
-            } else {
-                Err(Refusal::NotJson)
-            }
-        }
-    }
+    let value = parse(alloc, bytes)?;
+    read_value(alloc, &value)
 }
 
 /// The scenario that a JSON value denotes.

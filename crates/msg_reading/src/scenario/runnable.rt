@@ -3,7 +3,7 @@ ghost use Rattle.std.specs.Prelude.{◌≡◌, ◌≤◌, ◌↔◌, ℕ, All, I
 ghost use Rattle.msg_world.specs.Prelude.{HasPart, Part};
 ghost use Rattle.msg_order.specs.Prelude.{IsAcyclic, NameSystemsBelow, edges_of};
 ghost use Rattle.msg_system.specs.Prelude.{HasClash, job_needs, needs_any, program_needs};
-ghost use Rattle.msg_reading.specs.Prelude.{FitKind, IsRunnable, IsRunnableSystem, PostsAreToTypes};
+ghost use Rattle.msg_reading.specs.Prelude.{IsRunnable, IsRunnableSystem, PostsAreToTypes};
 
 use crate::limits::{LAST_JOIN, MAX_OPS, MAX_RESOURCES, MAX_SYSTEMS, MAX_TYPES};
 use crate::scenario::read::fits_kind;
@@ -26,8 +26,8 @@ fn fits(system: &SystemSpec, types: u32, resources: u32) -> bool
 
 /// Whether the system can be made, and added to an engine over the scenario's world.
 fn is_runnable_system(scenario: &Scenario, system: &SystemSpec) -> bool
-    requires types { length scenario.now.types ≤ 64 }
-    requires resources { length scenario.now.resources ≤ 64 }
+    requires types { length scenario.now.types ≤ MAX_TYPES }
+    requires resources { length scenario.now.resources ≤ MAX_RESOURCES }
     ensures runnable { IsTrue result ↔ IsRunnableSystem scenario.now system.now }
 {
     let types = scenario.types.as_slice().len() as u32;
@@ -43,8 +43,8 @@ fn is_runnable_system(scenario: &Scenario, system: &SystemSpec) -> bool
 }
 
 fn are_runnable_systems(scenario: &Scenario) -> bool
-    requires types { length scenario.now.types ≤ 64 }
-    requires resources { length scenario.now.resources ≤ 64 }
+    requires types { length scenario.now.types ≤ MAX_TYPES }
+    requires resources { length scenario.now.resources ≤ MAX_RESOURCES }
     ensures runnable { IsTrue result ↔ All (IsRunnableSystem scenario.now) scenario.now.systems }
 {
     for system in scenario.systems.as_slice() {
@@ -90,8 +90,9 @@ fn all_posts_are_to_types(scenario: &Scenario) -> bool
 
 /// Whether it has no more types, resources and systems than an engine may have.
 fn is_small(scenario: &Scenario) -> bool
-    ensures small { IsTrue result ↔ ((length scenario.now.types ≤ 64)
-        × (length scenario.now.resources ≤ 64) × (length scenario.now.systems ≤ 256)) }
+    ensures small { IsTrue result ↔ ((length scenario.now.types ≤ MAX_TYPES)
+        × (length scenario.now.resources ≤ MAX_RESOURCES)
+        × (length scenario.now.systems ≤ MAX_SYSTEMS)) }
 {
     scenario.types.as_slice().len() <= MAX_TYPES
         && scenario.resources.as_slice().len() <= MAX_RESOURCES
@@ -100,7 +101,7 @@ fn is_small(scenario: &Scenario) -> bool
 
 /// Whether the rules of so many systems make no cycle.
 fn are_acyclic(alloc: Global, systems: usize, rules: &[Rule]) -> Result<bool, NoMemory>
-    requires few { systems ≤ 256 }
+    requires few { systems ≤ MAX_SYSTEMS }
     requires in_range { NameSystemsBelow systems rules.now }
     ensures acyclic { IfOk result (λ is. IsTrue is ↔ IsAcyclic (edges_of rules.now)) }
 {

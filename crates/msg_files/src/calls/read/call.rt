@@ -6,27 +6,21 @@ ghost use Rattle.msg_files.specs.Prelude.{Agrees, FitsCursors, IsAnswer, a_value
 
 use crate::call::Call;
 use crate::calls::read::part;
-use crate::limits::{MAX_CURSORS, MAX_VALUES};
-use crate::numbers::{are_numbers, whole_numbers};
+use crate::json::head_and_parts;
+use crate::limits::MAX_CURSORS;
+use crate::numbers::{batch_values, list_of_numbers};
 use crate::refusal::Refusal;
 use msg_system::Items;
 use serde_json::Value;
 use std::alloc::Global;
 
 /// A call, where so many cursors were made before.
+#[tactic(auto, using(crate::proofs::ChecksByKind::headed_checked, crate::proofs::ChecksByKind::headed_denoted))]
 pub fn read_call(alloc: Global, made: u32, value: &Value) -> Result<Call, Refusal>
     ensures is { Agrees (call_checks made (view value.now)) (call_of (view value.now)) result }
     ensures fits { IfOk result (FitsCursors made) }
 {
-    let Some(items) = value.as_array() else {
-        return Err(Refusal::Shape);
-    };
-    let [first, parts @ ..] = items.as_slice() else {
-        return Err(Refusal::Shape);
-    };
-    let Some(head) = first.as_str() else {
-        return Err(Refusal::Shape);
-    };
+    let (head, parts) = head_and_parts(value)?;
     read_parts(alloc, made, head, parts)
 }
 
@@ -69,7 +63,8 @@ fn read_bare(made: u32, head: &str) -> Result<Call, Refusal>
 
 /// Whether one cursor more may be made.
 fn room_for_cursor(made: u32) -> Result<(), Refusal>
-    ensures { MatchResult result (λ _. made < 64) (λ e. (e ≡ Refusal.TooMany) × (64 ≤ made)) }
+    ensures { MatchResult result (λ _. made < MAX_CURSORS)
+        (λ e. (e ≡ Refusal.TooMany) × (MAX_CURSORS ≤ made)) }
 {
     if made < MAX_CURSORS {
         Ok(())
@@ -110,18 +105,7 @@ fn read_with_two(made: u32, head: &str, part: &Value, other: &Value) -> Result<C
 /// The values of a batch.
 #[tactic(auto, using(crate::proofs::WalksOverLists::list_steps))]
 fn read_values(alloc: Global, part: &Value) -> Result<Items<i64>, Refusal>
-    ensures { Agrees (batch_checks (view part.now))
-        (values_of (view part.now)) result }
+    ensures { Agrees (batch_checks (view part.now)) (values_of (view part.now)) result }
 {
-    let Some(items) = part.as_array() else {
-        return Err(Refusal::Shape);
-    };
-    let items = items.as_slice();
-    if !are_numbers(items) {
-        return Err(Refusal::Shape);
-    }
-    if items.len() > MAX_VALUES {
-        return Err(Refusal::TooMany);
-    }
-    Ok(Items::from_vec(whole_numbers(alloc, items)?))
+    batch_values(alloc, list_of_numbers(part)?)
 }

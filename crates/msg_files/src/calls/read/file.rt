@@ -7,7 +7,7 @@ use crate::call::Call;
 use crate::calls::Calls;
 use crate::calls::read::call::read_call;
 use crate::calls::read::part::buffer_limit;
-use crate::json::{Keys, check_keys, needed};
+use crate::json::{Keys, check_keys, list, needed};
 use crate::limits::MAX_CALLS;
 use crate::refusal::Refusal;
 use serde_json::Value;
@@ -44,14 +44,7 @@ fn read_list(alloc: Global, value: &Value) -> Result<Vec<Call>, Refusal>
         × (e ≢ Refusal.NoMemory → first_refusal (call_list_checks (view value.now)) ≡ Some e)) }
     ensures exist { IfOk result (λ v. cursors_exist 1 v.items ≡ true) }
 {
-    let Some(items) = value.as_array() else {
-        return Err(Refusal::Shape);
-    };
-    let items = items.as_slice();
-    if items.len() > MAX_CALLS {
-        return Err(Refusal::TooMany);
-    }
-    read_items(alloc, items)
+    read_items(alloc, list(value, MAX_CALLS)?)
 }
 
 fn read_items(alloc: Global, items: &[Value]) -> Result<Vec<Call>, Refusal>
@@ -66,9 +59,7 @@ fn read_items(alloc: Global, items: &[Value]) -> Result<Vec<Call>, Refusal>
     for item in items {
         let call = read_call(alloc, made, item)?;
         made += cursors_made(&call);
-        if calls.push(call).is_err() {
-            return Err(Refusal::NoMemory);
-        }
+        calls.push(call)?;
     }
     Ok(calls)
 }

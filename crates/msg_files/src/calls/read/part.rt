@@ -1,7 +1,7 @@
 // Reads the numbers in a call.
-ghost use Rattle.std.specs.Prelude.{◌≡◌, ◌<◌, ◌∷◌, [], Some, None, IfOk, MatchResult, option_map, option_and_then};
+ghost use Rattle.std.specs.Prelude.{◌≡◌, ◌<◌, ◌∷◌, [], Some, None, IfOk, MatchResult, option_and_then};
 ghost use Rattle.serde_json.specs.{Find.as_number, Find.as_i64, View.view, View.number_view};
-ghost use Rattle.msg_files.specs.Prelude.{IsAnswer, a_cursor, a_limit, a_message_number, a_number, a_value, natural, natural_of, only_below, whole};
+ghost use Rattle.msg_files.specs.Prelude.{IsAnswer, a_cursor, a_limit, a_message_number, a_number, a_value, both, natural, natural_of, only_below, whole};
 
 use crate::limits::MAX_LIMIT;
 use crate::numbers::{natural_number, number, small_number, whole_number};
@@ -39,8 +39,7 @@ pub fn cursor_and_limit(made: u32, part: &Value, limit: &Value) -> Result<(u32, 
     ensures is { IsAnswer
         (a_number (view part.now) ∷ a_number (view limit.now)
         ∷ a_cursor made (view part.now) ∷ a_limit (view limit.now) ∷ [])
-        (option_and_then (λ c. option_map (λ k. record { 0 = c; 1 = k }) (natural (view limit.now)))
-        (natural (view part.now)))
+        (both (λ c k. record { 0 = c; 1 = k }) (natural (view part.now)) (natural (view limit.now)))
         result }
 {
     let part = number(part)?;

@@ -1,14 +1,15 @@
 // One condition: a probe, and the `not`s round it.
 ghost use Rattle.std.specs.Prelude.{◌≡◌, ◌∷◌, [], map, option_map};
 ghost use Rattle.serde_json.specs.View.{view};
-ghost use Rattle.msg_reading.specs.{ScenarioChecks.condition_checks, ScenarioChecks.probe_checks, ScenarioDenotes.condition_of, ScenarioDenotes.in_not, ScenarioDenotes.in_not_with, ScenarioDenotes.inside_nots, ScenarioDenotes.nots_round, ScenarioDenotes.probe_with};
+ghost use Rattle.msg_reading.specs.{ScenarioChecks.condition_checks, ScenarioChecks.probe_checks, ScenarioDenotes.condition_of, ScenarioDenotes.in_not, ScenarioDenotes.inside_nots, ScenarioDenotes.nots_round, ScenarioDenotes.probe_with};
 ghost use Rattle.msg_files.specs.Prelude.{IsAnswer};
 
 use crate::Refusal;
 use crate::limits::{MAX_NOTS, MOST_NESTED};
 use crate::scenario::read::list::Element;
 use crate::scenario::read::names::Declarations;
-use crate::scenario::read::part::{head_and_parts, text, text_and_number};
+use crate::scenario::read::part::text_and_number;
+use msg_files::json::{head_and_parts, text};
 use msg_files::numbers::whole_number;
 use msg_system::{Condition, Probe};
 use serde_json::Value;
@@ -46,20 +47,8 @@ fn in_not(value: &Value) -> Option<&Value>
     ensures inside { option_map (λ v. view v.now) result ≡ in_not (view value.now) }
 {
     match head_and_parts(value) {
-        Ok((head, parts)) => only_part(head, parts),
-        Err(_) => None,
-    }
-}
-
-/// The one part that follows the head `not`.
-fn only_part<'a>(head: &str, parts: &'a [Value]) -> Option<&'a Value>
-    ensures part { option_map (λ v. view v.now) result
-        ≡ in_not_with head.now (map view parts.now) }
-{
-    if head == "not" && parts.len() == 1 {
-        Some(&parts[0])
-    } else {
-        None
+        Ok(("not", [part])) => Some(part),
+        _ => None,
     }
 }
 

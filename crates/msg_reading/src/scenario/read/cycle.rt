@@ -4,21 +4,21 @@ ghost use Rattle.msg_order.specs.Prelude.{IsAcyclic, IsLowestOnCycle, NameSystem
 ghost use Rattle.msg_files.specs.declared.refusal.Refusal.TheVariants.{Cycle};
 
 use crate::Refusal;
+use crate::limits::MAX_SYSTEMS;
 use msg_order::{Rule, lowest_on_cycle};
 use std::alloc::Global;
 
 /// That the rules of so many systems make no cycle.
 pub fn check_cycles(alloc: Global, systems: usize, rules: &[Rule]) -> Result<(), Refusal>
-    requires few { systems ≤ 256 }
+    requires few { systems ≤ MAX_SYSTEMS }
     requires in_range { NameSystemsBelow systems rules.now }
     ensures acyclic { OnOk result (IsAcyclic (edges_of rules.now)) }
     ensures refused { IfErr result (λ e. (e ≢ Refusal.NotJson)
         × (e ≢ Refusal.NoMemory
         → (s : ℕ) × (e ≡ Cycle s) × IsLowestOnCycle (edges_of rules.now) s)) }
 {
-    match lowest_on_cycle(alloc, systems, rules) {
-        Ok(None) => Ok(()),
-        Ok(Some(s)) => Err(Refusal::Cycle(s)),
-        Err(_) => Err(Refusal::NoMemory),
+    match lowest_on_cycle(alloc, systems, rules)? {
+        None => Ok(()),
+        Some(s) => Err(Refusal::Cycle(s)),
     }
 }

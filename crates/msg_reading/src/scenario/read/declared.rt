@@ -1,8 +1,8 @@
 // One type or one resource: a name and a number.
 ghost use Rattle.std.specs.Prelude.{◌≡◌, ◌∷◌, ◌++◌, ◌&&◌, [], OnOk, option_map};
 ghost use Rattle.serde_json.specs.View.{view};
-ghost use Rattle.msg_files.specs.Prelude.{Agrees, a_limit, a_value, is_number, natural, needs, whole};
-ghost use Rattle.msg_reading.specs.{ScenarioChecks.is_text, ScenarioChecks.new_name, ScenarioChecks.resource_checks, ScenarioChecks.type_checks, ScenarioDenotes.resource_of, ScenarioDenotes.text, ScenarioDenotes.type_of, ScenarioDenotes.declaring_resource, ScenarioDenotes.declaring_type};
+ghost use Rattle.msg_files.specs.Prelude.{Agrees, a_limit, a_value, is_number, is_text, natural, needs, text, whole};
+ghost use Rattle.msg_reading.specs.{ScenarioChecks.new_name, ScenarioChecks.resource_checks, ScenarioChecks.type_checks, ScenarioDenotes.resource_of, ScenarioDenotes.type_of, ScenarioDenotes.declaring_resource, ScenarioDenotes.declaring_type};
 ghost use Rattle.msg_files.specs.declared.refusal.Refusal.TheVariants.{Shape};
 
 use crate::scenario::read::named::Declaration;

@@ -6,6 +6,7 @@ ghost use Rattle.msg_reading.specs.{Names.Declared, ScenarioChecks.list_checks, 
 
 use crate::Refusal;
 use crate::scenario::read::names::Declarations;
+use msg_files::json;
 use msg_frames::Items;
 use serde_json::Value;
 use std::alloc::Global;
@@ -54,15 +55,8 @@ pub fn read_list<T: Element>(
     ensures agrees { Agrees (list_checks most (T.checks names.now) (view list.now))
         (each_of (T.denotes names.now) (view list.now)) result }
 {
-    let Some(items) = list.as_array() else {
-        return Err(Refusal::Shape);
-    };
-    let items = items.as_slice();
-    if items.len() > most {
-        return Err(Refusal::TooMany);
-    }
-    let read = read_items(alloc, names, items)?;
-    Ok(Items::from_vec(read))
+    let items = json::list(list, most)?;
+    Ok(Items::from_vec(read_items(alloc, names, items)?))
 }
 
 fn read_items<T: Element>(
@@ -79,9 +73,7 @@ fn read_items<T: Element>(
 {
     let mut read = Vec::new(alloc);
     for item in items {
-        if read.push(T::read(alloc, names, item)?).is_err() {
-            return Err(Refusal::NoMemory);
-        }
+        read.push(T::read(alloc, names, item)?)?;
     }
     Ok(read)
 }

@@ -6,6 +6,7 @@ ghost use Rattle.msg_reading.specs.{Names.Declared, ScenarioChecks.checks_in_tur
 
 use crate::Refusal;
 use crate::scenario::read::names::Declarations;
+use msg_files::json;
 use msg_frames::Items;
 use serde_json::Value;
 use std::alloc::Global;
@@ -40,15 +41,8 @@ pub fn read_names<T: Declaration>(
     ensures declares { OnOk result
         (names.new ≡ with_all T.with_one names.old (elements (view list.now))) }
 {
-    let Some(items) = list.as_array() else {
-        return Err(Refusal::Shape);
-    };
-    let items = items.as_slice();
-    if items.len() > most {
-        return Err(Refusal::TooMany);
-    }
-    let read = read_named_items(alloc, names, items)?;
-    Ok(Items::from_vec(read))
+    let items = json::list(list, most)?;
+    Ok(Items::from_vec(read_named_items(alloc, names, items)?))
 }
 
 fn read_named_items<T: Declaration>(
@@ -69,9 +63,7 @@ fn read_named_items<T: Declaration>(
     let mut read = Vec::new(alloc);
     for item in items {
         let element = T::read(alloc, names, item)?;
-        if read.push(element).is_err() {
-            return Err(Refusal::NoMemory);
-        }
+        read.push(element)?;
     }
     Ok(read)
 }

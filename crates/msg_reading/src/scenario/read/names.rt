@@ -1,7 +1,7 @@
 // The names that a file declares.
-ghost use Rattle.std.specs.Prelude.{◌≡◌, ◌∷◌, ◌++◌, [], Some, None, IsOk, OnOk, MatchResult};
+ghost use Rattle.std.specs.Prelude.{◌≡◌, ◌≤◌, ◌∷◌, ◌++◌, [], Some, None, OnOk, MatchResult, option_and_then};
 ghost use Rattle.msg_reading.specs.Prelude.{new_name, no_names, position_of, resource_number, system_number, type_number};
-ghost use Rattle.msg_files.specs.Prelude.{Agrees};
+ghost use Rattle.msg_files.specs.Prelude.{Agrees, only_below};
 
 use crate::limits::{MAX_RESOURCES, MAX_SYSTEMS, MAX_TYPES};
 use crate::name::is_name;
@@ -42,6 +42,18 @@ impl NameSpace {
         self.names.get_index_of(name)
     }
 
+    /// The place of a name, where that is below an end.
+    fn place_below(&self, name: &str, end: usize) -> Option<u32>
+        requires few { end ≤ MAX_SYSTEMS }
+        ensures place { result
+            ≡ option_and_then (only_below end) (position_of self.now name.now) }
+    {
+        match self.place(name) {
+            Some(place) if place < end => Some(place as u32),
+            _ => None,
+        }
+    }
+
     /// A new name, which goes last.
     fn declare(&mut self, alloc: Global, name: &str) -> Result<Name, Refusal>
         ensures agrees { Agrees (new_name self.old name.now) (Some name.now) result }
@@ -53,12 +65,9 @@ impl NameSpace {
         if self.place(name).is_some() {
             return Err(Refusal::TwiceNamed);
         }
-        let (Ok(key), Ok(text)) = (name.to_string(alloc), name.to_string(alloc)) else {
-            return Err(Refusal::NoMemory);
-        };
-        if self.names.insert(key).is_err() {
-            return Err(Refusal::NoMemory);
-        }
+        let key = name.to_string(alloc)?;
+        let text = name.to_string(alloc)?;
+        self.names.insert(key)?;
         Ok(Name::from_text(text))
     }
 }
@@ -97,13 +106,8 @@ impl Declarations {
         ensures found { MatchResult result (λ t. type_number self.now name.now ≡ Some t)
             (λ e. (e ≡ Refusal.UnknownName) × (type_number self.now name.now ≡ None)) }
     {
-        let Some(place) = self.types.place(name) else {
-            return Err(Refusal::UnknownName);
-        };
-        if place >= MAX_TYPES {
-            return Err(Refusal::UnknownName);
-        }
-        TypeNo::new(place as u32).ok_or(Refusal::UnknownName)
+        let place = self.types.place_below(name, MAX_TYPES);
+        place.and_then(TypeNo::new).ok_or(Refusal::UnknownName)
     }
 
     /// The resource of this name.
@@ -111,13 +115,8 @@ impl Declarations {
         ensures found { MatchResult result (λ r. resource_number self.now name.now ≡ Some r)
             (λ e. (e ≡ Refusal.UnknownName) × (resource_number self.now name.now ≡ None)) }
     {
-        let Some(place) = self.resources.place(name) else {
-            return Err(Refusal::UnknownName);
-        };
-        if place >= MAX_RESOURCES {
-            return Err(Refusal::UnknownName);
-        }
-        ResNo::new(place as u32).ok_or(Refusal::UnknownName)
+        let place = self.resources.place_below(name, MAX_RESOURCES);
+        place.and_then(ResNo::new).ok_or(Refusal::UnknownName)
     }
 
     /// The number of the system of this name.
@@ -125,10 +124,8 @@ impl Declarations {
         ensures found { MatchResult result (λ s. system_number self.now name.now ≡ Some s)
             (λ e. (e ≡ Refusal.UnknownName) × (system_number self.now name.now ≡ None)) }
     {
-        match self.systems.place(name) {
-            Some(place) if place < MAX_SYSTEMS => Ok(place as u32),
-            _ => Err(Refusal::UnknownName),
-        }
+        let place = self.systems.place_below(name, MAX_SYSTEMS);
+        place.ok_or(Refusal::UnknownName)
     }
 
     /// Names the next type; `BadName` or `TwiceNamed` where it can't have this name.

@@ -1,21 +1,20 @@
 // One op, by its head and the number of parts that follow it.
-ghost use Rattle.std.specs.Prelude.{◌≡◌, ◌∷◌, ◌&&◌, Some, MatchResult, length, map, nat_le, true, false};
-ghost use Rattle.serde_json.specs.{Find.as_array, Find.as_str, View.items_view, View.view};
+ghost use Rattle.std.specs.Prelude.{◌≡◌, ◌∷◌, ◌&&◌, Some, MatchResult, map, true, false};
+ghost use Rattle.serde_json.specs.{Find.as_str, View.view};
 ghost use Rattle.msg_system.specs.declared.op.Op.TheVariants.{Batch};
-ghost use Rattle.msg_files.specs.Prelude.{Agrees, IsAnswer, a_value, all_some, elements, few_values, needs, values_of, whole};
-ghost use Rattle.msg_reading.specs.{Names.type_number, ScenarioChecks.a_type, ScenarioChecks.bare_op_checks, ScenarioChecks.is_list_of_numbers, ScenarioChecks.is_text, ScenarioChecks.op_checks, ScenarioChecks.op_checks_with, ScenarioChecks.op_checks_with_one, ScenarioChecks.op_checks_with_two, ScenarioDenotes.bare_op, ScenarioDenotes.both, ScenarioDenotes.op_of, ScenarioDenotes.op_with, ScenarioDenotes.op_with_one, ScenarioDenotes.op_with_two, ScenarioDenotes.text};
-ghost use Rattle.msg_files.specs.declared.refusal.Refusal.TheVariants.{Shape, TooMany};
+ghost use Rattle.msg_files.specs.Prelude.{Agrees, IsAnswer, a_value, both, elements, few_values, is_list_of_numbers, is_text, needs, text, values_of};
+ghost use Rattle.msg_reading.specs.{Names.type_number, ScenarioChecks.a_type, ScenarioChecks.bare_op_checks, ScenarioChecks.op_checks, ScenarioChecks.op_checks_with, ScenarioChecks.op_checks_with_one, ScenarioChecks.op_checks_with_two, ScenarioDenotes.bare_op, ScenarioDenotes.op_of, ScenarioDenotes.op_with, ScenarioDenotes.op_with_one, ScenarioDenotes.op_with_two};
+ghost use Rattle.msg_files.specs.declared.refusal.Refusal.TheVariants.{Shape};
 
 use crate::Refusal;
 use crate::scenario::read::list::Element;
 use crate::scenario::read::names::Declarations;
 use crate::scenario::read::part::{
-    head_and_parts, resource_and_value, text, two_types, type_and_limit, type_and_resource,
-    type_and_value,
+    resource_and_value, two_types, type_and_limit, type_and_resource, type_and_value,
 };
-use msg_files::MAX_VALUES;
-use msg_files::numbers::{are_numbers, whole_numbers};
-use msg_system::{Items, Op};
+use msg_files::json::{head_and_parts, text};
+use msg_files::numbers::{batch_values, list_of_numbers};
+use msg_system::Op;
 use serde_json::Value;
 use std::alloc::Global;
 
@@ -24,7 +23,7 @@ impl Element for Op {
 
     ghost denotes = { op_of };
 
-    #[tactic(auto, using(crate::proofs::ListsByParts::headed_checked, crate::proofs::ListsByParts::headed_denoted))]
+    #[tactic(auto, using(msg_files::proofs::ChecksByKind::headed_checked, msg_files::proofs::ChecksByKind::headed_denoted))]
     fn read(alloc: Global, names: &Declarations, value: &Value) -> Result<Op, Refusal> {
         let (head, parts) = head_and_parts(value)?;
         read_parts(alloc, names, head, parts)
@@ -131,10 +130,9 @@ fn read_batch(
 {
     let (name, items) = text_and_numbers(part, other)?;
     let of_type = names.type_no(name)?;
-    Ok(Op::Batch(of_type, read_values(alloc, items)?))
+    Ok(Op::Batch(of_type, batch_values(alloc, items)?))
 }
 
-#[tactic(auto, using(msg_files::proofs::WalksOverLists::list_steps))]
 fn text_and_numbers<'a>(
     part: &'a Value,
     other: &'a Value,
@@ -142,29 +140,9 @@ fn text_and_numbers<'a>(
     ensures are { MatchResult result
         (λ p. (as_str (view part.now) ≡ Some p.0.now)
         × (is_list_of_numbers (view other.now) ≡ true)
-        × (as_array (view other.now) ≡ Some (items_view p.1.now)))
+        × (elements (view other.now) ≡ map view p.1.now))
         (λ e. (e ≡ Refusal.Shape)
         × ((is_text (view part.now) && is_list_of_numbers (view other.now)) ≡ false)) }
 {
-    let (Some(name), Some(items)) = (part.as_str(), other.as_array()) else {
-        return Err(Refusal::Shape);
-    };
-    let items = items.as_slice();
-    if !are_numbers(items) {
-        return Err(Refusal::Shape);
-    }
-    Ok((name, items))
-}
-
-/// The values of a batch.
-#[tactic(auto, using(msg_files::proofs::WalksOverLists::list_steps))]
-fn read_values(alloc: Global, items: &[Value]) -> Result<Items<i64>, Refusal>
-    ensures agrees { Agrees
-        (needs (nat_le (length items.now) 1024) TooMany ∷ map a_value (map view items.now))
-        (all_some (map whole (map view items.now))) result }
-{
-    if items.len() > MAX_VALUES {
-        return Err(Refusal::TooMany);
-    }
-    Ok(Items::from_vec(whole_numbers(alloc, items)?))
+    Ok((text(part)?, list_of_numbers(other)?))
 }

@@ -1,8 +1,8 @@
 // The parts of a list.
-ghost use Rattle.std.specs.Prelude.{◌≡◌, ◌∷◌, ◌&&◌, [], List, Some, None, false, IfErr, IfOk, MatchResult, map};
+ghost use Rattle.std.specs.Prelude.{◌≡◌, ◌∷◌, ◌&&◌, [], List, Some, false, IfErr, IfOk, MatchResult};
 ghost use Rattle.serde_json.specs.{Data.Data, Find.as_number, Find.as_str, View.view, View.number_view};
-ghost use Rattle.msg_files.specs.Prelude.{Check, IsAnswer, Text, a_limit, a_value, elements, first_refusal, is_number, natural, needs, whole};
-ghost use Rattle.msg_reading.specs.Prelude.{a_resource, a_type, both, for_headed, for_two, in_not, is_text, resource_number, text, type_number, wrong_shape};
+ghost use Rattle.msg_files.specs.Prelude.{Check, IsAnswer, a_limit, a_value, both, elements, is_number, is_text, natural, needs, text, whole, wrong_shape};
+ghost use Rattle.msg_reading.specs.Prelude.{a_resource, a_type, for_two, resource_number, type_number};
 ghost use Rattle.msg_files.specs.declared.refusal.Refusal.TheVariants.{Shape};
 
 use crate::Refusal;
@@ -28,38 +28,6 @@ pub fn two(value: &Value) -> Result<(&Value, &Value), Refusal>
         return Err(Refusal::Shape);
     }
     Ok((&items[0], &items[1]))
-}
-
-/// The text that a list begins with, and what follows it.
-pub fn head_and_parts(value: &Value) -> Result<(&str, &[Value]), Refusal>
-    ensures headed { IfOk result (λ p. (head : Data) × (as_str head ≡ Some p.0.now)
-        × (elements (view value.now) ≡ head ∷ map view p.1.now)) }
-    ensures other { IfErr result (λ e. (e ≡ Refusal.Shape)
-        × ((f : Text → List Data → List Check)
-        → first_refusal (for_headed f (elements (view value.now))) ≡ Some Refusal.Shape)) }
-    ensures no_not { IfErr result (λ e. in_not (view value.now) ≡ None) }
-{
-    let Some(items) = value.as_array() else {
-        return Err(Refusal::Shape);
-    };
-    let [first, parts @ ..] = items.as_slice() else {
-        return Err(Refusal::Shape);
-    };
-    match first.as_str() {
-        Some(head) => Ok((head, parts)),
-        None => Err(Refusal::Shape),
-    }
-}
-
-/// The text that a part is; `Shape` where it is something else.
-pub fn text(part: &Value) -> Result<&str, Refusal>
-    ensures is { MatchResult result (λ t. as_str (view part.now) ≡ Some t.now)
-        (λ e. (e ≡ Refusal.Shape) × (as_str (view part.now) ≡ None)) }
-{
-    match part.as_str() {
-        Some(text) => Ok(text),
-        None => Err(Refusal::Shape),
-    }
 }
 
 /// The texts that two parts are; `Shape` where one is something else.

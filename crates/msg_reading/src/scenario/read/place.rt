@@ -41,15 +41,9 @@ fn read_join(system: &Value) -> Result<u32, Refusal>
     ensures agrees { IsAnswer (join_checks (join_in (view system.now)))
         (natural (join_in (view system.now))) result }
 {
-    match system.get("join") {
-        Some(join) => join_of(join),
-        None => Ok(1),
-    }
-}
-
-fn join_of(join: &Value) -> Result<u32, Refusal>
-    ensures agrees { IsAnswer (join_checks (view join.now)) (natural (view join.now)) result }
-{
+    let Some(join) = system.get("join") else {
+        return Ok(1);
+    };
     let join = small_number(number(join)?, LAST_JOIN + 1)?;
     if join == 0 {
         return Err(Refusal::BadNumber);
@@ -62,16 +56,9 @@ pub fn read_start(system: &Value) -> Result<Start, Refusal>
     ensures is { MatchResult result (λ s. start_of (start_in (view system.now)) ≡ Some s)
         (λ e. (e ≡ Refusal.Shape) × (start_of (start_in (view system.now)) ≡ None)) }
 {
-    match system.get("start") {
-        Some(start) => start_named(start),
-        None => Ok(Start::Zero),
-    }
-}
-
-fn start_named(start: &Value) -> Result<Start, Refusal>
-    ensures is { MatchResult result (λ s. start_of (view start.now) ≡ Some s)
-        (λ e. (e ≡ Refusal.Shape) × (start_of (view start.now) ≡ None)) }
-{
+    let Some(start) = system.get("start") else {
+        return Ok(Start::Zero);
+    };
     match start.as_str() {
         Some("zero") => Ok(Start::Zero),
         Some("current") => Ok(Start::Current),

@@ -1,8 +1,8 @@
 // One rule: two systems, of which the first runs before the second.
 ghost use Rattle.std.specs.Prelude.{◌∷◌, ◌&&◌, []};
 ghost use Rattle.serde_json.specs.View.{view};
-ghost use Rattle.msg_files.specs.Prelude.{IsAnswer, needs};
-ghost use Rattle.msg_reading.specs.{Names.system_number, ScenarioChecks.a_system, ScenarioChecks.is_text, ScenarioChecks.rule_checks, ScenarioDenotes.both, ScenarioDenotes.rule_of, ScenarioDenotes.text};
+ghost use Rattle.msg_files.specs.Prelude.{IsAnswer, both, is_text, needs, text};
+ghost use Rattle.msg_reading.specs.{Names.system_number, ScenarioChecks.a_system, ScenarioChecks.rule_checks, ScenarioDenotes.rule_of};
 ghost use Rattle.msg_files.specs.declared.refusal.Refusal.TheVariants.{Shape};
 
 use crate::Refusal;

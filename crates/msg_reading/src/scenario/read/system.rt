@@ -2,18 +2,17 @@
 ghost use Rattle.std.specs.Prelude.{◌≡◌, ◌≢◌, ◌∷◌, ◌++◌, [], None, Some, IfOk, IfErr, MatchResult, OnOk, codes, false};
 ghost use Rattle.std.specs.Option.{option_map_or};
 ghost use Rattle.serde_json.specs.View.{view};
-ghost use Rattle.msg_files.specs.Prelude.{Agrees, first_refusal, needs, value_at};
-ghost use Rattle.msg_reading.specs.{ScenarioChecks.fits_kind, ScenarioChecks.is_system_key, ScenarioChecks.list_checks, ScenarioChecks.name_checks, ScenarioChecks.op_checks, ScenarioChecks.program_checks, ScenarioChecks.system_checks, ScenarioChecks.system_object, ScenarioDenotes.each_of, ScenarioDenotes.kind_in, ScenarioDenotes.kind_of, ScenarioDenotes.op_of, ScenarioDenotes.ops_of, ScenarioDenotes.place_in, ScenarioDenotes.start_in, ScenarioDenotes.start_of, ScenarioDenotes.system_of, ScenarioDenotes.text, ScenarioDenotes.with_system};
+ghost use Rattle.msg_files.specs.Prelude.{Agrees, first_refusal, needs, text, value_at};
+ghost use Rattle.msg_reading.specs.{ScenarioChecks.fits_kind, ScenarioChecks.is_system_key, ScenarioChecks.list_checks, ScenarioChecks.name_checks, ScenarioChecks.op_checks, ScenarioChecks.program_checks, ScenarioChecks.system_checks, ScenarioChecks.system_object, ScenarioDenotes.each_of, ScenarioDenotes.kind_in, ScenarioDenotes.kind_of, ScenarioDenotes.op_of, ScenarioDenotes.ops_of, ScenarioDenotes.place_in, ScenarioDenotes.start_in, ScenarioDenotes.start_of, ScenarioDenotes.system_of, ScenarioDenotes.with_system};
 ghost use Rattle.msg_files.specs.declared.refusal.Refusal.TheVariants.{Shape};
 
 use crate::limits::MAX_OPS;
 use crate::scenario::read::list::read_list;
 use crate::scenario::read::named::Declaration;
 use crate::scenario::read::names::Declarations;
-use crate::scenario::read::part::text;
 use crate::scenario::read::place::{read_place, read_start};
 use crate::{Kind, Name, Refusal, SystemSpec};
-use msg_files::json::{self, Keys, check_keys};
+use msg_files::json::{self, Keys, check_keys, text};
 use msg_frames::Place;
 use msg_system::{Items, Op, Program};
 use serde_json::Value;
@@ -106,16 +105,9 @@ fn read_kind(system: &Value) -> Result<Kind, Refusal>
     ensures is { MatchResult result (λ k. kind_of (kind_in (view system.now)) ≡ Some k)
         (λ e. (e ≡ Refusal.Shape) × (kind_of (kind_in (view system.now)) ≡ None)) }
 {
-    match system.get("kind") {
-        Some(kind) => kind_named(kind),
-        None => Ok(Kind::Script),
-    }
-}
-
-fn kind_named(kind: &Value) -> Result<Kind, Refusal>
-    ensures is { MatchResult result (λ k. kind_of (view kind.now) ≡ Some k)
-        (λ e. (e ≡ Refusal.Shape) × (kind_of (view kind.now) ≡ None)) }
-{
+    let Some(kind) = system.get("kind") else {
+        return Ok(Kind::Script);
+    };
     match kind.as_str() {
         Some("script") => Ok(Kind::Script),
         Some("relay") => Ok(Kind::Relay),

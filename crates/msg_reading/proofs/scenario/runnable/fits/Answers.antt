@@ -1,5 +1,7 @@
+use Rattle.std.proofs.Common.{arith, sym, ◌∙◌}
+use Rattle.msg_world.specs.Prelude.{OfType, OfResource}
 use Rattle.msg_system.specs.Prelude.{program_needs}
-use Rattle.msg_reading.proofs.TestsOfScenarios.{fits_there, is_there}
+use Rattle.msg_system.proofs.Accesses.{uses_needs}
 use Rattle.msg_reading.proofs.scenario.runnable.fits.Goals as goal
 
 pub returns : goal.returns
@@ -9,7 +11,10 @@ returns c =
     rw c.as_slice-conditions.ensures.items at (c.job_access.ensures.needs needs c.access.ensures.needs) in
     record {
       fit = (
-        λ is. is_there _ c.job_access.result c.args.types c.args.resources of (c.fits.ensures.fit.0 is),
-        λ all. c.fits.ensures.fit.1 (fits_there _ c.job_access.result c.args.types c.args.resources of all),
+        λ is p needed. grind (arith, c.fits.ensures.fit.0 is, uses_needs _ c.job_access.result of p),
+        λ all. c.fits.ensures.fit.1 (record {
+          types_below = λ t used. all (OfType t) (sym (uses_needs _ _ of (OfType t)) ∙ used);
+          resources_below = λ r used. all (OfResource r) (sym (uses_needs _ _ of (OfResource r)) ∙ used);
+        }),
       );
     }

@@ -1,14 +1,14 @@
 use Rattle.std.proofs.Common.{◌∙◌, ap, sym, refl, ◌+◌}
+use Rattle.msg_system.specs.Prelude.{HasClash, program_needs}
 use Rattle.std.proofs.lemmas.{Bool.false≢true, List.take_all, List.Elements.All-more, Option.slice_get_read}
 use Rattle.msg_files.specs.declared.refusal.Refusal.TheVariants.{Clash}
-use Rattle.msg_reading.specs.Prelude.{IsClashing}
 use Rattle.msg_reading.proofs.scenario.read.clash.check_clashes.Goals as goal
 
 pub loop-system-preserved : goal.loop-system-preserved
 loop-system-preserved c = record {
   number = ap (λ n. n + 1) c.loop-system.invariant.number;
-  none = All-more (λ y. ¬ IsClashing y) c.args.systems.now c.loop-system.system-index c.system-item.result
-      c.loop-system-test.true c.loop-system.invariant.none (rw (← c.system-item.is) (λ has.
+  none = All-more (λ x. ¬ HasClash (program_needs x.program.ops)) c.args.systems.now c.loop-system.system-index
+      c.system-item.result c.loop-system-test.true c.loop-system.invariant.none (rw (← c.system-item.is) (λ has.
       false≢true (sym c.if-is_clash.false ∙ c.is_clash.ensures.clash.1 (c.access.ensures.clash.1 has))));
 }
 

@@ -8,11 +8,11 @@ use Rattle.msg_reading.proofs.scenario.read.names.NameSpace.declare.Goals as goa
 pub returns-clause-declares : goal.returns-clause-declares
 returns-clause-declares c =
     let old = c.self.inside.names.keys in
-    let key = c.in-Ok-Ok.key in
+    let key = c.in_ok-key.key in
     let name = c.args.name.now in
     let inserted : c.insert.new.self.keys ≡ insert_key (λ a b. bytes_eq (string_bytes a) (string_bytes b)) old key =
-    grind (arith, c.insert.ensures.keys, c.if-is_err.ensures.value) in
+    grind (arith, c.in_ok-insert.ensures.keys) in
     let absent : position_of (map string_bytes old) name ≡ None =
     grind (arith, c.self.view_is, c.place.ensures.place, c.if-is_some.ensures) in
-    ap (map string_bytes) inserted ∙ insert-new old key name c.in-Ok-Ok.ensures.ok absent
+    ap (map string_bytes) inserted ∙ insert-new old key name c.in_ok-key.ensures.ok absent
     ∙ ap (λ s. s ++ name ∷ []) c.self.view_is
