@@ -7,14 +7,14 @@ use Rattle.clap.specs.declared.error.ErrorKind.TheVariants as kind
 use Rattle.msg_command.specs.declared.words.WordFault.TheVariants as word
 
 -- an error of one of these kinds, or of want of memory, is told as such
-pub told_of : (k : ErrorKind) (kinds : Kinds) (fault : WordFault) → (k ≡ kind.OutOfMemory → fault ≡ word.NoMemory)
+pub found_as : (k : ErrorKind) (kinds : Kinds) (fault : WordFault) → (k ≡ kind.OutOfMemory → fault ≡ word.NoMemory)
     → (IsHelp fault → k ≡ kind.DisplayHelp) → (fault ≡ word.Bad → k ≢ kind.DisplayHelp)
     → (k ≡ kind.OutOfMemory) ⊎ IsAmong k kinds → IsToldOf kinds fault
-told_of k kinds word.NoMemory memory help bad found = tt
-told_of k kinds (word.Help text) memory help bad (inl none) = let no = memory none in cc
-told_of k kinds (word.Help text) memory help bad (inr among) = subst (λ x. IsAmong x kinds) (help tt) among
-told_of k kinds word.Bad memory help bad (inl none) = let no = memory none in cc
-told_of k kinds word.Bad memory help bad (inr among) = inr (k, among, bad refl)
+found_as k kinds word.NoMemory memory help bad found = tt
+found_as k kinds (word.Help text) memory help bad (inl none) = let no = memory none in cc
+found_as k kinds (word.Help text) memory help bad (inr among) = subst (λ x. IsAmong x kinds) (help tt) among
+found_as k kinds word.Bad memory help bad (inl none) = let no = memory none in cc
+found_as k kinds word.Bad memory help bad (inr among) = inr (k, among, bad refl)
 
 -- of this command clap says which errors may come
 plain : is_simple_and_free msgrun_app ≡ true

@@ -3,7 +3,7 @@ use Rattle.std.proofs.Common.{◌≡◌, ℕ, ◌<◌, ◌≤◌, [], ◌∷◌,
 use Rattle.std.specs.{Char.digit_value, List.list_all, Str.Parse.AllDigits, Str.Parse.IsNumeral, Str.Parse.digits_value, Str.Parse.without_leading_plus}
 use Rattle.std.proofs.lemmas.Bool.Decides.{nat_tests}
 use Rattle.clap.specs.Words.{Text}
-use Rattle.msg_command.specs.Prelude.{is_numeral, workers_in}
+use Rattle.msg_command.specs.Prelude.{workers_in}
 
 -- each digit passes the test
 digits_pass : (ds : Text) → AllDigits 10 ds → list_all (λ c. nat_lt (digit_value c) 10) ds ≡ true
@@ -15,19 +15,13 @@ passing_digits : (ds : Text) → list_all (λ c. nat_lt (digit_value c) 10) ds �
 passing_digits [] h = tt
 passing_digits (c ∷ cs) h = grind (arith, nat_tests, passing_digits cs)
 
-numeral_passes : (ds : Text) → IsNumeral 10 ds → is_numeral ds ≡ true
-numeral_passes ds numeral = grind (arith, nat_tests, digits_pass ds)
-
-passing_numeral : (ds : Text) → is_numeral ds ≡ true → IsNumeral 10 ds
-passing_numeral ds h = grind (arith, nat_tests, passing_digits ds)
-
 -- a numeral from 1 to 64 is a number of workers
 pub is_named : (text : Text) (n : ℕ) → IsNumeral 10 (without_leading_plus text)
     → n ≡ digits_value 10 (without_leading_plus text) → 1 ≤ n → n ≤ 64 → Some n ≡ workers_in text
-is_named text n numeral is low high = grind (arith, nat_tests, numeral_passes (without_leading_plus text))
+is_named text n numeral is low high = grind (arith, nat_tests, digits_pass (without_leading_plus text))
 
 -- what isn't a numeral of a number below 2 ^ 32 is none
 pub is_no_number : (text : Text) → (IsNumeral 10 (without_leading_plus text)
     × (digits_value 10 (without_leading_plus text) < 2 ^ 32) → ⊥)
     → None ≡ workers_in text
-is_no_number text none = grind (arith, nat_tests, none, passing_numeral (without_leading_plus text))
+is_no_number text none = grind (arith, nat_tests, none, passing_digits (without_leading_plus text))

@@ -12,16 +12,16 @@ pub use print::print_fault;
 #[derive(Debug, Drop, Error)]
 pub enum MainFault {
     #[error("{0}")]
-    Words(WordFault),
+    Words(#[from] WordFault),
     #[error("{0}")]
-    Input(InputFault),
+    Input(#[from] InputFault),
     #[error("refused {0}")]
-    Refused(Refusal),
+    Refused(#[from] Refusal),
     /// No engine was made of a scenario, for want of memory.
     #[error("want of memory")]
     Built,
     #[error("{0}")]
-    Report(ReportFault),
+    Report(#[from] ReportFault),
 }
 
 impl From<NoMemory> for MainFault {

@@ -1,6 +1,6 @@
 ghost use Rattle.std.specs.Prelude.{◌≡◌};
 ghost use Rattle.msg_files.specs.Prelude.{TakesUnlessFailed};
-ghost use Rattle.msg_command.specs.Prelude.{line_of, words_line, input_line, refusal_line, run_line, report_line, status_of};
+ghost use Rattle.msg_command.specs.Prelude.{line_of, status_of};
 
 use crate::fault::MainFault;
 use crate::{InputFault, WordFault};
@@ -20,69 +20,33 @@ fn line_of(fault: &MainFault) -> &'static [u8]
     ensures { result.now ≡ line_of fault.now }
 {
     match fault {
-        MainFault::Words(fault) => words_line(fault),
-        MainFault::Input(fault) => input_line(*fault),
-        MainFault::Refused(refusal) => refusal_line(*refusal),
+        MainFault::Words(WordFault::Bad) => b"msgrun: bad command line\n",
+        MainFault::Words(WordFault::Help(_)) => b"",
+        MainFault::Words(WordFault::NoMemory) => b"msgrun: want of memory\n",
+        MainFault::Input(InputFault::Failed) => b"msgrun: cannot read input\n",
+        MainFault::Input(InputFault::TooLarge) => b"msgrun: input too large\n",
+        MainFault::Input(InputFault::NoMemory) => b"msgrun: want of memory\n",
+        MainFault::Refused(Refusal::NotJson) => b"msgrun: refused 1 NotJson\n",
+        MainFault::Refused(Refusal::Shape) => b"msgrun: refused 2 Shape\n",
+        MainFault::Refused(Refusal::UnknownKey) => b"msgrun: refused 3 UnknownKey\n",
+        MainFault::Refused(Refusal::BadName) => b"msgrun: refused 4 BadName\n",
+        MainFault::Refused(Refusal::TwiceNamed) => b"msgrun: refused 5 TwiceNamed\n",
+        MainFault::Refused(Refusal::BadNumber) => b"msgrun: refused 6 BadNumber\n",
+        MainFault::Refused(Refusal::TooMany) => b"msgrun: refused 7 TooMany\n",
+        MainFault::Refused(Refusal::UnknownName) => b"msgrun: refused 8 UnknownName\n",
+        MainFault::Refused(Refusal::Clash(_)) => b"msgrun: refused 9 Clash\n",
+        MainFault::Refused(Refusal::Cycle(_)) => b"msgrun: refused 10 Cycle\n",
+        MainFault::Refused(Refusal::NoMemory) => b"msgrun: want of memory\n",
         MainFault::Built => b"msgrun: want of memory\n",
-        MainFault::Report(fault) => report_line(*fault),
-    }
-}
-
-fn words_line(fault: &WordFault) -> &'static [u8]
-    ensures { result.now ≡ words_line fault.now }
-{
-    match fault {
-        WordFault::Bad => b"msgrun: bad command line\n",
-        WordFault::Help(_) => b"",
-        WordFault::NoMemory => b"msgrun: want of memory\n",
-    }
-}
-
-fn input_line(fault: InputFault) -> &'static [u8]
-    ensures { result.now ≡ input_line fault }
-{
-    match fault {
-        InputFault::Failed => b"msgrun: cannot read input\n",
-        InputFault::TooLarge => b"msgrun: input too large\n",
-        InputFault::NoMemory => b"msgrun: want of memory\n",
-    }
-}
-
-fn refusal_line(refusal: Refusal) -> &'static [u8]
-    ensures { result.now ≡ refusal_line refusal }
-{
-    match refusal {
-        Refusal::NotJson => b"msgrun: refused 1 NotJson\n",
-        Refusal::Shape => b"msgrun: refused 2 Shape\n",
-        Refusal::UnknownKey => b"msgrun: refused 3 UnknownKey\n",
-        Refusal::BadName => b"msgrun: refused 4 BadName\n",
-        Refusal::TwiceNamed => b"msgrun: refused 5 TwiceNamed\n",
-        Refusal::BadNumber => b"msgrun: refused 6 BadNumber\n",
-        Refusal::TooMany => b"msgrun: refused 7 TooMany\n",
-        Refusal::UnknownName => b"msgrun: refused 8 UnknownName\n",
-        Refusal::Clash(_) => b"msgrun: refused 9 Clash\n",
-        Refusal::Cycle(_) => b"msgrun: refused 10 Cycle\n",
-        Refusal::NoMemory => b"msgrun: want of memory\n",
-    }
-}
-
-fn run_line(fault: RunFault) -> &'static [u8]
-    ensures { result.now ≡ run_line fault }
-{
-    match fault {
-        RunFault::Spoiled => b"msgrun: run fault 1 Spoiled\n",
-        RunFault::BadOrder => b"msgrun: run fault 2 BadOrder\n",
-        RunFault::NoMemory => b"msgrun: run fault 3 NoMemory\n",
-    }
-}
-
-fn report_line(fault: ReportFault) -> &'static [u8]
-    ensures { result.now ≡ report_line fault }
-{
-    match fault {
-        ReportFault::Run(fault) => run_line(fault),
-        ReportFault::Write => b"msgrun: write fault\n",
-        ReportFault::NoMemory => b"msgrun: want of memory\n",
+        MainFault::Report(ReportFault::Run(RunFault::Spoiled)) => b"msgrun: run fault 1 Spoiled\n",
+        MainFault::Report(ReportFault::Run(RunFault::BadOrder)) => {
+            b"msgrun: run fault 2 BadOrder\n"
+        }
+        MainFault::Report(ReportFault::Run(RunFault::NoMemory)) => {
+            b"msgrun: run fault 3 NoMemory\n"
+        }
+        MainFault::Report(ReportFault::Write) => b"msgrun: write fault\n",
+        MainFault::Report(ReportFault::NoMemory) => b"msgrun: want of memory\n",
     }
 }
 
@@ -90,15 +54,11 @@ fn status_of(fault: &MainFault) -> u8
     ensures { result ≡ status_of fault.now }
 {
     match fault {
-        MainFault::Words(WordFault::Bad) => 2,
         MainFault::Words(WordFault::Help(_)) => 0,
-        MainFault::Words(WordFault::NoMemory) => 1,
-        MainFault::Input(InputFault::Failed) => 1,
+        MainFault::Words(WordFault::Bad) => 2,
         MainFault::Input(InputFault::TooLarge) => 2,
-        MainFault::Input(InputFault::NoMemory) => 1,
         MainFault::Refused(Refusal::NoMemory) => 1,
         MainFault::Refused(_) => 2,
-        MainFault::Built => 1,
-        MainFault::Report(_) => 1,
+        _ => 1,
     }
 }

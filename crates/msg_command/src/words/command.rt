@@ -31,7 +31,7 @@ fn workers_arg<'a>(alloc: Global) -> Arg<'a>
 }
 
 /// Adds the summary line, and the text after the help.
-fn told<'a>(command: Command<'a>, about: &'a str, more: &'a str) -> Command<'a>
+fn with_texts<'a>(command: Command<'a>, about: &'a str, more: &'a str) -> Command<'a>
     ensures app { app_of result ≡ app_of command.entry }
     ensures local { (fields_of result).has_globals ≡ (fields_of command.entry).has_globals }
 {
@@ -43,7 +43,7 @@ fn buffer_command<'a>(alloc: Global) -> Result<Command<'a>, AllocError>
     ensures local { IfOk result (λ c. (fields_of c).has_globals ≡ false) }
 {
     let command = Command::new(alloc, "buffer").arg(file_arg(alloc, "The calls file"))?;
-    Ok(told(command, "Answers the calls file FILE", help::BUFFER))
+    Ok(with_texts(command, "Answers the calls file FILE", help::BUFFER))
 }
 
 fn run_command<'a>(alloc: Global) -> Result<Command<'a>, AllocError>
@@ -52,7 +52,7 @@ fn run_command<'a>(alloc: Global) -> Result<Command<'a>, AllocError>
 {
     let one = Command::new(alloc, "run").arg(file_arg(alloc, "The scenario file"))?;
     let command = one.arg(workers_arg(alloc))?;
-    Ok(told(
+    Ok(with_texts(
         command,
         "Runs the scenario file FILE, and reports",
         help::RUN,
@@ -67,13 +67,13 @@ fn command<'a>(alloc: Global) -> Result<Command<'a>, AllocError>
     let run = run_command(alloc)?;
     let bare = Command::new(alloc, "msgrun").no_binary_name(true);
     let bare = bare.bin_name("msgrun")?;
-    let told = told(
+    let command = with_texts(
         bare,
         "Runs scenarios of message systems, and answers calls of a message buffer",
         help::PROGRAM,
     );
-    let one = told.subcommand(buffer)?;
-    one.subcommand(run)
+    let command = command.subcommand(buffer)?;
+    command.subcommand(run)
 }
 
 fn fault(alloc: Global, error: clap::Error) -> WordFault
@@ -98,7 +98,7 @@ pub(crate) fn matches<'a>(alloc: Global, words: &'a [String]) -> Result<ArgMatch
     ensures accepted { OnOk result (fault_of msgrun_app (texts_of words.entry.now) ≡ []) }
     ensures refused { IfErr result (λ e. takes msgrun_app (texts_of words.entry.now) ≡ true
         → e ≡ WordFault.NoMemory) }
-    ensures told { IfErr result (IsToldOf (fault_of msgrun_app (texts_of words.entry.now))) }
+    ensures found { IfErr result (IsToldOf (fault_of msgrun_app (texts_of words.entry.now))) }
 {
     let Ok(command) = command(alloc) else {
         return Err(WordFault::NoMemory);

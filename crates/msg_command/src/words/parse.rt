@@ -17,7 +17,7 @@ pub fn parse_words(alloc: Global, words: &[String]) -> Result<Action, WordFault>
         ⊎ ((fault ≡ WordFault.Bad) × IsRunOnNone (texts_of words.now))) }
 
     // Where `clap` refuses the words, the fault is the one that it finds in them.
-    ensures told { IfErr result (IsToldOf (fault_of msgrun_app (texts_of words.now))) }
+    ensures found { IfErr result (IsToldOf (fault_of msgrun_app (texts_of words.now))) }
 {
     let matches = matches(alloc, words)?;
     action_of(alloc, &matches)
@@ -54,13 +54,8 @@ fn file_of(alloc: Global, inner: &ArgMatches<'_>) -> Result<String, WordFault>
         ⊎ ((e ≡ WordFault.Bad)
         × (first_of (codes "FILE") (rows_of (found_of inner.now)) ≡ None))) }
 {
-    match inner.get_str("FILE") {
-        None => Err(WordFault::Bad),
-        Some(file) => match String::from_str(alloc, file) {
-            Ok(file) => Ok(file),
-            Err(_) => Err(WordFault::NoMemory),
-        },
-    }
+    let file = inner.get_str("FILE").ok_or(WordFault::Bad)?;
+    String::from_str(alloc, file).map_err(|_| WordFault::NoMemory)
 }
 
 #[tactic(auto, using(crate::proofs::RowValues::row_value))]
@@ -71,13 +66,8 @@ fn workers_of(inner: &ArgMatches<'_>) -> Result<u32, WordFault>
     ensures refused { IfErr result (λ e. (e ≡ WordFault.Bad)
         × (workers_asked (rows_of (found_of inner.now)) ≡ None)) }
 {
-    let Some(text) = inner.get_str("workers") else {
-        return Err(WordFault::Bad);
-    };
-    let Some(number) = workers_in(text) else {
-        return Err(WordFault::Bad);
-    };
-    Ok(number)
+    let text = inner.get_str("workers").ok_or(WordFault::Bad)?;
+    workers_in(text).ok_or(WordFault::Bad)
 }
 
 /// The number of workers that a text asks for.

@@ -14,7 +14,7 @@ returns-clause-refused c =
     c.action_of.ensures.refused
 
 -- and clap found nothing in them
-pub returns-clause-told : goal.returns-clause-told
-returns-clause-told c =
+pub returns-clause-found : goal.returns-clause-found
+returns-clause-found c =
     IfErr-weaker c.action_of.result _ _ (λ fault refused. grind (arith, refused, c.in_ok-matches.ensures.accepted))
     c.action_of.ensures.refused
