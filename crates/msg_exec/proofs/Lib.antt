@@ -19,5 +19,5 @@ mod CoreRunsFrame
 -- ---- an engine
 mod FirstEngineStands
 mod BuilderBuilds
-mod EngineRunsFrames
+pub mod EngineRunsFrames
 mod AccountsTell

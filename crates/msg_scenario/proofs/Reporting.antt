@@ -5,10 +5,11 @@ use Rattle.std.proofs.Math.Seq.{take-append_seam, take-length}
 use Rattle.std.specs.Io.KnownBytes.{Appends}
 use Rattle.std.proofs.KnownBytes.{Appends-nil, Appends-trans}
 use Rattle.msg_system.specs.Prelude.{Meaning}
-use Rattle.msg_frames.specs.Prelude.{FramesKeepSystems, IsCompleteRun, IsFrame, IsRun, State, accounts_of, turn_order_in}
+use Rattle.msg_frames.specs.Prelude.{FramesKeepSystems, IsCompleteRun, IsRun, State, accounts_of, turn_order_in}
 use Rattle.msg_exec.specs.Prelude.{HasRunFrame, IsSpoiled, EngineStands, frame_number}
 use Rattle.msg_frames.specs.{declared.account.Account.Account, declared.frame.Frame.Frame, declared.log.Log.Log}
 use Rattle.msg_exec.specs.declared.engine.EngineOf.{EngineOf}
+use Rattle.msg_exec.proofs.EngineRunsFrames.{run_more}
 use Rattle.msg_system.specs.{declared.run_fault.RunFault.RunFault, declared.run_fault.RunFault.TheVariants.BadOrder, declared.run_fault.RunFault.TheVariants.NoMemory, declared.run_fault.RunFault.TheVariants.Spoiled}
 use Rattle.msg_files.specs.Prelude.{AppendsPrefix, Text}
 use Rattle.msg_scenario.specs.Prelude.{HasPrinted, HasReported, HasRunOut, HasStopped, accounts_text, frame_text, frames_text, text_so_far}
@@ -39,27 +40,23 @@ frames_text-append s number (frame ∷ frames) (log ∷ first) later =
 
 -- ---- runs
 
--- one frame more
-run_more : (frames : List Frame) (frame : Frame) (s : State) (logs : List Log) (log : Log) (m u : State)
-    → IsRun frames s logs m → IsFrame frame m log u → IsRun (frames ++ frame ∷ []) s (logs ++ log ∷ []) u
-run_more [] frame s [] log m u none one = (u, rw (← none) one, refl)
-run_more (f ∷ frames) frame s (l ∷ logs) log m u some one =
-    (some.0, some.1, run_more frames frame some.0 logs log m u some.2 one)
-run_more frames frame s logs log m u none one = absurd none
-
 module _ {X : Type 0} (meaning : X → Meaning) (s : Scenario) where
   -- nothing was run, and nothing put
   pub stopped_before_all : (known : Option (List ℕ)) (e : EngineOf X) → EngineStands meaning e (state_of s)
       → HasStopped meaning s known known e
   stopped_before_all known e stands = record {
-    logs = [];
-    state = state_of s;
-    is_run = refl;
+    printed = record {
+      front = record {
+        logs = [];
+        state = state_of s;
+        is_run = refl;
+        printed = ([], text_so_far s [] (accounts_of (state_of s)), refl, Appends-nil known);
+      };
+      earlier = ([], rw (zip-nil s.frames) (Appends-nil known));
+      last = inl ([], frames_text s 1 s.frames [], refl, Appends-nil known);
+    };
     stands = stands;
     counted = stands.frames;
-    printed = ([], text_so_far s [] (accounts_of (state_of s)), refl, Appends-nil known);
-    earlier = ([], rw (zip-nil s.frames) (Appends-nil known));
-    last = inl ([], frames_text s 1 s.frames [], refl, Appends-nil known);
   }
 
   -- ---- after the first k frames
@@ -121,16 +118,20 @@ module _ {X : Type 0} (meaning : X → Meaning) (s : Scenario) where
           let earlier : take (length logs_now - 1) logs_now ≡ far.logs =
           grind (arith, common_steps, take-append_seam far.logs (log ∷ [])) in
           record {
-            logs = logs_now;
-            state = one.state;
-            is_run = rw many_now was_run;
+            printed = record {
+              front = record {
+                logs = logs_now;
+                state = one.state;
+                is_run = rw many_now was_run;
+                printed = AppendsPrefix_after before now after first here (rest_of s logs_now (accounts_of one.state)) _
+                    (rw (← text_now) (text_so_far_parts s logs_now (accounts_of one.state))) far.printed puts;
+              };
+              last = inl (AppendsPrefix_after before now after first here [] _
+                  (text_now ∙ sym (append-nil (first ++ here))) far.printed puts);
+              earlier = (puts.0, rw earlier (Appends-trans before now after first puts.0 far.printed puts.3));
+            };
             stands = one.stands;
             counted = grind (arith, one.stands.frames, counted_now, many_now);
-            printed = AppendsPrefix_after before now after first here (rest_of s logs_now (accounts_of one.state)) _
-                (rw (← text_now) (text_so_far_parts s logs_now (accounts_of one.state))) far.printed puts;
-            last = inl (AppendsPrefix_after before now after first here [] _
-                (text_now ∙ sym (append-nil (first ++ here))) far.printed puts);
-            earlier = (puts.0, rw earlier (Appends-trans before now after first puts.0 far.printed puts.3));
           }
 
     -- ---- no memory
@@ -140,10 +141,12 @@ module _ {X : Type 0} (meaning : X → Meaning) (s : Scenario) where
         → (IsSpoiled f × (length far.logs < length s.frames))
         ⊎ (EngineStands meaning f far.state × (length far.logs ≡ length s.frames)) → HasRunOut meaning s before now f
     out_after f counted left = record {
-      logs = far.logs;
-      state = far.state;
-      is_run = rw far.as_many far.is_run;
-      printed = far.printed;
+      printed = record {
+        logs = far.logs;
+        state = far.state;
+        is_run = rw far.as_many far.is_run;
+        printed = far.printed;
+      };
       counted = grind (arith, counted, far.stands.frames, far.frames, far.as_many);
       left = left;
     }
@@ -170,11 +173,13 @@ module _ {X : Type 0} (meaning : X → Meaning) (s : Scenario) where
           → IsCompleteRun frames (state_of s) logs u)
           → Appends now after (accounts_text s accounts) → HasReported meaning s before after e
       readers_put complete puts = record {
-        logs = far.logs;
-        state = far.state;
-        complete = complete s.frames far.logs far.state (rw (all, take-length) at far.is_run);
-        printed = Appends-trans before now after (frames_text s 1 s.frames far.logs)
-            (accounts_text s (accounts_of far.state)) far.printed (rw (are far.state far.stands) at puts);
+        reported = record {
+          logs = far.logs;
+          state = far.state;
+          complete = complete s.frames far.logs far.state (rw (all, take-length) at far.is_run);
+          printed = Appends-trans before now after (frames_text s 1 s.frames far.logs)
+              (accounts_text s (accounts_of far.state)) far.printed (rw (are far.state far.stands) at puts);
+        };
         stands = far.stands;
       }
 
@@ -188,37 +193,32 @@ module _ {X : Type 0} (meaning : X → Meaning) (s : Scenario) where
           let n = length far.logs - 1 in
           let begun = take n far.logs in
           let rest = frames_text s (1 + length begun) (drop (length begun) s.frames) (drop n far.logs) in
-          let front = rw take-append-drop at (frames_text-append s 1 s.frames begun (drop n far.logs)) in
+          let whole = rw take-append-drop at (frames_text-append s 1 s.frames begun (drop n far.logs)) in
           record {
-            logs = far.logs;
-            state = far.state;
-            is_run = rw many far.is_run;
+            printed = record {
+              front = record {
+                logs = far.logs;
+                state = far.state;
+                is_run = rw many far.is_run;
+                printed = AppendsPrefix_after before now after first lines [] _
+                    (rw (eq-eqb (length far.logs) (length s.frames) (many ∙ all)) (sym (append-nil (first ++ lines))))
+                    far.printed part;
+              };
+              last = inr (many ∙ all, (part.0, Appends-trans before now after first part.0 far.printed part.3));
+              earlier = (
+                rest ++ part.0,
+                rw (← append_assoc, ← whole) (Appends-trans before now after first part.0 far.printed part.3),
+              );
+            };
             stands = far.stands;
             counted = grind (arith, far.stands.frames, far.frames, many);
-            printed = AppendsPrefix_after before now after first lines [] _
-                (rw (eq-eqb (length far.logs) (length s.frames) (many ∙ all)) (sym (append-nil (first ++ lines))))
-                far.printed part;
-            last = inr (many ∙ all, (part.0, Appends-trans before now after first part.0 far.printed part.3));
-            earlier = (
-              rest ++ part.0,
-              rw (← append_assoc, ← front) (Appends-trans before now after first part.0 far.printed part.3),
-            );
           }
 
-  -- ---- in either case a front of the text so far was put
-
-  pub stopped_printed : (before after : Option (List ℕ)) (e : EngineOf X) → HasStopped meaning s before after e
-      → HasPrinted s before after
-  stopped_printed before after e stopped = record {
-    logs = stopped.logs;
-    state = stopped.state;
-    is_run = stopped.is_run;
-    printed = stopped.printed;
-  }
+  -- ---- then too a front of the text so far was put
 
   pub out_printed : (before after : Option (List ℕ)) (e : EngineOf X) → HasRunOut meaning s before after e
       → HasPrinted s before after
-  out_printed before after e out = record {
+  out_printed before after e out = let out = out.printed in record {
     logs = out.logs;
     state = out.state;
     is_run = out.is_run;

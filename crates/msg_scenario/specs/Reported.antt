@@ -22,41 +22,50 @@ pub record HasPrinted (s : Scenario) (before after : Option (List ℕ)) : Type 0
   pub is_run : HasRunFirst s logs state
   pub printed : AppendsPrefix before after (text_so_far s logs (accounts_of state))
 
+-- It took all of the text of the frames before the last one that was run, and a front of what
+-- follows.
+pub record PrintedSome (s : Scenario) (before after : Option (List ℕ)) : Type 0 where
+  pub front : HasPrinted s before after
+  pub earlier : AppendsAtLeast before after
+      (frames_text s 1 s.frames (take (length front.logs - 1) front.logs))
+  -- it stopped in the text of that frame, or else all frames were run and their texts are there,
+  -- the last one's too
+  pub last : AppendsPrefix before after (frames_text s 1 s.frames front.logs)
+      ⊎ ((length front.logs ≡ length s.frames)
+      × AppendsAtLeast before after (frames_text s 1 s.frames front.logs))
+
+-- It took exactly the text of the frames that were run.
+pub record PrintedFrames (s : Scenario) (before after : Option (List ℕ)) : Type 0 where
+  pub logs : List Log
+  pub state : State
+  pub is_run : HasRunFirst s logs state
+  pub printed : Appends before after (frames_text s 1 s.frames logs)
+
+-- All frames were run, with all that a run comes to, and the sink took the report of the scenario,
+-- and no more.
+pub record IsReported (s : Scenario) (before after : Option (List ℕ)) : Type 0 where
+  pub logs : List Log
+  pub state : State
+  pub complete : IsCompleteRun s.frames (state_of s) logs state
+  pub printed : Appends before after (report_text s logs (accounts_of state))
+
 module _ {X : Type 0} (meaning : X → Meaning) (s : Scenario) where
-  -- All frames were run, with all that a run comes to, and the sink took the whole report.
+  -- It is reported, and the engine stands for the last state.
   pub record HasReported (before after : Option (List ℕ)) (e : EngineOf X) : Type 0 where
-    pub logs : List Log
-    pub state : State
-    pub complete : IsCompleteRun s.frames (state_of s) logs state
-    pub printed : Appends before after (report_text s logs (accounts_of state))
-    pub stands : EngineStands meaning e state
+    pub reported : IsReported s before after
+    pub stands : EngineStands meaning e reported.state
 
   -- The report ended after a whole frame, the last one that was run, or before the first one: the
-  -- engine stands for the state after it. The sink took all of the text of the frames before that
-  -- one, and a front of what follows.
+  -- engine stands for the state after it.
   pub record HasStopped (before after : Option (List ℕ)) (e : EngineOf X) : Type 0 where
-    pub logs : List Log
-    pub state : State
-    pub is_run : HasRunFirst s logs state
-    pub stands : EngineStands meaning e state
-    pub counted : frame_number e ≡ min (length logs) (2 ^ 32 - 1)
-    pub printed : AppendsPrefix before after (text_so_far s logs (accounts_of state))
-    pub earlier : AppendsAtLeast before after
-        (frames_text s 1 s.frames (take (length logs - 1) logs))
-    -- it stopped in the text of that frame, or else all frames were run and their texts are there,
-    -- the last one's too
-    pub last : AppendsPrefix before after (frames_text s 1 s.frames logs)
-        ⊎ ((length logs ≡ length s.frames)
-        × AppendsAtLeast before after (frames_text s 1 s.frames logs))
+    pub printed : PrintedSome s before after
+    pub stands : EngineStands meaning e printed.front.state
+    pub counted : frame_number e ≡ min (length printed.front.logs) (2 ^ 32 - 1)
 
-  -- There was no memory for a frame or for the accounts: the sink took exactly the text of the
-  -- frames that were run, and that the engine counts. In a frame the engine is spoiled by it, and
-  -- in the accounts it isn't.
+  -- There was no memory for a frame or for the accounts: the engine counts the frames whose text
+  -- was put. In a frame the engine is spoiled by it, and in the accounts it isn't.
   pub record HasRunOut (before after : Option (List ℕ)) (e : EngineOf X) : Type 0 where
-    pub logs : List Log
-    pub state : State
-    pub is_run : HasRunFirst s logs state
-    pub printed : Appends before after (frames_text s 1 s.frames logs)
-    pub counted : frame_number e ≡ min (length logs) (2 ^ 32 - 1)
-    pub left : (IsSpoiled e × (length logs < length s.frames))
-        ⊎ (EngineStands meaning e state × (length logs ≡ length s.frames))
+    pub printed : PrintedFrames s before after
+    pub counted : frame_number e ≡ min (length printed.logs) (2 ^ 32 - 1)
+    pub left : (IsSpoiled e × (length printed.logs < length s.frames))
+        ⊎ (EngineStands meaning e printed.state × (length printed.logs ≡ length s.frames))

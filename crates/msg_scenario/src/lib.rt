@@ -4,7 +4,7 @@
 
 mod building;
 mod reports;
-mod scene;
+mod scenario_run;
 
 pub use building::{add_system, engine_of};
 pub use msg_files::{
@@ -13,4 +13,4 @@ pub use msg_files::{
 };
 pub use msg_reading::{Kind, Name, Scenario, SystemSpec, read_scenario};
 pub use reports::report;
-pub use scene::run_scenario;
+pub use scenario_run::run_scenario;

@@ -1,2 +1,2 @@
 -- Hands on the definitions cited elsewhere. The declared types serve this crate's proofs alone.
-pub use Rattle.msgrun.specs.Ended.{PrintedFrames, PrintedSome, main_fault, status_after}
+pub use Rattle.msgrun.specs.Ended.{main_fault, status_after}

@@ -1,7 +1,7 @@
 // A scenario's systems, each made of what its kind is.
-ghost use Rattle.std.specs.Prelude.{◌≡◌, ◌≤◌, IfOk, length};
+ghost use Rattle.std.specs.Prelude.{◌≡◌, ◌≤◌, IfOk, IsTrue, length};
 ghost use Rattle.msg_system.specs.Prelude.{new_system};
-ghost use Rattle.msg_reading.specs.Prelude.{FitKind};
+ghost use Rattle.msg_reading.specs.Prelude.{fits_kind};
 
 use msg_exec::NoMemory;
 use msg_scenario::{Kind, SystemSpec};
@@ -23,13 +23,10 @@ pub(crate) fn scripted_of(
 
 /// A system whose program is one forward.
 pub(crate) fn relay_of(spec: &SystemSpec, writer: u32) -> Relay
-    requires fit { FitKind Kind.Relay spec.now.program.ops }
+    requires fit { IsTrue (fits_kind Kind.Relay spec.now.program.ops) }
     ensures meaning { ⟦<Relay as System>⟧.meaning result ≡ new_system spec.now.program writer }
 {
-    let [op] = spec.program.ops.as_slice() else {
-        unreachable!()
-    };
-    let Op::Forward(from, to) = op else {
+    let [Op::Forward(from, to)] = spec.program.ops.as_slice() else {
         unreachable!()
     };
     Relay::new(*from, *to, spec.program.start, writer)
@@ -37,13 +34,10 @@ pub(crate) fn relay_of(spec: &SystemSpec, writer: u32) -> Relay
 
 /// A system whose program is one sum.
 pub(crate) fn tally_of(spec: &SystemSpec, writer: u32) -> Tally
-    requires fit { FitKind Kind.Tally spec.now.program.ops }
+    requires fit { IsTrue (fits_kind Kind.Tally spec.now.program.ops) }
     ensures meaning { ⟦<Tally as System>⟧.meaning result ≡ new_system spec.now.program writer }
 {
-    let [op] = spec.program.ops.as_slice() else {
-        unreachable!()
-    };
-    let Op::Sum(from, to) = op else {
+    let [Op::Sum(from, to)] = spec.program.ops.as_slice() else {
         unreachable!()
     };
     Tally::new(*from, *to, spec.program.start, writer)

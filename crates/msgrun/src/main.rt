@@ -9,13 +9,13 @@
 ghost use Rattle.std.specs.Prelude.{◌≡◌, ◌<◌, ◌≤◌};
 ghost use Rattle.msgrun.specs.Prelude.{status_after};
 
+mod boxes;
 mod building;
-mod scene;
 
+use boxes::{as_main_fault, run_in_boxes};
 use msg_command::{Action, InputFault, MainFault, WordFault, parse_words, print_fault, read_all};
 use msg_exec::Workers;
 use msg_scenario::{StdSink, put_all, read_calls, read_scenario, run_calls};
-use scene::{as_main_fault, run_in_boxes};
 use std::env::Env;
 use std::fs::Files;
 use std::io::{ErrorKind, Input, Print};
@@ -32,8 +32,8 @@ fn main(rt: HostRuntime) -> ExitCode {
 fn run<R: AllocGlobal + Env + Files + Input + Print + Sync + Threads>(
     rt: &R,
 ) -> Result<(), MainFault> {
-    let words = words_given(rt).map_err(MainFault::Words)?;
-    match parse_words(rt.alloc(), words.as_slice()).map_err(MainFault::Words)? {
+    let words = words_given(rt)?;
+    match parse_words(rt.alloc(), words.as_slice())? {
         Action::Buffer(file) => answer_calls(rt, file),
         Action::Run { file, workers } => answer_scenario(rt, file, workers),
     }
@@ -56,10 +56,10 @@ fn answer_calls<R: AllocGlobal + Files + Input + Print>(
     rt: &R,
     file: Option<String>,
 ) -> Result<(), MainFault> {
-    let bytes = bytes_of(rt, file).map_err(MainFault::Input)?;
-    let calls = read_calls(rt.alloc(), bytes.as_slice()).map_err(MainFault::Refused)?;
+    let bytes = bytes_of(rt, file)?;
+    let calls = read_calls(rt.alloc(), bytes.as_slice())?;
     let mut output = StdSink::new(io::writer(rt));
-    run_calls(rt.alloc(), &calls, &mut output).map_err(MainFault::Report)
+    Ok(run_calls(rt.alloc(), &calls, &mut output)?)
 }
 
 /// Runs a scenario file on 1 to 64 workers, and reports on standard output.
@@ -74,8 +74,8 @@ fn answer_scenario<R: AllocGlobal + Files + Input + Print + Sync + Threads>(
     let Some(workers) = Workers::new(workers) else {
         unreachable!()
     };
-    let bytes = bytes_of(rt, Some(file)).map_err(MainFault::Input)?;
-    let scenario = read_scenario(rt.alloc(), bytes.as_slice()).map_err(MainFault::Refused)?;
+    let bytes = bytes_of(rt, Some(file))?;
+    let scenario = read_scenario(rt.alloc(), bytes.as_slice())?;
     let mut output = StdSink::new(io::writer(rt));
     as_main_fault(run_in_boxes(rt, rt.alloc(), &scenario, workers, &mut output))
 }

@@ -4,9 +4,9 @@ ghost use Rattle.msg_scenario.specs.Prelude.{account_line, accounts_text, standi
 
 use crate::Scenario;
 use crate::reports::names::{add_system, add_type};
-use crate::reports::reply::add_count;
 use msg_buffer::NoMemory;
 use msg_exec::Account;
+use msg_files::numerals::add_count;
 
 /// A line for each reader.
 pub fn add_accounts(

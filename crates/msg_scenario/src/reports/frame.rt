@@ -9,7 +9,7 @@ use crate::reports::names::add_type;
 use crate::reports::reply::add_reply;
 use msg_buffer::NoMemory;
 use msg_exec::{Frame, Log, Outcome, Turn};
-use msg_files::numerals::add_number;
+use msg_files::numerals::add_count;
 use msg_system::Reply;
 use msg_world::TypeNo;
 
@@ -26,8 +26,7 @@ pub fn add_frame(
     ensures appends { OnOk result
         (text.new.items ≡ text.old.items ++ frame_text scenario.now number frame.now log.now) }
 {
-    text.extend_from_slice(b"frame ")?;
-    add_number(text, number)?;
+    add_count(text, b"frame ", number)?;
     text.extend_from_slice(b"\n")?;
     add_posts(text, scenario, frame.posts.as_slice(), log.posts.as_slice())?;
     add_turns(text, scenario, lines, log.turns.as_slice())

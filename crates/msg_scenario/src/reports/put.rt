@@ -37,9 +37,7 @@ pub fn put_frame<S: Sink>(
         (λ fault. (fault ≡ ReportFault.Write) ⊎ (fault ≡ ReportFault.NoMemory)) }
 {
     text.clear();
-    if add_frame(text, scenario, lines, number, frame, log).is_err() {
-        return Err(ReportFault::NoMemory);
-    }
+    add_frame(text, scenario, lines, number, frame, log)?;
     put_text(text.as_slice(), sink)
 }
 
@@ -65,8 +63,6 @@ pub fn put_accounts<S: Sink>(
     ensures no_memory { accounts.now ≡ [] → result ≢ Err ReportFault.NoMemory }
 {
     text.clear();
-    if add_accounts(text, scenario, accounts).is_err() {
-        return Err(ReportFault::NoMemory);
-    }
+    add_accounts(text, scenario, accounts)?;
     put_text(text.as_slice(), sink)
 }

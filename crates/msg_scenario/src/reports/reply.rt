@@ -6,7 +6,7 @@ ghost use Rattle.msg_scenario.specs.Prelude.{item_text, items_text, more_items, 
 use crate::Scenario;
 use crate::reports::names::add_writer;
 use msg_buffer::{NoMemory, Written};
-use msg_files::numerals::{add_number, add_pair, add_value};
+use msg_files::numerals::{add_count, add_pair, add_value};
 use msg_system::{Reply, Took};
 use msg_world::Record;
 
@@ -16,7 +16,7 @@ pub fn add_reply(text: &mut Vec<u8>, scenario: &Scenario, reply: &Reply) -> Resu
         (text.new.items ≡ text.old.items ++ reply_text scenario.now reply.now) }
 {
     match reply {
-        Reply::Wrote(numbers) => add_wrote(text, *numbers),
+        Reply::Wrote(numbers) => add_numbers(text, b" ", *numbers),
         Reply::Spent => text.extend_from_slice(b" spent"),
         Reply::Read(took) => add_took(text, scenario, took),
         Reply::Len(n) => add_count(text, b" ", *n),
@@ -24,17 +24,10 @@ pub fn add_reply(text: &mut Vec<u8>, scenario: &Scenario, reply: &Reply) -> Resu
         Reply::Cleared { missed, n, .. } => add_cleared(text, *missed, *n),
         Reply::Forwarded { took, wrote } => add_forwarded(text, scenario, took, *wrote),
         Reply::Summed { took, value } => add_summed(text, scenario, took, *value),
-        Reply::Value(value) => add_answer(text, *value),
+        Reply::Value(value) => add_after(text, b" ", *value),
         Reply::Drained { first, items } => add_drained(text, scenario, *first, items.as_slice()),
         Reply::Signalled => Ok(()),
     }
-}
-
-fn add_wrote(text: &mut Vec<u8>, numbers: Written) -> Result<(), NoMemory>
-    ensures { OnOk result (text.new.items ≡ text.old.items ++ (codes " " ++ numbers_text numbers)) }
-{
-    text.extend_from_slice(b" ")?;
-    add_numbers(text, numbers)
 }
 
 fn add_cleared(text: &mut Vec<u8>, missed: u64, n: u64) -> Result<(), NoMemory>
@@ -55,8 +48,10 @@ fn add_forwarded(
         ++ (codes " " ++ took_text scenario.now took.now ++ codes "; " ++ written_text wrote)) }
 {
     add_took(text, scenario, took)?;
-    text.extend_from_slice(b"; ")?;
-    add_written(text, wrote)
+    match wrote {
+        Some(numbers) => add_numbers(text, b"; ", numbers),
+        None => text.extend_from_slice(b"; spent"),
+    }
 }
 
 fn add_summed(
@@ -69,14 +64,14 @@ fn add_summed(
         ++ (codes " " ++ took_text scenario.now took.now ++ codes "; " ++ signed_decimal value)) }
 {
     add_took(text, scenario, took)?;
-    text.extend_from_slice(b"; ")?;
-    add_value(text, value)
+    add_after(text, b"; ", value)
 }
 
-fn add_answer(text: &mut Vec<u8>, value: i64) -> Result<(), NoMemory>
-    ensures { OnOk result (text.new.items ≡ text.old.items ++ (codes " " ++ signed_decimal value)) }
+/// A value after a head.
+fn add_after(text: &mut Vec<u8>, head: &[u8], value: i64) -> Result<(), NoMemory>
+    ensures { OnOk result (text.new.items ≡ text.old.items ++ (head.now ++ signed_decimal value)) }
 {
-    text.extend_from_slice(b" ")?;
+    text.extend_from_slice(head)?;
     add_value(text, value)
 }
 
@@ -93,28 +88,12 @@ fn add_drained(
     add_items(text, scenario, first, items)
 }
 
-/// A number after a head.
-pub fn add_count(text: &mut Vec<u8>, head: &[u8], n: u64) -> Result<(), NoMemory>
-    ensures appends { OnOk result (text.new.items ≡ text.old.items ++ (head.now ++ decimal n)) }
+/// The numbers that were written, after a head.
+fn add_numbers(text: &mut Vec<u8>, head: &[u8], numbers: Written) -> Result<(), NoMemory>
+    ensures { OnOk result (text.new.items ≡ text.old.items ++ (head.now ++ numbers_text numbers)) }
 {
-    text.extend_from_slice(head)?;
-    add_number(text, n)
-}
-
-fn add_numbers(text: &mut Vec<u8>, numbers: Written) -> Result<(), NoMemory>
-    ensures { OnOk result (text.new.items ≡ text.old.items ++ numbers_text numbers) }
-{
-    add_number(text, numbers.first)?;
+    add_count(text, head, numbers.first)?;
     add_count(text, b"+", numbers.n)
-}
-
-fn add_written(text: &mut Vec<u8>, wrote: Option<Written>) -> Result<(), NoMemory>
-    ensures { OnOk result (text.new.items ≡ text.old.items ++ written_text wrote) }
-{
-    match wrote {
-        Some(numbers) => add_numbers(text, numbers),
-        None => text.extend_from_slice(b"spent"),
-    }
 }
 
 fn add_took(text: &mut Vec<u8>, scenario: &Scenario, took: &Took) -> Result<(), NoMemory>

@@ -112,9 +112,7 @@ pub fn report<R: Threads + Sync, X: System, S: Sink, G: Gate>(
     ensures quiet { result ≢ Err ReportFault.Write → S.failures sink.new ≡ S.failures sink.old }
 {
     engine.has_one_run();
-    let Ok(lines) = make_lines(alloc, scenario) else {
-        return Err(ReportFault::NoMemory);
-    };
+    let lines = make_lines(alloc, scenario)?;
     let mut text = Vec::new(alloc);
     for reported in 0..scenario.frames.as_slice().len() {
         report_frame(

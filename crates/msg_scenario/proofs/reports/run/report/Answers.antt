@@ -2,7 +2,8 @@ use Rattle.std.proofs.Common.{rules, [], Err, ap, arith, inl, inr, length, refl,
 use Rattle.std.proofs.lemmas.Result.{err_from_is_err_and, on_err_weaker, on_ok_weaker}
 use Rattle.msg_reading.specs.Prelude.{state_of}
 use Rattle.std.proofs.KnownBytes.{Appends-nil}
-use Rattle.msg_scenario.proofs.{ReportLines.zip-nil, Reporting.accounts_out, Reporting.out_printed, Reporting.readers_put, Reporting.readers_stopped, Reporting.stopped_before_all, Reporting.stopped_printed}
+use Rattle.msg_files.proofs.Puts.{on_err}
+use Rattle.msg_scenario.proofs.{ReportLines.zip-nil, Reporting.accounts_out, Reporting.out_printed, Reporting.readers_put, Reporting.readers_stopped, Reporting.stopped_before_all}
 use Rattle.msg_scenario.proofs.reports.run.report.Goals as goal
 
 pub loop-reported-init : goal.loop-reported-init
@@ -20,12 +21,12 @@ loop-reported-init g c = record {
   failures = refl;
 }
 
-pub returns-in_default-clause-stopped : goal.returns-in_default-clause-stopped
-returns-in_default-clause-stopped g c cause = stopped_before_all _ _ _ _ c.requires.engine
+pub returns-in_err-lines-clause-stopped : goal.returns-in_err-lines-clause-stopped
+returns-in_err-lines-clause-stopped g c cause = stopped_before_all _ _ _ _ c.requires.engine
 
-pub returns-in_default-clause-prefix : goal.returns-in_default-clause-prefix
-returns-in_default-clause-prefix g c =
-    stopped_printed _ _ _ _ _ (stopped_before_all g.X.System.meaning _ _ _ c.requires.engine)
+pub returns-in_err-lines-clause-prefix : goal.returns-in_err-lines-clause-prefix
+returns-in_err-lines-clause-prefix g c =
+    on_err _ c.from_residual.result _ (stopped_before_all g.X.System.meaning _ _ _ c.requires.engine).printed.front
 
 pub loop-reported-preserved : goal.loop-reported-preserved
 loop-reported-preserved g c = record {
@@ -35,39 +36,42 @@ loop-reported-preserved g c = record {
 
 pub returns-in_err-report_frame-clause-run : goal.returns-in_err-report_frame-clause-run
 returns-in_err-report_frame-clause-run g c same =
-    let passed = err_from_is_err_and c.from_residual.result c.from_residual.ensures.1 in
+    let r = c.from_residual-in_err-report_frame in
+    let passed = err_from_is_err_and r.result r.ensures.1 in
     c.in_err-report_frame.ensures.run (sym (passed.1 ∙ ap Err passed.2) ∙ same) _ c.loop-reported.invariant.so_far
 
 pub returns-in_err-report_frame-clause-stopped : goal.returns-in_err-report_frame-clause-stopped
 returns-in_err-report_frame-clause-stopped g c cause =
-    let passed = err_from_is_err_and c.from_residual.result c.from_residual.ensures.1 in
+    let r = c.from_residual-in_err-report_frame in
+    let passed = err_from_is_err_and r.result r.ensures.1 in
     c.in_err-report_frame.ensures.stopped (rw (passed.1 ∙ ap Err passed.2) at cause) _ c.loop-reported.invariant.so_far
 
-pub returns-in-Ok-accounts-clause-ok : goal.returns-in-Ok-accounts-clause-ok
-returns-in-Ok-accounts-clause-ok g c =
+pub returns-in-Ok-clause-ok : goal.returns-in-Ok-clause-ok
+returns-in-Ok-clause-ok g c =
     on_ok_weaker c.put_accounts.result
-    (readers_put _ _ _ _ _ _ c.loop-reported.invariant.so_far _ c.as_slice-in-Ok-accounts.result.now
+    (readers_put _ _ _ _ _ _ c.loop-reported.invariant.so_far _ c.as_slice-in-Ok.result.now
     (omega (arith, ap length c.as_slice-reported-end.ensures.items))
-    (λ u stands. c.as_slice-in-Ok-accounts.ensures.value ∙ c.in-Ok-accounts.ensures.accounts u stands)
+    (λ u stands. c.as_slice-in-Ok.ensures.value ∙ c.in-Ok.ensures.accounts u stands)
     (c.has_one_run.ensures.complete (state_of c.args.scenario.now) c.requires.engine))
     c.put_accounts.ensures.ok
 
-pub returns-in-Ok-accounts-clause-stopped : goal.returns-in-Ok-accounts-clause-stopped
-returns-in-Ok-accounts-clause-stopped g c cause =
-    readers_stopped _ _ _ _ _ _ c.loop-reported.invariant.so_far _ c.as_slice-in-Ok-accounts.result.now
+pub returns-in-Ok-clause-stopped : goal.returns-in-Ok-clause-stopped
+returns-in-Ok-clause-stopped g c cause =
+    readers_stopped _ _ _ _ _ _ c.loop-reported.invariant.so_far _ c.as_slice-in-Ok.result.now
     (omega (arith, ap length c.as_slice-reported-end.ensures.items))
-    (λ u stands. c.as_slice-in-Ok-accounts.ensures.value ∙ c.in-Ok-accounts.ensures.accounts u stands)
+    (λ u stands. c.as_slice-in-Ok.ensures.value ∙ c.in-Ok.ensures.accounts u stands)
     (elim cause [
       | inl write ↦ rw write at c.put_accounts.ensures.prefix
       | inr memory ↦ rw memory at c.put_accounts.ensures.prefix
     ])
 
-pub returns-in-Ok-accounts-clause-prefix : goal.returns-in-Ok-accounts-clause-prefix
-returns-in-Ok-accounts-clause-prefix g c =
+pub returns-in-Ok-clause-prefix : goal.returns-in-Ok-clause-prefix
+returns-in-Ok-clause-prefix g c =
     on_err_weaker c.put_accounts.result
-    (λ prefix. stopped_printed _ _ _ _ _ (readers_stopped _ _ _ _ _ _ c.loop-reported.invariant.so_far _
-    c.as_slice-in-Ok-accounts.result.now (omega (arith, ap length c.as_slice-reported-end.ensures.items))
-    (λ u stands. c.as_slice-in-Ok-accounts.ensures.value ∙ c.in-Ok-accounts.ensures.accounts u stands) prefix))
+    (λ prefix. (readers_stopped _ _ _ _ _ _ c.loop-reported.invariant.so_far _
+    c.as_slice-in-Ok.result.now (omega (arith, ap length c.as_slice-reported-end.ensures.items))
+    (λ u stands. c.as_slice-in-Ok.ensures.value ∙ c.in-Ok.ensures.accounts u stands)
+    prefix).printed.front)
     c.put_accounts.ensures.prefix
 
 pub returns-clause-prefix : goal.returns-clause-prefix
@@ -79,3 +83,9 @@ pub returns-clause-run : goal.returns-clause-run
 returns-clause-run g c same =
     accounts_out _ _ _ _ _ _ c.loop-reported.invariant.so_far
     (omega (arith, ap length c.as_slice-reported-end.ensures.items))
+
+pub returns-clause-stopped : goal.returns-clause-stopped
+returns-clause-stopped g c cause = elim cause [
+  | inl write ↦ absurd cc
+  | inr memory ↦ absurd cc
+]

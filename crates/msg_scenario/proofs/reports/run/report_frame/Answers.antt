@@ -1,5 +1,5 @@
 use Rattle.msg_files.proofs.Puts.{on_err}
-use Rattle.msg_scenario.proofs.Reporting.{frame_put, frame_stopped, no_memory_for_frame, out_printed, stopped_printed}
+use Rattle.msg_scenario.proofs.Reporting.{frame_put, frame_stopped, no_memory_for_frame, out_printed}
 use Rattle.msg_scenario.proofs.reports.run.report_frame.Goals as goal
 
 pub returns-in-Err-clause-run : goal.returns-in-Err-clause-run
@@ -23,10 +23,9 @@ returns-in_err-put_frame-clause-stopped g c cause before far =
 pub returns-in_err-put_frame-clause-prefix : goal.returns-in_err-put_frame-clause-prefix
 returns-in_err-put_frame-clause-prefix g c =
     on_err _ c.from_residual.result _ (λ before far.
-    stopped_printed _ _ _ _ _
     (frame_stopped _ _ _ _ _ _ far c.frames_keep_the_systems.ensures.law c.run_frame.new.self _ c.in-Ok.log
     c.requires.next (rw c.as_slice.ensures.items at c.index-as_slice-reported.is) c.in-Ok.ensures.ran _
-    c.in_err-put_frame.ensures.prefix))
+    c.in_err-put_frame.ensures.prefix).printed.front)
 
 pub returns-clause-ok : goal.returns-clause-ok
 returns-clause-ok g c before far =

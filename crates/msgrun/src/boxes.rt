@@ -4,8 +4,8 @@ ghost use Rattle.std.specs.Box.{box_value};
 ghost use Rattle.msg_system.specs.declared.run_fault.RunFault.TheVariants.{BadOrder, NoMemory as NoRoom, Spoiled};
 ghost use Rattle.msg_files.specs.Prelude.{one_failure_more};
 ghost use Rattle.msg_reading.specs.Prelude.{IsRunnable};
-ghost use Rattle.msg_scenario.specs.Prelude.{HasPrinted, IsReported};
-ghost use Rattle.msgrun.specs.Prelude.{PrintedFrames, PrintedSome, main_fault};
+ghost use Rattle.msg_scenario.specs.Prelude.{HasPrinted, IsReported, PrintedFrames, PrintedSome};
+ghost use Rattle.msgrun.specs.Prelude.{main_fault};
 
 use crate::building::{relay_of, scripted_of, tally_of};
 use msg_command::MainFault;
@@ -90,9 +90,5 @@ pub(crate) fn as_main_fault(
 ) -> Result<(), MainFault>
     ensures fault { result ≡ main_fault came }
 {
-    match came {
-        Ok(Ok(())) => Ok(()),
-        Ok(Err(fault)) => Err(MainFault::Report(fault)),
-        Err(NoMemory) => Err(MainFault::Built),
-    }
+    came?.map_err(MainFault::Report)
 }

@@ -1,5 +1,5 @@
 use Rattle.std.proofs.Common.{arith}
-use Rattle.msg_scenario.proofs.scene.run_scenario.Goals as goal
+use Rattle.msg_scenario.proofs.scenario_run.run_scenario.Goals as goal
 
 pub returns-clause-stopped : goal.returns-clause-stopped
 returns-clause-stopped g c cause = record {

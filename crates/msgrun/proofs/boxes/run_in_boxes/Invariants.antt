@@ -1,8 +1,8 @@
 use Rattle.std.proofs.Common.{◌≡◌, length}
 use Rattle.msg_exec.specs.Prelude.{EachIs}
 use Rattle.msg_scenario.specs.Prelude.{IsSystemAt}
-use Rattle.msgrun.proofs.scene.run_in_boxes.OwnLists.{own-1}
-use Rattle.msgrun.proofs.scene.run_in_boxes.Given as goal
+use Rattle.msgrun.proofs.boxes.run_in_boxes.OwnLists.{own-1}
+use Rattle.msgrun.proofs.boxes.run_in_boxes.Given as goal
 
 abbrev pub invariant-loop-spec : goal.invariant-loop-spec
 invariant-loop-spec g l = record {
