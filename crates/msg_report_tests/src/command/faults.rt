@@ -48,43 +48,22 @@ fn refused_files(rt: HostRuntime) -> Result<(), Fail> {
 
 #[test]
 fn reports_that_stop(rt: HostRuntime) -> Result<(), Fail> {
+    let (spoiled, order) = ("the engine is spoiled", "the order isn't lawful");
     for (fault, line, text) in [
-        (
-            RunFault::Spoiled,
-            "run fault 1 Spoiled",
-            "the engine is spoiled",
-        ),
-        (
-            RunFault::BadOrder,
-            "run fault 2 BadOrder",
-            "the order isn't lawful",
-        ),
+        (RunFault::Spoiled, "run fault 1 Spoiled", spoiled),
+        (RunFault::BadOrder, "run fault 2 BadOrder", order),
         (RunFault::NoMemory, "run fault 3 NoMemory", "want of memory"),
     ] {
+        let fault = MainFault::Report(ReportFault::Run(fault));
         let text = format!(in rt.alloc(); "run fault: {text}")?;
-        expect(
-            &rt,
-            MainFault::Report(ReportFault::Run(fault)),
-            line,
-            1,
-            text.as_str(),
-        )?;
+        expect(&rt, fault, line, 1, text.as_str())?;
     }
-    let (write, none) = (ReportFault::Write, ReportFault::NoMemory);
-    expect(
-        &rt,
-        MainFault::Report(write),
-        "write fault",
-        1,
-        "write fault",
-    )?;
-    expect(
-        &rt,
-        MainFault::Report(none),
-        "want of memory",
-        1,
-        "want of memory",
-    )?;
+    for (fault, line) in [
+        (ReportFault::Write, "write fault"),
+        (ReportFault::NoMemory, "want of memory"),
+    ] {
+        expect(&rt, MainFault::Report(fault), line, 1, line)?;
+    }
     expect(&rt, MainFault::Built, "want of memory", 1, "want of memory")
 }
 
