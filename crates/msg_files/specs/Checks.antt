@@ -1,5 +1,5 @@
 -- The checks of a calls file in reading order, each with the refusal that it gives where it fails.
-use Rattle.std.specs.Prelude.{ℕ, ◌+◌, ◌||◌, ◌&&◌, nat_lt, nat_le, Bool, false, List, [], ◌∷◌, ◌++◌, length, map, is_some, codes, if◌then◌else◌}
+use Rattle.std.specs.Prelude.{ℕ, ◌+◌, ◌||◌, nat_lt, nat_le, Bool, false, List, [], ◌∷◌, ◌++◌, length, map, is_some, codes, if◌then◌else◌}
 use Rattle.std.specs.{List.list_all, Option.option_map_or, Str.bytes_eq}
 use Rattle.serde_json.specs.{Data.Data, Find.get}
 use Rattle.msg_files.specs.{Json.Text, Json.elements, Json.keys, Json.value_at, Json.is_object, Json.is_list, Json.is_list_of_numbers, Json.is_number, Json.is_text, Json.text, Json.whole, Json.natural, Json.number_below, Json.number_up_to, Check.Check, Check.needs, Cursors.made_by, Denotes.call_of, declared.refusal.Refusal.TheVariants.Shape, declared.refusal.Refusal.TheVariants.UnknownKey, declared.refusal.Refusal.TheVariants.BadNumber, declared.refusal.Refusal.TheVariants.TooMany}

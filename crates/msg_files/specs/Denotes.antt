@@ -1,5 +1,5 @@
 -- What a JSON value denotes as a calls file: a line for each head.
-use Rattle.std.specs.Prelude.{ℕ, ℤ, List, [], ◌∷◌, map, Option, Some, None, option_map, codes, if◌then◌else◌}
+use Rattle.std.specs.Prelude.{ℤ, List, [], ◌∷◌, map, Option, Some, None, option_map, codes, if◌then◌else◌}
 use Rattle.std.specs.Str.{bytes_eq}
 use Rattle.serde_json.specs.Data.{Data}
 use Rattle.msg_files.specs.{Json.Text, Json.elements, Json.value_at, Json.whole, Json.natural, Json.of_headed, Json.all_some, Json.both, Cursors.CallsFile, declared.call.Call.Call, declared.call.Call.TheVariants.Write, declared.call.Call.TheVariants.Batch, declared.call.Call.TheVariants.Update, declared.call.Call.TheVariants.Read, declared.call.Call.TheVariants.Missed, declared.call.Call.TheVariants.Len, declared.call.Call.TheVariants.Clear, declared.call.Call.TheVariants.Cursor, declared.call.Call.TheVariants.CursorCurrent, declared.call.Call.TheVariants.Get, declared.call.Call.TheVariants.Current, declared.call.Call.TheVariants.Oldest, declared.call.Call.TheVariants.Count, declared.call.Call.TheVariants.Total, declared.call.Call.TheVariants.Drain, declared.call.Call.TheVariants.ClearAll}

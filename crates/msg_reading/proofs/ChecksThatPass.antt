@@ -2,7 +2,7 @@
 use Rattle.std.proofs.Common.{◌≡◌, ℕ, ◌+◌, ◌≤◌, List, [], ◌∷◌, ◌++◌, length, refl, Option, Some, None, Bool, true, false, arith, map, subst, All, if◌then◌else◌, nat_le, option_and_then, option_map, zero-add}
 use Rattle.std.proofs.lemmas.{Bool.leb-true, Grind.common_steps, List.Elements.All-cons, List.Elements.All-nil, Option.same_Some}
 use Rattle.serde_json.specs.{Data.Data, Find.as_str}
-use Rattle.msg_files.specs.Prelude.{Check, Text, a_list, all_some, both, elements, first_refusal, is_list, needs, of_headed, only_below, text}
+use Rattle.msg_files.specs.Prelude.{Check, Text, a_list, all_some, both, elements, first_refusal, is_list, needs, of_headed, only_below}
 use Rattle.msg_reading.specs.Prelude.{Declared, checks_in_turn, each_in_turn, names_checks, with_all}
 use Rattle.msg_files.proofs.WalksOverLists.{refusal_of_both}
 use Rattle.msg_files.specs.{declared.refusal.Refusal.Refusal, declared.refusal.Refusal.TheVariants.Shape, declared.refusal.Refusal.TheVariants.TooMany}

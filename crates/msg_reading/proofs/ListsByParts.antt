@@ -1,11 +1,9 @@
 -- Lists of a scenario file by their parts.
-use Rattle.std.proofs.Common.{◌≡◌, ◌≤◌, ◌<◌, List, [], ◌∷◌, length, get_or, take, drop, refl, arith, Option, Some, map, ◌-◌}
-use Rattle.std.proofs.lemmas.List.{take_all}
-use Rattle.serde_json.specs.{Data.Data, Find.as_array, Find.as_str, View.view, View.items_view, declared.value.Value.Value}
-use Rattle.msg_files.specs.Prelude.{Check, Text, elements, first_refusal, for_headed, of_headed}
+use Rattle.std.proofs.Common.{◌≡◌, ◌≤◌, ◌<◌, List, [], ◌∷◌, length, get_or, refl, arith, Some, map}
+use Rattle.serde_json.specs.{View.view, declared.value.Value.Value}
+use Rattle.msg_files.specs.Prelude.{Text, first_refusal}
 use Rattle.msg_reading.specs.Prelude.{Declared, op_checks_with}
 use Rattle.msg_files.specs.declared.refusal.Refusal.TheVariants.{Shape}
-use Rattle.msg_files.proofs.ChecksByKind.{elements_are}
 
 -- ---- lists of one, of two and of more items
 

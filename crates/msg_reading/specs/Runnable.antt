@@ -1,5 +1,5 @@
 -- The state that an engine of a scenario begins in, and what every scenario that was read keeps to.
-use Rattle.std.specs.Prelude.{◌≡◌, ◌≤◌, ◌<◌, ℕ, IsTrue, All, List, length, map, if◌then◌else◌}
+use Rattle.std.specs.Prelude.{◌≤◌, ◌<◌, IsTrue, All, List, length, map, if◌then◌else◌}
 use Rattle.std.specs.List.{enumerate_from}
 use Rattle.msg_world.specs.Prelude.{HasPart, Part, WorldState, held_world, new_world}
 use Rattle.msg_order.specs.Prelude.{IsAcyclic, NameSystemsBelow, edges_of}

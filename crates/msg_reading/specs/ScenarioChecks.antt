@@ -1,6 +1,6 @@
 -- The checks of a scenario file in reading order, each with the refusal that it gives where it
 -- fails.
-use Rattle.std.specs.Prelude.{ℕ, ◌||◌, ◌&&◌, not, nat_le, Bool, true, false, List, [], ◌∷◌, ◌++◌, length, map, flat_map, is_some, codes, if◌then◌else◌}
+use Rattle.std.specs.Prelude.{ℕ, ◌||◌, ◌&&◌, not, nat_le, Bool, true, false, List, [], ◌∷◌, ◌++◌, map, flat_map, is_some, codes, if◌then◌else◌}
 use Rattle.std.specs.{Option.option_map_or, Str.bytes_eq}
 use Rattle.serde_json.specs.{Data.Data, Find.as_bool}
 use Rattle.msg_system.specs.{declared.op.Op.Op, declared.op.Op.TheVariants.Forward, declared.op.Op.TheVariants.Sum}

@@ -1,7 +1,7 @@
 // One condition: a probe, and the `not`s round it.
 ghost use Rattle.std.specs.Prelude.{◌≡◌, ◌∷◌, [], map, option_map};
 ghost use Rattle.serde_json.specs.View.{view};
-ghost use Rattle.msg_reading.specs.{ScenarioChecks.condition_checks, ScenarioChecks.probe_checks, ScenarioDenotes.condition_of, ScenarioDenotes.in_not, ScenarioDenotes.in_not_with, ScenarioDenotes.inside_nots, ScenarioDenotes.nots_round, ScenarioDenotes.probe_with};
+ghost use Rattle.msg_reading.specs.{ScenarioChecks.condition_checks, ScenarioChecks.probe_checks, ScenarioDenotes.condition_of, ScenarioDenotes.in_not, ScenarioDenotes.inside_nots, ScenarioDenotes.nots_round, ScenarioDenotes.probe_with};
 ghost use Rattle.msg_files.specs.Prelude.{IsAnswer};
 
 use crate::Refusal;

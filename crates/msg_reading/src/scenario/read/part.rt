@@ -1,8 +1,8 @@
 // The parts of a list.
-ghost use Rattle.std.specs.Prelude.{◌≡◌, ◌∷◌, ◌&&◌, [], List, Some, None, false, IfErr, IfOk, MatchResult, map};
+ghost use Rattle.std.specs.Prelude.{◌≡◌, ◌∷◌, ◌&&◌, [], List, Some, false, IfErr, IfOk, MatchResult};
 ghost use Rattle.serde_json.specs.{Data.Data, Find.as_number, Find.as_str, View.view, View.number_view};
-ghost use Rattle.msg_files.specs.Prelude.{Check, IsAnswer, Text, a_limit, a_value, both, elements, first_refusal, for_headed, is_number, is_text, natural, needs, text, whole, wrong_shape};
-ghost use Rattle.msg_reading.specs.Prelude.{a_resource, a_type, for_two, in_not, resource_number, type_number};
+ghost use Rattle.msg_files.specs.Prelude.{Check, IsAnswer, a_limit, a_value, both, elements, is_number, is_text, natural, needs, text, whole, wrong_shape};
+ghost use Rattle.msg_reading.specs.Prelude.{a_resource, a_type, for_two, resource_number, type_number};
 ghost use Rattle.msg_files.specs.declared.refusal.Refusal.TheVariants.{Shape};
 
 use crate::Refusal;
