@@ -40,8 +40,8 @@ pairs_text [] = codes "none"
 pairs_text (x ∷ xs) = pair_text x ++ more_pairs xs
 
 -- FIRST+NUMBER of so many messages, or `spent` where there is no room for them
-abbrev pub numbers_text : History ℤ → ℕ → Text
-numbers_text h number =
+abbrev pub range_text : History ℤ → ℕ → Text
+range_text h number =
     if has_room h number then decimal (count h) ++ codes "+" ++ decimal number else codes "spent"
 
 -- a message's value, or `none`
@@ -57,8 +57,8 @@ cursor_line s at =
 -- ---- the line of a call
 
 abbrev pub line : Call → BufferState → Text
-line (Write value) s = codes "write " ++ numbers_text s.history 1 ++ codes "\n"
-line (Batch values) s = codes "batch " ++ numbers_text s.history (length values) ++ codes "\n"
+line (Write value) s = codes "write " ++ range_text s.history 1 ++ codes "\n"
+line (Batch values) s = codes "batch " ++ range_text s.history (length values) ++ codes "\n"
 line Update s = codes "update\n"
 line (Read c limit) s =
     codes "read " ++ decimal c ++ codes " missed " ++ decimal (missed s.history (place s c))

@@ -1,5 +1,5 @@
 -- Hands on the definitions cited elsewhere. The declared types serve this crate's proofs alone.
-pub use Rattle.msg_files.specs.CallsText.{BufferState, after, calls_text, pair_text, pairs_text, line, more_pairs, text_of, value_text, numbers_text}
+pub use Rattle.msg_files.specs.CallsText.{BufferState, after, calls_text, pair_text, pairs_text, line, more_pairs, text_of, value_text, range_text}
 pub use Rattle.msg_files.specs.Check.{Check, first_refusal, needs}
 pub use Rattle.msg_files.specs.Checks.{a_cursor, a_limit, a_list, a_message_number, a_number, a_value, bare_checks, batch_checks, call_checks, calls_checks, checks_of, checks_with, checks_with_one, checks_with_two, few_values, for_headed, has_key, call_list_checks, object_checks, wrong_shape}
 pub use Rattle.msg_files.specs.Cursors.{cursors_exist, has_cursor, made_by}

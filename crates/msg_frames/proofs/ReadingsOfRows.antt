@@ -7,7 +7,8 @@ use Rattle.msg_frames.specs.Prelude.{ReadEntry, Setup, State, cleared, found_at,
 use Rattle.msg_frames.specs.Rows.{Run, always, from_frame, post, run, setup}
 
 abbrev readers : Setup
-readers = setup (program (Read 0 (Some 1) ∷ []) ∷ program (Clear 0 ∷ []) ∷ []) (always ∷ from_frame 3 ∷ []) [] (9 ∷ []) []
+readers =
+    setup (program (Read 0 (Some 1) ∷ []) ∷ program (Clear 0 ∷ []) ∷ []) (always ∷ from_frame 3 ∷ []) [] (9 ∷ []) []
 
 abbrev start : State
 start = setup_state readers

@@ -1,6 +1,6 @@
 -- Hands on the definitions cited elsewhere. The declared types serve this crate's proofs alone.
 pub use Rattle.msg_reading.specs.Names.{Declared, is_name, is_name_character, position_of, resource_number, system_number, type_number}
-pub use Rattle.msg_reading.specs.Reading.{IsLowestClash, IsReadAs, IsRefusedFor, IsUnfit}
+pub use Rattle.msg_reading.specs.Reading.{IsLowestClashing, IsReadAs, IsRefusedFor, IsUnfit}
 pub use Rattle.msg_reading.specs.Runnable.{IsRunnable, IsRunnableSystem, PostsAreToTypes, first_world, meanings_of, places_of, state_of}
 pub use Rattle.msg_reading.specs.ScenarioChecks.{a_resource, a_system, a_type, checks_in_turn, condition_checks, fits_kind, for_two, join_checks, list_checks, name_checks, names_checks, new_name, of_its_kind, op_checks, op_checks_with, ops_checks, place_checks, probe_checks, program_checks, resource_checks, scenario_checks, system_checks, system_object, type_checks}
 unfoldable pub use Rattle.msg_reading.specs.ScenarioChecks.{frames_checks, held_checks, resources_checks, root_object, rules_checks, sections_checks, systems_checks, types_checks}

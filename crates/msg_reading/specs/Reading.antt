@@ -8,7 +8,7 @@ use Rattle.msg_reading.specs.{ScenarioChecks.scenario_checks, ScenarioDenotes.sc
 use Rattle.msg_files.specs.{declared.refusal.Refusal.Refusal, declared.refusal.Refusal.TheVariants.Clash, declared.refusal.Refusal.TheVariants.Cycle}
 
 -- s is the lowest system whose program reads and writes one type
-pub record IsLowestClash (systems : List SystemSpec) (s : ℕ) : Type 0 where
+pub record IsLowestClashing (systems : List SystemSpec) (s : ℕ) : Type 0 where
   pub system : SystemSpec
   pub is : slice_get systems s ≡ Some system
   pub clash : HasClash (program_needs system.program.ops)
@@ -28,7 +28,7 @@ pub record IsReadAs (d : Data) (scenario : Scenario) : Type 0 where
 -- A scenario is refused for its lowest clash; or, where no program clashes, for the lowest system
 -- on a cycle of rules.
 abbrev pub IsUnfit : Scenario → Refusal → Type 0
-IsUnfit scenario (Clash s) = IsLowestClash scenario.systems s
+IsUnfit scenario (Clash s) = IsLowestClashing scenario.systems s
 IsUnfit scenario (Cycle s) = All (λ x. ¬ HasClash (program_needs x.program.ops)) scenario.systems
     × IsLowestOnCycle (edges_of scenario.rules) s
 IsUnfit scenario _ = ⊥

@@ -1,7 +1,7 @@
 // One call on a buffer and its cursors, and its line.
 ghost use Rattle.std.specs.Prelude.{◌≡◌, ◌<◌, ℤ, ◌++◌, ◌∷◌, [], OnOk, codes, decimal, length, true};
 ghost use Rattle.msg_buffer.specs.Prelude.{History, StandsFor, get, write};
-ghost use Rattle.msg_files.specs.Prelude.{AreIn, BufferState, after, has_cursor, pairs_text, line, value_text, numbers_text};
+ghost use Rattle.msg_files.specs.Prelude.{AreIn, BufferState, after, has_cursor, pairs_text, line, value_text, range_text};
 
 use crate::call::Call;
 use crate::calls::text::{add_found, add_items, add_unread};
@@ -100,7 +100,7 @@ fn add_written(text: &mut Vec<u8>, head: &[u8], first: u64, number: u64) -> Resu
 
 fn write(value: i64, messages: &mut Messages<i64>, text: &mut Vec<u8>) -> Result<(), NoMemory>
     ensures line { OnOk result ((h : History ℤ) → StandsFor messages.old h
-        → text.new.items ≡ text.old.items ++ (codes "write " ++ numbers_text h 1 ++ codes "\n")) }
+        → text.new.items ≡ text.old.items ++ (codes "write " ++ range_text h 1 ++ codes "\n")) }
     ensures state { OnOk result ((h : History ℤ) → StandsFor messages.old h
         → StandsFor messages.new (write (value ∷ []) h)) }
 {
@@ -119,7 +119,7 @@ fn write_batch(
 ) -> Result<(), NoMemory>
     ensures line { OnOk result ((h : History ℤ) → StandsFor messages.old h
         → text.new.items
-        ≡ text.old.items ++ (codes "batch " ++ numbers_text h (length values.now) ++ codes "\n")) }
+        ≡ text.old.items ++ (codes "batch " ++ range_text h (length values.now) ++ codes "\n")) }
     ensures state { OnOk result ((h : History ℤ) → StandsFor messages.old h
         → StandsFor messages.new (write values.now h)) }
 {
