@@ -11,7 +11,8 @@ use std::test::Fail;
 
 /// So many readers on so many workers, of which these are held until all were called for: where
 /// all are held, each worker has a thread and a number of its own. First one frame, whose workers
-/// start one another, then a list, whose first worker starts at once as many as had a job before.
+/// start one another, then a list, whose first worker starts all others at once where they ran at
+/// least half of the jobs of that frame.
 #[test]
 fn readers_run_side_by_side(rt: HostRuntime) -> Result<(), Fail> {
     let (alloc, t) = (rt.alloc(), type_no(0));

@@ -29,12 +29,12 @@ with_cursor s at = record s { places = s.places ++ at ∷ [] }
 abbrev pub pair_text : Instance ℤ → Text
 pair_text x = decimal x.id.0 ++ codes "=" ++ signed_decimal x.message
 
--- each item with a space in front
+-- each pair with a space in front
 abbrev pub more_pairs : List (Instance ℤ) → Text
 more_pairs [] = []
 more_pairs (x ∷ xs) = codes " " ++ pair_text x ++ more_pairs xs
 
--- the items with a space between two, or `none`
+-- the pairs with a space between two, or `none`
 abbrev pub pairs_text : List (Instance ℤ) → Text
 pairs_text [] = codes "none"
 pairs_text (x ∷ xs) = pair_text x ++ more_pairs xs

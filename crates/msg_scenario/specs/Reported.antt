@@ -22,8 +22,8 @@ pub record HasPrinted (s : Scenario) (before after : Option (List ℕ)) : Type 0
   pub is_run : HasRunFirst s logs state
   pub printed : AppendsPrefix before after (text_so_far s logs (accounts_of state))
 
--- It took all of the text of the frames before the last one that was run, and a front of what
--- follows.
+-- The sink took all of the text of the frames before the last one that was run, and a front of
+-- what follows.
 pub record PrintedSome (s : Scenario) (before after : Option (List ℕ)) : Type 0 where
   pub front : HasPrinted s before after
   pub earlier : AppendsAtLeast before after
@@ -34,7 +34,7 @@ pub record PrintedSome (s : Scenario) (before after : Option (List ℕ)) : Type 
       ⊎ ((length front.logs ≡ length s.frames)
       × AppendsAtLeast before after (frames_text s 1 s.frames front.logs))
 
--- It took exactly the text of the frames that were run.
+-- The sink took exactly the text of the frames that were run.
 pub record PrintedFrames (s : Scenario) (before after : Option (List ℕ)) : Type 0 where
   pub logs : List Log
   pub state : State
@@ -50,7 +50,7 @@ pub record IsReported (s : Scenario) (before after : Option (List ℕ)) : Type 0
   pub printed : Appends before after (report_text s logs (accounts_of state))
 
 module _ {X : Type 0} (meaning : X → Meaning) (s : Scenario) where
-  -- It is reported, and the engine stands for the last state.
+  -- The scenario is reported, and the engine stands for the last state.
   pub record HasReported (before after : Option (List ℕ)) (e : EngineOf X) : Type 0 where
     pub reported : IsReported s before after
     pub stands : EngineStands meaning e reported.state

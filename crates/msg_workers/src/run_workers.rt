@@ -30,8 +30,8 @@ fn work_alone<W: Runs, G: Gate>(
 
 /// Lets the workers of these passes draw all jobs that are left, and gives how many the first of
 /// them ran. They are numbered from `worker` on, and the first draws in this thread. Where it gets
-/// a job, others begin in new threads before that job is run, so many at once. Where it gets none,
-/// none is left, and the others draw None here, one by one.
+/// a job, `at_once` others begin in new threads before that job is run. Where it gets none, none is
+/// left, and the others draw None here, one by one.
 #[cycle(workers)]
 fn work_from<R: Threads + Sync, W: Runs + Send, G: Gate>(
     rt: &R,
@@ -65,8 +65,8 @@ fn work_from<R: Threads + Sync, W: Runs + Send, G: Gate>(
 }
 
 /// A worker runs the job that it drew first, and draws on, beside the others, who are numbered from
-/// `next` on. So many of them begin at once, and the last of these lets the rest begin where it
-/// gets a job. Gives how many jobs it ran.
+/// `next` on. `at_once` of them begin before it runs that job, and the last of these lets the rest
+/// begin where it gets a job. Gives how many jobs it ran.
 #[cycle(workers)]
 fn work_beside<R: Threads + Sync, W: Runs + Send, G: Gate>(
     rt: &R,
@@ -198,10 +198,10 @@ fn begin_one<R: Threads + Sync, W: Runs + Send, G: Gate>(
     ran
 }
 
-/// Runs the jobs, by at most so many workers and at most one for each job. Their results, in the
-/// order of the jobs. The first worker starts so many others at once, and the last of these starts
-/// the next where it gets a job. `at_once` is then what serves a batch of such jobs best: all,
-/// where the others ran at least half of the jobs, else one.
+/// Runs the jobs, by at most so many workers and at most one for each job, and gives their results
+/// in the order of the jobs. The first worker starts `at_once` others before it runs a job, and the
+/// last of these starts the next where it gets one. Afterwards `at_once` is what serves a batch of
+/// such jobs best: all workers, where the others ran at least half of the jobs, and else one.
 pub fn run_jobs<R: Threads + Sync, W: Runs + Send, G: Gate>(
     rt: &R,
     alloc: Global,

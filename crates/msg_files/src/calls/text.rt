@@ -18,7 +18,7 @@ pub fn add_found(text: &mut Vec<u8>, value: Option<&i64>) -> Result<(), NoMemory
     }
 }
 
-/// An item with a space in front.
+/// A pair with a space in front.
 fn add_item(text: &mut Vec<u8>, id: MessageId, message: &i64) -> Result<(), NoMemory>
     ensures { OnOk result (text.new.items
         ≡ text.old.items ++ (codes " " ++ pair_text (record { id = id; message = message.now }))) }
@@ -26,7 +26,7 @@ fn add_item(text: &mut Vec<u8>, id: MessageId, message: &i64) -> Result<(), NoMe
     add_pair(text, u128::from(id.0), *message)
 }
 
-/// Items after a head: each with a space in front, or `none`.
+/// Pairs after a head: each with a space in front, or `none`.
 pub fn add_items(text: &mut Vec<u8>, items: &[Instance<i64>]) -> Result<(), NoMemory>
     ensures appends { OnOk result
         (text.new.items ≡ text.old.items ++ (codes " " ++ pairs_text items.now)) }
