@@ -9,7 +9,22 @@ use crate::runs::{Runs, work_on};
 use crate::{Gate, NoMemory, Workers};
 use msg_board::{Board, Pass};
 use std::alloc::Global;
-use std::thread::{Threads, join_mut};
+use std::sync::atomic::{AtomicBool, Ordering};
+use std::thread::{Threads, join_mut, yield_now};
+
+/// How often a worker that was started looks whether the jobs have run out, before it draws. So
+/// many looks take about twice as long as the start of a thread.
+const LOOKS: u32 = 150;
+
+/// Returns once the jobs have run out, and at the latest after so many looks.
+fn look(run_out: &AtomicBool) {
+    for _ in 0..LOOKS {
+        if run_out.load(Ordering::SeqCst) {
+            return;
+        }
+        yield_now();
+    }
+}
 
 /// One worker's part: it draws jobs until there is none left.
 fn work_alone<W: Runs, G: Gate>(
@@ -38,6 +53,7 @@ fn work_from<R: Threads + Sync, W: Runs + Send, G: Gate>(
     alloc: Global,
     board: &Board<W>,
     gate: &G,
+    run_out: &AtomicBool,
     worker: u32,
     at_once: u32,
     passes: &mut [Pass<W::Job, W::Done>],
@@ -55,11 +71,11 @@ fn work_from<R: Threads + Sync, W: Runs + Send, G: Gate>(
     let next = worker + 1;
     if first.is_none() || others.is_empty() {
         let own = work_on(alloc, board, gate, worker, first, pass);
-        work_from(rt, alloc, board, gate, next, 1, others);
+        work_from(rt, alloc, board, gate, run_out, next, 1, others);
         own
     } else {
         work_beside(
-            rt, alloc, board, gate, worker, first, pass, next, at_once, others,
+            rt, alloc, board, gate, run_out, worker, first, pass, next, at_once, others,
         )
     }
 }
@@ -73,6 +89,7 @@ fn work_beside<R: Threads + Sync, W: Runs + Send, G: Gate>(
     alloc: Global,
     board: &Board<W>,
     gate: &G,
+    run_out: &AtomicBool,
     worker: u32,
     first: Option<(usize, W::Job)>,
     pass: &mut Pass<W::Job, W::Done>,
@@ -90,23 +107,28 @@ fn work_beside<R: Threads + Sync, W: Runs + Send, G: Gate>(
         (λ worker job. G.passed gate.now worker (W.system_of job)) next others.new }
 {
     if at_once <= 1 || others.len() <= 1 {
-        return begin_rest(rt, alloc, board, gate, worker, first, pass, next, others);
+        return begin_rest(
+            rt, alloc, board, gate, run_out, worker, first, pass, next, others,
+        );
     }
     let Some((one, rest)) = others.split_first_mut() else {
         unreachable!()
     };
     begin_one(
-        rt, alloc, board, gate, worker, first, pass, next, at_once, one, rest,
+        rt, alloc, board, gate, run_out, worker, first, pass, next, at_once, one, rest,
     )
 }
 
 /// The rest of the workers begin in a new thread, one after the other, and this one runs its job.
+/// Where that thread may start another, it first looks for a while whether the jobs run out: short
+/// ones are drawn here by then, and it starts none.
 #[cycle(workers)]
 fn begin_rest<R: Threads + Sync, W: Runs + Send, G: Gate>(
     rt: &R,
     alloc: Global,
     board: &Board<W>,
     gate: &G,
+    run_out: &AtomicBool,
     worker: u32,
     mut first: Option<(usize, W::Job)>,
     pass: &mut Pass<W::Job, W::Done>,
@@ -126,13 +148,22 @@ fn begin_rest<R: Threads + Sync, W: Runs + Send, G: Gate>(
         requires { IsFirstDraw board.now pass.now first × EachMay W.may (jobs_of board.now) }
         ensures { HasWorked board.entry.now
             (λ job. G.passed gate.entry.now worker (W.system_of job)) pass.exit.now }
-    { work_on(alloc, board, gate, worker, first.take(), pass) };
+    {
+        let ran = work_on(alloc, board, gate, worker, first.take(), pass);
+        run_out.store(true, Ordering::SeqCst);
+        ran
+    };
     let mut theirs = ||
         requires { IsSync R.row × IsSend W.row × IsSync G.row × (next + length rest.now ≤ 64)
             × All (IsNewPass board.now) rest.now × EachMay W.may (jobs_of board.now) }
         ensures { HaveWorked board.entry.now
             (λ worker job. G.passed gate.entry.now worker (W.system_of job)) next rest.exit.now }
-    { work_from(rt, alloc, board, gate, next, 1, rest) };
+    {
+        if rest.len() > 1 {
+            look(run_out);
+        }
+        work_from(rt, alloc, board, gate, run_out, next, 1, rest)
+    };
     let (_, ran) = join_mut(rt, &mut theirs, &mut own);
     ran
 }
@@ -144,6 +175,7 @@ fn begin_one<R: Threads + Sync, W: Runs + Send, G: Gate>(
     alloc: Global,
     board: &Board<W>,
     gate: &G,
+    run_out: &AtomicBool,
     worker: u32,
     mut first: Option<(usize, W::Job)>,
     pass: &mut Pass<W::Job, W::Done>,
@@ -180,6 +212,7 @@ fn begin_one<R: Threads + Sync, W: Runs + Send, G: Gate>(
             alloc,
             board,
             gate,
+            run_out,
             worker,
             first.take(),
             pass,
@@ -218,8 +251,18 @@ pub fn run_jobs<R: Threads + Sync, W: Runs + Send, G: Gate>(
 {
     let half = jobs.len() as u32 / 2;
     let most = workers.number().min(jobs.len() as u32).max(1);
+    let run_out = AtomicBool::new(false);
     let (board, mut passes) = Board::<W>::new(alloc, jobs, most)?;
-    let own = work_from(rt, alloc, &board, gate, 0, *at_once, passes.as_mut_slice());
+    let own = work_from(
+        rt,
+        alloc,
+        &board,
+        gate,
+        &run_out,
+        0,
+        *at_once,
+        passes.as_mut_slice(),
+    );
     *at_once = if own <= half { most } else { 1 };
     board.close(alloc, passes)
 }

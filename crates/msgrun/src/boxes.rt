@@ -1,6 +1,5 @@
 // A scenario, run to its end by systems in boxes.
 ghost use Rattle.std.specs.Prelude.{◌≡◌, ◌≢◌, ◌⊎◌, Ok, Err, IfOk, OnErr, OnOk};
-ghost use Rattle.std.specs.Box.{box_value};
 ghost use Rattle.msg_system.specs.declared.run_fault.RunFault.TheVariants.{BadOrder, NoMemory as NoRoom, Spoiled};
 ghost use Rattle.msg_files.specs.Prelude.{one_failure_more};
 ghost use Rattle.msg_reading.specs.Prelude.{IsRunnable};
@@ -54,34 +53,13 @@ pub(crate) fn run_in_boxes<R: Threads + Sync, S: Sink>(
         let writer = systems.len() as u32;
         match spec.kind {
             Kind::Script => {
-                let system = scripted_of(alloc, spec, writer)?;
-                add_system(specs, spec, &mut systems, boxed(alloc, system)?)?;
+                add_system(specs, spec, &mut systems, scripted_of(alloc, spec, writer)?)?
             }
-            Kind::Relay => {
-                add_system(
-                    specs,
-                    spec,
-                    &mut systems,
-                    boxed(alloc, relay_of(spec, writer))?,
-                )?;
-            }
-            Kind::Tally => {
-                add_system(
-                    specs,
-                    spec,
-                    &mut systems,
-                    boxed(alloc, tally_of(spec, writer))?,
-                )?;
-            }
+            Kind::Relay => add_system(specs, spec, &mut systems, relay_of(alloc, spec, writer)?)?,
+            Kind::Tally => add_system(specs, spec, &mut systems, tally_of(alloc, spec, writer)?)?,
         }
     }
     run_scenario(rt, alloc, scenario, systems, workers, &NoGate, sink)
-}
-
-fn boxed<T: Drop>(alloc: Global, value: T) -> Result<Box<T>, NoMemory>
-    ensures value { IfOk result (λ b. box_value b ≡ value) }
-{
-    Ok(Box::new(alloc, value)?)
 }
 
 /// What a run comes to, as the fault that ends the program.

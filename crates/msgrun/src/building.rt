@@ -1,5 +1,6 @@
-// A scenario's systems, each made of what its kind is.
+// A scenario's systems, each in a box and made of what its kind is.
 ghost use Rattle.std.specs.Prelude.{◌≡◌, ◌≤◌, IfOk, IsTrue, length};
+ghost use Rattle.std.specs.Box.{box_value};
 ghost use Rattle.msg_system.specs.Prelude.{new_system};
 ghost use Rattle.msg_reading.specs.Prelude.{fits_kind};
 
@@ -13,32 +14,45 @@ pub(crate) fn scripted_of(
     alloc: Global,
     spec: &SystemSpec,
     writer: u32,
-) -> Result<Scripted, NoMemory>
+) -> Result<Box<Scripted>, NoMemory>
     requires few { length spec.now.program.ops ≤ 64 }
-    ensures meaning { IfOk result (λ b.
-        ⟦<Scripted as System>⟧.meaning b ≡ new_system spec.now.program writer) }
+    ensures meaning { IfOk result (λ b. ⟦<Scripted as System>⟧.meaning (box_value b)
+        ≡ new_system spec.now.program writer) }
 {
-    Ok(Scripted::new(spec.program.copy(alloc)?, writer))
+    let program = spec.program.copy(alloc)?;
+    Ok(Box::new(alloc, Scripted::new(program, writer))?)
 }
 
 /// A system whose program is one forward.
-pub(crate) fn relay_of(spec: &SystemSpec, writer: u32) -> Relay
+pub(crate) fn relay_of(
+    alloc: Global,
+    spec: &SystemSpec,
+    writer: u32,
+) -> Result<Box<Relay>, NoMemory>
     requires fit { IsTrue (fits_kind Kind.Relay spec.now.program.ops) }
-    ensures meaning { ⟦<Relay as System>⟧.meaning result ≡ new_system spec.now.program writer }
+    ensures meaning { IfOk result (λ b. ⟦<Relay as System>⟧.meaning (box_value b)
+        ≡ new_system spec.now.program writer) }
 {
     let [Op::Forward(from, to)] = spec.program.ops.as_slice() else {
         unreachable!()
     };
-    Relay::new(*from, *to, spec.program.start, writer)
+    let relay = Relay::new(*from, *to, spec.program.start, writer);
+    Ok(Box::new(alloc, relay)?)
 }
 
 /// A system whose program is one sum.
-pub(crate) fn tally_of(spec: &SystemSpec, writer: u32) -> Tally
+pub(crate) fn tally_of(
+    alloc: Global,
+    spec: &SystemSpec,
+    writer: u32,
+) -> Result<Box<Tally>, NoMemory>
     requires fit { IsTrue (fits_kind Kind.Tally spec.now.program.ops) }
-    ensures meaning { ⟦<Tally as System>⟧.meaning result ≡ new_system spec.now.program writer }
+    ensures meaning { IfOk result (λ b. ⟦<Tally as System>⟧.meaning (box_value b)
+        ≡ new_system spec.now.program writer) }
 {
     let [Op::Sum(from, to)] = spec.program.ops.as_slice() else {
         unreachable!()
     };
-    Tally::new(*from, *to, spec.program.start, writer)
+    let tally = Tally::new(*from, *to, spec.program.start, writer);
+    Ok(Box::new(alloc, tally)?)
 }
