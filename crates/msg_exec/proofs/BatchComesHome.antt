@@ -1,15 +1,15 @@
 -- The systems of a batch come home, one after the other.
-use Rattle.std.proofs.Common.{◌≡◌, ◌≢◌, ℕ, ◌<◌, false, List, [], ◌∷◌, ◌++◌, length, map, None, append_assoc, refl, sym, ap, ◌∙◌, subst, arith, All, AllPairs, Contains, IsSomeAnd, IsTrue, is_some, slice_get, if◌then◌else◌, inl, inr}
-use Rattle.std.proofs.lemmas.{Bool.cases_Bool, Bool.Decides.eqb_tells, List.append-nil, List.get_or-set_other, List.get_or-set_same, List.length-set, List.map-append, List.Elements.All-cons, List.Elements.All-contains, List.Elements.All-head, List.Elements.All-tail, List.Elements.Contains-append_right, Slice.Zip.AllZip-long, List.nil_from_length, Slice.Zip.AllZip-left, Option.get_or_from_slice_get, Option.slice_get_within}
+use Rattle.std.proofs.Common.{◌≡◌, ◌≢◌, ℕ, ◌<◌, false, List, [], ◌∷◌, ◌++◌, length, map, None, Result, Ok, IfOk, append_assoc, refl, sym, ap, ◌∙◌, subst, arith, All, AllPairs, Contains, IsSomeAnd, IsTrue, is_some, slice_get, if◌then◌else◌, inl, inr}
+use Rattle.std.proofs.lemmas.{Bool.cases_Bool, Bool.Decides.eqb_tells, List.append-nil, List.get_or-set_other, List.get_or-set_same, List.length-set, List.map-append, List.Elements.All-cons, List.Elements.All-contains, List.Elements.All-head, List.Elements.All-tail, List.Elements.Contains-append_right, Slice.Zip.AllZip-long, List.nil_from_length, Slice.Zip.AllZip-left, Option.get_or_from_slice_get, Option.slice_get_within, Result.IfOk-weaker}
 use Rattle.std.specs.List.{AllZip}
 use Rattle.msg_world.specs.declared.access.Access.{Access}
 use Rattle.msg_world.specs.Prelude.{HomeMerges, HomeWhereEither, IsApart, Part, PartsStand, SameShape, SameSize, slot, writes}
 use Rattle.msg_order.specs.Prelude.{access_of}
 use Rattle.msg_system.specs.Prelude.{Job as JobState, Meaning, after_job}
-use Rattle.msg_exec.specs.Prelude.{Done, IsAfterJob, IsDone, Job, Lender, LenderStands, TotalsStand, job_state, system_at}
+use Rattle.msg_exec.specs.Prelude.{IsAfterJob, IsDone, JobView, Lender, LenderStands, TotalsStand, job_state, system_at}
 use Rattle.msg_frames.specs.declared.log.Turn.{Turn}
 use Rattle.msg_frames.specs.Prelude.{AreAccessesOf, BatchesRunSideBySide, SameSystems, State, after_turns_of, all_home, home, logged_turn, turn_of}
-use Rattle.msg_exec.specs.{inner.Batches.AreDone, inner.Totals.HasFewReplies, inner.SystemsOut.AreOut, inner.SystemsOut.ComesHome, inner.SystemsOut.IsOut, inner.SystemsOut.any_writes}
+use Rattle.msg_exec.specs.{inner.Batches.WereRun, inner.Totals.HasFewReplies, inner.SystemsOut.AreOut, inner.SystemsOut.ComesHome, inner.SystemsOut.IsOut, inner.SystemsOut.any_writes}
 use Rattle.msg_exec.proofs.{BatchGoesOut.has_written, BatchGoesOut.left_stands, SystemAfterTurn.few_replies, SystemAfterTurn.its_own, SystemAfterTurn.of_another, SystemAfterTurn.totals_after, ItemsOfLists.get_other, ItemsOfLists.get_same, ItemsOfLists.some_of, JobsAreDone.none_there, BatchWritesApart.later_write_not, BatchWritesApart.written_is_used, BatchGoesOut.IsBatch, BatchWritesApart.Free, ItemsOfLists.zip_of_each}
 use Rattle.msg_frames.proofs.{SystemsStay.turns_keep_systems, ElementsAndPairs.pairs_head, ElementsAndPairs.pairs_right}
 use Rattle.msg_order.proofs.Elements.{Contains-cases, Contains-head, Contains-tail, not_in_none}
@@ -27,7 +27,7 @@ all_home_more accesses start (x ∷ come) i s = all_home_more accesses start com
 
 module _ {S : Type 0} where
   -- a system may come home
-  pub record MayCome (now : Lender S) (d : Done S) : Type 0 where
+  pub record MayCome (now : Lender S) (d : JobView S) : Type 0 where
     pub systems : d.number < length now.systems.items
     pub totals : d.number < length now.totals.items
     pub apart : IsApart d.taken now.world
@@ -37,29 +37,35 @@ module _ {S : Type 0} (meaning : S → Meaning) where
   -- ---- what the jobs of a batch give
 
   -- What system i gives back: all that its access writes, as its turn on the state s leaves that.
-  pub record IsBack (whole : Lender S) (s : State) (i : ℕ) (d : Done S) : Type 0 where
+  pub record IsBack (whole : Lender S) (s : State) (i : ℕ) (d : JobView S) : Type 0 where
     pub number : d.number ≡ i
     pub size : SameSize whole.world d.taken
     pub there : (p : Part) → is_some (slot p d.taken) ≡ writes (access_of whole.accesses.items i) p
     pub after : IsAfterJob meaning (after_job (s.members i).job s.world) d.guarded d.taken d.outcome
 
-  pub is_back : {whole : Lender S} (left : Lender S) {s : State} (i : ℕ) {j : Job S} {d : Done S}
+  pub is_back : {whole : Lender S} (left : Lender S) {s : State} (i : ℕ) {j : JobView S} {d : JobView S}
       → LenderStands meaning whole s → i < s.systems → PartsStand left.world s.world → IsOut whole i j
       → IsDone meaning left.world j d → IsBack whole s i d
   is_back left {s} i {j} stands lt world out done =
       let taken : PartsStand j.taken s.world = λ p. grind (arith, cases_Bool) in
       grind (arith, has_written, taken)
 
-  pub all_back : {whole left : Lender S} {s : State} {batch : List ℕ} {js : List (Job S)} {ds : List (Done S)}
-      → IsBatch meaning whole s batch → AreOut whole batch js left → AreDone meaning left.world js ds
-      → AllZip (IsBack whole s) batch ds
-  all_back {whole} {left} {s} {batch} {js} {ds} of out done =
-      let many = done.as_many ∙ AllZip-long (IsOut whole) batch js out.each in
-      zip_of_each (IsBack whole s) batch ds many (λ k i d at there.
+  -- the same, where no memory was refused to it
+  abbrev pub IsResultBack : {E : Type 0} → Lender S → State → ℕ → Result (JobView S) E → Type 0
+  IsResultBack whole s i r = IfOk r (IsBack whole s i)
+
+  pub all_back : {E : Type 0} {whole left : Lender S} {s : State} {batch : List ℕ} {js : List (JobView S)}
+      {rs : List (Result (JobView S) E)}
+      → IsBatch meaning whole s batch → AreOut whole batch js left → WereRun meaning left.world js rs
+      → AllZip (IsResultBack whole s) batch rs
+  all_back {whole = whole} {left} {s} {batch} {js} {rs} of out run =
+      let many = run.as_many ∙ AllZip-long (IsOut whole) batch js out.each in
+      zip_of_each (IsResultBack whole s) batch rs many (λ k i r at there.
       let (j, (found, its)) = some_of (slice_get js k) (rw at at (AllZip-left (IsOut whole) batch js out.each k)) in
       let below = rw (get_or_from_slice_get batch k i i at) at (of.below k i (slice_get_within batch k i at)) in
-      is_back left i of.stands below (left_stands meaning whole left s batch js of.stands.world out) its
-      (done.each k j d found there))
+      IfOk-weaker r _ _ (λ d done.
+      is_back left i of.stands below (left_stands meaning whole left s batch js of.stands.world out) its done)
+      (run.each k j r found there).done)
 
   -- ---- some have come home, and the rest is still out
 
@@ -78,7 +84,7 @@ module _ {S : Type 0} (meaning : S → Meaning) where
     pub there : (p : Part) → is_some (slot p now.world)
         ≡ (if any_writes whole.accesses.items rest p then false else is_some (slot p whole.world))
 
-  module _ (whole now : Lender S) (s u : State) (i : ℕ) (rest : List ℕ) (d : Done S)
+  module _ (whole now : Lender S) (s u : State) (i : ℕ) (rest : List ℕ) (d : JobView S)
       (stands : LenderStands meaning whole s) (lt : i < s.systems)
       (half : Halfway whole s u (i ∷ rest) now) (back : IsBack whole s i d) where
     -- what it gives back is out of the world
@@ -139,20 +145,20 @@ module _ {S : Type 0} (meaning : S → Meaning) where
 
   -- ---- the batch, from its first system that comes home to its last
 
-  pub record ComingHome (whole : Lender S) (batch : List ℕ) (s : State) (ds : List (Done S)) (now : Lender S)
-      (before turns : List Turn) : Type 0 where
+  pub record ComingHome {E : Type 0} (whole : Lender S) (batch : List ℕ) (s : State)
+      (rs : List (Result (JobView S) E)) (now : Lender S) (before turns : List Turn) : Type 0 where
     pub of : IsBatch meaning whole s batch
     pub come : List ℕ
     pub rest : List ℕ
     pub all : come ++ rest ≡ batch
-    pub back : AllZip (IsBack whole s) rest ds
+    pub back : AllZip (IsResultBack whole s) rest rs
     pub half : Halfway whole s (all_home whole.accesses.items s come s) rest now
     pub logged_so_far : turns ≡ before ++ map (logged_turn s) come
 
-  pub begin_home : {whole left : Lender S} {s : State} {batch : List ℕ} {js : List (Job S)} {ds : List (Done S)}
-      {turns : List Turn} → IsBatch meaning whole s batch → AreOut whole batch js left
-      → AllZip (IsBack whole s) batch ds → ComingHome whole batch s ds left turns turns
-  begin_home {whole} {left} {s} {batch} {js} {turns = turns} of out back = record {
+  pub begin_home : {E : Type 0} {whole left : Lender S} {s : State} {batch : List ℕ} {js : List (JobView S)}
+      {rs : List (Result (JobView S) E)} {turns : List Turn} → IsBatch meaning whole s batch → AreOut whole batch js left
+      → AllZip (IsResultBack whole s) batch rs → ComingHome whole batch s rs left turns turns
+  begin_home {whole = whole} {left} {s} {batch} {js} {turns = turns} of out back = record {
     of = of;
     come = [];
     rest = batch;
@@ -162,22 +168,22 @@ module _ {S : Type 0} (meaning : S → Meaning) where
     logged_so_far = sym (append-nil turns);
   }
 
-  module _ {whole now : Lender S} {batch : List ℕ} {s : State} {d : Done S} {left ds : List (Done S)}
-      {before turns : List Turn} (is : left ≡ d ∷ ds) (far : ComingHome whole batch s left now before turns) where
+  module _ {E : Type 0} {whole now : Lender S} {batch : List ℕ} {s : State} {d : JobView S}
+      {left rs : List (Result (JobView S) E)} {before turns : List Turn} (is : left ≡ Ok d ∷ rs) (far : ComingHome whole batch s left now before turns) where
     in_batch : (rest : List ℕ) (i : ℕ) → far.come ++ i ∷ rest ≡ batch → i < s.systems
     in_batch rest i all = All-contains (λ i. i < s.systems) batch i far.of.below
         (rw all at (Contains-append_right far.come (i ∷ rest) i (Contains-head i rest)))
 
     pub next_may_come : MayCome now d
     next_may_come =
-        let (i, rest, at, back, _) = first_beside (IsBack whole s) far.rest d ds (rw is at far.back) in
+        let (i, rest, at, back, _) = first_beside (IsResultBack whole s) far.rest (Ok d) rs (rw is at far.back) in
         may_come whole now s _ i rest d far.of.stands (in_batch rest i (rw at at far.all)) (rw at at far.half) back
 
     pub next_comes : {new : Lender S} {turn : Turn} → ComesHome meaning now d new
         → turn ≡ record { system = d.number; outcome = d.outcome } → HomeMerges → HomeWhereEither
-        → ComingHome whole batch s ds new before (turns ++ turn ∷ [])
+        → ComingHome whole batch s rs new before (turns ++ turn ∷ [])
     next_comes {new} {turn} comes tells merges either =
-        let (i, rest, at, back, others_back) = first_beside (IsBack whole s) far.rest d ds (rw is at far.back) in
+        let (i, rest, at, back, others_back) = first_beside (IsResultBack whole s) far.rest (Ok d) rs (rw is at far.back) in
         let all : far.come ++ i ∷ rest ≡ batch = rw at at far.all in
         let later : (R : ℕ → ℕ → Type 0) → AllPairs R batch → All (R i) rest =
         λ R pairs. pairs_head R i rest (pairs_right R far.come (i ∷ rest) (rw all pairs)) in
@@ -197,13 +203,14 @@ module _ {S : Type 0} (meaning : S → Meaning) where
         }
 
   -- it is one turn after the other
-  pub all_came : {whole now : Lender S} {batch : List ℕ} {s : State} {left : List (Done S)} {before turns : List Turn}
+  pub all_came : {E : Type 0} {whole now : Lender S} {batch : List ℕ} {s : State} {left : List (Result (JobView S) E)}
+      {before turns : List Turn}
       → BatchesRunSideBySide → length left ≡ 0 → ComingHome whole batch s left now before turns
       → LenderStands meaning now (after_turns_of batch s).state × (turns ≡ before ++ (after_turns_of batch s).turns)
-  all_came {whole} {now} {batch} {s} law nobody far =
+  all_came {whole = whole} {now} {batch} {s} law nobody far =
       let are : AreAccessesOf s whole.accesses.items = grind (arith, far.of.stands) in
       let side = law s whole.accesses.items batch are far.of.below far.of.once far.of.apart in
-      let end = nil_from_length far.rest (sym (AllZip-long (IsBack whole s) far.rest _ far.back) ∙ nobody) in
+      let end = nil_from_length far.rest (sym (AllZip-long (IsResultBack whole s) far.rest _ far.back) ∙ nobody) in
       let come : far.come ≡ batch = rw (end, append-nil) at far.all in (
         stands_again whole now s _ far.of.stands (turns_keep_systems batch s)
             (rw (end, come, ← side.1) at far.half),
@@ -212,10 +219,10 @@ module _ {S : Type 0} (meaning : S → Meaning) where
 
 module _ {S : Type 0} (P : ℕ → Type 0) (whole : Lender S) where
   -- the jobs that are out are those of the batch
-  pub of_batch : (batch : List ℕ) (jobs : List (Job S)) → AllZip (IsOut whole) batch jobs
-      → All (λ (j : Job S). P j.number) jobs → All P batch
+  pub of_batch : (batch : List ℕ) (jobs : List (JobView S)) → AllZip (IsOut whole) batch jobs
+      → All (λ (j : JobView S). P j.number) jobs → All P batch
   of_batch [] jobs out told = λ k d lt. absurd (omega (arith, lt))
   of_batch (i ∷ batch) [] out told = absurd out
   of_batch (i ∷ batch) (j ∷ jobs) out told =
-      All-cons P i batch (subst P out.0.number (All-head (λ (j : Job S). P j.number) j jobs told))
-      (of_batch batch jobs out.1 (All-tail (λ (j : Job S). P j.number) j jobs told))
+      All-cons P i batch (subst P out.0.number (All-head (λ (j : JobView S). P j.number) j jobs told))
+      (of_batch batch jobs out.1 (All-tail (λ (j : JobView S). P j.number) j jobs told))

@@ -5,7 +5,7 @@ use Rattle.msg_exec.proofs.{ItemsOfLists.some_of, BatchWritesApart.any_more, Bat
 use Rattle.msg_world.specs.Prelude.{IsHome, Part, PartsStand, slot, writes}
 use Rattle.msg_order.specs.Prelude.{NoneConflict, access_of}
 use Rattle.msg_system.specs.Prelude.{Meaning}
-use Rattle.msg_exec.specs.Prelude.{Job, Lender, LenderStands, MayRun, system_at}
+use Rattle.msg_exec.specs.Prelude.{JobView, Lender, LenderStands, MayRun, system_at}
 use Rattle.msg_workers.specs.Prelude.{EachMay}
 use Rattle.msg_frames.specs.Prelude.{State}
 use Rattle.msg_exec.specs.inner.SystemsOut.{AreOut, GoesOut, IsOut}
@@ -39,7 +39,7 @@ module _ {S : Type 0} (meaning : S → Meaning) where
     apart = apart;
   }
 
-  module _ {whole old : Lender S} {s : State} {batch : List ℕ} {js : List (Job S)} {k : ℕ} (is : IsBatch whole s batch)
+  module _ {whole old : Lender S} {s : State} {batch : List ℕ} {js : List (JobView S)} {k : ℕ} (is : IsBatch whole s batch)
       (lt : k < length batch) (out : AreOut whole (take k batch) js old) where
     abbrev next : ℕ
     next = get_or batch k 0
@@ -57,7 +57,7 @@ module _ {S : Type 0} (meaning : S → Meaning) where
         let unwritten = λ (p : Part). earlier_write_not whole.accesses.items (take k batch) next p free in
         grind (arith, fresh, its, unwritten)
 
-    module _ {new : Lender S} {j : Job S} (goes : GoesOut old next j new) where
+    module _ {new : Lender S} {j : JobView S} (goes : GoesOut old next j new) where
       its : j.access ≡ access_of whole.accesses.items next
       its = goes.access ∙ ap (λ xs. access_of xs next) out.accesses
 
@@ -87,12 +87,12 @@ module _ {S : Type 0} (meaning : S → Meaning) where
   -- ---- what is out
 
   -- a job has all that its access writes
-  pub has_written : (whole : Lender S) (s : State) (i : ℕ) (j : Job S) → LenderStands meaning whole s → i < s.systems
+  pub has_written : (whole : Lender S) (s : State) (i : ℕ) (j : JobView S) → LenderStands meaning whole s → i < s.systems
       → IsOut whole i j
       → (p : Part) → is_some (slot p j.taken) ≡ writes j.access p
   has_written whole s i j stands lt out p = grind (arith, cases_Bool, written_is_used)
 
-  pub all_may_run : {whole left : Lender S} {s : State} {batch : List ℕ} {js : List (Job S)} → IsBatch whole s batch
+  pub all_may_run : {whole left : Lender S} {s : State} {batch : List ℕ} {js : List (JobView S)} → IsBatch whole s batch
       → AreOut whole batch js left → EachMay (MayRun meaning left.world) js
   all_may_run {whole} {s = s} {batch} {js} is out k j at =
       let (i, (found, its)) = some_of (slice_get batch k) (rw at at (AllZip-right (IsOut whole) batch js out.each k)) in
@@ -104,6 +104,6 @@ module _ {S : Type 0} (meaning : S → Meaning) where
   -- ---- what they stand for
 
   -- what is left stands for what stood there
-  pub left_stands : (whole left : Lender S) (s : State) (is : List ℕ) (js : List (Job S))
+  pub left_stands : (whole left : Lender S) (s : State) (is : List ℕ) (js : List (JobView S))
       → PartsStand whole.world s.world → AreOut whole is js left → PartsStand left.world s.world
   left_stands whole left s is js stands out p = grind (arith, cases_Bool)

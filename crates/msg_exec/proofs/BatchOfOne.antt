@@ -1,11 +1,13 @@
 -- A turn is a batch of one system.
-use Rattle.std.proofs.Common.{◌≡◌, ◌≢◌, ℕ, ◌<◌, [], ◌∷◌, Option, Some, get_or, refl, arith, AllPairs}
+use Rattle.std.proofs.Common.{◌≡◌, ◌≢◌, ℕ, ◌<◌, [], ◌∷◌, Option, Some, Result, Ok, get_or, refl, arith, AllPairs}
 use Rattle.std.proofs.Math.Bool.{or-false}
+use Rattle.std.specs.Bool.{⊤}
 use Rattle.msg_world.specs.declared.access.Access.{Access}
 use Rattle.msg_world.specs.Prelude.{HomeMerges, HomeWhereEither, LendsOut, Parts}
 use Rattle.msg_system.specs.Prelude.{Meaning}
-use Rattle.msg_exec.specs.Prelude.{Done, GuardedSystem, HasTakenTurn, Job, Lender, LenderStands, MayRun}
+use Rattle.msg_exec.specs.Prelude.{GuardedSystem, HasTakenTurn, JobView, Lender, LenderStands, MayRun}
 use Rattle.msg_frames.specs.declared.log.Outcome.{Outcome}
+use Rattle.msg_frames.specs.declared.log.Outcome.TheVariants.{Skipped}
 use Rattle.msg_frames.specs.Prelude.{BatchesRunSideBySide, State, after_turn_of, logged_turn}
 use Rattle.msg_exec.specs.inner.SystemsOut.{AreOut, ComesHome}
 use Rattle.msg_exec.proofs.{BatchComesHome.ComingHome, BatchComesHome.MayCome, BatchComesHome.all_came, BatchComesHome.begin_home, BatchComesHome.is_back, BatchComesHome.next_comes, BatchComesHome.next_may_come, BatchGoesOut.all_may_run, BatchGoesOut.left_stands, BatchGoesOut.IsBatch, BatchWritesApart.Free, BatchComesHome.IsBack}
@@ -29,8 +31,8 @@ module _ {S : Type 0} (meaning : S → Meaning) {g : Lender S} {s : State} (i : 
       (is_its : a ≡ get_or g.accesses.items i a)
       (is_there : held ≡ get_or g.systems.items i held) (is_some : held ≡ Some guarded)
       (lent : LendsOut a g.world left taken) where
-    abbrev its_job : Job S
-    its_job = record { number = i; guarded = guarded; access = a; taken = taken }
+    abbrev its_job : JobView S
+    its_job = record { number = i; guarded = guarded; access = a; taken = taken; replies = []; outcome = Skipped }
 
     abbrev pub mid : Lender S
     mid = record g { world = left }
@@ -43,8 +45,8 @@ module _ {S : Type 0} (meaning : S → Meaning) {g : Lender S} {s : State} (i : 
 
     module _ {later : Parts} {came : Outcome} {after : GuardedSystem S}
         (took : HasTakenTurn meaning left taken guarded later came after) where
-      abbrev pub its_done : Done S
-      its_done = record { number = i; guarded = after; taken = later; outcome = came }
+      abbrev pub its_done : JobView S
+      its_done = record { number = i; guarded = after; access = a; taken = later; replies = []; outcome = came }
 
       back : IsBack meaning g s i its_done
       back =
@@ -52,7 +54,10 @@ module _ {S : Type 0} (meaning : S → Meaning) {g : Lender S} {s : State} (i : 
           (left_stands meaning g mid s (i ∷ []) (its_job ∷ []) stands.world out) out.each.0
           (record { number = refl; turn = took })
 
-      begun : ComingHome meaning g (i ∷ []) s (its_done ∷ []) mid [] []
+      abbrev result : Result (JobView S) ⊤
+      result = Ok its_done
+
+      begun : ComingHome meaning g (i ∷ []) s (result ∷ []) mid [] []
       begun = begin_home meaning one out (back, tt)
 
       pub may_come_home : MayCome mid its_done

@@ -6,7 +6,7 @@ use Rattle.msg_system.specs.{declared.op.Op.Op, declared.reply.Reply.Reply}
 use Rattle.msg_system.specs.Prelude.{Meaning}
 use Rattle.msg_frames.specs.declared.totals.Totals.{Totals}
 use Rattle.msg_frames.specs.Prelude.{entries_for}
-use Rattle.msg_exec.specs.Prelude.{Done, capped_totals}
+use Rattle.msg_exec.specs.Prelude.{JobView, capped_totals}
 use Rattle.msg_exec.specs.{inner.SystemsOut.HaveEntered, inner.Totals.entry_at}
 
 -- the same totals are kept alike
@@ -31,7 +31,7 @@ without_replies t (op ∷ ops) = refl
 -- ---- the totals of a system, among those of all
 
 -- what its turn told is entered in its totals where they stand
-pub entered_there : {S : Type 0} (meaning : S → Meaning) (d : Done S) (all : List (Vec Totals)) {x : Vec Totals}
+pub entered_there : {S : Type 0} (meaning : S → Meaning) (d : JobView S) (all : List (Vec Totals)) {x : Vec Totals}
     {was now : List Totals}
     → x ≡ get_or all d.number x → was ≡ x.items → length now ≡ x.len → HaveEntered meaning d was now
     → (u : Vec Totals) → slice_get all d.number ≡ Some u → HaveEntered meaning d u.items (with_items x now).items

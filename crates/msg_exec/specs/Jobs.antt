@@ -1,10 +1,23 @@
 -- What a job does: the turn of its system, on each world that it was lent from.
-use Rattle.std.specs.Prelude.{◌≡◌, Result, IfOk}
+use Rattle.std.specs.Prelude.{◌≡◌, ℕ, List, [], Result, IfOk}
+use Rattle.msg_world.specs.declared.access.Access.{Access}
 use Rattle.msg_world.specs.Prelude.{IsLoanOf, Parts, PartsStand, SameShape, WorldState}
+use Rattle.msg_system.specs.declared.reply.Reply.{Reply}
 use Rattle.msg_system.specs.Prelude.{AfterJob, IsAccessOf, Job as JobState, Meaning, Needs, after_job, conditions_of, with_conditions}
-use Rattle.msg_exec.specs.{declared.job.GuardedSystem.GuardedSystem, declared.job.Job.Job, declared.job.Done.Done}
+use Rattle.msg_exec.specs.{declared.job.GuardedSystem.GuardedSystem}
 use Rattle.msg_frames.specs.declared.log.Outcome.{Outcome}
 use Rattle.msg_frames.specs.Prelude.{outcome_of}
+
+-- A job: a system that is out for its turn, by number, and what goes with it. That is what was lent
+-- to it in writing, or after its turn what it gives back; an empty list for its replies; and after
+-- its turn what came of it.
+pub record JobView (S : Type 0) : Type 0 where
+  pub number : ℕ
+  pub guarded : GuardedSystem S
+  pub access : Access
+  pub taken : Parts
+  pub replies : List Reply
+  pub outcome : Outcome
 
 module _ {S : Type 0} (meaning : S → Meaning) where
   -- a system and its conditions, as the job that they mean
@@ -33,16 +46,18 @@ module _ {S : Type 0} (meaning : S → Meaning) where
         → IsAfterJob (after_job (job_state old) w) new later came
 
   -- A lawful result of a job on a world.
-  pub record IsDone (world : Parts) (j : Job S) (d : Done S) : Type 0 where
+  pub record IsDone (world : Parts) (j : JobView S) (d : JobView S) : Type 0 where
     pub number : d.number ≡ j.number
     pub turn : HasTakenTurn world j.taken j.guarded d.taken d.outcome d.guarded
 
-  -- It may run on a world: it has what its access uses, and that is what it needs.
-  pub record MayRun (world : Parts) (j : Job S) : Type 0 where
+  -- It may run on a world: it has what its access uses, and that is what it needs, and its list is
+  -- empty.
+  pub record MayRun (world : Parts) (j : JobView S) : Type 0 where
     pub loan : IsLoanOf j.access world j.taken
     pub access : IsAccessOf (guarded_needs j.guarded) j.access
+    pub empty : j.replies ≡ []
 
   -- a lawful result, or the word that memory was refused
-  pub record IsResult {E : Type 0} (world : Parts) (j : Job S)
-      (r : Result (Done S) E) : Type 0 where
+  pub record IsResult {E : Type 0} (world : Parts) (j : JobView S)
+      (r : Result (JobView S) E) : Type 0 where
     pub done : IfOk r (IsDone world j)

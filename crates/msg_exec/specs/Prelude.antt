@@ -2,7 +2,7 @@
 pub use Rattle.msg_exec.specs.Building.{Added, AllFit, EachIs, FitBelow, FitsWorld, IsFirstUnknown, IsJoin, IsLowestClash, IsLowestMisfit, MayBeAdded, RefusesFor, RefusesToAdd, RefusesToBuild, numbered_from}
 pub use Rattle.msg_exec.specs.Cores.{CoreStands, Schedule, frame_count}
 pub use Rattle.msg_exec.specs.Engines.{HasReplayed, HasRunFrame, HasRunFrames, IsEngine, IsSpoiled, PostsFit, EngineStands, frame_number}
-pub use Rattle.msg_exec.specs.Jobs.{HasTakenTurn, IsAfterJob, IsDone, IsResult, MayRun, job_state}
+pub use Rattle.msg_exec.specs.Jobs.{HasTakenTurn, IsAfterJob, IsDone, IsResult, JobView, MayRun, job_state}
 pub use Rattle.msg_exec.specs.Keeping.{capped_totals, totals_at, within_u64}
 pub use Rattle.msg_exec.specs.Lender.{AreJoins, LenderStands, MemberStands, TotalsStand, system_at}
 pub use Rattle.msg_exec.specs.declared.build_error.BuildError.TheVariants.{Misfit, UnknownSystem}
@@ -10,7 +10,5 @@ pub use Rattle.msg_exec.specs.declared.build_refusal.BuildRefusal.{BuildRefusal}
 pub use Rattle.msg_exec.specs.declared.build_refusal.BuildRefusal.TheVariants.{Clash, Cycle, NoMemory}
 pub use Rattle.msg_exec.specs.declared.engine.EngineOf.{EngineOf}
 pub use Rattle.msg_exec.specs.declared.engine_core.Core.{Core}
-pub use Rattle.msg_exec.specs.declared.job.Done.{Done}
 pub use Rattle.msg_exec.specs.declared.job.GuardedSystem.{GuardedSystem}
-pub use Rattle.msg_exec.specs.declared.job.Job.{Job}
 pub use Rattle.msg_exec.specs.declared.lender.Lender.{Lender}

@@ -23,6 +23,7 @@ fn lend_out_all<S: System>(
     alloc: Global,
     lender: &mut Lender<S>,
     batch: &[u32],
+    spares: &mut Spares,
 ) -> Result<Vec<Job<S>>, NoMemory>
     requires stands { (s : State) × (LenderStands S.meaning lender.old s
         × All (λ i. i < s.systems) batch.now) }
@@ -32,7 +33,7 @@ fn lend_out_all<S: System>(
 {
     let mut jobs = Vec::with_capacity(alloc, batch.len())?;
     for &system in batch {
-        jobs.push(lender.lend_out(system)?)?;
+        jobs.push(lender.lend_out(system, spares.loan(alloc)?)?)?;
     }
     Ok(jobs)
 }
@@ -62,10 +63,12 @@ fn run_many<R: Threads + Sync, S: System, G: Gate>(
 {
     batches_run_side_by_side();
     written_parts_come_home();
-    let jobs = lend_out_all(alloc, lender, batch)?;
-    let all = run_side_by_side(rt, alloc, &lender.world, gate, workers, jobs, spares)?;
-    for done in all {
-        turns.push(lender.take_back(done))?;
+    let jobs = lend_out_all(alloc, lender, batch, spares)?;
+    let at_once = &mut spares.at_once;
+    let results = run_side_by_side(rt, alloc, &lender.world, gate, workers, jobs, at_once)?;
+    for result in results {
+        let done = result?;
+        turns.push(lender.take_back(alloc, done, spares))?;
     }
     Ok(())
 }

@@ -10,6 +10,7 @@ use crate::{Items, NoMemory, Outcome};
 use msg_system::{Guard, Reply, System, open_loans_cover, what_is_given_back_stands};
 use msg_world::{Access, Lent, Taken, World};
 use std::alloc::Global;
+use std::marker::Model;
 
 /// A system with its conditions.
 #[derive(Drop)]
@@ -69,20 +70,45 @@ impl<S: System> TakesTurns for GuardedSystem<S> {
     }
 }
 
-/// A system that is out for its turn, and what was lent out to it in writing.
+/// What goes with a system to its turn, and comes home with it: what is lent to it in writing, and
+/// what it gives back; an empty list for its replies, and what came of its job. It serves job after
+/// job.
 #[derive(Drop)]
-pub struct Job<S> {
+pub struct Loan {
     pub number: u32,
-    pub guarded: GuardedSystem<S>,
     pub access: Access,
     pub taken: Taken,
+    pub replies: Vec<Reply>,
+    pub outcome: Outcome,
 }
 
-/// A system after its turn, what it gives back, and what came of its job.
+/// A system that is out for its turn. What goes with it is in a box, so that little is moved where a
+/// job goes from list to list and over the board. Contracts see a `JobView`.
 #[derive(Drop)]
-pub struct Done<S> {
-    pub number: u32,
-    pub guarded: GuardedSystem<S>,
-    pub taken: Taken,
-    pub outcome: Outcome,
+pub struct Job<S> {
+    pub(crate) guarded: GuardedSystem<S>,
+    pub(crate) loan: Box<Loan>,
+}
+
+impl<S> Model for Job<S> {
+    ghost use Rattle.msg_exec.specs.Jobs.{JobView};
+
+    ghost Value = { JobView S };
+
+    ghost view = { λ j. record {
+      number = j.loan.value.number;
+      guarded = j.guarded;
+      access = j.loan.value.access;
+      taken = j.loan.value.taken;
+      replies = j.loan.value.replies.items;
+      outcome = j.loan.value.outcome;
+    } };
+}
+
+impl<S> Job<S> {
+    pub(crate) fn number(&self) -> u32
+        ensures number { result ≡ self.now.number }
+    {
+        self.loan.number
+    }
 }

@@ -1,17 +1,18 @@
 // Systems and the world go out for turns, and come home.
-ghost use Rattle.std.specs.Prelude.{◌≡◌, ◌<◌, IfOk, OnOk};
+ghost use Rattle.std.specs.Prelude.{◌≡◌, ◌<◌, [], IfOk, OnOk};
 ghost use Rattle.msg_frames.specs.Prelude.{after_turn_of, logged_turn, State};
 ghost use Rattle.msg_exec.specs.Prelude.{LenderStands};
 
-use crate::job::{Done, GuardedSystem, Job, TakesTurns};
+use crate::job::{GuardedSystem, Job, Loan, TakesTurns};
 use crate::spares::Spares;
 use crate::totals::enter;
-use crate::{NoMemory, Totals, Turn};
+use crate::{NoMemory, Outcome, Totals, Turn};
 use msg_frames::laws::batches_run_side_by_side;
 use msg_system::System;
 use msg_world::laws::written_parts_come_home;
-use msg_world::{Access, World};
+use msg_world::{Access, Taken, World};
 use std::alloc::Global;
+use std::mem::replace;
 
 /// What lends out systems, and the parts of the world that they write. A system that is out for its
 /// turn isn't there.
@@ -31,28 +32,27 @@ impl<S: System> Lender<S> {
     ghost use Rattle.msg_exec.specs.{inner.Totals.HasFewReplies, Lender.system_at, inner.SystemsOut.ComesHome, inner.SystemsOut.GoesOut};
 
     /// Takes a system out for its turn, with what its access writes.
-    pub(crate) fn lend_out(&mut self, number: u32) -> Result<Job<S>, NoMemory>
+    pub(crate) fn lend_out(&mut self, number: u32, loan: Box<Loan>) -> Result<Job<S>, NoMemory>
         requires number { number < length self.old.accesses.items }
         requires there { IsSome (system_at self.old number) }
         requires home { IsHome (access_of self.old.accesses.items number) self.old.world }
+        requires empty { loan.value.replies.items ≡ [] }
         ensures out { IfOk result (λ job. GoesOut self.old number job self.new) }
     {
         let i = number as usize;
-        let access = self.accesses[i];
+        let mut loan = loan;
+        loan.number = number;
+        loan.access = self.accesses[i];
         let Some(guarded) = self.systems[i].take() else {
             unreachable!()
         };
-        let taken = self.world.lend_out(&access)?;
-        Ok(Job {
-            number,
-            guarded,
-            access,
-            taken,
-        })
+        loan.taken = self.world.lend_out(&loan.access)?;
+        Ok(Job { guarded, loan })
     }
 
-    /// Takes a system back after its turn, with what it gives back.
-    pub(crate) fn take_back(&mut self, done: Done<S>) -> Turn
+    /// Takes a system back after its turn, with what it gives back. What went with it serves jobs to
+    /// come.
+    pub(crate) fn take_back(&mut self, alloc: Global, done: Job<S>, spares: &mut Spares) -> Turn
         requires systems { done.number < length self.old.systems.items }
         requires totals { done.number < length self.old.totals.items }
         requires apart { IsApart done.taken self.old.world }
@@ -60,13 +60,12 @@ impl<S: System> Lender<S> {
         ensures home { ComesHome S.meaning self.old done self.new }
         ensures turn { result ≡ record { system = done.number; outcome = done.outcome } }
     {
-        let Done {
-            number,
-            guarded,
-            taken,
-            outcome,
-        } = done;
+        let Job { guarded, mut loan } = done;
+        let number = loan.number;
         let i = number as usize;
+        let taken = replace(&mut loan.taken, Taken::none(alloc));
+        let outcome = replace(&mut loan.outcome, Outcome::Skipped);
+        spares.keep_loan(loan);
         self.world.take_back(taken);
         enter(&guarded.system, &mut self.totals[i], &outcome);
         self.systems[i] = Some(guarded);

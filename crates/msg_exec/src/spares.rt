@@ -1,20 +1,24 @@
 // Memory that one frame leaves to the next. No reply depends on it.
 ghost use Rattle.std.specs.Prelude.{◌≡◌, ◌≤◌, [], IfOk, vec_capacity};
 
+use crate::job::Loan;
 use crate::{Log, NoMemory, Outcome, Turn};
 use msg_system::Reply;
+use msg_world::{Access, Taken};
 use std::alloc::Global;
 use std::mem::replace;
 
-/// At most so many lists of replies are kept: one for each system that an engine may have.
+/// At most so many of a kind are kept: one for each system that an engine may have.
 const MOST: usize = 256;
 
-/// Empty lists with their memory, which serve the logs of frames to come, and how many workers the
-/// first one starts at once in the next batch that goes over workers.
+/// Empty lists with their memory, which serve the logs of frames to come; what goes with systems to
+/// their turns; and how many workers the first one starts at once in the next batch that goes over
+/// workers.
 #[derive(Drop)]
 pub(crate) struct Spares {
     turns: Vec<Turn>,
     replies: Vec<Vec<Reply>>,
+    loans: Vec<Box<Loan>>,
     pub at_once: u32,
 }
 
@@ -23,6 +27,7 @@ impl Spares {
         Spares {
             turns: Vec::new(alloc),
             replies: Vec::new(alloc),
+            loans: Vec::new(alloc),
             at_once: 1,
         }
     }
@@ -49,6 +54,32 @@ impl Spares {
                 replies
             }
             None => Vec::new(alloc),
+        }
+    }
+
+    /// What goes with a system to its turn, with an empty list of replies.
+    pub(crate) fn loan(&mut self, alloc: Global) -> Result<Box<Loan>, NoMemory>
+        ensures empty { IfOk result (λ loan. loan.value.replies.items ≡ []) }
+    {
+        let replies = self.replies(alloc);
+        if let Some(mut loan) = self.loans.pop() {
+            loan.replies = replies;
+            return Ok(loan);
+        }
+        let loan = Loan {
+            number: 0,
+            access: Access::none(),
+            taken: Taken::none(alloc),
+            replies,
+            outcome: Outcome::Skipped,
+        };
+        Ok(Box::new(alloc, loan)?)
+    }
+
+    /// Keeps what went with a system, where there is room for it.
+    pub(crate) fn keep_loan(&mut self, loan: Box<Loan>) {
+        if self.loans.len() < MOST {
+            let _kept = self.loans.push(loan);
         }
     }
 

@@ -129,6 +129,16 @@ pub(crate) fn move_out<T: Drop>(
 impl<T> MovedParts<T> {
     ghost use Rattle.msg_world.specs.inner.MovedLends.{LendsPart};
 
+    /// No parts, of no slots.
+    pub(crate) fn none(alloc: Global) -> MovedParts<T>
+        ensures none { result ≡ [] }
+    {
+        MovedParts {
+            parts: Vec::new(alloc),
+            slots: 0,
+        }
+    }
+
     /// How many slots there are.
     #[tactic(auto, using(crate::proofs::Placed::placed_length))]
     pub(crate) fn slots(&self) -> usize

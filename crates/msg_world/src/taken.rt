@@ -7,6 +7,7 @@ use crate::moved::MovedParts;
 use crate::record::Record;
 use crate::{ResNo, TypeNo};
 use msg_buffer::Messages;
+use std::alloc::Global;
 use std::marker::Model;
 
 /// The parts of a world that were moved out for an access to write. It has to be taken back, or the
@@ -40,8 +41,21 @@ fn moved_stand(types: &MovedParts<Messages<Record>>)
 
 impl Taken {
     ghost use Rattle.std.specs.{Borrow.sem, Option.option_copied, Option.option_copied_mut};
-    ghost use Rattle.std.specs.Prelude.{◌≡◌, is_some, option_map};
+    ghost use Rattle.std.specs.Prelude.{◌≡◌, [], None, is_some, option_map};
     ghost use Rattle.msg_world.specs.{Access.OfType, Access.OfResource, Access.Registry, WritingThrough.LendsMessages, WritingThrough.LendsValue, Parts.PartsStand, Parts.slot, World.WorldState, World.signalled_marks};
+
+    /// Nothing: what stands in the place of parts that are elsewhere. It takes no memory.
+    pub fn none(alloc: Global) -> Taken
+        ensures types { result.types ≡ [] }
+        ensures resources { result.resources ≡ [] }
+        ensures marks { result.marks ≡ None }
+    {
+        Taken {
+            types: MovedParts::none(alloc),
+            resources: MovedParts::none(alloc),
+            marks: None,
+        }
+    }
 
     /// A law: what was moved out stands for some state.
     pub(crate) fn stands_for_some(&self)

@@ -5,7 +5,7 @@ use Rattle.msg_world.specs.declared.access.Access.{Access}
 use Rattle.msg_world.specs.Prelude.{LendsOut, Part, SameSize, TakesBack, slot, writes}
 use Rattle.msg_order.specs.Prelude.{access_of}
 use Rattle.msg_system.specs.Prelude.{Meaning}
-use Rattle.msg_exec.specs.{declared.job.Done.Done, declared.job.Job.Job, declared.lender.Lender.Lender, inner.Totals.entries_by, Keeping.capped_totals, Keeping.totals_at, Lender.system_at}
+use Rattle.msg_exec.specs.{Jobs.JobView, declared.lender.Lender.Lender, inner.Totals.entries_by, Keeping.capped_totals, Keeping.totals_at, Lender.system_at}
 use Rattle.msg_frames.specs.declared.totals.Totals.{Totals}
 use Rattle.msg_frames.specs.Prelude.{State, reader_place, with_entries}
 
@@ -16,27 +16,29 @@ any_writes accesses (i ∷ is) p = writes (access_of accesses i) p || any_writes
 
 module _ {S : Type 0} where
   -- System i goes out for its turn: the job has it, with what its access writes. All else stays.
-  pub record GoesOut (old : Lender S) (i : ℕ) (job : Job S) (new : Lender S) : Type 0 where
+  pub record GoesOut (old : Lender S) (i : ℕ) (job : JobView S) (new : Lender S) : Type 0 where
     pub number : job.number ≡ i
     pub guarded : system_at old i ≡ Some job.guarded
     pub access : job.access ≡ access_of old.accesses.items i
+    pub empty : job.replies ≡ []
     pub lent : LendsOut job.access old.world new.world job.taken
     pub systems : new.systems.items ≡ slice_set old.systems.items i None
     pub accesses : new.accesses.items ≡ old.accesses.items
     pub totals : new.totals.items ≡ old.totals.items
 
   -- A job that is out from the lender `whole`: what it has is as it was there.
-  pub record IsOut (whole : Lender S) (i : ℕ) (job : Job S) : Type 0 where
+  pub record IsOut (whole : Lender S) (i : ℕ) (job : JobView S) : Type 0 where
     pub number : job.number ≡ i
     pub guarded : system_at whole i ≡ Some job.guarded
     pub access : job.access ≡ access_of whole.accesses.items i
+    pub empty : job.replies ≡ []
     pub size : SameSize whole.world job.taken
     pub taken : (p : Part) → slot p job.taken
         ≡ (if writes job.access p then slot p whole.world else None)
 
   -- The jobs of a batch are out. What none of its systems writes stays, and so do the other
   -- systems.
-  pub record AreOut (whole : Lender S) (batch : List ℕ) (jobs : List (Job S))
+  pub record AreOut (whole : Lender S) (batch : List ℕ) (jobs : List (JobView S))
       (left : Lender S) : Type 0 where
     pub each : AllZip (IsOut whole) batch jobs
     pub size : SameSize whole.world left.world
@@ -50,7 +52,7 @@ module _ {S : Type 0} where
 
 module _ {S : Type 0} (meaning : S → Meaning) where
   -- the totals of a system after what came of its job
-  pub record HaveEntered (done : Done S) (old new : List Totals) : Type 0 where
+  pub record HaveEntered (done : JobView S) (old new : List Totals) : Type 0 where
     pub as_many : length new ≡ length old
     pub entered : (t : ℕ) (x : Totals) → t < length old → totals_at old t ≡ capped_totals x
         → totals_at new t ≡ capped_totals
@@ -58,7 +60,7 @@ module _ {S : Type 0} (meaning : S → Meaning) where
 
   -- A system comes home from its turn, with what it gives back, and its totals are those after it.
   -- All else stays.
-  pub record ComesHome (old : Lender S) (done : Done S) (new : Lender S) : Type 0 where
+  pub record ComesHome (old : Lender S) (done : JobView S) (new : Lender S) : Type 0 where
     pub systems : new.systems.items ≡ slice_set old.systems.items done.number (Some done.guarded)
     pub accesses : new.accesses.items ≡ old.accesses.items
     pub taken_back : TakesBack done.taken old.world new.world

@@ -18,34 +18,34 @@ run_side_by_side-requires-clause-may g c κs within =
     all_may_run g.S.System.meaning (is_batch g.S.System.meaning r.stands r.once r.apart r.stands.1.0)
     c.in_ok-jobs.ensures.out
 
-pub loop-done-init : goal.loop-done-init
-loop-done-init g c s stands =
+pub loop-result-init : goal.loop-result-init
+loop-result-init g c s stands =
     let r = c.requires in
-    rw c.into_iter-done-iterator.ensures.into_iter_gives.0
+    rw c.into_iter-result-iterator.ensures.into_iter_gives.0
     (begin_home g.S.System.meaning (is_batch g.S.System.meaning r.stands r.once r.apart stands)
     c.in_ok-jobs.ensures.out (all_back g.S.System.meaning (is_batch g.S.System.meaning r.stands r.once r.apart stands)
-    c.in_ok-jobs.ensures.out c.in_ok-all.ensures.done))
+    c.in_ok-jobs.ensures.out c.in_ok-results.ensures.run))
 
 pub take_back-requires-clause-systems : goal.take_back-requires-clause-systems
 take_back-requires-clause-systems g c κs within =
-    (next_may_come g.S.System.meaning c.in-Some.ensures.steps.0 (c.loop-done.invariant _ c.requires.stands.1.0)).systems
+    (next_may_come g.S.System.meaning (rw c.in_ok-done.was at c.in-Some.ensures.steps.0) (c.loop-result.invariant _ c.requires.stands.1.0)).systems
 
 pub take_back-requires-clause-totals : goal.take_back-requires-clause-totals
 take_back-requires-clause-totals g c κs within =
-    (next_may_come g.S.System.meaning c.in-Some.ensures.steps.0 (c.loop-done.invariant _ c.requires.stands.1.0)).totals
+    (next_may_come g.S.System.meaning (rw c.in_ok-done.was at c.in-Some.ensures.steps.0) (c.loop-result.invariant _ c.requires.stands.1.0)).totals
 
 pub take_back-requires-clause-apart : goal.take_back-requires-clause-apart
 take_back-requires-clause-apart g c κs within =
-    (next_may_come g.S.System.meaning c.in-Some.ensures.steps.0 (c.loop-done.invariant _ c.requires.stands.1.0)).apart
+    (next_may_come g.S.System.meaning (rw c.in_ok-done.was at c.in-Some.ensures.steps.0) (c.loop-result.invariant _ c.requires.stands.1.0)).apart
 
 pub take_back-requires-clause-few : goal.take_back-requires-clause-few
 take_back-requires-clause-few g c κs within =
-    (next_may_come g.S.System.meaning c.in-Some.ensures.steps.0 (c.loop-done.invariant _ c.requires.stands.1.0)).few
+    (next_may_come g.S.System.meaning (rw c.in_ok-done.was at c.in-Some.ensures.steps.0) (c.loop-result.invariant _ c.requires.stands.1.0)).few
 
-pub loop-done-preserved : goal.loop-done-preserved
-loop-done-preserved g c s stands =
+pub loop-result-preserved : goal.loop-result-preserved
+loop-result-preserved g c s stands =
     rw c.in_ok-push.ensures.items
-    (next_comes g.S.System.meaning c.in-Some.ensures.steps.0 (c.loop-done.invariant s stands)
+    (next_comes g.S.System.meaning (rw c.in_ok-done.was at c.in-Some.ensures.steps.0) (c.loop-result.invariant s stands)
     c.take_back.ensures.home c.take_back.ensures.turn c.written_parts_come_home.ensures.meaning
     c.written_parts_come_home.ensures.either)
 
@@ -53,8 +53,8 @@ pub returns : goal.returns
 returns g c =
     let m = g.S.System.meaning in
     let law = c.batches_run_side_by_side.ensures.law in
-    let far = c.loop-done.invariant in
-    let rest = c.loop-done.done-iterator.rest in
+    let far = c.loop-result.invariant in
+    let rest = c.loop-result.result-iterator.rest in
     let none : length rest.items ≡ 0 = sym rest.ok.0 ∙ c.in-None.ensures.steps.0 in
     let passed = g.G.Gate.passed c.args.gate.now in
     let batch = c.args.batch.now in
@@ -66,5 +66,5 @@ returns g c =
       accesses = (far _ c.requires.stands.1.0).half.accesses;
       gate_passed = rw (AllZip-long (IsOut c.args.lender.now) batch jobs out) at
           (of_batch (PassedGate passed (min c.args.workers (length jobs))) c.args.lender.now batch jobs out
-          c.in_ok-all.ensures.gate_passed);
+          c.in_ok-results.ensures.gate_passed);
     }

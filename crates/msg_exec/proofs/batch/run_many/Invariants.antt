@@ -3,8 +3,8 @@ use Rattle.msg_frames.specs.Prelude.{State}
 use Rattle.msg_exec.proofs.BatchComesHome.{ComingHome}
 use Rattle.msg_exec.proofs.batch.run_many.Given as goal
 
-abbrev pub invariant-loop-done : goal.invariant-loop-done
-invariant-loop-done g l =
+abbrev pub invariant-loop-result : goal.invariant-loop-result
+invariant-loop-result g l =
     (s : State) → LenderStands g.S.System.meaning l.fn.lender s
-    → ComingHome g.S.System.meaning l.fn.lender l.batch s l.done-iterator.rest.items l.lender l.initial.turns.items
+    → ComingHome g.S.System.meaning l.fn.lender l.batch s l.result-iterator.rest.items l.lender l.initial.turns.items
     l.turns.items

@@ -7,4 +7,4 @@ pub loop-job-preserved : goal.loop-job-preserved
 loop-job-preserved g c =
     rw c.in_ok-push.ensures.items
     (all_zipped_more (IsWithWorld c.args.world.now) c.loop-job.yielded c.loop-job.all.items c.in-Some.job _
-    c.loop-job.invariant (record { job = refl; world = refl; empty = c.replies-replies.ensures.empty }))
+    c.loop-job.invariant (record { job = refl; world = refl }))
