@@ -111,7 +111,7 @@ module _ {S : Type 0} (meaning : S → Meaning) where
       -- one more is home
       pub one_home : Halfway whole s (home whole.accesses.items s i u) rest new
       one_home = record {
-        systems = grind (arith, length-set);
+        systems = comes.as_many ∙ half.systems;
         accesses = comes.accesses ∙ half.accesses;
         as_many = grind (arith, length-set);
         members = λ k below away. elim (eqb_tells k i) [

@@ -1,7 +1,7 @@
 -- A turn is a batch of one system.
 use Rattle.std.proofs.Common.{◌≡◌, ◌≢◌, ℕ, ◌<◌, [], ◌∷◌, Option, Some, Result, Ok, get_or, refl, arith, AllPairs}
 use Rattle.std.proofs.Math.Bool.{or-false}
-use Rattle.std.specs.Bool.{⊤}
+use Rattle.std.specs.{Bool.⊤, Global.Box}
 use Rattle.msg_world.specs.declared.access.Access.{Access}
 use Rattle.msg_world.specs.Prelude.{HomeMerges, HomeWhereEither, LendsOut, Parts}
 use Rattle.msg_system.specs.Prelude.{Meaning}
@@ -27,12 +27,12 @@ module _ {S : Type 0} (meaning : S → Meaning) {g : Lender S} {s : State} (i : 
   }
 
   -- What its access writes is out, and the system is where it was.
-  module _ {left taken : Parts} {a : Access} {held : Option (GuardedSystem S)} {guarded : GuardedSystem S}
+  module _ {left taken : Parts} {a : Access} {held : Option (Box (GuardedSystem S))} {boxed : Box (GuardedSystem S)}
       (is_its : a ≡ get_or g.accesses.items i a)
-      (is_there : held ≡ get_or g.systems.items i held) (is_some : held ≡ Some guarded)
+      (is_there : held ≡ get_or g.systems.items i held) (is_some : held ≡ Some boxed)
       (lent : LendsOut a g.world left taken) where
     abbrev its_job : JobView S
-    its_job = record { number = i; guarded = guarded; access = a; taken = taken; replies = []; outcome = Skipped }
+    its_job = record { number = i; guarded = boxed.value; access = a; taken = taken; replies = []; outcome = Skipped }
 
     abbrev pub mid : Lender S
     mid = record g { world = left }
@@ -44,7 +44,7 @@ module _ {S : Type 0} (meaning : S → Meaning) {g : Lender S} {s : State} (i : 
     may_take_turn = all_may_run meaning one out 0 its_job refl
 
     module _ {later : Parts} {came : Outcome} {after : GuardedSystem S}
-        (took : HasTakenTurn meaning left taken guarded later came after) where
+        (took : HasTakenTurn meaning left taken boxed.value later came after) where
       abbrev pub its_done : JobView S
       its_done = record { number = i; guarded = after; access = a; taken = later; replies = []; outcome = came }
 

@@ -1,5 +1,5 @@
 -- What stands in a list or an option, in a list with an item set, and in a longer one.
-use Rattle.std.proofs.Common.{◌≡◌, ◌≢◌, ℕ, ◌<◌, ◌++◌, List, [], ◌∷◌, length, set, Option, None, Some, refl, arith, zero, suc, IsSomeAnd, slice_get}
+use Rattle.std.proofs.Common.{◌≡◌, ◌≢◌, ℕ, ◌<◌, ◌++◌, List, [], ◌∷◌, length, set, Option, None, Some, option_map, refl, arith, zero, suc, IsSomeAnd, slice_get}
 use Rattle.std.proofs.lemmas.{Bool.cases_order, List.get_or-set_other, List.get_or-set_same, List.get_or_append_left, List.get_or_default, List.get_or_push, List.length-set, List.length_push, Option.slice_get_cases}
 use Rattle.msg_exec.specs.Prelude.{EachIs}
 use Rattle.std.specs.List.{AllZip}
@@ -10,6 +10,12 @@ use Rattle.std.specs.List.{AllZip}
 pub some_of : {X : Type 0} {P : X → Type 0} (o : Option X) → IsSomeAnd o P → (x : X) × ((o ≡ Some x) × P x)
 some_of (Some x) is = (x, (refl, is))
 some_of None is = absurd is
+
+-- the same of what is made of it
+pub some_under : {X Y : Type 0} (P : Y → Type 0) (f : X → Y) (o : Option X) → IsSomeAnd (option_map f o) P
+    → (x : X) × ((o ≡ Some x) × P (f x))
+some_under P f (Some x) is = (x, (refl, is))
+some_under P f None is = absurd is
 
 -- there is an item at each index below the length
 pub item_at : {X : Type 0} (xs : List X) (i : ℕ) → i < length xs → (x : X) × (slice_get xs i ≡ Some x)

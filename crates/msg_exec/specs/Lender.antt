@@ -1,5 +1,5 @@
 -- When the systems and the world that an engine keeps stand for a state.
-use Rattle.std.specs.Prelude.{◌≡◌, ℕ, ◌<◌, List, length, slice_get, slice_index, slice_index_or, Option, None, IsSomeAnd}
+use Rattle.std.specs.Prelude.{◌≡◌, ℕ, ◌<◌, List, length, slice_get, slice_index, slice_index_or, Option, None, IsSomeAnd, option_map}
 use Rattle.msg_world.specs.Prelude.{IsHome, IsWhole, PartsStand}
 use Rattle.msg_order.specs.Prelude.{access_of}
 use Rattle.msg_system.specs.Prelude.{IsAccessOf, Meaning}
@@ -15,7 +15,7 @@ pub record TotalsStand (types : ℕ) (xs : List Totals) (totals : ℕ → Totals
 module _ {S : Type 0} where
   -- system i, where it is home
   abbrev pub system_at : Lender S → ℕ → Option (GuardedSystem S)
-  system_at g i = slice_index_or g.systems.items i None
+  system_at g i = option_map (λ b. b.value) (slice_index_or g.systems.items i None)
 
 module _ {S : Type 0} (meaning : S → Meaning) where
   -- system i is there, and with its access and its totals stands for a member

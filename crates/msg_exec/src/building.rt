@@ -77,7 +77,7 @@ pub(crate) fn guarded_systems<S: System>(
     alloc: Global,
     systems: Vec<S>,
     places: &[Place],
-) -> Result<Vec<Option<GuardedSystem<S>>>, NoMemory>
+) -> Result<Vec<Option<Box<GuardedSystem<S>>>>, NoMemory>
     requires one_place_each { length places.now ≡ length systems.items }
     ensures as_many { IfOk result (λ v. length v.items ≡ length systems.items) }
     ensures guarded { IfOk result (λ v. EachIs (IsGuardedAt S.meaning systems.items places.now)
@@ -86,7 +86,8 @@ pub(crate) fn guarded_systems<S: System>(
     let mut guarded = Vec::new(alloc);
     for system in systems {
         let guards = guards_of(alloc, places[guarded.len()].conditions.as_slice())?;
-        guarded.push(Some(GuardedSystem { system, guards }))?;
+        let boxed = Box::new(alloc, GuardedSystem { system, guards })?;
+        guarded.push(Some(boxed))?;
     }
     Ok(guarded)
 }

@@ -82,11 +82,11 @@ pub struct Loan {
     pub outcome: Outcome,
 }
 
-/// A system that is out for its turn. What goes with it is in a box, so that little is moved where a
-/// job goes from list to list and over the board. Contracts see a `JobView`.
+/// A system that is out for its turn. It is in a box, and so is what goes with it, so that little is
+/// moved where a job goes from list to list and over the board. Contracts see a `JobView`.
 #[derive(Drop)]
 pub struct Job<S> {
-    pub(crate) guarded: GuardedSystem<S>,
+    pub(crate) guarded: Box<GuardedSystem<S>>,
     pub(crate) loan: Box<Loan>,
 }
 
@@ -97,7 +97,7 @@ impl<S> Model for Job<S> {
 
     ghost view = { λ j. record {
       number = j.loan.value.number;
-      guarded = j.guarded;
+      guarded = j.guarded.value;
       access = j.loan.value.access;
       taken = j.loan.value.taken;
       replies = j.loan.value.replies.items;

@@ -71,17 +71,22 @@ fn open<S: System>(system: &S, counts: &Counts, totals: &mut [Totals])
 }
 
 /// Starts a system, and opens its accounts.
-fn begin<S: System>(slot: &mut Option<GuardedSystem<S>>, counts: &Counts, totals: &mut [Totals])
+fn begin<S: System>(
+    slot: &mut Option<Box<GuardedSystem<S>>>,
+    counts: &Counts,
+    totals: &mut [Totals],
+)
     requires few { length totals.old ≤ 64 }
     ensures as_many { length totals.new ≡ length totals.old }
     ensures begun { IfSome slot.old (λ a. IsSomeAnd slot.new
-        (λ b. job_state S.meaning b ≡ job_begun counts.now (job_state S.meaning a))) }
+        (λ b. job_state S.meaning b.value ≡ job_begun counts.now (job_state S.meaning a.value))) }
     ensures opened { IfSome slot.old (λ a. (t : ℕ) → t < length totals.old → totals_at totals.new t
-        ≡ totals_from (first_place (S.meaning a.system) counts.now t)) }
+        ≡ totals_from (first_place (S.meaning a.value.system) counts.now t)) }
 {
-    if let Some(guarded) = slot {
-        start(guarded, counts);
+    if let Some(mut guarded) = slot.take() {
+        start(&mut guarded, counts);
         open(&guarded.system, counts, totals);
+        *slot = Some(guarded);
     }
 }
 

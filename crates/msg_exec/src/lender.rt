@@ -19,7 +19,7 @@ use std::mem::replace;
 #[derive(Drop)]
 pub struct Lender<S> {
     pub world: World,
-    pub systems: Vec<Option<GuardedSystem<S>>>,
+    pub systems: Vec<Option<Box<GuardedSystem<S>>>>,
     pub accesses: Vec<Access>,
     /// For each system those of each type.
     pub totals: Vec<Vec<Totals>>,
@@ -76,7 +76,7 @@ impl<S: System> Lender<S> {
     }
 }
 
-/// One system's turn; the system isn't moved.
+/// One system's turn, in place.
 pub(crate) fn run_turn<S: System>(
     alloc: Global,
     lender: &mut Lender<S>,
@@ -96,12 +96,13 @@ pub(crate) fn run_turn<S: System>(
     let access = lender.accesses[i];
     let taken = lender.world.lend_out(&access)?;
     let replies = spares.replies(alloc);
-    let Some(guarded) = &mut lender.systems[i] else {
+    let Some(mut guarded) = lender.systems[i].take() else {
         unreachable!()
     };
     let (taken, outcome) = guarded.take_turn(alloc, &lender.world, &access, taken, replies)?;
     lender.world.take_back(taken);
     enter(&guarded.system, &mut lender.totals[i], &outcome);
+    lender.systems[i] = Some(guarded);
     Ok(Turn {
         system: number,
         outcome,

@@ -1,5 +1,6 @@
 -- What the parts of a new engine are, and what a refusal says before all is looked at.
 use Rattle.std.specs.Prelude.{◌≡◌, ℕ, ◌<◌, List, length, Option, Some, slice_get, IsSomeAnd, ⊤}
+use Rattle.std.specs.Global.{Box}
 use Rattle.msg_world.specs.declared.access.Access.{Access}
 use Rattle.msg_order.specs.declared.rule.Rule.{Rule}
 use Rattle.msg_order.specs.Prelude.{IsLowestOnCycle, edges_of}
@@ -29,10 +30,10 @@ module _ {S : Type 0} (meaning : S → Meaning) where
     pub no_clash : (x : S) → slice_get systems i ≡ Some x → ¬ HasClash (meaning x).needs
 
   -- it is system i, with its conditions
-  abbrev pub IsGuardedAt : List S → List Place → ℕ → Option (GuardedSystem S) → Type 0
+  abbrev pub IsGuardedAt : List S → List Place → ℕ → Option (Box (GuardedSystem S)) → Type 0
   IsGuardedAt systems places i o = (x : S) (place : Place) → slice_get systems i ≡ Some x
       → slice_get places i ≡ Some place
-      → IsSomeAnd o (λ a. job_state meaning a ≡ new_job (meaning x) place)
+      → IsSomeAnd o (λ a. job_state meaning a.value ≡ new_job (meaning x) place)
 
 -- totals of readers that haven't joined, one for each type
 pub record AreNoTotals (types : ℕ) (xs : List Totals) : Type 0 where

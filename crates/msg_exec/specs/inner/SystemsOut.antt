@@ -1,5 +1,5 @@
 -- Systems go out for their turns, and come home.
-use Rattle.std.specs.Prelude.{◌≡◌, ℕ, ◌<◌, Bool, false, ◌||◌, List, [], ◌∷◌, Contains, length, slice_get, slice_set, Some, None, if◌then◌else◌}
+use Rattle.std.specs.Prelude.{◌≡◌, ◌≢◌, ℕ, ◌<◌, Bool, false, ◌||◌, List, [], ◌∷◌, Contains, length, slice_get, slice_set, Some, None, if◌then◌else◌}
 use Rattle.std.specs.{Global.Vec, List.AllZip}
 use Rattle.msg_world.specs.declared.access.Access.{Access}
 use Rattle.msg_world.specs.Prelude.{LendsOut, Part, SameSize, TakesBack, slot, writes}
@@ -61,7 +61,9 @@ module _ {S : Type 0} (meaning : S → Meaning) where
   -- A system comes home from its turn, with what it gives back, and its totals are those after it.
   -- All else stays.
   pub record ComesHome (old : Lender S) (done : JobView S) (new : Lender S) : Type 0 where
-    pub systems : new.systems.items ≡ slice_set old.systems.items done.number (Some done.guarded)
+    pub as_many : length new.systems.items ≡ length old.systems.items
+    pub system : system_at new done.number ≡ Some done.guarded
+    pub others : (k : ℕ) → k ≢ done.number → system_at new k ≡ system_at old k
     pub accesses : new.accesses.items ≡ old.accesses.items
     pub taken_back : TakesBack done.taken old.world new.world
     pub totals : (v : Vec Totals) × (new.totals.items ≡ slice_set old.totals.items done.number v)

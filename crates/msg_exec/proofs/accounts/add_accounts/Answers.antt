@@ -21,7 +21,7 @@ loop-t-preserved g c = record {
       get_or_default core.lender.systems.items i None c.index.result.now (omega (arith, lt, lender.systems)) in
       let job = rw (read, ← c.index.ensures, c.in-Some-Some.is-0) at here.guarded in
       let reader : c.reads_type.result ≡ is_reader s i t = c.reads_type.ensures.read
-      ∙ rw c.in-Some-Some-2.ensures.value (c.access-access.ensures.needs.reads (OfType t))
+      ∙ rw c.in-Some-Some-2.ensures.value (rw c.deref-2.ensures at (c.access-access.ensures.needs.reads (OfType t)))
       ∙ ap (λ (j : Job). j.system.needs.reads (OfType t)) job in
       let far = c.loop-t.invariant.so_far s stands in
       elim c.if-reads_type.branch [

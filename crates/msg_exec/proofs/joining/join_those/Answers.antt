@@ -1,10 +1,10 @@
-use Rattle.std.proofs.Common.{◌+◌, inl, inr, ◌≡◌, ◌<◌, None, length, sym, ap, ◌∙◌, arith, refl}
-use Rattle.std.specs.Vec.{with_items}
+use Rattle.std.proofs.Common.{◌+◌, inl, inr, ◌≡◌, ◌<◌, None, length, option_map, slice_index_or, sym, ap, ◌∙◌, arith, refl}
+use Rattle.std.specs.{Global.Box, Vec.with_items}
 use Rattle.msg_buffer.specs.Prelude.{count}
 use Rattle.std.proofs.lemmas.{Bool.cases_eq, Bool.eq-eqb, Bool.le-ltb, Bool.lt-ltb, Bool.Decides.nat_tests, List.FromFn.fill_by_all, Option.get_or_from_slice_get, List.get_or_default, List.get_or-set_other, List.get_or-set_same, List.length-set, List.with_items_is, Simd.map-map}
 use Rattle.msg_frames.specs.Prelude.{Member, counts, job_begun, totals_from, with_joining}
-use Rattle.msg_exec.specs.Prelude.{system_at}
-use Rattle.msg_exec.proofs.{SystemsJoin.joined_below, SystemsJoin.members_alike, SystemsJoin.still, SystemAfterTurn.member_stays, SystemAfterTurn.totals_there, ItemsOfLists.get_other, ItemsOfLists.get_same, ItemsOfLists.some_of}
+use Rattle.msg_exec.specs.Prelude.{GuardedSystem}
+use Rattle.msg_exec.proofs.{SystemsJoin.joined_below, SystemsJoin.members_alike, SystemsJoin.still, SystemAfterTurn.member_stays, SystemAfterTurn.totals_there, ItemsOfLists.get_other, ItemsOfLists.get_same, ItemsOfLists.some_of, ItemsOfLists.some_under}
 use Rattle.msg_exec.specs.inner.Totals.{first_place}
 use Rattle.msg_system.specs.Prelude.{Job as JobState}
 use Rattle.msg_exec.proofs.joining.join_those.Goals as goal
@@ -53,15 +53,15 @@ loop-i-preserved g c =
           with_items_is c.index_mut-in-loop-i.result.now c.begin.new.totals
           (omega (arith, c.begin.ensures.as_many, c.deref_mut.ensures.len)) in
           let many : length w.items ≡ s.types = grind (arith, its.as_many, read) in
-          let guarded : system_at lender i ≡ c.index_mut.result.now =
-          get_or_default lender.systems.items i None c.index_mut.result.now (omega (arith, lt, far.systems))
+          let slot = c.index_mut.result.now in
+          let there : slice_index_or lender.systems.items i None ≡ slot = get_or_default lender.systems.items i None slot (omega (arith, lt, far.systems))
           ∙ sym c.index_mut.ensures.value in
           let same : cs ≡ counts s = fill_by_all (λ t. count (s.world.histories t)) cs s.types 0
           (c.counts-counts.ensures.types ∙ stands.types) (λ k lt. grind (arith, get_or_from_slice_get)) in
           let here = rw (le-ltb i i (omega arith)) at (far.members i lt) in
-          let a = some_of (system_at lender i) here.guarded in
-          let b = some_of x (rw (← guarded, a.1.0) at c.begin.ensures.begun) in
-          let opened = rw (← guarded, a.1.0) at c.begin.ensures.opened in
+          let a = some_under _ (λ (b : Box (GuardedSystem g.row.S.Denot)). b.value) slot (rw there at here.guarded) in
+          let b = some_of x (rw a.1.0 at c.begin.ensures.begun) in
+          let opened = rw a.1.0 at c.begin.ensures.opened in
           let joined : (s.members i).join ≡ c.args.frame = sym (joins.each i lt) ∙ c.if-joins-i.false in
           record {
             systems = rw length-set far.systems;
@@ -82,7 +82,8 @@ loop-i-preserved g c =
               })
               | inr other ↦ rw (still s i j c.args.frame other)
                   (member_stays m lender _ s.types j ((joined_below i c.args.frame s).members j)
-                  (get_or-set_other lender.systems.items i j x None other) refl
+                  (ap (option_map (λ (b : Box (GuardedSystem g.row.S.Denot)). b.value))
+                  (get_or-set_other lender.systems.items i j x None other)) refl
                   (get_other lender.totals.items i j w other) (assumption) (far.members j below))
             ];
             world = far.world;

@@ -1,4 +1,7 @@
-use Rattle.std.proofs.Common.{refl, sym, ◌∙◌, arith}
+use Rattle.std.proofs.Common.{◌<◌, length, None, option_map, refl, sym, ap, set, ◌∙◌, arith}
+use Rattle.std.specs.Global.{Box}
+use Rattle.std.proofs.lemmas.List.{get_or-set_other, get_or-set_same, length-set}
+use Rattle.msg_exec.specs.Prelude.{GuardedSystem}
 use Rattle.msg_exec.proofs.{BatchOfOne.may_come_home, BatchOfOne.may_take_turn, BatchOfOne.turn_is_logged, BatchOfOne.turn_taken, EntriesAreAdded.entered_there}
 use Rattle.msg_exec.proofs.lender.run_turn.Goals as goal
 
@@ -6,31 +9,43 @@ pub take_turn-requires-clause-may : goal.take_turn-requires-clause-may
 take_turn-requires-clause-may g c =
     let (s, (stands, lt)) = c.requires.stands in
     let may = may_take_turn g.S.System.meaning c.args.number stands lt c.index.ensures c.index_mut.ensures.value
-    c.in-Some.is c.in_ok-taken.ensures.lent in
-    (may.loan, may.access)
+    (sym c.take.ensures.value ∙ c.in-Some.is) c.in_ok-taken.ensures.lent in
+    rw c.deref_mut.ensures.value (may.loan, may.access)
 
 pub enter-requires-clause-few : goal.enter-requires-clause-few
 enter-requires-clause-few g c κs within =
     let (s, (stands, lt)) = c.requires.stands in
-    (may_come_home g.S.System.meaning c.args.number stands lt c.index.ensures c.index_mut.ensures.value c.in-Some.is
-    c.in_ok-taken.ensures.lent c.in_ok-taken-2.ensures.took).few
+    (may_come_home g.S.System.meaning c.args.number stands lt c.index.ensures c.index_mut.ensures.value
+    (sym c.take.ensures.value ∙ c.in-Some.is) c.in_ok-taken.ensures.lent
+    (rw c.deref_mut.ensures.value at c.in_ok-taken-2.ensures.took)).few
 
 pub returns-clause-state : goal.returns-clause-state
 returns-clause-state g c s stands =
     let lt = rw (sym c.requires.stands.1.0.accesses ∙ stands.accesses) at c.requires.stands.1.1 in
-    turn_taken g.S.System.meaning c.args.number stands lt c.index.ensures c.index_mut.ensures.value c.in-Some.is
-    c.in_ok-taken.ensures.lent c.in_ok-taken-2.ensures.took
+    let i = c.args.number in
+    let systems = c.args.lender.now.systems.items in
+    let out = set systems i c.take.new.self in
+    let there : i < length systems = omega (arith, lt, stands.systems) in
+    turn_taken g.S.System.meaning i stands lt c.index.ensures c.index_mut.ensures.value
+    (sym c.take.ensures.value ∙ c.in-Some.is) c.in_ok-taken.ensures.lent
+    (rw c.deref_mut.ensures.value at c.in_ok-taken-2.ensures.took)
     (record {
-      systems = refl;
+      as_many = length-set out i _ ∙ length-set systems i _;
+      system = rw (get_or-set_same out i _ None (rw length-set there)) refl;
+      others = λ k other. ap (option_map (λ (b : Box (GuardedSystem g.row.S.Denot)). b.value))
+          (get_or-set_other out i k _ None other ∙ get_or-set_other systems i k _ None other);
       accesses = refl;
       taken_back = c.take_back.ensures.home;
       totals = (
         _,
         refl,
         entered_there g.S.System.meaning _ c.args.lender.now.totals.items {now = c.enter.new.totals}
-            c.index_mut-2.ensures.value c.deref_mut.ensures.value
-            (omega (arith, c.enter.ensures.as_many, c.deref_mut.ensures.len))
-            (record { as_many = c.enter.ensures.as_many; entered = c.enter.ensures.entered }),
+            c.index_mut-2.ensures.value c.deref_mut-2.ensures.value
+            (omega (arith, c.enter.ensures.as_many, c.deref_mut-2.ensures.len))
+            (record {
+              as_many = c.enter.ensures.as_many;
+              entered = rw c.deref.ensures at c.enter.ensures.entered;
+            }),
       );
     })
     c.written_parts_come_home.ensures.meaning c.written_parts_come_home.ensures.either
@@ -39,5 +54,6 @@ returns-clause-state g c s stands =
 pub returns-clause-logged : goal.returns-clause-logged
 returns-clause-logged g c s stands =
     let lt = rw (sym c.requires.stands.1.0.accesses ∙ stands.accesses) at c.requires.stands.1.1 in
-    turn_is_logged g.S.System.meaning c.args.number stands lt c.index.ensures c.index_mut.ensures.value c.in-Some.is
-    c.in_ok-taken.ensures.lent c.in_ok-taken-2.ensures.took
+    turn_is_logged g.S.System.meaning c.args.number stands lt c.index.ensures c.index_mut.ensures.value
+    (sym c.take.ensures.value ∙ c.in-Some.is) c.in_ok-taken.ensures.lent
+    (rw c.deref_mut.ensures.value at c.in_ok-taken-2.ensures.took)

@@ -1,5 +1,7 @@
-use Rattle.std.proofs.Common.{refl, sym, ap, ◌∙◌, arith}
-use Rattle.msg_exec.specs.declared.job.Loan.{Loan}
+use Rattle.std.proofs.Common.{None, option_map, refl, sym, ap, ◌∙◌, arith}
+use Rattle.std.specs.Global.{Box}
+use Rattle.std.proofs.lemmas.List.{get_or-set_other, get_or-set_same, length-set}
+use Rattle.msg_exec.specs.declared.job.{GuardedSystem.GuardedSystem, Loan.Loan}
 use Rattle.msg_exec.proofs.EntriesAreAdded.{entered_there}
 use Rattle.msg_exec.proofs.lender.Lender.take_back.Goals as goal
 
@@ -9,8 +11,13 @@ returns-clause-home g c =
     let taken = c.replace-taken.ensures.value ∙ ap (λ (l : Loan). l.taken) loan in
     let came = c.replace-outcome.ensures.value ∙ ap (λ (l : Loan). l.outcome) c.deref_mut-2.ensures.value
     ∙ ap (λ (l : Loan). l.outcome) loan in
+    let systems = c.args.self.now.systems.items in
+    let i = c.deref.result.now.number in
     rw (← c.done.view_is, ← c.deref.ensures) (record {
-      systems = refl;
+      as_many = length-set systems i _;
+      system = rw (get_or-set_same systems i _ None (rw (← c.done.view_is, ← c.deref.ensures) at c.requires.systems)) refl;
+      others = λ k other. ap (option_map (λ (b : Box (GuardedSystem g.row.S.Denot)). b.value))
+          (get_or-set_other systems i k _ None other);
       accesses = refl;
       taken_back = rw taken at c.take_back.ensures.home;
       totals = (
@@ -18,6 +25,6 @@ returns-clause-home g c =
         refl,
         entered_there g.S.System.meaning _ c.args.self.now.totals.items c.index_mut.ensures.value
             c.deref_mut-3.ensures.value (omega (arith, c.enter.ensures.as_many, c.deref_mut-3.ensures.len))
-            (record { as_many = c.enter.ensures.as_many; entered = rw came at c.enter.ensures.entered }),
+            (record { as_many = c.enter.ensures.as_many; entered = rw (came, c.deref-2.ensures) at c.enter.ensures.entered }),
       );
     })
