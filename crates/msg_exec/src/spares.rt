@@ -6,6 +6,7 @@ use crate::{Log, NoMemory, Outcome, Turn};
 use msg_system::Reply;
 use msg_world::{Access, Taken};
 use std::alloc::Global;
+use std::marker::Model;
 use std::mem::replace;
 
 /// At most so many of a kind are kept: one for each system that an engine may have.
@@ -13,13 +14,21 @@ const MOST: usize = 256;
 
 /// Empty lists with their memory, which serve the logs of frames to come; what goes with systems to
 /// their turns; and how many workers the first one starts at once in the next batch that goes over
-/// workers.
+/// workers. Contracts see nothing of it.
 #[derive(Drop)]
 pub(crate) struct Spares {
     turns: Vec<Turn>,
     replies: Vec<Vec<Reply>>,
     loans: Vec<Box<Loan>>,
     pub at_once: u32,
+}
+
+impl Model for Spares {
+    ghost use Rattle.std.specs.Prelude.{⊤};
+
+    ghost Value = { ⊤ };
+
+    ghost view = { λ _. tt };
 }
 
 impl Spares {

@@ -1,5 +1,4 @@
 use Rattle.std.proofs.Common.{◌≡◌, ◌++◌, ◌∷◌, [], length, append_assoc, refl, arith, rules}
-use Rattle.std.proofs.Math.Seq.{drop-length}
 use Rattle.std.proofs.lemmas.{List.drop-append-le, List.length_push, List.take_all, List.take_more, List.Elements.All-push}
 use Rattle.msg_workers.specs.Prelude.{EachPassedGate}
 use Rattle.msg_frames.specs.Prelude.{turn_order_in}
@@ -17,23 +16,6 @@ run_frame-requires-clause-posts g c κs within =
     let fit = rw (← c.frame-item.is, old.1.0)
     at (c.requires.posts c.loop-frame.frame-index c.frame-item.result c.loop-frame-test.true) in
     rw new.1.0 (λ k d lt. omega (arith, fit k d lt, old.1.1.lender.types, new.1.1.lender.types, far.types))
-
-pub loop-frame-init : goal.loop-frame-init
-loop-frame-init g c = record {
-  so_far = λ s stands. record {
-    logs = [];
-    state = s;
-    as_many = refl;
-    appended = search rules;
-    is_run = search rules;
-    stands = stands;
-    types = refl;
-  };
-  longer = omega arith;
-  gate_passed = rw drop-length (λ k d lt. absurd (omega (arith, lt)));
-  engine = c.requires.engine;
-  core = search rules;
-}
 
 pub loop-frame-preserved : goal.loop-frame-preserved
 loop-frame-preserved g c =
