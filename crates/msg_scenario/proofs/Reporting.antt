@@ -38,6 +38,16 @@ frames_text-append s number [] (log ∷ first) later = refl
 frames_text-append s number (frame ∷ frames) (log ∷ first) later =
     grind (arith, append_assoc, frames_text-append s (number + 1) frames first later)
 
+-- the text of some frames, and of the next one
+text_more : (s : Scenario) (k : ℕ) (logs : List Log) (frame : Frame) (log : Log) → length logs ≡ k
+    → k < length s.frames → frame ≡ get_or s.frames k frame
+    → frames_text s 1 s.frames (logs ++ log ∷ []) ≡ frames_text s 1 s.frames logs ++ frame_text s (k + 1) frame log
+text_more s k logs frame log many lt is =
+    let more = frames_text-append s 1 s.frames logs (log ∷ []) in
+    let none = zip-nil {B = Log} (drop (k + 1) s.frames) in
+    let whole = append-nil (frame_text s (k + 1) frame log) in
+    grind (arith, more, many, is, drop_more s.frames k frame lt, none, whole)
+
 -- ---- runs
 
 module _ {X : Type 0} (meaning : X → Meaning) (s : Scenario) where
@@ -87,11 +97,7 @@ module _ {X : Type 0} (meaning : X → Meaning) (s : Scenario) where
 
       text_now : frames_text s 1 s.frames logs_now
           ≡ frames_text s 1 s.frames far.logs ++ frame_text s (k + 1) frame log
-      text_now =
-          let more = frames_text-append s 1 s.frames far.logs (log ∷ []) in
-          let none = zip-nil {B = Log} (drop (k + 1) s.frames) in
-          let whole = append-nil (frame_text s (k + 1) frame log) in
-          grind (arith, more, far.as_many, is, drop_more s.frames k frame lt, none, whole)
+      text_now = text_more s k far.logs frame log far.as_many lt is
 
       -- its text was put
       pub frame_put : (after : Option (List ℕ)) (g : EngineOf X)
