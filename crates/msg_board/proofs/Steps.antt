@@ -2,7 +2,7 @@
 use Rattle.std.specs.List.{sum_by}
 use Rattle.std.proofs.Common.{◌≡◌, ◌≢◌, ℕ, ◌+◌, ◌<◌, ◌≤◌, max, List, [], ◌∷◌, ◌++◌, map, length, get_or, set, sym, refl, ap, ◌∙◌, inl, inr, arith, Some, None, length-set, get_or-set_other, get_or-set_same}
 use Rattle.std.proofs.lemmas.{Bool.cases_eq, Bool.cases_lt, Bool.Decides.eqb_tells, List.get_or_past, List.set-get_or, List.Sums.sum_by-append}
-use mathlib.Core.Option.{none, some, some-injective, some-ne-none}
+use mathlib.Core.Option.{none, some, some-ne-none}
 use mathlib.Core.Option as maybe
 use lib.ListN.{get_elem?, length-map}
 use Rattle.atomic_table.specs.{declared.shared.Seat.Seat, Table.State, Table.Me, Table.step, Table.keeps, Table.takes, Table.gives, Table.Allows, Table.Splits, Table.Joins, Table.Final, Table.Seen, Table.opening}

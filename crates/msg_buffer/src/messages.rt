@@ -1,5 +1,5 @@
 // The buffer: what each call does to the history that it stands for.
-ghost use Rattle.std.specs.Prelude.{◌≡◌, ◌+◌, ◌-◌, ◌^◌, ◌<◌, ◌≤◌, ◌↔◌, List, [], ◌∷◌, length, IsTrue, IfOk, IfErr, OnOk, OnErr, IsOk};
+ghost use Rattle.std.specs.Prelude.{◌≡◌, ◌+◌, ◌-◌, ◌<◌, ◌≤◌, ◌↔◌, List, [], ◌∷◌, length, IsTrue, IfOk, IfErr, OnOk, OnErr, IsOk};
 ghost use Rattle.std.specs.{Fn.FnReturnsAt, List.AllZip, Option.option_copied};
 ghost use Rattle.msg_buffer.specs.Prelude.{History, IsBatchSpent, IsSpent, StandsFor, batch_refused, clear, count, current, empty, get, get_from, kept_count, kept_instances, message_refused, oldest, present, update, write};
 

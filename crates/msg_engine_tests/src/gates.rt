@@ -43,7 +43,7 @@ impl HoldGate {
     }
 
     fn hold(&self) {
-        for _ in 0..2_000_000_000u64 {
+        for _ in 0..50_000_000u64 {
             if self.came.load(Ordering::SeqCst) >= self.awaited {
                 return;
             }

@@ -9,7 +9,7 @@ use Rattle.msg_system.specs.Prelude.{Job as JobState, Meaning, after_job}
 use Rattle.msg_exec.specs.Prelude.{IsAfterJob, IsDone, JobView, Lender, LenderStands, TotalsStand, job_state, system_at}
 use Rattle.msg_frames.specs.declared.log.Turn.{Turn}
 use Rattle.msg_frames.specs.Prelude.{AreAccessesOf, BatchesRunSideBySide, SameSystems, State, after_turns_of, all_home, home, logged_turn, turn_of}
-use Rattle.msg_exec.specs.{inner.Batches.WereRun, inner.Totals.HasFewReplies, inner.SystemsOut.AreOut, inner.SystemsOut.ComesHome, inner.SystemsOut.IsOut, inner.SystemsOut.any_writes}
+use Rattle.msg_exec.specs.{inner.Batches.AreResults, inner.Totals.HasFewReplies, inner.SystemsOut.AreOut, inner.SystemsOut.ComesHome, inner.SystemsOut.IsOut, inner.SystemsOut.any_writes}
 use Rattle.msg_exec.proofs.{BatchGoesOut.has_written, BatchGoesOut.left_stands, SystemAfterTurn.few_replies, SystemAfterTurn.its_own, SystemAfterTurn.of_another, SystemAfterTurn.totals_after, ItemsOfLists.get_other, ItemsOfLists.get_same, ItemsOfLists.some_of, JobsAreDone.none_there, BatchWritesApart.later_write_not, BatchWritesApart.written_is_used, BatchGoesOut.IsBatch, BatchWritesApart.Free, ItemsOfLists.zip_of_each}
 use Rattle.msg_frames.proofs.{SystemsStay.turns_keep_systems, ElementsAndPairs.pairs_head, ElementsAndPairs.pairs_right}
 use Rattle.msg_order.proofs.Elements.{Contains-cases, Contains-head, Contains-tail, not_in_none}
@@ -56,7 +56,7 @@ module _ {S : Type 0} (meaning : S → Meaning) where
 
   pub all_back : {E : Type 0} {whole left : Lender S} {s : State} {batch : List ℕ} {js : List (JobView S)}
       {rs : List (Result (JobView S) E)}
-      → IsBatch meaning whole s batch → AreOut whole batch js left → WereRun meaning left.world js rs
+      → IsBatch meaning whole s batch → AreOut whole batch js left → AreResults meaning left.world js rs
       → AllZip (IsResultBack whole s) batch rs
   all_back {whole = whole} {left} {s} {batch} {js} {rs} of out run =
       let many = run.as_many ∙ AllZip-long (IsOut whole) batch js out.each in
@@ -156,8 +156,9 @@ module _ {S : Type 0} (meaning : S → Meaning) where
     pub logged_so_far : turns ≡ before ++ map (logged_turn s) come
 
   pub begin_home : {E : Type 0} {whole left : Lender S} {s : State} {batch : List ℕ} {js : List (JobView S)}
-      {rs : List (Result (JobView S) E)} {turns : List Turn} → IsBatch meaning whole s batch → AreOut whole batch js left
-      → AllZip (IsResultBack whole s) batch rs → ComingHome whole batch s rs left turns turns
+      {rs : List (Result (JobView S) E)} {turns : List Turn} → IsBatch meaning whole s batch
+      → AreOut whole batch js left → AllZip (IsResultBack whole s) batch rs
+      → ComingHome whole batch s rs left turns turns
   begin_home {whole = whole} {left} {s} {batch} {js} {turns = turns} of out back = record {
     of = of;
     come = [];
@@ -169,7 +170,8 @@ module _ {S : Type 0} (meaning : S → Meaning) where
   }
 
   module _ {E : Type 0} {whole now : Lender S} {batch : List ℕ} {s : State} {d : JobView S}
-      {left rs : List (Result (JobView S) E)} {before turns : List Turn} (is : left ≡ Ok d ∷ rs) (far : ComingHome whole batch s left now before turns) where
+      {left rs : List (Result (JobView S) E)} {before turns : List Turn} (is : left ≡ Ok d ∷ rs)
+      (far : ComingHome whole batch s left now before turns) where
     in_batch : (rest : List ℕ) (i : ℕ) → far.come ++ i ∷ rest ≡ batch → i < s.systems
     in_batch rest i all = All-contains (λ i. i < s.systems) batch i far.of.below
         (rw all at (Contains-append_right far.come (i ∷ rest) i (Contains-head i rest)))
@@ -183,7 +185,8 @@ module _ {S : Type 0} (meaning : S → Meaning) where
         → turn ≡ record { system = d.number; outcome = d.outcome } → HomeMerges → HomeWhereEither
         → ComingHome whole batch s rs new before (turns ++ turn ∷ [])
     next_comes {new} {turn} comes tells merges either =
-        let (i, rest, at, back, others_back) = first_beside (IsResultBack whole s) far.rest (Ok d) rs (rw is at far.back) in
+        let (i, rest, at, back, others_back) =
+        first_beside (IsResultBack whole s) far.rest (Ok d) rs (rw is at far.back) in
         let all : far.come ++ i ∷ rest ≡ batch = rw at at far.all in
         let later : (R : ℕ → ℕ → Type 0) → AllPairs R batch → All (R i) rest =
         λ R pairs. pairs_head R i rest (pairs_right R far.come (i ∷ rest) (rw all pairs)) in

@@ -39,8 +39,8 @@ module _ {S : Type 0} (meaning : S → Meaning) where
     apart = apart;
   }
 
-  module _ {whole old : Lender S} {s : State} {batch : List ℕ} {js : List (JobView S)} {k : ℕ} (is : IsBatch whole s batch)
-      (lt : k < length batch) (out : AreOut whole (take k batch) js old) where
+  module _ {whole old : Lender S} {s : State} {batch : List ℕ} {js : List (JobView S)} {k : ℕ}
+      (is : IsBatch whole s batch) (lt : k < length batch) (out : AreOut whole (take k batch) js old) where
     abbrev next : ℕ
     next = get_or batch k 0
 
@@ -87,8 +87,8 @@ module _ {S : Type 0} (meaning : S → Meaning) where
   -- ---- what is out
 
   -- a job has all that its access writes
-  pub has_written : (whole : Lender S) (s : State) (i : ℕ) (j : JobView S) → LenderStands meaning whole s → i < s.systems
-      → IsOut whole i j
+  pub has_written : (whole : Lender S) (s : State) (i : ℕ) (j : JobView S) → LenderStands meaning whole s
+      → i < s.systems → IsOut whole i j
       → (p : Part) → is_some (slot p j.taken) ≡ writes j.access p
   has_written whole s i j stands lt out p = grind (arith, cases_Bool, written_is_used)
 

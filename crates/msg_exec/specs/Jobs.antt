@@ -8,9 +8,9 @@ use Rattle.msg_exec.specs.{declared.job.GuardedSystem.GuardedSystem}
 use Rattle.msg_frames.specs.declared.log.Outcome.{Outcome}
 use Rattle.msg_frames.specs.Prelude.{outcome_of}
 
--- A job: a system that is out for its turn, by number, and what goes with it. That is what was lent
--- to it in writing, or after its turn what it gives back; an empty list for its replies; and after
--- its turn what came of it.
+-- A job: the number of a system, the system with its conditions, its access, what was lent to it in
+-- writing, and an empty list for its replies. After its turn it has what the system gives back, and
+-- what came of the job.
 pub record JobView (S : Type 0) : Type 0 where
   pub number : ℕ
   pub guarded : GuardedSystem S
@@ -50,8 +50,8 @@ module _ {S : Type 0} (meaning : S → Meaning) where
     pub number : d.number ≡ j.number
     pub turn : HasTakenTurn world j.taken j.guarded d.taken d.outcome d.guarded
 
-  -- It may run on a world: it has what its access uses, and that is what it needs, and its list is
-  -- empty.
+  -- It may run on a world: it has what its access uses, that is what it needs, and its list of
+  -- replies is empty.
   pub record MayRun (world : Parts) (j : JobView S) : Type 0 where
     pub loan : IsLoanOf j.access world j.taken
     pub access : IsAccessOf (guarded_needs j.guarded) j.access

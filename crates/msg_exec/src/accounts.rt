@@ -1,5 +1,5 @@
 // What readers were given, for callers.
-ghost use Rattle.std.specs.Prelude.{◌≡◌, ◌<◌, ◌≤◌, ◌++◌, ◌^◌, ℕ, IfSome, OnOk, IfOk, IsSome, length};
+ghost use Rattle.std.specs.Prelude.{◌≡◌, ◌<◌, ◌++◌, ◌^◌, IfSome, OnOk, IfOk, length};
 ghost use Rattle.msg_buffer.specs.Prelude.{History, StandsFor as BufferStandsFor, count};
 ghost use Rattle.msg_world.specs.declared.record.Record.{Record};
 ghost use Rattle.msg_world.specs.Prelude.{OfType, slot};

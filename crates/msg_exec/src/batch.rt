@@ -33,7 +33,7 @@ fn lend_out_all<S: System>(
 {
     let mut jobs = Vec::with_capacity(alloc, batch.len())?;
     for &system in batch {
-        jobs.push(lender.lend_out(system, spares.loan(alloc)?)?)?;
+        jobs.push(lender.lend_out(system, spares.contents(alloc)?)?)?;
     }
     Ok(jobs)
 }

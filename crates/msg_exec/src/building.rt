@@ -1,10 +1,9 @@
 // The parts of a new engine.
-ghost use Rattle.std.specs.Prelude.{◌≡◌, ◌<◌, ◌≤◌, ◌↔◌, ℕ, IfOk, IfErr, OnOk, IsTrue, IsSomeAnd, Some, length, map, slice_get};
+ghost use Rattle.std.specs.Prelude.{◌≡◌, ◌<◌, ◌≤◌, ◌↔◌, IfOk, IfErr, OnOk, IsTrue, Some, length, map};
 ghost use Rattle.msg_order.specs.Prelude.{IsAcyclic, NameSystemsBelow, edges_of};
 ghost use Rattle.msg_system.specs.Prelude.{HasClash, IsAccessOf, new_asked};
-ghost use Rattle.msg_exec.specs.Prelude.{EachIs, job_state, totals_at};
+ghost use Rattle.msg_exec.specs.Prelude.{EachIs};
 ghost use Rattle.msg_exec.specs.inner.EngineParts.{AreNoTotals, IsAccessAt, IsGuardedAt, RefusesForClash, RefusesForCycle};
-ghost use Rattle.msg_frames.specs.Prelude.{new_job, no_totals};
 
 use crate::job::GuardedSystem;
 use crate::{BuildRefusal, NoMemory, Place, Totals};

@@ -2,7 +2,7 @@
 ghost use Rattle.std.specs.Prelude.{◌≡◌, ◌<◌, ◌≤◌, All, IfOk, List, Bool, length, map, nat_le};
 ghost use Rattle.msg_order.specs.Prelude.{IsAcyclic, IsPlanOf, NameSystemsBelow, rules_among};
 ghost use Rattle.msg_exec.specs.Prelude.{CoreStands, frame_count};
-ghost use Rattle.msg_workers.specs.Prelude.{EachPassedGate, PassedGate};
+ghost use Rattle.msg_workers.specs.Prelude.{EachPassedGate};
 ghost use Rattle.msg_exec.specs.inner.FrameSteps.{HasBegunFrame, HasLeft, HasOpened, IsNextPlan};
 ghost use Rattle.msg_frames.specs.Prelude.{IsFrame, turn_order_in, State};
 

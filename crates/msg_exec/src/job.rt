@@ -70,11 +70,10 @@ impl<S: System> TakesTurns for GuardedSystem<S> {
     }
 }
 
-/// What goes with a system to its turn, and comes home with it: what is lent to it in writing, and
-/// what it gives back; an empty list for its replies, and what came of its job. It serves job after
-/// job.
+/// What goes with a system to its turn, and comes home with it. `JobView` says what each field is.
+/// It serves job after job.
 #[derive(Drop)]
-pub struct Loan {
+pub struct JobContents {
     pub number: u32,
     pub access: Access,
     pub taken: Taken,
@@ -82,12 +81,12 @@ pub struct Loan {
     pub outcome: Outcome,
 }
 
-/// A system that is out for its turn. It is in a box, and so is what goes with it, so that little is
-/// moved where a job goes from list to list and over the board. Contracts see a `JobView`.
+/// A system that is out for its turn. It is in a box, and so is what goes with it, so that little
+/// is moved where a job goes from list to list and over the board. Contracts see a `JobView`.
 #[derive(Drop)]
 pub struct Job<S> {
     pub(crate) guarded: Box<GuardedSystem<S>>,
-    pub(crate) loan: Box<Loan>,
+    pub(crate) contents: Box<JobContents>,
 }
 
 impl<S> Model for Job<S> {
@@ -96,19 +95,20 @@ impl<S> Model for Job<S> {
     ghost Value = { JobView S };
 
     ghost view = { λ j. record {
-      number = j.loan.value.number;
+      number = j.contents.value.number;
       guarded = j.guarded.value;
-      access = j.loan.value.access;
-      taken = j.loan.value.taken;
-      replies = j.loan.value.replies.items;
-      outcome = j.loan.value.outcome;
+      access = j.contents.value.access;
+      taken = j.contents.value.taken;
+      replies = j.contents.value.replies.items;
+      outcome = j.contents.value.outcome;
     } };
 }
 
 impl<S> Job<S> {
+    /// The number of its system.
     pub(crate) fn number(&self) -> u32
         ensures number { result ≡ self.now.number }
     {
-        self.loan.number
+        self.contents.number
     }
 }

@@ -3,7 +3,7 @@ ghost use Rattle.std.specs.Prelude.{◌≡◌, ◌<◌, [], IfOk, OnOk};
 ghost use Rattle.msg_frames.specs.Prelude.{after_turn_of, logged_turn, State};
 ghost use Rattle.msg_exec.specs.Prelude.{LenderStands};
 
-use crate::job::{GuardedSystem, Job, Loan, TakesTurns};
+use crate::job::{GuardedSystem, Job, JobContents, TakesTurns};
 use crate::spares::Spares;
 use crate::totals::enter;
 use crate::{NoMemory, Outcome, Totals, Turn};
@@ -32,26 +32,30 @@ impl<S: System> Lender<S> {
     ghost use Rattle.msg_exec.specs.{inner.Totals.HasFewReplies, Lender.system_at, inner.SystemsOut.ComesHome, inner.SystemsOut.GoesOut};
 
     /// Takes a system out for its turn, with what its access writes.
-    pub(crate) fn lend_out(&mut self, number: u32, loan: Box<Loan>) -> Result<Job<S>, NoMemory>
+    pub(crate) fn lend_out(
+        &mut self,
+        number: u32,
+        contents: Box<JobContents>,
+    ) -> Result<Job<S>, NoMemory>
         requires number { number < length self.old.accesses.items }
         requires there { IsSome (system_at self.old number) }
         requires home { IsHome (access_of self.old.accesses.items number) self.old.world }
-        requires empty { loan.value.replies.items ≡ [] }
+        requires empty { contents.value.replies.items ≡ [] }
         ensures out { IfOk result (λ job. GoesOut self.old number job self.new) }
     {
         let i = number as usize;
-        let mut loan = loan;
-        loan.number = number;
-        loan.access = self.accesses[i];
+        let mut contents = contents;
+        contents.number = number;
+        contents.access = self.accesses[i];
         let Some(guarded) = self.systems[i].take() else {
             unreachable!()
         };
-        loan.taken = self.world.lend_out(&loan.access)?;
-        Ok(Job { guarded, loan })
+        contents.taken = self.world.lend_out(&contents.access)?;
+        Ok(Job { guarded, contents })
     }
 
-    /// Takes a system back after its turn, with what it gives back. What went with it serves jobs to
-    /// come.
+    /// Takes a system back after its turn, with what it gives back. What went with it is kept for
+    /// later jobs.
     pub(crate) fn take_back(&mut self, alloc: Global, done: Job<S>, spares: &mut Spares) -> Turn
         requires systems { done.number < length self.old.systems.items }
         requires totals { done.number < length self.old.totals.items }
@@ -60,12 +64,15 @@ impl<S: System> Lender<S> {
         ensures home { ComesHome S.meaning self.old done self.new }
         ensures turn { result ≡ record { system = done.number; outcome = done.outcome } }
     {
-        let Job { guarded, mut loan } = done;
-        let number = loan.number;
+        let Job {
+            guarded,
+            mut contents,
+        } = done;
+        let number = contents.number;
         let i = number as usize;
-        let taken = replace(&mut loan.taken, Taken::none(alloc));
-        let outcome = replace(&mut loan.outcome, Outcome::Skipped);
-        spares.keep_loan(loan);
+        let taken = replace(&mut contents.taken, Taken::none(alloc));
+        let outcome = replace(&mut contents.outcome, Outcome::Skipped);
+        spares.keep_contents(contents);
         self.world.take_back(taken);
         enter(&guarded.system, &mut self.totals[i], &outcome);
         self.systems[i] = Some(guarded);

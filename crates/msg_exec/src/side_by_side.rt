@@ -1,7 +1,7 @@
 // The jobs of a batch, side by side on one world.
-ghost use Rattle.std.specs.Prelude.{◌≡◌, ◌≤◌, All, IfOk, OnOk, length, min};
+ghost use Rattle.std.specs.Prelude.{◌≤◌, All, IfOk, OnOk, length, min};
 ghost use Rattle.std.specs.List.{AllZip};
-ghost use Rattle.msg_exec.specs.{Jobs.IsResult, Jobs.MayRun, inner.Batches.WereRun, inner.Batches.IsWithWorld};
+ghost use Rattle.msg_exec.specs.{Jobs.IsResult, Jobs.MayRun, inner.Batches.AreResults, inner.Batches.IsWithWorld};
 ghost use Rattle.msg_workers.specs.Prelude.{EachMay, PassedGate};
 
 use crate::job::{Job, TakesTurns};
@@ -49,14 +49,14 @@ impl<'a, S: System> Runs for Batch<'a, S> {
         let BatchJob { job, world } = job;
         let Job {
             mut guarded,
-            mut loan,
+            mut contents,
         } = job;
-        let taken = replace(&mut loan.taken, Taken::none(alloc));
-        let replies = replace(&mut loan.replies, Vec::new(alloc));
-        let (taken, outcome) = guarded.take_turn(alloc, world, &loan.access, taken, replies)?;
-        loan.taken = taken;
-        loan.outcome = outcome;
-        Ok(Job { guarded, loan })
+        let taken = replace(&mut contents.taken, Taken::none(alloc));
+        let replies = replace(&mut contents.replies, Vec::new(alloc));
+        let (taken, outcome) = guarded.take_turn(alloc, world, &contents.access, taken, replies)?;
+        contents.taken = taken;
+        contents.outcome = outcome;
+        Ok(Job { guarded, contents })
     }
 }
 
@@ -88,7 +88,7 @@ pub(crate) fn run_side_by_side<R: Threads + Sync, S: System, G: Gate>(
 ) -> Result<Vec<Result<Job<S>, NoMemory>>, NoMemory>
     requires few { length jobs.items ≤ 256 }
     requires may { EachMay (MayRun S.meaning world.now) jobs.items }
-    ensures run { IfOk result (λ results. WereRun S.meaning world.now jobs.items results.items) }
+    ensures run { IfOk result (λ results. AreResults S.meaning world.now jobs.items results.items) }
     ensures gate_passed { OnOk result
         (All (λ job. PassedGate (G.passed gate.now) (min workers (length jobs.items)) job.number)
         jobs.items) }

@@ -1,7 +1,7 @@
 // Memory that one frame leaves to the next. No reply depends on it.
-ghost use Rattle.std.specs.Prelude.{◌≡◌, ◌≤◌, [], IfOk, vec_capacity};
+ghost use Rattle.std.specs.Prelude.{◌≡◌, [], IfOk};
 
-use crate::job::Loan;
+use crate::job::JobContents;
 use crate::{Log, NoMemory, Outcome, Turn};
 use msg_system::Reply;
 use msg_world::{Access, Taken};
@@ -19,7 +19,7 @@ const MOST: usize = 256;
 pub(crate) struct Spares {
     turns: Vec<Turn>,
     replies: Vec<Vec<Reply>>,
-    loans: Vec<Box<Loan>>,
+    contents: Vec<Box<JobContents>>,
     pub at_once: u32,
 }
 
@@ -36,7 +36,7 @@ impl Spares {
         Spares {
             turns: Vec::new(alloc),
             replies: Vec::new(alloc),
-            loans: Vec::new(alloc),
+            contents: Vec::new(alloc),
             at_once: 1,
         }
     }
@@ -67,28 +67,28 @@ impl Spares {
     }
 
     /// What goes with a system to its turn, with an empty list of replies.
-    pub(crate) fn loan(&mut self, alloc: Global) -> Result<Box<Loan>, NoMemory>
-        ensures empty { IfOk result (λ loan. loan.value.replies.items ≡ []) }
+    pub(crate) fn contents(&mut self, alloc: Global) -> Result<Box<JobContents>, NoMemory>
+        ensures empty { IfOk result (λ contents. contents.value.replies.items ≡ []) }
     {
         let replies = self.replies(alloc);
-        if let Some(mut loan) = self.loans.pop() {
-            loan.replies = replies;
-            return Ok(loan);
+        if let Some(mut contents) = self.contents.pop() {
+            contents.replies = replies;
+            return Ok(contents);
         }
-        let loan = Loan {
+        let contents = JobContents {
             number: 0,
             access: Access::none(),
             taken: Taken::none(alloc),
             replies,
             outcome: Outcome::Skipped,
         };
-        Ok(Box::new(alloc, loan)?)
+        Ok(Box::new(alloc, contents)?)
     }
 
     /// Keeps what went with a system, where there is room for it.
-    pub(crate) fn keep_loan(&mut self, loan: Box<Loan>) {
-        if self.loans.len() < MOST {
-            let _kept = self.loans.push(loan);
+    pub(crate) fn keep_contents(&mut self, contents: Box<JobContents>) {
+        if self.contents.len() < MOST {
+            let _kept = self.contents.push(contents);
         }
     }
 

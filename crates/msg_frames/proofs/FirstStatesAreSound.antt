@@ -1,10 +1,10 @@
 -- A first state is sound.
-use Rattle.std.proofs.Common.{◌≡◌, ℕ, ◌≤◌, List, arith}
+use Rattle.std.proofs.Common.{ℕ, List, arith}
 use Rattle.std.proofs.lemmas.{List.get_or_past, Bool.Decides.nat_tests, Bool.Decides.eqb_tells}
 use Rattle.msg_order.specs.declared.rule.Rule.{Rule}
 use Rattle.msg_world.specs.Prelude.{WorldState}
 use Rattle.msg_system.specs.Prelude.{Meaning}
-use Rattle.msg_frames.specs.Prelude.{AreNew, IsSoundState, Place, State, counts, first_state, reader_place, before_joining}
+use Rattle.msg_frames.specs.Prelude.{AreNew, IsSoundState, Place, State, counts, first_state, before_joining}
 use Rattle.msg_frames.proofs.{BeforeTurns.begun_within, StatesStaySound.balanced_start}
 
 module _ (systems : List Meaning) (places : List Place) (rules : List Rule) (types : ℕ) (world : WorldState)

@@ -3,7 +3,7 @@ use Rattle.std.proofs.Common.{◌≡◌, ◌≢◌, ℕ, ℤ, ◌≤◌, List, [
 use Rattle.std.proofs.lemmas.{Bool.false≢true, List.Elements.All-cons, List.Elements.All-nil, List.FromFn.get_or-map-range_with_len}
 use Rattle.msg_buffer.specs.Prelude.{OnlyGrows}
 use Rattle.msg_world.specs.declared.record.Record.{Record}
-use Rattle.msg_system.specs.{Prelude.IsInOrder, Prelude.Job, Prelude.Meaning, Prelude.after_job, Prelude.of_program, Prelude.program_needs, Prelude.started_places, Prelude.turn, declared.program.Program.Program}
+use Rattle.msg_system.specs.{Prelude.IsInOrder, Prelude.Job, Prelude.of_program, Prelude.program_needs, Prelude.started_places, Prelude.turn, declared.program.Program.Program}
 use Rattle.msg_frames.specs.Prelude.{Skipped, State, WhoseProgramReadsAll, after_turn_of, after_turns_of, before_turns, counts, has_begun, job_begun, turn_order_in}
 use Rattle.msg_frames.proofs.{BeforeTurns.Prepares, BeforeTurns.comes, BeforeTurns.prepares, BeforeTurns.stood, ReaderOverTurns.one_member}
 use Rattle.msg_frames.proofs.BeforeTurns as before

@@ -1,5 +1,5 @@
 -- What is known of a scenario that was read.
-use Rattle.std.proofs.Common.{◌≡◌, ℕ, ◌≤◌, ◌<◌, List, [], ◌∷◌, length, refl, Some, None, arith, All}
+use Rattle.std.proofs.Common.{◌≡◌, ℕ, ◌≤◌, ◌<◌, [], length, refl, Some, None, arith, All}
 use Rattle.std.proofs.lemmas.{Grind.common_steps, List.Quantifiers.position-Some}
 use Rattle.std.specs.Str.{bytes_eq}
 use Rattle.serde_json.specs.{Data.Data}

@@ -1,5 +1,5 @@
 // The cursors of a system.
-ghost use Rattle.std.specs.Prelude.{◌≡◌, ℕ};
+ghost use Rattle.std.specs.Prelude.{◌≡◌};
 ghost use Rattle.msg_system.specs.Prelude.{IsAccessOf, Needs, cursor_places, start_place, started_places};
 
 use crate::{Access, Start};

@@ -1,5 +1,5 @@
 // What ops do to the parts that are lent to them.
-ghost use Rattle.std.specs.Prelude.{◌≡◌, ◌<◌, ℕ, [], ◌∷◌, IfOk, OnErr, OnOk, IsSome, length, map};
+ghost use Rattle.std.specs.Prelude.{◌≡◌, ◌<◌, [], ◌∷◌, IfOk, OnErr, OnOk, IsSome, length, map};
 ghost use Rattle.std.specs.Fn.{FnReturnsAt};
 ghost use Rattle.msg_buffer.specs.Prelude.{StandsFor, clear, message_of, oldest, present, write};
 ghost use Rattle.msg_world.specs.Prelude.{LoanStands, OfResource, OfType, SameLoan, WorldState, shown, with_history, with_value_of, writable};

@@ -7,40 +7,50 @@ ghost use Rattle.msg_workers.specs.inner.Workers.{HasWorked, HaveWorked, IsFirst
 
 use crate::runs::{Runs, work_on};
 use crate::{Gate, NoMemory, Workers};
-use msg_board::{Board, Pass};
+use msg_board::{Board, Pass, Work};
 use std::alloc::Global;
 use std::sync::atomic::{AtomicBool, Ordering};
 use std::thread::{Threads, join_mut, yield_now};
 
 /// How often a worker that was started looks whether the jobs have run out, before it draws. So
-/// many looks take about twice as long as the start of a thread.
-const LOOKS: u32 = 150;
+/// many looks take some 50 microseconds, about twice as long as the start of a thread.
+const LOOKS: u32 = 80_000;
 
-/// Returns once the jobs have run out, and at the latest after so many looks.
+/// Returns once the jobs have run out, and at the latest after so many looks. It gives way only
+/// once: where it shares a processor with the worker that started it, that one runs on for a slice
+/// of time, in which many short jobs run out.
 fn look(run_out: &AtomicBool) {
+    yield_now();
     for _ in 0..LOOKS {
         if run_out.load(Ordering::SeqCst) {
             return;
         }
-        yield_now();
     }
+}
+
+/// What all workers of a list of jobs share.
+#[derive(Drop)]
+struct Shared<'a, W: Work, G> {
+    alloc: Global,
+    board: &'a Board<W>,
+    gate: &'a G,
+    /// Whether the jobs have run out.
+    run_out: &'a AtomicBool,
 }
 
 /// One worker's part: it draws jobs until there is none left.
 fn work_alone<W: Runs, G: Gate>(
-    alloc: Global,
-    board: &Board<W>,
-    gate: &G,
+    shared: &Shared<W, G>,
     worker: u32,
     pass: &mut Pass<W::Job, W::Done>,
 )
-    requires new { IsNewPass board.now pass.old }
-    requires may { EachMay W.may (jobs_of board.now) }
-    ensures worked { HasWorked board.now (λ job. G.passed gate.now worker (W.system_of job))
-        pass.new }
+    requires new { IsNewPass shared.now.board.now pass.old }
+    requires may { EachMay W.may (jobs_of shared.now.board.now) }
+    ensures worked { HasWorked shared.now.board.now
+        (λ job. G.passed shared.now.gate.now worker (W.system_of job)) pass.new }
 {
-    let first = board.draw(pass);
-    work_on(alloc, board, gate, worker, first, pass);
+    let first = shared.board.draw(pass);
+    work_on(shared.alloc, shared.board, shared.gate, worker, first, pass);
 }
 
 /// Lets the workers of these passes draw all jobs that are left, and gives how many the first of
@@ -50,33 +60,28 @@ fn work_alone<W: Runs, G: Gate>(
 #[cycle(workers)]
 fn work_from<R: Threads + Sync, W: Runs + Send, G: Gate>(
     rt: &R,
-    alloc: Global,
-    board: &Board<W>,
-    gate: &G,
-    run_out: &AtomicBool,
+    shared: &Shared<W, G>,
     worker: u32,
     at_once: u32,
     passes: &mut [Pass<W::Job, W::Done>],
 ) -> u32
     requires few { worker + length passes.old ≤ 64 }
-    requires new { All (IsNewPass board.now) passes.old }
-    requires may { EachMay W.may (jobs_of board.now) }
-    ensures worked { HaveWorked board.now
-        (λ worker job. G.passed gate.now worker (W.system_of job)) worker passes.new }
+    requires new { All (IsNewPass shared.now.board.now) passes.old }
+    requires may { EachMay W.may (jobs_of shared.now.board.now) }
+    ensures worked { HaveWorked shared.now.board.now
+        (λ worker job. G.passed shared.now.gate.now worker (W.system_of job)) worker passes.new }
 {
     let Some((pass, others)) = passes.split_first_mut() else {
         return 0;
     };
-    let first = board.draw(pass);
+    let first = shared.board.draw(pass);
     let next = worker + 1;
     if first.is_none() || others.is_empty() {
-        let own = work_on(alloc, board, gate, worker, first, pass);
-        work_from(rt, alloc, board, gate, run_out, next, 1, others);
+        let own = work_on(shared.alloc, shared.board, shared.gate, worker, first, pass);
+        work_from(rt, shared, next, 1, others);
         own
     } else {
-        work_beside(
-            rt, alloc, board, gate, run_out, worker, first, pass, next, at_once, others,
-        )
+        work_beside(rt, shared, worker, first, pass, next, at_once, others)
     }
 }
 
@@ -86,10 +91,7 @@ fn work_from<R: Threads + Sync, W: Runs + Send, G: Gate>(
 #[cycle(workers)]
 fn work_beside<R: Threads + Sync, W: Runs + Send, G: Gate>(
     rt: &R,
-    alloc: Global,
-    board: &Board<W>,
-    gate: &G,
-    run_out: &AtomicBool,
+    shared: &Shared<W, G>,
     worker: u32,
     first: Option<(usize, W::Job)>,
     pass: &mut Pass<W::Job, W::Done>,
@@ -98,25 +100,21 @@ fn work_beside<R: Threads + Sync, W: Runs + Send, G: Gate>(
     others: &mut [Pass<W::Job, W::Done>],
 ) -> u32
     requires few { next + length others.old ≤ 64 }
-    requires first { IsFirstDraw board.now pass.old first }
-    requires new { All (IsNewPass board.now) others.old }
-    requires may { EachMay W.may (jobs_of board.now) }
-    ensures own { HasWorked board.now (λ job. G.passed gate.now worker (W.system_of job))
-        pass.new }
-    ensures others { HaveWorked board.now
-        (λ worker job. G.passed gate.now worker (W.system_of job)) next others.new }
+    requires first { IsFirstDraw shared.now.board.now pass.old first }
+    requires new { All (IsNewPass shared.now.board.now) others.old }
+    requires may { EachMay W.may (jobs_of shared.now.board.now) }
+    ensures own { HasWorked shared.now.board.now
+        (λ job. G.passed shared.now.gate.now worker (W.system_of job)) pass.new }
+    ensures others { HaveWorked shared.now.board.now
+        (λ worker job. G.passed shared.now.gate.now worker (W.system_of job)) next others.new }
 {
     if at_once <= 1 || others.len() <= 1 {
-        return begin_rest(
-            rt, alloc, board, gate, run_out, worker, first, pass, next, others,
-        );
+        return begin_rest(rt, shared, worker, first, pass, next, others);
     }
     let Some((one, rest)) = others.split_first_mut() else {
         unreachable!()
     };
-    begin_one(
-        rt, alloc, board, gate, run_out, worker, first, pass, next, at_once, one, rest,
-    )
+    begin_one(rt, shared, worker, first, pass, next, at_once, one, rest)
 }
 
 /// The rest of the workers begin in a new thread, one after the other, and this one runs its job.
@@ -125,10 +123,7 @@ fn work_beside<R: Threads + Sync, W: Runs + Send, G: Gate>(
 #[cycle(workers)]
 fn begin_rest<R: Threads + Sync, W: Runs + Send, G: Gate>(
     rt: &R,
-    alloc: Global,
-    board: &Board<W>,
-    gate: &G,
-    run_out: &AtomicBool,
+    shared: &Shared<W, G>,
     worker: u32,
     mut first: Option<(usize, W::Job)>,
     pass: &mut Pass<W::Job, W::Done>,
@@ -136,33 +131,37 @@ fn begin_rest<R: Threads + Sync, W: Runs + Send, G: Gate>(
     rest: &mut [Pass<W::Job, W::Done>],
 ) -> u32
     requires few { next + length rest.old ≤ 64 }
-    requires first { IsFirstDraw board.now pass.old first }
-    requires new { All (IsNewPass board.now) rest.old }
-    requires may { EachMay W.may (jobs_of board.now) }
-    ensures own { HasWorked board.now (λ job. G.passed gate.now worker (W.system_of job))
-        pass.new }
-    ensures rest { HaveWorked board.now
-        (λ worker job. G.passed gate.now worker (W.system_of job)) next rest.new }
+    requires first { IsFirstDraw shared.now.board.now pass.old first }
+    requires new { All (IsNewPass shared.now.board.now) rest.old }
+    requires may { EachMay W.may (jobs_of shared.now.board.now) }
+    ensures own { HasWorked shared.now.board.now
+        (λ job. G.passed shared.now.gate.now worker (W.system_of job)) pass.new }
+    ensures rest { HaveWorked shared.now.board.now
+        (λ worker job. G.passed shared.now.gate.now worker (W.system_of job)) next rest.new }
 {
     let mut own = ||
-        requires { IsFirstDraw board.now pass.now first × EachMay W.may (jobs_of board.now) }
-        ensures { HasWorked board.entry.now
-            (λ job. G.passed gate.entry.now worker (W.system_of job)) pass.exit.now }
+        requires { IsFirstDraw shared.now.board.now pass.now first
+            × EachMay W.may (jobs_of shared.now.board.now) }
+        ensures { HasWorked shared.entry.now.board.now
+            (λ job. G.passed shared.entry.now.gate.now worker (W.system_of job)) pass.exit.now }
     {
-        let ran = work_on(alloc, board, gate, worker, first.take(), pass);
-        run_out.store(true, Ordering::SeqCst);
+        let drew = first.take();
+        let ran = work_on(shared.alloc, shared.board, shared.gate, worker, drew, pass);
+        shared.run_out.store(true, Ordering::SeqCst);
         ran
     };
     let mut theirs = ||
         requires { IsSync R.row × IsSend W.row × IsSync G.row × (next + length rest.now ≤ 64)
-            × All (IsNewPass board.now) rest.now × EachMay W.may (jobs_of board.now) }
-        ensures { HaveWorked board.entry.now
-            (λ worker job. G.passed gate.entry.now worker (W.system_of job)) next rest.exit.now }
+            × All (IsNewPass shared.now.board.now) rest.now
+            × EachMay W.may (jobs_of shared.now.board.now) }
+        ensures { HaveWorked shared.entry.now.board.now
+            (λ worker job. G.passed shared.entry.now.gate.now worker (W.system_of job)) next
+            rest.exit.now }
     {
         if rest.len() > 1 {
-            look(run_out);
+            look(shared.run_out);
         }
-        work_from(rt, alloc, board, gate, run_out, next, 1, rest)
+        work_from(rt, shared, next, 1, rest)
     };
     let (_, ran) = join_mut(rt, &mut theirs, &mut own);
     ran
@@ -172,10 +171,7 @@ fn begin_rest<R: Threads + Sync, W: Runs + Send, G: Gate>(
 #[cycle(workers)]
 fn begin_one<R: Threads + Sync, W: Runs + Send, G: Gate>(
     rt: &R,
-    alloc: Global,
-    board: &Board<W>,
-    gate: &G,
-    run_out: &AtomicBool,
+    shared: &Shared<W, G>,
     worker: u32,
     mut first: Option<(usize, W::Job)>,
     pass: &mut Pass<W::Job, W::Done>,
@@ -186,47 +182,45 @@ fn begin_one<R: Threads + Sync, W: Runs + Send, G: Gate>(
 ) -> u32
     requires few { next + 1 + length rest.old ≤ 64 }
     requires more { 1 ≤ at_once }
-    requires first { IsFirstDraw board.now pass.old first }
-    requires one { IsNewPass board.now one.old }
-    requires new { All (IsNewPass board.now) rest.old }
-    requires may { EachMay W.may (jobs_of board.now) }
-    ensures own { HasWorked board.now (λ job. G.passed gate.now worker (W.system_of job))
-        pass.new }
-    ensures one { HasWorked board.now (λ job. G.passed gate.now next (W.system_of job)) one.new }
-    ensures rest { HaveWorked board.now
-        (λ worker job. G.passed gate.now worker (W.system_of job)) (next + 1) rest.new }
+    requires first { IsFirstDraw shared.now.board.now pass.old first }
+    requires one { IsNewPass shared.now.board.now one.old }
+    requires new { All (IsNewPass shared.now.board.now) rest.old }
+    requires may { EachMay W.may (jobs_of shared.now.board.now) }
+    ensures own { HasWorked shared.now.board.now
+        (λ job. G.passed shared.now.gate.now worker (W.system_of job)) pass.new }
+    ensures one { HasWorked shared.now.board.now
+        (λ job. G.passed shared.now.gate.now next (W.system_of job)) one.new }
+    ensures rest { HaveWorked shared.now.board.now
+        (λ worker job. G.passed shared.now.gate.now worker (W.system_of job)) (next + 1) rest.new }
 {
     let mut own = ||
         requires { IsSync R.row × IsSend W.row × IsSync G.row × (next + 1 + length rest.now ≤ 64)
-            × (1 ≤ at_once) × IsFirstDraw board.now pass.now first
-            × All (IsNewPass board.now) rest.now × EachMay W.may (jobs_of board.now) }
-        ensures { HasWorked board.entry.now
-            (λ job. G.passed gate.entry.now worker (W.system_of job)) pass.exit.now
-            × HaveWorked board.entry.now
-            (λ worker job. G.passed gate.entry.now worker (W.system_of job)) (next + 1)
+            × (1 ≤ at_once) × IsFirstDraw shared.now.board.now pass.now first
+            × All (IsNewPass shared.now.board.now) rest.now
+            × EachMay W.may (jobs_of shared.now.board.now) }
+        ensures { HasWorked shared.entry.now.board.now
+            (λ job. G.passed shared.entry.now.gate.now worker (W.system_of job)) pass.exit.now
+            × HaveWorked shared.entry.now.board.now
+            (λ worker job. G.passed shared.entry.now.gate.now worker (W.system_of job)) (next + 1)
             rest.exit.now }
     {
-        let others = at_once - 1;
         work_beside(
             rt,
-            alloc,
-            board,
-            gate,
-            run_out,
+            shared,
             worker,
             first.take(),
             pass,
             next + 1,
-            others,
+            at_once - 1,
             rest,
         )
     };
     let mut theirs = ||
-        requires { IsSend W.row × IsSync G.row × IsNewPass board.now one.now
-            × EachMay W.may (jobs_of board.now) }
-        ensures { HasWorked board.entry.now
-            (λ job. G.passed gate.entry.now next (W.system_of job)) one.exit.now }
-    { work_alone(alloc, board, gate, next, one) };
+        requires { IsSend W.row × IsSync G.row × IsNewPass shared.now.board.now one.now
+            × EachMay W.may (jobs_of shared.now.board.now) }
+        ensures { HasWorked shared.entry.now.board.now
+            (λ job. G.passed shared.entry.now.gate.now next (W.system_of job)) one.exit.now }
+    { work_alone(shared, next, one) };
     let (_, ran) = join_mut(rt, &mut theirs, &mut own);
     ran
 }
@@ -253,16 +247,13 @@ pub fn run_jobs<R: Threads + Sync, W: Runs + Send, G: Gate>(
     let most = workers.number().min(jobs.len() as u32).max(1);
     let run_out = AtomicBool::new(false);
     let (board, mut passes) = Board::<W>::new(alloc, jobs, most)?;
-    let own = work_from(
-        rt,
+    let shared = Shared {
         alloc,
-        &board,
+        board: &board,
         gate,
-        &run_out,
-        0,
-        *at_once,
-        passes.as_mut_slice(),
-    );
+        run_out: &run_out,
+    };
+    let own = work_from(rt, &shared, 0, *at_once, passes.as_mut_slice());
     *at_once = if own <= half { most } else { 1 };
     board.close(alloc, passes)
 }

@@ -1,5 +1,5 @@
 // Parts that were moved out of slots.
-ghost use Rattle.std.specs.Prelude.{◌≡◌, ◌+◌, ◌≤◌, ◌<◌, ◌==◌, ℕ, None, IfOk, IfSome, IfNone, All, Some, [], count_ones, slice_set, length, vec_capacity, vec_len, if◌then◌else◌};
+ghost use Rattle.std.specs.Prelude.{◌≡◌, ◌+◌, ◌≤◌, ◌<◌, ◌==◌, ℕ, None, IfOk, IfSome, IfNone, Some, [], count_ones, slice_set, length, vec_capacity, vec_len, if◌then◌else◌};
 ghost use Rattle.std.specs.{Borrow.sem, Option.option_copied, Option.option_copied_mut, Option.option_or};
 ghost use Rattle.msg_world.specs.{Prelude.has_bit, inner.Moved.AreSlotsBelow, inner.Moved.IsFirstOf, inner.Moved.NoneOf, inner.Moved.placed, inner.Slots.at};
 

@@ -11,6 +11,8 @@ pub record IsWithWorld {S : Type 0} (w : Parts) (j : JobView S) (b : BatchJob S)
   pub world : b.world.now ≡ w
 
 module _ {S : Type 0} (meaning : S → Meaning) where
-  -- all jobs of a batch were run, each on the same world
-  abbrev pub WereRun : {E : Type 0} → Parts → List (JobView S) → List (Result (JobView S) E) → Type 0
-  WereRun world jobs results = IsLawfulOutcome (IsResult meaning world) jobs results
+  -- What came of each job of a batch, on one world: a lawful result, or the word that memory was
+  -- refused.
+  abbrev pub AreResults : {E : Type 0} → Parts → List (JobView S) → List (Result (JobView S) E)
+      → Type 0
+  AreResults world jobs results = IsLawfulOutcome (IsResult meaning world) jobs results

@@ -15,7 +15,8 @@ any_writes accesses [] p = false
 any_writes accesses (i ∷ is) p = writes (access_of accesses i) p || any_writes accesses is p
 
 module _ {S : Type 0} where
-  -- System i goes out for its turn: the job has it, with what its access writes. All else stays.
+  -- System i goes out for its turn: the job has it, with what its access writes and an empty list
+  -- of replies. All else stays.
   pub record GoesOut (old : Lender S) (i : ℕ) (job : JobView S) (new : Lender S) : Type 0 where
     pub number : job.number ≡ i
     pub guarded : system_at old i ≡ Some job.guarded
@@ -26,7 +27,8 @@ module _ {S : Type 0} where
     pub accesses : new.accesses.items ≡ old.accesses.items
     pub totals : new.totals.items ≡ old.totals.items
 
-  -- A job that is out from the lender `whole`: what it has is as it was there.
+  -- A job that is out from the lender `whole`: what it has is as it was there, and its list of
+  -- replies is empty.
   pub record IsOut (whole : Lender S) (i : ℕ) (job : JobView S) : Type 0 where
     pub number : job.number ≡ i
     pub guarded : system_at whole i ≡ Some job.guarded

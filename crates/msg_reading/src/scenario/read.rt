@@ -1,5 +1,5 @@
 // A scenario from the bytes of a JSON text.
-ghost use Rattle.std.specs.Prelude.{◌≡◌, ◌≢◌, None, Some, Err, IfOk, IfErr, IsUtf8};
+ghost use Rattle.std.specs.Prelude.{◌≡◌, ◌≢◌, None, Err, IfOk, IfErr, IsUtf8};
 ghost use Rattle.serde_json.specs.{Data.Data, Read.read, View.view};
 ghost use Rattle.msg_files.specs.Prelude.{IsJsonOf};
 ghost use Rattle.msg_reading.specs.Prelude.{IsReadAs, IsRefusedFor, IsRunnable};

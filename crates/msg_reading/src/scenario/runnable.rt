@@ -1,8 +1,8 @@
 // Whether a scenario can be run.
-ghost use Rattle.std.specs.Prelude.{◌≡◌, ◌≤◌, ◌↔◌, ℕ, All, IfOk, IsTrue, length};
+ghost use Rattle.std.specs.Prelude.{◌≤◌, ◌↔◌, All, IfOk, IsTrue, length};
 ghost use Rattle.msg_world.specs.Prelude.{HasPart, Part};
 ghost use Rattle.msg_order.specs.Prelude.{IsAcyclic, NameSystemsBelow, edges_of};
-ghost use Rattle.msg_system.specs.Prelude.{HasClash, job_needs, needs_any, program_needs};
+ghost use Rattle.msg_system.specs.Prelude.{job_needs, needs_any};
 ghost use Rattle.msg_reading.specs.Prelude.{IsRunnable, IsRunnableSystem, PostsAreToTypes};
 
 use crate::limits::{LAST_JOIN, MAX_OPS, MAX_RESOURCES, MAX_SYSTEMS, MAX_TYPES};

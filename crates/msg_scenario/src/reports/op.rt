@@ -1,5 +1,5 @@
 // An op at the end of a text.
-ghost use Rattle.std.specs.Prelude.{◌≡◌, ◌++◌, OnOk, codes};
+ghost use Rattle.std.specs.Prelude.{◌≡◌, ◌++◌, OnOk};
 ghost use Rattle.msg_scenario.specs.Prelude.{op_text, resource_name, type_name};
 
 use crate::Scenario;

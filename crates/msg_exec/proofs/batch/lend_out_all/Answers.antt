@@ -6,7 +6,7 @@ lend_out-requires g c =
     let r = c.requires in
     let may = may_go g.S.System.meaning (is_batch g.S.System.meaning r.stands r.once r.apart r.stands.1.0)
     c.loop-system-test.true c.loop-system.invariant in
-    (c.type_bounds.send-S, (may.number, (may.there, (may.home, c.in_ok-loan.ensures.empty))))
+    (c.type_bounds.send-S, (may.number, (may.there, (may.home, c.in_ok-contents.ensures.empty))))
 
 pub loop-system-preserved : goal.loop-system-preserved
 loop-system-preserved g c =

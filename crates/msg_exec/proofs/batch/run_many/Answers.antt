@@ -28,19 +28,23 @@ loop-result-init g c s stands =
 
 pub take_back-requires-clause-systems : goal.take_back-requires-clause-systems
 take_back-requires-clause-systems g c κs within =
-    (next_may_come g.S.System.meaning (rw c.in_ok-done.was at c.in-Some.ensures.steps.0) (c.loop-result.invariant _ c.requires.stands.1.0)).systems
+    let next = rw c.in_ok-done.was at c.in-Some.ensures.steps.0 in
+    (next_may_come g.S.System.meaning next (c.loop-result.invariant _ c.requires.stands.1.0)).systems
 
 pub take_back-requires-clause-totals : goal.take_back-requires-clause-totals
 take_back-requires-clause-totals g c κs within =
-    (next_may_come g.S.System.meaning (rw c.in_ok-done.was at c.in-Some.ensures.steps.0) (c.loop-result.invariant _ c.requires.stands.1.0)).totals
+    let next = rw c.in_ok-done.was at c.in-Some.ensures.steps.0 in
+    (next_may_come g.S.System.meaning next (c.loop-result.invariant _ c.requires.stands.1.0)).totals
 
 pub take_back-requires-clause-apart : goal.take_back-requires-clause-apart
 take_back-requires-clause-apart g c κs within =
-    (next_may_come g.S.System.meaning (rw c.in_ok-done.was at c.in-Some.ensures.steps.0) (c.loop-result.invariant _ c.requires.stands.1.0)).apart
+    let next = rw c.in_ok-done.was at c.in-Some.ensures.steps.0 in
+    (next_may_come g.S.System.meaning next (c.loop-result.invariant _ c.requires.stands.1.0)).apart
 
 pub take_back-requires-clause-few : goal.take_back-requires-clause-few
 take_back-requires-clause-few g c κs within =
-    (next_may_come g.S.System.meaning (rw c.in_ok-done.was at c.in-Some.ensures.steps.0) (c.loop-result.invariant _ c.requires.stands.1.0)).few
+    let next = rw c.in_ok-done.was at c.in-Some.ensures.steps.0 in
+    (next_may_come g.S.System.meaning next (c.loop-result.invariant _ c.requires.stands.1.0)).few
 
 pub loop-result-preserved : goal.loop-result-preserved
 loop-result-preserved g c s stands =

@@ -54,9 +54,11 @@ loop-i-preserved g c =
           (omega (arith, c.begin.ensures.as_many, c.deref_mut.ensures.len)) in
           let many : length w.items ≡ s.types = grind (arith, its.as_many, read) in
           let slot = c.index_mut.result.now in
-          let there : slice_index_or lender.systems.items i None ≡ slot = get_or_default lender.systems.items i None slot (omega (arith, lt, far.systems))
+          let there : slice_index_or lender.systems.items i None ≡ slot =
+          get_or_default lender.systems.items i None slot (omega (arith, lt, far.systems))
           ∙ sym c.index_mut.ensures.value in
-          let same : cs ≡ counts s = fill_by_all (λ t. count (s.world.histories t)) cs s.types 0
+          let same : cs ≡ counts s =
+          fill_by_all (λ t. count (s.world.histories t)) cs s.types 0
           (c.counts-counts.ensures.types ∙ stands.types) (λ k lt. grind (arith, get_or_from_slice_get)) in
           let here = rw (le-ltb i i (omega arith)) at (far.members i lt) in
           let a = some_under _ (λ (b : Box (GuardedSystem g.row.S.Denot)). b.value) slot (rw there at here.guarded) in
@@ -82,8 +84,7 @@ loop-i-preserved g c =
               })
               | inr other ↦ rw (still s i j c.args.frame other)
                   (member_stays m lender _ s.types j ((joined_below i c.args.frame s).members j)
-                  (ap (option_map (λ (b : Box (GuardedSystem g.row.S.Denot)). b.value))
-                  (get_or-set_other lender.systems.items i j x None other)) refl
+                  (ap (option_map _) (get_or-set_other lender.systems.items i j x None other)) refl
                   (get_other lender.totals.items i j w other) (assumption) (far.members j below))
             ];
             world = far.world;

@@ -1,7 +1,5 @@
 use Rattle.std.proofs.Common.{◌<◌, length, None, option_map, refl, sym, ap, set, ◌∙◌, arith}
-use Rattle.std.specs.Global.{Box}
 use Rattle.std.proofs.lemmas.List.{get_or-set_other, get_or-set_same, length-set}
-use Rattle.msg_exec.specs.Prelude.{GuardedSystem}
 use Rattle.msg_exec.proofs.{BatchOfOne.may_come_home, BatchOfOne.may_take_turn, BatchOfOne.turn_is_logged, BatchOfOne.turn_taken, EntriesAreAdded.entered_there}
 use Rattle.msg_exec.proofs.lender.run_turn.Goals as goal
 
@@ -32,7 +30,7 @@ returns-clause-state g c s stands =
     (record {
       as_many = length-set out i _ ∙ length-set systems i _;
       system = rw (get_or-set_same out i _ None (rw length-set there)) refl;
-      others = λ k other. ap (option_map (λ (b : Box (GuardedSystem g.row.S.Denot)). b.value))
+      others = λ k other. ap (option_map _)
           (get_or-set_other out i k _ None other ∙ get_or-set_other systems i k _ None other);
       accesses = refl;
       taken_back = c.take_back.ensures.home;

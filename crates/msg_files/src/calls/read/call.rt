@@ -1,8 +1,7 @@
 // One call of a file, by its head and the number of parts that follow it.
-ghost use Rattle.std.specs.Prelude.{◌≡◌, ◌≢◌, ◌<◌, ◌≤◌, Some, None, IfOk, IfErr, MatchResult, map};
-ghost use Rattle.std.specs.List.{list_all};
+ghost use Rattle.std.specs.Prelude.{◌≡◌, ◌<◌, ◌≤◌, Some, None, IfOk, MatchResult, map};
 ghost use Rattle.serde_json.specs.View.{view};
-ghost use Rattle.msg_files.specs.Prelude.{Agrees, FitsCursors, IsAnswer, a_value, bare_call, bare_checks, batch_checks, call_checks, call_of, call_with, call_with_one, call_with_two, checks_with, checks_with_one, checks_with_two, first_refusal, is_number, values_of, whole};
+ghost use Rattle.msg_files.specs.Prelude.{Agrees, FitsCursors, IsAnswer, bare_call, bare_checks, batch_checks, call_checks, call_of, call_with, call_with_one, call_with_two, checks_with, checks_with_one, checks_with_two, values_of};
 
 use crate::call::Call;
 use crate::calls::read::part;

@@ -1,7 +1,7 @@
 // Reads the numbers in a call.
-ghost use Rattle.std.specs.Prelude.{◌≡◌, ◌<◌, ◌∷◌, [], Some, None, IfOk, MatchResult, option_and_then};
-ghost use Rattle.serde_json.specs.{Find.as_number, Find.as_i64, View.view, View.number_view};
-ghost use Rattle.msg_files.specs.Prelude.{IsAnswer, a_cursor, a_limit, a_message_number, a_number, a_value, both, natural, natural_of, only_below, whole};
+ghost use Rattle.std.specs.Prelude.{◌<◌, ◌∷◌, [], IfOk};
+ghost use Rattle.serde_json.specs.View.{view};
+ghost use Rattle.msg_files.specs.Prelude.{IsAnswer, a_cursor, a_limit, a_message_number, a_number, a_value, both, natural, whole};
 
 use crate::limits::MAX_LIMIT;
 use crate::numbers::{natural_number, number, small_number, whole_number};

@@ -1,7 +1,7 @@
 // The sections of a scenario file, one after another.
-ghost use Rattle.std.specs.Prelude.{◌≡◌, ◌≢◌, None, Some, IfOk, IfErr, OnOk, codes};
+ghost use Rattle.std.specs.Prelude.{◌≡◌, ◌≢◌, None, Some, IfOk, IfErr, OnOk};
 ghost use Rattle.serde_json.specs.{Find.as_bool, View.view};
-ghost use Rattle.msg_files.specs.Prelude.{Agrees, IsAnswer, first_refusal, value_at};
+ghost use Rattle.msg_files.specs.Prelude.{Agrees, IsAnswer, first_refusal};
 ghost use Rattle.msg_reading.specs.{ScenarioChecks.frames_checks, ScenarioChecks.held_checks, ScenarioChecks.is_root_key, ScenarioChecks.resources_checks, ScenarioChecks.root_object, ScenarioChecks.rules_checks, ScenarioChecks.scenario_checks, ScenarioChecks.sections_checks, ScenarioChecks.systems_checks, ScenarioChecks.types_checks, ScenarioDenotes.all_names, ScenarioDenotes.frames_in, ScenarioDenotes.frames_read, ScenarioDenotes.held_in, ScenarioDenotes.no_names, ScenarioDenotes.part_names, ScenarioDenotes.resources_of, ScenarioDenotes.rules_of, ScenarioDenotes.scenario_of, ScenarioDenotes.systems_in, ScenarioDenotes.systems_of, ScenarioDenotes.type_names, ScenarioDenotes.types_in, ScenarioDenotes.types_of};
 
 use crate::limits::{MAX_FRAMES, MAX_RESOURCES, MAX_RULES, MAX_SYSTEMS, MAX_TYPES};

@@ -1,7 +1,7 @@
 // Lists of a scenario file.
-ghost use Rattle.std.specs.Prelude.{◌≡◌, ◌≢◌, ℕ, List, Option, None, Some, IfOk, IfErr, flat_map, map, option_map, unwrap_or};
+ghost use Rattle.std.specs.Prelude.{◌≡◌, ◌≢◌, List, Option, None, Some, IfOk, IfErr, flat_map, map, option_map, unwrap_or};
 ghost use Rattle.serde_json.specs.{Data.Data, View.view};
-ghost use Rattle.msg_files.specs.Prelude.{Agrees, Check, all_some, first_refusal};
+ghost use Rattle.msg_files.specs.Prelude.{Agrees, Check, first_refusal};
 ghost use Rattle.msg_reading.specs.{Names.Declared, ScenarioChecks.list_checks, ScenarioDenotes.each_of, ScenarioDenotes.nothing};
 
 use crate::Refusal;

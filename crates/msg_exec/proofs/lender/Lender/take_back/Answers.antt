@@ -1,23 +1,22 @@
 use Rattle.std.proofs.Common.{None, option_map, refl, sym, ap, ◌∙◌, arith}
-use Rattle.std.specs.Global.{Box}
 use Rattle.std.proofs.lemmas.List.{get_or-set_other, get_or-set_same, length-set}
-use Rattle.msg_exec.specs.declared.job.{GuardedSystem.GuardedSystem, Loan.Loan}
+use Rattle.msg_exec.specs.declared.job.JobContents.{JobContents}
 use Rattle.msg_exec.proofs.EntriesAreAdded.{entered_there}
 use Rattle.msg_exec.proofs.lender.Lender.take_back.Goals as goal
 
 pub returns-clause-home : goal.returns-clause-home
 returns-clause-home g c =
-    let loan = c.deref_mut.ensures.value ∙ sym c.deref.ensures in
-    let taken = c.replace-taken.ensures.value ∙ ap (λ (l : Loan). l.taken) loan in
-    let came = c.replace-outcome.ensures.value ∙ ap (λ (l : Loan). l.outcome) c.deref_mut-2.ensures.value
-    ∙ ap (λ (l : Loan). l.outcome) loan in
+    let contents = c.deref_mut.ensures.value ∙ sym c.deref.ensures in
+    let taken = c.replace-taken.ensures.value ∙ ap (λ (l : JobContents). l.taken) contents in
+    let came = c.replace-outcome.ensures.value ∙ ap (λ (l : JobContents). l.outcome)
+    c.deref_mut-2.ensures.value ∙ ap (λ (l : JobContents). l.outcome) contents in
     let systems = c.args.self.now.systems.items in
     let i = c.deref.result.now.number in
     rw (← c.done.view_is, ← c.deref.ensures) (record {
       as_many = length-set systems i _;
-      system = rw (get_or-set_same systems i _ None (rw (← c.done.view_is, ← c.deref.ensures) at c.requires.systems)) refl;
-      others = λ k other. ap (option_map (λ (b : Box (GuardedSystem g.row.S.Denot)). b.value))
-          (get_or-set_other systems i k _ None other);
+      system = rw (get_or-set_same systems i _ None (rw (← c.done.view_is, ← c.deref.ensures) at c.requires.systems))
+          refl;
+      others = λ k other. ap (option_map _) (get_or-set_other systems i k _ None other);
       accesses = refl;
       taken_back = rw taken at c.take_back.ensures.home;
       totals = (
@@ -25,6 +24,9 @@ returns-clause-home g c =
         refl,
         entered_there g.S.System.meaning _ c.args.self.now.totals.items c.index_mut.ensures.value
             c.deref_mut-3.ensures.value (omega (arith, c.enter.ensures.as_many, c.deref_mut-3.ensures.len))
-            (record { as_many = c.enter.ensures.as_many; entered = rw (came, c.deref-2.ensures) at c.enter.ensures.entered }),
+            (record {
+              as_many = c.enter.ensures.as_many;
+              entered = rw (came, c.deref-2.ensures) at c.enter.ensures.entered;
+            }),
       );
     })
