@@ -77,8 +77,8 @@ fn refusals_say_why(rt: HostRuntime) -> Result<(), Fail> {
     let texts = format!(in rt.alloc(); "{clash}; {cycle}; {refused}")?;
     assert_eq!(rt;
         texts.as_str(),
-        "system 1 reads and writes one type; the rules go round in a circle through system 2; \
-         want of memory"
+        "system 1 reads and writes one type or resource; the rules go round in a circle through \
+         system 2; want of memory"
     );
     Ok(())
 }

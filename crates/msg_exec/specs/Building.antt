@@ -9,7 +9,7 @@ use Rattle.msg_frames.specs.Prelude.{IsNew}
 use Rattle.msg_exec.specs.{declared.build_error.BuildError.BuildError, declared.build_error.BuildError.TheVariants.Full, declared.build_error.BuildError.TheVariants.BadJoin, declared.build_error.BuildError.TheVariants.Misfit, declared.build_error.BuildError.TheVariants.UnknownSystem, declared.build_error.BuildError.TheVariants.Refused, declared.build_refusal.BuildRefusal.BuildRefusal, declared.build_refusal.BuildRefusal.TheVariants.Clash, declared.build_refusal.BuildRefusal.TheVariants.Cycle, declared.build_refusal.BuildRefusal.TheVariants.NoMemory}
 
 module _ {X : Type 0} where
-  -- it holds of each of the list, and of its number
+  -- P holds of each item of the list with its number
   abbrev pub EachIs : (ℕ → X → Type 0) → List X → Type 0
   EachIs P xs = (i : ℕ) (x : X) → slice_get xs i ≡ Some x → P i x
 

@@ -10,7 +10,8 @@ abbrev pub frame_count : State → ℕ
 frame_count s = min s.frames (2 ^ 32 - 1)
 
 module _ {S : Type 0} where
-  -- the parts of a core that no frame changes
+  -- The parts of a core that no frame changes are what the state says, and keep to the bounds of an
+  -- engine.
   pub record Schedule (c : Core S) (s : State) : Type 0 where
     pub joins : AreJoins c.joins.items s
     pub rules : c.rules.items ≡ s.rules

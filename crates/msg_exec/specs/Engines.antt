@@ -7,11 +7,11 @@ use Rattle.msg_frames.specs.{declared.frame.Frame.Frame, declared.log.Log.Log}
 use Rattle.msg_frames.specs.Prelude.{IsCompleteRun, IsFrame, IsReplay, IsRun, State, TellsACompleteRun}
 
 module _ {S : Type 0} where
-  -- a frame ended for want of memory: nothing of the engine is left
+  -- A call that runs a frame ended for want of memory: the world and the systems are gone.
   abbrev pub IsSpoiled : EngineOf S → Type 0
   IsSpoiled e = IsNone e.core
 
-  -- how many frames it says that were run
+  -- how many frames it has counted
   abbrev pub frame_number : EngineOf S → ℕ
   frame_number e = e.frames
 

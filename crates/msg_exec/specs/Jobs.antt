@@ -24,7 +24,7 @@ module _ {S : Type 0} (meaning : S → Meaning) where
   abbrev pub job_state : GuardedSystem S → JobState
   job_state a = record { system = meaning a.system; conditions = a.guards.items }
 
-  -- what it needs
+  -- what a system with its conditions needs
   abbrev pub guarded_needs : GuardedSystem S → Needs
   guarded_needs a = with_conditions (meaning a.system).needs (conditions_of (job_state a))
 
@@ -50,7 +50,7 @@ module _ {S : Type 0} (meaning : S → Meaning) where
     pub number : d.number ≡ j.number
     pub turn : HasTakenTurn world j.taken j.guarded d.taken d.outcome d.guarded
 
-  -- It may run on a world: it has what its access uses, that is what it needs, and its list of
+  -- A job may run on a world: it has what its access uses, that is what it needs, and its list of
   -- replies is empty.
   pub record MayRun (world : Parts) (j : JobView S) : Type 0 where
     pub loan : IsLoanOf j.access world j.taken

@@ -4,6 +4,7 @@ use Rattle.std.specs.Prelude.{ℕ, ◌-◌, ◌^◌, min, List, slice_index_or}
 use Rattle.msg_frames.specs.declared.totals.Totals.{Totals}
 use Rattle.msg_frames.specs.Prelude.{no_totals}
 
+-- the number, or the greatest `u64` where it is more
 abbrev pub within_u64 : ℕ → ℕ
 within_u64 n = min n (2 ^ 64 - 1)
 
@@ -16,6 +17,6 @@ capped_totals x =
       cleared = within_u64 x.cleared;
     }
 
--- those of type t
+-- the totals of type t; past the end of the list, those of a reader that was given nothing
 abbrev pub totals_at : List Totals → ℕ → Totals
 totals_at xs t = slice_index_or xs t no_totals

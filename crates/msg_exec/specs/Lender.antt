@@ -18,7 +18,8 @@ module _ {S : Type 0} where
   system_at g i = option_map (λ b. b.value) (slice_index_or g.systems.items i None)
 
 module _ {S : Type 0} (meaning : S → Meaning) where
-  -- system i is there, and with its access and its totals stands for a member
+  -- System i is there, and so is what its access uses. With its access and its totals it stands for
+  -- a member.
   pub record MemberStands (g : Lender S) (types i : ℕ) (m : Member) : Type 0 where
     pub guarded : IsSomeAnd (system_at g i) (λ a. job_state meaning a ≡ m.job)
     pub access : IsAccessOf (member_needs m) (access_of g.accesses.items i)

@@ -1,4 +1,4 @@
--- Hands on the definitions cited elsewhere. The declared types serve this crate's proofs alone.
+-- Hands on the definitions cited elsewhere. The declared types and variants serve this crate alone.
 pub use Rattle.msg_exec.specs.Building.{Added, AllFit, EachIs, FitBelow, FitsWorld, IsFirstUnknown, IsJoin, IsLowestClash, IsLowestMisfit, MayBeAdded, RefusesFor, RefusesToAdd, RefusesToBuild, numbered_from}
 pub use Rattle.msg_exec.specs.Cores.{CoreStands, Schedule, frame_count}
 pub use Rattle.msg_exec.specs.Engines.{HasReplayed, HasRunFrame, HasRunFrames, IsEngine, IsSpoiled, PostsFit, EngineStands, frame_number}

@@ -1,3 +1,4 @@
+-- What only private functions cite.
 pub mod EngineParts
 pub mod Totals
 pub mod SystemsOut

@@ -19,6 +19,7 @@ pub enum BuildError {
     /// The first rule that names a system which isn't there.
     #[error("no system {}, or no system {}, which a rule names", .0.earlier, .0.later)]
     UnknownSystem(Rule),
+    /// What `EngineOf::new` refuses.
     #[error(transparent)]
     Refused(BuildRefusal),
 }

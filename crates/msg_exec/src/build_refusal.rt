@@ -6,8 +6,8 @@ use thiserror::Error;
 /// Why there is no engine.
 #[derive(Debug, Drop, Error)]
 pub enum BuildRefusal {
-    /// The lowest system that reads and writes one type.
-    #[error("system {0} reads and writes one type")]
+    /// The lowest system that reads and writes one part: a type, or a resource.
+    #[error("system {0} reads and writes one type or resource")]
     Clash(u32),
     /// The lowest system from which the rules lead back to it.
     #[error("the rules go round in a circle through system {0}")]

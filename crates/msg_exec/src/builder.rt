@@ -1,4 +1,4 @@
-// Engines made of systems, conditions and rules, with every condition tested.
+// Systems, their places and rules, of which an engine is made once all that it asks is tested.
 ghost use Rattle.std.specs.Prelude.{◌≡◌, ℕ, ◌≤◌, ◌↔◌, ◌++◌, [], ◌∷◌, IfErr, IfOk, IsTrue, OnOk, length, map};
 ghost use Rattle.msg_world.specs.Prelude.{IsWhole, PartsStand, WorldState};
 ghost use Rattle.msg_order.specs.Prelude.{IsAcyclic, NameSystemsBelow, edges_of};
@@ -7,7 +7,7 @@ ghost use Rattle.msg_system.specs.Prelude.{HasClash};
 ghost use Rattle.msg_frames.specs.Prelude.{first_state};
 ghost use Rattle.msg_exec.specs.Prelude.{AllFit, EachIs, FitsWorld, IsEngine, IsFirstUnknown, IsLowestMisfit, IsSpoiled, Misfit, RefusesToAdd, RefusesToBuild, EngineStands, UnknownSystem, numbered_from};
 
-use crate::{BuildError, BuildRefusal, EngineOf, Items, NoMemory, Place};
+use crate::{BuildError, EngineOf, Items, NoMemory, Place};
 use msg_order::Rule;
 use msg_system::{Condition, Numbered, System, job_access};
 use msg_world::World;
@@ -163,6 +163,10 @@ impl<S: Numbered> EngineBuilder<S> {
     }
 
     /// Adds a rule. Its systems may be added later.
+    ///
+    /// # Errors
+    ///
+    /// `NoMemory`, and then nothing is added.
     pub fn add_rule(&mut self, rule: Rule) -> Result<(), NoMemory>
         ensures added { OnOk result
             (self.new ≡ record self.old { rules = self.old.rules ++ rule ∷ [] }) }

@@ -12,7 +12,7 @@ use msg_system::{Condition, Guard, System, job_access};
 use msg_world::Access;
 use std::alloc::Global;
 
-/// Its own access, and whether that is a clash.
+/// The access of a system without its conditions, and whether it reads and writes one part.
 fn own_access<S: System>(system: &S) -> (Access, bool)
     ensures access { IsAccessOf (S.meaning system.now).needs result.0 }
     ensures clash { IsTrue result.1 ↔ HasClash (S.meaning system.now).needs }
@@ -60,7 +60,7 @@ pub(crate) fn joins_of(alloc: Global, places: &[Place]) -> Result<Vec<u32>, NoMe
     Ok(joins)
 }
 
-/// Conditions that were asked nothing yet.
+/// The conditions as guards, which were asked nothing yet.
 fn guards_of(alloc: Global, conditions: &[Condition]) -> Result<Vec<Guard>, NoMemory>
     ensures guards { IfOk result (λ v. v.items ≡ map new_asked conditions.now) }
 {

@@ -18,7 +18,8 @@ use std::thread::Threads;
 
 /// Systems over one world, which run frame by frame.
 ///
-/// After want of memory in a frame the engine is spoiled: every later frame call answers so.
+/// After want of memory in a call that runs a frame the engine is spoiled: from then on each such
+/// call answers so, `accounts` too, and there is no world any more.
 ///
 /// ```
 /// let mut engine = systems.build(world)?;
@@ -55,7 +56,7 @@ impl<S: System> EngineOf<S> {
     ///
     /// # Errors
     ///
-    /// `Clash` with the lowest system that reads and writes one type; else `Cycle` with the lowest
+    /// `Clash` with the lowest system that reads and writes one part; else `Cycle` with the lowest
     /// system from which the rules lead back to it; and `NoMemory`. The world and the systems are
     /// dropped then.
     pub fn new(
@@ -175,8 +176,8 @@ impl<S: System> EngineOf<S> {
         Ok(log)
     }
 
-    /// Takes the memory of a log that is no longer needed, for the logs of frames to come: a loop
-    /// that gives each log back asks for less.
+    /// Takes the lists of turns and replies of a log that is no longer needed, for the logs of
+    /// frames to come: a loop that gives each log back asks for less memory.
     pub fn recycle(&mut self, log: Log)
         ensures meaning { (s : State) → EngineStands S.meaning self.old s
             → EngineStands S.meaning self.new s }

@@ -79,6 +79,7 @@ pub(crate) fn next_plan<S: System>(
     let Some(next) = frames.checked_add(1) else {
         return Ok(None);
     };
+    // (those of join 1 joined as the engine was made)
     if frames == 0 {
         return Ok(None);
     }

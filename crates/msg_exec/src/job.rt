@@ -70,14 +70,18 @@ impl<S: System> TakesTurns for GuardedSystem<S> {
     }
 }
 
-/// What goes with a system to its turn, and comes home with it. `JobView` says what each field is.
-/// It serves job after job.
+/// What goes with a system to its turn, and comes home with it. It is kept, and serves later jobs.
 #[derive(Drop)]
 pub struct JobContents {
+    /// The number of the system.
     pub number: u32,
+    /// What the system and its conditions read and write.
     pub access: Access,
+    /// What is lent to it in writing; after its turn, what it gives back.
     pub taken: Taken,
+    /// An empty list for its replies.
     pub replies: Vec<Reply>,
+    /// What came of the job, after its turn.
     pub outcome: Outcome,
 }
 

@@ -20,7 +20,7 @@ fn start_guards(guards: &mut [Guard], counts: &Counts, start: Start)
     }
 }
 
-/// Sets its cursors and those of its conditions to where they start.
+/// Sets the cursors of a system and of its conditions to where they start.
 fn start<S: System>(guarded: &mut GuardedSystem<S>, counts: &Counts)
     ensures begun { job_state S.meaning guarded.new
         ≡ job_begun counts.now (job_state S.meaning guarded.old) }

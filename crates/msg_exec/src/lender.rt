@@ -1,4 +1,4 @@
-// Systems and the world go out for turns, and come home.
+// Systems, and the parts of the world that they write, go out for turns and come home.
 ghost use Rattle.std.specs.Prelude.{◌≡◌, ◌<◌, [], IfOk, OnOk};
 ghost use Rattle.msg_frames.specs.Prelude.{after_turn_of, logged_turn, State};
 ghost use Rattle.msg_exec.specs.Prelude.{LenderStands};
@@ -14,14 +14,15 @@ use msg_world::{Access, Taken, World};
 use std::alloc::Global;
 use std::mem::replace;
 
-/// What lends out systems, and the parts of the world that they write. A system that is out for its
-/// turn isn't there.
+/// What lends out systems, and the parts of the world that they write.
 #[derive(Drop)]
 pub struct Lender<S> {
     pub world: World,
+    /// Each system with its conditions, by number; None while it is out for its turn.
     pub systems: Vec<Option<Box<GuardedSystem<S>>>>,
+    /// What each system and its conditions read and write.
     pub accesses: Vec<Access>,
-    /// For each system those of each type.
+    /// For each system its totals, one for each type.
     pub totals: Vec<Vec<Totals>>,
 }
 

@@ -1,4 +1,4 @@
-// Memory that one frame leaves to the next. No reply depends on it.
+// What one frame leaves to the next. No reply depends on it.
 ghost use Rattle.std.specs.Prelude.{◌≡◌, [], IfOk};
 
 use crate::job::JobContents;
@@ -12,9 +12,9 @@ use std::mem::replace;
 /// At most so many of a kind are kept: one for each system that an engine may have.
 const MOST: usize = 256;
 
-/// Empty lists with their memory, which serve the logs of frames to come; what goes with systems to
-/// their turns; and how many workers the first one starts at once in the next batch that goes over
-/// workers. Contracts see nothing of it.
+/// What serves frames to come: empty lists with their memory, for their logs; boxes of what goes
+/// with systems to their turns; and how many others the first worker starts at once in the next
+/// batch that goes over workers. Contracts see nothing of it.
 #[derive(Drop)]
 pub(crate) struct Spares {
     turns: Vec<Turn>,
@@ -92,7 +92,8 @@ impl Spares {
         }
     }
 
-    /// Keeps the lists of a log, where there is room for them.
+    /// Keeps a log's list of turns, in place of the one that was kept, and the lists of their
+    /// replies, where there is room for them.
     pub(crate) fn keep(&mut self, log: Log) {
         let mut turns = log.turns.into_vec();
         while let Some(turn) = turns.pop() {

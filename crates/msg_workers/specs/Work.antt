@@ -6,7 +6,7 @@ module _ {J : Type 0} where
   abbrev pub EachMay : (J → Type 0) → List J → Type 0
   EachMay may jobs = (k : ℕ) (job : J) → slice_get jobs k ≡ Some job → may job
 
-  -- for every number drawn since, `Such` holds of its job
+  -- of the job of each number that was drawn after `old`, `Such` holds
   abbrev pub EachNewIs : (J → Type 0) → List J → List ℕ → List ℕ → Type 0
   EachNewIs Such jobs old new = (k : ℕ) → Contains new k
       → Contains old k ⊎ ((job : J) → slice_get jobs k ≡ Some job → Such job)
@@ -15,6 +15,7 @@ module _ {J : Type 0} where
 abbrev pub PassedGate : (ℕ → ℕ → Type 0) → ℕ → ℕ → Type 0
 PassedGate passed n system = (worker : ℕ) × (worker < n) × passed worker system
 
--- for each of these systems one of n workers passed the gate, and of no more workers than systems
+-- For each of these systems one of the workers passed the gate: they are at most n, and at most as
+-- many as the systems.
 abbrev pub EachPassedGate : (ℕ → ℕ → Type 0) → ℕ → List ℕ → Type 0
 EachPassedGate passed n systems = All (PassedGate passed (min n (length systems))) systems

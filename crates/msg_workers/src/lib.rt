@@ -1,8 +1,9 @@
 //! Workers side by side: threads that draw jobs from a board and run them.
 //!
 //! `run_jobs` runs a list of jobs by at most so many workers, each with a number of its own, and
-//! gives their results in the order of the jobs. What a job is, and what it may give, is a type's
-//! own (`Runs`). A gate is told of each job just before it is run.
+//! gives their results in the order of the jobs. A type says what a job is and what it may give
+//! (`Work`, of `msg_board`), and how it is run (`Runs`). A gate is told of each job just before it
+//! is run.
 #![tactic(auto)]
 
 mod gate;

@@ -1,5 +1,5 @@
 // Workers side by side.
-ghost use Rattle.std.specs.Prelude.{◌≡◌, ◌+◌, ◌≤◌, ℕ, All, IfOk, OnOk, Some, length, min, slice_get};
+ghost use Rattle.std.specs.Prelude.{◌≡◌, ◌+◌, ◌≤◌, ◌⊎◌, ℕ, All, IfOk, OnOk, Some, length, min, slice_get};
 ghost use Rattle.std.specs.Thread.{IsSend, IsSync};
 ghost use Rattle.msg_board.specs.Prelude.{IsLawfulOutcome, IsNewPass, jobs_of};
 ghost use Rattle.msg_workers.specs.Work.{EachMay, PassedGate};
@@ -12,14 +12,17 @@ use std::alloc::Global;
 use std::sync::atomic::{AtomicBool, Ordering};
 use std::thread::{Threads, join_mut, yield_now};
 
-/// How often a worker that was started looks whether the jobs have run out, before it draws. So
-/// many looks take some 50 microseconds, about twice as long as the start of a thread.
+/// How often a worker that was started, and may start another, looks whether the jobs have run out,
+/// before it draws. So many looks take some 50 microseconds, about twice the start of a thread.
 const LOOKS: u32 = 80_000;
 
-/// Returns once the jobs have run out, and at the latest after so many looks. It gives way only
-/// once: where it shares a processor with the worker that started it, that one runs on for a slice
-/// of time, in which many short jobs run out.
+/// Returns once the jobs have run out, and at the latest after so many looks. After the first look
+/// it gives way, once: where it shares a processor with the worker that started it, that one draws
+/// on for a slice of time, in which it can run many short jobs.
 fn look(run_out: &AtomicBool) {
+    if run_out.load(Ordering::SeqCst) {
+        return;
+    }
     yield_now();
     for _ in 0..LOOKS {
         if run_out.load(Ordering::SeqCst) {
@@ -34,11 +37,12 @@ struct Shared<'a, W: Work, G> {
     alloc: Global,
     board: &'a Board<W>,
     gate: &'a G,
-    /// Whether the jobs have run out.
+    /// Set once a worker that started another has found no job left. It decides only how long a
+    /// worker that was started looks.
     run_out: &'a AtomicBool,
 }
 
-/// One worker's part: it draws jobs until there is none left.
+/// The part of a worker that starts no other: it draws jobs until there is none left.
 fn work_alone<W: Runs, G: Gate>(
     shared: &Shared<W, G>,
     worker: u32,
@@ -55,8 +59,8 @@ fn work_alone<W: Runs, G: Gate>(
 
 /// Lets the workers of these passes draw all jobs that are left, and gives how many the first of
 /// them ran. They are numbered from `worker` on, and the first draws in this thread. Where it gets
-/// a job, `at_once` others begin in new threads before that job is run. Where it gets none, none is
-/// left, and the others draw None here, one by one.
+/// a job, `at_once` others, but at least one, begin in new threads before that job is run. Where it
+/// gets none, none is left, and the others draw None here, one by one.
 #[cycle(workers)]
 fn work_from<R: Threads + Sync, W: Runs + Send, G: Gate>(
     rt: &R,
@@ -117,9 +121,9 @@ fn work_beside<R: Threads + Sync, W: Runs + Send, G: Gate>(
     begin_one(rt, shared, worker, first, pass, next, at_once, one, rest)
 }
 
-/// The rest of the workers begin in a new thread, one after the other, and this one runs its job.
-/// Where that thread may start another, it first looks for a while whether the jobs run out: short
-/// ones are drawn here by then, and it starts none.
+/// Starts a thread in which the next worker draws, and lets it start the one after it, while this
+/// worker runs its job and draws on here. Where there is another to start, the next first looks for
+/// a while whether the jobs run out: short ones are drawn here by then, and it starts none.
 #[cycle(workers)]
 fn begin_rest<R: Threads + Sync, W: Runs + Send, G: Gate>(
     rt: &R,
@@ -167,7 +171,8 @@ fn begin_rest<R: Threads + Sync, W: Runs + Send, G: Gate>(
     ran
 }
 
-/// One of the others begins in a new thread, and here others begin before this worker runs its job.
+/// Starts a thread in which worker `next` draws and starts no other, while this worker lets the
+/// rest begin, runs its job and draws on here.
 #[cycle(workers)]
 fn begin_one<R: Threads + Sync, W: Runs + Send, G: Gate>(
     rt: &R,
@@ -226,9 +231,15 @@ fn begin_one<R: Threads + Sync, W: Runs + Send, G: Gate>(
 }
 
 /// Runs the jobs, by at most so many workers and at most one for each job, and gives their results
-/// in the order of the jobs. The first worker starts `at_once` others before it runs a job, and the
-/// last of these starts the next where it gets one. Afterwards `at_once` is what serves a batch of
-/// such jobs best: all workers, where the others ran at least half of the jobs, and else one.
+/// in the order of the jobs. The first worker starts `at_once` others before it runs a job, but at
+/// least one and no more than there are, and the last of these starts the next where it gets a job.
+/// Where no thread can be made, a worker draws in the thread that was to start it, after the jobs
+/// of that one. Afterwards `at_once` is what serves a batch of such jobs best: all workers, where
+/// the others ran at least half of these jobs, and else one.
+///
+/// # Errors
+///
+/// `NoMemory`, before a job is run or after all were. Jobs and results are dropped then.
 pub fn run_jobs<R: Threads + Sync, W: Runs + Send, G: Gate>(
     rt: &R,
     alloc: Global,
@@ -242,6 +253,8 @@ pub fn run_jobs<R: Threads + Sync, W: Runs + Send, G: Gate>(
     ensures lawful { IfOk result (λ results. IsLawfulOutcome W.lawful jobs.items results.items) }
     ensures gate_passed { OnOk result ((k : ℕ) (job : W.Job) → slice_get jobs.items k ≡ Some job
         → PassedGate (G.passed gate.now) (min workers (length jobs.items)) (W.system_of job)) }
+    ensures at_once { OnOk result ((at_once.new ≡ 1)
+        ⊎ (at_once.new ≡ min workers (length jobs.items))) }
 {
     let half = jobs.len() as u32 / 2;
     let most = workers.number().min(jobs.len() as u32).max(1);

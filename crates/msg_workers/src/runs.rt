@@ -9,16 +9,17 @@ use std::alloc::Global;
 
 /// Work that a worker knows how to do.
 pub trait Runs: Work {
-    // What a job needs, to be run.
+    // What has to hold of a job before it is run.
     ghost may: { Self.Job → Type 0 };
 
     // The number of the job's system.
     ghost system_of: { Self.Job → ℕ };
 
-    /// The number that the gate is given.
+    /// The number of the job's system, which the gate is told.
     fn number(job: &Self::Job) -> u32
         ensures number { result ≡ Self.system_of job.now };
 
+    /// Runs the job, and gives its result.
     fn run(alloc: Global, job: Self::Job) -> Self::Done
         requires may { Self.may job }
         ensures lawful { Self.lawful job result };

@@ -2,7 +2,7 @@ ghost use Rattle.std.specs.Prelude.{◌≡◌, ◌<◌, ◌≤◌};
 
 use std::marker::Model;
 
-/// How many workers run the jobs of a batch: from 1 to 64. Contracts see it as the number.
+/// How many workers may run the jobs of a batch: from 1 to 64. Contracts see it as the number.
 #[derive(Clone, Copy, Debug, PartialEq, Eq)]
 pub struct Workers {
     number: u32,

@@ -12,7 +12,8 @@ use Rattle.msg_frames.specs.Prelude.{before_turns, after_joining, post_replies, 
 abbrev pub one_frame_more : State → State
 one_frame_more s = record s { frames = suc s.frames }
 
--- nobody joins with the next frame
+-- Nobody joins with the next frame. With the first nobody does: those of join 1 joined as the
+-- engine was made.
 abbrev pub NobodyJoins : State → Type 0
 NobodyJoins s = (i : ℕ) → i < s.systems → ((s.members i).join ≢ suc s.frames) ⊎ (s.frames ≡ 0)
 

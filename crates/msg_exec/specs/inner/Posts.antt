@@ -15,6 +15,6 @@ pub record FindsRoom (posts : List (ℕ × ℤ)) (w : WorldState) (k : ℕ) : Ty
   pub is_post : slice_get posts k ≡ Some post
   pub room : HasRoom ((after_posts (take k posts) w).histories post.0)
 
--- one of them does
+-- one of the posts finds room
 abbrev pub SomeFindsRoom : List (ℕ × ℤ) → WorldState → Type 0
 SomeFindsRoom posts w = (k : ℕ) × FindsRoom posts w k

@@ -24,7 +24,7 @@ entry_at t ops k reply =
           then option_to_list (entry_of reply) else []
     ]
 
--- as many replies as a turn has at most
+-- no more replies than a turn has at most
 abbrev pub HasFewReplies : Outcome → Type 0
 HasFewReplies Skipped = ⊤
 HasFewReplies (Ran replies) = length replies ≤ 64

@@ -16,13 +16,13 @@ module _ {J : Type 0} where
   IsFirstDraw b p None = HasEnded b p × (p.drawn ≡ [])
   IsFirstDraw b p (Some r) = HasFirst b p r.0 r.1
 
-  -- The pass was new and has ended, and of each job that it drew this is so.
+  -- The pass was new and has ended, and of each job that it drew `Such` holds.
   pub record HasWorked (b : BoardView J) (Such : J → Type 0) (p : PassState J) : Type 0 where
     pub ended : HasEnded b p
     pub each : EachNewIs Such (jobs_of b) [] p.drawn
 
-  -- The passes were new and have ended. They go to the workers by number, from this one on: of each
-  -- job that a pass drew this is so for its worker.
+  -- The passes were new and have ended. They are those of the workers `first`, `first + 1` and so
+  -- on: of each job that a pass drew `Such` holds for its worker.
   pub record HaveWorked (b : BoardView J) (Such : ℕ → J → Type 0) (first : ℕ)
       (passes : List (PassState J)) : Type 0 where
     pub ended : All (HasEnded b) passes
