@@ -20,6 +20,7 @@ next_deed (Fighter f) replies =
 next_deed (Referee falls fallen) replies = if length replies == 0
     then Some (Sum falls fallen) else None
 
+-- what a role is after a turn with these replies
 abbrev pub role_after : Role → List Reply → Role
 role_after (Fighter f) replies = Fighter (record f { health = health_after f.health replies })
 role_after (Referee falls fallen) replies = Referee falls fallen

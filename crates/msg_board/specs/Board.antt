@@ -13,9 +13,11 @@ pub record BoardView (J : Type 0) : Type 0 where
   pub passes : ℕ
 
 module _ {J : Type 0} where
+  -- the jobs of a board
   abbrev pub jobs_of : BoardView J → List J
   jobs_of b = b.jobs
 
+  -- how many passes were made for it
   abbrev pub passes_of : BoardView J → ℕ
   passes_of b = b.passes
 

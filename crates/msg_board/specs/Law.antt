@@ -5,7 +5,8 @@
 -- 2 once its result is in. The further word stays 0: by it a board of no jobs has a word too.
 --
 -- A pass has a view of the board, which only its own steps change. The law speaks of all views at
--- once, so that what one of them says of a number is denied to every other.
+-- once: a number that one view holds is held by no other, and one that it has drawn was drawn by no
+-- other.
 use Rattle.std.specs.Prelude.{◌≡◌, ◌≢◌, ℕ, zero, suc, ◌+◌, ◌-◌, ◌<◌, ◌≤◌, List, [], ◌∷◌, ◌++◌, length, slice_index, sum_by, count_by, Some, None}
 use mathlib.Core.Option.{some, none}
 use mathlib.Core.Option as maybe
@@ -24,7 +25,7 @@ abbrev pub draws_at : ℕ → ℕ
 draws_at zero = 0
 draws_at (suc more) = 1
 
--- a place that may be missing, for a value that may be away
+-- a slot of a table: `none` where there is no such slot, `some none` where its value is out
 abbrev Home : Type 0 → Type 0
 Home S = maybe.Option (maybe.Option S)
 
@@ -137,8 +138,8 @@ module _ {J D : Type 0} where
       × (after ≡ (with_job k before.0, (k, Job j) ∷ []))
 
   -- A step with the operand 1 on the pass's next word. Where it finds 0, the pass draws that
-  -- number, and else it has only tried the word. A step doesn't say which kind it is: that it is a
-  -- `fetch_max` the code of `draw` says
+  -- number, and else it has only tried the word. A step doesn't say which kind it is. That it is a
+  -- `fetch_max` is said by the code of `try_next`
   pub record Drawing (step : Step (Slot J D)) (before : Standing J D) (found : ℕ)
       (after : Standing J D) : Type 0 where
     pub word : step.word ≡ before.0.next

@@ -5,7 +5,7 @@ use Rattle.msg_board.specs.Counts.{is_held}
 
 -- what a pass has done so far
 pub record PassState (J : Type 0) : Type 0 where
-  -- whose words and slots it steps on
+  -- the table of its board, whose words and slots its steps use
   pub table : TableId
   -- the jobs of its board
   pub jobs : List J
@@ -23,10 +23,11 @@ module _ {J : Type 0} where
   abbrev pub handed_in : PassState J → List ℕ
   handed_in p = filter (λ k. not (is_held k p.holding)) p.drawn
 
-  -- the numbers that these passes have drawn, and handed in, one pass after the other
+  -- the numbers that these passes have drawn, one pass after the other
   abbrev pub drawn_by : List (PassState J) → List ℕ
   drawn_by ps = flat_map (λ p. p.drawn) ps
 
+  -- the numbers that they have handed in, one pass after the other
   abbrev pub handed_in_by : List (PassState J) → List ℕ
   handed_in_by ps = flat_map handed_in ps
 

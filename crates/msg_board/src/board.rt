@@ -147,10 +147,10 @@ impl<W: Work, A: Allocator> Board<W, A> {
         ensures lawful { IfOk result
             (λ results. IsLawfulOutcome W.lawful (jobs_of self) results.items) }
 
-        // A board of no jobs takes no memory.
+        // To close a board of no jobs takes no memory.
         ensures refused { OnErr result (0 < length (jobs_of self)) }
 
-        // Also where there is no memory for the list of results.
+        // Where there is no memory for the list of results, these hold too.
         ensures drawn_once { HoldsEachOnce (length (jobs_of self)) (drawn_by passes.items) }
         ensures handed_in_once { HoldsEachOnce (length (jobs_of self)) (handed_in_by passes.items) }
     {

@@ -6,7 +6,7 @@ use std::collections::LinkedList;
 use std::marker::PhantomData;
 use std::snapshot::Snapshot;
 
-/// A place for one job. It is `Empty` only while a pass has the job out.
+/// A place for one job, and later for its result. It is `Empty` only while a pass has the job out.
 #[derive(Drop)]
 pub enum Slot<J, D> {
     Empty,
@@ -28,7 +28,7 @@ pub struct View<J> {
     pub held: Option<u64>,
 }
 
-/// What the table is told as it is made.
+/// What the table is told as it is made: the jobs, and how many passes there are.
 #[derive(Drop)]
 pub struct Deal<J, A: Allocator> {
     pub jobs: Snapshot<Vec<J, A>>,

@@ -1,6 +1,6 @@
 //! What a board's jobs and results are.
 
-/// A kind of work: its jobs, and what each of them may give.
+/// A kind of work: `Job` is what a pass draws, and `Done` what it hands in as the result of a job.
 pub trait Work {
     type Job: Send + Drop;
 

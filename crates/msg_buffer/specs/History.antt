@@ -1,5 +1,5 @@
 -- The history of a message type: one list of all messages ever written, which only grows. Nothing
--- is taken out of it, and nothing moves: which messages are still present is decided by their age.
+-- is taken out of it, and nothing moves. Age and the floor decide which messages are still present.
 use Rattle.std.specs.Prelude.{◌≡◌, ℕ, suc, ◌+◌, ◌≤◌, Bool, ◌&&◌, not, nat_le, ◌==◌, IsTrue, List, [], ◌∷◌, ◌++◌, length, map, filter, slice_get, Option, Some, None, option_and_then, if◌then◌else◌}
 use Rattle.std.specs.List.{enumerate_from}
 use Rattle.msg_buffer.specs.declared.instance.Instance.{Instance}
@@ -36,6 +36,7 @@ module _ {M : Type 0} where
   abbrev pub instance_of : ℕ × Entry M → Instance M
   instance_of x = record { id = record { 0 = x.0 }; message = x.1.message }
 
+  -- a message without its number
   abbrev pub message_of : Instance M → M
   message_of x = x.message
 
@@ -48,8 +49,7 @@ module _ {M : Type 0} where
   abbrev pub instances : History M → List (Instance M)
   instances h = map instance_of (numbered_entries h)
 
-  -- An entry is present: it isn't below the floor, and at most one update was made since it was
-  -- written.
+  -- An entry is present: it isn't below the floor, and at most one update was made since.
   abbrev pub is_present : History M → ℕ × Entry M → Bool
   is_present h x = nat_le h.floor x.0 && nat_le h.updates (x.1.stamp + 1)
 

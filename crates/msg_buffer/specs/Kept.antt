@@ -11,6 +11,7 @@ pub record Kept (M : Type 0) : Type 0 where
   pub newer : List (Instance M)
 
 module _ {M : Type 0} where
+  -- all messages that are kept, the older half first
   abbrev pub kept_instances : Kept M → List (Instance M)
   kept_instances k = k.older ++ k.newer
 
@@ -18,7 +19,7 @@ module _ {M : Type 0} where
   abbrev pub kept_count : Kept M → ℕ
   kept_count k = k.oldest + length k.older + length k.newer
 
-  -- each one's number is n plus its index
+  -- these messages have the numbers n, n + 1 and so on, in order
   abbrev pub HasNumbersFrom : ℕ → List (Instance M) → Type 0
   HasNumbersFrom n xs = xs ≡ numbered n (map message_of xs)
 
@@ -26,7 +27,8 @@ module _ {M : Type 0} where
 abbrev pub get_from : {X : Type 0} → ℕ → List X → ℕ → Option X
 get_from start xs n = if nat_le start n then slice_get xs (n - start) else None
 
--- The bounds that every buffer keeps.
+-- What holds of every buffer: its halves meet, they end at the count, which is within the limit,
+-- and the messages of each half have consecutive numbers.
 pub record HasBounds {M : Type 0} (limit count older_start newer_start : ℕ)
     (older newer : List (Instance M))
     : Type 0 where

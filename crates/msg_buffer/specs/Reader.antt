@@ -9,7 +9,7 @@ pub record Stretch : Type 0 where
   pub first : ℕ
   pub number : ℕ
 
--- the place after it
+-- the reader's place after this stretch
 abbrev pub next_place : Stretch → ℕ
 next_place s = s.first + s.number
 
@@ -35,7 +35,7 @@ module _ {M : Type 0} where
   abbrev pub given : History M → ℕ → Option ℕ → List (Instance M)
   given h place limit = at_most limit (unread h place)
 
-  -- it goes past these, after what it missed
+  -- the stretch of a reader that goes past these messages, after those that it missed
   abbrev pub going_past : History M → ℕ → List (Instance M) → Stretch
   going_past h place xs =
       record { missed = missed h place; first = first h place; number = length xs }

@@ -9,7 +9,7 @@ module _ {M : Type 0} where
   message_refused (NumbersSpent m) = m
   message_refused (NoMemory m) = m
 
-  -- the limit refuses it
+  -- the write was refused because too few numbers are left
   abbrev pub IsSpent : WriteRefusal M → Type 0
   IsSpent (NumbersSpent m) = Unit {0}
   IsSpent (NoMemory m) = ⊥
@@ -20,7 +20,7 @@ module _ {M A : Type 0} where
   batch_refused (batch.NumbersSpent ms) = ms
   batch_refused (batch.NoMemory ms) = ms
 
-  -- the limit refuses it
+  -- the batch was refused because too few numbers are left
   abbrev pub IsBatchSpent : BatchRefusal M A → Type 0
   IsBatchSpent (batch.NumbersSpent ms) = Unit {0}
   IsBatchSpent (batch.NoMemory ms) = ⊥

@@ -25,7 +25,8 @@ ends_at place [] = place
 ends_at place (x ∷ xs) = ends_at (next_place (stretch_of x.0 place x.1)) xs
 
 module _ (M : Type 0) where
-  -- Each read fits, gives the very messages that it goes past, and ends no further than the count.
+  -- Each read fits, and gives the very messages that it goes past. If the place wasn't past the
+  -- count, the next place isn't either.
   abbrev pub ReadsFit : Type 0
   ReadsFit = (h : History M) (place : ℕ) (limit : Option ℕ) → IsSound h
       → Fits h place (read h place limit)
@@ -40,7 +41,7 @@ module _ (M : Type 0) where
       → ((read h place None).number ≡ length (unread h place))
       × ((limit : ℕ) → (read h place (Some limit)).number ≡ min limit (length (unread h place)))
 
-  -- Each clear fits, and ends at the count.
+  -- Each clear fits. If the place wasn't past the count, the next place is the count.
   abbrev pub ClearsFit : Type 0
   ClearsFit = (h : History M) (place : ℕ) → IsSound h
       → Fits h place (pass_over h place)

@@ -11,7 +11,8 @@ pub fn histories_only_grow<M>()
     ensures grows { OnlyGrows M }
 {}
 
-/// A message is present until the second update after it was written.
+/// After an update those messages are present that were current before it, and no others. After one
+/// more update none is present.
 pub fn messages_outlive_one_update<M>()
     ensures outlive { OutliveOneUpdate M }
 {}

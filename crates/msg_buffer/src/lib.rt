@@ -1,7 +1,7 @@
 //! The double-buffered messages of Bevy's `Messages<M>`: numbers, halves, cursors.
 //!
-//! A buffer is what is left of a history, a list of messages that only grows: a message is
-//! present until the second update after it was written.
+//! A buffer is what is left of a history, a list of messages that only grows: a message is present
+//! until the second update after it was written, or until a clear or a drain.
 #![tactic(auto)]
 
 mod batch;

@@ -12,10 +12,11 @@ use std::alloc::{Allocator, Global};
 use std::marker::Model;
 use std::mem::{replace, swap};
 
-/// The messages of one type: a message outlives the next update, and is dropped by the second.
+/// The messages of one type: a message outlives the next update, and is dropped by the second. A
+/// clear drops all messages, and a drain takes all out.
 ///
-/// Each message gets the next number, from 0 on, and numbers aren't used again. `limit` messages
-/// can ever be written.
+/// Each message gets the next number, from 0 on, and numbers aren't used again. At most `limit`
+/// messages can ever be written.
 ///
 /// ```
 /// let mut hits = Messages::new(alloc, 100);
@@ -86,8 +87,8 @@ impl<M, A: Allocator> Messages<M, A> {
         self.count
     }
 
-    /// A law: a buffer stands for some history, where its messages have a value. What was dropped
-    /// may have been anything.
+    /// A law: a buffer stands for some history, if the message type has a value at all. In that
+    /// history such a value stands for each message that was dropped.
     pub fn stands_for_some(&self)
         ensures history { (m : M) → (h : History M) × StandsFor self.now h }
     {
@@ -197,8 +198,8 @@ impl<M, A: Allocator> Messages<M, A> {
             → w.first ≡ count h) }
         ensures number { IfOk result (λ w. w.n ≡ length items.now) }
 
-        // Where too few numbers are left it is refused for that, and else all fit or memory is
-        // refused. No items always fit.
+        // Where too few numbers are left it is refused for that, and else all items fit or memory
+        // is refused. An empty list of items always fits.
         ensures room { OnOk result ((h : History M) → StandsFor self.old h
             → count h + length items.now ≤ h.limit) }
         ensures spent { IfErr result (λ e. (h : History M) → StandsFor self.old h
@@ -231,8 +232,8 @@ impl<M: Drop, A: Allocator> Messages<M, A> {
             → w.first ≡ count h) }
         ensures number { IfOk result (λ w. w.n ≡ length batch.items) }
 
-        // Where too few numbers are left they are refused for that, and else they fit or memory is
-        // refused. No messages always fit.
+        // Where too few numbers are left it is refused for that, and else all messages fit or
+        // memory is refused. An empty batch always fits.
         ensures room { OnOk result ((h : History M) → StandsFor self.old h
             → count h + length batch.items ≤ h.limit) }
         ensures spent { IfErr result (λ e. (h : History M) → StandsFor self.old h

@@ -1,14 +1,14 @@
-// Why a write was refused. What was passed is handed back.
+// Why a write was refused. A message or a batch that was passed is handed back.
 use std::alloc::{Allocator, Global};
 use thiserror::Error;
 
-/// Want of memory: a growth was refused. What was asked for left no trace.
+/// Want of memory: a growth was refused. Each call says what is known of its arguments then.
 pub use std::alloc::AllocError as NoMemory;
 
-/// Why a message was not written.
+/// Why a write was refused. Nothing of it was written.
 #[derive(Debug, Drop, Error)]
 pub enum WriteRefusal<M> {
-    /// The limit is reached: each number of the buffer was given.
+    /// The write would pass the limit: too few numbers are left.
     #[error("no number is left")]
     NumbersSpent(M),
     /// The buffer could not grow.

@@ -53,15 +53,15 @@ asked_by (Some (name, rows)) =
 abbrev pub asked : List Text → Option Request
 asked words = asked_by (subcommand_of msgrun_app words)
 
--- the words name `run`, and what they say of workers is no number of them
+-- the words name `run`, and the value that they have for `workers` is no number from 1 to 64
 abbrev pub IsRunOnNone : List Text → Type 0
 IsRunOnNone words = (rows : List Row) × (text : Text)
     × (subcommand_of msgrun_app words ≡ Some (codes "run", rows))
     × (first_of (codes "workers") rows ≡ Some text) × (workers_in text ≡ None)
 
--- Why words are refused in which clap finds these kinds of errors: for help where it finds that
--- help is asked for; as bad words where it finds nothing, or something else; and for want of memory
--- at any words.
+-- The fault of words in which clap finds these kinds of errors. It is help only where one of them
+-- is `DisplayHelp`. It is bad words only where there is none, or one of another kind. It may always
+-- be want of memory.
 abbrev pub IsToldOf : Kinds → WordFault → Type 0
 IsToldOf kinds (word.Help text) = IsAmong kind.DisplayHelp kinds
 IsToldOf kinds word.Bad = (kinds ≡ [])

@@ -7,8 +7,8 @@ use Rattle.msg_files.specs.declared.refusal.Refusal.TheVariants as refusal
 use Rattle.msg_system.specs.declared.run_fault.RunFault.TheVariants as run
 use Rattle.msg_files.specs.declared.report_fault.ReportFault.TheVariants as report
 
--- the line of a fault: of a refusal and of a run fault its number and name. Help is no fault, and
--- has none.
+-- the line of a fault. A refusal and a run fault have their number and name there, but a refusal
+-- for want of memory hasn't. Help is no fault, and its line is empty.
 abbrev pub line_of : MainFault → List ℕ
 line_of (Words word.Bad) = codes "msgrun: bad command line\n"
 line_of (Words (word.Help text)) = []
@@ -34,8 +34,8 @@ line_of (Report (report.Run run.NoMemory)) = codes "msgrun: run fault 3 NoMemory
 line_of (Report report.Write) = codes "msgrun: write fault\n"
 line_of (Report report.NoMemory) = codes "msgrun: want of memory\n"
 
--- 0 for help, 2 for a refused command line, input or file, 1 for a fault while running, reading or
--- writing, and for want of memory
+-- the status that the program ends with: 0 for help; 2 for a bad command line, too large an input
+-- or a refused file; 1 for a fault while running, reading or writing, and for want of memory
 abbrev pub status_of : MainFault → ℕ
 status_of (Words (word.Help text)) = 0
 status_of (Words word.Bad) = 2

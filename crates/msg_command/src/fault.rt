@@ -11,15 +11,19 @@ pub use print::print_fault;
 /// What ended the program.
 #[derive(Debug, Drop, Error)]
 pub enum MainFault {
+    /// The command line gives no action.
     #[error("{0}")]
     Words(#[from] WordFault),
+    /// The input wasn't read.
     #[error("{0}")]
     Input(#[from] InputFault),
+    /// The file was refused.
     #[error("refused {0}")]
     Refused(#[from] Refusal),
     /// No engine was made of a scenario, for want of memory.
     #[error("want of memory")]
     Built,
+    /// The answers or the report weren't printed to their end.
     #[error("{0}")]
     Report(#[from] ReportFault),
 }

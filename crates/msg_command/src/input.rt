@@ -8,8 +8,8 @@ use thiserror::Error;
 /// How many bytes an input may have.
 pub const MAX_BYTES: usize = 4_194_304;
 
-/// How many reads are made. Each but the last gives a byte, so that an input within the limit of
-/// bytes never meets this one.
+/// How many reads are made at most. Each but the last gives one byte or more, so an input of at
+/// most `MAX_BYTES` bytes ends within them.
 pub const MAX_READS: u32 = 8_000_000;
 
 /// Why an input wasn't read.

@@ -15,14 +15,16 @@ pub enum Action {
     Run { file: String, workers: u32 },
 }
 
-/// Why the words ask for nothing.
+/// Why the words give no action.
 #[derive(Debug, Drop, Error)]
 pub enum WordFault {
+    /// The words are those of no command, or the number of workers isn't from 1 to 64.
     #[error("bad command line")]
     Bad,
     /// The words ask for help, and this is its text.
     #[error("{0}")]
     Help(String),
+    /// A growth was refused.
     #[error("want of memory")]
     NoMemory,
 }

@@ -17,5 +17,6 @@ next_addition a replies =
     else Some (Write a.to (total_after a.total replies)))
     else None
 
+-- an adder after a turn with these replies
 abbrev pub adder_after : Adder → List Reply → Adder
 adder_after a replies = record a { total = total_after a.total replies }

@@ -56,6 +56,7 @@ cursor_line s at =
 
 -- ---- the line of a call
 
+-- the line that a call prints in a state
 abbrev pub line : Call → BufferState → Text
 line (Write value) s = codes "write " ++ range_text s.history 1 ++ codes "\n"
 line (Batch values) s = codes "batch " ++ range_text s.history (length values) ++ codes "\n"

@@ -18,7 +18,7 @@ has_key key d = needs (is_some (get key d)) Shape
 abbrev pub a_list : ℕ → Data → List Check
 a_list most d = needs (is_list d) Shape ∷ needs (nat_le (length (elements d)) most) TooMany ∷ []
 
--- what has another shape than is wanted
+-- the check that always fails: the value has another shape than is wanted
 abbrev pub wrong_shape : List Check
 wrong_shape = needs false Shape ∷ []
 
@@ -49,7 +49,7 @@ batch_checks d = needs (is_list_of_numbers d) Shape ∷ few_values d ∷ map a_v
 abbrev pub a_cursor : ℕ → Data → Check
 a_cursor made d = needs (is_some (number_below made d)) BadNumber
 
--- a limit: of a read, or of a type
+-- a limit of a buffer, of a type or of a read: a whole number from 0 to 1,000,000
 abbrev pub a_limit : Data → Check
 a_limit d = needs (is_some (number_up_to 1000000 d)) BadNumber
 

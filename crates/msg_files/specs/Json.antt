@@ -33,24 +33,29 @@ value_at key d = unwrap_or (get key d) null
 abbrev pub text : Data → Text
 text d = unwrap_or (as_str d) []
 
--- what the text that a list begins with, and the parts after it, denote
+-- what f makes of the text that a list begins with, and of the parts after it; none, where the
+-- list doesn't begin with a text
 abbrev pub of_headed : {A : Type 0} → (Text → List Data → Option A) → List Data → Option A
 of_headed f [] = None
 of_headed f (head ∷ parts) = option_and_then (λ name. f name parts) (as_str head)
 
--- the kind of a value
+-- the value is an object
 abbrev pub is_object : Data → Bool
 is_object d = is_some (as_object d)
 
+-- the value is a list
 abbrev pub is_list : Data → Bool
 is_list d = is_some (as_array d)
 
+-- the value is a text
 abbrev pub is_text : Data → Bool
 is_text d = is_some (as_str d)
 
+-- the value is a number
 abbrev pub is_number : Data → Bool
 is_number d = is_some (as_number d)
 
+-- the value is a list whose elements all are numbers
 abbrev pub is_list_of_numbers : Data → Bool
 is_list_of_numbers d = is_list d && list_all is_number (elements d)
 

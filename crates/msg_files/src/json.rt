@@ -8,7 +8,7 @@ use crate::refusal::Refusal;
 use serde_json::{Category, Map, Value};
 use std::alloc::Global;
 
-/// The value that the bytes are a JSON text of.
+/// The value that the bytes are a JSON text of; `NotJson` where there is none, and `NoMemory`.
 pub fn parse(alloc: Global, bytes: &[u8]) -> Result<Value, Refusal>
     ensures ok { IfOk result (λ value. IsJsonOf bytes.now (view value)) }
     ensures not_json { result ≡ Err Refusal.NotJson → IsUtf8 bytes.now → read bytes.now ≡ None }
@@ -33,7 +33,7 @@ pub trait Keys {
         ensures known { result ≡ known key.now };
 }
 
-/// That a value is an object which has no unknown key.
+/// Checks that a value is an object, else `Shape`, and has no unknown key, else `UnknownKey`.
 #[tactic(auto, using(crate::proofs::WalksOverLists::list_steps))]
 pub fn check_keys<K: Keys>(value: &Value) -> Result<(), Refusal>
     ensures object { OnOk result (is_object (view value.now) ≡ true) }
@@ -56,7 +56,7 @@ fn are_known<K: Keys>(members: &Map<String, Value>) -> bool
     members.iter().all(|(key, _)| K::is_known(key.as_str()))
 }
 
-/// What stands at a key that has to be there.
+/// What stands at a key that has to be there; `Shape` where nothing does.
 pub fn needed<'a>(value: &'a Value, key: &str) -> Result<&'a Value, Refusal>
     ensures found { MatchResult result (λ v. get key.now (view value.now) ≡ Some (view v.now))
         (λ e. (e ≡ Refusal.Shape) × (get key.now (view value.now) ≡ None)) }
@@ -64,7 +64,8 @@ pub fn needed<'a>(value: &'a Value, key: &str) -> Result<&'a Value, Refusal>
     value.get(key).ok_or(Refusal::Shape)
 }
 
-/// The elements of a list that has no more than `most`.
+/// The elements of a list; `Shape` where the value is no list, `TooMany` where it has more than
+/// `most`.
 #[tactic(auto, using(crate::proofs::WalksOverLists::list_steps))]
 pub fn list(value: &Value, most: usize) -> Result<&[Value], Refusal>
     ensures elements { IfOk result (λ items. elements (view value.now) ≡ map view items.now) }
@@ -90,7 +91,7 @@ pub fn text(value: &Value) -> Result<&str, Refusal>
     value.as_str().ok_or(Refusal::Shape)
 }
 
-/// The text that a list begins with, and what follows it.
+/// The text that a list begins with, and what follows it; `Shape` where the value is no such list.
 pub fn head_and_parts(value: &Value) -> Result<(&str, &[Value]), Refusal>
     ensures headed { IfOk result (λ p. (head : Data) × (as_str head ≡ Some p.0.now)
         × (elements (view value.now) ≡ head ∷ map view p.1.now)) }

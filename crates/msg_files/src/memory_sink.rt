@@ -8,7 +8,8 @@ use std::marker::Model;
 /// How many bytes a sink in memory has room for.
 pub const ROOM: usize = 65536;
 
-/// A sink in memory, of a fixed size. A put fails where it is full.
+/// A sink in memory, of a fixed size, `ROOM`. A put takes what there is room for; once the sink is
+/// full, a put of one byte or more fails.
 #[derive(Drop)]
 pub struct MemorySink {
     bytes: [u8; 65536],

@@ -27,7 +27,7 @@ pub fn whole_number(n: &Number) -> Result<i64, Refusal>
     n.as_i64().ok_or(Refusal::BadNumber)
 }
 
-/// A number from 0 on.
+/// The whole number that it is; `BadNumber` where it is none, lies outside `i64`, or is below 0.
 pub fn natural_number(n: &Number) -> Result<u64, Refusal>
     ensures { MatchResult result
         (λ k. option_and_then natural_of (as_i64 (number_view n.now)) ≡ Some k)
@@ -41,7 +41,7 @@ pub fn natural_number(n: &Number) -> Result<u64, Refusal>
     Ok(z as u64)
 }
 
-/// A number from 0 to below an end.
+/// The whole number that it is; `BadNumber` where it is none, or isn't from 0 to below `end`.
 pub fn small_number(n: &Number, end: u32) -> Result<u32, Refusal>
     ensures small { IfOk result (λ k. k < end) }
     ensures is { MatchResult result
@@ -64,7 +64,7 @@ fn are_numbers(items: &[Value]) -> bool
     items.iter().all(|item| item.as_number().is_some())
 }
 
-/// The items of a list of numbers.
+/// The items of a list of numbers; `Shape` where the value is something else.
 #[tactic(auto, using(crate::proofs::WalksOverLists::list_steps))]
 pub fn list_of_numbers(value: &Value) -> Result<&[Value], Refusal>
     ensures elements { IfOk result (λ items. elements (view value.now) ≡ map view items.now) }
@@ -81,7 +81,8 @@ pub fn list_of_numbers(value: &Value) -> Result<&[Value], Refusal>
     Ok(items)
 }
 
-/// The values of a batch, which are whole numbers and not too many.
+/// The values of a batch; `TooMany` where there are more than `MAX_VALUES`, `BadNumber` where one
+/// is no whole number or lies outside `i64`, and `NoMemory`.
 #[tactic(auto, using(crate::proofs::WalksOverLists::list_steps))]
 pub fn batch_values(alloc: Global, items: &[Value]) -> Result<Items<i64>, Refusal>
     ensures agrees { Agrees
@@ -94,7 +95,7 @@ pub fn batch_values(alloc: Global, items: &[Value]) -> Result<Items<i64>, Refusa
     Ok(Items::from_vec(whole_numbers(alloc, items)?))
 }
 
-/// The whole numbers that the items are.
+/// The whole numbers that the items are; `BadNumber` where an item is none, and `NoMemory`.
 pub fn whole_numbers(alloc: Global, items: &[Value]) -> Result<Vec<i64>, Refusal>
     ensures is { IfOk result (λ v. (first_refusal (map a_value (map view items.now)) ≡ None)
         × (map whole (map view items.now) ≡ map Some v.items)) }

@@ -8,7 +8,7 @@ use msg_buffer::NoMemory;
 /// How long a pair is at most: a space, 39 digits, `=`, a sign and 19 digits.
 const LONGEST: usize = 61;
 
-/// A number from 0 on. One of a single digit, as most are, is put without a buffer.
+/// Adds a number in decimal. A number of a single digit, as most are, is added without a buffer.
 #[tactic(auto, using(std::proofs::lemmas::Fmt::decimal_digit))]
 pub fn add_number(text: &mut Vec<u8>, number: u64) -> Result<(), NoMemory>
     ensures appends { OnOk result (text.new.items ≡ text.old.items ++ decimal number) }
@@ -20,7 +20,7 @@ pub fn add_number(text: &mut Vec<u8>, number: u64) -> Result<(), NoMemory>
     text.extend_from_slice(Buffer::new().format(number).as_bytes())
 }
 
-/// A number after a head.
+/// Adds a head, and then a number in decimal.
 pub fn add_count(text: &mut Vec<u8>, head: &[u8], number: u64) -> Result<(), NoMemory>
     ensures appends { OnOk result
         (text.new.items ≡ text.old.items ++ (head.now ++ decimal number)) }
@@ -29,15 +29,15 @@ pub fn add_count(text: &mut Vec<u8>, head: &[u8], number: u64) -> Result<(), NoM
     add_number(text, number)
 }
 
-/// A number with its sign, where it is below 0.
+/// Adds a value in decimal, with `-` in front where it is below 0.
 pub fn add_value(text: &mut Vec<u8>, value: i64) -> Result<(), NoMemory>
     ensures appends { OnOk result (text.new.items ≡ text.old.items ++ signed_decimal value) }
 {
     text.extend_from_slice(Buffer::new().format(value).as_bytes())
 }
 
-/// A space, a number that may be past `u64`, `=` and a value. It is made from its end, and added at
-/// once.
+/// Adds a space, a number that may be past `u64`, `=` and a value. This text is made from its end,
+/// and added at once.
 pub fn add_pair(text: &mut Vec<u8>, number: u128, value: i64) -> Result<(), NoMemory>
     ensures appends { OnOk result (text.new.items
         ≡ text.old.items ++ (codes " " ++ decimal number ++ codes "=" ++ signed_decimal value)) }

@@ -4,7 +4,8 @@ use msg_buffer::NoMemory;
 use std::alloc::AllocFailed;
 use thiserror::Error;
 
-/// Why a file was refused. The number stands in the line that says so.
+/// Why a file was refused. The line that `msgrun` prints has the number and the name; the line for
+/// want of memory has neither.
 #[derive(Clone, Copy, Debug, PartialEq, Eq, Error)]
 pub enum Refusal {
     /// The bytes are no JSON text.
@@ -13,16 +14,19 @@ pub enum Refusal {
     /// Something has another kind or length than is wanted there.
     #[error("2 Shape")]
     Shape,
+    /// An object has a key that isn't known there.
     #[error("3 UnknownKey")]
     UnknownKey,
     /// A name has a character or a length that names don't have, or is the host's.
     #[error("4 BadName")]
     BadName,
+    /// Two types, two resources or two systems have one name.
     #[error("5 TwiceNamed")]
     TwiceNamed,
     /// A number is no whole number, or isn't in its range.
     #[error("6 BadNumber")]
     BadNumber,
+    /// A list is longer than it may be, or there are too many cursors or `not`s.
     #[error("7 TooMany")]
     TooMany,
     /// No type, resource or system has this name.

@@ -4,10 +4,10 @@ use msg_buffer::NoMemory;
 use msg_system::RunFault;
 use thiserror::Error;
 
-/// Why the answers weren't printed to their end.
+/// Why the answers of a calls file, or the report of a scenario, weren't printed to their end.
 #[derive(Clone, Copy, Debug, PartialEq, Eq, Error)]
 pub enum ReportFault {
-    /// A frame, or what the readers were given, couldn't be made.
+    /// The engine couldn't run a frame, or couldn't make the accounts of the readers.
     #[error("run fault: {0}")]
     Run(RunFault),
     /// The sink failed.

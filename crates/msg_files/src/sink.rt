@@ -10,7 +10,8 @@ use thiserror::Error;
 #[error("the sink failed")]
 pub struct PutFault;
 
-/// Where bytes go. `Ok(n)` says that the first n bytes were taken, an error that none was.
+/// Where bytes go. A put that gives `Ok(n)` took the first n bytes of the piece, and one that gives
+/// an error took none. It failed where it gives an error, or 0 for a piece that isn't empty.
 pub trait Sink {
     /// The bytes taken so far, where the sink tells them.
     ghost contents: { Self → Option (List ℕ) };
@@ -18,13 +19,15 @@ pub trait Sink {
     /// How often a put failed; it stays at the greatest value.
     ghost failures: { Self → ℕ };
 
+    /// Takes the piece or a front of it, and tells how many bytes it took.
     fn put(&mut self, piece: &[u8]) -> Result<usize, PutFault>
         ensures bound { IfOk result (λ n. n ≤ length piece.now) }
         ensures bytes { WriteAppends (contents self.old) (contents self.new) result piece.now }
         ensures counts { failures self.new ≡ failures_after (failures self.old) result piece.now };
 }
 
-/// Puts the whole piece, in as many puts as the sink wants.
+/// Puts the whole piece, in as many puts as the sink wants. An error says that a put failed; the
+/// sink may have taken a front of the piece then.
 pub fn put_all<S: Sink>(sink: &mut S, piece: &[u8]) -> Result<(), PutFault>
     ensures ok { OnOk result (Appends (S.contents sink.old) (S.contents sink.new) piece.now) }
     ensures quiet { OnOk result (S.failures sink.new ≡ S.failures sink.old) }
@@ -44,7 +47,7 @@ pub fn put_all<S: Sink>(sink: &mut S, piece: &[u8]) -> Result<(), PutFault>
     Ok(())
 }
 
-/// Puts a text that is made; where the sink fails, the fault of a report.
+/// Puts a whole text, as `put_all` does. Where the sink fails, the error is `Write`.
 pub fn put_text<S: Sink>(text: &[u8], sink: &mut S) -> Result<(), ReportFault>
     ensures ok { OnOk result (Appends (S.contents sink.old) (S.contents sink.new) text.now) }
     ensures quiet { OnOk result (S.failures sink.new ≡ S.failures sink.old) }

@@ -56,7 +56,7 @@ pub record IsGivenOnce (es : List ReadEntry) (ms : List Moment) (from to : ℕ)
 abbrev pub is_by : ℕ → History Record → ℕ → Bool
 is_by writer h n = elim (message_numbered h n) [ None ↦ false | Some m ↦ m.writer == writer ]
 
--- Of one writer a reader was given the messages of these numbers, which rise.
+-- A reader was given messages of this writer as they were written, and in order of writing.
 pub record IsInOrderOf (writer : ℕ) (es : List ReadEntry) (last : History Record) : Type 0 where
   pub as_written : map (message_numbered last) (filter (is_by writer last) (numbers_of given es))
       ≡ map Some (filter (λ m. m.writer == writer) (messages_given es))

@@ -14,7 +14,7 @@ pub record ReadEntry : Type 0 where
   -- the messages that it was given; none where it cleared them
   pub given : Option (List Record)
 
--- an op that reads is told by what it took
+-- the entry of an op that reads, by what it took
 abbrev pub entry_of_read : Took → ReadEntry
 entry_of_read took = record {
   stretch = record { missed = took.missed; first = took.first; number = length took.items };
@@ -48,18 +48,18 @@ abbrev pub replies_of : Outcome → List (List Reply)
 replies_of Skipped = []
 replies_of (Ran replies) = replies ∷ []
 
--- the ops of its next turn that these are the replies to
+-- the ops of a system's next turn to which these are the replies
 abbrev pub ops_by : Needs → Rule → List Reply → List Op
 ops_by n rule replies = ops_answered (λ so_far. if_kept n (rule [] so_far)) replies
 
--- The entries for a type of a system that takes turns which are answered so, one after the other.
+-- The entries for a type of a system whose turns, one after the other, have these replies.
 abbrev pub entries_told : ℕ → Needs → Rule → List (List Reply) → List ReadEntry
 entries_told t n rule [] = []
 entries_told t n rule (replies ∷ turns) =
     entries_for t (ops_by n rule replies) replies
     ++ entries_told t n (λ later now. rule (replies ∷ later) now) turns
 
--- those of one turn
+-- the entries for a type of a system whose turn came out so
 abbrev pub outcome_entries : ℕ → Meaning → Outcome → List ReadEntry
 outcome_entries t m outcome = entries_told t m.needs m.rule (replies_of outcome)
 
@@ -82,7 +82,7 @@ numbers_at given e = if is_some e.given then numbers_passed e else []
 numbers_at cleared e = if is_some e.given then [] else numbers_passed e
 numbers_at missed e = range_with_len (e.stretch.first - e.stretch.missed) e.stretch.missed
 
--- those that met it at any entry, in the order of the entries
+-- the numbers of those that met a fate at any entry, in the order of the entries
 abbrev pub numbers_of : Fate → List ReadEntry → List ℕ
 numbers_of fate es = flat_map (numbers_at fate) es
 

@@ -9,6 +9,7 @@ use Rattle.msg_frames.specs.{declared.place.Place.Place, Entries.no_totals, Fram
 abbrev pub nobody : Meaning
 nobody = new_system (record { ops = []; start = Zero }) 0
 
+-- the default for a number that is no place's: no conditions, join frame 1
 abbrev pub nowhere : Place
 nowhere = record { conditions = []; join = 1 }
 

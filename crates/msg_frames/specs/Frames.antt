@@ -8,15 +8,16 @@ use Rattle.msg_system.specs.declared.reply.Reply.{Reply}
 use Rattle.msg_system.specs.Prelude.{AfterJob, IsAccessOf, Job, Needs, after_job, asked_started, conditions_of, numbers_for, after_start, with_conditions, write_reply}
 use Rattle.msg_frames.specs.{declared.frame.Frame.Frame, declared.log.Log.Log, declared.log.Turn.Turn, declared.log.Outcome.Outcome, declared.log.Outcome.TheVariants.Skipped, declared.log.Outcome.TheVariants.Ran, Entries.outcome_entries, Entries.totals_from, Entries.with_entries, declared.totals.Totals.Totals}
 
--- A system among the others.
+-- One system of a state: its job, the frame that it joins with, and its totals.
 pub record Member : Type 0 where
   -- its system and its conditions, with their cursors
   pub job : Job
   -- the frame that it joins with; with 1 it joins before any frame
   pub join : ℕ
-  -- what it was given of each type
+  -- what it got, missed and cleared of each type
   pub totals : ℕ → Totals
 
+-- What a frame starts from and leaves: the systems, the rules, the world, and the frames so far.
 pub record State : Type 0 where
   -- how many systems there are; a system goes by its number, in order of addition
   pub systems : ℕ
@@ -78,7 +79,7 @@ after_posts [] w = w
 after_posts (p ∷ ps) w =
     after_posts ps (with_history w p.0 (write (by HOST p.1 ∷ []) (w.histories p.0)))
 
--- what they are answered
+-- what the posts are answered
 abbrev pub post_replies : List (ℕ × ℤ) → WorldState → List Reply
 post_replies [] w = []
 post_replies (p ∷ ps) w = write_reply (numbers_for (w.histories p.0) 1)
@@ -97,7 +98,7 @@ pub record AfterTurn : Type 0 where
   pub world : WorldState
   pub outcome : Outcome
 
--- its job, and the entries of that in its accounts
+-- a member's turn: it does its job, and its totals count the entries of that
 abbrev pub member_turn : Member → WorldState → AfterTurn
 member_turn m w =
     let after : AfterJob = after_job m.job w in
@@ -116,14 +117,16 @@ member_turn m w =
 abbrev pub turn_of : State → ℕ → AfterTurn
 turn_of s i = member_turn (s.members i) s.world
 
+-- the members, with another one as number i
 abbrev pub with_member : (ℕ → Member) → ℕ → Member → ℕ → Member
 with_member members i m = λ k. if k == i then m else members k
 
+-- the state after the turn of system i
 abbrev pub after_turn_of : ℕ → State → State
 after_turn_of i s =
     record s { members = with_member s.members i (turn_of s i).member; world = (turn_of s i).world }
 
--- what the log says of it
+-- what the log says of the turn of system i
 abbrev pub logged_turn : State → ℕ → Turn
 logged_turn s i = record { system = i; outcome = (turn_of s i).outcome }
 
@@ -132,7 +135,7 @@ pub record AfterTurns : Type 0 where
   pub state : State
   pub turns : List Turn
 
--- one system after the other, on one thread
+-- the turns of these systems, one after the other, on one thread
 abbrev pub after_turns_of : List ℕ → State → AfterTurns
 after_turns_of [] s = record { state = s; turns = [] }
 after_turns_of (i ∷ is) s =
@@ -178,7 +181,7 @@ pub record IsOrderOf (s : State) (settled : Graph) : Type 0 where
   pub of_systems : AreAccessesOf s accesses
   pub is_settled : IsSettledOrder accesses s.rules (join_flags s) settled
 
--- All that have joined, by batch number in the settled order, and then by addition.
+-- The order has all that have joined, by batch number in the settled order, then by addition.
 pub record IsTurnOrderOf (s : State) (order : List ℕ) : Type 0 where
   pub settled : Graph
   pub is_order : IsOrderOf s settled

@@ -8,10 +8,12 @@ use Rattle.msg_frames.specs.{declared.frame.Frame.Frame, declared.log.Log.Log, d
 
 -- ---- soundness
 
+-- A frame on a sound state leaves a sound state.
 abbrev pub FrameStaysSound : Type 0
 FrameStaysSound = (frame : Frame) (s : State) (log : Log) (u : State) → IsSoundState s
     → IsFrame frame s log u → IsSoundState u
 
+-- A run from a sound state leaves a sound state.
 abbrev pub RunStaysSound : Type 0
 RunStaysSound = (frames : List Frame) (s : State) (logs : List Log) (u : State) → IsSoundState s
     → IsRun frames s logs u → IsSoundState u
@@ -24,6 +26,7 @@ pub record AreNew (systems : List Meaning) (places : List Place) (types : ℕ)
   pub new : EachIndex systems (λ i. IsNew i (slice_index_or systems i nobody))
   pub joins : All (λ place. 1 ≤ place.join) places
 
+-- The first state of new systems over a sound world is sound.
 abbrev pub FirstIsSound : Type 0
 FirstIsSound = (systems : List Meaning) (places : List Place) (rules : List Rule) (types : ℕ)
     (world : WorldState)
@@ -45,7 +48,7 @@ ReplaysTellTheSame = (frame : Frame) (order : List ℕ) (s : State) (log : Log) 
     (replay : IsReplay frame order s log u) (i : ℕ)
     → answers_in i (log ∷ []) ≡ answers_in i (replay.settled ∷ [])
 
--- So it is with frames of which some are replayed.
+-- Frames of which some are replayed tell each system what a complete run of them tells it.
 abbrev pub ReplaysTellACompleteRun : Type 0
 ReplaysTellACompleteRun = (frames : List Frame) (s : State) (logs : List Log) (u : State)
     → IsSoundState s

@@ -19,6 +19,7 @@ pub record Run : Type 0 where
   pub state : State
   pub logs : List Log
 
+-- what these frames leave on a state, and their logs
 abbrev pub run_from : OrderedFrames → State → Run
 run_from [] s = record { state = s; logs = [] }
 run_from (frame ∷ frames) s =
@@ -53,9 +54,11 @@ abbrev pub systems_numbered : ℕ → List Program → List Meaning
 systems_numbered n [] = []
 systems_numbered n (p ∷ ps) = new_system p n ∷ systems_numbered (suc n) ps
 
+-- the first state of a setup
 abbrev pub setup_state : Setup → State
 setup_state x = first_state (systems_numbered 0 x.programs) x.places x.rules x.types x.world
 
+-- what these frames leave on the first state of a setup, and their logs
 abbrev pub run : OrderedFrames → Setup → Run
 run frames x = run_from frames (setup_state x)
 
@@ -72,24 +75,31 @@ IsRunOf frames s = IsRun (map (λ f. record { posts = f.0 }) frames) s (run_from
 abbrev pub post : ℤ → List (ℕ × ℤ)
 post value = (0, value) ∷ []
 
+-- a program of these ops, whose cursors start at 0
 abbrev pub program : List Op → Program
 program ops = record { ops = ops; start = Zero }
 
+-- a place without conditions, from frame 1 on
 abbrev pub always : Place
 always = record { conditions = []; join = 1 }
 
+-- a place with these conditions, from frame 1 on
 abbrev pub asking : List Condition → Place
 asking conditions = record { conditions = conditions; join = 1 }
 
+-- a place without conditions, from frame k on
 abbrev pub from_frame : ℕ → Place
 from_frame k = record { conditions = []; join = k }
 
+-- the resource has this value
 abbrev pub equals : ℕ → ℤ → Condition
 equals r value = record { nots = 0; probe = ResourceEquals r value }
 
+-- the resource has another value
 abbrev pub differs : ℕ → ℤ → Condition
 differs r value = record { nots = 1; probe = ResourceEquals r value }
 
+-- a message of this type is unread
 abbrev pub on_message : ℕ → Condition
 on_message t = record { nots = 0; probe = OnMessage t }
 
@@ -97,6 +107,7 @@ on_message t = record { nots = 0; probe = OnMessage t }
 abbrev pub log_of : List Reply → List Turn → Log
 log_of posts turns = record { posts = posts; turns = turns }
 
+-- the turn of system i, with these replies
 abbrev pub ran : ℕ → List Reply → Turn
 ran i replies = record { system = i; outcome = Ran replies }
 
@@ -104,6 +115,7 @@ ran i replies = record { system = i; outcome = Ran replies }
 abbrev pub did : ℕ → Reply → Turn
 did i r = ran i (r ∷ [])
 
+-- system i was skipped
 abbrev pub skipped : ℕ → Turn
 skipped i = record { system = i; outcome = Skipped }
 
@@ -111,15 +123,19 @@ skipped i = record { system = i; outcome = Skipped }
 abbrev pub wrote : ℕ → ℕ → Reply
 wrote first n = reply.Wrote (record { first = first; n = n })
 
+-- what a read took: how many it missed, the number of the first message, and the messages
 abbrev pub took_of : ℕ → ℕ → List Record → Took
 took_of missed first items = record { missed = missed; first = first; items = items }
 
+-- the reply to a read that took this
 abbrev pub read_of : ℕ → ℕ → List Record → Reply
 read_of missed first items = reply.Read (took_of missed first items)
 
+-- the totals of system i for type t
 abbrev pub totals_of : State → ℕ → ℕ → Totals
 totals_of s i t = (s.members i).totals t
 
+-- totals of a reader that cleared nothing
 abbrev pub gave : ℕ → ℕ → ℕ → Totals
 gave start got missed = record { start = Some start; got = got; missed = missed; cleared = 0 }
 

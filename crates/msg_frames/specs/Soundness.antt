@@ -10,6 +10,7 @@ pub record IsBalanced (x : Totals) (place : ℕ) : Type 0 where
   pub start : x.start ≡ Some begin
   pub adds_up : begin + x.got + x.missed + x.cleared ≡ place
 
+-- What holds of a state before and after every frame.
 pub record IsSoundState (s : State) : Type 0 where
   pub histories : (t : ℕ) → t < s.types → IsSound (s.world.histories t)
   -- no reader is past the messages that there are

@@ -13,7 +13,7 @@ answers_in i logs =
     flat_map (λ log. flat_map (λ turn. if turn.system == i then replies_of turn.outcome
     else []) log.turns) logs
 
--- the entries for type t of system i, which meant this before
+-- the entries for type t that the logs have of system i; m is what it meant before them
 abbrev pub log_entries : ℕ → ℕ → Meaning → List Log → List ReadEntry
 log_entries i t m logs = entries_told t m.needs m.rule (answers_in i logs)
 
@@ -24,36 +24,36 @@ pub record Moment : Type 0 where
   pub history : History Record
   pub entry : ReadEntry
 
--- of the next op, after what was done so far; none where the turn is over
+-- the moments of the next op, after what was done so far; none where the turn is over
 abbrev pub next_moments : ℕ → Option Op → ℕ → AfterProgram → List Moment
 next_moments t None writer far = []
 next_moments t (Some op) writer far =
     map (λ e. record { history = far.state.histories t; entry = e })
     (entry_for t op (after_op op writer far.places far.state).reply)
 
--- of at most so many ops of its turn
+-- the moments of the first ops of a system's turn, at most so many
 abbrev pub first_moments : ℕ → ℕ → Meaning → WorldState → List Moment
 first_moments t zero m w = []
 first_moments t (suc n) m w =
     let far : AfterProgram = after_at_most n (next_op m) m.writer m.places w in
     first_moments t n m w ++ next_moments t (next_op m far.replies) m.writer far
 
--- of its turn
+-- the moments of a system's turn
 unfoldable pub turn_moments : ℕ → Meaning → WorldState → List Moment
 turn_moments t m w = first_moments t 64 m w
 
--- of its job
+-- the moments of a job; none where a condition doesn't hold
 abbrev pub job_moments : ℕ → Job → WorldState → List Moment
 job_moments t job w = if all_hold job.conditions w then turn_moments t job.system w else []
 
--- of system i in the turns of a frame
+-- the moments of system i in the turns of a frame
 abbrev pub turns_moments : ℕ → ℕ → List ℕ → State → List Moment
 turns_moments i t [] s = []
 turns_moments i t (j ∷ js) s =
     (if j == i then job_moments t (s.members i).job s.world else [])
     ++ turns_moments i t js (after_turn_of j s)
 
--- of system i in a run of frames with these logs
+-- the moments of system i in a run of frames with these logs
 abbrev pub moments : ℕ → ℕ → List Frame → List Log → State → List Moment
 moments i t (frame ∷ frames) (log ∷ logs) s =
     turns_moments i t (turn_order_in log) (before_turns frame.posts s)

@@ -32,8 +32,8 @@ TurnsKeepSystems = (order : List ℕ) (s : State)
     → SameSystems s (after_turns_of order s).state
     × ((after_turns_of order s).state.frames ≡ s.frames)
 
--- What a frame keeps: whoever joins, and whatever is done before the turns and by them. It counts
--- as one frame.
+-- A frame keeps the systems: as some join, as it begins, before its turns and after them. It
+-- counts as one frame.
 pub record FrameKeeps (order : List ℕ) (frame : Frame) (s : State) : Type 0 where
   pub with_joiners : (k : ℕ) → SameSystems s (with_joining k s)
   pub as_it_begins : SameSystems s (after_joining s)
@@ -42,6 +42,7 @@ pub record FrameKeeps (order : List ℕ) (frame : Frame) (s : State) : Type 0 wh
   pub counted_before : (before_turns frame.posts s).frames ≡ suc s.frames
   pub counted : (frame_in order frame s).state.frames ≡ suc s.frames
 
+-- Each frame keeps the systems.
 abbrev pub FramesKeepSystems : Type 0
 FramesKeepSystems = (order : List ℕ) (frame : Frame) (s : State) → FrameKeeps order frame s
 
@@ -63,20 +64,20 @@ TurnsOfOthersCommute = (s : State) (accesses : List Access) (i j : ℕ) → AreA
     × (logged_turn (after_turn_of j s) i ≡ logged_turn s i)
     × (after_turn_of j (after_turn_of i s) ≡ after_turn_of i (after_turn_of j s))
 
--- the state s after what system i's job on the state `start` wrote has come home
+-- the state s with system i as its turn on the state `start` left it, and with what that wrote
 abbrev pub home : List Access → State → ℕ → State → State
 home accesses start i s = record s {
   members = with_member s.members i (turn_of start i).member;
   world = merge (access_of accesses i) (turn_of start i).world s.world;
 }
 
--- after that of each of these, one after the other
+-- the state s with each of these as its turn on the state `start` left it, and what that wrote
 abbrev pub all_home : List Access → State → List ℕ → State → State
 all_home accesses start [] s = s
 all_home accesses start (i ∷ is) s = all_home accesses start is (home accesses start i s)
 
 -- Jobs of which no two conflict may each run on the state as it was at the start, if what they
--- wrote comes home after it: the log and the state are those of one turn after the other.
+-- wrote is merged afterwards: the log and the state are those of one turn after the other.
 abbrev pub BatchesRunSideBySide : Type 0
 BatchesRunSideBySide = (s : State) (accesses : List Access) (batch : List ℕ)
     → AreAccessesOf s accesses
@@ -123,7 +124,7 @@ abbrev pub FramesAreUnique : Type 0
 FramesAreUnique = (frame : Frame) (s u v : State) (log other : Log)
     → IsFrame frame s log u → IsFrame frame s other v → (log ≡ other) × (u ≡ v)
 
--- And so it is with frames one after the other.
+-- Frames one after the other have one list of logs, and leave one state.
 abbrev pub RunsAreUnique : Type 0
 RunsAreUnique = (frames : List Frame) (s u v : State) (logs others : List Log)
     → IsRun frames s logs u → IsRun frames s others v → (logs ≡ others) × (u ≡ v)
@@ -139,7 +140,7 @@ FramesExist = (frame : Frame) (s : State) (accesses : List Access) → NoCycle s
     → AreAccessesOf s accesses
     → (log : Log) × (u : State) × IsFrame frame s log u
 
--- And so it is with frames one after the other.
+-- Where the rules make no cycle, and each system has an access, there is a run of any frames.
 abbrev pub RunsExist : Type 0
 RunsExist = (frames : List Frame) (s : State) (accesses : List Access) → NoCycle s
     → AreAccessesOf s accesses

@@ -19,7 +19,7 @@ pub record ReadsAll (i t : ℕ) (log : Log) (u : State) : Type 0 where
   pub ran : All (λ turn. turn.system ≡ i → turn.outcome ≢ Skipped) log.turns
   pub read_all : IsTrue (list_any (reads_all t) (u.members i).job.system.last)
 
--- So it was in each frame of a run.
+-- In each frame of the run system i ran, and read type t without limit.
 abbrev pub ReadsAllInEach : ℕ → ℕ → (frames : List Frame) (s : State) (logs : List Log) (u : State)
     → IsRun frames s logs u → Type 0
 ReadsAllInEach i t [] s [] u run = Unit {0}
@@ -54,14 +54,14 @@ WhoReadsAllCatchesUp = (frame : Frame) (s : State) (log : Log) (u : State) (i t 
     → count ((after_turns_of earlier (before_turns frame.posts s)).state.world.histories t) ≤
     reader_place u i t
 
--- So what was written in one frame it was given or went past by the end of the next.
+-- By the end of a frame in which it reads all, a system got or went past all written before it.
 abbrev pub WhoReadsAllHasTheFrameBefore : Type 0
 WhoReadsAllHasTheFrameBefore = (frame : Frame) (s : State) (log : Log) (u : State) (i t : ℕ)
     → IsSoundState s
     → IsFrame frame s log u → t < s.types → ReadsAll i t log u
     → count (s.world.histories t) ≤ reader_place u i t
 
--- And unless the type was drained, it is up to date.
+-- A system that reads all in a frame is up to date after it, unless the type was drained.
 abbrev pub WhoReadsAllIsUpToDate : Type 0
 WhoReadsAllIsUpToDate = (frame : Frame) (s : State) (log : Log) (u : State) (i t : ℕ)
     → IsSoundState s
@@ -86,8 +86,8 @@ WhoReadsEachFrameMissesNothing = (frame : Frame) (frames : List Frame) (s m u : 
     → ReadsAll i t log m
     → ReadsAllInEach i t frames m logs u run → NothingDrained t s u → MissesNothing i t m logs
 
--- A system that has joined, has no conditions, and whose program reads the type without limit,
--- reads all in each frame, and stays that program.
+-- A system that has joined, has no conditions, and whose program of at most 64 ops reads the type
+-- without limit, reads all of it in a frame, and keeps its program.
 abbrev pub WhoseProgramReadsAll : Type 0
 WhoseProgramReadsAll = (frame : Frame) (s : State) (log : Log) (u : State) (i t : ℕ)
     (program : Program) (writer : ℕ) (places : ℕ → ℕ)

@@ -1,10 +1,12 @@
 use msg_world::TypeNo;
 
-/// What a reader, a system and a type that it reads, was given since it joined. The start
-/// and the three sums add up to its place.
+/// What a reader was given since it joined. A reader is a system and a type that it reads. The
+/// start, `got`, `missed` and `cleared` add up to the place.
 #[derive(Clone, Copy, Debug, PartialEq, Eq)]
 pub struct Account {
+    /// The system's number.
     pub system: u32,
+    /// The type that the system reads.
     pub of_type: TypeNo,
     /// Its place as it joined; None before that.
     pub start: Option<u64>,

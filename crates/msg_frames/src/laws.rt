@@ -38,7 +38,7 @@ pub fn turns_of_others_commute()
 }
 
 /// Systems of which no two conflict may take their turns side by side: each runs on what was there
-/// at the start, and what it wrote comes home after it. The log and what is left are those of one
+/// at the start, and what it wrote is merged afterwards. The log and the state are those of one
 /// turn after the other.
 pub fn batches_run_side_by_side()
     ensures law { BatchesRunSideBySide }
@@ -89,8 +89,8 @@ pub fn runs_are_unique()
     turn_order_is_unique();
 }
 
-/// Where the rules make no cycle, there is a frame, and a run of any frames. So with
-/// `runs_are_unique` there is exactly one.
+/// Where the rules make no cycle, and each system has an access for what it needs, there is a
+/// frame, and a run of any frames. So with `runs_are_unique` there is exactly one.
 pub fn runs_exist()
     ensures frame { FramesExist }
     ensures run { RunsExist }

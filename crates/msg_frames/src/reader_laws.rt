@@ -63,7 +63,8 @@ pub fn who_reads_each_frame_misses_nothing()
     readers_tile::<Record>();
 }
 
-/// A system without conditions, whose program reads a type without limit, does so in each frame.
+/// A system that has joined, has no conditions, and whose program of at most 64 ops reads a type
+/// without limit, does so in each frame.
 pub fn programs_read_all()
     ensures law { WhoseProgramReadsAll }
 {

@@ -27,7 +27,7 @@ pub record IsLowestOnCycle (g : Graph) (s : ℕ) : Type 0 where
   pub on_cycle : Path g s s
   pub lowest : (r : ℕ) → r < s → ¬ Path g r r
 
--- n is the length of the longest chain that ends in i: as many edges as there are systems before i
+-- n is the length of the longest chain that ends in i, as a number of edges
 pub record IsBatchNumber (g : Graph) (i n : ℕ) : Type 0 where
   pub reached : (before : List ℕ) × ((length before ≡ n) × IsChain g (before ++ i ∷ []))
   pub longest : (before : List ℕ) → IsChain g (before ++ i ∷ []) → length before ≤ n

@@ -6,8 +6,8 @@ use crate::Rule;
 use crate::paths::{follow_rules, no_paths};
 use std::alloc::{AllocError, Allocator};
 
-/// The lowest of so many systems from which the rules lead back to it; None where they lead back
-/// to no system. No systems take no memory.
+/// Of so many systems the lowest one from which the rules lead back to it; None where there is no
+/// such system. For 0 systems it takes no memory.
 pub fn lowest_on_cycle<A: Allocator>(
     alloc: A,
     systems: usize,

@@ -6,7 +6,8 @@ ghost use Rattle.msg_order.specs.{Prelude.AreBatches, Prelude.Graph, Prelude.IsA
 use crate::system_set::SystemSet;
 use std::alloc::{AllocError, Allocator};
 
-/// The systems that are left with none before them, and those that are left after these.
+/// The next batch, which has each system that is left and that no system left precedes; and the
+/// systems that are left after it.
 #[tactic(auto, using(crate::proofs::Elements::range_filters))]
 fn take_level<A: Allocator + Copy>(
     alloc: A,

@@ -7,7 +7,7 @@ use crate::system_set::SystemSet;
 use msg_world::Access;
 use std::alloc::{AllocError, Allocator};
 
-/// So many systems without a path.
+/// The sets of so many systems between which there is no path: each set is empty.
 #[tactic(auto, using(crate::proofs::SetPaths::none_past, crate::proofs::SetPaths::sets_push))]
 pub fn no_paths<A: Allocator>(alloc: A, systems: usize) -> Result<Vec<SystemSet, A>, AllocError>
     ensures len { IfOk result (λ before. length before.items ≡ systems) }
@@ -21,7 +21,7 @@ pub fn no_paths<A: Allocator>(alloc: A, systems: usize) -> Result<Vec<SystemSet,
     Ok(before)
 }
 
-/// Adds the edges from one system to each of these.
+/// Adds an edge from one system to each system of a set.
 #[tactic(auto, using(crate::proofs::SetPaths::adds_past))]
 pub fn add_edges(before: &mut [SystemSet], from: usize, to: &SystemSet)
     requires few { length before.old ≤ 256 }
@@ -96,8 +96,8 @@ fn later_conflicts(accesses: &[Access], joined: &[bool], i: usize, before: &Syst
     later
 }
 
-/// Takes the pairs of systems in conflict. What becomes of the pairs (i, j) is known before any of
-/// them adds an edge: an edge from i makes no new path to i.
+/// Takes the pairs of systems in conflict in their order. For each system i it adds all edges to
+/// later systems at once: an edge from i makes no new path to i.
 fn settle_pairs(before: &mut [SystemSet], accesses: &[Access], joined: &[bool])
     requires few { length before.old ≤ 256 }
     requires one_each { length joined.now ≡ length before.old }

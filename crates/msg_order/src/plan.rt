@@ -117,8 +117,8 @@ impl<A: Allocator> Plan<A> {
     ghost use Rattle.msg_world.specs.declared.access.Access.{Access as AccessView};
     ghost use Rattle.msg_order.specs.{declared.rule.Rule.Rule as RuleView, Graph.IsEdge, Order.IsLawfulOrder, Plan.IsPlanOf};
 
-    /// The systems batch by batch, each batch by order of addition. All systems of a batch end
-    /// before the next batch begins.
+    /// The joined systems batch by batch, each batch by order of addition. All systems of a batch
+    /// have to end before the next batch begins.
     pub fn batches(&self) -> &[Vec<u32, A>]
         ensures items { map (λ batch. batch.items) result.now ≡ self.now.batches }
     {

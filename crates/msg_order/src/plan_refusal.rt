@@ -4,8 +4,8 @@ ghost use Rattle.std.specs.Prelude.{◌≡◌};
 use std::alloc::AllocError;
 use thiserror::Error;
 
-/// Why there is no plan: the rules lead from this system back to it, and from no lower one, or
-/// memory ran out.
+/// Why there is no plan. `Cycle` has the lowest system from which the rules lead back to it;
+/// `NoMemory` says that memory ran out.
 #[derive(Debug, Drop, Error)]
 pub enum PlanRefusal {
     #[error("the rules go round in a circle through system {0}")]

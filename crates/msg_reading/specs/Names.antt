@@ -23,12 +23,14 @@ pub record Declared : Type 0 where
 abbrev pub position_of : List Text → Text → Option ℕ
 position_of names name = position (bytes_eq name) names
 
--- the number of a type, of a resource and of a system; there are at most 64, 64 and 256
+-- the number of the type of this name, which is below 64
 abbrev pub type_number : Declared → Text → Option ℕ
 type_number names name = option_and_then (only_below 64) (position_of names.types name)
 
+-- the number of the resource of this name, which is below 64
 abbrev pub resource_number : Declared → Text → Option ℕ
 resource_number names name = option_and_then (only_below 64) (position_of names.resources name)
 
+-- the number of the system of this name, which is below 256
 abbrev pub system_number : Declared → Text → Option ℕ
 system_number names name = option_and_then (only_below 256) (position_of names.systems name)

@@ -41,17 +41,21 @@ abbrev pub new_name : List Text → Text → List Check
 new_name before name =
     needs (is_name name) BadName ∷ needs (not (is_some (position_of before name))) TwiceNamed ∷ []
 
+-- the name of a declared type
 abbrev pub a_type : Declared → Data → Check
 a_type names d = needs (is_some (type_number names (text d))) UnknownName
 
+-- the name of a declared resource
 abbrev pub a_resource : Declared → Data → Check
 a_resource names d = needs (is_some (resource_number names (text d))) UnknownName
 
+-- the name of a declared system
 abbrev pub a_system : Declared → Data → Check
 a_system names d = needs (is_some (system_number names (text d))) UnknownName
 
 -- ---- types and resources
 
+-- a type: a list of a new name and a limit
 abbrev pub type_checks : Declared → Data → List Check
 type_checks names d =
     for_two (λ name limit.
@@ -59,6 +63,7 @@ type_checks names d =
     ∷ (new_name names.types (text name) ++ a_limit limit ∷ []))
     (elements d)
 
+-- a resource: a list of a new name and a value
 abbrev pub resource_checks : Declared → Data → List Check
 resource_checks names d =
     for_two (λ name value.
@@ -68,9 +73,11 @@ resource_checks names d =
 
 -- ---- ops: the shape of the whole, and then the parts from left to right
 
+-- an op of a head alone
 abbrev pub bare_op_checks : Text → List Check
 bare_op_checks head = if bytes_eq head (codes "signal") then [] else wrong_shape
 
+-- an op of a head and one part
 abbrev pub op_checks_with_one : Declared → Text → Data → List Check
 op_checks_with_one names head d =
     if bytes_eq head (codes "read") then needs (is_text d) Shape ∷ a_type names d ∷ []
@@ -81,6 +88,7 @@ op_checks_with_one names head d =
     else if bytes_eq head (codes "drain") then needs (is_text d) Shape ∷ a_type names d ∷ []
     else wrong_shape
 
+-- an op of a head and two parts
 abbrev pub op_checks_with_two : Declared → Text → Data → Data → List Check
 op_checks_with_two names head d e =
     if bytes_eq head (codes "write")
@@ -100,12 +108,14 @@ op_checks_with_two names head d e =
     then needs (is_text d && is_number e) Shape ∷ a_resource names d ∷ a_value e ∷ []
     else wrong_shape
 
+-- an op of a head, and of what stands after it
 abbrev pub op_checks_with : Declared → Text → List Data → List Check
 op_checks_with names head [] = bare_op_checks head
 op_checks_with names head (d ∷ []) = op_checks_with_one names head d
 op_checks_with names head (d ∷ e ∷ []) = op_checks_with_two names head d e
 op_checks_with names head (d ∷ e ∷ f ∷ rest) = wrong_shape
 
+-- an op: a list that begins with its head
 abbrev pub op_checks : Declared → Data → List Check
 op_checks names d = for_headed (op_checks_with names) (elements d)
 
@@ -127,12 +137,14 @@ probe_checks names nots head (d ∷ e ∷ []) =
     ∷ []
 probe_checks names nots head (d ∷ e ∷ f ∷ rest) = wrong_shape
 
+-- a condition: a probe, with the `not`s round it
 abbrev pub condition_checks : Declared → Data → List Check
 condition_checks names d =
     for_headed (probe_checks names (nots_round 128 d)) (elements (inside_nots 128 d))
 
 -- ---- systems
 
+-- the keys that a system may have
 abbrev pub is_system_key : Text → Bool
 is_system_key key =
     bytes_eq key (codes "name") || bytes_eq key (codes "kind") || bytes_eq key (codes "ops")
@@ -156,10 +168,11 @@ of_its_kind names d =
     option_map_or (λ kind. option_map_or (fits_kind kind) (ops_of names d) false)
     (kind_of (kind_in d)) false
 
+-- the name of a system: a text, and a new name
 abbrev pub name_checks : Declared → Data → List Check
 name_checks names d = needs (is_text d) Shape ∷ new_name names.systems (text d)
 
--- from 1 to 10,000
+-- the frame to join with: a number from 1 to 10,000
 abbrev pub join_checks : Data → List Check
 join_checks d =
     needs (is_number d) Shape
@@ -185,12 +198,14 @@ program_checks names d =
     ++ (place_checks names d
     ++ needs (is_some (start_of (start_in d))) Shape ∷ []))
 
+-- a system: its keys, then its name, then all else
 abbrev pub system_checks : Declared → Data → List Check
 system_checks names d =
     system_object d ++ (name_checks names (value_at (codes "name") d) ++ program_checks names d)
 
 -- ---- rules and frames
 
+-- a rule: a list of two declared systems
 abbrev pub rule_checks : Declared → Data → List Check
 rule_checks names d =
     for_two (λ earlier later.
@@ -198,17 +213,20 @@ rule_checks names d =
     ∷ a_system names later ∷ [])
     (elements d)
 
+-- a post: a list of a declared type and a value
 abbrev pub post_checks : Declared → Data → List Check
 post_checks names d =
     for_two (λ name value.
     needs (is_text name && is_number value) Shape ∷ a_type names name ∷ a_value value ∷ [])
     (elements d)
 
+-- a frame: a list of at most 1,024 posts
 abbrev pub frame_checks : Declared → Data → List Check
 frame_checks names d = list_checks 1024 (post_checks names) d
 
 -- ---- the file
 
+-- the keys that a scenario file may have
 abbrev pub is_root_key : Text → Bool
 is_root_key key =
     bytes_eq key (codes "types") || bytes_eq key (codes "resources") || bytes_eq key (codes "held")
@@ -221,23 +239,28 @@ root_object d =
     object_checks is_root_key d
     ++ (has_key (codes "types") d ∷ has_key (codes "systems") d ∷ has_key (codes "frames") d ∷ [])
 
--- the sections of a file
+-- the section `types`: a list of at most 64
 unfoldable pub types_checks : Data → List Check
 types_checks d = names_checks 64 type_checks declaring_type no_names (types_in d)
 
+-- the section `resources`: a list of at most 64
 unfoldable pub resources_checks : Data → List Check
 resources_checks d =
     names_checks 64 resource_checks declaring_resource (type_names d) (resources_in d)
 
+-- the section `held`: true or false
 unfoldable pub held_checks : Data → List Check
 held_checks d = needs (is_some (as_bool (held_in d))) Shape ∷ []
 
+-- the section `systems`: a list of at most 256
 unfoldable pub systems_checks : Data → List Check
 systems_checks d = names_checks 256 system_checks with_system (part_names d) (systems_in d)
 
+-- the section `rules`: a list of at most 1,024
 unfoldable pub rules_checks : Data → List Check
 rules_checks d = list_checks 1024 (rule_checks (all_names d)) (rules_in d)
 
+-- the section `frames`: a list of at most 10,000
 unfoldable pub frames_checks : Data → List Check
 frames_checks d = list_checks 10000 (frame_checks (all_names d)) (frames_in d)
 
@@ -251,6 +274,6 @@ sections_checks d =
     ++ (rules_checks d
     ++ frames_checks d))))
 
--- all checks of a file, but those of its programs and rules together
+-- all checks of a file but two: that no program clashes, and that the rules make no cycle
 abbrev pub scenario_checks : Data → List Check
 scenario_checks d = root_object d ++ sections_checks d

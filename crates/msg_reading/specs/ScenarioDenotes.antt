@@ -38,9 +38,11 @@ first_text (d ∷ rest) = text d
 
 -- ---- ops
 
+-- an op of a head alone
 abbrev pub bare_op : Text → Option Op
 bare_op head = if bytes_eq head (codes "signal") then Some Signal else None
 
+-- an op of a head and one part
 abbrev pub op_with_one : Declared → Text → Data → Option Op
 op_with_one names head d =
     if bytes_eq head (codes "read") then option_map (λ t. Read t None) (type_number names (text d))
@@ -55,6 +57,7 @@ op_with_one names head d =
     then option_map (λ t. Drain t) (type_number names (text d))
     else None
 
+-- an op of a head and two parts
 abbrev pub op_with_two : Declared → Text → Data → Data → Option Op
 op_with_two names head d e =
     if bytes_eq head (codes "write")
@@ -73,6 +76,7 @@ op_with_two names head d e =
     then both (λ r v. Add r v) (resource_number names (text d)) (whole e)
     else None
 
+-- an op of a head, and of what stands after it
 abbrev pub op_with : Declared → Text → List Data → Option Op
 op_with names head [] = bare_op head
 op_with names head (d ∷ []) = op_with_one names head d
@@ -91,6 +95,7 @@ in_not_with head [] = None
 in_not_with head (d ∷ []) = if bytes_eq head (codes "not") then Some d else None
 in_not_with head (d ∷ e ∷ rest) = None
 
+-- what a value has in it, where it is a `not`
 abbrev pub in_not : Data → Option Data
 in_not d = of_headed in_not_with (elements d)
 
@@ -104,6 +109,7 @@ abbrev pub nots_round : ℕ → Data → ℕ
 nots_round zero d = 0
 nots_round (suc n) d = elim (in_not d) [ None ↦ 0 | Some e ↦ nots_round n e + 1 ]
 
+-- a probe of a head, and of what stands after it
 abbrev pub probe_with : Declared → Text → List Data → Option Probe
 probe_with names head [] = None
 probe_with names head (d ∷ []) =
@@ -130,6 +136,7 @@ value_or key otherwise d = unwrap_or (get key d) otherwise
 abbrev pub nothing : Data
 nothing = array no_items
 
+-- the kind that a text names
 abbrev pub kind_of : Data → Option Kind
 kind_of d =
     if bytes_eq (text d) (codes "script") then Some Script
@@ -137,6 +144,7 @@ kind_of d =
     else if bytes_eq (text d) (codes "tally") then Some Tally
     else None
 
+-- the start that a text names
 abbrev pub start_of : Data → Option Start
 start_of d =
     if bytes_eq (text d) (codes "zero") then Some Zero
@@ -145,15 +153,19 @@ start_of d =
 
 -- ---- systems
 
+-- what a system has at the key `kind`, or else `script`
 abbrev pub kind_in : Data → Data
 kind_in d = value_or (codes "kind") (string (codes "script")) d
 
+-- what a system has at the key `if`, or else the empty list
 abbrev pub conditions_in : Data → Data
 conditions_in d = value_or (codes "if") nothing d
 
+-- what a system has at the key `join`, or else 1
 abbrev pub join_in : Data → Data
 join_in d = value_or (codes "join") (number (unsigned 1)) d
 
+-- what a system has at the key `start`, or else `zero`
 abbrev pub start_in : Data → Data
 start_in d = value_or (codes "start") (string (codes "zero")) d
 
@@ -185,6 +197,7 @@ system_of names d =
 
 -- ---- rules and frames
 
+-- a rule: the first system runs before the second
 abbrev pub rule_of : Declared → Data → Option Rule
 rule_of names d =
     of_two (λ earlier later.
@@ -192,24 +205,28 @@ rule_of names d =
     (system_number names (text earlier)) (system_number names (text later)))
     (elements d)
 
+-- a post: a type and a value
 abbrev pub post_of : Declared → Data → Option (ℕ × ℤ)
 post_of names d =
     of_two (λ name value. both (λ t v. (t, v)) (type_number names (text name)) (whole value))
     (elements d)
 
+-- a frame: its posts
 abbrev pub frame_of : Declared → Data → Option Frame
 frame_of names d = option_map (λ posts. record { posts = posts }) (each_of (post_of names) d)
 
 -- ---- names
 
--- the names, with that of one more type, resource or system
+-- the names, with that of one more type
 abbrev pub declaring_type : Declared → Data → Declared
 declaring_type names d = record names { types = names.types ++ first_text (elements d) ∷ [] }
 
+-- the names, with that of one more resource
 abbrev pub declaring_resource : Declared → Data → Declared
 declaring_resource names d =
     record names { resources = names.resources ++ first_text (elements d) ∷ [] }
 
+-- the names, with that of one more system
 abbrev pub with_system : Declared → Data → Declared
 with_system names d =
     record names { systems = names.systems ++ text (value_at (codes "name") d) ∷ [] }
@@ -226,53 +243,66 @@ each_in_turn f with_one names [] = Some []
 each_in_turn f with_one names (d ∷ ds) =
     both (λ a rest. a ∷ rest) (f names d) (each_in_turn f with_one (with_one names d) ds)
 
+-- no name is declared
 abbrev pub no_names : Declared
 no_names = record { types = []; resources = []; systems = [] }
 
--- the values at the keys of a scenario
+-- what a file has at the key `types`
 abbrev pub types_in : Data → Data
 types_in d = value_at (codes "types") d
 
+-- what a file has at the key `resources`, or else the empty list
 abbrev pub resources_in : Data → Data
 resources_in d = value_or (codes "resources") nothing d
 
+-- what a file has at the key `held`, or else false
 abbrev pub held_in : Data → Data
 held_in d = value_or (codes "held") (boolean false) d
 
+-- what a file has at the key `systems`
 abbrev pub systems_in : Data → Data
 systems_in d = value_at (codes "systems") d
 
+-- what a file has at the key `rules`, or else the empty list
 abbrev pub rules_in : Data → Data
 rules_in d = value_or (codes "rules") nothing d
 
+-- what a file has at the key `frames`
 abbrev pub frames_in : Data → Data
 frames_in d = value_at (codes "frames") d
 
--- the names of a scenario's types; of its types and resources; and of all
+-- the names of a scenario's types
 unfoldable pub type_names : Data → Declared
 type_names d = with_all declaring_type no_names (elements (types_in d))
 
+-- the names of a scenario's types and resources
 unfoldable pub part_names : Data → Declared
 part_names d = with_all declaring_resource (type_names d) (elements (resources_in d))
 
+-- the names of a scenario's types, resources and systems
 unfoldable pub all_names : Data → Declared
 all_names d = with_all with_system (part_names d) (elements (systems_in d))
 
 -- ---- the whole
 
+-- the types of a scenario
 unfoldable pub types_of : Data → Option (List (Text × ℕ))
 types_of d = each_in_turn (λ names. type_of) declaring_type no_names (elements (types_in d))
 
+-- the resources of a scenario
 unfoldable pub resources_of : Data → Option (List (Text × ℤ))
 resources_of d = each_in_turn (λ names. resource_of) declaring_resource (type_names d)
     (elements (resources_in d))
 
+-- the systems of a scenario
 unfoldable pub systems_of : Data → Option (List SystemSpec)
 systems_of d = each_in_turn system_of with_system (part_names d) (elements (systems_in d))
 
+-- the rules of a scenario
 unfoldable pub rules_of : Data → Option (List Rule)
 rules_of d = each_of (rule_of (all_names d)) (rules_in d)
 
+-- the frames of a scenario
 unfoldable pub frames_read : Data → Option (List Frame)
 frames_read d = each_of (frame_of (all_names d)) (frames_in d)
 

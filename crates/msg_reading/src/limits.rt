@@ -18,7 +18,7 @@ pub(crate) const MAX_CONDITIONS: usize = 8;
 /// The greatest number of `not`s round a probe.
 pub(crate) const MAX_NOTS: u8 = 16;
 
-/// No JSON text that is read nests as deep.
+/// How many `not`s are looked through at most. No JSON text that is read nests as deep.
 pub(crate) const MOST_NESTED: u8 = 128;
 
 /// The last frame that a system may join with.

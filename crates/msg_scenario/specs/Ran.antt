@@ -15,7 +15,7 @@ module _ {X : Type 0} (meaning : X → Meaning) (s : Scenario) where
     pub left : EngineOf X
     pub has_run_out : HasRunOut meaning s before after left
 
-  -- There was such an engine, and its report ended after a whole frame.
+  -- There was such an engine, and its report ended after a whole frame or before the first one.
   pub record Stopped (before after : Option (List ℕ)) : Type 0 where
     pub engine : EngineOf X
     pub begun : EngineStands meaning engine (state_of s)

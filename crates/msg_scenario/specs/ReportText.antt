@@ -12,12 +12,15 @@ use Rattle.msg_reading.specs.{declared.scenario.Scenario.Scenario, declared.scen
 
 -- ---- names; a number that nothing has goes without one
 
+-- the name of type t
 abbrev pub type_name : Scenario → ℕ → Text
 type_name s t = option_map_or (λ named. named.0) (slice_get s.types t) []
 
+-- the name of resource r
 abbrev pub resource_name : Scenario → ℕ → Text
 resource_name s r = option_map_or (λ named. named.0) (slice_get s.resources r) []
 
+-- the name of system i
 abbrev pub system_name : Scenario → ℕ → Text
 system_name s i = option_map_or (λ system. system.name) (slice_get s.systems i) []
 
@@ -94,11 +97,11 @@ reply_text s reply.Signalled = []
 
 -- ---- the lines of a frame
 
--- the line that begins so, with what was answered
+-- a line: how it begins, what was answered, and a line feed
 abbrev pub answered_line : Scenario → Text → Reply → Text
 answered_line s start answer = start ++ reply_text s answer ++ codes "\n"
 
--- a post of the host to a type
+-- the line of a post of the host to a type
 abbrev pub post_line : Scenario → ℕ → Reply → Text
 post_line s t answer = answered_line s (codes "host post " ++ type_name s t) answer
 
@@ -110,7 +113,7 @@ posts_text s posts answers = flat_map (λ p. post_line s p.0.0 p.1) (zip posts a
 abbrev pub op_start : Scenario → Text → Op → Text
 op_start s name op = name ++ codes " " ++ op_text s op
 
--- an op of the system with this name
+-- the line of an op of the system with this name
 abbrev pub op_line : Scenario → Text → Op → Reply → Text
 op_line s name op answer = answered_line s (op_start s name op) answer
 
@@ -145,6 +148,7 @@ standing_text a (Some start) =
     ++ codes " missed " ++ decimal a.missed ++ codes " cleared " ++ decimal a.cleared
     ++ codes " place " ++ decimal a.place
 
+-- the line of a reader
 abbrev pub account_line : Scenario → Account → Text
 account_line s a =
     codes "reader " ++ system_name s a.system ++ codes " " ++ type_name s a.of_type

@@ -55,8 +55,8 @@ module _ {X : Type 0} (meaning : X → Meaning) (s : Scenario) where
     pub reported : IsReported s before after
     pub stands : EngineStands meaning e reported.state
 
-  -- The report ended after a whole frame, the last one that was run, or before the first one: the
-  -- engine stands for the state after it.
+  -- The report ended after a whole frame, or before the first one. The engine stands for the state
+  -- that the frames so far left.
   pub record HasStopped (before after : Option (List ℕ)) (e : EngineOf X) : Type 0 where
     pub printed : PrintedSome s before after
     pub stands : EngineStands meaning e printed.front.state

@@ -72,8 +72,8 @@ fn rules_of(alloc: Global, scenario: &Scenario) -> Result<Vec<Rule>, NoMemory>
     Vec::from_slice(alloc, scenario.rules.as_slice())
 }
 
-/// Adds the system of the spec that is next to those of the specs before it. The specs are there
-/// for the contract alone.
+/// Adds a system to the systems of a scenario: the one that was made of the next spec. `specs` and
+/// `spec` are there for the contract alone.
 #[tactic(auto, using(crate::proofs::EngineIsMade::is_system_at))]
 pub fn add_system<S: System>(
     specs: &[SystemSpec],
@@ -93,9 +93,9 @@ pub fn add_system<S: System>(
     Ok(())
 }
 
-/// Makes the engine that `report` runs, of a scenario and of its systems, which the caller put into
-/// boxes of its choice: system i means the program of the scenario's system i, and writes as number
-/// i. What was read of a file makes no cycle and no clash, so it fails for want of memory alone.
+/// Makes the engine that `report` runs, of a scenario and of its systems. The caller chooses what
+/// the systems are: system i means the program of the scenario's system i, and writes as number i.
+/// A scenario that can be run has no clash and no cycle, so the only error is `NoMemory`.
 pub fn engine_of<S: System>(
     alloc: Global,
     scenario: &Scenario,

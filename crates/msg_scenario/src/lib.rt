@@ -1,5 +1,5 @@
-//! Reports of scenarios: the engine of a scenario, its frames, and their text in a sink. What reads
-//! scenario files and calls files is handed on.
+//! Reports of scenarios: the engine of a scenario, its frames, and their text in a sink. The crate
+//! also hands on what reads scenario files and calls files.
 #![tactic(auto)]
 
 mod building;

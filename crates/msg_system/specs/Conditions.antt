@@ -10,26 +10,30 @@ pub record Asked : Type 0 where
   pub condition : Condition
   pub place : ℕ
 
+-- a condition whose cursor was given nothing yet
 abbrev pub new_asked : Condition → Asked
 new_asked c = record { condition = c; place = 0 }
 
--- a probe of a type looks whether something is unread from its place
+-- whether something is unread from the place, or whether the resource has the value
 abbrev pub probe_answer : Probe → ℕ → WorldState → Bool
 probe_answer (OnMessage t) place s = nat_lt 0 (length (unread (s.histories t) place))
 probe_answer (ResourceEquals r v) place s = int_eq (s.resources r) v
 
--- and goes past all of it
+-- the place afterwards: past all messages of the type; a probe of a resource keeps its place
 abbrev pub place_after : Probe → ℕ → WorldState → ℕ
 place_after (OnMessage t) place s = count (s.histories t)
 place_after (ResourceEquals r v) place s = place
 
+-- an answer, inverted so many times
 abbrev pub inverted : ℕ → Bool → Bool
 inverted zero b = b
 inverted (suc n) b = not (inverted n b)
 
+-- what a condition answers: what its probe answers, inverted as often as it has a `not`
 abbrev pub answer : Asked → WorldState → Bool
 answer a s = inverted a.condition.nots (probe_answer a.condition.probe a.place s)
 
+-- the condition after it was asked
 abbrev pub after_asking : WorldState → Asked → Asked
 after_asking s a = record a { place = place_after a.condition.probe a.place s }
 
@@ -43,6 +47,7 @@ abbrev pub probe_start : Probe → Start → List ℕ → ℕ → ℕ
 probe_start (OnMessage t) start counts place = start_place start counts t
 probe_start (ResourceEquals r v) start counts place = place
 
+-- the condition with its cursor where it starts
 abbrev pub asked_started : Start → List ℕ → Asked → Asked
 asked_started start counts a =
     record a { place = probe_start a.condition.probe start counts a.place }

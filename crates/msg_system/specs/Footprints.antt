@@ -23,35 +23,41 @@ pub record HasFootprint {X Y : Type 0} (n : Needs) (state : X → WorldState) (g
   pub alike : (m : Part → Bool) (s t : WorldState) → IsWithin n m → Agree m s t
       → Agree m (state (f s)) (state (f t))
 
--- what each gives, beside the world
+-- what an op gives, beside the world
 abbrev pub given_by_op : AfterOp → (ℕ → ℕ) × Reply
 given_by_op e = (e.places, e.reply)
 
+-- what a program gives, beside the world
 abbrev pub given_by_program : AfterProgram → (ℕ → ℕ) × List Reply
 given_by_program e = (e.places, e.replies)
 
+-- what a job gives, beside the world
 abbrev pub given_by_job : AfterJob → Job × Option (List Reply)
 given_by_job e = (e.job, e.replies)
 
+-- An op depends on no part but those that it needs, and changes no part but those that it writes.
 abbrev pub OpFootprint : Type 0
 OpFootprint = (op : Op) (w : ℕ) (places : ℕ → ℕ)
     → HasFootprint (op_needs op) (λ (e : AfterOp). e.state) given_by_op (after_op op w places)
 
+-- The same holds of a program.
 abbrev pub ProgramFootprint : Type 0
 ProgramFootprint = (ops : List Op) (w : ℕ) (places : ℕ → ℕ)
     → HasFootprint (program_needs ops) (λ (e : AfterProgram). e.state) given_by_program
     (after_program ops w places)
 
+-- The same holds of a system's turn.
 abbrev pub TurnFootprint : Type 0
 TurnFootprint =
     (m : Meaning) → HasFootprint m.needs (λ (e : AfterProgram). e.state) given_by_program (turn m)
 
--- a condition changes nothing of the world
+-- What a condition answers, and its place afterwards, depend on no part but those that it needs.
 abbrev pub ConditionFootprint : Type 0
 ConditionFootprint = (a : Asked) (m : Part → Bool) (s t : WorldState)
     → IsWithin (condition_needs a.condition) m → Agree m s t
     → (answer a s ≡ answer a t) × (after_asking s a ≡ after_asking t a)
 
+-- The same holds of a job, which needs what its system and its conditions need.
 abbrev pub JobFootprint : Type 0
 JobFootprint = (j : Job) → HasFootprint (with_conditions j.system.needs (conditions_of j))
     (λ (e : AfterJob). e.state) given_by_job (after_job j)

@@ -4,7 +4,7 @@ use Rattle.std.specs.List.{list_any}
 use Rattle.msg_world.specs.{Prelude.Overlap, Prelude.Part, Prelude.OfType, Prelude.OfResource, Prelude.Registry, Prelude.reads, Prelude.same_part, Prelude.writes, declared.access.Access.Access}
 use Rattle.msg_system.specs.{declared.op.Op.Op, declared.op.Op.TheVariants.Write, declared.op.Op.TheVariants.Batch, declared.op.Op.TheVariants.Read, declared.op.Op.TheVariants.Len, declared.op.Op.TheVariants.Missed, declared.op.Op.TheVariants.Clear, declared.op.Op.TheVariants.Forward, declared.op.Op.TheVariants.Sum, declared.op.Op.TheVariants.Get, declared.op.Op.TheVariants.Set, declared.op.Op.TheVariants.Add, declared.op.Op.TheVariants.Drain, declared.op.Op.TheVariants.Signal, declared.condition.Condition.Condition, declared.condition.Probe.Probe, declared.condition.Probe.TheVariants.OnMessage, declared.condition.Probe.TheVariants.ResourceEquals}
 
--- there is no such part, or it holds of it
+-- true where there is no part, and else what `holds` says of the part
 abbrev pub is_none_or : (Part → Bool) → Option Part → Bool
 is_none_or holds part = elim part [ None ↦ true | Some p ↦ holds p ]
 
@@ -13,6 +13,7 @@ pub record OpParts : Type 0 where
   pub read : Option Part
   pub written : Option Part
 
+-- the part that an op reads, and the part that it writes
 abbrev pub op_parts : Op → OpParts
 op_parts (Write t v) = record { read = None; written = Some (OfType t) }
 op_parts (Batch t vs) = record { read = None; written = Some (OfType t) }
@@ -46,7 +47,7 @@ pub record Needs : Type 0 where
   pub reads : Part → Bool
   pub writes : Part → Bool
 
--- a part is both read and written: the clash, where one system does so
+-- a part is both read and written, which no system of an engine may do
 abbrev pub HasClash : Needs → Type 0
 HasClash n = Overlap n.reads n.writes
 
@@ -54,20 +55,24 @@ HasClash n = Overlap n.reads n.writes
 abbrev pub needs_any : Needs → Part → Bool
 needs_any n p = n.reads p || n.writes p
 
+-- whether there is such a part, and p is that part
 abbrev pub is_part : Option Part → Part → Bool
 is_part None p = false
 is_part (Some q) p = same_part p q
 
+-- what an op reads and writes
 abbrev pub op_needs : Op → Needs
 op_needs op = record { reads = is_part (op_parts op).read; writes = is_part (op_parts op).written }
 
--- an op of the list reads, or writes, the part
+-- an op of the list reads the part
 abbrev pub some_op_reads : List Op → Part → Bool
 some_op_reads ops p = list_any (λ op. (op_needs op).reads p) ops
 
+-- an op of the list writes the part
 abbrev pub some_op_writes : List Op → Part → Bool
 some_op_writes ops p = list_any (λ op. (op_needs op).writes p) ops
 
+-- the part is a resource
 abbrev pub is_resource : Part → Bool
 is_resource (OfResource r) = true
 is_resource _ = false
@@ -81,14 +86,16 @@ program_needs ops = record {
   writes = some_op_writes ops;
 }
 
+-- the part that a probe looks at, which is all that its condition needs
 abbrev pub probe_part : Probe → Part
 probe_part (OnMessage t) = OfType t
 probe_part (ResourceEquals r v) = OfResource r
 
+-- a condition reads the part that its probe looks at, and writes none
 abbrev pub condition_needs : Condition → Needs
 condition_needs c = record { reads = λ p. same_part p (probe_part c.probe); writes = λ p. false }
 
--- The part may be read by who needs these; a resource that is written isn't listed as read.
+-- the part may be read: it is listed as read, or it is a resource that is written
 abbrev pub may_read : Needs → Part → Bool
 may_read n p = n.reads p || (is_resource p && n.writes p)
 
@@ -101,8 +108,7 @@ keeps_to n op = is_none_or (may_read n) (op_parts op).read && is_none_or n.write
 abbrev pub some_condition_reads : List Condition → Part → Bool
 some_condition_reads cs p = list_any (λ c. (condition_needs c).reads p) cs
 
--- What is needed together with conditions: they write nothing, and what is written isn't listed as
--- read.
+-- what is needed with conditions, which write nothing; what is written isn't listed as read
 abbrev pub with_conditions : Needs → List Condition → Needs
 with_conditions n cs = record {
   reads = λ p. (n.reads p || some_condition_reads cs p) && not (n.writes p);

@@ -15,7 +15,7 @@ pub record IsAfterOp (after : AfterOp) (places : ℕ → ℕ) (lent : Lent)
   pub stands : LoanStands lent after.state
   pub same_reply : answer ≡ after.reply
 
--- for each state that the loan stood for, they are those after the op there
+-- For each state that the loan stood for, the new places, loan and reply are those after the op.
 abbrev pub OpRan : Op → ℕ → (ℕ → ℕ) → (ℕ → ℕ) → Lent → Lent → Reply → Type 0
 OpRan op writer old_places new_places old new answer =
     (s : WorldState) → LoanStands old s
@@ -31,6 +31,7 @@ AsksForMemory (Sum t r) places s = 0 < length (given (s.histories t) (places t) 
 AsksForMemory (Drain t) places s = 0 < length (present (s.histories t))
 AsksForMemory _ places s = ⊥
 
--- so it may be refused: it asks in each state that the loan stands for
+-- The op may be refused for want of memory: it asks for memory in each state that the loan stands
+-- for.
 abbrev pub MayBeRefused : Op → (ℕ → ℕ) → Lent → Type 0
 MayBeRefused op places lent = (s : WorldState) → LoanStands lent s → AsksForMemory op places s

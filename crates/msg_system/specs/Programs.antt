@@ -52,7 +52,7 @@ plus x y = saturate_signed w64 (x +ℤ y)
 abbrev pub sum_onto : ℤ → List Record → ℤ
 sum_onto z ms = fold (λ x m. plus x m.value) z ms
 
--- an op that only answers
+-- an op that gives this answer, moves to these places, and leaves the world as it is
 abbrev pub answers : Reply → (ℕ → ℕ) → WorldState → AfterOp
 answers r places s = record { places = places; state = s; reply = r }
 

@@ -1,4 +1,4 @@
--- What a box promises of its runs.
+-- What a system promises of its runs, in a box or not.
 use Rattle.std.specs.Prelude.{All, ◌≡◌, ℕ, ◌++◌, false, None, IfSome, IsSome, IsTrue, List, [], ◌∷◌, length}
 use Rattle.msg_world.specs.declared.lent.Lent.{Lent}
 use Rattle.msg_world.specs.Prelude.{IsComplete, LoanStands, Part, Parts, PartsStand, SameLoan, StuffStands, WorldState, access_of_loan, content, shown, slot, taken_of, uses, writable, writes}
@@ -10,7 +10,7 @@ pub record Covers (n : Needs) (l : Lent) : Type 0 where
   pub reads : (p : Part) → IsTrue (n.reads p) → IsSome (shown p l)
   pub writes : (p : Part) → IsTrue (n.writes p) → IsSome (writable p l)
 
--- What a loan's access writes stands, as it is given back, for that part of a world.
+-- Each part that a loan's access writes stands, as it is given back, for that part of a world.
 abbrev pub WrittenStand : Lent → Parts → WorldState → Type 0
 WrittenStand l taken s = (p : Part) → IsTrue (writes (access_of_loan l) p)
     → IfSome (slot p taken) (λ k. StuffStands p k (content p s))
@@ -22,7 +22,7 @@ pub record Ran (old new : Meaning) (lent : Lent) (taken : Parts)
   pub replies : List Reply
   pub appended : after ≡ before ++ replies
   pub one_each : length new.last ≡ length replies
-  -- nothing changes but by what it was told
+  -- what the system means changes by these replies and its places alone
   pub means : new ≡ record (after_replies replies old) { places = new.places }
   pub state : (s : WorldState) → LoanStands lent s → WrittenStand lent taken (turn old s).state
   pub answers : (s : WorldState) → LoanStands lent s → replies ≡ (turn old s).replies
@@ -41,7 +41,8 @@ OneOpIsATurn = (op : Op) (start : Start) (writer : ℕ) (old_places new_places :
     → Ran (of_program (only op start) writer old_places)
     (of_program (only op start) writer new_places) old (taken_of new) before (before ++ reply ∷ [])
 
--- Where nothing else is given back, that is all that is given back.
+-- Where only parts that the access writes are given back, and these stand for a world, all that is
+-- given back stands for it.
 abbrev pub WrittenIsAll : Type 0
 WrittenIsAll = (l : Lent) (taken : Parts) (s : WorldState)
     → ((p : Part) → writes (access_of_loan l) p ≡ false → slot p taken ≡ None)

@@ -53,7 +53,7 @@ ops_answered next [] = []
 ops_answered next (r ∷ rs) = option_to_list (next [])
     ++ ops_answered (λ replies. next (r ∷ replies)) rs
 
--- what it does from a turn on that was answered so
+-- what a system means once it was told the replies of a turn; its places are as before
 abbrev pub after_replies : List Reply → Meaning → Meaning
 after_replies replies m =
     record m {
@@ -77,6 +77,7 @@ abbrev pub started_places : Needs → Start → List ℕ → (ℕ → ℕ) → �
 started_places n start counts places t = if n.reads (OfType t) then start_place start counts t
     else places t
 
+-- the system with its cursors where they start
 abbrev pub after_start : List ℕ → Meaning → Meaning
 after_start counts m = record m { places = started_places m.needs m.start counts m.places }
 
@@ -97,7 +98,7 @@ of_program program writer places = record {
   last = program.ops;
 }
 
--- it was given nothing yet
+-- a system of this program that was given nothing yet
 abbrev pub new_system : Program → ℕ → Meaning
 new_system program writer = of_program program writer (λ t. 0)
 

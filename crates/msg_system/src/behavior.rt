@@ -2,7 +2,7 @@
 use crate::{Access, NoMemory, Op, Reply, Start};
 use std::alloc::Global;
 
-/// Decides what a system does, by a memory of its own and by what its ops are answered.
+/// Decides what a system does, by a memory of its own and by the replies to its ops.
 ///
 /// `BehaviorSystem` makes a system of it. Whoever implements it says by its ghost equations what
 /// each call does, and proves nothing about loans, worlds or frames. `crates/duel/src/role.rt` has
@@ -33,9 +33,10 @@ pub trait Behavior: Drop {
     ghost use Rattle.std.specs.Prelude.{◌≡◌, List, Option, IfOk, OnOk};
     ghost use Rattle.msg_system.specs.{declared.op.Op.Op, declared.reply.Reply.Reply};
 
-    // What it remembers.
+    // The type of what it remembers.
     ghost Memory: { Type 0 };
 
+    // What it remembers now.
     ghost memory: { Self → Memory };
 
     // The next op of a turn, by what it remembers and the replies so far; None ends the turn.
@@ -49,7 +50,8 @@ pub trait Behavior: Drop {
     fn next(&self, alloc: Global, replies: &[Reply]) -> Result<Option<Op>, NoMemory>
         ensures next { IfOk result (λ op. op ≡ next_op (memory self.now) replies.now) };
 
-    /// Keeps what is worth it of a turn, by its replies. A turn that is skipped isn't told.
+    /// Remembers what later turns need of this one, by its replies. A turn that is skipped isn't
+    /// told.
     fn remember(&mut self, alloc: Global, replies: &[Reply]) -> Result<(), NoMemory>
         ensures remembers { OnOk result
             (memory self.new ≡ remembered (memory self.old) replies.now) };

@@ -8,7 +8,7 @@ use crate::{Access, Cursors, Items, NoMemory, Numbered, Op, Reply, Start, System
 use msg_world::{Counts, Lent, Taken, TypeNo};
 use std::alloc::Global;
 
-/// The replies from one on.
+/// The replies from number `from` on.
 fn since(replies: &[Reply], from: usize) -> &[Reply]
     requires within { from ≤ length replies.now }
     ensures rest { result.now ≡ drop from replies.now }
@@ -32,7 +32,8 @@ fn next_within<B: Behavior>(
     }
 }
 
-/// One turn: the ops that the behavior gives, one after the other. It gives those that it did.
+/// Takes one turn: does the ops that the behavior gives, one after the other. It returns those that
+/// it did.
 fn run_turn<B: Behavior>(
     alloc: Global,
     behavior: &B,

@@ -4,7 +4,7 @@ use crate::NoMemory;
 use std::alloc::Global;
 use std::marker::Model;
 
-/// Items in order. Contracts see it as their list.
+/// Items in order. Contracts see their list alone, and nothing of the memory that is kept for it.
 #[derive(Debug, Drop)]
 pub struct Items<T> {
     items: Vec<T>,
@@ -19,14 +19,14 @@ impl<T> Model for Items<T> {
 }
 
 impl<T> Items<T> {
-    /// Takes no memory.
+    /// The items of a list. It takes no memory.
     pub fn from_vec(items: Vec<T>) -> Items<T>
         ensures items { result ≡ items.items }
     {
         Items { items }
     }
 
-    /// Takes no memory.
+    /// Gives the list of the items. It takes no memory.
     pub fn into_vec(self) -> Vec<T>
         ensures items { result.items ≡ self }
     {
@@ -62,7 +62,7 @@ impl<T: Eq> Eq for Items<T> {
 }
 
 impl Items<i64> {
-    /// Equal values. No values take no memory.
+    /// A copy of the values. Where there are none it takes no memory.
     pub fn copy(&self, alloc: Global) -> Result<Items<i64>, NoMemory>
         ensures equal { IfOk result (λ values. values ≡ self.now) }
         ensures refused { OnErr result (0 < length self.now) }

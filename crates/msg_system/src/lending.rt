@@ -77,7 +77,7 @@ pub(crate) fn write_each<T, F: Fn(&T) -> Record>(
     ensures numbers { IfOk result (λ numbers. (s : WorldState) → LoanStands lent.old s
         → numbers ≡ numbers_for (s.histories t) (length items.now)) }
 
-    // Of each item what `f` gives, if that is what the function makes of it.
+    // Where the function makes `f x` of each item x, these are the messages that are written.
     ensures written { OnOk result ((f : T → Record)
         → ((x : T) (m : Record) → FnReturnsAt F.Fn message_of x m → m ≡ f x)
         → (s : WorldState) → LoanStands lent.old s
@@ -157,7 +157,7 @@ pub(crate) fn set_value(lent: &mut Lent, r: ResNo, value: i64)
     }
 }
 
-/// The values of messages added one by one, held within the range of `i64` at each step.
+/// Adds the values of messages to `start`, one by one. Each sum is held within the range of `i64`.
 pub fn added_up(start: i64, records: &[Record]) -> i64
     ensures sum { result ≡ sum_onto start records.now }
 {

@@ -23,11 +23,14 @@ pub enum Op {
     /// Reads all unread messages of the first type, and writes their values to the second as one
     /// batch. Where that is refused for the limit, what was read stays read.
     Forward(TypeNo, TypeNo),
-    /// Reads all unread messages, and adds their values to a resource, each held within `i64`.
+    /// Reads all unread messages, and adds their values to a resource one by one. Each sum is held
+    /// within the range of `i64`.
     Sum(TypeNo, ResNo),
+    /// Answers with the value of a resource.
     Get(ResNo),
+    /// Gives a resource this value, and answers with it.
     Set(ResNo, i64),
-    /// Adds to a resource, held within `i64`.
+    /// Adds to a resource. The sum is held within the range of `i64`.
     Add(ResNo, i64),
     /// Drops all messages, and answers with them.
     Drain(TypeNo),
@@ -151,7 +154,7 @@ impl Op {
         }
     }
 
-    /// An equal op. Only the values of a batch take memory.
+    /// A copy of the op. Only the values of a batch take memory.
     pub fn copy(&self, alloc: Global) -> Result<Op, NoMemory>
         ensures equal { IfOk result (λ op. op ≡ self.now) }
         ensures refused { OnErr result
@@ -176,7 +179,7 @@ impl Op {
 }
 
 impl Items<Op> {
-    /// Equal ops. No ops take no memory.
+    /// A copy of the ops. Where there are none it takes no memory.
     pub fn copy(&self, alloc: Global) -> Result<Items<Op>, NoMemory>
         ensures equal { IfOk result (λ ops. ops ≡ self.now) }
         ensures refused { OnErr result (0 < length self.now) }

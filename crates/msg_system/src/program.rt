@@ -31,7 +31,7 @@ impl Program {
         }
     }
 
-    /// An equal program. One of no ops takes no memory.
+    /// A copy of the program. Where it has no ops it takes no memory.
     pub fn copy(&self, alloc: Global) -> Result<Program, NoMemory>
         ensures equal { IfOk result (λ p. p ≡ self.now) }
         ensures refused { OnErr result (0 < length self.now.ops) }

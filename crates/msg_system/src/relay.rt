@@ -17,7 +17,8 @@ pub struct Relay {
 impl Relay {
     ghost use Rattle.msg_system.specs.{declared.op.Op.TheVariants.Forward, Systems.new_system, Systems.only};
 
-    /// It has read nothing yet. It writes as the number `writer`.
+    /// It has read nothing yet. It writes as the number `writer`. Where `from` and `to` are one
+    /// type, it reads and writes that type, and no engine can be built with it.
     pub fn new(from: TypeNo, to: TypeNo, start: Start, writer: u32) -> Relay
         ensures new { ⟦<Relay as System>⟧.meaning result
             ≡ new_system (only (Forward from to) start) writer }

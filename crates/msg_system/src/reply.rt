@@ -16,11 +16,15 @@ pub struct Took {
 /// What an op answers.
 #[derive(Debug, PartialEq, Eq, Drop)]
 pub enum Reply {
+    /// The numbers that the messages of a write got.
     Wrote(Written),
     /// A write that was refused whole: too few numbers are left.
     Spent,
+    /// What a read took.
     Read(Took),
+    /// How many messages are unread.
     Len(u64),
+    /// How many messages were missed.
     Missed(u64),
     /// The cursor missed some messages, and went past `n` from the number `first` on.
     Cleared { missed: u64, first: u64, n: u64 },
@@ -32,11 +36,12 @@ pub enum Reply {
     Value(i64),
     /// The messages that were dropped, from the number `first` on.
     Drained { first: u64, items: Items<Record> },
+    /// An update was asked for.
     Signalled,
 }
 
-/// The messages that reply `k` brought, those that its op read; none where it read none, or isn't
-/// there.
+/// The messages that the op of reply `k` read. There are none where it read none, or where there is
+/// no such reply.
 pub fn brought(replies: &[Reply], k: usize) -> &[Record]
     ensures brought { result.now ≡ brought (slice_get replies.now k) }
 {

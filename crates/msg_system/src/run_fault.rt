@@ -9,6 +9,7 @@ pub enum RunFault {
     /// A frame was to be replayed in an order that isn't lawful for it.
     #[error("the order isn't lawful")]
     BadOrder,
+    /// There was no memory for the frame, which spoils the engine, or for the accounts.
     #[error("want of memory")]
     NoMemory,
 }

@@ -22,7 +22,7 @@ fn run_ops(
     ensures replies { OnOk result (HasReplies out.old.items out.new.items (length ops.now)) }
     ensures same { OnOk result (SameLoan lent.old lent.new) }
 
-    // No ops take no memory.
+    // Where there are no ops it takes no memory.
     ensures refused { OnErr result (0 < length ops.now) }
 {
     for op in ops {

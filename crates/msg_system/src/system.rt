@@ -3,9 +3,9 @@ use crate::{Access, NoMemory, Reply, Start};
 use msg_world::{Counts, Lent, Taken, TypeNo};
 use std::alloc::Global;
 
-/// A system, which an engine may keep in a box. What it means is a rule, which gives the ops of its
-/// turns by what it is told, with the access that they keep to, the number that it writes as, and
-/// its place in each type.
+/// A system, which an engine may keep in a box. Contracts say what it means: a rule that gives the
+/// ops of its turns by the replies so far, the access that these ops keep to, where its cursors
+/// start, the number that it writes as, and its place in each type.
 ///
 /// `Scripted`, `Relay`, `Tally` and `BehaviorSystem` are systems. An engine calls them; by hand:
 ///
@@ -22,15 +22,15 @@ pub trait System: Send + Drop {
     ghost use Rattle.msg_world.specs.Prelude.{SameShape, taken_of};
     ghost use Rattle.msg_system.specs.{Needs.IsAccessOf, Needs.type_read_by, Promises.Covers, Promises.Ran, Systems.Meaning, Systems.after_start};
 
-    // What it does from now on. Nothing but a start and its runs ever changes it.
+    // What it does from now on. Of the calls of this trait only `start` and `run` change it.
     ghost meaning: { Self → Meaning };
 
     /// What its ops may read and write.
     fn access(&self) -> Access
         ensures needs { IsAccessOf (meaning self.now).needs result };
 
-    /// The type that this op of its last turn reads, or of its program, where it has one; None
-    /// where it reads none, or there is no such op.
+    /// The type that an op of its last turn reads, or of its program where it has one; `op` counts
+    /// them from 0. None where that op reads no type, or there is no such op.
     fn read_type(&self, op: u32) -> Option<TypeNo>
         ensures type_read { result ≡ type_read_by (meaning self.now).last op };
 

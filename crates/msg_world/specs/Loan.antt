@@ -48,9 +48,11 @@ pub record IsLoanOf (a : Access) (world taken : Parts) : Type 0 where
 
 -- ---- how the references that it gives out write back
 
+-- the loan with other messages of a type
 abbrev pub with_messages : Lent → ℕ → Kept Record → Lent
 with_messages l t k = record l { taken = with_type l.taken t k }
 
+-- the loan with another value of a resource
 abbrev pub with_resource : Lent → ℕ → ℤ → Lent
 with_resource l r z = record l { taken = with_value l.taken r z }
 

@@ -18,6 +18,7 @@ WritesStand = (l : Lent) (t : ℕ) (k : Kept Record) → IsSome (writable (OfTyp
     × ((s : WorldState) (h : History Record) → StandsFor k h → LoanStands l s
     → LoanStands (with_messages l t k) (with_history s t h))
 
+-- The same holds of a value that is written to a resource.
 abbrev pub ValuesStand : Type 0
 ValuesStand = (l : Lent) (r : ℕ) (z : ℤ) → IsSome (writable (OfResource r) l)
     → SameLoan l (with_resource l r z)

@@ -4,18 +4,19 @@ use Rattle.std.specs.Prelude.{ℕ, ℤ, pos, Bool, true, false, not, ◌&&◌, �
 use Rattle.msg_buffer.specs.Prelude.{History, empty, update}
 use Rattle.msg_world.specs.{declared.record.Record.Record, declared.marks.Marks.Marks, declared.access.Access.Access, Access.Part, Access.OfType, Access.OfResource, Access.Registry, Access.writes}
 
--- Types and resources go by number. A held world updates its types only where a signal is pending.
+-- a world: a history for each type and a value for each resource, by number, and the registry
 pub record WorldState : Type 0 where
   pub histories : ℕ → History Record
   pub resources : ℕ → ℤ
   pub marks : Marks
 
--- what a part of the world is
+-- the type of what a world has of a part
 abbrev pub Content : Part → Type 0
 Content (OfType t) = History Record
 Content (OfResource r) = ℤ
 Content Registry = Marks
 
+-- what a world has of a part
 abbrev pub content : (p : Part) → WorldState → Content p
 content (OfType t) s = s.histories t
 content (OfResource r) s = s.resources r
@@ -33,9 +34,11 @@ new_world limits resources = record {
 abbrev pub by : ℕ → ℤ → Record
 by writer value = record { writer = writer; value = value }
 
+-- the world with another history of a type
 abbrev pub with_history : WorldState → ℕ → History Record → WorldState
 with_history s t h = record s { histories = λ u. if u == t then h else s.histories u }
 
+-- the world with another value of a resource
 abbrev pub with_value_of : WorldState → ℕ → ℤ → WorldState
 with_value_of s r z = record s { resources = λ q. if q == r then z else s.resources q }
 
@@ -43,8 +46,7 @@ with_value_of s r z = record s { resources = λ q. if q == r then z else s.resou
 abbrev pub waits : WorldState → Bool
 waits s = s.marks.held && not s.marks.pending
 
--- The frame's update: every type is updated, and a signal is spent. A world that waits stays as it
--- is.
+-- the frame's update: every type is updated, a signal is spent; a waiting world stays as it is
 abbrev pub after_update : WorldState → WorldState
 after_update s =
     if waits s then s
@@ -57,6 +59,7 @@ after_update s =
 abbrev pub signalled_marks : Marks → Marks
 signalled_marks m = record m { pending = m.pending || m.held }
 
+-- the world after a signal
 abbrev pub after_signal : WorldState → WorldState
 after_signal s = record s { marks = signalled_marks s.marks }
 

@@ -7,10 +7,11 @@ use Rattle.msg_world.specs.{declared.record.Record.Record, contracts.record.Reco
 abbrev pub messages_row : RattleType
 messages_row = messages_of record_row global_row ghosts
 
--- parts of which a type's messages, or a resource, were changed
+-- parts of which a type's messages were changed
 abbrev pub with_type : Parts → ℕ → Kept Record → Parts
 with_type w t k = record w { types = slice_set w.types t (Some k) }
 
+-- parts of which a resource was changed
 abbrev pub with_value : Parts → ℕ → ℤ → Parts
 with_value w r z = record w { resources = slice_set w.resources r (Some z) }
 

@@ -4,7 +4,8 @@ ghost use Rattle.msg_world.specs.Prelude.{HomeAgain, HomeMerges, HomeWhereEither
 
 use crate::record::HOST;
 
-/// What `World::lend_out` moved out may be opened for its access, and stands for what it stood for.
+/// What `World::lend_out` moved out is a loan of its access, so that it may be opened. It and the
+/// world go on to stand for what the world stood for.
 pub fn lent_parts_are_a_loan()
     ensures loan { LentIsLoan }
 {}

@@ -48,7 +48,7 @@ fn place_of<T>(parts: &[Moved<T>], slot: usize) -> Option<usize>
 }
 
 /// Room for what the slots of a mask hold, in the memory of a list that came home, if there is one.
-/// A mask of none takes no list.
+/// For an empty mask it takes no list.
 pub(crate) fn room_in<T: Drop>(
     alloc: Global,
     spares: &mut Vec<Vec<Moved<T>>>,

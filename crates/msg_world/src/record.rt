@@ -1,7 +1,7 @@
 /// The writer of messages that the host posts. Systems write as their number in order of addition.
 pub const HOST: u32 = 256;
 
-/// A message of a world: a value, and who wrote it.
+/// A message of a world: a value, and its writer, which is the number of a system or `HOST`.
 #[derive(Clone, Copy, Debug, PartialEq, Eq)]
 pub struct Record {
     pub writer: u32,

@@ -44,7 +44,7 @@ impl Taken {
     ghost use Rattle.std.specs.Prelude.{◌≡◌, [], None, is_some, option_map};
     ghost use Rattle.msg_world.specs.{Access.OfType, Access.OfResource, Access.Registry, WritingThrough.LendsMessages, WritingThrough.LendsValue, Parts.PartsStand, Parts.slot, World.WorldState, World.signalled_marks};
 
-    /// Nothing: what stands in the place of parts that are elsewhere. It takes no memory.
+    /// No parts. It fills the place of a `Taken` that was moved elsewhere, and takes no memory.
     pub fn none(alloc: Global) -> Taken
         ensures types { result.types ≡ [] }
         ensures resources { result.resources ≡ [] }

@@ -1,4 +1,4 @@
-// A scenario's systems, each in a box and made of what its kind is.
+// Makes a system of a scenario, as its kind says, and puts it into a box.
 ghost use Rattle.std.specs.Prelude.{◌≡◌, ◌≤◌, IfOk, IsTrue, length};
 ghost use Rattle.std.specs.Box.{box_value};
 ghost use Rattle.msg_system.specs.Prelude.{new_system};

@@ -95,8 +95,8 @@ fn bytes_of<R: AllocGlobal + Files + Input>(
     }
 }
 
-/// Prints help where the words ask for it, else the line of the fault that ended it, and gives the
-/// status.
+/// Prints the help that the words ask for to `output`, or the line of the fault that ended the
+/// program to `errors`, and gives the status. Without a fault it prints nothing.
 fn end<O: Print, E: Print>(output: &O, errors: &E, ended: &Result<(), MainFault>) -> u8
     ensures status { result ≡ status_after ended.now }
 {

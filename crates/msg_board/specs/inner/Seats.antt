@@ -1,4 +1,4 @@
--- How a pass lies over a seat of the table. Private functions' contracts cite it, and no public
+-- When a seat of the table is that of a pass. Private functions' contracts cite it, and no public
 -- one does.
 use Rattle.std.specs.Prelude.{◌≡◌, ℕ, List, [], ◌∷◌, Option, Some, None}
 use Rattle.atomic_table.specs.declared.shared.Seat.{Seat}

@@ -17,7 +17,7 @@ module _ {J D : Type 0} where
   }
 
 module _ {J : Type 0} where
-  -- the numbers of a pass have to do with one another
+  -- what a pass has tried, what it drew and what it holds agree
   pub record DrewInOrder (p : PassState J) : Type 0 where
     -- it has tried no more numbers than there are jobs, and all of them once it is finished
     pub within : p.tried ≤ length p.jobs

@@ -6,7 +6,8 @@ use crate::fault::MainFault;
 use crate::{InputFault, WordFault};
 use msg_files::{Refusal, ReportFault, RunFault, Sink, put_all};
 
-/// Writes the fault's line, and gives the status that the program ends with. It takes no memory.
+/// Puts the fault's line into the sink, and gives the status that the program ends with. Help has
+/// no line. A failure of the sink changes nothing of the status. It takes no memory.
 pub fn print_fault<S: Sink>(fault: &MainFault, sink: &mut S) -> u8
     ensures line { TakesUnlessFailed (S.contents sink.old) (S.contents sink.new)
         (S.failures sink.old) (S.failures sink.new) (line_of fault.now) }

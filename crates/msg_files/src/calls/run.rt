@@ -13,8 +13,12 @@ use std::alloc::Global;
 /// How many bytes are gathered before they are put.
 const FULL: usize = 65536;
 
-/// Makes the calls of a file on a new buffer, and puts the line of each into the sink; where there
-/// is no memory for a call, the lines of those before it.
+/// Makes the calls of a file on a new buffer, and puts the line of each into the sink.
+///
+/// # Errors
+///
+/// `NoMemory` where there was no memory for a call; the lines of the calls before it were put then.
+/// `Write` where the sink failed.
 pub fn run_calls<S: Sink>(alloc: Global, calls: &Calls, sink: &mut S) -> Result<(), ReportFault>
     ensures ok { OnOk result
         (Appends (S.contents sink.old) (S.contents sink.new) (calls_text calls.now)) }
@@ -48,7 +52,8 @@ pub fn run_calls<S: Sink>(alloc: Global, calls: &Calls, sink: &mut S) -> Result<
     put_text(gathered.as_slice(), sink)
 }
 
-/// Adds a line to those that are gathered, or puts both where these are many or have no room.
+/// Adds a line to the gathered bytes. Where there are `FULL` of them or more, or no memory for the
+/// line, it puts them into the sink, and then the line.
 fn gather<S: Sink>(gathered: &mut Vec<u8>, line: &[u8], sink: &mut S) -> Result<(), ReportFault>
     ensures ok { OnOk result (TakesFront (S.contents sink.old) (S.contents sink.new)
         (gathered.old.items ++ line.now) gathered.new.items) }

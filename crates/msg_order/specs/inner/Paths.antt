@@ -5,7 +5,7 @@ use Rattle.std.specs.List.{range_with_len}
 use Rattle.msg_world.specs.declared.access.Access.{Access}
 use Rattle.msg_order.specs.{declared.system_set.SystemSet.SystemSet, inner.SystemSet.has, inner.SystemSet.meets, inner.SystemSet.no_set, Graph.Graph, Order.has_joined, Order.AreInConflict, Order.Settles, Order.pairs, Plan.PlanView}
 
--- a path leads from i to j: without the first edge, or to its begin and on from its end
+-- a path leads from i to j: without edge e, or to where e begins and on from where e ends
 abbrev pub path : Graph → ℕ → ℕ → Bool
 path [] i j = false
 path (e ∷ g) i j = path g i j || ((i == e.0 || path g i e.0) && (j == e.1 || path g e.1 j))
@@ -31,11 +31,11 @@ AreSettled accesses joined g before = (h : Graph)
 abbrev pub IsSetOf : List Bool → SystemSet → Type 0
 IsSetOf joined set = (i : ℕ) → has set i ≡ has_joined joined i
 
--- it is left, and none that is left is before it
+-- system i is left, and no system that is left is before it
 abbrev pub is_ready : List SystemSet → SystemSet → ℕ → Bool
 is_ready before left i = has left i && not (meets (set_at before i) left)
 
--- the sets of so many systems, of which those before a system and itself have joined
+-- the sets of at most 256 systems; where one system is before another, both have joined
 pub record AreKept (before : List SystemSet) (joined : SystemSet) : Type 0 where
   pub few : length before ≤ 256
   pub within : (i : ℕ) → has joined i ≡ true → i < length before

@@ -26,7 +26,12 @@ mod system;
 
 pub use system::fits as fits_kind;
 
-/// The scenario that the bytes are a JSON text of, or the first refusal in reading order.
+/// The scenario that the bytes are a JSON text of.
+///
+/// # Errors
+///
+/// `NotJson`; else the refusal of the first check that fails in reading order; else `Clash` with
+/// the lowest system whose program clashes; else `Cycle`. `NoMemory` may come at any point.
 pub fn read_scenario(alloc: Global, bytes: &[u8]) -> Result<Scenario, Refusal>
     ensures ok { IfOk result (λ scenario.
         (d : Data) × IsJsonOf bytes.now d × IsReadAs d scenario) }

@@ -117,7 +117,7 @@ impl Scenario {
     ///
     /// # Errors
     ///
-    /// `NoMemory`, where a test of the rules for cycles got none.
+    /// `NoMemory`, where there is no memory to look for cycles of the rules.
     pub fn is_runnable(&self, alloc: Global) -> Result<bool, NoMemory>
         ensures runnable { IfOk result (λ is. IsTrue is ↔ IsRunnable self.now) }
     {

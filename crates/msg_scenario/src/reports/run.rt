@@ -103,7 +103,7 @@ pub fn report<R: Threads + Sync, X: System, S: Sink, G: Gate>(
     ensures not_spoiled { result ≢ Err (ReportFault.Run Spoiled) }
     ensures no_bad_order { result ≢ Err (ReportFault.Run BadOrder) }
 
-    // After a whole frame or before the first one, and not in the middle of one.
+    // The report ended after a whole frame or before the first one, not in the middle of a frame.
     ensures stopped { (result ≡ Err ReportFault.Write) ⊎ (result ≡ Err ReportFault.NoMemory)
         → HasStopped X.meaning scenario.now
         (S.contents sink.old) (S.contents sink.new) engine.new }

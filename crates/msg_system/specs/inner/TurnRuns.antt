@@ -10,6 +10,7 @@ pub record IsAfterProgram (after : AfterProgram) (places : ℕ → ℕ) (lent : 
   pub stands : LoanStands lent after.state
   pub same_replies : answers ≡ before ++ after.replies
 
+-- For each state that the loan stood for, the new places, loan and replies are those after the ops.
 abbrev pub ProgramRan : List Op → ℕ → (ℕ → ℕ) → (ℕ → ℕ) → Lent → Lent → List Reply
     → List Reply → Type 0
 ProgramRan ops writer old_places new_places old new before answers =

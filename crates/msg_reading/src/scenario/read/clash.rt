@@ -7,7 +7,8 @@ ghost use Rattle.msg_files.specs.declared.refusal.Refusal.TheVariants.{Clash};
 use crate::limits::MAX_SYSTEMS;
 use crate::{Refusal, SystemSpec};
 
-/// That no program reads and writes one type.
+/// Checks that no program reads and writes one type; else `Clash` with the lowest system whose
+/// program does.
 pub fn check_clashes(systems: &[SystemSpec]) -> Result<(), Refusal>
     requires few { length systems.now ≤ MAX_SYSTEMS }
     ensures passed { OnOk result

@@ -8,7 +8,8 @@ use crate::limits::MAX_SYSTEMS;
 use msg_order::{Rule, lowest_on_cycle};
 use std::alloc::Global;
 
-/// That the rules of so many systems make no cycle.
+/// Checks that the rules of so many systems make no cycle; else `Cycle` with the lowest system on
+/// one. Also `NoMemory`.
 pub fn check_cycles(alloc: Global, systems: usize, rules: &[Rule]) -> Result<(), Refusal>
     requires few { systems ≤ MAX_SYSTEMS }
     requires in_range { NameSystemsBelow systems rules.now }

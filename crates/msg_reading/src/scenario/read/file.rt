@@ -23,7 +23,7 @@ struct Sections<'a> {
     frames: &'a Value,
 }
 
-/// The sections of a file one after another.
+/// Reads the sections of a file one after another: together they are the scenario.
 #[tactic(auto, using(msg_files::proofs::WalksOverLists::refusal_of_both))]
 pub fn read_sections(alloc: Global, value: &Value) -> Result<Scenario, Refusal>
     ensures agrees { Agrees (scenario_checks (view value.now))
@@ -99,7 +99,7 @@ impl Keys for FileKeys {
     }
 }
 
-/// The types of the file, which stand there.
+/// Reads the types of the file from the value at its key `types`.
 #[tactic(auto, unfolding(crate::specs::ScenarioChecks::types_checks, crate::specs::ScenarioDenotes::types_of, crate::specs::ScenarioDenotes::type_names))]
 fn read_types(
     alloc: Global,
@@ -143,7 +143,7 @@ fn read_held(file: &Value) -> Result<bool, Refusal>
     }
 }
 
-/// The systems of the file, which stand there.
+/// Reads the systems of the file from the value at its key `systems`.
 #[tactic(auto, unfolding(crate::specs::ScenarioChecks::systems_checks, crate::specs::ScenarioDenotes::systems_of, crate::specs::ScenarioDenotes::all_names))]
 fn read_systems(
     alloc: Global,
@@ -167,7 +167,7 @@ fn read_rules(alloc: Global, names: &Declarations, file: &Value) -> Result<Items
     read_list_if_there(alloc, names, file.get("rules"), MAX_RULES)
 }
 
-/// The frames of the file, which stand there.
+/// Reads the frames of the file from the value at its key `frames`.
 #[tactic(auto, unfolding(crate::specs::ScenarioChecks::frames_checks, crate::specs::ScenarioDenotes::frames_read))]
 fn read_frames(
     alloc: Global,

@@ -11,7 +11,7 @@ use msg_frames::Items;
 use serde_json::Value;
 use std::alloc::Global;
 
-/// What stands in a list, read where names are declared.
+/// An element of a list in a scenario file. The names that it uses were declared before.
 pub trait Element: Sized + Drop {
     /// Its checks, in reading order.
     ghost checks: { Declared → Data → List Check };
@@ -19,6 +19,7 @@ pub trait Element: Sized + Drop {
     /// What a value denotes.
     ghost denotes: { Declared → Data → Option Self };
 
+    /// Reads a value, or gives the refusal of the first check that fails; or `NoMemory`.
     fn read(alloc: Global, names: &Declarations, value: &Value) -> Result<Self, Refusal>
         ensures agrees { Agrees (checks names.now (view value.now))
             (denotes names.now (view value.now)) result };

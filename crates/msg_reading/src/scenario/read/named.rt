@@ -11,7 +11,7 @@ use msg_frames::Items;
 use serde_json::Value;
 use std::alloc::Global;
 
-/// What declares a name, and stands in a list.
+/// An element of a list that declares a name: a type, a resource or a system.
 pub trait Declaration: Sized + Drop {
     /// Its checks, in reading order, where the names before it are declared.
     ghost checks: { Declared → Data → List Check };
@@ -22,6 +22,8 @@ pub trait Declaration: Sized + Drop {
     /// The names, with its own.
     ghost with_one: { Declared → Data → Declared };
 
+    /// Reads a value, and adds its name to those that are declared; or gives the refusal of the
+    /// first check that fails, or `NoMemory`.
     fn read(alloc: Global, names: &mut Declarations, value: &Value) -> Result<Self, Refusal>
         ensures agrees { Agrees (checks names.old (view value.now))
             (denotes names.old (view value.now)) result }

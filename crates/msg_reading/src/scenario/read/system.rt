@@ -138,7 +138,8 @@ fn read_ops(
     Ok(Items::from_vec(ops))
 }
 
-/// A relay's program is one `forward`, a tally's one `sum`.
+/// Whether the ops fit the kind: a relay's program is one `forward`, a tally's is one `sum`, and a
+/// script's may be any.
 pub fn fits(kind: Kind, ops: &[Op]) -> bool
     ensures { result ≡ fits_kind kind ops.now }
 {
