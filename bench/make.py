@@ -3,8 +3,8 @@
 
   make.py KIND [--frames N] [--systems N] [--types N] [--messages N]
 
-Each kind has sizes of its own where none are given; `make.py --list` prints them. A kind whose name begins with
-`calls` is a calls file, with `--messages` values of its batches; the others are scenario files.
+Each kind has sizes of its own where none are given; `make.py --list` prints them. The kind `calls` is a calls file,
+with `--messages` values in its batches; the others are scenario files.
 """
 import argparse
 import json
@@ -12,6 +12,8 @@ import random
 import sys
 
 LIMIT = 1_000_000  # numbers of a type
+BATCH = 256  # values of a batch of a calls file
+LONGEST_BATCH = 1024  # values of the longest batch that a system may write
 
 
 def names(letter, count):
@@ -59,9 +61,10 @@ def pipelines(rng, frames, systems, messages):
 
 def writes(rng, frames, systems, messages):
     """A system for each type, which writes batches of 1,024 values; little text."""
-    values = [rng.randint(0, 9) for _ in range(1024)]
+    values = [rng.randint(0, 9) for _ in range(LONGEST_BATCH)]
     return scenario(names("t", systems),
-                    [{"name": f"w{k}", "ops": [["batch", f"t{k}", values]] * (messages // 1024)} for k in range(systems)],
+                    [{"name": f"w{k}", "ops": [["batch", f"t{k}", values]] * (messages // LONGEST_BATCH)}
+                     for k in range(systems)],
                     [[] for _ in range(frames)])
 
 
@@ -80,10 +83,10 @@ def posts(rng, frames, messages):
 
 
 def calls(rng, messages):
-    """Calls of one buffer: batches, updates and reads, one of each in turn."""
+    """Calls of one buffer: a batch and a read of it each time, and then an update or a len."""
     made = []
-    for k in range(messages // 256):
-        made += [["batch", [rng.randint(-9999, 99999) for _ in range(256)]], ["read", 0]]
+    for k in range(messages // BATCH):
+        made += [["batch", [rng.randint(-9999, 99999) for _ in range(BATCH)]], ["read", 0]]
         made += [["update"]] if k % 2 else [["len", 0]]
     return {"limit": LIMIT, "calls": made}
 
@@ -103,9 +106,13 @@ BY_NAME = {kind.__name__: kind for kind in KINDS}
 
 
 def made(name, **sizes):
-    """The bytes of a file of this kind."""
+    """The bytes of a file of this kind; a size that it hasn't got, or that is below 1, ends the program."""
     kind = BY_NAME[name]
-    sizes = {key: sizes.get(key) or base for key, base in KINDS[kind].items()}
+    sizes = {key: size for key, size in sizes.items() if size is not None}
+    for key, size in sizes.items():
+        if key not in KINDS[kind] or size < 1:
+            sys.exit(f"{name} takes no --{key} {size}")
+    sizes = KINDS[kind] | sizes
     return json.dumps(kind(random.Random(name), **sizes), separators=(",", ":")).encode()
 
 

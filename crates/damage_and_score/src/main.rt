@@ -31,8 +31,11 @@ fn cast(alloc: Global, frame: u32, hits: &mut Messages<Damage>) -> anyhow::Resul
     Ok(())
 }
 
+/// Six frames. The score reads in each of them; the chronicle reads in each third one, and misses
+/// what was dropped meanwhile; the screen clears once and reads nothing.
 fn main(rt: HostRuntime) -> anyhow::Result<()> {
     let alloc = rt.alloc();
+    // At most 100 hits can ever be written.
     let mut hits = Messages::new(alloc, 100);
     let mut score = hits.get_cursor();
     let mut chronicle = hits.get_cursor();

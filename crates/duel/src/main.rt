@@ -17,8 +17,10 @@ use role::{Fighter, Role};
 use std::alloc::Global;
 use std::thread::Threads;
 
-/// Three fighters in a ring, each until two have fallen, the third from frame 3 on; and a referee,
-/// who counts before they strike. Type i has the blows to fighter i, type 3 the falls.
+/// Three fighters in a ring, which are the systems 0 to 2, and a referee, which is system 3. Each
+/// fighter takes turns until two have fallen; the third joins with frame 3. A rule puts the referee
+/// before the fighters, though it is added after them. The messages of type i are the blows to
+/// fighter i, those of type 3 are the falls, and the resource counts the fallen.
 fn ring(alloc: Global) -> anyhow::Result<EngineBuilder<BehaviorSystem<Role>>> {
     let (falls, fallen) = (TypeNo::new(3).unwrap(), ResNo::new(0).unwrap());
     let mut ring = EngineBuilder::new(alloc);

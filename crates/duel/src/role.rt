@@ -6,8 +6,8 @@ use std::alloc::Global;
 /// What a blow adds to a fighter's health.
 const BLOW: i64 = -1;
 
-/// Takes the blows that come to it. While health is left it deals one to its rival; then it says
-/// once that it fell, and is still.
+/// Reads the blows that came to it. While it has health left it deals a blow to its rival; when it
+/// has none it says once that it fell, and does nothing in later turns.
 #[derive(Drop)]
 pub struct Fighter {
     pub blows: TypeNo,
@@ -25,7 +25,7 @@ pub enum Role {
 }
 
 impl Role {
-    /// A system of this role, which a builder numbers.
+    /// A system of this role. It writes as 0 until a builder gives it a number.
     pub fn system(self, alloc: Global) -> BehaviorSystem<Role> {
         let none = Access::none();
         let access = match &self {

@@ -32,7 +32,7 @@ fn work(board: &Board<Squaring>, mut pass: Pass<u32, u64>) -> Pass<u32, u64>
     pass
 }
 
-/// The squares of these numbers, in their order, made by so many threads.
+/// The squares of these numbers, in their order, made by `threads` threads.
 fn squares<R: Threads + Sync>(
     rt: &R,
     alloc: Global,

@@ -1,4 +1,4 @@
--- From what a step tells of a seat to what a clause says of the pass.
+-- A step on a seat does to the pass that callers see what a clause says. The last seat gathers all the others.
 use Rattle.std.specs.List.{All, filter, flat_map}
 use Rattle.std.proofs.Common.{true, false, not, ◌≡◌, ℕ, ◌+◌, ◌<◌, List, [], ◌∷◌, ◌++◌, length, refl, ap, ◌∙◌, arith, Some, None, length-append}
 use Rattle.std.proofs.lemmas.{List.Elements.All-head, List.Elements.All-pop, List.Elements.All-push, List.Elements.All-tail, List.Elements.All-weaker, List.flat_map_more, Bool.Decides.eqb_tells, Bool.false_from_ne_true}

@@ -1,4 +1,4 @@
--- How what clap finds in words is told.
+-- The fault that is told of refused words fits the kinds of errors that clap finds in them.
 use Rattle.std.proofs.Common.{◌≡◌, ◌≢◌, ◌⊎◌, inl, inr, refl, ap, subst, ◌∙◌, List, true}
 use Rattle.clap.specs.{Words.App, Words.HasKind, Words.IsAmong, Words.Kinds, Words.Text, Words.fault_of, Words.is_simple_and_free, declared.error.Error.Error, declared.error.ErrorKind.ErrorKind}
 use Rattle.clap.proofs.OnLiterals.{clap_on_literals}
@@ -16,7 +16,7 @@ found_as k kinds (word.Help text) memory help bad (inr among) = subst (λ x. IsA
 found_as k kinds word.Bad memory help bad (inl none) = let no = memory none in cc
 found_as k kinds word.Bad memory help bad (inr among) = inr (k, among, bad refl)
 
--- of this command clap says which errors may come
+-- this command is simple and free, so clap says which errors its words may give
 plain : is_simple_and_free msgrun_app ≡ true
 unfolding clap_on_literals
 plain = refl

@@ -77,7 +77,7 @@ walk_stops (word ∷ rest) w passes so_far =
     let parts = and_parts (turn_passes top names w word) _ passes in
     walk_stops rest (walked top.rules names w word) parts.1 (turn_stops w word parts.0 so_far)
 
--- the name of the subcommand `help`, the other way round
+-- where a name isn't `help`, the test with the two texts swapped is false too
 help_named : (name : Text) → not (bytes_eq name (codes "help")) ≡ true → bytes_eq (codes "help") name ≡ false
 help_named name isnt = grind (arith, bytes_eq-Decides (codes "help") name, bytes_eq-Decides name (codes "help"))
 

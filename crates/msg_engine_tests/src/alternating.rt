@@ -16,7 +16,7 @@ use std::thread::Threads;
 
 const NUMBERS: [u32; 4] = [1, 2, 7, 64];
 
-/// Writes so many messages to a type in one turn, and to the other type in the next.
+/// Writes `writes` messages to the type `here` in one turn, and to the type `there` in the next.
 #[derive(Drop)]
 struct Alternating {
     here: TypeNo,
@@ -90,7 +90,7 @@ fn written(rt: &impl Abort, world: &World, t: TypeNo) -> usize {
     }
 }
 
-/// Each system that has joined wrote so, by one op a message.
+/// Each system that has joined wrote as `wrote` says, by one op a message.
 fn expect_wrote<S: System>(rt: &impl Abort, engine: &EngineOf<S>, log: &Log, wrote: Wrote) {
     for turn in log.turns.as_slice() {
         match (&turn.outcome, wrote) {
@@ -110,7 +110,8 @@ fn expect_wrote<S: System>(rt: &impl Abort, engine: &EngineOf<S>, log: &Log, wro
     }
 }
 
-/// A frame on so many workers, or replayed by both, in which the systems write so.
+/// Runs a frame on `number` workers, or replays it with system 1 before system 0. Each system
+/// writes as `wrote` says.
 fn expect_frame<R: Threads + Sync + Abort, S: System>(
     rt: &R,
     engine: &mut EngineOf<S>,
@@ -132,7 +133,8 @@ fn expect_frame<R: Threads + Sync + Abort, S: System>(
     Ok(())
 }
 
-/// Three frames, of which the second is another and may be replayed, in which the systems write so.
+/// Runs three frames: the first of `frames`, the second, which may be replayed, and the first once
+/// more. In each of them the systems write as `wrote` says.
 fn expect_turns<R: Threads + Sync + Abort, S: System>(
     rt: &R,
     engine: &mut EngineOf<S>,

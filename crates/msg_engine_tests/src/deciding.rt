@@ -13,8 +13,8 @@ use std::process::Abort;
 use std::test::Fail;
 use std::thread::Threads;
 
-/// Runs a frame with these posts on so many workers, in which just these values are written to the
-/// second type.
+/// Runs a frame with these posts on `number` workers, in which just these values are written to
+/// the second type.
 fn expect_frame_writes<R: Threads + Sync + Abort>(
     rt: &R,
     alloc: Global,

@@ -9,8 +9,8 @@ use msg_world::{HOST, Record};
 use std::process::Abort;
 use std::thread::Threads;
 
-/// What a system's turn came to: it wrote `n` messages, from the number `first` on, or it read
-/// these messages, from that number on, and missed so many before.
+/// What a system's turn came to. It wrote `n` messages, from the number `first` on; or it read the
+/// messages `read`, from the number `first` on, and missed `missed` before them.
 #[derive(Clone, Copy)]
 pub struct Step<'a> {
     pub system: u32,
@@ -86,7 +86,8 @@ pub fn expect_log(rt: &impl Abort, log: &Log, posts: &[u64], steps: &[Step<'_>])
     }
 }
 
-/// Runs a frame on so many workers, whose posts get these numbers and whose turns are these.
+/// Runs a frame on `number` workers. Its posts get the numbers `posts`, and its turns come to
+/// `steps`.
 pub fn expect_frame<R: Threads + Sync + Abort, S: System>(
     rt: &R,
     engine: &mut EngineOf<S>,
@@ -103,7 +104,8 @@ pub fn expect_frame<R: Threads + Sync + Abort, S: System>(
     Ok(())
 }
 
-/// Replays a frame in this order, whose posts get these numbers and whose turns are these.
+/// Replays a frame in this order. Its posts get the numbers `posts`, and its turns come to
+/// `steps`.
 pub fn expect_replay<S: System>(
     rt: &impl Abort,
     engine: &mut EngineOf<S>,

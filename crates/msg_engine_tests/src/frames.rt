@@ -9,10 +9,11 @@ use std::sync::Arc;
 use std::sync::atomic::{AtomicU64, Ordering};
 use std::test::Fail;
 
-/// So many readers on so many workers, of which these are held until all were called for: where
-/// all are held, each worker has a thread and a number of its own. First one frame, whose workers
-/// start one another, then a list, whose first worker starts all others at once where they ran at
-/// least half of the jobs of that frame.
+/// Each row has how many readers there are, on how many workers they run, and which of them the
+/// gate holds until it was called for all readers. Where it holds all, each worker has a thread and
+/// a number of its own. The first frame runs by `run_frame`: its workers start one another. The
+/// second runs by `run_frames`: if the other workers ran at least half of the first frame's jobs,
+/// the first worker starts them all at once.
 #[test]
 fn readers_run_side_by_side(rt: HostRuntime) -> Result<(), Fail> {
     let (alloc, t) = (rt.alloc(), type_no(0));
@@ -70,6 +71,7 @@ fn the_gate_is_called_before_the_system_runs(rt: HostRuntime) -> Result<(), Fail
     let mut engine = noting_engine(&rt, alloc, 1, ops, &noted)?;
     let gate = NotingGate { noted: &noted };
     run_frame(&rt, &mut engine, &quiet(alloc), 2, &gate)?;
+    // The gate notes 9, and system i notes i + 1: gate, system 0, gate, system 1.
     assert_eq!(rt; noted.load(Ordering::SeqCst), 9192);
     Ok(())
 }

@@ -4,8 +4,8 @@ use msg_exec::Gate;
 use std::process::Abort;
 use std::sync::atomic::{AtomicU64, Ordering};
 
-/// Holds some of five systems until so many calls came, and sees whether a worker's number is in
-/// use twice, or isn't below the number of workers.
+/// Holds those of five systems that `held` names until `awaited` calls came, and counts the calls
+/// whose worker's number is in use by another call, or isn't below the number of workers.
 #[derive(Drop)]
 pub struct HoldGate {
     workers: u32,
@@ -32,8 +32,8 @@ impl HoldGate {
         }
     }
 
-    /// So many calls came and no more, each that was held saw those that it awaited, and no
-    /// worker's number was in use twice.
+    /// `calls` calls came and no more, each that was held saw all that it awaited, and no worker's
+    /// number was in use twice.
     pub fn expect_met(&self, rt: &impl Abort, calls: u64) {
         let limits_met = self.limits_met.load(Ordering::SeqCst);
         let clashes = self.clashes.load(Ordering::SeqCst);
@@ -70,7 +70,7 @@ impl Gate for HoldGate {
     }
 }
 
-/// Sees whether worker 0 alone is called, and for 0, 1, 2 and so on.
+/// Sees whether worker 0 alone is called, for the systems 0, 1, 2 and so on in turn.
 #[derive(Drop)]
 pub struct OneByOne {
     calls: AtomicU64,
@@ -85,7 +85,7 @@ impl OneByOne {
         }
     }
 
-    /// It was called so often.
+    /// It was called `calls` times, each time for worker 0 and the next system.
     pub fn expect_calls(&self, rt: &impl Abort, calls: u64) {
         assert_eq!(rt; self.calls.load(Ordering::SeqCst), calls);
         assert_eq!(rt; self.others.load(Ordering::SeqCst), 0);

@@ -1,4 +1,4 @@
-// Engines for tests, and frames of them.
+// Engines and frames for tests, and the calls that run them.
 ghost use Rattle.std.specs.Prelude.{IfOk};
 ghost use Rattle.msg_exec.specs.Prelude.{IsEngine};
 
@@ -50,7 +50,7 @@ pub fn engine_of(
     systems.build(World::new(alloc, limits, &[])?)
 }
 
-/// An engine of so many readers of one type.
+/// An engine of `number` readers of one type.
 pub fn readers(
     rt: &impl Abort,
     alloc: Global,
@@ -80,7 +80,7 @@ pub fn quiet(alloc: Global) -> Frame {
     }
 }
 
-/// So many workers.
+/// `number` workers.
 fn workers(rt: &impl Abort, number: u32) -> Workers {
     match Workers::new(number) {
         Some(workers) => workers,
@@ -88,7 +88,7 @@ fn workers(rt: &impl Abort, number: u32) -> Workers {
     }
 }
 
-/// One frame on so many workers.
+/// Runs one frame on `number` workers.
 pub fn run_frame<R: Threads + Sync + Abort, S: System, G: Gate>(
     rt: &R,
     engine: &mut EngineOf<S>,
@@ -103,7 +103,7 @@ pub fn run_frame<R: Threads + Sync + Abort, S: System, G: Gate>(
     engine.run_frame(rt, frame, workers(rt, number), gate)
 }
 
-/// Frames on so many workers, whose logs are appended.
+/// Runs frames on `number` workers, and appends their logs.
 pub fn run_frames<R: Threads + Sync + Abort, S: System, G: Gate>(
     rt: &R,
     engine: &mut EngineOf<S>,
@@ -119,7 +119,7 @@ pub fn run_frames<R: Threads + Sync + Abort, S: System, G: Gate>(
     engine.run_frames(rt, frames, workers(rt, number), gate, logs)
 }
 
-/// A frame on this thread, in this order.
+/// Replays a frame on this thread, in this order.
 pub fn replay<S: System>(
     rt: &impl Abort,
     engine: &mut EngineOf<S>,

@@ -38,7 +38,8 @@ fn expect_lag(rt: &impl Abort, log: &Log, frame: u32) {
     }
 }
 
-/// Whether a call was refused. Where it was, the engine is spoiled after so many frames.
+/// Whether a call was refused memory. Where it was, the engine is spoiled after `frames_run`
+/// frames.
 fn is_refused<R: Threads + Sync + Abort>(
     rt: &R,
     alloc: Global,

@@ -12,7 +12,7 @@ use std::sync::Arc;
 use std::sync::atomic::{AtomicU64, Ordering};
 use std::test::Fail;
 
-/// A digit is noted at the end of a shared number.
+/// Notes a digit at the end of a shared number.
 pub fn note(noted: &AtomicU64, digit: u64) {
     let before = noted.load(Ordering::SeqCst);
     let after = before.wrapping_mul(10).wrapping_add(digit);
@@ -22,11 +22,11 @@ pub fn note(noted: &AtomicU64, digit: u64) {
 /// What is done before a run.
 #[derive(Drop)]
 pub enum Before {
-    /// It has no memory after so many runs.
+    /// After this number of runs there is no memory.
     FailAfter(u32),
-    /// It is counted.
+    /// The run is counted.
     Count(Arc<AtomicU64>),
-    /// It is noted by a digit.
+    /// The run is noted by this digit.
     Note { digit: u64, noted: Arc<AtomicU64> },
 }
 
@@ -83,7 +83,7 @@ impl<S: Numbered> Numbered for Prefaced<S> {
 }
 
 /// An engine of noting scripts that join with this frame, each with one op, over a world of one
-/// type. System i notes i + 1.
+/// type. System i notes i + 1, where there are at most nine.
 pub fn noting_engine(
     rt: &impl Abort,
     alloc: Global,

@@ -14,8 +14,8 @@ use std::sync::Arc;
 use std::sync::atomic::{AtomicU64, Ordering};
 use std::test::Fail;
 
-/// The account of a reader of this type that started at 0, and got as many messages as its place
-/// says.
+/// The account of a reader of this type that started at 0, and was given every message before its
+/// place.
 fn account(system: u32, of_type: TypeNo, place: u64) -> Account {
     Account {
         system,
@@ -34,7 +34,8 @@ fn kept<S: System>(engine: &EngineOf<S>, t: TypeNo) -> Option<(u64, u64)> {
     Some((messages.oldest(), messages.count()))
 }
 
-/// After so many frames: the oldest message and the next, and the accounts of both readers.
+/// After `frames` frames `numbers` are those of the oldest message and of the next one, and
+/// `accounts` are those of both readers.
 fn expect_after<S: System>(
     rt: &impl Abort,
     engine: &EngineOf<S>,
@@ -89,6 +90,7 @@ fn a_replay_takes_lawful_orders_alone(rt: HostRuntime) -> Result<(), Fail> {
     expect_after(&rt, &engine, 2, (0, 2), &accounts)?;
     let steps = [wrote(0, 2), read(2, 2, &one), read(1, 2, &one)];
     expect_replay(&rt, &mut engine, &frames[0], &[0, 2, 1], &[], &steps)?;
+    // System i notes i + 1: systems 0, 2 and 1 ran, in this order.
     assert_eq!(rt; noted.load(Ordering::SeqCst), 132);
     let accounts = [account(1, t, 3), account(2, t, 3)];
     expect_after(&rt, &engine, 3, (1, 3), &accounts)?;
@@ -150,6 +152,7 @@ fn late_systems(rt: HostRuntime) -> Result<(), Fail> {
         ..account(1, t, 3)
     };
     expect_after(&rt, &engine, 3, (1, 3), &[from_zero, from_current])?;
+    // System 1 ran, and then system 0.
     assert_eq!(rt; noted.load(Ordering::SeqCst), 21);
     Ok(())
 }

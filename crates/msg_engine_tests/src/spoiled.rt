@@ -16,7 +16,8 @@ use std::sync::atomic::{AtomicU64, Ordering};
 use std::test::Fail;
 use std::thread::Threads;
 
-/// Every call answers so of an engine that is spoiled after so many frames.
+/// The engine was spoiled after `frames_run` frames: each call that runs a frame answers `Spoiled`,
+/// and so does `accounts`; and there is no world.
 pub fn expect_spoiled<R: Threads + Sync + Abort, S: System>(
     rt: &R,
     alloc: Global,
@@ -39,8 +40,8 @@ pub fn expect_spoiled<R: Threads + Sync + Abort, S: System>(
     assert_eq!(rt; engine.frames_run(), frames_run);
 }
 
-/// An engine of readers of one type, of which the first has memory for so many runs and the others
-/// are counted.
+/// An engine of readers of one type. The first of them has memory for `first_runs` runs; the runs
+/// of the others are counted.
 fn failing_engine(
     rt: &impl Abort,
     alloc: Global,
@@ -63,7 +64,7 @@ fn failing_engine(
     Ok(systems.build(World::new(alloc, &[10], &[])?)?)
 }
 
-/// The second frame has no memory, on so many workers; the engine is spoiled by it.
+/// In the second frame the reader has no memory, and that spoils the engine.
 #[test]
 fn a_frame_without_memory_spoils_its_engine(rt: HostRuntime) -> Result<(), Fail> {
     let frame = quiet(rt.alloc());
@@ -79,7 +80,8 @@ fn a_frame_without_memory_spoils_its_engine(rt: HostRuntime) -> Result<(), Fail>
     Ok(())
 }
 
-/// The other jobs of its batch are run beside it; one worker takes no turn after it.
+/// Where one job has no memory, the other workers run the other jobs of its batch; where it is the
+/// only worker's, no job runs after it.
 #[test]
 fn the_others_run_where_one_has_no_memory(rt: HostRuntime) -> Result<(), Fail> {
     let alloc = rt.alloc();

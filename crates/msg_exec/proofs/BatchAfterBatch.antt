@@ -5,18 +5,10 @@ use Rattle.std.proofs.lemmas.{List.append-nil, List.map_push, List.take_more, Li
 use Rattle.msg_system.specs.Prelude.{Meaning}
 use Rattle.msg_frames.specs.declared.log.Turn.{Turn}
 use Rattle.msg_exec.specs.Prelude.{Lender, LenderStands}
-use Rattle.msg_frames.specs.Prelude.{AfterTurns, after_turn_of, after_turns_of, State}
-use Rattle.msg_frames.proofs.{SystemsStay.turns_keep_systems, ElementsAndPairs.pairs_left, ElementsAndPairs.pairs_right}
+use Rattle.msg_frames.specs.Prelude.{after_turns_of, State}
+use Rattle.msg_frames.proofs.{BatchesSideBySide.turns_then_more, SystemsStay.turns_keep_systems, ElementsAndPairs.pairs_left, ElementsAndPairs.pairs_right}
 use Rattle.msg_world.specs.declared.access.Access.{Access}
 use Rattle.msg_order.specs.Prelude.{NoneConflict}
-
-abbrev and_then : AfterTurns → List ℕ → AfterTurns
-and_then x is =
-    record { state = (after_turns_of is x.state).state; turns = x.turns ++ (after_turns_of is x.state).turns }
-
-pub turns_then_more : (is js : List ℕ) (s : State) → after_turns_of (is ++ js) s ≡ and_then (after_turns_of is s) js
-turns_then_more [] js s = refl
-turns_then_more (i ∷ is) js s = rw (turns_then_more is js (after_turn_of i s)) refl
 
 pub as_many_systems : (is : List ℕ) (s : State) → (after_turns_of is s).state.systems ≡ s.systems
 as_many_systems is s = (turns_keep_systems is s).systems

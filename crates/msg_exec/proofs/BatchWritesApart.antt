@@ -11,7 +11,7 @@ use Rattle.msg_order.proofs.Elements.{Contains-cases}
 
 -- ---- a list up to an element
 
--- what holds of each pair holds of each element before this one, and it
+-- what holds of each pair of elements holds of each element before place k with the element at k
 pub each_before : {X : Type 0} (R : X → X → Type 0) (xs : List X) (k : ℕ) (d : X) → k < length xs → AllPairs R xs
     → All (λ x. R x (get_or xs k d)) (take k xs)
 each_before R xs k d lt pairs m e below =
@@ -20,7 +20,7 @@ each_before R xs k d lt pairs m e below =
 
 -- ---- one of two
 
--- it writes nothing that the other uses
+-- of two accesses that don't conflict, the first writes nothing that the second uses
 pub first_unwritten : (a b : Access) (p : Part) → ¬ Conflict a b → IsTrue (uses b p) → writes a p ≡ false
 first_unwritten a b p none used =
     false_from_ne_true (writes a p) (λ is. none (p, inl (and_from (writes a p) (uses b p) is used)))

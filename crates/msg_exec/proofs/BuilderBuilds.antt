@@ -29,7 +29,7 @@ numbered_more n (x ∷ ms) m =
     rw (number, numbered_more (n + 1) ms m) refl
 
 module _ {S : Type 0} (meaning : S → Meaning) where
-  -- what system i was
+  -- system i of the numbered list is system i of the old list, with its number
   was : (n : ℕ) (new old : List S) → map meaning new ≡ numbered_from n (map meaning old) → (i : ℕ) (x : S)
       → slice_get new i ≡ Some x → (y : S) × ((slice_get old i ≡ Some y) × (meaning x ≡ as_number (n + i) (meaning y)))
   was n [] old same i x there = absurd (none-some x there)
@@ -47,7 +47,7 @@ module _ {S : Type 0} (meaning : S → Meaning) where
         × ((slice_get old i ≡ Some y) × (meaning x ≡ as_number i (meaning y)))
     before i x there = let at : 0 + i ≡ i = omega arith in rw at at (was 0 new old numbered i x there)
 
-    -- what system i is now
+    -- system i of the old list has a system i in the numbered list, with the same needs
     after : (i : ℕ) (y : S) → slice_get old i ≡ Some y → (x : S)
         × ((slice_get new i ≡ Some x) × ((meaning x).needs ≡ (meaning y).needs))
     after i y there =

@@ -13,7 +13,7 @@ use Rattle.msg_frames.proofs.{SystemsStay.accesses_stay, SystemsStay.before_keep
 
 -- ---- the schedule
 
--- of as many systems, with the same rules
+-- the schedule of a core is that of a later core and state with the same joins, rules and systems
 pub schedule_along : {S : Type 0} {c d : Core S} {s u : State} → d.joins ≡ c.joins → d.rules ≡ c.rules
     → SameSystems s u → Schedule c s → Schedule d u
 schedule_along {s = s} {u} joins rules same has = record {
@@ -27,7 +27,7 @@ schedule_along {s = s} {u} joins rules same has = record {
 
 -- ---- who has joined
 
--- those that have joined by a frame, where so many frames and one more are counted
+-- the flags of the systems that have joined, computed from the frames that they join with
 pub joined_by_frame : (js : List ℕ) (s : State) (frame : ℕ) → AreJoins js s → max 1 s.frames ≡ frame
     → map (λ j. nat_le j frame) js ≡ join_flags s
 joined_by_frame js s frame are is =
@@ -93,7 +93,7 @@ module _ {S : Type 0} (meaning : S → Meaning) where
 
   -- ---- which orders are lawful
 
-  -- what the plan of those that will have joined accepts is what is lawful
+  -- an order is lawful for a frame just where the plan of those that will have joined accepts it
   pub accepted : {accepts : Bool} {c : Core S} {s : State} {plan : PlanView} (frame : Frame) (order : List ℕ)
       → SystemsHaveOneOrder → CoreStands meaning c s → (is : PlansNext c s plan)
       → (IsTrue accepts ↔ IsLawfulOrder is.order (join_flags (one_frame_more (after_joining s))) order)

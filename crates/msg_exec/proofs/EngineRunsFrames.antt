@@ -1,4 +1,4 @@
--- An engine is what its core is.
+-- An engine that stands for a state has a core that does. A run and one frame after it are a run.
 use Rattle.std.proofs.Common.{◌≡◌, ℕ, List, [], ◌∷◌, ◌++◌, length, take, Some, refl, sym, ◌∙◌, inl, inr, IsSome}
 use Rattle.std.proofs.lemmas.Bool.{false≢true}
 use Rattle.msg_system.specs.Prelude.{Meaning}

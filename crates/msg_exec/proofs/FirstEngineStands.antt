@@ -7,7 +7,7 @@ use Rattle.msg_order.specs.declared.rule.Rule.{Rule}
 use Rattle.msg_order.specs.Prelude.{FewerSystemsMakeNoCycle, IsAcyclic, NameSystemsBelow, access_of, edges_of, rules_among}
 use Rattle.msg_system.specs.Prelude.{HasClash, Meaning, new_asked}
 use Rattle.msg_order.proofs.SetPaths.{all_rules}
-use Rattle.msg_system.proofs.Accesses.{uses_needs}
+use Rattle.msg_system.proofs.AccessesUseNeeds.{uses_needs}
 use Rattle.msg_frames.specs.declared.place.Place.{Place}
 use Rattle.msg_exec.specs.Prelude.{AreJoins, Core, EachIs, Lender, LenderStands, MayBeAdded, Schedule}
 use Rattle.msg_exec.specs.{inner.EngineParts.AreNoTotals, inner.EngineParts.IsAccessAt, inner.EngineParts.IsGuardedAt, inner.SystemsOut.HaveReadNothing}

@@ -1,4 +1,4 @@
--- A job is done: its system ran, and what the loan owned is given back as the job left it.
+-- A job is done: its system ran or was skipped, and what the loan owned is given back as the job left it.
 use Rattle.std.proofs.Common.{◌≡◌, true, false, List, [], Option, Some, None, Vec, map, refl, sym, ◌∙◌, arith, is_some}
 use Rattle.std.specs.Vec.{with_items}
 use Rattle.std.proofs.lemmas.{Bool.false≢true, List.length-map, List.with_items_is}

@@ -9,7 +9,7 @@ pub no_minus : (z : ℤ) → int_le (pos 0) z ≡ true → decimal (unsigned_abs
 no_minus (pos n) e = refl
 no_minus (negsuc n) e = cc
 
--- it has no more digits than 19
+-- a number below 10 ^ 19 has at most 19 digits
 pub digits : (n : ℕ) → n < 10 ^ 19 → length (decimal n) ≤ 19
 digits n lt = length-decimal-le 19 n (omega arith) lt (omega arith)
 

@@ -58,13 +58,13 @@ pub side_by_side : JobFootprint → BatchesRunSideBySide
 side_by_side foot s accesses batch are below once none =
     from_start foot accesses s are batch s below once none (λ k d lt. record { member = refl; world = λ p u. refl })
 
--- turns that follow others
-pub follow : (xs ys : List ℕ) (s : State) → after_turns_of (xs ++ ys) s ≡
+-- turns that turns_then_more others
+pub turns_then_more : (xs ys : List ℕ) (s : State) → after_turns_of (xs ++ ys) s ≡
     (let first : AfterTurns = after_turns_of xs s in
     let rest : AfterTurns = after_turns_of ys first.state in
     record { state = rest.state; turns = first.turns ++ rest.turns })
-follow [] ys s = refl
-follow (x ∷ xs) ys s = grind (arith, follow xs ys (after_turn_of x s))
+turns_then_more [] ys s = refl
+turns_then_more (x ∷ xs) ys s = grind (arith, turns_then_more xs ys (after_turn_of x s))
 
 pub batch_by_batch : JobFootprint → FramesRunByBatches
 batch_by_batch foot s accesses [] are below once apart = refl
@@ -76,4 +76,4 @@ batch_by_batch foot s accesses (batch ∷ batches) are below once apart =
     let rest = batch_by_batch foot left accesses batches (accesses_stay s left accesses kept are)
     (rw (kept.systems) (all_right (λ i. i < s.systems) batch (concat batches) below))
     (pairs_right (λ i j. i ≢ j) batch (concat batches) once) (All-tail (NoneConflict accesses) batch batches apart) in
-    grind (arith, first, rest, follow batch (concat batches) s)
+    grind (arith, first, rest, turns_then_more batch (concat batches) s)

@@ -13,7 +13,7 @@ pub data Arrival (s b : State) (i : ℕ) : Type 0 where
       → Arrival s b i
   waits : IsFalse (has_begun s i) → IsFalse (has_begun b i) → b.members i ≡ s.members i → Arrival s b i
 
--- What comes before the turns leaves.
+-- The steps before the turns lead from s to b: the systems stay, each history goes on, and some systems join.
 pub record Prepares (s b : State) : Type 0 where
   pub same : SameSystems s b
   pub world : WorldGoesOn s.world b.world

@@ -24,7 +24,7 @@ pub with_clear : (gone first n : ℕ) (x : Totals)
     ≡ record x { missed = x.missed + gone; cleared = x.cleared + n }
 with_clear gone first n x = grind (arith, length-append, length-range_with_len)
 
--- tiles lead as far as their entries add up to
+-- the numbers given, missed and cleared by tiles are as many as lie between their first place and their last
 pub tiles_add_up : (p : ℕ) (ms : List Moment) (q : ℕ) → Tile p (map tile_of ms) q
     → p + length (numbers_of given (map (λ m. m.entry) ms)) + length
     (numbers_of missed (map (λ m. m.entry) ms)) + length (numbers_of cleared (map (λ m. m.entry) ms)) ≡ q

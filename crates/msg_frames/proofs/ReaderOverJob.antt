@@ -150,13 +150,13 @@ module _ (t : ℕ) (m : Meaning) (w : WorldState) where
   answered zero = (refl, refl)
   answered (suc n) = answered_more (next_op m (so_far n).replies) (so_far n) (first_moments t n m w) refl (answered n)
 
--- those that the log has, and that the accounts get
+-- the entries that the outcome of a job tells are those of its moments
 pub job_logged : (t : ℕ) (j : Job) (w : WorldState) → outcome_entries t j.system (outcome_of (after_job j w).replies)
     ≡ map (λ m. m.entry) (job_moments t j w)
 unfolding turn turn_moments
 job_logged t j w = grind (arith, append-nil, cases_Bool, answered t j.system w 64)
 
--- what it does after its job
+-- after a job, the rule of its system also takes in the replies of that job
 pub job_rule : (j : Job) (w : WorldState) → (after_job j w).job.system.rule
     ≡ (λ (later : List (List Reply)) (now : List Reply). j.system.rule
     (replies_of (outcome_of (after_job j w).replies) ++ later) now)

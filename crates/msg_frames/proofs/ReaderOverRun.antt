@@ -20,7 +20,7 @@ run_tells i t frames s logs u is = absurd is
 
 -- ---- a reader that joins in the run, or had joined
 
--- what comes before does nothing to it
+-- a reader's moments from a history on are its moments from an earlier history on
 reads_since : (i t place : ℕ) (had : Totals) (a b : History Record) (ms : List Moment) (u : State) → GoesOn a b
     → ReadsFrom i t place had b ms u → ReadsFrom i t place had a ms u
 reads_since i t place had a b ms u goes x = grind (arith, goes_further)

@@ -1,5 +1,5 @@
--- Rows: a host posts three messages, then none, then one. One system reads a message in each frame; another joins with
--- the third frame and clears.
+-- What the two readers of a worked row are given, miss and clear. A host posts three messages, then none, then one.
+-- One system reads a message in each frame; another joins with the third frame and clears.
 use Rattle.std.proofs.Common.{◌≡◌, List, [], ◌∷◌, Some, pos, refl}
 use Rattle.msg_world.specs.{Prelude.by, declared.record.TheConstants.HOST}
 use Rattle.msg_system.specs.{Prelude.turn, declared.op.Op.TheVariants.Read, declared.op.Op.TheVariants.Clear}

@@ -27,7 +27,7 @@ StaysRecent k p a b = AreRecent k p a → AreRecent k p b
 pub stays_recent : (k p : ℕ) → IsKept (StaysRecent k p)
 stays_recent k p = grind (arith, at_append, cases_Bool, stamp_of)
 
--- so they were in a history that went on
+-- messages that are recent in a history were recent before that history went on
 pub earlier_recent : (k p : ℕ) (a b : History Record) → GoesOn a b → AreRecent k p b → AreRecent k p a
 earlier_recent k p a b goes recent n e above at =
     let same = get_or_append_left a.entries goes.more e n in

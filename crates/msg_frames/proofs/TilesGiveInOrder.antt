@@ -84,7 +84,7 @@ module _ (last : History Record) where
 
 -- ---- writer by writer
 
--- where the numbers have these messages, those of one kind have those of that kind
+-- where numbers have these messages, the numbers whose messages pass a test have the messages that pass it
 of_one_kind : {X : Type 0} (f : ℕ → Option X) (p : X → Bool) (ns : List ℕ) (xs : List X) → map f ns ≡ map Some xs
     → map f (filter (λ n. elim (f n) [ None ↦ false | Some x ↦ p x ]) ns) ≡ map Some (filter p xs)
 of_one_kind f p [] [] same = refl

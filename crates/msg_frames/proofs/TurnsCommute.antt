@@ -3,7 +3,7 @@ use Rattle.std.proofs.Common.{arith, ◌≡◌, ◌≢◌, ℕ, false, sym, ne_e
 use Rattle.std.proofs.lemmas.{Bool.and_from, Bool.cases_Bool, Bool.Decides.eqb_tells}
 use Rattle.msg_world.specs.{Prelude.Conflict, Prelude.OfResource, Prelude.OfType, Prelude.Part, Prelude.Registry, Prelude.WorldState, Prelude.content, declared.access.Access.Access}
 use Rattle.msg_system.specs.Prelude.{HasFootprint, IsAccessOf, JobFootprint, Needs, needs_any}
-use Rattle.msg_system.proofs.Accesses.{uses_needs}
+use Rattle.msg_system.proofs.AccessesUseNeeds.{uses_needs}
 use Rattle.msg_frames.specs.Prelude.{AfterTurn, Member, Outcome, State, TurnsOfOthersCommute, after_turn_of, member_turn, member_needs, turn_of}
 
 -- worlds with the same parts are the same

@@ -1,4 +1,4 @@
--- Taking the systems of an order one after the other.
+-- An order is lawful just where its systems can be taken one after the other, each with none left before it.
 use Rattle.std.proofs.Common.{◌≡◌, ℕ, ◌+◌, ◌<◌, ◌⊎◌, inl, inr, Bool, true, false, not, ◌&&◌, List, length, get_or, arith, ◌==◌}
 use Rattle.std.specs.List.{list_any, range_with_len}
 use Rattle.std.proofs.lemmas.{Bool.Decides.eqb_tells, Bool.cases_Bool, Bool.cases_eq, List.get_or_default}

@@ -1,4 +1,5 @@
--- That there is a settled order, and a list of its batches, for all systems whose rules make no cycle.
+-- There is a settled order. Where an order has no cycle, it has a list of batches and a turn order. No order has two
+-- turn orders.
 use Rattle.std.proofs.Common.{◌≡◌, ℕ, zero, suc, ◌<◌, inl, inr, Bool, true, not, ◌&&◌, List, [], ◌∷◌, ◌++◌, length, refl, arith, filter}
 use Rattle.std.specs.List.{concat, list_any, range_with_len}
 use Rattle.std.proofs.lemmas.Bool.{cases_eq, and_parts, and_from}

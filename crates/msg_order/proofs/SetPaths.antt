@@ -38,7 +38,7 @@ pub adds_edge : (g : Graph) (before new : List SystemSet) (from later : ℕ) (to
 adds_edge g before new from later to h s few only i j =
     grind (arith, eq-eqb, eqb-true, meets-found, meets-true, or_cases, or_left, or_right, same_test)
 
--- The rules one by one.
+-- an edge makes the same paths at the end of a graph as at its front
 path-at_end : (g : Graph) (e : ℕ × ℕ) (i j : ℕ) → path (e ∷ g) i j ≡ path (g ++ e ∷ []) i j
 path-at_end g e = same_paths (e ∷ g) (g ++ e ∷ [])
     (λ i j h. grind (arith, Contains-cases e g (i, j) h, Contains-push g e, Contains-append_left g (e ∷ [])))
@@ -60,7 +60,7 @@ rule_more joined rules k d h i j =
     let last = path-at_end (rules_among joined (take k rules)) (f (get_or rules k d)) i j in
     grind (arith, more, last, length-map rules f, get_or-map f rules k d (f d) h, take-map f, append-nil)
 
--- The pairs of one system after those of the systems before it.
+-- the sets are the paths of the graph that g becomes by the pairs of the systems below i
 abbrev pub IsOnWay : (ℕ → ℕ → Type 0) → Graph → ℕ → ℕ → List SystemSet → Type 0
 IsOnWay C g n i before = (h : Graph) × (ArePaths h before × Settles C g (pairs_until n i) h)
 
@@ -105,7 +105,7 @@ row_settles C g n i before new later few lt below tells adds way =
       ),
     )
 
--- Systems below n on cycles.
+-- a system that has joined has a place in the list
 pub joined_in : (joined : List Bool) (i : ℕ) → has_joined joined i ≡ true → i < length joined
 joined_in joined i h = grind (arith, cases_lt, false≢true, get_or_past)
 

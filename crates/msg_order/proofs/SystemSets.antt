@@ -7,7 +7,7 @@ use Rattle.msg_world.proofs.Bits.{has_bit-zero, has_bit-set, has_bit-unset, has_
 use Rattle.msg_order.specs.{Prelude.SystemSet, inner.SystemSet.has, inner.SystemSet.meets, inner.SystemSet.no_set}
 use Rattle.msg_order.proofs.Elements.{list_any-Contains, Contains-list_any, Contains-range, range-Contains}
 
--- whether a number is in both of two sets, told by one below 256
+-- a test holds of a number below n just where it holds of one in the range of n numbers from 0
 pub some_below : (test : ℕ → Bool) (n k : ℕ) → k < n → test k ≡ true → list_any test (range_with_len 0 n) ≡ true
 some_below test n k lt t =
     list_any-Contains test (range_with_len 0 n) k (Contains-range 0 n k (omega arith) (omega arith)) t

@@ -1,4 +1,4 @@
--- Places in an order, and the batches one after the other.
+-- The batches one after the other are the turn order. It is lawful, and no two systems of a batch conflict.
 use Rattle.std.proofs.Common.{◌≡◌, ◌≢◌, ℕ, suc, ◌-◌, ◌<◌, Bool, List, [], ◌∷◌, ◌++◌, length, get_or, sym, ◌∙◌, arith, length-append, Contains, All, AllPairs}
 use Rattle.std.specs.List.{concat}
 use Rattle.std.proofs.lemmas.{Bool.cases_lt, Bool.cases_order, Grind.get_or_default_zero, List.get_or_append_left, List.get_or-append_right, List.Elements.All-head, List.Elements.All-tail, List.Elements.All-from_get_or, List.Elements.Contains-get_or, List.Kept.AllPairs-from_increasing, Option.slice_get-get_or, Option.slice_get_within, Option.get_or_from_slice_get}
@@ -91,7 +91,7 @@ runs_once g joined order t a b d lt l e =
     let before : RunsBefore g i (get_or order b d) = t.in_order a b d lt l in
     grind (arith, before n.0 n.0 n.1)
 
--- it keeps the order
+-- a turn order is a lawful order
 pub in_lawful_order : TurnOrderIsLawful
 in_lawful_order g joined order among t = record {
   of_joined = t.of_joined;

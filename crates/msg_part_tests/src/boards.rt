@@ -34,7 +34,7 @@ impl Runs for AddOne {
     }
 }
 
-/// Draws until None.
+/// Draws jobs until none is left, and hands in the result of each.
 fn work<W: Runs>(board: &Board<W>, mut pass: Pass<W::Job, W::Done>) -> Pass<W::Job, W::Done>
     requires { IsIdle board.now pass }
     ensures { HasEnded board.now result }
@@ -45,7 +45,7 @@ fn work<W: Runs>(board: &Board<W>, mut pass: Pass<W::Job, W::Done>) -> Pass<W::J
     pass
 }
 
-/// As many threads as passes, each with one of its own.
+/// Runs the jobs in `passes` threads, each with a pass of its own.
 fn run_jobs<R: Threads + Sync, W: Runs + Send>(
     rt: &R,
     alloc: Global,
@@ -65,7 +65,8 @@ fn run_jobs<R: Threads + Sync, W: Runs + Send>(
     board.close(alloc, ended)
 }
 
-/// So many jobs and so many threads: each number's successor, in the order of the jobs.
+/// Each row has how many jobs there are and how many threads. The results are the successors of
+/// the jobs' numbers, in the order of the jobs.
 #[test]
 fn threads_draw_jobs(rt: HostRuntime) -> Result<(), Fail> {
     for (n, passes) in [(100, 2), (256, 64), (1, 3)] {
@@ -81,7 +82,7 @@ fn threads_draw_jobs(rt: HostRuntime) -> Result<(), Fail> {
     Ok(())
 }
 
-/// Over another allocator than `Global`.
+/// A board without jobs, over another allocator than `Global`.
 #[test]
 fn no_jobs_and_one_pass(rt: HostRuntime) -> Result<(), Fail> {
     let heap = rt.alloc();

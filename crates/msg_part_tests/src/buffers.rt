@@ -82,7 +82,8 @@ fn refusals_say_why(rt: HostRuntime) -> Result<(), Fail> {
     Ok(())
 }
 
-/// A buffer that dropped two messages and keeps three: cursors that begin at 0, left after so many.
+/// A buffer dropped two messages and keeps three. A read by a cursor at 0 is left after `taken`
+/// messages, and the cursor is at `place` then.
 #[test]
 fn what_is_not_taken_stays_unread(rt: HostRuntime) -> Result<(), Fail> {
     let mut buffer: Messages<i64> = Messages::new(rt.alloc(), 10);

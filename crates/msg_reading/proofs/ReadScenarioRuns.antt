@@ -1,4 +1,4 @@
--- What is known of a scenario that was read.
+-- A scenario that was read can be run, if no program clashes and its rules make no cycle.
 use Rattle.std.proofs.Common.{◌≡◌, ℕ, ◌≤◌, ◌<◌, [], length, refl, Some, None, arith, All}
 use Rattle.std.proofs.lemmas.{Grind.common_steps, List.Quantifiers.position-Some}
 use Rattle.std.specs.Str.{bytes_eq}

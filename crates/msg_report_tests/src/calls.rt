@@ -35,7 +35,7 @@ fn worked_files(rt: HostRuntime) {
     }
 }
 
-/// A sink that fails after so many bytes has these; a sink that takes little has all.
+/// A sink that fails after `left` bytes has just these; one that takes byte by byte has all.
 #[test]
 fn sinks_that_fail(rt: HostRuntime) {
     let file = r#"{"limit":9,"calls":[["write",7],["update"],["read",0]]}"#;

@@ -3,8 +3,8 @@ ghost use Rattle.std.specs.Prelude.{None};
 
 use msg_scenario::{MemorySink, PutFault, Sink};
 
-/// Takes at most so many bytes at each put and so many in all, and then fails, by an error or by
-/// taking 0.
+/// Takes at most `at_once` bytes at each put and `left` in all, and then fails: by taking 0 where
+/// `answers_zero` is true, and else by an error.
 #[derive(Drop)]
 pub struct Narrow {
     taken: MemorySink,

@@ -28,8 +28,9 @@ const WHOLE: &str = "\
     reader a hit start 0 got 2 missed 0 cleared 0 place 2\n\
     reader b hit start 0 got 2 missed 0 cleared 0 place 2\n";
 
-/// What the report of the two readers came to, each of which has memory for so many runs: of an
-/// engine, with how many frames that counts then, and whether it is spoiled; or from its systems.
+/// What the report of the two readers came to, each of which has memory for `runs` runs. Where
+/// `of_engine` is true it is the report of an engine, and with it comes how many frames that engine
+/// counts then, and whether it is spoiled. Else it is the report of systems, with None beside it.
 fn report_of<R: Threads + Sync + Abort + AllocGlobal, S: Sink, G: Gate>(
     rt: &R,
     of_engine: bool,
@@ -70,7 +71,7 @@ fn sinks_that_take_little(rt: HostRuntime) {
     }
 }
 
-/// A sink that fails after so many bytes has these, and later frames weren't run.
+/// A sink that fails after `left` bytes has just these, and later frames weren't run.
 #[test]
 fn sinks_that_fail(rt: HostRuntime) {
     for left in 0..WHOLE.len() {

@@ -13,7 +13,7 @@ fn accepted(rt: &(impl Abort + AllocGlobal), text: &str) -> Scenario {
     }
 }
 
-/// The file, or of systems alone a file with them and the type `hit`.
+/// The text itself where it is a file; of systems alone, a file with them and the type `hit`.
 fn whole(alloc: Global, text: &str) -> Result<String, Fail> {
     if !text.starts_with(r#"{"name""#) {
         return Ok(text.to_string(alloc)?);

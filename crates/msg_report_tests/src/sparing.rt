@@ -19,7 +19,7 @@ pub fn workers(rt: &impl Abort, number: u32) -> Workers {
     }
 }
 
-/// A script that has memory for so many runs.
+/// A script that has memory for `runs` more runs.
 #[derive(Drop)]
 pub struct Sparing {
     script: Scripted,
@@ -65,7 +65,7 @@ impl System for Sparing {
     }
 }
 
-/// The systems of the scenario; each of them has memory for so many runs.
+/// The systems of the scenario; each of them has memory for `runs` runs.
 pub fn sparing_systems(
     alloc: Global,
     scenario: &Scenario,
@@ -86,7 +86,7 @@ pub fn sparing_systems(
     Ok(systems)
 }
 
-/// An engine of the scenario; each of its systems has memory for so many runs.
+/// An engine of the scenario; each of its systems has memory for `runs` runs.
 pub fn sparing_engine(
     alloc: Global,
     scenario: &Scenario,

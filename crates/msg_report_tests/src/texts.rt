@@ -4,7 +4,7 @@ use std::alloc::{AllocError, Global};
 use std::process::Abort;
 use std::test::Fail;
 
-/// The two parts of a row, of which the first has no blank.
+/// What stands before the first blank of a row, and what stands after it.
 pub fn wanted<'a>(rt: &impl Abort, row: &'a str) -> (&'a str, &'a str) {
     match row.split_once(' ') {
         Some(parts) => parts,
@@ -12,7 +12,8 @@ pub fn wanted<'a>(rt: &impl Abort, row: &'a str) -> (&'a str, &'a str) {
     }
 }
 
-/// This is how a file is refused, or `Ok` where it isn't.
+/// The refusal that came is `want`, which is `Ok` where the file has to be accepted. A failure
+/// shows `text`.
 pub fn expect_refusal(
     rt: &(impl Abort + AllocGlobal),
     came: Option<Refusal>,
@@ -27,8 +28,8 @@ pub fn expect_refusal(
     Ok(())
 }
 
-/// How the file of a row is refused, and its text, in which the row's item stands so many times for
-/// the star.
+/// Of a row `WANT NUMBER ITEM FILE`: WANT, and FILE with NUMBER times ITEM in place of its star,
+/// parted by commas.
 pub fn long_file<'a>(
     rt: &(impl Abort + AllocGlobal),
     row: &'a str,
@@ -49,7 +50,7 @@ pub fn long_file<'a>(
     Ok((want, text))
 }
 
-/// So many of the first, then the middle, and as many of the last.
+/// `open`, `depth` times, then `middle`, and then `close` as often.
 pub fn nested(
     alloc: Global,
     open: &str,

@@ -1,5 +1,5 @@
 -- the engine of a scenario
 pub mod EngineIsMade
 -- its report: the text of a frame, of frames, and what the sink took of them
-pub mod ReportLines
+pub mod TextsByPieces
 pub mod Reporting

@@ -17,7 +17,7 @@ use Rattle.msg_reading.specs.Prelude.{state_of}
 use Rattle.msg_reading.specs.declared.scenario.Scenario.{Scenario}
 use Rattle.msg_files.proofs.Puts.{AppendsPrefix_after}
 use Rattle.msg_scenario.specs.inner.SoFar.{ReportSoFar}
-use Rattle.msg_scenario.proofs.ReportLines.{zip-nil}
+use Rattle.msg_scenario.proofs.TextsByPieces.{zip-nil}
 
 -- ---- texts
 
@@ -220,7 +220,7 @@ module _ {X : Type 0} (meaning : X → Meaning) (s : Scenario) where
             counted = grind (arith, far.stands.frames, far.frames, many);
           }
 
-  -- ---- then too a front of the text so far was put
+  -- ---- where memory has run out, a front of the text so far was put
 
   pub out_printed : (before after : Option (List ℕ)) (e : EngineOf X) → HasRunOut meaning s before after e
       → HasPrinted s before after

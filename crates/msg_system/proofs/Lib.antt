@@ -1,6 +1,6 @@
 -- What programs, conditions and jobs read and write
-pub mod Accesses
--- What an op does to its loan and its cursor
+pub mod AccessesUseNeeds
+-- What is read from a loan, and written through it
 mod Lendings
 -- Programs op by op, and systems
 mod Runs

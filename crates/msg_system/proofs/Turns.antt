@@ -46,7 +46,7 @@ so_far ops (suc n) w ps s =
           rw (take_all n ops h.0, take_all (suc n) ops (omega (arith, h.0)), over) refl
     ])
 
--- as many ops as are asked for, or all
+-- a turn of at most n ops is the whole program, where the program has no more than n
 pub program_so_far : (program : Program) (n w : ℕ) (ps : ℕ → ℕ) (s : WorldState) → length program.ops ≤ n
     → after_at_most n (next_op (of_program program w ps)) w ps s ≡ after_program program.ops w ps s
 program_so_far program n w ps s few =

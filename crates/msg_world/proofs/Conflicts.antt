@@ -1,4 +1,4 @@
--- Conflicts, clashes and limits of accesses by their masks.
+-- The masks of two accesses tell whether they conflict. The masks of an access that clashes share a bit.
 use Rattle.std.proofs.Common.{arith, ℕ, Bool, ◌&&◌, ◌||◌, inl, inr, ◌⊎◌, ◌↔◌, IsTrue, bit_or}
 use Rattle.std.proofs.lemmas.Bool.{or_cases, false≢true}
 use Rattle.msg_world.specs.{Prelude.Access, Prelude.Conflict, Prelude.IsClash, Prelude.OfResource, Prelude.OfType, Prelude.Part, Prelude.Registry, Prelude.uses, Prelude.writes, inner.Masks.ShareBit, inner.Masks.Collide}
@@ -18,7 +18,7 @@ collides r w s v first second f g = (
   ],
 )
 
--- the tests of the masks say whether there is such a part
+-- the tests of the masks say whether the two accesses conflict
 pub conflicts_lem : (a b : Access) (types resources : Bool) → IsTrue types
     ↔ Collide a.read_types a.write_types b.read_types b.write_types
     → IsTrue resources ↔ Collide a.read_res a.write_res b.read_res b.write_res

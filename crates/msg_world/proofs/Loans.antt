@@ -20,7 +20,7 @@ signal_stands l s lent stand Registry = grind (arith, stand Registry)
 
 -- ---- writing
 
--- what may be written is written by the access, and there
+-- a part that may be written is one that the access writes, and it is there
 is_written : (p : Part) (l : Lent) → IsSome (writable p l) → IsTrue (writes l.access p) × IsSome (slot p l.taken)
 is_written p l there = grind (arith, cases_Bool, false≢true)
 

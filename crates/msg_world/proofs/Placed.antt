@@ -75,7 +75,7 @@ module _ {X : Type 0} where
       let under = cases_lt j.slot n in
       grind (arith, here, under, placed_length, length-set, get_or_past, get_or-set_same, get_or-set_other, rest)
 
-  -- the same, where the part was read at its place
+  -- a part that was read at the first place of a slot is a part of that slot
   pub its_slot : (slot : ℕ) (ms : List (Moved X)) (i : ℕ) (m : Moved X) → IsFirstOf slot ms i → m ≡ get_or ms i m
       → m.slot ≡ slot
   its_slot slot ms i m f read = f.its m (slice_get-get_or ms i m f.there ∙ ap Some (sym read))

@@ -45,7 +45,7 @@ fn three_jobs<'a>(alloc: Global, dropped: &'a AtomicU64) -> Result<Vec<Counted<'
     Ok(jobs)
 }
 
-/// The successor of a drawn job, which is dropped.
+/// The result of a drawn job: its successor. The job is dropped.
 fn finish<'a>(rt: &impl Abort, job: Counted<'a>, value: u64, dropped: &'a AtomicU64) -> Counted<'a>
     ensures { result.value ≡ job.entry.value + 1 }
 {

@@ -1,4 +1,4 @@
-// Boxed systems of the three kinds, run on a loan of its own.
+// Boxed systems of the three kinds, each run on a loan of its own.
 ghost use Rattle.std.specs.Prelude.{◌≤◌, length};
 
 use crate::numbers::{res_no, type_no};

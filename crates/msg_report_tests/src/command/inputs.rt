@@ -4,7 +4,7 @@ use std::io;
 use std::io::{Error, ErrorKind, Read};
 use std::test::Fail;
 
-/// Gives so many bytes of 7, a few at each read, and then an error or the end.
+/// Gives `left` bytes, each of them 7, at most `at_once` at each read; then an error or the end.
 #[derive(Drop)]
 struct Drips {
     left: usize,
@@ -46,7 +46,8 @@ fn whole_inputs(rt: HostRuntime) -> Result<(), Fail> {
     Ok(())
 }
 
-/// The same, whether the reader fails behind them, and the fault. The last reader never ends.
+/// How many bytes there are, how many come at each read, whether the reader fails after them, and
+/// the fault. The last reader never ends.
 #[test]
 fn faults(rt: HostRuntime) {
     for (left, at_once, fails, want) in [

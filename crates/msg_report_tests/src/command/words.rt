@@ -3,6 +3,7 @@ use msg_command::{WordFault, parse_words};
 use std::alloc::{AllocError, Global};
 use std::test::Fail;
 
+/// The words of a line, which blanks part.
 pub fn words_of(alloc: Global, line: &str) -> Result<Vec<String>, AllocError> {
     let mut words = Vec::new(alloc);
     for word in line.split_whitespace() {

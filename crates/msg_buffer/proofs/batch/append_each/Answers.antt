@@ -1,6 +1,6 @@
 use Rattle.std.proofs.Common.{◌++◌, [], ◌∷◌, refl, ◌∙◌, arith}
 use Rattle.std.proofs.lemmas.{Fn.says_at, List.length-take, Slice.Zip.AllZip-long}
-use Rattle.msg_buffer.proofs.Made.{one_appended, one_more}
+use Rattle.msg_buffer.proofs.MadeMessages.{one_appended, one_more}
 use Rattle.msg_buffer.proofs.batch.append_each.Goals as goal
 
 pub loop-item-preserved : goal.loop-item-preserved

@@ -1,5 +1,5 @@
 use Rattle.std.proofs.Common.{sym, ◌∙◌}
-use Rattle.msg_system.proofs.Accesses.{uses_needs}
+use Rattle.msg_system.proofs.AccessesUseNeeds.{uses_needs}
 use Rattle.msg_exec.proofs.BuilderBuilds.{has_part}
 use Rattle.msg_exec.proofs.builder.fits.Goals as goal
 

@@ -1,6 +1,6 @@
 use Rattle.std.proofs.Common.{◌∙◌, ap, Some}
 use Rattle.serde_json.specs.View.{view, items_view}
-use Rattle.msg_files.proofs.ChecksByKind.{first_and_rest}
+use Rattle.msg_files.proofs.HeadedLists.{first_and_rest}
 use Rattle.msg_files.proofs.json.head_and_parts.Goals as goal
 
 pub returns-clause-headed : goal.returns-clause-headed

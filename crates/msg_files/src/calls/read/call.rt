@@ -14,7 +14,7 @@ use serde_json::Value;
 use std::alloc::Global;
 
 /// A call, where so many cursors were made before.
-#[tactic(auto, using(crate::proofs::ChecksByKind::headed_checked, crate::proofs::ChecksByKind::headed_denoted))]
+#[tactic(auto, using(crate::proofs::HeadedLists::headed_checked, crate::proofs::HeadedLists::headed_denoted))]
 pub fn read_call(alloc: Global, made: u32, value: &Value) -> Result<Call, Refusal>
     ensures is { Agrees (call_checks made (view value.now)) (call_of (view value.now)) result }
     ensures fits { IfOk result (FitsCursors made) }

@@ -23,7 +23,7 @@ impl Element for Op {
 
     ghost denotes = { op_of };
 
-    #[tactic(auto, using(msg_files::proofs::ChecksByKind::headed_checked, msg_files::proofs::ChecksByKind::headed_denoted))]
+    #[tactic(auto, using(msg_files::proofs::HeadedLists::headed_checked, msg_files::proofs::HeadedLists::headed_denoted))]
     fn read(alloc: Global, names: &Declarations, value: &Value) -> Result<Op, Refusal> {
         let (head, parts) = head_and_parts(value)?;
         read_parts(alloc, names, head, parts)

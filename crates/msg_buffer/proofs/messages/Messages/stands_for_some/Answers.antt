@@ -1,5 +1,5 @@
 use Rattle.std.proofs.Common.{arith}
-use Rattle.msg_buffer.proofs.Exists.{stands_for_some}
+use Rattle.msg_buffer.proofs.BuffersStandForSome.{stands_for_some}
 use Rattle.msg_buffer.proofs.messages.Messages.stands_for_some.Goals as goal
 
 pub returns : goal.returns

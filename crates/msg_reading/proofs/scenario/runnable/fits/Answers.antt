@@ -1,7 +1,7 @@
 use Rattle.std.proofs.Common.{arith, sym, ◌∙◌}
 use Rattle.msg_world.specs.Prelude.{OfType, OfResource}
 use Rattle.msg_system.specs.Prelude.{program_needs}
-use Rattle.msg_system.proofs.Accesses.{uses_needs}
+use Rattle.msg_system.proofs.AccessesUseNeeds.{uses_needs}
 use Rattle.msg_reading.proofs.scenario.runnable.fits.Goals as goal
 
 pub returns : goal.returns

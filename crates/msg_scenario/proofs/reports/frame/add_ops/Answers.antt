@@ -1,5 +1,5 @@
 use Rattle.msg_scenario.specs.Prelude.{answered_line}
-use Rattle.msg_scenario.proofs.ReportLines.{no_pair_left}
+use Rattle.msg_scenario.proofs.TextsByPieces.{no_pair_left}
 use Rattle.msg_scenario.proofs.reports.frame.add_ops.Goals as goal
 
 pub returns-clause-appends : goal.returns-clause-appends

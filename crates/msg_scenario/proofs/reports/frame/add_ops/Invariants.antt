@@ -1,6 +1,6 @@
 use Rattle.std.proofs.Common.{◌≡◌, ◌++◌, flat_map, zip}
 use Rattle.msg_scenario.specs.Prelude.{answered_line}
-use Rattle.msg_scenario.proofs.ReportLines.{pieces_left}
+use Rattle.msg_scenario.proofs.TextsByPieces.{pieces_left}
 use Rattle.msg_scenario.proofs.reports.frame.add_ops.Given as goal
 
 abbrev pub invariant-loop-start : goal.invariant-loop-start

@@ -1,6 +1,6 @@
 use Rattle.std.proofs.Common.{◌≡◌, ◌++◌}
 use Rattle.msg_scenario.specs.Prelude.{post_line, posts_text}
-use Rattle.msg_scenario.proofs.ReportLines.{pieces_left}
+use Rattle.msg_scenario.proofs.TextsByPieces.{pieces_left}
 use Rattle.msg_scenario.proofs.reports.frame.add_posts.Given as goal
 
 abbrev pub invariant-loop-t : goal.invariant-loop-t

@@ -1,7 +1,7 @@
 use Rattle.std.proofs.Common.{arith}
 use Rattle.std.proofs.lemmas.{Grind.common_steps, List.take_all, List.FromFn.length-enumerate_from}
 use Rattle.msg_scenario.specs.Prelude.{next_item}
-use Rattle.msg_scenario.proofs.ReportLines.{numbered_more}
+use Rattle.msg_scenario.proofs.TextsByPieces.{numbered_more}
 use Rattle.msg_scenario.proofs.reports.reply.add_more.Goals as goal
 
 pub loop-k-preserved : goal.loop-k-preserved

@@ -3,7 +3,7 @@ use Rattle.std.proofs.lemmas.Result.{err_from_is_err_and, on_err_weaker, on_ok_w
 use Rattle.msg_reading.specs.Prelude.{state_of}
 use Rattle.std.proofs.KnownBytes.{Appends-nil}
 use Rattle.msg_files.proofs.Puts.{on_err}
-use Rattle.msg_scenario.proofs.{ReportLines.zip-nil, Reporting.accounts_out, Reporting.out_printed, Reporting.readers_put, Reporting.readers_stopped, Reporting.stopped_before_all}
+use Rattle.msg_scenario.proofs.{TextsByPieces.zip-nil, Reporting.accounts_out, Reporting.out_printed, Reporting.readers_put, Reporting.readers_stopped, Reporting.stopped_before_all}
 use Rattle.msg_scenario.proofs.reports.run.report.Goals as goal
 
 pub loop-reported-init : goal.loop-reported-init

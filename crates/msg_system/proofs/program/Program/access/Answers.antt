@@ -1,7 +1,7 @@
 use Rattle.std.proofs.Common.{◌≡◌, take, arith, ◌∙◌}
 use Rattle.std.proofs.lemmas.List.{take_all}
 use Rattle.msg_system.specs.Prelude.{program_needs}
-use Rattle.msg_system.proofs.Accesses.{same_clash}
+use Rattle.msg_system.proofs.AccessesUseNeeds.{same_clash}
 use Rattle.msg_system.proofs.program.Program.access.Goals as goal
 
 pub returns-clause-needs : goal.returns-clause-needs

@@ -1,7 +1,7 @@
 use Rattle.std.proofs.Common.{map}
 use Rattle.serde_json.specs.View.{view}
 use Rattle.msg_reading.specs.Prelude.{op_checks_with}
-use Rattle.msg_files.proofs.ChecksByKind.{Agrees_of}
+use Rattle.msg_files.proofs.HeadedLists.{Agrees_of}
 use Rattle.msg_reading.proofs.ListsByParts.{one_of, two_of}
 use Rattle.msg_reading.proofs.scenario.read.op.read_parts.Goals as goal
 

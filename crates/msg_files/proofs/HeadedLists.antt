@@ -22,7 +22,7 @@ first_and_rest d [] v list least is = absurd (omega (arith, least))
 first_and_rest d (x ∷ xs) v list least is =
     rw (elements_are d (x ∷ xs) list, take_all (length (x ∷ xs) - 1) xs (omega arith), is) refl
 
--- ---- what agrees with equal checks
+-- ---- a list whose head is a name: what it is checked for, and what it denotes
 
 pub headed_checked : (f : Text → List Data → List Check) (d head : Data) (ps : List Data) (name : Text)
     → as_str head ≡ Some name → elements d ≡ head ∷ ps

@@ -1,4 +1,4 @@
--- Each buffer stands for some history, where its messages have a value.
+-- Each buffer stands for some history, if there is a value of the type of its messages.
 use Rattle.std.proofs.Common.{◌≡◌, ℕ, ◌+◌, ◌≤◌, List, ◌++◌, length, map, ◌∙◌, arith, length-append, replicate}
 use Rattle.std.proofs.lemmas.List.{length-map, length-replicate}
 use Rattle.msg_buffer.specs.Prelude.{Entry, History, Instance, Kept, StandsFor, count, current, kept_count, kept_instances, message_of, numbered, present, stamped}
