@@ -4,7 +4,7 @@ ghost use Rattle.msg_exec.specs.Prelude.{IsEngine};
 
 use crate::expecting::{expect_frame, posted, read};
 use crate::making::{engine_of, quiet, script};
-use msg_exec::{BuildRefusal, EngineBuilder, EngineOf, Workers};
+use msg_exec::{BuildRefusal, EngineBuilder, EngineOf};
 use msg_order::Rule;
 use msg_part_tests::numbers::type_no;
 use msg_system::{Op, Scripted, Start, System};
@@ -81,11 +81,4 @@ fn refusals_say_why(rt: HostRuntime) -> Result<(), Fail> {
          system 2; want of memory"
     );
     Ok(())
-}
-
-#[test]
-fn workers(rt: HostRuntime) {
-    for (number, is_there) in [(0, false), (1, true), (64, true), (65, false)] {
-        assert_eq!(rt; Workers::new(number).is_some(), is_there, "{number}");
-    }
 }

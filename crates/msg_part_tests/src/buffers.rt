@@ -2,29 +2,8 @@
 use msg_buffer::laws::{
     histories_only_grow, messages_outlive_one_update, readers_tile, reads_may_be_left,
 };
-use msg_buffer::{BatchRefusal, MessageCursor, MessageId, Messages, WriteRefusal, Written};
+use msg_buffer::{BatchRefusal, MessageCursor, MessageId, Messages, WriteRefusal};
 use std::test::Fail;
-
-#[test]
-fn last_number(rt: HostRuntime) -> Result<(), Fail> {
-    let mut buffer: Messages<i64> = Messages::new(rt.alloc(), 2);
-    assert!(rt; buffer.is_empty());
-    let batch = Vec::from_slice(rt.alloc(), &[1, 2, 3])?;
-    match buffer.write_batch(batch) {
-        Err(BatchRefusal::NumbersSpent(batch)) => assert_eq!(rt;
-            batch.as_slice(),
-            [1, 2, 3].as_slice()
-        ),
-        _other => assert!(rt; false),
-    }
-    assert!(rt; buffer.write(4).is_ok());
-    assert!(rt; buffer.write(5).is_ok());
-    assert!(rt; matches!(buffer.write(6), Err(WriteRefusal::NumbersSpent(6))));
-    let none = buffer.write_batch(Vec::new(rt.alloc()));
-    assert_eq!(rt; none.ok(), Some(Written { first: 2, n: 0 }));
-    assert_eq!(rt; buffer.get(MessageId(u64::MAX)), None);
-    Ok(())
-}
 
 #[test]
 fn cursor_past_the_count(rt: HostRuntime) -> Result<(), Fail> {

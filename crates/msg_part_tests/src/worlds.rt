@@ -5,8 +5,8 @@ ghost use Rattle.msg_world.specs.Prelude.{IsWhole, SameLoan, SameShape};
 use crate::numbers::{res_no, type_no};
 use msg_buffer::{MessageId, NoMemory, WriteRefusal};
 use msg_world::laws::{
-    host_comes_after_systems, lent_parts_are_a_loan, lent_parts_may_come_home, loans_end,
-    loans_stand_side_by_side, writes_stand, written_parts_come_home,
+    lent_parts_are_a_loan, lent_parts_may_come_home, loans_end, loans_stand_side_by_side,
+    writes_stand, written_parts_come_home,
 };
 use msg_world::{Access, HOST, Lent, Record, ResNo, TypeNo, World};
 use std::process::Abort;
@@ -208,9 +208,4 @@ fn a_loan_that_ends_leaves_what_it_wrote(rt: HostRuntime) -> Result<(), Fail> {
     assert_eq!(rt; world.resource(r), Some(7));
     assert_eq!(rt; world.post(t, 5).ok(), Some(MessageId(1)));
     Ok(())
-}
-
-#[test]
-fn the_number_of_the_host() {
-    host_comes_after_systems();
 }
