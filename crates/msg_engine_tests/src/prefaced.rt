@@ -22,8 +22,8 @@ pub fn note(noted: &AtomicU64, digit: u64) {
 /// What is done before a run.
 #[derive(Drop)]
 pub enum Before {
-    /// After this number of runs there is no memory.
-    FailAfter(u32),
+    /// There is no memory for it.
+    Fail,
     /// The run is counted.
     Count(Arc<AtomicU64>),
     /// The run is noted by this digit.
@@ -33,8 +33,7 @@ pub enum Before {
 impl Before {
     fn run(&mut self) -> Result<(), NoMemory> {
         match self {
-            Before::FailAfter(0) => return Err(NoMemory),
-            Before::FailAfter(runs) => *runs -= 1,
+            Before::Fail => return Err(NoMemory),
             Before::Count(runs) => {
                 runs.fetch_add(1, Ordering::SeqCst);
             }

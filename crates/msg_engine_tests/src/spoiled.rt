@@ -40,13 +40,12 @@ pub fn expect_spoiled<R: Threads + Sync + Abort, S: System>(
     assert_eq!(rt; engine.frames_run(), frames_run);
 }
 
-/// An engine of readers of one type. The first of them has memory for `first_runs` runs; the runs
-/// of the others are counted.
+/// An engine of readers of one type. The first of them has no memory for its run; the runs of the
+/// others are counted.
 fn failing_engine(
     rt: &impl Abort,
     alloc: Global,
     readers: u32,
-    first_runs: u32,
     runs: &Arc<AtomicU64>,
 ) -> Result<EngineOf<Prefaced<Scripted>>, Fail>
     ensures engine { IfOk result (IsEngine ⟦<Prefaced<Scripted> as System>⟧.meaning) }
@@ -54,7 +53,7 @@ fn failing_engine(
     let mut systems = EngineBuilder::new(alloc);
     for system in 0..readers {
         let before = if system == 0 {
-            Before::FailAfter(first_runs)
+            Before::Fail
         } else {
             Before::Count(Arc::try_clone(runs)?)
         };
@@ -64,22 +63,6 @@ fn failing_engine(
     Ok(systems.build(World::new(alloc, &[10], &[])?)?)
 }
 
-/// In the second frame the reader has no memory, and that spoils the engine.
-#[test]
-fn a_frame_without_memory_spoils_its_engine(rt: HostRuntime) -> Result<(), Fail> {
-    let frame = quiet(rt.alloc());
-    let runs = Arc::new(rt.alloc(), AtomicU64::new(0))?;
-    for number in [1, 2, 7, 64] {
-        let mut engine = failing_engine(&rt, rt.alloc(), 1, 1, &runs)?;
-        let first = run_frame(&rt, &mut engine, &frame, number, &NoGate);
-        assert!(rt; first.is_ok(), "{number}");
-        let second = run_frame(&rt, &mut engine, &frame, number, &NoGate);
-        assert!(rt; matches!(second, Err(RunFault::NoMemory)), "{number}");
-        expect_spoiled(&rt, rt.alloc(), &mut engine, 1);
-    }
-    Ok(())
-}
-
 /// Where one job has no memory, the other workers run the other jobs of its batch; where it is the
 /// only worker's, no job runs after it.
 #[test]
@@ -87,7 +70,7 @@ fn the_others_run_where_one_has_no_memory(rt: HostRuntime) -> Result<(), Fail> {
     let alloc = rt.alloc();
     for (readers, workers, run) in [(2, 1, 0), (2, 2, 1), (5, 2, 4), (5, 64, 4)] {
         let runs = Arc::new(alloc, AtomicU64::new(0))?;
-        let mut engine = failing_engine(&rt, alloc, readers, 0, &runs)?;
+        let mut engine = failing_engine(&rt, alloc, readers, &runs)?;
         let gate = HoldGate::new(workers, [true; 5], workers.min(readers) as u64);
         let log = run_frame(&rt, &mut engine, &quiet(alloc), workers, &gate);
         assert!(rt; matches!(log, Err(RunFault::NoMemory)));

@@ -3,7 +3,7 @@ use crate::sparing::{sparing_engine, workers};
 use msg_exec::NoGate;
 use msg_frames::{Frame, Items, Place};
 use msg_order::Rule;
-use msg_scenario::{Kind, MemorySink, Name, Refusal, Scenario, SystemSpec, report};
+use msg_scenario::{Kind, MemorySink, Name, Scenario, SystemSpec, report};
 use msg_system::{Op, Program, Start};
 use msg_world::TypeNo;
 use std::alloc::Global;
@@ -98,25 +98,4 @@ fn scenarios_that_cant_be_run(rt: HostRuntime) {
         };
         assert_eq!(rt; scenario.is_runnable(alloc), Ok(false));
     }
-}
-
-#[test]
-fn names_are_tested(rt: HostRuntime) -> Result<(), Fail> {
-    let alloc = rt.alloc();
-    for text in [
-        "",
-        "host",
-        "Hit",
-        "a b",
-        "a23456789_123456789_123456789_123",
-    ] {
-        assert_eq!(rt;
-            Name::new(alloc, text).err(),
-            Some(Refusal::BadName),
-            "{text}"
-        );
-    }
-    let name = Name::new(alloc, "a23456789_123456789_123456789_12")?;
-    assert_eq!(rt; name.as_str(), "a23456789_123456789_123456789_12");
-    Ok(())
 }
