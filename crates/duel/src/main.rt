@@ -17,30 +17,43 @@ use role::{Fighter, Role};
 use std::alloc::Global;
 use std::thread::Threads;
 
-/// Three fighters in a ring, which are the systems 0 to 2, and a referee, which is system 3. Each
-/// fighter takes turns until two have fallen; the third joins with frame 3. A rule puts the referee
-/// before the fighters, though it is added after them. The messages of type i are the blows to
-/// fighter i, those of type 3 are the falls, and the resource counts the fallen.
+/// The fighters are the systems from 0 on, and the referee is the system after them.
+const FIGHTERS: u32 = 3;
+
+/// The health that a fighter begins with.
+const HEALTH: i64 = 3;
+
+/// The frame with which the last fighter joins.
+const LATE: u32 = 3;
+
+/// The resource that counts the fallen.
+fn fallen() -> ResNo {
+    ResNo::new(0).unwrap()
+}
+
+/// Fighters in a ring, and a referee. Each fighter takes turns until two have fallen. A rule puts
+/// the referee before the fighters, though it is added after them. The messages of type i are the
+/// blows to fighter i, and those of the type after these are the falls.
 fn ring(alloc: Global) -> anyhow::Result<EngineBuilder<BehaviorSystem<Role>>> {
-    let (falls, fallen) = (TypeNo::new(3).unwrap(), ResNo::new(0).unwrap());
+    let falls = TypeNo::new(FIGHTERS).unwrap();
     let mut ring = EngineBuilder::new(alloc);
-    for number in 0..3u32 {
+    for number in 0..FIGHTERS {
         let fighter = Fighter {
             blows: TypeNo::new(number).unwrap(),
-            rival: TypeNo::new((number + 1) % 3).unwrap(),
+            rival: TypeNo::new((number + 1) % FIGHTERS).unwrap(),
             falls,
-            health: 3,
+            health: HEALTH,
         };
         let until_two_fell = Condition {
             nots: 1,
-            probe: Probe::ResourceEquals(fallen, 2),
+            probe: Probe::ResourceEquals(fallen(), 2),
         };
-        let join = if number == 2 { 3 } else { 1 };
+        let join = if number + 1 == FIGHTERS { LATE } else { 1 };
         let conditions = vec![in alloc; until_two_fell]?;
         ring.add_system(Role::Fighter(fighter).system(alloc), conditions, join)?;
-        ring.add_rule(Rule::before(3, number))?;
+        ring.add_rule(Rule::before(FIGHTERS, number))?;
     }
-    let referee = Role::Referee(falls, fallen).system(alloc);
+    let referee = Role::Referee(falls, fallen()).system(alloc);
     ring.add_system(referee, Vec::new(alloc), 1)?;
     Ok(ring)
 }
@@ -87,6 +100,9 @@ fn main(rt: HostRuntime) -> anyhow::Result<()> {
             "system {} got {} missed {}",
             account.system, account.got, account.missed
         )?;
+    }
+    if let Some(count) = engine.world().and_then(|world| world.resource(fallen())) {
+        println!(rt; "{count} of {FIGHTERS} fighters fell")?;
     }
     Ok(())
 }

@@ -2,7 +2,7 @@
 ghost use Rattle.std.specs.Prelude.{IfOk};
 ghost use Rattle.msg_exec.specs.Prelude.{IsEngine};
 
-use crate::making::{frame_of, quiet, replay, run_frame};
+use crate::making::{NUMBERS, frame_of, quiet, replay, run_frame};
 use msg_exec::{EngineBuilder, EngineOf, Frame, Log, NoGate, Outcome, RunFault};
 use msg_part_tests::numbers::type_no;
 use msg_system::{
@@ -13,8 +13,6 @@ use std::alloc::Global;
 use std::process::Abort;
 use std::test::Fail;
 use std::thread::Threads;
-
-const NUMBERS: [u32; 4] = [1, 2, 7, 64];
 
 /// Writes `writes` messages to the type `here` in one turn, and to the type `there` in the next.
 #[derive(Drop)]

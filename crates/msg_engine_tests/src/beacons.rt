@@ -1,6 +1,6 @@
 // A system of one's own, whose turn is one write.
 use crate::expecting::{expect_frame, wrote};
-use crate::making::quiet;
+use crate::making::{NUMBERS, quiet};
 use crate::prefaced::{Before, Prefaced};
 use msg_exec::EngineBuilder;
 use msg_part_tests::numbers::type_no;
@@ -61,7 +61,7 @@ impl Numbered for Beacon {
 #[test]
 fn a_system_of_ones_own(rt: HostRuntime) -> Result<(), Fail> {
     let (alloc, frame) = (rt.alloc(), quiet(rt.alloc()));
-    for number in [1, 2, 7, 64] {
+    for number in NUMBERS {
         let runs = Arc::new(alloc, AtomicU64::new(0))?;
         let mut systems = EngineBuilder::new(alloc);
         for to in [type_no(0), type_no(1)] {

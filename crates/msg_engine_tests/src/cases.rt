@@ -1,12 +1,10 @@
 // Worked runs that `run_frame` keeps, each on 1, 2, 7 and 64 workers.
 use crate::expecting::{Step, by, expect_frame, posted, read, wrote};
-use crate::making::{engine_of, frame_of, quiet};
+use crate::making::{NUMBERS, engine_of, frame_of, quiet};
 use msg_order::Rule;
 use msg_part_tests::numbers::type_no;
 use msg_system::{Items, Op};
 use std::test::Fail;
-
-const NUMBERS: [u32; 4] = [1, 2, 7, 64];
 
 #[test]
 fn one_frames_lag(rt: HostRuntime) -> Result<(), Fail> {

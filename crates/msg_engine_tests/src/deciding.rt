@@ -3,7 +3,7 @@ ghost use Rattle.std.specs.Prelude.{IfOk};
 ghost use Rattle.msg_exec.specs.Prelude.{IsEngine};
 
 use crate::adders::Adder;
-use crate::making::{frame_of, run_frame};
+use crate::making::{NUMBERS, frame_of, run_frame};
 use msg_exec::{EngineBuilder, EngineOf, NoGate};
 use msg_part_tests::numbers::type_no;
 use msg_system::{Access, BehaviorSystem, Start, System};
@@ -56,7 +56,7 @@ fn engine_of_one(alloc: Global) -> Result<EngineOf<BehaviorSystem<Adder>>, Fail>
 fn a_sum_goes_out_in_its_turn(rt: HostRuntime) -> Result<(), Fail> {
     let (alloc, from) = (rt.alloc(), type_no(0));
     let two = [(from, 5), (from, 6)];
-    for number in [1, 2, 7, 64] {
+    for number in NUMBERS {
         let mut engine = engine_of_one(alloc)?;
         expect_frame_writes(&rt, alloc, &mut engine, number, &two, &[11])?;
         expect_frame_writes(&rt, alloc, &mut engine, number, &[], &[])?;

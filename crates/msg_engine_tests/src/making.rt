@@ -12,6 +12,9 @@ use std::alloc::Global;
 use std::process::Abort;
 use std::thread::Threads;
 
+/// How many workers the worked runs are run on.
+pub const NUMBERS: [u32; 4] = [1, 2, 7, 64];
+
 /// A script of these ops.
 pub fn script(
     rt: &impl Abort,
