@@ -51,13 +51,12 @@ pub(crate) fn run_in_boxes<R: Threads + Sync, S: Sink>(
     let specs = scenario.systems.as_slice();
     for spec in specs {
         let writer = systems.len() as u32;
-        match spec.kind {
-            Kind::Script => {
-                add_system(specs, spec, &mut systems, scripted_of(alloc, spec, writer)?)?
-            }
-            Kind::Relay => add_system(specs, spec, &mut systems, relay_of(alloc, spec, writer)?)?,
-            Kind::Tally => add_system(specs, spec, &mut systems, tally_of(alloc, spec, writer)?)?,
-        }
+        let system: Box<dyn System> = match spec.kind {
+            Kind::Script => scripted_of(alloc, spec, writer)?,
+            Kind::Relay => relay_of(alloc, spec, writer)?,
+            Kind::Tally => tally_of(alloc, spec, writer)?,
+        };
+        add_system(specs, spec, &mut systems, system)?;
     }
     run_scenario(rt, alloc, scenario, systems, workers, &NoGate, sink)
 }
