@@ -17,7 +17,7 @@ use role::{Fighter, Role};
 use std::alloc::Global;
 use std::thread::Threads;
 
-/// The fighters are the systems from 0 on, and the referee is the system after them.
+/// How many fighters there are. They are the first systems, and the referee is the one after them.
 const FIGHTERS: u32 = 3;
 
 /// The health that a fighter begins with.
