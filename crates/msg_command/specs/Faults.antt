@@ -4,7 +4,7 @@ use Rattle.msg_command.specs.{declared.fault.MainFault.MainFault, declared.fault
 use Rattle.msg_command.specs.declared.words.WordFault.TheVariants as word
 use Rattle.msg_command.specs.declared.input.InputFault.TheVariants as input
 use Rattle.msg_files.specs.declared.refusal.Refusal.TheVariants as refusal
-use Rattle.msg_system.specs.declared.run_fault.RunFault.TheVariants as run
+use Rattle.msg_world.specs.declared.run_fault.RunFault.TheVariants as run
 use Rattle.msg_files.specs.declared.report_fault.ReportFault.TheVariants as report
 
 -- the line of a fault. A refusal and a run fault have their number and name there, but a refusal

@@ -93,7 +93,7 @@ fn accounts_in<S: System>(alloc: Global, core: &Core<S>) -> Result<Vec<Account>,
 
 impl<S: System> EngineOf<S> {
     ghost use Rattle.std.specs.Prelude.{◌↔◌, All, Err};
-    ghost use Rattle.msg_system.specs.declared.run_fault.RunFault.TheVariants.{BadOrder, Spoiled};
+    ghost use Rattle.msg_world.specs.declared.run_fault.RunFault.TheVariants.{BadOrder, Spoiled};
     ghost use Rattle.msg_frames.specs.Prelude.{AddsUp};
     ghost use Rattle.msg_exec.specs.Engines.{IsEngine, IsSpoiled, EngineStands};
 

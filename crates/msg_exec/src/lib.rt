@@ -24,6 +24,6 @@ pub use builder::EngineBuilder;
 pub use engine::{Engine, EngineOf};
 pub use msg_buffer::NoMemory;
 pub use msg_frames::{Account, Frame, Items, Log, Outcome, Place, Totals, Turn, laws, reader_laws};
-pub use msg_system::RunFault;
 pub use msg_workers::{Gate, NoGate, Runs, Workers, work};
+pub use msg_world::RunFault;
 pub use side_by_side::Batch;

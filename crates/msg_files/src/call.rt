@@ -1,4 +1,4 @@
-use msg_system::Items;
+use msg_world::Items;
 
 /// One call on a buffer of `i64` and its cursors. A cursor is named by its number, from 0 on in the
 /// order of their making.

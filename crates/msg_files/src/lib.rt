@@ -20,7 +20,7 @@ pub use calls::{Calls, read_calls, run_calls};
 pub use limits::{MAX_LIMIT, MAX_VALUES};
 pub use memory_sink::{MemorySink, ROOM};
 pub use msg_buffer::NoMemory;
-pub use msg_system::RunFault;
+pub use msg_world::RunFault;
 pub use refusal::Refusal;
 pub use report_fault::ReportFault;
 pub use sink::{PutFault, Sink, put_all, put_text};

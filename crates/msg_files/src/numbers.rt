@@ -7,7 +7,7 @@ ghost use Rattle.msg_files.specs.declared.refusal.Refusal.TheVariants.{TooMany};
 
 use crate::limits::MAX_VALUES;
 use crate::refusal::Refusal;
-use msg_system::Items;
+use msg_world::Items;
 use serde_json::{Number, Value};
 use std::alloc::Global;
 

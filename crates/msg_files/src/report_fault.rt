@@ -1,7 +1,7 @@
 ghost use Rattle.std.specs.Prelude.{◌≡◌};
 
 use msg_buffer::NoMemory;
-use msg_system::RunFault;
+use msg_world::RunFault;
 use thiserror::Error;
 
 /// Why the answers of a calls file, or the report of a scenario, weren't printed to their end.

@@ -12,6 +12,6 @@ mod totals;
 pub use account::Account;
 pub use frame::Frame;
 pub use log::{Log, Outcome, Turn};
-pub use msg_system::Items;
+pub use msg_world::Items;
 pub use place::Place;
 pub use totals::Totals;

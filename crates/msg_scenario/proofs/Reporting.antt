@@ -10,7 +10,7 @@ use Rattle.msg_exec.specs.Prelude.{HasRunFrame, IsSpoiled, EngineStands, frame_n
 use Rattle.msg_frames.specs.{declared.account.Account.Account, declared.frame.Frame.Frame, declared.log.Log.Log}
 use Rattle.msg_exec.specs.declared.engine.EngineOf.{EngineOf}
 use Rattle.msg_exec.proofs.EngineRunsFrames.{run_more}
-use Rattle.msg_system.specs.{declared.run_fault.RunFault.RunFault, declared.run_fault.RunFault.TheVariants.BadOrder, declared.run_fault.RunFault.TheVariants.NoMemory, declared.run_fault.RunFault.TheVariants.Spoiled}
+use Rattle.msg_world.specs.{declared.run_fault.RunFault.RunFault, declared.run_fault.RunFault.TheVariants.BadOrder, declared.run_fault.RunFault.TheVariants.NoMemory, declared.run_fault.RunFault.TheVariants.Spoiled}
 use Rattle.msg_files.specs.Prelude.{AppendsPrefix, Text}
 use Rattle.msg_scenario.specs.Prelude.{HasPrinted, HasReported, HasRunOut, HasStopped, accounts_text, frame_text, frames_text, text_so_far}
 use Rattle.msg_reading.specs.Prelude.{state_of}

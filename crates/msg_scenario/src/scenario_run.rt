@@ -1,6 +1,6 @@
 // A scenario, run to its end by an engine that is made for it.
 ghost use Rattle.std.specs.Prelude.{◌≡◌, ◌≢◌, ◌⊎◌, Ok, Err, IfOk, OnErr, OnOk, length};
-ghost use Rattle.msg_system.specs.declared.run_fault.RunFault.TheVariants.{BadOrder, NoMemory as NoRoom, Spoiled};
+ghost use Rattle.msg_world.specs.declared.run_fault.RunFault.TheVariants.{BadOrder, NoMemory as NoRoom, Spoiled};
 ghost use Rattle.msg_exec.specs.Prelude.{EachIs};
 ghost use Rattle.msg_files.specs.Prelude.{one_failure_more};
 ghost use Rattle.msg_reading.specs.Prelude.{IsRunnable};

@@ -6,7 +6,6 @@ mod behavior_system;
 mod condition;
 mod cursors;
 mod guard;
-mod items;
 mod job;
 mod laws;
 mod lending;
@@ -16,7 +15,6 @@ mod program;
 mod reading;
 mod relay;
 mod reply;
-mod run_fault;
 mod scripted;
 mod start;
 mod steps;
@@ -28,7 +26,6 @@ pub use behavior_system::BehaviorSystem;
 pub use condition::{Condition, Probe};
 pub use cursors::Cursors;
 pub use guard::Guard;
-pub use items::Items;
 pub use job::job_access;
 pub use laws::{
     a_program_is_its_ops_in_order, nothing_else_is_used, one_op_is_a_turn, open_loans_cover,
@@ -36,13 +33,12 @@ pub use laws::{
 };
 pub use lending::added_up;
 pub use msg_buffer::NoMemory;
-pub use msg_world::Access;
+pub use msg_world::{Access, Items};
 pub use numbered::Numbered;
 pub use op::Op;
 pub use program::Program;
 pub use relay::Relay;
 pub use reply::{Reply, Took, brought};
-pub use run_fault::RunFault;
 pub use scripted::Scripted;
 pub use start::Start;
 pub use system::System;

@@ -177,17 +177,3 @@ impl Op {
         })
     }
 }
-
-impl Items<Op> {
-    /// A copy of the ops. Where there are none it takes no memory.
-    pub fn copy(&self, alloc: Global) -> Result<Items<Op>, NoMemory>
-        ensures equal { IfOk result (λ ops. ops ≡ self.now) }
-        ensures refused { OnErr result (0 < length self.now) }
-    {
-        let mut ops = Vec::new(alloc);
-        for op in self.as_slice() {
-            ops.push(op.copy(alloc)?)?;
-        }
-        Ok(Items::from_vec(ops))
-    }
-}

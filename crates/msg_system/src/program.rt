@@ -36,8 +36,12 @@ impl Program {
         ensures equal { IfOk result (λ p. p ≡ self.now) }
         ensures refused { OnErr result (0 < length self.now.ops) }
     {
+        let mut ops = Vec::new(alloc);
+        for op in self.ops.as_slice() {
+            ops.push(op.copy(alloc)?)?;
+        }
         Ok(Program {
-            ops: self.ops.copy(alloc)?,
+            ops: Items::from_vec(ops),
             start: self.start,
         })
     }

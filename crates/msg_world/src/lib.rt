@@ -7,6 +7,7 @@
 
 mod access;
 mod counts;
+mod items;
 pub mod laws;
 mod lent;
 mod marks;
@@ -14,6 +15,7 @@ mod masks;
 mod moved;
 mod record;
 mod res_no;
+mod run_fault;
 mod slots;
 mod taken;
 mod type_no;
@@ -21,10 +23,12 @@ mod world;
 
 pub use access::Access;
 pub use counts::Counts;
+pub use items::Items;
 pub use lent::Lent;
 pub use msg_buffer::NoMemory;
 pub use record::{HOST, Record};
 pub use res_no::ResNo;
+pub use run_fault::RunFault;
 pub use taken::Taken;
 pub use type_no::TypeNo;
 pub use world::World;

@@ -1,6 +1,6 @@
 // A scenario, run to its end by systems in boxes.
 ghost use Rattle.std.specs.Prelude.{◌≡◌, ◌≢◌, ◌⊎◌, Ok, Err, IfOk, OnErr, OnOk};
-ghost use Rattle.msg_system.specs.declared.run_fault.RunFault.TheVariants.{BadOrder, NoMemory as NoRoom, Spoiled};
+ghost use Rattle.msg_world.specs.declared.run_fault.RunFault.TheVariants.{BadOrder, NoMemory as NoRoom, Spoiled};
 ghost use Rattle.msg_files.specs.Prelude.{one_failure_more};
 ghost use Rattle.msg_reading.specs.Prelude.{IsRunnable};
 ghost use Rattle.msg_scenario.specs.Prelude.{HasPrinted, IsReported, PrintedFrames, PrintedSome};

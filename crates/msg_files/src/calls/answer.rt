@@ -9,7 +9,7 @@ use crate::numerals::add_count;
 use msg_buffer::{
     BatchRefusal, Instance, MessageCursor, MessageId, Messages, NoMemory, WriteRefusal,
 };
-use msg_system::Items;
+use msg_world::Items;
 use std::alloc::Global;
 
 /// Makes a call, and adds its line to the text.

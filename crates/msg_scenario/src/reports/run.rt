@@ -1,7 +1,7 @@
 // The report of a scenario: frame by frame, and then the readers.
 ghost use Rattle.std.specs.Prelude.{◌≡◌, ◌≢◌, ◌⊎◌, ◌+◌, ◌<◌, ℕ, All, Err, List, OnOk, OnErr, Option, length};
 ghost use Rattle.msg_exec.specs.Prelude.{EngineStands};
-ghost use Rattle.msg_system.specs.declared.run_fault.RunFault.TheVariants.{BadOrder, NoMemory, Spoiled};
+ghost use Rattle.msg_world.specs.declared.run_fault.RunFault.TheVariants.{BadOrder, NoMemory, Spoiled};
 ghost use Rattle.msg_scenario.specs.Prelude.{HasPrinted, HasReported, HasRunOut, HasStopped};
 ghost use Rattle.msg_reading.specs.Prelude.{PostsAreToTypes, state_of};
 ghost use Rattle.msg_files.specs.Prelude.{one_failure_more};

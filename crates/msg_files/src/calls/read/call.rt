@@ -9,7 +9,7 @@ use crate::json::head_and_parts;
 use crate::limits::MAX_CURSORS;
 use crate::numbers::{batch_values, list_of_numbers};
 use crate::refusal::Refusal;
-use msg_system::Items;
+use msg_world::Items;
 use serde_json::Value;
 use std::alloc::Global;
 

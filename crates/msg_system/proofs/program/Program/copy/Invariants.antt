@@ -1,5 +1,5 @@
 use Rattle.std.proofs.Common.{◌≡◌, take}
-use Rattle.msg_system.proofs.op.Items+Op.copy.Given as goal
+use Rattle.msg_system.proofs.program.Program.copy.Given as goal
 
 abbrev pub invariant-loop-op : goal.invariant-loop-op
 invariant-loop-op l = l.ops.items ≡ take l.op-index l.op-items
