@@ -56,6 +56,18 @@ module _ {J : Type 0} where
 
 -- ---- a worker, and those after it
 
+-- what holds of each pass of two lists, by its number
+each_of : {J : Type 0} (W : ℕ → PassState J → Type 0) (first : ℕ) (ps qs : List (PassState J))
+    → ((k : ℕ) (p : PassState J) → slice_get ps k ≡ Some p → W (first + k) p)
+    → ((k : ℕ) (p : PassState J) → slice_get qs k ≡ Some p → W (first + length ps + k) p)
+    → (k : ℕ) (p : PassState J) → slice_get (ps ++ qs) k ≡ Some p → W (first + k) p
+each_of W first [] qs one other k p at = subst (λ n. W n p) (omega arith) (other k p at)
+each_of W first (q ∷ ps) qs one other zero p at = one zero p at
+each_of W first (q ∷ ps) qs one other (suc k) p at =
+    subst (λ n. W n p) (omega arith) (each_of W (first + 1) ps qs
+    (λ k p at. subst (λ n. W n p) (omega arith) (one (suc k) p at))
+    (λ k p at. subst (λ n. W n p) (omega arith) (other k p at)) k p at)
+
 module _ {J : Type 0} {b : BoardView J} {Such : ℕ → J → Type 0} where
   -- a worker has worked, and so have those after it
   pub by_next : {worker : ℕ} {p : PassState J} {ps : List (PassState J)} → HasWorked b (Such worker) p
@@ -70,6 +82,16 @@ module _ {J : Type 0} {b : BoardView J} {Such : ℕ → J → Type 0} where
           subst (λ w. EachNewIs (Such w) (jobs_of b) [] q.drawn) (omega arith) (rw same at one.each)
       each (suc k) q at =
           subst (λ w. EachNewIs (Such w) (jobs_of b) [] q.drawn) (omega arith) (others.each k q at)
+
+  -- the workers of some passes have worked, and so have those of the passes after these
+  pub by_parts : {first next : ℕ} {ps qs : List (PassState J)} → HaveWorked b Such first ps → HaveWorked b Such next qs
+      → next ≡ first + length ps → HaveWorked b Such first (ps ++ qs)
+  by_parts {first} {next} {ps} {qs} one other is =
+      record {
+        ended = All-append (HasEnded b) ps qs one.ended other.ended;
+        each = each_of (λ n p. EachNewIs (Such n) (jobs_of b) [] p.drawn) first ps qs one.each
+            (rw is at other.each);
+      }
 
 -- ---- more workers, and more systems
 

@@ -1,5 +1,5 @@
 // Workers side by side.
-ghost use Rattle.std.specs.Prelude.{◌≡◌, ◌+◌, ◌≤◌, ◌⊎◌, ℕ, All, IfOk, OnOk, Some, length, min, slice_get};
+ghost use Rattle.std.specs.Prelude.{◌≡◌, ◌+◌, ◌<◌, ◌≤◌, ◌⊎◌, ℕ, All, IfOk, OnOk, Some, length, min, slice_get};
 ghost use Rattle.std.specs.Thread.{IsSend, IsSync};
 ghost use Rattle.msg_board.specs.Prelude.{IsLawfulOutcome, IsNewPass, jobs_of};
 ghost use Rattle.msg_workers.specs.Work.{EachMay, PassedGate};
@@ -42,21 +42,6 @@ struct Shared<'a, W: Work, G> {
     run_out: &'a AtomicBool,
 }
 
-/// The part of a worker that starts no other: it draws jobs until there is none left.
-fn work_alone<W: Runs, G: Gate>(
-    shared: &Shared<W, G>,
-    worker: u32,
-    pass: &mut Pass<W::Job, W::Done>,
-)
-    requires new { IsNewPass shared.now.board.now pass.old }
-    requires may { EachMay W.may (jobs_of shared.now.board.now) }
-    ensures worked { HasWorked shared.now.board.now
-        (λ job. G.passed shared.now.gate.now worker (W.system_of job)) pass.new }
-{
-    let first = shared.board.draw(pass);
-    work_on(shared.alloc, shared.board, shared.gate, worker, first, pass);
-}
-
 /// Lets the workers of these passes draw all jobs that are left, and gives how many the first of
 /// them ran. They are numbered from `worker` on, and the first draws in this thread. Where it gets
 /// a job, `at_once` others, but at least one, begin in new threads before that job is run. Where it
@@ -89,21 +74,24 @@ fn work_from<R: Threads + Sync, W: Runs + Send, G: Gate>(
     }
 }
 
-/// A worker runs the job that it drew first, and draws on, beside the others, who are numbered from
-/// `next` on. `at_once` of them begin before it runs that job, and the last of these lets the rest
-/// begin where it gets a job. Gives how many jobs it ran.
+/// Starts a thread in which the next worker draws, while this worker runs the job that it drew first
+/// and draws on here. The others are numbered from `next` on. Where more than one is to begin at
+/// once, the next worker starts no other, and this worker starts the rest before it runs its job;
+/// else the next worker may start the one after it, and first looks for a while whether the jobs
+/// run out: short ones are drawn here by then, and it starts none. Gives how many jobs it ran.
 #[cycle(workers)]
 fn work_beside<R: Threads + Sync, W: Runs + Send, G: Gate>(
     rt: &R,
     shared: &Shared<W, G>,
     worker: u32,
-    first: Option<(usize, W::Job)>,
+    mut first: Option<(usize, W::Job)>,
     pass: &mut Pass<W::Job, W::Done>,
     next: u32,
     at_once: u32,
     others: &mut [Pass<W::Job, W::Done>],
 ) -> u32
     requires few { next + length others.old ≤ 64 }
+    requires some { 0 < length others.old }
     requires first { IsFirstDraw shared.now.board.now pass.old first }
     requires new { All (IsNewPass shared.now.board.now) others.old }
     requires may { EachMay W.may (jobs_of shared.now.board.now) }
@@ -112,120 +100,51 @@ fn work_beside<R: Threads + Sync, W: Runs + Send, G: Gate>(
     ensures others { HaveWorked shared.now.board.now
         (λ worker job. G.passed shared.now.gate.now worker (W.system_of job)) next others.new }
 {
-    if at_once <= 1 || others.len() <= 1 {
-        return begin_rest(rt, shared, worker, first, pass, next, others);
-    }
-    let Some((one, rest)) = others.split_first_mut() else {
-        unreachable!()
-    };
-    begin_one(rt, shared, worker, first, pass, next, at_once, one, rest)
-}
-
-/// Starts a thread in which the next worker draws, and lets it start the one after it, while this
-/// worker runs its job and draws on here. Where there is another to start, the next first looks for
-/// a while whether the jobs run out: short ones are drawn here by then, and it starts none.
-#[cycle(workers)]
-fn begin_rest<R: Threads + Sync, W: Runs + Send, G: Gate>(
-    rt: &R,
-    shared: &Shared<W, G>,
-    worker: u32,
-    mut first: Option<(usize, W::Job)>,
-    pass: &mut Pass<W::Job, W::Done>,
-    next: u32,
-    rest: &mut [Pass<W::Job, W::Done>],
-) -> u32
-    requires few { next + length rest.old ≤ 64 }
-    requires first { IsFirstDraw shared.now.board.now pass.old first }
-    requires new { All (IsNewPass shared.now.board.now) rest.old }
-    requires may { EachMay W.may (jobs_of shared.now.board.now) }
-    ensures own { HasWorked shared.now.board.now
-        (λ job. G.passed shared.now.gate.now worker (W.system_of job)) pass.new }
-    ensures rest { HaveWorked shared.now.board.now
-        (λ worker job. G.passed shared.now.gate.now worker (W.system_of job)) next rest.new }
-{
+    let begun = if at_once > 1 { 1 } else { others.len() };
+    let (beside, rest) = others.split_at_mut(begun);
+    let after = next + begun as u32;
     let mut own = ||
-        requires { IsFirstDraw shared.now.board.now pass.now first
-            × EachMay W.may (jobs_of shared.now.board.now) }
-        ensures { HasWorked shared.entry.now.board.now
-            (λ job. G.passed shared.entry.now.gate.now worker (W.system_of job)) pass.exit.now }
-    {
-        let drew = first.take();
-        let ran = work_on(shared.alloc, shared.board, shared.gate, worker, drew, pass);
-        shared.run_out.store(true, Ordering::SeqCst);
-        ran
-    };
-    let mut theirs = ||
-        requires { IsSync R.row × IsSend W.row × IsSync G.row × (next + length rest.now ≤ 64)
-            × All (IsNewPass shared.now.board.now) rest.now
-            × EachMay W.may (jobs_of shared.now.board.now) }
-        ensures { HaveWorked shared.entry.now.board.now
-            (λ worker job. G.passed shared.entry.now.gate.now worker (W.system_of job)) next
-            rest.exit.now }
-    {
-        if rest.len() > 1 {
-            look(shared.run_out);
-        }
-        work_from(rt, shared, next, 1, rest)
-    };
-    let (_, ran) = join_mut(rt, &mut theirs, &mut own);
-    ran
-}
-
-/// Starts a thread in which worker `next` draws and starts no other, while this worker lets the
-/// rest begin, runs its job and draws on here.
-#[cycle(workers)]
-fn begin_one<R: Threads + Sync, W: Runs + Send, G: Gate>(
-    rt: &R,
-    shared: &Shared<W, G>,
-    worker: u32,
-    mut first: Option<(usize, W::Job)>,
-    pass: &mut Pass<W::Job, W::Done>,
-    next: u32,
-    at_once: u32,
-    one: &mut Pass<W::Job, W::Done>,
-    rest: &mut [Pass<W::Job, W::Done>],
-) -> u32
-    requires few { next + 1 + length rest.old ≤ 64 }
-    requires more { 1 ≤ at_once }
-    requires first { IsFirstDraw shared.now.board.now pass.old first }
-    requires one { IsNewPass shared.now.board.now one.old }
-    requires new { All (IsNewPass shared.now.board.now) rest.old }
-    requires may { EachMay W.may (jobs_of shared.now.board.now) }
-    ensures own { HasWorked shared.now.board.now
-        (λ job. G.passed shared.now.gate.now worker (W.system_of job)) pass.new }
-    ensures one { HasWorked shared.now.board.now
-        (λ job. G.passed shared.now.gate.now next (W.system_of job)) one.new }
-    ensures rest { HaveWorked shared.now.board.now
-        (λ worker job. G.passed shared.now.gate.now worker (W.system_of job)) (next + 1) rest.new }
-{
-    let mut own = ||
-        requires { IsSync R.row × IsSend W.row × IsSync G.row × (next + 1 + length rest.now ≤ 64)
-            × (1 ≤ at_once) × IsFirstDraw shared.now.board.now pass.now first
+        requires { IsSync R.row × IsSend W.row × IsSync G.row × (after + length rest.now ≤ 64)
+            × IsFirstDraw shared.now.board.now pass.now first
             × All (IsNewPass shared.now.board.now) rest.now
             × EachMay W.may (jobs_of shared.now.board.now) }
         ensures { HasWorked shared.entry.now.board.now
             (λ job. G.passed shared.entry.now.gate.now worker (W.system_of job)) pass.exit.now
             × HaveWorked shared.entry.now.board.now
-            (λ worker job. G.passed shared.entry.now.gate.now worker (W.system_of job)) (next + 1)
+            (λ worker job. G.passed shared.entry.now.gate.now worker (W.system_of job)) after
             rest.exit.now }
     {
-        work_beside(
-            rt,
-            shared,
-            worker,
-            first.take(),
-            pass,
-            next + 1,
-            at_once - 1,
-            rest,
-        )
+        let drew = first.take();
+        if rest.is_empty() {
+            let ran = work_on(shared.alloc, shared.board, shared.gate, worker, drew, pass);
+            shared.run_out.store(true, Ordering::SeqCst);
+            ran
+        } else {
+            work_beside(
+                rt,
+                shared,
+                worker,
+                drew,
+                pass,
+                after,
+                at_once.saturating_sub(1),
+                rest,
+            )
+        }
     };
     let mut theirs = ||
-        requires { IsSend W.row × IsSync G.row × IsNewPass shared.now.board.now one.now
+        requires { IsSync R.row × IsSend W.row × IsSync G.row × (next + length beside.now ≤ 64)
+            × All (IsNewPass shared.now.board.now) beside.now
             × EachMay W.may (jobs_of shared.now.board.now) }
-        ensures { HasWorked shared.entry.now.board.now
-            (λ job. G.passed shared.entry.now.gate.now next (W.system_of job)) one.exit.now }
-    { work_alone(shared, next, one) };
+        ensures { HaveWorked shared.entry.now.board.now
+            (λ worker job. G.passed shared.entry.now.gate.now worker (W.system_of job)) next
+            beside.exit.now }
+    {
+        if beside.len() > 1 {
+            look(shared.run_out);
+        }
+        work_from(rt, shared, next, 1, beside)
+    };
     let (_, ran) = join_mut(rt, &mut theirs, &mut own);
     ran
 }
