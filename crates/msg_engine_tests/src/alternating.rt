@@ -1,17 +1,16 @@
 // Systems that decide by their memory: each on 1, 2, 7 and 64 workers.
-ghost use Rattle.std.specs.Prelude.{IfOk};
 ghost use Rattle.msg_exec.specs.Prelude.{IsEngine};
 
 use crate::making::{NUMBERS, frame_of, quiet, replay, run_frame};
-use msg_exec::{EngineBuilder, EngineOf, Frame, Log, NoGate, Outcome, RunFault};
+use msg_exec::{EngineBuilder, EngineOf, Frame, Log, NoGate, Outcome};
 use msg_part_tests::numbers::type_no;
 use msg_system::{
     Access, Behavior, BehaviorSystem, Condition, NoMemory, Op, Probe, Reply, Start, System,
 };
 use msg_world::{TypeNo, World};
 use std::alloc::Global;
+use std::panic::Expect;
 use std::process::Abort;
-use std::test::Fail;
 use std::thread::Threads;
 
 /// Writes `writes` messages to the type `here` in one turn, and to the type `there` in the next.
@@ -59,8 +58,8 @@ fn engine_of_two(
     writes: u64,
     conditions: &[Condition],
     join: u32,
-) -> Result<EngineOf<BehaviorSystem<Alternating>>, Fail>
-    ensures engine { IfOk result (IsEngine ⟦<BehaviorSystem<Alternating> as System>⟧.meaning) }
+) -> EngineOf<BehaviorSystem<Alternating>>
+    ensures engine { IsEngine ⟦<BehaviorSystem<Alternating> as System>⟧.meaning result }
 {
     let mut systems = EngineBuilder::new(alloc);
     for (here, there) in [(type_no(0), type_no(1)), (type_no(2), type_no(3))] {
@@ -71,9 +70,12 @@ fn engine_of_two(
             writes,
         };
         let system = BehaviorSystem::new(alloc, behavior, access, Start::Zero, 0);
-        systems.add_system(system, Vec::from_slice(alloc, conditions)?, join)?;
+        let conditions = Vec::from_slice(alloc, conditions).expect(rt, "conditions");
+        let added = systems.add_system(system, conditions, join);
+        added.expect(rt, "a system");
     }
-    Ok(systems.build(World::new(alloc, &[200; 5], &[])?)?)
+    let world = World::new(alloc, &[200; 5], &[]).expect(rt, "a world");
+    systems.build(world).expect(rt, "an engine")
 }
 
 /// What a system wrote in a frame: how many messages to its first type, and how many to its
@@ -117,77 +119,98 @@ fn expect_frame<R: Threads + Sync + Abort, S: System>(
     number: u32,
     is_replayed: bool,
     wrote: Wrote,
-) -> Result<(), RunFault>
+)
     requires engine { IsEngine S.meaning engine.old }
     ensures engine { IsEngine S.meaning engine.new }
 {
-    if is_replayed {
-        let log = replay(rt, engine, frame, &[1, 0])?;
-        expect_wrote(rt, engine, &log, wrote);
-        return Ok(());
-    }
-    let log = run_frame(rt, engine, frame, number, &NoGate)?;
-    expect_wrote(rt, engine, &log, wrote);
-    Ok(())
+    let log = if is_replayed {
+        replay(rt, engine, frame, &[1, 0])
+    } else {
+        run_frame(rt, engine, frame, number, &NoGate)
+    };
+    expect_wrote(rt, engine, &log.expect(rt, "a frame"), wrote);
 }
 
-/// Runs three frames: the first of `frames`, the second, which may be replayed, and the first once
-/// more. In each of them the systems write as `wrote` says.
-fn expect_turns<R: Threads + Sync + Abort, S: System>(
-    rt: &R,
-    engine: &mut EngineOf<S>,
-    frames: [&Frame; 2],
-    number: u32,
-    is_replayed: bool,
+/// Two systems and three frames, of which the second has no message.
+struct Row {
+    /// How often they write in a turn.
+    writes: u64,
+    /// The frame that they join with.
+    join: u32,
+    /// Whether they ask for a message.
+    asks: bool,
+    /// Whether the second frame is replayed.
+    replays: bool,
+    /// What they write in each frame.
     wrote: [Wrote; 3],
-) -> Result<(), RunFault>
-    requires engine { IsEngine S.meaning engine.old }
-    ensures engine { IsEngine S.meaning engine.new }
-{
-    expect_frame(rt, engine, frames[0], number, false, wrote[0])?;
-    expect_frame(rt, engine, frames[1], number, is_replayed, wrote[1])?;
-    expect_frame(rt, engine, frames[0], number, false, wrote[2])
 }
 
-/// How often they write in a turn, the frame that they join with, whether they ask for a message,
-/// whether the second frame is replayed, and what they write in each of three frames, of which the
-/// second has no message.
-#[test]
-fn they_take_turns(rt: HostRuntime) -> Result<(), Fail> {
-    let (alloc, t) = (rt.alloc(), type_no(4));
-    let (came, none) = (frame_of(alloc, &[(t, 1)])?, quiet(alloc));
+const ROWS: [Row; 6] = [
+    Row {
+        writes: 1,
+        join: 1,
+        asks: false,
+        replays: false,
+        wrote: [Some((1, 0)), Some((0, 1)), Some((1, 0))],
+    },
+    Row {
+        writes: 0,
+        join: 1,
+        asks: false,
+        replays: false,
+        wrote: [Some((0, 0)), Some((0, 0)), Some((0, 0))],
+    },
+    // never more than 64 messages
+    Row {
+        writes: 65,
+        join: 1,
+        asks: false,
+        replays: false,
+        wrote: [Some((64, 0)), Some((0, 64)), Some((64, 0))],
+    },
+    // nothing before they joined
+    Row {
+        writes: 1,
+        join: 3,
+        asks: false,
+        replays: false,
+        wrote: [Some((0, 0)), Some((0, 0)), Some((1, 0))],
+    },
+    // a skipped turn isn't told: the next one writes as it would have written
+    Row {
+        writes: 1,
+        join: 1,
+        asks: true,
+        replays: false,
+        wrote: [Some((1, 0)), None, Some((0, 1))],
+    },
+    // a replayed turn is told
+    Row {
+        writes: 1,
+        join: 1,
+        asks: false,
+        replays: true,
+        wrote: [Some((1, 0)), Some((0, 1)), Some((1, 0))],
+    },
+];
+
+fn expect_row<R: Threads + Sync + Abort>(rt: &R, alloc: Global, row: &Row, number: u32) {
+    let t = type_no(4);
+    let (came, none) = (frame_of(rt, alloc, &[(t, 1)]), quiet(alloc));
     let probe = Probe::OnMessage(t);
     let asked = [Condition { nots: 0, probe }];
-    for (writes, join, asks, replays, [first, second, third]) in [
-        (1, 1, 0, false, [Some((1, 0)), Some((0, 1)), Some((1, 0))]),
-        (0, 1, 0, false, [Some((0, 0)), Some((0, 0)), Some((0, 0))]),
-        // never more than 64 messages
-        (
-            65,
-            1,
-            0,
-            false,
-            [Some((64, 0)), Some((0, 64)), Some((64, 0))],
-        ),
-        // nothing before they joined
-        (1, 3, 0, false, [Some((0, 0)), Some((0, 0)), Some((1, 0))]),
-        // a skipped turn isn't told: the next one writes as it would have written
-        (1, 1, 1, false, [Some((1, 0)), None, Some((0, 1))]),
-        // a replayed turn is told
-        (1, 1, 0, true, [Some((1, 0)), Some((0, 1)), Some((1, 0))]),
-    ] {
-        let asked = &asked[..asks];
+    let asked = &asked[..row.asks as usize];
+    let mut engine = engine_of_two(rt, alloc, row.writes, asked, row.join);
+    expect_frame(rt, &mut engine, &came, number, false, row.wrote[0]);
+    expect_frame(rt, &mut engine, &none, number, row.replays, row.wrote[1]);
+    expect_frame(rt, &mut engine, &came, number, false, row.wrote[2]);
+}
+
+#[test]
+fn they_take_turns(rt: HostRuntime) {
+    for row in &ROWS {
         for number in NUMBERS {
-            let mut engine = engine_of_two(&rt, alloc, writes, asked, join)?;
-            expect_turns(
-                &rt,
-                &mut engine,
-                [&came, &none],
-                number,
-                replays,
-                [first, second, third],
-            )?;
+            expect_row(&rt, rt.alloc(), row, number);
         }
     }
-    Ok(())
 }

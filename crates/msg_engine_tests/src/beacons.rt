@@ -1,15 +1,19 @@
 // A system of one's own, whose turn is one write.
+ghost use Rattle.msg_exec.specs.Prelude.{IsEngine};
+
 use crate::expecting::{expect_frame, wrote};
 use crate::making::{NUMBERS, quiet};
 use crate::prefaced::{Before, Prefaced};
-use msg_exec::EngineBuilder;
+use msg_exec::{EngineBuilder, EngineOf};
 use msg_part_tests::numbers::type_no;
 use msg_system::{Access, Cursors, NoMemory, Numbered, Op, Reply, Start, System, one_op_is_a_turn};
 use msg_world::{Counts, Lent, Taken, TypeNo, World};
 use std::alloc::Global;
+use std::panic::Expect;
+use std::process::Abort;
 use std::sync::Arc;
 use std::sync::atomic::{AtomicU64, Ordering};
-use std::test::Fail;
+use std::thread::Threads;
 
 /// Writes the same value to a type, turn after turn.
 #[derive(Drop)]
@@ -58,28 +62,38 @@ impl Numbered for Beacon {
 }
 
 /// Two beacons, each to a type of its own, whose runs are counted.
-#[test]
-fn a_system_of_ones_own(rt: HostRuntime) -> Result<(), Fail> {
-    let (alloc, frame) = (rt.alloc(), quiet(rt.alloc()));
-    for number in NUMBERS {
-        let runs = Arc::new(alloc, AtomicU64::new(0))?;
-        let mut systems = EngineBuilder::new(alloc);
-        for to in [type_no(0), type_no(1)] {
-            let system = Beacon {
-                to,
-                value: 5,
-                writer: 0,
-                cursors: Cursors::new(),
-            };
-            let before = Before::Count(Arc::try_clone(&runs)?);
-            systems.add_system(Prefaced { system, before }, Vec::new(alloc), 1)?;
-        }
-        let mut engine = systems.build(World::new(alloc, &[10, 10], &[])?)?;
-        let steps = [wrote(0, 0), wrote(1, 0)];
-        expect_frame(&rt, &mut engine, &frame, number, &[], &steps)?;
-        let steps = [wrote(0, 1), wrote(1, 1)];
-        expect_frame(&rt, &mut engine, &frame, number, &[], &steps)?;
-        assert_eq!(rt; runs.load(Ordering::SeqCst), 4);
+fn two_beacons(rt: &impl Abort, alloc: Global, runs: &Arc<AtomicU64>) -> EngineOf<Prefaced<Beacon>>
+    ensures engine { IsEngine ⟦<Prefaced<Beacon> as System>⟧.meaning result }
+{
+    let mut systems = EngineBuilder::new(alloc);
+    for to in [type_no(0), type_no(1)] {
+        let system = Beacon {
+            to,
+            value: 5,
+            writer: 0,
+            cursors: Cursors::new(),
+        };
+        let before = Before::Count(Arc::try_clone(runs).expect(rt, "a count"));
+        let added = systems.add_system(Prefaced { system, before }, Vec::new(alloc), 1);
+        added.expect(rt, "a system");
     }
-    Ok(())
+    let world = World::new(alloc, &[10, 10], &[]).expect(rt, "a world");
+    systems.build(world).expect(rt, "an engine")
+}
+
+fn expect_beacons<R: Threads + Sync + Abort>(rt: &R, alloc: Global, number: u32) {
+    let runs = Arc::new(alloc, AtomicU64::new(0)).expect(rt, "a count");
+    let (mut engine, frame) = (two_beacons(rt, alloc, &runs), quiet(alloc));
+    let steps = [wrote(0, 0), wrote(1, 0)];
+    expect_frame(rt, &mut engine, &frame, number, &[], &steps);
+    let steps = [wrote(0, 1), wrote(1, 1)];
+    expect_frame(rt, &mut engine, &frame, number, &[], &steps);
+    assert_eq!(rt; runs.load(Ordering::SeqCst), 4);
+}
+
+#[test]
+fn a_system_of_ones_own(rt: HostRuntime) {
+    for number in NUMBERS {
+        expect_beacons(&rt, rt.alloc(), number);
+    }
 }

@@ -1,5 +1,4 @@
 // Where systems of a new engine start, engines that there are not, and numbers of workers.
-ghost use Rattle.std.specs.Prelude.{IfOk};
 ghost use Rattle.msg_exec.specs.Prelude.{IsEngine};
 
 use crate::expecting::{expect_frame, posted, read};
@@ -10,42 +9,38 @@ use msg_part_tests::numbers::type_no;
 use msg_system::{Op, Scripted, Start, System};
 use msg_world::World;
 use std::alloc::Global;
+use std::panic::Expect;
 use std::process::Abort;
-use std::test::Fail;
 
 /// An engine of a reader that starts so, in a world with one message.
-fn reader_after_a_post(
-    rt: &impl Abort,
-    alloc: Global,
-    start_at: Start,
-) -> Result<EngineOf<Scripted>, Fail>
-    ensures engine { IfOk result (IsEngine ⟦<Scripted as System>⟧.meaning) }
+fn reader_after_a_post(rt: &impl Abort, alloc: Global, start_at: Start) -> EngineOf<Scripted>
+    ensures engine { IsEngine ⟦<Scripted as System>⟧.meaning result }
 {
     let t = type_no(0);
     let mut systems = EngineBuilder::new(alloc);
-    let reading = script(rt, alloc, &[Op::Read(t, None)], start_at)?;
-    systems.add_system(reading, Vec::new(alloc), 1)?;
-    let mut world = World::new(alloc, &[10], &[])?;
+    let reader = script(rt, alloc, &[Op::Read(t, None)], start_at).expect(rt, "a script");
+    let added = systems.add_system(reader, Vec::new(alloc), 1);
+    added.expect(rt, "a system");
+    let mut world = World::new(alloc, &[10], &[]).expect(rt, "a world");
     assert!(rt; world.messages(t).is_some());
     assert!(rt; world.post(t, 5).is_ok());
-    Ok(systems.build(world)?)
+    systems.build(world).expect(rt, "an engine")
 }
 
 /// The first read of a system in a world that had a message before the engine was made.
 #[test]
-fn starts_in_a_world_with_a_message(rt: HostRuntime) -> Result<(), Fail> {
+fn starts_in_a_world_with_a_message(rt: HostRuntime) {
     let (frame, five) = (quiet(rt.alloc()), [posted(5)]);
     for (start_at, first) in [(Start::Zero, 0), (Start::Current, 1)] {
-        let mut engine = reader_after_a_post(&rt, rt.alloc(), start_at)?;
+        let mut engine = reader_after_a_post(&rt, rt.alloc(), start_at);
         let steps = [read(0, first, &five[first as usize..])];
-        expect_frame(&rt, &mut engine, &frame, 1, &[], &steps)?;
+        expect_frame(&rt, &mut engine, &frame, 1, &[], &steps);
     }
-    Ok(())
 }
 
 /// A clash comes before a cycle, and of rules that go round the lowest system is named.
 #[test]
-fn refused_engines(rt: HostRuntime) -> Result<(), Fail> {
+fn refused_engines(rt: HostRuntime) {
     let (alloc, t, u) = (rt.alloc(), type_no(0), type_no(1));
     let (clash, alone) = ([Op::Forward(t, t)], [Op::Read(t, None)]);
     let waiting = [
@@ -65,20 +60,19 @@ fn refused_engines(rt: HostRuntime) -> Result<(), Fail> {
         let Err(refused) = engine_of(&rt, alloc, &[10, 10], ops, rules) else {
             panic!(rt; "not {want}")
         };
-        assert_eq!(rt; format!(in alloc; "{refused:?}")?.as_str(), want);
+        let refused = format!(in alloc; "{refused:?}").expect(&rt, "a text");
+        assert_eq!(rt; refused.as_str(), want);
     }
-    Ok(())
 }
 
 #[test]
-fn refusals_say_why(rt: HostRuntime) -> Result<(), Fail> {
+fn refusals_say_why(rt: HostRuntime) {
     let (clash, cycle) = (BuildRefusal::Clash(1), BuildRefusal::Cycle(2));
     let refused = BuildRefusal::NoMemory;
-    let texts = format!(in rt.alloc(); "{clash}; {cycle}; {refused}")?;
+    let texts = format!(in rt.alloc(); "{clash}; {cycle}; {refused}").expect(&rt, "a text");
     assert_eq!(rt;
         texts.as_str(),
         "system 1 reads and writes one type or resource; the rules go round in a circle through \
          system 2; want of memory"
     );
-    Ok(())
 }

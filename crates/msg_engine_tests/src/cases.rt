@@ -4,22 +4,28 @@ use crate::making::{NUMBERS, engine_of, frame_of, quiet};
 use msg_order::Rule;
 use msg_part_tests::numbers::type_no;
 use msg_system::{Items, Op};
-use std::test::Fail;
+use std::alloc::Global;
+use std::panic::Expect;
+use std::process::Abort;
+use std::thread::Threads;
+
+fn expect_lag<R: Threads + Sync + Abort>(rt: &R, alloc: Global, number: u32) {
+    let t = type_no(0);
+    let ops = [Op::Read(t, None), Op::Write(t, 5)];
+    let engine = engine_of(rt, alloc, &[10], &ops, &[Rule::before(0, 1)]);
+    let (mut engine, frame) = (engine.expect(rt, "an engine"), quiet(alloc));
+    let steps = [read(0, 0, &[]), wrote(1, 0)];
+    expect_frame(rt, &mut engine, &frame, number, &[], &steps);
+    let five = [by(1, 5)];
+    let steps = [read(0, 0, &five), wrote(1, 1)];
+    expect_frame(rt, &mut engine, &frame, number, &[], &steps);
+}
 
 #[test]
-fn one_frames_lag(rt: HostRuntime) -> Result<(), Fail> {
-    let (alloc, t) = (rt.alloc(), type_no(0));
-    let ops = [Op::Read(t, None), Op::Write(t, 5)];
-    let frame = quiet(alloc);
+fn one_frames_lag(rt: HostRuntime) {
     for number in NUMBERS {
-        let mut engine = engine_of(&rt, alloc, &[10], &ops, &[Rule::before(0, 1)])?;
-        let steps = [read(0, 0, &[]), wrote(1, 0)];
-        expect_frame(&rt, &mut engine, &frame, number, &[], &steps)?;
-        let five = [by(1, 5)];
-        let steps = [read(0, 0, &five), wrote(1, 1)];
-        expect_frame(&rt, &mut engine, &frame, number, &[], &steps)?;
+        expect_lag(&rt, rt.alloc(), number);
     }
-    Ok(())
 }
 
 /// System 1 wrote two messages, from the number `first` on.
@@ -30,28 +36,31 @@ fn wrote_two<'a>(first: u64) -> Step<'a> {
     }
 }
 
-#[test]
-fn host_and_two_writers(rt: HostRuntime) -> Result<(), Fail> {
-    let (alloc, t) = (rt.alloc(), type_no(0));
-    let two = Items::from_vec(vec![in alloc; 2, 3]?);
+fn expect_two_writers<R: Threads + Sync + Abort>(rt: &R, alloc: Global, number: u32) {
+    let t = type_no(0);
+    let two = Items::from_vec(vec![in alloc; 2, 3].expect(rt, "values"));
     let ops = [Op::Write(t, 1), Op::Batch(t, two), Op::Read(t, None)];
-    let nine = frame_of(alloc, &[(t, 9)])?;
-    let eight = frame_of(alloc, &[(t, 8)])?;
-    for number in NUMBERS {
-        let mut engine = engine_of(&rt, alloc, &[20], &ops, &[])?;
-        let all = [posted(9), by(0, 1), by(1, 2), by(1, 3)];
-        let steps = [wrote(0, 1), wrote_two(2), read(2, 0, &all)];
-        expect_frame(&rt, &mut engine, &nine, number, &[0], &steps)?;
-        let all = [posted(8), by(0, 1), by(1, 2), by(1, 3)];
-        let steps = [wrote(0, 5), wrote_two(6), read(2, 4, &all)];
-        expect_frame(&rt, &mut engine, &eight, number, &[4], &steps)?;
-    }
-    Ok(())
+    let engine = engine_of(rt, alloc, &[20], &ops, &[]);
+    let mut engine = engine.expect(rt, "an engine");
+    let all = [posted(9), by(0, 1), by(1, 2), by(1, 3)];
+    let steps = [wrote(0, 1), wrote_two(2), read(2, 0, &all)];
+    let frame = frame_of(rt, alloc, &[(t, 9)]);
+    expect_frame(rt, &mut engine, &frame, number, &[0], &steps);
+    let all = [posted(8), by(0, 1), by(1, 2), by(1, 3)];
+    let steps = [wrote(0, 5), wrote_two(6), read(2, 4, &all)];
+    let frame = frame_of(rt, alloc, &[(t, 8)]);
+    expect_frame(rt, &mut engine, &frame, number, &[4], &steps);
 }
 
 #[test]
-fn contradictory_order(rt: HostRuntime) -> Result<(), Fail> {
-    let (alloc, t, u) = (rt.alloc(), type_no(0), type_no(1));
+fn host_and_two_writers(rt: HostRuntime) {
+    for number in NUMBERS {
+        expect_two_writers(&rt, rt.alloc(), number);
+    }
+}
+
+fn expect_settled<R: Threads + Sync + Abort>(rt: &R, alloc: Global, number: u32) {
+    let (t, u) = (type_no(0), type_no(1));
     let ops = [
         Op::Write(t, 1),
         Op::Write(u, 2),
@@ -59,12 +68,16 @@ fn contradictory_order(rt: HostRuntime) -> Result<(), Fail> {
         Op::Read(t, None),
     ];
     let rules = [Rule::before(3, 1), Rule::before(2, 0)];
-    let frame = quiet(alloc);
+    let engine = engine_of(rt, alloc, &[10, 10], &ops, &rules);
+    let mut engine = engine.expect(rt, "an engine");
+    let (none, one) = (read(2, 0, &[]), [by(0, 1)]);
+    let steps = [none, wrote(0, 0), read(3, 0, &one), wrote(1, 0)];
+    expect_frame(rt, &mut engine, &quiet(alloc), number, &[], &steps);
+}
+
+#[test]
+fn contradictory_order(rt: HostRuntime) {
     for number in NUMBERS {
-        let mut engine = engine_of(&rt, alloc, &[10, 10], &ops, &rules)?;
-        let (none, one) = (read(2, 0, &[]), [by(0, 1)]);
-        let steps = [none, wrote(0, 0), read(3, 0, &one), wrote(1, 0)];
-        expect_frame(&rt, &mut engine, &frame, number, &[], &steps)?;
+        expect_settled(&rt, rt.alloc(), number);
     }
-    Ok(())
 }

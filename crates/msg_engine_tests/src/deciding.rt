@@ -1,5 +1,4 @@
 // Systems that decide: each on 1, 2, 7 and 64 workers.
-ghost use Rattle.std.specs.Prelude.{IfOk};
 ghost use Rattle.msg_exec.specs.Prelude.{IsEngine};
 
 use crate::adders::Adder;
@@ -9,8 +8,8 @@ use msg_part_tests::numbers::type_no;
 use msg_system::{Access, BehaviorSystem, Start, System};
 use msg_world::{Record, TypeNo, World};
 use std::alloc::Global;
+use std::panic::Expect;
 use std::process::Abort;
-use std::test::Fail;
 use std::thread::Threads;
 
 /// Runs a frame with these posts on `number` workers, in which just these values are written to
@@ -22,11 +21,12 @@ fn expect_frame_writes<R: Threads + Sync + Abort>(
     number: u32,
     posts: &[(TypeNo, i64)],
     values: &[i64],
-) -> Result<(), Fail>
+)
     requires engine { IsEngine ⟦<BehaviorSystem<Adder> as System>⟧.meaning engine.old }
     ensures engine { IsEngine ⟦<BehaviorSystem<Adder> as System>⟧.meaning engine.new }
 {
-    run_frame(rt, engine, &frame_of(alloc, posts)?, number, &NoGate)?;
+    let frame = frame_of(rt, alloc, posts);
+    run_frame(rt, engine, &frame, number, &NoGate).expect(rt, "a frame");
     let Some(messages) = engine.world().and_then(|w| w.messages(type_no(1))) else {
         panic!(rt; "no messages");
     };
@@ -36,31 +36,34 @@ fn expect_frame_writes<R: Threads + Sync + Abort>(
         let value = *value;
         assert_eq!(rt; instance.message, Record { writer: 0, value });
     }
-    Ok(())
 }
 
 /// An engine of one adder, from the first type to the second.
-fn engine_of_one(alloc: Global) -> Result<EngineOf<BehaviorSystem<Adder>>, Fail>
-    ensures engine { IfOk result (IsEngine ⟦<BehaviorSystem<Adder> as System>⟧.meaning) }
+fn engine_of_one(rt: &impl Abort, alloc: Global) -> EngineOf<BehaviorSystem<Adder>>
+    ensures engine { IsEngine ⟦<BehaviorSystem<Adder> as System>⟧.meaning result }
 {
     let (from, to) = (type_no(0), type_no(1));
     let access = Access::none().with_read_type(from).with_write_type(to);
     let adder = Adder { from, to, total: 0 };
     let adder = BehaviorSystem::new(alloc, adder, access, Start::Zero, 0);
     let mut systems = EngineBuilder::new(alloc);
-    systems.add_system(adder, Vec::new(alloc), 1)?;
-    Ok(systems.build(World::new(alloc, &[10, 10], &[])?)?)
+    let added = systems.add_system(adder, Vec::new(alloc), 1);
+    added.expect(rt, "a system");
+    let world = World::new(alloc, &[10, 10], &[]).expect(rt, "a world");
+    systems.build(world).expect(rt, "an engine")
+}
+
+fn expect_sums<R: Threads + Sync + Abort>(rt: &R, alloc: Global, number: u32) {
+    let (from, mut engine) = (type_no(0), engine_of_one(rt, alloc));
+    let two = [(from, 5), (from, 6)];
+    expect_frame_writes(rt, alloc, &mut engine, number, &two, &[11]);
+    expect_frame_writes(rt, alloc, &mut engine, number, &[], &[]);
+    expect_frame_writes(rt, alloc, &mut engine, number, &two[..1], &[16]);
 }
 
 #[test]
-fn a_sum_goes_out_in_its_turn(rt: HostRuntime) -> Result<(), Fail> {
-    let (alloc, from) = (rt.alloc(), type_no(0));
-    let two = [(from, 5), (from, 6)];
+fn a_sum_goes_out_in_its_turn(rt: HostRuntime) {
     for number in NUMBERS {
-        let mut engine = engine_of_one(alloc)?;
-        expect_frame_writes(&rt, alloc, &mut engine, number, &two, &[11])?;
-        expect_frame_writes(&rt, alloc, &mut engine, number, &[], &[])?;
-        expect_frame_writes(&rt, alloc, &mut engine, number, &[(from, 1)], &[12])?;
+        expect_sums(&rt, rt.alloc(), number);
     }
-    Ok(())
 }

@@ -3,9 +3,10 @@ ghost use Rattle.msg_exec.specs.Prelude.{IsEngine};
 
 use crate::making::{replay, run_frame};
 use msg_buffer::Written;
-use msg_exec::{EngineOf, Frame, Log, NoGate, Outcome, RunFault, Turn};
+use msg_exec::{EngineOf, Frame, Log, NoGate, Outcome, Turn};
 use msg_system::{Reply, System};
 use msg_world::{HOST, Record};
+use std::panic::Expect;
 use std::process::Abort;
 use std::thread::Threads;
 
@@ -49,40 +50,32 @@ pub fn posted(value: i64) -> Record {
     by(HOST, value)
 }
 
-fn expect_step(rt: &impl Abort, turn: &Turn, step: Step<'_>) {
-    assert_eq!(rt; turn.system, step.system);
+/// Whether a turn came to this step.
+fn is_step(turn: &Turn, step: Step<'_>) -> bool {
     let Outcome::Ran(replies) = &turn.outcome else {
-        panic!(rt; "no system has conditions")
+        return false;
     };
-    match (replies.as_slice(), step.read) {
-        ([Reply::Wrote(written)], None) => {
-            assert_eq!(rt;
-                *written,
-                Written {
-                    first: step.first,
-                    n: step.n
-                }
-            )
-        }
+    let came = match (replies.as_slice(), step.read) {
+        ([Reply::Wrote(written)], None) => (written.first, written.n) == (step.first, step.n),
         ([Reply::Read(took)], Some(records)) => {
-            assert_eq!(rt; (took.missed, took.first), (step.missed, step.first));
-            assert_eq!(rt; took.items.as_slice(), records);
+            (took.missed, took.first) == (step.missed, step.first)
+                && took.items.as_slice() == records
         }
-        _other => panic!(rt; "system {} has another reply", step.system),
-    }
+        _other => false,
+    };
+    came && turn.system == step.system
 }
 
 /// The posts got these numbers, and the turns came to these steps.
 pub fn expect_log(rt: &impl Abort, log: &Log, posts: &[u64], steps: &[Step<'_>]) {
     let (replies, turns) = (log.posts.as_slice(), log.turns.as_slice());
-    assert_eq!(rt; replies.len(), posts.len());
+    assert!(rt; replies.len() == posts.len() && turns.len() == steps.len());
     for (reply, first) in replies.iter().zip(posts) {
         let first = *first;
         assert!(rt; matches!(reply, Reply::Wrote(w) if *w == Written { first, n: 1 }));
     }
-    assert_eq!(rt; turns.len(), steps.len());
     for (turn, step) in turns.iter().zip(steps) {
-        expect_step(rt, turn, *step);
+        assert!(rt; is_step(turn, *step), "{turn:?}");
     }
 }
 
@@ -95,13 +88,12 @@ pub fn expect_frame<R: Threads + Sync + Abort, S: System>(
     number: u32,
     posts: &[u64],
     steps: &[Step],
-) -> Result<(), RunFault>
+)
     requires engine { IsEngine S.meaning engine.old }
     ensures engine { IsEngine S.meaning engine.new }
 {
-    let log = run_frame(rt, engine, frame, number, &NoGate)?;
+    let log = run_frame(rt, engine, frame, number, &NoGate).expect(rt, "a frame");
     expect_log(rt, &log, posts, steps);
-    Ok(())
 }
 
 /// Replays a frame in this order. Its posts get the numbers `posts`, and its turns come to
@@ -113,11 +105,10 @@ pub fn expect_replay<S: System>(
     order: &[u32],
     posts: &[u64],
     steps: &[Step],
-) -> Result<(), RunFault>
+)
     requires engine { IsEngine S.meaning engine.old }
     ensures engine { IsEngine S.meaning engine.new }
 {
-    let log = replay(rt, engine, frame, order)?;
+    let log = replay(rt, engine, frame, order).expect(rt, "a frame");
     expect_log(rt, &log, posts, steps);
-    Ok(())
 }

@@ -9,6 +9,7 @@ use msg_part_tests::numbers::type_no;
 use msg_system::{Items, Op, Program, Scripted, Start, System};
 use msg_world::{TypeNo, World};
 use std::alloc::Global;
+use std::panic::Expect;
 use std::process::Abort;
 use std::thread::Threads;
 
@@ -54,26 +55,24 @@ pub fn engine_of(
 }
 
 /// An engine of `number` readers of one type.
-pub fn readers(
-    rt: &impl Abort,
-    alloc: Global,
-    number: u32,
-) -> Result<EngineOf<Scripted>, BuildError>
-    ensures engine { IfOk result (IsEngine ⟦<Scripted as System>⟧.meaning) }
+pub fn readers(rt: &impl Abort, alloc: Global, number: u32) -> EngineOf<Scripted>
+    ensures engine { IsEngine ⟦<Scripted as System>⟧.meaning result }
 {
     let mut systems = EngineBuilder::new(alloc);
     for _ in 0..number {
-        let reader = script(rt, alloc, &[Op::Read(type_no(0), None)], Start::Zero)?;
-        systems.add_system(reader, Vec::new(alloc), 1)?;
+        let reader = script(rt, alloc, &[Op::Read(type_no(0), None)], Start::Zero);
+        let added = systems.add_system(reader.expect(rt, "a script"), Vec::new(alloc), 1);
+        added.expect(rt, "a system");
     }
-    systems.build(World::new(alloc, &[10], &[])?)
+    let world = World::new(alloc, &[10], &[]).expect(rt, "a world");
+    systems.build(world).expect(rt, "an engine")
 }
 
 /// A frame with these posts.
-pub fn frame_of(alloc: Global, posts: &[(TypeNo, i64)]) -> Result<Frame, NoMemory> {
-    Ok(Frame {
-        posts: Items::from_vec(Vec::from_slice(alloc, posts)?),
-    })
+pub fn frame_of(rt: &impl Abort, alloc: Global, posts: &[(TypeNo, i64)]) -> Frame {
+    Frame {
+        posts: Items::from_vec(Vec::from_slice(alloc, posts).expect(rt, "posts")),
+    }
 }
 
 /// A frame without posts.

@@ -1,5 +1,4 @@
 // Systems, and what is done before each of their runs.
-ghost use Rattle.std.specs.Prelude.{IfOk};
 ghost use Rattle.msg_exec.specs.Prelude.{IsEngine};
 
 use crate::making::script;
@@ -7,10 +6,10 @@ use msg_exec::{EngineBuilder, EngineOf};
 use msg_system::{Access, NoMemory, Numbered, Op, Reply, Scripted, Start, System};
 use msg_world::{Counts, Lent, Taken, TypeNo, World};
 use std::alloc::Global;
+use std::panic::Expect;
 use std::process::Abort;
 use std::sync::Arc;
 use std::sync::atomic::{AtomicU64, Ordering};
-use std::test::Fail;
 
 /// Notes a digit at the end of a shared number.
 pub fn note(noted: &AtomicU64, digit: u64) {
@@ -89,19 +88,21 @@ pub fn noting_engine(
     join: u32,
     ops: Vec<(Op, Start)>,
     noted: &Arc<AtomicU64>,
-) -> Result<EngineOf<Prefaced<Scripted>>, Fail>
-    ensures engine { IfOk result (IsEngine ⟦<Prefaced<Scripted> as System>⟧.meaning) }
+) -> EngineOf<Prefaced<Scripted>>
+    ensures engine { IsEngine ⟦<Prefaced<Scripted> as System>⟧.meaning result }
 {
     let mut systems = EngineBuilder::new(alloc);
     let mut digit = 0;
     for (op, start_at) in ops {
         digit = digit % 9 + 1;
-        let noted = Arc::try_clone(noted)?;
+        let noted = Arc::try_clone(noted).expect(rt, "a number");
         let noting = Prefaced {
-            system: script(rt, alloc, &[op], start_at)?,
+            system: script(rt, alloc, &[op], start_at).expect(rt, "a script"),
             before: Before::Note { digit, noted },
         };
-        systems.add_system(noting, Vec::new(alloc), join)?;
+        let added = systems.add_system(noting, Vec::new(alloc), join);
+        added.expect(rt, "a system");
     }
-    Ok(systems.build(World::new(alloc, &[10], &[])?)?)
+    let world = World::new(alloc, &[10], &[]).expect(rt, "a world");
+    systems.build(world).expect(rt, "an engine")
 }

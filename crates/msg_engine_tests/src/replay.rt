@@ -1,25 +1,24 @@
 // Frames in a given order.
 ghost use Rattle.msg_exec.specs.Prelude.{IsEngine};
 
-use crate::expecting::{Step, by, expect_log, expect_replay, posted, read, wrote};
-use crate::making::{frame_of, quiet, replay, run_frames};
-use crate::prefaced::{Prefaced, noting_engine};
-use msg_exec::{Account, EngineOf, Frame, NoGate, RunFault};
+use crate::expecting::{Step, by, expect_frame, expect_replay, posted, read, wrote};
+use crate::making::{frame_of, quiet, replay};
+use crate::prefaced::noting_engine;
+use msg_exec::{Account, EngineOf, Frame, RunFault};
 use msg_part_tests::numbers::type_no;
 use msg_system::{Op, Start, System};
 use msg_world::TypeNo;
 use std::alloc::Global;
+use std::panic::Expect;
 use std::process::Abort;
 use std::sync::Arc;
 use std::sync::atomic::{AtomicU64, Ordering};
-use std::test::Fail;
 
-/// The account of a reader of this type that started at 0, and was given every message before its
-/// place.
-fn account(system: u32, of_type: TypeNo, place: u64) -> Account {
+/// The account of a reader that started at 0, and was given every message before its place.
+fn account(system: u32, place: u64) -> Account {
     Account {
         system,
-        of_type,
+        of_type: type_no(0),
         start: Some(0),
         got: place,
         missed: 0,
@@ -42,11 +41,11 @@ fn expect_after<S: System>(
     frames: u32,
     numbers: (u64, u64),
     accounts: &[Account],
-) -> Result<(), RunFault> {
+) {
     assert_eq!(rt; engine.frames_run(), frames);
     assert_eq!(rt; kept(engine, type_no(0)), Some(numbers));
-    assert_eq!(rt; engine.accounts()?.as_slice(), accounts);
-    Ok(())
+    let told = engine.accounts().expect(rt, "accounts");
+    assert_eq!(rt; told.as_slice(), accounts);
 }
 
 /// This order is refused.
@@ -65,36 +64,44 @@ fn expect_unlawful<S: System>(
 
 /// A writer and two readers, in two frames on two workers and a third that is replayed.
 #[test]
-fn a_replay_takes_lawful_orders_alone(rt: HostRuntime) -> Result<(), Fail> {
-    let (alloc, t, one) = (rt.alloc(), type_no(0), [by(0, 1)]);
-    let noted = Arc::new(alloc, AtomicU64::new(0))?;
+fn a_replay_takes_lawful_orders_alone(rt: HostRuntime) {
+    let (alloc, t) = (rt.alloc(), type_no(0));
+    let noted = Arc::new(alloc, AtomicU64::new(0)).expect(&rt, "a number");
     let ops = vec![in alloc;
         (Op::Write(t, 1), Start::Zero),
         (Op::Read(t, None), Start::Zero),
         (Op::Read(t, None), Start::Zero),
-    ]?;
-    let mut engine = noting_engine(&rt, alloc, 1, ops, &noted)?;
-    let (frames, mut logs) = ([quiet(alloc), quiet(alloc)], Vec::new(alloc));
-    run_frames(&rt, &mut engine, &frames, 2, &NoGate, &mut logs)?;
-    for (first, log) in logs.iter().enumerate() {
-        let first = first as u64;
-        let steps = [wrote(0, first), read(1, first, &one), read(2, first, &one)];
-        expect_log(&rt, log, &[], &steps);
-    }
+    ];
+    let mut engine = noting_engine(&rt, alloc, 1, ops.expect(&rt, "ops"), &noted);
+    let (frame, one) = (quiet(alloc), [by(0, 1)]);
+    let steps = [wrote(0, 0), read(1, 0, &one), read(2, 0, &one)];
+    expect_frame(&rt, &mut engine, &frame, 2, &[], &steps);
+    let steps = [wrote(0, 1), read(1, 1, &one), read(2, 1, &one)];
+    expect_frame(&rt, &mut engine, &frame, 2, &[], &steps);
     noted.store(0, Ordering::SeqCst);
-    expect_unlawful(&rt, &mut engine, &frames[0], &[1, 0, 2]);
-    expect_unlawful(&rt, &mut engine, &frames[0], &[0, 1]);
-    expect_unlawful(&rt, &mut engine, &frames[0], &[0, 1, 1]);
+    expect_orders(&rt, alloc, &mut engine, &noted);
+}
+
+/// Refuses three orders of the third frame, in which nothing runs, and then takes one.
+fn expect_orders<S: System>(
+    rt: &impl Abort,
+    alloc: Global,
+    engine: &mut EngineOf<S>,
+    noted: &AtomicU64,
+)
+    requires engine { IsEngine S.meaning engine.old }
+{
+    let (frame, one) = (quiet(alloc), [by(0, 1)]);
+    expect_unlawful(rt, engine, &frame, &[1, 0, 2]);
+    expect_unlawful(rt, engine, &frame, &[0, 1]);
+    expect_unlawful(rt, engine, &frame, &[0, 1, 1]);
     assert_eq!(rt; noted.load(Ordering::SeqCst), 0);
-    let accounts = [account(1, t, 2), account(2, t, 2)];
-    expect_after(&rt, &engine, 2, (0, 2), &accounts)?;
+    expect_after(rt, engine, 2, (0, 2), &[account(1, 2), account(2, 2)]);
     let steps = [wrote(0, 2), read(2, 2, &one), read(1, 2, &one)];
-    expect_replay(&rt, &mut engine, &frames[0], &[0, 2, 1], &[], &steps)?;
+    expect_replay(rt, engine, &frame, &[0, 2, 1], &[], &steps);
     // System i notes i + 1: systems 0, 2 and 1 ran, in this order.
     assert_eq!(rt; noted.load(Ordering::SeqCst), 132);
-    let accounts = [account(1, t, 3), account(2, t, 3)];
-    expect_after(&rt, &engine, 3, (1, 3), &accounts)?;
-    Ok(())
+    expect_after(rt, engine, 3, (1, 3), &[account(1, 3), account(2, 3)]);
 }
 
 /// Replays a frame that no system has joined by: the post gets this number.
@@ -104,55 +111,61 @@ fn expect_post_alone<S: System>(
     engine: &mut EngineOf<S>,
     value: i64,
     number: u64,
-) -> Result<(), Fail>
+)
     requires engine { IsEngine S.meaning engine.old }
     ensures engine { IsEngine S.meaning engine.new }
 {
-    let frame = frame_of(alloc, &[(type_no(0), value)])?;
+    let frame = frame_of(rt, alloc, &[(type_no(0), value)]);
     expect_unlawful(rt, engine, &frame, &[0]);
-    expect_replay(rt, engine, &frame, &[], &[number], &[])?;
-    Ok(())
+    expect_replay(rt, engine, &frame, &[], &[number], &[]);
 }
 
 /// Two readers that join with the third frame.
 #[test]
-fn late_systems(rt: HostRuntime) -> Result<(), Fail> {
+fn late_systems(rt: HostRuntime) {
     let (alloc, t) = (rt.alloc(), type_no(0));
     let ops = vec![in alloc;
         (Op::Read(t, None), Start::Zero),
         (Op::Read(t, None), Start::Current),
-    ]?;
-    let noted = Arc::new(alloc, AtomicU64::new(0))?;
-    let mut engine = noting_engine(&rt, alloc, 3, ops, &noted)?;
-    expect_post_alone(&rt, alloc, &mut engine, 1, 0)?;
-    expect_post_alone(&rt, alloc, &mut engine, 2, 1)?;
-    let mut waiting = [account(0, t, 0), account(1, t, 0)];
-    waiting[0].start = None;
-    waiting[1].start = None;
-    expect_after(&rt, &engine, 2, (0, 2), &waiting)?;
-    let third = frame_of(alloc, &[(t, 3)])?;
+    ];
+    let noted = Arc::new(alloc, AtomicU64::new(0)).expect(&rt, "a number");
+    let mut engine = noting_engine(&rt, alloc, 3, ops.expect(&rt, "ops"), &noted);
+    expect_post_alone(&rt, alloc, &mut engine, 1, 0);
+    expect_post_alone(&rt, alloc, &mut engine, 2, 1);
+    let third = frame_of(&rt, alloc, &[(t, 3)]);
+    let waiting = [0, 1].map(|system| Account {
+        start: None,
+        ..account(system, 0)
+    });
+    expect_after(&rt, &engine, 2, (0, 2), &waiting);
     expect_unlawful(&rt, &mut engine, &third, &[0]);
     expect_unlawful(&rt, &mut engine, &third, &[]);
-    expect_after(&rt, &engine, 2, (0, 2), &waiting)?;
+    expect_after(&rt, &engine, 2, (0, 2), &waiting);
+    expect_they_join(&rt, &mut engine, &third);
+    // System 1 ran, and then system 0.
+    assert_eq!(rt; noted.load(Ordering::SeqCst), 21);
+}
+
+/// Both readers join in the third frame, whose replay lets the second run first.
+fn expect_they_join<S: System>(rt: &impl Abort, engine: &mut EngineOf<S>, third: &Frame)
+    requires engine { IsEngine S.meaning engine.old }
+{
     let both = [posted(2), posted(3)];
     let missing = Step {
         missed: 1,
         ..read(0, 1, &both)
     };
     let steps = [read(1, 2, &both[1..]), missing];
-    expect_replay(&rt, &mut engine, &third, &[1, 0], &[2], &steps)?;
+    expect_replay(rt, engine, third, &[1, 0], &[2], &steps);
     let from_zero = Account {
         got: 2,
         missed: 1,
-        ..account(0, t, 3)
+        ..account(0, 3)
     };
     let from_current = Account {
         start: Some(2),
         got: 1,
-        ..account(1, t, 3)
+        ..account(1, 3)
     };
-    expect_after(&rt, &engine, 3, (1, 3), &[from_zero, from_current])?;
-    // System 1 ran, and then system 0.
-    assert_eq!(rt; noted.load(Ordering::SeqCst), 21);
-    Ok(())
+    expect_after(rt, engine, 3, (1, 3), &[from_zero, from_current]);
 }

@@ -1,5 +1,4 @@
 // Engines that want of memory spoils, and what the other jobs of a batch do beside it.
-ghost use Rattle.std.specs.Prelude.{IfOk};
 ghost use Rattle.msg_exec.specs.Prelude.{IsEngine};
 
 use crate::gates::HoldGate;
@@ -10,10 +9,10 @@ use msg_part_tests::numbers::type_no;
 use msg_system::{Op, Scripted, Start, System};
 use msg_world::World;
 use std::alloc::Global;
+use std::panic::Expect;
 use std::process::Abort;
 use std::sync::Arc;
 use std::sync::atomic::{AtomicU64, Ordering};
-use std::test::Fail;
 use std::thread::Threads;
 
 /// The engine was spoiled after `frames_run` frames: each call that runs a frame answers `Spoiled`,
@@ -26,17 +25,14 @@ pub fn expect_spoiled<R: Threads + Sync + Abort, S: System>(
 )
     requires engine { IsEngine S.meaning engine.old }
 {
-    let frames = [quiet(alloc)];
-    let log = run_frame(rt, engine, &frames[0], 1, &NoGate);
-    assert!(rt; matches!(log, Err(RunFault::Spoiled)));
-    let mut logs = Vec::new(alloc);
-    let ran = run_frames(rt, engine, &frames, 1, &NoGate, &mut logs);
-    assert_eq!(rt; ran, Err(RunFault::Spoiled));
-    assert!(rt; logs.is_empty());
-    let log = replay(rt, engine, &frames[0], &[0, 1]);
-    assert!(rt; matches!(log, Err(RunFault::Spoiled)));
-    assert!(rt; matches!(engine.accounts(), Err(RunFault::Spoiled)));
-    assert!(rt; engine.world().is_none());
+    let (frames, mut logs) = ([quiet(alloc)], Vec::new(alloc));
+    let one = run_frame(rt, engine, &frames[0], 1, &NoGate).err();
+    let many = run_frames(rt, engine, &frames, 1, &NoGate, &mut logs).err();
+    let replayed = replay(rt, engine, &frames[0], &[0, 1]).err();
+    for fault in [one, many, replayed, engine.accounts().err()] {
+        assert!(rt; fault == Some(RunFault::Spoiled));
+    }
+    assert!(rt; logs.is_empty() && engine.world().is_none());
     assert_eq!(rt; engine.frames_run(), frames_run);
 }
 
@@ -47,36 +43,48 @@ fn failing_engine(
     alloc: Global,
     readers: u32,
     runs: &Arc<AtomicU64>,
-) -> Result<EngineOf<Prefaced<Scripted>>, Fail>
-    ensures engine { IfOk result (IsEngine ⟦<Prefaced<Scripted> as System>⟧.meaning) }
+) -> EngineOf<Prefaced<Scripted>>
+    ensures engine { IsEngine ⟦<Prefaced<Scripted> as System>⟧.meaning result }
 {
     let mut systems = EngineBuilder::new(alloc);
     for system in 0..readers {
         let before = if system == 0 {
             Before::Fail
         } else {
-            Before::Count(Arc::try_clone(runs)?)
+            Before::Count(Arc::try_clone(runs).expect(rt, "a count"))
         };
-        let system = script(rt, alloc, &[Op::Read(type_no(0), None)], Start::Zero)?;
-        systems.add_system(Prefaced { system, before }, Vec::new(alloc), 1)?;
+        let system = script(rt, alloc, &[Op::Read(type_no(0), None)], Start::Zero);
+        let system = system.expect(rt, "a script");
+        let added = systems.add_system(Prefaced { system, before }, Vec::new(alloc), 1);
+        added.expect(rt, "a system");
     }
-    Ok(systems.build(World::new(alloc, &[10], &[])?)?)
+    let world = World::new(alloc, &[10], &[]).expect(rt, "a world");
+    systems.build(world).expect(rt, "an engine")
 }
 
-/// Where one job has no memory, the other workers run the other jobs of its batch; where it is the
-/// only worker's, no job runs after it.
+/// Where one job has no memory, `run` others of its batch are run.
+fn expect_run_of_others<R: Threads + Sync + Abort>(
+    rt: &R,
+    alloc: Global,
+    readers: u32,
+    workers: u32,
+    run: u32,
+) {
+    let runs = Arc::new(alloc, AtomicU64::new(0)).expect(rt, "a count");
+    let mut engine = failing_engine(rt, alloc, readers, &runs);
+    let gate = HoldGate::new(workers, [true; 5], workers.min(readers) as u64);
+    let log = run_frame(rt, &mut engine, &quiet(alloc), workers, &gate);
+    assert!(rt; log.err() == Some(RunFault::NoMemory));
+    assert_eq!(rt; runs.load(Ordering::SeqCst), run as u64, "{workers}");
+    gate.expect_met(rt, run as u64 + 1);
+    expect_spoiled(rt, alloc, &mut engine, 0);
+}
+
+/// The other workers run the other jobs of the batch; where the job was the only worker's, no job
+/// runs after it.
 #[test]
-fn the_others_run_where_one_has_no_memory(rt: HostRuntime) -> Result<(), Fail> {
-    let alloc = rt.alloc();
+fn the_others_run_where_one_has_no_memory(rt: HostRuntime) {
     for (readers, workers, run) in [(2, 1, 0), (2, 2, 1), (5, 2, 4), (5, 64, 4)] {
-        let runs = Arc::new(alloc, AtomicU64::new(0))?;
-        let mut engine = failing_engine(&rt, alloc, readers, &runs)?;
-        let gate = HoldGate::new(workers, [true; 5], workers.min(readers) as u64);
-        let log = run_frame(&rt, &mut engine, &quiet(alloc), workers, &gate);
-        assert!(rt; matches!(log, Err(RunFault::NoMemory)));
-        assert_eq!(rt; runs.load(Ordering::SeqCst), run, "{workers}");
-        gate.expect_met(&rt, run + 1);
-        expect_spoiled(&rt, alloc, &mut engine, 0);
+        expect_run_of_others(&rt, rt.alloc(), readers, workers, run);
     }
-    Ok(())
 }

@@ -1,5 +1,5 @@
 -- ---- lists
-mod ItemsOfLists
+pub mod ItemsOfLists
 -- ---- a job
 mod JobsAreDone
 mod EntriesAreAdded

@@ -7,7 +7,7 @@ mod out_of_memory;
 
 use msg_board::{Board, NoMemory, Pass, Work};
 use std::alloc::Global;
-use std::test::Fail;
+use std::panic::Expect;
 use std::thread;
 use std::thread::Threads;
 
@@ -68,32 +68,32 @@ fn run_jobs<R: Threads + Sync, W: Runs + Send>(
 /// Each row has how many jobs there are and how many threads. The results are the successors of
 /// the jobs' numbers, in the order of the jobs.
 #[test]
-fn threads_draw_jobs(rt: HostRuntime) -> Result<(), Fail> {
+fn threads_draw_jobs(rt: HostRuntime) {
     for (n, passes) in [(100, 2), (256, 64), (1, 3)] {
         let mut jobs = Vec::new(rt.alloc());
         for i in 0..n {
-            jobs.push(i)?;
+            jobs.push(i).expect(&rt, "a job");
         }
         assert!(rt; jobs.len() <= 256);
-        let results = run_jobs::<HostRuntime, AddOne>(&rt, rt.alloc(), jobs, passes)?;
+        let results = run_jobs::<HostRuntime, AddOne>(&rt, rt.alloc(), jobs, passes);
+        let results = results.expect(&rt, "results");
         assert_eq!(rt; results.len(), n as usize);
         assert!(rt; results.iter().enumerate().all(|(i, x)| *x == i as u64 + 1));
     }
-    Ok(())
 }
 
 /// A board without jobs, over another allocator than `Global`.
 #[test]
-fn no_jobs_and_one_pass(rt: HostRuntime) -> Result<(), Fail> {
+fn no_jobs_and_one_pass(rt: HostRuntime) {
     let heap = rt.alloc();
-    let (board, mut passes) = Board::<AddOne, &Global>::new(&heap, Vec::new(&heap), 1)?;
+    let board = Board::<AddOne, &Global>::new(&heap, Vec::new(&heap), 1);
+    let (board, mut passes) = board.expect(&rt, "a board");
     let Some(mut pass) = passes.pop() else {
         panic!(rt; "a pass")
     };
     let drawn = board.draw(&mut pass);
     assert!(rt; drawn.is_none());
-    passes.push(pass)?;
-    let results = board.close(&heap, passes)?;
+    passes.push(pass).expect(&rt, "a list");
+    let results = board.close(&heap, passes).expect(&rt, "results");
     assert!(rt; results.is_empty());
-    Ok(())
 }

@@ -3,10 +3,10 @@ use msg_buffer::laws::{
     histories_only_grow, messages_outlive_one_update, readers_tile, reads_may_be_left,
 };
 use msg_buffer::{BatchRefusal, MessageCursor, MessageId, Messages, WriteRefusal};
-use std::test::Fail;
+use std::panic::Expect;
 
 #[test]
-fn cursor_past_the_count(rt: HostRuntime) -> Result<(), Fail> {
+fn cursor_past_the_count(rt: HostRuntime) {
     let mut buffer: Messages<i64> = Messages::new(rt.alloc(), 10);
     for value in 0..3 {
         assert!(rt; buffer.write(value).is_ok());
@@ -19,15 +19,15 @@ fn cursor_past_the_count(rt: HostRuntime) -> Result<(), Fail> {
     assert_eq!(rt; cursor.place(), 3);
     cursor.clear(&fresh);
     assert_eq!(rt; cursor.place(), 0);
-    Ok(())
 }
 
 #[test]
-fn a_walk_left_early(rt: HostRuntime) -> Result<(), Fail> {
+fn a_walk_left_early(rt: HostRuntime) {
     let mut buffer: Messages<String> = Messages::new(rt.alloc(), 10);
     buffer.stands_for_some();
     for word in ["north", "east", "south", "west"] {
-        assert!(rt; buffer.write(word.to_string(rt.alloc())?).is_ok());
+        let word = word.to_string(rt.alloc()).expect(&rt, "a word");
+        assert!(rt; buffer.write(word).is_ok());
     }
     let mut cursor = buffer.get_cursor();
     for (id, word) in cursor.read(&buffer) {
@@ -45,26 +45,25 @@ fn a_walk_left_early(rt: HostRuntime) -> Result<(), Fail> {
         assert!(rt; word.as_str() != "east");
     }
     assert_eq!(rt; cursor.place(), 4);
-    Ok(())
 }
 
 #[test]
-fn refusals_say_why(rt: HostRuntime) -> Result<(), Fail> {
+fn refusals_say_why(rt: HostRuntime) {
     let spent: WriteRefusal<i64> = WriteRefusal::NumbersSpent(1);
     let refused: WriteRefusal<i64> = WriteRefusal::NoMemory(1);
     let few: BatchRefusal<i64> = BatchRefusal::NumbersSpent(Vec::new(rt.alloc()));
     let none: BatchRefusal<i64> = BatchRefusal::NoMemory(Vec::new(rt.alloc()));
+    let texts = format!(in rt.alloc(); "{spent}, {refused}, {few}, {none}").expect(&rt, "texts");
     assert_eq!(rt;
-        format!(in rt.alloc(); "{spent}, {refused}, {few}, {none}")?.as_str(),
+        texts.as_str(),
         "no number is left, want of memory, too few numbers are left, want of memory"
     );
-    Ok(())
 }
 
 /// A buffer dropped two messages and keeps three. A read by a cursor at 0 is left after `taken`
 /// messages, and the cursor is at `place` then.
 #[test]
-fn what_is_not_taken_stays_unread(rt: HostRuntime) -> Result<(), Fail> {
+fn what_is_not_taken_stays_unread(rt: HostRuntime) {
     let mut buffer: Messages<i64> = Messages::new(rt.alloc(), 10);
     for value in 0..2 {
         assert!(rt; buffer.write(value).is_ok());
@@ -81,5 +80,4 @@ fn what_is_not_taken_stays_unread(rt: HostRuntime) -> Result<(), Fail> {
         assert_eq!(rt; cursor.missed(&buffer), 0);
         assert_eq!(rt; cursor.len(&buffer), 5 - place);
     }
-    Ok(())
 }

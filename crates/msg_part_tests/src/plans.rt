@@ -2,8 +2,7 @@
 use crate::numbers::of_types as uses;
 use msg_order::{Plan, PlanRefusal, Rule, lowest_on_cycle};
 use msg_world::Access;
-use std::alloc::AllocError;
-use std::test::Fail;
+use std::panic::Expect;
 
 fn has_batches(plan: &Plan, want: &[&[u32]]) -> bool {
     let mut pairs = plan.batches().iter().zip(want);
@@ -11,40 +10,37 @@ fn has_batches(plan: &Plan, want: &[&[u32]]) -> bool {
 }
 
 #[test]
-fn no_systems(rt: HostRuntime) -> Result<(), Fail> {
-    let plan = Plan::build(rt.alloc(), &[], &[], &[])?;
+fn no_systems(rt: HostRuntime) {
+    let plan = Plan::build(rt.alloc(), &[], &[], &[]).expect(&rt, "a plan");
     assert!(rt; has_batches(&plan, &[]));
     assert!(rt; plan.accepts(&[]));
     assert!(rt; !plan.accepts(&[0]));
     assert!(rt; !plan.precedes(0, 0));
-    Ok(())
 }
 
 #[test]
-fn readers_run_side_by_side(rt: HostRuntime) -> Result<(), Fail> {
+fn readers_run_side_by_side(rt: HostRuntime) {
     let accesses = [uses(0, 1), uses(1, 0), uses(1, 0), uses(0, 1)];
-    let plan = Plan::build(rt.alloc(), &accesses, &[], &[true; 4])?;
+    let plan = Plan::build(rt.alloc(), &accesses, &[], &[true; 4]).expect(&rt, "a plan");
     assert!(rt; has_batches(&plan, &[&[0], &[1, 2], &[3]]));
     assert!(rt; plan.precedes(0, 3));
     assert!(rt; !plan.precedes(1, 2));
-    Ok(())
 }
 
 #[test]
-fn a_settled_pair_leaves_the_next_no_choice(rt: HostRuntime) -> Result<(), Fail> {
+fn a_settled_pair_leaves_the_next_no_choice(rt: HostRuntime) {
     let rules = [Rule::before(2, 0)];
-    let plan = Plan::build(rt.alloc(), &[uses(0, 1); 3], &rules, &[true; 3])?;
+    let plan = Plan::build(rt.alloc(), &[uses(0, 1); 3], &rules, &[true; 3]).expect(&rt, "a plan");
     assert!(rt; has_batches(&plan, &[&[2], &[0], &[1]]));
     assert!(rt; plan.precedes(2, 1));
-    Ok(())
 }
 
 #[test]
-fn rules_against_the_order_of_addition(rt: HostRuntime) -> Result<(), Fail> {
+fn rules_against_the_order_of_addition(rt: HostRuntime) {
     let accesses = [uses(0, 1), uses(0, 2), uses(2, 0), uses(1, 0)];
     let rules = [Rule::before(3, 1), Rule::after(0, 2)];
     assert_eq!(rt; rules[1], Rule::before(2, 0));
-    let plan = Plan::build(rt.alloc(), &accesses, &rules, &[true; 4])?;
+    let plan = Plan::build(rt.alloc(), &accesses, &rules, &[true; 4]).expect(&rt, "a plan");
     assert!(rt; has_batches(&plan, &[&[2], &[0], &[3], &[1]]));
     assert!(rt; plan.precedes(2, 1));
     assert!(rt; !plan.precedes(1, 2));
@@ -54,11 +50,10 @@ fn rules_against_the_order_of_addition(rt: HostRuntime) -> Result<(), Fail> {
     assert!(rt; !plan.accepts(&[2, 0, 3]));
     assert!(rt; !plan.accepts(&[2, 0, 3, 1, 1]));
     assert!(rt; !plan.accepts(&[2, 0, 3, 300]));
-    Ok(())
 }
 
 #[test]
-fn a_cycle_of_rules_names_its_lowest_system(rt: HostRuntime) -> Result<(), AllocError> {
+fn a_cycle_of_rules_names_its_lowest_system(rt: HostRuntime) {
     let idle = [Access::none(); 2];
     let around = [Rule::before(0, 1), Rule::before(1, 0)];
     let around = Plan::build(rt.alloc(), &idle, &around, &[true; 2]);
@@ -68,51 +63,51 @@ fn a_cycle_of_rules_names_its_lowest_system(rt: HostRuntime) -> Result<(), Alloc
     let Err(refusal) = own else {
         panic!(rt; "a system can't run before itself");
     };
-    let text = format!(in rt.alloc(); "{refusal}")?;
+    let text = format!(in rt.alloc(); "{refusal}").expect(&rt, "a text");
     assert_eq!(rt;
         text.as_str(),
         "the rules go round in a circle through system 1"
     );
-    Ok(())
 }
 
 #[test]
-fn the_lowest_system_on_a_cycle(rt: HostRuntime) -> Result<(), AllocError> {
+fn the_lowest_system_on_a_cycle(rt: HostRuntime) {
     let alloc = rt.alloc();
     let around = [Rule::before(0, 1), Rule::before(3, 2), Rule::after(3, 2)];
-    assert_eq!(rt; lowest_on_cycle(alloc, 4, &around)?, Some(2));
-    assert_eq!(rt; lowest_on_cycle(alloc, 4, &around[..2])?, None);
-    assert_eq!(rt; lowest_on_cycle(alloc, 0, &[])?, None);
-    Ok(())
+    assert_eq!(rt; lowest_on_cycle(alloc, 4, &around), Ok(Some(2)));
+    assert_eq!(rt; lowest_on_cycle(alloc, 4, &around[..2]), Ok(None));
+    assert_eq!(rt; lowest_on_cycle(alloc, 0, &[]), Ok(None));
 }
 
 #[test]
-fn what_has_not_joined_has_no_effect(rt: HostRuntime) -> Result<(), Fail> {
+fn what_has_not_joined_has_no_effect(rt: HostRuntime) {
     let idle = [Access::none(); 3];
     let chain = [Rule::before(0, 1), Rule::before(1, 2)];
     let own = [Rule::before(1, 1)];
     let early = [true, false, true];
-    let plan = Plan::build(rt.alloc(), &idle, &chain, &early)?;
+    let plan = Plan::build(rt.alloc(), &idle, &chain, &early).expect(&rt, "a plan");
     assert!(rt; has_batches(&plan, &[&[0, 2]]));
     assert!(rt; !plan.precedes(0, 2));
     assert!(rt; !plan.precedes(0, 1));
-    let plan = Plan::build(rt.alloc(), &idle, &chain, &[true; 3])?;
+    let plan = Plan::build(rt.alloc(), &idle, &chain, &[true; 3]).expect(&rt, "a plan");
     assert!(rt; has_batches(&plan, &[&[0], &[1], &[2]]));
     assert!(rt; plan.precedes(0, 2));
-    let plan = Plan::build(rt.alloc(), &idle, &own, &early)?;
+    let plan = Plan::build(rt.alloc(), &idle, &own, &early).expect(&rt, "a plan");
     assert!(rt; has_batches(&plan, &[&[0, 2]]));
     let all = Plan::build(rt.alloc(), &idle, &own, &[true; 3]);
     assert!(rt; matches!(&all, Err(PlanRefusal::Cycle(1))));
-    Ok(())
 }
 
 #[test]
-fn many_systems(rt: HostRuntime) -> Result<(), Fail> {
-    let apart = Plan::build(rt.alloc(), &[uses(0, 1); 256], &[], &[true; 256])?;
+fn many_systems(rt: HostRuntime) {
+    let apart = Plan::build(rt.alloc(), &[uses(0, 1); 256], &[], &[true; 256]).expect(
+        &rt, "a plan",
+    );
     assert_eq!(rt; apart.batches().len(), 256);
     assert!(rt; apart.precedes(0, 255));
-    let together = Plan::build(rt.alloc(), &[uses(1, 0); 256], &[], &[true; 256])?;
+    let together = Plan::build(rt.alloc(), &[uses(1, 0); 256], &[], &[true; 256]).expect(
+        &rt, "a plan",
+    );
     assert_eq!(rt; together.batches().len(), 1);
     assert!(rt; !together.precedes(0, 255));
-    Ok(())
 }

@@ -1,16 +1,15 @@
 // Lending, posts and held updates of worlds.
-ghost use Rattle.std.specs.Prelude.{OnOk};
 ghost use Rattle.msg_world.specs.Prelude.{IsWhole, SameLoan, SameShape};
 
 use crate::numbers::{res_no, type_no};
-use msg_buffer::{MessageId, NoMemory, WriteRefusal};
+use msg_buffer::{MessageId, WriteRefusal};
 use msg_world::laws::{
     lent_parts_are_a_loan, lent_parts_may_come_home, loans_end, loans_stand_side_by_side,
     writes_stand, written_parts_come_home,
 };
 use msg_world::{Access, HOST, Lent, Record, ResNo, TypeNo, World};
+use std::panic::Expect;
 use std::process::Abort;
-use std::test::Fail;
 
 /// Writes a message where its type is lent for writing; says what number it got.
 fn write(lent: &mut Lent, t: TypeNo, record: Record) -> Option<MessageId>
@@ -39,37 +38,40 @@ fn set(lent: &mut Lent, r: ResNo, value: i64) -> Option<i64>
 }
 
 #[test]
-fn a_loan_shows_what_its_access_uses(rt: HostRuntime) -> Result<(), Fail> {
+fn a_loan_shows_what_its_access_uses(rt: HostRuntime) {
     let (t, u, none) = (type_no(0), type_no(1), type_no(2));
     let r = res_no(0);
-    let mut world = World::new(rt.alloc(), &[4, 4], &[7])?;
+    let mut world = World::new(rt.alloc(), &[4, 4], &[7]).expect(&rt, "a world");
     let access = Access::none().with_write_type(t).with_read_res(r);
     assert!(rt; world.is_home(&access));
     lent_parts_are_a_loan();
-    let taken = world.lend_out(&access)?;
+    let taken = world.lend_out(&access).expect(&rt, "a loan");
     let mut lent = Lent::open(&world, &access, taken);
-    assert!(rt; !world.is_home(&Access::none().with_read_type(t)));
-    assert!(rt; world.is_home(&Access::none().with_read_type(u)));
-    assert!(rt; world.messages(t).is_none());
-    assert!(rt; world.messages(u).is_some());
-    assert!(rt; lent.reader(t).is_some());
-    assert!(rt; lent.reader(u).is_none() && lent.reader(none).is_none());
-    assert_eq!(rt; lent.res(r), Some(7));
-    assert!(rt; lent.writer(t).is_some());
-    assert!(rt; lent.writer(u).is_none() && lent.writer(none).is_none());
-    assert!(rt; lent.res_mut(r).is_none());
-    assert!(rt; !lent.signal());
-    Ok(())
+    let of_types = [t, u].map(|t| Access::none().with_read_type(t));
+    let home = [world.is_home(&of_types[0]), world.is_home(&of_types[1])];
+    let there = [world.messages(t).is_some(), world.messages(u).is_some()];
+    assert_eq!(rt; (home, there), ([false, true], [false, true]));
+    let types = [t, u, none];
+    assert_eq!(rt;
+        types.map(|t| lent.reader(t).is_some()),
+        [true, false, false]
+    );
+    assert_eq!(rt;
+        types.map(|t| lent.writer(t).is_some()),
+        [true, false, false]
+    );
+    let resource = (lent.res(r), lent.res_mut(r).is_some(), lent.signal());
+    assert_eq!(rt; resource, (Some(7), false, false));
 }
 
 #[test]
-fn a_written_resource_comes_home(rt: HostRuntime) -> Result<(), Fail> {
+fn a_written_resource_comes_home(rt: HostRuntime) {
     let (r, q) = (res_no(0), res_no(1));
-    let mut world = World::new(rt.alloc(), &[], &[7, 70])?;
+    let mut world = World::new(rt.alloc(), &[], &[7, 70]).expect(&rt, "a world");
     let access = Access::none().with_write_res(r).with_registry();
     assert!(rt; world.is_home(&access));
     lent_parts_are_a_loan();
-    let taken = world.lend_out(&access)?;
+    let taken = world.lend_out(&access).expect(&rt, "a loan");
     assert!(rt; !world.is_home(&Access::none().with_registry()));
     assert!(rt; world.is_home(&Access::none().with_read_res(q)));
     assert_eq!(rt; world.resource(r), None);
@@ -83,25 +85,23 @@ fn a_written_resource_comes_home(rt: HostRuntime) -> Result<(), Fail> {
     assert!(rt; world.is_home(&access));
     assert_eq!(rt; world.resource(r), Some(8));
     assert_eq!(rt; world.resource(q), Some(70));
-    Ok(())
 }
 
 #[test]
-fn an_empty_world(rt: HostRuntime) -> Result<(), Fail> {
-    let world = World::new(rt.alloc(), &[], &[])?;
+fn an_empty_world(rt: HostRuntime) {
+    let world = World::new(rt.alloc(), &[], &[]).expect(&rt, "a world");
     world.stands_for_some();
     loans_stand_side_by_side();
     assert!(rt; world.is_home(&Access::none()));
     assert!(rt; !world.is_home(&Access::none().with_read_type(type_no(0))));
     assert_eq!(rt; world.resource(res_no(0)), None);
     assert_eq!(rt; world.counts().of(type_no(0)), None);
-    Ok(())
 }
 
 #[test]
-fn posts(rt: HostRuntime) -> Result<(), Fail> {
+fn posts(rt: HostRuntime) {
     let (t, u) = (type_no(0), type_no(1));
-    let mut world = World::new(rt.alloc(), &[0, 2], &[])?;
+    let mut world = World::new(rt.alloc(), &[0, 2], &[]).expect(&rt, "a world");
     assert!(rt; world.messages(t).is_some());
     match world.post(t, 5) {
         Err(WriteRefusal::NumbersSpent(record)) => {
@@ -112,17 +112,16 @@ fn posts(rt: HostRuntime) -> Result<(), Fail> {
     }
     assert!(rt; world.messages(u).is_some());
     assert_eq!(rt; world.post(u, 6).ok(), Some(MessageId(0)));
-    Ok(())
 }
 
 /// Lends the registry to a job that signals twice, and takes it back.
-fn signal_twice(world: &mut World) -> Result<bool, NoMemory>
+fn signal_twice(rt: &impl Abort, world: &mut World) -> bool
     requires whole { IsWhole world.old }
-    ensures shape { OnOk result (SameShape world.old world.new) }
+    ensures shape { SameShape world.old world.new }
 {
     let access = Access::none().with_registry();
     lent_parts_are_a_loan();
-    let taken = world.lend_out(&access)?;
+    let taken = world.lend_out(&access).expect(rt, "a loan");
     let mut lent = Lent::open(world, &access, taken);
     let first = lent.signal();
     let second = lent.signal();
@@ -130,7 +129,7 @@ fn signal_twice(world: &mut World) -> Result<bool, NoMemory>
     written_parts_come_home();
     let taken = lent.into_taken();
     world.take_back(taken);
-    Ok(first && second)
+    first && second
 }
 
 /// How many messages the first type keeps.
@@ -142,52 +141,50 @@ fn kept(rt: &impl Abort, world: &World) -> u64 {
 }
 
 #[test]
-fn held_updates(rt: HostRuntime) -> Result<(), Fail> {
+fn held_updates(rt: HostRuntime) {
     let t = type_no(0);
-    let mut world = World::new(rt.alloc(), &[9], &[])?;
+    let mut world = World::new(rt.alloc(), &[9], &[]).expect(&rt, "a world");
     world.set_held();
     assert!(rt; world.messages(t).is_some());
     assert!(rt; world.post(t, 1).is_ok());
     world.update_all();
     world.update_all();
     assert_eq!(rt; kept(&rt, &world), 1);
-    assert!(rt; signal_twice(&mut world)?);
+    assert!(rt; signal_twice(&rt, &mut world));
     world.update_all();
     world.update_all();
     assert_eq!(rt; kept(&rt, &world), 1, "two signals are one update");
-    assert!(rt; signal_twice(&mut world)?);
+    assert!(rt; signal_twice(&rt, &mut world));
     world.set_held();
     world.update_all();
     assert_eq!(rt; kept(&rt, &world), 1, "a signal that wasn't spent is lost");
-    assert!(rt; signal_twice(&mut world)?);
+    assert!(rt; signal_twice(&rt, &mut world));
     world.update_all();
     assert_eq!(rt; kept(&rt, &world), 0);
     assert_eq!(rt; world.counts().of(t), Some(1));
-    Ok(())
 }
 
 #[test]
-fn a_world_that_is_not_held(rt: HostRuntime) -> Result<(), Fail> {
+fn a_world_that_is_not_held(rt: HostRuntime) {
     let t = type_no(0);
-    let mut world = World::new(rt.alloc(), &[9], &[])?;
+    let mut world = World::new(rt.alloc(), &[9], &[]).expect(&rt, "a world");
     assert!(rt; world.messages(t).is_some());
     assert!(rt; world.post(t, 1).is_ok());
     world.update_all();
-    assert!(rt; signal_twice(&mut world)?);
+    assert!(rt; signal_twice(&rt, &mut world));
     assert_eq!(rt; kept(&rt, &world), 1);
     world.update_all();
     assert_eq!(rt; kept(&rt, &world), 0);
-    Ok(())
 }
 
 #[test]
-fn a_loan_that_ends_leaves_what_it_wrote(rt: HostRuntime) -> Result<(), Fail> {
+fn a_loan_that_ends_leaves_what_it_wrote(rt: HostRuntime) {
     let (t, u, r) = (type_no(0), type_no(1), res_no(0));
-    let mut world = World::new(rt.alloc(), &[4, 4], &[7])?;
+    let mut world = World::new(rt.alloc(), &[4, 4], &[7]).expect(&rt, "a world");
     let access = Access::none().with_write_type(t).with_read_res(r);
     assert!(rt; world.is_home(&access));
     lent_parts_are_a_loan();
-    let taken = world.lend_out(&access)?;
+    let taken = world.lend_out(&access).expect(&rt, "a loan");
     assert!(rt; !world.is_home(&access));
     assert!(rt; world.messages(t).is_none());
     let mut lent = Lent::open(&world, &access, taken);
@@ -207,5 +204,4 @@ fn a_loan_that_ends_leaves_what_it_wrote(rt: HostRuntime) -> Result<(), Fail> {
     assert!(rt; world.messages(u).is_some());
     assert_eq!(rt; world.resource(r), Some(7));
     assert_eq!(rt; world.post(t, 5).ok(), Some(MessageId(1)));
-    Ok(())
 }

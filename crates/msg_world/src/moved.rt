@@ -99,7 +99,7 @@ fn move_slot<T: Drop>(from: &mut Vec<Option<T>>, parts: &mut Vec<Moved<T>>, slot
 }
 
 /// Moves what the slots of a mask hold out of them, into room that is enough.
-#[tactic(auto, using(std::proofs::lemmas::Grind::common_steps, crate::proofs::Bits::all_below))]
+#[tactic(auto, using(std::proofs::lemmas::Grind::common_steps))]
 pub(crate) fn move_out<T: Drop>(
     from: &mut Vec<Option<T>>,
     room: Vec<Moved<T>>,

@@ -5,7 +5,7 @@ use super::{Runs, run_jobs};
 use msg_board::{NoMemory, Work};
 use std::alloc::Global;
 use std::marker::PhantomData;
-use std::test::Fail;
+use std::panic::Expect;
 use std::thread::Threads;
 
 trait Tool: Send + Drop {
@@ -99,14 +99,19 @@ fn values<R: Threads + Sync, T: Tool>(
 }
 
 #[test]
-fn boxes_of_two_kinds(rt: HostRuntime) -> Result<(), Fail> {
+fn boxes_of_two_kinds(rt: HostRuntime) {
     let mut tools: Vec<Box<dyn Tool>> = Vec::new(rt.alloc());
-    tools.push(Box::new(rt.alloc(), Half)?)?;
-    tools.push(Box::new(rt.alloc(), Constant(7))?)?;
-    tools.push(Box::new(rt.alloc(), Half)?)?;
+    tools
+        .push(Box::new(rt.alloc(), Half).expect(&rt, "a box"))
+        .expect(&rt, "a list");
+    tools
+        .push(Box::new(rt.alloc(), Constant(7)).expect(&rt, "a box"))
+        .expect(&rt, "a list");
+    tools
+        .push(Box::new(rt.alloc(), Half).expect(&rt, "a box"))
+        .expect(&rt, "a list");
     let base = 20u64;
     assert!(rt; tools.len() == 3);
-    let values = values(&rt, rt.alloc(), &base, tools)?;
+    let values = values(&rt, rt.alloc(), &base, tools).expect(&rt, "values");
     assert_eq!(rt; values.as_slice(), [10, 7, 10].as_slice());
-    Ok(())
 }

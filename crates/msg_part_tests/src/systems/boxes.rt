@@ -3,14 +3,13 @@ ghost use Rattle.std.specs.Prelude.{◌≤◌, length};
 
 use crate::numbers::{res_no, type_no};
 use msg_system::{
-    Items, NoMemory, Numbered, Op, Program, Relay, Reply, Scripted, Start, System, Tally,
-    open_loans_cover,
+    Items, Numbered, Op, Program, Relay, Reply, Scripted, Start, System, Tally, open_loans_cover,
 };
 use msg_world::laws::{lent_parts_are_a_loan, lent_parts_may_come_home};
 use msg_world::{Lent, World};
 use std::alloc::Global;
+use std::panic::Expect;
 use std::process::Abort;
-use std::test::Fail;
 
 /// A script of these ops.
 fn script(ops: Vec<Op>) -> Scripted
@@ -30,17 +29,16 @@ fn run_once<S: System>(
     world: &mut World,
     system: &mut S,
     out: &mut Vec<Reply>,
-) -> Result<(), NoMemory> {
+) {
     let access = system.access();
     assert!(rt; world.is_home(&access));
     lent_parts_are_a_loan();
-    let taken = world.lend_out(&access)?;
+    let taken = world.lend_out(&access).expect(rt, "a loan");
     let lent = Lent::open(world, &access, taken);
     open_loans_cover();
-    let taken = system.run(alloc, lent, out)?;
+    let taken = system.run(alloc, lent, out).expect(rt, "a run");
     lent_parts_may_come_home();
     world.take_back(taken);
-    Ok(())
 }
 
 const REPLIES: &str = "[Wrote(Written { first: 0, n: 1 }), Wrote(Written { first: 1, n: 1 }), \
@@ -55,39 +53,52 @@ const REPLIES: &str = "[Wrote(Written { first: 0, n: 1 }), Wrote(Written { first
 
 /// A writer, a relay, a tally, and one that drains what it wrote.
 #[test]
-fn a_list_of_four_boxes(rt: HostRuntime) -> Result<(), Fail> {
+fn a_list_of_four_boxes(rt: HostRuntime) {
     let alloc = rt.alloc();
     let (t, u, v, r) = (type_no(0), type_no(1), type_no(2), res_no(0));
-    let writer = script(vec![in alloc; Op::Write(t, 5), Op::Write(t, 6)]?);
+    let ops = vec![in alloc; Op::Write(t, 5), Op::Write(t, 6)];
+    let writer = script(ops.expect(&rt, "ops"));
     let ops = vec![in alloc;
         Op::Write(v, 5),
         Op::Write(v, -6),
         Op::Drain(v),
         Op::Drain(v),
-    ]?;
-    let mut drain = script(ops);
+    ];
+    let mut drain = script(ops.expect(&rt, "ops"));
     drain.set_number(4);
-    let mut boxes: Vec<Box<dyn System>> = Vec::with_capacity(alloc, 4)?;
-    boxes.push(Box::new(alloc, writer)?)?;
-    boxes.push(Box::new(alloc, Relay::new(t, u, Start::Zero, 1))?)?;
-    boxes.push(Box::new(alloc, Tally::new(u, r, Start::Zero, 2))?)?;
-    boxes.push(Box::new(alloc, drain)?)?;
-    let mut world = World::new(alloc, &[9, 9, 9], &[7])?;
+    let (relay, tally) = (
+        Relay::new(t, u, Start::Zero, 1),
+        Tally::new(u, r, Start::Zero, 2),
+    );
+    let mut boxes: Vec<Box<dyn System>> = Vec::new(alloc);
+    boxes
+        .push(Box::new(alloc, writer).expect(&rt, "a box"))
+        .expect(&rt, "a list");
+    boxes
+        .push(Box::new(alloc, relay).expect(&rt, "a box"))
+        .expect(&rt, "a list");
+    boxes
+        .push(Box::new(alloc, tally).expect(&rt, "a box"))
+        .expect(&rt, "a list");
+    boxes
+        .push(Box::new(alloc, drain).expect(&rt, "a box"))
+        .expect(&rt, "a list");
+    let mut world = World::new(alloc, &[9, 9, 9], &[7]).expect(&rt, "a world");
     let mut replies = Vec::new(alloc);
     for system in boxes.iter_mut() {
-        run_once(&rt, alloc, &mut world, system, &mut replies)?;
+        run_once(&rt, alloc, &mut world, system, &mut replies);
     }
-    assert_eq!(rt; format!(in alloc; "{replies:?}")?.as_str(), REPLIES);
+    let text = format!(in alloc; "{replies:?}").expect(&rt, "a text");
+    assert_eq!(rt; text.as_str(), REPLIES);
     assert_eq!(rt; world.resource(r), Some(18));
-    Ok(())
 }
 
 /// Each op, copied.
 #[test]
-fn copies_of_every_op(rt: HostRuntime) -> Result<(), Fail> {
+fn copies_of_every_op(rt: HostRuntime) {
     let alloc = rt.alloc();
     let (t, u, r) = (type_no(0), type_no(1), res_no(0));
-    let values = Items::from_vec(vec![in alloc; 2, 3]?);
+    let values = Items::from_vec(vec![in alloc; 2, 3].expect(&rt, "values"));
     let ops = [
         Op::Write(t, -5),
         Op::Batch(t, values),
@@ -105,8 +116,6 @@ fn copies_of_every_op(rt: HostRuntime) -> Result<(), Fail> {
         Op::Signal,
     ];
     for op in &ops {
-        let copied = op.copy(alloc)?;
-        assert!(rt; copied == *op);
+        assert!(rt; op.copy(alloc).expect(&rt, "a copy") == *op);
     }
-    Ok(())
 }

@@ -13,9 +13,10 @@ take_back-requires g c =
     let both =
     then_same c.open-lent.result.taken c.set.new.lent.taken c.set-2.new.lent.taken c.set.ensures.same.shape
     c.set-2.ensures.same.shape in
-    let used : SameShape c.in_ok-taken.taken c.set-2.new.lent.taken =
+    let used : SameShape c.expect-taken.result c.set-2.new.lent.taken =
     subst (λ x. SameShape x c.set-2.new.lent.taken) c.open-lent.ensures.taken both in
+    let lent = rw c.expect-taken.ensures at c.lend_out.ensures.lent in
     record {
-      apart = c.lent_parts_may_come_home.ensures.alone _ _ _ _ _ c.in_ok-taken.ensures.lent
-          (subst (λ x. SameShape c.in_ok-taken.taken x) (sym c.into_taken-taken.ensures.taken) used);
+      apart = c.lent_parts_may_come_home.ensures.alone _ _ _ _ _ lent
+          (subst (λ x. SameShape c.expect-taken.result x) (sym c.into_taken-taken.ensures.taken) used);
     }

@@ -1,7 +1,7 @@
 use Rattle.std.proofs.lemmas.Grind.{common_steps}
 use Rattle.std.proofs.Common.{rules, ap, ◌∙◌, arith, ◌==◌}
 use Rattle.msg_world.specs.{inner.Moved.placed, inner.Slots.at}
-use Rattle.msg_world.proofs.{Bits.none_itself, Bits.below_next, Bits.one_less, Placed.placed_length, Placed.one_leaves, Placed.one_moves}
+use Rattle.msg_world.proofs.{Bits.all_below, Bits.none_itself, Bits.below_next, Bits.one_less, Placed.placed_length, Placed.one_leaves, Placed.one_moves}
 use Rattle.msg_world.proofs.moved.move_out.Goals as goal
 
 pub move_slot-requires-clause-room : goal.move_slot-requires-clause-room
@@ -28,3 +28,12 @@ loop-k-preserved g c =
 
 pub returns-clause-moved_len : goal.returns-clause-moved_len
 returns-clause-moved_len g c = placed_length c.len.result c.loop-k.parts.items ∙ search rules
+
+pub returns-clause-moved : goal.returns-clause-moved
+returns-clause-moved g c k =
+    rw c.len.ensures
+    (rw (all_below c.args.mask c.loop-k.k c.ranges.mask.fits c.loop-k-test.false k) at (c.loop-k.invariant.moved k))
+
+pub returns-clause-left : goal.returns-clause-left
+returns-clause-left g c k =
+    rw (all_below c.args.mask c.loop-k.k c.ranges.mask.fits c.loop-k-test.false k) at (c.loop-k.invariant.left k)

@@ -42,3 +42,13 @@ returns-in-Err-clause-refusal g c =
           c.in_ok-systems.ensures.as_many c.in_ok-systems.ensures.numbered c.self.inside.rules.items
           c.in-Err.refusal c.in-Err.ensures.refusal,
     )
+
+pub returns-in-Ok-clause-fit : goal.returns-in-Ok-clause-fit
+returns-in-Ok-clause-fit g c =
+    rw (← c.self.view_is)
+    (rw (c.deref.ensures.value, c.deref-2.ensures.value) at c.in_ok-check_systems.ensures.fit)
+
+pub returns-in-Ok-clause-named : goal.returns-in-Ok-clause-named
+returns-in-Ok-clause-named g c =
+    rw (← c.self.view_is)
+    (rw (c.deref-4.ensures.value, c.deref-3.ensures.value) at c.in_ok-check_names.ensures.named)

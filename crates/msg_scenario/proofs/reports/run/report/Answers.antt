@@ -34,6 +34,11 @@ loop-reported-preserved g c = record {
   failures = search rules;
 }
 
+pub returns-in_err-report_frame-clause-prefix : goal.returns-in_err-report_frame-clause-prefix
+returns-in_err-report_frame-clause-prefix g c =
+    on_err _ c.from_residual-in_err-report_frame.result _
+    (c.in_err-report_frame.ensures.prefix _ c.loop-reported.invariant.so_far)
+
 pub returns-in_err-report_frame-clause-run : goal.returns-in_err-report_frame-clause-run
 returns-in_err-report_frame-clause-run g c same =
     let r = c.from_residual-in_err-report_frame in
@@ -54,6 +59,12 @@ returns-in-Ok-clause-ok g c =
     (λ u stands. c.as_slice-in-Ok.ensures.value ∙ c.in-Ok.ensures.accounts u stands)
     (c.has_one_run.ensures.complete (state_of c.args.scenario.now) c.requires.engine))
     c.put_accounts.ensures.ok
+
+pub returns-in-Ok-clause-run : goal.returns-in-Ok-clause-run
+returns-in-Ok-clause-run g c same = elim (rw same at c.put_accounts.ensures.faults) [
+  | inl write ↦ absurd cc
+  | inr memory ↦ absurd cc
+]
 
 pub returns-in-Ok-clause-stopped : goal.returns-in-Ok-clause-stopped
 returns-in-Ok-clause-stopped g c cause =
