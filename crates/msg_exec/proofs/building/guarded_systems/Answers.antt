@@ -17,7 +17,20 @@ loop-system-preserved g c =
           (λ i o there x place sx sp. inv.guarded i o there x place
           (let within = slice_get_within xs i o there in
           grind (arith, inv.as_many, within, sx, get_or_append_left, get_or_default, length_push, slice_get_cases)) sp)
-          (λ x place sx sp. grind (arith, inv.as_many, sx, sp, c.in_ok-boxed.ensures, c.in_ok-guards.ensures,
-          c.as_slice.ensures, c.index-places-len.is, c.len.ensures, get_or_push, get_or_default, get_or_from_slice_get,
-          length_push, slice_get_cases)));
+          (λ x place sx sp. grind (
+            arith,
+            inv.as_many,
+            sx,
+            sp,
+            c.in_ok-boxed.ensures,
+            c.in_ok-guards.ensures,
+            c.as_slice.ensures,
+            c.index-places-len.is,
+            c.len.ensures,
+            get_or_push,
+            get_or_default,
+            get_or_from_slice_get,
+            length_push,
+            slice_get_cases,
+          )));
     }
