@@ -5,31 +5,32 @@ use crate::numbers::{res_no, type_no};
 use msg_system::{Items, Op, Program, Start};
 use std::panic::Expect;
 
+/// A program of these ops that reads from 0 on.
+fn program_of(ops: Vec<Op>) -> Program {
+    Program {
+        ops: Items::from_vec(ops),
+        start: Start::Zero,
+    }
+}
+
+#[test]
+fn a_copy_of_a_clash_is_one(rt: HostRuntime) {
+    let (alloc, t) = (rt.alloc(), type_no(0));
+    let clash = program_of(vec![in alloc; Op::Forward(t, t)].expect(&rt, "an op"));
+    assert!(rt; clash.access().is_clash());
+    let copied = clash.copy(alloc).expect(&rt, "a copy");
+    assert_eq!(rt; copied.access(), clash.access());
+    assert_eq!(rt; copied.ops.into_vec().as_slice(), clash.ops.as_slice());
+}
+
 #[test]
 fn programs_are_copied_and_tell_their_access(rt: HostRuntime) {
     let alloc = rt.alloc();
     let (t, u, r) = (type_no(0), type_no(1), res_no(0));
-    let ops = Items::from_vec(vec![in alloc; Op::Forward(t, t)].expect(&rt, "an op"));
-    let clash = Program {
-        ops,
-        start: Start::Zero,
-    };
-    assert!(rt; clash.access().is_clash());
-    let copied = clash.copy(alloc).expect(&rt, "a copy");
-    assert_eq!(rt; copied.access(), clash.access());
-    let mut ops = copied.ops.into_vec();
     let values = Vec::from_slice(alloc, &[1, 2]).expect(&rt, "values");
-    for op in [
-        Op::Get(r),
-        Op::Add(r, 1),
-        Op::Batch(u, Items::from_vec(values)),
-    ] {
-        ops.push(op).expect(&rt, "an op");
-    }
-    let program = Program {
-        ops: Items::from_vec(ops),
-        start: Start::Zero,
-    };
+    let batch = Op::Batch(u, Items::from_vec(values));
+    let ops = vec![in alloc; Op::Forward(t, t), Op::Get(r), Op::Add(r, 1), batch];
+    let program = program_of(ops.expect(&rt, "ops"));
     let access = program.copy(alloc).expect(&rt, "a copy").access();
     assert!(rt; access.writes_res(r) && !access.reads_res(r));
     assert!(rt; access.reads_type(t) && access.writes_type(t));

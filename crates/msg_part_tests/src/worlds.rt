@@ -37,6 +37,12 @@ fn set(lent: &mut Lent, r: ResNo, value: i64) -> Option<i64>
     }
 }
 
+/// Which of these types a loan shows for reading, and which for writing.
+fn types_shown(lent: &mut Lent, types: [TypeNo; 3]) -> ([bool; 3], [bool; 3]) {
+    let read = types.map(|t| lent.reader(t).is_some());
+    (read, types.map(|t| lent.writer(t).is_some()))
+}
+
 #[test]
 fn a_loan_shows_what_its_access_uses(rt: HostRuntime) {
     let (t, u, none) = (type_no(0), type_no(1), type_no(2));
@@ -51,15 +57,8 @@ fn a_loan_shows_what_its_access_uses(rt: HostRuntime) {
     let home = [world.is_home(&of_types[0]), world.is_home(&of_types[1])];
     let there = [world.messages(t).is_some(), world.messages(u).is_some()];
     assert_eq!(rt; (home, there), ([false, true], [false, true]));
-    let types = [t, u, none];
-    assert_eq!(rt;
-        types.map(|t| lent.reader(t).is_some()),
-        [true, false, false]
-    );
-    assert_eq!(rt;
-        types.map(|t| lent.writer(t).is_some()),
-        [true, false, false]
-    );
+    let first = [true, false, false];
+    assert_eq!(rt; types_shown(&mut lent, [t, u, none]), (first, first));
     let resource = (lent.res(r), lent.res_mut(r).is_some(), lent.signal());
     assert_eq!(rt; resource, (Some(7), false, false));
 }

@@ -1,8 +1,9 @@
 // A board that can't be made drops the jobs; one that can't be closed drops the results.
 ghost use Rattle.std.specs.Prelude.{◌≡◌, ◌+◌, IfOk, length};
+ghost use Rattle.msg_board.specs.Prelude.{HasEnded, IsIdle};
 
 use crate::outcome::tell;
-use msg_board::{Board, Work};
+use msg_board::{Board, Pass, Work};
 use std::alloc::{AllocError, Global};
 use std::process::Abort;
 use std::sync::atomic::{AtomicU64, Ordering};
@@ -65,13 +66,40 @@ fn expect_successors(rt: &impl Abort, results: &[Counted]) {
     assert_eq!(rt; (first.value, second.value, third.value), (11, 21, 31));
 }
 
+/// Draws the three jobs by two passes, hands in their successors, and ends both passes.
+fn work_off<'a>(
+    rt: &impl Abort,
+    board: &Board<AddOne<'a>>,
+    a: &mut Pass<Counted<'a>, Counted<'a>>,
+    b: &mut Pass<Counted<'a>, Counted<'a>>,
+    dropped: &'a AtomicU64,
+)
+    requires a { IsIdle board.now a.old }
+    requires b { IsIdle board.now b.old }
+    ensures a { HasEnded board.now a.new }
+    ensures b { HasEnded board.now b.new }
+{
+    let (Some((0, first)), Some((1, second))) = (board.draw(a), board.draw(b)) else {
+        panic!(rt; "the first job and the second")
+    };
+    let second = finish(rt, second, 20, dropped);
+    board.hand_in(a, 0, finish(rt, first, 10, dropped));
+    let Some((2, third)) = board.draw(a) else {
+        panic!(rt; "the third job")
+    };
+    board.hand_in(a, 2, finish(rt, third, 30, dropped));
+    assert!(rt; board.draw(a).is_none());
+    board.hand_in(b, 1, second);
+    assert!(rt; board.draw(b).is_none());
+}
+
 /// Works off a board of three jobs, and says whether there was no memory for the board or for its
 /// results. The counts are of the dropped jobs and of the dropped results.
-fn is_refused(
+fn is_refused<'a>(
     rt: &impl Abort,
     alloc: Global,
-    jobs_dropped: &AtomicU64,
-    results_dropped: &AtomicU64,
+    jobs_dropped: &'a AtomicU64,
+    results_dropped: &'a AtomicU64,
 ) -> Result<bool, AllocError> {
     let jobs = three_jobs(alloc, jobs_dropped)?;
     let Ok((board, mut passes)) = Board::<AddOne>::new(alloc, jobs, 2) else {
@@ -81,21 +109,7 @@ fn is_refused(
     let (Some(mut b), Some(mut a)) = (passes.pop(), passes.pop()) else {
         panic!(rt; "two passes")
     };
-    let first = board.draw(&mut a);
-    let second = board.draw(&mut b);
-    let (Some((0, first)), Some((1, second))) = (first, second) else {
-        panic!(rt; "the first job and the second")
-    };
-    let first = finish(rt, first, 10, results_dropped);
-    let second = finish(rt, second, 20, results_dropped);
-    board.hand_in(&mut a, 0, first);
-    let Some((2, job)) = board.draw(&mut a) else {
-        panic!(rt; "the third job")
-    };
-    board.hand_in(&mut a, 2, finish(rt, job, 30, results_dropped));
-    assert!(rt; board.draw(&mut a).is_none());
-    board.hand_in(&mut b, 1, second);
-    assert!(rt; board.draw(&mut b).is_none());
+    work_off(rt, &board, &mut a, &mut b, results_dropped);
     passes.push(a)?;
     passes.push(b)?;
     assert_eq!(rt; results_dropped.load(Ordering::SeqCst), 0);
