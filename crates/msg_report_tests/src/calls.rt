@@ -1,12 +1,11 @@
 // The text that a calls file is answered with.
 use crate::narrow::Narrow;
 use msg_scenario::{Calls, MemorySink, ReportFault, read_calls, run_calls};
-use std::alloc::Global;
 use std::process::Abort;
-use std::test::Fail;
 
-fn calls_of(rt: &impl Abort, alloc: Global, file: &str) -> Calls {
-    match read_calls(alloc, file.as_bytes()) {
+/// The calls of a file that is accepted.
+pub fn calls_of(rt: &(impl Abort + AllocGlobal), file: &str) -> Calls {
+    match read_calls(rt.alloc(), file.as_bytes()) {
         Ok(calls) => calls,
         Err(refusal) => panic!(rt; "refused {file}: {refusal}"),
     }
@@ -28,7 +27,7 @@ const WORKED: [(&str, &str); 3] = [
 #[test]
 fn worked_files(rt: HostRuntime) {
     for (file, text) in WORKED {
-        let calls = calls_of(&rt, rt.alloc(), file);
+        let calls = calls_of(&rt, file);
         let mut sink = MemorySink::new();
         assert_eq!(rt; run_calls(rt.alloc(), &calls, &mut sink), Ok(()));
         assert!(rt; sink.bytes() == text.as_bytes(), "{file}");
@@ -40,7 +39,7 @@ fn worked_files(rt: HostRuntime) {
 fn sinks_that_fail(rt: HostRuntime) {
     let file = r#"{"limit":9,"calls":[["write",7],["update"],["read",0]]}"#;
     let text = b"write 0+1\nupdate\nread 0 missed 0: 0=7\n";
-    let calls = calls_of(&rt, rt.alloc(), file);
+    let calls = calls_of(&rt, file);
     for left in 0..text.len() {
         for answers_zero in [false, true] {
             let mut sink = Narrow::new(4, left, answers_zero);

@@ -1,11 +1,15 @@
 // What a calls file denotes, and which are refused.
+use crate::calls::calls_of;
 use crate::texts::{expect_refusal, long_file, nested, wanted};
-use msg_scenario::{Calls, Refusal, read_calls};
-use std::alloc::Global;
-use std::test::Fail;
+use msg_scenario::{Refusal, read_calls};
+use std::panic::Expect;
+use std::process::Abort;
 
-fn shown(alloc: Global, calls: &Calls) -> Result<String, Fail> {
-    Ok(format!(in alloc; "{} {:?}", calls.limit(), calls.calls())?)
+/// The file is accepted, and its limit and its calls show themselves as `want`.
+fn expect_calls(rt: &(impl Abort + AllocGlobal), file: &str, want: &str) {
+    let calls = calls_of(rt, file);
+    let shown = format!(in rt.alloc(); "{} {:?}", calls.limit(), calls.calls());
+    assert_eq!(rt; shown.expect(rt, "memory").as_str(), want);
 }
 
 /// Calls, each with what it is read as.
@@ -33,16 +37,14 @@ const HEADS: [&str; 20] = [
 ];
 
 #[test]
-fn every_head(rt: HostRuntime) -> Result<(), Fail> {
+fn every_head(rt: HostRuntime) {
     let alloc = rt.alloc();
     for row in HEADS {
         let (call, want) = wanted(&rt, row);
-        let text = format!(in alloc; r#"{{"calls":[{call}],"limit":1000000}}"#)?;
-        let calls = read_calls(alloc, text.as_bytes())?;
-        let want = format!(in alloc; "1000000 [{want}]")?;
-        assert_eq!(rt; shown(alloc, &calls)?.as_str(), want.as_str());
+        let file = format!(in alloc; r#"{{"calls":[{call}],"limit":1000000}}"#);
+        let want = format!(in alloc; "1000000 [{want}]").expect(&rt, "memory");
+        expect_calls(&rt, file.expect(&rt, "memory").as_str(), want.as_str());
     }
-    Ok(())
 }
 
 /// Files, each behind the refusal that it gets.
@@ -98,24 +100,17 @@ const REFUSED: [&str; 48] = [
 ];
 
 #[test]
-fn refused_files(rt: HostRuntime) -> Result<(), Fail> {
+fn refused_files(rt: HostRuntime) {
     for row in REFUSED {
         let (want, text) = wanted(&rt, row);
-        expect_refusal(
-            &rt,
-            read_calls(rt.alloc(), text.as_bytes()).err(),
-            want,
-            text,
-        )?;
+        let refused = read_calls(rt.alloc(), text.as_bytes()).err();
+        expect_refusal(&rt, refused, want, text);
     }
-    let last = r#"{"limit":-1,"limit":5,"calls":[]}"#;
-    let calls = read_calls(rt.alloc(), last.as_bytes())?;
-    assert_eq!(rt; shown(rt.alloc(), &calls)?.as_str(), "5 []");
+    expect_calls(&rt, r#"{"limit":-1,"limit":5,"calls":[]}"#, "5 []");
     for no_text in [b"\xff".as_slice(), b"{\"limit\":1,\"calls\":[[\"\xff\"]]}"] {
         let refused = read_calls(rt.alloc(), no_text).err();
         assert_eq!(rt; refused, Some(Refusal::NotJson));
     }
-    Ok(())
 }
 
 /// Files with a long list, each behind how it is refused, the list's length and its item.
@@ -135,17 +130,16 @@ const LONG: [&str; 12] = [
 ];
 
 #[test]
-fn long_files(rt: HostRuntime) -> Result<(), Fail> {
+fn long_files(rt: HostRuntime) {
     for row in LONG {
-        let (want, text) = long_file(&rt, row)?;
+        let (want, text) = long_file(&rt, row);
         let refused = read_calls(rt.alloc(), text.as_bytes()).err();
-        expect_refusal(&rt, refused, want, row)?;
+        expect_refusal(&rt, refused, want, row);
     }
     for (depth, want) in [(100, Refusal::Shape), (200, Refusal::NotJson)] {
-        let text = nested(rt.alloc(), "[", depth, "", "]")?;
+        let text = nested(&rt, "[", depth, "", "]");
         assert_eq!(rt; read_calls(rt.alloc(), text.as_bytes()).err(), Some(want));
     }
-    Ok(())
 }
 
 #[test]

@@ -1,9 +1,8 @@
 // What a scenario file denotes, and which are refused.
 use crate::texts::{expect_refusal, long_file, nested, wanted};
 use msg_scenario::{Refusal, Scenario, read_scenario};
-use std::alloc::Global;
+use std::panic::Expect;
 use std::process::Abort;
-use std::test::Fail;
 
 /// The scenario of a text that is accepted.
 fn accepted(rt: &(impl Abort + AllocGlobal), text: &str) -> Scenario {
@@ -14,11 +13,13 @@ fn accepted(rt: &(impl Abort + AllocGlobal), text: &str) -> Scenario {
 }
 
 /// The text itself where it is a file; of systems alone, a file with them and the type `hit`.
-fn whole(alloc: Global, text: &str) -> Result<String, Fail> {
-    if !text.starts_with(r#"{"name""#) {
-        return Ok(text.to_string(alloc)?);
-    }
-    Ok(format!(in alloc; r#"{{"types":[["hit",9]],"systems":[{text}],"frames":[]}}"#)?)
+fn whole(rt: &(impl Abort + AllocGlobal), text: &str) -> String {
+    let file = if text.starts_with(r#"{"name""#) {
+        format!(in rt.alloc(); r#"{{"types":[["hit",9]],"systems":[{text}],"frames":[]}}"#)
+    } else {
+        text.to_string(rt.alloc())
+    };
+    file.expect(rt, "memory")
 }
 
 /// Files, or their systems, each behind the refusal that it gets.
@@ -84,16 +85,15 @@ const REFUSED: [&str; 58] = [
 ];
 
 #[test]
-fn refused_files(rt: HostRuntime) -> Result<(), Fail> {
+fn refused_files(rt: HostRuntime) {
     for row in REFUSED {
         let (want, text) = wanted(&rt, row);
-        let text = whole(rt.alloc(), text)?;
+        let text = whole(&rt, text);
         let refused = read_scenario(rt.alloc(), text.as_bytes()).err();
-        expect_refusal(&rt, refused, want, row)?;
+        expect_refusal(&rt, refused, want, row);
     }
     let no_text = read_scenario(rt.alloc(), b"\xff").err();
     assert_eq!(rt; no_text, Some(Refusal::NotJson));
-    Ok(())
 }
 
 /// Files with a long list, each behind how it is refused, the list's length and its item: the
@@ -121,42 +121,40 @@ const LONG: [&str; 19] = [
 ];
 
 #[test]
-fn long_files(rt: HostRuntime) -> Result<(), Fail> {
+fn long_files(rt: HostRuntime) {
     for row in LONG {
-        let (want, text) = long_file(&rt, row)?;
-        let text = whole(rt.alloc(), text.as_str())?;
+        let (want, text) = long_file(&rt, row);
+        let text = whole(&rt, text.as_str());
         let refused = read_scenario(rt.alloc(), text.as_bytes()).err();
-        expect_refusal(&rt, refused, want, row)?;
+        expect_refusal(&rt, refused, want, row);
     }
-    Ok(())
+}
+
+/// A file whose condition has so many `not`s around `probe`.
+fn with_nots(rt: &(impl Abort + AllocGlobal), nots: usize, probe: &str) -> String {
+    let condition = nested(rt, r#"["not","#, nots, probe, "]");
+    let file = format!(in rt.alloc();
+        r#"{{"types":[],"systems":[{{"name":"a","ops":[],"if":[{condition}]}}],"frames":[]}}"#
+    );
+    file.expect(rt, "memory")
 }
 
 /// Sixteen `not`s are read, and seventeen are too many. A list as deep is no scenario.
 #[test]
-fn deep_files(rt: HostRuntime) -> Result<(), Fail> {
-    let alloc = rt.alloc();
+fn deep_files(rt: HostRuntime) {
     let (asks, equals) = (r#"["on_message","hat"]"#, r#"["resource_equals","k",1]"#);
     for (nots, probe, want) in [
-        (16, asks, Refusal::UnknownName),
-        (17, asks, Refusal::TooMany),
-        (17, equals, Refusal::TooMany),
+        (16, asks, "UnknownName"),
+        (17, asks, "TooMany"),
+        (17, equals, "TooMany"),
     ] {
-        let condition = nested(alloc, r#"["not","#, nots, probe, "]")?;
-        let text = format!(in alloc;
-            r#"{{"types":[],"systems":[{{"name":"a","ops":[],"if":[{condition}]}}],"frames":[]}}"#
-        )?;
-        assert_eq!(rt;
-            read_scenario(alloc, text.as_bytes()).err(),
-            Some(want),
-            "{nots}"
-        );
+        let text = with_nots(&rt, nots, probe);
+        let refused = read_scenario(rt.alloc(), text.as_bytes()).err();
+        expect_refusal(&rt, refused, want, text.as_str());
     }
-    let text = nested(alloc, "[", 100, "", "]")?;
-    assert_eq!(rt;
-        read_scenario(alloc, text.as_bytes()).err(),
-        Some(Refusal::Shape)
-    );
-    Ok(())
+    let text = nested(&rt, "[", 100, "", "]");
+    let refused = read_scenario(rt.alloc(), text.as_bytes()).err();
+    expect_refusal(&rt, refused, "Shape", text.as_str());
 }
 
 #[test]
@@ -191,11 +189,10 @@ const EVERY_SHOWN: &str =
     r#"Scenario { types: Items { items: [(Name { text: "t" }, 9), (Name { text: "u" }, 9)] }, resources: Items { items: [(Name { text: "r" }, 0)] }, held: true, systems: Items { items: [SystemSpec { name: Name { text: "a" }, kind: Script, program: Program { ops: Items { items: [Write(TypeNo { number: 0 }, -1), Batch(TypeNo { number: 0 }, Items { items: [1, 2] }), Drain(TypeNo { number: 0 }), Read(TypeNo { number: 1 }, None), Read(TypeNo { number: 1 }, Some(3)), Len(TypeNo { number: 1 }), Missed(TypeNo { number: 1 }), Clear(TypeNo { number: 1 }), Forward(TypeNo { number: 1 }, TypeNo { number: 0 }), Sum(TypeNo { number: 1 }, ResNo { number: 0 }), Get(ResNo { number: 0 }), Set(ResNo { number: 0 }, 4), Add(ResNo { number: 0 }, 5), Signal] }, start: Current }, place: Place { conditions: Items { items: [Condition { nots: 2, probe: OnMessage(TypeNo { number: 0 }) }, Condition { nots: 0, probe: ResourceEquals(ResNo { number: 0 }, 7) }] }, join: 3 } }, SystemSpec { name: Name { text: "b" }, kind: Relay, program: Program { ops: Items { items: [Forward(TypeNo { number: 0 }, TypeNo { number: 1 })] }, start: Zero }, place: Place { conditions: Items { items: [] }, join: 1 } }, SystemSpec { name: Name { text: "c" }, kind: Tally, program: Program { ops: Items { items: [Sum(TypeNo { number: 0 }, ResNo { number: 0 })] }, start: Zero }, place: Place { conditions: Items { items: [] }, join: 1 } }] }, rules: Items { items: [Rule { earlier: 1, later: 0 }] }, frames: Items { items: [Frame { posts: Items { items: [(TypeNo { number: 1 }, 8)] } }, Frame { posts: Items { items: [] } }] } }"#;
 
 #[test]
-fn every_op_and_key(rt: HostRuntime) -> Result<(), Fail> {
+fn every_op_and_key(rt: HostRuntime) {
     let scenario = accepted(&rt, EVERY);
-    let shown = format!(in rt.alloc(); "{scenario:?}")?;
-    assert_eq!(rt; shown.as_str(), EVERY_SHOWN);
-    Ok(())
+    let shown = format!(in rt.alloc(); "{scenario:?}");
+    assert_eq!(rt; shown.expect(&rt, "memory").as_str(), EVERY_SHOWN);
 }
 
 #[test]

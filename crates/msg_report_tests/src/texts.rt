@@ -1,8 +1,7 @@
 // Rows of tables of files, and texts made of pieces.
 use msg_scenario::Refusal;
-use std::alloc::{AllocError, Global};
+use std::panic::Expect;
 use std::process::Abort;
-use std::test::Fail;
 
 /// What stands before the first blank of a row, and what stands after it.
 pub fn wanted<'a>(rt: &impl Abort, row: &'a str) -> (&'a str, &'a str) {
@@ -19,52 +18,55 @@ pub fn expect_refusal(
     came: Option<Refusal>,
     want: &str,
     text: &str,
-) -> Result<(), Fail> {
+) {
     let shown = match came {
-        Some(refusal) => format!(in rt.alloc(); "{refusal:?}")?,
-        None => "Ok".to_string(rt.alloc())?,
-    };
+        Some(refusal) => format!(in rt.alloc(); "{refusal:?}"),
+        None => "Ok".to_string(rt.alloc()),
+    }
+    .expect(rt, "memory");
     assert!(rt; shown.as_str() == want, "{text}: {shown}");
-    Ok(())
+}
+
+/// Adds a piece to a text.
+fn push(rt: &impl Abort, text: &mut String, piece: &str) {
+    text.push_str(piece).expect(rt, "memory");
 }
 
 /// Of a row `WANT NUMBER ITEM FILE`: WANT, and FILE with NUMBER times ITEM in place of its star,
 /// parted by commas.
-pub fn long_file<'a>(
-    rt: &(impl Abort + AllocGlobal),
-    row: &'a str,
-) -> Result<(&'a str, String), Fail> {
+pub fn long_file<'a>(rt: &(impl Abort + AllocGlobal), row: &'a str) -> (&'a str, String) {
     let (want, row) = wanted(rt, row);
     let (number, row) = wanted(rt, row);
     let (item, file) = wanted(rt, row);
     let (Ok(number), Some((front, back))) = (number.parse::<usize>(), file.split_once('*')) else {
         panic!(rt; "no number or no star in {row}")
     };
-    let mut text = front.to_string(rt.alloc())?;
-    text.push_str(item)?;
+    let mut text = String::new(rt.alloc());
+    push(rt, &mut text, front);
+    push(rt, &mut text, item);
     for _ in 1..number {
-        text.push_str(",")?;
-        text.push_str(item)?;
+        push(rt, &mut text, ",");
+        push(rt, &mut text, item);
     }
-    text.push_str(back)?;
-    Ok((want, text))
+    push(rt, &mut text, back);
+    (want, text)
 }
 
 /// `open`, `depth` times, then `middle`, and then `close` as often.
 pub fn nested(
-    alloc: Global,
+    rt: &(impl Abort + AllocGlobal),
     open: &str,
     depth: usize,
     middle: &str,
     close: &str,
-) -> Result<String, AllocError> {
-    let mut text = String::new(alloc);
+) -> String {
+    let mut text = String::new(rt.alloc());
     for _ in 0..depth {
-        text.push_str(open)?;
+        push(rt, &mut text, open);
     }
-    text.push_str(middle)?;
+    push(rt, &mut text, middle);
     for _ in 0..depth {
-        text.push_str(close)?;
+        push(rt, &mut text, close);
     }
-    Ok(text)
+    text
 }

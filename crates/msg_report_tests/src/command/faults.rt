@@ -1,25 +1,24 @@
 // The line and the status of each fault, and the text that it shows itself as.
 use msg_command::{InputFault, MainFault, WordFault, print_fault};
 use msg_files::{MemorySink, PutFault, Refusal, ReportFault, RunFault};
+use std::panic::Expect;
 use std::process::Abort;
-use std::test::Fail;
 
 /// The fault prints this line behind the program's name, gives this status, and shows itself as
 /// this text.
-fn expect(
+fn expect_line(
     rt: &(impl Abort + AllocGlobal),
     fault: MainFault,
     line: &str,
     status: u8,
     text: &str,
-) -> Result<(), Fail> {
+) {
     let mut sink = MemorySink::new();
     assert_eq!(rt; print_fault(&fault, &mut sink), status);
-    let printed = format!(in rt.alloc(); "msgrun: {line}\n")?;
+    let printed = format!(in rt.alloc(); "msgrun: {line}\n").expect(rt, "memory");
     assert!(rt; sink.bytes() == printed.as_bytes(), "{line}");
-    let shown = format!(in rt.alloc(); "{fault}")?;
+    let shown = format!(in rt.alloc(); "{fault}").expect(rt, "memory");
     assert!(rt; shown.as_str() == text, "{shown}");
-    Ok(())
 }
 
 /// A refusal, the line of it, and what its text has behind that.
@@ -37,53 +36,64 @@ const REFUSALS: [(Refusal, &str, &str); 10] = [
 ];
 
 #[test]
-fn refused_files(rt: HostRuntime) -> Result<(), Fail> {
+fn refused_files(rt: HostRuntime) {
     for (refusal, line, behind) in REFUSALS {
-        let text = format!(in rt.alloc(); "{line}{behind}")?;
-        expect(&rt, MainFault::Refused(refusal), line, 2, text.as_str())?;
+        let text = format!(in rt.alloc(); "{line}{behind}").expect(&rt, "memory");
+        expect_line(&rt, MainFault::Refused(refusal), line, 2, text.as_str());
     }
     let refused = MainFault::Refused(Refusal::NoMemory);
-    expect(&rt, refused, "want of memory", 1, "refused 11 NoMemory")
+    expect_line(&rt, refused, "want of memory", 1, "refused 11 NoMemory");
 }
 
 #[test]
-fn reports_that_stop(rt: HostRuntime) -> Result<(), Fail> {
-    let (spoiled, order) = ("the engine is spoiled", "the order isn't lawful");
+fn reports_that_stop(rt: HostRuntime) {
     for (fault, line, text) in [
-        (RunFault::Spoiled, "run fault 1 Spoiled", spoiled),
-        (RunFault::BadOrder, "run fault 2 BadOrder", order),
-        (RunFault::NoMemory, "run fault 3 NoMemory", "want of memory"),
+        (
+            ReportFault::Run(RunFault::Spoiled),
+            "run fault 1 Spoiled",
+            "run fault: the engine is spoiled",
+        ),
+        (
+            ReportFault::Run(RunFault::BadOrder),
+            "run fault 2 BadOrder",
+            "run fault: the order isn't lawful",
+        ),
+        (
+            ReportFault::Run(RunFault::NoMemory),
+            "run fault 3 NoMemory",
+            "run fault: want of memory",
+        ),
+        (ReportFault::Write, "write fault", "write fault"),
+        (ReportFault::NoMemory, "want of memory", "want of memory"),
     ] {
-        let fault = MainFault::Report(ReportFault::Run(fault));
-        let text = format!(in rt.alloc(); "run fault: {text}")?;
-        expect(&rt, fault, line, 1, text.as_str())?;
+        expect_line(&rt, MainFault::Report(fault), line, 1, text);
     }
-    for (fault, line) in [
-        (ReportFault::Write, "write fault"),
-        (ReportFault::NoMemory, "want of memory"),
-    ] {
-        expect(&rt, MainFault::Report(fault), line, 1, line)?;
-    }
-    expect(&rt, MainFault::Built, "want of memory", 1, "want of memory")
+    expect_line(&rt, MainFault::Built, "want of memory", 1, "want of memory");
 }
 
 #[test]
-fn inputs_and_words(rt: HostRuntime) -> Result<(), Fail> {
+fn inputs_and_words(rt: HostRuntime) {
     for (fault, status, line) in [
         (MainFault::Input(InputFault::Failed), 1, "cannot read input"),
         (MainFault::Input(InputFault::TooLarge), 2, "input too large"),
         (MainFault::Input(InputFault::NoMemory), 1, "want of memory"),
         (MainFault::Words(WordFault::Bad), 2, "bad command line"),
     ] {
-        expect(&rt, fault, line, status, line)?;
+        expect_line(&rt, fault, line, status, line);
     }
+}
+
+/// Help is no fault: it has no line, status 0, and its own text.
+#[test]
+fn help(rt: HostRuntime) {
+    let text = "its text".to_string(rt.alloc()).expect(&rt, "memory");
+    let help = MainFault::Words(WordFault::Help(text));
     let mut sink = MemorySink::new();
-    let help = MainFault::Words(WordFault::Help("its text".to_string(rt.alloc())?));
     assert_eq!(rt; print_fault(&help, &mut sink), 0);
     assert!(rt; sink.bytes().is_empty());
+    let shown = format!(in rt.alloc(); "{help}, {PutFault}");
     assert_eq!(rt;
-        format!(in rt.alloc(); "{help}, {PutFault}")?.as_str(),
+        shown.expect(&rt, "memory").as_str(),
         "its text, the sink failed"
     );
-    Ok(())
 }

@@ -2,7 +2,7 @@
 use msg_command::{InputFault, MAX_BYTES, read_all};
 use std::io;
 use std::io::{Error, ErrorKind, Read};
-use std::test::Fail;
+use std::panic::Expect;
 
 /// Gives `left` bytes, each of them 7, at most `at_once` at each read; then an error or the end.
 #[derive(Drop)]
@@ -28,7 +28,7 @@ impl Read for Drips {
 
 /// How many bytes there are, and how many come at each read.
 #[test]
-fn whole_inputs(rt: HostRuntime) -> Result<(), Fail> {
+fn whole_inputs(rt: HostRuntime) {
     for (left, at_once) in [(0, 1), (5, 2), (MAX_BYTES, 1), (MAX_BYTES, 4096)] {
         let fails = false;
         let mut input = Drips {
@@ -36,14 +36,13 @@ fn whole_inputs(rt: HostRuntime) -> Result<(), Fail> {
             at_once,
             fails,
         };
-        let all = read_all(rt.alloc(), &mut input)?;
+        let all = read_all(rt.alloc(), &mut input).expect(&rt, "all bytes");
         assert_eq!(rt; all.len(), left);
         assert!(rt; all.iter().all(|byte| *byte == 7));
     }
     let text = b"{\"limit\":1}".as_slice();
-    let all = read_all(rt.alloc(), &mut b"{\"limit\":1}".as_slice())?;
+    let all = read_all(rt.alloc(), &mut b"{\"limit\":1}".as_slice()).expect(&rt, "all bytes");
     assert_eq!(rt; all.as_slice(), text);
-    Ok(())
 }
 
 /// How many bytes there are, how many come at each read, whether the reader fails after them, and

@@ -1,15 +1,16 @@
 // What command lines ask for.
 use msg_command::{WordFault, parse_words};
-use std::alloc::{AllocError, Global};
-use std::test::Fail;
+use std::panic::Expect;
+use std::process::Abort;
 
 /// The words of a line, which blanks part.
-pub fn words_of(alloc: Global, line: &str) -> Result<Vec<String>, AllocError> {
-    let mut words = Vec::new(alloc);
+fn words_of(rt: &(impl Abort + AllocGlobal), line: &str) -> Vec<String> {
+    let mut words = Vec::new(rt.alloc());
     for word in line.split_whitespace() {
-        words.push(word.to_string(alloc)?)?;
+        let word = word.to_string(rt.alloc()).expect(rt, "memory");
+        words.push(word).expect(rt, "memory");
     }
-    Ok(words)
+    words
 }
 
 /// Command lines, and what they are parsed as.
@@ -49,14 +50,13 @@ const ACTIONS: [(&str, &str); 29] = [
 ];
 
 #[test]
-fn actions(rt: HostRuntime) -> Result<(), Fail> {
+fn actions(rt: HostRuntime) {
     for (line, want) in ACTIONS {
-        let words = words_of(rt.alloc(), line)?;
+        let words = words_of(&rt, line);
         let parsed = parse_words(rt.alloc(), words.as_slice());
-        let text = format!(in rt.alloc(); "{parsed:?}")?;
+        let text = format!(in rt.alloc(); "{parsed:?}").expect(&rt, "memory");
         assert!(rt; text.as_str() == want, "{line}: {text}");
     }
-    Ok(())
 }
 
 /// Command lines that ask for help, and pieces of the help that they get. The examples have the
@@ -83,9 +83,9 @@ const HELPS: [(&str, [&str; 3]); 4] = [
 ];
 
 #[test]
-fn help(rt: HostRuntime) -> Result<(), Fail> {
+fn help(rt: HostRuntime) {
     for (line, pieces) in HELPS {
-        let words = words_of(rt.alloc(), line)?;
+        let words = words_of(&rt, line);
         match parse_words(rt.alloc(), words.as_slice()) {
             Err(WordFault::Help(text)) => {
                 for piece in pieces {
@@ -95,5 +95,4 @@ fn help(rt: HostRuntime) -> Result<(), Fail> {
             other => panic!(rt; "{line}: {other:?}"),
         }
     }
-    Ok(())
 }
