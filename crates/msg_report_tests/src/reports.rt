@@ -1,8 +1,11 @@
 // Whole reports: sinks that fail, systems without memory, and readers side by side.
+ghost use Rattle.msg_reading.specs.Prelude.{IsRunnable};
+
 use crate::narrow::Narrow;
 use crate::sparing::{sparing_engine, sparing_systems, workers};
-use msg_exec::{Gate, NoGate, RunFault};
-use msg_scenario::{MemorySink, ReportFault, Sink, read_scenario, report, run_scenario};
+use msg_exec::{Gate, NoGate, RunFault, Workers};
+use msg_scenario::{MemorySink, ReportFault, Scenario, Sink, read_scenario, report, run_scenario};
+use std::panic::Expect;
 use std::process::Abort;
 use std::sync::atomic::{AtomicU64, Ordering};
 use std::thread::Threads;
@@ -28,9 +31,41 @@ const WHOLE: &str = "\
     reader a hit start 0 got 2 missed 0 cleared 0 place 2\n\
     reader b hit start 0 got 2 missed 0 cleared 0 place 2\n";
 
-/// What the report of the two readers came to, each of which has memory for `runs` runs. Where
-/// `of_engine` is true it is the report of an engine, and with it comes how many frames that engine
-/// counts then, and whether it is spoiled. Else it is the report of systems, with None beside it.
+/// What the report by an engine came to, each of whose systems has memory for `runs` runs; how many
+/// frames that engine counts then, and whether it is spoiled.
+fn report_by_engine<R: Threads + Sync + Abort + AllocGlobal, S: Sink, G: Gate>(
+    rt: &R,
+    scenario: &Scenario,
+    workers: Workers,
+    runs: u32,
+    gate: &G,
+    sink: &mut S,
+) -> (Result<(), ReportFault>, (u32, bool))
+    requires runnable { IsRunnable scenario.now }
+{
+    let mut engine = sparing_engine(rt.alloc(), scenario, runs).expect(rt, "an engine");
+    let put = report(rt, rt.alloc(), &mut engine, scenario, workers, gate, sink);
+    (put, (engine.frames_run(), engine.world().is_none()))
+}
+
+/// What the report by systems came to, each of which has memory for `runs` runs.
+fn report_by_systems<R: Threads + Sync + Abort + AllocGlobal, S: Sink, G: Gate>(
+    rt: &R,
+    scenario: &Scenario,
+    workers: Workers,
+    runs: u32,
+    gate: &G,
+    sink: &mut S,
+) -> Result<(), ReportFault>
+    requires runnable { IsRunnable scenario.now }
+{
+    let systems = sparing_systems(rt.alloc(), scenario, runs).expect(rt, "systems");
+    let put = run_scenario(rt, rt.alloc(), scenario, systems, workers, gate, sink);
+    put.expect(rt, "an engine")
+}
+
+/// What the report of the two readers came to, by an engine where `of_engine` is true, and else by
+/// systems. Beside it stands what is told of the engine.
 fn report_of<R: Threads + Sync + Abort + AllocGlobal, S: Sink, G: Gate>(
     rt: &R,
     of_engine: bool,
@@ -39,25 +74,15 @@ fn report_of<R: Threads + Sync + Abort + AllocGlobal, S: Sink, G: Gate>(
     gate: &G,
     sink: &mut S,
 ) -> (Result<(), ReportFault>, Option<(u32, bool)>) {
-    let alloc = rt.alloc();
-    let Ok(scenario) = read_scenario(alloc, TWO_READERS.as_bytes()) else {
+    let Ok(scenario) = read_scenario(rt.alloc(), TWO_READERS.as_bytes()) else {
         panic!(rt; "refused")
     };
-    let workers = workers(rt, on);
     if of_engine {
-        let Ok(mut engine) = sparing_engine(alloc, &scenario, runs) else {
-            panic!(rt; "no memory")
-        };
-        let put = report(rt, alloc, &mut engine, &scenario, workers, gate, sink);
-        return (put, Some((engine.frames_run(), engine.world().is_none())));
+        let (put, engine) = report_by_engine(rt, &scenario, workers(rt, on), runs, gate, sink);
+        return (put, Some(engine));
     }
-    let Ok(systems) = sparing_systems(alloc, &scenario, runs) else {
-        panic!(rt; "no memory")
-    };
-    match run_scenario(rt, alloc, &scenario, systems, workers, gate, sink) {
-        Ok(put) => (put, None),
-        Err(_) => panic!(rt; "no engine"),
-    }
+    let put = report_by_systems(rt, &scenario, workers(rt, on), runs, gate, sink);
+    (put, None)
 }
 
 #[test]
