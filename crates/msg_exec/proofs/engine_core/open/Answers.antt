@@ -5,6 +5,9 @@ use Rattle.msg_frames.proofs.SystemsStay.{joining_world}
 use Rattle.msg_exec.proofs.{CoreRunsFrame.schedule_along, SystemAfterTurn.member_stays}
 use Rattle.msg_exec.proofs.engine_core.open.Goals as goal
 
+pub begin-requires-clause-stands : goal.begin-requires-clause-stands
+begin-requires-clause-stands g c κs within = c.requires.stands
+
 pub post_all-requires-clause-types : goal.post_all-requires-clause-types
 post_all-requires-clause-types g c =
     rw (c.as_slice-posts.ensures.items, c.update_all.ensures.shape.size.types, c.in_ok-core.ensures.types)

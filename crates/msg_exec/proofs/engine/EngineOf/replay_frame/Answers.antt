@@ -37,3 +37,6 @@ returns-clause-bad_order g c s stands some =
       λ same. absurd (false≢true (ap is_ok (sym same))),
       λ unlawful. absurd (unlawful (tells.0 c.if-not-is_lawful.false)),
     )
+
+pub returns-in_default-accepts_next-clause-no_memory : goal.returns-in_default-accepts_next-clause-no_memory
+returns-in_default-accepts_next-clause-no_memory g c same = ap is_some c.take.ensures.after
