@@ -9,7 +9,7 @@ use crate::scenario::read::list::{read_list, read_list_if_there};
 use crate::scenario::read::named::read_names;
 use crate::scenario::read::names::Declarations;
 use crate::{Name, Refusal, Scenario, SystemSpec};
-use msg_files::json::{self, Keys, check_keys};
+use msg_files::json::{Keys, check_keys};
 use msg_frames::{Frame, Items};
 use msg_order::Rule;
 use serde_json::Value;
@@ -31,7 +31,10 @@ pub fn read_sections(alloc: Global, value: &Value) -> Result<Scenario, Refusal>
 {
     let needed = needed(value)?;
     let mut names = Declarations::new(alloc);
-    read_in_turn(alloc, &mut names, needed, value)
+    let scenario = read_in_turn(alloc, &mut names, needed, value);
+    // (by one call: a proof follows what goes out of scope through all of its parts)
+    drop(names);
+    scenario
 }
 
 /// The sections of a file whose keys are known. (The names are lent to it, since a proof goes
@@ -76,11 +79,14 @@ fn needed(file: &Value) -> Result<Sections<'_>, Refusal>
         × (first_refusal (root_object (view file.now)) ≡ Some e)) }
 {
     check_keys::<FileKeys>(file)?;
-    Ok(Sections {
-        types: json::needed(file, "types")?,
-        systems: json::needed(file, "systems")?,
-        frames: json::needed(file, "frames")?,
-    })
+    match (file.get("types"), file.get("systems"), file.get("frames")) {
+        (Some(types), Some(systems), Some(frames)) => Ok(Sections {
+            types,
+            systems,
+            frames,
+        }),
+        _ => Err(Refusal::Shape),
+    }
 }
 
 /// The keys of a scenario file.
@@ -90,12 +96,10 @@ impl Keys for FileKeys {
     ghost known = { is_root_key };
 
     fn is_known(key: &str) -> bool {
-        key == "types"
-            || key == "resources"
-            || key == "held"
-            || key == "systems"
-            || key == "rules"
-            || key == "frames"
+        matches!(
+            key,
+            "types" | "resources" | "held" | "systems" | "rules" | "frames"
+        )
     }
 }
 

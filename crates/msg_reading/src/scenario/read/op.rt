@@ -10,7 +10,8 @@ use crate::Refusal;
 use crate::scenario::read::list::Element;
 use crate::scenario::read::names::Declarations;
 use crate::scenario::read::part::{
-    resource_and_value, two_types, type_and_limit, type_and_resource, type_and_value,
+    one_resource, one_type, resource_and_value, two_types, type_and_limit, type_and_resource,
+    type_and_value,
 };
 use msg_files::json::{head_and_parts, text};
 use msg_files::numbers::{batch_values, list_of_numbers};
@@ -62,12 +63,12 @@ fn read_with_one(names: &Declarations, head: &str, part: &Value) -> Result<Op, R
         (op_with_one names.now head.now (view part.now)) result }
 {
     match head {
-        "read" => Ok(Op::Read(names.type_no(text(part)?)?, None)),
-        "len" => Ok(Op::Len(names.type_no(text(part)?)?)),
-        "missed" => Ok(Op::Missed(names.type_no(text(part)?)?)),
-        "clear" => Ok(Op::Clear(names.type_no(text(part)?)?)),
-        "get" => Ok(Op::Get(names.res_no(text(part)?)?)),
-        "drain" => Ok(Op::Drain(names.type_no(text(part)?)?)),
+        "read" => Ok(Op::Read(one_type(names, part)?, None)),
+        "len" => Ok(Op::Len(one_type(names, part)?)),
+        "missed" => Ok(Op::Missed(one_type(names, part)?)),
+        "clear" => Ok(Op::Clear(one_type(names, part)?)),
+        "get" => Ok(Op::Get(one_resource(names, part)?)),
+        "drain" => Ok(Op::Drain(one_type(names, part)?)),
         _ => Err(Refusal::Shape),
     }
 }
@@ -130,7 +131,8 @@ fn read_batch(
 {
     let (name, items) = text_and_numbers(part, other)?;
     let of_type = names.type_no(name)?;
-    Ok(Op::Batch(of_type, batch_values(alloc, items)?))
+    let values = batch_values(alloc, items)?;
+    Ok(Op::Batch(of_type, values))
 }
 
 fn text_and_numbers<'a>(

@@ -8,6 +8,7 @@ ghost use Rattle.msg_files.specs.declared.refusal.Refusal.TheVariants.{Shape};
 use crate::Refusal;
 use crate::scenario::read::names::Declarations;
 use msg_files::MAX_LIMIT;
+use msg_files::json::text;
 use msg_files::numbers::{small_number, whole_number};
 use msg_world::{ResNo, TypeNo};
 use serde_json::{Number, Value};
@@ -58,6 +59,24 @@ pub fn text_and_number<'a>(
         (Some(first), Some(second)) => Ok((first, second)),
         _ => Err(Refusal::Shape),
     }
+}
+
+/// A declared type.
+pub fn one_type(names: &Declarations, of_type: &Value) -> Result<TypeNo, Refusal>
+    ensures agrees { IsAnswer
+        (needs (is_text (view of_type.now)) Shape ∷ a_type names.now (view of_type.now) ∷ [])
+        (type_number names.now (text (view of_type.now))) result }
+{
+    names.type_no(text(of_type)?)
+}
+
+/// A declared resource.
+pub fn one_resource(names: &Declarations, resource: &Value) -> Result<ResNo, Refusal>
+    ensures agrees { IsAnswer
+        (needs (is_text (view resource.now)) Shape ∷ a_resource names.now (view resource.now) ∷ [])
+        (resource_number names.now (text (view resource.now))) result }
+{
+    names.res_no(text(resource)?)
 }
 
 /// A declared type and a value.

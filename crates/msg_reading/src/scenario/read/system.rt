@@ -82,12 +82,7 @@ impl Keys for SystemKeys {
     ghost known = { is_system_key };
 
     fn is_known(key: &str) -> bool {
-        key == "name"
-            || key == "kind"
-            || key == "ops"
-            || key == "if"
-            || key == "join"
-            || key == "start"
+        matches!(key, "name" | "kind" | "ops" | "if" | "join" | "start")
     }
 }
 
