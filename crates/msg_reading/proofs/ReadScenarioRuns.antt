@@ -7,7 +7,8 @@ use Rattle.msg_system.specs.Prelude.{HasClash, program_needs}
 use Rattle.msg_order.specs.Prelude.{IsAcyclic, NameSystemsBelow, edges_of}
 use Rattle.msg_order.specs.declared.rule.Rule.{Rule}
 use Rattle.msg_files.specs.Prelude.{elements, first_refusal, text}
-use Rattle.msg_reading.specs.Prelude.{Declared, IsRunnable, Scenario, all_names, frames_in, frames_read, no_names, part_names, position_of, resource_checks, resource_of, resources_checks, resources_in, resources_of, rule_of, rules_in, rules_of, scenario_checks, scenario_of, system_checks, system_number, system_of, systems_checks, systems_in, systems_of, type_checks, type_names, type_of, types_checks, types_in, types_of, declaring_resource, with_system, declaring_type}
+use Rattle.msg_scenario_data.specs.{Prelude.IsRunnable, declared.scenario.Scenario.Scenario}
+use Rattle.msg_reading.specs.Prelude.{Declared, all_names, frames_in, frames_read, no_names, part_names, position_of, resource_checks, resource_of, resources_checks, resources_in, resources_of, rule_of, rules_in, rules_of, scenario_checks, scenario_of, system_checks, system_number, system_of, systems_checks, systems_in, systems_of, type_checks, type_names, type_of, types_checks, types_in, types_of, declaring_resource, with_system, declaring_type}
 use Rattle.msg_reading.proofs.{WhatIsUsedIsThere.HasNames, WhatIsUsedIsThere.NamesOf, WhatIsUsedIsThere.SystemFits, WhatIsUsedIsThere.frames_fit, WhatIsUsedIsThere.system_fits, ChecksThatPass.Holds, ChecksThatPass.below_there, ChecksThatPass.in_each, ChecksThatPass.in_section}
 use Rattle.msg_files.proofs.WalksOverLists.{refusal_of_both}
 

@@ -3,7 +3,8 @@ use Rattle.std.proofs.Common.{ap, ◌≡◌, [], ◌∷◌, ◌++◌, ◌∙◌,
 use Rattle.std.specs.Option.{option_map_or, option_or}
 use Rattle.serde_json.specs.Data.{Data}
 use Rattle.msg_files.specs.Prelude.{first_refusal, needs, value_at}
-use Rattle.msg_reading.specs.Prelude.{Declared, Kind, each_of, fits_kind, kind_in, kind_of, list_checks, name_checks, op_checks, op_of, ops_checks, place_checks, program_checks, start_in, start_of, system_checks, system_object}
+use Rattle.msg_scenario_data.specs.{declared.kind.Kind.Kind, Prelude.fits_kind}
+use Rattle.msg_reading.specs.Prelude.{Declared, each_of, kind_in, kind_of, list_checks, name_checks, op_checks, op_of, ops_checks, place_checks, program_checks, start_in, start_of, system_checks, system_object}
 use Rattle.msg_files.specs.declared.refusal.Refusal.TheVariants.{Shape}
 use Rattle.msg_files.proofs.WalksOverLists.{refusal_of_both}
 

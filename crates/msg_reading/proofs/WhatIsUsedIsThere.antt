@@ -8,7 +8,8 @@ use Rattle.msg_system.specs.Prelude.{HasClash, is_part, job_needs, needs_any, op
 use Rattle.msg_system.specs.{declared.condition.Condition.Condition, declared.op.Op.Op}
 use Rattle.msg_frames.specs.declared.place.Place.{Place}
 use Rattle.msg_files.specs.Prelude.{Text, elements, first_refusal, natural, needs, of_headed, text, value_at, values_of, whole}
-use Rattle.msg_reading.specs.Prelude.{Declared, IsRunnableSystem, PostsAreToTypes, Scenario, SystemSpec, condition_checks, condition_of, conditions_in, each_of, fits_kind, frame_of, inside_nots, join_checks, join_in, kind_in, kind_of, list_checks, name_checks, of_its_kind, op_checks, op_of, op_with, op_with_one, op_with_two, ops_checks, ops_of, place_checks, place_in, post_of, probe_with, program_checks, resource_number, start_in, start_of, system_checks, system_object, system_of, type_number}
+use Rattle.msg_scenario_data.specs.{Prelude.IsRunnableSystem, Prelude.PostsAreToTypes, declared.scenario.Scenario.Scenario, declared.scenario.SystemSpec.SystemSpec, Prelude.fits_kind}
+use Rattle.msg_reading.specs.Prelude.{Declared, condition_checks, condition_of, conditions_in, each_of, frame_of, inside_nots, join_checks, join_in, kind_in, kind_of, list_checks, name_checks, of_its_kind, op_checks, op_of, op_with, op_with_one, op_with_two, ops_checks, ops_of, place_checks, place_in, post_of, probe_with, program_checks, resource_number, start_in, start_of, system_checks, system_object, system_of, type_number}
 use Rattle.msg_files.specs.declared.refusal.Refusal.TheVariants.{Shape}
 use Rattle.msg_reading.proofs.ChecksThatPass.{Holds, below_there, both_pass, choice, first_passes, in_both, in_each, in_headed, in_map, in_then, list_passed}
 

@@ -3,4 +3,3 @@ pub mod Prelude
 pub mod ScenarioChecks
 pub mod ScenarioDenotes
 pub mod Reading
-pub mod Runnable

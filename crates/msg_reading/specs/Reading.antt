@@ -4,7 +4,8 @@ use Rattle.serde_json.specs.Data.{Data}
 use Rattle.msg_order.specs.Prelude.{IsAcyclic, IsLowestOnCycle, edges_of}
 use Rattle.msg_system.specs.Prelude.{HasClash, program_needs}
 use Rattle.msg_files.specs.Prelude.{first_refusal}
-use Rattle.msg_reading.specs.{ScenarioChecks.scenario_checks, ScenarioDenotes.scenario_of, declared.scenario.Scenario.Scenario, declared.scenario.SystemSpec.SystemSpec}
+use Rattle.msg_reading.specs.{ScenarioChecks.scenario_checks, ScenarioDenotes.scenario_of}
+use Rattle.msg_scenario_data.specs.{declared.scenario.Scenario.Scenario, declared.scenario.SystemSpec.SystemSpec}
 use Rattle.msg_files.specs.{declared.refusal.Refusal.Refusal, declared.refusal.Refusal.TheVariants.Clash, declared.refusal.Refusal.TheVariants.Cycle}
 
 -- s is the lowest system whose program reads and writes one type

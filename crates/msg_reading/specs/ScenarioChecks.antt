@@ -3,9 +3,9 @@
 use Rattle.std.specs.Prelude.{ℕ, ◌||◌, ◌&&◌, not, nat_le, Bool, true, false, List, [], ◌∷◌, ◌++◌, map, flat_map, is_some, codes, if◌then◌else◌}
 use Rattle.std.specs.{Option.option_map_or, Str.bytes_eq}
 use Rattle.serde_json.specs.{Data.Data, Find.as_bool}
-use Rattle.msg_system.specs.{declared.op.Op.Op, declared.op.Op.TheVariants.Forward, declared.op.Op.TheVariants.Sum}
 use Rattle.msg_files.specs.Prelude.{Check, Text, a_limit, a_list, a_value, elements, few_values, for_headed, has_key, is_list_of_numbers, is_number, is_text, needs, number_up_to, object_checks, text, value_at, wrong_shape}
-use Rattle.msg_reading.specs.{Names.Declared, Names.is_name, Names.position_of, Names.type_number, Names.resource_number, Names.system_number, ScenarioDenotes.inside_nots, ScenarioDenotes.nots_round, ScenarioDenotes.kind_of, ScenarioDenotes.kind_in, ScenarioDenotes.conditions_in, ScenarioDenotes.join_in, ScenarioDenotes.start_of, ScenarioDenotes.start_in, ScenarioDenotes.ops_of, ScenarioDenotes.declaring_type, ScenarioDenotes.declaring_resource, ScenarioDenotes.with_system, ScenarioDenotes.no_names, ScenarioDenotes.types_in, ScenarioDenotes.resources_in, ScenarioDenotes.held_in, ScenarioDenotes.systems_in, ScenarioDenotes.rules_in, ScenarioDenotes.frames_in, ScenarioDenotes.type_names, ScenarioDenotes.part_names, ScenarioDenotes.all_names, declared.kind.Kind.Kind, declared.kind.Kind.TheVariants.Script, declared.kind.Kind.TheVariants.Relay, declared.kind.Kind.TheVariants.Tally}
+use Rattle.msg_scenario_data.specs.Prelude.{fits_kind, is_name}
+use Rattle.msg_reading.specs.{Names.Declared, Names.position_of, Names.type_number, Names.resource_number, Names.system_number, ScenarioDenotes.inside_nots, ScenarioDenotes.nots_round, ScenarioDenotes.kind_of, ScenarioDenotes.kind_in, ScenarioDenotes.conditions_in, ScenarioDenotes.join_in, ScenarioDenotes.start_of, ScenarioDenotes.start_in, ScenarioDenotes.ops_of, ScenarioDenotes.declaring_type, ScenarioDenotes.declaring_resource, ScenarioDenotes.with_system, ScenarioDenotes.no_names, ScenarioDenotes.types_in, ScenarioDenotes.resources_in, ScenarioDenotes.held_in, ScenarioDenotes.systems_in, ScenarioDenotes.rules_in, ScenarioDenotes.frames_in, ScenarioDenotes.type_names, ScenarioDenotes.part_names, ScenarioDenotes.all_names}
 use Rattle.msg_files.specs.declared.refusal.Refusal.TheVariants.{Shape, BadName, TwiceNamed, BadNumber, TooMany, UnknownName}
 
 -- ---- parts of values
@@ -154,13 +154,6 @@ is_system_key key =
 abbrev pub system_object : Data → List Check
 system_object d =
     object_checks is_system_key d ++ (has_key (codes "name") d ∷ has_key (codes "ops") d ∷ [])
-
--- a relay's program is one `forward`, a tally's one `sum`, a script's anything
-abbrev pub fits_kind : Kind → List Op → Bool
-fits_kind Script ops = true
-fits_kind Relay (Forward t u ∷ []) = true
-fits_kind Tally (Sum t r ∷ []) = true
-fits_kind _ _ = false
 
 -- the ops that were read fit the kind
 abbrev pub of_its_kind : Declared → Data → Bool

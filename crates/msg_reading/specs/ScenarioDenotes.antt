@@ -6,7 +6,8 @@ use Rattle.msg_system.specs.{declared.op.Op.Op, declared.op.Op.TheVariants.Write
 use Rattle.msg_frames.specs.{declared.frame.Frame.Frame, declared.place.Place.Place}
 use Rattle.msg_order.specs.declared.rule.Rule.{Rule}
 use Rattle.msg_files.specs.Prelude.{Text, all_some, both, elements, natural, of_headed, text, value_at, values_of, whole}
-use Rattle.msg_reading.specs.{Names.Declared, Names.type_number, Names.resource_number, Names.system_number, declared.kind.Kind.Kind, declared.kind.Kind.TheVariants.Script, declared.kind.Kind.TheVariants.Relay, declared.kind.Kind.TheVariants.Tally, declared.scenario.Scenario.Scenario, declared.scenario.SystemSpec.SystemSpec}
+use Rattle.msg_scenario_data.specs.{declared.kind.Kind.Kind, declared.kind.Kind.TheVariants.Script, declared.kind.Kind.TheVariants.Relay, declared.kind.Kind.TheVariants.Tally, declared.scenario.Scenario.Scenario, declared.scenario.SystemSpec.SystemSpec}
+use Rattle.msg_reading.specs.Names.{Declared, type_number, resource_number, system_number}
 
 -- ---- parts of values
 

@@ -1,12 +1,9 @@
 //! Scenario files: what they denote, and which of them are refused.
 #![tactic(auto)]
 
-mod kind;
 mod limits;
-mod name;
-mod scenario;
+mod read;
 
-pub use kind::Kind;
 pub use msg_files::Refusal;
-pub use name::Name;
-pub use scenario::{Scenario, SystemSpec, read_scenario};
+pub use msg_scenario_data::{Kind, Name, Scenario, SystemSpec};
+pub use read::read_scenario;

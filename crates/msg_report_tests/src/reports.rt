@@ -1,5 +1,5 @@
 // Whole reports: sinks that fail, systems without memory, and readers side by side.
-ghost use Rattle.msg_reading.specs.Prelude.{IsRunnable};
+ghost use Rattle.msg_scenario_data.specs.Prelude.{IsRunnable};
 
 use crate::narrow::Narrow;
 use crate::sparing::{sparing_engine, sparing_systems, workers};

@@ -2,8 +2,8 @@
 ghost use Rattle.std.specs.Prelude.{◌≡◌, ◌≤◌, IfOk, length};
 ghost use Rattle.msg_system.specs.Prelude.{new_system};
 ghost use Rattle.msg_exec.specs.Prelude.{EachIs, EngineStands};
-ghost use Rattle.msg_scenario.specs.Prelude.{IsSystemAt};
-ghost use Rattle.msg_reading.specs.Prelude.{IsRunnable, state_of};
+ghost use Rattle.msg_reports.specs.Prelude.{IsSystemAt};
+ghost use Rattle.msg_scenario_data.specs.Prelude.{IsRunnable, state_of};
 
 use msg_exec::{EngineOf, Workers};
 use msg_scenario::{Scenario, SystemSpec, add_system, engine_of};

@@ -2,14 +2,16 @@
 ghost use Rattle.std.specs.Prelude.{◌≡◌, ◌≢◌, ◌⊎◌, Ok, Err, IfOk, OnErr, OnOk};
 ghost use Rattle.msg_world.specs.declared.run_fault.RunFault.TheVariants.{BadOrder, NoMemory as NoRoom, Spoiled};
 ghost use Rattle.msg_files.specs.Prelude.{one_failure_more};
-ghost use Rattle.msg_reading.specs.Prelude.{IsRunnable};
-ghost use Rattle.msg_scenario.specs.Prelude.{HasPrinted, IsReported, PrintedFrames, PrintedSome};
+ghost use Rattle.msg_scenario_data.specs.Prelude.{IsRunnable};
+ghost use Rattle.msg_reports.specs.Prelude.{HasPrinted, IsReported, PrintedFrames, PrintedSome};
 ghost use Rattle.msgrun.specs.Prelude.{main_fault};
 
 use crate::building::{relay_of, scripted_of, tally_of};
 use msg_command::MainFault;
 use msg_exec::{NoGate, NoMemory, Workers};
-use msg_scenario::{Kind, ReportFault, Scenario, Sink, add_system, run_scenario};
+use msg_files::{ReportFault, Sink};
+use msg_reports::{add_system, run_scenario};
+use msg_scenario_data::{Kind, Scenario};
 use msg_system::System;
 use std::alloc::Global;
 use std::thread::Threads;

@@ -2,10 +2,10 @@
 ghost use Rattle.std.specs.Prelude.{◌≡◌, ◌≤◌, IfOk, IsTrue, length};
 ghost use Rattle.std.specs.Box.{box_value};
 ghost use Rattle.msg_system.specs.Prelude.{new_system};
-ghost use Rattle.msg_reading.specs.Prelude.{fits_kind};
+ghost use Rattle.msg_scenario_data.specs.Prelude.{fits_kind};
 
 use msg_exec::NoMemory;
-use msg_scenario::{Kind, SystemSpec};
+use msg_scenario_data::{Kind, SystemSpec};
 use msg_system::{Op, Relay, Scripted, System, Tally};
 use std::alloc::Global;
 

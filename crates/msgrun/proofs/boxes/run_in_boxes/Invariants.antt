@@ -1,6 +1,6 @@
 use Rattle.std.proofs.Common.{◌≡◌, length}
 use Rattle.msg_exec.specs.Prelude.{EachIs}
-use Rattle.msg_scenario.specs.Prelude.{IsSystemAt}
+use Rattle.msg_reports.specs.Prelude.{IsSystemAt}
 use Rattle.msgrun.proofs.boxes.run_in_boxes.OwnLists.{own-1}
 use Rattle.msgrun.proofs.boxes.run_in_boxes.Given as goal
 

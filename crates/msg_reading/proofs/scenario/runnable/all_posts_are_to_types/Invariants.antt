@@ -1,7 +1,0 @@
-use Rattle.std.proofs.Common.{ℕ, ◌<◌, get_or}
-use Rattle.msg_frames.specs.declared.frame.Frame.{Frame}
-use Rattle.msg_reading.specs.Prelude.{PostsAreToTypes}
-use Rattle.msg_reading.proofs.scenario.runnable.all_posts_are_to_types.Given as goal
-
-abbrev pub invariant-loop-frame : goal.invariant-loop-frame
-invariant-loop-frame l = (k : ℕ) (d : Frame) → k < l.frame-index → PostsAreToTypes l.scenario (get_or l.frame-items k d)

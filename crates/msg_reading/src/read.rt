@@ -1,0 +1,59 @@
+// A scenario from the bytes of a JSON text.
+ghost use Rattle.std.specs.Prelude.{◌≡◌, ◌≢◌, None, Err, IfOk, IfErr, IsUtf8};
+ghost use Rattle.serde_json.specs.{Data.Data, Read.read, View.view};
+ghost use Rattle.msg_files.specs.Prelude.{IsJsonOf};
+ghost use Rattle.msg_reading.specs.Prelude.{IsReadAs, IsRefusedFor};
+ghost use Rattle.msg_scenario_data.specs.Prelude.{IsRunnable};
+
+use crate::{Refusal, Scenario};
+use msg_files::json::parse;
+use serde_json::Value;
+use std::alloc::Global;
+
+mod clash;
+mod condition;
+mod cycle;
+mod declared;
+mod file;
+mod frame;
+mod list;
+mod named;
+mod names;
+mod op;
+mod part;
+mod place;
+mod rule;
+mod system;
+
+/// The scenario that the bytes are a JSON text of.
+///
+/// # Errors
+///
+/// `NotJson`; else the refusal of the first check that fails in reading order; else `Clash` with
+/// the lowest system whose program clashes; else `Cycle`. `NoMemory` may come at any point.
+pub fn read_scenario(alloc: Global, bytes: &[u8]) -> Result<Scenario, Refusal>
+    ensures ok { IfOk result (λ scenario.
+        (d : Data) × IsJsonOf bytes.now d × IsReadAs d scenario) }
+    ensures runnable { IfOk result IsRunnable }
+    ensures not_json { result ≡ Err Refusal.NotJson → IsUtf8 bytes.now → read bytes.now ≡ None }
+    ensures refused { IfErr result (λ refusal.
+        refusal ≢ Refusal.NotJson → refusal ≢ Refusal.NoMemory
+        → (d : Data) × IsJsonOf bytes.now d × IsRefusedFor d refusal) }
+{
+    let value = parse(alloc, bytes)?;
+    read_value(alloc, &value)
+}
+
+/// The scenario that a JSON value denotes.
+fn read_value(alloc: Global, value: &Value) -> Result<Scenario, Refusal>
+    ensures ok { IfOk result (IsReadAs (view value.now)) }
+    ensures runnable { IfOk result IsRunnable }
+    ensures refused { IfErr result (λ e. (e ≢ Refusal.NotJson)
+        × (e ≢ Refusal.NoMemory → IsRefusedFor (view value.now) e)) }
+{
+    let scenario = file::read_sections(alloc, value)?;
+    clash::check_clashes(scenario.systems.as_slice())?;
+    let systems = scenario.systems.as_slice().len();
+    cycle::check_cycles(alloc, systems, scenario.rules.as_slice())?;
+    Ok(scenario)
+}

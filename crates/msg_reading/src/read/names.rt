@@ -1,0 +1,153 @@
+// The names that a file declares.
+ghost use Rattle.std.specs.Prelude.{◌≡◌, ◌≤◌, ◌∷◌, ◌++◌, [], Some, None, OnOk, MatchResult, option_and_then};
+ghost use Rattle.msg_reading.specs.Prelude.{new_name, no_names, position_of, resource_number, system_number, type_number};
+ghost use Rattle.msg_files.specs.Prelude.{Agrees, only_below};
+
+use crate::{Name, Refusal};
+use indexmap::IndexSet;
+use msg_scenario_data::{MAX_RESOURCES, MAX_SYSTEMS, MAX_TYPES};
+use msg_world::{ResNo, TypeNo};
+use std::alloc::Global;
+use std::marker::Model;
+
+/// Names in order, each once. Contracts see it as their list.
+#[derive(Drop)]
+pub struct NameSpace {
+    names: IndexSet<String>,
+}
+
+impl Model for NameSpace {
+    ghost use Rattle.std.specs.Prelude.{List, map, string_bytes};
+    ghost use Rattle.msg_files.specs.Prelude.{Text};
+
+    ghost Value = { List Text };
+
+    ghost view = { λ s. map string_bytes s.names.keys };
+}
+
+impl NameSpace {
+    fn new(alloc: Global) -> NameSpace
+        ensures empty { result ≡ [] }
+    {
+        NameSpace {
+            names: IndexSet::new(alloc),
+        }
+    }
+
+    /// The place of a name.
+    fn place(&self, name: &str) -> Option<usize>
+        ensures place { result ≡ position_of self.now name.now }
+    {
+        self.names.get_index_of(name)
+    }
+
+    /// The place of a name, where that is below an end.
+    fn place_below(&self, name: &str, end: usize) -> Option<u32>
+        requires few { end ≤ MAX_SYSTEMS }
+        ensures place { result
+            ≡ option_and_then (only_below end) (position_of self.now name.now) }
+    {
+        match self.place(name) {
+            Some(place) if place < end => Some(place as u32),
+            _ => None,
+        }
+    }
+
+    /// A new name, which goes last.
+    fn declare(&mut self, alloc: Global, name: &str) -> Result<Name, Refusal>
+        ensures agrees { Agrees (new_name self.old name.now) (Some name.now) result }
+        ensures declares { OnOk result (self.new ≡ self.old ++ name.now ∷ []) }
+    {
+        let made = Name::new(alloc, name)?;
+        if self.place(name).is_some() {
+            return Err(Refusal::TwiceNamed);
+        }
+        let key = name.to_string(alloc)?;
+        self.names.insert(key)?;
+        Ok(made)
+    }
+}
+
+/// The names that are declared so far, of three kinds.
+#[derive(Drop)]
+pub struct Declarations {
+    types: NameSpace,
+    resources: NameSpace,
+    systems: NameSpace,
+}
+
+impl Model for Declarations {
+    ghost use Rattle.msg_reading.specs.Names.{Declared};
+
+    ghost Value = { Declared };
+
+    ghost view = { λ d.
+        record { types = d.types; resources = d.resources; systems = d.systems } };
+}
+
+impl Declarations {
+    /// No names.
+    pub fn new(alloc: Global) -> Declarations
+        ensures empty { result ≡ no_names }
+    {
+        Declarations {
+            types: NameSpace::new(alloc),
+            resources: NameSpace::new(alloc),
+            systems: NameSpace::new(alloc),
+        }
+    }
+
+    /// The type of this name.
+    pub fn type_no(&self, name: &str) -> Result<TypeNo, Refusal>
+        ensures found { MatchResult result (λ t. type_number self.now name.now ≡ Some t)
+            (λ e. (e ≡ Refusal.UnknownName) × (type_number self.now name.now ≡ None)) }
+    {
+        let place = self.types.place_below(name, MAX_TYPES);
+        place.and_then(TypeNo::new).ok_or(Refusal::UnknownName)
+    }
+
+    /// The resource of this name.
+    pub fn res_no(&self, name: &str) -> Result<ResNo, Refusal>
+        ensures found { MatchResult result (λ r. resource_number self.now name.now ≡ Some r)
+            (λ e. (e ≡ Refusal.UnknownName) × (resource_number self.now name.now ≡ None)) }
+    {
+        let place = self.resources.place_below(name, MAX_RESOURCES);
+        place.and_then(ResNo::new).ok_or(Refusal::UnknownName)
+    }
+
+    /// The number of the system of this name.
+    pub fn system_no(&self, name: &str) -> Result<u32, Refusal>
+        ensures found { MatchResult result (λ s. system_number self.now name.now ≡ Some s)
+            (λ e. (e ≡ Refusal.UnknownName) × (system_number self.now name.now ≡ None)) }
+    {
+        let place = self.systems.place_below(name, MAX_SYSTEMS);
+        place.ok_or(Refusal::UnknownName)
+    }
+
+    /// Names the next type; `BadName` or `TwiceNamed` where it can't have this name.
+    pub fn declare_type(&mut self, alloc: Global, name: &str) -> Result<Name, Refusal>
+        ensures agrees { Agrees (new_name self.old.types name.now) (Some name.now) result }
+        ensures declares { OnOk result
+            (self.new ≡ record self.old { types = self.old.types ++ name.now ∷ [] }) }
+    {
+        self.types.declare(alloc, name)
+    }
+
+    /// Names the next resource, as `declare_type` does a type.
+    pub fn declare_resource(&mut self, alloc: Global, name: &str) -> Result<Name, Refusal>
+        ensures agrees { Agrees (new_name self.old.resources name.now) (Some name.now) result }
+        ensures declares { OnOk result
+            (self.new ≡ record self.old { resources = self.old.resources ++ name.now ∷ [] }) }
+    {
+        self.resources.declare(alloc, name)
+    }
+
+    /// Names the next system, as `declare_type` does a type.
+    pub fn declare_system(&mut self, alloc: Global, name: &str) -> Result<Name, Refusal>
+        ensures agrees { Agrees (new_name self.old.systems name.now) (Some name.now) result }
+        ensures declares { OnOk result
+            (self.new ≡ record self.old { systems = self.old.systems ++ name.now ∷ [] }) }
+    {
+        self.systems.declare(alloc, name)
+    }
+}

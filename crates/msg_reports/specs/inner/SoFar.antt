@@ -1,0 +1,23 @@
+-- A report while it is made: the words of private functions.
+use Rattle.std.specs.Prelude.{◌≡◌, ℕ, List, Option, length, take}
+use Rattle.std.specs.Io.KnownBytes.{Appends}
+use Rattle.msg_system.specs.Prelude.{Meaning}
+use Rattle.msg_frames.specs.Prelude.{IsRun, State}
+use Rattle.msg_frames.specs.declared.log.Log.{Log}
+use Rattle.msg_exec.specs.Prelude.{EngineStands}
+use Rattle.msg_exec.specs.declared.engine.EngineOf.{EngineOf}
+use Rattle.msg_scenario_data.specs.Prelude.{state_of}
+use Rattle.msg_scenario_data.specs.declared.scenario.Scenario.{Scenario}
+use Rattle.msg_reports.specs.ReportText.{frames_text}
+
+module _ {X : Type 0} (meaning : X → Meaning) (s : Scenario) where
+  -- after the first k frames: they were run, and their text was put
+  pub record ReportSoFar (k : ℕ) (before now : Option (List ℕ)) (e : EngineOf X) : Type 0 where
+    pub logs : List Log
+    pub state : State
+    pub as_many : length logs ≡ k
+    pub is_run : IsRun (take k s.frames) (state_of s) logs state
+    pub frames : state.frames ≡ k
+    pub types : state.types ≡ length s.types
+    pub printed : Appends before now (frames_text s 1 s.frames logs)
+    pub stands : EngineStands meaning e state

@@ -1,0 +1,134 @@
+// The report of a scenario: frame by frame, and then the readers.
+ghost use Rattle.std.specs.Prelude.{◌≡◌, ◌≢◌, ◌⊎◌, ◌+◌, ◌<◌, ℕ, All, Err, List, OnOk, OnErr, Option, length};
+ghost use Rattle.msg_exec.specs.Prelude.{EngineStands};
+ghost use Rattle.msg_world.specs.declared.run_fault.RunFault.TheVariants.{BadOrder, NoMemory, Spoiled};
+ghost use Rattle.msg_reports.specs.Prelude.{HasPrinted, HasReported, HasRunOut, HasStopped};
+ghost use Rattle.msg_scenario_data.specs.Prelude.{PostsAreToTypes, state_of};
+ghost use Rattle.msg_files.specs.Prelude.{one_failure_more};
+ghost use Rattle.msg_reports.specs.{inner.LineStarts.AreLines, inner.SoFar.ReportSoFar};
+
+use crate::reports::lines::{SystemLines, make_lines};
+use crate::reports::put::{put_accounts, put_frame};
+use msg_exec::laws::frames_keep_the_systems;
+use msg_exec::{EngineOf, Gate, Workers};
+use msg_files::{ReportFault, Sink};
+use msg_scenario_data::Scenario;
+use msg_system::System;
+use std::alloc::Global;
+use std::thread::Threads;
+
+/// Runs the next frame of a scenario, after so many, and puts its text; it is made in `text` first.
+fn report_frame<R: Threads + Sync, X: System, S: Sink, G: Gate>(
+    rt: &R,
+    engine: &mut EngineOf<X>,
+    scenario: &Scenario,
+    lines: &[SystemLines],
+    reported: usize,
+    workers: Workers,
+    gate: &G,
+    text: &mut Vec<u8>,
+    sink: &mut S,
+) -> Result<(), ReportFault>
+    requires so_far { (before : Option (List ℕ))
+        × ReportSoFar X.meaning scenario.now reported before (S.contents sink.old) engine.old }
+    requires lines { AreLines scenario.now lines.now }
+    requires next { reported < length scenario.now.frames }
+    requires posts { All (PostsAreToTypes scenario.now) scenario.now.frames }
+    ensures ok { OnOk result ((before : Option (List ℕ))
+        → ReportSoFar X.meaning scenario.now reported before (S.contents sink.old) engine.old
+        → ReportSoFar X.meaning scenario.now (reported + 1) before
+        (S.contents sink.new) engine.new) }
+    ensures prefix { OnErr result ((before : Option (List ℕ))
+        → ReportSoFar X.meaning scenario.now reported before (S.contents sink.old) engine.old
+        → HasPrinted scenario.now before (S.contents sink.new)) }
+    ensures run { result ≡ Err (ReportFault.Run NoMemory) → (before : Option (List ℕ))
+        → ReportSoFar X.meaning scenario.now reported before (S.contents sink.old) engine.old
+        → HasRunOut X.meaning scenario.now before (S.contents sink.new) engine.new }
+    ensures not_spoiled { result ≢ Err (ReportFault.Run Spoiled) }
+    ensures no_bad_order { result ≢ Err (ReportFault.Run BadOrder) }
+    ensures stopped { (result ≡ Err ReportFault.Write) ⊎ (result ≡ Err ReportFault.NoMemory)
+        → (before : Option (List ℕ))
+        → ReportSoFar X.meaning scenario.now reported before (S.contents sink.old) engine.old
+        → HasStopped X.meaning scenario.now before (S.contents sink.new) engine.new }
+    ensures write { result ≡ Err ReportFault.Write
+        → S.failures sink.new ≡ one_failure_more (S.failures sink.old) }
+    ensures quiet { result ≢ Err ReportFault.Write → S.failures sink.new ≡ S.failures sink.old }
+{
+    frames_keep_the_systems();
+    let frame = &scenario.frames.as_slice()[reported];
+    let log = match engine.run_frame(rt, frame, workers, gate) {
+        Ok(log) => log,
+        Err(fault) => return Err(ReportFault::Run(fault)),
+    };
+    put_frame(
+        scenario,
+        lines,
+        reported as u64 + 1,
+        frame,
+        &log,
+        text,
+        sink,
+    )?;
+    engine.recycle(log);
+    Ok(())
+}
+
+/// Runs the frames of a scenario, and puts the text of each before it runs the next; and then a
+/// line for each reader. The engine is one of the scenario, which has run no frame.
+///
+/// # Errors
+///
+/// `Run` where a frame or the accounts had no memory, `Write` where the sink failed, and `NoMemory`
+/// where a text had none: that of a frame or of the readers, or what is made once for all frames.
+pub fn report<R: Threads + Sync, X: System, S: Sink, G: Gate>(
+    rt: &R,
+    alloc: Global,
+    engine: &mut EngineOf<X>,
+    scenario: &Scenario,
+    workers: Workers,
+    gate: &G,
+    sink: &mut S,
+) -> Result<(), ReportFault>
+    requires engine { EngineStands X.meaning engine.old (state_of scenario.now) }
+    requires posts { All (PostsAreToTypes scenario.now) scenario.now.frames }
+
+    // Whatever the workers and the gate: the text is that of one thread, and each reader was given
+    // every message once.
+    ensures ok { OnOk result (HasReported X.meaning scenario.now
+        (S.contents sink.old) (S.contents sink.new) engine.new) }
+    ensures prefix { OnErr result
+        (HasPrinted scenario.now (S.contents sink.old) (S.contents sink.new)) }
+    ensures run { result ≡ Err (ReportFault.Run NoMemory) → HasRunOut X.meaning scenario.now
+        (S.contents sink.old) (S.contents sink.new) engine.new }
+    ensures not_spoiled { result ≢ Err (ReportFault.Run Spoiled) }
+    ensures no_bad_order { result ≢ Err (ReportFault.Run BadOrder) }
+
+    // The report ended after a whole frame or before the first one, not in the middle of a frame.
+    ensures stopped { (result ≡ Err ReportFault.Write) ⊎ (result ≡ Err ReportFault.NoMemory)
+        → HasStopped X.meaning scenario.now
+        (S.contents sink.old) (S.contents sink.new) engine.new }
+    ensures write { result ≡ Err ReportFault.Write
+        → S.failures sink.new ≡ one_failure_more (S.failures sink.old) }
+    ensures quiet { result ≢ Err ReportFault.Write → S.failures sink.new ≡ S.failures sink.old }
+{
+    engine.has_one_run();
+    let lines = make_lines(alloc, scenario)?;
+    let mut text = Vec::new(alloc);
+    for reported in 0..scenario.frames.as_slice().len() {
+        report_frame(
+            rt,
+            engine,
+            scenario,
+            lines.as_slice(),
+            reported,
+            workers,
+            gate,
+            &mut text,
+            sink,
+        )?;
+    }
+    match engine.accounts() {
+        Ok(accounts) => put_accounts(scenario, accounts.as_slice(), &mut text, sink),
+        Err(fault) => Err(ReportFault::Run(fault)),
+    }
+}

@@ -1,0 +1,62 @@
+-- The state that an engine of a scenario begins in, and what every scenario that was read keeps to.
+use Rattle.std.specs.Prelude.{◌≤◌, ◌<◌, IsTrue, All, Bool, true, false, List, [], ◌∷◌, length, map, if◌then◌else◌}
+use Rattle.std.specs.List.{enumerate_from}
+use Rattle.msg_world.specs.Prelude.{HasPart, Part, WorldState, held_world, new_world}
+use Rattle.msg_order.specs.Prelude.{IsAcyclic, NameSystemsBelow, edges_of}
+use Rattle.msg_system.specs.Prelude.{HasClash, Meaning, job_needs, needs_any, new_system, program_needs}
+use Rattle.msg_frames.specs.Prelude.{State, first_state}
+use Rattle.msg_frames.specs.{declared.frame.Frame.Frame, declared.place.Place.Place}
+use Rattle.msg_system.specs.{declared.op.Op.Op, declared.op.Op.TheVariants.Forward, declared.op.Op.TheVariants.Sum}
+use Rattle.msg_scenario_data.specs.{declared.kind.Kind.Kind, declared.kind.Kind.TheVariants.Script, declared.kind.Kind.TheVariants.Relay, declared.kind.Kind.TheVariants.Tally, declared.scenario.Scenario.Scenario, declared.scenario.SystemSpec.SystemSpec}
+
+-- ---- the first state
+
+-- the world before the first frame
+abbrev pub first_world : Scenario → WorldState
+first_world s =
+    let world = new_world (map (λ named. named.1) s.types) (map (λ named. named.1) s.resources) in
+    if s.held then held_world world else world
+
+-- the systems, which were given nothing yet; each writes as its number
+abbrev pub meanings_of : Scenario → List Meaning
+meanings_of s = map (λ x. new_system x.1.program x.0) (enumerate_from 0 s.systems)
+
+-- the conditions and the join frame of each
+abbrev pub places_of : Scenario → List Place
+places_of s = map (λ x. x.place) s.systems
+
+-- no frame was run, and those of join 1 have joined
+abbrev pub state_of : Scenario → State
+state_of s = first_state (meanings_of s) (places_of s) s.rules (length s.types) (first_world s)
+
+-- ---- what may be run
+
+-- a relay's program is one `forward`, a tally's one `sum`, a script's anything
+abbrev pub fits_kind : Kind → List Op → Bool
+fits_kind Script ops = true
+fits_kind Relay (Forward t u ∷ []) = true
+fits_kind Tally (Sum t r ∷ []) = true
+fits_kind _ _ = false
+
+-- a system of the scenario can be made, and added to an engine over the scenario's world
+pub record IsRunnableSystem (s : Scenario) (x : SystemSpec) : Type 0 where
+  pub few_ops : length x.program.ops ≤ 64
+  pub fit_kind : IsTrue (fits_kind x.kind x.program.ops)
+  pub fits : (p : Part) → IsTrue (needs_any (job_needs x.program.ops x.place.conditions) p)
+      → HasPart (length s.types) (length s.resources) p
+  pub no_clash : ¬ HasClash (program_needs x.program.ops)
+  pub joins : (1 ≤ x.place.join) × (x.place.join ≤ 10000)
+
+-- each post of a frame is to a type that there is
+abbrev pub PostsAreToTypes : Scenario → Frame → Type 0
+PostsAreToTypes s frame = All (λ p. p.0 < length s.types) frame.posts
+
+-- An engine can be made of the scenario, and all its frames can be run.
+pub record IsRunnable (s : Scenario) : Type 0 where
+  pub few_types : length s.types ≤ 64
+  pub few_resources : length s.resources ≤ 64
+  pub few_systems : length s.systems ≤ 256
+  pub systems : All (IsRunnableSystem s) s.systems
+  pub rules_in_range : NameSystemsBelow (length s.systems) s.rules
+  pub acyclic : IsAcyclic (edges_of s.rules)
+  pub posts : All (PostsAreToTypes s) s.frames

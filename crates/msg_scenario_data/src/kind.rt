@@ -1,0 +1,29 @@
+ghost use Rattle.std.specs.Prelude.{◌≡◌};
+ghost use Rattle.msg_scenario_data.specs.Prelude.{fits_kind};
+
+use msg_system::Op;
+
+/// Which kind of box a system is put into.
+#[derive(Clone, Copy, Debug, PartialEq, Eq)]
+pub enum Kind {
+    /// Interprets its ops.
+    Script,
+    /// Forwards all messages of one type to another: its program is one `forward`.
+    Relay,
+    /// Adds the values of all messages of one type to a resource: its program is one `sum`.
+    Tally,
+}
+
+impl Kind {
+    /// Whether a system of this kind may have these ops: a relay's are one `forward`, a tally's are
+    /// one `sum`, and a script's may be any.
+    pub fn fits(self, ops: &[Op]) -> bool
+        ensures fits { result ≡ fits_kind self ops.now }
+    {
+        match self {
+            Kind::Script => true,
+            Kind::Relay => matches!(ops, [Op::Forward(_, _)]),
+            Kind::Tally => matches!(ops, [Op::Sum(_, _)]),
+        }
+    }
+}

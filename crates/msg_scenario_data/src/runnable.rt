@@ -1,0 +1,139 @@
+// Whether a scenario can be run.
+ghost use Rattle.std.specs.Prelude.{◌≤◌, ◌↔◌, All, IfOk, IsTrue, length};
+ghost use Rattle.msg_world.specs.Prelude.{HasPart, Part};
+ghost use Rattle.msg_order.specs.Prelude.{IsAcyclic, NameSystemsBelow, edges_of};
+ghost use Rattle.msg_system.specs.Prelude.{job_needs, needs_any};
+ghost use Rattle.msg_scenario_data.specs.Prelude.{IsRunnable, IsRunnableSystem, PostsAreToTypes};
+
+use crate::limits::{LAST_JOIN, MAX_OPS, MAX_RESOURCES, MAX_SYSTEMS, MAX_TYPES};
+use crate::{Scenario, SystemSpec};
+use msg_frames::Frame;
+use msg_order::{Rule, lowest_on_cycle};
+use msg_system::{NoMemory, job_access};
+use std::alloc::Global;
+
+/// Whether the system and its conditions use only types below `types`, and resources below
+/// `resources`.
+fn fits(system: &SystemSpec, types: u32, resources: u32) -> bool
+    ensures fit { IsTrue result ↔ ((p : Part)
+        → IsTrue (needs_any (job_needs system.now.program.ops system.now.place.conditions) p)
+        → HasPart types resources p) }
+{
+    let conditions = system.place.conditions.as_slice();
+    job_access(&system.program.access(), conditions).fits(types, resources)
+}
+
+/// Whether the system can be made, and added to an engine over the scenario's world.
+fn is_runnable_system(scenario: &Scenario, system: &SystemSpec) -> bool
+    requires types { length scenario.now.types ≤ MAX_TYPES }
+    requires resources { length scenario.now.resources ≤ MAX_RESOURCES }
+    ensures runnable { IsTrue result ↔ IsRunnableSystem scenario.now system.now }
+{
+    let types = scenario.types.as_slice().len() as u32;
+    let resources = scenario.resources.as_slice().len() as u32;
+    let ops = system.program.ops.as_slice();
+    let join = system.place.join;
+    ops.len() <= MAX_OPS
+        && system.kind.fits(ops)
+        && fits(system, types, resources)
+        && !system.program.access().is_clash()
+        && 1 <= join
+        && join <= LAST_JOIN
+}
+
+fn are_runnable_systems(scenario: &Scenario) -> bool
+    requires types { length scenario.now.types ≤ MAX_TYPES }
+    requires resources { length scenario.now.resources ≤ MAX_RESOURCES }
+    ensures runnable { IsTrue result ↔ All (IsRunnableSystem scenario.now) scenario.now.systems }
+{
+    for system in scenario.systems.as_slice() {
+        if !is_runnable_system(scenario, system) {
+            return false;
+        }
+    }
+    true
+}
+
+fn name_systems_below(systems: usize, rules: &[Rule]) -> bool
+    ensures named { IsTrue result ↔ NameSystemsBelow systems rules.now }
+{
+    for rule in rules {
+        if rule.earlier as usize >= systems || rule.later as usize >= systems {
+            return false;
+        }
+    }
+    true
+}
+
+fn posts_are_to_types(scenario: &Scenario, frame: &Frame) -> bool
+    ensures posts { IsTrue result ↔ PostsAreToTypes scenario.now frame.now }
+{
+    for post in frame.posts.as_slice() {
+        if post.0.number() as usize >= scenario.types.as_slice().len() {
+            return false;
+        }
+    }
+    true
+}
+
+fn all_posts_are_to_types(scenario: &Scenario) -> bool
+    ensures posts { IsTrue result ↔ All (PostsAreToTypes scenario.now) scenario.now.frames }
+{
+    for frame in scenario.frames.as_slice() {
+        if !posts_are_to_types(scenario, frame) {
+            return false;
+        }
+    }
+    true
+}
+
+/// Whether it has no more types, resources and systems than an engine may have.
+fn is_small(scenario: &Scenario) -> bool
+    ensures small { IsTrue result ↔ ((length scenario.now.types ≤ MAX_TYPES)
+        × (length scenario.now.resources ≤ MAX_RESOURCES)
+        × (length scenario.now.systems ≤ MAX_SYSTEMS)) }
+{
+    scenario.types.as_slice().len() <= MAX_TYPES
+        && scenario.resources.as_slice().len() <= MAX_RESOURCES
+        && scenario.systems.as_slice().len() <= MAX_SYSTEMS
+}
+
+/// Whether the rules of so many systems make no cycle.
+fn are_acyclic(alloc: Global, systems: usize, rules: &[Rule]) -> Result<bool, NoMemory>
+    requires few { systems ≤ MAX_SYSTEMS }
+    requires in_range { NameSystemsBelow systems rules.now }
+    ensures acyclic { IfOk result (λ is. IsTrue is ↔ IsAcyclic (edges_of rules.now)) }
+{
+    match lowest_on_cycle(alloc, systems, rules)? {
+        Some(_) => Ok(false),
+        None => Ok(true),
+    }
+}
+
+impl Scenario {
+    /// Whether an engine can be made of it and all its frames can be run, as a report asks. One
+    /// that was read can.
+    ///
+    /// # Errors
+    ///
+    /// `NoMemory`, where there is no memory to look for cycles of the rules.
+    pub fn is_runnable(&self, alloc: Global) -> Result<bool, NoMemory>
+        ensures runnable { IfOk result (λ is. IsTrue is ↔ IsRunnable self.now) }
+    {
+        if !is_small(self) {
+            return Ok(false);
+        }
+        if !are_runnable_systems(self) {
+            return Ok(false);
+        }
+        let systems = self.systems.as_slice().len();
+        let rules = self.rules.as_slice();
+        if !name_systems_below(systems, rules) {
+            return Ok(false);
+        }
+        if !all_posts_are_to_types(self) {
+            return Ok(false);
+        }
+        are_acyclic(alloc, systems, rules)
+    }
+}
