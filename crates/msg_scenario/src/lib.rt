@@ -1,5 +1,5 @@
 //! All that a program calls to read scenario files and calls files and to print what comes of them.
-//! The parts are crates of their own, so that who makes scenarios in code needs no JSON.
+//! The parts are crates of their own: reading and reports need nothing of one another.
 #![tactic(auto)]
 
 pub use msg_files::{
