@@ -1,6 +1,7 @@
 -- A new engine stands for the first state.
-use Rattle.std.proofs.Common.{◌≡◌, ℕ, ◌<◌, ◌≤◌, Bool, true, false, List, length, map, Some, None, sym, ap, ◌∙◌, arith, inl, inr, le_refl, replicate, slice_get, take, slice_index_or}
+use Rattle.std.proofs.Common.{◌≡◌, ℕ, ◌<◌, ◌≤◌, Bool, true, false, List, length, map, Option, Some, None, refl, sym, ap, ◌∙◌, arith, inl, inr, le_refl, replicate, slice_get, take, slice_index_or}
 use Rattle.std.proofs.lemmas.{Bool.cases_lt, Bool.false≢true, List.get_or-map, List.get_or-replicate, List.get_or_past, List.get_or-take, List.length-map, Option.get_or_from_slice_get, Option.slice_get-get_or, Option.slice_get_within, List.map-id, Simd.map-map}
+use Rattle.std.specs.Global.{Box, Vec}
 use Rattle.msg_world.specs.declared.access.Access.{Access}
 use Rattle.msg_world.specs.Prelude.{IsWhole, OfType, Parts, PartsStand, WorldState}
 use Rattle.msg_order.specs.declared.rule.Rule.{Rule}
@@ -9,8 +10,8 @@ use Rattle.msg_system.specs.Prelude.{HasClash, Meaning, new_asked}
 use Rattle.msg_order.proofs.SetPaths.{all_rules}
 use Rattle.msg_system.proofs.AccessesUseNeeds.{uses_needs}
 use Rattle.msg_frames.specs.declared.place.Place.{Place}
-use Rattle.msg_exec.specs.Prelude.{AreJoins, Core, EachIs, Lender, LenderStands, MayBeAdded, Schedule}
-use Rattle.msg_exec.specs.{inner.EngineParts.AreNoTotals, inner.EngineParts.IsAccessAt, inner.EngineParts.IsGuardedAt, inner.SystemsOut.HaveReadNothing}
+use Rattle.msg_exec.specs.Prelude.{AreJoins, Core, EachIs, GuardedSystem, Lender, LenderStands, MayBeAdded, Schedule}
+use Rattle.msg_exec.specs.{declared.building.Groundwork.Groundwork, inner.EngineParts.IsAccessAt, inner.EngineParts.IsGroundwork, inner.EngineParts.IsGuardedAt, inner.SystemsOut.HaveReadNothing}
 use Rattle.msg_frames.specs.Prelude.{AreNew, nobody, nowhere, before_joining, State}
 use Rattle.msg_exec.proofs.ItemsOfLists.{item_at}
 use Rattle.msg_system.specs.declared.condition.Condition.{Condition}
@@ -49,37 +50,39 @@ module _ {S : Type 0} (meaning : S → Meaning) where
     abbrev first : List Rule → WorldState → State
     first rules w = before_joining (map meaning systems) places rules (length world.types) w
 
-    module _ (g : Lender S) (rules : List Rule) (same : g.world ≡ world)
-        (na : length g.systems.items ≡ length systems) (nc : length g.accesses.items ≡ length systems)
-        (nt : length g.totals.items ≡ length systems)
-        (guarded : EachIs (IsGuardedAt meaning systems places) g.systems.items)
-        (accesses : EachIs (IsAccessAt meaning systems places) g.accesses.items)
-        (totals : EachIs (λ k w. AreNoTotals (length world.types) w.items) g.totals.items) where
-      pub parts_stand : (js : List ℕ) → js ≡ map (λ (place : Place). place.join) places → (w : WorldState)
-          → PartsStand world w → LenderStands meaning g (first rules w) × AreJoins js (first rules w)
+    module _ (rules : List Rule) (made : Groundwork)
+        (laid : IsGroundwork meaning (length world.types) systems places rules made)
+        (guarded : Vec (Option (Box (GuardedSystem S)))) (one_each : length guarded.items ≡ length systems)
+        (are_guarded : EachIs (IsGuardedAt meaning systems places) guarded.items) where
+      -- what lends out the systems, before any has joined
+      abbrev pub lender_of : Lender S
+      lender_of = record { world = world; systems = guarded; accesses = made.accesses; totals = made.totals }
+
+      pub parts_stand : (w : WorldState) → PartsStand world w
+          → LenderStands meaning lender_of (first rules w) × AreJoins made.joins.items (first rules w)
           × HaveReadNothing 1 (first rules w)
-      parts_stand js is w stands =
+      parts_stand w stands =
           let n : length (map meaning systems) ≡ length systems = length-map systems meaning in (
             record {
-              systems = na ∙ sym n;
-              accesses = nc ∙ sym n;
-              totals = nt ∙ sym n;
+              systems = one_each ∙ sym n;
+              accesses = laid.one_access_each ∙ sym n;
+              totals = laid.totals_each ∙ sym n;
               members = λ i lt.
                   let f = found i (omega (arith, lt, n)) in
-                  let total = item_at g.totals.items i (omega (arith, lt, n, nt)) in
-                  let none = totals i total.0 total.1 in
-                  let there = slice_get-get_or g.systems.items i None (omega (arith, lt, n, na)) in
-                  let system = guarded i _ there f.x f.place f.sx f.sp in
-                  let its = slice_get-get_or g.accesses.items i _ (omega (arith, lt, n, nc)) in
-                  let access = (accesses i (access_of g.accesses.items i) its).access f.x f.place f.sx f.sp in
+                  let total = item_at made.totals.items i (omega (arith, lt, n, laid.totals_each)) in
+                  let none = laid.totals i total.0 total.1 in
+                  let there = slice_get-get_or guarded.items i None (omega (arith, lt, n, one_each)) in
+                  let system = are_guarded i _ there f.x f.place f.sx f.sp in
+                  let its = slice_get-get_or made.accesses.items i _ (omega (arith, lt, n, laid.one_access_each)) in
+                  let access = (laid.accesses i (access_of made.accesses.items i) its).access f.x f.place f.sx f.sp in
                   let fits = f.may.fits f.place f.sp in
                   rw (f.is, f.at)
                   (grind (arith, access, conditions_new, fits, none, system, total.1, uses_needs));
-              world = rw same stands;
-              whole = rw same whole;
-              types = ap (λ (p : Parts). length p.types) same;
+              world = stands;
+              whole = whole;
+              types = refl;
             },
-            grind (arith, get_or-map, length-map),
+            (let joins = laid.joins in grind (arith, joins, get_or-map, length-map)),
             λ i t joins. elim (cases_lt i (length systems)) [
               | inl lt ↦ (let f = found i lt in ap (λ (m : Meaning). m.places t) f.is ∙ f.may.new.places t)
               | inr past ↦ ap (λ (m : Meaning). m.places t)

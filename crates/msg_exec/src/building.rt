@@ -2,15 +2,25 @@
 ghost use Rattle.std.specs.Prelude.{◌≡◌, ◌<◌, ◌≤◌, ◌↔◌, IfOk, IfErr, OnOk, IsTrue, Some, length, map};
 ghost use Rattle.msg_order.specs.Prelude.{IsAcyclic, NameSystemsBelow, edges_of};
 ghost use Rattle.msg_system.specs.Prelude.{HasClash, IsAccessOf, new_asked};
-ghost use Rattle.msg_exec.specs.Prelude.{EachIs};
-ghost use Rattle.msg_exec.specs.inner.EngineParts.{AreNoTotals, IsAccessAt, IsGuardedAt, RefusesForClash, RefusesForCycle};
+ghost use Rattle.msg_exec.specs.Prelude.{EachIs, RefusesFor};
+ghost use Rattle.msg_exec.specs.inner.EngineParts.{AreNoTotals, IsAccessAt, IsGroundwork, IsGuardedAt, RefusesForClash, RefusesForCycle};
 
+use crate::engine_core::plan_by;
 use crate::job::GuardedSystem;
 use crate::{BuildRefusal, NoMemory, Place, Totals};
-use msg_order::{Rule, lowest_on_cycle};
+use msg_order::laws::fewer_systems_make_no_cycle;
+use msg_order::{Plan, Rule, lowest_on_cycle};
 use msg_system::{Condition, Guard, System, job_access};
 use msg_world::Access;
 use std::alloc::Global;
+
+/// What is reckoned of the systems of a new engine and its rules.
+pub(crate) struct Groundwork {
+    pub accesses: Vec<Access>,
+    pub joins: Vec<u32>,
+    pub plan: Plan,
+    pub totals: Vec<Vec<Totals>>,
+}
 
 /// The access of a system without its conditions, and whether it reads and writes one part.
 fn own_access<S: System>(system: &S) -> (Access, bool)
@@ -23,7 +33,7 @@ fn own_access<S: System>(system: &S) -> (Access, bool)
 }
 
 /// The access of each system's job, unless a system's own access is a clash.
-pub(crate) fn accesses_of<S: System>(
+fn accesses_of<S: System>(
     alloc: Global,
     systems: &[S],
     places: &[Place],
@@ -50,7 +60,7 @@ pub(crate) fn accesses_of<S: System>(
 }
 
 /// The frame with which each system joins.
-pub(crate) fn joins_of(alloc: Global, places: &[Place]) -> Result<Vec<u32>, NoMemory>
+fn joins_of(alloc: Global, places: &[Place]) -> Result<Vec<u32>, NoMemory>
     ensures joins { IfOk result (λ v. v.items ≡ map (λ place. place.join) places.now) }
 {
     let mut joins = Vec::new(alloc);
@@ -92,11 +102,7 @@ pub(crate) fn guarded_systems<S: System>(
 }
 
 /// For each system the totals of readers that haven't joined, one for each type.
-pub(crate) fn totals_of(
-    alloc: Global,
-    systems: usize,
-    types: usize,
-) -> Result<Vec<Vec<Totals>>, NoMemory>
+fn totals_of(alloc: Global, systems: usize, types: usize) -> Result<Vec<Vec<Totals>>, NoMemory>
     ensures as_many { IfOk result (λ v. length v.items ≡ systems) }
     ensures totals { IfOk result (λ v. EachIs (λ i w. AreNoTotals types w.items) v.items) }
 {
@@ -108,7 +114,7 @@ pub(crate) fn totals_of(
 }
 
 /// Refuses rules that make a cycle among so many systems.
-pub(crate) fn check_rules(alloc: Global, systems: usize, rules: &[Rule]) -> Result<(), BuildRefusal>
+fn check_rules(alloc: Global, systems: usize, rules: &[Rule]) -> Result<(), BuildRefusal>
     requires few { systems ≤ 256 }
     requires in_range { NameSystemsBelow systems rules.now }
     ensures acyclic { OnOk result (IsAcyclic (edges_of rules.now)) }
@@ -119,4 +125,32 @@ pub(crate) fn check_rules(alloc: Global, systems: usize, rules: &[Rule]) -> Resu
         Ok(Some(system)) => Err(BuildRefusal::Cycle(system)),
         Err(_) => Err(BuildRefusal::NoMemory),
     }
+}
+
+/// Reckons over a world of so many types, unless a system is a clash or the rules make a cycle.
+pub(crate) fn lay_groundwork<S: System>(
+    alloc: Global,
+    types: usize,
+    systems: &[S],
+    places: &[Place],
+    rules: &[Rule],
+) -> Result<Groundwork, BuildRefusal>
+    requires few { length systems.now ≤ 256 }
+    requires one_place_each { length places.now ≡ length systems.now }
+    requires in_range { NameSystemsBelow (length systems.now) rules.now }
+    ensures groundwork { IfOk result (IsGroundwork S.meaning types systems.now places.now rules.now) }
+    ensures refusal { IfErr result (RefusesFor S.meaning systems.now rules.now) }
+{
+    fewer_systems_make_no_cycle();
+    let accesses = accesses_of(alloc, systems, places)?;
+    check_rules(alloc, systems.len(), rules)?;
+    let joins = joins_of(alloc, places)?;
+    let plan = plan_by(alloc, &accesses, rules, &joins, 1)?;
+    let totals = totals_of(alloc, systems.len(), types)?;
+    Ok(Groundwork {
+        accesses,
+        joins,
+        plan,
+        totals,
+    })
 }

@@ -1,5 +1,5 @@
-use crate::building::{accesses_of, check_rules, guarded_systems, joins_of, totals_of};
-use crate::engine_core::{Core, plan_by, run_one};
+use crate::building::{Groundwork, guarded_systems, lay_groundwork};
+use crate::engine_core::{Core, run_one};
 use crate::joining::join_those;
 use crate::lender::Lender;
 use crate::replay::{accepts_next, replay_one};
@@ -86,11 +86,12 @@ impl<S: System> EngineOf<S> {
         first_states_are_sound();
         fewer_systems_make_no_cycle();
         world.stands_for_some();
-        let accesses = accesses_of(alloc, &systems, &places)?;
-        check_rules(alloc, systems.len(), &rules)?;
-        let joins = joins_of(alloc, &places)?;
-        let plan = plan_by(alloc, &accesses, &rules, &joins, 1)?;
-        let totals = totals_of(alloc, systems.len(), world.types())?;
+        let Groundwork {
+            accesses,
+            joins,
+            plan,
+            totals,
+        } = lay_groundwork(alloc, world.types(), &systems, &places, &rules)?;
         let guarded = guarded_systems(alloc, systems, &places)?;
         let mut lender = Lender {
             world,

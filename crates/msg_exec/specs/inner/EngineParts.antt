@@ -1,11 +1,11 @@
 -- What the parts of a new engine are, and what a refusal says before all is looked at.
-use Rattle.std.specs.Prelude.{◌≡◌, ℕ, ◌<◌, List, length, Option, Some, slice_get, IsSomeAnd, ⊤}
+use Rattle.std.specs.Prelude.{◌≡◌, ℕ, ◌<◌, List, length, map, nat_le, Option, Some, slice_get, IsSomeAnd, ⊤}
 use Rattle.std.specs.Global.{Box}
 use Rattle.msg_world.specs.declared.access.Access.{Access}
 use Rattle.msg_order.specs.declared.rule.Rule.{Rule}
-use Rattle.msg_order.specs.Prelude.{IsLowestOnCycle, edges_of}
+use Rattle.msg_order.specs.Prelude.{IsAcyclic, IsLowestOnCycle, IsPlanOf, edges_of}
 use Rattle.msg_system.specs.Prelude.{HasClash, IsAccessOf, Meaning, with_conditions}
-use Rattle.msg_exec.specs.{declared.job.GuardedSystem.GuardedSystem, Jobs.job_state, Keeping.totals_at, declared.build_refusal.BuildRefusal.BuildRefusal, declared.build_refusal.BuildRefusal.TheVariants.Clash, declared.build_refusal.BuildRefusal.TheVariants.Cycle, declared.build_refusal.BuildRefusal.TheVariants.NoMemory, Building.IsLowestClash}
+use Rattle.msg_exec.specs.{declared.job.GuardedSystem.GuardedSystem, Jobs.job_state, Keeping.totals_at, declared.build_refusal.BuildRefusal.BuildRefusal, declared.build_refusal.BuildRefusal.TheVariants.Clash, declared.build_refusal.BuildRefusal.TheVariants.Cycle, declared.build_refusal.BuildRefusal.TheVariants.NoMemory, Building.EachIs, Building.IsLowestClash, declared.building.Groundwork.Groundwork}
 use Rattle.msg_frames.specs.{declared.place.Place.Place, declared.totals.Totals.Totals}
 use Rattle.msg_frames.specs.Prelude.{new_job, no_totals}
 
@@ -39,3 +39,16 @@ module _ {S : Type 0} (meaning : S → Meaning) where
 pub record AreNoTotals (types : ℕ) (xs : List Totals) : Type 0 where
   pub as_many : length xs ≡ types
   pub each : (t : ℕ) → t < types → totals_at xs t ≡ no_totals
+
+module _ {S : Type 0} (meaning : S → Meaning) where
+  -- What is reckoned of systems of which none is a clash, and of rules that make no cycle: the
+  -- plan is that of the first frame.
+  pub record IsGroundwork (types : ℕ) (systems : List S) (places : List Place) (rules : List Rule)
+      (made : Groundwork) : Type 0 where
+    pub no_cycle : IsAcyclic (edges_of rules)
+    pub one_access_each : length made.accesses.items ≡ length systems
+    pub accesses : EachIs (IsAccessAt meaning systems places) made.accesses.items
+    pub joins : made.joins.items ≡ map (λ place. place.join) places
+    pub plan : IsPlanOf made.accesses.items rules (map (λ j. nat_le j 1) made.joins.items) made.plan
+    pub totals_each : length made.totals.items ≡ length systems
+    pub totals : EachIs (λ i w. AreNoTotals types w.items) made.totals.items
