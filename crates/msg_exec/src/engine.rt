@@ -40,7 +40,7 @@ pub struct EngineOf<S> {
 pub type Engine = EngineOf<Box<dyn System>>;
 
 impl<S: System> EngineOf<S> {
-    ghost use Rattle.std.specs.Prelude.{◌≡◌, ◌<◌, ◌-◌, ◌^◌, ◌+◌, ◌↔◌, ℕ, All, drop, min, IfOk, OnOk, Err, Ok, ◌≤◌, IfErr, IfSome, IsNone, IsTrue, List, Some, length, map};
+    ghost use Rattle.std.specs.Prelude.{◌≡◌, ◌<◌, ◌-◌, ◌^◌, ◌+◌, ◌↔◌, ℕ, All, drop, min, IfOk, OnOk, Err, Ok, ◌≤◌, IfErr, IfSome, IsNone, IsTrue, List, None, Some, length, map};
     ghost use Rattle.std.specs.Option.{option_copied};
     ghost use Rattle.msg_system.specs.Needs.{HasClash};
     ghost use Rattle.msg_world.specs.declared.run_fault.RunFault.TheVariants.{BadOrder, NoMemory, Spoiled};
@@ -112,6 +112,13 @@ impl<S: System> EngineOf<S> {
             frames: 0,
             spares: Spares::new(alloc),
         })
+    }
+
+    /// Drops its world and its systems.
+    fn spoil(&mut self)
+        ensures spoiled { self.new ≡ record self.old { core = None } }
+    {
+        self.core = None;
     }
 
     /// Takes its core back after a frame, and counts the frame.
@@ -231,7 +238,7 @@ impl<S: System> EngineOf<S> {
         }
         for frame in frames {
             if out.reserve(1).is_err() {
-                self.core = None;
+                self.spoil();
                 return Err(RunFault::NoMemory);
             }
             let log = self.run_frame(rt, frame, workers, gate)?;
@@ -273,16 +280,19 @@ impl<S: System> EngineOf<S> {
         ensures engine { IsEngine S.meaning self.new }
     {
         replays_tell_a_complete_run();
-        let Some(core) = self.core.take() else {
+        let Some(core) = &self.core else {
             return Err(RunFault::Spoiled);
         };
-        let Ok(is_lawful) = accepts_next(self.alloc, &core, self.frames, order) else {
+        let Ok(is_lawful) = accepts_next(self.alloc, core, self.frames, order) else {
+            self.spoil();
             return Err(RunFault::NoMemory);
         };
         if !is_lawful {
-            self.core = Some(core);
             return Err(RunFault::BadOrder);
         }
+        let Some(core) = self.core.take() else {
+            unreachable!()
+        };
         let Ok((core, log)) = replay_one(
             self.alloc,
             core,

@@ -6,7 +6,7 @@ use Rattle.msg_exec.proofs.engine.EngineOf.replay_frame.Goals as goal
 
 pub returns-clause-replayed : goal.returns-clause-replayed
 returns-clause-replayed g c s stands =
-    let core = rw (sym c.take.ensures.value ∙ c.in-Some.is) at stands.core in
+    let core = rw (sym c.take.ensures.value ∙ c.in-Some-take.is) at stands.core in
     let ran = c.in-Ok-replay_one.ensures.replayed s core stands.frames in
     record {
       state = ran.state;
@@ -19,24 +19,20 @@ returns-clause-replayed g c s stands =
 
 pub returns-clause-engine : goal.returns-clause-engine
 returns-clause-engine g c =
-    let some = ap is_some (sym c.take.ensures.value ∙ c.in-Some.is) in
-    let was = stood g.S.System.meaning c.args.self.now some c.requires.engine in
+    let was = stood g.S.System.meaning c.args.self.now (ap is_some c.in-Some.is) c.requires.engine in
     let ran = returns-clause-replayed g c was.0 was.1 in
     inr (ran.state, ran.stands)
 
 pub returns-then-not-is_lawful-clause-bad_order : goal.returns-then-not-is_lawful-clause-bad_order
 returns-then-not-is_lawful-clause-bad_order g c s stands some =
-    let core = rw (sym c.take.ensures.value ∙ c.in-Some.is) at stands.core in
+    let core = rw c.in-Some.is at stands.core in
     let tells = c.in-Ok.ensures.lawful s core stands.frames c.args.frame.now in
     (λ same lawful. false≢true (sym c.if-not-is_lawful.true ∙ tells.1 lawful), λ unlawful. refl)
 
 pub returns-clause-bad_order : goal.returns-clause-bad_order
 returns-clause-bad_order g c s stands some =
-    let core = rw (sym c.take.ensures.value ∙ c.in-Some.is) at stands.core in
+    let core = rw c.in-Some.is at stands.core in
     let tells = c.in-Ok.ensures.lawful s core stands.frames c.args.frame.now in (
       λ same. absurd (false≢true (ap is_ok (sym same))),
       λ unlawful. absurd (unlawful (tells.0 c.if-not-is_lawful.false)),
     )
-
-pub returns-in_default-accepts_next-clause-no_memory : goal.returns-in_default-accepts_next-clause-no_memory
-returns-in_default-accepts_next-clause-no_memory g c same = ap is_some c.take.ensures.after
