@@ -1,9 +1,11 @@
-use Rattle.std.proofs.Common.{◌≡◌, ◌++◌, ◌∷◌, [], length, append_assoc, refl, arith, rules}
-use Rattle.std.proofs.lemmas.{List.drop-append-le, List.length_push, List.take_all, List.take_more, List.Elements.All-push}
+use Rattle.std.proofs.Common.{◌≡◌, ◌++◌, ◌∷◌, [], ◌∙◌, Err, length, append_assoc, refl, sym, arith, rules}
+use Rattle.std.proofs.lemmas.{Bool.false≢true, List.drop-append-le, List.length_push, List.take_all, List.take_more, List.Elements.All-push}
+use Rattle.msg_world.specs.declared.run_fault.RunFault.TheVariants.{NoMemory, Spoiled}
 use Rattle.msg_workers.specs.Prelude.{EachPassedGate}
 use Rattle.msg_frames.specs.Prelude.{turn_order_in}
 use Rattle.msg_frames.proofs.SystemsStay.{frame_keeps}
 use Rattle.msg_exec.proofs.EngineRunsFrames.{core_of, run_more, stood}
+use Rattle.msg_exec.proofs.engine.EngineOf.run_frames.Given as given
 use Rattle.msg_exec.proofs.engine.EngineOf.run_frames.Goals as goal
 
 pub run_frame-requires-clause-posts : goal.run_frame-requires-clause-posts
@@ -66,11 +68,51 @@ returns-clause-ran g c s stands =
     }
 
 pub returns-then-is_err-clause-gate_passed : goal.returns-then-is_err-clause-gate_passed
-returns-then-is_err-clause-gate_passed g c =
-    let kept : c.reserve.new.self.items ≡ c.loop-frame.out.items = search rules in
-    rw kept c.loop-frame.invariant.gate_passed
+returns-then-is_err-clause-gate_passed g c = rw c.reserve.ensures.items c.loop-frame.invariant.gate_passed
+
+pub returns-then-is_err-clause-no_memory : goal.returns-then-is_err-clause-no_memory
+returns-then-is_err-clause-no_memory g c same s stands =
+    let far = c.loop-frame.invariant.so_far s stands in
+    record {
+      logs = far.logs;
+      state = far.state;
+      appended = rw c.reserve.ensures.items far.appended;
+      is_run = rw far.as_many far.is_run;
+      counted = rw c.spoil.ensures.spoiled far.stands.frames;
+      spoiled = rw c.spoil.ensures.spoiled refl;
+    }
 
 pub returns-in_err-log-clause-gate_passed : goal.returns-in_err-log-clause-gate_passed
-returns-in_err-log-clause-gate_passed g c =
-    let kept : c.reserve.new.self.items ≡ c.loop-frame.out.items = search rules in
-    rw kept c.loop-frame.invariant.gate_passed
+returns-in_err-log-clause-gate_passed g c = rw c.reserve.ensures.items c.loop-frame.invariant.gate_passed
+
+pub returns-in_err-log-clause-no_memory : goal.returns-in_err-log-clause-no_memory
+returns-in_err-log-clause-no_memory g c same s stands =
+    let far = c.loop-frame.invariant.so_far s stands in
+    let failed : c.run_frame.result ≡ Err NoMemory = grind (arith, same, c.from_residual.ensures, c.in_err-log.was) in
+    record {
+      logs = far.logs;
+      state = far.state;
+      appended = rw c.reserve.ensures.items far.appended;
+      is_run = rw far.as_many far.is_run;
+      counted = c.run_frame.ensures.not_counted failed ∙ far.stands.frames;
+      spoiled = c.run_frame.ensures.no_memory failed;
+    }
+
+pub returns-in_err-log-clause-no_bad_order : goal.returns-in_err-log-clause-no_bad_order
+returns-in_err-log-clause-no_bad_order g c same =
+    c.run_frame.ensures.no_bad_order (grind (arith, same, c.from_residual.ensures, c.in_err-log.was))
+
+not_spoiled : (g : given.Over) (c : goal.After-from_residual g) → ¬ (c.from_residual.result ≡ Err Spoiled)
+not_spoiled g c same =
+    let failed : c.run_frame.result ≡ Err Spoiled = grind (arith, same, c.from_residual.ensures, c.in_err-log.was) in
+    false≢true (sym (c.run_frame.ensures.spoiled.0 failed) ∙ c.loop-frame.invariant.core)
+
+pub returns-in_err-log-clause-spoiled : goal.returns-in_err-log-clause-spoiled
+returns-in_err-log-clause-spoiled g c =
+    (λ same. absurd (not_spoiled g c same), λ spoiled. grind (arith, spoiled, c.is_none.ensures, c.if-is_none.false))
+
+pub returns-in_err-log-clause-unchanged : goal.returns-in_err-log-clause-unchanged
+returns-in_err-log-clause-unchanged g c same = absurd (not_spoiled g c same)
+
+pub returns-in_err-log-clause-nothing_appended : goal.returns-in_err-log-clause-nothing_appended
+returns-in_err-log-clause-nothing_appended g c same = absurd (not_spoiled g c same)
