@@ -1,4 +1,4 @@
-use Rattle.std.proofs.Common.{rules, [], Err, ap, arith, inl, inr, length, refl, sym, ◌∙◌}
+use Rattle.std.proofs.Common.{[], Err, ap, arith, inl, inr, length, refl, sym, ◌∙◌}
 use Rattle.std.proofs.lemmas.Result.{err_from_is_err_and, on_err_weaker, on_ok_weaker}
 use Rattle.msg_scenario_data.specs.Prelude.{state_of}
 use Rattle.std.proofs.KnownBytes.{Appends-nil}
@@ -31,7 +31,7 @@ returns-in_err-lines-clause-prefix g c =
 pub loop-reported-preserved : goal.loop-reported-preserved
 loop-reported-preserved g c = record {
   so_far = c.in_ok-report_frame.ensures.ok _ c.loop-reported.invariant.so_far;
-  failures = search rules;
+  failures = c.in_ok-report_frame.ensures.quiet (λ same. cc) ∙ c.loop-reported.invariant.failures;
 }
 
 pub returns-in_err-report_frame-clause-prefix : goal.returns-in_err-report_frame-clause-prefix
