@@ -11,7 +11,7 @@ use Rattle.msg_order.proofs.SetPaths.{all_rules}
 use Rattle.msg_system.proofs.AccessesUseNeeds.{uses_needs}
 use Rattle.msg_frames.specs.declared.place.Place.{Place}
 use Rattle.msg_exec.specs.Prelude.{AreJoins, Core, EachIs, GuardedSystem, Lender, LenderStands, MayBeAdded, Schedule}
-use Rattle.msg_exec.specs.{declared.building.Groundwork.Groundwork, inner.EngineParts.IsAccessAt, inner.EngineParts.IsGroundwork, inner.EngineParts.IsGuardedAt, inner.SystemsOut.HaveReadNothing}
+use Rattle.msg_exec.specs.{declared.building.Prepared.Prepared, inner.EngineParts.IsAccessAt, inner.EngineParts.IsPreparedFor, inner.EngineParts.IsGuardedAt, inner.SystemsOut.HaveReadNothing}
 use Rattle.msg_frames.specs.Prelude.{AreNew, nobody, nowhere, before_joining, State}
 use Rattle.msg_exec.proofs.ItemsOfLists.{item_at}
 use Rattle.msg_system.specs.declared.condition.Condition.{Condition}
@@ -50,8 +50,8 @@ module _ {S : Type 0} (meaning : S → Meaning) where
     abbrev first : List Rule → WorldState → State
     first rules w = before_joining (map meaning systems) places rules (length world.types) w
 
-    module _ (rules : List Rule) (made : Groundwork)
-        (laid : IsGroundwork meaning (length world.types) systems places rules made)
+    module _ (rules : List Rule) (made : Prepared)
+        (prepared : IsPreparedFor meaning (length world.types) systems places rules made)
         (guarded : Vec (Option (Box (GuardedSystem S)))) (one_each : length guarded.items ≡ length systems)
         (are_guarded : EachIs (IsGuardedAt meaning systems places) guarded.items) where
       -- what lends out the systems, before any has joined
@@ -65,16 +65,16 @@ module _ {S : Type 0} (meaning : S → Meaning) where
           let n : length (map meaning systems) ≡ length systems = length-map systems meaning in (
             record {
               systems = one_each ∙ sym n;
-              accesses = laid.one_access_each ∙ sym n;
-              totals = laid.totals_each ∙ sym n;
+              accesses = prepared.one_access_each ∙ sym n;
+              totals = prepared.totals_each ∙ sym n;
               members = λ i lt.
                   let f = found i (omega (arith, lt, n)) in
-                  let total = item_at made.totals.items i (omega (arith, lt, n, laid.totals_each)) in
-                  let none = laid.totals i total.0 total.1 in
+                  let total = item_at made.totals.items i (omega (arith, lt, n, prepared.totals_each)) in
+                  let none = prepared.totals i total.0 total.1 in
                   let there = slice_get-get_or guarded.items i None (omega (arith, lt, n, one_each)) in
                   let system = are_guarded i _ there f.x f.place f.sx f.sp in
-                  let its = slice_get-get_or made.accesses.items i _ (omega (arith, lt, n, laid.one_access_each)) in
-                  let access = (laid.accesses i (access_of made.accesses.items i) its).access f.x f.place f.sx f.sp in
+                  let its = slice_get-get_or made.accesses.items i _ (omega (arith, lt, n, prepared.one_access_each)) in
+                  let access = (prepared.accesses i (access_of made.accesses.items i) its).access f.x f.place f.sx f.sp in
                   let fits = f.may.fits f.place f.sp in
                   rw (f.is, f.at)
                   (grind (arith, access, conditions_new, fits, none, system, total.1, uses_needs));
@@ -82,7 +82,7 @@ module _ {S : Type 0} (meaning : S → Meaning) where
               whole = whole;
               types = refl;
             },
-            (let joins = laid.joins in grind (arith, joins, get_or-map, length-map)),
+            (let joins = prepared.joins in grind (arith, joins, get_or-map, length-map)),
             λ i t joins. elim (cases_lt i (length systems)) [
               | inl lt ↦ (let f = found i lt in ap (λ (m : Meaning). m.places t) f.is ∙ f.may.new.places t)
               | inr past ↦ ap (λ (m : Meaning). m.places t)

@@ -3,7 +3,7 @@ ghost use Rattle.std.specs.Prelude.{◌≡◌, ◌<◌, ◌≤◌, ◌↔◌, If
 ghost use Rattle.msg_order.specs.Prelude.{IsAcyclic, NameSystemsBelow, edges_of};
 ghost use Rattle.msg_system.specs.Prelude.{HasClash, IsAccessOf, new_asked};
 ghost use Rattle.msg_exec.specs.Prelude.{EachIs, RefusesFor};
-ghost use Rattle.msg_exec.specs.inner.EngineParts.{AreNoTotals, IsAccessAt, IsGroundwork, IsGuardedAt, RefusesForClash, RefusesForCycle};
+ghost use Rattle.msg_exec.specs.inner.EngineParts.{AreNoTotals, IsAccessAt, IsPreparedFor, IsGuardedAt, RefusesForClash, RefusesForCycle};
 
 use crate::engine_core::plan_by;
 use crate::job::GuardedSystem;
@@ -15,7 +15,7 @@ use msg_world::Access;
 use std::alloc::Global;
 
 /// What is reckoned of the systems of a new engine and its rules.
-pub(crate) struct Groundwork {
+pub(crate) struct Prepared {
     pub accesses: Vec<Access>,
     pub joins: Vec<u32>,
     pub plan: Plan,
@@ -128,17 +128,17 @@ fn check_rules(alloc: Global, systems: usize, rules: &[Rule]) -> Result<(), Buil
 }
 
 /// Reckons over a world of so many types, unless a system is a clash or the rules make a cycle.
-pub(crate) fn lay_groundwork<S: System>(
+pub(crate) fn prepare<S: System>(
     alloc: Global,
     types: usize,
     systems: &[S],
     places: &[Place],
     rules: &[Rule],
-) -> Result<Groundwork, BuildRefusal>
+) -> Result<Prepared, BuildRefusal>
     requires few { length systems.now ≤ 256 }
     requires one_place_each { length places.now ≡ length systems.now }
     requires in_range { NameSystemsBelow (length systems.now) rules.now }
-    ensures groundwork { IfOk result (IsGroundwork S.meaning types systems.now places.now rules.now) }
+    ensures prepared { IfOk result (IsPreparedFor S.meaning types systems.now places.now rules.now) }
     ensures refusal { IfErr result (RefusesFor S.meaning systems.now rules.now) }
 {
     fewer_systems_make_no_cycle();
@@ -147,7 +147,7 @@ pub(crate) fn lay_groundwork<S: System>(
     let joins = joins_of(alloc, places)?;
     let plan = plan_by(alloc, &accesses, rules, &joins, 1)?;
     let totals = totals_of(alloc, systems.len(), types)?;
-    Ok(Groundwork {
+    Ok(Prepared {
         accesses,
         joins,
         plan,

@@ -1,4 +1,4 @@
-use crate::building::{Groundwork, guarded_systems, lay_groundwork};
+use crate::building::{Prepared, guarded_systems, prepare};
 use crate::engine_core::{Core, run_one};
 use crate::joining::join_those;
 use crate::lender::Lender;
@@ -86,12 +86,12 @@ impl<S: System> EngineOf<S> {
         first_states_are_sound();
         fewer_systems_make_no_cycle();
         world.stands_for_some();
-        let Groundwork {
+        let Prepared {
             accesses,
             joins,
             plan,
             totals,
-        } = lay_groundwork(alloc, world.types(), &systems, &places, &rules)?;
+        } = prepare(alloc, world.types(), &systems, &places, &rules)?;
         let guarded = guarded_systems(alloc, systems, &places)?;
         let mut lender = Lender {
             world,

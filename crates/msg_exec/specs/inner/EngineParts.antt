@@ -5,7 +5,7 @@ use Rattle.msg_world.specs.declared.access.Access.{Access}
 use Rattle.msg_order.specs.declared.rule.Rule.{Rule}
 use Rattle.msg_order.specs.Prelude.{IsAcyclic, IsLowestOnCycle, IsPlanOf, edges_of}
 use Rattle.msg_system.specs.Prelude.{HasClash, IsAccessOf, Meaning, with_conditions}
-use Rattle.msg_exec.specs.{declared.job.GuardedSystem.GuardedSystem, Jobs.job_state, Keeping.totals_at, declared.build_refusal.BuildRefusal.BuildRefusal, declared.build_refusal.BuildRefusal.TheVariants.Clash, declared.build_refusal.BuildRefusal.TheVariants.Cycle, declared.build_refusal.BuildRefusal.TheVariants.NoMemory, Building.EachIs, Building.IsLowestClash, declared.building.Groundwork.Groundwork}
+use Rattle.msg_exec.specs.{declared.job.GuardedSystem.GuardedSystem, Jobs.job_state, Keeping.totals_at, declared.build_refusal.BuildRefusal.BuildRefusal, declared.build_refusal.BuildRefusal.TheVariants.Clash, declared.build_refusal.BuildRefusal.TheVariants.Cycle, declared.build_refusal.BuildRefusal.TheVariants.NoMemory, Building.EachIs, Building.IsLowestClash, declared.building.Prepared.Prepared}
 use Rattle.msg_frames.specs.{declared.place.Place.Place, declared.totals.Totals.Totals}
 use Rattle.msg_frames.specs.Prelude.{new_job, no_totals}
 
@@ -43,8 +43,8 @@ pub record AreNoTotals (types : ℕ) (xs : List Totals) : Type 0 where
 module _ {S : Type 0} (meaning : S → Meaning) where
   -- What is reckoned of systems of which none is a clash, and of rules that make no cycle: the
   -- plan is that of the first frame.
-  pub record IsGroundwork (types : ℕ) (systems : List S) (places : List Place) (rules : List Rule)
-      (made : Groundwork) : Type 0 where
+  pub record IsPreparedFor (types : ℕ) (systems : List S) (places : List Place) (rules : List Rule)
+      (made : Prepared) : Type 0 where
     pub no_cycle : IsAcyclic (edges_of rules)
     pub one_access_each : length made.accesses.items ≡ length systems
     pub accesses : EachIs (IsAccessAt meaning systems places) made.accesses.items

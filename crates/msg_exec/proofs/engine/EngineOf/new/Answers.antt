@@ -7,16 +7,16 @@ use Rattle.msg_exec.proofs.engine.EngineOf.new.Goals as goal
 
 pub join_those-requires-clause-stands : goal.join_those-requires-clause-stands
 join_those-requires-clause-stands g c κs within =
-    let laid = rw (c.types.ensures.types, c.deref.ensures.value, c.deref-2.ensures.value, c.deref-3.ensures.value)
-    at c.in_ok-accesses.ensures.groundwork in
+    let prepared = rw (c.types.ensures.types, c.deref.ensures.value, c.deref-2.ensures.value, c.deref-3.ensures.value)
+    at c.in_ok-accesses.ensures.prepared in
     let w = c.stands_for_some.ensures.state in
     let parts = parts_stand g.S.System.meaning _ c.args.systems.items c.args.places.items c.requires.whole
-    c.requires.one_place_each c.requires.each _ _ laid _ c.in_ok-guarded.ensures.as_many
+    c.requires.one_place_each c.requires.each _ _ prepared _ c.in_ok-guarded.ensures.as_many
     (rw c.deref-4.ensures.value at c.in_ok-guarded.ensures.guarded) w.0 w.1 in
     (_, (parts.0, rw c.deref-5.ensures.value parts.1, parts.2))
 
 pub returns-clause-no_cycle : goal.returns-clause-no_cycle
-returns-clause-no_cycle g c = rw c.deref-3.ensures.value at c.in_ok-accesses.ensures.groundwork.no_cycle
+returns-clause-no_cycle g c = rw c.deref-3.ensures.value at c.in_ok-accesses.ensures.prepared.no_cycle
 
 pub returns-clause-meaning : goal.returns-clause-meaning
 returns-clause-meaning g c w stands =
@@ -25,10 +25,10 @@ returns-clause-meaning g c w stands =
     let places = c.args.places.items in
     let rules = c.args.rules.items in
     let made = c.in_ok-accesses.field-0 in
-    let laid = rw (c.types.ensures.types, c.deref.ensures.value, c.deref-2.ensures.value, c.deref-3.ensures.value)
-    at c.in_ok-accesses.ensures.groundwork in
+    let prepared = rw (c.types.ensures.types, c.deref.ensures.value, c.deref-2.ensures.value, c.deref-3.ensures.value)
+    at c.in_ok-accesses.ensures.prepared in
     let parts = parts_stand m _ systems places c.requires.whole c.requires.one_place_each c.requires.each rules made
-    laid _ c.in_ok-guarded.ensures.as_many (rw c.deref-4.ensures.value at c.in_ok-guarded.ensures.guarded) w stands in
+    prepared _ c.in_ok-guarded.ensures.as_many (rw c.deref-4.ensures.value at c.in_ok-guarded.ensures.guarded) w stands in
     let first : State = before_joining (map m systems) places rules (length c.args.world.types) w in
     let s : State = with_joining 1 first in
     let core : Core g.row.S.Denot =
@@ -36,14 +36,14 @@ returns-clause-meaning g c w stands =
     let schedule : Schedule core s = schedule_along refl refl (joining_on_keeps 1 first)
     (schedule_first m _ systems places c.requires.whole c.requires.one_place_each c.requires.each core rules w
     c.requires.few c.requires.in_range
-    (none_more c.fewer_systems_make_no_cycle.ensures.law (length systems) rules c.requires.in_range laid.no_cycle)
+    (none_more c.fewer_systems_make_no_cycle.ensures.law (length systems) rules c.requires.in_range prepared.no_cycle)
     refl parts.1) in
     record {
       core = record {
         lender = c.join_those.ensures.joined first parts.0 (rw c.deref-5.ensures.value parts.1) parts.2;
         schedule = schedule;
         plan = rw (c.join_those.ensures.accesses, ← joined_by_frame made.joins.items s 1 schedule.joins (omega arith))
-            laid.plan;
+            prepared.plan;
         sound = c.first_states_are_sound.ensures.law (map m systems) places rules (length c.args.world.types) w
             (are_new m _ systems places c.requires.whole c.requires.one_place_each c.requires.each w stands);
       };
@@ -55,5 +55,5 @@ returns-clause-engine g c = let w = c.stands_for_some.ensures.state in inr (_, r
 
 pub returns-clause-no_clash : goal.returns-clause-no_clash
 returns-clause-no_clash g c =
-    let laid = rw (c.deref.ensures.value, c.deref-2.ensures.value) at c.in_ok-accesses.ensures.groundwork in
-    none_clashes g.S.System.meaning c.args.systems.items _ _ laid.one_access_each laid.accesses
+    let prepared = rw (c.deref.ensures.value, c.deref-2.ensures.value) at c.in_ok-accesses.ensures.prepared in
+    none_clashes g.S.System.meaning c.args.systems.items _ _ prepared.one_access_each prepared.accesses

@@ -1,6 +1,6 @@
 use Rattle.std.proofs.Common.{◌∙◌, ap, length, arith}
 use Rattle.msg_exec.proofs.FirstEngineStands.{none_clashes, none_more}
-use Rattle.msg_exec.proofs.building.lay_groundwork.Goals as goal
+use Rattle.msg_exec.proofs.building.prepare.Goals as goal
 
 pub returns-in_err-check_rules-clause-refusal : goal.returns-in_err-check_rules-clause-refusal
 returns-in_err-check_rules-clause-refusal g c =
@@ -13,8 +13,8 @@ plan_by-requires-clause-no_cycle g c joined size =
     none_more c.fewer_systems_make_no_cycle.ensures.law _ c.args.rules.now c.requires.in_range
     c.in_ok-check_rules.ensures.acyclic joined (size ∙ ap length c.deref.ensures.value ∙ c.in_ok-accesses.ensures.as_many)
 
-pub returns-clause-groundwork : goal.returns-clause-groundwork
-returns-clause-groundwork g c = record {
+pub returns-clause-prepared : goal.returns-clause-prepared
+returns-clause-prepared g c = record {
   no_cycle = c.in_ok-check_rules.ensures.acyclic;
   one_access_each = c.in_ok-accesses.ensures.as_many;
   accesses = c.in_ok-accesses.ensures.accesses;
