@@ -1,5 +1,4 @@
 use Rattle.std.proofs.Common.{refl, ◌≡◌, ◌<◌, None, ap, sym, ◌∙◌, arith}
-use Rattle.std.proofs.lemmas.Grind.{common_steps}
 use Rattle.std.proofs.lemmas.List.{get_or_default}
 use Rattle.msg_order.proofs.Elements.{filter_drops}
 use Rattle.msg_world.specs.Prelude.{OfType}
@@ -39,9 +38,3 @@ loop-t-preserved g c = record {
             (rw (← filter_drops (is_reader s i) t _ refl (sym reader ∙ w.if-reads_type.false)) far)
       ];
 }
-
-pub returns-in_default : goal.returns-in_default
-returns-in_default g c = grind (arith, common_steps)
-
-pub returns-in_default-try_from : goal.returns-in_default-try_from
-returns-in_default-try_from g c = grind (arith, common_steps)
