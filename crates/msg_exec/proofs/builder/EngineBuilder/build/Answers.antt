@@ -52,20 +52,3 @@ pub returns-in-Ok-clause-named : goal.returns-in-Ok-clause-named
 returns-in-Ok-clause-named g c =
     rw (← c.self.view_is)
     (rw (c.deref-4.ensures.value, c.deref-3.ensures.value) at c.in_ok-check_names.ensures.named)
-
-pub returns-in_err-check_systems-clause-refusal : goal.returns-in_err-check_systems-clause-refusal
-returns-in_err-check_systems-clause-refusal g c =
-    let misfit = rw (c.deref.ensures.value, c.deref-2.ensures.value) at c.in_err-check_systems.ensures.misfit in
-    rw (← c.self.view_is) (grind (arith, misfit, c.from_residual.ensures))
-
-pub returns-in_err-check_names-clause-refusal : goal.returns-in_err-check_names-clause-refusal
-returns-in_err-check_names-clause-refusal g c =
-    let fit = rw (c.deref.ensures.value, c.deref-2.ensures.value) at c.in_ok-check_systems.ensures.fit in
-    let unknown = rw (c.deref-4.ensures.value, c.deref-3.ensures.value) at c.in_err-check_names.ensures.unknown in
-    rw (← c.self.view_is) (grind (arith, fit, unknown, c.from_residual-in_err-check_names.ensures))
-
-pub returns-in_err-systems-clause-refusal : goal.returns-in_err-systems-clause-refusal
-returns-in_err-systems-clause-refusal g c =
-    let fit = rw (c.deref.ensures.value, c.deref-2.ensures.value) at c.in_ok-check_systems.ensures.fit in
-    let named = rw (c.deref-4.ensures.value, c.deref-3.ensures.value) at c.in_ok-check_names.ensures.named in
-    rw (← c.self.view_is) (grind (arith, fit, named, c.from_residual-in_err-systems.ensures))
