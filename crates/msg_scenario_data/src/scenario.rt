@@ -15,8 +15,8 @@ pub struct SystemSpec {
 /// A world, the systems over it, and the frames to be run. Types, resources and systems are
 /// numbered by their place here.
 ///
-/// `read_scenario` of `msg_reading` makes one of a file. Code may make each part itself, and then asks `is_runnable`
-/// whether the whole can be run.
+/// `read_scenario` of `msg_reading` makes one of a file. Code may make each part itself, and then
+/// asks `is_runnable` whether the whole can be run.
 ///
 /// ```
 /// let hit = (Name::new(alloc, "hit")?, 10);
