@@ -127,7 +127,8 @@ fn check_rules(alloc: Global, systems: usize, rules: &[Rule]) -> Result<(), Buil
     }
 }
 
-/// Reckons over a world of so many types, unless a system is a clash or the rules make a cycle.
+/// The access, the join and the totals of each system, and the plan of the first frame, over a
+/// world of so many types. Refuses a system that is a clash, and rules that make a cycle.
 pub(crate) fn prepare<S: System>(
     alloc: Global,
     types: usize,

@@ -15,8 +15,7 @@ pub enum Kind {
 }
 
 impl Kind {
-    /// Whether a system of this kind may have these ops: a relay's are one `forward`, a tally's are
-    /// one `sum`, and a script's may be any.
+    /// Whether a system of this kind may have these ops.
     pub fn fits(self, ops: &[Op]) -> bool
         ensures fits { result ≡ fits_kind self ops.now }
     {

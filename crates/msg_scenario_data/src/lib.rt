@@ -9,6 +9,6 @@ mod runnable;
 mod scenario;
 
 pub use kind::Kind;
-pub use limits::{LAST_JOIN, MAX_NAME, MAX_OPS, MAX_RESOURCES, MAX_SYSTEMS, MAX_TYPES};
+pub use limits::{LAST_JOIN, MAX_OPS, MAX_RESOURCES, MAX_SYSTEMS, MAX_TYPES};
 pub use name::Name;
 pub use scenario::{Scenario, SystemSpec};

@@ -1,7 +1,7 @@
 // The limits of scenarios.
 
 /// How many bytes a name may have.
-pub const MAX_NAME: usize = 32;
+pub(crate) const MAX_NAME: usize = 32;
 
 /// How many types a scenario may have.
 pub const MAX_TYPES: usize = 64;
