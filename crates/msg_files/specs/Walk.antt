@@ -1,4 +1,4 @@
--- What the private functions of the reader promise: no public contract cites this file.
+-- What the functions of the reader promise.
 use Rattle.std.specs.Prelude.{◌≡◌, ◌≢◌, ◌≤◌, ◌+◌, ℕ, true, List, Option, Some, None, Result, Ok, Err}
 use Rattle.msg_files.specs.{Check.Check, Check.first_refusal, Cursors.made_by, Cursors.has_cursor, declared.call.Call.Call, declared.refusal.Refusal.Refusal, declared.refusal.Refusal.TheVariants.NotJson, declared.refusal.Refusal.TheVariants.NoMemory}
 
