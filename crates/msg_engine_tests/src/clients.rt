@@ -4,7 +4,6 @@ ghost use Rattle.msg_exec.specs.Prelude.{IsEngine, PostsFit, EngineStands};
 ghost use Rattle.msg_frames.specs.Prelude.{Meets, State, has_begun, log_entries};
 ghost use Rattle.msg_frames.specs.Entries.Fate.{given};
 
-use msg_exec::laws::runs_are_unique;
 use msg_exec::{EngineOf, Frame, Log, NoGate, RunFault, Workers};
 use msg_system::System;
 use std::alloc::Global;
@@ -27,7 +26,6 @@ pub fn run_both<R: Threads + Sync, S: System>(
     // However many workers each has, the logs are equal.
     ensures equal { IfOk result (λ logs. logs.0.items ≡ logs.1.items) }
 {
-    runs_are_unique();
     let mut logs = (Vec::new(alloc), Vec::new(alloc));
     one.run_frames(rt, frames, workers.0, &NoGate, &mut logs.0)?;
     other.run_frames(rt, frames, workers.1, &NoGate, &mut logs.1)?;

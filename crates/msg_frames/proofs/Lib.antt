@@ -6,8 +6,7 @@ pub mod FramesInOrder
 -- ---- turns side by side, and in other orders
 mod TurnsCommute
 pub mod BatchesSideBySide
-mod RunsAreUnique
-mod RunsExist
+pub mod Functions
 mod LawfulOrdersAgree
 -- ---- histories
 mod HistoriesGrow
@@ -28,4 +27,3 @@ mod ReadersStayUpToDate
 mod ProgramsReadAll
 -- ---- worked runs
 mod ReadingsOfRows
-mod RowsAreRuns

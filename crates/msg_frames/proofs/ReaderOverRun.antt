@@ -3,20 +3,19 @@ use Rattle.std.proofs.Common.{arith, ℕ, ◌<◌, List, [], ◌∷◌, ◌++◌
 use Rattle.std.proofs.lemmas.Bool.{cases_Bool}
 use Rattle.msg_buffer.specs.Prelude.{GoesOn, History}
 use Rattle.msg_world.specs.declared.record.Record.{Record}
-use Rattle.msg_frames.specs.Prelude.{Frame, IsRun, IsSoundState, Log, Moment, RunsAreComplete, State, answers_in, before_turns, found_at, found_totals, frame_in, has_begun, moments, reader_place, turn_order_in, turns_moments, Totals}
+use Rattle.msg_frames.specs.Prelude.{Frame, IsSoundState, frame, run, Moment, RunsAreComplete, State, answers_in, before_turns, found_at, found_totals, has_begun, moments, reader_place, turns_moments, Totals}
+use Rattle.msg_frames.specs.Frames.{turn_order}
 use Rattle.msg_frames.proofs.{OneFateEach.lies_between, OneFateEach.meets_one_fate, OneFateEach.missed_are_dropped, TilesGiveInOrder.all_as_written, TilesGiveInOrder.given_in_order, TilesGiveInOrder.in_order_of, HistoriesGrow.BufferLaws, HistoriesGrow.goes_further, HistoriesGrow.runs_go_on, HistoriesGrow.stays, SystemsStay.before_keeps, SystemsStay.turns_keep, ReaderOverJob.passes_nothing, EntriesAddUp.tiles_add_up, EntriesAddUp.with_entries-none, ReaderOverTurns.ReadsFrom, ReaderOverTurns.Tells, ReaderOverTurns.reads_further, ReaderOverTurns.tells_further, ReaderOverTurns.turns_read, ReaderOverTurns.turns_skip, ReaderOverTurns.turns_tell, BeforeTurns.Prepares, BeforeTurns.comes, BeforeTurns.prepares, BeforeTurns.stood, BeforeTurns.waits, StatesStaySound.begun_alike, StatesStaySound.frame_sound, StatesStaySound.has_no_turn, StatesStaySound.prepared_sound}
 
-pub run_tells : (i t : ℕ) (frames : List Frame) (s : State) (logs : List Log) (u : State) → IsRun frames s logs u
-    → Tells i t s (answers_in i logs) (moments i t frames logs s) u
-run_tells i t [] s [] u is = grind arith
-run_tells i t (frame ∷ frames) s (log ∷ logs) u is =
-    let b : State = before_turns frame.posts s in
-    let told = turns_tell i t (turn_order_in log) b in
-    let needs = ((before_keeps frame.posts s).members i).needs in
-    tells_further i t s _ _ _ _ _ u
-    (grind (arith, cases_Bool, is.1.tells, needs, told))
-    (run_tells i t frames (frame_in (turn_order_in log) frame s).state logs u (rw (← is.1.leaves) is.2))
-run_tells i t frames s logs u is = absurd is
+pub run_tells : (i t : ℕ) (frames : List Frame) (s : State)
+    → Tells i t s (answers_in i (run frames s).logs) (moments i t frames s) (run frames s).state
+run_tells i t [] s = grind arith
+run_tells i t (f ∷ fs) s =
+    let b : State = before_turns f.posts s in
+    let told = turns_tell i t (turn_order b) b in
+    let needs = ((before_keeps f.posts s).members i).needs in
+    tells_further i t s _ _ _ _ _ (run (f ∷ fs) s).state (grind (arith, cases_Bool, needs, told))
+    (run_tells i t fs (frame f s).state)
 
 -- ---- a reader that joins in the run, or had joined
 
@@ -30,24 +29,23 @@ abbrev pub Follows : ℕ → ℕ → State → List Moment → State → Type 0
 Follows i t s ms u = ReadsFrom i t (found_at s u i t) (found_totals s u i t) (s.world.histories t) ms u
 
 module _ (laws : BufferLaws) (i t : ℕ) where
-  pub run_follows : (frames : List Frame) (s : State) (logs : List Log) (u : State) → IsSoundState s
-      → IsRun frames s logs u → t < s.types → IsTrue (has_begun u i)
-      → Follows i t s (moments i t frames logs s) u
-  run_follows [] s [] u sound is below has = grind (arith, passes_nothing, stays, with_entries-none)
-  run_follows (frame ∷ frames) s (log ∷ logs) u sound is below has =
-      let b : State = before_turns frame.posts s in
-      let m : State = (frame_in (turn_order_in log) frame s).state in
-      let ms : List Moment = turns_moments i t (turn_order_in log) b in
-      let rest : List Moment = moments i t frames logs m in
-      let prep : Prepares s b = prepares laws.grow frame.posts s in
-      let keep = turns_keep (turn_order_in log) b in
+  pub run_follows : (frames : List Frame) (s : State) → IsSoundState s → t < s.types
+      → IsTrue (has_begun (run frames s).state i) → Follows i t s (moments i t frames s) (run frames s).state
+  run_follows [] s sound below has = grind (arith, passes_nothing, stays, with_entries-none)
+  run_follows (f ∷ fs) s sound below has =
+      let b : State = before_turns f.posts s in
+      let order : List ℕ = turn_order b in
+      let m : State = (frame f s).state in
+      let u : State = (run fs m).state in
+      let ms : List Moment = turns_moments i t order b in
+      let rest : List Moment = moments i t fs m in
+      let prep : Prepares s b = prepares laws.grow f.posts s in
+      let keep = turns_keep order b in
       let ready : IsSoundState b = prepared_sound s b sound prep in
       let under : t < b.types = rw (prep.same.types) below in
-      let here = turns_read laws i t (turn_order_in log) b (ready.histories t under) (ready.places i t under) in
+      let here = turns_read laws i t order b (ready.histories t under) (ready.places i t under) in
       let goes : GoesOn (s.world.histories t) (b.world.histories t) = prep.world t (sound.histories t below) in
-      let later : Follows i t m rest u =
-      run_follows frames m logs u (rw (is.1.leaves) at (frame_sound laws frame s log is.0 sound is.1))
-      (rw (← is.1.leaves) is.2) (rw (keep.0.types) under) has in
+      let later : Follows i t m rest u = run_follows fs m (frame_sound laws f s sound) (rw (keep.0.types) under) has in
       let all : IsTrue (has_begun b i) → ReadsFrom i t (reader_place b i t) ((b.members i).totals t)
       (s.world.histories t) (ms ++ rest) u =
       λ now. reads_since i t _ _ _ _ (ms ++ rest) u goes
@@ -56,21 +54,19 @@ module _ (laws : BufferLaws) (i t : ℕ) where
         | stood was now same ↦ rw was (rw (reader_place, same) at (all now))
         | comes was now new ↦ let after = rw (reader_place, new) at (all now) in rw (was, after.totals) after
         | waits was now same ↦
-            rw (was, (turns_skip i t (turn_order_in log) b (has_no_turn b (turn_order_in log) i is.1.in_order now)).1)
+            rw (was, (turns_skip i t order b (has_no_turn b i now)).1)
             (reads_since i t _ _ _ _ rest u (goes_further _ _ _ goes here.passes.goes_on)
             (rw (begun_alike b m i keep ∙ now) at later))
       ]
-  run_follows frames s logs u sound is below has = absurd is
 
 pub runs_are_complete : BufferLaws → RunsAreComplete
-runs_are_complete laws frames s logs u sound is = record {
-  is_run = is;
-  grew = λ t below. runs_go_on laws.grow frames s u logs is t (sound.histories t below);
+runs_are_complete laws frames s sound = record {
+  grew = λ t below. runs_go_on laws.grow frames s t (sound.histories t below);
   served = λ i t below has.
-      let ms : List Moment = moments i t frames logs s in
-      let reads = run_follows laws i t frames s logs u sound is below has in
+      let ms : List Moment = moments i t frames s in
+      let reads = run_follows laws i t frames s sound below has in
       let passes = reads.passes in
-      let tells = (run_tells i t frames s logs u is).entries in
+      let tells = (run_tells i t frames s).entries in
       record {
         given = rw tells (record {
           entries = refl;

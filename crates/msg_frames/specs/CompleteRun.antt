@@ -1,7 +1,7 @@
 -- A run of frames with all that it comes to: for the lists of messages, and for each reader.
 use Rattle.std.specs.Prelude.{◌≡◌, ℕ, ◌<◌, List, if◌then◌else◌, IsTrue, ◌+◌, ◌≤◌, ◌==◌, Bool, false, All, Contains, [], length, map, filter, flat_map, Option, None, Some, option_map, unwrap_or, slice_get}
 use Rattle.msg_buffer.specs.Prelude.{GoesOn, History, IsPresent, count}
-use Rattle.msg_frames.specs.{declared.frame.Frame.Frame, declared.log.Log.Log, declared.totals.Totals.Totals, Entries.ReadEntry, Entries.Fate, Entries.given, Entries.cleared, Entries.missed, Entries.numbers_at, Entries.numbers_of, Entries.totals_from, Entries.with_entries, Frames.IsRun, Frames.State, Frames.has_begun, Tiling.IsTiled, Tiling.found_at, Tiling.log_entries, Tiling.moments, Tiling.reader_place, Tiling.Moment}
+use Rattle.msg_frames.specs.{declared.frame.Frame.Frame, declared.totals.Totals.Totals, Entries.ReadEntry, Entries.Fate, Entries.given, Entries.cleared, Entries.missed, Entries.numbers_at, Entries.numbers_of, Entries.totals_from, Entries.with_entries, Frames.run, Frames.State, Frames.has_begun, Tiling.IsTiled, Tiling.found_at, Tiling.log_entries, Tiling.moments, Tiling.reader_place, Tiling.Moment}
 use Rattle.std.specs.List.Sorted.{IsStrictlyIncreasing}
 use Rattle.msg_world.specs.declared.record.Record.{Record}
 
@@ -64,36 +64,38 @@ pub record IsInOrderOf (writer : ℕ) (es : List ReadEntry) (last : History Reco
 
 -- ---- a run
 
+-- the entries that the logs of a run have of a reader
+abbrev pub entries_in_run : ℕ → ℕ → List Frame → State → List ReadEntry
+entries_in_run i t frames s = log_entries i t (s.members i).job.system (run frames s).logs
+
 -- The totals with which a run from s to u finds a reader: those that it has, or new ones where it
 -- joins.
 abbrev pub found_totals : State → State → ℕ → ℕ → Totals
 found_totals s u i t = if has_begun s i then (s.members i).totals t
     else totals_from (found_at s u i t)
 
--- What a run with these logs did for the reader of type t in system i, from where it was found to
--- its place at the end.
-pub record IsServed (i t : ℕ) (frames : List Frame) (s : State) (logs : List Log)
-    (u : State) : Type 0 where
+-- What a run did for the reader of type t in system i, from where it was found to its place at the
+-- end.
+pub record IsServed (i t : ℕ) (frames : List Frame) (s : State) : Type 0 where
   -- it was given each message exactly once, in order of writing, but those that it cleared itself
   -- and those that were dropped unread, which the missed counts add up to
-  pub given : IsGivenOnce (log_entries i t (s.members i).job.system logs)
-      (moments i t frames logs s) (found_at s u i t)
-      (reader_place u i t) (u.world.histories t)
+  pub given : IsGivenOnce (entries_in_run i t frames s) (moments i t frames s)
+      (found_at s (run frames s).state i t)
+      (reader_place (run frames s).state i t) ((run frames s).state.world.histories t)
   -- those of each writer in its order
-  pub by_writer : (writer : ℕ) → IsInOrderOf writer (log_entries i t (s.members i).job.system logs)
-      (u.world.histories t)
+  pub by_writer : (writer : ℕ) → IsInOrderOf writer (entries_in_run i t frames s)
+      ((run frames s).state.world.histories t)
   -- its reads and clears tile
-  pub tiled : IsTiled i t frames logs s u
+  pub tiled : IsTiled i t frames s
   -- and its totals count what the logs tell
-  pub totals : (u.members i).totals t
-      ≡ with_entries (log_entries i t (s.members i).job.system logs) (found_totals s u i t)
+  pub totals : ((run frames s).state.members i).totals t
+      ≡ with_entries (entries_in_run i t frames s) (found_totals s (run frames s).state i t)
 
--- From the state s the frames have these logs and leave the state u.
-pub record IsCompleteRun (frames : List Frame) (s : State) (logs : List Log)
-    (u : State) : Type 0 where
-  -- the logs and the state are those of one thread
-  pub is_run : IsRun frames s logs u
+-- What a run comes to.
+pub record IsCompleteRun (frames : List Frame) (s : State) : Type 0 where
   -- each type's list of messages only grew
-  pub grew : (t : ℕ) → t < s.types → GoesOn (s.world.histories t) (u.world.histories t)
-  -- and so each reader was served that has joined by the end
-  pub served : (i t : ℕ) → t < s.types → IsTrue (has_begun u i) → IsServed i t frames s logs u
+  pub grew : (t : ℕ) → t < s.types
+      → GoesOn (s.world.histories t) ((run frames s).state.world.histories t)
+  -- and each reader was served that has joined by the end
+  pub served : (i t : ℕ) → t < s.types → IsTrue (has_begun (run frames s).state i)
+      → IsServed i t frames s

@@ -1,11 +1,11 @@
 -- A frame, and frames one after the other.
-use Rattle.std.specs.Prelude.{◌≡◌, ℕ, suc, ℤ, ◌<◌, ◌==◌, List, [], ◌∷◌, length, map, Option, Some, None, if◌then◌else◌, max, nat_le, Bool}
-use Rattle.std.specs.List.{range_with_len}
+use Rattle.std.specs.Prelude.{◌≡◌, ℕ, suc, ℤ, ◌<◌, ◌==◌, List, [], ◌∷◌, ◌++◌, ◌&&◌, ◌||◌, IsTrue, length, map, Option, Some, None, if◌then◌else◌, max, nat_le, Bool}
+use Rattle.std.specs.List.{list_any, range_with_len}
 use Rattle.msg_buffer.specs.Prelude.{count, write}
-use Rattle.msg_world.specs.{Prelude.WorldState, Prelude.after_update, Prelude.by, Prelude.with_history, declared.access.Access.Access, declared.record.TheConstants.HOST}
-use Rattle.msg_order.specs.{Prelude.Graph, Prelude.IsSettledOrder, Prelude.IsTurnOrder, Prelude.access_of, declared.rule.Rule.Rule}
+use Rattle.msg_world.specs.{Prelude.WorldState, Prelude.after_update, Prelude.by, Prelude.with_history, Prelude.HasPart, Prelude.Part, Prelude.OfType, Prelude.OfResource, Prelude.Registry, declared.access.Access.Access, declared.record.TheConstants.HOST}
+use Rattle.msg_order.specs.{Prelude.Graph, Prelude.access_of, Prelude.settled, Prelude.turns, declared.rule.Rule.Rule}
 use Rattle.msg_system.specs.declared.reply.Reply.{Reply}
-use Rattle.msg_system.specs.Prelude.{AfterJob, IsAccessOf, Job, Needs, after_job, asked_started, conditions_of, numbers_for, after_start, with_conditions, write_reply}
+use Rattle.msg_system.specs.Prelude.{AfterJob, IsAccessOf, Job, Needs, after_job, asked_started, conditions_of, needs_any, numbers_for, after_start, with_conditions, write_reply}
 use Rattle.msg_frames.specs.{declared.frame.Frame.Frame, declared.log.Log.Log, declared.log.Turn.Turn, declared.log.Outcome.Outcome, declared.log.Outcome.TheVariants.Skipped, declared.log.Outcome.TheVariants.Ran, Entries.outcome_entries, Entries.totals_from, Entries.with_entries, declared.totals.Totals.Totals}
 
 -- One system of a state: its job, the frame that it joins with, and its totals.
@@ -175,32 +175,50 @@ pub record AreAccessesOf (s : State) (accesses : List Access) : Type 0 where
   pub of_needs : (i : ℕ) → i < s.systems
       → IsAccessOf (member_needs (s.members i)) (access_of accesses i)
 
--- The order is settled among those that have joined, by their accesses and the rules.
-pub record IsOrderOf (s : State) (settled : Graph) : Type 0 where
-  pub accesses : List Access
-  pub of_systems : AreAccessesOf s accesses
-  pub is_settled : IsSettledOrder accesses s.rules (join_flags s) settled
+-- ---- the model, as functions
 
--- The order has all that have joined, by batch number in the settled order, then by addition.
-pub record IsTurnOrderOf (s : State) (order : List ℕ) : Type 0 where
-  pub settled : Graph
-  pub is_order : IsOrderOf s settled
-  pub in_order : IsTurnOrder settled (join_flags s) order
+-- the parts that a world may have, which has at most 64 types and 64 resources
+unfoldable pub parts : List Part
+parts = (map OfType (range_with_len 0 64) ++ map OfResource (range_with_len 0 64)) ++ Registry ∷ []
+
+-- one of two writes a part that the other reads or writes
+abbrev pub needs_conflict : Needs → Needs → Bool
+needs_conflict m n = list_any (λ p. (m.writes p && needs_any n p) || (n.writes p && needs_any m p)) parts
+
+-- the jobs of two systems are in conflict
+abbrev pub are_in_conflict : State → ℕ → ℕ → Bool
+are_in_conflict s i j = needs_conflict (member_needs (s.members i)) (member_needs (s.members j))
+
+-- the settled order of those that have joined
+unfoldable pub settled_order : State → Graph
+settled_order s = settled (are_in_conflict s) s.rules (join_flags s)
+
+-- the order in which those that have joined take their turns
+unfoldable pub turn_order : State → List ℕ
+turn_order s = turns (settled_order s) (join_flags s)
+
+-- a frame, on one thread: its systems take their turns in the settled order
+abbrev pub frame : Frame → State → AfterFrame
+frame f s = frame_in (turn_order (before_turns f.posts s)) f s
+
+-- What frames leave, and their logs.
+pub record AfterRun : Type 0 where
+  pub state : State
+  pub logs : List Log
+
+-- frames one after the other
+abbrev pub run : List Frame → State → AfterRun
+run [] s = record { state = s; logs = [] }
+run (f ∷ fs) s =
+    let here : AfterFrame = frame f s in
+    let rest : AfterRun = run fs here.state in
+    record { state = rest.state; logs = here.log ∷ rest.logs }
+
+-- each system needs only parts that a world may have
+abbrev pub UsesParts : State → Type 0
+UsesParts s = (i : ℕ) → i < s.systems → (p : Part)
+    → IsTrue (needs_any (member_needs (s.members i)) p) → HasPart 64 64 p
 
 -- the systems in the order in which the log has their turns
 abbrev pub turn_order_in : Log → List ℕ
 turn_order_in log = map (λ turn. turn.system) log.turns
-
--- A frame has this log and leaves u: its systems took their turns in the settled order, one by one,
--- on one thread.
-pub record IsFrame (frame : Frame) (s : State) (log : Log) (u : State) : Type 0 where
-  pub in_order : IsTurnOrderOf (before_turns frame.posts s) (turn_order_in log)
-  pub tells : log ≡ (frame_in (turn_order_in log) frame s).log
-  pub leaves : u ≡ (frame_in (turn_order_in log) frame s).state
-
--- Frames one after the other have these logs, and leave the state u.
-abbrev pub IsRun : List Frame → State → List Log → State → Type 0
-IsRun [] s [] u = u ≡ s
-IsRun (frame ∷ frames) s (log ∷ logs) u = (m : State) × IsFrame frame s log m
-    × IsRun frames m logs u
-IsRun _ s _ u = ⊥

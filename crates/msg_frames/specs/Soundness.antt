@@ -1,7 +1,7 @@
 -- What holds of every state that frames make.
 use Rattle.std.specs.Prelude.{◌≡◌, ℕ, ◌+◌, ◌≤◌, ◌<◌, Some, IsTrue, IsFalse}
 use Rattle.msg_buffer.specs.Prelude.{IsSound, count}
-use Rattle.msg_frames.specs.{Entries.no_totals, Frames.State, Frames.has_begun, Tiling.reader_place, declared.totals.Totals.Totals}
+use Rattle.msg_frames.specs.{Entries.no_totals, Frames.State, Frames.UsesParts, Frames.has_begun, Tiling.reader_place, declared.totals.Totals.Totals}
 
 -- The account begins at a start, and all that the reader got, missed and cleared since leads to its
 -- place.
@@ -12,6 +12,8 @@ pub record IsBalanced (x : Totals) (place : ℕ) : Type 0 where
 
 -- What holds of a state before and after every frame.
 pub record IsSoundState (s : State) : Type 0 where
+  -- each system needs only parts that a world may have
+  pub uses : UsesParts s
   pub histories : (t : ℕ) → t < s.types → IsSound (s.world.histories t)
   -- no reader is past the messages that there are
   pub places : (i t : ℕ) → t < s.types → reader_place s i t ≤ count (s.world.histories t)

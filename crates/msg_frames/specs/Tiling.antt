@@ -3,7 +3,7 @@ use Rattle.std.specs.Prelude.{◌≡◌, ℕ, zero, suc, ◌==◌, Option, Some,
 use Rattle.msg_buffer.specs.Prelude.{History, Stretch, Tile, instances, message_of}
 use Rattle.msg_world.specs.{Prelude.WorldState, declared.record.Record.Record}
 use Rattle.msg_system.specs.{Prelude.AfterProgram, Prelude.Job, Prelude.Meaning, Prelude.after_at_most, Prelude.after_op, Prelude.all_hold, Prelude.next_op, declared.op.Op.Op, declared.reply.Reply.Reply}
-use Rattle.msg_frames.specs.{declared.frame.Frame.Frame, declared.log.Log.Log, Entries.ReadEntry, Entries.replies_of, Entries.entries_told, Entries.entry_for, Frames.after_turn_of, Frames.before_turns, Frames.frame_in, Frames.turn_order_in, Frames.State, Frames.has_begun}
+use Rattle.msg_frames.specs.{declared.frame.Frame.Frame, declared.log.Log.Log, Entries.ReadEntry, Entries.replies_of, Entries.entries_told, Entries.entry_for, Frames.after_turn_of, Frames.before_turns, Frames.frame, Frames.run, Frames.turn_order, Frames.State, Frames.has_begun}
 
 -- ---- the entries that logs have
 
@@ -53,12 +53,12 @@ turns_moments i t (j ∷ js) s =
     (if j == i then job_moments t (s.members i).job s.world else [])
     ++ turns_moments i t js (after_turn_of j s)
 
--- the moments of system i in a run of frames with these logs
-abbrev pub moments : ℕ → ℕ → List Frame → List Log → State → List Moment
-moments i t (frame ∷ frames) (log ∷ logs) s =
-    turns_moments i t (turn_order_in log) (before_turns frame.posts s)
-    ++ moments i t frames logs (frame_in (turn_order_in log) frame s).state
-moments i t _ _ s = []
+-- the moments of system i in a run of frames
+abbrev pub moments : ℕ → ℕ → List Frame → State → List Moment
+moments i t [] s = []
+moments i t (f ∷ fs) s =
+    let ready : State = before_turns f.posts s in
+    turns_moments i t (turn_order ready) ready ++ moments i t fs (frame f s).state
 
 -- ---- the tiling of a reader over a run
 
@@ -81,9 +81,10 @@ GivesItsStretch m = IfSome m.entry.given (λ items. items ≡ messages_of m.hist
 
 -- The entries that the logs have of a reader are its moments, which tile; what each gave is the
 -- messages there.
-pub record IsTiled (i t : ℕ) (frames : List Frame) (logs : List Log) (s u : State) : Type 0 where
-  pub entries : log_entries i t (s.members i).job.system logs
-      ≡ map (λ m. m.entry) (moments i t frames logs s)
-  pub tile : Tile (found_at s u i t)
-      (map (λ m. (m.history, m.entry.stretch)) (moments i t frames logs s)) (reader_place u i t)
-  pub gives : All GivesItsStretch (moments i t frames logs s)
+pub record IsTiled (i t : ℕ) (frames : List Frame) (s : State) : Type 0 where
+  pub entries : log_entries i t (s.members i).job.system (run frames s).logs
+      ≡ map (λ m. m.entry) (moments i t frames s)
+  pub tile : Tile (found_at s (run frames s).state i t)
+      (map (λ m. (m.history, m.entry.stretch)) (moments i t frames s))
+      (reader_place (run frames s).state i t)
+  pub gives : All GivesItsStretch (moments i t frames s)

@@ -2,7 +2,6 @@
 ghost use Rattle.msg_frames.specs.Prelude.{AccountsBalance, FirstIsSound, FrameStaysSound, NoneBeforeJoining, ReplaysTellACompleteRun, ReplaysTellTheSame, RunStaysSound, RunsAreComplete, WhoIsUpToDateMissesNothing, WhoReadsAllCatchesUp, WhoReadsAllHasTheFrameBefore, WhoReadsAllIsUpToDate, WhoReadsEachFrameMissesNothing, WhoseProgramReadsAll};
 
 use msg_buffer::laws::{histories_only_grow, readers_tile};
-use msg_order::laws::turn_order_is_lawful;
 use msg_system::a_program_is_its_ops_in_order;
 use msg_world::Record;
 
@@ -16,7 +15,6 @@ pub fn states_stay_sound()
 }
 
 /// A state before any frame is sound, where its systems are new ones over a sound world.
-#[tactic(auto, using(crate::proofs::FirstStatesAreSound::first_is_sound))]
 pub fn first_states_are_sound()
     ensures law { FirstIsSound }
 {}
@@ -39,7 +37,6 @@ pub fn replays_tell_a_complete_run()
     ensures law { ReplaysTellACompleteRun }
 {
     runs_are_complete();
-    turn_order_is_lawful();
 }
 
 /// A reader's totals lead from its start to its place. One that hasn't joined has none.

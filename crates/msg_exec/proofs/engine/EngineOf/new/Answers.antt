@@ -45,7 +45,8 @@ returns-clause-meaning g c w stands =
         plan = rw (c.join_those.ensures.accesses, ← joined_by_frame made.joins.items s 1 schedule.joins (omega arith))
             prepared.plan;
         sound = c.first_states_are_sound.ensures.law (map m systems) places rules (length c.args.world.types) w
-            (are_new m _ systems places c.requires.whole c.requires.one_place_each c.requires.each w stands);
+            (are_new m _ systems places c.requires.whole c.requires.one_place_each c.requires.each w stands
+            c.stands_for_some.ensures.few);
       };
       frames = omega arith;
     }

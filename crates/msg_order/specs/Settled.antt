@@ -1,0 +1,44 @@
+-- The settled order, its batches and its turns, as functions.
+use Rattle.std.specs.Prelude.{ℕ, zero, suc, Bool, not, ◌&&◌, List, [], ◌∷◌, length, filter, if◌then◌else◌}
+use Rattle.std.specs.List.{concat, list_any, range_with_len}
+use Rattle.msg_order.specs.{declared.rule.Rule.Rule, Graph.Graph, Graph.path, Order.has_joined, Order.pairs, Order.rules_among}
+
+-- Each of these pairs is taken in turn: where the two are in conflict, and no path leads back, the
+-- order gains an edge.
+abbrev pub settle : (ℕ → ℕ → Bool) → Graph → List (ℕ × ℕ) → Graph
+settle conflict g [] = g
+settle conflict g (p ∷ ps) =
+    settle conflict (if conflict p.0 p.1 && not (path g p.1 p.0) then p ∷ g else g) ps
+
+-- both have joined
+abbrev pub both_joined : List Bool → ℕ → ℕ → Bool
+both_joined joined i j = has_joined joined i && has_joined joined j
+
+-- The settled order of those that have joined: their rules, and then the pairs of them in conflict.
+abbrev pub settled : (ℕ → ℕ → Bool) → List Rule → List Bool → Graph
+settled conflict rules joined = settle (λ i j. both_joined joined i j && conflict i j)
+    (rules_among joined rules) (pairs (length joined))
+
+-- one of these comes before i
+abbrev pub follows : Graph → List ℕ → ℕ → Bool
+follows g left i = list_any (λ k. path g k i) left
+
+-- At most so many batches: those that none of the others that are left comes before, and so on with
+-- the others.
+abbrev pub batches_of : ℕ → Graph → List ℕ → List (List ℕ)
+batches_of zero g left = []
+batches_of (suc n) g [] = []
+batches_of (suc n) g (i ∷ is) = filter (λ k. not (follows g (i ∷ is) k)) (i ∷ is)
+    ∷ batches_of n g (filter (follows g (i ∷ is)) (i ∷ is))
+
+-- those that have joined, by addition
+abbrev pub those_joined : List Bool → List ℕ
+those_joined joined = filter (has_joined joined) (range_with_len 0 (length joined))
+
+-- the batches of those that have joined
+abbrev pub batches : Graph → List Bool → List (List ℕ)
+batches g joined = batches_of (length joined) g (those_joined joined)
+
+-- the turn order: batch after batch, each by addition
+abbrev pub turns : Graph → List Bool → List ℕ
+turns g joined = concat (batches g joined)
