@@ -1,5 +1,5 @@
 -- A frame and a run by the functions are those of the relations.
-use Rattle.std.proofs.Common.{◌≡◌, ℕ, ◌<◌, Bool, ◌&&◌, ◌||◌, List, [], ◌∷◌, ◌++◌, length, refl, sym, ap, ◌∙◌, arith, ◌↔◌, ◌⊎◌, IsTrue, Contains, map}
+use Rattle.std.proofs.Common.{◌≡◌, ℕ, ◌<◌, Bool, ◌&&◌, ◌||◌, List, [], ◌∷◌, ◌++◌, append_assoc, length, refl, sym, ap, ◌∙◌, arith, ◌↔◌, ◌⊎◌, IsTrue, Contains, map}
 use Rattle.std.specs.List.{range_with_len}
 use Rattle.std.proofs.lemmas.{Bool.cases_Bool, List.Elements.Contains-append_left, List.Elements.Contains-append_right, List.FromFn.length-map-range_with_len}
 use Rattle.msg_world.specs.{Prelude.Conflict, Prelude.HasPart, Prelude.OfResource, Prelude.OfType, Prelude.Part, Prelude.Registry, Prelude.uses, Prelude.writes, declared.access.Access.Access}
@@ -104,9 +104,10 @@ plan_turns s accesses g order uses are is turns =
 -- ---- frames and then others
 
 pub run_append : (fs gs : List Frame) (s : State) → run (fs ++ gs) s
-    ≡ record { state = (run gs (run fs s).state).state; logs = (run fs s).logs ++ (run gs (run fs s).state).logs }
+    ≡ record { state = (run gs (run fs s).state).state; logs = (run fs s).logs ++ (run gs (run fs s).state).logs;
+             steps = (run fs s).steps ++ (run gs (run fs s).state).steps }
 run_append [] gs s = refl
-run_append (f ∷ fs) gs s = grind (arith, run_append fs gs (frame f s).state)
+run_append (f ∷ fs) gs s = grind (arith, append_assoc, run_append fs gs (frame f s).state)
 
 pub run_more : (frames : List Frame) (f : Frame) (s : State) (logs : List Log) (log : Log) (m : State)
     → (logs ≡ (run frames s).logs) × (m ≡ (run frames s).state) → log ≡ (frame f m).log

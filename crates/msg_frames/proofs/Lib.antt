@@ -4,6 +4,7 @@ pub mod ElementsAndPairs
 pub mod SystemsStay
 pub mod FramesInOrder
 -- ---- turns side by side, and in other orders
+pub mod EntriesOfSteps
 mod TurnsCommute
 pub mod BatchesSideBySide
 pub mod Functions
@@ -17,8 +18,10 @@ mod ReaderOverTurns
 mod BeforeTurns
 mod StatesStaySound
 mod FirstStatesAreSound
+mod WrittenOnce
 mod OneFateEach
 mod TilesGiveInOrder
+mod TellsEachOnce
 mod ReaderOverRun
 mod ReplaysTellTheSame
 mod StampsStayRecent

@@ -1,11 +1,29 @@
 -- What a reader goes past over a run of frames.
-use Rattle.std.proofs.Common.{arith, ℕ, ◌<◌, List, [], ◌∷◌, ◌++◌, refl, ◌∙◌, IsTrue}
-use Rattle.std.proofs.lemmas.Bool.{cases_Bool}
+use Rattle.std.proofs.Common.{arith, ◌≡◌, ℤ, ℕ, ◌<◌, List, [], ◌∷◌, ◌++◌, refl, ◌∙◌, IsTrue}
+use Rattle.std.proofs.lemmas.{Bool.cases_Bool, Grind.flat_map-append}
 use Rattle.msg_buffer.specs.Prelude.{GoesOn, History}
-use Rattle.msg_world.specs.declared.record.Record.{Record}
-use Rattle.msg_frames.specs.Prelude.{Frame, IsSoundState, frame, run, Moment, RunsAreComplete, State, answers_in, before_turns, found_at, found_totals, has_begun, moments, reader_place, turns_moments, Totals}
+use Rattle.msg_system.specs.Prelude.{Step}
+use Rattle.msg_world.specs.{Prelude.WorldState, Prelude.after_update, declared.record.Record.Record}
+use Rattle.msg_frames.specs.Prelude.{EachMeetsOneFate, LogsTellEntries, Frame, IsSoundState, frame, run, Moment, RunsAreComplete, State, after_posts, answers_in, before_turns, found_at, found_totals, has_begun, moments, reader_place, Totals, steps_of, turns_steps, post_steps, moments_at}
 use Rattle.msg_frames.specs.Frames.{turn_order}
-use Rattle.msg_frames.proofs.{OneFateEach.lies_between, OneFateEach.meets_one_fate, OneFateEach.missed_are_dropped, TilesGiveInOrder.all_as_written, TilesGiveInOrder.given_in_order, TilesGiveInOrder.in_order_of, HistoriesGrow.BufferLaws, HistoriesGrow.goes_further, HistoriesGrow.runs_go_on, HistoriesGrow.stays, SystemsStay.before_keeps, SystemsStay.turns_keep, ReaderOverJob.passes_nothing, EntriesAddUp.tiles_add_up, EntriesAddUp.with_entries-none, ReaderOverTurns.ReadsFrom, ReaderOverTurns.Tells, ReaderOverTurns.reads_further, ReaderOverTurns.tells_further, ReaderOverTurns.turns_read, ReaderOverTurns.turns_skip, ReaderOverTurns.turns_tell, BeforeTurns.Prepares, BeforeTurns.comes, BeforeTurns.prepares, BeforeTurns.stood, BeforeTurns.waits, StatesStaySound.begun_alike, StatesStaySound.frame_sound, StatesStaySound.has_no_turn, StatesStaySound.prepared_sound}
+use Rattle.msg_frames.proofs.{OneFateEach.lies_between, OneFateEach.meets_one_fate, OneFateEach.missed_are_dropped, OneFateEach.tiles_rise, TellsEachOnce.are_true, TellsEachOnce.tells_once, TilesGiveInOrder.all_as_written, TilesGiveInOrder.given_in_order, TilesGiveInOrder.in_order_of, HistoriesGrow.BufferLaws, HistoriesGrow.goes_further, HistoriesGrow.stays, SystemsStay.before_keeps, SystemsStay.turns_keep, ReaderOverJob.passes_nothing, EntriesAddUp.tiles_add_up, EntriesAddUp.with_entries-none, ReaderOverTurns.ReadsFrom, ReaderOverTurns.Tells, ReaderOverTurns.reads_further, ReaderOverTurns.steps_of-append, ReaderOverTurns.tells_further, ReaderOverTurns.tells_these, ReaderOverTurns.reads_these, ReaderOverJob.moments_of, ReaderOverTurns.turns_moments, ReaderOverTurns.turns_read, ReaderOverTurns.turns_skip, ReaderOverTurns.turns_tell, BeforeTurns.Prepares, BeforeTurns.comes, BeforeTurns.prepares, BeforeTurns.stood, BeforeTurns.waits, StatesStaySound.begun_alike, StatesStaySound.frame_sound, StatesStaySound.has_no_turn, StatesStaySound.prepared_sound, WrittenOnce.run_answered, WrittenOnce.run_writes}
+
+-- what the host posts goes past nothing
+posts_pass : (i t : ℕ) (posts : List (ℕ × ℤ)) (w : WorldState) → moments_of t (steps_of i (post_steps posts w)) ≡ []
+posts_pass i t [] w = refl
+posts_pass i t (p ∷ ps) w = grind (arith, cases_Bool, posts_pass i t ps (after_posts (p ∷ []) w))
+
+pub run_further : (i t : ℕ) (f : Frame) (fs : List Frame) (s : State) →
+    let b : State = before_turns f.posts s in
+    moments i t (f ∷ fs) s ≡ turns_moments i t (turn_order b) b ++ moments i t fs (frame f s).state
+run_further i t f fs s =
+    let b : State = before_turns f.posts s in
+    let posts : List (ℕ × Step) = post_steps f.posts (after_update s.world) in
+    let turns : List (ℕ × Step) = turns_steps (turn_order b) b in
+    let rest : List (ℕ × Step) = (run fs (frame f s).state).steps in
+    rw (steps_of-append i (posts ++ turns) rest, steps_of-append i posts turns,
+    flat_map-append (moments_at t) (steps_of i posts ++ steps_of i turns) (steps_of i rest),
+    flat_map-append (moments_at t) (steps_of i posts) (steps_of i turns), posts_pass i t f.posts (after_update s.world)) refl
 
 pub run_tells : (i t : ℕ) (frames : List Frame) (s : State)
     → Tells i t s (answers_in i (run frames s).logs) (moments i t frames s) (run frames s).state
@@ -14,8 +32,9 @@ run_tells i t (f ∷ fs) s =
     let b : State = before_turns f.posts s in
     let told = turns_tell i t (turn_order b) b in
     let needs = ((before_keeps f.posts s).members i).needs in
-    tells_further i t s _ _ _ _ _ (run (f ∷ fs) s).state (grind (arith, cases_Bool, needs, told))
-    (run_tells i t fs (frame f s).state)
+    tells_these (run_further i t f fs s)
+    (tells_further i t s _ _ _ _ _ (run (f ∷ fs) s).state (grind (arith, cases_Bool, needs, told))
+    (run_tells i t fs (frame f s).state))
 
 -- ---- a reader that joins in the run, or had joined
 
@@ -50,36 +69,48 @@ module _ (laws : BufferLaws) (i t : ℕ) where
       (s.world.histories t) (ms ++ rest) u =
       λ now. reads_since i t _ _ _ _ (ms ++ rest) u goes
       (reads_further i t b ms m rest u here (rw (begun_alike b m i keep ∙ now) at later)) in
-      elim (prep.arrival i) [
+      reads_these (run_further i t f fs s) (elim (prep.arrival i) [
         | stood was now same ↦ rw was (rw (reader_place, same) at (all now))
         | comes was now new ↦ let after = rw (reader_place, new) at (all now) in rw (was, after.totals) after
         | waits was now same ↦
             rw (was, (turns_skip i t order b (has_no_turn b i now)).1)
             (reads_since i t _ _ _ _ rest u (goes_further _ _ _ goes here.passes.goes_on)
             (rw (begun_alike b m i keep ∙ now) at later))
-      ]
+      ])
 
 pub runs_are_complete : BufferLaws → RunsAreComplete
 runs_are_complete laws frames s sound = record {
-  grew = λ t below. runs_go_on laws.grow frames s t (sound.histories t below);
+  written = λ t. run_writes t laws frames s sound;
+  answered = run_answered frames s;
   served = λ i t below has.
       let ms : List Moment = moments i t frames s in
       let reads = run_follows laws i t frames s sound below has in
       let passes = reads.passes in
-      let tells = (run_tells i t frames s).entries in
       record {
-        given = rw tells (record {
-          entries = refl;
-          each = meets_one_fate _ ms _ passes.tile;
-          no_other = lies_between _ ms _ passes.tile;
-          in_order = given_in_order _ ms _ passes.tile;
-          as_written = all_as_written _ ms passes.gives passes.earlier passes.written;
-          dropped = missed_are_dropped _ ms _ passes.tile passes.written;
-          adds_up = tiles_add_up _ ms _ passes.tile;
-        });
-        by_writer = λ writer. rw tells
-            (in_order_of writer _ ms _ _ passes.tile passes.gives passes.earlier passes.written);
-        tiled = record { entries = tells; tile = passes.tile; gives = passes.gives };
-        totals = rw tells reads.totals;
+        forward = tiles_rise _ ms _ passes.tile;
+        once = tells_once _ ms _ passes.tile;
+        true = are_true _ _ ms _ passes.tile passes.begins passes.gives passes.earlier passes.written;
+        totals = reads.totals;
       };
 }
+
+pub each_meets_one_fate : BufferLaws → EachMeetsOneFate
+each_meets_one_fate laws frames s sound i t below has =
+    let ms : List Moment = moments i t frames s in
+    let passes = (run_follows laws i t frames s sound below has).passes in
+    record {
+      given = record {
+        each = meets_one_fate _ ms _ passes.tile;
+        no_other = lies_between _ ms _ passes.tile;
+        in_order = given_in_order _ ms _ passes.tile;
+        as_written = all_as_written _ ms passes.gives passes.earlier passes.written;
+        dropped = missed_are_dropped _ ms _ passes.tile passes.written;
+        adds_up = tiles_add_up _ ms _ passes.tile;
+      };
+      by_writer = λ writer. in_order_of writer _ ms _ _ passes.tile passes.gives passes.earlier passes.written;
+      tile = passes.tile;
+      gives = passes.gives;
+    }
+
+pub logs_tell : LogsTellEntries
+logs_tell i t frames s = (run_tells i t frames s).entries

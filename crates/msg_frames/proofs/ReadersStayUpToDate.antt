@@ -3,8 +3,8 @@ use Rattle.std.proofs.Common.{◌≡◌, ℕ, suc, ◌<◌, ◌≤◌, List, [],
 use Rattle.std.proofs.lemmas.{Bool.cases_Bool, Bool.cases_eq, Bool.false≢true, Option.same_Some, Option.slice_get_cases, Option.slice_get_within, List.append-nil, List.Elements.All-append, List.Elements.All-cons, List.Elements.All-head, List.Elements.All-map, List.Elements.All-nil, List.Elements.All-tail, Bool.Decides.nat_tests}
 use Rattle.msg_buffer.specs.Prelude.{Entry, Fits, GoesOn, History, IsPresent, Stretch, Tile, count, next_place, update}
 use Rattle.msg_world.specs.{Prelude.after_update, declared.record.Record.Record}
-use Rattle.msg_frames.proofs.{ElementsAndPairs.Cut, ElementsAndPairs.cut, HistoriesGrow.BufferLaws, HistoriesGrow.counts_more, HistoriesGrow.Grows, HistoriesGrow.frame_goes_on, HistoriesGrow.grown, HistoriesGrow.posts_change, HistoriesGrow.runs_go_on, HistoriesGrow.turns_change, SystemsStay.joining_world, SystemsStay.turns_keep, SystemsStay.frame_keeps, ReaderOverJob.IsWritten, ReaderOverJob.tile_of, ReaderOverTurns.turns_read, BeforeTurns.Prepares, BeforeTurns.prepares, StatesStaySound.begun_alike, StatesStaySound.frame_sound, StatesStaySound.has_no_turn, StatesStaySound.prepared_sound, ReaderOverRun.run_tells, StampsStayRecent.AreRecent, StampsStayRecent.StaysRecent, StampsStayRecent.earlier_recent, StampsStayRecent.stays_recent, ReadersTakeAll.takes_by_turn}
-use Rattle.msg_frames.specs.Prelude.{Frame, IsSoundState, IsUpToDate, frame, run, Moment, NothingDrained, ReadsAll, ReadsAllInEach, State, WhoIsUpToDateMissesNothing, WhoReadsEachFrameMissesNothing, after_turns_of, before_turns, has_begun, after_joining, moments, reader_place, turns_moments}
+use Rattle.msg_frames.proofs.{ElementsAndPairs.Cut, ElementsAndPairs.cut, HistoriesGrow.BufferLaws, HistoriesGrow.counts_more, HistoriesGrow.Grows, HistoriesGrow.frame_goes_on, HistoriesGrow.grown, HistoriesGrow.posts_change, HistoriesGrow.runs_go_on, HistoriesGrow.turns_change, SystemsStay.joining_world, SystemsStay.turns_keep, SystemsStay.frame_keeps, ReaderOverJob.IsWritten, ReaderOverJob.tile_of, ReaderOverTurns.turns_moments, ReaderOverTurns.turns_read, BeforeTurns.Prepares, BeforeTurns.prepares, StatesStaySound.begun_alike, StatesStaySound.frame_sound, StatesStaySound.has_no_turn, StatesStaySound.prepared_sound, ReaderOverRun.run_further, ReaderOverRun.run_tells, StampsStayRecent.AreRecent, StampsStayRecent.StaysRecent, StampsStayRecent.earlier_recent, StampsStayRecent.stays_recent, ReadersTakeAll.takes_by_turn}
+use Rattle.msg_frames.specs.Prelude.{Frame, IsSoundState, IsUpToDate, frame, run, Moment, NothingDrained, ReadsAll, ReadsAllInEach, State, WhoIsUpToDateMissesNothing, WhoReadsEachFrameMissesNothing, after_turns_of, before_turns, has_begun, after_joining, moments, reader_place}
 use Rattle.msg_frames.specs.Frames.{turn_order}
 
 -- a message that was written at most one update ago, and stands at the floor or above
@@ -136,14 +136,14 @@ module _ (laws : BufferLaws) where
       let mid : Between t s m (run (g ∷ gs) m).state = between f (g ∷ gs) s t sound below drained in
       let next : Between t m (frame g m).state (run (g ∷ gs) m).state = between g gs m t mid.sound mid.below mid.rest in
       let now = now_up_to_date f s i t sound below each.0 mid.first in
-      All-append (λ x. x.entry.stretch.missed ≡ 0) _ _
+      rw (run_further i t g gs m) (All-append (λ x. x.entry.stretch.missed ≡ 0) _ _
       (frame_misses_none g m i t mid.sound mid.below (joined_by_turn f s i t sound below each.0.has_turn) now next.first)
-      (missed_after g gs m i t mid.sound mid.below each.1 mid.rest)
+      (missed_after g gs m i t mid.sound mid.below each.1 mid.rest))
 
   pub misses_nothing : WhoIsUpToDateMissesNothing
   misses_nothing f s i t sound below has up drained =
       let none = frame_misses_none f s i t sound below has up drained in
-      rw ((run_tells i t (f ∷ []) s).entries, append-nil (turns_moments i t _ _))
+      rw ((run_tells i t (f ∷ []) s).entries, run_further i t f [] s, append-nil (turns_moments i t (turn_order (before_turns f.posts s)) (before_turns f.posts s)))
       (All-map (λ e. e.stretch.missed ≡ 0) _ _ none)
 
   pub never_misses : WhoReadsEachFrameMissesNothing

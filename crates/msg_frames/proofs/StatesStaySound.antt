@@ -1,10 +1,10 @@
 -- Frames keep states sound.
 use Rattle.std.proofs.Common.{◌≡◌, ℕ, ◌<◌, max, List, [], ◌∷◌, Contains, ◌≢◌, AllPairs, ap₂, arith, IsFalse, nat_le}
 use Rattle.std.proofs.lemmas.{Bool.false≢true, List.FromFn.get_or-map-range_with_len}
-use Rattle.msg_frames.specs.Prelude.{FrameStaysSound, IsBalanced, IsSoundState, Member, RunStaysSound, SameSystems, State, after_turns_of, before_turns, counts, frame, has_begun, join_flags, joined_member, reader_place, turns_moments}
+use Rattle.msg_frames.specs.Prelude.{FrameStaysSound, IsBalanced, IsSoundState, Member, RunStaysSound, SameSystems, State, after_turns_of, before_turns, counts, frame, has_begun, join_flags, joined_member, reader_place}
 use Rattle.msg_frames.specs.Frames.{settled_order, turn_order}
 use Rattle.msg_order.proofs.Functions.{turns_differ, turns_joined}
-use Rattle.msg_frames.proofs.{HistoriesGrow.BufferLaws, HistoriesGrow.counts_more, SystemsStay.turns_keep, SystemsStay.uses_stay, SystemsStay.joined_below, EntriesAddUp.tiles_add_up, ReaderOverTurns.Reads, ReaderOverTurns.turns_read, ReaderOverTurns.turns_skip, BeforeTurns.Prepares, BeforeTurns.begun_within, BeforeTurns.comes, BeforeTurns.prepares, BeforeTurns.stood, BeforeTurns.waits}
+use Rattle.msg_frames.proofs.{HistoriesGrow.BufferLaws, HistoriesGrow.counts_more, SystemsStay.turns_keep, SystemsStay.uses_stay, SystemsStay.joined_below, EntriesAddUp.tiles_add_up, ReaderOverTurns.Reads, ReaderOverTurns.turns_moments, ReaderOverTurns.turns_read, ReaderOverTurns.turns_skip, BeforeTurns.Prepares, BeforeTurns.begun_within, BeforeTurns.comes, BeforeTurns.prepares, BeforeTurns.stood, BeforeTurns.waits}
 
 -- one that waits has no turn
 pub has_no_turn : (b : State) (i : ℕ) → IsFalse (has_begun b i) → ¬ Contains (turn_order b) i
@@ -12,6 +12,11 @@ unfolding turn_order
 has_no_turn b i isnt at =
     let joined = turns_joined (settled_order b) (join_flags b) i at in
     grind (arith, false≢true, get_or-map-range_with_len, joined_below, joined)
+
+-- who has a turn is one of the systems
+pub turn_below : (b : State) (i : ℕ) → Contains (turn_order b) i → i < b.systems
+unfolding turn_order
+turn_below b i at = joined_below b i (turns_joined (settled_order b) (join_flags b) i at)
 
 -- each has one turn
 pub has_one_turn : (b : State) → AllPairs (λ i j. i ≢ j) (turn_order b)

@@ -70,6 +70,11 @@ module _ (h last : History Record) (s : Stretch) (goes : GoesOn h last) (written
       (read_range last.entries s.first s.number
       (omega (arith, ap length goes.entries, length-append h.entries goes.more)))
 
+  pub gave_as_written : (o : Option (List Record)) → IfSome o (λ items. items ≡ messages_of h s)
+      → IfSome o (λ items. map (message_numbered last) (range_with_len s.first s.number) ≡ map Some items)
+  gave_as_written None gives = tt
+  gave_as_written (Some items) gives = given_as_written (Some items) gives
+
 module _ (last : History Record) where
   pub all_as_written : (ms : List Moment) → All GivesItsStretch ms → All (λ m. GoesOn m.history last) ms
       → All IsWritten ms

@@ -1,10 +1,12 @@
 -- Turns of systems whose accesses don't conflict can be swapped.
-use Rattle.std.proofs.Common.{arith, ◌≡◌, ◌≢◌, ℕ, false, sym, ne_eqb, IsTrue}
+use Rattle.std.proofs.Common.{arith, ◌≡◌, ◌≢◌, ◌∙◌, ap, List, Option, ℕ, false, sym, ne_eqb, IsTrue}
 use Rattle.std.proofs.lemmas.{Bool.and_from, Bool.cases_Bool, Bool.Decides.eqb_tells}
 use Rattle.msg_world.specs.{Prelude.Conflict, Prelude.OfResource, Prelude.OfType, Prelude.Part, Prelude.Registry, Prelude.WorldState, Prelude.content, declared.access.Access.Access}
-use Rattle.msg_system.specs.Prelude.{HasFootprint, IsAccessOf, JobFootprint, Needs, needs_any}
+use Rattle.msg_system.specs.Prelude.{HasFootprint, IsAccessOf, Job, after_job, JobFootprint, Needs, needs_any}
+use Rattle.msg_system.specs.declared.reply.Reply.{Reply}
+use Rattle.msg_frames.proofs.EntriesOfSteps.{job_logged}
 use Rattle.msg_system.proofs.AccessesUseNeeds.{uses_needs}
-use Rattle.msg_frames.specs.Prelude.{AfterTurn, Member, Outcome, State, TurnsOfOthersCommute, after_turn_of, member_turn, member_needs, turn_of}
+use Rattle.msg_frames.specs.Prelude.{entries_at, outcome_entries, outcome_of, with_entries, AfterTurn, Member, Outcome, State, TurnsOfOthersCommute, after_turn_of, member_turn, member_needs, turn_of}
 
 -- worlds with the same parts are the same
 pub same_world : (v w : WorldState) → ((p : Part) → content p v ≡ content p w) → v ≡ w
@@ -26,11 +28,23 @@ apart m n a b ma nb none = grind (arith, and_from, cases_Bool, uses_needs)
 abbrev pub given_by_turn : AfterTurn → Member × Outcome
 given_by_turn e = (e.member, e.outcome)
 
+-- turns that are answered alike have the same entries
+same_entries : (j : Job) (v w : WorldState) (t : ℕ) → (after_job j v).replies ≡ (after_job j w).replies
+    → entries_at t (after_job j v).steps ≡ entries_at t (after_job j w).steps
+same_entries j v w t same =
+    sym (job_logged t j v) ∙ ap (λ (r : Option (List Reply)). outcome_entries t j.system (outcome_of r)) same
+    ∙ job_logged t j w
+
 pub turn_footprint : JobFootprint → (m : Member)
     → HasFootprint (member_needs m) (λ (e : AfterTurn). e.world) given_by_turn (member_turn m)
 turn_footprint foot m = record {
   kept = (foot m.job).kept;
-  same = λ parts v w within agree. grind (arith, (foot m.job).same parts v w within agree);
+  same = λ parts v w within agree.
+      let given = (foot m.job).same parts v w within agree in
+      λ k. (record m {
+        job = (given k).0;
+        totals = λ t. with_entries (same_entries m.job v w t (λ i. (given i).1) k) (m.totals t);
+      }, outcome_of (given k).1);
   alike = (foot m.job).alike;
 }
 

@@ -4,9 +4,9 @@ use Rattle.std.specs.List.{list_any, range_with_len}
 use Rattle.msg_buffer.specs.Prelude.{count, write}
 use Rattle.msg_world.specs.{Prelude.WorldState, Prelude.after_update, Prelude.by, Prelude.with_history, Prelude.HasPart, Prelude.Part, Prelude.OfType, Prelude.OfResource, Prelude.Registry, declared.access.Access.Access, declared.record.TheConstants.HOST}
 use Rattle.msg_order.specs.{Prelude.Graph, Prelude.access_of, Prelude.settled, Prelude.turns, declared.rule.Rule.Rule}
-use Rattle.msg_system.specs.declared.reply.Reply.{Reply}
-use Rattle.msg_system.specs.Prelude.{AfterJob, IsAccessOf, Job, Needs, after_job, asked_started, conditions_of, needs_any, numbers_for, after_start, with_conditions, write_reply}
-use Rattle.msg_frames.specs.{declared.frame.Frame.Frame, declared.log.Log.Log, declared.log.Turn.Turn, declared.log.Outcome.Outcome, declared.log.Outcome.TheVariants.Skipped, declared.log.Outcome.TheVariants.Ran, Entries.outcome_entries, Entries.totals_from, Entries.with_entries, declared.totals.Totals.Totals}
+use Rattle.msg_system.specs.{declared.reply.Reply.Reply, declared.op.Op.TheVariants.Write}
+use Rattle.msg_system.specs.Prelude.{AfterJob, Step, IsAccessOf, Job, Needs, after_job, asked_started, conditions_of, needs_any, numbers_for, after_start, with_conditions, write_reply}
+use Rattle.msg_frames.specs.{declared.frame.Frame.Frame, declared.log.Log.Log, declared.log.Turn.Turn, declared.log.Outcome.Outcome, declared.log.Outcome.TheVariants.Skipped, declared.log.Outcome.TheVariants.Ran, Entries.entries_at, Entries.totals_from, Entries.with_entries, declared.totals.Totals.Totals}
 
 -- One system of a state: its job, the frame that it joins with, and its totals.
 pub record Member : Type 0 where
@@ -85,6 +85,16 @@ post_replies [] w = []
 post_replies (p ∷ ps) w = write_reply (numbers_for (w.histories p.0) 1)
     ∷ post_replies ps (after_posts (p ∷ []) w)
 
+-- the posts as steps, each a write by `HOST`
+abbrev pub post_steps : List (ℕ × ℤ) → WorldState → List (ℕ × Step)
+post_steps [] w = []
+post_steps (p ∷ ps) w = (HOST, record {
+  op = Write p.0 p.1;
+  places = λ t. 0;
+  world = w;
+  reply = write_reply (numbers_for (w.histories p.0) 1);
+}) ∷ post_steps ps (after_posts (p ∷ []) w)
+
 -- ---- turns
 
 -- what came of a job
@@ -106,8 +116,7 @@ member_turn m w =
       member =
           record m {
             job = after.job;
-            totals = λ t. with_entries (outcome_entries t m.job.system (outcome_of after.replies))
-                (m.totals t);
+            totals = λ t. with_entries (entries_at t after.steps) (m.totals t);
           };
       world = after.state;
       outcome = outcome_of after.replies;
@@ -142,6 +151,16 @@ after_turns_of (i ∷ is) s =
     let rest : AfterTurns = after_turns_of is (after_turn_of i s) in
     record { state = rest.state; turns = logged_turn s i ∷ rest.turns }
 
+-- these steps, each beside who took it
+abbrev pub by_system : ℕ → List Step → List (ℕ × Step)
+by_system i xs = map (λ x. (i, x)) xs
+
+-- the steps of these turns, one after the other
+abbrev pub turns_steps : List ℕ → State → List (ℕ × Step)
+turns_steps [] s = []
+turns_steps (i ∷ is) s =
+    by_system i (after_job (s.members i).job s.world).steps ++ turns_steps is (after_turn_of i s)
+
 -- ---- a frame
 
 -- Before the turns some join, every type is updated (a held world where it was signalled), and the
@@ -151,17 +170,20 @@ before_turns posts s =
     let ready : State = after_joining s in
     record ready { world = after_posts posts (after_update ready.world); frames = suc ready.frames }
 
--- What a frame leaves, and its log.
+-- What a frame leaves, its log, and its steps: the posts, and those of the turns.
 pub record AfterFrame : Type 0 where
   pub state : State
   pub log : Log
+  pub steps : List (ℕ × Step)
 
 -- the frame whose systems take their turns in this order
 abbrev pub frame_in : List ℕ → Frame → State → AfterFrame
 frame_in order frame s =
-    let turns : AfterTurns = after_turns_of order (before_turns frame.posts s) in
+    let ready : State = before_turns frame.posts s in
+    let turns : AfterTurns = after_turns_of order ready in
     record {
       state = turns.state;
+      steps = post_steps frame.posts (after_update s.world) ++ turns_steps order ready;
       log = record { posts = post_replies frame.posts (after_update s.world); turns = turns.turns };
     }
 
@@ -201,18 +223,23 @@ turn_order s = turns (settled_order s) (join_flags s)
 abbrev pub frame : Frame → State → AfterFrame
 frame f s = frame_in (turn_order (before_turns f.posts s)) f s
 
--- What frames leave, and their logs.
+-- What frames leave, their logs, and their steps.
 pub record AfterRun : Type 0 where
   pub state : State
   pub logs : List Log
+  pub steps : List (ℕ × Step)
 
 -- frames one after the other
 abbrev pub run : List Frame → State → AfterRun
-run [] s = record { state = s; logs = [] }
+run [] s = record { state = s; logs = []; steps = [] }
 run (f ∷ fs) s =
     let here : AfterFrame = frame f s in
     let rest : AfterRun = run fs here.state in
-    record { state = rest.state; logs = here.log ∷ rest.logs }
+    record {
+      state = rest.state;
+      logs = here.log ∷ rest.logs;
+      steps = here.steps ++ rest.steps;
+    }
 
 -- each system needs only parts that a world may have
 abbrev pub UsesParts : State → Type 0

@@ -1,7 +1,7 @@
 -- A frame in another order than the settled one.
 use Rattle.std.specs.Prelude.{◌≡◌, ◌⊎◌, ℕ, List, [], ◌∷◌, IsPermutation}
 use Rattle.msg_order.specs.Prelude.{IsLawfulOrder}
-use Rattle.msg_frames.specs.{declared.frame.Frame.Frame, declared.log.Log.Log, Frames.frame, Frames.run, Frames.settled_order, Frames.before_turns, Frames.turn_order_in, Frames.State, Frames.join_flags, CompleteRun.IsCompleteRun, Tiling.answers_in}
+use Rattle.msg_frames.specs.{declared.frame.Frame.Frame, declared.log.Log.Log, Frames.frame, Frames.run, Frames.settled_order, Frames.before_turns, Frames.turn_order_in, Frames.State, Frames.join_flags, CompleteRun.IsCompleteRun, Fates.answers_in}
 
 -- The order is lawful for a frame on the state s: it has all that will have joined, each once, and
 -- keeps their settled order.

@@ -1,5 +1,5 @@
 //! Laws of readers: facts that hold of every run of frames.
-ghost use Rattle.msg_frames.specs.Prelude.{AccountsBalance, FirstIsSound, FrameStaysSound, NoneBeforeJoining, ReplaysTellACompleteRun, ReplaysTellTheSame, RunStaysSound, RunsAreComplete, WhoIsUpToDateMissesNothing, WhoReadsAllCatchesUp, WhoReadsAllHasTheFrameBefore, WhoReadsAllIsUpToDate, WhoReadsEachFrameMissesNothing, WhoseProgramReadsAll};
+ghost use Rattle.msg_frames.specs.Prelude.{AccountsBalance, EachMeetsOneFate, FirstIsSound, FrameStaysSound, LogsTellEntries, NoneBeforeJoining, ReplaysTellACompleteRun, ReplaysTellTheSame, RunStaysSound, RunsAreComplete, WhoIsUpToDateMissesNothing, WhoReadsAllCatchesUp, WhoReadsAllHasTheFrameBefore, WhoReadsAllIsUpToDate, WhoReadsEachFrameMissesNothing, WhoseProgramReadsAll};
 
 use msg_buffer::laws::{histories_only_grow, readers_tile};
 use msg_system::a_program_is_its_ops_in_order;
@@ -19,12 +19,22 @@ pub fn first_states_are_sound()
     ensures law { FirstIsSound }
 {}
 
-/// Every run is complete. Its logs are those of one thread over lists that only grow. Each message
-/// from where the run found a reader to where it stands at the end is given to it exactly once, in
-/// order of writing, those of each writer in its order, except those that it cleared itself and
-/// those dropped unread, which the missed counts of its reads and clears add up to exactly.
+/// Every run is complete. Each type's list grew by exactly what the steps tell was written, each
+/// message once, under the number that was told. From where the run found a reader to where it
+/// stands at the end, its entries tell each number once, in order: those that it went past, and
+/// those that it missed since they had been dropped unread. What it was given is what is there.
 pub fn runs_are_complete()
     ensures law { RunsAreComplete }
+{
+    histories_only_grow::<Record>();
+    readers_tile::<Record>();
+}
+
+/// So each of these messages was given, or cleared, or missed: one of these, and once. Those of each
+/// writer are given in its order, and the entries are what the logs tell.
+pub fn each_message_meets_one_fate()
+    ensures fate { EachMeetsOneFate }
+    ensures logs { LogsTellEntries }
 {
     histories_only_grow::<Record>();
     readers_tile::<Record>();
