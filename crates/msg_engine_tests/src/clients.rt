@@ -2,9 +2,10 @@
 ghost use Rattle.std.specs.Prelude.{◌≡◌, ◌<◌, ℕ, All, IfOk, IsTrue};
 ghost use Rattle.msg_exec.specs.Prelude.{IsEngine, PostsFit, EngineStands};
 ghost use Rattle.msg_frames.specs.Prelude.{Meets, State, has_begun, log_entries};
-ghost use Rattle.msg_frames.specs.Entries.Fate.{given};
+ghost use Rattle.msg_frames.specs.Fates.Fate.{given};
 
 use msg_exec::{EngineOf, Frame, Log, NoGate, RunFault, Workers};
+use msg_frames::reader_laws::each_message_meets_one_fate;
 use msg_system::System;
 use std::alloc::Global;
 use std::thread::Threads;
@@ -47,6 +48,7 @@ pub fn run_once<R: Threads + Sync, S: System>(
         → Meets (log_entries i t (s.members i).job.system logs.items) n j given
         → Meets (log_entries i t (s.members i).job.system logs.items) n k given → j ≡ k)) }
 {
+    each_message_meets_one_fate();
     let mut logs = Vec::new(alloc);
     engine.run_frames(rt, frames, workers, &NoGate, &mut logs)?;
     Ok(logs)

@@ -11,7 +11,7 @@ use Rattle.msg_exec.specs.{inner.FrameSteps.HasLeft, inner.FrameSteps.HasOpened,
 use Rattle.msg_frames.specs.Prelude.{FrameStaysSound, IsLawfulFor, IsSoundState, SameSystems, State, after_joining, before_turns, frame, has_begun, join_flags}
 use Rattle.msg_frames.specs.Frames.{turn_order}
 use Rattle.msg_frames.proofs.{Functions.plan_order, Functions.plan_turns, SystemsStay.uses_stay}
-use Rattle.msg_frames.proofs.{SystemsStay.accesses_stay, SystemsStay.before_keeps, SystemsStay.joined_stay, SystemsStay.joining_keeps, SystemsStay.joining_makes_no_frame, SystemsStay.no_cycle_stays, SystemsStay.turns_keep_systems, SystemsStay.turns_make_no_frame}
+use Rattle.msg_frames.proofs.{SystemsStay.accesses_stay, SystemsStay.before_keeps, SystemsStay.joined_stay, SystemsStay.joining_keeps, SystemsStay.joining_makes_no_frame, SystemsStay.turns_keep_systems, SystemsStay.turns_make_no_frame}
 
 -- ---- the schedule
 
@@ -24,7 +24,6 @@ schedule_along {s = s} {u} joins rules same has = record {
   few = rw same.systems has.few;
   early = grind (arith, has.early, same.members);
   named = rw (same.rules, same.systems) has.named;
-  no_cycle = no_cycle_stays s u same has.no_cycle;
 }
 
 -- ---- who has joined

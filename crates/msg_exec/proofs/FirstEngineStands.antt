@@ -96,12 +96,15 @@ module _ {S : Type 0} (meaning : S → Meaning) where
     part_of (OfResource r) few has = omega (arith, few, has)
     part_of Registry few has = has
 
-    pub are_new : (w : WorldState) → PartsStand world w → (length world.types ≤ 64) × (length world.resources ≤ 64)
-        → AreNew (map meaning systems) places (length world.types) w
-    are_new w stands few = record {
+    pub are_new : (rules : List Rule) (w : WorldState) → PartsStand world w
+        → (length world.types ≤ 64) × (length world.resources ≤ 64)
+        → ((joined : List Bool) → length joined ≡ length systems → IsAcyclic (rules_among joined rules))
+        → AreNew (map meaning systems) places rules (length world.types) w
+    are_new rules w stands few none = record {
       uses = λ i lt p.
           let f = found i (omega (arith, lt, length-map systems meaning)) in
           rw (f.is, f.at, conditions_new) (λ needed. part_of p few (f.may.fits f.place f.sp p needed));
+      no_cycle = λ joined size. none joined (size ∙ length-map systems meaning);
       histories = λ t lt. grind (arith, false≢true, stands (OfType t), whole (OfType t) lt);
       new = λ i lt. (let f = found i (omega (arith, lt, length-map systems meaning)) in rw f.is f.may.new);
       joins = λ k d lt.
@@ -111,10 +114,8 @@ module _ {S : Type 0} (meaning : S → Meaning) where
 
     -- the schedule of a new engine
     pub schedule_first : (c : Core S) (rules : List Rule) (w : WorldState) → length systems ≤ 256
-        → NameSystemsBelow (length systems) rules
-        → ((joined : List Bool) → length joined ≡ length systems → IsAcyclic (rules_among joined rules))
-        → c.rules.items ≡ rules → AreJoins c.joins.items (first rules w) → Schedule c (first rules w)
-    schedule_first c rules w few named none same joins =
+        → NameSystemsBelow (length systems) rules → c.rules.items ≡ rules → AreJoins c.joins.items (first rules w) → Schedule c (first rules w)
+    schedule_first c rules w few named same joins =
         let n : length (map meaning systems) ≡ length systems = length-map systems meaning in
         record {
           joins = joins;
@@ -122,7 +123,6 @@ module _ {S : Type 0} (meaning : S → Meaning) where
           few = omega (arith, few, n);
           early = λ i lt. (let f = found i (omega (arith, lt, n)) in rw f.at (f.may.joins f.place f.sp).1);
           named = rw n named;
-          no_cycle = λ joined size. none joined (size ∙ n);
         }
 
 pub none_more : FewerSystemsMakeNoCycle → (n : ℕ) (rules : List Rule) → NameSystemsBelow n rules

@@ -48,7 +48,7 @@ impl<S: System> EngineOf<S> {
     ghost use Rattle.msg_order.specs.Prelude.{IsAcyclic, NameSystemsBelow, edges_of};
     ghost use Rattle.msg_exec.specs.{Building.EachIs, Building.MayBeAdded, Building.RefusesFor, Cores.frame_count, Engines.HasReplayed, Engines.HasRunFrame, Engines.HasRunFrames, Engines.HasRunSince, Engines.HasRunSome, Engines.IsEngine, Engines.IsSpoiled, Engines.PostsFit, Engines.EngineStands, Engines.frame_number, Engines.world_of};
     ghost use Rattle.msg_workers.specs.Prelude.{EachPassedGate};
-    ghost use Rattle.msg_frames.specs.Prelude.{IsCompleteRun, IsLawfulFor, State, first_state, turn_order_in};
+    ghost use Rattle.msg_frames.specs.Prelude.{IsCompleteRun, IsLawfulFor, IsSoundState, State, first_state, turn_order_in};
     ghost use Rattle.msg_frames.specs.{declared.frame.Frame.Frame as FrameView, declared.log.Log.Log as LogView};
 
     /// An engine with no frame run. The systems go by number, in order of addition, and each has
@@ -316,10 +316,12 @@ impl<S: System> EngineOf<S> {
         Ok(log)
     }
 
-    /// A law: from each state that it stands for, all that a run comes to holds of each run.
+    /// A law: from each state that it stands for, all that a run comes to holds of each run. The
+    /// state is sound, as the laws of frames and of readers ask.
     pub fn runs_completely(&self)
         ensures complete { (s : State) → EngineStands S.meaning self.now s
             → (frames : List FrameView) → IsCompleteRun frames s }
+        ensures sound { (s : State) → EngineStands S.meaning self.now s → IsSoundState s }
     {
         runs_are_complete();
     }

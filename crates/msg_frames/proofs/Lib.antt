@@ -15,13 +15,12 @@ mod HistoriesGrow
 mod ReaderOverJob
 pub mod EntriesAddUp
 mod ReaderOverTurns
+mod TellsEachOnce
 mod BeforeTurns
 mod StatesStaySound
 mod FirstStatesAreSound
 mod WrittenOnce
 mod OneFateEach
-mod TilesGiveInOrder
-mod TellsEachOnce
 mod ReaderOverRun
 mod ReplaysTellTheSame
 mod StampsStayRecent

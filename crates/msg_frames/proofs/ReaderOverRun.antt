@@ -4,9 +4,9 @@ use Rattle.std.proofs.lemmas.{Bool.cases_Bool, Grind.flat_map-append}
 use Rattle.msg_buffer.specs.Prelude.{GoesOn, History}
 use Rattle.msg_system.specs.Prelude.{Step}
 use Rattle.msg_world.specs.{Prelude.WorldState, Prelude.after_update, declared.record.Record.Record}
-use Rattle.msg_frames.specs.Prelude.{EachMeetsOneFate, LogsTellEntries, Frame, IsSoundState, frame, run, Moment, RunsAreComplete, State, after_posts, answers_in, before_turns, found_at, found_totals, has_begun, moments, reader_place, Totals, steps_of, turns_steps, post_steps, moments_at}
+use Rattle.msg_frames.specs.Prelude.{LogsTellEntries, ReadersTile, Frame, IsSoundState, frame, run, Moment, RunsAreComplete, State, after_posts, answers_in, before_turns, found_at, found_totals, has_begun, moments, reader_place, Totals, steps_of, turns_steps, post_steps, moments_at}
 use Rattle.msg_frames.specs.Frames.{turn_order}
-use Rattle.msg_frames.proofs.{OneFateEach.lies_between, OneFateEach.meets_one_fate, OneFateEach.missed_are_dropped, OneFateEach.tiles_rise, TellsEachOnce.are_true, TellsEachOnce.tells_once, TilesGiveInOrder.all_as_written, TilesGiveInOrder.given_in_order, TilesGiveInOrder.in_order_of, HistoriesGrow.BufferLaws, HistoriesGrow.goes_further, HistoriesGrow.stays, SystemsStay.before_keeps, SystemsStay.turns_keep, ReaderOverJob.passes_nothing, EntriesAddUp.tiles_add_up, EntriesAddUp.with_entries-none, ReaderOverTurns.ReadsFrom, ReaderOverTurns.Tells, ReaderOverTurns.reads_further, ReaderOverTurns.steps_of-append, ReaderOverTurns.tells_further, ReaderOverTurns.tells_these, ReaderOverTurns.reads_these, ReaderOverJob.moments_of, ReaderOverTurns.turns_moments, ReaderOverTurns.turns_read, ReaderOverTurns.turns_skip, ReaderOverTurns.turns_tell, BeforeTurns.Prepares, BeforeTurns.comes, BeforeTurns.prepares, BeforeTurns.stood, BeforeTurns.waits, StatesStaySound.begun_alike, StatesStaySound.frame_sound, StatesStaySound.has_no_turn, StatesStaySound.prepared_sound, WrittenOnce.run_answered, WrittenOnce.run_writes}
+use Rattle.msg_frames.proofs.{TellsEachOnce.tiles_rise, TellsEachOnce.are_true, TellsEachOnce.tells_once, HistoriesGrow.BufferLaws, HistoriesGrow.goes_further, HistoriesGrow.stays, SystemsStay.before_keeps, SystemsStay.turns_keep, ReaderOverJob.passes_nothing, EntriesAddUp.with_entries-none, ReaderOverTurns.ReadsFrom, ReaderOverTurns.Tells, ReaderOverTurns.reads_further, ReaderOverTurns.steps_of-append, ReaderOverTurns.tells_further, ReaderOverTurns.tells_these, ReaderOverTurns.reads_these, ReaderOverJob.moments_of, ReaderOverTurns.turns_moments, ReaderOverTurns.turns_read, ReaderOverTurns.turns_skip, ReaderOverTurns.turns_tell, BeforeTurns.Prepares, BeforeTurns.comes, BeforeTurns.prepares, BeforeTurns.stood, BeforeTurns.waits, StatesStaySound.begun_alike, StatesStaySound.frame_sound, StatesStaySound.has_no_turn, StatesStaySound.prepared_sound, WrittenOnce.run_answered, WrittenOnce.run_writes}
 
 -- what the host posts goes past nothing
 posts_pass : (i t : ℕ) (posts : List (ℕ × ℤ)) (w : WorldState) → moments_of t (steps_of i (post_steps posts w)) ≡ []
@@ -94,23 +94,10 @@ runs_are_complete laws frames s sound = record {
       };
 }
 
-pub each_meets_one_fate : BufferLaws → EachMeetsOneFate
-each_meets_one_fate laws frames s sound i t below has =
-    let ms : List Moment = moments i t frames s in
+pub readers_tile : BufferLaws → ReadersTile
+readers_tile laws frames s sound i t below has =
     let passes = (run_follows laws i t frames s sound below has).passes in
-    record {
-      given = record {
-        each = meets_one_fate _ ms _ passes.tile;
-        no_other = lies_between _ ms _ passes.tile;
-        in_order = given_in_order _ ms _ passes.tile;
-        as_written = all_as_written _ ms passes.gives passes.earlier passes.written;
-        dropped = missed_are_dropped _ ms _ passes.tile passes.written;
-        adds_up = tiles_add_up _ ms _ passes.tile;
-      };
-      by_writer = λ writer. in_order_of writer _ ms _ _ passes.tile passes.gives passes.earlier passes.written;
-      tile = passes.tile;
-      gives = passes.gives;
-    }
+    record { tile = passes.tile; gives = passes.gives }
 
 pub logs_tell : LogsTellEntries
 logs_tell i t frames s = (run_tells i t frames s).entries

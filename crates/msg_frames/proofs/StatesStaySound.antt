@@ -1,10 +1,10 @@
 -- Frames keep states sound.
-use Rattle.std.proofs.Common.{◌≡◌, ℕ, ◌<◌, max, List, [], ◌∷◌, Contains, ◌≢◌, AllPairs, ap₂, arith, IsFalse, nat_le}
-use Rattle.std.proofs.lemmas.{Bool.false≢true, List.FromFn.get_or-map-range_with_len}
-use Rattle.msg_frames.specs.Prelude.{FrameStaysSound, IsBalanced, IsSoundState, Member, RunStaysSound, SameSystems, State, after_turns_of, before_turns, counts, frame, has_begun, join_flags, joined_member, reader_place}
+use Rattle.std.proofs.Common.{◌≡◌, ℕ, ◌-◌, ◌<◌, max, List, [], ◌∷◌, length, map, Contains, ◌≢◌, AllPairs, ap, ap₂, arith, IsFalse, nat_le}
+use Rattle.std.proofs.lemmas.{Bool.false≢true, List.FromFn.get_or-map-range_with_len, List.FromFn.length-range_with_len}
+use Rattle.msg_frames.specs.Prelude.{FrameStaysSound, IsBalanced, IsSoundState, Member, Moment, RunStaysSound, SameSystems, State, after_turns_of, before_turns, counts, frame, has_begun, join_flags, joined_member, reader_place}
 use Rattle.msg_frames.specs.Frames.{settled_order, turn_order}
 use Rattle.msg_order.proofs.Functions.{turns_differ, turns_joined}
-use Rattle.msg_frames.proofs.{HistoriesGrow.BufferLaws, HistoriesGrow.counts_more, SystemsStay.turns_keep, SystemsStay.uses_stay, SystemsStay.joined_below, EntriesAddUp.tiles_add_up, ReaderOverTurns.Reads, ReaderOverTurns.turns_moments, ReaderOverTurns.turns_read, ReaderOverTurns.turns_skip, BeforeTurns.Prepares, BeforeTurns.begun_within, BeforeTurns.comes, BeforeTurns.prepares, BeforeTurns.stood, BeforeTurns.waits}
+use Rattle.msg_frames.proofs.{HistoriesGrow.BufferLaws, HistoriesGrow.counts_more, SystemsStay.turns_keep, SystemsStay.no_cycle_stays, SystemsStay.uses_stay, SystemsStay.joined_below, EntriesAddUp.all_told, TellsEachOnce.tells_once, TellsEachOnce.tiles_rise, ReaderOverTurns.Reads, ReaderOverTurns.turns_moments, ReaderOverTurns.turns_read, ReaderOverTurns.turns_skip, BeforeTurns.Prepares, BeforeTurns.begun_within, BeforeTurns.comes, BeforeTurns.prepares, BeforeTurns.stood, BeforeTurns.waits}
 
 -- one that waits has no turn
 pub has_no_turn : (b : State) (i : ℕ) → IsFalse (has_begun b i) → ¬ Contains (turn_order b) i
@@ -34,7 +34,8 @@ module _ (s b : State) (sound : IsSoundState s) (prep : Prepares s b) where
   pub prepared_sound : IsSoundState b
   prepared_sound =
       let uses = uses_stay s b prep.same sound.uses in
-      grind (arith, uses, balanced_start, begun_within, comes, counts_more, false≢true, stood, waits)
+      let free = no_cycle_stays s b prep.same sound.no_cycle in
+      grind (arith, uses, free, balanced_start, begun_within, comes, counts_more, false≢true, stood, waits)
 
 module _ (laws : BufferLaws) where
   pub frame_sound : FrameStaysSound
@@ -49,6 +50,7 @@ module _ (laws : BufferLaws) where
       (sound.places i t (rw (keep.0.types) at below)) in
       record {
         uses = uses_stay b u keep.0 sound.uses;
+        no_cycle = no_cycle_stays b u keep.0 sound.no_cycle;
         histories = λ t below. (reads 0 t below).passes.goes_on.sound;
         places = λ i t below. (reads i t below).passes.within;
         joins = λ i. grind (arith, keep.0.members i, sound.joins i);
@@ -57,8 +59,13 @@ module _ (laws : BufferLaws) where
             let out = has_no_turn b i in
             grind (arith, begun_alike b _ i keep, out, isnt, turns_skip i t order b, sound.waiting i t);
         balanced = λ i t below has.
-            let more = tiles_add_up (reader_place b i t) (turns_moments i t order b) (reader_place u i t) in
-            grind (arith, reads i t below, sound.balanced i t, begun_alike b u i keep, more, keep.0.types);
+            let ms : List Moment = turns_moments i t order b in
+            let read = reads i t below in
+            let once = tells_once (reader_place b i t) ms (reader_place u i t) read.passes.tile in
+            let up = tiles_rise (reader_place b i t) ms (reader_place u i t) read.passes.tile in
+            let number = length-range_with_len (reader_place b i t) (reader_place u i t - reader_place b i t) in
+            let more = all_told (map (λ m. m.entry) ms) in
+            grind (arith, read.totals, sound.balanced i t, begun_alike b u i keep, more, ap length once, number, up, keep.0.types);
       }
 
   pub run_sound : RunStaysSound

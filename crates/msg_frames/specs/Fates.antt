@@ -4,7 +4,7 @@ use Rattle.std.specs.List.Sorted.{IsStrictlyIncreasing}
 use Rattle.msg_buffer.specs.Prelude.{History, IsPresent, Stretch, Tile, count, instances, message_of}
 use Rattle.msg_world.specs.declared.record.Record.{Record}
 use Rattle.msg_system.specs.{Prelude.Meaning, declared.reply.Reply.Reply}
-use Rattle.msg_frames.specs.{declared.frame.Frame.Frame, declared.log.Log.Log, CompleteRun.entries_in_run, CompleteRun.message_numbered, Entries.ReadEntry, LogEntries.entries_told, Entries.numbers_cleared, Entries.numbers_given, Entries.numbers_missed, Steps.replies_of, Frames.run, Frames.State, Frames.has_begun, Soundness.IsSoundState, Tiling.Moment, Tiling.found_at, Tiling.moments, Tiling.reader_place}
+use Rattle.msg_frames.specs.{declared.frame.Frame.Frame, declared.log.Log.Log, CompleteRun.IsServed, CompleteRun.entries_in_run, CompleteRun.message_numbered, Entries.ReadEntry, LogEntries.entries_told, Entries.numbers_cleared, Entries.numbers_given, Entries.numbers_missed, Steps.replies_of, Frames.run, Frames.State, Frames.has_begun, Soundness.IsSoundState, Tiling.Moment, Tiling.found_at, Tiling.moments, Tiling.reader_place}
 
 -- ---- the entries that logs have
 
@@ -111,13 +111,20 @@ pub record IsServedEach (i t : ℕ) (frames : List Frame) (s : State) : Type 0 w
   -- those of each writer in its order
   pub by_writer : (writer : ℕ) → IsInOrderOf writer (entries_in_run i t frames s)
       ((run frames s).state.world.histories t)
-  -- its reads and clears tile, and what each gave is the messages there
+
+-- A reader that a run served was given each message once.
+abbrev pub EachMeetsOneFate : Type 0
+EachMeetsOneFate = (i t : ℕ) (frames : List Frame) (s : State) → IsServed i t frames s
+    → IsServedEach i t frames s
+
+-- The reads and clears of a reader in a run tile, and what each gave is the messages there.
+pub record IsTiled (i t : ℕ) (frames : List Frame) (s : State) : Type 0 where
   pub tile : Tile (found_at s (run frames s).state i t)
       (map (λ m. (m.history, m.entry.stretch)) (moments i t frames s))
       (reader_place (run frames s).state i t)
   pub gives : All GivesItsStretch (moments i t frames s)
 
--- Each message met one fate.
-abbrev pub EachMeetsOneFate : Type 0
-EachMeetsOneFate = (frames : List Frame) (s : State) → IsSoundState s → (i t : ℕ) → t < s.types
-    → IsTrue (has_begun (run frames s).state i) → IsServedEach i t frames s
+-- So it is for each reader that has joined by the end.
+abbrev pub ReadersTile : Type 0
+ReadersTile = (frames : List Frame) (s : State) → IsSoundState s → (i t : ℕ) → t < s.types
+    → IsTrue (has_begun (run frames s).state i) → IsTiled i t frames s

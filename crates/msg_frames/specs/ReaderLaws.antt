@@ -4,7 +4,7 @@ use Rattle.msg_buffer.specs.Prelude.{IsSound}
 use Rattle.msg_order.specs.declared.rule.Rule.{Rule}
 use Rattle.msg_world.specs.Prelude.{WorldState}
 use Rattle.msg_system.specs.Prelude.{Meaning}
-use Rattle.msg_frames.specs.{declared.frame.Frame.Frame, declared.log.Log.Log, declared.place.Place.Place, Entries.no_totals, Frames.frame, Frames.run, Frames.State, Frames.UsesParts, Frames.has_begun, FirstState.IsNew, FirstState.before_joining, FirstState.first_state, FirstState.nobody, Replays.IsMixedRun, Replays.IsReplay, Replays.TellsACompleteRun, Soundness.IsBalanced, Soundness.IsSoundState, CompleteRun.IsCompleteRun, Fates.answers_in, Tiling.reader_place}
+use Rattle.msg_frames.specs.{declared.frame.Frame.Frame, declared.log.Log.Log, declared.place.Place.Place, Entries.no_totals, Frames.frame, Frames.run, Frames.State, Frames.UsesParts, Frames.has_begun, FirstState.IsNew, FirstState.before_joining, FirstState.first_state, FirstState.nobody, Replays.IsMixedRun, Replays.IsReplay, Replays.TellsACompleteRun, Soundness.IsBalanced, Soundness.IsSoundState, Soundness.NoCycle, CompleteRun.IsCompleteRun, Fates.answers_in, Tiling.reader_place}
 
 -- ---- soundness
 
@@ -17,12 +17,13 @@ abbrev pub RunStaysSound : Type 0
 RunStaysSound = (frames : List Frame) (s : State) → IsSoundState s
     → IsSoundState (run frames s).state
 
--- Systems that were given nothing yet, each of its own number, and places for them, over a sound
--- world.
-pub record AreNew (systems : List Meaning) (places : List Place) (types : ℕ)
+-- Systems that were given nothing yet, each of its own number, places for them, and rules that make
+-- no cycle, over a sound world.
+pub record AreNew (systems : List Meaning) (places : List Place) (rules : List Rule) (types : ℕ)
     (world : WorldState) : Type 0 where
   -- each needs only parts that a world may have
-  pub uses : UsesParts (before_joining systems places [] types world)
+  pub uses : UsesParts (before_joining systems places rules types world)
+  pub no_cycle : NoCycle (before_joining systems places rules types world)
   pub histories : (t : ℕ) → t < types → IsSound (world.histories t)
   pub new : EachIndex systems (λ i. IsNew i (slice_index_or systems i nobody))
   pub joins : All (λ place. 1 ≤ place.join) places
@@ -31,7 +32,7 @@ pub record AreNew (systems : List Meaning) (places : List Place) (types : ℕ)
 abbrev pub FirstIsSound : Type 0
 FirstIsSound = (systems : List Meaning) (places : List Place) (rules : List Rule) (types : ℕ)
     (world : WorldState)
-    → AreNew systems places types world
+    → AreNew systems places rules types world
     → IsSoundState (first_state systems places rules types world)
 
 -- ---- complete runs

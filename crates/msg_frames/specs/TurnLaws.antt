@@ -1,12 +1,12 @@
 -- What holds of turns, side by side and in other orders, and of frames. Each law is the contract of
 -- a function in src/laws.rt.
-use Rattle.std.specs.Prelude.{◌≡◌, ◌≢◌, ℕ, suc, ◌<◌, Bool, List, [], ◌∷◌, ◌++◌, map, length, All, AllPairs, IsPermutation}
+use Rattle.std.specs.Prelude.{◌≡◌, ◌≢◌, ◌⊎◌, ℕ, suc, ◌<◌, List, [], ◌∷◌, ◌++◌, map, length, All, AllPairs, IsPermutation, IsTrue}
 use Rattle.std.specs.List.{concat}
 use Rattle.msg_buffer.specs.Prelude.{GoesOn, IsSound}
 use Rattle.msg_world.specs.{Prelude.Conflict, Prelude.merge, declared.access.Access.Access}
-use Rattle.msg_order.specs.Prelude.{Graph, IsAcyclic, IsLawfulOrder, IsSettledOrder, IsTurnOrder, NoneConflict, access_of, rules_among}
+use Rattle.msg_order.specs.Prelude.{AreBatches, Graph, IsAcyclic, IsLawfulOrder, IsSettledOrder, IsTurnOrder, NoneConflict, Path, access_of, batches, has_joined}
 use Rattle.msg_system.specs.Prelude.{conditions_of}
-use Rattle.msg_frames.specs.{declared.frame.Frame.Frame, Frames.AfterTurns, Frames.AreAccessesOf, Frames.UsesParts, Frames.frame, Frames.settled_order, Frames.turn_order, Replays.IsLawfulFor, Replays.TellsTheSame, Frames.after_turn_of, Frames.after_turns_of, Frames.before_turns, Frames.frame_in, Frames.run, Frames.after_joining, Frames.logged_turn, Frames.turn_of, Frames.with_joining, Frames.with_member, Frames.Member, Frames.State, Frames.join_flags}
+use Rattle.msg_frames.specs.{declared.frame.Frame.Frame, Frames.AfterTurns, Frames.AreAccessesOf, Frames.UsesParts, Frames.are_in_conflict, Frames.frame, Frames.settled_order, Frames.turn_order, Replays.IsLawfulFor, Replays.TellsTheSame, Frames.after_turn_of, Frames.after_turns_of, Frames.before_turns, Frames.frame_in, Frames.run, Frames.after_joining, Frames.logged_turn, Frames.turn_of, Frames.with_joining, Frames.with_member, Frames.Member, Frames.State, Frames.join_flags, Soundness.NoCycle}
 
 -- ---- what stays
 
@@ -115,16 +115,25 @@ LawfulOrdersAgree = (s : State) (accesses : List Access) (settled : Graph) (a b 
 
 -- ---- one run
 
--- whichever systems have joined, the rules make no cycle among them
-abbrev pub NoCycle : State → Type 0
-NoCycle s = (join_flags : List Bool) → length join_flags ≡ s.systems
-    → IsAcyclic (rules_among join_flags s.rules)
+-- How the systems of a state that have joined are ordered.
+pub record AreOrdered (s : State) : Type 0 where
+  -- no path leads back
+  pub no_cycle : IsAcyclic (settled_order s)
+  -- of two in conflict, one comes before the other
+  pub conflicts : (i j : ℕ) → i ≢ j → IsTrue (has_joined (join_flags s) i)
+      → IsTrue (has_joined (join_flags s) j) → IsTrue (are_in_conflict s i j)
+      → Path (settled_order s) i j ⊎ Path (settled_order s) j i
+  -- the batches are by batch number, that of the longest chain
+  pub by_number : AreBatches (settled_order s) (join_flags s)
+      (batches (settled_order s) (join_flags s))
+  -- the turns go by batch number, and then by addition
+  pub turns : IsTurnOrder (settled_order s) (join_flags s) (turn_order s)
+  -- each that has joined has one turn, after those that come before it
+  pub once : IsLawfulOrder (settled_order s) (join_flags s) (turn_order s)
 
--- Where the rules make no cycle, those that have joined take their turns in turn order: each has
--- one, by batch number in the settled order, and then by addition.
+-- Where the rules make no cycle, the systems are ordered so.
 abbrev pub TurnsAreInOrder : Type 0
-TurnsAreInOrder = (s : State) → NoCycle s
-    → IsTurnOrder (settled_order s) (join_flags s) (turn_order s)
+TurnsAreInOrder = (s : State) → NoCycle s → AreOrdered s
 
 -- The settled order is the one that the rules make, and the pairs whose accesses are in conflict.
 abbrev pub OrderIsSettled : Type 0

@@ -63,12 +63,15 @@ pub fn lawful_orders_agree()
     lawful_orders_keep_paths();
 }
 
-/// The order of a state's systems is the settled one, and where the rules make no cycle those that
-/// have joined take their turns in it.
+/// The order of a state's systems is the settled one. Where the rules make no cycle, it has none,
+/// it orders those in conflict, the batches are by the longest chain, and each system that has
+/// joined has its turn once.
 pub fn turns_are_in_settled_order()
     ensures turns { TurnsAreInOrder }
     ensures settled { OrderIsSettled }
-{}
+{
+    turn_order_is_lawful();
+}
 
 /// In any lawful order a frame leaves the same state, and each system's turn comes out alike.
 pub fn frames_agree_in_lawful_orders()

@@ -1,5 +1,5 @@
 //! Laws of readers: facts that hold of every run of frames.
-ghost use Rattle.msg_frames.specs.Prelude.{AccountsBalance, EachMeetsOneFate, FirstIsSound, FrameStaysSound, LogsTellEntries, NoneBeforeJoining, ReplaysTellACompleteRun, ReplaysTellTheSame, RunStaysSound, RunsAreComplete, WhoIsUpToDateMissesNothing, WhoReadsAllCatchesUp, WhoReadsAllHasTheFrameBefore, WhoReadsAllIsUpToDate, WhoReadsEachFrameMissesNothing, WhoseProgramReadsAll};
+ghost use Rattle.msg_frames.specs.Prelude.{AccountsBalance, EachMeetsOneFate, FirstIsSound, FrameStaysSound, LogsTellEntries, NoneBeforeJoining, ReadersTile, ReplaysTellACompleteRun, ReplaysTellTheSame, RunStaysSound, RunsAreComplete, WhoIsUpToDateMissesNothing, WhoReadsAllCatchesUp, WhoReadsAllHasTheFrameBefore, WhoReadsAllIsUpToDate, WhoReadsEachFrameMissesNothing, WhoseProgramReadsAll};
 
 use msg_buffer::laws::{histories_only_grow, readers_tile};
 use msg_system::a_program_is_its_ops_in_order;
@@ -35,6 +35,11 @@ pub fn runs_are_complete()
 pub fn each_message_meets_one_fate()
     ensures fate { EachMeetsOneFate }
     ensures logs { LogsTellEntries }
+{}
+
+/// The reads and clears of each reader tile over a run.
+pub fn readers_tile_over_runs()
+    ensures law { ReadersTile }
 {
     histories_only_grow::<Record>();
     readers_tile::<Record>();

@@ -1,10 +1,10 @@
--- The functions are what the relations say.
-use Rattle.std.proofs.Common.{◌≡◌, ℕ, zero, suc, ◌<◌, ◌≤◌, Bool, true, false, not, ◌&&◌, List, [], ◌∷◌, ◌++◌, length, refl, sym, ap, ◌∙◌, arith, inl, inr, ◌↔◌, IsTrue, ◌≢◌, AllPairs, Contains, filter, append_assoc}
+-- What the functions make: the settled order, its batches, and the turns.
+use Rattle.std.proofs.Common.{◌≡◌, ℕ, zero, suc, ◌<◌, ◌≤◌, Bool, true, false, not, ◌&&◌, List, [], ◌∷◌, ◌++◌, length, refl, sym, ap, ◌∙◌, arith, inl, inr, ◌↔◌, ◌⊎◌, IsTrue, ◌≢◌, AllPairs, Contains, filter, append_assoc}
 use Rattle.std.specs.List.{concat, range_with_len}
 use Rattle.std.proofs.lemmas.{Bool.cases_Bool, Bool.cases_eq, Bool.and_parts, Bool.and_from, Bool.false≢true, Bool.Decides.eqb_tells, List.append-nil, List.Elements.Contains-append_cases, List.Filters.length-filter_both, List.FromFn.length-range_with_len, List.FromFn.get_or-range_with_len, List.Kept.AllPairs-filter}
 use Rattle.msg_world.specs.{declared.access.Access.Access}
-use Rattle.msg_order.specs.Prelude.{AreBatches, AreInConflict, Graph, IsAcyclic, IsAmong, IsSettledOrder, IsTurnOrder, Rule, RunsBefore, TellsConflicts, Settles, batches, batches_of, both_joined, edges_of, follows, has_joined, pairs, path, rules_among, settle, settled, those_joined, turns}
-use Rattle.msg_order.proofs.{Elements.filter-Contains, Elements.Contains-filter, Elements.list_any-Contains, Elements.Contains-list_any, Elements.Contains-cases, Elements.Contains-head, Elements.Contains-range, Elements.not_in_none, PathTest.no_Path, PathTest.no_path, PathTest.path_trans, SettledPairs.pairs-Contains, SettledPairs.settles_keeps, SettledPairs.settles_once, PathTest.to_Path, BatchLevels.TellsBlocked, BatchLevels.LeadAmong, BatchLevels.ArePeeled, BatchLevels.peeled_first, BatchLevels.peeled_next, BatchLevels.peeled_all, BatchLevels.peeled_done, BatchLevels.left_falls, Chains.number_rises, Chains.path_among, SetPaths.joined_in, TurnOrders.in_turn_order, TurnOrders.pairs_append, Uniqueness.same_ordered}
+use Rattle.msg_order.specs.Prelude.{AreBatches, AreInConflict, Graph, IsAcyclic, IsAmong, IsSettledOrder, IsTurnOrder, Path, Rule, RunsBefore, TellsConflicts, Settles, batches, batches_of, both_joined, edges_of, follows, has_joined, pairs, path, rules_among, settle, settled, those_joined, turns}
+use Rattle.msg_order.proofs.{Elements.filter-Contains, Elements.Contains-filter, Elements.list_any-Contains, Elements.Contains-list_any, Elements.Contains-cases, Elements.Contains-head, Elements.Contains-range, Elements.not_in_none, PathTest.no_Path, PathTest.no_path, PathTest.path_trans, SettledPairs.Contains-pairs, SettledPairs.pairs-Contains, SettledPairs.settles_covers, SettledPairs.settles_keeps, SettledPairs.settles_once, PathTest.to_Path, BatchLevels.TellsBlocked, BatchLevels.LeadAmong, BatchLevels.ArePeeled, BatchLevels.peeled_first, BatchLevels.peeled_next, BatchLevels.peeled_all, BatchLevels.peeled_done, BatchLevels.left_falls, Chains.number_rises, Chains.path_among, SetPaths.joined_in, TurnOrders.in_turn_order, TurnOrders.pairs_append, Uniqueness.same_ordered}
 
 -- ---- the settled order
 
@@ -45,6 +45,14 @@ settled_no_cycle rules joined conflict free i =
     let rises = pairs-Contains (length joined) p.0 p.1 m in
     grind (arith, cases_Bool, eqb_tells, free, no_path k p.1 p.0 gains.1, path_trans k, rises))
     (λ k. no_path _ k k (free k)) i)
+
+-- one of two in conflict comes before the other
+pub settled_orders : (rules : List Rule) (joined : List Bool) (conflict : ℕ → ℕ → Bool) (i j : ℕ) → i < j
+    → IsTrue (has_joined joined i) → IsTrue (has_joined joined j) → IsTrue (conflict i j)
+    → Path (settled conflict rules joined) i j ⊎ Path (settled conflict rules joined) j i
+settled_orders rules joined conflict i j lt at_i at_j is =
+    settles_covers _ (pairs (length joined)) (rules_among joined rules) _ (settled_by rules joined conflict) i j
+    (Contains-pairs (length joined) i j lt (joined_in joined j at_j)) (and_from _ _ (and_from _ _ at_i at_j) is)
 
 -- ---- batches
 

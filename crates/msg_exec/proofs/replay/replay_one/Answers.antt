@@ -32,7 +32,7 @@ returns g c = record {
       (c.from_vec-2.ensures.items ∙ c.in_ok-run_turns.ensures.turns bt has.lender
       ∙ ap (λ ts. ts ++ (after_turns_of order bt).turns) c.in_ok-turns.ensures.empty) in
       let alike = c.frames_agree_in_lawful_orders.ensures.law frame s c.args.core.lender.accesses.items order
-      stands.sound.uses stands.schedule.no_cycle (accesses_of m stands) lawful in
+      stands.sound.uses stands.sound.no_cycle (accesses_of m stands) lawful in
       frame_ran m has stands.sound c.states_stay_sound.ensures.frame
       (rw alike.0 at (c.in_ok-run_turns.ensures.state bt has.lender))
       (record {
