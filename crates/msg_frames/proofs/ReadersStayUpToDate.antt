@@ -3,7 +3,7 @@ use Rattle.std.proofs.Common.{◌≡◌, ℕ, suc, ◌<◌, ◌≤◌, List, [],
 use Rattle.std.proofs.lemmas.{Bool.cases_Bool, Bool.cases_eq, Bool.false≢true, Option.same_Some, Option.slice_get_cases, Option.slice_get_within, List.append-nil, List.Elements.All-append, List.Elements.All-cons, List.Elements.All-head, List.Elements.All-map, List.Elements.All-nil, List.Elements.All-tail, Bool.Decides.nat_tests}
 use Rattle.msg_buffer.specs.Prelude.{Entry, Fits, GoesOn, History, IsPresent, Stretch, Tile, count, next_place, update}
 use Rattle.msg_world.specs.{Prelude.after_update, declared.record.Record.Record}
-use Rattle.msg_frames.proofs.{ElementsAndPairs.Cut, ElementsAndPairs.cut, HistoriesGrow.BufferLaws, HistoriesGrow.counts_more, HistoriesGrow.Grows, HistoriesGrow.frame_goes_on, HistoriesGrow.grown, HistoriesGrow.posts_change, HistoriesGrow.runs_go_on, HistoriesGrow.turns_change, SystemsStay.joining_world, SystemsStay.turns_keep, SystemsStay.frame_keeps, ReaderOverJob.IsWritten, ReaderOverJob.tile_of, ReaderOverTurns.turns_moments, ReaderOverTurns.turns_read, BeforeTurns.Prepares, BeforeTurns.prepares, StatesStaySound.begun_alike, StatesStaySound.frame_sound, StatesStaySound.has_no_turn, StatesStaySound.prepared_sound, ReaderOverRun.run_further, ReaderOverRun.run_tells, StampsStayRecent.AreRecent, StampsStayRecent.StaysRecent, StampsStayRecent.earlier_recent, StampsStayRecent.stays_recent, ReadersTakeAll.takes_by_turn}
+use Rattle.msg_frames.proofs.{ElementsAndPairs.Cut, ElementsAndPairs.cut, HistoriesGrow.BufferLaws, HistoriesGrow.counts_more, HistoriesGrow.Grows, HistoriesGrow.frame_goes_on, HistoriesGrow.grown, HistoriesGrow.posts_change, HistoriesGrow.runs_go_on, HistoriesGrow.turns_change, SystemsStay.joining_world, SystemsStay.turns_keep, SystemsStay.frame_keeps, ReaderOverJob.IsWritten, ReaderOverJob.tile_of, ReaderOverTurns.turns_moments, ReaderOverTurns.turns_read, BeforeTurns.Prepares, BeforeTurns.prepares, StatesStaySound.begun_alike, StatesStaySound.frame_sound, StatesStaySound.has_no_turn, StatesStaySound.prepared_sound, ReaderOverRun.run_further, StampsStayRecent.AreRecent, StampsStayRecent.StaysRecent, StampsStayRecent.earlier_recent, StampsStayRecent.stays_recent, ReadersTakeAll.takes_by_turn}
 use Rattle.msg_frames.specs.Prelude.{Frame, IsSoundState, IsUpToDate, frame, run, Moment, NothingDrained, ReadsAll, ReadsAllInEach, State, WhoIsUpToDateMissesNothing, WhoReadsEachFrameMissesNothing, after_turns_of, before_turns, has_begun, after_joining, moments, reader_place}
 use Rattle.msg_frames.specs.Frames.{turn_order}
 
@@ -143,10 +143,9 @@ module _ (laws : BufferLaws) where
   pub misses_nothing : WhoIsUpToDateMissesNothing
   misses_nothing f s i t sound below has up drained =
       let none = frame_misses_none f s i t sound below has up drained in
-      rw ((run_tells i t (f ∷ []) s).entries, run_further i t f [] s, append-nil (turns_moments i t (turn_order (before_turns f.posts s)) (before_turns f.posts s)))
+      rw (run_further i t f [] s, append-nil (turns_moments i t (turn_order (before_turns f.posts s)) (before_turns f.posts s)))
       (All-map (λ e. e.stretch.missed ≡ 0) _ _ none)
 
   pub never_misses : WhoReadsEachFrameMissesNothing
   never_misses f frames s i t sound below each drained =
-      rw ((run_tells i t frames (frame f s).state).entries) (All-map (λ e. e.stretch.missed ≡ 0) _ _
-      (missed_after f frames s i t sound below each drained))
+      All-map (λ e. e.stretch.missed ≡ 0) _ _ (missed_after f frames s i t sound below each drained)

@@ -1,7 +1,7 @@
--- A replay tells of each system what the frame tells of it.
-use Rattle.std.proofs.Common.{arith, ◌≡◌, ◌≢◌, ℕ, ◌==◌, inl, inr, List, [], ◌∷◌, ◌++◌, map, refl, ap, Bool, false, suc, AllPairs, Contains, IsPermutation, flat_map, if◌then◌else◌, All}
-use Rattle.std.proofs.lemmas.{Bool.cases_Bool, Bool.eqb-true, Bool.Decides.eqb_tells, List.append-nil, List.get_or-map, List.length-map, List.Sorted.Contains-permutation, List.Sorted.list_any-IsPermutation, List.Folds.list_any_none}
-use Rattle.msg_frames.specs.Prelude.{Frame, IsMixedRun, IsReplay, frame, run, Log, ReplaysTellACompleteRun, ReplaysTellTheSame, RunsAreComplete, State, Turn, replies_of, answers_in, before_turns}
+-- Logs that tell the same tell each system the same.
+use Rattle.std.proofs.Common.{arith, eqb, ◌≡◌, ◌≢◌, ℕ, ◌==◌, inl, inr, List, [], ◌∷◌, ◌++◌, map, refl, ap, Bool, false, suc, AllPairs, Contains, IsPermutation, flat_map, if◌then◌else◌, All}
+use Rattle.std.proofs.lemmas.{Bool.Decides.Decides-eqb, Map.Made.AllPairs-from_IsDistinct, Map.Made.IsDistinct-from_AllPairs, Map.Keys.IsDistinct-IsPermutation, List.Sorted.IsPermutation-map, List.Sorted.IsPermutation-sym, Bool.cases_Bool, Bool.eqb-true, Bool.Decides.eqb_tells, List.append-nil, List.get_or-map, List.length-map, List.Sorted.Contains-permutation, List.Sorted.list_any-IsPermutation, List.Folds.list_any_none}
+use Rattle.msg_frames.specs.Prelude.{Frame, Log, ReplaysTellTheSame, State, TellsTheSame, Turn, before_turns, frame, replies_of}
 use Rattle.msg_frames.specs.Frames.{turn_order}
 use Rattle.msg_frames.proofs.{ElementsAndPairs.pairs_tail, FramesInOrder.in_that_order, StatesStaySound.has_one_turn, ReaderOverTurns.answers_among}
 use Rattle.msg_order.proofs.Elements.{Contains-cases, not_in_none, Contains-list_any}
@@ -45,32 +45,29 @@ module _ {X Y : Type 0} (key : X → ℕ) (f : X → List Y) (i : ℕ) where
       let same = list_any-IsPermutation test xs ys moved in
       grind (arith, cases_Bool (list_any test xs), some, one, other, moves, same, none_told, eqb-true)
 
--- what a replay tells is what the frame tells, in which each has one turn
-turns_alike : (f : Frame) (order : List ℕ) (s : State) (log : Log) (u : State) → IsReplay f order s log u → (i : ℕ)
+-- numbers that differ stay so when they change places
+eqb_flips : (a b : ℕ) → eqb a b ≡ eqb b a
+eqb_flips a b = grind (arith, eqb_tells a b, eqb_tells b a)
+
+once_moved : (xs ys : List ℕ) → IsPermutation xs ys → AllPairs (λ a b. a ≢ b) ys → AllPairs (λ a b. a ≢ b) xs
+once_moved xs ys moved once =
+    AllPairs-from_IsDistinct Decides-eqb xs (IsDistinct-IsPermutation eqb eqb_flips ys xs
+    (IsPermutation-sym xs ys moved) (IsDistinct-from_AllPairs Decides-eqb ys once))
+
+-- what tells the same as a frame tells each system what the frame tells it, in which each has one turn
+turns_alike : (f : Frame) (s : State) (log : Log) → TellsTheSame log (frame f s).log → (i : ℕ)
     → answers_among i log.turns ≡ answers_among i (frame f s).log.turns
-turns_alike f order s log u replay i =
+turns_alike f s log tells i =
     let b : State = before_turns f.posts s in
-    told_alike (λ (turn : Turn). turn.system) (λ (turn : Turn). replies_of _) i log.turns (frame f s).log.turns
-    replay.tells.turns (rw (replay.in_order) (replay.lawful.lawful.once))
-    (rw (in_that_order f (turn_order b) s (frame f s).log refl) (has_one_turn b))
+    let system = λ (turn : Turn). turn.system in
+    let once : AllPairs (λ a b. a ≢ b) (map system (frame f s).log.turns) =
+    rw (in_that_order f (turn_order b) s (frame f s).log refl) (has_one_turn b) in
+    told_alike system (λ (turn : Turn). replies_of turn.outcome) i log.turns (frame f s).log.turns tells.turns
+    (once_moved _ _ (IsPermutation-map system log.turns (frame f s).log.turns tells.turns) once) once
 
-pub replay_tells : ReplaysTellTheSame
-replay_tells f order s log u replay i = ap (λ xs. xs ++ []) (turns_alike f order s log u replay i)
-
-tells_run : (frames : List Frame) (s : State) (logs : List Log) (u : State) → IsMixedRun frames s logs u
-    → ((i : ℕ) → answers_in i logs ≡ answers_in i (run frames s).logs) × (u ≡ (run frames s).state)
-tells_run [] s [] u x = (λ i. refl, x)
-tells_run (f ∷ fs) s (log ∷ logs) u x =
-    let rest = tells_run fs (frame f s).state logs u x.1 in
-    elim x.0 [
-      | inl ran ↦ (λ i. grind (arith, ran, rest.0 i), rest.1)
-      | inr replay ↦
-          let alike = turns_alike f replay.0 s log (frame f s).state replay.1 in
-          (λ i. grind (arith, alike i, rest.0 i), rest.1)
-    ]
-tells_run frames s logs u x = absurd x
-
-pub replays_tell : RunsAreComplete → ReplaysTellACompleteRun
-replays_tell complete frames s logs u sound x =
-    let tells = tells_run frames s logs u x in
-    record { complete = complete frames s sound; alike = tells.0; leaves = tells.1 }
+pub replays_tell : ReplaysTellTheSame
+replays_tell [] s [] tells i = refl
+replays_tell [] s (log ∷ logs) tells i = absurd tells
+replays_tell (f ∷ fs) s [] tells i = absurd tells
+replays_tell (f ∷ fs) s (log ∷ logs) tells i =
+    grind (arith, turns_alike f s log tells.0 i, replays_tell fs (frame f s).state logs tells.1 i)

@@ -1,10 +1,11 @@
 -- What holds of readers over every run.
-use Rattle.std.specs.Prelude.{◌≡◌, ℕ, ◌<◌, ◌≤◌, List, [], ◌∷◌, All, EachIndex, IsTrue, IsFalse, slice_index_or}
+use Rattle.std.specs.Prelude.{◌≡◌, ℕ, ◌<◌, ◌≤◌, List, All, EachIndex, IsTrue, IsFalse, slice_index_or}
+use Rattle.std.specs.List.{AllZip}
 use Rattle.msg_buffer.specs.Prelude.{IsSound}
 use Rattle.msg_order.specs.declared.rule.Rule.{Rule}
 use Rattle.msg_world.specs.Prelude.{WorldState}
 use Rattle.msg_system.specs.Prelude.{Meaning}
-use Rattle.msg_frames.specs.{declared.frame.Frame.Frame, declared.log.Log.Log, declared.place.Place.Place, Entries.no_totals, Frames.frame, Frames.run, Frames.State, Frames.UsesParts, Frames.has_begun, FirstState.IsNew, FirstState.before_joining, FirstState.first_state, FirstState.nobody, Replays.IsMixedRun, Replays.IsReplay, Replays.TellsACompleteRun, Soundness.IsBalanced, Soundness.IsSoundState, Soundness.NoCycle, CompleteRun.IsCompleteRun, Fates.answers_in, Tiling.reader_place}
+use Rattle.msg_frames.specs.{declared.frame.Frame.Frame, declared.log.Log.Log, declared.place.Place.Place, Entries.no_totals, Frames.frame, Frames.run, Frames.State, Frames.UsesParts, Frames.has_begun, FirstState.IsNew, FirstState.before_joining, FirstState.first_state, FirstState.nobody, Replays.TellsTheSame, Soundness.IsBalanced, Soundness.IsSoundState, Soundness.NoCycle, CompleteRun.IsCompleteRun, Fates.answers_in, Tiling.reader_place}
 
 -- ---- soundness
 
@@ -43,17 +44,12 @@ RunsAreComplete = (frames : List Frame) (s : State) → IsSoundState s → IsCom
 
 -- ---- replays
 
--- A replay tells each system what the frame tells it.
+-- Logs that tell the same as those of a run, as where frames were replayed, tell each system what
+-- the run tells it.
 abbrev pub ReplaysTellTheSame : Type 0
-ReplaysTellTheSame = (frame : Frame) (order : List ℕ) (s : State) (log : Log) (u : State)
-    → IsReplay frame order s log u → (i : ℕ)
-    → answers_in i (log ∷ []) ≡ answers_in i (run (frame ∷ []) s).logs
-
--- Frames of which some are replayed tell each system what a complete run of them tells it.
-abbrev pub ReplaysTellACompleteRun : Type 0
-ReplaysTellACompleteRun = (frames : List Frame) (s : State) (logs : List Log) (u : State)
-    → IsSoundState s
-    → IsMixedRun frames s logs u → TellsACompleteRun frames s logs u
+ReplaysTellTheSame = (frames : List Frame) (s : State) (logs : List Log)
+    → AllZip TellsTheSame logs (run frames s).logs → (i : ℕ)
+    → answers_in i logs ≡ answers_in i (run frames s).logs
 
 -- ---- accounts
 

@@ -3,7 +3,7 @@ use Rattle.std.specs.Prelude.{◌≡◌, ◌≢◌, ℕ, ◌<◌, ◌≤◌, ◌
 use Rattle.std.specs.List.{list_any}
 use Rattle.msg_buffer.specs.Prelude.{IsPresent, count, update}
 use Rattle.msg_system.specs.{Prelude.of_program, declared.op.Op.Op, declared.op.Op.TheVariants.Read, declared.op.Op.TheVariants.Forward, declared.op.Op.TheVariants.Sum, declared.program.Program.Program}
-use Rattle.msg_frames.specs.{declared.frame.Frame.Frame, declared.log.Log.Log, declared.log.Outcome.TheVariants.Skipped, Frames.frame, Frames.run, Frames.turn_order, Frames.State, Frames.after_turns_of, Frames.before_turns, Frames.has_begun, Soundness.IsSoundState, Soundness.NoCycle, Fates.log_entries, Tiling.reader_place}
+use Rattle.msg_frames.specs.{declared.frame.Frame.Frame, declared.log.Outcome.TheVariants.Skipped, CompleteRun.entries_in_run, Frames.frame, Frames.run, Frames.turn_order, Frames.State, Frames.after_turns_of, Frames.before_turns, Frames.has_begun, Soundness.IsSoundState, Soundness.NoCycle, Tiling.reader_place}
 
 -- the op reads the type without limit
 abbrev pub reads_all : ℕ → Op → Bool
@@ -32,10 +32,9 @@ abbrev pub IsUpToDate : State → ℕ → ℕ → Type 0
 IsUpToDate s i t = (n : ℕ) → reader_place s i t ≤ n → n < count (s.world.histories t)
     → IsPresent (update (s.world.histories t)) n
 
--- what the logs have of the reader misses nothing
-abbrev pub MissesNothing : ℕ → ℕ → State → List Log → Type 0
-MissesNothing i t s logs =
-    All (λ e. e.stretch.missed ≡ 0) (log_entries i t (s.members i).job.system logs)
+-- the entries of the reader in a run miss nothing
+abbrev pub MissesNothing : ℕ → ℕ → List Frame → State → Type 0
+MissesNothing i t frames s = All (λ e. e.stretch.missed ≡ 0) (entries_in_run i t frames s)
 
 -- ---- laws
 
@@ -63,7 +62,7 @@ WhoReadsAllIsUpToDate = (f : Frame) (s : State) (i t : ℕ) → IsSoundState s �
 abbrev pub WhoIsUpToDateMissesNothing : Type 0
 WhoIsUpToDateMissesNothing = (f : Frame) (s : State) (i t : ℕ) → IsSoundState s → t < s.types
     → IsTrue (has_begun s i) → IsUpToDate s i t → NothingDrained t s (frame f s).state
-    → MissesNothing i t s (run (f ∷ []) s).logs
+    → MissesNothing i t (f ∷ []) s
 
 -- A system that reads all of a type in each frame misses nothing of it after the first of them,
 -- unless it is drained.
@@ -71,7 +70,7 @@ abbrev pub WhoReadsEachFrameMissesNothing : Type 0
 WhoReadsEachFrameMissesNothing = (f : Frame) (frames : List Frame) (s : State) (i t : ℕ)
     → IsSoundState s → t < s.types → ReadsAllInEach i t (f ∷ frames) s
     → NothingDrained t s (run (f ∷ frames) s).state
-    → MissesNothing i t (frame f s).state (run frames (frame f s).state).logs
+    → MissesNothing i t frames (frame f s).state
 
 -- A system that has joined, has no conditions, and whose program of at most 64 ops reads the type
 -- without limit, reads all of it in a frame, and keeps its program.
