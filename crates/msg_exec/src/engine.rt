@@ -6,7 +6,7 @@ use crate::replay::{accepts_next, replay_one};
 use crate::spares::Spares;
 use crate::{BuildRefusal, Frame, Gate, Log, Place, RunFault, Workers};
 use msg_frames::reader_laws::{
-    first_states_are_sound, replays_tell_a_complete_run, runs_are_complete,
+    first_states_are_sound, replays_tell_the_same, runs_are_complete,
 };
 use msg_order::Rule;
 use msg_order::laws::fewer_systems_make_no_cycle;
@@ -287,7 +287,7 @@ impl<S: System> EngineOf<S> {
             → frame_number self.new ≡ frame_number self.old }
         ensures engine { IsEngine S.meaning self.new }
     {
-        replays_tell_a_complete_run();
+        replays_tell_the_same();
         runs_are_complete();
         let Some(core) = &self.core else {
             return Err(RunFault::Spoiled);

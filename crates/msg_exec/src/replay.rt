@@ -2,8 +2,8 @@
 ghost use Rattle.std.specs.Prelude.{◌≡◌, ◌<◌, ◌↔◌, All, IfOk, IsTrue, length};
 ghost use Rattle.msg_frames.specs.declared.frame.Frame.{Frame as FrameView};
 ghost use Rattle.msg_exec.specs.Prelude.{CoreStands, frame_count};
-ghost use Rattle.msg_exec.specs.inner.FrameSteps.{HasLeft};
-ghost use Rattle.msg_frames.specs.Prelude.{IsLawfulFor, IsReplay, State, frame as frame_of};
+ghost use Rattle.msg_exec.specs.inner.FrameSteps.{HasLeft, IsReplay};
+ghost use Rattle.msg_frames.specs.Prelude.{IsLawfulFor, State};
 
 use crate::batch::run_turns;
 use crate::engine_core::{Core, next_plan, open};
@@ -46,8 +46,8 @@ pub(crate) fn replay_one<S: System>(
     requires lawful { (s : State) → CoreStands S.meaning core s → frames ≡ frame_count s
         → IsLawfulFor frame.now s order.now }
     ensures replayed { IfOk result (λ r. (s : State) → CoreStands S.meaning core s
-        → frames ≡ frame_count s → HasLeft S.meaning
-        (IsReplay frame.now order.now s r.1 (frame_of frame.now s).state) frame.now s r.0) }
+        → frames ≡ frame_count s
+        → HasLeft S.meaning (IsReplay frame.now order.now s r.1) frame.now s r.0) }
 {
     states_stay_sound();
     frames_agree_in_lawful_orders();

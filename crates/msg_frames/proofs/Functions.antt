@@ -138,8 +138,11 @@ plan_turns s accesses g order uses are is turns =
 -- ---- frames and then others
 
 pub run_append : (fs gs : List Frame) (s : State) → run (fs ++ gs) s
-    ≡ record { state = (run gs (run fs s).state).state; logs = (run fs s).logs ++ (run gs (run fs s).state).logs;
-             steps = (run fs s).steps ++ (run gs (run fs s).state).steps }
+    ≡ record {
+      state = (run gs (run fs s).state).state;
+      logs = (run fs s).logs ++ (run gs (run fs s).state).logs;
+      steps = (run fs s).steps ++ (run gs (run fs s).state).steps;
+    }
 run_append [] gs s = refl
 run_append (f ∷ fs) gs s = grind (arith, append_assoc, run_append fs gs (frame f s).state)
 
@@ -149,8 +152,7 @@ pub run_more : (frames : List Frame) (f : Frame) (s : State) (logs : List Log) (
     × ((frame f m).state ≡ (run (frames ++ f ∷ []) s).state)
 run_more frames f s logs log m so_far one =
     let more = run_append frames (f ∷ []) s in
-    let last = λ (u : State) (e : m ≡ u). ap (λ (v : State). (frame f v).log) e in
-    (
+    let last = λ (u : State) (e : m ≡ u). ap (λ (v : State). (frame f v).log) e in (
       rw (so_far.0, one, last (run frames s).state so_far.1) (sym (ap (λ (r : AfterRun). r.logs) more)),
       ap (λ (v : State). (frame f v).state) so_far.1 ∙ sym (ap (λ (r : AfterRun). r.state) more),
     )

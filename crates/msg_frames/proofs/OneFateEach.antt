@@ -2,7 +2,7 @@
 use Rattle.std.proofs.Common.{◌≡◌, ◌⊎◌, ℕ, zero, suc, ◌+◌, ◌-◌, ◌≤◌, ◌<◌, ◌==◌, Bool, false, List, [], ◌∷◌, ◌++◌, length, map, filter, flat_map, Option, None, Some, Contains, cond, drop, get_or, is_some, unwrap_or, IfSome, refl, ap, arith, inl, inr, All, nat_lt, length-append}
 use Rattle.std.specs.{List.range_with_len, List.Sorted.IsStrictlyIncreasing}
 use Rattle.std.proofs.lemmas.{Bool.cases_Bool, Bool.cases_lt, Bool.Decides.nat_tests, List.map-append, List.Elements.All-head, List.Elements.All-tail, List.Elements.All-weaker, List.Kept.IsStrictlyIncreasing-filter, List.FromFn.length-range_with_len}
-use Rattle.msg_buffer.specs.Prelude.{History, IsPresent, count}
+use Rattle.msg_buffer.specs.Prelude.{History}
 use Rattle.msg_world.specs.declared.record.Record.{Record}
 use Rattle.msg_frames.specs.Prelude.{EachMeetsOneFate, Fate, IsGivenOnce, IsInOrderOf, IsTrueEntry, Meets, MeetsOneFate, Moment, ReadEntry, cleared, given, is_by, message_numbered, messages_given, missed, moments, numbers_at, numbers_missed, numbers_of, numbers_passed, numbers_told}
 use Rattle.msg_order.proofs.Elements.{Contains-range, range-Contains}
@@ -44,8 +44,7 @@ tell_once (e ∷ es) a b up is =
     let here = range_cut (numbers_missed e) (numbers_passed e) a (length (numbers_told e)) cut.1 in
     let behind : a + length (numbers_told e) ≡ past a e = omega (arith, both) in
     let more : b - a - length (numbers_told e) ≡ b - past a e = omega (arith, both, up) in
-    let rest = tell_once es (past a e) b (omega (arith, both, cut.0, up)) (rw (behind, more) at cut.2) in
-    (
+    let rest = tell_once es (past a e) b (omega (arith, both, cut.0, up)) (rw (behind, more) at cut.2) in (
       record {
         missed_there = grind (arith, first, here);
         passed_there = grind (arith, first, second, both, here);

@@ -21,9 +21,13 @@ run_further i t f fs s =
     let posts : List (ℕ × Step) = post_steps f.posts (after_update s.world) in
     let turns : List (ℕ × Step) = turns_steps (turn_order b) b in
     let rest : List (ℕ × Step) = (run fs (frame f s).state).steps in
-    rw (steps_of-append i (posts ++ turns) rest, steps_of-append i posts turns,
-    flat_map-append (moments_at t) (steps_of i posts ++ steps_of i turns) (steps_of i rest),
-    flat_map-append (moments_at t) (steps_of i posts) (steps_of i turns), posts_pass i t f.posts (after_update s.world)) refl
+    rw (
+      steps_of-append i (posts ++ turns) rest,
+      steps_of-append i posts turns,
+      flat_map-append (moments_at t) (steps_of i posts ++ steps_of i turns) (steps_of i rest),
+      flat_map-append (moments_at t) (steps_of i posts) (steps_of i turns),
+      posts_pass i t f.posts (after_update s.world),
+    ) refl
 
 pub run_tells : (i t : ℕ) (frames : List Frame) (s : State)
     → Tells i t s (answers_in i (run frames s).logs) (moments i t frames s) (run frames s).state

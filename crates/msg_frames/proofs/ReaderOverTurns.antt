@@ -57,8 +57,13 @@ turns_further : (i t j : ℕ) (js : List ℕ) (s : State)
 turns_further i t j js s =
     let xs : List Step = (after_job (s.members j).job s.world).steps in
     let ys : List (ℕ × Step) = turns_steps js (after_turn_of j s) in
-    grind (arith, cases_Bool, steps_of-append i (by_system j xs) ys, of_one i j xs,
-    flat_map-append (moments_at t) (steps_of i (by_system j xs)) (steps_of i ys))
+    grind (
+      arith,
+      cases_Bool,
+      steps_of-append i (by_system j xs) ys,
+      of_one i j xs,
+      flat_map-append (moments_at t) (steps_of i (by_system j xs)) (steps_of i ys),
+    )
 
 module _ (laws : BufferLaws) where
   pub turn_reads : (i t j : ℕ) (s : State) → IsSound (s.world.histories t)

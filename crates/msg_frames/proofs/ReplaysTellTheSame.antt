@@ -1,5 +1,5 @@
 -- Logs that tell the same tell each system the same.
-use Rattle.std.proofs.Common.{arith, eqb, ◌≡◌, ◌≢◌, ℕ, ◌==◌, inl, inr, List, [], ◌∷◌, ◌++◌, map, refl, ap, Bool, false, suc, AllPairs, Contains, IsPermutation, flat_map, if◌then◌else◌, All}
+use Rattle.std.proofs.Common.{arith, eqb, ◌≡◌, ◌≢◌, ℕ, ◌==◌, inl, inr, List, [], ◌∷◌, map, refl, Bool, false, suc, AllPairs, Contains, IsPermutation, flat_map, if◌then◌else◌, All}
 use Rattle.std.proofs.lemmas.{Bool.Decides.Decides-eqb, Map.Made.AllPairs-from_IsDistinct, Map.Made.IsDistinct-from_AllPairs, Map.Keys.IsDistinct-IsPermutation, List.Sorted.IsPermutation-map, List.Sorted.IsPermutation-sym, Bool.cases_Bool, Bool.eqb-true, Bool.Decides.eqb_tells, List.append-nil, List.get_or-map, List.length-map, List.Sorted.Contains-permutation, List.Sorted.list_any-IsPermutation, List.Folds.list_any_none}
 use Rattle.msg_frames.specs.Prelude.{Frame, Log, ReplaysTellTheSame, State, TellsTheSame, Turn, before_turns, frame, replies_of}
 use Rattle.msg_frames.specs.Frames.{turn_order}

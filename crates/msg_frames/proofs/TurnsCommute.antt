@@ -41,10 +41,13 @@ turn_footprint foot m = record {
   kept = (foot m.job).kept;
   same = λ parts v w within agree.
       let given = (foot m.job).same parts v w within agree in
-      λ k. (record m {
-        job = (given k).0;
-        totals = λ t. with_entries (same_entries m.job v w t (λ i. (given i).1) k) (m.totals t);
-      }, outcome_of (given k).1);
+      λ k. (
+        record m {
+          job = (given k).0;
+          totals = λ t. with_entries (same_entries m.job v w t (λ i. (given i).1) k) (m.totals t);
+        },
+        outcome_of (given k).1,
+      );
   alike = (foot m.job).alike;
 }
 

@@ -50,8 +50,13 @@ module _ (t : ℕ) where
   op_writes (Batch u vs) i places w =
       grind (arith, append-nil, cases_Bool, eqb_tells, wrote_more (w.histories u) (map (by i) vs))
   op_writes (Forward a u) i places w =
-      grind (arith, append-nil, cases_Bool, eqb_tells,
-      wrote_more (w.histories u) (again_by i (took (w.histories a) (places a) None).items))
+      grind (
+        arith,
+        append-nil,
+        cases_Bool,
+        eqb_tells,
+        wrote_more (w.histories u) (again_by i (took (w.histories a) (places a) None).items),
+      )
   op_writes (Drain u) i places w = grind (arith, append-nil, eqb_tells)
   op_writes op i places w = grind (arith, append-nil)
 

@@ -88,12 +88,15 @@ post_replies (p ∷ ps) w = write_reply (numbers_for (w.histories p.0) 1)
 -- the posts as steps, each a write by `HOST`
 abbrev pub post_steps : List (ℕ × ℤ) → WorldState → List (ℕ × Step)
 post_steps [] w = []
-post_steps (p ∷ ps) w = (HOST, record {
-  op = Write p.0 p.1;
-  places = λ t. 0;
-  world = w;
-  reply = write_reply (numbers_for (w.histories p.0) 1);
-}) ∷ post_steps ps (after_posts (p ∷ []) w)
+post_steps (p ∷ ps) w = (
+  HOST,
+  record {
+    op = Write p.0 p.1;
+    places = λ t. 0;
+    world = w;
+    reply = write_reply (numbers_for (w.histories p.0) 1);
+  },
+) ∷ post_steps ps (after_posts (p ∷ []) w)
 
 -- ---- turns
 

@@ -1,6 +1,6 @@
 -- What holds of turns, side by side and in other orders, and of frames. Each law is the contract of
 -- a function in src/laws.rt.
-use Rattle.std.specs.Prelude.{◌≡◌, ◌≢◌, ◌⊎◌, ℕ, suc, ◌<◌, List, [], ◌∷◌, ◌++◌, map, length, All, AllPairs, IsPermutation, IsTrue}
+use Rattle.std.specs.Prelude.{◌≡◌, ◌≢◌, ◌⊎◌, ℕ, suc, ◌<◌, List, [], ◌∷◌, ◌++◌, map, All, AllPairs, IsPermutation, IsTrue}
 use Rattle.std.specs.List.{concat}
 use Rattle.msg_buffer.specs.Prelude.{GoesOn, IsSound}
 use Rattle.msg_world.specs.{Prelude.Conflict, Prelude.merge, declared.access.Access.Access}

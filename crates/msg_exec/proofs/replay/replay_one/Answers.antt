@@ -1,4 +1,4 @@
-use Rattle.std.proofs.Common.{◌++◌, ◌∙◌, ap, refl}
+use Rattle.std.proofs.Common.{◌++◌, ◌∙◌, ap}
 use Rattle.std.proofs.lemmas.List.Elements.{Contains-get_or}
 use Rattle.msg_frames.specs.declared.log.Log.{Log}
 use Rattle.msg_frames.specs.Prelude.{after_turns_of, before_turns, State}
@@ -42,7 +42,6 @@ returns g c = record {
           turns = rw (ap (λ (l : Log). l.turns) told) alike.1.turns;
         };
         in_order = in_that_order frame order s _ told;
-        leaves = refl;
       })
       c.in_ok-run_turns.ensures.accesses;
 }

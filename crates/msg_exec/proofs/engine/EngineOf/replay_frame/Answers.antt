@@ -20,7 +20,7 @@ returns-clause-replayed g c s stands =
       lawful = replay.lawful;
       tells = replay.tells;
       in_order = replay.in_order;
-      alike = c.replays_tell_a_complete_run.ensures.replay frame c.args.order.now s _ _ replay;
+      alike = c.replays_tell_the_same.ensures.law (frame ∷ []) s (_ ∷ []) (replay.tells, tt);
       complete = c.runs_are_complete.ensures.law (frame ∷ []) s core.sound;
       stands =
           record { core = rw c.end_frame.ensures.core ran.stands; frames = omega (arith, stands.frames, ran.frames) };
