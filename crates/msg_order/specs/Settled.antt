@@ -35,7 +35,8 @@ batches_of (suc n) g (i ∷ is) = filter (λ k. not (follows g (i ∷ is) k)) (i
 abbrev pub those_joined : List Bool → List ℕ
 those_joined joined = filter (has_joined joined) (range_with_len 0 (length joined))
 
--- the batches of those that have joined
+-- The batches of those that have joined. As many as there are systems suffice: where no path leads
+-- back, each has one of those that are left at least.
 abbrev pub batches : Graph → List Bool → List (List ℕ)
 batches g joined = batches_of (length joined) g (those_joined joined)
 
