@@ -1,12 +1,12 @@
 -- What a reader goes past over a run of frames.
-use Rattle.std.proofs.Common.{arith, ◌≡◌, ℤ, ℕ, ◌<◌, List, [], ◌∷◌, ◌++◌, refl, ◌∙◌, IsTrue}
+use Rattle.std.proofs.Common.{arith, ◌≡◌, ℤ, ℕ, ◌<◌, List, [], ◌∷◌, ◌++◌, refl, ◌∙◌, IsTrue, if◌then◌else◌}
 use Rattle.std.proofs.lemmas.{Bool.cases_Bool, Grind.flat_map-append}
 use Rattle.msg_buffer.specs.Prelude.{GoesOn, History}
 use Rattle.msg_system.specs.Prelude.{Step}
 use Rattle.msg_world.specs.{Prelude.WorldState, Prelude.after_update, declared.record.Record.Record}
-use Rattle.msg_frames.specs.Prelude.{LogsTellEntries, ReadersTile, Frame, IsSoundState, frame, run, Moment, RunsAreComplete, State, after_posts, answers_in, before_turns, found_at, found_totals, has_begun, moments, reader_place, Totals, steps_of, turns_steps, post_steps, moments_at}
+use Rattle.msg_frames.specs.Prelude.{LogsTellEntries, ReadersTile, Frame, IsSoundState, frame, run, Moment, RunsAreComplete, State, after_posts, answers_in, before_turns, found_at, has_begun, moments, reader_place, Totals, steps_of, totals_from, turns_steps, post_steps, moments_at}
 use Rattle.msg_frames.specs.Frames.{turn_order}
-use Rattle.msg_frames.proofs.{TellsEachOnce.tiles_rise, TellsEachOnce.are_true, TellsEachOnce.tells_once, HistoriesGrow.BufferLaws, HistoriesGrow.goes_further, HistoriesGrow.stays, SystemsStay.before_keeps, SystemsStay.turns_keep, ReaderOverJob.passes_nothing, EntriesAddUp.with_entries-none, ReaderOverTurns.ReadsFrom, ReaderOverTurns.Tells, ReaderOverTurns.reads_further, ReaderOverTurns.steps_of-append, ReaderOverTurns.tells_further, ReaderOverTurns.tells_these, ReaderOverTurns.reads_these, ReaderOverJob.moments_of, ReaderOverTurns.turns_moments, ReaderOverTurns.turns_read, ReaderOverTurns.turns_skip, ReaderOverTurns.turns_tell, BeforeTurns.Prepares, BeforeTurns.comes, BeforeTurns.prepares, BeforeTurns.stood, BeforeTurns.waits, StatesStaySound.begun_alike, StatesStaySound.frame_sound, StatesStaySound.has_no_turn, StatesStaySound.prepared_sound, WrittenOnce.run_answered, WrittenOnce.run_writes}
+use Rattle.msg_frames.proofs.{TellsEachOnce.tiles_rise, TellsEachOnce.are_true, TellsEachOnce.tells_once, HistoriesGrow.BufferLaws, HistoriesGrow.goes_further, HistoriesGrow.stays, SystemsStay.before_keeps, SystemsStay.turns_keep, ReaderOverJob.passes_nothing, EntriesAddUp.with_entries-none, ReaderOverTurns.ReadsFrom, ReaderOverTurns.Tells, ReaderOverTurns.reads_further, ReaderOverTurns.steps_of-append, ReaderOverTurns.tells_further, ReaderOverTurns.tells_these, ReaderOverTurns.reads_these, ReaderOverJob.moments_of, ReaderOverTurns.turns_moments, ReaderOverTurns.turns_read, ReaderOverTurns.turns_skip, ReaderOverTurns.turns_tell, BeforeTurns.Prepares, BeforeTurns.comes, BeforeTurns.prepares, BeforeTurns.stood, BeforeTurns.waits, StatesStaySound.begun_alike, StatesStaySound.frame_sound, StatesStaySound.has_no_turn, StatesStaySound.prepared_sound, WrittenOnce.run_writes}
 
 -- what the host posts goes past nothing
 posts_pass : (i t : ℕ) (posts : List (ℕ × ℤ)) (w : WorldState) → moments_of t (steps_of i (post_steps posts w)) ≡ []
@@ -47,6 +47,10 @@ reads_since : (i t place : ℕ) (had : Totals) (a b : History Record) (ms : List
     → ReadsFrom i t place had b ms u → ReadsFrom i t place had a ms u
 reads_since i t place had a b ms u goes x = grind (arith, goes_further)
 
+-- the totals with which a run from s to u finds a reader: those that it has, or new ones where it joins
+abbrev found_totals : State → State → ℕ → ℕ → Totals
+found_totals s u i t = if has_begun s i then (s.members i).totals t else totals_from (found_at s u i t)
+
 -- Reader (i, t) goes past these moments between two states, from where it was found.
 abbrev pub Follows : ℕ → ℕ → State → List Moment → State → Type 0
 Follows i t s ms u = ReadsFrom i t (found_at s u i t) (found_totals s u i t) (s.world.histories t) ms u
@@ -85,7 +89,6 @@ module _ (laws : BufferLaws) (i t : ℕ) where
 pub runs_are_complete : BufferLaws → RunsAreComplete
 runs_are_complete laws frames s sound = record {
   written = λ t. run_writes t laws frames s sound;
-  answered = run_answered frames s;
   served = λ i t below has.
       let ms : List Moment = moments i t frames s in
       let reads = run_follows laws i t frames s sound below has in

@@ -3,7 +3,7 @@ use Rattle.std.specs.Prelude.{◌≡◌, ℕ, ◌<◌, ◌≤◌, ◌+◌, ◌-�
 use Rattle.std.specs.List.{range_with_len}
 use Rattle.msg_buffer.specs.Prelude.{History, IsPresent, count}
 use Rattle.msg_world.specs.declared.record.Record.{Record}
-use Rattle.msg_frames.specs.{declared.frame.Frame.Frame, declared.totals.Totals.Totals, Entries.ReadEntry, Entries.numbers_missed, Entries.numbers_passed, Entries.numbers_told, Entries.totals_from, Entries.with_entries, Frames.run, Frames.State, Frames.has_begun, Steps.AreAnswered, Steps.IsWrittenOnce, Tiling.found_at, Tiling.moments, Tiling.reader_place, Tiling.Moment}
+use Rattle.msg_frames.specs.{declared.frame.Frame.Frame, declared.totals.Totals.Totals, Entries.ReadEntry, Entries.numbers_missed, Entries.numbers_passed, Entries.numbers_told, Entries.totals_from, Entries.with_entries, Frames.run, Frames.State, Frames.has_begun, Steps.IsWrittenOnce, Tiling.found_at, Tiling.moments, Tiling.reader_place, Tiling.Moment}
 
 -- ---- what an entry says
 
@@ -30,12 +30,6 @@ pub record IsTrueEntry (last : History Record) (m : Moment) : Type 0 where
 abbrev pub entries_in_run : ℕ → ℕ → List Frame → State → List ReadEntry
 entries_in_run i t frames s = map (λ m. m.entry) (moments i t frames s)
 
--- The totals with which a run from s to u finds a reader: those that it has, or new ones where it
--- joins.
-abbrev pub found_totals : State → State → ℕ → ℕ → Totals
-found_totals s u i t = if has_begun s i then (s.members i).totals t
-    else totals_from (found_at s u i t)
-
 -- What a run did for the reader of type t in system i, from where it was found to its place at the
 -- end.
 pub record IsServed (i t : ℕ) (frames : List Frame) (s : State) : Type 0 where
@@ -46,17 +40,16 @@ pub record IsServed (i t : ℕ) (frames : List Frame) (s : State) : Type 0 where
       (reader_place (run frames s).state i t - found_at s (run frames s).state i t)
   -- each is true
   pub true : All (IsTrueEntry ((run frames s).state.world.histories t)) (moments i t frames s)
-  -- and its totals count what they tell
+  -- and its totals count what they tell, from those that it had, or new ones where it joined
   pub totals : ((run frames s).state.members i).totals t
-      ≡ with_entries (entries_in_run i t frames s) (found_totals s (run frames s).state i t)
+      ≡ with_entries (entries_in_run i t frames s) (if has_begun s i then (s.members i).totals t
+      else totals_from (found_at s (run frames s).state i t))
 
 -- What a run comes to.
 pub record IsCompleteRun (frames : List Frame) (s : State) : Type 0 where
   -- each type's list grew by exactly what was written: each message once, under the number that was
   -- told
   pub written : (t : ℕ) → IsWrittenOnce t s.world (run frames s).steps (run frames s).state.world
-  -- and what was answered is what the logs say
-  pub answered : AreAnswered frames s
   -- and each reader was served that has joined by the end
   pub served : (i t : ℕ) → t < s.types → IsTrue (has_begun (run frames s).state i)
       → IsServed i t frames s

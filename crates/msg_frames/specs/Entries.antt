@@ -1,10 +1,10 @@
 -- What the replies of a system tell of its readers: what each read and each clear went past. A
 -- reader is a system and a type that it reads.
-use Rattle.std.specs.Prelude.{ℕ, ◌+◌, ◌-◌, ◌==◌, false, Bool, List, [], ◌++◌, length, flat_map, Option, Some, None, is_some, option_to_list, if◌then◌else◌}
+use Rattle.std.specs.Prelude.{ℕ, ◌+◌, ◌-◌, false, Bool, List, [], ◌++◌, length, flat_map, Option, Some, None, is_some, option_to_list, if◌then◌else◌}
 use Rattle.std.specs.List.{range_with_len}
 use Rattle.msg_buffer.specs.Prelude.{Stretch}
-use Rattle.msg_world.specs.declared.record.Record.{Record}
-use Rattle.msg_system.specs.{Prelude.Step, Prelude.type_read, declared.op.Op.Op, declared.reply.Reply.Reply, declared.reply.Reply.TheVariants.Read, declared.reply.Reply.TheVariants.Cleared, declared.reply.Reply.TheVariants.Forwarded, declared.reply.Reply.TheVariants.Summed, declared.reply.Took.Took}
+use Rattle.msg_world.specs.{Prelude.OfType, Prelude.same_part, declared.record.Record.Record}
+use Rattle.msg_system.specs.{Prelude.Step, Prelude.op_parts, declared.op.Op.Op, declared.reply.Reply.Reply, declared.reply.Reply.TheVariants.Read, declared.reply.Reply.TheVariants.Cleared, declared.reply.Reply.TheVariants.Forwarded, declared.reply.Reply.TheVariants.Summed, declared.reply.Took.Took}
 use Rattle.msg_frames.specs.{declared.totals.Totals.Totals}
 
 -- What a reader went past by one op: a stretch of messages, which it was given, or which it
@@ -32,7 +32,7 @@ entry_of _ = None
 
 -- the op reads the type
 abbrev pub op_reads_type : ℕ → Op → Bool
-op_reads_type t op = elim (type_read op) [ None ↦ false | Some u ↦ u == t ]
+op_reads_type t op = elim (op_parts op).read [ None ↦ false | Some p ↦ same_part p (OfType t) ]
 
 -- the entry of an op for a type
 abbrev pub entry_for : ℕ → Op → Reply → List ReadEntry

@@ -50,12 +50,11 @@ job_begun counts j = record {
   conditions = map (asked_started j.system.start counts) j.conditions;
 }
 
--- A system joins: its cursors and those of its conditions stand where they start, and its accounts
--- begin there.
+-- a system that joins: its cursors stand where they start, and its accounts begin there
 abbrev pub joined_member : List ℕ → Member → Member
 joined_member counts m = record m {
   job = job_begun counts m.job;
-  totals = λ t. totals_from ((after_start counts m.job.system).places t);
+  totals = λ t. totals_from ((job_begun counts m.job).system.places t);
 }
 
 -- those that join with frame k have joined
@@ -79,12 +78,6 @@ after_posts [] w = w
 after_posts (p ∷ ps) w =
     after_posts ps (with_history w p.0 (write (by HOST p.1 ∷ []) (w.histories p.0)))
 
--- what the posts are answered
-abbrev pub post_replies : List (ℕ × ℤ) → WorldState → List Reply
-post_replies [] w = []
-post_replies (p ∷ ps) w = write_reply (numbers_for (w.histories p.0) 1)
-    ∷ post_replies ps (after_posts (p ∷ []) w)
-
 -- the posts as steps, each a write by `HOST`
 abbrev pub post_steps : List (ℕ × ℤ) → WorldState → List (ℕ × Step)
 post_steps [] w = []
@@ -98,6 +91,10 @@ post_steps (p ∷ ps) w = (
   },
 ) ∷ post_steps ps (after_posts (p ∷ []) w)
 
+-- what the posts are answered
+abbrev pub post_replies : List (ℕ × ℤ) → WorldState → List Reply
+post_replies posts w = map (λ x. x.1.reply) (post_steps posts w)
+
 -- ---- turns
 
 -- what came of a job
@@ -105,42 +102,29 @@ abbrev pub outcome_of : Option (List Reply) → Outcome
 outcome_of None = Skipped
 outcome_of (Some replies) = Ran replies
 
--- What a system's turn leaves of it and of the world, and what came of it.
-pub record AfterTurn : Type 0 where
-  pub member : Member
-  pub world : WorldState
-  pub outcome : Outcome
+-- what the turn of system i comes to: it does its job
+abbrev pub turn_of : State → ℕ → AfterJob
+turn_of s i = after_job (s.members i).job s.world
 
--- a member's turn: it does its job, and its totals count the entries of that
-abbrev pub member_turn : Member → WorldState → AfterTurn
-member_turn m w =
-    let after : AfterJob = after_job m.job w in
-    record {
-      member =
-          record m {
-            job = after.job;
-            totals = λ t. with_entries (entries_at t after.steps) (m.totals t);
-          };
-      world = after.state;
-      outcome = outcome_of after.replies;
+-- a member after its turn, whose totals count the entries of that
+abbrev pub member_after : AfterJob → Member → Member
+member_after done m =
+    record m {
+      job = done.job;
+      totals = λ t. with_entries (entries_at t done.steps) (m.totals t);
     }
-
--- the turn of system i
-abbrev pub turn_of : State → ℕ → AfterTurn
-turn_of s i = member_turn (s.members i) s.world
-
--- the members, with another one as number i
-abbrev pub with_member : (ℕ → Member) → ℕ → Member → ℕ → Member
-with_member members i m = λ k. if k == i then m else members k
 
 -- the state after the turn of system i
 abbrev pub after_turn_of : ℕ → State → State
 after_turn_of i s =
-    record s { members = with_member s.members i (turn_of s i).member; world = (turn_of s i).world }
+    record s {
+      members = λ k. if k == i then member_after (turn_of s i) (s.members i) else s.members k;
+      world = (turn_of s i).state;
+    }
 
--- what the log says of the turn of system i
+-- what the log says of it
 abbrev pub logged_turn : State → ℕ → Turn
-logged_turn s i = record { system = i; outcome = (turn_of s i).outcome }
+logged_turn s i = record { system = i; outcome = outcome_of (turn_of s i).replies }
 
 -- What the turns of some systems leave, and the log of them.
 pub record AfterTurns : Type 0 where
@@ -162,7 +146,7 @@ by_system i xs = map (λ x. (i, x)) xs
 abbrev pub turns_steps : List ℕ → State → List (ℕ × Step)
 turns_steps [] s = []
 turns_steps (i ∷ is) s =
-    by_system i (after_job (s.members i).job s.world).steps ++ turns_steps is (after_turn_of i s)
+    by_system i (turn_of s i).steps ++ turns_steps is (after_turn_of i s)
 
 -- ---- a frame
 
@@ -192,7 +176,7 @@ frame_in order frame s =
 
 -- what a member's job needs: its system and its conditions
 abbrev pub member_needs : Member → Needs
-member_needs m = with_conditions m.job.system.needs (conditions_of m.job)
+member_needs m = with_conditions m.job.system.needs (map (λ a. a.condition) m.job.conditions)
 
 -- the accesses of the systems, in order of addition
 pub record AreAccessesOf (s : State) (accesses : List Access) : Type 0 where

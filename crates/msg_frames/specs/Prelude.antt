@@ -1,11 +1,11 @@
 -- Hands on the definitions cited elsewhere. The declared types serve this crate's proofs alone.
 pub use Rattle.msg_frames.specs.Accounts.{AddsUp, account_of, accounts_of, accounts_of_system, is_reader}
-pub use Rattle.msg_frames.specs.CompleteRun.{IsCompleteRun, IsServed, IsTrueEntry, entries_in_run, found_totals, message_numbered}
+pub use Rattle.msg_frames.specs.CompleteRun.{IsCompleteRun, IsServed, IsTrueEntry, entries_in_run, message_numbered}
 pub use Rattle.msg_frames.specs.Fates.{EachMeetsOneFate, Fate, GivesItsStretch, IsGivenOnce, IsInOrderOf, IsServedEach, IsTiled, LogsTellEntries, Meets, MeetsOneFate, ReadersTile, answers_in, cleared, given, is_by, log_entries, messages_given, messages_of, missed, numbers_at, numbers_of}
 pub use Rattle.msg_frames.specs.Entries.{ReadEntry, entries_at, entry_for, entry_of, entry_of_read, no_totals, numbers_cleared, numbers_given, numbers_missed, numbers_passed, numbers_told, totals_from, with_entries}
 pub use Rattle.msg_frames.specs.FirstState.{IsNew, first_state, new_job, nobody, nowhere, before_joining, waiting_member}
-pub use Rattle.msg_frames.specs.Frames.{by_system, post_steps, turns_steps, AfterFrame, AfterRun, UsesParts, are_in_conflict, frame, needs_conflict, run, AfterTurn, AfterTurns, AreAccessesOf, Member, State, after_posts, after_turn_of, after_turns_of, before_turns, counts, frame_in, has_begun, job_begun, join_flags, joined_member, after_joining, logged_turn, member_turn, member_needs, outcome_of, post_replies, turn_order_in, turn_of, with_joining, with_member}
-pub use Rattle.msg_frames.specs.ReaderLaws.{AccountsBalance, AreNew, FirstIsSound, FrameStaysSound, NoneBeforeJoining, ReplaysTellTheSame, RunStaysSound, RunsAreComplete}
+pub use Rattle.msg_frames.specs.Frames.{by_system, post_steps, turns_steps, AfterFrame, AfterRun, UsesParts, are_in_conflict, frame, needs_conflict, run, AfterTurns, AreAccessesOf, Member, State, after_posts, after_turn_of, after_turns_of, before_turns, counts, frame_in, has_begun, job_begun, join_flags, joined_member, member_after, after_joining, logged_turn, member_needs, outcome_of, post_replies, turn_order_in, turn_of, with_joining}
+pub use Rattle.msg_frames.specs.ReaderLaws.{AccountsBalance, AllAreAnswered, AreNew, FirstIsSound, FrameStaysSound, NoneBeforeJoining, ReplaysTellTheSame, RunStaysSound, RunsAreComplete}
 pub use Rattle.msg_frames.specs.Replays.{IsLawfulFor, TellsTheSame}
 pub use Rattle.msg_frames.specs.Rows.{Setup, alone, conditions_frames, contrary, contrary_frames, drained, drained_frames, early_frames, echo, echo_frames, fourth, fourth_frames, gated, gated_frames, lag, lag_frames, late, late_frames, systems_numbered, program, relay, relay_frames, signallers, signallers_frames, setup_state, tally, tally_frames, two_conditions, writers, writers_frames}
 pub use Rattle.msg_frames.specs.Soundness.{IsBalanced, IsSoundState, NoCycle}
@@ -13,7 +13,7 @@ pub use Rattle.msg_frames.specs.Steps.{AreAnswered, IsWrittenOnce, all_written, 
 pub use Rattle.msg_frames.specs.Tiling.{Moment, found_at, moments, moments_at, reader_place}
 unfoldable pub use Rattle.msg_frames.specs.Frames.{parts, settled_order, turn_order}
 pub use Rattle.msg_frames.specs.LogEntries.{entries_for, entries_told, ops_by, outcome_entries}
-pub use Rattle.msg_frames.specs.TurnLaws.{AreOrdered, OrderIsSettled, TurnsAreInOrder, BatchesRunSideBySide, FrameKeeps, FramesAgreeInLawfulOrders, FramesKeepSystems, FramesRunByBatches, LawfulOrdersAgree, ListsOnlyGrow, SameMember, SameSystems, SameSystemsHaveSameAccesses, TurnsKeepSystems, TurnsOfOthersCommute, all_home, by_batches, home}
+pub use Rattle.msg_frames.specs.TurnLaws.{AreOrdered, OrderIsSettled, TurnsAreInOrder, BatchesRunSideBySide, FrameKeeps, FramesAgreeInLawfulOrders, FramesKeepSystems, FramesRunByBatches, LawfulOrdersAgree, ListsOnlyGrow, SameMember, SameSystems, SameSystemsHaveSameAccesses, TurnsKeepSystems, TurnsOfOthersCommute, all_home, by_batches, home, with_member}
 pub use Rattle.msg_frames.specs.UpToDate.{IsUpToDate, MissesNothing, NothingDrained, ReadsAll, ReadsAllInEach, WhoIsUpToDateMissesNothing, WhoReadsAllCatchesUp, WhoReadsAllHasTheFrameBefore, WhoReadsAllIsUpToDate, WhoReadsEachFrameMissesNothing, WhoseProgramReadsAll, reads_all}
 pub use Rattle.msg_frames.specs.declared.frame.Frame.{Frame}
 pub use Rattle.msg_frames.specs.declared.log.Log.{Log}

@@ -1,12 +1,12 @@
 -- What holds of turns, side by side and in other orders, and of frames. Each law is the contract of
 -- a function in src/laws.rt.
-use Rattle.std.specs.Prelude.{◌≡◌, ◌≢◌, ◌⊎◌, ℕ, suc, ◌<◌, List, [], ◌∷◌, ◌++◌, map, All, AllPairs, IsPermutation, IsTrue}
+use Rattle.std.specs.Prelude.{◌≡◌, ◌≢◌, ◌⊎◌, ℕ, suc, ◌<◌, List, [], ◌∷◌, ◌++◌, map, All, AllPairs, IsPermutation, IsTrue, ◌==◌, if◌then◌else◌}
 use Rattle.std.specs.List.{concat}
 use Rattle.msg_buffer.specs.Prelude.{GoesOn, IsSound}
 use Rattle.msg_world.specs.{Prelude.Conflict, Prelude.merge, declared.access.Access.Access}
 use Rattle.msg_order.specs.Prelude.{AreBatches, Graph, IsAcyclic, IsLawfulOrder, IsSettledOrder, IsTurnOrder, NoneConflict, Path, access_of, batches, has_joined}
 use Rattle.msg_system.specs.Prelude.{conditions_of}
-use Rattle.msg_frames.specs.{declared.frame.Frame.Frame, Frames.AfterTurns, Frames.AreAccessesOf, Frames.UsesParts, Frames.are_in_conflict, Frames.frame, Frames.settled_order, Frames.turn_order, Replays.IsLawfulFor, Replays.TellsTheSame, Frames.after_turn_of, Frames.after_turns_of, Frames.before_turns, Frames.frame_in, Frames.run, Frames.after_joining, Frames.logged_turn, Frames.turn_of, Frames.with_joining, Frames.with_member, Frames.Member, Frames.State, Frames.join_flags, Soundness.NoCycle}
+use Rattle.msg_frames.specs.{declared.frame.Frame.Frame, Frames.AfterTurns, Frames.AreAccessesOf, Frames.UsesParts, Frames.are_in_conflict, Frames.frame, Frames.settled_order, Frames.turn_order, Replays.IsLawfulFor, Replays.TellsTheSame, Frames.after_turn_of, Frames.after_turns_of, Frames.before_turns, Frames.frame_in, Frames.run, Frames.after_joining, Frames.logged_turn, Frames.turn_of, Frames.with_joining, Frames.member_after, Frames.Member, Frames.State, Frames.join_flags, Soundness.NoCycle}
 
 -- ---- what stays
 
@@ -64,11 +64,15 @@ TurnsOfOthersCommute = (s : State) (accesses : List Access) (i j : ℕ) → AreA
     × (logged_turn (after_turn_of j s) i ≡ logged_turn s i)
     × (after_turn_of j (after_turn_of i s) ≡ after_turn_of i (after_turn_of j s))
 
+-- the members, with another one as number i
+abbrev pub with_member : (ℕ → Member) → ℕ → Member → ℕ → Member
+with_member members i m = λ k. if k == i then m else members k
+
 -- the state s with system i as its turn on the state `start` left it, and with what that wrote
 abbrev pub home : List Access → State → ℕ → State → State
 home accesses start i s = record s {
-  members = with_member s.members i (turn_of start i).member;
-  world = merge (access_of accesses i) (turn_of start i).world s.world;
+  members = with_member s.members i (member_after (turn_of start i) (start.members i));
+  world = merge (access_of accesses i) (turn_of start i).state s.world;
 }
 
 -- the state s with each of these as its turn on the state `start` left it, and what that wrote

@@ -1,5 +1,5 @@
 //! Laws of readers: facts that hold of every run of frames.
-ghost use Rattle.msg_frames.specs.Prelude.{AccountsBalance, EachMeetsOneFate, FirstIsSound, FrameStaysSound, LogsTellEntries, NoneBeforeJoining, ReadersTile, ReplaysTellTheSame, RunStaysSound, RunsAreComplete, WhoIsUpToDateMissesNothing, WhoReadsAllCatchesUp, WhoReadsAllHasTheFrameBefore, WhoReadsAllIsUpToDate, WhoReadsEachFrameMissesNothing, WhoseProgramReadsAll};
+ghost use Rattle.msg_frames.specs.Prelude.{AccountsBalance, AllAreAnswered, EachMeetsOneFate, FirstIsSound, FrameStaysSound, LogsTellEntries, NoneBeforeJoining, ReadersTile, ReplaysTellTheSame, RunStaysSound, RunsAreComplete, WhoIsUpToDateMissesNothing, WhoReadsAllCatchesUp, WhoReadsAllHasTheFrameBefore, WhoReadsAllIsUpToDate, WhoReadsEachFrameMissesNothing, WhoseProgramReadsAll};
 
 use msg_buffer::laws::{histories_only_grow, readers_tile};
 use msg_system::a_program_is_its_ops_in_order;
@@ -22,9 +22,11 @@ pub fn first_states_are_sound()
 /// Every run is complete. Each type's list grew by exactly what the steps tell was written, each
 /// message once, under the number that was told. From where the run found a reader to where it
 /// stands at the end, its entries tell each number once, in order: those that it went past, and
-/// those that it missed since they had been dropped unread. What it was given is what is there.
+/// those that it missed since they had been dropped unread. What it was given is what is there. The
+/// steps' replies are those of the logs.
 pub fn runs_are_complete()
     ensures law { RunsAreComplete }
+    ensures answered { AllAreAnswered }
 {
     histories_only_grow::<Record>();
     readers_tile::<Record>();

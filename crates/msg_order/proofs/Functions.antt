@@ -3,7 +3,7 @@ use Rattle.std.proofs.Common.{◌≡◌, ℕ, zero, suc, ◌<◌, ◌≤◌, Boo
 use Rattle.std.specs.List.{concat, range_with_len}
 use Rattle.std.proofs.lemmas.{Bool.cases_Bool, Bool.cases_eq, Bool.and_parts, Bool.and_from, Bool.false≢true, Bool.Decides.eqb_tells, List.append-nil, List.Elements.Contains-append_cases, List.Filters.length-filter_both, List.FromFn.length-range_with_len, List.FromFn.get_or-range_with_len, List.Kept.AllPairs-filter}
 use Rattle.msg_world.specs.{declared.access.Access.Access}
-use Rattle.msg_order.specs.Prelude.{AreBatches, AreInConflict, Graph, IsAcyclic, IsAmong, IsSettledOrder, IsTurnOrder, Path, Rule, RunsBefore, TellsConflicts, Settles, batches, batches_of, both_joined, edges_of, follows, has_joined, pairs, path, rules_among, settle, settled, those_joined, turns}
+use Rattle.msg_order.specs.Prelude.{AreBatches, AreInConflict, Graph, IsAcyclic, IsAmong, IsSettledOrder, IsTurnOrder, Path, Rule, RunsBefore, TellsConflicts, Settles, batches, batches_of, edges_of, follows, has_joined, pairs, path, rules_among, settle, settled, turns}
 use Rattle.msg_order.proofs.{Elements.filter-Contains, Elements.Contains-filter, Elements.list_any-Contains, Elements.Contains-list_any, Elements.Contains-cases, Elements.Contains-head, Elements.Contains-range, Elements.not_in_none, PathTest.no_Path, PathTest.no_path, PathTest.path_trans, SettledPairs.Contains-pairs, SettledPairs.pairs-Contains, SettledPairs.settles_covers, SettledPairs.settles_keeps, SettledPairs.settles_once, PathTest.to_Path, BatchLevels.TellsBlocked, BatchLevels.LeadAmong, BatchLevels.ArePeeled, BatchLevels.peeled_first, BatchLevels.peeled_next, BatchLevels.peeled_all, BatchLevels.peeled_done, BatchLevels.left_falls, Chains.number_rises, Chains.path_among, SetPaths.joined_in, TurnOrders.in_turn_order, TurnOrders.pairs_append, Uniqueness.same_ordered}
 
 -- ---- the settled order
@@ -18,15 +18,15 @@ pub settled_is : (accesses : List Access) (rules : List Rule) (joined : List Boo
     → length joined ≡ length accesses → TellsConflicts accesses joined conflict
     → IsSettledOrder accesses rules joined (settled conflict rules joined)
 settled_is accesses rules joined conflict len tells =
-    rw (← len) (settle_is (AreInConflict accesses joined) (λ i j. both_joined joined i j && conflict i j)
+    rw (← len) (settle_is (AreInConflict accesses joined) (λ i j. (has_joined joined i && has_joined joined j) && conflict i j)
     (λ i j. grind (arith, tells i j, and_parts, and_from)) (pairs (length joined)) (rules_among joined rules))
 
 -- it leads only among those that have joined, and without a cycle where the rules make none
 settled_by : (rules : List Rule) (joined : List Bool) (conflict : ℕ → ℕ → Bool)
-    → Settles (λ i j. IsTrue (both_joined joined i j && conflict i j)) (rules_among joined rules) (pairs (length joined))
+    → Settles (λ i j. IsTrue ((has_joined joined i && has_joined joined j) && conflict i j)) (rules_among joined rules) (pairs (length joined))
     (settled conflict rules joined)
 settled_by rules joined conflict =
-    settle_is (λ i j. IsTrue (both_joined joined i j && conflict i j)) (λ i j. both_joined joined i j && conflict i j)
+    settle_is (λ i j. IsTrue ((has_joined joined i && has_joined joined j) && conflict i j)) (λ i j. (has_joined joined i && has_joined joined j) && conflict i j)
     (λ i j. (λ t. t, λ t. t)) (pairs (length joined)) (rules_among joined rules)
 
 pub settled_among : (rules : List Rule) (joined : List Bool) (conflict : ℕ → ℕ → Bool)
@@ -55,6 +55,10 @@ settled_orders rules joined conflict i j lt at_i at_j is =
     (Contains-pairs (length joined) i j lt (joined_in joined j at_j)) (and_from _ _ (and_from _ _ at_i at_j) is)
 
 -- ---- batches
+
+-- those that have joined, by addition
+abbrev joined_from : List Bool → List ℕ
+joined_from joined = filter (has_joined joined) (range_with_len 0 (length joined))
 
 filter_twice : (p q : ℕ → Bool) (xs : List ℕ) → filter q (filter p xs) ≡ filter (λ i. p i && q i) xs
 filter_twice p q [] = refl
@@ -117,7 +121,7 @@ module _ (g : Graph) (joined : List Bool) (free : IsAcyclic g) (lead : LeadAmong
 pub batches_are : (g : Graph) (joined : List Bool) → IsAmong joined g → IsAcyclic g
     → AreBatches g joined (batches g joined)
 batches_are g joined among free =
-    peels g joined free among (length joined) (has_joined joined) (those_joined joined) []
+    peels g joined free among (length joined) (has_joined joined) (joined_from joined) []
     (peeled_first g (has_joined joined)) (joined_in joined) refl
     (omega (arith, length-filter_both (has_joined joined) (λ i. not (has_joined joined i)) (λ i. refl) (range_with_len 0 (length joined)), length-range_with_len 0 (length joined)))
 
@@ -142,7 +146,7 @@ batches_within (suc n) g (x ∷ xs) i at =
 pub turns_joined : (g : Graph) (joined : List Bool) (i : ℕ) → Contains (turns g joined) i → IsTrue (has_joined joined i)
 turns_joined g joined i at =
     (filter-Contains (has_joined joined) (range_with_len 0 (length joined)) i
-    (batches_within (length joined) g (those_joined joined) i at)).1
+    (batches_within (length joined) g (joined_from joined) i at)).1
 
 batches_differ : (n : ℕ) (g : Graph) (left : List ℕ) → AllPairs (λ i j. i ≢ j) left
     → AllPairs (λ i j. i ≢ j) (concat (batches_of n g left))
@@ -163,7 +167,7 @@ batches_differ (suc n) g (x ∷ xs) once =
 -- none has two turns
 pub turns_differ : (g : Graph) (joined : List Bool) → AllPairs (λ i j. i ≢ j) (turns g joined)
 turns_differ g joined =
-    batches_differ (length joined) g (those_joined joined)
+    batches_differ (length joined) g (joined_from joined)
     (AllPairs-filter (λ i j. i ≢ j) (has_joined joined) (range_with_len 0 (length joined))
     (λ i j d lt l. grind (arith, get_or-range_with_len, length-range_with_len)))
 

@@ -10,13 +10,10 @@ settle conflict g [] = g
 settle conflict g (p ∷ ps) =
     settle conflict (if conflict p.0 p.1 && not (path g p.1 p.0) then p ∷ g else g) ps
 
--- both have joined
-abbrev pub both_joined : List Bool → ℕ → ℕ → Bool
-both_joined joined i j = has_joined joined i && has_joined joined j
-
 -- The settled order of those that have joined: their rules, and then the pairs of them in conflict.
 abbrev pub settled : (ℕ → ℕ → Bool) → List Rule → List Bool → Graph
-settled conflict rules joined = settle (λ i j. both_joined joined i j && conflict i j)
+settled conflict rules joined =
+    settle (λ i j. (has_joined joined i && has_joined joined j) && conflict i j)
     (rules_among joined rules) (pairs (length joined))
 
 -- one of these comes before i
@@ -31,14 +28,11 @@ batches_of (suc n) g [] = []
 batches_of (suc n) g (i ∷ is) = filter (λ k. not (follows g (i ∷ is) k)) (i ∷ is)
     ∷ batches_of n g (filter (follows g (i ∷ is)) (i ∷ is))
 
--- those that have joined, by addition
-abbrev pub those_joined : List Bool → List ℕ
-those_joined joined = filter (has_joined joined) (range_with_len 0 (length joined))
-
 -- The batches of those that have joined. As many as there are systems suffice: where no path leads
 -- back, each has one of those that are left at least.
 abbrev pub batches : Graph → List Bool → List (List ℕ)
-batches g joined = batches_of (length joined) g (those_joined joined)
+batches g joined = batches_of (length joined) g
+    (filter (has_joined joined) (range_with_len 0 (length joined)))
 
 -- the turn order: batch after batch, each by addition
 abbrev pub turns : Graph → List Bool → List ℕ
