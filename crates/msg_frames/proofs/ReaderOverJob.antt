@@ -1,5 +1,5 @@
 -- What a reader goes past by an op, by a turn and by a job.
-use Rattle.std.proofs.Common.{◌≡◌, ◌+◌, ℕ, zero, suc, ◌≤◌, List, [], ◌∷◌, ◌++◌, map, All, Option, None, Some, refl, sym, ap, ◌∙◌, arith, cond, flat_map, ◌==◌}
+use Rattle.std.proofs.Common.{◌≡◌, ◌+◌, ℕ, zero, suc, ◌≤◌, List, [], ◌∷◌, ◌++◌, map, All, Option, None, Some, refl, sym, ap, ◌∙◌, arith, cond, filter, flat_map, ◌==◌}
 use Rattle.std.proofs.lemmas.{Bool.cases_Bool, List.append-nil, List.length-map, List.map-append, List.map-id, List.Elements.All-append, List.Elements.All-cons, List.Elements.All-nil, List.Elements.All-weaker, Bool.Decides.eqb_tells, Simd.map-map, Grind.flat_map-append}
 use Rattle.msg_buffer.specs.Prelude.{Fits, GoesOn, History, IsSound, Stretch, Tile, count, given, message_of, next_place, pass_over, read}
 use Rattle.msg_world.specs.{Prelude.WorldState, declared.record.Record.Record}
@@ -7,6 +7,14 @@ use Rattle.msg_system.specs.{declared.op.Op.Op, declared.op.Op.TheVariants.Read,
 use Rattle.msg_system.specs.Prelude.{AfterOp, AfterProgram, Step, Job, Meaning, after_at_most, after_job, after_op, next_op, one_more, took, turn, with_place}
 use Rattle.msg_frames.specs.Prelude.{ReadEntry, GivesItsStretch, Moment, replies_of, entry_for, entry_of_read, entries_at, moments_at, outcome_of}
 use Rattle.msg_frames.proofs.HistoriesGrow.{BufferLaws, counts_more, Grows, goes_further, grown, op_changes, stays}
+
+-- these steps, each beside who took it
+abbrev pub by_system : ℕ → List Step → List (ℕ × Step)
+by_system i xs = map (λ x. (i, x)) xs
+
+-- the steps of system i
+abbrev pub steps_of : ℕ → List (ℕ × Step) → List Step
+steps_of i xs = map (λ x. x.1) (filter (λ x. x.0 == i) xs)
 
 -- a moment, as a tile of the buffers' laws
 abbrev pub tile_of : Moment → History Record × Stretch

@@ -4,9 +4,9 @@ use Rattle.std.proofs.lemmas.{Bool.cases_Bool, Grind.flat_map-append}
 use Rattle.msg_buffer.specs.Prelude.{GoesOn, History}
 use Rattle.msg_system.specs.Prelude.{Step}
 use Rattle.msg_world.specs.{Prelude.WorldState, Prelude.after_update, declared.record.Record.Record}
-use Rattle.msg_frames.specs.Prelude.{LogsTellEntries, ReadersTile, Frame, IsSoundState, frame, run, Moment, RunsAreComplete, State, after_posts, answers_in, before_turns, found_at, has_begun, moments, reader_place, Totals, steps_of, totals_from, turns_steps, post_steps, moments_at}
+use Rattle.msg_frames.specs.Prelude.{LogsTellEntries, ReadersTile, Frame, IsSoundState, frame, run, Moment, RunsAreComplete, State, after_posts, answers_in, before_turns, found_at, has_begun, moments, reader_place, Totals, totals_from, turns_steps, post_steps, moments_at}
 use Rattle.msg_frames.specs.Frames.{turn_order}
-use Rattle.msg_frames.proofs.{TellsEachOnce.tiles_rise, TellsEachOnce.are_true, TellsEachOnce.tells_once, HistoriesGrow.BufferLaws, HistoriesGrow.goes_further, HistoriesGrow.stays, SystemsStay.before_keeps, SystemsStay.turns_keep, ReaderOverJob.passes_nothing, EntriesAddUp.with_entries-none, ReaderOverTurns.ReadsFrom, ReaderOverTurns.Tells, ReaderOverTurns.reads_further, ReaderOverTurns.steps_of-append, ReaderOverTurns.tells_further, ReaderOverTurns.tells_these, ReaderOverTurns.reads_these, ReaderOverJob.moments_of, ReaderOverTurns.turns_moments, ReaderOverTurns.turns_read, ReaderOverTurns.turns_skip, ReaderOverTurns.turns_tell, BeforeTurns.Prepares, BeforeTurns.comes, BeforeTurns.prepares, BeforeTurns.stood, BeforeTurns.waits, StatesStaySound.begun_alike, StatesStaySound.frame_sound, StatesStaySound.has_no_turn, StatesStaySound.prepared_sound, WrittenOnce.run_writes}
+use Rattle.msg_frames.proofs.{ReaderOverJob.steps_of, TellsEachOnce.tiles_rise, TellsEachOnce.are_true, TellsEachOnce.tells_once, HistoriesGrow.BufferLaws, HistoriesGrow.goes_further, HistoriesGrow.stays, SystemsStay.before_keeps, SystemsStay.turns_keep, ReaderOverJob.passes_nothing, EntriesAddUp.with_entries-none, ReaderOverTurns.ReadsFrom, ReaderOverTurns.Tells, ReaderOverTurns.reads_further, ReaderOverTurns.steps_of-append, ReaderOverTurns.tells_further, ReaderOverTurns.tells_these, ReaderOverTurns.reads_these, ReaderOverJob.moments_of, ReaderOverTurns.turns_moments, ReaderOverTurns.turns_read, ReaderOverTurns.turns_skip, ReaderOverTurns.turns_tell, BeforeTurns.Prepares, BeforeTurns.comes, BeforeTurns.prepares, BeforeTurns.stood, BeforeTurns.waits, StatesStaySound.begun_alike, StatesStaySound.frame_sound, StatesStaySound.has_no_turn, StatesStaySound.prepared_sound, WrittenOnce.run_writes}
 
 -- what the host posts goes past nothing
 posts_pass : (i t : ℕ) (posts : List (ℕ × ℤ)) (w : WorldState) → moments_of t (steps_of i (post_steps posts w)) ≡ []

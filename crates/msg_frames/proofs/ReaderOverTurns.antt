@@ -3,9 +3,9 @@ use Rattle.std.proofs.Common.{◌≡◌, filter, ℕ, ◌≤◌, List, [], ◌�
 use Rattle.std.proofs.lemmas.{Bool.cases_Bool, Bool.cases_eq, Bool.eq-eqb, Bool.ne_eqb, List.map-append, List.Elements.filter-append, Grind.flat_map-append, Bool.Decides.eqb_tells}
 use Rattle.msg_buffer.specs.Prelude.{IsSound, count, History}
 use Rattle.msg_system.specs.{Prelude.Step, Prelude.after_job, Prelude.Needs, Prelude.Rule, declared.reply.Reply.Reply}
-use Rattle.msg_frames.specs.Prelude.{Member, member_after, Moment, State, Turn, after_turn_of, after_turns_of, replies_of, entries_told, by_system, logged_turn, moments_at, reader_place, steps_of, turn_of, turns_steps, with_entries, Totals}
+use Rattle.msg_frames.specs.Prelude.{Member, member_after, Moment, State, Turn, after_turn_of, after_turns_of, replies_of, entries_told, logged_turn, moments_at, reader_place, turn_of, turns_steps, with_entries, Totals}
 use Rattle.msg_order.proofs.Elements.{Contains-tail, Contains-head}
-use Rattle.msg_frames.proofs.{HistoriesGrow.BufferLaws, HistoriesGrow.Grows, HistoriesGrow.grown, HistoriesGrow.job_changes, HistoriesGrow.stays, SystemsStay.one_turn_keeps, ReaderOverJob.Passes, EntriesOfSteps.job_logged, ReaderOverJob.entries_are, ReaderOverJob.job_passes, ReaderOverJob.job_rule, ReaderOverJob.moments_of, ReaderOverJob.passes_further, ReaderOverJob.passes_nothing, EntriesAddUp.with_entries-append, EntriesAddUp.with_entries-none}
+use Rattle.msg_frames.proofs.{ReaderOverJob.by_system, ReaderOverJob.steps_of, HistoriesGrow.BufferLaws, HistoriesGrow.Grows, HistoriesGrow.grown, HistoriesGrow.job_changes, HistoriesGrow.stays, SystemsStay.one_turn_keeps, ReaderOverJob.Passes, EntriesOfSteps.job_logged, ReaderOverJob.entries_are, ReaderOverJob.job_passes, ReaderOverJob.job_rule, ReaderOverJob.moments_of, ReaderOverJob.passes_further, ReaderOverJob.passes_nothing, EntriesAddUp.with_entries-append, EntriesAddUp.with_entries-none}
 use Rattle.msg_world.specs.{declared.record.Record.Record}
 
 -- Reader (i, t), which was given so much, goes past these moments from a place in a history on, up to a state.

@@ -6,10 +6,10 @@ use Rattle.msg_buffer.specs.Prelude.{Entry, History, count, has_room, stamped, w
 use Rattle.msg_world.specs.{Prelude.WorldState, Prelude.after_update, Prelude.by, declared.record.Record.Record, declared.record.TheConstants.HOST}
 use Rattle.msg_system.specs.{declared.op.Op.Op, declared.op.Op.TheVariants.Write, declared.op.Op.TheVariants.Batch, declared.op.Op.TheVariants.Forward, declared.op.Op.TheVariants.Drain, declared.reply.Reply.Reply}
 use Rattle.msg_system.specs.Prelude.{AfterOp, AfterProgram, Step, Job, Meaning, after_at_most, after_job, after_op, again_by, next_op, one_more, took, turn}
-use Rattle.msg_frames.specs.Prelude.{AreAnswered, Frame, IsSoundState, IsWrittenOnce, by_system, Turn, outcome_of, post_replies, replies_of, State, after_posts, after_turn_of, after_turns_of, all_written, before_turns, frame, post_steps, run, turns_steps, wrote}
+use Rattle.msg_frames.specs.Prelude.{AreAnswered, Frame, IsSoundState, IsWrittenOnce, Turn, outcome_of, post_replies, replies_of, State, after_posts, after_turn_of, after_turns_of, all_written, before_turns, frame, post_steps, run, turns_steps, wrote}
 use Rattle.msg_frames.specs.Frames.{turn_order}
 use Rattle.msg_order.proofs.Elements.{Contains-head, Contains-tail}
-use Rattle.msg_frames.proofs.{SystemsStay.joining_world, SystemsStay.one_turn_keeps, HistoriesGrow.BufferLaws, BeforeTurns.prepares, StatesStaySound.frame_sound, StatesStaySound.prepared_sound, StatesStaySound.turn_below}
+use Rattle.msg_frames.proofs.{ReaderOverJob.by_system, SystemsStay.joining_world, SystemsStay.one_turn_keeps, HistoriesGrow.BufferLaws, BeforeTurns.prepares, StatesStaySound.frame_sound, StatesStaySound.prepared_sound, StatesStaySound.turn_below}
 
 enumerate_from-append : {X : Type 0} (n : ℕ) (xs ys : List X)
     → enumerate_from n (xs ++ ys) ≡ enumerate_from n xs ++ enumerate_from (n + length xs) ys

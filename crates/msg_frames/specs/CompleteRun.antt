@@ -3,7 +3,7 @@ use Rattle.std.specs.Prelude.{◌≡◌, ℕ, ◌<◌, ◌≤◌, ◌+◌, ◌-�
 use Rattle.std.specs.List.{range_with_len}
 use Rattle.msg_buffer.specs.Prelude.{History, IsPresent, count}
 use Rattle.msg_world.specs.declared.record.Record.{Record}
-use Rattle.msg_frames.specs.{declared.frame.Frame.Frame, declared.totals.Totals.Totals, Entries.ReadEntry, Entries.numbers_missed, Entries.numbers_passed, Entries.numbers_told, Entries.totals_from, Entries.with_entries, Frames.run, Frames.State, Frames.has_begun, Steps.IsWrittenOnce, Tiling.found_at, Tiling.moments, Tiling.reader_place, Tiling.Moment}
+use Rattle.msg_frames.specs.{declared.frame.Frame.Frame, Entries.ReadEntry, Entries.numbers_missed, Entries.numbers_passed, Entries.numbers_told, Entries.totals_from, Entries.with_entries, Frames.run, Frames.State, Frames.has_begun, Steps.IsWrittenOnce, Tiling.found_at, Tiling.moments, Tiling.reader_place, Tiling.Moment}
 
 -- ---- what an entry says
 
@@ -30,10 +30,9 @@ pub record IsTrueEntry (last : History Record) (m : Moment) : Type 0 where
 abbrev pub entries_in_run : ℕ → ℕ → List Frame → State → List ReadEntry
 entries_in_run i t frames s = map (λ m. m.entry) (moments i t frames s)
 
--- What a run did for the reader of type t in system i, from where it was found to its place at the
--- end.
+-- What a run did for the reader of type t in system i.
 pub record IsServed (i t : ℕ) (frames : List Frame) (s : State) : Type 0 where
-  -- Entry behind entry they tell each number from there to here: each once, in order, and no other.
+  -- Its entries tell each number from where it was found to its place: once, in order, no other.
   pub forward : found_at s (run frames s).state i t ≤ reader_place (run frames s).state i t
   pub once : flat_map numbers_told (entries_in_run i t frames s)
       ≡ range_with_len (found_at s (run frames s).state i t)
@@ -47,8 +46,7 @@ pub record IsServed (i t : ℕ) (frames : List Frame) (s : State) : Type 0 where
 
 -- What a run comes to.
 pub record IsCompleteRun (frames : List Frame) (s : State) : Type 0 where
-  -- each type's list grew by exactly what was written: each message once, under the number that was
-  -- told
+  -- each type's list grew by exactly what was written, each message once
   pub written : (t : ℕ) → IsWrittenOnce t s.world (run frames s).steps (run frames s).state.world
   -- and each reader was served that has joined by the end
   pub served : (i t : ℕ) → t < s.types → IsTrue (has_begun (run frames s).state i)

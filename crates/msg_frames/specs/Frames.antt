@@ -5,28 +5,24 @@ use Rattle.msg_buffer.specs.Prelude.{count, write}
 use Rattle.msg_world.specs.{Prelude.WorldState, Prelude.after_update, Prelude.by, Prelude.with_history, Prelude.HasPart, Prelude.Part, Prelude.OfType, Prelude.OfResource, Prelude.Registry, declared.access.Access.Access, declared.record.TheConstants.HOST}
 use Rattle.msg_order.specs.{Prelude.Graph, Prelude.access_of, Prelude.settled, Prelude.turns, declared.rule.Rule.Rule}
 use Rattle.msg_system.specs.{declared.reply.Reply.Reply, declared.op.Op.TheVariants.Write}
-use Rattle.msg_system.specs.Prelude.{AfterJob, Step, IsAccessOf, Job, Needs, after_job, asked_started, conditions_of, needs_any, numbers_for, after_start, with_conditions, write_reply}
+use Rattle.msg_system.specs.Prelude.{AfterJob, Step, IsAccessOf, Job, Needs, after_job, asked_started, needs_any, numbers_for, after_start, with_conditions, write_reply}
 use Rattle.msg_frames.specs.{declared.frame.Frame.Frame, declared.log.Log.Log, declared.log.Turn.Turn, declared.log.Outcome.Outcome, declared.log.Outcome.TheVariants.Skipped, declared.log.Outcome.TheVariants.Ran, Entries.entries_at, Entries.totals_from, Entries.with_entries, declared.totals.Totals.Totals}
 
--- One system of a state: its job, the frame that it joins with, and its totals.
+-- One system of a state: its job with all cursors, the frame that it joins with (with 1 it joins
+-- before any), and of each type what it got, missed and cleared.
 pub record Member : Type 0 where
-  -- its system and its conditions, with their cursors
   pub job : Job
-  -- the frame that it joins with; with 1 it joins before any frame
   pub join : ℕ
-  -- what it got, missed and cleared of each type
   pub totals : ℕ → Totals
 
--- What a frame starts from and leaves: the systems, the rules, the world, and the frames so far.
+-- What a frame starts from and leaves: how many systems there are, and each by its number, in order
+-- of addition; the rules; how many types, and the world; and how many frames were run.
 pub record State : Type 0 where
-  -- how many systems there are; a system goes by its number, in order of addition
   pub systems : ℕ
   pub members : ℕ → Member
   pub rules : List Rule
-  -- how many types the world has
   pub types : ℕ
   pub world : WorldState
-  -- how many frames were run
   pub frames : ℕ
 
 -- system i has joined
@@ -65,8 +61,7 @@ with_joining k s =
           else s.members i;
     }
 
--- Those that join with the next frame do so. With the first frame none does, since they joined
--- before.
+-- those that join with the next frame do so; those of the first joined before it
 abbrev pub after_joining : State → State
 after_joining s = if s.frames == 0 then s else with_joining (suc s.frames) s
 
@@ -81,15 +76,10 @@ after_posts (p ∷ ps) w =
 -- the posts as steps, each a write by `HOST`
 abbrev pub post_steps : List (ℕ × ℤ) → WorldState → List (ℕ × Step)
 post_steps [] w = []
-post_steps (p ∷ ps) w = (
-  HOST,
-  record {
-    op = Write p.0 p.1;
-    places = λ t. 0;
-    world = w;
-    reply = write_reply (numbers_for (w.histories p.0) 1);
-  },
-) ∷ post_steps ps (after_posts (p ∷ []) w)
+post_steps (p ∷ ps) w =
+    let told : Reply = write_reply (numbers_for (w.histories p.0) 1) in
+    (HOST, record { op = Write p.0 p.1; places = λ t. 0; world = w; reply = told })
+    ∷ post_steps ps (after_posts (p ∷ []) w)
 
 -- what the posts are answered
 abbrev pub post_replies : List (ℕ × ℤ) → WorldState → List Reply
@@ -109,10 +99,7 @@ turn_of s i = after_job (s.members i).job s.world
 -- a member after its turn, whose totals count the entries of that
 abbrev pub member_after : AfterJob → Member → Member
 member_after done m =
-    record m {
-      job = done.job;
-      totals = λ t. with_entries (entries_at t done.steps) (m.totals t);
-    }
+    record m { job = done.job; totals = λ t. with_entries (entries_at t done.steps) (m.totals t) }
 
 -- the state after the turn of system i
 abbrev pub after_turn_of : ℕ → State → State
@@ -138,20 +125,15 @@ after_turns_of (i ∷ is) s =
     let rest : AfterTurns = after_turns_of is (after_turn_of i s) in
     record { state = rest.state; turns = logged_turn s i ∷ rest.turns }
 
--- these steps, each beside who took it
-abbrev pub by_system : ℕ → List Step → List (ℕ × Step)
-by_system i xs = map (λ x. (i, x)) xs
-
--- the steps of these turns, one after the other
+-- the steps of these turns, one after the other, each beside the number of who took it
 abbrev pub turns_steps : List ℕ → State → List (ℕ × Step)
 turns_steps [] s = []
 turns_steps (i ∷ is) s =
-    by_system i (turn_of s i).steps ++ turns_steps is (after_turn_of i s)
+    map (λ x. (i, x)) (turn_of s i).steps ++ turns_steps is (after_turn_of i s)
 
 -- ---- a frame
 
--- Before the turns some join, every type is updated (a held world where it was signalled), and the
--- posts are written.
+-- what comes before the turns: some join, the world is updated, and the posts are written
 abbrev pub before_turns : List (ℕ × ℤ) → State → State
 before_turns posts s =
     let ready : State = after_joining s in
@@ -174,7 +156,7 @@ frame_in order frame s =
       log = record { posts = post_replies frame.posts (after_update s.world); turns = turns.turns };
     }
 
--- what a member's job needs: its system and its conditions
+-- what a member's job needs
 abbrev pub member_needs : Member → Needs
 member_needs m = with_conditions m.job.system.needs (map (λ a. a.condition) m.job.conditions)
 
@@ -184,7 +166,7 @@ pub record AreAccessesOf (s : State) (accesses : List Access) : Type 0 where
   pub of_needs : (i : ℕ) → i < s.systems
       → IsAccessOf (member_needs (s.members i)) (access_of accesses i)
 
--- ---- the model, as functions
+-- ---- frames in the settled order
 
 -- the parts that a world may have, which has at most 64 types and 64 resources
 unfoldable pub parts : List Part
@@ -192,7 +174,8 @@ parts = (map OfType (range_with_len 0 64) ++ map OfResource (range_with_len 0 64
 
 -- one of two writes a part that the other reads or writes
 abbrev pub needs_conflict : Needs → Needs → Bool
-needs_conflict m n = list_any (λ p. (m.writes p && needs_any n p) || (n.writes p && needs_any m p)) parts
+needs_conflict m n =
+    list_any (λ p. (m.writes p && needs_any n p) || (n.writes p && needs_any m p)) parts
 
 -- the jobs of two systems are in conflict
 abbrev pub are_in_conflict : State → ℕ → ℕ → Bool
@@ -222,11 +205,7 @@ run [] s = record { state = s; logs = []; steps = [] }
 run (f ∷ fs) s =
     let here : AfterFrame = frame f s in
     let rest : AfterRun = run fs here.state in
-    record {
-      state = rest.state;
-      logs = here.log ∷ rest.logs;
-      steps = here.steps ++ rest.steps;
-    }
+    record { state = rest.state; logs = here.log ∷ rest.logs; steps = here.steps ++ rest.steps }
 
 -- each system needs only parts that a world may have
 abbrev pub UsesParts : State → Type 0

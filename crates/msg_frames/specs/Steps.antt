@@ -1,19 +1,14 @@
 -- The steps of a run: each op and each post as it was done, and what they wrote.
-use Rattle.std.specs.Prelude.{◌≡◌, ℕ, ◌==◌, List, [], ◌∷◌, ◌++◌, map, filter, flat_map, Some, if◌then◌else◌}
+use Rattle.std.specs.Prelude.{◌≡◌, ℕ, ◌==◌, List, [], ◌∷◌, ◌++◌, map, flat_map, Some, if◌then◌else◌}
 use Rattle.std.specs.List.{enumerate_from}
 use Rattle.msg_buffer.specs.Prelude.{History}
 use Rattle.msg_world.specs.{Prelude.WorldState, Prelude.by, declared.record.Record.Record, declared.record.TheConstants.HOST}
 use Rattle.msg_system.specs.{Prelude.Step, Prelude.again_by, declared.op.Op.Op, declared.op.Op.TheVariants.Write, declared.op.Op.TheVariants.Batch, declared.op.Op.TheVariants.Forward, declared.reply.Reply.Reply, declared.reply.Reply.TheVariants.Wrote, declared.reply.Reply.TheVariants.Forwarded}
 use Rattle.msg_frames.specs.{declared.frame.Frame.Frame, declared.log.Log.Log, declared.log.Outcome.Outcome, declared.log.Outcome.TheVariants.Skipped, declared.log.Outcome.TheVariants.Ran, Frames.State, Frames.run}
 
--- the steps of system i
-abbrev pub steps_of : ℕ → List (ℕ × Step) → List Step
-steps_of i xs = map (λ x. x.1) (filter (λ x. x.0 == i) xs)
-
 -- ---- what was written
 
--- the messages that an op of this system wrote to type t, each with its number, by what the op was
--- answered
+-- what an op of system i that was answered so wrote to type t, each message with its number
 abbrev pub wrote : ℕ → ℕ → Op → Reply → List (ℕ × Record)
 wrote t i (Write u v) (Wrote n) = if u == t then enumerate_from n.first (by i v ∷ []) else []
 wrote t i (Batch u vs) (Wrote n) = if u == t then enumerate_from n.first (map (by i) vs) else []
@@ -29,8 +24,7 @@ told t steps = flat_map (λ x. wrote t x.0 x.1.op x.1.reply) steps
 abbrev pub all_written : History Record → List (ℕ × Record)
 all_written h = enumerate_from 0 (map (λ e. e.message) h.entries)
 
--- Type t's list grew by exactly what the steps tell was written: each message once, under the
--- number that was told.
+-- Type t's list grew by exactly what the steps tell: each message once, under the number told.
 pub record IsWrittenOnce (t : ℕ) (w : WorldState) (steps : List (ℕ × Step)) (v : WorldState) : Type 0 where
   pub grew : all_written (v.histories t) ≡ all_written (w.histories t) ++ told t steps
 

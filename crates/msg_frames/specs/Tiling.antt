@@ -1,14 +1,13 @@
 -- What a reader was given over a run, moment by moment.
-use Rattle.std.specs.Prelude.{ℕ, List, map, flat_map, unwrap_or, if◌then◌else◌}
+use Rattle.std.specs.Prelude.{ℕ, ◌==◌, List, map, filter, flat_map, unwrap_or, if◌then◌else◌}
 use Rattle.msg_buffer.specs.Prelude.{History}
 use Rattle.msg_world.specs.{declared.record.Record.Record}
 use Rattle.msg_system.specs.Prelude.{Step}
-use Rattle.msg_frames.specs.{declared.frame.Frame.Frame, Entries.ReadEntry, Entries.entry_for, Frames.State, Frames.has_begun, Frames.run, Steps.steps_of}
+use Rattle.msg_frames.specs.{declared.frame.Frame.Frame, Entries.ReadEntry, Entries.entry_for, Frames.State, Frames.has_begun, Frames.run}
 
 -- ---- the moments of a run
 
--- The moment of an entry: the history of its type as it was, where the reader stood, and what it
--- went past.
+-- An entry, beside its type's history and the reader's place as they were just then.
 pub record Moment : Type 0 where
   pub history : History Record
   pub place : ℕ
@@ -22,7 +21,8 @@ moments_at t x =
 
 -- the moments of system i in a run of frames
 abbrev pub moments : ℕ → ℕ → List Frame → State → List Moment
-moments i t frames s = flat_map (moments_at t) (steps_of i (run frames s).steps)
+moments i t frames s =
+    flat_map (moments_at t) (map (λ x. x.1) (filter (λ x. x.0 == i) (run frames s).steps))
 
 -- ---- the tiling of a reader over a run
 

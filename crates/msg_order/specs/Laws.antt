@@ -1,7 +1,7 @@
 -- Laws of the settled order. Each is the contract of a function of the same name in src/laws.rt.
 use Rattle.std.specs.Prelude.{◌≡◌, ◌≢◌, ◌<◌, ℕ, Bool, List, length, IsTrue, ◌⊎◌, ◌↔◌}
 use Rattle.msg_world.specs.{Prelude.Conflict, declared.access.Access.Access}
-use Rattle.msg_order.specs.{declared.rule.Rule.Rule, Graph.Graph, Graph.Path, Graph.IsAcyclic, Graph.IsBatchNumber, Order.has_joined, Order.access_of, Order.rules_among, Order.IsAmong, Order.IsSettledOrder, Order.AreBatches, Order.IsTurnOrder, Order.StandsBefore, Order.IsLawfulOrder, Settled.batches, Settled.settled, Settled.turns}
+use Rattle.msg_order.specs.{declared.rule.Rule.Rule, Graph.Graph, Graph.Path, Graph.IsAcyclic, Graph.IsBatchNumber, Settled.has_joined, Order.access_of, Settled.rules_among, Order.IsAmong, Order.IsSettledOrder, Order.AreBatches, Order.IsTurnOrder, Order.StandsBefore, Order.IsLawfulOrder, Settled.batches, Settled.settled, Settled.turns}
 
 -- Rules that make no cycle among some systems make none among fewer of them.
 abbrev pub FewerSystemsMakeNoCycle : Type 0

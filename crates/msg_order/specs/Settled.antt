@@ -1,10 +1,27 @@
 -- The settled order, its batches and its turns, as functions.
-use Rattle.std.specs.Prelude.{ℕ, zero, suc, Bool, not, ◌&&◌, List, [], ◌∷◌, length, filter, if◌then◌else◌}
+use Rattle.std.specs.Prelude.{ℕ, zero, suc, ◌+◌, ◌-◌, Bool, false, not, ◌&&◌, List, [], ◌∷◌, length, map, filter, flat_map, slice_index_or, if◌then◌else◌}
 use Rattle.std.specs.List.{concat, list_any, range_with_len}
-use Rattle.msg_order.specs.{declared.rule.Rule.Rule, Graph.Graph, Graph.path, Order.has_joined, Order.pairs, Order.rules_among}
+use Rattle.msg_order.specs.{declared.rule.Rule.Rule, Graph.Graph, Graph.path}
 
--- Each of these pairs is taken in turn: where the two are in conflict, and no path leads back, the
--- order gains an edge.
+-- whether system i has joined
+abbrev pub has_joined : List Bool → ℕ → Bool
+has_joined joined i = slice_index_or joined i false
+
+-- the rules as edges
+abbrev pub edges_of : List Rule → Graph
+edges_of rules = map (λ rule. (rule.earlier, rule.later)) rules
+
+-- the rules among the joined systems
+abbrev pub rules_among : List Bool → List Rule → Graph
+rules_among joined rules = filter (λ e. has_joined joined e.0 && has_joined joined e.1)
+    (edges_of rules)
+
+-- the pairs of numbers below n, the lower one first, taken by the first and then by the second
+abbrev pub pairs : ℕ → List (ℕ × ℕ)
+pairs n = flat_map (λ i. map (λ j. (i, j)) (range_with_len (i + 1) (n - (i + 1))))
+    (range_with_len 0 n)
+
+-- each of these pairs in turn adds an edge where the two are in conflict and no path leads back
 abbrev pub settle : (ℕ → ℕ → Bool) → Graph → List (ℕ × ℕ) → Graph
 settle conflict g [] = g
 settle conflict g (p ∷ ps) =
@@ -28,8 +45,7 @@ batches_of (suc n) g [] = []
 batches_of (suc n) g (i ∷ is) = filter (λ k. not (follows g (i ∷ is) k)) (i ∷ is)
     ∷ batches_of n g (filter (follows g (i ∷ is)) (i ∷ is))
 
--- The batches of those that have joined. As many as there are systems suffice: where no path leads
--- back, each has one of those that are left at least.
+-- the batches of those that have joined: so many suffice, as each has one where no path leads back
 abbrev pub batches : Graph → List Bool → List (List ℕ)
 batches g joined = batches_of (length joined) g
     (filter (has_joined joined) (range_with_len 0 (length joined)))

@@ -3,7 +3,7 @@
 use Rattle.std.specs.Prelude.{◌≡◌, ℕ, ◌≤◌, ◌<◌, Bool, true, not, ◌&&◌, List, map, length, filter, flat_map, slice_index_or}
 use Rattle.std.specs.List.{range_with_len}
 use Rattle.msg_world.specs.declared.access.Access.{Access}
-use Rattle.msg_order.specs.{declared.system_set.SystemSet.SystemSet, inner.SystemSet.has, inner.SystemSet.meets, inner.SystemSet.no_set, Graph.Graph, Graph.path, Order.has_joined, Order.AreInConflict, Order.Settles, Order.pairs, Plan.PlanView}
+use Rattle.msg_order.specs.{declared.system_set.SystemSet.SystemSet, inner.SystemSet.has, inner.SystemSet.meets, inner.SystemSet.no_set, Graph.Graph, Graph.path, Settled.has_joined, Order.AreInConflict, Order.Settles, Settled.pairs, Plan.PlanView}
 
 -- the set of those before system j
 abbrev pub set_at : List SystemSet → ℕ → SystemSet
