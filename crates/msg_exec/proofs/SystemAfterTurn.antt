@@ -6,7 +6,7 @@ use Rattle.msg_world.specs.Prelude.{SameShape, WorldState}
 use Rattle.msg_system.specs.{declared.op.Op.Op, declared.reply.Reply.Reply}
 use Rattle.msg_system.specs.Prelude.{Job as JobState, Meaning, after_at_most, after_job, next_op, turn}
 use Rattle.msg_frames.specs.{declared.log.Outcome.Outcome, declared.totals.Totals.Totals}
-use Rattle.msg_frames.specs.Prelude.{Member, ReadEntry, State, member_turn, entries_at, outcome_of, with_entries, with_member}
+use Rattle.msg_frames.specs.Prelude.{Member, ReadEntry, State, member_after, entries_at, outcome_of, with_entries, with_member}
 use Rattle.msg_frames.proofs.EntriesOfSteps.{job_logged}
 use Rattle.msg_exec.specs.Prelude.{Lender, LenderStands, MemberStands, TotalsStand, capped_totals, system_at, totals_at}
 use Rattle.msg_exec.specs.inner.Totals.{HasFewReplies, entries_by}
@@ -67,9 +67,9 @@ pub totals_after : (types : ℕ) (m : Member) (w : WorldState) (old new : List T
     → TotalsStand types old m.totals → length new ≡ length old
     → ((t : ℕ) (x : Totals) → t < length old → totals_at old t ≡ capped_totals x → totals_at new t
     ≡ capped_totals (with_entries (entries_by t ops o) x))
-    → TotalsStand types new (member_turn m w).member.totals
+    → TotalsStand types new (member_after (after_job m.job w) m).totals
 totals_after types m w old new ops o its came stands as_many entered =
     let same : (t : ℕ) → entries_by t ops o ≡ entries_at t (after_job m.job w).steps =
     λ t. rw (its, came) (last_entries t m.job w) in
-    totals_are types m.totals (member_turn m w).member.totals old new stands as_many
+    totals_are types m.totals (member_after (after_job m.job w) m).totals old new stands as_many
     (λ t lt is. entered t (m.totals t) lt is ∙ ap (λ (es : List ReadEntry). capped_totals (with_entries es (m.totals t))) (same t))
