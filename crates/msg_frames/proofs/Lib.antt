@@ -21,6 +21,7 @@ mod StatesStaySound
 mod FirstStatesAreSound
 mod WrittenOnce
 mod OneFateEach
+mod WritersInOrder
 mod ReaderOverRun
 mod ReplaysTellTheSame
 mod StampsStayRecent

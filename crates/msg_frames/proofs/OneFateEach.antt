@@ -1,10 +1,10 @@
 -- Entries that tell each number of a range once: each message meets one fate, at one entry.
-use Rattle.std.proofs.Common.{◌≡◌, ◌⊎◌, ℕ, zero, suc, ◌+◌, ◌-◌, ◌≤◌, ◌<◌, ◌==◌, Bool, false, List, [], ◌∷◌, ◌++◌, length, map, filter, flat_map, Option, None, Some, Contains, cond, drop, get_or, is_some, unwrap_or, IfSome, refl, ap, arith, inl, inr, All, nat_lt, length-append}
+use Rattle.std.proofs.Common.{◌≡◌, ◌⊎◌, ℕ, zero, suc, ◌+◌, ◌-◌, ◌≤◌, ◌<◌, List, [], ◌∷◌, ◌++◌, length, map, flat_map, Option, None, Some, Contains, cond, drop, get_or, is_some, unwrap_or, IfSome, refl, ap, arith, inl, inr, All, nat_lt, length-append}
 use Rattle.std.specs.{List.range_with_len, List.Sorted.IsStrictlyIncreasing}
-use Rattle.std.proofs.lemmas.{Bool.cases_Bool, Bool.cases_lt, Bool.Decides.nat_tests, List.map-append, List.Elements.All-head, List.Elements.All-tail, List.Elements.All-weaker, List.Kept.IsStrictlyIncreasing-filter, List.FromFn.length-range_with_len}
+use Rattle.std.proofs.lemmas.{Bool.cases_Bool, Bool.cases_lt, Bool.Decides.nat_tests, List.map-append, List.Elements.All-head, List.Elements.All-tail, List.Elements.All-weaker, List.FromFn.length-range_with_len}
 use Rattle.msg_buffer.specs.Prelude.{History}
 use Rattle.msg_world.specs.declared.record.Record.{Record}
-use Rattle.msg_frames.specs.Prelude.{EachMeetsOneFate, Fate, IsGivenOnce, IsInOrderOf, IsTrueEntry, Meets, MeetsOneFate, Moment, ReadEntry, cleared, given, is_by, message_numbered, messages_given, missed, moments, numbers_at, numbers_missed, numbers_of, numbers_passed, numbers_told}
+use Rattle.msg_frames.specs.Prelude.{EachMeetsOneFate, Fate, IsTrueEntry, Meets, MeetsOneFate, Moment, ReadEntry, cleared, entries_in_run, found_at, given, message_numbered, messages_given, missed, moments, numbers_at, numbers_missed, numbers_of, numbers_passed, numbers_told, reader_place, run}
 use Rattle.msg_order.proofs.Elements.{Contains-range, range-Contains}
 use Rattle.msg_frames.proofs.EntriesAddUp.{all_told}
 
@@ -117,19 +117,19 @@ meets_one_fate a (e ∷ es) b tell n low high = elim (cases_lt n (past a e)) [
 -- ---- in order of writing
 
 -- each number is above the one before it, and the first isn't below `low`
-abbrev Rising : ℕ → List ℕ → Type 0
+abbrev pub Rising : ℕ → List ℕ → Type 0
 Rising low [] = Unit {0}
 Rising low (x ∷ xs) = (low ≤ x) × Rising (x + 1) xs
 
-rising_from : (low high : ℕ) (xs : List ℕ) → low ≤ high → Rising high xs → Rising low xs
+pub rising_from : (low high : ℕ) (xs : List ℕ) → low ≤ high → Rising high xs → Rising low xs
 rising_from low high [] le rise = tt
 rising_from low high (x ∷ xs) le rise = (omega (arith, le, rise.0), rise.1)
 
-rising_range : (a n : ℕ) (rest : List ℕ) → Rising (a + n) rest → Rising a (range_with_len a n ++ rest)
+pub rising_range : (a n : ℕ) (rest : List ℕ) → Rising (a + n) rest → Rising a (range_with_len a n ++ rest)
 rising_range a zero rest rise = rising_from a (a + 0) rest (omega arith) rise
 rising_range a (suc n) rest rise = grind (arith, rising_range (a + 1) n rest)
 
-is_increasing : (low : ℕ) (xs : List ℕ) → Rising low xs → IsStrictlyIncreasing xs
+pub is_increasing : (low : ℕ) (xs : List ℕ) → Rising low xs → IsStrictlyIncreasing xs
 is_increasing low (x ∷ y ∷ ys) rise zero below = omega (arith, rise.1.0)
 is_increasing low (x ∷ y ∷ ys) rise (suc k) below = grind (arith, is_increasing (x + 1) (y ∷ ys) rise.1 k (omega arith))
 is_increasing low xs rise k below = absurd (omega arith)
@@ -163,41 +163,18 @@ all_as_written last (m ∷ ms) are =
 
 -- ---- all of it
 
-pub given_once : (last : History Record) (from to : ℕ) (ms : List Moment) →
-    let es = map (λ m. m.entry) ms in
-    from ≤ to → flat_map numbers_told es ≡ range_with_len from (to - from) → All (IsTrueEntry last) ms
-    → IsGivenOnce es ms from to last
-given_once last from to ms up once are =
-    let es : List ReadEntry = map (λ m. m.entry) ms in
-    let tell = tell_once es from to up once in
+pub each_meets_one_fate : EachMeetsOneFate
+each_meets_one_fate i t frames s served =
+    let es : List ReadEntry = entries_in_run i t frames s in
+    let from : ℕ = found_at s (run frames s).state i t in
+    let to : ℕ = reader_place (run frames s).state i t in
+    let tell = tell_once es from to served.forward served.once in
     let number = length-range_with_len from (to - from) in
     record {
       each = meets_one_fate from es to tell;
       no_other = lies_between from es to tell;
       in_order = is_increasing from (numbers_of given es) (given_rise from es to tell);
-      as_written = all_as_written last ms are;
-      dropped = All-weaker (IsTrueEntry last) _ (λ m true. true.missed) ms are;
-      adds_up = omega (arith, up, ap length once, number, all_told es);
+      as_written = all_as_written _ (moments i t frames s) served.true;
+      dropped = All-weaker (IsTrueEntry _) _ (λ m true. true.missed) (moments i t frames s) served.true;
+      adds_up = omega (arith, served.forward, ap length served.once, number, all_told es);
     }
-
--- ---- writer by writer
-
--- where numbers have these messages, the numbers whose messages pass a test have the messages that pass it
-of_one_kind : {X : Type 0} (f : ℕ → Option X) (p : X → Bool) (ns : List ℕ) (xs : List X) → map f ns ≡ map Some xs
-    → map f (filter (λ n. elim (f n) [ None ↦ false | Some x ↦ p x ]) ns) ≡ map Some (filter p xs)
-of_one_kind f p [] [] same = refl
-of_one_kind f p (n ∷ ns) (x ∷ xs) same = grind (arith, cases_Bool, of_one_kind f p ns xs (ap (drop 1) same))
-of_one_kind f p ns xs same = absurd (omega (arith, ap length same))
-
-pub in_order_of : (writer : ℕ) (es : List ReadEntry) (last : History Record)
-    → IsStrictlyIncreasing (numbers_of given es)
-    → map (message_numbered last) (numbers_of given es) ≡ map Some (messages_given es) → IsInOrderOf writer es last
-in_order_of writer es last rise written = record {
-  as_written = of_one_kind (message_numbered last) (λ m. m.writer == writer) _ _ written;
-  in_order = IsStrictlyIncreasing-filter (is_by writer last) _ rise;
-}
-
-pub each_meets_one_fate : EachMeetsOneFate
-each_meets_one_fate i t frames s served =
-    let given = given_once _ _ _ (moments i t frames s) served.forward served.once served.true in
-    record { given = given; by_writer = λ writer. in_order_of writer _ _ given.in_order given.as_written }

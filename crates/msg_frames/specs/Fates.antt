@@ -1,10 +1,10 @@
 -- What a run did for each reader, message by message, and what its logs tell of that.
-use Rattle.std.specs.Prelude.{◌≡◌, ℕ, ◌<◌, List, if◌then◌else◌, IsTrue, IfSome, ◌+◌, ◌≤◌, ◌==◌, Bool, false, All, Contains, [], length, map, filter, flat_map, None, Some, unwrap_or, slice_get, take, drop}
-use Rattle.std.specs.List.Sorted.{IsStrictlyIncreasing}
+use Rattle.std.specs.Prelude.{◌≡◌, ℕ, ◌<◌, List, if◌then◌else◌, IsTrue, IfSome, ◌+◌, ◌≤◌, ◌==◌, ◌⊎◌, All, Contains, [], length, map, filter, flat_map, Some, unwrap_or, slice_get, take, drop}
+use Rattle.std.specs.List.{Sorted.IsStrictlyIncreasing, enumerate_from}
 use Rattle.msg_buffer.specs.Prelude.{History, IsPresent, Stretch, Tile, count, instances, message_of}
 use Rattle.msg_world.specs.declared.record.Record.{Record}
-use Rattle.msg_system.specs.{Prelude.Meaning, declared.reply.Reply.Reply}
-use Rattle.msg_frames.specs.{declared.frame.Frame.Frame, declared.log.Log.Log, CompleteRun.IsServed, CompleteRun.entries_in_run, CompleteRun.message_numbered, Entries.ReadEntry, LogEntries.entries_told, Entries.numbers_cleared, Entries.numbers_given, Entries.numbers_missed, Steps.replies_of, Frames.run, Frames.State, Frames.has_begun, Soundness.IsSoundState, Tiling.Moment, Tiling.found_at, Tiling.moments, Tiling.reader_place}
+use Rattle.msg_system.specs.{Prelude.Meaning, Prelude.Step, declared.reply.Reply.Reply}
+use Rattle.msg_frames.specs.{declared.frame.Frame.Frame, declared.log.Log.Log, CompleteRun.IsCompleteRun, CompleteRun.IsServed, CompleteRun.entries_in_run, CompleteRun.message_numbered, Entries.ReadEntry, LogEntries.entries_told, Entries.numbers_cleared, Entries.numbers_given, Entries.numbers_missed, Steps.replies_of, Steps.told, Frames.run, Frames.State, Frames.has_begun, Soundness.IsSoundState, Tiling.Moment, Tiling.found_at, Tiling.moments, Tiling.reader_place}
 
 -- ---- the entries that logs have
 
@@ -79,17 +79,38 @@ pub record IsGivenOnce (es : List ReadEntry) (ms : List Moment) (from to : ℕ)
   pub adds_up : from + length (numbers_of given es) + length (numbers_of missed es) + length
       (numbers_of cleared es) ≡ to
 
+-- A reader that a run served was given each message once.
+abbrev pub EachMeetsOneFate : Type 0
+EachMeetsOneFate = (i t : ℕ) (frames : List Frame) (s : State) → IsServed i t frames s
+    → IsGivenOnce (entries_in_run i t frames s) (moments i t frames s)
+    (found_at s (run frames s).state i t) (reader_place (run frames s).state i t)
+    ((run frames s).state.world.histories t)
+
 -- ---- writer by writer
 
--- message number n was written by this writer
-abbrev pub is_by : ℕ → History Record → ℕ → Bool
-is_by writer h n = elim (message_numbered h n) [ None ↦ false | Some m ↦ m.writer == writer ]
+-- what a reader was given, each message with its number
+abbrev pub numbered_given : List ReadEntry → List (ℕ × Record)
+numbered_given es = flat_map (λ e. enumerate_from e.stretch.first (unwrap_or e.given [])) es
 
--- A reader was given messages of this writer as they were written, and in order of writing.
-pub record IsInOrderOf (writer : ℕ) (es : List ReadEntry) (last : History Record) : Type 0 where
-  pub as_written : map (message_numbered last) (filter (is_by writer last) (numbers_of given es))
-      ≡ map Some (filter (λ m. m.writer == writer) (messages_given es))
-  pub in_order : IsStrictlyIncreasing (filter (is_by writer last) (numbers_of given es))
+-- what this writer was told that it wrote to type t
+abbrev pub told_to : ℕ → ℕ → List (ℕ × Step) → List (ℕ × Record)
+told_to writer t steps = told t (filter (λ x. x.0 == writer) steps)
+
+-- A reader was given messages of this writer as it wrote them, in a run of these steps that found so
+-- many messages.
+pub record IsInOrderOf (writer t : ℕ) (es : List ReadEntry) (found : ℕ)
+    (steps : List (ℕ × Step)) : Type 0 where
+  -- each was there before, or the writer was told in the run that it wrote it, under that number
+  pub as_told : (n : ℕ) (m : Record) → Contains (numbered_given es) (n, m) → m.writer ≡ writer
+      → (n < found) ⊎ Contains (told_to writer t steps) (n, m)
+  -- and it was told its numbers in order, as the reader is given them
+  pub in_order : IsStrictlyIncreasing (map (λ x. x.0) (told_to writer t steps))
+
+-- So it is in every complete run, for each writer.
+abbrev pub WritersInOrder : Type 0
+WritersInOrder = (frames : List Frame) (s : State) → IsCompleteRun frames s → (i t : ℕ) → t < s.types
+    → IsTrue (has_begun (run frames s).state i) → (writer : ℕ)
+    → IsInOrderOf writer t (entries_in_run i t frames s) (count (s.world.histories t)) (run frames s).steps
 
 -- ---- tiles
 
@@ -100,22 +121,6 @@ messages_of h stretch = map message_of (take stretch.number (drop stretch.first 
 -- an entry that gave messages gave those of its stretch
 abbrev pub GivesItsStretch : Moment → Type 0
 GivesItsStretch m = IfSome m.entry.given (λ items. items ≡ messages_of m.history m.entry.stretch)
-
--- ---- all of it
-
--- What a run did for the reader of type t in system i, message by message.
-pub record IsServedEach (i t : ℕ) (frames : List Frame) (s : State) : Type 0 where
-  pub given : IsGivenOnce (entries_in_run i t frames s) (moments i t frames s)
-      (found_at s (run frames s).state i t)
-      (reader_place (run frames s).state i t) ((run frames s).state.world.histories t)
-  -- those of each writer in its order
-  pub by_writer : (writer : ℕ) → IsInOrderOf writer (entries_in_run i t frames s)
-      ((run frames s).state.world.histories t)
-
--- A reader that a run served was given each message once.
-abbrev pub EachMeetsOneFate : Type 0
-EachMeetsOneFate = (i t : ℕ) (frames : List Frame) (s : State) → IsServed i t frames s
-    → IsServedEach i t frames s
 
 -- The reads and clears of a reader in a run tile, and what each gave is the messages there.
 pub record IsTiled (i t : ℕ) (frames : List Frame) (s : State) : Type 0 where

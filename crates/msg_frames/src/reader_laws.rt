@@ -1,5 +1,5 @@
 //! Laws of readers: facts that hold of every run of frames.
-ghost use Rattle.msg_frames.specs.Prelude.{AccountsBalance, AllAreAnswered, EachMeetsOneFate, FirstIsSound, FrameStaysSound, LogsTellEntries, NoneBeforeJoining, ReadersTile, ReplaysTellTheSame, RunStaysSound, RunsAreComplete, WhoIsUpToDateMissesNothing, WhoReadsAllCatchesUp, WhoReadsAllHasTheFrameBefore, WhoReadsAllIsUpToDate, WhoReadsEachFrameMissesNothing, WhoseProgramReadsAll};
+ghost use Rattle.msg_frames.specs.Prelude.{AccountsBalance, AllAreAnswered, EachMeetsOneFate, FirstIsSound, FrameStaysSound, LogsTellEntries, NoneBeforeJoining, ReadersTile, ReplaysTellTheSame, RunStaysSound, RunsAreComplete, WhoIsUpToDateMissesNothing, WhoReadsAllCatchesUp, WhoReadsAllHasTheFrameBefore, WhoReadsAllIsUpToDate, WhoReadsEachFrameMissesNothing, WhoseProgramReadsAll, WritersInOrder};
 
 use msg_buffer::laws::{histories_only_grow, readers_tile};
 use msg_system::a_program_is_its_ops_in_order;
@@ -32,10 +32,12 @@ pub fn runs_are_complete()
     readers_tile::<Record>();
 }
 
-/// So each of these messages was given, or cleared, or missed: one of these, and once. Those of each
-/// writer are given in its order, and the entries are what the logs tell.
+/// So each of these messages was given, or cleared, or missed: one of these, and once. What is given
+/// of a writer is what the writer was told that it wrote, under that number and in that order. And the
+/// entries are what the logs tell.
 pub fn each_message_meets_one_fate()
     ensures fate { EachMeetsOneFate }
+    ensures writers { WritersInOrder }
     ensures logs { LogsTellEntries }
 {}
 

@@ -9,7 +9,7 @@ once : EachMeetsOneFate → LogsTellEntries → (frames : List Frame) (s : State
     → Meets (log_entries i t (s.members i).job.system logs) n j given
     → Meets (log_entries i t (s.members i).job.system logs) n k given → j ≡ k
 once fate tell frames s logs same complete i t n j k below has first second =
-    let told = (fate i t frames s (complete.served i t below has)).given in
+    let told = fate i t frames s (complete.served i t below has) in
     let one = rw (same, tell i t frames s) at first in
     let other = rw (same, tell i t frames s) at second in
     let within = told.no_other n j given one in
