@@ -5,9 +5,7 @@ use crate::lender::Lender;
 use crate::replay::{accepts_next, replay_one};
 use crate::spares::Spares;
 use crate::{BuildRefusal, Frame, Gate, Log, Place, RunFault, Workers};
-use msg_frames::reader_laws::{
-    first_states_are_sound, replays_tell_the_same, runs_are_complete,
-};
+use msg_frames::reader_laws::{first_states_are_sound, replays_tell_the_same, runs_are_complete};
 use msg_order::Rule;
 use msg_order::laws::fewer_systems_make_no_cycle;
 use msg_system::System;
@@ -149,7 +147,8 @@ impl<S: System> EngineOf<S> {
         // that only grow, and each reader is given every message once.
         ensures ran { IfOk result (λ log. (s : State) → EngineStands S.meaning self.old s
             → HasRunFrame S.meaning frame.now s log self.new) }
-        ensures since { IfOk result (λ log. (s : State) (frames : List FrameView) (logs : List LogView)
+        ensures since { IfOk result (λ log.
+            (s : State) (frames : List FrameView) (logs : List LogView)
             → HasRunSince S.meaning s frames logs self.old
             → HasRunSince S.meaning s (frames ++ frame.now ∷ []) (logs ++ log ∷ []) self.new) }
 
@@ -271,7 +270,8 @@ impl<S: System> EngineOf<S> {
         // state that the frame leaves.
         ensures replayed { IfOk result (λ log. (s : State) → EngineStands S.meaning self.old s
             → HasReplayed S.meaning frame.now order.now s log self.new) }
-        ensures since { IfOk result (λ log. (s : State) (frames : List FrameView) (logs : List LogView)
+        ensures since { IfOk result (λ log.
+            (s : State) (frames : List FrameView) (logs : List LogView)
             → HasRunSince S.meaning s frames logs self.old
             → HasRunSince S.meaning s (frames ++ frame.now ∷ []) (logs ++ log ∷ []) self.new) }
         ensures counted { OnOk result

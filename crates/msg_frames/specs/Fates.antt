@@ -96,8 +96,8 @@ numbered_given es = flat_map (λ e. enumerate_from e.stretch.first (unwrap_or e.
 abbrev pub told_to : ℕ → ℕ → List (ℕ × Step) → List (ℕ × Record)
 told_to writer t steps = told t (filter (λ x. x.0 == writer) steps)
 
--- A reader was given messages of this writer as it wrote them, in a run of these steps that found so
--- many messages.
+-- A reader was given messages of this writer as it wrote them, in a run of these steps that found
+-- so many messages.
 pub record IsInOrderOf (writer t : ℕ) (es : List ReadEntry) (found : ℕ)
     (steps : List (ℕ × Step)) : Type 0 where
   -- each was there before, or the writer was told in the run that it wrote it, under that number
@@ -108,9 +108,10 @@ pub record IsInOrderOf (writer t : ℕ) (es : List ReadEntry) (found : ℕ)
 
 -- So it is in every complete run, for each writer.
 abbrev pub WritersInOrder : Type 0
-WritersInOrder = (frames : List Frame) (s : State) → IsCompleteRun frames s → (i t : ℕ) → t < s.types
-    → IsTrue (has_begun (run frames s).state i) → (writer : ℕ)
-    → IsInOrderOf writer t (entries_in_run i t frames s) (count (s.world.histories t)) (run frames s).steps
+WritersInOrder = (frames : List Frame) (s : State) → IsCompleteRun frames s → (i t : ℕ)
+    → t < s.types → IsTrue (has_begun (run frames s).state i) → (writer : ℕ)
+    → IsInOrderOf writer t (entries_in_run i t frames s) (count (s.world.histories t))
+    (run frames s).steps
 
 -- ---- tiles
 

@@ -25,7 +25,8 @@ abbrev pub all_written : History Record → List (ℕ × Record)
 all_written h = enumerate_from 0 (map (λ e. e.message) h.entries)
 
 -- Type t's list grew by exactly what the steps tell: each message once, under the number told.
-pub record IsWrittenOnce (t : ℕ) (w : WorldState) (steps : List (ℕ × Step)) (v : WorldState) : Type 0 where
+pub record IsWrittenOnce (t : ℕ) (w : WorldState) (steps : List (ℕ × Step))
+    (v : WorldState) : Type 0 where
   pub grew : all_written (v.histories t) ≡ all_written (w.histories t) ++ told t steps
 
 -- ---- what was answered
@@ -44,4 +45,5 @@ answers_of logs =
 
 -- the steps of a run have the replies of its logs, in that order
 abbrev pub AreAnswered : List Frame → State → Type 0
-AreAnswered frames s = map (λ x. (x.0, x.1.reply)) (run frames s).steps ≡ answers_of (run frames s).logs
+AreAnswered frames s = map (λ x. (x.0, x.1.reply)) (run frames s).steps
+    ≡ answers_of (run frames s).logs

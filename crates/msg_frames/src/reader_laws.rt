@@ -32,9 +32,9 @@ pub fn runs_are_complete()
     readers_tile::<Record>();
 }
 
-/// So each of these messages was given, or cleared, or missed: one of these, and once. What is given
-/// of a writer is what the writer was told that it wrote, under that number and in that order. And the
-/// entries are what the logs tell.
+/// So each of these messages was given, or cleared, or missed: one of these, and once. What is
+/// given of a writer is what the writer was told that it wrote, under that number and in that
+/// order. And the entries are what the logs tell.
 pub fn each_message_meets_one_fate()
     ensures fate { EachMeetsOneFate }
     ensures writers { WritersInOrder }

@@ -200,11 +200,3 @@ pub settled_only : (accesses : List Access) (rules : List Rule) (joined : List B
 settled_only accesses rules joined conflict g len tells is =
     settles_once (AreInConflict accesses joined) (pairs (length accesses)) (rules_among joined rules) g
     (settled conflict rules joined) is (settled_is accesses rules joined conflict len tells)
-
--- each that has joined has a turn, where the rules make no cycle
-pub joined_turns : (rules : List Rule) (joined : List Bool) (conflict : ℕ → ℕ → Bool)
-    → IsAcyclic (rules_among joined rules) → (i : ℕ)
-    → Contains (turns (settled conflict rules joined) joined) i ↔ IsTrue (has_joined joined i)
-joined_turns rules joined conflict free i =
-    (turns_are (settled conflict rules joined) joined (settled_among rules joined conflict)
-    (settled_no_cycle rules joined conflict free)).of_joined i

@@ -20,7 +20,9 @@ pub returns : goal.returns
 returns g c = record {
   never_twice = λ s stands.
       let ran = c.in_ok-run_frames.ensures.ran s stands in
-      let laws = c.each_message_meets_one_fate.ensures in
-      ((run c.args.frames.now s).state, ran.stands,
-      once laws.fate laws.logs c.args.frames.now s c.run_frames.new.out.items (search rules) ran.complete);
+      let laws = c.each_message_meets_one_fate.ensures in (
+        (run c.args.frames.now s).state,
+        ran.stands,
+        once laws.fate laws.logs c.args.frames.now s c.run_frames.new.out.items (search rules) ran.complete,
+      );
 }
