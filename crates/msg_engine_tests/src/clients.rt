@@ -2,10 +2,10 @@
 ghost use Rattle.std.specs.Prelude.{◌≡◌, ◌<◌, ℕ, All, IfOk, IsTrue};
 ghost use Rattle.msg_exec.specs.Prelude.{IsEngine, PostsFit, EngineStands};
 ghost use Rattle.msg_frames.specs.Prelude.{Meets, State, has_begun, log_entries};
-ghost use Rattle.msg_frames.specs.Entries.Fate.{given};
+ghost use Rattle.msg_frames.specs.Fates.Fate.{given};
 
-use msg_exec::laws::runs_are_unique;
 use msg_exec::{EngineOf, Frame, Log, NoGate, RunFault, Workers};
+use msg_frames::reader_laws::each_message_meets_one_fate;
 use msg_system::System;
 use std::alloc::Global;
 use std::thread::Threads;
@@ -27,7 +27,6 @@ pub fn run_both<R: Threads + Sync, S: System>(
     // However many workers each has, the logs are equal.
     ensures equal { IfOk result (λ logs. logs.0.items ≡ logs.1.items) }
 {
-    runs_are_unique();
     let mut logs = (Vec::new(alloc), Vec::new(alloc));
     one.run_frames(rt, frames, workers.0, &NoGate, &mut logs.0)?;
     other.run_frames(rt, frames, workers.1, &NoGate, &mut logs.1)?;
@@ -49,6 +48,7 @@ pub fn run_once<R: Threads + Sync, S: System>(
         → Meets (log_entries i t (s.members i).job.system logs.items) n j given
         → Meets (log_entries i t (s.members i).job.system logs.items) n k given → j ≡ k)) }
 {
+    each_message_meets_one_fate();
     let mut logs = Vec::new(alloc);
     engine.run_frames(rt, frames, workers, &NoGate, &mut logs)?;
     Ok(logs)

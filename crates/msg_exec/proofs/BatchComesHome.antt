@@ -8,7 +8,7 @@ use Rattle.msg_order.specs.Prelude.{access_of}
 use Rattle.msg_system.specs.Prelude.{Job as JobState, Meaning, after_job}
 use Rattle.msg_exec.specs.Prelude.{IsAfterJob, IsDone, JobView, Lender, LenderStands, TotalsStand, job_state, system_at}
 use Rattle.msg_frames.specs.declared.log.Turn.{Turn}
-use Rattle.msg_frames.specs.Prelude.{AreAccessesOf, BatchesRunSideBySide, SameSystems, State, after_turns_of, all_home, home, logged_turn, turn_of}
+use Rattle.msg_frames.specs.Prelude.{AreAccessesOf, BatchesRunSideBySide, SameSystems, State, after_turns_of, all_home, home, logged_turn, member_after, turn_of}
 use Rattle.msg_exec.specs.{inner.Batches.AreResults, inner.Totals.HasFewReplies, inner.SystemsOut.AreOut, inner.SystemsOut.ComesHome, inner.SystemsOut.IsOut, inner.SystemsOut.any_writes}
 use Rattle.msg_exec.proofs.{BatchGoesOut.has_written, BatchGoesOut.left_stands, SystemAfterTurn.few_replies, SystemAfterTurn.its_own, SystemAfterTurn.of_another, SystemAfterTurn.totals_after, ItemsOfLists.get_other, ItemsOfLists.get_same, ItemsOfLists.some_of, JobsAreDone.none_there, BatchWritesApart.later_write_not, BatchWritesApart.written_is_used, BatchGoesOut.IsBatch, BatchWritesApart.Free, ItemsOfLists.zip_of_each}
 use Rattle.msg_frames.proofs.{SystemsStay.turns_keep_systems, ElementsAndPairs.pairs_head, ElementsAndPairs.pairs_right}
@@ -98,7 +98,7 @@ module _ {S : Type 0} (meaning : S → Meaning) where
         (free : All (Free whole.accesses.items i) rest)
         (merges : HomeMerges) (either : HomeWhereEither) where
       totals_back : IsSomeAnd (slice_get new.totals.items i)
-          (λ v. TotalsStand s.types v.items (turn_of s i).member.totals)
+          (λ v. TotalsStand s.types v.items (member_after (turn_of s i) (s.members i)).totals)
       totals_back =
           let there = rw (half.untouched i (Contains-head i rest)) at (half.totals i lt) in
           let old = some_of (slice_get now.totals.items i) there in
@@ -115,14 +115,14 @@ module _ {S : Type 0} (meaning : S → Meaning) where
         accesses = comes.accesses ∙ half.accesses;
         as_many = grind (arith, length-set);
         members = λ k below away. elim (eqb_tells k i) [
-          | inl same ↦ rw (same.1, its_own i (turn_of s i).member u.members) (grind (arith, get_or-set_same))
+          | inl same ↦ rw (same.1, its_own i (member_after (turn_of s i) (s.members i)) u.members) (grind (arith, get_or-set_same))
           | inr other ↦
               let out : ¬ Contains (i ∷ rest) k = λ there. grind (arith, Contains-cases) in
               grind (arith, get_or-set_other, half.members k below out, of_another)
         ];
         totals = λ k below. grind (arith, eqb_tells, get_other, its_own, of_another, totals_back);
         untouched = λ k there. grind (arith, Contains-tail, of_another);
-        world = merges (access_of whole.accesses.items i) d.taken now.world new.world (turn_of s i).world u.world
+        world = merges (access_of whole.accesses.items i) d.taken now.world new.world (turn_of s i).state u.world
             (λ p isnt. none_there (slot p d.taken) (back.there p ∙ isnt)) out_of_world comes.taken_back
             back.after.written half.world;
         size = grind (arith, comes.taken_back.size, half.size);

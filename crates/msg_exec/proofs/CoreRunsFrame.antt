@@ -1,15 +1,17 @@
 -- A frame begins, takes its turns, and leaves a core that stands for the state after it.
-use Rattle.std.proofs.Common.{◌≡◌, ℕ, suc, ◌<◌, Bool, false, List, map, max, ap, ◌∙◌, arith, IsTrue, ◌↔◌, nat_le, refl}
+use Rattle.std.proofs.Common.{◌≡◌, ℕ, suc, ◌<◌, Bool, false, List, map, max, ap, ◌∙◌, arith, IsTrue, ◌↔◌, nat_le, refl, sym}
 use Rattle.std.specs.List.{concat}
 use Rattle.std.proofs.lemmas.{Bool.lt-leb, Bool.Decides.nat_tests, List.FromFn.fill_by_all, List.FromFn.get_or-map-range_with_len, List.FromFn.length-map-range_with_len, List.get_or-map, List.length-map}
 use Rattle.msg_order.specs.Prelude.{IsLawfulOrder, PlanView}
 use Rattle.msg_system.specs.declared.reply.Reply.{Reply}
 use Rattle.msg_system.specs.Prelude.{Meaning}
 use Rattle.msg_exec.specs.Prelude.{AreJoins, Core, CoreStands, Lender, LenderStands, Schedule}
-use Rattle.msg_frames.specs.{declared.frame.Frame.Frame, declared.log.Log.Log}
+use Rattle.msg_frames.specs.{declared.frame.Frame.Frame}
 use Rattle.msg_exec.specs.{inner.FrameSteps.HasLeft, inner.FrameSteps.HasOpened, inner.FrameSteps.NobodyJoins, inner.FrameSteps.one_frame_more, inner.SystemsOut.HaveReadNothing, inner.FrameSteps.PlansNext}
-use Rattle.msg_frames.specs.Prelude.{IsLawfulFor, IsOrderOf, SystemsHaveOneOrder, FrameStaysSound, IsFrame, IsSoundState, SameSystems, State, after_turns_of, before_turns, frame_in, has_begun, join_flags, after_joining}
-use Rattle.msg_frames.proofs.{SystemsStay.accesses_stay, SystemsStay.before_keeps, SystemsStay.joined_stay, SystemsStay.joining_keeps, SystemsStay.joining_makes_no_frame, SystemsStay.no_cycle_stays, SystemsStay.turns_keep_systems, SystemsStay.turns_make_no_frame, FramesInOrder.frame_in_order}
+use Rattle.msg_frames.specs.Prelude.{FrameStaysSound, IsLawfulFor, IsSoundState, SameSystems, State, after_joining, before_turns, frame, has_begun, join_flags}
+use Rattle.msg_frames.specs.Frames.{turn_order}
+use Rattle.msg_frames.proofs.{Functions.plan_order, Functions.plan_turns, SystemsStay.uses_stay}
+use Rattle.msg_frames.proofs.{SystemsStay.accesses_stay, SystemsStay.before_keeps, SystemsStay.joined_stay, SystemsStay.joining_keeps, SystemsStay.joining_makes_no_frame, SystemsStay.turns_keep_systems, SystemsStay.turns_make_no_frame}
 
 -- ---- the schedule
 
@@ -22,7 +24,6 @@ schedule_along {s = s} {u} joins rules same has = record {
   few = rw same.systems has.few;
   early = grind (arith, has.early, same.members);
   named = rw (same.rules, same.systems) has.named;
-  no_cycle = no_cycle_stays s u same has.no_cycle;
 }
 
 -- ---- who has joined
@@ -53,40 +54,29 @@ about_to_join s sound some i t joins = grind (arith, lt-leb, sound.waiting i t)
 -- ---- the frame opens, and its turns are taken
 
 module _ {S : Type 0} (meaning : S → Meaning) where
-  module _ {b : Core S} {s : State} {frame : Frame} {replies : List Reply}
-      (has : HasOpened meaning frame s b replies) where
-    abbrev order : List ℕ
-    order = concat b.plan.batches
+  module _ {b : Core S} {s : State} {f : Frame} {replies : List Reply}
+      (has : HasOpened meaning f s b replies) where
+    -- batch by batch, those that have joined take their turns in the settled order
+    pub in_turn : IsSoundState s → concat b.plan.batches ≡ turn_order (before_turns f.posts s)
+    in_turn sound =
+        let bt : State = before_turns f.posts s in
+        plan_turns bt b.lender.accesses.items has.plan.order (concat b.plan.batches)
+        (uses_stay s bt (before_keeps f.posts s) sound.uses) (grind (arith, has.lender)) has.plan.settled has.plan.turns
 
-    -- one turn after the other, batch by batch, is a frame
-    pub is_frame_by : {log : Log} → log ≡ (frame_in order frame s).log
-        → IsFrame frame s log (after_turns_of order (before_turns frame.posts s)).state
-    is_frame_by told =
-        frame_in_order frame s _ order (record {
-          settled = has.plan.order;
-          is_order = record {
-            accesses = b.lender.accesses.items;
-            of_systems = grind (arith, has.lender);
-            is_settled = has.plan.settled;
-          };
-          in_order = has.plan.turns;
-        }) told
-
-    pub frame_ran : {new : Lender S} {log : Log} → IsSoundState s → FrameStaysSound
-        → LenderStands meaning new (after_turns_of order (before_turns frame.posts s)).state
-        → log ≡ (frame_in order frame s).log → new.accesses.items ≡ b.lender.accesses.items
-        → HasLeft meaning (IsFrame frame s log) s (record b { lender = new })
+    pub frame_ran : {new : Lender S} {Told : Type 0} → IsSoundState s → FrameStaysSound
+        → LenderStands meaning new (frame f s).state → Told → new.accesses.items ≡ b.lender.accesses.items
+        → HasLeft meaning Told f s (record b { lender = new })
     frame_ran sound stays lender told accesses =
-        let bt : State = before_turns frame.posts s in
+        let bt : State = before_turns f.posts s in
+        let order : List ℕ = turn_order bt in
         let same = turns_keep_systems order bt in
         record {
-          state = (after_turns_of order bt).state;
-          leaves = is_frame_by told;
+          told = told;
           stands = record {
             lender = lender;
             schedule = schedule_along refl refl same has.schedule;
             plan = rw (accesses, same.rules, joined_stay bt _ same (turns_make_no_frame order bt)) has.plan;
-            sound = stays frame s _ _ sound (is_frame_by told);
+            sound = stays f s sound;
           };
           frames = turns_make_no_frame order bt ∙ ap suc (joining_makes_no_frame s);
         }
@@ -94,18 +84,15 @@ module _ {S : Type 0} (meaning : S → Meaning) where
   -- ---- which orders are lawful
 
   -- an order is lawful for a frame just where the plan of those that will have joined accepts it
-  pub accepted : {accepts : Bool} {c : Core S} {s : State} {plan : PlanView} (frame : Frame) (order : List ℕ)
-      → SystemsHaveOneOrder → CoreStands meaning c s → (is : PlansNext c s plan)
+  pub accepted : {accepts : Bool} {c : Core S} {s : State} {plan : PlanView} (f : Frame) (order : List ℕ)
+      → CoreStands meaning c s → (is : PlansNext c s plan)
       → (IsTrue accepts ↔ IsLawfulOrder is.order (join_flags (one_frame_more (after_joining s))) order)
-      → IsTrue accepts ↔ IsLawfulFor frame s order
-  accepted {c = c} {s} frame order one stands is tells =
-      let b : State = before_turns frame.posts s in
-      let same = before_keeps frame.posts s in
-      let is_order : IsOrderOf b is.order = record {
-        accesses = c.lender.accesses.items;
-        of_systems = accesses_stay s b c.lender.accesses.items same (grind (arith, stands.lender));
-        is_settled = rw same.rules is.settled;
-      } in (
-        λ yes. record { settled = is.order; is_order = is_order; lawful = tells.0 yes },
-        λ x. tells.1 (rw (one b x.settled is.order x.is_order is_order) at x.lawful),
+      → IsTrue accepts ↔ IsLawfulFor f s order
+  accepted {c = c} {s} f order stands is tells =
+      let b : State = before_turns f.posts s in
+      let keeps = before_keeps f.posts s in
+      let same = plan_order b c.lender.accesses.items is.order (uses_stay s b keeps stands.sound.uses)
+      (accesses_stay s b c.lender.accesses.items keeps (grind (arith, stands.lender))) (rw keeps.rules is.settled) in (
+        λ yes. record { lawful = rw same at (tells.0 yes) },
+        λ x. tells.1 (rw (sym same) at x.lawful),
       )

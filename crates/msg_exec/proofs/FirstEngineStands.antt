@@ -3,7 +3,7 @@ use Rattle.std.proofs.Common.{◌≡◌, ℕ, ◌<◌, ◌≤◌, Bool, true, fa
 use Rattle.std.proofs.lemmas.{Bool.cases_lt, Bool.false≢true, List.get_or-map, List.get_or-replicate, List.get_or_past, List.get_or-take, List.length-map, Option.get_or_from_slice_get, Option.slice_get-get_or, Option.slice_get_within, List.map-id, Simd.map-map}
 use Rattle.std.specs.Global.{Box, Vec}
 use Rattle.msg_world.specs.declared.access.Access.{Access}
-use Rattle.msg_world.specs.Prelude.{IsWhole, OfType, Parts, PartsStand, WorldState}
+use Rattle.msg_world.specs.Prelude.{Has, HasPart, IsWhole, OfResource, OfType, Part, Parts, PartsStand, Registry, WorldState}
 use Rattle.msg_order.specs.declared.rule.Rule.{Rule}
 use Rattle.msg_order.specs.Prelude.{FewerSystemsMakeNoCycle, IsAcyclic, NameSystemsBelow, access_of, edges_of, rules_among}
 use Rattle.msg_system.specs.Prelude.{HasClash, Meaning, new_asked}
@@ -90,8 +90,21 @@ module _ {S : Type 0} (meaning : S → Meaning) where
             ],
           )
 
-    pub are_new : (w : WorldState) → PartsStand world w → AreNew (map meaning systems) places (length world.types) w
-    are_new w stands = record {
+    -- a world has no other parts
+    part_of : (p : Part) → (length world.types ≤ 64) × (length world.resources ≤ 64) → Has world p → HasPart 64 64 p
+    part_of (OfType t) few has = omega (arith, few, has)
+    part_of (OfResource r) few has = omega (arith, few, has)
+    part_of Registry few has = has
+
+    pub are_new : (rules : List Rule) (w : WorldState) → PartsStand world w
+        → (length world.types ≤ 64) × (length world.resources ≤ 64)
+        → ((joined : List Bool) → length joined ≡ length systems → IsAcyclic (rules_among joined rules))
+        → AreNew (map meaning systems) places rules (length world.types) w
+    are_new rules w stands few none = record {
+      uses = λ i lt p.
+          let f = found i (omega (arith, lt, length-map systems meaning)) in
+          rw (f.is, f.at, conditions_new) (λ needed. part_of p few (f.may.fits f.place f.sp p needed));
+      no_cycle = λ joined size. none joined (size ∙ length-map systems meaning);
       histories = λ t lt. grind (arith, false≢true, stands (OfType t), whole (OfType t) lt);
       new = λ i lt. (let f = found i (omega (arith, lt, length-map systems meaning)) in rw f.is f.may.new);
       joins = λ k d lt.
@@ -101,10 +114,8 @@ module _ {S : Type 0} (meaning : S → Meaning) where
 
     -- the schedule of a new engine
     pub schedule_first : (c : Core S) (rules : List Rule) (w : WorldState) → length systems ≤ 256
-        → NameSystemsBelow (length systems) rules
-        → ((joined : List Bool) → length joined ≡ length systems → IsAcyclic (rules_among joined rules))
-        → c.rules.items ≡ rules → AreJoins c.joins.items (first rules w) → Schedule c (first rules w)
-    schedule_first c rules w few named none same joins =
+        → NameSystemsBelow (length systems) rules → c.rules.items ≡ rules → AreJoins c.joins.items (first rules w) → Schedule c (first rules w)
+    schedule_first c rules w few named same joins =
         let n : length (map meaning systems) ≡ length systems = length-map systems meaning in
         record {
           joins = joins;
@@ -112,7 +123,6 @@ module _ {S : Type 0} (meaning : S → Meaning) where
           few = omega (arith, few, n);
           early = λ i lt. (let f = found i (omega (arith, lt, n)) in rw f.at (f.may.joins f.place f.sp).1);
           named = rw n named;
-          no_cycle = λ joined size. none joined (size ∙ n);
         }
 
 pub none_more : FewerSystemsMakeNoCycle → (n : ℕ) (rules : List Rule) → NameSystemsBelow n rules

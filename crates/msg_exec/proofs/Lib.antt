@@ -19,3 +19,4 @@ mod FirstEngineStands
 mod BuilderBuilds
 pub mod EngineRunsFrames
 mod AccountsTell
+mod SinceThen

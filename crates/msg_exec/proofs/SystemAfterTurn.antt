@@ -1,12 +1,13 @@
 -- What a system's turn leaves: what came of it, its place on the lender, and its totals.
-use Rattle.std.proofs.Common.{sym, get_or, ◌≡◌, ◌≢◌, zero, suc, Option, append-nil, length-append, ℕ, ◌<◌, ◌≤◌, List, length, refl, arith, slice_get}
+use Rattle.std.proofs.Common.{sym, ap, ◌∙◌, get_or, ◌≡◌, ◌≢◌, zero, suc, Option, append-nil, length-append, ℕ, ◌<◌, ◌≤◌, List, length, refl, arith, slice_get}
 use Rattle.std.specs.Global.{Vec}
 use Rattle.std.proofs.lemmas.{Option.slice_get_read, Bool.cases_Bool, Bool.eq-eqb, Bool.ne_eqb}
 use Rattle.msg_world.specs.Prelude.{SameShape, WorldState}
 use Rattle.msg_system.specs.{declared.op.Op.Op, declared.reply.Reply.Reply}
 use Rattle.msg_system.specs.Prelude.{Job as JobState, Meaning, after_at_most, after_job, next_op, turn}
 use Rattle.msg_frames.specs.{declared.log.Outcome.Outcome, declared.totals.Totals.Totals}
-use Rattle.msg_frames.specs.Prelude.{Member, State, member_turn, outcome_entries, outcome_of, with_entries, with_member}
+use Rattle.msg_frames.specs.Prelude.{Member, ReadEntry, State, member_after, entries_at, outcome_of, with_entries, with_member}
+use Rattle.msg_frames.proofs.EntriesOfSteps.{job_logged}
 use Rattle.msg_exec.specs.Prelude.{Lender, LenderStands, MemberStands, TotalsStand, capped_totals, system_at, totals_at}
 use Rattle.msg_exec.specs.inner.Totals.{HasFewReplies, entries_by}
 
@@ -15,8 +16,8 @@ use Rattle.msg_exec.specs.inner.Totals.{HasFewReplies, entries_by}
 -- the entries of its last ops are those of its turn
 last_entries : (t : ℕ) (j : JobState) (w : WorldState)
     → entries_by t (after_job j w).job.system.last (outcome_of (after_job j w).replies)
-    ≡ outcome_entries t j.system (outcome_of (after_job j w).replies)
-last_entries t j w = grind (arith, append-nil, cases_Bool)
+    ≡ entries_at t (after_job j w).steps
+last_entries t j w = grind (arith, append-nil, cases_Bool, job_logged t j w)
 
 at_most_replies : (n : ℕ) (next : List Reply → Option Op) (writer : ℕ) (places : ℕ → ℕ) (w : WorldState)
     → length (after_at_most n next writer places w).replies ≤ n
@@ -55,10 +56,20 @@ module _ {S : Type 0} (meaning : S → Meaning) where
 
 -- ---- the totals after a turn
 
+totals_are : (types : ℕ) (a b : ℕ → Totals) (old new : List Totals) → TotalsStand types old a
+    → length new ≡ length old
+    → ((t : ℕ) → t < length old → totals_at old t ≡ capped_totals (a t) → totals_at new t ≡ capped_totals (b t))
+    → TotalsStand types new b
+totals_are types a b old new stands as_many each = grind arith
+
 pub totals_after : (types : ℕ) (m : Member) (w : WorldState) (old new : List Totals) (ops : List Op) (o : Outcome)
     → ops ≡ (after_job m.job w).job.system.last → o ≡ outcome_of (after_job m.job w).replies
     → TotalsStand types old m.totals → length new ≡ length old
     → ((t : ℕ) (x : Totals) → t < length old → totals_at old t ≡ capped_totals x → totals_at new t
     ≡ capped_totals (with_entries (entries_by t ops o) x))
-    → TotalsStand types new (member_turn m w).member.totals
-totals_after types m w old new ops o its came stands as_many entered = grind (arith, last_entries)
+    → TotalsStand types new (member_after (after_job m.job w) m).totals
+totals_after types m w old new ops o its came stands as_many entered =
+    let same : (t : ℕ) → entries_by t ops o ≡ entries_at t (after_job m.job w).steps =
+    λ t. rw (its, came) (last_entries t m.job w) in
+    totals_are types m.totals (member_after (after_job m.job w) m).totals old new stands as_many
+    (λ t lt is. entered t (m.totals t) lt is ∙ ap (λ (es : List ReadEntry). capped_totals (with_entries es (m.totals t))) (same t))

@@ -3,7 +3,7 @@ use Rattle.std.specs.Prelude.{◌≡◌, ℕ, ◌-◌, ◌^◌, ◌≤◌, ◌<�
 use Rattle.msg_order.specs.Prelude.{IsPlanOf, NameSystemsBelow}
 use Rattle.msg_system.specs.Prelude.{Meaning}
 use Rattle.msg_exec.specs.{declared.engine_core.Core.Core, Lender.AreJoins, Lender.LenderStands}
-use Rattle.msg_frames.specs.Prelude.{IsSoundState, NoCycle, State, join_flags}
+use Rattle.msg_frames.specs.Prelude.{IsSoundState, State, join_flags}
 
 -- how many frames were run, as an engine counts them: it stays at the greatest number of its type
 abbrev pub frame_count : State → ℕ
@@ -18,7 +18,6 @@ module _ {S : Type 0} where
     pub few : s.systems ≤ 256
     pub early : (i : ℕ) → i < s.systems → (s.members i).join ≤ 10000
     pub named : NameSystemsBelow s.systems s.rules
-    pub no_cycle : NoCycle s
 
 module _ {S : Type 0} (meaning : S → Meaning) where
   -- Part by part, the core is what the state says, and the state is sound.

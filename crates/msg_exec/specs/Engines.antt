@@ -1,10 +1,11 @@
 -- When an engine stands for a state, and what its calls do.
-use Rattle.std.specs.Prelude.{◌≡◌, ◌⊎◌, ℕ, ◌<◌, [], ◌∷◌, ◌++◌, All, List, length, take, Option, option_map, IsNone, IsSomeAnd, IfSome}
+use Rattle.std.specs.Prelude.{◌≡◌, ◌⊎◌, ℕ, ◌<◌, ◌≤◌, [], ◌∷◌, ◌++◌, All, List, length, take, Option, option_map, IsNone, IsSomeAnd, IfSome}
+use Rattle.std.specs.List.{AllZip}
 use Rattle.msg_world.specs.Prelude.{Parts}
 use Rattle.msg_system.specs.Prelude.{Meaning}
 use Rattle.msg_exec.specs.{declared.engine.EngineOf.EngineOf, Cores.CoreStands, Cores.frame_count}
 use Rattle.msg_frames.specs.{declared.frame.Frame.Frame, declared.log.Log.Log}
-use Rattle.msg_frames.specs.Prelude.{IsCompleteRun, IsFrame, IsReplay, IsRun, State, TellsACompleteRun}
+use Rattle.msg_frames.specs.Prelude.{IsCompleteRun, IsLawfulFor, State, TellsTheSame, answers_in, frame, run, turn_order_in}
 
 module _ {S : Type 0} where
   -- A call that runs a frame ended for want of memory: the world and the systems are gone.
@@ -36,39 +37,44 @@ module _ {S : Type 0} (meaning : S → Meaning) where
 
   -- From the state s the engine ran a frame: the log is the frame's on one thread, with all that a
   -- run comes to, and the engine stands for the state that the frame leaves.
-  pub record HasRunFrame (frame : Frame) (s : State) (log : Log) (e : EngineOf S) : Type 0 where
-    pub state : State
-    pub is_frame : IsFrame frame s log state
-    pub complete : IsCompleteRun (frame ∷ []) s (log ∷ []) state
-    pub stands : EngineStands e state
+  pub record HasRunFrame (f : Frame) (s : State) (log : Log) (e : EngineOf S) : Type 0 where
+    pub tells : log ≡ (frame f s).log
+    pub complete : IsCompleteRun (f ∷ []) s
+    pub stands : EngineStands e (frame f s).state
 
-  -- From the state s the engine replayed a frame in this order: the log is a replay's, it tells
-  -- each system what the frame tells it, with all that a run comes to, and the engine stands for
-  -- the state that the frame leaves.
-  pub record HasReplayed (frame : Frame) (order : List ℕ) (s : State) (log : Log)
+  -- From the state s the engine replayed a frame in this order, which is lawful: the log tells the
+  -- same as the frame's, and each system what the frame tells it, with all that a run comes to, and
+  -- the engine stands for the state that the frame leaves.
+  pub record HasReplayed (f : Frame) (order : List ℕ) (s : State) (log : Log)
       (e : EngineOf S) : Type 0 where
-    pub state : State
-    pub is_replay : IsReplay frame order s log state
-    pub tells : TellsACompleteRun (frame ∷ []) s (log ∷ []) state
-    pub stands : EngineStands e state
+    pub lawful : IsLawfulFor f s order
+    pub tells : TellsTheSame log (frame f s).log
+    pub in_order : turn_order_in log ≡ order
+    pub alike : (i : ℕ) → answers_in i (log ∷ []) ≡ answers_in i ((frame f s).log ∷ [])
+    pub complete : IsCompleteRun (f ∷ []) s
+    pub stands : EngineStands e (frame f s).state
 
-  -- From the state s the engine ran frames: it appended the logs of a complete run, and stands for
-  -- the state that is left.
+  -- From the state s the engine ran frames: it appended their logs, with all that a run comes to,
+  -- and stands for the state that is left.
   pub record HasRunFrames (frames : List Frame) (s : State) (before after : List Log)
       (e : EngineOf S) : Type 0 where
-    pub logs : List Log
-    pub state : State
-    pub appended : after ≡ before ++ logs
-    pub complete : IsCompleteRun frames s logs state
-    pub stands : EngineStands e state
+    pub appended : after ≡ before ++ (run frames s).logs
+    pub complete : IsCompleteRun frames s
+    pub stands : EngineStands e (run frames s).state
 
-  -- From the state s the engine ran some of the frames, the first ones, and then there was no
-  -- memory: the logs of those were appended, and it counted those.
+  -- From the state s the engine ran the first of the frames, so many, and then there was no memory:
+  -- the logs of those were appended, and it counted those.
   pub record HasRunSome (frames : List Frame) (s : State) (before after : List Log)
       (e : EngineOf S) : Type 0 where
-    pub logs : List Log
-    pub state : State
-    pub appended : after ≡ before ++ logs
-    pub is_run : IsRun (take (length logs) frames) s logs state
-    pub counted : frame_number e ≡ frame_count state
+    pub ran : ℕ
+    pub few : ran ≤ length frames
+    pub appended : after ≡ before ++ (run (take ran frames) s).logs
+    pub counted : frame_number e ≡ frame_count (run (take ran frames) s).state
     pub spoiled : IsSpoiled e
+
+  -- Since the state s the engine ran or replayed these frames: it stands for the state that they
+  -- leave, and the logs tell the same as theirs.
+  pub record HasRunSince (s : State) (frames : List Frame) (logs : List Log)
+      (e : EngineOf S) : Type 0 where
+    pub tell : AllZip TellsTheSame logs (run frames s).logs
+    pub stands : EngineStands e (run frames s).state

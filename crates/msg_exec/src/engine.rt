@@ -5,10 +5,7 @@ use crate::lender::Lender;
 use crate::replay::{accepts_next, replay_one};
 use crate::spares::Spares;
 use crate::{BuildRefusal, Frame, Gate, Log, Place, RunFault, Workers};
-use msg_frames::laws::{runs_are_unique, runs_exist};
-use msg_frames::reader_laws::{
-    first_states_are_sound, replays_tell_a_complete_run, runs_are_complete,
-};
+use msg_frames::reader_laws::{first_states_are_sound, replays_tell_the_same, runs_are_complete};
 use msg_order::Rule;
 use msg_order::laws::fewer_systems_make_no_cycle;
 use msg_system::System;
@@ -40,16 +37,16 @@ pub struct EngineOf<S> {
 pub type Engine = EngineOf<Box<dyn System>>;
 
 impl<S: System> EngineOf<S> {
-    ghost use Rattle.std.specs.Prelude.{◌≡◌, ◌<◌, ◌-◌, ◌^◌, ◌+◌, ◌↔◌, ℕ, All, drop, min, IfOk, OnOk, Err, Ok, ◌≤◌, IfErr, IfSome, IsNone, IsTrue, List, None, Some, length, map};
+    ghost use Rattle.std.specs.Prelude.{◌≡◌, ◌<◌, ◌++◌, ◌∷◌, [], ◌-◌, ◌^◌, ◌+◌, ◌↔◌, ℕ, All, drop, min, IfOk, OnOk, Err, Ok, ◌≤◌, IfErr, IfSome, IsNone, IsTrue, List, None, Some, length, map};
     ghost use Rattle.std.specs.Option.{option_copied};
     ghost use Rattle.msg_system.specs.Needs.{HasClash};
     ghost use Rattle.msg_world.specs.declared.run_fault.RunFault.TheVariants.{BadOrder, NoMemory, Spoiled};
     ghost use Rattle.msg_world.specs.declared.record.TheConstants.{HOST};
     ghost use Rattle.msg_world.specs.Prelude.{IsWhole, PartsStand, WorldState};
     ghost use Rattle.msg_order.specs.Prelude.{IsAcyclic, NameSystemsBelow, edges_of};
-    ghost use Rattle.msg_exec.specs.{Building.EachIs, Building.MayBeAdded, Building.RefusesFor, Cores.frame_count, Engines.HasReplayed, Engines.HasRunFrame, Engines.HasRunFrames, Engines.HasRunSome, Engines.IsEngine, Engines.IsSpoiled, Engines.PostsFit, Engines.EngineStands, Engines.frame_number, Engines.world_of};
+    ghost use Rattle.msg_exec.specs.{Building.EachIs, Building.MayBeAdded, Building.RefusesFor, Cores.frame_count, Engines.HasReplayed, Engines.HasRunFrame, Engines.HasRunFrames, Engines.HasRunSince, Engines.HasRunSome, Engines.IsEngine, Engines.IsSpoiled, Engines.PostsFit, Engines.EngineStands, Engines.frame_number, Engines.world_of};
     ghost use Rattle.msg_workers.specs.Prelude.{EachPassedGate};
-    ghost use Rattle.msg_frames.specs.Prelude.{HasOneRun, IsCompleteRun, IsLawfulFor, IsRun, State, first_state, turn_order_in};
+    ghost use Rattle.msg_frames.specs.Prelude.{IsCompleteRun, IsLawfulFor, IsSoundState, State, first_state, turn_order_in};
     ghost use Rattle.msg_frames.specs.{declared.frame.Frame.Frame as FrameView, declared.log.Log.Log as LogView};
 
     /// An engine with no frame run. The systems go by number, in order of addition, and each has
@@ -150,6 +147,10 @@ impl<S: System> EngineOf<S> {
         // that only grow, and each reader is given every message once.
         ensures ran { IfOk result (λ log. (s : State) → EngineStands S.meaning self.old s
             → HasRunFrame S.meaning frame.now s log self.new) }
+        ensures since { IfOk result (λ log.
+            (s : State) (frames : List FrameView) (logs : List LogView)
+            → HasRunSince S.meaning s frames logs self.old
+            → HasRunSince S.meaning s (frames ++ frame.now ∷ []) (logs ++ log ∷ []) self.new) }
 
         // For each turn one of the workers passed the gate, with its own number, which is below the
         // number of turns too, and the system's.
@@ -219,6 +220,9 @@ impl<S: System> EngineOf<S> {
         // messages that only grow, and each reader is given every message once.
         ensures ran { OnOk result ((s : State) → EngineStands S.meaning self.old s
             → HasRunFrames S.meaning frames.now s out.old.items out.new.items self.new) }
+        ensures since { OnOk result ((s : State) (before : List FrameView)
+            → HasRunSince S.meaning s before out.old.items self.old
+            → HasRunSince S.meaning s (before ++ frames.now) out.new.items self.new) }
 
         // For each turn in the logs that were appended, as in `run_frame`.
         ensures gate_passed { All (λ log. EachPassedGate (G.passed gate.now) workers
@@ -266,6 +270,10 @@ impl<S: System> EngineOf<S> {
         // state that the frame leaves.
         ensures replayed { IfOk result (λ log. (s : State) → EngineStands S.meaning self.old s
             → HasReplayed S.meaning frame.now order.now s log self.new) }
+        ensures since { IfOk result (λ log.
+            (s : State) (frames : List FrameView) (logs : List LogView)
+            → HasRunSince S.meaning s frames logs self.old
+            → HasRunSince S.meaning s (frames ++ frame.now ∷ []) (logs ++ log ∷ []) self.new) }
         ensures counted { OnOk result
             (frame_number self.new ≡ min (frame_number self.old + 1) (2 ^ 32 - 1)) }
         ensures bad_order { (s : State) → EngineStands S.meaning self.old s
@@ -279,7 +287,8 @@ impl<S: System> EngineOf<S> {
             → frame_number self.new ≡ frame_number self.old }
         ensures engine { IsEngine S.meaning self.new }
     {
-        replays_tell_a_complete_run();
+        replays_tell_the_same();
+        runs_are_complete();
         let Some(core) = &self.core else {
             return Err(RunFault::Spoiled);
         };
@@ -307,18 +316,14 @@ impl<S: System> EngineOf<S> {
         Ok(log)
     }
 
-    /// A law: from each state that it stands for, any frames have exactly one run, and all that a
-    /// run comes to holds of it.
-    pub fn has_one_run(&self)
-        ensures run { (s : State) → EngineStands S.meaning self.now s → (frames : List FrameView)
-            → HasOneRun frames s }
+    /// A law: from each state that it stands for, all that a run comes to holds of each run. The
+    /// state is sound, as the laws of frames and of readers ask.
+    pub fn runs_completely(&self)
         ensures complete { (s : State) → EngineStands S.meaning self.now s
-            → (frames : List FrameView) (logs : List LogView) (u : State) → IsRun frames s logs u
-            → IsCompleteRun frames s logs u }
+            → (frames : List FrameView) → IsCompleteRun frames s }
+        ensures sound { (s : State) → EngineStands S.meaning self.now s → IsSoundState s }
     {
         runs_are_complete();
-        runs_exist();
-        runs_are_unique();
     }
 
     /// A law: each of its systems writes as its number, and none as the host.

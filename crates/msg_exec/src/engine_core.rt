@@ -4,7 +4,7 @@ ghost use Rattle.msg_order.specs.Prelude.{IsAcyclic, IsPlanOf, NameSystemsBelow,
 ghost use Rattle.msg_exec.specs.Prelude.{CoreStands, frame_count};
 ghost use Rattle.msg_workers.specs.Prelude.{EachPassedGate};
 ghost use Rattle.msg_exec.specs.inner.FrameSteps.{HasBegunFrame, HasLeft, HasOpened, IsNextPlan};
-ghost use Rattle.msg_frames.specs.Prelude.{IsFrame, turn_order_in, State};
+ghost use Rattle.msg_frames.specs.Prelude.{frame as frame_of, turn_order_in, State};
 
 use crate::batch::run_batches;
 use crate::joining::join_those;
@@ -141,7 +141,8 @@ pub(crate) fn run_one<R: Threads + Sync, S: System, G: Gate>(
     requires stands { (s : State) × (CoreStands S.meaning core s × (frames ≡ frame_count s)) }
     requires posts { All (λ p. p.0 < length core.lender.world.types) frame.now.posts }
     ensures ran { IfOk result (λ r. (s : State) → CoreStands S.meaning core s
-        → frames ≡ frame_count s → HasLeft S.meaning (IsFrame frame.now s r.1) s r.0) }
+        → frames ≡ frame_count s
+        → HasLeft S.meaning (r.1 ≡ (frame_of frame.now s).log) frame.now s r.0) }
     ensures gate_passed { IfOk result
         (λ r. EachPassedGate (G.passed gate.now) workers (turn_order_in r.1)) }
 {

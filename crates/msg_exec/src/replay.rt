@@ -2,14 +2,14 @@
 ghost use Rattle.std.specs.Prelude.{◌≡◌, ◌<◌, ◌↔◌, All, IfOk, IsTrue, length};
 ghost use Rattle.msg_frames.specs.declared.frame.Frame.{Frame as FrameView};
 ghost use Rattle.msg_exec.specs.Prelude.{CoreStands, frame_count};
-ghost use Rattle.msg_exec.specs.inner.FrameSteps.{HasLeft};
-ghost use Rattle.msg_frames.specs.Prelude.{IsLawfulFor, IsReplay, State};
+ghost use Rattle.msg_exec.specs.inner.FrameSteps.{HasLeft, IsReplay};
+ghost use Rattle.msg_frames.specs.Prelude.{IsLawfulFor, State};
 
 use crate::batch::run_turns;
 use crate::engine_core::{Core, next_plan, open};
 use crate::spares::Spares;
 use crate::{Frame, Items, Log, NoGate, NoMemory};
-use msg_frames::laws::{frames_agree_in_lawful_orders, systems_have_one_order};
+use msg_frames::laws::frames_agree_in_lawful_orders;
 use msg_frames::reader_laws::states_stay_sound;
 use msg_system::System;
 use std::alloc::Global;
@@ -26,7 +26,6 @@ pub(crate) fn accepts_next<S: System>(
         → frames ≡ frame_count s
         → (frame : FrameView) → IsTrue accepts ↔ IsLawfulFor frame s order.now) }
 {
-    systems_have_one_order();
     match next_plan(alloc, core, frames)? {
         Some((_, plan)) => Ok(plan.accepts(order)),
         None => Ok(core.plan.accepts(order)),
@@ -47,7 +46,8 @@ pub(crate) fn replay_one<S: System>(
     requires lawful { (s : State) → CoreStands S.meaning core s → frames ≡ frame_count s
         → IsLawfulFor frame.now s order.now }
     ensures replayed { IfOk result (λ r. (s : State) → CoreStands S.meaning core s
-        → frames ≡ frame_count s → HasLeft S.meaning (IsReplay frame.now order.now s r.1) s r.0) }
+        → frames ≡ frame_count s
+        → HasLeft S.meaning (IsReplay frame.now order.now s r.1) frame.now s r.0) }
 {
     states_stay_sound();
     frames_agree_in_lawful_orders();

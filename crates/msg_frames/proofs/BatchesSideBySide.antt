@@ -2,7 +2,7 @@
 use Rattle.std.proofs.Common.{◌≡◌, ◌≢◌, ℕ, suc, ◌<◌, List, [], ◌∷◌, ◌++◌, map, slice_index_or, refl, arith, All, AllPairs}
 use Rattle.std.specs.List.{concat}
 use Rattle.std.proofs.lemmas.{Bool.cases_Bool, List.Elements.All-tail, Bool.Decides.eqb_tells}
-use Rattle.msg_world.specs.{Prelude.Conflict, Prelude.Part, Prelude.content, Prelude.merge, Prelude.writes, declared.access.Access.Access}
+use Rattle.msg_world.specs.{Prelude.Conflict, Prelude.Part, Prelude.merge, declared.access.Access.Access}
 use Rattle.msg_world.proofs.Loans.{content_merged}
 use Rattle.msg_order.specs.Prelude.{NoneConflict, access_of}
 use Rattle.msg_system.specs.Prelude.{Agree, JobFootprint, needs_any}
@@ -15,7 +15,8 @@ record Untouched (start s : State) (i : ℕ) : Type 0 where
   world : Agree (needs_any (member_needs (start.members i))) s.world start.world
 
 module _ (foot : JobFootprint) (accesses : List Access) (start : State) (are : AreAccessesOf start accesses) where
-  given_same : (s : State) (i : ℕ) → Untouched start s i → given_by_turn (turn_of s i) ≡ given_by_turn (turn_of start i)
+  given_same : (s : State) (i : ℕ) → Untouched start s i → given_by_turn (s.members i) (turn_of s i)
+      ≡ given_by_turn (start.members i) (turn_of start i)
   given_same s i h =
       rw (h.member) ((turn_footprint foot (start.members i)).same _ s.world start.world (λ p u. u) h.world)
 
@@ -24,7 +25,7 @@ module _ (foot : JobFootprint) (accesses : List Access) (start : State) (are : A
       ≡ home accesses start i s
   turn_is_home s i lt h =
       let f = turn_footprint foot (start.members i) in
-      let same = same_world (turn_of s i).world (merge (access_of accesses i) (turn_of start i).world s.world) (λ p.
+      let same = same_world (turn_of s i).state (merge (access_of accesses i) (turn_of start i).state s.world) (λ p.
       let own = f.alike (needs_any (member_needs (start.members i))) s.world start.world (λ q u. u) h.world p in
       grind (arith, cases_Bool, content_merged, (are.of_needs i lt).writes p, f.kept s.world p, own, h.member)) in
       grind (arith, given_same s i h, same)

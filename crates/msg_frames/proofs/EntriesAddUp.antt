@@ -1,10 +1,8 @@
 -- How entries add up in an account.
-use Rattle.std.proofs.Common.{◌≡◌, ℕ, ◌+◌, List, [], ◌∷◌, ◌++◌, length, map, None, arith}
+use Rattle.std.proofs.Common.{◌≡◌, ℕ, ◌+◌, List, [], ◌∷◌, ◌++◌, length, flat_map, None, arith}
 use Rattle.std.proofs.lemmas.{List.length-append, List.FromFn.length-range_with_len, Bool.cases_Bool, Grind.flat_map-append}
-use Rattle.msg_buffer.specs.Prelude.{next_place, Tile}
 use Rattle.msg_system.specs.declared.reply.Took.{Took}
-use Rattle.msg_frames.specs.Prelude.{ReadEntry, Moment, Totals, cleared, entry_of_read, given, missed, numbers_of, with_entries}
-use Rattle.msg_frames.proofs.ReaderOverJob.{tile_of}
+use Rattle.msg_frames.specs.Prelude.{ReadEntry, Totals, cleared, entry_of_read, given, missed, numbers_of, numbers_told, with_entries}
 
 pub with_entries-none : (x : Totals) → with_entries [] x ≡ x
 with_entries-none x = grind arith
@@ -24,11 +22,8 @@ pub with_clear : (gone first n : ℕ) (x : Totals)
     ≡ record x { missed = x.missed + gone; cleared = x.cleared + n }
 with_clear gone first n x = grind (arith, length-append, length-range_with_len)
 
--- the numbers given, missed and cleared by tiles are as many as lie between their first place and their last
-pub tiles_add_up : (p : ℕ) (ms : List Moment) (q : ℕ) → Tile p (map tile_of ms) q
-    → p + length (numbers_of given (map (λ m. m.entry) ms)) + length
-    (numbers_of missed (map (λ m. m.entry) ms)) + length (numbers_of cleared (map (λ m. m.entry) ms)) ≡ q
-tiles_add_up p [] q tile = grind arith
-tiles_add_up p (m ∷ ms) q tile =
-    let rest = tiles_add_up (next_place m.entry.stretch) ms q tile.1 in
-    grind (arith, cases_Bool, length-append, length-range_with_len, rest)
+-- the numbers given, missed and cleared are all that entries tell
+pub all_told : (es : List ReadEntry) → length (flat_map numbers_told es)
+    ≡ length (numbers_of given es) + length (numbers_of missed es) + length (numbers_of cleared es)
+all_told [] = grind arith
+all_told (e ∷ es) = grind (arith, cases_Bool, length-append, length-range_with_len, all_told es)

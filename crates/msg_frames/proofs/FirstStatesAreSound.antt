@@ -4,15 +4,19 @@ use Rattle.std.proofs.lemmas.{List.get_or_past, Bool.Decides.nat_tests, Bool.Dec
 use Rattle.msg_order.specs.declared.rule.Rule.{Rule}
 use Rattle.msg_world.specs.Prelude.{WorldState}
 use Rattle.msg_system.specs.Prelude.{Meaning}
-use Rattle.msg_frames.specs.Prelude.{AreNew, IsSoundState, Place, State, counts, first_state, before_joining}
-use Rattle.msg_frames.proofs.{BeforeTurns.begun_within, StatesStaySound.balanced_start}
+use Rattle.msg_frames.specs.Prelude.{AreNew, IsSoundState, NoCycle, Place, State, UsesParts, counts, first_state, before_joining}
+use Rattle.msg_frames.proofs.{BeforeTurns.begun_within, StatesStaySound.balanced_start, SystemsStay.no_cycle_stays, SystemsStay.uses_stay, SystemsStay.joining_on_keeps}
 
 module _ (systems : List Meaning) (places : List Place) (rules : List Rule) (types : ℕ) (world : WorldState)
-    (new : AreNew systems places types world) where
+    (new : AreNew systems places rules types world) where
   abbrev all_wait : State
   all_wait = before_joining systems places rules types world
 
   pub first_is_sound : IsSoundState (first_state systems places rules types world)
   first_is_sound =
       let began = λ (i t : ℕ). balanced_start (all_wait.members i) (counts all_wait) t in
-      grind (arith, new, get_or_past, begun_within all_wait, eqb_tells, nat_tests, began)
+      let uses : UsesParts (first_state systems places rules types world) =
+      uses_stay all_wait _ (joining_on_keeps 1 all_wait) new.uses in
+      let free : NoCycle (first_state systems places rules types world) =
+      no_cycle_stays all_wait _ (joining_on_keeps 1 all_wait) new.no_cycle in
+      grind (arith, uses, free, new, get_or_past, begun_within all_wait, eqb_tells, nat_tests, began)

@@ -2,7 +2,7 @@
 use Rattle.std.proofs.Common.{arith, ◌≡◌, ℕ, List, [], ◌∷◌, map, refl, ap, ◌∙◌}
 use Rattle.msg_world.specs.Prelude.{after_update}
 use Rattle.msg_system.specs.declared.reply.Reply.{Reply}
-use Rattle.msg_frames.specs.Prelude.{Frame, IsFrame, IsTurnOrderOf, Log, State, Turn, after_turn_of, after_turns_of, before_turns, frame_in, post_replies, turn_order_in}
+use Rattle.msg_frames.specs.Prelude.{Frame, Log, State, Turn, after_turn_of, after_turns_of, before_turns, frame_in, post_replies, turn_order_in}
 
 systems_logged : (order : List ℕ) (s : State) → map (λ (t : Turn). t.system) (after_turns_of order s).turns ≡ order
 systems_logged [] s = refl
@@ -18,9 +18,3 @@ logged_in frame order s log replies has answered turns = grind arith
 pub in_that_order : (frame : Frame) (order : List ℕ) (s : State) (log : Log) → log ≡ (frame_in order frame s).log
     → turn_order_in log ≡ order
 in_that_order frame order s log told = ap turn_order_in told ∙ systems_logged order (before_turns frame.posts s)
-
--- the turns in their order are a frame
-pub frame_in_order : (frame : Frame) (s : State) (log : Log) (order : List ℕ)
-    → IsTurnOrderOf (before_turns frame.posts s) order → log ≡ (frame_in order frame s).log
-    → IsFrame frame s log (frame_in order frame s).state
-frame_in_order frame s log order in_order told = grind (arith, in_that_order)

@@ -5,7 +5,8 @@ use Rattle.msg_buffer.specs.Prelude.{ClearsFit, GoesOn, History, IsSound, OnlyGr
 use Rattle.msg_world.specs.{Prelude.WorldState, Prelude.after_update, Prelude.by, Prelude.with_history, declared.record.Record.Record}
 use Rattle.msg_system.specs.{declared.op.Op.Op, declared.op.Op.TheVariants.Write, declared.op.Op.TheVariants.Batch, declared.op.Op.TheVariants.Forward, declared.op.Op.TheVariants.Drain}
 use Rattle.msg_system.specs.Prelude.{AfterProgram, Job, Meaning, after_at_most, after_job, after_op, again_by, next_op, one_more, took, turn}
-use Rattle.msg_frames.specs.Prelude.{Frame, ListsOnlyGrow, State, after_posts, after_turn_of, after_turns_of, before_turns, frame_in, turn_order_in}
+use Rattle.msg_frames.specs.Prelude.{Frame, ListsOnlyGrow, State, after_posts, after_turn_of, after_turns_of, before_turns, frame, frame_in}
+use Rattle.msg_frames.specs.Frames.{turn_order}
 use Rattle.msg_frames.proofs.SystemsStay.{joining_world}
 
 -- What the laws of buffers say of the world's types.
@@ -103,8 +104,6 @@ module _ (grow : OnlyGrows Record) where
       grown.further _ _ _ (before_goes_on frame.posts s t) (turns t)
 
   pub runs_go_on : ListsOnlyGrow
-  runs_go_on [] s u [] run t = rw run (stays _)
-  runs_go_on (frame ∷ frames) s u (log ∷ logs) run t =
-      let here : WorldGoesOn s.world (run.0).world = rw (run.1.leaves) (frame_goes_on (turn_order_in log) frame s) in
-      grown.further _ _ _ (here t) (runs_go_on frames run.0 u logs run.2 t)
-  runs_go_on frames s u logs run t = absurd run
+  runs_go_on [] s t = stays _
+  runs_go_on (f ∷ fs) s t =
+      grown.further _ _ _ (frame_goes_on (turn_order (before_turns f.posts s)) f s t) (runs_go_on fs (frame f s).state t)

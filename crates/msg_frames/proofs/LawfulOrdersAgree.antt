@@ -2,10 +2,11 @@
 use Rattle.std.proofs.Common.{◌≡◌, ◌≢◌, ℕ, ◌<◌, ◌⊎◌, Bool, List, [], ◌∷◌, ◌++◌, length, get_or, refl, sym, ◌∙◌, arith, ◌↔◌, All, AllPairs, Contains, IsPermutation, IsTrue}
 use Rattle.std.proofs.lemmas.{Bool.cases_order, Grind.get_or_default_zero, List.Elements.All-contains, List.Elements.Contains-append_left, List.Elements.Contains-get_or, List.Elements.All-append, List.Elements.All-tail, List.FromFn.length-map-range_with_len, List.Sorted.IsPermutation-cons, List.Sorted.IsPermutation-middle, List.Sorted.IsPermutation-refl, List.Sorted.IsPermutation-trans, List.Sorted.Contains-permutation, List.Sorted.IsPermutation-sym, Option.get_or_from_slice_get, Option.slice_get_within}
 use Rattle.msg_world.specs.{Prelude.Conflict, declared.access.Access.Access}
-use Rattle.msg_order.specs.Prelude.{ConflictingSystemsAreOrdered, Graph, IsLawfulOrder, LawfulOrdersKeepPaths, Path, SettledOrderIsUnique, TurnOrderIsLawful, access_of, has_joined}
+use Rattle.msg_order.specs.Prelude.{ConflictingSystemsAreOrdered, Graph, IsLawfulOrder, LawfulOrdersKeepPaths, Path, TurnOrderIsLawful, access_of, has_joined}
 use Rattle.msg_system.specs.Prelude.{JobFootprint}
-use Rattle.msg_frames.specs.Prelude.{AreAccessesOf, FramesAgreeInLawfulOrders, LawfulOrdersAgree, State, after_turn_of, after_turns_of, before_turns, has_begun, join_flags, logged_turn, turn_order_in, Turn}
-use Rattle.msg_frames.proofs.{RunsAreUnique.one_order, RunsAreUnique.order_is_among, TurnsCommute.turns_commute, SystemsStay.accesses_stay, SystemsStay.joined_below, SystemsStay.one_turn_keeps, ElementsAndPairs.Cut, ElementsAndPairs.cut, ElementsAndPairs.pairs_head, ElementsAndPairs.pairs_middle, ElementsAndPairs.pairs_right, ElementsAndPairs.pairs_tail}
+use Rattle.msg_frames.specs.Prelude.{AreAccessesOf, FramesAgreeInLawfulOrders, LawfulOrdersAgree, State, after_turn_of, after_turns_of, before_turns, has_begun, join_flags, logged_turn, Turn}
+use Rattle.msg_frames.specs.Frames.{settled_order, turn_order}
+use Rattle.msg_frames.proofs.{Functions.order_among, Functions.order_is, Functions.order_is_settled, SystemsStay.uses_stay, SystemsStay.before_keeps, SystemsStay.no_cycle_stays, TurnsCommute.turns_commute, SystemsStay.accesses_stay, SystemsStay.joined_below, SystemsStay.one_turn_keeps, ElementsAndPairs.Cut, ElementsAndPairs.cut, ElementsAndPairs.pairs_head, ElementsAndPairs.pairs_middle, ElementsAndPairs.pairs_right, ElementsAndPairs.pairs_tail}
 use Rattle.msg_order.proofs.Elements.{Contains-cases, Contains-head, Contains-tail, not_in_none}
 
 -- in either order of turns the same is left, and the turns are the same
@@ -110,13 +111,14 @@ orders_agree foot ordered keeps s accesses settled a b are is_settled la lb =
     lb.once la.once (lawful_forward keeps settled (join_flags s) b lb)
     (lawful_forward keeps settled (join_flags s) a la) s are
 
-pub frames_agree : JobFootprint → ConflictingSystemsAreOrdered → LawfulOrdersKeepPaths → SettledOrderIsUnique
-    → TurnOrderIsLawful → FramesAgreeInLawfulOrders
-frames_agree foot ordered keeps one is_lawful frame s u log settled order x is_order lawful =
-    let b : State = before_turns frame.posts s in
-    let same = one_order one b x.in_order.settled settled x.in_order.is_order is_order in
-    let own = is_lawful settled (join_flags b) (turn_order_in log) (order_is_among _ _ is_order)
-    (rw same at x.in_order.in_order) in
-    let agree = orders_agree foot ordered keeps b is_order.accesses settled order
-    (turn_order_in log) is_order.of_systems is_order.is_settled lawful own in
-    grind (arith, agree, x.leaves, x.tells)
+pub frames_agree : JobFootprint → ConflictingSystemsAreOrdered → LawfulOrdersKeepPaths → TurnOrderIsLawful
+    → FramesAgreeInLawfulOrders
+frames_agree foot ordered keeps is_lawful f s accesses order uses free are lawful =
+    let b : State = before_turns f.posts s in
+    let same = before_keeps f.posts s in
+    let are' = accesses_stay s b accesses same are in
+    let free' = no_cycle_stays s b same free in
+    let own = is_lawful (settled_order b) (join_flags b) (turn_order b) (order_among b) (order_is b free') in
+    let agree = orders_agree foot ordered keeps b accesses (settled_order b) order (turn_order b) are'
+    (order_is_settled b accesses (uses_stay s b same uses) are') lawful.lawful own in
+    (agree.0, record { posts = refl; turns = agree.1 })

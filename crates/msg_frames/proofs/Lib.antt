@@ -4,10 +4,10 @@ pub mod ElementsAndPairs
 pub mod SystemsStay
 pub mod FramesInOrder
 -- ---- turns side by side, and in other orders
+pub mod EntriesOfSteps
 mod TurnsCommute
 pub mod BatchesSideBySide
-mod RunsAreUnique
-mod RunsExist
+pub mod Functions
 mod LawfulOrdersAgree
 -- ---- histories
 mod HistoriesGrow
@@ -15,11 +15,13 @@ mod HistoriesGrow
 mod ReaderOverJob
 pub mod EntriesAddUp
 mod ReaderOverTurns
+mod TellsEachOnce
 mod BeforeTurns
 mod StatesStaySound
 mod FirstStatesAreSound
+mod WrittenOnce
 mod OneFateEach
-mod TilesGiveInOrder
+mod WritersInOrder
 mod ReaderOverRun
 mod ReplaysTellTheSame
 mod StampsStayRecent
@@ -28,4 +30,3 @@ mod ReadersStayUpToDate
 mod ProgramsReadAll
 -- ---- worked runs
 mod ReadingsOfRows
-mod RowsAreRuns

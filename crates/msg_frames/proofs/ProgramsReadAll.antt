@@ -1,10 +1,14 @@
 -- A system without conditions whose program reads all of a type reads all in each frame.
-use Rattle.std.proofs.Common.{◌≡◌, ◌≢◌, ℕ, ℤ, ◌≤◌, List, [], ◌∷◌, All, length, false, ap, arith}
+use Rattle.std.proofs.Common.{◌≡◌, ◌≢◌, ℕ, ℤ, ◌≤◌, List, [], ◌∷◌, All, length, false, ap, arith, Contains, IsTrue}
 use Rattle.std.proofs.lemmas.{Bool.false≢true, List.Elements.All-cons, List.Elements.All-nil, List.FromFn.get_or-map-range_with_len}
 use Rattle.msg_buffer.specs.Prelude.{OnlyGrows}
 use Rattle.msg_world.specs.declared.record.Record.{Record}
 use Rattle.msg_system.specs.{Prelude.IsInOrder, Prelude.Job, Prelude.of_program, Prelude.program_needs, Prelude.started_places, Prelude.turn, declared.program.Program.Program}
-use Rattle.msg_frames.specs.Prelude.{Skipped, State, WhoseProgramReadsAll, after_turn_of, after_turns_of, before_turns, counts, has_begun, job_begun, turn_order_in}
+use Rattle.msg_frames.specs.Prelude.{Skipped, State, WhoseProgramReadsAll, after_turn_of, after_turns_of, before_turns, counts, has_begun, job_begun, frame, NoCycle, join_flags}
+use Rattle.msg_frames.specs.Frames.{turn_order}
+use Rattle.msg_order.specs.Prelude.{has_joined}
+use Rattle.msg_frames.proofs.Functions.{order_is}
+use Rattle.msg_frames.proofs.SystemsStay.{no_cycle_stays}
 use Rattle.msg_frames.proofs.{BeforeTurns.Prepares, BeforeTurns.comes, BeforeTurns.prepares, BeforeTurns.stood, ReaderOverTurns.one_member}
 use Rattle.msg_frames.proofs.BeforeTurns as before
 
@@ -39,18 +43,23 @@ module _ (in_order : IsInOrder) (program : Program) (writer : ℕ) (few : length
     | before.waits was now same ↦ rw same is
   ]
 
+-- each that has joined has a turn
+has_turn : (b : State) (i : ℕ) → NoCycle b → IsTrue (has_joined (join_flags b) i) → Contains (turn_order b) i
+has_turn b i free has = ((order_is b free).of_joined i).1 has
+
 pub programs_read_all : OnlyGrows Record → IsInOrder → WhoseProgramReadsAll
-programs_read_all grow in_order frame s log u i t program writer places is there has was few reads =
-    let b : State = before_turns frame.posts s in
-    let prep : Prepares s b = prepares grow frame.posts s in
+programs_read_all grow in_order f s i t program writer places free there has was few reads =
+    let b : State = before_turns f.posts s in
+    let order : List ℕ = turn_order b in
+    let prep : Prepares s b = prepares grow f.posts s in
     let ready : IsProgram in_order program writer few (b.members i).job =
-    before_stays in_order program writer few grow frame.posts s i (places, was) in
-    let stays : IsProgram in_order program writer few (u.members i).job =
-    rw (is.leaves) (turns_stay in_order program writer few i (turn_order_in log) b ready) in
+    before_stays in_order program writer few grow f.posts s i (places, was) in
+    let stays : IsProgram in_order program writer few ((frame f s).state.members i).job =
+    turns_stay in_order program writer few i order b ready in
     let joins = get_or-map-range_with_len (has_begun b) 0 b.systems i i false (rw (prep.same.systems) there) in (
       record {
-        has_turn = grind (arith, is.in_order.in_order.of_joined i, joins, false≢true, prep.arrival i);
-        ran = rw (is.tells) (turns_ran in_order program writer few i (turn_order_in log) b ready);
+        has_turn = has_turn b i (no_cycle_stays s b prep.same free) (grind (arith, joins, false≢true, prep.arrival i));
+        ran = turns_ran in_order program writer few i order b ready;
         read_all = rw (stays.1) reads;
       },
       stays,

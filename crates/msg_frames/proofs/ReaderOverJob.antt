@@ -1,13 +1,20 @@
 -- What a reader goes past by an op, by a turn and by a job.
-use Rattle.std.proofs.Common.{◌≡◌, ℕ, zero, suc, ◌≤◌, List, [], ◌∷◌, ◌++◌, append_assoc, map, length, All, Option, None, Some, refl, ap, arith, cond, ◌==◌}
-use Rattle.std.proofs.lemmas.{Bool.cases_Bool, List.append-nil, List.length-append, List.length-map, List.map-append, List.map-id, List.Elements.All-append, List.Elements.All-cons, List.Elements.All-nil, List.Elements.All-weaker, Bool.Decides.eqb_tells, Simd.map-map}
+use Rattle.std.proofs.Common.{◌≡◌, ◌+◌, ℕ, zero, suc, ◌≤◌, List, [], ◌∷◌, ◌++◌, map, All, Option, None, Some, refl, sym, ap, ◌∙◌, arith, cond, filter, flat_map, ◌==◌}
+use Rattle.std.proofs.lemmas.{Bool.cases_Bool, List.append-nil, List.length-map, List.map-append, List.map-id, List.Elements.All-append, List.Elements.All-cons, List.Elements.All-nil, List.Elements.All-weaker, Bool.Decides.eqb_tells, Simd.map-map, Grind.flat_map-append}
 use Rattle.msg_buffer.specs.Prelude.{Fits, GoesOn, History, IsSound, Stretch, Tile, count, given, message_of, next_place, pass_over, read}
 use Rattle.msg_world.specs.{Prelude.WorldState, declared.record.Record.Record}
 use Rattle.msg_system.specs.{declared.op.Op.Op, declared.op.Op.TheVariants.Read, declared.op.Op.TheVariants.Clear, declared.op.Op.TheVariants.Forward, declared.op.Op.TheVariants.Sum, declared.reply.Reply.Reply}
-use Rattle.msg_system.specs.Prelude.{AfterProgram, Job, Meaning, after_at_most, after_job, after_op, next_op, one_more, ops_answered, took, turn, with_place}
-use Rattle.msg_system.proofs.Turns.{ops_answered-snoc}
-use Rattle.msg_frames.specs.Prelude.{ReadEntry, GivesItsStretch, Moment, replies_of, entries_for, entry_for, entry_of_read, first_moments, job_moments, next_moments, outcome_entries, outcome_of, turn_moments}
+use Rattle.msg_system.specs.Prelude.{AfterOp, AfterProgram, Step, Job, Meaning, after_at_most, after_job, after_op, next_op, one_more, took, turn, with_place}
+use Rattle.msg_frames.specs.Prelude.{ReadEntry, GivesItsStretch, Moment, replies_of, entry_for, entry_of_read, entries_at, moments_at, outcome_of}
 use Rattle.msg_frames.proofs.HistoriesGrow.{BufferLaws, counts_more, Grows, goes_further, grown, op_changes, stays}
+
+-- these steps, each beside who took it
+abbrev pub by_system : ℕ → List Step → List (ℕ × Step)
+by_system i xs = map (λ x. (i, x)) xs
+
+-- the steps of system i
+abbrev pub steps_of : ℕ → List (ℕ × Step) → List Step
+steps_of i xs = map (λ x. x.1) (filter (λ x. x.0 == i) xs)
 
 -- a moment, as a tile of the buffers' laws
 abbrev pub tile_of : Moment → History Record × Stretch
@@ -17,11 +24,16 @@ tile_of m = (m.history, m.entry.stretch)
 abbrev pub IsWritten : Moment → Type 0
 IsWritten m = next_place m.entry.stretch ≤ count m.history
 
+-- it begins at the reader's place, past those that it missed
+abbrev pub Begins : Moment → Type 0
+Begins m = m.entry.stretch.first ≡ m.place + m.entry.stretch.missed
+
 -- A reader goes past these moments from one place to another, while the history of its type goes on.
 pub record Passes (place : ℕ) (old : History Record) (ms : List Moment) (next : ℕ) (new : History Record) : Type 0 where
   pub goes_on : GoesOn old new
   pub within : next ≤ count new
   pub tile : Tile place (map tile_of ms) next
+  pub begins : All Begins ms
   pub gives : All GivesItsStretch ms
   pub earlier : All (λ m. GoesOn m.history new) ms
   pub written : All IsWritten ms
@@ -36,12 +48,13 @@ pub passes_further : (p : ℕ) (a : History Record) (ms : List Moment) (q : ℕ)
     (r : ℕ) (c : History Record)
     → Passes p a ms q b → Passes q b ns r c → Passes p a (ms ++ ns) r c
 passes_further p a ms q b ns r c x y =
+    let begins = All-append Begins ms ns x.begins y.begins in
     let gives = All-append GivesItsStretch ms ns x.gives y.gives in
     let longer = λ (m : Moment) (g : GoesOn m.history b). goes_further m.history b c g y.goes_on in
     let earlier = All-append (λ m. GoesOn m.history c) ms ns (All-weaker _ _ longer ms x.earlier) y.earlier in
     let written = All-append IsWritten ms ns x.written y.written in
     let tile = tile-append p (map tile_of ms) q (map tile_of ns) r x.tile y.tile in
-    grind (arith, goes_further a b c, map-append tile_of ms ns, gives, earlier, written, tile)
+    grind (arith, goes_further a b c, map-append tile_of ms ns, begins, gives, earlier, written, tile)
 
 -- nothing is gone past
 pub passes_nothing : (p : ℕ) (a b : History Record) → p ≤ count a → GoesOn a b → Passes p a [] p b
@@ -50,31 +63,56 @@ passes_nothing p a b within goes = grind (arith, All-nil, counts_more)
 -- a single entry
 pub passes_one : (p : ℕ) (a : History Record) (e : ReadEntry) (b : History Record) → Fits a p e.stretch
     → next_place e.stretch ≤ count a
-    → GivesItsStretch (record { history = a; entry = e }) → GoesOn a b
-    → Passes p a (record { history = a; entry = e } ∷ []) (next_place e.stretch) b
+    → GivesItsStretch (record { history = a; place = p; entry = e }) → GoesOn a b
+    → Passes p a (record { history = a; place = p; entry = e } ∷ []) (next_place e.stretch) b
 passes_one p a e b fits within gives goes = grind (arith, All-cons, All-nil, counts_more)
 
 -- the moment of an entry of type u, for type t
-abbrev moments_if : ℕ → ℕ → WorldState → ReadEntry → List Moment
-moments_if u t w e = map (λ x. record { history = w.histories t; entry = x }) (cond (u == t) (e ∷ []) [])
+abbrev moments_if : ℕ → ℕ → (ℕ → ℕ) → WorldState → ReadEntry → List Moment
+moments_if u t ps w e = map (λ x. record { history = w.histories t; place = ps t; entry = x }) (cond (u == t) (e ∷ []) [])
 
 -- a reader of type t goes past these moments, from these places in a world to those in another
 abbrev pub GoesPast : ℕ → (ℕ → ℕ) → WorldState → List Moment → (ℕ → ℕ) → WorldState → Type 0
 GoesPast t ps w ms qs v = IsSound (w.histories t) → ps t ≤ count (w.histories t)
     → Passes (ps t) (w.histories t) ms (qs t) (v.histories t)
 
+-- the moments of steps, for readers of type t
+abbrev pub moments_of : ℕ → List Step → List Moment
+moments_of t xs = flat_map (moments_at t) xs
+
+-- the moments of the next op
+abbrev pub next_moments : ℕ → Option Op → ℕ → AfterProgram → List Moment
+next_moments t None writer far = []
+next_moments t (Some op) writer far =
+    map (λ e. record { history = far.state.histories t; place = far.places t; entry = e })
+    (entry_for t op (after_op op writer far.places far.state).reply)
+
+-- one op more
+more_are : (t : ℕ) (o : Option Op) (writer : ℕ) (far : AfterProgram)
+    → moments_of t (one_more o writer far).steps ≡ moments_of t far.steps ++ next_moments t o writer far
+more_are t None writer far = sym (append-nil (moments_of t far.steps))
+more_are t (Some op) writer far =
+    let here : AfterOp = after_op op writer far.places far.state in
+    let done : Step = record { op = op; places = far.places; world = far.state; reply = here.reply } in
+    flat_map-append (moments_at t) far.steps (done ∷ [])
+    ∙ ap (λ (ms : List Moment). moments_of t far.steps ++ ms) (append-nil (moments_at t done))
+
+passes_these : (p : ℕ) (a : History Record) (ms ns : List Moment) (q : ℕ) (b : History Record) → ms ≡ ns
+    → Passes p a ns q b → Passes p a ms q b
+passes_these p a ms ns q b same x = rw same x
+
 module _ (laws : BufferLaws) where
   module _ (t : ℕ) where
     -- an op that reads type u
     of_type : (u : ℕ) (w : WorldState) (v : History Record) (ps : ℕ → ℕ) (e : ReadEntry) (q : ℕ)
         → ps t ≤ count (w.histories t) → GoesOn (w.histories t) v
-        → (u ≡ t → Passes (ps t) (w.histories t) (record { history = w.histories t; entry = e } ∷ []) q v)
-        → Passes (ps t) (w.histories t) (moments_if u t w e) (with_place ps u q t) v
+        → (u ≡ t → Passes (ps t) (w.histories t) (record { history = w.histories t; place = ps t; entry = e } ∷ []) q v)
+        → Passes (ps t) (w.histories t) (moments_if u t ps w e) (with_place ps u q t) v
     of_type u w v ps e q within goes passes =
         grind (arith, eqb_tells, passes_nothing (ps t) (w.histories t) v within goes)
 
     of_read : (u : ℕ) (w v : WorldState) (ps : ℕ → ℕ) (limit : Option ℕ) → Grows (w.histories t) (v.histories t)
-        → GoesPast t ps w (moments_if u t w (entry_of_read (took (w.histories u) (ps u) limit)))
+        → GoesPast t ps w (moments_if u t ps w (entry_of_read (took (w.histories u) (ps u) limit)))
         (with_place ps u (next_place (read (w.histories u) (ps u) limit))) v
     of_read u w v ps limit grows sound within =
         let h : History Record = w.histories t in
@@ -104,57 +142,31 @@ module _ (laws : BufferLaws) where
 
     pub first_passes : (n : ℕ) (m : Meaning) (w : WorldState) →
         let far = after_at_most n (next_op m) m.writer m.places w in
-        GoesPast t m.places w (first_moments t n m w) far.places far.state
+        GoesPast t m.places w (moments_of t far.steps) far.places far.state
     first_passes zero m w sound within = passes_nothing _ _ _ within (stays _ sound)
     first_passes (suc n) m w sound within =
         let far : AfterProgram = after_at_most n (next_op m) m.writer m.places w in
         let so_far = first_passes n m w sound within in
-        passes_further _ _ _ _ _ _ _ _ so_far
-        (next_passes (next_op m far.replies) m.writer far so_far.goes_on.sound so_far.within)
+        passes_these _ _ _ _ _ _ (more_are t (next_op m far.replies) m.writer far)
+        (passes_further _ _ _ _ _ _ _ _ so_far
+        (next_passes (next_op m far.replies) m.writer far so_far.goes_on.sound so_far.within))
 
     turn_passes : (m : Meaning) (w : WorldState)
-        → GoesPast t m.places w (turn_moments t m w) (turn m w).places (turn m w).state
-    unfolding turn turn_moments
+        → GoesPast t m.places w (moments_of t (turn m w).steps) (turn m w).places (turn m w).state
+    unfolding turn
     turn_passes m w = first_passes 64 m w
 
-    pub job_passes : (j : Job) (w : WorldState)
-        → GoesPast t j.system.places w (job_moments t j w) (after_job j w).job.system.places (after_job j w).state
+    pub job_passes : (j : Job) (w : WorldState) →
+        let after = after_job j w in
+        GoesPast t j.system.places w (moments_of t after.steps) after.job.system.places after.state
     job_passes j w sound within =
         let none = passes_nothing _ _ _ within (stays _ sound) in
         grind (arith, cases_Bool, none, turn_passes j.system w sound within)
 
--- ---- the entries that the replies of a turn tell of are its moments
-
-module _ (t : ℕ) (m : Meaning) (w : WorldState) where
-  abbrev so_far : ℕ → AfterProgram
-  so_far n = after_at_most n (next_op m) m.writer m.places w
-
-  -- one op more was answered
-  abbrev AnsweredAs : AfterProgram → List Moment → Type 0
-  AnsweredAs e ms = (length (ops_answered (next_op m) e.replies) ≡ length e.replies)
-      × (entries_for t (ops_answered (next_op m) e.replies) e.replies ≡ map (λ x. x.entry) ms)
-
-  entries_snoc : (ops : List Op) (rs : List Reply) (op : Op) (r : Reply) → length ops ≡ length rs
-      → entries_for t (ops ++ op ∷ []) (rs ++ r ∷ []) ≡ entries_for t ops rs ++ entry_for t op r
-  entries_snoc [] [] op r same = append-nil (entry_for t op r)
-  entries_snoc (o ∷ ops) (x ∷ rs) op r same = grind (arith, append_assoc, entries_snoc ops rs op r)
-  entries_snoc ops rs op r same = absurd (omega (arith, same))
-
-  answered_more : (o : Option Op) (far : AfterProgram) (ms : List Moment) → next_op m far.replies ≡ o
-      → AnsweredAs far ms → AnsweredAs (one_more o m.writer far) (ms ++ next_moments t o m.writer far)
-  answered_more None far ms is so = rw (append-nil ms) so
-  answered_more (Some op) far ms is so =
-      grind (arith, map-id, map-map, entries_snoc, length-append, map-append, ops_answered-snoc)
-
-  answered : (n : ℕ) → AnsweredAs (so_far n) (first_moments t n m w)
-  answered zero = (refl, refl)
-  answered (suc n) = answered_more (next_op m (so_far n).replies) (so_far n) (first_moments t n m w) refl (answered n)
-
--- the entries that the outcome of a job tells are those of its moments
-pub job_logged : (t : ℕ) (j : Job) (w : WorldState) → outcome_entries t j.system (outcome_of (after_job j w).replies)
-    ≡ map (λ m. m.entry) (job_moments t j w)
-unfolding turn turn_moments
-job_logged t j w = grind (arith, append-nil, cases_Bool, answered t j.system w 64)
+-- the entries of steps are those of their moments
+pub entries_are : (t : ℕ) (xs : List Step) → map (λ m. m.entry) (moments_of t xs) ≡ entries_at t xs
+entries_are t [] = refl
+entries_are t (x ∷ xs) = grind (arith, map-append, map-map, map-id (entry_for t x.op x.reply), entries_are t xs)
 
 -- after a job, the rule of its system also takes in the replies of that job
 pub job_rule : (j : Job) (w : WorldState) → (after_job j w).job.system.rule

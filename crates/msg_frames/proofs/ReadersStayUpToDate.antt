@@ -1,10 +1,11 @@
 -- A reader that reads all in each frame is up to date, and so it misses nothing.
-use Rattle.std.proofs.Common.{◌≡◌, ℕ, suc, ◌<◌, ◌≤◌, List, [], ◌∷◌, ◌++◌, map, All, Contains, refl, arith, get_or, IsTrue}
+use Rattle.std.proofs.Common.{◌≡◌, ℕ, suc, ◌<◌, ◌≤◌, List, [], ◌∷◌, ◌++◌, map, All, Contains, arith, get_or, IsTrue}
 use Rattle.std.proofs.lemmas.{Bool.cases_Bool, Bool.cases_eq, Bool.false≢true, Option.same_Some, Option.slice_get_cases, Option.slice_get_within, List.append-nil, List.Elements.All-append, List.Elements.All-cons, List.Elements.All-head, List.Elements.All-map, List.Elements.All-nil, List.Elements.All-tail, Bool.Decides.nat_tests}
 use Rattle.msg_buffer.specs.Prelude.{Entry, Fits, GoesOn, History, IsPresent, Stretch, Tile, count, next_place, update}
 use Rattle.msg_world.specs.{Prelude.after_update, declared.record.Record.Record}
-use Rattle.msg_frames.proofs.{ElementsAndPairs.Cut, ElementsAndPairs.cut, HistoriesGrow.BufferLaws, HistoriesGrow.counts_more, HistoriesGrow.Grows, HistoriesGrow.frame_goes_on, HistoriesGrow.grown, HistoriesGrow.posts_change, HistoriesGrow.runs_go_on, HistoriesGrow.turns_change, SystemsStay.joining_world, SystemsStay.turns_keep, SystemsStay.frame_keeps, ReaderOverJob.IsWritten, ReaderOverJob.tile_of, ReaderOverTurns.turns_read, BeforeTurns.Prepares, BeforeTurns.prepares, StatesStaySound.begun_alike, StatesStaySound.frame_sound, StatesStaySound.has_no_turn, StatesStaySound.prepared_sound, ReaderOverRun.run_tells, StampsStayRecent.AreRecent, StampsStayRecent.StaysRecent, StampsStayRecent.earlier_recent, StampsStayRecent.stays_recent, ReadersTakeAll.takes_by_turn}
-use Rattle.msg_frames.specs.Prelude.{Frame, IsFrame, IsRun, IsSoundState, IsUpToDate, Log, Moment, NothingDrained, ReadsAll, ReadsAllInEach, State, WhoIsUpToDateMissesNothing, WhoReadsEachFrameMissesNothing, after_turns_of, before_turns, has_begun, after_joining, moments, reader_place, turn_order_in, turns_moments}
+use Rattle.msg_frames.proofs.{ElementsAndPairs.Cut, ElementsAndPairs.cut, HistoriesGrow.BufferLaws, HistoriesGrow.counts_more, HistoriesGrow.Grows, HistoriesGrow.frame_goes_on, HistoriesGrow.grown, HistoriesGrow.posts_change, HistoriesGrow.runs_go_on, HistoriesGrow.turns_change, SystemsStay.joining_world, SystemsStay.turns_keep, SystemsStay.frame_keeps, ReaderOverJob.IsWritten, ReaderOverJob.tile_of, ReaderOverTurns.turns_moments, ReaderOverTurns.turns_read, BeforeTurns.Prepares, BeforeTurns.prepares, StatesStaySound.begun_alike, StatesStaySound.frame_sound, StatesStaySound.has_no_turn, StatesStaySound.prepared_sound, ReaderOverRun.run_further, StampsStayRecent.AreRecent, StampsStayRecent.StaysRecent, StampsStayRecent.earlier_recent, StampsStayRecent.stays_recent, ReadersTakeAll.takes_by_turn}
+use Rattle.msg_frames.specs.Prelude.{Frame, IsSoundState, IsUpToDate, frame, run, Moment, NothingDrained, ReadsAll, ReadsAllInEach, State, WhoIsUpToDateMissesNothing, WhoReadsEachFrameMissesNothing, after_turns_of, before_turns, has_begun, after_joining, moments, reader_place}
+use Rattle.msg_frames.specs.Frames.{turn_order}
 
 -- a message that was written at most one update ago, and stands at the floor or above
 pub is_there : (p : ℕ) (h : History Record) (n : ℕ) → AreRecent 1 p h → p ≤ n → h.floor ≤ n → n < count h
@@ -35,13 +36,18 @@ tile_misses_none p place (m ∷ ms) to tile written there above =
     (rest (λ k d lt. there (suc k) d (omega arith)) (omega (arith, tile.0.first)))
 
 module _ (laws : BufferLaws) where
-  module _ (frame : Frame) (s : State) (log : Log) (u : State) (i t : ℕ) (sound : IsSoundState s)
-      (is : IsFrame frame s log u) (below : t < s.types) where
+  module _ (f : Frame) (s : State) (i t : ℕ) (sound : IsSoundState s) (below : t < s.types) where
     abbrev b : State
-    b = before_turns frame.posts s
+    b = before_turns f.posts s
+
+    abbrev order : List ℕ
+    order = turn_order b
+
+    abbrev u : State
+    u = (frame f s).state
 
     prep : Prepares s b
-    prep = prepares laws.grow frame.posts s
+    prep = prepares laws.grow f.posts s
 
     ready : IsSoundState b
     ready = prepared_sound s b sound prep
@@ -49,15 +55,15 @@ module _ (laws : BufferLaws) where
     under : t < b.types
     under = rw (prep.same.types) below
 
-    pub caught_up : ReadsAll i t log u → (earlier later : List ℕ) → turn_order_in log ≡ earlier ++ i ∷ later
+    pub caught_up : ReadsAll i t f s → (earlier later : List ℕ) → turn_order b ≡ earlier ++ i ∷ later
         → count ((after_turns_of earlier b).state.world.histories t) ≤ reader_place u i t
-    caught_up reads earlier later order =
-        rw (is.leaves, order) (takes_by_turn laws t i earlier later b (ready.histories t under) (ready.places i t under)
-        (rw (is.tells, order) at reads.ran) (rw (is.leaves, order) at reads.read_all))
+    caught_up reads earlier later is =
+        rw (reader_place, is) (takes_by_turn laws t i earlier later b (ready.histories t under) (ready.places i t under)
+        (rw is at reads.ran) (rw is at reads.read_all))
 
-    pub has_frame_before : ReadsAll i t log u → count (s.world.histories t) ≤ reader_place u i t
+    pub has_frame_before : ReadsAll i t f s → count (s.world.histories t) ≤ reader_place u i t
     has_frame_before reads =
-        let parts : Cut (turn_order_in log) i = cut _ _ reads.has_turn in
+        let parts : Cut order i = cut _ _ reads.has_turn in
         let first = counts_more _ _ (prep.world t (sound.histories t below)) in
         let more = counts_more _ _ (turns_change Grows (grown laws.grow) parts.before b t (ready.histories t under)) in
         omega (arith, caught_up reads _ _ parts.is, first, more)
@@ -65,11 +71,11 @@ module _ (laws : BufferLaws) where
     -- a frame keeps recent what its update leaves recent
     frame_recent : (k p : ℕ) → AreRecent k p ((after_update s.world).histories t) → AreRecent k p (u.world.histories t)
     frame_recent k p recent =
-        rw (is.leaves) (turns_change (StaysRecent k p) (stays_recent k p) (turn_order_in log) b t
-        (posts_change (StaysRecent k p) (stays_recent k p) frame.posts (after_update (after_joining s).world) t
-        (rw (joining_world s) recent)))
+        turns_change (StaysRecent k p) (stays_recent k p) order b t
+        (posts_change (StaysRecent k p) (stays_recent k p) f.posts (after_update (after_joining s).world) t
+        (rw (joining_world s) recent))
 
-    pub now_up_to_date : ReadsAll i t log u → NothingDrained t s u → IsUpToDate u i t
+    pub now_up_to_date : ReadsAll i t f s → NothingDrained t s u → IsUpToDate u i t
     now_up_to_date reads drained n above within =
         let p : ℕ = count (s.world.histories t) in
         let had = has_frame_before reads in
@@ -88,17 +94,17 @@ module _ (laws : BufferLaws) where
         (grind (arith, drained, nat_tests, up n above, (sound.histories t below).floor, (goes k d lt).floor)) within
 
     frame_misses_none : IsTrue (has_begun s i) → IsUpToDate s i t → NothingDrained t s u
-        → NoneMissed (turns_moments i t (turn_order_in log) b)
+        → NoneMissed (turns_moments i t order b)
     frame_misses_none has up drained =
-        let reads = turns_read laws i t (turn_order_in log) b (ready.histories t under) (ready.places i t under) in
+        let reads = turns_read laws i t order b (ready.histories t under) (ready.places i t under) in
         tile_misses_none (reader_place s i t) _ _ _ reads.passes.tile reads.passes.written
-        (present_at _ up drained (rw (is.leaves) reads.passes.earlier)) (grind (arith, false≢true, prep.arrival i))
+        (present_at _ up drained reads.passes.earlier) (grind (arith, false≢true, prep.arrival i))
 
     -- who has a turn has joined
-    joined_by_turn : Contains (turn_order_in log) i → IsTrue (has_begun u i)
+    joined_by_turn : Contains order i → IsTrue (has_begun u i)
     joined_by_turn at =
-        let alike = begun_alike b _ i (turns_keep (turn_order_in log) b) in
-        grind (arith, alike, at, cases_Bool, has_no_turn b (turn_order_in log) i is.in_order)
+        let alike = begun_alike b _ i (turns_keep order b) in
+        grind (arith, alike, at, cases_Bool, has_no_turn b i)
 
   -- ---- a run
 
@@ -110,40 +116,36 @@ module _ (laws : BufferLaws) where
     first : NothingDrained t s m
     rest : NothingDrained t m u
 
-  between : (frame : Frame) (frames : List Frame) (s m u : State) (log : Log) (logs : List Log) (t : ℕ) → IsSoundState s
-      → IsFrame frame s log m → IsRun frames m logs u
-      → t < s.types → NothingDrained t s u → Between t s m u
-  between frame frames s m u log logs t sound is run below drained =
-      let order : List ℕ = turn_order_in log in
-      let goes = frame_goes_on laws.grow order frame s t (sound.histories t below) in
-      let types = (frame_keeps order frame s).types in
-      let later = runs_go_on laws.grow frames m u logs run t in
-      grind (arith, is.leaves, frame_sound laws frame s log m sound is, goes, types, later, drained)
+  between : (f : Frame) (frames : List Frame) (s : State) (t : ℕ) → IsSoundState s → t < s.types
+      → NothingDrained t s (run (f ∷ frames) s).state
+      → Between t s (frame f s).state (run (f ∷ frames) s).state
+  between f frames s t sound below drained =
+      let order : List ℕ = turn_order (before_turns f.posts s) in
+      let goes = frame_goes_on laws.grow order f s t (sound.histories t below) in
+      let types = (frame_keeps order f s).types in
+      let later = runs_go_on laws.grow frames (frame f s).state t in
+      grind (arith, frame_sound laws f s sound, goes, types, later, drained)
 
   -- who reads all in a frame misses nothing in the frames after it, in each of which it reads all
-  missed_after : (frame : Frame) (frames : List Frame) (s m u : State) (log : Log) (logs : List Log) (i t : ℕ)
-      → IsSoundState s → IsFrame frame s log m → (run : IsRun frames m logs u) → t < s.types → ReadsAll i t log m
-      → ReadsAllInEach i t frames m logs u run → NothingDrained t s u → NoneMissed (moments i t frames logs m)
-  missed_after frame [] s m u log [] i t sound is run below first each drained =
-      All-nil (λ m. m.entry.stretch.missed ≡ 0)
-  missed_after frame (f ∷ fs) s m u log (l ∷ ls) i t sound is run below first each drained =
-      let mid : Between t s m u = between frame (f ∷ fs) s m u log (l ∷ ls) t sound is run below drained in
-      let next : Between t m run.0 u = between f fs m run.0 u l ls t mid.sound run.1 run.2 mid.below mid.rest in
-      let now = now_up_to_date frame s log m i t sound is below first mid.first in
-      All-append (λ x. x.entry.stretch.missed ≡ 0) _ _
-      (frame_misses_none f m l run.0 i t mid.sound run.1 mid.below
-      (joined_by_turn frame s log m i t sound is below first.has_turn) now next.first)
-      (rw (← run.1.leaves)
-      (missed_after f fs m run.0 u l ls i t mid.sound run.1 run.2 mid.below each.0 each.1 mid.rest))
-  missed_after frame frames s m u log logs i t sound is run below first each drained = absurd run
+  missed_after : (f : Frame) (frames : List Frame) (s : State) (i t : ℕ) → IsSoundState s → t < s.types
+      → ReadsAllInEach i t (f ∷ frames) s → NothingDrained t s (run (f ∷ frames) s).state
+      → NoneMissed (moments i t frames (frame f s).state)
+  missed_after f [] s i t sound below each drained = All-nil (λ m. m.entry.stretch.missed ≡ 0)
+  missed_after f (g ∷ gs) s i t sound below each drained =
+      let m : State = (frame f s).state in
+      let mid : Between t s m (run (g ∷ gs) m).state = between f (g ∷ gs) s t sound below drained in
+      let next : Between t m (frame g m).state (run (g ∷ gs) m).state = between g gs m t mid.sound mid.below mid.rest in
+      let now = now_up_to_date f s i t sound below each.0 mid.first in
+      rw (run_further i t g gs m) (All-append (λ x. x.entry.stretch.missed ≡ 0) _ _
+      (frame_misses_none g m i t mid.sound mid.below (joined_by_turn f s i t sound below each.0.has_turn) now next.first)
+      (missed_after g gs m i t mid.sound mid.below each.1 mid.rest))
 
   pub misses_nothing : WhoIsUpToDateMissesNothing
-  misses_nothing frame s log u i t sound is below has up drained =
-      let none = frame_misses_none frame s log u i t sound is below has up drained in
-      rw ((run_tells i t (frame ∷ []) s (log ∷ []) u (u, is, refl)).entries, append-nil (turns_moments i t _ _))
+  misses_nothing f s i t sound below has up drained =
+      let none = frame_misses_none f s i t sound below has up drained in
+      rw (run_further i t f [] s, append-nil (turns_moments i t (turn_order (before_turns f.posts s)) (before_turns f.posts s)))
       (All-map (λ e. e.stretch.missed ≡ 0) _ _ none)
 
   pub never_misses : WhoReadsEachFrameMissesNothing
-  never_misses frame frames s m u log logs i t sound is run below first each drained =
-      rw ((run_tells i t frames m logs u run).entries) (All-map (λ e. e.stretch.missed ≡ 0) _ _
-      (missed_after frame frames s m u log logs i t sound is run below first each drained))
+  never_misses f frames s i t sound below each drained =
+      All-map (λ e. e.stretch.missed ≡ 0) _ _ (missed_after f frames s i t sound below each drained)

@@ -6,8 +6,8 @@ use Rattle.msg_buffer.specs.Prelude.{IsSound, count}
 use Rattle.msg_world.specs.Prelude.{WorldState}
 use Rattle.msg_system.specs.{Prelude.AfterProgram, Prelude.Meaning, Prelude.after_at_most, Prelude.after_op, Prelude.next_op, Prelude.one_more, Prelude.ops_answered, Prelude.turn, declared.op.Op.Op}
 use Rattle.msg_system.proofs.Turns.{ops_answered-snoc}
-use Rattle.msg_frames.specs.Prelude.{Skipped, State, after_turn_of, after_turns_of, logged_turn, next_moments, reader_place, reads_all}
-use Rattle.msg_frames.proofs.{HistoriesGrow.BufferLaws, HistoriesGrow.counts_more, OneFateEach.tiles_rise, ReaderOverJob.first_passes, ReaderOverJob.next_passes, ReaderOverTurns.one_member, ReaderOverTurns.turn_reads}
+use Rattle.msg_frames.specs.Prelude.{Skipped, State, after_turn_of, after_turns_of, logged_turn, reader_place, reads_all}
+use Rattle.msg_frames.proofs.{HistoriesGrow.BufferLaws, HistoriesGrow.counts_more, TellsEachOnce.tiles_rise, ReaderOverJob.first_passes, ReaderOverJob.next_moments, ReaderOverJob.next_passes, ReaderOverTurns.one_member, ReaderOverTurns.turn_reads}
 
 module _ (laws : BufferLaws) (t : ℕ) where
   op_takes_all : (op : Op) (writer : ℕ) (ps : ℕ → ℕ) (w : WorldState) → IsSound (w.histories t)

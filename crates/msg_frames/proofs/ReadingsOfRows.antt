@@ -3,8 +3,9 @@
 use Rattle.std.proofs.Common.{◌≡◌, List, [], ◌∷◌, Some, pos, refl}
 use Rattle.msg_world.specs.{Prelude.by, declared.record.TheConstants.HOST}
 use Rattle.msg_system.specs.{Prelude.turn, declared.op.Op.TheVariants.Read, declared.op.Op.TheVariants.Clear}
-use Rattle.msg_frames.specs.Prelude.{ReadEntry, Setup, State, cleared, found_at, given, log_entries, messages_given, missed, numbers_of, reader_place, program, setup_state}
-use Rattle.msg_frames.specs.Rows.{Run, always, from_frame, post, run, setup}
+use Rattle.msg_frames.specs.Prelude.{AfterRun, ReadEntry, Setup, State, cleared, found_at, given, log_entries, messages_given, missed, numbers_of, reader_place, program, setup_state}
+use Rattle.msg_frames.specs.Rows.{always, from_frame, post, run_of, setup}
+use Rattle.msg_frames.specs.Frames.{parts, settled_order, turn_order}
 
 abbrev readers : Setup
 readers =
@@ -14,8 +15,8 @@ abbrev start : State
 start = setup_state readers
 
 -- by the third frame the messages of the first are dropped
-abbrev end : Run
-end = run (((0, pos 5) ∷ (0, pos 6) ∷ (0, pos 7) ∷ [], 0 ∷ []) ∷ ([], 0 ∷ []) ∷ (post (pos 8), 0 ∷ 1 ∷ []) ∷ []) readers
+abbrev end : AfterRun
+end = run_of (((0, pos 5) ∷ (0, pos 6) ∷ (0, pos 7) ∷ []) ∷ [] ∷ post (pos 8) ∷ []) readers
 
 abbrev read : List ReadEntry
 read = log_entries 0 0 (start.members 0).job.system end.logs
@@ -24,7 +25,7 @@ read = log_entries 0 0 (start.members 0).job.system end.logs
 read_row : (numbers_of given read ≡ 0 ∷ 1 ∷ 3 ∷ []) × (numbers_of missed read ≡ 2 ∷ []) × (numbers_of cleared read ≡ [])
     × (messages_given read ≡ by HOST (pos 5) ∷ by HOST (pos 6) ∷ by HOST (pos 8) ∷ [])
     × (reader_place end.state 0 0 ≡ 4)
-unfolding turn
+unfolding turn turn_order settled_order parts
 read_row = (refl, refl, refl, refl, refl)
 
 abbrev swept : List ReadEntry
@@ -34,5 +35,5 @@ swept = log_entries 1 0 (start.members 1).job.system end.logs
 swept_row : (found_at start end.state 1 0 ≡ 0) × (numbers_of missed swept ≡ 0 ∷ 1 ∷ 2 ∷ [])
     × (numbers_of cleared swept ≡ 3 ∷ []) × (numbers_of given swept ≡ [])
     × ((end.state.members 1).totals 0 ≡ record { start = Some 0; got = 0; missed = 3; cleared = 1 })
-unfolding turn
+unfolding turn turn_order settled_order parts
 swept_row = (refl, refl, refl, refl, refl)

@@ -1,9 +1,9 @@
--- A replay tells of each system what the frame tells of it.
-use Rattle.std.proofs.Common.{arith, ◌≡◌, ◌≢◌, ℕ, ◌==◌, inl, inr, List, [], ◌∷◌, ◌++◌, map, refl, ap, Bool, false, suc, AllPairs, Contains, IsPermutation, flat_map, if◌then◌else◌, All}
-use Rattle.std.proofs.lemmas.{Bool.cases_Bool, Bool.eqb-true, Bool.Decides.eqb_tells, List.append-nil, List.get_or-map, List.length-map, List.Sorted.Contains-permutation, List.Sorted.list_any-IsPermutation, List.Folds.list_any_none}
-use Rattle.msg_order.specs.Prelude.{TurnOrderIsLawful}
-use Rattle.msg_frames.specs.Prelude.{Frame, IsMixedRun, IsReplay, IsRun, Log, ReplaysTellACompleteRun, ReplaysTellTheSame, RunsAreComplete, State, Turn, replies_of, answers_in, before_turns, join_flags, turn_order_in}
-use Rattle.msg_frames.proofs.{ElementsAndPairs.pairs_tail, RunsAreUnique.order_is_among, ReaderOverTurns.answers_among}
+-- Logs that tell the same tell each system the same.
+use Rattle.std.proofs.Common.{arith, eqb, ◌≡◌, ◌≢◌, ℕ, ◌==◌, inl, inr, List, [], ◌∷◌, map, refl, Bool, false, suc, AllPairs, Contains, IsPermutation, flat_map, if◌then◌else◌, All}
+use Rattle.std.proofs.lemmas.{Bool.Decides.Decides-eqb, Map.Made.AllPairs-from_IsDistinct, Map.Made.IsDistinct-from_AllPairs, Map.Keys.IsDistinct-IsPermutation, List.Sorted.IsPermutation-map, List.Sorted.IsPermutation-sym, Bool.cases_Bool, Bool.eqb-true, Bool.Decides.eqb_tells, List.append-nil, List.get_or-map, List.length-map, List.Sorted.Contains-permutation, List.Sorted.list_any-IsPermutation, List.Folds.list_any_none}
+use Rattle.msg_frames.specs.Prelude.{Frame, Log, ReplaysTellTheSame, State, TellsTheSame, Turn, before_turns, frame, replies_of}
+use Rattle.msg_frames.specs.Frames.{turn_order}
+use Rattle.msg_frames.proofs.{ElementsAndPairs.pairs_tail, FramesInOrder.in_that_order, StatesStaySound.has_one_turn, ReaderOverTurns.answers_among}
 use Rattle.msg_order.proofs.Elements.{Contains-cases, not_in_none, Contains-list_any}
 use Rattle.std.specs.List.{list_any}
 
@@ -45,34 +45,29 @@ module _ {X Y : Type 0} (key : X → ℕ) (f : X → List Y) (i : ℕ) where
       let same = list_any-IsPermutation test xs ys moved in
       grind (arith, cases_Bool (list_any test xs), some, one, other, moves, same, none_told, eqb-true)
 
-turns_alike : TurnOrderIsLawful → (frame : Frame) (order : List ℕ) (s : State) (log : Log) (u : State)
-    (replay : IsReplay frame order s log u) (i : ℕ)
-    → answers_among i log.turns ≡ answers_among i replay.settled.turns
-turns_alike lawful frame order s log u replay i =
-    let settled = replay.is_frame.in_order in
-    let other = lawful settled.settled (join_flags (before_turns frame.posts s)) (turn_order_in replay.settled)
-    (order_is_among _ _ settled.is_order) settled.in_order in
-    told_alike (λ (turn : Turn). turn.system) (λ (turn : Turn). replies_of _) i log.turns replay.settled.turns
-    replay.turns
-    (rw (replay.in_order) (replay.lawful.lawful.once)) other.once
+-- numbers that differ stay so when they change places
+eqb_flips : (a b : ℕ) → eqb a b ≡ eqb b a
+eqb_flips a b = grind (arith, eqb_tells a b, eqb_tells b a)
 
-pub replay_tells : TurnOrderIsLawful → ReplaysTellTheSame
-replay_tells lawful frame order s log u replay i = ap (λ xs. xs ++ []) (turns_alike lawful frame order s log u replay i)
+once_moved : (xs ys : List ℕ) → IsPermutation xs ys → AllPairs (λ a b. a ≢ b) ys → AllPairs (λ a b. a ≢ b) xs
+once_moved xs ys moved once =
+    AllPairs-from_IsDistinct Decides-eqb xs (IsDistinct-IsPermutation eqb eqb_flips ys xs
+    (IsPermutation-sym xs ys moved) (IsDistinct-from_AllPairs Decides-eqb ys once))
 
--- there are logs of the run of the same frames
-settles : TurnOrderIsLawful → (frames : List Frame) (s : State) (logs : List Log) (u : State)
-    → IsMixedRun frames s logs u
-    → (settled : List Log) × (IsRun frames s settled u × ((i : ℕ) → answers_in i logs ≡ answers_in i settled))
-settles lawful [] s [] u x = ([], (x, λ i. refl))
-settles lawful (frame ∷ frames) s (log ∷ logs) u x =
-    let rest = settles lawful frames x.0 logs u x.2 in
-    elim x.1 [
-      | inl ran ↦ (log ∷ rest.0, ((x.0, ran, rest.1.0), λ i. grind (arith, rest.1.1 i)))
-      | inr replay ↦
-          let alike = turns_alike lawful frame replay.0 s log x.0 replay.1 in
-          (replay.1.settled ∷ rest.0, ((x.0, replay.1.is_frame, rest.1.0), λ i. grind (arith, alike i, rest.1.1 i)))
-    ]
-settles lawful frames s logs u x = absurd x
+-- what tells the same as a frame tells each system what the frame tells it, in which each has one turn
+turns_alike : (f : Frame) (s : State) (log : Log) → TellsTheSame log (frame f s).log → (i : ℕ)
+    → answers_among i log.turns ≡ answers_among i (frame f s).log.turns
+turns_alike f s log tells i =
+    let b : State = before_turns f.posts s in
+    let system = λ (turn : Turn). turn.system in
+    let once : AllPairs (λ a b. a ≢ b) (map system (frame f s).log.turns) =
+    rw (in_that_order f (turn_order b) s (frame f s).log refl) (has_one_turn b) in
+    told_alike system (λ (turn : Turn). replies_of turn.outcome) i log.turns (frame f s).log.turns tells.turns
+    (once_moved _ _ (IsPermutation-map system log.turns (frame f s).log.turns tells.turns) once) once
 
-pub replays_tell : TurnOrderIsLawful → RunsAreComplete → ReplaysTellACompleteRun
-replays_tell lawful complete frames s logs u sound x = grind (arith, settles)
+pub replays_tell : ReplaysTellTheSame
+replays_tell [] s [] tells i = refl
+replays_tell [] s (log ∷ logs) tells i = absurd tells
+replays_tell (f ∷ fs) s [] tells i = absurd tells
+replays_tell (f ∷ fs) s (log ∷ logs) tells i =
+    grind (arith, turns_alike f s log tells.0 i, replays_tell fs (frame f s).state logs tells.1 i)

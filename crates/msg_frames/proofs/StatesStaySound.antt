@@ -1,14 +1,27 @@
 -- Frames keep states sound.
-use Rattle.std.proofs.Common.{◌≡◌, ℕ, ◌<◌, max, List, [], ◌∷◌, Contains, ap₂, arith, IsFalse, nat_le}
-use Rattle.std.proofs.lemmas.{Bool.false≢true, List.FromFn.get_or-map-range_with_len}
-use Rattle.msg_frames.specs.Prelude.{Frame, IsBalanced, IsFrame, IsRun, IsSoundState, IsTurnOrderOf, Log, Member, SameSystems, State, after_turns_of, before_turns, counts, has_begun, joined_member, reader_place, turn_order_in, turns_moments}
-use Rattle.msg_frames.proofs.{HistoriesGrow.BufferLaws, HistoriesGrow.counts_more, SystemsStay.turns_keep, SystemsStay.joined_below, EntriesAddUp.tiles_add_up, ReaderOverTurns.Reads, ReaderOverTurns.turns_read, ReaderOverTurns.turns_skip, BeforeTurns.Prepares, BeforeTurns.begun_within, BeforeTurns.comes, BeforeTurns.prepares, BeforeTurns.stood, BeforeTurns.waits}
+use Rattle.std.proofs.Common.{◌≡◌, ℕ, ◌-◌, ◌<◌, max, List, [], ◌∷◌, length, map, Contains, ◌≢◌, AllPairs, ap, ap₂, arith, IsFalse, nat_le}
+use Rattle.std.proofs.lemmas.{Bool.false≢true, List.FromFn.get_or-map-range_with_len, List.FromFn.length-range_with_len}
+use Rattle.msg_frames.specs.Prelude.{FrameStaysSound, IsBalanced, IsSoundState, Member, Moment, RunStaysSound, SameSystems, State, after_turns_of, before_turns, counts, frame, has_begun, join_flags, joined_member, reader_place}
+use Rattle.msg_frames.specs.Frames.{settled_order, turn_order}
+use Rattle.msg_order.proofs.Functions.{turns_differ, turns_joined}
+use Rattle.msg_frames.proofs.{HistoriesGrow.BufferLaws, HistoriesGrow.counts_more, SystemsStay.turns_keep, SystemsStay.no_cycle_stays, SystemsStay.uses_stay, SystemsStay.joined_below, EntriesAddUp.all_told, TellsEachOnce.tells_once, TellsEachOnce.tiles_rise, ReaderOverTurns.Reads, ReaderOverTurns.turns_moments, ReaderOverTurns.turns_read, ReaderOverTurns.turns_skip, BeforeTurns.Prepares, BeforeTurns.begun_within, BeforeTurns.comes, BeforeTurns.prepares, BeforeTurns.stood, BeforeTurns.waits}
 
 -- one that waits has no turn
-pub has_no_turn : (b : State) (order : List ℕ) (i : ℕ) → IsTurnOrderOf b order → IsFalse (has_begun b i)
-    → ¬ Contains order i
-has_no_turn b order i ordered isnt at =
-    grind (arith, false≢true, get_or-map-range_with_len, joined_below, (ordered.in_order.of_joined i).0 at)
+pub has_no_turn : (b : State) (i : ℕ) → IsFalse (has_begun b i) → ¬ Contains (turn_order b) i
+unfolding turn_order
+has_no_turn b i isnt at =
+    let joined = turns_joined (settled_order b) (join_flags b) i at in
+    grind (arith, false≢true, get_or-map-range_with_len, joined_below, joined)
+
+-- who has a turn is one of the systems
+pub turn_below : (b : State) (i : ℕ) → Contains (turn_order b) i → i < b.systems
+unfolding turn_order
+turn_below b i at = joined_below b i (turns_joined (settled_order b) (join_flags b) i at)
+
+-- each has one turn
+pub has_one_turn : (b : State) → AllPairs (λ i j. i ≢ j) (turn_order b)
+unfolding turn_order
+has_one_turn b = turns_differ (settled_order b) (join_flags b)
 
 pub begun_alike : (b u : State) (i : ℕ) → SameSystems b u × (u.frames ≡ b.frames) → has_begun u i ≡ has_begun b i
 begun_alike b u i keep = ap₂ (λ j n. nat_le j (max 1 n)) (keep.0.members i).join keep.1
@@ -19,36 +32,42 @@ balanced_start m counts t = grind arith
 
 module _ (s b : State) (sound : IsSoundState s) (prep : Prepares s b) where
   pub prepared_sound : IsSoundState b
-  prepared_sound = grind (arith, balanced_start, begun_within, comes, counts_more, false≢true, stood, waits)
+  prepared_sound =
+      let uses = uses_stay s b prep.same sound.uses in
+      let free = no_cycle_stays s b prep.same sound.no_cycle in
+      grind (arith, uses, free, balanced_start, begun_within, comes, counts_more, false≢true, stood, waits)
 
 module _ (laws : BufferLaws) where
-  pub frame_sound : (frame : Frame) (s : State) (log : Log) (u : State) → IsSoundState s → IsFrame frame s log u
-      → IsSoundState u
-  frame_sound frame s log v before is =
-      let b : State = before_turns frame.posts s in
-      let sound : IsSoundState b = prepared_sound s b before (prepares laws.grow frame.posts s) in
-      let order : List ℕ = turn_order_in log in
+  pub frame_sound : FrameStaysSound
+  frame_sound f s before =
+      let b : State = before_turns f.posts s in
+      let sound : IsSoundState b = prepared_sound s b before (prepares laws.grow f.posts s) in
+      let order : List ℕ = turn_order b in
       let keep = turns_keep order b in
       let u : State = (after_turns_of order b).state in
       let reads : (i t : ℕ) → t < u.types → Reads i t b (turns_moments i t order b) u =
       λ i t below. turns_read laws i t order b (sound.histories t (rw (keep.0.types) at below))
       (sound.places i t (rw (keep.0.types) at below)) in
-      rw (is.leaves) (record {
+      record {
+        uses = uses_stay b u keep.0 sound.uses;
+        no_cycle = no_cycle_stays b u keep.0 sound.no_cycle;
         histories = λ t below. (reads 0 t below).passes.goes_on.sound;
         places = λ i t below. (reads i t below).passes.within;
         joins = λ i. grind (arith, keep.0.members i, sound.joins i);
         writers = λ i below. grind (arith, keep.0.members i, keep.0.systems, sound.writers i);
         waiting = λ i t isnt.
-            let out = has_no_turn b order i is.in_order in
+            let out = has_no_turn b i in
             grind (arith, begun_alike b _ i keep, out, isnt, turns_skip i t order b, sound.waiting i t);
         balanced = λ i t below has.
-            let more = tiles_add_up (reader_place b i t) (turns_moments i t order b) (reader_place u i t) in
-            grind (arith, reads i t below, sound.balanced i t, begun_alike b u i keep, more, keep.0.types);
-      })
+            let ms : List Moment = turns_moments i t order b in
+            let read = reads i t below in
+            let once = tells_once (reader_place b i t) ms (reader_place u i t) read.passes.tile in
+            let up = tiles_rise (reader_place b i t) ms (reader_place u i t) read.passes.tile in
+            let number = length-range_with_len (reader_place b i t) (reader_place u i t - reader_place b i t) in
+            let more = all_told (map (λ m. m.entry) ms) in
+            grind (arith, read.totals, sound.balanced i t, begun_alike b u i keep, more, ap length once, number, up, keep.0.types);
+      }
 
-  pub run_sound : (frames : List Frame) (s : State) (logs : List Log) (u : State) → IsSoundState s
-      → IsRun frames s logs u → IsSoundState u
-  run_sound [] s [] u sound is = rw is sound
-  run_sound (frame ∷ frames) s (log ∷ logs) u sound is =
-      run_sound frames is.0 logs u (frame_sound frame s log is.0 sound is.1) is.2
-  run_sound frames s logs u sound is = absurd is
+  pub run_sound : RunStaysSound
+  run_sound [] s sound = sound
+  run_sound (f ∷ fs) s sound = run_sound fs (frame f s).state (frame_sound f s sound)

@@ -4,7 +4,7 @@ use Rattle.std.specs.List.{range_with_len}
 use Rattle.std.proofs.lemmas.{Bool.cases_Bool, Bool.cases_lt, Bool.false≢true, List.get_or_past, List.FromFn.length-map-range_with_len, Bool.Decides.eqb_tells, Simd.map-map}
 use Rattle.msg_world.specs.declared.access.Access.{Access}
 use Rattle.msg_order.specs.Prelude.{has_joined}
-use Rattle.msg_frames.specs.Prelude.{AreAccessesOf, Frame, FramesKeepSystems, NoCycle, SameSystems, SameSystemsHaveSameAccesses, State, TurnsKeepSystems, after_turn_of, after_turns_of, before_turns, frame_in, join_flags, after_joining, with_joining}
+use Rattle.msg_frames.specs.Prelude.{AreAccessesOf, Frame, FramesKeepSystems, NoCycle, SameSystems, SameSystemsHaveSameAccesses, State, TurnsKeepSystems, UsesParts, after_turn_of, after_turns_of, before_turns, frame_in, join_flags, after_joining, with_joining}
 
 same_systems : (s : State) → SameSystems s s
 same_systems s = grind arith
@@ -66,3 +66,6 @@ joined_below s i h = grind (arith, cases_lt, false≢true, get_or_past, length-m
 -- the rules make no cycle among them
 pub no_cycle_stays : (s u : State) → SameSystems s u → NoCycle s → NoCycle u
 no_cycle_stays s u same none who e = rw (same.rules) (none who (e ∙ same.systems))
+
+pub uses_stay : (s u : State) → SameSystems s u → UsesParts s → UsesParts u
+uses_stay s u same uses = grind (arith, same, uses)

@@ -1,32 +1,28 @@
 -- A frame, and frames one after the other.
-use Rattle.std.specs.Prelude.{◌≡◌, ℕ, suc, ℤ, ◌<◌, ◌==◌, List, [], ◌∷◌, length, map, Option, Some, None, if◌then◌else◌, max, nat_le, Bool}
-use Rattle.std.specs.List.{range_with_len}
+use Rattle.std.specs.Prelude.{◌≡◌, ℕ, suc, ℤ, ◌<◌, ◌==◌, List, [], ◌∷◌, ◌++◌, ◌&&◌, ◌||◌, IsTrue, length, map, Option, Some, None, if◌then◌else◌, max, nat_le, Bool}
+use Rattle.std.specs.List.{list_any, range_with_len}
 use Rattle.msg_buffer.specs.Prelude.{count, write}
-use Rattle.msg_world.specs.{Prelude.WorldState, Prelude.after_update, Prelude.by, Prelude.with_history, declared.access.Access.Access, declared.record.TheConstants.HOST}
-use Rattle.msg_order.specs.{Prelude.Graph, Prelude.IsSettledOrder, Prelude.IsTurnOrder, Prelude.access_of, declared.rule.Rule.Rule}
-use Rattle.msg_system.specs.declared.reply.Reply.{Reply}
-use Rattle.msg_system.specs.Prelude.{AfterJob, IsAccessOf, Job, Needs, after_job, asked_started, conditions_of, numbers_for, after_start, with_conditions, write_reply}
-use Rattle.msg_frames.specs.{declared.frame.Frame.Frame, declared.log.Log.Log, declared.log.Turn.Turn, declared.log.Outcome.Outcome, declared.log.Outcome.TheVariants.Skipped, declared.log.Outcome.TheVariants.Ran, Entries.outcome_entries, Entries.totals_from, Entries.with_entries, declared.totals.Totals.Totals}
+use Rattle.msg_world.specs.{Prelude.WorldState, Prelude.after_update, Prelude.by, Prelude.with_history, Prelude.HasPart, Prelude.Part, Prelude.OfType, Prelude.OfResource, Prelude.Registry, declared.access.Access.Access, declared.record.TheConstants.HOST}
+use Rattle.msg_order.specs.{Prelude.Graph, Prelude.access_of, Prelude.settled, Prelude.turns, declared.rule.Rule.Rule}
+use Rattle.msg_system.specs.{declared.reply.Reply.Reply, declared.op.Op.TheVariants.Write}
+use Rattle.msg_system.specs.Prelude.{AfterJob, Step, IsAccessOf, Job, Needs, after_job, asked_started, needs_any, numbers_for, after_start, with_conditions, write_reply}
+use Rattle.msg_frames.specs.{declared.frame.Frame.Frame, declared.log.Log.Log, declared.log.Turn.Turn, declared.log.Outcome.Outcome, declared.log.Outcome.TheVariants.Skipped, declared.log.Outcome.TheVariants.Ran, Entries.entries_at, Entries.totals_from, Entries.with_entries, declared.totals.Totals.Totals}
 
--- One system of a state: its job, the frame that it joins with, and its totals.
+-- One system of a state: its job with all cursors, the frame that it joins with (with 1 it joins
+-- before any), and of each type what it got, missed and cleared.
 pub record Member : Type 0 where
-  -- its system and its conditions, with their cursors
   pub job : Job
-  -- the frame that it joins with; with 1 it joins before any frame
   pub join : ℕ
-  -- what it got, missed and cleared of each type
   pub totals : ℕ → Totals
 
--- What a frame starts from and leaves: the systems, the rules, the world, and the frames so far.
+-- What a frame starts from and leaves: how many systems there are, and each by its number, in order
+-- of addition; the rules; how many types, and the world; and how many frames were run.
 pub record State : Type 0 where
-  -- how many systems there are; a system goes by its number, in order of addition
   pub systems : ℕ
   pub members : ℕ → Member
   pub rules : List Rule
-  -- how many types the world has
   pub types : ℕ
   pub world : WorldState
-  -- how many frames were run
   pub frames : ℕ
 
 -- system i has joined
@@ -50,12 +46,11 @@ job_begun counts j = record {
   conditions = map (asked_started j.system.start counts) j.conditions;
 }
 
--- A system joins: its cursors and those of its conditions stand where they start, and its accounts
--- begin there.
+-- a system that joins: its cursors stand where they start, and its accounts begin there
 abbrev pub joined_member : List ℕ → Member → Member
 joined_member counts m = record m {
   job = job_begun counts m.job;
-  totals = λ t. totals_from ((after_start counts m.job.system).places t);
+  totals = λ t. totals_from ((job_begun counts m.job).system.places t);
 }
 
 -- those that join with frame k have joined
@@ -66,8 +61,7 @@ with_joining k s =
           else s.members i;
     }
 
--- Those that join with the next frame do so. With the first frame none does, since they joined
--- before.
+-- those that join with the next frame do so; those of the first joined before it
 abbrev pub after_joining : State → State
 after_joining s = if s.frames == 0 then s else with_joining (suc s.frames) s
 
@@ -79,11 +73,17 @@ after_posts [] w = w
 after_posts (p ∷ ps) w =
     after_posts ps (with_history w p.0 (write (by HOST p.1 ∷ []) (w.histories p.0)))
 
+-- the posts as steps, each a write by `HOST`
+abbrev pub post_steps : List (ℕ × ℤ) → WorldState → List (ℕ × Step)
+post_steps [] w = []
+post_steps (p ∷ ps) w =
+    let told : Reply = write_reply (numbers_for (w.histories p.0) 1) in
+    (HOST, record { op = Write p.0 p.1; places = λ t. 0; world = w; reply = told })
+    ∷ post_steps ps (after_posts (p ∷ []) w)
+
 -- what the posts are answered
 abbrev pub post_replies : List (ℕ × ℤ) → WorldState → List Reply
-post_replies [] w = []
-post_replies (p ∷ ps) w = write_reply (numbers_for (w.histories p.0) 1)
-    ∷ post_replies ps (after_posts (p ∷ []) w)
+post_replies posts w = map (λ x. x.1.reply) (post_steps posts w)
 
 -- ---- turns
 
@@ -92,43 +92,26 @@ abbrev pub outcome_of : Option (List Reply) → Outcome
 outcome_of None = Skipped
 outcome_of (Some replies) = Ran replies
 
--- What a system's turn leaves of it and of the world, and what came of it.
-pub record AfterTurn : Type 0 where
-  pub member : Member
-  pub world : WorldState
-  pub outcome : Outcome
+-- what the turn of system i comes to: it does its job
+abbrev pub turn_of : State → ℕ → AfterJob
+turn_of s i = after_job (s.members i).job s.world
 
--- a member's turn: it does its job, and its totals count the entries of that
-abbrev pub member_turn : Member → WorldState → AfterTurn
-member_turn m w =
-    let after : AfterJob = after_job m.job w in
-    record {
-      member =
-          record m {
-            job = after.job;
-            totals = λ t. with_entries (outcome_entries t m.job.system (outcome_of after.replies))
-                (m.totals t);
-          };
-      world = after.state;
-      outcome = outcome_of after.replies;
-    }
-
--- the turn of system i
-abbrev pub turn_of : State → ℕ → AfterTurn
-turn_of s i = member_turn (s.members i) s.world
-
--- the members, with another one as number i
-abbrev pub with_member : (ℕ → Member) → ℕ → Member → ℕ → Member
-with_member members i m = λ k. if k == i then m else members k
+-- a member after its turn, whose totals count the entries of that
+abbrev pub member_after : AfterJob → Member → Member
+member_after done m =
+    record m { job = done.job; totals = λ t. with_entries (entries_at t done.steps) (m.totals t) }
 
 -- the state after the turn of system i
 abbrev pub after_turn_of : ℕ → State → State
 after_turn_of i s =
-    record s { members = with_member s.members i (turn_of s i).member; world = (turn_of s i).world }
+    record s {
+      members = λ k. if k == i then member_after (turn_of s i) (s.members i) else s.members k;
+      world = (turn_of s i).state;
+    }
 
--- what the log says of the turn of system i
+-- what the log says of it
 abbrev pub logged_turn : State → ℕ → Turn
-logged_turn s i = record { system = i; outcome = (turn_of s i).outcome }
+logged_turn s i = record { system = i; outcome = outcome_of (turn_of s i).replies }
 
 -- What the turns of some systems leave, and the log of them.
 pub record AfterTurns : Type 0 where
@@ -142,32 +125,40 @@ after_turns_of (i ∷ is) s =
     let rest : AfterTurns = after_turns_of is (after_turn_of i s) in
     record { state = rest.state; turns = logged_turn s i ∷ rest.turns }
 
+-- the steps of these turns, one after the other, each beside the number of who took it
+abbrev pub turns_steps : List ℕ → State → List (ℕ × Step)
+turns_steps [] s = []
+turns_steps (i ∷ is) s =
+    map (λ x. (i, x)) (turn_of s i).steps ++ turns_steps is (after_turn_of i s)
+
 -- ---- a frame
 
--- Before the turns some join, every type is updated (a held world where it was signalled), and the
--- posts are written.
+-- what comes before the turns: some join, the world is updated, and the posts are written
 abbrev pub before_turns : List (ℕ × ℤ) → State → State
 before_turns posts s =
     let ready : State = after_joining s in
     record ready { world = after_posts posts (after_update ready.world); frames = suc ready.frames }
 
--- What a frame leaves, and its log.
+-- What a frame leaves, its log, and its steps: the posts, and those of the turns.
 pub record AfterFrame : Type 0 where
   pub state : State
   pub log : Log
+  pub steps : List (ℕ × Step)
 
 -- the frame whose systems take their turns in this order
 abbrev pub frame_in : List ℕ → Frame → State → AfterFrame
 frame_in order frame s =
-    let turns : AfterTurns = after_turns_of order (before_turns frame.posts s) in
+    let ready : State = before_turns frame.posts s in
+    let turns : AfterTurns = after_turns_of order ready in
     record {
       state = turns.state;
+      steps = post_steps frame.posts (after_update s.world) ++ turns_steps order ready;
       log = record { posts = post_replies frame.posts (after_update s.world); turns = turns.turns };
     }
 
--- what a member's job needs: its system and its conditions
+-- what a member's job needs
 abbrev pub member_needs : Member → Needs
-member_needs m = with_conditions m.job.system.needs (conditions_of m.job)
+member_needs m = with_conditions m.job.system.needs (map (λ a. a.condition) m.job.conditions)
 
 -- the accesses of the systems, in order of addition
 pub record AreAccessesOf (s : State) (accesses : List Access) : Type 0 where
@@ -175,32 +166,52 @@ pub record AreAccessesOf (s : State) (accesses : List Access) : Type 0 where
   pub of_needs : (i : ℕ) → i < s.systems
       → IsAccessOf (member_needs (s.members i)) (access_of accesses i)
 
--- The order is settled among those that have joined, by their accesses and the rules.
-pub record IsOrderOf (s : State) (settled : Graph) : Type 0 where
-  pub accesses : List Access
-  pub of_systems : AreAccessesOf s accesses
-  pub is_settled : IsSettledOrder accesses s.rules (join_flags s) settled
+-- ---- frames in the settled order
 
--- The order has all that have joined, by batch number in the settled order, then by addition.
-pub record IsTurnOrderOf (s : State) (order : List ℕ) : Type 0 where
-  pub settled : Graph
-  pub is_order : IsOrderOf s settled
-  pub in_order : IsTurnOrder settled (join_flags s) order
+-- the parts that a world may have, which has at most 64 types and 64 resources
+unfoldable pub parts : List Part
+parts = (map OfType (range_with_len 0 64) ++ map OfResource (range_with_len 0 64)) ++ Registry ∷ []
+
+-- one of two writes a part that the other reads or writes
+abbrev pub needs_conflict : Needs → Needs → Bool
+needs_conflict m n =
+    list_any (λ p. (m.writes p && needs_any n p) || (n.writes p && needs_any m p)) parts
+
+-- the jobs of two systems are in conflict
+abbrev pub are_in_conflict : State → ℕ → ℕ → Bool
+are_in_conflict s i j = needs_conflict (member_needs (s.members i)) (member_needs (s.members j))
+
+-- the settled order of those that have joined
+unfoldable pub settled_order : State → Graph
+settled_order s = settled (are_in_conflict s) s.rules (join_flags s)
+
+-- the order in which those that have joined take their turns
+unfoldable pub turn_order : State → List ℕ
+turn_order s = turns (settled_order s) (join_flags s)
+
+-- a frame, on one thread: its systems take their turns in the settled order
+abbrev pub frame : Frame → State → AfterFrame
+frame f s = frame_in (turn_order (before_turns f.posts s)) f s
+
+-- What frames leave, their logs, and their steps.
+pub record AfterRun : Type 0 where
+  pub state : State
+  pub logs : List Log
+  pub steps : List (ℕ × Step)
+
+-- frames one after the other
+abbrev pub run : List Frame → State → AfterRun
+run [] s = record { state = s; logs = []; steps = [] }
+run (f ∷ fs) s =
+    let here : AfterFrame = frame f s in
+    let rest : AfterRun = run fs here.state in
+    record { state = rest.state; logs = here.log ∷ rest.logs; steps = here.steps ++ rest.steps }
+
+-- each system needs only parts that a world may have
+abbrev pub UsesParts : State → Type 0
+UsesParts s = (i : ℕ) → i < s.systems → (p : Part)
+    → IsTrue (needs_any (member_needs (s.members i)) p) → HasPart 64 64 p
 
 -- the systems in the order in which the log has their turns
 abbrev pub turn_order_in : Log → List ℕ
 turn_order_in log = map (λ turn. turn.system) log.turns
-
--- A frame has this log and leaves u: its systems took their turns in the settled order, one by one,
--- on one thread.
-pub record IsFrame (frame : Frame) (s : State) (log : Log) (u : State) : Type 0 where
-  pub in_order : IsTurnOrderOf (before_turns frame.posts s) (turn_order_in log)
-  pub tells : log ≡ (frame_in (turn_order_in log) frame s).log
-  pub leaves : u ≡ (frame_in (turn_order_in log) frame s).state
-
--- Frames one after the other have these logs, and leave the state u.
-abbrev pub IsRun : List Frame → State → List Log → State → Type 0
-IsRun [] s [] u = u ≡ s
-IsRun (frame ∷ frames) s (log ∷ logs) u = (m : State) × IsFrame frame s log m
-    × IsRun frames m logs u
-IsRun _ s _ u = ⊥

@@ -4,8 +4,11 @@ pub mod FirstState
 pub mod Prelude
 pub mod Replays
 pub mod TurnLaws
+pub mod Steps
+pub mod LogEntries
 pub mod Tiling
 pub mod CompleteRun
+pub mod Fates
 pub mod Soundness
 pub mod ReaderLaws
 pub mod UpToDate

@@ -1,16 +1,19 @@
 -- Hands on the definitions cited elsewhere. The declared types serve this crate's proofs alone.
 pub use Rattle.msg_frames.specs.Accounts.{AddsUp, account_of, accounts_of, accounts_of_system, is_reader}
-pub use Rattle.msg_frames.specs.CompleteRun.{IsCompleteRun, IsGivenOnce, IsInOrderOf, IsServed, Meets, MeetsOneFate, found_totals, is_by, message_numbered, messages_given}
-pub use Rattle.msg_frames.specs.Entries.{ReadEntry, Fate, replies_of, cleared, entries_for, entries_told, entry_for, entry_of, entry_of_read, given, missed, no_totals, numbers_at, numbers_of, numbers_passed, ops_by, outcome_entries, totals_from, with_entries}
+pub use Rattle.msg_frames.specs.CompleteRun.{IsCompleteRun, IsServed, IsTrueEntry, entries_in_run, message_numbered}
+pub use Rattle.msg_frames.specs.Fates.{EachMeetsOneFate, Fate, GivesItsStretch, IsGivenOnce, IsInOrderOf, IsTiled, LogsTellEntries, Meets, MeetsOneFate, ReadersTile, WritersInOrder, answers_in, cleared, given, log_entries, messages_given, messages_of, missed, numbered_given, numbers_at, numbers_of, told_to}
+pub use Rattle.msg_frames.specs.Entries.{ReadEntry, entries_at, entry_for, entry_of, entry_of_read, no_totals, numbers_cleared, numbers_given, numbers_missed, numbers_passed, numbers_told, totals_from, with_entries}
 pub use Rattle.msg_frames.specs.FirstState.{IsNew, first_state, new_job, nobody, nowhere, before_joining, waiting_member}
-pub use Rattle.msg_frames.specs.Frames.{AfterFrame, AfterTurn, AfterTurns, AreAccessesOf, IsFrame, IsOrderOf, IsRun, IsTurnOrderOf, Member, State, after_posts, after_turn_of, after_turns_of, before_turns, counts, frame_in, has_begun, job_begun, join_flags, joined_member, after_joining, logged_turn, member_turn, member_needs, outcome_of, post_replies, turn_order_in, turn_of, with_joining, with_member}
-pub use Rattle.msg_frames.specs.ReaderLaws.{AccountsBalance, AreNew, FirstIsSound, FrameStaysSound, NoneBeforeJoining, ReplaysTellACompleteRun, ReplaysTellTheSame, RunStaysSound, RunsAreComplete}
-pub use Rattle.msg_frames.specs.Replays.{IsLawfulFor, IsMixedRun, IsReplay, TellsACompleteRun}
-pub use Rattle.msg_frames.specs.Rows.{IsRunOf, OrderedFrames, Setup, alone, conditions_frames, contrary, contrary_frames, drained, drained_frames, early_frames, echo, echo_frames, fourth, fourth_frames, gated, gated_frames, lag, lag_frames, late, late_frames, systems_numbered, program, relay, relay_frames, signallers, signallers_frames, setup_state, tally, tally_frames, two_conditions, writers, writers_frames}
-pub use Rattle.msg_frames.specs.Soundness.{IsBalanced, IsSoundState}
-pub use Rattle.msg_frames.specs.Tiling.{GivesItsStretch, Moment, answers_in, first_moments, found_at, job_moments, log_entries, messages_of, moments, next_moments, reader_place, turns_moments}
-unfoldable pub use Rattle.msg_frames.specs.Tiling.{turn_moments}
-pub use Rattle.msg_frames.specs.TurnLaws.{BatchesRunSideBySide, FrameKeeps, FramesAgreeInLawfulOrders, FramesAreUnique, FramesExist, FramesKeepSystems, FramesRunByBatches, HasOneRun, LawfulOrdersAgree, ListsOnlyGrow, NoCycle, RunsAreUnique, RunsExist, SameMember, SameSystems, SameSystemsHaveSameAccesses, SystemsHaveOneOrder, TurnsKeepSystems, TurnsOfOthersCommute, all_home, by_batches, home}
+pub use Rattle.msg_frames.specs.Frames.{post_steps, turns_steps, AfterFrame, AfterRun, UsesParts, are_in_conflict, frame, needs_conflict, run, AfterTurns, AreAccessesOf, Member, State, after_posts, after_turn_of, after_turns_of, before_turns, counts, frame_in, has_begun, job_begun, join_flags, joined_member, member_after, after_joining, logged_turn, member_needs, outcome_of, post_replies, turn_order_in, turn_of, with_joining}
+pub use Rattle.msg_frames.specs.ReaderLaws.{AccountsBalance, AllAreAnswered, AreNew, FirstIsSound, FrameStaysSound, NoneBeforeJoining, ReplaysTellTheSame, RunStaysSound, RunsAreComplete}
+pub use Rattle.msg_frames.specs.Replays.{IsLawfulFor, TellsTheSame}
+pub use Rattle.msg_frames.specs.Rows.{Setup, alone, conditions_frames, contrary, contrary_frames, drained, drained_frames, early_frames, echo, echo_frames, fourth, fourth_frames, gated, gated_frames, lag, lag_frames, late, late_frames, systems_numbered, program, relay, relay_frames, signallers, signallers_frames, setup_state, tally, tally_frames, two_conditions, writers, writers_frames}
+pub use Rattle.msg_frames.specs.Soundness.{IsBalanced, IsSoundState, NoCycle}
+pub use Rattle.msg_frames.specs.Steps.{AreAnswered, IsWrittenOnce, all_written, answers_of, replies_of, told, wrote}
+pub use Rattle.msg_frames.specs.Tiling.{Moment, found_at, moments, moments_at, reader_place}
+unfoldable pub use Rattle.msg_frames.specs.Frames.{parts, settled_order, turn_order}
+pub use Rattle.msg_frames.specs.LogEntries.{entries_for, entries_told, ops_by, outcome_entries}
+pub use Rattle.msg_frames.specs.TurnLaws.{AreOrdered, OrderIsSettled, TurnsAreInOrder, BatchesRunSideBySide, FrameKeeps, FramesAgreeInLawfulOrders, FramesKeepSystems, FramesRunByBatches, LawfulOrdersAgree, ListsOnlyGrow, SameMember, SameSystems, SameSystemsHaveSameAccesses, TurnsKeepSystems, TurnsOfOthersCommute, all_home, by_batches, home, with_member}
 pub use Rattle.msg_frames.specs.UpToDate.{IsUpToDate, MissesNothing, NothingDrained, ReadsAll, ReadsAllInEach, WhoIsUpToDateMissesNothing, WhoReadsAllCatchesUp, WhoReadsAllHasTheFrameBefore, WhoReadsAllIsUpToDate, WhoReadsEachFrameMissesNothing, WhoseProgramReadsAll, reads_all}
 pub use Rattle.msg_frames.specs.declared.frame.Frame.{Frame}
 pub use Rattle.msg_frames.specs.declared.log.Log.{Log}

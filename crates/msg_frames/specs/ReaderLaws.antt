@@ -1,27 +1,30 @@
 -- What holds of readers over every run.
-use Rattle.std.specs.Prelude.{◌≡◌, ℕ, ◌<◌, ◌≤◌, List, [], ◌∷◌, All, EachIndex, IsTrue, IsFalse, slice_index_or}
+use Rattle.std.specs.Prelude.{◌≡◌, ℕ, ◌<◌, ◌≤◌, List, All, EachIndex, IsTrue, IsFalse, slice_index_or}
+use Rattle.std.specs.List.{AllZip}
 use Rattle.msg_buffer.specs.Prelude.{IsSound}
 use Rattle.msg_order.specs.declared.rule.Rule.{Rule}
 use Rattle.msg_world.specs.Prelude.{WorldState}
 use Rattle.msg_system.specs.Prelude.{Meaning}
-use Rattle.msg_frames.specs.{declared.frame.Frame.Frame, declared.log.Log.Log, declared.place.Place.Place, Entries.no_totals, Frames.IsFrame, Frames.IsRun, Frames.State, Frames.has_begun, FirstState.IsNew, FirstState.first_state, FirstState.nobody, Replays.IsMixedRun, Replays.IsReplay, Replays.TellsACompleteRun, Soundness.IsBalanced, Soundness.IsSoundState, CompleteRun.IsCompleteRun, Tiling.answers_in, Tiling.reader_place}
+use Rattle.msg_frames.specs.{declared.frame.Frame.Frame, declared.log.Log.Log, declared.place.Place.Place, Entries.no_totals, Frames.frame, Frames.run, Frames.State, Frames.UsesParts, Frames.has_begun, FirstState.IsNew, FirstState.before_joining, FirstState.first_state, FirstState.nobody, Replays.TellsTheSame, Soundness.IsBalanced, Steps.AreAnswered, Soundness.IsSoundState, Soundness.NoCycle, CompleteRun.IsCompleteRun, Fates.answers_in, Tiling.reader_place}
 
 -- ---- soundness
 
 -- A frame on a sound state leaves a sound state.
 abbrev pub FrameStaysSound : Type 0
-FrameStaysSound = (frame : Frame) (s : State) (log : Log) (u : State) → IsSoundState s
-    → IsFrame frame s log u → IsSoundState u
+FrameStaysSound = (f : Frame) (s : State) → IsSoundState s → IsSoundState (frame f s).state
 
 -- A run from a sound state leaves a sound state.
 abbrev pub RunStaysSound : Type 0
-RunStaysSound = (frames : List Frame) (s : State) (logs : List Log) (u : State) → IsSoundState s
-    → IsRun frames s logs u → IsSoundState u
+RunStaysSound = (frames : List Frame) (s : State) → IsSoundState s
+    → IsSoundState (run frames s).state
 
--- Systems that were given nothing yet, each of its own number, and places for them, over a sound
--- world.
-pub record AreNew (systems : List Meaning) (places : List Place) (types : ℕ)
+-- Systems that were given nothing yet, each of its own number, places for them, and rules that make
+-- no cycle, over a sound world.
+pub record AreNew (systems : List Meaning) (places : List Place) (rules : List Rule) (types : ℕ)
     (world : WorldState) : Type 0 where
+  -- each needs only parts that a world may have
+  pub uses : UsesParts (before_joining systems places rules types world)
+  pub no_cycle : NoCycle (before_joining systems places rules types world)
   pub histories : (t : ℕ) → t < types → IsSound (world.histories t)
   pub new : EachIndex systems (λ i. IsNew i (slice_index_or systems i nobody))
   pub joins : All (λ place. 1 ≤ place.join) places
@@ -30,29 +33,27 @@ pub record AreNew (systems : List Meaning) (places : List Place) (types : ℕ)
 abbrev pub FirstIsSound : Type 0
 FirstIsSound = (systems : List Meaning) (places : List Place) (rules : List Rule) (types : ℕ)
     (world : WorldState)
-    → AreNew systems places types world
+    → AreNew systems places rules types world
     → IsSoundState (first_state systems places rules types world)
 
 -- ---- complete runs
 
 -- Every run is complete.
 abbrev pub RunsAreComplete : Type 0
-RunsAreComplete = (frames : List Frame) (s : State) (logs : List Log) (u : State) → IsSoundState s
-    → IsRun frames s logs u → IsCompleteRun frames s logs u
+RunsAreComplete = (frames : List Frame) (s : State) → IsSoundState s → IsCompleteRun frames s
+
+-- What the steps of a run were answered is what its logs say.
+abbrev pub AllAreAnswered : Type 0
+AllAreAnswered = (frames : List Frame) (s : State) → AreAnswered frames s
 
 -- ---- replays
 
--- A replay tells each system what the frame tells it.
+-- Logs that tell the same as those of a run, as where frames were replayed, tell each system what
+-- the run tells it.
 abbrev pub ReplaysTellTheSame : Type 0
-ReplaysTellTheSame = (frame : Frame) (order : List ℕ) (s : State) (log : Log) (u : State)
-    (replay : IsReplay frame order s log u) (i : ℕ)
-    → answers_in i (log ∷ []) ≡ answers_in i (replay.settled ∷ [])
-
--- Frames of which some are replayed tell each system what a complete run of them tells it.
-abbrev pub ReplaysTellACompleteRun : Type 0
-ReplaysTellACompleteRun = (frames : List Frame) (s : State) (logs : List Log) (u : State)
-    → IsSoundState s
-    → IsMixedRun frames s logs u → TellsACompleteRun frames s logs u
+ReplaysTellTheSame = (frames : List Frame) (s : State) (logs : List Log)
+    → AllZip TellsTheSame logs (run frames s).logs → (i : ℕ)
+    → answers_in i logs ≡ answers_in i (run frames s).logs
 
 -- ---- accounts
 

@@ -1,31 +1,12 @@
--- Worked runs: systems, frames with the order of their turns, and the logs that come of them, by
--- computation. Of each of them it is proved that it is a run (`IsRunOf`), since its turns are in
--- the settled order.
+-- Worked runs: systems, frames, and the logs that come of them, by computation.
 use Rattle.std.specs.Prelude.{◌≡◌, ℕ, suc, ℤ, pos, negsuc, List, [], ◌∷◌, ◌++◌, length, map, Some, None, refl}
 use Rattle.msg_world.specs.{Prelude.WorldState, Prelude.by, Prelude.held_world, Prelude.new_world, declared.record.Record.Record, declared.record.TheConstants.HOST}
 use Rattle.msg_order.specs.declared.rule.Rule.{Rule}
 use Rattle.msg_system.specs.{Prelude.Meaning, Prelude.new_system, Prelude.turn, declared.condition.Condition.Condition, declared.condition.Probe.TheVariants.OnMessage, declared.condition.Probe.TheVariants.ResourceEquals, declared.op.Op.Op, declared.op.Op.TheVariants.Write, declared.op.Op.TheVariants.Batch, declared.op.Op.TheVariants.Read, declared.op.Op.TheVariants.Len, declared.op.Op.TheVariants.Missed, declared.op.Op.TheVariants.Forward, declared.op.Op.TheVariants.Sum, declared.op.Op.TheVariants.Set, declared.op.Op.TheVariants.Add, declared.op.Op.TheVariants.Drain, declared.op.Op.TheVariants.Signal, declared.program.Program.Program, declared.reply.Reply.Reply, declared.reply.Took.Took, declared.start.Start.TheVariants.Zero, declared.start.Start.TheVariants.Current}
 use Rattle.msg_system.specs.declared.reply.Reply.TheVariants as reply
-use Rattle.msg_frames.specs.{declared.log.Log.Log, declared.log.Outcome.TheVariants.Skipped, declared.log.Outcome.TheVariants.Ran, declared.log.Turn.Turn, declared.place.Place.Place, declared.totals.Totals.Totals, Entries.no_totals, Frames.AfterFrame, Frames.IsRun, Frames.frame_in, Frames.State, FirstState.first_state}
+use Rattle.msg_frames.specs.{declared.log.Log.Log, declared.log.Outcome.TheVariants.Skipped, declared.log.Outcome.TheVariants.Ran, declared.log.Turn.Turn, declared.place.Place.Place, declared.totals.Totals.Totals, Entries.no_totals, Frames.AfterRun, Frames.State, Frames.parts, Frames.run, Frames.settled_order, Frames.turn_order, FirstState.first_state}
 
 -- ---- how the rows are written
-
--- frames one after the other, each with what the host posts and the order of its turns
-abbrev pub OrderedFrames : Type 0
-OrderedFrames = List (List (ℕ × ℤ) × List ℕ)
-
--- what they leave, and their logs
-pub record Run : Type 0 where
-  pub state : State
-  pub logs : List Log
-
--- what these frames leave on a state, and their logs
-abbrev pub run_from : OrderedFrames → State → Run
-run_from [] s = record { state = s; logs = [] }
-run_from (frame ∷ frames) s =
-    let here : AfterFrame = frame_in frame.1 (record { posts = frame.0 }) s in
-    let rest : Run = run_from frames here.state in
-    record { state = rest.state; logs = here.log ∷ rest.logs }
 
 -- what a worked run begins with
 pub record Setup : Type 0 where
@@ -58,18 +39,9 @@ systems_numbered n (p ∷ ps) = new_system p n ∷ systems_numbered (suc n) ps
 abbrev pub setup_state : Setup → State
 setup_state x = first_state (systems_numbered 0 x.programs) x.places x.rules x.types x.world
 
--- what these frames leave on the first state of a setup, and their logs
-abbrev pub run : OrderedFrames → Setup → Run
-run frames x = run_from frames (setup_state x)
-
--- in each frame the turns are in this order
-abbrev pub each_in_order : List ℕ → List (List (ℕ × ℤ)) → OrderedFrames
-each_in_order order posts = map (λ ps. (ps, order)) posts
-
--- these frames are a run, as the definition says
-abbrev pub IsRunOf : OrderedFrames → State → Type 0
-IsRunOf frames s = IsRun (map (λ f. record { posts = f.0 }) frames) s (run_from frames s).logs
-    (run_from frames s).state
+-- what frames with these posts leave on the first state of a setup, and their logs
+abbrev pub run_of : List (List (ℕ × ℤ)) → Setup → AfterRun
+run_of posts x = run (map (λ ps. record { posts = ps }) posts) (setup_state x)
 
 -- one post, to type 0
 abbrev pub post : ℤ → List (ℕ × ℤ)
@@ -144,8 +116,8 @@ gave start got missed = record { start = Some start; got = got; missed = missed;
 abbrev pub alone : Setup
 alone = setup (program (Read 0 None ∷ []) ∷ []) (always ∷ []) [] (10 ∷ []) []
 
-pub no_frames : ((run [] alone).logs ≡ []) × (totals_of (run [] alone).state 0 0 ≡ gave 0 0 0)
-unfolding turn
+pub no_frames : ((run_of [] alone).logs ≡ []) × (totals_of (run_of [] alone).state 0 0 ≡ gave 0 0 0)
+unfolding turn turn_order settled_order parts
 no_frames = (refl, refl)
 
 -- ---- a reader that runs before the writer gets its message a frame later
@@ -155,14 +127,14 @@ lag =
     setup (program (Read 0 None ∷ []) ∷ program (Write 0 (pos 5) ∷ []) ∷ [])
     (always ∷ always ∷ []) (record { earlier = 0; later = 1 } ∷ []) (10 ∷ []) (pos 0 ∷ [])
 
-abbrev pub lag_frames : OrderedFrames
-lag_frames = each_in_order (0 ∷ 1 ∷ []) ([] ∷ [] ∷ [])
+abbrev pub lag_frames : List (List (ℕ × ℤ))
+lag_frames = ([] ∷ [] ∷ [])
 
-pub one_frames_lag : ((run lag_frames lag).logs
+pub one_frames_lag : ((run_of lag_frames lag).logs
     ≡ log_of [] (did 0 (read_of 0 0 []) ∷ did 1 (wrote 0 1) ∷ [])
     ∷ log_of [] (did 0 (read_of 0 0 (by 1 (pos 5) ∷ [])) ∷ did 1 (wrote 1 1) ∷ []) ∷ [])
-    × (totals_of (run lag_frames lag).state 0 0 ≡ gave 0 1 0)
-unfolding turn
+    × (totals_of (run_of lag_frames lag).state 0 0 ≡ gave 0 1 0)
+unfolding turn turn_order settled_order parts
 one_frames_lag = (refl, refl)
 
 -- ---- two updates drop a message, and not one
@@ -172,11 +144,11 @@ fourth ops =
     setup (program (Add 0 (pos 1) ∷ []) ∷ program ops ∷ [])
     (always ∷ asking (equals 0 (pos 4) ∷ []) ∷ []) [] (10 ∷ []) (pos 0 ∷ [])
 
-abbrev pub fourth_frames : OrderedFrames
-fourth_frames = each_in_order (0 ∷ 1 ∷ []) (post (pos 10) ∷ post (pos 20) ∷ post (pos 30) ∷ [] ∷ [])
+abbrev pub fourth_frames : List (List (ℕ × ℤ))
+fourth_frames = (post (pos 10) ∷ post (pos 20) ∷ post (pos 30) ∷ [] ∷ [])
 
-abbrev pub fourth_run : List Op → Run
-fourth_run ops = run fourth_frames (fourth ops)
+abbrev pub fourth_run : List Op → AfterRun
+fourth_run ops = run_of fourth_frames (fourth ops)
 
 pub exactly_two_updates : ((fourth_run (Read 0 None ∷ [])).logs
     ≡ log_of (wrote 0 1 ∷ []) (did 0 (reply.Value (pos 1)) ∷ skipped 1 ∷ [])
@@ -184,7 +156,7 @@ pub exactly_two_updates : ((fourth_run (Read 0 None ∷ [])).logs
     ∷ log_of (wrote 2 1 ∷ []) (did 0 (reply.Value (pos 3)) ∷ skipped 1 ∷ [])
     ∷ log_of [] (did 0 (reply.Value (pos 4)) ∷ did 1 (read_of 2 2 (by HOST (pos 30) ∷ [])) ∷ [])
     ∷ []) × (totals_of (fourth_run (Read 0 None ∷ [])).state 1 0 ≡ gave 0 1 2)
-unfolding turn
+unfolding turn turn_order settled_order parts
 exactly_two_updates = (refl, refl)
 
 -- ---- a read of no messages goes past dropped ones
@@ -196,7 +168,7 @@ pub read_of_none : (fourth_run (Read 0 (Some 0) ∷ Read 0 None ∷ [])).logs
     ∷ log_of [] (did 0 (reply.Value (pos 4))
     ∷ ran 1 (read_of 2 2 [] ∷ read_of 0 2 (by HOST (pos 30) ∷ []) ∷ []) ∷ [])
     ∷ []
-unfolding turn
+unfolding turn turn_order settled_order parts
 read_of_none = refl
 
 -- ---- the host and two systems write to one type
@@ -211,15 +183,15 @@ writers =
 abbrev pub of_three : ℤ → List Record
 of_three value = by HOST value ∷ by 0 (pos 1) ∷ by 1 (pos 2) ∷ by 1 (pos 3) ∷ []
 
-abbrev pub writers_frames : OrderedFrames
-writers_frames = each_in_order (0 ∷ 1 ∷ 2 ∷ []) (post (pos 9) ∷ post (pos 8) ∷ [])
+abbrev pub writers_frames : List (List (ℕ × ℤ))
+writers_frames = (post (pos 9) ∷ post (pos 8) ∷ [])
 
-pub host_and_two_writers : (run writers_frames writers).logs
+pub host_and_two_writers : (run_of writers_frames writers).logs
     ≡ log_of (wrote 0 1 ∷ []) (did 0 (wrote 1 1) ∷ did 1 (wrote 2 2)
     ∷ did 2 (read_of 0 0 (of_three (pos 9))) ∷ [])
     ∷ log_of (wrote 4 1 ∷ []) (did 0 (wrote 5 1) ∷ did 1 (wrote 6 2)
     ∷ did 2 (read_of 0 4 (of_three (pos 8))) ∷ []) ∷ []
-unfolding turn
+unfolding turn turn_order settled_order parts
 host_and_two_writers = refl
 
 -- ---- rules that go against the order of addition
@@ -236,11 +208,11 @@ contrary_turns =
     did 2 (read_of 0 0 []) ∷ did 0 (wrote 0 1) ∷ did 3 (read_of 0 0 (by 0 (pos 1) ∷ []))
     ∷ did 1 (wrote 0 1) ∷ []
 
-abbrev pub contrary_frames : OrderedFrames
-contrary_frames = each_in_order (2 ∷ 0 ∷ 3 ∷ 1 ∷ []) ([] ∷ [])
+abbrev pub contrary_frames : List (List (ℕ × ℤ))
+contrary_frames = ([] ∷ [])
 
-pub contradictory_order : (run contrary_frames contrary).logs ≡ log_of [] contrary_turns ∷ []
-unfolding turn
+pub contradictory_order : (run_of contrary_frames contrary).logs ≡ log_of [] contrary_turns ∷ []
+unfolding turn turn_order settled_order parts
 contradictory_order = refl
 
 -- ---- a system that asks for messages of the type that it writes
@@ -248,13 +220,13 @@ contradictory_order = refl
 abbrev pub echo : Setup
 echo = setup (program (Write 0 (pos 1) ∷ []) ∷ []) (asking (on_message 0 ∷ []) ∷ []) [] (9 ∷ []) []
 
-abbrev pub echo_frames : OrderedFrames
-echo_frames = each_in_order (0 ∷ []) ([] ∷ post (pos 5) ∷ [] ∷ [])
+abbrev pub echo_frames : List (List (ℕ × ℤ))
+echo_frames = ([] ∷ post (pos 5) ∷ [] ∷ [])
 
-pub own_message_asked : (run echo_frames echo).logs
+pub own_message_asked : (run_of echo_frames echo).logs
     ≡ log_of [] (skipped 0 ∷ []) ∷ log_of (wrote 0 1 ∷ []) (did 0 (wrote 1 1) ∷ [])
     ∷ log_of [] (did 0 (wrote 2 1) ∷ []) ∷ []
-unfolding turn
+unfolding turn turn_order settled_order parts
 own_message_asked = refl
 
 -- ---- every condition is asked: the message of frame 1 was gone past as the first condition didn't
@@ -265,14 +237,14 @@ two_conditions =
     setup (program (Len 0 ∷ []) ∷ program (Set 0 (pos 1) ∷ []) ∷ [])
     (asking (equals 0 (pos 1) ∷ on_message 0 ∷ []) ∷ always ∷ []) [] (9 ∷ []) (pos 0 ∷ [])
 
-abbrev pub conditions_frames : OrderedFrames
-conditions_frames = each_in_order (0 ∷ 1 ∷ []) (post (pos 1) ∷ [] ∷ post (pos 2) ∷ [])
+abbrev pub conditions_frames : List (List (ℕ × ℤ))
+conditions_frames = (post (pos 1) ∷ [] ∷ post (pos 2) ∷ [])
 
-pub all_conditions : (run conditions_frames two_conditions).logs
+pub all_conditions : (run_of conditions_frames two_conditions).logs
     ≡ log_of (wrote 0 1 ∷ []) (skipped 0 ∷ did 1 (reply.Value (pos 1)) ∷ [])
     ∷ log_of [] (skipped 0 ∷ did 1 (reply.Value (pos 1)) ∷ [])
     ∷ log_of (wrote 1 1 ∷ []) (did 0 (reply.Len 1) ∷ did 1 (reply.Value (pos 1)) ∷ []) ∷ []
-unfolding turn
+unfolding turn turn_order settled_order parts
 all_conditions = refl
 
 -- ---- a sum is held within its range at each message
@@ -284,13 +256,13 @@ tally =
 abbrev pub added : Took
 added = took_of 0 0 (by HOST (pos 1) ∷ by HOST (negsuc 4) ∷ [])
 
-abbrev pub tally_frames : OrderedFrames
-tally_frames = each_in_order (0 ∷ []) (((0, pos 1) ∷ (0, negsuc 4) ∷ []) ∷ [])
+abbrev pub tally_frames : List (List (ℕ × ℤ))
+tally_frames = (((0, pos 1) ∷ (0, negsuc 4) ∷ []) ∷ [])
 
-pub saturation : (run tally_frames tally).logs
+pub saturation : (run_of tally_frames tally).logs
     ≡ log_of (wrote 0 1 ∷ wrote 1 1 ∷ [])
     (did 0 (reply.Summed added (pos 9223372036854775802)) ∷ []) ∷ []
-unfolding turn
+unfolding turn turn_order settled_order parts
 saturation = refl
 
 -- ---- systems that join with frame 3, one from the start of the list and one from its end
@@ -300,14 +272,14 @@ late =
     setup (program (Read 0 None ∷ []) ∷ record { ops = Read 0 None ∷ []; start = Current } ∷ [])
     (from_frame 3 ∷ from_frame 3 ∷ []) [] (10 ∷ []) (pos 0 ∷ [])
 
-abbrev pub early_frames : OrderedFrames
-early_frames = each_in_order [] (post (pos 1) ∷ post (pos 2) ∷ [])
+abbrev pub early_frames : List (List (ℕ × ℤ))
+early_frames = (post (pos 1) ∷ post (pos 2) ∷ [])
 
-abbrev pub late_frames : OrderedFrames
-late_frames = early_frames ++ each_in_order (0 ∷ 1 ∷ []) (post (pos 3) ∷ [])
+abbrev pub late_frames : List (List (ℕ × ℤ))
+late_frames = early_frames ++ (post (pos 3) ∷ [])
 
-abbrev pub late_run : Run
-late_run = run late_frames late
+abbrev pub late_run : AfterRun
+late_run = run_of late_frames late
 
 pub late_systems : (late_run.logs
     ≡ log_of (wrote 0 1 ∷ []) [] ∷ log_of (wrote 1 1 ∷ []) []
@@ -315,8 +287,8 @@ pub late_systems : (late_run.logs
     did 0 (read_of 1 1 (by HOST (pos 2) ∷ by HOST (pos 3) ∷ [])) ∷
     did 1 (read_of 0 2 (by HOST (pos 3) ∷ [])) ∷ []) ∷ [])
     × (totals_of late_run.state 0 0 ≡ gave 0 2 1) × (totals_of late_run.state 1 0 ≡ gave 2 1 0)
-    × (totals_of (run early_frames late).state 0 0 ≡ no_totals)
-unfolding turn
+    × (totals_of (run_of early_frames late).state 0 0 ≡ no_totals)
+unfolding turn turn_order settled_order parts
 late_systems = (refl, refl, refl, refl)
 
 -- ---- a held world is updated only in the frame after a signal
@@ -326,16 +298,16 @@ gated = held
     (setup (program (Add 0 (pos 1) ∷ []) ∷ program (Signal ∷ []) ∷ program (Len 0 ∷ []) ∷ [])
     (always ∷ asking (differs 0 (pos 1) ∷ []) ∷ always ∷ []) [] (10 ∷ []) (pos 0 ∷ []))
 
-abbrev pub gated_frames : OrderedFrames
-gated_frames = each_in_order (0 ∷ 2 ∷ 1 ∷ []) (post (pos 1) ∷ [] ∷ [] ∷ [] ∷ [])
+abbrev pub gated_frames : List (List (ℕ × ℤ))
+gated_frames = (post (pos 1) ∷ [] ∷ [] ∷ [] ∷ [])
 
-pub held_updates : (run gated_frames gated).logs
+pub held_updates : (run_of gated_frames gated).logs
     ≡ log_of (wrote 0 1 ∷ []) (did 0 (reply.Value (pos 1)) ∷ did 2 (reply.Len 1) ∷ skipped 1 ∷ [])
     ∷ log_of [] (did 0 (reply.Value (pos 2)) ∷ did 2 (reply.Len 1) ∷ did 1 reply.Signalled ∷ [])
     ∷ log_of [] (did 0 (reply.Value (pos 3)) ∷ did 2 (reply.Len 1) ∷ did 1 reply.Signalled ∷ [])
     ∷ log_of [] (did 0 (reply.Value (pos 4)) ∷ did 2 (reply.Len 0) ∷ did 1 reply.Signalled ∷ [])
     ∷ []
-unfolding turn
+unfolding turn turn_order settled_order parts
 held_updates = refl
 
 -- ---- several signals of a frame are one: the next frame updates once
@@ -345,8 +317,8 @@ signallers = held
     (setup (program (Signal ∷ Signal ∷ []) ∷ program (Signal ∷ []) ∷ program (Missed 0 ∷ []) ∷ [])
     (always ∷ always ∷ always ∷ []) [] (10 ∷ []) [])
 
-abbrev pub signallers_frames : OrderedFrames
-signallers_frames = each_in_order (0 ∷ 2 ∷ 1 ∷ []) (post (pos 1) ∷ [] ∷ [] ∷ [])
+abbrev pub signallers_frames : List (List (ℕ × ℤ))
+signallers_frames = (post (pos 1) ∷ [] ∷ [] ∷ [])
 
 -- the turns of a frame, in which so many messages were missed
 abbrev pub signalled : ℕ → List Turn
@@ -354,9 +326,9 @@ signalled missed =
     ran 0 (reply.Signalled ∷ reply.Signalled ∷ []) ∷ did 2 (reply.Missed missed)
     ∷ did 1 reply.Signalled ∷ []
 
-pub several_signals : (run signallers_frames signallers).logs
+pub several_signals : (run_of signallers_frames signallers).logs
     ≡ log_of (wrote 0 1 ∷ []) (signalled 0) ∷ log_of [] (signalled 0) ∷ log_of [] (signalled 1) ∷ []
-unfolding turn
+unfolding turn turn_order settled_order parts
 several_signals = refl
 
 -- ---- what is drained between two readers is missed by each that hadn't read it
@@ -366,10 +338,10 @@ drained =
     setup (program (Read 0 (Some 1) ∷ []) ∷ program (Drain 0 ∷ [])
     ∷ program (Read 0 None ∷ []) ∷ []) (always ∷ always ∷ always ∷ []) [] (10 ∷ []) []
 
-abbrev pub drained_frames : OrderedFrames
-drained_frames = each_in_order (0 ∷ 1 ∷ 2 ∷ []) (((0, pos 1) ∷ (0, pos 2) ∷ []) ∷ post (pos 3) ∷ [])
+abbrev pub drained_frames : List (List (ℕ × ℤ))
+drained_frames = (((0, pos 1) ∷ (0, pos 2) ∷ []) ∷ post (pos 3) ∷ [])
 
-pub drain_between_readers : ((run drained_frames drained).logs
+pub drain_between_readers : ((run_of drained_frames drained).logs
     ≡ log_of (wrote 0 1 ∷ wrote 1 1 ∷ []) (
     did 0 (read_of 0 0 (by HOST (pos 1) ∷ [])) ∷
     did 1 (reply.Drained 0 (by HOST (pos 1) ∷ by HOST (pos 2) ∷ [])) ∷
@@ -378,9 +350,9 @@ pub drain_between_readers : ((run drained_frames drained).logs
     did 0 (read_of 1 2 (by HOST (pos 3) ∷ [])) ∷
     did 1 (reply.Drained 2 (by HOST (pos 3) ∷ [])) ∷
     did 2 (read_of 1 3 []) ∷ []) ∷ [])
-    × (totals_of (run drained_frames drained).state 0 0 ≡ gave 0 2 1)
-    × (totals_of (run drained_frames drained).state 2 0 ≡ gave 0 0 3)
-unfolding turn
+    × (totals_of (run_of drained_frames drained).state 0 0 ≡ gave 0 2 1)
+    × (totals_of (run_of drained_frames drained).state 2 0 ≡ gave 0 0 3)
+unfolding turn turn_order settled_order parts
 drain_between_readers = (refl, refl, refl)
 
 -- ---- what a refused forward read stays read
@@ -390,10 +362,10 @@ relay =
     setup (program (Forward 0 1 ∷ []) ∷ program (Read 1 None ∷ []) ∷ []) (always ∷ always ∷ []) []
     (10 ∷ 1 ∷ []) []
 
-abbrev pub relay_frames : OrderedFrames
-relay_frames = each_in_order (0 ∷ 1 ∷ []) (((0, pos 1) ∷ (0, pos 2) ∷ []) ∷ post (pos 3) ∷ [])
+abbrev pub relay_frames : List (List (ℕ × ℤ))
+relay_frames = (((0, pos 1) ∷ (0, pos 2) ∷ []) ∷ post (pos 3) ∷ [])
 
-pub forward_at_the_limit : ((run relay_frames relay).logs
+pub forward_at_the_limit : ((run_of relay_frames relay).logs
     ≡ log_of (wrote 0 1 ∷ wrote 1 1 ∷ []) (
     did 0 (reply.Forwarded (took_of 0 0 (by HOST (pos 1) ∷ by HOST (pos 2) ∷ [])) None) ∷
     did 1 (read_of 0 0 []) ∷ [])
@@ -401,7 +373,7 @@ pub forward_at_the_limit : ((run relay_frames relay).logs
     did 0 (reply.Forwarded (took_of 0 2 (by HOST (pos 3) ∷ []))
     (Some (record { first = 0; n = 1 }))) ∷
     did 1 (read_of 0 0 (by 0 (pos 3) ∷ [])) ∷ []) ∷ [])
-    × (totals_of (run relay_frames relay).state 0 0 ≡ gave 0 3 0)
-    × (totals_of (run relay_frames relay).state 1 1 ≡ gave 0 1 0)
-unfolding turn
+    × (totals_of (run_of relay_frames relay).state 0 0 ≡ gave 0 3 0)
+    × (totals_of (run_of relay_frames relay).state 1 1 ≡ gave 0 1 0)
+unfolding turn turn_order settled_order parts
 forward_at_the_limit = (refl, refl, refl)

@@ -1,7 +1,8 @@
 -- What holds of every state that frames make.
-use Rattle.std.specs.Prelude.{◌≡◌, ℕ, ◌+◌, ◌≤◌, ◌<◌, Some, IsTrue, IsFalse}
+use Rattle.std.specs.Prelude.{◌≡◌, ℕ, ◌+◌, ◌≤◌, ◌<◌, Bool, List, length, Some, IsTrue, IsFalse}
 use Rattle.msg_buffer.specs.Prelude.{IsSound, count}
-use Rattle.msg_frames.specs.{Entries.no_totals, Frames.State, Frames.has_begun, Tiling.reader_place, declared.totals.Totals.Totals}
+use Rattle.msg_order.specs.Prelude.{IsAcyclic, rules_among}
+use Rattle.msg_frames.specs.{Entries.no_totals, Frames.State, Frames.UsesParts, Frames.has_begun, Tiling.reader_place, declared.totals.Totals.Totals}
 
 -- The account begins at a start, and all that the reader got, missed and cleared since leads to its
 -- place.
@@ -10,8 +11,17 @@ pub record IsBalanced (x : Totals) (place : ℕ) : Type 0 where
   pub start : x.start ≡ Some begin
   pub adds_up : begin + x.got + x.missed + x.cleared ≡ place
 
+-- whichever systems have joined, the rules make no cycle among them
+abbrev pub NoCycle : State → Type 0
+NoCycle s = (joined : List Bool) → length joined ≡ s.systems
+    → IsAcyclic (rules_among joined s.rules)
+
 -- What holds of a state before and after every frame.
 pub record IsSoundState (s : State) : Type 0 where
+  -- each system needs only parts that a world may have
+  pub uses : UsesParts s
+  -- the rules of their order make no cycle
+  pub no_cycle : NoCycle s
   pub histories : (t : ℕ) → t < s.types → IsSound (s.world.histories t)
   -- no reader is past the messages that there are
   pub places : (i t : ℕ) → t < s.types → reader_place s i t ≤ count (s.world.histories t)

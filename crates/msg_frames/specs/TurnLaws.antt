@@ -1,12 +1,12 @@
 -- What holds of turns, side by side and in other orders, and of frames. Each law is the contract of
 -- a function in src/laws.rt.
-use Rattle.std.specs.Prelude.{◌≡◌, ◌≢◌, ℕ, suc, ◌<◌, Bool, List, [], ◌∷◌, ◌++◌, map, length, All, AllPairs, IsPermutation}
+use Rattle.std.specs.Prelude.{◌≡◌, ◌≢◌, ◌⊎◌, ℕ, suc, ◌<◌, List, [], ◌∷◌, ◌++◌, map, All, AllPairs, IsPermutation, IsTrue, ◌==◌, if◌then◌else◌}
 use Rattle.std.specs.List.{concat}
 use Rattle.msg_buffer.specs.Prelude.{GoesOn, IsSound}
 use Rattle.msg_world.specs.{Prelude.Conflict, Prelude.merge, declared.access.Access.Access}
-use Rattle.msg_order.specs.Prelude.{Graph, IsAcyclic, IsLawfulOrder, IsSettledOrder, NoneConflict, access_of, rules_among}
+use Rattle.msg_order.specs.Prelude.{AreBatches, Graph, IsAcyclic, IsLawfulOrder, IsSettledOrder, IsTurnOrder, NoneConflict, Path, access_of, batches, has_joined}
 use Rattle.msg_system.specs.Prelude.{conditions_of}
-use Rattle.msg_frames.specs.{declared.frame.Frame.Frame, declared.log.Log.Log, Frames.AfterTurns, Frames.AreAccessesOf, Frames.IsFrame, Frames.IsOrderOf, Frames.IsRun, Frames.after_turn_of, Frames.after_turns_of, Frames.before_turns, Frames.frame_in, Frames.after_joining, Frames.logged_turn, Frames.turn_of, Frames.with_joining, Frames.with_member, Frames.Member, Frames.State, Frames.join_flags}
+use Rattle.msg_frames.specs.{declared.frame.Frame.Frame, Frames.AfterTurns, Frames.AreAccessesOf, Frames.UsesParts, Frames.are_in_conflict, Frames.frame, Frames.settled_order, Frames.turn_order, Replays.IsLawfulFor, Replays.TellsTheSame, Frames.after_turn_of, Frames.after_turns_of, Frames.before_turns, Frames.frame_in, Frames.run, Frames.after_joining, Frames.logged_turn, Frames.turn_of, Frames.with_joining, Frames.member_after, Frames.Member, Frames.State, Frames.join_flags, Soundness.NoCycle}
 
 -- ---- what stays
 
@@ -64,11 +64,15 @@ TurnsOfOthersCommute = (s : State) (accesses : List Access) (i j : ℕ) → AreA
     × (logged_turn (after_turn_of j s) i ≡ logged_turn s i)
     × (after_turn_of j (after_turn_of i s) ≡ after_turn_of i (after_turn_of j s))
 
+-- the members, with another one as number i
+abbrev pub with_member : (ℕ → Member) → ℕ → Member → ℕ → Member
+with_member members i m = λ k. if k == i then m else members k
+
 -- the state s with system i as its turn on the state `start` left it, and with what that wrote
 abbrev pub home : List Access → State → ℕ → State → State
 home accesses start i s = record s {
-  members = with_member s.members i (turn_of start i).member;
-  world = merge (access_of accesses i) (turn_of start i).world s.world;
+  members = with_member s.members i (member_after (turn_of start i) (start.members i));
+  world = merge (access_of accesses i) (turn_of start i).state s.world;
 }
 
 -- the state s with each of these as its turn on the state `start` left it, and what that wrote
@@ -115,58 +119,41 @@ LawfulOrdersAgree = (s : State) (accesses : List Access) (settled : Graph) (a b 
 
 -- ---- one run
 
--- The systems have one settled order, whatever accesses are written for what they need.
-abbrev pub SystemsHaveOneOrder : Type 0
-SystemsHaveOneOrder = (s : State) (g h : Graph) → IsOrderOf s g → IsOrderOf s h → g ≡ h
+-- How the systems of a state that have joined are ordered.
+pub record AreOrdered (s : State) : Type 0 where
+  -- no path leads back
+  pub no_cycle : IsAcyclic (settled_order s)
+  -- of two in conflict, one comes before the other
+  pub conflicts : (i j : ℕ) → i ≢ j → IsTrue (has_joined (join_flags s) i)
+      → IsTrue (has_joined (join_flags s) j) → IsTrue (are_in_conflict s i j)
+      → Path (settled_order s) i j ⊎ Path (settled_order s) j i
+  -- the batches are by batch number, that of the longest chain
+  pub by_number : AreBatches (settled_order s) (join_flags s)
+      (batches (settled_order s) (join_flags s))
+  -- the turns go by batch number, and then by addition
+  pub turns : IsTurnOrder (settled_order s) (join_flags s) (turn_order s)
+  -- each that has joined has one turn, after those that come before it
+  pub once : IsLawfulOrder (settled_order s) (join_flags s) (turn_order s)
 
--- A frame has one log, and leaves one state.
-abbrev pub FramesAreUnique : Type 0
-FramesAreUnique = (frame : Frame) (s u v : State) (log other : Log)
-    → IsFrame frame s log u → IsFrame frame s other v → (log ≡ other) × (u ≡ v)
+-- Where the rules make no cycle, the systems are ordered so.
+abbrev pub TurnsAreInOrder : Type 0
+TurnsAreInOrder = (s : State) → NoCycle s → AreOrdered s
 
--- Frames one after the other have one list of logs, and leave one state.
-abbrev pub RunsAreUnique : Type 0
-RunsAreUnique = (frames : List Frame) (s u v : State) (logs others : List Log)
-    → IsRun frames s logs u → IsRun frames s others v → (logs ≡ others) × (u ≡ v)
-
--- whichever systems have joined, the rules make no cycle among them
-abbrev pub NoCycle : State → Type 0
-NoCycle s = (join_flags : List Bool) → length join_flags ≡ s.systems
-    → IsAcyclic (rules_among join_flags s.rules)
-
--- Where the rules make no cycle, and each system has an access for what it needs, there is a frame.
-abbrev pub FramesExist : Type 0
-FramesExist = (frame : Frame) (s : State) (accesses : List Access) → NoCycle s
-    → AreAccessesOf s accesses
-    → (log : Log) × (u : State) × IsFrame frame s log u
-
--- Where the rules make no cycle, and each system has an access, there is a run of any frames.
-abbrev pub RunsExist : Type 0
-RunsExist = (frames : List Frame) (s : State) (accesses : List Access) → NoCycle s
-    → AreAccessesOf s accesses
-    → (logs : List Log) × (u : State) × IsRun frames s logs u
-
--- These frames have one run from the state s, and no other.
-pub record HasOneRun (frames : List Frame) (s : State) : Type 0 where
-  pub logs : List Log
-  pub state : State
-  pub is_run : IsRun frames s logs state
-  pub only : (others : List Log) (u : State) → IsRun frames s others u → (others ≡ logs)
-      × (u ≡ state)
+-- The settled order is the one that the rules make, and the pairs whose accesses are in conflict.
+abbrev pub OrderIsSettled : Type 0
+OrderIsSettled = (s : State) (accesses : List Access) → UsesParts s → AreAccessesOf s accesses
+    → IsSettledOrder accesses s.rules (join_flags s) (settled_order s)
 
 -- In any lawful order a frame's turns come out alike, and it leaves the same state.
 abbrev pub FramesAgreeInLawfulOrders : Type 0
-FramesAgreeInLawfulOrders = (frame : Frame) (s u : State) (log : Log) (settled : Graph)
-    (order : List ℕ)
-    → IsFrame frame s log u → IsOrderOf (before_turns frame.posts s) settled
-    → IsLawfulOrder settled (join_flags (before_turns frame.posts s)) order
-    → ((frame_in order frame s).state ≡ u)
-    × ((frame_in order frame s).log.posts ≡ log.posts)
-    × IsPermutation (frame_in order frame s).log.turns log.turns
+FramesAgreeInLawfulOrders = (f : Frame) (s : State) (accesses : List Access) (order : List ℕ)
+    → UsesParts s → NoCycle s → AreAccessesOf s accesses → IsLawfulFor f s order
+    → ((frame_in order f s).state ≡ (frame f s).state)
+    × TellsTheSame (frame_in order f s).log (frame f s).log
 
 -- ---- lists of messages
 
 -- Over a run each type's history goes on: what was written stays, each message in its place.
 abbrev pub ListsOnlyGrow : Type 0
-ListsOnlyGrow = (frames : List Frame) (s u : State) (logs : List Log) → IsRun frames s logs u
-    → (t : ℕ) → IsSound (s.world.histories t) → GoesOn (s.world.histories t) (u.world.histories t)
+ListsOnlyGrow = (frames : List Frame) (s : State) (t : ℕ) → IsSound (s.world.histories t)
+    → GoesOn (s.world.histories t) ((run frames s).state.world.histories t)

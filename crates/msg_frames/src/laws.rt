@@ -1,12 +1,10 @@
 //! Laws: facts that hold of all systems' turns and of frames. Calling one makes its fact available
 //! to the caller's proof; it does nothing at run time.
-ghost use Rattle.msg_frames.specs.Prelude.{BatchesRunSideBySide, FramesAgreeInLawfulOrders, FramesAreUnique, FramesExist, FramesKeepSystems, FramesRunByBatches, LawfulOrdersAgree, ListsOnlyGrow, RunsAreUnique, RunsExist, SameSystemsHaveSameAccesses, SystemsHaveOneOrder, TurnsKeepSystems, TurnsOfOthersCommute};
+ghost use Rattle.msg_frames.specs.Prelude.{BatchesRunSideBySide, FramesAgreeInLawfulOrders, FramesKeepSystems, FramesRunByBatches, LawfulOrdersAgree, ListsOnlyGrow, OrderIsSettled, TurnsAreInOrder, SameSystemsHaveSameAccesses, TurnsKeepSystems, TurnsOfOthersCommute};
 
 use msg_buffer::laws::histories_only_grow;
 use msg_order::laws::{
-    conflicting_systems_are_ordered, lawful_orders_keep_paths, settled_order_exists,
-    settled_order_is_unique, settling_makes_no_cycle, turn_order_exists, turn_order_is_lawful,
-    turn_order_is_unique,
+    conflicting_systems_are_ordered, lawful_orders_keep_paths, turn_order_is_lawful,
 };
 use msg_system::nothing_else_is_used;
 use msg_world::Record;
@@ -65,39 +63,14 @@ pub fn lawful_orders_agree()
     lawful_orders_keep_paths();
 }
 
-/// Systems have one settled order: it doesn't matter how their accesses are written.
-pub fn systems_have_one_order()
-    ensures law { SystemsHaveOneOrder }
+/// The order of a state's systems is the settled one. Where the rules make no cycle, it has none,
+/// it orders those in conflict, the batches are by the longest chain, and each system that has
+/// joined has its turn once.
+pub fn turns_are_in_settled_order()
+    ensures turns { TurnsAreInOrder }
+    ensures settled { OrderIsSettled }
 {
-    settled_order_is_unique();
-}
-
-/// A frame has one log, and leaves one state.
-pub fn frames_are_unique()
-    ensures law { FramesAreUnique }
-{
-    settled_order_is_unique();
-    turn_order_is_unique();
-}
-
-/// Frames one after the other have one list of logs, and leave one state.
-#[tactic(auto, using(crate::proofs::RunsAreUnique::one_run))]
-pub fn runs_are_unique()
-    ensures law { RunsAreUnique }
-{
-    settled_order_is_unique();
-    turn_order_is_unique();
-}
-
-/// Where the rules make no cycle, and each system has an access for what it needs, there is a
-/// frame, and a run of any frames. So with `runs_are_unique` there is exactly one.
-pub fn runs_exist()
-    ensures frame { FramesExist }
-    ensures run { RunsExist }
-{
-    settled_order_exists();
-    settling_makes_no_cycle();
-    turn_order_exists();
+    turn_order_is_lawful();
 }
 
 /// In any lawful order a frame leaves the same state, and each system's turn comes out alike.
@@ -107,7 +80,6 @@ pub fn frames_agree_in_lawful_orders()
     nothing_else_is_used();
     conflicting_systems_are_ordered();
     lawful_orders_keep_paths();
-    settled_order_is_unique();
     turn_order_is_lawful();
 }
 

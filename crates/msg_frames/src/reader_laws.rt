@@ -1,8 +1,7 @@
 //! Laws of readers: facts that hold of every run of frames.
-ghost use Rattle.msg_frames.specs.Prelude.{AccountsBalance, FirstIsSound, FrameStaysSound, NoneBeforeJoining, ReplaysTellACompleteRun, ReplaysTellTheSame, RunStaysSound, RunsAreComplete, WhoIsUpToDateMissesNothing, WhoReadsAllCatchesUp, WhoReadsAllHasTheFrameBefore, WhoReadsAllIsUpToDate, WhoReadsEachFrameMissesNothing, WhoseProgramReadsAll};
+ghost use Rattle.msg_frames.specs.Prelude.{AccountsBalance, AllAreAnswered, EachMeetsOneFate, FirstIsSound, FrameStaysSound, LogsTellEntries, NoneBeforeJoining, ReadersTile, ReplaysTellTheSame, RunStaysSound, RunsAreComplete, WhoIsUpToDateMissesNothing, WhoReadsAllCatchesUp, WhoReadsAllHasTheFrameBefore, WhoReadsAllIsUpToDate, WhoReadsEachFrameMissesNothing, WhoseProgramReadsAll, WritersInOrder};
 
 use msg_buffer::laws::{histories_only_grow, readers_tile};
-use msg_order::laws::turn_order_is_lawful;
 use msg_system::a_program_is_its_ops_in_order;
 use msg_world::Record;
 
@@ -16,31 +15,45 @@ pub fn states_stay_sound()
 }
 
 /// A state before any frame is sound, where its systems are new ones over a sound world.
-#[tactic(auto, using(crate::proofs::FirstStatesAreSound::first_is_sound))]
 pub fn first_states_are_sound()
     ensures law { FirstIsSound }
 {}
 
-/// Every run is complete. Its logs are those of one thread over lists that only grow. Each message
-/// from where the run found a reader to where it stands at the end is given to it exactly once, in
-/// order of writing, those of each writer in its order, except those that it cleared itself and
-/// those dropped unread, which the missed counts of its reads and clears add up to exactly.
+/// Every run is complete. Each type's list grew by exactly what the steps tell was written, each
+/// message once, under the number that was told. From where the run found a reader to where it
+/// stands at the end, its entries tell each number once, in order: those that it went past, and
+/// those that it missed since they had been dropped unread. What it was given is what is there. The
+/// steps' replies are those of the logs.
 pub fn runs_are_complete()
     ensures law { RunsAreComplete }
+    ensures answered { AllAreAnswered }
 {
     histories_only_grow::<Record>();
     readers_tile::<Record>();
 }
 
-/// What the log of a replay tells of a reader is what the frame tells. So frames of which some are
-/// replayed tell each reader what the run of the same frames tells, which is complete.
-pub fn replays_tell_a_complete_run()
-    ensures replay { ReplaysTellTheSame }
-    ensures law { ReplaysTellACompleteRun }
+/// So each of these messages was given, or cleared, or missed: one of these, and once. What is
+/// given of a writer is what the writer was told that it wrote, under that number and in that
+/// order. And the entries are what the logs tell.
+pub fn each_message_meets_one_fate()
+    ensures fate { EachMeetsOneFate }
+    ensures writers { WritersInOrder }
+    ensures logs { LogsTellEntries }
+{}
+
+/// The reads and clears of each reader tile over a run.
+pub fn readers_tile_over_runs()
+    ensures law { ReadersTile }
 {
-    runs_are_complete();
-    turn_order_is_lawful();
+    histories_only_grow::<Record>();
+    readers_tile::<Record>();
 }
+
+/// Logs that tell the same as those of a run tell each system what the run tells it. So frames of
+/// which some are replayed tell each reader what the run of the same frames tells.
+pub fn replays_tell_the_same()
+    ensures law { ReplaysTellTheSame }
+{}
 
 /// A reader's totals lead from its start to its place. One that hasn't joined has none.
 pub fn accounts_add_up()

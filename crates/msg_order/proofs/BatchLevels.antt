@@ -2,7 +2,7 @@
 use Rattle.std.proofs.Common.{◌≡◌, ℕ, zero, suc, ◌+◌, ◌<◌, ◌⊎◌, Bool, true, false, not, ◌&&◌, List, [], ◌∷◌, ◌++◌, length, ap, arith, length-append, ◌↔◌, Contains, All, filter}
 use Rattle.std.proofs.lemmas.{Bool.cases_Bool, Bool.cases_eq, Bool.cases_lt, Bool.false_from_ne_true, List.get_or_past, List.get_or_push, List.get_or_append_left, List.Elements.All-push, List.Kept.IsStrictlyIncreasing-filter, List.FromFn.length-range_with_len, List.FromFn.get_or-range_with_len}
 use Rattle.std.specs.{List.range_with_len, List.Sorted.IsStrictlyIncreasing}
-use Rattle.msg_order.specs.{Prelude.AreBatches, Prelude.Graph, Prelude.IsAcyclic, Prelude.IsBatchNumber, Prelude.IsEdge, Prelude.SystemSet, Prelude.batch_at, Prelude.has_joined, inner.Paths.path, inner.Paths.set_at, inner.Paths.ArePaths, inner.SystemSet.has, inner.SystemSet.meets}
+use Rattle.msg_order.specs.{Prelude.AreBatches, Prelude.Graph, Prelude.IsAcyclic, Prelude.IsBatchNumber, Prelude.IsEdge, Prelude.SystemSet, Prelude.batch_at, Prelude.has_joined, Graph.path, inner.Paths.set_at, inner.Paths.ArePaths, inner.SystemSet.has, inner.SystemSet.meets}
 use Rattle.msg_order.proofs.{SystemSets.meets-found, SystemSets.meets-true, Elements.not_in_none, Elements.filter-Contains, Elements.Contains-filter, Elements.Contains-range, Chains.Ends, Chains.ends_less, Chains.ends_along, Chains.number_ends, Chains.ends_number, Chains.number_once, PathTest.edge_path, PathTest.path_trans, PathTest.to_Path, PathTest.no_path}
 
 -- the systems that are left after m levels

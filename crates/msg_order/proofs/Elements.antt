@@ -1,7 +1,7 @@
 -- What stands in a list that was made from others.
 use Rattle.std.proofs.Common.{◌≡◌, ℕ, zero, suc, ◌+◌, ◌-◌, ◌<◌, ◌≤◌, ◌⊎◌, inl, inr, Bool, true, false, List, [], ◌∷◌, ◌++◌, map, get_or, refl, ap, ◌∙◌, arith, All, AllPairs, Contains, filter, flat_map}
-use Rattle.std.specs.List.{range_with_len, concat, list_all, list_any}
-use Rattle.std.proofs.lemmas.{List.append-nil, List.get_or-map, List.length-map, List.map-id, List.Elements.All-contains, List.Elements.All-contains_itself, List.Elements.All-filter, List.Elements.All-map, List.Elements.Contains-append_cases, List.Elements.Contains-append_left, List.Elements.Contains-append_right, List.Elements.Contains-get_or, List.Elements.filter-append, List.Elements.filter_passes, Bool.cases_Bool, List.Folds.Any-from_list_any, List.Folds.list_any_at, List.FromFn.get_or-range_with_len, List.FromFn.length-range_with_len, List.FromFn.map-range_with_len_more, List.Sums.AllPass-from_list_all}
+use Rattle.std.specs.List.{range_with_len, concat, list_any}
+use Rattle.std.proofs.lemmas.{List.append-nil, List.get_or-map, List.length-map, List.map-id, List.Elements.All-contains, List.Elements.All-contains_itself, List.Elements.All-filter, List.Elements.All-map, List.Elements.Contains-append_cases, List.Elements.Contains-append_left, List.Elements.Contains-append_right, List.Elements.Contains-get_or, List.Elements.filter-append, List.Elements.filter_passes, Bool.cases_Bool, List.Folds.Any-from_list_any, List.Folds.list_any_at, List.FromFn.get_or-range_with_len, List.FromFn.length-range_with_len, List.FromFn.map-range_with_len_more}
 use Rattle.msg_order.specs.Prelude.{batch_at}
 
 module _ {X : Type 0} where
@@ -44,9 +44,6 @@ module _ {X : Type 0} where
 
     pub Contains-list_any : (xs : List X) → list_any p xs ≡ true → (x : X) × (Contains xs x × (p x ≡ true))
     Contains-list_any xs h = let a = Any-from_list_any p xs h in (a.1, ((a.0, a.2, a.3), a.4))
-
-    pub list_all-Contains : (xs : List X) (x : X) → list_all p xs ≡ true → Contains xs x → p x ≡ true
-    list_all-Contains xs x all h = All-contains (λ y. p y ≡ true) xs x (AllPass-from_list_all p xs all) h
 
 -- ---- lists of what a function gives
 

@@ -1,7 +1,7 @@
 -- The test for a path, which grows edge by edge, says whether there is one.
 use Rattle.std.proofs.Common.{arith, ◌≡◌, ℕ, Bool, true, false, [], ◌∷◌, sym, ◌∙◌}
 use Rattle.std.proofs.lemmas.{Bool.Decides.eqb_tells, Bool.false≢true, Bool.false_from_ne_true}
-use Rattle.msg_order.specs.{Prelude.Graph, Prelude.IsEdge, Prelude.Path, inner.Paths.path}
+use Rattle.msg_order.specs.{Prelude.Graph, Prelude.IsEdge, Prelude.Path, Graph.path}
 use Rattle.msg_order.proofs.{Elements.Contains-cases, Elements.Contains-head, Elements.Contains-tail, Elements.not_in_none, Chains.edge_is_path, Chains.paths_join, Chains.path_grows}
 
 pub edge_path : (g : Graph) (i j : ℕ) → IsEdge g i j → path g i j ≡ true

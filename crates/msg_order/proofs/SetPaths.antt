@@ -4,7 +4,7 @@ use Rattle.std.specs.List.{list_any, range_with_len}
 use Rattle.std.proofs.lemmas.{Bool.cases_Bool, List.append-nil, List.get_or-map, List.length-map, List.take-map, List.get_or-take, List.get_or_past, List.get_or_push, List.get_or_append_left, Simd.get_or-replicate, List.Elements.All-head, List.Elements.All-tail, List.Elements.filter_more, List.Elements.Contains-append_left, List.Elements.Contains-push, List.Elements.Contains-push_cases, Bool.Decides.eqb_tells, Bool.cases_eq, Bool.cases_lt, Bool.or_left, Bool.or_right, Bool.or_cases, Bool.and_parts, Bool.false≢true, Bool.false_from_ne_true, Bool.eqb-true, Bool.eq-eqb}
 use Rattle.msg_world.specs.declared.access.Access.{Access}
 use Rattle.msg_order.specs.Prelude.{AreInConflict, Graph, IsAcyclic, IsAmong, IsLowestOnCycle, NameSystemsBelow, Rule, Settles, SystemSet, edges_of, has_joined, pairs, rules_among}
-use Rattle.msg_order.specs.{inner.SystemSet.has, inner.SystemSet.meets, inner.SystemSet.no_set, inner.Paths.path, inner.Paths.set_at, inner.Paths.comes_before, inner.Paths.ArePaths}
+use Rattle.msg_order.specs.{inner.SystemSet.has, inner.SystemSet.meets, inner.SystemSet.no_set, Graph.path, inner.Paths.set_at, inner.Paths.comes_before, inner.Paths.ArePaths}
 use Rattle.msg_order.proofs.{SystemSets.has-no_set, SystemSets.meets-found, SystemSets.meets-true, Elements.Contains-tail, Elements.Contains-cases, Elements.Contains-list_any, Elements.Contains-range, Elements.filter-Contains, Elements.list_any-Contains, Elements.range-Contains, PathTest.path_trans, PathTest.to_Path, PathTest.no_Path, PathTest.no_path, PathTest.same_test, PathTest.same_paths, SettledPairs.grown, SettledPairs.grown_paths, SettledPairs.reaches, SettledPairs.settles_row, SettledPairs.settles_then, SettledPairs.settles_keeps, SettledPairs.pairs_until, SettledPairs.pairs_until-more, SettledPairs.row, SettledPairs.pairs-Contains}
 
 -- past the last set there is none

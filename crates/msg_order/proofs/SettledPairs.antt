@@ -2,7 +2,7 @@
 use Rattle.std.proofs.Common.{◌≡◌, ◌≢◌, ℕ, ◌+◌, ◌-◌, ◌<◌, ◌⊎◌, inl, inr, Bool, true, false, cond, ◌&&◌, ◌||◌, List, [], ◌∷◌, ◌++◌, map, refl, ap, sym, subst, ◌∙◌, arith, ◌==◌, Contains, flat_map}
 use Rattle.std.specs.List.{list_any, range_with_len}
 use Rattle.std.proofs.lemmas.{Bool.Decides.eqb_tells, Bool.cases_Bool, Grind.flat_map-append, List.append-nil}
-use Rattle.msg_order.specs.{Prelude.GainsEdge, Prelude.Graph, Prelude.Path, Prelude.Settles, Prelude.pairs, inner.Paths.path}
+use Rattle.msg_order.specs.{Prelude.GainsEdge, Prelude.Graph, Prelude.Path, Prelude.Settles, Prelude.pairs, Graph.path}
 use Rattle.msg_order.proofs.{Elements.Contains-head, Elements.Contains-tail, Elements.Contains-cases, Elements.not_in_none, Elements.range_more, Elements.flat_map-Contains, Elements.Contains-flat_map, Elements.map-Contains, Elements.Contains-map, Elements.range-Contains, Elements.Contains-range, Chains.edge_is_path, PathTest.to_Path, PathTest.no_Path, PathTest.no_path, PathTest.path_more}
 
 -- Some pairs after others.

@@ -45,7 +45,7 @@ kept_along g joined order w i j (k ∷ more, c) =
     stands_along order i j k w.once (w.kept i k c.0) (kept_along g joined order w k j (more, c.1))
 
 -- Lists one after the other.
-pairs_append : (R : ℕ → ℕ → Type 0) (xs ys : List ℕ) → AllPairs R xs → AllPairs R ys
+pub pairs_append : (R : ℕ → ℕ → Type 0) (xs ys : List ℕ) → AllPairs R xs → AllPairs R ys
     → ((i j : ℕ) → Contains xs i → Contains ys j → R i j) → AllPairs R (xs ++ ys)
 pairs_append R xs ys f h across a b d lt l =
     let left = get_or_append_left xs ys d in

@@ -1,9 +1,9 @@
--- That there is one settled order and one list of batches, and what holds of each.
-use Rattle.std.proofs.Common.{◌≡◌, ℕ, ◌<◌, ◌≤◌, Bool, ◌&&◌, List, [], ◌∷◌, length, get_or, refl, arith, ◌↔◌, AllPairs, Contains}
-use Rattle.std.proofs.lemmas.{Bool.cases_lt, Bool.cases_order, Bool.and_parts, Bool.and_from, List.ext_get_or, List.get_or_past, List.Elements.All-contains, List.Elements.Contains-get_or, List.Kept.AllPairs-from_increasing}
+-- What holds of settled orders and of batch numbers.
+use Rattle.std.proofs.Common.{◌≡◌, ℕ, Bool, ◌&&◌, List, [], ◌∷◌, length, refl, arith, ◌↔◌, AllPairs, Contains}
+use Rattle.std.proofs.lemmas.{Bool.cases_order, Bool.and_parts, Bool.and_from, List.Elements.All-contains}
 use Rattle.msg_world.specs.Prelude.{Conflict}
-use Rattle.msg_order.specs.Prelude.{AreBatches, AreInConflict, BatchNumbersRise, BatchesAreUnique, ConflictingSystemsAreOrdered, FewerSystemsMakeNoCycle, Graph, SettledOrderIsUnique, access_of, edges_of, batch_at, has_joined, pairs, rules_among}
-use Rattle.msg_order.proofs.{Elements.Contains-head, Elements.Contains-tail, Elements.Contains-cases, Elements.not_in_none, Elements.filter-Contains, Elements.Contains-filter, Elements.pairs_head, Elements.pairs_tail, Chains.path_grows, Chains.number_once, Chains.number_rises, SettledPairs.settles_once, SettledPairs.settles_covers, SettledPairs.Contains-pairs, SetPaths.joined_in}
+use Rattle.msg_order.specs.Prelude.{AreInConflict, BatchNumbersRise, ConflictingSystemsAreOrdered, FewerSystemsMakeNoCycle, access_of, edges_of, has_joined, pairs, rules_among}
+use Rattle.msg_order.proofs.{Elements.Contains-head, Elements.Contains-tail, Elements.Contains-cases, Elements.not_in_none, Elements.filter-Contains, Elements.Contains-filter, Elements.pairs_head, Elements.pairs_tail, Chains.path_grows, Chains.number_once, Chains.number_rises, SettledPairs.settles_covers, SettledPairs.Contains-pairs, SetPaths.joined_in}
 
 pub fewer_make_none : FewerSystemsMakeNoCycle
 fewer_make_none rules joined fewer among free i p =
@@ -24,9 +24,6 @@ conflicts_ordered accesses rules joined order len settled i j ne at_i at_j confl
     let down = λ (m : Contains (pairs n) (j, i)). covers j i m
     (record { first_joined = at_j; second_joined = at_i; conflict = back }) in
     grind (arith, cases_order i j, Contains-pairs n i j, Contains-pairs n j i, up, down, joined_in joined)
-
-pub settled_once : SettledOrderIsUnique
-settled_once accesses rules joined g h a b = settles_once _ _ _ g h a b
 
 -- Lists of the same elements, in an order that holds one way only, are one list.
 pub same_ordered : (R : ℕ → ℕ → Type 0) (xs ys : List ℕ)
@@ -49,24 +46,6 @@ same_ordered R (x ∷ xs) (y ∷ ys) one_way r s same =
     (pairs_tail R x xs r) (pairs_tail R y ys s)
     (λ i. grind (arith, after_x i, after_y i, in_xs i, in_ys i, same i, Contains-tail, first, once)) in
     cc
-
-no_longer : (g : Graph) (joined : List Bool) (bs cs : List (List ℕ)) → AreBatches g joined bs → AreBatches g joined cs
-    → length bs ≤ length cs
-no_longer g joined bs cs h k =
-    let b : ℕ = length cs in
-    let i : ℕ = get_or (batch_at bs b) 0 0 in
-    let past = get_or_past cs b [] in
-    let some = Contains-get_or (batch_at bs b) 0 0 in
-    grind (arith, cases_lt, h.filled b [], h.of_number b i, k.of_number b i, some, past, not_in_none)
-
-pub batches_once : BatchesAreUnique
-batches_once g joined bs cs h k =
-    let one : length bs ≤ length cs = no_longer g joined bs cs h k in
-    let other : length cs ≤ length bs = no_longer g joined cs bs k h in
-    ext_get_or [] bs cs (omega arith) (λ b l. same_ordered (λ i j. i < j) (batch_at bs b) (batch_at cs b)
-    (λ i j p q up down. omega arith) (AllPairs-from_increasing (batch_at bs b) (h.by_addition b [] l))
-    (AllPairs-from_increasing (batch_at cs b) (k.by_addition b [] (omega arith)))
-    (λ i. grind (arith, h.of_number b i, k.of_number b i)))
 
 pub numbers_rise : BatchNumbersRise
 numbers_rise g i j m n a b =

@@ -1,5 +1,5 @@
 -- Edges between systems, and the chains that they make.
-use Rattle.std.specs.Prelude.{◌≡◌, ℕ, ◌<◌, ◌≤◌, List, [], ◌∷◌, ◌++◌, length, Contains, ⊤}
+use Rattle.std.specs.Prelude.{◌≡◌, ℕ, ◌<◌, ◌≤◌, ◌==◌, ◌&&◌, ◌||◌, Bool, false, List, [], ◌∷◌, ◌++◌, length, Contains, ⊤}
 
 -- edges, each a pair of the earlier system and the later one
 abbrev pub Graph : Type 0
@@ -17,6 +17,11 @@ IsChain g _ = ⊤
 -- a chain of one or more edges leads from i to j
 abbrev pub Path : Graph → ℕ → ℕ → Type 0
 Path g i j = (between : List ℕ) × IsChain g (i ∷ (between ++ j ∷ []))
+
+-- whether one does: without edge e, or to where e begins and on from where e ends
+abbrev pub path : Graph → ℕ → ℕ → Bool
+path [] i j = false
+path (e ∷ g) i j = path g i j || ((i == e.0 || path g i e.0) && (j == e.1 || path g e.1 j))
 
 -- no path leads from a system back to it
 abbrev pub IsAcyclic : Graph → Type 0

@@ -1,7 +1,7 @@
 -- Laws of the settled order. Each is the contract of a function of the same name in src/laws.rt.
-use Rattle.std.specs.Prelude.{◌≡◌, ◌≢◌, ◌<◌, ℕ, Bool, List, length, IsTrue, ◌⊎◌}
+use Rattle.std.specs.Prelude.{◌≡◌, ◌≢◌, ◌<◌, ℕ, Bool, List, length, IsTrue, ◌⊎◌, ◌↔◌}
 use Rattle.msg_world.specs.{Prelude.Conflict, declared.access.Access.Access}
-use Rattle.msg_order.specs.{declared.rule.Rule.Rule, Graph.Graph, Graph.Path, Graph.IsAcyclic, Graph.IsBatchNumber, Order.has_joined, Order.access_of, Order.rules_among, Order.IsAmong, Order.IsSettledOrder, Order.AreBatches, Order.IsTurnOrder, Order.StandsBefore, Order.IsLawfulOrder}
+use Rattle.msg_order.specs.{declared.rule.Rule.Rule, Graph.Graph, Graph.Path, Graph.IsAcyclic, Graph.IsBatchNumber, Settled.has_joined, Order.access_of, Settled.rules_among, Order.IsAmong, Order.IsSettledOrder, Order.AreBatches, Order.IsTurnOrder, Order.StandsBefore, Order.IsLawfulOrder, Settled.batches, Settled.settled, Settled.turns}
 
 -- Rules that make no cycle among some systems make none among fewer of them.
 abbrev pub FewerSystemsMakeNoCycle : Type 0
@@ -22,37 +22,25 @@ ConflictingSystemsAreOrdered = (accesses : List Access) (rules : List Rule) (joi
     → (i j : ℕ) → i ≢ j → IsTrue (has_joined joined i) → IsTrue (has_joined joined j)
     → Conflict (access_of accesses i) (access_of accesses j) → Path order i j ⊎ Path order j i
 
--- There is a settled order, whatever the rules.
-abbrev pub SettledOrderExists : Type 0
-SettledOrderExists = (accesses : List Access) (rules : List Rule) (joined : List Bool)
-    → (order : Graph) × IsSettledOrder accesses rules joined order
+-- the test says which of those that have joined are in conflict
+abbrev pub TellsConflicts : List Access → List Bool → (ℕ → ℕ → Bool) → Type 0
+TellsConflicts accesses joined conflict = (i j : ℕ) → IsTrue (has_joined joined i)
+    → IsTrue (has_joined joined j)
+    → IsTrue (conflict i j) ↔ Conflict (access_of accesses i) (access_of accesses j)
 
--- There is one settled order.
-abbrev pub SettledOrderIsUnique : Type 0
-SettledOrderIsUnique = (accesses : List Access) (rules : List Rule) (joined : List Bool)
-    (g h : Graph)
-    → IsSettledOrder accesses rules joined g → IsSettledOrder accesses rules joined h → g ≡ h
+-- The settled order that is computed is the one that the pairs in conflict make, and no other is.
+abbrev pub SettledIsTheOrder : Type 0
+SettledIsTheOrder = (accesses : List Access) (rules : List Rule) (joined : List Bool)
+    (conflict : ℕ → ℕ → Bool) → length joined ≡ length accesses
+    → TellsConflicts accesses joined conflict
+    → IsSettledOrder accesses rules joined (settled conflict rules joined)
+    × ((g : Graph) → IsSettledOrder accesses rules joined g → g ≡ settled conflict rules joined)
 
--- Where no path leads back, there is a list of batches.
-abbrev pub BatchesExist : Type 0
-BatchesExist = (order : Graph) (joined : List Bool)
-    → IsAmong joined order → IsAcyclic order
-    → (batches : List (List ℕ)) × AreBatches order joined batches
-
--- There is one list of batches.
-abbrev pub BatchesAreUnique : Type 0
-BatchesAreUnique = (order : Graph) (joined : List Bool) (bs cs : List (List ℕ))
-    → AreBatches order joined bs → AreBatches order joined cs → bs ≡ cs
-
--- Where no path leads back, there is a turn order.
-abbrev pub TurnOrderExists : Type 0
-TurnOrderExists = (order : Graph) (joined : List Bool) → IsAmong joined order → IsAcyclic order
-    → (xs : List ℕ) × IsTurnOrder order joined xs
-
--- There is one turn order.
-abbrev pub TurnOrderIsUnique : Type 0
-TurnOrderIsUnique = (order : Graph) (joined : List Bool) (xs ys : List ℕ)
-    → IsTurnOrder order joined xs → IsTurnOrder order joined ys → xs ≡ ys
+-- Where no path leads back, the batches are by batch number, and the turns in order of them.
+abbrev pub BatchesAreByNumber : Type 0
+BatchesAreByNumber = (order : Graph) (joined : List Bool) → IsAmong joined order → IsAcyclic order
+    → AreBatches order joined (batches order joined)
+    × IsTurnOrder order joined (turns order joined)
 
 -- A turn order keeps the order: it is a lawful one.
 abbrev pub TurnOrderIsLawful : Type 0

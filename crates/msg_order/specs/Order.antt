@@ -1,12 +1,8 @@
 -- The settled order of systems, its batches and its lawful orders.
-use Rattle.std.specs.Prelude.{◌≡◌, ◌≢◌, ℕ, ◌+◌, ◌-◌, ◌<◌, Bool, false, ◌&&◌, List, [], ◌∷◌, map, length, filter, flat_map, All, AllPairs, Contains, Some, slice_get, slice_index_or, IsTrue, ◌⊎◌, ◌↔◌}
-use Rattle.std.specs.{List.range_with_len, List.Sorted.IsStrictlyIncreasing}
+use Rattle.std.specs.Prelude.{◌≡◌, ◌≢◌, ℕ, ◌<◌, Bool, List, [], ◌∷◌, length, All, AllPairs, Contains, Some, slice_get, slice_index_or, IsTrue, ◌⊎◌, ◌↔◌}
+use Rattle.std.specs.{List.Sorted.IsStrictlyIncreasing}
 use Rattle.msg_world.specs.{Prelude.Conflict, Prelude.no_access, declared.access.Access.Access}
-use Rattle.msg_order.specs.{declared.rule.Rule.Rule, Graph.Graph, Graph.IsEdge, Graph.Path, Graph.IsBatchNumber}
-
--- whether system i has joined
-abbrev pub has_joined : List Bool → ℕ → Bool
-has_joined joined i = slice_index_or joined i false
+use Rattle.msg_order.specs.{declared.rule.Rule.Rule, Graph.Graph, Graph.IsEdge, Graph.Path, Graph.IsBatchNumber, Settled.has_joined, Settled.pairs, Settled.rules_among}
 
 -- the access of system i, which uses nothing where there is no such system
 abbrev pub access_of : List Access → ℕ → Access
@@ -15,15 +11,6 @@ access_of accesses i = slice_index_or accesses i no_access
 -- the rules name systems below n
 abbrev pub NameSystemsBelow : ℕ → List Rule → Type 0
 NameSystemsBelow n rules = All (λ rule. (rule.earlier < n) × (rule.later < n)) rules
-
--- the rules as edges
-abbrev pub edges_of : List Rule → Graph
-edges_of rules = map (λ rule. (rule.earlier, rule.later)) rules
-
--- the rules among the joined systems
-abbrev pub rules_among : List Bool → List Rule → Graph
-rules_among joined rules = filter (λ e. has_joined joined e.0 && has_joined joined e.1)
-    (edges_of rules)
 
 -- each edge leads from a joined system to a joined system
 abbrev pub IsAmong : List Bool → Graph → Type 0
@@ -35,11 +22,6 @@ pub record AreInConflict (accesses : List Access) (joined : List Bool) (i j : �
   pub first_joined : IsTrue (has_joined joined i)
   pub second_joined : IsTrue (has_joined joined j)
   pub conflict : Conflict (access_of accesses i) (access_of accesses j)
-
--- the pairs of numbers below n, the lower one first, taken by the first and then by the second
-abbrev pub pairs : ℕ → List (ℕ × ℕ)
-pairs n = flat_map (λ i. map (λ j. (i, j)) (range_with_len (i + 1) (n - (i + 1))))
-    (range_with_len 0 n)
 
 -- g gains the edge from i to j: they are in conflict, and no path of g leads from j to i
 abbrev pub GainsEdge : (ℕ → ℕ → Type 0) → Graph → ℕ → ℕ → Type 0

@@ -1,6 +1,6 @@
 //! Laws of the settled order. Calling one makes its fact available to the caller's proof; it does
 //! nothing at run time.
-ghost use Rattle.msg_order.specs.Prelude.{FewerSystemsMakeNoCycle, SettlingMakesNoCycle, ConflictingSystemsAreOrdered, SettledOrderExists, SettledOrderIsUnique, BatchesExist, BatchesAreUnique, TurnOrderExists, TurnOrderIsUnique, TurnOrderIsLawful, BatchNumbersRise, LawfulOrdersKeepPaths};
+ghost use Rattle.msg_order.specs.Prelude.{FewerSystemsMakeNoCycle, SettlingMakesNoCycle, ConflictingSystemsAreOrdered, SettledIsTheOrder, BatchesAreByNumber, TurnOrderIsLawful, BatchNumbersRise, LawfulOrdersKeepPaths};
 
 /// Rules that make no cycle among some systems make none among fewer of them. So a plan over
 /// systems that have joined can't be refused for a cycle where the rules of all systems have none.
@@ -19,38 +19,14 @@ pub fn conflicting_systems_are_ordered()
     ensures law { ConflictingSystemsAreOrdered }
 {}
 
-/// There is a settled order, whatever the rules.
-#[tactic(auto, using(crate::proofs::Existence::settled_some))]
-pub fn settled_order_exists()
-    ensures law { SettledOrderExists }
+/// The settled order that is computed is the one that the rules and the pairs in conflict make.
+pub fn settled_is_the_order()
+    ensures law { SettledIsTheOrder }
 {}
 
-/// Accesses, rules and joined systems have one settled order.
-#[tactic(auto, using(crate::proofs::Uniqueness::settled_once))]
-pub fn settled_order_is_unique()
-    ensures law { SettledOrderIsUnique }
-{}
-
-/// Edges among joined systems that make no cycle have a list of batches.
-#[tactic(auto, using(crate::proofs::Existence::batches_some))]
-pub fn batches_exist()
-    ensures law { BatchesExist }
-{}
-
-/// A settled order has one list of batches.
-pub fn batches_are_unique()
-    ensures law { BatchesAreUnique }
-{}
-
-/// Edges among joined systems that make no cycle have a turn order.
-#[tactic(auto, using(crate::proofs::Existence::turns_some))]
-pub fn turn_order_exists()
-    ensures law { TurnOrderExists }
-{}
-
-/// Joined systems have one turn order.
-pub fn turn_order_is_unique()
-    ensures law { TurnOrderIsUnique }
+/// Where no path leads back, the batches are those by batch number, and the turns in order of them.
+pub fn batches_are_by_number()
+    ensures law { BatchesAreByNumber }
 {}
 
 /// A turn order is a lawful order.

@@ -1,5 +1,5 @@
 ghost use Rattle.std.specs.Prelude.{◌≡◌, ◌<◌, ◌≤◌, [], length, map, Err, IfErr, IfOk, OnOk};
-ghost use Rattle.msg_order.specs.{declared.plan_refusal.PlanRefusal.TheVariants.NoMemory, Graph.IsAcyclic, Order.NameSystemsBelow, Order.rules_among, Plan.IsPlanOf, Plan.PlanView, Plan.RefusesPlan, inner.Paths.AreKept, inner.Paths.ArePaths, inner.Paths.IsSetOf, inner.Paths.view_of};
+ghost use Rattle.msg_order.specs.{declared.plan_refusal.PlanRefusal.TheVariants.NoMemory, Graph.IsAcyclic, Order.NameSystemsBelow, Settled.rules_among, Plan.IsPlanOf, Plan.PlanView, Plan.RefusesPlan, inner.Paths.AreKept, inner.Paths.ArePaths, inner.Paths.IsSetOf, inner.Paths.view_of};
 
 use crate::levels::batches_of;
 use crate::paths::{no_paths, settle};

@@ -5,11 +5,12 @@ use Rattle.std.proofs.Math.Seq.{take-append_seam, take-length}
 use Rattle.std.specs.Io.KnownBytes.{Appends}
 use Rattle.std.proofs.KnownBytes.{Appends-nil, Appends-trans}
 use Rattle.msg_system.specs.Prelude.{Meaning}
-use Rattle.msg_frames.specs.Prelude.{FramesKeepSystems, IsCompleteRun, IsRun, State, accounts_of, turn_order_in}
+use Rattle.msg_frames.specs.Prelude.{FramesKeepSystems, IsCompleteRun, State, accounts_of, before_turns, frame as frame_of, run}
+use Rattle.msg_frames.specs.Frames.{turn_order}
 use Rattle.msg_exec.specs.Prelude.{HasRunFrame, IsSpoiled, EngineStands, frame_number}
 use Rattle.msg_frames.specs.{declared.account.Account.Account, declared.frame.Frame.Frame, declared.log.Log.Log}
 use Rattle.msg_exec.specs.declared.engine.EngineOf.{EngineOf}
-use Rattle.msg_exec.proofs.EngineRunsFrames.{run_more}
+use Rattle.msg_frames.proofs.Functions.{run_more}
 use Rattle.msg_world.specs.{declared.run_fault.RunFault.RunFault, declared.run_fault.RunFault.TheVariants.BadOrder, declared.run_fault.RunFault.TheVariants.NoMemory, declared.run_fault.RunFault.TheVariants.Spoiled}
 use Rattle.msg_files.specs.Prelude.{AppendsPrefix, Text}
 use Rattle.msg_reports.specs.Prelude.{HasPrinted, HasReported, HasRunOut, HasStopped, accounts_text, frame_text, frames_text, text_so_far}
@@ -59,7 +60,7 @@ module _ {X : Type 0} (meaning : X → Meaning) (s : Scenario) where
       front = record {
         logs = [];
         state = state_of s;
-        is_run = refl;
+        is_run = (refl, refl);
         printed = ([], text_so_far s [] (accounts_of (state_of s)), refl, Appends-nil known);
       };
       earlier = ([], rw (zip-nil s.frames) (Appends-nil known));
@@ -87,13 +88,18 @@ module _ {X : Type 0} (meaning : X → Meaning) (s : Scenario) where
       many_now : length logs_now ≡ k + 1
       many_now = grind (arith, common_steps, far.as_many)
 
-      was_run : IsRun (take (k + 1) s.frames) (state_of s) logs_now one.state
-      was_run = rw (take_more s.frames k frame lt, ← is)
-          (run_more (take k s.frames) frame (state_of s) far.logs log far.state one.state far.is_run one.is_frame)
+      abbrev left : State
+      left = (frame_of frame far.state).state
 
-      counted_now : (one.state.frames ≡ k + 1) × (one.state.types ≡ length s.types)
+      was_run : (logs_now ≡ (run (take (k + 1) s.frames) (state_of s)).logs)
+          × (left ≡ (run (take (k + 1) s.frames) (state_of s)).state)
+      was_run = rw (take_more s.frames k frame lt, ← is)
+          (run_more (take k s.frames) frame (state_of s) far.logs log far.state far.is_run one.tells)
+
+      counted_now : (left.frames ≡ k + 1) × (left.types ≡ length s.types)
       counted_now =
-          grind (arith, one.is_frame.leaves, keep (turn_order_in log) frame far.state, far.frames, far.types)
+          let kept = keep (turn_order (before_turns frame.posts far.state)) frame far.state in
+          grind (arith, kept.counted, kept.after, far.frames, far.types)
 
       text_now : frames_text s 1 s.frames logs_now
           ≡ frames_text s 1 s.frames far.logs ++ frame_text s (k + 1) frame log
@@ -105,14 +111,14 @@ module _ {X : Type 0} (meaning : X → Meaning) (s : Scenario) where
           → Appends now after (frame_text s (k + 1) frame log) → ReportSoFar meaning s (k + 1) before after g
       frame_put after g stays puts = record {
         logs = logs_now;
-        state = one.state;
+        state = left;
         as_many = many_now;
         is_run = was_run;
         frames = counted_now.0;
         types = counted_now.1;
         printed = rw text_now (Appends-trans before now after (frames_text s 1 s.frames far.logs)
             (frame_text s (k + 1) frame log) far.printed puts);
-        stands = stays one.state one.stands;
+        stands = stays left one.stands;
       }
 
       -- its text was put in part
@@ -127,10 +133,10 @@ module _ {X : Type 0} (meaning : X → Meaning) (s : Scenario) where
             printed = record {
               front = record {
                 logs = logs_now;
-                state = one.state;
+                state = left;
                 is_run = rw many_now was_run;
-                printed = AppendsPrefix_after before now after first here (rest_of s logs_now (accounts_of one.state)) _
-                    (rw (← text_now) (text_so_far_parts s logs_now (accounts_of one.state))) far.printed puts;
+                printed = AppendsPrefix_after before now after first here (rest_of s logs_now (accounts_of left)) _
+                    (rw (← text_now) (text_so_far_parts s logs_now (accounts_of left))) far.printed puts;
               };
               last = inl (AppendsPrefix_after before now after first here [] _
                   (text_now ∙ sym (append-nil (first ++ here))) far.printed puts);
@@ -175,19 +181,18 @@ module _ {X : Type 0} (meaning : X → Meaning) (s : Scenario) where
     module _ (after : Option (List ℕ)) (accounts : List Account) (all : k ≡ length s.frames)
         (are : (u : State) → EngineStands meaning e u → accounts ≡ accounts_of u) where
       -- their lines were put
-      pub readers_put : ((frames : List Frame) (logs : List Log) (u : State) → IsRun frames (state_of s) logs u
-          → IsCompleteRun frames (state_of s) logs u)
+      pub readers_put : ((frames : List Frame) → IsCompleteRun frames (state_of s))
           → Appends now after (accounts_text s accounts) → HasReported meaning s before after e
-      readers_put complete puts = record {
-        reported = record {
-          logs = far.logs;
-          state = far.state;
-          complete = complete s.frames far.logs far.state (rw (all, take-length) at far.is_run);
-          printed = Appends-trans before now after (frames_text s 1 s.frames far.logs)
-              (accounts_text s (accounts_of far.state)) far.printed (rw (are far.state far.stands) at puts);
-        };
-        stands = far.stands;
-      }
+      readers_put complete puts =
+          let whole = rw (all, take-length) at far.is_run in
+          record {
+            reported = record {
+              complete = complete s.frames;
+              printed = rw (← whole.0, ← whole.1) (Appends-trans before now after (frames_text s 1 s.frames far.logs)
+                  (accounts_text s (accounts_of far.state)) far.printed (rw (are far.state far.stands) at puts));
+            };
+            stands = rw (← whole.1) far.stands;
+          }
 
       -- their lines were put in part
       pub readers_stopped : AppendsPrefix now after (accounts_text s accounts) → HasStopped meaning s before after e

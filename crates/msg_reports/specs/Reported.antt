@@ -2,7 +2,7 @@
 use Rattle.std.specs.Prelude.{◌≡◌, ◌⊎◌, ℕ, ◌<◌, ◌-◌, ◌^◌, min, List, length, take, Option}
 use Rattle.std.specs.Io.KnownBytes.{Appends}
 use Rattle.msg_system.specs.Prelude.{Meaning}
-use Rattle.msg_frames.specs.Prelude.{IsCompleteRun, IsRun, State, accounts_of}
+use Rattle.msg_frames.specs.Prelude.{IsCompleteRun, State, accounts_of, run}
 use Rattle.msg_exec.specs.Prelude.{IsSpoiled, EngineStands, frame_number}
 use Rattle.msg_exec.specs.declared.engine.EngineOf.{EngineOf}
 use Rattle.msg_frames.specs.declared.log.Log.{Log}
@@ -13,7 +13,8 @@ use Rattle.msg_scenario_data.specs.declared.scenario.Scenario.{Scenario}
 
 -- the first frames of a scenario, as many as there are logs, have these logs and leave this state
 abbrev pub HasRunFirst : Scenario → List Log → State → Type 0
-HasRunFirst s logs state = IsRun (take (length logs) s.frames) (state_of s) logs state
+HasRunFirst s logs state = (logs ≡ (run (take (length logs) s.frames) (state_of s)).logs)
+    × (state ≡ (run (take (length logs) s.frames) (state_of s)).state)
 
 -- The sink took a front of the text of the frames that were run.
 pub record HasPrinted (s : Scenario) (before after : Option (List ℕ)) : Type 0 where
@@ -44,16 +45,15 @@ pub record PrintedFrames (s : Scenario) (before after : Option (List ℕ)) : Typ
 -- All frames were run, with all that a run comes to, and the sink took the report of the scenario,
 -- and no more.
 pub record IsReported (s : Scenario) (before after : Option (List ℕ)) : Type 0 where
-  pub logs : List Log
-  pub state : State
-  pub complete : IsCompleteRun s.frames (state_of s) logs state
-  pub printed : Appends before after (report_text s logs (accounts_of state))
+  pub complete : IsCompleteRun s.frames (state_of s)
+  pub printed : Appends before after (report_text s (run s.frames (state_of s)).logs
+      (accounts_of (run s.frames (state_of s)).state))
 
 module _ {X : Type 0} (meaning : X → Meaning) (s : Scenario) where
   -- The scenario is reported, and the engine stands for the last state.
   pub record HasReported (before after : Option (List ℕ)) (e : EngineOf X) : Type 0 where
     pub reported : IsReported s before after
-    pub stands : EngineStands meaning e reported.state
+    pub stands : EngineStands meaning e (run s.frames (state_of s)).state
 
   -- The report ended after a whole frame, or before the first one. The engine stands for the state
   -- that the frames so far left.

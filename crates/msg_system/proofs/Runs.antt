@@ -2,7 +2,7 @@
 use Rattle.std.proofs.Common.{◌≡◌, ℕ, ◌<◌, ◌++◌, true, List, [], ◌∷◌, length, Some, get_or, refl, ap, arith, append_assoc, IsSome, slice_set}
 use Rattle.std.proofs.lemmas.{Bool.cases_eq, Bool.eq-eqb, Bool.ne_eqb, List.get_or_default, List.get_or-set_same, List.get_or-set_other}
 use Rattle.msg_world.specs.{Prelude.Part, Prelude.SameLoan, Prelude.WorldState, Prelude.same_part, Prelude.shown, Prelude.writable, declared.lent.Lent.Lent}
-use Rattle.msg_system.specs.Prelude.{AfterOp, AfterProgram, Covers, Cursors, Op, OpRan, Reply, after_op, after_program, one_more, op_needs, op_parts, cursor_places, with_place}
+use Rattle.msg_system.specs.Prelude.{AfterOp, AfterProgram, Step, Covers, Cursors, Op, OpRan, Reply, after_op, after_program, one_more, op_needs, op_parts, cursor_places, with_place}
 use Rattle.msg_system.specs.inner.TurnRuns.{IsAfterProgram}
 
 pub same_part_refl : (p : Part) → same_part p p ≡ true
@@ -43,7 +43,13 @@ pub after_program-snoc : (ops : List Op) (op : Op) (w : ℕ) (ps : ℕ → ℕ) 
 after_program-snoc [] op w ps s = refl
 after_program-snoc (x ∷ ops) op w ps s =
     let here : AfterOp = after_op x w ps s in
-    ap (λ (e : AfterProgram). record { places = e.places; state = e.state; replies = here.reply ∷ e.replies })
+    let done : Step = record { op = x; places = ps; world = s; reply = here.reply } in
+    ap (λ (e : AfterProgram). record {
+      places = e.places;
+      state = e.state;
+      replies = here.reply ∷ e.replies;
+      steps = done ∷ e.steps;
+    })
     (after_program-snoc ops op w here.places here.state)
 
 pub op_more : (op : Op) (w : ℕ) (qs rs : ℕ → ℕ) (l m : Lent) (e : AfterProgram) (before after : List Reply) (r : Reply)

@@ -3,7 +3,7 @@ use Rattle.std.specs.Prelude.{ℕ, zero, suc, Bool, true, not, ◌&&◌, nat_lt,
 use Rattle.std.specs.Ordering.{int_eq}
 use Rattle.msg_buffer.specs.Prelude.{count, unread}
 use Rattle.msg_world.specs.Prelude.{WorldState}
-use Rattle.msg_system.specs.{declared.condition.Condition.Condition, declared.condition.Probe.Probe, declared.condition.Probe.TheVariants.OnMessage, declared.condition.Probe.TheVariants.ResourceEquals, declared.reply.Reply.Reply, declared.start.Start.Start, Systems.Meaning, Systems.after_turn, Systems.start_place, Systems.turn}
+use Rattle.msg_system.specs.{declared.condition.Condition.Condition, declared.condition.Probe.Probe, declared.condition.Probe.TheVariants.OnMessage, declared.condition.Probe.TheVariants.ResourceEquals, declared.reply.Reply.Reply, declared.start.Start.Start, Programs.Step, Systems.Meaning, Systems.after_turn, Systems.start_place, Systems.turn}
 
 -- A condition with the place of its own cursor.
 pub record Asked : Type 0 where
@@ -61,11 +61,12 @@ pub record Job : Type 0 where
 abbrev pub conditions_of : Job → List Condition
 conditions_of j = map (λ a. a.condition) j.conditions
 
--- What a job leaves, and what its program answered: nothing, where the job was skipped.
+-- What a job leaves, what its program answered: nothing, where the job was skipped, and its steps.
 pub record AfterJob : Type 0 where
   pub job : Job
   pub state : WorldState
   pub replies : Option (List Reply)
+  pub steps : List Step
 
 -- Every condition is asked, whatever the others answer. The program runs where all hold.
 abbrev pub after_job : Job → WorldState → AfterJob
@@ -76,9 +77,11 @@ after_job j s =
       job = record { system = after_turn j.system s; conditions = asked };
       state = (turn j.system s).state;
       replies = Some (turn j.system s).replies;
+      steps = (turn j.system s).steps;
     }
     else record {
       job = record { system = j.system; conditions = asked };
       state = s;
       replies = None;
+      steps = [];
     }

@@ -108,16 +108,29 @@ after_op (Drain t) w ps s = record {
 }
 after_op Signal w ps s = record { places = ps; state = after_signal s; reply = reply.Signalled }
 
--- What a program leaves, and what its ops answer, one reply each.
+-- One op as it was done: which, from which places and on which world, and what it was answered.
+pub record Step : Type 0 where
+  pub op : Op
+  pub places : ℕ → ℕ
+  pub world : WorldState
+  pub reply : Reply
+
+-- What a program leaves, what its ops answer, one reply each, and its steps.
 pub record AfterProgram : Type 0 where
   pub places : ℕ → ℕ
   pub state : WorldState
   pub replies : List Reply
+  pub steps : List Step
 
 -- the ops one after the other
 abbrev pub after_program : List Op → ℕ → (ℕ → ℕ) → WorldState → AfterProgram
-after_program [] w ps s = record { places = ps; state = s; replies = [] }
+after_program [] w ps s = record { places = ps; state = s; replies = []; steps = [] }
 after_program (op ∷ ops) w ps s =
     let here : AfterOp = after_op op w ps s in
     let rest : AfterProgram = after_program ops w here.places here.state in
-    record { places = rest.places; state = rest.state; replies = here.reply ∷ rest.replies }
+    record {
+      places = rest.places;
+      state = rest.state;
+      replies = here.reply ∷ rest.replies;
+      steps = record { op = op; places = ps; world = s; reply = here.reply } ∷ rest.steps;
+    }

@@ -34,11 +34,17 @@ abbrev pub one_more : Option Op → ℕ → AfterProgram → AfterProgram
 one_more None w far = far
 one_more (Some op) w far =
     let here : AfterOp = after_op op w far.places far.state in
-    record { places = here.places; state = here.state; replies = far.replies ++ here.reply ∷ [] }
+    record {
+      places = here.places;
+      state = here.state;
+      replies = far.replies ++ here.reply ∷ [];
+      steps = far.steps
+          ++ record { op = op; places = far.places; world = far.state; reply = here.reply } ∷ [];
+    }
 
 -- After at most so many ops: what comes next is asked by the replies so far, and that op is done.
 abbrev pub after_at_most : ℕ → (List Reply → Option Op) → ℕ → (ℕ → ℕ) → WorldState → AfterProgram
-after_at_most zero next w ps s = record { places = ps; state = s; replies = [] }
+after_at_most zero next w ps s = record { places = ps; state = s; replies = []; steps = [] }
 after_at_most (suc n) next w ps s =
     let far : AfterProgram = after_at_most n next w ps s in
     one_more (next far.replies) w far

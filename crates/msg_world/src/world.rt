@@ -180,9 +180,10 @@ impl World {
         })
     }
 
-    /// A law: a world stands for some state.
+    /// A law: a world stands for some state, and has at most 64 types and 64 resources.
     pub fn stands_for_some(&self)
         ensures state { (s : WorldState) × PartsStand self.now s }
+        ensures few { (length self.now.types ≤ 64) × (length self.now.resources ≤ 64) }
     {
         each_stands(&self.types);
     }

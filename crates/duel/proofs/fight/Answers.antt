@@ -1,4 +1,3 @@
-use Rattle.std.proofs.Common.{◌++◌, ap, ◌∙◌}
 use Rattle.duel.proofs.fight.Goals as goal
 
 -- the logs stand after none
@@ -6,9 +5,7 @@ pub returns-2 : goal.returns-2
 returns-2 g c = record {
   one_thread = λ w stands.
       let ran = c.in_ok-run_frames.ensures.ran _ (c.in_ok-engine.ensures.meaning w stands) in record {
-        logs = ran.logs;
-        state = ran.state;
-        appended = ran.appended ∙ ap (λ before. before ++ ran.logs) c.new-logs.ensures.items;
+        appended = rw c.new-logs.ensures.items at ran.appended;
         complete = ran.complete;
         stands = ran.stands;
       };

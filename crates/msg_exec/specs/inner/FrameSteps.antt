@@ -5,12 +5,19 @@ use Rattle.msg_system.specs.declared.reply.Reply.{Reply}
 use Rattle.msg_system.specs.Prelude.{Meaning}
 use Rattle.msg_world.specs.Prelude.{after_update}
 use Rattle.msg_exec.specs.{declared.engine_core.Core.Core, Lender.LenderStands, Cores.CoreStands, Cores.Schedule}
-use Rattle.msg_frames.specs.declared.frame.Frame.{Frame}
-use Rattle.msg_frames.specs.Prelude.{before_turns, after_joining, post_replies, State, join_flags}
+use Rattle.msg_frames.specs.{declared.frame.Frame.Frame, declared.log.Log.Log}
+use Rattle.msg_frames.specs.Prelude.{IsLawfulFor, TellsTheSame, before_turns, after_joining, post_replies, State, frame, join_flags, turn_order_in}
 
 -- the state with one frame more counted
 abbrev pub one_frame_more : State → State
 one_frame_more s = record s { frames = suc s.frames }
+
+-- A frame on the state s was replayed in this order, which is lawful: the log tells the same as the
+-- frame's, with the turns in this order.
+pub record IsReplay (f : Frame) (order : List ℕ) (s : State) (log : Log) : Type 0 where
+  pub lawful : IsLawfulFor f s order
+  pub tells : TellsTheSame log (frame f s).log
+  pub in_order : turn_order_in log ≡ order
 
 -- Nobody joins with the next frame. With the first nobody does: those of join 1 joined as the
 -- engine was made.
@@ -45,10 +52,9 @@ module _ {S : Type 0} (meaning : S → Meaning) where
         (join_flags (before_turns frame.posts s)) c.plan
     pub posts : replies ≡ post_replies frame.posts (after_update s.world)
 
-  -- A frame on the state s was run or replayed: the core stands for the state that it leaves, of
-  -- which this holds.
-  pub record HasLeft (Leaves : State → Type 0) (s : State) (c : Core S) : Type 0 where
-    pub state : State
-    pub leaves : Leaves state
-    pub stands : CoreStands meaning c state
-    pub frames : state.frames ≡ suc s.frames
+  -- A frame on the state s was run or replayed, of which this is told: the core stands for the
+  -- state that the frame leaves.
+  pub record HasLeft (Told : Type 0) (f : Frame) (s : State) (c : Core S) : Type 0 where
+    pub told : Told
+    pub stands : CoreStands meaning c (frame f s).state
+    pub frames : (frame f s).state.frames ≡ suc s.frames

@@ -1,14 +1,9 @@
 -- Paths as the sets of the code keep them: before each system those that precede it. No public
 -- contract cites these; that they are the paths of the definitions is proved.
-use Rattle.std.specs.Prelude.{◌≡◌, ℕ, ◌≤◌, ◌<◌, Bool, true, false, not, ◌&&◌, ◌||◌, ◌==◌, List, [], ◌∷◌, map, length, filter, flat_map, slice_index_or}
+use Rattle.std.specs.Prelude.{◌≡◌, ℕ, ◌≤◌, ◌<◌, Bool, true, not, ◌&&◌, List, map, length, filter, flat_map, slice_index_or}
 use Rattle.std.specs.List.{range_with_len}
 use Rattle.msg_world.specs.declared.access.Access.{Access}
-use Rattle.msg_order.specs.{declared.system_set.SystemSet.SystemSet, inner.SystemSet.has, inner.SystemSet.meets, inner.SystemSet.no_set, Graph.Graph, Order.has_joined, Order.AreInConflict, Order.Settles, Order.pairs, Plan.PlanView}
-
--- a path leads from i to j: without edge e, or to where e begins and on from where e ends
-abbrev pub path : Graph → ℕ → ℕ → Bool
-path [] i j = false
-path (e ∷ g) i j = path g i j || ((i == e.0 || path g i e.0) && (j == e.1 || path g e.1 j))
+use Rattle.msg_order.specs.{declared.system_set.SystemSet.SystemSet, inner.SystemSet.has, inner.SystemSet.meets, inner.SystemSet.no_set, Graph.Graph, Graph.path, Settled.has_joined, Order.AreInConflict, Order.Settles, Settled.pairs, Plan.PlanView}
 
 -- the set of those before system j
 abbrev pub set_at : List SystemSet → ℕ → SystemSet

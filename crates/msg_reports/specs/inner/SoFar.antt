@@ -2,7 +2,7 @@
 use Rattle.std.specs.Prelude.{◌≡◌, ℕ, List, Option, length, take}
 use Rattle.std.specs.Io.KnownBytes.{Appends}
 use Rattle.msg_system.specs.Prelude.{Meaning}
-use Rattle.msg_frames.specs.Prelude.{IsRun, State}
+use Rattle.msg_frames.specs.Prelude.{State, run}
 use Rattle.msg_frames.specs.declared.log.Log.{Log}
 use Rattle.msg_exec.specs.Prelude.{EngineStands}
 use Rattle.msg_exec.specs.declared.engine.EngineOf.{EngineOf}
@@ -16,7 +16,8 @@ module _ {X : Type 0} (meaning : X → Meaning) (s : Scenario) where
     pub logs : List Log
     pub state : State
     pub as_many : length logs ≡ k
-    pub is_run : IsRun (take k s.frames) (state_of s) logs state
+    pub is_run : (logs ≡ (run (take k s.frames) (state_of s)).logs)
+        × (state ≡ (run (take k s.frames) (state_of s)).state)
     pub frames : state.frames ≡ k
     pub types : state.types ≡ length s.types
     pub printed : Appends before now (frames_text s 1 s.frames logs)

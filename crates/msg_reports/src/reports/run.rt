@@ -111,7 +111,7 @@ pub fn report<R: Threads + Sync, X: System, S: Sink, G: Gate>(
         → S.failures sink.new ≡ one_failure_more (S.failures sink.old) }
     ensures quiet { result ≢ Err ReportFault.Write → S.failures sink.new ≡ S.failures sink.old }
 {
-    engine.has_one_run();
+    engine.runs_completely();
     let lines = make_lines(alloc, scenario)?;
     let mut text = Vec::new(alloc);
     for reported in 0..scenario.frames.as_slice().len() {

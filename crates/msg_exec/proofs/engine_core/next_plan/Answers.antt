@@ -10,7 +10,7 @@ pub plan_by-requires-clause-no_cycle : goal.plan_by-requires-clause-no_cycle
 plan_by-requires-clause-no_cycle g c joined as_many =
     let core = c.requires.stands.1.0 in
     rw (c.deref-3.ensures.value, core.schedule.rules)
-    (core.schedule.no_cycle joined (as_many ∙ ap length c.deref-2.ensures.value ∙ core.lender.accesses))
+    (core.sound.no_cycle joined (as_many ∙ ap length c.deref-2.ensures.value ∙ core.lender.accesses))
 
 pub returns : goal.returns
 returns g c = record {

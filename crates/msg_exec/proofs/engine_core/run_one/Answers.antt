@@ -2,7 +2,7 @@ use Rattle.std.proofs.Common.{get_or, [], ◌∙◌, ℕ}
 use Rattle.std.specs.{Global.Vec, List.concat}
 use Rattle.std.proofs.lemmas.{List.get_or-map, List.Elements.Contains-get_or}
 use Rattle.msg_frames.proofs.{SystemsStay.joined_below, FramesInOrder.in_that_order, FramesInOrder.logged_in}
-use Rattle.msg_exec.proofs.CoreRunsFrame.{frame_ran}
+use Rattle.msg_exec.proofs.CoreRunsFrame.{frame_ran, in_turn}
 use Rattle.msg_frames.specs.Prelude.{before_turns}
 use Rattle.msg_exec.proofs.engine_core.run_one.Goals as goal
 
@@ -39,9 +39,10 @@ returns g c =
     record {
       ran = λ s stands is.
           let has = c.in_ok-core.ensures.opened s stands is in
+          let same = in_turn g.S.System.meaning has stands.sound in
           frame_ran g.S.System.meaning has stands.sound c.states_stay_sound.ensures.frame
-          (turns.state _ has.lender) (logged_in frame order s _ replies c.from_vec.ensures.items has.posts
-          (c.from_vec-2.ensures.items ∙ turns.turns _ has.lender)) turns.accesses;
+          (rw same at (turns.state _ has.lender)) (rw same at (logged_in frame order s _ replies
+          c.from_vec.ensures.items has.posts (c.from_vec-2.ensures.items ∙ turns.turns _ has.lender))) turns.accesses;
       gate_passed =
           let (s, (stands, is)) = c.requires.stands in
           let has = c.in_ok-core.ensures.opened s stands is in

@@ -1,10 +1,10 @@
-use Rattle.std.proofs.Common.{◌++◌, ◌∙◌, ap, refl}
-use Rattle.std.specs.List.{concat}
+use Rattle.std.proofs.Common.{◌++◌, ◌∙◌, ap}
 use Rattle.std.proofs.lemmas.List.Elements.{Contains-get_or}
 use Rattle.msg_frames.specs.declared.log.Log.{Log}
-use Rattle.msg_frames.specs.Prelude.{after_turns_of, before_turns, frame_in, State}
+use Rattle.msg_frames.specs.Prelude.{after_turns_of, before_turns, State}
 use Rattle.msg_frames.proofs.{FramesInOrder.in_that_order, FramesInOrder.logged_in, SystemsStay.joined_below}
-use Rattle.msg_exec.proofs.CoreRunsFrame.{frame_ran, is_frame_by}
+use Rattle.msg_exec.proofs.CoreRunsFrame.{frame_ran}
+use Rattle.msg_exec.proofs.EngineRunsFrames.{accesses_of}
 use Rattle.msg_exec.proofs.replay.replay_one.Goals as goal
 
 pub run_turns-requires-clause-stands : goal.run_turns-requires-clause-stands
@@ -31,22 +31,17 @@ returns g c = record {
       let told = logged_in frame order s _ c.in_ok-core.posts.items c.from_vec.ensures.items has.posts
       (c.from_vec-2.ensures.items ∙ c.in_ok-run_turns.ensures.turns bt has.lender
       ∙ ap (λ ts. ts ++ (after_turns_of order bt).turns) c.in_ok-turns.ensures.empty) in
-      let settled : Log = (frame_in (concat c.in_ok-core.core.plan.batches) frame s).log in
-      let alike = c.frames_agree_in_lawful_orders.ensures.law frame s _ settled lawful.settled order
-      (is_frame_by m has refl) lawful.is_order lawful.lawful in
-      let ran = frame_ran m has stands.sound c.states_stay_sound.ensures.frame
-      (rw alike.0 at (c.in_ok-run_turns.ensures.state bt has.lender)) refl c.in_ok-run_turns.ensures.accesses in
-      record {
-        state = ran.state;
-        leaves = record {
-          lawful = lawful;
-          settled = settled;
-          is_frame = ran.leaves;
-          posts = ap (λ (l : Log). l.posts) told ∙ alike.1;
-          turns = rw (ap (λ (l : Log). l.turns) told) alike.2;
-          in_order = in_that_order frame order s _ told;
+      let alike = c.frames_agree_in_lawful_orders.ensures.law frame s c.args.core.lender.accesses.items order
+      stands.sound.uses stands.sound.no_cycle (accesses_of m stands) lawful in
+      frame_ran m has stands.sound c.states_stay_sound.ensures.frame
+      (rw alike.0 at (c.in_ok-run_turns.ensures.state bt has.lender))
+      (record {
+        lawful = lawful;
+        tells = record {
+          posts = ap (λ (l : Log). l.posts) told ∙ alike.1.posts;
+          turns = rw (ap (λ (l : Log). l.turns) told) alike.1.turns;
         };
-        stands = ran.stands;
-        frames = ran.frames;
-      };
+        in_order = in_that_order frame order s _ told;
+      })
+      c.in_ok-run_turns.ensures.accesses;
 }

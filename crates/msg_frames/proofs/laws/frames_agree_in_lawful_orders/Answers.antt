@@ -7,4 +7,4 @@ returns c =
     let kept = c.lawful_orders_keep_paths.ensures.law in
     let lawful = c.turn_order_is_lawful.ensures.law in
     let jobs = c.nothing_else_is_used.ensures.jobs in
-    record { law = frames_agree jobs joined kept c.settled_order_is_unique.ensures.law lawful }
+    record { law = frames_agree jobs joined kept lawful }

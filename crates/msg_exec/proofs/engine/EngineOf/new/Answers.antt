@@ -35,9 +35,9 @@ returns-clause-meaning g c w stands =
     record { lender = c.join_those.new.lender; joins = made.joins; rules = c.args.rules; plan = made.plan } in
     let schedule : Schedule core s = schedule_along refl refl (joining_on_keeps 1 first)
     (schedule_first m _ systems places c.requires.whole c.requires.one_place_each c.requires.each core rules w
-    c.requires.few c.requires.in_range
-    (none_more c.fewer_systems_make_no_cycle.ensures.law (length systems) rules c.requires.in_range prepared.no_cycle)
-    refl parts.1) in
+    c.requires.few c.requires.in_range refl parts.1) in
+    let none = none_more c.fewer_systems_make_no_cycle.ensures.law (length systems) rules c.requires.in_range
+    prepared.no_cycle in
     record {
       core = record {
         lender = c.join_those.ensures.joined first parts.0 (rw c.deref-5.ensures.value parts.1) parts.2;
@@ -45,7 +45,8 @@ returns-clause-meaning g c w stands =
         plan = rw (c.join_those.ensures.accesses, ← joined_by_frame made.joins.items s 1 schedule.joins (omega arith))
             prepared.plan;
         sound = c.first_states_are_sound.ensures.law (map m systems) places rules (length c.args.world.types) w
-            (are_new m _ systems places c.requires.whole c.requires.one_place_each c.requires.each w stands);
+            (are_new m _ systems places c.requires.whole c.requires.one_place_each c.requires.each rules w stands
+            c.stands_for_some.ensures.few none);
       };
       frames = omega arith;
     }

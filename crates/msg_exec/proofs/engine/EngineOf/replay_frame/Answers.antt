@@ -1,18 +1,27 @@
-use Rattle.std.proofs.Common.{◌∷◌, [], refl, sym, ap, ◌∙◌, arith, inr, is_some}
+use Rattle.std.proofs.Common.{◌≡◌, ◌∷◌, [], refl, sym, ap, ◌∙◌, arith, inr, is_some}
 use Rattle.std.proofs.lemmas.Bool.{false≢true}
 use Rattle.std.specs.Result.{is_ok}
 use Rattle.msg_exec.proofs.EngineRunsFrames.{stood}
+use Rattle.msg_exec.proofs.SinceThen.{since_replay}
 use Rattle.msg_exec.proofs.engine.EngineOf.replay_frame.Goals as goal
+
+pub replay_one-requires-clause-lawful : goal.replay_one-requires-clause-lawful
+replay_one-requires-clause-lawful g c κs within s stands is =
+    let same : c.in-Some.core ≡ c.in-Some-take.core = cc (c.in-Some.is, c.take.ensures.value, c.in-Some-take.is) in
+    (c.in-Ok.ensures.lawful s (rw same stands) is c.args.frame.now).0 c.if-not-is_lawful.false
 
 pub returns-clause-replayed : goal.returns-clause-replayed
 returns-clause-replayed g c s stands =
     let core = rw (sym c.take.ensures.value ∙ c.in-Some-take.is) at stands.core in
     let ran = c.in-Ok-replay_one.ensures.replayed s core stands.frames in
+    let frame = c.args.frame.now in
+    let replay = ran.told in
     record {
-      state = ran.state;
-      is_replay = ran.leaves;
-      tells = c.replays_tell_a_complete_run.ensures.law (c.args.frame.now ∷ []) s (c.in-Ok-replay_one.log ∷ []) _
-          core.sound (ran.state, inr (c.args.order.now, ran.leaves), refl);
+      lawful = replay.lawful;
+      tells = replay.tells;
+      in_order = replay.in_order;
+      alike = c.replays_tell_the_same.ensures.law (frame ∷ []) s (_ ∷ []) (replay.tells, tt);
+      complete = c.runs_are_complete.ensures.law (frame ∷ []) s core.sound;
       stands =
           record { core = rw c.end_frame.ensures.core ran.stands; frames = omega (arith, stands.frames, ran.frames) };
     }
@@ -21,7 +30,7 @@ pub returns-clause-engine : goal.returns-clause-engine
 returns-clause-engine g c =
     let was = stood g.S.System.meaning c.args.self.now (ap is_some c.in-Some.is) c.requires.engine in
     let ran = returns-clause-replayed g c was.0 was.1 in
-    inr (ran.state, ran.stands)
+    inr (_, ran.stands)
 
 pub returns-then-not-is_lawful-clause-bad_order : goal.returns-then-not-is_lawful-clause-bad_order
 returns-then-not-is_lawful-clause-bad_order g c s stands some =
@@ -36,3 +45,6 @@ returns-clause-bad_order g c s stands some =
       λ same. absurd (false≢true (ap is_ok (sym same))),
       λ unlawful. absurd (unlawful (tells.0 c.if-not-is_lawful.false)),
     )
+
+pub returns-clause-since : goal.returns-clause-since
+returns-clause-since g c = since_replay g.S.System.meaning _ _ c.args.frame.now c.args.order.now _ (returns-clause-replayed g c)

@@ -1,10 +1,12 @@
-use Rattle.std.proofs.Common.{◌≡◌, ◌++◌, ◌∷◌, [], ◌∙◌, Err, length, append_assoc, refl, sym, arith, rules}
+use Rattle.std.proofs.Common.{◌≡◌, ◌++◌, ◌+◌, take, ◌∷◌, [], ◌∙◌, Err, length, append_assoc, refl, sym, arith, rules}
 use Rattle.std.proofs.lemmas.{Bool.false≢true, List.drop-append-le, List.length_push, List.take_all, List.take_more, List.Elements.All-push}
 use Rattle.msg_world.specs.declared.run_fault.RunFault.TheVariants.{NoMemory, Spoiled}
 use Rattle.msg_workers.specs.Prelude.{EachPassedGate}
 use Rattle.msg_frames.specs.Prelude.{turn_order_in}
-use Rattle.msg_frames.proofs.SystemsStay.{frame_keeps}
-use Rattle.msg_exec.proofs.EngineRunsFrames.{core_of, run_more, stood}
+use Rattle.msg_frames.specs.Prelude.{run}
+use Rattle.msg_frames.proofs.Functions.{run_append, run_keeps}
+use Rattle.msg_exec.proofs.EngineRunsFrames.{core_of, stood}
+use Rattle.msg_exec.proofs.SinceThen.{since_frames}
 use Rattle.msg_exec.proofs.engine.EngineOf.run_frames.Given as given
 use Rattle.msg_exec.proofs.engine.EngineOf.run_frames.Goals as goal
 
@@ -14,10 +16,11 @@ run_frame-requires-clause-posts g c κs within =
     let was = stood m c.args.self.now (search rules) c.requires.engine in
     let far = c.loop-frame.invariant.so_far was.0 was.1 in
     let old = core_of m c.args.self.now was.0 was.1 in
-    let new = core_of m c.loop-frame.self far.state far.stands in
+    let new = core_of m c.loop-frame.self _ far.stands in
+    let same = run_keeps (take c.loop-frame.frame-index c.args.frames.now) was.0 in
     let fit = rw (← c.frame-item.is, old.1.0)
     at (c.requires.posts c.loop-frame.frame-index c.frame-item.result c.loop-frame-test.true) in
-    rw new.1.0 (λ k d lt. omega (arith, fit k d lt, old.1.1.lender.types, new.1.1.lender.types, far.types))
+    rw new.1.0 (λ k d lt. omega (arith, fit k d lt, old.1.1.lender.types, new.1.1.lender.types, same.types))
 
 pub loop-frame-preserved : goal.loop-frame-preserved
 loop-frame-preserved g c =
@@ -33,16 +36,14 @@ loop-frame-preserved g c =
     record {
       so_far = λ s stands.
           let far = inv.so_far s stands in
-          let one = c.in_ok-log.ensures.ran far.state far.stands in
+          let m = (run (take k frames) s).state in
+          let one = c.in_ok-log.ensures.ran m far.stands in
+          let more = take_more frames k frame c.loop-frame-test.true in
+          let is : run (take (k + 1) frames) s ≡ run (take k frames ++ frame ∷ []) s =
+          rw (more, ← c.frame-item.is) refl in
           record {
-            logs = far.logs ++ log ∷ [];
-            state = one.state;
-            as_many = grind (arith, far.as_many, length_push);
-            appended = rw (pushed, far.appended, append_assoc) refl;
-            is_run = rw (take_more frames k frame c.loop-frame-test.true, ← c.frame-item.is)
-                (run_more _ frame s far.logs log far.state one.state far.is_run one.is_frame);
-            stands = one.stands;
-            types = rw (one.is_frame.leaves, (frame_keeps (turn_order_in log) frame far.state).types) far.types;
+            appended = rw (is, run_append, pushed, far.appended, append_assoc, one.tells) refl;
+            stands = rw (is, run_append) one.stands;
           };
       longer = rw (pushed, length_push) (omega (arith, inv.longer));
       gate_passed = rw (pushed, drop-append-le (length c.args.out.now.items) before (log ∷ []) inv.longer)
@@ -51,21 +52,23 @@ loop-frame-preserved g c =
       engine = c.in_ok-log.ensures.engine;
       core =
           let far = inv.so_far was.0 was.1 in
-          rw (core_of m c.run_frame.new.self _ (c.in_ok-log.ensures.ran far.state far.stands).stands).1.0 refl;
+          rw (core_of m c.run_frame.new.self _ (c.in_ok-log.ensures.ran _ far.stands).stands).1.0 refl;
     }
 
 pub returns-clause-ran : goal.returns-clause-ran
 returns-clause-ran g c s stands =
     let far = c.loop-frame.invariant.so_far s stands in
+    let core = (core_of g.S.System.meaning c.args.self.now s stands).1.1 in
+    let frames = c.args.frames.now in
+    let all = take_all c.loop-frame.frame-index frames (omega arith) in
     record {
-      logs = far.logs;
-      state = far.state;
-      appended = far.appended;
-      complete = c.runs_are_complete.ensures.law c.args.frames.now s far.logs far.state
-          (core_of g.S.System.meaning c.args.self.now s stands).1.1.sound
-          (rw (take_all c.loop-frame.frame-index c.args.frames.now (omega arith)) at far.is_run);
-      stands = far.stands;
+      appended = rw all at far.appended;
+      complete = c.runs_are_complete.ensures.law frames s core.sound;
+      stands = rw all at far.stands;
     }
+
+pub returns-clause-since : goal.returns-clause-since
+returns-clause-since g c = since_frames g.S.System.meaning _ _ c.args.frames.now _ _ (returns-clause-ran g c)
 
 pub returns-then-is_err-clause-gate_passed : goal.returns-then-is_err-clause-gate_passed
 returns-then-is_err-clause-gate_passed g c = rw c.reserve.ensures.items c.loop-frame.invariant.gate_passed
@@ -74,10 +77,9 @@ pub returns-then-is_err-clause-no_memory : goal.returns-then-is_err-clause-no_me
 returns-then-is_err-clause-no_memory g c same s stands =
     let far = c.loop-frame.invariant.so_far s stands in
     record {
-      logs = far.logs;
-      state = far.state;
+      ran = c.loop-frame.frame-index;
+      few = omega (arith, c.loop-frame-test.true);
       appended = rw c.reserve.ensures.items far.appended;
-      is_run = rw far.as_many far.is_run;
       counted = rw c.spoil.ensures.spoiled far.stands.frames;
       spoiled = rw c.spoil.ensures.spoiled refl;
     }
@@ -90,10 +92,9 @@ returns-in_err-log-clause-no_memory g c same s stands =
     let far = c.loop-frame.invariant.so_far s stands in
     let failed : c.run_frame.result ≡ Err NoMemory = grind (arith, same, c.from_residual.ensures, c.in_err-log.was) in
     record {
-      logs = far.logs;
-      state = far.state;
+      ran = c.loop-frame.frame-index;
+      few = omega (arith, c.loop-frame-test.true);
       appended = rw c.reserve.ensures.items far.appended;
-      is_run = rw far.as_many far.is_run;
       counted = c.run_frame.ensures.not_counted failed ∙ far.stands.frames;
       spoiled = c.run_frame.ensures.no_memory failed;
     }

@@ -12,7 +12,7 @@ loop-reported-init g c = record {
     logs = [];
     state = state_of c.args.scenario.now;
     as_many = refl;
-    is_run = refl;
+    is_run = (refl, refl);
     frames = refl;
     types = refl;
     printed = rw (zip-nil c.args.scenario.now.frames) (Appends-nil _);
@@ -57,7 +57,7 @@ returns-in-Ok-clause-ok g c =
     (readers_put _ _ _ _ _ _ c.loop-reported.invariant.so_far _ c.as_slice-in-Ok.result.now
     (omega (arith, ap length c.as_slice-reported-end.ensures.items))
     (λ u stands. c.as_slice-in-Ok.ensures.value ∙ c.in-Ok.ensures.accounts u stands)
-    (c.has_one_run.ensures.complete (state_of c.args.scenario.now) c.requires.engine))
+    (c.runs_completely.ensures.complete (state_of c.args.scenario.now) c.requires.engine))
     c.put_accounts.ensures.ok
 
 pub returns-in-Ok-clause-run : goal.returns-in-Ok-clause-run

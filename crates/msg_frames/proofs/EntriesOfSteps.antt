@@ -1,0 +1,42 @@
+-- The entries that the replies of a turn tell of are those of its steps.
+use Rattle.std.proofs.Common.{◌≡◌, ℕ, zero, suc, List, [], ◌∷◌, ◌++◌, append_assoc, length, Option, None, Some, refl, arith}
+use Rattle.std.proofs.lemmas.{Bool.cases_Bool, List.append-nil, List.length-append, Grind.flat_map-append}
+use Rattle.msg_world.specs.Prelude.{WorldState}
+use Rattle.msg_system.specs.{declared.op.Op.Op, declared.reply.Reply.Reply}
+use Rattle.msg_system.specs.Prelude.{AfterOp, AfterProgram, Step, Job, Meaning, after_at_most, after_job, after_op, next_op, one_more, ops_answered, turn}
+use Rattle.msg_system.proofs.Turns.{ops_answered-snoc}
+use Rattle.msg_frames.specs.Prelude.{entries_at, entries_for, entry_for, outcome_entries, outcome_of}
+
+module _ (t : ℕ) (m : Meaning) (w : WorldState) where
+  -- so far all ops were answered
+  abbrev AnsweredAs : AfterProgram → Type 0
+  AnsweredAs e = (length (ops_answered (next_op m) e.replies) ≡ length e.replies)
+      × (entries_for t (ops_answered (next_op m) e.replies) e.replies ≡ entries_at t e.steps)
+
+  entries_snoc : (ops : List Op) (rs : List Reply) (op : Op) (r : Reply) → length ops ≡ length rs
+      → entries_for t (ops ++ op ∷ []) (rs ++ r ∷ []) ≡ entries_for t ops rs ++ entry_for t op r
+  entries_snoc [] [] op r same = append-nil (entry_for t op r)
+  entries_snoc (o ∷ ops) (x ∷ rs) op r same = grind (arith, append_assoc, entries_snoc ops rs op r)
+  entries_snoc ops rs op r same = absurd (omega (arith, same))
+
+  answered_more : (o : Option Op) (far : AfterProgram) → next_op m far.replies ≡ o
+      → AnsweredAs far → AnsweredAs (one_more o m.writer far)
+  answered_more None far is so = so
+  answered_more (Some op) far is so =
+      let here : AfterOp = after_op op m.writer far.places far.state in
+      let done : Step = record { op = op; places = far.places; world = far.state; reply = here.reply } in
+      let more = flat_map-append (λ (x : Step). entry_for t x.op x.reply) far.steps (done ∷ []) in
+      let one = append-nil (entry_for t op here.reply) in
+      grind (arith, entries_snoc, length-append, more, one, ops_answered-snoc)
+
+  answered : (n : ℕ) → AnsweredAs (after_at_most n (next_op m) m.writer m.places w)
+  answered zero = (refl, refl)
+  answered (suc n) =
+      let far : AfterProgram = after_at_most n (next_op m) m.writer m.places w in
+      answered_more (next_op m far.replies) far refl (answered n)
+
+-- the entries that the outcome of a job tells are those of its steps
+pub job_logged : (t : ℕ) (j : Job) (w : WorldState)
+    → outcome_entries t j.system (outcome_of (after_job j w).replies) ≡ entries_at t (after_job j w).steps
+unfolding turn
+job_logged t j w = grind (arith, append-nil, cases_Bool, answered t j.system w 64)

@@ -1,0 +1,163 @@
+-- What the functions of the order, of frames and of runs come to.
+use Rattle.std.proofs.Common.{◌≡◌, ℕ, ◌<◌, Bool, ◌&&◌, ◌||◌, List, [], ◌∷◌, ◌++◌, append_assoc, length, refl, sym, ap, ◌∙◌, arith, ◌↔◌, ◌⊎◌, ◌≢◌, inl, inr, IsTrue, Contains, map}
+use Rattle.std.specs.List.{list_any, range_with_len}
+use Rattle.std.proofs.Math.Bool.{or_comm}
+use Rattle.std.proofs.lemmas.{Bool.cases_Bool, Bool.cases_order, List.Elements.Contains-append_left, List.Elements.Contains-append_right, List.FromFn.length-map-range_with_len}
+use Rattle.msg_world.specs.{Prelude.Conflict, Prelude.HasPart, Prelude.OfResource, Prelude.OfType, Prelude.Part, Prelude.Registry, Prelude.uses, Prelude.writes, declared.access.Access.Access}
+use Rattle.msg_order.specs.Prelude.{Graph, IsAcyclic, IsAmong, IsSettledOrder, IsTurnOrder, Path, TellsConflicts, TurnOrderIsLawful, has_joined}
+use Rattle.msg_order.proofs.{Elements.Contains-head, Elements.Contains-list_any, Elements.Contains-map, Elements.Contains-range, Elements.list_any-Contains, Functions.batches_are, Functions.settled_among, Functions.settled_is, Functions.settled_no_cycle, Functions.settled_only, Functions.settled_orders, Functions.turns_are, Functions.turns_only}
+use Rattle.msg_system.specs.Prelude.{IsAccessOf, Needs, needs_any}
+use Rattle.msg_frames.specs.Prelude.{AfterRun, AreAccessesOf, Frame, Log, NoCycle, SameSystems, State, TurnsAreInOrder, UsesParts, are_in_conflict, before_turns, frame, has_begun, join_flags, member_needs, needs_conflict, run}
+use Rattle.msg_frames.specs.Frames.{parts, settled_order, turn_order}
+use Rattle.msg_frames.proofs.{SystemsStay.frame_keeps, SystemsStay.joined_below}
+
+-- ---- conflicts
+
+is_part : (p : Part) → HasPart 64 64 p → Contains parts p
+unfolding parts
+is_part (OfType t) lt =
+    let types : List Part = map OfType (range_with_len 0 64) in
+    let resources : List Part = map OfResource (range_with_len 0 64) in
+    Contains-append_left (types ++ resources) (Registry ∷ []) (OfType t)
+    (Contains-append_left types resources (OfType t)
+    (Contains-map OfType (range_with_len 0 64) t (Contains-range 0 64 t (omega arith) lt)))
+is_part (OfResource r) lt =
+    let types : List Part = map OfType (range_with_len 0 64) in
+    let resources : List Part = map OfResource (range_with_len 0 64) in
+    Contains-append_left (types ++ resources) (Registry ∷ []) (OfResource r)
+    (Contains-append_right types resources (OfResource r)
+    (Contains-map OfResource (range_with_len 0 64) r (Contains-range 0 64 r (omega arith) lt)))
+is_part Registry has =
+    Contains-append_right (map OfType (range_with_len 0 64) ++ map OfResource (range_with_len 0 64)) (Registry ∷ [])
+    Registry (Contains-head Registry [])
+
+-- each need is one of the parts
+abbrev IsWithin : Needs → Type 0
+IsWithin n = (p : Part) → IsTrue (needs_any n p) → HasPart 64 64 p
+
+-- a part at which the needs are in conflict
+abbrev conflict_at : Needs → Needs → Part → Bool
+conflict_at m n p = (m.writes p && needs_any n p) || (n.writes p && needs_any m p)
+
+conflict_at_is : (m n : Needs) (a b : Access) (p : Part) → IsAccessOf m a → IsAccessOf n b
+    → IsTrue (conflict_at m n p) ↔ (IsTrue (writes a p && uses b p) ⊎ IsTrue (writes b p && uses a p))
+conflict_at_is m n a b p ma nb = grind (arith, cases_Bool, ma.reads p, ma.writes p, nb.reads p, nb.writes p)
+
+conflict_within : (m n : Needs) (p : Part) → IsWithin m → IsTrue (conflict_at m n p) → HasPart 64 64 p
+conflict_within m n p within t = within p (grind (arith, cases_Bool))
+
+conflict_is : (m n : Needs) (a b : Access) → IsAccessOf m a → IsAccessOf n b → IsWithin m
+    → IsTrue (needs_conflict m n) ↔ Conflict a b
+conflict_is m n a b ma nb within = (
+  λ t. let f = Contains-list_any (conflict_at m n) parts t in
+      (f.0, (conflict_at_is m n a b f.0 ma nb).0 f.1.1),
+  λ c. let at = (conflict_at_is m n a b c.0 ma nb).1 c.1 in
+      list_any-Contains (conflict_at m n) parts c.0 (is_part c.0 (conflict_within m n c.0 within at)) at,
+)
+
+pub conflicts_tell : (s : State) (accesses : List Access) → AreAccessesOf s accesses → UsesParts s
+    → TellsConflicts accesses (join_flags s) (are_in_conflict s)
+conflicts_tell s accesses are uses i j at_i at_j =
+    let li : i < s.systems = joined_below s i at_i in
+    let lj : j < s.systems = joined_below s j at_j in
+    conflict_is _ _ _ _ (are.of_needs i li) (are.of_needs j lj) (uses i li)
+
+-- ---- the order of turns
+
+as_many : (s : State) (accesses : List Access) → AreAccessesOf s accesses → length (join_flags s) ≡ length accesses
+as_many s accesses are = length-map-range_with_len (has_begun s) 0 s.systems ∙ sym are.each
+
+pub order_is_settled : (s : State) (accesses : List Access) → UsesParts s → AreAccessesOf s accesses
+    → IsSettledOrder accesses s.rules (join_flags s) (settled_order s)
+unfolding settled_order
+order_is_settled s accesses uses are =
+    settled_is accesses s.rules (join_flags s) (are_in_conflict s) (as_many s accesses are)
+    (conflicts_tell s accesses are uses)
+
+pub order_among : (s : State) → IsAmong (join_flags s) (settled_order s)
+unfolding settled_order
+order_among s = settled_among s.rules (join_flags s) (are_in_conflict s)
+
+order_free : (s : State) → NoCycle s → IsAcyclic (settled_order s)
+unfolding settled_order
+order_free s free =
+    settled_no_cycle s.rules (join_flags s) (are_in_conflict s)
+    (free (join_flags s) (length-map-range_with_len (has_begun s) 0 s.systems))
+
+-- it is the turn order, where the rules make no cycle
+pub order_is : (s : State) → NoCycle s → IsTurnOrder (settled_order s) (join_flags s) (turn_order s)
+unfolding turn_order
+order_is s free = turns_are (settled_order s) (join_flags s) (order_among s) (order_free s free)
+
+-- needs are in conflict with others where those are with them
+conflict_either : (m n : Needs) → needs_conflict m n ≡ needs_conflict n m
+conflict_either m n =
+    ap (λ (test : Part → Bool). list_any test parts)
+    (λ k p. or_comm (m.writes p && needs_any n p) (n.writes p && needs_any m p) k)
+
+in_conflict : (s : State) (i j : ℕ) → i ≢ j → IsTrue (has_joined (join_flags s) i)
+    → IsTrue (has_joined (join_flags s) j) → IsTrue (are_in_conflict s i j)
+    → Path (settled_order s) i j ⊎ Path (settled_order s) j i
+unfolding settled_order
+in_conflict s i j ne at_i at_j conflict =
+    let orders = settled_orders s.rules (join_flags s) (are_in_conflict s) in
+    elim (cases_order i j) [
+      | inl same ↦ absurd (ne same)
+      | inr (inl lt) ↦ orders i j lt at_i at_j conflict
+      | inr (inr lt) ↦
+          let either = conflict_either (member_needs (s.members j)) (member_needs (s.members i)) in
+          elim (orders j i lt at_j at_i (rw either conflict)) [ inl back ↦ inr back | inr on ↦ inl on ]
+    ]
+
+-- how those that have joined are ordered
+pub are_ordered : TurnOrderIsLawful → TurnsAreInOrder
+are_ordered is_lawful s free = record {
+  no_cycle = order_free s free;
+  conflicts = in_conflict s;
+  by_number = batches_are (settled_order s) (join_flags s) (order_among s) (order_free s free);
+  turns = order_is s free;
+  once = is_lawful (settled_order s) (join_flags s) (turn_order s) (order_among s) (order_is s free);
+}
+
+-- what a plan has is the settled order, and its turns
+pub plan_order : (s : State) (accesses : List Access) (g : Graph) → UsesParts s → AreAccessesOf s accesses
+    → IsSettledOrder accesses s.rules (join_flags s) g → g ≡ settled_order s
+unfolding settled_order
+plan_order s accesses g uses are is =
+    settled_only accesses s.rules (join_flags s) (are_in_conflict s) g (as_many s accesses are)
+    (conflicts_tell s accesses are uses) is
+
+pub plan_turns : (s : State) (accesses : List Access) (g : Graph) (order : List ℕ) → UsesParts s
+    → AreAccessesOf s accesses → IsSettledOrder accesses s.rules (join_flags s) g → IsTurnOrder g (join_flags s) order
+    → order ≡ turn_order s
+unfolding turn_order
+plan_turns s accesses g order uses are is turns =
+    let same = plan_order s accesses g uses are is in
+    turns_only (settled_order s) (join_flags s) order (order_among s) (rw same at turns)
+
+-- ---- frames and then others
+
+pub run_append : (fs gs : List Frame) (s : State) → run (fs ++ gs) s
+    ≡ record {
+      state = (run gs (run fs s).state).state;
+      logs = (run fs s).logs ++ (run gs (run fs s).state).logs;
+      steps = (run fs s).steps ++ (run gs (run fs s).state).steps;
+    }
+run_append [] gs s = refl
+run_append (f ∷ fs) gs s = grind (arith, append_assoc, run_append fs gs (frame f s).state)
+
+pub run_more : (frames : List Frame) (f : Frame) (s : State) (logs : List Log) (log : Log) (m : State)
+    → (logs ≡ (run frames s).logs) × (m ≡ (run frames s).state) → log ≡ (frame f m).log
+    → (logs ++ log ∷ [] ≡ (run (frames ++ f ∷ []) s).logs)
+    × ((frame f m).state ≡ (run (frames ++ f ∷ []) s).state)
+run_more frames f s logs log m so_far one =
+    let more = run_append frames (f ∷ []) s in
+    let last = λ (u : State) (e : m ≡ u). ap (λ (v : State). (frame f v).log) e in (
+      rw (so_far.0, one, last (run frames s).state so_far.1) (sym (ap (λ (r : AfterRun). r.logs) more)),
+      ap (λ (v : State). (frame f v).state) so_far.1 ∙ sym (ap (λ (r : AfterRun). r.state) more),
+    )
+
+pub run_keeps : (fs : List Frame) (s : State) → SameSystems s (run fs s).state
+run_keeps [] s = grind arith
+run_keeps (f ∷ fs) s =
+    grind (arith, frame_keeps (turn_order (before_turns f.posts s)) f s, run_keeps fs (frame f s).state)

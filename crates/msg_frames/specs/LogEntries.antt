@@ -1,0 +1,24 @@
+-- What replies tell of a reader, where a system's rule says which op each of them answers.
+use Rattle.std.specs.Prelude.{ℕ, List, [], ◌∷◌, ◌++◌}
+use Rattle.msg_system.specs.{Prelude.Meaning, Prelude.Needs, Prelude.Rule, Prelude.if_kept, Prelude.ops_answered, declared.op.Op.Op, declared.reply.Reply.Reply}
+use Rattle.msg_frames.specs.{declared.log.Outcome.Outcome, Entries.ReadEntry, Entries.entry_for, Steps.replies_of}
+
+-- the entries for a type among the replies to these ops
+abbrev pub entries_for : ℕ → List Op → List Reply → List ReadEntry
+entries_for t (op ∷ ops) (reply ∷ replies) = entry_for t op reply ++ entries_for t ops replies
+entries_for t _ _ = []
+
+-- the ops of a system's next turn to which these are the replies
+abbrev pub ops_by : Needs → Rule → List Reply → List Op
+ops_by n rule replies = ops_answered (λ so_far. if_kept n (rule [] so_far)) replies
+
+-- The entries for a type of a system whose turns, one after the other, have these replies.
+abbrev pub entries_told : ℕ → Needs → Rule → List (List Reply) → List ReadEntry
+entries_told t n rule [] = []
+entries_told t n rule (replies ∷ turns) =
+    entries_for t (ops_by n rule replies) replies
+    ++ entries_told t n (λ later now. rule (replies ∷ later) now) turns
+
+-- the entries for a type of a system whose turn came out so
+abbrev pub outcome_entries : ℕ → Meaning → Outcome → List ReadEntry
+outcome_entries t m outcome = entries_told t m.needs m.rule (replies_of outcome)
