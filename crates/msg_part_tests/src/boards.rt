@@ -8,6 +8,7 @@ mod out_of_memory;
 use msg_board::{Board, NoMemory, Pass, Work};
 use std::alloc::Global;
 use std::panic::Expect;
+use std::process::Abort;
 use std::thread;
 use std::thread::Threads;
 
@@ -80,6 +81,60 @@ fn threads_draw_jobs(rt: HostRuntime) {
         assert_eq!(rt; results.len(), n as usize);
         assert!(rt; results.iter().enumerate().all(|(i, x)| *x == i as u64 + 1));
     }
+}
+
+/// Draws the next job, which has this number, and hands in its successor.
+fn run_next(rt: &impl Abort, board: &Board<AddOne>, pass: &mut Pass<u32, u64>, number: usize)
+    requires idle { IsIdle board.now pass.old }
+    ensures idle { IsIdle board.now pass.new }
+{
+    let Some((k, job)) = board.draw(pass) else {
+        panic!(rt; "job {number}")
+    };
+    assert_eq!(rt;
+        (k, pass.holding(), pass.is_finished()),
+        (number, Some(number), false)
+    );
+    board.hand_in(pass, k, AddOne::run(job));
+    assert_eq!(rt; pass.holding(), None);
+}
+
+/// Draws None, twice.
+fn end(rt: &impl Abort, board: &Board<AddOne>, pass: &mut Pass<u32, u64>)
+    requires idle { IsIdle board.now pass.old }
+    ensures ended { HasEnded board.now pass.new }
+{
+    assert!(rt; board.draw(pass).is_none());
+    assert!(rt; pass.is_finished() && pass.holding().is_none());
+    assert!(rt; board.draw(pass).is_none());
+    assert!(rt; pass.is_finished());
+}
+
+/// The second of two passes holds a job while the first draws all others.
+#[test]
+fn two_passes_and_three_jobs(rt: HostRuntime) {
+    let jobs = vec![in rt.alloc(); 10, 20, 30].expect(&rt, "jobs");
+    let board = Board::<AddOne>::new(rt.alloc(), jobs, 2).expect(&rt, "a board");
+    let (board, mut passes) = board;
+    let (Some(mut b), Some(mut a)) = (passes.pop(), passes.pop()) else {
+        panic!(rt; "two passes")
+    };
+    let Some((0, 10)) = board.draw(&mut a) else {
+        panic!(rt; "the first job")
+    };
+    let Some((1, 20)) = board.draw(&mut b) else {
+        panic!(rt; "the second job")
+    };
+    board.hand_in(&mut a, 0, 11);
+    run_next(&rt, &board, &mut a, 2);
+    end(&rt, &board, &mut a);
+    assert_eq!(rt; b.holding(), Some(1));
+    board.hand_in(&mut b, 1, 21);
+    end(&rt, &board, &mut b);
+    passes.push(a).expect(&rt, "a list");
+    passes.push(b).expect(&rt, "a list");
+    let results = board.close(rt.alloc(), passes).expect(&rt, "results");
+    assert_eq!(rt; results.as_slice(), [11, 21, 31].as_slice());
 }
 
 /// A board without jobs, over another allocator than `Global`.

@@ -1,4 +1,6 @@
 // Buffers: what calls files can't show, and the texts of refusals.
+mod out_of_memory;
+
 use msg_buffer::laws::{
     histories_only_grow, messages_outlive_one_update, readers_tile, reads_may_be_left,
 };

@@ -1,7 +1,10 @@
 // Plans of worked rules and accesses.
+mod out_of_memory;
+
 use crate::numbers::of_types as uses;
 use msg_order::{Plan, PlanRefusal, Rule, lowest_on_cycle};
 use msg_world::Access;
+use std::alloc::Global;
 use std::panic::Expect;
 
 fn has_batches(plan: &Plan, want: &[&[u32]]) -> bool {
@@ -35,12 +38,17 @@ fn a_settled_pair_leaves_the_next_no_choice(rt: HostRuntime) {
     assert!(rt; plan.precedes(2, 1));
 }
 
-#[test]
-fn rules_against_the_order_of_addition(rt: HostRuntime) {
+/// The plan of two writers and their readers, where each reader runs before the other's writer.
+fn contradictory_plan(alloc: Global) -> Result<Plan, PlanRefusal> {
     let accesses = [uses(0, 1), uses(0, 2), uses(2, 0), uses(1, 0)];
     let rules = [Rule::before(3, 1), Rule::after(0, 2)];
-    assert_eq!(rt; rules[1], Rule::before(2, 0));
-    let plan = Plan::build(rt.alloc(), &accesses, &rules, &[true; 4]).expect(&rt, "a plan");
+    Plan::build(alloc, &accesses, &rules, &[true; 4])
+}
+
+#[test]
+fn rules_against_the_order_of_addition(rt: HostRuntime) {
+    assert_eq!(rt; Rule::after(0, 2), Rule::before(2, 0));
+    let plan = contradictory_plan(rt.alloc()).expect(&rt, "a plan");
     assert!(rt; has_batches(&plan, &[&[2], &[0], &[3], &[1]]));
     assert!(rt; plan.precedes(2, 1));
     assert!(rt; !plan.precedes(1, 2));
@@ -60,13 +68,15 @@ fn a_cycle_of_rules_names_its_lowest_system(rt: HostRuntime) {
     assert!(rt; matches!(&around, Err(PlanRefusal::Cycle(0))));
     let own = Plan::build(rt.alloc(), &idle, &[Rule::before(1, 1)], &[true; 2]);
     assert!(rt; matches!(&own, Err(PlanRefusal::Cycle(1))));
-    let Err(refusal) = own else {
-        panic!(rt; "a system can't run before itself");
-    };
-    let text = format!(in rt.alloc(); "{refusal}").expect(&rt, "a text");
+}
+
+#[test]
+fn refusals_say_why(rt: HostRuntime) {
+    let (cycle, refused) = (PlanRefusal::Cycle(1), PlanRefusal::NoMemory);
+    let texts = format!(in rt.alloc(); "{cycle}; {refused}").expect(&rt, "texts");
     assert_eq!(rt;
-        text.as_str(),
-        "the rules go round in a circle through system 1"
+        texts.as_str(),
+        "the rules go round in a circle through system 1; want of memory"
     );
 }
 

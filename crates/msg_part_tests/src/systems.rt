@@ -1,5 +1,6 @@
 // Programs, and the three kinds of systems.
 mod boxes;
+mod out_of_memory;
 
 use crate::numbers::{res_no, type_no};
 use msg_system::{Items, Op, Program, Start};

@@ -1,6 +1,8 @@
 // Lending, posts and held updates of worlds.
 ghost use Rattle.msg_world.specs.Prelude.{IsWhole, SameLoan, SameShape};
 
+mod out_of_memory;
+
 use crate::numbers::{res_no, type_no};
 use msg_buffer::{MessageId, WriteRefusal};
 use msg_world::laws::{

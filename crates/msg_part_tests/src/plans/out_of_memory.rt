@@ -1,0 +1,29 @@
+// Where there is no memory for a plan there is none, and the same call gives it once memory is
+// there.
+use super::{contradictory_plan, has_batches};
+use crate::outcome::tell;
+use msg_order::PlanRefusal;
+use std::alloc::Global;
+use std::process::Abort;
+use std::test::Fail;
+
+/// Whether the plan was refused memory.
+fn is_refused(rt: &impl Abort, alloc: Global) -> bool {
+    match contradictory_plan(alloc) {
+        Ok(plan) => {
+            assert!(rt; has_batches(&plan, &[&[2], &[0], &[3], &[1]]));
+            false
+        }
+        Err(PlanRefusal::NoMemory) => true,
+        Err(PlanRefusal::Cycle(_)) => panic!(rt; "the rules make no cycle"),
+    }
+}
+
+#[test]
+fn contradictory_order(rt: HostRuntime) -> Result<(), Fail> {
+    let is_first_refused = is_refused(&rt, rt.alloc());
+    if is_first_refused {
+        assert!(rt; !is_refused(&rt, rt.alloc()));
+    }
+    tell(&rt, is_first_refused)
+}
