@@ -13,7 +13,7 @@ use Rattle.msg_files.specs.declared.reason.Reason.TheVariants as reason
 -- every key is known; else the first that isn't is told
 abbrev pub known_among : (Text → Bool) → List Text → Reading ⊤
 known_among known names = elim (position (λ name. not (known name)) names) [
-    None ↦ Ok tt
+  | None ↦ Ok tt
   | Some n ↦ Err (record { reason = reason.UnknownKey; location = record here { member = Some n } })
 ]
 

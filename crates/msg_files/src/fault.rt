@@ -25,7 +25,6 @@ impl Fault {
             location: Location::here(),
         }
     }
-
 }
 
 impl From<NoMemory> for Fault {

@@ -76,7 +76,9 @@ fn first_unknown<K: Keys>(members: &Map<String, Value>) -> Option<usize>
 pub fn needed(value: &Value, key: Key) -> Result<&Value, Fault>
     ensures found { value_seen result ≡ at_key key (view value.now) }
 {
-    value.get(key.text()).ok_or(Fault::here(Reason::Missing(key)))
+    value
+        .get(key.text())
+        .ok_or(Fault::here(Reason::Missing(key)))
 }
 
 /// The elements of a list that has at most so many.

@@ -1,11 +1,3 @@
--- lists of a file, by their parts and by their elements
-pub mod ListsByParts
-pub mod NamedElements
--- names, ops, conditions and systems
+-- names and conditions
 pub mod NamesInOrder
 pub mod ConditionsAreRead
-pub mod SystemsAreRead
--- what is known of a scenario that was read: it can be run
-pub mod ChecksThatPass
-pub mod WhatIsUsedIsThere
-pub mod ReadScenarioRuns

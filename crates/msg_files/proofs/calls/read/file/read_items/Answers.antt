@@ -15,4 +15,4 @@ loop-number-preserved c =
     let is = rw (← item.is) at (drop_more c.args.items.now _ item.result c.loop-number-test.true) in
     let read = c.in_ok-call.ensures in
     rw (c.in_ok-push.ensures.items, c.cursors_made-made.ensures)
-        (calls_more _ _ _ _ c.loop-number.invariant _ is _ read.call read.fits)
+    (calls_more _ _ _ _ c.loop-number.invariant _ is _ read.call read.fits)
