@@ -1,3 +1,4 @@
--- names and conditions
+-- lists, names and conditions
+pub mod ListsInTurn
 pub mod NamesInOrder
 pub mod ConditionsAreRead

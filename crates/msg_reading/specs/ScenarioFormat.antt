@@ -1,5 +1,5 @@
 -- A scenario file, read from a JSON value.
-use Rattle.std.specs.Prelude.{ℕ, ◌+◌, zero, suc, ℤ, ◌||◌, ⊤, nat_le, Bool, List, [], ◌∷◌, ◌++◌, Option, Some, None, Ok, Err, codes, option_and_then, unwrap_or, if◌then◌else◌}
+use Rattle.std.specs.Prelude.{ℕ, ◌+◌, zero, suc, ℤ, ◌||◌, ⊤, nat_le, Bool, false, List, [], ◌∷◌, ◌++◌, Option, Some, None, Ok, Err, codes, option_and_then, unwrap_or, if◌then◌else◌}
 use Rattle.std.specs.Str.{bytes_eq}
 use Rattle.serde_json.specs.Data.{Data, Num, array, boolean, no_items, number, string, unsigned}
 use Rattle.serde_json.specs.Find.{as_bool, as_i64, as_str, get}
@@ -20,7 +20,7 @@ use Rattle.msg_reading.specs.Names.{Declared, position_of, resource_number, syst
 -- ---- lists
 
 -- the elements in order, the first of which is number n, each where the names of those before it
--- are declared
+-- are declared; and the names that are declared then
 abbrev pub each_from : {A : Type 0} → (Declared → ℕ → Data → Reading (A × Declared))
     → Declared → ℕ → List Data → Reading (List A × Declared)
 each_from f names n [] = Ok ([], names)
@@ -274,12 +274,15 @@ probe_with names nots head (d ∷ e ∷ []) =
     else in_nots nots (fails reason.Parts)
 probe_with names nots head (d ∷ e ∷ f ∷ rest) = in_nots nots (fails reason.Parts)
 
--- a condition; no JSON text nests as deep as 128 `not`s
+-- what is asked for inside so many `not`s
+abbrev pub probe_in : Declared → ℕ → Data → Reading Probe
+probe_in names nots d = in_nots nots (headed d) >>= λ h. probe_with names nots h.0 h.1
+
+-- a condition: a probe, and the `not`s round it; no JSON text nests as deep as 128 of them
 abbrev pub condition_of : Declared → Data → Reading Condition
 condition_of names d =
     let nots = nots_round 128 d in
-    in_nots nots (headed (inside_nots 128 d)) >>= λ h.
-    probe_with names nots h.0 h.1 >>= λ probe.
+    probe_in names nots (inside_nots 128 d) >>= λ probe.
     Ok (record { nots = nots; probe = probe })
 
 -- ---- keys that may be absent
@@ -326,20 +329,19 @@ abbrev pub op_at : Declared → ℕ → Data → Reading (Op × Declared)
 op_at names n d = keeping names (in_item n (op_of names d))
 
 -- the ops of a system of this kind: at most 64, and those of the kind
-abbrev pub ops_of : Declared → Kind → Data → Reading (List Op)
+abbrev pub ops_of : Declared → Kind → Data → Reading (List Op × Declared)
 ops_of names kind d =
     each_of 64 op_at names d >>= λ x.
     wanted (fits_kind kind x.0) reason.NotOfKind >>= λ _.
-    Ok x.0
+    Ok x
 
 -- condition n of a system
 abbrev pub condition_at : Declared → ℕ → Data → Reading (Condition × Declared)
 condition_at names n d = keeping names (in_item n (condition_of names d))
 
 -- the conditions of a system: at most 8, and none if there is no list of them
-abbrev pub conditions_of : Declared → Data → Reading (List Condition)
-conditions_of names d =
-    each_of 8 condition_at names (value_or key.If nothing d) >>= λ x. Ok x.0
+abbrev pub conditions_of : Declared → Data → Reading (List Condition × Declared)
+conditions_of names d = each_of 8 condition_at names (value_or key.If nothing d)
 
 -- a number, if it isn't 0
 abbrev pub from_one : ℕ → Option ℕ
@@ -367,24 +369,20 @@ with_system names name = record names { systems = names.systems ++ name ∷ [] }
 abbrev pub system_name : Declared → Data → Reading Text
 system_name names d = text_in d >>= new_name names.systems
 
--- a text; of a value that is none, the empty one
-abbrev pub text_or_none : Data → Text
-text_or_none d = unwrap_or (as_str d) []
-
 -- all of a system but its name
-abbrev pub program_of : Declared → Text → Data → Data → Reading SystemSpec
+abbrev pub program_of : Declared → Text → Data → Data → Reading (SystemSpec × Declared)
 program_of names name ops d =
     in_key key.Kind (kind_of d) >>= λ kind.
     in_key key.Ops (ops_of names kind ops) >>= λ ops.
-    in_key key.If (conditions_of names d) >>= λ conditions.
+    in_key key.If (conditions_of ops.1 d) >>= λ conditions.
     in_key key.Join (join_of d) >>= λ join.
     in_key key.Start (start_of d) >>= λ start.
     Ok (record {
       name = name;
       kind = kind;
-      program = record { ops = ops; start = start };
-      place = record { conditions = conditions; join = join };
-    })
+      program = record { ops = ops.0; start = start };
+      place = record { conditions = conditions.0; join = join };
+    }, conditions.1)
 
 -- a system, which declares its name: an object with a name and ops
 abbrev pub system_of : Declared → Data → Reading (SystemSpec × Declared)
@@ -393,8 +391,7 @@ system_of names d =
     at_key key.Name d >>= λ name.
     at_key key.Ops d >>= λ ops.
     in_key key.Name (system_name names name) >>= λ name.
-    program_of (with_system names name) name ops d >>= λ system.
-    Ok (system, with_system names name)
+    program_of (with_system names name) name ops d
 
 -- ---- rules and frames
 
@@ -416,8 +413,8 @@ abbrev pub post_at : Declared → ℕ → Data → Reading ((ℕ × ℤ) × Decl
 post_at names n d = keeping names (in_item n (post_of names d))
 
 -- a frame: at most 1,024 posts
-abbrev pub frame_of : Declared → Data → Reading Frame
-frame_of names d = each_of 1024 post_at names d >>= λ x. Ok (record { posts = x.0 })
+abbrev pub frame_of : Declared → Data → Reading (Frame × Declared)
+frame_of names d = each_of 1024 post_at names d >>= λ x. Ok (record { posts = x.0 }, x.1)
 
 -- ---- the file
 
@@ -439,7 +436,7 @@ rule_at names n d = keeping names (in_element n (rule_of names d))
 
 -- frame n
 abbrev pub frame_at : Declared → ℕ → Data → Reading (Frame × Declared)
-frame_at names n d = keeping names (in_element n (frame_of names d))
+frame_at names n d = in_element n (frame_of names d)
 
 -- the keys that a scenario file may have
 abbrev pub is_root_key : Text → Bool
@@ -453,8 +450,8 @@ abbrev pub no_names : Declared
 no_names = record { types = []; resources = []; systems = [] }
 
 -- the types: at most 64
-unfoldable pub types_of : Data → Reading (List (Text × ℕ) × Declared)
-types_of d = in_section key.Types (each_of 64 type_at no_names d)
+unfoldable pub types_of : Declared → Data → Reading (List (Text × ℕ) × Declared)
+types_of names d = in_section key.Types (each_of 64 type_at names d)
 
 -- the resources: at most 64
 unfoldable pub resources_of : Declared → Data → Reading (List (Text × ℤ) × Declared)
@@ -470,30 +467,30 @@ unfoldable pub systems_of : Declared → Data → Reading (List SystemSpec × De
 systems_of names d = in_section key.Systems (each_of 256 system_at names d)
 
 -- the rules: at most 1,024
-unfoldable pub rules_of : Declared → Data → Reading (List Rule)
+unfoldable pub rules_of : Declared → Data → Reading (List Rule × Declared)
 rules_of names d =
-    in_section key.Rules (each_of 1024 rule_at names (value_or key.Rules nothing d)) >>= λ x. Ok x.0
+    in_section key.Rules (each_of 1024 rule_at names (value_or key.Rules nothing d))
 
 -- the frames: at most 10,000
-unfoldable pub frames_of : Declared → Data → Reading (List Frame)
-frames_of names d = in_section key.Frames (each_of 10000 frame_at names d) >>= λ x. Ok x.0
+unfoldable pub frames_of : Declared → Data → Reading (List Frame × Declared)
+frames_of names d = in_section key.Frames (each_of 10000 frame_at names d)
 
 -- the sections of a file one after another, where those that it needs are these
 abbrev pub in_turn : Data → Data → Data → Data → Reading Scenario
 in_turn types systems frames d =
-    types_of types >>= λ types.
+    types_of no_names types >>= λ types.
     resources_of types.1 d >>= λ resources.
     held_of d >>= λ held.
     systems_of resources.1 systems >>= λ systems.
     rules_of systems.1 d >>= λ rules.
-    frames_of systems.1 frames >>= λ frames.
+    frames_of rules.1 frames >>= λ frames.
     Ok (record {
       types = types.0;
       resources = resources.0;
       held = held;
       systems = systems.0;
-      rules = rules;
-      frames = frames;
+      rules = rules.0;
+      frames = frames.0;
     })
 
 -- a scenario: an object with types, systems and frames, and with no other keys than those of

@@ -25,17 +25,18 @@ impl Element for Condition {
         n: usize,
         value: &Value,
     ) -> Result<Condition, Fault> {
-        in_item(n, read_condition(names, value))
+        let (nots, inside) = inside_nots(value);
+        let probe = in_item(n, probe_in(names, nots, inside))?;
+        Ok(Condition { nots, probe })
     }
 }
 
-fn read_condition(names: &Declarations, value: &Value) -> Result<Condition, Fault>
-    ensures reads { result ≡ Spec.condition_of names.now (view value.now) }
+/// What is asked for inside so many `not`s.
+fn probe_in(names: &Declarations, nots: u8, inside: &Value) -> Result<Probe, Fault>
+    ensures reads { result ≡ Spec.probe_in names.now nots (view inside.now) }
 {
-    let (nots, inside) = inside_nots(value);
     let (head, parts) = in_nots(nots, head_and_parts(inside))?;
-    let probe = read_probe(names, nots, head, parts)?;
-    Ok(Condition { nots, probe })
+    read_probe(names, nots, head, parts)
 }
 
 /// How many `not`s there are round a value, and what is inside.

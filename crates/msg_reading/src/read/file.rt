@@ -1,5 +1,5 @@
 // The sections of a scenario file, one after another.
-ghost use Rattle.std.specs.Prelude.{◌≡◌, OnOk};
+ghost use Rattle.std.specs.Prelude.{◌≡◌};
 ghost use Rattle.serde_json.specs.View.{view};
 ghost use Rattle.msg_files.specs.Prelude.{Reads};
 ghost use Rattle.msg_reading.specs.ScenarioFormat as Spec;
@@ -52,8 +52,9 @@ fn read_in_turn(
     file: &Value,
 ) -> Result<Scenario, Fault>
     requires none { names.old ≡ Spec.no_names }
-    ensures reads { Reads (Spec.in_turn (view sections.types.now) (view sections.systems.now)
-        (view sections.frames.now) (view file.now)) result }
+    ensures reads { Reads (Spec.in_turn (view sections.entry.types.now)
+        (view sections.entry.systems.now) (view sections.entry.frames.now) (view file.now))
+        result }
 {
     let types = read_types(alloc, names, sections.types)?;
     let resources = read_resources(alloc, names, file)?;
@@ -91,8 +92,7 @@ fn read_types(
     names: &mut Declarations,
     types: &Value,
 ) -> Result<Items<(Name, u64)>, Fault>
-    requires none { names.old ≡ Spec.no_names }
-    ensures reads { ReadsWith (Spec.types_of (view types.now)) names.new result }
+    ensures reads { ReadsWith (Spec.types_of names.old (view types.now)) names.new result }
 {
     in_section(Key::Types, read_list(alloc, names, types, MAX_TYPES))
 }
@@ -136,8 +136,7 @@ fn read_systems(
 
 #[tactic(auto, unfolding(crate::specs::ScenarioFormat::rules_of))]
 fn read_rules(alloc: Global, names: &mut Declarations, file: &Value) -> Result<Items<Rule>, Fault>
-    ensures reads { Reads (Spec.rules_of names.old (view file.now)) result }
-    ensures same { OnOk result (names.new ≡ names.old) }
+    ensures reads { ReadsWith (Spec.rules_of names.old (view file.now)) names.new result }
 {
     let list = file.get(Key::Rules.text());
     let rules = read_list_if_there(alloc, names, list, MAX_RULES);
@@ -150,7 +149,7 @@ fn read_frames(
     names: &mut Declarations,
     frames: &Value,
 ) -> Result<Items<Frame>, Fault>
-    ensures reads { Reads (Spec.frames_of names.old (view frames.now)) result }
+    ensures reads { ReadsWith (Spec.frames_of names.old (view frames.now)) names.new result }
 {
     in_section(Key::Frames, read_list(alloc, names, frames, MAX_FRAMES))
 }

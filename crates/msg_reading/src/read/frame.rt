@@ -1,8 +1,7 @@
 // One frame: a list of posts, each a type and a value.
-ghost use Rattle.std.specs.Prelude.{◌≡◌, OnOk};
+ghost use Rattle.std.specs.Prelude.{◌≡◌};
 ghost use Rattle.serde_json.specs.View.{view};
-ghost use Rattle.msg_files.specs.Prelude.{Reads};
-ghost use Rattle.msg_reading.specs.ScenarioFormat.{frame_at, frame_of, post_at, post_of};
+ghost use Rattle.msg_reading.specs.{ScenarioFormat.frame_at, ScenarioFormat.frame_of, ScenarioFormat.post_at, ScenarioFormat.post_of, inner.Elements.ReadsWith};
 
 use crate::Fault;
 use crate::limits::MAX_POSTS;
@@ -29,8 +28,7 @@ impl Element for Frame {
 }
 
 fn read_frame(alloc: Global, names: &mut Declarations, value: &Value) -> Result<Frame, Fault>
-    ensures reads { Reads (frame_of names.old (view value.now)) result }
-    ensures same { OnOk result (names.new ≡ names.old) }
+    ensures reads { ReadsWith (frame_of names.old (view value.now)) names.new result }
 {
     let posts = read_list(alloc, names, value, MAX_POSTS)?;
     Ok(Frame { posts })

@@ -1,13 +1,14 @@
 // A system's conditions, the frame that it joins with, and where its cursors start.
-ghost use Rattle.std.specs.Prelude.{◌≡◌, OnOk};
+ghost use Rattle.std.specs.Prelude.{◌≡◌};
 ghost use Rattle.serde_json.specs.View.{view, number_view};
-ghost use Rattle.msg_files.specs.Prelude.{Reads};
-ghost use Rattle.msg_reading.specs.ScenarioFormat.{conditions_of, join_number, join_of, start_of};
+ghost use Rattle.msg_files.specs.Prelude.{in_key};
+ghost use Rattle.msg_reading.specs.{ScenarioFormat.conditions_of, ScenarioFormat.join_number, ScenarioFormat.join_of, ScenarioFormat.start_of, inner.Elements.ReadsWith};
 
 use crate::Fault;
 use crate::limits::MAX_CONDITIONS;
 use crate::read::list::read_list_if_there;
 use crate::read::names::Declarations;
+use msg_files::fault::in_key;
 use msg_files::numbers::number;
 use msg_files::{Key, Reason};
 use msg_frames::Items;
@@ -17,13 +18,24 @@ use serde_json::{Number, Value};
 use std::alloc::Global;
 
 /// The conditions of a system.
+#[tactic(auto, using(crate::proofs::ListsInTurn::ReadsWith_inside))]
 pub fn read_conditions(
     alloc: Global,
     names: &mut Declarations,
     system: &Value,
 ) -> Result<Items<Condition>, Fault>
-    ensures reads { Reads (conditions_of names.old (view system.now)) result }
-    ensures same { OnOk result (names.new ≡ names.old) }
+    ensures reads { ReadsWith (in_key Key.If (conditions_of names.old (view system.now)))
+        names.new result }
+{
+    in_key(Key::If, conditions_in(alloc, names, system))
+}
+
+fn conditions_in(
+    alloc: Global,
+    names: &mut Declarations,
+    system: &Value,
+) -> Result<Items<Condition>, Fault>
+    ensures reads { ReadsWith (conditions_of names.old (view system.now)) names.new result }
 {
     read_list_if_there(alloc, names, system.get(Key::If.text()), MAX_CONDITIONS)
 }

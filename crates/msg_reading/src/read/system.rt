@@ -1,7 +1,7 @@
 // One system: its name, its kind and program, and its conditions, join and start.
-ghost use Rattle.std.specs.Prelude.{◌≡◌, OnOk};
+ghost use Rattle.std.specs.Prelude.{◌≡◌, IfOk};
 ghost use Rattle.serde_json.specs.View.{view};
-ghost use Rattle.msg_files.specs.Prelude.{Reads};
+ghost use Rattle.msg_files.specs.Prelude.{Reads, in_key};
 ghost use Rattle.msg_reading.specs.ScenarioFormat as Spec;
 ghost use Rattle.msg_reading.specs.inner.Elements.{ReadsWith};
 
@@ -37,7 +37,7 @@ fn read_system(alloc: Global, names: &mut Declarations, value: &Value) -> Result
     check_keys::<SystemKeys>(value)?;
     let name = needed(value, Key::Name)?;
     let ops = needed(value, Key::Ops)?;
-    let name = in_key(Key::Name, read_name(alloc, names, name))?;
+    let name = read_name(alloc, names, name)?;
     read_program(alloc, names, name, ops, value)
 }
 
@@ -52,10 +52,17 @@ impl Keys for SystemKeys {
     }
 }
 
+#[tactic(auto, using(msg_files::proofs::WalksOverLists::Reads_inside))]
 fn read_name(alloc: Global, names: &mut Declarations, name: &Value) -> Result<Name, Fault>
+    ensures reads { Reads (in_key Key.Name (Spec.system_name names.old (view name.now))) result }
+    ensures declares { IfOk result (λ text. names.new ≡ Spec.with_system names.old text) }
+{
+    in_key(Key::Name, name_in(alloc, names, name))
+}
+
+fn name_in(alloc: Global, names: &mut Declarations, name: &Value) -> Result<Name, Fault>
     ensures reads { Reads (Spec.system_name names.old (view name.now)) result }
-    ensures declares { OnOk result
-        (names.new ≡ Spec.with_system names.old (Spec.text_or_none (view name.now))) }
+    ensures declares { IfOk result (λ text. names.new ≡ Spec.with_system names.old text) }
 {
     let name = text(name)?;
     names.declare_system(alloc, name)
@@ -69,12 +76,12 @@ fn read_program(
     ops: &Value,
     system: &Value,
 ) -> Result<SystemSpec, Fault>
-    ensures reads { Reads (Spec.program_of names.old name (view ops.now) (view system.now)) result }
-    ensures same { OnOk result (names.new ≡ names.old) }
+    ensures reads { ReadsWith (Spec.program_of names.old name (view ops.now) (view system.now))
+        names.new result }
 {
     let kind = in_key(Key::Kind, read_kind(system))?;
-    let ops = in_key(Key::Ops, read_ops(alloc, names, kind, ops))?;
-    let conditions = in_key(Key::If, read_conditions(alloc, names, system))?;
+    let ops = read_ops(alloc, names, kind, ops)?;
+    let conditions = read_conditions(alloc, names, system)?;
     let join = in_key(Key::Join, read_join(system))?;
     let start = in_key(Key::Start, read_start(system))?;
     Ok(SystemSpec {
@@ -100,14 +107,26 @@ fn read_kind(system: &Value) -> Result<Kind, Fault>
 }
 
 /// The ops of a system of this kind.
+#[tactic(auto, using(crate::proofs::ListsInTurn::ReadsWith_inside))]
 fn read_ops(
     alloc: Global,
     names: &mut Declarations,
     kind: Kind,
     ops: &Value,
 ) -> Result<Items<Op>, Fault>
-    ensures reads { Reads (Spec.ops_of names.old kind (view ops.now)) result }
-    ensures same { OnOk result (names.new ≡ names.old) }
+    ensures reads { ReadsWith (in_key Key.Ops (Spec.ops_of names.old kind (view ops.now)))
+        names.new result }
+{
+    in_key(Key::Ops, ops_in(alloc, names, kind, ops))
+}
+
+fn ops_in(
+    alloc: Global,
+    names: &mut Declarations,
+    kind: Kind,
+    ops: &Value,
+) -> Result<Items<Op>, Fault>
+    ensures reads { ReadsWith (Spec.ops_of names.old kind (view ops.now)) names.new result }
 {
     let ops: Items<Op> = read_list(alloc, names, ops, MAX_OPS)?;
     if !kind.fits(ops.as_slice()) {
