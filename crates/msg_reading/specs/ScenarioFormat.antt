@@ -377,12 +377,15 @@ program_of names name ops d =
     in_key key.If (conditions_of ops.1 d) >>= λ conditions.
     in_key key.Join (join_of d) >>= λ join.
     in_key key.Start (start_of d) >>= λ start.
-    Ok (record {
-      name = name;
-      kind = kind;
-      program = record { ops = ops.0; start = start };
-      place = record { conditions = conditions.0; join = join };
-    }, conditions.1)
+    Ok (
+      record {
+        name = name;
+        kind = kind;
+        program = record { ops = ops.0; start = start };
+        place = record { conditions = conditions.0; join = join };
+      },
+      conditions.1,
+    )
 
 -- a system, which declares its name: an object with a name and ops
 abbrev pub system_of : Declared → Data → Reading (SystemSpec × Declared)

@@ -15,4 +15,4 @@ loop-n-preserved g c =
     let item = c.index-items-n in
     let is = rw (← item.is) at (drop_more c.args.items.now _ item.result c.loop-n-test.true) in
     rw c.in_ok-push.ensures.items
-        (element_more _ _ _ _ _ _ c.loop-n.invariant _ is _ _ c.in_ok-element.ensures.reads)
+    (element_more _ _ _ _ _ _ c.loop-n.invariant _ is _ _ c.in_ok-element.ensures.reads)
