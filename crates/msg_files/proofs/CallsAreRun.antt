@@ -4,7 +4,8 @@ use Rattle.std.proofs.lemmas.{List.drop_more, Grind.common_steps}
 use Rattle.std.specs.Io.KnownBytes.{Appends}
 use Rattle.std.proofs.KnownBytes.{Appends-trans}
 use Rattle.msg_buffer.specs.Prelude.{Kept}
-use Rattle.msg_files.specs.Prelude.{AppendsPrefix, AreIn, Call, BufferState, TakesFront, after, cursors_exist, line, made_by, text_of}
+use Rattle.msg_files.specs.inner.Running.{AreIn, TakesFront}
+use Rattle.msg_files.specs.Prelude.{AppendsPrefix, Call, BufferState, after, cursors_exist, line, made_by, text_of}
 use Rattle.msg_files.proofs.Puts.{AppendsPrefix_after}
 
 -- a call makes as many places as it makes cursors

@@ -1,6 +1,6 @@
--- reading a calls file: lists of JSON values, and what the checks of a value come to
+-- reading a file: lists of JSON values, element by element
 pub mod WalksOverLists
-pub mod HeadedLists
+pub mod FaultsOfFiles
 -- its calls, one after another, and their text
 pub mod ItemsInLines
 pub mod Digits

@@ -1,9 +1,10 @@
 -- One step of a walk over a list of JSON values.
-use Rattle.std.proofs.Common.{◌≡◌, ℕ, ◌≤◌, List, [], ◌∷◌, ◌++◌, drop, refl, ap, arith, Some, Bool, map, string_bytes, String, ℤ, ◌&&◌}
-use Rattle.std.proofs.lemmas.List.{length-map, Folds.list_all-map}
-use Rattle.std.specs.{List.list_all, Option.option_or, declared.alloc.Global.Global}
-use Rattle.serde_json.specs.{Data.Data, View.view, View.items_of, View.members_view, declared.value.Value.Value}
-use Rattle.msg_files.specs.Prelude.{Call, Check, a_value, all_some, call_of, calls_checks, cursors_exist, first_refusal, keys_of, list_of, whole}
+use Rattle.std.proofs.Common.{◌≡◌, ℕ, ◌-◌, ◌≤◌, List, [], ◌∷◌, ◌++◌, ◌+◌, ◌⊎◌, inl, inr, append_assoc, Err, take, drop, get_or, length, refl, sym, ap, ◌∙◌, arith, Bool, not, map, string_bytes, String, ℤ, position, Ok, Some, Option, option_map, unwrap_or}
+use Rattle.std.proofs.lemmas.List.{length-append, length-map, take_all, Folds.list_all-map}
+use Rattle.std.specs.declared.alloc.Global.{Global}
+use Rattle.serde_json.specs.{Data.Data, Find.as_array, View.view, View.items_of, View.items_view, View.members_view, declared.value.Value.Value}
+use Rattle.msg_files.specs.Prelude.{Call, Reading, Reads, call_of, calls_from, cursors_exist, elements, in_element, inside, keys_of, list_of, made_by, values_from, ◌>>=◌}
+use Rattle.msg_files.specs.{declared.fault.Fault.Fault, declared.location.Location.Location, inner.Cursors.FitsCursors}
 
 -- ---- lists in serde_json's form, and in ours
 
@@ -12,44 +13,72 @@ pub list_of-items_of : (ds : List Data) → list_of (items_of ds) ≡ ds
 list_of-items_of [] = refl
 list_of-items_of (d ∷ ds) = ap (λ l. d ∷ l) (list_of-items_of ds)
 
--- a test of each key
-pub list_all-keys : (p : List ℕ → Bool) (ms : List (String Global × Value))
-    → list_all p (keys_of (members_view ms)) ≡ list_all (λ m. p (string_bytes m.0)) ms
-list_all-keys p [] = refl
-list_all-keys p (m ∷ ms) = ap (λ b. p (string_bytes m.0) && b) (list_all-keys p ms)
-
--- where each has a value, all have
-pub all_some-map : {A : Type 0} (xs : List A) → all_some (map (λ x. Some x) xs) ≡ Some xs
-all_some-map [] = refl
-all_some-map (x ∷ xs) = rw (all_some-map xs) refl
+-- the first key that isn't known
+pub position-keys : (p : List ℕ → Bool) (ms : List (String Global × Value))
+    → position p (keys_of (members_view ms)) ≡ position (λ m. p (string_bytes m.0)) ms
+position-keys p [] = refl
+position-keys p (m ∷ ms) = grind (arith, position-keys p ms)
 
 -- steps that the check takes by itself
-pub ruleset list_steps = (list_of-items_of, list_all-keys, all_some-map, list_all-map, length-map)
+pub ruleset list_steps = (list_of-items_of, position-keys, list_all-map, length-map)
 
--- ---- checks one after another
+-- the elements of a list, as its items are seen
+pub elements_are : (d : Data) (xs : List Value) → Some (items_view xs) ≡ as_array d → elements d ≡ map view xs
+elements_are d xs e =
+    ap (λ o. unwrap_or (option_map list_of o) []) (sym e) ∙ list_of-items_of (map view xs)
 
--- a refusal of the first, or else of the second
-pub refusal_of_both : (cs ds : List Check)
-    → first_refusal (cs ++ ds) ≡ option_or (first_refusal cs) (first_refusal ds)
-refusal_of_both [] ds = refl
-refusal_of_both (c ∷ cs) ds = grind (arith, refusal_of_both cs ds)
+-- a list is its first item and the range of the others
+pub first_and_rest : (d : Data) (xs : List Value) (v : Value) → Some (items_view xs) ≡ as_array d → 1 ≤ length xs
+    → v ≡ get_or xs 0 v → elements d ≡ view v ∷ map view (take (length xs - 1) (drop 1 xs))
+first_and_rest d [] v list least is = absurd (omega (arith, least))
+first_and_rest d (x ∷ xs) v list least is =
+    rw (elements_are d (x ∷ xs) list, take_all (length (x ∷ xs) - 1) xs (omega arith), is) refl
 
--- ---- the values of a batch
+-- ---- what was read, before what is left
 
--- the values so far passed their checks, and those from i on are left
+-- what is read of a list, behind what was read before
+abbrev pub behind : {A : Type 0} → List A → Reading (List A) → Reading (List A)
+behind read rest = rest >>= λ xs. Ok (read ++ xs)
+
+-- the values so far were read, and those from i on are left
 pub record ValuesLeft (items : List Value) (i : ℕ) (values : List ℤ) : Type 0 where
-  pub passed : first_refusal (map a_value (map view items))
-      ≡ first_refusal (map a_value (map view (drop i items)))
-  pub denoted : map whole (map view items)
-      ≡ map (λ v. Some v) values ++ map whole (map view (drop i items))
+  pub so_far : values_from 0 (map view items)
+      ≡ behind values (values_from i (map view (drop i items)))
+  pub as_many : length values ≡ i
 
--- ---- the calls of a file
+-- one more, before what is read of the rest
+pub behind_more : {A : Type 0} (xs : List A) (x : A) (rest : Reading (List A))
+    → behind xs (rest >>= λ ys. Ok (x ∷ ys)) ≡ behind (xs ++ x ∷ []) rest
+behind_more xs x (Ok ys) = ap (λ l. Ok l) (sym (append_assoc xs (x ∷ []) ys))
+behind_more xs x (Err e) = refl
 
--- the calls so far passed their checks, and those from i on are left
+-- what may want memory, within an element
+pub Reads_inside : {A : Type 0} (f : Location → Location) (reading answer : Reading A) → Reads reading answer
+    → Reads (inside f reading) (inside f answer)
+Reads_inside f reading (Ok a) h = rw h refl
+Reads_inside f reading (Err e) (inl h) = inl h
+Reads_inside f reading (Err e) (inr h) = inr (rw h refl)
+
+-- the calls so far were read, and those from i on are left
 pub record CallsLeft (items : List Value) (i : ℕ) (calls : List Call) (made : ℕ) : Type 0 where
-  pub passed : first_refusal (calls_checks 1 (map view items))
-      ≡ first_refusal (calls_checks made (map view (drop i items)))
-  pub denoted : map call_of (map view items)
-      ≡ map (λ c. Some c) calls ++ map call_of (map view (drop i items))
+  pub so_far : calls_from 1 0 (map view items)
+      ≡ behind calls (calls_from made i (map view (drop i items)))
   pub cursors : (rest : List Call) → cursors_exist 1 (calls ++ rest) ≡ cursors_exist made rest
   pub room : made ≤ 64
+
+module _ (items : List Value) (i : ℕ) (calls : List Call) (made : ℕ) (left : CallsLeft items i calls made)
+    (v : Value) (is : drop i items ≡ v ∷ drop (i + 1) items) where
+  -- a call that is refused refuses the list
+  pub calls_refused : (e : Fault) → Reads (in_element i (call_of made (view v))) (Err e)
+      → Reads (calls_from 1 0 (map view items)) (Err e)
+  calls_refused e (inl h) = inl h
+  calls_refused e (inr h) = inr (left.so_far ∙ rw (is, h) refl)
+
+  -- one call more
+  pub calls_more : (call : Call) → in_element i (call_of made (view v)) ≡ Ok call → FitsCursors made call
+      → CallsLeft items (i + 1) (calls ++ call ∷ []) (made + made_by call)
+  calls_more call reads fits = record {
+    so_far = left.so_far ∙ rw (is, reads) (behind_more calls call _);
+    cursors = λ rest. grind (arith, append_assoc, left.cursors, fits.0);
+    room = fits.1 left.room;
+  }

@@ -25,20 +25,6 @@ keys_of (member key d ms) = key ∷ keys_of ms
 abbrev pub keys : Data → List Text
 keys d = unwrap_or (option_map keys_of (as_object d)) []
 
--- what an object has at a key, and `null` where it has nothing there
-abbrev pub value_at : Text → Data → Data
-value_at key d = unwrap_or (get key d) null
-
--- a value's text; a value that is no text has the empty one
-abbrev pub text : Data → Text
-text d = unwrap_or (as_str d) []
-
--- what f makes of the text that a list begins with, and of the parts after it; none, where the
--- list doesn't begin with a text
-abbrev pub of_headed : {A : Type 0} → (Text → List Data → Option A) → List Data → Option A
-of_headed f [] = None
-of_headed f (head ∷ parts) = option_and_then (λ name. f name parts) (as_str head)
-
 -- the value is an object
 abbrev pub is_object : Data → Bool
 is_object d = is_some (as_object d)
@@ -46,10 +32,6 @@ is_object d = is_some (as_object d)
 -- the value is a list
 abbrev pub is_list : Data → Bool
 is_list d = is_some (as_array d)
-
--- the value is a text
-abbrev pub is_text : Data → Bool
-is_text d = is_some (as_str d)
 
 -- the value is a number
 abbrev pub is_number : Data → Bool
@@ -59,40 +41,14 @@ is_number d = is_some (as_number d)
 abbrev pub is_list_of_numbers : Data → Bool
 is_list_of_numbers d = is_list d && list_all is_number (elements d)
 
--- the whole number of an i64 that a value is
-abbrev pub whole : Data → Option ℤ
-whole d = option_and_then as_i64 (as_number d)
-
 -- a whole number that isn't negative
-abbrev pub natural_of : ℤ → Option ℕ
-natural_of (pos n) = Some n
-natural_of (negsuc n) = None
+abbrev pub not_negative : ℤ → Option ℕ
+not_negative (pos n) = Some n
+not_negative (negsuc n) = None
 
 -- a number, where it is below an end
 abbrev pub only_below : ℕ → ℕ → Option ℕ
 only_below end n = if nat_lt n end then Some n else None
-
--- the whole number from 0 on that a value is
-abbrev pub natural : Data → Option ℕ
-natural d = option_and_then natural_of (whole d)
-
--- the whole number from 0 to below an end that a value is
-abbrev pub number_below : ℕ → Data → Option ℕ
-number_below end d = option_and_then (only_below end) (natural d)
-
--- the whole number from 0 to this one that a value is
-abbrev pub number_up_to : ℕ → Data → Option ℕ
-number_up_to most d = number_below (most + 1) d
-
--- the values of all, where each has one
-abbrev pub all_some : {A : Type 0} → List (Option A) → Option (List A)
-all_some [] = Some []
-all_some (None ∷ rest) = None
-all_some (Some a ∷ rest) = option_map (λ values. a ∷ values) (all_some rest)
-
--- both, where there are both
-abbrev pub both : {A B C : Type 0} → (A → B → C) → Option A → Option B → Option C
-both f a b = option_and_then (λ x. option_map (f x) b) a
 
 -- the bytes are UTF-8, and serde_json reads this value in them
 pub record IsJsonOf (bytes : List ℕ) (d : Data) : Type 0 where

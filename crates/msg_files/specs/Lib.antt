@@ -1,10 +1,10 @@
 pub mod Json
+pub mod Faults
+pub mod Values
+pub mod Seen
 pub mod Prelude
 pub mod Sinks
-pub mod Check
 pub mod Cursors
-pub mod Checks
-pub mod Denotes
+pub mod CallsFormat
 pub mod CallsText
-pub mod Walk
-pub mod Running
+pub mod inner

@@ -5,22 +5,30 @@
 
 mod call;
 mod calls;
+pub mod fault;
+mod file_fault;
 pub mod json;
 mod limits;
+mod location;
 mod memory_sink;
 pub mod numbers;
 pub mod numerals;
+mod reason;
 mod refusal;
 mod report_fault;
 mod sink;
 mod std_sink;
 
 pub use call::Call;
-pub use calls::{Calls, read_calls, run_calls};
+pub use calls::{Calls, check_calls, read_calls, run_calls};
+pub use fault::Fault;
+pub use file_fault::FileFault;
 pub use limits::{MAX_LIMIT, MAX_VALUES};
+pub use location::{Key, Location};
 pub use memory_sink::{MemorySink, ROOM};
 pub use msg_buffer::NoMemory;
 pub use msg_world::RunFault;
+pub use reason::Reason;
 pub use refusal::Refusal;
 pub use report_fault::ReportFault;
 pub use sink::{PutFault, Sink, put_all, put_text};

@@ -1,60 +1,63 @@
 // Numbers in a JSON value.
-ghost use Rattle.std.specs.Prelude.{◌≡◌, ◌≢◌, ◌<◌, [], ◌∷◌, Some, None, true, false, IfOk, IfErr, IsOk, MatchResult, length, map, nat_le, option_and_then};
+ghost use Rattle.std.specs.Prelude.{◌≡◌, ◌<◌, [], IfOk, IsOk, map};
 ghost use Rattle.std.specs.List.{list_all};
-ghost use Rattle.serde_json.specs.{Find.as_number, Find.as_i64, View.view, View.number_view};
-ghost use Rattle.msg_files.specs.Prelude.{Agrees, a_value, all_some, elements, first_refusal, is_list_of_numbers, is_number, natural_of, needs, only_below, whole};
-ghost use Rattle.msg_files.specs.declared.refusal.Refusal.TheVariants.{TooMany};
+ghost use Rattle.serde_json.specs.View.{view, number_view};
+ghost use Rattle.msg_files.specs.{Faults.Reads, Json.is_number, Seen.items_seen, Seen.number_seen, Values.batch_of, Values.below, Values.limit_of, Values.natural, Values.number_of, Values.numbers_of, Values.value_of, Values.values_from, Values.values_of, Values.whole};
 
-use crate::limits::MAX_VALUES;
-use crate::refusal::Refusal;
+use crate::fault::{Fault, in_value};
+use crate::limits::{MAX_LIMIT, MAX_VALUES};
+use crate::reason::Reason;
 use msg_world::Items;
 use serde_json::{Number, Value};
 use std::alloc::Global;
 
-/// The number that a value is; `Shape` where it is something else.
-pub fn number(value: &Value) -> Result<&Number, Refusal>
-    ensures { MatchResult result (λ n. as_number (view value.now) ≡ Some (number_view n.now))
-        (λ e. (e ≡ Refusal.Shape) × (as_number (view value.now) ≡ None)) }
+/// The number that a value is.
+pub fn number(value: &Value) -> Result<&Number, Fault>
+    ensures number { number_seen result ≡ number_of (view value.now) }
 {
-    value.as_number().ok_or(Refusal::Shape)
+    value.as_number().ok_or(Fault::here(Reason::Number))
 }
 
-/// The whole number that it is; `BadNumber` where it is none, or lies outside `i64`.
-pub fn whole_number(n: &Number) -> Result<i64, Refusal>
-    ensures { MatchResult result (λ z. as_i64 (number_view n.now) ≡ Some z)
-        (λ e. (e ≡ Refusal.BadNumber) × (as_i64 (number_view n.now) ≡ None)) }
+/// The whole number of an `i64` that it is.
+pub fn whole_number(n: &Number) -> Result<i64, Fault>
+    ensures whole { result ≡ whole (number_view n.now) }
 {
-    n.as_i64().ok_or(Refusal::BadNumber)
+    n.as_i64().ok_or(Fault::here(Reason::Whole))
 }
 
-/// The whole number that it is; `BadNumber` where it is none, lies outside `i64`, or is below 0.
-pub fn natural_number(n: &Number) -> Result<u64, Refusal>
-    ensures { MatchResult result
-        (λ k. option_and_then natural_of (as_i64 (number_view n.now)) ≡ Some k)
-        (λ e. (e ≡ Refusal.BadNumber)
-        × (option_and_then natural_of (as_i64 (number_view n.now)) ≡ None)) }
+/// The whole number from 0 that it is.
+pub fn natural_number(n: &Number) -> Result<u64, Fault>
+    ensures natural { result ≡ natural (number_view n.now) }
 {
-    let z = whole_number(n)?;
-    if z < 0 {
-        return Err(Refusal::BadNumber);
+    match n.as_i64() {
+        Some(k) if k >= 0 => Ok(k as u64),
+        _ => Err(Fault::here(Reason::Natural)),
     }
-    Ok(z as u64)
 }
 
-/// The whole number that it is; `BadNumber` where it is none, or isn't from 0 to below `end`.
-pub fn small_number(n: &Number, end: u32) -> Result<u32, Refusal>
+/// The whole number from 0 to below `end` that it is.
+pub fn small_number(n: &Number, end: u32) -> Result<u32, Fault>
     ensures small { IfOk result (λ k. k < end) }
-    ensures is { MatchResult result
-        (λ k. option_and_then natural_of (as_i64 (number_view n.now)) ≡ Some k)
-        (λ e. (e ≡ Refusal.BadNumber)
-        × (option_and_then (only_below end)
-        (option_and_then natural_of (as_i64 (number_view n.now))) ≡ None)) }
+    ensures below { result ≡ below end (number_view n.now) }
 {
-    let k = natural_number(n)?;
-    if k >= u64::from(end) {
-        return Err(Refusal::BadNumber);
+    match n.as_i64() {
+        Some(k) if 0 <= k && k < i64::from(end) => Ok(k as u32),
+        _ => Err(Fault::here(Reason::Below(end))),
     }
-    Ok(k as u32)
+}
+
+/// A value of a message or of a resource.
+pub fn value(value: &Value) -> Result<i64, Fault>
+    ensures value { result ≡ value_of (view value.now) }
+{
+    whole_number(number(value)?)
+}
+
+/// A limit of a buffer, of a type or of a read.
+pub fn limit(value: &Value) -> Result<u32, Fault>
+    ensures limit { result ≡ limit_of (view value.now) }
+{
+    small_number(number(value)?, MAX_LIMIT + 1)
 }
 
 /// Whether all items are numbers, of any kind.
@@ -64,51 +67,48 @@ fn are_numbers(items: &[Value]) -> bool
     items.iter().all(|item| item.as_number().is_some())
 }
 
-/// The items of a list of numbers; `Shape` where the value is something else.
+/// The items of a list of numbers.
 #[tactic(auto, using(crate::proofs::WalksOverLists::list_steps))]
-pub fn list_of_numbers(value: &Value) -> Result<&[Value], Refusal>
-    ensures elements { IfOk result (λ items. elements (view value.now) ≡ map view items.now) }
-    ensures is { MatchResult result (λ _. is_list_of_numbers (view value.now) ≡ true)
-        (λ e. (e ≡ Refusal.Shape) × (is_list_of_numbers (view value.now) ≡ false)) }
+pub fn list_of_numbers(value: &Value) -> Result<&[Value], Fault>
+    ensures items { items_seen result ≡ numbers_of (view value.now) }
 {
     let Some(items) = value.as_array() else {
-        return Err(Refusal::Shape);
+        return Err(Fault::here(Reason::Numbers));
     };
     let items = items.as_slice();
     if !are_numbers(items) {
-        return Err(Refusal::Shape);
+        return Err(Fault::here(Reason::Numbers));
     }
     Ok(items)
 }
 
-/// The values of a batch; `TooMany` where there are more than `MAX_VALUES`, `BadNumber` where one
-/// is no whole number or lies outside `i64`, and `NoMemory`.
-#[tactic(auto, using(crate::proofs::WalksOverLists::list_steps))]
-pub fn batch_values(alloc: Global, items: &[Value]) -> Result<Items<i64>, Refusal>
-    ensures agrees { Agrees
-        (needs (nat_le (length items.now) 1024) TooMany ∷ map a_value (map view items.now))
-        (all_some (map whole (map view items.now))) result }
+/// The values of a batch, as a list of numbers.
+pub fn values(alloc: Global, value: &Value) -> Result<Items<i64>, Fault>
+    ensures values { Reads (values_of (view value.now)) result }
 {
-    if items.len() > MAX_VALUES {
-        return Err(Refusal::TooMany);
-    }
-    Ok(Items::from_vec(whole_numbers(alloc, items)?))
+    batch_values(alloc, list_of_numbers(value)?)
 }
 
-/// The whole numbers that the items are; `BadNumber` where an item is none, and `NoMemory`.
-pub fn whole_numbers(alloc: Global, items: &[Value]) -> Result<Vec<i64>, Refusal>
-    ensures is { IfOk result (λ v. (first_refusal (map a_value (map view items.now)) ≡ None)
-        × (map whole (map view items.now) ≡ map Some v.items)) }
-    ensures refused { IfErr result (λ e. (e ≢ Refusal.NotJson)
-        × (e ≢ Refusal.NoMemory → first_refusal (map a_value (map view items.now)) ≡ Some e)) }
+/// The values of a batch.
+#[tactic(auto, using(crate::proofs::WalksOverLists::list_steps))]
+pub fn batch_values(alloc: Global, items: &[Value]) -> Result<Items<i64>, Fault>
+    ensures values { Reads (batch_of (map view items.now)) result }
+    ensures no_memory { items.now ≡ [] → IsOk result }
+{
+    if items.len() > MAX_VALUES {
+        return Err(Fault::here(Reason::AtMost(MAX_VALUES)));
+    }
+    whole_numbers(alloc, items)
+}
+
+/// The whole numbers that the items are.
+fn whole_numbers(alloc: Global, items: &[Value]) -> Result<Items<i64>, Fault>
+    ensures values { Reads (values_from 0 (map view items.now)) result }
     ensures no_memory { items.now ≡ [] → IsOk result }
 {
     let mut values = Vec::new(alloc);
     for item in items {
-        let Some(value) = item.as_number().and_then(Number::as_i64) else {
-            return Err(Refusal::BadNumber);
-        };
-        values.push(value)?;
+        values.push(in_value(values.len(), value(item))?)?;
     }
-    Ok(values)
+    Ok(Items::from_vec(values))
 }

@@ -1,15 +1,7 @@
 -- The conditions of a scenario file.
-use Rattle.std.proofs.Common.{◌≡◌, ℕ, suc, ◌+◌, ◌-◌, ◌≤◌, ◌<◌, List, ◌∷◌, length, refl, arith, Some, None, map}
-use Rattle.serde_json.specs.{Data.Data, View.view, declared.value.Value.Value}
-use Rattle.msg_files.specs.Prelude.{Text, first_refusal}
-use Rattle.msg_reading.specs.Prelude.{Declared, in_not, inside_nots, nots_round, probe_checks}
-use Rattle.msg_files.specs.declared.refusal.Refusal.TheVariants.{Shape}
-
--- no probe has more than two parts
-pub probe_of_many : (names : Declared) (nots : ℕ) (head : Text) (xs : List Value) → 3 ≤ length xs
-    → first_refusal (probe_checks names nots head (map view xs)) ≡ Some Shape
-probe_of_many names nots head (x ∷ y ∷ z ∷ rest) many = refl
-probe_of_many names nots head xs many = absurd (omega (arith, many))
+use Rattle.std.proofs.Common.{◌≡◌, ℕ, suc, ◌+◌, ◌-◌, ◌≤◌, ◌<◌, arith, Some, None}
+use Rattle.serde_json.specs.Data.{Data}
+use Rattle.msg_reading.specs.Prelude.{in_not, inside_nots, nots_round}
 
 -- so many `not`s were seen round this value, of `most` that are looked for
 pub record NotsSeen (most : ℕ) (d : Data) (seen : ℕ) (inside : Data) : Type 0 where

@@ -1,11 +1,10 @@
--- lists of a file, by their parts and by their elements
-pub mod ListsByParts
-pub mod NamedElements
--- names, ops, conditions and systems
+-- lists, names and conditions
+pub mod ListsInTurn
 pub mod NamesInOrder
 pub mod ConditionsAreRead
-pub mod SystemsAreRead
 -- what is known of a scenario that was read: it can be run
-pub mod ChecksThatPass
+pub mod FitsOfReadings
 pub mod WhatIsUsedIsThere
 pub mod ReadScenarioRuns
+-- what a file is refused for
+pub mod FaultsOfScenarios

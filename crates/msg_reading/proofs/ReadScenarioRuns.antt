@@ -1,78 +1,221 @@
 -- A scenario that was read can be run, if no program clashes and its rules make no cycle.
-use Rattle.std.proofs.Common.{◌≡◌, ℕ, ◌≤◌, ◌<◌, [], length, refl, Some, None, arith, All}
-use Rattle.std.proofs.lemmas.{Grind.common_steps, List.Quantifiers.position-Some}
-use Rattle.std.specs.Str.{bytes_eq}
-use Rattle.serde_json.specs.{Data.Data}
-use Rattle.msg_system.specs.Prelude.{HasClash, program_needs}
+use Rattle.std.proofs.Common.{◌≡◌, ℕ, ℤ, suc, ◌+◌, ◌≤◌, ◌<◌, List, [], length, refl, Option, Some, None, Ok, true, arith, All, IfOk, IsTrue, option_and_then}
+use Rattle.std.proofs.lemmas.{Grind.common_steps, Result.IfOk-at_ok}
+use Rattle.serde_json.specs.{Data.Data, Data.number, Data.unsigned, Find.as_i64}
+use Rattle.msg_world.specs.Prelude.{HasPart, Part}
+use Rattle.msg_system.specs.Prelude.{HasClash, job_needs, needs_any, program_needs}
+use Rattle.msg_system.specs.{declared.condition.Condition.Condition, declared.op.Op.Op}
 use Rattle.msg_order.specs.Prelude.{IsAcyclic, NameSystemsBelow, edges_of}
 use Rattle.msg_order.specs.declared.rule.Rule.{Rule}
-use Rattle.msg_files.specs.Prelude.{elements, first_refusal, text}
-use Rattle.msg_scenario_data.specs.{Prelude.IsRunnable, declared.scenario.Scenario.Scenario}
-use Rattle.msg_reading.specs.Prelude.{Declared, all_names, frames_in, frames_read, no_names, part_names, position_of, resource_checks, resource_of, resources_checks, resources_in, resources_of, rule_of, rules_in, rules_of, scenario_checks, scenario_of, system_checks, system_number, system_of, systems_checks, systems_in, systems_of, type_checks, type_names, type_of, types_checks, types_in, types_of, declaring_resource, with_system, declaring_type}
-use Rattle.msg_reading.proofs.{WhatIsUsedIsThere.HasNames, WhatIsUsedIsThere.NamesOf, WhatIsUsedIsThere.SystemFits, WhatIsUsedIsThere.frames_fit, WhatIsUsedIsThere.system_fits, ChecksThatPass.Holds, ChecksThatPass.below_there, ChecksThatPass.in_each, ChecksThatPass.in_section}
-use Rattle.msg_files.proofs.WalksOverLists.{refusal_of_both}
+use Rattle.msg_frames.specs.declared.frame.Frame.{Frame}
+use Rattle.msg_files.specs.Prelude.{Reading, Text, at_key, elements, in_element, in_item, in_key, in_part, known_keys, limit, not_negative, number_of, only_below, whole, ◌>>=◌}
+use Rattle.msg_files.specs.declared.location.Key.TheVariants as key
+use Rattle.msg_scenario_data.specs.{Prelude.IsRunnable, Prelude.fits_kind, declared.kind.Kind.Kind, declared.scenario.Scenario.Scenario, declared.scenario.SystemSpec.SystemSpec}
+use Rattle.msg_reading.specs.ScenarioFormat as Spec
+use Rattle.msg_reading.specs.Prelude.{Declared, frames_of, held_of, resources_of, rules_of, scenario_of, systems_of, types_of}
+use Rattle.msg_reading.proofs.FitsOfReadings.{in_then, list_fits, of_found, of_wanted, within}
+use Rattle.msg_reading.proofs.WhatIsUsedIsThere.{ConditionFits, HasNames, IsBelow, OpFits, condition_fits, job_fits, op_fits, post_fits, rule_fits}
 
--- ---- rules
+-- ---- types and resources
 
-system_below : (names : Declared) (d : Data) → Holds (λ n. n < length names.systems) (system_number names (text d))
-system_below names d n h =
-    (position-Some (bytes_eq (text d)) names.systems n [] (below_there (position_of names.systems (text d)) 256 n h)).0
+abbrev OneMore : {A : Type 0} → (ℕ → Declared → Type 0) → ℕ → A × Declared → Type 0
+OneMore Inv k x = Unit {0} × Inv (k + 1) x.1
 
--- both systems of a rule are among so many
-abbrev IsBelow : ℕ → Rule → Type 0
-IsBelow n rule = (rule.earlier < n) × (rule.later < n)
+type_fits : (names : Declared) (k : ℕ) (d : Data) → HasNames k 0 0 names
+    → IfOk (Spec.type_at names k d) (OneMore (λ n. HasNames n 0 0) k)
+type_fits names k d has =
+    let Fits = OneMore {A = Text × ℕ} (λ n. HasNames n 0 0) k in
+    within Fits _ (Spec.type_of names d) (in_then Fits (Spec.two (elements d)) _ (λ pair _.
+    in_then Fits (Spec.text_and_number 0 pair.0 pair.1) _ (λ p _.
+    in_then Fits (in_part 0 (Spec.new_name names.types p.0)) _ (λ name _.
+    in_then Fits (in_part 1 (limit p.1)) _ (λ most _.
+    (tt, record { types = grind (arith, common_steps, has); resources = has.resources; systems = has.systems }))))))
 
-rule_below : (names : Declared) (d : Data) → Holds (IsBelow (length names.systems)) (rule_of names d)
-rule_below names d rule h = grind (arith, system_below names)
+resource_fits : (t : ℕ) (names : Declared) (k : ℕ) (d : Data) → HasNames t k 0 names
+    → IfOk (Spec.resource_at names k d) (OneMore (λ n. HasNames t n 0) k)
+resource_fits t names k d has =
+    let Fits = OneMore {A = Text × ℤ} (λ n. HasNames t n 0) k in
+    within Fits _ (Spec.resource_of names d) (in_then Fits (Spec.two (elements d)) _ (λ pair _.
+    in_then Fits (Spec.text_and_number 0 pair.0 pair.1) _ (λ p _.
+    in_then Fits (in_part 0 (Spec.new_name names.resources p.0)) _ (λ name _.
+    in_then Fits (in_part 1 (whole p.1)) _ (λ v _.
+    (tt, record { types = has.types; resources = grind (arith, common_steps, has); systems = has.systems }))))))
+
+-- ---- systems
+
+-- a system can be made, and added to an engine over so many types and resources, if it doesn't clash
+pub record SystemFits (t r : ℕ) (x : SystemSpec) : Type 0 where
+  pub few_ops : length x.program.ops ≤ 64
+  pub fit_kind : IsTrue (fits_kind x.kind x.program.ops)
+  pub fits : (p : Part) → IsTrue (needs_any (job_needs x.program.ops x.place.conditions) p) → HasPart t r p
+  pub joins : (1 ≤ x.place.join) × (x.place.join ≤ 10000)
+
+-- elements that declare no name leave the names as they were
+kept : {A : Type 0} (P : A → Type 0) (Inv : Declared → Type 0) (names : Declared) (r : Reading A) → Inv names → IfOk r P
+    → IfOk (Spec.keeping names r) (λ x. P x.0 × Inv x.1)
+kept {A} P Inv names r inv h =
+    in_then (λ (x : A × Declared). P x.0 × Inv x.1) r _ (λ a is. (IfOk-at_ok P is h, inv))
+
+module _ (t r n : ℕ) where
+  abbrev Known : Declared → Type 0
+  Known = HasNames t r n
+
+  abbrev OpsFit : Kind → List Op × Declared → Type 0
+  OpsFit kind x = All (OpFits t r) x.0 × (length x.0 ≤ 64) × Known x.1 × IsTrue (fits_kind kind x.0)
+
+  ops_fit : (names : Declared) (kind : Kind) (d : Data) → Known names → IfOk (Spec.ops_of names kind d) (OpsFit kind)
+  ops_fit names kind d known =
+      let all = list_fits Spec.op_at (OpFits t r) (λ k. Known)
+      (λ m k e h. kept (OpFits t r) Known m (in_item k (Spec.op_of m e)) h
+      (within (OpFits t r) _ (Spec.op_of m e) (op_fits t r n m h e))) 64 names d known in
+      in_then (OpsFit kind) (Spec.each_of 64 Spec.op_at names d) _ (λ x is.
+      let fit = IfOk-at_ok _ is all in
+      of_wanted (OpsFit kind) (fits_kind kind x.0) _ _ (λ as_kind. (fit.0, fit.1, fit.2, as_kind)))
+
+  abbrev ConditionsFit : List Condition × Declared → Type 0
+  ConditionsFit x = All (ConditionFits t r) x.0 × (length x.0 ≤ 8) × Known x.1
+
+  conditions_fit : (names : Declared) (d : Data) → Known names → IfOk (Spec.conditions_of names d) ConditionsFit
+  conditions_fit names d known = list_fits Spec.condition_at (ConditionFits t r) (λ k. Known)
+      (λ m k e h. kept (ConditionFits t r) Known m (in_item k (Spec.condition_of m e)) h
+      (within (ConditionFits t r) _ (Spec.condition_of m e) (condition_fits t r n m h e))) 8 names
+      (Spec.value_or key.If Spec.nothing d) known
+
+  abbrev IsJoinFrame : ℕ → Type 0
+  IsJoinFrame j = (1 ≤ j) × (j ≤ 10000)
+
+  from_one_to : (o : Option ℕ) (j : ℕ) → option_and_then Spec.from_one (option_and_then (only_below 10001) o) ≡ Some j
+      → IsJoinFrame j
+  from_one_to o j h = grind arith
+
+  join_fits : (d : Data) → IfOk (Spec.join_of d) IsJoinFrame
+  join_fits d =
+      in_then IsJoinFrame (number_of (Spec.value_or key.Join (number (unsigned 1)) d)) _ (λ m _.
+      of_found IsJoinFrame _ _ (from_one_to (option_and_then not_negative (as_i64 m))))
+
+  abbrev SystemRead : SystemSpec × Declared → Type 0
+  SystemRead x = SystemFits t r x.0 × Known x.1
+
+  program_fits : (names : Declared) (name : Text) (ops d : Data) → Known names
+      → IfOk (Spec.program_of names name ops d) SystemRead
+  program_fits names name ops d known =
+      in_then SystemRead (in_key key.Kind (Spec.kind_of d)) _ (λ kind _.
+      in_then SystemRead (in_key key.Ops (Spec.ops_of names kind ops)) _ (λ os os_is.
+      let op = IfOk-at_ok (OpsFit kind) os_is (within (OpsFit kind) _ (Spec.ops_of names kind ops)
+      (ops_fit names kind ops known)) in
+      in_then SystemRead (in_key key.If (Spec.conditions_of os.1 d)) _ (λ cs cs_is.
+      let condition = IfOk-at_ok ConditionsFit cs_is (within ConditionsFit _ (Spec.conditions_of os.1 d)
+      (conditions_fit os.1 d op.2)) in
+      in_then SystemRead (in_key key.Join (Spec.join_of d)) _ (λ j j_is.
+      let join = IfOk-at_ok IsJoinFrame j_is (within IsJoinFrame _ (Spec.join_of d) (join_fits d)) in
+      in_then SystemRead (in_key key.Start (Spec.start_of d)) _ (λ st _. (
+        record {
+          few_ops = op.1;
+          fit_kind = op.3;
+          fits = job_fits t r os.0 cs.0 op.0 condition.0;
+          joins = join;
+        },
+        condition.2,
+      ))))))
+
+system_fits : (t r : ℕ) (names : Declared) (n : ℕ) (d : Data) → HasNames t r n names
+    → IfOk (Spec.system_at names n d) (SystemRead t r (n + 1))
+system_fits t r names n d has =
+    let Fits = SystemRead t r (n + 1) in
+    within Fits _ (Spec.system_of names d) (in_then Fits (known_keys Spec.is_system_key d) _ (λ _ _.
+    in_then Fits (at_key key.Name d) _ (λ name _. in_then Fits (at_key key.Ops d) _ (λ ops _.
+    in_then Fits (in_key key.Name (Spec.system_name names name)) _ (λ text _.
+    program_fits t r (n + 1) (Spec.with_system names text) text ops d
+    (record { types = has.types; resources = has.resources; systems = grind (arith, common_steps, has) }))))))
+
+-- ---- rules and frames
+
+rules_fit : (t r n : ℕ) (names : Declared) (d : Data) → HasNames t r n names
+    → IfOk (Spec.each_of 1024 Spec.rule_at names d)
+    (λ x. All (IsBelow n) x.0 × (length x.0 ≤ 1024) × HasNames t r n x.1)
+rules_fit t r n names d has = list_fits Spec.rule_at (IsBelow n) (λ k. HasNames t r n)
+    (λ m k e h. kept (IsBelow n) (HasNames t r n) m (in_element k (Spec.rule_of m e)) h
+    (within (IsBelow n) _ (Spec.rule_of m e) (rule_fits t r n m h e))) 1024 names d has
+
+abbrev FrameFits : ℕ → Frame → Type 0
+FrameFits t frame = All (λ p. p.0 < t) frame.posts
+
+module _ (t r n : ℕ) where
+  abbrev FrameRead : Frame × Declared → Type 0
+  FrameRead x = FrameFits t x.0 × HasNames t r n x.1
+
+  posts_fit : (names : Declared) (d : Data) → HasNames t r n names → IfOk (Spec.frame_of names d) FrameRead
+  posts_fit names d has =
+      let IsPost = λ (p : ℕ × ℤ). p.0 < t in
+      let all = list_fits Spec.post_at IsPost (λ k. HasNames t r n)
+      (λ m k e h. kept IsPost (HasNames t r n) m (in_item k (Spec.post_of m e)) h
+      (within IsPost _ (Spec.post_of m e) (post_fits t r n m h e))) 1024 names d has in
+      in_then FrameRead (Spec.each_of 1024 Spec.post_at names d) _ (λ x is.
+      let fit = IfOk-at_ok _ is all in (fit.0, fit.2))
+
+  frames_fit : (names : Declared) (d : Data) → HasNames t r n names
+      → IfOk (Spec.each_of 10000 Spec.frame_at names d)
+      (λ x. All (FrameFits t) x.0 × (length x.0 ≤ 10000) × HasNames t r n x.1)
+  frames_fit names d has = list_fits Spec.frame_at (FrameFits t) (λ k. HasNames t r n)
+      (λ m k e h. within FrameRead _ (Spec.frame_of m e) (posts_fit m e h)) 10000 names d has
 
 -- ---- the whole
 
--- what holds of a scenario whose sections passed their checks: it can be run, if no program clashes and the rules make
--- no cycle
+-- what holds of a scenario that was read: it can be run, if no program clashes and the rules make no cycle
 pub record IsWhole (s : Scenario) : Type 0 where
   pub few_systems : length s.systems ≤ 256
   pub rules_in_range : NameSystemsBelow (length s.systems) s.rules
   pub runnable : All (λ x. ¬ HasClash (program_needs x.program.ops)) s.systems → IsAcyclic (edges_of s.rules)
       → IsRunnable s
 
--- where all checks pass, those of each section do
-sections_pass : (d : Data) → first_refusal (scenario_checks d) ≡ None → (first_refusal (types_checks d) ≡ None)
-    × (first_refusal (resources_checks d) ≡ None) × (first_refusal (systems_checks d) ≡ None)
-sections_pass d passes = grind (arith, refusal_of_both)
-
--- each part of a scenario is what its section denotes
-parts_denoted : (d : Data) (s : Scenario) → scenario_of d ≡ Some s → (types_of d ≡ Some s.types)
-    × (resources_of d ≡ Some s.resources) × (systems_of d ≡ Some s.systems) × (rules_of d ≡ Some s.rules)
-    × (frames_read d ≡ Some s.frames)
-parts_denoted d s is = grind arith
-
-pub whole_of : (d : Data) → first_refusal (scenario_checks d) ≡ None → Holds IsWhole (scenario_of d)
-unfolding types_of types_checks type_names resources_of resources_checks part_names systems_of systems_checks all_names rules_of frames_read
-whole_of d passes s is =
-    let pass = sections_pass d passes in
-    let are = parts_denoted d s is in
-    let types = in_section (λ names. type_of) declaring_type type_checks (λ _. Unit {0}) (λ n. HasNames n 0 0)
-    (λ n names e has. grind (arith, common_steps, has)) (λ n names e has passed x there. tt) 64 no_names (types_in d)
-    (record { types = refl; resources = refl; systems = refl }) pass.0 s.types are.0 in
-    let resources = in_section (λ names. resource_of) declaring_resource resource_checks (λ _. Unit {0})
-    (λ n. HasNames (length s.types) n 0) (λ n names e has. grind (arith, common_steps, has))
-    (λ n names e has passed x there. tt) 64 (type_names d) (resources_in d) types.2 pass.1 s.resources are.1 in
-    let systems = in_section system_of with_system system_checks (SystemFits s) (NamesOf s)
-    (λ n names e has. grind (arith, common_steps, has)) (λ n names. system_fits s names) 256 (part_names d)
-    (systems_in d) resources.2 pass.2 s.systems are.2 in
-    let below : NameSystemsBelow (length s.systems) s.rules =
-    rw (← systems.2.systems) (in_each (IsBelow (length (all_names d).systems)) (rule_of (all_names d))
-    (rule_below (all_names d)) (elements (rules_in d)) s.rules are.3).0 in
+in_turn_whole : (types systems frames d : Data) → IfOk (Spec.in_turn types systems frames d) IsWhole
+unfolding types_of resources_of held_of systems_of rules_of frames_of
+in_turn_whole types systems frames d =
+    let resources_in = Spec.value_or key.Resources Spec.nothing d in
+    let rules_in = Spec.value_or key.Rules Spec.nothing d in
+    in_then IsWhole (types_of Spec.no_names types) _ (λ ts ts_is.
+    let type = IfOk-at_ok _ ts_is (within _ _ (Spec.each_of 64 Spec.type_at Spec.no_names types)
+    (list_fits Spec.type_at (λ _. Unit {0}) (λ k. HasNames k 0 0) type_fits 64 Spec.no_names types
+    (record { types = refl; resources = refl; systems = refl }))) in
+    in_then IsWhole (resources_of ts.1 d) _ (λ rs rs_is.
+    let resource = IfOk-at_ok _ rs_is (within _ _ (Spec.each_of 64 Spec.resource_at ts.1 resources_in)
+    (list_fits Spec.resource_at (λ _. Unit {0}) (λ k. HasNames (length ts.0) k 0) (resource_fits (length ts.0)) 64 ts.1
+    resources_in type.2)) in
+    in_then IsWhole (held_of d) _ (λ held _.
+    in_then IsWhole (systems_of rs.1 systems) _ (λ ss ss_is.
+    let t = length ts.0 in
+    let r = length rs.0 in
+    let system = IfOk-at_ok _ ss_is (within _ _ (Spec.each_of 256 Spec.system_at rs.1 systems)
+    (list_fits Spec.system_at (SystemFits t r) (λ k. HasNames t r k) (λ m k e h. system_fits t r m k e h) 256 rs.1 systems
+    resource.2)) in
+    let n = length ss.0 in
+    in_then IsWhole (rules_of ss.1 d) _ (λ us us_is.
+    let rule = IfOk-at_ok _ us_is (within _ _ (Spec.each_of 1024 Spec.rule_at ss.1 rules_in)
+    (rules_fit t r n ss.1 rules_in system.2)) in
+    in_then IsWhole (frames_of us.1 frames) _ (λ fs fs_is.
+    let frame = IfOk-at_ok _ fs_is (within _ _ (Spec.each_of 10000 Spec.frame_at us.1 frames)
+    (frames_fit t r n us.1 frames rule.2)) in
     record {
-      few_systems = systems.1;
-      rules_in_range = below;
+      few_systems = system.1;
+      rules_in_range = rule.0;
       runnable = λ none acyclic. record {
-        few_types = types.1;
-        few_resources = resources.1;
-        few_systems = systems.1;
-        systems = λ k x lt. systems.0 k x lt (none k x lt);
-        rules_in_range = below;
+        few_types = type.1;
+        few_resources = resource.1;
+        few_systems = system.1;
+        systems = λ k x lt. let fit = system.0 k x lt in record {
+          few_ops = fit.few_ops;
+          fit_kind = fit.fit_kind;
+          fits = fit.fits;
+          no_clash = none k x lt;
+          joins = fit.joins;
+        };
+        rules_in_range = rule.0;
         acyclic = acyclic;
-        posts = frames_fit s (all_names d) systems.2 (frames_in d) s.frames are.4;
+        posts = frame.0;
       };
-    }
+    }))))))
+
+pub whole_of : (d : Data) (s : Scenario) → scenario_of d ≡ Ok s → IsWhole s
+whole_of d s is = IfOk-at_ok IsWhole is (in_then IsWhole (known_keys Spec.is_root_key d) _ (λ _ _.
+    in_then IsWhole (at_key key.Types d) _ (λ types _. in_then IsWhole (at_key key.Systems d) _ (λ systems _.
+    in_then IsWhole (at_key key.Frames d) _ (λ frames _. in_turn_whole types systems frames d)))))

@@ -1,17 +1,16 @@
 -- What the systems of a scenario file use is there, and so are the types that its frames post to.
-use Rattle.std.proofs.Common.{◌≡◌, ℕ, ◌≤◌, ◌<◌, List, [], ◌∷◌, ◌++◌, length, Option, Some, None, true, arith, All, IfSome, IsTrue, codes, flat_map, is_some}
-use Rattle.std.proofs.lemmas.{Bool.eqb-true, List.Elements.All-head, List.Elements.All-tail, List.Elements.All-weaker, List.Quantifiers.position-Some}
+use Rattle.std.proofs.Common.{◌≡◌, ℕ, ℤ, ◌≤◌, ◌<◌, List, [], ◌∷◌, length, Option, Some, None, Ok, true, arith, All, IfOk, IfSome, IsTrue, codes, option_and_then}
+use Rattle.std.proofs.lemmas.{Bool.eqb-true, List.Elements.All-head, List.Elements.All-tail, List.Elements.All-weaker, List.Quantifiers.position-Some, Result.IfOk-at_ok}
 use Rattle.std.specs.{List.list_any, Str.bytes_eq}
 use Rattle.serde_json.specs.Data.{Data}
 use Rattle.msg_world.specs.Prelude.{HasPart, Part}
-use Rattle.msg_system.specs.Prelude.{HasClash, is_part, job_needs, needs_any, op_parts, probe_part, program_needs}
-use Rattle.msg_system.specs.{declared.condition.Condition.Condition, declared.op.Op.Op}
-use Rattle.msg_frames.specs.declared.place.Place.{Place}
-use Rattle.msg_files.specs.Prelude.{Text, elements, first_refusal, natural, needs, of_headed, text, value_at, values_of, whole}
-use Rattle.msg_scenario_data.specs.{Prelude.IsRunnableSystem, Prelude.PostsAreToTypes, declared.scenario.Scenario.Scenario, declared.scenario.SystemSpec.SystemSpec, Prelude.fits_kind}
-use Rattle.msg_reading.specs.Prelude.{Declared, condition_checks, condition_of, conditions_in, each_of, frame_of, inside_nots, join_checks, join_in, kind_in, kind_of, list_checks, name_checks, of_its_kind, op_checks, op_of, op_with, op_with_one, op_with_two, ops_checks, ops_of, place_checks, place_in, post_of, probe_with, program_checks, resource_number, start_in, start_of, system_checks, system_object, system_of, type_number}
-use Rattle.msg_files.specs.declared.refusal.Refusal.TheVariants.{Shape}
-use Rattle.msg_reading.proofs.ChecksThatPass.{Holds, below_there, both_pass, choice, first_passes, in_both, in_each, in_headed, in_map, in_then, list_passed}
+use Rattle.msg_system.specs.Prelude.{is_part, job_needs, needs_any, op_parts, probe_part}
+use Rattle.msg_system.specs.{declared.condition.Condition.Condition, declared.condition.Probe.Probe, declared.op.Op.Op}
+use Rattle.msg_order.specs.declared.rule.Rule.{Rule}
+use Rattle.msg_files.specs.Prelude.{Reading, Text, elements, headed, in_nots, in_part, only_below, text_in, whole, ◌>>=◌}
+use Rattle.msg_reading.specs.ScenarioFormat as Spec
+use Rattle.msg_reading.specs.Prelude.{Declared, position_of, resource_number, system_number, type_number}
+use Rattle.msg_reading.proofs.FitsOfReadings.{either, in_then, of_found, within}
 
 -- ---- parts that are there
 
@@ -21,20 +20,17 @@ pub record HasNames (t r s : ℕ) (names : Declared) : Type 0 where
   pub resources : length names.resources ≡ r
   pub systems : length names.systems ≡ s
 
--- as many as the scenario's types and resources, and so many of systems
-abbrev pub NamesOf : Scenario → ℕ → Declared → Type 0
-NamesOf s n names = HasNames (length s.types) (length s.resources) n names
-
-module _ (s : Scenario) where
+-- of so many types and resources
+module _ (T R : ℕ) where
   abbrev Has : Part → Type 0
-  Has p = HasPart (length s.types) (length s.resources) p
+  Has p = HasPart T R p
 
   -- what an op reads and writes is there
-  abbrev OpFits : Op → Type 0
+  abbrev pub OpFits : Op → Type 0
   OpFits op = IfSome (op_parts op).read Has × IfSome (op_parts op).written Has
 
   -- what a condition asks about is there
-  abbrev ConditionFits : Condition → Type 0
+  abbrev pub ConditionFits : Condition → Type 0
   ConditionFits c = Has (probe_part c.probe)
 
   some_there : {X : Type 0} (part : X → Option Part) (xs : List X) (p : Part) → All (λ x. IfSome (part x) Has) xs
@@ -46,7 +42,7 @@ module _ (s : Scenario) where
       grind (arith, eqb-true, here, later)
 
   -- so a job needs nothing else
-  job_fits : (ops : List Op) (cs : List Condition) → All OpFits ops → All ConditionFits cs
+  pub job_fits : (ops : List Op) (cs : List Condition) → All OpFits ops → All ConditionFits cs
       → (p : Part) → IsTrue (needs_any (job_needs ops cs) p) → Has p
   job_fits ops cs ops_fit cs_fit p h =
       let read = some_there (λ op. (op_parts op).read) ops p (All-weaker OpFits _ (λ op fits. fits.0) ops ops_fit) in
@@ -56,106 +52,163 @@ module _ (s : Scenario) where
 
 -- ---- ops and conditions
 
-module _ (s : Scenario) (names : Declared) {n : ℕ} (of : NamesOf s n names) where
-  has_type : (d : Data) → Holds (λ t. t < length s.types) (type_number names (text d))
-  has_type d t h = rw of.types at (position-Some (bytes_eq (text d)) names.types t [] (below_there _ 64 t h)).0
+-- both systems of a rule are among so many
+abbrev pub IsBelow : ℕ → Rule → Type 0
+IsBelow n rule = (rule.earlier < n) × (rule.later < n)
 
-  has_resource : (d : Data) → Holds (λ r. r < length s.resources) (resource_number names (text d))
-  has_resource d r h =
-      rw of.resources at (position-Some (bytes_eq (text d)) names.resources r [] (below_there _ 64 r h)).0
+below_there : (o : Option ℕ) (end : ℕ) → (n : ℕ) → option_and_then (only_below end) o ≡ Some n → o ≡ Some n
+below_there o end n h = grind arith
 
-  op_with_one_fits : (head : Text) (d : Data) → Holds (OpFits s) (op_with_one names head d)
+module _ (T R n : ℕ) (names : Declared) (of : HasNames T R n names) where
+  abbrev IsType : ℕ → Type 0
+  IsType t = t < T
+
+  abbrev IsResource : ℕ → Type 0
+  IsResource r = r < R
+
+  named_type : (name : Text) → IfOk (Spec.type_named names name) IsType
+  named_type name = of_found IsType (type_number names name) _ (λ t h.
+      rw of.types at (position-Some (bytes_eq name) names.types t [] (below_there _ 64 t h)).0)
+
+  named_resource : (name : Text) → IfOk (Spec.resource_named names name) IsResource
+  named_resource name = of_found IsResource (resource_number names name) _ (λ r h.
+      rw of.resources at (position-Some (bytes_eq name) names.resources r [] (below_there _ 64 r h)).0)
+
+  named_system : (name : Text) → IfOk (Spec.system_named names name) (λ k. k < n)
+  named_system name = of_found (λ k. k < n) (system_number names name) _ (λ k h.
+      rw of.systems at (position-Some (bytes_eq name) names.systems k [] (below_there _ 256 k h)).0)
+
+  here_system : (m : ℕ) (name : Text) (k : ℕ) → in_part m (Spec.system_named names name) ≡ Ok k → k < n
+  here_system m name k is =
+      IfOk-at_ok (λ k. k < n) is (within (λ k. k < n) _ (Spec.system_named names name) (named_system name))
+
+  type_there : (d : Data) → IfOk (Spec.type_part names d) IsType
+  type_there d = within IsType _ (Spec.type_in names d) (in_then IsType (text_in d) _ (λ name _. named_type name))
+
+  resource_there : (d : Data) → IfOk (Spec.resource_part names d) IsResource
+  resource_there d =
+      within IsResource _ (Spec.resource_in names d) (in_then IsResource (text_in d) _ (λ name _. named_resource name))
+
+  here_type : (m : ℕ) (name : Text) (t : ℕ) → in_part m (Spec.type_named names name) ≡ Ok t → IsType t
+  here_type m name t is = IfOk-at_ok IsType is (within IsType _ (Spec.type_named names name) (named_type name))
+
+  here_resource : (m : ℕ) (name : Text) (r : ℕ) → in_part m (Spec.resource_named names name) ≡ Ok r → IsResource r
+  here_resource m name r is =
+      IfOk-at_ok IsResource is (within IsResource _ (Spec.resource_named names name) (named_resource name))
+
+  -- a pair whose first is a type, or a resource, that is there
+  typed : {X Y : Type 0} (m : ℕ) (r : Reading (Text × X)) (g : X → Reading Y)
+      → IfOk {T = ℕ × Y} (r >>= λ p. in_part m (Spec.type_named names p.0) >>= λ t. g p.1 >>= λ y. Ok (t, y))
+      (λ p. IsType p.0)
+  typed {X} {Y} m r g =
+      let Fits = λ (p : ℕ × Y). IsType p.0 in
+      in_then Fits r _ (λ p _. in_then Fits (in_part m (Spec.type_named names p.0)) _ (λ t is.
+      in_then Fits (g p.1) _ (λ y _. here_type m p.0 t is)))
+
+  valued : (d e : Data) → IfOk (Spec.resource_and_value names d e) (λ p. IsResource p.0)
+  valued d e =
+      let Fits = λ (p : ℕ × ℤ). IsResource p.0 in
+      in_then Fits (Spec.text_and_number 1 d e) _ (λ p _. in_then Fits (in_part 1 (Spec.resource_named names p.0)) _
+      (λ r is. in_then Fits (in_part 2 (whole p.1)) _ (λ v _. here_resource 1 p.0 r is)))
+
+  two_typed : (d e : Data) → IfOk (Spec.two_types names d e) (λ p. IsType p.0 × IsType p.1)
+  two_typed d e =
+      let Fits = λ (p : ℕ × ℕ). IsType p.0 × IsType p.1 in
+      in_then Fits (Spec.two_texts 1 d e) _ (λ p _. in_then Fits (in_part 1 (Spec.type_named names p.0)) _ (λ t is.
+      in_then Fits (in_part 2 (Spec.type_named names p.1)) _ (λ u at. (here_type 1 p.0 t is, here_type 2 p.1 u at))))
+
+  typed_resource : (d e : Data) → IfOk (Spec.type_and_resource names d e) (λ p. IsType p.0 × IsResource p.1)
+  typed_resource d e =
+      let Fits = λ (p : ℕ × ℕ). IsType p.0 × IsResource p.1 in
+      in_then Fits (Spec.two_texts 1 d e) _ (λ p _. in_then Fits (in_part 1 (Spec.type_named names p.0)) _ (λ t is.
+      in_then Fits (in_part 2 (Spec.resource_named names p.1)) _
+      (λ r at. (here_type 1 p.0 t is, here_resource 2 p.1 r at))))
+
+  -- what an op of this part is, if the part is there
+  made : {X : Type 0} (P : X → Type 0) (r : Reading X) (f : X → Op) → IfOk r P → ((x : X) → P x → OpFits T R (f x))
+      → IfOk (r >>= λ x. Ok (f x)) (OpFits T R)
+  made P r f h fits = in_then (OpFits T R) r _ (λ x is. fits x (IfOk-at_ok P is h))
+
+  op_with_one_fits : (head : Text) (d : Data) → IfOk (Spec.op_with_one names head d) (OpFits T R)
   op_with_one_fits head d =
-      let type = type_number names (text d) in
-      choice _ (bytes_eq head (codes "read")) _ _ (in_map _ _ type (λ t is. (has_type d t is, tt)))
-      (choice _ (bytes_eq head (codes "len")) _ _ (in_map _ _ type (λ t is. (has_type d t is, tt)))
-      (choice _ (bytes_eq head (codes "missed")) _ _ (in_map _ _ type (λ t is. (has_type d t is, tt)))
-      (choice _ (bytes_eq head (codes "clear")) _ _ (in_map _ _ type (λ t is. (has_type d t is, tt)))
-      (choice _ (bytes_eq head (codes "get")) _ _
-      (in_map _ _ (resource_number names (text d)) (λ r is. (has_resource d r is, tt)))
-      (choice _ (bytes_eq head (codes "drain")) _ _ (in_map _ _ type (λ t is. (tt, has_type d t is))) (λ op h. cc))))))
+      let type = type_there d in
+      either _ (bytes_eq head (codes "read")) _ _ (made IsType _ _ type (λ t is. (is, tt)))
+      (either _ (bytes_eq head (codes "len")) _ _ (made IsType _ _ type (λ t is. (is, tt)))
+      (either _ (bytes_eq head (codes "missed")) _ _ (made IsType _ _ type (λ t is. (is, tt)))
+      (either _ (bytes_eq head (codes "clear")) _ _ (made IsType _ _ type (λ t is. (is, tt)))
+      (either _ (bytes_eq head (codes "get")) _ _ (made IsResource _ _ (resource_there d) (λ r is. (is, tt)))
+      (either _ (bytes_eq head (codes "drain")) _ _ (made IsType _ _ type (λ t is. (tt, is))) tt)))))
 
-  op_with_two_fits : (head : Text) (d e : Data) → Holds (OpFits s) (op_with_two names head d e)
+  op_with_two_fits : (head : Text) (d e : Data) → IfOk (Spec.op_with_two names head d e) (OpFits T R)
   op_with_two_fits head d e =
-      let type = type_number names (text d) in
-      let resource = resource_number names (text d) in
-      let of_resource = has_resource d in
-      choice _ (bytes_eq head (codes "write")) _ _ (in_both _ _ type (whole e) (λ t v is _. (tt, has_type d t is)))
-      (choice _ (bytes_eq head (codes "batch")) _ _ (in_both _ _ type (values_of e) (λ t v is _. (tt, has_type d t is)))
-      (choice _ (bytes_eq head (codes "read")) _ _ (in_both _ _ type (natural e) (λ t k is _. (has_type d t is, tt)))
-      (choice _ (bytes_eq head (codes "forward")) _ _
-      (in_both _ _ type (type_number names (text e)) (λ t u is at. (has_type d t is, has_type e u at)))
-      (choice _ (bytes_eq head (codes "sum")) _ _
-      (in_both _ _ type (resource_number names (text e)) (λ t r is at. (has_type d t is, has_resource e r at)))
-      (choice _ (bytes_eq head (codes "set")) _ _ (in_both _ _ resource (whole e) (λ r v is _. (tt, of_resource r is)))
-      (choice _ (bytes_eq head (codes "add")) _ _ (in_both _ _ resource (whole e) (λ r v is _. (tt, of_resource r is)))
-      (λ op h. cc)))))))
+      either _ (bytes_eq head (codes "write")) _ _
+      (made (λ p. IsType p.0) _ _ (typed 1 (Spec.text_and_number 1 d e) _) (λ p is. (tt, is)))
+      (either _ (bytes_eq head (codes "batch")) _ _
+      (made (λ p. IsType p.0) _ _ (typed 1 (Spec.text_and_numbers 1 d e) _) (λ p is. (tt, is)))
+      (either _ (bytes_eq head (codes "read")) _ _
+      (made (λ p. IsType p.0) _ _ (typed 1 (Spec.text_and_number 1 d e) _) (λ p is. (is, tt)))
+      (either _ (bytes_eq head (codes "forward")) _ _ (made (λ p. IsType p.0 × IsType p.1) _ _ (two_typed d e) (λ p is. is))
+      (either _ (bytes_eq head (codes "sum")) _ _
+      (made (λ p. IsType p.0 × IsResource p.1) _ _ (typed_resource d e) (λ p is. is))
+      (either _ (bytes_eq head (codes "set")) _ _ (made (λ p. IsResource p.0) _ _ (valued d e) (λ p is. (tt, is)))
+      (either _ (bytes_eq head (codes "add")) _ _ (made (λ p. IsResource p.0) _ _ (valued d e) (λ p is. (tt, is)))
+      tt))))))
 
-  op_with_fits : (head : Text) (ds : List Data) → Holds (OpFits s) (op_with names head ds)
-  op_with_fits head [] op h = grind arith
-  op_with_fits head (d ∷ []) op h = op_with_one_fits head d op h
-  op_with_fits head (d ∷ e ∷ []) op h = op_with_two_fits head d e op h
-  op_with_fits head (d ∷ e ∷ f ∷ rest) op h = cc
+  op_with_fits : (head : Text) (ds : List Data) → IfOk (Spec.op_with names head ds) (OpFits T R)
+  op_with_fits head [] = either _ (bytes_eq head (codes "signal")) _ _ (tt, tt) tt
+  op_with_fits head (d ∷ []) = op_with_one_fits head d
+  op_with_fits head (d ∷ e ∷ []) = op_with_two_fits head d e
+  op_with_fits head (d ∷ e ∷ f ∷ rest) = tt
 
-  op_fits : (d : Data) → Holds (OpFits s) (op_of names d)
-  op_fits d = in_headed _ (op_with names) (elements d) op_with_fits
+  pub op_fits : (d : Data) → IfOk (Spec.op_of names d) (OpFits T R)
+  op_fits d = in_then (OpFits T R) (headed d) _ (λ h _. op_with_fits h.0 h.1)
 
-  probe_fits : (head : Text) (ds : List Data) → Holds (λ probe. Has s (probe_part probe)) (probe_with names head ds)
-  probe_fits head (d ∷ []) probe h = grind (arith, has_type d)
-  probe_fits head (d ∷ e ∷ []) probe h = grind (arith, has_resource d)
-  probe_fits head ds probe h = cc
+  -- ---- conditions and posts
 
-  condition_fits : (d : Data) → Holds (ConditionFits s) (condition_of names d)
-  condition_fits d = in_map _ _ (of_headed (probe_with names) (elements (inside_nots 128 d)))
-      (in_headed (λ probe. Has s (probe_part probe)) (probe_with names) (elements (inside_nots 128 d)) probe_fits)
+  abbrev ProbeFits : Probe → Type 0
+  ProbeFits probe = Has T R (probe_part probe)
 
-  -- ---- posts
+  on_message_fits : (nots : ℕ) (d : Data) → IfOk (Spec.on_message names nots d) ProbeFits
+  on_message_fits nots d =
+      in_then ProbeFits (in_nots nots (in_part 1 (text_in d))) _ (λ name _. in_then ProbeFits (Spec.few_nots nots) _ (λ _ _.
+      in_then ProbeFits (in_nots nots (in_part 1 (Spec.type_named names name))) _ (λ t is.
+      IfOk-at_ok IsType is (within IsType _ (in_part 1 (Spec.type_named names name))
+      (within IsType _ (Spec.type_named names name) (named_type name))))))
 
-  post_fits : (d : Data) → Holds (λ post. post.0 < length s.types) (post_of names d)
-  post_fits d post h = grind (arith, has_type)
+  resource_equals_fits : (nots : ℕ) (d e : Data) → IfOk (Spec.resource_equals names nots d e) ProbeFits
+  resource_equals_fits nots d e =
+      in_then ProbeFits (in_nots nots (Spec.text_and_number 1 d e)) _ (λ p _.
+      in_then ProbeFits (Spec.few_nots nots) _ (λ _ _.
+      in_then ProbeFits (in_nots nots (in_part 1 (Spec.resource_named names p.0))) _ (λ r is.
+      in_then ProbeFits (in_nots nots (in_part 2 (whole p.1))) _ (λ v _.
+      IfOk-at_ok IsResource is (within IsResource _ (in_part 1 (Spec.resource_named names p.0))
+      (within IsResource _ (Spec.resource_named names p.0) (named_resource p.0)))))))
 
-  frame_fits : (d : Data) → Holds (PostsAreToTypes s) (frame_of names d)
-  frame_fits d = in_map _ _ (each_of (post_of names) d)
-      (λ posts is. (in_each (λ p. p.0 < length s.types) (post_of names) post_fits (elements d) posts is).0)
+  probe_fits : (nots : ℕ) (head : Text) (ds : List Data) → IfOk (Spec.probe_with names nots head ds) ProbeFits
+  probe_fits nots head [] = tt
+  probe_fits nots head (d ∷ []) = either _ (bytes_eq head (codes "on_message")) _ _ (on_message_fits nots d) tt
+  probe_fits nots head (d ∷ e ∷ []) =
+      either _ (bytes_eq head (codes "resource_equals")) _ _ (resource_equals_fits nots d e) tt
+  probe_fits nots head (d ∷ e ∷ f ∷ rest) = tt
 
-  pub frames_fit : (d : Data) → Holds (All (PostsAreToTypes s)) (each_of (frame_of names) d)
-  frames_fit d frames is = (in_each (PostsAreToTypes s) (frame_of names) frame_fits (elements d) frames is).0
+  pub condition_fits : (d : Data) → IfOk (Spec.condition_of names d) (ConditionFits T R)
+  condition_fits d =
+      let nots = Spec.nots_round 128 d in
+      let inside = Spec.inside_nots 128 d in
+      in_then (ConditionFits T R) (Spec.probe_in names nots inside) _ (λ probe is. IfOk-at_ok ProbeFits is
+      (in_then ProbeFits (in_nots nots (headed inside)) _ (λ h _. probe_fits nots h.0 h.1)))
 
--- ---- systems
+  pub post_fits : (d : Data) → IfOk (Spec.post_of names d) (λ p. IsType p.0)
+  post_fits d =
+      in_then (λ (p : ℕ × ℤ). IsType p.0) (Spec.two (elements d)) _
+      (λ pair _. typed 0 (Spec.text_and_number 0 pair.0 pair.1) _)
 
--- a system can be made, and added, if it doesn't clash
-abbrev pub SystemFits : Scenario → SystemSpec → Type 0
-SystemFits s x = ¬ HasClash (program_needs x.program.ops) → IsRunnableSystem s x
+  -- ---- rules
 
-pub system_fits : (s : Scenario) (names : Declared) {n : ℕ} (d : Data) → NamesOf s n names
-    → first_refusal (system_checks names d) ≡ None → Holds (SystemFits s) (system_of names d)
-system_fits s names {n} d of passed =
-    let name = name_checks names (value_at (codes "name") d) in
-    let last = needs (is_some (start_of (start_in d))) Shape ∷ [] in
-    let list = list_checks 64 (op_checks names) (value_at (codes "ops") d) in
-    let program = (both_pass name (program_checks names d)
-    (both_pass (system_object d) (name ++ program_checks names d) passed).1).1 in
-    let parts = both_pass (ops_checks names d) (place_checks names d ++ last)
-    (first_passes (is_some (kind_of (kind_in d))) Shape
-    (ops_checks names d ++ (place_checks names d ++ last)) program).1 in
-    let listed = both_pass list (needs (of_its_kind names d) Shape ∷ []) parts.0 in
-    let joins = (both_pass (list_checks 8 (condition_checks names) (conditions_in d)) (join_checks (join_in d))
-    (both_pass (place_checks names d) last parts.1).0).1 in
-    let few = (list_passed (value_at (codes "ops") d) 64
-    (flat_map (op_checks names) (elements (value_at (codes "ops") d))) listed.0).0 in
-    in_then _ _ (kind_of (kind_in d)) (λ kind k. in_then _ _ (ops_of names d) (λ ops o.
-    let fit = in_each (OpFits s) (op_of names) (op_fits s names of) (elements (value_at (codes "ops") d)) ops o in
-    let many = fit.1 in
-    let as_kind : fits_kind kind ops ≡ true = rw (k, o) at (first_passes (of_its_kind names d) Shape [] listed.1).0 in
-    in_both _ _ (place_in names d) (start_of (start_in d)) (λ place start p _ none.
-    let placed = in_both (λ (y : Place). All (ConditionFits s) y.conditions × ((1 ≤ y.join) × (y.join ≤ 10000))) _
-    (each_of (condition_of names) (conditions_in d)) (natural (join_in d)) (λ conditions join c j.
-    let all = in_each (ConditionFits s) (condition_of names) (condition_fits s names of) (elements (conditions_in d)) in
-    ((all conditions c).0, grind (arith, joins, j))) place p in
-    record {
-      few_ops = omega (arith, few, many);
-      fit_kind = as_kind;
-      fits = job_fits s ops place.conditions fit.0 placed.0;
-      no_clash = none;
-      joins = placed.1;
-    })))
+  pub rule_fits : (d : Data) → IfOk (Spec.rule_of names d) (IsBelow n)
+  rule_fits d =
+      in_then (IsBelow n) (Spec.two (elements d)) _ (λ pair _.
+      in_then (IsBelow n) (Spec.two_texts 0 pair.0 pair.1) _ (λ p _.
+      in_then (IsBelow n) (in_part 0 (Spec.system_named names p.0)) _ (λ i is.
+      in_then (IsBelow n) (in_part 1 (Spec.system_named names p.1)) _ (λ j at.
+      (here_system 0 p.0 i is, here_system 1 p.1 j at)))))

@@ -1,5 +1,5 @@
 pub mod Names
 pub mod Prelude
-pub mod ScenarioChecks
-pub mod ScenarioDenotes
+pub mod ScenarioFormat
 pub mod Reading
+pub mod inner

@@ -1,12 +1,18 @@
 -- What a scenario file is read as, and what it is refused for.
-use Rattle.std.specs.Prelude.{◌≡◌, ◌⊎◌, ℕ, All, List, Some, None, slice_get, take}
+use Rattle.std.specs.Prelude.{◌≡◌, ◌⊎◌, ℕ, All, List, Some, Ok, Err, slice_get, take}
 use Rattle.serde_json.specs.Data.{Data}
 use Rattle.msg_order.specs.Prelude.{IsAcyclic, IsLowestOnCycle, edges_of}
 use Rattle.msg_system.specs.Prelude.{HasClash, program_needs}
-use Rattle.msg_files.specs.Prelude.{first_refusal}
-use Rattle.msg_reading.specs.{ScenarioChecks.scenario_checks, ScenarioDenotes.scenario_of}
+use Rattle.msg_files.specs.Prelude.{IsJsonOf, IsUnread, fault, here, reason_refusal}
+use Rattle.msg_files.specs.declared.fault.Fault.{Fault}
+use Rattle.msg_files.specs.declared.file_fault.FileFault.{FileFault}
+use Rattle.msg_files.specs.declared.file_fault.FileFault.TheVariants as file_fault
+use Rattle.msg_files.specs.declared.location.Key.TheVariants as key
+use Rattle.msg_files.specs.declared.reason.Reason.{Reason}
+use Rattle.msg_files.specs.declared.reason.Reason.TheVariants as reason
+use Rattle.msg_files.specs.declared.refusal.Refusal.{Refusal}
+use Rattle.msg_reading.specs.ScenarioFormat.{scenario_of}
 use Rattle.msg_scenario_data.specs.{declared.scenario.Scenario.Scenario, declared.scenario.SystemSpec.SystemSpec}
-use Rattle.msg_files.specs.{declared.refusal.Refusal.Refusal, declared.refusal.Refusal.TheVariants.Clash, declared.refusal.Refusal.TheVariants.Cycle}
 
 -- s is the lowest system whose program reads and writes one type
 pub record IsLowestClashing (systems : List SystemSpec) (s : ℕ) : Type 0 where
@@ -15,28 +21,45 @@ pub record IsLowestClashing (systems : List SystemSpec) (s : ℕ) : Type 0 where
   pub clash : HasClash (program_needs system.program.ops)
   pub lowest : All (λ x. ¬ HasClash (program_needs x.program.ops)) (take s systems)
 
--- a value passes all checks, and denotes this scenario
-pub record Denotes (d : Data) (scenario : Scenario) : Type 0 where
-  pub passes : first_refusal (scenario_checks d) ≡ None
-  pub denotes : scenario_of d ≡ Some scenario
-
 -- the value is read as a scenario whose programs don't clash, and whose rules make no cycle
 pub record IsReadAs (d : Data) (scenario : Scenario) : Type 0 where
-  pub denotes : Denotes d scenario
+  pub denotes : scenario_of d ≡ Ok scenario
   pub no_clash : All (λ x. ¬ HasClash (program_needs x.program.ops)) scenario.systems
   pub acyclic : IsAcyclic (edges_of scenario.rules)
 
--- A scenario is refused for its lowest clash; or, where no program clashes, for the lowest system
--- on a cycle of rules.
-abbrev pub IsUnfit : Scenario → Refusal → Type 0
-IsUnfit scenario (Clash s) = IsLowestClashing scenario.systems s
-IsUnfit scenario (Cycle s) = All (λ x. ¬ HasClash (program_needs x.program.ops)) scenario.systems
+-- a clash of a system is a fault of that system, and a cycle one of the rules
+abbrev pub unfit : Reason → Fault
+unfit (reason.Clash s) = record {
+  reason = reason.Clash s;
+  location = record here { section = Some key.Systems; element = Some s };
+}
+unfit (reason.Cycle s) = record {
+  reason = reason.Cycle s;
+  location = record here { section = Some key.Rules };
+}
+unfit why = fault why
+
+-- A scenario is refused for its lowest clash; or, if no program clashes, for the lowest system on
+-- a cycle of rules.
+abbrev pub IsUnfit : Scenario → Reason → Type 0
+IsUnfit scenario (reason.Clash s) = IsLowestClashing scenario.systems s
+IsUnfit scenario (reason.Cycle s) = All (λ x. ¬ HasClash (program_needs x.program.ops)) scenario.systems
     × IsLowestOnCycle (edges_of scenario.rules) s
 IsUnfit scenario _ = ⊥
 
--- a value is refused for the first check that fails, and where none fails as the scenario that it
--- denotes
+-- a value has this fault: its first one as it is read, or else that of the scenario that it is
+abbrev pub HasFault : Data → Fault → Type 0
+HasFault d e = (scenario_of d ≡ Err e)
+    ⊎ ((scenario : Scenario) × (scenario_of d ≡ Ok scenario) × (e ≡ unfit e.reason)
+    × IsUnfit scenario e.reason)
+
+-- a value is refused for the reason of its fault
 abbrev pub IsRefusedFor : Data → Refusal → Type 0
-IsRefusedFor d refusal =
-    (first_refusal (scenario_checks d) ≡ Some refusal)
-    ⊎ ((scenario : Scenario) × Denotes d scenario × IsUnfit scenario refusal)
+IsRefusedFor d refusal = (e : Fault) × HasFault d e × (refusal ≡ reason_refusal e.reason)
+
+-- Bytes have this fault: they are no JSON text; or they are the text of a value that has it; or
+-- memory was refused.
+abbrev pub IsScenarioFault : List ℕ → FileFault → Type 0
+IsScenarioFault bytes (file_fault.NotJson line column) = IsUnread bytes (file_fault.NotJson line column)
+IsScenarioFault bytes (file_fault.At e) = (e.reason ≡ reason.NoMemory)
+    ⊎ ((d : Data) × IsJsonOf bytes d × HasFault d e)

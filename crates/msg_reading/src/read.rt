@@ -1,11 +1,12 @@
 // A scenario from the bytes of a JSON text.
-ghost use Rattle.std.specs.Prelude.{◌≡◌, ◌≢◌, None, Err, IfOk, IfErr, IsUtf8};
+ghost use Rattle.std.specs.Prelude.{◌≡◌, ◌≢◌, ◌⊎◌, None, Err, IfOk, IfErr, IsUtf8};
 ghost use Rattle.serde_json.specs.{Data.Data, Read.read, View.view};
-ghost use Rattle.msg_files.specs.Prelude.{IsJsonOf};
-ghost use Rattle.msg_reading.specs.Prelude.{IsReadAs, IsRefusedFor};
+ghost use Rattle.msg_files.specs.Prelude.{IsJsonOf, IsUnread};
+ghost use Rattle.msg_files.specs.declared.reason.Reason.TheVariants.{NoMemory as NoRoom};
+ghost use Rattle.msg_reading.specs.Prelude.{HasFault, IsReadAs, IsRefusedFor, IsScenarioFault};
 ghost use Rattle.msg_scenario_data.specs.Prelude.{IsRunnable};
 
-use crate::{Refusal, Scenario};
+use crate::{Fault, FileFault, Refusal, Scenario};
 use msg_files::json::parse;
 use serde_json::Value;
 use std::alloc::Global;
@@ -17,7 +18,6 @@ mod declared;
 mod file;
 mod frame;
 mod list;
-mod named;
 mod names;
 mod op;
 mod part;
@@ -40,16 +40,32 @@ pub fn read_scenario(alloc: Global, bytes: &[u8]) -> Result<Scenario, Refusal>
         refusal ≢ Refusal.NotJson → refusal ≢ Refusal.NoMemory
         → (d : Data) × IsJsonOf bytes.now d × IsRefusedFor d refusal) }
 {
+    match check_scenario(alloc, bytes) {
+        Ok(scenario) => Ok(scenario),
+        Err(fault) => Err(fault.refusal()),
+    }
+}
+
+/// The scenario that the bytes are a JSON text of, or their fault with its place.
+///
+/// # Errors
+///
+/// As `read_scenario` refuses it, with the reason, and where in the file it lies.
+pub fn check_scenario(alloc: Global, bytes: &[u8]) -> Result<Scenario, FileFault>
+    ensures ok { IfOk result (λ scenario.
+        (d : Data) × IsJsonOf bytes.now d × IsReadAs d scenario) }
+    ensures runnable { IfOk result IsRunnable }
+    ensures fault { IfErr result (IsScenarioFault bytes.now) }
+{
     let value = parse(alloc, bytes)?;
-    read_value(alloc, &value)
+    Ok(read_value(alloc, &value)?)
 }
 
 /// The scenario that a JSON value denotes.
-fn read_value(alloc: Global, value: &Value) -> Result<Scenario, Refusal>
+fn read_value(alloc: Global, value: &Value) -> Result<Scenario, Fault>
     ensures ok { IfOk result (IsReadAs (view value.now)) }
     ensures runnable { IfOk result IsRunnable }
-    ensures refused { IfErr result (λ e. (e ≢ Refusal.NotJson)
-        × (e ≢ Refusal.NoMemory → IsRefusedFor (view value.now) e)) }
+    ensures refused { IfErr result (λ e. (e.reason ≡ NoRoom) ⊎ HasFault (view value.now) e) }
 {
     let scenario = file::read_sections(alloc, value)?;
     clash::check_clashes(scenario.systems.as_slice())?;

@@ -1,7 +1,7 @@
 // One call on a buffer and its cursors, and its line.
 ghost use Rattle.std.specs.Prelude.{◌≡◌, ◌<◌, ℤ, ◌++◌, ◌∷◌, [], OnOk, codes, decimal, length, true};
 ghost use Rattle.msg_buffer.specs.Prelude.{History, StandsFor, get, write};
-ghost use Rattle.msg_files.specs.Prelude.{AreIn, BufferState, after, has_cursor, pairs_text, line, value_text, range_text};
+ghost use Rattle.msg_files.specs.{inner.Running.AreIn, Prelude.BufferState, Prelude.after, Prelude.has_cursor, Prelude.pairs_text, Prelude.line, Prelude.value_text, Prelude.range_text};
 
 use crate::call::Call;
 use crate::calls::text::{add_found, add_items, add_unread};

@@ -1,9 +1,10 @@
 // A calls file, read from the bytes of a JSON text.
-ghost use Rattle.std.specs.Prelude.{◌≡◌, ◌≢◌, None, Some, Err, IfOk, IfErr, IsUtf8};
+ghost use Rattle.std.specs.Prelude.{◌≡◌, ◌≢◌, None, Ok, Err, IfOk, IfErr, IsUtf8};
 ghost use Rattle.serde_json.specs.{Data.Data, Read.read};
-ghost use Rattle.msg_files.specs.Prelude.{IsJsonOf, checks_of, file_of, first_refusal};
+ghost use Rattle.msg_files.specs.Prelude.{IsFaultOf, IsJsonOf, IsRefused, file_of};
 
 use crate::calls::Calls;
+use crate::file_fault::FileFault;
 use crate::json::parse;
 use crate::refusal::Refusal;
 use std::alloc::Global;
@@ -14,13 +15,23 @@ mod part;
 
 /// The calls file that the bytes are a JSON text of, or the first refusal in reading order.
 pub fn read_calls(alloc: Global, bytes: &[u8]) -> Result<Calls, Refusal>
-    ensures ok { IfOk result (λ file. (d : Data) × IsJsonOf bytes.now d
-        × (first_refusal (checks_of d) ≡ None) × (file_of d ≡ Some file)) }
+    ensures ok { IfOk result (λ file. (d : Data) × IsJsonOf bytes.now d × (file_of d ≡ Ok file)) }
     ensures not_json { result ≡ Err Refusal.NotJson → IsUtf8 bytes.now → read bytes.now ≡ None }
     ensures refused { IfErr result (λ refusal.
         refusal ≢ Refusal.NotJson → refusal ≢ Refusal.NoMemory
-        → (d : Data) × IsJsonOf bytes.now d × (first_refusal (checks_of d) ≡ Some refusal)) }
+        → (d : Data) × IsJsonOf bytes.now d × IsRefused (file_of d) refusal) }
+{
+    match check_calls(alloc, bytes) {
+        Ok(calls) => Ok(calls),
+        Err(fault) => Err(fault.refusal()),
+    }
+}
+
+/// The calls file that the bytes are a JSON text of, or the first fault in reading order.
+pub fn check_calls(alloc: Global, bytes: &[u8]) -> Result<Calls, FileFault>
+    ensures ok { IfOk result (λ file. (d : Data) × IsJsonOf bytes.now d × (file_of d ≡ Ok file)) }
+    ensures fault { IfErr result (IsFaultOf file_of bytes.now) }
 {
     let value = parse(alloc, bytes)?;
-    file::read_file(alloc, &value)
+    Ok(file::read_file(alloc, &value)?)
 }

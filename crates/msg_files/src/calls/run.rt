@@ -1,7 +1,7 @@
 // Calls made one after another. Their lines are gathered, and put into the sink in large pieces.
 ghost use Rattle.std.specs.Prelude.{◌≡◌, ◌⊎◌, ◌++◌, if◌then◌else◌, Err, IfErr, OnOk, OnErr};
 ghost use Rattle.std.specs.Io.KnownBytes.{Appends};
-ghost use Rattle.msg_files.specs.Prelude.{AppendsPrefix, TakesFront, calls_text, one_failure_more};
+ghost use Rattle.msg_files.specs.{inner.Running.TakesFront, Prelude.AppendsPrefix, Prelude.calls_text, Prelude.one_failure_more};
 
 use crate::calls::Calls;
 use crate::calls::answer::answer;

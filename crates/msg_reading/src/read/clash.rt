@@ -1,26 +1,37 @@
 // Whether a system's program clashes with itself.
-ghost use Rattle.std.specs.Prelude.{◌≡◌, ◌≤◌, ℕ, All, IfErr, OnOk, length};
+ghost use Rattle.std.specs.Prelude.{◌≡◌, ◌≤◌, ℕ, All, Err, IfErr, OnOk, length};
 ghost use Rattle.msg_system.specs.Prelude.{HasClash, program_needs};
-ghost use Rattle.msg_reading.specs.Prelude.{IsLowestClashing};
-ghost use Rattle.msg_files.specs.declared.refusal.Refusal.TheVariants.{Clash};
+ghost use Rattle.msg_reading.specs.Prelude.{IsLowestClashing, unfit};
+ghost use Rattle.msg_files.specs.declared.reason.Reason.TheVariants.{Clash};
 
-use crate::{Refusal, SystemSpec};
+use crate::{Fault, SystemSpec};
+use msg_files::fault::{in_element, in_section};
+use msg_files::{Key, Reason};
 use msg_scenario_data::MAX_SYSTEMS;
 
 /// Checks that no program reads and writes one type; else `Clash` with the lowest system whose
 /// program does.
-pub fn check_clashes(systems: &[SystemSpec]) -> Result<(), Refusal>
+pub fn check_clashes(systems: &[SystemSpec]) -> Result<(), Fault>
     requires few { length systems.now ≤ MAX_SYSTEMS }
     ensures passed { OnOk result
         (All (λ x. ¬ HasClash (program_needs x.program.ops)) systems.now) }
-    ensures refused { IfErr result (λ e. (s : ℕ) × (e ≡ Clash s) × IsLowestClashing systems.now s) }
+    ensures refused { IfErr result (λ e. (s : ℕ) × (e ≡ unfit (Clash s))
+        × IsLowestClashing systems.now s) }
 {
     let mut s = 0u32;
     for system in systems {
         if system.program.access().is_clash() {
-            return Err(Refusal::Clash(s));
+            return clash_of(s);
         }
         s += 1;
     }
     Ok(())
+}
+
+/// The fault of this system's clash.
+fn clash_of(s: u32) -> Result<(), Fault>
+    ensures clash { result ≡ Err (unfit (Clash s)) }
+{
+    let clash = Err(Fault::here(Reason::Clash(s)));
+    in_section(Key::Systems, in_element(s as usize, clash))
 }

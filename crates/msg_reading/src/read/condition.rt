@@ -1,14 +1,15 @@
 // One condition: a probe, and the `not`s round it.
-ghost use Rattle.std.specs.Prelude.{◌≡◌, ◌∷◌, [], map, option_map};
+ghost use Rattle.std.specs.Prelude.{◌≡◌, map, option_map};
 ghost use Rattle.serde_json.specs.View.{view};
-ghost use Rattle.msg_reading.specs.{ScenarioChecks.condition_checks, ScenarioChecks.probe_checks, ScenarioDenotes.condition_of, ScenarioDenotes.in_not, ScenarioDenotes.inside_nots, ScenarioDenotes.nots_round, ScenarioDenotes.probe_with};
-ghost use Rattle.msg_files.specs.Prelude.{IsAnswer};
+ghost use Rattle.msg_reading.specs.ScenarioFormat as Spec;
 
-use crate::Refusal;
+use crate::Fault;
 use crate::limits::{MAX_NOTS, MOST_NESTED};
 use crate::read::list::Element;
 use crate::read::names::Declarations;
 use crate::read::part::text_and_number;
+use msg_files::Reason;
+use msg_files::fault::{in_item, in_nots, in_part};
 use msg_files::json::{head_and_parts, text};
 use msg_files::numbers::whole_number;
 use msg_system::{Condition, Probe};
@@ -16,21 +17,32 @@ use serde_json::Value;
 use std::alloc::Global;
 
 impl Element for Condition {
-    ghost checks = { condition_checks };
+    ghost reads = { Spec.condition_at };
 
-    ghost denotes = { condition_of };
-
-    fn read(_alloc: Global, names: &Declarations, value: &Value) -> Result<Condition, Refusal> {
+    fn read(
+        _alloc: Global,
+        names: &mut Declarations,
+        n: usize,
+        value: &Value,
+    ) -> Result<Condition, Fault> {
         let (nots, inside) = inside_nots(value);
-        let (head, parts) = head_and_parts(inside)?;
-        read_probe(names, nots, head, parts)
+        let probe = in_item(n, probe_in(names, nots, inside))?;
+        Ok(Condition { nots, probe })
     }
+}
+
+/// What is asked for inside so many `not`s.
+fn probe_in(names: &Declarations, nots: u8, inside: &Value) -> Result<Probe, Fault>
+    ensures reads { result ≡ Spec.probe_in names.now nots (view inside.now) }
+{
+    let (head, parts) = in_nots(nots, head_and_parts(inside))?;
+    read_probe(names, nots, head, parts)
 }
 
 /// How many `not`s there are round a value, and what is inside.
 fn inside_nots(value: &Value) -> (u8, &Value)
-    ensures nots { result.0 ≡ nots_round 128 (view value.now) }
-    ensures inside { view result.1.now ≡ inside_nots 128 (view value.now) }
+    ensures nots { result.0 ≡ Spec.nots_round 128 (view value.now) }
+    ensures inside { view result.1.now ≡ Spec.inside_nots 128 (view value.now) }
 {
     let mut inside = value;
     for nots in 0..MOST_NESTED {
@@ -44,7 +56,7 @@ fn inside_nots(value: &Value) -> (u8, &Value)
 
 /// What a `not` has in it.
 fn in_not(value: &Value) -> Option<&Value>
-    ensures inside { option_map (λ v. view v.now) result ≡ in_not (view value.now) }
+    ensures inside { option_map (λ v. view v.now) result ≡ Spec.in_not (view value.now) }
 {
     match head_and_parts(value) {
         Ok(("not", [part])) => Some(part),
@@ -53,69 +65,47 @@ fn in_not(value: &Value) -> Option<&Value>
 }
 
 /// A probe of this head and these parts, with so many `not`s round it.
-#[tactic(auto, using(crate::proofs::ConditionsAreRead::probe_of_many))]
-fn read_probe(
-    names: &Declarations,
-    nots: u8,
-    head: &str,
-    parts: &[Value],
-) -> Result<Condition, Refusal>
-    ensures agrees { IsAnswer (probe_checks names.now nots head.now (map view parts.now))
-        (option_map (λ probe. record { nots = nots; probe = probe })
-        (probe_with names.now head.now (map view parts.now)))
-        result }
+fn read_probe(names: &Declarations, nots: u8, head: &str, parts: &[Value]) -> Result<Probe, Fault>
+    ensures reads { result ≡ Spec.probe_with names.now nots head.now (map view parts.now) }
 {
-    match parts {
-        [] => Err(Refusal::Shape),
-        [part] => read_on_message(names, nots, head, part),
-        [part, other] => read_resource_equals(names, nots, head, part, other),
-        [_, _, _, ..] => Err(Refusal::Shape),
+    match (head, parts) {
+        ("on_message", [part]) => read_on_message(names, nots, part),
+        ("resource_equals", [part, other]) => read_resource_equals(names, nots, part, other),
+        _ => in_nots(nots, Err(Fault::here(Reason::Parts))),
     }
 }
 
-fn read_on_message(
-    names: &Declarations,
-    nots: u8,
-    head: &str,
-    part: &Value,
-) -> Result<Condition, Refusal>
-    ensures agrees { IsAnswer (probe_checks names.now nots head.now (view part.now ∷ []))
-        (option_map (λ probe. record { nots = nots; probe = probe })
-        (probe_with names.now head.now (view part.now ∷ [])))
-        result }
+/// Checks that there are few enough `not`s.
+fn few_nots(nots: u8) -> Result<(), Fault>
+    ensures few { result ≡ Spec.few_nots nots }
 {
-    if head != "on_message" {
-        return Err(Refusal::Shape);
-    }
-    let name = text(part)?;
     if nots > MAX_NOTS {
-        return Err(Refusal::TooMany);
+        return Err(Fault::here(Reason::AtMost(usize::from(MAX_NOTS))));
     }
-    let probe = Probe::OnMessage(names.type_no(name)?);
-    Ok(Condition { nots, probe })
+    Ok(())
+}
+
+fn read_on_message(names: &Declarations, nots: u8, part: &Value) -> Result<Probe, Fault>
+    ensures reads { result ≡ Spec.on_message names.now nots (view part.now) }
+{
+    let name = in_nots(nots, in_part(1, text(part)))?;
+    few_nots(nots)?;
+    let of_type = in_nots(nots, in_part(1, names.type_no(name)))?;
+    Ok(Probe::OnMessage(of_type))
 }
 
 fn read_resource_equals(
     names: &Declarations,
     nots: u8,
-    head: &str,
     part: &Value,
     other: &Value,
-) -> Result<Condition, Refusal>
-    ensures agrees { IsAnswer
-        (probe_checks names.now nots head.now (view part.now ∷ view other.now ∷ []))
-        (option_map (λ probe. record { nots = nots; probe = probe })
-        (probe_with names.now head.now (view part.now ∷ view other.now ∷ [])))
-        result }
+) -> Result<Probe, Fault>
+    ensures reads { result
+        ≡ Spec.resource_equals names.now nots (view part.now) (view other.now) }
 {
-    if head != "resource_equals" {
-        return Err(Refusal::Shape);
-    }
-    let (name, value) = text_and_number(part, other)?;
-    if nots > MAX_NOTS {
-        return Err(Refusal::TooMany);
-    }
-    let resource = names.res_no(name)?;
-    let probe = Probe::ResourceEquals(resource, whole_number(value)?);
-    Ok(Condition { nots, probe })
+    let (name, value) = in_nots(nots, text_and_number(1, part, other))?;
+    few_nots(nots)?;
+    let resource = in_nots(nots, in_part(1, names.res_no(name)))?;
+    let value = in_nots(nots, in_part(2, whole_number(value)))?;
+    Ok(Probe::ResourceEquals(resource, value))
 }

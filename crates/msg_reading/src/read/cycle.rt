@@ -1,25 +1,27 @@
 // Whether the rules of a file go round in a circle.
-ghost use Rattle.std.specs.Prelude.{◌≡◌, ◌≢◌, ◌≤◌, ℕ, IfErr, OnOk};
+ghost use Rattle.std.specs.Prelude.{◌≡◌, ◌≢◌, ◌≤◌, ◌⊎◌, ℕ, Err, IfErr, OnOk};
 ghost use Rattle.msg_order.specs.Prelude.{IsAcyclic, IsLowestOnCycle, NameSystemsBelow, edges_of};
-ghost use Rattle.msg_files.specs.declared.refusal.Refusal.TheVariants.{Cycle};
+ghost use Rattle.msg_files.specs.declared.reason.Reason.TheVariants.{Cycle, NoMemory};
+ghost use Rattle.msg_reading.specs.Prelude.{unfit};
 
-use crate::Refusal;
+use crate::Fault;
+use msg_files::fault::in_section;
+use msg_files::{Key, Reason};
 use msg_order::{Rule, lowest_on_cycle};
 use msg_scenario_data::MAX_SYSTEMS;
 use std::alloc::Global;
 
 /// Checks that the rules of so many systems make no cycle; else `Cycle` with the lowest system on
 /// one. Also `NoMemory`.
-pub fn check_cycles(alloc: Global, systems: usize, rules: &[Rule]) -> Result<(), Refusal>
+pub fn check_cycles(alloc: Global, systems: usize, rules: &[Rule]) -> Result<(), Fault>
     requires few { systems ≤ MAX_SYSTEMS }
     requires in_range { NameSystemsBelow systems rules.now }
     ensures acyclic { OnOk result (IsAcyclic (edges_of rules.now)) }
-    ensures refused { IfErr result (λ e. (e ≢ Refusal.NotJson)
-        × (e ≢ Refusal.NoMemory
-        → (s : ℕ) × (e ≡ Cycle s) × IsLowestOnCycle (edges_of rules.now) s)) }
+    ensures refused { IfErr result (λ e. (e.reason ≡ NoMemory)
+        ⊎ ((s : ℕ) × (e ≡ unfit (Cycle s)) × IsLowestOnCycle (edges_of rules.now) s)) }
 {
     match lowest_on_cycle(alloc, systems, rules)? {
         None => Ok(()),
-        Some(s) => Err(Refusal::Cycle(s)),
+        Some(s) => in_section(Key::Rules, Err(Fault::here(Reason::Cycle(s)))),
     }
 }

@@ -1,34 +1,55 @@
 // One frame: a list of posts, each a type and a value.
-ghost use Rattle.msg_reading.specs.{ScenarioChecks.frame_checks, ScenarioChecks.post_checks, ScenarioDenotes.frame_of, ScenarioDenotes.post_of};
+ghost use Rattle.std.specs.Prelude.{◌≡◌};
+ghost use Rattle.serde_json.specs.View.{view};
+ghost use Rattle.msg_reading.specs.{ScenarioFormat.frame_at, ScenarioFormat.frame_of, ScenarioFormat.post_at, ScenarioFormat.post_of, inner.Elements.ReadsWith};
 
-use crate::Refusal;
+use crate::Fault;
 use crate::limits::MAX_POSTS;
 use crate::read::list::{Element, read_list};
 use crate::read::names::Declarations;
 use crate::read::part::{two, type_and_value};
+use msg_files::fault::{in_element, in_item};
 use msg_frames::Frame;
 use msg_world::TypeNo;
 use serde_json::Value;
 use std::alloc::Global;
 
 impl Element for Frame {
-    ghost checks = { frame_checks };
+    ghost reads = { frame_at };
 
-    ghost denotes = { frame_of };
-
-    fn read(alloc: Global, names: &Declarations, value: &Value) -> Result<Frame, Refusal> {
-        let posts = read_list(alloc, names, value, MAX_POSTS)?;
-        Ok(Frame { posts })
+    fn read(
+        alloc: Global,
+        names: &mut Declarations,
+        n: usize,
+        value: &Value,
+    ) -> Result<Frame, Fault> {
+        in_element(n, read_frame(alloc, names, value))
     }
 }
 
+fn read_frame(alloc: Global, names: &mut Declarations, value: &Value) -> Result<Frame, Fault>
+    ensures reads { ReadsWith (frame_of names.old (view value.now)) names.new result }
+{
+    let posts = read_list(alloc, names, value, MAX_POSTS)?;
+    Ok(Frame { posts })
+}
+
 impl Element for (TypeNo, i64) {
-    ghost checks = { post_checks };
+    ghost reads = { post_at };
 
-    ghost denotes = { post_of };
-
-    fn read(_alloc: Global, names: &Declarations, value: &Value) -> Result<(TypeNo, i64), Refusal> {
-        let (of_type, value) = two(value)?;
-        type_and_value(names, of_type, value)
+    fn read(
+        _alloc: Global,
+        names: &mut Declarations,
+        n: usize,
+        value: &Value,
+    ) -> Result<(TypeNo, i64), Fault> {
+        in_item(n, read_post(names, value))
     }
+}
+
+fn read_post(names: &Declarations, value: &Value) -> Result<(TypeNo, i64), Fault>
+    ensures reads { result ≡ post_of names.now (view value.now) }
+{
+    let (of_type, value) = two(value)?;
+    type_and_value(names, 0, of_type, value)
 }

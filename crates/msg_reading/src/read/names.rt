@@ -1,14 +1,26 @@
 // The names that a file declares.
-ghost use Rattle.std.specs.Prelude.{◌≡◌, ◌≤◌, ◌∷◌, ◌++◌, [], Some, None, OnOk, MatchResult, option_and_then};
-ghost use Rattle.msg_reading.specs.Prelude.{new_name, no_names, position_of, resource_number, system_number, type_number};
-ghost use Rattle.msg_files.specs.Prelude.{Agrees, only_below};
+ghost use Rattle.std.specs.Prelude.{◌≡◌, ◌≤◌, ◌∷◌, ◌++◌, [], OnOk, option_and_then};
+ghost use Rattle.msg_reading.specs.{Names.position_of, ScenarioFormat.good_name, ScenarioFormat.new_name, ScenarioFormat.no_names, ScenarioFormat.resource_named, ScenarioFormat.system_named, ScenarioFormat.type_named, ScenarioFormat.with_system};
+ghost use Rattle.msg_files.specs.Prelude.{Reads, only_below};
 
-use crate::{Name, Refusal};
+use crate::{Fault, Name};
 use indexmap::IndexSet;
+use msg_files::{Reason, Refusal};
 use msg_scenario_data::{MAX_RESOURCES, MAX_SYSTEMS, MAX_TYPES};
 use msg_world::{ResNo, TypeNo};
 use std::alloc::Global;
 use std::marker::Model;
+
+/// The name with this text.
+fn good_name(alloc: Global, text: &str) -> Result<Name, Fault>
+    ensures name { Reads (good_name text.now) result }
+{
+    match Name::new(alloc, text) {
+        Ok(name) => Ok(name),
+        Err(Refusal::BadName) => Err(Fault::here(Reason::BadName)),
+        Err(_) => Err(Fault::here(Reason::NoMemory)),
+    }
+}
 
 /// Names in order, each once. Contracts see it as their list.
 #[derive(Drop)]
@@ -54,13 +66,13 @@ impl NameSpace {
     }
 
     /// A new name, which goes last.
-    fn declare(&mut self, alloc: Global, name: &str) -> Result<Name, Refusal>
-        ensures agrees { Agrees (new_name self.old name.now) (Some name.now) result }
+    fn declare(&mut self, alloc: Global, name: &str) -> Result<Name, Fault>
+        ensures name { Reads (new_name self.old name.now) result }
         ensures declares { OnOk result (self.new ≡ self.old ++ name.now ∷ []) }
     {
-        let made = Name::new(alloc, name)?;
-        if self.place(name).is_some() {
-            return Err(Refusal::TwiceNamed);
+        let made = good_name(alloc, name)?;
+        if let Some(n) = self.place(name) {
+            return Err(Fault::here(Reason::StandsAt(n)));
         }
         let key = name.to_string(alloc)?;
         self.names.insert(key)?;
@@ -98,35 +110,36 @@ impl Declarations {
     }
 
     /// The type of this name.
-    pub fn type_no(&self, name: &str) -> Result<TypeNo, Refusal>
-        ensures found { MatchResult result (λ t. type_number self.now name.now ≡ Some t)
-            (λ e. (e ≡ Refusal.UnknownName) × (type_number self.now name.now ≡ None)) }
+    pub fn type_no(&self, name: &str) -> Result<TypeNo, Fault>
+        ensures named { result ≡ type_named self.now name.now }
     {
         let place = self.types.place_below(name, MAX_TYPES);
-        place.and_then(TypeNo::new).ok_or(Refusal::UnknownName)
+        place
+            .and_then(TypeNo::new)
+            .ok_or(Fault::here(Reason::NoType))
     }
 
     /// The resource of this name.
-    pub fn res_no(&self, name: &str) -> Result<ResNo, Refusal>
-        ensures found { MatchResult result (λ r. resource_number self.now name.now ≡ Some r)
-            (λ e. (e ≡ Refusal.UnknownName) × (resource_number self.now name.now ≡ None)) }
+    pub fn res_no(&self, name: &str) -> Result<ResNo, Fault>
+        ensures named { result ≡ resource_named self.now name.now }
     {
         let place = self.resources.place_below(name, MAX_RESOURCES);
-        place.and_then(ResNo::new).ok_or(Refusal::UnknownName)
+        place
+            .and_then(ResNo::new)
+            .ok_or(Fault::here(Reason::NoResource))
     }
 
     /// The number of the system of this name.
-    pub fn system_no(&self, name: &str) -> Result<u32, Refusal>
-        ensures found { MatchResult result (λ s. system_number self.now name.now ≡ Some s)
-            (λ e. (e ≡ Refusal.UnknownName) × (system_number self.now name.now ≡ None)) }
+    pub fn system_no(&self, name: &str) -> Result<u32, Fault>
+        ensures named { result ≡ system_named self.now name.now }
     {
         let place = self.systems.place_below(name, MAX_SYSTEMS);
-        place.ok_or(Refusal::UnknownName)
+        place.ok_or(Fault::here(Reason::NoSystem))
     }
 
-    /// Names the next type; `BadName` or `TwiceNamed` where it can't have this name.
-    pub fn declare_type(&mut self, alloc: Global, name: &str) -> Result<Name, Refusal>
-        ensures agrees { Agrees (new_name self.old.types name.now) (Some name.now) result }
+    /// Names the next type.
+    pub fn declare_type(&mut self, alloc: Global, name: &str) -> Result<Name, Fault>
+        ensures name { Reads (new_name self.old.types name.now) result }
         ensures declares { OnOk result
             (self.new ≡ record self.old { types = self.old.types ++ name.now ∷ [] }) }
     {
@@ -134,8 +147,8 @@ impl Declarations {
     }
 
     /// Names the next resource, as `declare_type` does a type.
-    pub fn declare_resource(&mut self, alloc: Global, name: &str) -> Result<Name, Refusal>
-        ensures agrees { Agrees (new_name self.old.resources name.now) (Some name.now) result }
+    pub fn declare_resource(&mut self, alloc: Global, name: &str) -> Result<Name, Fault>
+        ensures name { Reads (new_name self.old.resources name.now) result }
         ensures declares { OnOk result
             (self.new ≡ record self.old { resources = self.old.resources ++ name.now ∷ [] }) }
     {
@@ -143,10 +156,9 @@ impl Declarations {
     }
 
     /// Names the next system, as `declare_type` does a type.
-    pub fn declare_system(&mut self, alloc: Global, name: &str) -> Result<Name, Refusal>
-        ensures agrees { Agrees (new_name self.old.systems name.now) (Some name.now) result }
-        ensures declares { OnOk result
-            (self.new ≡ record self.old { systems = self.old.systems ++ name.now ∷ [] }) }
+    pub fn declare_system(&mut self, alloc: Global, name: &str) -> Result<Name, Fault>
+        ensures name { Reads (new_name self.old.systems name.now) result }
+        ensures declares { OnOk result (self.new ≡ with_system self.old name.now) }
     {
         self.systems.declare(alloc, name)
     }

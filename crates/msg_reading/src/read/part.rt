@@ -1,175 +1,179 @@
-// The parts of a list.
-ghost use Rattle.std.specs.Prelude.{◌≡◌, ◌∷◌, ◌&&◌, [], List, Some, false, IfErr, IfOk, MatchResult};
-ghost use Rattle.serde_json.specs.{Data.Data, Find.as_number, Find.as_str, View.view, View.number_view};
-ghost use Rattle.msg_files.specs.Prelude.{Check, IsAnswer, a_limit, a_value, both, elements, is_number, is_text, natural, needs, text, whole, wrong_shape};
-ghost use Rattle.msg_reading.specs.Prelude.{a_resource, a_type, for_two, resource_number, type_number};
-ghost use Rattle.msg_files.specs.declared.refusal.Refusal.TheVariants.{Shape};
+// The parts of a list: what they are, and then what they mean. m is the number of the first.
+ghost use Rattle.std.specs.Prelude.{◌≡◌, ◌≤◌};
+ghost use Rattle.serde_json.specs.View.{view};
+ghost use Rattle.msg_files.specs.Prelude.{Reads, elements};
+ghost use Rattle.msg_reading.specs.ScenarioFormat as Spec;
+ghost use Rattle.msg_reading.specs.inner.PartsSeen.{number_and_text_seen, numbers_and_text_seen, pair_seen, texts_seen};
 
-use crate::Refusal;
+use crate::Fault;
 use crate::read::names::Declarations;
-use msg_files::MAX_LIMIT;
+use msg_files::fault::in_part;
 use msg_files::json::text;
-use msg_files::numbers::{small_number, whole_number};
-use msg_world::{ResNo, TypeNo};
+use msg_files::numbers::{batch_values, list_of_numbers, number, small_number, whole_number};
+use msg_files::{MAX_LIMIT, Reason};
+use msg_world::{Items, ResNo, TypeNo};
 use serde_json::{Number, Value};
+use std::alloc::Global;
 
 /// The two elements of a list of two.
 #[tactic(auto, using(msg_files::proofs::WalksOverLists::list_steps))]
-pub fn two(value: &Value) -> Result<(&Value, &Value), Refusal>
-    ensures two { IfOk result (λ p.
-        elements (view value.now) ≡ view p.0.now ∷ view p.1.now ∷ []) }
-    ensures other { IfErr result (λ e. (e ≡ Refusal.Shape)
-        × ((f : Data → Data → List Check) → for_two f (elements (view value.now)) ≡ wrong_shape)) }
+pub fn two(value: &Value) -> Result<(&Value, &Value), Fault>
+    ensures two { pair_seen result ≡ Spec.two (elements (view value.now)) }
 {
     let Some(items) = value.as_array() else {
-        return Err(Refusal::Shape);
+        return Err(Fault::here(Reason::Parts));
     };
     let items = items.as_slice();
     if items.len() != 2 {
-        return Err(Refusal::Shape);
+        return Err(Fault::here(Reason::Parts));
     }
     Ok((&items[0], &items[1]))
 }
 
-/// The texts that two parts are; `Shape` where one is something else.
-pub fn two_texts<'a>(first: &'a Value, second: &'a Value) -> Result<(&'a str, &'a str), Refusal>
-    ensures are { MatchResult result
-        (λ p. (as_str (view first.now) ≡ Some p.0.now) × (as_str (view second.now) ≡ Some p.1.now))
-        (λ e. (e ≡ Refusal.Shape)
-        × ((is_text (view first.now) && is_text (view second.now)) ≡ false)) }
-{
-    match (first.as_str(), second.as_str()) {
-        (Some(first), Some(second)) => Ok((first, second)),
-        _ => Err(Refusal::Shape),
-    }
-}
-
-/// The text and the number that two parts are; `Shape` where one is something else.
+/// A text and a number.
 pub fn text_and_number<'a>(
+    m: usize,
     first: &'a Value,
     second: &'a Value,
-) -> Result<(&'a str, &'a Number), Refusal>
-    ensures are { MatchResult result
-        (λ p. (as_str (view first.now) ≡ Some p.0.now)
-        × (as_number (view second.now) ≡ Some (number_view p.1.now)))
-        (λ e. (e ≡ Refusal.Shape)
-        × ((is_text (view first.now) && is_number (view second.now)) ≡ false)) }
+) -> Result<(&'a str, &'a Number), Fault>
+    requires few { m ≤ 1 }
+    ensures are { number_and_text_seen result
+        ≡ Spec.text_and_number m (view first.now) (view second.now) }
 {
-    match (first.as_str(), second.as_number()) {
-        (Some(first), Some(second)) => Ok((first, second)),
-        _ => Err(Refusal::Shape),
-    }
+    let first = in_part(m, text(first))?;
+    Ok((first, in_part(m + 1, number(second))?))
 }
 
-/// A declared type.
-pub fn one_type(names: &Declarations, of_type: &Value) -> Result<TypeNo, Refusal>
-    ensures agrees { IsAnswer
-        (needs (is_text (view of_type.now)) Shape ∷ a_type names.now (view of_type.now) ∷ [])
-        (type_number names.now (text (view of_type.now))) result }
+/// Two texts.
+pub fn two_texts<'a>(
+    m: usize,
+    first: &'a Value,
+    second: &'a Value,
+) -> Result<(&'a str, &'a str), Fault>
+    requires few { m ≤ 1 }
+    ensures are { texts_seen result ≡ Spec.two_texts m (view first.now) (view second.now) }
 {
-    names.type_no(text(of_type)?)
+    let first = in_part(m, text(first))?;
+    Ok((first, in_part(m + 1, text(second))?))
 }
 
-/// A declared resource.
-pub fn one_resource(names: &Declarations, resource: &Value) -> Result<ResNo, Refusal>
-    ensures agrees { IsAnswer
-        (needs (is_text (view resource.now)) Shape ∷ a_resource names.now (view resource.now) ∷ [])
-        (resource_number names.now (text (view resource.now))) result }
+/// A text and a list of numbers.
+fn text_and_numbers<'a>(
+    m: usize,
+    first: &'a Value,
+    second: &'a Value,
+) -> Result<(&'a str, &'a [Value]), Fault>
+    requires few { m ≤ 1 }
+    ensures are { numbers_and_text_seen result
+        ≡ Spec.text_and_numbers m (view first.now) (view second.now) }
 {
-    names.res_no(text(resource)?)
+    let first = in_part(m, text(first))?;
+    Ok((first, in_part(m + 1, list_of_numbers(second))?))
 }
 
-/// A declared type and a value.
+/// A type and a value.
 pub fn type_and_value(
     names: &Declarations,
+    m: usize,
     of_type: &Value,
     value: &Value,
-) -> Result<(TypeNo, i64), Refusal>
-    ensures agrees { IsAnswer
-        (needs (is_text (view of_type.now) && is_number (view value.now)) Shape
-        ∷ a_type names.now (view of_type.now)
-        ∷ a_value (view value.now)
-        ∷ [])
-        (both (λ a b. (a, b)) (type_number names.now (text (view of_type.now)))
-        (whole (view value.now)))
-        result }
+) -> Result<(TypeNo, i64), Fault>
+    requires few { m ≤ 1 }
+    ensures are { result
+        ≡ Spec.type_and_value names.now m (view of_type.now) (view value.now) }
 {
-    let (name, value) = text_and_number(of_type, value)?;
-    Ok((names.type_no(name)?, whole_number(value)?))
+    let (name, value) = text_and_number(m, of_type, value)?;
+    let of_type = in_part(m, names.type_no(name))?;
+    Ok((of_type, in_part(m + 1, whole_number(value))?))
 }
 
-/// A declared type, and how many messages are read at most.
-pub fn type_and_limit(
-    names: &Declarations,
-    of_type: &Value,
-    limit: &Value,
-) -> Result<(TypeNo, u32), Refusal>
-    ensures agrees { IsAnswer
-        (needs (is_text (view of_type.now) && is_number (view limit.now)) Shape
-        ∷ a_type names.now (view of_type.now)
-        ∷ a_limit (view limit.now)
-        ∷ [])
-        (both (λ a b. (a, b)) (type_number names.now (text (view of_type.now)))
-        (natural (view limit.now)))
-        result }
-{
-    let (name, limit) = text_and_number(of_type, limit)?;
-    Ok((names.type_no(name)?, small_number(limit, MAX_LIMIT + 1)?))
-}
-
-/// Two declared types.
-pub fn two_types(
-    names: &Declarations,
-    from: &Value,
-    to: &Value,
-) -> Result<(TypeNo, TypeNo), Refusal>
-    ensures agrees { IsAnswer
-        (needs (is_text (view from.now) && is_text (view to.now)) Shape
-        ∷ a_type names.now (view from.now)
-        ∷ a_type names.now (view to.now)
-        ∷ [])
-        (both (λ a b. (a, b)) (type_number names.now (text (view from.now)))
-        (type_number names.now (text (view to.now))))
-        result }
-{
-    let (from, to) = two_texts(from, to)?;
-    Ok((names.type_no(from)?, names.type_no(to)?))
-}
-
-/// A declared type and a declared resource.
-pub fn type_and_resource(
-    names: &Declarations,
-    of_type: &Value,
-    resource: &Value,
-) -> Result<(TypeNo, ResNo), Refusal>
-    ensures agrees { IsAnswer
-        (needs (is_text (view of_type.now) && is_text (view resource.now)) Shape
-        ∷ a_type names.now (view of_type.now)
-        ∷ a_resource names.now (view resource.now)
-        ∷ [])
-        (both (λ a b. (a, b)) (type_number names.now (text (view of_type.now)))
-        (resource_number names.now (text (view resource.now))))
-        result }
-{
-    let (of_type, resource) = two_texts(of_type, resource)?;
-    Ok((names.type_no(of_type)?, names.res_no(resource)?))
-}
-
-/// A declared resource and a value.
+/// A resource and a value.
 pub fn resource_and_value(
     names: &Declarations,
     resource: &Value,
     value: &Value,
-) -> Result<(ResNo, i64), Refusal>
-    ensures agrees { IsAnswer
-        (needs (is_text (view resource.now) && is_number (view value.now)) Shape
-        ∷ a_resource names.now (view resource.now)
-        ∷ a_value (view value.now)
-        ∷ [])
-        (both (λ a b. (a, b)) (resource_number names.now (text (view resource.now)))
-        (whole (view value.now)))
+) -> Result<(ResNo, i64), Fault>
+    ensures are { result
+        ≡ Spec.resource_and_value names.now (view resource.now) (view value.now) }
+{
+    let (name, value) = text_and_number(1, resource, value)?;
+    let resource = in_part(1, names.res_no(name))?;
+    Ok((resource, in_part(2, whole_number(value))?))
+}
+
+/// A part that is a type.
+pub fn one_type(names: &Declarations, part: &Value) -> Result<TypeNo, Fault>
+    ensures is { result ≡ Spec.type_part names.now (view part.now) }
+{
+    in_part(1, type_in(names, part))
+}
+
+fn type_in(names: &Declarations, value: &Value) -> Result<TypeNo, Fault>
+    ensures is { result ≡ Spec.type_in names.now (view value.now) }
+{
+    names.type_no(text(value)?)
+}
+
+/// A part that is a resource.
+pub fn one_resource(names: &Declarations, part: &Value) -> Result<ResNo, Fault>
+    ensures is { result ≡ Spec.resource_part names.now (view part.now) }
+{
+    in_part(1, resource_in(names, part))
+}
+
+fn resource_in(names: &Declarations, value: &Value) -> Result<ResNo, Fault>
+    ensures is { result ≡ Spec.resource_in names.now (view value.now) }
+{
+    names.res_no(text(value)?)
+}
+
+/// A type, and how many messages are read at most.
+pub fn type_and_limit(
+    names: &Declarations,
+    of_type: &Value,
+    limit: &Value,
+) -> Result<(TypeNo, u32), Fault>
+    ensures are { result ≡ Spec.type_and_limit names.now (view of_type.now) (view limit.now) }
+{
+    let (name, limit) = text_and_number(1, of_type, limit)?;
+    let of_type = in_part(1, names.type_no(name))?;
+    Ok((of_type, in_part(2, small_number(limit, MAX_LIMIT + 1))?))
+}
+
+/// A type and the values of a batch.
+pub fn type_and_values(
+    alloc: Global,
+    names: &Declarations,
+    of_type: &Value,
+    values: &Value,
+) -> Result<(TypeNo, Items<i64>), Fault>
+    ensures are { Reads (Spec.type_and_values names.now (view of_type.now) (view values.now))
         result }
 {
-    let (name, value) = text_and_number(resource, value)?;
-    Ok((names.res_no(name)?, whole_number(value)?))
+    let (name, values) = text_and_numbers(1, of_type, values)?;
+    let of_type = in_part(1, names.type_no(name))?;
+    Ok((of_type, in_part(2, batch_values(alloc, values))?))
+}
+
+/// Two types.
+pub fn two_types(names: &Declarations, from: &Value, to: &Value) -> Result<(TypeNo, TypeNo), Fault>
+    ensures are { result ≡ Spec.two_types names.now (view from.now) (view to.now) }
+{
+    let (from, to) = two_texts(1, from, to)?;
+    let from = in_part(1, names.type_no(from))?;
+    Ok((from, in_part(2, names.type_no(to))?))
+}
+
+/// A type and a resource.
+pub fn type_and_resource(
+    names: &Declarations,
+    of_type: &Value,
+    resource: &Value,
+) -> Result<(TypeNo, ResNo), Fault>
+    ensures are { result
+        ≡ Spec.type_and_resource names.now (view of_type.now) (view resource.now) }
+{
+    let (of_type, resource) = two_texts(1, of_type, resource)?;
+    let of_type = in_part(1, names.type_no(of_type))?;
+    Ok((of_type, in_part(2, names.res_no(resource))?))
 }

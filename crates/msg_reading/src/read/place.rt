@@ -1,68 +1,74 @@
 // A system's conditions, the frame that it joins with, and where its cursors start.
-ghost use Rattle.std.specs.Prelude.{◌≡◌, None, Some, MatchResult};
-ghost use Rattle.serde_json.specs.View.{view};
-ghost use Rattle.msg_files.specs.Prelude.{Agrees, IsAnswer, natural};
-ghost use Rattle.msg_reading.specs.Prelude.{condition_checks, condition_of, conditions_in, each_of, join_checks, join_in, list_checks, place_checks, place_in, start_in, start_of};
+ghost use Rattle.std.specs.Prelude.{◌≡◌};
+ghost use Rattle.serde_json.specs.View.{view, number_view};
+ghost use Rattle.msg_files.specs.Prelude.{in_key};
+ghost use Rattle.msg_reading.specs.{ScenarioFormat.conditions_of, ScenarioFormat.join_number, ScenarioFormat.join_of, ScenarioFormat.start_of, inner.Elements.ReadsWith};
 
-use crate::Refusal;
+use crate::Fault;
 use crate::limits::MAX_CONDITIONS;
 use crate::read::list::read_list_if_there;
 use crate::read::names::Declarations;
-use msg_files::numbers::{number, small_number};
-use msg_frames::{Items, Place};
+use msg_files::fault::in_key;
+use msg_files::numbers::number;
+use msg_files::{Key, Reason};
+use msg_frames::Items;
 use msg_scenario_data::LAST_JOIN;
 use msg_system::{Condition, Start};
-use serde_json::Value;
+use serde_json::{Number, Value};
 use std::alloc::Global;
 
-/// The conditions of a system, and the frame that it joins with: 1 where none is named.
-#[tactic(auto, using(msg_files::proofs::WalksOverLists::refusal_of_both))]
-pub fn read_place(alloc: Global, names: &Declarations, system: &Value) -> Result<Place, Refusal>
-    ensures agrees { Agrees (place_checks names.now (view system.now))
-        (place_in names.now (view system.now)) result }
-{
-    let conditions = read_conditions(alloc, names, system)?;
-    let join = read_join(system)?;
-    Ok(Place { conditions, join })
-}
-
-fn read_conditions(
+/// The conditions of a system.
+#[tactic(auto, using(crate::proofs::ListsInTurn::ReadsWith_inside))]
+pub fn read_conditions(
     alloc: Global,
-    names: &Declarations,
+    names: &mut Declarations,
     system: &Value,
-) -> Result<Items<Condition>, Refusal>
-    ensures agrees { Agrees
-        (list_checks 8 (condition_checks names.now) (conditions_in (view system.now)))
-        (each_of (condition_of names.now) (conditions_in (view system.now))) result }
+) -> Result<Items<Condition>, Fault>
+    ensures reads { ReadsWith (in_key Key.If (conditions_of names.old (view system.now)))
+        names.new result }
 {
-    read_list_if_there(alloc, names, system.get("if"), MAX_CONDITIONS)
+    in_key(Key::If, conditions_in(alloc, names, system))
 }
 
-fn read_join(system: &Value) -> Result<u32, Refusal>
-    ensures agrees { IsAnswer (join_checks (join_in (view system.now)))
-        (natural (join_in (view system.now))) result }
+fn conditions_in(
+    alloc: Global,
+    names: &mut Declarations,
+    system: &Value,
+) -> Result<Items<Condition>, Fault>
+    ensures reads { ReadsWith (conditions_of names.old (view system.now)) names.new result }
 {
-    let Some(join) = system.get("join") else {
+    read_list_if_there(alloc, names, system.get(Key::If.text()), MAX_CONDITIONS)
+}
+
+/// The frame that a system joins with: 1 if none is named.
+pub fn read_join(system: &Value) -> Result<u32, Fault>
+    ensures reads { result ≡ join_of (view system.now) }
+{
+    let Some(join) = system.get(Key::Join.text()) else {
         return Ok(1);
     };
-    let join = small_number(number(join)?, LAST_JOIN + 1)?;
-    if join == 0 {
-        return Err(Refusal::BadNumber);
-    }
-    Ok(join)
+    join_number(number(join)?)
 }
 
-/// Where the cursors of a system start; `Shape` where that is no start.
-pub fn read_start(system: &Value) -> Result<Start, Refusal>
-    ensures is { MatchResult result (λ s. start_of (start_in (view system.now)) ≡ Some s)
-        (λ e. (e ≡ Refusal.Shape) × (start_of (start_in (view system.now)) ≡ None)) }
+fn join_number(n: &Number) -> Result<u32, Fault>
+    ensures reads { result ≡ join_number (number_view n.now) }
 {
-    let Some(start) = system.get("start") else {
+    match n.as_i64() {
+        Some(k) if 1 <= k && k <= i64::from(LAST_JOIN) => Ok(k as u32),
+        _ => Err(Fault::here(Reason::Join)),
+    }
+}
+
+/// Where the cursors of a system start.
+pub fn read_start(system: &Value) -> Result<Start, Fault>
+    ensures reads { result ≡ start_of (view system.now) }
+{
+    let Some(start) = system.get(Key::Start.text()) else {
         return Ok(Start::Zero);
     };
     match start.as_str() {
         Some("zero") => Ok(Start::Zero),
         Some("current") => Ok(Start::Current),
-        _ => Err(Refusal::Shape),
+        _ => Err(Fault::here(Reason::Start)),
     }
 }

@@ -1,135 +1,136 @@
 // One system: its name, its kind and program, and its conditions, join and start.
-ghost use Rattle.std.specs.Prelude.{◌≡◌, ◌≢◌, ◌∷◌, ◌++◌, [], None, Some, IfOk, IfErr, MatchResult, OnOk, codes, false};
-ghost use Rattle.std.specs.Option.{option_map_or};
+ghost use Rattle.std.specs.Prelude.{◌≡◌, IfOk};
 ghost use Rattle.serde_json.specs.View.{view};
-ghost use Rattle.msg_files.specs.Prelude.{Agrees, first_refusal, needs, text, value_at};
-ghost use Rattle.msg_scenario_data.specs.Prelude.{fits_kind};
-ghost use Rattle.msg_reading.specs.{ScenarioChecks.is_system_key, ScenarioChecks.list_checks, ScenarioChecks.name_checks, ScenarioChecks.op_checks, ScenarioChecks.program_checks, ScenarioChecks.system_checks, ScenarioChecks.system_object, ScenarioDenotes.each_of, ScenarioDenotes.kind_in, ScenarioDenotes.kind_of, ScenarioDenotes.op_of, ScenarioDenotes.ops_of, ScenarioDenotes.place_in, ScenarioDenotes.start_in, ScenarioDenotes.start_of, ScenarioDenotes.system_of, ScenarioDenotes.with_system};
-ghost use Rattle.msg_files.specs.declared.refusal.Refusal.TheVariants.{Shape};
+ghost use Rattle.msg_files.specs.Prelude.{Reads, in_key};
+ghost use Rattle.msg_reading.specs.ScenarioFormat as Spec;
+ghost use Rattle.msg_reading.specs.inner.Elements.{ReadsWith};
 
-use crate::read::list::read_list;
-use crate::read::named::Declaration;
+use crate::read::list::{Element, read_list};
 use crate::read::names::Declarations;
-use crate::read::place::{read_place, read_start};
-use crate::{Kind, Name, Refusal, SystemSpec};
-use msg_files::json::{self, Keys, check_keys, text};
+use crate::read::place::{read_conditions, read_join, read_start};
+use crate::{Fault, Kind, Name, SystemSpec};
+use msg_files::fault::{in_element, in_key};
+use msg_files::json::{Keys, check_keys, needed, text};
+use msg_files::{Key, Reason};
 use msg_frames::Place;
 use msg_scenario_data::MAX_OPS;
 use msg_system::{Items, Op, Program};
 use serde_json::Value;
 use std::alloc::Global;
 
-impl Declaration for SystemSpec {
-    ghost checks = { system_checks };
+impl Element for SystemSpec {
+    ghost reads = { Spec.system_at };
 
-    ghost denotes = { system_of };
-
-    ghost with_one = { with_system };
-
-    fn read(alloc: Global, names: &mut Declarations, value: &Value) -> Result<SystemSpec, Refusal> {
-        let (name, ops) = needed(value)?;
-        let name = read_name(alloc, names, name)?;
-        let (kind, program, place) = read_program(alloc, names, value, ops)?;
-        Ok(SystemSpec {
-            name,
-            kind,
-            program,
-            place,
-        })
+    fn read(
+        alloc: Global,
+        names: &mut Declarations,
+        n: usize,
+        value: &Value,
+    ) -> Result<SystemSpec, Fault> {
+        in_element(n, read_system(alloc, names, value))
     }
 }
 
-/// All of a system but its name.
-fn read_program(
-    alloc: Global,
-    names: &Declarations,
-    system: &Value,
-    ops: &Value,
-) -> Result<(Kind, Program, Place), Refusal>
-    requires { value_at (codes "ops") (view system.now) ≡ view ops.now }
-    ensures is { IfOk result (λ p. (first_refusal (program_checks names.now (view system.now))
-        ≡ None)
-        × (kind_of (kind_in (view system.now)) ≡ Some p.0)
-        × (ops_of names.now (view system.now) ≡ Some p.1.ops)
-        × (place_in names.now (view system.now) ≡ Some p.2)
-        × (start_of (start_in (view system.now)) ≡ Some p.1.start)) }
-    ensures refused { IfErr result (λ e. (e ≢ Refusal.NotJson)
-        × (e ≢ Refusal.NoMemory
-        → first_refusal (program_checks names.now (view system.now)) ≡ Some e)) }
+fn read_system(alloc: Global, names: &mut Declarations, value: &Value) -> Result<SystemSpec, Fault>
+    ensures reads { ReadsWith (Spec.system_of names.old (view value.now)) names.new result }
 {
-    let kind = read_kind(system)?;
-    let ops = read_ops(alloc, names, kind, ops)?;
-    let place = read_place(alloc, names, system)?;
-    let start = read_start(system)?;
-    Ok((kind, Program { ops, start }, place))
-}
-
-/// The name and the ops of a system, whose keys are known.
-fn needed(system: &Value) -> Result<(&Value, &Value), Refusal>
-    ensures found { IfOk result (λ p. (first_refusal (system_object (view system.now)) ≡ None)
-        × (value_at (codes "name") (view system.now) ≡ view p.0.now)
-        × (value_at (codes "ops") (view system.now) ≡ view p.1.now)) }
-    ensures refused { IfErr result (λ e. (e ≢ Refusal.NotJson)
-        × (first_refusal (system_object (view system.now)) ≡ Some e)) }
-{
-    check_keys::<SystemKeys>(system)?;
-    Ok((json::needed(system, "name")?, json::needed(system, "ops")?))
+    check_keys::<SystemKeys>(value)?;
+    let name = needed(value, Key::Name)?;
+    let ops = needed(value, Key::Ops)?;
+    let name = read_name(alloc, names, name)?;
+    read_program(alloc, names, name, ops, value)
 }
 
 /// The keys of a system.
 struct SystemKeys;
 
 impl Keys for SystemKeys {
-    ghost known = { is_system_key };
+    ghost known = { Spec.is_system_key };
 
     fn is_known(key: &str) -> bool {
         matches!(key, "name" | "kind" | "ops" | "if" | "join" | "start")
     }
 }
 
-fn read_name(alloc: Global, names: &mut Declarations, name: &Value) -> Result<Name, Refusal>
-    ensures agrees { Agrees (name_checks names.old (view name.now))
-        (Some (text (view name.now))) result }
-    ensures declares { OnOk result (names.new
-        ≡ record names.old { systems = names.old.systems ++ text (view name.now) ∷ [] }) }
+#[tactic(auto, using(msg_files::proofs::WalksOverLists::Reads_inside))]
+fn read_name(alloc: Global, names: &mut Declarations, name: &Value) -> Result<Name, Fault>
+    ensures reads { Reads (in_key Key.Name (Spec.system_name names.old (view name.now))) result }
+    ensures declares { IfOk result (λ text. names.new ≡ Spec.with_system names.old text) }
+{
+    in_key(Key::Name, name_in(alloc, names, name))
+}
+
+fn name_in(alloc: Global, names: &mut Declarations, name: &Value) -> Result<Name, Fault>
+    ensures reads { Reads (Spec.system_name names.old (view name.now)) result }
+    ensures declares { IfOk result (λ text. names.new ≡ Spec.with_system names.old text) }
 {
     let name = text(name)?;
     names.declare_system(alloc, name)
 }
 
-fn read_kind(system: &Value) -> Result<Kind, Refusal>
-    ensures is { MatchResult result (λ k. kind_of (kind_in (view system.now)) ≡ Some k)
-        (λ e. (e ≡ Refusal.Shape) × (kind_of (kind_in (view system.now)) ≡ None)) }
+/// All of a system but its name.
+fn read_program(
+    alloc: Global,
+    names: &mut Declarations,
+    name: Name,
+    ops: &Value,
+    system: &Value,
+) -> Result<SystemSpec, Fault>
+    ensures reads { ReadsWith (Spec.program_of names.old name (view ops.now) (view system.now))
+        names.new result }
 {
-    let Some(kind) = system.get("kind") else {
+    let kind = in_key(Key::Kind, read_kind(system))?;
+    let ops = read_ops(alloc, names, kind, ops)?;
+    let conditions = read_conditions(alloc, names, system)?;
+    let join = in_key(Key::Join, read_join(system))?;
+    let start = in_key(Key::Start, read_start(system))?;
+    Ok(SystemSpec {
+        name,
+        kind,
+        program: Program { ops, start },
+        place: Place { conditions, join },
+    })
+}
+
+fn read_kind(system: &Value) -> Result<Kind, Fault>
+    ensures reads { result ≡ Spec.kind_of (view system.now) }
+{
+    let Some(kind) = system.get(Key::Kind.text()) else {
         return Ok(Kind::Script);
     };
     match kind.as_str() {
         Some("script") => Ok(Kind::Script),
         Some("relay") => Ok(Kind::Relay),
         Some("tally") => Ok(Kind::Tally),
-        _ => Err(Refusal::Shape),
+        _ => Err(Fault::here(Reason::Kind)),
     }
 }
 
 /// The ops of a system of this kind.
-#[tactic(auto, using(msg_files::proofs::WalksOverLists::refusal_of_both))]
+#[tactic(auto, using(crate::proofs::ListsInTurn::ReadsWith_inside))]
 fn read_ops(
     alloc: Global,
-    names: &Declarations,
+    names: &mut Declarations,
     kind: Kind,
     ops: &Value,
-) -> Result<Items<Op>, Refusal>
-    ensures agrees { Agrees
-        (list_checks 64 (op_checks names.now) (view ops.now)
-        ++ needs (option_map_or (fits_kind kind)
-        (each_of (op_of names.now) (view ops.now)) false) Shape
-        ∷ [])
-        (each_of (op_of names.now) (view ops.now)) result }
+) -> Result<Items<Op>, Fault>
+    ensures reads { ReadsWith (in_key Key.Ops (Spec.ops_of names.old kind (view ops.now)))
+        names.new result }
 {
-    let ops = read_list(alloc, names, ops, MAX_OPS)?.into_vec();
+    in_key(Key::Ops, ops_in(alloc, names, kind, ops))
+}
+
+fn ops_in(
+    alloc: Global,
+    names: &mut Declarations,
+    kind: Kind,
+    ops: &Value,
+) -> Result<Items<Op>, Fault>
+    ensures reads { ReadsWith (Spec.ops_of names.old kind (view ops.now)) names.new result }
+{
+    let ops: Items<Op> = read_list(alloc, names, ops, MAX_OPS)?;
     if !kind.fits(ops.as_slice()) {
-        return Err(Refusal::Shape);
+        return Err(Fault::here(Reason::NotOfKind));
     }
-    Ok(Items::from_vec(ops))
+    Ok(ops)
 }

@@ -1,28 +1,30 @@
 // A calls file: its limit, and each call after those before it.
-ghost use Rattle.std.specs.Prelude.{◌≡◌, ◌≢◌, Some, None, true, IfOk, IfErr, map};
+ghost use Rattle.std.specs.Prelude.{◌≡◌, true, IfOk, map};
 ghost use Rattle.serde_json.specs.View.{view};
-ghost use Rattle.msg_files.specs.{Check.first_refusal, Checks.calls_checks, Checks.checks_of, Checks.is_known, Checks.call_list_checks, Cursors.cursors_exist, Cursors.made_by, Denotes.call_of, Denotes.calls_of, Denotes.file_of, Walk.Agrees};
+ghost use Rattle.msg_files.specs.{CallsFormat.calls_from, CallsFormat.calls_of, CallsFormat.file_of, CallsFormat.is_known, Cursors.cursors_exist, Cursors.made_by, Faults.Reads};
 
 use crate::call::Call;
 use crate::calls::Calls;
 use crate::calls::read::call::read_call;
-use crate::calls::read::part::buffer_limit;
+use crate::fault::{Fault, in_section};
 use crate::json::{Keys, check_keys, list, needed};
 use crate::limits::MAX_CALLS;
-use crate::refusal::Refusal;
+use crate::location::Key;
+use crate::numbers;
+use msg_world::Items;
 use serde_json::Value;
 use std::alloc::Global;
 
 /// The file that a JSON value denotes.
-pub fn read_file(alloc: Global, value: &Value) -> Result<Calls, Refusal>
-    ensures agrees { Agrees (checks_of (view value.now)) (file_of (view value.now)) result }
+pub fn read_file(alloc: Global, value: &Value) -> Result<Calls, Fault>
+    ensures file { Reads (file_of (view value.now)) result }
 {
     check_keys::<FileKeys>(value)?;
-    let limit = needed(value, "limit")?;
-    let list = needed(value, "calls")?;
-    let limit = buffer_limit(limit)?;
-    let calls = read_list(alloc, list)?;
-    Ok(Calls::new(limit, calls))
+    let limit = needed(value, Key::Limit)?;
+    let list = needed(value, Key::Calls)?;
+    let limit = in_section(Key::Limit, numbers::limit(limit))?;
+    let calls = in_section(Key::Calls, read_list(alloc, list))?;
+    Ok(Calls::new(limit, calls.into_vec()))
 }
 
 /// The keys of a calls file.
@@ -36,32 +38,25 @@ impl Keys for FileKeys {
     }
 }
 
-#[tactic(auto, using(crate::proofs::WalksOverLists::list_steps))]
-fn read_list(alloc: Global, value: &Value) -> Result<Vec<Call>, Refusal>
-    ensures is { IfOk result (λ v. (first_refusal (call_list_checks (view value.now)) ≡ None)
-        × (calls_of (view value.now) ≡ Some v.items)) }
-    ensures refused { IfErr result (λ e. (e ≢ Refusal.NotJson)
-        × (e ≢ Refusal.NoMemory → first_refusal (call_list_checks (view value.now)) ≡ Some e)) }
-    ensures exist { IfOk result (λ v. cursors_exist 1 v.items ≡ true) }
+fn read_list(alloc: Global, value: &Value) -> Result<Items<Call>, Fault>
+    ensures calls { Reads (calls_of (view value.now)) result }
+    ensures exist { IfOk result (λ v. cursors_exist 1 v ≡ true) }
 {
     read_items(alloc, list(value, MAX_CALLS)?)
 }
 
-fn read_items(alloc: Global, items: &[Value]) -> Result<Vec<Call>, Refusal>
-    ensures is { IfOk result (λ v. (first_refusal (calls_checks 1 (map view items.now)) ≡ None)
-        × (map call_of (map view items.now) ≡ map Some v.items)) }
-    ensures refused { IfErr result (λ e. (e ≢ Refusal.NotJson)
-        × (e ≢ Refusal.NoMemory → first_refusal (calls_checks 1 (map view items.now)) ≡ Some e)) }
-    ensures exist { IfOk result (λ v. cursors_exist 1 v.items ≡ true) }
+fn read_items(alloc: Global, items: &[Value]) -> Result<Items<Call>, Fault>
+    ensures calls { Reads (calls_from 1 0 (map view items.now)) result }
+    ensures exist { IfOk result (λ v. cursors_exist 1 v ≡ true) }
 {
     let mut calls = Vec::new(alloc);
     let mut made = 1;
-    for item in items {
-        let call = read_call(alloc, made, item)?;
+    for number in 0..items.len() {
+        let call = read_call(alloc, made, number, &items[number])?;
         made += cursors_made(&call);
         calls.push(call)?;
     }
-    Ok(calls)
+    Ok(Items::from_vec(calls))
 }
 
 /// How many cursors a call makes.

@@ -1,57 +1,64 @@
-// Reads the numbers in a call.
-ghost use Rattle.std.specs.Prelude.{◌<◌, ◌∷◌, [], IfOk};
+// Reads the parts of a call.
+ghost use Rattle.std.specs.Prelude.{◌≡◌, ◌<◌, IfOk};
 ghost use Rattle.serde_json.specs.View.{view};
-ghost use Rattle.msg_files.specs.Prelude.{IsAnswer, a_cursor, a_limit, a_message_number, a_number, a_value, both, natural, whole};
+ghost use Rattle.msg_files.specs.{CallsFormat.cursor_and_limit, CallsFormat.cursor_in, CallsFormat.cursor_part, CallsFormat.message_in, CallsFormat.message_part, CallsFormat.value_part, CallsFormat.values_part, Faults.Reads};
 
+use crate::fault::{Fault, in_part};
 use crate::limits::MAX_LIMIT;
-use crate::numbers::{natural_number, number, small_number, whole_number};
-use crate::refusal::Refusal;
+use crate::numbers::{self, natural_number, number, small_number};
+use msg_world::Items;
 use serde_json::Value;
+use std::alloc::Global;
 
 /// A value of a message.
-pub fn value(part: &Value) -> Result<i64, Refusal>
-    ensures agrees { IsAnswer (a_number (view part.now) ∷ a_value (view part.now) ∷ [])
-        (whole (view part.now)) result }
+pub fn value(part: &Value) -> Result<i64, Fault>
+    ensures value { result ≡ value_part (view part.now) }
 {
-    whole_number(number(part)?)
+    in_part(1, numbers::value(part))
+}
+
+/// The values of a batch.
+pub fn values(alloc: Global, part: &Value) -> Result<Items<i64>, Fault>
+    ensures values { Reads (values_part (view part.now)) result }
+{
+    in_part(1, numbers::values(alloc, part))
 }
 
 /// The number of a cursor that was made.
-pub fn cursor(made: u32, part: &Value) -> Result<u32, Refusal>
+pub fn cursor(made: u32, part: &Value) -> Result<u32, Fault>
     ensures small { IfOk result (λ c. c < made) }
-    ensures is { IsAnswer (a_number (view part.now) ∷ a_cursor made (view part.now) ∷ [])
-        (natural (view part.now)) result }
+    ensures cursor { result ≡ cursor_part made (view part.now) }
 {
-    small_number(number(part)?, made)
+    in_part(1, cursor_of(made, part))
+}
+
+fn cursor_of(made: u32, value: &Value) -> Result<u32, Fault>
+    ensures small { IfOk result (λ c. c < made) }
+    ensures cursor { result ≡ cursor_in made (view value.now) }
+{
+    small_number(number(value)?, made)
 }
 
 /// The number of a message.
-pub fn message_number(part: &Value) -> Result<u64, Refusal>
-    ensures agrees { IsAnswer (a_number (view part.now) ∷ a_message_number (view part.now) ∷ [])
-        (natural (view part.now)) result }
+pub fn message_number(part: &Value) -> Result<u64, Fault>
+    ensures number { result ≡ message_part (view part.now) }
 {
-    natural_number(number(part)?)
+    in_part(1, message_of(part))
+}
+
+fn message_of(value: &Value) -> Result<u64, Fault>
+    ensures number { result ≡ message_in (view value.now) }
+{
+    natural_number(number(value)?)
 }
 
 /// A cursor that was made, and how many messages it reads at most.
-pub fn cursor_and_limit(made: u32, part: &Value, limit: &Value) -> Result<(u32, u32), Refusal>
+pub fn cursor_and_limit(made: u32, part: &Value, limit: &Value) -> Result<(u32, u32), Fault>
     ensures small { IfOk result (λ p. p.0 < made) }
-    ensures is { IsAnswer
-        (a_number (view part.now) ∷ a_number (view limit.now)
-        ∷ a_cursor made (view part.now) ∷ a_limit (view limit.now) ∷ [])
-        (both (λ c k. record { 0 = c; 1 = k }) (natural (view part.now)) (natural (view limit.now)))
-        result }
+    ensures both { result ≡ cursor_and_limit made (view part.now) (view limit.now) }
 {
-    let part = number(part)?;
-    let limit = number(limit)?;
-    let cursor = small_number(part, made)?;
-    Ok((cursor, small_number(limit, MAX_LIMIT + 1)?))
-}
-
-/// The limit of a buffer.
-pub fn buffer_limit(value: &Value) -> Result<u32, Refusal>
-    ensures agrees { IsAnswer (a_number (view value.now) ∷ a_limit (view value.now) ∷ [])
-        (natural (view value.now)) result }
-{
-    small_number(number(value)?, MAX_LIMIT + 1)
+    let part = in_part(1, number(part))?;
+    let limit = in_part(2, number(limit))?;
+    let cursor = in_part(1, small_number(part, made))?;
+    Ok((cursor, in_part(2, small_number(limit, MAX_LIMIT + 1))?))
 }

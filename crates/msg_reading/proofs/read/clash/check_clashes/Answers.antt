@@ -1,7 +1,8 @@
 use Rattle.std.proofs.Common.{◌∙◌, ap, sym, refl, ◌+◌}
 use Rattle.msg_system.specs.Prelude.{HasClash, program_needs}
 use Rattle.std.proofs.lemmas.{Bool.false≢true, List.take_all, List.Elements.All-more, Option.slice_get_read}
-use Rattle.msg_files.specs.declared.refusal.Refusal.TheVariants.{Clash}
+use Rattle.msg_files.specs.declared.reason.Reason.TheVariants.{Clash}
+use Rattle.msg_reading.specs.Prelude.{unfit}
 use Rattle.msg_reading.proofs.read.clash.check_clashes.Goals as goal
 
 pub loop-system-preserved : goal.loop-system-preserved
@@ -14,9 +15,9 @@ loop-system-preserved c = record {
 
 pub returns-then-is_clash-clause-refused : goal.returns-then-is_clash-clause-refused
 returns-then-is_clash-clause-refused c =
-    let i = c.loop-system.system-index in (
+    let i = c.loop-system.system-index in rw c.clash_of.ensures.clash (
       i,
-      ap (λ n. Clash n) c.loop-system.invariant.number,
+      ap (λ n. unfit (Clash n)) c.loop-system.invariant.number,
       record {
         system = c.system-item.result;
         is = slice_get_read c.args.systems.now _ i c.system-item.result refl c.loop-system-test.true c.system-item.is;

@@ -1,18 +1,18 @@
-use Rattle.std.proofs.Common.{◌∙◌, append_assoc, arith, refl}
-use Rattle.std.proofs.lemmas.{Grind.common_steps, List.drop_more, List.map-append, Result.err_from_is_err_and}
-use Rattle.msg_files.proofs.WalksOverLists.{refusal_of_both}
+use Rattle.std.proofs.lemmas.{List.drop_more, Result.err_from_is_err_and}
+use Rattle.msg_reading.proofs.ListsInTurn.{element_more, element_refused}
 use Rattle.msg_reading.proofs.read.list.read_items.Goals as goal
 
-pub returns-in_err-read-clause-refused : goal.returns-in_err-read-clause-refused
-returns-in_err-read-clause-refused g c =
+pub returns-in_err-element : goal.returns-in_err-element
+returns-in_err-element g c =
     let passed = err_from_is_err_and c.from_residual.result c.from_residual.ensures.1 in
-    let refused = c.in_err-read.ensures.agrees in
-    let here = drop_more c.args.items.now _ c.item-item.result c.loop-item-test.true in
-    rw (passed.1, passed.2) (
-      refused.0,
-      λ m. c.loop-item.invariant.passed ∙ rw (here, refusal_of_both, ← c.item-item.is, refused.1 m) refl,
-    )
+    let item = c.index-items-n in
+    let is = rw (← item.is) at (drop_more c.args.items.now _ item.result c.loop-n-test.true) in
+    let refused = element_refused _ _ _ _ _ _ c.loop-n.invariant _ is c.read.new.names _ c.in_err-element.ensures.reads in
+    record { reads = rw (passed.1, passed.2) refused }
 
-pub loop-item-preserved : goal.loop-item-preserved
-loop-item-preserved g c =
-    grind (arith, common_steps, c.item-item.is, drop_more, map-append, refusal_of_both, append_assoc)
+pub loop-n-preserved : goal.loop-n-preserved
+loop-n-preserved g c =
+    let item = c.index-items-n in
+    let is = rw (← item.is) at (drop_more c.args.items.now _ item.result c.loop-n-test.true) in
+    rw c.in_ok-push.ensures.items
+    (element_more _ _ _ _ _ _ c.loop-n.invariant _ is _ _ c.in_ok-element.ensures.reads)

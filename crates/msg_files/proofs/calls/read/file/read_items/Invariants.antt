@@ -1,5 +1,5 @@
 use Rattle.msg_files.proofs.WalksOverLists.{CallsLeft}
 use Rattle.msg_files.proofs.calls.read.file.read_items.Given as goal
 
-abbrev pub invariant-loop-item : goal.invariant-loop-item
-invariant-loop-item l = CallsLeft l.items l.item-index l.calls.items l.made
+abbrev pub invariant-loop-number : goal.invariant-loop-number
+invariant-loop-number l = CallsLeft l.items l.number l.calls.items l.made

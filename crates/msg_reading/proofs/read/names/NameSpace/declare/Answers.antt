@@ -13,6 +13,6 @@ returns-clause-declares c =
     let inserted : c.insert.new.self.keys ≡ insert_key (λ a b. bytes_eq (string_bytes a) (string_bytes b)) old key =
     grind (arith, c.in_ok-insert.ensures.keys) in
     let absent : position_of (map string_bytes old) name ≡ None =
-    grind (arith, c.self.view_is, c.place.ensures.place, c.if-is_some.ensures) in
+    grind (arith, c.self.view_is, c.place.ensures.place, c.in_default.ensures) in
     ap (map string_bytes) inserted ∙ insert-new old key name c.in_ok-key.ensures.ok absent
     ∙ ap (λ s. s ++ name ∷ []) c.self.view_is

@@ -1,0 +1,9 @@
+use Rattle.msg_reading.specs.Prelude.{resources_of}
+use Rattle.msg_reading.proofs.ListsInTurn.{ReadsWith_inside}
+use Rattle.msg_reading.proofs.read.file.read_resources.Goals as goal
+
+pub returns : goal.returns
+unfolding resources_of
+returns c =
+    let read = rw (c.get-list.ensures, c.text.ensures.text) at c.read_list_if_there-resources.ensures.reads in
+    record { reads = rw c.in_section.ensures.inside (ReadsWith_inside _ _ _ _ read) }
