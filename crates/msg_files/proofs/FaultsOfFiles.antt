@@ -1,5 +1,5 @@
 -- What a fault of a file says of its bytes.
-use Rattle.std.proofs.Common.{◌≡◌, ◌≢◌, List, ℕ, refl, inl, inr}
+use Rattle.std.proofs.Common.{◌≢◌, List, ℕ, refl, inl, inr}
 use Rattle.serde_json.specs.Data.{Data}
 use Rattle.msg_files.specs.Prelude.{IsFaultOf, IsJsonOf, IsRefused, IsUnread, Reading, refusal_of}
 use Rattle.msg_files.specs.declared.refusal.Refusal.TheVariants.{NoMemory, NotJson}

@@ -1,7 +1,7 @@
 -- Words on JSON values.
-use Rattle.std.specs.Prelude.{◌≡◌, IsUtf8, ℕ, ◌+◌, ℤ, pos, negsuc, ◌&&◌, nat_lt, Bool, List, [], ◌∷◌, Option, Some, None, is_some, option_map, option_and_then, unwrap_or, if◌then◌else◌}
+use Rattle.std.specs.Prelude.{◌≡◌, IsUtf8, ℕ, ℤ, pos, negsuc, ◌&&◌, nat_lt, Bool, List, [], ◌∷◌, Option, Some, None, is_some, option_map, unwrap_or, if◌then◌else◌}
 use Rattle.std.specs.List.{list_all}
-use Rattle.serde_json.specs.{Data.Data, Data.null, Data.Items, Data.no_items, Data.item, Data.Members, Data.no_members, Data.member, Read.read, Find.get, Find.as_number, Find.as_array, Find.as_object, Find.as_str, Find.as_i64}
+use Rattle.serde_json.specs.{Data.Data, Data.Items, Data.no_items, Data.item, Data.Members, Data.no_members, Data.member, Read.read, Find.as_number, Find.as_array, Find.as_object}
 
 -- a text, as its bytes
 abbrev pub Text : Type 0

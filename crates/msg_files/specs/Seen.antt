@@ -1,5 +1,5 @@
 -- What is read by reference, with what stands behind the references.
-use Rattle.std.specs.Prelude.{ℕ, List, map, Result, Ok, Err}
+use Rattle.std.specs.Prelude.{List, map, Result, Ok, Err}
 use Rattle.std.specs.Borrow.{Bor}
 use Rattle.serde_json.specs.{Data.Data, Data.Num, View.view, View.number_view, declared.value.Value.Value, declared.number.Number.Number}
 use Rattle.msg_files.specs.{Json.Text, Faults.Reading, declared.fault.Fault.Fault}

@@ -1,7 +1,5 @@
 -- The parts of files: objects, lists, texts and numbers, read from JSON values.
-use Rattle.std.specs.Prelude.{ℕ, ◌+◌, ℤ, ◌&&◌, ⊤, nat_le, nat_lt, not, Bool, List, [], ◌∷◌, length, position, Option, Some, None, Result, Ok, Err, option_and_then, is_some}
-use Rattle.std.specs.List.{list_all}
-use Rattle.std.specs.Borrow.{Bor}
+use Rattle.std.specs.Prelude.{ℕ, ◌+◌, ℤ, ⊤, nat_le, not, Bool, List, [], ◌∷◌, length, position, Some, None, Ok, Err, option_and_then}
 use Rattle.serde_json.specs.{Data.Data, Find.get, Find.as_i64, Find.as_number, Find.as_str, Data.Num}
 use Rattle.msg_files.specs.Json.{Text, elements, is_list, is_list_of_numbers, is_object, keys, not_negative, only_below}
 use Rattle.msg_files.specs.Faults.{Reading, fails, found, here, in_value, key_text, wanted, ◌>>=◌}

@@ -1,14 +1,13 @@
 -- A scenario that was read can be run, if no program clashes and its rules make no cycle.
-use Rattle.std.proofs.Common.{◌≡◌, ℕ, ℤ, suc, ◌+◌, ◌≤◌, ◌<◌, List, [], length, refl, Option, Some, None, Ok, true, arith, All, IfOk, IsTrue, option_and_then}
+use Rattle.std.proofs.Common.{◌≡◌, ℕ, ℤ, ◌+◌, ◌≤◌, ◌<◌, List, length, refl, Option, Some, Ok, arith, All, IfOk, IsTrue, option_and_then}
 use Rattle.std.proofs.lemmas.{Grind.common_steps, Result.IfOk-at_ok}
 use Rattle.serde_json.specs.{Data.Data, Data.number, Data.unsigned, Find.as_i64}
 use Rattle.msg_world.specs.Prelude.{HasPart, Part}
 use Rattle.msg_system.specs.Prelude.{HasClash, job_needs, needs_any, program_needs}
 use Rattle.msg_system.specs.{declared.condition.Condition.Condition, declared.op.Op.Op}
 use Rattle.msg_order.specs.Prelude.{IsAcyclic, NameSystemsBelow, edges_of}
-use Rattle.msg_order.specs.declared.rule.Rule.{Rule}
 use Rattle.msg_frames.specs.declared.frame.Frame.{Frame}
-use Rattle.msg_files.specs.Prelude.{Reading, Text, at_key, elements, in_element, in_item, in_key, in_part, known_keys, limit, not_negative, number_of, only_below, whole, ◌>>=◌}
+use Rattle.msg_files.specs.Prelude.{Reading, Text, at_key, elements, in_element, in_item, in_key, in_part, known_keys, limit, not_negative, number_of, only_below, whole}
 use Rattle.msg_files.specs.declared.location.Key.TheVariants as key
 use Rattle.msg_scenario_data.specs.{Prelude.IsRunnable, Prelude.fits_kind, declared.kind.Kind.Kind, declared.scenario.Scenario.Scenario, declared.scenario.SystemSpec.SystemSpec}
 use Rattle.msg_reading.specs.ScenarioFormat as Spec

@@ -1,5 +1,5 @@
 -- What the systems of a scenario file use is there, and so are the types that its frames post to.
-use Rattle.std.proofs.Common.{◌≡◌, ℕ, ℤ, ◌≤◌, ◌<◌, List, [], ◌∷◌, length, Option, Some, None, Ok, true, arith, All, IfOk, IfSome, IsTrue, codes, option_and_then}
+use Rattle.std.proofs.Common.{◌≡◌, ℕ, ℤ, ◌<◌, List, [], ◌∷◌, length, Option, Some, Ok, true, arith, All, IfOk, IfSome, IsTrue, codes, option_and_then}
 use Rattle.std.proofs.lemmas.{Bool.eqb-true, List.Elements.All-head, List.Elements.All-tail, List.Elements.All-weaker, List.Quantifiers.position-Some, Result.IfOk-at_ok}
 use Rattle.std.specs.{List.list_any, Str.bytes_eq}
 use Rattle.serde_json.specs.Data.{Data}
@@ -9,7 +9,7 @@ use Rattle.msg_system.specs.{declared.condition.Condition.Condition, declared.co
 use Rattle.msg_order.specs.declared.rule.Rule.{Rule}
 use Rattle.msg_files.specs.Prelude.{Reading, Text, elements, headed, in_nots, in_part, only_below, text_in, whole, ◌>>=◌}
 use Rattle.msg_reading.specs.ScenarioFormat as Spec
-use Rattle.msg_reading.specs.Prelude.{Declared, position_of, resource_number, system_number, type_number}
+use Rattle.msg_reading.specs.Prelude.{Declared, resource_number, system_number, type_number}
 use Rattle.msg_reading.proofs.FitsOfReadings.{either, in_then, of_found, within}
 
 -- ---- parts that are there

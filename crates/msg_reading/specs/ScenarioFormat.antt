@@ -7,7 +7,7 @@ use Rattle.msg_system.specs.{declared.op.Op.Op, declared.condition.Condition.Con
 use Rattle.msg_system.specs.declared.op.Op.TheVariants as op
 use Rattle.msg_system.specs.declared.condition.Probe.TheVariants as probe
 use Rattle.msg_system.specs.declared.start.Start.TheVariants as start
-use Rattle.msg_frames.specs.{declared.frame.Frame.Frame, declared.place.Place.Place}
+use Rattle.msg_frames.specs.{declared.frame.Frame.Frame}
 use Rattle.msg_order.specs.declared.rule.Rule.{Rule}
 use Rattle.msg_files.specs.Prelude.{Reading, Text, at_key, batch_of, elements, fails, found, headed, in_element, in_item, in_key, in_nots, in_part, in_section, key_text, known_keys, limit, list_up_to, not_negative, number_of, numbers_of, only_below, text_in, wanted, whole, ◌>>=◌}
 use Rattle.msg_files.specs.declared.location.Key.{Key}

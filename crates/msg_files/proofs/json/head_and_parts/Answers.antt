@@ -1,4 +1,4 @@
-use Rattle.std.proofs.Common.{◌∙◌, ap, refl, sym, Some}
+use Rattle.std.proofs.Common.{◌∙◌, ap, refl, Some}
 use Rattle.serde_json.specs.View.{view, items_view}
 use Rattle.msg_files.proofs.WalksOverLists.{first_and_rest}
 use Rattle.msg_files.proofs.json.head_and_parts.Goals as goal
