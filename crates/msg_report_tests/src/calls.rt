@@ -1,5 +1,7 @@
-// The text that a calls file is answered with.
+// The text that a calls file is answered with, and the pieces that it is put in.
+use crate::counting::Counting;
 use crate::narrow::Narrow;
+use crate::texts::long_file;
 use msg_scenario::{Calls, MemorySink, ReportFault, read_calls, run_calls};
 use std::process::Abort;
 
@@ -53,4 +55,18 @@ fn sinks_that_fail(rt: HostRuntime) {
     assert_eq!(rt; run_calls(rt.alloc(), &calls, &mut sink), Ok(()));
     assert_eq!(rt; sink.taken(), text.as_slice());
     assert_eq!(rt; sink.failures(), 0);
+}
+
+/// Ten thousand lines of seven bytes each are put in a few pieces, the longest of which has 65,536
+/// bytes or up to six more.
+#[test]
+fn lines_are_put_in_large_pieces(rt: HostRuntime) {
+    let (_, file) = long_file(&rt, r#"Ok 10000 ["update"] {"limit":1,"calls":[*]}"#);
+    let calls = calls_of(&rt, file.as_str());
+    let mut sink = Counting::new();
+    assert_eq!(rt; run_calls(rt.alloc(), &calls, &mut sink), Ok(()));
+    let (pieces, longest) = (sink.pieces(), sink.longest());
+    assert_eq!(rt; sink.bytes(), 70_000);
+    assert!(rt; pieces <= 4, "{pieces} pieces");
+    assert!(rt; 65_536 <= longest && longest <= 65_542, "{longest} bytes");
 }

@@ -8,9 +8,13 @@ mod calls_files;
 #[cfg(test)]
 mod command;
 #[cfg(test)]
+mod counting;
+#[cfg(test)]
 mod made;
 #[cfg(test)]
 mod narrow;
+#[cfg(test)]
+mod numerals;
 #[cfg(test)]
 mod reports;
 #[cfg(test)]

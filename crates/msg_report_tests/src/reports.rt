@@ -10,6 +10,19 @@ use std::process::Abort;
 use std::sync::atomic::{AtomicU64, Ordering};
 use std::thread::Threads;
 
+/// A reader that runs before the writer, in two frames.
+const LAG: &str =
+    r#"{"types":[["hit",10]],"systems":[{"name":"r","ops":[["read","hit"]]},{"name":"w","ops":[["write","hit",5]]}],"rules":[["r","w"]],"frames":[[],[]]}"#;
+
+const LAG_REPORT: &str = "\
+    frame 1\n\
+    r read hit missed 0: none\n\
+    w write hit 0+1\n\
+    frame 2\n\
+    r read hit missed 0: 0=5@w\n\
+    w write hit 1+1\n\
+    reader r hit start 0 got 1 missed 0 cleared 0 place 1\n";
+
 const TWO_READERS: &str =
     r#"{"types":[["hit",200]],"systems":[{"name":"a","ops":[["read","hit"]]},{"name":"b","ops":[["read","hit"]]}],"frames":[[["hit",3]],[["hit",4]]]}"#;
 
@@ -64,53 +77,91 @@ fn report_by_systems<R: Threads + Sync + Abort + AllocGlobal, S: Sink, G: Gate>(
     put.expect(rt, "an engine")
 }
 
-/// What the report of the two readers came to, by an engine where `of_engine` is true, and else by
-/// systems. Beside it stands what is told of the engine.
-fn report_of<R: Threads + Sync + Abort + AllocGlobal, S: Sink, G: Gate>(
-    rt: &R,
-    of_engine: bool,
+/// A scenario file, the number of workers, for how many runs each system has memory, and whether
+/// the report is by an engine, and else by systems.
+#[derive(Clone, Copy)]
+struct Asked {
+    file: &'static str,
     on: u32,
     runs: u32,
+    of_engine: bool,
+}
+
+/// What the report came to. Where it is by an engine, what is told of that stands beside it.
+fn report_of<R: Threads + Sync + Abort + AllocGlobal, S: Sink, G: Gate>(
+    rt: &R,
+    asked: Asked,
     gate: &G,
     sink: &mut S,
 ) -> (Result<(), ReportFault>, Option<(u32, bool)>) {
-    let Ok(scenario) = read_scenario(rt.alloc(), TWO_READERS.as_bytes()) else {
+    let Ok(scenario) = read_scenario(rt.alloc(), asked.file.as_bytes()) else {
         panic!(rt; "refused")
     };
-    if of_engine {
-        let (put, engine) = report_by_engine(rt, &scenario, workers(rt, on), runs, gate, sink);
+    let workers = workers(rt, asked.on);
+    if asked.of_engine {
+        let (put, engine) = report_by_engine(rt, &scenario, workers, asked.runs, gate, sink);
         return (put, Some(engine));
     }
-    let put = report_by_systems(rt, &scenario, workers(rt, on), runs, gate, sink);
+    let put = report_by_systems(rt, &scenario, workers, asked.runs, gate, sink);
     (put, None)
+}
+
+/// The report of `LAG` on one worker.
+fn lag(of_engine: bool) -> Asked {
+    Asked {
+        file: LAG,
+        on: 1,
+        runs: 2,
+        of_engine,
+    }
 }
 
 #[test]
 fn sinks_that_take_little(rt: HostRuntime) {
     for (at_once, of_engine) in [(1, true), (7, true), (1, false)] {
-        let mut sink = Narrow::new(at_once, WHOLE.len(), false);
-        let (put, _) = report_of(&rt, of_engine, 2, 2, &NoGate, &mut sink);
+        let mut sink = Narrow::new(at_once, 155, false);
+        let (put, _) = report_of(&rt, lag(of_engine), &NoGate, &mut sink);
         assert_eq!(rt; put, Ok(()), "{at_once}");
         assert_eq!(rt; sink.failures(), 0, "{at_once}");
-        assert!(rt; sink.taken() == WHOLE.as_bytes(), "{at_once}");
+        assert!(rt; sink.taken() == LAG_REPORT.as_bytes(), "{at_once}");
     }
 }
 
-/// A sink that fails after `left` bytes has just these, and later frames weren't run.
+/// A sink that fails after `left` bytes of the 155 has just these. The first frame has 50 of them,
+/// and where they weren't taken the second frame wasn't run.
 #[test]
 fn sinks_that_fail(rt: HostRuntime) {
-    for left in 0..WHOLE.len() {
+    for left in 0..=154 {
         for of_engine in [true, false] {
             let mut sink = Narrow::new(1000, left, left % 2 == 0);
-            let (put, engine) = report_of(&rt, of_engine, 1, 2, &NoGate, &mut sink);
+            let (put, engine) = report_of(&rt, lag(of_engine), &NoGate, &mut sink);
             assert_eq!(rt; put, Err(ReportFault::Write), "{left}");
             assert_eq!(rt; sink.failures(), 1, "{left}");
-            assert!(rt; sink.taken() == &WHOLE.as_bytes()[..left], "{left}");
+            assert!(rt; sink.taken() == &LAG_REPORT.as_bytes()[..left], "{left}");
             if of_engine {
-                let frames = if left < FIRST_FRAME.len() { 1 } else { 2 };
+                let frames = if left <= 49 { 1 } else { 2 };
                 assert_eq!(rt; engine, Some((frames, false)), "{left}");
             }
         }
+    }
+}
+
+#[test]
+fn a_sink_of_nine_bytes(rt: HostRuntime) {
+    let mut sink = Narrow::new(9, 9, false);
+    let (put, engine) = report_of(&rt, lag(true), &NoGate, &mut sink);
+    assert_eq!(rt; put, Err(ReportFault::Write));
+    assert!(rt; sink.taken() == b"frame 1\nr".as_slice());
+    assert_eq!(rt; engine, Some((1, false)));
+}
+
+/// The report of the two readers on two workers.
+fn two_readers(runs: u32, of_engine: bool) -> Asked {
+    Asked {
+        file: TWO_READERS,
+        on: 2,
+        runs,
+        of_engine,
     }
 }
 
@@ -119,7 +170,7 @@ fn systems_without_memory(rt: HostRuntime) {
     for (runs, want) in [(0, ""), (1, FIRST_FRAME)] {
         for of_engine in [true, false] {
             let mut sink = MemorySink::new();
-            let (put, engine) = report_of(&rt, of_engine, 2, runs, &NoGate, &mut sink);
+            let (put, engine) = report_of(&rt, two_readers(runs, of_engine), &NoGate, &mut sink);
             assert_eq!(rt; put, Err(ReportFault::Run(RunFault::NoMemory)), "{runs}");
             assert!(rt; sink.bytes() == want.as_bytes(), "{runs}");
             if of_engine {
@@ -160,7 +211,7 @@ fn readers_run_side_by_side(rt: HostRuntime) {
             limits_met: AtomicU64::new(0),
         };
         let mut sink = MemorySink::new();
-        let (put, _) = report_of(&rt, of_engine, 2, 2, &gate, &mut sink);
+        let (put, _) = report_of(&rt, two_readers(2, of_engine), &gate, &mut sink);
         assert_eq!(rt; put, Ok(()));
         assert_eq!(rt; gate.came.load(Ordering::SeqCst), 2);
         assert_eq!(rt; gate.limits_met.load(Ordering::SeqCst), 0);

@@ -23,7 +23,7 @@ fn whole(rt: &(impl Abort + AllocGlobal), text: &str) -> String {
 }
 
 /// Files, or their systems, each behind the refusal that it gets.
-const REFUSED: [&str; 58] = [
+const REFUSED: [&str; 59] = [
     r#"BadName {"types":[["Hit",1]],"systems":[],"frames":[]}"#,
     r#"BadName {"types":[["host",1]],"systems":[],"frames":[]}"#,
     r#"BadName {"types":[["",1]],"systems":[],"frames":[]}"#,
@@ -52,8 +52,9 @@ const REFUSED: [&str; 58] = [
     r#"UnknownName {"types":[],"systems":[{"name":"a","ops":[]}],"rules":[["a","z"]],"frames":[]}"#,
     r#"Shape {"types":[],"systems":[{"name":"a","ops":[]}],"rules":[["a"]],"frames":[]}"#,
     r#"Clash(0) {"types":[["h",1]],"systems":[{"name":"a","ops":[["read","h"],["write","h",1]]}],"rules":[["a","a"]],"frames":[]}"#,
-    r#"Cycle(0) {"types":[],"systems":[{"name":"s0","ops":[]},{"name":"s1","ops":[]},{"name":"s2","ops":[]}],"rules":[["s0","s1"],["s1","s0"]],"frames":[]}"#,
-    r#"Cycle(1) {"types":[],"systems":[{"name":"s0","ops":[]},{"name":"s1","ops":[]},{"name":"s2","ops":[]}],"rules":[["s1","s1"]],"frames":[]}"#,
+    r#"Clash(0) {"types":[["hit",10]],"systems":[{"name":"r","ops":[["read","hit"],["write","hit",1]]}],"frames":[]}"#,
+    r#"Cycle(0) {"types":[["x",10],["y",10]],"systems":[{"name":"s0","ops":[["write","x",1]]},{"name":"s1","ops":[["write","y",2]]},{"name":"s2","ops":[["read","y"]]},{"name":"s3","ops":[["read","x"]]}],"rules":[["s0","s1"],["s1","s0"]],"frames":[[]]}"#,
+    r#"Cycle(1) {"types":[["x",10],["y",10]],"systems":[{"name":"s0","ops":[["write","x",1]]},{"name":"s1","ops":[["write","y",2]]},{"name":"s2","ops":[["read","y"]]},{"name":"s3","ops":[["read","x"]]}],"rules":[["s1","s1"]],"frames":[[]]}"#,
     r#"Cycle(1) {"types":[],"systems":[{"name":"s0","ops":[]},{"name":"s1","ops":[]},{"name":"s2","ops":[]}],"rules":[["s0","s1"],["s1","s2"],["s2","s1"]],"frames":[]}"#,
     r#"UnknownKey {"name":"A","ops":[],"y":0}"#,
     r#"Shape {"name":"a"}"#,
@@ -101,8 +102,8 @@ fn refused_files(rt: HostRuntime) {
 const LONG: [&str; 19] = [
     r#"Shape 64 0 {"types":[*],"systems":[],"frames":[]}"#,
     r#"TooMany 65 0 {"types":[*],"systems":[],"frames":[]}"#,
-    r#"Shape 256 0 {"types":[],"systems":[*],"frames":[]}"#,
-    r#"TooMany 257 0 {"types":[],"systems":[*],"frames":[]}"#,
+    r#"Shape 256 0 {"types":[["hit",9]],"systems":[*],"frames":[]}"#,
+    r#"TooMany 257 0 {"types":[["hit",9]],"systems":[*],"frames":[]}"#,
     r#"Shape 64 0 {"types":[],"resources":[*],"systems":[],"frames":[]}"#,
     r#"TooMany 65 0 {"types":[],"resources":[*],"systems":[],"frames":[]}"#,
     r#"Ok 64 ["len","hit"] {"name":"a","ops":[*]}"#,
@@ -160,12 +161,12 @@ fn deep_files(rt: HostRuntime) {
 #[test]
 fn longest_names(rt: HostRuntime) {
     let text =
-        r#"{"types":[["zzzzzzzzzzzzzzzzzzzzzzzzzzzzzzzz",1000000]],"systems":[],"frames":[]}"#;
+        r#"{"types":[["aaaaaaaaaaaaaaaaaaaaaaaaaaaaaaaa",1000000]],"systems":[],"frames":[]}"#;
     let scenario = accepted(&rt, text);
     let [(name, limit)] = scenario.types.as_slice() else {
         panic!(rt; "one type is declared");
     };
-    assert_eq!(rt; name.as_str(), "zzzzzzzzzzzzzzzzzzzzzzzzzzzzzzzz");
+    assert_eq!(rt; name.as_str(), "aaaaaaaaaaaaaaaaaaaaaaaaaaaaaaaa");
     assert_eq!(rt; *limit, 1_000_000);
 }
 

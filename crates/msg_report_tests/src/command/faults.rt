@@ -1,11 +1,12 @@
 // The line and the status of each fault, and the text that it shows itself as.
+use crate::narrow::Narrow;
 use msg_command::{InputFault, MainFault, WordFault, print_fault};
 use msg_files::{MemorySink, PutFault, Refusal, ReportFault, RunFault};
 use std::panic::Expect;
 use std::process::Abort;
 
-/// The fault prints this line behind the program's name, gives this status, and shows itself as
-/// this text.
+/// The fault prints this line behind the program's name, gives this status, also where nothing can
+/// be printed, and shows itself as this text.
 fn expect_line(
     rt: &(impl Abort + AllocGlobal),
     fault: MainFault,
@@ -15,6 +16,8 @@ fn expect_line(
 ) {
     let mut sink = MemorySink::new();
     assert_eq!(rt; print_fault(&fault, &mut sink), status);
+    let mut failing = Narrow::new(0, 0, false);
+    assert_eq!(rt; print_fault(&fault, &mut failing), status, "{line}");
     let printed = format!(in rt.alloc(); "msgrun: {line}\n").expect(rt, "memory");
     assert!(rt; sink.bytes() == printed.as_bytes(), "{line}");
     let shown = format!(in rt.alloc(); "{fault}").expect(rt, "memory");
@@ -78,6 +81,7 @@ fn inputs_and_words(rt: HostRuntime) {
         (MainFault::Input(InputFault::TooLarge), 2, "input too large"),
         (MainFault::Input(InputFault::NoMemory), 1, "want of memory"),
         (MainFault::Words(WordFault::Bad), 2, "bad command line"),
+        (MainFault::Words(WordFault::NoMemory), 1, "want of memory"),
     ] {
         expect_line(&rt, fault, line, status, line);
     }

@@ -3,10 +3,11 @@ use msg_command::{WordFault, parse_words};
 use std::panic::Expect;
 use std::process::Abort;
 
-/// The words of a line, which blanks part.
+/// The words of a line, which blanks part. Two quotes are the empty word.
 fn words_of(rt: &(impl Abort + AllocGlobal), line: &str) -> Vec<String> {
     let mut words = Vec::new(rt.alloc());
     for word in line.split_whitespace() {
+        let word = if word == "''" { "" } else { word };
         let word = word.to_string(rt.alloc()).expect(rt, "memory");
         words.push(word).expect(rt, "memory");
     }
@@ -14,9 +15,11 @@ fn words_of(rt: &(impl Abort + AllocGlobal), line: &str) -> Vec<String> {
 }
 
 /// Command lines, and what they are parsed as.
-const ACTIONS: [(&str, &str); 29] = [
+const ACTIONS: [(&str, &str); 34] = [
     ("", "Ok(Buffer(None))"),
     ("buffer f", "Ok(Buffer(Some(\"f\")))"),
+    ("buffer -", "Ok(Buffer(Some(\"-\")))"),
+    ("buffer ''", "Ok(Buffer(Some(\"\")))"),
     ("buffer -- --help", "Ok(Buffer(Some(\"--help\")))"),
     ("run f", "Ok(Run { file: \"f\", workers: 1 })"),
     ("run f --workers 7", "Ok(Run { file: \"f\", workers: 7 })"),
@@ -27,6 +30,8 @@ const ACTIONS: [(&str, &str); 29] = [
         "run -- --workers",
         "Ok(Run { file: \"--workers\", workers: 1 })",
     ),
+    ("run - --workers 2", "Ok(Run { file: \"-\", workers: 2 })"),
+    ("run ''", "Ok(Run { file: \"\", workers: 1 })"),
     ("run f --workers 0", "Err(Bad)"),
     ("run f --workers 65", "Err(Bad)"),
     ("run f --workers x", "Err(Bad)"),
@@ -38,6 +43,10 @@ const ACTIONS: [(&str, &str); 29] = [
     ("run", "Err(Bad)"),
     ("run --workers 7", "Err(Bad)"),
     ("run f g", "Err(Bad)"),
+    (
+        "run 2 3 4 5 6 7 8 9 10 11 12 13 14 15 16 17 18 19 20",
+        "Err(Bad)",
+    ),
     ("walk f", "Err(Bad)"),
     ("walk run f", "Err(Bad)"),
     ("--workers 7", "Err(Bad)"),

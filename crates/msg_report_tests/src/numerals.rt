@@ -1,0 +1,42 @@
+// Numbers in decimal: of each length up to the greatest, and the least.
+use msg_files::numerals::{add_number, add_value};
+use std::panic::Expect;
+
+const NUMBERS: [(u64, &str); 9] = [
+    (0, "0"),
+    (9, "9"),
+    (10, "10"),
+    (99_999, "99999"),
+    (999_999, "999999"),
+    (1_000_000, "1000000"),
+    (9_999_999, "9999999"),
+    (12_345_678_901, "12345678901"),
+    (u64::MAX, "18446744073709551615"),
+];
+
+const VALUES: [(i64, &str); 6] = [
+    (0, "0"),
+    (-1, "-1"),
+    (1_000_000, "1000000"),
+    (-9_999_999, "-9999999"),
+    (i64::MAX, "9223372036854775807"),
+    (i64::MIN, "-9223372036854775808"),
+];
+
+#[test]
+fn numbers(rt: HostRuntime) {
+    for (number, want) in NUMBERS {
+        let mut text = Vec::new(rt.alloc());
+        add_number(&mut text, number).expect(&rt, "memory");
+        assert!(rt; text.as_slice() == want.as_bytes(), "{number}");
+    }
+}
+
+#[test]
+fn values(rt: HostRuntime) {
+    for (value, want) in VALUES {
+        let mut text = Vec::new(rt.alloc());
+        add_value(&mut text, value).expect(&rt, "memory");
+        assert!(rt; text.as_slice() == want.as_bytes(), "{value}");
+    }
+}
