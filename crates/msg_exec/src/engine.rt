@@ -317,11 +317,13 @@ impl<S: System> EngineOf<S> {
     }
 
     /// A law: from each state that it stands for, all that a run comes to holds of each run. The
-    /// state is sound, as the laws of frames and of readers ask.
+    /// state is sound, as the laws of frames and of readers ask, and nothing was run since.
     pub fn runs_completely(&self)
         ensures complete { (s : State) → EngineStands S.meaning self.now s
             → (frames : List FrameView) → IsCompleteRun frames s }
         ensures sound { (s : State) → EngineStands S.meaning self.now s → IsSoundState s }
+        ensures since { (s : State) → EngineStands S.meaning self.now s
+            → HasRunSince S.meaning s [] [] self.now }
     {
         runs_are_complete();
     }

@@ -1,10 +1,10 @@
 -- What the functions make: the settled order, its batches, and the turns.
-use Rattle.std.proofs.Common.{◌≡◌, ℕ, zero, suc, ◌<◌, ◌≤◌, Bool, true, false, not, ◌&&◌, List, [], ◌∷◌, ◌++◌, length, refl, sym, ap, ◌∙◌, arith, inl, inr, ◌↔◌, ◌⊎◌, IsTrue, ◌≢◌, AllPairs, Contains, filter, append_assoc}
+use Rattle.std.proofs.Common.{◌≡◌, ℕ, zero, suc, ◌<◌, ◌≤◌, Bool, true, not, ◌&&◌, List, [], ◌∷◌, ◌++◌, length, refl, sym, ap, ◌∙◌, arith, inl, inr, ◌↔◌, ◌⊎◌, IsTrue, ◌≢◌, AllPairs, Contains, filter, append_assoc}
 use Rattle.std.specs.List.{concat, range_with_len}
-use Rattle.std.proofs.lemmas.{Bool.cases_Bool, Bool.cases_eq, Bool.and_parts, Bool.and_from, Bool.false≢true, Bool.Decides.eqb_tells, List.append-nil, List.Elements.Contains-append_cases, List.Filters.length-filter_both, List.FromFn.length-range_with_len, List.FromFn.get_or-range_with_len, List.Kept.AllPairs-filter}
+use Rattle.std.proofs.lemmas.{Bool.cases_Bool, Bool.cases_eq, Bool.and_parts, Bool.and_from, Bool.false≢true, List.append-nil, List.Elements.Contains-append_cases, List.Filters.length-filter_both, List.FromFn.length-range_with_len, List.FromFn.get_or-range_with_len, List.Kept.AllPairs-filter}
 use Rattle.msg_world.specs.{declared.access.Access.Access}
-use Rattle.msg_order.specs.Prelude.{AreBatches, AreInConflict, Graph, IsAcyclic, IsAmong, IsSettledOrder, IsTurnOrder, Path, Rule, RunsBefore, TellsConflicts, Settles, batches, batches_of, edges_of, follows, has_joined, pairs, path, rules_among, settle, settled, turns}
-use Rattle.msg_order.proofs.{Elements.filter-Contains, Elements.Contains-filter, Elements.list_any-Contains, Elements.Contains-list_any, Elements.Contains-cases, Elements.Contains-head, Elements.Contains-range, Elements.not_in_none, PathTest.no_Path, PathTest.no_path, PathTest.path_trans, SettledPairs.Contains-pairs, SettledPairs.pairs-Contains, SettledPairs.settles_covers, SettledPairs.settles_keeps, SettledPairs.settles_once, PathTest.to_Path, BatchLevels.TellsBlocked, BatchLevels.LeadAmong, BatchLevels.ArePeeled, BatchLevels.peeled_first, BatchLevels.peeled_next, BatchLevels.peeled_all, BatchLevels.peeled_done, BatchLevels.left_falls, Chains.number_rises, Chains.path_among, SetPaths.joined_in, TurnOrders.in_turn_order, TurnOrders.pairs_append, Uniqueness.same_ordered}
+use Rattle.msg_order.specs.Prelude.{AreBatches, AreInConflict, Graph, IsAcyclic, IsAmong, IsSettledOrder, IsTurnOrder, Path, Rule, RunsBefore, TellsConflicts, Settles, batches, batches_of, follows, has_joined, pairs, path, rules_among, settle, settled, turns}
+use Rattle.msg_order.proofs.{Elements.filter-Contains, Elements.Contains-filter, Elements.list_any-Contains, Elements.Contains-list_any, Elements.Contains-head, Elements.Contains-range, Elements.not_in_none, PathTest.no_Path, SettledPairs.Contains-pairs, SettledPairs.settles_covers, SettledPairs.settles_once, PathTest.to_Path, BatchLevels.TellsBlocked, BatchLevels.LeadAmong, BatchLevels.ArePeeled, BatchLevels.peeled_first, BatchLevels.peeled_next, BatchLevels.peeled_all, BatchLevels.peeled_done, BatchLevels.left_falls, Chains.number_rises, Chains.path_among, SetPaths.joined_in, SetPaths.settled_free, SetPaths.settled_joins, TurnOrders.in_turn_order, TurnOrders.pairs_append, Uniqueness.same_ordered}
 
 -- ---- the settled order
 
@@ -32,19 +32,13 @@ settled_by rules joined conflict =
 pub settled_among : (rules : List Rule) (joined : List Bool) (conflict : ℕ → ℕ → Bool)
     → IsAmong joined (settled conflict rules joined)
 settled_among rules joined conflict =
-    settles_keeps _ (IsAmong joined) _ (rules_among joined rules) _ (settled_by rules joined conflict)
-    (λ p k m gains among i j e. grind (arith, among i j, Contains-cases p k (i, j) e, and_parts, gains.0))
-    (λ i j e. and_parts _ _ (filter-Contains _ (edges_of rules) (i, j) e).1)
+    settled_joins _ rules joined (pairs (length joined)) _
+    (λ i j c. and_parts _ _ (and_parts _ (conflict i j) c).0) (settled_by rules joined conflict)
 
 pub settled_no_cycle : (rules : List Rule) (joined : List Bool) (conflict : ℕ → ℕ → Bool)
     → IsAcyclic (rules_among joined rules) → IsAcyclic (settled conflict rules joined)
-settled_no_cycle rules joined conflict free i =
-    no_Path _ i i (settles_keeps _ (λ k. (s : ℕ) → path k s s ≡ false) _ (rules_among joined rules) _
-    (settled_by rules joined conflict)
-    (λ p k m gains free s.
-    let rises = pairs-Contains (length joined) p.0 p.1 m in
-    grind (arith, cases_Bool, eqb_tells, free, no_path k p.1 p.0 gains.1, path_trans k, rises))
-    (λ k. no_path _ k k (free k)) i)
+settled_no_cycle rules joined conflict =
+    settled_free _ (length joined) (rules_among joined rules) _ (settled_by rules joined conflict)
 
 -- one of two in conflict comes before the other
 pub settled_orders : (rules : List Rule) (joined : List Bool) (conflict : ℕ → ℕ → Bool) (i j : ℕ) → i < j

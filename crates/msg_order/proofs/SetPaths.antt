@@ -2,8 +2,7 @@
 use Rattle.std.proofs.Common.{◌≡◌, ℕ, ◌+◌, ◌-◌, ◌<◌, ◌≤◌, Bool, true, false, cond, ◌&&◌, ◌||◌, List, [], ◌∷◌, ◌++◌, length, take, map, get_or, replicate, Option, None, Some, refl, sym, ◌∙◌, arith, length-append, ◌==◌, IsTrue, IsFalse, MatchOption, ◌↔◌}
 use Rattle.std.specs.List.{list_any, range_with_len}
 use Rattle.std.proofs.lemmas.{Bool.cases_Bool, List.append-nil, List.get_or-map, List.length-map, List.take-map, List.get_or-take, List.get_or_past, List.get_or_push, List.get_or_append_left, Simd.get_or-replicate, List.Elements.All-head, List.Elements.All-tail, List.Elements.filter_more, List.Elements.Contains-append_left, List.Elements.Contains-push, List.Elements.Contains-push_cases, Bool.Decides.eqb_tells, Bool.cases_eq, Bool.cases_lt, Bool.or_left, Bool.or_right, Bool.or_cases, Bool.and_parts, Bool.false≢true, Bool.false_from_ne_true, Bool.eqb-true, Bool.eq-eqb}
-use Rattle.msg_world.specs.declared.access.Access.{Access}
-use Rattle.msg_order.specs.Prelude.{AreInConflict, Graph, IsAcyclic, IsAmong, IsLowestOnCycle, NameSystemsBelow, Rule, Settles, SystemSet, edges_of, has_joined, pairs, rules_among}
+use Rattle.msg_order.specs.Prelude.{Graph, IsAcyclic, IsAmong, IsLowestOnCycle, NameSystemsBelow, Rule, Settles, SystemSet, edges_of, has_joined, pairs, rules_among}
 use Rattle.msg_order.specs.{inner.SystemSet.has, inner.SystemSet.meets, inner.SystemSet.no_set, Graph.path, inner.Paths.set_at, inner.Paths.comes_before, inner.Paths.ArePaths}
 use Rattle.msg_order.proofs.{SystemSets.has-no_set, SystemSets.meets-found, SystemSets.meets-true, Elements.Contains-tail, Elements.Contains-cases, Elements.Contains-list_any, Elements.Contains-range, Elements.filter-Contains, Elements.list_any-Contains, Elements.range-Contains, PathTest.path_trans, PathTest.to_Path, PathTest.no_Path, PathTest.no_path, PathTest.same_test, PathTest.same_paths, SettledPairs.grown, SettledPairs.grown_paths, SettledPairs.reaches, SettledPairs.settles_row, SettledPairs.settles_then, SettledPairs.settles_keeps, SettledPairs.pairs_until, SettledPairs.pairs_until-more, SettledPairs.row, SettledPairs.pairs-Contains}
 
@@ -131,20 +130,21 @@ all_rules m n (rule ∷ rules) le below =
     grind (arith, get_or-take, get_or-replicate) in
     rw (joined rule.earlier here.0, joined rule.later here.1, rest) refl
 
-pub settled_joins : (accesses : List Access) (rules : List Rule) (joined : List Bool) (h : Graph)
-    → Settles (AreInConflict accesses joined) (rules_among joined rules) (pairs (length accesses)) h → IsAmong joined h
-settled_joins accesses rules joined h s =
-    settles_keeps _ (IsAmong joined) _ (rules_among joined rules) h s
-    (λ p k m gains among i j e. grind (arith, among i j, Contains-cases p k (i, j) e, gains.0))
+-- what pairs of joined systems make of the rules leads among those that have joined
+pub settled_joins : (C : ℕ → ℕ → Type 0) (rules : List Rule) (joined : List Bool) (ps h : Graph)
+    → ((i j : ℕ) → C i j → IsTrue (has_joined joined i) × IsTrue (has_joined joined j))
+    → Settles C (rules_among joined rules) ps h → IsAmong joined h
+settled_joins C rules joined ps h joins s =
+    settles_keeps C (IsAmong joined) ps (rules_among joined rules) h s
+    (λ p k m gains among i j e. grind (arith, among i j, Contains-cases p k (i, j) e, joins p.0 p.1 gains.0))
     (λ i j e. and_parts _ _ (filter-Contains _ (edges_of rules) (i, j) e).1)
 
-pub settled_free : (accesses : List Access) (rules : List Rule) (joined : List Bool) (h : Graph)
-    → Settles (AreInConflict accesses joined) (rules_among joined rules) (pairs (length accesses)) h
-    → IsAcyclic (rules_among joined rules) → IsAcyclic h
-settled_free accesses rules joined h s f i =
-    no_Path h i i (settles_keeps _ (λ k. (s : ℕ) → path k s s ≡ false) _ (rules_among joined rules) h s
+-- and it has no cycle, where the rules have none
+pub settled_free : (C : ℕ → ℕ → Type 0) (n : ℕ) (g h : Graph) → Settles C g (pairs n) h → IsAcyclic g → IsAcyclic h
+settled_free C n g h s f i =
+    no_Path h i i (settles_keeps C (λ k. (s : ℕ) → path k s s ≡ false) (pairs n) g h s
     (λ p k m gains free s.
-    let rises = pairs-Contains (length accesses) p.0 p.1 m in
+    let rises = pairs-Contains n p.0 p.1 m in
     grind (arith, cases_Bool, eqb_tells, free, no_path k p.1 p.0 gains.1, path_trans k, rises))
     (λ k. no_path _ k k (f k)) i)
 

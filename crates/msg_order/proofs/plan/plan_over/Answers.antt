@@ -13,7 +13,7 @@ invariant_of-result _g c =
     let is : (with_items c.args.before before).items ≡ before = with_items_is c.args.before before (omega arith) in
     rw is (sets_kept settled.0 joined before c.set_of-joined.result (omega (arith, c.requires.as_many))
     (omega (arith, c.requires.as_many)) settled.1.0 c.set_of-joined.ensures
-    (settled_joins c.args.accesses.now c.args.rules.now joined settled.0 settled.1.1))
+    (settled_joins _ c.args.rules.now joined _ settled.0 (λ i j at. (at.first_joined, at.second_joined)) settled.1.1))
 
 pub returns-clause-plan : goal.returns-clause-plan
 returns-clause-plan _g c =
@@ -27,10 +27,11 @@ returns-clause-plan _g c =
     let settled = c.in_default.ensures.1.1.1 in
     let is : (with_items c.args.before c.settle.new.before).items ≡ c.settle.new.before =
     with_items_is c.args.before c.settle.new.before (omega arith) in
-    let among : IsAmong joined order = settled_joins accesses rules joined order settled in
+    let among : IsAmong joined order =
+    settled_joins _ rules joined _ order (λ i j at. (at.first_joined, at.second_joined)) settled in
     let classes : AreBatches order joined batches =
     c.in_ok-batches.ensures.batches order joined (rw (c.deref.ensures.value ∙ is) paths) c.set_of-joined.ensures among
-    (settled_free accesses rules joined order settled c.in_default.ensures.0) in
+    (settled_free _ (length accesses) _ order settled c.in_default.ensures.0) in
     let turns : IsTurnOrder order joined (concat batches) = in_turn_order order joined batches classes in
     record {
       order = order;

@@ -1,4 +1,4 @@
-use Rattle.msg_exec.proofs.EngineRunsFrames.{core_of}
+use Rattle.msg_exec.proofs.{EngineRunsFrames.core_of, SinceThen.since_none}
 use Rattle.msg_exec.proofs.engine.EngineOf.runs_completely.Goals as goal
 
 pub returns : goal.returns
@@ -8,4 +8,5 @@ returns g c =
       complete = λ s stands frames.
           c.runs_are_complete.ensures.law frames s (core_of m c.args.self.now s stands).1.1.sound;
       sound = λ s stands. (core_of m c.args.self.now s stands).1.1.sound;
+      since = λ s stands. since_none m c.args.self.now s stands;
     }
