@@ -1,6 +1,7 @@
 // Systems that decide by their memory: each on 1, 2, 7 and 64 workers.
 ghost use Rattle.msg_exec.specs.Prelude.{IsEngine};
 
+use crate::expecting::replies_of;
 use crate::making::{NUMBERS, frame_of, quiet, replay, run_frame};
 use msg_exec::{EngineBuilder, EngineOf, Frame, Log, NoGate, Outcome};
 use msg_part_tests::numbers::type_no;
@@ -212,5 +213,83 @@ fn they_take_turns(rt: HostRuntime) {
         for number in NUMBERS {
             expect_row(&rt, rt.alloc(), row, number);
         }
+    }
+}
+
+/// An engine of one of them, with what it reads and writes, and over types of this limit.
+fn engine_of_one(
+    rt: &impl Abort,
+    alloc: Global,
+    writes: u64,
+    access: Access,
+    limit: u64,
+) -> EngineOf<BehaviorSystem<Alternating>>
+    ensures engine { IsEngine ⟦<BehaviorSystem<Alternating> as System>⟧.meaning result }
+{
+    let behavior = Alternating {
+        here: type_no(0),
+        there: type_no(1),
+        writes,
+    };
+    let system = BehaviorSystem::new(alloc, behavior, access, Start::Zero, 0);
+    let mut systems = EngineBuilder::new(alloc);
+    let added = systems.add_system(system, Vec::new(alloc), 1);
+    added.expect(rt, "a system");
+    let world = World::new(alloc, &[limit; 2], &[]).expect(rt, "a world");
+    systems.build(world).expect(rt, "an engine")
+}
+
+/// Runs a frame in which it writes `wrote` messages, and then is told so often that numbers are
+/// spent.
+fn expect_spent<R: Threads + Sync + Abort, S: System>(
+    rt: &R,
+    alloc: Global,
+    engine: &mut EngineOf<S>,
+    number: u32,
+    wrote: u32,
+    spent: u32,
+)
+    requires engine { IsEngine S.meaning engine.old }
+    ensures engine { IsEngine S.meaning engine.new }
+{
+    let log = run_frame(rt, engine, &quiet(alloc), number, &NoGate).expect(rt, "a frame");
+    let replies = replies_of(rt, &log, 0);
+    assert_eq!(rt; replies.len(), wrote as usize + spent as usize);
+    for (k, reply) in replies.iter().enumerate() {
+        assert_eq!(rt; matches!(reply, Reply::Spent), k >= wrote as usize);
+    }
+}
+
+fn expect_cut<R: Threads + Sync + Abort>(rt: &R, alloc: Global, number: u32) {
+    let access = Access::none().with_write_type(type_no(0));
+    let mut engine = engine_of_one(rt, alloc, 2, access, 200);
+    expect_spent(rt, alloc, &mut engine, number, 2, 0);
+    expect_spent(rt, alloc, &mut engine, number, 0, 0);
+    expect_spent(rt, alloc, &mut engine, number, 2, 0);
+}
+
+/// Its second turn would write to a type outside its access: it ends before that.
+#[test]
+fn a_turn_ends_where_it_would_leave_its_access(rt: HostRuntime) {
+    for number in NUMBERS {
+        expect_cut(&rt, rt.alloc(), number);
+    }
+}
+
+fn expect_limit<R: Threads + Sync + Abort>(rt: &R, alloc: Global, number: u32) {
+    let both = Access::none()
+        .with_write_type(type_no(0))
+        .with_write_type(type_no(1));
+    let mut engine = engine_of_one(rt, alloc, 4, both, 3);
+    expect_spent(rt, alloc, &mut engine, number, 3, 1);
+    expect_spent(rt, alloc, &mut engine, number, 3, 1);
+    expect_spent(rt, alloc, &mut engine, number, 0, 4);
+}
+
+/// A turn goes on after a write that meets the limit of its type.
+#[test]
+fn a_turn_goes_on_where_numbers_are_spent(rt: HostRuntime) {
+    for number in NUMBERS {
+        expect_limit(&rt, rt.alloc(), number);
     }
 }

@@ -1,9 +1,13 @@
 // Worked runs that `run_frame` keeps, each on 1, 2, 7 and 64 workers.
-use crate::expecting::{Step, by, expect_frame, posted, read, wrote};
-use crate::making::{NUMBERS, engine_of, frame_of, quiet};
+ghost use Rattle.msg_exec.specs.Prelude.{IsEngine};
+
+use crate::expecting::{Step, by, expect_frame, posted, read, replies_of, wrote};
+use crate::making::{NUMBERS, engine_of, frame_of, quiet, run_frame, script};
+use msg_exec::{EngineBuilder, EngineOf, NoGate};
 use msg_order::Rule;
-use msg_part_tests::numbers::type_no;
-use msg_system::{Items, Op};
+use msg_part_tests::numbers::{res_no, type_no};
+use msg_system::{Items, Op, Reply, Scripted, Start, System};
+use msg_world::World;
 use std::alloc::Global;
 use std::panic::Expect;
 use std::process::Abort;
@@ -79,5 +83,63 @@ fn expect_settled<R: Threads + Sync + Abort>(rt: &R, alloc: Global, number: u32)
 fn contradictory_order(rt: HostRuntime) {
     for number in NUMBERS {
         expect_settled(&rt, rt.alloc(), number);
+    }
+}
+
+/// An engine of a script that writes, sets and signals, over a held world.
+fn signalling(rt: &impl Abort, alloc: Global) -> EngineOf<Scripted>
+    ensures engine { IsEngine ⟦<Scripted as System>⟧.meaning result }
+{
+    let ops = [Op::Write(type_no(0), 5), Op::Set(res_no(0), 8), Op::Signal];
+    let script = script(rt, alloc, &ops, Start::Zero).expect(rt, "a script");
+    let mut systems = EngineBuilder::new(alloc);
+    let added = systems.add_system(script, Vec::new(alloc), 1);
+    added.expect(rt, "a system");
+    let mut world = World::new(alloc, &[10], &[7]).expect(rt, "a world");
+    world.set_held();
+    systems.build(world).expect(rt, "an engine")
+}
+
+/// Runs a frame that writes, sets and signals. The message gets the number `first`, and the oldest
+/// message is `oldest` then.
+fn expect_signal<R: Threads + Sync + Abort, S: System>(
+    rt: &R,
+    alloc: Global,
+    engine: &mut EngineOf<S>,
+    number: u32,
+    first: u64,
+    oldest: u64,
+)
+    requires engine { IsEngine S.meaning engine.old }
+    ensures engine { IsEngine S.meaning engine.new }
+{
+    let log = run_frame(rt, engine, &quiet(alloc), number, &NoGate).expect(rt, "a frame");
+    let [Reply::Wrote(wrote), Reply::Value(8), Reply::Signalled] = replies_of(rt, &log, 0) else {
+        panic!(rt; "a write, a value and a signal")
+    };
+    assert_eq!(rt; (wrote.first, wrote.n), (first, 1));
+    let Some(world) = engine.world() else {
+        panic!(rt; "a world")
+    };
+    assert_eq!(rt; world.resource(res_no(0)), Some(8));
+    let Some(messages) = world.messages(type_no(0)) else {
+        panic!(rt; "type 0 is home")
+    };
+    assert_eq!(rt; messages.oldest(), oldest);
+}
+
+/// The first frame makes no update, and each later one does: so the third drops the message of the
+/// first.
+fn expect_signals<R: Threads + Sync + Abort>(rt: &R, alloc: Global, number: u32) {
+    let mut engine = signalling(rt, alloc);
+    expect_signal(rt, alloc, &mut engine, number, 0, 0);
+    expect_signal(rt, alloc, &mut engine, number, 1, 0);
+    expect_signal(rt, alloc, &mut engine, number, 2, 1);
+}
+
+#[test]
+fn one_job_writes_sets_and_signals(rt: HostRuntime) {
+    for number in NUMBERS {
+        expect_signals(&rt, rt.alloc(), number);
     }
 }

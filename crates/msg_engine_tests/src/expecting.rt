@@ -79,6 +79,17 @@ pub fn expect_log(rt: &impl Abort, log: &Log, posts: &[u64], steps: &[Step<'_>])
     }
 }
 
+/// The replies of the turn at this place in the log.
+pub fn replies_of<'a>(rt: &impl Abort, log: &'a Log, place: usize) -> &'a [Reply] {
+    let Some(turn) = log.turns.as_slice().get(place) else {
+        panic!(rt; "no turn {place}")
+    };
+    match &turn.outcome {
+        Outcome::Ran(replies) => replies.as_slice(),
+        Outcome::Skipped => panic!(rt; "turn {place} was skipped"),
+    }
+}
+
 /// Runs a frame on `number` workers. Its posts get the numbers `posts`, and its turns come to
 /// `steps`.
 pub fn expect_frame<R: Threads + Sync + Abort, S: System>(

@@ -1,8 +1,8 @@
 // On which threads the jobs of a batch run, and when the gate is called.
 use crate::expecting::{expect_log, posted, read};
-use crate::gates::{HoldGate, NotingGate, OneByOne};
+use crate::gates::{FirstGate, HoldGate, MeetGate, NotingGate, OneByOne};
 use crate::making::{frame_of, quiet, readers, run_frame, run_frames};
-use crate::prefaced::noting_engine;
+use crate::prefaced::{add_counts, noting_engine, prefaced_readers};
 use msg_exec::Log;
 use msg_part_tests::numbers::type_no;
 use msg_system::{Op, Start};
@@ -75,6 +75,39 @@ fn one_worker_takes_them_one_by_one(rt: HostRuntime) {
         let log = run_frame(&rt, &mut engine, &quiet(rt.alloc()), workers, &gate);
         log.expect(&rt, "a frame");
         gate.expect_calls(&rt, number as u64);
+    }
+}
+
+/// Of five readers that may run side by side none runs before the gate was called for it.
+fn expect_gate_first<R: Threads + Sync + Abort>(rt: &R, alloc: Global, workers: u32) {
+    let runs = Arc::new(alloc, AtomicU64::new(0)).expect(rt, "a count");
+    let mut all = Vec::new(alloc);
+    add_counts(rt, &mut all, 5, &runs);
+    let mut engine = prefaced_readers(rt, alloc, all);
+    let gate = FirstGate::new(&runs);
+    let log = run_frame(rt, &mut engine, &quiet(alloc), workers, &gate);
+    log.expect(rt, "a frame");
+    gate.expect_first(rt, 5);
+    assert_eq!(rt; runs.load(Ordering::SeqCst), 5);
+}
+
+#[test]
+fn the_gate_comes_first_on_a_board(rt: HostRuntime) {
+    for workers in [1, 2, 5] {
+        expect_gate_first(&rt, rt.alloc(), workers);
+    }
+}
+
+/// Each row has how many readers and workers there are. Each reader is held until one was begun on
+/// each worker: twenty workers have twenty threads, and more than 64 readers have two.
+#[test]
+fn readers_meet(rt: HostRuntime) {
+    for (number, workers) in [(20, 20), (65, 2)] {
+        let mut engine = readers(&rt, rt.alloc(), number);
+        let gate = MeetGate::new(workers as u64);
+        let log = run_frame(&rt, &mut engine, &quiet(rt.alloc()), workers, &gate);
+        log.expect(&rt, "a frame");
+        gate.expect_met(&rt, number as u64);
     }
 }
 

@@ -3,6 +3,7 @@ use crate::prefaced::note;
 use msg_exec::Gate;
 use std::process::Abort;
 use std::sync::atomic::{AtomicU64, Ordering};
+use std::thread::yield_now;
 
 /// Holds those of five systems that `held` names until `awaited` calls came, and counts the calls
 /// whose worker's number is in use by another call, or isn't below the number of workers.
@@ -97,6 +98,78 @@ impl Gate for OneByOne {
         let before = self.calls.fetch_add(1, Ordering::SeqCst);
         if worker != 0 || system as u64 != before {
             self.others.fetch_add(1, Ordering::SeqCst);
+        }
+    }
+}
+
+/// Holds each call until `awaited` calls came: so many are on threads of their own then. Once a call
+/// has waited long enough, none waits any more.
+#[derive(Drop)]
+pub struct MeetGate {
+    awaited: u64,
+    came: AtomicU64,
+    alone: AtomicU64,
+}
+
+impl MeetGate {
+    pub fn new(awaited: u64) -> MeetGate {
+        MeetGate {
+            awaited,
+            came: AtomicU64::new(0),
+            alone: AtomicU64::new(0),
+        }
+    }
+
+    /// `calls` calls came and no more, and each saw all that it awaited.
+    pub fn expect_met(&self, rt: &impl Abort, calls: u64) {
+        assert_eq!(rt; self.came.load(Ordering::SeqCst), calls);
+        assert_eq!(rt; self.alone.load(Ordering::SeqCst), 0);
+    }
+}
+
+impl Gate for MeetGate {
+    fn pass(&self, _worker: u32, _system: u32) {
+        self.came.fetch_add(1, Ordering::SeqCst);
+        for _ in 0..2_000_000u64 {
+            let (came, alone) = (&self.came, &self.alone);
+            if came.load(Ordering::SeqCst) >= self.awaited || alone.load(Ordering::SeqCst) > 0 {
+                return;
+            }
+            yield_now();
+        }
+        self.alone.fetch_add(1, Ordering::SeqCst);
+    }
+}
+
+/// Counts its calls, and those before which there were more runs than calls.
+#[derive(Drop)]
+pub struct FirstGate<'a> {
+    runs: &'a AtomicU64,
+    calls: AtomicU64,
+    late: AtomicU64,
+}
+
+impl<'a> FirstGate<'a> {
+    pub fn new(runs: &'a AtomicU64) -> FirstGate<'a> {
+        FirstGate {
+            runs,
+            calls: AtomicU64::new(0),
+            late: AtomicU64::new(0),
+        }
+    }
+
+    /// It was called `calls` times, each time before the run that it was called for.
+    pub fn expect_first(&self, rt: &impl Abort, calls: u64) {
+        assert_eq!(rt; self.calls.load(Ordering::SeqCst), calls);
+        assert_eq!(rt; self.late.load(Ordering::SeqCst), 0);
+    }
+}
+
+impl Gate for FirstGate<'_> {
+    fn pass(&self, _worker: u32, _system: u32) {
+        let runs = self.runs.load(Ordering::SeqCst);
+        if runs > self.calls.fetch_add(1, Ordering::SeqCst) {
+            self.late.fetch_add(1, Ordering::SeqCst);
         }
     }
 }

@@ -22,6 +22,8 @@ mod frames;
 #[cfg(test)]
 mod gates;
 #[cfg(test)]
+mod late;
+#[cfg(test)]
 mod limits;
 #[cfg(test)]
 mod making;

@@ -1,9 +1,20 @@
-// The greatest numbers that types, limits and reads may have.
-use crate::expecting::{by, expect_frame, posted, read, wrote};
-use crate::making::{engine_of, frame_of, quiet};
-use msg_part_tests::numbers::type_no;
-use msg_system::Op;
+// Each limit, met by a frame that succeeds: 64 types and 64 resources, each written; 64 ops; 256
+// systems, of which the last writes; 1,024 rules; 8 conditions, each with 16 nots; 1,024 values in a
+// batch, 1,024 posts and 100,000; 10,000 frames, with the last of which a system joins, and a
+// million; 64 workers; an order of 300; and a read of the greatest limit.
+ghost use Rattle.msg_exec.specs.Prelude.{IsEngine};
+
+use crate::expecting::{by, expect_frame, posted, read, replies_of, wrote};
+use crate::making::{engine_of, frame_of, quiet, readers, replay, run_frame, run_frames, script};
+use msg_exec::{EngineBuilder, EngineOf, Frame, Items, Log, NoGate, Outcome, RunFault};
+use msg_order::Rule;
+use msg_part_tests::numbers::{res_no, type_no};
+use msg_system::{Condition, Op, Probe, Reply, Scripted, Start, System};
+use msg_world::{Record, TypeNo, World};
+use std::alloc::Global;
 use std::panic::Expect;
+use std::process::Abort;
+use std::thread::Threads;
 
 /// A read asks for room for what is unread, however great its limit is.
 #[test]
@@ -19,13 +30,319 @@ fn a_read_of_the_greatest_limit(rt: HostRuntime) {
     expect_frame(&rt, &mut engine, &quiet(alloc), 1, &[], &steps);
 }
 
-/// A world of 64 types, of which the last one is written and read.
+/// An engine of a script that writes each of 64 types, and of one that sets each of 64 resources.
+fn writers_of_all(rt: &impl Abort, alloc: Global) -> EngineOf<Scripted>
+    ensures engine { IsEngine ⟦<Scripted as System>⟧.meaning result }
+{
+    let (mut writes, mut sets) = (Vec::new(alloc), Vec::new(alloc));
+    for number in 0..64u32 {
+        let value = number as i64 + 100;
+        writes
+            .push(Op::Write(type_no(number), value))
+            .expect(rt, "an op");
+        sets.push(Op::Set(res_no(number), value))
+            .expect(rt, "an op");
+    }
+    let mut systems = EngineBuilder::new(alloc);
+    for ops in [writes, sets] {
+        let script = script(rt, alloc, &ops, Start::Zero).expect(rt, "a script");
+        systems
+            .add_system(script, Vec::new(alloc), 1)
+            .expect(rt, "a system");
+    }
+    let world = World::new(alloc, &[1; 64], &[7; 64]).expect(rt, "a world");
+    systems.build(world).expect(rt, "an engine")
+}
+
+/// Each type and each resource has what was written to it.
+fn expect_all_written(rt: &impl Abort, world: &World) {
+    for number in 0..64u32 {
+        let value = number as i64 + 100;
+        let Some(messages) = world.messages(type_no(number)) else {
+            panic!(rt; "type {number} is home")
+        };
+        let [written] = messages.current() else {
+            panic!(rt; "one message of type {number}")
+        };
+        assert_eq!(rt; written.message, by(0, value), "type {number}");
+        assert_eq!(rt;
+            world.resource(res_no(number)),
+            Some(value),
+            "resource {number}"
+        );
+    }
+}
+
+/// 64 types and 64 resources, by 64 ops each, side by side.
 #[test]
-fn the_last_of_64_types(rt: HostRuntime) {
-    let (alloc, t) = (rt.alloc(), type_no(63));
-    let ops = [Op::Write(t, 5), Op::Read(t, None)];
-    let mut engine = engine_of(&rt, alloc, &[1; 64], &ops, &[]).expect(&rt, "an engine");
-    let five = [by(0, 5)];
-    let steps = [wrote(0, 0), read(1, 0, &five)];
-    expect_frame(&rt, &mut engine, &quiet(alloc), 2, &[], &steps);
+fn types_resources_and_ops(rt: HostRuntime) {
+    let mut engine = writers_of_all(&rt, rt.alloc());
+    let log = run_frame(&rt, &mut engine, &quiet(rt.alloc()), 2, &NoGate);
+    let log = log.expect(&rt, "a frame");
+    assert_eq!(rt; replies_of(&rt, &log, 0).len(), 64);
+    assert_eq!(rt; replies_of(&rt, &log, 1).len(), 64);
+    match engine.world() {
+        Some(world) => expect_all_written(&rt, world),
+        None => panic!(rt; "a world"),
+    }
+}
+
+/// 256 readers side by side on 64 workers; each reads the post.
+#[test]
+fn systems_on_64_workers(rt: HostRuntime) {
+    let (alloc, t) = (rt.alloc(), type_no(0));
+    let mut engine = readers(&rt, alloc, 256);
+    let frame = frame_of(&rt, alloc, &[(t, 5)]);
+    let log = run_frame(&rt, &mut engine, &frame, 64, &NoGate).expect(&rt, "a frame");
+    assert_eq!(rt; log.turns.as_slice().len(), 256);
+    for place in 0..256 {
+        expect_took(&rt, replies_of(&rt, &log, place), posted(5));
+    }
+}
+
+/// It read this message alone.
+fn expect_took(rt: &impl Abort, replies: &[Reply], record: Record) {
+    let [Reply::Read(took)] = replies else {
+        panic!(rt; "a read")
+    };
+    assert_eq!(rt; (took.missed, took.first), (0, 0));
+    assert_eq!(rt; took.items.as_slice(), [record].as_slice());
+}
+
+/// 1,024 rules, by which each of 256 systems runs after those with a greater number.
+fn rules_backwards(rt: &impl Abort, alloc: Global) -> Vec<Rule> {
+    let mut rules = Vec::new(alloc);
+    for distance in 1..=5u32 {
+        for later in 0..256 - distance {
+            if rules.len() < 1024 {
+                rules
+                    .push(Rule::after(later, later + distance))
+                    .expect(rt, "a rule");
+            }
+        }
+    }
+    rules
+}
+
+/// An engine of 256 systems and 1,024 rules. The last system writes, and the others read.
+fn backwards(rt: &impl Abort, alloc: Global) -> EngineOf<Scripted>
+    ensures engine { IsEngine ⟦<Scripted as System>⟧.meaning result }
+{
+    let (t, mut ops) = (type_no(0), Vec::new(alloc));
+    for _reader in 0..255u32 {
+        ops.push(Op::Read(t, None)).expect(rt, "an op");
+    }
+    ops.push(Op::Write(t, 5)).expect(rt, "an op");
+    let rules = rules_backwards(rt, alloc);
+    assert_eq!(rt; rules.len(), 1024);
+    engine_of(rt, alloc, &[10], &ops, &rules).expect(rt, "an engine")
+}
+
+/// The systems run from the last to the first, and read what the last wrote.
+#[test]
+fn systems_and_rules(rt: HostRuntime) {
+    let mut engine = backwards(&rt, rt.alloc());
+    let log = run_frame(&rt, &mut engine, &quiet(rt.alloc()), 64, &NoGate);
+    let log = log.expect(&rt, "a frame");
+    assert_eq!(rt; log.turns.as_slice().len(), 256);
+    for (turn, system) in log.turns.as_slice().iter().zip((0..256).rev()) {
+        assert_eq!(rt; turn.system, system);
+    }
+    assert!(rt; matches!(replies_of(&rt, &log, 0), [Reply::Wrote(_)]));
+    for place in 1..256 {
+        expect_took(&rt, replies_of(&rt, &log, place), by(255, 5));
+    }
+}
+
+/// An order may be longer than there can be systems: it isn't lawful.
+#[test]
+fn an_order_of_300(rt: HostRuntime) {
+    let mut engine = readers(&rt, rt.alloc(), 3);
+    let log = replay(&rt, &mut engine, &quiet(rt.alloc()), &[0; 300]);
+    assert!(rt; log.err() == Some(RunFault::BadOrder));
+    let log = replay(&rt, &mut engine, &quiet(rt.alloc()), &[2, 1, 0]);
+    assert!(rt; log.is_ok());
+}
+
+/// An engine of a reader with 8 conditions, each with 16 nots: it runs where a message is unread.
+fn guarded(rt: &impl Abort, alloc: Global) -> EngineOf<Scripted>
+    ensures engine { IsEngine ⟦<Scripted as System>⟧.meaning result }
+{
+    let probe = Probe::OnMessage(type_no(0));
+    let conditions = Vec::from_elem(alloc, Condition { nots: 16, probe }, 8);
+    let reader = script(rt, alloc, &[Op::Read(type_no(0), None)], Start::Zero);
+    let mut systems = EngineBuilder::new(alloc);
+    let conditions = conditions.expect(rt, "conditions");
+    let added = systems.add_system(reader.expect(rt, "a script"), conditions, 1);
+    added.expect(rt, "a system");
+    let world = World::new(alloc, &[10], &[]).expect(rt, "a world");
+    systems.build(world).expect(rt, "an engine")
+}
+
+#[test]
+fn conditions_and_nots(rt: HostRuntime) {
+    let (alloc, t) = (rt.alloc(), type_no(0));
+    let mut engine = guarded(&rt, alloc);
+    let log = run_frame(&rt, &mut engine, &quiet(alloc), 1, &NoGate).expect(&rt, "a frame");
+    let [turn] = log.turns.as_slice() else {
+        panic!(rt; "one turn")
+    };
+    assert!(rt; turn.outcome == Outcome::Skipped);
+    let frame = frame_of(&rt, alloc, &[(t, 5)]);
+    expect_frame(
+        &rt,
+        &mut engine,
+        &frame,
+        1,
+        &[0],
+        &[read(0, 0, &[posted(5)])],
+    );
+}
+
+/// A frame with so many posts, from 0 on.
+fn posts(rt: &impl Abort, alloc: Global, number: u32) -> Frame {
+    let mut posts = Vec::new(alloc);
+    for value in 0..number {
+        posts.push((type_no(0), value as i64)).expect(rt, "a post");
+    }
+    Frame {
+        posts: Items::from_vec(posts),
+    }
+}
+
+/// A batch of 1,024 values, from 0 on.
+fn batch(rt: &impl Abort, alloc: Global) -> Op {
+    let mut values = Vec::new(alloc);
+    for value in 0..1_024 {
+        values.push(value).expect(rt, "a value");
+    }
+    Op::Batch(type_no(0), Items::from_vec(values))
+}
+
+/// The posts of so many values, and after them the batch.
+fn expect_all(rt: &impl Abort, items: &[Record], number: u32) {
+    assert_eq!(rt; items.len(), number as usize + 1_024);
+    let (posts, batch) = items.split_at(number as usize);
+    for (item, value) in posts.iter().zip(0..number) {
+        assert_eq!(rt; *item, posted(value as i64));
+    }
+    for (item, value) in batch.iter().zip(0..1_024) {
+        assert_eq!(rt; *item, by(0, value));
+    }
+}
+
+/// The first system wrote the batch after these posts; the second read all, and the third drained
+/// all.
+fn expect_posts_and_batch(rt: &impl Abort, log: &Log, number: u32) {
+    assert_eq!(rt; log.posts.as_slice().len(), number as usize);
+    let [Reply::Wrote(written)] = replies_of(rt, log, 0) else {
+        panic!(rt; "a batch")
+    };
+    assert_eq!(rt; (written.first, written.n), (number as u64, 1_024));
+    let [Reply::Read(took)] = replies_of(rt, log, 1) else {
+        panic!(rt; "a read")
+    };
+    assert_eq!(rt; (took.missed, took.first), (0, 0));
+    expect_all(rt, took.items.as_slice(), number);
+    let [Reply::Drained { first: 0, items }] = replies_of(rt, log, 2) else {
+        panic!(rt; "a drain")
+    };
+    expect_all(rt, items.as_slice(), number);
+}
+
+fn expect_many<R: Threads + Sync + Abort>(rt: &R, alloc: Global, number: u32) {
+    let t = type_no(0);
+    let ops = [batch(rt, alloc), Op::Read(t, None), Op::Drain(t)];
+    let mut engine = engine_of(rt, alloc, &[u64::MAX], &ops, &[]).expect(rt, "an engine");
+    let frame = posts(rt, alloc, number);
+    let log = run_frame(rt, &mut engine, &frame, 2, &NoGate).expect(rt, "a frame");
+    expect_posts_and_batch(rt, &log, number);
+}
+
+/// 1,024 posts, and a batch of 1,024 values; and reads and drains of more than 100,000 messages.
+#[test]
+fn posts_and_values(rt: HostRuntime) {
+    for number in [1_024, 100_000] {
+        expect_many(&rt, rt.alloc(), number);
+    }
+}
+
+/// An engine of a reader that joins with the last frame that it can join with.
+fn last_joining(rt: &impl Abort, alloc: Global) -> EngineOf<Scripted>
+    ensures engine { IsEngine ⟦<Scripted as System>⟧.meaning result }
+{
+    let reader = script(rt, alloc, &[Op::Read(type_no(0), None)], Start::Current);
+    let mut systems = EngineBuilder::new(alloc);
+    let added = systems.add_system(reader.expect(rt, "a script"), Vec::new(alloc), 10_000);
+    added.expect(rt, "a system");
+    let world = World::new(alloc, &[10], &[]).expect(rt, "a world");
+    systems.build(world).expect(rt, "an engine")
+}
+
+/// Runs so many frames in one call. None but the last of them has a turn.
+fn expect_frames<R: Threads + Sync + Abort>(
+    rt: &R,
+    alloc: Global,
+    engine: &mut EngineOf<Scripted>,
+    number: u32,
+)
+    requires engine { IsEngine ⟦<Scripted as System>⟧.meaning engine.old }
+    ensures engine { IsEngine ⟦<Scripted as System>⟧.meaning engine.new }
+{
+    let (mut frames, mut logs) = (Vec::new(alloc), Vec::new(alloc));
+    for _frame in 0..number {
+        frames.push(quiet(alloc)).expect(rt, "a frame");
+    }
+    let ran = run_frames(rt, engine, &frames, 2, &NoGate, &mut logs);
+    ran.expect(rt, "frames");
+    assert_eq!(rt;
+        (logs.len(), engine.frames_run()),
+        (number as usize, number)
+    );
+    let last = logs.pop().expect(rt, "a log");
+    assert_eq!(rt; last.turns.as_slice().len(), 1);
+    assert!(rt; logs.iter().all(|log| log.turns.as_slice().is_empty()));
+}
+
+/// Runs so many frames, one after the other, and gives each log back.
+fn run_and_recycle<R: Threads + Sync + Abort, S: System>(
+    rt: &R,
+    alloc: Global,
+    engine: &mut EngineOf<S>,
+    number: u32,
+)
+    requires engine { IsEngine S.meaning engine.old }
+    ensures engine { IsEngine S.meaning engine.new }
+{
+    let frame = quiet(alloc);
+    for _frame in 0..number {
+        let log = run_frame(rt, engine, &frame, 1, &NoGate).expect(rt, "a frame");
+        engine.recycle(log);
+    }
+}
+
+/// More frames than a million, in which nobody takes a turn.
+#[test]
+fn a_million_frames(rt: HostRuntime) {
+    let mut engine = readers(&rt, rt.alloc(), 0);
+    run_and_recycle(&rt, rt.alloc(), &mut engine, 1_000_001);
+    assert_eq!(rt; engine.frames_run(), 1_000_001);
+}
+
+/// 10,000 frames, with the last of which a system joins, and one more.
+#[test]
+fn frames_and_a_join(rt: HostRuntime) {
+    let (alloc, t) = (rt.alloc(), type_no(0));
+    let mut engine = last_joining(&rt, alloc);
+    expect_frames(&rt, alloc, &mut engine, 10_000);
+    let frame = frame_of(&rt, alloc, &[(t, 5)]);
+    expect_frame(
+        &rt,
+        &mut engine,
+        &frame,
+        2,
+        &[0],
+        &[read(0, 0, &[posted(5)])],
+    );
+    assert_eq!(rt; engine.frames_run(), 10_001);
 }

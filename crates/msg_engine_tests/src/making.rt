@@ -32,6 +32,24 @@ pub fn script(
     Ok(Scripted::new(Program { ops, start }, 0))
 }
 
+/// Scripts of one op each, and these rules.
+pub fn scripts(
+    rt: &impl Abort,
+    alloc: Global,
+    ops: &[Op],
+    rules: &[Rule],
+) -> Result<EngineBuilder<Scripted>, BuildError> {
+    let mut systems = EngineBuilder::new(alloc);
+    for op in ops {
+        let script = script(rt, alloc, &[op.copy(alloc)?], Start::Zero)?;
+        systems.add_system(script, Vec::new(alloc), 1)?;
+    }
+    for rule in rules {
+        systems.add_rule(*rule)?;
+    }
+    Ok(systems)
+}
+
 /// An engine of scripts of one op each, over types of these limits.
 pub fn engine_of(
     rt: &impl Abort,
@@ -42,14 +60,7 @@ pub fn engine_of(
 ) -> Result<EngineOf<Scripted>, BuildError>
     ensures engine { IfOk result (IsEngine ⟦<Scripted as System>⟧.meaning) }
 {
-    let mut systems = EngineBuilder::new(alloc);
-    for op in ops {
-        let script = script(rt, alloc, &[op.copy(alloc)?], Start::Zero)?;
-        systems.add_system(script, Vec::new(alloc), 1)?;
-    }
-    for rule in rules {
-        systems.add_rule(*rule)?;
-    }
+    let systems = scripts(rt, alloc, ops, rules)?;
     assert!(rt; limits.len() <= 64);
     systems.build(World::new(alloc, limits, &[])?)
 }

@@ -3,6 +3,7 @@ ghost use Rattle.msg_exec.specs.Prelude.{IsEngine};
 
 use crate::making::script;
 use msg_exec::{EngineBuilder, EngineOf};
+use msg_part_tests::numbers::type_no;
 use msg_system::{Access, NoMemory, Numbered, Op, Reply, Scripted, Start, System};
 use msg_world::{Counts, Lent, Taken, TypeNo, World};
 use std::alloc::Global;
@@ -21,8 +22,8 @@ pub fn note(noted: &AtomicU64, digit: u64) {
 /// What is done before a run.
 #[derive(Drop)]
 pub enum Before {
-    /// There is no memory for it.
-    Fail,
+    /// There is no memory for it after so many runs.
+    FailAfter(u32),
     /// The run is counted.
     Count(Arc<AtomicU64>),
     /// The run is noted by this digit.
@@ -32,7 +33,8 @@ pub enum Before {
 impl Before {
     fn run(&mut self) -> Result<(), NoMemory> {
         match self {
-            Before::Fail => return Err(NoMemory),
+            Before::FailAfter(0) => return Err(NoMemory),
+            Before::FailAfter(runs) => *runs -= 1,
             Before::Count(runs) => {
                 runs.fetch_add(1, Ordering::SeqCst);
             }
@@ -77,6 +79,33 @@ impl<S: System> System for Prefaced<S> {
 impl<S: Numbered> Numbered for Prefaced<S> {
     fn set_number(&mut self, number: u32) {
         self.system.set_number(number);
+    }
+}
+
+/// An engine of readers of one type. Of each it says what is done before its runs.
+pub fn prefaced_readers(
+    rt: &impl Abort,
+    alloc: Global,
+    all: Vec<Before>,
+) -> EngineOf<Prefaced<Scripted>>
+    ensures engine { IsEngine ⟦<Prefaced<Scripted> as System>⟧.meaning result }
+{
+    let mut systems = EngineBuilder::new(alloc);
+    for before in all {
+        let system = script(rt, alloc, &[Op::Read(type_no(0), None)], Start::Zero);
+        let system = system.expect(rt, "a script");
+        let added = systems.add_system(Prefaced { system, before }, Vec::new(alloc), 1);
+        added.expect(rt, "a system");
+    }
+    let world = World::new(alloc, &[10], &[]).expect(rt, "a world");
+    systems.build(world).expect(rt, "an engine")
+}
+
+/// That `number` systems count their runs.
+pub fn add_counts(rt: &impl Abort, all: &mut Vec<Before>, number: u32, runs: &Arc<AtomicU64>) {
+    for _system in 0..number {
+        let runs = Arc::try_clone(runs).expect(rt, "a count");
+        all.push(Before::Count(runs)).expect(rt, "a list");
     }
 }
 

@@ -1,18 +1,20 @@
 // Frames in a given order.
 ghost use Rattle.msg_exec.specs.Prelude.{IsEngine};
 
-use crate::expecting::{Step, by, expect_frame, expect_replay, posted, read, wrote};
-use crate::making::{frame_of, quiet, replay};
-use crate::prefaced::noting_engine;
-use msg_exec::{Account, EngineOf, Frame, RunFault};
+use crate::expecting::{Step, by, expect_log, expect_replay, posted, read, wrote};
+use crate::making::{frame_of, quiet, replay, run_frame, run_frames};
+use crate::prefaced::{Prefaced, noting_engine};
+use msg_buffer::MessageId;
+use msg_exec::{Account, EngineOf, Frame, Log, NoGate, RunFault};
 use msg_part_tests::numbers::type_no;
-use msg_system::{Op, Start, System};
-use msg_world::TypeNo;
+use msg_system::{Op, Scripted, Start, System};
+use msg_world::{Record, TypeNo};
 use std::alloc::Global;
 use std::panic::Expect;
 use std::process::Abort;
 use std::sync::Arc;
 use std::sync::atomic::{AtomicU64, Ordering};
+use std::thread::Threads;
 
 /// The account of a reader that started at 0, and was given every message before its place.
 fn account(system: u32, place: u64) -> Account {
@@ -31,6 +33,11 @@ fn account(system: u32, place: u64) -> Account {
 fn kept<S: System>(engine: &EngineOf<S>, t: TypeNo) -> Option<(u64, u64)> {
     let messages = engine.world()?.messages(t)?;
     Some((messages.oldest(), messages.count()))
+}
+
+/// The message of this type under this number.
+fn message<S: System>(engine: &EngineOf<S>, t: TypeNo, number: u64) -> Option<Record> {
+    engine.world()?.messages(t)?.get(MessageId(number)).copied()
 }
 
 /// After `frames` frames `numbers` are those of the oldest message and of the next one, and
@@ -62,46 +69,107 @@ fn expect_unlawful<S: System>(
     assert!(rt; matches!(log, Err(RunFault::BadOrder)));
 }
 
-/// A writer and two readers, in two frames on two workers and a third that is replayed.
-#[test]
-fn a_replay_takes_lawful_orders_alone(rt: HostRuntime) {
-    let (alloc, t) = (rt.alloc(), type_no(0));
-    let noted = Arc::new(alloc, AtomicU64::new(0)).expect(&rt, "a number");
+/// An engine of a writer and two readers, which note their runs.
+fn writer_and_readers(
+    rt: &impl Abort,
+    alloc: Global,
+    noted: &Arc<AtomicU64>,
+) -> EngineOf<Prefaced<Scripted>>
+    ensures engine { IsEngine ⟦<Prefaced<Scripted> as System>⟧.meaning result }
+{
+    let t = type_no(0);
     let ops = vec![in alloc;
         (Op::Write(t, 1), Start::Zero),
         (Op::Read(t, None), Start::Zero),
         (Op::Read(t, None), Start::Zero),
     ];
-    let mut engine = noting_engine(&rt, alloc, 1, ops.expect(&rt, "ops"), &noted);
-    let (frame, one) = (quiet(alloc), [by(0, 1)]);
-    let steps = [wrote(0, 0), read(1, 0, &one), read(2, 0, &one)];
-    expect_frame(&rt, &mut engine, &frame, 2, &[], &steps);
-    let steps = [wrote(0, 1), read(1, 1, &one), read(2, 1, &one)];
-    expect_frame(&rt, &mut engine, &frame, 2, &[], &steps);
-    noted.store(0, Ordering::SeqCst);
-    expect_orders(&rt, alloc, &mut engine, &noted);
+    noting_engine(rt, alloc, 1, ops.expect(rt, "ops"), noted)
 }
 
-/// Refuses three orders of the third frame, in which nothing runs, and then takes one.
-fn expect_orders<S: System>(
+/// Runs two frames in one call, on two workers.
+fn run_both<R: Threads + Sync + Abort, S: System>(
+    rt: &R,
+    alloc: Global,
+    engine: &mut EngineOf<S>,
+) -> Vec<Log>
+    requires engine { IsEngine S.meaning engine.old }
+{
+    let (frames, mut logs) = ([quiet(alloc), quiet(alloc)], Vec::new(alloc));
+    let ran = run_frames(rt, engine, &frames, 2, &NoGate, &mut logs);
+    ran.expect(rt, "frames");
+    logs
+}
+
+/// Refuses three orders of the second frame, in which nothing runs, and then takes one.
+fn replay_second<S: System>(
     rt: &impl Abort,
     alloc: Global,
     engine: &mut EngineOf<S>,
     noted: &AtomicU64,
-)
+) -> Log
     requires engine { IsEngine S.meaning engine.old }
+    ensures engine { IsEngine S.meaning engine.new }
 {
-    let (frame, one) = (quiet(alloc), [by(0, 1)]);
+    let frame = quiet(alloc);
+    noted.store(0, Ordering::SeqCst);
     expect_unlawful(rt, engine, &frame, &[1, 0, 2]);
     expect_unlawful(rt, engine, &frame, &[0, 1]);
     expect_unlawful(rt, engine, &frame, &[0, 1, 1]);
     assert_eq!(rt; noted.load(Ordering::SeqCst), 0);
-    expect_after(rt, engine, 2, (0, 2), &[account(1, 2), account(2, 2)]);
-    let steps = [wrote(0, 2), read(2, 2, &one), read(1, 2, &one)];
-    expect_replay(rt, engine, &frame, &[0, 2, 1], &[], &steps);
+    expect_after(rt, engine, 1, (0, 1), &[account(1, 1), account(2, 1)]);
+    let log = replay(rt, engine, &frame, &[0, 2, 1]).expect(rt, "a frame");
     // System i notes i + 1: systems 0, 2 and 1 ran, in this order.
     assert_eq!(rt; noted.load(Ordering::SeqCst), 132);
-    expect_after(rt, engine, 3, (1, 3), &[account(1, 3), account(2, 3)]);
+    log
+}
+
+/// Both logs of the second frame have the same turns, which stand in the order in which they were
+/// taken.
+fn expect_same_turns(rt: &impl Abort, ran: &Log, replayed: &Log) {
+    let one = [by(0, 1)];
+    let turns = [wrote(0, 1), read(1, 1, &one), read(2, 1, &one)];
+    expect_log(rt, ran, &[], &turns);
+    expect_log(rt, replayed, &[], &[turns[0], turns[2], turns[1]]);
+    let ([a, b, c], [x, z, y]) = (ran.turns.as_slice(), replayed.turns.as_slice()) else {
+        panic!(rt; "three turns")
+    };
+    assert!(rt; a == x && b == y && c == z);
+}
+
+/// Both engines have the same messages of the first type, and tell the same accounts.
+fn expect_alike<S: System>(rt: &impl Abort, one: &EngineOf<S>, other: &EngineOf<S>) {
+    let t = type_no(0);
+    assert_eq!(rt; kept(one, t), kept(other, t));
+    for number in 0..2 {
+        assert_eq!(rt; message(one, t, number), Some(by(0, 1)));
+        assert_eq!(rt; message(other, t, number), Some(by(0, 1)));
+    }
+    let (accounts, others) = (one.accounts(), other.accounts());
+    let (accounts, others) = (
+        accounts.expect(rt, "accounts"),
+        others.expect(rt, "accounts"),
+    );
+    assert_eq!(rt; accounts.as_slice(), others.as_slice());
+}
+
+/// Two engines of a writer and two readers. One runs two frames on two workers; the other runs the
+/// first, and replays the second in another order.
+#[test]
+fn a_replayed_frame(rt: HostRuntime) {
+    let alloc = rt.alloc();
+    let noted = Arc::new(alloc, AtomicU64::new(0)).expect(&rt, "a number");
+    let mut ran = writer_and_readers(&rt, alloc, &noted);
+    let mut replayed = writer_and_readers(&rt, alloc, &noted);
+    let logs = run_both(&rt, alloc, &mut ran);
+    let log = run_frame(&rt, &mut replayed, &quiet(alloc), 2, &NoGate);
+    let [first, second] = logs.as_slice() else {
+        panic!(rt; "two logs")
+    };
+    assert!(rt; log.expect(&rt, "a frame") == *first);
+    let log = replay_second(&rt, alloc, &mut replayed, &noted);
+    expect_same_turns(&rt, second, &log);
+    expect_alike(&rt, &ran, &replayed);
+    expect_after(&rt, &replayed, 2, (0, 2), &[account(1, 2), account(2, 2)]);
 }
 
 /// Replays a frame that no system has joined by: the post gets this number.

@@ -2,12 +2,10 @@
 ghost use Rattle.msg_exec.specs.Prelude.{IsEngine};
 
 use crate::gates::HoldGate;
-use crate::making::{quiet, replay, run_frame, run_frames, script};
-use crate::prefaced::{Before, Prefaced};
-use msg_exec::{EngineBuilder, EngineOf, NoGate, RunFault};
-use msg_part_tests::numbers::type_no;
-use msg_system::{Op, Scripted, Start, System};
-use msg_world::World;
+use crate::making::{quiet, replay, run_frame, run_frames};
+use crate::prefaced::{Before, Prefaced, add_counts, prefaced_readers};
+use msg_exec::{EngineOf, NoGate, RunFault};
+use msg_system::{Scripted, System};
 use std::alloc::Global;
 use std::panic::Expect;
 use std::process::Abort;
@@ -36,30 +34,40 @@ pub fn expect_spoiled<R: Threads + Sync + Abort, S: System>(
     assert_eq!(rt; engine.frames_run(), frames_run);
 }
 
-/// An engine of readers of one type. The first of them has no memory for its run; the runs of the
-/// others are counted.
+/// An engine of readers of one type. The first of them has memory for `first_runs` runs; the runs
+/// of the others are counted.
 fn failing_engine(
     rt: &impl Abort,
     alloc: Global,
     readers: u32,
+    first_runs: u32,
     runs: &Arc<AtomicU64>,
 ) -> EngineOf<Prefaced<Scripted>>
     ensures engine { IsEngine ⟦<Prefaced<Scripted> as System>⟧.meaning result }
 {
-    let mut systems = EngineBuilder::new(alloc);
-    for system in 0..readers {
-        let before = if system == 0 {
-            Before::Fail
-        } else {
-            Before::Count(Arc::try_clone(runs).expect(rt, "a count"))
-        };
-        let system = script(rt, alloc, &[Op::Read(type_no(0), None)], Start::Zero);
-        let system = system.expect(rt, "a script");
-        let added = systems.add_system(Prefaced { system, before }, Vec::new(alloc), 1);
-        added.expect(rt, "a system");
+    let mut all = vec![in alloc; Before::FailAfter(first_runs)].expect(rt, "a list");
+    add_counts(rt, &mut all, readers.saturating_sub(1), runs);
+    prefaced_readers(rt, alloc, all)
+}
+
+/// Two readers side by side. In the second frame one of them has no memory, and that spoils the
+/// engine.
+fn expect_spoiled_by_the_second<R: Threads + Sync + Abort>(rt: &R, alloc: Global, workers: u32) {
+    let runs = Arc::new(alloc, AtomicU64::new(0)).expect(rt, "a count");
+    let mut engine = failing_engine(rt, alloc, 2, 1, &runs);
+    let frame = quiet(alloc);
+    let first = run_frame(rt, &mut engine, &frame, workers, &NoGate);
+    assert_eq!(rt; first.expect(rt, "a frame").turns.as_slice().len(), 2);
+    let second = run_frame(rt, &mut engine, &frame, workers, &NoGate);
+    assert!(rt; second.err() == Some(RunFault::NoMemory));
+    expect_spoiled(rt, alloc, &mut engine, 1);
+}
+
+#[test]
+fn a_second_run_without_memory(rt: HostRuntime) {
+    for workers in [1, 2] {
+        expect_spoiled_by_the_second(&rt, rt.alloc(), workers);
     }
-    let world = World::new(alloc, &[10], &[]).expect(rt, "a world");
-    systems.build(world).expect(rt, "an engine")
 }
 
 /// Where one job has no memory, `run` others of its batch are run.
@@ -71,7 +79,7 @@ fn expect_run_of_others<R: Threads + Sync + Abort>(
     run: u32,
 ) {
     let runs = Arc::new(alloc, AtomicU64::new(0)).expect(rt, "a count");
-    let mut engine = failing_engine(rt, alloc, readers, &runs);
+    let mut engine = failing_engine(rt, alloc, readers, 0, &runs);
     let gate = HoldGate::new(workers, [true; 5], workers.min(readers) as u64);
     let log = run_frame(rt, &mut engine, &quiet(alloc), workers, &gate);
     assert!(rt; log.err() == Some(RunFault::NoMemory));

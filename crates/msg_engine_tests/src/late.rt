@@ -1,0 +1,85 @@
+// Relays and tallies that join late, and miss messages that were dropped before.
+ghost use Rattle.msg_exec.specs.Prelude.{IsEngine};
+
+use crate::expecting::{posted, replies_of};
+use crate::making::{NUMBERS, frame_of, run_frames};
+use msg_buffer::Written;
+use msg_exec::{EngineBuilder, EngineOf, Log, NoGate};
+use msg_part_tests::numbers::{res_no, type_no};
+use msg_system::{Numbered, Relay, Reply, Start, System, Tally, Took};
+use msg_world::World;
+use std::alloc::Global;
+use std::panic::Expect;
+use std::process::Abort;
+use std::thread::Threads;
+
+/// An engine of this system, which joins with the third frame.
+fn engine_of_late<S: Numbered>(rt: &impl Abort, alloc: Global, system: S) -> EngineOf<S>
+    ensures engine { IsEngine S.meaning result }
+{
+    let mut systems = EngineBuilder::new(alloc);
+    let added = systems.add_system(system, Vec::new(alloc), 3);
+    added.expect(rt, "a system");
+    let world = World::new(alloc, &[10, 10], &[7]).expect(rt, "a world");
+    systems.build(world).expect(rt, "an engine")
+}
+
+/// Runs three frames, of which each posts a message, and gives the log of the third.
+fn third_log<R: Threads + Sync + Abort, S: System>(
+    rt: &R,
+    alloc: Global,
+    engine: &mut EngineOf<S>,
+    number: u32,
+) -> Log
+    requires engine { IsEngine S.meaning engine.old }
+{
+    let t = type_no(0);
+    let frames = [1, 2, 3].map(|value| frame_of(rt, alloc, &[(t, value)]));
+    let mut logs = Vec::new(alloc);
+    let ran = run_frames(rt, engine, &frames, number, &NoGate, &mut logs);
+    ran.expect(rt, "frames");
+    assert_eq!(rt; logs.len(), 3);
+    logs.pop().expect(rt, "a log")
+}
+
+/// The first message was missed, and the two others were read.
+fn expect_took(rt: &impl Abort, took: &Took) {
+    assert_eq!(rt; (took.missed, took.first), (1, 1));
+    assert_eq!(rt; took.items.as_slice(), [posted(2), posted(3)].as_slice());
+}
+
+fn expect_forwarded<R: Threads + Sync + Abort>(rt: &R, alloc: Global, number: u32) {
+    let relay = Relay::new(type_no(0), type_no(1), Start::Zero, 0);
+    let mut engine = engine_of_late(rt, alloc, relay);
+    let log = third_log(rt, alloc, &mut engine, number);
+    let [Reply::Forwarded { took, wrote }] = replies_of(rt, &log, 0) else {
+        panic!(rt; "a forward")
+    };
+    expect_took(rt, took);
+    assert_eq!(rt; *wrote, Some(Written { first: 0, n: 2 }));
+}
+
+fn expect_summed<R: Threads + Sync + Abort>(rt: &R, alloc: Global, number: u32) {
+    let tally = Tally::new(type_no(0), res_no(0), Start::Zero, 0);
+    let mut engine = engine_of_late(rt, alloc, tally);
+    let log = third_log(rt, alloc, &mut engine, number);
+    let [Reply::Summed { took, value }] = replies_of(rt, &log, 0) else {
+        panic!(rt; "a sum")
+    };
+    expect_took(rt, took);
+    assert_eq!(rt; *value, 12);
+}
+
+#[test]
+fn a_late_relay(rt: HostRuntime) {
+    for number in NUMBERS {
+        expect_forwarded(&rt, rt.alloc(), number);
+    }
+}
+
+#[test]
+fn a_late_tally(rt: HostRuntime) {
+    for number in NUMBERS {
+        expect_summed(&rt, rt.alloc(), number);
+    }
+}
