@@ -4,7 +4,7 @@ use Rattle.std.proofs.lemmas.List.{length-append, length-map, take_all, Folds.li
 use Rattle.std.specs.declared.alloc.Global.{Global}
 use Rattle.serde_json.specs.{Data.Data, Find.as_array, View.view, View.items_of, View.items_view, View.members_view, declared.value.Value.Value}
 use Rattle.msg_files.specs.Prelude.{Call, Reading, Reads, call_of, calls_from, cursors_exist, elements, in_element, inside, keys_of, list_of, made_by, values_from, ◌>>=◌}
-use Rattle.msg_files.specs.{declared.fault.Fault.Fault, declared.location.Location.Location, inner.Cursors.FitsCursors}
+use Rattle.msg_files.specs.{declared.fault.Fault.Fault, declared.location.Step.Step, inner.Cursors.FitsCursors}
 
 -- ---- lists in serde_json's form, and in ours
 
@@ -53,11 +53,11 @@ behind_more xs x (Ok ys) = ap (λ l. Ok l) (sym (append_assoc xs (x ∷ []) ys))
 behind_more xs x (Err e) = refl
 
 -- what may want memory, within an element
-pub Reads_inside : {A : Type 0} (f : Location → Location) (reading answer : Reading A) → Reads reading answer
-    → Reads (inside f reading) (inside f answer)
-Reads_inside f reading (Ok a) h = rw h refl
-Reads_inside f reading (Err e) (inl h) = inl h
-Reads_inside f reading (Err e) (inr h) = inr (rw h refl)
+pub Reads_inside : {A : Type 0} (step : Step) (reading answer : Reading A) → Reads reading answer
+    → Reads (inside step reading) (inside step answer)
+Reads_inside step reading (Ok a) h = rw h refl
+Reads_inside step reading (Err e) (inl h) = inl h
+Reads_inside step reading (Err e) (inr h) = inr (rw h refl)
 
 -- the calls so far were read, and those from i on are left
 pub record CallsLeft (items : List Value) (i : ℕ) (calls : List Call) (made : ℕ) : Type 0 where

@@ -8,6 +8,8 @@ use Rattle.msg_files.specs.declared.file_fault.FileFault.TheVariants as file_fau
 use Rattle.msg_files.specs.declared.location.Location.{Location}
 use Rattle.msg_files.specs.declared.location.Key.{Key}
 use Rattle.msg_files.specs.declared.location.Key.TheVariants as key
+use Rattle.msg_files.specs.declared.location.Step.{Step}
+use Rattle.msg_files.specs.declared.location.Step.TheVariants as step
 use Rattle.msg_files.specs.declared.reason.Reason.{Reason}
 use Rattle.msg_files.specs.declared.reason.Reason.TheVariants as reason
 use Rattle.msg_files.specs.declared.refusal.Refusal.{Refusal}
@@ -105,30 +107,41 @@ found (Some a) why = Ok a
 
 -- ---- a fault within what is read lies deeper
 
-abbrev pub inside : {A : Type 0} → (Location → Location) → Reading A → Reading A
-inside f (Ok a) = Ok a
-inside f (Err e) = Err (record e { location = f e.location })
+-- the location after a step
+abbrev pub after : Step → Location → Location
+after (step.Section k) l = record l { section = Some k }
+after (step.Element n) l = record l { element = Some n }
+after (step.Key k) l = record l { key = Some k }
+after (step.Item n) l = record l { item = Some n }
+after (step.Nots n) l = record l { nots = n }
+after (step.Part n) l = record l { part = Some n }
+after (step.Value n) l = record l { value = Some n }
+
+-- what is read at a step
+abbrev pub inside : {A : Type 0} → Step → Reading A → Reading A
+inside s (Ok a) = Ok a
+inside s (Err e) = Err (record e { location = after s e.location })
 
 abbrev pub in_section : {A : Type 0} → Key → Reading A → Reading A
-in_section k = inside (λ l. record l { section = Some k })
+in_section k = inside (step.Section k)
 
 abbrev pub in_element : {A : Type 0} → ℕ → Reading A → Reading A
-in_element n = inside (λ l. record l { element = Some n })
+in_element n = inside (step.Element n)
 
 abbrev pub in_key : {A : Type 0} → Key → Reading A → Reading A
-in_key k = inside (λ l. record l { key = Some k })
+in_key k = inside (step.Key k)
 
 abbrev pub in_item : {A : Type 0} → ℕ → Reading A → Reading A
-in_item n = inside (λ l. record l { item = Some n })
+in_item n = inside (step.Item n)
 
 abbrev pub in_nots : {A : Type 0} → ℕ → Reading A → Reading A
-in_nots n = inside (λ l. record l { nots = n })
+in_nots n = inside (step.Nots n)
 
 abbrev pub in_part : {A : Type 0} → ℕ → Reading A → Reading A
-in_part n = inside (λ l. record l { part = Some n })
+in_part n = inside (step.Part n)
 
 abbrev pub in_value : {A : Type 0} → ℕ → Reading A → Reading A
-in_value n = inside (λ l. record l { value = Some n })
+in_value n = inside (step.Value n)
 
 -- the answer of what may want memory: it is what is read, unless memory was refused
 abbrev pub Reads : {A : Type 0} → Reading A → Reading A → Type 0

@@ -1,9 +1,9 @@
 // What a file is refused for, and where.
-ghost use Rattle.std.specs.Prelude.{◌≡◌, Some, Ok, Err};
+ghost use Rattle.std.specs.Prelude.{◌≡◌};
 ghost use Rattle.msg_files.specs.declared.reason.Reason.TheVariants.{NoMemory as NoRoom};
 ghost use Rattle.msg_files.specs.Faults as Spec;
 
-use crate::location::{Key, Location};
+use crate::location::{Location, Step};
 use crate::reason::Reason;
 use msg_buffer::NoMemory;
 use std::alloc::AllocFailed;
@@ -43,93 +43,15 @@ impl<T: Drop> From<AllocFailed<T>> for Fault {
     }
 }
 
-/// What was read in a section of the file: a fault of it lies there.
-pub fn in_section<T>(section: Key, read: Result<T, Fault>) -> Result<T, Fault>
-    ensures inside { result ≡ Spec.in_section section read }
+/// What was read at this step within what is read: a fault of it lies there.
+pub fn inside<T>(step: Step, read: Result<T, Fault>) -> Result<T, Fault>
+    ensures inside { result ≡ Spec.inside step read }
 {
     match read {
         Ok(read) => Ok(read),
-        Err(mut fault) => {
-            fault.location.section = Some(section);
-            Err(fault)
-        }
-    }
-}
-
-/// What was read in an element of a section.
-pub fn in_element<T>(element: usize, read: Result<T, Fault>) -> Result<T, Fault>
-    ensures inside { result ≡ Spec.in_element element read }
-{
-    match read {
-        Ok(read) => Ok(read),
-        Err(mut fault) => {
-            fault.location.element = Some(element);
-            Err(fault)
-        }
-    }
-}
-
-/// What was read at a key of an element.
-pub fn in_key<T>(key: Key, read: Result<T, Fault>) -> Result<T, Fault>
-    ensures inside { result ≡ Spec.in_key key read }
-{
-    match read {
-        Ok(read) => Ok(read),
-        Err(mut fault) => {
-            fault.location.key = Some(key);
-            Err(fault)
-        }
-    }
-}
-
-/// What was read in an item of a list in an element.
-pub fn in_item<T>(item: usize, read: Result<T, Fault>) -> Result<T, Fault>
-    ensures inside { result ≡ Spec.in_item item read }
-{
-    match read {
-        Ok(read) => Ok(read),
-        Err(mut fault) => {
-            fault.location.item = Some(item);
-            Err(fault)
-        }
-    }
-}
-
-/// What was read inside so many `not`s.
-pub fn in_nots<T>(nots: u8, read: Result<T, Fault>) -> Result<T, Fault>
-    ensures inside { result ≡ Spec.in_nots nots read }
-{
-    match read {
-        Ok(read) => Ok(read),
-        Err(mut fault) => {
-            fault.location.nots = nots;
-            Err(fault)
-        }
-    }
-}
-
-/// What was read in a part of a list that has a head, or of a pair.
-pub fn in_part<T>(part: usize, read: Result<T, Fault>) -> Result<T, Fault>
-    ensures inside { result ≡ Spec.in_part part read }
-{
-    match read {
-        Ok(read) => Ok(read),
-        Err(mut fault) => {
-            fault.location.part = Some(part);
-            Err(fault)
-        }
-    }
-}
-
-/// What was read in a value of a batch.
-pub fn in_value<T>(value: usize, read: Result<T, Fault>) -> Result<T, Fault>
-    ensures inside { result ≡ Spec.in_value value read }
-{
-    match read {
-        Ok(read) => Ok(read),
-        Err(mut fault) => {
-            fault.location.value = Some(value);
-            Err(fault)
-        }
+        Err(fault) => Err(Fault {
+            location: fault.location.after(step),
+            ..fault
+        }),
     }
 }

@@ -24,7 +24,7 @@ pub use calls::{Calls, check_calls, read_calls, run_calls};
 pub use fault::Fault;
 pub use file_fault::FileFault;
 pub use limits::{MAX_LIMIT, MAX_VALUES};
-pub use location::{Key, Location};
+pub use location::{Key, Location, Step};
 pub use memory_sink::{MemorySink, ROOM};
 pub use msg_buffer::NoMemory;
 pub use msg_world::RunFault;

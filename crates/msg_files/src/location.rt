@@ -1,5 +1,5 @@
 ghost use Rattle.std.specs.Prelude.{◌≡◌};
-ghost use Rattle.msg_files.specs.Faults.{here, key_text};
+ghost use Rattle.msg_files.specs.Faults.{after, here, key_text};
 
 /// The keys of files and of systems.
 #[derive(Clone, Copy, Debug, PartialEq, Eq)]
@@ -44,6 +44,25 @@ impl Key {
     }
 }
 
+/// A step from a value of a file to what stands within it.
+#[derive(Clone, Copy, Debug, PartialEq, Eq)]
+pub enum Step {
+    /// To the section of this key.
+    Section(Key),
+    /// To this element of a section.
+    Element(usize),
+    /// To what an element has at this key.
+    Key(Key),
+    /// To this item of a list there.
+    Item(usize),
+    /// Into so many `not`s.
+    Nots(u8),
+    /// To this part of a list that has a head, or of a pair.
+    Part(usize),
+    /// To this value of a batch.
+    Value(usize),
+}
+
 /// Where something stands in a file, level by level from its root, as in
 /// `systems[7].ops[1][2][0]`. A level that isn't there is None.
 #[derive(Clone, Copy, Debug, PartialEq, Eq)]
@@ -80,6 +99,39 @@ impl Location {
             part: None,
             value: None,
             member: None,
+        }
+    }
+
+    /// The same within what this step leads to.
+    pub fn after(self, step: Step) -> Location
+        ensures after { result ≡ after step self }
+    {
+        match step {
+            Step::Section(key) => Location {
+                section: Some(key),
+                ..self
+            },
+            Step::Element(n) => Location {
+                element: Some(n),
+                ..self
+            },
+            Step::Key(key) => Location {
+                key: Some(key),
+                ..self
+            },
+            Step::Item(n) => Location {
+                item: Some(n),
+                ..self
+            },
+            Step::Nots(nots) => Location { nots, ..self },
+            Step::Part(n) => Location {
+                part: Some(n),
+                ..self
+            },
+            Step::Value(n) => Location {
+                value: Some(n),
+                ..self
+            },
         }
     }
 }

@@ -4,8 +4,9 @@ ghost use Rattle.std.specs.List.{list_all};
 ghost use Rattle.serde_json.specs.View.{view, number_view};
 ghost use Rattle.msg_files.specs.{Faults.Reads, Json.is_number, Seen.items_seen, Seen.number_seen, Values.batch_of, Values.below, Values.limit_of, Values.natural, Values.number_of, Values.numbers_of, Values.value_of, Values.values_from, Values.values_of, Values.whole};
 
-use crate::fault::{Fault, in_value};
+use crate::fault::{Fault, inside};
 use crate::limits::{MAX_LIMIT, MAX_VALUES};
+use crate::location::Step;
 use crate::reason::Reason;
 use msg_world::Items;
 use serde_json::{Number, Value};
@@ -108,7 +109,7 @@ fn whole_numbers(alloc: Global, items: &[Value]) -> Result<Items<i64>, Fault>
 {
     let mut values = Vec::new(alloc);
     for item in items {
-        values.push(in_value(values.len(), value(item))?)?;
+        values.push(inside(Step::Value(values.len()), value(item))?)?;
     }
     Ok(Items::from_vec(values))
 }

@@ -9,6 +9,7 @@ use Rattle.msg_order.specs.Prelude.{IsAcyclic, NameSystemsBelow, edges_of}
 use Rattle.msg_frames.specs.declared.frame.Frame.{Frame}
 use Rattle.msg_files.specs.Prelude.{Reading, Text, at_key, elements, in_element, in_item, in_key, in_part, known_keys, limit, not_negative, number_of, only_below, whole}
 use Rattle.msg_files.specs.declared.location.Key.TheVariants as key
+use Rattle.msg_files.specs.declared.location.Step.TheVariants as step
 use Rattle.msg_scenario_data.specs.{Prelude.IsRunnable, Prelude.fits_kind, declared.kind.Kind.Kind, declared.scenario.Scenario.Scenario, declared.scenario.SystemSpec.SystemSpec}
 use Rattle.msg_reading.specs.ScenarioFormat as Spec
 use Rattle.msg_reading.specs.Prelude.{Declared, frames_of, held_of, resources_of, rules_of, scenario_of, systems_of, types_of}
@@ -24,7 +25,7 @@ type_fits : (names : Declared) (k : ℕ) (d : Data) → HasNames k 0 0 names
     → IfOk (Spec.type_at names k d) (OneMore (λ n. HasNames n 0 0) k)
 type_fits names k d has =
     let Fits = OneMore {A = Text × ℕ} (λ n. HasNames n 0 0) k in
-    within Fits _ (Spec.type_of names d) (in_then Fits (Spec.two (elements d)) _ (λ pair _.
+    within Fits (step.Element k) (Spec.type_of names d) (in_then Fits (Spec.two (elements d)) _ (λ pair _.
     in_then Fits (Spec.text_and_number 0 pair.0 pair.1) _ (λ p _.
     in_then Fits (in_part 0 (Spec.new_name names.types p.0)) _ (λ name _.
     in_then Fits (in_part 1 (limit p.1)) _ (λ most _.
@@ -34,7 +35,7 @@ resource_fits : (t : ℕ) (names : Declared) (k : ℕ) (d : Data) → HasNames t
     → IfOk (Spec.resource_at names k d) (OneMore (λ n. HasNames t n 0) k)
 resource_fits t names k d has =
     let Fits = OneMore {A = Text × ℤ} (λ n. HasNames t n 0) k in
-    within Fits _ (Spec.resource_of names d) (in_then Fits (Spec.two (elements d)) _ (λ pair _.
+    within Fits (step.Element k) (Spec.resource_of names d) (in_then Fits (Spec.two (elements d)) _ (λ pair _.
     in_then Fits (Spec.text_and_number 0 pair.0 pair.1) _ (λ p _.
     in_then Fits (in_part 0 (Spec.new_name names.resources p.0)) _ (λ name _.
     in_then Fits (in_part 1 (whole p.1)) _ (λ v _.
@@ -66,7 +67,7 @@ module _ (t r n : ℕ) where
   ops_fit names kind d known =
       let all = list_fits Spec.op_at (OpFits t r) (λ k. Known)
       (λ m k e h. kept (OpFits t r) Known m (in_item k (Spec.op_of m e)) h
-      (within (OpFits t r) _ (Spec.op_of m e) (op_fits t r n m h e))) 64 names d known in
+      (within (OpFits t r) (step.Item k) (Spec.op_of m e) (op_fits t r n m h e))) 64 names d known in
       in_then (OpsFit kind) (Spec.each_of 64 Spec.op_at names d) _ (λ x is.
       let fit = IfOk-at_ok _ is all in
       of_wanted (OpsFit kind) (fits_kind kind x.0) _ _ (λ as_kind. (fit.0, fit.1, fit.2, as_kind)))
@@ -77,7 +78,7 @@ module _ (t r n : ℕ) where
   conditions_fit : (names : Declared) (d : Data) → Known names → IfOk (Spec.conditions_of names d) ConditionsFit
   conditions_fit names d known = list_fits Spec.condition_at (ConditionFits t r) (λ k. Known)
       (λ m k e h. kept (ConditionFits t r) Known m (in_item k (Spec.condition_of m e)) h
-      (within (ConditionFits t r) _ (Spec.condition_of m e) (condition_fits t r n m h e))) 8 names
+      (within (ConditionFits t r) (step.Item k) (Spec.condition_of m e) (condition_fits t r n m h e))) 8 names
       (Spec.value_or key.If Spec.nothing d) known
 
   abbrev IsJoinFrame : ℕ → Type 0
@@ -100,13 +101,13 @@ module _ (t r n : ℕ) where
   program_fits names name ops d known =
       in_then SystemRead (in_key key.Kind (Spec.kind_of d)) _ (λ kind _.
       in_then SystemRead (in_key key.Ops (Spec.ops_of names kind ops)) _ (λ os os_is.
-      let op = IfOk-at_ok (OpsFit kind) os_is (within (OpsFit kind) _ (Spec.ops_of names kind ops)
+      let op = IfOk-at_ok (OpsFit kind) os_is (within (OpsFit kind) (step.Key key.Ops) (Spec.ops_of names kind ops)
       (ops_fit names kind ops known)) in
       in_then SystemRead (in_key key.If (Spec.conditions_of os.1 d)) _ (λ cs cs_is.
-      let condition = IfOk-at_ok ConditionsFit cs_is (within ConditionsFit _ (Spec.conditions_of os.1 d)
+      let condition = IfOk-at_ok ConditionsFit cs_is (within ConditionsFit (step.Key key.If) (Spec.conditions_of os.1 d)
       (conditions_fit os.1 d op.2)) in
       in_then SystemRead (in_key key.Join (Spec.join_of d)) _ (λ j j_is.
-      let join = IfOk-at_ok IsJoinFrame j_is (within IsJoinFrame _ (Spec.join_of d) (join_fits d)) in
+      let join = IfOk-at_ok IsJoinFrame j_is (within IsJoinFrame (step.Key key.Join) (Spec.join_of d) (join_fits d)) in
       in_then SystemRead (in_key key.Start (Spec.start_of d)) _ (λ st _. (
         record {
           few_ops = op.1;
@@ -121,7 +122,7 @@ system_fits : (t r : ℕ) (names : Declared) (n : ℕ) (d : Data) → HasNames t
     → IfOk (Spec.system_at names n d) (SystemRead t r (n + 1))
 system_fits t r names n d has =
     let Fits = SystemRead t r (n + 1) in
-    within Fits _ (Spec.system_of names d) (in_then Fits (known_keys Spec.is_system_key d) _ (λ _ _.
+    within Fits (step.Element n) (Spec.system_of names d) (in_then Fits (known_keys Spec.is_system_key d) _ (λ _ _.
     in_then Fits (at_key key.Name d) _ (λ name _. in_then Fits (at_key key.Ops d) _ (λ ops _.
     in_then Fits (in_key key.Name (Spec.system_name names name)) _ (λ text _.
     program_fits t r (n + 1) (Spec.with_system names text) text ops d
@@ -134,7 +135,7 @@ rules_fit : (t r n : ℕ) (names : Declared) (d : Data) → HasNames t r n names
     (λ x. All (IsBelow n) x.0 × (length x.0 ≤ 1024) × HasNames t r n x.1)
 rules_fit t r n names d has = list_fits Spec.rule_at (IsBelow n) (λ k. HasNames t r n)
     (λ m k e h. kept (IsBelow n) (HasNames t r n) m (in_element k (Spec.rule_of m e)) h
-    (within (IsBelow n) _ (Spec.rule_of m e) (rule_fits t r n m h e))) 1024 names d has
+    (within (IsBelow n) (step.Element k) (Spec.rule_of m e) (rule_fits t r n m h e))) 1024 names d has
 
 abbrev FrameFits : ℕ → Frame → Type 0
 FrameFits t frame = All (λ p. p.0 < t) frame.posts
@@ -148,7 +149,7 @@ module _ (t r n : ℕ) where
       let IsPost = λ (p : ℕ × ℤ). p.0 < t in
       let all = list_fits Spec.post_at IsPost (λ k. HasNames t r n)
       (λ m k e h. kept IsPost (HasNames t r n) m (in_item k (Spec.post_of m e)) h
-      (within IsPost _ (Spec.post_of m e) (post_fits t r n m h e))) 1024 names d has in
+      (within IsPost (step.Item k) (Spec.post_of m e) (post_fits t r n m h e))) 1024 names d has in
       in_then FrameRead (Spec.each_of 1024 Spec.post_at names d) _ (λ x is.
       let fit = IfOk-at_ok _ is all in (fit.0, fit.2))
 
@@ -156,7 +157,7 @@ module _ (t r n : ℕ) where
       → IfOk (Spec.each_of 10000 Spec.frame_at names d)
       (λ x. All (FrameFits t) x.0 × (length x.0 ≤ 10000) × HasNames t r n x.1)
   frames_fit names d has = list_fits Spec.frame_at (FrameFits t) (λ k. HasNames t r n)
-      (λ m k e h. within FrameRead _ (Spec.frame_of m e) (posts_fit m e h)) 10000 names d has
+      (λ m k e h. within FrameRead (step.Element k) (Spec.frame_of m e) (posts_fit m e h)) 10000 names d has
 
 -- ---- the whole
 
@@ -173,26 +174,26 @@ in_turn_whole types systems frames d =
     let resources_in = Spec.value_or key.Resources Spec.nothing d in
     let rules_in = Spec.value_or key.Rules Spec.nothing d in
     in_then IsWhole (types_of Spec.no_names types) _ (λ ts ts_is.
-    let type = IfOk-at_ok _ ts_is (within _ _ (Spec.each_of 64 Spec.type_at Spec.no_names types)
+    let type = IfOk-at_ok _ ts_is (within _ (step.Section key.Types) (Spec.each_of 64 Spec.type_at Spec.no_names types)
     (list_fits Spec.type_at (λ _. Unit {0}) (λ k. HasNames k 0 0) type_fits 64 Spec.no_names types
     (record { types = refl; resources = refl; systems = refl }))) in
     in_then IsWhole (resources_of ts.1 d) _ (λ rs rs_is.
-    let resource = IfOk-at_ok _ rs_is (within _ _ (Spec.each_of 64 Spec.resource_at ts.1 resources_in)
+    let resource = IfOk-at_ok _ rs_is (within _ (step.Section key.Resources) (Spec.each_of 64 Spec.resource_at ts.1 resources_in)
     (list_fits Spec.resource_at (λ _. Unit {0}) (λ k. HasNames (length ts.0) k 0) (resource_fits (length ts.0)) 64 ts.1
     resources_in type.2)) in
     in_then IsWhole (held_of d) _ (λ held _.
     in_then IsWhole (systems_of rs.1 systems) _ (λ ss ss_is.
     let t = length ts.0 in
     let r = length rs.0 in
-    let system = IfOk-at_ok _ ss_is (within _ _ (Spec.each_of 256 Spec.system_at rs.1 systems)
+    let system = IfOk-at_ok _ ss_is (within _ (step.Section key.Systems) (Spec.each_of 256 Spec.system_at rs.1 systems)
     (list_fits Spec.system_at (SystemFits t r) (λ k. HasNames t r k) (λ m k e h. system_fits t r m k e h) 256 rs.1 systems
     resource.2)) in
     let n = length ss.0 in
     in_then IsWhole (rules_of ss.1 d) _ (λ us us_is.
-    let rule = IfOk-at_ok _ us_is (within _ _ (Spec.each_of 1024 Spec.rule_at ss.1 rules_in)
+    let rule = IfOk-at_ok _ us_is (within _ (step.Section key.Rules) (Spec.each_of 1024 Spec.rule_at ss.1 rules_in)
     (rules_fit t r n ss.1 rules_in system.2)) in
     in_then IsWhole (frames_of us.1 frames) _ (λ fs fs_is.
-    let frame = IfOk-at_ok _ fs_is (within _ _ (Spec.each_of 10000 Spec.frame_at us.1 frames)
+    let frame = IfOk-at_ok _ fs_is (within _ (step.Section key.Frames) (Spec.each_of 10000 Spec.frame_at us.1 frames)
     (frames_fit t r n us.1 frames rule.2)) in
     record {
       few_systems = system.1;

@@ -8,6 +8,7 @@ use Rattle.msg_system.specs.Prelude.{is_part, job_needs, needs_any, op_parts, pr
 use Rattle.msg_system.specs.{declared.condition.Condition.Condition, declared.condition.Probe.Probe, declared.op.Op.Op}
 use Rattle.msg_order.specs.declared.rule.Rule.{Rule}
 use Rattle.msg_files.specs.Prelude.{Reading, Text, elements, headed, in_nots, in_part, only_below, text_in, whole, ◌>>=◌}
+use Rattle.msg_files.specs.declared.location.Step.TheVariants as step
 use Rattle.msg_reading.specs.ScenarioFormat as Spec
 use Rattle.msg_reading.specs.Prelude.{Declared, resource_number, system_number, type_number}
 use Rattle.msg_reading.proofs.FitsOfReadings.{either, in_then, of_found, within}
@@ -80,21 +81,21 @@ module _ (T R n : ℕ) (names : Declared) (of : HasNames T R n names) where
 
   here_system : (m : ℕ) (name : Text) (k : ℕ) → in_part m (Spec.system_named names name) ≡ Ok k → k < n
   here_system m name k is =
-      IfOk-at_ok (λ k. k < n) is (within (λ k. k < n) _ (Spec.system_named names name) (named_system name))
+      IfOk-at_ok (λ k. k < n) is (within (λ k. k < n) (step.Part m) (Spec.system_named names name) (named_system name))
 
   type_there : (d : Data) → IfOk (Spec.type_part names d) IsType
-  type_there d = within IsType _ (Spec.type_in names d) (in_then IsType (text_in d) _ (λ name _. named_type name))
+  type_there d = within IsType (step.Part 1) (Spec.type_in names d) (in_then IsType (text_in d) _ (λ name _. named_type name))
 
   resource_there : (d : Data) → IfOk (Spec.resource_part names d) IsResource
   resource_there d =
-      within IsResource _ (Spec.resource_in names d) (in_then IsResource (text_in d) _ (λ name _. named_resource name))
+      within IsResource (step.Part 1) (Spec.resource_in names d) (in_then IsResource (text_in d) _ (λ name _. named_resource name))
 
   here_type : (m : ℕ) (name : Text) (t : ℕ) → in_part m (Spec.type_named names name) ≡ Ok t → IsType t
-  here_type m name t is = IfOk-at_ok IsType is (within IsType _ (Spec.type_named names name) (named_type name))
+  here_type m name t is = IfOk-at_ok IsType is (within IsType (step.Part m) (Spec.type_named names name) (named_type name))
 
   here_resource : (m : ℕ) (name : Text) (r : ℕ) → in_part m (Spec.resource_named names name) ≡ Ok r → IsResource r
   here_resource m name r is =
-      IfOk-at_ok IsResource is (within IsResource _ (Spec.resource_named names name) (named_resource name))
+      IfOk-at_ok IsResource is (within IsResource (step.Part m) (Spec.resource_named names name) (named_resource name))
 
   -- a pair whose first is a type, or a resource, that is there
   typed : {X Y : Type 0} (m : ℕ) (r : Reading (Text × X)) (g : X → Reading Y)
@@ -172,8 +173,8 @@ module _ (T R n : ℕ) (names : Declared) (of : HasNames T R n names) where
   on_message_fits nots d =
       in_then ProbeFits (in_nots nots (in_part 1 (text_in d))) _ (λ name _. in_then ProbeFits (Spec.few_nots nots) _ (λ _ _.
       in_then ProbeFits (in_nots nots (in_part 1 (Spec.type_named names name))) _ (λ t is.
-      IfOk-at_ok IsType is (within IsType _ (in_part 1 (Spec.type_named names name))
-      (within IsType _ (Spec.type_named names name) (named_type name))))))
+      IfOk-at_ok IsType is (within IsType (step.Nots nots) (in_part 1 (Spec.type_named names name))
+      (within IsType (step.Part 1) (Spec.type_named names name) (named_type name))))))
 
   resource_equals_fits : (nots : ℕ) (d e : Data) → IfOk (Spec.resource_equals names nots d e) ProbeFits
   resource_equals_fits nots d e =
@@ -181,8 +182,8 @@ module _ (T R n : ℕ) (names : Declared) (of : HasNames T R n names) where
       in_then ProbeFits (Spec.few_nots nots) _ (λ _ _.
       in_then ProbeFits (in_nots nots (in_part 1 (Spec.resource_named names p.0))) _ (λ r is.
       in_then ProbeFits (in_nots nots (in_part 2 (whole p.1))) _ (λ v _.
-      IfOk-at_ok IsResource is (within IsResource _ (in_part 1 (Spec.resource_named names p.0))
-      (within IsResource _ (Spec.resource_named names p.0) (named_resource p.0)))))))
+      IfOk-at_ok IsResource is (within IsResource (step.Nots nots) (in_part 1 (Spec.resource_named names p.0))
+      (within IsResource (step.Part 1) (Spec.resource_named names p.0) (named_resource p.0)))))))
 
   probe_fits : (nots : ℕ) (head : Text) (ds : List Data) → IfOk (Spec.probe_with names nots head ds) ProbeFits
   probe_fits nots head [] = tt

@@ -5,8 +5,8 @@ ghost use Rattle.msg_reading.specs.Prelude.{IsLowestClashing, unfit};
 ghost use Rattle.msg_files.specs.declared.reason.Reason.TheVariants.{Clash};
 
 use crate::{Fault, SystemSpec};
-use msg_files::fault::{in_element, in_section};
-use msg_files::{Key, Reason};
+use msg_files::fault::inside;
+use msg_files::{Key, Reason, Step};
 use msg_scenario_data::MAX_SYSTEMS;
 
 /// Checks that no program reads and writes one type; else `Clash` with the lowest system whose
@@ -33,5 +33,8 @@ fn clash_of(s: u32) -> Result<(), Fault>
     ensures clash { result ≡ Err (unfit (Clash s)) }
 {
     let clash = Err(Fault::here(Reason::Clash(s)));
-    in_section(Key::Systems, in_element(s as usize, clash))
+    inside(
+        Step::Section(Key::Systems),
+        inside(Step::Element(s as usize), clash),
+    )
 }

@@ -8,10 +8,10 @@ use crate::limits::{MAX_NOTS, MOST_NESTED};
 use crate::read::list::Element;
 use crate::read::names::Declarations;
 use crate::read::part::text_and_number;
-use msg_files::Reason;
-use msg_files::fault::{in_item, in_nots, in_part};
+use msg_files::fault::inside;
 use msg_files::json::{head_and_parts, text};
 use msg_files::numbers::whole_number;
+use msg_files::{Reason, Step};
 use msg_system::{Condition, Probe};
 use serde_json::Value;
 use std::alloc::Global;
@@ -25,17 +25,17 @@ impl Element for Condition {
         n: usize,
         value: &Value,
     ) -> Result<Condition, Fault> {
-        let (nots, inside) = inside_nots(value);
-        let probe = in_item(n, probe_in(names, nots, inside))?;
+        let (nots, innermost) = inside_nots(value);
+        let probe = inside(Step::Item(n), probe_in(names, nots, innermost))?;
         Ok(Condition { nots, probe })
     }
 }
 
 /// What is asked for inside so many `not`s.
-fn probe_in(names: &Declarations, nots: u8, inside: &Value) -> Result<Probe, Fault>
-    ensures reads { result ≡ Spec.probe_in names.now nots (view inside.now) }
+fn probe_in(names: &Declarations, nots: u8, innermost: &Value) -> Result<Probe, Fault>
+    ensures reads { result ≡ Spec.probe_in names.now nots (view innermost.now) }
 {
-    let (head, parts) = in_nots(nots, head_and_parts(inside))?;
+    let (head, parts) = inside(Step::Nots(nots), head_and_parts(innermost))?;
     read_probe(names, nots, head, parts)
 }
 
@@ -71,7 +71,7 @@ fn read_probe(names: &Declarations, nots: u8, head: &str, parts: &[Value]) -> Re
     match (head, parts) {
         ("on_message", [part]) => read_on_message(names, nots, part),
         ("resource_equals", [part, other]) => read_resource_equals(names, nots, part, other),
-        _ => in_nots(nots, Err(Fault::here(Reason::Parts))),
+        _ => inside(Step::Nots(nots), Err(Fault::here(Reason::Parts))),
     }
 }
 
@@ -88,9 +88,9 @@ fn few_nots(nots: u8) -> Result<(), Fault>
 fn read_on_message(names: &Declarations, nots: u8, part: &Value) -> Result<Probe, Fault>
     ensures reads { result ≡ Spec.on_message names.now nots (view part.now) }
 {
-    let name = in_nots(nots, in_part(1, text(part)))?;
+    let name = inside(Step::Nots(nots), inside(Step::Part(1), text(part)))?;
     few_nots(nots)?;
-    let of_type = in_nots(nots, in_part(1, names.type_no(name)))?;
+    let of_type = inside(Step::Nots(nots), inside(Step::Part(1), names.type_no(name)))?;
     Ok(Probe::OnMessage(of_type))
 }
 
@@ -103,9 +103,9 @@ fn read_resource_equals(
     ensures reads { result
         ≡ Spec.resource_equals names.now nots (view part.now) (view other.now) }
 {
-    let (name, value) = in_nots(nots, text_and_number(1, part, other))?;
+    let (name, value) = inside(Step::Nots(nots), text_and_number(1, part, other))?;
     few_nots(nots)?;
-    let resource = in_nots(nots, in_part(1, names.res_no(name)))?;
-    let value = in_nots(nots, in_part(2, whole_number(value)))?;
+    let resource = inside(Step::Nots(nots), inside(Step::Part(1), names.res_no(name)))?;
+    let value = inside(Step::Nots(nots), inside(Step::Part(2), whole_number(value)))?;
     Ok(Probe::ResourceEquals(resource, value))
 }

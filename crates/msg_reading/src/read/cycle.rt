@@ -5,8 +5,8 @@ ghost use Rattle.msg_files.specs.declared.reason.Reason.TheVariants.{Cycle, NoMe
 ghost use Rattle.msg_reading.specs.Prelude.{unfit};
 
 use crate::Fault;
-use msg_files::fault::in_section;
-use msg_files::{Key, Reason};
+use msg_files::fault::inside;
+use msg_files::{Key, Reason, Step};
 use msg_order::{Rule, lowest_on_cycle};
 use msg_scenario_data::MAX_SYSTEMS;
 use std::alloc::Global;
@@ -22,6 +22,9 @@ pub fn check_cycles(alloc: Global, systems: usize, rules: &[Rule]) -> Result<(),
 {
     match lowest_on_cycle(alloc, systems, rules)? {
         None => Ok(()),
-        Some(s) => in_section(Key::Rules, Err(Fault::here(Reason::Cycle(s)))),
+        Some(s) => inside(
+            Step::Section(Key::Rules),
+            Err(Fault::here(Reason::Cycle(s))),
+        ),
     }
 }

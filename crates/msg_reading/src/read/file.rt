@@ -9,9 +9,9 @@ use crate::limits::{MAX_FRAMES, MAX_RULES};
 use crate::read::list::{read_list, read_list_if_there};
 use crate::read::names::Declarations;
 use crate::{Fault, Name, Scenario, SystemSpec};
-use msg_files::fault::in_section;
+use msg_files::fault::inside;
 use msg_files::json::{Keys, check_keys, needed};
-use msg_files::{Key, Reason};
+use msg_files::{Key, Reason, Step};
 use msg_frames::{Frame, Items};
 use msg_order::Rule;
 use msg_scenario_data::{MAX_RESOURCES, MAX_SYSTEMS, MAX_TYPES};
@@ -86,7 +86,7 @@ impl Keys for FileKeys {
     }
 }
 
-#[tactic(auto, unfolding(crate::specs::ScenarioFormat::types_of))]
+#[tactic(auto, using(crate::proofs::ListsInTurn::ReadsWith_inside), unfolding(crate::specs::ScenarioFormat::types_of))]
 fn read_types(
     alloc: Global,
     names: &mut Declarations,
@@ -94,7 +94,10 @@ fn read_types(
 ) -> Result<Items<(Name, u64)>, Fault>
     ensures reads { ReadsWith (Spec.types_of names.old (view types.now)) names.new result }
 {
-    in_section(Key::Types, read_list(alloc, names, types, MAX_TYPES))
+    inside(
+        Step::Section(Key::Types),
+        read_list(alloc, names, types, MAX_TYPES),
+    )
 }
 
 #[tactic(auto, unfolding(crate::specs::ScenarioFormat::resources_of))]
@@ -107,7 +110,7 @@ fn read_resources(
 {
     let list = file.get(Key::Resources.text());
     let resources = read_list_if_there(alloc, names, list, MAX_RESOURCES);
-    in_section(Key::Resources, resources)
+    inside(Step::Section(Key::Resources), resources)
 }
 
 #[tactic(auto, unfolding(crate::specs::ScenarioFormat::held_of))]
@@ -117,13 +120,13 @@ fn read_held(file: &Value) -> Result<bool, Fault>
     match file.get(Key::Held.text()) {
         Some(held) => {
             let held = held.as_bool().ok_or(Fault::here(Reason::Truth));
-            in_section(Key::Held, held)
+            inside(Step::Section(Key::Held), held)
         }
         None => Ok(false),
     }
 }
 
-#[tactic(auto, unfolding(crate::specs::ScenarioFormat::systems_of))]
+#[tactic(auto, using(crate::proofs::ListsInTurn::ReadsWith_inside), unfolding(crate::specs::ScenarioFormat::systems_of))]
 fn read_systems(
     alloc: Global,
     names: &mut Declarations,
@@ -131,7 +134,10 @@ fn read_systems(
 ) -> Result<Items<SystemSpec>, Fault>
     ensures reads { ReadsWith (Spec.systems_of names.old (view systems.now)) names.new result }
 {
-    in_section(Key::Systems, read_list(alloc, names, systems, MAX_SYSTEMS))
+    inside(
+        Step::Section(Key::Systems),
+        read_list(alloc, names, systems, MAX_SYSTEMS),
+    )
 }
 
 #[tactic(auto, unfolding(crate::specs::ScenarioFormat::rules_of))]
@@ -140,10 +146,10 @@ fn read_rules(alloc: Global, names: &mut Declarations, file: &Value) -> Result<I
 {
     let list = file.get(Key::Rules.text());
     let rules = read_list_if_there(alloc, names, list, MAX_RULES);
-    in_section(Key::Rules, rules)
+    inside(Step::Section(Key::Rules), rules)
 }
 
-#[tactic(auto, unfolding(crate::specs::ScenarioFormat::frames_of))]
+#[tactic(auto, using(crate::proofs::ListsInTurn::ReadsWith_inside), unfolding(crate::specs::ScenarioFormat::frames_of))]
 fn read_frames(
     alloc: Global,
     names: &mut Declarations,
@@ -151,5 +157,8 @@ fn read_frames(
 ) -> Result<Items<Frame>, Fault>
     ensures reads { ReadsWith (Spec.frames_of names.old (view frames.now)) names.new result }
 {
-    in_section(Key::Frames, read_list(alloc, names, frames, MAX_FRAMES))
+    inside(
+        Step::Section(Key::Frames),
+        read_list(alloc, names, frames, MAX_FRAMES),
+    )
 }

@@ -8,7 +8,8 @@ use crate::limits::MAX_POSTS;
 use crate::read::list::{Element, read_list};
 use crate::read::names::Declarations;
 use crate::read::part::{two, type_and_value};
-use msg_files::fault::{in_element, in_item};
+use msg_files::Step;
+use msg_files::fault::inside;
 use msg_frames::Frame;
 use msg_world::TypeNo;
 use serde_json::Value;
@@ -23,7 +24,7 @@ impl Element for Frame {
         n: usize,
         value: &Value,
     ) -> Result<Frame, Fault> {
-        in_element(n, read_frame(alloc, names, value))
+        inside(Step::Element(n), read_frame(alloc, names, value))
     }
 }
 
@@ -43,7 +44,7 @@ impl Element for (TypeNo, i64) {
         n: usize,
         value: &Value,
     ) -> Result<(TypeNo, i64), Fault> {
-        in_item(n, read_post(names, value))
+        inside(Step::Item(n), read_post(names, value))
     }
 }
 

@@ -11,9 +11,9 @@ use crate::read::part::{
     one_resource, one_type, resource_and_value, two_types, type_and_limit, type_and_resource,
     type_and_value, type_and_values,
 };
-use msg_files::Reason;
-use msg_files::fault::in_item;
+use msg_files::fault::inside;
 use msg_files::json::head_and_parts;
+use msg_files::{Reason, Step};
 use msg_system::Op;
 use serde_json::Value;
 use std::alloc::Global;
@@ -22,7 +22,7 @@ impl Element for Op {
     ghost reads = { Spec.op_at };
 
     fn read(alloc: Global, names: &mut Declarations, n: usize, value: &Value) -> Result<Op, Fault> {
-        in_item(n, read_op(alloc, names, value))
+        inside(Step::Item(n), read_op(alloc, names, value))
     }
 }
 

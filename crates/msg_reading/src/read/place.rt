@@ -8,9 +8,9 @@ use crate::Fault;
 use crate::limits::MAX_CONDITIONS;
 use crate::read::list::read_list_if_there;
 use crate::read::names::Declarations;
-use msg_files::fault::in_key;
+use msg_files::fault::inside;
 use msg_files::numbers::number;
-use msg_files::{Key, Reason};
+use msg_files::{Key, Reason, Step};
 use msg_frames::Items;
 use msg_scenario_data::LAST_JOIN;
 use msg_system::{Condition, Start};
@@ -27,7 +27,7 @@ pub fn read_conditions(
     ensures reads { ReadsWith (in_key Key.If (conditions_of names.old (view system.now)))
         names.new result }
 {
-    in_key(Key::If, conditions_in(alloc, names, system))
+    inside(Step::Key(Key::If), conditions_in(alloc, names, system))
 }
 
 fn conditions_in(

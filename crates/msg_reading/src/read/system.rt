@@ -9,9 +9,9 @@ use crate::read::list::{Element, read_list};
 use crate::read::names::Declarations;
 use crate::read::place::{read_conditions, read_join, read_start};
 use crate::{Fault, Kind, Name, SystemSpec};
-use msg_files::fault::{in_element, in_key};
+use msg_files::fault::inside;
 use msg_files::json::{Keys, check_keys, needed, text};
-use msg_files::{Key, Reason};
+use msg_files::{Key, Reason, Step};
 use msg_frames::Place;
 use msg_scenario_data::MAX_OPS;
 use msg_system::{Items, Op, Program};
@@ -27,7 +27,7 @@ impl Element for SystemSpec {
         n: usize,
         value: &Value,
     ) -> Result<SystemSpec, Fault> {
-        in_element(n, read_system(alloc, names, value))
+        inside(Step::Element(n), read_system(alloc, names, value))
     }
 }
 
@@ -57,7 +57,7 @@ fn read_name(alloc: Global, names: &mut Declarations, name: &Value) -> Result<Na
     ensures reads { Reads (in_key Key.Name (Spec.system_name names.old (view name.now))) result }
     ensures declares { IfOk result (λ text. names.new ≡ Spec.with_system names.old text) }
 {
-    in_key(Key::Name, name_in(alloc, names, name))
+    inside(Step::Key(Key::Name), name_in(alloc, names, name))
 }
 
 fn name_in(alloc: Global, names: &mut Declarations, name: &Value) -> Result<Name, Fault>
@@ -79,11 +79,11 @@ fn read_program(
     ensures reads { ReadsWith (Spec.program_of names.old name (view ops.now) (view system.now))
         names.new result }
 {
-    let kind = in_key(Key::Kind, read_kind(system))?;
+    let kind = inside(Step::Key(Key::Kind), read_kind(system))?;
     let ops = read_ops(alloc, names, kind, ops)?;
     let conditions = read_conditions(alloc, names, system)?;
-    let join = in_key(Key::Join, read_join(system))?;
-    let start = in_key(Key::Start, read_start(system))?;
+    let join = inside(Step::Key(Key::Join), read_join(system))?;
+    let start = inside(Step::Key(Key::Start), read_start(system))?;
     Ok(SystemSpec {
         name,
         kind,
@@ -117,7 +117,7 @@ fn read_ops(
     ensures reads { ReadsWith (in_key Key.Ops (Spec.ops_of names.old kind (view ops.now)))
         names.new result }
 {
-    in_key(Key::Ops, ops_in(alloc, names, kind, ops))
+    inside(Step::Key(Key::Ops), ops_in(alloc, names, kind, ops))
 }
 
 fn ops_in(

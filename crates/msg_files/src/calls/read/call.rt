@@ -6,9 +6,10 @@ ghost use Rattle.msg_files.specs.{Faults.Reads, Faults.fault, Faults.in_element,
 
 use crate::call::Call;
 use crate::calls::read::part;
-use crate::fault::{Fault, in_element};
+use crate::fault::{Fault, inside};
 use crate::json::head_and_parts;
 use crate::limits::MAX_CURSORS;
+use crate::location::Step;
 use crate::reason::Reason;
 use serde_json::Value;
 use std::alloc::Global;
@@ -18,7 +19,7 @@ pub fn read_call(alloc: Global, made: u32, number: usize, value: &Value) -> Resu
     ensures call { Reads (in_element number (Spec.call_of made (view value.now))) result }
     ensures fits { IfOk result (FitsCursors made) }
 {
-    in_element(number, read_headed(alloc, made, value))
+    inside(Step::Element(number), read_headed(alloc, made, value))
 }
 
 fn read_headed(alloc: Global, made: u32, value: &Value) -> Result<Call, Fault>

@@ -6,10 +6,10 @@ ghost use Rattle.msg_files.specs.{CallsFormat.calls_from, CallsFormat.calls_of, 
 use crate::call::Call;
 use crate::calls::Calls;
 use crate::calls::read::call::read_call;
-use crate::fault::{Fault, in_section};
+use crate::fault::{Fault, inside};
 use crate::json::{Keys, check_keys, list, needed};
 use crate::limits::MAX_CALLS;
-use crate::location::Key;
+use crate::location::{Key, Step};
 use crate::numbers;
 use msg_world::Items;
 use serde_json::Value;
@@ -22,8 +22,8 @@ pub fn read_file(alloc: Global, value: &Value) -> Result<Calls, Fault>
     check_keys::<FileKeys>(value)?;
     let limit = needed(value, Key::Limit)?;
     let list = needed(value, Key::Calls)?;
-    let limit = in_section(Key::Limit, numbers::limit(limit))?;
-    let calls = in_section(Key::Calls, read_list(alloc, list))?;
+    let limit = inside(Step::Section(Key::Limit), numbers::limit(limit))?;
+    let calls = inside(Step::Section(Key::Calls), read_list(alloc, list))?;
     Ok(Calls::new(limit, calls.into_vec()))
 }
 

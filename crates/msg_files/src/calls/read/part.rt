@@ -3,8 +3,9 @@ ghost use Rattle.std.specs.Prelude.{◌≡◌, ◌<◌, IfOk};
 ghost use Rattle.serde_json.specs.View.{view};
 ghost use Rattle.msg_files.specs.{CallsFormat.cursor_and_limit, CallsFormat.cursor_in, CallsFormat.cursor_part, CallsFormat.message_in, CallsFormat.message_part, CallsFormat.value_part, CallsFormat.values_part, Faults.Reads};
 
-use crate::fault::{Fault, in_part};
+use crate::fault::{Fault, inside};
 use crate::limits::MAX_LIMIT;
+use crate::location::Step;
 use crate::numbers::{self, natural_number, number, small_number};
 use msg_world::Items;
 use serde_json::Value;
@@ -14,14 +15,14 @@ use std::alloc::Global;
 pub fn value(part: &Value) -> Result<i64, Fault>
     ensures value { result ≡ value_part (view part.now) }
 {
-    in_part(1, numbers::value(part))
+    inside(Step::Part(1), numbers::value(part))
 }
 
 /// The values of a batch.
 pub fn values(alloc: Global, part: &Value) -> Result<Items<i64>, Fault>
     ensures values { Reads (values_part (view part.now)) result }
 {
-    in_part(1, numbers::values(alloc, part))
+    inside(Step::Part(1), numbers::values(alloc, part))
 }
 
 /// The number of a cursor that was made.
@@ -29,7 +30,7 @@ pub fn cursor(made: u32, part: &Value) -> Result<u32, Fault>
     ensures small { IfOk result (λ c. c < made) }
     ensures cursor { result ≡ cursor_part made (view part.now) }
 {
-    in_part(1, cursor_of(made, part))
+    inside(Step::Part(1), cursor_of(made, part))
 }
 
 fn cursor_of(made: u32, value: &Value) -> Result<u32, Fault>
@@ -43,7 +44,7 @@ fn cursor_of(made: u32, value: &Value) -> Result<u32, Fault>
 pub fn message_number(part: &Value) -> Result<u64, Fault>
     ensures number { result ≡ message_part (view part.now) }
 {
-    in_part(1, message_of(part))
+    inside(Step::Part(1), message_of(part))
 }
 
 fn message_of(value: &Value) -> Result<u64, Fault>
@@ -57,8 +58,11 @@ pub fn cursor_and_limit(made: u32, part: &Value, limit: &Value) -> Result<(u32, 
     ensures small { IfOk result (λ p. p.0 < made) }
     ensures both { result ≡ cursor_and_limit made (view part.now) (view limit.now) }
 {
-    let part = in_part(1, number(part))?;
-    let limit = in_part(2, number(limit))?;
-    let cursor = in_part(1, small_number(part, made))?;
-    Ok((cursor, in_part(2, small_number(limit, MAX_LIMIT + 1))?))
+    let part = inside(Step::Part(1), number(part))?;
+    let limit = inside(Step::Part(2), number(limit))?;
+    let cursor = inside(Step::Part(1), small_number(part, made))?;
+    Ok((
+        cursor,
+        inside(Step::Part(2), small_number(limit, MAX_LIMIT + 1))?,
+    ))
 }

@@ -1,3 +1,5 @@
+use Rattle.msg_files.specs.declared.location.Key.TheVariants as key
+use Rattle.msg_files.specs.declared.location.Step.TheVariants as step
 use Rattle.msg_reading.specs.Prelude.{resources_of}
 use Rattle.msg_reading.proofs.ListsInTurn.{ReadsWith_inside}
 use Rattle.msg_reading.proofs.read.file.read_resources.Goals as goal
@@ -6,4 +8,4 @@ pub returns : goal.returns
 unfolding resources_of
 returns c =
     let read = rw (c.get-list.ensures, c.text.ensures.text) at c.read_list_if_there-resources.ensures.reads in
-    record { reads = rw c.in_section.ensures.inside (ReadsWith_inside _ _ _ _ read) }
+    record { reads = rw c.inside.ensures.inside (ReadsWith_inside (step.Section key.Resources) _ _ _ read) }

@@ -1,7 +1,0 @@
-use Rattle.msg_reading.specs.Prelude.{systems_of}
-use Rattle.msg_reading.proofs.ListsInTurn.{ReadsWith_inside}
-use Rattle.msg_reading.proofs.read.file.read_systems.Goals as goal
-
-pub returns : goal.returns
-unfolding systems_of
-returns c = record { reads = rw c.in_section.ensures.inside (ReadsWith_inside _ _ _ _ c.read_list.ensures.reads) }
