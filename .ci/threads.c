@@ -1,6 +1,6 @@
 // Counts the threads that the program which loads this library starts: the file that THREADS names has a byte for each.
-// Where HELD is a number, it holds each thread that has started another at its requests for memory, until so many were
-// started in all, or for some three seconds: so no job ends before that, however short it is.
+// If HELD is a number, each thread that has started another is held at its requests for memory, until so many threads
+// were started in all, or for some three seconds: so no job ends before that, however short it is.
 #define _GNU_SOURCE
 #include <dlfcn.h>
 #include <fcntl.h>
