@@ -10,7 +10,7 @@ use Rattle.msg_files.specs.declared.call.Call.TheVariants as call
 use Rattle.msg_files.specs.declared.location.Key.TheVariants as key
 use Rattle.msg_files.specs.declared.reason.Reason.TheVariants as reason
 
--- this call makes a cursor, where so many were made before: there are 64 at most
+-- a call that makes a cursor, if fewer than 64 were made before
 abbrev pub one_cursor_more : ℕ → Call → Reading Call
 one_cursor_more made c = wanted (nat_lt made 64) (reason.AtMost 64) >>= λ _. Ok c
 
@@ -103,7 +103,7 @@ calls_from made n (d ∷ ds) =
 abbrev pub calls_of : Data → Reading (List Call)
 calls_of d = list_up_to 10000 d >>= calls_from 1 0
 
--- the keys that there are
+-- the keys that a calls file has
 abbrev pub is_known : Text → Bool
 is_known key = bytes_eq key (codes "limit") || bytes_eq key (codes "calls")
 

@@ -107,7 +107,7 @@ found (Some a) why = Ok a
 
 -- ---- a fault within what is read lies deeper
 
--- the location after a step
+-- a location within what the step leads to, as it is told from where the step begins
 abbrev pub after : Step → Location → Location
 after (step.Section k) l = record l { section = Some k }
 after (step.Element n) l = record l { element = Some n }
@@ -117,29 +117,36 @@ after (step.Nots n) l = record l { nots = n }
 after (step.Part n) l = record l { part = Some n }
 after (step.Value n) l = record l { value = Some n }
 
--- what is read at a step
+-- what was read behind a step: its fault lies there
 abbrev pub inside : {A : Type 0} → Step → Reading A → Reading A
 inside s (Ok a) = Ok a
 inside s (Err e) = Err (record e { location = after s e.location })
 
+-- what was read in the section of this key
 abbrev pub in_section : {A : Type 0} → Key → Reading A → Reading A
 in_section k = inside (step.Section k)
 
+-- what was read as this element of a section
 abbrev pub in_element : {A : Type 0} → ℕ → Reading A → Reading A
 in_element n = inside (step.Element n)
 
+-- what was read at this key of an element
 abbrev pub in_key : {A : Type 0} → Key → Reading A → Reading A
 in_key k = inside (step.Key k)
 
+-- what was read as this item of a list there
 abbrev pub in_item : {A : Type 0} → ℕ → Reading A → Reading A
 in_item n = inside (step.Item n)
 
+-- what was read inside so many `not`s
 abbrev pub in_nots : {A : Type 0} → ℕ → Reading A → Reading A
 in_nots n = inside (step.Nots n)
 
+-- what was read as this part of a list that has a head, or of a pair
 abbrev pub in_part : {A : Type 0} → ℕ → Reading A → Reading A
 in_part n = inside (step.Part n)
 
+-- what was read as this value of a batch
 abbrev pub in_value : {A : Type 0} → ℕ → Reading A → Reading A
 in_value n = inside (step.Value n)
 

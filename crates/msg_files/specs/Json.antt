@@ -46,7 +46,7 @@ abbrev pub not_negative : ℤ → Option ℕ
 not_negative (pos n) = Some n
 not_negative (negsuc n) = None
 
--- a number, where it is below an end
+-- a number, if it is below an end
 abbrev pub only_below : ℕ → ℕ → Option ℕ
 only_below end n = if nat_lt n end then Some n else None
 

@@ -8,7 +8,8 @@ use crate::refusal::Refusal;
 /// Why the bytes of a file are refused.
 #[derive(Clone, Copy, Debug, PartialEq, Eq)]
 pub enum FileFault {
-    /// They are no JSON text. They can be read up to this line and column, which count from 1.
+    /// They are no JSON text. They can be read up to this line, which counts from 1, and this
+    /// column, which counts from 1 too and is 0 if the bytes end where the line begins.
     NotJson { line: usize, column: usize },
     /// They are a JSON text, and this is its first fault; or memory was refused.
     At(Fault),

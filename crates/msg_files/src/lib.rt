@@ -1,6 +1,6 @@
 //! Calls files: reading them, making their calls, and putting the answers into a sink; and what
-//! scenario files are read and reported with: the refusals of files, numbers of JSON values, texts
-//! of numbers, sinks.
+//! scenario files are read and reported with: the faults and refusals of files, the parts of JSON
+//! values, texts of numbers, sinks.
 #![tactic(auto)]
 
 mod call;

@@ -102,7 +102,7 @@ impl Location {
         }
     }
 
-    /// The same within what this step leads to.
+    /// A location within what this step leads to, as it is told from where the step begins.
     pub fn after(self, step: Step) -> Location
         ensures after { result ≡ after step self }
     {

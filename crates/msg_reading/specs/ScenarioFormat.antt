@@ -19,8 +19,8 @@ use Rattle.msg_reading.specs.Names.{Declared, position_of, resource_number, syst
 
 -- ---- lists
 
--- the elements in order, the first of which is number n, each where the names of those before it
--- are declared; and the names that are declared then
+-- The elements in order, of which the first is number n. Each may use the names that were declared
+-- before it. Beside them stand the names that are declared at the end.
 abbrev pub each_from : {A : Type 0} → (Declared → ℕ → Data → Reading (A × Declared))
     → Declared → ℕ → List Data → Reading (List A × Declared)
 each_from f names n [] = Ok ([], names)
@@ -478,7 +478,7 @@ rules_of names d =
 unfoldable pub frames_of : Declared → Data → Reading (List Frame × Declared)
 frames_of names d = in_section key.Frames (each_of 10000 frame_at names d)
 
--- the sections of a file one after another, where those that it needs are these
+-- the sections of a file one after another; those that it needs are given
 abbrev pub in_turn : Data → Data → Data → Data → Reading Scenario
 in_turn types systems frames d =
     types_of no_names types >>= λ types.

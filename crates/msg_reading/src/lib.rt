@@ -1,4 +1,4 @@
-//! Scenario files: what they denote, and which of them are refused.
+//! Scenario files: what they are read as, and the fault of each that is refused.
 #![tactic(auto)]
 
 mod limits;

@@ -29,8 +29,8 @@ mod system;
 ///
 /// # Errors
 ///
-/// `NotJson`; else the refusal of the first check that fails in reading order; else `Clash` with
-/// the lowest system whose program clashes; else `Cycle`. `NoMemory` may come at any point.
+/// `NotJson`; else the refusal for the first fault in reading order; else `Clash` with the lowest
+/// system whose program clashes; else `Cycle`. `NoMemory` may come at any point.
 pub fn read_scenario(alloc: Global, bytes: &[u8]) -> Result<Scenario, Refusal>
     ensures ok { IfOk result (λ scenario.
         (d : Data) × IsJsonOf bytes.now d × IsReadAs d scenario) }
@@ -61,7 +61,7 @@ pub fn check_scenario(alloc: Global, bytes: &[u8]) -> Result<Scenario, FileFault
     Ok(read_value(alloc, &value)?)
 }
 
-/// The scenario that a JSON value denotes.
+/// The scenario that a JSON value is.
 fn read_value(alloc: Global, value: &Value) -> Result<Scenario, Fault>
     ensures ok { IfOk result (IsReadAs (view value.now)) }
     ensures runnable { IfOk result IsRunnable }

@@ -13,7 +13,7 @@ mod call;
 mod file;
 mod part;
 
-/// The calls file that the bytes are a JSON text of, or the first refusal in reading order.
+/// The calls file that the bytes are a JSON text of, or the refusal for the first fault.
 pub fn read_calls(alloc: Global, bytes: &[u8]) -> Result<Calls, Refusal>
     ensures ok { IfOk result (λ file. (d : Data) × IsJsonOf bytes.now d × (file_of d ≡ Ok file)) }
     ensures not_json { result ≡ Err Refusal.NotJson → IsUtf8 bytes.now → read bytes.now ≡ None }
