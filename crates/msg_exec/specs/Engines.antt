@@ -62,8 +62,8 @@ module _ {S : Type 0} (meaning : S → Meaning) where
     pub complete : IsCompleteRun frames s
     pub stands : EngineStands e (run frames s).state
 
-  -- From the state s the engine ran the first of the frames, so many, and then there was no memory:
-  -- the logs of those were appended, and it counted those.
+  -- From the state s the engine ran the first of the frames, `ran` of them, and then there was no
+  -- memory: their logs were appended, and it counted them.
   pub record HasRunSome (frames : List Frame) (s : State) (before after : List Log)
       (e : EngineOf S) : Type 0 where
     pub ran : ℕ

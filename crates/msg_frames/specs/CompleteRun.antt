@@ -39,7 +39,7 @@ pub record IsServed (i t : ℕ) (frames : List Frame) (s : State) : Type 0 where
       (reader_place (run frames s).state i t - found_at s (run frames s).state i t)
   -- each is true
   pub true : All (IsTrueEntry ((run frames s).state.world.histories t)) (moments i t frames s)
-  -- and its totals count what they tell, from those that it had, or new ones where it joined
+  -- and its totals count what they tell, from those that it had, or new ones if it joined then
   pub totals : ((run frames s).state.members i).totals t
       ≡ with_entries (entries_in_run i t frames s) (if has_begun s i then (s.members i).totals t
       else totals_from (found_at s (run frames s).state i t))

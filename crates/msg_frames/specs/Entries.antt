@@ -7,7 +7,7 @@ use Rattle.msg_world.specs.{Prelude.OfType, Prelude.same_part, declared.record.R
 use Rattle.msg_system.specs.{Prelude.Step, Prelude.op_parts, declared.op.Op.Op, declared.reply.Reply.Reply, declared.reply.Reply.TheVariants.Read, declared.reply.Reply.TheVariants.Cleared, declared.reply.Reply.TheVariants.Forwarded, declared.reply.Reply.TheVariants.Summed, declared.reply.Took.Took}
 use Rattle.msg_frames.specs.{declared.totals.Totals.Totals}
 
--- What a reader went past by one op, and the messages that it was given; None where it cleared.
+-- What a reader went past by one op, and the messages that it was given; None if it cleared them.
 pub record ReadEntry : Type 0 where
   pub stretch : Stretch
   pub given : Option (List Record)

@@ -60,8 +60,8 @@ pub record MeetsOneFate (es : List ReadEntry) (n : ℕ) : Type 0 where
 abbrev pub messages_given : List ReadEntry → List Record
 messages_given es = flat_map (λ e. unwrap_or e.given []) es
 
--- What the entries of these moments say of the messages from one place to another; at the end the
--- type's list is last.
+-- What the entries of these moments say of the messages from one place to another; `last` is the
+-- type's list as the run ends.
 pub record IsGivenOnce (es : List ReadEntry) (ms : List Moment) (from to : ℕ)
     (last : History Record) : Type 0 where
   -- each message was given, or cleared, or missed: one of these, and once

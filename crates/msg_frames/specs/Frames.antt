@@ -61,7 +61,7 @@ with_joining k s =
           else s.members i;
     }
 
--- those that join with the next frame do so; those of the first joined before it
+-- those that join with the next frame do so; those of frame 1 have joined before it
 abbrev pub after_joining : State → State
 after_joining s = if s.frames == 0 then s else with_joining (suc s.frames) s
 
@@ -168,7 +168,7 @@ pub record AreAccessesOf (s : State) (accesses : List Access) : Type 0 where
 
 -- ---- frames in the settled order
 
--- the parts that a world may have, which has at most 64 types and 64 resources
+-- the parts that a world may have: at most 64 types, 64 resources, and the registry
 unfoldable pub parts : List Part
 parts = (map OfType (range_with_len 0 64) ++ map OfResource (range_with_len 0 64)) ++ Registry ∷ []
 

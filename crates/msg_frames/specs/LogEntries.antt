@@ -1,4 +1,4 @@
--- What replies tell of a reader, where a system's rule says which op each of them answers.
+-- What replies tell of a reader: the system's rule says which op each of them answers.
 use Rattle.std.specs.Prelude.{ℕ, List, [], ◌∷◌, ◌++◌}
 use Rattle.msg_system.specs.{Prelude.Meaning, Prelude.Needs, Prelude.Rule, Prelude.if_kept, Prelude.ops_answered, declared.op.Op.Op, declared.reply.Reply.Reply}
 use Rattle.msg_frames.specs.{declared.log.Outcome.Outcome, Entries.ReadEntry, Entries.entry_for, Steps.replies_of}

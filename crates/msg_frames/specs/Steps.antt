@@ -31,12 +31,12 @@ pub record IsWrittenOnce (t : ℕ) (w : WorldState) (steps : List (ℕ × Step))
 
 -- ---- what was answered
 
--- what a system was told by a turn: the replies; nothing where it was skipped
+-- what a system was told by a turn: its replies, or nothing if it was skipped
 abbrev pub replies_of : Outcome → List (List Reply)
 replies_of Skipped = []
 replies_of (Ran replies) = replies ∷ []
 
--- what the logs say was answered, and whom
+-- the replies that the logs have, each beside whom it was given to
 abbrev pub answers_of : List Log → List (ℕ × Reply)
 answers_of logs =
     flat_map (λ log. map (λ r. (HOST, r)) log.posts

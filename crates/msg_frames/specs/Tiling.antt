@@ -13,7 +13,7 @@ pub record Moment : Type 0 where
   pub place : ℕ
   pub entry : ReadEntry
 
--- the moments of a step, for a reader of type t: one where its op went past some, else none
+-- the moments of a step, for a reader of type t: one if its op went past some, else none
 abbrev pub moments_at : ℕ → Step → List Moment
 moments_at t x =
     map (λ e. record { history = x.world.histories t; place = x.places t; entry = e })
@@ -24,7 +24,7 @@ abbrev pub moments : ℕ → ℕ → List Frame → State → List Moment
 moments i t frames s =
     flat_map (moments_at t) (map (λ x. x.1) (filter (λ x. x.0 == i) (run frames s).steps))
 
--- ---- the tiling of a reader over a run
+-- ---- where a run finds a reader
 
 -- the place of system i in type t
 abbrev pub reader_place : State → ℕ → ℕ → ℕ

@@ -117,7 +117,7 @@ LawfulOrdersAgree = (s : State) (accesses : List Access) (settled : Graph) (a b 
     → ((after_turns_of a s).state ≡ (after_turns_of b s).state)
     × IsPermutation (after_turns_of a s).turns (after_turns_of b s).turns
 
--- ---- one run
+-- ---- the order of turns
 
 -- How the systems of a state that have joined are ordered.
 pub record AreOrdered (s : State) : Type 0 where
@@ -135,11 +135,11 @@ pub record AreOrdered (s : State) : Type 0 where
   -- each that has joined has one turn, after those that come before it
   pub once : IsLawfulOrder (settled_order s) (join_flags s) (turn_order s)
 
--- Where the rules make no cycle, the systems are ordered so.
+-- If the rules make no cycle, the systems are ordered so.
 abbrev pub TurnsAreInOrder : Type 0
 TurnsAreInOrder = (s : State) → NoCycle s → AreOrdered s
 
--- The settled order is the one that the rules make, and the pairs whose accesses are in conflict.
+-- The settled order is the one that the rules make, and then the pairs whose accesses conflict.
 abbrev pub OrderIsSettled : Type 0
 OrderIsSettled = (s : State) (accesses : List Access) → UsesParts s → AreAccessesOf s accesses
     → IsSettledOrder accesses s.rules (join_flags s) (settled_order s)

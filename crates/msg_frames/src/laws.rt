@@ -63,9 +63,9 @@ pub fn lawful_orders_agree()
     lawful_orders_keep_paths();
 }
 
-/// The order of a state's systems is the settled one. Where the rules make no cycle, it has none,
-/// it orders those in conflict, the batches are by the longest chain, and each system that has
-/// joined has its turn once.
+/// The order of a state's systems is the settled one. If the rules make no cycle, it has none, it
+/// orders those in conflict, the batches are by the longest chain, and each system that has joined
+/// has its turn once.
 pub fn turns_are_in_settled_order()
     ensures turns { TurnsAreInOrder }
     ensures settled { OrderIsSettled }

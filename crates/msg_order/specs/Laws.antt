@@ -22,13 +22,13 @@ ConflictingSystemsAreOrdered = (accesses : List Access) (rules : List Rule) (joi
     → (i j : ℕ) → i ≢ j → IsTrue (has_joined joined i) → IsTrue (has_joined joined j)
     → Conflict (access_of accesses i) (access_of accesses j) → Path order i j ⊎ Path order j i
 
--- the test says which of those that have joined are in conflict
+-- the test says which two of those that have joined are in conflict
 abbrev pub TellsConflicts : List Access → List Bool → (ℕ → ℕ → Bool) → Type 0
 TellsConflicts accesses joined conflict = (i j : ℕ) → IsTrue (has_joined joined i)
     → IsTrue (has_joined joined j)
     → IsTrue (conflict i j) ↔ Conflict (access_of accesses i) (access_of accesses j)
 
--- The settled order that is computed is the one that the pairs in conflict make, and no other is.
+-- The settled order that is computed is the one that the rules and the pairs in conflict make.
 abbrev pub SettledIsTheOrder : Type 0
 SettledIsTheOrder = (accesses : List Access) (rules : List Rule) (joined : List Bool)
     (conflict : ℕ → ℕ → Bool) → length joined ≡ length accesses
@@ -36,7 +36,7 @@ SettledIsTheOrder = (accesses : List Access) (rules : List Rule) (joined : List 
     → IsSettledOrder accesses rules joined (settled conflict rules joined)
     × ((g : Graph) → IsSettledOrder accesses rules joined g → g ≡ settled conflict rules joined)
 
--- Where no path leads back, the batches are by batch number, and the turns in order of them.
+-- If no path leads back, the batches are by batch number, and the turns go in that order.
 abbrev pub BatchesAreByNumber : Type 0
 BatchesAreByNumber = (order : Graph) (joined : List Bool) → IsAmong joined order → IsAcyclic order
     → AreBatches order joined (batches order joined)

@@ -21,7 +21,7 @@ abbrev pub pairs : ℕ → List (ℕ × ℕ)
 pairs n = flat_map (λ i. map (λ j. (i, j)) (range_with_len (i + 1) (n - (i + 1))))
     (range_with_len 0 n)
 
--- each of these pairs in turn adds an edge where the two are in conflict and no path leads back
+-- each of these pairs in turn adds an edge if the two are in conflict and no path leads back
 abbrev pub settle : (ℕ → ℕ → Bool) → Graph → List (ℕ × ℕ) → Graph
 settle conflict g [] = g
 settle conflict g (p ∷ ps) =
@@ -37,15 +37,15 @@ settled conflict rules joined =
 abbrev pub follows : Graph → List ℕ → ℕ → Bool
 follows g left i = list_any (λ k. path g k i) left
 
--- At most so many batches: those that none of the others that are left comes before, and so on with
--- the others.
+-- At most so many batches of these systems: the first has those that no other of them comes before,
+-- and the rest make the batches after it.
 abbrev pub batches_of : ℕ → Graph → List ℕ → List (List ℕ)
 batches_of zero g left = []
 batches_of (suc n) g [] = []
 batches_of (suc n) g (i ∷ is) = filter (λ k. not (follows g (i ∷ is) k)) (i ∷ is)
     ∷ batches_of n g (filter (follows g (i ∷ is)) (i ∷ is))
 
--- the batches of those that have joined: so many suffice, as each has one where no path leads back
+-- the batches of those that have joined: at most one for each system
 abbrev pub batches : Graph → List Bool → List (List ℕ)
 batches g joined = batches_of (length joined) g
     (filter (has_joined joined) (range_with_len 0 (length joined)))

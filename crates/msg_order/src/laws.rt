@@ -24,7 +24,7 @@ pub fn settled_is_the_order()
     ensures law { SettledIsTheOrder }
 {}
 
-/// Where no path leads back, the batches are those by batch number, and the turns in order of them.
+/// If no path leads back, the batches are those by batch number, and the turns go in that order.
 pub fn batches_are_by_number()
     ensures law { BatchesAreByNumber }
 {}

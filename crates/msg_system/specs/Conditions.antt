@@ -61,7 +61,7 @@ pub record Job : Type 0 where
 abbrev pub conditions_of : Job → List Condition
 conditions_of j = map (λ a. a.condition) j.conditions
 
--- What a job leaves, what its program answered: nothing, where the job was skipped, and its steps.
+-- What a job leaves, what its program answered (None if the job was skipped), and its steps.
 pub record AfterJob : Type 0 where
   pub job : Job
   pub state : WorldState

@@ -52,8 +52,8 @@ module _ {S : Type 0} (meaning : S → Meaning) where
         (join_flags (before_turns frame.posts s)) c.plan
     pub posts : replies ≡ post_replies frame.posts (after_update s.world)
 
-  -- A frame on the state s was run or replayed, of which this is told: the core stands for the
-  -- state that the frame leaves.
+  -- A frame on the state s was run or replayed, and this holds of what came of it: the core stands
+  -- for the state that the frame leaves.
   pub record HasLeft (Told : Type 0) (f : Frame) (s : State) (c : Core S) : Type 0 where
     pub told : Told
     pub stands : CoreStands meaning c (frame f s).state
