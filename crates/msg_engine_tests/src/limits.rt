@@ -1,6 +1,6 @@
 // Each limit, met by a frame that succeeds: 64 types and 64 resources, each written; 64 ops; 256
-// systems, of which the last writes; 1,024 rules; 8 conditions, each with 16 nots; 1,024 values in a
-// batch, 1,024 posts and 100,000; 10,000 frames, with the last of which a system joins, and a
+// systems, of which the last writes; 1,024 rules; 8 conditions, each with 16 nots; a batch of 1,024
+// values; 1,024 posts, and 100,000; 10,000 frames, with the last of which a system joins, and a
 // million; 64 workers; an order of 300; and a read of the greatest limit.
 ghost use Rattle.msg_exec.specs.Prelude.{IsEngine};
 
@@ -164,7 +164,7 @@ fn an_order_of_300(rt: HostRuntime) {
     assert!(rt; log.is_ok());
 }
 
-/// An engine of a reader with 8 conditions, each with 16 nots: it runs where a message is unread.
+/// An engine of a reader with 8 conditions, each with 16 nots: it runs if a message is unread.
 fn guarded(rt: &impl Abort, alloc: Global) -> EngineOf<Scripted>
     ensures engine { IsEngine ⟦<Scripted as System>⟧.meaning result }
 {

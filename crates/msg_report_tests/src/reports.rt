@@ -87,7 +87,7 @@ struct Asked {
     of_engine: bool,
 }
 
-/// What the report came to. Where it is by an engine, what is told of that stands beside it.
+/// What the report came to. If it is by an engine, what is told of that stands beside it.
 fn report_of<R: Threads + Sync + Abort + AllocGlobal, S: Sink, G: Gate>(
     rt: &R,
     asked: Asked,
@@ -128,7 +128,7 @@ fn sinks_that_take_little(rt: HostRuntime) {
 }
 
 /// A sink that fails after `left` bytes of the 155 has just these. The first frame has 50 of them,
-/// and where they weren't taken the second frame wasn't run.
+/// and if they weren't taken the second frame wasn't run.
 #[test]
 fn sinks_that_fail(rt: HostRuntime) {
     for left in 0..=154 {
