@@ -117,7 +117,7 @@ after (step.Nots n) l = record l { nots = n }
 after (step.Part n) l = record l { part = Some n }
 after (step.Value n) l = record l { value = Some n }
 
--- what was read behind a step: its fault lies there
+-- what was read where a step leads: its fault lies there
 abbrev pub inside : {A : Type 0} → Step → Reading A → Reading A
 inside s (Ok a) = Ok a
 inside s (Err e) = Err (record e { location = after s e.location })

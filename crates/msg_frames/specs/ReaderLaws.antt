@@ -48,8 +48,8 @@ AllAreAnswered = (frames : List Frame) (s : State) → AreAnswered frames s
 
 -- ---- replays
 
--- Logs that tell the same as those of a run tell each system what the run tells it. (So do those of
--- an engine that replayed some of the frames.)
+-- Logs that tell the same as those of a run tell each system what the run tells it: so do the logs
+-- of an engine that replayed some of the frames.
 abbrev pub ReplaysTellTheSame : Type 0
 ReplaysTellTheSame = (frames : List Frame) (s : State) (logs : List Log)
     → AllZip TellsTheSame logs (run frames s).logs → (i : ℕ)

@@ -18,7 +18,7 @@ IsChain g _ = ⊤
 abbrev pub Path : Graph → ℕ → ℕ → Type 0
 Path g i j = (between : List ℕ) × IsChain g (i ∷ (between ++ j ∷ []))
 
--- whether a chain leads from i to j: without edge e, or to the begin of e and on from its end
+-- whether a chain leads from i to j: without edge e, or to where e begins and on from its end
 abbrev pub path : Graph → ℕ → ℕ → Bool
 path [] i j = false
 path (e ∷ g) i j = path g i j || ((i == e.0 || path g i e.0) && (j == e.1 || path g e.1 j))

@@ -28,7 +28,8 @@ TellsConflicts accesses joined conflict = (i j : ℕ) → IsTrue (has_joined joi
     → IsTrue (has_joined joined j)
     → IsTrue (conflict i j) ↔ Conflict (access_of accesses i) (access_of accesses j)
 
--- The settled order that is computed is the one that the rules and the pairs in conflict make.
+-- The settled order that is computed is the one that the rules and the pairs in conflict make, and
+-- no other order is.
 abbrev pub SettledIsTheOrder : Type 0
 SettledIsTheOrder = (accesses : List Access) (rules : List Rule) (joined : List Bool)
     (conflict : ℕ → ℕ → Bool) → length joined ≡ length accesses
