@@ -102,8 +102,8 @@ impl Gate for OneByOne {
     }
 }
 
-/// Holds each call until `awaited` calls came: so many are on threads of their own then. Once a call
-/// has waited long enough, none waits any more.
+/// Holds each call until `awaited` calls came: so many are on threads of their own then. Once a
+/// call has waited long enough, none waits any more.
 #[derive(Drop)]
 pub struct MeetGate {
     awaited: u64,
