@@ -102,7 +102,7 @@ impl Gate for OneByOne {
     }
 }
 
-/// Holds each call until `awaited` calls came: then so many are on threads of their own. Once a
+/// Holds each call until `awaited` calls came: so many are on threads of their own then. Once a
 /// call has waited long enough, none waits any more.
 #[derive(Drop)]
 pub struct MeetGate {

@@ -1,6 +1,6 @@
 // Each limit, met by a frame that succeeds: 64 types and 64 resources, each written; 64 ops; 256
-// systems, of which the last writes; 1,024 rules; 8 conditions, each with 16 nots; a batch of 1,024
-// values; 1,024 posts, and 100,000; 10,000 frames, with the last of which a system joins, and a
+// systems, of which the last writes; 1,024 rules; 8 conditions, each with 16 nots; 1,024 values in
+// a batch, 1,024 posts and 100,000; 10,000 frames, with the last of which a system joins, and a
 // million; 64 workers; an order of 300; and a read of the greatest limit.
 ghost use Rattle.msg_exec.specs.Prelude.{IsEngine};
 

@@ -43,7 +43,8 @@ unfit why = fault why
 -- a cycle of rules.
 abbrev pub IsUnfit : Scenario → Reason → Type 0
 IsUnfit scenario (reason.Clash s) = IsLowestClashing scenario.systems s
-IsUnfit scenario (reason.Cycle s) = All (λ x. ¬ HasClash (program_needs x.program.ops)) scenario.systems
+IsUnfit scenario (reason.Cycle s) =
+    All (λ x. ¬ HasClash (program_needs x.program.ops)) scenario.systems
     × IsLowestOnCycle (edges_of scenario.rules) s
 IsUnfit scenario _ = ⊥
 
@@ -60,6 +61,7 @@ IsRefusedFor d refusal = (e : Fault) × HasFault d e × (refusal ≡ reason_refu
 -- Bytes have this fault: they are no JSON text; or they are the text of a value that has it; or
 -- memory was refused.
 abbrev pub IsScenarioFault : List ℕ → FileFault → Type 0
-IsScenarioFault bytes (file_fault.NotJson line column) = IsUnread bytes (file_fault.NotJson line column)
+IsScenarioFault bytes (file_fault.NotJson line column) =
+    IsUnread bytes (file_fault.NotJson line column)
 IsScenarioFault bytes (file_fault.At e) = (e.reason ≡ reason.NoMemory)
     ⊎ ((d : Data) × IsJsonOf bytes d × HasFault d e)

@@ -359,7 +359,8 @@ join_of d = number_of (value_or key.Join (number (unsigned 1)) d) >>= join_numbe
 
 -- where the cursors of a system start: at 0, if nothing is named
 abbrev pub start_of : Data → Reading Start
-start_of d = found (start_named (as_str (value_or key.Start (string (codes "zero")) d))) reason.Start
+start_of d =
+    found (start_named (as_str (value_or key.Start (string (codes "zero")) d))) reason.Start
 
 -- the names, with that of one more system
 abbrev pub with_system : Declared → Text → Declared

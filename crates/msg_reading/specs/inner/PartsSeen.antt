@@ -21,6 +21,7 @@ number_and_text_seen (Ok p) = Ok (p.0.now, number_view p.1.now)
 number_and_text_seen (Err e) = Err e
 
 -- a text and a list of numbers
-abbrev pub numbers_and_text_seen : Result (Bor Text × Bor (List Value)) Fault → Reading (Text × List Data)
+abbrev pub numbers_and_text_seen : Result (Bor Text × Bor (List Value)) Fault
+    → Reading (Text × List Data)
 numbers_and_text_seen (Ok p) = Ok (p.0.now, map view p.1.now)
 numbers_and_text_seen (Err e) = Err e
