@@ -3,9 +3,9 @@
 #![tactic(auto)]
 
 pub use msg_files::{
-    Call, Calls, MemorySink, PutFault, ROOM, Refusal, ReportFault, Sink, StdSink, put_all,
-    read_calls, run_calls,
+    Call, Calls, Fault, FileFault, Key, Location, MemorySink, PutFault, ROOM, Reason, Refusal,
+    ReportFault, Sink, StdSink, Step, check_calls, put_all, read_calls, run_calls,
 };
-pub use msg_reading::read_scenario;
+pub use msg_reading::{check_scenario, read_scenario};
 pub use msg_reports::{add_system, engine_of, report, run_scenario};
 pub use msg_scenario_data::{Kind, Name, Scenario, SystemSpec};
